@@ -1,0 +1,53 @@
+//! The choices between versions of metadata, and of the use of a consolidated block.
+
+/// Which version of metadata is written.
+///
+/// Source: `zarrs::config::MetadataConvertVersion`.
+#[derive(Clone, Copy, PartialEq, Eq, Debug)]
+pub enum MetadataConvertVersion {
+    /// The version that the metadata have.
+    Default,
+    /// Version 3: older metadata are converted.
+    V3,
+}
+
+/// Which metadata are erased.
+///
+/// Source: `zarrs::config::MetadataEraseVersion`.
+#[derive(Clone, Copy, PartialEq, Eq, Debug)]
+pub enum MetadataEraseVersion {
+    /// Those of the version that is held.
+    Default,
+    /// Those of every version.
+    All,
+    /// Those of version 3.
+    V3,
+    /// Those of version 2.
+    V2,
+}
+
+/// Which metadata are looked for.
+///
+/// Source: `zarrs::config::MetadataRetrieveVersion`.
+#[derive(Clone, Copy, PartialEq, Eq, Debug)]
+pub enum MetadataRetrieveVersion {
+    /// Version 3, and where there is none version 2.
+    Default,
+    /// Version 3 alone.
+    V3,
+    /// Version 2 alone.
+    V2,
+}
+
+/// Whether a consolidated block of metadata stands in place of a listing of the store.
+///
+/// Source: `zarrs::config::UseConsolidatedMetadata`.
+#[derive(Clone, Copy, PartialEq, Eq, Debug)]
+pub enum UseConsolidatedMetadata {
+    /// It is used where there is one.
+    Auto,
+    /// It is used, and its want is refused.
+    Must,
+    /// It is not looked at.
+    Never,
+}

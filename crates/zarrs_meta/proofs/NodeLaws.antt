@@ -1,0 +1,32 @@
+-- What is written of a plain node reads as that node.
+use Rattle.std.proofs.Common.{◌≡◌, false, Ok, IsTrue, refl}
+use Rattle.serde_json.specs.Written.{has_float}
+use Rattle.zarrs_meta.specs.Documents.{format_of, node_type_of}
+use Rattle.zarrs_meta.specs.Node.{node_of, node_tree, is_plain_node}
+use Rattle.zarrs_meta.specs.declared.node.GroupMetadata.TheVariants.{V3 as group_v3, V2 as group_v2}
+use Rattle.zarrs_meta.specs.declared.node.ArrayMetadata.TheVariants.{V3 as array_v3, V2 as array_v2}
+use Rattle.zarrs_meta.specs.declared.node.NodeMetadata.{NodeMetadata}
+use Rattle.zarrs_meta.specs.declared.node.NodeMetadata.TheVariants.{Group, Array}
+use Rattle.zarrs_meta.proofs.GroupV3Laws as G3
+use Rattle.zarrs_meta.proofs.GroupV2Laws as G2
+use Rattle.zarrs_meta.proofs.ArrayV3Laws as A3
+use Rattle.zarrs_meta.proofs.ArrayV2Laws as A2
+
+-- a plain node is written with numbers that fit
+pub node_no_float : (m : NodeMetadata) → IsTrue (is_plain_node m) → has_float (node_tree m) ≡ false
+node_no_float (Group (group_v3 m)) plain = G3.no_float-group_v3_tree m plain
+node_no_float (Group (group_v2 m)) plain = G2.no_float-group_v2_tree m plain
+node_no_float (Array (array_v3 m)) plain = A3.array_v3_no_float m plain
+node_no_float (Array (array_v2 m)) plain = A2.array_v2_no_float m plain
+
+-- a plain node that was written reads as that node
+pub node_again : (m : NodeMetadata) → IsTrue (is_plain_node m) → node_of (node_tree m) ≡ Ok m
+unfolding node_of format_of node_type_of
+node_again (Group (group_v3 m)) plain =
+    rw (G3.no_float-group_v3_tree m plain, G3.has_format m plain, G3.has_kind m plain, G3.group_v3_again m plain) refl
+node_again (Group (group_v2 m)) plain =
+    rw (G2.no_float-group_v2_tree m plain, G2.has_format m plain, G2.no_shape m plain, G2.group_v2_again m plain) refl
+node_again (Array (array_v3 m)) plain =
+    rw (A3.array_v3_no_float m plain, A3.format_again m plain, A3.kind_again m plain, A3.array_v3_again m plain) refl
+node_again (Array (array_v2 m)) plain =
+    rw (A2.array_v2_no_float m plain, A2.has_format m plain, A2.has_shape m plain, A2.array_v2_again m plain) refl

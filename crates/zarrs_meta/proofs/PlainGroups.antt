@@ -1,0 +1,108 @@
+-- Every group that reading gives is plain.
+use Rattle.std.proofs.Common.{◌≡◌, ℕ, List, [], ◌∷◌, Bool, true, false, ◌||◌, if◌then◌else◌, Ok, IfOk, IsTrue, codes, bytes_eq, refl, ap, sym, ◌∙◌, subst}
+use Rattle.serde_json.specs.Data.{Data, object, Members, no_members}
+use Rattle.serde_json.specs.Find.{get_member, as_object}
+use Rattle.serde_json.specs.Written.{has_float, members_have_float}
+use Rattle.zarrs_meta.specs.Documents.{is_own, besides, has_own, is_null, document_of, format_of, node_type_of, optional, absent}
+use Rattle.zarrs_meta.specs.Forms.{fits}
+use Rattle.zarrs_meta.specs.GroupV3 as v3
+use Rattle.zarrs_meta.specs.GroupV3.{read_names, group_v3_of, is_plain_group_v3}
+use Rattle.zarrs_meta.specs.GroupV2 as v2
+use Rattle.zarrs_meta.specs.GroupV2.{group_v2_of, is_plain_group_v2}
+use Rattle.zarrs_meta.specs.declared.group_v3.GroupMetadataV3.{GroupMetadataV3}
+use Rattle.zarrs_meta.specs.declared.group_v2.GroupMetadataV2.{GroupMetadataV2}
+use Rattle.zarrs_meta.proofs.MemberLaws.{get-others}
+use Rattle.zarrs_meta.proofs.PlainForms.{ok_then, ok_next, of_ok, both_true, false_not, no_float-besides, none_own, no_own-besides, get-besides, object_fitting, optional_fits, IsDocument, document_fits, document_no_float}
+
+-- attributes that were read have only numbers that fit
+pub attributes_fit : (d : Data) → has_float d ≡ false → IfOk (optional (codes "attributes") no_members as_object d) (λ ms. fits (object ms) ≡ true)
+attributes_fit d h = optional_fits no_members as_object (λ ms. fits (object ms)) object_fitting refl (codes "attributes") d h
+
+-- ---- version 2
+
+-- a version 2 group could have come from a document
+abbrev pub PlainV2 : GroupMetadataV2 → Type 0
+PlainV2 m = IsTrue (is_plain_group_v2 m)
+
+-- the additional fields fit, and none has an own name
+plain_v2 : (ms attributes : Members) → members_have_float ms ≡ false → fits (object attributes) ≡ true → PlainV2 (record { attributes = attributes; additional_fields = besides v2.own_names ms })
+plain_v2 ms attributes h fine =
+    let fields = besides v2.own_names ms in
+    both_true _ _ (both_true (fits (object attributes)) (fits (object fields)) fine (false_not (members_have_float fields) (no_float-besides v2.own_names ms h)))
+    (false_not (has_own v2.own_names fields) (no_own-besides v2.own_names ms))
+
+-- step by step, as the document is read
+pub group_v2_plain : (d : Data) → IfOk (group_v2_of d) PlainV2
+unfolding group_v2_of
+group_v2_plain d =
+    ok_then (IsDocument d) PlainV2 (document_of d) _ (document_fits d) (λ ms h.
+    ok_next PlainV2 (format_of 2 d) _ (λ _.
+    ok_next PlainV2 (absent (codes "shape") d) _ (λ _.
+    ok_then (λ a. fits (object a) ≡ true) PlainV2 (optional (codes "attributes") no_members as_object d) _ (attributes_fit d (document_no_float d ms h)) (λ a fine.
+    plain_v2 ms a h.1 fine))))
+
+-- a version 2 group that was read is plain
+pub read_group_v2_is_plain : (d : Data) (m : GroupMetadataV2) → group_v2_of d ≡ Ok m → IsTrue (is_plain_group_v2 m)
+read_group_v2_is_plain d m e = of_ok PlainV2 (group_v2_of d) m (group_v2_plain d) e
+
+-- ---- version 3
+
+-- a version 3 group could have come from a document
+abbrev pub PlainV3 : GroupMetadataV3 → Type 0
+PlainV3 m = IsTrue (is_plain_group_v3 m)
+
+-- the name of the field that counts as absent where it is null
+abbrev block : List ℕ
+block = codes "consolidated_metadata"
+
+-- the own names, and `consolidated_metadata`
+abbrev with_block : List (List ℕ)
+with_block = codes "zarr_format" ∷ codes "node_type" ∷ codes "attributes" ∷ block ∷ []
+
+-- what is none of four is none of the first three
+fewer : (a b c d : Bool) → (a || (b || (c || (d || false)))) ≡ false → (a || (b || (c || false))) ≡ false
+fewer true b c d h = h
+fewer false true c d h = h
+fewer false false true d h = h
+fewer false false false d h = refl
+
+-- what has none of these has no own name
+among : (k : List ℕ) → is_own with_block k ≡ false → is_own v3.own_names k ≡ false
+among k h = fewer (bytes_eq (codes "zarr_format") k) (bytes_eq (codes "node_type") k) (bytes_eq (codes "attributes") k) (bytes_eq block k) h
+
+-- fields with no own name and no null `consolidated_metadata`
+abbrev Free : Members → Type 0
+Free fields = (has_own v3.own_names fields ≡ false) × (is_null (get_member block fields) ≡ false)
+
+-- a null `consolidated_metadata` is left out, and another one stays
+free_by : (b : Bool) (ms : Members) → is_null (get_member block ms) ≡ b → Free (besides (if b then with_block else v3.own_names) ms)
+free_by true ms e = (none_own v3.own_names with_block among ms, ap is_null (get-others with_block block (besides with_block ms) refl (no_own-besides with_block ms)))
+free_by false ms e = (no_own-besides v3.own_names ms, ap is_null (get-besides v3.own_names block ms refl) ∙ e)
+
+-- so it is in a document
+free_fields : (d : Data) (ms : Members) → d ≡ object ms → Free (besides (read_names d) ms)
+free_fields d ms is = subst (λ (e : Data). Free (besides (read_names e) ms)) (sym is) (free_by (is_null (get_member block ms)) ms refl)
+
+-- the additional fields fit, none has an own name, and no `consolidated_metadata` is null
+plain_v3 : (d : Data) (ms attributes : Members) → IsDocument d ms → fits (object attributes) ≡ true → PlainV3 (record { attributes = attributes; additional_fields = besides (read_names d) ms })
+plain_v3 d ms attributes h fine =
+    let fields = besides (read_names d) ms in
+    let free = free_fields d ms h.0 in
+    both_true _ _
+    (both_true _ _ (both_true (fits (object attributes)) (fits (object fields)) fine (false_not (members_have_float fields) (no_float-besides (read_names d) ms h.1)))
+    (false_not (has_own v3.own_names fields) free.0))
+    (false_not (is_null (get_member block fields)) free.1)
+
+-- step by step, as the document is read
+pub group_v3_plain : (d : Data) → IfOk (group_v3_of d) PlainV3
+unfolding group_v3_of
+group_v3_plain d =
+    ok_then (IsDocument d) PlainV3 (document_of d) _ (document_fits d) (λ ms h.
+    ok_next PlainV3 (format_of 3 d) _ (λ _.
+    ok_next PlainV3 (node_type_of (codes "group") d) _ (λ _.
+    ok_then (λ a. fits (object a) ≡ true) PlainV3 (optional (codes "attributes") no_members as_object d) _ (attributes_fit d (document_no_float d ms h)) (λ a fine.
+    plain_v3 d ms a h fine))))
+
+-- a version 3 group that was read is plain
+pub read_group_v3_is_plain : (d : Data) (m : GroupMetadataV3) → group_v3_of d ≡ Ok m → IsTrue (is_plain_group_v3 m)
+read_group_v3_is_plain d m e = of_ok PlainV3 (group_v3_of d) m (group_v3_plain d) e

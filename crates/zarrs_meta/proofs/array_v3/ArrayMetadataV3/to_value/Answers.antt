@@ -1,0 +1,33 @@
+use Rattle.std.proofs.Common.{◌≡◌, Option, Some, None, Bor, option_map, refl, ap, ◌∙◌}
+use Rattle.serde_json.specs.Data.{Data, object, string}
+use Rattle.serde_json.proofs.Views.{view-Object}
+use Rattle.zarrs_meta.specs.Forms.{list_data, nullable_data}
+use Rattle.zarrs_meta.proofs.array_v3.ArrayMetadataV3.to_value.Goals as goal
+
+behind : {A : Type 0} (f : A → Data) (o : Option (Bor A)) → option_map (λ x. f x.now) o ≡ option_map f (option_map (λ x. x.now) o)
+behind f None = refl
+behind f (Some x) = refl
+
+pub returns : goal.returns
+returns c =
+    view-Object c.put_member-7.new.members ∙ ap object
+    (rw (
+      c.in_ok-put_member-7.ensures,
+      behind (list_data (nullable_data string)) c.as_ref.result,
+      c.as_ref.ensures.value,
+      c.in_ok-put_unless-2.ensures,
+      c.is_empty-bare-2.ensures,
+      c.in_ok-put_unless.ensures,
+      c.is_empty-bare.ensures,
+      c.in_ok-put_member-6.ensures,
+      c.in_ok-put_member-5.ensures,
+      c.in_ok-put_member-4.ensures,
+      c.in_ok-put_member-3.ensures,
+      c.in_ok-put_member-2.ensures,
+      c.in_ok-put_member.ensures,
+      c.in_ok-put_text.ensures,
+      c.in_ok-put.ensures.ok,
+      c.from.ensures,
+      c.in_ok-all.ensures,
+      c.as_map.ensures,
+    ) refl)

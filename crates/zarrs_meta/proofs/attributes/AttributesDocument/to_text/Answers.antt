@@ -1,0 +1,10 @@
+use Rattle.std.proofs.Common.{◌∙◌, ap}
+use Rattle.serde_json.specs.Written.{has_float, compact_text}
+use Rattle.zarrs_meta.proofs.Shared.{if_ok_then}
+use Rattle.zarrs_meta.proofs.AttributeLaws.{attributes_tree_no_float}
+use Rattle.zarrs_meta.proofs.attributes.AttributesDocument.to_text.Goals as goal
+
+pub returns : goal.returns
+returns c =
+    if_ok_then c.to_string.result c.to_string.ensures.text (λ text is plain.
+    is (ap has_float c.in_ok-to_value.ensures ∙ attributes_tree_no_float c.args.self.now plain) ∙ ap compact_text c.in_ok-to_value.ensures)

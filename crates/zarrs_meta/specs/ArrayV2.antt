@@ -1,0 +1,70 @@
+-- Zarr specification version 2, "Arrays", "Metadata": the document `.zarray`.
+use Rattle.std.specs.Prelude.{ℕ, List, [], ◌∷◌, Bool, not, ◌&&◌, Option, Some, None, Result, Ok, codes}
+use Rattle.std.specs.List.{list_all}
+use Rattle.serde_json.specs.Data.{Data, object, no_members}
+use Rattle.serde_json.specs.Find.{as_object}
+use Rattle.zarrs_meta.specs.Documents.{◌>>=◌, document_of, format_of, required, optional, besides, has_own, is_empty}
+use Rattle.zarrs_meta.specs.Forms.{number_u64, any, list_of, nullable, number_data, list_data, nullable_data, none_or, fits, unless, put_rows}
+use Rattle.zarrs_meta.specs.FormsV2.{codec, codec_data, codec_fits, data_type, data_type_data, data_type_fits, order, order_data, separator, separator_data, has_zero, chunk_lengths}
+use Rattle.zarrs_store.specs.declared.fault.MetadataFault.{MetadataFault}
+use Rattle.zarrs_meta.specs.declared.array_v2.ArrayMetadataV2.{ArrayMetadataV2}
+use Rattle.zarrs_meta.specs.declared.chunks.ChunkKeySeparator.TheVariants.{Dot}
+
+-- `zarr_format` and the members of the table
+abbrev pub own_names : List (List ℕ)
+own_names =
+    codes "zarr_format" ∷ codes "shape" ∷ codes "chunks" ∷ codes "dtype" ∷ codes "fill_value" ∷ codes "order" ∷ codes "compressor" ∷ codes "filters"
+    ∷ codes "dimension_separator" ∷ codes "attributes" ∷ []
+
+-- the array that a version 2 document means, or its first fault
+unfoldable pub array_v2_of : Data → Result ArrayMetadataV2 MetadataFault
+array_v2_of d = do
+  ms ← document_of d
+  _ ← format_of 2 d
+  shape ← required (codes "shape") (list_of number_u64) d
+  chunks ← required (codes "chunks") chunk_lengths d
+  dtype ← required (codes "dtype") data_type d
+  fill_value ← required (codes "fill_value") any d
+  array_order ← required (codes "order") order d
+  compressor ← optional (codes "compressor") None (nullable codec) d
+  filters ← optional (codes "filters") None (nullable (list_of codec)) d
+  dimension_separator ← optional (codes "dimension_separator") Dot separator d
+  attributes ← optional (codes "attributes") no_members as_object d
+  Ok (record {
+    shape = shape;
+    chunks = chunks;
+    dtype = dtype;
+    fill_value = fill_value;
+    order = array_order;
+    compressor = compressor;
+    filters = filters;
+    dimension_separator = dimension_separator;
+    attributes = attributes;
+    additional_fields = besides own_names ms;
+  })
+
+-- ---- the written form
+
+-- what is written at each name; the absent codecs as null, the separator always
+abbrev pub array_v2_rows : ArrayMetadataV2 → List (List ℕ × Option Data)
+array_v2_rows m =
+    (codes "zarr_format", Some (number_data 2))
+    ∷ (codes "shape", Some (list_data number_data m.shape))
+    ∷ (codes "chunks", Some (list_data number_data m.chunks))
+    ∷ (codes "dtype", Some (data_type_data m.dtype))
+    ∷ (codes "fill_value", Some m.fill_value)
+    ∷ (codes "order", Some (order_data m.order))
+    ∷ (codes "compressor", Some (nullable_data codec_data m.compressor))
+    ∷ (codes "filters", Some (nullable_data (list_data codec_data) m.filters))
+    ∷ (codes "dimension_separator", Some (separator_data m.dimension_separator))
+    ∷ (codes "attributes", unless (is_empty m.attributes) (object m.attributes)) ∷ []
+
+-- an array is written as the members of the table and the additional fields
+abbrev pub array_v2_tree : ArrayMetadataV2 → Data
+array_v2_tree m = object (put_rows (array_v2_rows m) m.additional_fields)
+
+-- an array could have come from a document where no chunk length is 0, its parts could, and no field has an own name
+abbrev pub is_plain_array_v2 : ArrayMetadataV2 → Bool
+is_plain_array_v2 m =
+    not (has_zero m.chunks) && data_type_fits m.dtype && fits m.fill_value && none_or codec_fits m.compressor && none_or (list_all codec_fits) m.filters
+    && fits (object m.attributes) && fits (object m.additional_fields) && not (has_own own_names m.additional_fields)

@@ -1,0 +1,70 @@
+-- Zarr core specification 3.1, "Array metadata": the document of a version 3 array.
+use Rattle.std.specs.Prelude.{ℕ, List, [], ◌∷◌, Bool, Option, Some, None, Result, Ok, codes, option_map, not, ◌&&◌}
+use Rattle.std.specs.List.{list_all}
+use Rattle.serde_json.specs.Data.{Data, string, object, no_members}
+use Rattle.serde_json.specs.Find.{as_object, as_str}
+use Rattle.zarrs_meta.specs.Documents.{◌>>=◌, document_of, format_of, node_type_of, required, optional, besides, has_own, is_empty}
+use Rattle.zarrs_meta.specs.Forms.{number_u64, any, nullable, list_of, extension, number_data, list_data, nullable_data, extension_data, extension_fits, fits, unless, is_nil, put_rows}
+use Rattle.zarrs_store.specs.declared.fault.MetadataFault.{MetadataFault}
+use Rattle.zarrs_meta.specs.declared.array_v3.ArrayMetadataV3.{ArrayMetadataV3}
+
+-- `zarr_format`, `node_type` and the members of the table
+abbrev pub own_names : List (List ℕ)
+own_names =
+    codes "zarr_format" ∷ codes "node_type" ∷ codes "shape" ∷ codes "data_type" ∷ codes "chunk_grid" ∷ codes "chunk_key_encoding" ∷ codes "fill_value" ∷ codes "codecs"
+    ∷ codes "attributes" ∷ codes "storage_transformers" ∷ codes "dimension_names" ∷ []
+
+-- the array that a version 3 document means, or its first fault
+unfoldable pub array_v3_of : Data → Result ArrayMetadataV3 MetadataFault
+array_v3_of d = do
+  ms ← document_of d
+  _ ← format_of 3 d
+  _ ← node_type_of (codes "array") d
+  shape ← required (codes "shape") (list_of number_u64) d
+  data_type ← required (codes "data_type") extension d
+  chunk_grid ← required (codes "chunk_grid") extension d
+  chunk_key_encoding ← required (codes "chunk_key_encoding") extension d
+  fill_value ← required (codes "fill_value") any d
+  codecs ← required (codes "codecs") (list_of extension) d
+  attributes ← optional (codes "attributes") no_members as_object d
+  storage_transformers ← optional (codes "storage_transformers") [] (list_of extension) d
+  dimension_names ← optional (codes "dimension_names") None (nullable (list_of (nullable as_str))) d
+  Ok (record {
+    shape = shape;
+    data_type = data_type;
+    chunk_grid = chunk_grid;
+    chunk_key_encoding = chunk_key_encoding;
+    fill_value = fill_value;
+    codecs = codecs;
+    attributes = attributes;
+    storage_transformers = storage_transformers;
+    dimension_names = dimension_names;
+    additional_fields = besides own_names ms;
+  })
+
+-- ---- the written form
+
+-- what is written at each name; empty attributes, empty storage transformers and absent dimension names are not
+abbrev pub array_v3_rows : ArrayMetadataV3 → List (List ℕ × Option Data)
+array_v3_rows m =
+    (codes "zarr_format", Some (number_data 3)) ∷ (codes "node_type", Some (string (codes "array")))
+    ∷ (codes "shape", Some (list_data number_data m.shape))
+    ∷ (codes "data_type", Some (extension_data m.data_type))
+    ∷ (codes "chunk_grid", Some (extension_data m.chunk_grid))
+    ∷ (codes "chunk_key_encoding", Some (extension_data m.chunk_key_encoding))
+    ∷ (codes "fill_value", Some m.fill_value)
+    ∷ (codes "codecs", Some (list_data extension_data m.codecs))
+    ∷ (codes "attributes", unless (is_empty m.attributes) (object m.attributes))
+    ∷ (codes "storage_transformers", unless (is_nil m.storage_transformers) (list_data extension_data m.storage_transformers))
+    ∷ (codes "dimension_names", option_map (list_data (nullable_data string)) m.dimension_names) ∷ []
+
+-- an array is written as the members of the table and the additional fields
+abbrev pub array_v3_tree : ArrayMetadataV3 → Data
+array_v3_tree m = object (put_rows (array_v3_rows m) m.additional_fields)
+
+-- an array could have come from a document where its numbers fit and no field has an own name
+abbrev pub is_plain_array_v3 : ArrayMetadataV3 → Bool
+is_plain_array_v3 m =
+    extension_fits m.data_type && extension_fits m.chunk_grid && extension_fits m.chunk_key_encoding && fits m.fill_value && list_all extension_fits m.codecs
+    && fits (object m.attributes) && list_all extension_fits m.storage_transformers && fits (object m.additional_fields)
+    && not (has_own own_names m.additional_fields)

@@ -1,0 +1,93 @@
+-- Zarr core specification 3.1, "Metadata documents", and specification version 2, "Arrays" and "Groups": a document of either kind and either version.
+use Rattle.std.specs.Prelude.{ℕ, List, Bool, true, false, if◌then◌else◌, is_some, Result, Ok, Err, codes}
+use Rattle.std.specs.Result.{is_ok}
+use Rattle.serde_json.specs.Data.{Data}
+use Rattle.serde_json.specs.Find.{get}
+use Rattle.zarrs_meta.specs.Documents.{◌>>=◌, document_of, format_of, node_type_of}
+use Rattle.zarrs_meta.specs.GroupV3.{group_v3_of, group_v3_tree, is_plain_group_v3}
+use Rattle.zarrs_meta.specs.GroupV2.{group_v2_of, group_v2_tree, is_plain_group_v2}
+use Rattle.zarrs_meta.specs.ArrayV3.{array_v3_of, array_v3_tree, is_plain_array_v3}
+use Rattle.zarrs_meta.specs.ArrayV2.{array_v2_of, array_v2_tree, is_plain_array_v2}
+use Rattle.zarrs_store.specs.declared.fault.MetadataFault.{MetadataFault}
+use Rattle.zarrs_store.specs.declared.fault.MetadataFault.TheVariants.{WrongFormat, WrongNodeType}
+use Rattle.zarrs_meta.specs.declared.group_v2.GroupMetadataV2.{GroupMetadataV2}
+use Rattle.zarrs_meta.specs.declared.array_v2.ArrayMetadataV2.{ArrayMetadataV2}
+use Rattle.zarrs_meta.specs.declared.attributes.AttributesDocument.{AttributesDocument}
+use Rattle.zarrs_meta.specs.declared.node.GroupMetadata.TheVariants.{V3 as group_v3, V2 as group_v2}
+use Rattle.zarrs_meta.specs.declared.node.ArrayMetadata.TheVariants.{V3 as array_v3, V2 as array_v2}
+use Rattle.zarrs_meta.specs.declared.node.ZarrJson.{ZarrJson}
+use Rattle.zarrs_meta.specs.declared.node.ZarrJson.TheVariants.{Node, Version2}
+use Rattle.zarrs_meta.specs.declared.node.NodeMetadata.{NodeMetadata}
+use Rattle.zarrs_meta.specs.declared.node.NodeMetadata.TheVariants.{Group, Array}
+
+-- `zarr_format` is the number
+abbrev pub has_format : ℕ → Data → Bool
+has_format n d = is_ok (format_of n d)
+
+-- `node_type` is the text
+abbrev pub has_type : List ℕ → Data → Bool
+has_type t d = is_ok (node_type_of t d)
+
+-- a document of version 3 is a group or an array by its `node_type`
+abbrev pub node_v3_of : Data → Result NodeMetadata MetadataFault
+node_v3_of d =
+    if has_type (codes "group") d then group_v3_of d >>= (λ m. Ok (Group (group_v3 m)))
+    else (if has_type (codes "array") d then array_v3_of d >>= (λ m. Ok (Array (array_v3 m))) else Err WrongNodeType)
+
+-- a document of version 2 is an array where it has a `shape`, and else a group
+abbrev pub node_v2_of : Data → Result NodeMetadata MetadataFault
+node_v2_of d =
+    if is_some (get (codes "shape") d) then array_v2_of d >>= (λ m. Ok (Array (array_v2 m)))
+    else group_v2_of d >>= (λ m. Ok (Group (group_v2 m)))
+
+-- the group or array that a document of either version means, or its first fault
+unfoldable pub node_of : Data → Result NodeMetadata MetadataFault
+node_of d = document_of d >>= λ _.
+    if has_format 3 d then node_v3_of d else (if has_format 2 d then node_v2_of d else Err WrongFormat)
+
+-- what a document at the key `zarr.json` means: format 2 is told at once, all else is a node document
+unfoldable pub zarr_json_of : Data → Result ZarrJson MetadataFault
+zarr_json_of d = document_of d >>= λ _.
+    if has_format 2 d then Ok Version2 else node_of d >>= (λ m. Ok (Node m))
+
+-- ---- the written form
+
+-- a node is written as the group or array that it is
+abbrev pub node_tree : NodeMetadata → Data
+node_tree (Group (group_v3 m)) = group_v3_tree m
+node_tree (Group (group_v2 m)) = group_v2_tree m
+node_tree (Array (array_v3 m)) = array_v3_tree m
+node_tree (Array (array_v2 m)) = array_v2_tree m
+
+-- a node could have come from a document where the group or array could
+abbrev pub is_plain_node : NodeMetadata → Bool
+is_plain_node (Group (group_v3 m)) = is_plain_group_v3 m
+is_plain_node (Group (group_v2 m)) = is_plain_group_v2 m
+is_plain_node (Array (array_v3 m)) = is_plain_array_v3 m
+is_plain_node (Array (array_v2 m)) = is_plain_array_v2 m
+
+-- ---- parts
+
+-- the same group with these attributes
+abbrev pub group_with : AttributesDocument → GroupMetadataV2 → GroupMetadataV2
+group_with a m = record { attributes = a.0; additional_fields = m.additional_fields }
+
+-- the same array with these attributes
+abbrev pub array_with : AttributesDocument → ArrayMetadataV2 → ArrayMetadataV2
+array_with a m = record {
+  shape = m.shape;
+  chunks = m.chunks;
+  dtype = m.dtype;
+  fill_value = m.fill_value;
+  order = m.order;
+  compressor = m.compressor;
+  filters = m.filters;
+  dimension_separator = m.dimension_separator;
+  attributes = a.0;
+  additional_fields = m.additional_fields;
+}
+
+-- the node is a group
+abbrev pub is_group : NodeMetadata → Bool
+is_group (Group g) = true
+is_group (Array a) = false

@@ -1,0 +1,184 @@
+//! The version 2 array.
+ghost use Rattle.std.specs.Prelude.{◌≡◌, Ok, IfOk, IsTrue, string_bytes};
+ghost use Rattle.serde_json.specs.View.{view, members_view};
+ghost use Rattle.serde_json.specs.Written.{compact_text};
+ghost use Rattle.zarrs_meta.specs.Documents.{Gives, document_of, of_bytes};
+ghost use Rattle.zarrs_meta.specs.ArrayV2.{array_v2_of, array_v2_tree, is_plain_array_v2};
+
+use crate::chunks::{ArrayMetadataV2Order, ChunkKeySeparator, chunk_lengths, has_zero};
+use crate::codec::MetadataV2;
+use crate::data_type::DataTypeMetadataV2;
+use crate::form::{Form, optional, put_member, put_unless, required};
+use crate::members::{
+    ask_format, document, has_own_member, members_have_float, other_members, parse,
+};
+use crate::shapes::{FillValueMetadata, List, Object};
+use serde_json::{Map, Value, put};
+use std::alloc::{AllocError, Global};
+use zarrs_store::MetadataFault;
+
+/// The metadata of a version 2 array.
+///
+/// Zarr specification version 2, "Arrays", "Metadata"; `zarrs_metadata::v2::ArrayMetadataV2`.
+#[derive(Drop)]
+pub struct ArrayMetadataV2 {
+    /// The length of each dimension.
+    pub shape: List<u64>,
+    /// The length of each dimension of a chunk.
+    pub chunks: List<u64>,
+    /// The data type.
+    pub dtype: DataTypeMetadataV2,
+    /// The value of items that no chunk holds.
+    pub fill_value: FillValueMetadata,
+    /// The layout of the items within a chunk.
+    pub order: ArrayMetadataV2Order,
+    /// The compressor, if there is one.
+    pub compressor: Option<MetadataV2>,
+    /// The filters, if there are any.
+    pub filters: Option<List<MetadataV2>>,
+    /// What stands between the numbers of a chunk's key.
+    pub dimension_separator: ChunkKeySeparator,
+    /// The attributes.
+    pub attributes: Object,
+    /// The members that stand in no row of the table.
+    pub additional_fields: Object,
+}
+
+/// `zarr_format` and the members of the table.
+const OWN_NAMES: &[&str] = &[
+    "zarr_format",
+    "shape",
+    "chunks",
+    "dtype",
+    "fill_value",
+    "order",
+    "compressor",
+    "filters",
+    "dimension_separator",
+    "attributes",
+];
+
+impl ArrayMetadataV2 {
+    /// The array that a JSON value is.
+    ///
+    /// # Errors
+    ///
+    /// The first that applies: `UnsupportedNumber` where some number is neither `u64` nor `i64`,
+    /// `NotAnObject`, `WrongFormat` where `zarr_format` is not 2, `MissingMember` or `BadMember` of the
+    /// first member of the table that is absent or of another form. `OutOfMemory` where there is no
+    /// memory.
+    ///
+    /// Source: Zarr specification version 2, "Arrays".
+    #[tactic(auto, unfolding(crate::specs::ArrayV2::array_v2_of))]
+    pub fn from_value(alloc: Global, value: &Value) -> Result<ArrayMetadataV2, MetadataFault>
+        ensures { Gives (λ m. m) result (array_v2_of (view value.now)) }
+    {
+        let members = document(value)?;
+        ArrayMetadataV2::from_members(alloc, value, members)
+    }
+
+    /// The array that a JSON value is, whose members were asked for.
+    #[tactic(auto, unfolding(crate::specs::ArrayV2::array_v2_of))]
+    pub(crate) fn from_members(
+        alloc: Global,
+        value: &Value,
+        members: &Map<String, Value>,
+    ) -> Result<ArrayMetadataV2, MetadataFault>
+        requires { document_of (view value.now) ≡ Ok (members_view members.now.entries) }
+        ensures { Gives (λ m. m) result (array_v2_of (view value.now)) }
+    {
+        ask_format(value, 2)?;
+        Ok(ArrayMetadataV2 {
+            shape: required(alloc, value, "shape")?,
+            chunks: chunk_lengths(alloc, value, "chunks")?,
+            dtype: required(alloc, value, "dtype")?,
+            fill_value: required(alloc, value, "fill_value")?,
+            order: required(alloc, value, "order")?,
+            compressor: optional(alloc, value, "compressor", None)?,
+            filters: optional(alloc, value, "filters", None)?,
+            dimension_separator: optional(
+                alloc,
+                value,
+                "dimension_separator",
+                ChunkKeySeparator::Dot,
+            )?,
+            attributes: optional(alloc, value, "attributes", Object::new(Map::new(alloc)))?,
+            additional_fields: other_members(alloc, members, OWN_NAMES)?,
+        })
+    }
+
+    /// The array that the bytes of a document are.
+    ///
+    /// # Errors
+    ///
+    /// `NotJson` where the bytes are no JSON text, else as [`ArrayMetadataV2::from_value`].
+    ///
+    /// Source: Zarr specification version 2, "Arrays".
+    #[tactic(auto, unfolding(crate::specs::Documents::of_bytes))]
+    pub fn from_bytes(alloc: Global, bytes: &[u8]) -> Result<ArrayMetadataV2, MetadataFault>
+        ensures { Gives (λ m. m) result (of_bytes array_v2_of bytes.now) }
+    {
+        let value = parse(alloc, bytes)?;
+        ArrayMetadataV2::from_value(alloc, &value)
+    }
+
+    /// The written form of the array: the members of the table and the additional fields.
+    ///
+    /// # Errors
+    ///
+    /// `AllocError` where there is no memory for it.
+    ///
+    /// Source: Zarr specification version 2, "Arrays".
+    pub fn to_value(&self, alloc: Global) -> Result<Value, AllocError>
+        ensures { IfOk result (λ v. view v ≡ array_v2_tree self.now) }
+    {
+        let mut all = Object::copy_of(self.additional_fields.as_map())?.into_map();
+        put(&mut all, alloc, "zarr_format", Value::from(2u64))?;
+        put_member(&mut all, alloc, "shape", Some(&self.shape))?;
+        put_member(&mut all, alloc, "chunks", Some(&self.chunks))?;
+        put_member(&mut all, alloc, "dtype", Some(&self.dtype))?;
+        put_member(&mut all, alloc, "fill_value", Some(&self.fill_value))?;
+        put_member(&mut all, alloc, "order", Some(&self.order))?;
+        put_member(&mut all, alloc, "compressor", Some(&self.compressor))?;
+        put_member(&mut all, alloc, "filters", Some(&self.filters))?;
+        put_member(
+            &mut all,
+            alloc,
+            "dimension_separator",
+            Some(&self.dimension_separator),
+        )?;
+        let bare = self.attributes.is_empty();
+        put_unless(&mut all, alloc, "attributes", bare, &self.attributes)?;
+        Ok(Value::Object(all))
+    }
+
+    /// The compact JSON text of the written form, where the array is plain.
+    ///
+    /// # Errors
+    ///
+    /// `AllocError` where there is no memory for it.
+    ///
+    /// Source: Zarr specification version 2, "Arrays".
+    pub fn to_text(&self, alloc: Global) -> Result<String, AllocError>
+        ensures { IfOk result (λ text. IsTrue (is_plain_array_v2 self.now)
+            → string_bytes text ≡ compact_text (array_v2_tree self.now)) }
+    {
+        self.to_value(alloc)?.to_string(alloc)
+    }
+
+    /// Whether the array could have come from a document: its numbers are `u64` or `i64`, no chunk length is
+    /// 0, no codec has a member `id` in its configuration, and no additional field has an own name.
+    pub fn is_plain(&self) -> bool
+        ensures { result ≡ is_plain_array_v2 self.now }
+    {
+        let fields = self.additional_fields.as_map();
+        !has_zero(&self.chunks)
+            && self.dtype.is_plain()
+            && self.fill_value.is_plain()
+            && self.compressor.is_plain()
+            && self.filters.is_plain()
+            && self.attributes.is_plain()
+            && !members_have_float(fields)
+            && !has_own_member(fields, OWN_NAMES)
+    }
+}

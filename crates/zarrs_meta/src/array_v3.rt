@@ -1,0 +1,198 @@
+//! The version 3 array.
+ghost use Rattle.std.specs.Prelude.{◌≡◌, Ok, IfOk, IsTrue, string_bytes};
+ghost use Rattle.serde_json.specs.View.{view, members_view};
+ghost use Rattle.serde_json.specs.Written.{compact_text};
+ghost use Rattle.zarrs_meta.specs.Documents.{Gives, document_of, of_bytes};
+ghost use Rattle.zarrs_meta.specs.ArrayV3.{array_v3_of, array_v3_tree, is_plain_array_v3};
+
+use crate::extension::MetadataV3;
+use crate::fields::{
+    AdditionalFieldsV3, additional_fields_v3, fields_have_float, has_own_name, members_of_fields,
+};
+use crate::form::{Form, optional, put_member, put_unless, required};
+use crate::members::{ask_format, ask_node_type, document, parse, put_text};
+use crate::shapes::{FillValueMetadata, List, Object, Text};
+use serde_json::{Map, Value, put};
+use std::alloc::{AllocError, Global};
+use zarrs_store::MetadataFault;
+
+/// The metadata of a version 3 array.
+///
+/// Zarr core specification 3.1, "Array metadata"; `zarrs_metadata::v3::ArrayMetadataV3`.
+#[derive(Drop)]
+pub struct ArrayMetadataV3 {
+    /// The length of each dimension.
+    pub shape: List<u64>,
+    /// The data type.
+    pub data_type: MetadataV3,
+    /// How the array is cut into chunks.
+    pub chunk_grid: MetadataV3,
+    /// How the keys of chunks are made.
+    pub chunk_key_encoding: MetadataV3,
+    /// The value of items that no chunk holds.
+    pub fill_value: FillValueMetadata,
+    /// The codecs, in the order of encoding.
+    pub codecs: List<MetadataV3>,
+    /// The attributes.
+    pub attributes: Object,
+    /// The storage transformers.
+    pub storage_transformers: List<MetadataV3>,
+    /// The name of each dimension, where there is one.
+    pub dimension_names: Option<List<Option<Text>>>,
+    /// The members that stand in no row of the table.
+    pub additional_fields: AdditionalFieldsV3,
+}
+
+/// `zarr_format`, `node_type` and the members of the table.
+const OWN_NAMES: &[&str] = &[
+    "zarr_format",
+    "node_type",
+    "shape",
+    "data_type",
+    "chunk_grid",
+    "chunk_key_encoding",
+    "fill_value",
+    "codecs",
+    "attributes",
+    "storage_transformers",
+    "dimension_names",
+];
+
+impl ArrayMetadataV3 {
+    /// The array that a JSON value is.
+    ///
+    /// # Errors
+    ///
+    /// The first that applies: `UnsupportedNumber` where some number is neither `u64` nor `i64`,
+    /// `NotAnObject`, `WrongFormat` where `zarr_format` is not 3, `WrongNodeType` where `node_type` is
+    /// not `array`, `MissingMember` or `BadMember` of the first member of the table that is absent or of
+    /// another form. `OutOfMemory` where there is no memory.
+    ///
+    /// Source: Zarr core specification 3.1, "Array metadata".
+    #[tactic(auto, unfolding(crate::specs::ArrayV3::array_v3_of))]
+    pub fn from_value(alloc: Global, value: &Value) -> Result<ArrayMetadataV3, MetadataFault>
+        ensures { Gives (λ m. m) result (array_v3_of (view value.now)) }
+    {
+        let members = document(value)?;
+        ArrayMetadataV3::from_members(alloc, value, members)
+    }
+
+    /// The array that a JSON value is, whose members were asked for.
+    #[tactic(auto, unfolding(crate::specs::ArrayV3::array_v3_of))]
+    pub(crate) fn from_members(
+        alloc: Global,
+        value: &Value,
+        members: &Map<String, Value>,
+    ) -> Result<ArrayMetadataV3, MetadataFault>
+        requires { document_of (view value.now) ≡ Ok (members_view members.now.entries) }
+        ensures { Gives (λ m. m) result (array_v3_of (view value.now)) }
+    {
+        ask_format(value, 3)?;
+        ask_node_type(value, "array")?;
+        Ok(ArrayMetadataV3 {
+            shape: required(alloc, value, "shape")?,
+            data_type: required(alloc, value, "data_type")?,
+            chunk_grid: required(alloc, value, "chunk_grid")?,
+            chunk_key_encoding: required(alloc, value, "chunk_key_encoding")?,
+            fill_value: required(alloc, value, "fill_value")?,
+            codecs: required(alloc, value, "codecs")?,
+            attributes: optional(alloc, value, "attributes", Object::new(Map::new(alloc)))?,
+            storage_transformers: optional(
+                alloc,
+                value,
+                "storage_transformers",
+                List::new(Vec::new(alloc)),
+            )?,
+            dimension_names: optional(alloc, value, "dimension_names", None)?,
+            additional_fields: additional_fields_v3(alloc, members, OWN_NAMES)?,
+        })
+    }
+
+    /// The array that the bytes of a document are.
+    ///
+    /// # Errors
+    ///
+    /// `NotJson` where the bytes are no JSON text, else as [`ArrayMetadataV3::from_value`].
+    ///
+    /// Source: Zarr core specification 3.1, "Array metadata".
+    #[tactic(auto, unfolding(crate::specs::Documents::of_bytes))]
+    pub fn from_bytes(alloc: Global, bytes: &[u8]) -> Result<ArrayMetadataV3, MetadataFault>
+        ensures { Gives (λ m. m) result (of_bytes array_v3_of bytes.now) }
+    {
+        let value = parse(alloc, bytes)?;
+        ArrayMetadataV3::from_value(alloc, &value)
+    }
+
+    /// The written form of the array: the members of the table and the additional fields.
+    ///
+    /// # Errors
+    ///
+    /// `AllocError` where there is no memory for it.
+    ///
+    /// Source: Zarr core specification 3.1, "Array metadata".
+    pub fn to_value(&self, alloc: Global) -> Result<Value, AllocError>
+        ensures { IfOk result (λ v. view v ≡ array_v3_tree self.now) }
+    {
+        let mut all = members_of_fields(alloc, self.additional_fields.as_map())?;
+        put(&mut all, alloc, "zarr_format", Value::from(3u64))?;
+        put_text(&mut all, alloc, "node_type", "array")?;
+        put_member(&mut all, alloc, "shape", Some(&self.shape))?;
+        put_member(&mut all, alloc, "data_type", Some(&self.data_type))?;
+        put_member(&mut all, alloc, "chunk_grid", Some(&self.chunk_grid))?;
+        put_member(
+            &mut all,
+            alloc,
+            "chunk_key_encoding",
+            Some(&self.chunk_key_encoding),
+        )?;
+        put_member(&mut all, alloc, "fill_value", Some(&self.fill_value))?;
+        put_member(&mut all, alloc, "codecs", Some(&self.codecs))?;
+        let bare = self.attributes.is_empty();
+        put_unless(&mut all, alloc, "attributes", bare, &self.attributes)?;
+        let bare = self.storage_transformers.is_empty();
+        put_unless(
+            &mut all,
+            alloc,
+            "storage_transformers",
+            bare,
+            &self.storage_transformers,
+        )?;
+        put_member(
+            &mut all,
+            alloc,
+            "dimension_names",
+            self.dimension_names.as_ref(),
+        )?;
+        Ok(Value::Object(all))
+    }
+
+    /// The compact JSON text of the written form, where the array is plain.
+    ///
+    /// # Errors
+    ///
+    /// `AllocError` where there is no memory for it.
+    ///
+    /// Source: Zarr core specification 3.1, "Array metadata".
+    pub fn to_text(&self, alloc: Global) -> Result<String, AllocError>
+        ensures { IfOk result (λ text. IsTrue (is_plain_array_v3 self.now)
+            → string_bytes text ≡ compact_text (array_v3_tree self.now)) }
+    {
+        self.to_value(alloc)?.to_string(alloc)
+    }
+
+    /// Whether the array could have come from a document: its numbers are `u64` or `i64`, and no additional
+    /// field has an own name.
+    pub fn is_plain(&self) -> bool
+        ensures { result ≡ is_plain_array_v3 self.now }
+    {
+        self.data_type.is_plain()
+            && self.chunk_grid.is_plain()
+            && self.chunk_key_encoding.is_plain()
+            && self.fill_value.is_plain()
+            && self.codecs.is_plain()
+            && self.attributes.is_plain()
+            && self.storage_transformers.is_plain()
+            && !fields_have_float(self.additional_fields.as_map())
+            && !has_own_name(self.additional_fields.as_map(), OWN_NAMES)
+    }
+}

@@ -1,0 +1,85 @@
+//! The attributes of a version 2 node, as a document of their own.
+ghost use Rattle.std.specs.Prelude.{◌≡◌, IfOk, IsTrue, string_bytes};
+ghost use Rattle.serde_json.specs.View.{view};
+ghost use Rattle.serde_json.specs.Written.{compact_text};
+ghost use Rattle.zarrs_meta.specs.Attributes.{attributes_of, attributes_tree, is_plain_attributes};
+ghost use Rattle.zarrs_meta.specs.Documents.{Gives, of_bytes};
+
+use crate::form::Form;
+use crate::members::{document, parse};
+use crate::shapes::Object;
+use serde_json::Value;
+use std::alloc::{AllocError, Global};
+use zarrs_store::MetadataFault;
+
+/// The attributes beside a version 2 group or array.
+///
+/// Zarr specification version 2, "Attributes".
+#[derive(Drop)]
+pub struct AttributesDocument(pub Object);
+
+impl AttributesDocument {
+    /// The attributes that a JSON value is: the members of an object.
+    ///
+    /// # Errors
+    ///
+    /// The first that applies: `UnsupportedNumber` where some number is neither `u64` nor `i64`,
+    /// `NotAnObject` where the value is none. `OutOfMemory` where there is no memory.
+    ///
+    /// Source: Zarr specification version 2, "Attributes".
+    pub fn from_value(_alloc: Global, value: &Value) -> Result<AttributesDocument, MetadataFault>
+        ensures { Gives (λ a. a) result (attributes_of (view value.now)) }
+    {
+        let members = document(value)?;
+        Ok(AttributesDocument(Object::copy_of(members)?))
+    }
+
+    /// The attributes that the bytes of `.zattrs` are.
+    ///
+    /// # Errors
+    ///
+    /// `NotJson` where the bytes are no JSON text, else as [`AttributesDocument::from_value`].
+    ///
+    /// Source: Zarr specification version 2, "Attributes".
+    #[tactic(auto, unfolding(crate::specs::Documents::of_bytes))]
+    pub fn from_bytes(alloc: Global, bytes: &[u8]) -> Result<AttributesDocument, MetadataFault>
+        ensures { Gives (λ a. a) result (of_bytes attributes_of bytes.now) }
+    {
+        let value = parse(alloc, bytes)?;
+        AttributesDocument::from_value(alloc, &value)
+    }
+
+    /// The written form: an object with the attributes.
+    ///
+    /// # Errors
+    ///
+    /// `AllocError` where there is no memory for it.
+    ///
+    /// Source: Zarr specification version 2, "Attributes".
+    pub fn to_value(&self, alloc: Global) -> Result<Value, AllocError>
+        ensures { IfOk result (λ v. view v ≡ attributes_tree self.now) }
+    {
+        self.0.to_value(alloc)
+    }
+
+    /// The compact JSON text of the written form, where the attributes are plain.
+    ///
+    /// # Errors
+    ///
+    /// `AllocError` where there is no memory for it.
+    ///
+    /// Source: Zarr specification version 2, "Attributes".
+    pub fn to_text(&self, alloc: Global) -> Result<String, AllocError>
+        ensures { IfOk result (λ text. IsTrue (is_plain_attributes self.now)
+            → string_bytes text ≡ compact_text (attributes_tree self.now)) }
+    {
+        self.to_value(alloc)?.to_string(alloc)
+    }
+
+    /// Whether the attributes could have come from a document: each number is `u64` or `i64`.
+    pub fn is_plain(&self) -> bool
+        ensures { result ≡ is_plain_attributes self.now }
+    {
+        self.0.is_plain()
+    }
+}

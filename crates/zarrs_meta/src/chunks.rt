@@ -1,0 +1,116 @@
+//! How the chunks of a version 2 array are shaped, laid out and named.
+ghost use Rattle.std.specs.Prelude.{◌≡◌, IfOk, true};
+ghost use Rattle.serde_json.specs.View.{view};
+ghost use Rattle.zarrs_meta.specs.Documents as documents;
+ghost use Rattle.zarrs_meta.specs.Documents.{Gives};
+ghost use Rattle.zarrs_meta.specs.FormsV2.{chunk_lengths, has_zero, order, order_data, separator, separator_data};
+
+use crate::form::{Form, required};
+use crate::shapes::List;
+use serde_json::Value;
+use std::alloc::{AllocError, Global};
+use zarrs_store::{MemberName, MetadataFault};
+
+/// The layout of the items within a chunk.
+///
+/// Zarr specification version 2, "Arrays", "Metadata", "order".
+#[derive(Clone, Copy, Debug, PartialEq, Eq)]
+pub enum ArrayMetadataV2Order {
+    /// The last dimension varies fastest.
+    C,
+    /// The first dimension varies fastest.
+    F,
+}
+
+/// What stands between the numbers of a chunk's key.
+///
+/// Zarr specification version 2, "Arrays", "Metadata", "dimension_separator".
+#[derive(Clone, Copy, Debug, PartialEq, Eq)]
+pub enum ChunkKeySeparator {
+    /// A period.
+    Dot,
+    /// A slash.
+    Slash,
+}
+
+impl Form for ArrayMetadataV2Order {
+    ghost form = { order };
+
+    fn read(_alloc: Global, value: &Value) -> Result<Option<ArrayMetadataV2Order>, AllocError> {
+        match value.as_str() {
+            Some(text) if text == "C" => Ok(Some(ArrayMetadataV2Order::C)),
+            Some(text) if text == "F" => Ok(Some(ArrayMetadataV2Order::F)),
+            _ => Ok(None),
+        }
+    }
+
+    ghost written = { order_data };
+
+    fn to_value(&self, alloc: Global) -> Result<Value, AllocError> {
+        let text = match self {
+            ArrayMetadataV2Order::C => "C",
+            ArrayMetadataV2Order::F => "F",
+        };
+        Ok(Value::String(String::from_str(alloc, text)?))
+    }
+
+    ghost fits = { λ _. true };
+
+    fn is_plain(&self) -> bool {
+        true
+    }
+}
+
+/// Null stands for a period.
+impl Form for ChunkKeySeparator {
+    ghost form = { separator };
+
+    fn read(_alloc: Global, value: &Value) -> Result<Option<ChunkKeySeparator>, AllocError> {
+        if let Value::Null = value {
+            return Ok(Some(ChunkKeySeparator::Dot));
+        }
+        match value.as_str() {
+            Some(text) if text == "." => Ok(Some(ChunkKeySeparator::Dot)),
+            Some(text) if text == "/" => Ok(Some(ChunkKeySeparator::Slash)),
+            _ => Ok(None),
+        }
+    }
+
+    ghost written = { separator_data };
+
+    fn to_value(&self, alloc: Global) -> Result<Value, AllocError> {
+        let text = match self {
+            ChunkKeySeparator::Dot => ".",
+            ChunkKeySeparator::Slash => "/",
+        };
+        Ok(Value::String(String::from_str(alloc, text)?))
+    }
+
+    ghost fits = { λ _. true };
+
+    fn is_plain(&self) -> bool {
+        true
+    }
+}
+
+/// Whether some length is 0.
+pub(crate) fn has_zero(lengths: &List<u64>) -> bool
+    ensures { result ≡ has_zero lengths.now }
+{
+    lengths.as_slice().contains(&0)
+}
+
+/// The member `chunks`: a list of numbers, none of them 0.
+pub(crate) fn chunk_lengths(
+    alloc: Global,
+    document: &Value,
+    name: &'static str,
+) -> Result<List<u64>, MetadataFault>
+    ensures { Gives (λ x. x) result (documents.required name.now chunk_lengths (view document.now)) }
+{
+    let lengths: List<u64> = required(alloc, document, name)?;
+    if has_zero(&lengths) {
+        return Err(MetadataFault::BadMember(MemberName::new(name)));
+    }
+    Ok(lengths)
+}

@@ -1,0 +1,61 @@
+//! What the documents at the keys of a store have in common.
+ghost use Rattle.std.specs.Prelude.{ℕ, List, Result};
+ghost use Rattle.zarrs_meta.specs.Documents.{Gives, of_bytes};
+ghost use Rattle.zarrs_meta.specs.ArrayV2.{array_v2_of};
+ghost use Rattle.zarrs_meta.specs.GroupV2.{group_v2_of};
+ghost use Rattle.zarrs_meta.specs.Attributes.{attributes_of};
+ghost use Rattle.zarrs_meta.specs.Node.{zarr_json_of};
+ghost use Rattle.zarrs_store.specs.declared.fault.MetadataFault.{MetadataFault};
+
+use crate::array_v2::ArrayMetadataV2;
+use crate::attributes::AttributesDocument;
+use crate::group_v2::GroupMetadataV2;
+use crate::node::ZarrJson;
+use std::alloc::Global;
+use zarrs_store::MetadataFault;
+
+/// A kind of document that a store holds at a key.
+pub trait Document: Sized {
+    /// What bytes are read as: the document, or the first fault.
+    ghost reading: { List ℕ → Result Self MetadataFault };
+
+    /// The document that the bytes are.
+    ///
+    /// # Errors
+    ///
+    /// The first fault of the document; `OutOfMemory` where there is no memory.
+    fn read(alloc: Global, bytes: &[u8]) -> Result<Self, MetadataFault>
+        ensures { Gives (λ d. d) result (reading bytes.now) };
+}
+
+impl Document for ZarrJson {
+    ghost reading = { of_bytes zarr_json_of };
+
+    fn read(alloc: Global, bytes: &[u8]) -> Result<ZarrJson, MetadataFault> {
+        ZarrJson::from_bytes(alloc, bytes)
+    }
+}
+
+impl Document for ArrayMetadataV2 {
+    ghost reading = { of_bytes array_v2_of };
+
+    fn read(alloc: Global, bytes: &[u8]) -> Result<ArrayMetadataV2, MetadataFault> {
+        ArrayMetadataV2::from_bytes(alloc, bytes)
+    }
+}
+
+impl Document for GroupMetadataV2 {
+    ghost reading = { of_bytes group_v2_of };
+
+    fn read(alloc: Global, bytes: &[u8]) -> Result<GroupMetadataV2, MetadataFault> {
+        GroupMetadataV2::from_bytes(alloc, bytes)
+    }
+}
+
+impl Document for AttributesDocument {
+    ghost reading = { of_bytes attributes_of };
+
+    fn read(alloc: Global, bytes: &[u8]) -> Result<AttributesDocument, MetadataFault> {
+        AttributesDocument::from_bytes(alloc, bytes)
+    }
+}

@@ -1,0 +1,136 @@
+//! The version 2 group.
+ghost use Rattle.std.specs.Prelude.{◌≡◌, Ok, IfOk, IsTrue, string_bytes};
+ghost use Rattle.serde_json.specs.Data.{no_members};
+ghost use Rattle.serde_json.specs.View.{view, members_view};
+ghost use Rattle.serde_json.specs.Written.{compact_text};
+ghost use Rattle.zarrs_meta.specs.Documents.{Gives, document_of, of_bytes};
+ghost use Rattle.zarrs_meta.specs.GroupV2.{group_v2_of, group_v2_tree, is_plain_group_v2};
+
+use crate::form::{optional, put_unless};
+use crate::members::{
+    ask_format, document, has_own_member, members_have_float, other_members, parse, refuse,
+};
+use crate::shapes::Object;
+use serde_json::{Map, Value, put};
+use std::alloc::{AllocError, Global};
+use zarrs_store::MetadataFault;
+
+/// The metadata of a version 2 group.
+///
+/// Zarr specification version 2, "Groups"; `zarrs_metadata::v2::GroupMetadataV2`.
+#[derive(Drop)]
+pub struct GroupMetadataV2 {
+    /// The attributes.
+    pub attributes: Object,
+    /// The members that stand in no row of the table.
+    pub additional_fields: Object,
+}
+
+/// `zarr_format`, the member of the table, and the one that must be absent.
+const OWN_NAMES: &[&str] = &["zarr_format", "shape", "attributes"];
+
+impl GroupMetadataV2 {
+    /// The group without attributes and additional fields.
+    ///
+    /// Source: Zarr specification version 2, "Groups"; `GroupMetadataV2::new`.
+    pub fn new(alloc: Global) -> GroupMetadataV2
+        ensures { result ≡ record { attributes = no_members; additional_fields = no_members } }
+    {
+        GroupMetadataV2 {
+            attributes: Object::new(Map::new(alloc)),
+            additional_fields: Object::new(Map::new(alloc)),
+        }
+    }
+
+    /// The group that a JSON value is.
+    ///
+    /// # Errors
+    ///
+    /// The first that applies: `UnsupportedNumber` where some number is neither `u64` nor `i64`,
+    /// `NotAnObject`, `WrongFormat` where `zarr_format` is not 2, `BadMember` of `shape` where there is
+    /// one, or of `attributes` where it is no object. `OutOfMemory` where there is no memory.
+    ///
+    /// Source: Zarr specification version 2, "Groups".
+    #[tactic(auto, unfolding(crate::specs::GroupV2::group_v2_of))]
+    pub fn from_value(alloc: Global, value: &Value) -> Result<GroupMetadataV2, MetadataFault>
+        ensures { Gives (λ m. m) result (group_v2_of (view value.now)) }
+    {
+        let members = document(value)?;
+        GroupMetadataV2::from_members(alloc, value, members)
+    }
+
+    /// The group that a JSON value is, whose members were asked for.
+    #[tactic(auto, unfolding(crate::specs::GroupV2::group_v2_of))]
+    pub(crate) fn from_members(
+        alloc: Global,
+        value: &Value,
+        members: &Map<String, Value>,
+    ) -> Result<GroupMetadataV2, MetadataFault>
+        requires { document_of (view value.now) ≡ Ok (members_view members.now.entries) }
+        ensures { Gives (λ m. m) result (group_v2_of (view value.now)) }
+    {
+        ask_format(value, 2)?;
+        refuse(value, "shape")?;
+        Ok(GroupMetadataV2 {
+            attributes: optional(alloc, value, "attributes", Object::new(Map::new(alloc)))?,
+            additional_fields: other_members(alloc, members, OWN_NAMES)?,
+        })
+    }
+
+    /// The group that the bytes of a document are.
+    ///
+    /// # Errors
+    ///
+    /// `NotJson` where the bytes are no JSON text, else as [`GroupMetadataV2::from_value`].
+    ///
+    /// Source: Zarr specification version 2, "Groups".
+    #[tactic(auto, unfolding(crate::specs::Documents::of_bytes))]
+    pub fn from_bytes(alloc: Global, bytes: &[u8]) -> Result<GroupMetadataV2, MetadataFault>
+        ensures { Gives (λ m. m) result (of_bytes group_v2_of bytes.now) }
+    {
+        let value = parse(alloc, bytes)?;
+        GroupMetadataV2::from_value(alloc, &value)
+    }
+
+    /// The written form: the members of the table and the additional fields, without empty attributes.
+    ///
+    /// # Errors
+    ///
+    /// `AllocError` where there is no memory for the tree.
+    ///
+    /// Source: Zarr specification version 2, "Groups".
+    pub fn to_value(&self, alloc: Global) -> Result<Value, AllocError>
+        ensures { IfOk result (λ v. view v ≡ group_v2_tree self.now) }
+    {
+        let mut all = Object::copy_of(self.additional_fields.as_map())?.into_map();
+        put(&mut all, alloc, "zarr_format", Value::from(2u64))?;
+        let bare = self.attributes.is_empty();
+        put_unless(&mut all, alloc, "attributes", bare, &self.attributes)?;
+        Ok(Value::Object(all))
+    }
+
+    /// The compact JSON text of the written form, where the group is plain.
+    ///
+    /// # Errors
+    ///
+    /// `AllocError` where there is no memory for it.
+    ///
+    /// Source: Zarr specification version 2, "Groups".
+    pub fn to_text(&self, alloc: Global) -> Result<String, AllocError>
+        ensures { IfOk result (λ text. IsTrue (is_plain_group_v2 self.now)
+            → string_bytes text ≡ compact_text (group_v2_tree self.now)) }
+    {
+        self.to_value(alloc)?.to_string(alloc)
+    }
+
+    /// Whether the group could have come from a document: its numbers fit, and no additional field has
+    /// an own name or the name `shape`.
+    pub fn is_plain(&self) -> bool
+        ensures { result ≡ is_plain_group_v2 self.now }
+    {
+        let fields = self.additional_fields.as_map();
+        !members_have_float(self.attributes.as_map())
+            && !members_have_float(fields)
+            && !has_own_member(fields, OWN_NAMES)
+    }
+}

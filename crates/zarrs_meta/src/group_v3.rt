@@ -1,0 +1,152 @@
+//! The version 3 group.
+ghost use Rattle.std.specs.Prelude.{◌≡◌, Ok, IfOk, IsTrue, string_bytes};
+ghost use Rattle.serde_json.specs.Data.{no_members};
+ghost use Rattle.serde_json.specs.View.{view, members_view};
+ghost use Rattle.serde_json.specs.Written.{compact_text};
+ghost use Rattle.zarrs_meta.specs.Documents.{Gives, document_of, of_bytes};
+ghost use Rattle.zarrs_meta.specs.GroupV3.{group_v3_of, group_v3_tree, is_plain_group_v3};
+
+use crate::fields::{
+    AdditionalFieldsV3, additional_fields_v3, fields_have_float, has_own_name, is_null_at,
+    members_of_fields,
+};
+use crate::form::{optional, put_unless};
+use crate::members::{ask_format, ask_node_type, document, members_have_float, parse, put_text};
+use crate::shapes::Object;
+use serde_json::{Map, Value, put};
+use std::alloc::{AllocError, Global};
+use zarrs_store::MetadataFault;
+
+/// The metadata of a version 3 group.
+///
+/// Zarr core specification 3.1, "Group metadata"; `zarrs_metadata::v3::GroupMetadataV3`.
+#[derive(Drop)]
+pub struct GroupMetadataV3 {
+    /// The attributes.
+    pub attributes: Object,
+    /// The members that stand in no row of the table.
+    pub additional_fields: AdditionalFieldsV3,
+}
+
+impl GroupMetadataV3 {
+    /// The group without attributes and additional fields.
+    ///
+    /// Source: Zarr core specification 3.1, "Group metadata"; `GroupMetadataV3::new`.
+    pub fn new(alloc: Global) -> GroupMetadataV3
+        ensures { result ≡ record { attributes = no_members; additional_fields = no_members } }
+    {
+        GroupMetadataV3 {
+            attributes: Object::new(Map::new(alloc)),
+            additional_fields: AdditionalFieldsV3::new(Map::new(alloc)),
+        }
+    }
+
+    /// The group that a JSON value is.
+    ///
+    /// # Errors
+    ///
+    /// The first that applies: `UnsupportedNumber` where some number is neither `u64` nor `i64`,
+    /// `NotAnObject`, `WrongFormat` where `zarr_format` is not 3, `WrongNodeType` where `node_type` is
+    /// not `group`, `BadMember` of `attributes` where it is no object. `OutOfMemory` where there is no
+    /// memory.
+    ///
+    /// Source: Zarr core specification 3.1, "Group metadata".
+    #[tactic(auto, unfolding(crate::specs::GroupV3::group_v3_of))]
+    pub fn from_value(alloc: Global, value: &Value) -> Result<GroupMetadataV3, MetadataFault>
+        ensures { Gives (λ m. m) result (group_v3_of (view value.now)) }
+    {
+        let members = document(value)?;
+        GroupMetadataV3::from_members(alloc, value, members)
+    }
+
+    /// The group that a JSON value is, whose members were asked for.
+    #[tactic(auto, unfolding(crate::specs::GroupV3::group_v3_of))]
+    pub(crate) fn from_members(
+        alloc: Global,
+        value: &Value,
+        members: &Map<String, Value>,
+    ) -> Result<GroupMetadataV3, MetadataFault>
+        requires { document_of (view value.now) ≡ Ok (members_view members.now.entries) }
+        ensures { Gives (λ m. m) result (group_v3_of (view value.now)) }
+    {
+        ask_format(value, 3)?;
+        ask_node_type(value, "group")?;
+        let attributes = optional(alloc, value, "attributes", Object::new(Map::new(alloc)))?;
+        let additional_fields = match value.get("consolidated_metadata") {
+            Some(Value::Null) => additional_fields_v3(
+                alloc,
+                members,
+                &[
+                    "zarr_format",
+                    "node_type",
+                    "attributes",
+                    "consolidated_metadata",
+                ],
+            )?,
+            _ => additional_fields_v3(alloc, members, &["zarr_format", "node_type", "attributes"])?,
+        };
+        Ok(GroupMetadataV3 {
+            attributes,
+            additional_fields,
+        })
+    }
+
+    /// The group that the bytes of a document are.
+    ///
+    /// # Errors
+    ///
+    /// `NotJson` where the bytes are no JSON text, else as [`GroupMetadataV3::from_value`].
+    ///
+    /// Source: Zarr core specification 3.1, "Group metadata".
+    #[tactic(auto, unfolding(crate::specs::Documents::of_bytes))]
+    pub fn from_bytes(alloc: Global, bytes: &[u8]) -> Result<GroupMetadataV3, MetadataFault>
+        ensures { Gives (λ m. m) result (of_bytes group_v3_of bytes.now) }
+    {
+        let value = parse(alloc, bytes)?;
+        GroupMetadataV3::from_value(alloc, &value)
+    }
+
+    /// The written form of the group: the members of the table and the additional fields.
+    ///
+    /// # Errors
+    ///
+    /// `AllocError` where there is no memory for it.
+    ///
+    /// Source: Zarr core specification 3.1, "Group metadata".
+    pub fn to_value(&self, alloc: Global) -> Result<Value, AllocError>
+        ensures { IfOk result (λ v. view v ≡ group_v3_tree self.now) }
+    {
+        let mut all = members_of_fields(alloc, self.additional_fields.as_map())?;
+        put(&mut all, alloc, "zarr_format", Value::from(3u64))?;
+        put_text(&mut all, alloc, "node_type", "group")?;
+        let bare = self.attributes.is_empty();
+        put_unless(&mut all, alloc, "attributes", bare, &self.attributes)?;
+        Ok(Value::Object(all))
+    }
+
+    /// The compact JSON text of the written form, where the group is plain.
+    ///
+    /// # Errors
+    ///
+    /// `AllocError` where there is no memory for it.
+    ///
+    /// Source: Zarr core specification 3.1, "Group metadata".
+    pub fn to_text(&self, alloc: Global) -> Result<String, AllocError>
+        ensures { IfOk result (λ text. IsTrue (is_plain_group_v3 self.now)
+            → string_bytes text ≡ compact_text (group_v3_tree self.now)) }
+    {
+        self.to_value(alloc)?.to_string(alloc)
+    }
+
+    /// Whether the group could have come from a document: its numbers are `u64` or `i64`, no additional field
+    /// has an own name, and no field `consolidated_metadata` is null.
+    pub fn is_plain(&self) -> bool
+        ensures { result ≡ is_plain_group_v3 self.now }
+    {
+        let fields = self.additional_fields.as_map();
+        !members_have_float(self.attributes.as_map())
+            && !fields_have_float(fields)
+            && !has_own_name(fields, &["zarr_format", "node_type", "attributes"])
+            && !is_null_at(fields, "consolidated_metadata")
+    }
+}

@@ -1,0 +1,163 @@
+//! The parts of reading that the documents share.
+ghost use Rattle.std.specs.Prelude.{◌≡◌, map, Ok, option_map, codes, IfOk, OnOk};
+ghost use Rattle.serde_json.specs.Data.{no_members, string, put};
+ghost use Rattle.serde_json.specs.Find.{as_object};
+ghost use Rattle.serde_json.specs.Written as written;
+ghost use Rattle.serde_json.specs.View.{view, items_view, members_view};
+ghost use Rattle.zarrs_meta.specs.Documents.{Gives, absent, besides, has_own, is_own, parsed, json_of, document_of, format_of, node_type_of, optional};
+
+use crate::shapes::Object;
+use serde_json::{Category, Map, Value};
+use std::alloc::{AllocError, Global};
+use zarrs_store::{MemberName, MetadataFault};
+
+/// Whether the name is one of the names.
+pub(crate) fn is_one_of(name: &str, names: &[&str]) -> bool
+    ensures { result ≡ is_own (map (λ n. n.now) names.now) name.now }
+{
+    names.contains(&name)
+}
+
+/// Whether a number in the value is neither `u64` nor `i64`.
+#[cycle(has_float)]
+pub(crate) fn has_float(value: &Value) -> bool
+    ensures { result ≡ written.has_float (view value.now) }
+{
+    match value {
+        Value::Number(number) => number.is_f64(),
+        Value::Array(items) => items_have_float(items),
+        Value::Object(members) => members_have_float(members),
+        _ => false,
+    }
+}
+
+#[cycle(has_float)]
+fn items_have_float(items: &Vec<Value>) -> bool
+    ensures { result ≡ written.items_have_float (items_view items.now.items) }
+{
+    for item in items {
+        if has_float(item) {
+            return true;
+        }
+    }
+    false
+}
+
+#[cycle(has_float)]
+pub(crate) fn members_have_float(members: &Map<String, Value>) -> bool
+    ensures { result ≡ written.members_have_float (members_view members.now.entries) }
+{
+    for (_name, member) in members.iter() {
+        if has_float(member) {
+            return true;
+        }
+    }
+    false
+}
+
+/// The members of a document whose numbers all fit.
+pub(crate) fn document(value: &Value) -> Result<&Map<String, Value>, MetadataFault>
+    ensures { Gives (λ m. members_view m.now.entries) result (document_of (view value.now)) }
+{
+    if has_float(value) {
+        return Err(MetadataFault::UnsupportedNumber);
+    }
+    match value {
+        Value::Object(members) => Ok(members),
+        _ => Err(MetadataFault::NotAnObject),
+    }
+}
+
+/// `zarr_format` is the number asked for.
+#[tactic(auto, unfolding(crate::specs::Documents::format_of))]
+pub(crate) fn ask_format(document: &Value, format: u64) -> Result<(), MetadataFault>
+    ensures { result ≡ format_of format (view document.now) }
+{
+    match document.get("zarr_format").and_then(Value::as_u64) {
+        Some(found) if found == format => Ok(()),
+        _ => Err(MetadataFault::WrongFormat),
+    }
+}
+
+/// `node_type` is the text asked for.
+#[tactic(auto, unfolding(crate::specs::Documents::node_type_of))]
+pub(crate) fn ask_node_type(document: &Value, node_type: &str) -> Result<(), MetadataFault>
+    ensures { result ≡ node_type_of node_type.now (view document.now) }
+{
+    match document.get("node_type").and_then(Value::as_str) {
+        Some(found) if found == node_type => Ok(()),
+        _ => Err(MetadataFault::WrongNodeType),
+    }
+}
+
+/// The tree that the bytes are.
+#[tactic(auto, unfolding(crate::specs::Documents::json_of))]
+pub(crate) fn parse(alloc: Global, bytes: &[u8]) -> Result<Value, MetadataFault>
+    ensures { Gives view result (parsed (json_of bytes.now)) }
+{
+    match Value::from_slice(alloc, bytes) {
+        Ok(value) => Ok(value),
+        Err(error) => match error.classify() {
+            Category::Memory => Err(MetadataFault::OutOfMemory),
+            _ => Err(MetadataFault::NotJson),
+        },
+    }
+}
+
+/// Puts a text as a member.
+pub(crate) fn put_text(
+    members: &mut Map<String, Value>,
+    alloc: Global,
+    name: &str,
+    text: &str,
+) -> Result<(), AllocError>
+    ensures { OnOk result (members_view members.new.entries
+        ≡ put name.now (string text.now) (members_view members.old.entries)) }
+{
+    serde_json::put(
+        members,
+        alloc,
+        name,
+        Value::String(String::from_str(alloc, text)?),
+    )
+}
+
+/// A member that must not be there.
+pub(crate) fn refuse(document: &Value, name: &'static str) -> Result<(), MetadataFault>
+    ensures { result ≡ absent name.now (view document.now) }
+{
+    match document.get(name) {
+        None => Ok(()),
+        Some(_) => Err(MetadataFault::BadMember(MemberName::new(name))),
+    }
+}
+
+/// The members of an object that have none of the own names.
+pub(crate) fn other_members(
+    alloc: Global,
+    members: &Map<String, Value>,
+    own_names: &[&str],
+) -> Result<Object, AllocError>
+    ensures { IfOk result (λ others. others
+        ≡ besides (map (λ name. name.now) own_names.now) (members_view members.now.entries)) }
+{
+    let mut others = Map::new(alloc);
+    for (name, value) in members.iter() {
+        if !is_one_of(name.as_str(), own_names) {
+            drop(others.insert(name.clone()?, value.clone()?)?);
+        }
+    }
+    Ok(Object::new(others))
+}
+
+/// Whether some member has one of the own names.
+pub(crate) fn has_own_member(members: &Map<String, Value>, own_names: &[&str]) -> bool
+    ensures { result ≡ has_own (map (λ name. name.now) own_names.now) (members_view members.now.entries) }
+{
+    for (name, _member) in members.iter() {
+        if is_one_of(name.as_str(), own_names) {
+            return true;
+        }
+    }
+    false
+}

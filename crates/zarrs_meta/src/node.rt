@@ -1,0 +1,276 @@
+//! Metadata of either kind and either version.
+ghost use Rattle.std.specs.Prelude.{◌≡◌, Ok, IfOk, IsTrue, string_bytes};
+ghost use Rattle.serde_json.specs.View.{view, members_view};
+ghost use Rattle.serde_json.specs.Written.{compact_text};
+ghost use Rattle.zarrs_meta.specs.Documents.{Gives, document_of, of_bytes};
+ghost use Rattle.zarrs_meta.specs.Node.{node_of, node_v2_of, node_v3_of, node_tree, is_plain_node, zarr_json_of, has_format, has_type, is_group};
+ghost use Rattle.zarrs_meta.specs.declared.node.GroupMetadata.TheVariants.{V3 as group_v3, V2 as group_v2};
+ghost use Rattle.zarrs_meta.specs.declared.node.ArrayMetadata.TheVariants.{V3 as array_v3, V2 as array_v2};
+
+use crate::array_v2::ArrayMetadataV2;
+use crate::array_v3::ArrayMetadataV3;
+use crate::group_v2::GroupMetadataV2;
+use crate::group_v3::GroupMetadataV3;
+use crate::members::{ask_format, ask_node_type, document, parse};
+use serde_json::{Map, Value};
+use std::alloc::{AllocError, Global};
+use zarrs_store::MetadataFault;
+
+/// The metadata of a group of either version.
+#[derive(Drop)]
+pub enum GroupMetadata {
+    /// Of version 3.
+    V3(GroupMetadataV3),
+    /// Of version 2.
+    V2(GroupMetadataV2),
+}
+
+/// The metadata of an array of either version.
+#[derive(Drop)]
+pub enum ArrayMetadata {
+    /// Of version 3.
+    V3(ArrayMetadataV3),
+    /// Of version 2.
+    V2(ArrayMetadataV2),
+}
+
+/// The metadata of a group or an array.
+#[derive(Drop)]
+pub enum NodeMetadata {
+    /// A group.
+    Group(GroupMetadata),
+    /// An array.
+    Array(ArrayMetadata),
+}
+
+/// What the document at the key `zarr.json` is read as.
+#[derive(Drop)]
+pub enum ZarrJson {
+    /// A group or an array.
+    Node(NodeMetadata),
+    /// Its `zarr_format` is 2, and no more of it was read.
+    Version2,
+}
+
+impl From<GroupMetadataV3> for GroupMetadata {
+    ghost from_gives = { λ group metadata. metadata ≡ group_v3 group };
+
+    fn from(group: GroupMetadataV3) -> GroupMetadata {
+        GroupMetadata::V3(group)
+    }
+}
+
+impl From<GroupMetadataV2> for GroupMetadata {
+    ghost from_gives = { λ group metadata. metadata ≡ group_v2 group };
+
+    fn from(group: GroupMetadataV2) -> GroupMetadata {
+        GroupMetadata::V2(group)
+    }
+}
+
+impl From<ArrayMetadataV3> for ArrayMetadata {
+    ghost from_gives = { λ array metadata. metadata ≡ array_v3 array };
+
+    fn from(array: ArrayMetadataV3) -> ArrayMetadata {
+        ArrayMetadata::V3(array)
+    }
+}
+
+impl From<ArrayMetadataV2> for ArrayMetadata {
+    ghost from_gives = { λ array metadata. metadata ≡ array_v2 array };
+
+    fn from(array: ArrayMetadataV2) -> ArrayMetadata {
+        ArrayMetadata::V2(array)
+    }
+}
+
+impl NodeMetadata {
+    /// The group or array that a JSON value is: `zarr_format` 3 by its `node_type`, `zarr_format` 2 an
+    /// array where it has a `shape` and else a group.
+    ///
+    /// # Errors
+    ///
+    /// The first that applies: `UnsupportedNumber` where some number is neither `u64` nor `i64`,
+    /// `NotAnObject`, `WrongFormat` where `zarr_format` is neither 3 nor 2, `WrongNodeType`, then
+    /// `MissingMember` or `BadMember` of the first member of the table that is absent or of another form.
+    /// `OutOfMemory` where there is no memory.
+    ///
+    /// Source: Zarr core specification 3.1, "Metadata documents".
+    #[tactic(auto, unfolding(crate::specs::Node::node_of))]
+    pub fn from_value(alloc: Global, value: &Value) -> Result<NodeMetadata, MetadataFault>
+        ensures { Gives (λ m. m) result (node_of (view value.now)) }
+    {
+        let members = document(value)?;
+        node(alloc, value, members)
+    }
+
+    /// The group or array that the bytes of a document are.
+    ///
+    /// # Errors
+    ///
+    /// `NotJson` where the bytes are no JSON text, else as [`NodeMetadata::from_value`].
+    ///
+    /// Source: Zarr core specification 3.1, "Metadata documents".
+    #[tactic(auto, unfolding(crate::specs::Documents::of_bytes))]
+    pub fn from_bytes(alloc: Global, bytes: &[u8]) -> Result<NodeMetadata, MetadataFault>
+        ensures { Gives (λ m. m) result (of_bytes node_of bytes.now) }
+    {
+        let value = parse(alloc, bytes)?;
+        NodeMetadata::from_value(alloc, &value)
+    }
+
+    /// The written form of the group or array.
+    ///
+    /// # Errors
+    ///
+    /// `AllocError` where there is no memory for it.
+    ///
+    /// Source: Zarr core specification 3.1, "Metadata documents".
+    pub fn to_value(&self, alloc: Global) -> Result<Value, AllocError>
+        ensures { IfOk result (λ v. view v ≡ node_tree self.now) }
+    {
+        match self {
+            NodeMetadata::Group(GroupMetadata::V3(group)) => group.to_value(alloc),
+            NodeMetadata::Group(GroupMetadata::V2(group)) => group.to_value(alloc),
+            NodeMetadata::Array(ArrayMetadata::V3(array)) => array.to_value(alloc),
+            NodeMetadata::Array(ArrayMetadata::V2(array)) => array.to_value(alloc),
+        }
+    }
+
+    /// The compact JSON text of the written form, where the metadata is plain.
+    ///
+    /// # Errors
+    ///
+    /// `AllocError` where there is no memory for it.
+    ///
+    /// Source: Zarr core specification 3.1, "Metadata documents".
+    pub fn to_text(&self, alloc: Global) -> Result<String, AllocError>
+        ensures { IfOk result (λ text. IsTrue (is_plain_node self.now)
+            → string_bytes text ≡ compact_text (node_tree self.now)) }
+    {
+        self.to_value(alloc)?.to_string(alloc)
+    }
+
+    /// Whether the metadata could have come from a document.
+    pub fn is_plain(&self) -> bool
+        ensures { result ≡ is_plain_node self.now }
+    {
+        match self {
+            NodeMetadata::Group(GroupMetadata::V3(group)) => group.is_plain(),
+            NodeMetadata::Group(GroupMetadata::V2(group)) => group.is_plain(),
+            NodeMetadata::Array(ArrayMetadata::V3(array)) => array.is_plain(),
+            NodeMetadata::Array(ArrayMetadata::V2(array)) => array.is_plain(),
+        }
+    }
+
+    /// Whether the node is a group.
+    pub fn is_group(&self) -> bool
+        ensures { result ≡ is_group self.now }
+    {
+        matches!(self, NodeMetadata::Group(_))
+    }
+}
+
+impl ZarrJson {
+    /// What a JSON value at the key `zarr.json` is: a group or an array, or a document of version 2.
+    ///
+    /// # Errors
+    ///
+    /// As [`NodeMetadata::from_value`], but that `zarr_format` 2 is no fault here.
+    ///
+    /// Source: Zarr core specification 3.1, "Metadata documents".
+    #[tactic(auto, unfolding(crate::specs::Node::zarr_json_of))]
+    pub fn from_value(alloc: Global, value: &Value) -> Result<ZarrJson, MetadataFault>
+        ensures { Gives (λ z. z) result (zarr_json_of (view value.now)) }
+    {
+        let members = document(value)?;
+        if has_format(value, 2) {
+            return Ok(ZarrJson::Version2);
+        }
+        Ok(ZarrJson::Node(node(alloc, value, members)?))
+    }
+
+    /// What the bytes at the key `zarr.json` are.
+    ///
+    /// # Errors
+    ///
+    /// `NotJson` where the bytes are no JSON text, else as [`ZarrJson::from_value`].
+    ///
+    /// Source: Zarr core specification 3.1, "Metadata documents".
+    #[tactic(auto, unfolding(crate::specs::Documents::of_bytes))]
+    pub fn from_bytes(alloc: Global, bytes: &[u8]) -> Result<ZarrJson, MetadataFault>
+        ensures { Gives (λ z. z) result (of_bytes zarr_json_of bytes.now) }
+    {
+        let value = parse(alloc, bytes)?;
+        ZarrJson::from_value(alloc, &value)
+    }
+}
+
+/// A node whose members were asked for: by its format.
+#[tactic(auto, unfolding(crate::specs::Node::node_of))]
+fn node(
+    alloc: Global,
+    value: &Value,
+    members: &Map<String, Value>,
+) -> Result<NodeMetadata, MetadataFault>
+    requires { document_of (view value.now) ≡ Ok (members_view members.now.entries) }
+    ensures { Gives (λ m. m) result (node_of (view value.now)) }
+{
+    if has_format(value, 3) {
+        node_v3(alloc, value, members)
+    } else if has_format(value, 2) {
+        node_v2(alloc, value, members)
+    } else {
+        Err(MetadataFault::WrongFormat)
+    }
+}
+
+/// A node of version 3: by its node type.
+fn node_v3(
+    alloc: Global,
+    value: &Value,
+    members: &Map<String, Value>,
+) -> Result<NodeMetadata, MetadataFault>
+    requires { document_of (view value.now) ≡ Ok (members_view members.now.entries) }
+    ensures { Gives (λ m. m) result (node_v3_of (view value.now)) }
+{
+    if has_type(value, "group") {
+        let group = GroupMetadataV3::from_members(alloc, value, members)?;
+        Ok(NodeMetadata::Group(GroupMetadata::V3(group)))
+    } else if has_type(value, "array") {
+        let array = ArrayMetadataV3::from_members(alloc, value, members)?;
+        Ok(NodeMetadata::Array(ArrayMetadata::V3(array)))
+    } else {
+        Err(MetadataFault::WrongNodeType)
+    }
+}
+
+/// A node of version 2: an array is known by its shape.
+fn node_v2(
+    alloc: Global,
+    value: &Value,
+    members: &Map<String, Value>,
+) -> Result<NodeMetadata, MetadataFault>
+    requires { document_of (view value.now) ≡ Ok (members_view members.now.entries) }
+    ensures { Gives (λ m. m) result (node_v2_of (view value.now)) }
+{
+    if value.get("shape").is_some() {
+        let array = ArrayMetadataV2::from_members(alloc, value, members)?;
+        Ok(NodeMetadata::Array(ArrayMetadata::V2(array)))
+    } else {
+        let group = GroupMetadataV2::from_members(alloc, value, members)?;
+        Ok(NodeMetadata::Group(GroupMetadata::V2(group)))
+    }
+}
+
+fn has_format(value: &Value, format: u64) -> bool
+    ensures { result ≡ has_format format (view value.now) }
+{
+    ask_format(value, format).is_ok()
+}
+
+fn has_type(value: &Value, node_type: &str) -> bool
+    ensures { result ≡ has_type node_type.now (view value.now) }
+{
+    ask_node_type(value, node_type).is_ok()
+}

@@ -1,0 +1,15 @@
+pub mod Meanings
+pub mod Reach
+pub mod Keys
+pub mod Graft
+pub mod Found
+pub mod Child
+pub mod Steps
+pub mod Walk
+pub mod Trees
+pub mod LastNames
+pub mod Order
+pub mod Unique
+pub mod Written
+pub mod LawProofs
+pub mod Listed

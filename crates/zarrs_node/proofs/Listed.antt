@@ -1,0 +1,63 @@
+-- Keys among those that a listing gave.
+use Rattle.std.proofs.Common.{◌≡◌, ◌↔◌, ℕ, ◌+◌, ◌<◌, ◌≤◌, Bool, true, false, ◌||◌, List, [], ◌∷◌, ◌++◌, length, take, take_all, get_or, Contains, IsTrue, sym, ap, subst, ◌∙◌, ◌⊎◌, inl, inr, ⊎_elim, arith, refl, true≢false}
+use Rattle.std.specs.Str.{bytes_eq}
+use Rattle.std.proofs.lemmas.List.{take_more}
+use Rattle.std.proofs.lemmas.List.Elements.{Contains-push_cases}
+use Rattle.std.proofs.lemmas.Slice.Eq.{bytes_eq-Decides}
+use Rattle.zarrs_store.specs.Segments.{Segments, IsKey, key_text, segments_of}
+use Rattle.zarrs_store.specs.Contents.{Contents, HasKey, Lists, IsChildKey}
+use Rattle.zarrs_path.specs.Paths.{Path}
+use Rattle.zarrs_path.specs.Keys.{zarr_json, zarray, zgroup}
+use Rattle.zarrs_path.proofs.KeyTexts.{key_parts}
+use Rattle.zarrs_node.specs.Exists.{HasNodeKey}
+
+-- two keys are one where their texts are
+pub same_keys : (a b : Segments) (s t : List ℕ) (r : Bool) → s ≡ key_text a → t ≡ key_text b → IsKey a → IsKey b → r ≡ bytes_eq s t → IsTrue r ↔ (a ≡ b)
+same_keys a b s t r sa tb va vb e =
+    let d = bytes_eq-Decides s t in (
+      λ same. sym (key_parts s a sa va) ∙ ap segments_of (d.0 (sym e ∙ same)) ∙ key_parts t b tb vb,
+      λ same. e ∙ d.1 (sa ∙ ap key_text same ∙ sym tb),
+    )
+
+-- a key that is neither among the first keys nor the next is not among those up to the next
+pub not_yet : (keys : List Segments) (key held : Segments) (i : ℕ) → i < length keys → held ≡ get_or keys i held → (held ≡ key → ⊥) → (Contains (take i keys) key → ⊥) → Contains (take (i + 1) keys) key → ⊥
+not_yet keys key held i lt is other before h =
+    ⊎_elim before other (Contains-push_cases (take i keys) held key (subst (λ xs. Contains xs key) (sym (ap (λ x. take i keys ++ x ∷ []) is ∙ sym (take_more keys i held lt))) h))
+
+-- a key that is among no keys up to the last is among none
+pub never : (keys : List Segments) (key : Segments) (i : ℕ) → length keys ≤ i → (Contains (take i keys) key → ⊥) → Contains keys key → ⊥
+never keys key i h before there = before (subst (λ xs. Contains xs key) (sym (take_all i keys h)) there)
+
+-- a key at a place is among the keys
+pub there : (keys : List Segments) (key held : Segments) (i : ℕ) → i < length keys → held ≡ get_or keys i held → held ≡ key → Contains keys key
+there keys key held i lt is same = (i, lt, subst (λ k. get_or keys i k ≡ k) same (sym is))
+
+-- a document is in the store where its key is among the keys directly below the path
+document_is : (s : Contents) (p base : Path) (keys : List Segments) (f : List ℕ) (k : Segments) (r : Bool) → base ≡ p → Lists (IsChildKey s base) keys → k ≡ p ++ f ∷ [] → IsTrue r ↔ Contains keys k → IsTrue r ↔ HasKey s (p ++ f ∷ [])
+document_is s p base keys f k r same l is h = (
+  λ t. let c = h.0 t in subst (HasKey s) is (subst (IsChildKey s base) c.2 (l.sound c.0 k c.1)).held,
+  λ has. h.1 (l.complete k (record { name = f; is = is ∙ ap (λ q. q ++ f ∷ []) (sym same); held = subst (HasKey s) (sym is) has })),
+)
+
+-- of three tests of which one passes, the first, the second or the third passes
+or_any : {A B C : Type 0} (a b c : Bool) → (a || (b || c)) ≡ true → (a ≡ true → A) → (b ≡ true → B) → (c ≡ true → C) → A ⊎ (B ⊎ C)
+or_any true b c t f g h = inl (f refl)
+or_any false true c t f g h = inr (inl (g refl))
+or_any false false c t f g h = inr (inr (h t))
+
+-- where the first, the second or the third of three tests passes, one passes
+or_from : {A B C : Type 0} (a b c : Bool) → A ⊎ (B ⊎ C) → (A → a ≡ true) → (B → b ≡ true) → (C → c ≡ true) → (a || (b || c)) ≡ true
+or_from true b c h f g k = refl
+or_from false true c h f g k = refl
+or_from false false c h f g k = ⊎_elim (λ x. absurd (true≢false (sym (f x)))) (⊎_elim (λ x. absurd (true≢false (sym (g x)))) k) h
+
+-- a node has a document where one of its three keys is among the keys directly below its path
+pub exists_by : (s : Contents) (p base : Path) (keys : List Segments) → base ≡ p → Lists (IsChildKey s base) keys → (k l m : Segments) → k ≡ p ++ zarr_json ∷ [] → l ≡ p ++ zarray ∷ [] → m ≡ p ++ zgroup ∷ []
+    → (a b c : Bool) → IsTrue a ↔ Contains keys k → IsTrue b ↔ Contains keys l → IsTrue c ↔ Contains keys m → (r : Bool) → r ≡ (a || (b || c)) → IsTrue r ↔ HasNodeKey s p
+exists_by s p base keys same listed k l m ks ls ms a b c ha hb hc r e =
+    let v3 = document_is s p base keys zarr_json k a same listed ks ha in
+    let array = document_is s p base keys zarray l b same listed ls hb in
+    let group = document_is s p base keys zgroup m c same listed ms hc in (
+      λ t. or_any a b c (sym e ∙ t) v3.0 array.0 group.0,
+      λ h. e ∙ or_from a b c h v3.1 array.1 group.1,
+    )

@@ -1,0 +1,9 @@
+pub mod Meaning
+pub mod Reached
+pub mod Forest
+pub mod Nodes
+pub mod Refused
+pub mod Exists
+pub mod Order
+pub mod Lines
+pub mod Laws

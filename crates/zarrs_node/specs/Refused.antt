@@ -1,0 +1,37 @@
+-- Zarr core specification 3.1, "Metadata documents": what the calls that read documents answer.
+use Rattle.std.specs.Prelude.{◌≡◌, ℕ, Bool, List, [], ◌∷◌, ◌++◌, Option, Some, None, Result, Ok, Err, ◌⊎◌, string_bytes, codes}
+use Rattle.zarrs_store.specs.Segments.{Segments}
+use Rattle.zarrs_store.specs.Faults.{IsStoreError}
+use Rattle.zarrs_store.specs.declared.fault.MetadataFault.{MetadataFault}
+use Rattle.zarrs_store.specs.declared.fault.MetadataFault.TheVariants.{OutOfMemory as NoMemoryToRead}
+use Rattle.zarrs_store.specs.declared.storage_error.StorageError.TheVariants.{InvalidMetadata, Other}
+use Rattle.zarrs_store.specs.declared.prefix.StorePrefixError.TheVariants.{Invalid as InvalidPrefix, OutOfMemory as NoPrefixMemory}
+use Rattle.zarrs_path.specs.declared.node_path.NodePathError.TheVariants.{Invalid as InvalidPath, OutOfMemory as NoPathMemory}
+use Rattle.zarrs_path.specs.Paths.{Path, path_text}
+use Rattle.zarrs_block.specs.Refused.{IsExcused}
+use Rattle.zarrs_meta.specs.declared.node.NodeMetadata.{NodeMetadata}
+use Rattle.zarrs_block.specs.declared.node_create_error.NodeCreateError.{NodeCreateError}
+use Rattle.zarrs_block.specs.declared.node_create_error.NodeCreateError.TheVariants.{NodePathError, StorePrefixError, StorageError, MetadataVersionMismatch, MissingMetadata, OutOfMemory}
+use Rattle.zarrs_node.specs.Meaning.{Meaning, node, nothing, bad}
+
+-- a fault of the document at a key is refused with the key and the fault, and want of memory as such
+abbrev pub refusal_at : Segments → MetadataFault → NodeCreateError
+refusal_at key NoMemoryToRead = OutOfMemory
+refusal_at key fault = StorageError (InvalidMetadata key fault)
+
+-- what a call answered is what the reading gives, unless it is excused
+abbrev pub Reads : {D : Type 0} → Bool → Result D NodeCreateError → Result D NodeCreateError → Type 0
+Reads can_fail (Ok d) reading = reading ≡ Ok d
+Reads can_fail (Err e) reading = IsExcused can_fail e ⊎ (reading ≡ Err e)
+
+-- the answer is what this line of the table says, unless it is excused
+abbrev pub FollowsLine : Bool → Result (Option NodeMetadata) NodeCreateError → (Meaning → Meaning) → Type 0
+FollowsLine can_fail (Ok (Some m)) line = (after : Meaning) → line after ≡ node m
+FollowsLine can_fail (Ok None) line = (after : Meaning) → line after ≡ after
+FollowsLine can_fail (Err e) line = IsExcused can_fail e ⊎ ((after : Meaning) → line after ≡ bad e)
+
+-- the answer is the meaning, unless it is excused
+abbrev pub Finds : Bool → Result (Option NodeMetadata) NodeCreateError → Meaning → Type 0
+Finds can_fail (Ok (Some m)) meaning = meaning ≡ node m
+Finds can_fail (Ok None) meaning = meaning ≡ nothing
+Finds can_fail (Err e) meaning = IsExcused can_fail e ⊎ (meaning ≡ bad e)

@@ -1,0 +1,16 @@
+//! Nodes and the listing of a store.
+#![tactic(auto)]
+
+mod children;
+mod exists;
+mod last_name;
+pub mod laws;
+mod listing;
+mod metadata;
+mod node;
+mod text;
+
+pub use children::{get_all_nodes_of, get_child_nodes, get_child_nodes_opt};
+pub use exists::{node_exists, node_exists_listable};
+pub use listing::{ListedNodes, list_nodes};
+pub use node::Node;

@@ -1,0 +1,9 @@
+pub mod NameLemmas
+pub mod PathTexts
+pub mod ByteTests
+pub mod Parents
+pub mod Joins
+pub mod KeyTexts
+pub mod Prefixes
+pub mod LawProofs
+pub mod Relative

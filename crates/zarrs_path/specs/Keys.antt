@@ -1,0 +1,19 @@
+-- Zarr core specification 3.1, "Storage keys": the names of the documents of a node.
+-- The key of the document f of a path p is `p ++ f ∷ []`. The names of version 2 are those of its specification, "Metadata", "Groups" and "Attributes".
+use Rattle.std.specs.Prelude.{ℕ, List, codes}
+
+-- `zarr.json`, the metadata document of version 3
+abbrev pub zarr_json : List ℕ
+zarr_json = codes "zarr.json"
+
+-- `.zarray`, the metadata document of a version 2 array
+abbrev pub zarray : List ℕ
+zarray = codes ".zarray"
+
+-- `.zgroup`, the metadata document of a version 2 group
+abbrev pub zgroup : List ℕ
+zgroup = codes ".zgroup"
+
+-- `.zattrs`, the attributes of a version 2 node
+abbrev pub zattrs : List ℕ
+zattrs = codes ".zattrs"

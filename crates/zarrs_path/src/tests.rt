@@ -1,0 +1,335 @@
+use crate::{
+    NodeName, NodePath, data_key, laws, meta_key, meta_key_v2_array, meta_key_v2_attributes,
+    meta_key_v2_group, meta_key_v3,
+};
+use std::alloc::Global;
+use std::cmp::Ordering;
+use std::hash::{BuildHasher, BuildHasherDefault, FoldHasher};
+use std::test::Fail;
+use zarrs_store::{StoreKey, StorePrefix};
+
+fn path(alloc: Global, text: &str) -> Result<NodePath, Fail> {
+    Ok(NodePath::new(alloc, text)?)
+}
+
+fn hash_of(path: &NodePath) -> u64 {
+    let hashers: BuildHasherDefault<FoldHasher> = BuildHasherDefault::new();
+    hashers.hash_one(path)
+}
+
+#[test]
+fn names_are_valid_by_their_bytes(rt: HostRuntime) {
+    for (text, valid) in [
+        ("", true),
+        ("a", true),
+        ("a.b", true),
+        ("..a", true),
+        ("_", true),
+        ("_a", true),
+        ("a__", true),
+        (".", false),
+        ("..", false),
+        ("...", false),
+        ("__", false),
+        ("__a", false),
+        ("/", false),
+        ("a/b", false),
+    ] {
+        assert_eq!(rt; NodeName::validate(text), valid, "at {text}");
+    }
+}
+
+#[test]
+fn names_show_their_texts(rt: HostRuntime) -> Result<(), Fail> {
+    let alloc = rt.alloc();
+    for text in ["", "a", "a.b", "..a"] {
+        let name = NodeName::new(alloc, text)?;
+        assert_eq!(rt; name.as_str(), text);
+        assert_eq!(rt; name.to_string(alloc)?.as_str(), text);
+    }
+    Ok(())
+}
+
+#[test]
+fn refuses_what_is_no_name(rt: HostRuntime) -> Result<(), Fail> {
+    let alloc = rt.alloc();
+    for (text, want) in [
+        ("..", "invalid node name .."),
+        ("__a", "invalid node name __a"),
+        ("a/b", "invalid node name a/b"),
+    ] {
+        match NodeName::new(alloc, text) {
+            Ok(name) => assert!(rt; false, "{name}"),
+            Err(error) => assert_eq!(rt; error.to_string(alloc)?.as_str(), want),
+        }
+    }
+    Ok(())
+}
+
+#[test]
+fn names_are_equal_by_their_texts(rt: HostRuntime) -> Result<(), Fail> {
+    let alloc = rt.alloc();
+    let name = NodeName::new_unchecked(String::from_str(alloc, "ab")?);
+    assert_eq!(rt; name.as_str(), "ab");
+    assert!(rt; name == NodeName::new(alloc, "ab")?);
+    assert!(rt; name != NodeName::new(alloc, "a")?);
+    let root = NodeName::root(alloc);
+    assert_eq!(rt; root.as_str(), "");
+    assert!(rt; root.is_root());
+    assert!(rt; root == NodeName::new(alloc, "")?);
+    assert!(rt; !name.is_root());
+    Ok(())
+}
+
+#[test]
+fn paths_are_valid_by_their_names(rt: HostRuntime) {
+    for (text, valid) in [
+        ("/", true),
+        ("", false),
+        ("/a/b/", false),
+        ("////", false),
+        ("/...", false),
+        ("/foo/__bar", false),
+        ("/foo__bar", true),
+        ("/foo./bar", true),
+        ("/foo/bar..", true),
+        ("x", false),
+        ("/..", false),
+        ("/a//b", false),
+    ] {
+        assert_eq!(rt; NodePath::validate(text), valid, "at {text}");
+    }
+}
+
+#[test]
+fn paths_show_their_texts(rt: HostRuntime) -> Result<(), Fail> {
+    let alloc = rt.alloc();
+    for text in ["/", "/a", "/foo__bar", "/foo./bar", "/foo/bar.."] {
+        let path = NodePath::new(alloc, text)?;
+        assert_eq!(rt; path.as_str(), text);
+        assert_eq!(rt; path.to_string(alloc)?.as_str(), text);
+        assert_eq!(rt; path.try_clone(alloc)?.as_str(), text);
+    }
+    let root = NodePath::root(alloc)?;
+    assert_eq!(rt; root.as_str(), "/");
+    assert!(rt; root.is_root());
+    assert!(rt; !path(alloc, "/a")?.is_root());
+    assert!(rt; laws::accepted_texts(alloc, "/a")?);
+    assert!(rt; !laws::accepted_texts(alloc, "a")?);
+    Ok(())
+}
+
+#[test]
+fn refuses_what_is_no_path(rt: HostRuntime) -> Result<(), Fail> {
+    let alloc = rt.alloc();
+    for (text, want) in [
+        ("x", "invalid node path x"),
+        ("/..", "invalid node path /.."),
+        ("/a/b/", "invalid node path /a/b/"),
+        ("", "invalid node path "),
+    ] {
+        match NodePath::new(alloc, text) {
+            Ok(path) => assert!(rt; false, "{path}"),
+            Err(error) => assert_eq!(rt; error.to_string(alloc)?.as_str(), want),
+        }
+    }
+    Ok(())
+}
+
+#[test]
+fn joins_names(rt: HostRuntime) -> Result<(), Fail> {
+    let alloc = rt.alloc();
+    for (base, relative, want) in [
+        ("/group", "/sub", "/group/sub"),
+        ("/group", "sub/leaf", "/group/sub/leaf"),
+        ("/group", "/", "/group"),
+        ("/", "", "/"),
+        ("/", "a/b", "/a/b"),
+    ] {
+        let joined = path(alloc, base)?.join(alloc, relative)?;
+        assert_eq!(rt; joined.as_str(), want);
+    }
+    Ok(())
+}
+
+#[test]
+fn refuses_the_first_bad_part(rt: HostRuntime) -> Result<(), Fail> {
+    let alloc = rt.alloc();
+    let root = NodePath::root(alloc)?;
+    for (relative, want) in [
+        ("foo/", "invalid node path invalid node name `` in 'foo/'"),
+        (
+            "a/../b/__c",
+            "invalid node path invalid node name `..` in 'a/../b/__c'",
+        ),
+        ("//foo", "invalid node path invalid node name `` in '/foo'"),
+        ("__c", "invalid node path invalid node name `__c` in '__c'"),
+    ] {
+        match root.join(alloc, relative) {
+            Ok(path) => assert!(rt; false, "{path}"),
+            Err(error) => assert_eq!(rt; error.to_string(alloc)?.as_str(), want),
+        }
+    }
+    Ok(())
+}
+
+#[test]
+fn parents_lack_the_last_name(rt: HostRuntime) -> Result<(), Fail> {
+    let alloc = rt.alloc();
+    assert!(rt; NodePath::root(alloc)?.parent(alloc)?.is_none());
+    assert!(rt; laws::parent_of_root(alloc)?.is_none());
+    for (text, want) in [("/foo", "/"), ("/foo/bar/baz", "/foo/bar")] {
+        match path(alloc, text)?.parent(alloc)? {
+            Some(parent) => assert_eq!(rt; parent.as_str(), want),
+            None => assert!(rt; false, "{text}"),
+        }
+    }
+    match laws::parent_of_join(alloc, &path(alloc, "/foo")?, "bar")? {
+        Some(parent) => assert_eq!(rt; parent.as_str(), "/foo"),
+        None => assert!(rt; false),
+    }
+    Ok(())
+}
+
+#[test]
+fn is_below_by_names(rt: HostRuntime) -> Result<(), Fail> {
+    let alloc = rt.alloc();
+    for (text, base, want) in [
+        ("/a/b", "/a", true),
+        ("/a/b/c", "/a", true),
+        ("/a", "/", true),
+        ("/group2", "/group", false),
+        ("/ab", "/a", false),
+        ("/a", "/a", false),
+        ("/a", "/a/b", false),
+        ("/", "/", false),
+        ("/b/a", "/a", false),
+    ] {
+        let below = path(alloc, text)?.is_below(&path(alloc, base)?);
+        assert_eq!(rt; below, want, "{text} below {base}");
+    }
+    Ok(())
+}
+
+#[test]
+fn prefixes_are_paths(rt: HostRuntime) -> Result<(), Fail> {
+    let alloc = rt.alloc();
+    for (prefix, text) in [("", "/"), ("a/", "/a"), ("a/b/", "/a/b")] {
+        let from = NodePath::from_prefix(alloc, &StorePrefix::new(alloc, prefix)?)?;
+        assert_eq!(rt; from.as_str(), text);
+        assert_eq!(rt; from.to_prefix(alloc)?.as_str(), prefix);
+        assert_eq!(rt; laws::prefix_and_back(alloc, &from)?.as_str(), text);
+        let back = laws::path_and_back(alloc, &StorePrefix::new(alloc, prefix)?)?;
+        assert_eq!(rt; back.as_str(), prefix);
+    }
+    match NodePath::from_prefix(alloc, &StorePrefix::new(alloc, "a/__x/")?) {
+        Ok(path) => assert!(rt; false, "{path}"),
+        Err(error) => {
+            assert_eq!(rt;
+                error.to_string(alloc)?.as_str(),
+                "invalid node path /a/__x"
+            )
+        }
+    }
+    Ok(())
+}
+
+#[test]
+fn paths_are_ordered_by_names(rt: HostRuntime) -> Result<(), Fail> {
+    let alloc = rt.alloc();
+    let mut paths = Vec::new(alloc);
+    for text in ["/a-b", "/a/x", "/", "/a"] {
+        paths.push(path(alloc, text)?)?;
+    }
+    paths.sort()?;
+    for (path, want) in paths.iter().zip(["/", "/a", "/a/x", "/a-b"]) {
+        assert_eq!(rt; path.as_str(), want);
+    }
+    let lower = path(alloc, "/a/x")?;
+    let upper = path(alloc, "/a-b")?;
+    assert!(rt; lower.cmp(&upper) == Ordering::Less);
+    assert!(rt; lower.partial_cmp(&upper) == Some(Ordering::Less));
+    assert!(rt; upper > lower);
+    Ok(())
+}
+
+#[test]
+fn equal_paths_are_level_and_hash_alike(rt: HostRuntime) -> Result<(), Fail> {
+    let alloc = rt.alloc();
+    let first = path(alloc, "/a/b")?;
+    let second = path(alloc, "/a")?.join(alloc, "b")?;
+    let other = path(alloc, "/a")?;
+    assert!(rt; first == second);
+    assert!(rt; first != other);
+    assert!(rt; first.cmp(&second) == Ordering::Equal);
+    assert!(rt; laws::order_and_equality(&first, &second));
+    assert!(rt; laws::order_and_equality(&first, &other));
+    assert_eq!(rt; hash_of(&first), hash_of(&second));
+    assert_ne!(rt; hash_of(&first), hash_of(&other));
+    Ok(())
+}
+
+#[test]
+fn metadata_keys_end_in_the_file_name(rt: HostRuntime) -> Result<(), Fail> {
+    let alloc = rt.alloc();
+    for (text, wanted) in [
+        (
+            "/",
+            ["zarr.json", "zarr.json", ".zarray", ".zgroup", ".zattrs"],
+        ),
+        (
+            "/a/b",
+            [
+                "a/b/zarr.json",
+                "a/b/zarr.json",
+                "a/b/.zarray",
+                "a/b/.zgroup",
+                "a/b/.zattrs",
+            ],
+        ),
+    ] {
+        let path = path(alloc, text)?;
+        let keys = [
+            meta_key(alloc, &path)?,
+            meta_key_v3(alloc, &path)?,
+            meta_key_v2_array(alloc, &path)?,
+            meta_key_v2_group(alloc, &path)?,
+            meta_key_v2_attributes(alloc, &path)?,
+        ];
+        for (key, want) in keys.iter().zip(wanted) {
+            assert_eq!(rt; key.as_str(), want);
+        }
+    }
+    Ok(())
+}
+
+#[test]
+fn data_keys_end_in_the_chunk_key(rt: HostRuntime) -> Result<(), Fail> {
+    let alloc = rt.alloc();
+    let chunk = StoreKey::new(alloc, "c/0")?;
+    for (text, want) in [("/a", "a/c/0"), ("/a/b", "a/b/c/0"), ("/", "c/0")] {
+        assert_eq!(rt;
+            data_key(alloc, &path(alloc, text)?, &chunk)?.as_str(),
+            want
+        );
+    }
+    Ok(())
+}
+
+#[test]
+fn laws_can_be_called() {
+    laws::names_are();
+    laws::texts_differ();
+    laws::equal_names();
+    laws::equal_order();
+    laws::total_order();
+    laws::hash_alike();
+    laws::below_is_after();
+    laws::below_is_transitive();
+    laws::one_parent();
+    laws::root_alone();
+    laws::parent_of_joined();
+    laws::document_keys_differ();
+    laws::relative_names_read();
+    laws::relative_names_joined();
+}

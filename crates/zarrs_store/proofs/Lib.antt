@@ -1,0 +1,10 @@
+pub mod Ascending
+pub mod ChildLemmas
+pub mod EntryLemmas
+pub mod BelowLemmas
+pub mod ListLemmas
+pub mod ContentsLemmas
+pub mod Cuts
+pub mod Depths
+pub mod Below
+pub mod Ranges

@@ -1,0 +1,55 @@
+-- Zarr core specification 3.1, "Abstract store interface": a store as a finite map from keys to bytes, and what its calls say of it.
+--     HasKey S key, Lists P xs      the store has the key; xs has exactly the items of which P holds, each once
+--     IsKeyBelow, HasBelow      keys with segments behind a prefix; that there is one
+--     IsChildKey, HasChild, IsChildPrefix      what stands directly below a prefix
+--     AgreesExceptAt key old new      only that key may differ
+use Rattle.std.specs.Prelude.{◌≡◌, ◌≢◌, ℕ, List, [], ◌∷◌, ◌++◌, IsTrue, Contains, All, AllPairs}
+use Rattle.std.specs.FinMap as map
+use Rattle.zarrs_store.specs.Segments.{Segments, key_cmp}
+
+-- a store holds bytes at some keys
+abbrev pub Contents : Type 0
+Contents = map.FinMap key_cmp (List ℕ)
+
+-- the store has the key
+abbrev pub HasKey : Contents → Segments → Type 0
+HasKey S key = IsTrue (map.contains_key S key)
+
+-- the list xs has exactly the items of which P holds, each once, in any order
+pub record Lists {A : Type 0} (P : A → Type 0) (xs : List A) : Type 0 where
+  pub each_once : AllPairs (λ x y. x ≢ y) xs
+  pub sound : All P xs
+  pub complete : (x : A) → P x → Contains xs x
+
+-- a key of the store that is the prefix and at least one segment more
+pub record IsKeyBelow (S : Contents) (prefix key : Segments) : Type 0 where
+  pub first : List ℕ
+  pub rest : Segments
+  pub is : key ≡ prefix ++ first ∷ rest
+  pub held : HasKey S key
+
+-- a key of the store that is the prefix and exactly one segment more
+pub record IsChildKey (S : Contents) (prefix key : Segments) : Type 0 where
+  pub name : List ℕ
+  pub is : key ≡ prefix ++ name ∷ []
+  pub held : HasKey S key
+
+-- some key of the store has this segment behind the prefix, and at least one more behind that
+pub record HasChild (S : Contents) (prefix : Segments) (name : List ℕ) : Type 0 where
+  pub next : List ℕ
+  pub rest : Segments
+  pub held : HasKey S (prefix ++ name ∷ next ∷ rest)
+
+-- the prefix and one segment more, which some key of the store has there with at least one more behind it
+pub record IsChildPrefix (S : Contents) (prefix child : Segments) : Type 0 where
+  pub name : List ℕ
+  pub is : child ≡ prefix ++ name ∷ []
+  pub has : HasChild S prefix name
+
+-- every key but this one has what it had
+abbrev pub AgreesExceptAt : Segments → Contents → Contents → Type 0
+AgreesExceptAt key old new = (other : Segments) → other ≢ key → map.get new other ≡ map.get old other
+
+-- some key of the store is p and one or more further segments
+abbrev pub HasBelow : Contents → Segments → Type 0
+HasBelow S p = (first : List ℕ) × (rest : Segments) × HasKey S (p ++ first ∷ rest)

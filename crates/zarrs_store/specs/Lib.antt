@@ -1,0 +1,6 @@
+pub mod Segments
+pub mod Contents
+pub mod Faults
+pub mod Children
+pub mod Entries
+pub mod Depth

@@ -1,0 +1,95 @@
+ghost use Rattle.std.specs.Prelude.{◌≡◌};
+ghost use Rattle.zarrs_store.specs.declared.fault.MetadataFault.TheVariants.{OutOfMemory};
+
+use std::alloc::{AllocError, AllocFailed};
+use std::fmt;
+use std::marker::Model;
+use thiserror::Error;
+
+/// The name of a member of a metadata document.
+///
+/// Contracts see it as its text.
+#[derive(Debug, Drop)]
+pub struct MemberName {
+    text: &'static str,
+}
+
+impl Model for MemberName {
+    ghost use Rattle.std.specs.Prelude.{ℕ, List};
+
+    ghost Value = { List ℕ };
+
+    ghost view = { λ a. a.text.now };
+}
+
+impl MemberName {
+    /// The name with this text.
+    pub fn new(text: &'static str) -> MemberName
+        ensures { result ≡ text.now }
+    {
+        MemberName { text }
+    }
+
+    /// The text of the name.
+    pub fn as_str(&self) -> &'static str
+        ensures { result.now ≡ self.now }
+    {
+        self.text
+    }
+}
+
+impl fmt::Display for MemberName {
+    /// Writes the name's text.
+    fn fmt<W: fmt::Write>(&self, f: &mut fmt::Formatter<W>) -> fmt::Result {
+        f.write_str(self.text)
+    }
+}
+
+/// Why a metadata document was refused: the first of these that applies.
+///
+/// Source: Zarr core specification 3.1, "Array metadata" and "Group metadata"; in place of the parser's words of `zarrs`.
+#[derive(Debug, Drop, Error)]
+pub enum MetadataFault {
+    /// The bytes are no JSON text.
+    #[error("not JSON")]
+    NotJson,
+    /// A number in it is neither `u64` nor `i64`.
+    #[error("unsupported number")]
+    UnsupportedNumber,
+    /// It is JSON, but no object.
+    #[error("not an object")]
+    NotAnObject,
+    /// The member `zarr_format` is absent or another number.
+    #[error("wrong zarr_format")]
+    WrongFormat,
+    /// The member `node_type` is absent or another text.
+    #[error("wrong node_type")]
+    WrongNodeType,
+    /// This member has to be there, and is absent.
+    #[error("missing member {0}")]
+    MissingMember(MemberName),
+    /// This member is there, and is not of its form.
+    #[error("bad member {0}")]
+    BadMember(MemberName),
+    /// Memory was asked for and refused.
+    #[error("out of memory")]
+    OutOfMemory,
+}
+
+impl From<AllocError> for MetadataFault {
+    ghost from_gives = { λ _ fault. fault ≡ OutOfMemory };
+
+    /// Want of memory.
+    fn from(_error: AllocError) -> MetadataFault {
+        MetadataFault::OutOfMemory
+    }
+}
+
+impl<T: Drop> From<AllocFailed<T>> for MetadataFault {
+    ghost from_gives = { λ _ fault. fault ≡ OutOfMemory };
+
+    /// Want of memory.
+    fn from(_error: AllocFailed<T>) -> MetadataFault {
+        MetadataFault::OutOfMemory
+    }
+}

@@ -1,0 +1,26 @@
+//! Stores of keys and bytes: keys and prefixes, the traits that a store has, a store in memory, and the faults of stores and documents.
+//!
+//! Contracts see a store as a finite map from keys to bytes, a key as its list of segments. Each call is a look-up, the keys or
+//! next segments behind a prefix, or one change.
+#![tactic(auto)]
+
+mod children;
+mod fault;
+mod key;
+mod memory_store;
+mod prefix;
+mod storage_error;
+mod store;
+
+pub use children::discover_children;
+pub use fault::{MemberName, MetadataFault};
+pub use key::{StoreKey, StoreKeyError};
+pub use memory_store::MemoryStore;
+pub use prefix::{StorePrefix, StorePrefixError};
+pub use storage_error::StorageError;
+pub use store::{
+    ListableStorageTraits, ReadableStorageTraits, Store, StoreKeysPrefixes, WritableStorageTraits,
+};
+
+#[cfg(test)]
+mod tests;

@@ -1,0 +1,109 @@
+ghost use Rattle.std.specs.Prelude.{◌≡◌, ℕ, List, Bool, IfOk, IfErr, OnOk, OnErr, option_map, Contains};
+ghost use Rattle.std.specs.Option.{option_map};
+ghost use Rattle.std.specs.FinMap as map;
+ghost use Rattle.zarrs_store.specs.Segments.{key_cmp};
+ghost use Rattle.zarrs_store.specs.Contents.{HasKey, Lists, IsKeyBelow, IsChildKey, IsChildPrefix, AgreesExceptAt};
+ghost use Rattle.zarrs_store.specs.Faults.{IsStoreError};
+
+use crate::key::StoreKey;
+use crate::prefix::StorePrefix;
+use crate::storage_error::StorageError;
+use std::alloc::Global;
+
+/// A store: a finite map from keys to bytes, and whether its calls can fail.
+///
+/// Source: Zarr core specification 3.1, "Abstract store interface".
+pub trait Store {
+    // what the store holds
+    ghost contents: { Self → map.FinMap key_cmp (List ℕ) };
+
+    // whether a call may answer `Fault`
+    ghost can_fail: { Self → Bool };
+}
+
+/// A store whose values can be read.
+///
+/// Source: Zarr core specification 3.1, "Abstract store interface"; `zarrs::storage::ReadableStorageTraits`.
+pub trait ReadableStorageTraits: Store {
+    /// The bytes at the key, or nothing where the store does not have it.
+    ///
+    /// # Errors
+    /// `StorageError::Fault`, where the store can fail and did. `StorageError::OutOfMemory`.
+    fn get(&self, alloc: Global, key: &StoreKey) -> Result<Option<Vec<u8>>, StorageError>
+        ensures ok { IfOk result (λ found. option_map (λ v. v.items) found ≡ map.get (Self.contents self.now) key.now) }
+        ensures err { IfErr result (IsStoreError (Self.can_fail self.now)) };
+}
+
+/// What stands directly below a prefix: keys and child prefixes.
+///
+/// Source: `zarrs::storage::StoreKeysPrefixes`.
+#[derive(Drop)]
+pub struct StoreKeysPrefixes {
+    /// The keys with exactly one segment behind the prefix.
+    pub keys: Vec<StoreKey>,
+    /// The prefix and a segment, for each segment behind which some key has another.
+    pub prefixes: Vec<StorePrefix>,
+}
+
+/// A store whose keys can be listed.
+///
+/// Source: Zarr core specification 3.1, "Abstract store interface"; `zarrs::storage::ListableStorageTraits`.
+pub trait ListableStorageTraits: Store {
+    /// All keys of the store, each once, in any order.
+    ///
+    /// # Errors
+    /// `StorageError::Fault`, where the store can fail and did. `StorageError::OutOfMemory`.
+    fn list(&self, alloc: Global) -> Result<Vec<StoreKey>, StorageError>
+        ensures ok { IfOk result (λ keys. Lists (HasKey (Self.contents self.now)) keys.items) }
+        ensures err { IfErr result (IsStoreError (Self.can_fail self.now)) };
+
+    /// The keys that begin with the prefix, each once, in any order.
+    ///
+    /// # Errors
+    /// `StorageError::Fault`, where the store can fail and did. `StorageError::OutOfMemory`.
+    fn list_prefix(
+        &self,
+        alloc: Global,
+        prefix: &StorePrefix,
+    ) -> Result<Vec<StoreKey>, StorageError>
+        ensures ok { IfOk result (λ keys. Lists (IsKeyBelow (Self.contents self.now) prefix.now) keys.items) }
+        ensures err { IfErr result (IsStoreError (Self.can_fail self.now)) };
+
+    /// The keys and the child prefixes directly below the prefix, each once, in any order.
+    ///
+    /// # Errors
+    /// `StorageError::Fault`, where the store can fail and did. `StorageError::OutOfMemory`.
+    fn list_dir(
+        &self,
+        alloc: Global,
+        prefix: &StorePrefix,
+    ) -> Result<StoreKeysPrefixes, StorageError>
+        ensures keys { IfOk result (λ dir. Lists (IsChildKey (Self.contents self.now) prefix.now) dir.keys.items) }
+        ensures prefixes { IfOk result (λ dir. Lists (IsChildPrefix (Self.contents self.now) prefix.now) dir.prefixes.items) }
+        ensures err { IfErr result (IsStoreError (Self.can_fail self.now)) };
+}
+
+/// A store whose values can be changed.
+///
+/// Source: Zarr core specification 3.1, "Abstract store interface"; `zarrs::storage::WritableStorageTraits`.
+pub trait WritableStorageTraits: Store {
+    /// Sets the bytes at the key. After an error every other key is as it was; of the key itself nothing is promised.
+    ///
+    /// # Errors
+    /// `StorageError::Fault`, where the store can fail and did. `StorageError::OutOfMemory`.
+    fn set(&mut self, key: &StoreKey, value: &[u8]) -> Result<(), StorageError>
+        ensures ok { OnOk result (Self.contents self.new ≡ map.insert (Self.contents self.old) key.now value.now) }
+        ensures err { IfErr result (IsStoreError (Self.can_fail self.old)) }
+        ensures others { OnErr result (AgreesExceptAt key.now (Self.contents self.old) (Self.contents self.new)) }
+        ensures nature { Self.can_fail self.new ≡ Self.can_fail self.old };
+
+    /// Removes the key; where the store does not have it, nothing is changed. After an error every other key is as it was; of the key itself nothing is promised.
+    ///
+    /// # Errors
+    /// `StorageError::Fault`, where the store can fail and did. `StorageError::OutOfMemory`.
+    fn erase(&mut self, key: &StoreKey) -> Result<(), StorageError>
+        ensures ok { OnOk result (Self.contents self.new ≡ map.remove (Self.contents self.old) key.now) }
+        ensures err { IfErr result (IsStoreError (Self.can_fail self.old)) }
+        ensures others { OnErr result (AgreesExceptAt key.now (Self.contents self.old) (Self.contents self.new)) }
+        ensures nature { Self.can_fail self.new ≡ Self.can_fail self.old };
+}

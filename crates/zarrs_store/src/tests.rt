@@ -1,0 +1,265 @@
+use crate::children::discover_children;
+use crate::fault::{MemberName, MetadataFault};
+use crate::key::StoreKey;
+use crate::memory_store::MemoryStore;
+use crate::prefix::StorePrefix;
+use crate::storage_error::StorageError;
+use crate::store::{ListableStorageTraits, ReadableStorageTraits, WritableStorageTraits};
+use std::alloc::Global;
+use std::test::Fail;
+
+fn key(alloc: Global, text: &str) -> Result<StoreKey, Fail> {
+    Ok(StoreKey::new(alloc, text)?)
+}
+
+fn prefix(alloc: Global, text: &str) -> Result<StorePrefix, Fail> {
+    Ok(StorePrefix::new(alloc, text)?)
+}
+
+fn store_of(alloc: Global, keys: &[&str]) -> Result<MemoryStore, Fail> {
+    let mut store = MemoryStore::new(alloc);
+    for text in keys {
+        store.set(&key(alloc, text)?, b"x")?;
+    }
+    Ok(store)
+}
+
+// The texts of the keys, each with a space behind it.
+fn texts_of_keys(alloc: Global, keys: &[StoreKey]) -> Result<String, Fail> {
+    let mut texts = String::new(alloc);
+    for key in keys {
+        texts.push_str(key.as_str())?;
+        texts.push_str(" ")?;
+    }
+    Ok(texts)
+}
+
+// The texts of the prefixes, each with a space behind it.
+fn texts_of_prefixes(alloc: Global, prefixes: &[StorePrefix]) -> Result<String, Fail> {
+    let mut texts = String::new(alloc);
+    for prefix in prefixes {
+        texts.push_str(prefix.as_str())?;
+        texts.push_str(" ")?;
+    }
+    Ok(texts)
+}
+
+#[test]
+fn tells_texts_of_keys_and_prefixes(rt: HostRuntime) {
+    let alloc = rt.alloc();
+    for (text, is_key, is_prefix) in [
+        ("", false, true),
+        ("/", false, false),
+        ("a", true, false),
+        ("a/", false, true),
+        ("a/b", true, false),
+        ("a//b", false, false),
+        ("/a", false, false),
+        ("a/b/", false, true),
+        ("a//", false, false),
+        ("../a", true, false),
+    ] {
+        assert_eq!(rt; StoreKey::validate(text), is_key, "{text}");
+        assert_eq!(rt; StorePrefix::validate(text), is_prefix, "{text}");
+        assert_eq!(rt; StoreKey::new(alloc, text).is_ok(), is_key, "{text}");
+        assert_eq!(rt; StorePrefix::new(alloc, text).is_ok(), is_prefix, "{text}");
+    }
+}
+
+#[test]
+fn keys_and_prefixes_show_their_texts(rt: HostRuntime) -> Result<(), Fail> {
+    let alloc = rt.alloc();
+    let key = key(alloc, "a/zarr.json")?;
+    assert_eq!(rt; key.as_str(), "a/zarr.json");
+    assert_eq!(rt; key.try_clone(alloc)?.as_str(), "a/zarr.json");
+    assert_eq!(rt; key.to_string(alloc)?.as_str(), "a/zarr.json");
+    let prefix = prefix(alloc, "a/b/")?;
+    assert_eq!(rt; prefix.as_str(), "a/b/");
+    assert_eq!(rt; prefix.try_clone(alloc)?.as_str(), "a/b/");
+    assert_eq!(rt; prefix.to_string(alloc)?.as_str(), "a/b/");
+    Ok(())
+}
+
+#[test]
+fn keys_and_prefixes_are_ordered_by_the_bytes_of_their_texts(rt: HostRuntime) -> Result<(), Fail> {
+    let alloc = rt.alloc();
+    assert!(rt; key(alloc, "a-b/c")? < key(alloc, "a/b")?);
+    assert!(rt; key(alloc, "a/b")? < key(alloc, "a0")?);
+    assert!(rt; key(alloc, "a/b")? == key(alloc, "a/b")?);
+    assert!(rt; key(alloc, "a/b")? != key(alloc, "a/c")?);
+    assert!(rt; prefix(alloc, "")? < prefix(alloc, "a-b/")?);
+    assert!(rt; prefix(alloc, "a-b/")? < prefix(alloc, "a/")?);
+    assert!(rt; prefix(alloc, "a/")? == prefix(alloc, "a/")?);
+    assert!(rt; prefix(alloc, "a/")? != prefix(alloc, "b/")?);
+    Ok(())
+}
+
+#[test]
+fn faults_have_their_texts(rt: HostRuntime) -> Result<(), Fail> {
+    let alloc = rt.alloc();
+    for (fault, want) in [
+        (MetadataFault::NotJson, "not JSON"),
+        (MetadataFault::UnsupportedNumber, "unsupported number"),
+        (MetadataFault::NotAnObject, "not an object"),
+        (MetadataFault::WrongFormat, "wrong zarr_format"),
+        (MetadataFault::WrongNodeType, "wrong node_type"),
+        (
+            MetadataFault::MissingMember(MemberName::new("shape")),
+            "missing member shape",
+        ),
+        (
+            MetadataFault::BadMember(MemberName::new("shape")),
+            "bad member shape",
+        ),
+        (MetadataFault::OutOfMemory, "out of memory"),
+    ] {
+        assert_eq!(rt; fault.to_string(alloc)?.as_str(), want);
+    }
+    let document = key(alloc, "a/zarr.json")?;
+    let other = String::from_str(alloc, "invalid node path /..")?;
+    for (error, want) in [
+        (StorageError::Fault, "store fault"),
+        (
+            StorageError::InvalidMetadata(document, MetadataFault::NotJson),
+            "error parsing metadata for a/zarr.json: not JSON",
+        ),
+        (StorageError::Other(other), "invalid node path /.."),
+        (StorageError::OutOfMemory, "out of memory"),
+    ] {
+        assert_eq!(rt; error.to_string(alloc)?.as_str(), want);
+    }
+    Ok(())
+}
+
+#[test]
+fn refused_texts_are_named(rt: HostRuntime) -> Result<(), Fail> {
+    let alloc = rt.alloc();
+    match StoreKey::new(alloc, "a//b") {
+        Ok(_) => assert!(rt; false, "no key"),
+        Err(error) => {
+            assert_eq!(rt; error.to_string(alloc)?.as_str(), "invalid store key a//b");
+        }
+    }
+    match StorePrefix::new(alloc, "a") {
+        Ok(_) => assert!(rt; false, "no prefix"),
+        Err(error) => {
+            assert_eq!(rt; error.to_string(alloc)?.as_str(), "invalid store prefix a");
+        }
+    }
+    Ok(())
+}
+
+#[test]
+fn lists_keys_below_prefixes(rt: HostRuntime) -> Result<(), Fail> {
+    let alloc = rt.alloc();
+    let store = store_of(alloc, &["a", "a-b/c", "a/b", "a/c/d", "a0"])?;
+    let all = store.list(alloc)?;
+    assert_eq!(rt;
+        texts_of_keys(alloc, all.as_slice())?.as_str(),
+        "a a-b/c a/b a/c/d a0 "
+    );
+    for (text, below, keys, prefixes) in [
+        ("", "a a-b/c a/b a/c/d a0 ", "a a0 ", "a-b/ a/ "),
+        ("a/", "a/b a/c/d ", "a/b ", "a/c/ "),
+        ("a-b/", "a-b/c ", "a-b/c ", ""),
+        ("a/c/d/", "", "", ""),
+        ("b/", "", "", ""),
+    ] {
+        let prefix = prefix(alloc, text)?;
+        let listed = store.list_prefix(alloc, &prefix)?;
+        assert_eq!(rt;
+            texts_of_keys(alloc, listed.as_slice())?.as_str(),
+            below,
+            "{text}"
+        );
+        let dir = store.list_dir(alloc, &prefix)?;
+        assert_eq!(rt;
+            texts_of_keys(alloc, dir.keys.as_slice())?.as_str(),
+            keys,
+            "{text}"
+        );
+        assert_eq!(rt;
+            texts_of_prefixes(alloc, dir.prefixes.as_slice())?.as_str(),
+            prefixes,
+            "{text}"
+        );
+    }
+    Ok(())
+}
+
+#[test]
+fn a_child_with_many_keys_is_listed_once(rt: HostRuntime) -> Result<(), Fail> {
+    let alloc = rt.alloc();
+    let store = store_of(alloc, &["a/c/0", "a/c/1/2", "a/zarr.json", "b/zarr.json"])?;
+    let dir = store.list_dir(alloc, &prefix(alloc, "")?)?;
+    assert_eq!(rt;
+        texts_of_prefixes(alloc, dir.prefixes.as_slice())?.as_str(),
+        "a/ b/ "
+    );
+    assert_eq!(rt; dir.keys.len(), 0);
+    Ok(())
+}
+
+// The texts of the children that are discovered below a prefix of a store with these keys.
+fn children_of(alloc: Global, keys: &[&str], below: &str) -> Result<String, Fail> {
+    let store = store_of(alloc, keys)?;
+    let children = discover_children(alloc, &store, &prefix(alloc, below)?)?;
+    texts_of_prefixes(alloc, children.as_slice())
+}
+
+#[test]
+fn discovers_children_by_name(rt: HostRuntime) -> Result<(), Fail> {
+    let alloc = rt.alloc();
+    let found = children_of(alloc, &["a-b/z", "a/z", "b/c/z", "__x/z"], "")?;
+    assert_eq!(rt; found.as_str(), "a/ a-b/ b/ ");
+    let found = children_of(alloc, &["../z", "zarr.json", "__x/z", "a/y/z"], "")?;
+    assert_eq!(rt; found.as_str(), "../ a/ ");
+    let found = children_of(alloc, &["a", "a/zarr.json"], "")?;
+    assert_eq!(rt; found.as_str(), "a/ ");
+    let found = children_of(alloc, &["a", "a/zarr.json"], "a/")?;
+    assert_eq!(rt; found.as_str(), "");
+    let found = children_of(alloc, &["zarr.json/z", ".zarray/z", "..a/z"], "")?;
+    assert_eq!(rt; found.as_str(), "..a/ .zarray/ zarr.json/ ");
+    let found = children_of(alloc, &["z/zarr.json", "\u{e9}/zarr.json"], "")?;
+    assert_eq!(rt; found.as_str(), "z/ \u{e9}/ ");
+    let found = children_of(alloc, &["a/zarr.json", "a/.../x", "a/__c/x"], "a/")?;
+    assert_eq!(rt; found.as_str(), "a/.../ ");
+    Ok(())
+}
+
+#[test]
+fn changes_one_key(rt: HostRuntime) -> Result<(), Fail> {
+    let alloc = rt.alloc();
+    let mut store = store_of(alloc, &["a", "b"])?;
+    store.set(&key(alloc, "a")?, b"yz")?;
+    store.erase(&key(alloc, "b")?)?;
+    store.erase(&key(alloc, "c")?)?;
+    match store.get(alloc, &key(alloc, "a")?)? {
+        Some(value) => assert_eq!(rt; value.as_slice(), b"yz".as_slice()),
+        None => assert!(rt; false, "the key is there"),
+    }
+    assert!(rt; store.get(alloc, &key(alloc, "b")?)?.is_none());
+    assert_eq!(rt;
+        texts_of_keys(alloc, store.list(alloc)?.as_slice())?.as_str(),
+        "a "
+    );
+    assert_eq!(rt; MemoryStore::new(alloc).list(alloc)?.len(), 0);
+    Ok(())
+}
+
+#[test]
+fn member_names_show_their_text(rt: HostRuntime) {
+    assert_eq!(rt; MemberName::new("shape").as_str(), "shape");
+}
+
+#[test]
+fn takes_over_a_key_and_its_bytes(rt: HostRuntime) -> Result<(), Fail> {
+    let alloc = rt.alloc();
+    let mut store = store_of(alloc, &["a"])?;
+    store.insert(key(alloc, "a")?, Vec::from_slice(alloc, b"yz")?)?;
+    match store.get(alloc, &key(alloc, "a")?)? {
+        Some(value) => assert_eq!(rt; value.as_slice(), b"yz".as_slice()),
+        None => assert!(rt; false, "the key is there"),
+    }
+    Ok(())
+}

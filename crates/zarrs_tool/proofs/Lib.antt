@@ -1,0 +1,6 @@
+pub mod Lines
+pub mod Loads
+pub mod Members
+pub mod Runs
+pub mod StoreSteps
+pub mod WholeInput

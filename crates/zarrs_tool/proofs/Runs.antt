@@ -1,0 +1,117 @@
+-- From a store's refusal to a run's.
+use Rattle.std.proofs.Common.{◌≡◌, ℕ, List, ◌∷◌, [], Option, Bool, false, sym, subst, ap, refl, inl, inr, Vec, Global}
+use Rattle.std.specs.Prelude.{◌≢◌, Result, Ok, Err, IfOk, IfErr, OnOk}
+use Rattle.std.specs.Io.KnownBytes.{IsAtEnd}
+use Rattle.zarrs_store.specs.Contents.{Contents}
+use Rattle.zarrs_path.specs.Paths.{Path, IsPath, path_text}
+use Rattle.zarrs_tool.specs.Image.{IsLoaded, RefusedImage}
+use Rattle.zarrs_tool.specs.Output.{IsCommand, IsListing, IsOutput, WritesOutput, command_words, goes_below, word_text}
+use Rattle.zarrs_tool.specs.Refused.{IsListingFault, IsPathFault, IsRefusal, RefusedRun}
+use Rattle.zarrs_tool.specs.declared.run.Command.{Command}
+use Rattle.zarrs_tool.specs.declared.fault.ToolFault.{ToolFault}
+use Rattle.zarrs_tool.specs.declared.fault.ToolFault.TheVariants.{Usage, Read, ReadTooLong, Image, ImageKey, ImageValue, Folder, NotAGroup, Node, Write, OutOfMemory}
+
+-- a refusal over the store of the image refuses the run
+pub refused_run : (words : List (List ℕ)) (before after : Option (List ℕ)) (store : Contents) (fault : ToolFault) → IsCommand words
+    → IsAtEnd after → IsLoaded before store → IsRefusal false words store fault → RefusedRun words before after fault
+refused_run words before after store Usage command end loaded refused = absurd (refused command)
+refused_run words before after store OutOfMemory command end loaded refused = tt
+refused_run words before after store (Node e) command end loaded refused = (end, (store, loaded, refused))
+refused_run words before after store Write command end loaded refused = (end, (store, loaded, refused))
+refused_run words before after store Read command end loaded refused = tt
+refused_run words before after store ReadTooLong command end loaded refused = absurd refused
+refused_run words before after store Image command end loaded refused = absurd refused
+refused_run words before after store (ImageKey name) command end loaded refused = absurd refused
+refused_run words before after store (ImageValue name) command end loaded refused = absurd refused
+refused_run words before after store Folder command end loaded refused = absurd refused
+refused_run words before after store NotAGroup command end loaded refused = absurd refused
+
+pub refused_result : {T : Type 0} (words : List (List ℕ)) (before after : Option (List ℕ)) (store : Contents) (r : Result T ToolFault) → IsCommand words
+    → IsAtEnd after → IsLoaded before store → IfErr r (IsRefusal false words store) → IfErr r (RefusedRun words before after)
+refused_result words before after store (Ok x) command end loaded refused = tt
+refused_result words before after store (Err fault) command end loaded refused = refused_run words before after store fault command end loaded refused
+
+-- a refused image refuses the run
+pub refused_load : (words : List (List ℕ)) (before after : Option (List ℕ)) (fault : ToolFault) → RefusedImage before after fault → RefusedRun words before after fault
+refused_load words before after Usage refused = absurd refused
+refused_load words before after (Node e) refused = absurd refused
+refused_load words before after Write refused = absurd refused
+refused_load words before after Read refused = refused
+refused_load words before after ReadTooLong refused = refused
+refused_load words before after Image refused = refused
+refused_load words before after (ImageKey name) refused = refused
+refused_load words before after (ImageValue name) refused = refused
+refused_load words before after Folder refused = refused
+refused_load words before after NotAGroup refused = refused
+refused_load words before after OutOfMemory refused = refused
+
+-- the words of a command are one
+pub is_command : (command : Command) (words : List (List ℕ)) → command_words command ≡ words → IsCommand words
+is_command command words same = (command.word, command.path.now, sym same)
+
+-- the words of a command are refused by no image
+pub not_usage : {T : Type 0} (words : List (List ℕ)) (before after : Option (List ℕ)) (r : Result T ToolFault) (fault : ToolFault) → IsCommand words → r ≡ Err fault
+    → RefusedImage before after fault → (r ≡ Err Usage → IsCommand words → ⊥) × ((IsCommand words → ⊥) → r ≡ Err Usage)
+not_usage words before after r fault command is refused =
+    ((λ (usage : r ≡ Err Usage) command'. let same : fault ≡ Usage = cc in subst (RefusedImage before after) same refused), (λ none. absurd (none command)))
+
+pub refused_load_result : {T : Type 0} (words : List (List ℕ)) (before after : Option (List ℕ)) (r : Result T ToolFault) (fault : ToolFault) → r ≡ Err fault
+    → RefusedImage before after fault → IfErr r (RefusedRun words before after)
+refused_load_result words before after r fault is refused = subst (λ x. IfErr x (RefusedRun words before after)) (sym is) (refused_load words before after fault refused)
+
+-- what was written about the store of the image was written about the image
+pub written_result : {E : Type 0} (words : List (List ℕ)) (before : Option (List ℕ)) (store : Contents) (old new : Option (List ℕ)) (r : Result (Unit {0}) E) → IsLoaded before store
+    → OnOk r (WritesOutput words store old new) → OnOk r ((s : Contents) × IsLoaded before s × WritesOutput words s old new)
+written_result words before store old new (Ok done) loaded writes = (store, loaded, writes)
+written_result words before store old new (Err e) loaded writes = tt
+
+-- a refusal of the words' path or listing, which is neither of the writer nor of the words
+abbrev pub IsOutputFault : Bool → List (List ℕ) → Contents → ToolFault → Type 0
+IsOutputFault can_fail words store fault = (fault ≢ Write) × (fault ≢ Usage) × IsRefusal can_fail words store fault
+
+-- a path that is none refuses the command
+path_fault : (can_fail : Bool) (command : Command) (store : Contents) (fault : ToolFault) → IsPathFault command.path.now fault
+    → IsOutputFault can_fail (command_words command) store fault
+path_fault can_fail command store (Node e) refused = ((λ (h : Node e ≡ Write). cc h), (λ (h : Node e ≡ Usage). cc h), inl (command.word, command.path.now, refl, refused))
+path_fault can_fail command store Usage refused = absurd refused
+path_fault can_fail command store Read refused = absurd refused
+path_fault can_fail command store ReadTooLong refused = absurd refused
+path_fault can_fail command store Image refused = absurd refused
+path_fault can_fail command store (ImageKey name) refused = absurd refused
+path_fault can_fail command store (ImageValue name) refused = absurd refused
+path_fault can_fail command store Folder refused = absurd refused
+path_fault can_fail command store NotAGroup refused = absurd refused
+path_fault can_fail command store Write refused = absurd refused
+path_fault can_fail command store OutOfMemory refused = absurd refused
+
+pub path_fault_result : {T : Type 0} (can_fail : Bool) (command : Command) (store : Contents) (r : Result T ToolFault) (fault : ToolFault) → r ≡ Err fault → IsPathFault command.path.now fault
+    → IfErr r (λ f. (f ≢ Write) × (f ≢ Usage) × IsRefusal can_fail (command_words command) store f)
+path_fault_result can_fail command store r fault is refused = subst (λ x. IfErr x (λ f. (f ≢ Write) × (f ≢ Usage) × IsRefusal can_fail (command_words command) store f)) (sym is) (path_fault can_fail command store fault refused)
+
+module _ (can_fail : Bool) (command : Command) (store : Contents) (base : Path) (recursive : Bool) (valid : IsPath base) (same : path_text base ≡ command.path.now) (level : recursive ≡ goes_below command.word) where
+  worded : command_words command ≡ word_text command.word ∷ path_text base ∷ []
+  worded = ap (λ p. word_text command.word ∷ p ∷ []) (sym same)
+
+  -- the listing is the command's output
+  pub listed_output : (r : Result (Vec ℕ Global) ToolFault) → IfOk r (λ text. IsListing store recursive base text.items) → IfOk r (λ text. IsOutput (command_words command) store text.items)
+  listed_output (Ok text) listing = (command.word, base, valid, worded, subst (λ b. IsListing store b base text.items) level listing)
+  listed_output (Err e) listing = tt
+
+  -- a refused listing refuses the command
+  listing_fault : (fault : ToolFault) → IsListingFault can_fail store recursive base fault → IsOutputFault can_fail (command_words command) store fault
+  listing_fault (Node e) refused = ((λ (h : Node e ≡ Write). cc h), (λ (h : Node e ≡ Usage). cc h), inr (command.word, base, valid, worded, subst (λ b. IsListingFault can_fail store b base (Node e)) level refused))
+  listing_fault OutOfMemory refused = ((λ (h : OutOfMemory ≡ Write). cc h), (λ (h : OutOfMemory ≡ Usage). cc h), tt)
+  listing_fault Usage refused = absurd refused
+  listing_fault Read refused = absurd refused
+  listing_fault ReadTooLong refused = absurd refused
+  listing_fault Image refused = absurd refused
+  listing_fault (ImageKey name) refused = absurd refused
+  listing_fault (ImageValue name) refused = absurd refused
+  listing_fault Folder refused = absurd refused
+  listing_fault NotAGroup refused = absurd refused
+  listing_fault Write refused = absurd refused
+
+  pub listing_fault_result : {T : Type 0} (r : Result T ToolFault) → IfErr r (IsListingFault can_fail store recursive base)
+      → IfErr r (λ f. (f ≢ Write) × (f ≢ Usage) × IsRefusal can_fail (command_words command) store f)
+  listing_fault_result (Ok x) refused = tt
+  listing_fault_result (Err fault) refused = listing_fault fault refused

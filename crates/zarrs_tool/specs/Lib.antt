@@ -1,0 +1,4 @@
+pub mod Image
+pub mod Output
+pub mod Reading
+pub mod Refused

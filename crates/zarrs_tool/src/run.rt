@@ -1,0 +1,206 @@
+//! The commands, over an image or a store.
+ghost use Rattle.std.specs.Prelude.{◌≡◌, ◌≢◌, ◌↔◌, ◌++◌, IfOk, IfErr, IfSome, OnOk, IsOk, Err, option_map};
+ghost use Rattle.std.specs.FinMap as map;
+ghost use Rattle.std.specs.Io.KnownBytes.{Appends, Keeps, IsAtEnd};
+ghost use Rattle.zarrs_store.specs.Contents.{Contents};
+ghost use Rattle.zarrs_path.specs.Paths.{IsPath, path_text};
+ghost use Rattle.zarrs_node.specs.Forest.{forest, pairs};
+ghost use Rattle.zarrs_tool.specs.Image.{IsLoaded};
+ghost use Rattle.zarrs_tool.specs.Output.{IsCommand, IsListing, IsOutput, WritesOutput, command_words, goes_below, path_lines, texts, word_text};
+ghost use Rattle.zarrs_tool.specs.Refused.{IsListingFault, IsPathFault, IsRefusal, RefusedRun, status_of};
+
+use crate::fault::ToolFault;
+use crate::image::load_image;
+use log::Log;
+use std::alloc::{AllocError, Global};
+use std::io::{Read, Write};
+use zarrs_block::NodeCreateError;
+use zarrs_node::{Node, get_child_nodes};
+use zarrs_path::NodePath;
+use zarrs_store::{ListableStorageTraits, ReadableStorageTraits};
+
+/// Loads the image that a reader gives, and writes what the words ask of its store: for
+/// `children PATH` the path of each child, for `list PATH` those of all nodes below, one a line.
+/// The output is made whole before it is written.
+///
+/// # Errors
+/// `Usage` where the words are no command, before anything is read; what [`load_image`] refuses;
+/// `Node` where the path is none, or the listing is refused; `Write` where the writer fails;
+/// `OutOfMemory`. Save after `Write`, nothing was written.
+pub fn run_image<L: Log, R: Read, W: Write>(
+    log: &L,
+    alloc: Global,
+    words: &[String],
+    reader: &mut R,
+    writer: &mut W,
+) -> Result<(), ToolFault>
+    ensures ok { OnOk result ((store : Contents)
+        × IsLoaded (R.remaining reader.old) store
+        × WritesOutput (texts words.now) store (W.contents writer.old) (W.contents writer.new)) }
+    ensures end { OnOk result (IsAtEnd (R.remaining reader.new)) }
+    ensures usage { (result ≡ Err ToolFault.Usage) ↔ (IsCommand (texts words.now) → ⊥) }
+    ensures refused { IfErr result
+        (RefusedRun (texts words.now) (R.remaining reader.old) (R.remaining reader.new)) }
+    ensures silent { IfErr result (λ fault. fault ≢ ToolFault.Write
+        → Keeps (W.contents writer.old) (W.contents writer.new)) }
+{
+    parse(words)?;
+    let store = load_image(alloc, reader)?;
+    run_store(log, alloc, words, &store, writer)
+}
+
+/// Writes what the words ask of a store, as [`run_image`] does once the image is loaded.
+///
+/// # Errors
+/// `Usage` where the words are no command; `Node` where the path is none, or the listing is
+/// refused; `Write` where the writer fails; `OutOfMemory`. Save after `Write`, nothing was written.
+pub fn run_store<L: Log, S: ReadableStorageTraits + ListableStorageTraits, W: Write>(
+    log: &L,
+    alloc: Global,
+    words: &[String],
+    store: &S,
+    writer: &mut W,
+) -> Result<(), ToolFault>
+    ensures ok { OnOk result (WritesOutput (texts words.now) (S.contents store.now)
+        (W.contents writer.old) (W.contents writer.new)) }
+    ensures usage { (result ≡ Err ToolFault.Usage) ↔ (IsCommand (texts words.now) → ⊥) }
+    ensures refused { IfErr result
+        (IsRefusal (S.can_fail store.now) (texts words.now) (S.contents store.now)) }
+    ensures silent { IfErr result (λ fault. fault ≢ ToolFault.Write
+        → Keeps (W.contents writer.old) (W.contents writer.new)) }
+{
+    let command = parse(words)?;
+    let text = output(log, alloc, &command, store)?;
+    write_text(&text, writer)
+}
+
+/// Writes why a run was refused, and gives the exit status. A fault of this write is dropped.
+pub fn finish<W: Write>(outcome: &Result<(), ToolFault>, writer: &mut W) -> u8
+    ensures status { result ≡ status_of outcome.now }
+    ensures silent { IsOk outcome.now → Keeps (W.contents writer.old) (W.contents writer.new) }
+{
+    match outcome {
+        Ok(()) => 0,
+        Err(ToolFault::Usage) => {
+            let _ = writeln!(writer, "{}", ToolFault::Usage);
+            2
+        }
+        Err(fault) => {
+            let _ = writeln!(writer, "zarrs_tool: {fault}");
+            1
+        }
+    }
+}
+
+// The first word of a command.
+#[derive(Clone, Copy)]
+enum Word {
+    Children,
+    List,
+}
+
+// A command, and the path that it is about.
+#[derive(Clone, Copy)]
+struct Command<'a> {
+    word: Word,
+    path: &'a str,
+}
+
+fn parse(words: &[String]) -> Result<Command<'_>, ToolFault>
+    ensures ok { IfOk result (λ command. command_words command ≡ texts words.now) }
+    ensures err { IfErr result (λ fault. (fault ≡ ToolFault.Usage) × (IsCommand (texts words.now) → ⊥)) }
+{
+    let [word, path] = words else {
+        return Err(ToolFault::Usage);
+    };
+    let word = parse_word(word.as_str())?;
+    Ok(Command {
+        word,
+        path: path.as_str(),
+    })
+}
+
+fn parse_word(text: &str) -> Result<Word, ToolFault>
+    ensures ok { IfOk result (λ word. word_text word ≡ text.now) }
+    ensures err { IfErr result (λ fault. (fault ≡ ToolFault.Usage) × ((word : Word) → word_text word ≢ text.now)) }
+{
+    match text {
+        "children" => Ok(Word::Children),
+        "list" => Ok(Word::List),
+        _ => Err(ToolFault::Usage),
+    }
+}
+
+// What a command writes.
+fn output<L: Log, S: ReadableStorageTraits + ListableStorageTraits>(
+    log: &L,
+    alloc: Global,
+    command: &Command<'_>,
+    store: &S,
+) -> Result<Vec<u8>, ToolFault>
+    ensures ok { IfOk result (λ text. IsOutput (command_words command.now) (S.contents store.now) text.items) }
+    ensures err { IfErr result (λ fault. (fault ≢ ToolFault.Write) × (fault ≢ ToolFault.Usage)
+        × IsRefusal (S.can_fail store.now) (command_words command.now) (S.contents store.now) fault) }
+{
+    let base = parse_path(alloc, command.path)?;
+    listing(log, alloc, store, &base, goes_below(command.word))
+}
+
+// Whether a command asks for more than the children.
+fn goes_below(word: Word) -> bool
+    ensures { result ≡ goes_below word }
+{
+    match word {
+        Word::Children => false,
+        Word::List => true,
+    }
+}
+
+fn parse_path(alloc: Global, text: &str) -> Result<NodePath, ToolFault>
+    ensures ok { IfOk result (λ path. IsPath path × (path_text path ≡ text.now)) }
+    ensures err { IfErr result (IsPathFault text.now) }
+{
+    match NodePath::new(alloc, text) {
+        Ok(path) => Ok(path),
+        Err(e) => Err(ToolFault::Node(NodeCreateError::NodePathError(e))),
+    }
+}
+
+// The paths of the nodes below a path, one a line.
+fn listing<L: Log, S: ReadableStorageTraits + ListableStorageTraits>(
+    log: &L,
+    alloc: Global,
+    store: &S,
+    base: &NodePath,
+    recursive: bool,
+) -> Result<Vec<u8>, ToolFault>
+    ensures ok { IfOk result (λ text. IsListing (S.contents store.now) recursive base.now text.items) }
+    ensures err { IfErr result (IsListingFault (S.can_fail store.now) (S.contents store.now) recursive base.now) }
+{
+    let nodes = get_child_nodes(log, alloc, store, base, recursive)?;
+    let mut lines = Vec::new(alloc);
+    push_lines(&mut lines, &nodes)?;
+    Ok(lines)
+}
+
+// Appends the paths of a forest, parents before children, one a line.
+fn push_lines(lines: &mut Vec<u8>, nodes: &[Node]) -> Result<(), AllocError>
+    ensures { OnOk result (lines.new.items ≡ lines.old.items ++ path_lines (pairs (forest nodes.now))) }
+{
+    for node in nodes {
+        lines.extend_from_slice(node.path().as_str().as_bytes())?;
+        lines.push(b'\n')?;
+        push_lines(lines, node.children())?;
+    }
+    Ok(())
+}
+
+fn write_text<W: Write>(text: &[u8], writer: &mut W) -> Result<(), ToolFault>
+    ensures ok { OnOk result (Appends (W.contents writer.old) (W.contents writer.new) text.now) }
+    ensures err { IfErr result (λ fault. fault ≡ ToolFault.Write) }
+{
+    if writer.write_all(text).is_err() || writer.flush().is_err() {
+        return Err(ToolFault::Write);
+    }
+    Ok(())
+}

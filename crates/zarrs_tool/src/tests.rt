@@ -1,0 +1,380 @@
+//! What the program answers, row by row, and readers and writers that fail.
+use crate::fault::ToolFault;
+use crate::image::load_image;
+use crate::read::read_whole;
+use crate::run::{finish, run_image, run_store};
+use log::sink::{Discard, Writer};
+use std::alloc::{AllocError, Global};
+use std::io;
+use std::io::{Error, ErrorKind, Read, Write};
+use zarrs_store::{ListableStorageTraits, ReadableStorageTraits, StoreKey};
+
+const TWO_GROUPS: &str =
+    r#"{"zarr.json":"{\"node_type\":\"group\",\"zarr_format\":3}","a/zarr.json":"{\"node_type\":\"group\",\"zarr_format\":3}"}"#;
+
+const USAGE: &str =
+    "usage: zarrs_tool (children|list|tree|consolidate) PATH | folder DIR tree PATH\n";
+
+// A reader of one byte a read, which fails at one of them.
+#[derive(Drop)]
+struct OneByOne<'a> {
+    rest: &'a [u8],
+    reads_before_fault: Option<u32>,
+}
+
+impl Read for OneByOne<'_> {
+    fn read(&mut self, buf: &mut [u8]) -> io::Result<usize> {
+        match self.reads_before_fault {
+            Some(0) => return Err(Error::from(ErrorKind::Other)),
+            Some(n) => self.reads_before_fault = Some(n - 1),
+            None => {}
+        }
+        let ([first, rest @ ..], [slot, ..]) = (self.rest, buf) else {
+            return Ok(0);
+        };
+        *slot = *first;
+        self.rest = rest;
+        Ok(1)
+    }
+}
+
+// A writer that takes nothing.
+#[derive(Drop)]
+struct Full;
+
+impl Write for Full {
+    fn write(&mut self, _buf: &[u8]) -> io::Result<usize> {
+        Err(Error::from(ErrorKind::Other))
+    }
+
+    fn flush(&mut self) -> io::Result<()> {
+        Ok(())
+    }
+}
+
+fn words(alloc: Global, texts: &[&str]) -> Result<Vec<String>, AllocError> {
+    let mut words = Vec::new(alloc);
+    for text in texts {
+        words.push(String::from_str(alloc, text)?)?;
+    }
+    Ok(words)
+}
+
+// What goes to the standard output and the standard error, and the status.
+fn run(alloc: Global, image: &str, texts: &[&str]) -> Result<(String, String, u8), AllocError> {
+    let words = words(alloc, texts)?;
+    let mut output = Vec::new(alloc);
+    let mut errors = Vec::new(alloc);
+    let mut reader = image.as_bytes();
+    let outcome = run_image(&Discard, alloc, &words, &mut reader, &mut output);
+    let status = finish(&outcome, &mut errors);
+    Ok((
+        String::from_utf8_lossy(alloc, &output)?,
+        String::from_utf8_lossy(alloc, &errors)?,
+        status,
+    ))
+}
+
+// An image of the version 3 group at each of these keys.
+fn groups_at(alloc: Global, keys: &[&str]) -> Result<String, AllocError> {
+    let mut image = String::from_str(alloc, "{")?;
+    for key in keys {
+        if image.len() > 1 {
+            image.push(',')?;
+        }
+        image.push('"')?;
+        image.push_str(key)?;
+        image.push_str(r#"":"{\"node_type\":\"group\",\"zarr_format\":3}""#)?;
+    }
+    image.push('}')?;
+    Ok(image)
+}
+
+#[test]
+fn answers_or_says_why_not(rt: HostRuntime) {
+    let table: [(&str, &[&str], &str, &str, u8); 14] = [
+        (TWO_GROUPS, &["children", "/"], "/a\n", "", 0),
+        (TWO_GROUPS, &["list", "/"], "/a\n", "", 0),
+        ("{}", &["children", "/"], "", "", 0),
+        ("{}", &["list", "/"], "", "", 0),
+        (
+            r#"{"a/zarr.json":"x"}"#,
+            &["children", "/"],
+            "",
+            "zarrs_tool: error parsing metadata for a/zarr.json: not JSON\n",
+            1,
+        ),
+        (
+            "[]",
+            &["children", "/"],
+            "",
+            "zarrs_tool: image is not a JSON object\n",
+            1,
+        ),
+        (
+            r#"{"a//b":1}"#,
+            &["children", "/"],
+            "",
+            "zarrs_tool: bad store key in image: a//b\n",
+            1,
+        ),
+        (
+            r#"{"a":1}"#,
+            &["children", "/"],
+            "",
+            "zarrs_tool: no text in image at a\n",
+            1,
+        ),
+        (
+            TWO_GROUPS,
+            &["children", "x"],
+            "",
+            "zarrs_tool: invalid node path x\n",
+            1,
+        ),
+        (TWO_GROUPS, &["children"], "", USAGE, 2),
+        (TWO_GROUPS, &["tree", "/"], "", USAGE, 2),
+        (TWO_GROUPS, &["consolidate", "/"], "", USAGE, 2),
+        (TWO_GROUPS, &["folder", ".", "tree", "/"], "", USAGE, 2),
+        ("", &[], "", USAGE, 2),
+    ];
+    for (image, texts, output, errors, status) in table {
+        let ran = run(rt.alloc(), image, texts).expect(&rt, "memory");
+        assert_eq!(rt; ran.0.as_str(), output, "{image}");
+        assert_eq!(rt; ran.1.as_str(), errors, "{image}");
+        assert_eq!(rt; ran.2, status, "{image}");
+    }
+}
+
+#[test]
+fn lists_groups_in_path_order(rt: HostRuntime) {
+    let table: [(&[&str], &[&str], &str, &str, u8); 7] = [
+        (
+            &[
+                "a-b/zarr.json",
+                "a/zarr.json",
+                "b/c/zarr.json",
+                "__x/zarr.json",
+            ],
+            &["children", "/"],
+            "/a\n/a-b\n",
+            "",
+            0,
+        ),
+        (
+            &["../zarr.json"],
+            &["children", "/"],
+            "",
+            "zarrs_tool: invalid node path /..\n",
+            1,
+        ),
+        (
+            &["zarr.json", "a/zarr.json", "a/x/zarr.json", "a-b/zarr.json"],
+            &["list", "/"],
+            "/a\n/a/x\n/a-b\n",
+            "",
+            0,
+        ),
+        (
+            &["zarr.json", "a/zarr.json", "a/x/zarr.json", "a-b/zarr.json"],
+            &["children", "/"],
+            "/a\n/a-b\n",
+            "",
+            0,
+        ),
+        (
+            &["zarr.json", "a/zarr.json", "a/x/zarr.json", "a-b/zarr.json"],
+            &["list", "/a"],
+            "/a/x\n",
+            "",
+            0,
+        ),
+        (
+            &["zarr.json/zarr.json", ".zarray/zarr.json", "..a/zarr.json"],
+            &["children", "/"],
+            "/..a\n/.zarray\n/zarr.json\n",
+            "",
+            0,
+        ),
+        (
+            &["z/zarr.json", "\u{e9}/zarr.json"],
+            &["children", "/"],
+            "/z\n/\u{e9}\n",
+            "",
+            0,
+        ),
+    ];
+    for (keys, texts, output, errors, status) in table {
+        let image = groups_at(rt.alloc(), keys).expect(&rt, "memory");
+        let ran = run(rt.alloc(), image.as_str(), texts).expect(&rt, "memory");
+        assert_eq!(rt; ran.0.as_str(), output);
+        assert_eq!(rt; ran.1.as_str(), errors);
+        assert_eq!(rt; ran.2, status);
+    }
+}
+
+#[test]
+fn keys_that_are_no_documents(rt: HostRuntime) {
+    let bare_key = r#"{"a":"","a/zarr.json":"{\"node_type\":\"group\",\"zarr_format\":3}"}"#;
+    let periods =
+        r#"{"a/.../x":"any","a/zarr.json":"{\"node_type\":\"group\",\"zarr_format\":3}"}"#;
+    let table: [(&str, &[&str], &str, &str, u8); 4] = [
+        (bare_key, &["children", "/"], "/a\n", "", 0),
+        (bare_key, &["children", "/a"], "", "", 0),
+        (periods, &["children", "/"], "/a\n", "", 0),
+        (
+            periods,
+            &["list", "/"],
+            "",
+            "zarrs_tool: invalid node path /a/...\n",
+            1,
+        ),
+    ];
+    for (image, texts, output, errors, status) in table {
+        let ran = run(rt.alloc(), image, texts).expect(&rt, "memory");
+        assert_eq!(rt; ran.0.as_str(), output, "{image}");
+        assert_eq!(rt; ran.1.as_str(), errors, "{image}");
+        assert_eq!(rt; ran.2, status, "{image}");
+    }
+}
+
+#[test]
+fn the_first_bad_member_is_named(rt: HostRuntime) {
+    let table: [(&str, &str); 4] = [
+        (
+            r#"{"b":1,"a//b":1,"a":1}"#,
+            "zarrs_tool: no text in image at a\n",
+        ),
+        (
+            r#"{"b":1,"a//b":"x"}"#,
+            "zarrs_tool: bad store key in image: a//b\n",
+        ),
+        (r#"{"":1}"#, "zarrs_tool: bad store key in image: \n"),
+        (
+            r#"{"a":1,"a":"x","b":2}"#,
+            "zarrs_tool: no text in image at b\n",
+        ),
+    ];
+    for (image, errors) in table {
+        let ran = run(rt.alloc(), image, &["children", "/"]).expect(&rt, "memory");
+        assert_eq!(rt; ran.0.as_str(), "", "{image}");
+        assert_eq!(rt; ran.1.as_str(), errors, "{image}");
+        assert_eq!(rt; ran.2, 1, "{image}");
+    }
+}
+
+#[test]
+fn reads_a_million_times_at_most(rt: HostRuntime) {
+    let alloc = rt.alloc();
+    for (blanks, loads) in [(999_997, true), (999_998, false)] {
+        let mut image = vec![in alloc; b' '; 2 + blanks].expect(&rt, "memory");
+        image[0] = b'{';
+        image[1] = b'}';
+        let mut reader = OneByOne {
+            rest: &image,
+            reads_before_fault: None,
+        };
+        match load_image(alloc, &mut reader) {
+            Ok(store) => {
+                assert!(rt; loads);
+                let keys = store.list(alloc).expect(&rt, "memory");
+                assert!(rt; keys.is_empty());
+            }
+            Err(fault) => assert!(rt; !loads && matches!(fault, ToolFault::ReadTooLong)),
+        }
+    }
+}
+
+#[test]
+fn reads_whole_inputs(rt: HostRuntime) {
+    let alloc = rt.alloc();
+    let mut reader = OneByOne {
+        rest: b"three",
+        reads_before_fault: None,
+    };
+    let bytes = read_whole(alloc, &mut reader).expect(&rt, "a reader that does not fail");
+    assert_eq!(rt; bytes.as_slice(), b"three".as_slice());
+}
+
+#[test]
+fn loads_the_texts_of_an_image(rt: HostRuntime) {
+    let alloc = rt.alloc();
+    let mut reader = r#"{"b/c":"two","a":"one"}"#.as_bytes();
+    let store = load_image(alloc, &mut reader).expect(&rt, "an image");
+    assert!(rt; reader.is_empty());
+    for (text, bytes) in [("a", b"one".as_slice()), ("b/c", b"two".as_slice())] {
+        let key = StoreKey::new(alloc, text).expect(&rt, "a key");
+        let found = store.get(alloc, &key).expect(&rt, "memory");
+        assert!(rt; found.is_some_and(|found| found.as_slice() == bytes));
+    }
+    assert_eq!(rt; store.list(alloc).expect(&rt, "memory").len(), 2);
+}
+
+#[test]
+fn runs_over_a_store(rt: HostRuntime) {
+    let alloc = rt.alloc();
+    let mut reader = TWO_GROUPS.as_bytes();
+    let store = load_image(alloc, &mut reader).expect(&rt, "an image");
+    let asked = words(alloc, &["children", "/"]).expect(&rt, "memory");
+    let mut output = Vec::new(alloc);
+    let outcome = run_store(&Discard, alloc, &asked, &store, &mut output);
+    assert!(rt; outcome.is_ok());
+    assert_eq!(rt; output.as_slice(), b"/a\n".as_slice());
+    let folder = words(alloc, &["folder", ".", "tree", "/"]).expect(&rt, "memory");
+    let outcome = run_store(&Discard, alloc, &folder, &store, &mut output);
+    assert!(rt; matches!(outcome, Err(ToolFault::Usage)));
+    assert_eq!(rt; output.as_slice(), b"/a\n".as_slice());
+}
+
+#[test]
+fn a_reader_and_a_writer_fail(rt: HostRuntime) {
+    let alloc = rt.alloc();
+    let words = words(alloc, &["children", "/"]).expect(&rt, "memory");
+    let mut reader = OneByOne {
+        rest: TWO_GROUPS.as_bytes(),
+        reads_before_fault: Some(2),
+    };
+    let mut output = Vec::new(alloc);
+    let outcome = run_image(&Discard, alloc, &words, &mut reader, &mut output);
+    assert!(rt; matches!(outcome, Err(ToolFault::Read)));
+    assert!(rt; output.is_empty());
+    let mut reader = OneByOne {
+        rest: TWO_GROUPS.as_bytes(),
+        reads_before_fault: None,
+    };
+    let outcome = run_image(&Discard, alloc, &words, &mut reader, &mut Full);
+    assert!(rt; matches!(outcome, Err(ToolFault::Write)));
+}
+
+#[test]
+fn warns_of_what_is_passed_over(rt: HostRuntime) {
+    let alloc = rt.alloc();
+    let words = words(alloc, &["children", "/"]).expect(&rt, "memory");
+    let sink = Writer::new(Vec::new(alloc));
+    let mut reader = r#"{"fakenode/content":""}"#.as_bytes();
+    let outcome = run_image(&sink, alloc, &words, &mut reader, &mut io::sink());
+    assert!(rt; outcome.is_ok());
+    let warnings = String::from_utf8_lossy(alloc, &sink.into_inner()).expect(&rt, "memory");
+    assert!(rt;
+        warnings.as_str().contains(
+            "Object at /fakenode is not recognized as a component of a Zarr hierarchy. Ignoring.\n"
+        )
+    );
+}
+
+#[test]
+fn faults_have_their_texts(rt: HostRuntime) {
+    let alloc = rt.alloc();
+    let table = [
+        (ToolFault::Folder, "folder fault"),
+        (ToolFault::NotAGroup, "not a group"),
+        (ToolFault::Read, "read fault"),
+        (ToolFault::ReadTooLong, "input too long"),
+        (ToolFault::Write, "write fault"),
+        (ToolFault::OutOfMemory, "out of memory"),
+    ];
+    for (fault, text) in table {
+        let shown = format!(in alloc; "{fault}").expect(&rt, "memory");
+        assert_eq!(rt; shown.as_str(), text);
+    }
+}
