@@ -1,9 +1,7 @@
-//! Tests that cross crates, and the tests of crates whose proofs are long: by public calls alone.
+//! Tests that cross crates: stores of groups and arrays, listed and read by public calls alone.
 //! The crate has no call of its own.
 #![tactic(auto)]
 
-#[cfg(test)]
-mod documents;
 #[cfg(test)]
 mod fixtures;
 #[cfg(test)]

@@ -2,11 +2,9 @@
 
 use crate::fixtures::{A2, G2, G3, a3, assert_refused, listed, shown, store_of};
 use std::test::Fail;
-use zarrs_block::NodeCreateError;
 use zarrs_config::MetadataRetrieveVersion;
 use zarrs_node::list_nodes;
 use zarrs_path::NodePath;
-use zarrs_store::{MetadataFault, StorageError};
 
 #[test]
 fn an_empty_store_has_no_nodes(rt: HostRuntime) -> Result<(), Fail> {
@@ -63,12 +61,12 @@ fn a_path_without_documents_is_passed_over_with_all_below_it(rt: HostRuntime) ->
 fn a_name_of_periods_refuses_where_it_is_come_upon(rt: HostRuntime) -> Result<(), Fail> {
     let alloc = rt.alloc();
     let store = store_of(alloc, &[("a/zarr.json", G3), ("a/../zarr.json", G3)])?;
-    match listed(alloc, &store, "/", true) {
-        Err(NodeCreateError::StorageError(StorageError::Other(text))) => {
-            assert_eq!(rt; text.as_str(), "invalid node path /a/..");
-        }
-        _ => assert!(rt; false, "a name of periods"),
-    }
+    assert_refused(
+        &rt,
+        alloc,
+        listed(alloc, &store, "/", true),
+        "invalid node path /a/..",
+    )?;
     let children = listed(alloc, &store, "/", false)?;
     assert_eq!(rt; shown(alloc, children.nodes)?.as_str(), "/\n  a\n");
     Ok(())
@@ -90,14 +88,12 @@ fn attributes_beside_an_array_are_asked_after_its_own_document(
 ) -> Result<(), Fail> {
     let alloc = rt.alloc();
     let store = store_of(alloc, &[("a/.zarray", A2), ("a/.zattrs", "[]")])?;
-    match listed(alloc, &store, "/", true) {
-        Err(
-            NodeCreateError::StorageError(
-                StorageError::InvalidMetadata(key, MetadataFault::NotAnObject),
-            ),
-        ) => assert_eq!(rt; key.as_str(), "a/.zattrs"),
-        _ => assert!(rt; false, "attributes that are no object"),
-    }
+    assert_refused(
+        &rt,
+        alloc,
+        listed(alloc, &store, "/", true),
+        "error parsing metadata for a/.zattrs: not an object",
+    )?;
     let store = store_of(
         alloc,
         &[("a/.zarray", A2), ("a/.zattrs", "[]"), ("a/zarr.json", G3)],

@@ -88,14 +88,11 @@ fn attributes_beside_a_document_replace_its_own(rt: HostRuntime) -> Result<(), F
             ("g/.zattrs", "{\"k\":1}"),
         ],
     )?;
-    match metadata(alloc, &store, "/g", MetadataRetrieveVersion::Default)? {
-        NodeMetadata::Group(GroupMetadata::V2(group)) => {
-            let attributes = group.attributes.as_map();
-            assert_eq!(rt; attributes.len(), 1);
-            assert!(rt; attributes.contains_key("k"));
-        }
-        _ => assert!(rt; false, "a group of version 2"),
-    }
+    let found = metadata(alloc, &store, "/g", MetadataRetrieveVersion::Default)?;
+    assert_eq!(rt;
+        found.to_text(alloc)?.as_str(),
+        "{\"attributes\":{\"k\":1},\"zarr_format\":2}"
+    );
     Ok(())
 }
 
