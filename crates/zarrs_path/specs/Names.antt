@@ -1,17 +1,15 @@
 -- Zarr core specification 3.1, "Node names": which texts are names of nodes.
 --     is_name n, IsName n      a text is a name
 --     is_node_name n, IsNodeName n      it is a name, or the empty name of the root
-use Rattle.std.specs.Prelude.{◌≡◌, ℕ, ◌==◌, Bool, not, ◌&&◌, ◌||◌, List, [], ◌∷◌, nat_eq, IsTrue}
-use Rattle.std.specs.List.{list_all, starts_with}
+use Rattle.std.specs.Prelude.{◌≡◌, ℕ, ◌==◌, Bool, not, ◌&&◌, ◌||◌, List, [], ◌∷◌, IsTrue}
+use Rattle.std.specs.List.{list_all}
 use Rattle.zarrs_store.specs.Segments.{is_nonempty, has_no_slash}
+-- `is_reserved n`: the text begins with `__`
+pub use Rattle.zarrs_store.specs.Segments.{is_reserved}
 
 -- the text is made of periods only, or is empty
 abbrev pub is_all_periods : List ℕ → Bool
 is_all_periods n = list_all (λ b. b == 46) n
-
--- the text begins with `__`
-abbrev pub is_reserved : List ℕ → Bool
-is_reserved n = starts_with nat_eq n (95 ∷ 95 ∷ [])
 
 -- a name is not empty, holds no slash, is not made of periods only and does not begin with `__`
 abbrev pub is_name : List ℕ → Bool

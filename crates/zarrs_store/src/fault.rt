@@ -1,4 +1,4 @@
-ghost use Rattle.std.specs.Prelude.{◌≡◌};
+ghost use Rattle.std.specs.Prelude.{◌≡◌, Some};
 ghost use Rattle.zarrs_store.specs.declared.fault.MetadataFault.TheVariants.{OutOfMemory};
 
 use std::alloc::{AllocError, AllocFailed};
@@ -39,9 +39,11 @@ impl MemberName {
 }
 
 impl fmt::Display for MemberName {
+    ghost output = { λ name. Some name };
+
     /// Writes the name's text.
     fn fmt<W: fmt::Write>(&self, f: &mut fmt::Formatter<W>) -> fmt::Result {
-        f.write_str(self.text)
+        fmt::Display::fmt(&self.as_str(), f)
     }
 }
 
