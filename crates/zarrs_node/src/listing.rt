@@ -24,7 +24,7 @@ use zarrs_store::{
 /// What a listing found below a path.
 ///
 /// Source: `zarrs::node::get_child_nodes`, with what it warns of as a list.
-#[derive(Drop)]
+#[derive(Debug, Drop)]
 pub struct ListedNodes {
     /// The nodes directly below the path, siblings ascending, each with those below it.
     pub nodes: Vec<Node>,

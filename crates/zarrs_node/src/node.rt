@@ -11,7 +11,7 @@ use zarrs_path::{NodeName, NodePath};
 /// A node of a hierarchy: its path, its metadata and the nodes directly below it, each with those below it.
 ///
 /// Source: `zarrs::node::Node`.
-#[derive(Drop)]
+#[derive(Debug, Drop)]
 pub struct Node {
     pub(crate) path: NodePath,
     pub(crate) metadata: NodeMetadata,

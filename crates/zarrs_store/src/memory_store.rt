@@ -18,7 +18,7 @@ use std::marker::Model;
 /// Contracts see it as the list of its entries, of which the store's finite map is made.
 ///
 /// Source: `zarrs::storage::store::MemoryStore`.
-#[derive(Drop)]
+#[derive(Debug, Drop)]
 pub struct MemoryStore {
     entries: BTreeMap<StoreKey, Vec<u8>>,
     alloc: Global,

@@ -173,7 +173,7 @@ impl StorePrefix {
         requires { IsSegment name.now }
         ensures { IfOk result (λ child. child ≡ self.now ++ name.now ∷ []) }
     {
-        let mut text = String::from_str(alloc, self.as_str())?;
+        let mut text = with_room(alloc, self.as_str(), name.len().saturating_add(1))?;
         text.push_str(name)?;
         text.push_str("/")?;
         Ok(StorePrefix { text })
@@ -187,6 +187,15 @@ impl StorePrefix {
         text.push_str("\0")?;
         Ok(StoreKey::new_unchecked(text))
     }
+}
+
+// A copy of the text with room for more behind it.
+fn with_room(alloc: Global, text: &str, more: usize) -> Result<String, AllocError>
+    ensures ok { IfOk result (λ copy. string_bytes copy ≡ text.now) }
+{
+    let mut copy = String::with_capacity(alloc, text.len().saturating_add(more))?;
+    copy.push_str(text)?;
+    Ok(copy)
 }
 
 impl fmt::Display for StorePrefix {

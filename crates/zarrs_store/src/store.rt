@@ -37,7 +37,7 @@ pub trait ReadableStorageTraits: Store {
 /// What stands directly below a prefix: keys and child prefixes.
 ///
 /// Source: `zarrs::storage::StoreKeysPrefixes`.
-#[derive(Drop)]
+#[derive(Debug, Drop)]
 pub struct StoreKeysPrefixes {
     /// The keys with exactly one segment behind the prefix.
     pub keys: Vec<StoreKey>,
