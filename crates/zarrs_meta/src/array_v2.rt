@@ -20,7 +20,7 @@ use zarrs_store::MetadataFault;
 /// The metadata of a version 2 array.
 ///
 /// Zarr specification version 2, "Arrays", "Metadata"; `zarrs_metadata::v2::ArrayMetadataV2`.
-#[derive(Drop)]
+#[derive(Debug, Drop)]
 pub struct ArrayMetadataV2 {
     /// The length of each dimension.
     pub shape: List<u64>,

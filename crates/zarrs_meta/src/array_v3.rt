@@ -19,7 +19,7 @@ use zarrs_store::MetadataFault;
 /// The metadata of a version 3 array.
 ///
 /// Zarr core specification 3.1, "Array metadata"; `zarrs_metadata::v3::ArrayMetadataV3`.
-#[derive(Drop)]
+#[derive(Debug, Drop)]
 pub struct ArrayMetadataV3 {
     /// The length of each dimension.
     pub shape: List<u64>,

@@ -15,7 +15,7 @@ use zarrs_store::MetadataFault;
 /// The attributes beside a version 2 group or array.
 ///
 /// Zarr specification version 2, "Attributes".
-#[derive(Drop)]
+#[derive(Debug, Drop)]
 pub struct AttributesDocument(pub Object);
 
 impl AttributesDocument {

@@ -12,7 +12,7 @@ use std::alloc::{AllocError, Global};
 /// The metadata of a codec of version 2: a compressor or a filter.
 ///
 /// Zarr specification version 2, "Arrays", "Metadata", "compressor" and "filters".
-#[derive(Drop)]
+#[derive(Debug, Drop)]
 pub struct MetadataV2 {
     /// The identifier of the codec.
     pub id: Text,

@@ -11,7 +11,7 @@ use std::alloc::{AllocError, Global};
 /// The data type of a version 2 array.
 ///
 /// Zarr specification version 2, "Arrays", "Data type encoding".
-#[derive(Drop)]
+#[derive(Debug, Drop)]
 pub enum DataTypeMetadataV2 {
     /// A simple data type, as `<f8`.
     Simple(Text),

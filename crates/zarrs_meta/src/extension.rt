@@ -11,7 +11,7 @@ use std::alloc::{AllocError, Global};
 /// The metadata of an extension of version 3: a data type, a codec, a chunk grid and the like.
 ///
 /// Zarr core specification 3.1, "Extension definition"; `zarrs_metadata::v3::MetadataV3`.
-#[derive(Drop)]
+#[derive(Debug, Drop)]
 pub struct MetadataV3 {
     /// The name of the extension.
     pub name: Text,

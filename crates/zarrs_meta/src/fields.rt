@@ -13,7 +13,7 @@ use std::alloc::{AllocError, Global};
 use std::marker::Model;
 
 /// An additional field: any JSON value.
-#[derive(Drop)]
+#[derive(Debug, Drop)]
 pub struct AdditionalFieldV3 {
     value: Value,
 }
@@ -80,7 +80,7 @@ impl AdditionalFieldV3 {
 }
 
 /// The additional fields of a version 3 document, by their names.
-#[derive(Drop)]
+#[derive(Debug, Drop)]
 pub struct AdditionalFieldsV3 {
     fields: Map<String, AdditionalFieldV3>,
 }

@@ -18,7 +18,7 @@ use zarrs_store::MetadataFault;
 /// The metadata of a version 2 group.
 ///
 /// Zarr specification version 2, "Groups"; `zarrs_metadata::v2::GroupMetadataV2`.
-#[derive(Drop)]
+#[derive(Debug, Drop)]
 pub struct GroupMetadataV2 {
     /// The attributes.
     pub attributes: Object,

@@ -20,7 +20,7 @@ use zarrs_store::MetadataFault;
 /// The metadata of a version 3 group.
 ///
 /// Zarr core specification 3.1, "Group metadata"; `zarrs_metadata::v3::GroupMetadataV3`.
-#[derive(Drop)]
+#[derive(Debug, Drop)]
 pub struct GroupMetadataV3 {
     /// The attributes.
     pub attributes: Object,

@@ -17,7 +17,7 @@ use std::alloc::{AllocError, Global};
 use zarrs_store::MetadataFault;
 
 /// The metadata of a group of either version.
-#[derive(Drop)]
+#[derive(Debug, Drop)]
 pub enum GroupMetadata {
     /// Of version 3.
     V3(GroupMetadataV3),
@@ -26,7 +26,7 @@ pub enum GroupMetadata {
 }
 
 /// The metadata of an array of either version.
-#[derive(Drop)]
+#[derive(Debug, Drop)]
 pub enum ArrayMetadata {
     /// Of version 3.
     V3(ArrayMetadataV3),
@@ -35,7 +35,7 @@ pub enum ArrayMetadata {
 }
 
 /// The metadata of a group or an array.
-#[derive(Drop)]
+#[derive(Debug, Drop)]
 pub enum NodeMetadata {
     /// A group.
     Group(GroupMetadata),
@@ -44,7 +44,7 @@ pub enum NodeMetadata {
 }
 
 /// What the document at the key `zarr.json` is read as.
-#[derive(Drop)]
+#[derive(Debug, Drop)]
 pub enum ZarrJson {
     /// A group or an array.
     Node(NodeMetadata),

@@ -10,7 +10,7 @@ use std::alloc::{AllocError, Global};
 use std::marker::Model;
 
 /// A text; contracts see its bytes.
-#[derive(Drop)]
+#[derive(Debug, Drop)]
 pub struct Text {
     string: String,
 }
@@ -61,7 +61,7 @@ impl Text {
 }
 
 /// A list; contracts see its items.
-#[derive(Drop)]
+#[derive(Debug, Drop)]
 pub struct List<T> {
     items: Vec<T>,
 }
@@ -109,7 +109,7 @@ impl<T> List<T> {
 }
 
 /// A JSON object; contracts see its members in order.
-#[derive(Drop)]
+#[derive(Debug, Drop)]
 pub struct Object {
     members: Map<String, Value>,
 }
@@ -171,7 +171,7 @@ impl Object {
 }
 
 /// A JSON value, as an item of a list.
-#[derive(Drop)]
+#[derive(Debug, Drop)]
 pub struct Json {
     value: Value,
 }
@@ -207,7 +207,7 @@ impl Json {
 /// A fill value: any JSON value.
 ///
 /// Zarr core specification 3.1, "Array metadata", "fill_value"; specification version 2, "Arrays", "Fill value encoding".
-#[derive(Drop)]
+#[derive(Debug, Drop)]
 pub struct FillValueMetadata {
     value: Value,
 }
