@@ -1,7 +1,7 @@
 -- Zarr core specification 3.1, "Node names": which texts are names of nodes.
 --     is_name n, IsName n      a text is a name
 --     is_node_name n, IsNodeName n      it is a name, or the empty name of the root
-use Rattle.std.specs.Prelude.{◌≡◌, ℕ, ◌==◌, Bool, not, ◌&&◌, ◌||◌, List, [], ◌∷◌, IsTrue}
+use Rattle.std.specs.Prelude.{◌≡◌, ℕ, ◌==◌, Bool, not, ◌&&◌, ◌||◌, List, ◌∷◌, IsTrue}
 use Rattle.std.specs.List.{list_all}
 use Rattle.zarrs_store.specs.Segments.{is_nonempty, has_no_slash}
 -- `is_reserved n`: the text begins with `__`

@@ -1,6 +1,6 @@
 -- Lists that are sorted and have no item twice.
-use Rattle.std.proofs.Common.{◌≡◌, ◌≢◌, ℕ, suc, zero, ◌+◌, ◌<◌, ◌≤◌, Bool, true, false, List, [], ◌∷◌, length, get_or, refl, sym, ap, subst, ◌∙◌, arith}
-use Rattle.std.specs.Prelude.{AllPairs, All, Contains, filter}
+use Rattle.std.proofs.Common.{◌≡◌, ◌≢◌, suc, ◌≤◌, false, List, [], ◌∷◌, get_or, refl, ◌∙◌, arith}
+use Rattle.std.specs.Prelude.{AllPairs}
 use Rattle.std.specs.Ordering.{is_lt, is_eq, eq_by_cmp, ordering_reverse}
 use Rattle.std.specs.declared.cmp.Ordering.{Ordering}
 use Rattle.std.specs.declared.cmp.Ordering.TheVariants.{Less, Equal, Greater}

@@ -1,5 +1,5 @@
 -- What stands below a list of segments: keys, and the children that were discovered.
-use Rattle.std.proofs.Common.{false, take, take_all, ◌≤◌, ◌≡◌, ℕ, ◌<◌, ◌↔◌, List, [], ◌∷◌, ◌++◌, map, length, get_or, refl, sym, ap, subst, ◌∙◌, append_assoc, Contains, AllPairs, All, IsFalse, Less, Ordering, arith, Option, Some, None, ◌⊎◌, inl, inr, is_some}
+use Rattle.std.proofs.Common.{false, take, take_all, ◌≤◌, ◌≡◌, ℕ, ◌<◌, ◌↔◌, List, [], ◌∷◌, ◌++◌, map, length, get_or, refl, sym, ap, subst, ◌∙◌, append_assoc, Contains, AllPairs, All, IsFalse, Less, Ordering, arith, Some, None, ◌⊎◌, inl, inr, is_some}
 use Rattle.std.specs.FinMap.{get}
 use Rattle.std.specs.List.{AllByRecursion}
 use Rattle.std.specs.List.Sorted.{IsStrictlySortedBy}

@@ -1,8 +1,8 @@
 -- Keys below a prefix, by their segments and by their texts.
-use Rattle.std.proofs.Common.{◌≡◌, ◌≢◌, ℕ, suc, Bool, true, false, not, cond, List, [], ◌∷◌, ◌++◌, refl, sym, ap, subst, ◌∙◌, Some, None, Option, option_map, append_assoc, lit<, length, ◌<◌, get_or, Bor, IsTrue, arith}
+use Rattle.std.proofs.Common.{◌≡◌, ◌≢◌, ℕ, true, false, not, cond, List, [], ◌∷◌, ◌++◌, refl, sym, ap, subst, ◌∙◌, Some, None, Option, option_map, append_assoc, lit<, length, Bor, IsTrue, arith}
 use Rattle.std.specs.Prelude.{All, is_some}
-use Rattle.std.specs.Option.{MatchOption, IfSome}
-use Rattle.std.specs.List.{flat_map, list_all}
+use Rattle.std.specs.Option.{MatchOption}
+use Rattle.std.specs.List.{list_all}
 use Rattle.std.specs.Str.Pattern.{FindsTextPrefix, LacksTextAt, StripsPrefix}
 use Rattle.std.proofs.lemmas.Str.Pattern.{IsSplitOnceResult, split_parts, split_after}
 use Rattle.std.proofs.lemmas.Bool.{and_parts}

@@ -1,5 +1,5 @@
 -- Joining segments by slashes, and cutting the text again.
-use Rattle.std.proofs.Common.{ne_eqb, add-one, length, ◌==◌, ◌+◌, ◌≡◌, ◌≢◌, ℕ, Bool, true, false, cond, not, ◌&&◌, List, [], ◌∷◌, ◌++◌, refl, sym, ap, ◌∙◌, subst, IsTrue, arith, rules}
+use Rattle.std.proofs.Common.{ne_eqb, add-one, length, ◌==◌, ◌+◌, ◌≡◌, ◌≢◌, ℕ, Bool, true, false, cond, not, ◌&&◌, List, [], ◌∷◌, ◌++◌, refl, sym, ap, ◌∙◌, subst, IsTrue, arith}
 use Rattle.std.specs.List.{slice_split, onto_first, join_with_byte, filter, list_all}
 use Rattle.std.proofs.lemmas.Bool.{and_parts, and_from, not-true}
 use Rattle.std.proofs.lemmas.List.Splits.{slice_split-cons_no, join_with_byte-slice_split}
@@ -8,7 +8,7 @@ use Rattle.std.specs.Prelude.{All}
 use Rattle.std.proofs.lemmas.Bool.{eqb-false}
 use Rattle.std.proofs.lemmas.List.Sums.{AllPass-from_list_all, list_all-from_AllPass}
 use Rattle.std.proofs.lemmas.List.Elements.{All-nil, All-cons, All-head, All-tail}
-use Rattle.std.proofs.lemmas.List.{append_cancel_left, append_cancel_right, append-nil, length-append}
+use Rattle.std.proofs.lemmas.List.{append_cancel_right, append-nil, length-append}
 use Rattle.std.proofs.lemmas.List.Folds.{list_all-append}
 use Rattle.zarrs_store.specs.Segments.{Segments, is_slash, has_no_slash, is_nonempty, is_segment, last_segment, IsSegment, IsSegments, IsKey, IsKeyText, IsPrefix, IsPrefixText, segments_of, key_text, prefix_text}
 use Rattle.zarrs_store.proofs.ChildLemmas.{last_segment-child}

@@ -1,5 +1,5 @@
 -- What the calls that list a store in memory give, from the keys of its entries.
-use Rattle.std.proofs.Common.{◌≡◌, ◌≢◌, ℕ, zero, suc, ◌+◌, ◌<◌, ◌≤◌, Bool, true, false, cond, List, [], ◌∷◌, ◌++◌, length, get_or, refl, sym, ap, subst, ◌∙◌, Some, None, Option, arith}
+use Rattle.std.proofs.Common.{◌≡◌, ◌≢◌, ℕ, zero, suc, ◌+◌, ◌<◌, Bool, true, false, cond, List, [], ◌∷◌, ◌++◌, length, get_or, refl, sym, ap, subst, ◌∙◌, Some, None, Option, arith}
 use Rattle.std.specs.Prelude.{All, AllPairs, Contains, filter, filter_map, is_some, map}
 use Rattle.std.specs.declared.cmp.Ordering.{Ordering}
 use Rattle.std.specs.declared.cmp.Ordering.TheVariants.{Less, Equal, Greater}
@@ -20,11 +20,11 @@ use Rattle.std.proofs.lemmas.List.Kept.{AllPairs-filter, AllPairs-cons, Contains
 use Rattle.std.proofs.lemmas.Map.Keys.{IsDistinct-from_sorted, apart_from_distinct, sorted_tail}
 use Rattle.std.proofs.lemmas.Map.Views.{All-after_first}
 use Rattle.zarrs_store.specs.Segments.{Segments, bytes_cmp, bytes_eq, key_cmp, key_text, prefix_text, IsKey, IsSegment}
-use Rattle.zarrs_store.specs.Contents.{HasKey, Lists, IsKeyBelow, IsChildKey, HasChild, IsChildPrefix}
+use Rattle.zarrs_store.specs.Contents.{HasKey, Lists, IsKeyBelow, IsChildKey, IsChildPrefix}
 use Rattle.zarrs_store.specs.Entries.{beyond, is_below, is_one, is_child_key, first_of_more, child_name}
 use Rattle.zarrs_store.proofs.ChildLemmas.{key_cmp_total, key_cmp-IsAntisymmetric, Contains-filter}
 use Rattle.zarrs_store.proofs.BelowLemmas.{beyond-append, from_beyond, all_behind, key_text-below}
-use Rattle.zarrs_store.proofs.EntryLemmas.{text_cmp, text_cmp_total, equal_of, shown, shown_map, HoldsKeys}
+use Rattle.zarrs_store.proofs.EntryLemmas.{text_cmp, text_cmp_total, equal_of, shown, HoldsKeys}
 
 -- strictly sorted lists have no item twice
 pub once_from_sorted : {K : Type 0} {R : K → K → Ordering} (o : IsTotalOrder R) (xs : List K) → IsStrictlySortedBy R xs → AllPairs (λ x y. x ≢ y) xs

@@ -1,4 +1,4 @@
-use Rattle.std.proofs.Common.{◌≡◌, true, false, sym, ◌∙◌, subst}
+use Rattle.std.proofs.Common.{sym, ◌∙◌, subst}
 use Rattle.zarrs_store.specs.Segments.{IsKeyText}
 use Rattle.zarrs_store.proofs.Cuts.{key_from_text}
 use Rattle.zarrs_store.proofs.key.StoreKey.new.Goals as goal

@@ -1,4 +1,4 @@
-use Rattle.std.proofs.Common.{rules, lit<, ◌≡◌, ◌∙◌, Bool, not, length, refl, sym}
+use Rattle.std.proofs.Common.{rules, lit<, ◌≡◌, ◌∙◌, not, length, refl, sym}
 use Rattle.std.specs.Prelude.{◌==◌}
 use Rattle.std.specs.List.{list_all, slice_split}
 use Rattle.std.proofs.lemmas.Iterator.Search.{all_from_yields_List}

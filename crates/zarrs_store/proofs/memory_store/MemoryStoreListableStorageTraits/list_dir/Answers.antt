@@ -1,4 +1,4 @@
-use Rattle.std.proofs.Common.{rules, refl, ◌≡◌, Bool, not, true, false, ◌++◌, ◌∷◌, [], sym, ◌∙◌, ap, subst, append-nil}
+use Rattle.std.proofs.Common.{rules, refl, ◌≡◌, Bool, not, true, false, ◌++◌, [], sym, ◌∙◌, ap, subst, append-nil}
 use Rattle.std.specs.FinMap as map
 use Rattle.std.specs.Map.{keys_of}
 use Rattle.std.specs.Prelude.{filter, filter_map, map as each}

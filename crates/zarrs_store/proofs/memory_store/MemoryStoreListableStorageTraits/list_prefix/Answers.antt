@@ -1,4 +1,4 @@
-use Rattle.std.proofs.Common.{rules, ◌≡◌, true, false, ◌++◌, ◌∷◌, [], sym, ◌∙◌, ap, subst, append-nil}
+use Rattle.std.proofs.Common.{rules, ◌≡◌, ◌++◌, [], sym, ◌∙◌, ap, subst, append-nil}
 use Rattle.std.specs.FinMap as map
 use Rattle.std.specs.Map.{keys_of}
 use Rattle.std.specs.Prelude.{filter, is_some}
@@ -7,7 +7,7 @@ use Rattle.zarrs_store.specs.Contents.{Lists, IsKeyBelow}
 use Rattle.zarrs_store.specs.Entries.{is_below}
 use Rattle.zarrs_store.proofs.EntryLemmas.{shown}
 use Rattle.zarrs_store.proofs.ListLemmas.{Lists-below}
-use Rattle.zarrs_store.proofs.Ranges.{IsRest, from_entries, start_is, rest_from, rest_after, kept_step, from_filter, none_below_left}
+use Rattle.zarrs_store.proofs.Ranges.{IsRest, start_is, rest_from, rest_after, kept_step, from_filter, none_below_left}
 use Rattle.zarrs_store.proofs.memory_store.MemoryStoreListableStorageTraits.list_prefix.Goals as goal
 use Rattle.zarrs_store.proofs.memory_store.MemoryStoreListableStorageTraits.list_prefix.Goals.{in-None, in-Some+then-not-is_above}
 

@@ -1,4 +1,4 @@
-use Rattle.std.proofs.Common.{sym, ◌∙◌, ap, Some, None}
+use Rattle.std.proofs.Common.{Some, None}
 use Rattle.zarrs_store.proofs.BelowLemmas.{child_by_split, child_is_segment, no_child_outside}
 use Rattle.zarrs_store.proofs.prefix.StorePrefix.child_name.Goals as goal
 

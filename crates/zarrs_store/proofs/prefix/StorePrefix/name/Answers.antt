@@ -1,4 +1,4 @@
-use Rattle.std.proofs.Common.{◌≡◌, List, ℕ, [], ◌∷◌, ◌++◌, Bor, sym, ◌∙◌, ap, subst, Some, None, lit<, not, take, drop, IsTrue}
+use Rattle.std.proofs.Common.{◌≡◌, List, ℕ, [], ◌∷◌, ◌++◌, sym, ◌∙◌, ap, subst, Some, None, lit<, not, take, drop, IsTrue}
 use Rattle.std.proofs.lemmas.Bool.{ne_eqb}
 use Rattle.std.proofs.lemmas.List.{get_or_default, take-append-drop}
 use Rattle.std.proofs.lemmas.List.Sums.{list_all-from_AllPass}

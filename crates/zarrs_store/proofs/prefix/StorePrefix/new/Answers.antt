@@ -1,4 +1,4 @@
-use Rattle.std.proofs.Common.{◌≡◌, true, false, sym, ◌∙◌, subst}
+use Rattle.std.proofs.Common.{sym, ◌∙◌, subst}
 use Rattle.zarrs_store.specs.Segments.{IsPrefixText}
 use Rattle.zarrs_store.proofs.Cuts.{prefix_from_text}
 use Rattle.zarrs_store.proofs.prefix.StorePrefix.new.Goals as goal

@@ -1,4 +1,4 @@
-use Rattle.std.proofs.Common.{◌≡◌, List, ℕ, [], ◌∷◌, true, sym, ◌∙◌, ap, subst, Some, None, lit<, length, refl}
+use Rattle.std.proofs.Common.{sym, ◌∙◌, ap, subst, Some, None, lit<, length}
 use Rattle.std.specs.Prelude.{◌==◌}
 use Rattle.std.proofs.lemmas.Str.Pattern.{strip_suffix_char}
 use Rattle.zarrs_store.specs.Segments.{IsPrefixText}
