@@ -7,6 +7,7 @@ pub mod GroupV3Laws
 pub mod GroupV2Laws
 pub mod ArrayV3Laws
 pub mod ArrayV2Laws
+pub mod TakenLaws
 pub mod NodeLaws
 pub mod PlainForms
 pub mod PlainGroups

@@ -1,5 +1,5 @@
 -- What holds of members that are put into an object, taken out of it and looked up in it.
-use Rattle.std.proofs.Common.{◌≡◌, ℕ, List, Bool, true, false, ◌||◌, if◌then◌else◌, Less, Equal, Greater, Ordering, Option, None, is_eq, nat_cmp, bytes_eq, true≢false, refl, ap, sym, ◌∙◌, subst}
+use Rattle.std.proofs.Common.{◌≡◌, ℕ, List, [], ◌∷◌, Bool, true, false, ◌||◌, if◌then◌else◌, Less, Equal, Greater, Ordering, Option, Some, None, is_eq, nat_cmp, bytes_eq, true≢false, refl, ap, sym, ◌∙◌, subst}
 use Rattle.std.specs.Ordering.{match_ordering}
 use Rattle.std.specs.Cmp.Lexicographic.{slice_cmp}
 use Rattle.std.proofs.lemmas.Map.Text.{is_eq-slice_cmp}
@@ -64,6 +64,31 @@ get-others names k no_members own h = refl
 get-others names k (member l e ms) own h =
     let parts = neither (is_own names l) (has_own names ms) h in
     either (slice_cmp nat_cmp k l) _ _ (is_eq-slice_cmp k l ∙ apart names k l _ refl own parts.0) ∙ get-others names k ms own parts.1
+
+-- ---- taking out
+
+kept_apart : (names : List (List ℕ)) (k l : List ℕ) (b : Bool) → bytes_eq k l ≡ b → is_own names k ≡ false → is_own names l ≡ true → b ≡ false
+kept_apart names k l true e other own = absurd (true≢false (sym own ∙ ap (is_own names) (sym ((bytes_eq-Decides k l).0 e)) ∙ other))
+kept_apart names k l false e other own = refl
+
+get_besides_at : (b : Bool) (names : List (List ℕ)) (k l : List ℕ) (e : Data) (ms ns : Members) → is_own names l ≡ b → is_own names k ≡ false → get_member k ns ≡ get_member k ms
+    → get_member k (if b then ns else member l e ns) ≡ get_member k (member l e ms)
+get_besides_at true names k l e ms ns own other later =
+    later ∙ sym (either (slice_cmp nat_cmp k l) _ _ (is_eq-slice_cmp k l ∙ kept_apart names k l _ refl other own))
+get_besides_at false names k l e ms ns own other later = ap (λ r. match_ordering (slice_cmp nat_cmp k l) r (Some e) r) later
+
+-- a name that is none of the names is found besides them
+pub get_besides : (names : List (List ℕ)) (k : List ℕ) (ms : Members) → is_own names k ≡ false → get_member k (besides names ms) ≡ get_member k ms
+get_besides names k no_members other = refl
+get_besides names k (member l e ms) other = get_besides_at (is_own names l) names k l e ms (besides names ms) refl other (get_besides names k ms other)
+
+-- the same of what is left once a member was taken out
+pub get_left : (q k : List ℕ) (ms ns : Members) → ns ≡ besides (q ∷ []) ms → bytes_eq q k ≡ false → get_member k ns ≡ get_member k ms
+get_left q k ms ns left other = ap (get_member k) left ∙ get_besides (q ∷ []) k ms (rw other refl)
+
+-- and once two were
+pub get_left_twice : (q r k : List ℕ) (ms ns os : Members) → ns ≡ besides (q ∷ []) ms → os ≡ besides (r ∷ []) ns → bytes_eq q k ≡ false → bytes_eq r k ≡ false → get_member k os ≡ get_member k ms
+get_left_twice q r k ms ns os first second other apart = get_left r k ns os second apart ∙ get_left q k ms ns first other
 
 -- texts that a test tells apart
 pub differ : (q k : List ℕ) → bytes_eq q k ≡ false → q ≡ k → ⊥

@@ -39,7 +39,7 @@ abbrev pub of_bytes : {A : Type 0} → (Data → Result A MetadataFault) → Lis
 of_bytes document bytes = parsed (json_of bytes) >>= document
 
 -- the members of an object
-abbrev object_of : Data → Result Members MetadataFault
+abbrev pub object_of : Data → Result Members MetadataFault
 object_of (object ms) = Ok ms
 object_of _ = Err NotAnObject
 

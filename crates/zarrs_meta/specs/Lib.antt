@@ -8,5 +8,6 @@ pub mod GroupV2
 pub mod FormsV2
 pub mod ArrayV2
 pub mod Attributes
+pub mod Taken
 pub mod Node
 pub mod Laws

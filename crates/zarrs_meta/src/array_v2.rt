@@ -1,16 +1,20 @@
 //! The version 2 array.
-ghost use Rattle.std.specs.Prelude.{◌≡◌, Ok, IfOk, IsTrue, string_bytes};
+ghost use Rattle.std.specs.Prelude.{◌≡◌, [], ◌∷◌, Ok, IfOk, IsTrue, codes, string_bytes};
+ghost use Rattle.serde_json.specs.Data.{object};
 ghost use Rattle.serde_json.specs.View.{view, members_view};
 ghost use Rattle.serde_json.specs.Written.{compact_text};
-ghost use Rattle.zarrs_meta.specs.Documents.{Gives, document_of, of_bytes};
+ghost use Rattle.zarrs_meta.specs.Documents.{Gives, besides, document_of, of_bytes, optional};
+ghost use Rattle.zarrs_meta.specs.FormsV2.{separator};
+ghost use Rattle.zarrs_meta.specs.declared.chunks.ChunkKeySeparator.TheVariants.{Dot};
 ghost use Rattle.zarrs_meta.specs.ArrayV2.{array_v2_of, array_v2_tree, is_plain_array_v2};
+ghost use Rattle.zarrs_meta.specs.Taken.{array_v2_taken};
 
 use crate::chunks::{ArrayMetadataV2Order, ChunkKeySeparator, chunk_lengths, has_zero};
 use crate::codec::MetadataV2;
 use crate::data_type::DataTypeMetadataV2;
-use crate::form::{Form, optional, put_member, put_unless, required};
+use crate::form::{Form, attributes, optional, put_member, put_unless, required};
 use crate::members::{
-    ask_format, document, has_own_member, members_have_float, other_members, parse,
+    ask_format, document, document_copy, has_own_member, members_have_float, parse, take_member,
 };
 use crate::shapes::{FillValueMetadata, List, Object};
 use serde_json::{Map, Value, put};
@@ -73,37 +77,42 @@ impl ArrayMetadataV2 {
     pub fn from_value(alloc: Global, value: &Value) -> Result<ArrayMetadataV2, MetadataFault>
         ensures { Gives (λ m. m) result (array_v2_of (view value.now)) }
     {
-        let members = document(value)?;
-        ArrayMetadataV2::from_members(alloc, value, members)
+        ArrayMetadataV2::from_members(alloc, document_copy(value)?)
     }
 
-    /// The array that a JSON value is, whose members were asked for.
+    /// The array that the members of a document are.
     #[tactic(auto, unfolding(crate::specs::ArrayV2::array_v2_of))]
     pub(crate) fn from_members(
         alloc: Global,
-        value: &Value,
-        members: &Map<String, Value>,
+        mut members: Map<String, Value>,
     ) -> Result<ArrayMetadataV2, MetadataFault>
-        requires { document_of (view value.now) ≡ Ok (members_view members.now.entries) }
-        ensures { Gives (λ m. m) result (array_v2_of (view value.now)) }
+        requires { document_of (object (members_view members.entries)) ≡ Ok (members_view members.entries) }
+        ensures { Gives (λ m. m) result (array_v2_of (object (members_view members.entries))) }
     {
-        ask_format(value, 2)?;
+        ask_format(&members, 2)?;
+        drop(take_member(&mut members, "zarr_format"));
+        ArrayMetadataV2::take(alloc, members)
+    }
+
+    /// Takes the members of the table one by one; those that are left are the additional fields.
+    #[tactic(auto, unfolding(crate::specs::Taken::array_v2_taken))]
+    fn take(
+        alloc: Global,
+        mut members: Map<String, Value>,
+    ) -> Result<ArrayMetadataV2, MetadataFault>
+        ensures { Gives (λ m. m) result (array_v2_taken (members_view members.entries)) }
+    {
         Ok(ArrayMetadataV2 {
-            shape: required(alloc, value, "shape")?,
-            chunks: chunk_lengths(alloc, value, "chunks")?,
-            dtype: required(alloc, value, "dtype")?,
-            fill_value: required(alloc, value, "fill_value")?,
-            order: required(alloc, value, "order")?,
-            compressor: optional(alloc, value, "compressor", None)?,
-            filters: optional(alloc, value, "filters", None)?,
-            dimension_separator: optional(
-                alloc,
-                value,
-                "dimension_separator",
-                ChunkKeySeparator::Dot,
-            )?,
-            attributes: optional(alloc, value, "attributes", Object::new(Map::new(alloc)))?,
-            additional_fields: other_members(alloc, members, OWN_NAMES)?,
+            shape: required(alloc, &mut members, "shape")?,
+            chunks: chunk_lengths(alloc, &mut members, "chunks")?,
+            dtype: required(alloc, &mut members, "dtype")?,
+            fill_value: required(alloc, &mut members, "fill_value")?,
+            order: required(alloc, &mut members, "order")?,
+            compressor: optional(alloc, &mut members, "compressor", None)?,
+            filters: optional(alloc, &mut members, "filters", None)?,
+            dimension_separator: dimension_separator(alloc, &mut members)?,
+            attributes: attributes(alloc, &mut members)?,
+            additional_fields: Object::new(members),
         })
     }
 
@@ -114,12 +123,11 @@ impl ArrayMetadataV2 {
     /// `NotJson` where the bytes are no JSON text, else as [`ArrayMetadataV2::from_value`].
     ///
     /// Source: Zarr specification version 2, "Arrays".
-    #[tactic(auto, unfolding(crate::specs::Documents::of_bytes))]
+    #[tactic(auto, unfolding(crate::specs::ArrayV2::array_v2_of))]
     pub fn from_bytes(alloc: Global, bytes: &[u8]) -> Result<ArrayMetadataV2, MetadataFault>
         ensures { Gives (λ m. m) result (of_bytes array_v2_of bytes.now) }
     {
-        let value = parse(alloc, bytes)?;
-        ArrayMetadataV2::from_value(alloc, &value)
+        ArrayMetadataV2::from_members(alloc, document(parse(alloc, bytes)?)?)
     }
 
     /// The written form of the array: the members of the table and the additional fields.
@@ -181,4 +189,22 @@ impl ArrayMetadataV2 {
             && !members_have_float(fields)
             && !has_own_member(fields, OWN_NAMES)
     }
+}
+
+/// Takes the member `dimension_separator`, which is a period where it is absent.
+fn dimension_separator(
+    alloc: Global,
+    members: &mut Map<String, Value>,
+) -> Result<ChunkKeySeparator, MetadataFault>
+    ensures gives { Gives (λ x. x) result
+        (optional (codes "dimension_separator") Dot separator (object (members_view members.old.entries))) }
+    ensures left { members_view members.new.entries
+        ≡ besides (codes "dimension_separator" ∷ []) (members_view members.old.entries) }
+{
+    optional(
+        alloc,
+        members,
+        "dimension_separator",
+        ChunkKeySeparator::Dot,
+    )
 }

@@ -1,16 +1,22 @@
 //! The version 3 array.
-ghost use Rattle.std.specs.Prelude.{◌≡◌, Ok, IfOk, IsTrue, string_bytes};
+ghost use Rattle.std.specs.Prelude.{◌≡◌, [], ◌∷◌, Ok, None, IfOk, IsTrue, codes, string_bytes};
+ghost use Rattle.serde_json.specs.Data.{object};
+ghost use Rattle.serde_json.specs.Find.{as_str};
 ghost use Rattle.serde_json.specs.View.{view, members_view};
 ghost use Rattle.serde_json.specs.Written.{compact_text};
-ghost use Rattle.zarrs_meta.specs.Documents.{Gives, document_of, of_bytes};
+ghost use Rattle.zarrs_meta.specs.Documents.{Gives, besides, document_of, of_bytes, optional};
+ghost use Rattle.zarrs_meta.specs.Forms.{extension, list_of, nullable};
 ghost use Rattle.zarrs_meta.specs.ArrayV3.{array_v3_of, array_v3_tree, is_plain_array_v3};
+ghost use Rattle.zarrs_meta.specs.Taken.{array_v3_taken};
 
 use crate::extension::MetadataV3;
 use crate::fields::{
-    AdditionalFieldsV3, additional_fields_v3, fields_have_float, has_own_name, members_of_fields,
+    AdditionalFieldsV3, fields_have_float, fields_of, has_own_name, members_of_fields,
 };
-use crate::form::{Form, optional, put_member, put_unless, required};
-use crate::members::{ask_format, ask_node_type, document, parse, put_text};
+use crate::form::{Form, attributes, optional, put_member, put_unless, required};
+use crate::members::{
+    ask_format, ask_node_type, document, document_copy, parse, put_text, take_member,
+};
 use crate::shapes::{FillValueMetadata, List, Object, Text};
 use serde_json::{Map, Value, put};
 use std::alloc::{AllocError, Global};
@@ -73,38 +79,44 @@ impl ArrayMetadataV3 {
     pub fn from_value(alloc: Global, value: &Value) -> Result<ArrayMetadataV3, MetadataFault>
         ensures { Gives (λ m. m) result (array_v3_of (view value.now)) }
     {
-        let members = document(value)?;
-        ArrayMetadataV3::from_members(alloc, value, members)
+        ArrayMetadataV3::from_members(alloc, document_copy(value)?)
     }
 
-    /// The array that a JSON value is, whose members were asked for.
+    /// The array that the members of a document are.
     #[tactic(auto, unfolding(crate::specs::ArrayV3::array_v3_of))]
     pub(crate) fn from_members(
         alloc: Global,
-        value: &Value,
-        members: &Map<String, Value>,
+        mut members: Map<String, Value>,
     ) -> Result<ArrayMetadataV3, MetadataFault>
-        requires { document_of (view value.now) ≡ Ok (members_view members.now.entries) }
-        ensures { Gives (λ m. m) result (array_v3_of (view value.now)) }
+        requires { document_of (object (members_view members.entries)) ≡ Ok (members_view members.entries) }
+        ensures { Gives (λ m. m) result (array_v3_of (object (members_view members.entries))) }
     {
-        ask_format(value, 3)?;
-        ask_node_type(value, "array")?;
+        ask_format(&members, 3)?;
+        ask_node_type(&members, "array")?;
+        drop(take_member(&mut members, "zarr_format"));
+        drop(take_member(&mut members, "node_type"));
+        ArrayMetadataV3::take(alloc, members)
+    }
+
+    /// Takes the members of the table one by one; those that are left are the additional fields.
+    #[tactic(auto, unfolding(crate::specs::Taken::array_v3_taken))]
+    fn take(
+        alloc: Global,
+        mut members: Map<String, Value>,
+    ) -> Result<ArrayMetadataV3, MetadataFault>
+        ensures { Gives (λ m. m) result (array_v3_taken (members_view members.entries)) }
+    {
         Ok(ArrayMetadataV3 {
-            shape: required(alloc, value, "shape")?,
-            data_type: required(alloc, value, "data_type")?,
-            chunk_grid: required(alloc, value, "chunk_grid")?,
-            chunk_key_encoding: required(alloc, value, "chunk_key_encoding")?,
-            fill_value: required(alloc, value, "fill_value")?,
-            codecs: required(alloc, value, "codecs")?,
-            attributes: optional(alloc, value, "attributes", Object::new(Map::new(alloc)))?,
-            storage_transformers: optional(
-                alloc,
-                value,
-                "storage_transformers",
-                List::new(Vec::new(alloc)),
-            )?,
-            dimension_names: optional(alloc, value, "dimension_names", None)?,
-            additional_fields: additional_fields_v3(alloc, members, OWN_NAMES)?,
+            shape: required(alloc, &mut members, "shape")?,
+            data_type: required(alloc, &mut members, "data_type")?,
+            chunk_grid: required(alloc, &mut members, "chunk_grid")?,
+            chunk_key_encoding: required(alloc, &mut members, "chunk_key_encoding")?,
+            fill_value: required(alloc, &mut members, "fill_value")?,
+            codecs: required(alloc, &mut members, "codecs")?,
+            attributes: attributes(alloc, &mut members)?,
+            storage_transformers: storage_transformers(alloc, &mut members)?,
+            dimension_names: dimension_names(alloc, &mut members)?,
+            additional_fields: fields_of(alloc, members)?,
         })
     }
 
@@ -115,12 +127,11 @@ impl ArrayMetadataV3 {
     /// `NotJson` where the bytes are no JSON text, else as [`ArrayMetadataV3::from_value`].
     ///
     /// Source: Zarr core specification 3.1, "Array metadata".
-    #[tactic(auto, unfolding(crate::specs::Documents::of_bytes))]
+    #[tactic(auto, unfolding(crate::specs::ArrayV3::array_v3_of))]
     pub fn from_bytes(alloc: Global, bytes: &[u8]) -> Result<ArrayMetadataV3, MetadataFault>
         ensures { Gives (λ m. m) result (of_bytes array_v3_of bytes.now) }
     {
-        let value = parse(alloc, bytes)?;
-        ArrayMetadataV3::from_value(alloc, &value)
+        ArrayMetadataV3::from_members(alloc, document(parse(alloc, bytes)?)?)
     }
 
     /// The written form of the array: the members of the table and the additional fields.
@@ -195,4 +206,35 @@ impl ArrayMetadataV3 {
             && !fields_have_float(self.additional_fields.as_map())
             && !has_own_name(self.additional_fields.as_map(), OWN_NAMES)
     }
+}
+
+/// Takes the member `storage_transformers`, which is empty where it is absent.
+fn storage_transformers(
+    alloc: Global,
+    members: &mut Map<String, Value>,
+) -> Result<List<MetadataV3>, MetadataFault>
+    ensures gives { Gives (λ x. x) result
+        (optional (codes "storage_transformers") [] (list_of extension) (object (members_view members.old.entries))) }
+    ensures left { members_view members.new.entries
+        ≡ besides (codes "storage_transformers" ∷ []) (members_view members.old.entries) }
+{
+    optional(
+        alloc,
+        members,
+        "storage_transformers",
+        List::new(Vec::new(alloc)),
+    )
+}
+
+/// Takes the member `dimension_names`, which may be absent.
+fn dimension_names(
+    alloc: Global,
+    members: &mut Map<String, Value>,
+) -> Result<Option<List<Option<Text>>>, MetadataFault>
+    ensures gives { Gives (λ x. x) result
+        (optional (codes "dimension_names") None (nullable (list_of (nullable as_str))) (object (members_view members.old.entries))) }
+    ensures left { members_view members.new.entries
+        ≡ besides (codes "dimension_names" ∷ []) (members_view members.old.entries) }
+{
+    optional(alloc, members, "dimension_names", None)
 }

@@ -6,7 +6,7 @@ ghost use Rattle.zarrs_meta.specs.Attributes.{attributes_of, attributes_tree, is
 ghost use Rattle.zarrs_meta.specs.Documents.{Gives, of_bytes};
 
 use crate::form::Form;
-use crate::members::{document, parse};
+use crate::members::{document, document_copy, parse};
 use crate::shapes::Object;
 use serde_json::Value;
 use std::alloc::{AllocError, Global};
@@ -30,8 +30,8 @@ impl AttributesDocument {
     pub fn from_value(_alloc: Global, value: &Value) -> Result<AttributesDocument, MetadataFault>
         ensures { Gives (λ a. a) result (attributes_of (view value.now)) }
     {
-        let members = document(value)?;
-        Ok(AttributesDocument(Object::copy_of(members)?))
+        let members = document_copy(value)?;
+        Ok(AttributesDocument(Object::new(members)))
     }
 
     /// The attributes that the bytes of `.zattrs` are.
@@ -45,8 +45,8 @@ impl AttributesDocument {
     pub fn from_bytes(alloc: Global, bytes: &[u8]) -> Result<AttributesDocument, MetadataFault>
         ensures { Gives (λ a. a) result (of_bytes attributes_of bytes.now) }
     {
-        let value = parse(alloc, bytes)?;
-        AttributesDocument::from_value(alloc, &value)
+        let members = document(parse(alloc, bytes)?)?;
+        Ok(AttributesDocument(Object::new(members)))
     }
 
     /// The written form: an object with the attributes.

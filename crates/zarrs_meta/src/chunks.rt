@@ -1,13 +1,14 @@
 //! How the chunks of a version 2 array are shaped, laid out and named.
-ghost use Rattle.std.specs.Prelude.{◌≡◌, IfOk, true};
-ghost use Rattle.serde_json.specs.View.{view};
+ghost use Rattle.std.specs.Prelude.{◌≡◌, [], ◌∷◌, IfOk, true};
+ghost use Rattle.serde_json.specs.Data.{object};
+ghost use Rattle.serde_json.specs.View.{view, members_view};
 ghost use Rattle.zarrs_meta.specs.Documents as documents;
-ghost use Rattle.zarrs_meta.specs.Documents.{Gives};
+ghost use Rattle.zarrs_meta.specs.Documents.{Gives, besides};
 ghost use Rattle.zarrs_meta.specs.FormsV2.{chunk_lengths, has_zero, order, order_data, separator, separator_data};
 
 use crate::form::{Form, required};
 use crate::shapes::List;
-use serde_json::Value;
+use serde_json::{Map, Value};
 use std::alloc::{AllocError, Global};
 use zarrs_store::{MemberName, MetadataFault};
 
@@ -36,7 +37,7 @@ pub enum ChunkKeySeparator {
 impl Form for ArrayMetadataV2Order {
     ghost form = { order };
 
-    fn read(_alloc: Global, value: &Value) -> Result<Option<ArrayMetadataV2Order>, AllocError> {
+    fn read(_alloc: Global, value: Value) -> Result<Option<ArrayMetadataV2Order>, AllocError> {
         match value.as_str() {
             Some(text) if text == "C" => Ok(Some(ArrayMetadataV2Order::C)),
             Some(text) if text == "F" => Ok(Some(ArrayMetadataV2Order::F)),
@@ -65,7 +66,7 @@ impl Form for ArrayMetadataV2Order {
 impl Form for ChunkKeySeparator {
     ghost form = { separator };
 
-    fn read(_alloc: Global, value: &Value) -> Result<Option<ChunkKeySeparator>, AllocError> {
+    fn read(_alloc: Global, value: Value) -> Result<Option<ChunkKeySeparator>, AllocError> {
         if let Value::Null = value {
             return Ok(Some(ChunkKeySeparator::Dot));
         }
@@ -100,15 +101,18 @@ pub(crate) fn has_zero(lengths: &List<u64>) -> bool
     lengths.as_slice().contains(&0)
 }
 
-/// The member `chunks`: a list of numbers, none of them 0.
+/// Takes the member `chunks`: a list of numbers, none of them 0.
 pub(crate) fn chunk_lengths(
     alloc: Global,
-    document: &Value,
+    members: &mut Map<String, Value>,
     name: &'static str,
 ) -> Result<List<u64>, MetadataFault>
-    ensures { Gives (λ x. x) result (documents.required name.now chunk_lengths (view document.now)) }
+    ensures gives { Gives (λ x. x) result
+        (documents.required name.now chunk_lengths (object (members_view members.old.entries))) }
+    ensures left { members_view members.new.entries
+        ≡ besides (name.now ∷ []) (members_view members.old.entries) }
 {
-    let lengths: List<u64> = required(alloc, document, name)?;
+    let lengths: List<u64> = required(alloc, members, name)?;
     if has_zero(&lengths) {
         return Err(MetadataFault::BadMember(MemberName::new(name)));
     }

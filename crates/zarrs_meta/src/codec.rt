@@ -4,7 +4,7 @@ ghost use Rattle.serde_json.specs.View.{view};
 ghost use Rattle.zarrs_meta.specs.FormsV2.{codec, codec_data, codec_fits};
 
 use crate::form::Form;
-use crate::members::{has_own_member, members_have_float, other_members, put_text};
+use crate::members::{has_own_member, members_have_float, put_text, take_member};
 use crate::shapes::{Object, Text};
 use serde_json::Value;
 use std::alloc::{AllocError, Global};
@@ -26,16 +26,16 @@ const OWN_NAMES: &[&str] = &["id"];
 impl Form for MetadataV2 {
     ghost form = { codec };
 
-    fn read(alloc: Global, value: &Value) -> Result<Option<MetadataV2>, AllocError> {
-        let Value::Object(members) = value else {
+    fn read(_alloc: Global, value: Value) -> Result<Option<MetadataV2>, AllocError> {
+        let Value::Object(mut members) = value else {
             return Ok(None);
         };
-        let Some(id) = value.get("id").and_then(Value::as_str) else {
+        let Some(Value::String(id)) = take_member(&mut members, "id") else {
             return Ok(None);
         };
         Ok(Some(MetadataV2 {
-            id: Text::from_str(alloc, id)?,
-            configuration: other_members(alloc, members, OWN_NAMES)?,
+            id: Text::new(id),
+            configuration: Object::new(members),
         }))
     }
 

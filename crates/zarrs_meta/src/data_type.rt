@@ -32,14 +32,13 @@ pub enum Endianness {
 impl Form for DataTypeMetadataV2 {
     ghost form = { data_type };
 
-    fn read(alloc: Global, value: &Value) -> Result<Option<DataTypeMetadataV2>, AllocError> {
-        if let Value::String(name) = value {
-            let name = Text::from_str(alloc, name.as_str())?;
-            return Ok(Some(DataTypeMetadataV2::Simple(name)));
-        }
-        match List::read(alloc, value)? {
-            Some(fields) => Ok(Some(DataTypeMetadataV2::Structured(fields))),
-            None => Ok(None),
+    fn read(alloc: Global, value: Value) -> Result<Option<DataTypeMetadataV2>, AllocError> {
+        match value {
+            Value::String(name) => Ok(Some(DataTypeMetadataV2::Simple(Text::new(name)))),
+            other => match List::read(alloc, other)? {
+                Some(fields) => Ok(Some(DataTypeMetadataV2::Structured(fields))),
+                None => Ok(None),
+            },
         }
     }
 

@@ -1,9 +1,11 @@
 //! Extensions: a name, its configuration, and whether it must be understood.
 ghost use Rattle.std.specs.Prelude.{◌≡◌, None, IfOk, true, false, option_map};
-ghost use Rattle.serde_json.specs.View.{view};
-ghost use Rattle.zarrs_meta.specs.Forms.{extension, extension_data, extension_fits, unless, unless_absent};
+ghost use Rattle.serde_json.specs.Data.{object};
+ghost use Rattle.serde_json.specs.View.{view, members_view};
+ghost use Rattle.zarrs_meta.specs.Forms.{extension, extension_object, extension_data, extension_fits, unless, unless_absent};
 
 use crate::form::{Form, put_member};
+use crate::members::take_member;
 use crate::shapes::{Object, Text};
 use serde_json::{Map, Value};
 use std::alloc::{AllocError, Global};
@@ -32,34 +34,51 @@ impl MetadataV3 {
             Some(&self.must_understand)
         }
     }
+
+    /// The extension that an object is.
+    #[tactic(auto, using(crate::proofs::MemberLaws::get_left, crate::proofs::MemberLaws::get_left_twice))]
+    fn from_members(
+        alloc: Global,
+        mut members: Map<String, Value>,
+    ) -> Result<Option<MetadataV3>, AllocError>
+        ensures { IfOk result (λ found. found ≡ extension_object (object (members_view members.entries))) }
+    {
+        let Some(name) = take_member(&mut members, "name") else {
+            return Ok(None);
+        };
+        let Some(name) = Text::read(alloc, name)? else {
+            return Ok(None);
+        };
+        let found = take_member(&mut members, "configuration");
+        let Some(configuration) = unless_absent(alloc, found, None)? else {
+            return Ok(None);
+        };
+        let found = take_member(&mut members, "must_understand");
+        let Some(must_understand) = unless_absent(alloc, found, true)? else {
+            return Ok(None);
+        };
+        Ok(Some(MetadataV3 {
+            name,
+            configuration,
+            must_understand,
+        }))
+    }
 }
 
 /// A text, which is the name, or an object.
 impl Form for MetadataV3 {
     ghost form = { extension };
 
-    fn read(alloc: Global, value: &Value) -> Result<Option<MetadataV3>, AllocError> {
-        if let Value::String(name) = value {
-            return Ok(Some(MetadataV3 {
-                name: Text::from_str(alloc, name.as_str())?,
+    fn read(alloc: Global, value: Value) -> Result<Option<MetadataV3>, AllocError> {
+        match value {
+            Value::String(name) => Ok(Some(MetadataV3 {
+                name: Text::new(name),
                 configuration: None,
                 must_understand: true,
-            }));
+            })),
+            Value::Object(members) => MetadataV3::from_members(alloc, members),
+            _ => Ok(None),
         }
-        let Some(name) = value.get("name").and_then(Value::as_str) else {
-            return Ok(None);
-        };
-        let Some(configuration) = member(alloc, value.get("configuration"), None)? else {
-            return Ok(None);
-        };
-        let Some(must_understand) = member(alloc, value.get("must_understand"), true)? else {
-            return Ok(None);
-        };
-        Ok(Some(MetadataV3 {
-            name: Text::from_str(alloc, name)?,
-            configuration,
-            must_understand,
-        }))
     }
 
     ghost written = { extension_data };
@@ -87,14 +106,13 @@ impl Form for MetadataV3 {
     }
 }
 
-/// A member that may be absent.
-fn member<T: Form + Drop>(
+/// What was found, or the value for absent.
+fn unless_absent<T: Form + Drop>(
     alloc: Global,
-    found: Option<&Value>,
+    found: Option<Value>,
     absent: T,
 ) -> Result<Option<T>, AllocError>
-    ensures { IfOk result (λ read. read
-        ≡ unless_absent absent T.form (option_map (λ v. view v.now) found.entry)) }
+    ensures { IfOk result (λ read. read ≡ unless_absent absent T.form (option_map view found)) }
 {
     match found {
         None => Ok(Some(absent)),

@@ -2,7 +2,7 @@
 ghost use Rattle.std.specs.Prelude.{◌≡◌, IfErr, IfOk, IsFalse, IsTrue, map, option_map};
 ghost use Rattle.serde_json.specs.View.{view, members_of, members_view};
 ghost use Rattle.serde_json.specs.Written as written;
-ghost use Rattle.zarrs_meta.specs.Documents.{besides, has_own, is_null};
+ghost use Rattle.zarrs_meta.specs.Documents.{has_own, is_null};
 ghost use Rattle.serde_json.specs.Find.{get_member};
 ghost use Rattle.serde_json.specs.Data.{object};
 ghost use Rattle.zarrs_meta.specs.Fields.{field_data, gains_member, must_understand};
@@ -206,23 +206,16 @@ pub(crate) fn has_own_name(fields: &Map<String, AdditionalFieldV3>, own_names: &
     false
 }
 
-/// The members of an object that have none of the own names.
-pub(crate) fn additional_fields_v3(
+/// The fields that the members of an object are.
+pub(crate) fn fields_of(
     alloc: Global,
-    members: &Map<String, Value>,
-    own_names: &[&str],
+    members: Map<String, Value>,
 ) -> Result<AdditionalFieldsV3, AllocError>
-    ensures { IfOk result (λ fields. fields
-        ≡ besides (map (λ name. name.now) own_names.now) (members_view members.now.entries)) }
+    ensures { IfOk result (λ fields. fields ≡ members_view members.entries) }
 {
     let mut fields = Map::new(alloc);
-    for (name, value) in members.iter() {
-        if !is_one_of(name.as_str(), own_names) {
-            let field = AdditionalFieldV3 {
-                value: value.clone()?,
-            };
-            drop(fields.insert(name.clone()?, field)?);
-        }
+    for (name, value) in members {
+        drop(fields.insert(name, AdditionalFieldV3 { value })?);
     }
     Ok(AdditionalFieldsV3 { fields })
 }

@@ -1,16 +1,16 @@
 //! The forms of members: each type reads itself from a JSON value, or says that the value has another
 //! form.
-ghost use Rattle.std.specs.Prelude.{◌≡◌, Option, Bool, true, IfOk, OnOk, Some, None, option_map};
-ghost use Rattle.serde_json.specs.Data.{Data, boolean, string, object};
+ghost use Rattle.std.specs.Prelude.{◌≡◌, [], ◌∷◌, Option, Bool, true, IfOk, OnOk, Some, None, option_map, codes};
+ghost use Rattle.serde_json.specs.Data.{Data, boolean, string, object, no_members};
 ghost use Rattle.serde_json.specs.Find.{as_str, as_bool, as_object};
 ghost use Rattle.std.specs.List.{list_all};
 ghost use Rattle.serde_json.specs.View.{view, members_view};
 ghost use Rattle.zarrs_meta.specs.Documents as documents;
-ghost use Rattle.zarrs_meta.specs.Documents.{Gives};
+ghost use Rattle.zarrs_meta.specs.Documents.{Gives, besides};
 ghost use Rattle.zarrs_meta.specs.Forms as forms;
 ghost use Rattle.zarrs_meta.specs.Forms.{number_u64, any, nullable, list_of, number_data, list_data, nullable_data, none_or, put_row};
 
-use crate::members::{has_float, members_have_float};
+use crate::members::{has_float, members_have_float, take_member};
 use crate::shapes::{FillValueMetadata, Json, List, Object, Text};
 use serde_json::{Map, Value, put};
 use std::alloc::{AllocError, Global};
@@ -22,8 +22,8 @@ pub(crate) trait Form: Sized {
     ghost form: { Data → Option Self };
 
     /// The value that the JSON value stands for, or none where it has another form.
-    fn read(alloc: Global, value: &Value) -> Result<Option<Self>, AllocError>
-        ensures { IfOk result (λ found. found ≡ form (view value.now)) };
+    fn read(alloc: Global, value: Value) -> Result<Option<Self>, AllocError>
+        ensures { IfOk result (λ found. found ≡ form (view value)) };
 
     /// What is written of the value.
     ghost written: { Self → Data };
@@ -43,7 +43,7 @@ pub(crate) trait Form: Sized {
 impl Form for u64 {
     ghost form = { number_u64 };
 
-    fn read(_alloc: Global, value: &Value) -> Result<Option<u64>, AllocError> {
+    fn read(_alloc: Global, value: Value) -> Result<Option<u64>, AllocError> {
         Ok(value.as_u64())
     }
 
@@ -63,7 +63,7 @@ impl Form for u64 {
 impl Form for bool {
     ghost form = { as_bool };
 
-    fn read(_alloc: Global, value: &Value) -> Result<Option<bool>, AllocError> {
+    fn read(_alloc: Global, value: Value) -> Result<Option<bool>, AllocError> {
         Ok(value.as_bool())
     }
 
@@ -83,11 +83,11 @@ impl Form for bool {
 impl Form for Text {
     ghost form = { as_str };
 
-    fn read(alloc: Global, value: &Value) -> Result<Option<Text>, AllocError> {
-        match value.as_str() {
-            Some(text) => Ok(Some(Text::from_str(alloc, text)?)),
-            None => Ok(None),
-        }
+    fn read(_alloc: Global, value: Value) -> Result<Option<Text>, AllocError> {
+        let Value::String(string) = value else {
+            return Ok(None);
+        };
+        Ok(Some(Text::new(string)))
     }
 
     ghost written = { string };
@@ -106,11 +106,11 @@ impl Form for Text {
 impl Form for Object {
     ghost form = { as_object };
 
-    fn read(_alloc: Global, value: &Value) -> Result<Option<Object>, AllocError> {
-        match value.as_object() {
-            Some(members) => Ok(Some(Object::copy_of(members)?)),
-            None => Ok(None),
-        }
+    fn read(_alloc: Global, value: Value) -> Result<Option<Object>, AllocError> {
+        let Value::Object(members) = value else {
+            return Ok(None);
+        };
+        Ok(Some(Object::new(members)))
     }
 
     ghost written = { object };
@@ -129,8 +129,8 @@ impl Form for Object {
 impl Form for FillValueMetadata {
     ghost form = { any };
 
-    fn read(_alloc: Global, value: &Value) -> Result<Option<FillValueMetadata>, AllocError> {
-        Ok(Some(FillValueMetadata::new(value.clone()?)))
+    fn read(_alloc: Global, value: Value) -> Result<Option<FillValueMetadata>, AllocError> {
+        Ok(Some(FillValueMetadata::new(value)))
     }
 
     ghost written = { λ d. d };
@@ -149,8 +149,8 @@ impl Form for FillValueMetadata {
 impl Form for Json {
     ghost form = { any };
 
-    fn read(_alloc: Global, value: &Value) -> Result<Option<Json>, AllocError> {
-        Ok(Some(Json::new(value.clone()?)))
+    fn read(_alloc: Global, value: Value) -> Result<Option<Json>, AllocError> {
+        Ok(Some(Json::new(value)))
     }
 
     ghost written = { λ d. d };
@@ -170,7 +170,7 @@ impl Form for Json {
 impl<T: Form> Form for Option<T> {
     ghost form = { nullable T.form };
 
-    fn read(alloc: Global, value: &Value) -> Result<Option<Option<T>>, AllocError> {
+    fn read(alloc: Global, value: Value) -> Result<Option<Option<T>>, AllocError> {
         if let Value::Null = value {
             return Ok(Some(None));
         }
@@ -203,7 +203,7 @@ impl<T: Form> Form for Option<T> {
 impl<T: Form + Drop> Form for List<T> {
     ghost form = { list_of T.form };
 
-    fn read(alloc: Global, value: &Value) -> Result<Option<List<T>>, AllocError> {
+    fn read(alloc: Global, value: Value) -> Result<Option<List<T>>, AllocError> {
         let Value::Array(items) = value else {
             return Ok(None);
         };
@@ -239,15 +239,18 @@ impl<T: Form + Drop> Form for List<T> {
     }
 }
 
-/// A member that has to be there.
+/// Takes a member that has to be there.
 pub(crate) fn required<T: Form>(
     alloc: Global,
-    document: &Value,
+    members: &mut Map<String, Value>,
     name: &'static str,
 ) -> Result<T, MetadataFault>
-    ensures { Gives (λ x. x) result (documents.required name.now T.form (view document.now)) }
+    ensures gives { Gives (λ x. x) result
+        (documents.required name.now T.form (object (members_view members.old.entries))) }
+    ensures left { members_view members.new.entries
+        ≡ besides (name.now ∷ []) (members_view members.old.entries) }
 {
-    let Some(value) = document.get(name) else {
+    let Some(value) = take_member(members, name) else {
         return Err(MetadataFault::MissingMember(MemberName::new(name)));
     };
     match T::read(alloc, value)? {
@@ -256,22 +259,38 @@ pub(crate) fn required<T: Form>(
     }
 }
 
-/// A member that may be absent.
+/// Takes a member that may be absent.
 pub(crate) fn optional<T: Form + Drop>(
     alloc: Global,
-    document: &Value,
+    members: &mut Map<String, Value>,
     name: &'static str,
     absent: T,
 ) -> Result<T, MetadataFault>
-    ensures { Gives (λ x. x) result (documents.optional name.now absent T.form (view document.now)) }
+    ensures gives { Gives (λ x. x) result
+        (documents.optional name.now absent T.form (object (members_view members.old.entries))) }
+    ensures left { members_view members.new.entries
+        ≡ besides (name.now ∷ []) (members_view members.old.entries) }
 {
-    let Some(value) = document.get(name) else {
+    let Some(value) = take_member(members, name) else {
         return Ok(absent);
     };
     match T::read(alloc, value)? {
         Some(found) => Ok(found),
         None => Err(MetadataFault::BadMember(MemberName::new(name))),
     }
+}
+
+/// Takes the member `attributes`, which is empty where it is absent.
+pub(crate) fn attributes(
+    alloc: Global,
+    members: &mut Map<String, Value>,
+) -> Result<Object, MetadataFault>
+    ensures gives { Gives (λ x. x) result
+        (documents.optional (codes "attributes") no_members as_object (object (members_view members.old.entries))) }
+    ensures left { members_view members.new.entries
+        ≡ besides (codes "attributes" ∷ []) (members_view members.old.entries) }
+{
+    optional(alloc, members, "attributes", Object::new(Map::new(alloc)))
 }
 
 /// Puts a member, where there is a value.

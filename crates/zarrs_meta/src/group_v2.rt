@@ -1,14 +1,16 @@
 //! The version 2 group.
 ghost use Rattle.std.specs.Prelude.{◌≡◌, Ok, IfOk, IsTrue, string_bytes};
-ghost use Rattle.serde_json.specs.Data.{no_members};
+ghost use Rattle.serde_json.specs.Data.{object, no_members};
 ghost use Rattle.serde_json.specs.View.{view, members_view};
 ghost use Rattle.serde_json.specs.Written.{compact_text};
 ghost use Rattle.zarrs_meta.specs.Documents.{Gives, document_of, of_bytes};
 ghost use Rattle.zarrs_meta.specs.GroupV2.{group_v2_of, group_v2_tree, is_plain_group_v2};
+ghost use Rattle.zarrs_meta.specs.Taken.{group_v2_taken};
 
-use crate::form::{optional, put_unless};
+use crate::form::{attributes, put_unless};
 use crate::members::{
-    ask_format, document, has_own_member, members_have_float, other_members, parse, refuse,
+    ask_format, document, document_copy, has_own_member, members_have_float, parse, refuse,
+    take_member,
 };
 use crate::shapes::Object;
 use serde_json::{Map, Value, put};
@@ -55,25 +57,36 @@ impl GroupMetadataV2 {
     pub fn from_value(alloc: Global, value: &Value) -> Result<GroupMetadataV2, MetadataFault>
         ensures { Gives (λ m. m) result (group_v2_of (view value.now)) }
     {
-        let members = document(value)?;
-        GroupMetadataV2::from_members(alloc, value, members)
+        GroupMetadataV2::from_members(alloc, document_copy(value)?)
     }
 
-    /// The group that a JSON value is, whose members were asked for.
+    /// The group that the members of a document are.
     #[tactic(auto, unfolding(crate::specs::GroupV2::group_v2_of))]
     pub(crate) fn from_members(
         alloc: Global,
-        value: &Value,
-        members: &Map<String, Value>,
+        mut members: Map<String, Value>,
     ) -> Result<GroupMetadataV2, MetadataFault>
-        requires { document_of (view value.now) ≡ Ok (members_view members.now.entries) }
-        ensures { Gives (λ m. m) result (group_v2_of (view value.now)) }
+        requires { document_of (object (members_view members.entries)) ≡ Ok (members_view members.entries) }
+        ensures { Gives (λ m. m) result (group_v2_of (object (members_view members.entries))) }
     {
-        ask_format(value, 2)?;
-        refuse(value, "shape")?;
+        ask_format(&members, 2)?;
+        refuse(&members, "shape")?;
+        drop(take_member(&mut members, "zarr_format"));
+        drop(take_member(&mut members, "shape"));
+        GroupMetadataV2::take(alloc, members)
+    }
+
+    /// Takes the attributes; the members that are left are the additional fields.
+    #[tactic(auto, unfolding(crate::specs::Taken::group_v2_taken))]
+    fn take(
+        alloc: Global,
+        mut members: Map<String, Value>,
+    ) -> Result<GroupMetadataV2, MetadataFault>
+        ensures { Gives (λ m. m) result (group_v2_taken (members_view members.entries)) }
+    {
         Ok(GroupMetadataV2 {
-            attributes: optional(alloc, value, "attributes", Object::new(Map::new(alloc)))?,
-            additional_fields: other_members(alloc, members, OWN_NAMES)?,
+            attributes: attributes(alloc, &mut members)?,
+            additional_fields: Object::new(members),
         })
     }
 
@@ -84,12 +97,11 @@ impl GroupMetadataV2 {
     /// `NotJson` where the bytes are no JSON text, else as [`GroupMetadataV2::from_value`].
     ///
     /// Source: Zarr specification version 2, "Groups".
-    #[tactic(auto, unfolding(crate::specs::Documents::of_bytes))]
+    #[tactic(auto, unfolding(crate::specs::GroupV2::group_v2_of))]
     pub fn from_bytes(alloc: Global, bytes: &[u8]) -> Result<GroupMetadataV2, MetadataFault>
         ensures { Gives (λ m. m) result (of_bytes group_v2_of bytes.now) }
     {
-        let value = parse(alloc, bytes)?;
-        GroupMetadataV2::from_value(alloc, &value)
+        GroupMetadataV2::from_members(alloc, document(parse(alloc, bytes)?)?)
     }
 
     /// The written form: the members of the table and the additional fields, without empty attributes.

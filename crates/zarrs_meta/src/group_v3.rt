@@ -1,17 +1,20 @@
 //! The version 3 group.
 ghost use Rattle.std.specs.Prelude.{◌≡◌, Ok, IfOk, IsTrue, string_bytes};
-ghost use Rattle.serde_json.specs.Data.{no_members};
+ghost use Rattle.serde_json.specs.Data.{object, no_members};
 ghost use Rattle.serde_json.specs.View.{view, members_view};
 ghost use Rattle.serde_json.specs.Written.{compact_text};
 ghost use Rattle.zarrs_meta.specs.Documents.{Gives, document_of, of_bytes};
 ghost use Rattle.zarrs_meta.specs.GroupV3.{group_v3_of, group_v3_tree, is_plain_group_v3};
+ghost use Rattle.zarrs_meta.specs.Taken.{group_v3_taken};
 
 use crate::fields::{
-    AdditionalFieldsV3, additional_fields_v3, fields_have_float, has_own_name, is_null_at,
-    members_of_fields,
+    AdditionalFieldsV3, fields_have_float, fields_of, has_own_name, is_null_at, members_of_fields,
 };
-use crate::form::{optional, put_unless};
-use crate::members::{ask_format, ask_node_type, document, members_have_float, parse, put_text};
+use crate::form::{attributes, put_unless};
+use crate::members::{
+    ask_format, ask_node_type, document, document_copy, members_have_float, parse, put_text,
+    take_member, take_null,
+};
 use crate::shapes::Object;
 use serde_json::{Map, Value, put};
 use std::alloc::{AllocError, Global};
@@ -55,39 +58,39 @@ impl GroupMetadataV3 {
     pub fn from_value(alloc: Global, value: &Value) -> Result<GroupMetadataV3, MetadataFault>
         ensures { Gives (λ m. m) result (group_v3_of (view value.now)) }
     {
-        let members = document(value)?;
-        GroupMetadataV3::from_members(alloc, value, members)
+        GroupMetadataV3::from_members(alloc, document_copy(value)?)
     }
 
-    /// The group that a JSON value is, whose members were asked for.
+    /// The group that the members of a document are.
     #[tactic(auto, unfolding(crate::specs::GroupV3::group_v3_of))]
     pub(crate) fn from_members(
         alloc: Global,
-        value: &Value,
-        members: &Map<String, Value>,
+        mut members: Map<String, Value>,
     ) -> Result<GroupMetadataV3, MetadataFault>
-        requires { document_of (view value.now) ≡ Ok (members_view members.now.entries) }
-        ensures { Gives (λ m. m) result (group_v3_of (view value.now)) }
+        requires { document_of (object (members_view members.entries)) ≡ Ok (members_view members.entries) }
+        ensures { Gives (λ m. m) result (group_v3_of (object (members_view members.entries))) }
     {
-        ask_format(value, 3)?;
-        ask_node_type(value, "group")?;
-        let attributes = optional(alloc, value, "attributes", Object::new(Map::new(alloc)))?;
-        let additional_fields = match value.get("consolidated_metadata") {
-            Some(Value::Null) => additional_fields_v3(
-                alloc,
-                members,
-                &[
-                    "zarr_format",
-                    "node_type",
-                    "attributes",
-                    "consolidated_metadata",
-                ],
-            )?,
-            _ => additional_fields_v3(alloc, members, &["zarr_format", "node_type", "attributes"])?,
-        };
+        ask_format(&members, 3)?;
+        ask_node_type(&members, "group")?;
+        drop(take_member(&mut members, "zarr_format"));
+        drop(take_member(&mut members, "node_type"));
+        GroupMetadataV3::take(alloc, members)
+    }
+
+    /// Takes the attributes, and a null `consolidated_metadata`; the members that are left are the
+    /// additional fields.
+    #[tactic(auto, unfolding(crate::specs::Taken::group_v3_taken))]
+    fn take(
+        alloc: Global,
+        mut members: Map<String, Value>,
+    ) -> Result<GroupMetadataV3, MetadataFault>
+        ensures { Gives (λ m. m) result (group_v3_taken (members_view members.entries)) }
+    {
+        let attributes = attributes(alloc, &mut members)?;
+        take_null(&mut members, "consolidated_metadata");
         Ok(GroupMetadataV3 {
             attributes,
-            additional_fields,
+            additional_fields: fields_of(alloc, members)?,
         })
     }
 
@@ -98,12 +101,11 @@ impl GroupMetadataV3 {
     /// `NotJson` where the bytes are no JSON text, else as [`GroupMetadataV3::from_value`].
     ///
     /// Source: Zarr core specification 3.1, "Group metadata".
-    #[tactic(auto, unfolding(crate::specs::Documents::of_bytes))]
+    #[tactic(auto, unfolding(crate::specs::GroupV3::group_v3_of))]
     pub fn from_bytes(alloc: Global, bytes: &[u8]) -> Result<GroupMetadataV3, MetadataFault>
         ensures { Gives (λ m. m) result (of_bytes group_v3_of bytes.now) }
     {
-        let value = parse(alloc, bytes)?;
-        GroupMetadataV3::from_value(alloc, &value)
+        GroupMetadataV3::from_members(alloc, document(parse(alloc, bytes)?)?)
     }
 
     /// The written form of the group: the members of the table and the additional fields.

@@ -1,10 +1,11 @@
 //! The parts of reading that the documents share.
-ghost use Rattle.std.specs.Prelude.{◌≡◌, map, Ok, option_map, codes, IfOk, OnOk};
-ghost use Rattle.serde_json.specs.Data.{no_members, string, put};
-ghost use Rattle.serde_json.specs.Find.{as_object};
+ghost use Rattle.std.specs.Prelude.{◌≡◌, [], ◌∷◌, map, Ok, option_map, codes, IfOk, OnOk};
+ghost use Rattle.serde_json.specs.Data.{object, string, put};
+ghost use Rattle.serde_json.specs.Find.{get_member};
 ghost use Rattle.serde_json.specs.Written as written;
 ghost use Rattle.serde_json.specs.View.{view, items_view, members_view};
-ghost use Rattle.zarrs_meta.specs.Documents.{Gives, absent, besides, has_own, is_own, parsed, json_of, document_of, format_of, node_type_of, optional};
+ghost use Rattle.zarrs_meta.specs.Documents.{Gives, absent, besides, has_own, is_own, object_of, parsed, json_of, document_of, format_of, node_type_of};
+ghost use Rattle.zarrs_meta.specs.Taken.{besides_null};
 
 use crate::shapes::Object;
 use serde_json::{Category, Map, Value};
@@ -56,24 +57,71 @@ pub(crate) fn members_have_float(members: &Map<String, Value>) -> bool
 }
 
 /// The members of a document whose numbers all fit.
-pub(crate) fn document(value: &Value) -> Result<&Map<String, Value>, MetadataFault>
-    ensures { Gives (λ m. members_view m.now.entries) result (document_of (view value.now)) }
+pub(crate) fn document(value: Value) -> Result<Map<String, Value>, MetadataFault>
+    ensures gives { Gives (λ m. members_view m.entries) result (document_of (view value)) }
+    ensures whole { IfOk result (λ m. view value ≡ object (members_view m.entries)) }
+{
+    if has_float(&value) {
+        return Err(MetadataFault::UnsupportedNumber);
+    }
+    members_of_object(value)
+}
+
+fn members_of_object(value: Value) -> Result<Map<String, Value>, MetadataFault>
+    ensures gives { Gives (λ m. members_view m.entries) result (object_of (view value)) }
+    ensures whole { IfOk result (λ m. view value ≡ object (members_view m.entries)) }
+{
+    let Value::Object(members) = value else {
+        return Err(MetadataFault::NotAnObject);
+    };
+    Ok(members)
+}
+
+/// A copy of the members of a document whose numbers all fit.
+pub(crate) fn document_copy(value: &Value) -> Result<Map<String, Value>, MetadataFault>
+    ensures gives { Gives (λ m. members_view m.entries) result (document_of (view value.now)) }
+    ensures whole { IfOk result (λ m. view value.now ≡ object (members_view m.entries)) }
 {
     if has_float(value) {
         return Err(MetadataFault::UnsupportedNumber);
     }
     match value {
-        Value::Object(members) => Ok(members),
+        Value::Object(members) => Ok(Object::copy_of(members)?.into_map()),
         _ => Err(MetadataFault::NotAnObject),
+    }
+}
+
+/// The member of a name.
+pub(crate) fn member<'a>(members: &'a Map<String, Value>, name: &str) -> Option<&'a Value>
+    ensures { option_map (λ v. view v.now) result ≡ get_member name.now (members_view members.now.entries) }
+{
+    members.get(name)
+}
+
+/// Takes the member of a name out of the members.
+pub(crate) fn take_member(members: &mut Map<String, Value>, name: &str) -> Option<Value>
+    ensures found { option_map view result ≡ get_member name.now (members_view members.old.entries) }
+    ensures left { members_view members.new.entries
+        ≡ besides (name.now ∷ []) (members_view members.old.entries) }
+{
+    members.remove(name)
+}
+
+/// Takes the member of a name out of the members where it is null.
+pub(crate) fn take_null(members: &mut Map<String, Value>, name: &str)
+    ensures { members_view members.new.entries ≡ besides_null name.now (members_view members.old.entries) }
+{
+    if let Some(Value::Null) = member(members, name) {
+        drop(take_member(members, name));
     }
 }
 
 /// `zarr_format` is the number asked for.
 #[tactic(auto, unfolding(crate::specs::Documents::format_of))]
-pub(crate) fn ask_format(document: &Value, format: u64) -> Result<(), MetadataFault>
-    ensures { result ≡ format_of format (view document.now) }
+pub(crate) fn ask_format(members: &Map<String, Value>, format: u64) -> Result<(), MetadataFault>
+    ensures { result ≡ format_of format (object (members_view members.now.entries)) }
 {
-    match document.get("zarr_format").and_then(Value::as_u64) {
+    match member(members, "zarr_format").and_then(Value::as_u64) {
         Some(found) if found == format => Ok(()),
         _ => Err(MetadataFault::WrongFormat),
     }
@@ -81,10 +129,13 @@ pub(crate) fn ask_format(document: &Value, format: u64) -> Result<(), MetadataFa
 
 /// `node_type` is the text asked for.
 #[tactic(auto, unfolding(crate::specs::Documents::node_type_of))]
-pub(crate) fn ask_node_type(document: &Value, node_type: &str) -> Result<(), MetadataFault>
-    ensures { result ≡ node_type_of node_type.now (view document.now) }
+pub(crate) fn ask_node_type(
+    members: &Map<String, Value>,
+    node_type: &str,
+) -> Result<(), MetadataFault>
+    ensures { result ≡ node_type_of node_type.now (object (members_view members.now.entries)) }
 {
-    match document.get("node_type").and_then(Value::as_str) {
+    match member(members, "node_type").and_then(Value::as_str) {
         Some(found) if found == node_type => Ok(()),
         _ => Err(MetadataFault::WrongNodeType),
     }
@@ -123,31 +174,13 @@ pub(crate) fn put_text(
 }
 
 /// A member that must not be there.
-pub(crate) fn refuse(document: &Value, name: &'static str) -> Result<(), MetadataFault>
-    ensures { result ≡ absent name.now (view document.now) }
+pub(crate) fn refuse(members: &Map<String, Value>, name: &'static str) -> Result<(), MetadataFault>
+    ensures { result ≡ absent name.now (object (members_view members.now.entries)) }
 {
-    match document.get(name) {
+    match member(members, name) {
         None => Ok(()),
         Some(_) => Err(MetadataFault::BadMember(MemberName::new(name))),
     }
-}
-
-/// The members of an object that have none of the own names.
-pub(crate) fn other_members(
-    alloc: Global,
-    members: &Map<String, Value>,
-    own_names: &[&str],
-) -> Result<Object, AllocError>
-    ensures { IfOk result (λ others. others
-        ≡ besides (map (λ name. name.now) own_names.now) (members_view members.now.entries)) }
-{
-    let mut others = Map::new(alloc);
-    for (name, value) in members.iter() {
-        if !is_one_of(name.as_str(), own_names) {
-            drop(others.insert(name.clone()?, value.clone()?)?);
-        }
-    }
-    Ok(Object::new(others))
 }
 
 /// Whether some member has one of the own names.

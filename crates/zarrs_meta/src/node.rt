@@ -1,5 +1,6 @@
 //! Metadata of either kind and either version.
 ghost use Rattle.std.specs.Prelude.{◌≡◌, Ok, IfOk, IsTrue, string_bytes};
+ghost use Rattle.serde_json.specs.Data.{object};
 ghost use Rattle.serde_json.specs.View.{view, members_view};
 ghost use Rattle.serde_json.specs.Written.{compact_text};
 ghost use Rattle.zarrs_meta.specs.Documents.{Gives, document_of, of_bytes};
@@ -11,7 +12,7 @@ use crate::array_v2::ArrayMetadataV2;
 use crate::array_v3::ArrayMetadataV3;
 use crate::group_v2::GroupMetadataV2;
 use crate::group_v3::GroupMetadataV3;
-use crate::members::{ask_format, ask_node_type, document, parse};
+use crate::members::{ask_format, ask_node_type, document, document_copy, member, parse};
 use serde_json::{Map, Value};
 use std::alloc::{AllocError, Global};
 use zarrs_store::MetadataFault;
@@ -100,8 +101,7 @@ impl NodeMetadata {
     pub fn from_value(alloc: Global, value: &Value) -> Result<NodeMetadata, MetadataFault>
         ensures { Gives (λ m. m) result (node_of (view value.now)) }
     {
-        let members = document(value)?;
-        node(alloc, value, members)
+        node(alloc, document_copy(value)?)
     }
 
     /// The group or array that the bytes of a document are.
@@ -111,12 +111,11 @@ impl NodeMetadata {
     /// `NotJson` where the bytes are no JSON text, else as [`NodeMetadata::from_value`].
     ///
     /// Source: Zarr core specification 3.1, "Metadata documents".
-    #[tactic(auto, unfolding(crate::specs::Documents::of_bytes))]
+    #[tactic(auto, unfolding(crate::specs::Node::node_of))]
     pub fn from_bytes(alloc: Global, bytes: &[u8]) -> Result<NodeMetadata, MetadataFault>
         ensures { Gives (λ m. m) result (of_bytes node_of bytes.now) }
     {
-        let value = parse(alloc, bytes)?;
-        NodeMetadata::from_value(alloc, &value)
+        node(alloc, document(parse(alloc, bytes)?)?)
     }
 
     /// The written form of the group or array.
@@ -183,11 +182,7 @@ impl ZarrJson {
     pub fn from_value(alloc: Global, value: &Value) -> Result<ZarrJson, MetadataFault>
         ensures { Gives (λ z. z) result (zarr_json_of (view value.now)) }
     {
-        let members = document(value)?;
-        if has_format(value, 2) {
-            return Ok(ZarrJson::Version2);
-        }
-        Ok(ZarrJson::Node(node(alloc, value, members)?))
+        zarr_json(alloc, document_copy(value)?)
     }
 
     /// What the bytes at the key `zarr.json` are.
@@ -197,48 +192,51 @@ impl ZarrJson {
     /// `NotJson` where the bytes are no JSON text, else as [`ZarrJson::from_value`].
     ///
     /// Source: Zarr core specification 3.1, "Metadata documents".
-    #[tactic(auto, unfolding(crate::specs::Documents::of_bytes))]
+    #[tactic(auto, unfolding(crate::specs::Node::zarr_json_of))]
     pub fn from_bytes(alloc: Global, bytes: &[u8]) -> Result<ZarrJson, MetadataFault>
         ensures { Gives (λ z. z) result (of_bytes zarr_json_of bytes.now) }
     {
-        let value = parse(alloc, bytes)?;
-        ZarrJson::from_value(alloc, &value)
+        zarr_json(alloc, document(parse(alloc, bytes)?)?)
     }
+}
+
+/// What a document whose members these are is at the key `zarr.json`.
+#[tactic(auto, unfolding(crate::specs::Node::zarr_json_of))]
+fn zarr_json(alloc: Global, members: Map<String, Value>) -> Result<ZarrJson, MetadataFault>
+    requires { document_of (object (members_view members.entries)) ≡ Ok (members_view members.entries) }
+    ensures { Gives (λ z. z) result (zarr_json_of (object (members_view members.entries))) }
+{
+    if has_format(&members, 2) {
+        return Ok(ZarrJson::Version2);
+    }
+    Ok(ZarrJson::Node(node(alloc, members)?))
 }
 
 /// A node whose members were asked for: by its format.
 #[tactic(auto, unfolding(crate::specs::Node::node_of))]
-fn node(
-    alloc: Global,
-    value: &Value,
-    members: &Map<String, Value>,
-) -> Result<NodeMetadata, MetadataFault>
-    requires { document_of (view value.now) ≡ Ok (members_view members.now.entries) }
-    ensures { Gives (λ m. m) result (node_of (view value.now)) }
+fn node(alloc: Global, members: Map<String, Value>) -> Result<NodeMetadata, MetadataFault>
+    requires { document_of (object (members_view members.entries)) ≡ Ok (members_view members.entries) }
+    ensures { Gives (λ m. m) result (node_of (object (members_view members.entries))) }
 {
-    if has_format(value, 3) {
-        node_v3(alloc, value, members)
-    } else if has_format(value, 2) {
-        node_v2(alloc, value, members)
+    if has_format(&members, 3) {
+        node_v3(alloc, members)
+    } else if has_format(&members, 2) {
+        node_v2(alloc, members)
     } else {
         Err(MetadataFault::WrongFormat)
     }
 }
 
 /// A node of version 3: by its node type.
-fn node_v3(
-    alloc: Global,
-    value: &Value,
-    members: &Map<String, Value>,
-) -> Result<NodeMetadata, MetadataFault>
-    requires { document_of (view value.now) ≡ Ok (members_view members.now.entries) }
-    ensures { Gives (λ m. m) result (node_v3_of (view value.now)) }
+fn node_v3(alloc: Global, members: Map<String, Value>) -> Result<NodeMetadata, MetadataFault>
+    requires { document_of (object (members_view members.entries)) ≡ Ok (members_view members.entries) }
+    ensures { Gives (λ m. m) result (node_v3_of (object (members_view members.entries))) }
 {
-    if has_type(value, "group") {
-        let group = GroupMetadataV3::from_members(alloc, value, members)?;
+    if has_type(&members, "group") {
+        let group = GroupMetadataV3::from_members(alloc, members)?;
         Ok(NodeMetadata::Group(GroupMetadata::V3(group)))
-    } else if has_type(value, "array") {
-        let array = ArrayMetadataV3::from_members(alloc, value, members)?;
+    } else if has_type(&members, "array") {
+        let array = ArrayMetadataV3::from_members(alloc, members)?;
         Ok(NodeMetadata::Array(ArrayMetadata::V3(array)))
     } else {
         Err(MetadataFault::WrongNodeType)
@@ -246,31 +244,27 @@ fn node_v3(
 }
 
 /// A node of version 2: an array is known by its shape.
-fn node_v2(
-    alloc: Global,
-    value: &Value,
-    members: &Map<String, Value>,
-) -> Result<NodeMetadata, MetadataFault>
-    requires { document_of (view value.now) ≡ Ok (members_view members.now.entries) }
-    ensures { Gives (λ m. m) result (node_v2_of (view value.now)) }
+fn node_v2(alloc: Global, members: Map<String, Value>) -> Result<NodeMetadata, MetadataFault>
+    requires { document_of (object (members_view members.entries)) ≡ Ok (members_view members.entries) }
+    ensures { Gives (λ m. m) result (node_v2_of (object (members_view members.entries))) }
 {
-    if value.get("shape").is_some() {
-        let array = ArrayMetadataV2::from_members(alloc, value, members)?;
+    if member(&members, "shape").is_some() {
+        let array = ArrayMetadataV2::from_members(alloc, members)?;
         Ok(NodeMetadata::Array(ArrayMetadata::V2(array)))
     } else {
-        let group = GroupMetadataV2::from_members(alloc, value, members)?;
+        let group = GroupMetadataV2::from_members(alloc, members)?;
         Ok(NodeMetadata::Group(GroupMetadata::V2(group)))
     }
 }
 
-fn has_format(value: &Value, format: u64) -> bool
-    ensures { result ≡ has_format format (view value.now) }
+fn has_format(members: &Map<String, Value>, format: u64) -> bool
+    ensures { result ≡ has_format format (object (members_view members.now.entries)) }
 {
-    ask_format(value, format).is_ok()
+    ask_format(members, format).is_ok()
 }
 
-fn has_type(value: &Value, node_type: &str) -> bool
-    ensures { result ≡ has_type node_type.now (view value.now) }
+fn has_type(members: &Map<String, Value>, node_type: &str) -> bool
+    ensures { result ≡ has_type node_type.now (object (members_view members.now.entries)) }
 {
-    ask_node_type(value, node_type).is_ok()
+    ask_node_type(members, node_type).is_ok()
 }
