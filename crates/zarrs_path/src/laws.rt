@@ -2,7 +2,8 @@
 //! The others call the code and say what comes out.
 ghost use Rattle.std.specs.Prelude.{◌≡◌, ◌↔◌, IfOk, IfErr, IsOkUnless, IsTrue, Some, None};
 ghost use Rattle.zarrs_path.specs.Names.{IsName};
-ghost use Rattle.zarrs_path.specs.Paths.{IsPathText};
+ghost use Rattle.std.specs.declared.cmp.Ordering.TheVariants.{Equal};
+ghost use Rattle.zarrs_path.specs.Paths.{IsPathText, path_eq, path_cmp};
 ghost use Rattle.zarrs_path.specs.PathErrors.{RefusesPrefix};
 ghost use Rattle.zarrs_path.specs.Laws.{NamesAre, TextsDiffer, EqualNames, EqualOrder, TotalOrder, HashAlike, BelowIsAfter, BelowIsTransitive, OneParent, RootAlone, ParentOfJoined, DocumentKeysDiffer, RelativeNamesRead, RelativeNamesJoined};
 
@@ -58,7 +59,8 @@ pub fn total_order()
 
 /// `==` and `cmp` agree, which is answered as `true` for all paths.
 pub fn order_and_equality(path: &NodePath, other: &NodePath) -> bool
-    ensures { IsTrue result }
+    ensures holds { IsTrue result }
+    ensures agree { IsTrue (path_eq path.now other.now) ↔ (path_cmp path.now other.now ≡ Equal) }
 {
     (path == other) == (path.cmp(other) == Ordering::Equal)
 }

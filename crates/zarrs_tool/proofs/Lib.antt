@@ -4,3 +4,4 @@ pub mod Members
 pub mod Runs
 pub mod StoreSteps
 pub mod WholeInput
+pub mod Status

@@ -1,6 +1,12 @@
 //! Reads a store from an image on standard input, and writes what a command asks of it.
 #![tactic(auto)]
 
+ghost use Rattle.std.specs.Prelude.{◌≡◌, ◌↔◌};
+ghost use Rattle.std.specs.Io.KnownBytes.{Keeps};
+ghost use Rattle.zarrs_store.specs.Contents.{Contents};
+ghost use Rattle.zarrs_tool.specs.Image.{IsLoaded};
+ghost use Rattle.zarrs_tool.specs.Output.{IsCommand, WritesOutput, texts};
+
 mod fault;
 mod image;
 mod read;
@@ -43,7 +49,13 @@ fn respond<L: Log, R: Read, W: Write, E: Write>(
     reader: &mut R,
     output: &mut W,
     errors: &mut E,
-) -> u8 {
+) -> u8
+    ensures ok { result ≡ 0 → (store : Contents)
+        × IsLoaded (R.remaining reader.old) store
+        × WritesOutput (texts words.now) store (W.contents output.old) (W.contents output.new) }
+    ensures usage { (result ≡ 2) ↔ (IsCommand (texts words.now) → ⊥) }
+    ensures silent { result ≡ 0 → Keeps (E.contents errors.old) (E.contents errors.new) }
+{
     let outcome = run_image(log, alloc, words, reader, output);
     finish(&outcome, errors)
 }
