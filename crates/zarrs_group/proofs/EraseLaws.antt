@@ -1,0 +1,70 @@
+-- Erasing with All.
+use Rattle.std.proofs.Common.{◌≡◌, ◌≢◌, ℕ, List, [], ◌∷◌, ◌++◌, None, refl, ◌∙◌}
+use Rattle.std.specs.FinMap as map
+use Rattle.zarrs_store.specs.Segments.{Segments}
+use Rattle.zarrs_store.specs.Contents.{Contents}
+use Rattle.zarrs_store.proofs.ContentsLemmas.{get_removed, AgreesExceptAt-remove}
+use Rattle.zarrs_path.specs.Keys.{zarr_json, zgroup, zattrs}
+use Rattle.zarrs_path.specs.Paths.{Path}
+use Rattle.zarrs_path.proofs.LawProofs.{same_fronts}
+use Rattle.zarrs_meta.proofs.MemberLaws.{differ}
+use Rattle.zarrs_meta.specs.declared.node.GroupMetadata.{GroupMetadata}
+use Rattle.zarrs_config.specs.declared.version.MetadataEraseVersion.TheVariants as erase
+use Rattle.zarrs_group.specs.Edits.{after}
+use Rattle.zarrs_group.specs.Stored.{erase_edits}
+use Rattle.zarrs_group.specs.Laws.{IsErased}
+
+-- keys of two documents of one path
+pub keys_differ : (p : Path) (f g : List ℕ) → f ≢ g → p ++ f ∷ [] ≢ p ++ g ∷ []
+keys_differ p f g apart e = apart (same_fronts p p f g e).1
+
+-- three different keys erased in turn
+module _ (S : Contents) (a b c : Segments) (a_b : a ≢ b) (a_c : a ≢ c) (b_c : b ≢ c) where
+  -- the store without the three keys
+  abbrev erased : Contents
+  erased = map.remove (map.remove (map.remove S a) b) c
+
+  -- the first key is gone
+  pub first_gone : map.get erased a ≡ None
+  first_gone = AgreesExceptAt-remove (map.remove (map.remove S a) b) c a a_c ∙ AgreesExceptAt-remove (map.remove S a) b a a_b ∙ get_removed S a
+
+  -- the second key is gone
+  pub second_gone : map.get erased b ≡ None
+  second_gone = AgreesExceptAt-remove (map.remove (map.remove S a) b) c b b_c ∙ get_removed (map.remove S a) b
+
+  -- the third key is gone
+  pub third_gone : map.get erased c ≡ None
+  third_gone = get_removed (map.remove (map.remove S a) b) c
+
+  -- every other key has what it had
+  pub others_stay : (key : Segments) → key ≢ a → key ≢ b → key ≢ c → map.get erased key ≡ map.get S key
+  others_stay key x y z =
+      AgreesExceptAt-remove (map.remove (map.remove S a) b) c key z ∙ AgreesExceptAt-remove (map.remove S a) b key y ∙ AgreesExceptAt-remove S a key x
+
+-- `zarr.json` and `.zgroup` differ
+pub json_group : zarr_json ≢ zgroup
+json_group = differ zarr_json zgroup refl
+
+-- `zarr.json` and `.zattrs` differ
+pub json_attrs : zarr_json ≢ zattrs
+json_attrs = differ zarr_json zattrs refl
+
+-- `.zgroup` and `.zattrs` differ
+pub group_attrs : zgroup ≢ zattrs
+group_attrs = differ zgroup zattrs refl
+
+-- erasing with All leaves none of the three keys, and every other key as it was
+pub erasing_all : (S : Contents) (p : Path) (m : GroupMetadata) → IsErased p S (after S (erase_edits p erase.All m))
+erasing_all S p m =
+    let a : Segments = p ++ zarr_json ∷ [] in
+    let b : Segments = p ++ zgroup ∷ [] in
+    let c : Segments = p ++ zattrs ∷ [] in
+    let a_b : a ≢ b = keys_differ p zarr_json zgroup json_group in
+    let a_c : a ≢ c = keys_differ p zarr_json zattrs json_attrs in
+    let b_c : b ≢ c = keys_differ p zgroup zattrs group_attrs in
+    record {
+      no_zarr_json = first_gone S a b c a_b a_c b_c;
+      no_zgroup = second_gone S a b c a_b a_c b_c;
+      no_zattrs = third_gone S a b c a_b a_c b_c;
+      others = others_stay S a b c a_b a_c b_c;
+    }

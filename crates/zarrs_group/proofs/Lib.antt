@@ -1,0 +1,9 @@
+pub mod EditLemmas
+pub mod StoreLemmas
+pub mod EraseLaws
+pub mod OtherKeys
+pub mod PlainLaws
+pub mod MeaningLaws
+pub mod Fields
+pub mod FieldLemmas
+pub mod Version3

@@ -1,0 +1,11 @@
+pub mod Groups
+pub mod Layout
+pub mod Plain
+pub mod Meaning
+pub mod Edits
+pub mod Stored
+pub mod Unsupported
+pub mod Opened
+pub mod BorrowedMetadata
+pub mod Borrowed
+pub mod Laws

@@ -1,0 +1,59 @@
+-- Zarr core specification 3.1, "Group metadata": the fields that a group has by its format, and what cannot stand beside them.
+-- Why the metadata of a group could not have come from a document: a number that does not fit, or else the least name
+-- of an additional field that clashes with a name of the document's own.
+use Rattle.std.specs.Prelude.{ℕ, Bool, ◌||◌, if◌then◌else◌, List, Option, Some, None, is_some, option_map, codes}
+use Rattle.serde_json.specs.Data.{Members}
+use Rattle.serde_json.specs.Find.{get_member}
+use Rattle.serde_json.specs.Written.{members_have_float}
+use Rattle.zarrs_meta.specs.Documents.{is_null}
+use Rattle.zarrs_meta.specs.GroupV3.{is_plain_group_v3}
+use Rattle.zarrs_meta.specs.GroupV2.{is_plain_group_v2}
+use Rattle.zarrs_meta.specs.declared.node.GroupMetadata.{GroupMetadata}
+use Rattle.zarrs_meta.specs.declared.node.GroupMetadata.TheVariants.{V3, V2}
+use Rattle.zarrs_meta.specs.declared.group_v3.GroupMetadataV3.{GroupMetadataV3}
+use Rattle.zarrs_meta.specs.declared.group_v2.GroupMetadataV2.{GroupMetadataV2}
+use Rattle.zarrs_store.specs.declared.fault.MetadataFault.{MetadataFault}
+use Rattle.zarrs_store.specs.declared.fault.MetadataFault.TheVariants.{UnsupportedNumber, BadMember}
+
+-- some member has this name
+abbrev pub has_member : List ℕ → Members → Bool
+has_member name ms = is_some (get_member name ms)
+
+-- the least name among the fields that a version 3 group has by its format; `consolidated_metadata` clashes where it is null
+abbrev pub clash_v3 : Members → Option (List ℕ)
+clash_v3 ms =
+    if has_member (codes "attributes") ms then Some (codes "attributes")
+    else if is_null (get_member (codes "consolidated_metadata") ms) then Some (codes "consolidated_metadata")
+    else if has_member (codes "node_type") ms then Some (codes "node_type")
+    else if has_member (codes "zarr_format") ms then Some (codes "zarr_format")
+    else None
+
+-- the least name among the fields that a version 2 group has by its format, or must not have
+abbrev pub clash_v2 : Members → Option (List ℕ)
+clash_v2 ms =
+    if has_member (codes "attributes") ms then Some (codes "attributes")
+    else if has_member (codes "shape") ms then Some (codes "shape")
+    else if has_member (codes "zarr_format") ms then Some (codes "zarr_format")
+    else None
+
+-- a number that does not fit, or else the least clash
+abbrev pub group_v3_fault : GroupMetadataV3 → Option MetadataFault
+group_v3_fault m =
+    if members_have_float m.attributes || members_have_float m.additional_fields then Some UnsupportedNumber
+    else option_map BadMember (clash_v3 m.additional_fields)
+
+-- the same for version 2
+abbrev pub group_v2_fault : GroupMetadataV2 → Option MetadataFault
+group_v2_fault m =
+    if members_have_float m.attributes || members_have_float m.additional_fields then Some UnsupportedNumber
+    else option_map BadMember (clash_v2 m.additional_fields)
+
+-- why the metadata are not stored, or nothing where they are
+abbrev pub group_fault : GroupMetadata → Option MetadataFault
+group_fault (V3 m) = group_v3_fault m
+group_fault (V2 m) = group_v2_fault m
+
+-- whether the metadata could have come from documents
+abbrev pub is_plain_group : GroupMetadata → Bool
+is_plain_group (V3 m) = is_plain_group_v3 m
+is_plain_group (V2 m) = is_plain_group_v2 m

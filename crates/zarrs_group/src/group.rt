@@ -1,0 +1,426 @@
+//! Groups.
+ghost use Rattle.std.specs.Prelude.{◌≡◌, ◌≢◌, None, string_bytes, IfOk, IfErr, OnOk, OnErr};
+ghost use Rattle.serde_json.specs.Written.{compact_text};
+ghost use Rattle.zarrs_store.specs.Faults.{IsStoreError};
+ghost use Rattle.zarrs_path.specs.Paths.{IsPath, path_text};
+ghost use Rattle.zarrs_meta.specs.declared.node.GroupMetadata.TheVariants.{V3};
+ghost use Rattle.zarrs_group.specs.Groups.{attributes_of_group, as_v3, converted, group_as_v3, group_text, group_tree};
+ghost use Rattle.zarrs_group.specs.Plain.{group_fault};
+ghost use Rattle.zarrs_group.specs.Edits.{after, IsCutShort};
+ghost use Rattle.zarrs_group.specs.Laws.{MeansStored};
+ghost use Rattle.zarrs_group.specs.Meaning.{MeansGroup};
+ghost use Rattle.zarrs_group.specs.Opened.{IsUnsupportedIn, RefusesMaking, RefusesOpen};
+ghost use Rattle.zarrs_group.specs.Stored.{store_edits, erase_edits, RefusesStore};
+ghost use Rattle.zarrs_config.specs.declared.version.MetadataRetrieveVersion.TheVariants.{Default as BothVersions};
+
+use crate::create_error::GroupCreateError;
+use crate::edit::apply_all;
+use crate::open::find_metadata;
+use crate::stored::{edits_to_erase, edits_to_store};
+use crate::unsupported::unsupported_field;
+use std::alloc::{AllocError, Global};
+use std::marker::Model;
+use zarrs_config::{
+    Config, GroupMetadataOptions, MetadataConvertVersion, MetadataEraseVersion,
+    MetadataRetrieveVersion,
+};
+use zarrs_convert::group_metadata_v2_to_v3;
+use zarrs_meta::{GroupMetadata, GroupMetadataV3, Object};
+use zarrs_path::NodePath;
+use zarrs_store::{ReadableStorageTraits, StorageError, WritableStorageTraits};
+
+/// A group: a path with metadata, and the versions that it is stored and erased by.
+///
+/// Source: `zarrs::group::Group`.
+#[derive(Drop)]
+pub struct Group {
+    path: NodePath,
+    metadata: GroupMetadata,
+    options: GroupMetadataOptions,
+    erase_version: MetadataEraseVersion,
+}
+
+// Contracts see the record of these.
+impl Model for Group {
+    ghost use Rattle.zarrs_group.specs.Groups.{GroupState};
+    ghost use Rattle.std.specs.Coded.{codes};
+    ghost use Rattle.zarrs_meta.specs.contracts.node.GroupMetadata.{the_row as metadata_row};
+
+    ghost Value = { GroupState };
+
+    ghost coded = { Prim.hlevel (codes, metadata_row.coded) };
+
+    ghost view = { λ group. record {
+      path = group.path;
+      metadata = group.metadata;
+      convert_version = group.options;
+      erase_version = group.erase_version;
+    } };
+}
+
+impl Group {
+    /// The group with this path and metadata, and with the options and the erase version of the configuration.
+    ///
+    /// # Errors
+    ///
+    /// `NodePathError` where the text is no path, and want of memory.
+    ///
+    /// Source: `zarrs::group::Group::new_with_metadata`.
+    pub fn new_with_metadata(
+        alloc: Global,
+        path: &str,
+        metadata: GroupMetadata,
+        config: &Config,
+    ) -> Result<Group, GroupCreateError>
+        ensures path { IfOk result (λ group. IsPath group.path × (path_text group.path ≡ path.now)) }
+        ensures metadata { IfOk result (λ group. group.metadata ≡ metadata) }
+        ensures choices { IfOk result (λ group. (group.convert_version ≡ config.now.convert_version) × (group.erase_version ≡ config.now.erase_version)) }
+        ensures err { IfErr result (RefusesMaking path.now) }
+    {
+        let path = NodePath::new(alloc, path)?;
+        Ok(Group::with_choices(path, metadata, config))
+    }
+
+    /// The group that the store has at this path, looked for in both versions.
+    ///
+    /// # Errors
+    ///
+    /// Those of `open_opt`.
+    ///
+    /// Source: `zarrs::group::Group::open`.
+    pub fn open<S: ReadableStorageTraits>(
+        alloc: Global,
+        storage: &S,
+        path: &str,
+        config: &Config,
+    ) -> Result<Group, GroupCreateError>
+        ensures path { IfOk result (λ group. IsPath group.path × (path_text group.path ≡ path.now)) }
+        ensures means { IfOk result (λ group. MeansGroup (S.contents storage.now) BothVersions group.path group.metadata) }
+        ensures understood { IfOk result (λ group. IsUnsupportedIn group.metadata None) }
+        ensures choices { IfOk result (λ group. (group.convert_version ≡ config.now.convert_version) × (group.erase_version ≡ config.now.erase_version)) }
+        ensures err { IfErr result (RefusesOpen (S.can_fail storage.now) (S.contents storage.now) BothVersions path.now) }
+    {
+        Group::open_opt(
+            alloc,
+            storage,
+            path,
+            &MetadataRetrieveVersion::Default,
+            config,
+        )
+    }
+
+    /// The group that the store has at this path, looked for in this version: `zarr.json` as a version 3 group, then
+    /// `.zgroup` with the attributes of `.zattrs`. It has the options and the erase version of the configuration.
+    ///
+    /// # Errors
+    ///
+    /// The first that applies: `NodePathError` where the text is no path; `StorageError` with the store's own error, or
+    /// with the key and the fault of a document that does not read; `MissingMetadata` where there is no document;
+    /// `AdditionalFieldUnsupportedError` with the least field of a version 3 group that must be understood. Besides,
+    /// want of memory.
+    ///
+    /// Source: `zarrs::group::Group::open_opt`; Zarr core specification 3.1, "Group metadata".
+    pub fn open_opt<S: ReadableStorageTraits>(
+        alloc: Global,
+        storage: &S,
+        path: &str,
+        version: &MetadataRetrieveVersion,
+        config: &Config,
+    ) -> Result<Group, GroupCreateError>
+        ensures path { IfOk result (λ group. IsPath group.path × (path_text group.path ≡ path.now)) }
+        ensures means { IfOk result (λ group. MeansGroup (S.contents storage.now) version.now group.path group.metadata) }
+        ensures understood { IfOk result (λ group. IsUnsupportedIn group.metadata None) }
+        ensures choices { IfOk result (λ group. (group.convert_version ≡ config.now.convert_version) × (group.erase_version ≡ config.now.erase_version)) }
+        ensures err { IfErr result (RefusesOpen (S.can_fail storage.now) (S.contents storage.now) version.now path.now) }
+    {
+        let path = NodePath::new(alloc, path)?;
+        let Some(found) = find_metadata(alloc, storage, &path, version)? else {
+            return Err(GroupCreateError::MissingMetadata);
+        };
+        if let Some(error) = unsupported_field(&found)? {
+            return Err(GroupCreateError::AdditionalFieldUnsupportedError(error));
+        }
+        Ok(Group::with_choices(path, found, config))
+    }
+
+    // The group of these parts, with the choices of the configuration.
+    fn with_choices(path: NodePath, metadata: GroupMetadata, config: &Config) -> Group
+        ensures { result ≡ record {
+          path = path;
+          metadata = metadata;
+          convert_version = config.now.convert_version;
+          erase_version = config.now.erase_version;
+        } }
+    {
+        Group {
+            path,
+            metadata,
+            options: config.group_metadata_options(),
+            erase_version: config.metadata_erase_version(),
+        }
+    }
+
+    /// The path.
+    ///
+    /// Source: `zarrs::group::Group::path`.
+    pub fn path(&self) -> &NodePath
+        ensures { result.now ≡ self.now.path }
+    {
+        &self.path
+    }
+
+    /// The attributes.
+    ///
+    /// Source: `zarrs::group::Group::attributes`.
+    pub fn attributes(&self) -> &Object
+        ensures { result.now ≡ attributes_of_group self.now.metadata }
+    {
+        match &self.metadata {
+            GroupMetadata::V3(group) => &group.attributes,
+            GroupMetadata::V2(group) => &group.attributes,
+        }
+    }
+
+    /// The metadata.
+    ///
+    /// Source: `zarrs::group::Group::metadata`.
+    pub fn metadata(&self) -> &GroupMetadata
+        ensures { result.now ≡ self.now.metadata }
+    {
+        &self.metadata
+    }
+
+    /// A copy of the metadata as the options have them written: those of version 2 converted where the options say
+    /// version 3, and any others as they are.
+    ///
+    /// # Errors
+    ///
+    /// `AllocError` for want of memory alone.
+    ///
+    /// Source: `zarrs::group::Group::metadata_opt`.
+    pub fn metadata_opt(
+        &self,
+        alloc: Global,
+        options: &GroupMetadataOptions,
+    ) -> Result<GroupMetadata, AllocError>
+        ensures { IfOk result (λ metadata. metadata ≡ converted options.now self.now.metadata) }
+    {
+        match (options.metadata_convert_version(), &self.metadata) {
+            (MetadataConvertVersion::V3, GroupMetadata::V2(group)) => {
+                Ok(GroupMetadata::V3(group_metadata_v2_to_v3(alloc, group)?))
+            }
+            (_, metadata) => metadata.try_clone(alloc),
+        }
+    }
+
+    /// The group with its metadata as version 3: those of version 2 are converted, and path, attributes, options and
+    /// erase version are kept.
+    ///
+    /// Source: `zarrs::group::Group::to_v3`.
+    pub fn to_v3(self, alloc: Global) -> Group
+        ensures { result ≡ group_as_v3 self }
+    {
+        Group {
+            metadata: GroupMetadata::V3(into_v3(alloc, self.metadata)),
+            path: self.path,
+            options: self.options,
+            erase_version: self.erase_version,
+        }
+    }
+
+    /// `group at `, the path, ` with metadata ` and the metadata in the compact layout.
+    ///
+    /// # Errors
+    ///
+    /// `AllocError` for want of memory alone.
+    ///
+    /// Source: the `Display` of `zarrs::group::Group`.
+    pub fn to_text(&self, alloc: Global) -> Result<String, AllocError>
+        ensures { IfOk result (λ text. group_fault self.now.metadata ≡ None
+            → string_bytes text ≡ group_text self.now.path self.now.metadata) }
+    {
+        let path = self.path.as_str();
+        let json = metadata_text(alloc, &self.metadata)?;
+        let text = format!(in alloc; "group at {path} with metadata {json}")?;
+        Ok(text)
+    }
+
+    /// A copy that equals its source.
+    ///
+    /// # Errors
+    ///
+    /// `AllocError` for want of memory alone.
+    ///
+    /// Source: `Clone` of `zarrs::group::Group`.
+    pub fn try_clone(&self, alloc: Global) -> Result<Group, AllocError>
+        ensures { IfOk result (λ copy. copy ≡ self.now) }
+    {
+        Ok(Group {
+            path: self.path.try_clone(alloc)?,
+            metadata: self.metadata.try_clone(alloc)?,
+            options: self.options,
+            erase_version: self.erase_version,
+        })
+    }
+
+    /// Stores the metadata by the group's own options.
+    ///
+    /// # Errors
+    ///
+    /// Those of `store_metadata_opt`.
+    ///
+    /// Source: `zarrs::group::Group::store_metadata`.
+    pub fn store_metadata<S: WritableStorageTraits>(
+        &self,
+        alloc: Global,
+        storage: &mut S,
+    ) -> Result<(), StorageError>
+        ensures ok { OnOk result (S.contents storage.new
+            ≡ after (S.contents storage.old) (store_edits self.now.path (converted self.now.convert_version self.now.metadata))) }
+        ensures means { OnOk result (MeansStored (S.contents storage.new) self.now.path (converted self.now.convert_version self.now.metadata)) }
+        ensures plain { OnOk result (group_fault (converted self.now.convert_version self.now.metadata) ≡ None) }
+        ensures unchanged { group_fault (converted self.now.convert_version self.now.metadata) ≢ None → S.contents storage.new ≡ S.contents storage.old }
+        ensures err { IfErr result (RefusesStore (S.can_fail storage.old) self.now.path
+            (converted self.now.convert_version self.now.metadata) (S.contents storage.old) (S.contents storage.new)) }
+        ensures nature { S.can_fail storage.new ≡ S.can_fail storage.old }
+    {
+        self.store_metadata_opt(alloc, storage, &self.options)
+    }
+
+    /// Stores the metadata as the options have them written. All keys and bytes are made before the store is changed:
+    /// version 3 sets `zarr.json`; version 2 sets `.zattrs`, or erases it where there are no attributes, and then sets
+    /// `.zgroup`.
+    ///
+    /// # Errors
+    ///
+    /// `InvalidMetadata` with the key of the group's document, and the store unchanged, where the metadata could not have
+    /// come from a document: `UnsupportedNumber` for a number that is neither `u64` nor `i64`, else `BadMember` with the
+    /// least additional field that clashes with a name of the document's own. Besides, the store's own error and want of
+    /// memory: then the changes before the refused one stand, of its key nothing is promised, and no later key was
+    /// touched.
+    ///
+    /// Source: `zarrs::group::Group::store_metadata_opt`.
+    pub fn store_metadata_opt<S: WritableStorageTraits>(
+        &self,
+        alloc: Global,
+        storage: &mut S,
+        options: &GroupMetadataOptions,
+    ) -> Result<(), StorageError>
+        ensures ok { OnOk result (S.contents storage.new
+            ≡ after (S.contents storage.old) (store_edits self.now.path (converted options.now self.now.metadata))) }
+        ensures means { OnOk result (MeansStored (S.contents storage.new) self.now.path (converted options.now self.now.metadata)) }
+        ensures plain { OnOk result (group_fault (converted options.now self.now.metadata) ≡ None) }
+        ensures unchanged { group_fault (converted options.now self.now.metadata) ≢ None → S.contents storage.new ≡ S.contents storage.old }
+        ensures err { IfErr result (RefusesStore (S.can_fail storage.old) self.now.path
+            (converted options.now self.now.metadata) (S.contents storage.old) (S.contents storage.new)) }
+        ensures nature { S.can_fail storage.new ≡ S.can_fail storage.old }
+    {
+        let metadata = self.metadata_opt(alloc, options)?;
+        let edits = edits_to_store(alloc, &self.path, metadata)?;
+        apply_all(storage, edits.as_slice())
+    }
+
+    /// Erases the metadata by the group's own erase version.
+    ///
+    /// # Errors
+    ///
+    /// Those of `erase_metadata_opt`.
+    ///
+    /// Source: `zarrs::group::Group::erase_metadata`.
+    pub fn erase_metadata<S: WritableStorageTraits>(
+        &self,
+        alloc: Global,
+        storage: &mut S,
+    ) -> Result<(), StorageError>
+        ensures ok { OnOk result (S.contents storage.new
+            ≡ after (S.contents storage.old) (erase_edits self.now.path self.now.erase_version self.now.metadata)) }
+        ensures err { IfErr result (IsStoreError (S.can_fail storage.old)) }
+        ensures cut { OnErr result (IsCutShort (S.contents storage.old)
+            (erase_edits self.now.path self.now.erase_version self.now.metadata) (S.contents storage.new)) }
+        ensures nature { S.can_fail storage.new ≡ S.can_fail storage.old }
+    {
+        self.erase_metadata_opt(alloc, storage, self.erase_version)
+    }
+
+    /// Erases the metadata. All keys are made before the store is changed: by Default those of the version that is held;
+    /// V3 erases `zarr.json`; V2 erases `.zgroup`, then `.zattrs`; All erases `zarr.json`, `.zgroup`, `.zattrs`.
+    ///
+    /// # Errors
+    ///
+    /// The store's own error and want of memory: then the changes before the refused one stand, of its key nothing is
+    /// promised, and no later key was touched.
+    ///
+    /// Source: `zarrs::group::Group::erase_metadata_opt`.
+    pub fn erase_metadata_opt<S: WritableStorageTraits>(
+        &self,
+        alloc: Global,
+        storage: &mut S,
+        version: MetadataEraseVersion,
+    ) -> Result<(), StorageError>
+        ensures ok { OnOk result (S.contents storage.new
+            ≡ after (S.contents storage.old) (erase_edits self.now.path version self.now.metadata)) }
+        ensures err { IfErr result (IsStoreError (S.can_fail storage.old)) }
+        ensures cut { OnErr result (IsCutShort (S.contents storage.old)
+            (erase_edits self.now.path version self.now.metadata) (S.contents storage.new)) }
+        ensures nature { S.can_fail storage.new ≡ S.can_fail storage.old }
+    {
+        let edits = edits_to_erase(alloc, &self.path, &self.metadata, version)?;
+        apply_all(storage, edits.as_slice())
+    }
+}
+
+impl Group {
+    ghost use Rattle.std.specs.Borrow.{sem};
+    ghost use Rattle.zarrs_group.specs.Borrowed.{LendsAttributes};
+
+    /// The attributes, to be written.
+    ///
+    /// Source: `zarrs::group::Group::attributes_mut`.
+    pub fn attributes_mut(&mut self) -> &mut Object
+        ensures* writes_back { sem 𝓛 (LendsAttributes self.entry result) }
+        ensures value { result.now ≡ attributes_of_group self.old.metadata }
+    {
+        attributes_of_mut(&mut self.metadata)
+    }
+}
+
+ghost use Rattle.std.specs.Borrow.{sem};
+ghost use Rattle.zarrs_group.specs.BorrowedMetadata.{LendsAttributesOf};
+
+// The attributes of either version, to be written.
+fn attributes_of_mut(metadata: &mut GroupMetadata) -> &mut Object
+    ensures* writes_back { sem 𝓛 (LendsAttributesOf metadata.entry result) }
+    ensures value { result.now ≡ attributes_of_group metadata.old }
+{
+    match metadata {
+        GroupMetadata::V3(group) => &mut group.attributes,
+        GroupMetadata::V2(group) => &mut group.attributes,
+    }
+}
+
+// The metadata as version 3, by a move.
+fn into_v3(alloc: Global, metadata: GroupMetadata) -> GroupMetadataV3
+    ensures { V3 result ≡ as_v3 metadata }
+{
+    match metadata {
+        GroupMetadata::V3(group) => group,
+        GroupMetadata::V2(group) => {
+            let mut converted = GroupMetadataV3::new(alloc);
+            converted.attributes = group.attributes;
+            converted
+        }
+    }
+}
+
+// The metadata in the compact layout.
+fn metadata_text(alloc: Global, metadata: &GroupMetadata) -> Result<String, AllocError>
+    ensures { IfOk result (λ text. group_fault metadata.now ≡ None
+        → string_bytes text ≡ compact_text (group_tree metadata.now)) }
+{
+    let value = match metadata {
+        GroupMetadata::V3(group) => group.to_value(alloc)?,
+        GroupMetadata::V2(group) => group.to_value(alloc)?,
+    };
+    let text = value.to_string(alloc)?;
+    Ok(text)
+}

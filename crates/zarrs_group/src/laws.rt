@@ -1,0 +1,70 @@
+//! What holds of making, storing and erasing groups. A function here is empty, but for the one that makes the bytes of
+//! which its law speaks; its contract is the law.
+ghost use Rattle.std.specs.Prelude.{◌≡◌, None, IfErr, OnOk};
+ghost use Rattle.zarrs_group.specs.Laws.{Version3Keeps, Version3Stays, Version3Twice, PlainIsStored, ErasingAllErases, OtherKeysStay, ArraysStay, StoredMeans};
+ghost use Rattle.zarrs_group.specs.Stored.{RefusesMetadata};
+
+use crate::stored::edits_to_store;
+use std::alloc::Global;
+use zarrs_meta::GroupMetadata;
+use zarrs_path::NodePath;
+use zarrs_store::StorageError;
+
+/// As version 3 a group keeps its path, its attributes, and the versions that it is stored and erased by.
+#[tactic(auto, using(crate::proofs::Version3::keeps))]
+pub fn version_3_keeps()
+    ensures { Version3Keeps }
+{}
+
+/// A group of version 3 stays as it is.
+#[tactic(auto, using(crate::proofs::Version3::stays))]
+pub fn version_3_stays()
+    ensures { Version3Stays }
+{}
+
+/// Twice as version 3 is once.
+#[tactic(auto, using(crate::proofs::Version3::twice))]
+pub fn version_3_twice()
+    ensures { Version3Twice }
+{}
+
+/// Metadata are stored exactly where they could have come from documents.
+#[tactic(auto, using(crate::proofs::PlainLaws::plain_is_stored))]
+pub fn plain_is_stored()
+    ensures { PlainIsStored }
+{}
+
+/// Erasing with All leaves none of the three keys of the group, and every other key as it was.
+pub fn erasing_all_erases()
+    ensures { ErasingAllErases }
+{}
+
+/// Storing and erasing leave every key but the three of the group as it was, also where they are refused.
+pub fn other_keys_stay()
+    ensures { OtherKeysStay }
+{}
+
+/// The key of `.zarray` is none of the three.
+#[tactic(auto, using(crate::proofs::OtherKeys::arrays_stay))]
+pub fn arrays_stay()
+    ensures { ArraysStay }
+{}
+
+/// Where plain metadata are stored, at whatever path and over whatever store, the path means the group.
+///
+/// # Errors
+///
+/// That of a refused storing, where the bytes of the documents were not made.
+pub fn stored_means(
+    alloc: Global,
+    path: &NodePath,
+    metadata: &GroupMetadata,
+) -> Result<(), StorageError>
+    ensures ok { OnOk result (StoredMeans metadata.now) }
+    ensures err { IfErr result (RefusesMetadata path.now metadata.now) }
+{
+    let copy = metadata.try_clone(alloc)?;
+    let edits = edits_to_store(alloc, path, copy)?;
+    drop(edits);
+    Ok(())
+}

@@ -1,0 +1,19 @@
+//! Groups over a store: made from parts, opened, stored and erased by the keys of their documents.
+//! All changes of a store are made ready before the first is done.
+#![tactic(auto)]
+
+mod builder;
+mod create_error;
+mod edit;
+mod group;
+pub mod laws;
+mod layout;
+mod open;
+mod plain;
+mod stored;
+mod unsupported;
+
+pub use builder::GroupBuilder;
+pub use create_error::GroupCreateError;
+pub use group::Group;
+pub use unsupported::AdditionalFieldUnsupportedError;
