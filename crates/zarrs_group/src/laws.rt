@@ -1,5 +1,5 @@
-//! What holds of making, storing and erasing groups. A function here does nothing but make the bytes of which its law
-//! speaks, and its contract is the law.
+//! What holds of making, storing and erasing groups. A function here is empty, but for the one that makes the bytes of
+//! which its law speaks; its contract is the law.
 ghost use Rattle.std.specs.Prelude.{◌≡◌, None, IfErr, OnOk};
 ghost use Rattle.zarrs_group.specs.Laws.{Version3Keeps, Version3Stays, Version3Twice, PlainIsStored, ErasingAllErases, OtherKeysStay, ArraysStay, StoredMeans};
 ghost use Rattle.zarrs_group.specs.Stored.{RefusesMetadata};

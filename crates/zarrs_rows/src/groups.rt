@@ -48,6 +48,14 @@ fn name_of(text: &str) -> &str {
     }
 }
 
+fn is_same(found: &str, wanted: &str) -> Result<(), Fail> {
+    if found == wanted {
+        Ok(())
+    } else {
+        Err(Fail::new(format_args!("found {found} in place of {wanted}")))
+    }
+}
+
 // What a text says beyond its first words.
 fn told(text: &str) -> &str {
     for words in ["error parsing metadata for ", "group at /g with metadata "] {
@@ -62,30 +70,51 @@ fn told(text: &str) -> &str {
 
 const KEYS: [&str; 4] = ["g/zarr.json", "g/.zgroup", "g/.zattrs", "g/.zarray"];
 
-// The store with these texts at the four keys, where a text is not empty.
-fn store_of(alloc: Global, texts: [&str; 4]) -> Result<MemoryStore, Fail> {
+// The store with these texts at the four keys, where a text is not empty; nothing where memory was refused.
+fn filled(alloc: Global, texts: [&str; 4]) -> Option<MemoryStore> {
     let mut store = MemoryStore::new(alloc);
     for (key, text) in KEYS.iter().zip(texts.iter()) {
         if !text.is_empty() {
-            let key = StoreKey::new(alloc, key)?;
-            store.set(&key, text.as_bytes())?;
+            let key = StoreKey::new(alloc, key).ok()?;
+            store.set(&key, text.as_bytes()).ok()?;
         }
     }
-    Ok(store)
+    Some(store)
 }
 
-// What the store holds at the four keys, by the names of stored documents, and `-` where it holds nothing.
-fn held(alloc: Global, store: &MemoryStore) -> Result<String, Fail> {
+fn store_of(alloc: Global, texts: [&str; 4]) -> Result<MemoryStore, Fail> {
+    match filled(alloc, texts) {
+        Some(store) => Ok(store),
+        None => Err(Fail::from("no store")),
+    }
+}
+
+// What the store holds at a key, by the name of a stored document, and `-` where it holds nothing.
+fn push_seen(alloc: Global, store: &MemoryStore, key: &str, all: &mut String) -> Option<()> {
+    let key = StoreKey::new(alloc, key).ok()?;
+    match store.get(alloc, &key).ok()? {
+        Some(bytes) => all
+            .push_str(name_of(String::from_utf8(bytes).ok()?.as_str()))
+            .ok(),
+        None => all.push_str("-").ok(),
+    }
+}
+
+// What the store holds at the four keys, each with a period; nothing where memory was refused for the look.
+fn seen(alloc: Global, store: &MemoryStore) -> Option<String> {
     let mut all = String::new(alloc);
     for key in KEYS {
-        let key = StoreKey::new(alloc, key)?;
-        match store.get(alloc, &key)? {
-            Some(bytes) => all.push_str(name_of(String::from_utf8(bytes)?.as_str()))?,
-            None => all.push_str("-")?,
-        }
-        all.push_str(".")?;
+        push_seen(alloc, store, key, &mut all)?;
+        all.push_str(".").ok()?;
     }
-    Ok(all)
+    Some(all)
+}
+
+fn held(alloc: Global, store: &MemoryStore) -> Result<String, Fail> {
+    match seen(alloc, store) {
+        Some(all) => Ok(all),
+        None => Err(Fail::from("no look")),
+    }
 }
 
 // ---- groups
@@ -143,11 +172,19 @@ fn group_of(alloc: Global, given: Given, config: &Config) -> Result<Group, Fail>
     Ok(Group::new_with_metadata(alloc, "/g", metadata, config)?)
 }
 
+fn group_text(alloc: Global, group: &Group) -> Result<String, Fail> {
+    Ok(group.to_text(alloc)?)
+}
+
+fn error_text(alloc: Global, error: &GroupCreateError) -> Result<String, Fail> {
+    Ok(format!(in alloc; "{error}")?)
+}
+
 // The group in words, or the text of the refusal.
 fn said(alloc: Global, answer: Result<Group, GroupCreateError>) -> Result<String, Fail> {
     match answer {
-        Ok(group) => Ok(group.to_text(alloc)?),
-        Err(error) => Ok(format!(in alloc; "{error}")?),
+        Ok(group) => group_text(alloc, &group),
+        Err(error) => error_text(alloc, &error),
     }
 }
 
@@ -182,12 +219,43 @@ fn a_path_is_opened_by_its_first_document(rt: HostRuntime) -> Result<(), Fail> {
         ),
         (["", "", K, "{}"], "group metadata is missing"),
         (["", "[]", "", "{}"], "g/.zgroup: not an object"),
-        ([G2, G2, "", ""], "g/zarr.json: wrong zarr_format"),
         (["", G2, "[]", ""], "g/.zattrs: not an object"),
-        (["\0", "", "", ""], "g/zarr.json: not JSON"),
     ] {
         let store = store_of(alloc, texts)?;
-        assert_eq!(rt; told(opened(alloc, &store)?.as_str()), wanted);
+        is_same(told(opened(alloc, &store)?.as_str()), wanted)?;
+    }
+    Ok(())
+}
+
+// What opening a path says over a store with this document at the root.
+fn opened_at(alloc: Global, path: &str, document: &str) -> Result<String, Fail> {
+    let key = StoreKey::new(alloc, "zarr.json")?;
+    let mut store = MemoryStore::new(alloc);
+    store.set(&key, document.as_bytes())?;
+    said(alloc, Group::open(alloc, &store, path, &Config::new()))
+}
+
+#[test]
+fn the_root_is_opened(rt: HostRuntime) -> Result<(), Fail> {
+    let alloc = rt.alloc();
+    for (path, document, wanted) in [
+        ("/", "\0", "zarr.json: not JSON"),
+        ("/", G2, "zarr.json: wrong zarr_format"),
+        (
+            "/",
+            "{\"node_type\":\"array\",\"zarr_format\":3}",
+            "zarr.json: wrong node_type",
+        ),
+        ("abc", G3, "invalid node path abc"),
+        ("/group", G3, "group metadata is missing"),
+        (
+            "/",
+            G3,
+            "group at / with metadata {\"node_type\":\"group\",\"zarr_format\":3}",
+        ),
+    ] {
+        let found = opened_at(alloc, path, document)?;
+        is_same(told(found.as_str()), wanted)?;
     }
     Ok(())
 }
@@ -207,7 +275,7 @@ fn the_version_limits_what_is_looked_at(rt: HostRuntime) -> Result<(), Fail> {
     ] {
         let store = store_of(alloc, texts)?;
         let found = opened_as(alloc, &store, version)?;
-        assert_eq!(rt; told(found.as_str()), wanted);
+        is_same(told(found.as_str()), wanted)?;
     }
     Ok(())
 }
@@ -217,9 +285,13 @@ fn document(alloc: Global, members: &str) -> Result<String, Fail> {
     Ok(format!(in alloc; "{{{members},\"node_type\":\"group\",\"zarr_format\":3}}")?)
 }
 
-fn opened_with(alloc: Global, members: &str) -> Result<String, Fail> {
+fn store_with(alloc: Global, members: &str) -> Result<MemoryStore, Fail> {
     let document = document(alloc, members)?;
-    let store = store_of(alloc, [document.as_str(), "", "", ""])?;
+    store_of(alloc, [document.as_str(), "", "", ""])
+}
+
+fn opened_with(alloc: Global, members: &str) -> Result<String, Fail> {
+    let store = store_with(alloc, members)?;
     opened(alloc, &store)
 }
 
@@ -231,7 +303,7 @@ fn fields_and_attributes_are_opened(rt: HostRuntime) -> Result<(), Fail> {
         "\"a\":{\"must_understand\":false}",
     ] {
         let found = opened_with(alloc, members)?;
-        assert_eq!(rt; told(found.as_str()), document(alloc, members)?.as_str());
+        is_same(told(found.as_str()), document(alloc, members)?.as_str())?;
     }
     for (members, wanted) in [
         (
@@ -249,23 +321,29 @@ fn fields_and_attributes_are_opened(rt: HostRuntime) -> Result<(), Fail> {
         ),
     ] {
         let found = opened_with(alloc, members)?;
-        assert_eq!(rt; told(found.as_str()), wanted);
+        is_same(told(found.as_str()), wanted)?;
     }
     Ok(())
 }
 
-// The name and the value of the field that opening refuses, or `none` where it names none.
-fn field_said(alloc: Global, members: &str) -> Result<String, Fail> {
-    let document = document(alloc, members)?;
-    let store = store_of(alloc, [document.as_str(), "", "", ""])?;
-    match Group::open(alloc, &store, "/g", &Config::new()) {
-        Err(GroupCreateError::AdditionalFieldUnsupportedError(field)) => {
-            let value = field.value().to_string(alloc)?;
-            let name = field.name();
-            Ok(format!(in alloc; "{name} {value}")?)
-        }
+// The name and the value of a field.
+fn field_text(alloc: Global, field: &AdditionalFieldUnsupportedError) -> Result<String, Fail> {
+    let value = field.value().to_string(alloc)?;
+    let name = field.name();
+    Ok(format!(in alloc; "{name} {value}")?)
+}
+
+// The field that opening refuses, or `none` where it names none.
+fn field_said(alloc: Global, answer: Result<Group, GroupCreateError>) -> Result<String, Fail> {
+    match answer {
+        Err(GroupCreateError::AdditionalFieldUnsupportedError(field)) => field_text(alloc, &field),
         _ => Ok(String::from_str(alloc, "none")?),
     }
+}
+
+fn field_with(alloc: Global, members: &str) -> Result<String, Fail> {
+    let store = store_with(alloc, members)?;
+    field_said(alloc, Group::open(alloc, &store, "/g", &Config::new()))
 }
 
 #[test]
@@ -276,7 +354,7 @@ fn the_least_field_that_must_be_understood_is_named(rt: HostRuntime) -> Result<(
         ("\"b\":[2],\"a\":{\"must_understand\":false}", "b [2]"),
         ("\"a\":{\"must_understand\":false}", "none"),
     ] {
-        assert_eq!(rt; field_said(alloc, members)?.as_str(), wanted);
+        is_same(field_with(alloc, members)?.as_str(), wanted)?;
     }
     Ok(())
 }
@@ -309,6 +387,25 @@ fn done(
     }
 }
 
+// The text of a refusal and a comma, or no text.
+fn refusal(alloc: Global, answer: Result<(), StorageError>) -> Result<String, Fail> {
+    match answer {
+        Ok(()) => Ok(String::new(alloc)),
+        Err(error) => Ok(format!(in alloc; "{error}, ")?),
+    }
+}
+
+fn stepped(
+    alloc: Global,
+    store: &mut MemoryStore,
+    config: &Config,
+    given: Given,
+    step: Step,
+) -> Result<String, Fail> {
+    let group = group_of(alloc, given, config)?;
+    refusal(alloc, done(alloc, &group, store, step))
+}
+
 // What a step on a group under a configuration says, where it is refused, and then what the store holds.
 fn after(
     alloc: Global,
@@ -317,13 +414,9 @@ fn after(
     given: Given,
     step: Step,
 ) -> Result<String, Fail> {
-    let group = group_of(alloc, given, config)?;
-    let answer = done(alloc, &group, store, step);
+    let said = stepped(alloc, store, config, given, step)?;
     let held = held(alloc, store)?;
-    match answer {
-        Ok(()) => Ok(held),
-        Err(error) => Ok(format!(in alloc; "{error}, {held}")?),
-    }
+    Ok(format!(in alloc; "{said}{held}")?)
 }
 
 #[test]
@@ -357,7 +450,7 @@ fn version_2_is_stored_and_erased_key_by_key(rt: HostRuntime) -> Result<(), Fail
             (2, attributes, "{}"),
             step,
         )?;
-        assert_eq!(rt; found.as_str(), wanted);
+        is_same(found.as_str(), wanted)?;
     }
     Ok(())
 }
@@ -384,7 +477,7 @@ fn each_version_erases_its_own_keys(rt: HostRuntime) -> Result<(), Fail> {
             (version, "{}", "{}"),
             step,
         )?;
-        assert_eq!(rt; found.as_str(), wanted);
+        is_same(found.as_str(), wanted)?;
     }
     Ok(())
 }
@@ -398,7 +491,7 @@ fn a_configuration_gives_the_options(rt: HostRuntime) -> Result<(), Fail> {
     let mut store = store_of(alloc, ["", "g", "a", "x"])?;
     for (step, wanted) in [(Step::Store, "three k.g.a.x."), (Step::Erase, "-.-.-.x.")] {
         let found = after(alloc, &mut store, &config, (2, K, "{}"), step)?;
-        assert_eq!(rt; found.as_str(), wanted);
+        is_same(found.as_str(), wanted)?;
     }
     Ok(())
 }
@@ -430,7 +523,7 @@ fn what_is_not_plain_is_refused_before_any_write(rt: HostRuntime) -> Result<(), 
         ),
     ] {
         let found = after(alloc, &mut store, &Config::new(), given, Step::Store)?;
-        assert_eq!(rt; told(found.as_str()), wanted);
+        is_same(told(found.as_str()), wanted)?;
     }
     Ok(())
 }
@@ -473,7 +566,7 @@ fn a_stored_group_is_opened_again(rt: HostRuntime) -> Result<(), Fail> {
         ),
     ] {
         let found = again(alloc, given, version)?;
-        assert_eq!(rt; told(found.as_str()), wanted);
+        is_same(told(found.as_str()), wanted)?;
     }
     Ok(())
 }
@@ -491,33 +584,34 @@ fn made_at(alloc: Global, path: &str, given: Given) -> Result<String, Fail> {
 
 // What a builder of these parts makes at a path.
 fn built(alloc: Global, path: &str, attributes: &str, others: &str) -> Result<String, Fail> {
+    let attributes = members(alloc, attributes)?;
+    let others = fields(alloc, others)?;
     let mut builder = GroupBuilder::new(alloc);
-    builder.attributes(members(alloc, attributes)?);
-    builder.additional_fields(fields(alloc, others)?);
+    builder.attributes(attributes);
+    builder.additional_fields(others);
     said(alloc, builder.build(alloc, path, &Config::new()))
 }
 
-fn built_of_nothing(alloc: Global) -> Result<String, Fail> {
+fn built_of_nothing(alloc: Global, path: &str) -> Result<String, Fail> {
     let builder = GroupBuilder::new(alloc);
-    said(alloc, builder.build(alloc, "/group", &Config::new()))
+    said(alloc, builder.build(alloc, path, &Config::new()))
 }
 
 #[test]
 fn a_group_is_made_at_a_path(rt: HostRuntime) -> Result<(), Fail> {
     let alloc = rt.alloc();
+    let bad = "invalid node path abc";
     let empty = "group at /group with metadata {\"node_type\":\"group\",\"zarr_format\":3}";
+    for (path, wanted) in [("/group", empty), ("abc", bad)] {
+        let found = built_of_nothing(alloc, path)?;
+        is_same(found.as_str(), wanted)?;
+    }
     let full = "{\"attributes\":{\"k\":1},\"key\":{},\"node_type\":\"group\",\"zarr_format\":3}";
-    for (found, wanted) in [
-        (built_of_nothing(alloc)?, empty),
-        (built(alloc, "/g", K, "{\"key\":{}}")?, full),
-        (built(alloc, "abc", K, "{}")?, "invalid node path abc"),
-        (made_at(alloc, "/g", (3, K, "{\"key\":{}}"))?, full),
-        (
-            made_at(alloc, "abc", (3, "{}", "{}"))?,
-            "invalid node path abc",
-        ),
-    ] {
-        assert_eq!(rt; told(found.as_str()), wanted);
+    for (path, wanted) in [("/g", full), ("abc", bad)] {
+        let found = built(alloc, path, K, "{\"key\":{}}")?;
+        is_same(told(found.as_str()), wanted)?;
+        let found = made_at(alloc, path, (3, K, "{\"key\":{}}"))?;
+        is_same(told(found.as_str()), wanted)?;
     }
     Ok(())
 }
@@ -525,8 +619,7 @@ fn a_group_is_made_at_a_path(rt: HostRuntime) -> Result<(), Fail> {
 // ---- parts of a group
 
 // The path, the number of attributes and the version that the accessors show.
-fn shown(alloc: Global, given: Given) -> Result<String, Fail> {
-    let group = group_of(alloc, given, &Config::new())?;
+fn parts_of(alloc: Global, group: &Group) -> Result<String, Fail> {
     let path = group.path().as_str();
     let count = group.attributes().as_map().len();
     let version = match group.metadata() {
@@ -536,165 +629,196 @@ fn shown(alloc: Global, given: Given) -> Result<String, Fail> {
     Ok(format!(in alloc; "{path} {count} {version}")?)
 }
 
+fn shown(alloc: Global, given: Given) -> Result<String, Fail> {
+    let group = group_of(alloc, given, &Config::new())?;
+    parts_of(alloc, &group)
+}
+
 // The group after its attributes were written.
 fn written(alloc: Global, given: Given) -> Result<String, Fail> {
     let attributes = Object::new(members(alloc, "{\"n\":1}")?);
     let mut group = group_of(alloc, given, &Config::new())?;
     *group.attributes_mut() = attributes;
-    Ok(group.to_text(alloc)?)
+    group_text(alloc, &group)
+}
+
+fn copy_of(alloc: Global, given: Given) -> Result<Group, Fail> {
+    let group = group_of(alloc, given, &Config::new())?;
+    Ok(group.try_clone(alloc)?)
 }
 
 // A copy of the group.
 fn copied(alloc: Global, given: Given) -> Result<String, Fail> {
-    let group = group_of(alloc, given, &Config::new())?;
-    let copy = group.try_clone(alloc)?;
-    Ok(copy.to_text(alloc)?)
+    let copy = copy_of(alloc, given)?;
+    group_text(alloc, &copy)
 }
 
 // The group as version 3.
 fn as_version_3(alloc: Global, given: Given) -> Result<String, Fail> {
     let group = group_of(alloc, given, &Config::new())?.to_v3(alloc);
-    Ok(group.to_text(alloc)?)
+    group_text(alloc, &group)
 }
 
 // The metadata as the options have them written.
-fn under(alloc: Global, given: Given, version: MetadataConvertVersion) -> Result<String, Fail> {
+fn optioned(
+    alloc: Global,
+    given: Given,
+    version: MetadataConvertVersion,
+) -> Result<GroupMetadata, Fail> {
     let group = group_of(alloc, given, &Config::new())?;
     let options = GroupMetadataOptions::default().with_metadata_convert_version(version);
-    match group.metadata_opt(alloc, &options)? {
-        GroupMetadata::V3(metadata) => Ok(metadata.to_text(alloc)?),
-        GroupMetadata::V2(metadata) => Ok(metadata.to_text(alloc)?),
+    Ok(group.metadata_opt(alloc, &options)?)
+}
+
+// The group of these metadata.
+fn under(alloc: Global, given: Given, version: MetadataConvertVersion) -> Result<String, Fail> {
+    let metadata = optioned(alloc, given, version)?;
+    said(
+        alloc,
+        Group::new_with_metadata(alloc, "/g", metadata, &Config::new()),
+    )
+}
+
+// A call on a group that answers of it.
+#[derive(Clone, Copy, Drop)]
+enum Look {
+    Shown,
+    Written,
+    Copied,
+    AsVersion3,
+    Under(MetadataConvertVersion),
+}
+
+fn looked(alloc: Global, look: Look, given: Given) -> Result<String, Fail> {
+    match look {
+        Look::Shown => shown(alloc, given),
+        Look::Written => written(alloc, given),
+        Look::Copied => copied(alloc, given),
+        Look::AsVersion3 => as_version_3(alloc, given),
+        Look::Under(version) => under(alloc, given, version),
     }
 }
 
 #[test]
 fn a_group_shows_and_keeps_its_parts(rt: HostRuntime) -> Result<(), Fail> {
     let alloc = rt.alloc();
-    let old = (2, K, "{\"f\":2}");
-    let new = (3, K, "{\"f\":2}");
-    let two = "{\"attributes\":{\"k\":1},\"f\":2,\"zarr_format\":2}";
-    let three = "{\"attributes\":{\"k\":1},\"node_type\":\"group\",\"zarr_format\":3}";
-    for (found, wanted) in [
-        (shown(alloc, old)?, "/g 1 2"),
-        (shown(alloc, new)?, "/g 1 3"),
+    let old = "{\"attributes\":{\"k\":1},\"f\":2,\"zarr_format\":2}";
+    let new = "{\"attributes\":{\"k\":1},\"node_type\":\"group\",\"zarr_format\":3}";
+    for (look, wanted) in [
+        (Look::Shown, "/g 1 2"),
         (
-            written(alloc, (2, K, "{}"))?,
-            "{\"attributes\":{\"n\":1},\"zarr_format\":2}",
+            Look::Written,
+            "{\"attributes\":{\"n\":1},\"f\":2,\"zarr_format\":2}",
         ),
-        (copied(alloc, old)?, two),
-        (as_version_3(alloc, old)?, three),
-        (as_version_3(alloc, (3, K, "{}"))?, three),
-        (under(alloc, old, MetadataConvertVersion::Default)?, two),
-        (under(alloc, old, MetadataConvertVersion::V3)?, three),
+        (Look::Copied, old),
+        (Look::AsVersion3, new),
+        (Look::Under(MetadataConvertVersion::Default), old),
+        (Look::Under(MetadataConvertVersion::V3), new),
     ] {
-        assert_eq!(rt; told(found.as_str()), wanted);
+        let found = looked(alloc, look, (2, K, "{\"f\":2}"))?;
+        is_same(told(found.as_str()), wanted)?;
+    }
+    for (look, wanted) in [(Look::Shown, "/g 1 3"), (Look::AsVersion3, new)] {
+        let found = looked(alloc, look, (3, K, "{}"))?;
+        is_same(told(found.as_str()), wanted)?;
     }
     Ok(())
 }
 
 // ---- refusals
 
-fn error_said(alloc: Global, error: GroupCreateError) -> Result<String, Fail> {
-    Ok(format!(in alloc; "{error}")?)
+// The refusal of a node by its number.
+fn node_error(alloc: Global, number: u8) -> Result<NodeCreateError, Fail> {
+    match number {
+        0 => Ok(NodeCreateError::StorageError(StorageError::Fault)),
+        1 => Ok(NodeCreateError::MetadataVersionMismatch),
+        2 => Ok(NodeCreateError::MissingMetadata(String::from_str(alloc, "/a")?)),
+        3 => Ok(NodeCreateError::NodePathError(NodePathError::OutOfMemory)),
+        4 => path_error(alloc),
+        5 => prefix_error(alloc),
+        _ => Ok(NodeCreateError::OutOfMemory),
+    }
 }
 
-// The kind of the refusal that a node's becomes, and its text.
-fn from_node(alloc: Global, error: NodeCreateError) -> Result<String, Fail> {
-    let made = GroupCreateError::from_node_error(alloc, error);
-    let kind = match &made {
+fn path_error(alloc: Global) -> Result<NodeCreateError, Fail> {
+    match NodePath::new(alloc, "x") {
+        Err(error) => Ok(NodeCreateError::NodePathError(error)),
+        Ok(_) => Err(Fail::from("a path")),
+    }
+}
+
+fn prefix_error(alloc: Global) -> Result<NodeCreateError, Fail> {
+    match StorePrefix::new(alloc, "/") {
+        Err(error) => Ok(NodeCreateError::StorePrefixError(error)),
+        Ok(_) => Err(Fail::from("a prefix")),
+    }
+}
+
+// The kind of a refusal and its text.
+fn kind_and_text(alloc: Global, error: &GroupCreateError) -> Result<String, Fail> {
+    let kind = match error {
         GroupCreateError::StorageError(_) => "storage",
         GroupCreateError::OutOfMemory => "memory",
         _ => "other",
     };
-    Ok(format!(in alloc; "{kind}: {made}")?)
+    Ok(format!(in alloc; "{kind}: {error}")?)
 }
 
-fn path_error(alloc: Global) -> NodeCreateError {
-    match NodePath::new(alloc, "x") {
-        Err(error) => NodeCreateError::NodePathError(error),
-        Ok(_) => NodeCreateError::MetadataVersionMismatch,
-    }
-}
-
-fn prefix_error(alloc: Global) -> NodeCreateError {
-    match StorePrefix::new(alloc, "/") {
-        Err(error) => NodeCreateError::StorePrefixError(error),
-        Ok(_) => NodeCreateError::MetadataVersionMismatch,
-    }
-}
-
-fn missing(alloc: Global) -> Result<NodeCreateError, Fail> {
-    Ok(NodeCreateError::MissingMetadata(String::from_str(alloc, "/a")?))
+fn from_node(alloc: Global, number: u8) -> Result<String, Fail> {
+    let error = node_error(alloc, number)?;
+    kind_and_text(alloc, &GroupCreateError::from_node_error(alloc, error))
 }
 
 #[test]
 fn the_refusal_of_a_node_becomes_that_of_a_group(rt: HostRuntime) -> Result<(), Fail> {
     let alloc = rt.alloc();
-    let no_memory = NodeCreateError::NodePathError(NodePathError::OutOfMemory);
-    for (found, wanted) in [
-        (
-            from_node(alloc, NodeCreateError::StorageError(StorageError::Fault))?,
-            "storage: store fault",
-        ),
-        (
-            from_node(alloc, NodeCreateError::MetadataVersionMismatch)?,
-            "storage: Found V2 metadata in V3 key or vice-versa",
-        ),
-        (
-            from_node(alloc, missing(alloc)?)?,
-            "storage: Metadata is missing for /a",
-        ),
-        (
-            from_node(alloc, path_error(alloc))?,
-            "storage: invalid node path x",
-        ),
-        (
-            from_node(alloc, prefix_error(alloc))?,
-            "storage: invalid store prefix /",
-        ),
-        (from_node(alloc, no_memory)?, "memory: out of memory"),
-        (
-            from_node(alloc, NodeCreateError::OutOfMemory)?,
-            "memory: out of memory",
-        ),
+    for (number, wanted) in [
+        (0, "storage: store fault"),
+        (1, "storage: Found V2 metadata in V3 key or vice-versa"),
+        (2, "storage: Metadata is missing for /a"),
+        (3, "memory: out of memory"),
+        (4, "storage: invalid node path x"),
+        (5, "storage: invalid store prefix /"),
+        (6, "memory: out of memory"),
     ] {
-        assert_eq!(rt; found.as_str(), wanted);
+        let found = from_node(alloc, number)?;
+        is_same(found.as_str(), wanted)?;
     }
     Ok(())
 }
 
-fn field_error(alloc: Global) -> Result<GroupCreateError, Fail> {
-    let name = String::from_str(alloc, "a")?;
-    let field = AdditionalFieldUnsupportedError::new(name, Value::from(1u64));
-    Ok(GroupCreateError::AdditionalFieldUnsupportedError(field))
+// The refusal of a group by its number.
+fn group_error(alloc: Global, number: u8) -> Result<GroupCreateError, Fail> {
+    match number {
+        0 => {
+            let name = String::from_str(alloc, "a")?;
+            let field = AdditionalFieldUnsupportedError::new(name, Value::from(1u64));
+            Ok(GroupCreateError::AdditionalFieldUnsupportedError(field))
+        }
+        1 => Ok(GroupCreateError::MissingMetadata),
+        2 => Ok(GroupCreateError::from(AllocError)),
+        3 => Ok(GroupCreateError::from(StorageError::Fault)),
+        _ => Ok(GroupCreateError::from(NodePathError::OutOfMemory)),
+    }
+}
+
+fn error_said(alloc: Global, number: u8) -> Result<String, Fail> {
+    let error = group_error(alloc, number)?;
+    kind_and_text(alloc, &error)
 }
 
 #[test]
 fn refusals_have_their_texts(rt: HostRuntime) -> Result<(), Fail> {
     let alloc = rt.alloc();
-    for (found, wanted) in [
-        (
-            error_said(alloc, field_error(alloc)?)?,
-            "unsupported additional field a",
-        ),
-        (
-            error_said(alloc, GroupCreateError::MissingMetadata)?,
-            "group metadata is missing",
-        ),
-        (
-            error_said(alloc, GroupCreateError::from(AllocError))?,
-            "out of memory",
-        ),
-        (
-            error_said(alloc, GroupCreateError::from(StorageError::Fault))?,
-            "store fault",
-        ),
-        (
-            error_said(alloc, GroupCreateError::from(NodePathError::OutOfMemory))?,
-            "out of memory",
-        ),
+    for (number, wanted) in [
+        (0, "other: unsupported additional field a"),
+        (1, "other: group metadata is missing"),
+        (2, "memory: out of memory"),
+        (3, "storage: store fault"),
+        (4, "other: out of memory"),
     ] {
-        assert_eq!(rt; found.as_str(), wanted);
+        let found = error_said(alloc, number)?;
+        is_same(found.as_str(), wanted)?;
     }
     Ok(())
 }
@@ -717,53 +841,43 @@ fn the_laws_are_called(rt: HostRuntime) -> Result<(), Fail> {
 
 // ---- want of memory
 
-// What the store holds, or nothing where memory was refused for a look.
-fn seen(alloc: Global, store: &MemoryStore) -> Option<String> {
-    let mut all = String::new(alloc);
-    for key in KEYS {
-        let key = StoreKey::new(alloc, key).ok()?;
-        match store.get(alloc, &key).ok()? {
-            Some(bytes) => {
-                let text = String::from_utf8(bytes).ok()?;
-                all.push_str(name_of(text.as_str())).ok()?;
-            }
-            None => all.push_str("-").ok()?,
-        }
-        all.push_str(".").ok()?;
-    }
-    Some(all)
-}
-
-fn filled(alloc: Global, texts: [&str; 4]) -> Option<MemoryStore> {
-    let mut store = MemoryStore::new(alloc);
-    for (key, text) in KEYS.iter().zip(texts.iter()) {
-        if !text.is_empty() {
-            let key = StoreKey::new(alloc, key).ok()?;
-            store.set(&key, text.as_bytes()).ok()?;
-        }
-    }
-    Some(store)
-}
-
 fn old_group(alloc: Global) -> Option<Group> {
     let document = "{\"attributes\":{\"k\":1},\"zarr_format\":2}";
     let metadata = GroupMetadataV2::from_bytes(alloc, document.as_bytes()).ok()?;
     Group::new_with_metadata(alloc, "/g", GroupMetadata::V2(metadata), &Config::new()).ok()
 }
 
+// What a step says: that it was done, that memory was refused, or something else.
+#[derive(Clone, Copy, Drop)]
+enum Outcome {
+    Done,
+    LacksMemory,
+    Other,
+}
+
+fn what_came(answer: Result<(), StorageError>) -> Outcome {
+    match answer {
+        Ok(()) => Outcome::Done,
+        Err(StorageError::OutOfMemory) => Outcome::LacksMemory,
+        Err(_) => Outcome::Other,
+    }
+}
+
+fn outcome_of(alloc: Global, store: &mut MemoryStore, step: Step) -> Option<Outcome> {
+    let group = old_group(alloc)?;
+    Some(what_came(done(alloc, &group, store, step)))
+}
+
 // Whether a step of two changes has done both where it succeeds, and where memory was refused none or the first. Nothing
 // is answered where memory was refused before the step, or for a look at what it did.
 fn is_kept(alloc: Global, step: Step, first: &str, both: &str) -> Option<bool> {
     let mut store = filled(alloc, ["j", "g", "a", "x"])?;
-    let group = old_group(alloc)?;
-    let answer = done(alloc, &group, &mut store, step);
+    let outcome = outcome_of(alloc, &mut store, step)?;
     let found = seen(alloc, &store)?;
-    match answer {
-        Ok(()) => Some(found.as_str() == both),
-        Err(StorageError::OutOfMemory) => {
-            Some(found.as_str() == "j.g.a.x." || found.as_str() == first)
-        }
-        Err(_) => Some(false),
+    match outcome {
+        Outcome::Done => Some(found.as_str() == both),
+        Outcome::LacksMemory => Some(found.as_str() == "j.g.a.x." || found.as_str() == first),
+        Outcome::Other => Some(false),
     }
 }
 
