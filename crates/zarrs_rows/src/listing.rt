@@ -1,0 +1,165 @@
+//! What a listing shows, passes over and refuses.
+
+use crate::fixtures::{
+    A2, A3_SQUARE, ANY, G2, G3, THREE_LEVELS, assert_says, listed, listing_text, said,
+};
+use std::alloc::Global;
+use std::process::Abort;
+use zarrs_block::NodeCreateError;
+use zarrs_config::MetadataRetrieveVersion;
+use zarrs_node::ListedNodes;
+use zarrs_store::StorageError;
+
+// Asserts what is listed below a path of the store with these documents.
+fn assert_listed<R: Abort>(
+    rt: &R,
+    alloc: Global,
+    documents: &[(&str, &str)],
+    base: &str,
+    recursive: bool,
+    wanted: &str,
+) {
+    let found = listed(alloc, documents, base, recursive, ANY);
+    assert_says(rt, alloc, base, found, listing_text, wanted);
+}
+
+#[test]
+fn an_empty_store_has_no_nodes(rt: HostRuntime) {
+    assert_listed(&rt, rt.alloc(), &[], "/", true, "");
+}
+
+#[test]
+fn children_stand_before_a_later_sibling_whose_text_is_less(rt: HostRuntime) {
+    let documents = [
+        ("zarr.json", G3),
+        ("a/zarr.json", G3),
+        ("a/x/zarr.json", G3),
+        ("a-b/zarr.json", G3),
+    ];
+    let alloc = rt.alloc();
+    assert_listed(&rt, alloc, &documents, "/", true, "/a\n  x\n/a-b\n");
+    assert_listed(&rt, alloc, &documents, "/", false, "/a\n/a-b\n");
+}
+
+#[test]
+fn a_path_without_documents_is_passed_over_with_all_below_it(rt: HostRuntime) {
+    let documents = [
+        ("root/zarr.json", G3),
+        ("root/fakenode/content/zarr.json", "\0"),
+    ];
+    let alloc = rt.alloc();
+    let ignored = "ignored /root/fakenode\n";
+    assert_listed(&rt, alloc, &documents, "/root", true, ignored);
+    let refused = "error parsing metadata for root/fakenode/content/zarr.json: not JSON";
+    assert_listed(&rt, alloc, &documents, "/root/fakenode", true, refused);
+}
+
+#[test]
+fn a_text_that_is_no_path_refuses(rt: HostRuntime) {
+    let documents = [("zarr.json", G3)];
+    let refused = "invalid node path root";
+    assert_listed(&rt, rt.alloc(), &documents, "root", true, refused);
+}
+
+#[test]
+fn a_corrupted_document_refuses_where_it_is_come_upon(rt: HostRuntime) {
+    let documents = [
+        ("zarr.json", G3),
+        ("a/zarr.json", G3),
+        ("a/b/zarr.json", "\0"),
+    ];
+    let alloc = rt.alloc();
+    let refused = "error parsing metadata for a/b/zarr.json: not JSON";
+    assert_listed(&rt, alloc, &documents, "/", true, refused);
+    assert_listed(&rt, alloc, &documents, "/", false, "/a\n");
+}
+
+#[test]
+fn a_name_of_periods_refuses_where_it_is_come_upon(rt: HostRuntime) {
+    let documents = [("a/zarr.json", G3), ("a/../zarr.json", G3)];
+    let alloc = rt.alloc();
+    let refused = "invalid node path /a/..";
+    assert_listed(&rt, alloc, &documents, "/", true, refused);
+    assert_listed(&rt, alloc, &documents, "/", false, "/a\n");
+    let found = listed(alloc, &documents, "/", true, ANY);
+    assert!(rt; is_other(found), "another error");
+}
+
+// Whether a listing was refused by a text of its own.
+fn is_other(answer: Result<ListedNodes, NodeCreateError>) -> bool {
+    matches!(
+        &answer,
+        Err(NodeCreateError::StorageError(StorageError::Other(_)))
+    )
+}
+
+#[test]
+fn reserved_names_are_not_seen(rt: HostRuntime) {
+    let documents = [("a/zarr.json", G3), ("a/__x/zarr.json", G3)];
+    assert_listed(&rt, rt.alloc(), &documents, "/", true, "/a\n");
+}
+
+#[test]
+fn attributes_beside_an_array_are_read(rt: HostRuntime) {
+    let documents = [("a/.zarray", A2), ("a/.zattrs", "[]")];
+    let refused = "error parsing metadata for a/.zattrs: not an object";
+    assert_listed(&rt, rt.alloc(), &documents, "/", true, refused);
+}
+
+#[test]
+fn a_document_of_version_3_stands_before_those_of_version_2(rt: HostRuntime) {
+    let documents = [("a/.zarray", A2), ("a/.zattrs", "[]"), ("a/zarr.json", G3)];
+    assert_listed(&rt, rt.alloc(), &documents, "/", true, "/a\n");
+}
+
+#[test]
+fn both_versions_and_both_kinds_are_listed(rt: HostRuntime) {
+    let documents = [
+        ("zarr.json", G3),
+        ("group/zarr.json", G3),
+        ("group/subgroup/zarr.json", G3),
+        ("array/zarr.json", A3_SQUARE),
+        ("array/c/0/0", ""),
+        ("group/array/zarr.json", A3_SQUARE),
+        ("group/subgroup/mysubarray/zarr.json", A3_SQUARE),
+        ("groupv2/.zgroup", G2),
+        ("groupv2/arrayv2/.zarray", A2),
+    ];
+    for (version, wanted) in [
+        (
+            ANY,
+            "/array [10, 10] float32\n/group\n  array [10, 10] float32\n  subgroup\n    mysubarray [10, 10] float32\n/groupv2\n  arrayv2 [1] Simple(\"<f8\")\n",
+        ),
+        (
+            MetadataRetrieveVersion::V2,
+            "/groupv2\n  arrayv2 [1] Simple(\"<f8\")\nignored /array\nignored /group\n",
+        ),
+        (
+            MetadataRetrieveVersion::V3,
+            "/array [10, 10] float32\n/group\n  array [10, 10] float32\n  subgroup\n    mysubarray [10, 10] float32\nignored /groupv2\n",
+        ),
+    ] {
+        let found = listed(rt.alloc(), &documents, "/", true, version);
+        assert_says(&rt, rt.alloc(), wanted, found, listing_text, wanted);
+    }
+}
+
+// With each allocation refused in turn the listing lacks memory or is whole, and never another one.
+#[test]
+fn a_listing_without_memory_says_so(rt: HostRuntime) {
+    let alloc = rt.alloc();
+    let whole =
+        "/array [10, 10] float32\n/group\n  array [10, 10] float32\n  subgroup\n    mysubarray [10, 10] float32\n";
+    let found = listed(alloc, &THREE_LEVELS, "/", true, ANY);
+    if let Ok(text) = said(alloc, found, listing_text) {
+        assert!(rt;
+            is_one_of(text.as_str(), whole, "out of memory"),
+            "{}",
+            text.as_str()
+        );
+    }
+}
+
+fn is_one_of(text: &str, first: &str, second: &str) -> bool {
+    text == first || text == second
+}
