@@ -4,7 +4,7 @@ ghost use Rattle.std.specs.Prelude.{◌≡◌, ◌↔◌, IfOk, IfErr, IsOkUnles
 ghost use Rattle.zarrs_path.specs.Names.{IsName};
 ghost use Rattle.std.specs.declared.cmp.Ordering.TheVariants.{Equal};
 ghost use Rattle.zarrs_path.specs.Paths.{IsPathText, path_eq, path_cmp};
-ghost use Rattle.zarrs_path.specs.PathErrors.{RefusesPrefix};
+ghost use Rattle.zarrs_path.specs.PathErrors.{RefusesPrefix, RefusesJoin};
 ghost use Rattle.zarrs_path.specs.Laws.{NamesAre, TextsDiffer, EqualNames, EqualOrder, TotalOrder, HashAlike, BelowIsAfter, BelowIsTransitive, OneParent, RootAlone, ParentOfJoined, DocumentKeysDiffer, RelativeNamesRead, RelativeNamesJoined};
 
 use crate::{NodePath, NodePathError};
@@ -117,7 +117,7 @@ pub fn parent_of_joined()
 ///
 /// # Errors
 /// `NodePathError::OutOfMemory` where memory for the joined path or its parent is wanting.
-/// `NodePathError::Invalid` only where the text is no name.
+/// `NodePathError::Invalid` where a part of the text is no name, as `NodePath::join` refuses it.
 pub fn parent_of_join(
     alloc: Global,
     path: &NodePath,
@@ -125,6 +125,7 @@ pub fn parent_of_join(
 ) -> Result<Option<NodePath>, NodePathError>
     ensures ok { IsName name.now → IfOk result (λ parent. parent ≡ Some path.now) }
     ensures err { IsName name.now → IsOkUnless result NodePathError.OutOfMemory }
+    ensures refused { IfErr result (RefusesJoin name.now) }
 {
     let joined = path.join(alloc, name)?;
     joined.parent(alloc)
