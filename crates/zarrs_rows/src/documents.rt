@@ -4,7 +4,6 @@ use crate::fixtures::{A2, A2_WRITTEN, A3, G2, G3, assert_says, made, said};
 use serde_json::Value;
 use std::alloc::{AllocError, Global};
 use std::process::Abort;
-use std::test::Fail;
 use zarrs_meta::{
     ArrayMetadata, ArrayMetadataV2, ArrayMetadataV3, AttributesDocument, Document, GroupMetadata,
     GroupMetadataV2, GroupMetadataV3, NodeMetadata, ZarrJson, laws,
@@ -255,15 +254,20 @@ fn numbers_have_64_bits(rt: HostRuntime) {
     }
 }
 
+// Whether a document was refused for a number past 64 bits, by either of the two faults.
+fn is_past_64_bits<T: Drop>(read: Result<T, MetadataFault>) -> bool {
+    matches!(
+        &read,
+        Err(MetadataFault::UnsupportedNumber) | Err(MetadataFault::NotJson)
+    )
+}
+
 #[test]
-fn a_number_past_64_bits_is_refused(rt: HostRuntime) -> Result<(), Fail> {
-    let alloc = rt.alloc();
+fn a_number_past_64_bits_is_refused(rt: HostRuntime) {
     let given =
         "{\"attributes\":{\"n\":18446744073709551616},\"node_type\":\"group\",\"zarr_format\":3}";
-    let read = GroupMetadataV3::from_bytes(alloc, given.as_bytes());
-    let found = said(alloc, read, GroupMetadataV3::to_text)?;
-    assert!(rt; found.as_str() == "unsupported number" || found.as_str() == "not JSON");
-    Ok(())
+    let read = GroupMetadataV3::from_bytes(rt.alloc(), given.as_bytes());
+    assert!(rt; is_past_64_bits(read), "another answer");
 }
 
 #[test]
@@ -492,72 +496,73 @@ fn a3_with(
 // The codecs of the usual array of version 3.
 const BYTES: &str = "[{\"configuration\":{\"endian\":\"little\"},\"name\":\"bytes\"}]";
 
-#[test]
-fn data_types_are_written(rt: HostRuntime) -> Result<(), Fail> {
-    let alloc = rt.alloc();
-    for (data_type, wanted) in [
-        ("{\"name\":\"float32\"}", "\"float32\""),
-        (
-            "{\"must_understand\":false,\"name\":\"float32\"}",
-            "{\"must_understand\":false,\"name\":\"float32\"}",
-        ),
-        (
-            "{\"configuration\":{},\"name\":\"x\"}",
-            "{\"configuration\":{},\"name\":\"x\"}",
-        ),
-        (
-            "{\"configuration\":null,\"name\":\"x\",\"other\":1}",
-            "\"x\"",
-        ),
-    ] {
-        let given = a3_with(alloc, BYTES, data_type, "", "[1]")?;
-        let wanted = a3_with(alloc, BYTES, wanted, "", "[1]")?;
-        assert_reads::<_, ArrayMetadataV3>(&rt, alloc, given.as_str(), wanted.as_str());
+// Asserts what the array with these members reads as.
+fn assert_member<R: Abort>(
+    rt: &R,
+    alloc: Global,
+    codecs: &str,
+    more: &str,
+    shape: &str,
+    wanted: &str,
+) {
+    match a3_with(alloc, codecs, "\"float32\"", more, shape) {
+        Ok(given) => assert_reads::<_, ArrayMetadataV3>(rt, alloc, given.as_str(), wanted),
+        Err(_) => assert!(rt; false, "no memory"),
     }
-    Ok(())
+}
+
+// Asserts that the array with this data type and these further members is written with those.
+fn assert_written<R: Abort>(rt: &R, alloc: Global, given: (&str, &str), wanted: (&str, &str)) {
+    let written = a3_with(alloc, BYTES, wanted.0, wanted.1, "[1]");
+    let given = a3_with(alloc, BYTES, given.0, given.1, "[1]");
+    match (given, written) {
+        (Ok(given), Ok(written)) => {
+            assert_reads::<_, ArrayMetadataV3>(rt, alloc, given.as_str(), written.as_str())
+        }
+        (_, _) => assert!(rt; false, "no memory"),
+    }
 }
 
 #[test]
-fn members_of_version_3_have_their_forms(rt: HostRuntime) -> Result<(), Fail> {
+fn data_types_are_written(rt: HostRuntime) {
     let alloc = rt.alloc();
-    for (codecs, more, shape, wanted) in [
-        (BYTES, "", "[-1]", "bad member shape"),
-        ("[1]", "", "[1]", "bad member codecs"),
-        (
-            BYTES,
-            ",\"dimension_names\":[1]",
-            "[1]",
-            "bad member dimension_names",
-        ),
-        (
-            BYTES,
-            ",\"storage_transformers\":1",
-            "[1]",
-            "bad member storage_transformers",
-        ),
-        ("1", ",\"storage_transformers\":1", "1", "bad member shape"),
-    ] {
-        let given = a3_with(alloc, codecs, "\"float32\"", more, shape)?;
-        assert_reads::<_, ArrayMetadataV3>(&rt, alloc, given.as_str(), wanted);
-    }
-    Ok(())
+    let given = "{\"name\":\"float32\"}";
+    assert_written(&rt, alloc, (given, ""), ("\"float32\"", ""));
+    let given = "{\"must_understand\":false,\"name\":\"float32\"}";
+    assert_written(&rt, alloc, (given, ""), (given, ""));
+    let given = "{\"configuration\":{},\"name\":\"x\"}";
+    assert_written(&rt, alloc, (given, ""), (given, ""));
+    let given = "{\"configuration\":null,\"name\":\"x\",\"other\":1}";
+    assert_written(&rt, alloc, (given, ""), ("\"x\"", ""));
 }
 
 #[test]
-fn dimension_names_may_be_absent(rt: HostRuntime) -> Result<(), Fail> {
+fn dimension_names_may_be_absent(rt: HostRuntime) {
     let alloc = rt.alloc();
-    for (names, wanted) in [
-        (
-            ",\"dimension_names\":[\"x\",null]",
-            ",\"dimension_names\":[\"x\",null]",
-        ),
-        (",\"dimension_names\":null", ""),
-    ] {
-        let given = a3_with(alloc, BYTES, "\"float32\"", names, "[1]")?;
-        let wanted = a3_with(alloc, BYTES, "\"float32\"", wanted, "[1]")?;
-        assert_reads::<_, ArrayMetadataV3>(&rt, alloc, given.as_str(), wanted.as_str());
-    }
-    Ok(())
+    let kind = "\"float32\"";
+    let names = ",\"dimension_names\":[\"x\",null]";
+    assert_written(&rt, alloc, (kind, names), (kind, names));
+    let names = ",\"dimension_names\":null";
+    assert_written(&rt, alloc, (kind, names), (kind, ""));
+}
+
+#[test]
+fn members_of_version_3_have_their_forms(rt: HostRuntime) {
+    let alloc = rt.alloc();
+    assert_member(&rt, alloc, BYTES, "", "[-1]", "bad member shape");
+    assert_member(&rt, alloc, "[1]", "", "[1]", "bad member codecs");
+    let more = ",\"dimension_names\":[1]";
+    assert_member(&rt, alloc, BYTES, more, "[1]", "bad member dimension_names");
+    let more = ",\"storage_transformers\":1";
+    assert_member(
+        &rt,
+        alloc,
+        BYTES,
+        more,
+        "[1]",
+        "bad member storage_transformers",
+    );
+    assert_member(&rt, alloc, "1", more, "1", "bad member shape");
 }
 
 // ---- attributes, and the documents of a store
@@ -591,20 +596,22 @@ fn zarr_json_of_value(alloc: Global, text: &str) -> Result<ZarrJson, MetadataFau
     }
 }
 
+// Asserts what a document at `zarr.json` reads as, by its value and by its bytes.
+fn assert_zarr_json<R: Abort>(rt: &R, alloc: Global, given: &str, wanted: &str) {
+    let read = zarr_json_of_value(alloc, given);
+    assert_says(rt, alloc, given, read, zarr_json_text, wanted);
+    let read = ZarrJson::from_bytes(alloc, given.as_bytes());
+    assert_says(rt, alloc, given, read, zarr_json_text, wanted);
+}
+
 #[test]
 fn version_2_at_zarr_json_is_not_read_on(rt: HostRuntime) {
     let alloc = rt.alloc();
-    for (given, wanted) in [
-        ("{\"zarr_format\":2,\"node_type\":1}", "version 2"),
-        (G3, G3),
-        ("[]", "not an object"),
-        ("{}", "wrong zarr_format"),
-    ] {
-        let read = zarr_json_of_value(alloc, given);
-        assert_says(&rt, alloc, given, read, zarr_json_text, wanted);
-        let read = ZarrJson::from_bytes(alloc, given.as_bytes());
-        assert_says(&rt, alloc, given, read, zarr_json_text, wanted);
-    }
+    let given = "{\"zarr_format\":2,\"node_type\":1}";
+    assert_zarr_json(&rt, alloc, given, "version 2");
+    assert_zarr_json(&rt, alloc, G3, G3);
+    assert_zarr_json(&rt, alloc, "[]", "not an object");
+    assert_zarr_json(&rt, alloc, "{}", "wrong zarr_format");
 }
 
 #[test]

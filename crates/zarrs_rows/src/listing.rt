@@ -7,7 +7,6 @@ use std::alloc::Global;
 use std::process::Abort;
 use zarrs_block::NodeCreateError;
 use zarrs_config::MetadataRetrieveVersion;
-use zarrs_node::ListedNodes;
 use zarrs_store::StorageError;
 
 // Asserts what is listed below a path of the store with these documents.
@@ -86,7 +85,7 @@ fn a_name_of_periods_refuses_where_it_is_come_upon(rt: HostRuntime) {
 }
 
 // Whether a listing was refused by a text of its own.
-fn is_other(answer: Result<ListedNodes, NodeCreateError>) -> bool {
+fn is_other<T: Drop>(answer: Result<T, NodeCreateError>) -> bool {
     matches!(
         &answer,
         Err(NodeCreateError::StorageError(StorageError::Other(_)))
@@ -112,36 +111,44 @@ fn a_document_of_version_3_stands_before_those_of_version_2(rt: HostRuntime) {
     assert_listed(&rt, rt.alloc(), &documents, "/", true, "/a\n");
 }
 
+// Groups and arrays of both versions, with a chunk.
+const BOTH_VERSIONS: [(&str, &str); 9] = [
+    ("zarr.json", G3),
+    ("group/zarr.json", G3),
+    ("group/subgroup/zarr.json", G3),
+    ("array/zarr.json", A3_SQUARE),
+    ("array/c/0/0", ""),
+    ("group/array/zarr.json", A3_SQUARE),
+    ("group/subgroup/mysubarray/zarr.json", A3_SQUARE),
+    ("groupv2/.zgroup", G2),
+    ("groupv2/arrayv2/.zarray", A2),
+];
+
+// Asserts what is listed of both versions by this one.
+fn assert_listed_by<R: Abort>(
+    rt: &R,
+    alloc: Global,
+    version: MetadataRetrieveVersion,
+    wanted: &str,
+) {
+    let found = listed(alloc, &BOTH_VERSIONS, "/", true, version);
+    assert_says(rt, alloc, "by a version", found, listing_text, wanted);
+}
+
 #[test]
 fn both_versions_and_both_kinds_are_listed(rt: HostRuntime) {
-    let documents = [
-        ("zarr.json", G3),
-        ("group/zarr.json", G3),
-        ("group/subgroup/zarr.json", G3),
-        ("array/zarr.json", A3_SQUARE),
-        ("array/c/0/0", ""),
-        ("group/array/zarr.json", A3_SQUARE),
-        ("group/subgroup/mysubarray/zarr.json", A3_SQUARE),
-        ("groupv2/.zgroup", G2),
-        ("groupv2/arrayv2/.zarray", A2),
-    ];
-    for (version, wanted) in [
-        (
-            ANY,
-            "/array [10, 10] float32\n/group\n  array [10, 10] float32\n  subgroup\n    mysubarray [10, 10] float32\n/groupv2\n  arrayv2 [1] Simple(\"<f8\")\n",
-        ),
-        (
-            MetadataRetrieveVersion::V2,
-            "/groupv2\n  arrayv2 [1] Simple(\"<f8\")\nignored /array\nignored /group\n",
-        ),
-        (
-            MetadataRetrieveVersion::V3,
-            "/array [10, 10] float32\n/group\n  array [10, 10] float32\n  subgroup\n    mysubarray [10, 10] float32\nignored /groupv2\n",
-        ),
-    ] {
-        let found = listed(rt.alloc(), &documents, "/", true, version);
-        assert_says(&rt, rt.alloc(), wanted, found, listing_text, wanted);
-    }
+    let wanted =
+        "/array [10, 10] float32\n/group\n  array [10, 10] float32\n  subgroup\n    mysubarray [10, 10] float32\n/groupv2\n  arrayv2 [1] Simple(\"<f8\")\n";
+    assert_listed_by(&rt, rt.alloc(), ANY, wanted);
+}
+
+#[test]
+fn a_version_limits_what_is_listed(rt: HostRuntime) {
+    let wanted = "/groupv2\n  arrayv2 [1] Simple(\"<f8\")\nignored /array\nignored /group\n";
+    assert_listed_by(&rt, rt.alloc(), MetadataRetrieveVersion::V2, wanted);
+    let wanted =
+        "/array [10, 10] float32\n/group\n  array [10, 10] float32\n  subgroup\n    mysubarray [10, 10] float32\nignored /groupv2\n";
+    assert_listed_by(&rt, rt.alloc(), MetadataRetrieveVersion::V3, wanted);
 }
 
 // With each allocation refused in turn the listing lacks memory or is whole, and never another one.

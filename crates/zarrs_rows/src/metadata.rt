@@ -60,28 +60,49 @@ fn a_stored_array_is_read(rt: HostRuntime) {
 #[test]
 fn version_2_at_the_key_of_version_3_is_a_mismatch(rt: HostRuntime) {
     let documents = [("zarr.json", G2)];
-    for (version, wanted) in [
-        (ANY, "Found V2 metadata in V3 key or vice-versa"),
-        (
-            MetadataRetrieveVersion::V3,
-            "Found V2 metadata in V3 key or vice-versa",
-        ),
-        (MetadataRetrieveVersion::V2, "Metadata is missing for /"),
-    ] {
-        assert_means(&rt, rt.alloc(), &documents, "/", version, wanted);
-    }
+    let alloc = rt.alloc();
+    let mismatch = "Found V2 metadata in V3 key or vice-versa";
+    let missing = "Metadata is missing for /";
+    assert_means(&rt, alloc, &documents, "/", ANY, mismatch);
+    assert_means(
+        &rt,
+        alloc,
+        &documents,
+        "/",
+        MetadataRetrieveVersion::V3,
+        mismatch,
+    );
+    assert_means(
+        &rt,
+        alloc,
+        &documents,
+        "/",
+        MetadataRetrieveVersion::V2,
+        missing,
+    );
 }
 
 #[test]
 fn a_version_limits_which_keys_are_read(rt: HostRuntime) {
     let documents = [("g/zarr.json", G3), ("g/.zgroup", G2)];
-    for (version, wanted) in [
-        (ANY, G3),
-        (MetadataRetrieveVersion::V3, G3),
-        (MetadataRetrieveVersion::V2, G2),
-    ] {
-        assert_means(&rt, rt.alloc(), &documents, "/g", version, wanted);
-    }
+    let alloc = rt.alloc();
+    assert_means(&rt, alloc, &documents, "/g", ANY, G3);
+    assert_means(
+        &rt,
+        alloc,
+        &documents,
+        "/g",
+        MetadataRetrieveVersion::V3,
+        G3,
+    );
+    assert_means(
+        &rt,
+        alloc,
+        &documents,
+        "/g",
+        MetadataRetrieveVersion::V2,
+        G2,
+    );
 }
 
 #[test]
@@ -106,36 +127,28 @@ fn a_node_exists_where_one_of_its_documents_is(rt: HostRuntime) {
         ("d/.zgroup", ""),
         ("e/zarr.json/x", ""),
     ];
-    let alloc = rt.alloc();
     for (path, wanted) in [
-        ("/a", "false"),
-        ("/b", "true"),
-        ("/c", "true"),
-        ("/d", "true"),
-        ("/e", "false"),
-        ("/", "false"),
+        ("/a", "false false"),
+        ("/b", "true true"),
+        ("/c", "true true"),
+        ("/d", "true true"),
+        ("/e", "false false"),
+        ("/", "false false"),
     ] {
-        let found = exists(alloc, &documents, path);
-        assert_says(&rt, alloc, path, found, printed, wanted);
-        let found = exists_listable(alloc, &documents, path);
-        assert_says(&rt, alloc, path, found, printed, wanted);
+        let found = existence(rt.alloc(), &documents, path);
+        assert_says(&rt, rt.alloc(), path, found, printed, wanted);
     }
 }
 
-// Whether a node is there, by the keys of its documents.
-fn exists(alloc: Global, documents: &[(&str, &str)], path: &str) -> Result<bool, NodeCreateError> {
-    let path = NodePath::new(alloc, path)?;
-    let store = store_of(alloc, documents)?;
-    Ok(node_exists(alloc, &store, &path)?)
-}
-
-// Whether a node is there, by the keys of its folder.
-fn exists_listable(
+// Whether a node is there, by the keys of its documents and by the keys of its folder.
+fn existence(
     alloc: Global,
     documents: &[(&str, &str)],
     path: &str,
-) -> Result<bool, NodeCreateError> {
+) -> Result<String, NodeCreateError> {
     let path = NodePath::new(alloc, path)?;
     let store = store_of(alloc, documents)?;
-    Ok(node_exists_listable(alloc, &store, &path)?)
+    let by_key = node_exists(alloc, &store, &path)?;
+    let by_folder = node_exists_listable(alloc, &store, &path)?;
+    Ok(format!(in alloc; "{by_key} {by_folder}")?)
 }

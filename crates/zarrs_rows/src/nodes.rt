@@ -5,6 +5,7 @@ use crate::fixtures::{
 };
 use log::sink::{Discard, Writer};
 use std::alloc::{AllocError, Global};
+use std::process::Abort;
 use zarrs_block::NodeCreateError;
 use zarrs_config::MetadataRetrieveVersion;
 use zarrs_meta::{GroupMetadata, GroupMetadataV3, NodeMetadata};
@@ -55,21 +56,28 @@ fn children_of_root(
     get_child_nodes_opt(&Discard, alloc, &store, &root, false, &version)
 }
 
-#[test]
-fn children_by_version(rt: HostRuntime) {
+// Asserts the children of the root by this version.
+fn assert_children<R: Abort>(
+    rt: &R,
+    alloc: Global,
+    version: MetadataRetrieveVersion,
+    wanted: &str,
+) {
     let documents = [
         ("g/zarr.json", G3),
         ("g/a/zarr.json", G3),
         ("old/.zgroup", G2),
     ];
-    for (version, wanted) in [
-        (ANY, "/g\n/old\n"),
-        (MetadataRetrieveVersion::V3, "/g\n"),
-        (MetadataRetrieveVersion::V2, "/old\n"),
-    ] {
-        let nodes = children_of_root(rt.alloc(), &documents, version);
-        assert_says(&rt, rt.alloc(), wanted, nodes, forest_text, wanted);
-    }
+    let nodes = children_of_root(alloc, &documents, version);
+    assert_says(rt, alloc, wanted, nodes, forest_text, wanted);
+}
+
+#[test]
+fn children_by_version(rt: HostRuntime) {
+    let alloc = rt.alloc();
+    assert_children(&rt, alloc, ANY, "/g\n/old\n");
+    assert_children(&rt, alloc, MetadataRetrieveVersion::V3, "/g\n");
+    assert_children(&rt, alloc, MetadataRetrieveVersion::V2, "/old\n");
 }
 
 // All pairs below the root of a store.
@@ -217,24 +225,25 @@ fn the_root_has_the_empty_name(rt: HostRuntime) {
     assert_says(&rt, alloc, "root", leaf(alloc, "/"), node_text, wanted);
 }
 
-#[test]
-fn placed_children_are_one_name_below(rt: HostRuntime) {
-    let alloc = rt.alloc();
-    for (parent, child, wanted) in [
-        ("/", "/a", "true"),
-        ("/g", "/g/a", "true"),
-        ("/g", "/gx/a", "false"),
-        ("/g", "/g/a/b", "false"),
-        ("/g", "/g", "false"),
-    ] {
-        let node = with_child(alloc, parent, child);
-        assert_says(&rt, alloc, child, node, placed_text, wanted);
-    }
-}
-
 // Whether a node's children are placed.
 fn placed_text(node: &Node, alloc: Global) -> Result<String, AllocError> {
     printed(&node.has_placed_children(), alloc)
+}
+
+// Asserts whether a child of this path is placed below a parent of that one.
+fn assert_placed<R: Abort>(rt: &R, alloc: Global, parent: &str, child: &str, wanted: &str) {
+    let node = with_child(alloc, parent, child);
+    assert_says(rt, alloc, child, node, placed_text, wanted);
+}
+
+#[test]
+fn placed_children_are_one_name_below(rt: HostRuntime) {
+    let alloc = rt.alloc();
+    assert_placed(&rt, alloc, "/", "/a", "true");
+    assert_placed(&rt, alloc, "/g", "/g/a", "true");
+    assert_placed(&rt, alloc, "/g", "/gx/a", "false");
+    assert_placed(&rt, alloc, "/g", "/g/a/b", "false");
+    assert_placed(&rt, alloc, "/g", "/g", "false");
 }
 
 #[test]

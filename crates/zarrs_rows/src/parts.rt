@@ -3,6 +3,7 @@
 use crate::fixtures::{A2, A3, assert_says, made, printed, said};
 use serde_json::{Map, Value};
 use std::alloc::{AllocError, Global};
+use std::process::Abort;
 use std::test::Fail;
 use zarrs_meta::{
     AdditionalFieldV3, AdditionalFieldsV3, ArrayMetadataV2, ArrayMetadataV3, DataTypeMetadataV2,
@@ -135,28 +136,23 @@ fn field_clone(field: &AdditionalFieldV3, alloc: Global) -> Result<String, Alloc
     said(alloc, field.clone(), field_text)
 }
 
+// Asserts what a new field holds, by its copy and by its clone.
+fn assert_field<R: Abort>(rt: &R, alloc: Global, given: &str, understood: bool, wanted: &str) {
+    let field = AdditionalFieldV3::new(alloc, value_of(alloc, given), understood);
+    assert_says(rt, alloc, given, field, field_copy, wanted);
+    let field = AdditionalFieldV3::new(alloc, value_of(alloc, given), understood);
+    assert_says(rt, alloc, given, field, field_clone, wanted);
+}
+
 #[test]
 fn fields_say_whether_they_must_be_understood(rt: HostRuntime) {
     let alloc = rt.alloc();
-    for (given, understood, wanted) in [
-        (
-            "{\"a\":1,\"must_understand\":false}",
-            true,
-            "{\"a\":1} true",
-        ),
-        (
-            "{\"a\":1}",
-            false,
-            "{\"a\":1,\"must_understand\":false} false",
-        ),
-        ("5", false, "5 true"),
-        ("5", true, "5 true"),
-    ] {
-        let field = AdditionalFieldV3::new(alloc, value_of(alloc, given), understood);
-        assert_says(&rt, alloc, given, field, field_copy, wanted);
-        let field = AdditionalFieldV3::new(alloc, value_of(alloc, given), understood);
-        assert_says(&rt, alloc, given, field, field_clone, wanted);
-    }
+    let given = "{\"a\":1,\"must_understand\":false}";
+    assert_field(&rt, alloc, given, true, "{\"a\":1} true");
+    let wanted = "{\"a\":1,\"must_understand\":false} false";
+    assert_field(&rt, alloc, "{\"a\":1}", false, wanted);
+    assert_field(&rt, alloc, "5", false, "5 true");
+    assert_field(&rt, alloc, "5", true, "5 true");
 }
 
 // One field, of this name and value.
