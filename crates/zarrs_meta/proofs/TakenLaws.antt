@@ -1,5 +1,5 @@
 -- What is taken out of a document member by member is what the document means.
-use Rattle.std.proofs.Common.{◌≡◌, ℕ, List, [], ◌∷◌, Bool, true, false, ◌||◌, if◌then◌else◌, bytes_eq, codes, Option, None, Result, Ok, refl, ap, sym, ◌∙◌}
+use Rattle.std.proofs.Common.{◌≡◌, ℕ, List, [], ◌∷◌, ◌++◌, Bool, true, false, ◌||◌, if◌then◌else◌, bytes_eq, codes, Option, None, Result, Ok, refl, ap, sym, ◌∙◌}
 use Rattle.std.proofs.Math.Bool.{or-false}
 use Rattle.serde_json.specs.Data.{Data, object, Members, no_members, member}
 use Rattle.serde_json.specs.Find.{get_member, as_object, as_str}
@@ -14,7 +14,7 @@ use Rattle.zarrs_meta.specs.ArrayV2.{array_v2_of}
 use Rattle.zarrs_meta.specs.ArrayV3 as array_v3
 use Rattle.zarrs_meta.specs.ArrayV3.{array_v3_of}
 use Rattle.zarrs_meta.specs.FormsV2.{codec, data_type, order, separator, chunk_lengths}
-use Rattle.zarrs_meta.specs.Taken.{besides_null, group_v3_taken, group_v2_taken, array_v3_taken, array_v2_taken}
+use Rattle.zarrs_meta.specs.Taken.{besides_null, node_names, group_v3_taken, group_v2_taken, array_v3_taken, array_v2_taken}
 use Rattle.zarrs_meta.proofs.MemberLaws.{neither, get_besides}
 use Rattle.zarrs_store.specs.declared.fault.MetadataFault.{MetadataFault}
 use Rattle.zarrs_meta.specs.declared.array_v3.ArrayMetadataV3.{ArrayMetadataV3}
@@ -56,6 +56,28 @@ pub left_besides : (names : List (List ℕ)) (ms : Members) → left names ms �
 left_besides [] ms = besides_none ms
 left_besides (n ∷ names) ms = left_besides names (besides (n ∷ []) ms) ∙ besides_more n names ms
 
+or_assoc : (a b c : Bool) → (a || (b || c)) ≡ ((a || b) || c)
+or_assoc true b c = refl
+or_assoc false b c = refl
+
+-- a name is one of two lists of names where it is one of either
+is_own_both : (names more : List (List ℕ)) (l : List ℕ) → is_own (names ++ more) l ≡ (is_own names l || is_own more l)
+is_own_both [] more l = refl
+is_own_both (n ∷ names) more l = ap (λ b. bytes_eq n l || b) (is_own_both names more l) ∙ or_assoc (bytes_eq n l) (is_own names l) (is_own more l)
+
+besides_both_at : (a b : Bool) (names : List (List ℕ)) (l : List ℕ) (e : Data) (ns os : Members) → is_own names l ≡ a → besides names ns ≡ os
+    → besides names (if b then ns else member l e ns) ≡ (if a || b then os else member l e os)
+besides_both_at true true names l e ns os own later = later
+besides_both_at true false names l e ns os own later = rw own later
+besides_both_at false true names l e ns os own later = later
+besides_both_at false false names l e ns os own later = rw own (ap (member l e) later)
+
+-- the members besides two lists of names
+besides_both : (names more : List (List ℕ)) (ms : Members) → besides names (besides more ms) ≡ besides (names ++ more) ms
+besides_both names more no_members = refl
+besides_both names more (member l e ms) =
+    rw (is_own_both names more l) (besides_both_at (is_own names l) (is_own more l) names l e (besides more ms) (besides (names ++ more) ms) refl (besides_both names more ms))
+
 -- ---- the version 3 array
 
 -- the array whose members were found
@@ -83,32 +105,32 @@ array_v3_found found_1 found_2 found_3 found_4 found_5 found_6 found_7 found_8 f
     additional_fields = fields;
   })
 
--- what is taken out of the members beside `zarr_format` and `node_type` is what the document means
-pub array_v3_taken_is : (ms : Members) → document_of (object ms) ≡ Ok ms → format_of 3 (object ms) ≡ Ok tt → node_type_of (codes "array") (object ms) ≡ Ok tt
-    → array_v3_of (object ms) ≡ array_v3_taken (besides (codes "node_type" ∷ []) (besides (codes "zarr_format" ∷ []) ms))
+-- what is taken out of the members is what the document means
+pub array_v3_taken_is : (ms : Members) → document_of (object ms) ≡ Ok ms → format_of 3 (object ms) ≡ Ok tt → node_type_of (codes "array") (object ms) ≡ Ok tt → array_v3_of (object ms) ≡ array_v3_taken ms
 unfolding array_v3_of array_v3_taken
 array_v3_taken_is ms is_document is_3 is_array =
-    let names_2 = codes "zarr_format" ∷ codes "node_type" ∷ [] in
-    let names_3 = codes "zarr_format" ∷ codes "node_type" ∷ codes "shape" ∷ [] in
-    let names_4 = codes "zarr_format" ∷ codes "node_type" ∷ codes "shape" ∷ codes "data_type" ∷ [] in
-    let names_5 = codes "zarr_format" ∷ codes "node_type" ∷ codes "shape" ∷ codes "data_type" ∷ codes "chunk_grid" ∷ [] in
-    let names_6 = codes "zarr_format" ∷ codes "node_type" ∷ codes "shape" ∷ codes "data_type" ∷ codes "chunk_grid" ∷ codes "chunk_key_encoding" ∷ [] in
-    let names_7 = codes "zarr_format" ∷ codes "node_type" ∷ codes "shape" ∷ codes "data_type" ∷ codes "chunk_grid" ∷ codes "chunk_key_encoding" ∷ codes "fill_value" ∷ [] in
-    let names_8 = codes "zarr_format" ∷ codes "node_type" ∷ codes "shape" ∷ codes "data_type" ∷ codes "chunk_grid" ∷ codes "chunk_key_encoding" ∷ codes "fill_value" ∷ codes "codecs" ∷ [] in
-    let names_9 = codes "zarr_format" ∷ codes "node_type" ∷ codes "shape" ∷ codes "data_type" ∷ codes "chunk_grid" ∷ codes "chunk_key_encoding" ∷ codes "fill_value" ∷ codes "codecs" ∷ codes "attributes" ∷ [] in
-    let names_10 = codes "zarr_format" ∷ codes "node_type" ∷ codes "shape" ∷ codes "data_type" ∷ codes "chunk_grid" ∷ codes "chunk_key_encoding" ∷ codes "fill_value" ∷ codes "codecs" ∷ codes "attributes" ∷ codes "storage_transformers" ∷ [] in
+    let names_1 = codes "shape" ∷ [] in
+    let names_2 = codes "shape" ∷ codes "data_type" ∷ [] in
+    let names_3 = codes "shape" ∷ codes "data_type" ∷ codes "chunk_grid" ∷ [] in
+    let names_4 = codes "shape" ∷ codes "data_type" ∷ codes "chunk_grid" ∷ codes "chunk_key_encoding" ∷ [] in
+    let names_5 = codes "shape" ∷ codes "data_type" ∷ codes "chunk_grid" ∷ codes "chunk_key_encoding" ∷ codes "fill_value" ∷ [] in
+    let names_6 = codes "shape" ∷ codes "data_type" ∷ codes "chunk_grid" ∷ codes "chunk_key_encoding" ∷ codes "fill_value" ∷ codes "codecs" ∷ [] in
+    let names_7 = codes "shape" ∷ codes "data_type" ∷ codes "chunk_grid" ∷ codes "chunk_key_encoding" ∷ codes "fill_value" ∷ codes "codecs" ∷ codes "attributes" ∷ [] in
+    let names_8 = codes "shape" ∷ codes "data_type" ∷ codes "chunk_grid" ∷ codes "chunk_key_encoding" ∷ codes "fill_value" ∷ codes "codecs" ∷ codes "attributes" ∷ codes "storage_transformers" ∷ [] in
+    let names_9 = codes "shape" ∷ codes "data_type" ∷ codes "chunk_grid" ∷ codes "chunk_key_encoding" ∷ codes "fill_value" ∷ codes "codecs" ∷ codes "attributes" ∷ codes "storage_transformers" ∷ codes "dimension_names" ∷ [] in
     let found = λ (names : List (List ℕ)) (name : List ℕ) (other : is_own names name ≡ false). sym (get_left names name ms other) in
+    let fields = sym (besides_both node_names names_9 ms) ∙ ap (besides node_names) (sym (left_besides names_9 ms)) in
     rw (is_document, is_3, is_array) (λ i. array_v3_found
-    (found names_2 (codes "shape") refl i)
-    (found names_3 (codes "data_type") refl i)
-    (found names_4 (codes "chunk_grid") refl i)
-    (found names_5 (codes "chunk_key_encoding") refl i)
-    (found names_6 (codes "fill_value") refl i)
-    (found names_7 (codes "codecs") refl i)
-    (found names_8 (codes "attributes") refl i)
-    (found names_9 (codes "storage_transformers") refl i)
-    (found names_10 (codes "dimension_names") refl i)
-    (sym (left_besides array_v3.own_names ms) i))
+    (get_member (codes "shape") ms)
+    (found names_1 (codes "data_type") refl i)
+    (found names_2 (codes "chunk_grid") refl i)
+    (found names_3 (codes "chunk_key_encoding") refl i)
+    (found names_4 (codes "fill_value") refl i)
+    (found names_5 (codes "codecs") refl i)
+    (found names_6 (codes "attributes") refl i)
+    (found names_7 (codes "storage_transformers") refl i)
+    (found names_8 (codes "dimension_names") refl i)
+    (fields i))
 
 -- ---- the version 2 array
 
@@ -174,24 +196,25 @@ group_v3_found found fields = optional_from (codes "attributes") no_members as_o
 abbrev group_v2_found : (attributes : Option Data) (fields : Members) → Result GroupMetadataV2 MetadataFault
 group_v2_found found fields = optional_from (codes "attributes") no_members as_object found >>= λ attributes. Ok (record { attributes = attributes; additional_fields = fields })
 
--- the names that a version 3 group reads, with a null `consolidated_metadata`
+-- the names that a version 3 group takes, with a null `consolidated_metadata`
 abbrev null_names : List (List ℕ)
-null_names = codes "zarr_format" ∷ codes "node_type" ∷ codes "attributes" ∷ codes "consolidated_metadata" ∷ []
+null_names = codes "attributes" ∷ codes "consolidated_metadata" ∷ []
 
-read_besides : (b : Bool) (ms : Members) → besides (if b then null_names else group_v3.own_names) ms ≡ (if b then left null_names ms else left group_v3.own_names ms)
-read_besides true ms = sym (left_besides null_names ms)
-read_besides false ms = sym (left_besides group_v3.own_names ms)
+abbrev other_names : List (List ℕ)
+other_names = codes "attributes" ∷ []
 
--- what is taken out of the members beside `zarr_format` and `node_type` is what the document means
-pub group_v3_taken_is : (ms : Members) → document_of (object ms) ≡ Ok ms → format_of 3 (object ms) ≡ Ok tt → node_type_of (codes "group") (object ms) ≡ Ok tt
-    → group_v3_of (object ms) ≡ group_v3_taken (besides (codes "node_type" ∷ []) (besides (codes "zarr_format" ∷ []) ms))
+read_besides : (b : Bool) (ms : Members) → besides (if b then node_names ++ null_names else node_names ++ other_names) ms ≡ besides node_names (if b then left null_names ms else left other_names ms)
+read_besides true ms = sym (besides_both node_names null_names ms) ∙ ap (besides node_names) (sym (left_besides null_names ms))
+read_besides false ms = sym (besides_both node_names other_names ms) ∙ ap (besides node_names) (sym (left_besides other_names ms))
+
+-- what is taken out of the members is what the document means
+pub group_v3_taken_is : (ms : Members) → document_of (object ms) ≡ Ok ms → format_of 3 (object ms) ≡ Ok tt → node_type_of (codes "group") (object ms) ≡ Ok tt → group_v3_of (object ms) ≡ group_v3_taken ms
 unfolding group_v3_of group_v3_taken
 group_v3_taken_is ms is_document is_3 is_group =
-    let found = sym (get_left (codes "zarr_format" ∷ codes "node_type" ∷ []) (codes "attributes") ms refl) in
-    let null = sym (get_left group_v3.own_names (codes "consolidated_metadata") ms refl) in
+    let null = sym (get_left other_names (codes "consolidated_metadata") ms refl) in
     let fields = read_besides (is_null (get_member (codes "consolidated_metadata") ms)) ms
-    ∙ ap (λ o. if is_null o then left null_names ms else left group_v3.own_names ms) null in
-    rw (is_document, is_3, is_group) (λ i. group_v3_found (found i) (fields i))
+    ∙ ap (λ o. besides node_names (if is_null o then left null_names ms else left other_names ms)) null in
+    rw (is_document, is_3, is_group) (λ i. group_v3_found (get_member (codes "attributes") ms) (fields i))
 
 -- what is taken out of the members beside `zarr_format` and `shape` is what the document means
 pub group_v2_taken_is : (ms : Members) → document_of (object ms) ≡ Ok ms → format_of 2 (object ms) ≡ Ok tt → absent (codes "shape") (object ms) ≡ Ok tt

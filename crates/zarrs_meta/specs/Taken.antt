@@ -1,4 +1,4 @@
--- Zarr core specification 3.1, "Group metadata" and "Array metadata", and specification version 2, "Groups" and "Arrays": how a reader takes the members of the table out of a document one after the other, once `zarr_format`, `node_type` and a `shape` that must be absent are no longer among them.
+-- Zarr core specification 3.1, "Group metadata" and "Array metadata", and specification version 2, "Groups" and "Arrays": how a reader takes the members of the table out of a document one after the other.
 use Rattle.std.specs.Prelude.{ℕ, List, [], ◌∷◌, if◌then◌else◌, None, Result, Ok, codes}
 use Rattle.serde_json.specs.Data.{object, Members, no_members}
 use Rattle.serde_json.specs.Find.{get_member, as_object, as_str}
@@ -16,13 +16,17 @@ use Rattle.zarrs_meta.specs.declared.chunks.ChunkKeySeparator.TheVariants.{Dot}
 abbrev pub besides_null : List ℕ → Members → Members
 besides_null name ms = if is_null (get_member name ms) then besides (name ∷ []) ms else ms
 
+-- what a version 3 document asks of each node
+abbrev pub node_names : List (List ℕ)
+node_names = codes "zarr_format" ∷ codes "node_type" ∷ []
+
 -- a version 3 group: a null `consolidated_metadata` counts as absent
 unfoldable pub group_v3_taken : Members → Result GroupMetadataV3 MetadataFault
 group_v3_taken ms =
     optional (codes "attributes") no_members as_object (object ms) >>= λ attributes.
-    Ok (record { attributes = attributes; additional_fields = besides_null (codes "consolidated_metadata") (besides (codes "attributes" ∷ []) ms) })
+    Ok (record { attributes = attributes; additional_fields = besides node_names (besides_null (codes "consolidated_metadata") (besides (codes "attributes" ∷ []) ms)) })
 
--- a version 2 group
+-- a version 2 group, once `zarr_format` and a `shape`, which must be absent, are not among the members
 unfoldable pub group_v2_taken : Members → Result GroupMetadataV2 MetadataFault
 group_v2_taken ms =
     optional (codes "attributes") no_members as_object (object ms) >>= λ attributes.
@@ -58,10 +62,10 @@ array_v3_taken ms =
       attributes = attributes;
       storage_transformers = storage_transformers;
       dimension_names = dimension_names;
-      additional_fields = besides (codes "dimension_names" ∷ []) ms8;
+      additional_fields = besides node_names (besides (codes "dimension_names" ∷ []) ms8);
     })
 
--- a version 2 array, likewise
+-- a version 2 array, once `zarr_format` is not among the members
 unfoldable pub array_v2_taken : Members → Result ArrayMetadataV2 MetadataFault
 array_v2_taken ms =
     required (codes "shape") (list_of number_u64) (object ms) >>= λ shape.

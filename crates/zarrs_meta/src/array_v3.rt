@@ -14,9 +14,7 @@ use crate::fields::{
     AdditionalFieldsV3, fields_have_float, fields_of, has_own_name, members_of_fields,
 };
 use crate::form::{Form, attributes, optional, put_member, put_unless, required};
-use crate::members::{
-    ask_format, ask_node_type, document, document_copy, parse, put_text, take_member,
-};
+use crate::members::{ask_format, ask_node_type, document, document_copy, parse, put_text};
 use crate::shapes::{FillValueMetadata, List, Object, Text};
 use serde_json::{Map, Value, put};
 use std::alloc::{AllocError, Global};
@@ -86,15 +84,13 @@ impl ArrayMetadataV3 {
     #[tactic(auto, unfolding(crate::specs::ArrayV3::array_v3_of))]
     pub(crate) fn from_members(
         alloc: Global,
-        mut members: Map<String, Value>,
+        members: Map<String, Value>,
     ) -> Result<ArrayMetadataV3, MetadataFault>
         requires { document_of (object (members_view members.entries)) ≡ Ok (members_view members.entries) }
         ensures { Gives (λ m. m) result (array_v3_of (object (members_view members.entries))) }
     {
         ask_format(&members, 3)?;
         ask_node_type(&members, "array")?;
-        drop(take_member(&mut members, "zarr_format"));
-        drop(take_member(&mut members, "node_type"));
         ArrayMetadataV3::take(alloc, members)
     }
 
@@ -116,7 +112,7 @@ impl ArrayMetadataV3 {
             attributes: attributes(alloc, &mut members)?,
             storage_transformers: storage_transformers(alloc, &mut members)?,
             dimension_names: dimension_names(alloc, &mut members)?,
-            additional_fields: fields_of(alloc, members)?,
+            additional_fields: fields_of(alloc, members, &["zarr_format", "node_type"])?,
         })
     }
 

@@ -2,7 +2,7 @@
 ghost use Rattle.std.specs.Prelude.{◌≡◌, IfErr, IfOk, IsFalse, IsTrue, map, option_map};
 ghost use Rattle.serde_json.specs.View.{view, members_of, members_view};
 ghost use Rattle.serde_json.specs.Written as written;
-ghost use Rattle.zarrs_meta.specs.Documents.{has_own, is_null};
+ghost use Rattle.zarrs_meta.specs.Documents.{besides, has_own, is_null};
 ghost use Rattle.serde_json.specs.Find.{get_member};
 ghost use Rattle.serde_json.specs.Data.{object};
 ghost use Rattle.zarrs_meta.specs.Fields.{field_data, gains_member, must_understand};
@@ -206,16 +206,20 @@ pub(crate) fn has_own_name(fields: &Map<String, AdditionalFieldV3>, own_names: &
     false
 }
 
-/// The fields that the members of an object are.
+/// The fields that the members are that have none of the own names.
 pub(crate) fn fields_of(
     alloc: Global,
     members: Map<String, Value>,
+    own_names: &[&str],
 ) -> Result<AdditionalFieldsV3, AllocError>
-    ensures { IfOk result (λ fields. fields ≡ members_view members.entries) }
+    ensures { IfOk result (λ fields. fields
+        ≡ besides (map (λ name. name.now) own_names.now) (members_view members.entries)) }
 {
     let mut fields = Map::new(alloc);
     for (name, value) in members {
-        drop(fields.insert(name, AdditionalFieldV3 { value })?);
+        if !is_one_of(name.as_str(), own_names) {
+            drop(fields.insert(name, AdditionalFieldV3 { value })?);
+        }
     }
     Ok(AdditionalFieldsV3 { fields })
 }

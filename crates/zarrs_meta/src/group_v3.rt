@@ -13,7 +13,7 @@ use crate::fields::{
 use crate::form::{attributes, put_unless};
 use crate::members::{
     ask_format, ask_node_type, document, document_copy, members_have_float, parse, put_text,
-    take_member, take_null,
+    take_null,
 };
 use crate::shapes::Object;
 use serde_json::{Map, Value, put};
@@ -65,15 +65,13 @@ impl GroupMetadataV3 {
     #[tactic(auto, unfolding(crate::specs::GroupV3::group_v3_of))]
     pub(crate) fn from_members(
         alloc: Global,
-        mut members: Map<String, Value>,
+        members: Map<String, Value>,
     ) -> Result<GroupMetadataV3, MetadataFault>
         requires { document_of (object (members_view members.entries)) ≡ Ok (members_view members.entries) }
         ensures { Gives (λ m. m) result (group_v3_of (object (members_view members.entries))) }
     {
         ask_format(&members, 3)?;
         ask_node_type(&members, "group")?;
-        drop(take_member(&mut members, "zarr_format"));
-        drop(take_member(&mut members, "node_type"));
         GroupMetadataV3::take(alloc, members)
     }
 
@@ -90,7 +88,7 @@ impl GroupMetadataV3 {
         take_null(&mut members, "consolidated_metadata");
         Ok(GroupMetadataV3 {
             attributes,
-            additional_fields: fields_of(alloc, members)?,
+            additional_fields: fields_of(alloc, members, &["zarr_format", "node_type"])?,
         })
     }
 

@@ -1,7 +1,6 @@
-use Rattle.std.proofs.Common.{◌≡◌, ◌∷◌, [], codes, sym, ap, ◌∙◌}
+use Rattle.std.proofs.Common.{◌≡◌, sym, ◌∙◌}
 use Rattle.serde_json.specs.Data.{object}
 use Rattle.serde_json.specs.View.{members_view}
-use Rattle.zarrs_meta.specs.Documents.{besides}
 use Rattle.zarrs_meta.specs.ArrayV3.{array_v3_of}
 use Rattle.zarrs_meta.specs.Taken.{array_v3_taken}
 use Rattle.zarrs_meta.proofs.TakenLaws.{array_v3_taken_is}
@@ -10,7 +9,5 @@ use Rattle.zarrs_meta.proofs.array_v3.ArrayMetadataV3.from_members.Goals as goal
 pub returns : goal.returns
 returns c =
     let ms = members_view c.args.members.entries in
-    let left = c.take_member-2.ensures.left ∙ ap (besides (codes "node_type" ∷ [])) c.take_member.ensures.left in
-    let means : array_v3_of (object ms) ≡ array_v3_taken (members_view c.take_member-2.new.members.entries) =
-    array_v3_taken_is ms c.requires (sym c.ask_format.ensures ∙ c.in_ok-ask_format.was) (sym c.ask_node_type.ensures ∙ c.in_ok-ask_node_type.was) ∙ ap array_v3_taken (sym left) in
+    let means : array_v3_of (object ms) ≡ array_v3_taken ms = array_v3_taken_is ms c.requires (sym c.ask_format.ensures ∙ c.in_ok-ask_format.was) (sym c.ask_node_type.ensures ∙ c.in_ok-ask_node_type.was) in
     rw means c.take.ensures
