@@ -1,6 +1,7 @@
 //! Groups that are made, opened, stored and erased. Each helper holds a group and answers a text; the tests are tables of
 //! short texts.
 
+use crate::fixtures::{G2, G3};
 use serde_json::{Map, Value};
 use std::alloc::{AllocError, Global};
 use std::test::Fail;
@@ -17,10 +18,6 @@ use zarrs_path::{NodePath, NodePathError};
 use zarrs_store::{
     MemoryStore, ReadableStorageTraits, StorageError, StoreKey, StorePrefix, WritableStorageTraits,
 };
-
-const G3: &str = "{\"node_type\":\"group\",\"zarr_format\":3}";
-
-const G2: &str = "{\"zarr_format\":2}";
 
 const K: &str = "{\"k\":1}";
 
