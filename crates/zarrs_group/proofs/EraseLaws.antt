@@ -7,7 +7,7 @@ use Rattle.zarrs_store.proofs.ContentsLemmas.{get_removed, AgreesExceptAt-remove
 use Rattle.zarrs_path.specs.Keys.{zarr_json, zgroup, zattrs}
 use Rattle.zarrs_path.specs.Paths.{Path}
 use Rattle.zarrs_path.proofs.LawProofs.{same_fronts}
-use Rattle.zarrs_meta.proofs.MemberLaws.{differ}
+use Rattle.zarrs_form.proofs.MemberLaws.{differ}
 use Rattle.zarrs_meta.specs.declared.node.GroupMetadata.{GroupMetadata}
 use Rattle.zarrs_config.specs.declared.version.MetadataEraseVersion.TheVariants as erase
 use Rattle.zarrs_group.specs.Edits.{after}

@@ -13,7 +13,7 @@ use Rattle.std.proofs.Common.{is_eq}
 use Rattle.serde_json.specs.Data.{Data, Members, no_members, member}
 use Rattle.serde_json.specs.Find.{get_member}
 use Rattle.serde_json.specs.View.{members_of}
-use Rattle.zarrs_meta.specs.Fields.{must_understand}
+use Rattle.zarrs_form.specs.Fields.{must_understand}
 use Rattle.zarrs_group.proofs.Fields.{first_unsupported}
 use Rattle.zarrs_group.specs.Unsupported.{UnsupportedField}
 use Rattle.zarrs_group.specs.Opened.{IsUnsupported, IsLeastUnsupported}

@@ -1,7 +1,7 @@
 -- The search among the additional fields, which stand in ascending order of their names.
 use Rattle.std.specs.Prelude.{Option, Some, None, if◌then◌else◌}
 use Rattle.serde_json.specs.Data.{Members, no_members, member}
-use Rattle.zarrs_meta.specs.Fields.{must_understand}
+use Rattle.zarrs_form.specs.Fields.{must_understand}
 use Rattle.zarrs_group.specs.Unsupported.{UnsupportedField}
 
 -- the first field that must be understood

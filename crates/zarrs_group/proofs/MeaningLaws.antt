@@ -9,7 +9,7 @@ use Rattle.zarrs_store.specs.Contents.{Contents}
 use Rattle.zarrs_store.proofs.ContentsLemmas.{get_inserted, get_removed, AgreesExceptAt-insert}
 use Rattle.zarrs_path.specs.Keys.{zarr_json, zgroup, zattrs}
 use Rattle.zarrs_path.specs.Paths.{Path}
-use Rattle.zarrs_meta.specs.Documents.{json_of, is_empty, has_own}
+use Rattle.zarrs_form.specs.Documents.{json_of, is_empty, has_own}
 use Rattle.zarrs_group.specs.Layout.{pretty_text}
 use Rattle.zarrs_meta.specs.GroupV3.{group_v3_tree}
 use Rattle.zarrs_meta.specs.GroupV2 as v2

@@ -7,8 +7,8 @@ use Rattle.zarrs_store.specs.Contents.{Contents, AgreesExceptAt}
 use Rattle.zarrs_store.proofs.ContentsLemmas.{AgreesExceptAt-insert, AgreesExceptAt-remove}
 use Rattle.zarrs_path.specs.Keys.{zarr_json, zarray, zgroup, zattrs}
 use Rattle.zarrs_path.specs.Paths.{Path}
-use Rattle.zarrs_meta.specs.Documents.{is_empty}
-use Rattle.zarrs_meta.proofs.MemberLaws.{differ}
+use Rattle.zarrs_form.specs.Documents.{is_empty}
+use Rattle.zarrs_form.proofs.MemberLaws.{differ}
 use Rattle.zarrs_meta.specs.declared.node.GroupMetadata.{GroupMetadata}
 use Rattle.zarrs_meta.specs.declared.node.GroupMetadata.TheVariants.{V3, V2}
 use Rattle.zarrs_config.specs.declared.version.MetadataEraseVersion.{MetadataEraseVersion}

@@ -8,15 +8,15 @@ use Rattle.serde_json.specs.Find.{get_member}
 use Rattle.serde_json.specs.Written.{has_float, members_have_float}
 use Rattle.zarrs_store.specs.declared.fault.MetadataFault.{MetadataFault}
 use Rattle.zarrs_store.specs.declared.fault.MetadataFault.TheVariants.{UnsupportedNumber, BadMember}
-use Rattle.zarrs_meta.specs.Documents.{has_own, is_null}
+use Rattle.zarrs_form.specs.Documents.{has_own, is_null}
 use Rattle.zarrs_meta.specs.GroupV3 as v3
 use Rattle.zarrs_meta.specs.GroupV2 as v2
 use Rattle.zarrs_meta.specs.declared.group_v3.GroupMetadataV3.{GroupMetadataV3}
 use Rattle.zarrs_meta.specs.declared.group_v2.GroupMetadataV2.{GroupMetadataV2}
 use Rattle.zarrs_meta.specs.declared.node.GroupMetadata.{GroupMetadata}
 use Rattle.zarrs_meta.specs.declared.node.GroupMetadata.TheVariants.{V3, V2}
-use Rattle.zarrs_meta.proofs.MemberLaws.{get-others}
-use Rattle.zarrs_meta.proofs.AttributeLaws.{not_true}
+use Rattle.zarrs_form.proofs.MemberLaws.{get-others}
+use Rattle.zarrs_form.proofs.AttributeLaws.{not_true}
 use Rattle.zarrs_meta.proofs.GroupV3Laws.{plain_group_v3, no_float-group_v3_tree}
 use Rattle.zarrs_meta.proofs.GroupV2Laws.{plain_group_v2, no_float-group_v2_tree}
 use Rattle.zarrs_group.specs.Groups.{group_tree}

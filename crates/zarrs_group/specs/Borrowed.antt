@@ -1,7 +1,7 @@
 -- What a group ends as, where its attributes are lent to be written.
 use Rattle.serde_json.specs.Data.{Members}
 use Rattle.std.specs.Borrow.{Lends, MutBor, Fml}
-use Rattle.zarrs_meta.specs.contracts.shapes.Object.{the_row as object_row}
+use Rattle.zarrs_form.specs.contracts.shapes.Object.{the_row as object_row}
 use Rattle.zarrs_group.specs.contracts.group.Group.{the_row as group_row}
 use Rattle.zarrs_group.specs.Groups.{GroupState, with_attributes}
 

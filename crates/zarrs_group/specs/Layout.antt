@@ -5,7 +5,7 @@ use Rattle.json.specs.Tree.{json_tokens}
 use Rattle.serde_json.specs.Data.{Data, depth}
 use Rattle.serde_json.specs.Read.{max_depth}
 use Rattle.serde_json.specs.Written.{outline}
-use Rattle.zarrs_meta.specs.Documents.{json_of}
+use Rattle.zarrs_form.specs.Documents.{json_of}
 
 -- the pretty layout of a tree whose numbers are all whole: two spaces a level, and no newline at the end
 abbrev pub pretty_text : Data → List ℕ

@@ -11,7 +11,7 @@ use Rattle.zarrs_path.specs.Paths.{Path, IsPath, path_text}
 use Rattle.zarrs_path.specs.PathErrors.{RefusesPath}
 use Rattle.zarrs_path.specs.declared.node_path.NodePathError.TheVariants as path
 use Rattle.zarrs_config.specs.declared.version.MetadataRetrieveVersion.{MetadataRetrieveVersion}
-use Rattle.zarrs_meta.specs.Fields.{must_understand}
+use Rattle.zarrs_form.specs.Fields.{must_understand}
 use Rattle.zarrs_meta.specs.declared.node.GroupMetadata.{GroupMetadata}
 use Rattle.zarrs_meta.specs.declared.node.GroupMetadata.TheVariants.{V3, V2}
 use Rattle.zarrs_block.specs.declared.node_create_error.NodeCreateError.{NodeCreateError}

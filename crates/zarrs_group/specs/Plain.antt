@@ -5,7 +5,7 @@ use Rattle.std.specs.Prelude.{ℕ, Bool, ◌||◌, if◌then◌else◌, List, Op
 use Rattle.serde_json.specs.Data.{Members}
 use Rattle.serde_json.specs.Find.{get_member}
 use Rattle.serde_json.specs.Written.{members_have_float}
-use Rattle.zarrs_meta.specs.Documents.{is_null}
+use Rattle.zarrs_form.specs.Documents.{is_null}
 use Rattle.zarrs_meta.specs.GroupV3.{is_plain_group_v3}
 use Rattle.zarrs_meta.specs.GroupV2.{is_plain_group_v2}
 use Rattle.zarrs_meta.specs.declared.node.GroupMetadata.{GroupMetadata}

@@ -9,7 +9,7 @@ use Rattle.zarrs_path.specs.Keys.{zarr_json, zgroup, zattrs}
 use Rattle.zarrs_path.specs.Paths.{Path}
 use Rattle.zarrs_config.specs.declared.version.MetadataEraseVersion.{MetadataEraseVersion}
 use Rattle.zarrs_config.specs.declared.version.MetadataEraseVersion.TheVariants as version
-use Rattle.zarrs_meta.specs.Documents.{is_empty}
+use Rattle.zarrs_form.specs.Documents.{is_empty}
 use Rattle.zarrs_meta.specs.GroupV3.{group_v3_tree}
 use Rattle.zarrs_meta.specs.GroupV2.{group_v2_tree}
 use Rattle.zarrs_meta.specs.declared.node.GroupMetadata.{GroupMetadata}

@@ -2,7 +2,7 @@
 use Rattle.std.specs.Prelude.{ℕ, List, refl}
 use Rattle.std.specs.Coded.{Coded, code_by, coded×, coded_list, coded_ℕ}
 use Rattle.serde_json.specs.Data.{Data}
-use Rattle.zarrs_meta.specs.DataCode.{data_code}
+use Rattle.zarrs_form.specs.DataCode.{data_code}
 
 -- a field by its name and its value
 pub record UnsupportedField : Type 0 where

@@ -4,7 +4,7 @@ ghost use Rattle.serde_json.specs.Data.{depth};
 ghost use Rattle.serde_json.specs.Read.{max_depth};
 ghost use Rattle.serde_json.specs.View.{view};
 ghost use Rattle.serde_json.specs.Written.{has_float};
-ghost use Rattle.zarrs_meta.specs.Documents.{json_of};
+ghost use Rattle.zarrs_form.specs.Documents.{json_of};
 ghost use Rattle.zarrs_group.specs.Layout.{pretty_text};
 
 use serde_json::Value;

@@ -3,7 +3,7 @@ ghost use Rattle.std.specs.Prelude.{◌≡◌};
 ghost use Rattle.serde_json.specs.Find.{get_member};
 ghost use Rattle.serde_json.specs.View.{view, items_view, members_view, members_of};
 ghost use Rattle.serde_json.specs.Written as written;
-ghost use Rattle.zarrs_meta.specs.Documents.{is_null};
+ghost use Rattle.zarrs_form.specs.Documents.{is_null};
 ghost use Rattle.zarrs_group.specs.Plain.{group_v3_fault, group_v2_fault};
 ghost use Rattle.zarrs_group.specs.Plain as plain;
 

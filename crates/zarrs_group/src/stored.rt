@@ -2,7 +2,7 @@
 ghost use Rattle.std.specs.Prelude.{◌≡◌, None, false, map, IfOk, IfErr};
 ghost use Rattle.serde_json.specs.Data.{object};
 ghost use Rattle.serde_json.specs.Written.{members_have_float};
-ghost use Rattle.zarrs_meta.specs.Documents.{is_empty};
+ghost use Rattle.zarrs_form.specs.Documents.{is_empty};
 ghost use Rattle.zarrs_meta.specs.declared.node.GroupMetadata.TheVariants.{V3, V2};
 ghost use Rattle.zarrs_group.specs.Layout.{IsReadBack};
 ghost use Rattle.zarrs_group.specs.Plain.{group_fault};

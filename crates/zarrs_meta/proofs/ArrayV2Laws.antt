@@ -5,21 +5,22 @@ use Rattle.serde_json.specs.Data.{Data, number, string, object, unsigned, Member
 use Rattle.serde_json.specs.Find.{get_member, as_object}
 use Rattle.serde_json.specs.Written.{has_float, members_have_float}
 use Rattle.serde_json.proofs.Views.{get_member-put}
-use Rattle.zarrs_meta.specs.Documents.{besides, has_own, is_empty, optional_from, required, optional, format_of}
-use Rattle.zarrs_meta.specs.Forms.{number_u64, any, nullable, list_of, number_data, list_data, nullable_data, none_or, fits, unless, put_rows}
-use Rattle.zarrs_meta.specs.FormsV2.{codec_names, codec, codec_data, codec_fits, data_type, data_type_data, data_type_fits, order, order_data, separator, separator_data, has_zero, chunk_lengths}
+use Rattle.zarrs_form.specs.Documents.{besides, has_own, is_empty, optional_from, required, optional, format_of}
+use Rattle.zarrs_form.specs.Forms.{number_u64, any, nullable, list_of, number_data, list_data, nullable_data, none_or, fits, unless, put_rows}
+use Rattle.zarrs_form.specs.FormsV2.{codec_names, codec, codec_data, codec_fits, data_type, data_type_data, data_type_fits, order, order_data, separator, separator_data, has_zero, chunk_lengths}
 use Rattle.zarrs_meta.specs.ArrayV2.{own_names, array_v2_of, array_v2_rows, array_v2_tree, is_plain_array_v2}
 use Rattle.zarrs_meta.specs.declared.array_v2.ArrayMetadataV2.{ArrayMetadataV2}
-use Rattle.zarrs_meta.specs.declared.codec.MetadataV2.{MetadataV2}
-use Rattle.zarrs_meta.specs.declared.data_type.DataTypeMetadataV2.{DataTypeMetadataV2}
-use Rattle.zarrs_meta.specs.declared.data_type.DataTypeMetadataV2.TheVariants.{Simple, Structured}
-use Rattle.zarrs_meta.specs.declared.chunks.ArrayMetadataV2Order.{ArrayMetadataV2Order}
-use Rattle.zarrs_meta.specs.declared.chunks.ArrayMetadataV2Order.TheVariants.{C, F}
-use Rattle.zarrs_meta.specs.declared.chunks.ChunkKeySeparator.{ChunkKeySeparator}
-use Rattle.zarrs_meta.specs.declared.chunks.ChunkKeySeparator.TheVariants.{Dot, Slash}
-use Rattle.zarrs_meta.proofs.MemberLaws.{besides-put, besides-others, get-others, no_float-put}
-use Rattle.zarrs_meta.proofs.RowLaws.{or_rest, found, get-put_rows, besides-put_rows, no_float-put_rows, list_again, list_again_where, list_no_float, numbers_no_float, both, ◌◂◌, number_again}
-use Rattle.zarrs_meta.proofs.AttributeLaws.{not_true, attributes_again, attributes_no_float}
+use Rattle.zarrs_form.specs.declared.codec.MetadataV2.{MetadataV2}
+use Rattle.zarrs_form.specs.declared.data_type.DataTypeMetadataV2.{DataTypeMetadataV2}
+use Rattle.zarrs_form.specs.declared.data_type.DataTypeMetadataV2.TheVariants.{Simple, Structured}
+use Rattle.zarrs_form.specs.declared.chunks.ArrayMetadataV2Order.{ArrayMetadataV2Order}
+use Rattle.zarrs_form.specs.declared.chunks.ArrayMetadataV2Order.TheVariants.{C, F}
+use Rattle.zarrs_form.specs.declared.chunks.ChunkKeySeparator.{ChunkKeySeparator}
+use Rattle.zarrs_form.specs.declared.chunks.ChunkKeySeparator.TheVariants.{Dot, Slash}
+use Rattle.zarrs_form.proofs.MemberLaws.{besides-put, besides-others, get-others, no_float-put}
+use Rattle.zarrs_form.proofs.RowLaws.{or_rest, found, get-put_rows, besides-put_rows, no_float-put_rows, list_again, list_again_where, list_no_float, numbers_no_float, both, ◌◂◌, number_again}
+use Rattle.zarrs_form.proofs.AttributeLaws.{not_true, attributes_again, attributes_no_float}
+use Rattle.zarrs_form.proofs.CodecLaws.{codec_no_float}
 
 -- ---- codecs
 
@@ -33,12 +34,6 @@ codec_again m plain =
     let parts = both (fits (object m.configuration)) (not (has_own codec_names m.configuration)) plain in
     let id : get_member (codes "id") (put (codes "id") (string m.id) m.configuration) ≡ Some (string m.id) = get_member-put (codes "id") (string m.id) m.configuration in
     rw (id, codec_rest m (not_true (has_own codec_names m.configuration) parts.1)) refl
-
--- a codec whose numbers fit is written with numbers that fit
-pub codec_no_float : (m : MetadataV2) → codec_fits m ≡ true → has_float (codec_data m) ≡ false
-codec_no_float m plain =
-    let parts = both (fits (object m.configuration)) (not (has_own codec_names m.configuration)) plain in
-    no_float-put (codes "id") (string m.id) m.configuration refl (not_true (members_have_float m.configuration) parts.0)
 
 -- a codec or null reads again
 compressor_again : (o : Option MetadataV2) → none_or codec_fits o ≡ true → nullable codec (nullable_data codec_data o) ≡ Some o

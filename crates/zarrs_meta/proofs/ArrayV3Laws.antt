@@ -4,14 +4,14 @@ use Rattle.std.specs.List.{list_all}
 use Rattle.serde_json.specs.Data.{Data, number, string, object, unsigned, Members, no_members}
 use Rattle.serde_json.specs.Find.{get_member, as_object, as_str}
 use Rattle.serde_json.specs.Written.{has_float, members_have_float}
-use Rattle.zarrs_meta.specs.Documents.{is_own, besides, has_own, is_empty, optional_from, required, optional, format_of, node_type_of}
-use Rattle.zarrs_meta.specs.Forms.{number_u64, any, nullable, list_of, extension, number_data, list_data, nullable_data, extension_data, extension_fits, fits, unless, is_nil, put_rows}
+use Rattle.zarrs_form.specs.Documents.{is_own, besides, has_own, is_empty, optional_from, required, optional, format_of, node_type_of}
+use Rattle.zarrs_form.specs.Forms.{number_u64, any, nullable, list_of, extension, number_data, list_data, nullable_data, extension_data, extension_fits, fits, unless, is_nil, put_rows}
 use Rattle.zarrs_meta.specs.ArrayV3.{own_names, array_v3_of, array_v3_rows, array_v3_tree, is_plain_array_v3}
 use Rattle.zarrs_meta.specs.declared.array_v3.ArrayMetadataV3.{ArrayMetadataV3}
-use Rattle.zarrs_meta.specs.declared.extension.MetadataV3.{MetadataV3}
-use Rattle.zarrs_meta.proofs.MemberLaws.{besides-others, get-others}
-use Rattle.zarrs_meta.proofs.RowLaws.{or_rest, found, get-put_rows, besides-put_rows, no_float-put_rows, list_again, list_no_float, has_no_float, both, ◌◂◌, number_again, numbers_no_float, all_true}
-use Rattle.zarrs_meta.proofs.AttributeLaws.{not_true, attributes_again, attributes_no_float}
+use Rattle.zarrs_form.specs.declared.extension.MetadataV3.{MetadataV3}
+use Rattle.zarrs_form.proofs.MemberLaws.{besides-others, get-others}
+use Rattle.zarrs_form.proofs.RowLaws.{or_rest, found, get-put_rows, besides-put_rows, no_float-put_rows, list_again, list_no_float, has_no_float, both, ◌◂◌, number_again, numbers_no_float, all_true}
+use Rattle.zarrs_form.proofs.AttributeLaws.{not_true, attributes_again, attributes_no_float}
 
 -- ---- extensions
 
@@ -142,9 +142,11 @@ module _ (m : ArrayMetadataV3) (no_own : has_own own_names m.additional_fields �
   unfolding array_v3_of format_of node_type_of
   array_v3_again_where no_float = rw (no_float, has_format, has_kind, shape, data_type, chunk_grid, chunk_key_encoding, fill_value, codecs, attributes, transformers, names, others) refl
 
--- a plain array is written with numbers that fit
-pub array_v3_no_float : (m : ArrayMetadataV3) → IsTrue (is_plain_array_v3 m) → has_float (array_v3_tree m) ≡ false
-array_v3_no_float m plain =
+-- what is plain of a plain array, part by part
+pub plain_parts : (m : ArrayMetadataV3) → IsTrue (is_plain_array_v3 m) → (extension_fits m.data_type ≡ true) × (extension_fits m.chunk_grid ≡ true) × (extension_fits m.chunk_key_encoding ≡ true)
+    × (fits m.fill_value ≡ true) × (list_all extension_fits m.codecs ≡ true) × (fits (object m.attributes) ≡ true) × (list_all extension_fits m.storage_transformers ≡ true)
+    × (fits (object m.additional_fields) ≡ true)
+plain_parts m plain =
     let h = both _ (not (has_own own_names m.additional_fields)) plain in
     let g = both _ (fits (object m.additional_fields)) h.0 in
     let f = both _ (list_all extension_fits m.storage_transformers) g.0 in
@@ -153,20 +155,26 @@ array_v3_no_float m plain =
     let c = both _ (fits m.fill_value) d.0 in
     let b = both _ (extension_fits m.chunk_key_encoding) c.0 in
     let a = both (extension_fits m.data_type) (extension_fits m.chunk_grid) b.0 in
+    (a.0, a.1, b.1, c.1, d.1, e.1, f.1, g.1)
+
+-- a plain array is written with numbers that fit
+pub array_v3_no_float : (m : ArrayMetadataV3) → IsTrue (is_plain_array_v3 m) → has_float (array_v3_tree m) ≡ false
+array_v3_no_float m plain =
+    let p = plain_parts m plain in
     no_float-put_rows (array_v3_rows m) m.additional_fields
     (refl
     ◂ refl
     ◂ numbers_no_float m.shape
-    ◂ extension_no_float m.data_type a.0
-    ◂ extension_no_float m.chunk_grid a.1
-    ◂ extension_no_float m.chunk_key_encoding b.1
-    ◂ not_true (has_float m.fill_value) c.1
-    ◂ list_no_float extension_data extension_fits extension_no_float m.codecs d.1
-    ◂ attributes_no_float m.attributes e.1
-    ◂ transformers_no_float m.storage_transformers f.1
+    ◂ extension_no_float m.data_type p.0
+    ◂ extension_no_float m.chunk_grid p.1
+    ◂ extension_no_float m.chunk_key_encoding p.2
+    ◂ not_true (has_float m.fill_value) p.3
+    ◂ list_no_float extension_data extension_fits extension_no_float m.codecs p.4
+    ◂ attributes_no_float m.attributes p.5
+    ◂ transformers_no_float m.storage_transformers p.6
     ◂ all_names_no_float m.dimension_names
     ◂ tt)
-    (not_true (members_have_float m.additional_fields) g.1)
+    (not_true (members_have_float m.additional_fields) p.7)
 
 -- a plain array that was written reads as that array
 pub array_v3_again : (m : ArrayMetadataV3) → IsTrue (is_plain_array_v3 m) → array_v3_of (array_v3_tree m) ≡ Ok m

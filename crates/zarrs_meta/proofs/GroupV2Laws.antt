@@ -3,13 +3,13 @@ use Rattle.std.proofs.Common.{◌≡◌, ℕ, List, true, false, not, Option, So
 use Rattle.serde_json.specs.Data.{Data, number, object, unsigned, Members, no_members}
 use Rattle.serde_json.specs.Find.{get_member, as_object}
 use Rattle.serde_json.specs.Written.{has_float, members_have_float}
-use Rattle.zarrs_meta.specs.Documents.{besides, has_own, is_empty, optional_from, optional, format_of}
-use Rattle.zarrs_meta.specs.Forms.{fits, unless, put_rows}
+use Rattle.zarrs_form.specs.Documents.{besides, has_own, is_empty, optional_from, optional, format_of}
+use Rattle.zarrs_form.specs.Forms.{fits, unless, put_rows}
 use Rattle.zarrs_meta.specs.GroupV2.{own_names, group_v2_of, group_v2_rows, group_v2_tree, is_plain_group_v2}
 use Rattle.zarrs_meta.specs.declared.group_v2.GroupMetadataV2.{GroupMetadataV2}
-use Rattle.zarrs_meta.proofs.MemberLaws.{besides-others, get-others}
-use Rattle.zarrs_meta.proofs.RowLaws.{or_rest, found, get-put_rows, besides-put_rows, no_float-put_rows, both}
-use Rattle.zarrs_meta.proofs.AttributeLaws.{not_true, attributes_again, attributes_no_float}
+use Rattle.zarrs_form.proofs.MemberLaws.{besides-others, get-others}
+use Rattle.zarrs_form.proofs.RowLaws.{or_rest, found, get-put_rows, besides-put_rows, no_float-put_rows, both}
+use Rattle.zarrs_form.proofs.AttributeLaws.{not_true, attributes_again, attributes_no_float}
 
 -- what a plain group has: its numbers fit, and no field has an own name
 abbrev pub PlainGroupV2 : GroupMetadataV2 → Type 0

@@ -1,15 +1,10 @@
-pub mod Shared
-pub mod MemberLaws
-pub mod RowLaws
 pub mod AttributeLaws
-pub mod FieldLaws
 pub mod GroupV3Laws
 pub mod GroupV2Laws
 pub mod ArrayV3Laws
 pub mod ArrayV2Laws
 pub mod TakenLaws
 pub mod NodeLaws
-pub mod PlainForms
 pub mod PlainGroups
 pub mod PlainArrays
 pub mod PlainNodes

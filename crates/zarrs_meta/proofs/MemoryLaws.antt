@@ -1,102 +1,24 @@
 -- No document means want of memory: what reading refuses with is never that fault.
-use Rattle.std.proofs.Common.{◌≡◌, ◌≢◌, ℕ, List, [], Bool, true, false, if◌then◌else◌, is_some, Option, Some, None, Result, Ok, Err, codes}
-use Rattle.serde_json.specs.Data.{unsigned, negative, float, Data, null, boolean, number, string, array, object, Members, no_members}
+use Rattle.std.proofs.Common.{[], Bool, true, false, if◌then◌else◌, is_some, None, Ok, Err, codes}
+use Rattle.serde_json.specs.Data.{Data, no_members}
 use Rattle.serde_json.specs.Find.{get, as_object, as_str}
-use Rattle.serde_json.specs.Written.{items_have_float, members_have_float}
-use Rattle.zarrs_meta.specs.Documents.{◌>>=◌, json_of, parsed, of_bytes, document_of, format_of, node_type_of, present, formed, required, optional_from, optional, absent}
-use Rattle.zarrs_meta.specs.Forms.{number_u64, any, nullable, list_of, extension}
-use Rattle.zarrs_meta.specs.FormsV2.{codec, data_type, order, separator, chunk_lengths}
+use Rattle.zarrs_form.specs.Documents.{◌>>=◌, NeverLacksMemory, document_of, format_of, node_type_of, required, optional, absent}
+use Rattle.zarrs_form.specs.Forms.{number_u64, any, nullable, list_of, extension}
+use Rattle.zarrs_form.specs.FormsV2.{codec, data_type, order, separator, chunk_lengths}
 use Rattle.zarrs_meta.specs.GroupV3.{group_v3_of}
 use Rattle.zarrs_meta.specs.GroupV2.{group_v2_of}
 use Rattle.zarrs_meta.specs.ArrayV3.{array_v3_of}
 use Rattle.zarrs_meta.specs.ArrayV2.{array_v2_of}
 use Rattle.zarrs_meta.specs.Attributes.{attributes_of}
 use Rattle.zarrs_meta.specs.Node.{has_format, has_type, node_v3_of, node_v2_of, node_of, zarr_json_of}
-use Rattle.zarrs_meta.specs.Laws.{NeverLacksMemory, ReadingNeverLacksMemory}
-use Rattle.zarrs_store.specs.declared.fault.MetadataFault.{MetadataFault}
-use Rattle.zarrs_store.specs.declared.fault.MetadataFault.TheVariants.{NotAnObject, UnsupportedNumber, WrongFormat, WrongNodeType, BadMember, OutOfMemory}
+use Rattle.zarrs_meta.specs.Laws.{ReadingNeverLacksMemory}
+use Rattle.zarrs_store.specs.declared.fault.MetadataFault.TheVariants.{WrongFormat, WrongNodeType}
 use Rattle.zarrs_meta.specs.declared.node.GroupMetadata.TheVariants.{V3 as group_v3, V2 as group_v2}
 use Rattle.zarrs_meta.specs.declared.node.ArrayMetadata.TheVariants.{V3 as array_v3, V2 as array_v2}
 use Rattle.zarrs_meta.specs.declared.node.ZarrJson.TheVariants.{Node, Version2}
 use Rattle.zarrs_meta.specs.declared.node.NodeMetadata.TheVariants.{Group, Array}
-use Rattle.zarrs_meta.specs.declared.chunks.ChunkKeySeparator.TheVariants.{Dot}
-
--- ---- steps
-
--- a value is no fault
-given : {A : Type 0} (x : A) → NeverLacksMemory (Ok x)
-given x e = cc
-
--- two steps that never lack memory never do together
-both_never : {A B : Type 0} (r : Result A MetadataFault) (f : A → Result B MetadataFault) → NeverLacksMemory r → ((x : A) → NeverLacksMemory (f x)) → NeverLacksMemory (r >>= f)
-both_never (Ok x) f h g = g x
-both_never (Err fault) f h g = λ e. h (let same : fault ≡ OutOfMemory = cc in cc)
-
--- ---- the steps of reading a document
-
--- no bytes are want of memory
-parsed_never : (o : Option Data) → NeverLacksMemory (parsed o)
-parsed_never None e = cc
-parsed_never (Some d) e = cc
-
--- what is no object is refused, whatever its numbers
-refused : (b : Bool) → NeverLacksMemory {A = Members} (if b then Err UnsupportedNumber else Err NotAnObject)
-refused true e = cc
-refused false e = cc
-
--- an object is refused only for its numbers
-kept : (b : Bool) (ms : Members) → NeverLacksMemory {A = Members} (if b then Err UnsupportedNumber else Ok ms)
-kept true ms e = cc
-kept false ms e = cc
-
--- the members of a document
-document_never : (d : Data) → NeverLacksMemory (document_of d)
-document_never null e = cc
-document_never (boolean b) e = cc
-document_never (number (unsigned n)) e = cc
-document_never (number (negative z)) e = cc
-document_never (number (float x)) e = cc
-document_never (string s) e = cc
-document_never (array ds) e = refused (items_have_float ds) e
-document_never (object ms) e = kept (members_have_float ms) ms e
-
--- a question is refused only with its own fault
-asked : (b : Bool) (fault : MetadataFault) → fault ≢ OutOfMemory → NeverLacksMemory {A = Unit {0}} (if b then Ok tt else Err fault)
-asked true fault other e = cc
-asked false fault other e = other (let same : fault ≡ OutOfMemory = cc in same)
-
--- the format of a document
-format_never : (n : ℕ) (d : Data) → NeverLacksMemory (format_of n d)
-unfolding format_of
-format_never n d = asked _ WrongFormat (λ e. cc)
-
--- the kind of a document
-node_type_never : (t : List ℕ) (d : Data) → NeverLacksMemory (node_type_of t d)
-unfolding node_type_of
-node_type_never t d = asked _ WrongNodeType (λ e. cc)
-
--- a form is refused only with the name of the member
-formed_never : {A : Type 0} (name : List ℕ) (o : Option A) → NeverLacksMemory (formed name o)
-formed_never name None e = cc
-formed_never name (Some x) e = cc
-
--- a member that has to be there, by what was found
-required_from : {A : Type 0} (form : Data → Option A) (name : List ℕ) (o : Option Data) → NeverLacksMemory (present name o >>= λ v. formed name (form v))
-required_from form name None e = cc
-required_from form name (Some d) e = formed_never name (form d) e
-
--- a member that has to be there
-required_never : {A : Type 0} (form : Data → Option A) (name : List ℕ) (d : Data) → NeverLacksMemory (required name form d)
-required_never form name d = required_from form name (get name d)
-
--- a member that may be absent, by what was found
-optional_never_from : {A : Type 0} (base : A) (form : Data → Option A) (name : List ℕ) (o : Option Data) → NeverLacksMemory (optional_from name base form o)
-optional_never_from base form name None e = cc
-optional_never_from base form name (Some d) e = formed_never name (form d) e
-
--- a member that may be absent
-optional_never : {A : Type 0} (base : A) (form : Data → Option A) (name : List ℕ) (d : Data) → NeverLacksMemory (optional name base form d)
-optional_never base form name d = optional_never_from base form name (get name d)
+use Rattle.zarrs_form.specs.declared.chunks.ChunkKeySeparator.TheVariants.{Dot}
+use Rattle.zarrs_form.proofs.MemoryLaws.{given, both_never, document_never, format_never, node_type_never, required_never, optional_never, absent_by, bytes_never}
 
 -- ---- the documents
 
@@ -106,11 +28,6 @@ unfolding group_v3_of
 group_v3_never d =
     both_never (document_of d) _ (document_never d) (λ ms. both_never (format_of 3 d) _ (format_never 3 d) (λ _. both_never (node_type_of (codes "group") d) _ (node_type_never (codes "group") d) (λ _.
     both_never (optional (codes "attributes") no_members as_object d) _ (optional_never no_members as_object (codes "attributes") d) (λ attributes. given _))))
-
--- a member that must not be there, by what was found
-absent_by : (o : Option Data) (name : List ℕ) → NeverLacksMemory {A = Unit {0}} (elim o [ None ↦ Ok tt | Some d ↦ Err (BadMember name) ])
-absent_by None name e = cc
-absent_by (Some d) name e = cc
 
 -- a version 2 group
 group_v2_never : (d : Data) → NeverLacksMemory (group_v2_of d)
@@ -187,10 +104,6 @@ zarr_json_by false d = both_never (node_of d) _ (node_never d) (λ m. given _)
 zarr_json_never : (d : Data) → NeverLacksMemory (zarr_json_of d)
 unfolding zarr_json_of
 zarr_json_never d = both_never (document_of d) _ (document_never d) (λ _. zarr_json_by (has_format 2 d) d)
-
--- bytes that are read as a document
-bytes_never : {A : Type 0} (reading : Data → Result A MetadataFault) → ((d : Data) → NeverLacksMemory (reading d)) → (bytes : List ℕ) → NeverLacksMemory (of_bytes reading bytes)
-bytes_never reading never bytes = both_never (parsed (json_of bytes)) reading (parsed_never (json_of bytes)) never
 
 -- no bytes mean want of memory, whatever document they are read as
 pub reading_never_lacks_memory : ReadingNeverLacksMemory

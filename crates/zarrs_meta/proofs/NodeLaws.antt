@@ -1,7 +1,7 @@
 -- What is written of a plain node reads as that node.
 use Rattle.std.proofs.Common.{◌≡◌, false, Ok, IsTrue, refl}
 use Rattle.serde_json.specs.Written.{has_float}
-use Rattle.zarrs_meta.specs.Documents.{format_of, node_type_of}
+use Rattle.zarrs_form.specs.Documents.{format_of, node_type_of}
 use Rattle.zarrs_meta.specs.Node.{node_of, node_tree, is_plain_node}
 use Rattle.zarrs_meta.specs.declared.node.GroupMetadata.TheVariants.{V3 as group_v3, V2 as group_v2}
 use Rattle.zarrs_meta.specs.declared.node.ArrayMetadata.TheVariants.{V3 as array_v3, V2 as array_v2}

@@ -5,20 +5,20 @@ use Rattle.std.specs.List.{list_all}
 use Rattle.serde_json.specs.Data.{Data, null, boolean, number, string, array, object, no_members}
 use Rattle.serde_json.specs.Find.{get, as_object, as_str, as_bool}
 use Rattle.serde_json.specs.Written.{has_float, members_have_float}
-use Rattle.zarrs_meta.specs.Documents.{besides, has_own, document_of, format_of, node_type_of, required, optional}
-use Rattle.zarrs_meta.specs.Forms.{number_u64, any, nullable, list_of, none_or, unless_absent, extension, extension_object, extension_fits, fits}
+use Rattle.zarrs_form.specs.Documents.{besides, has_own, document_of, format_of, node_type_of, required, optional}
+use Rattle.zarrs_form.specs.Forms.{number_u64, any, nullable, list_of, none_or, unless_absent, extension, extension_object, extension_fits, fits}
 use Rattle.zarrs_meta.specs.ArrayV3 as v3
 use Rattle.zarrs_meta.specs.ArrayV3.{array_v3_of, is_plain_array_v3}
 use Rattle.zarrs_meta.specs.declared.array_v3.ArrayMetadataV3.{ArrayMetadataV3}
-use Rattle.zarrs_meta.specs.declared.extension.MetadataV3.{MetadataV3}
-use Rattle.zarrs_meta.specs.FormsV2.{codec_names, codec, codec_fits, data_type, data_type_fits, order, separator, has_zero, chunk_lengths}
+use Rattle.zarrs_form.specs.declared.extension.MetadataV3.{MetadataV3}
+use Rattle.zarrs_form.specs.FormsV2.{codec_names, codec, codec_fits, data_type, data_type_fits, order, separator, has_zero, chunk_lengths}
 use Rattle.zarrs_meta.specs.ArrayV2 as v2
 use Rattle.zarrs_meta.specs.ArrayV2.{array_v2_of, is_plain_array_v2}
 use Rattle.zarrs_meta.specs.declared.array_v2.ArrayMetadataV2.{ArrayMetadataV2}
-use Rattle.zarrs_meta.specs.declared.data_type.DataTypeMetadataV2.TheVariants.{Structured}
-use Rattle.zarrs_meta.specs.declared.chunks.ChunkKeySeparator.TheVariants.{Dot}
-use Rattle.zarrs_meta.proofs.AttributeLaws.{not_true}
-use Rattle.zarrs_meta.proofs.PlainForms.{some_then, some_next, some_map, ok_then, ok_next, of_ok, both_true, false_not, get_fits, no_float-besides, no_own-besides, Fitting, object_fitting, any_fitting, nullable_fitting, list_fitting, absent_fits, required_fits, optional_fits, IsDocument, document_fits, document_no_float}
+use Rattle.zarrs_form.specs.declared.data_type.DataTypeMetadataV2.TheVariants.{Structured}
+use Rattle.zarrs_form.specs.declared.chunks.ChunkKeySeparator.TheVariants.{Dot}
+use Rattle.zarrs_form.proofs.AttributeLaws.{not_true}
+use Rattle.zarrs_form.proofs.PlainForms.{some_then, some_next, some_map, ok_then, ok_next, of_ok, both_true, false_not, get_fits, no_float-besides, no_own-besides, Fitting, object_fitting, any_fitting, nullable_fitting, list_fitting, absent_fits, required_fits, optional_fits, IsDocument, document_fits, document_no_float}
 use Rattle.zarrs_meta.proofs.PlainGroups.{attributes_fit}
 
 -- ---- extensions

@@ -3,16 +3,16 @@ use Rattle.std.proofs.Common.{◌≡◌, ℕ, List, [], ◌∷◌, Bool, true, f
 use Rattle.serde_json.specs.Data.{Data, object, Members, no_members}
 use Rattle.serde_json.specs.Find.{get_member, as_object}
 use Rattle.serde_json.specs.Written.{has_float, members_have_float}
-use Rattle.zarrs_meta.specs.Documents.{is_own, besides, has_own, is_null, document_of, format_of, node_type_of, optional, absent}
-use Rattle.zarrs_meta.specs.Forms.{fits}
+use Rattle.zarrs_form.specs.Documents.{is_own, besides, has_own, is_null, document_of, format_of, node_type_of, optional, absent}
+use Rattle.zarrs_form.specs.Forms.{fits}
 use Rattle.zarrs_meta.specs.GroupV3 as v3
 use Rattle.zarrs_meta.specs.GroupV3.{read_names, group_v3_of, is_plain_group_v3}
 use Rattle.zarrs_meta.specs.GroupV2 as v2
 use Rattle.zarrs_meta.specs.GroupV2.{group_v2_of, is_plain_group_v2}
 use Rattle.zarrs_meta.specs.declared.group_v3.GroupMetadataV3.{GroupMetadataV3}
 use Rattle.zarrs_meta.specs.declared.group_v2.GroupMetadataV2.{GroupMetadataV2}
-use Rattle.zarrs_meta.proofs.MemberLaws.{get-others}
-use Rattle.zarrs_meta.proofs.PlainForms.{ok_then, ok_next, of_ok, both_true, false_not, no_float-besides, none_own, no_own-besides, get-besides, object_fitting, optional_fits, IsDocument, document_fits, document_no_float}
+use Rattle.zarrs_form.proofs.MemberLaws.{get-others}
+use Rattle.zarrs_form.proofs.PlainForms.{ok_then, ok_next, of_ok, both_true, false_not, no_float-besides, none_own, no_own-besides, get-besides, object_fitting, optional_fits, IsDocument, document_fits, document_no_float}
 
 -- attributes that were read have only numbers that fit
 pub attributes_fit : (d : Data) → has_float d ≡ false → IfOk (optional (codes "attributes") no_members as_object d) (λ ms. fits (object ms) ≡ true)

@@ -1,9 +1,9 @@
 -- Every node and all attributes that reading gives are plain.
-use Rattle.std.proofs.Common.{◌≡◌, ℕ, List, Bool, true, false, not, ◌&&◌, if◌then◌else◌, is_some, Option, Some, None, Result, Ok, Err, IfOk, IsTrue, codes}
+use Rattle.std.proofs.Common.{◌≡◌, ℕ, List, Bool, true, false, not, if◌then◌else◌, is_some, Option, Some, None, Result, Ok, Err, IfOk, IsTrue, codes}
 use Rattle.serde_json.specs.Data.{Data, object}
 use Rattle.serde_json.specs.Find.{get}
 use Rattle.serde_json.specs.Written.{members_have_float}
-use Rattle.zarrs_meta.specs.Documents.{◌>>=◌, json_of, parsed, of_bytes, document_of, has_own}
+use Rattle.zarrs_form.specs.Documents.{◌>>=◌, json_of, parsed, of_bytes, document_of, has_own}
 use Rattle.zarrs_meta.specs.GroupV3.{group_v3_of}
 use Rattle.zarrs_meta.specs.GroupV2.{group_v2_of, is_plain_group_v2}
 use Rattle.zarrs_meta.specs.ArrayV3.{array_v3_of}
@@ -11,7 +11,7 @@ use Rattle.zarrs_meta.specs.ArrayV2.{array_v2_of, is_plain_array_v2}
 use Rattle.zarrs_meta.specs.Attributes.{attributes_of, is_plain_attributes}
 use Rattle.zarrs_meta.specs.ArrayV2 as array
 use Rattle.zarrs_meta.specs.GroupV2 as v2
-use Rattle.zarrs_meta.specs.Forms.{fits}
+use Rattle.zarrs_form.specs.Forms.{fits}
 use Rattle.zarrs_meta.specs.Node.{has_format, has_type, node_v3_of, node_v2_of, node_of, zarr_json_of, is_plain_node, group_with, array_with}
 use Rattle.zarrs_meta.specs.Laws.{WithAttributesIsPlain}
 use Rattle.zarrs_store.specs.declared.fault.MetadataFault.{MetadataFault}
@@ -25,8 +25,8 @@ use Rattle.zarrs_meta.specs.declared.node.ZarrJson.{ZarrJson}
 use Rattle.zarrs_meta.specs.declared.node.ZarrJson.TheVariants.{Node, Version2}
 use Rattle.zarrs_meta.specs.declared.node.NodeMetadata.{NodeMetadata}
 use Rattle.zarrs_meta.specs.declared.node.NodeMetadata.TheVariants.{Group, Array}
-use Rattle.zarrs_meta.proofs.RowLaws.{both}
-use Rattle.zarrs_meta.proofs.PlainForms.{ok_then, ok_next, of_ok, both_true, false_not, IsDocument, document_fits}
+use Rattle.zarrs_form.proofs.RowLaws.{both}
+use Rattle.zarrs_form.proofs.PlainForms.{ok_then, ok_next, of_ok, both_true, false_not, IsDocument, document_fits}
 use Rattle.zarrs_meta.proofs.PlainGroups as groups
 use Rattle.zarrs_meta.proofs.PlainGroups.{group_v3_plain, group_v2_plain}
 use Rattle.zarrs_meta.proofs.PlainArrays as arrays

@@ -1,82 +1,24 @@
 -- What is taken out of a document member by member is what the document means.
-use Rattle.std.proofs.Common.{◌≡◌, ℕ, List, [], ◌∷◌, ◌++◌, Bool, true, false, ◌||◌, if◌then◌else◌, bytes_eq, codes, Option, None, Result, Ok, refl, ap, sym, ◌∙◌}
-use Rattle.std.proofs.Math.Bool.{or-false}
-use Rattle.serde_json.specs.Data.{Data, object, Members, no_members, member}
+use Rattle.std.proofs.Common.{◌≡◌, ℕ, List, [], ◌∷◌, ◌++◌, Bool, true, false, if◌then◌else◌, codes, Option, None, Result, Ok, refl, ap, sym, ◌∙◌}
+use Rattle.serde_json.specs.Data.{Data, object, Members, no_members}
 use Rattle.serde_json.specs.Find.{get_member, as_object, as_str}
-use Rattle.zarrs_meta.specs.Documents.{◌>>=◌, document_of, format_of, node_type_of, absent, present, formed, optional_from, required, optional, is_own, is_null, besides}
-use Rattle.zarrs_meta.specs.Forms.{number_u64, any, nullable, list_of, extension}
-use Rattle.zarrs_meta.specs.GroupV3 as group_v3
+use Rattle.zarrs_form.specs.Documents.{◌>>=◌, document_of, format_of, node_type_of, absent, present, formed, optional_from, is_own, is_null, besides}
+use Rattle.zarrs_form.specs.Forms.{number_u64, any, nullable, list_of, extension}
 use Rattle.zarrs_meta.specs.GroupV3.{group_v3_of}
 use Rattle.zarrs_meta.specs.GroupV2 as group_v2
 use Rattle.zarrs_meta.specs.GroupV2.{group_v2_of}
 use Rattle.zarrs_meta.specs.ArrayV2 as array_v2
 use Rattle.zarrs_meta.specs.ArrayV2.{array_v2_of}
-use Rattle.zarrs_meta.specs.ArrayV3 as array_v3
 use Rattle.zarrs_meta.specs.ArrayV3.{array_v3_of}
-use Rattle.zarrs_meta.specs.FormsV2.{codec, data_type, order, separator, chunk_lengths}
-use Rattle.zarrs_meta.specs.Taken.{besides_null, node_names, group_v3_taken, group_v2_taken, array_v3_taken, array_v2_taken}
-use Rattle.zarrs_meta.proofs.MemberLaws.{neither, get_besides}
+use Rattle.zarrs_form.specs.FormsV2.{codec, data_type, order, separator, chunk_lengths}
+use Rattle.zarrs_meta.specs.Taken.{node_names, group_v3_taken, group_v2_taken, array_v3_taken, array_v2_taken}
+use Rattle.zarrs_form.proofs.LeftLaws.{left, get_left, left_besides, besides_both}
 use Rattle.zarrs_store.specs.declared.fault.MetadataFault.{MetadataFault}
 use Rattle.zarrs_meta.specs.declared.array_v3.ArrayMetadataV3.{ArrayMetadataV3}
 use Rattle.zarrs_meta.specs.declared.array_v2.ArrayMetadataV2.{ArrayMetadataV2}
-use Rattle.zarrs_meta.specs.declared.chunks.ChunkKeySeparator.TheVariants.{Dot}
+use Rattle.zarrs_form.specs.declared.chunks.ChunkKeySeparator.TheVariants.{Dot}
 use Rattle.zarrs_meta.specs.declared.group_v3.GroupMetadataV3.{GroupMetadataV3}
 use Rattle.zarrs_meta.specs.declared.group_v2.GroupMetadataV2.{GroupMetadataV2}
-
--- what is left of the members once those of the names were taken out, in order
-abbrev pub left : List (List ℕ) → Members → Members
-left [] ms = ms
-left (name ∷ names) ms = left names (besides (name ∷ []) ms)
-
--- another name is found in what is left
-pub get_left : (names : List (List ℕ)) (k : List ℕ) (ms : Members) → is_own names k ≡ false → get_member k (left names ms) ≡ get_member k ms
-get_left [] k ms other = refl
-get_left (n ∷ names) k ms other =
-    let parts = neither (bytes_eq n k) (is_own names k) other in
-    get_left names k (besides (n ∷ []) ms) parts.1 ∙ get_besides (n ∷ []) k ms (rw parts.0 refl)
-
-besides_none : (ms : Members) → ms ≡ besides [] ms
-besides_none no_members = refl
-besides_none (member l e ms) = ap (member l e) (besides_none ms)
-
-besides_more_at : (b c : Bool) (names : List (List ℕ)) (l : List ℕ) (e : Data) (ns os : Members) → is_own names l ≡ c → besides names ns ≡ os
-    → besides names (if b then ns else member l e ns) ≡ (if b || c then os else member l e os)
-besides_more_at true c names l e ns os own later = later
-besides_more_at false true names l e ns os own later = rw own later
-besides_more_at false false names l e ns os own later = rw own (ap (member l e) later)
-
--- two names after one another
-besides_more : (n : List ℕ) (names : List (List ℕ)) (ms : Members) → besides names (besides (n ∷ []) ms) ≡ besides (n ∷ names) ms
-besides_more n names no_members = refl
-besides_more n names (member l e ms) =
-    rw (or-false (bytes_eq n l)) (besides_more_at (bytes_eq n l) (is_own names l) names l e (besides (n ∷ []) ms) (besides (n ∷ names) ms) refl (besides_more n names ms))
-
--- what is left are the members besides those that were taken
-pub left_besides : (names : List (List ℕ)) (ms : Members) → left names ms ≡ besides names ms
-left_besides [] ms = besides_none ms
-left_besides (n ∷ names) ms = left_besides names (besides (n ∷ []) ms) ∙ besides_more n names ms
-
-or_assoc : (a b c : Bool) → (a || (b || c)) ≡ ((a || b) || c)
-or_assoc true b c = refl
-or_assoc false b c = refl
-
--- a name is one of two lists of names where it is one of either
-is_own_both : (names more : List (List ℕ)) (l : List ℕ) → is_own (names ++ more) l ≡ (is_own names l || is_own more l)
-is_own_both [] more l = refl
-is_own_both (n ∷ names) more l = ap (λ b. bytes_eq n l || b) (is_own_both names more l) ∙ or_assoc (bytes_eq n l) (is_own names l) (is_own more l)
-
-besides_both_at : (a b : Bool) (names : List (List ℕ)) (l : List ℕ) (e : Data) (ns os : Members) → is_own names l ≡ a → besides names ns ≡ os
-    → besides names (if b then ns else member l e ns) ≡ (if a || b then os else member l e os)
-besides_both_at true true names l e ns os own later = later
-besides_both_at true false names l e ns os own later = rw own later
-besides_both_at false true names l e ns os own later = later
-besides_both_at false false names l e ns os own later = rw own (ap (member l e) later)
-
--- the members besides two lists of names
-besides_both : (names more : List (List ℕ)) (ms : Members) → besides names (besides more ms) ≡ besides (names ++ more) ms
-besides_both names more no_members = refl
-besides_both names more (member l e ms) =
-    rw (is_own_both names more l) (besides_both_at (is_own names l) (is_own more l) names l e (besides more ms) (besides (names ++ more) ms) refl (besides_both names more ms))
 
 -- ---- the version 3 array
 

@@ -1,8 +1,8 @@
 -- Zarr specification version 2, "Attributes": the document `.zattrs`.
 use Rattle.std.specs.Prelude.{Bool, Result, Ok}
 use Rattle.serde_json.specs.Data.{Data, object}
-use Rattle.zarrs_meta.specs.Documents.{◌>>=◌, document_of}
-use Rattle.zarrs_meta.specs.Forms.{fits}
+use Rattle.zarrs_form.specs.Documents.{◌>>=◌, document_of}
+use Rattle.zarrs_form.specs.Forms.{fits}
 use Rattle.zarrs_store.specs.declared.fault.MetadataFault.{MetadataFault}
 use Rattle.zarrs_meta.specs.declared.attributes.AttributesDocument.{AttributesDocument}
 

@@ -2,8 +2,8 @@
 use Rattle.std.specs.Prelude.{ℕ, Bool, not, ◌&&◌, List, [], ◌∷◌, Option, Some, Result, Ok, codes}
 use Rattle.serde_json.specs.Data.{Data, object, no_members}
 use Rattle.serde_json.specs.Find.{as_object}
-use Rattle.zarrs_meta.specs.Documents.{◌>>=◌, document_of, format_of, absent, optional, besides, has_own, is_empty}
-use Rattle.zarrs_meta.specs.Forms.{number_data, fits, unless, put_rows}
+use Rattle.zarrs_form.specs.Documents.{◌>>=◌, document_of, format_of, absent, optional, besides, has_own, is_empty}
+use Rattle.zarrs_form.specs.Forms.{number_data, fits, unless, put_rows}
 use Rattle.zarrs_store.specs.declared.fault.MetadataFault.{MetadataFault}
 use Rattle.zarrs_meta.specs.declared.group_v2.GroupMetadataV2.{GroupMetadataV2}
 

@@ -2,8 +2,8 @@
 use Rattle.std.specs.Prelude.{ℕ, Bool, not, ◌&&◌, if◌then◌else◌, List, [], ◌∷◌, Option, Some, Result, Ok, codes}
 use Rattle.serde_json.specs.Data.{Data, string, object, no_members}
 use Rattle.serde_json.specs.Find.{get, get_member, as_object}
-use Rattle.zarrs_meta.specs.Documents.{◌>>=◌, document_of, format_of, node_type_of, optional, besides, has_own, is_null, is_empty}
-use Rattle.zarrs_meta.specs.Forms.{number_data, fits, unless, put_rows}
+use Rattle.zarrs_form.specs.Documents.{◌>>=◌, document_of, format_of, node_type_of, optional, besides, has_own, is_null, is_empty}
+use Rattle.zarrs_form.specs.Forms.{number_data, fits, unless, put_rows}
 use Rattle.zarrs_store.specs.declared.fault.MetadataFault.{MetadataFault}
 use Rattle.zarrs_meta.specs.declared.group_v3.GroupMetadataV3.{GroupMetadataV3}
 

@@ -1,15 +1,13 @@
 -- What holds of every document, by the definitions alone.
-use Rattle.std.specs.Prelude.{◌≡◌, ◌≢◌, ℕ, List, IsTrue, Result, Ok, Err}
+use Rattle.std.specs.Prelude.{◌≡◌, ℕ, List, IsTrue, Ok}
 use Rattle.serde_json.specs.Data.{Data}
 use Rattle.zarrs_meta.specs.GroupV3.{group_v3_of, is_plain_group_v3}
 use Rattle.zarrs_meta.specs.GroupV2.{group_v2_of, is_plain_group_v2}
 use Rattle.zarrs_meta.specs.ArrayV3.{array_v3_of, is_plain_array_v3}
 use Rattle.zarrs_meta.specs.ArrayV2.{array_v2_of, is_plain_array_v2}
-use Rattle.zarrs_meta.specs.Documents.{of_bytes}
+use Rattle.zarrs_form.specs.Documents.{of_bytes, NeverLacksMemory}
 use Rattle.zarrs_meta.specs.Attributes.{attributes_of, is_plain_attributes}
 use Rattle.zarrs_meta.specs.Node.{node_of, zarr_json_of, is_plain_node, group_with, array_with}
-use Rattle.zarrs_store.specs.declared.fault.MetadataFault.{MetadataFault}
-use Rattle.zarrs_store.specs.declared.fault.MetadataFault.TheVariants.{OutOfMemory}
 use Rattle.zarrs_meta.specs.declared.attributes.AttributesDocument.{AttributesDocument}
 use Rattle.zarrs_meta.specs.declared.node.ZarrJson.TheVariants.{Node}
 use Rattle.zarrs_meta.specs.declared.node.NodeMetadata.{NodeMetadata}
@@ -51,10 +49,6 @@ abbrev pub WithAttributesIsPlain : Type 0
 WithAttributesIsPlain = (a : AttributesDocument) → IsTrue (is_plain_attributes a) →
     ((m : GroupMetadataV2) → IsTrue (is_plain_group_v2 m) → IsTrue (is_plain_group_v2 (group_with a m)))
     × ((m : ArrayMetadataV2) → IsTrue (is_plain_array_v2 m) → IsTrue (is_plain_array_v2 (array_with a m)))
-
--- what reading gives is not want of memory
-abbrev pub NeverLacksMemory : {A : Type 0} → Result A MetadataFault → Type 0
-NeverLacksMemory reading = reading ≢ Err OutOfMemory
 
 -- no bytes mean want of memory, whatever document they are read as
 abbrev pub ReadingNeverLacksMemory : Type 0

@@ -1,11 +1,6 @@
-pub mod DataCode
-pub mod Documents
-pub mod Fields
 pub mod GroupV3
-pub mod Forms
 pub mod ArrayV3
 pub mod GroupV2
-pub mod FormsV2
 pub mod ArrayV2
 pub mod Attributes
 pub mod Taken

@@ -3,7 +3,7 @@ use Rattle.std.specs.Prelude.{ℕ, List, Bool, true, false, if◌then◌else◌,
 use Rattle.std.specs.Result.{is_ok}
 use Rattle.serde_json.specs.Data.{Data}
 use Rattle.serde_json.specs.Find.{get}
-use Rattle.zarrs_meta.specs.Documents.{◌>>=◌, document_of, format_of, node_type_of}
+use Rattle.zarrs_form.specs.Documents.{◌>>=◌, document_of, format_of, node_type_of}
 use Rattle.zarrs_meta.specs.GroupV3.{group_v3_of, group_v3_tree, is_plain_group_v3}
 use Rattle.zarrs_meta.specs.GroupV2.{group_v2_of, group_v2_tree, is_plain_group_v2}
 use Rattle.zarrs_meta.specs.ArrayV3.{array_v3_of, array_v3_tree, is_plain_array_v3}

@@ -1,20 +1,16 @@
 -- Zarr core specification 3.1, "Group metadata" and "Array metadata", and specification version 2, "Groups" and "Arrays": how a reader takes the members of the table out of a document one after the other.
-use Rattle.std.specs.Prelude.{ℕ, List, [], ◌∷◌, if◌then◌else◌, None, Result, Ok, codes}
+use Rattle.std.specs.Prelude.{ℕ, List, [], ◌∷◌, None, Result, Ok, codes}
 use Rattle.serde_json.specs.Data.{object, Members, no_members}
-use Rattle.serde_json.specs.Find.{get_member, as_object, as_str}
-use Rattle.zarrs_meta.specs.Documents.{◌>>=◌, required, optional, besides, is_null}
-use Rattle.zarrs_meta.specs.Forms.{number_u64, any, nullable, list_of, extension}
-use Rattle.zarrs_meta.specs.FormsV2.{codec, data_type, order, separator, chunk_lengths}
+use Rattle.serde_json.specs.Find.{as_object, as_str}
+use Rattle.zarrs_form.specs.Documents.{◌>>=◌, required, optional, besides, besides_null}
+use Rattle.zarrs_form.specs.Forms.{number_u64, any, nullable, list_of, extension}
+use Rattle.zarrs_form.specs.FormsV2.{codec, data_type, order, separator, chunk_lengths}
 use Rattle.zarrs_store.specs.declared.fault.MetadataFault.{MetadataFault}
 use Rattle.zarrs_meta.specs.declared.group_v2.GroupMetadataV2.{GroupMetadataV2}
 use Rattle.zarrs_meta.specs.declared.group_v3.GroupMetadataV3.{GroupMetadataV3}
 use Rattle.zarrs_meta.specs.declared.array_v2.ArrayMetadataV2.{ArrayMetadataV2}
 use Rattle.zarrs_meta.specs.declared.array_v3.ArrayMetadataV3.{ArrayMetadataV3}
-use Rattle.zarrs_meta.specs.declared.chunks.ChunkKeySeparator.TheVariants.{Dot}
-
--- the members but for one of this name that is null
-abbrev pub besides_null : List ℕ → Members → Members
-besides_null name ms = if is_null (get_member name ms) then besides (name ∷ []) ms else ms
+use Rattle.zarrs_form.specs.declared.chunks.ChunkKeySeparator.TheVariants.{Dot}
 
 -- what a version 3 document asks of each node
 abbrev pub node_names : List (List ℕ)

@@ -1,24 +1,23 @@
 //! The version 2 array.
 ghost use Rattle.std.specs.Prelude.{◌≡◌, [], ◌∷◌, Ok, IfOk, IsTrue, codes, string_bytes};
-ghost use Rattle.serde_json.specs.Data.{object};
+ghost use Rattle.serde_json.specs.Data.{object, no_members};
 ghost use Rattle.serde_json.specs.View.{view, members_view};
 ghost use Rattle.serde_json.specs.Written.{compact_text};
-ghost use Rattle.zarrs_meta.specs.Documents.{Gives, besides, document_of, of_bytes, optional};
-ghost use Rattle.zarrs_meta.specs.FormsV2.{separator};
-ghost use Rattle.zarrs_meta.specs.declared.chunks.ChunkKeySeparator.TheVariants.{Dot};
-ghost use Rattle.zarrs_meta.specs.ArrayV2.{array_v2_of, array_v2_tree, is_plain_array_v2};
+ghost use Rattle.zarrs_form.specs.Documents.{Gives, besides, document_of, of_bytes, optional};
+ghost use Rattle.zarrs_form.specs.Forms.{put_rows};
+ghost use Rattle.zarrs_form.specs.FormsV2.{separator};
+ghost use Rattle.zarrs_form.specs.declared.chunks.ChunkKeySeparator.TheVariants.{Dot};
+ghost use Rattle.zarrs_meta.specs.ArrayV2.{array_v2_of, array_v2_rows, array_v2_tree, is_plain_array_v2};
 ghost use Rattle.zarrs_meta.specs.Taken.{array_v2_taken};
 
-use crate::chunks::{ArrayMetadataV2Order, ChunkKeySeparator, chunk_lengths, has_zero};
-use crate::codec::MetadataV2;
-use crate::data_type::DataTypeMetadataV2;
-use crate::form::{Form, attributes, optional, put_member, put_unless, required};
-use crate::members::{
-    ask_format, document, document_copy, has_own_member, members_have_float, parse, take_member,
-};
-use crate::shapes::{FillValueMetadata, List, Object};
 use serde_json::{Map, Value, put};
 use std::alloc::{AllocError, Global};
+use zarrs_form::{
+    ArrayMetadataV2Order, ChunkKeySeparator, DataTypeMetadataV2, FillValueMetadata, Form, List,
+    MetadataV2, Object, ask_format, attributes, chunk_lengths, document, document_copy,
+    has_own_member, has_zero, members_have_float, open_table, optional, parse, put_member,
+    put_unless, required, take_member, write_last, write_row, write_unless,
+};
 use zarrs_store::MetadataFault;
 
 /// The metadata of a version 2 array.
@@ -171,7 +170,32 @@ impl ArrayMetadataV2 {
         ensures { IfOk result (λ text. IsTrue (is_plain_array_v2 self.now)
             → string_bytes text ≡ compact_text (array_v2_tree self.now)) }
     {
+        if self.additional_fields.is_empty() {
+            return self.table_text(alloc);
+        }
         self.to_value(alloc)?.to_string(alloc)
+    }
+
+    /// The text of the members of the table alone, in the order of their names.
+    fn table_text(&self, alloc: Global) -> Result<String, AllocError>
+        ensures { IfOk result (λ text. IsTrue (is_plain_array_v2 self.now)
+            → string_bytes text ≡ compact_text (object (put_rows (array_v2_rows self.now) no_members))) }
+    {
+        let mut out = open_table(alloc)?;
+        let empty = self.attributes.is_empty();
+        write_unless(alloc, &mut out, "attributes", empty, &self.attributes)?;
+        write_row(alloc, &mut out, "chunks", Some(&self.chunks))?;
+        let compressor = Some(&self.compressor);
+        write_row(alloc, &mut out, "compressor", compressor)?;
+        let separator = Some(&self.dimension_separator);
+        write_row(alloc, &mut out, "dimension_separator", separator)?;
+        write_row(alloc, &mut out, "dtype", Some(&self.dtype))?;
+        write_row(alloc, &mut out, "fill_value", Some(&self.fill_value))?;
+        write_row(alloc, &mut out, "filters", Some(&self.filters))?;
+        write_row(alloc, &mut out, "order", Some(&self.order))?;
+        write_row(alloc, &mut out, "shape", Some(&self.shape))?;
+        write_last(alloc, &mut out, "zarr_format", &2u64)?;
+        Ok(out)
     }
 
     /// Whether the array could have come from a document: its numbers are `u64` or `i64`, no chunk length is

@@ -1,23 +1,22 @@
 //! The version 3 array.
 ghost use Rattle.std.specs.Prelude.{◌≡◌, [], ◌∷◌, Ok, None, IfOk, IsTrue, codes, string_bytes};
-ghost use Rattle.serde_json.specs.Data.{object};
+ghost use Rattle.serde_json.specs.Data.{object, no_members};
 ghost use Rattle.serde_json.specs.Find.{as_str};
 ghost use Rattle.serde_json.specs.View.{view, members_view};
 ghost use Rattle.serde_json.specs.Written.{compact_text};
-ghost use Rattle.zarrs_meta.specs.Documents.{Gives, besides, document_of, of_bytes, optional};
-ghost use Rattle.zarrs_meta.specs.Forms.{extension, list_of, nullable};
-ghost use Rattle.zarrs_meta.specs.ArrayV3.{array_v3_of, array_v3_tree, is_plain_array_v3};
+ghost use Rattle.zarrs_form.specs.Documents.{Gives, besides, document_of, of_bytes, optional};
+ghost use Rattle.zarrs_form.specs.Forms.{extension, list_of, nullable, put_rows};
+ghost use Rattle.zarrs_meta.specs.ArrayV3.{array_v3_of, array_v3_rows, array_v3_tree, is_plain_array_v3};
 ghost use Rattle.zarrs_meta.specs.Taken.{array_v3_taken};
 
-use crate::extension::MetadataV3;
-use crate::fields::{
-    AdditionalFieldsV3, fields_have_float, fields_of, has_own_name, members_of_fields,
-};
-use crate::form::{Form, attributes, optional, put_member, put_unless, required};
-use crate::members::{ask_format, ask_node_type, document, document_copy, parse, put_text};
-use crate::shapes::{FillValueMetadata, List, Object, Text};
 use serde_json::{Map, Value, put};
 use std::alloc::{AllocError, Global};
+use zarrs_form::{
+    AdditionalFieldsV3, FillValueMetadata, Form, List, MetadataV3, Object, Text, ask_format,
+    ask_node_type, attributes, document, document_copy, fields_have_float, fields_of, has_own_name,
+    members_of_fields, open_table, optional, parse, put_member, put_text, put_unless, required,
+    write_last, write_row, write_unless,
+};
 use zarrs_store::MetadataFault;
 
 /// The metadata of a version 3 array.
@@ -184,7 +183,36 @@ impl ArrayMetadataV3 {
         ensures { IfOk result (λ text. IsTrue (is_plain_array_v3 self.now)
             → string_bytes text ≡ compact_text (array_v3_tree self.now)) }
     {
+        if self.additional_fields.is_empty() {
+            return self.table_text(alloc);
+        }
         self.to_value(alloc)?.to_string(alloc)
+    }
+
+    /// The text of the members of the table alone, in the order of their names.
+    fn table_text(&self, alloc: Global) -> Result<String, AllocError>
+        ensures { IfOk result (λ text. IsTrue (is_plain_array_v3 self.now)
+            → string_bytes text ≡ compact_text (object (put_rows (array_v3_rows self.now) no_members))) }
+    {
+        let mut out = open_table(alloc)?;
+        let empty = self.attributes.is_empty();
+        write_unless(alloc, &mut out, "attributes", empty, &self.attributes)?;
+        write_row(alloc, &mut out, "chunk_grid", Some(&self.chunk_grid))?;
+        let encoding = Some(&self.chunk_key_encoding);
+        write_row(alloc, &mut out, "chunk_key_encoding", encoding)?;
+        write_row(alloc, &mut out, "codecs", Some(&self.codecs))?;
+        write_row(alloc, &mut out, "data_type", Some(&self.data_type))?;
+        let names = self.dimension_names.as_ref();
+        write_row(alloc, &mut out, "dimension_names", names)?;
+        write_row(alloc, &mut out, "fill_value", Some(&self.fill_value))?;
+        let kind = Text::from_str(alloc, "array")?;
+        write_row(alloc, &mut out, "node_type", Some(&kind))?;
+        write_row(alloc, &mut out, "shape", Some(&self.shape))?;
+        let all = &self.storage_transformers;
+        let empty = all.is_empty();
+        write_unless(alloc, &mut out, "storage_transformers", empty, all)?;
+        write_last(alloc, &mut out, "zarr_format", &3u64)?;
+        Ok(out)
     }
 
     /// Whether the array could have come from a document: its numbers are `u64` or `i64`, and no additional

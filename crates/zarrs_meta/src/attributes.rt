@@ -3,13 +3,11 @@ ghost use Rattle.std.specs.Prelude.{◌≡◌, IfOk, IsTrue, string_bytes};
 ghost use Rattle.serde_json.specs.View.{view};
 ghost use Rattle.serde_json.specs.Written.{compact_text};
 ghost use Rattle.zarrs_meta.specs.Attributes.{attributes_of, attributes_tree, is_plain_attributes};
-ghost use Rattle.zarrs_meta.specs.Documents.{Gives, of_bytes};
+ghost use Rattle.zarrs_form.specs.Documents.{Gives, of_bytes};
 
-use crate::form::Form;
-use crate::members::{document, document_copy, parse};
-use crate::shapes::Object;
 use serde_json::Value;
 use std::alloc::{AllocError, Global};
+use zarrs_form::{Form, Object, document, document_copy, parse};
 use zarrs_store::MetadataFault;
 
 /// The attributes beside a version 2 group or array.
@@ -41,7 +39,7 @@ impl AttributesDocument {
     /// `NotJson` where the bytes are no JSON text, else as [`AttributesDocument::from_value`].
     ///
     /// Source: Zarr specification version 2, "Attributes".
-    #[tactic(auto, unfolding(crate::specs::Documents::of_bytes))]
+    #[tactic(auto, unfolding(zarrs_form::specs::Documents::of_bytes))]
     pub fn from_bytes(alloc: Global, bytes: &[u8]) -> Result<AttributesDocument, MetadataFault>
         ensures { Gives (λ a. a) result (of_bytes attributes_of bytes.now) }
     {
@@ -73,7 +71,9 @@ impl AttributesDocument {
         ensures { IfOk result (λ text. IsTrue (is_plain_attributes self.now)
             → string_bytes text ≡ compact_text (attributes_tree self.now)) }
     {
-        self.to_value(alloc)?.to_string(alloc)
+        let mut out = String::new(alloc);
+        self.0.write(alloc, &mut out)?;
+        Ok(out)
     }
 
     /// Whether the attributes could have come from a document: each number is `u64` or `i64`.

@@ -1,6 +1,6 @@
 //! What the documents at the keys of a store have in common.
-ghost use Rattle.std.specs.Prelude.{ℕ, List, Result};
-ghost use Rattle.zarrs_meta.specs.Documents.{Gives, of_bytes};
+ghost use Rattle.std.specs.Prelude.{◌≡◌, ℕ, List, Result, IfOk};
+ghost use Rattle.zarrs_form.specs.Documents.{Gives, of_bytes};
 ghost use Rattle.zarrs_meta.specs.ArrayV2.{array_v2_of};
 ghost use Rattle.zarrs_meta.specs.GroupV2.{group_v2_of};
 ghost use Rattle.zarrs_meta.specs.Attributes.{attributes_of};
@@ -11,7 +11,7 @@ use crate::array_v2::ArrayMetadataV2;
 use crate::attributes::AttributesDocument;
 use crate::group_v2::GroupMetadataV2;
 use crate::node::ZarrJson;
-use std::alloc::Global;
+use std::alloc::{AllocError, Global};
 use zarrs_store::MetadataFault;
 
 /// A kind of document that a store holds at a key.
@@ -26,6 +26,14 @@ pub trait Document: Sized {
     /// The first fault of the document; `OutOfMemory` where there is no memory.
     fn read(alloc: Global, bytes: &[u8]) -> Result<Self, MetadataFault>
         ensures { Gives (λ d. d) result (reading bytes.now) };
+
+    /// A copy that equals its source.
+    ///
+    /// # Errors
+    ///
+    /// `AllocError` where there is no memory for the copy.
+    fn try_clone(&self, alloc: Global) -> Result<Self, AllocError>
+        ensures { IfOk result (λ copy. copy ≡ self.now) };
 }
 
 impl Document for ZarrJson {
@@ -33,6 +41,13 @@ impl Document for ZarrJson {
 
     fn read(alloc: Global, bytes: &[u8]) -> Result<ZarrJson, MetadataFault> {
         ZarrJson::from_bytes(alloc, bytes)
+    }
+
+    fn try_clone(&self, alloc: Global) -> Result<ZarrJson, AllocError> {
+        match self {
+            ZarrJson::Node(metadata) => Ok(ZarrJson::Node(metadata.try_clone(alloc)?)),
+            ZarrJson::Version2 => Ok(ZarrJson::Version2),
+        }
     }
 }
 
@@ -42,6 +57,10 @@ impl Document for ArrayMetadataV2 {
     fn read(alloc: Global, bytes: &[u8]) -> Result<ArrayMetadataV2, MetadataFault> {
         ArrayMetadataV2::from_bytes(alloc, bytes)
     }
+
+    fn try_clone(&self, alloc: Global) -> Result<ArrayMetadataV2, AllocError> {
+        ArrayMetadataV2::try_clone(self, alloc)
+    }
 }
 
 impl Document for GroupMetadataV2 {
@@ -50,6 +69,10 @@ impl Document for GroupMetadataV2 {
     fn read(alloc: Global, bytes: &[u8]) -> Result<GroupMetadataV2, MetadataFault> {
         GroupMetadataV2::from_bytes(alloc, bytes)
     }
+
+    fn try_clone(&self, alloc: Global) -> Result<GroupMetadataV2, AllocError> {
+        GroupMetadataV2::try_clone(self, alloc)
+    }
 }
 
 impl Document for AttributesDocument {
@@ -57,5 +80,9 @@ impl Document for AttributesDocument {
 
     fn read(alloc: Global, bytes: &[u8]) -> Result<AttributesDocument, MetadataFault> {
         AttributesDocument::from_bytes(alloc, bytes)
+    }
+
+    fn try_clone(&self, alloc: Global) -> Result<AttributesDocument, AllocError> {
+        AttributesDocument::try_clone(self, alloc)
     }
 }

@@ -3,18 +3,17 @@ ghost use Rattle.std.specs.Prelude.{◌≡◌, Ok, IfOk, IsTrue, string_bytes};
 ghost use Rattle.serde_json.specs.Data.{object, no_members};
 ghost use Rattle.serde_json.specs.View.{view, members_view};
 ghost use Rattle.serde_json.specs.Written.{compact_text};
-ghost use Rattle.zarrs_meta.specs.Documents.{Gives, document_of, of_bytes};
-ghost use Rattle.zarrs_meta.specs.GroupV2.{group_v2_of, group_v2_tree, is_plain_group_v2};
+ghost use Rattle.zarrs_form.specs.Documents.{Gives, document_of, of_bytes};
+ghost use Rattle.zarrs_meta.specs.GroupV2.{group_v2_of, group_v2_rows, group_v2_tree, is_plain_group_v2};
+ghost use Rattle.zarrs_form.specs.Forms.{put_rows};
 ghost use Rattle.zarrs_meta.specs.Taken.{group_v2_taken};
 
-use crate::form::{attributes, put_unless};
-use crate::members::{
-    ask_format, document, document_copy, has_own_member, members_have_float, parse, refuse,
-    take_member,
-};
-use crate::shapes::Object;
 use serde_json::{Map, Value, put};
 use std::alloc::{AllocError, Global};
+use zarrs_form::{
+    Object, ask_format, attributes, document, document_copy, has_own_member, members_have_float,
+    open_table, parse, put_unless, refuse, take_member, write_last, write_unless,
+};
 use zarrs_store::MetadataFault;
 
 /// The metadata of a version 2 group.
@@ -132,7 +131,22 @@ impl GroupMetadataV2 {
         ensures { IfOk result (λ text. IsTrue (is_plain_group_v2 self.now)
             → string_bytes text ≡ compact_text (group_v2_tree self.now)) }
     {
+        if self.additional_fields.is_empty() {
+            return self.table_text(alloc);
+        }
         self.to_value(alloc)?.to_string(alloc)
+    }
+
+    /// The text of the members of the table alone, in the order of their names.
+    fn table_text(&self, alloc: Global) -> Result<String, AllocError>
+        ensures { IfOk result (λ text. IsTrue (is_plain_group_v2 self.now)
+            → string_bytes text ≡ compact_text (object (put_rows (group_v2_rows self.now) no_members))) }
+    {
+        let mut out = open_table(alloc)?;
+        let empty = self.attributes.is_empty();
+        write_unless(alloc, &mut out, "attributes", empty, &self.attributes)?;
+        write_last(alloc, &mut out, "zarr_format", &2u64)?;
+        Ok(out)
     }
 
     /// Whether the group could have come from a document: its numbers fit, and no additional field has

@@ -3,21 +3,19 @@ ghost use Rattle.std.specs.Prelude.{◌≡◌, Ok, IfOk, IsTrue, string_bytes};
 ghost use Rattle.serde_json.specs.Data.{object, no_members};
 ghost use Rattle.serde_json.specs.View.{view, members_view};
 ghost use Rattle.serde_json.specs.Written.{compact_text};
-ghost use Rattle.zarrs_meta.specs.Documents.{Gives, document_of, of_bytes};
-ghost use Rattle.zarrs_meta.specs.GroupV3.{group_v3_of, group_v3_tree, is_plain_group_v3};
+ghost use Rattle.zarrs_form.specs.Documents.{Gives, document_of, of_bytes};
+ghost use Rattle.zarrs_meta.specs.GroupV3.{group_v3_of, group_v3_rows, group_v3_tree, is_plain_group_v3};
+ghost use Rattle.zarrs_form.specs.Forms.{put_rows};
 ghost use Rattle.zarrs_meta.specs.Taken.{group_v3_taken};
 
-use crate::fields::{
-    AdditionalFieldsV3, fields_have_float, fields_of, has_own_name, is_null_at, members_of_fields,
-};
-use crate::form::{attributes, put_unless};
-use crate::members::{
-    ask_format, ask_node_type, document, document_copy, members_have_float, parse, put_text,
-    take_null,
-};
-use crate::shapes::Object;
 use serde_json::{Map, Value, put};
 use std::alloc::{AllocError, Global};
+use zarrs_form::{
+    AdditionalFieldsV3, Object, Text, ask_format, ask_node_type, attributes, document,
+    document_copy, fields_have_float, fields_of, has_own_name, is_null_at, members_have_float,
+    members_of_fields, open_table, parse, put_text, put_unless, take_null, write_last, write_row,
+    write_unless,
+};
 use zarrs_store::MetadataFault;
 
 /// The metadata of a version 3 group.
@@ -135,7 +133,24 @@ impl GroupMetadataV3 {
         ensures { IfOk result (λ text. IsTrue (is_plain_group_v3 self.now)
             → string_bytes text ≡ compact_text (group_v3_tree self.now)) }
     {
+        if self.additional_fields.is_empty() {
+            return self.table_text(alloc);
+        }
         self.to_value(alloc)?.to_string(alloc)
+    }
+
+    /// The text of the members of the table alone, in the order of their names.
+    fn table_text(&self, alloc: Global) -> Result<String, AllocError>
+        ensures { IfOk result (λ text. IsTrue (is_plain_group_v3 self.now)
+            → string_bytes text ≡ compact_text (object (put_rows (group_v3_rows self.now) no_members))) }
+    {
+        let mut out = open_table(alloc)?;
+        let empty = self.attributes.is_empty();
+        write_unless(alloc, &mut out, "attributes", empty, &self.attributes)?;
+        let kind = Text::from_str(alloc, "group")?;
+        write_row(alloc, &mut out, "node_type", Some(&kind))?;
+        write_last(alloc, &mut out, "zarr_format", &3u64)?;
+        Ok(out)
     }
 
     /// Whether the group could have come from a document: its numbers are `u64` or `i64`, no additional field

@@ -6,31 +6,22 @@
 mod array_v2;
 mod array_v3;
 mod attributes;
-mod chunks;
-mod codec;
 mod copies;
-mod data_type;
 mod document;
-mod extension;
-mod fields;
-mod form;
 mod group_v2;
 mod group_v3;
 pub mod laws;
-mod members;
 mod node;
-mod shapes;
 
 pub use array_v2::ArrayMetadataV2;
 pub use array_v3::ArrayMetadataV3;
 pub use attributes::AttributesDocument;
-pub use chunks::{ArrayMetadataV2Order, ChunkKeySeparator};
-pub use codec::MetadataV2;
-pub use data_type::{DataTypeMetadataV2, Endianness};
 pub use document::Document;
-pub use extension::MetadataV3;
-pub use fields::{AdditionalFieldV3, AdditionalFieldsV3};
 pub use group_v2::GroupMetadataV2;
 pub use group_v3::GroupMetadataV3;
 pub use node::{ArrayMetadata, GroupMetadata, NodeMetadata, ZarrJson};
-pub use shapes::{FillValueMetadata, Json, List, Object, Text};
+pub use zarrs_form::{
+    AdditionalFieldV3, AdditionalFieldsV3, ArrayMetadataV2Order, ChunkKeySeparator,
+    DataTypeMetadataV2, Endianness, FillValueMetadata, Json, List, MetadataV2, MetadataV3, Object,
+    Text,
+};

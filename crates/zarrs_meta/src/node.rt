@@ -3,7 +3,7 @@ ghost use Rattle.std.specs.Prelude.{◌≡◌, Ok, IfOk, IsTrue, string_bytes};
 ghost use Rattle.serde_json.specs.Data.{object};
 ghost use Rattle.serde_json.specs.View.{view, members_view};
 ghost use Rattle.serde_json.specs.Written.{compact_text};
-ghost use Rattle.zarrs_meta.specs.Documents.{Gives, document_of, of_bytes};
+ghost use Rattle.zarrs_form.specs.Documents.{Gives, document_of, of_bytes};
 ghost use Rattle.zarrs_meta.specs.Node.{node_of, node_v2_of, node_v3_of, node_tree, is_plain_node, zarr_json_of, has_format, has_type, is_group};
 ghost use Rattle.zarrs_meta.specs.declared.node.GroupMetadata.TheVariants.{V3 as group_v3, V2 as group_v2};
 ghost use Rattle.zarrs_meta.specs.declared.node.ArrayMetadata.TheVariants.{V3 as array_v3, V2 as array_v2};
@@ -12,9 +12,9 @@ use crate::array_v2::ArrayMetadataV2;
 use crate::array_v3::ArrayMetadataV3;
 use crate::group_v2::GroupMetadataV2;
 use crate::group_v3::GroupMetadataV3;
-use crate::members::{ask_format, ask_node_type, document, document_copy, member, parse};
 use serde_json::{Map, Value};
 use std::alloc::{AllocError, Global};
+use zarrs_form::{ask_format, ask_node_type, document, document_copy, member, parse};
 use zarrs_store::MetadataFault;
 
 /// The metadata of a group of either version.
@@ -147,7 +147,12 @@ impl NodeMetadata {
         ensures { IfOk result (λ text. IsTrue (is_plain_node self.now)
             → string_bytes text ≡ compact_text (node_tree self.now)) }
     {
-        self.to_value(alloc)?.to_string(alloc)
+        match self {
+            NodeMetadata::Group(GroupMetadata::V3(group)) => group.to_text(alloc),
+            NodeMetadata::Group(GroupMetadata::V2(group)) => group.to_text(alloc),
+            NodeMetadata::Array(ArrayMetadata::V3(array)) => array.to_text(alloc),
+            NodeMetadata::Array(ArrayMetadata::V2(array)) => array.to_text(alloc),
+        }
     }
 
     /// Whether the metadata could have come from a document.

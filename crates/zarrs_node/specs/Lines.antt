@@ -5,9 +5,9 @@ use Rattle.std.specs.List.{join_by}
 use Rattle.zarrs_store.specs.Contents.{Lists}
 use Rattle.zarrs_store.specs.Segments.{last_segment}
 use Rattle.zarrs_path.specs.Paths.{Path}
-use Rattle.zarrs_meta.specs.declared.data_type.DataTypeMetadataV2.{DataTypeMetadataV2}
-use Rattle.zarrs_meta.specs.declared.data_type.DataTypeMetadataV2.TheVariants.{Simple, Structured}
-use Rattle.zarrs_meta.specs.declared.extension.MetadataV3.{MetadataV3}
+use Rattle.zarrs_form.specs.declared.data_type.DataTypeMetadataV2.{DataTypeMetadataV2}
+use Rattle.zarrs_form.specs.declared.data_type.DataTypeMetadataV2.TheVariants.{Simple, Structured}
+use Rattle.zarrs_form.specs.declared.extension.MetadataV3.{MetadataV3}
 use Rattle.zarrs_meta.specs.declared.node.ArrayMetadata.{ArrayMetadata}
 use Rattle.zarrs_meta.specs.declared.node.ArrayMetadata.TheVariants.{V3, V2}
 use Rattle.zarrs_meta.specs.declared.node.NodeMetadata.{NodeMetadata}

@@ -4,6 +4,7 @@
 mod children;
 mod exists;
 mod last_name;
+mod last_read;
 pub mod laws;
 mod listing;
 mod metadata;

@@ -10,6 +10,7 @@ ghost use Rattle.zarrs_node.specs.Meaning.{meaning, bad};
 ghost use Rattle.zarrs_block.specs.Refused.{IsExcused, IsInvalidPath};
 ghost use Rattle.zarrs_node.specs.Refused.{Finds};
 
+use crate::last_read::LastDocuments;
 use crate::metadata::find_metadata;
 use crate::node::{Node, push_node};
 use std::alloc::{AllocError, Global};
@@ -56,12 +57,32 @@ pub fn list_nodes<S: ReadableStorageTraits + ListableStorageTraits>(
     ensures clean { IfOk result (λ _. Bad (S.contents storage.now) version.now recursive path.now → ⊥) }
     ensures refused { IfErr result (λ e. IsExcused (S.can_fail storage.now) e ⊎ ShowsBad (S.contents storage.now) version.now recursive path.now e) }
 {
+    let mut last = LastDocuments::new(alloc);
+    let listed = list_below(alloc, storage, path, recursive, version, &mut last);
+    drop(last);
+    listed
+}
+
+// What `list_nodes` answers, where some documents were read before.
+fn list_below<S: ReadableStorageTraits + ListableStorageTraits>(
+    alloc: Global,
+    storage: &S,
+    path: &NodePath,
+    recursive: bool,
+    version: &MetadataRetrieveVersion,
+    last: &mut LastDocuments,
+) -> Result<ListedNodes, NodeCreateError>
+    ensures shows { IfOk result (λ l. Shows (forest l.nodes.items) path.now (Nodes (S.contents storage.now) version.now recursive path.now)) }
+    ensures ignored { IfOk result (λ l. Lists (Ignored (S.contents storage.now) version.now recursive path.now) l.ignored.items) }
+    ensures clean { IfOk result (λ _. Bad (S.contents storage.now) version.now recursive path.now → ⊥) }
+    ensures refused { IfErr result (λ e. IsExcused (S.can_fail storage.now) e ⊎ ShowsBad (S.contents storage.now) version.now recursive path.now e) }
+{
     let mut listed = ListedNodes::new(alloc);
     let children = child_prefixes(alloc, storage, path)?;
     for prefix in &children {
-        let (child, found) = read_child(alloc, storage, prefix, version)?;
+        let (child, found) = read_child(alloc, storage, prefix, version, last)?;
         let below = if recursive && is_group(&found) {
-            list_nodes(alloc, storage, &child, recursive, version)?
+            list_below(alloc, storage, &child, recursive, version, last)?
         } else {
             ListedNodes::new(alloc)
         };
@@ -132,6 +153,7 @@ fn read_child<S: ReadableStorageTraits>(
     storage: &S,
     prefix: &StorePrefix,
     version: &MetadataRetrieveVersion,
+    last: &mut LastDocuments,
 ) -> Result<(NodePath, Option<NodeMetadata>), NodeCreateError>
     ensures path { IfOk result (λ x. (x.0 ≡ prefix.now) × IsPath x.0) }
     ensures found { IfOk result (λ x. Finds (S.can_fail storage.now) (Ok x.1) (meaning (S.contents storage.now) version.now x.0)) }
@@ -139,7 +161,7 @@ fn read_child<S: ReadableStorageTraits>(
     ensures valid { IsPrefix prefix.now }
 {
     let path = child_path(alloc, prefix)?;
-    let found = find_metadata(alloc, storage, &path, version)?;
+    let found = find_metadata(alloc, storage, &path, version, last)?;
     Ok((path, found))
 }
 

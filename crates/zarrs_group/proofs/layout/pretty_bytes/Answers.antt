@@ -3,7 +3,7 @@ use Rattle.std.proofs.lemmas.Str.{is_utf8-from_IsUtf8}
 use Rattle.json.specs.Layout.{pretty}
 use Rattle.serde_json.proofs.Texts.{tokens_from_order}
 use Rattle.serde_json.specs.View.{view}
-use Rattle.zarrs_meta.specs.Documents.{json_of}
+use Rattle.zarrs_form.specs.Documents.{json_of}
 use Rattle.zarrs_group.proofs.layout.pretty_bytes.Goals as goal
 
 pub returns-clause-layout : goal.returns-clause-layout

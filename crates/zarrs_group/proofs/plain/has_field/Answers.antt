@@ -1,5 +1,5 @@
 use Rattle.std.proofs.Common.{◌∙◌, ap, is_some}
-use Rattle.zarrs_meta.proofs.Shared.{lookup-members_of}
+use Rattle.zarrs_form.proofs.Shared.{lookup-members_of}
 use Rattle.zarrs_group.proofs.plain.has_field.Goals as goal
 
 pub returns-in-Some : goal.returns-in-Some

@@ -1,7 +1,7 @@
 use Rattle.std.proofs.Common.{◌∙◌, ap, is_some}
 use Rattle.serde_json.specs.Find.{as_null}
-use Rattle.zarrs_meta.specs.Documents.{is_null}
-use Rattle.zarrs_meta.proofs.Shared.{lookup-members_of}
+use Rattle.zarrs_form.specs.Documents.{is_null}
+use Rattle.zarrs_form.proofs.Shared.{lookup-members_of}
 use Rattle.zarrs_group.proofs.plain.is_null_at.Goals as goal
 
 pub returns-in-Some : goal.returns-in-Some

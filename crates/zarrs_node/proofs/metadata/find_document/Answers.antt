@@ -13,11 +13,11 @@ returns-in_default g c =
 pub returns-in-Ok : goal.returns-in-Ok
 returns-in-Ok g c =
     let found = rw c.in-Some.is at c.in_ok-bytes.ensures.ok in
-    let read = rw c.deref.ensures.value at c.in-Ok.ensures in
+    let read = c.in-Ok.ensures in
     document_ok g.D.Document.reading (g.S.Store.contents c.args.storage.now) c.args.key _ _ found read
 
 pub returns-in-Err : goal.returns-in-Err
 returns-in-Err g c =
     let found = rw c.in-Some.is at c.in_ok-bytes.ensures.ok in
-    let read = rw c.deref.ensures.value at c.in-Err.ensures in
+    let read = c.in-Err.ensures in
     rw c.invalid_metadata.ensures (document_err g.D.Document.reading (g.S.Store.contents c.args.storage.now) c.args.key _ _ _ found read)

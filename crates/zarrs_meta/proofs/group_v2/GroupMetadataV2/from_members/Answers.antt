@@ -1,7 +1,7 @@
 use Rattle.std.proofs.Common.{◌≡◌, ◌∷◌, [], codes, sym, ap, ◌∙◌}
 use Rattle.serde_json.specs.Data.{object}
 use Rattle.serde_json.specs.View.{members_view}
-use Rattle.zarrs_meta.specs.Documents.{besides}
+use Rattle.zarrs_form.specs.Documents.{besides}
 use Rattle.zarrs_meta.specs.GroupV2.{group_v2_of}
 use Rattle.zarrs_meta.specs.Taken.{group_v2_taken}
 use Rattle.zarrs_meta.proofs.TakenLaws.{group_v2_taken_is}

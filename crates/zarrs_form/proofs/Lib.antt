@@ -1,0 +1,10 @@
+pub mod Shared
+pub mod MemberLaws
+pub mod LeftLaws
+pub mod RowLaws
+pub mod AttributeLaws
+pub mod CodecLaws
+pub mod FieldLaws
+pub mod PlainForms
+pub mod TextLaws
+pub mod MemoryLaws

@@ -1,0 +1,94 @@
+-- No step of reading a document means want of memory: what it refuses with is never that fault.
+use Rattle.std.proofs.Common.{◌≡◌, ◌≢◌, ℕ, List, Bool, true, false, if◌then◌else◌, Option, Some, None, Result, Ok, Err}
+use Rattle.serde_json.specs.Data.{unsigned, negative, float, Data, null, boolean, number, string, array, object, Members}
+use Rattle.serde_json.specs.Find.{get}
+use Rattle.serde_json.specs.Written.{items_have_float, members_have_float}
+use Rattle.zarrs_form.specs.Documents.{◌>>=◌, NeverLacksMemory, json_of, parsed, of_bytes, document_of, format_of, node_type_of, present, formed, required, optional_from, optional}
+use Rattle.zarrs_store.specs.declared.fault.MetadataFault.{MetadataFault}
+use Rattle.zarrs_store.specs.declared.fault.MetadataFault.TheVariants.{NotAnObject, UnsupportedNumber, WrongFormat, WrongNodeType, BadMember, OutOfMemory}
+
+-- ---- steps
+
+-- a value is no fault
+pub given : {A : Type 0} (x : A) → NeverLacksMemory (Ok x)
+given x e = cc
+
+-- two steps that never lack memory never do together
+pub both_never : {A B : Type 0} (r : Result A MetadataFault) (f : A → Result B MetadataFault) → NeverLacksMemory r → ((x : A) → NeverLacksMemory (f x)) → NeverLacksMemory (r >>= f)
+both_never (Ok x) f h g = g x
+both_never (Err fault) f h g = λ e. h (let same : fault ≡ OutOfMemory = cc in cc)
+
+-- ---- the steps of reading a document
+
+-- no bytes are want of memory
+parsed_never : (o : Option Data) → NeverLacksMemory (parsed o)
+parsed_never None e = cc
+parsed_never (Some d) e = cc
+
+-- what is no object is refused, whatever its numbers
+refused : (b : Bool) → NeverLacksMemory {A = Members} (if b then Err UnsupportedNumber else Err NotAnObject)
+refused true e = cc
+refused false e = cc
+
+-- an object is refused only for its numbers
+kept : (b : Bool) (ms : Members) → NeverLacksMemory {A = Members} (if b then Err UnsupportedNumber else Ok ms)
+kept true ms e = cc
+kept false ms e = cc
+
+-- the members of a document
+pub document_never : (d : Data) → NeverLacksMemory (document_of d)
+document_never null e = cc
+document_never (boolean b) e = cc
+document_never (number (unsigned n)) e = cc
+document_never (number (negative z)) e = cc
+document_never (number (float x)) e = cc
+document_never (string s) e = cc
+document_never (array ds) e = refused (items_have_float ds) e
+document_never (object ms) e = kept (members_have_float ms) ms e
+
+-- a question is refused only with its own fault
+asked : (b : Bool) (fault : MetadataFault) → fault ≢ OutOfMemory → NeverLacksMemory {A = Unit {0}} (if b then Ok tt else Err fault)
+asked true fault other e = cc
+asked false fault other e = other (let same : fault ≡ OutOfMemory = cc in same)
+
+-- the format of a document
+pub format_never : (n : ℕ) (d : Data) → NeverLacksMemory (format_of n d)
+unfolding format_of
+format_never n d = asked _ WrongFormat (λ e. cc)
+
+-- the kind of a document
+pub node_type_never : (t : List ℕ) (d : Data) → NeverLacksMemory (node_type_of t d)
+unfolding node_type_of
+node_type_never t d = asked _ WrongNodeType (λ e. cc)
+
+-- a form is refused only with the name of the member
+formed_never : {A : Type 0} (name : List ℕ) (o : Option A) → NeverLacksMemory (formed name o)
+formed_never name None e = cc
+formed_never name (Some x) e = cc
+
+-- a member that has to be there, by what was found
+required_from : {A : Type 0} (form : Data → Option A) (name : List ℕ) (o : Option Data) → NeverLacksMemory (present name o >>= λ v. formed name (form v))
+required_from form name None e = cc
+required_from form name (Some d) e = formed_never name (form d) e
+
+-- a member that has to be there
+pub required_never : {A : Type 0} (form : Data → Option A) (name : List ℕ) (d : Data) → NeverLacksMemory (required name form d)
+required_never form name d = required_from form name (get name d)
+
+-- a member that may be absent, by what was found
+optional_never_from : {A : Type 0} (base : A) (form : Data → Option A) (name : List ℕ) (o : Option Data) → NeverLacksMemory (optional_from name base form o)
+optional_never_from base form name None e = cc
+optional_never_from base form name (Some d) e = formed_never name (form d) e
+
+-- a member that may be absent
+pub optional_never : {A : Type 0} (base : A) (form : Data → Option A) (name : List ℕ) (d : Data) → NeverLacksMemory (optional name base form d)
+optional_never base form name d = optional_never_from base form name (get name d)
+
+-- a member that must not be there, by what was found
+pub absent_by : (o : Option Data) (name : List ℕ) → NeverLacksMemory {A = Unit {0}} (elim o [ None ↦ Ok tt | Some d ↦ Err (BadMember name) ])
+absent_by None name e = cc
+absent_by (Some d) name e = cc
+
+-- bytes that are read as a document
+pub bytes_never : {A : Type 0} (reading : Data → Result A MetadataFault) → ((d : Data) → NeverLacksMemory (reading d)) → (bytes : List ℕ) → NeverLacksMemory (of_bytes reading bytes)
+bytes_never reading never bytes = both_never (parsed (json_of bytes)) reading (parsed_never (json_of bytes)) never

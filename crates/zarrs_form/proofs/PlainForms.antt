@@ -1,0 +1,246 @@
+-- What is read of data whose numbers fit: its parts fit too, and so does each value that a form gives.
+use Rattle.std.proofs.Common.{◌≡◌, ℕ, List, ◌∷◌, Bool, true, false, not, ◌&&◌, if◌then◌else◌, Less, Equal, Greater, Ordering, Option, Some, None, Result, Ok, Err, IfOk, option_map, nat_cmp, is_eq, bytes_eq, true≢false, refl, ap, sym, ◌∙◌, subst}
+use Rattle.std.specs.Prelude.{IfSome}
+use Rattle.std.specs.Ordering.{match_ordering}
+use Rattle.std.specs.List.{list_all}
+use Rattle.std.specs.Cmp.Lexicographic.{slice_cmp}
+use Rattle.std.proofs.lemmas.Map.Text.{is_eq-slice_cmp}
+use Rattle.std.proofs.lemmas.Slice.Eq.{bytes_eq-Decides}
+use Rattle.serde_json.specs.Data.{unsigned, negative, float, Data, null, boolean, number, string, array, object, Items, no_items, item, Members, no_members, member}
+use Rattle.serde_json.specs.Find.{get, get_member, as_object}
+use Rattle.serde_json.specs.Written.{has_float, items_have_float, members_have_float}
+use Rattle.zarrs_form.specs.Documents as documents
+use Rattle.zarrs_form.specs.Documents.{is_own, besides, has_own, document_of, present, formed, required, optional_from, optional}
+use Rattle.zarrs_form.specs.Forms as forms
+use Rattle.zarrs_form.specs.Forms.{any, nullable, each, list_of, none_or, fits, unless_absent}
+use Rattle.zarrs_store.specs.declared.fault.MetadataFault.{MetadataFault}
+use Rattle.zarrs_store.specs.declared.fault.MetadataFault.TheVariants.{NotAnObject, UnsupportedNumber}
+use Rattle.zarrs_form.proofs.MemberLaws.{neither}
+
+-- ---- steps that give a value, or none, or a fault
+
+-- a step of a form whose value has P, and then one whose value has Q
+pub some_then : {A B : Type 0} (P : A → Type 0) (Q : B → Type 0) (o : Option A) (f : A → Option B) → IfSome o P → ((x : A) → P x → IfSome (f x) Q) → IfSome (forms.◌>>=◌ o f) Q
+some_then P Q None f h g = tt
+some_then P Q (Some x) f h g = g x h
+
+-- the same, where nothing is known of the first step's value
+pub some_next : {A B : Type 0} (Q : B → Type 0) (o : Option A) (f : A → Option B) → ((x : A) → IfSome (f x) Q) → IfSome (forms.◌>>=◌ o f) Q
+some_next Q None f g = tt
+some_next Q (Some x) f g = g x
+
+-- the value under a function
+pub some_map : {A B : Type 0} (P : A → Type 0) (Q : B → Type 0) (f : A → B) (o : Option A) → IfSome o P → ((x : A) → P x → Q (f x)) → IfSome (option_map f o) Q
+some_map P Q f None h g = tt
+some_map P Q f (Some x) h g = g x h
+
+-- a step of a document whose value has P, and then one whose value has Q
+pub ok_then : {A B : Type 0} (P : A → Type 0) (Q : B → Type 0) (r : Result A MetadataFault) (f : A → Result B MetadataFault) → IfOk r P → ((x : A) → P x → IfOk (f x) Q) → IfOk (documents.◌>>=◌ r f) Q
+ok_then P Q (Ok x) f h g = g x h
+ok_then P Q (Err e) f h g = tt
+
+-- the same, where nothing is known of the first step's value
+pub ok_next : {A B : Type 0} (Q : B → Type 0) (r : Result A MetadataFault) (f : A → Result B MetadataFault) → ((x : A) → IfOk (f x) Q) → IfOk (documents.◌>>=◌ r f) Q
+ok_next Q (Ok x) f g = g x
+ok_next Q (Err e) f g = tt
+
+-- what holds of the value that there may be holds of that value
+pub of_ok : {A : Type 0} (P : A → Type 0) (r : Result A MetadataFault) (x : A) → IfOk r P → r ≡ Ok x → P x
+of_ok P (Ok y) x h e = let same : y ≡ x = cc in subst P same h
+of_ok P (Err y) x h e = cc
+
+-- two tests that are true are true together
+pub both_true : (a b : Bool) → a ≡ true → b ≡ true → (a && b) ≡ true
+both_true a b e f = rw (e, f) refl
+
+-- what is false is not true
+pub false_not : (b : Bool) → b ≡ false → not b ≡ true
+false_not b e = ap not e
+
+-- ---- numbers of parts
+
+-- the value of one member fits
+found_fits : (o : Ordering) (d : Data) (rest : Option Data) → has_float d ≡ false → IfSome rest (λ e. has_float e ≡ false) → IfSome (match_ordering o rest (Some d) rest) (λ e. has_float e ≡ false)
+found_fits Less d rest h hs = hs
+found_fits Equal d rest h hs = h
+found_fits Greater d rest h hs = hs
+
+-- a member of members whose numbers fit
+pub member_fits : (k : List ℕ) (ms : Members) → members_have_float ms ≡ false → IfSome (get_member k ms) (λ e. has_float e ≡ false)
+member_fits k no_members h = tt
+member_fits k (member l d ms) h =
+    let parts = neither (has_float d) (members_have_float ms) h in
+    found_fits (slice_cmp nat_cmp k l) d (get_member k ms) parts.0 (member_fits k ms parts.1)
+
+-- a member of data whose numbers fit
+pub get_fits : (k : List ℕ) (d : Data) → has_float d ≡ false → IfSome (get k d) (λ e. has_float e ≡ false)
+get_fits k null h = tt
+get_fits k (boolean b) h = tt
+get_fits k (number n) h = tt
+get_fits k (string s) h = tt
+get_fits k (array ds) h = tt
+get_fits k (object ms) h = member_fits k ms h
+
+-- a member that fits may be kept or left out
+no_float_kept : (b : Bool) (k : List ℕ) (d : Data) (ms : Members) → has_float d ≡ false → members_have_float ms ≡ false → members_have_float (if b then ms else member k d ms) ≡ false
+no_float_kept true k d ms h hs = hs
+no_float_kept false k d ms h hs = rw (h, hs) refl
+
+-- members that are kept of members whose numbers fit
+pub no_float-besides : (names : List (List ℕ)) (ms : Members) → members_have_float ms ≡ false → members_have_float (besides names ms) ≡ false
+no_float-besides names no_members h = refl
+no_float-besides names (member k d ms) h =
+    let parts = neither (has_float d) (members_have_float ms) h in
+    no_float_kept (is_own names k) k d (besides names ms) parts.0 (no_float-besides names ms parts.1)
+
+-- ---- names of members that are kept
+
+-- a member is kept only where its name is none of the names
+own_kept : (names : List (List ℕ)) (b : Bool) (k : List ℕ) (d : Data) (ms : Members) → (b ≡ false → is_own names k ≡ false) → has_own names ms ≡ false → has_own names (if b then ms else member k d ms) ≡ false
+own_kept names true k d ms other h = h
+own_kept names false k d ms other h = rw (other refl, h) refl
+
+-- members that have none of some names have none of fewer names
+pub none_own : (fewer names : List (List ℕ)) → ((k : List ℕ) → is_own names k ≡ false → is_own fewer k ≡ false) → (ms : Members) → has_own fewer (besides names ms) ≡ false
+none_own fewer names among no_members = refl
+none_own fewer names among (member k d ms) = own_kept fewer (is_own names k) k d (besides names ms) (among k) (none_own fewer names among ms)
+
+-- members that are kept have none of the names
+pub no_own-besides : (names : List (List ℕ)) (ms : Members) → has_own names (besides names ms) ≡ false
+no_own-besides names ms = none_own names names (λ k other. other) ms
+
+-- ---- members that are found among those that are kept
+
+-- where the order is not equal, what stands on both sides is found
+either : (o : Ordering) (a b : Option Data) → is_eq o ≡ false → match_ordering o a b a ≡ a
+either Less a b e = refl
+either Equal a b e = absurd (true≢false e)
+either Greater a b e = refl
+
+-- a name that is one of the names differs from one that is none of them
+apart : (names : List (List ℕ)) (k l : List ℕ) (b : Bool) → bytes_eq k l ≡ b → is_own names k ≡ false → is_own names l ≡ true → b ≡ false
+apart names k l true e other own = absurd (true≢false (sym own ∙ ap (is_own names) (sym ((bytes_eq-Decides k l).0 e)) ∙ other))
+apart names k l false e other own = refl
+
+-- one member more, kept or left out, changes nothing for a name that is none of the names
+kept_at : (b : Bool) (names : List (List ℕ)) (k l : List ℕ) (d : Data) (ms kept : Members) → is_own names l ≡ b → is_own names k ≡ false → get_member k kept ≡ get_member k ms
+    → get_member k (if b then kept else member l d kept) ≡ get_member k (member l d ms)
+kept_at true names k l d ms kept own other same =
+    same ∙ sym (either (slice_cmp nat_cmp k l) (get_member k ms) (Some d) (is_eq-slice_cmp k l ∙ apart names k l (bytes_eq k l) refl other own))
+kept_at false names k l d ms kept own other same = ap (λ o. match_ordering (slice_cmp nat_cmp k l) o (Some d) o) same
+
+-- a name that is none of the names is found as before
+pub get-besides : (names : List (List ℕ)) (k : List ℕ) (ms : Members) → is_own names k ≡ false → get_member k (besides names ms) ≡ get_member k ms
+get-besides names k no_members other = refl
+get-besides names k (member l d ms) other = kept_at (is_own names l) names k l d ms (besides names ms) refl other (get-besides names k ms other)
+
+-- ---- forms
+
+-- the form gives values that pass the test, of data whose numbers fit
+abbrev pub Fitting : {A : Type 0} → (Data → Option A) → (A → Bool) → Type 0
+Fitting form test = (d : Data) → has_float d ≡ false → IfSome (form d) (λ x. test x ≡ true)
+
+-- an object is kept with its numbers
+pub object_fitting : Fitting as_object (λ ms. fits (object ms))
+object_fitting null h = tt
+object_fitting (boolean b) h = tt
+object_fitting (number n) h = tt
+object_fitting (string s) h = tt
+object_fitting (array ds) h = tt
+object_fitting (object ms) h = false_not (members_have_float ms) h
+
+-- any value is kept with its numbers
+pub any_fitting : Fitting any fits
+any_fitting d h = false_not (has_float d) h
+
+-- null counts as absent
+pub nullable_fitting : {A : Type 0} (form : Data → Option A) (test : A → Bool) → Fitting form test → Fitting (nullable form) (none_or test)
+nullable_fitting form test fitting null h = refl
+nullable_fitting form test fitting (boolean b) h = some_map (λ x. test x ≡ true) (λ o. none_or test o ≡ true) Some (form (boolean b)) (fitting (boolean b) h) (λ x e. e)
+nullable_fitting form test fitting (number n) h = some_map (λ x. test x ≡ true) (λ o. none_or test o ≡ true) Some (form (number n)) (fitting (number n) h) (λ x e. e)
+nullable_fitting form test fitting (string s) h = some_map (λ x. test x ≡ true) (λ o. none_or test o ≡ true) Some (form (string s)) (fitting (string s) h) (λ x e. e)
+nullable_fitting form test fitting (array ds) h = some_map (λ x. test x ≡ true) (λ o. none_or test o ≡ true) Some (form (array ds)) (fitting (array ds) h) (λ x e. e)
+nullable_fitting form test fitting (object ms) h = some_map (λ x. test x ≡ true) (λ o. none_or test o ≡ true) Some (form (object ms)) (fitting (object ms) h) (λ x e. e)
+
+-- each item of items whose numbers fit
+each_fits : {A : Type 0} (form : Data → Option A) (test : A → Bool) → Fitting form test → (ds : Items) → items_have_float ds ≡ false → IfSome (each form ds) (λ xs. list_all test xs ≡ true)
+each_fits form test fitting no_items h = refl
+each_fits form test fitting (item d ds) h =
+    let parts = neither (has_float d) (items_have_float ds) h in
+    some_then (λ x. test x ≡ true) (λ xs. list_all test xs ≡ true) (form d) (λ x. forms.◌>>=◌ (each form ds) (λ xs. Some (x ∷ xs))) (fitting d parts.0) (λ x here.
+    some_then (λ xs. list_all test xs ≡ true) (λ xs. list_all test xs ≡ true) (each form ds) (λ xs. Some (x ∷ xs)) (each_fits form test fitting ds parts.1) (λ xs later.
+    both_true (test x) (list_all test xs) here later))
+
+-- a list of values
+pub list_fitting : {A : Type 0} (form : Data → Option A) (test : A → Bool) → Fitting form test → Fitting (list_of form) (list_all test)
+list_fitting form test fitting null h = tt
+list_fitting form test fitting (boolean b) h = tt
+list_fitting form test fitting (number n) h = tt
+list_fitting form test fitting (string s) h = tt
+list_fitting form test fitting (array ds) h = each_fits form test fitting ds h
+list_fitting form test fitting (object ms) h = tt
+
+-- a member of an object that may be absent
+pub absent_fits : {A : Type 0} (absent : A) (form : Data → Option A) (test : A → Bool) → Fitting form test → test absent ≡ true → (o : Option Data) → IfSome o (λ d. has_float d ≡ false)
+    → IfSome (unless_absent absent form o) (λ x. test x ≡ true)
+absent_fits absent form test fitting base None h = base
+absent_fits absent form test fitting base (Some d) h = fitting d h
+
+-- ---- members of documents
+
+-- the value of a form, or the fault that names the member
+formed_fits : {A : Type 0} (P : A → Type 0) (name : List ℕ) (o : Option A) → IfSome o P → IfOk (formed name o) P
+formed_fits P name None h = tt
+formed_fits P name (Some x) h = h
+
+-- a member that has to be there, by what was found
+required_from : {A : Type 0} (form : Data → Option A) (test : A → Bool) → Fitting form test → (name : List ℕ) (o : Option Data) → IfSome o (λ d. has_float d ≡ false)
+    → IfOk (documents.◌>>=◌ (present name o) (λ v. formed name (form v))) (λ x. test x ≡ true)
+required_from form test fitting name None h = tt
+required_from form test fitting name (Some d) h = formed_fits (λ x. test x ≡ true) name (form d) (fitting d h)
+
+-- a member that has to be there
+pub required_fits : {A : Type 0} (form : Data → Option A) (test : A → Bool) → Fitting form test → (name : List ℕ) (d : Data) → has_float d ≡ false → IfOk (required name form d) (λ x. test x ≡ true)
+required_fits form test fitting name d h = required_from form test fitting name (get name d) (get_fits name d h)
+
+-- a member that may be absent, by what was found
+optional_fits_from : {A : Type 0} (absent : A) (form : Data → Option A) (test : A → Bool) → Fitting form test → test absent ≡ true → (name : List ℕ) (o : Option Data) → IfSome o (λ d. has_float d ≡ false)
+    → IfOk (optional_from name absent form o) (λ x. test x ≡ true)
+optional_fits_from absent form test fitting base name None h = base
+optional_fits_from absent form test fitting base name (Some d) h = formed_fits (λ x. test x ≡ true) name (form d) (fitting d h)
+
+-- a member that may be absent
+pub optional_fits : {A : Type 0} (absent : A) (form : Data → Option A) (test : A → Bool) → Fitting form test → test absent ≡ true → (name : List ℕ) (d : Data) → has_float d ≡ false
+    → IfOk (optional name absent form d) (λ x. test x ≡ true)
+optional_fits absent form test fitting base name d h = optional_fits_from absent form test fitting base name (get name d) (get_fits name d h)
+
+-- ---- documents
+
+-- a document is an object whose numbers fit
+abbrev pub IsDocument : Data → Members → Type 0
+IsDocument d ms = (d ≡ object ms) × (members_have_float ms ≡ false)
+
+-- what is no object has no members, whatever its numbers
+refused_by : (b : Bool) (P : Members → Type 0) → IfOk (if b then Err UnsupportedNumber else Err NotAnObject) P
+refused_by true P = tt
+refused_by false P = tt
+
+-- an object has members where its numbers fit
+object_by : (b : Bool) (ms : Members) → members_have_float ms ≡ b → IfOk (if b then Err UnsupportedNumber else Ok ms) (IsDocument (object ms))
+object_by true ms e = tt
+object_by false ms e = (refl, e)
+
+-- the members of a document are those of an object whose numbers fit
+pub document_fits : (d : Data) → IfOk (document_of d) (IsDocument d)
+document_fits null = tt
+document_fits (boolean b) = tt
+document_fits (number (unsigned n)) = tt
+document_fits (number (negative z)) = tt
+document_fits (number (float x)) = tt
+document_fits (string s) = tt
+document_fits (array ds) = refused_by (items_have_float ds) (IsDocument (array ds))
+document_fits (object ms) = object_by (members_have_float ms) ms refl
+
+-- the numbers of a document fit
+pub document_no_float : (d : Data) (ms : Members) → IsDocument d ms → has_float d ≡ false
+document_no_float d ms h = ap has_float h.0 ∙ h.1

@@ -1,0 +1,142 @@
+-- Lemmas on lists of members.
+use Rattle.std.proofs.Common.{◌≡◌, ℕ, List, [], ◌∷◌, ◌++◌, Bool, true, false, map, ◌||◌, if◌then◌else◌, String, Global, string_bytes, string_cmp, nat_cmp, Less, Equal, Greater, Ordering, Option, Some, None, Err, Result, Ok, IfOk, IsTrue, true≢false, length, arith, cond, is_eq, refl, ap, sym, ◌∙◌}
+use Rattle.std.specs.List.{list_any, AllByRecursion, AllZip}
+use Rattle.std.specs.List.Sorted.{IsStrictlySortedBy}
+use Rattle.std.specs.Map.{keys_of, lookup}
+use Rattle.std.specs.BTreeMap.{insert_entry, is_at}
+use Rattle.serde_json.specs.Find.{get_member}
+use Rattle.std.specs.Ordering.{match_ordering, ordering_reverse}
+use Rattle.std.specs.Cmp.Lexicographic.{slice_cmp}
+use Rattle.std.proofs.lemmas.Cmp.{nat_list_cmp_total}
+use Rattle.serde_json.specs.Data.{Data, Members, member, put}
+use Rattle.serde_json.specs.View.{view, members_of, members_view}
+use Rattle.serde_json.proofs.Views.{Entry}
+use Rattle.zarrs_form.specs.Documents.{is_own, besides, is_empty, parsed, json_of}
+use Rattle.zarrs_store.specs.declared.fault.MetadataFault.TheVariants.{NotJson}
+use Rattle.serde_json.specs.Read.{read}
+use Rattle.std.specs.Str.{IsUtf8, is_utf8}
+use Rattle.std.proofs.lemmas.Str.{IsUtf8-from_is_utf8}
+
+pub list_any-map : {X Y : Type 0} (p : Y → Bool) (f : X → Y) (xs : List X) → list_any p (map f xs) ≡ list_any (λ x. p (f x)) xs
+list_any-map p f [] = refl
+list_any-map p f (x ∷ xs) = ap (λ b. p (f x) || b) (list_any-map p f xs)
+
+abbrev pub IsCopyOf : Entry → Entry → Type 0
+IsCopyOf e f = (string_bytes f.0 ≡ string_bytes e.0) × (view f.1 ≡ view e.1)
+
+-- a map's clone, where the values are data themselves
+abbrev pub IsCopy : String Global × Data → String Global × Data → Type 0
+IsCopy e f = (string_bytes f.0 ≡ string_bytes e.0) × (f.1 ≡ e.1)
+
+pub members_of-clone : (es fs : List (String Global × Data)) → AllZip IsCopy es fs → members_of fs ≡ members_of es
+members_of-clone [] [] h = refl
+members_of-clone [] (f ∷ fs) h = absurd h
+members_of-clone (e ∷ es) [] h = absurd h
+members_of-clone (e ∷ es) (f ∷ fs) h = λ i. member (h.0.0 i) (h.0.1 i) (members_of-clone es fs h.1 i)
+
+-- a map's clone has the same members
+pub members_view-clone : (es fs : List Entry) → AllZip IsCopyOf es fs → members_view fs ≡ members_view es
+members_view-clone [] [] h = refl
+members_view-clone [] (f ∷ fs) h = absurd h
+members_view-clone (e ∷ es) [] h = absurd h
+members_view-clone (e ∷ es) (f ∷ fs) h = λ i. member (h.0.0 i) (h.0.1 i) (members_view-clone es fs h.1 i)
+
+members_of-match_ordering : (o : Ordering) (a b c : List (String Global × Data)) → members_of (match_ordering o a b c) ≡ match_ordering o (members_of a) (members_of b) (members_of c)
+members_of-match_ordering Less a b c = refl
+members_of-match_ordering Equal a b c = refl
+members_of-match_ordering Greater a b c = refl
+
+pub members_of-insert_entry : (es : List (String Global × Data)) (k : String Global) (d : Data) → members_of (insert_entry string_cmp es k d) ≡ put (string_bytes k) d (members_of es)
+members_of-insert_entry [] k d = refl
+members_of-insert_entry (e ∷ es) k d = members_of-match_ordering (string_cmp k e.0) _ _ _ ∙ rw (members_of-insert_entry es k d)
+
+-- ---- an object, entry by entry; `see` says what its values are
+
+abbrev pub Members_by : (X : Type 0) → Type 0
+Members_by X = List (String Global × X)
+
+abbrev pub members_by : {X : Type 0} → (X → Data) → List (String Global × X) → Members
+members_by see es = members_of (map (λ m. (m.0, see m.1)) es)
+
+pub members_by_itself : (es : List (String Global × Data)) → members_by (λ d. d) es ≡ members_of es
+members_by_itself [] = refl
+members_by_itself (e ∷ es) = ap (member (string_bytes e.0) e.1) (members_by_itself es)
+
+module _ {X : Type 0} (see : X → Data) where
+  below_middle : (first : String Global × X) (es : List (String Global × X)) (e : String Global × X) (more : List (String Global × X)) → AllByRecursion (λ y. string_cmp first.0 y ≡ Less) (keys_of (es ++ e ∷ more)) → string_cmp first.0 e.0 ≡ Less
+  below_middle first [] e more h = h.0
+  below_middle first (x ∷ es) e more h = below_middle first es e more h.1
+
+  above_first : (first : String Global × X) (es : List (String Global × X)) (e : String Global × X) (more : List (String Global × X)) → AllByRecursion (λ y. string_cmp first.0 y ≡ Less) (keys_of (es ++ e ∷ more)) → slice_cmp nat_cmp (string_bytes e.0) (string_bytes first.0) ≡ Greater
+  above_first first es e more h = nat_list_cmp_total.antisymm (string_bytes e.0) (string_bytes first.0) ∙ ap ordering_reverse (below_middle first es e more h)
+
+  -- a key that is above those before it goes last
+  pub put_last : (done : List (String Global × X)) (e : String Global × X) (more : List (String Global × X)) → IsStrictlySortedBy string_cmp (keys_of (done ++ e ∷ more))
+      → put (string_bytes e.0) (see e.1) (members_by see done) ≡ members_by see (done ++ e ∷ [])
+  unfolding IsStrictlySortedBy
+  put_last [] e more h = refl
+  put_last (first ∷ done) e more h = rw (above_first first done e more h.0) (ap (member (string_bytes first.0) (see first.1)) (put_last done e more h.1))
+
+pub put_last_of : (done : List (String Global × Data)) (e : String Global × Data) (more : List (String Global × Data)) → IsStrictlySortedBy string_cmp (keys_of (done ++ e ∷ more))
+    → put (string_bytes e.0) e.1 (members_of done) ≡ members_of (done ++ e ∷ [])
+put_last_of done e more h = ap (put (string_bytes e.0) e.1) (sym (members_by_itself done)) ∙ put_last (λ d. d) done e more h ∙ members_by_itself (done ++ e ∷ [])
+
+put_behind : (b : Bool) (l k : List ℕ) (c d : Data) (ms ns : Members) → slice_cmp nat_cmp k l ≡ Greater → put k d ms ≡ ns → put k d (if b then ms else member l c ms) ≡ (if b then ns else member l c ns)
+put_behind true l k c d ms ns above later = later
+put_behind false l k c d ms ns above later = rw above (ap (member l c) later)
+
+choose_same : (b : Bool) (l : List ℕ) (c : Data) (ms ns : Members) → ms ≡ ns → (if b then ms else member l c ms) ≡ (if b then ns else member l c ns)
+choose_same b l c ms ns e = ap (λ m. if b then m else member l c m) e
+
+module _ {X : Type 0} (see : X → Data) (names : List (List ℕ)) where
+  -- so it does among those that are kept
+  pub kept_last : (done : List (String Global × X)) (e : String Global × X) (more : List (String Global × X)) → IsStrictlySortedBy string_cmp (keys_of (done ++ e ∷ more)) → is_own names (string_bytes e.0) ≡ false
+      → put (string_bytes e.0) (see e.1) (besides names (members_by see done)) ≡ besides names (members_by see (done ++ e ∷ []))
+  unfolding IsStrictlySortedBy
+  kept_last [] e more h other = rw other refl
+  kept_last (first ∷ done) e more h other =
+      put_behind (is_own names (string_bytes first.0)) (string_bytes first.0) (string_bytes e.0) (see first.1) (see e.1) _ _ (above_first see first done e more h.0) (kept_last done e more h.1 other)
+
+  -- an own name is passed over
+  pub own_last : (done : List (String Global × X)) (e : String Global × X) → is_own names (string_bytes e.0) ≡ true
+      → besides names (members_by see done) ≡ besides names (members_by see (done ++ e ∷ []))
+  own_last [] e own = rw own refl
+  own_last (first ∷ done) e own = choose_same (is_own names (string_bytes first.0)) (string_bytes first.0) (see first.1) _ _ (own_last done e own)
+
+-- ---- looking up
+
+found_or : (o : Ordering) (d : Data) (rest ds : Option Data) → rest ≡ ds → cond (is_eq o) (Some d) rest ≡ match_ordering o ds (Some d) ds
+found_or Less d rest ds e = e
+found_or Equal d rest ds e = refl
+found_or Greater d rest ds e = e
+
+pub lookup-members_of : (name : List ℕ) (es : List (String Global × Data)) → lookup (is_at (λ k. slice_cmp nat_cmp name (string_bytes k))) es ≡ get_member name (members_of es)
+lookup-members_of name [] = refl
+lookup-members_of name (e ∷ es) = found_or (slice_cmp nat_cmp name (string_bytes e.0)) e.1 _ _ (lookup-members_of name es)
+
+-- ---- reading
+
+pub parsed_none : (bytes : List ℕ) → (IsUtf8 bytes → read bytes ≡ None) → parsed (json_of bytes) ≡ Err NotJson
+unfolding json_of
+parsed_none bytes h =
+    elim (is_utf8 bytes) as (λ b. is_utf8 bytes ≡ b → parsed (if b then read bytes else None) ≡ Err NotJson) [
+      | true ↦ λ e. ap parsed (h (IsUtf8-from_is_utf8 bytes e))
+      | false ↦ λ e. refl
+    ] refl
+
+pub is_empty-members_view : (b : Bool) (es : List Entry) → (IsTrue b → length es ≡ 0) × (length es ≡ 0 → IsTrue b) → b ≡ is_empty (members_view es)
+is_empty-members_view true [] h = refl
+is_empty-members_view false [] h = absurd (true≢false (sym (h.1 refl)))
+is_empty-members_view true (e ∷ es) h = let none : length (e ∷ es) ≡ 0 = h.0 refl in absurd (omega (arith, none))
+is_empty-members_view false (e ∷ es) h = refl
+
+-- the fields of an empty map are none
+pub is_empty-members_of : (b : Bool) (es : List (String Global × Data)) → (IsTrue b → length es ≡ 0) × (length es ≡ 0 → IsTrue b) → b ≡ is_empty (members_of es)
+is_empty-members_of true [] h = refl
+is_empty-members_of false [] h = absurd (true≢false (sym (h.1 refl)))
+is_empty-members_of true (e ∷ es) h = let none : length (e ∷ es) ≡ 0 = h.0 refl in absurd (omega (arith, none))
+is_empty-members_of false (e ∷ es) h = refl
+
+pub if_ok_then : {A E : Type 0} {P Q : A → Type 0} (r : Result A E) → IfOk r P → ((x : A) → P x → Q x) → IfOk r Q
+if_ok_then (Ok x) p f = f x p
+if_ok_then (Err e) p f = tt

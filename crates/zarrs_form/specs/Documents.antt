@@ -1,0 +1,131 @@
+-- Zarr core specification 3.1, "Metadata documents", and specification version 2, "Metadata": how documents are read, each step answering its value or the first fault.
+use Rattle.std.specs.Prelude.{◌≡◌, ◌≢◌, ◌==◌, ℕ, List, [], ◌∷◌, Bool, true, false, bytes_eq, ◌||◌, if◌then◌else◌, Option, Some, None, Result, Ok, Err, codes, option_and_then, is_some}
+use Rattle.std.specs.List.{list_any}
+use Rattle.std.specs.Str.{is_utf8}
+use Rattle.serde_json.specs.Read.{read}
+use Rattle.serde_json.specs.Data.{Data, object, Members, no_members, member}
+use Rattle.serde_json.specs.Find.{get, get_member, as_null, as_number, as_u64, as_str}
+use Rattle.serde_json.specs.Written.{has_float}
+use Rattle.zarrs_store.specs.declared.fault.MetadataFault.{MetadataFault}
+use Rattle.zarrs_store.specs.declared.fault.MetadataFault.TheVariants.{NotJson, UnsupportedNumber, NotAnObject, WrongFormat, WrongNodeType, MissingMember, BadMember, OutOfMemory}
+
+infixl 10 ◌>>=◌
+-- a step, and the next where it answered a value
+abbrev pub ◌>>=◌ : {A B : Type 0} → Result A MetadataFault → (A → Result B MetadataFault) → Result B MetadataFault
+(Ok x) >>= f = f x
+(Err e) >>= f = Err e
+
+-- a refusal is the fault of the reading, unless memory ran out
+abbrev pub Refuses : {B : Type 0} → MetadataFault → Result B MetadataFault → Type 0
+Refuses OutOfMemory reading = Unit {0}
+Refuses fault reading = reading ≡ Err fault
+
+-- a function answers what the reading gives: its value as it is seen, or its fault, and want of memory says nothing
+abbrev pub Gives : {A B : Type 0} → (A → B) → Result A MetadataFault → Result B MetadataFault → Type 0
+Gives see (Ok x) reading = reading ≡ Ok (see x)
+Gives see (Err fault) reading = Refuses fault reading
+
+-- the tree that the bytes are, where they are JSON text
+unfoldable pub json_of : List ℕ → Option Data
+json_of bytes = if is_utf8 bytes then read bytes else None
+
+-- what is no JSON text is the fault `NotJson`
+abbrev pub parsed : Option Data → Result Data MetadataFault
+parsed None = Err NotJson
+parsed (Some d) = Ok d
+
+-- what bytes mean: the document that their tree is
+abbrev pub of_bytes : {A : Type 0} → (Data → Result A MetadataFault) → List ℕ → Result A MetadataFault
+of_bytes document bytes = parsed (json_of bytes) >>= document
+
+-- the members of an object
+abbrev pub object_of : Data → Result Members MetadataFault
+object_of (object ms) = Ok ms
+object_of _ = Err NotAnObject
+
+-- the members of a document: its numbers all fit, and it is an object
+abbrev pub document_of : Data → Result Members MetadataFault
+document_of d = if has_float d then Err UnsupportedNumber else object_of d
+
+-- there is a number, and it is this one
+abbrev is_number : ℕ → Option ℕ → Bool
+is_number n None = false
+is_number n (Some m) = m == n
+
+-- there is a text, and it is this one
+abbrev is_text : List ℕ → Option (List ℕ) → Bool
+is_text t None = false
+is_text t (Some s) = bytes_eq s t
+
+-- `zarr_format` is this number
+unfoldable pub format_of : ℕ → Data → Result (Unit {0}) MetadataFault
+format_of n d = if is_number n (option_and_then as_u64 (option_and_then as_number (get (codes "zarr_format") d))) then Ok tt else Err WrongFormat
+
+-- `node_type` is this text
+unfoldable pub node_type_of : List ℕ → Data → Result (Unit {0}) MetadataFault
+node_type_of t d = if is_text t (option_and_then as_str (get (codes "node_type") d)) then Ok tt else Err WrongNodeType
+
+-- a value of the form, where the data have it
+abbrev pub formed : {A : Type 0} → List ℕ → Option A → Result A MetadataFault
+formed name None = Err (BadMember name)
+formed name (Some x) = Ok x
+
+-- a member that is there
+abbrev pub present : List ℕ → Option Data → Result Data MetadataFault
+present name None = Err (MissingMember name)
+present name (Some d) = Ok d
+
+-- what was found has the form; where nothing was found it is the value for absent
+abbrev pub optional_from : {A : Type 0} → List ℕ → A → (Data → Option A) → Option Data → Result A MetadataFault
+optional_from name absent form None = Ok absent
+optional_from name absent form (Some d) = formed name (form d)
+
+-- what must not be found
+abbrev absent_from : List ℕ → Option Data → Result (Unit {0}) MetadataFault
+absent_from name None = Ok tt
+absent_from name (Some d) = Err (BadMember name)
+
+-- a member that must not be there
+abbrev pub absent : List ℕ → Data → Result (Unit {0}) MetadataFault
+absent name d = absent_from name (get name d)
+
+-- a member that has to be there, of the form
+abbrev pub required : {A : Type 0} → List ℕ → (Data → Option A) → Data → Result A MetadataFault
+required name form d = present name (get name d) >>= λ v. formed name (form v)
+
+-- a member that may be absent, of the form
+abbrev pub optional : {A : Type 0} → List ℕ → A → (Data → Option A) → Data → Result A MetadataFault
+optional name absent form d = optional_from name absent form (get name d)
+
+-- the name is one of the names
+abbrev pub is_own : List (List ℕ) → List ℕ → Bool
+is_own names name = list_any (λ n. bytes_eq n name) names
+
+-- the members that have none of the names
+abbrev pub besides : List (List ℕ) → Members → Members
+besides names no_members = no_members
+besides names (member k d ms) = if is_own names k then besides names ms else member k d (besides names ms)
+
+-- some member has one of the names
+abbrev pub has_own : List (List ℕ) → Members → Bool
+has_own names no_members = false
+has_own names (member k d ms) = is_own names k || has_own names ms
+
+-- something was found, and it is null
+abbrev pub is_null : Option Data → Bool
+is_null found = is_some (option_and_then as_null found)
+
+-- the members but for one of this name that is null
+abbrev pub besides_null : List ℕ → Members → Members
+besides_null name ms = if is_null (get_member name ms) then besides (name ∷ []) ms else ms
+
+-- what reading gives is not want of memory
+abbrev pub NeverLacksMemory : {A : Type 0} → Result A MetadataFault → Type 0
+NeverLacksMemory reading = reading ≢ Err OutOfMemory
+
+-- ---- the written form
+
+-- the object has no member
+abbrev pub is_empty : Members → Bool
+is_empty no_members = true
+is_empty (member k d ms) = false

@@ -1,0 +1,6 @@
+pub mod DataCode
+pub mod Documents
+pub mod Fields
+pub mod Forms
+pub mod FormsV2
+pub mod Texts

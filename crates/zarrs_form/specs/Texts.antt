@@ -1,0 +1,14 @@
+-- RFC 8259, "Strings" and "Objects": the pieces of the compact text of a document.
+use Rattle.std.specs.Prelude.{ℕ, List, [], ◌∷◌, ◌++◌, ◌==◌, ◌||◌, nat_lt, Bool, Option, Some, None}
+use Rattle.json.specs.Print.{quoted}
+use Rattle.serde_json.specs.Data.{Data}
+use Rattle.serde_json.specs.Written.{compact_text}
+
+-- a byte has an escape: a control character, the quotation mark or the backslash
+abbrev pub has_escape : ℕ → Bool
+has_escape b = nat_lt b 32 || ((b == 34) || (b == 92))
+
+-- the text of a row of a table: the name in quotes, a colon, what is written at it and a comma, or nothing
+abbrev pub row_text : List ℕ → Option Data → List ℕ
+row_text name None = []
+row_text name (Some d) = quoted name ++ 58 ∷ (compact_text d ++ 44 ∷ [])

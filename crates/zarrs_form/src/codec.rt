@@ -1,0 +1,61 @@
+//! Codecs of version 2: an identifier and its configuration.
+ghost use Rattle.std.specs.Prelude.{◌≡◌, IfOk};
+ghost use Rattle.serde_json.specs.View.{view};
+ghost use Rattle.zarrs_form.specs.FormsV2.{codec, codec_data, codec_fits};
+
+use crate::form::Form;
+use crate::members::{has_own_member, members_have_float, put_text, take_member};
+use crate::shapes::{Object, Text};
+use crate::text::write_value;
+use serde_json::Value;
+use std::alloc::{AllocError, Global};
+
+/// The metadata of a codec of version 2: a compressor or a filter.
+///
+/// Zarr specification version 2, "Arrays", "Metadata", "compressor" and "filters".
+#[derive(Debug, Drop)]
+pub struct MetadataV2 {
+    /// The identifier of the codec.
+    pub id: Text,
+    /// All its other members.
+    pub configuration: Object,
+}
+
+const OWN_NAMES: &[&str] = &["id"];
+
+/// An object with the text `id`.
+impl Form for MetadataV2 {
+    ghost form = { codec };
+
+    fn read(_alloc: Global, value: Value) -> Result<Option<MetadataV2>, AllocError> {
+        let Value::Object(mut members) = value else {
+            return Ok(None);
+        };
+        let Some(Value::String(id)) = take_member(&mut members, "id") else {
+            return Ok(None);
+        };
+        Ok(Some(MetadataV2 {
+            id: Text::new(id),
+            configuration: Object::new(members),
+        }))
+    }
+
+    ghost written = { codec_data };
+
+    fn to_value(&self, alloc: Global) -> Result<Value, AllocError> {
+        let mut members = Object::copy_of(self.configuration.as_map())?.into_map();
+        put_text(&mut members, alloc, "id", self.id.as_str())?;
+        Ok(Value::Object(members))
+    }
+
+    ghost fits = { codec_fits };
+
+    fn is_plain(&self) -> bool {
+        let configuration = self.configuration.as_map();
+        !members_have_float(configuration) && !has_own_member(configuration, OWN_NAMES)
+    }
+
+    fn write(&self, alloc: Global, out: &mut String) -> Result<(), AllocError> {
+        write_value(alloc, out, &self.to_value(alloc)?)
+    }
+}

@@ -1,0 +1,32 @@
+//! The forms of members of Zarr metadata documents, and the parts that metadata are made of. A form reads
+//! a JSON value as one value, or says that the value has another form; what it writes reads back. A
+//! reader of a document is then the table of the format, a line a member.
+#![tactic(auto)]
+
+mod chunks;
+mod codec;
+mod copies;
+mod data_type;
+mod extension;
+mod fields;
+mod form;
+mod members;
+mod shapes;
+mod text;
+
+pub use chunks::{ArrayMetadataV2Order, ChunkKeySeparator, chunk_lengths, has_zero};
+pub use codec::MetadataV2;
+pub use copies::Duplicate;
+pub use data_type::{DataTypeMetadataV2, Endianness};
+pub use extension::MetadataV3;
+pub use fields::{
+    AdditionalFieldV3, AdditionalFieldsV3, fields_have_float, fields_of, has_own_name, is_null_at,
+    members_of_fields,
+};
+pub use form::{Form, attributes, optional, put_member, put_unless, required};
+pub use members::{
+    ask_format, ask_node_type, document, document_copy, has_own_member, member, members_have_float,
+    parse, put_text, refuse, take_member, take_null,
+};
+pub use shapes::{FillValueMetadata, Json, List, Object, Text};
+pub use text::{open_table, write_last, write_row, write_unless};

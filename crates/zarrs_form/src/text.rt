@@ -1,0 +1,175 @@
+//! The compact text of a document, appended piece by piece.
+ghost use Rattle.std.specs.Prelude.{◌≡◌, ◌∷◌, [], ◌++◌, option_map, string_bytes, false, not, IfOk, IsTrue, OnOk};
+ghost use Rattle.std.specs.List.{list_any};
+ghost use Rattle.std.specs.Option.{option_copied};
+ghost use Rattle.json.specs.Print.{quoted};
+ghost use Rattle.serde_json.specs.Data.{member, no_members, object};
+ghost use Rattle.serde_json.specs.View.{view, members_view};
+ghost use Rattle.serde_json.specs.Written as written;
+ghost use Rattle.serde_json.specs.Written.{comma_if, compact_text, members_text};
+ghost use Rattle.zarrs_form.specs.Forms as forms;
+ghost use Rattle.zarrs_form.specs.Forms.{none_or};
+ghost use Rattle.zarrs_form.specs.Texts.{has_escape, row_text};
+
+use crate::form::Form;
+use serde_json::{Map, Value};
+use std::alloc::{AllocError, Global};
+
+/// Whether a byte stands otherwise than as itself within quotes.
+fn has_escape(byte: u8) -> bool
+    ensures { result ≡ has_escape byte }
+{
+    byte < 32 || byte == 34 || byte == 92
+}
+
+/// Whether a text stands as it is within quotes.
+fn is_bare(text: &str) -> bool
+    ensures { result ≡ not (list_any has_escape text.now) }
+{
+    for byte in text.as_bytes() {
+        if has_escape(*byte) {
+            return false;
+        }
+    }
+    true
+}
+
+/// Appends a text in quotes.
+#[tactic(auto, using(crate::proofs::TextLaws::quoted_bare))]
+pub(crate) fn write_text(alloc: Global, out: &mut String, text: &str) -> Result<(), AllocError>
+    ensures { OnOk result (string_bytes out.new ≡ string_bytes out.old ++ quoted text.now) }
+{
+    if is_bare(text) {
+        out.push_str("\"")?;
+        out.push_str(text)?;
+        return out.push_str("\"");
+    }
+    write_value(alloc, out, &Value::String(String::from_str(alloc, text)?))
+}
+
+/// Appends the compact text of a JSON value.
+pub(crate) fn write_value(alloc: Global, out: &mut String, value: &Value) -> Result<(), AllocError>
+    ensures { OnOk result (written.has_float (view value.now) ≡ false
+        → string_bytes out.new ≡ string_bytes out.old ++ compact_text (view value.now)) }
+{
+    out.push_str(value.to_string(alloc)?.as_str())
+}
+
+/// Appends a comma, where something stands before.
+pub(crate) fn write_comma(out: &mut String, later: bool) -> Result<(), AllocError>
+    ensures { OnOk result (string_bytes out.new ≡ string_bytes out.old ++ comma_if later) }
+{
+    if later { out.push_str(",") } else { Ok(()) }
+}
+
+/// Appends a member's name and its colon.
+fn write_name(alloc: Global, out: &mut String, name: &str) -> Result<(), AllocError>
+    ensures { OnOk result (string_bytes out.new ≡ string_bytes out.old ++ (quoted name.now ++ 58 ∷ [])) }
+{
+    write_text(alloc, out, name)?;
+    out.push_str(":")
+}
+
+/// Appends the compact text of an object.
+pub(crate) fn write_members(
+    alloc: Global,
+    out: &mut String,
+    members: &Map<String, Value>,
+) -> Result<(), AllocError>
+    ensures { OnOk result (written.members_have_float (members_view members.now.entries) ≡ false
+        → string_bytes out.new ≡ string_bytes out.old ++ compact_text (object (members_view members.now.entries))) }
+{
+    out.push_str("{")?;
+    let mut later = false;
+    for (name, member) in members.iter() {
+        write_comma(out, later)?;
+        write_name(alloc, out, name.as_str())?;
+        write_value(alloc, out, member)?;
+        later = true;
+    }
+    out.push_str("}")
+}
+
+/// The opening brace of an object, as a text with room for a usual document.
+///
+/// # Errors
+///
+/// `AllocError` where there is no memory for it.
+///
+/// Source: RFC 8259, "Objects".
+pub fn open_table(alloc: Global) -> Result<String, AllocError>
+    ensures { IfOk result (λ text. string_bytes text ≡ 123 ∷ []) }
+{
+    let mut out = String::with_capacity(alloc, 512)?;
+    out.push_str("{")?;
+    Ok(out)
+}
+
+/// Appends a member of a table and a comma, where there is a value: the name in quotes, a colon and the compact
+/// text of what is written of the value.
+///
+/// # Errors
+///
+/// `AllocError` where there is no memory for it.
+///
+/// Source: RFC 8259, "Objects".
+pub fn write_row<T: Form>(
+    alloc: Global,
+    out: &mut String,
+    name: &str,
+    value: Option<&T>,
+) -> Result<(), AllocError>
+    ensures { OnOk result (IsTrue (none_or T.fits (option_copied value.entry))
+        → string_bytes out.new ≡ string_bytes out.old ++ row_text name.now (option_map T.written (option_copied value.entry))) }
+{
+    let Some(value) = value else {
+        return Ok(());
+    };
+    write_name(alloc, out, name)?;
+    value.write(alloc, out)?;
+    out.push_str(",")
+}
+
+/// Appends a member of a table and a comma as [`write_row`] does, unless it is empty.
+///
+/// # Errors
+///
+/// `AllocError` where there is no memory for it.
+///
+/// Source: RFC 8259, "Objects".
+pub fn write_unless<T: Form>(
+    alloc: Global,
+    out: &mut String,
+    name: &str,
+    is_empty: bool,
+    value: &T,
+) -> Result<(), AllocError>
+    ensures { OnOk result (IsTrue (T.fits value.now)
+        → string_bytes out.new ≡ string_bytes out.old ++ row_text name.now (forms.unless is_empty (T.written value.now))) }
+{
+    if is_empty {
+        return Ok(());
+    }
+    write_row(alloc, out, name, Some(value))
+}
+
+/// Appends the last member of a table and the closing brace.
+///
+/// # Errors
+///
+/// `AllocError` where there is no memory for it.
+///
+/// Source: RFC 8259, "Objects".
+pub fn write_last<T: Form>(
+    alloc: Global,
+    out: &mut String,
+    name: &str,
+    last: &T,
+) -> Result<(), AllocError>
+    ensures { OnOk result (IsTrue (T.fits last.now)
+        → string_bytes out.new ≡ string_bytes out.old ++ members_text false (member name.now (T.written last.now) no_members)) }
+{
+    write_name(alloc, out, name)?;
+    last.write(alloc, out)?;
+    out.push_str("}")
+}

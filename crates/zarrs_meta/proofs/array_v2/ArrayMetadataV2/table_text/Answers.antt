@@ -1,0 +1,48 @@
+use Rattle.std.proofs.Common.{[], ◌∷◌, ◌++◌, codes, string_bytes, ap, refl, ◌∙◌}
+use Rattle.serde_json.specs.Data.{object, no_members}
+use Rattle.zarrs_form.specs.Documents.{is_empty}
+use Rattle.zarrs_form.specs.Forms.{number_data, list_data, nullable_data, put_rows, unless}
+use Rattle.zarrs_form.specs.FormsV2.{codec_data, data_type_data, order_data, separator_data}
+use Rattle.zarrs_meta.specs.ArrayV2.{array_v2_rows}
+use Rattle.zarrs_form.specs.Texts.{row_text}
+use Rattle.zarrs_meta.proofs.ArrayV2Laws.{plain_array_v2}
+use Rattle.zarrs_form.proofs.RowLaws.{◌◂◌, all_true}
+use Rattle.zarrs_form.proofs.TextLaws.{array_v2_table, array_v2_sorted, table_written}
+use Rattle.zarrs_meta.proofs.array_v2.ArrayMetadataV2.table_text.Goals as goal
+
+-- each row that was appended, in the order of the names
+pub returns : goal.returns
+returns c = λ plain.
+    let m = c.args.self.now in
+    let p = plain_array_v2 m plain in
+    let shape = list_data number_data m.shape in
+    let chunks = list_data number_data m.chunks in
+    let compressor = nullable_data codec_data m.compressor in
+    let filters = nullable_data (list_data codec_data) m.filters in
+    let attributes = unless (is_empty m.attributes) (object m.attributes) in
+    let o0 = string_bytes c.in_ok-out.out in
+    let o1 = string_bytes c.write_unless.new.out in
+    let o2 = string_bytes c.write_row.new.out in
+    let o3 = string_bytes c.write_row-2.new.out in
+    let o4 = string_bytes c.write_row-3.new.out in
+    let o5 = string_bytes c.write_row-4.new.out in
+    let o6 = string_bytes c.write_row-5.new.out in
+    let o7 = string_bytes c.write_row-6.new.out in
+    let o8 = string_bytes c.write_row-7.new.out in
+    let o9 = string_bytes c.write_row-8.new.out in
+    table_written (array_v2_table shape chunks (data_type_data m.dtype) m.fill_value (order_data m.order) compressor filters (separator_data m.dimension_separator) attributes)
+    (codes "zarr_format") (number_data 2) (put_rows (array_v2_rows m) no_members) [] o0 (string_bytes c.write_last.new.out)
+    (o1 ∷ o2 ∷ o3 ∷ o4 ∷ o5 ∷ o6 ∷ o7 ∷ o8 ∷ o9 ∷ [])
+    c.in_ok-out.ensures
+    ((c.in_ok-write_unless.ensures p.5 ∙ ap (λ b. o0 ++ row_text (codes "attributes") (unless b (object m.attributes))) c.is_empty-empty.ensures)
+    ◂ c.in_ok-write_row.ensures (all_true m.chunks)
+    ◂ c.in_ok-write_row-2.ensures p.3
+    ◂ c.in_ok-write_row-3.ensures refl
+    ◂ c.in_ok-write_row-4.ensures p.1
+    ◂ c.in_ok-write_row-5.ensures p.2
+    ◂ c.in_ok-write_row-6.ensures p.4
+    ◂ c.in_ok-write_row-7.ensures refl
+    ◂ c.in_ok-write_row-8.ensures (all_true m.shape)
+    ◂ tt)
+    (c.in_ok-write_last.ensures refl)
+    (array_v2_sorted shape chunks (data_type_data m.dtype) m.fill_value (order_data m.order) compressor filters (separator_data m.dimension_separator) attributes)

@@ -1,0 +1,51 @@
+use Rattle.std.proofs.Common.{◌≡◌, ◌∷◌, [], ◌++◌, true, IsTrue, Some, codes, option_map, string_bytes, ap, refl, ◌∙◌, subst}
+use Rattle.std.specs.List.{list_all}
+use Rattle.serde_json.specs.Data.{object, string, no_members}
+use Rattle.zarrs_form.specs.Documents.{is_empty}
+use Rattle.zarrs_form.specs.Forms.{number_data, list_data, nullable_data, extension_data, none_or, put_rows, unless, is_nil}
+use Rattle.zarrs_meta.specs.ArrayV3.{array_v3_rows}
+use Rattle.zarrs_form.specs.Texts.{row_text}
+use Rattle.zarrs_meta.proofs.ArrayV3Laws.{plain_parts}
+use Rattle.zarrs_form.proofs.RowLaws.{◌◂◌, all_true}
+use Rattle.zarrs_form.proofs.TextLaws.{array_v3_table, array_v3_sorted, dimensions_fit, table_written}
+use Rattle.zarrs_meta.proofs.array_v3.ArrayMetadataV3.table_text.Goals as goal
+
+-- each row that was appended, in the order of the names
+pub returns : goal.returns
+returns c = λ plain.
+    let m = c.args.self.now in
+    let p = plain_parts m plain in
+    let shape = list_data number_data m.shape in
+    let codecs = list_data extension_data m.codecs in
+    let attributes = unless (is_empty m.attributes) (object m.attributes) in
+    let transformers = unless (is_nil m.storage_transformers) (list_data extension_data m.storage_transformers) in
+    let names = option_map (list_data (nullable_data string)) m.dimension_names in
+    let o0 = string_bytes c.in_ok-out.out in
+    let o1 = string_bytes c.write_unless.new.out in
+    let o2 = string_bytes c.write_row.new.out in
+    let o3 = string_bytes c.write_row-2.new.out in
+    let o4 = string_bytes c.write_row-3.new.out in
+    let o5 = string_bytes c.write_row-4.new.out in
+    let o6 = string_bytes c.write_row-5.new.out in
+    let o7 = string_bytes c.write_row-6.new.out in
+    let o8 = string_bytes c.write_row-7.new.out in
+    let o9 = string_bytes c.write_row-8.new.out in
+    let o10 = string_bytes c.write_unless-2.new.out in
+    table_written (array_v3_table shape (extension_data m.data_type) (extension_data m.chunk_grid) (extension_data m.chunk_key_encoding) m.fill_value codecs attributes transformers names)
+    (codes "zarr_format") (number_data 3) (put_rows (array_v3_rows m) no_members) [] o0 (string_bytes c.write_last.new.out)
+    (o1 ∷ o2 ∷ o3 ∷ o4 ∷ o5 ∷ o6 ∷ o7 ∷ o8 ∷ o9 ∷ o10 ∷ [])
+    c.in_ok-out.ensures
+    ((c.in_ok-write_unless.ensures p.5 ∙ ap (λ b. o0 ++ row_text (codes "attributes") (unless b (object m.attributes))) c.is_empty-empty.ensures)
+    ◂ c.in_ok-write_row.ensures p.1
+    ◂ c.in_ok-write_row-2.ensures p.2
+    ◂ c.in_ok-write_row-3.ensures p.4
+    ◂ c.in_ok-write_row-4.ensures p.0
+    ◂ subst (λ ns. IsTrue (none_or (list_all (none_or (λ _. true))) ns) → o6 ≡ o5 ++ row_text (codes "dimension_names") (option_map (list_data (nullable_data string)) ns))
+    c.as_ref-names.ensures.value c.in_ok-write_row-5.ensures (dimensions_fit m.dimension_names)
+    ◂ c.in_ok-write_row-6.ensures p.3
+    ◂ (c.in_ok-write_row-7.ensures refl ∙ ap (λ k. o7 ++ row_text (codes "node_type") (Some (string k))) c.in_ok-kind.ensures)
+    ◂ c.in_ok-write_row-8.ensures (all_true m.shape)
+    ◂ (c.in_ok-write_unless-2.ensures p.6 ∙ ap (λ b. o9 ++ row_text (codes "storage_transformers") (unless b (list_data extension_data m.storage_transformers))) c.is_empty-empty-2.ensures)
+    ◂ tt)
+    (c.in_ok-write_last.ensures refl)
+    (array_v3_sorted shape (extension_data m.data_type) (extension_data m.chunk_grid) (extension_data m.chunk_key_encoding) m.fill_value codecs attributes transformers names)

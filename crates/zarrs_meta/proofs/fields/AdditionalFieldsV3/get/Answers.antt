@@ -1,7 +1,0 @@
-use Rattle.std.proofs.Common.{◌∙◌, ap}
-use Rattle.serde_json.specs.Find.{get_member}
-use Rattle.zarrs_meta.proofs.Shared.{lookup-members_of}
-use Rattle.zarrs_meta.proofs.fields.AdditionalFieldsV3.get.Goals as goal
-
-pub returns : goal.returns
-returns c = c.get.ensures.value ∙ lookup-members_of c.args.name.now c.self.inside.fields.entries ∙ ap (get_member c.args.name.now) c.self.view_is

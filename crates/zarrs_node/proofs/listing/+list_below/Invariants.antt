@@ -1,0 +1,13 @@
+use Rattle.std.proofs.Common.{◌-◌, length, take, map}
+use Rattle.zarrs_store.specs.Segments.{last_segment}
+use Rattle.zarrs_store.specs.Depth.{most_segments}
+use Rattle.zarrs_node.specs.Forest.{forest}
+use Rattle.zarrs_node.proofs.Steps.{Progress}
+use Rattle.zarrs_node.proofs.listing.+list_below.Given as goal
+
+abbrev pub decreases-list_below : goal.decreases-list_below
+decreases-list_below g l = most_segments (g.S.Store.contents l.storage.now) - length l.path.now
+
+abbrev pub invariant-loop-prefix : goal.invariant-loop-prefix
+invariant-loop-prefix g l =
+    Progress (g.S.Store.contents l.storage) l.version l.recursive l.path (take l.prefix-index (map last_segment l.prefix-items)) (forest l.listed.nodes.items) l.listed.ignored.items

@@ -1,0 +1,75 @@
+//! The documents that were read last.
+ghost use Rattle.std.specs.Prelude.{◌≡◌};
+ghost use Rattle.zarrs_form.specs.Documents.{Gives};
+
+use std::alloc::Global;
+use std::marker::Model;
+use zarrs_meta::{ArrayMetadataV2, AttributesDocument, Document, GroupMetadataV2, ZarrJson};
+use zarrs_store::MetadataFault;
+
+/// The last document that was read. Nodes side by side often have equal documents: once the same bytes have come twice in a row, what they are read as is kept, and
+/// from the third time on it is copied and not read again.
+#[derive(Drop)]
+pub(crate) struct LastRead<D: Document> {
+    bytes: Vec<u8>,
+    document: Option<D>,
+}
+
+impl<D: Document> Model for LastRead<D> {
+    ghost use Rattle.std.specs.Prelude.{◌≡◌, Ok, IfSome};
+
+    ghost Value = { Unit {0} };
+
+    ghost view = { λ _. tt };
+
+    ghost invariant = { λ a. IfSome a.document (λ d. D.reading a.bytes.items ≡ Ok d) };
+}
+
+impl<D: Document + Drop> LastRead<D> {
+    /// Nothing was read yet.
+    pub(crate) fn new(alloc: Global) -> LastRead<D> {
+        LastRead {
+            bytes: Vec::new(alloc),
+            document: None,
+        }
+    }
+
+    /// The document that the bytes are.
+    pub(crate) fn read(&mut self, alloc: Global, bytes: Vec<u8>) -> Result<D, MetadataFault>
+        ensures { Gives (λ d. d) result (D.reading bytes.items) }
+    {
+        if bytes.as_slice() != self.bytes.as_slice() {
+            let document = D::read(alloc, &bytes)?;
+            self.bytes = bytes;
+            self.document = None;
+            return Ok(document);
+        }
+        if let Some(document) = &self.document {
+            return Ok(document.try_clone(alloc)?);
+        }
+        let document = D::read(alloc, &bytes)?;
+        self.document = Some(document.try_clone(alloc)?);
+        Ok(document)
+    }
+}
+
+/// The last documents of each kind that a listing reads.
+#[derive(Drop)]
+pub(crate) struct LastDocuments {
+    pub(crate) zarr_json: LastRead<ZarrJson>,
+    pub(crate) zarray: LastRead<ArrayMetadataV2>,
+    pub(crate) zgroup: LastRead<GroupMetadataV2>,
+    pub(crate) zattrs: LastRead<AttributesDocument>,
+}
+
+impl LastDocuments {
+    /// Nothing was read yet.
+    pub(crate) fn new(alloc: Global) -> LastDocuments {
+        LastDocuments {
+            zarr_json: LastRead::new(alloc),
+            zarray: LastRead::new(alloc),
+            zgroup: LastRead::new(alloc),
+            zattrs: LastRead::new(alloc),
+        }
+    }
+}
