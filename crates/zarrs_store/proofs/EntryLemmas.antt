@@ -1,23 +1,19 @@
--- The entries of a map in the order of the keys' texts, as a finite map in the order of their segments.
+-- Entries in the order of the keys' texts, as a finite map in the order of their segments.
 use Rattle.std.proofs.Common.{◌≡◌, Bool, true, false, cond, List, [], ◌∷◌, refl, sym, ap, subst, ◌∙◌, Some, None, Option, option_map}
 use Rattle.std.specs.Prelude.{All, ◌&&◌, map}
 use Rattle.std.specs.declared.cmp.Ordering.{Ordering}
 use Rattle.std.specs.declared.cmp.Ordering.TheVariants.{Less, Equal, Greater}
-use Rattle.std.specs.Ordering.{is_eq, eq_by_cmp, on, match_ordering}
+use Rattle.std.specs.Ordering.{is_eq, eq_by_cmp}
 use Rattle.std.specs.Cmp.{IsTotalOrder}
 use Rattle.std.specs.FinMap as finite
 use Rattle.std.specs.FinMap.{slice_cmp-IsAntisymmetric, nat_cmp-IsAntisymmetric}
-use Rattle.std.specs.Map.{lookup, remove_entry}
-use Rattle.std.specs.BTreeMap.{insert_entry}
+use Rattle.std.specs.Map.{lookup}
 use Rattle.std.proofs.lemmas.Cmp.{tied_itself, eq_by_cmp_equiv, nat_list_cmp_total, on_total}
-use Rattle.std.proofs.lemmas.List.Elements.{All-nil, All-cons, All-head, All-tail}
-use Rattle.zarrs_store.specs.Segments.{Segments, bytes_cmp, key_cmp, key_text, segments_of, IsKey}
+use Rattle.std.proofs.lemmas.List.Elements.{All-head, All-tail}
+use Rattle.zarrs_store.specs.Segments.{Segments, key_cmp, key_text, segments_of, IsKey}
+use Rattle.zarrs_store.specs.Places.{text_cmp}
 use Rattle.zarrs_store.proofs.ChildLemmas.{key_cmp_total, key_cmp-IsAntisymmetric}
 use Rattle.zarrs_store.proofs.Cuts.{segments_of-key_text}
-
--- the order of keys by their texts
-abbrev pub text_cmp : Segments → Segments → Ordering
-text_cmp = on key_text bytes_cmp
 
 pub text_cmp_total : IsTotalOrder text_cmp
 text_cmp_total = on_total key_text nat_list_cmp_total
@@ -128,26 +124,3 @@ module _ {X Y : Type 0} (f : X → Y) where
   shown_remove es fs k old new h says =
       finite.same_map key_cmp_total key_cmp-IsAntisymmetric _ _
       (λ q. changed es fs k None None old new h refl says q ∙ sym (finite.get-remove key_cmp_total (shown_map es) k q))
-
-module _ {X : Type 0} where
-  pub HoldsKeys-insert_entry : (R : Segments → Segments → Ordering) (es : List (Segments × X)) (k : Segments) (v : X) → HoldsKeys es → IsKey k → HoldsKeys (insert_entry R es k v)
-  HoldsKeys-insert_entry R [] k v keys h = All-cons (λ e. IsKey e.0) (k, v) [] h (All-nil (λ e. IsKey e.0))
-  HoldsKeys-insert_entry R (e ∷ es) k v keys h =
-      let P : Segments × X → Type 0 = λ x. IsKey x.0 in
-      let first : IsKey e.0 = All-head P e es keys in
-      let rest : All P es = All-tail P e es keys in
-      elim (R k e.0) as (λ r. HoldsKeys (match_ordering r ((k, v) ∷ e ∷ es) ((e.0, v) ∷ es) (e ∷ insert_entry R es k v))) [
-        | Less ↦ All-cons P (k, v) (e ∷ es) h keys
-        | Equal ↦ All-cons P (e.0, v) es first rest
-        | Greater ↦ All-cons P e (insert_entry R es k v) first (HoldsKeys-insert_entry R es k v rest h)
-      ]
-
-  pub HoldsKeys-remove_entry : (test : Segments → Bool) (es : List (Segments × X)) → HoldsKeys es → HoldsKeys (remove_entry test es)
-  HoldsKeys-remove_entry test [] keys = keys
-  HoldsKeys-remove_entry test (e ∷ es) keys =
-      let P : Segments × X → Type 0 = λ x. IsKey x.0 in
-      let rest : All P es = All-tail P e es keys in
-      elim (test e.0) as (λ b. HoldsKeys (cond b es (e ∷ remove_entry test es))) [
-        | true ↦ rest
-        | false ↦ All-cons P e (remove_entry test es) (All-head P e es keys) (HoldsKeys-remove_entry test es rest)
-      ]

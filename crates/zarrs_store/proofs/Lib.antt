@@ -8,3 +8,5 @@ pub mod Cuts
 pub mod Depths
 pub mod Below
 pub mod Ranges
+pub mod Digits
+pub mod PlaceLemmas

@@ -24,7 +24,8 @@ use Rattle.zarrs_store.specs.Contents.{HasKey, Lists, IsKeyBelow, IsChildKey, Is
 use Rattle.zarrs_store.specs.Entries.{beyond, is_below, is_one, is_child_key, first_of_more, child_name}
 use Rattle.zarrs_store.proofs.ChildLemmas.{key_cmp_total, key_cmp-IsAntisymmetric, Contains-filter}
 use Rattle.zarrs_store.proofs.BelowLemmas.{beyond-append, from_beyond, all_behind, key_text-below}
-use Rattle.zarrs_store.proofs.EntryLemmas.{text_cmp, text_cmp_total, equal_of, shown, HoldsKeys}
+use Rattle.zarrs_store.proofs.EntryLemmas.{text_cmp_total, equal_of, shown, HoldsKeys}
+use Rattle.zarrs_store.specs.Places.{text_cmp}
 
 -- strictly sorted lists have no item twice
 pub once_from_sorted : {K : Type 0} {R : K → K → Ordering} (o : IsTotalOrder R) (xs : List K) → IsStrictlySortedBy R xs → AllPairs (λ x y. x ≢ y) xs

@@ -1,147 +1,72 @@
--- The keys below a prefix stand together, from the least possible one on.
-use Rattle.std.proofs.Common.{◌≡◌, ◌≢◌, ℕ, zero, suc, Bool, true, false, cond, not, ◌&&◌, List, [], ◌∷◌, ◌++◌, refl, sym, ap, subst, ◌∙◌, append_assoc, get_or, Some, None, Option, option_map, arith}
+-- The keys below a prefix stand together, from the first that is not before the prefix's text on.
+use Rattle.std.proofs.Common.{◌≡◌, ◌≢◌, ℕ, suc, ◌+◌, ◌-◌, ◌<◌, ◌≤◌, Bool, true, false, cond, List, [], ◌∷◌, ◌++◌, length, get_or, take, drop, slice_range, refl, sym, ap, subst, ◌∙◌, append_assoc, append-nil, Some, None, Option, option_map, arith}
 use Rattle.std.specs.Prelude.{All, filter, filter_map, is_some, map}
 use Rattle.std.specs.declared.cmp.Ordering.TheVariants.{Less, Equal, Greater}
-use Rattle.std.specs.Ordering.{is_le, nat_cmp, ordering_then, ordering_reverse}
-use Rattle.std.specs.Cmp.{nat_cmp_is}
+use Rattle.std.specs.Ordering.{is_lt, nat_cmp, ordering_then}
 use Rattle.std.specs.FinMap.{nat_cmp-IsAntisymmetric}
 use Rattle.std.specs.List.{cons_option}
-use Rattle.std.specs.List.Sorted.{IsStrictlySortedBy}
 use Rattle.std.specs.Map.{keys_of}
-use Rattle.std.proofs.lemmas.Cmp.{nat_cmp_total, tied_itself}
-use Rattle.std.proofs.lemmas.List.Elements.{All-nil, All-cons, All-head, All-tail, All-push, All-map, All-filter, filter_passes}
-use Rattle.std.proofs.lemmas.List.Kept.{IsStrictlySortedBy-filter}
-use Rattle.std.proofs.lemmas.Map.Keys.{sorted_tail}
-use Rattle.std.proofs.lemmas.Map.Views.{All-after_first}
-use Rattle.zarrs_store.specs.Segments.{Segments, bytes_cmp, bytes_eq, key_text, prefix_text, IsKey, IsPrefix, IsSegment}
-use Rattle.zarrs_store.specs.Entries.{beyond, is_below, is_one, is_child_key, first_of_more, child_name, least_below}
-use Rattle.zarrs_store.proofs.BelowLemmas.{from_beyond, key_text-below, beyond-text, all_behind}
-use Rattle.zarrs_store.proofs.EntryLemmas.{text_cmp, HoldsKeys}
+use Rattle.std.proofs.lemmas.Cmp.{nat_cmp_total, nat_list_cmp_total, tied_itself}
+use Rattle.std.proofs.lemmas.List.{drop_all, get_or-map, take-map, drop-map}
+use Rattle.std.proofs.Math.Seq.{drop-cons}
+use Rattle.std.proofs.lemmas.List.Edits.{split_between}
+use Rattle.std.proofs.lemmas.List.Elements.{All-head, All-tail, All-map, filter-append, filter_map-append}
+use Rattle.std.proofs.lemmas.Map.Entries.{length-keys_of}
+use Rattle.zarrs_store.specs.Segments.{Segments, bytes_cmp, bytes_eq, key_text, prefix_text, IsKey, IsPrefix}
+use Rattle.zarrs_store.specs.Entries.{beyond, is_below, is_one, is_child_key, first_of_more, child_name}
+use Rattle.zarrs_store.specs.Places.{text_cmp, AreAscending, IsRange}
+use Rattle.zarrs_store.proofs.BelowLemmas.{from_beyond, key_text-below, beyond-text}
+use Rattle.zarrs_store.proofs.EntryLemmas.{shown}
 use Rattle.zarrs_store.proofs.ListLemmas.{fresh, child_of}
-
--- ---- the least key below a prefix
-
--- a zero byte is a segment
-zero_is_segment : IsSegment (0 ∷ [])
-zero_is_segment = record { nonempty = λ e. cc; no_slash = All-cons (λ b. b ≢ 47) 0 [] (λ e. omega (arith, e)) (All-nil (λ b. b ≢ 47)) }
-
--- a list with something at its end is not empty
-not_empty : {X : Type 0} (xs : List X) (x : X) → xs ++ x ∷ [] ≢ []
-not_empty [] x e = cc
-not_empty (y ∷ xs) x e = cc
-
--- the least key below a prefix is a key
-pub least_is_key : (p : Segments) → IsPrefix p → IsKey (least_below p)
-least_is_key p h = record { some = not_empty p (0 ∷ []); each = All-push IsSegment p (0 ∷ []) h zero_is_segment }
+use Rattle.zarrs_store.proofs.PlaceLemmas.{less_of, keys_of-shown, all_before, at_from, all_from, all_between, up_to, on_from, keys_before, keys_from}
 
 -- ---- texts that begin with a text
 
--- nothing comes before nothing
-none_first : (bs : List ℕ) → is_le (bytes_cmp [] bs) ≡ true
-none_first [] = refl
-none_first (b ∷ bs) = refl
+-- a text that begins with ps is not below ps
+not_less : (ps u : List ℕ) → is_lt (bytes_cmp (ps ++ u) ps) ≡ false
+not_less [] [] = refl
+not_less [] (b ∷ u) = refl
+not_less (c ∷ ps) u = ap (λ r. is_lt (ordering_then r (bytes_cmp (ps ++ u) ps))) (tied_itself nat_cmp_total c) ∙ not_less ps u
 
--- a text of one zero byte is not above one that has a byte
-from_zero : (b : ℕ) (bs : List ℕ) → is_le (bytes_cmp (0 ∷ []) (b ∷ bs)) ≡ true
-from_zero zero bs = ap (λ r. is_le (ordering_then r (bytes_cmp [] bs))) (tied_itself nat_cmp_total 0) ∙ none_first bs
-from_zero (suc b) bs = ap (λ r. is_le (ordering_then r (bytes_cmp [] bs))) (sym (nat_cmp_is 0 (suc b) Less (omega arith)))
-
--- a text that begins with ps and has more is not below ps and a zero byte
-from_least : (ps : List ℕ) (b : ℕ) (bs : List ℕ) → is_le (bytes_cmp (ps ++ 0 ∷ []) (ps ++ b ∷ bs)) ≡ true
-from_least [] b bs = from_zero b bs
-from_least (c ∷ ps) b bs = ap (λ r. is_le (ordering_then r (bytes_cmp (ps ++ 0 ∷ []) (ps ++ b ∷ bs)))) (tied_itself nat_cmp_total c) ∙ from_least ps b bs
-
--- a text that is not below ps and a zero byte and does not begin with ps is above all that do
-past_all : (ps t r : List ℕ) → is_le (bytes_cmp (ps ++ 0 ∷ []) t) ≡ true → ((u : List ℕ) → t ≢ ps ++ u) → bytes_cmp t (ps ++ r) ≡ Greater
+-- a text that is not below ps and does not begin with it is above all that do
+past_all : (ps t r : List ℕ) → is_lt (bytes_cmp t ps) ≡ false → ((u : List ℕ) → t ≢ ps ++ u) → bytes_cmp t (ps ++ r) ≡ Greater
 past_all [] t r h apart = absurd (apart t refl)
 past_all (c ∷ ps) [] r h apart = cc
 past_all (c ∷ ps) (d ∷ ds) r h apart =
-    let turned : nat_cmp d c ≡ ordering_reverse (nat_cmp c d) = nat_cmp_total.antisymm d c in
-    elim (nat_cmp c d) as (λ o. nat_cmp c d ≡ o → is_le (ordering_then o (bytes_cmp (ps ++ 0 ∷ []) ds)) ≡ true → ordering_then (nat_cmp d c) (bytes_cmp ds (ps ++ r)) ≡ Greater) [
-      | Less ↦ λ e _. ap (λ o. ordering_then o (bytes_cmp ds (ps ++ r))) (turned ∙ ap ordering_reverse e)
+    elim (nat_cmp d c) as (λ o. nat_cmp d c ≡ o → is_lt (ordering_then o (bytes_cmp ds ps)) ≡ false → ordering_then o (bytes_cmp ds (ps ++ r)) ≡ Greater) [
+      | Less ↦ λ _ k. cc
       | Equal ↦ λ e k.
-          let same : c ≡ d = nat_cmp-IsAntisymmetric c d e in
-          ap (λ o. ordering_then o (bytes_cmp ds (ps ++ r))) (turned ∙ ap ordering_reverse e)
-          ∙ past_all ps ds r k (λ u f. apart u (ap (λ x. x ∷ ds) (sym same) ∙ ap (λ x. c ∷ x) f))
-      | Greater ↦ λ _ k. cc
+          let same : d ≡ c = nat_cmp-IsAntisymmetric d c e in
+          past_all ps ds r k (λ u f. apart u (ap (λ x. x ∷ ds) same ∙ ap (λ x. c ∷ x) f))
+      | Greater ↦ λ _ _. refl
     ] refl h
 
 -- ---- keys below a prefix
 
--- the text of a key is not empty
-key_text_some : (n : List ℕ) (r : Segments) → IsSegment n → (b : ℕ) × (bs : List ℕ) × (key_text (n ∷ r) ≡ b ∷ bs)
-key_text_some [] r h = absurd (h.nonempty refl)
-key_text_some (b ∷ n) [] h = (b, n, refl)
-key_text_some (b ∷ n) (m ∷ r) h = (b, n ++ 47 ∷ key_text (m ∷ r), refl)
+-- whether the text of a key is before that of a prefix
+abbrev pub is_before : Segments → Segments → Bool
+is_before p k = is_lt (bytes_cmp (key_text k) (prefix_text p))
 
--- whether the key is not below the least one
-abbrev pub is_from : Segments → Segments → Bool
-is_from p k = is_le (text_cmp (least_below p) k)
-
--- a key below the prefix is not below the least one
-pub below_is_from : (p k r : Segments) → IsKey k → beyond p k ≡ Some r → is_from p k ≡ true
-below_is_from p k r key e =
+-- a key below the prefix is not before it
+below_not_before : (p k r : Segments) → beyond p k ≡ Some r → is_before p k ≡ false
+below_not_before p k r e =
     let h = from_beyond p k r e in
-    let name = All-head IsSegment h.name h.more (all_behind p (h.name ∷ h.more) (subst (All IsSegment) h.is key.each)) in
-    let t = key_text_some h.name h.more name in
-    ap (λ x. is_le (bytes_cmp x (key_text k))) (key_text-below p (0 ∷ []) [])
-    ∙ ap (λ x. is_le (bytes_cmp (prefix_text p ++ 0 ∷ []) x)) (ap key_text h.is ∙ key_text-below p h.name h.more ∙ ap (λ x. prefix_text p ++ x) t.2)
-    ∙ from_least (prefix_text p) t.0 t.1
+    ap (λ t. is_lt (bytes_cmp t (prefix_text p))) (ap key_text h.is ∙ key_text-below p h.name h.more) ∙ not_less (prefix_text p) (key_text (h.name ∷ h.more))
 
--- a key that is not below the least one, and not below the prefix, is behind all that are
-past_block : (p k q r : Segments) → IsPrefix p → IsKey k → is_from p k ≡ true → beyond p k ≡ None → beyond p q ≡ Some r → text_cmp k q ≡ Greater
-past_block p k q r valid key from none some =
-    let h = from_beyond p q r some in
-    let start : is_le (bytes_cmp (prefix_text p ++ 0 ∷ []) (key_text k)) ≡ true =
-    sym (ap (λ x. is_le (bytes_cmp x (key_text k))) (key_text-below p (0 ∷ []) [])) ∙ from in
-    ap (bytes_cmp (key_text k)) (ap key_text h.is ∙ key_text-below p h.name h.more)
-    ∙ past_all (prefix_text p) (key_text k) (key_text (h.name ∷ h.more)) start
-    (λ u e. let f : Some u ≡ None = beyond-text p k u valid key e ∙ ap (option_map key_text) none in cc)
-
--- ---- what is left of a range
-
--- keys in order, none of them below the least one
-pub record IsRest (p : Segments) (ks : List Segments) : Type 0 where
-  pub up : IsStrictlySortedBy text_cmp ks
-  pub from : All (λ k. is_from p k ≡ true) ks
-  pub keys : All IsKey ks
-
--- the rest without its first key is one
-pub rest_of : (p k : Segments) (ks : List Segments) → IsRest p (k ∷ ks) → IsRest p ks
-rest_of p k ks h = record {
-  up = sorted_tail text_cmp k ks h.up;
-  from = All-tail (λ k. is_from p k ≡ true) k ks h.from;
-  keys = All-tail IsKey k ks h.keys;
-}
-
--- what is not below the least key is not below the prefix
-unless : (p k : Segments) → IsKey k → is_from p k ≡ false → beyond p k ≡ None
-unless p k key e = elim (beyond p k) as (λ o. beyond p k ≡ o → o ≡ None) [
+-- a key before the prefix is not below it
+pub before_not_below : (p k : Segments) → is_before p k ≡ true → is_below p k ≡ false
+before_not_below p k before = elim (beyond p k) as (λ o. beyond p k ≡ o → is_some o ≡ false) [
   | None ↦ λ _. refl
-  | Some r ↦ λ some. let from = below_is_from p k r key some in cc
+  | Some r ↦ λ some. let not = below_not_before p k r some in cc
 ] refl
 
--- keys before the least one add nothing to what passes a test
-skip_filter : (p : Segments) (t : Segments → Bool) → ((k : Segments) → beyond p k ≡ None → t k ≡ false) → (ks : List Segments) → All IsKey ks
-    → filter t (filter (is_from p) ks) ≡ filter t ks
-skip_filter p t outside [] h = refl
-skip_filter p t outside (k ∷ ks) h =
-    let rest = skip_filter p t outside ks (All-tail IsKey k ks h) in
-    elim (is_from p k) as (λ b. is_from p k ≡ b → filter t (cond b (k ∷ filter (is_from p) ks) (filter (is_from p) ks)) ≡ cond (t k) (k ∷ filter t ks) (filter t ks)) [
-      | true ↦ λ _. ap (λ r. cond (t k) (k ∷ r) r) rest
-      | false ↦ λ e. rest ∙ sym (ap (λ b. cond b (k ∷ filter t ks) (filter t ks)) (outside k (unless p k (All-head IsKey k ks h) e)))
-    ] refl
-
--- nor to what a function gives
-skip_filter_map : {Y : Type 0} (p : Segments) (g : Segments → Option Y) → ((k : Segments) → beyond p k ≡ None → g k ≡ None) → (ks : List Segments) → All IsKey ks
-    → filter_map g (filter (is_from p) ks) ≡ filter_map g ks
-skip_filter_map p g outside [] h = refl
-skip_filter_map p g outside (k ∷ ks) h =
-    let rest = skip_filter_map p g outside ks (All-tail IsKey k ks h) in
-    elim (is_from p k) as (λ b. is_from p k ≡ b → filter_map g (cond b (k ∷ filter (is_from p) ks) (filter (is_from p) ks)) ≡ cons_option (g k) (filter_map g ks)) [
-      | true ↦ λ _. ap (λ r. cons_option (g k) r) rest
-      | false ↦ λ e. rest ∙ sym (ap (λ o. cons_option o (filter_map g ks)) (outside k (unless p k (All-head IsKey k ks h) e)))
-    ] refl
+-- a key that is neither before the prefix nor below it is behind all that are below
+past_block : (p k q r : Segments) → IsPrefix p → IsKey k → is_before p k ≡ false → beyond p k ≡ None → beyond p q ≡ Some r → text_cmp k q ≡ Greater
+past_block p k q r valid key from none some =
+    let h = from_beyond p q r some in
+    ap (bytes_cmp (key_text k)) (ap key_text h.is ∙ key_text-below p h.name h.more)
+    ∙ past_all (prefix_text p) (key_text k) (key_text (h.name ∷ h.more)) from
+    (λ u e. let f : Some u ≡ None = beyond-text p k u valid key e ∙ ap (option_map key_text) none in cc)
 
 -- what is not there is nothing
 not_some : {X : Type 0} (o : Option X) → is_some o ≡ false → o ≡ None
@@ -149,69 +74,79 @@ not_some None e = refl
 not_some (Some x) e = cc
 
 -- a key behind one that is past the prefix is not below it
-none_later : (p k q : Segments) → IsPrefix p → IsKey k → is_from p k ≡ true → beyond p k ≡ None → text_cmp k q ≡ Less → beyond p q ≡ None
-none_later p k q valid key from first less =
-    elim (beyond p q) as (λ o. beyond p q ≡ o → o ≡ None) [
+pub none_later : (p k q : Segments) → IsPrefix p → IsKey k → is_before p k ≡ false → is_below p k ≡ false → text_cmp k q ≡ Less → is_below p q ≡ false
+none_later p k q valid key from outside less =
+    elim (beyond p q) as (λ o. beyond p q ≡ o → is_some o ≡ false) [
       | None ↦ λ _. refl
-      | Some r ↦ λ some. let above = past_block p k q r valid key from first some in cc
+      | Some r ↦ λ some. let above = past_block p k q r valid key from (not_some (beyond p k) outside) some in cc
     ] refl
 
--- nothing is lost by a test that always passes besides
-and_always : (b : Bool) → (b && not false) ≡ b
-and_always true = refl
-and_always false = refl
+-- a key that is not before the prefix and stands before one that is below it is below it
+pub below_earlier : (p k q : Segments) → IsPrefix p → IsKey k → is_before p k ≡ false → is_below p q ≡ true → text_cmp k q ≡ Less → is_below p k ≡ true
+below_earlier p k q valid key from inside less =
+    elim (is_below p k) as (λ b. is_below p k ≡ b → b ≡ true) [
+      | true ↦ λ _. refl
+      | false ↦ λ e. let outside = none_later p k q valid key from e less in cc
+    ] refl
 
--- tests that agree keep the same
-same_filter : (t u : Segments → Bool) → ((k : Segments) → t k ≡ u k) → (ks : List Segments) → filter t ks ≡ filter u ks
-same_filter t u h [] = refl
-same_filter t u h (k ∷ ks) = ap (λ b. cond b (k ∷ filter t ks) (filter t ks)) (h k) ∙ ap (λ r. cond (u k) (k ∷ r) r) (same_filter t u h ks)
+-- ---- the steps of the two searches
 
-module _ {X : Type 0} where
-  -- entries whose keys pass are entries of keys that pass
-  keys_of-filter : (t : Segments → Bool) (es : List (Segments × X)) → keys_of (filter (λ e. t e.0) es) ≡ filter t (keys_of es)
-  keys_of-filter t [] = refl
-  keys_of-filter t (e ∷ es) =
-      elim (t e.0) as (λ b. keys_of (cond b (e ∷ filter (λ e. t e.0) es) (filter (λ e. t e.0) es)) ≡ cond b (e.0 ∷ filter t (keys_of es)) (filter t (keys_of es))) [
-        | true ↦ ap (λ r. e.0 ∷ r) (keys_of-filter t es)
-        | false ↦ keys_of-filter t es
-      ]
+-- a key that is smaller than one before the prefix is before it
+before_earlier : (p k q : Segments) → text_cmp k q ≡ Less → is_before p q ≡ true → is_before p k ≡ true
+before_earlier p k q less before = ap is_lt (nat_list_cmp_total.trans (key_text k) (key_text q) (prefix_text p) less (less_of _ before))
 
-  -- the entries from the least one on
-  abbrev pub from_entries : Segments → List (Segments × X) → List (Segments × X)
-  from_entries p es = filter (λ e. is_from p e.0 && not false) es
+not_before_later : (p k q : Segments) → text_cmp k q ≡ Less → is_before p k ≡ false → is_before p q ≡ false
+not_before_later p k q less from =
+    elim (is_before p q) as (λ b. is_before p q ≡ b → b ≡ false) [
+      | true ↦ λ e. let before = before_earlier p k q less e in cc
+      | false ↦ λ _. refl
+    ] refl
 
-  -- their keys
-  keys_from : (p : Segments) (es : List (Segments × X)) → keys_of (from_entries p es) ≡ filter (is_from p) (keys_of es)
-  keys_from p es = keys_of-filter (λ k. is_from p k && not false) es ∙ same_filter _ (is_from p) (λ k. and_always (is_from p k)) (keys_of es)
+module _ {X : Type 0} (es : List (Segments × X)) (up : AreAscending es) (p : Segments) (middle : ℕ) (x : Segments × X) (is : x ≡ get_or es middle x) (inside : middle < length es) where
+  pub before_step : is_before p x.0 ≡ true → All (λ e. is_before p e.0 ≡ true) (take (middle + 1) es)
+  before_step h =
+      all_before (λ e. is_before p e.0 ≡ true) es (middle + 1) (omega (arith, inside))
+      (up_to es up middle x is inside (λ e. is_before p e.0 ≡ true) h (λ a less. before_earlier p a.0 x.0 less h))
 
-  -- they are such a rest
-  pub rest_from : (p : Segments) (es : List (Segments × X)) → HoldsKeys es → IsStrictlySortedBy text_cmp (keys_of es) → IsRest p (keys_of (from_entries p es))
-  rest_from p es keys up = subst (IsRest p) (sym (keys_from p es)) (record {
-    up = IsStrictlySortedBy-filter text_cmp (is_from p) (keys_of es) up;
-    from = λ k d l. filter_passes (is_from p) (keys_of es) k d l;
-    keys = All-filter (is_from p) IsKey (keys_of es) (All-map IsKey (λ (e : Segments × X). e.0) es keys);
-  })
+  pub from_step : is_before p x.0 ≡ false → All (λ e. is_before p e.0 ≡ false) (drop middle es)
+  from_step h =
+      all_from (λ e. is_before p e.0 ≡ false) es middle (omega (arith, inside))
+      (on_from es up middle x is inside (λ e. is_before p e.0 ≡ false) h (λ a less. not_before_later p x.0 a.0 less h))
 
-  -- before them stands no key that such a test passes
-  pub from_filter : (p : Segments) (t : Segments → Bool) → ((k : Segments) → beyond p k ≡ None → t k ≡ false) → (es : List (Segments × X)) → HoldsKeys es
-      → filter t (keys_of (from_entries p es)) ≡ filter t (keys_of es)
-  from_filter p t outside es keys = ap (filter t) (keys_from p es) ∙ skip_filter p t outside (keys_of es) (All-map IsKey (λ (e : Segments × X). e.0) es keys)
+  module _ (valid : IsPrefix p) (first : ℕ) (start : first ≤ middle) (from : All (λ e. is_before p e.0 ≡ false) (drop first es)) where
+    pub within_step : is_below p x.0 ≡ true → All (λ e. is_below p e.0 ≡ true) (slice_range es first (middle + 1))
+    within_step h =
+        all_between (λ e. is_below p e.0 ≡ true) es first (middle + 1) (omega (arith, inside))
+        (λ k d le lt.
+        up_to es up middle x is inside (λ e. is_before p e.0 ≡ false → IsKey e.0 → is_below p e.0 ≡ true) (λ _ _. h)
+        (λ a less not key. below_earlier p a.0 x.0 valid key not h less) k d lt
+        (at_from (λ e. is_before p e.0 ≡ false) es first (omega (arith, start, inside)) from k d le (omega (arith, lt, inside)))
+        (up.valid k d (omega (arith, lt, inside))))
 
-  -- and none of which such a function gives something
-  pub from_filter_map : {Y : Type 0} (p : Segments) (h : Segments → Option Y) → ((k : Segments) → beyond p k ≡ None → h k ≡ None) → (es : List (Segments × X)) → HoldsKeys es
-      → filter_map h (keys_of (from_entries p es)) ≡ filter_map h (keys_of es)
-  from_filter_map p h outside es keys = ap (filter_map h) (keys_from p es) ∙ skip_filter_map p h outside (keys_of es) (All-map IsKey (λ (e : Segments × X). e.0) es keys)
+    pub behind_step : is_below p x.0 ≡ false → All (λ e. is_below p e.0 ≡ false) (drop middle es)
+    behind_step h =
+        let key = subst (λ (e : Segments × X). IsKey e.0) (sym is) (up.valid middle x inside) in
+        let not = subst (λ (e : Segments × X). is_before p e.0 ≡ false) (sym is)
+        (at_from (λ e. is_before p e.0 ≡ false) es first (omega (arith, start, inside)) from middle x start inside) in
+        all_from (λ e. is_below p e.0 ≡ false) es middle (omega (arith, inside))
+        (on_from es up middle x is inside (λ e. is_below p e.0 ≡ false) h (λ a less. none_later p x.0 a.0 valid key not h less))
 
--- ---- the end of the block
+-- what both searches give
+module _ {X : Type 0} (es : List (Segments × X)) (p : Segments) where
+  keys_between : (i j : ℕ) → slice_range (keys_of es) i j ≡ keys_of (slice_range es i j)
+  keys_between i j = ap (take (j - i)) (drop-map (λ (e : Segments × X). e.0) i es) ∙ take-map (λ (e : Segments × X). e.0) (j - i) (drop i es)
 
--- from a key on that is not below the prefix, none is
-pub none_from : (p k : Segments) (ks : List Segments) → IsPrefix p → IsRest p (k ∷ ks) → is_below p k ≡ false → All (λ q. beyond p q ≡ None) (k ∷ ks)
-none_from p k ks valid h outside =
-    let first : beyond p k ≡ None = not_some (beyond p k) outside in
-    let key = All-head IsKey k ks h.keys in
-    let from = All-head (λ q. is_from p q ≡ true) k ks h.from in
-    All-cons (λ q. beyond p q ≡ None) k ks first
-    (λ i d l. none_later p k (get_or ks i d) valid key from first (All-after_first text_cmp k ks h.up i d l))
+  pub range_is : (first end : ℕ) → first ≤ end → end ≤ length es → All (λ e. is_before p e.0 ≡ true) (take first es)
+      → All (λ e. is_below p e.0 ≡ true) (slice_range es first end) → All (λ e. is_below p e.0 ≡ false) (drop end es) → IsRange (keys_of es) p first end
+  range_is first end ordered inside before within behind = record {
+    ordered = ordered;
+    inside = omega (arith, inside, length-keys_of es);
+    before = keys_before es (λ k. is_below p k ≡ false) first (λ i d l. before_not_below p (get_or (take first es) i d).0 (before i d l));
+    within = subst (All (λ k. is_below p k ≡ true)) (sym (keys_between first end)) (All-map (λ k. is_below p k ≡ true) (λ (e : Segments × X). e.0) (slice_range es first end) within);
+    behind = keys_from es (λ k. is_below p k ≡ false) end behind;
+  }
+
+-- ---- what a test keeps
 
 -- a test that fails on each item keeps none
 pub filter_none : {X : Type 0} (t : X → Bool) (xs : List X) → All (λ x. t x ≡ false) xs → filter t xs ≡ []
@@ -223,44 +158,77 @@ pub filter_map_none : {X Y : Type 0} (h : X → Option Y) (xs : List X) → All 
 filter_map_none h [] all = refl
 filter_map_none h (x ∷ xs) all = ap (λ o. cons_option o (filter_map h xs)) (All-head (λ x. h x ≡ None) x xs all) ∙ filter_map_none h xs (All-tail (λ x. h x ≡ None) x xs all)
 
-module _ (p k : Segments) (ks : List Segments) (valid : IsPrefix p) (h : IsRest p (k ∷ ks)) (outside : is_below p k ≡ false) where
-  -- no key below the prefix is left
-  pub no_more_below : filter (is_below p) (k ∷ ks) ≡ []
-  no_more_below = filter_none (is_below p) (k ∷ ks) (λ i d l. ap is_some (none_from p k ks valid h outside i d l))
+-- a test that each item passes keeps all
+filter_all : {X : Type 0} (t : X → Bool) (xs : List X) → All (λ x. t x ≡ true) xs → filter t xs ≡ xs
+filter_all t [] h = refl
+filter_all t (x ∷ xs) h =
+    ap (λ b. cond b (x ∷ filter t xs) (filter t xs)) (All-head (λ x. t x ≡ true) x xs h) ∙ ap (λ r. x ∷ r) (filter_all t xs (All-tail (λ x. t x ≡ true) x xs h))
 
-  -- no child key is left
-  pub no_more_child_keys : filter (is_child_key p) (k ∷ ks) ≡ []
-  no_more_child_keys = filter_none (is_child_key p) (k ∷ ks) (λ i d l. ap is_one (none_from p k ks valid h outside i d l))
+module _ {X Y : Type 0} (f : X → Y) (es : List (Segments × X)) (p : Segments) (first end : ℕ) (range : IsRange (keys_of (shown f es)) p first end) where
+  own : IsRange (keys_of es) p first end
+  own = subst (λ ks. IsRange ks p first end) (keys_of-shown f es) range
 
-  -- no child is left
-  pub no_more_children : filter_map (child_name p) (k ∷ ks) ≡ []
-  no_more_children = filter_map_none (child_name p) (k ∷ ks) (λ i d l. ap first_of_more (none_from p k ks valid h outside i d l))
+  -- the keys in the range
+  abbrev ks : List Segments
+  ks = keys_of (slice_range es first end)
 
-module _ {X : Type 0} where
-  -- what `range` gives from the least key below the prefix on
-  pub start_is : (p least : Segments) (es r s : List (Segments × X)) → least ≡ least_below p
-      → r ≡ filter (λ e. is_le (text_cmp least e.0) && not false) es → s ≡ r → s ≡ from_entries p es
-  start_is p least es r s e f g = g ∙ f ∙ ap (λ l. filter (λ e. is_le (text_cmp l e.0) && not false) es) e
+  within : All (λ k. is_below p k ≡ true) ks
+  within = subst (All (λ k. is_below p k ≡ true)) (keys_between es p first end) own.within
 
-  module _ (p k : Segments) (v : X) (es rest : List (Segments × X)) (is : es ≡ (k, v) ∷ rest) (h : IsRest p (keys_of es)) where
-    -- what is left after a step
-    pub rest_after : IsRest p (keys_of rest)
-    rest_after = rest_of p k (keys_of rest) (subst (λ x. IsRest p (keys_of x)) is h)
+  -- the range lies in the entries
+  pub range_ends : end ≤ length es
+  range_ends = omega (arith, own.inside, length-keys_of es)
 
-    module _ (valid : IsPrefix p) (outside : is_below p k ≡ false) where
-      -- what is left at a key that is not below the prefix has no key below it
-      pub none_below_left : filter (is_below p) (keys_of es) ≡ []
-      none_below_left = ap (λ x. filter (is_below p) (keys_of x)) is ∙ no_more_below p k (keys_of rest) valid (subst (λ x. IsRest p (keys_of x)) is h) outside
+  whole : keys_of es ≡ take first (keys_of es) ++ (ks ++ drop end (keys_of es))
+  whole = split_between (keys_of es) first end own.ordered ∙ ap (λ x. take first (keys_of es) ++ (x ++ drop end (keys_of es))) (keys_between es p first end)
 
-      -- nor a child key
-      pub no_child_keys_left : filter (is_child_key p) (keys_of es) ≡ []
-      no_child_keys_left = ap (λ x. filter (is_child_key p) (keys_of x)) is ∙ no_more_child_keys p k (keys_of rest) valid (subst (λ x. IsRest p (keys_of x)) is h) outside
+  -- what stands in the range is below the prefix
+  pub below_there : (i : ℕ) (x : Segments × X) → i < length (slice_range es first end) → x ≡ get_or (slice_range es first end) i x → is_below p x.0 ≡ true
+  below_there i x lt is =
+      ap (λ (e : Segments × X). is_below p e.0) is ∙ ap (is_below p) (sym (get_or-map (λ (e : Segments × X). e.0) (slice_range es first end) i x x.0 lt))
+      ∙ within i x.0 (omega (arith, lt, length-keys_of (slice_range es first end)))
 
-      -- nor a child
-      pub no_children_left : filter_map (child_name p) (keys_of es) ≡ []
-      no_children_left = ap (λ x. filter_map (child_name p) (keys_of x)) is ∙ no_more_children p k (keys_of rest) valid (subst (λ x. IsRest p (keys_of x)) is h) outside
+  -- a test that no key outside passes keeps the same of the range as of all
+  pub range_filter : (t : Segments → Bool) → ((k : Segments) → is_below p k ≡ false → t k ≡ false) → filter t ks ≡ filter t (keys_of es)
+  range_filter t outside =
+      sym (ap (filter t) whole ∙ filter-append t (take first (keys_of es)) (ks ++ drop end (keys_of es))
+      ∙ ap (λ x. x ++ filter t (ks ++ drop end (keys_of es))) (filter_none t (take first (keys_of es)) (λ i d l. outside (get_or (take first (keys_of es)) i d) (own.before i d l)))
+      ∙ filter-append t ks (drop end (keys_of es))
+      ∙ ap (λ x. filter t ks ++ x) (filter_none t (drop end (keys_of es)) (λ i d l. outside (get_or (drop end (keys_of es)) i d) (own.behind i d l)))
+      ∙ append-nil (filter t ks))
+
+  -- all keys below the prefix are those in the range
+  pub range_below : filter (is_below p) (keys_of es) ≡ ks
+  range_below = sym (range_filter (is_below p) (λ k e. e)) ∙ filter_all (is_below p) ks within
+
+  -- and so does a function that gives nothing of the keys outside
+  pub range_filter_map : {Z : Type 0} (h : Segments → Option Z) → ((k : Segments) → is_below p k ≡ false → h k ≡ None) → filter_map h ks ≡ filter_map h (keys_of es)
+  range_filter_map h outside =
+      sym (ap (filter_map h) whole ∙ filter_map-append h (take first (keys_of es)) (ks ++ drop end (keys_of es))
+      ∙ ap (λ x. x ++ filter_map h (ks ++ drop end (keys_of es))) (filter_map_none h (take first (keys_of es)) (λ i d l. outside (get_or (take first (keys_of es)) i d) (own.before i d l)))
+      ∙ filter_map-append h ks (drop end (keys_of es))
+      ∙ ap (λ x. filter_map h ks ++ x) (filter_map_none h (drop end (keys_of es)) (λ i d l. outside (get_or (drop end (keys_of es)) i d) (own.behind i d l)))
+      ∙ append-nil (filter_map h ks))
+
+-- outside there is no child key
+pub no_child_key : (p k : Segments) → is_below p k ≡ false → is_child_key p k ≡ false
+no_child_key p k e = ap is_one (not_some (beyond p k) e)
+
+-- and no child
+pub no_child : (p k : Segments) → is_below p k ≡ false → child_name p k ≡ None
+no_child p k e = ap first_of_more (not_some (beyond p k) e)
 
 -- ---- one step of a walk
+
+-- at the end of the entries none is left
+pub none_left : {X : Type 0} (i : ℕ) (es : List (Segments × X)) → length es ≤ i → keys_of (drop i es) ≡ []
+none_left i es past = ap (λ r. keys_of r) (drop_all i es past)
+
+-- what is left at a place is what stands there, and what is left behind it
+pub left_at : {X : Type 0} (i : ℕ) (es : List (Segments × X)) (x : Segments × X) → i < length es → x ≡ get_or es i x → drop i es ≡ (x.0, x.1) ∷ drop (i + 1) es
+left_at i es x inside is =
+    let next : suc i ≡ i + 1 = omega arith in
+    drop-cons es i x inside ∙ ap (λ y. y ∷ drop (suc i) es) (sym is) ∙ ap (λ j. x ∷ drop j es) next
 
 module _ {X : Type 0} (k : Segments) (v : X) (es rest : List (Segments × X)) (is : es ≡ (k, v) ∷ rest) where
   -- a key that passes is kept

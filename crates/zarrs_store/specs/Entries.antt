@@ -1,5 +1,5 @@
 -- Zarr core specification 3.1, "Abstract store interface", `list_dir`: where a key stands below a prefix, as tests.
-use Rattle.std.specs.Prelude.{ℕ, Bool, true, false, List, [], ◌∷◌, ◌++◌, Option, Some, None, is_some, cond}
+use Rattle.std.specs.Prelude.{ℕ, Bool, true, false, List, [], ◌∷◌, Option, Some, None, is_some, cond}
 use Rattle.zarrs_store.specs.Segments.{Segments, bytes_eq}
 
 -- the segments of a key beyond a prefix, where the key is the prefix and at least one segment more
@@ -34,7 +34,3 @@ first_of_more (Some (name ∷ next ∷ rest)) = Some name
 -- the segment behind the prefix, where the key has at least one more behind that
 abbrev pub child_name : Segments → Segments → Option (List ℕ)
 child_name prefix key = first_of_more (beyond prefix key)
-
--- the least key below a prefix: behind it one segment, of one zero byte
-abbrev pub least_below : Segments → Segments
-least_below prefix = prefix ++ (0 ∷ []) ∷ []

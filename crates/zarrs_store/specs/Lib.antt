@@ -4,3 +4,4 @@ pub mod Faults
 pub mod Children
 pub mod Entries
 pub mod Depth
+pub mod Places

@@ -8,6 +8,7 @@ mod children;
 mod fault;
 mod key;
 mod memory_store;
+mod places;
 mod prefix;
 mod storage_error;
 mod store;

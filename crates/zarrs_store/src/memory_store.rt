@@ -1,38 +1,40 @@
-ghost use Rattle.std.specs.Prelude.{◌≡◌, false, [], OnOk, OnErr, IfErr};
+ghost use Rattle.std.specs.Prelude.{◌≡◌, ◌≤◌, ◌*◌, false, [], length, OnOk, OnErr, IfOk, IfErr};
+ghost use Rattle.std.specs.Map.{keys_of};
 ghost use Rattle.zarrs_store.specs.Segments.{key_cmp};
 ghost use Rattle.zarrs_store.specs.Faults.{IsStoreError};
+ghost use Rattle.zarrs_store.specs.Places.{IsAt, IsGap, IsRange, digits};
 ghost use Rattle.std.specs.FinMap as map;
 
 use crate::key::StoreKey;
+use crate::places::{place_of, range_of};
 use crate::prefix::StorePrefix;
 use crate::storage_error::StorageError;
 use crate::store::{
     ListableStorageTraits, ReadableStorageTraits, Store, StoreKeysPrefixes, WritableStorageTraits,
 };
 use std::alloc::{AllocError, Global};
-use std::collections::BTreeMap;
 use std::marker::Model;
 
-/// A store in memory: an ordered map from keys to bytes. It cannot fail, and a failed write changes nothing.
+/// A store in memory: a vector of keys with their bytes, ascending by the keys' texts. It cannot fail, and a failed write changes nothing.
 ///
 /// Contracts see it as the list of its entries, of which the store's finite map is made.
 ///
 /// Source: `zarrs::storage::store::MemoryStore`.
 #[derive(Debug, Drop)]
 pub struct MemoryStore {
-    entries: BTreeMap<StoreKey, Vec<u8>>,
+    entries: Vec<(StoreKey, Vec<u8>)>,
     alloc: Global,
 }
 
 impl Model for MemoryStore {
-    ghost use Rattle.std.specs.Prelude.{List, ℕ, map, All};
-    ghost use Rattle.zarrs_store.specs.Segments.{IsKey};
+    ghost use Rattle.std.specs.Prelude.{List, ℕ, map};
+    ghost use Rattle.zarrs_store.specs.Places.{AreAscending};
 
     ghost Value = { List (List (List ℕ) × List ℕ) };
 
-    ghost view = { λ a. map (λ e. (e.0, e.1.items)) a.entries.entries };
+    ghost view = { λ a. map (λ e. (e.0, e.1.items)) a.entries.items };
 
-    ghost invariant = { λ a. All (λ e. IsKey e.0) a.entries.entries };
+    ghost invariant = { λ a. AreAscending a.entries.items };
 }
 
 impl MemoryStore {
@@ -43,7 +45,7 @@ impl MemoryStore {
         ensures { result ≡ [] }
     {
         MemoryStore {
-            entries: BTreeMap::new(alloc),
+            entries: Vec::new(alloc),
             alloc,
         }
     }
@@ -51,7 +53,7 @@ impl MemoryStore {
     /// Sets the bytes at the key, and takes both over without a copy; after an error nothing is changed.
     ///
     /// # Errors
-    /// `AllocError` where the map cannot grow.
+    /// `AllocError` where the vector cannot grow.
     ///
     /// Source: own; `WritableStorageTraits::set` copies what it is lent.
     pub fn insert(&mut self, key: StoreKey, bytes: Vec<u8>) -> Result<(), AllocError>
@@ -59,8 +61,49 @@ impl MemoryStore {
         ensures unchanged { OnErr result (self.new ≡ self.old) }
     {
         let _valid = key.as_str();
-        self.entries.insert(key, bytes)?;
+        match self.place(&key) {
+            Ok(at) => self.entries[at].1 = bytes,
+            Err(at) => self.entries.insert(at, (key, bytes))?,
+        }
         Ok(())
+    }
+
+    /// The place of the key among the keys of the store, or as `Err` the place where it would stand; and the number of comparisons of keys.
+    /// It takes no memory.
+    ///
+    /// Source: own.
+    pub fn find_counted(&self, key: &StoreKey) -> (Result<usize, usize>, u32)
+        ensures found { IfOk result.0 (IsAt (keys_of self.now) key.now) }
+        ensures absent { IfErr result.0 (IsGap (keys_of self.now) key.now) }
+        ensures comparisons { result.1 ≤ digits (length self.now) }
+    {
+        let _valid = key.as_str();
+        place_of(&self.entries, key)
+    }
+
+    /// The first place and the end of the keys that begin with the prefix, equal where there are none; and the number of comparisons of keys.
+    /// It takes no memory.
+    ///
+    /// Source: own.
+    pub fn range_counted(&self, prefix: &StorePrefix) -> (usize, usize, u32)
+        ensures range { IsRange (keys_of self.now) prefix.now result.0 result.1 }
+        ensures comparisons { result.2 ≤ 2 * digits (length self.now) }
+    {
+        let _valid = prefix.as_str();
+        range_of(&self.entries, prefix)
+    }
+
+    // What `find_counted` finds; a key behind the last is told by one comparison, with no search.
+    fn place(&self, key: &StoreKey) -> Result<usize, usize>
+        ensures found { IfOk result (IsAt (keys_of self.now) key.now) }
+        ensures absent { IfErr result (IsGap (keys_of self.now) key.now) }
+    {
+        if let Some((last, _)) = self.entries.last() {
+            if last < key {
+                return Err(self.entries.len());
+            }
+        }
+        self.find_counted(key).0
     }
 }
 
@@ -77,9 +120,9 @@ impl ReadableStorageTraits for MemoryStore {
     /// `StorageError::OutOfMemory`.
     fn get(&self, alloc: Global, key: &StoreKey) -> Result<Option<Vec<u8>>, StorageError> {
         let _valid = key.as_str();
-        match self.entries.get(key) {
-            Some(value) => Ok(Some(Vec::from_slice(alloc, value.as_slice())?)),
-            None => Ok(None),
+        match self.find_counted(key).0 {
+            Ok(at) => Ok(Some(Vec::from_slice(alloc, self.entries[at].1.as_slice())?)),
+            Err(_) => Ok(None),
         }
     }
 }
@@ -91,13 +134,13 @@ impl ListableStorageTraits for MemoryStore {
     /// `StorageError::OutOfMemory`.
     fn list(&self, alloc: Global) -> Result<Vec<StoreKey>, StorageError> {
         let mut keys = Vec::new(alloc);
-        for key in self.entries.keys() {
+        for (key, _) in &self.entries {
             keys.push(key.try_clone(alloc)?)?;
         }
         Ok(keys)
     }
 
-    /// The keys that begin with the prefix, ascending by their texts. They stand together in the map, and only they are walked.
+    /// The keys that begin with the prefix, ascending by their texts. They stand together, and only they are walked.
     ///
     /// # Errors
     /// `StorageError::OutOfMemory`.
@@ -106,13 +149,9 @@ impl ListableStorageTraits for MemoryStore {
         alloc: Global,
         prefix: &StorePrefix,
     ) -> Result<Vec<StoreKey>, StorageError> {
-        let _valid = prefix.as_str();
-        let least = prefix.least_below(alloc)?;
+        let (first, end, _) = self.range_counted(prefix);
         let mut below = Vec::new(alloc);
-        for (key, _) in self.entries.range(&least..) {
-            if !prefix.is_above(key) {
-                break;
-            }
+        for (key, _) in &self.entries.as_slice()[first..end] {
             below.push(key.try_clone(alloc)?)?;
         }
         Ok(below)
@@ -128,26 +167,20 @@ impl ListableStorageTraits for MemoryStore {
         alloc: Global,
         prefix: &StorePrefix,
     ) -> Result<StoreKeysPrefixes, StorageError> {
-        let _valid = prefix.as_str();
-        let least = prefix.least_below(alloc)?;
+        let (first, end, _) = self.range_counted(prefix);
         let mut keys = Vec::new(alloc);
         let mut prefixes = Vec::new(alloc);
         let mut last = "";
-        for (key, _) in self.entries.range(&least..) {
-            match prefix.child_name(key) {
-                Some(name) => {
-                    if name != last {
-                        prefixes.push(prefix.child(alloc, name)?)?;
-                        last = name;
-                    }
-                }
-                None => {
-                    if !prefix.is_above(key) {
-                        break;
-                    }
-                    keys.push(key.try_clone(alloc)?)?;
-                }
+        for (key, _) in &self.entries.as_slice()[first..end] {
+            let Some(name) = prefix.child_name(key) else {
+                keys.push(key.try_clone(alloc)?)?;
+                continue;
+            };
+            if name == last {
+                continue;
             }
+            prefixes.push(prefix.child(alloc, name)?)?;
+            last = name;
         }
         Ok(StoreKeysPrefixes { keys, prefixes })
     }
@@ -163,10 +196,9 @@ impl WritableStorageTraits for MemoryStore {
         ensures err { IfErr result (IsStoreError false) }
         ensures unchanged { OnErr result (self.new ≡ self.old) }
     {
-        let _valid = key.as_str();
         let key = key.try_clone(self.alloc)?;
         let value = Vec::from_slice(self.alloc, value)?;
-        self.entries.insert(key, value)?;
+        self.insert(key, value)?;
         Ok(())
     }
 
@@ -180,7 +212,10 @@ impl WritableStorageTraits for MemoryStore {
         ensures unchanged { OnErr result (self.new ≡ self.old) }
     {
         let _valid = key.as_str();
-        self.entries.remove(key);
+        match self.find_counted(key).0 {
+            Ok(at) => drop(self.entries.remove(at)),
+            Err(_) => {}
+        }
         Ok(())
     }
 }

@@ -8,7 +8,7 @@ ghost use Rattle.zarrs_store.specs.Faults.{RefusesPrefix};
 ghost use Rattle.std.specs.Prelude.{[], ◌∷◌, ◌++◌};
 ghost use Rattle.std.specs.Option.{option_map};
 ghost use Rattle.zarrs_store.specs.Segments.{IsSegment};
-ghost use Rattle.zarrs_store.specs.Entries.{beyond, is_below, child_name, least_below};
+ghost use Rattle.zarrs_store.specs.Entries.{beyond, is_below, child_name};
 
 use crate::key::StoreKey;
 use std::alloc::{AllocError, Global};
@@ -177,15 +177,6 @@ impl StorePrefix {
         text.push_str(name)?;
         text.push_str("/")?;
         Ok(StorePrefix { text })
-    }
-
-    // The least key below the prefix, which need not be in any store: a range of keys begins there.
-    pub(crate) fn least_below(&self, alloc: Global) -> Result<StoreKey, AllocError>
-        ensures { IfOk result (λ key. key ≡ least_below self.now) }
-    {
-        let mut text = String::from_str(alloc, self.as_str())?;
-        text.push_str("\0")?;
-        Ok(StoreKey::new_unchecked(text))
     }
 }
 

@@ -263,3 +263,87 @@ fn takes_over_a_key_and_its_bytes(rt: HostRuntime) -> Result<(), Fail> {
     }
     Ok(())
 }
+
+// A store with a key for each number below `count`, in the order of their texts.
+fn numbered(alloc: Global, count: u32) -> Result<MemoryStore, Fail> {
+    let mut store = MemoryStore::new(alloc);
+    for i in 0..count {
+        store.insert(numbered_key(alloc, i, "")?, Vec::new(alloc))?;
+    }
+    Ok(store)
+}
+
+// The key of a number: four digits and what stands behind them.
+fn numbered_key(alloc: Global, number: u32, behind: &str) -> Result<StoreKey, Fail> {
+    let text = format!(in alloc; "{number:04}{behind}")?;
+    Ok(StoreKey::new(alloc, text.as_str())?)
+}
+
+#[test]
+fn a_key_is_found_by_as_many_comparisons_as_the_number_of_keys_has_digits(
+    rt: HostRuntime,
+) -> Result<(), Fail> {
+    let alloc = rt.alloc();
+    for (count, digits) in [(0, 0), (1, 1), (1000, 10), (1024, 11)] {
+        let store = numbered(alloc, count)?;
+        let mut most = 0;
+        for i in 0..count {
+            let (place, comparisons) = store.find_counted(&numbered_key(alloc, i, "")?);
+            assert_eq!(rt; place.ok(), usize::try_from(i).ok(), "{i}");
+            most = most.max(comparisons);
+            let (place, comparisons) = store.find_counted(&numbered_key(alloc, i, "-")?);
+            assert_eq!(rt; place.err(), usize::try_from(i + 1).ok(), "{i}");
+            assert!(rt; comparisons <= digits, "{i}");
+        }
+        assert_eq!(rt; most, digits, "{count}");
+        let (place, comparisons) = store.find_counted(&key(alloc, "+")?);
+        assert_eq!(rt; place.err(), Some(0), "{count}");
+        assert!(rt; comparisons <= digits, "{count}");
+    }
+    Ok(())
+}
+
+#[test]
+fn the_keys_below_a_prefix_stand_together(rt: HostRuntime) -> Result<(), Fail> {
+    let alloc = rt.alloc();
+    let store = store_of(alloc, &["a/c/d", "a", "a0", "a-b/c", "a/b"])?;
+    for (text, want_first, want_end) in [
+        ("", 0, 5),
+        ("a/", 2, 4),
+        ("a-b/", 1, 2),
+        ("a/c/", 3, 4),
+        ("a/b/", 3, 3),
+        ("b/", 5, 5),
+    ] {
+        let (first, end, comparisons) = store.range_counted(&prefix(alloc, text)?);
+        assert_eq!(rt; first, want_first, "{text}");
+        assert_eq!(rt; end, want_end, "{text}");
+        assert!(rt; comparisons >= 1, "{text}");
+        assert!(rt; comparisons <= 6, "{text}");
+    }
+    let dir = store.list_dir(alloc, &prefix(alloc, "a/")?)?;
+    assert_eq!(rt; texts_of_keys(alloc, dir.keys.as_slice())?.as_str(), "a/b ");
+    assert_eq!(rt;
+        texts_of_prefixes(alloc, dir.prefixes.as_slice())?.as_str(),
+        "a/c/ "
+    );
+    Ok(())
+}
+
+#[test]
+fn keys_ascend_in_whatever_order_they_are_set(rt: HostRuntime) -> Result<(), Fail> {
+    let alloc = rt.alloc();
+    let mut store = store_of(alloc, &["b", "d", "a", "c", "b"])?;
+    assert_eq!(rt;
+        texts_of_keys(alloc, store.list(alloc)?.as_slice())?.as_str(),
+        "a b c d "
+    );
+    store.erase(&key(alloc, "a")?)?;
+    store.erase(&key(alloc, "d")?)?;
+    store.insert(key(alloc, "e")?, Vec::new(alloc))?;
+    assert_eq!(rt;
+        texts_of_keys(alloc, store.list(alloc)?.as_slice())?.as_str(),
+        "b c e "
+    );
+    Ok(())
+}

@@ -1,97 +1,62 @@
-use Rattle.std.proofs.Common.{rules, refl, ◌≡◌, Bool, not, true, false, ◌++◌, [], sym, ◌∙◌, ap, subst, append-nil}
+use Rattle.std.proofs.Common.{rules, ◌≡◌, ◌<◌, ◌++◌, [], None, length, get_or, slice_range, sym, ◌∙◌, ap, subst, append-nil}
 use Rattle.std.specs.FinMap as map
 use Rattle.std.specs.Map.{keys_of}
 use Rattle.std.specs.Prelude.{filter, filter_map, map as each}
-use Rattle.zarrs_store.specs.Segments.{key_cmp, bytes_eq}
+use Rattle.zarrs_store.specs.Segments.{key_cmp}
 use Rattle.zarrs_store.specs.Contents.{Lists, IsChildKey, IsChildPrefix}
-use Rattle.zarrs_store.specs.Entries.{is_child_key, is_one, first_of_more, child_name}
+use Rattle.zarrs_store.specs.Entries.{is_child_key, child_name}
+use Rattle.zarrs_store.specs.Places.{IsRange}
 use Rattle.zarrs_store.proofs.EntryLemmas.{shown}
 use Rattle.zarrs_store.proofs.ListLemmas.{Lists-child_keys, Lists-child_prefixes, fresh, child_of}
-use Rattle.zarrs_store.proofs.Ranges.{IsRest, start_is, rest_from, rest_after, from_filter, from_filter_map, no_child_keys_left, no_children_left, kept_step, dropped_step, no_name_step, same_name_step, new_name_step, not_child_key, child_key_from}
+use Rattle.zarrs_store.proofs.Ranges.{none_left, left_at, below_there, range_filter, range_filter_map, no_child_key, no_child, kept_step, no_name_step, child_key_from}
 use Rattle.zarrs_store.proofs.memory_store.MemoryStoreListableStorageTraits.list_dir.Goals as goal
-use Rattle.zarrs_store.proofs.memory_store.MemoryStoreListableStorageTraits.list_dir.Goals.{in-None, in-Some+in-None-child_name+then-not-is_above}
 
-pub loop-key-init : goal.loop-key-init
-loop-key-init c =
-    let entries = c.self.inside.entries.entries in
-    let prefix = c.args.prefix.now in
-    let start = start_is prefix _ entries _ _ c.in_ok-least.ensures (c.range-key-items.ensures.between tt) c.into_iter-key-iterator.ensures.into_iter_gives in
-    (search rules, search rules, subst (λ x. IsRest prefix (keys_of x)) (sym start) (rest_from prefix entries c.self.invariant c.range-key-items.ensures.ordered), search rules)
-
--- a test that is turned
-other_from : (b r : Bool) → r ≡ not b → r ≡ true → b ≡ false
-other_from true r e f = cc
-other_from false r e f = refl
-
-same_from : (b r : Bool) → r ≡ not b → r ≡ false → b ≡ true
-same_from true r e f = refl
-same_from false r e f = cc
-
-pub loop-key-preserved-then-ne : goal.loop-key-preserved-then-ne
-loop-key-preserved-then-ne c =
+pub loop-key-preserved-in_default : goal.loop-key-preserved-in_default
+loop-key-preserved-in_default c =
     let p = c.args.prefix.now in
-    let name = sym c.in-Some-child_name.ensures.name in
-    let ne : c.ne.result ≡ not (bytes_eq c.in-Some-child_name.name.now c.loop-key.last.now) = search rules in (
-      dropped_step c.in-Some.key.now _ _ _ c.in-Some.ensures.steps (is_child_key p) _ _ (not_child_key p c.in-Some.key.now _ name) c.loop-key.invariant.0,
-      new_name_step c.in-Some.key.now _ _ _ c.in-Some.ensures.steps p _ _ _ c.loop-key.invariant.1 _ _ _ name (other_from _ _ ne c.if-ne.true) c.in_ok-push-in-Some-child_name.ensures.items c.in_ok-child-in-Some-child_name.ensures,
-      rest_after p _ _ _ _ c.in-Some.ensures.steps c.loop-key.invariant.2,
-      search rules,
-    )
-
-pub loop-key-preserved-else-ne : goal.loop-key-preserved-else-ne
-loop-key-preserved-else-ne c =
-    let p = c.args.prefix.now in
-    let name = sym c.in-Some-child_name.ensures.name in
-    let ne : c.ne.result ≡ not (bytes_eq c.in-Some-child_name.name.now c.loop-key.last.now) = search rules in (
-      dropped_step c.in-Some.key.now _ _ _ c.in-Some.ensures.steps (is_child_key p) _ _ (not_child_key p c.in-Some.key.now _ name) c.loop-key.invariant.0,
-      same_name_step c.in-Some.key.now _ _ _ c.in-Some.ensures.steps p _ _ _ c.loop-key.invariant.1 _ name (same_from _ _ ne c.if-ne.false),
-      rest_after p _ _ _ _ c.in-Some.ensures.steps c.loop-key.invariant.2,
-      search rules,
-    )
-
-pub loop-key-preserved : goal.loop-key-preserved
-loop-key-preserved c =
-    let p = c.args.prefix.now in
-    let none = sym c.in-None-child_name.ensures.name in
-    let here = child_key_from p c.in-Some.key.now none (sym c.is_above.ensures ∙ c.if-not-is_above.false) in (
-      kept_step c.in-Some.key.now _ _ _ c.in-Some.ensures.steps (is_child_key p) _ _ _ _ here c.in_ok-push-in-None-child_name.ensures.items c.in_ok-try_clone-in-None-child_name.ensures c.loop-key.invariant.0,
-      no_name_step c.in-Some.key.now _ _ _ c.in-Some.ensures.steps p _ _ _ c.loop-key.invariant.1 none,
-      rest_after p _ _ _ _ c.in-Some.ensures.steps c.loop-key.invariant.2,
+    let first = c.range_counted-first.result.0 in
+    let end = c.range_counted-first.result.1 in
+    let i = c.loop-key.key-index in
+    let x = c.loop-key-item.result in
+    let range = subst (λ s. IsRange (keys_of s) p first end) (sym c.self.view_is) c.range_counted-first.ensures.range in
+    let left = left_at i (slice_range c.as_slice.result.now first end) x c.loop-key-test.true c.loop-key-item.is in
+    let below = below_there (λ v. v.items) c.self.inside.entries.items p first end range i x
+    (subst (λ s. i < length (slice_range s first end)) c.as_slice.ensures.value c.loop-key-test.true)
+    (subst (λ s. x ≡ get_or (slice_range s first end) i x) c.as_slice.ensures.value c.loop-key-item.is) in
+    let none : child_name p x.0 ≡ None = search rules in
+    let same : c.in_ok-try_clone.field-0 ≡ x.0 = search rules in (
+      kept_step x.0 x.1 _ _ left (is_child_key p) c.in_ok-try_clone.field-0 _ _ _ (child_key_from p x.0 none below) c.in_ok-push.ensures.items same c.loop-key.invariant.0,
+      no_name_step x.0 x.1 _ _ left p _ _ _ c.loop-key.invariant.1 none,
       search rules,
     )
 
 pub returns-clause-keys : goal.returns-clause-keys
 returns-clause-keys c =
-    let entries = c.self.inside.entries.entries in
+    let entries = c.self.inside.entries.items in
     let prefix = c.args.prefix.now in
-    let start = start_is prefix _ entries _ _ c.in_ok-least.ensures (c.range-key-items.ensures.between tt) c.into_iter-key-iterator.ensures.into_iter_gives in
-    let left : filter (is_child_key prefix) (keys_of c.loop-key.key-iterator) ≡ [] = elim c.match-next.branch [
-      | in-None w ↦ ap (λ x. filter (is_child_key prefix) (keys_of x)) w.in-None.ensures.steps.0
-      | in-Some+in-None-child_name+then-not-is_above w ↦
-          no_child_keys_left prefix _ _ _ _ w.in-Some.ensures.steps c.loop-key.invariant.2 c.as_str-valid.ensures.valid (sym w.is_above.ensures ∙ w.if-not-is_above.true)
-    ] in
+    let first = c.range_counted-first.result.0 in
+    let end = c.range_counted-first.result.1 in
+    let range = subst (λ s. IsRange (keys_of s) prefix first end) (sym c.self.view_is) c.range_counted-first.ensures.range in
     let is : c.loop-key.keys.items ≡ filter (is_child_key prefix) (keys_of entries) =
-    sym (append-nil c.loop-key.keys.items) ∙ ap (λ r. c.loop-key.keys.items ++ r) (sym left)
-    ∙ c.loop-key.invariant.0 ∙ ap (λ x. filter (is_child_key prefix) (keys_of x)) start
-    ∙ from_filter prefix (is_child_key prefix) (λ k e. ap is_one e) entries c.self.invariant in
+    sym (append-nil c.loop-key.keys.items)
+    ∙ ap (λ r. c.loop-key.keys.items ++ filter (is_child_key prefix) r) (sym (none_left c.loop-key.key-index (slice_range c.as_slice.result.now first end) c.loop-key-test.false))
+    ∙ c.loop-key.invariant.0 ∙ ap (λ es. filter (is_child_key prefix) (keys_of (slice_range es first end))) c.as_slice.ensures.value
+    ∙ range_filter (λ v. v.items) entries prefix first end range (is_child_key prefix) (no_child_key prefix) in
     subst (λ s. Lists (IsChildKey (map.from_entries {R = key_cmp} s) prefix) c.loop-key.keys.items) c.self.view_is
     (subst (Lists (IsChildKey (map.from_entries {R = key_cmp} (shown (λ v. v.items) entries)) prefix)) (sym is)
-    (Lists-child_keys (λ v. v.items) entries prefix c.range-key-items.ensures.ordered))
+    (Lists-child_keys (λ v. v.items) entries prefix c.self.invariant.ascending))
 
 pub returns-clause-prefixes : goal.returns-clause-prefixes
 returns-clause-prefixes c =
-    let entries = c.self.inside.entries.entries in
+    let entries = c.self.inside.entries.items in
     let prefix = c.args.prefix.now in
-    let start = start_is prefix _ entries _ _ c.in_ok-least.ensures (c.range-key-items.ensures.between tt) c.into_iter-key-iterator.ensures.into_iter_gives in
-    let left : filter_map (child_name prefix) (keys_of c.loop-key.key-iterator) ≡ [] = elim c.match-next.branch [
-      | in-None w ↦ ap (λ x. filter_map (child_name prefix) (keys_of x)) w.in-None.ensures.steps.0
-      | in-Some+in-None-child_name+then-not-is_above w ↦
-          no_children_left prefix _ _ _ _ w.in-Some.ensures.steps c.loop-key.invariant.2 c.as_str-valid.ensures.valid (sym w.is_above.ensures ∙ w.if-not-is_above.true)
-    ] in
+    let first = c.range_counted-first.result.0 in
+    let end = c.range_counted-first.result.1 in
+    let range = subst (λ s. IsRange (keys_of s) prefix first end) (sym c.self.view_is) c.range_counted-first.ensures.range in
     let is : c.loop-key.prefixes.items ≡ each (child_of prefix) (fresh [] (filter_map (child_name prefix) (keys_of entries))) =
     sym (append-nil c.loop-key.prefixes.items)
-    ∙ ap (λ r. c.loop-key.prefixes.items ++ each (child_of prefix) (fresh c.loop-key.last.now r)) (sym left)
-    ∙ c.loop-key.invariant.1 ∙ ap (λ x. each (child_of prefix) (fresh [] (filter_map (child_name prefix) (keys_of x)))) start
-    ∙ ap (λ x. each (child_of prefix) (fresh [] x)) (from_filter_map prefix (child_name prefix) (λ k e. ap first_of_more e) entries c.self.invariant) in
+    ∙ ap (λ r. c.loop-key.prefixes.items ++ each (child_of prefix) (fresh c.loop-key.last.now (filter_map (child_name prefix) r))) (sym (none_left c.loop-key.key-index (slice_range c.as_slice.result.now first end) c.loop-key-test.false))
+    ∙ c.loop-key.invariant.1 ∙ ap (λ es. each (child_of prefix) (fresh [] (filter_map (child_name prefix) (keys_of (slice_range es first end))))) c.as_slice.ensures.value
+    ∙ ap (λ x. each (child_of prefix) (fresh [] x)) (range_filter_map (λ v. v.items) entries prefix first end range (child_name prefix) (no_child prefix)) in
     subst (λ s. Lists (IsChildPrefix (map.from_entries {R = key_cmp} s) prefix) c.loop-key.prefixes.items) c.self.view_is
-    (Lists-child_prefixes (λ v. v.items) entries prefix c.self.invariant c.range-key-items.ensures.ordered c.loop-key.prefixes.items is)
+    (Lists-child_prefixes (λ v. v.items) entries prefix c.self.invariant.valid c.self.invariant.ascending c.loop-key.prefixes.items is)
