@@ -17,7 +17,7 @@ use Rattle.zarrs_form.specs.declared.chunks.ArrayMetadataV2Order.{ArrayMetadataV
 use Rattle.zarrs_form.specs.declared.chunks.ArrayMetadataV2Order.TheVariants.{C, F}
 use Rattle.zarrs_form.specs.declared.chunks.ChunkKeySeparator.{ChunkKeySeparator}
 use Rattle.zarrs_form.specs.declared.chunks.ChunkKeySeparator.TheVariants.{Dot, Slash}
-use Rattle.zarrs_form.proofs.MemberLaws.{besides-put, besides-others, get-others, no_float-put}
+use Rattle.zarrs_form.proofs.MemberLaws.{besides-put, besides-others, get-others}
 use Rattle.zarrs_form.proofs.RowLaws.{or_rest, found, get-put_rows, besides-put_rows, no_float-put_rows, list_again, list_again_where, list_no_float, numbers_no_float, both, ◌◂◌, number_again}
 use Rattle.zarrs_form.proofs.AttributeLaws.{not_true, attributes_again, attributes_no_float}
 use Rattle.zarrs_form.proofs.CodecLaws.{codec_no_float}

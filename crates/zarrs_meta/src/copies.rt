@@ -4,6 +4,7 @@ ghost use Rattle.std.specs.Prelude.{◌≡◌, IfOk};
 use crate::array_v2::ArrayMetadataV2;
 use crate::array_v3::ArrayMetadataV3;
 use crate::attributes::AttributesDocument;
+use crate::boxed_array::BoxedArray;
 use crate::group_v2::GroupMetadataV2;
 use crate::group_v3::GroupMetadataV3;
 use crate::node::{ArrayMetadata, GroupMetadata, NodeMetadata};
@@ -132,6 +133,19 @@ impl ArrayMetadata {
             ArrayMetadata::V3(array) => Ok(ArrayMetadata::V3(array.try_clone(alloc)?)),
             ArrayMetadata::V2(array) => Ok(ArrayMetadata::V2(array.try_clone(alloc)?)),
         }
+    }
+}
+
+impl BoxedArray {
+    /// A copy that equals its source.
+    ///
+    /// # Errors
+    ///
+    /// `AllocError` where there is no memory for the copy.
+    pub fn try_clone(&self, alloc: Global) -> Result<BoxedArray, AllocError>
+        ensures { IfOk result (λ copy. copy ≡ self.now) }
+    {
+        BoxedArray::new(alloc, self.as_ref().try_clone(alloc)?)
     }
 }
 

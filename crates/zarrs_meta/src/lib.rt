@@ -6,6 +6,7 @@
 mod array_v2;
 mod array_v3;
 mod attributes;
+mod boxed_array;
 mod copies;
 mod document;
 mod group_v2;
@@ -16,6 +17,7 @@ mod node;
 pub use array_v2::ArrayMetadataV2;
 pub use array_v3::ArrayMetadataV3;
 pub use attributes::AttributesDocument;
+pub use boxed_array::BoxedArray;
 pub use document::Document;
 pub use group_v2::GroupMetadataV2;
 pub use group_v3::GroupMetadataV3;

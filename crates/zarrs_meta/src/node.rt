@@ -10,6 +10,7 @@ ghost use Rattle.zarrs_meta.specs.declared.node.ArrayMetadata.TheVariants.{V3 as
 
 use crate::array_v2::ArrayMetadataV2;
 use crate::array_v3::ArrayMetadataV3;
+use crate::boxed_array::BoxedArray;
 use crate::group_v2::GroupMetadataV2;
 use crate::group_v3::GroupMetadataV3;
 use serde_json::{Map, Value};
@@ -41,7 +42,7 @@ pub enum NodeMetadata {
     /// A group.
     Group(GroupMetadata),
     /// An array.
-    Array(ArrayMetadata),
+    Array(BoxedArray),
 }
 
 /// What the document at the key `zarr.json` is read as.
@@ -131,8 +132,10 @@ impl NodeMetadata {
         match self {
             NodeMetadata::Group(GroupMetadata::V3(group)) => group.to_value(alloc),
             NodeMetadata::Group(GroupMetadata::V2(group)) => group.to_value(alloc),
-            NodeMetadata::Array(ArrayMetadata::V3(array)) => array.to_value(alloc),
-            NodeMetadata::Array(ArrayMetadata::V2(array)) => array.to_value(alloc),
+            NodeMetadata::Array(array) => match array.as_ref() {
+                ArrayMetadata::V3(array) => array.to_value(alloc),
+                ArrayMetadata::V2(array) => array.to_value(alloc),
+            },
         }
     }
 
@@ -150,8 +153,10 @@ impl NodeMetadata {
         match self {
             NodeMetadata::Group(GroupMetadata::V3(group)) => group.to_text(alloc),
             NodeMetadata::Group(GroupMetadata::V2(group)) => group.to_text(alloc),
-            NodeMetadata::Array(ArrayMetadata::V3(array)) => array.to_text(alloc),
-            NodeMetadata::Array(ArrayMetadata::V2(array)) => array.to_text(alloc),
+            NodeMetadata::Array(array) => match array.as_ref() {
+                ArrayMetadata::V3(array) => array.to_text(alloc),
+                ArrayMetadata::V2(array) => array.to_text(alloc),
+            },
         }
     }
 
@@ -162,8 +167,10 @@ impl NodeMetadata {
         match self {
             NodeMetadata::Group(GroupMetadata::V3(group)) => group.is_plain(),
             NodeMetadata::Group(GroupMetadata::V2(group)) => group.is_plain(),
-            NodeMetadata::Array(ArrayMetadata::V3(array)) => array.is_plain(),
-            NodeMetadata::Array(ArrayMetadata::V2(array)) => array.is_plain(),
+            NodeMetadata::Array(array) => match array.as_ref() {
+                ArrayMetadata::V3(array) => array.is_plain(),
+                ArrayMetadata::V2(array) => array.is_plain(),
+            },
         }
     }
 
@@ -242,7 +249,8 @@ fn node_v3(alloc: Global, members: Map<String, Value>) -> Result<NodeMetadata, M
         Ok(NodeMetadata::Group(GroupMetadata::V3(group)))
     } else if has_type(&members, "array") {
         let array = ArrayMetadataV3::from_members(alloc, members)?;
-        Ok(NodeMetadata::Array(ArrayMetadata::V3(array)))
+        let array = BoxedArray::new(alloc, ArrayMetadata::V3(array))?;
+        Ok(NodeMetadata::Array(array))
     } else {
         Err(MetadataFault::WrongNodeType)
     }
@@ -255,7 +263,8 @@ fn node_v2(alloc: Global, members: Map<String, Value>) -> Result<NodeMetadata, M
 {
     if member(&members, "shape").is_some() {
         let array = ArrayMetadataV2::from_members(alloc, members)?;
-        Ok(NodeMetadata::Array(ArrayMetadata::V2(array)))
+        let array = BoxedArray::new(alloc, ArrayMetadata::V2(array))?;
+        Ok(NodeMetadata::Array(array))
     } else {
         let group = GroupMetadataV2::from_members(alloc, members)?;
         Ok(NodeMetadata::Group(GroupMetadata::V2(group)))

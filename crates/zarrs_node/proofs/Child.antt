@@ -1,8 +1,8 @@
 -- What one child gives to the listing of its parent.
 use Rattle.std.proofs.Common.{◌≡◌, ℕ, ◌≢◌, ◌⊎◌, inl, inr, ⊎_elim, Bool, List, [], ◌∷◌, ◌++◌, refl, sym, ap, subst, ◌∙◌, append-nil, arith, Contains, AllPairs, IsTrue, true≢false}
 use Rattle.std.proofs.lemmas.List.Elements.{Contains-push_cases}
-use Rattle.zarrs_path.specs.Paths.{Path, IsPath}
-use Rattle.zarrs_path.specs.Names.{is_name, is_all_periods}
+use Rattle.zarrs_path.specs.Paths.{Path}
+use Rattle.zarrs_path.specs.Names.{is_all_periods}
 use Rattle.zarrs_path.proofs.NameLemmas.{IsName}
 use Rattle.zarrs_store.specs.Contents.{Contents, HasBelow, Lists}
 use Rattle.zarrs_meta.specs.declared.node.NodeMetadata.{NodeMetadata}

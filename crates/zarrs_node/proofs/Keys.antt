@@ -1,15 +1,12 @@
 -- What the keys below a path say of its meaning and of its beginnings.
-use Rattle.std.proofs.Common.{◌≡◌, ℕ, Bool, true, false, List, [], ◌∷◌, ◌++◌, Option, Some, None, Result, Ok, refl, ap, sym, subst, ◌∙◌, ◌⊎◌, inl, inr, ⊎_elim, append_assoc, is_some}
-use Rattle.std.specs.FinMap.{get}
-use Rattle.zarrs_store.specs.Segments.{Segments}
+use Rattle.std.proofs.Common.{◌≡◌, Bool, ◌∷◌, ◌++◌, None, Ok, refl, ap, subst, ◌∙◌, ◌⊎◌, inl, inr, ⊎_elim, append_assoc}
 use Rattle.zarrs_store.specs.Contents.{Contents, HasKey, HasBelow}
 use Rattle.zarrs_store.proofs.Below.{key_or_none}
-use Rattle.zarrs_store.specs.declared.fault.MetadataFault.{MetadataFault}
 use Rattle.zarrs_path.specs.Paths.{Path}
-use Rattle.zarrs_path.specs.Keys.{zarr_json, zarray, zgroup, zattrs}
+use Rattle.zarrs_path.specs.Keys.{zarr_json, zarray, zgroup}
 use Rattle.zarrs_config.specs.declared.version.MetadataRetrieveVersion.{MetadataRetrieveVersion}
 use Rattle.zarrs_config.specs.declared.version.MetadataRetrieveVersion.TheVariants.{Default, V3, V2}
-use Rattle.zarrs_node.specs.Meaning.{Meaning, meaning, node, nothing, bad, document_at, attributes_at, line_1, line_2, line_3}
+use Rattle.zarrs_node.specs.Meaning.{Meaning, meaning, nothing, attributes_at, line_1, line_2, line_3}
 use Rattle.zarrs_node.proofs.Meanings.{document_none, line_1_is, line_2_is, line_3_is, default_is, v3_is, v2_is}
 use Rattle.zarrs_node.proofs.Reach.{Through}
 

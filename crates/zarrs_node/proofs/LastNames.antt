@@ -1,6 +1,5 @@
 -- The last name of a path, by the text of the path.
-use Rattle.std.proofs.Common.{◌≡◌, ◌≢◌, ℕ, ◌<◌, Bool, false, true, not, ◌==◌, ◌||◌, List, [], ◌∷◌, ◌++◌, length, take, drop, get_or, refl, sym, ap, ◌∙◌, subst, IsTrue, Option, Some, None, MatchOption, Bor, append-nil, append_assoc, length-append, arith, ne_eqb, lit<, ◌↔◌, true≢false}
-use Rattle.std.specs.List.{list_all}
+use Rattle.std.proofs.Common.{◌≡◌, ◌≢◌, ℕ, ◌<◌, Bool, false, true, not, ◌==◌, ◌||◌, List, [], ◌∷◌, ◌++◌, length, take, drop, get_or, refl, sym, ap, ◌∙◌, subst, IsTrue, Option, Some, None, MatchOption, Bor, append-nil, length-append, arith, ne_eqb, lit<, ◌↔◌, true≢false}
 use Rattle.std.specs.Str.{NoCharPasses, bytes_eq}
 use Rattle.std.proofs.lemmas.Bool.{eqb-true, not-true}
 use Rattle.std.proofs.lemmas.Slice.Eq.{bytes_eq-Decides}
@@ -12,7 +11,7 @@ use Rattle.std.proofs.Math.Seq.{take-append_seam}
 use Rattle.zarrs_store.specs.Segments.{is_slash, is_nonempty, has_no_slash, last_segment, segments_of}
 use Rattle.zarrs_store.proofs.ChildLemmas.{last_segment-child}
 use Rattle.zarrs_path.specs.Paths.{Path, IsPath, path_text, slashed}
-use Rattle.zarrs_path.proofs.PathTexts.{IsCutAt, cut_last, slashed-append, path_text-slashed, segments_of-slashed, segments_from_names, IsPath-parts}
+use Rattle.zarrs_path.proofs.PathTexts.{IsCutAt, cut_last, slashed-append, segments_of-slashed, segments_from_names, IsPath-parts}
 use Rattle.zarrs_path.proofs.NameLemmas.{name_head, name_tail, name_nonempty}
 use Rattle.zarrs_path.specs.Names.{is_node_name}
 use Rattle.zarrs_path.proofs.ByteTests.{nonempty_from_test}

@@ -13,3 +13,4 @@ pub mod Unique
 pub mod Written
 pub mod LawProofs
 pub mod Listed
+pub mod Rest

@@ -1,5 +1,5 @@
 -- Keys among those that a listing gave.
-use Rattle.std.proofs.Common.{◌≡◌, ◌↔◌, ℕ, ◌+◌, ◌<◌, ◌≤◌, Bool, true, false, ◌||◌, List, [], ◌∷◌, ◌++◌, length, take, take_all, get_or, Contains, IsTrue, sym, ap, subst, ◌∙◌, ◌⊎◌, inl, inr, ⊎_elim, arith, refl, true≢false}
+use Rattle.std.proofs.Common.{◌≡◌, ◌↔◌, ℕ, ◌+◌, ◌<◌, ◌≤◌, Bool, true, false, ◌||◌, List, [], ◌∷◌, ◌++◌, length, take, take_all, get_or, Contains, IsTrue, sym, ap, subst, ◌∙◌, ◌⊎◌, inl, inr, ⊎_elim, refl, true≢false}
 use Rattle.std.specs.Str.{bytes_eq}
 use Rattle.std.proofs.lemmas.List.{take_more}
 use Rattle.std.proofs.lemmas.List.Elements.{Contains-push_cases}

@@ -22,7 +22,7 @@ use Rattle.zarrs_meta.specs.declared.node.NodeMetadata.TheVariants.{Group, Array
 use Rattle.zarrs_meta.specs.declared.node.ZarrJson.{ZarrJson}
 use Rattle.zarrs_block.specs.declared.node_create_error.NodeCreateError.{NodeCreateError}
 use Rattle.zarrs_config.specs.declared.version.MetadataRetrieveVersion.TheVariants.{Default, V3, V2}
-use Rattle.zarrs_node.specs.Meaning.{Meaning, meaning, node, nothing, bad, named, document_from, document_at, attributes_at, zarr_json_line, version_2_line, line_1, line_2, line_3}
+use Rattle.zarrs_node.specs.Meaning.{Meaning, meaning, node, nothing, named, document_from, document_at, attributes_at, zarr_json_line, version_2_line, line_1, line_2, line_3}
 use Rattle.zarrs_block.specs.Refused.{IsExcused}
 use Rattle.zarrs_node.specs.Refused.{refusal_at, FollowsLine, Finds}
 

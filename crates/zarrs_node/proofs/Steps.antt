@@ -7,8 +7,8 @@ use Rattle.std.specs.Cmp.{tied_itself, first_so}
 use Rattle.std.proofs.lemmas.Bool.{eqb-true}
 use Rattle.std.specs.Cmp.Lexicographic.{nat_list_cmp_total}
 use Rattle.std.specs.Ordering.{is_eq}
-use Rattle.zarrs_path.specs.Paths.{Path, IsPath, path_cmp}
-use Rattle.zarrs_path.specs.Names.{is_name, is_all_periods, is_reserved}
+use Rattle.zarrs_path.specs.Paths.{Path, path_cmp}
+use Rattle.zarrs_path.specs.Names.{is_all_periods, is_reserved}
 use Rattle.zarrs_path.proofs.NameLemmas.{IsName, name_not_reserved, not_periods}
 use Rattle.zarrs_store.specs.Contents.{Contents, HasBelow, Lists}
 use Rattle.zarrs_store.proofs.Below.{IsChildren}

@@ -1,7 +1,7 @@
 -- One turn of the loop over the children of b, by what the calls of that turn answered.
 use Rattle.std.proofs.Common.{Option, Some, None, Ok, ◌⊎◌, ⊎_elim, map, IsTrue, ◌≡◌, ℕ, ◌+◌, ◌-◌, ◌<◌, inl, inr, Bool, true, false, List, [], ◌∷◌, ◌++◌, length, take, get_or, refl, sym, ap, subst, ◌∙◌, append-nil, arith, length-append, Contains, true≢false}
 use Rattle.zarrs_path.specs.Paths.{Path, IsPath}
-use Rattle.zarrs_path.specs.Names.{is_name, is_all_periods}
+use Rattle.zarrs_path.specs.Names.{is_all_periods}
 use Rattle.std.proofs.lemmas.List.{get_or-map, length-map}
 use Rattle.zarrs_store.specs.Segments.{Segments, last_segment, IsPrefix}
 use Rattle.zarrs_store.specs.Children.{IsVisibleChild, AreVisibleChildren}

@@ -2,7 +2,7 @@
 use Rattle.std.proofs.Debugs.{debug_list-Some}
 use Rattle.std.proofs.lemmas.List.{replicate-append-replicate}
 use Rattle.std.specs.Fmt.{◌++?◌, debug_list, decimal}
-use Rattle.std.proofs.Common.{Some, arith, ◌≡◌, ℕ, ◌+◌, ◌*◌, ◌<◌, replicate, ◌++◌, List, [], ◌∷◌, codes, refl, sym, ap, ◌∙◌, append_assoc, length, drop, drop-cons, get_or, add-one, suc}
+use Rattle.std.proofs.Common.{Some, arith, ◌≡◌, ℕ, ◌+◌, ◌*◌, ◌<◌, replicate, ◌++◌, List, [], ◌∷◌, codes, sym, ap, ◌∙◌, append_assoc, length, drop, drop-cons, get_or, add-one, suc}
 use Rattle.zarrs_store.specs.Segments.{last_segment}
 use Rattle.zarrs_node.specs.declared.node.Node.{Node}
 use Rattle.zarrs_node.specs.declared.node.Node.TheViews.{out-Node}

@@ -1,6 +1,6 @@
 -- Zarr core specification 3.1, "Hierarchy": trees of nodes side by side, as a list of nodes holds them.
 use Rattle.zarrs_meta.specs.Node.{is_group}
-use Rattle.std.specs.Prelude.{Bool, false, Option, Some, None, ◌≡◌, ℕ, List, [], ◌∷◌, ◌++◌, map, Contains, AllPairs, ◌↔◌, ◌≢◌}
+use Rattle.std.specs.Prelude.{Bool, false, Option, Some, None, ◌≡◌, ℕ, List, [], ◌∷◌, ◌++◌, map}
 use Rattle.std.specs.declared.cmp.Ordering.TheVariants.{Less}
 use Rattle.zarrs_store.specs.Contents.{Lists}
 use Rattle.zarrs_path.specs.Paths.{Path, path_cmp}

@@ -1,5 +1,5 @@
 -- Zarr core specification 3.1, "Metadata documents", and the version 2 specification, "Arrays", "Groups" and "Attributes": what a path means in a store, as a function of the look-ups at its keys.
-use Rattle.std.specs.Prelude.{◌≡◌, ℕ, Bool, true, false, List, [], ◌∷◌, ◌++◌, Option, Some, None, Result, Ok, Err, IsTrue}
+use Rattle.std.specs.Prelude.{ℕ, Bool, false, List, [], ◌∷◌, ◌++◌, Option, Some, None, Result, Ok, Err, IsTrue}
 use Rattle.std.specs.FinMap.{get}
 use Rattle.zarrs_store.specs.Segments.{Segments}
 use Rattle.zarrs_store.specs.Contents.{Contents}
@@ -12,8 +12,6 @@ use Rattle.zarrs_meta.specs.ArrayV2.{array_v2_of}
 use Rattle.zarrs_meta.specs.GroupV2.{group_v2_of}
 use Rattle.zarrs_meta.specs.Attributes.{attributes_of}
 use Rattle.zarrs_meta.specs.Node.{zarr_json_of, array_with, group_with, is_group}
-use Rattle.zarrs_meta.specs.declared.array_v2.ArrayMetadataV2.{ArrayMetadataV2}
-use Rattle.zarrs_meta.specs.declared.group_v2.GroupMetadataV2.{GroupMetadataV2}
 use Rattle.zarrs_meta.specs.declared.attributes.AttributesDocument.{AttributesDocument}
 use Rattle.zarrs_meta.specs.declared.node.ArrayMetadata.TheVariants.{V2 as array_v2}
 use Rattle.zarrs_meta.specs.declared.node.GroupMetadata.TheVariants.{V2 as group_v2}

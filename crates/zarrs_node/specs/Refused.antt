@@ -1,17 +1,13 @@
 -- Zarr core specification 3.1, "Metadata documents": what the calls that read documents answer.
-use Rattle.std.specs.Prelude.{◌≡◌, ℕ, Bool, List, [], ◌∷◌, ◌++◌, Option, Some, None, Result, Ok, Err, ◌⊎◌, string_bytes, codes}
+use Rattle.std.specs.Prelude.{◌≡◌, Bool, Option, Some, None, Result, Ok, Err, ◌⊎◌}
 use Rattle.zarrs_store.specs.Segments.{Segments}
-use Rattle.zarrs_store.specs.Faults.{IsStoreError}
 use Rattle.zarrs_store.specs.declared.fault.MetadataFault.{MetadataFault}
 use Rattle.zarrs_store.specs.declared.fault.MetadataFault.TheVariants.{OutOfMemory as NoMemoryToRead}
-use Rattle.zarrs_store.specs.declared.storage_error.StorageError.TheVariants.{InvalidMetadata, Other}
-use Rattle.zarrs_store.specs.declared.prefix.StorePrefixError.TheVariants.{Invalid as InvalidPrefix, OutOfMemory as NoPrefixMemory}
-use Rattle.zarrs_path.specs.declared.node_path.NodePathError.TheVariants.{Invalid as InvalidPath, OutOfMemory as NoPathMemory}
-use Rattle.zarrs_path.specs.Paths.{Path, path_text}
+use Rattle.zarrs_store.specs.declared.storage_error.StorageError.TheVariants.{InvalidMetadata}
 use Rattle.zarrs_block.specs.Refused.{IsExcused}
 use Rattle.zarrs_meta.specs.declared.node.NodeMetadata.{NodeMetadata}
 use Rattle.zarrs_block.specs.declared.node_create_error.NodeCreateError.{NodeCreateError}
-use Rattle.zarrs_block.specs.declared.node_create_error.NodeCreateError.TheVariants.{NodePathError, StorePrefixError, StorageError, MetadataVersionMismatch, MissingMetadata, OutOfMemory}
+use Rattle.zarrs_block.specs.declared.node_create_error.NodeCreateError.TheVariants.{StorageError, OutOfMemory}
 use Rattle.zarrs_node.specs.Meaning.{Meaning, node, nothing, bad}
 
 -- a fault of the document at a key is refused with the key and the fault, and want of memory as such

@@ -77,10 +77,10 @@ fn list_below<S: ReadableStorageTraits + ListableStorageTraits>(
     ensures clean { IfOk result (λ _. Bad (S.contents storage.now) version.now recursive path.now → ⊥) }
     ensures refused { IfErr result (λ e. IsExcused (S.can_fail storage.now) e ⊎ ShowsBad (S.contents storage.now) version.now recursive path.now e) }
 {
-    let mut listed = ListedNodes::new(alloc);
     let children = child_prefixes(alloc, storage, path)?;
-    for prefix in &children {
-        let (child, found) = read_child(alloc, storage, prefix, version, last)?;
+    let mut listed = ListedNodes::with_room(alloc, children.len())?;
+    for prefix in children {
+        let (child, found) = read_child(alloc, storage, &prefix, version, last)?;
         let below = if recursive && is_group(&found) {
             list_below(alloc, storage, &child, recursive, version, last)?
         } else {
@@ -101,6 +101,17 @@ impl ListedNodes {
             nodes: Vec::new(alloc),
             ignored: Vec::new(alloc),
         }
+    }
+
+    // No node, with room for as many, and no path passed over.
+    fn with_room(alloc: Global, count: usize) -> Result<ListedNodes, AllocError>
+        ensures nodes { IfOk result (λ l. l.nodes.items ≡ []) }
+        ensures ignored { IfOk result (λ l. l.ignored.items ≡ []) }
+    {
+        Ok(ListedNodes {
+            nodes: Vec::with_capacity(alloc, count)?,
+            ignored: Vec::new(alloc),
+        })
     }
 
     // Adds a child behind the others: a node with what was listed below it, or a path passed over.

@@ -10,8 +10,8 @@ use std::alloc::Global;
 use zarrs_block::NodeCreateError;
 use zarrs_config::MetadataRetrieveVersion;
 use zarrs_meta::{
-    ArrayMetadata, ArrayMetadataV2, AttributesDocument, Document, GroupMetadata, GroupMetadataV2,
-    NodeMetadata, ZarrJson,
+    ArrayMetadata, ArrayMetadataV2, AttributesDocument, BoxedArray, Document, GroupMetadata,
+    GroupMetadataV2, NodeMetadata, ZarrJson,
 };
 use zarrs_path::{
     NodePath, meta_key_v2_array, meta_key_v2_attributes, meta_key_v2_group, meta_key_v3,
@@ -121,7 +121,8 @@ fn find_array_v2<S: ReadableStorageTraits>(
     if let Some(document) = find_attributes(alloc, storage, path, last)? {
         array.attributes = document.0;
     }
-    Ok(Some(NodeMetadata::Array(ArrayMetadata::V2(array))))
+    let boxed = BoxedArray::new(alloc, ArrayMetadata::V2(array))?;
+    Ok(Some(NodeMetadata::Array(boxed)))
 }
 
 // What the document `.zgroup` of a path says, with the attributes beside it.

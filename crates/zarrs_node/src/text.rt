@@ -1,7 +1,7 @@
 //! A node and the nodes below it as text.
 ghost use Rattle.std.specs.Prelude.{◌≡◌, ◌∷◌, [], ◌++◌, ◌*◌, ℕ, IfOk, OnOk, replicate, string_bytes};
 ghost use Rattle.zarrs_node.specs.Forest.{forest, metadata_of, below_of};
-ghost use Rattle.zarrs_node.specs.Lines.{shape_text, type_text_v2, type_text_v3, node_text, named_line, preorder, tree_text};
+ghost use Rattle.zarrs_node.specs.Lines.{array_text, shape_text, type_text_v2, type_text_v3, node_text, named_line, preorder, tree_text};
 
 use crate::last_name::last_name;
 use crate::node::Node;
@@ -66,11 +66,20 @@ fn push_array(text: &mut String, metadata: &NodeMetadata) -> Result<(), AllocErr
 {
     match metadata {
         NodeMetadata::Group(_) => Ok(()),
-        NodeMetadata::Array(ArrayMetadata::V3(array)) => {
+        NodeMetadata::Array(array) => push_shape_and_type(text, array.as_ref()),
+    }
+}
+
+// Adds the shape and the data type of an array of either version.
+fn push_shape_and_type(text: &mut String, array: &ArrayMetadata) -> Result<(), AllocError>
+    ensures { OnOk result (string_bytes text.new ≡ string_bytes text.old ++ (32 ∷ array_text array.now)) }
+{
+    match array {
+        ArrayMetadata::V3(array) => {
             push_shape(text, array.shape.as_slice())?;
             push_type_v3(text, &array.data_type)
         }
-        NodeMetadata::Array(ArrayMetadata::V2(array)) => {
+        ArrayMetadata::V2(array) => {
             push_shape(text, array.shape.as_slice())?;
             push_type_v2(text, &array.dtype)
         }

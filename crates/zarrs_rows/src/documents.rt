@@ -5,8 +5,8 @@ use serde_json::Value;
 use std::alloc::{AllocError, Global};
 use std::process::Abort;
 use zarrs_meta::{
-    ArrayMetadata, ArrayMetadataV2, ArrayMetadataV3, AttributesDocument, Document, GroupMetadata,
-    GroupMetadataV2, GroupMetadataV3, NodeMetadata, ZarrJson, laws,
+    ArrayMetadata, ArrayMetadataV2, ArrayMetadataV3, AttributesDocument, BoxedArray, Document,
+    GroupMetadata, GroupMetadataV2, GroupMetadataV3, NodeMetadata, ZarrJson, laws,
 };
 use zarrs_store::MetadataFault;
 
@@ -662,11 +662,9 @@ fn group_copy(group: &GroupMetadata, alloc: Global) -> Result<String, AllocError
 
 // The text of an array's copy.
 fn array_copy(array: &ArrayMetadata, alloc: Global) -> Result<String, AllocError> {
-    let node = match array.try_clone(alloc) {
-        Ok(copy) => Ok(NodeMetadata::Array(copy)),
-        Err(error) => Err(error),
-    };
-    said(alloc, node, NodeMetadata::to_text)
+    let copy = BoxedArray::new(alloc, array.try_clone(alloc)?)?.try_clone(alloc)?;
+    let boxed = BoxedArray::new(alloc, copy.into_inner())?;
+    NodeMetadata::Array(boxed).to_text(alloc)
 }
 
 #[test]
@@ -685,6 +683,21 @@ fn arrays_go_into_the_variant_of_their_version(rt: HostRuntime) {
     assert_says(&rt, alloc, "version 3", array, array_copy, A3);
     let array: Result<ArrayMetadata, MetadataFault> = wrapped::<ArrayMetadataV2, _>(alloc, A2);
     assert_says(&rt, alloc, "version 2", array, array_copy, A2_WRITTEN);
+}
+
+// The text of an array that is held on the heap.
+fn boxed_text(array: &ArrayMetadata, alloc: Global) -> Result<String, AllocError> {
+    let boxed = BoxedArray::new(alloc, array.try_clone(alloc)?)?;
+    let text = array_copy(boxed.as_ref(), alloc);
+    drop(boxed);
+    text
+}
+
+#[test]
+fn an_array_on_the_heap_is_the_array(rt: HostRuntime) {
+    let alloc = rt.alloc();
+    let array: Result<ArrayMetadata, MetadataFault> = wrapped::<ArrayMetadataV3, _>(alloc, A3);
+    assert_says(&rt, alloc, "boxed", array, boxed_text, A3);
 }
 
 #[test]

@@ -1,11 +1,11 @@
 -- The lines of a forest's paths, node by node.
-use Rattle.std.proofs.Common.{◌≡◌, ℕ, ◌+◌, ◌<◌, ◌≤◌, suc, List, [], ◌∷◌, ◌++◌, length, drop, get_or, refl, sym, ap, ◌∙◌, subst, append_assoc, arith, length-append, add-one}
+use Rattle.std.proofs.Common.{◌≡◌, ℕ, ◌+◌, ◌<◌, ◌≤◌, suc, List, [], ◌∷◌, ◌++◌, length, drop, get_or, sym, ap, ◌∙◌, append_assoc, arith, length-append, add-one}
 use Rattle.std.proofs.Math.Seq.{drop-cons}
 use Rattle.std.proofs.lemmas.Grind.{flat_map-append}
-use Rattle.zarrs_path.specs.Paths.{Path, path_text}
+use Rattle.zarrs_path.specs.Paths.{path_text}
 use Rattle.zarrs_meta.specs.declared.node.NodeMetadata.{NodeMetadata}
 use Rattle.zarrs_node.specs.declared.node.Node.{Node}
-use Rattle.zarrs_node.specs.Forest.{Forest, none, tree, pairs, forest, plant, path_of, below_of}
+use Rattle.zarrs_node.specs.Forest.{Forest, pairs, forest, plant, path_of, below_of}
 use Rattle.zarrs_node.proofs.Graft.{plant_out}
 use Rattle.zarrs_tool.specs.Output.{path_lines}
 

@@ -1,10 +1,9 @@
 -- From an object's fault to an image's, and from a store's refusal to a run's.
-use Rattle.std.proofs.Common.{◌≡◌, ℕ, List, Option, Some, None, Bool, false}
+use Rattle.std.proofs.Common.{ℕ, List, Option, Some, None}
 use Rattle.std.specs.Prelude.{IfSome, Result, Ok, Err, IfErr}
 use Rattle.std.specs.Io.KnownBytes.{IsAtEnd}
-use Rattle.serde_json.specs.Data.{Data, Members}
-use Rattle.zarrs_store.specs.Contents.{Contents}
-use Rattle.zarrs_tool.specs.Image.{IsObject, IsImage, IsLoaded, IsImageFault, IsMemberFault, HoldsMembers, RefusedImage, RefusedObject, listed}
+use Rattle.serde_json.specs.Data.{Members}
+use Rattle.zarrs_tool.specs.Image.{IsObject, IsImageFault, IsMemberFault, RefusedImage, listed}
 use Rattle.zarrs_tool.specs.declared.fault.ToolFault.{ToolFault}
 use Rattle.zarrs_tool.specs.declared.fault.ToolFault.TheVariants.{Usage, Read, ReadTooLong, Image, ImageKey, ImageValue, Folder, NotAGroup, Node, Write, OutOfMemory}
 

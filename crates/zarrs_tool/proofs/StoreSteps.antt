@@ -1,11 +1,11 @@
 -- One key more in a store, seen at each key by its text.
-use Rattle.std.proofs.Common.{◌≡◌, ◌≢◌, ℕ, Bool, true, false, cond, List, sym, refl, ap, ◌∙◌, subst, Some, is_some}
+use Rattle.std.proofs.Common.{◌≡◌, ℕ, true, false, cond, List, sym, refl, ap, ◌∙◌, subst, Some, is_some}
 use Rattle.std.specs.FinMap as map
 use Rattle.std.specs.Prelude.{IsTrue}
 use Rattle.std.specs.Ordering.{eq_by_cmp}
 use Rattle.std.specs.Str.{bytes_eq}
 use Rattle.std.proofs.lemmas.Slice.Eq.{bytes_eq-Decides}
-use Rattle.zarrs_store.specs.Segments.{Segments, key_cmp, key_text, IsKey, IsKeyText}
+use Rattle.zarrs_store.specs.Segments.{Segments, key_cmp, key_text, IsKey}
 use Rattle.zarrs_store.specs.Contents.{Contents, HasKey}
 use Rattle.zarrs_store.proofs.ChildLemmas.{key_cmp_total, key_cmp-IsAntisymmetric}
 use Rattle.zarrs_store.proofs.EntryLemmas.{equal_of}

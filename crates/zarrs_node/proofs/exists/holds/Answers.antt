@@ -1,6 +1,5 @@
-use Rattle.std.proofs.Common.{refl, arith, sym, true≢false}
 use Rattle.std.proofs.lemmas.Bool.{iff_false}
-use Rattle.zarrs_node.proofs.Listed.{not_yet, never, there}
+use Rattle.zarrs_node.proofs.Listed.{not_yet}
 use Rattle.zarrs_node.proofs.exists.holds.Goals as goal
 
 pub loop-held-preserved : goal.loop-held-preserved

@@ -1,4 +1,4 @@
-use Rattle.std.proofs.Common.{◌≡◌, ◌∙◌, ap, sym, subst, Some, None, IsTrue, MatchOption}
+use Rattle.std.proofs.Common.{subst, Some, None, IsTrue}
 use Rattle.zarrs_store.specs.Segments.{has_no_slash}
 use Rattle.zarrs_path.specs.Paths.{path_text}
 use Rattle.zarrs_node.proofs.LastNames.{IsCutText, split_of, last_of, has_slash}

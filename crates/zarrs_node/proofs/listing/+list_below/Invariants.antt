@@ -1,4 +1,5 @@
-use Rattle.std.proofs.Common.{◌-◌, length, take, map}
+use Rattle.std.proofs.Common.{◌≡◌, ℕ, ◌+◌, ◌-◌, length, take, drop, map}
+use Rattle.std.specs.Vec.Iter.{into_iter_items, into_iter_len}
 use Rattle.zarrs_store.specs.Segments.{last_segment}
 use Rattle.zarrs_store.specs.Depth.{most_segments}
 use Rattle.zarrs_node.specs.Forest.{forest}
@@ -10,4 +11,5 @@ decreases-list_below g l = most_segments (g.S.Store.contents l.storage.now) - le
 
 abbrev pub invariant-loop-prefix : goal.invariant-loop-prefix
 invariant-loop-prefix g l =
-    Progress (g.S.Store.contents l.storage) l.version l.recursive l.path (take l.prefix-index (map last_segment l.prefix-items)) (forest l.listed.nodes.items) l.listed.ignored.items
+    (i : ℕ) × (i + into_iter_len l.prefix-iterator ≡ length (into_iter_items l.initial.prefix-iterator)) × (drop i (into_iter_items l.initial.prefix-iterator) ≡ into_iter_items l.prefix-iterator)
+    × Progress (g.S.Store.contents l.storage) l.version l.recursive l.path (take i (map last_segment (into_iter_items l.initial.prefix-iterator))) (forest l.listed.nodes.items) l.listed.ignored.items

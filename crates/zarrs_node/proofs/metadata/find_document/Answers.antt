@@ -1,6 +1,3 @@
-use Rattle.std.proofs.Common.{◌≡◌, ap, sym, ◌∙◌, Err, ◌⊎◌, subst}
-use Rattle.zarrs_node.specs.Meaning.{document_at}
-use Rattle.zarrs_block.specs.Refused.{IsExcused}
 use Rattle.zarrs_node.proofs.Meanings.{none_of, document_none, document_ok, document_err}
 use Rattle.zarrs_node.proofs.metadata.find_document.Goals as goal
 

@@ -1,6 +1,6 @@
-use Rattle.std.proofs.Common.{◌≡◌, ap, sym, ◌∙◌, Ok, Err, Some, None, ◌⊎◌, inl, inr, ⊎_elim}
+use Rattle.std.proofs.Common.{ap, ◌∙◌, inl, inr, ⊎_elim}
 use Rattle.std.proofs.lemmas.Result.{err_from_is_err_and}
-use Rattle.zarrs_node.specs.Meaning.{meaning, line_1, line_2, line_3, nothing}
+use Rattle.zarrs_node.specs.Meaning.{meaning, line_1, line_2, line_3}
 use Rattle.zarrs_node.proofs.Meanings.{default_is, v3_is, v2_is, follows_some, follows_none, finds_by}
 use Rattle.zarrs_node.proofs.metadata.find_metadata.Goals as goal
 

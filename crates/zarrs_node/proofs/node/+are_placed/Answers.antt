@@ -1,4 +1,4 @@
-use Rattle.std.proofs.Common.{◌≡◌, sym, subst, true≢false}
+use Rattle.std.proofs.Common.{sym, subst, true≢false}
 use Rattle.std.proofs.lemmas.Bool.{iff_false}
 use Rattle.zarrs_node.specs.Forest.{forest, ArePlacedBelow, path_of}
 use Rattle.zarrs_node.proofs.Trees.{not_placed, placed_step}

@@ -1,4 +1,4 @@
-use Rattle.std.proofs.Common.{◌≡◌, ◌++◌, ◌∷◌, [], ◌+◌, ◌*◌, ℕ, replicate, string_bytes, ◌∙◌}
+use Rattle.std.proofs.Common.{◌≡◌, ◌+◌, ◌*◌, replicate, string_bytes, ◌∙◌}
 use Rattle.zarrs_node.proofs.Written.{deeper_indent}
 use Rattle.zarrs_node.proofs.Written.{node_written}
 use Rattle.zarrs_node.proofs.text.+push_forest.Goals as goal

@@ -1,8 +1,7 @@
-use Rattle.std.proofs.Common.{◌≡◌, ◌++◌, ◌+◌, ◌<◌, ◌≤◌, length, drop, subst, sym, ap, ◌∙◌, arith, [], ◌∷◌}
+use Rattle.std.proofs.Common.{◌≡◌, ◌<◌, length, subst, ap, ◌∙◌, arith}
 use Rattle.std.proofs.lemmas.Grind.{common_steps}
 use Rattle.zarrs_path.specs.Paths.{path_text}
 use Rattle.zarrs_node.specs.Forest.{forest, pairs, below_of}
-use Rattle.zarrs_tool.specs.Output.{path_lines}
 use Rattle.zarrs_tool.proofs.Lines.{fewer_below, fewer_behind, lines_more}
 use Rattle.zarrs_tool.proofs.run.+push_lines.Goals as goal
 

@@ -1,4 +1,4 @@
-use Rattle.std.proofs.Common.{◌≡◌, ◌∙◌, ap, ◌++◌}
+use Rattle.std.proofs.Common.{◌∙◌, ap, ◌++◌}
 use Rattle.zarrs_node.specs.Forest.{forest, pairs}
 use Rattle.zarrs_node.proofs.Order.{pairs_ascend}
 use Rattle.zarrs_tool.specs.Output.{path_lines}
