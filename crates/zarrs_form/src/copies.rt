@@ -148,7 +148,7 @@ impl AdditionalFieldsV3 {
     pub fn try_clone(&self, _alloc: Global) -> Result<AdditionalFieldsV3, AllocError>
         ensures { IfOk result (λ copy. copy ≡ self.now) }
     {
-        self.copied()
+        Ok(AdditionalFieldsV3::new(self.as_map().clone()?))
     }
 }
 

@@ -142,19 +142,6 @@ impl AdditionalFieldsV3 {
     {
         self.fields
     }
-
-    /// A copy that equals its source.
-    ///
-    /// # Errors
-    ///
-    /// `AllocError` where there is no memory for the copy.
-    pub fn copied(&self) -> Result<AdditionalFieldsV3, AllocError>
-        ensures { IfOk result (λ copy. copy ≡ self.now) }
-    {
-        Ok(AdditionalFieldsV3 {
-            fields: self.fields.clone()?,
-        })
-    }
 }
 
 /// An object's members, with `must_understand` as `AdditionalFieldV3::new` leaves it.

@@ -1,6 +1,0 @@
-use Rattle.std.proofs.Common.{◌∙◌}
-use Rattle.zarrs_form.proofs.Shared.{members_of-clone}
-use Rattle.zarrs_form.proofs.fields.AdditionalFieldsV3.copied.Goals as goal
-
-pub returns : goal.returns
-returns c = members_of-clone _ _ c.in_ok-clone.ensures.cases ∙ c.self.view_is
