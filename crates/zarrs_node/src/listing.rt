@@ -80,7 +80,7 @@ fn list_below<S: ReadableStorageTraits + ListableStorageTraits>(
     let children = child_prefixes(alloc, storage, path)?;
     let mut listed = ListedNodes::with_room(alloc, children.len())?;
     for prefix in children {
-        let (child, found) = read_child(alloc, storage, &prefix, version, last)?;
+        let (child, found) = read_child(alloc, storage, prefix, version, last)?;
         let below = if recursive && is_group(&found) {
             list_below(alloc, storage, &child, recursive, version, last)?
         } else {
@@ -162,14 +162,14 @@ fn child_prefixes<S: ListableStorageTraits>(
 fn read_child<S: ReadableStorageTraits>(
     alloc: Global,
     storage: &S,
-    prefix: &StorePrefix,
+    prefix: StorePrefix,
     version: &MetadataRetrieveVersion,
     last: &mut LastDocuments,
 ) -> Result<(NodePath, Option<NodeMetadata>), NodeCreateError>
-    ensures path { IfOk result (λ x. (x.0 ≡ prefix.now) × IsPath x.0) }
+    ensures path { IfOk result (λ x. (x.0 ≡ prefix) × IsPath x.0) }
     ensures found { IfOk result (λ x. Finds (S.can_fail storage.now) (Ok x.1) (meaning (S.contents storage.now) version.now x.0)) }
-    ensures refused { IfErr result (λ e. IsExcused (S.can_fail storage.now) e ⊎ (IsInvalidPath prefix.now e × (¬ IsPath prefix.now)) ⊎ (IsPath prefix.now × (meaning (S.contents storage.now) version.now prefix.now ≡ bad e))) }
-    ensures valid { IsPrefix prefix.now }
+    ensures refused { IfErr result (λ e. IsExcused (S.can_fail storage.now) e ⊎ (IsInvalidPath prefix e × (¬ IsPath prefix)) ⊎ (IsPath prefix × (meaning (S.contents storage.now) version.now prefix ≡ bad e))) }
+    ensures valid { IsPrefix prefix }
 {
     let path = child_path(alloc, prefix)?;
     let found = find_metadata(alloc, storage, &path, version, last)?;
@@ -177,12 +177,12 @@ fn read_child<S: ReadableStorageTraits>(
 }
 
 // The path of a child prefix.
-fn child_path(alloc: Global, prefix: &StorePrefix) -> Result<NodePath, NodeCreateError>
-    ensures path { IfOk result (λ p. (p ≡ prefix.now) × IsPath p) }
-    ensures refused { IfErr result (λ e. IsExcused false e ⊎ (IsInvalidPath prefix.now e × (¬ IsPath prefix.now))) }
-    ensures valid { IsPrefix prefix.now }
+fn child_path(alloc: Global, prefix: StorePrefix) -> Result<NodePath, NodeCreateError>
+    ensures path { IfOk result (λ p. (p ≡ prefix) × IsPath p) }
+    ensures refused { IfErr result (λ e. IsExcused false e ⊎ (IsInvalidPath prefix e × (¬ IsPath prefix))) }
+    ensures valid { IsPrefix prefix }
 {
-    match NodePath::from_prefix(alloc, prefix) {
+    match NodePath::from_owned_prefix(prefix) {
         Ok(path) => Ok(path),
         Err(NodePathError::OutOfMemory) => Err(NodeCreateError::OutOfMemory),
         Err(NodePathError::Invalid(text)) => {

@@ -1,48 +1,36 @@
 -- Paths, prefixes and paths below others, by their texts.
-use Rattle.std.proofs.Common.{Result, Ok, Err, IfOk, IfErr, ◌≡◌, ◌≢◌, ℕ, Bool, List, [], ◌∷◌, ◌++◌, refl, sym, ap, ◌∙◌, subst, append-nil, append_assoc, get_or, arith}
+use Rattle.std.proofs.Common.{◌≡◌, ℕ, Bool, List, [], ◌∷◌, ◌++◌, refl, sym, ap, ◌∙◌, append-nil, append_assoc, get_or, arith, ◌+◌, ◌-◌, ◌<◌, ◌≤◌, length, take, slice_index, length-append}
 use Rattle.std.specs.Bool.{Decides}
-use Rattle.std.proofs.lemmas.List.{append_cancel_left, append_cancel_right}
+use Rattle.std.proofs.Math.Seq.{get_or-append_seam, take-append_seam}
+use Rattle.std.proofs.lemmas.List.{append_cancel_left, nil_from_length}
 use Rattle.zarrs_store.specs.Segments.{segments_of, IsSegments, prefix_text, IsPrefixText}
 use Rattle.zarrs_store.proofs.Cuts.{segments_of_test, prefix_text-cons, segments_of-append, segments_of-prefix_text}
-use Rattle.std.specs.Result.{IsOkUnless}
-use Rattle.zarrs_path.specs.declared.node_path.NodePathError.{NodePathError}
-use Rattle.zarrs_path.specs.declared.node_path.NodePathError.TheVariants.{OutOfMemory}
-use Rattle.zarrs_path.specs.PathErrors.{RefusesPrefix}
-use Rattle.zarrs_path.specs.Paths.{Path, IsPath, IsPathText, IsBelow, path_text, slashed}
-use Rattle.zarrs_path.proofs.PathTexts.{slashed-append, segments_of-slashed, segments_from_names, path_text-slashed}
+use Rattle.zarrs_path.specs.Paths.{Path, IsPath, IsBelow, path_text, slashed}
+use Rattle.zarrs_path.proofs.PathTexts.{slashed-append, segments_of-slashed, segments_of-path_text, segments_from_names}
 
 -- slashes before and behind each name
 slash_ends : (p : Path) → 47 ∷ prefix_text p ≡ slashed p ++ 47 ∷ []
 slash_ends [] = refl
 slash_ends (n ∷ p) = ap (λ t. 47 ∷ t) (prefix_text-cons n p) ∙ ap (λ t. 47 ∷ (n ++ t)) (slash_ends p) ∙ ap (λ t. 47 ∷ t) (sym (append_assoc n (slashed p) (47 ∷ [])))
 
--- the text of a prefix without its last slash, behind a slash, is the text of its segments as a path
-pub slashed_from_prefix : (p : Path) (bs names : List ℕ) → bs ≡ prefix_text p → bs ≡ names ++ 47 ∷ [] → slashed p ≡ 47 ∷ names
-slashed_from_prefix p bs names e f =
-    append_cancel_right (slashed p) (47 ∷ names) (47 ∷ []) (sym (slash_ends p) ∙ ap (λ t. 47 ∷ t) (sym e ∙ f))
+-- the text of a path is cut into its names
+pub segments_of_path_text : (p : Path) (bs : List ℕ) → IsSegments p → bs ≡ path_text p → segments_of bs ≡ p
+segments_of_path_text [] bs h e = ap segments_of e ∙ segments_of-path_text [] refl
+segments_of_path_text (n ∷ p) bs h e = ap segments_of e ∙ segments_of-slashed (n ∷ p) h
 
--- a prefix whose text does not end in a slash is empty
-pub root_from_prefix : (p : Path) (bs : List ℕ) → bs ≡ prefix_text p → ((front : List ℕ) → bs ≢ front ++ 47 ∷ []) → p ≡ []
-root_from_prefix [] bs e none = refl
-root_from_prefix (n ∷ p) bs e none =
-    absurd (none (n ++ slashed p) (e ∙ (prefix_text-cons n p ∙ ap (λ t. n ++ t) (slash_ends p) ∙ sym (append_assoc n (slashed p) (47 ∷ [])))))
-
-module _ (p : Path) (bs names : List ℕ) (segments : IsSegments p) (is : slashed p ≡ 47 ∷ names) (e : bs ≡ 47 ∷ names) where
-  -- the text that `from_prefix` makes is cut into the segments of the prefix
-  pub prefix_names : segments_of bs ≡ p
-  prefix_names = ap segments_of (e ∙ sym is) ∙ segments_of-slashed p segments
-
-  -- such a prefix is not empty
-  some : p ≢ []
-  some none = let f : [] ≡ 47 ∷ names = ap slashed (sym none) ∙ is in cc
-
-  -- that text is the one of the path
-  pub prefix_path_text : bs ≡ path_text p
-  prefix_path_text = e ∙ (sym is ∙ sym (path_text-slashed p some))
-
-  -- and the text of a path, if the segments are names
-  pub path_is_text : IsPath p → IsPathText bs
-  path_is_text h = record { path = p; valid = h; text = sym prefix_path_text }
+-- the text of a prefix without its last byte, if it has one, is behind a slash the text of its segments as a path
+pub slash_moved : (p : Path) (bs after : List ℕ) (n m : ℕ) → bs ≡ prefix_text p → n ≡ length bs → m ≡ length after → m ≤ n → (0 < n → slice_index bs (n - 1) < 128 → after ≡ take (n - 1) bs) → 47 ∷ after ≡ path_text p
+slash_moved [] bs after n m e is_n is_m less popped =
+    let none : length bs ≡ 0 = ap length e in
+    ap (λ t. 47 ∷ t) (nil_from_length after (omega (arith, is_n, is_m, less, none)))
+slash_moved (x ∷ q) bs after n m e is_n is_m less popped =
+    let names : List ℕ = x ++ slashed q in
+    let f : bs ≡ names ++ 47 ∷ [] = e ∙ (prefix_text-cons x q ∙ ap (λ t. x ++ t) (slash_ends q) ∙ sym (append_assoc x (slashed q) (47 ∷ []))) in
+    let long : length bs ≡ length names + 1 = ap length f ∙ length-append names (47 ∷ []) in
+    let end : n - 1 ≡ length names = omega (arith, is_n, long) in
+    let last : slice_index bs (n - 1) ≡ 47 = ap (slice_index bs) end ∙ ap (λ t. slice_index t (length names)) f ∙ get_or-append_seam names 47 [] 0 in
+    let cut : take (n - 1) bs ≡ names = ap (λ i. take i bs) end ∙ ap (take (length names)) f ∙ take-append_seam names (47 ∷ []) in
+    ap (λ t. 47 ∷ t) (popped (omega (arith, is_n, long)) (omega (arith, last)) ∙ cut)
 
 -- the text of a path without its first slash, with one behind, is that of the prefix
 pub prefix_from_names : (p : Path) (names bs : List ℕ) → slashed p ≡ 47 ∷ names → bs ≡ names ++ 47 ∷ [] → prefix_text p ≡ bs
@@ -87,20 +75,3 @@ below_is p b rest r h k e d =
           let behind : slashed b ++ rest ≡ slashed b ++ slashed (w.0 ∷ w.1) = sym e ∙ (ap slashed w.2 ∙ slashed-append b (w.0 ∷ w.1)) in
           d.1 (ap (λ t. get_or t 0 0) (append_cancel_left (slashed b) rest (slashed (w.0 ∷ w.1)) behind)),
     )
-
--- ---- what the root gives where the prefix is empty
-
--- the root has the names of an empty prefix
-pub root_ok : (p : Path) (r : Result Path NodePathError) → p ≡ [] → IfOk r (λ q. q ≡ []) → IfOk r (λ q. q ≡ p)
-root_ok p (Ok q) root ok = ok ∙ sym root
-root_ok p (Err e) root ok = tt
-
--- the root is a path
-pub root_valid : (r : Result Path NodePathError) → IfOk r (λ q. q ≡ []) → IfOk r IsPath
-root_valid (Ok q) ok = subst IsPath (sym ok) refl
-root_valid (Err e) ok = tt
-
--- the root refuses for memory alone
-pub root_err : (p : Path) (r : Result Path NodePathError) → IsOkUnless r OutOfMemory → IfErr r (RefusesPrefix p)
-root_err p (Ok q) err = tt
-root_err p (Err e) err = subst (RefusesPrefix p) (sym err) tt

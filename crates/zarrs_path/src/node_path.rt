@@ -200,16 +200,28 @@ impl NodePath {
         ensures err { IfErr result (RefusesPrefix prefix.now) }
         ensures segments { IsPrefix prefix.now }
     {
-        match prefix.as_str().strip_suffix('/') {
-            Some(names) => {
-                let text = joined(alloc, "/", names, "")?;
-                if NodePath::validate(text.as_str()) {
-                    Ok(NodePath { text })
-                } else {
-                    Err(NodePathError::Invalid(text))
-                }
-            }
-            None => NodePath::root(alloc),
+        let _valid = prefix.as_str();
+        NodePath::from_owned_prefix(prefix.try_clone(alloc)?)
+    }
+
+    /// The path that [`NodePath::from_prefix`] answers, made of the text of the prefix without a copy.
+    ///
+    /// # Errors
+    /// `NodePathError::Invalid` with the path's text where a segment is no name.
+    /// `NodePathError::OutOfMemory` where memory for the slash of the root is wanting.
+    ///
+    /// Source: own.
+    pub fn from_owned_prefix(prefix: StorePrefix) -> Result<Self, NodePathError>
+        ensures ok { IfOk result (λ path. path ≡ prefix) }
+        ensures valid { IfOk result IsPath }
+        ensures err { IfErr result (RefusesPrefix prefix) }
+        ensures segments { IsPrefix prefix }
+    {
+        let text = slash_in_front(prefix)?;
+        if NodePath::validate(text.as_str()) {
+            Ok(NodePath { text })
+        } else {
+            Err(NodePathError::Invalid(text))
         }
     }
 
@@ -256,6 +268,17 @@ impl NodePath {
         let text = self.as_str();
         if self.is_root() { "" } else { text }
     }
+}
+
+// The text of a prefix with its last slash moved to the front; the root's for the empty prefix.
+fn slash_in_front(prefix: StorePrefix) -> Result<String, AllocError>
+    ensures ok { IfOk result (λ text. string_bytes text ≡ path_text prefix) }
+    ensures segments { IsPrefix prefix }
+{
+    let mut text = prefix.into_string();
+    text.pop();
+    text.insert(0, '/')?;
+    Ok(text)
 }
 
 // The text without one leading slash.

@@ -217,6 +217,8 @@ fn prefixes_are_paths(rt: HostRuntime) -> Result<(), Fail> {
     for (prefix, text) in [("", "/"), ("a/", "/a"), ("a/b/", "/a/b")] {
         let from = NodePath::from_prefix(alloc, &StorePrefix::new(alloc, prefix)?)?;
         assert_eq!(rt; from.as_str(), text);
+        let owned = NodePath::from_owned_prefix(StorePrefix::new(alloc, prefix)?)?;
+        assert_eq!(rt; owned.as_str(), text);
         assert_eq!(rt; from.to_prefix(alloc)?.as_str(), prefix);
         assert_eq!(rt; laws::prefix_and_back(alloc, &from)?.as_str(), text);
         let back = laws::path_and_back(alloc, &StorePrefix::new(alloc, prefix)?)?;

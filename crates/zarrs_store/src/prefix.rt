@@ -125,6 +125,18 @@ impl StorePrefix {
         Ok(StorePrefix { text })
     }
 
+    /// The text that the prefix is made of, without a copy.
+    ///
+    /// Source: own.
+    pub fn into_string(self) -> String
+        ensures text { string_bytes result ≡ prefix_text self }
+        ensures valid { IsPrefix self }
+    {
+        let _valid = self.as_str();
+        let StorePrefix { text } = self;
+        text
+    }
+
     // The last segment, and for the empty prefix the empty text.
     pub(crate) fn name(&self) -> &str
         ensures { result.now ≡ last_segment self.now }

@@ -77,6 +77,7 @@ fn keys_and_prefixes_show_their_texts(rt: HostRuntime) -> Result<(), Fail> {
     assert_eq!(rt; prefix.as_str(), "a/b/");
     assert_eq!(rt; prefix.try_clone(alloc)?.as_str(), "a/b/");
     assert_eq!(rt; prefix.to_string(alloc)?.as_str(), "a/b/");
+    assert_eq!(rt; prefix.into_string().as_str(), "a/b/");
     Ok(())
 }
 
