@@ -40,10 +40,14 @@ segments_of-slashed (n ∷ p) h =
     let both = and_parts _ _ h in
     segments_of-append [] (n ++ slashed p) ∙ rw (segments_of-nil, segments_of_first n p both.0 both.1) refl
 
+-- the text of segments as a path is cut into them
+pub cut_path_text : (p : Path) → IsSegments p → segments_of (path_text p) ≡ p
+cut_path_text [] h = segments_of-append [] [] ∙ rw (segments_of-nil) refl
+cut_path_text (n ∷ p) h = segments_of-slashed (n ∷ p) h
+
 -- the text of a path is cut into its names
 pub segments_of-path_text : (p : Path) → IsPath p → segments_of (path_text p) ≡ p
-segments_of-path_text [] h = segments_of-append [] [] ∙ rw (segments_of-nil) refl
-segments_of-path_text (n ∷ p) h = segments_of-slashed (n ∷ p) (segments_from_names (n ∷ p) h)
+segments_of-path_text p h = cut_path_text p (segments_from_names p h)
 
 -- the text of a path is that of the names that it is cut into
 pub path_of_text : (bs : List ℕ) → IsPathText bs → path_text (segments_of bs) ≡ bs

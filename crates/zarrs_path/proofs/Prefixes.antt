@@ -3,20 +3,15 @@ use Rattle.std.proofs.Common.{◌≡◌, ℕ, Bool, List, [], ◌∷◌, ◌++�
 use Rattle.std.specs.Bool.{Decides}
 use Rattle.std.proofs.Math.Seq.{get_or-append_seam, take-append_seam}
 use Rattle.std.proofs.lemmas.List.{append_cancel_left, nil_from_length}
-use Rattle.zarrs_store.specs.Segments.{segments_of, IsSegments, prefix_text, IsPrefixText}
+use Rattle.zarrs_store.specs.Segments.{segments_of, prefix_text, IsPrefixText}
 use Rattle.zarrs_store.proofs.Cuts.{segments_of_test, prefix_text-cons, segments_of-append, segments_of-prefix_text}
 use Rattle.zarrs_path.specs.Paths.{Path, IsPath, IsBelow, path_text, slashed}
-use Rattle.zarrs_path.proofs.PathTexts.{slashed-append, segments_of-slashed, segments_of-path_text, segments_from_names}
+use Rattle.zarrs_path.proofs.PathTexts.{slashed-append, segments_of-slashed, segments_from_names}
 
 -- slashes before and behind each name
 slash_ends : (p : Path) → 47 ∷ prefix_text p ≡ slashed p ++ 47 ∷ []
 slash_ends [] = refl
 slash_ends (n ∷ p) = ap (λ t. 47 ∷ t) (prefix_text-cons n p) ∙ ap (λ t. 47 ∷ (n ++ t)) (slash_ends p) ∙ ap (λ t. 47 ∷ t) (sym (append_assoc n (slashed p) (47 ∷ [])))
-
--- the text of a path is cut into its names
-pub segments_of_path_text : (p : Path) (bs : List ℕ) → IsSegments p → bs ≡ path_text p → segments_of bs ≡ p
-segments_of_path_text [] bs h e = ap segments_of e ∙ segments_of-path_text [] refl
-segments_of_path_text (n ∷ p) bs h e = ap segments_of e ∙ segments_of-slashed (n ∷ p) h
 
 -- the text of a prefix without its last byte, if it has one, is behind a slash the text of its segments as a path
 pub slash_moved : (p : Path) (bs after : List ℕ) (n m : ℕ) → bs ≡ prefix_text p → n ≡ length bs → m ≡ length after → m ≤ n → (0 < n → slice_index bs (n - 1) < 128 → after ≡ take (n - 1) bs) → 47 ∷ after ≡ path_text p
