@@ -7,4 +7,5 @@ pub mod CodecLaws
 pub mod FieldLaws
 pub mod PlainForms
 pub mod TextLaws
+pub mod ExtensionTexts
 pub mod MemoryLaws

@@ -1,20 +1,15 @@
 -- No step of reading a document means want of memory: what it refuses with is never that fault.
 use Rattle.std.proofs.Common.{◌≡◌, ◌≢◌, ℕ, List, Bool, true, false, if◌then◌else◌, Option, Some, None, Result, Ok, Err}
-use Rattle.serde_json.specs.Data.{unsigned, negative, float, Data, null, boolean, number, string, array, object, Members}
+use Rattle.serde_json.specs.Data.{Data}
 use Rattle.serde_json.specs.Find.{get}
-use Rattle.serde_json.specs.Written.{items_have_float, members_have_float}
-use Rattle.zarrs_form.specs.Documents.{◌>>=◌, NeverLacksMemory, json_of, parsed, of_bytes, document_of, format_of, node_type_of, present, formed, required, optional_from, optional}
+use Rattle.zarrs_form.specs.Documents.{◌>>=◌, NeverLacksMemory, json_of, parsed, of_bytes, format_of, node_type_of, present, formed, required, optional_from, optional}
 use Rattle.zarrs_store.specs.declared.fault.MetadataFault.{MetadataFault}
-use Rattle.zarrs_store.specs.declared.fault.MetadataFault.TheVariants.{NotAnObject, UnsupportedNumber, WrongFormat, WrongNodeType, BadMember, OutOfMemory}
+use Rattle.zarrs_store.specs.declared.fault.MetadataFault.TheVariants.{WrongFormat, WrongNodeType, BadMember, OutOfMemory}
 
 -- ---- steps
 
--- a value is no fault
-pub given : {A : Type 0} (x : A) → NeverLacksMemory (Ok x)
-given x e = cc
-
 -- two steps that never lack memory never do together
-pub both_never : {A B : Type 0} (r : Result A MetadataFault) (f : A → Result B MetadataFault) → NeverLacksMemory r → ((x : A) → NeverLacksMemory (f x)) → NeverLacksMemory (r >>= f)
+both_never : {A B : Type 0} (r : Result A MetadataFault) (f : A → Result B MetadataFault) → NeverLacksMemory r → ((x : A) → NeverLacksMemory (f x)) → NeverLacksMemory (r >>= f)
 both_never (Ok x) f h g = g x
 both_never (Err fault) f h g = λ e. h (let same : fault ≡ OutOfMemory = cc in cc)
 
@@ -24,27 +19,6 @@ both_never (Err fault) f h g = λ e. h (let same : fault ≡ OutOfMemory = cc in
 parsed_never : (o : Option Data) → NeverLacksMemory (parsed o)
 parsed_never None e = cc
 parsed_never (Some d) e = cc
-
--- what is no object is refused, whatever its numbers
-refused : (b : Bool) → NeverLacksMemory {A = Members} (if b then Err UnsupportedNumber else Err NotAnObject)
-refused true e = cc
-refused false e = cc
-
--- an object is refused only for its numbers
-kept : (b : Bool) (ms : Members) → NeverLacksMemory {A = Members} (if b then Err UnsupportedNumber else Ok ms)
-kept true ms e = cc
-kept false ms e = cc
-
--- the members of a document
-pub document_never : (d : Data) → NeverLacksMemory (document_of d)
-document_never null e = cc
-document_never (boolean b) e = cc
-document_never (number (unsigned n)) e = cc
-document_never (number (negative z)) e = cc
-document_never (number (float x)) e = cc
-document_never (string s) e = cc
-document_never (array ds) e = refused (items_have_float ds) e
-document_never (object ms) e = kept (members_have_float ms) ms e
 
 -- a question is refused only with its own fault
 asked : (b : Bool) (fault : MetadataFault) → fault ≢ OutOfMemory → NeverLacksMemory {A = Unit {0}} (if b then Ok tt else Err fault)

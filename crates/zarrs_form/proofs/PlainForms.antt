@@ -1,20 +1,18 @@
 -- What is read of data whose numbers fit: its parts fit too, and so does each value that a form gives.
-use Rattle.std.proofs.Common.{◌≡◌, ℕ, List, ◌∷◌, Bool, true, false, not, ◌&&◌, if◌then◌else◌, Less, Equal, Greater, Ordering, Option, Some, None, Result, Ok, Err, IfOk, option_map, nat_cmp, is_eq, bytes_eq, true≢false, refl, ap, sym, ◌∙◌, subst}
-use Rattle.std.specs.Prelude.{IfSome}
+use Rattle.std.proofs.Common.{◌≡◌, ℕ, List, ◌∷◌, Bool, true, false, not, ◌&&◌, if◌then◌else◌, Less, Equal, Greater, Ordering, Option, Some, None, Result, Ok, Err, option_map, nat_cmp, refl, ap, ◌∙◌, subst}
+use Rattle.std.specs.Prelude.{◌≢◌, IfSome, MatchResult}
 use Rattle.std.specs.Ordering.{match_ordering}
 use Rattle.std.specs.List.{list_all}
 use Rattle.std.specs.Cmp.Lexicographic.{slice_cmp}
-use Rattle.std.proofs.lemmas.Map.Text.{is_eq-slice_cmp}
-use Rattle.std.proofs.lemmas.Slice.Eq.{bytes_eq-Decides}
 use Rattle.serde_json.specs.Data.{unsigned, negative, float, Data, null, boolean, number, string, array, object, Items, no_items, item, Members, no_members, member}
 use Rattle.serde_json.specs.Find.{get, get_member, as_object}
 use Rattle.serde_json.specs.Written.{has_float, items_have_float, members_have_float}
 use Rattle.zarrs_form.specs.Documents as documents
-use Rattle.zarrs_form.specs.Documents.{is_own, besides, has_own, document_of, present, formed, required, optional_from, optional}
+use Rattle.zarrs_form.specs.Documents.{NeverLacksMemory, is_own, besides, has_own, document_of, present, formed, required, optional_from, optional}
 use Rattle.zarrs_form.specs.Forms as forms
 use Rattle.zarrs_form.specs.Forms.{any, nullable, each, list_of, none_or, fits, unless_absent}
 use Rattle.zarrs_store.specs.declared.fault.MetadataFault.{MetadataFault}
-use Rattle.zarrs_store.specs.declared.fault.MetadataFault.TheVariants.{NotAnObject, UnsupportedNumber}
+use Rattle.zarrs_store.specs.declared.fault.MetadataFault.TheVariants.{NotAnObject, OutOfMemory, UnsupportedNumber}
 use Rattle.zarrs_form.proofs.MemberLaws.{neither}
 
 -- ---- steps that give a value, or none, or a fault
@@ -34,20 +32,29 @@ pub some_map : {A B : Type 0} (P : A → Type 0) (Q : B → Type 0) (f : A → B
 some_map P Q f None h g = tt
 some_map P Q f (Some x) h g = g x h
 
+-- reading gives a value that has P, or a fault that is not want of memory
+abbrev pub Reads : {A : Type 0} → Result A MetadataFault → (A → Type 0) → Type 0
+Reads r P = MatchResult r P (λ fault. fault ≢ OutOfMemory)
+
 -- a step of a document whose value has P, and then one whose value has Q
-pub ok_then : {A B : Type 0} (P : A → Type 0) (Q : B → Type 0) (r : Result A MetadataFault) (f : A → Result B MetadataFault) → IfOk r P → ((x : A) → P x → IfOk (f x) Q) → IfOk (documents.◌>>=◌ r f) Q
+pub ok_then : {A B : Type 0} (P : A → Type 0) (Q : B → Type 0) (r : Result A MetadataFault) (f : A → Result B MetadataFault) → Reads r P → ((x : A) → P x → Reads (f x) Q) → Reads (documents.◌>>=◌ r f) Q
 ok_then P Q (Ok x) f h g = g x h
-ok_then P Q (Err e) f h g = tt
+ok_then P Q (Err fault) f h g = h
 
 -- the same, where nothing is known of the first step's value
-pub ok_next : {A B : Type 0} (Q : B → Type 0) (r : Result A MetadataFault) (f : A → Result B MetadataFault) → ((x : A) → IfOk (f x) Q) → IfOk (documents.◌>>=◌ r f) Q
-ok_next Q (Ok x) f g = g x
-ok_next Q (Err e) f g = tt
+pub ok_next : {A B : Type 0} (Q : B → Type 0) (r : Result A MetadataFault) (f : A → Result B MetadataFault) → NeverLacksMemory r → ((x : A) → Reads (f x) Q) → Reads (documents.◌>>=◌ r f) Q
+ok_next Q (Ok x) f h g = g x
+ok_next Q (Err fault) f h g = λ same. h (ap Err same)
 
 -- what holds of the value that there may be holds of that value
-pub of_ok : {A : Type 0} (P : A → Type 0) (r : Result A MetadataFault) (x : A) → IfOk r P → r ≡ Ok x → P x
+pub of_ok : {A : Type 0} (P : A → Type 0) (r : Result A MetadataFault) (x : A) → Reads r P → r ≡ Ok x → P x
 of_ok P (Ok y) x h e = let same : y ≡ x = cc in subst P same h
 of_ok P (Err y) x h e = cc
+
+-- such a reading never means want of memory
+pub never_of : {A : Type 0} (P : A → Type 0) (r : Result A MetadataFault) → Reads r P → NeverLacksMemory r
+never_of P (Ok x) h e = cc
+never_of P (Err fault) h e = h (let same : fault ≡ OutOfMemory = cc in same)
 
 -- two tests that are true are true together
 pub both_true : (a b : Bool) → a ≡ true → b ≡ true → (a && b) ≡ true
@@ -109,31 +116,6 @@ none_own fewer names among (member k d ms) = own_kept fewer (is_own names k) k d
 pub no_own-besides : (names : List (List ℕ)) (ms : Members) → has_own names (besides names ms) ≡ false
 no_own-besides names ms = none_own names names (λ k other. other) ms
 
--- ---- members that are found among those that are kept
-
--- where the order is not equal, what stands on both sides is found
-either : (o : Ordering) (a b : Option Data) → is_eq o ≡ false → match_ordering o a b a ≡ a
-either Less a b e = refl
-either Equal a b e = absurd (true≢false e)
-either Greater a b e = refl
-
--- a name that is one of the names differs from one that is none of them
-apart : (names : List (List ℕ)) (k l : List ℕ) (b : Bool) → bytes_eq k l ≡ b → is_own names k ≡ false → is_own names l ≡ true → b ≡ false
-apart names k l true e other own = absurd (true≢false (sym own ∙ ap (is_own names) (sym ((bytes_eq-Decides k l).0 e)) ∙ other))
-apart names k l false e other own = refl
-
--- one member more, kept or left out, changes nothing for a name that is none of the names
-kept_at : (b : Bool) (names : List (List ℕ)) (k l : List ℕ) (d : Data) (ms kept : Members) → is_own names l ≡ b → is_own names k ≡ false → get_member k kept ≡ get_member k ms
-    → get_member k (if b then kept else member l d kept) ≡ get_member k (member l d ms)
-kept_at true names k l d ms kept own other same =
-    same ∙ sym (either (slice_cmp nat_cmp k l) (get_member k ms) (Some d) (is_eq-slice_cmp k l ∙ apart names k l (bytes_eq k l) refl other own))
-kept_at false names k l d ms kept own other same = ap (λ o. match_ordering (slice_cmp nat_cmp k l) o (Some d) o) same
-
--- a name that is none of the names is found as before
-pub get-besides : (names : List (List ℕ)) (k : List ℕ) (ms : Members) → is_own names k ≡ false → get_member k (besides names ms) ≡ get_member k ms
-get-besides names k no_members other = refl
-get-besides names k (member l d ms) other = kept_at (is_own names l) names k l d ms (besides names ms) refl other (get-besides names k ms other)
-
 -- ---- forms
 
 -- the form gives values that pass the test, of data whose numbers fit
@@ -189,29 +171,29 @@ absent_fits absent form test fitting base (Some d) h = fitting d h
 -- ---- members of documents
 
 -- the value of a form, or the fault that names the member
-formed_fits : {A : Type 0} (P : A → Type 0) (name : List ℕ) (o : Option A) → IfSome o P → IfOk (formed name o) P
-formed_fits P name None h = tt
+formed_fits : {A : Type 0} (P : A → Type 0) (name : List ℕ) (o : Option A) → IfSome o P → Reads (formed name o) P
+formed_fits P name None h = λ e. cc
 formed_fits P name (Some x) h = h
 
 -- a member that has to be there, by what was found
 required_from : {A : Type 0} (form : Data → Option A) (test : A → Bool) → Fitting form test → (name : List ℕ) (o : Option Data) → IfSome o (λ d. has_float d ≡ false)
-    → IfOk (documents.◌>>=◌ (present name o) (λ v. formed name (form v))) (λ x. test x ≡ true)
-required_from form test fitting name None h = tt
+    → Reads (documents.◌>>=◌ (present name o) (λ v. formed name (form v))) (λ x. test x ≡ true)
+required_from form test fitting name None h = λ e. cc
 required_from form test fitting name (Some d) h = formed_fits (λ x. test x ≡ true) name (form d) (fitting d h)
 
 -- a member that has to be there
-pub required_fits : {A : Type 0} (form : Data → Option A) (test : A → Bool) → Fitting form test → (name : List ℕ) (d : Data) → has_float d ≡ false → IfOk (required name form d) (λ x. test x ≡ true)
+pub required_fits : {A : Type 0} (form : Data → Option A) (test : A → Bool) → Fitting form test → (name : List ℕ) (d : Data) → has_float d ≡ false → Reads (required name form d) (λ x. test x ≡ true)
 required_fits form test fitting name d h = required_from form test fitting name (get name d) (get_fits name d h)
 
 -- a member that may be absent, by what was found
 optional_fits_from : {A : Type 0} (absent : A) (form : Data → Option A) (test : A → Bool) → Fitting form test → test absent ≡ true → (name : List ℕ) (o : Option Data) → IfSome o (λ d. has_float d ≡ false)
-    → IfOk (optional_from name absent form o) (λ x. test x ≡ true)
+    → Reads (optional_from name absent form o) (λ x. test x ≡ true)
 optional_fits_from absent form test fitting base name None h = base
 optional_fits_from absent form test fitting base name (Some d) h = formed_fits (λ x. test x ≡ true) name (form d) (fitting d h)
 
 -- a member that may be absent
 pub optional_fits : {A : Type 0} (absent : A) (form : Data → Option A) (test : A → Bool) → Fitting form test → test absent ≡ true → (name : List ℕ) (d : Data) → has_float d ≡ false
-    → IfOk (optional name absent form d) (λ x. test x ≡ true)
+    → Reads (optional name absent form d) (λ x. test x ≡ true)
 optional_fits absent form test fitting base name d h = optional_fits_from absent form test fitting base name (get name d) (get_fits name d h)
 
 -- ---- documents
@@ -221,23 +203,23 @@ abbrev pub IsDocument : Data → Members → Type 0
 IsDocument d ms = (d ≡ object ms) × (members_have_float ms ≡ false)
 
 -- what is no object has no members, whatever its numbers
-refused_by : (b : Bool) (P : Members → Type 0) → IfOk (if b then Err UnsupportedNumber else Err NotAnObject) P
-refused_by true P = tt
-refused_by false P = tt
+refused_by : (b : Bool) (P : Members → Type 0) → Reads (if b then Err UnsupportedNumber else Err NotAnObject) P
+refused_by true P = λ e. cc
+refused_by false P = λ e. cc
 
 -- an object has members where its numbers fit
-object_by : (b : Bool) (ms : Members) → members_have_float ms ≡ b → IfOk (if b then Err UnsupportedNumber else Ok ms) (IsDocument (object ms))
-object_by true ms e = tt
+object_by : (b : Bool) (ms : Members) → members_have_float ms ≡ b → Reads (if b then Err UnsupportedNumber else Ok ms) (IsDocument (object ms))
+object_by true ms e = λ same. cc
 object_by false ms e = (refl, e)
 
 -- the members of a document are those of an object whose numbers fit
-pub document_fits : (d : Data) → IfOk (document_of d) (IsDocument d)
-document_fits null = tt
-document_fits (boolean b) = tt
-document_fits (number (unsigned n)) = tt
-document_fits (number (negative z)) = tt
-document_fits (number (float x)) = tt
-document_fits (string s) = tt
+pub document_fits : (d : Data) → Reads (document_of d) (IsDocument d)
+document_fits null = λ e. cc
+document_fits (boolean b) = λ e. cc
+document_fits (number (unsigned n)) = λ e. cc
+document_fits (number (negative z)) = λ e. cc
+document_fits (number (float x)) = λ e. cc
+document_fits (string s) = λ e. cc
 document_fits (array ds) = refused_by (items_have_float ds) (IsDocument (array ds))
 document_fits (object ms) = object_by (members_have_float ms) ms refl
 

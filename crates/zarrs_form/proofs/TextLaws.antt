@@ -1,6 +1,7 @@
 -- What holds of the pieces of a text.
-use Rattle.std.proofs.Common.{◌≡◌, ◌==◌, ℕ, List, [], ◌∷◌, ◌++◌, Bool, true, false, ◌||◌, ◌&&◌, true≢false, option_map, nat_lt, Option, Some, None, codes, Result, Ok, Err, is_ok, OnOk, if◌then◌else◌, arith, refl, ap, sym, ◌∙◌, append_assoc}
+use Rattle.std.proofs.Common.{◌≡◌, ◌==◌, ℕ, List, [], ◌∷◌, ◌++◌, Bool, true, false, ◌||◌, ◌&&◌, true≢false, option_map, nat_lt, Option, Some, None, codes, Result, Ok, Err, is_ok, OnOk, OnErr, if◌then◌else◌, arith, refl, ap, sym, ◌∙◌, append_assoc}
 use Rattle.std.proofs.lemmas.Bool.{or_parts}
+use Rattle.std.proofs.lemmas.List.{append-nil}
 use Rattle.std.proofs.lemmas.Bool.Decides.{nat_tests}
 use Rattle.std.specs.List.{list_all, list_any}
 use Rattle.json.specs.Print.{escape, escape_byte, quoted}
@@ -8,7 +9,7 @@ use Rattle.serde_json.specs.Data.{Data, Items, item, Members, no_members, member
 use Rattle.serde_json.specs.Written.{comma_if, compact_text, items_text, members_text}
 use Rattle.zarrs_form.specs.Documents.{is_empty}
 use Rattle.zarrs_form.specs.Forms.{none_or, number_data, put_rows, unless}
-use Rattle.zarrs_form.specs.Texts.{has_escape, row_text}
+use Rattle.zarrs_form.specs.Texts.{BeginsWith, has_escape, row_text}
 
 -- a byte with no escape stands as itself
 escape_byte_bare : (x : ℕ) → (x == 34) ≡ false → (x == 92) ≡ false → (x == 8) ≡ false → (x == 12) ≡ false → (x == 10) ≡ false → (x == 13) ≡ false → (x == 9) ≡ false → nat_lt x 32 ≡ false
@@ -84,6 +85,84 @@ pub on_ok_pushed_where : {A E : Type 0} (P : Type 0) (r : Result A E) (new old p
 on_ok_pushed_where P (Ok x) new old piece all e h = λ p. e ∙ h p
 on_ok_pushed_where P (Err x) new old piece all e h = tt
 
+-- ---- what stands where a writer did not come to its end
+
+-- a text begins with what needs some more to be it
+pub begins_done : (whole new rest : List ℕ) → new ++ rest ≡ whole → BeginsWith whole new
+begins_done whole new rest e = record { more = rest; is = sym e }
+
+-- a text begins with itself
+pub begins_self : (text : List ℕ) → BeginsWith text text
+begins_self text = record { more = []; is = sym (append-nil text) }
+
+-- equal texts begin alike
+pub begins_whole : (part whole new : List ℕ) → BeginsWith part new → part ≡ whole → BeginsWith whole new
+begins_whole part whole new b e = record { more = b.more; is = sym e ∙ b.is }
+
+-- a text begins with a beginning of its part
+pub begins_cut : (whole new part rest : List ℕ) → BeginsWith part new → part ++ rest ≡ whole → BeginsWith whole new
+begins_cut whole new part rest b e = record { more = b.more ++ rest; is = sym e ∙ ap (λ s. s ++ rest) b.is ∙ append_assoc new b.more rest }
+
+-- what holds anyway holds of a refusal
+pub on_err_always : {A E Q : Type 0} (r : Result A E) → Q → OnErr r Q
+on_err_always (Ok x) q = tt
+on_err_always (Err x) q = q
+
+-- likewise of what has a meaning on a condition alone
+pub on_err_begins_where : {A E : Type 0} (P : Type 0) (r : Result A E) (whole new : List ℕ) → (P → BeginsWith whole new) → OnErr r (P → BeginsWith whole new)
+on_err_begins_where P (Ok x) whole new f = tt
+on_err_begins_where P (Err x) whole new f = f
+
+-- where a push was refused, what stood there stands
+pub on_err_pushed : {A E : Type 0} (r : Result A E) (new old piece rest all : List ℕ) → new ≡ (if is_ok r then old ++ piece else old) → old ++ rest ≡ all → OnErr r (BeginsWith all new)
+on_err_pushed (Ok x) new old piece rest all e h = tt
+on_err_pushed (Err x) new old piece rest all e h = begins_done all new rest (ap (λ s. s ++ rest) e ∙ h)
+
+-- likewise where the text has a meaning on a condition alone
+pub on_err_pushed_where : {A E : Type 0} (P : Type 0) (r : Result A E) (new old piece rest all : List ℕ) → new ≡ (if is_ok r then old ++ piece else old) → (P → old ++ rest ≡ all)
+    → OnErr r (P → BeginsWith all new)
+on_err_pushed_where P (Ok x) new old piece rest all e h = tt
+on_err_pushed_where P (Err x) new old piece rest all e h = λ p. begins_done all new rest (ap (λ s. s ++ rest) e ∙ h p)
+
+-- where a refusal changed nothing, the text begins with what stands
+pub on_err_unchanged_where : {A E : Type 0} (P : Type 0) (r : Result A E) (new old text : List ℕ) → OnErr r (new ≡ old) → OnErr r (P → BeginsWith (old ++ text) new)
+on_err_unchanged_where P (Ok x) new old text e = tt
+on_err_unchanged_where P (Err x) new old text e = λ _. begins_done (old ++ text) new text (ap (λ s. s ++ text) e)
+
+-- a push that went well keeps what stood there, and so does one that was refused
+pub begins_pushed : {A E : Type 0} (r : Result A E) (new old piece : List ℕ) → new ≡ (if is_ok r then old ++ piece else old) → BeginsWith new old
+begins_pushed (Ok x) new old piece e = record { more = piece; is = e }
+begins_pushed (Err x) new old piece e = record { more = []; is = e ∙ sym (append-nil old) }
+
+-- what begins with a text that begins with another begins with that
+pub begins_after : (old mid new : List ℕ) → BeginsWith mid old → BeginsWith new mid → BeginsWith new old
+begins_after old mid new a b = record { more = a.more ++ b.more; is = b.is ∙ ap (λ s. s ++ b.more) a.is ∙ append_assoc old a.more b.more }
+
+-- what begins with a text also does where more was appended
+pub begins_appended : (old mid new piece : List ℕ) → BeginsWith mid old → new ≡ mid ++ piece → BeginsWith new old
+begins_appended old mid new piece a e = begins_after old mid new a (record { more = piece; is = e })
+
+-- what is the same text begins alike
+pub begins_same : (old mid new : List ℕ) → BeginsWith mid old → new ≡ mid → BeginsWith new old
+begins_same old mid new a e = record { more = a.more; is = e ∙ a.is }
+
+regroup_named : (old name text : List ℕ) → (old ++ (name ++ 58 ∷ [])) ++ text ≡ old ++ (name ++ 58 ∷ text)
+regroup_named old name text = simp append_assoc
+
+-- a name and its colon, of which a beginning was written, before the rest
+pub cut_in_name : (old name new rest : List ℕ) → BeginsWith (old ++ (name ++ 58 ∷ [])) new → BeginsWith (old ++ (name ++ 58 ∷ rest)) new
+cut_in_name old name new rest b = begins_cut _ new _ rest b (regroup_named old name rest)
+
+-- a name and its colon, and a value of which a beginning was written, before the rest
+pub cut_in_value : (old name mid text new rest : List ℕ) → mid ≡ old ++ (name ++ 58 ∷ []) → BeginsWith (mid ++ text) new → BeginsWith (old ++ (name ++ 58 ∷ (text ++ rest))) new
+cut_in_value old name mid text new rest named b =
+    begins_cut _ new _ rest b (append_assoc mid text rest ∙ ap (λ s. s ++ (text ++ rest)) named ∙ regroup_named old name (text ++ rest))
+
+-- a name, its colon and its value, before the rest
+pub named_value : (old name mid text new rest : List ℕ) → mid ≡ old ++ (name ++ 58 ∷ []) → new ≡ mid ++ text → new ++ rest ≡ old ++ (name ++ 58 ∷ (text ++ rest))
+named_value old name mid text new rest named value =
+    ap (λ s. s ++ rest) value ∙ append_assoc mid text rest ∙ ap (λ s. s ++ (text ++ rest)) named ∙ regroup_named old name (text ++ rest)
+
 regroup_member : (old comma name text more : List ℕ) → (((old ++ comma) ++ (name ++ 58 ∷ [])) ++ text) ++ more ≡ old ++ (comma ++ (name ++ 58 ∷ (text ++ more)))
 regroup_member old comma name text more = simp append_assoc
 
@@ -94,6 +173,19 @@ member_pushed old a b new later k d ms comma name value =
     ap (λ s. s ++ members_text true ms) (value ∙ ap (λ s. s ++ compact_text d) (name ∙ ap (λ s. s ++ (quoted k ++ 58 ∷ [])) comma))
     ∙ regroup_member old (comma_if later) (quoted k) (compact_text d) (members_text true ms)
 
+-- a comma, and a name of which a beginning was written, before the rest
+pub member_cut_in_name : (old a new : List ℕ) (later : Bool) (k : List ℕ) (d : Data) (ms : Members) → a ≡ old ++ comma_if later → BeginsWith (a ++ (quoted k ++ 58 ∷ [])) new
+    → BeginsWith (old ++ members_text later (member k d ms)) new
+member_cut_in_name old a new later k d ms comma b =
+    let rest = compact_text d ++ members_text true ms in
+    begins_cut _ new _ rest b (regroup_named a (quoted k) rest ∙ ap (λ s. s ++ (quoted k ++ 58 ∷ rest)) comma ∙ append_assoc old (comma_if later) (quoted k ++ 58 ∷ rest))
+
+-- a comma, a name and its colon, before a value and the rest
+pub member_cut_at_value : (old a b new : List ℕ) (later : Bool) (k : List ℕ) (d : Data) (ms : Members) → a ≡ old ++ comma_if later → b ≡ a ++ (quoted k ++ 58 ∷ []) → new ≡ b
+    → BeginsWith (old ++ members_text later (member k d ms)) new
+member_cut_at_value old a b new later k d ms comma name same =
+    member_cut_in_name old a new later k d ms comma (begins_done _ new [] (append-nil new ∙ same ∙ name))
+
 regroup_item : (old comma text more : List ℕ) → ((old ++ comma) ++ text) ++ more ≡ old ++ (comma ++ (text ++ more))
 regroup_item old comma text more = simp append_assoc
 
@@ -101,6 +193,12 @@ regroup_item old comma text more = simp append_assoc
 pub item_pushed : (old a new : List ℕ) (later : Bool) (d : Data) (ds : Items) → a ≡ old ++ comma_if later → new ≡ a ++ compact_text d → new ++ items_text true ds ≡ old ++ items_text later (item d ds)
 item_pushed old a new later d ds comma value =
     ap (λ s. s ++ items_text true ds) (value ∙ ap (λ s. s ++ compact_text d) comma) ∙ regroup_item old (comma_if later) (compact_text d) (items_text true ds)
+
+-- a comma, and an item of which a beginning was written, before the rest
+pub item_cut : (old a new : List ℕ) (later : Bool) (d : Data) (ds : Items) → a ≡ old ++ comma_if later → BeginsWith (a ++ compact_text d) new → BeginsWith (old ++ items_text later (item d ds)) new
+item_cut old a new later d ds comma b =
+    let rest = items_text true ds in
+    begins_cut _ new _ rest b (ap (λ s. (s ++ compact_text d) ++ rest) comma ∙ regroup_item old (comma_if later) (compact_text d) rest)
 
 -- ---- the tables, row by row in the order of the names
 

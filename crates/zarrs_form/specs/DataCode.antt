@@ -127,17 +127,9 @@ step_code = coded⊎ number_code (coded⊎ (coded_list coded_ℕ) (coded⊎ (cod
 abbrev pub data_code : Coded Data
 data_code = code_by (List Step) (coded_list step_code) steps rebuilt rebuilt-steps
 
--- items are found in the array that has them
-pub items_in-array : (ds : Items) → items_in (array ds) ≡ ds
-items_in-array ds = refl
-
 -- members are found in the object that has them
 pub members_in-object : (ms : Members) → members_in (object ms) ≡ ms
 members_in-object ms = refl
-
--- how items are stored
-abbrev pub items_code : Coded Items
-items_code = code_by Data data_code array items_in items_in-array
 
 -- how members are stored
 abbrev pub members_code : Coded Members

@@ -1,8 +1,13 @@
 -- RFC 8259, "Strings" and "Objects": the pieces of the compact text of a document.
-use Rattle.std.specs.Prelude.{ℕ, List, [], ◌∷◌, ◌++◌, ◌==◌, ◌||◌, nat_lt, Bool, Option, Some, None}
+use Rattle.std.specs.Prelude.{◌≡◌, ℕ, List, [], ◌∷◌, ◌++◌, ◌==◌, ◌||◌, nat_lt, Bool, Option, Some, None}
 use Rattle.json.specs.Print.{quoted}
 use Rattle.serde_json.specs.Data.{Data}
 use Rattle.serde_json.specs.Written.{compact_text}
+
+-- a text begins with another: it is that text and something more, or nothing more
+pub record BeginsWith (text start : List ℕ) : Type 0 where
+  pub more : List ℕ
+  pub is : text ≡ start ++ more
 
 -- a byte has an escape: a control character, the quotation mark or the backslash
 abbrev pub has_escape : ℕ → Bool

@@ -1,6 +1,6 @@
 //! The forms of members: each type reads itself from a JSON value, or says that the value has another
 //! form.
-ghost use Rattle.std.specs.Prelude.{◌≡◌, [], ◌∷◌, ◌++◌, Option, Bool, true, IfOk, OnOk, IsTrue, Some, None, option_map, codes, string_bytes};
+ghost use Rattle.std.specs.Prelude.{◌≡◌, [], ◌∷◌, ◌++◌, Option, Bool, true, IfOk, OnOk, OnErr, IsTrue, Some, None, option_map, codes, string_bytes};
 ghost use Rattle.serde_json.specs.Data.{Data, boolean, string, object, no_members};
 ghost use Rattle.serde_json.specs.Find.{as_str, as_bool, as_object};
 ghost use Rattle.std.specs.List.{list_all};
@@ -9,6 +9,7 @@ ghost use Rattle.serde_json.specs.Written.{compact_text};
 ghost use Rattle.zarrs_form.specs.Documents as documents;
 ghost use Rattle.zarrs_form.specs.Documents.{Gives, besides};
 ghost use Rattle.zarrs_form.specs.Forms as forms;
+ghost use Rattle.zarrs_form.specs.Texts.{BeginsWith};
 ghost use Rattle.zarrs_form.specs.Forms.{number_u64, any, nullable, list_of, number_data, list_data, nullable_data, none_or, put_row};
 
 use crate::members::{has_float, members_have_float, take_member};
@@ -16,7 +17,6 @@ use crate::shapes::{FillValueMetadata, Json, List, Object, Text};
 use crate::text::{write_comma, write_members, write_text, write_value};
 use serde_json::{Map, Value, put};
 use std::alloc::{AllocError, Global};
-use std::fmt::Write;
 use zarrs_store::{MemberName, MetadataFault};
 
 /// A type whose values stand in a document in one form, and are written in it.
@@ -53,10 +53,17 @@ pub trait Form: Sized {
     fn is_plain(&self) -> bool
         ensures { result ≡ fits self.now };
 
-    /// Appends the compact text of what is written of the value.
+    /// Appends the compact text of what is written of the value. What stood there stays, whatever is answered.
+    ///
+    /// # Errors
+    ///
+    /// `AllocError` where there is no memory for it; a beginning of the text may have been appended.
     fn write(&self, alloc: Global, out: &mut String) -> Result<(), AllocError>
-        ensures { OnOk result (IsTrue (fits self.now)
-            → string_bytes out.new ≡ string_bytes out.old ++ compact_text (written self.now)) };
+        ensures ok { OnOk result (IsTrue (fits self.now)
+            → string_bytes out.new ≡ string_bytes out.old ++ compact_text (written self.now)) }
+        ensures err { OnErr result (IsTrue (fits self.now)
+            → BeginsWith (string_bytes out.old ++ compact_text (written self.now)) (string_bytes out.new)) }
+        ensures kept { BeginsWith (string_bytes out.new) (string_bytes out.old) };
 }
 
 impl Form for u64 {
@@ -78,8 +85,8 @@ impl Form for u64 {
         true
     }
 
-    fn write(&self, _alloc: Global, out: &mut String) -> Result<(), AllocError> {
-        write!(out, "{self}")
+    fn write(&self, alloc: Global, out: &mut String) -> Result<(), AllocError> {
+        write_value(alloc, out, &self.to_value(alloc)?)
     }
 }
 
@@ -377,15 +384,16 @@ pub fn attributes(alloc: Global, members: &mut Map<String, Value>) -> Result<Obj
 ///
 /// # Errors
 ///
-/// `AllocError` where there is no memory for it.
+/// `AllocError` where there is no memory for it; the members are unchanged.
 pub fn put_member<T: Form>(
     members: &mut Map<String, Value>,
     alloc: Global,
     name: &str,
     value: Option<&T>,
 ) -> Result<(), AllocError>
-    ensures { OnOk result (members_view members.new.entries
+    ensures ok { OnOk result (members_view members.new.entries
         ≡ put_row name.now (option_map (λ x. T.written x.now) value.entry) (members_view members.old.entries)) }
+    ensures unchanged { OnErr result (members.new.entries ≡ members.old.entries) }
 {
     match value {
         None => Ok(()),
@@ -397,7 +405,7 @@ pub fn put_member<T: Form>(
 ///
 /// # Errors
 ///
-/// `AllocError` where there is no memory for it.
+/// `AllocError` where there is no memory for it; the members are unchanged.
 pub fn put_unless<T: Form>(
     members: &mut Map<String, Value>,
     alloc: Global,
@@ -405,8 +413,9 @@ pub fn put_unless<T: Form>(
     is_empty: bool,
     value: &T,
 ) -> Result<(), AllocError>
-    ensures { OnOk result (members_view members.new.entries
+    ensures ok { OnOk result (members_view members.new.entries
         ≡ put_row name.now (forms.unless is_empty (T.written value.now)) (members_view members.old.entries)) }
+    ensures unchanged { OnErr result (members.new.entries ≡ members.old.entries) }
 {
     if is_empty {
         return Ok(());

@@ -1,5 +1,5 @@
 //! The parts of reading that the documents share.
-ghost use Rattle.std.specs.Prelude.{◌≡◌, [], ◌∷◌, map, Ok, option_map, codes, IfOk, OnOk};
+ghost use Rattle.std.specs.Prelude.{◌≡◌, [], ◌∷◌, map, Ok, option_map, codes, IfOk, OnOk, OnErr};
 ghost use Rattle.serde_json.specs.Data.{object, string, put};
 ghost use Rattle.serde_json.specs.Find.{get_member};
 ghost use Rattle.serde_json.specs.Written as written;
@@ -186,15 +186,16 @@ pub fn parse(alloc: Global, bytes: &[u8]) -> Result<Value, MetadataFault>
 ///
 /// # Errors
 ///
-/// `AllocError` where there is no memory for it.
+/// `AllocError` where there is no memory for it; the members are unchanged.
 pub fn put_text(
     members: &mut Map<String, Value>,
     alloc: Global,
     name: &str,
     text: &str,
 ) -> Result<(), AllocError>
-    ensures { OnOk result (members_view members.new.entries
+    ensures ok { OnOk result (members_view members.new.entries
         ≡ put name.now (string text.now) (members_view members.old.entries)) }
+    ensures unchanged { OnErr result (members.new.entries ≡ members.old.entries) }
 {
     serde_json::put(
         members,

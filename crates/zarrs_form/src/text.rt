@@ -1,5 +1,5 @@
 //! The compact text of a document, appended piece by piece.
-ghost use Rattle.std.specs.Prelude.{◌≡◌, ◌∷◌, [], ◌++◌, option_map, string_bytes, false, not, IfOk, IsTrue, OnOk};
+ghost use Rattle.std.specs.Prelude.{◌≡◌, ◌∷◌, [], ◌++◌, option_map, string_bytes, false, not, IfOk, IsTrue, OnOk, OnErr};
 ghost use Rattle.std.specs.List.{list_any};
 ghost use Rattle.std.specs.Option.{option_copied};
 ghost use Rattle.json.specs.Print.{quoted};
@@ -9,7 +9,7 @@ ghost use Rattle.serde_json.specs.Written as written;
 ghost use Rattle.serde_json.specs.Written.{comma_if, compact_text, members_text};
 ghost use Rattle.zarrs_form.specs.Forms as forms;
 ghost use Rattle.zarrs_form.specs.Forms.{none_or};
-ghost use Rattle.zarrs_form.specs.Texts.{has_escape, row_text};
+ghost use Rattle.zarrs_form.specs.Texts.{BeginsWith, has_escape, row_text};
 
 use crate::form::Form;
 use serde_json::{Map, Value};
@@ -37,7 +37,9 @@ fn is_bare(text: &str) -> bool
 /// Appends a text in quotes.
 #[tactic(auto, using(crate::proofs::TextLaws::quoted_bare))]
 pub(crate) fn write_text(alloc: Global, out: &mut String, text: &str) -> Result<(), AllocError>
-    ensures { OnOk result (string_bytes out.new ≡ string_bytes out.old ++ quoted text.now) }
+    ensures ok { OnOk result (string_bytes out.new ≡ string_bytes out.old ++ quoted text.now) }
+    ensures err { OnErr result (BeginsWith (string_bytes out.old ++ quoted text.now) (string_bytes out.new)) }
+    ensures kept { BeginsWith (string_bytes out.new) (string_bytes out.old) }
 {
     if is_bare(text) {
         out.push_str("\"")?;
@@ -49,22 +51,27 @@ pub(crate) fn write_text(alloc: Global, out: &mut String, text: &str) -> Result<
 
 /// Appends the compact text of a JSON value.
 pub(crate) fn write_value(alloc: Global, out: &mut String, value: &Value) -> Result<(), AllocError>
-    ensures { OnOk result (written.has_float (view value.now) ≡ false
+    ensures ok { OnOk result (written.has_float (view value.now) ≡ false
         → string_bytes out.new ≡ string_bytes out.old ++ compact_text (view value.now)) }
+    ensures unchanged { OnErr result (string_bytes out.new ≡ string_bytes out.old) }
+    ensures kept { BeginsWith (string_bytes out.new) (string_bytes out.old) }
 {
     out.push_str(value.to_string(alloc)?.as_str())
 }
 
 /// Appends a comma, where something stands before.
 pub(crate) fn write_comma(out: &mut String, later: bool) -> Result<(), AllocError>
-    ensures { OnOk result (string_bytes out.new ≡ string_bytes out.old ++ comma_if later) }
+    ensures ok { OnOk result (string_bytes out.new ≡ string_bytes out.old ++ comma_if later) }
+    ensures unchanged { OnErr result (string_bytes out.new ≡ string_bytes out.old) }
 {
     if later { out.push_str(",") } else { Ok(()) }
 }
 
 /// Appends a member's name and its colon.
 fn write_name(alloc: Global, out: &mut String, name: &str) -> Result<(), AllocError>
-    ensures { OnOk result (string_bytes out.new ≡ string_bytes out.old ++ (quoted name.now ++ 58 ∷ [])) }
+    ensures ok { OnOk result (string_bytes out.new ≡ string_bytes out.old ++ (quoted name.now ++ 58 ∷ [])) }
+    ensures err { OnErr result (BeginsWith (string_bytes out.old ++ (quoted name.now ++ 58 ∷ [])) (string_bytes out.new)) }
+    ensures kept { BeginsWith (string_bytes out.new) (string_bytes out.old) }
 {
     write_text(alloc, out, name)?;
     out.push_str(":")
@@ -76,8 +83,11 @@ pub(crate) fn write_members(
     out: &mut String,
     members: &Map<String, Value>,
 ) -> Result<(), AllocError>
-    ensures { OnOk result (written.members_have_float (members_view members.now.entries) ≡ false
+    ensures ok { OnOk result (written.members_have_float (members_view members.now.entries) ≡ false
         → string_bytes out.new ≡ string_bytes out.old ++ compact_text (object (members_view members.now.entries))) }
+    ensures err { OnErr result (written.members_have_float (members_view members.now.entries) ≡ false
+        → BeginsWith (string_bytes out.old ++ compact_text (object (members_view members.now.entries))) (string_bytes out.new)) }
+    ensures kept { BeginsWith (string_bytes out.new) (string_bytes out.old) }
 {
     out.push_str("{")?;
     let mut later = false;
@@ -110,7 +120,7 @@ pub fn open_table(alloc: Global) -> Result<String, AllocError>
 ///
 /// # Errors
 ///
-/// `AllocError` where there is no memory for it.
+/// `AllocError` where there is no memory for it; a beginning of the text may have been appended.
 ///
 /// Source: RFC 8259, "Objects".
 pub fn write_row<T: Form>(
@@ -119,8 +129,11 @@ pub fn write_row<T: Form>(
     name: &str,
     value: Option<&T>,
 ) -> Result<(), AllocError>
-    ensures { OnOk result (IsTrue (none_or T.fits (option_copied value.entry))
+    ensures ok { OnOk result (IsTrue (none_or T.fits (option_copied value.entry))
         → string_bytes out.new ≡ string_bytes out.old ++ row_text name.now (option_map T.written (option_copied value.entry))) }
+    ensures err { OnErr result (IsTrue (none_or T.fits (option_copied value.entry))
+        → BeginsWith (string_bytes out.old ++ row_text name.now (option_map T.written (option_copied value.entry))) (string_bytes out.new)) }
+    ensures kept { BeginsWith (string_bytes out.new) (string_bytes out.old) }
 {
     let Some(value) = value else {
         return Ok(());
@@ -134,7 +147,7 @@ pub fn write_row<T: Form>(
 ///
 /// # Errors
 ///
-/// `AllocError` where there is no memory for it.
+/// `AllocError` where there is no memory for it; a beginning of the text may have been appended.
 ///
 /// Source: RFC 8259, "Objects".
 pub fn write_unless<T: Form>(
@@ -144,8 +157,11 @@ pub fn write_unless<T: Form>(
     is_empty: bool,
     value: &T,
 ) -> Result<(), AllocError>
-    ensures { OnOk result (IsTrue (T.fits value.now)
+    ensures ok { OnOk result (IsTrue (T.fits value.now)
         → string_bytes out.new ≡ string_bytes out.old ++ row_text name.now (forms.unless is_empty (T.written value.now))) }
+    ensures err { OnErr result (IsTrue (T.fits value.now)
+        → BeginsWith (string_bytes out.old ++ row_text name.now (forms.unless is_empty (T.written value.now))) (string_bytes out.new)) }
+    ensures kept { BeginsWith (string_bytes out.new) (string_bytes out.old) }
 {
     if is_empty {
         return Ok(());
@@ -157,7 +173,7 @@ pub fn write_unless<T: Form>(
 ///
 /// # Errors
 ///
-/// `AllocError` where there is no memory for it.
+/// `AllocError` where there is no memory for it; a beginning of the text may have been appended.
 ///
 /// Source: RFC 8259, "Objects".
 pub fn write_last<T: Form>(
@@ -166,8 +182,11 @@ pub fn write_last<T: Form>(
     name: &str,
     last: &T,
 ) -> Result<(), AllocError>
-    ensures { OnOk result (IsTrue (T.fits last.now)
+    ensures ok { OnOk result (IsTrue (T.fits last.now)
         → string_bytes out.new ≡ string_bytes out.old ++ members_text false (member name.now (T.written last.now) no_members)) }
+    ensures err { OnErr result (IsTrue (T.fits last.now)
+        → BeginsWith (string_bytes out.old ++ members_text false (member name.now (T.written last.now) no_members)) (string_bytes out.new)) }
+    ensures kept { BeginsWith (string_bytes out.new) (string_bytes out.old) }
 {
     write_name(alloc, out, name)?;
     last.write(alloc, out)?;

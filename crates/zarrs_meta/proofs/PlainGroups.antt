@@ -1,7 +1,7 @@
 -- Every group that reading gives is plain.
-use Rattle.std.proofs.Common.{◌≡◌, ℕ, List, [], ◌∷◌, Bool, true, false, ◌||◌, if◌then◌else◌, Ok, IfOk, IsTrue, codes, bytes_eq, refl, ap, sym, ◌∙◌, subst}
+use Rattle.std.proofs.Common.{◌≡◌, ℕ, List, [], ◌∷◌, Bool, true, false, ◌||◌, if◌then◌else◌, Ok, IsTrue, codes, bytes_eq, refl, ap, sym, ◌∙◌, subst}
 use Rattle.serde_json.specs.Data.{Data, object, Members, no_members}
-use Rattle.serde_json.specs.Find.{get_member, as_object}
+use Rattle.serde_json.specs.Find.{get, get_member, as_object}
 use Rattle.serde_json.specs.Written.{has_float, members_have_float}
 use Rattle.zarrs_form.specs.Documents.{is_own, besides, has_own, is_null, document_of, format_of, node_type_of, optional, absent}
 use Rattle.zarrs_form.specs.Forms.{fits}
@@ -11,11 +11,12 @@ use Rattle.zarrs_meta.specs.GroupV2 as v2
 use Rattle.zarrs_meta.specs.GroupV2.{group_v2_of, is_plain_group_v2}
 use Rattle.zarrs_meta.specs.declared.group_v3.GroupMetadataV3.{GroupMetadataV3}
 use Rattle.zarrs_meta.specs.declared.group_v2.GroupMetadataV2.{GroupMetadataV2}
-use Rattle.zarrs_form.proofs.MemberLaws.{get-others}
-use Rattle.zarrs_form.proofs.PlainForms.{ok_then, ok_next, of_ok, both_true, false_not, no_float-besides, none_own, no_own-besides, get-besides, object_fitting, optional_fits, IsDocument, document_fits, document_no_float}
+use Rattle.zarrs_form.proofs.MemberLaws.{get-others, get_besides}
+use Rattle.zarrs_form.proofs.MemoryLaws.{absent_by, format_never, node_type_never}
+use Rattle.zarrs_form.proofs.PlainForms.{ok_then, ok_next, of_ok, both_true, false_not, no_float-besides, none_own, no_own-besides, Reads, object_fitting, optional_fits, IsDocument, document_fits, document_no_float}
 
 -- attributes that were read have only numbers that fit
-pub attributes_fit : (d : Data) → has_float d ≡ false → IfOk (optional (codes "attributes") no_members as_object d) (λ ms. fits (object ms) ≡ true)
+pub attributes_fit : (d : Data) → has_float d ≡ false → Reads (optional (codes "attributes") no_members as_object d) (λ ms. fits (object ms) ≡ true)
 attributes_fit d h = optional_fits no_members as_object (λ ms. fits (object ms)) object_fitting refl (codes "attributes") d h
 
 -- ---- version 2
@@ -32,12 +33,12 @@ plain_v2 ms attributes h fine =
     (false_not (has_own v2.own_names fields) (no_own-besides v2.own_names ms))
 
 -- step by step, as the document is read
-pub group_v2_plain : (d : Data) → IfOk (group_v2_of d) PlainV2
+pub group_v2_plain : (d : Data) → Reads (group_v2_of d) PlainV2
 unfolding group_v2_of
 group_v2_plain d =
     ok_then (IsDocument d) PlainV2 (document_of d) _ (document_fits d) (λ ms h.
-    ok_next PlainV2 (format_of 2 d) _ (λ _.
-    ok_next PlainV2 (absent (codes "shape") d) _ (λ _.
+    ok_next PlainV2 (format_of 2 d) _ (format_never 2 d) (λ _.
+    ok_next PlainV2 (absent (codes "shape") d) _ (absent_by (get (codes "shape") d) (codes "shape")) (λ _.
     ok_then (λ a. fits (object a) ≡ true) PlainV2 (optional (codes "attributes") no_members as_object d) _ (attributes_fit d (document_no_float d ms h)) (λ a fine.
     plain_v2 ms a h.1 fine))))
 
@@ -77,7 +78,7 @@ Free fields = (has_own v3.own_names fields ≡ false) × (is_null (get_member bl
 -- a null `consolidated_metadata` is left out, and another one stays
 free_by : (b : Bool) (ms : Members) → is_null (get_member block ms) ≡ b → Free (besides (if b then with_block else v3.own_names) ms)
 free_by true ms e = (none_own v3.own_names with_block among ms, ap is_null (get-others with_block block (besides with_block ms) refl (no_own-besides with_block ms)))
-free_by false ms e = (no_own-besides v3.own_names ms, ap is_null (get-besides v3.own_names block ms refl) ∙ e)
+free_by false ms e = (no_own-besides v3.own_names ms, ap is_null (get_besides v3.own_names block ms refl) ∙ e)
 
 -- so it is in a document
 free_fields : (d : Data) (ms : Members) → d ≡ object ms → Free (besides (read_names d) ms)
@@ -94,12 +95,12 @@ plain_v3 d ms attributes h fine =
     (false_not (is_null (get_member block fields)) free.1)
 
 -- step by step, as the document is read
-pub group_v3_plain : (d : Data) → IfOk (group_v3_of d) PlainV3
+pub group_v3_plain : (d : Data) → Reads (group_v3_of d) PlainV3
 unfolding group_v3_of
 group_v3_plain d =
     ok_then (IsDocument d) PlainV3 (document_of d) _ (document_fits d) (λ ms h.
-    ok_next PlainV3 (format_of 3 d) _ (λ _.
-    ok_next PlainV3 (node_type_of (codes "group") d) _ (λ _.
+    ok_next PlainV3 (format_of 3 d) _ (format_never 3 d) (λ _.
+    ok_next PlainV3 (node_type_of (codes "group") d) _ (node_type_never (codes "group") d) (λ _.
     ok_then (λ a. fits (object a) ≡ true) PlainV3 (optional (codes "attributes") no_members as_object d) _ (attributes_fit d (document_no_float d ms h)) (λ a fine.
     plain_v3 d ms a h fine))))
 

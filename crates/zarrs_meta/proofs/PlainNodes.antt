@@ -1,9 +1,9 @@
 -- Every node and all attributes that reading gives are plain.
-use Rattle.std.proofs.Common.{◌≡◌, ℕ, List, Bool, true, false, not, if◌then◌else◌, is_some, Option, Some, None, Result, Ok, Err, IfOk, IsTrue, codes}
+use Rattle.std.proofs.Common.{◌≡◌, ℕ, List, Bool, true, false, not, if◌then◌else◌, is_some, Option, Some, None, Result, Ok, Err, IsTrue, codes}
 use Rattle.serde_json.specs.Data.{Data, object}
 use Rattle.serde_json.specs.Find.{get}
 use Rattle.serde_json.specs.Written.{members_have_float}
-use Rattle.zarrs_form.specs.Documents.{◌>>=◌, json_of, parsed, of_bytes, document_of, has_own}
+use Rattle.zarrs_form.specs.Documents.{◌>>=◌, document_of, has_own}
 use Rattle.zarrs_meta.specs.GroupV3.{group_v3_of}
 use Rattle.zarrs_meta.specs.GroupV2.{group_v2_of, is_plain_group_v2}
 use Rattle.zarrs_meta.specs.ArrayV3.{array_v3_of}
@@ -26,7 +26,7 @@ use Rattle.zarrs_meta.specs.declared.node.ZarrJson.TheVariants.{Node, Version2}
 use Rattle.zarrs_meta.specs.declared.node.NodeMetadata.{NodeMetadata}
 use Rattle.zarrs_meta.specs.declared.node.NodeMetadata.TheVariants.{Group, Array}
 use Rattle.zarrs_form.proofs.RowLaws.{both}
-use Rattle.zarrs_form.proofs.PlainForms.{ok_then, ok_next, of_ok, both_true, false_not, IsDocument, document_fits}
+use Rattle.zarrs_form.proofs.PlainForms.{Reads, ok_then, of_ok, both_true, false_not, IsDocument, document_fits}
 use Rattle.zarrs_meta.proofs.PlainGroups as groups
 use Rattle.zarrs_meta.proofs.PlainGroups.{group_v3_plain, group_v2_plain}
 use Rattle.zarrs_meta.proofs.PlainArrays as arrays
@@ -35,11 +35,11 @@ use Rattle.zarrs_meta.proofs.PlainArrays.{array_v3_plain, array_v2_plain}
 -- ---- attributes
 
 -- attributes could have come from a document
-abbrev PlainAttributes : AttributesDocument → Type 0
+abbrev pub PlainAttributes : AttributesDocument → Type 0
 PlainAttributes a = IsTrue (is_plain_attributes a)
 
 -- the members of a document fit
-attributes_plain : (d : Data) → IfOk (attributes_of d) PlainAttributes
+pub attributes_plain : (d : Data) → Reads (attributes_of d) PlainAttributes
 attributes_plain d = ok_then (IsDocument d) PlainAttributes (document_of d) _ (document_fits d) (λ ms h. false_not (members_have_float ms) h.1)
 
 -- attributes that were read are plain
@@ -49,31 +49,31 @@ read_attributes_are_plain d a e = of_ok PlainAttributes (attributes_of d) a (att
 -- ---- nodes
 
 -- a node could have come from a document
-abbrev PlainNode : NodeMetadata → Type 0
+abbrev pub PlainNode : NodeMetadata → Type 0
 PlainNode m = IsTrue (is_plain_node m)
 
 -- a group or an array of version 3
 node_v3_by : (is_group is_array : Bool) (d : Data)
-    → IfOk (if is_group then group_v3_of d >>= (λ m. Ok (Group (group_v3 m))) else (if is_array then array_v3_of d >>= (λ m. Ok (Array (array_v3 m))) else Err WrongNodeType)) PlainNode
+    → Reads (if is_group then group_v3_of d >>= (λ m. Ok (Group (group_v3 m))) else (if is_array then array_v3_of d >>= (λ m. Ok (Array (array_v3 m))) else Err WrongNodeType)) PlainNode
 node_v3_by true is_array d = ok_then groups.PlainV3 PlainNode (group_v3_of d) _ (group_v3_plain d) (λ m plain. plain)
 node_v3_by false true d = ok_then arrays.PlainV3 PlainNode (array_v3_of d) _ (array_v3_plain d) (λ m plain. plain)
-node_v3_by false false d = tt
+node_v3_by false false d = λ e. cc
 
 -- an array or a group of version 2
-node_v2_by : (has_shape : Bool) (d : Data) → IfOk (if has_shape then array_v2_of d >>= (λ m. Ok (Array (array_v2 m))) else group_v2_of d >>= (λ m. Ok (Group (group_v2 m)))) PlainNode
+node_v2_by : (has_shape : Bool) (d : Data) → Reads (if has_shape then array_v2_of d >>= (λ m. Ok (Array (array_v2 m))) else group_v2_of d >>= (λ m. Ok (Group (group_v2 m)))) PlainNode
 node_v2_by true d = ok_then arrays.PlainV2 PlainNode (array_v2_of d) _ (array_v2_plain d) (λ m plain. plain)
 node_v2_by false d = ok_then groups.PlainV2 PlainNode (group_v2_of d) _ (group_v2_plain d) (λ m plain. plain)
 
 -- a node of either version
-node_by : (is_v3 is_v2 : Bool) (d : Data) → IfOk (if is_v3 then node_v3_of d else (if is_v2 then node_v2_of d else Err WrongFormat)) PlainNode
+node_by : (is_v3 is_v2 : Bool) (d : Data) → Reads (if is_v3 then node_v3_of d else (if is_v2 then node_v2_of d else Err WrongFormat)) PlainNode
 node_by true is_v2 d = node_v3_by (has_type (codes "group") d) (has_type (codes "array") d) d
 node_by false true d = node_v2_by (is_some (get (codes "shape") d)) d
-node_by false false d = tt
+node_by false false d = λ e. cc
 
 -- the numbers are looked at first, and then the format
-pub node_plain : (d : Data) → IfOk (node_of d) PlainNode
+pub node_plain : (d : Data) → Reads (node_of d) PlainNode
 unfolding node_of
-node_plain d = ok_next PlainNode (document_of d) _ (λ _. node_by (has_format 3 d) (has_format 2 d) d)
+node_plain d = ok_then (IsDocument d) PlainNode (document_of d) _ (document_fits d) (λ _ _. node_by (has_format 3 d) (has_format 2 d) d)
 
 -- a node that was read is plain
 pub read_node_is_plain : (d : Data) (m : NodeMetadata) → node_of d ≡ Ok m → IsTrue (is_plain_node m)
@@ -82,34 +82,23 @@ read_node_is_plain d m e = of_ok PlainNode (node_of d) m (node_plain d) e
 -- ---- the document at `zarr.json`
 
 -- a node could have come from a document, where there is one
-abbrev PlainZarrJson : ZarrJson → Type 0
+abbrev pub PlainZarrJson : ZarrJson → Type 0
 PlainZarrJson (Node m) = PlainNode m
 PlainZarrJson Version2 = Unit {0}
 
 -- format 2 is told at once, and all else is a node
-zarr_json_by : (is_v2 : Bool) (d : Data) → IfOk (if is_v2 then Ok Version2 else node_of d >>= (λ m. Ok (Node m))) PlainZarrJson
+zarr_json_by : (is_v2 : Bool) (d : Data) → Reads (if is_v2 then Ok Version2 else node_of d >>= (λ m. Ok (Node m))) PlainZarrJson
 zarr_json_by true d = tt
 zarr_json_by false d = ok_then PlainNode PlainZarrJson (node_of d) _ (node_plain d) (λ m plain. plain)
 
 -- the numbers are looked at first, and then the format
-zarr_json_plain : (d : Data) → IfOk (zarr_json_of d) PlainZarrJson
+pub zarr_json_plain : (d : Data) → Reads (zarr_json_of d) PlainZarrJson
 unfolding zarr_json_of
-zarr_json_plain d = ok_next PlainZarrJson (document_of d) _ (λ _. zarr_json_by (has_format 2 d) d)
+zarr_json_plain d = ok_then (IsDocument d) PlainZarrJson (document_of d) _ (document_fits d) (λ _ _. zarr_json_by (has_format 2 d) d)
 
 -- a node that was read at `zarr.json` is plain
 pub read_zarr_json_is_plain : (d : Data) (m : NodeMetadata) → zarr_json_of d ≡ Ok (Node m) → IsTrue (is_plain_node m)
 read_zarr_json_is_plain d m e = of_ok PlainZarrJson (zarr_json_of d) (Node m) (zarr_json_plain d) e
-
--- ---- bytes
-
--- what was read of the data that the bytes may be
-read_from : {A : Type 0} (reading : Data → Result A MetadataFault) (o : Option Data) (x : A) → (parsed o >>= reading) ≡ Ok x → (d : Data) × (reading d ≡ Ok x)
-read_from reading None x e = cc
-read_from reading (Some d) x e = (d, e)
-
--- what bytes are read as is what some data are read as
-pub read_of_bytes : {A : Type 0} (reading : Data → Result A MetadataFault) (bytes : List ℕ) (x : A) → of_bytes reading bytes ≡ Ok x → (d : Data) × (reading d ≡ Ok x)
-read_of_bytes reading bytes x e = read_from reading (json_of bytes) x e
 
 -- ---- attributes that replace those of a document
 

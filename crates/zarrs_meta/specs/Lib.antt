@@ -1,5 +1,6 @@
 pub mod GroupV3
 pub mod ArrayV3
+pub mod MadeArray
 pub mod GroupV2
 pub mod ArrayV2
 pub mod Attributes

@@ -7,15 +7,16 @@ ghost use Rattle.serde_json.specs.Written.{compact_text};
 ghost use Rattle.zarrs_form.specs.Documents.{Gives, besides, document_of, of_bytes, optional};
 ghost use Rattle.zarrs_form.specs.Forms.{extension, list_of, nullable, put_rows};
 ghost use Rattle.zarrs_meta.specs.ArrayV3.{array_v3_of, array_v3_rows, array_v3_tree, is_plain_array_v3};
+ghost use Rattle.zarrs_meta.specs.MadeArray.{default_encoding, made_array};
 ghost use Rattle.zarrs_meta.specs.Taken.{array_v3_taken};
 
 use serde_json::{Map, Value, put};
 use std::alloc::{AllocError, Global};
 use zarrs_form::{
-    AdditionalFieldsV3, FillValueMetadata, Form, List, MetadataV3, Object, Text, ask_format,
-    ask_node_type, attributes, document, document_copy, fields_have_float, fields_of, has_own_name,
-    members_of_fields, open_table, optional, parse, put_member, put_text, put_unless, required,
-    write_last, write_row, write_unless,
+    AdditionalFieldsV3, ChunkKeySeparator, FillValueMetadata, Form, List, MetadataV3, Object, Text,
+    ask_format, ask_node_type, attributes, document, document_copy, fields_have_float, fields_of,
+    has_own_name, members_of_fields, open_table, optional, parse, put_member, put_text, put_unless,
+    required, write_last, write_row, write_unless,
 };
 use zarrs_store::MetadataFault;
 
@@ -62,6 +63,58 @@ const OWN_NAMES: &[&str] = &[
 ];
 
 impl ArrayMetadataV3 {
+    /// The array with these members. The keys of its chunks are made by the encoding `default` with slashes; it has no
+    /// attributes, no storage transformers, no dimension names and no additional fields.
+    ///
+    /// # Errors
+    ///
+    /// `AllocError` where there is no memory for the encoding.
+    ///
+    /// Source: `zarrs_metadata::v3::ArrayMetadataV3::new`.
+    pub fn new(
+        alloc: Global,
+        shape: List<u64>,
+        chunk_grid: MetadataV3,
+        data_type: MetadataV3,
+        fill_value: FillValueMetadata,
+        codecs: List<MetadataV3>,
+    ) -> Result<ArrayMetadataV3, AllocError>
+        ensures { IfOk result (λ array. array ≡ made_array shape chunk_grid data_type fill_value codecs) }
+    {
+        Ok(ArrayMetadataV3 {
+            shape,
+            data_type,
+            chunk_grid,
+            chunk_key_encoding: default_encoding(alloc)?,
+            fill_value,
+            codecs,
+            attributes: Object::new(Map::new(alloc)),
+            storage_transformers: List::new(Vec::new(alloc)),
+            dimension_names: None,
+            additional_fields: AdditionalFieldsV3::new(Map::new(alloc)),
+        })
+    }
+
+    /// The array with these attributes in place of its own.
+    ///
+    /// Source: `zarrs_metadata::v3::ArrayMetadataV3::with_attributes`.
+    pub fn with_attributes(mut self, attributes: Object) -> ArrayMetadataV3
+        ensures { result ≡ record self { attributes = attributes } }
+    {
+        self.attributes = attributes;
+        self
+    }
+
+    /// The array with this encoding of the keys of chunks in place of its own.
+    ///
+    /// Source: `zarrs_metadata::v3::ArrayMetadataV3::with_chunk_key_encoding`.
+    pub fn with_chunk_key_encoding(mut self, chunk_key_encoding: MetadataV3) -> ArrayMetadataV3
+        ensures { result ≡ record self { chunk_key_encoding = chunk_key_encoding } }
+    {
+        self.chunk_key_encoding = chunk_key_encoding;
+        self
+    }
+
     /// The array that a JSON value is.
     ///
     /// # Errors
@@ -230,6 +283,20 @@ impl ArrayMetadataV3 {
             && !fields_have_float(self.additional_fields.as_map())
             && !has_own_name(self.additional_fields.as_map(), OWN_NAMES)
     }
+}
+
+/// The encoding `default` of the keys of chunks, with slashes.
+fn default_encoding(alloc: Global) -> Result<MetadataV3, AllocError>
+    ensures { IfOk result (λ encoding. encoding ≡ default_encoding) }
+{
+    let mut configuration = Map::new(alloc);
+    let separator = ChunkKeySeparator::Slash;
+    put_member(&mut configuration, alloc, "separator", Some(&separator))?;
+    Ok(MetadataV3 {
+        name: Text::from_str(alloc, "default")?,
+        configuration: Some(Object::new(configuration)),
+        must_understand: true,
+    })
 }
 
 /// Takes the member `storage_transformers`, which is empty where it is absent.

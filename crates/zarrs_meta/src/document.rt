@@ -3,6 +3,7 @@ ghost use Rattle.std.specs.Prelude.{◌≡◌, ℕ, List, Result, IfOk};
 ghost use Rattle.zarrs_form.specs.Documents.{Gives, of_bytes};
 ghost use Rattle.zarrs_meta.specs.ArrayV2.{array_v2_of};
 ghost use Rattle.zarrs_meta.specs.GroupV2.{group_v2_of};
+ghost use Rattle.zarrs_meta.specs.GroupV3.{group_v3_of};
 ghost use Rattle.zarrs_meta.specs.Attributes.{attributes_of};
 ghost use Rattle.zarrs_meta.specs.Node.{zarr_json_of};
 ghost use Rattle.zarrs_store.specs.declared.fault.MetadataFault.{MetadataFault};
@@ -10,6 +11,7 @@ ghost use Rattle.zarrs_store.specs.declared.fault.MetadataFault.{MetadataFault};
 use crate::array_v2::ArrayMetadataV2;
 use crate::attributes::AttributesDocument;
 use crate::group_v2::GroupMetadataV2;
+use crate::group_v3::GroupMetadataV3;
 use crate::node::ZarrJson;
 use std::alloc::{AllocError, Global};
 use zarrs_store::MetadataFault;
@@ -72,6 +74,18 @@ impl Document for GroupMetadataV2 {
 
     fn try_clone(&self, alloc: Global) -> Result<GroupMetadataV2, AllocError> {
         GroupMetadataV2::try_clone(self, alloc)
+    }
+}
+
+impl Document for GroupMetadataV3 {
+    ghost reading = { of_bytes group_v3_of };
+
+    fn read(alloc: Global, bytes: &[u8]) -> Result<GroupMetadataV3, MetadataFault> {
+        GroupMetadataV3::from_bytes(alloc, bytes)
+    }
+
+    fn try_clone(&self, alloc: Global) -> Result<GroupMetadataV3, AllocError> {
+        GroupMetadataV3::try_clone(self, alloc)
     }
 }
 

@@ -1,7 +1,6 @@
 -- The texts of keys below a path.
 use Rattle.std.proofs.Common.{◌≡◌, ◌≢◌, ℕ, List, [], ◌∷◌, ◌++◌, refl, sym, ap, ◌∙◌, IsTrue}
-use Rattle.std.specs.Prelude.{All}
-use Rattle.std.proofs.lemmas.List.Elements.{All-nil, All-cons, All-head, All-tail}
+use Rattle.std.proofs.lemmas.List.Elements.{All-nil, All-cons, All-append}
 use Rattle.zarrs_store.specs.Segments.{segments_of, key_text, is_segment, IsSegment, IsSegments, IsKey, IsKeyText}
 use Rattle.zarrs_store.proofs.Cuts.{segment_of_test, segments_of_test, segments_of-append, segments_of_one, segments_of-nil, segments_of-key_text, key_from_text}
 use Rattle.zarrs_path.specs.Paths.{Path, IsPath, slashed}
@@ -15,10 +14,6 @@ segment_text s h = record {
   is = refl;
 }
 
--- a segment is cut into itself alone
-pub segment_parts : (s : List ℕ) → IsTrue (is_segment s) → segments_of s ≡ s ∷ []
-segment_parts = segments_of_one
-
 -- segments with a slash before each are a slash and the text of their key
 slashed_key : (r : Path) → r ≢ [] → slashed r ≡ 47 ∷ key_text r
 slashed_key [] some = absurd (some refl)
@@ -29,16 +24,11 @@ append_some : (p q : Path) → q ≢ [] → p ++ q ≢ []
 append_some [] q some e = some e
 append_some (n ∷ p) q some e = cc
 
--- two lists of segments in a row are segments
-All-append : (p r : Path) → All IsSegment p → All IsSegment r → All IsSegment (p ++ r)
-All-append [] r h k = k
-All-append (s ∷ p) r h k = All-cons IsSegment s (p ++ r) (All-head IsSegment s p h) (All-append p r (All-tail IsSegment s p h) k)
-
 -- a key behind segments is a key
 pub key_append : (p r : Path) → IsSegments p → IsKey r → IsKey (p ++ r)
 key_append p r h k = record {
   some = append_some p r k.some;
-  each = All-append p r (segments_of_test p h) k.each;
+  each = All-append IsSegment p r (segments_of_test p h) k.each;
 }
 
 module _ (p : Path) (names rest : List ℕ) (valid : IsPath p) (is : slashed p ≡ 47 ∷ names) (key : IsKeyText rest) where

@@ -87,7 +87,7 @@ pub fn data_key(
 }
 
 // The key of the document with this name.
-#[tactic(auto, using(crate::proofs::KeyTexts::segment_text, crate::proofs::KeyTexts::segment_parts))]
+#[tactic(auto, using(crate::proofs::KeyTexts::segment_text, zarrs_store::proofs::Cuts::segments_of_one))]
 fn meta_key_any(alloc: Global, path: &NodePath, file: &str) -> Result<StoreKey, AllocError>
     requires { IsTrue (is_segment file.now) }
     ensures { IfOk result (λ key. key ≡ path.now ++ file.now ∷ []) }

@@ -1,9 +1,9 @@
 //! What holds of every name and path. A function with an empty body does nothing, and its contract is the law.
 //! The others call the code and say what comes out.
-ghost use Rattle.std.specs.Prelude.{◌≡◌, ◌↔◌, IfOk, IfErr, IsOkUnless, IsTrue, Some, None};
+ghost use Rattle.std.specs.Prelude.{◌≡◌, ◌↔◌, ◌++◌, IfOk, IfErr, IsOkUnless, IsTrue, Some, None};
 ghost use Rattle.zarrs_path.specs.Names.{IsName};
 ghost use Rattle.std.specs.declared.cmp.Ordering.TheVariants.{Equal};
-ghost use Rattle.zarrs_path.specs.Paths.{IsPathText, path_eq, path_cmp};
+ghost use Rattle.zarrs_path.specs.Paths.{IsParent, IsPathText, path_eq, path_cmp, relative_names};
 ghost use Rattle.zarrs_path.specs.PathErrors.{RefusesPrefix, RefusesJoin};
 ghost use Rattle.zarrs_path.specs.Laws.{NamesAre, TextsDiffer, EqualNames, EqualOrder, TotalOrder, HashAlike, BelowIsAfter, BelowIsTransitive, OneParent, RootAlone, ParentOfJoined, DocumentKeysDiffer, RelativeNamesRead, RelativeNamesJoined};
 
@@ -113,7 +113,8 @@ pub fn parent_of_joined()
     ensures { ParentOfJoined }
 {}
 
-/// The parent of a path joined with one name, which is the path.
+/// The parent of a path joined with a relative text: the path itself where the text is one name. Of another text that `NodePath::join`
+/// takes it is the joined path without its last name, and nothing where that is the root.
 ///
 /// # Errors
 /// `NodePathError::OutOfMemory` where memory for the joined path or its parent is wanting.
@@ -124,6 +125,7 @@ pub fn parent_of_join(
     name: &str,
 ) -> Result<Option<NodePath>, NodePathError>
     ensures ok { IsName name.now → IfOk result (λ parent. parent ≡ Some path.now) }
+    ensures parent { IfOk result (IsParent (path.now ++ relative_names name.now)) }
     ensures err { IsName name.now → IsOkUnless result NodePathError.OutOfMemory }
     ensures refused { IfErr result (RefusesJoin name.now) }
 {

@@ -1,6 +1,6 @@
 use crate::{
-    NodeName, NodePath, data_key, laws, meta_key, meta_key_v2_array, meta_key_v2_attributes,
-    meta_key_v2_group, meta_key_v3,
+    NodeName, NodeNameError, NodePath, NodePathError, data_key, laws, meta_key, meta_key_v2_array,
+    meta_key_v2_attributes, meta_key_v2_group, meta_key_v3,
 };
 use std::alloc::Global;
 use std::cmp::Ordering;
@@ -133,6 +133,15 @@ fn refuses_what_is_no_path(rt: HostRuntime) -> Result<(), Fail> {
             Err(error) => assert_eq!(rt; error.to_string(alloc)?.as_str(), want),
         }
     }
+    Ok(())
+}
+
+#[test]
+fn every_error_says_that_memory_ran_out(rt: HostRuntime) -> Result<(), Fail> {
+    let alloc = rt.alloc();
+    let want = "out of memory";
+    assert_eq!(rt; NodeNameError::OutOfMemory.to_string(alloc)?.as_str(), want);
+    assert_eq!(rt; NodePathError::OutOfMemory.to_string(alloc)?.as_str(), want);
     Ok(())
 }
 

@@ -1,5 +1,5 @@
 -- No key is longer than `most_segments`.
-use Rattle.std.proofs.Common.{◌≡◌, ◌<◌, ◌≤◌, Bool, true, false, ◌||◌, List, [], ◌∷◌, ◌++◌, length, refl, sym, ap, ◌∙◌, ◌⊎◌, inl, inr, arith, length-append, Less, Equal, Greater, Ordering, true≢false, is_eq}
+use Rattle.std.proofs.Common.{◌≡◌, ◌<◌, ◌≤◌, Bool, true, false, ◌||◌, List, [], ◌∷◌, ◌++◌, length, refl, sym, ap, ◌∙◌, ◌⊎◌, inl, inr, arith, length-append, true≢false}
 use Rattle.std.specs.List.{list_any}
 use Rattle.std.specs.Ordering.{eq_by_cmp}
 use Rattle.std.specs.FinMap.{keys, contains_key-keys}
@@ -7,23 +7,18 @@ use Rattle.zarrs_store.specs.Segments.{Segments, key_cmp}
 use Rattle.zarrs_store.specs.Contents.{Contents, HasKey, HasBelow}
 use Rattle.zarrs_store.specs.Depth.{longest, most_segments}
 use Rattle.zarrs_store.proofs.ChildLemmas.{key_cmp-IsAntisymmetric}
+use Rattle.zarrs_store.proofs.EntryLemmas.{equal_of}
 
 -- of two tests of which one passes, the first or the second passes
 or_cases : (a b : Bool) → (a || b) ≡ true → (a ≡ true) ⊎ (b ≡ true)
 or_cases true b h = inl refl
 or_cases false b h = inr h
 
--- an ordering that is a tie is `Equal`
-tied : (r : Ordering) → is_eq r ≡ true → r ≡ Equal
-tied Less h = absurd (true≢false (sym h))
-tied Equal h = refl
-tied Greater h = absurd (true≢false (sym h))
-
 -- a list of segments that is among these is no longer than the longest of them
 within_longest : (q : Segments) (ks : List Segments) → list_any (eq_by_cmp key_cmp q) ks ≡ true → length q ≤ longest ks
 within_longest q [] h = absurd (true≢false (sym h))
 within_longest q (k ∷ ks) h = elim (or_cases (eq_by_cmp key_cmp q k) (list_any (eq_by_cmp key_cmp q) ks) h) as (λ _. length q ≤ longest (k ∷ ks)) [
-  | inl e ↦ let same = ap length (key_cmp-IsAntisymmetric q k (tied (key_cmp q k) e)) in omega (arith, same)
+  | inl e ↦ let same = ap length (key_cmp-IsAntisymmetric q k (equal_of (key_cmp q k) e)) in omega (arith, same)
   | inr e ↦ let less = within_longest q ks e in omega (arith, less)
 ]
 

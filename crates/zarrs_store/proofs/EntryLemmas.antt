@@ -18,6 +18,7 @@ use Rattle.zarrs_store.proofs.Cuts.{segments_of-key_text}
 pub text_cmp_total : IsTotalOrder text_cmp
 text_cmp_total = on_total key_text nat_list_cmp_total
 
+-- an ordering that is a tie is `Equal`
 pub equal_of : (r : Ordering) → is_eq r ≡ true → r ≡ Equal
 equal_of Less e = cc
 equal_of Equal e = refl

@@ -11,8 +11,8 @@ use Rattle.zarrs_store.specs.Segments.{Segments, key_cmp}
 abbrev pub Contents : Type 0
 Contents = map.FinMap key_cmp (List ℕ)
 
--- the store has the key
-abbrev pub HasKey : Contents → Segments → Type 0
+-- the store has the key, whatever stands there
+abbrev pub HasKey : {V : Type 0} → map.FinMap key_cmp V → Segments → Type 0
 HasKey S key = IsTrue (map.contains_key S key)
 
 -- the list xs has exactly the items of which P holds, each once, in any order
@@ -50,6 +50,6 @@ pub record IsChildPrefix (S : Contents) (prefix child : Segments) : Type 0 where
 abbrev pub AgreesExceptAt : Segments → Contents → Contents → Type 0
 AgreesExceptAt key old new = (other : Segments) → other ≢ key → map.get new other ≡ map.get old other
 
--- some key of the store is p and one or more further segments
-abbrev pub HasBelow : Contents → Segments → Type 0
+-- some key of the store is p and one or more further segments, whatever stands there
+abbrev pub HasBelow : {V : Type 0} → map.FinMap key_cmp V → Segments → Type 0
 HasBelow S p = (first : List ℕ) × (rest : Segments) × HasKey S (p ++ first ∷ rest)

@@ -1,4 +1,4 @@
-ghost use Rattle.std.specs.Prelude.{◌≡◌, ◌≤◌, ◌*◌, false, [], length, OnOk, OnErr, IfOk, IfErr};
+ghost use Rattle.std.specs.Prelude.{◌≡◌, ◌≤◌, ◌*◌, false, [], length, IsOk, OnOk, OnErr, IfOk, IfErr};
 ghost use Rattle.std.specs.Map.{keys_of};
 ghost use Rattle.zarrs_store.specs.Segments.{key_cmp};
 ghost use Rattle.zarrs_store.specs.Faults.{IsStoreError};
@@ -202,11 +202,12 @@ impl WritableStorageTraits for MemoryStore {
         Ok(())
     }
 
-    /// Removes the key; where the store does not have it, nothing is changed.
+    /// Removes the key; where the store does not have it, nothing is changed. It takes no memory, and always succeeds.
     ///
     /// # Errors
     /// None comes here.
     fn erase(&mut self, key: &StoreKey) -> Result<(), StorageError>
+        ensures succeeds { IsOk result }
         ensures ok { OnOk result (map.from_entries {R = key_cmp} self.new ≡ map.remove (map.from_entries {R = key_cmp} self.old) key.now) }
         ensures err { IfErr result (IsStoreError false) }
         ensures unchanged { OnErr result (self.new ≡ self.old) }

@@ -1,8 +1,8 @@
 use crate::children::discover_children;
 use crate::fault::{MemberName, MetadataFault};
-use crate::key::StoreKey;
+use crate::key::{StoreKey, StoreKeyError};
 use crate::memory_store::MemoryStore;
-use crate::prefix::StorePrefix;
+use crate::prefix::{StorePrefix, StorePrefixError};
 use crate::storage_error::StorageError;
 use crate::store::{ListableStorageTraits, ReadableStorageTraits, WritableStorageTraits};
 use std::alloc::Global;
@@ -147,6 +147,20 @@ fn refused_texts_are_named(rt: HostRuntime) -> Result<(), Fail> {
             assert_eq!(rt; error.to_string(alloc)?.as_str(), "invalid store prefix a");
         }
     }
+    Ok(())
+}
+
+#[test]
+fn every_error_says_that_memory_ran_out(rt: HostRuntime) -> Result<(), Fail> {
+    let alloc = rt.alloc();
+    let want = "out of memory";
+    assert_eq!(rt; StoreKeyError::OutOfMemory.to_string(alloc)?.as_str(), want);
+    assert_eq!(rt;
+        StorePrefixError::OutOfMemory.to_string(alloc)?.as_str(),
+        want
+    );
+    assert_eq!(rt; MetadataFault::OutOfMemory.to_string(alloc)?.as_str(), want);
+    assert_eq!(rt; StorageError::OutOfMemory.to_string(alloc)?.as_str(), want);
     Ok(())
 }
 

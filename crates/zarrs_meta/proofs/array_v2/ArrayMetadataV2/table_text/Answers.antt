@@ -34,15 +34,15 @@ returns c = λ plain.
     (codes "zarr_format") (number_data 2) (put_rows (array_v2_rows m) no_members) [] o0 (string_bytes c.write_last.new.out)
     (o1 ∷ o2 ∷ o3 ∷ o4 ∷ o5 ∷ o6 ∷ o7 ∷ o8 ∷ o9 ∷ [])
     c.in_ok-out.ensures
-    ((c.in_ok-write_unless.ensures p.5 ∙ ap (λ b. o0 ++ row_text (codes "attributes") (unless b (object m.attributes))) c.is_empty-empty.ensures)
-    ◂ c.in_ok-write_row.ensures (all_true m.chunks)
-    ◂ c.in_ok-write_row-2.ensures p.3
-    ◂ c.in_ok-write_row-3.ensures refl
-    ◂ c.in_ok-write_row-4.ensures p.1
-    ◂ c.in_ok-write_row-5.ensures p.2
-    ◂ c.in_ok-write_row-6.ensures p.4
-    ◂ c.in_ok-write_row-7.ensures refl
-    ◂ c.in_ok-write_row-8.ensures (all_true m.shape)
+    ((c.in_ok-write_unless.ensures.ok p.5 ∙ ap (λ b. o0 ++ row_text (codes "attributes") (unless b (object m.attributes))) c.is_empty-empty.ensures)
+    ◂ c.in_ok-write_row.ensures.ok (all_true m.chunks)
+    ◂ c.in_ok-write_row-2.ensures.ok p.3
+    ◂ c.in_ok-write_row-3.ensures.ok refl
+    ◂ c.in_ok-write_row-4.ensures.ok p.1
+    ◂ c.in_ok-write_row-5.ensures.ok p.2
+    ◂ c.in_ok-write_row-6.ensures.ok p.4
+    ◂ c.in_ok-write_row-7.ensures.ok refl
+    ◂ c.in_ok-write_row-8.ensures.ok (all_true m.shape)
     ◂ tt)
-    (c.in_ok-write_last.ensures refl)
+    (c.in_ok-write_last.ensures.ok refl)
     (array_v2_sorted shape chunks (data_type_data m.dtype) m.fill_value (order_data m.order) compressor filters (separator_data m.dimension_separator) attributes)

@@ -35,17 +35,17 @@ returns c = λ plain.
     (codes "zarr_format") (number_data 3) (put_rows (array_v3_rows m) no_members) [] o0 (string_bytes c.write_last.new.out)
     (o1 ∷ o2 ∷ o3 ∷ o4 ∷ o5 ∷ o6 ∷ o7 ∷ o8 ∷ o9 ∷ o10 ∷ [])
     c.in_ok-out.ensures
-    ((c.in_ok-write_unless.ensures p.5 ∙ ap (λ b. o0 ++ row_text (codes "attributes") (unless b (object m.attributes))) c.is_empty-empty.ensures)
-    ◂ c.in_ok-write_row.ensures p.1
-    ◂ c.in_ok-write_row-2.ensures p.2
-    ◂ c.in_ok-write_row-3.ensures p.4
-    ◂ c.in_ok-write_row-4.ensures p.0
+    ((c.in_ok-write_unless.ensures.ok p.5 ∙ ap (λ b. o0 ++ row_text (codes "attributes") (unless b (object m.attributes))) c.is_empty-empty.ensures)
+    ◂ c.in_ok-write_row.ensures.ok p.1
+    ◂ c.in_ok-write_row-2.ensures.ok p.2
+    ◂ c.in_ok-write_row-3.ensures.ok p.4
+    ◂ c.in_ok-write_row-4.ensures.ok p.0
     ◂ subst (λ ns. IsTrue (none_or (list_all (none_or (λ _. true))) ns) → o6 ≡ o5 ++ row_text (codes "dimension_names") (option_map (list_data (nullable_data string)) ns))
-    c.as_ref-names.ensures.value c.in_ok-write_row-5.ensures (dimensions_fit m.dimension_names)
-    ◂ c.in_ok-write_row-6.ensures p.3
-    ◂ (c.in_ok-write_row-7.ensures refl ∙ ap (λ k. o7 ++ row_text (codes "node_type") (Some (string k))) c.in_ok-kind.ensures)
-    ◂ c.in_ok-write_row-8.ensures (all_true m.shape)
-    ◂ (c.in_ok-write_unless-2.ensures p.6 ∙ ap (λ b. o9 ++ row_text (codes "storage_transformers") (unless b (list_data extension_data m.storage_transformers))) c.is_empty-empty-2.ensures)
+    c.as_ref-names.ensures.value c.in_ok-write_row-5.ensures.ok (dimensions_fit m.dimension_names)
+    ◂ c.in_ok-write_row-6.ensures.ok p.3
+    ◂ (c.in_ok-write_row-7.ensures.ok refl ∙ ap (λ k. o7 ++ row_text (codes "node_type") (Some (string k))) c.in_ok-kind.ensures)
+    ◂ c.in_ok-write_row-8.ensures.ok (all_true m.shape)
+    ◂ (c.in_ok-write_unless-2.ensures.ok p.6 ∙ ap (λ b. o9 ++ row_text (codes "storage_transformers") (unless b (list_data extension_data m.storage_transformers))) c.is_empty-empty-2.ensures)
     ◂ tt)
-    (c.in_ok-write_last.ensures refl)
+    (c.in_ok-write_last.ensures.ok refl)
     (array_v3_sorted shape (extension_data m.data_type) (extension_data m.chunk_grid) (extension_data m.chunk_key_encoding) m.fill_value codecs attributes transformers names)

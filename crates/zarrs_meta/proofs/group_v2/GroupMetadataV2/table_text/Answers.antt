@@ -19,6 +19,6 @@ returns c = λ plain.
     table_written ((codes "attributes", attributes) ∷ [])
     (codes "zarr_format") (number_data 2) (put_rows (group_v2_rows m) no_members) [] o0 (string_bytes c.write_last.new.out) (o1 ∷ [])
     c.in_ok-out.ensures
-    ((c.in_ok-write_unless.ensures (plain_group_v2 m plain).0 ∙ ap (λ b. o0 ++ row_text (codes "attributes") (unless b (object m.attributes))) c.is_empty-empty.ensures)
+    ((c.in_ok-write_unless.ensures.ok (plain_group_v2 m plain).0 ∙ ap (λ b. o0 ++ row_text (codes "attributes") (unless b (object m.attributes))) c.is_empty-empty.ensures)
     ◂ tt)
-    (c.in_ok-write_last.ensures refl) (group_v2_sorted attributes)
+    (c.in_ok-write_last.ensures.ok refl) (group_v2_sorted attributes)

@@ -20,7 +20,7 @@ returns c = λ plain.
     table_written ((codes "attributes", attributes) ∷ (codes "node_type", Some (string (codes "group"))) ∷ [])
     (codes "zarr_format") (number_data 3) (put_rows (group_v3_rows m) no_members) [] o0 (string_bytes c.write_last.new.out) (o1 ∷ o2 ∷ [])
     c.in_ok-out.ensures
-    ((c.in_ok-write_unless.ensures (plain_group_v3 m plain).0 ∙ ap (λ b. o0 ++ row_text (codes "attributes") (unless b (object m.attributes))) c.is_empty-empty.ensures)
-    ◂ (c.in_ok-write_row.ensures refl ∙ ap (λ k. o1 ++ row_text (codes "node_type") (Some (string k))) c.in_ok-kind.ensures)
+    ((c.in_ok-write_unless.ensures.ok (plain_group_v3 m plain).0 ∙ ap (λ b. o0 ++ row_text (codes "attributes") (unless b (object m.attributes))) c.is_empty-empty.ensures)
+    ◂ (c.in_ok-write_row.ensures.ok refl ∙ ap (λ k. o1 ++ row_text (codes "node_type") (Some (string k))) c.in_ok-kind.ensures)
     ◂ tt)
-    (c.in_ok-write_last.ensures refl) (group_v3_sorted attributes)
+    (c.in_ok-write_last.ensures.ok refl) (group_v3_sorted attributes)
