@@ -1,0 +1,5 @@
+use Rattle.zarrs_convert.proofs.PlainConversions as plain
+use Rattle.zarrs_convert.proofs.laws.converted_array_is_plain.Goals as goal
+
+pub returns : goal.returns
+returns c = plain.converted_array_is_plain
