@@ -1,9 +1,19 @@
-//! Why a node was not made: the refusals that reading, listing and building nodes share.
+//! The consolidated block of a group, which holds the metadata of the nodes below it: read, written, chosen in place of a listing, and
+//! expanded to paths. And why a node was not made: the refusals that reading, listing and building nodes share.
 #![tactic(auto)]
 
+mod consolidated;
+mod expand;
+pub mod laws;
 mod node_create_error;
+mod policy;
 
+pub use consolidated::{ConsolidatedMetadata, ConsolidatedMetadataMetadata};
+pub use expand::expand_consolidated_metadata;
 pub use node_create_error::NodeCreateError;
+pub use policy::{
+    consolidated_metadata_for_open, consolidated_metadata_of, resolve_consolidated_policy,
+};
 
 #[cfg(test)]
 mod tests;

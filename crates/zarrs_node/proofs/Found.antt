@@ -11,7 +11,7 @@ use Rattle.zarrs_config.specs.declared.version.MetadataRetrieveVersion.{Metadata
 use Rattle.zarrs_node.specs.Meaning.{meaning, node, nothing, bad}
 use Rattle.zarrs_node.specs.Reached.{Reached, Opens}
 use Rattle.zarrs_node.specs.Forest.{Forest, Shows, pairs}
-use Rattle.zarrs_node.specs.Nodes.{Nodes, Ignored, Bad}
+use Rattle.zarrs_node.specs.Nodes.{Meant, Nodes, Ignored, Bad}
 use Rattle.zarrs_node.proofs.Graft.{Contains-first, Contains-cons}
 
 module _ {A : Type 0} (R : A → A → Type 0) where
@@ -53,7 +53,7 @@ module _ (s : Contents) (v : MetadataRetrieveVersion) (r : Bool) where
     pub passed : (p : Path) → Contains ignored p ↔ (D p × (meaning s v p ≡ nothing) × HasBelow s p)
     pub passed_once : AllPairs (λ x y. x ≢ y) ignored
     pub no_bad : (p : Path) (e : NodeCreateError) → D p → meaning s v p ≡ bad e → ⊥
-    pub no_name : (p : Path) (n : List ℕ) → D p → Opens s v r p → IsTrue (is_all_periods n) → HasBelow s (p ++ n ∷ []) → ⊥
+    pub no_name : (p : Path) (n : List ℕ) → D p → Opens (Meant s v) r p → IsTrue (is_all_periods n) → HasBelow s (p ++ n ∷ []) → ⊥
 
   -- over no paths nothing is found
   pub found_none : (D : Path → Type 0) → ((p : Path) → D p → ⊥) → Found D [] []
@@ -95,7 +95,7 @@ module _ (s : Contents) (v : MetadataRetrieveVersion) (r : Bool) where
   }
 
   -- what the contract of a listing says of the paths below its base
-  pub found_listed : (b : Path) (f : Forest) (ig : List Path) → Shows f b (Nodes s v r b) → Lists (Ignored s v r b) ig → (Bad s v r b → ⊥) → Found (Reached s v r b) (pairs f) ig
+  pub found_listed : (b : Path) (f : Forest) (ig : List Path) → Shows f b (Nodes s v r b) → Lists (Ignored s v r b) ig → (Bad s v r b → ⊥) → Found (Reached (Meant s v) r b) (pairs f) ig
   found_listed b f ig shows lists clean = record {
     nodes = listed_each shows.shown;
     once = shows.shown.each_once;

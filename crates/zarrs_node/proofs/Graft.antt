@@ -9,8 +9,9 @@ use Rattle.zarrs_path.specs.Paths.{Path, path_cmp}
 use Rattle.zarrs_store.specs.Segments.{bytes_cmp}
 use Rattle.zarrs_meta.specs.declared.node.NodeMetadata.{NodeMetadata}
 use Rattle.zarrs_node.specs.declared.node.Node.{Node}
-use Rattle.zarrs_node.specs.declared.node.Node.TheViews.{out-Node}
-use Rattle.zarrs_node.specs.declared.node.Node.TheFolds.{fold_out-Node}
+use Rattle.zarrs_node.specs.declared.node.Node.TheOpen.{Node-F}
+use Rattle.zarrs_node.specs.declared.node.Node.TheViews.{out-Node, roll-Node}
+use Rattle.zarrs_node.specs.declared.node.Node.TheFolds.{fold-roll-Node, fold_out-Node}
 use Rattle.zarrs_node.specs.Forest.{graft, Forest, none, tree, pairs, IsBefore, IsPlaced, plant_step, plant, forest}
 
 -- the pairs of two forests in a row are those of the first and then those of the second
@@ -66,3 +67,7 @@ forest_push (n ∷ ns) x =
 -- two paths below one base have the same first name beyond it where they are the same
 pub head_name : (b : Path) (m n : List ℕ) (ms ns : Path) → b ++ m ∷ ms ≡ b ++ n ∷ ns → m ≡ n
 head_name b m n ms ns e = ap (λ l. get_or l 0 m) (append_cancel_left b (m ∷ ms) (n ∷ ns) e)
+
+-- the tree of a node by its fields, in front of the trees after it
+pub plant_roll : (x : Node-F Node) (after : Forest) → plant (roll-Node x) after ≡ tree x.path x.metadata (forest x.children.items) after
+plant_roll x after = ap (λ f. f after) (fold-roll-Node (Forest → Forest) plant_step x)

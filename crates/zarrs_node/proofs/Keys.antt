@@ -6,8 +6,9 @@ use Rattle.zarrs_path.specs.Paths.{Path}
 use Rattle.zarrs_path.specs.Keys.{zarr_json, zarray, zgroup}
 use Rattle.zarrs_config.specs.declared.version.MetadataRetrieveVersion.{MetadataRetrieveVersion}
 use Rattle.zarrs_config.specs.declared.version.MetadataRetrieveVersion.TheVariants.{Default, V3, V2}
-use Rattle.zarrs_node.specs.Meaning.{Meaning, meaning, nothing, attributes_at, line_1, line_2, line_3}
-use Rattle.zarrs_node.proofs.Meanings.{document_none, line_1_is, line_2_is, line_3_is, default_is, v3_is, v2_is}
+use Rattle.zarrs_node.specs.Meaning.{in_bytes, Meaning, meaning, nothing, attributes_at, zarr_json_line, zarray_line, zgroup_line}
+use Rattle.zarrs_node.proofs.Meanings.{document_none, zarr_json_line_is, zarray_line_is, zgroup_line_is, default_is, v3_is, v2_is}
+use Rattle.zarrs_node.specs.Nodes.{Meant}
 use Rattle.zarrs_node.proofs.Reach.{Through}
 
 -- a line says nothing of a path with no key below it
@@ -15,19 +16,19 @@ abbrev Skips : Contents → Path → (Meaning → Meaning) → Type 0
 Skips s p line = HasBelow s p ⊎ ((after : Meaning) → line after ≡ after)
 
 -- `zarr.json` says nothing of a path with no key below it
-skips_1 : (s : Contents) (p : Path) → Skips s p (line_1 s p)
-skips_1 s p = ⊎_elim inl (λ none. inr (line_1_is s p _ refl (Ok None) (document_none _ s _ none))) (key_or_none s p zarr_json)
+skips_1 : (s : Contents) (p : Path) → Skips s p (zarr_json_line in_bytes s p)
+skips_1 s p = ⊎_elim inl (λ none. inr (zarr_json_line_is s p _ refl (Ok None) (document_none _ s _ none))) (key_or_none s p zarr_json)
 
 -- `.zarray` says nothing of a path with no key below it
-skips_2 : (s : Contents) (p : Path) → Skips s p (line_2 s p)
-skips_2 s p = ⊎_elim inl (λ none. inr (line_2_is s p _ refl (Ok None) (document_none _ s _ none) (attributes_at s p) refl)) (key_or_none s p zarray)
+skips_2 : (s : Contents) (p : Path) → Skips s p (zarray_line in_bytes s p)
+skips_2 s p = ⊎_elim inl (λ none. inr (zarray_line_is s p _ refl (Ok None) (document_none _ s _ none) (attributes_at s p) refl)) (key_or_none s p zarray)
 
 -- `.zgroup` says nothing of a path with no key below it
-skips_3 : (s : Contents) (p : Path) → Skips s p (line_3 s p)
-skips_3 s p = ⊎_elim inl (λ none. inr (line_3_is s p _ refl (Ok None) (document_none _ s _ none) (attributes_at s p) refl)) (key_or_none s p zgroup)
+skips_3 : (s : Contents) (p : Path) → Skips s p (zgroup_line in_bytes s p)
+skips_3 s p = ⊎_elim inl (λ none. inr (zgroup_line_is s p _ refl (Ok None) (document_none _ s _ none) (attributes_at s p) refl)) (key_or_none s p zgroup)
 
 -- the version 2 documents say nothing of a path with no key below it
-skips_23 : (s : Contents) (p : Path) → HasBelow s p ⊎ (line_2 s p (line_3 s p nothing) ≡ nothing)
+skips_23 : (s : Contents) (p : Path) → HasBelow s p ⊎ (zarray_line in_bytes s p (zgroup_line in_bytes s p nothing) ≡ nothing)
 skips_23 s p = ⊎_elim inl (λ two. ⊎_elim inl (λ three. inr (two _ ∙ three nothing)) (skips_3 s p)) (skips_2 s p)
 
 -- a path with no key below it means nothing
@@ -37,7 +38,7 @@ means_or_nothing s V3 p = ⊎_elim inl (λ one. inr (v3_is s p ∙ one nothing))
 means_or_nothing s V2 p = ⊎_elim inl (λ rest. inr (v2_is s p ∙ rest)) (skips_23 s p)
 
 -- a key below p is below c too
-pub below_through : (s : Contents) (v : MetadataRetrieveVersion) (r : Bool) (c p : Path) → Through s v r c p → HasBelow s p → HasBelow s c
+pub below_through : (s : Contents) (v : MetadataRetrieveVersion) (r : Bool) (c p : Path) → Through (Meant s v) r c p → HasBelow s p → HasBelow s c
 below_through s v r c p t (n, ns, there) = elim t as (λ _. HasBelow s c) [
   | inl e ↦ (n, ns, subst (λ x. HasKey s (x ++ n ∷ ns)) e there)
   | inr (open', h) ↦ (h.below.0, h.below.1 ++ n ∷ ns, subst (λ k. HasKey s k) (ap (λ x. x ++ n ∷ ns) h.below.2 ∙ append_assoc c (h.below.0 ∷ h.below.1) (n ∷ ns)) there)

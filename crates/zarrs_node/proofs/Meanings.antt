@@ -4,14 +4,14 @@ use Rattle.std.specs.FinMap.{get}
 use Rattle.zarrs_store.specs.Segments.{Segments}
 use Rattle.zarrs_store.specs.Contents.{Contents}
 use Rattle.zarrs_store.specs.declared.fault.MetadataFault.{MetadataFault}
-use Rattle.zarrs_store.specs.declared.fault.MetadataFault.TheVariants.{NotJson, UnsupportedNumber, NotAnObject, WrongFormat, WrongNodeType, MissingMember, BadMember, OutOfMemory}
+use Rattle.zarrs_store.specs.declared.storage_error.StorageError.{StorageError}
+use Rattle.zarrs_store.specs.declared.storage_error.StorageError.TheVariants.{Fault, InvalidMetadata, Other, OutOfMemory}
 use Rattle.zarrs_path.specs.Paths.{Path}
-use Rattle.zarrs_path.specs.Keys.{zarr_json, zarray, zgroup, zattrs}
-use Rattle.zarrs_form.specs.Documents.{of_bytes, Refuses}
+use Rattle.zarrs_path.specs.Keys.{zarr_json, zarray, zgroup}
+use Rattle.zarrs_form.specs.Documents.{of_bytes}
 use Rattle.zarrs_meta.specs.ArrayV2.{array_v2_of}
 use Rattle.zarrs_meta.specs.GroupV2.{group_v2_of}
 use Rattle.zarrs_meta.specs.Node.{zarr_json_of, array_with, group_with}
-use Rattle.zarrs_meta.specs.Attributes.{attributes_of}
 use Rattle.zarrs_meta.specs.declared.array_v2.ArrayMetadataV2.{ArrayMetadataV2}
 use Rattle.zarrs_meta.specs.declared.group_v2.GroupMetadataV2.{GroupMetadataV2}
 use Rattle.zarrs_meta.specs.declared.attributes.AttributesDocument.{AttributesDocument}
@@ -21,10 +21,11 @@ use Rattle.zarrs_meta.specs.declared.node.NodeMetadata.{NodeMetadata}
 use Rattle.zarrs_meta.specs.declared.node.NodeMetadata.TheVariants.{Group, Array}
 use Rattle.zarrs_meta.specs.declared.node.ZarrJson.{ZarrJson}
 use Rattle.zarrs_block.specs.declared.node_create_error.NodeCreateError.{NodeCreateError}
+use Rattle.zarrs_block.specs.declared.node_create_error.NodeCreateError.TheVariants.{StorageError as InStore}
 use Rattle.zarrs_config.specs.declared.version.MetadataRetrieveVersion.TheVariants.{Default, V3, V2}
-use Rattle.zarrs_node.specs.Meaning.{Meaning, meaning, node, nothing, named, document_from, document_at, attributes_at, zarr_json_line, version_2_line, line_1, line_2, line_3}
+use Rattle.zarrs_node.specs.Meaning.{in_bytes, Meaning, meaning, meaning_in, node, nothing, document_from, document_at, attributes_at, version_3_line, version_2_line, zarr_json_line, zarray_line, zgroup_line}
 use Rattle.zarrs_block.specs.Refused.{IsExcused}
-use Rattle.zarrs_node.specs.Refused.{refusal_at, FollowsLine, Finds}
+use Rattle.zarrs_node.specs.Refused.{RefusesReading, FollowsLine, Finds}
 
 -- an option that is no value is none
 pub none_of : {A : Type 0} (o : Option A) → ((x : A) → o ≡ Some x → ⊥) → o ≡ None
@@ -37,62 +38,48 @@ module _ {D : Type 0} (reading : List ℕ → Result D MetadataFault) (s : Conte
   unfolding document_at
   document_none absent = ap (document_from reading k) (sym absent)
 
-  -- bytes that read as a document are that document
-  pub document_ok : (bytes : List ℕ) (d : D) → Some bytes ≡ get s k → reading bytes ≡ Ok d → document_at reading s k ≡ Ok (Some d)
-  unfolding document_at
-  document_ok bytes d found read = ap (document_from reading k) (sym found) ∙ ap (named k) read
-
-  -- bytes that read with a fault are refused with it
-  pub document_err : (can_fail : Bool) (bytes : List ℕ) (fault : MetadataFault) → Some bytes ≡ get s k → Refuses fault (reading bytes) → IsExcused can_fail (refusal_at k fault) ⊎ (document_at reading s k ≡ Err (refusal_at k fault))
-  unfolding document_at
-  document_err f bytes OutOfMemory found refused = inl tt
-  document_err f bytes NotJson found refused = inr (ap (document_from reading k) (sym found) ∙ ap (named k) refused)
-  document_err f bytes UnsupportedNumber found refused = inr (ap (document_from reading k) (sym found) ∙ ap (named k) refused)
-  document_err f bytes NotAnObject found refused = inr (ap (document_from reading k) (sym found) ∙ ap (named k) refused)
-  document_err f bytes WrongFormat found refused = inr (ap (document_from reading k) (sym found) ∙ ap (named k) refused)
-  document_err f bytes WrongNodeType found refused = inr (ap (document_from reading k) (sym found) ∙ ap (named k) refused)
-  document_err f bytes (MissingMember n) found refused = inr (ap (document_from reading k) (sym found) ∙ ap (named k) refused)
-  document_err f bytes (BadMember n) found refused = inr (ap (document_from reading k) (sym found) ∙ ap (named k) refused)
+-- the refusal of a reading is that of a node: it is excused, or what the reading refuses
+pub reading_refused : {D : Type 0} (can_fail : Bool) (reading : Result D StorageError) (e : StorageError) → RefusesReading can_fail reading e → IsExcused can_fail (InStore e) ⊎ (reading ≡ Err e)
+reading_refused can_fail reading Fault refused = inl refused
+reading_refused can_fail reading (InvalidMetadata key fault) refused = inr refused
+reading_refused can_fail reading (Other text) refused = absurd refused
+reading_refused can_fail reading OutOfMemory refused = inl tt
 
 module _ (s : Contents) (p : Path) (k : Segments) where
   -- what `zarr.json` says, by the document at its key
-  pub line_1_is : k ≡ p ++ zarr_json ∷ [] → (r : Result (Option ZarrJson) NodeCreateError) → document_at (of_bytes zarr_json_of) s k ≡ r → (after : Meaning) → line_1 s p after ≡ zarr_json_line r after
-  unfolding line_1
-  line_1_is is r e after = ap (λ x. zarr_json_line x after) (ap (document_at (of_bytes zarr_json_of) s) (sym is) ∙ e)
+  pub zarr_json_line_is : k ≡ p ++ zarr_json ∷ [] → (r : Result (Option ZarrJson) StorageError) → document_at (of_bytes zarr_json_of) s k ≡ r → (after : Meaning) → zarr_json_line in_bytes s p after ≡ version_3_line r after
+  unfolding zarr_json_line
+  zarr_json_line_is is r e after = ap (λ x. version_3_line x after) (ap (document_at (of_bytes zarr_json_of) s) (sym is) ∙ e)
 
   -- what `.zarray` says, by the documents at its key and at that of the attributes
-  pub line_2_is : k ≡ p ++ zarray ∷ [] → (r : Result (Option ArrayMetadataV2) NodeCreateError) → document_at (of_bytes array_v2_of) s k ≡ r
-      → (z : Result (Option AttributesDocument) NodeCreateError) → attributes_at s p ≡ z → (after : Meaning) → line_2 s p after ≡ version_2_line (λ m. Array (array_v2 m)) array_with r z after
-  unfolding line_2
-  line_2_is is r e z f after =
+  pub zarray_line_is : k ≡ p ++ zarray ∷ [] → (r : Result (Option ArrayMetadataV2) StorageError) → document_at (of_bytes array_v2_of) s k ≡ r
+      → (z : Result (Option AttributesDocument) StorageError) → attributes_at s p ≡ z → (after : Meaning) → zarray_line in_bytes s p after ≡ version_2_line (λ m. Array (array_v2 m)) array_with r z after
+  unfolding zarray_line
+  zarray_line_is is r e z f after =
       ap (λ x. version_2_line (λ m. Array (array_v2 m)) array_with x (attributes_at s p) after) (ap (document_at (of_bytes array_v2_of) s) (sym is) ∙ e)
       ∙ ap (λ x. version_2_line (λ m. Array (array_v2 m)) array_with r x after) f
 
   -- what `.zgroup` says, by the documents at its key and at that of the attributes
-  pub line_3_is : k ≡ p ++ zgroup ∷ [] → (r : Result (Option GroupMetadataV2) NodeCreateError) → document_at (of_bytes group_v2_of) s k ≡ r
-      → (z : Result (Option AttributesDocument) NodeCreateError) → attributes_at s p ≡ z → (after : Meaning) → line_3 s p after ≡ version_2_line (λ m. Group (group_v2 m)) group_with r z after
-  unfolding line_3
-  line_3_is is r e z f after =
+  pub zgroup_line_is : k ≡ p ++ zgroup ∷ [] → (r : Result (Option GroupMetadataV2) StorageError) → document_at (of_bytes group_v2_of) s k ≡ r
+      → (z : Result (Option AttributesDocument) StorageError) → attributes_at s p ≡ z → (after : Meaning) → zgroup_line in_bytes s p after ≡ version_2_line (λ m. Group (group_v2 m)) group_with r z after
+  unfolding zgroup_line
+  zgroup_line_is is r e z f after =
       ap (λ x. version_2_line (λ m. Group (group_v2 m)) group_with x (attributes_at s p) after) (ap (document_at (of_bytes group_v2_of) s) (sym is) ∙ e)
       ∙ ap (λ x. version_2_line (λ m. Group (group_v2 m)) group_with r x after) f
 
-  -- the attributes of a path, by the document at their key
-  pub attributes_is : k ≡ p ++ zattrs ∷ [] → (z : Result (Option AttributesDocument) NodeCreateError) → document_at (of_bytes attributes_of) s k ≡ z → attributes_at s p ≡ z
-  attributes_is is z e = ap (document_at (of_bytes attributes_of) s) (sym is) ∙ e
-
 -- the version Default asks all documents
-pub default_is : (s : Contents) (p : Path) → meaning s Default p ≡ line_1 s p (line_2 s p (line_3 s p nothing))
-unfolding meaning
+pub default_is : (s : Contents) (p : Path) → meaning s Default p ≡ zarr_json_line in_bytes s p (zarray_line in_bytes s p (zgroup_line in_bytes s p nothing))
+unfolding meaning_in
 default_is s p = refl
 
 -- the version V3 asks `zarr.json` alone
-pub v3_is : (s : Contents) (p : Path) → meaning s V3 p ≡ line_1 s p nothing
-unfolding meaning
+pub v3_is : (s : Contents) (p : Path) → meaning s V3 p ≡ zarr_json_line in_bytes s p nothing
+unfolding meaning_in
 v3_is s p = refl
 
 -- the version V2 asks `.zarray` and `.zgroup`
-pub v2_is : (s : Contents) (p : Path) → meaning s V2 p ≡ line_2 s p (line_3 s p nothing)
-unfolding meaning
+pub v2_is : (s : Contents) (p : Path) → meaning s V2 p ≡ zarray_line in_bytes s p (zgroup_line in_bytes s p nothing)
+unfolding meaning_in
 v2_is s p = refl
 
 -- an answer that follows the only lines of a version is the meaning

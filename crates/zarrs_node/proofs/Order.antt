@@ -16,7 +16,7 @@ pub contains_cases : {A : Type 0} (x : A) (xs : List A) (y : A) → Contains (x 
 contains_cases x xs y h = ⊎_elim (λ one. ⊎_elim (λ none. absurd (omega (arith, none.1))) inl (Contains-push_cases [] x y one)) inr (Contains-append_cases (x ∷ []) xs y h)
 
 -- one pair ascends
-one_ascends : (e : Path × NodeMetadata) → Ascend (e ∷ [])
+pub one_ascends : (e : Path × NodeMetadata) → Ascend (e ∷ [])
 one_ascends e i j d l m = absurd (omega (arith, l, m))
 
 -- p ≡ b ++ k ∷ ks with its parts

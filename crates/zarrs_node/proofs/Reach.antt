@@ -1,15 +1,14 @@
 -- What is reached from a base is reached through one child of it.
-use Rattle.zarrs_config.specs.declared.version.MetadataRetrieveVersion.{MetadataRetrieveVersion}
+use Rattle.zarrs_meta.specs.declared.node.NodeMetadata.{NodeMetadata}
 use Rattle.std.proofs.Common.{◌≡◌, ℕ, Bool, List, [], ◌∷◌, ◌++◌, length, drop, get_or, refl, sym, ap, subst, ◌∙◌, ◌⊎◌, inl, inr, append_assoc, arith, length-append}
 use Rattle.std.proofs.lemmas.List.{append_cancel_left}
 use Rattle.zarrs_path.specs.Paths.{Path, IsPath, IsBelow}
 use Rattle.zarrs_path.proofs.NameLemmas.{IsName, name_head, name_tail, name_cons, name_one}
-use Rattle.zarrs_store.specs.Contents.{Contents}
 use Rattle.zarrs_node.specs.Reached.{Opens, Reached}
 
 -- p is c, or is reached from c, below which the listing goes on
-abbrev pub Through : Contents → MetadataRetrieveVersion → Bool → Path → Path → Type 0
-Through s v r c p = (p ≡ c) ⊎ (Opens s v r c × Reached s v r c p)
+abbrev pub Through : (Path × NodeMetadata → Type 0) → Bool → Path → Path → Type 0
+Through N r c p = (p ≡ c) ⊎ (Opens N r c × Reached N r c p)
 
 -- equal lists have the same first name
 pub head_same : (m n : List ℕ) (ms ns : Path) → m ∷ ms ≡ n ∷ ns → m ≡ n
@@ -31,9 +30,9 @@ no_room b ks js n k j e =
 pub below_deeper : (b q : Path) (n : List ℕ) → IsBelow (b ++ n ∷ []) q → IsBelow b q
 below_deeper b q n (m, ms, e) = (n, m ∷ ms, e ∙ append_assoc b (n ∷ []) (m ∷ ms))
 
-module _ (s : Contents) (v : MetadataRetrieveVersion) (r : Bool) where
+module _ (N : Path × NodeMetadata → Type 0) (r : Bool) where
   -- a path below a base is its child on the way, or is reached from that child
-  first_of : (b p : Path) (n : List ℕ) (ns : Path) → p ≡ b ++ n ∷ ns → IsPath (n ∷ ns) → ((q : Path) → IsBelow b q → IsBelow q p → Opens s v r q) → Through s v r (b ++ n ∷ []) p
+  first_of : (b p : Path) (n : List ℕ) (ns : Path) → p ≡ b ++ n ∷ ns → IsPath (n ∷ ns) → ((q : Path) → IsBelow b q → IsBelow q p → Opens N r q) → Through N r (b ++ n ∷ []) p
   first_of b p n [] e names between = inl e
   first_of b p n (m ∷ ms) e names between =
       let deeper = e ∙ sym (append_assoc b (n ∷ []) (m ∷ ms)) in
@@ -46,26 +45,26 @@ module _ (s : Contents) (v : MetadataRetrieveVersion) (r : Bool) where
       )
 
   -- what is reached is reached through the child of its first name
-  pub reached_first : (b p : Path) → Reached s v r b p → (n : List ℕ) × IsName n × Through s v r (b ++ n ∷ []) p
+  pub reached_first : (b p : Path) → Reached N r b p → (n : List ℕ) × IsName n × Through N r (b ++ n ∷ []) p
   reached_first b p h = (h.below.0, name_head h.below.0 h.below.1 h.below.3, first_of b p h.below.0 h.below.1 h.below.2 h.below.3 h.between)
 
   -- q stands between b and p, and p begins with b and n
-  through_between : (b p q : Path) (n m : List ℕ) (ms : Path) → p ≡ (b ++ n ∷ []) ++ m ∷ ms → Opens s v r (b ++ n ∷ []) → Reached s v r (b ++ n ∷ []) p
-      → (k : List ℕ) (ks : Path) → q ≡ b ++ k ∷ ks → (j : List ℕ) (js : Path) → p ≡ q ++ j ∷ js → Opens s v r q
+  through_between : (b p q : Path) (n m : List ℕ) (ms : Path) → p ≡ (b ++ n ∷ []) ++ m ∷ ms → Opens N r (b ++ n ∷ []) → Reached N r (b ++ n ∷ []) p
+      → (k : List ℕ) (ks : Path) → q ≡ b ++ k ∷ ks → (j : List ℕ) (js : Path) → p ≡ q ++ j ∷ js → Opens N r q
   through_between b p q n m ms e open' h k ks is j js up =
       let joined = sym (append_assoc b (n ∷ []) (m ∷ ms)) ∙ sym e ∙ up ∙ ap (λ x. x ++ j ∷ js) is ∙ append_assoc b (k ∷ ks) (j ∷ js) in
       let cut = append_cancel_left b (n ∷ m ∷ ms) ((k ∷ ks) ++ j ∷ js) joined in
       let same = head_same _ _ _ _ cut in
       through_split b p q n open' h k ks is j js up same
     where
-      through_split : (b p q : Path) (n : List ℕ) → Opens s v r (b ++ n ∷ []) → Reached s v r (b ++ n ∷ []) p → (k : List ℕ) (ks : Path) → q ≡ b ++ k ∷ ks → (j : List ℕ) (js : Path) → p ≡ q ++ j ∷ js → n ≡ k → Opens s v r q
-      through_split b p q n open' h k [] is j js up same = subst (Opens s v r) (ap (λ x. b ++ x ∷ []) same ∙ sym is) open'
+      through_split : (b p q : Path) (n : List ℕ) → Opens N r (b ++ n ∷ []) → Reached N r (b ++ n ∷ []) p → (k : List ℕ) (ks : Path) → q ≡ b ++ k ∷ ks → (j : List ℕ) (js : Path) → p ≡ q ++ j ∷ js → n ≡ k → Opens N r q
+      through_split b p q n open' h k [] is j js up same = subst (Opens N r) (ap (λ x. b ++ x ∷ []) same ∙ sym is) open'
       through_split b p q n open' h k (l ∷ ls) is j js up same =
           h.between q (l, ls, is ∙ ap (λ x. b ++ x ∷ l ∷ ls) (sym same) ∙ sym (append_assoc b (n ∷ []) (l ∷ ls))) (j, js, up)
 
   -- what is a child, or is reached from one that is listed, is reached
-  pub reached_through : (b p : Path) (n : List ℕ) → IsName n → Through s v r (b ++ n ∷ []) p → Reached s v r b p
-  reached_through b p n name t = elim t as (λ _. Reached s v r b p) [
+  pub reached_through : (b p : Path) (n : List ℕ) → IsName n → Through N r (b ++ n ∷ []) p → Reached N r b p
+  reached_through b p n name t = elim t as (λ _. Reached N r b p) [
     | inl e ↦ record {
       below = (n, [], e, name_one n name);
       between = λ q low up. absurd (no_room b low.1 up.1 n low.0 up.0 (sym e ∙ up.2 ∙ ap (λ x. x ++ up.0 ∷ up.1) low.2));
@@ -77,21 +76,21 @@ module _ (s : Contents) (v : MetadataRetrieveVersion) (r : Bool) where
   ]
 
   -- what is reached through n begins with b and n
-  pub through_begins : (b p : Path) (n : List ℕ) → Through s v r (b ++ n ∷ []) p → (ns : Path) × (p ≡ b ++ n ∷ ns)
+  pub through_begins : (b p : Path) (n : List ℕ) → Through N r (b ++ n ∷ []) p → (ns : Path) × (p ≡ b ++ n ∷ ns)
   through_begins b p n t = elim t as (λ _. (ns : Path) × (p ≡ b ++ n ∷ ns)) [
     | inl e ↦ ([], e)
     | inr (open', h) ↦ (h.below.0 ∷ h.below.1, h.below.2 ∙ append_assoc b (n ∷ []) (h.below.0 ∷ h.below.1))
   ]
 
   -- and so through no other name
-  pub through_one : (b p : Path) (m n : List ℕ) → Through s v r (b ++ m ∷ []) p → Through s v r (b ++ n ∷ []) p → m ≡ n
+  pub through_one : (b p : Path) (m n : List ℕ) → Through N r (b ++ m ∷ []) p → Through N r (b ++ n ∷ []) p → m ≡ n
   through_one b p m n t u =
       let (ms, e) = through_begins b p m t in
       let (ns, f) = through_begins b p n u in
       head_same _ _ _ _ (append_cancel_left b (m ∷ ms) (n ∷ ns) (sym e ∙ f))
 
   -- c itself is not reached from c
-  pub not_itself : (c : Path) → Reached s v r c c → ⊥
+  pub not_itself : (c : Path) → Reached N r c c → ⊥
   not_itself c h =
       let long = ap length h.below.2 in
       let more = length-append c (h.below.0 ∷ h.below.1) in

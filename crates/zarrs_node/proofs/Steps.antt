@@ -14,10 +14,10 @@ use Rattle.zarrs_store.specs.Contents.{Contents, HasBelow, Lists}
 use Rattle.zarrs_store.proofs.Below.{IsChildren}
 use Rattle.zarrs_store.specs.Segments.{bytes_cmp}
 use Rattle.zarrs_meta.specs.declared.node.NodeMetadata.{NodeMetadata}
-use Rattle.zarrs_node.specs.Meaning.{meaning, nothing, is_group_node}
+use Rattle.zarrs_node.specs.Meaning.{meaning, nothing}
 use Rattle.zarrs_node.specs.Reached.{Reached}
 use Rattle.zarrs_node.specs.Forest.{graft, Forest, none, tree, Shows, pairs, IsPlaced, MayHold}
-use Rattle.zarrs_node.specs.Nodes.{Nodes, Ignored, Bad}
+use Rattle.zarrs_node.specs.Nodes.{Meant, Nodes, Ignored, Bad}
 use Rattle.zarrs_node.proofs.Reach.{Through, reached_first, reached_through, through_one, through_begins}
 use Rattle.zarrs_node.proofs.Keys.{means_or_nothing, below_through}
 use Rattle.zarrs_node.proofs.Graft.{pairs-graft, placed_graft, sibling_less, head_name}
@@ -26,7 +26,7 @@ use Rattle.zarrs_node.proofs.Child.{IsNode, IsBad}
 
 -- p is reached through one of the names
 abbrev pub Via : Contents → MetadataRetrieveVersion → Bool → Path → Path → Path → Type 0
-Via s v r b ns p = (n : List ℕ) × Contains ns n × Through s v r (b ++ n ∷ []) p
+Via s v r b ns p = (n : List ℕ) × Contains ns n × Through (Meant s v) r (b ++ n ∷ []) p
 
 -- what stands after the children named ns
 pub record Progress (s : Contents) (v : MetadataRetrieveVersion) (r : Bool) (b ns : Path) (f : Forest) (ig : List Path) : Type 0 where
@@ -76,10 +76,10 @@ module _ (s : Contents) (v : MetadataRetrieveVersion) (r : Bool) (b : Path) wher
   }
 
   -- what is reached through some names and one more
-  via_more : (ns : Path) (n : List ℕ) (p : Path) → (Via s v r b ns p ⊎ Through s v r (b ++ n ∷ []) p) ↔ Via s v r b (ns ++ n ∷ []) p
+  via_more : (ns : Path) (n : List ℕ) (p : Path) → (Via s v r b ns p ⊎ Through (Meant s v) r (b ++ n ∷ []) p) ↔ Via s v r b (ns ++ n ∷ []) p
   via_more ns n p = (
     ⊎_elim (λ h. (h.0, Contains-append_left ns (n ∷ []) h.0 h.1, h.2)) (λ h. (n, Contains-push ns n, h)),
-    λ h. ⊎_elim (λ in'. inl (h.0, in', h.2)) (λ e. inr (subst (λ x. Through s v r (b ++ x ∷ []) p) (sym e) h.2)) (Contains-push_cases ns n h.0 h.1),
+    λ h. ⊎_elim (λ in'. inl (h.0, in', h.2)) (λ e. inr (subst (λ x. Through (Meant s v) r (b ++ x ∷ []) p) (sym e) h.2)) (Contains-push_cases ns n h.0 h.1),
   )
 
   -- all of some names and one more are names
@@ -87,13 +87,13 @@ module _ (s : Contents) (v : MetadataRetrieveVersion) (r : Bool) (b : Path) wher
   named_more ns n all this m h = ⊎_elim (λ in'. all m in') (λ e. subst IsName e this) (Contains-push_cases ns n m h)
 
   -- what is found through some children and one more
-  found_more : (ns : Path) (n : List ℕ) (xs ys : List (Path × NodeMetadata)) (ig jg : List Path) → NextName ns n → Found s v r (Via s v r b ns) xs ig → Found s v r (Through s v r (b ++ n ∷ [])) ys jg → Found s v r (Via s v r b (ns ++ n ∷ [])) (xs ++ ys) (ig ++ jg)
+  found_more : (ns : Path) (n : List ℕ) (xs ys : List (Path × NodeMetadata)) (ig jg : List Path) → NextName ns n → Found s v r (Via s v r b ns) xs ig → Found s v r (Through (Meant s v) r (b ++ n ∷ [])) ys jg → Found s v r (Via s v r b (ns ++ n ∷ [])) (xs ++ ys) (ig ++ jg)
   found_more ns n xs ys ig jg next f g = found_same s v r _ _ (xs ++ ys) (ig ++ jg) (via_more ns n)
-      (found_append s v r (Via s v r b ns) (Through s v r (b ++ n ∷ [])) xs ys ig jg
-      (λ p h t. name_irrefl n (subst (λ x. bytes_cmp x n ≡ Less) (through_one s v r b p h.0 n h.2 t) (next.later h.0 h.1))) f g)
+      (found_append s v r (Via s v r b ns) (Through (Meant s v) r (b ++ n ∷ [])) xs ys ig jg
+      (λ p h t. name_irrefl n (subst (λ x. bytes_cmp x n ≡ Less) (through_one (Meant s v) r b p h.0 n h.2 t) (next.later h.0 h.1))) f g)
 
   -- a turn that passes a child over
-  pub progress_passed : (ns : Path) (n : List ℕ) (f : Forest) (ig jg : List Path) → NextName ns n → IsName n → Progress s v r b ns f ig → Found s v r (Through s v r (b ++ n ∷ [])) [] jg → Progress s v r b (ns ++ n ∷ []) f (ig ++ jg)
+  pub progress_passed : (ns : Path) (n : List ℕ) (f : Forest) (ig jg : List Path) → NextName ns n → IsName n → Progress s v r b ns f ig → Found s v r (Through (Meant s v) r (b ++ n ∷ [])) [] jg → Progress s v r b (ns ++ n ∷ []) f (ig ++ jg)
   progress_passed ns n f ig jg next name p g = record {
     placed = p.placed;
     found = subst (λ xs. Found s v r (Via s v r b (ns ++ n ∷ [])) xs (ig ++ jg)) (append-nil (pairs f)) (found_more ns n (pairs f) [] ig jg next p.found g);
@@ -102,11 +102,11 @@ module _ (s : Contents) (v : MetadataRetrieveVersion) (r : Bool) (b : Path) wher
 
   -- a turn that adds a child with what is below it
   pub progress_node : (ns : Path) (n : List ℕ) (f below : Forest) (m : NodeMetadata) (ig jg : List Path) → NextName ns n → IsName n → MayHold m below → IsPlaced (b ++ n ∷ []) below → Progress s v r b ns f ig
-      → Found s v r (Through s v r (b ++ n ∷ [])) ((b ++ n ∷ [], m) ∷ (pairs below ++ [])) jg → Progress s v r b (ns ++ n ∷ []) (graft f (tree (b ++ n ∷ []) m below none)) (ig ++ jg)
+      → Found s v r (Through (Meant s v) r (b ++ n ∷ [])) ((b ++ n ∷ [], m) ∷ (pairs below ++ [])) jg → Progress s v r b (ns ++ n ∷ []) (graft f (tree (b ++ n ∷ []) m below none)) (ig ++ jg)
   progress_node ns n f below m ig jg next name holds inner p g = record {
     placed = placed_graft b (b ++ n ∷ []) m below f p.placed
         (λ e in' k is. let via = ((p.found.nodes e).0 in').0 in
-        let begins = through_begins s v r b e.0 via.0 via.2 in
+        let begins = through_begins (Meant s v) r b e.0 via.0 via.2 in
         let same = head_name b via.0 k begins.0 [] (sym begins.1 ∙ is) in
         subst (λ x. path_cmp x (b ++ n ∷ []) ≡ Less) (sym is) (sibling_less b k n (subst (λ x. bytes_cmp x n ≡ Less) same (next.later via.0 via.1))))
         ((n, refl), holds, inner, tt, tt);
@@ -116,13 +116,13 @@ module _ (s : Contents) (v : MetadataRetrieveVersion) (r : Bool) (b : Path) wher
 
   module _ (names : Path) (is : IsChildren s b names) where
     -- what is reached through a child is reached
-    via_reached : ((n : List ℕ) → Contains names n → IsName n) → (p : Path) → Via s v r b names p → Reached s v r b p
-    via_reached named p h = reached_through s v r b p h.0 (named h.0 h.1) h.2
+    via_reached : ((n : List ℕ) → Contains names n → IsName n) → (p : Path) → Via s v r b names p → Reached (Meant s v) r b p
+    via_reached named p h = reached_through (Meant s v) r b p h.0 (named h.0 h.1) h.2
 
     -- what is reached and has a key below it is reached through a discovered child
-    reached_via : (p : Path) → Reached s v r b p → HasBelow s p → Via s v r b names p
+    reached_via : (p : Path) → Reached (Meant s v) r b p → HasBelow s p → Via s v r b names p
     reached_via p h below =
-        let (n, name, t) = reached_first s v r b p h in
+        let (n, name, t) = reached_first (Meant s v) r b p h in
         (n, (is.found n).1 (name_not_reserved n name, below_through s v r (b ++ n ∷ []) p t below), t)
 
     -- a path that means something has a key below it
@@ -157,6 +157,6 @@ module _ (s : Contents) (v : MetadataRetrieveVersion) (r : Bool) (b : Path) wher
         | inl (e, (q, h, means)) ↦ p.found.no_bad q e (reached_via q h (below_node q (λ n. subst IsBad (sym means ∙ n) tt))) means
         | inr (q, (g, n, listed, periods, below, _)) ↦ elim listed as (λ _. ⊥) [
           | inl same ↦ no_bad_name n periods (subst (λ x. HasBelow s (x ++ n ∷ [])) same below)
-          | inr (h, o) ↦ p.found.no_name g n (reached_via g h (below_node g (λ e. true≢false (sym o.1 ∙ ap is_group_node e)))) o periods below
+          | inr (h, o) ↦ p.found.no_name g n (reached_via g h (below_node g (λ e. subst IsNode (sym o.1.1 ∙ e) tt))) o periods below
         ]
       ]

@@ -16,7 +16,7 @@ pub names_total : IsTotalOrder path_cmp
 names_total = lists_total nat_list_cmp_total
 
 -- no path is before itself
-names_irrefl : (p : Path) → path_cmp p p ≡ Less → ⊥
+pub names_irrefl : (p : Path) → path_cmp p p ≡ Less → ⊥
 names_irrefl p h = true≢false (sym (ap is_eq (tied_itself names_total p)) ∙ ap is_eq h)
 
 -- a path and its metadata

@@ -20,14 +20,14 @@ use Rattle.zarrs_meta.specs.declared.node.NodeMetadata.TheVariants.{Group, Array
 use Rattle.zarrs_block.specs.declared.node_create_error.NodeCreateError.{NodeCreateError}
 use Rattle.zarrs_config.specs.declared.version.MetadataRetrieveVersion.{MetadataRetrieveVersion}
 use Rattle.zarrs_meta.specs.Node.{is_group}
-use Rattle.zarrs_node.specs.Meaning.{meaning, node, nothing, bad, is_group_node}
+use Rattle.zarrs_node.specs.Meaning.{meaning, node, nothing, bad}
 use Rattle.zarrs_node.specs.Reached.{Opens}
 use Rattle.zarrs_node.specs.Forest.{graft, with_child, passed, found_group, Forest, none, tree, Shows, pairs, IsPlaced, MayHold}
-use Rattle.zarrs_node.specs.Nodes.{Nodes, Ignored, Bad, ShowsBad}
+use Rattle.zarrs_node.specs.Nodes.{Meant, Nodes, Ignored, Bad, ShowsBad}
 use Rattle.zarrs_store.specs.Depth.{most_segments}
 use Rattle.zarrs_node.proofs.Reach.{Through, reached_through}
 use Rattle.zarrs_node.proofs.Found.{Found}
-use Rattle.zarrs_node.proofs.Child.{found_passed, found_closed, found_open, lift_bad}
+use Rattle.zarrs_node.proofs.Child.{node_same, found_passed, found_closed, found_open, lift_bad}
 use Rattle.zarrs_node.proofs.Steps.{Progress, next_name, take_one, progress_passed, progress_node}
 use Rattle.zarrs_store.proofs.Depths.{path_within}
 
@@ -103,15 +103,15 @@ module _ (s : Contents) (v : MetadataRetrieveVersion) (r : Bool) (b : Path) (cs 
 
     -- a child that is bad is bad for its base
     pub refuse_document : (e : NodeCreateError) → meaning s v c ≡ bad e → ShowsBad s v r b e
-    refuse_document e means = inl (c, reached_through s v r b c (last_segment q) name_is (inl child), means)
+    refuse_document e means = inl (c, reached_through (Meant s v) r b c (last_segment q) name_is (inl child), means)
 
     -- a group is listed where the listing is recursive
-    pub opens : (m : NodeMetadata) → r ≡ true → true ≡ is_group m → meaning s v c ≡ node m → Opens s v r c
-    opens m deep group means = (deep, ap is_group_node means ∙ sym group)
+    pub opens : (m : NodeMetadata) → r ≡ true → true ≡ is_group m → meaning s v c ≡ node m → Opens (Meant s v) r c
+    opens m deep group means = (deep, (m, means, sym group))
 
     -- what is bad below a child that is listed is bad for its base
-    pub refuse_below : (e : NodeCreateError) → Opens s v r c → ShowsBad s v r c e → ShowsBad s v r b e
-    refuse_below e o shown = lift_bad s v r b (last_segment q) e name_is (subst (Opens s v r) child o) (subst (λ x. ShowsBad s v r x e) child shown)
+    pub refuse_below : (e : NodeCreateError) → Opens (Meant s v) r c → ShowsBad s v r c e → ShowsBad s v r b e
+    refuse_below e o shown = lift_bad s v r b (last_segment q) e name_is (subst (Opens (Meant s v) r) child o) (subst (λ x. ShowsBad s v r x e) child shown)
 
     -- the child is nearer to the longest key
     pub falls : most_segments s - length c < most_segments s - length b
@@ -125,19 +125,19 @@ module _ (s : Contents) (v : MetadataRetrieveVersion) (r : Bool) (b : Path) (cs 
     step_none f ig means p =
         subst (λ x. Progress s v r b x f (ig ++ c ∷ [])) (take_one (map last_segment cs) i (last_segment q) place reads)
         (progress_passed s v r b (take i (map last_segment cs)) (last_segment q) f ig (c ∷ []) (next_name (map last_segment cs) i (last_segment q) place reads children.ascending) name_is p
-        (subst (λ x. Found s v r (Through s v r x) [] (c ∷ [])) child (found_passed s v r c means has_below)))
+        (subst (λ x. Found s v r (Through (Meant s v) r x) [] (c ∷ [])) child (found_passed s v r c means has_below)))
 
     -- a turn at a child that is a node
-    step_node : (f below : Forest) (ig jg : List Path) (m : NodeMetadata) → MayHold m below → IsPlaced c below → Found s v r (Through s v r c) ((c, m) ∷ (pairs below ++ [])) jg → Progress s v r b (take i (map last_segment cs)) f ig
+    step_node : (f below : Forest) (ig jg : List Path) (m : NodeMetadata) → MayHold m below → IsPlaced c below → Found s v r (Through (Meant s v) r c) ((c, m) ∷ (pairs below ++ [])) jg → Progress s v r b (take i (map last_segment cs)) f ig
         → Progress s v r b (take (i + 1) (map last_segment cs)) (graft f (tree c m below none)) (ig ++ jg)
     step_node f below ig jg m holds placed found p =
         subst (λ x. Progress s v r b (take (i + 1) (map last_segment cs)) (graft f (tree x m below none)) (ig ++ jg)) (sym child)
         (subst (λ x. Progress s v r b x (graft f (tree (b ++ last_segment q ∷ []) m below none)) (ig ++ jg)) (take_one (map last_segment cs) i (last_segment q) place reads)
         (progress_node s v r b (take i (map last_segment cs)) (last_segment q) f below m ig jg (next_name (map last_segment cs) i (last_segment q) place reads children.ascending) name_is holds (subst (λ x. IsPlaced x below) child placed) p
-        (subst (λ x. Found s v r (Through s v r x) ((x, m) ∷ (pairs below ++ [])) jg) child found)))
+        (subst (λ x. Found s v r (Through (Meant s v) r x) ((x, m) ∷ (pairs below ++ [])) jg) child found)))
 
     -- a turn at a node below which the listing does not go on
-    pub step_closed : (f : Forest) (ig : List Path) (m : NodeMetadata) → meaning s v c ≡ node m → (Opens s v r c → ⊥) → Progress s v r b (take i (map last_segment cs)) f ig → Progress s v r b (take (i + 1) (map last_segment cs)) (graft f (tree c m none none)) ig
+    pub step_closed : (f : Forest) (ig : List Path) (m : NodeMetadata) → meaning s v c ≡ node m → (Opens (Meant s v) r c → ⊥) → Progress s v r b (take i (map last_segment cs)) f ig → Progress s v r b (take (i + 1) (map last_segment cs)) (graft f (tree c m none none)) ig
     step_closed f ig m means closed p =
         subst (λ x. Progress s v r b (take (i + 1) (map last_segment cs)) (graft f (tree c m none none)) x) (append-nil ig)
         (step_node f none ig [] m (holds_none m) tt (found_closed s v r c m means closed) p)
@@ -184,7 +184,7 @@ module _ (s : Contents) (v : MetadataRetrieveVersion) (r : Bool) (b : Path) (cs 
     step_alone None means closed p = step_none s v r b cs is i q lt read c same valid f ig means p
     step_alone (Some m) means closed p =
         subst (λ x. Progress s v r b (take (i + 1) (map last_segment cs)) (graft f (tree c m none none)) x) (sym (append-nil ig))
-        (step_closed s v r b cs is i q lt read c same valid f ig m means (λ o. closed o.0 (sym (sym (ap is_group_node means) ∙ o.1))) p)
+        (step_closed s v r b cs is i q lt read c same valid f ig m means (λ o. closed o.0 (sym (ap is_group (node_same m o.1.0 (sym means ∙ o.1.1)) ∙ o.1.2))) p)
 
   -- a refusal below a child is one at its base
   pub refused_below : (can_fail : Bool) (c : Path) → c ≡ q → IsPath c → (o : Option NodeMetadata) (e : NodeCreateError) → Finds can_fail (Ok o) (meaning s v c) → r ≡ true → true ≡ found_group o

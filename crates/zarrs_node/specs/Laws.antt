@@ -1,22 +1,22 @@
 -- Zarr core specification 3.1, section "Hierarchy": what holds of every hierarchy that is listed.
-use Rattle.std.specs.Prelude.{◌≡◌, Bool, List, Contains, ◌↔◌, ℕ}
-use Rattle.zarrs_store.specs.Contents.{Contents}
-use Rattle.zarrs_path.specs.Paths.{Path}
-use Rattle.zarrs_config.specs.declared.version.MetadataRetrieveVersion.{MetadataRetrieveVersion}
+use Rattle.std.specs.Prelude.{◌≡◌, Bool, true, List, Contains, ◌↔◌, ℕ}
+use Rattle.zarrs_path.specs.Paths.{Path, IsPath, IsBelow}
 use Rattle.zarrs_meta.specs.declared.node.NodeMetadata.{NodeMetadata}
 use Rattle.zarrs_node.specs.Forest.{Forest, pairs, IsPlaced, ArePlacedBelow, Shows}
 use Rattle.zarrs_node.specs.Lines.{IsLines, preorder}
-use Rattle.zarrs_node.specs.Nodes.{Nodes}
+use Rattle.zarrs_node.specs.Meaning.{Meaning}
+use Rattle.zarrs_node.specs.Nodes.{Means}
+use Rattle.zarrs_node.specs.Reached.{Kept, Closed}
 use Rattle.zarrs_node.specs.Order.{Ascend}
 
 -- Two placed forests with the same pairs are one.
 abbrev pub OneForest : Type 0
 OneForest = (b : Path) (f g : Forest) → IsPlaced b f → IsPlaced b g → ((e : Path × NodeMetadata) → Contains (pairs f) e ↔ Contains (pairs g) e) → f ≡ g
 
--- Two forests that show the nodes of one store below one base are one.
+-- Two forests that show the nodes of one meaning below one base are one.
 abbrev pub OneListing : Type 0
-OneListing = (s : Contents) (v : MetadataRetrieveVersion) (recursive : Bool) (b : Path) (f g : Forest)
-    → Shows f b (Nodes s v recursive b) → Shows g b (Nodes s v recursive b) → f ≡ g
+OneListing = (of : Path → Meaning) (recursive : Bool) (b : Path) (f g : Forest)
+    → Shows f b (Kept (Means of) recursive b) → Shows g b (Kept (Means of) recursive b) → f ≡ g
 
 -- The pairs of a placed forest stand in the order of paths.
 abbrev pub PairsAscend : Type 0
@@ -30,11 +30,20 @@ PlacedChildren = (b : Path) (f : Forest) → IsPlaced b f → ArePlacedBelow b f
 abbrev pub PreorderIsLines : Type 0
 PreorderIsLines = (b : Path) (f : Forest) → IsPlaced b f → IsLines b (Contains (pairs f)) (preorder 1 f)
 
--- The preorder of a forest that shows the nodes of a store is their lines in the order of paths.
+-- The preorder of a forest that shows the nodes of a meaning is their lines in the order of paths.
 abbrev pub ListingIsLines : Type 0
-ListingIsLines = (s : Contents) (v : MetadataRetrieveVersion) (recursive : Bool) (b : Path) (f : Forest)
-    → Shows f b (Nodes s v recursive b) → IsLines b (Nodes s v recursive b) (preorder 1 f)
+ListingIsLines = (of : Path → Meaning) (recursive : Bool) (b : Path) (f : Forest)
+    → Shows f b (Kept (Means of) recursive b) → IsLines b (Kept (Means of) recursive b) (preorder 1 f)
 
--- The pairs of a list have one text of lines.
+-- Two lists with the same pairs below a base have one text of lines there.
 abbrev pub OneText : Type 0
-OneText = (b : Path) (es : List (Path × NodeMetadata)) (t u : List ℕ) → IsLines b (Contains es) t → IsLines b (Contains es) u → t ≡ u
+OneText = (b : Path) (es ds : List (Path × NodeMetadata)) (t u : List ℕ) → ((e : Path × NodeMetadata) → IsBelow b e.0 → Contains es e ↔ Contains ds e)
+    → IsLines b (Contains es) t → IsLines b (Contains ds) u → t ≡ u
+
+-- The pairs of a placed forest of paths are closed.
+abbrev pub ClosedPairs : Type 0
+ClosedPairs = (b : Path) (f : Forest) → IsPlaced b f → ((e : Path × NodeMetadata) → Contains (pairs f) e → IsPath e.0) → Closed (Contains (pairs f)) b
+
+-- The nodes of a meaning are closed.
+abbrev pub ClosedNodes : Type 0
+ClosedNodes = (of : Path → Meaning) (b : Path) → Closed (Kept (Means of) true b) b

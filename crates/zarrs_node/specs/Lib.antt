@@ -2,8 +2,15 @@ pub mod Meaning
 pub mod Reached
 pub mod Forest
 pub mod Nodes
+pub mod Small
 pub mod Refused
 pub mod Exists
 pub mod Order
 pub mod Lines
 pub mod Laws
+pub mod Below
+pub mod Latest
+pub mod Consolidated
+pub mod Inverse
+pub mod Pass
+pub mod Opened

@@ -4,7 +4,7 @@ use Rattle.std.specs.Fmt.{decimal}
 use Rattle.std.specs.List.{join_by}
 use Rattle.zarrs_store.specs.Contents.{Lists}
 use Rattle.zarrs_store.specs.Segments.{last_segment}
-use Rattle.zarrs_path.specs.Paths.{Path}
+use Rattle.zarrs_path.specs.Paths.{Path, IsBelow}
 use Rattle.zarrs_form.specs.declared.data_type.DataTypeMetadataV2.{DataTypeMetadataV2}
 use Rattle.zarrs_form.specs.declared.data_type.DataTypeMetadataV2.TheVariants.{Simple, Structured}
 use Rattle.zarrs_form.specs.declared.extension.MetadataV3.{MetadataV3}
@@ -69,6 +69,6 @@ abbrev pub lines : Path → List (Path × NodeMetadata) → List ℕ
 lines b [] = []
 lines b (e ∷ es) = line (length e.0 - length b) e.0 e.1 ++ lines b es
 
--- The text is the lines of the pairs of N below b, joined in the order of paths.
+-- The text is the lines of those pairs of N that are below b, joined in the order of paths; the others do not matter.
 abbrev pub IsLines : Path → (Path × NodeMetadata → Type 0) → List ℕ → Type 0
-IsLines b N text = (es : List (Path × NodeMetadata)) × Lists N es × Ascend es × (text ≡ lines b es)
+IsLines b N text = (es : List (Path × NodeMetadata)) × Lists (λ e. N e × IsBelow b e.0) es × Ascend es × (text ≡ lines b es)

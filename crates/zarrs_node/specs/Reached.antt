@@ -1,15 +1,26 @@
--- Zarr core specification 3.1, "Hierarchy": which paths a listing below a base asks for a document.
-use Rattle.std.specs.Prelude.{◌≡◌, ℕ, Bool, List, ◌∷◌, ◌++◌, IsTrue}
-use Rattle.zarrs_store.specs.Contents.{Contents}
+-- Zarr core specification 3.1, "Hierarchy": which pairs of path and metadata stand below a base with only groups between, of any pairs N: those that paths mean in a store, or the entries of a block.
+use Rattle.std.specs.Prelude.{◌≡◌, ℕ, Bool, true, List, ◌∷◌, ◌++◌, IsTrue}
 use Rattle.zarrs_path.specs.Paths.{Path, IsPath, IsBelow}
-use Rattle.zarrs_config.specs.declared.version.MetadataRetrieveVersion.{MetadataRetrieveVersion}
-use Rattle.zarrs_node.specs.Meaning.{MeansGroup}
+use Rattle.zarrs_meta.specs.Node.{is_group}
+use Rattle.zarrs_meta.specs.declared.node.NodeMetadata.{NodeMetadata}
 
--- the listing goes on below q: it is recursive, and q means a group
-abbrev pub Opens : Contents → MetadataRetrieveVersion → Bool → Path → Type 0
-Opens s v recursive q = IsTrue recursive × MeansGroup s v q
+-- N has a group at q
+abbrev pub HasGroup : (Path × NodeMetadata → Type 0) → Path → Type 0
+HasGroup N q = (m : NodeMetadata) × N (q, m) × IsTrue (is_group m)
 
--- p is b and one or more names, and the listing goes on below each path strictly between
-pub record Reached (s : Contents) (v : MetadataRetrieveVersion) (recursive : Bool) (b p : Path) : Type 0 where
+-- the way goes on below q: it is recursive, and N has a group at q
+abbrev pub Opens : (Path × NodeMetadata → Type 0) → Bool → Path → Type 0
+Opens N recursive q = IsTrue recursive × HasGroup N q
+
+-- p is b and one or more names, and the way goes on below each path strictly between
+pub record Reached (N : Path × NodeMetadata → Type 0) (recursive : Bool) (b p : Path) : Type 0 where
   pub below : (n : List ℕ) × (ns : Path) × (p ≡ b ++ n ∷ ns) × IsPath (n ∷ ns)
-  pub between : (q : Path) → IsBelow b q → IsBelow q p → Opens s v recursive q
+  pub between : (q : Path) → IsBelow b q → IsBelow q p → Opens N recursive q
+
+-- the pairs of N below b for which every path strictly between is a group of N, where it is recursive; else those with one name beyond b
+abbrev pub Kept : (Path × NodeMetadata → Type 0) → Bool → Path → Path × NodeMetadata → Type 0
+Kept N recursive b e = Reached N recursive b e.0 × N e
+
+-- each pair of N is kept: it is below b, and every path strictly between is a group of N
+abbrev pub Closed : (Path × NodeMetadata → Type 0) → Path → Type 0
+Closed N b = (e : Path × NodeMetadata) → N e → Kept N true b e

@@ -1,24 +1,26 @@
 -- Zarr core specification 3.1, "Metadata documents": what the calls that read documents answer.
-use Rattle.std.specs.Prelude.{◌≡◌, Bool, Option, Some, None, Result, Ok, Err, ◌⊎◌}
+use Rattle.std.specs.Prelude.{◌≡◌, Bool, IsTrue, Option, Some, None, Result, Ok, Err, ◌⊎◌}
 use Rattle.zarrs_store.specs.Segments.{Segments}
 use Rattle.zarrs_store.specs.declared.fault.MetadataFault.{MetadataFault}
 use Rattle.zarrs_store.specs.declared.fault.MetadataFault.TheVariants.{OutOfMemory as NoMemoryToRead}
-use Rattle.zarrs_store.specs.declared.storage_error.StorageError.TheVariants.{InvalidMetadata}
+use Rattle.zarrs_store.specs.declared.storage_error.StorageError.{StorageError}
+use Rattle.zarrs_store.specs.declared.storage_error.StorageError.TheVariants.{Fault, InvalidMetadata, Other, OutOfMemory}
 use Rattle.zarrs_block.specs.Refused.{IsExcused}
 use Rattle.zarrs_meta.specs.declared.node.NodeMetadata.{NodeMetadata}
 use Rattle.zarrs_block.specs.declared.node_create_error.NodeCreateError.{NodeCreateError}
-use Rattle.zarrs_block.specs.declared.node_create_error.NodeCreateError.TheVariants.{StorageError, OutOfMemory}
 use Rattle.zarrs_node.specs.Meaning.{Meaning, node, nothing, bad}
 
 -- a fault of the document at a key is refused with the key and the fault, and want of memory as such
-abbrev pub refusal_at : Segments → MetadataFault → NodeCreateError
+abbrev pub refusal_at : Segments → MetadataFault → StorageError
 refusal_at key NoMemoryToRead = OutOfMemory
-refusal_at key fault = StorageError (InvalidMetadata key fault)
+refusal_at key fault = InvalidMetadata key fault
 
--- what a call answered is what the reading gives, unless it is excused
-abbrev pub Reads : {D : Type 0} → Bool → Result D NodeCreateError → Result D NodeCreateError → Type 0
-Reads can_fail (Ok d) reading = reading ≡ Ok d
-Reads can_fail (Err e) reading = IsExcused can_fail e ⊎ (reading ≡ Err e)
+-- the error is the fault of a store that can fail, or out of memory, or what the reading refuses
+abbrev pub RefusesReading : {D : Type 0} → Bool → Result D StorageError → StorageError → Type 0
+RefusesReading can_fail reading Fault = IsTrue can_fail
+RefusesReading can_fail reading (InvalidMetadata key fault) = reading ≡ Err (InvalidMetadata key fault)
+RefusesReading can_fail reading (Other text) = ⊥
+RefusesReading can_fail reading OutOfMemory = Unit {0}
 
 -- the answer is what this line of the table says, unless it is excused
 abbrev pub FollowsLine : Bool → Result (Option NodeMetadata) NodeCreateError → (Meaning → Meaning) → Type 0

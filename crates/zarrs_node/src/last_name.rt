@@ -20,7 +20,8 @@ pub(crate) fn last_name(path: &NodePath) -> &str
 
 // Whether a path is the base and one name.
 pub(crate) fn is_child(base: &NodePath, path: &NodePath) -> bool
-    ensures { IsTrue result ↔ IsChildOf base.now path.now }
+    ensures child { IsTrue result ↔ IsChildOf base.now path.now }
+    ensures valid { IsPath path.now }
 {
     match path.as_str().rsplit_once('/') {
         Some((above, name)) => !name.is_empty() && above == slashed(base),
@@ -29,7 +30,7 @@ pub(crate) fn is_child(base: &NodePath, path: &NodePath) -> bool
 }
 
 // Each name with a slash before it, which is nothing for the root.
-fn slashed(path: &NodePath) -> &str
+pub(crate) fn slashed(path: &NodePath) -> &str
     ensures text { result.now ≡ slashed path.now }
     ensures valid { IsPath path.now }
 {

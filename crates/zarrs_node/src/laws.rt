@@ -1,5 +1,6 @@
 //! What holds of every forest and of its text. Each function does nothing, and its contract is the law.
-ghost use Rattle.zarrs_node.specs.Laws.{OneForest, OneListing, PairsAscend, PlacedChildren, PreorderIsLines, ListingIsLines, OneText};
+ghost use Rattle.zarrs_node.specs.Laws.{OneForest, OneListing, PairsAscend, PlacedChildren, PreorderIsLines, ListingIsLines, OneText, ClosedPairs, ClosedNodes};
+ghost use Rattle.zarrs_node.specs.Inverse.{BlockGivesBack, ListingGivesBack};
 
 /// Two placed forests with the same pairs are one.
 ///
@@ -9,7 +10,7 @@ pub fn one_forest()
     ensures { OneForest }
 {}
 
-/// Two forests that show the nodes of one store below one base are one.
+/// Two forests that show the nodes of one meaning below one base are one: of a store, of a small store or of a block's entries.
 ///
 /// Source: Zarr core specification 3.1, "Hierarchy".
 pub fn one_listing()
@@ -40,7 +41,7 @@ pub fn preorder_is_lines()
     ensures { PreorderIsLines }
 {}
 
-/// The preorder of a forest that shows the nodes of a store is their lines in the order of paths.
+/// The preorder of a forest that shows the nodes of a meaning is their lines in the order of paths.
 ///
 /// Source: `zarrs::node::Node::hierarchy_tree`.
 #[tactic(auto, using(crate::proofs::LawProofs::listing_is_lines))]
@@ -48,9 +49,37 @@ pub fn listing_is_lines()
     ensures { ListingIsLines }
 {}
 
-/// The pairs of a list have one text of lines.
+/// Two lists with the same pairs below a base have one text of lines there.
 ///
 /// Source: `zarrs::node::Node::hierarchy_tree`.
 pub fn one_text()
     ensures { OneText }
+{}
+
+/// The pairs of a placed forest of paths are closed.
+///
+/// Source: Zarr core specification 3.1, "Hierarchy".
+pub fn closed_pairs()
+    ensures { ClosedPairs }
+{}
+
+/// The nodes of a meaning are closed.
+///
+/// Source: Zarr core specification 3.1, "Hierarchy".
+pub fn closed_nodes()
+    ensures { ClosedNodes }
+{}
+
+/// A block that holds exactly the pairs of a placed forest, each at its names beyond the base, gives that forest back.
+///
+/// Source: Zarr core specification 3.1, "Group metadata"; the block is that of zarr-python.
+pub fn block_gives_back()
+    ensures { BlockGivesBack }
+{}
+
+/// So does a block that holds exactly the nodes of a meaning, as a listing finds them in a store.
+///
+/// Source: Zarr core specification 3.1, "Group metadata"; the block is that of zarr-python.
+pub fn listing_gives_back()
+    ensures { ListingGivesBack }
 {}

@@ -1,7 +1,10 @@
 //! Nodes and the listing of a store.
 #![tactic(auto)]
 
+mod build;
 mod children;
+mod consolidate;
+pub mod documents;
 mod exists;
 mod last_name;
 mod last_read;
@@ -9,9 +12,12 @@ pub mod laws;
 mod listing;
 mod metadata;
 mod node;
+mod open;
 mod text;
 
+pub use build::{build_node_tree, build_node_tree_counted, direct_children_from_flat};
 pub use children::{get_all_nodes_of, get_child_nodes, get_child_nodes_opt};
 pub use exists::{node_exists, node_exists_listable};
 pub use listing::{ListedNodes, list_nodes};
 pub use node::Node;
+pub use text::NodeLine;

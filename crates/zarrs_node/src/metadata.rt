@@ -1,22 +1,21 @@
 //! What a path means in a store.
 ghost use Rattle.std.specs.Prelude.{◌≡◌, ◌∷◌, [], ◌++◌, IfOk, IfErr, ◌⊎◌};
 ghost use Rattle.zarrs_block.specs.Refused.{IsExcused, IsMissing};
-ghost use Rattle.zarrs_node.specs.Meaning.{meaning, node, nothing, bad, line_1, line_2, line_3, document_at, attributes_at};
-ghost use Rattle.zarrs_node.specs.Refused.{Reads, FollowsLine, Finds, refusal_at};
+ghost use Rattle.zarrs_node.specs.Meaning.{in_bytes, meaning, node, nothing, bad, zarr_json_line, zarray_line, zgroup_line};
+ghost use Rattle.zarrs_node.specs.Refused.{FollowsLine, Finds};
 
-use crate::last_read::{LastDocuments, LastRead};
+use crate::documents::{find_attributes, find_document};
+use crate::last_read::LastDocuments;
 use crate::node::Node;
 use std::alloc::Global;
 use zarrs_block::NodeCreateError;
 use zarrs_config::MetadataRetrieveVersion;
 use zarrs_meta::{
-    ArrayMetadata, ArrayMetadataV2, AttributesDocument, BoxedArray, Document, GroupMetadata,
-    GroupMetadataV2, NodeMetadata, ZarrJson,
+    ArrayMetadata, ArrayMetadataV2, BoxedArray, GroupMetadata, GroupMetadataV2, NodeMetadata,
+    ZarrJson,
 };
-use zarrs_path::{
-    NodePath, meta_key_v2_array, meta_key_v2_attributes, meta_key_v2_group, meta_key_v3,
-};
-use zarrs_store::{MetadataFault, ReadableStorageTraits, StorageError, StoreKey};
+use zarrs_path::{NodePath, meta_key_v2_array, meta_key_v2_group, meta_key_v3};
+use zarrs_store::ReadableStorageTraits;
 
 impl Node {
     /// The metadata of the node at a path, by the first of `zarr.json`, `.zarray` and `.zgroup` that is there and that the version admits;
@@ -79,7 +78,7 @@ fn find_v3<S: ReadableStorageTraits>(
     path: &NodePath,
     last: &mut LastDocuments,
 ) -> Result<Option<NodeMetadata>, NodeCreateError>
-    ensures { FollowsLine (S.can_fail storage.now) result (line_1 (S.contents storage.now) path.now) }
+    ensures { FollowsLine (S.can_fail storage.now) result (zarr_json_line in_bytes (S.contents storage.now) path.now) }
 {
     let key = meta_key_v3(alloc, path)?;
     match find_document(alloc, storage, key, &mut last.zarr_json)? {
@@ -96,7 +95,7 @@ fn find_v2<S: ReadableStorageTraits>(
     path: &NodePath,
     last: &mut LastDocuments,
 ) -> Result<Option<NodeMetadata>, NodeCreateError>
-    ensures { FollowsLine (S.can_fail storage.now) result (λ after. line_2 (S.contents storage.now) path.now (line_3 (S.contents storage.now) path.now after)) }
+    ensures { FollowsLine (S.can_fail storage.now) result (λ after. zarray_line in_bytes (S.contents storage.now) path.now (zgroup_line in_bytes (S.contents storage.now) path.now after)) }
 {
     match find_array_v2(alloc, storage, path, last)? {
         Some(metadata) => Ok(Some(metadata)),
@@ -111,14 +110,14 @@ fn find_array_v2<S: ReadableStorageTraits>(
     path: &NodePath,
     last: &mut LastDocuments,
 ) -> Result<Option<NodeMetadata>, NodeCreateError>
-    ensures { FollowsLine (S.can_fail storage.now) result (line_2 (S.contents storage.now) path.now) }
+    ensures { FollowsLine (S.can_fail storage.now) result (zarray_line in_bytes (S.contents storage.now) path.now) }
 {
     let key = meta_key_v2_array(alloc, path)?;
     let found: Option<ArrayMetadataV2> = find_document(alloc, storage, key, &mut last.zarray)?;
     let Some(mut array) = found else {
         return Ok(None);
     };
-    if let Some(document) = find_attributes(alloc, storage, path, last)? {
+    if let Some(document) = find_attributes(alloc, storage, path, &mut last.zattrs)? {
         array.attributes = document.0;
     }
     let boxed = BoxedArray::new(alloc, ArrayMetadata::V2(array))?;
@@ -132,56 +131,15 @@ fn find_group_v2<S: ReadableStorageTraits>(
     path: &NodePath,
     last: &mut LastDocuments,
 ) -> Result<Option<NodeMetadata>, NodeCreateError>
-    ensures { FollowsLine (S.can_fail storage.now) result (line_3 (S.contents storage.now) path.now) }
+    ensures { FollowsLine (S.can_fail storage.now) result (zgroup_line in_bytes (S.contents storage.now) path.now) }
 {
     let key = meta_key_v2_group(alloc, path)?;
     let found: Option<GroupMetadataV2> = find_document(alloc, storage, key, &mut last.zgroup)?;
     let Some(mut group) = found else {
         return Ok(None);
     };
-    if let Some(document) = find_attributes(alloc, storage, path, last)? {
+    if let Some(document) = find_attributes(alloc, storage, path, &mut last.zattrs)? {
         group.attributes = document.0;
     }
     Ok(Some(NodeMetadata::Group(GroupMetadata::V2(group))))
-}
-
-// The attributes that stand beside a document of version 2.
-fn find_attributes<S: ReadableStorageTraits>(
-    alloc: Global,
-    storage: &S,
-    path: &NodePath,
-    last: &mut LastDocuments,
-) -> Result<Option<AttributesDocument>, NodeCreateError>
-    ensures { Reads (S.can_fail storage.now) result (attributes_at (S.contents storage.now) path.now) }
-{
-    let key = meta_key_v2_attributes(alloc, path)?;
-    find_document(alloc, storage, key, &mut last.zattrs)
-}
-
-// The document at a key, or none where the key is absent.
-fn find_document<S: ReadableStorageTraits, D: Document + Drop>(
-    alloc: Global,
-    storage: &S,
-    key: StoreKey,
-    last: &mut LastRead<D>,
-) -> Result<Option<D>, NodeCreateError>
-    ensures { Reads (S.can_fail storage.now) result (document_at D.reading (S.contents storage.now) key) }
-{
-    let Some(bytes) = storage.get(alloc, &key)? else {
-        return Ok(None);
-    };
-    match last.read(alloc, bytes) {
-        Ok(document) => Ok(Some(document)),
-        Err(fault) => Err(invalid_metadata(key, fault)),
-    }
-}
-
-// The refusal for a fault of the document at a key.
-fn invalid_metadata(key: StoreKey, fault: MetadataFault) -> NodeCreateError
-    ensures { result ≡ refusal_at key fault }
-{
-    match fault {
-        MetadataFault::OutOfMemory => NodeCreateError::OutOfMemory,
-        _ => NodeCreateError::StorageError(StorageError::InvalidMetadata(key, fault)),
-    }
 }

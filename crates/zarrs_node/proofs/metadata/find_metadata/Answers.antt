@@ -1,6 +1,6 @@
 use Rattle.std.proofs.Common.{ap, ◌∙◌, inl, inr, ⊎_elim}
 use Rattle.std.proofs.lemmas.Result.{err_from_is_err_and}
-use Rattle.zarrs_node.specs.Meaning.{meaning, line_1, line_2, line_3}
+use Rattle.zarrs_node.specs.Meaning.{in_bytes, meaning, zarr_json_line, zarray_line, zgroup_line}
 use Rattle.zarrs_node.proofs.Meanings.{default_is, v3_is, v2_is, follows_some, follows_none, finds_by}
 use Rattle.zarrs_node.proofs.metadata.find_metadata.Goals as goal
 
@@ -15,22 +15,22 @@ pub returns-in-Some : goal.returns-in-Some
 returns-in-Some g c =
     let s = g.S.Store.contents c.args.storage.now in
     ap (λ v. meaning s v c.args.path.now) c.in-Default.is ∙ default_is s c.args.path.now
-    ∙ follows_some (g.S.Store.can_fail c.args.storage.now) (line_1 s c.args.path.now) _ _ c.in-Some.is c.in_ok-metadata-in-Default.ensures _
+    ∙ follows_some (g.S.Store.can_fail c.args.storage.now) (zarr_json_line in_bytes s c.args.path.now) _ _ c.in-Some.is c.in_ok-metadata-in-Default.ensures _
 
 pub returns-in-None : goal.returns-in-None
 returns-in-None g c =
     let s = g.S.Store.contents c.args.storage.now in
-    finds_by _ c.find_v2.result (λ after. line_2 s c.args.path.now (line_3 s c.args.path.now after)) _
+    finds_by _ c.find_v2.result (λ after. zarray_line in_bytes s c.args.path.now (zgroup_line in_bytes s c.args.path.now after)) _
     (ap (λ v. meaning s v c.args.path.now) c.in-Default.is ∙ default_is s c.args.path.now
-    ∙ follows_none (g.S.Store.can_fail c.args.storage.now) (line_1 s c.args.path.now) _ c.in-None.is c.in_ok-metadata-in-Default.ensures _)
+    ∙ follows_none (g.S.Store.can_fail c.args.storage.now) (zarr_json_line in_bytes s c.args.path.now) _ c.in-None.is c.in_ok-metadata-in-Default.ensures _)
     c.find_v2.ensures
 
 pub returns-in-V3 : goal.returns-in-V3
 returns-in-V3 g c =
     let s = g.S.Store.contents c.args.storage.now in
-    finds_by _ c.find_v3-in-V3.result (line_1 s c.args.path.now) _ (ap (λ v. meaning s v c.args.path.now) c.in-V3.is ∙ v3_is s c.args.path.now) c.find_v3-in-V3.ensures
+    finds_by _ c.find_v3-in-V3.result (zarr_json_line in_bytes s c.args.path.now) _ (ap (λ v. meaning s v c.args.path.now) c.in-V3.is ∙ v3_is s c.args.path.now) c.find_v3-in-V3.ensures
 
 pub returns-in-V2 : goal.returns-in-V2
 returns-in-V2 g c =
     let s = g.S.Store.contents c.args.storage.now in
-    finds_by _ c.find_v2-in-V2.result (λ after. line_2 s c.args.path.now (line_3 s c.args.path.now after)) _ (ap (λ v. meaning s v c.args.path.now) c.in-V2.is ∙ v2_is s c.args.path.now) c.find_v2-in-V2.ensures
+    finds_by _ c.find_v2-in-V2.result (λ after. zarray_line in_bytes s c.args.path.now (zgroup_line in_bytes s c.args.path.now after)) _ (ap (λ v. meaning s v c.args.path.now) c.in-V2.is ∙ v2_is s c.args.path.now) c.find_v2-in-V2.ensures

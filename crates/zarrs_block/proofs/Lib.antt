@@ -1,0 +1,5 @@
+pub mod BlockLaws
+pub mod KeyLaws
+pub mod Expansion
+pub mod InOrder
+pub mod BlockReads

@@ -1,0 +1,113 @@
+-- Zarr core specification 3.1, "Group metadata", the field `consolidated_metadata` in the form of zarr-python: blocks of metadata, and what their keys mean below a base.
+--     Block, found B t, put t m B      texts with metadata; what a block has at a text; the block with one more
+--     IsValidKey t, HasValidKeys B      what a block may have as a key; that each key is such
+--     entry B ns, Entries B b      what a block has for the path that is ns beyond the base; all pairs below b that it has
+--     IsBlockOf N b B      B holds exactly the pairs of N, each at its names beyond b
+--     block_of d, block_tree B      the block that a JSON value is, or the first fault; what is written of a block
+use Rattle.std.specs.Prelude.{◌≡◌, ℕ, false, if◌then◌else◌, List, [], ◌∷◌, ◌++◌, Option, Some, None, Result, All, IsTrue, IsSome, ◌⊎◌, ◌↔◌, option_and_then, bytes_eq, codes}
+use Rattle.std.specs.Result.{result_ok}
+use Rattle.std.specs.Map.{lookup, keys_of}
+use Rattle.std.specs.BTreeMap.{insert_entry, is_at}
+use Rattle.serde_json.specs.Data.{Data, boolean, string, object, Members, no_members, member}
+use Rattle.serde_json.specs.Find.{as_object}
+use Rattle.std.specs.List.Sorted.{IsStrictlySortedBy}
+use Rattle.zarrs_store.specs.Segments.{bytes_cmp, key_text}
+use Rattle.zarrs_store.specs.declared.fault.MetadataFault.{MetadataFault}
+use Rattle.zarrs_path.specs.Paths.{Path, IsPath}
+use Rattle.zarrs_form.specs.Documents.{document_of, required, optional}
+use Rattle.zarrs_form.specs.Documents as steps
+use Rattle.zarrs_form.specs.Forms.{◌>>=◌}
+use Rattle.zarrs_meta.specs.Node.{node_of, node_tree, is_plain_node}
+use Rattle.zarrs_meta.specs.declared.node.NodeMetadata.{NodeMetadata}
+
+-- texts, the keys, with the metadata at each, in the order of the keys
+abbrev pub Block : Type 0
+Block = List (List ℕ × NodeMetadata)
+
+-- the keys of the block ascend by their bytes, so each stands once
+abbrev pub IsAscending : Block → Type 0
+IsAscending B = IsStrictlySortedBy bytes_cmp (keys_of B)
+
+-- what the block has at a text
+abbrev pub found : Block → List ℕ → Option NodeMetadata
+found B t = lookup (is_at (bytes_cmp t)) B
+
+-- the block with metadata at a text, in the place of those that it had there
+abbrev pub put : List ℕ → NodeMetadata → Block → Block
+put t m B = insert_entry bytes_cmp B t m
+
+-- ---- keys and paths
+
+-- names joined by slashes, or none, also behind one slash
+abbrev pub IsValidKey : List ℕ → Type 0
+IsValidKey t = (ns : Path) × IsPath ns × ((t ≡ key_text ns) ⊎ (t ≡ 47 ∷ key_text ns))
+
+-- each key of the block is valid
+abbrev pub HasValidKeys : Block → Type 0
+HasValidKeys B = (t : List ℕ) → IsSome (found B t) → IsValidKey t
+
+-- the first, where there is one, and else the second
+abbrev pub first_some : Option NodeMetadata → Option NodeMetadata → Option NodeMetadata
+first_some (Some m) other = Some m
+first_some None other = other
+
+-- what the block has at the names joined by slashes, and where it has nothing there, behind one slash
+abbrev pub entry : Block → Path → Option NodeMetadata
+entry B ns = first_some (found B (key_text ns)) (found B (47 ∷ key_text ns))
+
+-- the paths below b, each with the entry of its names beyond b
+abbrev pub Entries : Block → Path → Path × NodeMetadata → Type 0
+Entries B b e = (n : List ℕ) × (ns : Path) × IsPath (n ∷ ns) × (e.0 ≡ b ++ n ∷ ns) × (entry B (n ∷ ns) ≡ Some e.1)
+
+-- the block holds exactly the pairs of N, each at the text of its names beyond b
+abbrev pub IsBlockOf : (Path × NodeMetadata → Type 0) → Path → Block → Type 0
+IsBlockOf N b B = (t : List ℕ) (m : NodeMetadata) → (found B t ≡ Some m) ↔ ((n : List ℕ) × (ns : Path) × (t ≡ key_text (n ∷ ns)) × N (b ++ n ∷ ns, m))
+
+-- ---- reading
+
+-- the text `inline`
+abbrev pub inline : Data → Option (Unit {0})
+inline (string s) = if bytes_eq s (codes "inline") then Some tt else None
+inline _ = None
+
+-- the truth value false
+abbrev pub untrue : Data → Option (Unit {0})
+untrue (boolean false) = Some tt
+untrue _ = None
+
+-- all members as whole node documents, each at its name, or nothing where one does not read
+abbrev pub nodes_of : Members → Option Block
+nodes_of no_members = Some []
+nodes_of (member t d ms) = do
+  m ← result_ok (node_of d)
+  B ← nodes_of ms
+  Some ((t, m) ∷ B)
+
+-- an object of whole node documents
+abbrev pub nodes : Data → Option Block
+nodes d = option_and_then nodes_of (as_object d)
+
+-- the block that a JSON value is, or its first fault
+unfoldable pub block_of : Data → Result Block MetadataFault
+block_of d =
+    steps.◌>>=◌ (document_of d) λ _.
+    steps.◌>>=◌ (required (codes "kind") inline d) λ _.
+    steps.◌>>=◌ (optional (codes "must_understand") tt untrue d) λ _.
+    required (codes "metadata") nodes d
+
+-- ---- the written form
+
+-- each node as its document, at its key
+abbrev pub documents : Block → Members
+documents [] = no_members
+documents (e ∷ B) = member e.0 (node_tree e.1) (documents B)
+
+-- a block is written as an object with `kind`, `metadata` and `must_understand`
+abbrev pub block_tree : Block → Data
+block_tree B =
+    object (member (codes "kind") (string (codes "inline")) (member (codes "metadata") (object (documents B))
+    (member (codes "must_understand") (boolean false) no_members)))
+
+-- each node of the block could have come from a document
+abbrev pub HasPlainNodes : Block → Type 0
+HasPlainNodes B = All (λ e. IsTrue (is_plain_node e.1)) B

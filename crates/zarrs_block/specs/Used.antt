@@ -1,0 +1,54 @@
+-- Zarr core specification 3.1, "Group metadata", the field `consolidated_metadata`: which block stands in place of a listing.
+use Rattle.std.specs.Prelude.{◌≡◌, ◌≢◌, ◌++◌, Option, Some, None, option_map, option_and_then, string_bytes, codes}
+use Rattle.std.specs.Result.{result_ok}
+use Rattle.serde_json.specs.Data.{Members}
+use Rattle.serde_json.specs.Find.{get_member}
+use Rattle.zarrs_path.specs.Paths.{Path, path_text}
+use Rattle.zarrs_config.specs.declared.version.UseConsolidatedMetadata.{UseConsolidatedMetadata}
+use Rattle.zarrs_config.specs.declared.version.UseConsolidatedMetadata.TheVariants.{Auto, Must, Never}
+use Rattle.zarrs_meta.specs.declared.node.GroupMetadata.{GroupMetadata}
+use Rattle.zarrs_meta.specs.declared.node.GroupMetadata.TheVariants.{V3, V2}
+use Rattle.zarrs_meta.specs.declared.node.NodeMetadata.{NodeMetadata}
+use Rattle.zarrs_meta.specs.declared.node.NodeMetadata.TheVariants.{Group, Array}
+use Rattle.zarrs_block.specs.Block.{Block, block_of}
+use Rattle.zarrs_block.specs.declared.consolidated.ConsolidatedMetadata.{ConsolidatedMetadata}
+use Rattle.zarrs_block.specs.declared.node_create_error.NodeCreateError.{NodeCreateError}
+use Rattle.zarrs_block.specs.declared.node_create_error.NodeCreateError.TheVariants.{MissingMetadata, OutOfMemory}
+
+-- the block of a consolidated metadata, where there is one
+abbrev pub seen : Option ConsolidatedMetadata → Option Block
+seen block = option_map (λ c. c.metadata) block
+
+-- the field `consolidated_metadata`, where it reads as a block
+abbrev pub fields_held : Members → Option Block
+fields_held ms = option_and_then (λ d. result_ok (block_of d)) (get_member (codes "consolidated_metadata") ms)
+
+-- the block that a version 3 group holds in its additional fields; a version 2 group has none
+abbrev pub group_held : GroupMetadata → Option Block
+group_held (V3 m) = fields_held m.additional_fields
+group_held (V2 m) = None
+
+-- the block that metadata hold; an array has none
+abbrev pub held : NodeMetadata → Option Block
+held (Group g) = group_held g
+held (Array a) = None
+
+-- the block that is used or that there is none, or nothing where the want of a block is refused
+abbrev pub used : Option Block → UseConsolidatedMetadata → Option (Option Block)
+used block Never = Some None
+used (Some B) Auto = Some (Some B)
+used (Some B) Must = Some (Some B)
+used None Auto = Some None
+used None Must = None
+
+-- the want of a block is refused, and the error says so with the text of p; or memory for that text was wanting
+abbrev pub RefusesUse : Path → Option (Option Block) → NodeCreateError → Type 0
+RefusesUse p choice (MissingMetadata text) =
+    (choice ≡ None) × (string_bytes text ≡ codes "Consolidated metadata required but missing on group " ++ path_text p)
+RefusesUse p choice OutOfMemory = choice ≡ None
+RefusesUse p choice _ = ⊥
+
+-- memory for the block was wanting, where it is read at all
+abbrev pub LacksBlockMemory : UseConsolidatedMetadata → NodeCreateError → Type 0
+LacksBlockMemory policy OutOfMemory = policy ≢ Never
+LacksBlockMemory policy _ = ⊥

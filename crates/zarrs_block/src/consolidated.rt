@@ -1,0 +1,278 @@
+//! The consolidated block of a group: the metadata of the nodes below it.
+ghost use Rattle.std.specs.Prelude.{◌≡◌, [], length, IfOk, OnOk, OnErr, string_bytes, codes, map, option_copied};
+ghost use Rattle.std.specs.Result.{result_ok};
+ghost use Rattle.serde_json.specs.Data.{object};
+ghost use Rattle.serde_json.specs.View.{view, members_view};
+ghost use Rattle.zarrs_form.specs.Documents.{Gives, document_of, formed, required, optional};
+ghost use Rattle.zarrs_form.specs.Forms.{is_nil};
+ghost use Rattle.zarrs_meta.specs.Node.{node_of};
+ghost use Rattle.zarrs_block.specs.Block.{found, put as put_node, inline, untrue, nodes_of, nodes, block_of, documents, block_tree};
+
+use serde_json::{Map, Value, put};
+use std::alloc::{AllocError, Global};
+use std::marker::Model;
+use zarrs_form::{document_copy, member, members_have_float, put_text};
+use zarrs_meta::NodeMetadata;
+use zarrs_store::{MemberName, MetadataFault};
+
+/// The consolidated block of a group.
+///
+/// Source: `zarrs_metadata_ext::v3::group::ConsolidatedMetadata`; the form is that of zarr-python.
+#[derive(Debug, Drop)]
+pub struct ConsolidatedMetadata {
+    /// The metadata of the nodes.
+    pub metadata: ConsolidatedMetadataMetadata,
+}
+
+/// The metadata of nodes at their keys, which are their paths relative to the group.
+///
+/// Contracts see the list of the keys with their metadata, in the order of the keys.
+///
+/// Source: `zarrs_metadata_ext::v3::group::ConsolidatedMetadataMetadata`.
+#[derive(Debug, Drop)]
+pub struct ConsolidatedMetadataMetadata {
+    entries: Map<String, NodeMetadata>,
+}
+
+impl Model for ConsolidatedMetadataMetadata {
+    ghost use Rattle.std.specs.Prelude.{List, ℕ, map, string_bytes};
+    ghost use Rattle.std.specs.Coded.{codes, coded_list, coded×, coded_ℕ};
+    ghost use Rattle.zarrs_meta.specs.declared.node.NodeMetadata.{NodeMetadata};
+    ghost use Rattle.zarrs_meta.specs.contracts.node.NodeMetadata as e;
+
+    ghost Value = { List (List ℕ × NodeMetadata) };
+
+    ghost coded = { coded_list (coded× (coded_list coded_ℕ) (Prim.hlevel (codes, e.the_row.coded))) };
+
+    ghost view = { λ a. map (λ e. (string_bytes e.0, e.1)) a.entries.entries };
+}
+
+impl ConsolidatedMetadataMetadata {
+    /// The metadata of no nodes.
+    ///
+    /// Source: `Default` of `ConsolidatedMetadataMetadata`.
+    pub fn new(alloc: Global) -> ConsolidatedMetadataMetadata
+        ensures { result ≡ [] }
+    {
+        ConsolidatedMetadataMetadata {
+            entries: Map::new(alloc),
+        }
+    }
+
+    /// The number of nodes.
+    pub fn len(&self) -> usize
+        ensures { result ≡ length self.now }
+    {
+        self.entries.len()
+    }
+
+    /// Whether there are no nodes.
+    pub fn is_empty(&self) -> bool
+        ensures { result ≡ is_nil self.now }
+    {
+        self.entries.is_empty()
+    }
+
+    /// The metadata at a key, if there are any.
+    pub fn get(&self, key: &str) -> Option<&NodeMetadata>
+        ensures { option_copied result ≡ found self.now key.now }
+    {
+        self.entries.get(key)
+    }
+
+    /// Puts metadata at a key, in the place of those that were there. After an error nothing is changed.
+    ///
+    /// # Errors
+    ///
+    /// `AllocError` where there is no memory for one more.
+    #[tactic(auto, using(crate::proofs::BlockLaws::shown_inserted))]
+    pub fn insert(&mut self, key: String, metadata: NodeMetadata) -> Result<(), AllocError>
+        ensures ok { OnOk result (self.new ≡ put_node (string_bytes key) metadata self.old) }
+        ensures unchanged { OnErr result (self.new ≡ self.old) }
+    {
+        drop(self.entries.insert(key, metadata)?);
+        Ok(())
+    }
+
+    /// The keys and metadata, as a map.
+    pub fn as_map(&self) -> &Map<String, NodeMetadata>
+        ensures { map (λ e. (string_bytes e.0, e.1)) result.now.entries ≡ self.now }
+    {
+        &self.entries
+    }
+
+    /// The map that has the keys and metadata.
+    pub fn into_map(self) -> Map<String, NodeMetadata>
+        ensures { map (λ e. (string_bytes e.0, e.1)) result.entries ≡ self }
+    {
+        let ConsolidatedMetadataMetadata { entries } = self;
+        entries
+    }
+
+    /// A copy that equals its source.
+    ///
+    /// # Errors
+    ///
+    /// `AllocError` where there is no memory for the copy.
+    pub fn try_clone(&self, alloc: Global) -> Result<ConsolidatedMetadataMetadata, AllocError>
+        ensures { IfOk result (λ copy. copy ≡ self.now) }
+    {
+        let mut copy = ConsolidatedMetadataMetadata::new(alloc);
+        for (key, metadata) in self.as_map().iter() {
+            let key = key.clone()?;
+            copy.insert(key, metadata.try_clone(alloc)?)?;
+        }
+        Ok(copy)
+    }
+
+    // The written form of each node, at its key.
+    fn to_members(&self, alloc: Global) -> Result<Map<String, Value>, AllocError>
+        ensures { IfOk result (λ members. members_view members.entries ≡ documents self.now) }
+    {
+        let mut members = Map::new(alloc);
+        for (key, metadata) in self.as_map().iter() {
+            drop(members.insert(key.clone()?, metadata.to_value(alloc)?)?);
+        }
+        Ok(members)
+    }
+}
+
+impl ConsolidatedMetadata {
+    /// The block that a JSON value is.
+    ///
+    /// # Errors
+    ///
+    /// The first that applies: `UnsupportedNumber` where some number is neither `u64` nor `i64`, `NotAnObject`, `MissingMember` or
+    /// `BadMember` of `kind`, which has to be the text `inline`, `BadMember` of `must_understand` where it is there and not false,
+    /// `MissingMember` or `BadMember` of `metadata`, which has to be an object of whole node documents. `OutOfMemory` where there is
+    /// no memory.
+    ///
+    /// Source: zarr-python, consolidated metadata of kind `inline`.
+    #[tactic(auto, unfolding(crate::specs::Block::block_of))]
+    pub fn from_value(alloc: Global, value: &Value) -> Result<ConsolidatedMetadata, MetadataFault>
+        ensures { Gives (λ block. block.metadata) result (block_of (view value.now)) }
+    {
+        let members = members_of(value)?;
+        ask_kind(members)?;
+        ask_not_understood(members)?;
+        let metadata = metadata_of(alloc, members)?;
+        Ok(ConsolidatedMetadata { metadata })
+    }
+
+    /// The written form of the block: `kind`, `metadata`, and `must_understand` false.
+    ///
+    /// # Errors
+    ///
+    /// `AllocError` where there is no memory for it.
+    ///
+    /// Source: zarr-python, consolidated metadata of kind `inline`.
+    pub fn to_value(&self, alloc: Global) -> Result<Value, AllocError>
+        ensures { IfOk result (λ v. view v ≡ block_tree self.now.metadata) }
+    {
+        let documents = self.metadata.to_members(alloc)?;
+        let mut all = Map::new(alloc);
+        put_text(&mut all, alloc, "kind", "inline")?;
+        put(&mut all, alloc, "metadata", Value::Object(documents))?;
+        put(&mut all, alloc, "must_understand", Value::Bool(false))?;
+        Ok(Value::Object(all))
+    }
+
+    /// A copy that equals its source.
+    ///
+    /// # Errors
+    ///
+    /// `AllocError` where there is no memory for the copy.
+    ///
+    /// Source: `Clone` of `ConsolidatedMetadata`.
+    pub fn try_clone(&self, alloc: Global) -> Result<ConsolidatedMetadata, AllocError>
+        ensures { IfOk result (λ copy. copy ≡ self.now) }
+    {
+        Ok(ConsolidatedMetadata {
+            metadata: self.metadata.try_clone(alloc)?,
+        })
+    }
+}
+
+// The members of the document that a JSON value is, refused as `document_copy` refuses it, and not copied.
+fn members_of(value: &Value) -> Result<&Map<String, Value>, MetadataFault>
+    ensures gives { Gives (λ m. members_view m.now.entries) result (document_of (view value.now)) }
+    ensures whole { IfOk result (λ m. view value.now ≡ object (members_view m.now.entries)) }
+{
+    if let Value::Object(members) = value {
+        if !members_have_float(members) {
+            return Ok(members);
+        }
+    }
+    match document_copy(value) {
+        Err(fault) => Err(fault),
+        Ok(members) => {
+            drop(members);
+            Err(MetadataFault::NotAnObject)
+        }
+    }
+}
+
+// Asks whether the member `kind` is the text `inline`.
+fn ask_kind(members: &Map<String, Value>) -> Result<(), MetadataFault>
+    ensures { result ≡ required (codes "kind") inline (object (members_view members.now.entries)) }
+{
+    let Some(kind) = member(members, "kind") else {
+        return Err(MetadataFault::MissingMember(MemberName::new("kind")));
+    };
+    match kind.as_str() {
+        Some(text) if text == "inline" => Ok(()),
+        _ => Err(MetadataFault::BadMember(MemberName::new("kind"))),
+    }
+}
+
+// Asks whether the member `must_understand` is false, or not there.
+fn ask_not_understood(members: &Map<String, Value>) -> Result<(), MetadataFault>
+    ensures { result ≡ optional (codes "must_understand") tt untrue (object (members_view members.now.entries)) }
+{
+    match member(members, "must_understand") {
+        None | Some(Value::Bool(false)) => Ok(()),
+        Some(_) => Err(MetadataFault::BadMember(MemberName::new("must_understand"))),
+    }
+}
+
+// The nodes of the member `metadata`.
+fn metadata_of(
+    alloc: Global,
+    members: &Map<String, Value>,
+) -> Result<ConsolidatedMetadataMetadata, MetadataFault>
+    ensures { Gives (λ all. all) result (required (codes "metadata") nodes (object (members_view members.now.entries))) }
+{
+    let Some(value) = member(members, "metadata") else {
+        return Err(MetadataFault::MissingMember(MemberName::new("metadata")));
+    };
+    match value.as_object() {
+        Some(documents) => nodes_of(alloc, documents),
+        None => Err(MetadataFault::BadMember(MemberName::new("metadata"))),
+    }
+}
+
+// The nodes that whole node documents are, at the same keys.
+fn nodes_of(
+    alloc: Global,
+    documents: &Map<String, Value>,
+) -> Result<ConsolidatedMetadataMetadata, MetadataFault>
+    ensures { Gives (λ all. all) result (formed (codes "metadata") (nodes_of (members_view documents.now.entries))) }
+{
+    let mut all = ConsolidatedMetadataMetadata::new(alloc);
+    for (key, document) in documents.iter() {
+        let key = key.clone()?;
+        all.insert(key, node_of(alloc, document)?)?;
+    }
+    Ok(all)
+}
+
+// The node that a whole node document is.
+fn node_of(alloc: Global, document: &Value) -> Result<NodeMetadata, MetadataFault>
+    ensures { Gives (λ m. m) result (formed (codes "metadata") (result_ok (node_of (view document.now)))) }
+{
+    match NodeMetadata::from_value(alloc, document) {
+        Ok(node) => Ok(node),
+        Err(MetadataFault::OutOfMemory) => Err(MetadataFault::OutOfMemory),
+        Err(_) => Err(MetadataFault::BadMember(MemberName::new("metadata"))),
+    }
+}

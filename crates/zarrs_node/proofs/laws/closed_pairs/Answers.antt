@@ -1,0 +1,5 @@
+use Rattle.zarrs_node.proofs.LawProofs as law
+use Rattle.zarrs_node.proofs.laws.closed_pairs.Goals as goal
+
+pub returns : goal.returns
+returns c = law.closed_pairs

@@ -1,0 +1,39 @@
+-- Zarr core specification 3.1, "Group metadata", the field `consolidated_metadata`: what stands below a base, by the block that is used or, where none is used, by a listing.
+--     block_at s b m      the block that stands for the nodes below b, where there is one
+--     NodesBelow, PairsBelow      what a tree below b shows; what a flat list below b holds
+--     BadBelow, ShowsBadBelow      what refuses it; what a refusal shows
+use Rattle.std.specs.Prelude.{ℕ, Bool, true, List, Option, Some, None}
+use Rattle.zarrs_store.specs.Contents.{Contents}
+use Rattle.zarrs_path.specs.Paths.{Path}
+use Rattle.zarrs_meta.specs.declared.node.NodeMetadata.{NodeMetadata}
+use Rattle.zarrs_config.specs.declared.version.MetadataRetrieveVersion.{MetadataRetrieveVersion}
+use Rattle.zarrs_block.specs.Block.{Block, Entries, HasValidKeys}
+use Rattle.zarrs_block.specs.Used.{held}
+use Rattle.zarrs_block.specs.Expanded.{NamesBadKey}
+use Rattle.zarrs_block.specs.declared.node_create_error.NodeCreateError.{NodeCreateError}
+use Rattle.zarrs_node.specs.Reached.{Kept}
+use Rattle.zarrs_node.specs.Nodes.{Nodes, Bad, ShowsBad}
+
+-- the block that stands for the nodes below b in a store, where b has these metadata: the one that they hold
+abbrev pub block_at : Contents → Path → NodeMetadata → Option Block
+block_at s b m = held m
+
+-- the nodes below b: those that a listing finds, or where a block is used its entries between which and b all entries are groups
+abbrev pub NodesBelow : Contents → MetadataRetrieveVersion → Option Block → Bool → Path → Path × NodeMetadata → Type 0
+NodesBelow s v None recursive b = Nodes s v recursive b
+NodesBelow s v (Some B) recursive b = Kept (Entries B b) recursive b
+
+-- all pairs below b: those that a listing finds, or where a block is used all its entries
+abbrev pub PairsBelow : Contents → MetadataRetrieveVersion → Option Block → Path → Path × NodeMetadata → Type 0
+PairsBelow s v None b = Nodes s v true b
+PairsBelow s v (Some B) b = Entries B b
+
+-- what stands below b is refused: a listing comes upon something bad, or a key of the block that is used is not valid
+abbrev pub BadBelow : Contents → MetadataRetrieveVersion → Option Block → Bool → Path → Type 0
+BadBelow s v None recursive b = Bad s v recursive b
+BadBelow s v (Some B) recursive b = HasValidKeys B → ⊥
+
+-- the refusal is what a listing comes upon, or names the first bad part of a key of the block that is used
+abbrev pub ShowsBadBelow : Contents → MetadataRetrieveVersion → Option Block → Bool → Path → NodeCreateError → Type 0
+ShowsBadBelow s v None recursive b e = ShowsBad s v recursive b e
+ShowsBadBelow s v (Some B) recursive b e = NamesBadKey B e

@@ -1,0 +1,94 @@
+//! The documents of a store, as they are read.
+ghost use Rattle.std.specs.Prelude.{◌≡◌, Ok, IfOk, IfErr};
+ghost use Rattle.zarrs_node.specs.Meaning.{attributes_at, document_at};
+ghost use Rattle.zarrs_node.specs.Refused.{RefusesReading, refusal_at};
+
+use crate::last_read::LastRead;
+use std::alloc::Global;
+use zarrs_meta::{AttributesDocument, Document};
+use zarrs_path::{NodePath, meta_key_v2_attributes};
+use zarrs_store::{MetadataFault, ReadableStorageTraits, StorageError, StoreKey};
+
+/// The document at a key, or none where the key is absent.
+///
+/// # Errors
+///
+/// - `InvalidMetadata` where the document does not read, with its key and the fault.
+/// - `Fault` of a store that can fail, and `OutOfMemory`.
+///
+/// Source: Zarr core specification 3.1, "Metadata documents".
+pub fn document_at<S: ReadableStorageTraits, D: Document + Drop>(
+    alloc: Global,
+    storage: &S,
+    key: StoreKey,
+) -> Result<Option<D>, StorageError>
+    ensures ok { IfOk result (λ found. document_at D.reading (S.contents storage.now) key ≡ Ok found) }
+    ensures err { IfErr result (RefusesReading (S.can_fail storage.now) (document_at D.reading (S.contents storage.now) key)) }
+{
+    let mut last = LastRead::new(alloc);
+    find_document(alloc, storage, key, &mut last)
+}
+
+/// The attributes that `.zattrs` of a path has, or none where it is absent.
+///
+/// # Errors
+///
+/// - `InvalidMetadata` where `.zattrs` does not read, with its key and the fault.
+/// - `Fault` of a store that can fail, and `OutOfMemory`.
+///
+/// Source: Zarr specification version 2, "Attributes".
+pub fn attributes_at<S: ReadableStorageTraits>(
+    alloc: Global,
+    storage: &S,
+    path: &NodePath,
+) -> Result<Option<AttributesDocument>, StorageError>
+    ensures ok { IfOk result (λ found. attributes_at (S.contents storage.now) path.now ≡ Ok found) }
+    ensures err { IfErr result (RefusesReading (S.can_fail storage.now) (attributes_at (S.contents storage.now) path.now)) }
+{
+    let mut last = LastRead::new(alloc);
+    find_attributes(alloc, storage, path, &mut last)
+}
+
+// What `attributes_at` answers, where such a document was read before.
+pub(crate) fn find_attributes<S: ReadableStorageTraits>(
+    alloc: Global,
+    storage: &S,
+    path: &NodePath,
+    last: &mut LastRead<AttributesDocument>,
+) -> Result<Option<AttributesDocument>, StorageError>
+    ensures ok { IfOk result (λ found. attributes_at (S.contents storage.now) path.now ≡ Ok found) }
+    ensures err { IfErr result (RefusesReading (S.can_fail storage.now) (attributes_at (S.contents storage.now) path.now)) }
+{
+    let key = meta_key_v2_attributes(alloc, path)?;
+    find_document(alloc, storage, key, last)
+}
+
+// What `document_at` answers, where such a document was read before.
+#[tactic(auto, unfolding(crate::specs::Meaning::document_at))]
+pub(crate) fn find_document<S: ReadableStorageTraits, D: Document + Drop>(
+    alloc: Global,
+    storage: &S,
+    key: StoreKey,
+    last: &mut LastRead<D>,
+) -> Result<Option<D>, StorageError>
+    ensures ok { IfOk result (λ found. document_at D.reading (S.contents storage.now) key ≡ Ok found) }
+    ensures err { IfErr result (RefusesReading (S.can_fail storage.now) (document_at D.reading (S.contents storage.now) key)) }
+{
+    let Some(bytes) = storage.get(alloc, &key)? else {
+        return Ok(None);
+    };
+    match last.read(alloc, bytes) {
+        Ok(document) => Ok(Some(document)),
+        Err(fault) => Err(invalid(key, fault)),
+    }
+}
+
+// The refusal for a fault of the document at a key.
+fn invalid(key: StoreKey, fault: MetadataFault) -> StorageError
+    ensures { result ≡ refusal_at key fault }
+{
+    match fault {
+        MetadataFault::OutOfMemory => StorageError::OutOfMemory,
+        fault => StorageError::InvalidMetadata(key, fault),
+    }
+}

@@ -1,0 +1,135 @@
+//! Opening a node of a store.
+ghost use Rattle.std.specs.Prelude.{◌≡◌, true, IfOk, IfErr, ◌⊎◌};
+ghost use Rattle.zarrs_path.specs.Paths.{path_text};
+ghost use Rattle.zarrs_block.specs.Refused.{IsExcused};
+ghost use Rattle.zarrs_node.specs.Meaning.{meaning, node};
+ghost use Rattle.zarrs_block.specs.Block.{Entries, HasValidKeys};
+ghost use Rattle.zarrs_block.specs.Expanded.{RefusesKeys};
+ghost use Rattle.zarrs_node.specs.Forest.{Shows, forest, path_of, metadata_of, below_of};
+ghost use Rattle.zarrs_node.specs.Reached.{Kept};
+ghost use Rattle.zarrs_node.specs.Opened.{choice, ShowsChosen, IsCleanChosen, RefusesChosen, ShowsNode, IsCleanNode, RefusesOpening};
+
+use crate::build::build_node_tree;
+use crate::children::get_child_nodes_opt;
+use crate::node::Node;
+use log::Log;
+use std::alloc::Global;
+use zarrs_block::{
+    ConsolidatedMetadata, NodeCreateError, consolidated_metadata_for_open,
+    expand_consolidated_metadata,
+};
+use zarrs_config::{Config, MetadataRetrieveVersion};
+use zarrs_meta::NodeMetadata;
+use zarrs_path::NodePath;
+use zarrs_store::{ListableStorageTraits, ReadableStorageTraits};
+
+impl Node {
+    /// The node at a path with all below it, by the documents of version 3 and where there is none by those of version 2.
+    ///
+    /// # Errors
+    ///
+    /// The refusals of [`Node::open_opt`].
+    ///
+    /// Source: `zarrs::node::Node::open`.
+    pub fn open<L: Log, S: ReadableStorageTraits + ListableStorageTraits>(
+        log: &L,
+        alloc: Global,
+        storage: &S,
+        path: &str,
+        config: &Config,
+    ) -> Result<Node, NodeCreateError>
+        ensures path { IfOk result (λ made. path_text (path_of made) ≡ path.now) }
+        ensures means { IfOk result (λ made. meaning (S.contents storage.now) MetadataRetrieveVersion.Default (path_of made) ≡ node (metadata_of made)) }
+        ensures shows { IfOk result (λ made. ShowsNode (S.contents storage.now) MetadataRetrieveVersion.Default config.now.use_consolidated (path_of made) (metadata_of made) (below_of made)) }
+        ensures clean { IfOk result (λ made. IsCleanNode (S.contents storage.now) MetadataRetrieveVersion.Default config.now.use_consolidated (path_of made) (metadata_of made)) }
+        ensures refused { IfErr result (λ e. IsExcused (S.can_fail storage.now) e ⊎ RefusesOpening (S.contents storage.now) MetadataRetrieveVersion.Default config.now.use_consolidated path.now e) }
+    {
+        Node::open_opt(
+            log,
+            alloc,
+            storage,
+            path,
+            &MetadataRetrieveVersion::Default,
+            config,
+        )
+    }
+
+    /// The node at a path with all below it, by the documents of a version. An array has no children. Those of a group come from the
+    /// consolidated block that its metadata hold, where the configuration has it used, and else from a listing, which warns of each path
+    /// without documents that it passes over. Where a block is used, nothing below the path is looked at.
+    ///
+    /// # Errors
+    ///
+    /// The first that applies:
+    ///
+    /// - `NodePathError` with the text where it is that of no path.
+    /// - `MissingMetadata` with the path's text where no document stands at the path.
+    /// - `StorageError::InvalidMetadata` where a document of the path does not read, with its key and the fault, and
+    ///   `MetadataVersionMismatch` where one of version 2 stands at `zarr.json`.
+    /// - `MissingMetadata` that names the path where a group has no block that reads and the configuration demands one.
+    /// - `NodePathError` where a key of the block is no relative path.
+    /// - The refusals of `get_child_nodes_opt`, recursive, where the children are listed.
+    ///
+    /// In the place of each of these, and of a node, `StorageError::Fault` of a store that can fail, and `OutOfMemory` where memory is
+    /// wanting.
+    ///
+    /// Source: `zarrs::node::Node::open_opt`.
+    pub fn open_opt<L: Log, S: ReadableStorageTraits + ListableStorageTraits>(
+        log: &L,
+        alloc: Global,
+        storage: &S,
+        path: &str,
+        version: &MetadataRetrieveVersion,
+        config: &Config,
+    ) -> Result<Node, NodeCreateError>
+        ensures path { IfOk result (λ made. path_text (path_of made) ≡ path.now) }
+        ensures means { IfOk result (λ made. meaning (S.contents storage.now) version.now (path_of made) ≡ node (metadata_of made)) }
+        ensures shows { IfOk result (λ made. ShowsNode (S.contents storage.now) version.now config.now.use_consolidated (path_of made) (metadata_of made) (below_of made)) }
+        ensures clean { IfOk result (λ made. IsCleanNode (S.contents storage.now) version.now config.now.use_consolidated (path_of made) (metadata_of made)) }
+        ensures refused { IfErr result (λ e. IsExcused (S.can_fail storage.now) e ⊎ RefusesOpening (S.contents storage.now) version.now config.now.use_consolidated path.now e) }
+    {
+        let path = NodePath::new(alloc, path)?;
+        let metadata = Node::get_metadata(alloc, storage, &path, version)?;
+        let children = if metadata.is_group() {
+            nodes_below(log, alloc, storage, &path, &metadata, version, config)?
+        } else {
+            Vec::new(alloc)
+        };
+        Ok(Node::new_with_metadata(path, metadata, children))
+    }
+}
+
+// The nodes below the path of a group with these metadata, by its block or by a listing.
+fn nodes_below<L: Log, S: ReadableStorageTraits + ListableStorageTraits>(
+    log: &L,
+    alloc: Global,
+    storage: &S,
+    path: &NodePath,
+    metadata: &NodeMetadata,
+    version: &MetadataRetrieveVersion,
+    config: &Config,
+) -> Result<Vec<Node>, NodeCreateError>
+    ensures shows { IfOk result (λ nodes. ShowsChosen (S.contents storage.now) version.now (choice (S.contents storage.now) config.now.use_consolidated path.now metadata.now) true path.now (forest nodes.items)) }
+    ensures clean { IfOk result (λ _. IsCleanChosen (S.contents storage.now) version.now (choice (S.contents storage.now) config.now.use_consolidated path.now metadata.now) true path.now) }
+    ensures refused { IfErr result (λ e. IsExcused (S.can_fail storage.now) e ⊎ RefusesChosen (S.contents storage.now) version.now (choice (S.contents storage.now) config.now.use_consolidated path.now metadata.now) true path.now e) }
+{
+    let policy = config.use_consolidated_metadata();
+    match consolidated_metadata_for_open(alloc, path, metadata, policy)? {
+        Some(block) => nodes_of_block(alloc, path, block),
+        None => get_child_nodes_opt(log, alloc, storage, path, true, version),
+    }
+}
+
+// The nodes below a path that a block holds.
+fn nodes_of_block(
+    alloc: Global,
+    path: &NodePath,
+    block: ConsolidatedMetadata,
+) -> Result<Vec<Node>, NodeCreateError>
+    ensures shows { IfOk result (λ nodes. Shows (forest nodes.items) path.now (Kept (Entries block.metadata path.now) true path.now)) }
+    ensures keys { IfOk result (λ _. HasValidKeys block.metadata) }
+    ensures err { IfErr result (RefusesKeys block.metadata) }
+{
+    let pairs = expand_consolidated_metadata(alloc, path, block)?;
+    Ok(build_node_tree(alloc, path, pairs)?)
+}
