@@ -7,3 +7,6 @@ pub mod MeaningLaws
 pub mod Fields
 pub mod FieldLemmas
 pub mod Version3
+pub mod BlockFields
+pub mod Together
+pub mod GivesBack

@@ -27,7 +27,7 @@ use Rattle.zarrs_meta.specs.declared.attributes.AttributesDocument.{AttributesDo
 use Rattle.zarrs_meta.specs.declared.node.NodeMetadata.TheVariants.{Group}
 use Rattle.zarrs_meta.specs.Node.{group_with}
 use Rattle.zarrs_meta.specs.GroupV2.{group_v2_of}
-use Rattle.zarrs_node.specs.Meaning.{Meaning, node, nothing, document_at, attributes_at, version_2_line, line_3}
+use Rattle.zarrs_node.specs.Meaning.{in_bytes, Meaning, node, nothing, document_at, attributes_at, version_2_line, zgroup_line}
 use Rattle.zarrs_group.specs.Meaning.{group_line, group_meaning}
 use Rattle.zarrs_group.specs.Layout.{IsReadBack}
 use Rattle.zarrs_group.specs.Stored.{AreReadBack, attributes_edit, store_edits, without_attributes}
@@ -82,8 +82,8 @@ whole m (member k d ms) rest is = ap (λ a. node (Group (V2 (record { attributes
 
 -- the line of `.zgroup` over a stored version 2 group
 stored_v2 : (S : Contents) (p : Path) (m : GroupMetadataV2) (rest : Meaning) → group_v2_fault m ≡ None → AreReadBack (V2 m) → depth (object m.attributes) ≤ max_depth → depth (group_v2_tree (without_attributes m)) ≤ max_depth
-    → line_3 (after S (store_edits p (V2 m))) p rest ≡ node (Group (V2 m))
-unfolding line_3 document_at
+    → zgroup_line in_bytes (after S (store_edits p (V2 m))) p rest ≡ node (Group (V2 m))
+unfolding zgroup_line document_at
 stored_v2 S p m rest fault reads shallow shallow' =
     let own : Segments = p ++ zgroup ∷ [] in
     let attributes : Segments = p ++ zattrs ∷ [] in
@@ -101,7 +101,7 @@ pub means_stored : (S : Contents) (p : Path) (m : GroupMetadata) → group_fault
 unfolding group_meaning
 means_stored S p (V3 m) fault reads =
     λ shallow.
-    (stored_v3 S p m (line_3 (after S (store_edits p (V3 m))) p nothing) fault (reads shallow), stored_v3 S p m nothing fault (reads shallow))
+    (stored_v3 S p m (zgroup_line in_bytes (after S (store_edits p (V3 m))) p nothing) fault (reads shallow), stored_v3 S p m nothing fault (reads shallow))
 means_stored S p (V2 m) fault reads = stored_v2 S p m nothing fault reads
 
 -- the same at every path and over every store

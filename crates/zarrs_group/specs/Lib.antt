@@ -8,4 +8,7 @@ pub mod Unsupported
 pub mod Opened
 pub mod BorrowedMetadata
 pub mod Borrowed
+pub mod Consolidated
+pub mod Children
 pub mod Laws
+pub mod GivesBack

@@ -1,10 +1,7 @@
 -- Zarr core specification 3.1, "Group metadata", and the keys of Zarr version 2: what a path means as a group.
 -- The lines are those of the meaning of a node, without the one for arrays of version 2.
 use Rattle.std.specs.Prelude.{◌≡◌, [], ◌∷◌, ◌++◌, Bool, IsTrue, Option, Some, None, Result, Ok, Err}
-use Rattle.zarrs_store.specs.Segments.{Segments}
 use Rattle.zarrs_store.specs.Contents.{Contents}
-use Rattle.zarrs_store.specs.declared.fault.MetadataFault.{MetadataFault}
-use Rattle.zarrs_store.specs.declared.fault.MetadataFault.TheVariants.{OutOfMemory as NoMemoryToRead}
 use Rattle.zarrs_store.specs.declared.storage_error.StorageError.{StorageError}
 use Rattle.zarrs_store.specs.declared.storage_error.StorageError.TheVariants.{Fault, InvalidMetadata, Other, OutOfMemory}
 use Rattle.zarrs_path.specs.Paths.{Path}
@@ -17,15 +14,14 @@ use Rattle.zarrs_meta.specs.declared.group_v3.GroupMetadataV3.{GroupMetadataV3}
 use Rattle.zarrs_meta.specs.declared.node.GroupMetadata.{GroupMetadata}
 use Rattle.zarrs_meta.specs.declared.node.GroupMetadata.TheVariants.{V3}
 use Rattle.zarrs_meta.specs.declared.node.NodeMetadata.TheVariants.{Group}
-use Rattle.zarrs_block.specs.declared.node_create_error.NodeCreateError.{NodeCreateError}
 use Rattle.zarrs_block.specs.declared.node_create_error.NodeCreateError.TheVariants as refused
-use Rattle.zarrs_node.specs.Meaning.{Meaning, node, nothing, bad, document_at, line_3}
+use Rattle.zarrs_node.specs.Meaning.{in_bytes, Meaning, node, nothing, bad, document_at, zgroup_line}
 
 -- `zarr.json` where it is there: a version 3 group, or a fault; else what the lines after it say
-abbrev pub group_v3_line : Result (Option GroupMetadataV3) NodeCreateError → Meaning → Meaning
+abbrev pub group_v3_line : Result (Option GroupMetadataV3) StorageError → Meaning → Meaning
 group_v3_line (Ok None) after = after
 group_v3_line (Ok (Some m)) after = node (Group (V3 m))
-group_v3_line (Err e) after = bad e
+group_v3_line (Err e) after = bad (refused.StorageError e)
 
 -- the line of `zarr.json`, read as a version 3 group alone
 unfoldable pub group_line : Contents → Path → Meaning → Meaning
@@ -33,22 +29,15 @@ group_line s p after = group_v3_line (document_at (of_bytes group_v3_of) s (p ++
 
 -- by default `zarr.json`, then `.zgroup` with `.zattrs`; as version 3 the first alone, as version 2 the second alone
 unfoldable pub group_meaning : Contents → MetadataRetrieveVersion → Path → Meaning
-group_meaning s version.Default p = group_line s p (line_3 s p nothing)
+group_meaning s version.Default p = group_line s p (zgroup_line in_bytes s p nothing)
 group_meaning s version.V3 p = group_line s p nothing
-group_meaning s version.V2 p = line_3 s p nothing
+group_meaning s version.V2 p = zgroup_line in_bytes s p nothing
 
 -- p means the group with these metadata
 abbrev pub MeansGroup : Contents → MetadataRetrieveVersion → Path → GroupMetadata → Type 0
 MeansGroup s v p m = group_meaning s v p ≡ node (Group m)
 
 -- ---- what a reading answers
-
--- the error is the fault of a store that can fail, or want of memory, or what stands at the key is refused with it
-abbrev pub RefusesReading : {D : Type 0} → Bool → Result D NodeCreateError → StorageError → Type 0
-RefusesReading can_fail reading Fault = IsTrue can_fail
-RefusesReading can_fail reading (InvalidMetadata key fault) = reading ≡ Err (refused.StorageError (InvalidMetadata key fault))
-RefusesReading can_fail reading (Other text) = ⊥
-RefusesReading can_fail reading OutOfMemory = Unit {0}
 
 -- the answer is what this line says, whatever the lines after it
 abbrev pub FindsByLine : Option GroupMetadata → (Meaning → Meaning) → Type 0
@@ -73,8 +62,3 @@ RefusesMeaning can_fail meaning Fault = IsTrue can_fail
 RefusesMeaning can_fail meaning (InvalidMetadata key fault) = meaning ≡ bad (refused.StorageError (InvalidMetadata key fault))
 RefusesMeaning can_fail meaning (Other text) = ⊥
 RefusesMeaning can_fail meaning OutOfMemory = Unit {0}
-
--- the fault of the document at a key, as the error of a store's call: want of memory is its own
-abbrev pub refused_as : Segments → MetadataFault → StorageError
-refused_as key NoMemoryToRead = OutOfMemory
-refused_as key fault = InvalidMetadata key fault

@@ -17,7 +17,7 @@ use zarrs_meta::{AdditionalFieldsV3, GroupMetadata, GroupMetadataV3, Object};
 /// Makes groups of version 3.
 ///
 /// Source: `zarrs::group::GroupBuilder`.
-#[derive(Drop)]
+#[derive(Debug, Drop)]
 pub struct GroupBuilder {
     metadata: GroupMetadataV3,
 }

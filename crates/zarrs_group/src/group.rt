@@ -32,10 +32,10 @@ use zarrs_store::{ReadableStorageTraits, StorageError, WritableStorageTraits};
 /// A group: a path with metadata, and the versions that it is stored and erased by.
 ///
 /// Source: `zarrs::group::Group`.
-#[derive(Drop)]
+#[derive(Debug, Drop)]
 pub struct Group {
     path: NodePath,
-    metadata: GroupMetadata,
+    pub(crate) metadata: GroupMetadata,
     options: GroupMetadataOptions,
     erase_version: MetadataEraseVersion,
 }
@@ -144,7 +144,7 @@ impl Group {
     }
 
     // The group of these parts, with the choices of the configuration.
-    fn with_choices(path: NodePath, metadata: GroupMetadata, config: &Config) -> Group
+    pub(crate) fn with_choices(path: NodePath, metadata: GroupMetadata, config: &Config) -> Group
         ensures { result ≡ record {
           path = path;
           metadata = metadata;

@@ -2,6 +2,7 @@
 //! which its law speaks; its contract is the law.
 ghost use Rattle.std.specs.Prelude.{◌≡◌, None, IfErr, OnOk};
 ghost use Rattle.zarrs_group.specs.Laws.{Version3Keeps, Version3Stays, Version3Twice, PlainIsStored, ErasingAllErases, OtherKeysStay, ArraysStay, StoredMeans};
+ghost use Rattle.zarrs_group.specs.GivesBack.{GroupGivesBack, StoredGivesBack};
 ghost use Rattle.zarrs_group.specs.Stored.{RefusesMetadata};
 
 use crate::stored::edits_to_store;
@@ -68,3 +69,19 @@ pub fn stored_means(
     drop(edits);
     Ok(())
 }
+
+/// A version 3 group whose block was set to that of a listed forest gives the forest back: by `children`, recursive, and by `traverse`, whatever
+/// store is handed in, under every policy but Never.
+///
+/// Source: `zarrs::group::Group::children`, `traverse`, `set_consolidated_metadata`; `zarrs::node::Node::consolidate_metadata`.
+pub fn group_gives_back()
+    ensures { GroupGivesBack }
+{}
+
+/// So does a node opened at its path over any store that has the bytes of the stored group at its key, by default and as version 3, where the
+/// group's document does not nest too deep.
+///
+/// Source: `zarrs::node::Node::open_opt`, `zarrs::group::Group::store_metadata`.
+pub fn stored_gives_back()
+    ensures { StoredGivesBack }
+{}

@@ -3,6 +3,8 @@
 #![tactic(auto)]
 
 mod builder;
+mod children;
+mod consolidated;
 mod create_error;
 mod edit;
 mod group;

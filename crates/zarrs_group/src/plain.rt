@@ -1,13 +1,11 @@
 //! Why the metadata of a group are not plain.
 ghost use Rattle.std.specs.Prelude.{◌≡◌};
-ghost use Rattle.serde_json.specs.Find.{get_member};
-ghost use Rattle.serde_json.specs.View.{view, items_view, members_view, members_of};
-ghost use Rattle.serde_json.specs.Written as written;
-ghost use Rattle.zarrs_form.specs.Documents.{is_null};
+ghost use Rattle.serde_json.specs.View.{members_view, members_of};
 ghost use Rattle.zarrs_group.specs.Plain.{group_v3_fault, group_v2_fault};
 ghost use Rattle.zarrs_group.specs.Plain as plain;
 
 use serde_json::{Map, Value};
+use zarrs_form::{fields_have_float, is_null_at, members_have_float};
 use zarrs_meta::{AdditionalFieldV3, GroupMetadataV2, GroupMetadataV3};
 use zarrs_store::{MemberName, MetadataFault};
 
@@ -53,54 +51,7 @@ pub(crate) fn group_v2_fault(group: &GroupMetadataV2) -> Option<MetadataFault>
     Some(MetadataFault::BadMember(MemberName::new(clash)))
 }
 
-// Whether a number in the value is neither `u64` nor `i64`.
-#[cycle(has_float)]
-fn has_float(value: &Value) -> bool
-    ensures { result ≡ written.has_float (view value.now) }
-{
-    match value {
-        Value::Number(number) => number.is_f64(),
-        Value::Array(items) => items_have_float(items),
-        Value::Object(members) => members_have_float(members),
-        _ => false,
-    }
-}
-
-#[cycle(has_float)]
-fn items_have_float(items: &Vec<Value>) -> bool
-    ensures { result ≡ written.items_have_float (items_view items.now.items) }
-{
-    for item in items {
-        if has_float(item) {
-            return true;
-        }
-    }
-    false
-}
-
-#[cycle(has_float)]
-fn members_have_float(members: &Map<String, Value>) -> bool
-    ensures { result ≡ written.members_have_float (members_view members.now.entries) }
-{
-    for (_name, member) in members.iter() {
-        if has_float(member) {
-            return true;
-        }
-    }
-    false
-}
-
-fn fields_have_float(fields: &Map<String, AdditionalFieldV3>) -> bool
-    ensures { result ≡ written.members_have_float (members_of fields.now.entries) }
-{
-    for (_name, field) in fields.iter() {
-        if has_float(field.as_value()) {
-            return true;
-        }
-    }
-    false
-}
-
+// Whether a member has this name.
 fn has_member(members: &Map<String, Value>, name: &str) -> bool
     ensures { result ≡ plain.has_member name.now (members_view members.now.entries) }
 {
@@ -110,20 +61,12 @@ fn has_member(members: &Map<String, Value>, name: &str) -> bool
     }
 }
 
+// Whether a field has this name.
 fn has_field(fields: &Map<String, AdditionalFieldV3>, name: &str) -> bool
     ensures { result ≡ plain.has_member name.now (members_of fields.now.entries) }
 {
     match fields.get(name) {
         Some(_) => true,
-        None => false,
-    }
-}
-
-fn is_null_at(fields: &Map<String, AdditionalFieldV3>, name: &str) -> bool
-    ensures { result ≡ is_null (get_member name.now (members_of fields.now.entries)) }
-{
-    match fields.get(name) {
-        Some(field) => field.as_value().is_null(),
         None => false,
     }
 }

@@ -1,6 +1,8 @@
+pub mod Blocks
 pub mod Lines
 pub mod Loads
 pub mod Members
+pub mod PlainMeanings
 pub mod Runs
 pub mod StoreSteps
 pub mod WholeInput

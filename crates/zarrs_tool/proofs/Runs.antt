@@ -1,15 +1,24 @@
 -- From a store's refusal to a run's.
 use Rattle.std.proofs.Common.{◌≡◌, ℕ, List, ◌∷◌, [], Option, Bool, false, sym, subst, ap, refl, inl, inr, Vec, Global}
 use Rattle.std.specs.Prelude.{◌≢◌, Result, Ok, Err, IfOk, IfErr, OnOk}
-use Rattle.std.specs.Io.KnownBytes.{IsAtEnd}
+use Rattle.std.specs.Io.KnownBytes.{Appends, IsAtEnd}
 use Rattle.zarrs_store.specs.Contents.{Contents}
 use Rattle.zarrs_path.specs.Paths.{Path, IsPath, path_text}
 use Rattle.zarrs_tool.specs.Image.{IsLoaded, RefusedImage}
-use Rattle.zarrs_tool.specs.Output.{IsCommand, IsListing, IsOutput, WritesOutput, command_words, goes_below, word_text}
-use Rattle.zarrs_tool.specs.Refused.{IsListingFault, IsPathFault, IsRefusal, RefusedRun}
+use Rattle.zarrs_tool.specs.Output.{IsCommand, IsOutput, Writes, WritesOutput, command_words, word_text}
+use Rattle.zarrs_tool.specs.Refused.{IsPathFault, IsRefusal, IsWordFault, RefusedRun}
 use Rattle.zarrs_tool.specs.declared.run.Command.{Command}
 use Rattle.zarrs_tool.specs.declared.fault.ToolFault.{ToolFault}
 use Rattle.zarrs_tool.specs.declared.fault.ToolFault.TheVariants.{Usage, Read, ReadTooLong, Image, ImageKey, ImageValue, Folder, NotAGroup, Node, Write, OutOfMemory}
+
+-- the words of a command are one
+pub is_command : (command : Command) (words : List (List ℕ)) → command_words command ≡ words → IsCommand words
+is_command command words same = (command.word, command.path.now, sym same)
+
+-- a run of a command is never refused for its words
+pub usage_of_none : {T : Type 0} (command : Command) (words : List (List ℕ)) (r : Result T ToolFault) → command_words command ≡ words → r ≢ Err Usage
+    → (r ≡ Err Usage → IsCommand words → ⊥) × ((IsCommand words → ⊥) → r ≡ Err Usage)
+usage_of_none command words r same known = ((λ (usage : r ≡ Err Usage) is. known usage), (λ none. absurd (none (is_command command words same))))
 
 -- a refusal over the store of the image refuses the run
 pub refused_run : (words : List (List ℕ)) (before after : Option (List ℕ)) (store : Contents) (fault : ToolFault) → IsCommand words
@@ -24,12 +33,13 @@ refused_run words before after store Image command end loaded refused = absurd r
 refused_run words before after store (ImageKey name) command end loaded refused = absurd refused
 refused_run words before after store (ImageValue name) command end loaded refused = absurd refused
 refused_run words before after store Folder command end loaded refused = absurd refused
-refused_run words before after store NotAGroup command end loaded refused = absurd refused
+refused_run words before after store NotAGroup command end loaded refused = (end, (store, loaded, refused))
 
-pub refused_result : {T : Type 0} (words : List (List ℕ)) (before after : Option (List ℕ)) (store : Contents) (r : Result T ToolFault) → IsCommand words
-    → IsAtEnd after → IsLoaded before store → IfErr r (IsRefusal false words store) → IfErr r (RefusedRun words before after)
-refused_result words before after store (Ok x) command end loaded refused = tt
-refused_result words before after store (Err fault) command end loaded refused = refused_run words before after store fault command end loaded refused
+pub refused_result : {T : Type 0} (command : Command) (words : List (List ℕ)) (before after : Option (List ℕ)) (store : Contents) (r : Result T ToolFault) → command_words command ≡ words
+    → IsAtEnd after → IsLoaded before store → IfErr r (IsRefusal false (command_words command) store) → IfErr r (RefusedRun words before after)
+refused_result command words before after store (Ok x) same end loaded refused = tt
+refused_result command words before after store (Err fault) same end loaded refused =
+    refused_run words before after store fault (is_command command words same) end loaded (subst (λ w. IsRefusal false w store fault) same refused)
 
 -- a refused image refuses the run
 pub refused_load : (words : List (List ℕ)) (before after : Option (List ℕ)) (fault : ToolFault) → RefusedImage before after fault → RefusedRun words before after fault
@@ -42,12 +52,8 @@ refused_load words before after Image refused = refused
 refused_load words before after (ImageKey name) refused = refused
 refused_load words before after (ImageValue name) refused = refused
 refused_load words before after Folder refused = refused
-refused_load words before after NotAGroup refused = refused
+refused_load words before after NotAGroup refused = absurd refused
 refused_load words before after OutOfMemory refused = refused
-
--- the words of a command are one
-pub is_command : (command : Command) (words : List (List ℕ)) → command_words command ≡ words → IsCommand words
-is_command command words same = (command.word, command.path.now, sym same)
 
 -- the words of a command are refused by no image
 pub not_usage : {T : Type 0} (words : List (List ℕ)) (before after : Option (List ℕ)) (r : Result T ToolFault) (fault : ToolFault) → IsCommand words → r ≡ Err fault
@@ -59,11 +65,28 @@ pub refused_load_result : {T : Type 0} (words : List (List ℕ)) (before after :
     → RefusedImage before after fault → IfErr r (RefusedRun words before after)
 refused_load_result words before after r fault is refused = subst (λ x. IfErr x (RefusedRun words before after)) (sym is) (refused_load words before after fault refused)
 
--- what was written about the store of the image was written about the image
-pub written_result : {E : Type 0} (words : List (List ℕ)) (before : Option (List ℕ)) (store : Contents) (old new : Option (List ℕ)) (r : Result (Unit {0}) E) → IsLoaded before store
-    → OnOk r (WritesOutput words store old new) → OnOk r ((s : Contents) × IsLoaded before s × WritesOutput words s old new)
-written_result words before store old new (Ok done) loaded writes = (store, loaded, writes)
-written_result words before store old new (Err e) loaded writes = tt
+-- what a command wrote about the store of the image, the words wrote about the image
+pub written_result : {E : Type 0} (command : Command) (words : List (List ℕ)) (before : Option (List ℕ)) (store : Contents) (old new : Option (List ℕ)) (r : Result (Unit {0}) E) → command_words command ≡ words → IsLoaded before store
+    → OnOk r (WritesOutput (command_words command) store old new) → OnOk r ((s : Contents) × IsLoaded before s × WritesOutput words s old new)
+written_result command words before store old new (Ok done) same loaded writes = (store, loaded, subst (λ w. WritesOutput w store old new) same writes)
+written_result command words before store old new (Err e) same loaded writes = tt
+
+-- what a command writes, its words write
+pub worded_output : {E : Type 0} (command : Command) (words : List (List ℕ)) (store : Contents) (old new : Option (List ℕ)) (r : Result (Unit {0}) E) → command_words command ≡ words
+    → OnOk r (WritesOutput (command_words command) store old new) → OnOk r (WritesOutput words store old new)
+worded_output command words store old new r same writes = subst (λ w. OnOk r (WritesOutput w store old new)) same writes
+
+-- the output that was appended was written
+pub wrote_result : {E : Type 0} (words : List (List ℕ)) (store : Contents) (old new : Option (List ℕ)) (text said : List ℕ) (r : Result (Unit {0}) E) → IsOutput words store text → said ≡ text
+    → OnOk r (Appends old new said) → OnOk r (WritesOutput words store old new)
+wrote_result words store old new text said (Ok done) is same appends = (text, is, subst (Appends old new) same appends)
+wrote_result words store old new text said (Err e) is same appends = tt
+
+-- where the writer fails there was an output
+pub unwritten_result : {T : Type 0} (can_fail : Bool) (words : List (List ℕ)) (store : Contents) (text : List ℕ) (r : Result T ToolFault) → IsOutput words store text
+    → IfErr r (λ fault. fault ≡ Write) → IfErr r (IsRefusal can_fail words store)
+unwritten_result can_fail words store text (Ok x) is failed = tt
+unwritten_result can_fail words store text (Err fault) is failed = subst (IsRefusal can_fail words store) (sym failed) (text, is)
 
 -- a refusal of the words' path or listing, which is neither of the writer nor of the words
 abbrev pub IsOutputFault : Bool → List (List ℕ) → Contents → ToolFault → Type 0
@@ -88,30 +111,30 @@ pub path_fault_result : {T : Type 0} (can_fail : Bool) (command : Command) (stor
     → IfErr r (λ f. (f ≢ Write) × (f ≢ Usage) × IsRefusal can_fail (command_words command) store f)
 path_fault_result can_fail command store r fault is refused = subst (λ x. IfErr x (λ f. (f ≢ Write) × (f ≢ Usage) × IsRefusal can_fail (command_words command) store f)) (sym is) (path_fault can_fail command store fault refused)
 
-module _ (can_fail : Bool) (command : Command) (store : Contents) (base : Path) (recursive : Bool) (valid : IsPath base) (same : path_text base ≡ command.path.now) (level : recursive ≡ goes_below command.word) where
+module _ (can_fail : Bool) (command : Command) (store : Contents) (base : Path) (valid : IsPath base) (same : path_text base ≡ command.path.now) where
   worded : command_words command ≡ word_text command.word ∷ path_text base ∷ []
   worded = ap (λ p. word_text command.word ∷ p ∷ []) (sym same)
 
-  -- the listing is the command's output
-  pub listed_output : (r : Result (Vec ℕ Global) ToolFault) → IfOk r (λ text. IsListing store recursive base text.items) → IfOk r (λ text. IsOutput (command_words command) store text.items)
-  listed_output (Ok text) listing = (command.word, base, valid, worded, subst (λ b. IsListing store b base text.items) level listing)
-  listed_output (Err e) listing = tt
+  -- what the word writes is the command's output
+  pub word_output : (r : Result (Vec ℕ Global) ToolFault) → IfOk r (λ text. Writes command.word store base text.items) → IfOk r (λ text. IsOutput (command_words command) store text.items)
+  word_output (Ok text) writes = (command.word, base, valid, worded, writes)
+  word_output (Err e) writes = tt
 
-  -- a refused listing refuses the command
-  listing_fault : (fault : ToolFault) → IsListingFault can_fail store recursive base fault → IsOutputFault can_fail (command_words command) store fault
-  listing_fault (Node e) refused = ((λ (h : Node e ≡ Write). cc h), (λ (h : Node e ≡ Usage). cc h), inr (command.word, base, valid, worded, subst (λ b. IsListingFault can_fail store b base (Node e)) level refused))
-  listing_fault OutOfMemory refused = ((λ (h : OutOfMemory ≡ Write). cc h), (λ (h : OutOfMemory ≡ Usage). cc h), tt)
-  listing_fault Usage refused = absurd refused
-  listing_fault Read refused = absurd refused
-  listing_fault ReadTooLong refused = absurd refused
-  listing_fault Image refused = absurd refused
-  listing_fault (ImageKey name) refused = absurd refused
-  listing_fault (ImageValue name) refused = absurd refused
-  listing_fault Folder refused = absurd refused
-  listing_fault NotAGroup refused = absurd refused
-  listing_fault Write refused = absurd refused
+  -- what refuses the word refuses the command
+  word_fault : (fault : ToolFault) → IsWordFault can_fail command.word store base fault → IsOutputFault can_fail (command_words command) store fault
+  word_fault (Node e) refused = ((λ (h : Node e ≡ Write). cc h), (λ (h : Node e ≡ Usage). cc h), inr (command.word, base, valid, worded, refused))
+  word_fault NotAGroup refused = ((λ (h : NotAGroup ≡ Write). cc h), (λ (h : NotAGroup ≡ Usage). cc h), (command.word, base, valid, worded, refused))
+  word_fault OutOfMemory refused = ((λ (h : OutOfMemory ≡ Write). cc h), (λ (h : OutOfMemory ≡ Usage). cc h), tt)
+  word_fault Usage refused = absurd refused
+  word_fault Read refused = absurd refused
+  word_fault ReadTooLong refused = absurd refused
+  word_fault Image refused = absurd refused
+  word_fault (ImageKey name) refused = absurd refused
+  word_fault (ImageValue name) refused = absurd refused
+  word_fault Folder refused = absurd refused
+  word_fault Write refused = absurd refused
 
-  pub listing_fault_result : {T : Type 0} (r : Result T ToolFault) → IfErr r (IsListingFault can_fail store recursive base)
+  pub word_fault_result : {T : Type 0} (r : Result T ToolFault) → IfErr r (IsWordFault can_fail command.word store base)
       → IfErr r (λ f. (f ≢ Write) × (f ≢ Usage) × IsRefusal can_fail (command_words command) store f)
-  listing_fault_result (Ok x) refused = tt
-  listing_fault_result (Err fault) refused = listing_fault fault refused
+  word_fault_result (Ok x) refused = tt
+  word_fault_result (Err fault) refused = word_fault fault refused

@@ -10,7 +10,7 @@ use Rattle.serde_json.specs.Find.{as_str}
 use Rattle.serde_json.specs.Read.{read}
 use Rattle.zarrs_store.specs.Segments.{Segments, IsKey, IsKeyText, key_text}
 use Rattle.zarrs_store.specs.Contents.{Contents, HasKey}
-use Rattle.zarrs_tool.specs.Reading.{RefusedReading}
+use Rattle.zarrs_tool.specs.Reading.{IsWithinBound, RefusedReading}
 use Rattle.zarrs_tool.specs.declared.fault.ToolFault.{ToolFault}
 use Rattle.zarrs_tool.specs.declared.fault.ToolFault.TheVariants.{Image, ImageKey, ImageValue, OutOfMemory}
 
@@ -78,9 +78,9 @@ IsImageFault bytes (ImageKey name) = (members : Members) × IsObject members byt
 IsImageFault bytes (ImageValue name) = (members : Members) × IsObject members bytes × IsFirstBadValue (listed members) (string_bytes name)
 IsImageFault bytes _ = ⊥
 
--- the reader was read to its end, and what it gave is no image
+-- the reader was read to its end within the bound, and what it gave is no image
 abbrev pub IsReadFault : Option (List ℕ) → Option (List ℕ) → ToolFault → Type 0
-IsReadFault before after fault = IsAtEnd after × IfSome before (λ bytes. IsImageFault bytes fault)
+IsReadFault before after fault = IsAtEnd after × IfSome before (λ bytes. IsWithinBound bytes × IsImageFault bytes fault)
 
 -- what a reader gave, and where it stands, when no object was read
 abbrev pub RefusedObject : Option (List ℕ) → Option (List ℕ) → ToolFault → Type 0

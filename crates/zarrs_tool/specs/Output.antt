@@ -1,16 +1,32 @@
--- What a command writes about a store: the paths of its nodes, as the Zarr core specification 3.1 defines nodes, children and paths in "Hierarchy".
+-- What a command writes about a store: the paths of its nodes, as the Zarr core specification 3.1 defines nodes, children and paths in "Hierarchy",
+-- the text of a hierarchy, and the consolidated block of a group in the form of zarr-python.
+--     word_text w, IsCommand words      how a word is written; words that are a command's
+--     IsListing, IsTree, IsBlockText      what the words write of a path
+--     Writes w, IsOutput words      the text that a word writes of a path; the text that a command's words write
 use Rattle.std.specs.Prelude.{◌≡◌, ℕ, Bool, true, false, List, [], ◌∷◌, ◌++◌, map, codes, Option, String, string_bytes}
 use Rattle.std.specs.declared.alloc.Global.{Global}
 use Rattle.std.specs.List.{flat_map}
 use Rattle.std.specs.Io.KnownBytes.{Appends}
 use Rattle.zarrs_store.specs.Contents.{Contents, Lists}
 use Rattle.zarrs_path.specs.Paths.{Path, IsPath, path_text}
+use Rattle.zarrs_meta.specs.declared.node.GroupMetadata.{GroupMetadata}
 use Rattle.zarrs_meta.specs.declared.node.NodeMetadata.{NodeMetadata}
+use Rattle.zarrs_meta.specs.declared.node.NodeMetadata.TheVariants.{Group}
 use Rattle.zarrs_config.specs.declared.version.MetadataRetrieveVersion.TheVariants.{Default}
+use Rattle.zarrs_config.specs.declared.version.UseConsolidatedMetadata.TheVariants.{Auto, Never}
+use Rattle.zarrs_block.specs.Block.{Block, IsAscending, IsBlockOf, block_tree}
+use Rattle.zarrs_node.specs.declared.node.Node.{Node}
+use Rattle.zarrs_node.specs.Forest.{HasPlacedChildren, path_of, metadata_of, below_of}
+use Rattle.zarrs_node.specs.Meaning.{meaning, node}
 use Rattle.zarrs_node.specs.Order.{Ascend}
-use Rattle.zarrs_node.specs.Nodes.{Nodes}
+use Rattle.zarrs_node.specs.Nodes.{Nodes, Bad}
+use Rattle.zarrs_node.specs.Opened.{ShowsNode, IsCleanNode}
+use Rattle.zarrs_group.specs.Layout.{pretty_text}
+use Rattle.zarrs_hierarchy.specs.Held.{Pairs}
+use Rattle.zarrs_hierarchy.specs.Opened.{IsOpened}
+use Rattle.zarrs_hierarchy.specs.Tree.{IsTreeOf}
 use Rattle.zarrs_tool.specs.declared.run.Word.{Word}
-use Rattle.zarrs_tool.specs.declared.run.Word.TheVariants.{Children, List as ListAll}
+use Rattle.zarrs_tool.specs.declared.run.Word.TheVariants.{Children, List as ListAll, Tree, Consolidate}
 use Rattle.zarrs_tool.specs.declared.run.Command.{Command}
 
 -- the texts of words
@@ -21,17 +37,14 @@ texts words = map (λ w. string_bytes w) words
 abbrev pub word_text : Word → List ℕ
 word_text Children = codes "children"
 word_text ListAll = codes "list"
-
--- whether the command goes below the children: `list` does
-abbrev pub goes_below : Word → Bool
-goes_below Children = false
-goes_below ListAll = true
+word_text Tree = codes "tree"
+word_text Consolidate = codes "consolidate"
 
 -- the words of a command
 abbrev pub command_words : Command → List (List ℕ)
 command_words command = word_text command.word ∷ command.path.now ∷ []
 
--- the words are a command's: `children PATH` or `list PATH`
+-- the words are a command's: `children PATH`, `list PATH`, `tree PATH` or `consolidate PATH`
 abbrev pub IsCommand : List (List ℕ) → Type 0
 IsCommand words = (word : Word) × (path : List ℕ) × (words ≡ word_text word ∷ path ∷ [])
 
@@ -39,17 +52,47 @@ IsCommand words = (word : Word) × (path : List ℕ) × (words ≡ word_text wor
 abbrev pub path_lines : List (Path × NodeMetadata) → List ℕ
 path_lines nodes = flat_map (λ n. path_text n.0 ++ 10 ∷ []) nodes
 
--- the text is the lines of the paths of the nodes below the base, one level or all, each once, in path order
+-- the text is the lines of the paths of the nodes below the base, one level or all, each once, in path order, and nothing on the way is bad
 pub record IsListing (store : Contents) (recursive : Bool) (base : Path) (text : List ℕ) : Type 0 where
   pub nodes : List (Path × NodeMetadata)
   pub lists : Lists (Nodes store Default recursive base) nodes
   pub ascend : Ascend nodes
   pub is : text ≡ path_lines nodes
+  pub clean : Bad store Default recursive base → ⊥
+
+-- the text is the tree, from the base on, of the hierarchy that is opened at the base with a block used where there is one
+abbrev pub IsTree : Contents → Path → List ℕ → Type 0
+IsTree store base text = (hierarchy : Pairs) × IsOpened store Default Auto (path_text base) hierarchy × IsTreeOf hierarchy base text
+
+-- the base means a group, and the text is the pretty layout of the block that holds exactly the nodes that a listing finds below the base, and a
+-- newline; nothing on the way is bad
+pub record IsBlockText (store : Contents) (base : Path) (text : List ℕ) : Type 0 where
+  pub group : GroupMetadata
+  pub means : meaning store Default base ≡ node (Group group)
+  pub block : Block
+  pub ascending : IsAscending block
+  pub holds : IsBlockOf (Nodes store Default true base) base block
+  pub is : text ≡ pretty_text (block_tree block) ++ 10 ∷ []
+  pub clean : Bad store Default true base → ⊥
+
+-- what a word writes of a path
+abbrev pub Writes : Word → Contents → Path → List ℕ → Type 0
+Writes Children store base text = IsListing store false base text
+Writes ListAll store base text = IsListing store true base text
+Writes Tree store base text = IsTree store base text
+Writes Consolidate store base text = IsBlockText store base text
 
 -- what the words write about a store
 abbrev pub IsOutput : List (List ℕ) → Contents → List ℕ → Type 0
-IsOutput words store text =
-    (word : Word) × (base : Path) × IsPath base × (words ≡ word_text word ∷ path_text base ∷ []) × IsListing store (goes_below word) base text
+IsOutput words store text = (word : Word) × (base : Path) × IsPath base × (words ≡ word_text word ∷ path_text base ∷ []) × Writes word store base text
+
+-- the node is what the base means, with all that a listing finds below it where it is a group
+pub record IsListed (store : Contents) (base : Path) (opened : Node) : Type 0 where
+  pub path : path_of opened ≡ base
+  pub means : meaning store Default base ≡ node (metadata_of opened)
+  pub shows : ShowsNode store Default Never base (metadata_of opened) (below_of opened)
+  pub clean : IsCleanNode store Default Never base (metadata_of opened)
+  pub placed : HasPlacedChildren opened
 
 -- the words' output was appended to what the writer held
 abbrev pub WritesOutput : List (List ℕ) → Contents → Option (List ℕ) → Option (List ℕ) → Type 0

@@ -1,5 +1,5 @@
 -- What reading an input to its end does to a reader whose bytes are known.
-use Rattle.std.specs.Prelude.{◌≡◌, ℕ, ◌≤◌, List, length, ⊤, Option, IfSome}
+use Rattle.std.specs.Prelude.{◌≡◌, ℕ, ◌*◌, ◌≤◌, List, length, ⊤, Option, IfSome}
 use Rattle.std.specs.Io.KnownBytes.{Consumes, IsAtEnd}
 use Rattle.zarrs_tool.specs.declared.fault.ToolFault.{ToolFault}
 use Rattle.zarrs_tool.specs.declared.fault.ToolFault.TheVariants.{Read, ReadTooLong, OutOfMemory}
@@ -8,6 +8,10 @@ use Rattle.zarrs_tool.specs.declared.fault.ToolFault.TheVariants.{Read, ReadTooL
 pub record IsReadWhole (before after : Option (List ℕ)) (bytes : List ℕ) : Type 0 where
   pub all : IfSome before (λ left. bytes ≡ left)
   pub at_end : IsAtEnd after
+
+-- the bytes are no more than a million reads of 65,536 bytes give
+abbrev pub IsWithinBound : List ℕ → Type 0
+IsWithinBound bytes = length bytes ≤ 1000000 * 65536
 
 -- n bytes or more were read
 abbrev pub ReadsAtLeast : ℕ → Option (List ℕ) → Option (List ℕ) → Type 0

@@ -5,6 +5,7 @@ ghost use Rattle.std.specs.Io.KnownBytes.{IsAtEnd};
 ghost use Rattle.serde_json.specs.View.{members_view, view};
 ghost use Rattle.serde_json.specs.Find.{as_object, as_str};
 ghost use Rattle.zarrs_store.specs.Segments.{key_cmp};
+ghost use Rattle.zarrs_tool.specs.Reading.{IsWithinBound};
 ghost use Rattle.zarrs_tool.specs.Image.{HoldsMembers, IsMemberFault, IsLoaded, IsObject, RefusedImage, RefusedObject, listed};
 
 use crate::fault::ToolFault;
@@ -14,7 +15,7 @@ use std::alloc::Global;
 use std::io::Read;
 use zarrs_store::{MemoryStore, StoreKey};
 
-/// The store of an image, which is read to its end.
+/// The store of an image, which is read to its end, in at most 1,000,000 reads of at most 65,536 bytes.
 ///
 /// # Errors
 /// What reading refuses; `Image` where the bytes are no JSON object; and at the first member, by
@@ -24,6 +25,7 @@ pub fn load_image<R: Read>(alloc: Global, reader: &mut R) -> Result<MemoryStore,
     ensures ok { IfOk result (λ store.
         IsLoaded (R.remaining reader.old) (map.from_entries {R = key_cmp} store)) }
     ensures end { OnOk result (IsAtEnd (R.remaining reader.new)) }
+    ensures bound { OnOk result (IfSome (R.remaining reader.old) IsWithinBound) }
     ensures err { IfErr result (RefusedImage (R.remaining reader.old) (R.remaining reader.new)) }
 {
     let members = read_object(alloc, reader)?;
@@ -34,6 +36,7 @@ pub fn load_image<R: Read>(alloc: Global, reader: &mut R) -> Result<MemoryStore,
 fn read_object<R: Read>(alloc: Global, reader: &mut R) -> Result<Map<String, Value>, ToolFault>
     ensures ok { IfOk result (λ members. IfSome (R.remaining reader.old) (IsObject (members_view members.entries))) }
     ensures end { OnOk result (IsAtEnd (R.remaining reader.new)) }
+    ensures bound { OnOk result (IfSome (R.remaining reader.old) IsWithinBound) }
     ensures err { IfErr result (RefusedObject (R.remaining reader.old) (R.remaining reader.new)) }
 {
     let bytes = read_whole(alloc, reader)?;

@@ -9,6 +9,7 @@ ghost use Rattle.zarrs_tool.specs.Output.{IsCommand, WritesOutput, texts};
 
 mod fault;
 mod image;
+mod printed;
 mod read;
 mod run;
 #[cfg(test)]

@@ -1,6 +1,6 @@
 //! Reading to the end, within a bound.
 ghost use Rattle.std.specs.Prelude.{◌≡◌, IfOk, IfErr, vec_len};
-ghost use Rattle.zarrs_tool.specs.Reading.{IsReadWhole, RefusedReading};
+ghost use Rattle.zarrs_tool.specs.Reading.{IsReadWhole, IsWithinBound, RefusedReading};
 
 use crate::fault::ToolFault;
 use std::alloc::{AllocError, Global};
@@ -21,6 +21,7 @@ pub const READ_SIZE: usize = 65_536;
 pub fn read_whole<R: Read>(alloc: Global, reader: &mut R) -> Result<Vec<u8>, ToolFault>
     ensures ok { IfOk result (λ bytes.
         IsReadWhole (R.remaining reader.old) (R.remaining reader.new) bytes.items) }
+    ensures bound { IfOk result (λ bytes. IsWithinBound bytes.items) }
     ensures err { IfErr result (RefusedReading (R.remaining reader.old) (R.remaining reader.new)) }
 {
     let mut buffer = zeros(alloc, READ_SIZE)?;

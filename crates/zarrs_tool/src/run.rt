@@ -6,11 +6,12 @@ ghost use Rattle.zarrs_store.specs.Contents.{Contents};
 ghost use Rattle.zarrs_path.specs.Paths.{IsPath, path_text};
 ghost use Rattle.zarrs_node.specs.Forest.{forest, pairs};
 ghost use Rattle.zarrs_tool.specs.Image.{IsLoaded};
-ghost use Rattle.zarrs_tool.specs.Output.{IsCommand, IsListing, IsOutput, WritesOutput, command_words, goes_below, path_lines, texts, word_text};
-ghost use Rattle.zarrs_tool.specs.Refused.{IsListingFault, IsPathFault, IsRefusal, RefusedRun, status_of};
+ghost use Rattle.zarrs_tool.specs.Output.{IsCommand, IsListing, IsOutput, Writes, WritesOutput, command_words, path_lines, texts, word_text};
+ghost use Rattle.zarrs_tool.specs.Refused.{IsListingFault, IsPathFault, IsRefusal, IsWordFault, RefusedRun, status_of};
 
 use crate::fault::ToolFault;
 use crate::image::load_image;
+use crate::printed::{block_text, tree_text};
 use log::Log;
 use std::alloc::{AllocError, Global};
 use std::io::{Read, Write};
@@ -20,13 +21,16 @@ use zarrs_path::NodePath;
 use zarrs_store::{ListableStorageTraits, ReadableStorageTraits};
 
 /// Loads the image that a reader gives, and writes what the words ask of its store: for
-/// `children PATH` the path of each child, for `list PATH` those of all nodes below, one a line.
+/// `children PATH` the path of each child, for `list PATH` those of all nodes below, one a line;
+/// for `tree PATH` the text of the hierarchy at the path; for `consolidate PATH` the block of the
+/// nodes that a listing finds below the group, in the pretty layout, and a newline.
 /// The output is made whole before it is written.
 ///
 /// # Errors
 /// `Usage` where the words are no command, before anything is read; what [`load_image`] refuses;
-/// `Node` where the path is none, or the listing is refused; `Write` where the writer fails;
-/// `OutOfMemory`. Save after `Write`, nothing was written.
+/// `Node` where the path is none, or listing or opening is refused; `NotAGroup` where
+/// `consolidate` is asked of an array; `Write` where the writer fails; `OutOfMemory`.
+/// Save after `Write`, nothing was written.
 pub fn run_image<L: Log, R: Read, W: Write>(
     log: &L,
     alloc: Global,
@@ -44,16 +48,17 @@ pub fn run_image<L: Log, R: Read, W: Write>(
     ensures silent { IfErr result (λ fault. fault ≢ ToolFault.Write
         → Keeps (W.contents writer.old) (W.contents writer.new)) }
 {
-    parse(words)?;
+    let command = parse(words)?;
     let store = load_image(alloc, reader)?;
-    run_store(log, alloc, words, &store, writer)
+    run_command(log, alloc, &command, &store, writer)
 }
 
 /// Writes what the words ask of a store, as [`run_image`] does once the image is loaded.
 ///
 /// # Errors
-/// `Usage` where the words are no command; `Node` where the path is none, or the listing is
-/// refused; `Write` where the writer fails; `OutOfMemory`. Save after `Write`, nothing was written.
+/// `Usage` where the words are no command; `Node` where the path is none, or listing or opening is
+/// refused; `NotAGroup` where `consolidate` is asked of an array; `Write` where the writer fails;
+/// `OutOfMemory`. Save after `Write`, nothing was written.
 pub fn run_store<L: Log, S: ReadableStorageTraits + ListableStorageTraits, W: Write>(
     log: &L,
     alloc: Global,
@@ -70,8 +75,7 @@ pub fn run_store<L: Log, S: ReadableStorageTraits + ListableStorageTraits, W: Wr
         → Keeps (W.contents writer.old) (W.contents writer.new)) }
 {
     let command = parse(words)?;
-    let text = output(log, alloc, &command, store)?;
-    write_text(&text, writer)
+    run_command(log, alloc, &command, store, writer)
 }
 
 /// Writes why a run was refused, and gives the exit status. A fault of this write is dropped.
@@ -97,6 +101,8 @@ pub fn finish<W: Write>(outcome: &Result<(), ToolFault>, writer: &mut W) -> u8
 enum Word {
     Children,
     List,
+    Tree,
+    Consolidate,
 }
 
 // A command, and the path that it is about.
@@ -127,8 +133,30 @@ fn parse_word(text: &str) -> Result<Word, ToolFault>
     match text {
         "children" => Ok(Word::Children),
         "list" => Ok(Word::List),
+        "tree" => Ok(Word::Tree),
+        "consolidate" => Ok(Word::Consolidate),
         _ => Err(ToolFault::Usage),
     }
+}
+
+// Writes what a command asks of a store.
+fn run_command<L: Log, S: ReadableStorageTraits + ListableStorageTraits, W: Write>(
+    log: &L,
+    alloc: Global,
+    command: &Command<'_>,
+    store: &S,
+    writer: &mut W,
+) -> Result<(), ToolFault>
+    ensures ok { OnOk result (WritesOutput (command_words command.now) (S.contents store.now)
+        (W.contents writer.old) (W.contents writer.new)) }
+    ensures known { result ≢ Err ToolFault.Usage }
+    ensures refused { IfErr result
+        (IsRefusal (S.can_fail store.now) (command_words command.now) (S.contents store.now)) }
+    ensures silent { IfErr result (λ fault. fault ≢ ToolFault.Write
+        → Keeps (W.contents writer.old) (W.contents writer.new)) }
+{
+    let text = output(log, alloc, command, store)?;
+    write_text(&text, writer)
 }
 
 // What a command writes.
@@ -143,17 +171,7 @@ fn output<L: Log, S: ReadableStorageTraits + ListableStorageTraits>(
         × IsRefusal (S.can_fail store.now) (command_words command.now) (S.contents store.now) fault) }
 {
     let base = parse_path(alloc, command.path)?;
-    listing(log, alloc, store, &base, goes_below(command.word))
-}
-
-// Whether a command asks for more than the children.
-fn goes_below(word: Word) -> bool
-    ensures { result ≡ goes_below word }
-{
-    match word {
-        Word::Children => false,
-        Word::List => true,
-    }
+    output_of(log, alloc, command.word, store, &base)
 }
 
 fn parse_path(alloc: Global, text: &str) -> Result<NodePath, ToolFault>
@@ -163,6 +181,25 @@ fn parse_path(alloc: Global, text: &str) -> Result<NodePath, ToolFault>
     match NodePath::new(alloc, text) {
         Ok(path) => Ok(path),
         Err(e) => Err(ToolFault::Node(NodeCreateError::NodePathError(e))),
+    }
+}
+
+// What a word writes of a path.
+fn output_of<L: Log, S: ReadableStorageTraits + ListableStorageTraits>(
+    log: &L,
+    alloc: Global,
+    word: Word,
+    store: &S,
+    base: &NodePath,
+) -> Result<Vec<u8>, ToolFault>
+    ensures ok { IfOk result (λ text. Writes word (S.contents store.now) base.now text.items) }
+    ensures err { IfErr result (IsWordFault (S.can_fail store.now) word (S.contents store.now) base.now) }
+{
+    match word {
+        Word::Children => listing(log, alloc, store, base, false),
+        Word::List => listing(log, alloc, store, base, true),
+        Word::Tree => tree_text(log, alloc, store, base),
+        Word::Consolidate => block_text(log, alloc, store, base),
     }
 }
 

@@ -12,6 +12,23 @@ use zarrs_store::{ListableStorageTraits, ReadableStorageTraits, StoreKey};
 const TWO_GROUPS: &str =
     r#"{"zarr.json":"{\"node_type\":\"group\",\"zarr_format\":3}","a/zarr.json":"{\"node_type\":\"group\",\"zarr_format\":3}"}"#;
 
+// The block of the group that stands beside the root in `TWO_GROUPS`.
+const BLOCK_OF_A: &str =
+    "{\n  \"kind\": \"inline\",\n  \"metadata\": {\n    \"a\": {\n      \"node_type\": \"group\",\n      \"zarr_format\": 3\n    }\n  },\n  \"must_understand\": false\n}\n";
+
+// The block of no nodes.
+const EMPTY_BLOCK: &str =
+    "{\n  \"kind\": \"inline\",\n  \"metadata\": {},\n  \"must_understand\": false\n}\n";
+
+const GROUP: &str = r#"{"node_type":"group","zarr_format":3}"#;
+
+const SQUARE: &str =
+    r#"{"chunk_grid":{"configuration":{"chunk_shape":[10,10]},"name":"regular"},"chunk_key_encoding":{"configuration":{"separator":"/"},"name":"default"},"codecs":[{"configuration":{"endian":"little"},"name":"bytes"}],"data_type":"float32","fill_value":0,"node_type":"array","shape":[10,10],"zarr_format":3}"#;
+
+// A group whose block has an array that no key of the store has, and a group that is not below a group.
+const GROUP_WITH_BLOCK: &str =
+    r#"{"consolidated_metadata":{"kind":"inline","metadata":{"q/r":{"node_type":"group","zarr_format":3}},"must_understand":false},"node_type":"group","zarr_format":3}"#;
+
 const USAGE: &str =
     "usage: zarrs_tool (children|list|tree|consolidate) PATH | folder DIR tree PATH\n";
 
@@ -52,6 +69,20 @@ impl Write for Full {
     }
 }
 
+// A writer that takes all bytes, and cannot hand them on.
+#[derive(Drop)]
+struct Unflushed;
+
+impl Write for Unflushed {
+    fn write(&mut self, buf: &[u8]) -> io::Result<usize> {
+        Ok(buf.len())
+    }
+
+    fn flush(&mut self) -> io::Result<()> {
+        Err(Error::from(ErrorKind::Other))
+    }
+}
+
 fn words(alloc: Global, texts: &[&str]) -> Result<Vec<String>, AllocError> {
     let mut words = Vec::new(alloc);
     for text in texts {
@@ -75,6 +106,28 @@ fn run(alloc: Global, image: &str, texts: &[&str]) -> Result<(String, String, u8
     ))
 }
 
+// An image of documents at these keys.
+fn image_of(alloc: Global, documents: &[(&str, &str)]) -> Result<String, AllocError> {
+    let mut image = String::from_str(alloc, "{")?;
+    for (key, document) in documents {
+        if image.len() > 1 {
+            image.push(',')?;
+        }
+        image.push('"')?;
+        image.push_str(key)?;
+        image.push_str(r#"":""#)?;
+        for letter in document.chars() {
+            if letter == '"' {
+                image.push('\\')?;
+            }
+            image.push(letter)?;
+        }
+        image.push('"')?;
+    }
+    image.push('}')?;
+    Ok(image)
+}
+
 // An image of the version 3 group at each of these keys.
 fn groups_at(alloc: Global, keys: &[&str]) -> Result<String, AllocError> {
     let mut image = String::from_str(alloc, "{")?;
@@ -92,9 +145,11 @@ fn groups_at(alloc: Global, keys: &[&str]) -> Result<String, AllocError> {
 
 #[test]
 fn answers_or_says_why_not(rt: HostRuntime) {
-    let table: [(&str, &[&str], &str, &str, u8); 14] = [
+    let table: [(&str, &[&str], &str, &str, u8); 16] = [
         (TWO_GROUPS, &["children", "/"], "/a\n", "", 0),
         (TWO_GROUPS, &["list", "/"], "/a\n", "", 0),
+        (TWO_GROUPS, &["tree", "/"], "/\n  a\n", "", 0),
+        (TWO_GROUPS, &["consolidate", "/"], BLOCK_OF_A, "", 0),
         ("{}", &["children", "/"], "", "", 0),
         ("{}", &["list", "/"], "", "", 0),
         (
@@ -133,8 +188,14 @@ fn answers_or_says_why_not(rt: HostRuntime) {
             1,
         ),
         (TWO_GROUPS, &["children"], "", USAGE, 2),
-        (TWO_GROUPS, &["tree", "/"], "", USAGE, 2),
-        (TWO_GROUPS, &["consolidate", "/"], "", USAGE, 2),
+        (
+            TWO_GROUPS,
+            &["tree", "x"],
+            "",
+            "zarrs_tool: invalid node path x\n",
+            1,
+        ),
+        (TWO_GROUPS, &["tree"], "", USAGE, 2),
         (TWO_GROUPS, &["folder", ".", "tree", "/"], "", USAGE, 2),
         ("", &[], "", USAGE, 2),
     ];
@@ -210,6 +271,93 @@ fn lists_groups_in_path_order(rt: HostRuntime) {
         assert_eq!(rt; ran.0.as_str(), output);
         assert_eq!(rt; ran.1.as_str(), errors);
         assert_eq!(rt; ran.2, status);
+    }
+}
+
+#[test]
+fn prints_the_tree_of_groups_and_arrays(rt: HostRuntime) {
+    let documents = [
+        ("zarr.json", GROUP),
+        ("group/zarr.json", GROUP),
+        ("group/subgroup/zarr.json", GROUP),
+        ("array/zarr.json", SQUARE),
+        ("group/array/zarr.json", SQUARE),
+        ("group/subgroup/mysubarray/zarr.json", SQUARE),
+        ("group2/zarr.json", GROUP),
+    ];
+    let table = [
+        (
+            "/",
+            "/\n  array [10, 10] float32\n  group\n    array [10, 10] float32\n    subgroup\n      mysubarray [10, 10] float32\n  group2\n",
+        ),
+        (
+            "/group",
+            "/group\n  array [10, 10] float32\n  subgroup\n    mysubarray [10, 10] float32\n",
+        ),
+        (
+            "/group/subgroup",
+            "/group/subgroup\n  mysubarray [10, 10] float32\n",
+        ),
+        ("/array", "/array\n"),
+    ];
+    let image = image_of(rt.alloc(), &documents).expect(&rt, "memory");
+    for (path, output) in table {
+        let ran = run(rt.alloc(), image.as_str(), &["tree", path]).expect(&rt, "memory");
+        assert_eq!(rt; ran.0.as_str(), output);
+        assert_eq!(rt; ran.1.as_str(), "");
+        assert_eq!(rt; ran.2, 0);
+    }
+}
+
+#[test]
+fn a_block_is_printed_and_not_consolidated(rt: HostRuntime) {
+    let documents = [("zarr.json", GROUP_WITH_BLOCK)];
+    let image = image_of(rt.alloc(), &documents).expect(&rt, "memory");
+    let table = [("tree", "/\n    r\n"), ("consolidate", EMPTY_BLOCK)];
+    for (word, output) in table {
+        let ran = run(rt.alloc(), image.as_str(), &[word, "/"]).expect(&rt, "memory");
+        assert_eq!(rt; ran.0.as_str(), output, "{word}");
+        assert_eq!(rt; ran.1.as_str(), "", "{word}");
+        assert_eq!(rt; ran.2, 0, "{word}");
+    }
+}
+
+#[test]
+fn what_is_not_opened_is_not_printed(rt: HostRuntime) {
+    let documents = [
+        ("array/zarr.json", SQUARE),
+        ("bad/zarr.json", GROUP),
+        ("bad/a/zarr.json", "x"),
+    ];
+    let image = image_of(rt.alloc(), &documents).expect(&rt, "memory");
+    let table: [(&[&str], &str); 6] = [
+        (&["consolidate", "/array"], "zarrs_tool: not a group\n"),
+        (
+            &["consolidate", "/nowhere"],
+            "zarrs_tool: Metadata is missing for /nowhere\n",
+        ),
+        (
+            &["tree", "/nowhere"],
+            "zarrs_tool: Metadata is missing for /nowhere\n",
+        ),
+        (
+            &["consolidate", "/bad"],
+            "zarrs_tool: error parsing metadata for bad/a/zarr.json: not JSON\n",
+        ),
+        (
+            &["tree", "/bad"],
+            "zarrs_tool: error parsing metadata for bad/a/zarr.json: not JSON\n",
+        ),
+        (
+            &["consolidate", "array"],
+            "zarrs_tool: invalid node path array\n",
+        ),
+    ];
+    for (texts, errors) in table {
+        let ran = run(rt.alloc(), image.as_str(), texts).expect(&rt, "memory");
+        assert_eq!(rt; ran.0.as_str(), "");
+        assert_eq!(rt; ran.1.as_str(), errors);
+        assert_eq!(rt; ran.2, 1);
     }
 }
 
@@ -344,6 +492,18 @@ fn a_reader_and_a_writer_fail(rt: HostRuntime) {
     };
     let outcome = run_image(&Discard, alloc, &words, &mut reader, &mut Full);
     assert!(rt; matches!(outcome, Err(ToolFault::Write)));
+}
+
+#[test]
+fn a_writer_whose_flush_alone_fails_is_told(rt: HostRuntime) {
+    let alloc = rt.alloc();
+    let words = words(alloc, &["children", "/"]).expect(&rt, "memory");
+    let mut reader = TWO_GROUPS.as_bytes();
+    let outcome = run_image(&Discard, alloc, &words, &mut reader, &mut Unflushed);
+    assert!(rt; matches!(outcome, Err(ToolFault::Write)));
+    let mut errors = Vec::new(alloc);
+    assert_eq!(rt; finish(&outcome, &mut errors), 1);
+    assert_eq!(rt; errors.as_slice(), b"zarrs_tool: write fault\n".as_slice());
 }
 
 #[test]

@@ -10,4 +10,5 @@ returns-clause-ok g c = record {
   lists = c.in_ok-nodes.ensures.shows.shown;
   ascend = pairs_ascend _ _ c.in_ok-nodes.ensures.shows.placed;
   is = c.in_ok-push_lines.ensures ∙ ap (λ s. s ++ path_lines (pairs (forest c.deref.result.now))) c.new-lines.ensures.items ∙ ap (λ ns. path_lines (pairs (forest ns))) c.deref.ensures.value;
+  clean = c.in_ok-nodes.ensures.clean;
 }

@@ -1,5 +1,5 @@
 use Rattle.std.proofs.Common.{◌≡◌, Err, rules}
-use Rattle.zarrs_tool.proofs.Runs.{path_fault_result, listed_output, listing_fault_result}
+use Rattle.zarrs_tool.proofs.Runs.{path_fault_result, word_output, word_fault_result}
 use Rattle.zarrs_tool.proofs.run.output.Goals as goal
 
 pub returns-in_err-base-clause-err : goal.returns-in_err-base-clause-err
@@ -9,10 +9,10 @@ returns-in_err-base-clause-err g c =
 
 pub returns-clause-ok : goal.returns-clause-ok
 returns-clause-ok g c =
-    listed_output (g.S.Store.can_fail c.args.store.now) c.args.command.now _ c.in_ok-base.base c.goes_below.result c.in_ok-base.ensures.ok.0 c.in_ok-base.ensures.ok.1 c.goes_below.ensures
-    c.listing.result c.listing.ensures.ok
+    word_output (g.S.Store.can_fail c.args.store.now) c.args.command.now _ c.in_ok-base.base c.in_ok-base.ensures.ok.0 c.in_ok-base.ensures.ok.1
+    c.output_of.result c.output_of.ensures.ok
 
 pub returns-clause-err : goal.returns-clause-err
 returns-clause-err g c =
-    listing_fault_result (g.S.Store.can_fail c.args.store.now) c.args.command.now _ c.in_ok-base.base c.goes_below.result c.in_ok-base.ensures.ok.0 c.in_ok-base.ensures.ok.1 c.goes_below.ensures
-    c.listing.result c.listing.ensures.err
+    word_fault_result (g.S.Store.can_fail c.args.store.now) c.args.command.now _ c.in_ok-base.base c.in_ok-base.ensures.ok.0 c.in_ok-base.ensures.ok.1
+    c.output_of.result c.output_of.ensures.err

@@ -1,0 +1,262 @@
+-- A group whose block was made of a forest gives that forest back.
+use Rattle.std.proofs.Common.{◌≡◌, ◌≢◌, ◌≤◌, ◌==◌, ◌&&◌, ℕ, ◌⊎◌, inl, inr, ⊎_elim, ◌↔◌, Bool, true, false, if◌then◌else◌, List, [], ◌∷◌, ◌++◌, Option, Some, None, option_and_then, Result, Ok, Err, IsSome, true≢false, codes, refl, sym, ap, subst, ◌∙◌, Contains}
+use Rattle.std.specs.Result.{is_ok}
+use Rattle.std.specs.FinMap as map
+use Rattle.std.proofs.lemmas.Bool.{eqb-true}
+use Rattle.serde_json.specs.Data.{Data, Members, depth}
+use Rattle.serde_json.specs.Find.{get, as_number, as_u64}
+use Rattle.serde_json.specs.Read.{max_depth}
+use Rattle.zarrs_store.specs.Segments.{Segments, segments_of}
+use Rattle.zarrs_store.specs.Contents.{Contents, Lists}
+use Rattle.zarrs_store.specs.declared.storage_error.StorageError.TheVariants.{Fault, InvalidMetadata, Other, OutOfMemory as NoStoreMemory}
+use Rattle.zarrs_store.specs.declared.prefix.StorePrefixError.TheVariants.{Invalid as InvalidPrefix, OutOfMemory as NoPrefixMemory}
+use Rattle.zarrs_store.specs.declared.fault.MetadataFault.{MetadataFault}
+use Rattle.zarrs_store.specs.declared.fault.MetadataFault.TheVariants.{WrongFormat}
+use Rattle.zarrs_path.specs.Keys.{zarr_json}
+use Rattle.zarrs_path.specs.Paths.{Path, IsPath, path_text}
+use Rattle.zarrs_path.specs.declared.node_path.NodePathError.TheVariants.{Invalid as InvalidPath, OutOfMemory as NoPathMemory}
+use Rattle.zarrs_path.proofs.PathTexts.{segments_of-path_text}
+use Rattle.zarrs_config.specs.declared.version.MetadataRetrieveVersion.{MetadataRetrieveVersion}
+use Rattle.zarrs_config.specs.declared.version.MetadataRetrieveVersion.TheVariants as retrieve
+use Rattle.zarrs_config.specs.declared.version.UseConsolidatedMetadata.{UseConsolidatedMetadata}
+use Rattle.zarrs_config.specs.declared.version.UseConsolidatedMetadata.TheVariants.{Auto, Must, Never}
+use Rattle.zarrs_form.specs.Documents.{◌>>=◌, json_of, parsed, of_bytes, document_of, format_of, node_type_of}
+use Rattle.zarrs_meta.specs.GroupV3.{group_v3_of}
+use Rattle.zarrs_meta.specs.Node.{has_format, has_type, node_of, zarr_json_of}
+use Rattle.zarrs_meta.specs.declared.group_v3.GroupMetadataV3.{GroupMetadataV3}
+use Rattle.zarrs_meta.specs.declared.node.GroupMetadata.{GroupMetadata}
+use Rattle.zarrs_meta.specs.declared.node.GroupMetadata.TheVariants.{V3, V2}
+use Rattle.zarrs_meta.specs.declared.node.ZarrJson.TheVariants.{Node}
+use Rattle.zarrs_meta.specs.declared.node.NodeMetadata.{NodeMetadata}
+use Rattle.zarrs_meta.specs.declared.node.NodeMetadata.TheVariants.{Group}
+use Rattle.zarrs_block.specs.Block.{Block, Entries, HasPlainNodes, HasValidKeys}
+use Rattle.zarrs_block.specs.Used.{used}
+use Rattle.zarrs_block.specs.Refused.{LacksMemory, IsExcused}
+use Rattle.zarrs_block.specs.Expanded.{NamesBadKey}
+use Rattle.zarrs_block.specs.declared.node_create_error.NodeCreateError.{NodeCreateError}
+use Rattle.zarrs_block.specs.declared.node_create_error.NodeCreateError.TheVariants as made
+use Rattle.zarrs_node.specs.Forest.{Forest, pairs, Shows}
+use Rattle.zarrs_node.specs.Meaning.{Meaning, node, nothing, bad, in_bytes, document_at, document_from, named, version_3_line, zarr_json_line, meaning_in, meaning, zarray_line, zgroup_line}
+use Rattle.zarrs_node.specs.Inverse.{IsInverse}
+use Rattle.zarrs_node.specs.Opened.{ShowsChosen, RefusesChosen, ShowsNode, RefusesOpening, RefusesText, RefusesNode}
+use Rattle.zarrs_node.specs.Opened as opened
+use Rattle.zarrs_node.proofs.Child.{node_same}
+use Rattle.zarrs_node.proofs.Found.{listed_each, lists_from}
+use Rattle.zarrs_node.proofs.Inverse.{block_gives_back}
+use Rattle.zarrs_group.specs.Groups.{GroupState, group_tree}
+use Rattle.zarrs_group.specs.Meaning.{MeansGroup, group_v3_line, group_line, group_meaning}
+use Rattle.zarrs_group.specs.Consolidated.{held_by, with_block, metadata_with, MetadataHold}
+use Rattle.zarrs_group.specs.Children.{chosen, is_listed, ListsChosen}
+use Rattle.zarrs_group.specs.Laws.{MeansStored}
+use Rattle.zarrs_group.specs.GivesBack.{Consolidates, GivesBack, GroupGivesBack, OpensTo, StoredGivesBack}
+use Rattle.zarrs_group.proofs.BlockFields.{held_once_set}
+
+-- a block that is there is used, where the policy is not Never
+used_there : (B : Block) (policy : UseConsolidatedMetadata) → policy ≢ Never → used (Some B) policy ≡ Some (Some B)
+used_there B Never not = absurd (not refl)
+used_there B Auto not = refl
+used_there B Must not = refl
+
+-- where no store can fail, only want of memory is excused
+lacks_memory : (e : NodeCreateError) → IsExcused false e → LacksMemory e
+lacks_memory (made.NodePathError (InvalidPath text)) h = h
+lacks_memory (made.NodePathError NoPathMemory) h = h
+lacks_memory (made.StorePrefixError (InvalidPrefix text)) h = h
+lacks_memory (made.StorePrefixError NoPrefixMemory) h = h
+lacks_memory (made.StorageError Fault) h = absurd (true≢false (sym h))
+lacks_memory (made.StorageError (InvalidMetadata key fault)) h = h
+lacks_memory (made.StorageError (Other text)) h = h
+lacks_memory (made.StorageError NoStoreMemory) h = h
+lacks_memory made.MetadataVersionMismatch h = h
+lacks_memory (made.MissingMetadata text) h = h
+lacks_memory made.OutOfMemory h = h
+
+-- where all keys are valid none is named
+no_bad_key : (B : Block) → HasValidKeys B → (e : NodeCreateError) → NamesBadKey B e → ⊥
+no_bad_key B valid (made.NodePathError (InvalidPath text)) h = h.2 (valid h.0 h.1)
+no_bad_key B valid (made.NodePathError NoPathMemory) h = h
+no_bad_key B valid (made.StorePrefixError e) h = h
+no_bad_key B valid (made.StorageError e) h = h
+no_bad_key B valid made.MetadataVersionMismatch h = h
+no_bad_key B valid (made.MissingMetadata text) h = h
+no_bad_key B valid made.OutOfMemory h = h
+
+module _ (of : Path → Meaning) (g : GroupState) (f : Forest) (B : Block) (from : Consolidates of g f B) where
+  -- the block has the forest in it
+  inverse : IsInverse g.path f B
+  inverse =
+      block_gives_back g.path f B from.listed.placed (λ e in'. ((listed_each from.listed.shown e).0 in').0.below) from.plain from.ascending from.block
+
+  -- the group can hold the block
+  can_hold : (m : GroupMetadata) → (k : GroupMetadataV3) × (m ≡ V3 k) → MetadataHold m (Some B)
+  can_hold m (k, is) = subst (λ x. MetadataHold x (Some B)) (sym is) inverse.plain
+
+  -- and holds it
+  holds : held_by (with_block g (Some B)) ≡ Some B
+  holds = held_once_set g (Some B) (can_hold g.metadata from.version_3)
+
+  -- it is the block that is used
+  is_chosen : (policy : UseConsolidatedMetadata) → policy ≢ Never → used (held_by (with_block g (Some B))) policy ≡ Some (Some B)
+  is_chosen policy not = ap (λ h. used h policy) holds ∙ used_there B policy not
+
+  -- what such a choice shows is the forest
+  shown_is : (s : Contents) (v : MetadataRetrieveVersion) (policy : UseConsolidatedMetadata) → policy ≢ Never → (t : Forest) → ShowsChosen s v (used (held_by (with_block g (Some B))) policy) true g.path t → t ≡ f
+  shown_is s v policy not t shows = inverse.one_forest t (subst (λ c. ShowsChosen s v c true g.path t) (is_chosen policy not) shows)
+
+  -- and nothing refuses it
+  none_refused : (s : Contents) (v : MetadataRetrieveVersion) (policy : UseConsolidatedMetadata) → policy ≢ Never → (e : NodeCreateError) → RefusesChosen s v (used (held_by (with_block g (Some B))) policy) true g.path e → ⊥
+  none_refused s v policy not e h = no_bad_key B inverse.valid e (subst (λ c. RefusesChosen s v c true g.path e) (is_chosen policy not) h)
+
+  -- the entries of the block are the pairs
+  pairs_are : (es : List (Path × NodeMetadata)) → Lists (Entries B g.path) es → Lists (Contains (pairs f)) es
+  pairs_are es l = lists_from es (λ e. (λ h. (inverse.entries e).0 ((listed_each l e).0 h), λ h. (listed_each l e).1 ((inverse.entries e).1 h))) l.each_once
+
+-- a group with the block of a listed forest gives the forest back
+pub group_gives_back : GroupGivesBack
+group_gives_back of g f B from = record {
+  children = λ s config not t shows. shown_is of g f B from s retrieve.Default config.use_consolidated not t shows;
+  traversed = λ s config not es lists. pairs_are of g f B from es (listed_by s config.use_consolidated (is_chosen of g f B from config.use_consolidated not) es lists);
+  excused = λ s config not can_fail e h. ⊎_elim (λ k. lacks_memory e (subst (λ c. IsExcused (is_listed c && can_fail) e) (is_chosen of g f B from config.use_consolidated not) k)) (λ k. absurd (none_refused of g f B from s retrieve.Default config.use_consolidated not e k)) h;
+}
+  where
+    listed_by : (s : Contents) (policy : UseConsolidatedMetadata) → used (held_by (with_block g (Some B))) policy ≡ Some (Some B)
+        → (es : List (Path × NodeMetadata)) → ListsChosen s (used (held_by (with_block g (Some B))) policy) g.path es → Lists (Entries B g.path) es
+    listed_by s policy is es l = subst (λ c. ListsChosen s c g.path es) is l
+
+-- ---- the stored group as the document of a node
+
+-- a number that is there is this one, as a test
+abbrev is_num : ℕ → Option ℕ → Bool
+is_num n None = false
+is_num n (Some m) = m == n
+
+-- what such a test answers
+abbrev answered : Bool → Result (Unit {0}) MetadataFault
+answered t = if t then Ok tt else Err WrongFormat
+
+-- the number 3 is not the number 2
+num_other : (o : Option ℕ) → answered (is_num 3 o) ≡ Ok tt → answered (is_num 2 o) ≡ Err WrongFormat
+num_other None e = cc
+num_other (Some k) e = elim (k == 3) as (λ t. k == 3 ≡ t → answered t ≡ Ok tt → answered (k == 2) ≡ Err WrongFormat) [
+  | true ↦ λ is _. ap (λ n. answered (n == 2)) (eqb-true k 3 is)
+  | false ↦ λ _ wrong. cc
+] refl e
+
+-- a document of format 3 is none of format 2
+other_format : (d : Data) → format_of 3 d ≡ Ok tt → format_of 2 d ≡ Err WrongFormat
+unfolding format_of
+other_format d e = num_other (option_and_then as_u64 (option_and_then as_number (get (codes "zarr_format") d))) e
+
+-- a step that led to an answer gave a value
+step_of : {A C : Type 0} (r : Result A MetadataFault) (next : A → Result C MetadataFault) (y : C) → (r >>= next) ≡ Ok y → (x : A) × (r ≡ Ok x) × (next x ≡ Ok y)
+step_of (Ok x) next y e = (x, refl, e)
+step_of (Err fault) next y e = cc
+
+-- what reads as a version 3 group is a document of that format and type
+read_parts : (d : Data) (m : GroupMetadataV3) → group_v3_of d ≡ Ok m → (ms : Members) × (document_of d ≡ Ok ms) × (format_of 3 d ≡ Ok tt) × (node_type_of (codes "group") d ≡ Ok tt)
+unfolding group_v3_of
+read_parts d m e =
+    let one = step_of (document_of d) _ m e in
+    let two = step_of (format_of 3 d) _ m one.2 in
+    let three = step_of (node_type_of (codes "group") d) _ m two.2 in
+    (one.0, one.1, two.1, three.1)
+
+-- such a document that reads as a group reads as that group at the key `zarr.json`
+node_from : (d : Data) (m : GroupMetadataV3) (ms : Members) → document_of d ≡ Ok ms → format_of 3 d ≡ Ok tt → format_of 2 d ≡ Err WrongFormat → node_type_of (codes "group") d ≡ Ok tt
+    → group_v3_of d ≡ Ok m → zarr_json_of d ≡ Ok (Node (Group (V3 m)))
+unfolding node_of zarr_json_of
+node_from d m ms document three other kind group = rw (document, other, three, kind, group) refl
+
+-- a document that reads as a version 3 group reads as that group at the key `zarr.json`
+group_is_node : (d : Data) (m : GroupMetadataV3) → group_v3_of d ≡ Ok m → zarr_json_of d ≡ Ok (Node (Group (V3 m)))
+group_is_node d m e = let p = read_parts d m e in node_from d m p.0 p.1 p.2 (other_format d p.2) p.3 e
+
+-- what stands at a key means the group by the line of groups, so it does by the line of nodes, whatever the lines after
+line_says : (key : Segments) (m : GroupMetadataV3) (after : Meaning) (o : Option (List ℕ)) → group_v3_line (document_from (of_bytes group_v3_of) key o) nothing ≡ node (Group (V3 m))
+    → version_3_line (document_from (of_bytes zarr_json_of) key o) after ≡ node (Group (V3 m))
+line_says key m after None e = cc
+line_says key m after (Some bytes) e = by_tree (parsed (json_of bytes)) e
+  where
+    by_group : (d : Data) (r : Result GroupMetadataV3 MetadataFault) → group_v3_of d ≡ r → group_v3_line (named key r) nothing ≡ node (Group (V3 m)) → version_3_line (named key (zarr_json_of d)) after ≡ node (Group (V3 m))
+    by_group d (Ok k) is e = ap (λ r. version_3_line (named key r) after) (group_is_node d k is) ∙ e
+    by_group d (Err fault) is e = cc
+
+    by_tree : (r : Result Data MetadataFault) → group_v3_line (named key (r >>= group_v3_of)) nothing ≡ node (Group (V3 m)) → version_3_line (named key (r >>= zarr_json_of)) after ≡ node (Group (V3 m))
+    by_tree (Ok d) e = by_group d (group_v3_of d) refl e
+    by_tree (Err fault) e = cc
+
+-- where a path means a version 3 group, it means that node in every store with the same bytes at its key `zarr.json`
+means_node : (S s : Contents) (p : Path) (m : GroupMetadataV3) → MeansGroup S retrieve.V3 p (V3 m) → map.get s (p ++ zarr_json ∷ []) ≡ map.get S (p ++ zarr_json ∷ [])
+    → (v : MetadataRetrieveVersion) → v ≢ retrieve.V2 → meaning s v p ≡ node (Group (V3 m))
+unfolding group_meaning group_line meaning_in zarr_json_line document_at
+means_node S s p m stored same retrieve.Default not =
+    line_says (p ++ zarr_json ∷ []) m (zarray_line in_bytes s p (zgroup_line in_bytes s p nothing)) (map.get s (p ++ zarr_json ∷ []))
+    (ap (λ o. group_v3_line (document_from (of_bytes group_v3_of) (p ++ zarr_json ∷ []) o) nothing) same ∙ stored)
+means_node S s p m stored same retrieve.V3 not =
+    line_says (p ++ zarr_json ∷ []) m nothing (map.get s (p ++ zarr_json ∷ [])) (ap (λ o. group_v3_line (document_from (of_bytes group_v3_of) (p ++ zarr_json ∷ []) o) nothing) same ∙ stored)
+means_node S s p m stored same retrieve.V2 not = absurd (not refl)
+
+-- paths with one text are one
+one_path : (p q : Path) → IsPath p → IsPath q → path_text p ≡ path_text q → p ≡ q
+one_path p q h k e = sym (segments_of-path_text p h) ∙ ap segments_of e ∙ segments_of-path_text q k
+
+module _ (of : Path → Meaning) (g : GroupState) (f : Forest) (B : Block) (from : Consolidates of g f B) (named' : IsPath g.path) (S : Contents)
+    (stored : MeansStored S g.path (with_block g (Some B)).metadata) (shallow : depth (group_tree (with_block g (Some B)).metadata) ≤ max_depth)
+    (s : Contents) (same : map.get s (g.path ++ zarr_json ∷ []) ≡ map.get S (g.path ++ zarr_json ∷ [])) where
+  -- what is opened is the group
+  opens_group : (m k : GroupMetadata) → (x : GroupMetadataV3) × (k ≡ V3 x) → m ≡ metadata_with (Some B) k → MeansStored S g.path m → depth (group_tree m) ≤ max_depth
+      → (v : MetadataRetrieveVersion) → v ≢ retrieve.V2 → meaning s v g.path ≡ node (Group m)
+  opens_group m k (x, is) with' means shallow v not = go m (with' ∙ ap (metadata_with (Some B)) is) means shallow
+    where
+      go : (m : GroupMetadata) → m ≡ metadata_with (Some B) (V3 x) → MeansStored S g.path m → depth (group_tree m) ≤ max_depth → meaning s v g.path ≡ node (Group m)
+      go (V3 y) e means shallow = means_node S s g.path y (means shallow).1 same v not
+      go (V2 y) e means shallow = cc
+
+  means_group : (v : MetadataRetrieveVersion) → v ≢ retrieve.V2 → meaning s v g.path ≡ node (Group (with_block g (Some B)).metadata)
+  means_group v not = opens_group (with_block g (Some B)).metadata g.metadata from.version_3 refl stored shallow v not
+
+  -- the forest of what is opened is the group's
+  opened_is : (v : MetadataRetrieveVersion) → v ≢ retrieve.V2 → (policy : UseConsolidatedMetadata) → policy ≢ Never → (m : NodeMetadata) (t : Forest)
+      → meaning s v g.path ≡ node m → ShowsNode s v policy g.path m t → t ≡ f
+  opened_is v not policy some m t means shows =
+      let is : m ≡ Group (with_block g (Some B)).metadata = node_same m (Group (with_block g (Some B)).metadata) (sym means ∙ means_group v not) in
+      shown_is of g f B from s v policy some t (subst (λ x. ShowsNode s v policy g.path x t) is shows)
+
+  -- and nothing refuses it
+  opened_clean : (v : MetadataRetrieveVersion) → v ≢ retrieve.V2 → (policy : UseConsolidatedMetadata) → policy ≢ Never → (m : NodeMetadata) → meaning s v g.path ≡ node m
+      → (e : NodeCreateError) → opened.RefusesBelow s v policy g.path m e → ⊥
+  opened_clean v not policy some m means e h =
+      let is : m ≡ Group (with_block g (Some B)).metadata = node_same m (Group (with_block g (Some B)).metadata) (sym means ∙ means_group v not) in
+      none_refused of g f B from s v policy some e (subst (λ x. opened.RefusesBelow s v policy g.path x e) is h)
+
+  -- a text of a path is not refused
+  no_text : (e : NodeCreateError) → RefusesText (path_text g.path) e → ⊥
+  no_text (made.NodePathError (InvalidPath text)) h = h.1 (record { path = g.path; valid = named'; text = refl })
+  no_text (made.NodePathError NoPathMemory) h = h
+  no_text (made.StorePrefixError e) h = h
+  no_text (made.StorageError e) h = h
+  no_text made.MetadataVersionMismatch h = h
+  no_text (made.MissingMetadata text) h = h
+  no_text made.OutOfMemory h = h
+
+  -- the node itself is not refused
+  no_node : (v : MetadataRetrieveVersion) → v ≢ retrieve.V2 → (e : NodeCreateError) → RefusesNode s v g.path e → ⊥
+  no_node v not e (inl (none, missing)) = let both : node (Group (with_block g (Some B)).metadata) ≡ nothing = sym (means_group v not) ∙ none in cc
+  no_node v not e (inr wrong) = let both : node (Group (with_block g (Some B)).metadata) ≡ bad e = sym (means_group v not) ∙ wrong in cc
+
+  -- nor is the opening
+  not_refused : (v : MetadataRetrieveVersion) → v ≢ retrieve.V2 → (policy : UseConsolidatedMetadata) → policy ≢ Never → (e : NodeCreateError) → RefusesOpening s v policy (path_text g.path) e → ⊥
+  not_refused v not policy some e (inl text) = no_text e text
+  not_refused v not policy some e (inr (b, valid, text, why)) = at_path b (one_path b g.path valid named' text) why
+    where
+      at_path : (b : Path) → b ≡ g.path → RefusesNode s v b e ⊎ ((m : NodeMetadata) × (meaning s v b ≡ node m) × opened.RefusesBelow s v policy b m e) → ⊥
+      at_path b is why = ⊎_elim (no_node v not e) (λ w. opened_clean v not policy some w.0 w.1 e w.2)
+          (subst (λ p. RefusesNode s v p e ⊎ ((m : NodeMetadata) × (meaning s v p ≡ node m) × opened.RefusesBelow s v policy p m e)) is why)
+
+  -- so the stored group gives the forest back
+  opens_to : OpensTo s (with_block g (Some B)) f
+  opens_to = record { means = means_group; children = opened_is; opened = not_refused }
+
+-- a node opened over the stored group gives the forest back
+pub stored_gives_back : StoredGivesBack
+stored_gives_back of g f B from valid S stored shallow s same = opens_to of g f B from valid S stored shallow s same

@@ -1,0 +1,65 @@
+-- Zarr core specification 3.1, "Group metadata", the field `consolidated_metadata`: a group whose block was made of a forest gives that forest back.
+--     Consolidates g f B      B is the block of the listed forest f below the version 3 group g
+--     GivesBack g f      what the children of g are, whatever the store holds
+--     OpensTo s g f      what a node opened at the path of g has below it
+use Rattle.std.specs.Prelude.{◌≡◌, ◌≢◌, ◌≤◌, Bool, true, List, [], ◌∷◌, ◌++◌, Contains, Some}
+use Rattle.std.specs.FinMap as map
+use Rattle.serde_json.specs.Data.{depth}
+use Rattle.serde_json.specs.Read.{max_depth}
+use Rattle.zarrs_store.specs.Contents.{Contents, Lists}
+use Rattle.zarrs_path.specs.Keys.{zarr_json}
+use Rattle.zarrs_path.specs.Paths.{Path, IsPath, path_text}
+use Rattle.zarrs_config.specs.Settings.{Settings}
+use Rattle.zarrs_config.specs.declared.version.MetadataRetrieveVersion.{MetadataRetrieveVersion}
+use Rattle.zarrs_config.specs.declared.version.MetadataRetrieveVersion.TheVariants as retrieve
+use Rattle.zarrs_config.specs.declared.version.UseConsolidatedMetadata.{UseConsolidatedMetadata}
+use Rattle.zarrs_config.specs.declared.version.UseConsolidatedMetadata.TheVariants.{Never}
+use Rattle.zarrs_meta.specs.declared.group_v3.GroupMetadataV3.{GroupMetadataV3}
+use Rattle.zarrs_meta.specs.declared.node.GroupMetadata.TheVariants.{V3}
+use Rattle.zarrs_meta.specs.declared.node.NodeMetadata.{NodeMetadata}
+use Rattle.zarrs_meta.specs.declared.node.NodeMetadata.TheVariants.{Group}
+use Rattle.zarrs_block.specs.Block.{Block, IsAscending, IsBlockOf}
+use Rattle.zarrs_block.specs.Refused.{LacksMemory}
+use Rattle.zarrs_block.specs.declared.node_create_error.NodeCreateError.{NodeCreateError}
+use Rattle.zarrs_node.specs.Forest.{Forest, pairs, Shows}
+use Rattle.zarrs_node.specs.Meaning.{Meaning, meaning, node}
+use Rattle.zarrs_node.specs.Nodes.{Means}
+use Rattle.zarrs_node.specs.Reached.{Kept}
+use Rattle.zarrs_node.specs.Inverse.{ArePlain}
+use Rattle.zarrs_node.specs.Opened.{ShowsNode, RefusesOpening}
+use Rattle.zarrs_group.specs.Groups.{GroupState, group_tree}
+use Rattle.zarrs_group.specs.Consolidated.{with_block}
+use Rattle.zarrs_group.specs.Children.{ShowsChildren, ListsNodes, RefusesBelow}
+use Rattle.zarrs_group.specs.Laws.{MeansStored}
+
+-- the group is of version 3; f is what a listing below it finds, whatever the meanings of paths, and its metadata are plain; and B holds exactly the pairs of f, as `consolidate_metadata` makes it
+pub record Consolidates (of : Path → Meaning) (g : GroupState) (f : Forest) (B : Block) : Type 0 where
+  pub version_3 : (m : GroupMetadataV3) × (g.metadata ≡ V3 m)
+  pub listed : Shows f g.path (Kept (Means of) true g.path)
+  pub plain : ArePlain (pairs f)
+  pub ascending : IsAscending B
+  pub block : IsBlockOf (Contains (pairs f)) g.path B
+
+-- whatever store is handed in, where the policy is not Never: the one forest of the group's children is f, what is traversed are the pairs of f in some order, and nothing refuses but want of memory
+pub record GivesBack (g : GroupState) (f : Forest) : Type 0 where
+  pub children : (s : Contents) (config : Settings) → config.use_consolidated ≢ Never → (t : Forest) → ShowsChildren s g config true t → t ≡ f
+  pub traversed : (s : Contents) (config : Settings) → config.use_consolidated ≢ Never → (es : List (Path × NodeMetadata)) → ListsNodes s g config es → Lists (Contains (pairs f)) es
+  pub excused : (s : Contents) (config : Settings) → config.use_consolidated ≢ Never → (can_fail : Bool) (e : NodeCreateError) → RefusesBelow can_fail s g config true e → LacksMemory e
+
+-- After its block was set to that of a listed forest, a version 3 group gives the forest back.
+abbrev pub GroupGivesBack : Type 0
+GroupGivesBack = (of : Path → Meaning) (g : GroupState) (f : Forest) (B : Block) → Consolidates of g f B → GivesBack (with_block g (Some B)) f
+
+-- in a store, as version 3 or by default, where the policy is not Never: the path of the group means the group, the one forest of a node opened there is f, and the opening is not refused
+pub record OpensTo (s : Contents) (g : GroupState) (f : Forest) : Type 0 where
+  pub means : (v : MetadataRetrieveVersion) → v ≢ retrieve.V2 → meaning s v g.path ≡ node (Group g.metadata)
+  pub children : (v : MetadataRetrieveVersion) → v ≢ retrieve.V2 → (policy : UseConsolidatedMetadata) → policy ≢ Never
+      → (m : NodeMetadata) (t : Forest) → meaning s v g.path ≡ node m → ShowsNode s v policy g.path m t → t ≡ f
+  pub opened : (v : MetadataRetrieveVersion) → v ≢ retrieve.V2 → (policy : UseConsolidatedMetadata) → policy ≢ Never
+      → (e : NodeCreateError) → RefusesOpening s v policy (path_text g.path) e → ⊥
+
+-- So does a node that is opened over any store that has the bytes of the stored group at its key, where these do not nest too deep.
+abbrev pub StoredGivesBack : Type 0
+StoredGivesBack = (of : Path → Meaning) (g : GroupState) (f : Forest) (B : Block) → Consolidates of g f B → IsPath g.path
+    → (S : Contents) → MeansStored S g.path (with_block g (Some B)).metadata → depth (group_tree (with_block g (Some B)).metadata) ≤ max_depth
+    → (s : Contents) → map.get s (g.path ++ zarr_json ∷ []) ≡ map.get S (g.path ++ zarr_json ∷ []) → OpensTo s (with_block g (Some B)) f

@@ -1,0 +1,37 @@
+-- Zarr core specification 3.1, "Hierarchy": both printings of one group.
+use Rattle.std.specs.Prelude.{◌≡◌, ℕ, List, [], ◌∷◌, ◌++◌, Option, Some, None, IsTrue, codes}
+use Rattle.zarrs_store.specs.Contents.{Contents}
+use Rattle.zarrs_path.specs.Paths.{Path, IsPath, path_text}
+use Rattle.zarrs_meta.specs.Node.{is_group}
+use Rattle.zarrs_meta.specs.declared.node.NodeMetadata.{NodeMetadata}
+use Rattle.zarrs_config.specs.declared.version.MetadataRetrieveVersion.{MetadataRetrieveVersion}
+use Rattle.zarrs_config.specs.declared.version.UseConsolidatedMetadata.{UseConsolidatedMetadata}
+use Rattle.zarrs_block.specs.Block.{Block, Entries}
+use Rattle.zarrs_node.specs.Forest.{Forest}
+use Rattle.zarrs_node.specs.Lines.{tree_text}
+use Rattle.zarrs_node.specs.Meaning.{meaning, node}
+use Rattle.zarrs_node.specs.Opened.{choice, ShowsNode}
+use Rattle.zarrs_node.specs.Reached.{Closed}
+use Rattle.zarrs_hierarchy.specs.Held.{Pairs}
+use Rattle.zarrs_hierarchy.specs.Opened.{IsOpened}
+use Rattle.zarrs_hierarchy.specs.Tree.{IsTreeOf, shown}
+use Rattle.zarrs_node.specs.Order.{Ascend}
+
+-- the nodes below b are listed, or stand in a block whose entries are closed
+abbrev pub IsClosedChoice : Option (Option Block) → Path → Type 0
+IsClosedChoice None b = ⊥
+IsClosedChoice (Some None) b = Unit {0}
+IsClosedChoice (Some (Some B)) b = Closed (Entries B b) b
+
+-- A group at one path is opened from one store as a node and as a hierarchy, by a listing or by a closed block. What the node prints and
+-- what the hierarchy prints from that path on agree behind their first lines, which are `/` and the path.
+abbrev pub PrintingAgrees : Type 0
+PrintingAgrees = (s : Contents) (v : MetadataRetrieveVersion) (policy : UseConsolidatedMetadata) (b : Path) (m : NodeMetadata) (f : Forest) (h : Pairs) (t u : List ℕ)
+    → IsPath b → meaning s v b ≡ node m → IsTrue (is_group m) → IsClosedChoice (choice s policy b m) b
+    → ShowsNode s v policy b m f → t ≡ tree_text m f
+    → IsOpened s v policy (path_text b) h → IsTreeOf h b u
+    → (below : List ℕ) × (t ≡ codes "/\n" ++ below) × (u ≡ path_text b ++ 10 ∷ below)
+
+-- What is shown of a hierarchy in the order of paths is its tree from the root on.
+abbrev pub ShownIsTree : Type 0
+ShownIsTree = (h : Pairs) → Ascend h → IsTreeOf h [] (shown h)

@@ -1,0 +1,4 @@
+pub mod Held
+pub mod Tree
+pub mod Opened
+pub mod Laws

@@ -1,0 +1,137 @@
+//! Hierarchies of what a store has at a path and below it.
+ghost use Rattle.std.specs.Prelude.{◌≡◌, true, IfOk, IfErr, ◌⊎◌};
+ghost use Rattle.zarrs_meta.specs.declared.node.NodeMetadata.TheVariants.{Group as group_node};
+ghost use Rattle.zarrs_store.specs.Contents.{Lists};
+ghost use Rattle.zarrs_block.specs.Refused.{IsExcused};
+ghost use Rattle.zarrs_node.specs.Nodes.{Nodes, Bad, ShowsBad};
+ghost use Rattle.zarrs_node.specs.Opened.{IsCleanNode, RefusesBelow, RefusesOpening};
+ghost use Rattle.zarrs_hierarchy.specs.Held.{Holds, WithBase};
+ghost use Rattle.zarrs_hierarchy.specs.Opened.{PairsOf, IsOpened};
+
+use crate::hierarchy::{Hierarchy, HierarchyCreateError};
+use log::Log;
+use std::alloc::Global;
+use zarrs_block::{consolidated_metadata_for_open, expand_consolidated_metadata};
+use zarrs_config::{Config, MetadataRetrieveVersion};
+use zarrs_group::Group;
+use zarrs_meta::NodeMetadata;
+use zarrs_node::{Node, get_all_nodes_of};
+use zarrs_path::NodePath;
+use zarrs_store::{ListableStorageTraits, ReadableStorageTraits};
+
+impl Hierarchy {
+    /// The hierarchy at a path, by the documents of version 3 and where there is none by those of version 2.
+    ///
+    /// # Errors
+    ///
+    /// The refusals of [`Hierarchy::open_opt`].
+    ///
+    /// Source: `zarrs::hierarchy::Hierarchy::open`.
+    pub fn open<L: Log, S: ReadableStorageTraits + ListableStorageTraits>(
+        log: &L,
+        alloc: Global,
+        storage: &S,
+        path: &str,
+        config: &Config,
+    ) -> Result<Hierarchy, HierarchyCreateError>
+        ensures opened { IfOk result (IsOpened (S.contents storage.now) MetadataRetrieveVersion.Default config.now.use_consolidated path.now) }
+        ensures refused { IfErr result (λ e. IsExcused (S.can_fail storage.now) e ⊎ RefusesOpening (S.contents storage.now) MetadataRetrieveVersion.Default config.now.use_consolidated path.now e) }
+    {
+        Hierarchy::open_opt(
+            log,
+            alloc,
+            storage,
+            path,
+            &MetadataRetrieveVersion::Default,
+            config,
+        )
+    }
+
+    /// The hierarchy at a path, by the documents of a version: the node at the path, and for a group all entries of the consolidated
+    /// block that its metadata hold, where the configuration has it used, and else the nodes that a listing finds, which warns of each
+    /// path without documents that it passes over. Where a block is used, nothing below the path is looked at.
+    ///
+    /// # Errors
+    ///
+    /// The first that applies:
+    ///
+    /// - `NodePathError` with the text where it is that of no path.
+    /// - `MissingMetadata` with the path's text where no document stands at the path.
+    /// - `StorageError::InvalidMetadata` where a document of the path does not read, with its key and the fault, and
+    ///   `MetadataVersionMismatch` where one of version 2 stands at `zarr.json`.
+    /// - `MissingMetadata` that names the path where a group has no block that reads and the configuration demands one.
+    /// - `NodePathError` where a key of the block is no relative path.
+    /// - The refusals of `zarrs_node::get_all_nodes_of` where the nodes are listed.
+    ///
+    /// In the place of each of these, and of a hierarchy, `StorageError::Fault` of a store that can fail, and `OutOfMemory` where
+    /// there is no memory.
+    ///
+    /// Source: `zarrs::hierarchy::Hierarchy::open_opt`.
+    pub fn open_opt<L: Log, S: ReadableStorageTraits + ListableStorageTraits>(
+        log: &L,
+        alloc: Global,
+        storage: &S,
+        path: &str,
+        version: &MetadataRetrieveVersion,
+        config: &Config,
+    ) -> Result<Hierarchy, HierarchyCreateError>
+        ensures opened { IfOk result (IsOpened (S.contents storage.now) version.now config.now.use_consolidated path.now) }
+        ensures refused { IfErr result (λ e. IsExcused (S.can_fail storage.now) e ⊎ RefusesOpening (S.contents storage.now) version.now config.now.use_consolidated path.now e) }
+    {
+        let path = NodePath::new(alloc, path)?;
+        let metadata = Node::get_metadata(alloc, storage, &path, version)?;
+        let nodes = nodes_below(log, alloc, storage, &path, &metadata, version, config)?;
+        Ok(Hierarchy::from_nodes(alloc, path, metadata, nodes)?)
+    }
+
+    /// The hierarchy of a group and of the nodes that a listing finds below it, by the documents of version 3 and where there is none
+    /// by those of version 2. No consolidated block is consulted.
+    ///
+    /// # Errors
+    ///
+    /// The refusals of `zarrs_node::get_all_nodes_of`.
+    ///
+    /// Source: `zarrs::hierarchy::Hierarchy::try_from_group`.
+    pub fn try_from_group<L: Log, S: ReadableStorageTraits + ListableStorageTraits>(
+        log: &L,
+        alloc: Global,
+        group: &Group,
+        storage: &S,
+    ) -> Result<Hierarchy, HierarchyCreateError>
+        ensures pairs { IfOk result (λ hierarchy. Holds hierarchy (WithBase group.now.path (group_node group.now.metadata) (Nodes (S.contents storage.now) MetadataRetrieveVersion.Default true group.now.path))) }
+        ensures clean { IfOk result (λ _. Bad (S.contents storage.now) MetadataRetrieveVersion.Default true group.now.path → ⊥) }
+        ensures refused { IfErr result (λ e. IsExcused (S.can_fail storage.now) e ⊎ ShowsBad (S.contents storage.now) MetadataRetrieveVersion.Default true group.now.path e) }
+    {
+        let base = group.path();
+        let version = MetadataRetrieveVersion::Default;
+        let nodes = get_all_nodes_of(log, alloc, storage, base, &version)?;
+        let path = base.try_clone(alloc)?;
+        let metadata = group.metadata().try_clone(alloc)?;
+        let hierarchy = Hierarchy::from_nodes(alloc, path, NodeMetadata::Group(metadata), nodes)?;
+        Ok(hierarchy)
+    }
+}
+
+// The nodes below a path that has these metadata.
+fn nodes_below<L: Log, S: ReadableStorageTraits + ListableStorageTraits>(
+    log: &L,
+    alloc: Global,
+    storage: &S,
+    path: &NodePath,
+    metadata: &NodeMetadata,
+    version: &MetadataRetrieveVersion,
+    config: &Config,
+) -> Result<Vec<(NodePath, NodeMetadata)>, HierarchyCreateError>
+    ensures pairs { IfOk result (λ nodes. Lists (PairsOf (S.contents storage.now) version.now config.now.use_consolidated path.now metadata.now) nodes.items) }
+    ensures clean { IfOk result (λ _. IsCleanNode (S.contents storage.now) version.now config.now.use_consolidated path.now metadata.now) }
+    ensures refused { IfErr result (λ e. IsExcused (S.can_fail storage.now) e ⊎ RefusesBelow (S.contents storage.now) version.now config.now.use_consolidated path.now metadata.now e) }
+{
+    if !metadata.is_group() {
+        return Ok(Vec::new(alloc));
+    }
+    let policy = config.use_consolidated_metadata();
+    match consolidated_metadata_for_open(alloc, path, metadata, policy)? {
+        Some(block) => expand_consolidated_metadata(alloc, path, block),
+        None => get_all_nodes_of(log, alloc, storage, path, version),
+    }
+}
