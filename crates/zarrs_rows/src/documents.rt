@@ -238,16 +238,16 @@ fn numbers_have_64_bits(rt: HostRuntime) {
     let alloc = rt.alloc();
     for (given, wanted) in [
         (
-            "{\"attributes\":{\"n\":1.5},\"node_type\":\"group\",\"zarr_format\":3}",
+            r#"{"attributes":{"n":1.5},"node_type":"group","zarr_format":3}"#,
             "unsupported number",
         ),
         (
-            "{\"attributes\":{\"n\":18446744073709551615},\"node_type\":\"group\",\"zarr_format\":3}",
-            "{\"attributes\":{\"n\":18446744073709551615},\"node_type\":\"group\",\"zarr_format\":3}",
+            r#"{"attributes":{"n":18446744073709551615},"node_type":"group","zarr_format":3}"#,
+            r#"{"attributes":{"n":18446744073709551615},"node_type":"group","zarr_format":3}"#,
         ),
         (
-            "{\"attributes\":{\"n\":-9223372036854775808},\"node_type\":\"group\",\"zarr_format\":3}",
-            "{\"attributes\":{\"n\":-9223372036854775808},\"node_type\":\"group\",\"zarr_format\":3}",
+            r#"{"attributes":{"n":-9223372036854775808},"node_type":"group","zarr_format":3}"#,
+            r#"{"attributes":{"n":-9223372036854775808},"node_type":"group","zarr_format":3}"#,
         ),
     ] {
         assert_reads::<_, GroupMetadataV3>(&rt, alloc, given, wanted);
@@ -264,8 +264,7 @@ fn is_past_64_bits<T: Drop>(read: Result<T, MetadataFault>) -> bool {
 
 #[test]
 fn a_number_past_64_bits_is_refused(rt: HostRuntime) {
-    let given =
-        "{\"attributes\":{\"n\":18446744073709551616},\"node_type\":\"group\",\"zarr_format\":3}";
+    let given = r#"{"attributes":{"n":18446744073709551616},"node_type":"group","zarr_format":3}"#;
     let read = GroupMetadataV3::from_bytes(rt.alloc(), given.as_bytes());
     assert!(rt; is_past_64_bits(read), "another answer");
 }
@@ -274,24 +273,24 @@ fn a_number_past_64_bits_is_refused(rt: HostRuntime) {
 fn faults_come_in_order(rt: HostRuntime) {
     let alloc = rt.alloc();
     for (given, wanted) in [
-        ("{\"zarr_format\":3", "not JSON"),
+        (r#"{"zarr_format":3"#, "not JSON"),
         ("[]", "not an object"),
         ("[1.5]", "unsupported number"),
         ("{}", "wrong zarr_format"),
-        ("{\"zarr_format\":3}", "wrong node_type"),
+        (r#"{"zarr_format":3}"#, "wrong node_type"),
         (
-            "{\"zarr_format\":3,\"node_type\":\"array\"}",
+            r#"{"zarr_format":3,"node_type":"array"}"#,
             "missing member shape",
         ),
         (
-            "{\"zarr_format\":3,\"node_type\":\"group\",\"attributes\":1}",
+            r#"{"zarr_format":3,"node_type":"group","attributes":1}"#,
             "bad member attributes",
         ),
         (
-            "{\"zarr_format\":3,\"node_type\":\"group\",\"attributes\":{\"spam\":\"ham\",\"eggs\":42}}",
-            "{\"attributes\":{\"eggs\":42,\"spam\":\"ham\"},\"node_type\":\"group\",\"zarr_format\":3}",
+            r#"{"zarr_format":3,"node_type":"group","attributes":{"spam":"ham","eggs":42}}"#,
+            r#"{"attributes":{"eggs":42,"spam":"ham"},"node_type":"group","zarr_format":3}"#,
         ),
-        ("{\"zarr_format\":3,\"node_type\":\"group\"}x", "not JSON"),
+        (r#"{"zarr_format":3,"node_type":"group"}x"#, "not JSON"),
         ("{\"zarr_format\":3,\"node_type\":\"group\"}\n", G3),
         (G3, G3),
         (G2, G2),
@@ -304,7 +303,7 @@ fn faults_come_in_order(rt: HostRuntime) {
 #[test]
 fn a_group_of_version_2_has_no_shape(rt: HostRuntime) {
     let alloc = rt.alloc();
-    let given = "{\"zarr_format\":2,\"shape\":[1]}";
+    let given = r#"{"zarr_format":2,"shape":[1]}"#;
     assert_reads::<_, GroupMetadataV2>(&rt, alloc, given, "bad member shape");
 }
 
@@ -333,28 +332,28 @@ fn groups_of_version_3(rt: HostRuntime) {
     let alloc = rt.alloc();
     for (given, wanted) in [
         (
-            "{\"zarr_format\":3,\"node_type\":\"group\",\"attributes\":{\"spam\":\"ham\",\"eggs\":42}}",
-            "{\"attributes\":{\"eggs\":42,\"spam\":\"ham\"},\"node_type\":\"group\",\"zarr_format\":3}",
+            r#"{"zarr_format":3,"node_type":"group","attributes":{"spam":"ham","eggs":42}}"#,
+            r#"{"attributes":{"eggs":42,"spam":"ham"},"node_type":"group","zarr_format":3}"#,
         ),
         (
-            "{\"zarr_format\":3,\"node_type\":\"group\",\"attributes\":{\"spam\":\"ham\",\"eggs\":42},\"unknown\":{\"must_understand\":false}}",
-            "{\"attributes\":{\"eggs\":42,\"spam\":\"ham\"},\"node_type\":\"group\",\"unknown\":{\"must_understand\":false},\"zarr_format\":3}",
+            r#"{"zarr_format":3,"node_type":"group","attributes":{"spam":"ham","eggs":42},"unknown":{"must_understand":false}}"#,
+            r#"{"attributes":{"eggs":42,"spam":"ham"},"node_type":"group","unknown":{"must_understand":false},"zarr_format":3}"#,
         ),
         (
-            "{\"zarr_format\":2,\"node_type\":\"group\",\"attributes\":{\"spam\":\"ham\",\"eggs\":42}}",
+            r#"{"zarr_format":2,"node_type":"group","attributes":{"spam":"ham","eggs":42}}"#,
             "wrong zarr_format",
         ),
         (
-            "{\"zarr_format\":3,\"node_type\":\"array\",\"attributes\":{\"spam\":\"ham\",\"eggs\":42}}",
+            r#"{"zarr_format":3,"node_type":"array","attributes":{"spam":"ham","eggs":42}}"#,
             "wrong node_type",
         ),
         (
-            "{\"consolidated_metadata\":null,\"node_type\":\"group\",\"zarr_format\":3}",
+            r#"{"consolidated_metadata":null,"node_type":"group","zarr_format":3}"#,
             G3,
         ),
         (
-            "{\"consolidated_metadata\":1,\"node_type\":\"group\",\"zarr_format\":3}",
-            "{\"consolidated_metadata\":1,\"node_type\":\"group\",\"zarr_format\":3}",
+            r#"{"consolidated_metadata":1,"node_type":"group","zarr_format":3}"#,
+            r#"{"consolidated_metadata":1,"node_type":"group","zarr_format":3}"#,
         ),
     ] {
         assert_reads::<_, GroupMetadataV3>(&rt, alloc, given, wanted);
@@ -365,7 +364,7 @@ fn groups_of_version_3(rt: HostRuntime) {
 fn an_unknown_field_must_be_understood(rt: HostRuntime) {
     let alloc = rt.alloc();
     let given =
-        "{\"zarr_format\":3,\"node_type\":\"group\",\"attributes\":{\"spam\":\"ham\",\"eggs\":42},\"unknown\":\"unsupported\"}";
+        r#"{"zarr_format":3,"node_type":"group","attributes":{"spam":"ham","eggs":42},"unknown":"unsupported"}"#;
     let read = GroupMetadataV3::from_bytes(alloc, given.as_bytes());
     assert_says(
         &rt,
@@ -376,7 +375,7 @@ fn an_unknown_field_must_be_understood(rt: HostRuntime) {
         "1 fields, must be understood: true",
     );
     let wanted =
-        "{\"attributes\":{\"eggs\":42,\"spam\":\"ham\"},\"node_type\":\"group\",\"unknown\":\"unsupported\",\"zarr_format\":3}";
+        r#"{"attributes":{"eggs":42,"spam":"ham"},"node_type":"group","unknown":"unsupported","zarr_format":3}"#;
     assert_reads::<_, GroupMetadataV3>(&rt, alloc, given, wanted);
 }
 
@@ -396,7 +395,7 @@ fn unknown_field(group: &GroupMetadataV3, alloc: Global) -> Result<String, Alloc
 #[test]
 fn groups_of_version_2(rt: HostRuntime) {
     let alloc = rt.alloc();
-    let text = "{\"attributes\":{\"k\":1},\"other\":[],\"zarr_format\":2}";
+    let text = r#"{"attributes":{"k":1},"other":[],"zarr_format":2}"#;
     assert_reads::<_, GroupMetadataV2>(&rt, alloc, text, text);
     assert_reads::<_, NodeMetadata>(&rt, alloc, text, text);
 }
@@ -418,20 +417,20 @@ fn arrays_of_version_2(rt: HostRuntime) {
     for (given, wanted) in [
         (A2, A2_WRITTEN),
         (
-            "{\"chunks\":[1000,1000],\"compressor\":{\"id\":\"blosc\",\"cname\":\"lz4\",\"clevel\":5,\"shuffle\":1},\"dtype\":\"<f8\",\"fill_value\":\"NaN\",\"filters\":null,\"order\":\"F\",\"shape\":[10000,10000],\"zarr_format\":2}",
-            "{\"chunks\":[1000,1000],\"compressor\":{\"clevel\":5,\"cname\":\"lz4\",\"id\":\"blosc\",\"shuffle\":1},\"dimension_separator\":\".\",\"dtype\":\"<f8\",\"fill_value\":\"NaN\",\"filters\":null,\"order\":\"F\",\"shape\":[10000,10000],\"zarr_format\":2}",
+            r#"{"chunks":[1000,1000],"compressor":{"id":"blosc","cname":"lz4","clevel":5,"shuffle":1},"dtype":"<f8","fill_value":"NaN","filters":null,"order":"F","shape":[10000,10000],"zarr_format":2}"#,
+            r#"{"chunks":[1000,1000],"compressor":{"clevel":5,"cname":"lz4","id":"blosc","shuffle":1},"dimension_separator":".","dtype":"<f8","fill_value":"NaN","filters":null,"order":"F","shape":[10000,10000],"zarr_format":2}"#,
         ),
         (
-            "{\"chunks\":[1],\"compressor\":null,\"dimension_separator\":\"/\",\"dtype\":[[\"r\",\"|u1\"],[\"g\",\"|u1\"]],\"fill_value\":null,\"filters\":[{\"id\":\"delta\"}],\"order\":\"C\",\"shape\":[1],\"zarr_format\":2}",
-            "{\"chunks\":[1],\"compressor\":null,\"dimension_separator\":\"/\",\"dtype\":[[\"r\",\"|u1\"],[\"g\",\"|u1\"]],\"fill_value\":null,\"filters\":[{\"id\":\"delta\"}],\"order\":\"C\",\"shape\":[1],\"zarr_format\":2}",
+            r#"{"chunks":[1],"compressor":null,"dimension_separator":"/","dtype":[["r","|u1"],["g","|u1"]],"fill_value":null,"filters":[{"id":"delta"}],"order":"C","shape":[1],"zarr_format":2}"#,
+            r#"{"chunks":[1],"compressor":null,"dimension_separator":"/","dtype":[["r","|u1"],["g","|u1"]],"fill_value":null,"filters":[{"id":"delta"}],"order":"C","shape":[1],"zarr_format":2}"#,
         ),
         (
-            "{\"chunks\":[1],\"compressor\":null,\"dimension_separator\":null,\"dtype\":\"<f8\",\"fill_value\":0,\"order\":\"F\",\"shape\":[1],\"zarr_format\":2}",
-            "{\"chunks\":[1],\"compressor\":null,\"dimension_separator\":\".\",\"dtype\":\"<f8\",\"fill_value\":0,\"filters\":null,\"order\":\"F\",\"shape\":[1],\"zarr_format\":2}",
+            r#"{"chunks":[1],"compressor":null,"dimension_separator":null,"dtype":"<f8","fill_value":0,"order":"F","shape":[1],"zarr_format":2}"#,
+            r#"{"chunks":[1],"compressor":null,"dimension_separator":".","dtype":"<f8","fill_value":0,"filters":null,"order":"F","shape":[1],"zarr_format":2}"#,
         ),
         (
-            "{\"chunks\":[1],\"compressor\":{\"id\":\"zlib\",\"level\":1},\"dimension_separator\":\"/\",\"dtype\":\"<f8\",\"fill_value\":0,\"order\":\"C\",\"shape\":[1],\"zarr_format\":2}",
-            "{\"chunks\":[1],\"compressor\":{\"id\":\"zlib\",\"level\":1},\"dimension_separator\":\"/\",\"dtype\":\"<f8\",\"fill_value\":0,\"filters\":null,\"order\":\"C\",\"shape\":[1],\"zarr_format\":2}",
+            r#"{"chunks":[1],"compressor":{"id":"zlib","level":1},"dimension_separator":"/","dtype":"<f8","fill_value":0,"order":"C","shape":[1],"zarr_format":2}"#,
+            r#"{"chunks":[1],"compressor":{"id":"zlib","level":1},"dimension_separator":"/","dtype":"<f8","fill_value":0,"filters":null,"order":"C","shape":[1],"zarr_format":2}"#,
         ),
     ] {
         assert_reads::<_, ArrayMetadataV2>(&rt, alloc, given, wanted);
@@ -444,23 +443,23 @@ fn members_of_version_2_have_their_forms(rt: HostRuntime) {
     let alloc = rt.alloc();
     for (given, wanted) in [
         (
-            "{\"chunks\":[0],\"compressor\":null,\"dtype\":\"<f8\",\"fill_value\":\"NaN\",\"filters\":null,\"order\":\"C\",\"shape\":[1],\"zarr_format\":2}",
+            r#"{"chunks":[0],"compressor":null,"dtype":"<f8","fill_value":"NaN","filters":null,"order":"C","shape":[1],"zarr_format":2}"#,
             "bad member chunks",
         ),
         (
-            "{\"chunks\":[1],\"compressor\":{\"id\":1},\"dtype\":\"<f8\",\"fill_value\":\"NaN\",\"filters\":null,\"order\":\"C\",\"shape\":[1],\"zarr_format\":2}",
+            r#"{"chunks":[1],"compressor":{"id":1},"dtype":"<f8","fill_value":"NaN","filters":null,"order":"C","shape":[1],"zarr_format":2}"#,
             "bad member compressor",
         ),
         (
-            "{\"chunks\":[1],\"compressor\":null,\"dtype\":\"<f8\",\"fill_value\":\"NaN\",\"filters\":null,\"order\":\"A\",\"shape\":[1],\"zarr_format\":2}",
+            r#"{"chunks":[1],"compressor":null,"dtype":"<f8","fill_value":"NaN","filters":null,"order":"A","shape":[1],"zarr_format":2}"#,
             "bad member order",
         ),
         (
-            "{\"chunks\":[1],\"compressor\":null,\"dimension_separator\":\"-\",\"dtype\":\"<f8\",\"fill_value\":\"NaN\",\"filters\":null,\"order\":\"C\",\"shape\":[1],\"zarr_format\":2}",
+            r#"{"chunks":[1],"compressor":null,"dimension_separator":"-","dtype":"<f8","fill_value":"NaN","filters":null,"order":"C","shape":[1],"zarr_format":2}"#,
             "bad member dimension_separator",
         ),
         (
-            "{\"chunks\":[1],\"compressor\":null,\"dtype\":\"<f8\",\"fill_value\":\"NaN\",\"filters\":[1],\"order\":\"C\",\"shape\":[1],\"zarr_format\":2}",
+            r#"{"chunks":[1],"compressor":null,"dtype":"<f8","fill_value":"NaN","filters":[1],"order":"C","shape":[1],"zarr_format":2}"#,
             "bad member filters",
         ),
     ] {
@@ -473,7 +472,7 @@ fn arrays_of_version_3(rt: HostRuntime) {
     let alloc = rt.alloc();
     for text in [
         A3,
-        "{\"attributes\":{\"bar\":\"apples\",\"baz\":[1,2,3,4],\"foo\":42},\"chunk_grid\":{\"configuration\":{\"chunk_shape\":[1000,100]},\"name\":\"regular\"},\"chunk_key_encoding\":{\"configuration\":{\"separator\":\"/\"},\"name\":\"default\"},\"codecs\":[{\"configuration\":{\"endian\":\"little\"},\"name\":\"bytes\"},{\"configuration\":{\"level\":1},\"name\":\"gzip\"}],\"data_type\":\"float64\",\"dimension_names\":[\"rows\",\"columns\"],\"fill_value\":\"NaN\",\"node_type\":\"array\",\"shape\":[10000,1000],\"zarr_format\":3}",
+        r#"{"attributes":{"bar":"apples","baz":[1,2,3,4],"foo":42},"chunk_grid":{"configuration":{"chunk_shape":[1000,100]},"name":"regular"},"chunk_key_encoding":{"configuration":{"separator":"/"},"name":"default"},"codecs":[{"configuration":{"endian":"little"},"name":"bytes"},{"configuration":{"level":1},"name":"gzip"}],"data_type":"float64","dimension_names":["rows","columns"],"fill_value":"NaN","node_type":"array","shape":[10000,1000],"zarr_format":3}"#,
     ] {
         assert_reads::<_, ArrayMetadataV3>(&rt, alloc, text, text);
         assert_reads::<_, NodeMetadata>(&rt, alloc, text, text);
@@ -489,12 +488,12 @@ fn a3_with(
     shape: &str,
 ) -> Result<String, AllocError> {
     format!(in alloc;
-        "{{\"chunk_grid\":{{\"configuration\":{{\"chunk_shape\":[1]}},\"name\":\"regular\"}},\"chunk_key_encoding\":{{\"configuration\":{{\"separator\":\"/\"}},\"name\":\"default\"}},\"codecs\":{codecs},\"data_type\":{data_type}{more},\"fill_value\":0,\"node_type\":\"array\",\"shape\":{shape},\"zarr_format\":3}}"
+        r#"{{"chunk_grid":{{"configuration":{{"chunk_shape":[1]}},"name":"regular"}},"chunk_key_encoding":{{"configuration":{{"separator":"/"}},"name":"default"}},"codecs":{codecs},"data_type":{data_type}{more},"fill_value":0,"node_type":"array","shape":{shape},"zarr_format":3}}"#
     )
 }
 
 // The codecs of the usual array of version 3.
-const BYTES: &str = "[{\"configuration\":{\"endian\":\"little\"},\"name\":\"bytes\"}]";
+const BYTES: &str = r#"[{"configuration":{"endian":"little"},"name":"bytes"}]"#;
 
 // Asserts what the array with these members reads as.
 fn assert_member<R: Abort>(
@@ -505,7 +504,7 @@ fn assert_member<R: Abort>(
     shape: &str,
     wanted: &str,
 ) {
-    match a3_with(alloc, codecs, "\"float32\"", more, shape) {
+    match a3_with(alloc, codecs, r#""float32""#, more, shape) {
         Ok(given) => assert_reads::<_, ArrayMetadataV3>(rt, alloc, given.as_str(), wanted),
         Err(_) => assert!(rt; false, "no memory"),
     }
@@ -526,23 +525,23 @@ fn assert_written<R: Abort>(rt: &R, alloc: Global, given: (&str, &str), wanted: 
 #[test]
 fn data_types_are_written(rt: HostRuntime) {
     let alloc = rt.alloc();
-    let given = "{\"name\":\"float32\"}";
-    assert_written(&rt, alloc, (given, ""), ("\"float32\"", ""));
-    let given = "{\"must_understand\":false,\"name\":\"float32\"}";
+    let given = r#"{"name":"float32"}"#;
+    assert_written(&rt, alloc, (given, ""), (r#""float32""#, ""));
+    let given = r#"{"must_understand":false,"name":"float32"}"#;
     assert_written(&rt, alloc, (given, ""), (given, ""));
-    let given = "{\"configuration\":{},\"name\":\"x\"}";
+    let given = r#"{"configuration":{},"name":"x"}"#;
     assert_written(&rt, alloc, (given, ""), (given, ""));
-    let given = "{\"configuration\":null,\"name\":\"x\",\"other\":1}";
-    assert_written(&rt, alloc, (given, ""), ("\"x\"", ""));
+    let given = r#"{"configuration":null,"name":"x","other":1}"#;
+    assert_written(&rt, alloc, (given, ""), (r#""x""#, ""));
 }
 
 #[test]
 fn dimension_names_may_be_absent(rt: HostRuntime) {
     let alloc = rt.alloc();
-    let kind = "\"float32\"";
-    let names = ",\"dimension_names\":[\"x\",null]";
+    let kind = r#""float32""#;
+    let names = r#","dimension_names":["x",null]"#;
     assert_written(&rt, alloc, (kind, names), (kind, names));
-    let names = ",\"dimension_names\":null";
+    let names = r#","dimension_names":null"#;
     assert_written(&rt, alloc, (kind, names), (kind, ""));
 }
 
@@ -551,9 +550,9 @@ fn members_of_version_3_have_their_forms(rt: HostRuntime) {
     let alloc = rt.alloc();
     assert_member(&rt, alloc, BYTES, "", "[-1]", "bad member shape");
     assert_member(&rt, alloc, "[1]", "", "[1]", "bad member codecs");
-    let more = ",\"dimension_names\":[1]";
+    let more = r#","dimension_names":[1]"#;
     assert_member(&rt, alloc, BYTES, more, "[1]", "bad member dimension_names");
-    let more = ",\"storage_transformers\":1";
+    let more = r#","storage_transformers":1"#;
     assert_member(
         &rt,
         alloc,
@@ -571,7 +570,7 @@ fn members_of_version_3_have_their_forms(rt: HostRuntime) {
 fn attributes_have_no_table(rt: HostRuntime) {
     let alloc = rt.alloc();
     for (given, wanted) in [
-        ("{\"k\":1,\"zarr_format\":7}", "{\"k\":1,\"zarr_format\":7}"),
+        (r#"{"k":1,"zarr_format":7}"#, r#"{"k":1,"zarr_format":7}"#),
         ("1", "not an object"),
         ("1.5", "unsupported number"),
         ("{", "not JSON"),
@@ -607,7 +606,7 @@ fn assert_zarr_json<R: Abort>(rt: &R, alloc: Global, given: &str, wanted: &str) 
 #[test]
 fn version_2_at_zarr_json_is_not_read_on(rt: HostRuntime) {
     let alloc = rt.alloc();
-    let given = "{\"zarr_format\":2,\"node_type\":1}";
+    let given = r#"{"zarr_format":2,"node_type":1}"#;
     assert_zarr_json(&rt, alloc, given, "version 2");
     assert_zarr_json(&rt, alloc, G3, G3);
     assert_zarr_json(&rt, alloc, "[]", "not an object");
@@ -639,6 +638,45 @@ fn documents_of_a_store_read_themselves(rt: HostRuntime) {
         AttributesDocument::to_text,
         "{}",
     );
+}
+
+// The text of a document's copy, made as a store's document.
+fn zarr_json_copy(document: &ZarrJson, alloc: Global) -> Result<String, AllocError> {
+    said(
+        alloc,
+        <ZarrJson as Document>::try_clone(document, alloc),
+        zarr_json_text,
+    )
+}
+
+fn zarray_copy(document: &ArrayMetadataV2, alloc: Global) -> Result<String, AllocError> {
+    let copy = <ArrayMetadataV2 as Document>::try_clone(document, alloc);
+    said(alloc, copy, ArrayMetadataV2::to_text)
+}
+
+fn zgroup_copy(document: &GroupMetadataV2, alloc: Global) -> Result<String, AllocError> {
+    let copy = <GroupMetadataV2 as Document>::try_clone(document, alloc);
+    said(alloc, copy, GroupMetadataV2::to_text)
+}
+
+fn zattrs_copy(document: &AttributesDocument, alloc: Global) -> Result<String, AllocError> {
+    let copy = <AttributesDocument as Document>::try_clone(document, alloc);
+    said(alloc, copy, AttributesDocument::to_text)
+}
+
+#[test]
+fn documents_of_a_store_copy_themselves(rt: HostRuntime) {
+    let alloc = rt.alloc();
+    let read = <ZarrJson as Document>::read(alloc, G3.as_bytes());
+    assert_says(&rt, alloc, "zarr.json", read, zarr_json_copy, G3);
+    let read = <ZarrJson as Document>::read(alloc, G2.as_bytes());
+    assert_says(&rt, alloc, "version 2", read, zarr_json_copy, "version 2");
+    let read = <ArrayMetadataV2 as Document>::read(alloc, A2.as_bytes());
+    assert_says(&rt, alloc, ".zarray", read, zarray_copy, A2_WRITTEN);
+    let read = <GroupMetadataV2 as Document>::read(alloc, G2.as_bytes());
+    assert_says(&rt, alloc, ".zgroup", read, zgroup_copy, G2);
+    let read = <AttributesDocument as Document>::read(alloc, "{}".as_bytes());
+    assert_says(&rt, alloc, ".zattrs", read, zattrs_copy, "{}");
 }
 
 // ---- groups and arrays of either version

@@ -7,7 +7,7 @@ use std::alloc::{AllocError, Global};
 use std::fmt::Display;
 use std::process::Abort;
 use zarrs_block::NodeCreateError;
-use zarrs_config::MetadataRetrieveVersion;
+use zarrs_config::{Config, MetadataRetrieveVersion, UseConsolidatedMetadata};
 use zarrs_meta::NodeMetadata;
 use zarrs_node::{ListedNodes, Node, list_nodes};
 use zarrs_path::NodePath;
@@ -17,26 +17,26 @@ use zarrs_store::{
 };
 
 /// A group of version 3.
-pub(crate) const G3: &str = "{\"node_type\":\"group\",\"zarr_format\":3}";
+pub(crate) const G3: &str = r#"{"node_type":"group","zarr_format":3}"#;
 
 /// A group of version 2.
-pub(crate) const G2: &str = "{\"zarr_format\":2}";
+pub(crate) const G2: &str = r#"{"zarr_format":2}"#;
 
 /// An array of version 2.
 pub(crate) const A2: &str =
-    "{\"chunks\":[1],\"compressor\":null,\"dtype\":\"<f8\",\"fill_value\":\"NaN\",\"filters\":null,\"order\":\"C\",\"shape\":[1],\"zarr_format\":2}";
+    r#"{"chunks":[1],"compressor":null,"dtype":"<f8","fill_value":"NaN","filters":null,"order":"C","shape":[1],"zarr_format":2}"#;
 
 /// The array of version 2 as it is written.
 pub(crate) const A2_WRITTEN: &str =
-    "{\"chunks\":[1],\"compressor\":null,\"dimension_separator\":\".\",\"dtype\":\"<f8\",\"fill_value\":\"NaN\",\"filters\":null,\"order\":\"C\",\"shape\":[1],\"zarr_format\":2}";
+    r#"{"chunks":[1],"compressor":null,"dimension_separator":".","dtype":"<f8","fill_value":"NaN","filters":null,"order":"C","shape":[1],"zarr_format":2}"#;
 
 /// An array of version 3 with the shape `[1]`, which is its chunks' shape too.
 pub(crate) const A3: &str =
-    "{\"chunk_grid\":{\"configuration\":{\"chunk_shape\":[1]},\"name\":\"regular\"},\"chunk_key_encoding\":{\"configuration\":{\"separator\":\"/\"},\"name\":\"default\"},\"codecs\":[{\"configuration\":{\"endian\":\"little\"},\"name\":\"bytes\"}],\"data_type\":\"float32\",\"fill_value\":0,\"node_type\":\"array\",\"shape\":[1],\"zarr_format\":3}";
+    r#"{"chunk_grid":{"configuration":{"chunk_shape":[1]},"name":"regular"},"chunk_key_encoding":{"configuration":{"separator":"/"},"name":"default"},"codecs":[{"configuration":{"endian":"little"},"name":"bytes"}],"data_type":"float32","fill_value":0,"node_type":"array","shape":[1],"zarr_format":3}"#;
 
 /// An array of version 3 with the shape `[10,10]`, which is its chunks' shape too.
 pub(crate) const A3_SQUARE: &str =
-    "{\"chunk_grid\":{\"configuration\":{\"chunk_shape\":[10,10]},\"name\":\"regular\"},\"chunk_key_encoding\":{\"configuration\":{\"separator\":\"/\"},\"name\":\"default\"},\"codecs\":[{\"configuration\":{\"endian\":\"little\"},\"name\":\"bytes\"}],\"data_type\":\"float32\",\"fill_value\":0,\"node_type\":\"array\",\"shape\":[10,10],\"zarr_format\":3}";
+    r#"{"chunk_grid":{"configuration":{"chunk_shape":[10,10]},"name":"regular"},"chunk_key_encoding":{"configuration":{"separator":"/"},"name":"default"},"codecs":[{"configuration":{"endian":"little"},"name":"bytes"}],"data_type":"float32","fill_value":0,"node_type":"array","shape":[10,10],"zarr_format":3}"#;
 
 /// Groups and arrays of version 3 in three levels.
 pub(crate) const THREE_LEVELS: [(&str, &str); 6] = [
@@ -50,6 +50,26 @@ pub(crate) const THREE_LEVELS: [(&str, &str); 6] = [
 
 /// The version by which both kinds of documents are read.
 pub(crate) const ANY: MetadataRetrieveVersion = MetadataRetrieveVersion::Default;
+
+/// The configuration with this policy of blocks.
+pub(crate) fn config_of(policy: UseConsolidatedMetadata) -> Config {
+    let mut config = Config::new();
+    config.set_use_consolidated_metadata(policy);
+    config
+}
+
+/// The document of a version 3 group with a block of these keys and documents.
+pub(crate) fn with_block(alloc: Global, nodes: &[(&str, &str)]) -> Result<String, AllocError> {
+    let mut text = String::new(alloc);
+    text.push_str(r#"{"consolidated_metadata":{"kind":"inline","metadata":{"#)?;
+    let mut comma = "";
+    for (key, document) in nodes {
+        write!(text, "{comma}\"{key}\":{document}")?;
+        comma = ",";
+    }
+    text.push_str(r#"},"must_understand":false},"node_type":"group","zarr_format":3}"#)?;
+    Ok(text)
+}
 
 /// The store with these documents at these keys.
 pub(crate) fn store_of(
@@ -111,6 +131,24 @@ where
         Ok(text) => assert_eq!(rt; text.as_str(), wanted, "{case}"),
         Err(_) => assert!(rt; false, "no memory: {case}"),
     }
+}
+
+/// What a call makes of two values, where both are there.
+pub(crate) fn both<A, B, T, E, F>(
+    first: Result<A, E>,
+    second: Result<B, E>,
+    make: F,
+) -> Result<T, E>
+where
+    A: Drop,
+    B: Drop,
+    E: Drop,
+    F: FnOnce(A, B) -> T,
+    requires { F.IsAlwaysCallable make }
+{
+    let first = first?;
+    let second = second?;
+    Ok(make(first, second))
 }
 
 /// The printed form of a value.

@@ -84,11 +84,11 @@ fn required_says(alloc: Global, text: &str, name: &'static str) -> Result<String
 #[test]
 fn a_required_member_is_there_in_its_form(rt: HostRuntime) {
     let alloc = rt.alloc();
-    assert_text(&rt, required_says(alloc, "{\"a\":1}", "a"), "1 {}");
-    let answer = required_says(alloc, "{\"a\":1}", "b");
-    assert_text(&rt, answer, "missing member b {\"a\":1}");
-    let answer = required_says(alloc, "{\"a\":\"x\",\"b\":2}", "a");
-    assert_text(&rt, answer, "bad member a {\"b\":2}");
+    assert_text(&rt, required_says(alloc, r#"{"a":1}"#, "a"), "1 {}");
+    let answer = required_says(alloc, r#"{"a":1}"#, "b");
+    assert_text(&rt, answer, r#"missing member b {"a":1}"#);
+    let answer = required_says(alloc, r#"{"a":"x","b":2}"#, "a");
+    assert_text(&rt, answer, r#"bad member a {"b":2}"#);
 }
 
 fn optional_says(alloc: Global, text: &str, name: &'static str) -> Result<String, AllocError> {
@@ -100,9 +100,9 @@ fn optional_says(alloc: Global, text: &str, name: &'static str) -> Result<String
 #[test]
 fn an_optional_member_may_be_absent(rt: HostRuntime) {
     let alloc = rt.alloc();
-    assert_text(&rt, optional_says(alloc, "{\"a\":1}", "a"), "1 {}");
-    assert_text(&rt, optional_says(alloc, "{\"a\":1}", "b"), "7 {\"a\":1}");
-    let answer = optional_says(alloc, "{\"a\":null}", "a");
+    assert_text(&rt, optional_says(alloc, r#"{"a":1}"#, "a"), "1 {}");
+    assert_text(&rt, optional_says(alloc, r#"{"a":1}"#, "b"), r#"7 {"a":1}"#);
+    let answer = optional_says(alloc, r#"{"a":null}"#, "a");
     assert_text(&rt, answer, "bad member a {}");
 }
 
@@ -115,10 +115,10 @@ fn attributes_say(alloc: Global, text: &str) -> Result<String, AllocError> {
 #[test]
 fn absent_attributes_are_empty(rt: HostRuntime) {
     let alloc = rt.alloc();
-    let answer = attributes_say(alloc, "{\"attributes\":{\"k\":1},\"b\":2}");
-    assert_text(&rt, answer, "{\"k\":1} {\"b\":2}");
-    assert_text(&rt, attributes_say(alloc, "{\"b\":2}"), "{} {\"b\":2}");
-    let answer = attributes_say(alloc, "{\"attributes\":[]}");
+    let answer = attributes_say(alloc, r#"{"attributes":{"k":1},"b":2}"#);
+    assert_text(&rt, answer, r#"{"k":1} {"b":2}"#);
+    assert_text(&rt, attributes_say(alloc, r#"{"b":2}"#), r#"{} {"b":2}"#);
+    let answer = attributes_say(alloc, r#"{"attributes":[]}"#);
     assert_text(&rt, answer, "bad member attributes {}");
 }
 
@@ -131,11 +131,11 @@ fn chunk_lengths_say(alloc: Global, text: &str) -> Result<String, AllocError> {
 #[test]
 fn no_chunk_length_is_0(rt: HostRuntime) {
     let alloc = rt.alloc();
-    let answer = chunk_lengths_say(alloc, "{\"chunks\":[2,3]}");
+    let answer = chunk_lengths_say(alloc, r#"{"chunks":[2,3]}"#);
     assert_text(&rt, answer, "[2, 3] {}");
-    let answer = chunk_lengths_say(alloc, "{\"chunks\":[2,0]}");
+    let answer = chunk_lengths_say(alloc, r#"{"chunks":[2,0]}"#);
     assert_text(&rt, answer, "bad member chunks {}");
-    let answer = chunk_lengths_say(alloc, "{\"chunks\":2}");
+    let answer = chunk_lengths_say(alloc, r#"{"chunks":2}"#);
     assert_text(&rt, answer, "bad member chunks {}");
     assert_text(
         &rt,
@@ -184,15 +184,15 @@ fn take_null_leaves(alloc: Global, text: &str, name: &str) -> Result<String, All
 #[test]
 fn a_member_is_found_by_its_name(rt: HostRuntime) {
     let alloc = rt.alloc();
-    assert_text(&rt, member_says(alloc, "{\"a\":1,\"b\":2}", "b"), "2");
-    assert_text(&rt, member_says(alloc, "{\"a\":1}", "b"), "none");
-    let answer = take_member_says(alloc, "{\"a\":1,\"b\":2}", "b");
-    assert_text(&rt, answer, "2 {\"a\":1}");
-    let answer = take_member_says(alloc, "{\"a\":1}", "b");
-    assert_text(&rt, answer, "none {\"a\":1}");
-    assert_text(&rt, take_null_leaves(alloc, "{\"a\":null}", "a"), "{}");
-    let answer = take_null_leaves(alloc, "{\"a\":1,\"b\":null}", "a");
-    assert_text(&rt, answer, "{\"a\":1,\"b\":null}");
+    assert_text(&rt, member_says(alloc, r#"{"a":1,"b":2}"#, "b"), "2");
+    assert_text(&rt, member_says(alloc, r#"{"a":1}"#, "b"), "none");
+    let answer = take_member_says(alloc, r#"{"a":1,"b":2}"#, "b");
+    assert_text(&rt, answer, r#"2 {"a":1}"#);
+    let answer = take_member_says(alloc, r#"{"a":1}"#, "b");
+    assert_text(&rt, answer, r#"none {"a":1}"#);
+    assert_text(&rt, take_null_leaves(alloc, r#"{"a":null}"#, "a"), "{}");
+    let answer = take_null_leaves(alloc, r#"{"a":1,"b":null}"#, "a");
+    assert_text(&rt, answer, r#"{"a":1,"b":null}"#);
 }
 
 // ---- documents, and what is asked of them
@@ -231,8 +231,8 @@ fn document_copy_says(alloc: Global, text: &str) -> Result<String, AllocError> {
 fn a_document_is_an_object_of_whole_numbers(rt: HostRuntime) {
     let alloc = rt.alloc();
     for (text, wanted) in [
-        ("{\"a\":-1,\"b\":[]}", "a=-1;b=[];"),
-        ("{\"a\":[0.5]}", "unsupported number"),
+        (r#"{"a":-1,"b":[]}"#, "a=-1;b=[];"),
+        (r#"{"a":[0.5]}"#, "unsupported number"),
         ("0.5", "unsupported number"),
         ("[1]", "not an object"),
     ] {
@@ -259,44 +259,44 @@ fn refuse_says(alloc: Global, text: &str) -> Result<String, AllocError> {
 #[test]
 fn format_node_type_and_absence_are_asked(rt: HostRuntime) {
     let alloc = rt.alloc();
-    assert_text(&rt, format_says(alloc, "{\"zarr_format\":3}"), "ok");
+    assert_text(&rt, format_says(alloc, r#"{"zarr_format":3}"#), "ok");
     let wanted = "wrong zarr_format";
-    assert_text(&rt, format_says(alloc, "{\"zarr_format\":2}"), wanted);
-    assert_text(&rt, format_says(alloc, "{\"zarr_format\":\"3\"}"), wanted);
+    assert_text(&rt, format_says(alloc, r#"{"zarr_format":2}"#), wanted);
+    assert_text(&rt, format_says(alloc, r#"{"zarr_format":"3"}"#), wanted);
     assert_text(&rt, format_says(alloc, "{}"), wanted);
     let wanted = "wrong node_type";
+    assert_text(&rt, node_type_says(alloc, r#"{"node_type":"group"}"#), "ok");
     assert_text(
         &rt,
-        node_type_says(alloc, "{\"node_type\":\"group\"}"),
-        "ok",
-    );
-    assert_text(
-        &rt,
-        node_type_says(alloc, "{\"node_type\":\"array\"}"),
+        node_type_says(alloc, r#"{"node_type":"array"}"#),
         wanted,
     );
-    assert_text(&rt, node_type_says(alloc, "{\"node_type\":3}"), wanted);
+    assert_text(&rt, node_type_says(alloc, r#"{"node_type":3}"#), wanted);
     assert_text(&rt, node_type_says(alloc, "{}"), wanted);
-    assert_text(&rt, refuse_says(alloc, "{\"a\":1}"), "ok");
-    assert_text(&rt, refuse_says(alloc, "{\"shape\":1}"), "bad member shape");
+    assert_text(&rt, refuse_says(alloc, r#"{"a":1}"#), "ok");
+    assert_text(
+        &rt,
+        refuse_says(alloc, r#"{"shape":1}"#),
+        "bad member shape",
+    );
 }
 
 // ---- what is put stands at its name
 
 fn put_member_leaves(alloc: Global, value: Option<&u64>) -> Result<String, AllocError> {
-    let mut members = members_of(alloc, "{\"a\":1}");
+    let mut members = members_of(alloc, r#"{"a":1}"#);
     put_member(&mut members, alloc, "b", value)?;
     Value::Object(members).to_string(alloc)
 }
 
 fn put_unless_leaves(alloc: Global, is_empty: bool) -> Result<String, AllocError> {
-    let mut members = members_of(alloc, "{\"a\":1}");
+    let mut members = members_of(alloc, r#"{"a":1}"#);
     put_unless(&mut members, alloc, "a", is_empty, &2u64)?;
     Value::Object(members).to_string(alloc)
 }
 
 fn put_text_leaves(alloc: Global, name: &str) -> Result<String, AllocError> {
-    let mut members = members_of(alloc, "{\"a\":1}");
+    let mut members = members_of(alloc, r#"{"a":1}"#);
     put_text(&mut members, alloc, name, " x")?;
     Value::Object(members).to_string(alloc)
 }
@@ -305,12 +305,12 @@ fn put_text_leaves(alloc: Global, name: &str) -> Result<String, AllocError> {
 fn what_is_put_stands_at_its_name(rt: HostRuntime) {
     let alloc = rt.alloc();
     let answer = put_member_leaves(alloc, Some(&2));
-    assert_text(&rt, answer, "{\"a\":1,\"b\":2}");
-    assert_text(&rt, put_member_leaves(alloc, None), "{\"a\":1}");
-    assert_text(&rt, put_unless_leaves(alloc, false), "{\"a\":2}");
-    assert_text(&rt, put_unless_leaves(alloc, true), "{\"a\":1}");
-    assert_text(&rt, put_text_leaves(alloc, "a"), "{\"a\":\" x\"}");
-    assert_text(&rt, put_text_leaves(alloc, "b"), "{\"a\":1,\"b\":\" x\"}");
+    assert_text(&rt, answer, r#"{"a":1,"b":2}"#);
+    assert_text(&rt, put_member_leaves(alloc, None), r#"{"a":1}"#);
+    assert_text(&rt, put_unless_leaves(alloc, false), r#"{"a":2}"#);
+    assert_text(&rt, put_unless_leaves(alloc, true), r#"{"a":1}"#);
+    assert_text(&rt, put_text_leaves(alloc, "a"), r#"{"a":" x"}"#);
+    assert_text(&rt, put_text_leaves(alloc, "b"), r#"{"a":1,"b":" x"}"#);
 }
 
 // ---- additional fields, and tests of members
@@ -329,8 +329,8 @@ fn fields_say(alloc: Global, text: &str) -> Result<String, AllocError> {
 #[test]
 fn fields_are_the_members_of_no_own_name(rt: HostRuntime) {
     let alloc = rt.alloc();
-    let answer = fields_say(alloc, "{\"a\":1,\"b\":2,\"c\":{\"a\":3}}");
-    assert_text(&rt, answer, "{\"c\":{\"a\":3}}");
+    let answer = fields_say(alloc, r#"{"a":1,"b":2,"c":{"a":3}}"#);
+    assert_text(&rt, answer, r#"{"c":{"a":3}}"#);
     assert_text(&rt, fields_say(alloc, "{}"), "{}");
 }
 
@@ -355,8 +355,8 @@ fn fields_are_tested(rt: HostRuntime) {
     let alloc = rt.alloc();
     for (text, wanted) in [
         ("{}", "false false false"),
-        ("{\"y\":1,\"z\":null}", "true false true"),
-        ("{\" x\":[0.5],\"z\":0}", "false true false"),
+        (r#"{"y":1,"z":null}"#, "true false true"),
+        (r#"{" x":[0.5],"z":0}"#, "false true false"),
     ] {
         assert_text(&rt, fields_tests_say(alloc, text), wanted);
     }
@@ -372,8 +372,8 @@ fn members_tests_say(alloc: Global, text: &str) -> Result<String, AllocError> {
 fn members_are_tested(rt: HostRuntime) {
     let alloc = rt.alloc();
     assert_text(&rt, members_tests_say(alloc, "{}"), "false false");
-    assert_text(&rt, members_tests_say(alloc, "{\"y\":1}"), "true false");
-    let answer = members_tests_say(alloc, "{\"xy\":[{\"a\":0.5}]}");
+    assert_text(&rt, members_tests_say(alloc, r#"{"y":1}"#), "true false");
+    let answer = members_tests_say(alloc, r#"{"xy":[{"a":0.5}]}"#);
     assert_text(&rt, answer, "false true");
 }
 
@@ -382,7 +382,7 @@ fn members_are_tested(rt: HostRuntime) {
 fn table_of_two(alloc: Global) -> Result<String, AllocError> {
     let mut out = open_table(alloc)?;
     write_row(alloc, &mut out, "a", Some(&1u64))?;
-    let last = Text::from_str(alloc, "x\"y")?;
+    let last = Text::from_str(alloc, r#"x"y"#)?;
     write_last(alloc, &mut out, "b", &last)?;
     Ok(out)
 }
@@ -439,8 +439,8 @@ fn numbers_texts_and_objects_have_their_forms(rt: HostRuntime) {
     let answer = form_says::<Text>(alloc, "\"a\\\\b\"");
     assert_text(&rt, answer, "\"a\\\\b\" \"a\\\\b\" true");
     assert_text(&rt, form_says::<Text>(alloc, "5"), "another form");
-    let answer = form_says::<Object>(alloc, "{\"k\":[1]}");
-    assert_text(&rt, answer, "{\"k\":[1]} {\"k\":[1]} true");
+    let answer = form_says::<Object>(alloc, r#"{"k":[1]}"#);
+    assert_text(&rt, answer, r#"{"k":[1]} {"k":[1]} true"#);
     assert_text(&rt, form_says::<Object>(alloc, "[]"), "another form");
     let answer = form_says::<Json>(alloc, "[null,0.5]");
     assert_text(&rt, answer, "[null,0.5] [null,0.5] false");
@@ -452,7 +452,7 @@ fn options_and_lists_have_the_form_of_their_items(rt: HostRuntime) {
     let answer = form_says::<Option<u64>>(alloc, "null");
     assert_text(&rt, answer, "null null true");
     assert_text(&rt, form_says::<Option<u64>>(alloc, "5"), "5 5 true");
-    let answer = form_says::<Option<u64>>(alloc, "\"5\"");
+    let answer = form_says::<Option<u64>>(alloc, r#""5""#);
     assert_text(&rt, answer, "another form");
     let answer = form_says::<List<u64>>(alloc, "[1,2]");
     assert_text(&rt, answer, "[1,2] [1,2] true");
@@ -464,14 +464,14 @@ fn options_and_lists_have_the_form_of_their_items(rt: HostRuntime) {
 #[test]
 fn codecs_and_extensions_have_their_forms(rt: HostRuntime) {
     let alloc = rt.alloc();
-    let answer = form_says::<MetadataV2>(alloc, "{\"id\":\"zlib\",\"level\":1}");
-    let wanted = "{\"id\":\"zlib\",\"level\":1} {\"id\":\"zlib\",\"level\":1} true";
+    let answer = form_says::<MetadataV2>(alloc, r#"{"id":"zlib","level":1}"#);
+    let wanted = r#"{"id":"zlib","level":1} {"id":"zlib","level":1} true"#;
     assert_text(&rt, answer, wanted);
-    let answer = form_says::<MetadataV2>(alloc, "{\"level\":1}");
+    let answer = form_says::<MetadataV2>(alloc, r#"{"level":1}"#);
     assert_text(&rt, answer, "another form");
-    let answer = form_says::<MetadataV3>(alloc, "{\"name\":\"t\"}");
-    assert_text(&rt, answer, "\"t\" \"t\" true");
-    let answer = form_says::<MetadataV3>(alloc, "{\"configuration\":{}}");
+    let answer = form_says::<MetadataV3>(alloc, r#"{"name":"t"}"#);
+    assert_text(&rt, answer, r#""t" "t" true"#);
+    let answer = form_says::<MetadataV3>(alloc, r#"{"configuration":{}}"#);
     assert_text(&rt, answer, "another form");
 }
 
@@ -491,16 +491,16 @@ fn truth_values_and_fill_values_have_their_forms(rt: HostRuntime) {
 #[test]
 fn arrays_of_version_2_have_forms_of_their_own(rt: HostRuntime) {
     let alloc = rt.alloc();
-    let answer = plain_form_says::<ArrayMetadataV2Order>(alloc, "\"F\"");
-    assert_text(&rt, answer, "\"F\" \"F\" true");
-    let answer = plain_form_says::<ArrayMetadataV2Order>(alloc, "\"f\"");
+    let answer = plain_form_says::<ArrayMetadataV2Order>(alloc, r#""F""#);
+    assert_text(&rt, answer, r#""F" "F" true"#);
+    let answer = plain_form_says::<ArrayMetadataV2Order>(alloc, r#""f""#);
     assert_text(&rt, answer, "another form");
     let answer = plain_form_says::<ChunkKeySeparator>(alloc, "null");
-    assert_text(&rt, answer, "\".\" \".\" true");
-    let answer = plain_form_says::<ChunkKeySeparator>(alloc, "\"-\"");
+    assert_text(&rt, answer, r#""." "." true"#);
+    let answer = plain_form_says::<ChunkKeySeparator>(alloc, r#""-""#);
     assert_text(&rt, answer, "another form");
-    let answer = plain_form_says::<DataTypeMetadataV2>(alloc, "\"<f8\"");
-    assert_text(&rt, answer, "\"<f8\" \"<f8\" true");
+    let answer = plain_form_says::<DataTypeMetadataV2>(alloc, r#""<f8""#);
+    assert_text(&rt, answer, r#""<f8" "<f8" true"#);
     let answer = plain_form_says::<DataTypeMetadataV2>(alloc, "{}");
     assert_text(&rt, answer, "another form");
 }

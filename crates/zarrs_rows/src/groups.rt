@@ -1,7 +1,8 @@
 //! Groups that are made, opened, stored and erased. Each helper holds a group and answers a text; the tests are tables of
 //! short texts.
 
-use crate::fixtures::{G2, G3};
+use crate::fixtures;
+use crate::fixtures::{A2, G2, G3};
 use serde_json::{Map, Value};
 use std::alloc::{AllocError, Global};
 use std::test::Fail;
@@ -19,16 +20,28 @@ use zarrs_store::{
     MemoryStore, ReadableStorageTraits, StorageError, StoreKey, StorePrefix, WritableStorageTraits,
 };
 
-const K: &str = "{\"k\":1}";
+const K: &str = r#"{"k":1}"#;
 
-const TWO: &str = "{\n  \"zarr_format\": 2\n}";
+const TWO: &str = r#"{
+  "zarr_format": 2
+}"#;
 
-const THREE: &str = "{\n  \"node_type\": \"group\",\n  \"zarr_format\": 3\n}";
+const THREE: &str = r#"{
+  "node_type": "group",
+  "zarr_format": 3
+}"#;
 
-const K_STORED: &str = "{\n  \"k\": 1\n}";
+const K_STORED: &str = r#"{
+  "k": 1
+}"#;
 
-const THREE_K: &str =
-    "{\n  \"attributes\": {\n    \"k\": 1\n  },\n  \"node_type\": \"group\",\n  \"zarr_format\": 3\n}";
+const THREE_K: &str = r#"{
+  "attributes": {
+    "k": 1
+  },
+  "node_type": "group",
+  "zarr_format": 3
+}"#;
 
 // The name of a stored document, or the text as it is.
 fn name_of(text: &str) -> &str {
@@ -53,14 +66,27 @@ fn is_same(found: &str, wanted: &str) -> Result<(), Fail> {
     }
 }
 
-// What a text says beyond its first words.
-fn told(text: &str) -> &str {
-    for words in ["error parsing metadata for ", "group at /g with metadata "] {
-        if let Some(rest) = text.strip_prefix(words) {
-            return rest;
-        }
+// What a call says, without the words that each such text begins with.
+#[derive(Clone, Copy, Drop)]
+enum Says<'a> {
+    // The group at `/g` with this document.
+    Group(&'a str),
+    // This fault of a document.
+    Fault(&'a str),
+    // This text.
+    Text(&'a str),
+}
+
+fn is_said(found: &str, wanted: Says) -> Result<(), Fail> {
+    let (words, wanted) = match wanted {
+        Says::Group(document) => ("group at /g with metadata ", document),
+        Says::Fault(fault) => ("error parsing metadata for ", fault),
+        Says::Text(text) => ("", text),
+    };
+    match found.strip_prefix(words) {
+        Some(rest) => is_same(rest, wanted),
+        None => Err(Fail::new(format_args!("found {found} in place of {words}{wanted}"))),
     }
-    text
 }
 
 // ---- stores
@@ -208,27 +234,28 @@ fn opened_as(
 fn a_path_is_opened_by_its_first_document(rt: HostRuntime) -> Result<(), Fail> {
     let alloc = rt.alloc();
     for (texts, wanted) in [
-        ([G3, "[]", "[]", ""], G3),
-        (["", G2, "", "{}"], G2),
+        ([G3, "[]", "[]", ""], Says::Group(G3)),
+        (["", G2, "", "{}"], Says::Group(G2)),
         (
             ["", G2, K, ""],
-            "{\"attributes\":{\"k\":1},\"zarr_format\":2}",
+            Says::Group(r#"{"attributes":{"k":1},"zarr_format":2}"#),
         ),
-        (["", "", K, "{}"], "group metadata is missing"),
-        (["", "[]", "", "{}"], "g/.zgroup: not an object"),
-        (["", G2, "[]", ""], "g/.zattrs: not an object"),
+        (["", "", K, "{}"], Says::Text("group metadata is missing")),
+        (
+            ["", "[]", "", "{}"],
+            Says::Fault("g/.zgroup: not an object"),
+        ),
+        (["", G2, "[]", ""], Says::Fault("g/.zattrs: not an object")),
     ] {
         let store = store_of(alloc, texts)?;
-        is_same(told(opened(alloc, &store)?.as_str()), wanted)?;
+        is_said(opened(alloc, &store)?.as_str(), wanted)?;
     }
     Ok(())
 }
 
 // What opening a path says over a store with this document at the root.
 fn opened_at(alloc: Global, path: &str, document: &str) -> Result<String, Fail> {
-    let key = StoreKey::new(alloc, "zarr.json")?;
-    let mut store = MemoryStore::new(alloc);
-    store.set(&key, document.as_bytes())?;
+    let store = fixtures::store_of(alloc, &[("zarr.json", document)])?;
     said(alloc, Group::open(alloc, &store, path, &Config::new()))
 }
 
@@ -236,23 +263,45 @@ fn opened_at(alloc: Global, path: &str, document: &str) -> Result<String, Fail> 
 fn the_root_is_opened(rt: HostRuntime) -> Result<(), Fail> {
     let alloc = rt.alloc();
     for (path, document, wanted) in [
-        ("/", "\0", "zarr.json: not JSON"),
-        ("/", G2, "zarr.json: wrong zarr_format"),
+        ("/", "\0", Says::Fault("zarr.json: not JSON")),
+        ("/", G2, Says::Fault("zarr.json: wrong zarr_format")),
         (
             "/",
-            "{\"node_type\":\"array\",\"zarr_format\":3}",
-            "zarr.json: wrong node_type",
+            r#"{"node_type":"array","zarr_format":3}"#,
+            Says::Fault("zarr.json: wrong node_type"),
         ),
-        ("abc", G3, "invalid node path abc"),
-        ("/group", G3, "group metadata is missing"),
+        ("abc", G3, Says::Text("invalid node path abc")),
+        ("/group", G3, Says::Text("group metadata is missing")),
         (
             "/",
             G3,
-            "group at / with metadata {\"node_type\":\"group\",\"zarr_format\":3}",
+            Says::Text(r#"group at / with metadata {"node_type":"group","zarr_format":3}"#),
         ),
     ] {
         let found = opened_at(alloc, path, document)?;
-        is_same(told(found.as_str()), wanted)?;
+        is_said(found.as_str(), wanted)?;
+    }
+    Ok(())
+}
+
+// What opening `/p` says over a store with an array and this document of a group.
+fn opened_beside_an_array(alloc: Global, document: &str) -> Result<String, Fail> {
+    let store = fixtures::store_of(alloc, &[("p/.zarray", A2), ("p/.zgroup", document)])?;
+    said(alloc, Group::open(alloc, &store, "/p", &Config::new()))
+}
+
+#[test]
+fn an_array_beside_a_group_is_not_looked_at(rt: HostRuntime) -> Result<(), Fail> {
+    let alloc = rt.alloc();
+    for (document, wanted) in [
+        ("[]", Says::Fault("p/.zgroup: not an object")),
+        (
+            G2,
+            Says::Text(r#"group at /p with metadata {"zarr_format":2}"#),
+        ),
+    ] {
+        let found = opened_beside_an_array(alloc, document)?;
+        is_said(found.as_str(), wanted)?;
     }
     Ok(())
 }
@@ -261,25 +310,37 @@ fn the_root_is_opened(rt: HostRuntime) -> Result<(), Fail> {
 fn the_version_limits_what_is_looked_at(rt: HostRuntime) -> Result<(), Fail> {
     let alloc = rt.alloc();
     for (texts, version, wanted) in [
-        ([G3, G2, "", ""], MetadataRetrieveVersion::Default, G3),
-        ([G3, G2, "", ""], MetadataRetrieveVersion::V3, G3),
-        ([G3, G2, "", ""], MetadataRetrieveVersion::V2, G2),
+        (
+            [G3, G2, "", ""],
+            MetadataRetrieveVersion::Default,
+            Says::Group(G3),
+        ),
+        (
+            [G3, G2, "", ""],
+            MetadataRetrieveVersion::V3,
+            Says::Group(G3),
+        ),
+        (
+            [G3, G2, "", ""],
+            MetadataRetrieveVersion::V2,
+            Says::Group(G2),
+        ),
         (
             ["", G2, "", ""],
             MetadataRetrieveVersion::V3,
-            "group metadata is missing",
+            Says::Text("group metadata is missing"),
         ),
     ] {
         let store = store_of(alloc, texts)?;
         let found = opened_as(alloc, &store, version)?;
-        is_same(told(found.as_str()), wanted)?;
+        is_said(found.as_str(), wanted)?;
     }
     Ok(())
 }
 
 // The version 3 document with these members first.
 fn document(alloc: Global, members: &str) -> Result<String, Fail> {
-    Ok(format!(in alloc; "{{{members},\"node_type\":\"group\",\"zarr_format\":3}}")?)
+    Ok(format!(in alloc; r#"{{{members},"node_type":"group","zarr_format":3}}"#)?)
 }
 
 fn store_with(alloc: Global, members: &str) -> Result<MemoryStore, Fail> {
@@ -296,29 +357,30 @@ fn opened_with(alloc: Global, members: &str) -> Result<String, Fail> {
 fn fields_and_attributes_are_opened(rt: HostRuntime) -> Result<(), Fail> {
     let alloc = rt.alloc();
     for members in [
-        "\"attributes\":{\"eggs\":42,\"spam\":\"ham\"}",
-        "\"a\":{\"must_understand\":false}",
+        r#""attributes":{"eggs":42,"spam":"ham"}"#,
+        r#""a":{"must_understand":false}"#,
     ] {
         let found = opened_with(alloc, members)?;
-        is_same(told(found.as_str()), document(alloc, members)?.as_str())?;
+        let wanted = document(alloc, members)?;
+        is_said(found.as_str(), Says::Group(wanted.as_str()))?;
     }
     for (members, wanted) in [
         (
-            "\"attributes\":{\"n\":1.5}",
-            "g/zarr.json: unsupported number",
+            r#""attributes":{"n":1.5}"#,
+            Says::Fault("g/zarr.json: unsupported number"),
         ),
-        ("\"consolidated_metadata\":null", G3),
+        (r#""consolidated_metadata":null"#, Says::Group(G3)),
         (
-            "\"consolidated_metadata\":{\"kind\":\"inline\",\"metadata\":{}}",
-            "unsupported additional field consolidated_metadata",
+            r#""consolidated_metadata":{"kind":"inline","metadata":{}}"#,
+            Says::Text("unsupported additional field consolidated_metadata"),
         ),
         (
-            "\"unknown\":\"unsupported\"",
-            "unsupported additional field unknown",
+            r#""unknown":"unsupported""#,
+            Says::Text("unsupported additional field unknown"),
         ),
     ] {
         let found = opened_with(alloc, members)?;
-        is_same(told(found.as_str()), wanted)?;
+        is_said(found.as_str(), wanted)?;
     }
     Ok(())
 }
@@ -347,9 +409,9 @@ fn field_with(alloc: Global, members: &str) -> Result<String, Fail> {
 fn the_least_field_that_must_be_understood_is_named(rt: HostRuntime) -> Result<(), Fail> {
     let alloc = rt.alloc();
     for (members, wanted) in [
-        ("\"b\":1,\"a\":1", "a 1"),
-        ("\"b\":[2],\"a\":{\"must_understand\":false}", "b [2]"),
-        ("\"a\":{\"must_understand\":false}", "none"),
+        (r#""b":1,"a":1"#, "a 1"),
+        (r#""b":[2],"a":{"must_understand":false}"#, "b [2]"),
+        (r#""a":{"must_understand":false}"#, "none"),
     ] {
         is_same(field_with(alloc, members)?.as_str(), wanted)?;
     }
@@ -499,28 +561,28 @@ fn what_is_not_plain_is_refused_before_any_write(rt: HostRuntime) -> Result<(), 
     let mut store = store_of(alloc, ["j", "g", "a", ""])?;
     for (given, wanted) in [
         (
-            (3, "{}", "{\"node_type\":1,\"attributes\":1}"),
+            (3, "{}", r#"{"node_type":1,"attributes":1}"#),
             "g/zarr.json: bad member attributes, j.g.a.-.",
         ),
         (
-            (3, "{}", "{\"node_type\":1,\"consolidated_metadata\":null}"),
+            (3, "{}", r#"{"node_type":1,"consolidated_metadata":null}"#),
             "g/zarr.json: bad member consolidated_metadata, j.g.a.-.",
         ),
         (
-            (3, "{\"n\":1.5}", "{\"attributes\":1}"),
+            (3, r#"{"n":1.5}"#, r#"{"attributes":1}"#),
             "g/zarr.json: unsupported number, j.g.a.-.",
         ),
         (
-            (2, "{}", "{\"shape\":[1]}"),
+            (2, "{}", r#"{"shape":[1]}"#),
             "g/.zgroup: bad member shape, j.g.a.-.",
         ),
         (
-            (2, "{}", "{\"shape\":[1.5]}"),
+            (2, "{}", r#"{"shape":[1.5]}"#),
             "g/.zgroup: unsupported number, j.g.a.-.",
         ),
     ] {
         let found = after(alloc, &mut store, &Config::new(), given, Step::Store)?;
-        is_same(told(found.as_str()), wanted)?;
+        is_said(found.as_str(), Says::Fault(wanted))?;
     }
     Ok(())
 }
@@ -544,26 +606,30 @@ fn a_stored_group_is_opened_again(rt: HostRuntime) -> Result<(), Fail> {
     let alloc = rt.alloc();
     let as_held = MetadataConvertVersion::Default;
     for (given, version, wanted) in [
-        ((3, "{}", "{}"), as_held, G3),
-        ((2, "{}", "{\"shape\":[1]}"), MetadataConvertVersion::V3, G3),
+        ((3, "{}", "{}"), as_held, Says::Group(G3)),
         (
-            (3, "{}", "{\"unknown\":\"unsupported\"}"),
-            as_held,
-            "unsupported additional field unknown",
+            (2, "{}", r#"{"shape":[1]}"#),
+            MetadataConvertVersion::V3,
+            Says::Group(G3),
         ),
         (
-            (2, "{}", "{\"f\":2}"),
+            (3, "{}", r#"{"unknown":"unsupported"}"#),
             as_held,
-            "{\"f\":2,\"zarr_format\":2}",
+            Says::Text("unsupported additional field unknown"),
+        ),
+        (
+            (2, "{}", r#"{"f":2}"#),
+            as_held,
+            Says::Group(r#"{"f":2,"zarr_format":2}"#),
         ),
         (
             (2, K, "{}"),
             as_held,
-            "{\"attributes\":{\"k\":1},\"zarr_format\":2}",
+            Says::Group(r#"{"attributes":{"k":1},"zarr_format":2}"#),
         ),
     ] {
         let found = again(alloc, given, version)?;
-        is_same(told(found.as_str()), wanted)?;
+        is_said(found.as_str(), wanted)?;
     }
     Ok(())
 }
@@ -598,17 +664,17 @@ fn built_of_nothing(alloc: Global, path: &str) -> Result<String, Fail> {
 fn a_group_is_made_at_a_path(rt: HostRuntime) -> Result<(), Fail> {
     let alloc = rt.alloc();
     let bad = "invalid node path abc";
-    let empty = "group at /group with metadata {\"node_type\":\"group\",\"zarr_format\":3}";
+    let empty = r#"group at /group with metadata {"node_type":"group","zarr_format":3}"#;
     for (path, wanted) in [("/group", empty), ("abc", bad)] {
         let found = built_of_nothing(alloc, path)?;
         is_same(found.as_str(), wanted)?;
     }
-    let full = "{\"attributes\":{\"k\":1},\"key\":{},\"node_type\":\"group\",\"zarr_format\":3}";
-    for (path, wanted) in [("/g", full), ("abc", bad)] {
-        let found = built(alloc, path, K, "{\"key\":{}}")?;
-        is_same(told(found.as_str()), wanted)?;
-        let found = made_at(alloc, path, (3, K, "{\"key\":{}}"))?;
-        is_same(told(found.as_str()), wanted)?;
+    let full = r#"{"attributes":{"k":1},"key":{},"node_type":"group","zarr_format":3}"#;
+    for (path, wanted) in [("/g", Says::Group(full)), ("abc", Says::Text(bad))] {
+        let found = built(alloc, path, K, r#"{"key":{}}"#)?;
+        is_said(found.as_str(), wanted)?;
+        let found = made_at(alloc, path, (3, K, r#"{"key":{}}"#))?;
+        is_said(found.as_str(), wanted)?;
     }
     Ok(())
 }
@@ -633,7 +699,7 @@ fn shown(alloc: Global, given: Given) -> Result<String, Fail> {
 
 // The group after its attributes were written.
 fn written(alloc: Global, given: Given) -> Result<String, Fail> {
-    let attributes = Object::new(members(alloc, "{\"n\":1}")?);
+    let attributes = Object::new(members(alloc, r#"{"n":1}"#)?);
     let mut group = group_of(alloc, given, &Config::new())?;
     *group.attributes_mut() = attributes;
     group_text(alloc, &group)
@@ -699,25 +765,31 @@ fn looked(alloc: Global, look: Look, given: Given) -> Result<String, Fail> {
 #[test]
 fn a_group_shows_and_keeps_its_parts(rt: HostRuntime) -> Result<(), Fail> {
     let alloc = rt.alloc();
-    let old = "{\"attributes\":{\"k\":1},\"f\":2,\"zarr_format\":2}";
-    let new = "{\"attributes\":{\"k\":1},\"node_type\":\"group\",\"zarr_format\":3}";
+    let old = r#"{"attributes":{"k":1},"f":2,"zarr_format":2}"#;
+    let new = r#"{"attributes":{"k":1},"node_type":"group","zarr_format":3}"#;
     for (look, wanted) in [
-        (Look::Shown, "/g 1 2"),
+        (Look::Shown, Says::Text("/g 1 2")),
         (
             Look::Written,
-            "{\"attributes\":{\"n\":1},\"f\":2,\"zarr_format\":2}",
+            Says::Group(r#"{"attributes":{"n":1},"f":2,"zarr_format":2}"#),
         ),
-        (Look::Copied, old),
-        (Look::AsVersion3, new),
-        (Look::Under(MetadataConvertVersion::Default), old),
-        (Look::Under(MetadataConvertVersion::V3), new),
+        (Look::Copied, Says::Group(old)),
+        (Look::AsVersion3, Says::Group(new)),
+        (
+            Look::Under(MetadataConvertVersion::Default),
+            Says::Group(old),
+        ),
+        (Look::Under(MetadataConvertVersion::V3), Says::Group(new)),
     ] {
-        let found = looked(alloc, look, (2, K, "{\"f\":2}"))?;
-        is_same(told(found.as_str()), wanted)?;
+        let found = looked(alloc, look, (2, K, r#"{"f":2}"#))?;
+        is_said(found.as_str(), wanted)?;
     }
-    for (look, wanted) in [(Look::Shown, "/g 1 3"), (Look::AsVersion3, new)] {
+    for (look, wanted) in [
+        (Look::Shown, Says::Text("/g 1 3")),
+        (Look::AsVersion3, Says::Group(new)),
+    ] {
         let found = looked(alloc, look, (3, K, "{}"))?;
-        is_same(told(found.as_str()), wanted)?;
+        is_said(found.as_str(), wanted)?;
     }
     Ok(())
 }
@@ -839,7 +911,7 @@ fn the_laws_are_called(rt: HostRuntime) -> Result<(), Fail> {
 // ---- want of memory
 
 fn old_group(alloc: Global) -> Option<Group> {
-    let document = "{\"attributes\":{\"k\":1},\"zarr_format\":2}";
+    let document = r#"{"attributes":{"k":1},"zarr_format":2}"#;
     let metadata = GroupMetadataV2::from_bytes(alloc, document.as_bytes()).ok()?;
     Group::new_with_metadata(alloc, "/g", GroupMetadata::V2(metadata), &Config::new()).ok()
 }

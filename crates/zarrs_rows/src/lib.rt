@@ -3,7 +3,13 @@
 #![tactic(auto)]
 
 #[cfg(test)]
+mod consolidation;
+#[cfg(test)]
 mod conversion;
+#[cfg(test)]
+mod conversion_errors;
+#[cfg(test)]
+mod conversion_tables;
 #[cfg(test)]
 mod documents;
 #[cfg(test)]
@@ -11,13 +17,19 @@ mod fixtures;
 #[cfg(test)]
 mod forms;
 #[cfg(test)]
+mod group_children;
+#[cfg(test)]
 mod groups;
+#[cfg(test)]
+mod hierarchies;
 #[cfg(test)]
 mod listing;
 #[cfg(test)]
 mod metadata;
 #[cfg(test)]
 mod nodes;
+#[cfg(test)]
+mod opening;
 #[cfg(test)]
 mod parts;
 #[cfg(test)]

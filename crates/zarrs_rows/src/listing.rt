@@ -137,14 +137,24 @@ fn assert_listed_by<R: Abort>(
 
 #[test]
 fn both_versions_and_both_kinds_are_listed(rt: HostRuntime) {
-    let wanted =
-        "/array [10, 10] float32\n/group\n  array [10, 10] float32\n  subgroup\n    mysubarray [10, 10] float32\n/groupv2\n  arrayv2 [1] Simple(\"<f8\")\n";
+    let wanted = r#"/array [10, 10] float32
+/group
+  array [10, 10] float32
+  subgroup
+    mysubarray [10, 10] float32
+/groupv2
+  arrayv2 [1] Simple("<f8")
+"#;
     assert_listed_by(&rt, rt.alloc(), ANY, wanted);
 }
 
 #[test]
 fn a_version_limits_what_is_listed(rt: HostRuntime) {
-    let wanted = "/groupv2\n  arrayv2 [1] Simple(\"<f8\")\nignored /array\nignored /group\n";
+    let wanted = r#"/groupv2
+  arrayv2 [1] Simple("<f8")
+ignored /array
+ignored /group
+"#;
     assert_listed_by(&rt, rt.alloc(), MetadataRetrieveVersion::V2, wanted);
     let wanted =
         "/array [10, 10] float32\n/group\n  array [10, 10] float32\n  subgroup\n    mysubarray [10, 10] float32\nignored /groupv2\n";

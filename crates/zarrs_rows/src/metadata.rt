@@ -52,7 +52,7 @@ fn an_array_stands_before_a_group_of_version_2(rt: HostRuntime) {
 #[test]
 fn a_stored_array_is_read(rt: HostRuntime) {
     let array =
-        "{\"chunk_grid\":{\"configuration\":{\"chunk_shape\":[1,1,1]},\"name\":\"regular\"},\"chunk_key_encoding\":{\"configuration\":{\"separator\":\"/\"},\"name\":\"default\"},\"codecs\":[{\"configuration\":{\"endian\":\"little\"},\"name\":\"bytes\"}],\"data_type\":\"float32\",\"fill_value\":0,\"node_type\":\"array\",\"shape\":[1,2,3],\"zarr_format\":3}";
+        r#"{"chunk_grid":{"configuration":{"chunk_shape":[1,1,1]},"name":"regular"},"chunk_key_encoding":{"configuration":{"separator":"/"},"name":"default"},"codecs":[{"configuration":{"endian":"little"},"name":"bytes"}],"data_type":"float32","fill_value":0,"node_type":"array","shape":[1,2,3],"zarr_format":3}"#;
     let documents = [("node/zarr.json", array)];
     assert_means(&rt, rt.alloc(), &documents, "/node", ANY, array);
 }
@@ -108,13 +108,10 @@ fn a_version_limits_which_keys_are_read(rt: HostRuntime) {
 #[test]
 fn attributes_beside_a_document_replace_its_own(rt: HostRuntime) {
     let documents = [
-        (
-            "g/.zgroup",
-            "{\"attributes\":{\"own\":1},\"zarr_format\":2}",
-        ),
-        ("g/.zattrs", "{\"k\":1}"),
+        ("g/.zgroup", r#"{"attributes":{"own":1},"zarr_format":2}"#),
+        ("g/.zattrs", r#"{"k":1}"#),
     ];
-    let wanted = "{\"attributes\":{\"k\":1},\"zarr_format\":2}";
+    let wanted = r#"{"attributes":{"k":1},"zarr_format":2}"#;
     assert_means(&rt, rt.alloc(), &documents, "/g", ANY, wanted);
 }
 

@@ -45,6 +45,29 @@ fn what_is_passed_over_is_warned_of(rt: HostRuntime) {
     assert_says(&rt, rt.alloc(), "warning", found, printed, wanted);
 }
 
+// All pairs below a path of the store with these documents, and what is warned of.
+fn pairs_and_warnings(
+    alloc: Global,
+    documents: &[(&str, &str)],
+    base: &str,
+) -> Result<String, NodeCreateError> {
+    let base = NodePath::new(alloc, base)?;
+    let store = store_of(alloc, documents)?;
+    let sink = Writer::new(Vec::new(alloc));
+    let pairs = get_all_nodes_of(&sink, alloc, &store, &base, &ANY);
+    let text = said(alloc, pairs, pairs_text)?;
+    Ok(with_lines(alloc, text.as_str(), &sink.into_inner())?)
+}
+
+#[test]
+fn all_nodes_are_listed_with_warnings(rt: HostRuntime) {
+    let documents = [("g/zarr.json", G3), ("g/x/content", "\0"), ("y/c", "\0")];
+    let wanted =
+        "/g group\nwarned: [WARN  zarrs_node::children] Object at /g/x is not recognized as a component of a Zarr hierarchy. Ignoring.\n[WARN  zarrs_node::children] Object at /y is not recognized as a component of a Zarr hierarchy. Ignoring.\n";
+    let found = pairs_and_warnings(rt.alloc(), &documents, "/");
+    assert_says(&rt, rt.alloc(), "warnings", found, printed, wanted);
+}
+
 // The children of the root of the store with these documents.
 fn children_of_root(
     alloc: Global,
@@ -255,4 +278,6 @@ fn the_laws_of_forests_are_called() {
     laws::preorder_is_lines();
     laws::listing_is_lines();
     laws::one_text();
+    laws::closed_pairs();
+    laws::closed_nodes();
 }

@@ -74,7 +74,7 @@ fn object_copy_of(object: &Object, alloc: Global) -> Result<String, AllocError> 
 #[test]
 fn objects_go_in_and_out(rt: HostRuntime) {
     let alloc = rt.alloc();
-    let object = Object::new(object_of(alloc, "{\"k\":1}").into_map());
+    let object = Object::new(object_of(alloc, r#"{"k":1}"#).into_map());
     assert_says(&rt, alloc, "copy", made(object), object_copy, "1 false");
     let object = object_of(alloc, "{}");
     assert_says(
@@ -147,10 +147,10 @@ fn assert_field<R: Abort>(rt: &R, alloc: Global, given: &str, understood: bool, 
 #[test]
 fn fields_say_whether_they_must_be_understood(rt: HostRuntime) {
     let alloc = rt.alloc();
-    let given = "{\"a\":1,\"must_understand\":false}";
-    assert_field(&rt, alloc, given, true, "{\"a\":1} true");
-    let wanted = "{\"a\":1,\"must_understand\":false} false";
-    assert_field(&rt, alloc, "{\"a\":1}", false, wanted);
+    let given = r#"{"a":1,"must_understand":false}"#;
+    assert_field(&rt, alloc, given, true, r#"{"a":1} true"#);
+    let wanted = r#"{"a":1,"must_understand":false} false"#;
+    assert_field(&rt, alloc, r#"{"a":1}"#, false, wanted);
     assert_field(&rt, alloc, "5", false, "5 true");
     assert_field(&rt, alloc, "5", true, "5 true");
 }
@@ -171,9 +171,14 @@ fn one_member<T: Drop>(alloc: Global, name: &str, value: T) -> Result<Map<String
     Ok(members)
 }
 
-// How many fields there are, and whether there is one of the name x.
+// How many fields there are, whether there is one of the name x, and whether there is none.
 fn fields_text(fields: &AdditionalFieldsV3, alloc: Global) -> Result<String, AllocError> {
-    format!(in alloc; "{} {}", fields.as_map().len(), fields.get("x").is_some())
+    format!(in alloc;
+        "{} {} {}",
+        fields.as_map().len(),
+        fields.get("x").is_some(),
+        fields.is_empty()
+    )
 }
 
 fn fields_copy(fields: &AdditionalFieldsV3, alloc: Global) -> Result<String, AllocError> {
@@ -184,10 +189,18 @@ fn fields_copy(fields: &AdditionalFieldsV3, alloc: Global) -> Result<String, All
 fn fields_go_in_and_out(rt: HostRuntime) {
     let alloc = rt.alloc();
     let fields = fields_of(alloc, "x", Value::Null);
-    assert_says(&rt, alloc, "copy", fields, fields_copy, "1 true");
+    assert_says(&rt, alloc, "copy", fields, fields_copy, "1 true false");
     let fields = fields_of(alloc, "y", Value::Null);
-    assert_says(&rt, alloc, "another copy", fields, fields_copy, "1 false");
+    assert_says(
+        &rt,
+        alloc,
+        "another copy",
+        fields,
+        fields_copy,
+        "1 false false",
+    );
     let empty = AdditionalFieldsV3::new(Map::new(alloc));
+    assert!(rt; empty.is_empty());
     assert_eq!(rt; empty.into_map().len(), 0);
 }
 
@@ -209,8 +222,8 @@ fn some_groups_of_version_2_are_not_plain(rt: HostRuntime) {
     let alloc = rt.alloc();
     for (attributes, fields, wanted) in [
         ("{}", "{}", "true"),
-        ("{\"n\":0.5}", "{}", "false"),
-        ("{}", "{\"shape\":1}", "false"),
+        (r#"{"n":0.5}"#, "{}", "false"),
+        ("{}", r#"{"shape":1}"#, "false"),
     ] {
         let group = made(group_v2_of(alloc, attributes, fields));
         assert_says(&rt, alloc, fields, group, group_v2_plain, wanted);
@@ -321,7 +334,7 @@ fn data_type_v2_copy(array: &ArrayMetadataV2, alloc: Global) -> Result<String, A
 fn an_array_of_version_2_has_its_fields(rt: HostRuntime) {
     let alloc = rt.alloc();
     let text =
-        "{\"chunks\":[1000,1000],\"compressor\":{\"id\":\"blosc\",\"cname\":\"lz4\",\"clevel\":5,\"shuffle\":1},\"dtype\":\"<f8\",\"fill_value\":\"NaN\",\"filters\":null,\"order\":\"F\",\"shape\":[10000,10000],\"zarr_format\":2}";
+        r#"{"chunks":[1000,1000],"compressor":{"id":"blosc","cname":"lz4","clevel":5,"shuffle":1},"dtype":"<f8","fill_value":"NaN","filters":null,"order":"F","shape":[10000,10000],"zarr_format":2}"#;
     let array = ArrayMetadataV2::from_bytes(alloc, text.as_bytes());
     let wanted = "[10000, 10000] [1000, 1000] Dot F";
     assert_says(&rt, alloc, "fields", array, array_v2_fields, wanted);
@@ -342,7 +355,7 @@ fn an_array_of_version_2_has_its_fields(rt: HostRuntime) {
 fn a_structured_data_type_is_kept(rt: HostRuntime) {
     let alloc = rt.alloc();
     let text =
-        "{\"chunks\":[1],\"compressor\":null,\"dtype\":[[\"r\",\"|u1\"],[\"g\",\"|u1\"]],\"fill_value\":null,\"filters\":null,\"order\":\"C\",\"shape\":[1],\"zarr_format\":2}";
+        r#"{"chunks":[1],"compressor":null,"dtype":[["r","|u1"],["g","|u1"]],"fill_value":null,"filters":null,"order":"C","shape":[1],"zarr_format":2}"#;
     let array = ArrayMetadataV2::from_bytes(alloc, text.as_bytes());
     assert_says(
         &rt,

@@ -71,11 +71,11 @@ fn a_configuration_is_printed_as_two_periods(rt: HostRuntime) {
     let documents = [
         (
             "z/zarr.json",
-            "{\"chunk_grid\":\"regular\",\"chunk_key_encoding\":\"default\",\"codecs\":[],\"data_type\":{\"configuration\":{\"n\":1},\"name\":\"t\"},\"fill_value\":0,\"node_type\":\"array\",\"shape\":[],\"zarr_format\":3}",
+            r#"{"chunk_grid":"regular","chunk_key_encoding":"default","codecs":[],"data_type":{"configuration":{"n":1},"name":"t"},"fill_value":0,"node_type":"array","shape":[],"zarr_format":3}"#,
         ),
         (
             "w/.zarray",
-            "{\"chunks\":[],\"compressor\":null,\"dtype\":[[\"f\",\"<f8\"]],\"fill_value\":0,\"filters\":null,\"order\":\"C\",\"shape\":[],\"zarr_format\":2}",
+            r#"{"chunks":[],"compressor":null,"dtype":[["f","<f8"]],"fill_value":0,"filters":null,"order":"C","shape":[],"zarr_format":2}"#,
         ),
     ];
     let wanted = "/\n  w [] Structured(..)\n  z [] t(..)\n";
