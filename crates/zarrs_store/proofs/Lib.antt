@@ -10,3 +10,4 @@ pub mod Below
 pub mod Ranges
 pub mod Digits
 pub mod PlaceLemmas
+pub mod SameLemmas

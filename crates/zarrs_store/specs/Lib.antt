@@ -5,3 +5,4 @@ pub mod Children
 pub mod Entries
 pub mod Depth
 pub mod Places
+pub mod Failing

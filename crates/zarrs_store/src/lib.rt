@@ -1,4 +1,5 @@
-//! Stores of keys and bytes: keys and prefixes, the traits that a store has, a store in memory, and the faults of stores and documents.
+//! Stores of keys and bytes: keys and prefixes, the traits that a store has, a store in memory, one that fails at a place, and the
+//! faults of stores and documents.
 //!
 //! Contracts see a store as a finite map from keys to bytes, a key as its list of segments. Each call is a look-up, the keys or
 //! next segments behind a prefix, or one change.
@@ -6,6 +7,7 @@
 
 mod children;
 mod fault;
+mod fault_store;
 mod key;
 mod memory_store;
 mod places;
@@ -15,6 +17,7 @@ mod store;
 
 pub use children::discover_children;
 pub use fault::{MemberName, MetadataFault};
+pub use fault_store::{FaultAt, FaultStore};
 pub use key::{StoreKey, StoreKeyError};
 pub use memory_store::MemoryStore;
 pub use prefix::{StorePrefix, StorePrefixError};

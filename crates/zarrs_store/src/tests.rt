@@ -1,5 +1,6 @@
 use crate::children::discover_children;
 use crate::fault::{MemberName, MetadataFault};
+use crate::fault_store::{FaultAt, FaultStore};
 use crate::key::{StoreKey, StoreKeyError};
 use crate::memory_store::MemoryStore;
 use crate::prefix::{StorePrefix, StorePrefixError};
@@ -360,5 +361,121 @@ fn keys_ascend_in_whatever_order_they_are_set(rt: HostRuntime) -> Result<(), Fai
         texts_of_keys(alloc, store.list(alloc)?.as_slice())?.as_str(),
         "b c e "
     );
+    Ok(())
+}
+
+// The store with these keys that fails at a place.
+fn failing(alloc: Global, keys: &[&str], place: FaultAt) -> Result<FaultStore, Fail> {
+    Ok(FaultStore::new(store_of(alloc, keys)?, place))
+}
+
+// Whether the answer is a fault of the store.
+fn is_fault<T: Drop>(answer: Result<T, StorageError>) -> bool {
+    matches!(answer, Err(StorageError::Fault))
+}
+
+// The bytes at a key, as a text; `nothing` where the store does not have it.
+fn bytes_at<S: ReadableStorageTraits>(alloc: Global, store: &S, at: &str) -> Result<String, Fail> {
+    let found = store.get(alloc, &key(alloc, at)?)?;
+    let text = match &found {
+        Some(bytes) => String::from_utf8_lossy(alloc, bytes.as_slice())?,
+        None => String::from_str(alloc, "nothing")?,
+    };
+    Ok(text)
+}
+
+#[test]
+fn a_store_fails_as_often_as_its_key_is_read(rt: HostRuntime) -> Result<(), Fail> {
+    let alloc = rt.alloc();
+    let store = failing(alloc, &["a", "a/b"], FaultAt::OnGet(key(alloc, "a")?))?;
+    assert!(rt; is_fault(store.get(alloc, &key(alloc, "a")?)));
+    assert!(rt; is_fault(store.get(alloc, &key(alloc, "a")?)));
+    assert_eq!(rt; bytes_at(alloc, &store, "a/b")?.as_str(), "x");
+    assert_eq!(rt; bytes_at(alloc, &store, "b")?.as_str(), "nothing");
+    assert_eq!(rt; bytes_at(alloc, store.inner(), "a")?.as_str(), "x");
+    assert_eq!(rt; store.list(alloc)?.len(), 2);
+    Ok(())
+}
+
+#[test]
+fn a_store_fails_where_its_prefix_is_listed(rt: HostRuntime) -> Result<(), Fail> {
+    let alloc = rt.alloc();
+    let keys = ["a", "a/b/c", "a/d"];
+    for (place, all, root, below) in [
+        ("", true, true, false),
+        ("a/", false, false, true),
+        ("a/b/", false, false, false),
+    ] {
+        let store = failing(alloc, &keys, FaultAt::OnList(prefix(alloc, place)?))?;
+        assert_eq!(rt; is_fault(store.list(alloc)), all, "{place}");
+        let asked = prefix(alloc, "")?;
+        assert_eq!(rt; is_fault(store.list_prefix(alloc, &asked)), root, "{place}");
+        assert_eq!(rt; is_fault(store.list_dir(alloc, &asked)), root, "{place}");
+        let asked = prefix(alloc, "a/")?;
+        assert_eq!(rt;
+            is_fault(store.list_prefix(alloc, &asked)),
+            below,
+            "{place}"
+        );
+        assert_eq!(rt; is_fault(store.list_dir(alloc, &asked)), below, "{place}");
+    }
+    Ok(())
+}
+
+#[test]
+fn a_failing_store_lists_what_the_inner_store_lists(rt: HostRuntime) -> Result<(), Fail> {
+    let alloc = rt.alloc();
+    let place = FaultAt::OnList(prefix(alloc, "a/b/")?);
+    let store = failing(alloc, &["a", "a/b/c", "a/d"], place)?;
+    let all = store.list(alloc)?;
+    assert_eq!(rt;
+        texts_of_keys(alloc, all.as_slice())?.as_str(),
+        "a a/b/c a/d "
+    );
+    let below = store.list_prefix(alloc, &prefix(alloc, "a/")?)?;
+    assert_eq!(rt;
+        texts_of_keys(alloc, below.as_slice())?.as_str(),
+        "a/b/c a/d "
+    );
+    let dir = store.list_dir(alloc, &prefix(alloc, "a/")?)?;
+    assert_eq!(rt; texts_of_keys(alloc, dir.keys.as_slice())?.as_str(), "a/d ");
+    assert_eq!(rt;
+        texts_of_prefixes(alloc, dir.prefixes.as_slice())?.as_str(),
+        "a/b/ "
+    );
+    Ok(())
+}
+
+#[test]
+fn a_failing_set_leaves_the_first_half_of_the_bytes(rt: HostRuntime) -> Result<(), Fail> {
+    let alloc = rt.alloc();
+    let mut store = failing(alloc, &["a", "b"], FaultAt::OnSet(key(alloc, "a")?))?;
+    for (bytes, half) in [
+        (b"12345".as_slice(), "12"),
+        (b"1234".as_slice(), "12"),
+        (b"1".as_slice(), ""),
+        (b"".as_slice(), ""),
+    ] {
+        assert!(rt; is_fault(store.set(&key(alloc, "a")?, bytes)));
+        assert_eq!(rt; bytes_at(alloc, &store, "a")?.as_str(), half);
+    }
+    store.set(&key(alloc, "b")?, b"12345")?;
+    assert_eq!(rt; bytes_at(alloc, store.inner(), "b")?.as_str(), "12345");
+    store.erase(&key(alloc, "a")?)?;
+    assert!(rt; is_fault(store.set(&key(alloc, "a")?, b"12345")));
+    assert_eq!(rt; bytes_at(alloc, store.inner(), "a")?.as_str(), "12");
+    Ok(())
+}
+
+#[test]
+fn a_failing_erase_leaves_the_key(rt: HostRuntime) -> Result<(), Fail> {
+    let alloc = rt.alloc();
+    let mut store = failing(alloc, &["a", "b"], FaultAt::OnErase(key(alloc, "a")?))?;
+    assert!(rt; is_fault(store.erase(&key(alloc, "a")?)));
+    assert_eq!(rt; bytes_at(alloc, &store, "a")?.as_str(), "x");
+    store.erase(&key(alloc, "b")?)?;
+    store.erase(&key(alloc, "c")?)?;
+    let all = store.list(alloc)?;
+    assert_eq!(rt; texts_of_keys(alloc, all.as_slice())?.as_str(), "a ");
     Ok(())
 }
