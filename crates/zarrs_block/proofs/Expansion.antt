@@ -28,10 +28,12 @@ use Rattle.zarrs_block.proofs.KeyLaws.{names_of_key, not_valid, path_of_key, own
 
 -- ---- what a block has at its keys
 
-at_itself : (t : List ℕ) → is_at (bytes_cmp t) t ≡ true
+-- a text is tied with itself
+pub at_itself : (t : List ℕ) → is_at (bytes_cmp t) t ≡ true
 at_itself t = ap is_eq (tied_itself nat_list_cmp_total t)
 
-same_text : (t s : List ℕ) → is_at (bytes_cmp t) s ≡ true → t ≡ s
+-- tied texts are one
+pub same_text : (t s : List ℕ) → is_at (bytes_cmp t) s ≡ true → t ≡ s
 same_text t s e = (bytes_eq-Decides t s).0 (sym (is_eq-slice_cmp t s) ∙ e)
 
 found_here : (e : List ℕ × NodeMetadata) (es : Block) → found (e ∷ es) e.0 ≡ Some e.1
@@ -54,7 +56,7 @@ found_behind x es (e ∷ fs) below h =
     )
 
 -- a block whose keys ascend has each entry at its key
-found_all : (B : Block) → IsAscending B → AllByRecursion (λ e. found B e.0 ≡ Some e.1) B
+pub found_all : (B : Block) → IsAscending B → AllByRecursion (λ e. found B e.0 ≡ Some e.1) B
 unfolding IsStrictlySortedBy
 found_all [] h = tt
 found_all (x ∷ es) h = (found_here x es, found_behind x es es h.0 (found_all es h.1))

@@ -3,3 +3,4 @@ pub mod KeyLaws
 pub mod Expansion
 pub mod InOrder
 pub mod BlockReads
+pub mod CutOut

@@ -1,12 +1,12 @@
 //! The consolidated block of a group: the metadata of the nodes below it.
-ghost use Rattle.std.specs.Prelude.{◌≡◌, [], length, IfOk, OnOk, OnErr, string_bytes, codes, map, option_copied};
+ghost use Rattle.std.specs.Prelude.{◌≡◌, ◌≢◌, ℕ, List, None, [], length, IfOk, OnOk, OnErr, string_bytes, codes, map, option_copied};
 ghost use Rattle.std.specs.Result.{result_ok};
 ghost use Rattle.serde_json.specs.Data.{object};
 ghost use Rattle.serde_json.specs.View.{view, members_view};
 ghost use Rattle.zarrs_form.specs.Documents.{Gives, document_of, formed, required, optional};
 ghost use Rattle.zarrs_form.specs.Forms.{is_nil};
 ghost use Rattle.zarrs_meta.specs.Node.{node_of};
-ghost use Rattle.zarrs_block.specs.Block.{found, put as put_node, inline, untrue, nodes_of, nodes, block_of, documents, block_tree};
+ghost use Rattle.zarrs_block.specs.Block.{IsAscending, found, put as put_node, inline, untrue, nodes_of, nodes, block_of, documents, block_tree};
 
 use serde_json::{Map, Value, put};
 use std::alloc::{AllocError, Global};
@@ -92,6 +92,16 @@ impl ConsolidatedMetadataMetadata {
     {
         drop(self.entries.insert(key, metadata)?);
         Ok(())
+    }
+
+    /// Takes out the metadata at a key, and answers them where there were any.
+    pub fn remove(&mut self, key: &str) -> Option<NodeMetadata>
+        ensures value { result ≡ found self.old key.now }
+        ensures gone { found self.new key.now ≡ None }
+        ensures others { (t : List ℕ) → t ≢ key.now → found self.new t ≡ found self.old t }
+        ensures ascending { IsAscending self.new }
+    {
+        self.entries.remove(key)
     }
 
     /// The keys and metadata, as a map.

@@ -7,6 +7,7 @@ mod expand;
 pub mod laws;
 mod node_create_error;
 mod policy;
+mod without;
 
 pub use consolidated::{ConsolidatedMetadata, ConsolidatedMetadataMetadata};
 pub use expand::expand_consolidated_metadata;

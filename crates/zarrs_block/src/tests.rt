@@ -140,6 +140,14 @@ fn blocks_are_read_or_refused_by_the_first_fault(rt: HostRuntime) -> Result<(), 
             "bad member metadata",
         ),
         (
+            r#"{"kind":"inline","metadata":{"a":{"attributes":1,"node_type":"group","zarr_format":3}}}"#,
+            "bad member metadata",
+        ),
+        (
+            r#"{"kind":"inline","metadata":{"a":{"attributes":{"n":1.5},"node_type":"group","zarr_format":3}}}"#,
+            "unsupported number",
+        ),
+        (
             "{\"kind\":\"inline\",\"metadata\":{},\"more\":1}",
             "{\"kind\":\"inline\",\"metadata\":{},\"must_understand\":false}",
         ),
@@ -341,6 +349,74 @@ fn a_group_is_opened_by_its_block(rt: HostRuntime) -> Result<(), Fail> {
     ] {
         let said = opened(alloc, document, policy)?;
         assert_eq!(rt; said.as_str(), wanted, "{document}");
+    }
+    Ok(())
+}
+
+// The keys of a block, each behind a blank.
+fn keys_text(block: &ConsolidatedMetadataMetadata, alloc: Global) -> Result<String, AllocError> {
+    let mut text = String::new(alloc);
+    for (key, _metadata) in block.as_map().iter() {
+        write!(text, " {key}")?;
+    }
+    Ok(text)
+}
+
+// The block of groups at these keys.
+fn groups_at(alloc: Global, keys: &[&str]) -> Result<ConsolidatedMetadataMetadata, MetadataFault> {
+    let mut block = ConsolidatedMetadataMetadata::new(alloc);
+    for key in keys {
+        let group = node(alloc, "{\"zarr_format\":2}")?;
+        block.insert(String::from_str(alloc, key)?, group)?;
+    }
+    Ok(block)
+}
+
+// The keys of the block of groups at these keys, once a key was taken out, behind whether it was there.
+fn removed(alloc: Global, keys: &[&str], key: &str) -> Result<String, AllocError> {
+    let Ok(mut block) = groups_at(alloc, keys) else {
+        return String::from_str(alloc, "no block");
+    };
+    let was_there = block.remove(key).is_some();
+    let left = keys_text(&block, alloc)?;
+    format!(in alloc; "{was_there}{left}")
+}
+
+#[test]
+fn a_key_is_taken_out(rt: HostRuntime) -> Result<(), Fail> {
+    let alloc = rt.alloc();
+    for (key, wanted) in [
+        ("b", "true a c"),
+        ("a", "true b c"),
+        ("d", "false a b c"),
+        ("", "false a b c"),
+    ] {
+        assert_eq!(rt; removed(alloc, &["a", "b", "c"], key)?.as_str(), wanted);
+    }
+    Ok(())
+}
+
+// The keys of a copy of the block of groups at these keys, without a key and what is below it.
+fn without(alloc: Global, keys: &[&str], key: &str) -> Result<String, AllocError> {
+    let Ok(block) = groups_at(alloc, keys) else {
+        return String::from_str(alloc, "no block");
+    };
+    keys_text(&block.try_clone_without(alloc, key)?, alloc)
+}
+
+#[test]
+fn a_copy_leaves_out_a_key_and_what_is_below_it(rt: HostRuntime) -> Result<(), Fail> {
+    let alloc = rt.alloc();
+    let keys = [
+        "a", "a/b", "a/b/c", "a-b", "a0", "/a", "/a/b", "//a", "b/a", "/a-b",
+    ];
+    for (key, wanted) in [
+        ("a", " //a /a-b a-b a0 b/a"),
+        ("a/b", " //a /a /a-b a a-b a0 b/a"),
+        ("b", " //a /a /a-b /a/b a a-b a/b a/b/c a0"),
+        ("c", " //a /a /a-b /a/b a a-b a/b a/b/c a0 b/a"),
+    ] {
+        assert_eq!(rt; without(alloc, &keys, key)?.as_str(), wanted);
     }
     Ok(())
 }

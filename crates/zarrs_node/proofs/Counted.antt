@@ -1,14 +1,11 @@
 -- The forest of a flat list, and the number of its steps.
-use Rattle.std.proofs.Common.{◌≡◌, ◌≢◌, ℕ, ◌+◌, ◌⊎◌, inl, inr, ⊎_elim, ◌↔◌, Bool, true, false, cond, List, [], ◌∷◌, ◌++◌, map, length, refl, sym, ap, subst, ◌∙◌, arith, Contains, AllPairs, Less, true≢false, Result, Ok, Err, IfOk}
+use Rattle.std.proofs.Common.{◌≡◌, ◌≢◌, ℕ, ◌+◌, ⊎_elim, ◌↔◌, Bool, true, false, cond, List, [], ◌∷◌, map, length, refl, sym, ap, subst, ◌∙◌, arith, Contains, AllPairs, Less, true≢false, Result, Ok, Err, IfOk}
 use Rattle.std.specs.List.{filter}
 use Rattle.std.proofs.lemmas.List.Elements.{Contains-push}
 use Rattle.std.proofs.lemmas.List.{length-map}
 use Rattle.zarrs_path.specs.Paths.{Path, path_cmp, path_eq}
 use Rattle.zarrs_path.specs.PathOrder.{path_decides}
-use Rattle.zarrs_meta.specs.declared.node.NodeMetadata.{NodeMetadata}
-use Rattle.zarrs_node.specs.declared.node.Node.{Node}
-use Rattle.zarrs_store.specs.Contents.{Lists}
-use Rattle.zarrs_node.specs.Forest.{Forest, forest, pairs, Shows}
+use Rattle.zarrs_node.specs.Forest.{Forest, pairs, Shows}
 use Rattle.zarrs_node.specs.Reached.{Kept}
 use Rattle.zarrs_node.proofs.Unique.{Pair}
 use Rattle.zarrs_node.proofs.Kept.{kept_same}
@@ -19,7 +16,7 @@ use Rattle.zarrs_node.proofs.Found.{all_pairs_append, all_pairs_tail, all_pairs_
 use Rattle.zarrs_node.proofs.Child.{contains_one}
 use Rattle.zarrs_node.proofs.Order.{contains_cases}
 use Rattle.zarrs_node.proofs.Unique.{names_irrefl}
-use Rattle.zarrs_node.proofs.Lasts.{snoc_cases, latest_in, contains_filtered}
+use Rattle.zarrs_node.proofs.Lasts.{snoc_cases, latest_in}
 
 -- a forest that shows some pairs shows the same pairs
 pub shows_same : (f : Forest) (b : Path) (N M : Pair → Type 0) → ((e : Pair) → N e ↔ M e) → Shows f b N → Shows f b M

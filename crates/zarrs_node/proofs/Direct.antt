@@ -1,9 +1,9 @@
 -- The pairs directly below a base, in the order of paths, as nodes side by side.
-use Rattle.std.proofs.Common.{◌≡◌, ◌≢◌, ◌≤◌, ℕ, ◌⊎◌, ⊎_elim, ◌↔◌, Bool, true, false, cond, List, [], ◌∷◌, ◌++◌, length, refl, sym, ap, subst, ◌∙◌, append-nil, append_assoc, arith, get_or, Contains, AllPairs, Less, Equal, Greater, true≢false, Result, Ok, Err, IfOk}
+use Rattle.std.proofs.Common.{◌≡◌, ◌≢◌, ◌≤◌, ⊎_elim, Bool, true, false, cond, List, [], ◌∷◌, ◌++◌, length, refl, sym, ap, subst, ◌∙◌, append-nil, append_assoc, arith, get_or, Contains, AllPairs, Less, Equal, Greater, true≢false, Result, Ok, Err, IfOk}
 use Rattle.std.specs.List.{filter}
 use Rattle.std.specs.Ordering.{is_lt, ordering_reverse}
 use Rattle.std.specs.List.Sorted.{IsSortedBy, IsStableBy, ties}
-use Rattle.std.proofs.lemmas.List.Elements.{Contains-push, Contains-push_cases, filter-append, filter_agree}
+use Rattle.std.proofs.lemmas.List.Elements.{Contains-push_cases, filter-append, filter_agree}
 use Rattle.zarrs_path.specs.Paths.{Path, IsPath, path_cmp, path_eq}
 use Rattle.zarrs_path.specs.PathOrder.{path_decides, path_total}
 use Rattle.zarrs_path.proofs.PathTexts.{IsPath-parts}
@@ -18,7 +18,7 @@ use Rattle.zarrs_node.proofs.Unique.{Pair}
 use Rattle.zarrs_node.proofs.Graft.{Contains-first, Contains-cons}
 use Rattle.zarrs_node.proofs.Found.{all_pairs_append, all_pairs_tail, all_pairs_first, lists_from}
 use Rattle.zarrs_node.proofs.Child.{contains_one}
-use Rattle.zarrs_node.proofs.Order.{one_ascends, contains_cases, pairs_ascend}
+use Rattle.zarrs_node.proofs.Order.{one_ascends, pairs_ascend}
 use Rattle.zarrs_node.proofs.LawProofs.{apart}
 use Rattle.zarrs_node.proofs.Reach.{no_room}
 use Rattle.zarrs_node.proofs.Grow.{holds_none}

@@ -1,5 +1,5 @@
 -- What a pass over ascending pairs keeps true.
-use Rattle.std.proofs.Common.{◌≤◌, ◌<◌, ◌^◌, length-append, ◌≡◌, ℕ, ◌+◌, ◌⊎◌, inl, inr, ⊎_elim, ◌↔◌, Bool, true, false, cond, List, [], ◌∷◌, ◌++◌, map, length, refl, sym, ap, subst, ◌∙◌, append-nil, append_assoc, arith, Contains, AllPairs, Less, IsTrue, true≢false}
+use Rattle.std.proofs.Common.{◌≤◌, ◌<◌, ◌^◌, length-append, ◌≡◌, ℕ, ◌+◌, ◌⊎◌, inl, inr, ⊎_elim, ◌↔◌, true, false, cond, List, [], ◌∷◌, ◌++◌, map, length, refl, sym, ap, subst, ◌∙◌, append-nil, append_assoc, arith, Contains, Less, IsTrue}
 use Rattle.std.proofs.lemmas.List.Elements.{Contains-append_left, Contains-append_right, Contains-append_cases, Contains-push, Contains-push_cases}
 use Rattle.std.specs.List.{count_by}
 use Rattle.std.proofs.lemmas.List.Sums.{sum_by-append}
@@ -7,17 +7,17 @@ use Rattle.zarrs_path.specs.Paths.{Path, IsPath, IsBelow, path_cmp}
 use Rattle.zarrs_meta.specs.declared.node.NodeMetadata.{NodeMetadata}
 use Rattle.zarrs_node.specs.declared.node.Node.{Node}
 use Rattle.zarrs_meta.specs.Node.{is_group}
-use Rattle.zarrs_node.specs.Forest.{Forest, none, tree, pairs, forest, IsPlaced, IsChildOf, Shows}
+use Rattle.zarrs_node.specs.Forest.{none, tree, pairs, forest, IsPlaced, IsChildOf, Shows}
 use Rattle.zarrs_node.specs.Order.{Ascend}
 use Rattle.zarrs_node.specs.Reached.{Kept}
 use Rattle.zarrs_node.proofs.Unique.{Pair}
-use Rattle.zarrs_node.specs.Pass.{Stem, grow, stem_of, top, whole, with_tree, heads, opened_by, IsClosedTo, IsTaken}
+use Rattle.zarrs_node.specs.Pass.{stem_of, top, whole, with_tree, heads, opened_by, IsClosedTo, IsTaken}
 use Rattle.zarrs_node.specs.Latest.{groups}
 use Rattle.zarrs_node.proofs.Graft.{Contains-first, Contains-cons}
 use Rattle.zarrs_node.proofs.Found.{all_pairs_tail, all_pairs_first, lists_from}
 use Rattle.zarrs_node.proofs.Order.{contains_cases, pairs_ascend}
 use Rattle.zarrs_node.proofs.LawProofs.{apart}
-use Rattle.zarrs_node.proofs.Grow.{graft_none, pairs-grow, placed_grow, placed_chain, heads_in, heads_of, AreGroups, IsChain}
+use Rattle.zarrs_node.proofs.Grow.{graft_none, pairs-grow, placed_grow, placed_chain, heads_in, AreGroups, IsChain}
 use Rattle.zarrs_node.proofs.Stems.{heads_stems}
 use Rattle.zarrs_node.proofs.Keeps.{Hangs, hangs_kept, kept_hangs, all_pairs_across, between_below, hangs_more, hangs_earlier, child_hangs, hangs_child}
 

@@ -1,26 +1,22 @@
 -- A forest and its block are inverse.
-use Rattle.std.proofs.Common.{◌≡◌, ℕ, ◌⊎◌, inl, inr, ⊎_elim, ◌↔◌, true, cond, List, [], ◌∷◌, ◌++◌, Some, None, IsSome, refl, sym, ap, subst, ◌∙◌, Contains, IsTrue, Less, Greater, is_eq, true≢false}
+use Rattle.std.proofs.Common.{◌≡◌, ℕ, ◌⊎◌, inl, inr, ⊎_elim, ◌↔◌, true, List, [], ◌∷◌, ◌++◌, Some, None, IsSome, refl, sym, ap, subst, ◌∙◌, Contains, IsTrue, true≢false}
 use Rattle.std.specs.Prelude.{All}
 use Rattle.std.specs.List.{AllByRecursion}
-use Rattle.std.specs.List.Sorted.{IsStrictlySortedBy}
-use Rattle.std.specs.Map.{keys_of}
-use Rattle.std.specs.Ordering.{ordering_reverse}
-use Rattle.std.proofs.lemmas.Cmp.{nat_list_cmp_total}
 use Rattle.std.proofs.lemmas.List.{append_cancel_left}
 use Rattle.std.proofs.lemmas.List.Elements.{All-nil, All-cons}
-use Rattle.zarrs_store.specs.Segments.{bytes_cmp, key_text}
+use Rattle.zarrs_store.specs.Segments.{key_text}
 use Rattle.zarrs_path.specs.Paths.{Path, IsPath}
 use Rattle.zarrs_meta.specs.Node.{is_plain_node}
 use Rattle.zarrs_meta.specs.declared.node.NodeMetadata.{NodeMetadata}
-use Rattle.zarrs_block.specs.Block.{Block, Entries, HasValidKeys, IsAscending, IsBlockOf, IsValidKey, entry, first_some, found}
+use Rattle.zarrs_block.specs.Block.{Block, Entries, HasValidKeys, IsBlockOf, IsValidKey, entry, first_some, found}
 use Rattle.zarrs_block.proofs.BlockReads.{block_again}
+use Rattle.zarrs_block.proofs.Expansion.{found_all}
 use Rattle.zarrs_node.specs.Forest.{Forest, pairs, IsPlaced}
 use Rattle.zarrs_node.specs.Reached.{Closed}
-use Rattle.zarrs_node.specs.Inverse.{HasNames, ArePlain, BlockGivesBack, ListingGivesBack}
+use Rattle.zarrs_node.specs.Inverse.{HasNames, BlockGivesBack, ListingGivesBack}
 use Rattle.zarrs_node.proofs.Found.{listed_each}
 use Rattle.zarrs_node.proofs.Kept.{kept_same, placed_between}
 use Rattle.zarrs_node.proofs.Unique.{one_forest}
-use Rattle.zarrs_node.proofs.Puts.{text_itself}
 use Rattle.zarrs_node.proofs.BlockTexts.{one_text_of, no_slash_first}
 
 -- what the two keys of a path have
@@ -35,44 +31,28 @@ entry_cases B ns m e = elim (found B (key_text ns)) as (λ o. found B (key_text 
 entry_plain : (B : Block) (ns : Path) (m : NodeMetadata) → found B (key_text ns) ≡ Some m → entry B ns ≡ Some m
 entry_plain B ns m e = ap (λ o. first_some o (found B (47 ∷ key_text ns))) e
 
--- an entry behind others whose key is before it is found where it was found without them
-found_behind : (x : List ℕ × NodeMetadata) (es fs : Block) → AllByRecursion (λ y. bytes_cmp x.0 y ≡ Less) (keys_of fs) → AllByRecursion (λ e. found es e.0 ≡ Some e.1) fs
-    → AllByRecursion (λ e. found (x ∷ es) e.0 ≡ Some e.1) fs
-found_behind x es [] below h = tt
-found_behind x es (e ∷ fs) below h =
-    let above : bytes_cmp e.0 x.0 ≡ Greater = nat_list_cmp_total.antisymm e.0 x.0 ∙ ap ordering_reverse below.0 in (
-      ap (λ o. cond (is_eq o) (Some x.1) (found es e.0)) above ∙ h.0,
-      found_behind x es fs below.1 h.1,
-    )
-
--- a block whose keys ascend has each entry at its key
-found_all : (B : Block) → IsAscending B → AllByRecursion (λ e. found B e.0 ≡ Some e.1) B
-unfolding IsStrictlySortedBy
-found_all [] h = tt
-found_all (x ∷ es) h = (ap (λ t. cond t (Some x.1) (found es x.0)) (text_itself x.0), found_behind x es es h.0 (found_all es h.1))
-
-module _ (b : Path) (f : Forest) (B : Block) (names : HasNames b (pairs f)) (is : IsBlockOf (Contains (pairs f)) b B) where
+module _ (N : Path × NodeMetadata → Type 0) (b : Path) (B : Block) (names : (e : Path × NodeMetadata) → N e → (n : List ℕ) × (ns : Path) × (e.0 ≡ b ++ n ∷ ns) × IsPath (n ∷ ns)) (is : IsBlockOf N b B) where
   -- the names of a pair beyond b are those that its key holds
-  own_names : (n : List ℕ) (ns : Path) (m : NodeMetadata) → Contains (pairs f) (b ++ n ∷ ns, m) → IsPath (n ∷ ns)
+  own_names : (n : List ℕ) (ns : Path) (m : NodeMetadata) → N (b ++ n ∷ ns, m) → IsPath (n ∷ ns)
   own_names n ns m here =
       let w = names (b ++ n ∷ ns, m) here in
       subst IsPath (sym (append_cancel_left b (n ∷ ns) (w.0 ∷ w.1) w.2)) w.3
 
   -- the entries of the block are the pairs
-  entries_are : (e : Path × NodeMetadata) → Entries B b e ↔ Contains (pairs f) e
+  pub entries_are : (e : Path × NodeMetadata) → Entries B b e ↔ N e
   entries_are e = (
     λ h. ⊎_elim
         (λ plain.
         let w = (is (key_text (h.0 ∷ h.1)) e.1).0 plain in
         let same = one_text_of (h.0 ∷ h.1) (w.0 ∷ w.1) h.2 (own_names w.0 w.1 e.1 w.3) w.2 in
-        subst (λ p. Contains (pairs f) (p, e.1)) (ap (λ x. b ++ x) (sym same) ∙ sym h.3) w.3)
+        subst (λ p. N (p, e.1)) (ap (λ x. b ++ x) (sym same) ∙ sym h.3) w.3)
         (λ slashed.
         let w = (is (47 ∷ key_text (h.0 ∷ h.1)) e.1).0 slashed in
         absurd (no_slash_first (h.0 ∷ h.1) (w.0 ∷ w.1) (own_names w.0 w.1 e.1 w.3) w.2))
         (entry_cases B (h.0 ∷ h.1) e.1 h.4),
     λ here.
         let w = names e here in
-        (w.0, w.1, w.3, w.2, entry_plain B (w.0 ∷ w.1) e.1 ((is (key_text (w.0 ∷ w.1)) e.1).1 (w.0, w.1, refl, subst (λ p. Contains (pairs f) (p, e.1)) w.2 here))),
+        (w.0, w.1, w.3, w.2, entry_plain B (w.0 ∷ w.1) e.1 ((is (key_text (w.0 ∷ w.1)) e.1).1 (w.0, w.1, refl, subst (λ p. N (p, e.1)) w.2 here))),
   )
 
   -- each key is the text of names
@@ -82,28 +62,28 @@ module _ (b : Path) (f : Forest) (B : Block) (names : HasNames b (pairs f)) (is 
     | None ↦ λ at none. absurd (true≢false (sym none))
   ] refl some
 
-  -- each node of the block is one of the forest
-  nodes_plain : ArePlain (pairs f) → (es : Block) → AllByRecursion (λ e. found B e.0 ≡ Some e.1) es → All (λ e. IsTrue (is_plain_node e.1)) es
+  -- each node of the block is that of a pair
+  nodes_plain : ((e : Path × NodeMetadata) → N e → IsTrue (is_plain_node e.1)) → (es : Block) → AllByRecursion (λ e. found B e.0 ≡ Some e.1) es → All (λ e. IsTrue (is_plain_node e.1)) es
   nodes_plain plain [] at = All-nil (λ e. IsTrue (is_plain_node e.1))
   nodes_plain plain (e ∷ es) at =
       let w = (is e.0 e.1).0 at.0 in
       All-cons (λ e. IsTrue (is_plain_node e.1)) e es (plain (b ++ w.0 ∷ w.1, e.1) w.3) (nodes_plain plain es at.1)
 
-  -- the pairs of a placed forest are closed
-  pairs_closed : IsPlaced b f → Closed (Contains (pairs f)) b
-  pairs_closed placed e in' = (record { below = names e in'; between = λ q low up. (refl, placed_between b f placed e in' q low up) }, in')
+-- the pairs of a placed forest are closed
+pairs_closed : (b : Path) (f : Forest) → HasNames b (pairs f) → IsPlaced b f → Closed (Contains (pairs f)) b
+pairs_closed b f names placed e in' = (record { below = names e in'; between = λ q low up. (refl, placed_between b f placed e in' q low up) }, in')
 
 -- a block of exactly the pairs of a placed forest gives the forest back
 pub block_gives_back : BlockGivesBack
 block_gives_back b f B placed names plain up is =
-    let same = entries_are b f B names is in
-    let closed = pairs_closed b f B names is placed in
+    let same = entries_are (Contains (pairs f)) b B names is in
+    let closed = pairs_closed b f names placed in
     let kept = kept_same (Entries B b) (Contains (pairs f)) true b (λ e low. same e) in
-    let nodes = nodes_plain b f B names is plain B (found_all B up) in
+    let nodes = nodes_plain (Contains (pairs f)) b B names is plain B (found_all B up) in
     record {
       plain = nodes;
       read_back = block_again B nodes;
-      valid = keys_valid b f B names is;
+      valid = keys_valid (Contains (pairs f)) b B names is;
       entries = same;
       closed = closed;
       one_forest = λ g shows. one_forest b g f shows.placed placed (λ e. (

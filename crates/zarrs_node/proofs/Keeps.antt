@@ -1,5 +1,5 @@
 -- Which pairs of an ascending list are kept.
-use Rattle.std.proofs.Common.{◌≡◌, ℕ, ◌+◌, ◌-◌, ◌⊎◌, inl, inr, ⊎_elim, List, [], ◌∷◌, ◌++◌, map, length, get_or, drop, refl, sym, ap, subst, ◌∙◌, append_assoc, append-nil, arith, length-append, Contains, AllPairs, Less, Equal, Greater, Ordering, IsTrue, true, true≢false, is_eq}
+use Rattle.std.proofs.Common.{◌≡◌, ℕ, ◌⊎◌, inl, inr, ⊎_elim, List, [], ◌∷◌, ◌++◌, length, get_or, drop, refl, sym, ap, subst, ◌∙◌, append_assoc, append-nil, arith, length-append, Contains, AllPairs, Less, Equal, Greater, IsTrue, true, true≢false, is_eq}
 use Rattle.std.proofs.lemmas.List.Elements.{Contains-append_left, Contains-append_right, Contains-push, Contains-push_cases}
 use Rattle.std.proofs.lemmas.List.{append_cancel_left}
 use Rattle.std.specs.Ordering.{ordering_then, is_lt}
@@ -16,7 +16,7 @@ use Rattle.zarrs_path.proofs.PathTexts.{IsPath-parts}
 use Rattle.zarrs_node.proofs.Unique.{Pair}
 use Rattle.zarrs_node.specs.Pass.{top}
 use Rattle.zarrs_node.proofs.Found.{all_pairs_tail, all_pairs_first}
-use Rattle.zarrs_node.proofs.Graft.{Contains-first, Contains-cons, head_name, path_cmp-append}
+use Rattle.zarrs_node.proofs.Graft.{Contains-first, Contains-cons, path_cmp-append}
 use Rattle.zarrs_node.proofs.Order.{contains_cases}
 use Rattle.zarrs_node.proofs.Unique.{names_irrefl}
 use Rattle.zarrs_node.proofs.Grow.{IsChain, AreGroups}

@@ -8,10 +8,10 @@ use Rattle.zarrs_meta.specs.Node.{is_group}
 use Rattle.zarrs_meta.specs.declared.node.NodeMetadata.{NodeMetadata}
 use Rattle.zarrs_meta.specs.declared.node.NodeMetadata.TheVariants.{Group, Array}
 use Rattle.zarrs_node.specs.Meaning.{Meaning, node}
-use Rattle.zarrs_node.specs.Reached.{HasGroup, Opens, Reached, Kept, Closed}
+use Rattle.zarrs_node.specs.Reached.{HasGroup, Reached, Kept, Closed}
 use Rattle.zarrs_node.specs.Nodes.{Means}
 use Rattle.zarrs_node.specs.Forest.{Forest, none, tree, pairs, Shows, IsPlaced, MayHold}
-use Rattle.zarrs_node.proofs.Reach.{head_same, rest_same, no_room}
+use Rattle.zarrs_node.proofs.Reach.{head_same, no_room}
 use Rattle.zarrs_node.proofs.Graft.{Contains-first, Contains-cons}
 use Rattle.zarrs_node.proofs.Found.{listed_each}
 use Rattle.zarrs_node.proofs.Order.{contains_cases, Begins, all_below}
@@ -30,7 +30,7 @@ kept_by_words N b e = (
 )
 
 -- what is below what is below is below
-below_below : (b q p : Path) → IsBelow b q → IsBelow q p → IsBelow b p
+pub below_below : (b q p : Path) → IsBelow b q → IsBelow q p → IsBelow b p
 below_below b q p (n, ns, e) (m, ms, f) = (n, ns ++ m ∷ ms, f ∙ ap (λ x. x ++ m ∷ ms) e ∙ append_assoc b (n ∷ ns) (m ∷ ms))
 
 module _ (N M : Path × NodeMetadata → Type 0) (r : Bool) (b : Path) (more : (e : Path × NodeMetadata) → IsBelow b e.0 → N e → M e) where

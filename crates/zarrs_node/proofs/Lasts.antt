@@ -1,7 +1,7 @@
 -- Of sorted pairs with one path the last.
-use Rattle.std.proofs.Common.{◌≡◌, ℕ, ◌+◌, ◌-◌, ◌<◌, take, ◌⊎◌, inl, inr, ⊎_elim, ◌↔◌, Bool, true, false, not, ◌&&◌, cond, List, [], ◌∷◌, ◌++◌, map, length, get_or, refl, sym, ap, subst, ◌∙◌, append-nil, append_assoc, arith, Contains, AllPairs, Less, Equal, Greater, Ordering, IsTrue, true≢false, is_eq}
+use Rattle.std.proofs.Common.{◌≡◌, ℕ, ◌-◌, ◌<◌, take, ◌⊎◌, inl, inr, ⊎_elim, ◌↔◌, Bool, true, false, not, ◌&&◌, cond, List, [], ◌∷◌, ◌++◌, length, get_or, refl, sym, ap, subst, ◌∙◌, append-nil, arith, Contains, AllPairs, Less, Equal, Greater, true≢false, is_eq}
 use Rattle.std.specs.List.{filter}
-use Rattle.std.specs.Ordering.{is_lt, ordering_reverse, eq_by_cmp}
+use Rattle.std.specs.Ordering.{is_lt, ordering_reverse}
 use Rattle.std.specs.List.Sorted.{IsSortedBy, IsStableBy, ties}
 use Rattle.std.proofs.lemmas.List.Elements.{Contains-append_left, Contains-push, Contains-push_cases, filter-append, filter_agree}
 use Rattle.std.proofs.lemmas.List.{same_from_push, length-append}

@@ -1,5 +1,5 @@
 -- The laws over forests and their texts.
-use Rattle.std.proofs.Common.{◌≡◌, ◌≢◌, ◌↔◌, true, Contains, ℕ, ◌+◌, ◌-◌, ◌++◌, List, [], ◌∷◌, length, refl, sym, ap, subst, ◌∙◌, append_assoc, length-append, arith, AllPairs, get_or, Less}
+use Rattle.std.proofs.Common.{◌≡◌, ◌≢◌, ◌↔◌, Contains, ℕ, ◌+◌, ◌-◌, ◌++◌, List, [], ◌∷◌, length, refl, sym, ap, subst, ◌∙◌, append_assoc, length-append, arith, AllPairs, get_or, Less}
 use Rattle.zarrs_path.specs.Paths.{Path, IsBelow, path_cmp}
 use Rattle.zarrs_meta.specs.declared.node.NodeMetadata.{NodeMetadata}
 use Rattle.zarrs_node.specs.Forest.{Forest, none, tree, pairs, IsPlaced, Shows}

@@ -30,3 +30,6 @@ pub mod Lasts
 pub mod Counted
 pub mod Direct
 pub mod Opening
+pub mod Leads
+pub mod Anew
+pub mod Current

@@ -1,5 +1,5 @@
 -- What an opened node shows, and what refuses its opening.
-use Rattle.std.proofs.Common.{◌≡◌, ℕ, ◌⊎◌, inl, inr, ⊎_elim, ◌↔◌, Bool, true, false, List, refl, sym, ap, subst, ◌∙◌, Option, Some, None, Result, Ok, Err, IfOk, IfErr, IsTrue, Contains, true≢false, arith, [], ◌∷◌}
+use Rattle.std.proofs.Common.{◌≡◌, ℕ, ◌⊎◌, inl, inr, ⊎_elim, ◌↔◌, Bool, true, false, List, refl, sym, ap, subst, ◌∙◌, Option, Some, None, Result, Ok, Err, IfOk, IfErr, Contains, true≢false, arith, [], ◌∷◌}
 use Rattle.zarrs_store.specs.Contents.{Contents, Lists}
 use Rattle.zarrs_path.specs.Paths.{Path, IsPath, path_text}
 use Rattle.zarrs_path.specs.PathErrors.{RefusesPath}
@@ -21,9 +21,8 @@ use Rattle.zarrs_node.specs.Reached.{Kept}
 use Rattle.zarrs_node.specs.Nodes.{Nodes, Bad, ShowsBad}
 use Rattle.zarrs_node.specs.Forest.{Forest, none, Shows}
 use Rattle.zarrs_node.specs.Latest.{IsLatest}
-use Rattle.zarrs_node.specs.Opened.{choice, ShowsChosen, IsCleanChosen, RefusesChosen, ShowsNode, IsCleanNode, RefusesBelow, RefusesNode, RefusesText, RefusesOpening}
+use Rattle.zarrs_node.specs.Opened.{choice, ShowsChosen, IsCleanChosen, RefusesChosen, ShowsNode, IsCleanNode, RefusesBelow, RefusesOpening}
 use Rattle.zarrs_node.proofs.Unique.{Pair}
-use Rattle.zarrs_node.proofs.Graft.{Contains-first}
 use Rattle.zarrs_node.proofs.Found.{all_pairs_tail, all_pairs_first, listed_each}
 use Rattle.zarrs_node.proofs.Order.{contains_cases}
 use Rattle.zarrs_node.proofs.Kept.{kept_same}

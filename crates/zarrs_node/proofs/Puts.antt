@@ -4,22 +4,13 @@ use Rattle.std.specs.List.{AllByRecursion}
 use Rattle.std.specs.List.Sorted.{IsStrictlySortedBy}
 use Rattle.std.specs.Map.{keys_of}
 use Rattle.std.specs.Ordering.{match_ordering, ordering_reverse}
-use Rattle.std.proofs.lemmas.Cmp.{tied_itself, nat_list_cmp_total}
-use Rattle.std.proofs.lemmas.Map.Text.{is_eq-slice_cmp}
-use Rattle.std.proofs.lemmas.Slice.Eq.{bytes_eq-Decides}
+use Rattle.std.proofs.lemmas.Cmp.{nat_list_cmp_total}
 use Rattle.zarrs_store.specs.Segments.{bytes_cmp}
 use Rattle.zarrs_path.specs.Paths.{Path}
 use Rattle.zarrs_meta.specs.declared.node.NodeMetadata.{NodeMetadata}
 use Rattle.zarrs_block.specs.Block.{Block, IsAscending, found, put}
+use Rattle.zarrs_block.proofs.Expansion.{at_itself, same_text}
 use Rattle.zarrs_node.specs.Consolidated.{text_beyond, put_all}
-
--- a text is tied with itself
-pub text_itself : (t : List ℕ) → is_eq (bytes_cmp t t) ≡ true
-text_itself t = ap is_eq (tied_itself nat_list_cmp_total t)
-
--- tied texts are one
-pub text_same : (s t : List ℕ) → is_eq (bytes_cmp s t) ≡ true → s ≡ t
-text_same s t h = (bytes_eq-Decides s t).0 (sym (is_eq-slice_cmp s t) ∙ h)
 
 -- the same test twice is that test once
 test_twice : (a : Bool) (m n : NodeMetadata) (o : Option NodeMetadata) → cond a (Some m) o ≡ cond a (Some m) (cond a (Some n) o)
@@ -35,8 +26,8 @@ tests_turned false b m n o apart = refl
 -- a text that is above another is not that other
 not_above_itself : (k s t : List ℕ) → bytes_cmp k s ≡ Greater → is_eq (bytes_cmp t k) ≡ true → is_eq (bytes_cmp t s) ≡ true → ⊥
 not_above_itself k s t above one two =
-    let same : k ≡ s = sym (text_same t k one) ∙ text_same t s two in
-    let tied : is_eq (bytes_cmp k s) ≡ true = ap (λ x. is_eq (bytes_cmp k x)) (sym same) ∙ text_itself k in
+    let same : k ≡ s = sym (same_text t k one) ∙ same_text t s two in
+    let tied : is_eq (bytes_cmp k s) ≡ true = ap (λ x. is_eq (bytes_cmp k x)) (sym same) ∙ at_itself k in
     true≢false (sym tied ∙ ap is_eq above)
 
 -- with metadata put at a text a block has these there, and elsewhere what it had
@@ -48,7 +39,7 @@ found_put t k m (e ∷ B) = by (bytes_cmp k e.0) refl (found_put t k m B)
         → found (match_ordering o ((k, m) ∷ e ∷ B) ((e.0, m) ∷ B) (e ∷ put k m B)) t ≡ cond (is_eq (bytes_cmp t k)) (Some m) (found (e ∷ B) t)
     by Less is h = refl
     by Equal is h =
-        let same : k ≡ e.0 = text_same k e.0 (ap is_eq is) in
+        let same : k ≡ e.0 = same_text k e.0 (ap is_eq is) in
         test_twice (is_eq (bytes_cmp t e.0)) m e.1 (found B t) ∙ ap (λ x. cond (is_eq (bytes_cmp t x)) (Some m) (cond (is_eq (bytes_cmp t e.0)) (Some e.1) (found B t))) (sym same)
     by Greater is h =
         ap (λ o. cond (is_eq (bytes_cmp t e.0)) (Some e.1) o) h
@@ -67,7 +58,7 @@ below_put s k m (e ∷ B) less h = by (bytes_cmp k e.0) (below_put s k m B less 
     by Greater rest = (h.0, rest)
 
 -- what is after a text is after what is before that
-before_all : (k s : List ℕ) (ks : List (List ℕ)) → bytes_cmp k s ≡ Less → AllByRecursion (λ y. bytes_cmp s y ≡ Less) ks → AllByRecursion (λ y. bytes_cmp k y ≡ Less) ks
+pub before_all : (k s : List ℕ) (ks : List (List ℕ)) → bytes_cmp k s ≡ Less → AllByRecursion (λ y. bytes_cmp s y ≡ Less) ks → AllByRecursion (λ y. bytes_cmp k y ≡ Less) ks
 before_all k s [] less h = tt
 before_all k s (x ∷ ks) less h = (nat_list_cmp_total.trans k s x less h.0, before_all k s ks less h.1)
 

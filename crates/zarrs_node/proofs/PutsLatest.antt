@@ -1,5 +1,5 @@
 -- The block of pairs that were put into it one after another: of two with one path the later stays.
-use Rattle.std.proofs.Common.{◌≡◌, ◌≢◌, ℕ, ⊎_elim, Bool, true, false, cond, List, [], ◌∷◌, ◌++◌, get_or, refl, sym, ap, subst, ◌∙◌, append_assoc, append-nil, Some, None, unwrap_or, Contains, AllPairs, is_eq, true≢false}
+use Rattle.std.proofs.Common.{◌≡◌, ◌≢◌, ℕ, ⊎_elim, Bool, true, false, cond, List, [], ◌∷◌, ◌++◌, get_or, refl, sym, ap, subst, ◌∙◌, append_assoc, append-nil, Some, unwrap_or, Contains, AllPairs, is_eq, true≢false}
 use Rattle.std.proofs.lemmas.List.Elements.{Contains-append_left, Contains-append_right}
 use Rattle.zarrs_store.specs.Segments.{bytes_cmp, key_text}
 use Rattle.zarrs_path.specs.Paths.{Path, IsPath, path_cmp, path_eq}
@@ -14,11 +14,10 @@ use Rattle.zarrs_node.proofs.Graft.{Contains-first}
 use Rattle.zarrs_node.proofs.Order.{pairs_ascend}
 use Rattle.zarrs_node.proofs.Unique.{lt_irrefl}
 use Rattle.zarrs_node.proofs.Latest.{latest_last, latest_keep, latest_push, latest_in, own_latest, no_push}
-use Rattle.zarrs_node.proofs.Puts.{found_put, put_all-append, text_same, text_itself}
+use Rattle.zarrs_block.proofs.CutOut.{none_some}
+use Rattle.zarrs_block.proofs.Expansion.{at_itself, same_text}
+use Rattle.zarrs_node.proofs.Puts.{found_put, put_all-append}
 use Rattle.zarrs_node.proofs.BlockTexts.{one_text_of, text_is}
-
-none_some : (m : NodeMetadata) → None ≡ Some m → ⊥
-none_some m e = cc
 
 module _ (b : Path) where
   -- the pairs done, and one more
@@ -32,7 +31,7 @@ module _ (b : Path) where
 
     -- a pair with the path of e is at the text of e
     at_own : (n : List ℕ) (ns : Path) (t : List ℕ) → e.0 ≡ b ++ n ∷ ns → t ≡ key_text (n ∷ ns) → is_eq (bytes_cmp t (text_beyond b e.0)) ≡ true
-    at_own n ns t path text = ap (λ s. is_eq (bytes_cmp t s)) (text_is b e.0 n ns path ∙ sym text) ∙ text_itself t
+    at_own n ns t path text = ap (λ s. is_eq (bytes_cmp t s)) (text_is b e.0 n ns path ∙ sym text) ∙ at_itself t
 
     taken : (t : List ℕ) (m : NodeMetadata) → found (put_all b [] (done ++ e ∷ [])) t ≡ Some m
         → (n : List ℕ) × (ns : Path) × (t ≡ key_text (n ∷ ns)) × IsLatest (done ++ e ∷ []) (b ++ n ∷ ns, m)
@@ -40,7 +39,7 @@ module _ (b : Path) where
         → (n : List ℕ) × (ns : Path) × (t ≡ key_text (n ∷ ns)) × IsLatest (done ++ e ∷ []) (b ++ n ∷ ns, m)) [
           | true ↦ λ at g.
               let value : e.1 ≡ m = ap (λ o. unwrap_or o e.1) g in
-              (own.0, own.1, text_same t (text_beyond b e.0) at ∙ text_is b e.0 own.0 own.1 own.2, subst (IsLatest (done ++ e ∷ [])) (λ i. (own.2 i, value i)) (latest_last done e))
+              (own.0, own.1, same_text t (text_beyond b e.0) at ∙ text_is b e.0 own.0 own.1 own.2, subst (IsLatest (done ++ e ∷ [])) (λ i. (own.2 i, value i)) (latest_last done e))
           | false ↦ λ off g.
               let w = (is t m).0 g in
               let other : (x : Bool) → path_eq e.0 (b ++ w.0 ∷ w.1) ≡ x → x ≡ false = elim [
@@ -59,7 +58,7 @@ module _ (b : Path) where
         let off : (x : Bool) → is_eq (bytes_cmp t (text_beyond b e.0)) ≡ x → x ≡ false = elim [
           | true ↦ λ at.
               let texts : key_text (own.0 ∷ own.1) ≡ key_text (v.0 ∷ v.1) =
-              sym (text_is b e.0 own.0 own.1 own.2) ∙ sym (text_same t (text_beyond b e.0) at) ∙ w.2 ∙ sym (text_is b (b ++ w.0 ∷ w.1) w.0 w.1 refl) ∙ text_is b (b ++ w.0 ∷ w.1) v.0 v.1 v.2 in
+              sym (text_is b e.0 own.0 own.1 own.2) ∙ sym (same_text t (text_beyond b e.0) at) ∙ w.2 ∙ sym (text_is b (b ++ w.0 ∷ w.1) w.0 w.1 refl) ∙ text_is b (b ++ w.0 ∷ w.1) v.0 v.1 v.2 in
               let same : e.0 ≡ b ++ w.0 ∷ w.1 = own.2 ∙ ap (λ l. b ++ l) (one_text_of (own.0 ∷ own.1) (v.0 ∷ v.1) own.3 v.3 texts) ∙ sym v.2 in
               absurd (true≢false (sym ((path_decides e.0 (b ++ w.0 ∷ w.1)).1 same) ∙ old.0))
           | false ↦ λ at. refl

@@ -1,16 +1,15 @@
 -- The open groups of a pass, as nodes.
-use Rattle.std.proofs.Common.{Bool, true, false, cond, inl, append-nil, ◌≡◌, ℕ, ◌+◌, ◌-◌, ◌<◌, suc, zero, List, [], ◌∷◌, ◌++◌, map, length, take, get_or, set, refl, sym, ap, subst, ◌∙◌, arith, take_all}
+use Rattle.std.proofs.Common.{true, false, cond, inl, append-nil, ◌≡◌, ℕ, ◌+◌, ◌-◌, ◌<◌, suc, zero, List, [], ◌∷◌, ◌++◌, map, length, take, get_or, set, refl, sym, ap, subst, ◌∙◌, arith, take_all}
 use Rattle.std.proofs.lemmas.List.{take_more, take_more_set, length-set, length-append}
 use Rattle.std.proofs.Math.Seq.{take-append_seam}
 use Rattle.zarrs_path.specs.Paths.{Path, IsPath}
 use Rattle.zarrs_meta.specs.Node.{is_group}
-use Rattle.zarrs_meta.specs.declared.node.NodeMetadata.{NodeMetadata}
 use Rattle.zarrs_node.specs.declared.node.Node.{Node}
 use Rattle.zarrs_node.specs.declared.node.Node.TheOpen.{Node-F}
 use Rattle.zarrs_node.specs.declared.node.Node.TheViews.{out-Node, roll-Node, out-roll-Node}
-use Rattle.zarrs_node.specs.Forest.{Forest, none, tree, plant, forest, graft, IsChildOf}
+use Rattle.zarrs_node.specs.Forest.{none, tree, plant, forest, graft, IsChildOf}
 use Rattle.zarrs_node.proofs.Unique.{Pair}
-use Rattle.zarrs_node.specs.Pass.{Stem, grow, stem_of, whole, with_tree, heads, top, opened_by, IsClosedTo, IsTaken}
+use Rattle.zarrs_node.specs.Pass.{Stem, grow, stem_of, whole, with_tree, heads, top, IsTaken}
 use Rattle.zarrs_node.proofs.Graft.{plant_out, plant_roll, forest_push}
 use Rattle.zarrs_node.proofs.Grow.{grow_last, grow_close, grow_roots, heads_of}
 

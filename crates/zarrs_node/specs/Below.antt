@@ -2,7 +2,7 @@
 --     block_at s b m      the block that stands for the nodes below b, where there is one
 --     NodesBelow, PairsBelow      what a tree below b shows; what a flat list below b holds
 --     BadBelow, ShowsBadBelow      what refuses it; what a refusal shows
-use Rattle.std.specs.Prelude.{ℕ, Bool, true, List, Option, Some, None}
+use Rattle.std.specs.Prelude.{Bool, true, Option, Some, None}
 use Rattle.zarrs_store.specs.Contents.{Contents}
 use Rattle.zarrs_path.specs.Paths.{Path}
 use Rattle.zarrs_meta.specs.declared.node.NodeMetadata.{NodeMetadata}

@@ -14,3 +14,5 @@ pub mod Consolidated
 pub mod Inverse
 pub mod Pass
 pub mod Opened
+pub mod Fresh
+pub mod Changes

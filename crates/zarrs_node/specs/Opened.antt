@@ -2,7 +2,7 @@
 --     choice s policy b m      which block stands for the nodes below b, or that they are listed, or nothing where the want of a block is refused
 --     ShowsChosen, IsCleanChosen      what a tree below b shows by such a choice; that nothing refuses it
 --     RefusesChosen, RefusesNode, RefusesOpening      what refuses it; what refuses the node itself; the first of all reasons against opening a text
-use Rattle.std.specs.Prelude.{◌≡◌, ℕ, Bool, true, List, Option, Some, None, IsTrue, ◌⊎◌}
+use Rattle.std.specs.Prelude.{◌≡◌, ℕ, Bool, true, List, Option, Some, None, ◌⊎◌}
 use Rattle.zarrs_store.specs.Contents.{Contents}
 use Rattle.zarrs_path.specs.Paths.{Path, IsPath, path_text}
 use Rattle.zarrs_path.specs.PathErrors.{RefusesPath}

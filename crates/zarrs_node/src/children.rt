@@ -105,7 +105,10 @@ pub fn get_all_nodes_of<L: Log, S: ReadableStorageTraits + ListableStorageTraits
 }
 
 // Adds the paths and metadata of nodes and of those below them, parents before children.
-fn push_pairs(all: &mut Vec<(NodePath, NodeMetadata)>, nodes: Vec<Node>) -> Result<(), AllocError>
+pub(crate) fn push_pairs(
+    all: &mut Vec<(NodePath, NodeMetadata)>,
+    nodes: Vec<Node>,
+) -> Result<(), AllocError>
     ensures { OnOk result (all.new.items ≡ all.old.items ++ pairs (forest nodes.items)) }
 {
     for node in nodes {

@@ -64,7 +64,7 @@ fn insert_all(
 }
 
 // The names of a path beyond the base, joined by slashes.
-fn text_beyond<'a>(base: &NodePath, path: &'a NodePath) -> &'a str
+pub(crate) fn text_beyond<'a>(base: &NodePath, path: &'a NodePath) -> &'a str
     requires { IsBelow base.now path.now }
     ensures text { result.now ≡ text_beyond base.now path.now }
     ensures valid { IsPath path.now }

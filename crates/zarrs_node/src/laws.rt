@@ -1,6 +1,7 @@
 //! What holds of every forest and of its text. Each function does nothing, and its contract is the law.
 ghost use Rattle.zarrs_node.specs.Laws.{OneForest, OneListing, PairsAscend, PlacedChildren, PreorderIsLines, ListingIsLines, OneText, ClosedPairs, ClosedNodes};
 ghost use Rattle.zarrs_node.specs.Inverse.{BlockGivesBack, ListingGivesBack};
+ghost use Rattle.zarrs_node.specs.Changes.{FreshIsBlock, RefreshedIsBlock, RefreshedIsOpened};
 
 /// Two placed forests with the same pairs are one.
 ///
@@ -82,4 +83,26 @@ pub fn block_gives_back()
 /// Source: Zarr core specification 3.1, "Group metadata"; the block is that of zarr-python.
 pub fn listing_gives_back()
     ensures { ListingGivesBack }
+{}
+
+/// Where the documents of one path changed, the block of the store before, made current at that path, is the block of the store.
+///
+/// Source: own.
+pub fn fresh_is_block()
+    ensures { FreshIsBlock }
+{}
+
+/// The block of a first store, made current after each of any number of changes, is the block of the last store.
+///
+/// Source: own.
+pub fn refreshed_is_block()
+    ensures { RefreshedIsBlock }
+{}
+
+/// What `Node::open_opt` and `Node::consolidate_metadata` give of a first store, and `refresh_block` after each of any number of
+/// changes, is what the first two give of the last store.
+///
+/// Source: own.
+pub fn refreshed_is_opened()
+    ensures { RefreshedIsOpened }
 {}

@@ -13,6 +13,7 @@ mod listing;
 mod metadata;
 mod node;
 mod open;
+mod refresh;
 mod text;
 
 pub use build::{build_node_tree, build_node_tree_counted, direct_children_from_flat};
@@ -20,4 +21,5 @@ pub use children::{get_all_nodes_of, get_child_nodes, get_child_nodes_opt};
 pub use exists::{node_exists, node_exists_listable};
 pub use listing::{ListedNodes, list_nodes};
 pub use node::Node;
+pub use refresh::refresh_block;
 pub use text::NodeLine;

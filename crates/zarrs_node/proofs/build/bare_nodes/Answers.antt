@@ -1,5 +1,4 @@
-use Rattle.std.proofs.Common.{◌≡◌, sym, ap, subst, ◌∙◌, append-nil}
-use Rattle.zarrs_node.specs.Forest.{graft, tree, none}
+use Rattle.std.proofs.Common.{ap, ◌∙◌}
 use Rattle.zarrs_node.specs.Latest.{row}
 use Rattle.zarrs_node.proofs.Holds.{all_more, none_left}
 use Rattle.zarrs_node.proofs.Direct.{row_step, done_all}

@@ -1,4 +1,4 @@
-use Rattle.std.proofs.Common.{◌≡◌, ◌+◌, ◌<◌, ◌^◌, length, sym, ap, subst, ◌∙◌, arith}
+use Rattle.std.proofs.Common.{◌≡◌, ◌+◌, subst, arith}
 use Rattle.zarrs_node.proofs.Holds.{Counts, turn, all_more, counts_closed, counts_taken, few_steps, few_last, none_left, end_shows, end_count}
 use Rattle.zarrs_node.proofs.build.build_ascending.Goals as goal
 

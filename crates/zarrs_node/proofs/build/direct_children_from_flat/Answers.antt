@@ -1,4 +1,4 @@
-use Rattle.std.proofs.Common.{◌≡◌, rules}
+use Rattle.std.proofs.Common.{rules}
 use Rattle.zarrs_node.specs.Forest.{forest}
 use Rattle.zarrs_block.proofs.InOrder.{sorted_by_path, stable_by_path}
 use Rattle.zarrs_node.proofs.Direct.{children_sorted, children_row, children_show}

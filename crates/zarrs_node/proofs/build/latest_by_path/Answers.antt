@@ -1,6 +1,5 @@
-use Rattle.std.proofs.Common.{◌≡◌, ◌++◌, sym, ap, subst, ◌∙◌, append-nil, rules}
+use Rattle.std.proofs.Common.{sym, subst, rules}
 use Rattle.std.specs.List.Sorted.{IsSortedBy}
-use Rattle.std.specs.Vec.Iter.{into_iter_items}
 use Rattle.zarrs_node.proofs.Holds.{all_more, none_left}
 use Rattle.zarrs_block.proofs.InOrder.{before, sorted_by_path, stable_by_path}
 use Rattle.zarrs_node.proofs.Lasts.{KeepsLast, keeps_turn, all_sorted, latest_all}

@@ -1,5 +1,3 @@
-use Rattle.zarrs_block.specs.Block.{Entries}
-use Rattle.zarrs_node.specs.Forest.{forest}
 use Rattle.zarrs_node.proofs.Opening.{entries_shown}
 use Rattle.zarrs_node.proofs.open.nodes_of_block.Goals as goal
 

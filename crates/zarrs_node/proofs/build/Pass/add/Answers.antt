@@ -1,5 +1,4 @@
-use Rattle.zarrs_node.proofs.Holds as holds
-use Rattle.std.proofs.Common.{◌≡◌, sym, ap, refl, ◌∙◌, true≢false}
+use Rattle.std.proofs.Common.{sym, refl, ◌∙◌, true≢false}
 use Rattle.zarrs_node.proofs.Stems.{added_last_by, none_if, added_root}
 use Rattle.zarrs_node.proofs.build.Pass.add.Goals as goal
 

@@ -1,4 +1,4 @@
-use Rattle.std.proofs.Common.{◌≡◌, sym, ap, ◌∙◌}
+use Rattle.std.proofs.Common.{sym, ap, ◌∙◌}
 use Rattle.zarrs_node.specs.Pass.{whole}
 use Rattle.zarrs_node.proofs.Stems.{closed_last}
 use Rattle.zarrs_node.proofs.build.Pass.close.Goals as goal

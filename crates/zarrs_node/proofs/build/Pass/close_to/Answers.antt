@@ -1,4 +1,4 @@
-use Rattle.std.proofs.Common.{◌≡◌, ◌+◌, ◌-◌, ◌∷◌, take, length, sym, ap, subst, ◌∙◌, arith, true≢false, length-append, []}
+use Rattle.std.proofs.Common.{◌≡◌, ◌-◌, ◌∷◌, take, length, sym, ap, subst, ◌∙◌, arith, true≢false, length-append, []}
 use Rattle.zarrs_path.specs.Paths.{IsBelow}
 use Rattle.zarrs_node.specs.Pass.{heads, top}
 use Rattle.zarrs_node.proofs.Stems.{top_last, heads_left}

@@ -1,4 +1,4 @@
-use Rattle.std.proofs.Common.{◌≡◌, sym, ap, subst, ◌∙◌, rules, inr, refl, true≢false}
+use Rattle.std.proofs.Common.{sym, subst, ◌∙◌, rules, inr, refl, true≢false}
 use Rattle.zarrs_node.specs.Forest.{IsChildOf}
 use Rattle.zarrs_node.proofs.Stems.{taken_open, taken_added}
 use Rattle.zarrs_node.proofs.build.Pass.take.Goals as goal

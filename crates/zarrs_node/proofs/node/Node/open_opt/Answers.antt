@@ -1,4 +1,4 @@
-use Rattle.std.proofs.Common.{rules, ◌≡◌, sym, ◌∙◌}
+use Rattle.std.proofs.Common.{rules, sym, ◌∙◌}
 use Rattle.zarrs_node.proofs.Opening.{refused_below}
 use Rattle.zarrs_node.proofs.node.Node.open_opt.Goals as goal
 

@@ -1,0 +1,5 @@
+use Rattle.zarrs_node.proofs.Current as law
+use Rattle.zarrs_node.proofs.laws.fresh_is_block.Goals as goal
+
+pub returns : goal.returns
+returns c = law.fresh_is_block

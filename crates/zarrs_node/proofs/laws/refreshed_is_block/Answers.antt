@@ -1,0 +1,5 @@
+use Rattle.zarrs_node.proofs.Current as law
+use Rattle.zarrs_node.proofs.laws.refreshed_is_block.Goals as goal
+
+pub returns : goal.returns
+returns c = law.refreshed_is_block

@@ -1,0 +1,148 @@
+//! A block made current where the documents of one path changed.
+ghost use Rattle.std.specs.Prelude.{◌≡◌, ◌↔◌, IfOk, IfErr, OnOk, IsTrue, ◌⊎◌, Contains};
+ghost use Rattle.zarrs_store.specs.Contents.{Lists};
+ghost use Rattle.zarrs_path.specs.Paths.{IsBelow, IsPath};
+ghost use Rattle.zarrs_block.specs.Block.{Entries, IsAscending};
+ghost use Rattle.zarrs_block.specs.Refused.{IsExcused};
+ghost use Rattle.zarrs_node.specs.Meaning.{meaning};
+ghost use Rattle.zarrs_node.specs.Reached.{HasGroup};
+ghost use Rattle.zarrs_node.specs.Consolidated.{AreBelow, put_all};
+ghost use Rattle.zarrs_node.specs.Fresh.{LeadsTo, Renewed, IsFresh, BadAnew, ShowsBadAnew};
+
+use crate::children::push_pairs;
+use crate::consolidate::text_beyond;
+use crate::last_read::LastDocuments;
+use crate::listing::list_nodes;
+use crate::metadata::find_metadata;
+use std::alloc::{AllocError, Global};
+use zarrs_block::{ConsolidatedMetadataMetadata, NodeCreateError};
+use zarrs_config::MetadataRetrieveVersion;
+use zarrs_meta::NodeMetadata;
+use zarrs_path::{NodePath, NodePathError};
+use zarrs_store::{ListableStorageTraits, ReadableStorageTraits};
+
+/// The block of a group, made current where the documents of one path below the group changed: without what it has at the path and
+/// below it, in either spelling of the keys, and where it has a group at each path between, with the node that the store has at the
+/// path now and with all below it. Nothing else of the store is looked at, and each other key stays, also one that is no path's.
+///
+/// # Errors
+///
+/// Where the block has a group at each path between the group's and the path:
+///
+/// - `StorageError::InvalidMetadata` where a document of the path, or on the way below it, does not read, with its key and the fault.
+/// - `MetadataVersionMismatch` where a document of version 2 stands at `zarr.json` there.
+/// - `StorageError::Other` where a name below the path is made of periods only.
+/// - `StorageError::Fault` of a store that can fail.
+///
+/// And `OutOfMemory` where memory is wanting.
+///
+/// Source: own.
+pub fn refresh_block<S: ReadableStorageTraits + ListableStorageTraits>(
+    alloc: Global,
+    storage: &S,
+    base: &NodePath,
+    version: &MetadataRetrieveVersion,
+    block: &ConsolidatedMetadataMetadata,
+    path: &NodePath,
+) -> Result<ConsolidatedMetadataMetadata, NodeCreateError>
+    requires below { IsBelow base.now path.now }
+    ensures fresh { IfOk result (IsFresh (meaning (S.contents storage.now) version.now) base.now block.now path.now) }
+    ensures ascending { IfOk result IsAscending }
+    ensures clean { IfOk result (λ _. LeadsTo block.now base.now path.now → BadAnew (S.contents storage.now) version.now path.now → ⊥) }
+    ensures refused { IfErr result (λ e. IsExcused (S.can_fail storage.now) e ⊎ (LeadsTo block.now base.now path.now × ShowsBadAnew (S.contents storage.now) version.now path.now e)) }
+{
+    let renewed = if leads_to(alloc, block, base, path)? {
+        read_anew(alloc, storage, path, version)?
+    } else {
+        Vec::new(alloc)
+    };
+    let mut fresh = block.try_clone_without(alloc, text_beyond(base, path))?;
+    insert_pairs(alloc, base, renewed, &mut fresh)?;
+    Ok(fresh)
+}
+
+// Whether the block has a group at each path between the base and a path below it.
+fn leads_to(
+    alloc: Global,
+    block: &ConsolidatedMetadataMetadata,
+    base: &NodePath,
+    path: &NodePath,
+) -> Result<bool, NodePathError>
+    requires below { IsBelow base.now path.now }
+    ensures leads { IfOk result (λ leads. IsTrue leads ↔ LeadsTo block.now base.now path.now) }
+    ensures err { IfErr result (λ e. e ≡ NodePathError.OutOfMemory) }
+{
+    let Some(parent) = path.parent(alloc)? else {
+        return Ok(true);
+    };
+    if !parent.is_below(base) {
+        return Ok(true);
+    }
+    Ok(has_group(alloc, block, base, &parent)? && leads_to(alloc, block, base, &parent)?)
+}
+
+// Whether the entry of a path below the base is a group.
+fn has_group(
+    alloc: Global,
+    block: &ConsolidatedMetadataMetadata,
+    base: &NodePath,
+    path: &NodePath,
+) -> Result<bool, AllocError>
+    requires below { IsBelow base.now path.now }
+    ensures { IfOk result (λ group. IsTrue group ↔ HasGroup (Entries block.now base.now) path.now) }
+{
+    let key = text_beyond(base, path);
+    if let Some(metadata) = block.get(key) {
+        return Ok(metadata.is_group());
+    }
+    let rooted = format!(in alloc; "/{key}")?;
+    match block.get(&rooted) {
+        Some(metadata) => Ok(metadata.is_group()),
+        None => Ok(false),
+    }
+}
+
+// The node at a path, if there is one, and for a group all below it, parents before children.
+fn read_anew<S: ReadableStorageTraits + ListableStorageTraits>(
+    alloc: Global,
+    storage: &S,
+    path: &NodePath,
+    version: &MetadataRetrieveVersion,
+) -> Result<Vec<(NodePath, NodeMetadata)>, NodeCreateError>
+    ensures renewed { IfOk result (λ pairs. Lists (Renewed (meaning (S.contents storage.now) version.now) path.now) pairs.items) }
+    ensures clean { IfOk result (λ _. BadAnew (S.contents storage.now) version.now path.now → ⊥) }
+    ensures refused { IfErr result (λ e. IsExcused (S.can_fail storage.now) e ⊎ ShowsBadAnew (S.contents storage.now) version.now path.now e) }
+{
+    let mut last = LastDocuments::new(alloc);
+    let found = find_metadata(alloc, storage, path, version, &mut last);
+    drop(last);
+    let mut pairs = Vec::new(alloc);
+    let Some(metadata) = found? else {
+        return Ok(pairs);
+    };
+    let nodes = if metadata.is_group() {
+        list_nodes(alloc, storage, path, true, version)?.nodes
+    } else {
+        Vec::new(alloc)
+    };
+    pairs.push((path.try_clone(alloc)?, metadata))?;
+    push_pairs(&mut pairs, nodes)?;
+    Ok(pairs)
+}
+
+// Puts metadata into a block, each at its path relative to the base.
+fn insert_pairs(
+    alloc: Global,
+    base: &NodePath,
+    pairs: Vec<(NodePath, NodeMetadata)>,
+    block: &mut ConsolidatedMetadataMetadata,
+) -> Result<(), AllocError>
+    requires below { AreBelow base.now pairs.items }
+    ensures inserted { OnOk result (block.new ≡ put_all base.now block.old pairs.items) }
+{
+    for (path, metadata) in pairs {
+        let key = String::from_str(alloc, text_beyond(base, &path))?;
+        block.insert(key, metadata)?;
+    }
+    Ok(())
+}
