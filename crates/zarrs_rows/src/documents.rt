@@ -325,6 +325,52 @@ fn no_proper_beginning_is_json(rt: HostRuntime) {
     assert_reads::<_, NodeMetadata>(&rt, alloc, A3, A3);
 }
 
+#[test]
+fn a_document_is_followed_by_blanks_alone(rt: HostRuntime) {
+    let alloc = rt.alloc();
+    for (given, wanted) in [
+        (r#"{"node_type":"group","zarr_format":3}x"#, "not JSON"),
+        ("{\"node_type\":\"group\",\"zarr_format\":3}\n", G3),
+    ] {
+        assert_reads::<_, GroupMetadataV3>(&rt, alloc, given, wanted);
+    }
+    let not_utf8 = b"{\"attributes\":{\"k\":\"\xff\"},\"node_type\":\"group\",\"zarr_format\":3}";
+    let read = GroupMetadataV3::from_bytes(alloc, not_utf8);
+    assert_says(
+        &rt,
+        alloc,
+        "not UTF-8",
+        read,
+        GroupMetadataV3::to_text,
+        "not JSON",
+    );
+}
+
+// A group with an attribute of so many lists, one in another.
+fn with_lists(alloc: Global, count: usize) -> Result<String, AllocError> {
+    let mut text = String::from_str(alloc, r#"{"attributes":{"k":"#)?;
+    for _list in 0..count {
+        text.push('[')?;
+    }
+    for _list in 0..count {
+        text.push(']')?;
+    }
+    text.push_str(r#"},"node_type":"group","zarr_format":3}"#)?;
+    Ok(text)
+}
+
+#[test]
+fn lists_in_lists_are_read_to_a_depth(rt: HostRuntime) {
+    let alloc = rt.alloc();
+    match (with_lists(alloc, 100), with_lists(alloc, 200)) {
+        (Ok(read), Ok(refused)) => {
+            assert_reads::<_, GroupMetadataV3>(&rt, alloc, &read, &read);
+            assert_reads::<_, GroupMetadataV3>(&rt, alloc, &refused, "not JSON");
+        }
+        _ => assert!(rt; false, "no memory"),
+    }
+}
+
 // ---- groups
 
 #[test]

@@ -13,14 +13,13 @@ use zarrs_block::{ConsolidatedMetadata, ConsolidatedMetadataMetadata};
 use zarrs_config::{Config, UseConsolidatedMetadata};
 use zarrs_group::{Group, GroupCreateError};
 use zarrs_meta::{GroupMetadata, GroupMetadataV2, GroupMetadataV3, NodeMetadata};
-use zarrs_node::Node;
 use zarrs_path::NodePath;
 use zarrs_store::{MemoryStore, MetadataFault, StorageError};
 
 // ---- groups with blocks
 
-// The fault of a document as a refusal.
-fn refused(alloc: Global, fault: MetadataFault) -> GroupCreateError {
+/// The fault of a document as a refusal.
+pub(crate) fn refused(alloc: Global, fault: MetadataFault) -> GroupCreateError {
     match format!(in alloc; "{fault}") {
         Ok(text) => GroupCreateError::StorageError(StorageError::Other(text)),
         Err(_) => GroupCreateError::OutOfMemory,
@@ -140,7 +139,8 @@ fn group_with(
 
 // ---- answers as texts
 
-fn paths_text(paths: &Vec<NodePath>, alloc: Global) -> Result<String, AllocError> {
+/// The paths, one a line.
+pub(crate) fn paths_text(paths: &Vec<NodePath>, alloc: Global) -> Result<String, AllocError> {
     let mut text = String::new(alloc);
     for path in paths {
         write!(text, "{path}\n")?;
@@ -148,7 +148,8 @@ fn paths_text(paths: &Vec<NodePath>, alloc: Global) -> Result<String, AllocError
     Ok(text)
 }
 
-fn groups_text(groups: &Vec<Group>, alloc: Global) -> Result<String, AllocError> {
+/// The groups, one a line.
+pub(crate) fn groups_text(groups: &Vec<Group>, alloc: Global) -> Result<String, AllocError> {
     let mut text = String::new(alloc);
     for group in groups {
         let line = group.to_text(alloc)?;
@@ -459,21 +460,22 @@ fn a_block_that_was_set_need_not_be_understood(rt: HostRuntime) -> Result<(), Fa
 
 // ---- by a block
 
-// The block of a group of three levels.
-const LEVELS: [(&str, &str); 3] = [
+/// The block of a group of three levels.
+pub(crate) const LEVELS: [(&str, &str); 3] = [
     ("array", A3_SQUARE),
     ("subgroup", G3),
     ("subgroup/mysubarray", A3_SQUARE),
 ];
 
-const LEVELS_TREES: &str =
+/// The trees of that block.
+pub(crate) const LEVELS_TREES: &str =
     "/group/array [10, 10] float32\n/group/subgroup\n  mysubarray [10, 10] float32\n";
 
 const LEVELS_ALL: &str =
     "/group/array array\n/group/subgroup group\n/group/subgroup/mysubarray array\n";
 
-// The group of three levels with its block.
-fn levels(alloc: Global) -> Result<Group, GroupCreateError> {
+/// The group of three levels with its block.
+pub(crate) fn levels(alloc: Global) -> Result<Group, GroupCreateError> {
     group_with(alloc, "/group", &LEVELS)
 }
 
@@ -827,16 +829,7 @@ fn the_groups_among_the_children(rt: HostRuntime) -> Result<(), Fail> {
     is_same(found.as_str(), wanted.as_str())
 }
 
-// ---- without memory: with each allocation refused in turn an answer is whole, or it lacks memory and the test ends so
-
-// Asks whether a text is this one. Want of memory is handed on as such.
-fn is_whole(found: &str, whole: &str) -> Result<(), Fail> {
-    if found == "out of memory" {
-        Err(Fail::from(AllocError))
-    } else {
-        is_same(found, whole)
-    }
-}
+// ---- with each allocation refused in turn a block is set, or memory is wanting and the group stays
 
 // A group after a block was set; where that was refused, the refusal and the group.
 fn set_text(set: &Set, alloc: Global) -> Result<String, AllocError> {
@@ -859,67 +852,14 @@ const NOT_SET: &str =
     r#"memory allocation failed: group at /group with metadata {"node_type":"group","zarr_format":3}"#;
 
 #[test]
-fn a_block_is_set_or_memory_is_wanting_and_the_group_stays(rt: HostRuntime) -> Result<(), Fail> {
+fn memory_fails_in_setting_a_block(rt: HostRuntime) -> Result<(), Fail> {
     let alloc = rt.alloc();
     let wanted = levels_text(alloc)?;
     let set = set_in(alloc, group_of(alloc, "/group", G3), &LEVELS);
     let found = said(alloc, set, set_text)?;
-    if found.as_str() == NOT_SET {
+    if found.as_str() == NOT_SET || found.as_str() == "out of memory" {
         Err(Fail::from(AllocError))
     } else {
-        is_whole(found.as_str(), wanted.as_str())
+        is_same(found.as_str(), wanted.as_str())
     }
-}
-
-#[test]
-fn the_children_of_a_block_are_whole_or_memory_is_wanting(rt: HostRuntime) -> Result<(), Fail> {
-    let alloc = rt.alloc();
-    let found = over(
-        alloc,
-        &[],
-        levels(alloc),
-        |group: &Group, alloc, store: &MemoryStore| {
-            children_text(group, alloc, store, UseConsolidatedMetadata::Must, true)
-        },
-    )?;
-    is_whole(found.as_str(), LEVELS_TREES)
-}
-
-#[test]
-fn the_traversal_of_a_block_is_whole_or_memory_is_wanting(rt: HostRuntime) -> Result<(), Fail> {
-    let alloc = rt.alloc();
-    let found = over(
-        alloc,
-        &[],
-        levels(alloc),
-        |group: &Group, alloc, store: &MemoryStore| {
-            traversed_text(group, alloc, store, UseConsolidatedMetadata::Must)
-        },
-    )?;
-    is_whole(found.as_str(), LEVELS_ALL)
-}
-
-// The tree of the node that is opened at the path of a stored group, where its block has to be used.
-fn opened_node(group: &Group, alloc: Global) -> Result<String, AllocError> {
-    let path = group.path().as_str();
-    stored(
-        group,
-        alloc,
-        |store: &MemoryStore| node_text(alloc, store, path),
-    )
-}
-
-// The tree of the node at a path of a store, where its block has to be used.
-fn node_text(alloc: Global, store: &MemoryStore, path: &str) -> Result<String, AllocError> {
-    let config = config_of(UseConsolidatedMetadata::Must);
-    let node = Node::open(&Discard, alloc, store, path, &config);
-    said(alloc, node, Node::hierarchy_tree)
-}
-
-#[test]
-fn a_node_is_opened_by_its_block_or_memory_is_wanting(rt: HostRuntime) -> Result<(), Fail> {
-    let alloc = rt.alloc();
-    let found = said(alloc, levels(alloc), opened_node)?;
-    let wanted = "/\n  array [10, 10] float32\n  subgroup\n    mysubarray [10, 10] float32\n";
-    is_whole(found.as_str(), wanted)
 }

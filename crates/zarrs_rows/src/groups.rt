@@ -369,6 +369,10 @@ fn fields_and_attributes_are_opened(rt: HostRuntime) -> Result<(), Fail> {
             r#""attributes":{"n":1.5}"#,
             Says::Fault("g/zarr.json: unsupported number"),
         ),
+        (
+            r#""consolidated_metadata":{"kind":"inline","metadata":{"a":{"attributes":{"n":1.5},"node_type":"group","zarr_format":3}}}"#,
+            Says::Fault("g/zarr.json: unsupported number"),
+        ),
         (r#""consolidated_metadata":null"#, Says::Group(G3)),
         (
             r#""consolidated_metadata":{"kind":"inline","metadata":{}}"#,
@@ -420,19 +424,20 @@ fn the_least_field_that_must_be_understood_is_named(rt: HostRuntime) -> Result<(
 
 // ---- storing and erasing
 
-// A call on a group that changes a store.
+/// A call on a group that changes a store.
 #[derive(Clone, Copy, Drop)]
-enum Step {
+pub(crate) enum Step {
     Store,
     StoreAs(MetadataConvertVersion),
     Erase,
     EraseAs(MetadataEraseVersion),
 }
 
-fn done(
+/// What a call on a group answers that changes a store.
+pub(crate) fn done<S: WritableStorageTraits>(
     alloc: Global,
     group: &Group,
-    store: &mut MemoryStore,
+    store: &mut S,
     step: Step,
 ) -> Result<(), StorageError> {
     match step {
@@ -906,76 +911,4 @@ fn the_laws_are_called(rt: HostRuntime) -> Result<(), Fail> {
     let metadata = metadata_of(alloc, (3, K, "{}"))?;
     laws::stored_means(alloc, &path, &metadata)?;
     Ok(())
-}
-
-// ---- want of memory
-
-fn old_group(alloc: Global) -> Option<Group> {
-    let document = r#"{"attributes":{"k":1},"zarr_format":2}"#;
-    let metadata = GroupMetadataV2::from_bytes(alloc, document.as_bytes()).ok()?;
-    Group::new_with_metadata(alloc, "/g", GroupMetadata::V2(metadata), &Config::new()).ok()
-}
-
-// What a step says: that it was done, that memory was refused, or something else.
-#[derive(Clone, Copy, Drop)]
-enum Outcome {
-    Done,
-    LacksMemory,
-    Other,
-}
-
-fn what_came(answer: Result<(), StorageError>) -> Outcome {
-    match answer {
-        Ok(()) => Outcome::Done,
-        Err(StorageError::OutOfMemory) => Outcome::LacksMemory,
-        Err(_) => Outcome::Other,
-    }
-}
-
-fn outcome_of(alloc: Global, store: &mut MemoryStore, step: Step) -> Option<Outcome> {
-    let group = old_group(alloc)?;
-    Some(what_came(done(alloc, &group, store, step)))
-}
-
-// Whether a step of two changes has done both where it succeeds, and where memory was refused none or the first. Nothing
-// is answered where memory was refused before the step, or for a look at what it did.
-fn is_kept(alloc: Global, step: Step, first: &str, both: &str) -> Option<bool> {
-    let mut store = filled(alloc, ["j", "g", "a", "x"])?;
-    let outcome = outcome_of(alloc, &mut store, step)?;
-    let found = seen(alloc, &store)?;
-    match outcome {
-        Outcome::Done => Some(found.as_str() == both),
-        Outcome::LacksMemory => Some(found.as_str() == "j.g.a.x." || found.as_str() == first),
-        Outcome::Other => Some(false),
-    }
-}
-
-#[test]
-fn want_of_memory_leaves_a_first_part_of_the_changes(rt: HostRuntime) {
-    let alloc = rt.alloc();
-    assert!(rt; is_kept(alloc, Step::Store, "j.g.k.x.", "j.two.k.x.") != Some(false));
-    assert!(rt; is_kept(alloc, Step::Erase, "j.-.a.x.", "j.-.-.x.") != Some(false));
-}
-
-// Whether a group was opened with one attribute, or memory was refused.
-fn is_opened(answer: Result<Group, GroupCreateError>) -> bool {
-    match answer {
-        Ok(group) => group.attributes().as_map().len() == 1,
-        Err(GroupCreateError::OutOfMemory) => true,
-        Err(GroupCreateError::StorageError(error)) => matches!(error, StorageError::OutOfMemory),
-        Err(GroupCreateError::NodePathError(error)) => matches!(error, NodePathError::OutOfMemory),
-        Err(_) => false,
-    }
-}
-
-fn opens(alloc: Global, texts: [&str; 4]) -> Option<bool> {
-    let store = filled(alloc, texts)?;
-    Some(is_opened(Group::open(alloc, &store, "/g", &Config::new())))
-}
-
-#[test]
-fn want_of_memory_is_told_by_opening(rt: HostRuntime) {
-    let alloc = rt.alloc();
-    assert!(rt; opens(alloc, [THREE_K, "", "", ""]) != Some(false));
-    assert!(rt; opens(alloc, ["", G2, K, ""]) != Some(false));
 }

@@ -13,6 +13,8 @@ mod conversion_tables;
 #[cfg(test)]
 mod documents;
 #[cfg(test)]
+mod failing;
+#[cfg(test)]
 mod fixtures;
 #[cfg(test)]
 mod forms;
@@ -32,5 +34,7 @@ mod nodes;
 mod opening;
 #[cfg(test)]
 mod parts;
+#[cfg(test)]
+mod refreshing;
 #[cfg(test)]
 mod text;

@@ -288,6 +288,23 @@ fn a_group_without_a_block_is_refused_where_one_is_demanded(rt: HostRuntime) {
     assert_opened(&rt, rt.alloc(), &documents, "/", policy, listed);
 }
 
+// A group whose block has a number that is no whole one.
+const BAD_NUMBER: &str =
+    r#"{"consolidated_metadata":{"kind":"inline","metadata":{"a":{"attributes":{"n":1.5},"node_type":"group","zarr_format":3}}},"node_type":"group","zarr_format":3}"#;
+
+#[test]
+fn a_bad_number_in_a_block_refuses_the_document(rt: HostRuntime) {
+    let refused = "error parsing metadata for zarr.json: unsupported number";
+    for policy in [
+        UseConsolidatedMetadata::Auto,
+        UseConsolidatedMetadata::Must,
+        UseConsolidatedMetadata::Never,
+    ] {
+        let documents = [("zarr.json", BAD_NUMBER)];
+        assert_opened(&rt, rt.alloc(), &documents, "/", policy, refused);
+    }
+}
+
 // The block of a group of three levels.
 const TWO_LEVELS: [(&str, &str); 3] = [
     ("array", A3_SQUARE),
