@@ -1,4 +1,6 @@
 pub mod Blocks
+pub mod Folders
+pub mod FoundFiles
 pub mod Lines
 pub mod Loads
 pub mod Members

@@ -48,6 +48,18 @@ command_words command = word_text command.word ∷ command.path.now ∷ []
 abbrev pub IsCommand : List (List ℕ) → Type 0
 IsCommand words = (word : Word) × (path : List ℕ) × (words ≡ word_text word ∷ path ∷ [])
 
+-- the words are `folder`, the folder, and `tree PATH`
+abbrev pub IsFolderWords : List (List ℕ) → List ℕ → List (List ℕ) → Type 0
+IsFolderWords words folder tree = (path : List ℕ) × (tree ≡ word_text Tree ∷ path ∷ []) × (words ≡ codes "folder" ∷ folder ∷ tree)
+
+-- the words are `folder DIR tree PATH`
+abbrev pub IsFolderCommand : List (List ℕ) → Type 0
+IsFolderCommand words = (folder : List ℕ) × (tree : List (List ℕ)) × IsFolderWords words folder tree
+
+-- the words are no command, neither over an image nor over a folder
+abbrev pub IsNoCommand : List (List ℕ) → Type 0
+IsNoCommand words = (IsCommand words → ⊥) × (IsFolderCommand words → ⊥)
+
 -- the paths of the nodes, one a line
 abbrev pub path_lines : List (Path × NodeMetadata) → List ℕ
 path_lines nodes = flat_map (λ n. path_text n.0 ++ 10 ∷ []) nodes

@@ -18,7 +18,7 @@ use Rattle.zarrs_node.specs.Opened.{RefusesOpening}
 use Rattle.zarrs_tool.specs.Image.{IsLoaded, RefusedImage}
 use Rattle.zarrs_tool.specs.Output.{IsCommand, IsOutput, word_text}
 use Rattle.zarrs_tool.specs.declared.fault.ToolFault.{ToolFault}
-use Rattle.zarrs_tool.specs.declared.fault.ToolFault.TheVariants.{Usage, NotAGroup, Node, Write, OutOfMemory}
+use Rattle.zarrs_tool.specs.declared.fault.ToolFault.TheVariants.{Usage, Folder, NotAGroup, Node, Write, OutOfMemory}
 use Rattle.zarrs_tool.specs.declared.run.Word.{Word}
 use Rattle.zarrs_tool.specs.declared.run.Word.TheVariants.{Children, List as ListAll, Tree, Consolidate}
 
@@ -114,6 +114,12 @@ RefusedRun words before after (Node e) = RefusedAfterLoad words before after (No
 RefusedRun words before after NotAGroup = RefusedAfterLoad words before after NotAGroup
 RefusedRun words before after Write = RefusedAfterLoad words before after Write
 RefusedRun words before after fault = RefusedImage before after fault
+
+-- the folder makes no store, or memory was wanting, or the words are refused over a store
+abbrev pub RefusedFolder : List (List ℕ) → ToolFault → Type 0
+RefusedFolder words Folder = ⊤
+RefusedFolder words OutOfMemory = ⊤
+RefusedFolder words fault = (store : Contents) × IsRefusal false words store fault
 
 -- the exit status: 0 where all went well, 2 for wrong words, else 1
 abbrev pub status_of : Result Unit ToolFault → ℕ

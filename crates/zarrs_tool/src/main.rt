@@ -1,13 +1,17 @@
-//! Reads a store from an image on standard input, and writes what a command asks of it.
+//! Reads a store from an image on standard input or from a folder, and writes what a command asks of it.
 #![tactic(auto)]
 
-ghost use Rattle.std.specs.Prelude.{◌≡◌, ◌↔◌};
+ghost use Rattle.std.specs.Prelude.{◌≡◌, ◌≢◌, ◌↔◌, IfErr, OnOk, IfSome, IfNone};
 ghost use Rattle.std.specs.Io.KnownBytes.{Keeps};
 ghost use Rattle.zarrs_store.specs.Contents.{Contents};
 ghost use Rattle.zarrs_tool.specs.Image.{IsLoaded};
-ghost use Rattle.zarrs_tool.specs.Output.{IsCommand, WritesOutput, texts};
+ghost use Rattle.zarrs_tool.specs.Output.{IsCommand, IsFolderCommand, IsFolderWords, IsNoCommand, WritesOutput, texts};
+ghost use Rattle.zarrs_tool.specs.Refused.{RefusedFolder};
 
 mod fault;
+mod folder;
+#[cfg(test)]
+mod folder_tests;
 mod image;
 mod printed;
 mod read;
@@ -16,22 +20,23 @@ mod run;
 mod tests;
 
 use crate::fault::ToolFault;
-use crate::run::{finish, run_image};
+use crate::folder::load_folder;
+use crate::run::{finish, run_image, run_store};
 use log::sink::Console;
 use log::{Level, Log, Logged};
 use std::alloc::Global;
 use std::env::Env;
 use std::io::{ErrorKind, Read, Write};
 use std::process::ExitCode;
+use std::rt::Files;
 use std::{env, io};
 
 fn main(rt: HostRuntime) -> ExitCode {
     let log = Logged::new(&rt, Level::Warn, Console(&rt));
     let mut errors = rt.stderr();
     let status = match words(&rt) {
-        Ok(words) => respond(
+        Ok(words) => answer(
             &log,
-            rt.alloc(),
             &words,
             &mut rt.reader(),
             &mut io::writer(&rt),
@@ -40,6 +45,74 @@ fn main(rt: HostRuntime) -> ExitCode {
         Err(fault) => finish(&Err(fault), &mut errors),
     };
     ExitCode::from(status)
+}
+
+// Runs a command over a folder or over an image, and gives the exit status.
+fn answer<R: Log + Files + AllocGlobal, I: Read, W: Write, E: Write>(
+    rt: &R,
+    words: &[String],
+    reader: &mut I,
+    output: &mut W,
+    errors: &mut E,
+) -> u8
+    ensures usage { (result ≡ 2) ↔ IsNoCommand (texts words.now) }
+    ensures silent { result ≡ 0 → Keeps (E.contents errors.old) (E.contents errors.new) }
+{
+    match folder_words(words) {
+        Some((folder, words)) => respond_folder(rt, folder, words, output, errors),
+        None => respond(rt, rt.alloc(), words, reader, output, errors),
+    }
+}
+
+// The folder and the words `tree PATH`, where the words are `folder DIR tree PATH`.
+fn folder_words(words: &[String]) -> Option<(&str, &[String])>
+    ensures some { IfSome result (λ found. IsFolderWords (texts words.now) found.0.now (texts found.1.now)) }
+    ensures none { IfNone result (IsFolderCommand (texts words.now) → ⊥) }
+{
+    let [word, folder, tree, _path] = words else {
+        return None;
+    };
+    if word.as_str() != "folder" {
+        return None;
+    }
+    if tree.as_str() != "tree" {
+        return None;
+    }
+    Some((folder.as_str(), &words[2..]))
+}
+
+// Runs a command over the store of a folder, and gives the exit status. No fault leaves it.
+fn respond_folder<R: Log + Files + AllocGlobal, W: Write, E: Write>(
+    rt: &R,
+    folder: &str,
+    words: &[String],
+    output: &mut W,
+    errors: &mut E,
+) -> u8
+    ensures ok { result ≡ 0 → (store : Contents)
+        × WritesOutput (texts words.now) store (W.contents output.old) (W.contents output.new) }
+    ensures usage { result ≡ 2 → IsCommand (texts words.now) → ⊥ }
+    ensures silent { result ≡ 0 → Keeps (E.contents errors.old) (E.contents errors.new) }
+{
+    let shown = run_folder(rt, folder, words, output);
+    finish(&shown, errors)
+}
+
+// Loads the store of a folder, and writes what the words ask of it.
+fn run_folder<R: Log + Files + AllocGlobal, W: Write>(
+    rt: &R,
+    folder: &str,
+    words: &[String],
+    output: &mut W,
+) -> Result<(), ToolFault>
+    ensures ok { OnOk result ((store : Contents)
+        × WritesOutput (texts words.now) store (W.contents output.old) (W.contents output.new)) }
+    ensures refused { IfErr result (RefusedFolder (texts words.now)) }
+    ensures silent { IfErr result (λ fault. fault ≢ ToolFault.Write
+        → Keeps (W.contents output.old) (W.contents output.new)) }
+{
+    let store = load_folder(rt, folder)?;
+    run_store(rt, rt.alloc(), words, &store, output)
 }
 
 // Runs a command, and gives the exit status. No fault leaves it, so that `main` holds none.

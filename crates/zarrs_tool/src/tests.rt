@@ -20,7 +20,7 @@ const BLOCK_OF_A: &str =
 const EMPTY_BLOCK: &str =
     "{\n  \"kind\": \"inline\",\n  \"metadata\": {},\n  \"must_understand\": false\n}\n";
 
-const GROUP: &str = r#"{"node_type":"group","zarr_format":3}"#;
+pub(crate) const GROUP: &str = r#"{"node_type":"group","zarr_format":3}"#;
 
 const SQUARE: &str =
     r#"{"chunk_grid":{"configuration":{"chunk_shape":[10,10]},"name":"regular"},"chunk_key_encoding":{"configuration":{"separator":"/"},"name":"default"},"codecs":[{"configuration":{"endian":"little"},"name":"bytes"}],"data_type":"float32","fill_value":0,"node_type":"array","shape":[10,10],"zarr_format":3}"#;
@@ -29,7 +29,7 @@ const SQUARE: &str =
 const GROUP_WITH_BLOCK: &str =
     r#"{"consolidated_metadata":{"kind":"inline","metadata":{"q/r":{"node_type":"group","zarr_format":3}},"must_understand":false},"node_type":"group","zarr_format":3}"#;
 
-const USAGE: &str =
+pub(crate) const USAGE: &str =
     "usage: zarrs_tool (children|list|tree|consolidate) PATH | folder DIR tree PATH\n";
 
 // A reader of one byte a read, which fails at one of them.
@@ -83,7 +83,7 @@ impl Write for Unflushed {
     }
 }
 
-fn words(alloc: Global, texts: &[&str]) -> Result<Vec<String>, AllocError> {
+pub(crate) fn words(alloc: Global, texts: &[&str]) -> Result<Vec<String>, AllocError> {
     let mut words = Vec::new(alloc);
     for text in texts {
         words.push(String::from_str(alloc, text)?)?;

@@ -1,0 +1,81 @@
+-- From a folder's refusal, and from that of a run over its store, to the run's; the words of a folder's command.
+use Rattle.std.proofs.Common.{◌≡◌, ℕ, ◌-◌, ◌<◌, ◌≤◌, Bool, true, false, not, true≢false, List, [], ◌∷◌, length, get_or, take, drop, Option, String, Global, string_bytes, codes, sym, subst, ap, refl, ◌∙◌, arith}
+use Rattle.std.specs.Prelude.{Result, Ok, Err, IfErr, OnOk}
+use Rattle.std.specs.Str.{bytes_eq}
+use Rattle.std.proofs.lemmas.Slice.Eq.{bytes_eq-Decides}
+use Rattle.zarrs_store.specs.Contents.{Contents}
+use Rattle.zarrs_tool.specs.Folder.{IsFolderFault}
+use Rattle.zarrs_tool.specs.Output.{IsCommand, IsFolderWords, WritesOutput, texts}
+use Rattle.zarrs_tool.specs.Refused.{IsRefusal, RefusedFolder}
+use Rattle.zarrs_tool.specs.declared.fault.ToolFault.{ToolFault}
+use Rattle.zarrs_tool.specs.declared.fault.ToolFault.TheVariants.{Usage, Read, ReadTooLong, Image, ImageKey, ImageValue, Folder, NotAGroup, Node, Write, OutOfMemory}
+
+-- a folder's fault refuses the run
+folder_fault : (words : List (List ℕ)) (fault : ToolFault) → IsFolderFault fault → RefusedFolder words fault
+folder_fault words Folder refused = tt
+folder_fault words OutOfMemory refused = tt
+folder_fault words Usage refused = absurd refused
+folder_fault words Read refused = absurd refused
+folder_fault words ReadTooLong refused = absurd refused
+folder_fault words Image refused = absurd refused
+folder_fault words (ImageKey name) refused = absurd refused
+folder_fault words (ImageValue name) refused = absurd refused
+folder_fault words NotAGroup refused = absurd refused
+folder_fault words (Node e) refused = absurd refused
+folder_fault words Write refused = absurd refused
+
+pub folder_fault_result : {T : Type 0} (words : List (List ℕ)) (r : Result T ToolFault) (fault : ToolFault) → r ≡ Err fault → IsFolderFault fault → IfErr r (RefusedFolder words)
+folder_fault_result words r fault is refused = subst (λ x. IfErr x (RefusedFolder words)) (sym is) (folder_fault words fault refused)
+
+-- what refuses the words over the folder's store refuses the run
+store_fault : (words : List (List ℕ)) (store : Contents) (fault : ToolFault) → IsRefusal false words store fault → RefusedFolder words fault
+store_fault words store Folder refused = tt
+store_fault words store OutOfMemory refused = tt
+store_fault words store Usage refused = (store, refused)
+store_fault words store Read refused = (store, refused)
+store_fault words store ReadTooLong refused = (store, refused)
+store_fault words store Image refused = (store, refused)
+store_fault words store (ImageKey name) refused = (store, refused)
+store_fault words store (ImageValue name) refused = (store, refused)
+store_fault words store NotAGroup refused = (store, refused)
+store_fault words store (Node e) refused = (store, refused)
+store_fault words store Write refused = (store, refused)
+
+pub store_fault_result : {T : Type 0} (words : List (List ℕ)) (store : Contents) (r : Result T ToolFault) → IfErr r (IsRefusal false words store) → IfErr r (RefusedFolder words)
+store_fault_result words store (Ok x) refused = tt
+store_fault_result words store (Err fault) refused = store_fault words store fault refused
+
+-- what the words wrote about the folder's store, the run wrote
+pub written_folder : {E : Type 0} (words : List (List ℕ)) (store : Contents) (old new : Option (List ℕ)) (r : Result (Unit {0}) E)
+    → OnOk r (WritesOutput words store old new) → OnOk r ((s : Contents) × WritesOutput words s old new)
+written_folder words store old new (Ok done) writes = (store, writes)
+written_folder words store old new (Err e) writes = tt
+
+-- a run that is refused for its words has none that are a command
+pub not_words : {T : Type 0} (words : List (List ℕ)) (r : Result T ToolFault) → r ≡ Err Usage → IfErr r (RefusedFolder words) → IsCommand words → ⊥
+not_words words r is refused =
+    let said : RefusedFolder words Usage = subst (λ x. IfErr x (RefusedFolder words)) is refused in said.1
+
+-- texts that are not told to differ are one
+truth : (b : Bool) → false ≡ not b → b ≡ true
+truth true e = refl
+truth false e = absurd (true≢false (sym e))
+
+pub not_differing : (t s : List ℕ) → false ≡ not (bytes_eq t s) → t ≡ s
+not_differing t s e = (bytes_eq-Decides t s).0 (truth (bytes_eq t s) e)
+
+-- four words of which the first and the third are those of a folder's command
+pub four_words : (ws : List (String Global)) (a b t p : String Global) → 4 ≤ length ws → length ws < 5
+    → a ≡ get_or ws 0 a → b ≡ get_or ws 1 b → t ≡ get_or ws 2 t → p ≡ get_or ws 3 p → string_bytes a ≡ codes "folder" → string_bytes t ≡ codes "tree"
+    → IsFolderWords (texts ws) (string_bytes b) (texts (take (length ws - 2) (drop 2 ws)))
+four_words [] a b t p low high e0 e1 e2 e3 word tree = absurd (omega arith)
+four_words (x ∷ []) a b t p low high e0 e1 e2 e3 word tree = absurd (omega arith)
+four_words (x ∷ y ∷ []) a b t p low high e0 e1 e2 e3 word tree = absurd (omega arith)
+four_words (x ∷ y ∷ z ∷ []) a b t p low high e0 e1 e2 e3 word tree = absurd (omega arith)
+four_words (x ∷ y ∷ z ∷ w ∷ []) a b t p low high e0 e1 e2 e3 word tree =
+    let rest : List (List ℕ) = string_bytes z ∷ string_bytes w ∷ [] in (
+      string_bytes w,
+      ap (λ s. s ∷ string_bytes w ∷ []) (sym (ap (λ v. string_bytes v) e2) ∙ tree),
+      ap (λ s. s ∷ string_bytes y ∷ rest) (sym (ap (λ v. string_bytes v) e0) ∙ word) ∙ ap (λ s. codes "folder" ∷ s ∷ rest) (sym (ap (λ v. string_bytes v) e1)),
+    )
+four_words (x ∷ y ∷ z ∷ w ∷ v ∷ ws) a b t p low high e0 e1 e2 e3 word tree = absurd (omega arith)
