@@ -1,3 +1,5 @@
+// A test holds a store over one `?` at most, and asks the rest of calls that are lent it: each `?` drops all that is held, and a
+// drop of a store is long to prove.
 use crate::children::discover_children;
 use crate::fault::{MemberName, MetadataFault};
 use crate::fault_store::{FaultAt, FaultStore};
@@ -5,9 +7,52 @@ use crate::key::{StoreKey, StoreKeyError};
 use crate::memory_store::MemoryStore;
 use crate::prefix::{StorePrefix, StorePrefixError};
 use crate::storage_error::StorageError;
-use crate::store::{ListableStorageTraits, ReadableStorageTraits, WritableStorageTraits};
-use std::alloc::Global;
+use crate::store::{
+    ListableStorageTraits, ReadableStorageTraits, StoreKeysPrefixes, WritableStorageTraits,
+};
+use std::alloc::{AllocError, Global};
+use std::fmt::Display;
 use std::test::Fail;
+
+// ---- what is asked
+
+// Asks that a text is the wanted one.
+fn is_same(of: &str, found: &str, wanted: &str) -> Result<(), Fail> {
+    if found == wanted {
+        Ok(())
+    } else {
+        Err(Fail::new(format_args!("{of}: found {found} in place of {wanted}")))
+    }
+}
+
+// Asks that an answer is the wanted one.
+fn is_answer(of: &str, found: bool, wanted: bool) -> Result<(), Fail> {
+    if found == wanted {
+        Ok(())
+    } else {
+        Err(Fail::new(format_args!("{of}: found {found} in place of {wanted}")))
+    }
+}
+
+// Asks that a value is shown by this text.
+fn shows<D: Display + Drop>(alloc: Global, shown: D, wanted: &str) -> Result<(), Fail> {
+    let text = shown.to_string(alloc)?;
+    is_same("shown", text.as_str(), wanted)
+}
+
+// Asks that a call is refused by an error with this text.
+fn is_refused<T: Drop, E: Display + Drop>(
+    alloc: Global,
+    answer: Result<T, E>,
+    wanted: &str,
+) -> Result<(), Fail> {
+    match answer {
+        Ok(_) => Err(Fail::new(format_args!("nothing is refused in place of {wanted}"))),
+        Err(error) => shows(alloc, error, wanted),
+    }
+}
+
+// ---- keys, prefixes and stores of texts
 
 fn key(alloc: Global, text: &str) -> Result<StoreKey, Fail> {
     Ok(StoreKey::new(alloc, text)?)
@@ -17,10 +62,31 @@ fn prefix(alloc: Global, text: &str) -> Result<StorePrefix, Fail> {
     Ok(StorePrefix::new(alloc, text)?)
 }
 
+fn set<S: WritableStorageTraits>(
+    alloc: Global,
+    store: &mut S,
+    at: &str,
+    bytes: &[u8],
+) -> Result<(), Fail> {
+    let key = key(alloc, at)?;
+    Ok(store.set(&key, bytes)?)
+}
+
+fn erase<S: WritableStorageTraits>(alloc: Global, store: &mut S, at: &str) -> Result<(), Fail> {
+    let key = key(alloc, at)?;
+    Ok(store.erase(&key)?)
+}
+
+fn insert(alloc: Global, store: &mut MemoryStore, at: &str, bytes: &[u8]) -> Result<(), Fail> {
+    let bytes = Vec::from_slice(alloc, bytes)?;
+    let key = key(alloc, at)?;
+    Ok(store.insert(key, bytes)?)
+}
+
 fn store_of(alloc: Global, keys: &[&str]) -> Result<MemoryStore, Fail> {
     let mut store = MemoryStore::new(alloc);
     for text in keys {
-        store.set(&key(alloc, text)?, b"x")?;
+        set(alloc, &mut store, text, b"x")?;
     }
     Ok(store)
 }
@@ -45,8 +111,133 @@ fn texts_of_prefixes(alloc: Global, prefixes: &[StorePrefix]) -> Result<String, 
     Ok(texts)
 }
 
+// ---- what a store holds
+
+// Asks that these are the keys.
+fn are_keys(alloc: Global, of: &str, keys: &[StoreKey], wanted: &str) -> Result<(), Fail> {
+    let texts = texts_of_keys(alloc, keys)?;
+    is_same(of, texts.as_str(), wanted)
+}
+
+// Asks that these are the prefixes.
+fn are_prefixes(
+    alloc: Global,
+    of: &str,
+    prefixes: &[StorePrefix],
+    wanted: &str,
+) -> Result<(), Fail> {
+    let texts = texts_of_prefixes(alloc, prefixes)?;
+    is_same(of, texts.as_str(), wanted)
+}
+
+// Asks that a store lists these keys.
+fn lists<S: ListableStorageTraits>(alloc: Global, store: &S, wanted: &str) -> Result<(), Fail> {
+    let keys = store.list(alloc)?;
+    are_keys(alloc, "all keys", keys.as_slice(), wanted)
+}
+
+// The keys that a store lists below a prefix.
+fn keys_below<S: ListableStorageTraits>(
+    alloc: Global,
+    store: &S,
+    below: &str,
+) -> Result<Vec<StoreKey>, Fail> {
+    let prefix = prefix(alloc, below)?;
+    Ok(store.list_prefix(alloc, &prefix)?)
+}
+
+// Asks that a store lists these keys below a prefix.
+fn lists_below<S: ListableStorageTraits>(
+    alloc: Global,
+    store: &S,
+    below: &str,
+    wanted: &str,
+) -> Result<(), Fail> {
+    let keys = keys_below(alloc, store, below)?;
+    are_keys(alloc, below, keys.as_slice(), wanted)
+}
+
+// What a store lists directly below a prefix.
+fn directly_below<S: ListableStorageTraits>(
+    alloc: Global,
+    store: &S,
+    below: &str,
+) -> Result<StoreKeysPrefixes, Fail> {
+    let prefix = prefix(alloc, below)?;
+    Ok(store.list_dir(alloc, &prefix)?)
+}
+
+// Asks that these keys and these prefixes are listed.
+fn are_children(
+    alloc: Global,
+    below: &str,
+    dir: &StoreKeysPrefixes,
+    wanted: (&str, &str),
+) -> Result<(), Fail> {
+    are_keys(alloc, below, dir.keys.as_slice(), wanted.0)?;
+    are_prefixes(alloc, below, dir.prefixes.as_slice(), wanted.1)
+}
+
+// Asks that a store lists these keys and these prefixes directly below a prefix.
+fn has_children<S: ListableStorageTraits>(
+    alloc: Global,
+    store: &S,
+    below: &str,
+    wanted: (&str, &str),
+) -> Result<(), Fail> {
+    let dir = directly_below(alloc, store, below)?;
+    are_children(alloc, below, &dir, wanted)
+}
+
+// The bytes that a store has at a key.
+fn bytes_at<S: ReadableStorageTraits>(
+    alloc: Global,
+    store: &S,
+    at: &str,
+) -> Result<Option<Vec<u8>>, Fail> {
+    let key = key(alloc, at)?;
+    Ok(store.get(alloc, &key)?)
+}
+
+// The bytes as a text, or `nothing`.
+fn text_of(alloc: Global, found: &Option<Vec<u8>>) -> Result<String, AllocError> {
+    match found {
+        Some(bytes) => String::from_utf8_lossy(alloc, bytes.as_slice()),
+        None => String::from_str(alloc, "nothing"),
+    }
+}
+
+// Asks that these bytes are found, or `nothing`.
+fn are_bytes(alloc: Global, at: &str, found: &Option<Vec<u8>>, wanted: &str) -> Result<(), Fail> {
+    let text = text_of(alloc, found)?;
+    is_same(at, text.as_str(), wanted)
+}
+
+// Asks that a store has these bytes at a key, or `nothing` there.
+fn has_bytes<S: ReadableStorageTraits>(
+    alloc: Global,
+    store: &S,
+    at: &str,
+    wanted: &str,
+) -> Result<(), Fail> {
+    let found = bytes_at(alloc, store, at)?;
+    are_bytes(alloc, at, &found, wanted)
+}
+
+// ---- keys and prefixes
+
+// Asks whether a text is told to be a key, and whether a prefix, by the test and by the call that makes one.
+fn is_told(alloc: Global, text: &str, is_key: bool, is_prefix: bool) -> Result<(), Fail> {
+    let is_made_key = StoreKey::new(alloc, text).is_ok();
+    let is_made_prefix = StorePrefix::new(alloc, text).is_ok();
+    is_answer(text, StoreKey::validate(text), is_key)?;
+    is_answer(text, StorePrefix::validate(text), is_prefix)?;
+    is_answer(text, is_made_key, is_key)?;
+    is_answer(text, is_made_prefix, is_prefix)
+}
+
 #[test]
-fn tells_texts_of_keys_and_prefixes(rt: HostRuntime) {
+fn tells_texts_of_keys_and_prefixes(rt: HostRuntime) -> Result<(), Fail> {
     let alloc = rt.alloc();
     for (text, is_key, is_prefix) in [
         ("", false, true),
@@ -60,120 +251,152 @@ fn tells_texts_of_keys_and_prefixes(rt: HostRuntime) {
         ("a//", false, false),
         ("../a", true, false),
     ] {
-        assert_eq!(rt; StoreKey::validate(text), is_key, "{text}");
-        assert_eq!(rt; StorePrefix::validate(text), is_prefix, "{text}");
-        assert_eq!(rt; StoreKey::new(alloc, text).is_ok(), is_key, "{text}");
-        assert_eq!(rt; StorePrefix::new(alloc, text).is_ok(), is_prefix, "{text}");
+        is_told(alloc, text, is_key, is_prefix)?;
     }
+    Ok(())
+}
+
+// Asks that a key and its copy have this text, and that the key is shown by it.
+fn key_shows(alloc: Global, key: &StoreKey, wanted: &str) -> Result<(), Fail> {
+    let copy = key.try_clone(alloc)?;
+    is_same("key", key.as_str(), wanted)?;
+    is_same("copy", copy.as_str(), wanted)?;
+    shows(alloc, key, wanted)
+}
+
+// Asks that a prefix and its copy have this text, and that the prefix is shown by it.
+fn prefix_shows(alloc: Global, prefix: &StorePrefix, wanted: &str) -> Result<(), Fail> {
+    let copy = prefix.try_clone(alloc)?;
+    is_same("prefix", prefix.as_str(), wanted)?;
+    is_same("copy", copy.as_str(), wanted)?;
+    shows(alloc, prefix, wanted)
 }
 
 #[test]
 fn keys_and_prefixes_show_their_texts(rt: HostRuntime) -> Result<(), Fail> {
     let alloc = rt.alloc();
     let key = key(alloc, "a/zarr.json")?;
-    assert_eq!(rt; key.as_str(), "a/zarr.json");
-    assert_eq!(rt; key.try_clone(alloc)?.as_str(), "a/zarr.json");
-    assert_eq!(rt; key.to_string(alloc)?.as_str(), "a/zarr.json");
+    key_shows(alloc, &key, "a/zarr.json")?;
     let prefix = prefix(alloc, "a/b/")?;
-    assert_eq!(rt; prefix.as_str(), "a/b/");
-    assert_eq!(rt; prefix.try_clone(alloc)?.as_str(), "a/b/");
-    assert_eq!(rt; prefix.to_string(alloc)?.as_str(), "a/b/");
-    assert_eq!(rt; prefix.into_string().as_str(), "a/b/");
-    Ok(())
+    prefix_shows(alloc, &prefix, "a/b/")?;
+    let text = prefix.into_string();
+    is_same("text of the prefix", text.as_str(), "a/b/")
+}
+
+// Asks whether a value stands before another, and whether they are the same.
+fn compares<T: Ord>(of: &str, a: &T, b: &T, is_less: bool, is_equal: bool) -> Result<(), Fail> {
+    is_answer(of, *a < *b, is_less)?;
+    is_answer(of, *a == *b, is_equal)?;
+    is_answer(of, *a != *b, !is_equal)
+}
+
+// Asks whether a key stands before another; they are the same exactly where their texts are.
+fn keys_compare(alloc: Global, a: &str, b: &str, is_less: bool) -> Result<(), Fail> {
+    let (of, is_equal) = (a, a == b);
+    let a = key(alloc, a)?;
+    let b = key(alloc, b)?;
+    compares(of, &a, &b, is_less, is_equal)
+}
+
+// Asks whether a prefix stands before another; they are the same exactly where their texts are.
+fn prefixes_compare(alloc: Global, a: &str, b: &str, is_less: bool) -> Result<(), Fail> {
+    let (of, is_equal) = (a, a == b);
+    let a = prefix(alloc, a)?;
+    let b = prefix(alloc, b)?;
+    compares(of, &a, &b, is_less, is_equal)
 }
 
 #[test]
 fn keys_and_prefixes_are_ordered_by_the_bytes_of_their_texts(rt: HostRuntime) -> Result<(), Fail> {
     let alloc = rt.alloc();
-    assert!(rt; key(alloc, "a-b/c")? < key(alloc, "a/b")?);
-    assert!(rt; key(alloc, "a/b")? < key(alloc, "a0")?);
-    assert!(rt; key(alloc, "a/b")? == key(alloc, "a/b")?);
-    assert!(rt; key(alloc, "a/b")? != key(alloc, "a/c")?);
-    assert!(rt; prefix(alloc, "")? < prefix(alloc, "a-b/")?);
-    assert!(rt; prefix(alloc, "a-b/")? < prefix(alloc, "a/")?);
-    assert!(rt; prefix(alloc, "a/")? == prefix(alloc, "a/")?);
-    assert!(rt; prefix(alloc, "a/")? != prefix(alloc, "b/")?);
-    Ok(())
+    keys_compare(alloc, "a-b/c", "a/b", true)?;
+    keys_compare(alloc, "a/b", "a0", true)?;
+    keys_compare(alloc, "a/b", "a/b", false)?;
+    keys_compare(alloc, "a/b", "a/c", true)?;
+    prefixes_compare(alloc, "", "a-b/", true)?;
+    prefixes_compare(alloc, "a-b/", "a/", true)?;
+    prefixes_compare(alloc, "a/", "a/", false)?;
+    prefixes_compare(alloc, "a/", "b/", true)
+}
+
+// ---- errors
+
+fn faults_show(alloc: Global) -> Result<(), Fail> {
+    shows(alloc, MetadataFault::NotJson, "not JSON")?;
+    shows(
+        alloc,
+        MetadataFault::UnsupportedNumber,
+        "unsupported number",
+    )?;
+    shows(alloc, MetadataFault::NotAnObject, "not an object")?;
+    shows(alloc, MetadataFault::WrongFormat, "wrong zarr_format")?;
+    shows(alloc, MetadataFault::WrongNodeType, "wrong node_type")?;
+    shows(
+        alloc,
+        MetadataFault::MissingMember(MemberName::new("shape")),
+        "missing member shape",
+    )?;
+    shows(
+        alloc,
+        MetadataFault::BadMember(MemberName::new("shape")),
+        "bad member shape",
+    )?;
+    shows(alloc, MetadataFault::OutOfMemory, "out of memory")
+}
+
+fn errors_show(alloc: Global) -> Result<(), Fail> {
+    shows(alloc, StorageError::Fault, "store fault")?;
+    let document = key(alloc, "a/zarr.json")?;
+    shows(
+        alloc,
+        StorageError::InvalidMetadata(document, MetadataFault::NotJson),
+        "error parsing metadata for a/zarr.json: not JSON",
+    )?;
+    let other = String::from_str(alloc, "invalid node path /..")?;
+    shows(alloc, StorageError::Other(other), "invalid node path /..")?;
+    shows(alloc, StorageError::OutOfMemory, "out of memory")
 }
 
 #[test]
 fn faults_have_their_texts(rt: HostRuntime) -> Result<(), Fail> {
     let alloc = rt.alloc();
-    for (fault, want) in [
-        (MetadataFault::NotJson, "not JSON"),
-        (MetadataFault::UnsupportedNumber, "unsupported number"),
-        (MetadataFault::NotAnObject, "not an object"),
-        (MetadataFault::WrongFormat, "wrong zarr_format"),
-        (MetadataFault::WrongNodeType, "wrong node_type"),
-        (
-            MetadataFault::MissingMember(MemberName::new("shape")),
-            "missing member shape",
-        ),
-        (
-            MetadataFault::BadMember(MemberName::new("shape")),
-            "bad member shape",
-        ),
-        (MetadataFault::OutOfMemory, "out of memory"),
-    ] {
-        assert_eq!(rt; fault.to_string(alloc)?.as_str(), want);
-    }
-    let document = key(alloc, "a/zarr.json")?;
-    let other = String::from_str(alloc, "invalid node path /..")?;
-    for (error, want) in [
-        (StorageError::Fault, "store fault"),
-        (
-            StorageError::InvalidMetadata(document, MetadataFault::NotJson),
-            "error parsing metadata for a/zarr.json: not JSON",
-        ),
-        (StorageError::Other(other), "invalid node path /.."),
-        (StorageError::OutOfMemory, "out of memory"),
-    ] {
-        assert_eq!(rt; error.to_string(alloc)?.as_str(), want);
-    }
-    Ok(())
+    faults_show(alloc)?;
+    errors_show(alloc)
 }
 
 #[test]
 fn refused_texts_are_named(rt: HostRuntime) -> Result<(), Fail> {
     let alloc = rt.alloc();
-    match StoreKey::new(alloc, "a//b") {
-        Ok(_) => assert!(rt; false, "no key"),
-        Err(error) => {
-            assert_eq!(rt; error.to_string(alloc)?.as_str(), "invalid store key a//b");
-        }
-    }
-    match StorePrefix::new(alloc, "a") {
-        Ok(_) => assert!(rt; false, "no prefix"),
-        Err(error) => {
-            assert_eq!(rt; error.to_string(alloc)?.as_str(), "invalid store prefix a");
-        }
-    }
-    Ok(())
+    is_refused(
+        alloc,
+        StoreKey::new(alloc, "a//b"),
+        "invalid store key a//b",
+    )?;
+    is_refused(
+        alloc,
+        StorePrefix::new(alloc, "a"),
+        "invalid store prefix a",
+    )
 }
 
 #[test]
 fn every_error_says_that_memory_ran_out(rt: HostRuntime) -> Result<(), Fail> {
     let alloc = rt.alloc();
-    let want = "out of memory";
-    assert_eq!(rt; StoreKeyError::OutOfMemory.to_string(alloc)?.as_str(), want);
-    assert_eq!(rt;
-        StorePrefixError::OutOfMemory.to_string(alloc)?.as_str(),
-        want
-    );
-    assert_eq!(rt; MetadataFault::OutOfMemory.to_string(alloc)?.as_str(), want);
-    assert_eq!(rt; StorageError::OutOfMemory.to_string(alloc)?.as_str(), want);
-    Ok(())
+    let wanted = "out of memory";
+    shows(alloc, StoreKeyError::OutOfMemory, wanted)?;
+    shows(alloc, StorePrefixError::OutOfMemory, wanted)?;
+    shows(alloc, MetadataFault::OutOfMemory, wanted)?;
+    shows(alloc, StorageError::OutOfMemory, wanted)
 }
 
 #[test]
-fn lists_keys_below_prefixes(rt: HostRuntime) -> Result<(), Fail> {
-    let alloc = rt.alloc();
-    let store = store_of(alloc, &["a", "a-b/c", "a/b", "a/c/d", "a0"])?;
-    let all = store.list(alloc)?;
-    assert_eq!(rt;
-        texts_of_keys(alloc, all.as_slice())?.as_str(),
-        "a a-b/c a/b a/c/d a0 "
-    );
+fn member_names_show_their_text() -> Result<(), Fail> {
+    is_same("name", MemberName::new("shape").as_str(), "shape")
+}
+
+// ---- the store in memory
+
+fn lists_each(alloc: Global, store: &MemoryStore) -> Result<(), Fail> {
     for (text, below, keys, prefixes) in [
         ("", "a a-b/c a/b a/c/d a0 ", "a a0 ", "a-b/ a/ "),
         ("a/", "a/b a/c/d ", "a/b ", "a/c/ "),
@@ -181,103 +404,103 @@ fn lists_keys_below_prefixes(rt: HostRuntime) -> Result<(), Fail> {
         ("a/c/d/", "", "", ""),
         ("b/", "", "", ""),
     ] {
-        let prefix = prefix(alloc, text)?;
-        let listed = store.list_prefix(alloc, &prefix)?;
-        assert_eq!(rt;
-            texts_of_keys(alloc, listed.as_slice())?.as_str(),
-            below,
-            "{text}"
-        );
-        let dir = store.list_dir(alloc, &prefix)?;
-        assert_eq!(rt;
-            texts_of_keys(alloc, dir.keys.as_slice())?.as_str(),
-            keys,
-            "{text}"
-        );
-        assert_eq!(rt;
-            texts_of_prefixes(alloc, dir.prefixes.as_slice())?.as_str(),
-            prefixes,
-            "{text}"
-        );
+        lists_below(alloc, store, text, below)?;
+        has_children(alloc, store, text, (keys, prefixes))?;
     }
-    Ok(())
+    lists(alloc, store, "a a-b/c a/b a/c/d a0 ")
+}
+
+#[test]
+fn lists_keys_below_prefixes(rt: HostRuntime) -> Result<(), Fail> {
+    let alloc = rt.alloc();
+    let store = store_of(alloc, &["a", "a-b/c", "a/b", "a/c/d", "a0"])?;
+    lists_each(alloc, &store)
 }
 
 #[test]
 fn a_child_with_many_keys_is_listed_once(rt: HostRuntime) -> Result<(), Fail> {
     let alloc = rt.alloc();
     let store = store_of(alloc, &["a/c/0", "a/c/1/2", "a/zarr.json", "b/zarr.json"])?;
-    let dir = store.list_dir(alloc, &prefix(alloc, "")?)?;
-    assert_eq!(rt;
-        texts_of_prefixes(alloc, dir.prefixes.as_slice())?.as_str(),
-        "a/ b/ "
-    );
-    assert_eq!(rt; dir.keys.len(), 0);
-    Ok(())
+    has_children(alloc, &store, "", ("", "a/ b/ "))
 }
 
-// The texts of the children that are discovered below a prefix of a store with these keys.
-fn children_of(alloc: Global, keys: &[&str], below: &str) -> Result<String, Fail> {
+// The children that are discovered below a prefix.
+fn children_of(alloc: Global, store: &MemoryStore, below: &str) -> Result<Vec<StorePrefix>, Fail> {
+    let prefix = prefix(alloc, below)?;
+    Ok(discover_children(alloc, store, &prefix)?)
+}
+
+fn discovers_in(alloc: Global, store: &MemoryStore, below: &str, wanted: &str) -> Result<(), Fail> {
+    let children = children_of(alloc, store, below)?;
+    are_prefixes(alloc, below, children.as_slice(), wanted)
+}
+
+// Asks that these children are discovered below a prefix of a store with these keys.
+fn discovers(alloc: Global, keys: &[&str], below: &str, wanted: &str) -> Result<(), Fail> {
     let store = store_of(alloc, keys)?;
-    let children = discover_children(alloc, &store, &prefix(alloc, below)?)?;
-    texts_of_prefixes(alloc, children.as_slice())
+    discovers_in(alloc, &store, below, wanted)
 }
 
 #[test]
 fn discovers_children_by_name(rt: HostRuntime) -> Result<(), Fail> {
     let alloc = rt.alloc();
-    let found = children_of(alloc, &["a-b/z", "a/z", "b/c/z", "__x/z"], "")?;
-    assert_eq!(rt; found.as_str(), "a/ a-b/ b/ ");
-    let found = children_of(alloc, &["../z", "zarr.json", "__x/z", "a/y/z"], "")?;
-    assert_eq!(rt; found.as_str(), "../ a/ ");
-    let found = children_of(alloc, &["a", "a/zarr.json"], "")?;
-    assert_eq!(rt; found.as_str(), "a/ ");
-    let found = children_of(alloc, &["a", "a/zarr.json"], "a/")?;
-    assert_eq!(rt; found.as_str(), "");
-    let found = children_of(alloc, &["zarr.json/z", ".zarray/z", "..a/z"], "")?;
-    assert_eq!(rt; found.as_str(), "..a/ .zarray/ zarr.json/ ");
-    let found = children_of(alloc, &["z/zarr.json", "\u{e9}/zarr.json"], "")?;
-    assert_eq!(rt; found.as_str(), "z/ \u{e9}/ ");
-    let found = children_of(alloc, &["a/zarr.json", "a/.../x", "a/__c/x"], "a/")?;
-    assert_eq!(rt; found.as_str(), "a/.../ ");
-    Ok(())
+    discovers(
+        alloc,
+        &["a-b/z", "a/z", "b/c/z", "__x/z"],
+        "",
+        "a/ a-b/ b/ ",
+    )?;
+    discovers(
+        alloc,
+        &["../z", "zarr.json", "__x/z", "a/y/z"],
+        "",
+        "../ a/ ",
+    )?;
+    discovers(alloc, &["a", "a/zarr.json"], "", "a/ ")?;
+    discovers(alloc, &["a", "a/zarr.json"], "a/", "")?;
+    discovers(
+        alloc,
+        &["zarr.json/z", ".zarray/z", "..a/z"],
+        "",
+        "..a/ .zarray/ zarr.json/ ",
+    )?;
+    discovers(
+        alloc,
+        &["z/zarr.json", "\u{e9}/zarr.json"],
+        "",
+        "z/ \u{e9}/ ",
+    )?;
+    discovers(
+        alloc,
+        &["a/zarr.json", "a/.../x", "a/__c/x"],
+        "a/",
+        "a/.../ ",
+    )
+}
+
+fn changes(alloc: Global, store: &mut MemoryStore) -> Result<(), Fail> {
+    set(alloc, store, "a", b"yz")?;
+    erase(alloc, store, "b")?;
+    erase(alloc, store, "c")?;
+    has_bytes(alloc, &*store, "a", "yz")?;
+    has_bytes(alloc, &*store, "b", "nothing")?;
+    lists(alloc, &*store, "a ")
 }
 
 #[test]
 fn changes_one_key(rt: HostRuntime) -> Result<(), Fail> {
     let alloc = rt.alloc();
     let mut store = store_of(alloc, &["a", "b"])?;
-    store.set(&key(alloc, "a")?, b"yz")?;
-    store.erase(&key(alloc, "b")?)?;
-    store.erase(&key(alloc, "c")?)?;
-    match store.get(alloc, &key(alloc, "a")?)? {
-        Some(value) => assert_eq!(rt; value.as_slice(), b"yz".as_slice()),
-        None => assert!(rt; false, "the key is there"),
-    }
-    assert!(rt; store.get(alloc, &key(alloc, "b")?)?.is_none());
-    assert_eq!(rt;
-        texts_of_keys(alloc, store.list(alloc)?.as_slice())?.as_str(),
-        "a "
-    );
-    assert_eq!(rt; MemoryStore::new(alloc).list(alloc)?.len(), 0);
-    Ok(())
-}
-
-#[test]
-fn member_names_show_their_text(rt: HostRuntime) {
-    assert_eq!(rt; MemberName::new("shape").as_str(), "shape");
+    changes(alloc, &mut store)?;
+    lists(alloc, &MemoryStore::new(alloc), "")
 }
 
 #[test]
 fn takes_over_a_key_and_its_bytes(rt: HostRuntime) -> Result<(), Fail> {
     let alloc = rt.alloc();
     let mut store = store_of(alloc, &["a"])?;
-    store.insert(key(alloc, "a")?, Vec::from_slice(alloc, b"yz")?)?;
-    match store.get(alloc, &key(alloc, "a")?)? {
-        Some(value) => assert_eq!(rt; value.as_slice(), b"yz".as_slice()),
-        None => assert!(rt; false, "the key is there"),
-    }
-    Ok(())
+    insert(alloc, &mut store, "a", b"yz")?;
+    has_bytes(alloc, &store, "a", "yz")
 }
 
 // A store with a key for each number below `count`, in the order of their texts.
@@ -292,7 +515,61 @@ fn numbered(alloc: Global, count: u32) -> Result<MemoryStore, Fail> {
 // The key of a number: four digits and what stands behind them.
 fn numbered_key(alloc: Global, number: u32, behind: &str) -> Result<StoreKey, Fail> {
     let text = format!(in alloc; "{number:04}{behind}")?;
-    Ok(StoreKey::new(alloc, text.as_str())?)
+    key(alloc, text.as_str())
+}
+
+// Asks that a key is found at this place; the number of comparisons that this took.
+fn found_at(store: &MemoryStore, key: &StoreKey, wanted: u32) -> Result<u32, Fail> {
+    let (place, comparisons) = store.find_counted(key);
+    if place.ok() == usize::try_from(wanted).ok() {
+        Ok(comparisons)
+    } else {
+        Err(Fail::new(format_args!("a key is not found at {wanted}")))
+    }
+}
+
+// Asks that a key is not found and would stand at this place, by so many comparisons at most.
+fn absent_at(store: &MemoryStore, key: &StoreKey, wanted: u32, digits: u32) -> Result<(), Fail> {
+    let (place, comparisons) = store.find_counted(key);
+    if place.err() == usize::try_from(wanted).ok() && comparisons <= digits {
+        Ok(())
+    } else {
+        Err(Fail::new(format_args!(
+            "a key would not stand at {wanted} by {comparisons} comparisons of {digits}"
+        )))
+    }
+}
+
+// Asks that the key of a number is found and the key behind it is not; the number of comparisons that the first took.
+fn found_number(alloc: Global, store: &MemoryStore, number: u32, digits: u32) -> Result<u32, Fail> {
+    let behind = numbered_key(alloc, number, "-")?;
+    absent_at(store, &behind, number.saturating_add(1), digits)?;
+    let key = numbered_key(alloc, number, "")?;
+    found_at(store, &key, number)
+}
+
+// Asks that each key of a store of numbers is found; the most comparisons that one took.
+fn most_comparisons(
+    alloc: Global,
+    store: &MemoryStore,
+    count: u32,
+    digits: u32,
+) -> Result<u32, Fail> {
+    let mut most = 0;
+    for i in 0..count {
+        most = most.max(found_number(alloc, store, i, digits)?);
+    }
+    Ok(most)
+}
+
+// Asks that the keys of a store of so many numbers are found by as many comparisons, and so is the place before them.
+fn are_found(alloc: Global, store: &MemoryStore, count: u32, digits: u32) -> Result<(), Fail> {
+    let most = most_comparisons(alloc, store, count, digits)?;
+    if most != digits {
+        return Err(Fail::new(format_args!("{most} comparisons of {count} keys")));
+    }
+    let before = key(alloc, "+")?;
+    absent_at(store, &before, 0, digits)
 }
 
 #[test]
@@ -302,28 +579,28 @@ fn a_key_is_found_by_as_many_comparisons_as_the_number_of_keys_has_digits(
     let alloc = rt.alloc();
     for (count, digits) in [(0, 0), (1, 1), (1000, 10), (1024, 11)] {
         let store = numbered(alloc, count)?;
-        let mut most = 0;
-        for i in 0..count {
-            let (place, comparisons) = store.find_counted(&numbered_key(alloc, i, "")?);
-            assert_eq!(rt; place.ok(), usize::try_from(i).ok(), "{i}");
-            most = most.max(comparisons);
-            let (place, comparisons) = store.find_counted(&numbered_key(alloc, i, "-")?);
-            assert_eq!(rt; place.err(), usize::try_from(i + 1).ok(), "{i}");
-            assert!(rt; comparisons <= digits, "{i}");
-        }
-        assert_eq!(rt; most, digits, "{count}");
-        let (place, comparisons) = store.find_counted(&key(alloc, "+")?);
-        assert_eq!(rt; place.err(), Some(0), "{count}");
-        assert!(rt; comparisons <= digits, "{count}");
+        are_found(alloc, &store, count, digits)?;
     }
     Ok(())
 }
 
-#[test]
-fn the_keys_below_a_prefix_stand_together(rt: HostRuntime) -> Result<(), Fail> {
-    let alloc = rt.alloc();
-    let store = store_of(alloc, &["a/c/d", "a", "a0", "a-b/c", "a/b"])?;
-    for (text, want_first, want_end) in [
+// Asks that the keys below a prefix stand from the first place to the end, found by one to six comparisons.
+fn stand_together(
+    alloc: Global,
+    store: &MemoryStore,
+    text: &str,
+    wanted: (usize, usize),
+) -> Result<(), Fail> {
+    let prefix = prefix(alloc, text)?;
+    let (first, end, comparisons) = store.range_counted(&prefix);
+    if first == wanted.0 && end == wanted.1 && comparisons >= 1 && comparisons <= 6 {
+        return Ok(());
+    }
+    Err(Fail::new(format_args!("{text}: from {first} to {end} by {comparisons} comparisons")))
+}
+
+fn all_stand_together(alloc: Global, store: &MemoryStore) -> Result<(), Fail> {
+    for (text, first, end) in [
         ("", 0, 5),
         ("a/", 2, 4),
         ("a-b/", 1, 2),
@@ -331,38 +608,34 @@ fn the_keys_below_a_prefix_stand_together(rt: HostRuntime) -> Result<(), Fail> {
         ("a/b/", 3, 3),
         ("b/", 5, 5),
     ] {
-        let (first, end, comparisons) = store.range_counted(&prefix(alloc, text)?);
-        assert_eq!(rt; first, want_first, "{text}");
-        assert_eq!(rt; end, want_end, "{text}");
-        assert!(rt; comparisons >= 1, "{text}");
-        assert!(rt; comparisons <= 6, "{text}");
+        stand_together(alloc, store, text, (first, end))?;
     }
-    let dir = store.list_dir(alloc, &prefix(alloc, "a/")?)?;
-    assert_eq!(rt; texts_of_keys(alloc, dir.keys.as_slice())?.as_str(), "a/b ");
-    assert_eq!(rt;
-        texts_of_prefixes(alloc, dir.prefixes.as_slice())?.as_str(),
-        "a/c/ "
-    );
-    Ok(())
+    has_children(alloc, store, "a/", ("a/b ", "a/c/ "))
+}
+
+#[test]
+fn the_keys_below_a_prefix_stand_together(rt: HostRuntime) -> Result<(), Fail> {
+    let alloc = rt.alloc();
+    let store = store_of(alloc, &["a/c/d", "a", "a0", "a-b/c", "a/b"])?;
+    all_stand_together(alloc, &store)
+}
+
+fn ascend(alloc: Global, store: &mut MemoryStore) -> Result<(), Fail> {
+    lists(alloc, &*store, "a b c d ")?;
+    erase(alloc, store, "a")?;
+    erase(alloc, store, "d")?;
+    insert(alloc, store, "e", b"")?;
+    lists(alloc, &*store, "b c e ")
 }
 
 #[test]
 fn keys_ascend_in_whatever_order_they_are_set(rt: HostRuntime) -> Result<(), Fail> {
     let alloc = rt.alloc();
     let mut store = store_of(alloc, &["b", "d", "a", "c", "b"])?;
-    assert_eq!(rt;
-        texts_of_keys(alloc, store.list(alloc)?.as_slice())?.as_str(),
-        "a b c d "
-    );
-    store.erase(&key(alloc, "a")?)?;
-    store.erase(&key(alloc, "d")?)?;
-    store.insert(key(alloc, "e")?, Vec::new(alloc))?;
-    assert_eq!(rt;
-        texts_of_keys(alloc, store.list(alloc)?.as_slice())?.as_str(),
-        "b c e "
-    );
-    Ok(())
+    ascend(alloc, &mut store)
 }
+
+// ---- the store that fails
 
 // The store with these keys that fails at a place.
 fn failing(alloc: Global, keys: &[&str], place: FaultAt) -> Result<FaultStore, Fail> {
@@ -374,52 +647,67 @@ fn is_fault<T: Drop>(answer: Result<T, StorageError>) -> bool {
     matches!(answer, Err(StorageError::Fault))
 }
 
-// The bytes at a key, as a text; `nothing` where the store does not have it.
-fn bytes_at<S: ReadableStorageTraits>(alloc: Global, store: &S, at: &str) -> Result<String, Fail> {
-    let found = store.get(alloc, &key(alloc, at)?)?;
-    let text = match &found {
-        Some(bytes) => String::from_utf8_lossy(alloc, bytes.as_slice())?,
-        None => String::from_str(alloc, "nothing")?,
-    };
-    Ok(text)
+// Asks that reading a key fails.
+fn get_fails(alloc: Global, store: &FaultStore, at: &str) -> Result<(), Fail> {
+    let key = key(alloc, at)?;
+    is_answer(at, is_fault(store.get(alloc, &key)), true)
+}
+
+fn fails_to_read_one_key(alloc: Global, store: &FaultStore) -> Result<(), Fail> {
+    get_fails(alloc, store, "a")?;
+    get_fails(alloc, store, "a")?;
+    has_bytes(alloc, store, "a/b", "x")?;
+    has_bytes(alloc, store, "b", "nothing")?;
+    has_bytes(alloc, store.inner(), "a", "x")?;
+    lists(alloc, store, "a a/b ")
 }
 
 #[test]
 fn a_store_fails_as_often_as_its_key_is_read(rt: HostRuntime) -> Result<(), Fail> {
     let alloc = rt.alloc();
-    let store = failing(alloc, &["a", "a/b"], FaultAt::OnGet(key(alloc, "a")?))?;
-    assert!(rt; is_fault(store.get(alloc, &key(alloc, "a")?)));
-    assert!(rt; is_fault(store.get(alloc, &key(alloc, "a")?)));
-    assert_eq!(rt; bytes_at(alloc, &store, "a/b")?.as_str(), "x");
-    assert_eq!(rt; bytes_at(alloc, &store, "b")?.as_str(), "nothing");
-    assert_eq!(rt; bytes_at(alloc, store.inner(), "a")?.as_str(), "x");
-    assert_eq!(rt; store.list(alloc)?.len(), 2);
-    Ok(())
+    let place = FaultAt::OnGet(key(alloc, "a")?);
+    let store = failing(alloc, &["a", "a/b"], place)?;
+    fails_to_read_one_key(alloc, &store)
+}
+
+// Asks whether listing a prefix fails, by each of the two calls.
+fn fails_below(alloc: Global, store: &FaultStore, below: &str, wanted: bool) -> Result<(), Fail> {
+    let prefix = prefix(alloc, below)?;
+    is_answer(below, is_fault(store.list_prefix(alloc, &prefix)), wanted)?;
+    is_answer(below, is_fault(store.list_dir(alloc, &prefix)), wanted)
+}
+
+// Asks whether listing fails: all keys, what is below the root, and what is below `a`.
+fn fails_to_list(
+    alloc: Global,
+    store: &FaultStore,
+    wanted: (bool, bool, bool),
+) -> Result<(), Fail> {
+    let (all, root, below) = wanted;
+    is_answer("all keys", is_fault(store.list(alloc)), all)?;
+    fails_below(alloc, store, "", root)?;
+    fails_below(alloc, store, "a/", below)
+}
+
+// Asks whether listing fails in a store that fails where this prefix is listed.
+fn fails_at(alloc: Global, place: &str, wanted: (bool, bool, bool)) -> Result<(), Fail> {
+    let place = FaultAt::OnList(prefix(alloc, place)?);
+    let store = failing(alloc, &["a", "a/b/c", "a/d"], place)?;
+    fails_to_list(alloc, &store, wanted)
 }
 
 #[test]
 fn a_store_fails_where_its_prefix_is_listed(rt: HostRuntime) -> Result<(), Fail> {
     let alloc = rt.alloc();
-    let keys = ["a", "a/b/c", "a/d"];
-    for (place, all, root, below) in [
-        ("", true, true, false),
-        ("a/", false, false, true),
-        ("a/b/", false, false, false),
-    ] {
-        let store = failing(alloc, &keys, FaultAt::OnList(prefix(alloc, place)?))?;
-        assert_eq!(rt; is_fault(store.list(alloc)), all, "{place}");
-        let asked = prefix(alloc, "")?;
-        assert_eq!(rt; is_fault(store.list_prefix(alloc, &asked)), root, "{place}");
-        assert_eq!(rt; is_fault(store.list_dir(alloc, &asked)), root, "{place}");
-        let asked = prefix(alloc, "a/")?;
-        assert_eq!(rt;
-            is_fault(store.list_prefix(alloc, &asked)),
-            below,
-            "{place}"
-        );
-        assert_eq!(rt; is_fault(store.list_dir(alloc, &asked)), below, "{place}");
-    }
-    Ok(())
+    fails_at(alloc, "", (true, true, false))?;
+    fails_at(alloc, "a/", (false, false, true))?;
+    fails_at(alloc, "a/b/", (false, false, false))
+}
+
+fn lists_as_the_inner_store(alloc: Global, store: &FaultStore) -> Result<(), Fail> {
+    lists(alloc, store, "a a/b/c a/d ")?;
+    lists_below(alloc, store, "a/", "a/b/c a/d ")?;
+    has_children(alloc, store, "a/", ("a/d ", "a/b/ "))
 }
 
 #[test]
@@ -427,55 +715,58 @@ fn a_failing_store_lists_what_the_inner_store_lists(rt: HostRuntime) -> Result<(
     let alloc = rt.alloc();
     let place = FaultAt::OnList(prefix(alloc, "a/b/")?);
     let store = failing(alloc, &["a", "a/b/c", "a/d"], place)?;
-    let all = store.list(alloc)?;
-    assert_eq!(rt;
-        texts_of_keys(alloc, all.as_slice())?.as_str(),
-        "a a/b/c a/d "
-    );
-    let below = store.list_prefix(alloc, &prefix(alloc, "a/")?)?;
-    assert_eq!(rt;
-        texts_of_keys(alloc, below.as_slice())?.as_str(),
-        "a/b/c a/d "
-    );
-    let dir = store.list_dir(alloc, &prefix(alloc, "a/")?)?;
-    assert_eq!(rt; texts_of_keys(alloc, dir.keys.as_slice())?.as_str(), "a/d ");
-    assert_eq!(rt;
-        texts_of_prefixes(alloc, dir.prefixes.as_slice())?.as_str(),
-        "a/b/ "
-    );
+    lists_as_the_inner_store(alloc, &store)
+}
+
+// Asks that setting the key `a` fails.
+fn set_fails(alloc: Global, store: &mut FaultStore, bytes: &str) -> Result<(), Fail> {
+    let key = key(alloc, "a")?;
+    is_answer(bytes, is_fault(store.set(&key, bytes.as_bytes())), true)
+}
+
+fn sets_halves(alloc: Global, store: &mut FaultStore) -> Result<(), Fail> {
+    for (bytes, half) in [("12345", "12"), ("1234", "12"), ("1", ""), ("", "")] {
+        set_fails(alloc, store, bytes)?;
+        has_bytes(alloc, &*store, "a", half)?;
+    }
     Ok(())
+}
+
+fn fails_to_set_one_key(alloc: Global, store: &mut FaultStore) -> Result<(), Fail> {
+    sets_halves(alloc, store)?;
+    set(alloc, store, "b", b"12345")?;
+    has_bytes(alloc, store.inner(), "b", "12345")?;
+    erase(alloc, store, "a")?;
+    set_fails(alloc, store, "12345")?;
+    has_bytes(alloc, store.inner(), "a", "12")
 }
 
 #[test]
 fn a_failing_set_leaves_the_first_half_of_the_bytes(rt: HostRuntime) -> Result<(), Fail> {
     let alloc = rt.alloc();
-    let mut store = failing(alloc, &["a", "b"], FaultAt::OnSet(key(alloc, "a")?))?;
-    for (bytes, half) in [
-        (b"12345".as_slice(), "12"),
-        (b"1234".as_slice(), "12"),
-        (b"1".as_slice(), ""),
-        (b"".as_slice(), ""),
-    ] {
-        assert!(rt; is_fault(store.set(&key(alloc, "a")?, bytes)));
-        assert_eq!(rt; bytes_at(alloc, &store, "a")?.as_str(), half);
-    }
-    store.set(&key(alloc, "b")?, b"12345")?;
-    assert_eq!(rt; bytes_at(alloc, store.inner(), "b")?.as_str(), "12345");
-    store.erase(&key(alloc, "a")?)?;
-    assert!(rt; is_fault(store.set(&key(alloc, "a")?, b"12345")));
-    assert_eq!(rt; bytes_at(alloc, store.inner(), "a")?.as_str(), "12");
-    Ok(())
+    let place = FaultAt::OnSet(key(alloc, "a")?);
+    let mut store = failing(alloc, &["a", "b"], place)?;
+    fails_to_set_one_key(alloc, &mut store)
+}
+
+// Asks that erasing a key fails.
+fn erase_fails(alloc: Global, store: &mut FaultStore, at: &str) -> Result<(), Fail> {
+    let key = key(alloc, at)?;
+    is_answer(at, is_fault(store.erase(&key)), true)
+}
+
+fn fails_to_erase_one_key(alloc: Global, store: &mut FaultStore) -> Result<(), Fail> {
+    erase_fails(alloc, store, "a")?;
+    has_bytes(alloc, &*store, "a", "x")?;
+    erase(alloc, store, "b")?;
+    erase(alloc, store, "c")?;
+    lists(alloc, &*store, "a ")
 }
 
 #[test]
 fn a_failing_erase_leaves_the_key(rt: HostRuntime) -> Result<(), Fail> {
     let alloc = rt.alloc();
-    let mut store = failing(alloc, &["a", "b"], FaultAt::OnErase(key(alloc, "a")?))?;
-    assert!(rt; is_fault(store.erase(&key(alloc, "a")?)));
-    assert_eq!(rt; bytes_at(alloc, &store, "a")?.as_str(), "x");
-    store.erase(&key(alloc, "b")?)?;
-    store.erase(&key(alloc, "c")?)?;
-    let all = store.list(alloc)?;
-    assert_eq!(rt; texts_of_keys(alloc, all.as_slice())?.as_str(), "a ");
-    Ok(())
+    let place = FaultAt::OnErase(key(alloc, "a")?);
+    let mut store = failing(alloc, &["a", "b"], place)?;
+    fails_to_erase_one_key(alloc, &mut store)
 }
