@@ -1,7 +1,7 @@
 -- Zarr core specification 3.1, "Metadata documents", and specification version 2, "Arrays" and "Groups": a document of either kind and either version.
 use Rattle.std.specs.Prelude.{ℕ, List, Bool, true, false, if◌then◌else◌, is_some, Result, Ok, Err, codes}
 use Rattle.std.specs.Result.{is_ok}
-use Rattle.serde_json.specs.Data.{Data}
+use Rattle.serde_json.specs.Data.{Data, no_members}
 use Rattle.serde_json.specs.Find.{get}
 use Rattle.zarrs_form.specs.Documents.{◌>>=◌, document_of, format_of, node_type_of}
 use Rattle.zarrs_meta.specs.GroupV3.{group_v3_of, group_v3_tree, is_plain_group_v3}
@@ -72,6 +72,10 @@ is_plain_node (Array (array_v2 m)) = is_plain_array_v2 m
 abbrev pub group_with : AttributesDocument → GroupMetadataV2 → GroupMetadataV2
 group_with a m = record { attributes = a.0; additional_fields = m.additional_fields }
 
+-- the group without attributes
+abbrev pub group_without_attributes : GroupMetadataV2 → GroupMetadataV2
+group_without_attributes m = record { attributes = no_members; additional_fields = m.additional_fields }
+
 -- the same array with these attributes
 abbrev pub array_with : AttributesDocument → ArrayMetadataV2 → ArrayMetadataV2
 array_with a m = record {
@@ -84,6 +88,21 @@ array_with a m = record {
   filters = m.filters;
   dimension_separator = m.dimension_separator;
   attributes = a.0;
+  additional_fields = m.additional_fields;
+}
+
+-- the array without attributes
+abbrev pub array_without_attributes : ArrayMetadataV2 → ArrayMetadataV2
+array_without_attributes m = record {
+  shape = m.shape;
+  chunks = m.chunks;
+  dtype = m.dtype;
+  fill_value = m.fill_value;
+  order = m.order;
+  compressor = m.compressor;
+  filters = m.filters;
+  dimension_separator = m.dimension_separator;
+  attributes = no_members;
   additional_fields = m.additional_fields;
 }
 

@@ -115,6 +115,20 @@ impl ArrayMetadataV2 {
         })
     }
 
+    /// The array that a JSON value is, whose parts it takes over.
+    ///
+    /// # Errors
+    ///
+    /// As [`ArrayMetadataV2::from_value`].
+    ///
+    /// Source: Zarr specification version 2, "Arrays".
+    #[tactic(auto, unfolding(crate::specs::ArrayV2::array_v2_of))]
+    pub fn from_owned_value(alloc: Global, value: Value) -> Result<ArrayMetadataV2, MetadataFault>
+        ensures { Gives (λ m. m) result (array_v2_of (view value)) }
+    {
+        ArrayMetadataV2::from_members(alloc, document(value)?)
+    }
+
     /// The array that the bytes of a document are.
     ///
     /// # Errors

@@ -32,6 +32,19 @@ impl AttributesDocument {
         Ok(AttributesDocument(Object::new(members)))
     }
 
+    /// The attributes that a JSON value is, whose members they take over.
+    ///
+    /// # Errors
+    ///
+    /// As [`AttributesDocument::from_value`].
+    ///
+    /// Source: Zarr specification version 2, "Attributes".
+    pub fn from_owned_value(value: Value) -> Result<AttributesDocument, MetadataFault>
+        ensures { Gives (λ a. a) result (attributes_of (view value)) }
+    {
+        Ok(AttributesDocument(Object::new(document(value)?)))
+    }
+
     /// The attributes that the bytes of `.zattrs` are.
     ///
     /// # Errors

@@ -89,6 +89,20 @@ impl GroupMetadataV2 {
         })
     }
 
+    /// The group that a JSON value is, whose parts it takes over.
+    ///
+    /// # Errors
+    ///
+    /// As [`GroupMetadataV2::from_value`].
+    ///
+    /// Source: Zarr specification version 2, "Groups".
+    #[tactic(auto, unfolding(crate::specs::GroupV2::group_v2_of))]
+    pub fn from_owned_value(alloc: Global, value: Value) -> Result<GroupMetadataV2, MetadataFault>
+        ensures { Gives (λ m. m) result (group_v2_of (view value)) }
+    {
+        GroupMetadataV2::from_members(alloc, document(value)?)
+    }
+
     /// The group that the bytes of a document are.
     ///
     /// # Errors

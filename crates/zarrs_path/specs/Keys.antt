@@ -17,3 +17,7 @@ zgroup = codes ".zgroup"
 -- `.zattrs`, the attributes of a version 2 node
 abbrev pub zattrs : List ℕ
 zattrs = codes ".zattrs"
+
+-- `.zmetadata`, the consolidated metadata of a version 2 group
+abbrev pub zmetadata : List ℕ
+zmetadata = codes ".zmetadata"

@@ -2,7 +2,7 @@
 //! Zarr core specification 3.1, "Storage keys"; Zarr version 2 specification, "Hierarchies".
 ghost use Rattle.std.specs.Prelude.{◌≡◌, [], ◌∷◌, ◌++◌, IsTrue, IfOk};
 ghost use Rattle.zarrs_store.specs.Segments.{is_segment, IsKeyText, segments_of};
-ghost use Rattle.zarrs_path.specs.Keys.{zarr_json, zarray, zgroup, zattrs};
+ghost use Rattle.zarrs_path.specs.Keys.{zarr_json, zarray, zgroup, zattrs, zmetadata};
 
 use crate::NodePath;
 use crate::text::joined;
@@ -67,6 +67,18 @@ pub fn meta_key_v2_attributes(alloc: Global, path: &NodePath) -> Result<StoreKey
     ensures { IfOk result (λ key. key ≡ path.now ++ zattrs ∷ []) }
 {
     meta_key_any(alloc, path, ".zattrs")
+}
+
+/// The key of the consolidated metadata of a version 2 group: the names of the path, then `.zmetadata`.
+///
+/// # Errors
+/// `AllocError` where memory for the key is wanting.
+///
+/// Source: zarr-python, consolidated metadata of version 2.
+pub fn meta_key_v2_consolidated(alloc: Global, path: &NodePath) -> Result<StoreKey, AllocError>
+    ensures { IfOk result (λ key. key ≡ path.now ++ zmetadata ∷ []) }
+{
+    meta_key_any(alloc, path, ".zmetadata")
 }
 
 /// The key of a chunk of the array at the path: the names of the path, then the chunk key's segments.

@@ -11,7 +11,8 @@ mod order;
 mod text;
 
 pub use key::{
-    data_key, meta_key, meta_key_v2_array, meta_key_v2_attributes, meta_key_v2_group, meta_key_v3,
+    data_key, meta_key, meta_key_v2_array, meta_key_v2_attributes, meta_key_v2_consolidated,
+    meta_key_v2_group, meta_key_v3,
 };
 pub use node_name::{NodeName, NodeNameError};
 pub use node_path::{NodePath, NodePathError};

@@ -1,6 +1,6 @@
 use crate::{
     NodeName, NodeNameError, NodePath, NodePathError, data_key, laws, meta_key, meta_key_v2_array,
-    meta_key_v2_attributes, meta_key_v2_group, meta_key_v3,
+    meta_key_v2_attributes, meta_key_v2_consolidated, meta_key_v2_group, meta_key_v3,
 };
 use std::alloc::Global;
 use std::cmp::Ordering;
@@ -286,7 +286,14 @@ fn metadata_keys_end_in_the_file_name(rt: HostRuntime) -> Result<(), Fail> {
     for (text, wanted) in [
         (
             "/",
-            ["zarr.json", "zarr.json", ".zarray", ".zgroup", ".zattrs"],
+            [
+                "zarr.json",
+                "zarr.json",
+                ".zarray",
+                ".zgroup",
+                ".zattrs",
+                ".zmetadata",
+            ],
         ),
         (
             "/a/b",
@@ -296,6 +303,7 @@ fn metadata_keys_end_in_the_file_name(rt: HostRuntime) -> Result<(), Fail> {
                 "a/b/.zarray",
                 "a/b/.zgroup",
                 "a/b/.zattrs",
+                "a/b/.zmetadata",
             ],
         ),
     ] {
@@ -306,6 +314,7 @@ fn metadata_keys_end_in_the_file_name(rt: HostRuntime) -> Result<(), Fail> {
             meta_key_v2_array(alloc, &path)?,
             meta_key_v2_group(alloc, &path)?,
             meta_key_v2_attributes(alloc, &path)?,
+            meta_key_v2_consolidated(alloc, &path)?,
         ];
         for (key, want) in keys.iter().zip(wanted) {
             assert_eq!(rt; key.as_str(), want);
