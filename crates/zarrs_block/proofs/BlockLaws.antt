@@ -158,7 +158,7 @@ formed_ok name None = refl
 formed_ok name (Some x) = refl
 
 -- a value of the form was there
-formed_some : {A : Type 0} (name : List ℕ) (o : Option A) (x : A) → formed name o ≡ Ok x → o ≡ Some x
+pub formed_some : {A : Type 0} (name : List ℕ) (o : Option A) (x : A) → formed name o ≡ Ok x → o ≡ Some x
 formed_some name o x e = sym (formed_ok name o) ∙ ap result_ok e
 
 next_by : (B : Block) (x : List ℕ × NodeMetadata) (o : Option Block) → option_map (λ C. (B ++ x ∷ []) ++ C) o ≡ option_map (λ C. B ++ C) (o >>= λ C. Some (x ∷ C))

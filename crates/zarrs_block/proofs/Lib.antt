@@ -1,6 +1,17 @@
+pub mod Puts
+pub mod SameBlocks
+pub mod SmallStores
+pub mod SmallBlocks
+pub mod LastSlash
+pub mod ZmetadataSteps
 pub mod BlockLaws
 pub mod KeyLaws
 pub mod Expansion
 pub mod InOrder
 pub mod BlockReads
 pub mod CutOut
+pub mod ZmetadataWritten
+pub mod SmallLaws
+pub mod ZmetadataDocuments
+pub mod BlockFrom
+pub mod ZmetadataAgain

@@ -32,11 +32,25 @@ pub fn expand_consolidated_metadata(
     ensures keys { IfOk result (λ _. HasValidKeys block.metadata) }
     ensures err { IfErr result (RefusesKeys block.metadata) }
 {
-    let ConsolidatedMetadata { metadata } = block;
-    let paths = paths_of(alloc, path, &metadata)?;
-    let mut pairs = pair_up(alloc, paths, metadata)?;
+    let mut pairs = pairs_of(alloc, path, block)?;
     pairs.sort_by(|a, b| a.0.cmp(&b.0))?;
     Ok(pairs)
+}
+
+/// The nodes of a block below a path, in the order of their keys.
+pub(crate) fn pairs_of(
+    alloc: Global,
+    path: &NodePath,
+    block: ConsolidatedMetadata,
+) -> Result<Vec<(NodePath, NodeMetadata)>, NodeCreateError>
+    ensures pairs { IfOk result (λ all. all.items ≡ paired (paths_at path.now block.metadata block.metadata) block.metadata) }
+    ensures keys { IfOk result (λ _. HasValidKeys block.metadata) }
+    ensures ordered { IfOk result (λ _. IsAscending block.metadata) }
+    ensures err { IfErr result (RefusesKeys block.metadata) }
+{
+    let ConsolidatedMetadata { metadata } = block;
+    let paths = paths_of(alloc, path, &metadata)?;
+    Ok(pair_up(alloc, paths, metadata)?)
 }
 
 // The path of each key, in the order of the keys, or `None` where the key is passed over.

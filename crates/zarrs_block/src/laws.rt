@@ -1,6 +1,7 @@
 //! What holds of every block. A function with an empty body does nothing, and its contract is the law.
 ghost use Rattle.std.specs.Prelude.{◌≡◌, Ok};
 ghost use Rattle.zarrs_block.specs.Block.{HasPlainNodes, block_of, block_tree};
+ghost use Rattle.zarrs_block.specs.Zmetadata.{ZmetadataHolds, WrittenHoldsDocuments, WrittenReadsBack};
 
 use crate::consolidated::ConsolidatedMetadata;
 
@@ -9,4 +10,24 @@ use crate::consolidated::ConsolidatedMetadata;
 pub fn block_reads_back(block: &ConsolidatedMetadata)
     requires { HasPlainNodes block.now.metadata }
     ensures { block_of (block_tree block.now.metadata) ≡ Ok block.now.metadata }
+{}
+
+/// A document `.zmetadata` that reads as a block: the block holds the store that the members of `metadata` are, in which nothing below
+/// the group is bad, and its keys ascend.
+///
+/// Source: zarr-python, consolidated metadata of version 2.
+pub fn zmetadata_holds_store()
+    ensures { ZmetadataHolds }
+{}
+
+/// What is written of a version 2 group and its block has the documents of each node behind its names, and no others.
+#[tactic(auto, using(crate::proofs::ZmetadataDocuments::written_holds_documents))]
+pub fn written_holds_documents()
+    ensures { WrittenHoldsDocuments }
+{}
+
+/// What is written of a plain version 2 group and a block of plain nodes of version 2 reads as a block with the same entries.
+#[tactic(auto, using(crate::proofs::ZmetadataAgain::written_reads_back))]
+pub fn written_reads_back()
+    ensures { WrittenReadsBack }
 {}

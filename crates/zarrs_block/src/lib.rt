@@ -8,6 +8,8 @@ pub mod laws;
 mod node_create_error;
 mod policy;
 mod without;
+mod zmetadata;
+mod zmetadata_written;
 
 pub use consolidated::{ConsolidatedMetadata, ConsolidatedMetadataMetadata};
 pub use expand::expand_consolidated_metadata;
@@ -18,3 +20,7 @@ pub use policy::{
 
 #[cfg(test)]
 mod tests;
+#[cfg(test)]
+mod zmetadata_tests;
+#[cfg(test)]
+mod zmetadata_written_tests;

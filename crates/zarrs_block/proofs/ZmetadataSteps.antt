@@ -1,0 +1,479 @@
+-- The passes of the reader of `.zmetadata`: the names of members, the documents put at the texts of their paths, and the nodes read from them.
+use Rattle.std.proofs.Common.{◌≡◌, ℕ, Bool, true, false, true≢false, not, ◌&&◌, cond, if◌then◌else◌, List, [], ◌∷◌, ◌++◌, length, Option, Some, None, IsSome, Result, Ok, Err, IfOk, IfErr, String, Global, string_bytes, string_cmp, Less, is_eq, IsTrue, codes, refl, sym, ap, subst, ◌∙◌}
+use Rattle.std.specs.Prelude.{◌==◌, is_some, option_and_then}
+use Rattle.std.specs.List.{list_all, filter, AllByRecursion}
+use Rattle.std.specs.List.Sorted.{IsStrictlySortedBy}
+use Rattle.std.specs.Map.{keys_of, lookup}
+use Rattle.std.specs.BTreeMap.{BTreeMap, get_by_text, UpdatesBy, is_at}
+use Rattle.std.specs.Ordering.{nat_cmp}
+use Rattle.std.specs.Cmp.Lexicographic.{slice_cmp}
+use Rattle.std.specs.Result.{result_ok, IsErrAnd}
+use Rattle.std.specs.Str.{bytes_eq}
+use Rattle.std.proofs.lemmas.Bool.{and_parts, and_from, and_left}
+use Rattle.std.proofs.lemmas.Map.Keys.{sorted_head, sorted_tail}
+use Rattle.std.proofs.lemmas.Map.Text.{btree_map_updates_text}
+use Rattle.std.proofs.lemmas.Slice.Eq.{bytes_eq-Decides}
+use Rattle.std.proofs.lemmas.List.Splits.{join_with_byte-slice_split}
+use Rattle.serde_json.specs.Data.{Data, object, Members, member}
+use Rattle.serde_json.specs.Find.{get_member, as_object}
+use Rattle.serde_json.specs.View.{view, members_view}
+use Rattle.serde_json.proofs.Views.{Entry, member_here, member_later}
+use Rattle.zarrs_store.specs.Segments.{Segments, bytes_cmp, key_text, has_no_slash, last_segment}
+use Rattle.zarrs_store.specs.declared.fault.MetadataFault.{MetadataFault}
+use Rattle.zarrs_store.specs.declared.fault.MetadataFault.TheVariants.{NotJson, UnsupportedNumber, NotAnObject, WrongFormat, WrongNodeType, MissingMember, BadMember, OutOfMemory}
+use Rattle.zarrs_store.proofs.ChildLemmas.{last_segment-child}
+use Rattle.zarrs_store.proofs.Cuts.{parts_one, parts_some, nonempty_is}
+use Rattle.zarrs_path.specs.Names.{is_name, is_node_name}
+use Rattle.zarrs_path.specs.Paths.{IsPath}
+use Rattle.zarrs_form.specs.Documents.{Gives, Refuses, document_of, formed, required}
+use Rattle.zarrs_form.specs.Documents as steps
+use Rattle.zarrs_form.specs.Forms.{is_nil}
+use Rattle.zarrs_meta.specs.declared.node.NodeMetadata.{NodeMetadata}
+use Rattle.zarrs_block.specs.Block.{Block, IsAscending, found, put}
+use Rattle.zarrs_block.specs.Small.{is_document_v2, stretches, counted}
+use Rattle.zarrs_block.specs.Zmetadata.{one, before_last, below, small_block, zmetadata_members, zmetadata_of, HoldsStore, IsClean}
+use Rattle.zarrs_block.specs.ZmetadataRead.{file_name, is_file, member_at, read_files, tree_in, tree_at, is_below, IsPlace, are_named, RefusesNames, HoldsNodes, RefusesTrees, zmetadata_taken}
+use Rattle.zarrs_block.specs.declared.consolidated.ConsolidatedMetadata.{ConsolidatedMetadata}
+use Rattle.zarrs_block.specs.declared.zmetadata.Documents.{Documents}
+use Rattle.zarrs_block.specs.declared.zmetadata.File.{File}
+use Rattle.zarrs_block.specs.declared.zmetadata.File.TheVariants.{Array as array_file, Group as group_file, Attributes as attributes_file}
+use Rattle.zarrs_block.proofs.Expansion.{at_itself, same_text}
+use Rattle.zarrs_block.proofs.LastSlash.{IsCutText}
+use Rattle.zarrs_block.proofs.Puts.{found_put, put_ascends, none_ascend}
+use Rattle.zarrs_block.proofs.SmallBlocks.{block_is, names_refused, trees_refused, store_law, ascending_law}
+use Rattle.zarrs_block.proofs.SmallStores.{before_last-child, parts_child}
+
+-- ---- the names of members
+
+-- the name of a file has no slash
+pub file_clean : (file : File) → IsTrue (has_no_slash (file_name file))
+file_clean array_file = refl
+file_clean group_file = refl
+file_clean attributes_file = refl
+
+-- and is that of a document of version 2
+file_counts : (file : File) → is_document_v2 (file_name file) ≡ true
+file_counts array_file = refl
+file_counts group_file = refl
+file_counts attributes_file = refl
+
+-- a text that is not empty and is the name of a node is a name
+pub name_test : (n : List ℕ) → (not (length n == 0) && is_node_name n) ≡ is_name n
+name_test [] = refl
+name_test (b ∷ s) = ap (λ x. x && is_node_name (b ∷ s)) (nonempty_is (b ∷ s))
+
+-- a text has a part
+parts_not_nil : (t : List ℕ) → is_nil (stretches t) ≡ false
+parts_not_nil t = by (stretches t) refl
+  where
+    by : (p : Segments) → stretches t ≡ p → is_nil p ≡ false
+    by [] is = absurd (parts_some t is)
+    by (n ∷ ns) is = refl
+
+module _ (path name : List ℕ) (clean : IsTrue (has_no_slash name)) where
+  -- behind the last slash stands the last part
+  last_is : last_segment (stretches (path ++ 47 ∷ name)) ≡ name
+  last_is = ap last_segment (parts_child path name clean) ∙ last_segment-child (stretches path) name
+
+  -- and before it the others
+  front_is : before_last (stretches (path ++ 47 ∷ name)) ≡ stretches path
+  front_is = ap before_last (parts_child path name clean) ∙ before_last-child (stretches path) name
+
+-- a text without a slash does not count below the group
+pub whole_not_below : (t : List ℕ) → IsTrue (has_no_slash t) → is_below t ≡ false
+whole_not_below t clean = ap (λ ps. is_document_v2 (last_segment ps) && not (is_nil (before_last ps))) (parts_one t clean) ∙ by (is_document_v2 t)
+  where
+    by : (b : Bool) → (b && false) ≡ false
+    by true = refl
+    by false = refl
+
+-- nor does one whose last part is no file
+pub other_not_below : (t path name : List ℕ) → IsCutText t path name → is_document_v2 name ≡ false → is_below t ≡ false
+other_not_below t path name cut none =
+    ap is_below cut.cut ∙ and_left (is_document_v2 (last_segment (stretches (path ++ 47 ∷ name)))) (not (is_nil (before_last (stretches (path ++ 47 ∷ name)))))
+    (ap is_document_v2 (last_is path name cut.clean) ∙ none)
+
+-- a file behind a slash counts
+file_below : (t : List ℕ) (file : File) → is_below (t ++ 47 ∷ file_name file) ≡ true
+file_below t file =
+    and_from (is_document_v2 (last_segment (stretches (t ++ 47 ∷ file_name file)))) (not (is_nil (before_last (stretches (t ++ 47 ∷ file_name file)))))
+    (ap is_document_v2 (last_is t (file_name file) (file_clean file)) ∙ file_counts file)
+    (ap (λ p. not (is_nil p)) (front_is t (file_name file) (file_clean file)) ∙ ap not (parts_not_nil t))
+
+-- a file below what are no names is refused
+pub place_refused : (t path name : List ℕ) (file : File) → IsCutText t path name → name ≡ file_name file → list_all is_name (stretches path) ≡ false
+    → (is_below t ≡ true) × (list_all is_name (before_last (stretches t)) ≡ false)
+place_refused t path name file cut is none = (
+  ap is_below (cut.cut ∙ ap (λ n. path ++ 47 ∷ n) is) ∙ file_below path file,
+  ap (λ u. list_all is_name (before_last (stretches u))) cut.cut ∙ ap (list_all is_name) (front_is path name cut.clean) ∙ none,
+)
+
+-- with one more member in front, the names are those of nodes where its own is, if it counts, and the others are
+named_cons : (u : List ℕ) (d : Data) (ms : Members) → are_named (member u d ms) ≡ (if is_below u then list_all is_name (before_last (stretches u)) && are_named ms else are_named ms)
+named_cons u d ms = by (is_document_v2 (last_segment (stretches u))) (is_nil (before_last (stretches u))) refl
+  where
+    by : (x y : Bool) → is_nil (before_last (stretches u)) ≡ y
+        → list_all (λ e. list_all is_name (before_last e.0)) (filter (λ e. not (is_nil (before_last e.0))) (if x then (stretches u, d) ∷ counted ms else counted ms))
+        ≡ (if x && not y then list_all is_name (before_last (stretches u)) && are_named ms else are_named ms)
+    by true true is = ap (λ b. list_all (λ (e : Segments × Data). list_all is_name (before_last e.0)) (cond (not b) ((stretches u, d) ∷ below ms) (below ms))) is
+    by true false is = ap (λ b. list_all (λ (e : Segments × Data). list_all is_name (before_last e.0)) (cond (not b) ((stretches u, d) ∷ below ms) (below ms))) is
+    by false y is = refl
+
+-- ---- the documents at the texts of their paths
+
+-- the first document, where there is one, and else the second
+abbrev pub first_tree : Option Data → Option Data → Option Data
+first_tree (Some d) other = Some d
+first_tree None other = other
+
+-- members of a map that are left: what all members have is what these have, or else what was put; and the names are those of nodes where those that are left are
+pub record IsGathered (ms : Members) (all : BTreeMap (String Global) Documents) (left : List Entry) : Type 0 where
+  pub up : IsStrictlySortedBy string_cmp (keys_of left)
+  pub here : (t : List ℕ) (file : File) → member_at ms t file ≡ first_tree (member_at (members_view left) t file) (tree_at all t file)
+  pub named : are_named ms ≡ are_named (members_view left)
+
+-- a member whose name is before all others stands at it alone
+alone : (k : String Global) (es : List Entry) → AllByRecursion (λ y. string_cmp k y ≡ Less) (keys_of es) → get_member (string_bytes k) (members_view es) ≡ None
+alone k [] h = refl
+alone k (e ∷ es) h = member_later (string_bytes k) e es apart ∙ alone k es h.1
+  where
+    apart : string_bytes k ≡ string_bytes e.0 → ⊥
+    apart same = let both : true ≡ false = sym (at_itself (string_bytes k)) ∙ ap (λ t. is_eq (bytes_cmp (string_bytes k) t)) same ∙ ap is_eq h.0 in cc
+
+-- before nothing stands the first
+first_none : (o : Option Data) → o ≡ first_tree o None
+first_none None = refl
+first_none (Some d) = refl
+
+-- at first all members are left
+pub none_gathered : (es left : List Entry) (all : BTreeMap (String Global) Documents) → left ≡ es → all.entries ≡ [] → IsStrictlySortedBy string_cmp (keys_of es) → IsGathered (members_view es) all left
+none_gathered es left all is empty up = record {
+  up = subst (λ xs. IsStrictlySortedBy string_cmp (keys_of xs)) (sym is) up;
+  here = λ t file.
+      first_none (member_at (members_view es) t file)
+      ∙ ap (λ o. first_tree (member_at (members_view es) t file) (option_and_then (λ (h : Documents). tree_in h file) o)) (sym (none t))
+      ∙ ap (λ xs. first_tree (member_at (members_view xs) t file) (tree_at all t file)) (sym is);
+  named = ap (λ xs. are_named (members_view xs)) (sym is);
+}
+  where
+    none : (t : List ℕ) → get_by_text all t ≡ None
+    none t = ap (lookup (is_at (λ k. slice_cmp nat_cmp t (string_bytes k)))) empty
+
+module _ (ms : Members) (all : BTreeMap (String Global) Documents) (left : List Entry) (e : Entry) (es : List Entry) (is : left ≡ e ∷ es) (h : IsGathered ms all left) where
+  -- what was gathered before this member
+  before : IsGathered ms all (e ∷ es)
+  before = subst (IsGathered ms all) is h
+
+  -- a member that does not count is passed over
+  pub passed_over : is_below (string_bytes e.0) ≡ false → IsGathered ms all es
+  passed_over none = record {
+    up = sorted_tail string_cmp e.0 (keys_of es) before.up;
+    here = λ t file.
+        before.here t file
+        ∙ ap (λ o. first_tree o (tree_at all t file)) (member_later (t ++ 47 ∷ file_name file) e es (λ same. true≢false (sym (file_below t file) ∙ ap is_below same ∙ none)));
+    named =
+        before.named ∙ named_cons (string_bytes e.0) (view e.1) (members_view es)
+        ∙ ap (λ b. if b then list_all is_name (before_last (stretches (string_bytes e.0))) && are_named (members_view es) else are_named (members_view es)) none;
+  }
+
+  -- one that counts below names is put at the text of its path
+  pub put_there : (new : BTreeMap (String Global) Documents) (path : List ℕ) (file : File) → string_bytes e.0 ≡ path ++ 47 ∷ file_name file → IsPath (stretches path)
+      → ((t : List ℕ) (other : File) → tree_at new t other ≡ (if bytes_eq path t && is_file file other then Some (view e.1) else tree_at all t other)) → IsGathered ms new es
+  put_there new path file name valid fresh = record {
+    up = sorted_tail string_cmp e.0 (keys_of es) before.up;
+    here = λ t other. before.here t other ∙ by t other (bytes_eq path t && is_file file other) refl;
+    named =
+        before.named ∙ named_cons (string_bytes e.0) (view e.1) (members_view es)
+        ∙ ap (λ b. if b then list_all is_name (before_last (stretches (string_bytes e.0))) && are_named (members_view es) else are_named (members_view es)) (ap is_below name ∙ file_below path file)
+        ∙ ap (λ b. b && are_named (members_view es)) (ap (λ u. list_all is_name (before_last (stretches u))) name ∙ ap (list_all is_name) (front_is path (file_name file) (file_clean file)) ∙ valid);
+  }
+    where
+      -- a name that is the same is that of the same path and file
+      apart : (t : List ℕ) (other : File) → (bytes_eq path t && is_file file other) ≡ false → t ++ 47 ∷ file_name other ≡ string_bytes e.0 → ⊥
+      apart t other differ same =
+          let cut : path ++ 47 ∷ file_name file ≡ t ++ 47 ∷ file_name other = sym name ∙ sym same in
+          let fronts : stretches path ≡ stretches t = sym (front_is path (file_name file) (file_clean file)) ∙ ap (λ u. before_last (stretches u)) cut ∙ front_is t (file_name other) (file_clean other) in
+          let texts : path ≡ t = sym (join_with_byte-slice_split 47 path) ∙ ap key_text fronts ∙ join_with_byte-slice_split 47 t in
+          let files : file_name file ≡ file_name other = sym (last_is path (file_name file) (file_clean file)) ∙ ap (λ u. last_segment (stretches u)) cut ∙ last_is t (file_name other) (file_clean other) in
+          true≢false (sym (and_from (bytes_eq path t) (is_file file other) ((bytes_eq-Decides path t).1 texts) ((bytes_eq-Decides (file_name file) (file_name other)).1 files)) ∙ differ)
+
+      by : (t : List ℕ) (other : File) (b : Bool) → (bytes_eq path t && is_file file other) ≡ b
+          → first_tree (member_at (members_view (e ∷ es)) t other) (tree_at all t other) ≡ first_tree (member_at (members_view es) t other) (tree_at new t other)
+      by t other true at =
+          let both = and_parts (bytes_eq path t) (is_file file other) at in
+          let same : t ++ 47 ∷ file_name other ≡ string_bytes e.0 = (λ i. sym ((bytes_eq-Decides path t).0 both.0) i ++ 47 ∷ sym ((bytes_eq-Decides (file_name file) (file_name other)).0 both.1) i) ∙ sym name in
+          ap (λ o. first_tree o (tree_at all t other)) (member_here (t ++ 47 ∷ file_name other) e es same)
+          ∙ sym (ap (λ o. first_tree o (tree_at new t other)) (ap (λ u. get_member u (members_view es)) same ∙ alone e.0 es (sorted_head string_cmp e.0 (keys_of es) before.up))
+          ∙ fresh t other ∙ ap (λ b. if b then Some (view e.1) else tree_at all t other) at)
+      by t other false at =
+          ap (λ o. first_tree o (tree_at all t other)) (member_later (t ++ 47 ∷ file_name other) e es (apart t other at))
+          ∙ ap (λ o. first_tree (member_at (members_view es) t other) o) (sym (fresh t other ∙ ap (λ b. if b then Some (view e.1) else tree_at all t other) at))
+
+  -- one that counts below no names is refused
+  pub names_are_bad : is_below (string_bytes e.0) ≡ true → list_all is_name (before_last (stretches (string_bytes e.0))) ≡ false → are_named ms ≡ false
+  names_are_bad counts bad =
+      before.named ∙ named_cons (string_bytes e.0) (view e.1) (members_view es)
+      ∙ ap (λ b. if b then list_all is_name (before_last (stretches (string_bytes e.0))) && are_named (members_view es) else are_named (members_view es)) counts
+      ∙ ap (λ b. b && are_named (members_view es)) bad
+
+  -- a refusal of its name is one of the members
+  pub refused_place : (fault : MetadataFault) → IsPlace (string_bytes e.0) (Err fault) → RefusesNames ms fault
+  refused_place NotJson refused = absurd refused
+  refused_place UnsupportedNumber refused = absurd refused
+  refused_place NotAnObject refused = absurd refused
+  refused_place WrongFormat refused = absurd refused
+  refused_place WrongNodeType refused = absurd refused
+  refused_place (MissingMember name) refused = absurd refused
+  refused_place (BadMember name) refused = (refused.0, names_are_bad refused.1 refused.2)
+  refused_place OutOfMemory refused = tt
+
+-- where none is left, all are put
+pub all_gathered : (ms : Members) (all : BTreeMap (String Global) Documents) (left : List Entry) → left ≡ [] → IsGathered ms all left
+    → ((t : List ℕ) (file : File) → tree_at all t file ≡ member_at ms t file) × IsTrue (are_named ms)
+all_gathered ms all left is h =
+    let done : IsGathered ms all [] = subst (IsGathered ms all) is h in
+    (λ t file. sym (done.here t file), done.named)
+
+-- ---- one document put
+
+-- the documents at a text taken out and put back with one more are those of before and that one
+pub put_tree : (old mid new : BTreeMap (String Global) Documents) (p : List ℕ) (k : String Global) (file : File) (d : Data) (was now : Documents) → string_bytes k ≡ p
+    → UpdatesBy string_cmp (λ x. slice_cmp nat_cmp p (string_bytes x)) old mid None → UpdatesBy string_cmp (string_cmp k) mid new (Some now)
+    → ((other : File) → tree_in was other ≡ tree_at old p other)
+    → ((other : File) → tree_in now other ≡ (if is_file file other then Some d else tree_in was other))
+    → (t : List ℕ) (other : File) → tree_at new t other ≡ (if bytes_eq p t && is_file file other then Some d else tree_at old t other)
+put_tree old mid new p k file d was now key gone there before after t other =
+    ap (option_and_then (λ (h : Documents). tree_in h other)) found_new ∙ by (bytes_eq p t) refl
+  where
+    found_new : get_by_text new t ≡ cond (bytes_eq p t) (Some now) (get_by_text old t)
+    found_new =
+        btree_map_updates_text (string_bytes k) mid new (Some now) there t
+        ∙ ap (λ q. cond (bytes_eq q t) (Some now) (get_by_text mid t)) key
+        ∙ ap (cond (bytes_eq p t) (Some now)) (btree_map_updates_text p old mid None gone t)
+        ∙ twice (bytes_eq p t)
+      where
+        twice : (b : Bool) → cond b (Some now) (cond b None (get_by_text old t)) ≡ cond b (Some now) (get_by_text old t)
+        twice true = refl
+        twice false = refl
+
+    by : (b : Bool) → bytes_eq p t ≡ b → option_and_then (λ h. tree_in h other) (cond b (Some now) (get_by_text old t)) ≡ (if b && is_file file other then Some d else tree_at old t other)
+    by true at =
+        after other ∙ ap (λ o. if is_file file other then Some d else o) (before other ∙ ap (λ q. tree_at old q other) ((bytes_eq-Decides p t).0 at))
+    by false at = refl
+
+-- ---- the nodes
+
+-- what the block has at a text, or what the documents there that are left are read as
+abbrev pub now_at : Option NodeMetadata → Option Documents → Option (Option NodeMetadata)
+now_at o None = Some o
+now_at o (Some here) = result_ok (read_files (tree_in here))
+
+-- the documents that are left at a text
+abbrev pub left_at : List (String Global × Documents) → List ℕ → Option Documents
+left_at left t = lookup (is_at (λ k. slice_cmp nat_cmp t (string_bytes k))) left
+
+-- the block has what was read, and nothing where documents are left
+pub record IsRead (all : BTreeMap (String Global) Documents) (B : Block) (left : List (String Global × Documents)) : Type 0 where
+  pub up : IsStrictlySortedBy string_cmp (keys_of left)
+  pub ascending : IsAscending B
+  pub apart : (t : List ℕ) → IsSome (left_at left t) → found B t ≡ None
+  pub here : (t : List ℕ) → result_ok (read_files (tree_at all t)) ≡ now_at (found B t) (left_at left t)
+
+-- at first all documents are left
+pub none_read_yet : (all : BTreeMap (String Global) Documents) (B : Block) (left : List (String Global × Documents)) → B ≡ [] → left ≡ all.entries → IsStrictlySortedBy string_cmp (keys_of all.entries) → IsRead all B left
+none_read_yet all B left none is up = subst (λ C. IsRead all C left) (sym none) (subst (IsRead all []) (sym is) (record {
+  up = up;
+  ascending = none_ascend;
+  apart = λ t some. refl;
+  here = λ t. by (left_at all.entries t);
+}))
+  where
+    by : (o : Option Documents) → result_ok (read_files (λ file. option_and_then (λ (h : Documents). tree_in h file) o)) ≡ now_at None o
+    by None = refl
+    by (Some x) = refl
+
+-- nothing is left where the first documents were
+none_left : (k : String Global) (es : List (String Global × Documents)) → AllByRecursion (λ y. string_cmp k y ≡ Less) (keys_of es) → left_at es (string_bytes k) ≡ None
+none_left k [] h = refl
+none_left k (e ∷ es) h = ap (λ o. cond (is_eq o) (Some e.1) (left_at es (string_bytes k))) h.0 ∙ none_left k es h.1
+
+-- behind one more, what is left is still left
+some_left : (b : Bool) (x : Documents) (o : Option Documents) → IsSome o → IsSome (cond b (Some x) o)
+some_left true x o h = refl
+some_left false x o h = h
+
+module _ (all : BTreeMap (String Global) Documents) (B : Block) (left : List (String Global × Documents)) (e : String Global × Documents) (es : List (String Global × Documents)) (is : left ≡ e ∷ es) (h : IsRead all B left) where
+  -- what was read before these documents
+  then_read : IsRead all B (e ∷ es)
+  then_read = subst (IsRead all B) is h
+
+  -- whether a text is that of these documents
+  abbrev is_here : List ℕ → Bool
+  is_here t = is_eq (bytes_cmp t (string_bytes e.0))
+
+  module _ (C : Block) (o : Option NodeMetadata) (reads : result_ok (read_files (tree_in e.1)) ≡ Some o) (fresh : (t : List ℕ) → found C t ≡ cond (is_here t) o (found B t)) where
+    -- what is read at each text is in the block, or left
+    here_next : (t : List ℕ) (b : Bool) → is_here t ≡ b → result_ok (read_files (tree_at all t)) ≡ now_at (cond b o (found B t)) (left_at es t)
+    here_next t true at =
+        then_read.here t ∙ ap (λ b. now_at (found B t) (cond b (Some e.1) (left_at es t))) at ∙ reads
+        ∙ ap (now_at o) (sym (ap (left_at es) (same_text t (string_bytes e.0) at) ∙ none_left e.0 es (sorted_head string_cmp e.0 (keys_of es) then_read.up)))
+    here_next t false at = then_read.here t ∙ ap (λ b. now_at (found B t) (cond b (Some e.1) (left_at es t))) at
+
+    -- and the block has nothing where documents are left
+    apart_next : (t : List ℕ) → IsSome (left_at es t) → (b : Bool) → is_here t ≡ b → cond b o (found B t) ≡ None
+    apart_next t some true at =
+        let none : left_at es t ≡ None = ap (left_at es) (same_text t (string_bytes e.0) at) ∙ none_left e.0 es (sorted_head string_cmp e.0 (keys_of es) then_read.up) in
+        absurd (true≢false (sym some ∙ ap is_some none))
+    apart_next t some false at = then_read.apart t (some_left (is_here t) e.1 (left_at es t) some)
+
+    -- so the reading goes on
+    read_on : IsAscending C → IsRead all C es
+    read_on up = record {
+      up = sorted_tail string_cmp e.0 (keys_of es) then_read.up;
+      ascending = up;
+      apart = λ t some. fresh t ∙ apart_next t some (is_here t) refl;
+      here = λ t. here_next t (is_here t) refl ∙ ap (λ x. now_at x (left_at es t)) (sym (fresh t));
+    }
+
+  -- documents that are no node leave the block as it is
+  pub read_none : result_ok (read_files (tree_in e.1)) ≡ Some None → IsRead all B es
+  read_none reads = read_on B None reads (λ t. sym (by t (is_here t) refl)) then_read.ascending
+    where
+      by : (t : List ℕ) (b : Bool) → is_here t ≡ b → cond b None (found B t) ≡ found B t
+      by t true at = sym (then_read.apart t (ap (λ b. is_some (cond b (Some e.1) (left_at es t))) at))
+      by t false at = refl
+
+  -- the node that they are is put at their text
+  pub read_some : (C : Block) (m : NodeMetadata) → result_ok (read_files (tree_in e.1)) ≡ Some (Some m) → C ≡ put (string_bytes e.0) m B → IsRead all C es
+  read_some C m reads new =
+      read_on C (Some m) reads (λ t. ap (λ D. found D t) new ∙ found_put t (string_bytes e.0) m B)
+      (subst IsAscending (sym new) (put_ascends (string_bytes e.0) m B then_read.ascending))
+
+  -- where they do not read, the documents at some text do not
+  not_read : result_ok (read_files (tree_in e.1)) ≡ None → (t : List ℕ) × (result_ok (read_files (tree_at all t)) ≡ None)
+  not_read none = (string_bytes e.0, then_read.here (string_bytes e.0) ∙ ap (λ b. now_at (found B (string_bytes e.0)) (cond b (Some e.1) (left_at es (string_bytes e.0)))) (at_itself (string_bytes e.0)) ∙ none)
+
+  -- the refusal of a reading is one of the documents
+  pub refused_node : (fault : MetadataFault) → Refuses fault (formed (codes "metadata") (result_ok (read_files (tree_in e.1)))) → RefusesTrees all fault
+  refused_node fault refused = by (result_ok (read_files (tree_in e.1))) refl fault refused
+    where
+      by : (o : Option (Option NodeMetadata)) → result_ok (read_files (tree_in e.1)) ≡ o → (fault : MetadataFault) → Refuses fault (formed (codes "metadata") o) → RefusesTrees all fault
+      by (Some x) none NotJson refused = cc
+      by (Some x) none UnsupportedNumber refused = cc
+      by (Some x) none NotAnObject refused = cc
+      by (Some x) none WrongFormat refused = cc
+      by (Some x) none WrongNodeType refused = cc
+      by (Some x) none (MissingMember name) refused = cc
+      by (Some x) none (BadMember name) refused = cc
+      by (Some x) none OutOfMemory refused = tt
+      by None none NotJson refused = cc
+      by None none UnsupportedNumber refused = cc
+      by None none NotAnObject refused = cc
+      by None none WrongFormat refused = cc
+      by None none WrongNodeType refused = cc
+      by None none (MissingMember name) refused = cc
+      by None none (BadMember name) refused = let same : name ≡ codes "metadata" = cc in (same, not_read none)
+      by None none OutOfMemory refused = tt
+
+-- where none is left, all are read
+pub all_nodes : (all : BTreeMap (String Global) Documents) (B : Block) (left : List (String Global × Documents)) → left ≡ [] → IsRead all B left → HoldsNodes all (found B)
+all_nodes all B left is h = let done : IsRead all B [] = subst (IsRead all B) is h in λ t. done.here t
+
+-- ---- refusals
+
+-- a refusal that is handed on is one
+pub handed_on : {A : Type 0} (r : Result A MetadataFault) (fault : MetadataFault) (P : MetadataFault → Type 0) → IsErrAnd r (λ made. made ≡ fault) → P fault → IfErr r P
+handed_on (Ok x) fault P is h = absurd is
+handed_on (Err made) fault P is h = subst P (sym is) h
+
+-- the same of a refusal of a reading
+pub gives_refused : {A B : Type 0} (see : A → B) (r : Result A MetadataFault) (fault : MetadataFault) (reading : Result B MetadataFault) → IsErrAnd r (λ made. made ≡ fault) → Refuses fault reading → Gives see r reading
+gives_refused see (Ok x) fault reading is h = absurd is
+gives_refused see (Err made) fault reading is h = subst (λ f. Refuses f reading) (sym is) h
+
+-- what refuses a reading refuses one that has its faults
+refuses_too : {A B : Type 0} (fault : MetadataFault) (r : Result A MetadataFault) (q : Result B MetadataFault) → ((f : MetadataFault) → r ≡ Err f → q ≡ Err f) → Refuses fault r → Refuses fault q
+refuses_too NotJson r q step h = step NotJson h
+refuses_too UnsupportedNumber r q step h = step UnsupportedNumber h
+refuses_too NotAnObject r q step h = step NotAnObject h
+refuses_too WrongFormat r q step h = step WrongFormat h
+refuses_too WrongNodeType r q step h = step WrongNodeType h
+refuses_too (MissingMember name) r q step h = step (MissingMember name) h
+refuses_too (BadMember name) r q step h = step (BadMember name) h
+refuses_too OutOfMemory r q step h = tt
+
+-- ---- both passes
+
+module _ (ms : Members) where
+  -- a refusal of the names is that of the members
+  pub gives_names : (fault : MetadataFault) → RefusesNames ms fault → Refuses fault (small_block ms)
+  gives_names NotJson refused = absurd refused
+  gives_names UnsupportedNumber refused = absurd refused
+  gives_names NotAnObject refused = absurd refused
+  gives_names WrongFormat refused = absurd refused
+  gives_names WrongNodeType refused = absurd refused
+  gives_names (MissingMember name) refused = absurd refused
+  gives_names (BadMember name) refused = names_refused ms refused.1 ∙ ap (λ n. Err (BadMember n)) (sym refused.0)
+  gives_names OutOfMemory refused = tt
+
+  module _ (all : BTreeMap (String Global) Documents) (whole : (t : List ℕ) (file : File) → tree_at all t file ≡ member_at ms t file) (named : are_named ms ≡ true) where
+    -- what is put at a text reads as what the members have for it
+    same_files : (t : List ℕ) → result_ok (read_files (member_at ms t)) ≡ result_ok (read_files (tree_at all t))
+    same_files t = ap (λ (f : File → Option Data). result_ok (read_files f)) (λ i file. sym (whole t file) i)
+
+    -- the block that was read is that of the members, and a refusal is theirs
+    pub gives_nodes : (r : Result Block MetadataFault) → IfOk r (λ B. HoldsNodes all (found B)) → IfOk r IsAscending → IfErr r (RefusesTrees all) → Gives (λ B. B) r (small_block ms)
+    gives_nodes (Ok B) nodes up refused = block_is ms B named up (λ t. same_files t ∙ nodes t)
+    gives_nodes (Err NotJson) nodes up refused = absurd refused
+    gives_nodes (Err UnsupportedNumber) nodes up refused = absurd refused
+    gives_nodes (Err NotAnObject) nodes up refused = absurd refused
+    gives_nodes (Err WrongFormat) nodes up refused = absurd refused
+    gives_nodes (Err WrongNodeType) nodes up refused = absurd refused
+    gives_nodes (Err (MissingMember name)) nodes up refused = absurd refused
+    gives_nodes (Err (BadMember name)) nodes up refused = trees_refused ms refused.1.0 (same_files refused.1.0 ∙ refused.1.1) ∙ ap (λ n. Err (BadMember n)) (sym refused.0)
+    gives_nodes (Err OutOfMemory) nodes up refused = tt
+
+-- ---- the document
+
+-- once its members are told, the rest of a document is read of them
+taken_by : (d : Data) (r : Result Members MetadataFault) (ms : Members) → r ≡ Ok ms
+    → steps.◌>>=◌ (steps.◌>>=◌ r λ _. steps.◌>>=◌ (required (codes "zarr_consolidated_format") one d) λ _. required (codes "metadata") as_object d) small_block ≡ zmetadata_taken d
+taken_by d (Ok ns) ms is = by (required (codes "zarr_consolidated_format") one d)
+  where
+    by : (q : Result (Unit {0}) MetadataFault) → steps.◌>>=◌ (steps.◌>>=◌ q λ _. required (codes "metadata") as_object d) small_block
+        ≡ (steps.◌>>=◌ q λ _. steps.◌>>=◌ (required (codes "metadata") as_object d) small_block)
+    by (Ok x) = refl
+    by (Err e) = refl
+taken_by d (Err e) ms is = cc
+
+-- what a document means is what its members mean
+taken_is : (d : Data) (ms : Members) → document_of d ≡ Ok ms → zmetadata_of d ≡ zmetadata_taken d
+unfolding zmetadata_of
+taken_is d ms is = taken_by d (document_of d) ms is
+
+-- a fault of the members is the first of the document
+document_faults : (d : Data) (f : MetadataFault) → document_of d ≡ Err f → zmetadata_of d ≡ Err f
+unfolding zmetadata_of
+document_faults d f e =
+    ap (λ (r : Result Members MetadataFault). steps.◌>>=◌ (steps.◌>>=◌ r λ _. steps.◌>>=◌ (required (codes "zarr_consolidated_format") one d) λ _. required (codes "metadata") as_object d) small_block) e
+
+module _ (d : Data) where
+  -- what refuses the members refuses the document
+  pub refused_document : (fault : MetadataFault) → Refuses fault (document_of d) → Refuses fault (zmetadata_of d)
+  refused_document fault refused = refuses_too fault (document_of d) (zmetadata_of d) (document_faults d) refused
+
+  -- what was read of the members was read of the document
+  pub gives_document : (ms : Members) (r : Result ConsolidatedMetadata MetadataFault) → document_of d ≡ Ok ms → d ≡ object ms
+      → Gives (λ block. block.metadata) r (zmetadata_taken (object ms)) → Gives (λ block. block.metadata) r (zmetadata_of d)
+  gives_document ms r reads whole gives = subst (λ q. Gives (λ block. block.metadata) r q) (ap zmetadata_taken (sym whole) ∙ sym (taken_is d ms reads)) gives
+
+  -- the block that was read holds the store that the members are
+  pub gives_store : (r : Result ConsolidatedMetadata MetadataFault) → Gives (λ block. block.metadata) r (zmetadata_of d)
+      → IfOk r (λ block. (ms : Members) × (zmetadata_members d ≡ Ok ms) × HoldsStore ms block.metadata × IsClean ms)
+  gives_store (Ok block) gives = store_law d block.metadata gives
+  gives_store (Err fault) gives = tt
+
+  -- and its keys ascend
+  pub gives_ascending : (r : Result ConsolidatedMetadata MetadataFault) → Gives (λ block. block.metadata) r (zmetadata_of d) → IfOk r (λ block. IsAscending block.metadata)
+  gives_ascending (Ok block) gives = ascending_law d block.metadata gives
+  gives_ascending (Err fault) gives = tt

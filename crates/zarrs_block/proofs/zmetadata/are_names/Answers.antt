@@ -1,0 +1,13 @@
+use Rattle.std.proofs.Common.{rules, lit<, ◌≡◌, not, ◌&&◌, length, refl, ◌∙◌}
+use Rattle.std.specs.Prelude.{◌==◌}
+use Rattle.std.proofs.lemmas.Iterator.Search.{all_from_yields_List}
+use Rattle.std.proofs.lemmas.Iterator.Splits.{YieldsList-from_str_split}
+use Rattle.zarrs_path.specs.Names.{is_name, is_node_name}
+use Rattle.zarrs_block.proofs.ZmetadataSteps.{name_test}
+use Rattle.zarrs_block.proofs.zmetadata.are_names.Goals as goal
+
+pub returns : goal.returns
+returns c =
+    all_from_yields_List is_name _ _ _ c.all.ensures.ran
+    (YieldsList-from_str_split 47 c.args.text.now (lit< tt) c.split.ensures.text c.split.ensures.has_more c.split.ensures.pattern)
+    (λ x b q k. let says : b ≡ (not (length x.now == 0) && is_node_name x.now) = search rules in (refl, says ∙ name_test x.now))

@@ -1,0 +1,114 @@
+-- Zarr core specification 3.1, "Metadata documents", and the version 2 specification, "Arrays", "Groups" and "Attributes": what a path means in a store, as a function of the look-ups at its keys.
+use Rattle.std.specs.Prelude.{◌≡◌, ℕ, List, [], ◌∷◌, ◌++◌, Option, Some, None, Result, Ok, Err}
+use Rattle.std.specs.FinMap.{FinMap, get}
+use Rattle.serde_json.specs.Data.{Data}
+use Rattle.zarrs_store.specs.Segments.{Segments, key_cmp}
+use Rattle.zarrs_store.specs.Contents.{Contents}
+use Rattle.zarrs_store.specs.declared.fault.MetadataFault.{MetadataFault}
+use Rattle.zarrs_store.specs.declared.storage_error.StorageError.{StorageError}
+use Rattle.zarrs_store.specs.declared.storage_error.StorageError.TheVariants.{InvalidMetadata}
+use Rattle.zarrs_path.specs.Paths.{Path}
+use Rattle.zarrs_path.specs.Keys.{zarr_json, zarray, zgroup, zattrs}
+use Rattle.zarrs_form.specs.Documents.{of_bytes}
+use Rattle.zarrs_meta.specs.ArrayV2.{array_v2_of}
+use Rattle.zarrs_meta.specs.GroupV2.{group_v2_of}
+use Rattle.zarrs_meta.specs.Attributes.{attributes_of}
+use Rattle.zarrs_meta.specs.Node.{zarr_json_of, array_with, group_with}
+use Rattle.zarrs_meta.specs.declared.array_v2.ArrayMetadataV2.{ArrayMetadataV2}
+use Rattle.zarrs_meta.specs.declared.group_v2.GroupMetadataV2.{GroupMetadataV2}
+use Rattle.zarrs_meta.specs.declared.attributes.AttributesDocument.{AttributesDocument}
+use Rattle.zarrs_meta.specs.declared.node.ArrayMetadata.TheVariants.{V2 as array_v2}
+use Rattle.zarrs_meta.specs.declared.node.GroupMetadata.TheVariants.{V2 as group_v2}
+use Rattle.zarrs_meta.specs.declared.node.NodeMetadata.{NodeMetadata}
+use Rattle.zarrs_meta.specs.declared.node.NodeMetadata.TheVariants.{Group, Array}
+use Rattle.zarrs_meta.specs.declared.node.ZarrJson.{ZarrJson}
+use Rattle.zarrs_meta.specs.declared.node.ZarrJson.TheVariants.{Node, Version2}
+use Rattle.zarrs_block.specs.declared.node_create_error.NodeCreateError.{NodeCreateError}
+use Rattle.zarrs_block.specs.declared.node_create_error.NodeCreateError.TheVariants.{StorageError as InStore, MetadataVersionMismatch}
+use Rattle.zarrs_config.specs.declared.version.MetadataRetrieveVersion.{MetadataRetrieveVersion}
+use Rattle.zarrs_config.specs.declared.version.MetadataRetrieveVersion.TheVariants.{Default, V3, V2}
+
+-- a path means a node with its metadata, or nothing, or is bad with a refusal
+pub data Meaning : Type 0 where
+  node : NodeMetadata → Meaning
+  nothing : Meaning
+  bad : NodeCreateError → Meaning
+
+-- a document as it was read, where a fault names the key
+abbrev pub named : {D : Type 0} → Segments → Result D MetadataFault → Result (Option D) StorageError
+named key (Ok d) = Ok (Some d)
+named key (Err fault) = Err (InvalidMetadata key fault)
+
+-- how what stands at the keys of a store reads as a document
+abbrev pub Reading : Type 0 → Type 1
+Reading V = (D : Type 0) → (Data → Result D MetadataFault) → V → Result D MetadataFault
+
+-- bytes read as the document that their tree is
+abbrev pub in_bytes : Reading (List ℕ)
+in_bytes D = of_bytes {A = D}
+
+-- a tree reads as the document that it is
+abbrev pub in_trees : Reading Data
+in_trees D document = document
+
+-- the document of what stands at a key, or none where nothing stands there
+abbrev pub document_from : {V D : Type 0} → (V → Result D MetadataFault) → Segments → Option V → Result (Option D) StorageError
+document_from reading key None = Ok None
+document_from reading key (Some x) = named key (reading x)
+
+-- the document at a key of a store of bytes or of trees, or none where the key is absent
+unfoldable pub document_at : {V D : Type 0} → (V → Result D MetadataFault) → FinMap key_cmp V → Segments → Result (Option D) StorageError
+document_at reading s key = document_from reading key (get s key)
+
+-- by the document `zarr.json` a path means its node or is bad, and where there is none it means what the other documents say
+abbrev pub version_3_line : Result (Option ZarrJson) StorageError → Meaning → Meaning
+version_3_line (Ok None) after = after
+version_3_line (Ok (Some (Node m))) after = node m
+version_3_line (Ok (Some Version2)) after = bad MetadataVersionMismatch
+version_3_line (Err e) after = bad (InStore e)
+
+-- by a version 2 document a path means its node, the attributes replaced by those beside it where there are any, or is bad, and where there is none it means what the other documents say
+abbrev pub version_2_line : {D : Type 0} → (D → NodeMetadata) → (AttributesDocument → D → D) → Result (Option D) StorageError → Result (Option AttributesDocument) StorageError → Meaning → Meaning
+version_2_line kind with (Ok None) attributes after = after
+version_2_line kind with (Ok (Some d)) (Ok None) after = node (kind d)
+version_2_line kind with (Ok (Some d)) (Ok (Some a)) after = node (kind (with a d))
+version_2_line kind with (Ok (Some d)) (Err e) after = bad (InStore e)
+version_2_line kind with (Err e) attributes after = bad (InStore e)
+
+-- the attributes at the key `.zattrs` of a path
+abbrev pub attributes_in : {V : Type 0} → Reading V → FinMap key_cmp V → Path → Result (Option AttributesDocument) StorageError
+attributes_in reading s p = document_at (reading AttributesDocument attributes_of) s (p ++ zattrs ∷ [])
+
+-- what `zarr.json` says, before the other documents
+unfoldable pub zarr_json_line : {V : Type 0} → Reading V → FinMap key_cmp V → Path → Meaning → Meaning
+zarr_json_line reading s p after = version_3_line (document_at (reading ZarrJson zarr_json_of) s (p ++ zarr_json ∷ [])) after
+
+-- what `.zarray` says, before the other documents
+unfoldable pub zarray_line : {V : Type 0} → Reading V → FinMap key_cmp V → Path → Meaning → Meaning
+zarray_line reading s p after = version_2_line (λ m. Array (array_v2 m)) array_with (document_at (reading ArrayMetadataV2 array_v2_of) s (p ++ zarray ∷ [])) (attributes_in reading s p) after
+
+-- what `.zgroup` says, before the other documents
+unfoldable pub zgroup_line : {V : Type 0} → Reading V → FinMap key_cmp V → Path → Meaning → Meaning
+zgroup_line reading s p after = version_2_line (λ m. Group (group_v2 m)) group_with (document_at (reading GroupMetadataV2 group_v2_of) s (p ++ zgroup ∷ [])) (attributes_in reading s p) after
+
+-- the version Default asks `zarr.json`, `.zarray` and `.zgroup` in this order, V3 the first alone, and V2 the last two
+abbrev pub by_lines : {V : Type 0} → Reading V → FinMap key_cmp V → MetadataRetrieveVersion → Path → Meaning
+by_lines reading s Default p = zarr_json_line reading s p (zarray_line reading s p (zgroup_line reading s p nothing))
+by_lines reading s V3 p = zarr_json_line reading s p nothing
+by_lines reading s V2 p = zarray_line reading s p (zgroup_line reading s p nothing)
+
+-- what a path means in a store of bytes or of trees, by the documents that a version admits
+unfoldable pub meaning_in : {V : Type 0} → Reading V → FinMap key_cmp V → MetadataRetrieveVersion → Path → Meaning
+meaning_in reading s v p = by_lines reading s v p
+
+-- the attributes at the key `.zattrs` of a path, in a store of bytes
+abbrev pub attributes_at : Contents → Path → Result (Option AttributesDocument) StorageError
+attributes_at s p = attributes_in in_bytes s p
+
+-- what a path means in a store of bytes, by the documents that a version admits
+abbrev pub meaning : Contents → MetadataRetrieveVersion → Path → Meaning
+meaning s v p = meaning_in in_bytes s v p
+
+-- the paths that mean nodes, with their metadata
+abbrev pub Means : (Path → Meaning) → Path × NodeMetadata → Type 0
+Means of e = of e.0 ≡ node e.1

@@ -1,0 +1,38 @@
+-- The version 2 convention of consolidated metadata (`.zmetadata`): a small store, which holds JSON trees at its keys in the place of bytes.
+--     counted ms      the members that are documents of version 2, each at the segments of its name
+--     small b ms      the small store that they are, behind the names of a base
+--     small_meaning z p      what a path means in a small store
+use Rattle.std.specs.Prelude.{ℕ, ◌||◌, Bool, if◌then◌else◌, List, [], ◌∷◌, ◌++◌, bytes_eq, map}
+use Rattle.std.specs.List.{slice_split}
+use Rattle.std.specs.FinMap.{FinMap, from_entries}
+use Rattle.serde_json.specs.Data.{Data, Members, no_members, member}
+use Rattle.zarrs_store.specs.Segments.{Segments, key_cmp, is_slash, last_segment}
+use Rattle.zarrs_path.specs.Keys.{zarray, zgroup, zattrs}
+use Rattle.zarrs_path.specs.Paths.{Path}
+use Rattle.zarrs_config.specs.declared.version.MetadataRetrieveVersion.TheVariants.{V2}
+use Rattle.zarrs_block.specs.Meaning.{Meaning, in_trees, meaning_in}
+
+-- a small store holds JSON trees at some keys
+abbrev pub SmallStore : Type 0
+SmallStore = FinMap key_cmp Data
+
+-- what a path means in a small store, by the documents of version 2
+abbrev pub small_meaning : SmallStore → Path → Meaning
+small_meaning z = meaning_in in_trees z V2
+
+-- `.zarray`, `.zgroup` and `.zattrs` name the documents of version 2
+abbrev pub is_document_v2 : List ℕ → Bool
+is_document_v2 file = bytes_eq file zarray || (bytes_eq file zgroup || bytes_eq file zattrs)
+
+-- the stretches of a text between its slashes
+abbrev pub stretches : List ℕ → Segments
+stretches t = slice_split is_slash t
+
+-- the members whose last segment names a document of version 2, each at the segments of its name
+abbrev pub counted : Members → List (Segments × Data)
+counted no_members = []
+counted (member t d ms) = if is_document_v2 (last_segment (stretches t)) then (stretches t, d) ∷ counted ms else counted ms
+
+-- the small store that the members are: each that counts, behind the names of a base
+abbrev pub small : Path → Members → SmallStore
+small b ms = from_entries {R = key_cmp} (map (λ e. (b ++ e.0, e.1)) (counted ms))

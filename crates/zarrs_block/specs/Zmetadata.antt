@@ -1,0 +1,197 @@
+-- The version 2 convention of consolidated metadata, the document `.zmetadata` of a group (zarr-python, "Consolidated metadata"): how it is read as a block, and how it is written.
+--     zmetadata_of d      the block that a document is, or its first fault
+--     HoldsStore, IsClean      what that block has and that nothing below the group is bad, as of any store
+--     zmetadata_tree g B      what is written of a group of version 2 and its block
+--     RefusesZmetadata      what refuses that
+--     HoldsDocuments, WrittenHoldsDocuments, WrittenReadsBack      what the written document has, and that it reads back
+use Rattle.std.specs.Prelude.{◌≡◌, ◌≢◌, ◌↔◌, ◌==◌, ℕ, Bool, true, false, not, ◌&&◌, if◌then◌else◌, List, [], ◌∷◌, ◌++◌, Option, Some, None, option_and_then, IsSome, Result, Ok, Err, All, IsTrue, bytes_eq, codes}
+use Rattle.std.specs.List.{list_all, filter}
+use Rattle.std.specs.Map.{lookup}
+use Rattle.serde_json.specs.Data.{Data, number, unsigned, object, Members, no_members, member, put as put_member}
+use Rattle.serde_json.specs.Find.{as_object, get_member}
+use Rattle.zarrs_store.specs.Segments.{Segments, key_text}
+use Rattle.zarrs_store.specs.declared.fault.MetadataFault.{MetadataFault}
+use Rattle.zarrs_store.specs.declared.fault.MetadataFault.TheVariants.{BadMember}
+use Rattle.zarrs_path.specs.Keys.{zarray, zgroup, zattrs}
+use Rattle.zarrs_path.specs.Names.{is_name}
+use Rattle.zarrs_path.specs.Paths.{Path, IsPath}
+use Rattle.zarrs_form.specs.Documents.{document_of, required, is_empty}
+use Rattle.zarrs_form.specs.Documents as steps
+use Rattle.zarrs_form.specs.Forms.{number_u64, is_nil}
+use Rattle.zarrs_meta.specs.ArrayV2.{array_v2_tree}
+use Rattle.zarrs_meta.specs.GroupV2.{group_v2_tree, is_plain_group_v2}
+use Rattle.zarrs_meta.specs.Node.{array_without_attributes, group_without_attributes, is_plain_node}
+use Rattle.zarrs_meta.specs.declared.group_v2.GroupMetadataV2.{GroupMetadataV2}
+use Rattle.zarrs_meta.specs.declared.node.ArrayMetadata.TheVariants.{V2 as array_v2, V3 as array_v3}
+use Rattle.zarrs_meta.specs.declared.node.GroupMetadata.TheVariants.{V2 as group_v2, V3 as group_v3}
+use Rattle.zarrs_meta.specs.declared.node.NodeMetadata.{NodeMetadata}
+use Rattle.zarrs_meta.specs.declared.node.NodeMetadata.TheVariants.{Group, Array}
+use Rattle.zarrs_block.specs.Block.{Block, IsAscending, IsBlockOf, put, entry, Entries, HasValidKeys}
+use Rattle.zarrs_block.specs.Expanded.{RefusesKeys, paired, paths_at}
+use Rattle.zarrs_block.specs.declared.node_create_error.NodeCreateError.{NodeCreateError}
+use Rattle.zarrs_block.specs.declared.node_create_error.NodeCreateError.TheVariants.{MetadataVersionMismatch, OutOfMemory}
+use Rattle.zarrs_block.specs.Meaning.{Meaning, Means, node, nothing, bad}
+use Rattle.zarrs_block.specs.Small.{is_document_v2, counted, small, small_meaning}
+
+-- ---- reading
+
+-- the number 1
+abbrev pub one : Data → Option (Unit {0})
+one d = option_and_then (λ n. if n == 1 then Some tt else None) (number_u64 d)
+
+-- the members of the document of format 1, or the first fault
+abbrev pub zmetadata_members : Data → Result Members MetadataFault
+zmetadata_members d =
+    steps.◌>>=◌ (document_of d) λ _.
+    steps.◌>>=◌ (required (codes "zarr_consolidated_format") one d) λ _.
+    required (codes "metadata") as_object d
+
+-- all segments but the last
+abbrev pub before_last : Segments → Segments
+before_last [] = []
+before_last (s ∷ []) = []
+before_last (s ∷ t ∷ ss) = s ∷ before_last (t ∷ ss)
+
+-- the documents that count below the group: those of the group itself have one segment alone
+abbrev pub below : Members → List (Segments × Data)
+below ms = filter (λ e. not (is_nil (before_last e.0))) (counted ms)
+
+-- the path is bad
+abbrev pub is_bad : Meaning → Bool
+is_bad (node m) = false
+is_bad nothing = false
+is_bad (bad e) = true
+
+-- the segments before the last are names, and their path is not bad
+abbrev pub is_good : (Path → Meaning) → Segments → Bool
+is_good of k = list_all is_name (before_last k) && not (is_bad (of (before_last k)))
+
+-- the block with what a path means, where it means a node
+abbrev pub with_node : Path → Meaning → Block → Block
+with_node p (node m) B = put (key_text p) m B
+with_node p nothing B = B
+with_node p (bad e) B = B
+
+-- what the paths of these documents mean, each at its names
+abbrev pub block_from : (Path → Meaning) → List (Segments × Data) → Block
+block_from of [] = []
+block_from of (e ∷ es) = with_node (before_last e.0) (of (before_last e.0)) (block_from of es)
+
+-- the block of the nodes below the group, where none is bad
+abbrev pub small_block : Members → Result Block MetadataFault
+small_block ms =
+    if list_all (λ e. is_good (small_meaning (small [] ms)) e.0) (below ms) then Ok (block_from (small_meaning (small [] ms)) (below ms))
+    else Err (BadMember (codes "metadata"))
+
+-- the block that a document `.zmetadata` is, or its first fault
+unfoldable pub zmetadata_of : Data → Result Block MetadataFault
+zmetadata_of d = steps.◌>>=◌ (zmetadata_members d) small_block
+
+-- ---- what was read, as what a store is
+
+-- the block has exactly the paths below any base that mean nodes in the small store behind it, with their metadata
+abbrev pub HoldsStore : Members → Block → Type 0
+HoldsStore ms B = (b : Path) → IsBlockOf (Means (small_meaning (small b ms))) b B
+
+-- below no base a path is bad in the small store behind it, and each document that counts stands below names
+pub record IsClean (ms : Members) : Type 0 where
+  pub means : (b : Path) (n : List ℕ) (ns : Path) (e : NodeCreateError) → small_meaning (small b ms) (b ++ n ∷ ns) ≢ bad e
+  pub named : All (λ e. IsPath (before_last e.0)) (counted ms)
+
+-- A document that reads as a block has members; the block holds the store that they are, in which nothing is bad, and the keys of the block ascend.
+abbrev pub ZmetadataHolds : Type 0
+ZmetadataHolds = (d : Data) (B : Block) → zmetadata_of d ≡ Ok B → ((ms : Members) × (zmetadata_members d ≡ Ok ms) × HoldsStore ms B × IsClean ms) × IsAscending B
+
+-- ---- the written form
+
+-- attributes have a document of their own, where there are some
+abbrev pub attributes_written : Members → List (List ℕ × Data)
+attributes_written attributes = if is_empty attributes then [] else (zattrs, object attributes) ∷ []
+
+-- the documents of version 2 of a node, each under its name: its own without attributes, and its attributes; a node of version 3 has none
+abbrev pub node_written : NodeMetadata → List (List ℕ × Data)
+node_written (Group (group_v2 m)) = (zgroup, group_v2_tree (group_without_attributes m)) ∷ attributes_written m.attributes
+node_written (Group (group_v3 m)) = []
+node_written (Array (array_v2 m)) = (zarray, array_v2_tree (array_without_attributes m)) ∷ attributes_written m.attributes
+node_written (Array (array_v3 m)) = []
+
+-- the members with documents put behind the names of a path
+abbrev pub put_documents : Path → List (List ℕ × Data) → Members → Members
+put_documents p [] ms = ms
+put_documents p (e ∷ es) ms = put_member (key_text (p ++ e.0 ∷ [])) e.1 (put_documents p es ms)
+
+-- the members that are the documents of these nodes
+abbrev pub nodes_written : List (Path × NodeMetadata) → Members
+nodes_written [] = no_members
+nodes_written (e ∷ es) = put_documents e.0 (node_written e.1) (nodes_written es)
+
+-- the documents of a group of version 2, and of all entries of its block behind their names
+abbrev pub documents_written : GroupMetadataV2 → Block → Members
+documents_written g B = nodes_written (([], Group (group_v2 g)) ∷ paired (paths_at [] B B) B)
+
+-- what is written of a group of version 2 and its block: an object with their documents and with the format
+abbrev pub zmetadata_tree : GroupMetadataV2 → Block → Data
+zmetadata_tree g B =
+    object (member (codes "metadata") (object (documents_written g B))
+    (member (codes "zarr_consolidated_format") (number (unsigned 1)) no_members))
+
+-- the nodes of the block are of version 2
+abbrev pub is_version_2 : NodeMetadata → Bool
+is_version_2 (Group (group_v2 m)) = true
+is_version_2 (Group (group_v3 m)) = false
+is_version_2 (Array (array_v2 m)) = true
+is_version_2 (Array (array_v3 m)) = false
+
+-- each entry is of version 2
+abbrev pub HasVersion2 : Block → Type 0
+HasVersion2 B = (e : Path × NodeMetadata) → Entries B [] e → IsTrue (is_version_2 e.1)
+
+-- the node is of version 3, or memory was wanting
+abbrev pub RefusesNode : NodeMetadata → NodeCreateError → Type 0
+RefusesNode m MetadataVersionMismatch = is_version_2 m ≡ false
+RefusesNode m OutOfMemory = Unit {0}
+RefusesNode m _ = ⊥
+
+-- some node is of version 3, or memory was wanting
+abbrev pub RefusesNodes : List (Path × NodeMetadata) → NodeCreateError → Type 0
+RefusesNodes es MetadataVersionMismatch = All (λ e. IsTrue (is_version_2 e.1)) es → ⊥
+RefusesNodes es OutOfMemory = Unit {0}
+RefusesNodes es _ = ⊥
+
+-- a key of the block is not valid, and the error names its first part that is no name; or all are valid and an entry is of version 3; or memory was wanting
+abbrev pub RefusesZmetadata : Block → NodeCreateError → Type 0
+RefusesZmetadata B MetadataVersionMismatch = HasValidKeys B × (HasVersion2 B → ⊥)
+RefusesZmetadata B e = RefusesKeys B e
+
+-- ---- laws of the written form
+
+-- the node at some names: at none the group itself, and else the entry of the block
+abbrev pub node_at : GroupMetadataV2 → Block → Path → Option NodeMetadata
+node_at g B [] = Some (Group (group_v2 g))
+node_at g B (n ∷ ns) = entry B (n ∷ ns)
+
+-- the document of this name that is written of a node, if there is one
+abbrev pub document_written : List ℕ → NodeMetadata → Option Data
+document_written file m = lookup (bytes_eq file) (node_written m)
+
+-- behind the names of each path the members have the documents of the node there, where there is one, and they have no others
+pub record HoldsDocuments (g : GroupMetadataV2) (B : Block) (ms : Members) : Type 0 where
+  pub documents : (ns : Path) (file : List ℕ) → IsPath ns → IsTrue (is_document_v2 file) → get_member (key_text (ns ++ file ∷ [])) ms ≡ option_and_then (document_written file) (node_at g B ns)
+  pub no_others : (t : List ℕ) → IsSome (get_member t ms) → (ns : Path) × (file : List ℕ) × IsPath ns × IsTrue (is_document_v2 file) × (t ≡ key_text (ns ++ file ∷ []))
+
+-- what is written of a group and a block with valid keys holds their documents
+abbrev pub WrittenHoldsDocuments : Type 0
+WrittenHoldsDocuments = (g : GroupMetadataV2) (B : Block) → IsAscending B → HasValidKeys B → HoldsDocuments g B (documents_written g B)
+
+-- each entry could have come from a document
+abbrev pub HasPlainEntries : Block → Type 0
+HasPlainEntries B = (e : Path × NodeMetadata) → Entries B [] e → IsTrue (is_plain_node e.1)
+
+-- two blocks have the same entries, below any base
+abbrev pub HaveSameEntries : Block → Block → Type 0
+HaveSameEntries B C = (b : Path) (e : Path × NodeMetadata) → Entries C b e ↔ Entries B b e
+
+-- what is written of a plain group and a block with valid keys, whose entries are plain and of version 2, reads as a block with the same entries
+abbrev pub WrittenReadsBack : Type 0
+WrittenReadsBack = (g : GroupMetadataV2) (B : Block) → IsTrue (is_plain_group_v2 g) → IsAscending B → HasValidKeys B → HasVersion2 B → HasPlainEntries B
+    → (C : Block) × (zmetadata_of (zmetadata_tree g B) ≡ Ok C) × HaveSameEntries B C

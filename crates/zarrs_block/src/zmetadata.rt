@@ -1,0 +1,315 @@
+//! The version 2 document of consolidated metadata, `.zmetadata`, read as a block.
+ghost use Rattle.std.specs.Prelude.{◌≡◌, ℕ, List, IfOk, IfErr, OnOk, Ok, Some, ◌&&◌, if◌then◌else◌, codes, bytes_eq, IsTrue, option_map, option_and_then};
+ghost use Rattle.std.specs.Result.{result_ok};
+ghost use Rattle.std.specs.List.{list_all};
+ghost use Rattle.serde_json.specs.Data.{object, Members};
+ghost use Rattle.serde_json.specs.Find.{as_object};
+ghost use Rattle.serde_json.specs.View.{view, members_view};
+ghost use Rattle.zarrs_path.specs.Names.{is_name};
+ghost use Rattle.zarrs_form.specs.Documents.{Gives, formed, required};
+ghost use Rattle.zarrs_meta.specs.ArrayV2.{array_v2_of};
+ghost use Rattle.zarrs_meta.specs.GroupV2.{group_v2_of};
+ghost use Rattle.zarrs_meta.specs.Node.{array_with, group_with};
+ghost use Rattle.zarrs_meta.specs.declared.node.ArrayMetadata.TheVariants.{V2 as array_v2};
+ghost use Rattle.zarrs_meta.specs.declared.node.GroupMetadata.TheVariants.{V2 as group_v2};
+ghost use Rattle.zarrs_meta.specs.declared.node.NodeMetadata.TheVariants.{Group, Array};
+ghost use Rattle.zarrs_block.specs.Block.{IsAscending, found};
+ghost use Rattle.zarrs_block.specs.Small.{stretches};
+ghost use Rattle.zarrs_block.specs.Zmetadata.{one, small_block, zmetadata_members, zmetadata_of, HoldsStore, IsClean};
+ghost use Rattle.zarrs_block.specs.declared.zmetadata.File.{File};
+ghost use Rattle.zarrs_block.specs.ZmetadataRead.{is_file, member_at, tree_in, tree_at, read_with, read_files, IsFile, IsPlace, are_named, RefusesNames, HoldsNodes, RefusesTrees, zmetadata_taken};
+
+use crate::consolidated::{ConsolidatedMetadata, ConsolidatedMetadataMetadata};
+use serde_json::{Map, Value};
+use std::alloc::{AllocError, Global};
+use zarrs_form::{document, document_copy, member, take_member};
+use zarrs_meta::{
+    ArrayMetadata, ArrayMetadataV2, AttributesDocument, BoxedArray, GroupMetadata, GroupMetadataV2,
+    NodeMetadata,
+};
+use zarrs_path::NodeName;
+use zarrs_store::{MemberName, MetadataFault};
+
+impl ConsolidatedMetadata {
+    /// The block that a document `.zmetadata` is: the nodes of version 2 below the group, each with the attributes beside it, at its
+    /// path relative to the group. The documents of the group itself are passed over, and so are members that are none of `.zarray`,
+    /// `.zgroup` and `.zattrs`. A `.zattrs` alone makes no node.
+    ///
+    /// # Errors
+    ///
+    /// The first that applies: `UnsupportedNumber` where some number is neither `u64` nor `i64`, `NotAnObject`, `MissingMember` or
+    /// `BadMember` of `zarr_consolidated_format`, which has to be 1, `MissingMember` or `BadMember` of `metadata`, which has to be an
+    /// object, and `BadMember` of it where a document stands below what is no name of a node, or where that of a node does not read.
+    /// `OutOfMemory` where there is no memory.
+    ///
+    /// Source: zarr-python, consolidated metadata of version 2.
+    pub fn from_zmetadata(
+        alloc: Global,
+        value: &Value,
+    ) -> Result<ConsolidatedMetadata, MetadataFault>
+        ensures gives { Gives (λ block. block.metadata) result (zmetadata_of (view value.now)) }
+        ensures store { IfOk result (λ block. (ms : Members) × (zmetadata_members (view value.now) ≡ Ok ms) × HoldsStore ms block.metadata × IsClean ms) }
+        ensures ascending { IfOk result (λ block. IsAscending block.metadata) }
+    {
+        block_of(alloc, document_copy(value)?)
+    }
+
+    /// The block that a document `.zmetadata` is, whose parts it takes over.
+    ///
+    /// # Errors
+    ///
+    /// As [`ConsolidatedMetadata::from_zmetadata`].
+    ///
+    /// Source: zarr-python, consolidated metadata of version 2.
+    pub fn from_owned_zmetadata(
+        alloc: Global,
+        value: Value,
+    ) -> Result<ConsolidatedMetadata, MetadataFault>
+        ensures gives { Gives (λ block. block.metadata) result (zmetadata_of (view value)) }
+        ensures store { IfOk result (λ block. (ms : Members) × (zmetadata_members (view value) ≡ Ok ms) × HoldsStore ms block.metadata × IsClean ms) }
+        ensures ascending { IfOk result (λ block. IsAscending block.metadata) }
+    {
+        block_of(alloc, document(value)?)
+    }
+}
+
+// The block of the members of a document.
+fn block_of(
+    alloc: Global,
+    mut members: Map<String, Value>,
+) -> Result<ConsolidatedMetadata, MetadataFault>
+    ensures { Gives (λ block. block.metadata) result (zmetadata_taken (object (members_view members.entries))) }
+{
+    ask_consolidated_format(&members)?;
+    let documents = take_documents(&mut members)?;
+    let metadata = small_block(alloc, documents)?;
+    Ok(ConsolidatedMetadata { metadata })
+}
+
+// Asks whether the member `zarr_consolidated_format` is the number 1.
+fn ask_consolidated_format(members: &Map<String, Value>) -> Result<(), MetadataFault>
+    ensures { result ≡ required (codes "zarr_consolidated_format") one (object (members_view members.now.entries)) }
+{
+    let Some(format) = member(members, "zarr_consolidated_format") else {
+        return Err(MetadataFault::MissingMember(MemberName::new("zarr_consolidated_format")));
+    };
+    match format.as_u64() {
+        Some(number) if number == 1 => Ok(()),
+        _ => Err(MetadataFault::BadMember(MemberName::new("zarr_consolidated_format"))),
+    }
+}
+
+// Takes the member `metadata` out of the members.
+fn take_documents(members: &mut Map<String, Value>) -> Result<Map<String, Value>, MetadataFault>
+    ensures { Gives (λ documents. members_view documents.entries) result (required (codes "metadata") as_object (object (members_view members.old.entries))) }
+{
+    let Some(value) = take_member(members, "metadata") else {
+        return Err(MetadataFault::MissingMember(MemberName::new("metadata")));
+    };
+    match value {
+        Value::Object(documents) => Ok(documents),
+        _ => Err(MetadataFault::BadMember(MemberName::new("metadata"))),
+    }
+}
+
+// The nodes below the group that the documents are.
+fn small_block(
+    alloc: Global,
+    documents: Map<String, Value>,
+) -> Result<ConsolidatedMetadataMetadata, MetadataFault>
+    ensures { Gives (λ all. all) result (small_block (members_view documents.entries)) }
+{
+    let all = by_path(alloc, documents)?;
+    nodes_of(alloc, all)
+}
+
+// The documents of version 2 of one path.
+#[derive(Debug, Drop)]
+struct Documents {
+    array: Option<Value>,
+    group: Option<Value>,
+    attributes: Option<Value>,
+}
+
+// One of the documents of version 2.
+#[derive(Clone, Copy, Debug)]
+enum File {
+    Array,
+    Group,
+    Attributes,
+}
+
+impl Documents {
+    // These documents, where there are any, or none.
+    fn or_none(found: Option<Documents>) -> Documents
+        ensures { (file : File) → tree_in result file ≡ option_and_then (λ here. tree_in here file) found }
+    {
+        found.unwrap_or(Documents {
+            array: None,
+            group: None,
+            attributes: None,
+        })
+    }
+
+    // Puts a document in the place of the one that was there.
+    fn put(&mut self, file: File, document: Value)
+        ensures { (other : File) → tree_in self.new other ≡ (if is_file file other then Some (view document) else tree_in self.old other) }
+    {
+        match file {
+            File::Array => self.array = Some(document),
+            File::Group => self.group = Some(document),
+            File::Attributes => self.attributes = Some(document),
+        }
+    }
+}
+
+// The documents of version 2 below the group, at the texts of their paths.
+fn by_path(
+    alloc: Global,
+    documents: Map<String, Value>,
+) -> Result<Map<String, Documents>, MetadataFault>
+    ensures all { IfOk result (λ all. (t : List ℕ) (file : File) → tree_at all t file ≡ member_at (members_view documents.entries) t file) }
+    ensures named { IfOk result (λ _. IsTrue (are_named (members_view documents.entries))) }
+    ensures err { IfErr result (RefusesNames (members_view documents.entries)) }
+{
+    let mut all = Map::new(alloc);
+    for (key, document) in documents {
+        match place_of(key.as_str())? {
+            Some((path, file)) => put_document(alloc, &mut all, path, file, document)?,
+            None => drop(document),
+        }
+    }
+    Ok(all)
+}
+
+// Puts a document beside those of the same path.
+fn put_document(
+    alloc: Global,
+    all: &mut Map<String, Documents>,
+    path: &str,
+    file: File,
+    document: Value,
+) -> Result<(), AllocError>
+    ensures { OnOk result ((t : List ℕ) (other : File) → tree_at all.new t other ≡ (if bytes_eq path.now t && is_file file other then Some (view document) else tree_at all.old t other)) }
+{
+    let mut documents = Documents::or_none(all.remove(path));
+    documents.put(file, document);
+    drop(all.insert(String::from_str(alloc, path)?, documents)?);
+    Ok(())
+}
+
+// The path and the file that the name of a member tells, or nothing where it does not count below the group.
+fn place_of(key: &str) -> Result<Option<(&str, File)>, MetadataFault>
+    ensures { IsPlace key.now result }
+{
+    let Some((path, name)) = key.rsplit_once('/') else {
+        return Ok(None);
+    };
+    let Some(file) = file_of(name) else {
+        return Ok(None);
+    };
+    if are_names(path) {
+        Ok(Some((path, file)))
+    } else {
+        Err(MetadataFault::BadMember(MemberName::new("metadata")))
+    }
+}
+
+// The file of this name.
+fn file_of(name: &str) -> Option<File>
+    ensures { IsFile name.now result }
+{
+    match name {
+        ".zarray" => Some(File::Array),
+        ".zgroup" => Some(File::Group),
+        ".zattrs" => Some(File::Attributes),
+        _ => None,
+    }
+}
+
+// Whether each part of a text between its slashes is the name of a node.
+fn are_names(text: &str) -> bool
+    ensures { result ≡ list_all is_name (stretches text.now) }
+{
+    text.split('/')
+        .all(|name| !name.is_empty() && NodeName::validate(name))
+}
+
+// The nodes that the documents are, at their paths.
+fn nodes_of(
+    alloc: Global,
+    all: Map<String, Documents>,
+) -> Result<ConsolidatedMetadataMetadata, MetadataFault>
+    ensures nodes { IfOk result (λ block. HoldsNodes all (found block)) }
+    ensures ascending { IfOk result IsAscending }
+    ensures err { IfErr result (RefusesTrees all) }
+{
+    let mut block = ConsolidatedMetadataMetadata::new(alloc);
+    for (path, documents) in all {
+        match node_of(alloc, documents)? {
+            Some(node) => block.insert(path, node)?,
+            None => drop(path),
+        }
+    }
+    Ok(block)
+}
+
+// The node that the documents of a path are, if they are one.
+fn node_of(alloc: Global, documents: Documents) -> Result<Option<NodeMetadata>, MetadataFault>
+    ensures { Gives (λ node. node) result (formed (codes "metadata") (result_ok (read_files (tree_in documents)))) }
+{
+    match read_node(alloc, documents) {
+        Ok(node) => Ok(node),
+        Err(MetadataFault::OutOfMemory) => Err(MetadataFault::OutOfMemory),
+        Err(_) => Err(MetadataFault::BadMember(MemberName::new("metadata"))),
+    }
+}
+
+// The node that the documents of a path are: the array, or else the group, with the attributes beside it.
+fn read_node(alloc: Global, documents: Documents) -> Result<Option<NodeMetadata>, MetadataFault>
+    ensures { Gives (λ node. node) result (read_files (tree_in documents)) }
+{
+    let Documents {
+        array,
+        group,
+        attributes,
+    } = documents;
+    if let Some(value) = array {
+        return Ok(Some(read_array(alloc, value, attributes)?));
+    }
+    match group {
+        Some(value) => Ok(Some(read_group(alloc, value, attributes)?)),
+        None => Ok(None),
+    }
+}
+
+// The array that a document is, with the attributes beside it.
+fn read_array(
+    alloc: Global,
+    value: Value,
+    attributes: Option<Value>,
+) -> Result<NodeMetadata, MetadataFault>
+    ensures { Gives (λ node. node) result (read_with array_v2_of (λ m. Array (array_v2 m)) array_with (view value) (option_map view attributes)) }
+{
+    let mut array = ArrayMetadataV2::from_owned_value(alloc, value)?;
+    if let Some(value) = attributes {
+        array.attributes = AttributesDocument::from_owned_value(value)?.0;
+    }
+    let boxed = BoxedArray::new(alloc, ArrayMetadata::V2(array))?;
+    Ok(NodeMetadata::Array(boxed))
+}
+
+// The group that a document is, with the attributes beside it.
+fn read_group(
+    alloc: Global,
+    value: Value,
+    attributes: Option<Value>,
+) -> Result<NodeMetadata, MetadataFault>
+    ensures { Gives (λ node. node) result (read_with group_v2_of (λ m. Group (group_v2 m)) group_with (view value) (option_map view attributes)) }
+{
+    let mut group = GroupMetadataV2::from_owned_value(alloc, value)?;
+    if let Some(value) = attributes {
+        group.attributes = AttributesDocument::from_owned_value(value)?.0;
+    }
+    Ok(NodeMetadata::Group(GroupMetadata::V2(group)))
+}
