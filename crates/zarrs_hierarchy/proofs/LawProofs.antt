@@ -13,7 +13,7 @@ use Rattle.zarrs_block.specs.Block.{Block, Entries}
 use Rattle.zarrs_node.specs.Forest.{Forest, Shows}
 use Rattle.zarrs_node.specs.Order.{Ascend}
 use Rattle.zarrs_node.specs.Lines.{lines, preorder, tree_text, IsLines}
-use Rattle.zarrs_node.specs.Meaning.{meaning, node}
+use Rattle.zarrs_block.specs.Meaning.{meaning, node}
 use Rattle.zarrs_node.specs.Nodes.{Nodes}
 use Rattle.zarrs_node.specs.Opened.{choice, ShowsNode, ShowsChosen}
 use Rattle.zarrs_node.specs.Reached.{Kept, Closed}

@@ -4,7 +4,7 @@ use Rattle.std.proofs.lemmas.List.{append_cancel_left}
 use Rattle.std.proofs.lemmas.List.Elements.{Contains-get_or}
 use Rattle.std.proofs.lemmas.List.Kept.{AllPairs-cons}
 use Rattle.zarrs_store.specs.Contents.{Contents, Lists}
-use Rattle.zarrs_path.specs.Paths.{Path, IsBelow}
+use Rattle.zarrs_path.specs.Paths.{Path, IsPath, IsBelow, path_text}
 use Rattle.zarrs_meta.specs.Node.{is_group}
 use Rattle.zarrs_meta.specs.declared.node.GroupMetadata.{GroupMetadata}
 use Rattle.zarrs_meta.specs.declared.node.NodeMetadata.{NodeMetadata}
@@ -13,10 +13,12 @@ use Rattle.zarrs_config.specs.declared.version.MetadataRetrieveVersion.{Metadata
 use Rattle.zarrs_config.specs.declared.version.UseConsolidatedMetadata.{UseConsolidatedMetadata}
 use Rattle.zarrs_block.specs.Block.{Block, entry, Entries}
 use Rattle.zarrs_block.specs.Expanded.{HaveOwnPaths}
-use Rattle.zarrs_node.specs.Meaning.{Meaning, node, nothing, bad, meaning}
+use Rattle.zarrs_block.specs.Refused.{IsExcused}
+use Rattle.zarrs_block.specs.declared.node_create_error.NodeCreateError.{NodeCreateError}
+use Rattle.zarrs_block.specs.Meaning.{Meaning, node, nothing, bad, meaning}
 use Rattle.zarrs_node.specs.Nodes.{Nodes, Means}
 use Rattle.zarrs_node.specs.Below.{PairsBelow}
-use Rattle.zarrs_node.specs.Opened.{choice}
+use Rattle.zarrs_node.specs.Opened.{choice, RefusesBelow, RefusesOpening}
 use Rattle.zarrs_node.proofs.Found.{listed_each}
 use Rattle.zarrs_node.proofs.Graft.{Contains-first, Contains-cons}
 use Rattle.zarrs_node.proofs.Order.{contains_cases}
@@ -117,3 +119,8 @@ group_holds s v b q p m k xs h there copied same listed made =
     let holds_p = holds_base p (Group k) (Nodes s v true p) (nodes_flat s v p) xs listed_p h made in
     let holds_b = subst (λ r. Holds h (WithBase r (Group k) (Nodes s v true r))) (copied ∙ there) holds_p in
     subst (λ n. Holds h (WithBase b (Group n) (Nodes s v true b))) same holds_b
+
+-- what is below the node of a text's path is refused, so the opening is
+pub below_refused : (can_fail : Bool) (s : Contents) (v : MetadataRetrieveVersion) (policy : UseConsolidatedMetadata) (text : List ℕ) (b : Path) (m : NodeMetadata) (e : NodeCreateError)
+    → IsPath b → path_text b ≡ text → meaning s v b ≡ node m → IsExcused can_fail e ⊎ RefusesBelow s v policy b m e → IsExcused can_fail e ⊎ RefusesOpening s v policy text e
+below_refused can_fail s v policy text b m e valid is means h = ⊎_elim inl (λ below. inr (inr (b, valid, is, inr (m, means, below)))) h

@@ -9,7 +9,7 @@ use Rattle.zarrs_config.specs.declared.version.UseConsolidatedMetadata.{UseConso
 use Rattle.zarrs_block.specs.Block.{Block, Entries}
 use Rattle.zarrs_node.specs.Forest.{Forest}
 use Rattle.zarrs_node.specs.Lines.{tree_text}
-use Rattle.zarrs_node.specs.Meaning.{meaning, node}
+use Rattle.zarrs_block.specs.Meaning.{meaning, node}
 use Rattle.zarrs_node.specs.Opened.{choice, ShowsNode}
 use Rattle.zarrs_node.specs.Reached.{Closed}
 use Rattle.zarrs_hierarchy.specs.Held.{Pairs}

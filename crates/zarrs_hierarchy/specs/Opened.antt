@@ -7,7 +7,7 @@ use Rattle.zarrs_meta.specs.declared.node.NodeMetadata.TheVariants.{Group, Array
 use Rattle.zarrs_config.specs.declared.version.MetadataRetrieveVersion.{MetadataRetrieveVersion}
 use Rattle.zarrs_config.specs.declared.version.UseConsolidatedMetadata.{UseConsolidatedMetadata}
 use Rattle.zarrs_block.specs.Block.{Block}
-use Rattle.zarrs_node.specs.Meaning.{meaning, node}
+use Rattle.zarrs_block.specs.Meaning.{meaning, node}
 use Rattle.zarrs_node.specs.Below.{PairsBelow}
 use Rattle.zarrs_node.specs.Opened.{choice, IsCleanNode}
 use Rattle.zarrs_hierarchy.specs.Held.{Pairs, Holds, WithBase}

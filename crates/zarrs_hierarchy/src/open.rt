@@ -11,11 +11,11 @@ ghost use Rattle.zarrs_hierarchy.specs.Opened.{PairsOf, IsOpened};
 use crate::hierarchy::{Hierarchy, HierarchyCreateError};
 use log::Log;
 use std::alloc::Global;
-use zarrs_block::{consolidated_metadata_for_open, expand_consolidated_metadata};
+use zarrs_block::expand_consolidated_metadata;
 use zarrs_config::{Config, MetadataRetrieveVersion};
 use zarrs_group::Group;
 use zarrs_meta::NodeMetadata;
-use zarrs_node::{Node, get_all_nodes_of};
+use zarrs_node::{Node, consolidated_metadata_at, get_all_nodes_of};
 use zarrs_path::NodePath;
 use zarrs_store::{ListableStorageTraits, ReadableStorageTraits};
 
@@ -67,6 +67,7 @@ impl Hierarchy {
     /// there is no memory.
     ///
     /// Source: `zarrs::hierarchy::Hierarchy::open_opt`.
+    #[tactic(auto, using(crate::proofs::Opening::below_refused))]
     pub fn open_opt<L: Log, S: ReadableStorageTraits + ListableStorageTraits>(
         log: &L,
         alloc: Global,
@@ -130,7 +131,7 @@ fn nodes_below<L: Log, S: ReadableStorageTraits + ListableStorageTraits>(
         return Ok(Vec::new(alloc));
     }
     let policy = config.use_consolidated_metadata();
-    match consolidated_metadata_for_open(alloc, path, metadata, policy)? {
+    match consolidated_metadata_at(alloc, storage, path, metadata, policy)? {
         Some(block) => expand_consolidated_metadata(alloc, path, block),
         None => get_all_nodes_of(log, alloc, storage, path, version),
     }

@@ -8,7 +8,7 @@ use Rattle.zarrs_store.specs.Contents.{Contents, HasBelow, Lists}
 use Rattle.zarrs_meta.specs.declared.node.NodeMetadata.{NodeMetadata}
 use Rattle.zarrs_block.specs.declared.node_create_error.NodeCreateError.{NodeCreateError}
 use Rattle.zarrs_config.specs.declared.version.MetadataRetrieveVersion.{MetadataRetrieveVersion}
-use Rattle.zarrs_node.specs.Meaning.{Meaning, meaning, node, nothing, bad}
+use Rattle.zarrs_block.specs.Meaning.{Meaning, meaning, node, nothing, bad}
 use Rattle.zarrs_node.specs.Reached.{Reached, Opens}
 use Rattle.zarrs_node.specs.Forest.{Forest, Shows, pairs}
 use Rattle.zarrs_node.specs.Nodes.{Meant, Nodes, Ignored, Bad, ShowsBad, IsListed}

@@ -1,15 +1,11 @@
 -- A block that follows a store whose documents change at one path after another.
-use Rattle.std.proofs.Common.{◌≡◌, ◌≢◌, ◌↔◌, ◌⊎◌, inl, inr, ⊎_elim, ℕ, Bool, true, false, true≢false, cond, List, [], ◌∷◌, ◌++◌, length, Some, None, Result, Ordering, Less, Equal, Greater, refl, sym, ap, subst, ◌∙◌, append_assoc, length-append, arith, Contains, is_eq, unwrap_or}
+use Rattle.std.proofs.Common.{◌≡◌, ◌≢◌, ◌↔◌, ◌⊎◌, inl, inr, ⊎_elim, ℕ, Bool, true, false, true≢false, List, [], ◌∷◌, ◌++◌, length, Result, refl, sym, ap, subst, ◌∙◌, append_assoc, length-append, arith, Contains}
 use Rattle.std.specs.Prelude.{bytes_eq}
 use Rattle.std.specs.FinMap.{get}
-use Rattle.std.specs.List.{AllByRecursion, slice_split}
-use Rattle.std.specs.List.Sorted.{IsStrictlySortedBy}
-use Rattle.std.specs.Map.{keys_of}
-use Rattle.std.specs.Ordering.{ordering_reverse}
-use Rattle.std.proofs.lemmas.Cmp.{nat_list_cmp_total}
+use Rattle.std.specs.List.{slice_split}
 use Rattle.std.proofs.lemmas.List.{append_cancel_left, same_from_push}
 use Rattle.std.proofs.lemmas.Slice.Eq.{bytes_eq-Decides}
-use Rattle.zarrs_store.specs.Segments.{bytes_cmp, is_slash, key_text}
+use Rattle.zarrs_store.specs.Segments.{is_slash, key_text}
 use Rattle.zarrs_store.specs.Contents.{Contents}
 use Rattle.zarrs_store.specs.declared.fault.MetadataFault.{MetadataFault}
 use Rattle.zarrs_store.proofs.Cuts.{parts-append, parts-join, parts_some, segments_clean}
@@ -27,12 +23,10 @@ use Rattle.zarrs_meta.specs.GroupV2.{group_v2_of}
 use Rattle.zarrs_meta.specs.Attributes.{attributes_of}
 use Rattle.zarrs_meta.specs.Node.{zarr_json_of, array_with, group_with}
 use Rattle.zarrs_form.specs.Documents.{of_bytes}
-use Rattle.zarrs_block.specs.Block.{Block, Entries, IsAscending, IsBlockOf, found}
+use Rattle.zarrs_block.specs.Block.{Block, Entries, IsBlockOf}
 use Rattle.zarrs_block.specs.Without.{IsAbout}
-use Rattle.zarrs_block.proofs.Expansion.{at_itself, same_text}
 use Rattle.zarrs_block.proofs.KeyLaws.{text_bare}
-use Rattle.zarrs_block.proofs.CutOut.{none_some}
-use Rattle.zarrs_node.specs.Meaning.{in_bytes, Meaning, meaning, nothing, document_from, document_at, version_2_line, version_3_line, zarr_json_line, zarray_line, zgroup_line}
+use Rattle.zarrs_block.specs.Meaning.{in_bytes, Meaning, meaning, nothing, document_from, document_at, version_2_line, version_3_line, zarr_json_line, zarray_line, zgroup_line}
 use Rattle.zarrs_node.specs.Reached.{HasGroup, Kept, Reached}
 use Rattle.zarrs_node.specs.Nodes.{Means, Nodes}
 use Rattle.zarrs_node.specs.Forest.{Forest, pairs, Shows}
@@ -45,7 +39,7 @@ use Rattle.zarrs_node.proofs.Graft.{Contains-first, Contains-cons}
 use Rattle.zarrs_node.proofs.Reach.{head_same, rest_same}
 use Rattle.zarrs_node.proofs.Kept.{below_below, reached_between}
 use Rattle.zarrs_node.proofs.BlockTexts.{one_text_of, text_is}
-use Rattle.zarrs_node.proofs.Puts.{before_all}
+use Rattle.zarrs_block.proofs.SameBlocks.{one_block}
 use Rattle.zarrs_node.proofs.Inverse.{entries_are}
 use Rattle.zarrs_node.proofs.Leads.{names_beyond}
 use Rattle.zarrs_node.proofs.Anew.{about_of}
@@ -315,58 +309,6 @@ refreshed_is_block S v b (c ∷ cs) B C changes is h =
     refreshed_is_block c.0 v b cs h.0 C changes.3 (fresh_is_block S c.0 v b c.1 B h.0 changes.0 changes.1 changes.2 is h.1) h.2
 
 -- ---- blocks with the same entries
-
--- what stands before all keys is not found
-none_found : (t : List ℕ) (B : Block) → AllByRecursion (λ y. bytes_cmp t y ≡ Less) (keys_of B) → found B t ≡ None
-none_found t [] h = refl
-none_found t (e ∷ B) h = ap (λ o. cond (is_eq o) (Some e.1) (found B t)) h.0 ∙ none_found t B h.1
-
--- the first of the keys of one block is not before those of another with the same entries
-not_before : (x y : List ℕ × NodeMetadata) (B C : Block) → ((m : NodeMetadata) → found (x ∷ B) x.0 ≡ Some m → found (y ∷ C) x.0 ≡ Some m) → AllByRecursion (λ k. bytes_cmp y.0 k ≡ Less) (keys_of C) → bytes_cmp x.0 y.0 ≡ Less → ⊥
-not_before x y B C same up less =
-    none_some x.1 (sym (none_found x.0 (y ∷ C) (less, before_all x.0 y.0 (keys_of C) less up)) ∙ same x.1 (ap (λ t. cond t (Some x.1) (found B x.0)) (at_itself x.0)))
-
--- two blocks whose keys ascend, with the same entries, are one
-one_block : (B C : Block) → IsAscending B → IsAscending C → ((t : List ℕ) (m : NodeMetadata) → (found B t ≡ Some m) ↔ (found C t ≡ Some m)) → B ≡ C
-unfolding IsStrictlySortedBy
-one_block [] [] up high same = refl
-one_block [] (y ∷ C) up high same = absurd (none_some y.1 ((same y.0 y.1).1 (ap (λ t. cond t (Some y.1) (found C y.0)) (at_itself y.0))))
-one_block (x ∷ B) [] up high same = absurd (none_some x.1 ((same x.0 x.1).0 (ap (λ t. cond t (Some x.1) (found B x.0)) (at_itself x.0))))
-one_block (x ∷ B) (y ∷ C) up high same = by (bytes_cmp x.0 y.0) refl (one_block B C up.1 high.1)
-  where
-    by : (o : Ordering) → bytes_cmp x.0 y.0 ≡ o → (((t : List ℕ) (m : NodeMetadata) → (found B t ≡ Some m) ↔ (found C t ≡ Some m)) → B ≡ C) → x ∷ B ≡ y ∷ C
-    by Less less again = absurd (not_before x y B C (λ m. (same x.0 m).0) high.0 less)
-    by Greater more again = absurd (not_before y x C B (λ m. (same y.0 m).1) up.0 (nat_list_cmp_total.antisymm y.0 x.0 ∙ ap ordering_reverse more))
-    by Equal tied again =
-        let key : x.0 ≡ y.0 = same_text x.0 y.0 (ap is_eq tied) in
-        let here : found (x ∷ B) x.0 ≡ Some x.1 = ap (λ t. cond t (Some x.1) (found B x.0)) (at_itself x.0) in
-        let there : found (y ∷ C) x.0 ≡ Some y.1 = ap (λ t. cond t (Some y.1) (found C x.0)) (ap is_eq tied) in
-        let value : x.1 ≡ y.1 = ap (λ o. unwrap_or o x.1) (sym ((same x.0 x.1).0 here) ∙ there) in
-        λ i. (key i, value i) ∷ again (λ t m. rest key t m) i
-      where
-        -- the other entries are the same
-        rest : x.0 ≡ y.0 → (t : List ℕ) (m : NodeMetadata) → (found B t ≡ Some m) ↔ (found C t ≡ Some m)
-        rest key t m = (
-          λ h. past C y.0 y.1 t m (λ at. none_some m (sym (none_found t B (subst (λ k. AllByRecursion (λ z. bytes_cmp k z ≡ Less) (keys_of B)) (key ∙ sym (same_text t y.0 at)) up.0)) ∙ h))
-              ((same t m).0 (put_before B x.0 x.1 t m (λ at. none_some m (sym (none_found t B (subst (λ k. AllByRecursion (λ z. bytes_cmp k z ≡ Less) (keys_of B)) (sym (same_text t x.0 at)) up.0)) ∙ h)) h)),
-          λ h. past B x.0 x.1 t m (λ at. none_some m (sym (none_found t C (subst (λ k. AllByRecursion (λ z. bytes_cmp k z ≡ Less) (keys_of C)) (sym key ∙ sym (same_text t x.0 at)) high.0)) ∙ h))
-              ((same t m).1 (put_before C y.0 y.1 t m (λ at. none_some m (sym (none_found t C (subst (λ k. AllByRecursion (λ z. bytes_cmp k z ≡ Less) (keys_of C)) (sym (same_text t y.0 at)) high.0)) ∙ h)) h)),
-        )
-          where
-            -- behind an entry that is not at the text
-            past : (D : Block) (k : List ℕ) (n : NodeMetadata) (t : List ℕ) (m : NodeMetadata) → (is_eq (bytes_cmp t k) ≡ true → ⊥) → found ((k, n) ∷ D) t ≡ Some m → found D t ≡ Some m
-            past D k n t m other h = off (is_eq (bytes_cmp t k)) refl h
-              where
-                off : (z : Bool) → is_eq (bytes_cmp t k) ≡ z → cond z (Some n) (found D t) ≡ Some m → found D t ≡ Some m
-                off true at g = absurd (other at)
-                off false at g = g
-
-            put_before : (D : Block) (k : List ℕ) (n : NodeMetadata) (t : List ℕ) (m : NodeMetadata) → (is_eq (bytes_cmp t k) ≡ true → ⊥) → found D t ≡ Some m → found ((k, n) ∷ D) t ≡ Some m
-            put_before D k n t m other h = off (is_eq (bytes_cmp t k)) refl
-              where
-                off : (z : Bool) → is_eq (bytes_cmp t k) ≡ z → cond z (Some n) (found D t) ≡ Some m
-                off true at = absurd (other at)
-                off false at = h
 
 -- the block of the pairs of a forest that shows nodes is the block of these
 shown_block : (N : Path × NodeMetadata → Type 0) (b : Path) (f : Forest) (B : Block) → Shows f b N → IsBlockOf (Contains (pairs f)) b B → IsBlockOf N b B

@@ -56,7 +56,7 @@ module _ (N : Path × NodeMetadata → Type 0) (b : Path) (B : Block) (names : (
   )
 
   -- each key is the text of names
-  keys_valid : HasValidKeys B
+  pub keys_valid : HasValidKeys B
   keys_valid t some = elim (found B t) as (λ o. found B t ≡ o → IsSome o → IsValidKey t) [
     | Some m ↦ λ at _. let w = (is t m).0 at in (w.0 ∷ w.1, own_names w.0 w.1 m w.3, inl w.2)
     | None ↦ λ at none. absurd (true≢false (sym none))

@@ -21,6 +21,7 @@ pub mod Puts
 pub mod BlockTexts
 pub mod PutsLatest
 pub mod Inverse
+pub mod SmallShown
 pub mod Consolidated
 pub mod Grow
 pub mod Stems

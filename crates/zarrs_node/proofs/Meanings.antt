@@ -23,7 +23,7 @@ use Rattle.zarrs_meta.specs.declared.node.ZarrJson.{ZarrJson}
 use Rattle.zarrs_block.specs.declared.node_create_error.NodeCreateError.{NodeCreateError}
 use Rattle.zarrs_block.specs.declared.node_create_error.NodeCreateError.TheVariants.{StorageError as InStore}
 use Rattle.zarrs_config.specs.declared.version.MetadataRetrieveVersion.TheVariants.{Default, V3, V2}
-use Rattle.zarrs_node.specs.Meaning.{in_bytes, Meaning, meaning, meaning_in, node, nothing, document_from, document_at, attributes_at, version_3_line, version_2_line, zarr_json_line, zarray_line, zgroup_line}
+use Rattle.zarrs_block.specs.Meaning.{in_bytes, Meaning, meaning, meaning_in, node, nothing, document_from, document_at, attributes_at, version_3_line, version_2_line, zarr_json_line, zarray_line, zgroup_line}
 use Rattle.zarrs_block.specs.Refused.{IsExcused}
 use Rattle.zarrs_node.specs.Refused.{RefusesReading, FollowsLine, Finds}
 

@@ -16,7 +16,7 @@ use Rattle.zarrs_block.specs.Expanded.{RefusesKeys, NamesBadKey, HaveOwnPaths}
 use Rattle.zarrs_block.specs.Refused.{IsExcused, IsMissing}
 use Rattle.zarrs_block.specs.declared.node_create_error.NodeCreateError.{NodeCreateError}
 use Rattle.zarrs_block.specs.declared.node_create_error.NodeCreateError.TheVariants.{NodePathError, StorePrefixError, StorageError, MetadataVersionMismatch, MissingMetadata, OutOfMemory}
-use Rattle.zarrs_node.specs.Meaning.{meaning, node, nothing, bad}
+use Rattle.zarrs_block.specs.Meaning.{meaning, node, nothing, bad}
 use Rattle.zarrs_node.specs.Reached.{Kept}
 use Rattle.zarrs_node.specs.Nodes.{Nodes, Bad, ShowsBad}
 use Rattle.zarrs_node.specs.Forest.{Forest, none, Shows}

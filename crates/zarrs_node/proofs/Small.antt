@@ -17,9 +17,10 @@ use Rattle.zarrs_meta.specs.declared.node.ArrayMetadata.TheVariants.{V2 as array
 use Rattle.zarrs_meta.specs.declared.node.GroupMetadata.TheVariants.{V2 as group_v2}
 use Rattle.zarrs_meta.specs.declared.node.NodeMetadata.TheVariants.{Group, Array}
 use Rattle.zarrs_config.specs.declared.version.MetadataRetrieveVersion.TheVariants.{V2}
-use Rattle.zarrs_node.specs.Meaning.{in_bytes, in_trees, document_at, document_from, attributes_in, zarray_line, zgroup_line, version_2_line, meaning, meaning_in, nothing}
+use Rattle.zarrs_block.specs.Meaning.{in_bytes, in_trees, document_at, document_from, attributes_in, zarray_line, zgroup_line, version_2_line, meaning, meaning_in, nothing}
 use Rattle.zarrs_node.specs.Nodes.{Nodes}
-use Rattle.zarrs_node.specs.Small.{SmallStore, small_meaning, SmallNodes}
+use Rattle.zarrs_block.specs.Small.{SmallStore, small_meaning}
+use Rattle.zarrs_node.specs.Small.{SmallNodes}
 use Rattle.zarrs_node.proofs.Kept.{nodes_same}
 
 -- what stands at a key of the one is the tree of what stands at it in the other

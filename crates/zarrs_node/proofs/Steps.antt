@@ -14,7 +14,7 @@ use Rattle.zarrs_store.specs.Contents.{Contents, HasBelow, Lists}
 use Rattle.zarrs_store.proofs.Below.{IsChildren}
 use Rattle.zarrs_store.specs.Segments.{bytes_cmp}
 use Rattle.zarrs_meta.specs.declared.node.NodeMetadata.{NodeMetadata}
-use Rattle.zarrs_node.specs.Meaning.{meaning, nothing}
+use Rattle.zarrs_block.specs.Meaning.{meaning, nothing}
 use Rattle.zarrs_node.specs.Reached.{Reached}
 use Rattle.zarrs_node.specs.Forest.{graft, Forest, none, tree, Shows, pairs, IsPlaced, MayHold}
 use Rattle.zarrs_node.specs.Nodes.{Meant, Nodes, Ignored, Bad}

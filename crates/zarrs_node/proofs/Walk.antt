@@ -20,7 +20,7 @@ use Rattle.zarrs_meta.specs.declared.node.NodeMetadata.TheVariants.{Group, Array
 use Rattle.zarrs_block.specs.declared.node_create_error.NodeCreateError.{NodeCreateError}
 use Rattle.zarrs_config.specs.declared.version.MetadataRetrieveVersion.{MetadataRetrieveVersion}
 use Rattle.zarrs_meta.specs.Node.{is_group}
-use Rattle.zarrs_node.specs.Meaning.{meaning, node, nothing, bad}
+use Rattle.zarrs_block.specs.Meaning.{meaning, node, nothing, bad}
 use Rattle.zarrs_node.specs.Reached.{Opens}
 use Rattle.zarrs_node.specs.Forest.{graft, with_child, passed, found_group, Forest, none, tree, Shows, pairs, IsPlaced, MayHold}
 use Rattle.zarrs_node.specs.Nodes.{Meant, Nodes, Ignored, Bad, ShowsBad}

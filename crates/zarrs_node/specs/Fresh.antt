@@ -12,7 +12,7 @@ use Rattle.zarrs_config.specs.declared.version.MetadataRetrieveVersion.{Metadata
 use Rattle.zarrs_block.specs.Block.{Block, Entries, found}
 use Rattle.zarrs_block.specs.Without.{IsAbout}
 use Rattle.zarrs_block.specs.declared.node_create_error.NodeCreateError.{NodeCreateError}
-use Rattle.zarrs_node.specs.Meaning.{Meaning, meaning, bad}
+use Rattle.zarrs_block.specs.Meaning.{Meaning, meaning, bad}
 use Rattle.zarrs_node.specs.Reached.{HasGroup, Reached}
 use Rattle.zarrs_node.specs.Nodes.{Means, Meant, Bad, ShowsBad}
 use Rattle.zarrs_node.specs.Consolidated.{text_beyond}

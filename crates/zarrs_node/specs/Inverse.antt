@@ -8,7 +8,7 @@ use Rattle.zarrs_meta.specs.Node.{is_plain_node}
 use Rattle.zarrs_meta.specs.declared.node.NodeMetadata.{NodeMetadata}
 use Rattle.zarrs_block.specs.Block.{Block, Entries, HasPlainNodes, HasValidKeys, IsAscending, IsBlockOf, block_of, block_tree}
 use Rattle.zarrs_node.specs.Forest.{Forest, pairs, IsPlaced, Shows}
-use Rattle.zarrs_node.specs.Meaning.{Meaning}
+use Rattle.zarrs_block.specs.Meaning.{Meaning}
 use Rattle.zarrs_node.specs.Nodes.{Means}
 use Rattle.zarrs_node.specs.Reached.{Kept, Closed}
 

@@ -4,7 +4,7 @@ use Rattle.zarrs_path.specs.Paths.{Path, IsPath, IsBelow}
 use Rattle.zarrs_meta.specs.declared.node.NodeMetadata.{NodeMetadata}
 use Rattle.zarrs_node.specs.Forest.{Forest, pairs, IsPlaced, ArePlacedBelow, Shows}
 use Rattle.zarrs_node.specs.Lines.{IsLines, preorder}
-use Rattle.zarrs_node.specs.Meaning.{Meaning}
+use Rattle.zarrs_block.specs.Meaning.{Meaning}
 use Rattle.zarrs_node.specs.Nodes.{Means}
 use Rattle.zarrs_node.specs.Reached.{Kept, Closed}
 use Rattle.zarrs_node.specs.Order.{Ascend}

@@ -1,4 +1,3 @@
-pub mod Meaning
 pub mod Reached
 pub mod Forest
 pub mod Nodes

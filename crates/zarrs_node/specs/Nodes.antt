@@ -7,13 +7,11 @@ use Rattle.zarrs_path.specs.Paths.{Path}
 use Rattle.zarrs_meta.specs.declared.node.NodeMetadata.{NodeMetadata}
 use Rattle.zarrs_config.specs.declared.version.MetadataRetrieveVersion.{MetadataRetrieveVersion}
 use Rattle.zarrs_block.specs.declared.node_create_error.NodeCreateError.{NodeCreateError}
-use Rattle.zarrs_node.specs.Meaning.{Meaning, meaning, node, nothing, bad}
+use Rattle.zarrs_block.specs.Meaning.{Meaning, meaning, node, nothing, bad}
 use Rattle.zarrs_node.specs.Reached.{Reached, Opens, Kept}
 use Rattle.zarrs_block.specs.Refused.{IsInvalidPath}
-
--- the paths that mean nodes, with their metadata
-abbrev pub Means : (Path → Meaning) → Path × NodeMetadata → Type 0
-Means of e = of e.0 ≡ node e.1
+-- `Means of`: the paths that mean nodes, with their metadata
+pub use Rattle.zarrs_block.specs.Meaning.{Means}
 
 -- the reached paths that mean nothing and have a key below them
 abbrev pub IgnoredIn : (Path → Meaning) → (Path → Type 0) → Bool → Path → Path → Type 0

@@ -16,7 +16,7 @@ use Rattle.zarrs_block.specs.Used.{used, RefusesUse}
 use Rattle.zarrs_block.specs.Refused.{IsMissing}
 use Rattle.zarrs_block.specs.declared.node_create_error.NodeCreateError.{NodeCreateError}
 use Rattle.zarrs_block.specs.declared.node_create_error.NodeCreateError.TheVariants.{NodePathError}
-use Rattle.zarrs_node.specs.Meaning.{meaning, node, nothing, bad}
+use Rattle.zarrs_block.specs.Meaning.{meaning, node, nothing, bad}
 use Rattle.zarrs_node.specs.Forest.{Forest, none, Shows}
 use Rattle.zarrs_node.specs.Below.{block_at, NodesBelow, BadBelow, ShowsBadBelow}
 

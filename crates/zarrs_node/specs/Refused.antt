@@ -8,7 +8,7 @@ use Rattle.zarrs_store.specs.declared.storage_error.StorageError.TheVariants.{Fa
 use Rattle.zarrs_block.specs.Refused.{IsExcused}
 use Rattle.zarrs_meta.specs.declared.node.NodeMetadata.{NodeMetadata}
 use Rattle.zarrs_block.specs.declared.node_create_error.NodeCreateError.{NodeCreateError}
-use Rattle.zarrs_node.specs.Meaning.{Meaning, node, nothing, bad}
+use Rattle.zarrs_block.specs.Meaning.{Meaning, node, nothing, bad}
 
 -- a fault of the document at a key is refused with the key and the fault, and want of memory as such
 abbrev pub refusal_at : Segments → MetadataFault → StorageError

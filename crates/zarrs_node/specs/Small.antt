@@ -1,23 +1,17 @@
--- The version 2 convention of consolidated metadata (`.zmetadata`): a small store, which holds JSON trees at its keys in the place of bytes.
-use Rattle.std.specs.Prelude.{true}
-use Rattle.std.specs.FinMap.{FinMap}
-use Rattle.serde_json.specs.Data.{Data}
-use Rattle.zarrs_store.specs.Segments.{key_cmp}
+-- The version 2 convention of consolidated metadata (`.zmetadata`): what stands below a base in a small store, which holds JSON trees at its keys in the place of bytes, and what its block shows.
+--     SmallNodes z b, SmallBad z b      the nodes of a small store below a base; that something is bad there
+--     ShowsSmall b z B      a block shows what a listing would find there
+use Rattle.std.specs.Prelude.{◌≡◌, ◌↔◌, true, Ok}
+use Rattle.serde_json.specs.Data.{Data, Members}
 use Rattle.zarrs_store.specs.Contents.{HasBelow}
 use Rattle.zarrs_path.specs.Paths.{Path}
 use Rattle.zarrs_meta.specs.declared.node.NodeMetadata.{NodeMetadata}
-use Rattle.zarrs_config.specs.declared.version.MetadataRetrieveVersion.TheVariants.{V2}
-use Rattle.zarrs_node.specs.Meaning.{Meaning, in_trees, meaning_in}
+use Rattle.zarrs_block.specs.Block.{Block, Entries, HasValidKeys}
+use Rattle.zarrs_block.specs.Meaning.{Means}
+use Rattle.zarrs_block.specs.Small.{SmallStore, small, small_meaning}
+use Rattle.zarrs_block.specs.Zmetadata.{zmetadata_of, zmetadata_members}
 use Rattle.zarrs_node.specs.Reached.{Kept}
-use Rattle.zarrs_node.specs.Nodes.{Means, BadIn}
-
--- a small store holds JSON trees at some keys
-abbrev pub SmallStore : Type 0
-SmallStore = FinMap key_cmp Data
-
--- what a path means in a small store, by the documents of version 2
-abbrev pub small_meaning : SmallStore → Path → Meaning
-small_meaning z = meaning_in in_trees z V2
+use Rattle.zarrs_node.specs.Nodes.{BadIn}
 
 -- the nodes of a small store below b
 abbrev pub SmallNodes : SmallStore → Path → Path × NodeMetadata → Type 0
@@ -26,3 +20,13 @@ SmallNodes z = Kept (Means (small_meaning z)) true
 -- in a small store some reached path means `bad e`, or some child of a listed path has a name of periods only
 abbrev pub SmallBad : SmallStore → Path → Type 0
 SmallBad z = BadIn (small_meaning z) (HasBelow z) true
+
+-- nothing below b is bad in the small store; the keys of the block are valid, and its entries with only groups between them and b are the nodes of the small store below b
+pub record ShowsSmall (b : Path) (z : SmallStore) (B : Block) : Type 0 where
+  pub clean : SmallBad z b → ⊥
+  pub valid : HasValidKeys B
+  pub kept : (e : Path × NodeMetadata) → Kept (Entries B b) true b e ↔ SmallNodes z b e
+
+-- The block that a document `.zmetadata` is shows what a listing would find in the small store behind any base.
+abbrev pub ZmetadataShows : Type 0
+ZmetadataShows = (d : Data) (B : Block) → zmetadata_of d ≡ Ok B → (ms : Members) × (zmetadata_members d ≡ Ok ms) × ((b : Path) → ShowsSmall b (small b ms) B)

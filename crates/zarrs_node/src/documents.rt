@@ -1,6 +1,6 @@
 //! The documents of a store, as they are read.
 ghost use Rattle.std.specs.Prelude.{◌≡◌, Ok, IfOk, IfErr};
-ghost use Rattle.zarrs_node.specs.Meaning.{attributes_at, document_at};
+ghost use Rattle.zarrs_block.specs.Meaning.{attributes_at, document_at};
 ghost use Rattle.zarrs_node.specs.Refused.{RefusesReading, refusal_at};
 
 use crate::last_read::LastRead;
@@ -64,7 +64,7 @@ pub(crate) fn find_attributes<S: ReadableStorageTraits>(
 }
 
 // What `document_at` answers, where such a document was read before.
-#[tactic(auto, unfolding(crate::specs::Meaning::document_at))]
+#[tactic(auto, unfolding(zarrs_block::specs::Meaning::document_at))]
 pub(crate) fn find_document<S: ReadableStorageTraits, D: Document + Drop>(
     alloc: Global,
     storage: &S,

@@ -1,6 +1,7 @@
 //! What holds of every forest and of its text. Each function does nothing, and its contract is the law.
 ghost use Rattle.zarrs_node.specs.Laws.{OneForest, OneListing, PairsAscend, PlacedChildren, PreorderIsLines, ListingIsLines, OneText, ClosedPairs, ClosedNodes};
 ghost use Rattle.zarrs_node.specs.Inverse.{BlockGivesBack, ListingGivesBack};
+ghost use Rattle.zarrs_node.specs.Small.{ZmetadataShows};
 ghost use Rattle.zarrs_node.specs.Changes.{FreshIsBlock, RefreshedIsBlock, RefreshedIsOpened};
 
 /// Two placed forests with the same pairs are one.
@@ -83,6 +84,13 @@ pub fn block_gives_back()
 /// Source: Zarr core specification 3.1, "Group metadata"; the block is that of zarr-python.
 pub fn listing_gives_back()
     ensures { ListingGivesBack }
+{}
+
+/// The block that a document `.zmetadata` is shows what a listing would find in the small store that its member `metadata` is.
+///
+/// Source: zarr-python, consolidated metadata of version 2.
+pub fn zmetadata_shows()
+    ensures { ZmetadataShows }
 {}
 
 /// Where the documents of one path changed, the block of the store before, made current at that path, is the block of the store.

@@ -15,6 +15,7 @@ mod node;
 mod open;
 mod refresh;
 mod text;
+mod zmetadata;
 
 pub use build::{build_node_tree, build_node_tree_counted, direct_children_from_flat};
 pub use children::{get_all_nodes_of, get_child_nodes, get_child_nodes_opt};
@@ -23,3 +24,4 @@ pub use listing::{ListedNodes, list_nodes};
 pub use node::Node;
 pub use refresh::refresh_block;
 pub use text::NodeLine;
+pub use zmetadata::{consolidated_metadata_at, zmetadata_at};

@@ -6,7 +6,7 @@ ghost use Rattle.zarrs_node.specs.Forest.{Shows, forest, with_child, passed, fou
 ghost use Rattle.zarrs_store.specs.Contents.{Lists};
 ghost use Rattle.zarrs_node.specs.Nodes.{Nodes, Ignored, ShowsBad, Bad};
 ghost use Rattle.zarrs_store.specs.Children.{AreVisibleChildren};
-ghost use Rattle.zarrs_node.specs.Meaning.{meaning, bad};
+ghost use Rattle.zarrs_block.specs.Meaning.{meaning, bad};
 ghost use Rattle.zarrs_block.specs.Refused.{IsExcused, IsInvalidPath};
 ghost use Rattle.zarrs_node.specs.Refused.{Finds};
 

@@ -1,7 +1,7 @@
 //! What a path means in a store.
 ghost use Rattle.std.specs.Prelude.{◌≡◌, ◌∷◌, [], ◌++◌, IfOk, IfErr, ◌⊎◌};
 ghost use Rattle.zarrs_block.specs.Refused.{IsExcused, IsMissing};
-ghost use Rattle.zarrs_node.specs.Meaning.{in_bytes, meaning, node, nothing, bad, zarr_json_line, zarray_line, zgroup_line};
+ghost use Rattle.zarrs_block.specs.Meaning.{in_bytes, meaning, node, nothing, bad, zarr_json_line, zarray_line, zgroup_line};
 ghost use Rattle.zarrs_node.specs.Refused.{FollowsLine, Finds};
 
 use crate::documents::{find_attributes, find_document};

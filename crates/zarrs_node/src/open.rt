@@ -2,7 +2,7 @@
 ghost use Rattle.std.specs.Prelude.{◌≡◌, true, IfOk, IfErr, ◌⊎◌};
 ghost use Rattle.zarrs_path.specs.Paths.{path_text};
 ghost use Rattle.zarrs_block.specs.Refused.{IsExcused};
-ghost use Rattle.zarrs_node.specs.Meaning.{meaning, node};
+ghost use Rattle.zarrs_block.specs.Meaning.{meaning, node};
 ghost use Rattle.zarrs_block.specs.Block.{Entries, HasValidKeys};
 ghost use Rattle.zarrs_block.specs.Expanded.{RefusesKeys};
 ghost use Rattle.zarrs_node.specs.Forest.{Shows, forest, path_of, metadata_of, below_of};
@@ -12,12 +12,10 @@ ghost use Rattle.zarrs_node.specs.Opened.{choice, ShowsChosen, IsCleanChosen, Re
 use crate::build::build_node_tree;
 use crate::children::get_child_nodes_opt;
 use crate::node::Node;
+use crate::zmetadata::consolidated_metadata_at;
 use log::Log;
 use std::alloc::Global;
-use zarrs_block::{
-    ConsolidatedMetadata, NodeCreateError, consolidated_metadata_for_open,
-    expand_consolidated_metadata,
-};
+use zarrs_block::{ConsolidatedMetadata, NodeCreateError, expand_consolidated_metadata};
 use zarrs_config::{Config, MetadataRetrieveVersion};
 use zarrs_meta::NodeMetadata;
 use zarrs_path::NodePath;
@@ -54,9 +52,10 @@ impl Node {
         )
     }
 
-    /// The node at a path with all below it, by the documents of a version. An array has no children. Those of a group come from the
-    /// consolidated block that its metadata hold, where the configuration has it used, and else from a listing, which warns of each path
-    /// without documents that it passes over. Where a block is used, nothing below the path is looked at.
+    /// The node at a path with all below it, by the documents of a version. An array has no children. Those of a group come from its
+    /// consolidated block, where the configuration has it used, and else from a listing, which warns of each path without documents that
+    /// it passes over. The block of a version 3 group stands in its metadata, that of a version 2 group in the document `.zmetadata`
+    /// beside it. Where a block is used, nothing else below the path is looked at.
     ///
     /// # Errors
     ///
@@ -114,7 +113,7 @@ fn nodes_below<L: Log, S: ReadableStorageTraits + ListableStorageTraits>(
     ensures refused { IfErr result (λ e. IsExcused (S.can_fail storage.now) e ⊎ RefusesChosen (S.contents storage.now) version.now (choice (S.contents storage.now) config.now.use_consolidated path.now metadata.now) true path.now e) }
 {
     let policy = config.use_consolidated_metadata();
-    match consolidated_metadata_for_open(alloc, path, metadata, policy)? {
+    match consolidated_metadata_at(alloc, storage, path, metadata, policy)? {
         Some(block) => nodes_of_block(alloc, path, block),
         None => get_child_nodes_opt(log, alloc, storage, path, true, version),
     }

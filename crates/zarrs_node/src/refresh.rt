@@ -4,7 +4,7 @@ ghost use Rattle.zarrs_store.specs.Contents.{Lists};
 ghost use Rattle.zarrs_path.specs.Paths.{IsBelow, IsPath};
 ghost use Rattle.zarrs_block.specs.Block.{Entries, IsAscending};
 ghost use Rattle.zarrs_block.specs.Refused.{IsExcused};
-ghost use Rattle.zarrs_node.specs.Meaning.{meaning};
+ghost use Rattle.zarrs_block.specs.Meaning.{meaning};
 ghost use Rattle.zarrs_node.specs.Reached.{HasGroup};
 ghost use Rattle.zarrs_node.specs.Consolidated.{AreBelow, put_all};
 ghost use Rattle.zarrs_node.specs.Fresh.{LeadsTo, Renewed, IsFresh, BadAnew, ShowsBadAnew};

@@ -1,6 +1,6 @@
 use Rattle.std.proofs.Common.{◌≡◌, ◌∙◌, ◌∷◌, ◌++◌, [], Ok, ap, sym, subst, true, true≢false}
 use Rattle.zarrs_store.specs.Contents.{Lists}
-use Rattle.zarrs_node.specs.Meaning.{meaning, node}
+use Rattle.zarrs_block.specs.Meaning.{meaning, node}
 use Rattle.zarrs_node.specs.Forest.{Shows, forest, pairs}
 use Rattle.zarrs_node.specs.Nodes.{Nodes}
 use Rattle.zarrs_node.specs.Fresh.{Renewed}

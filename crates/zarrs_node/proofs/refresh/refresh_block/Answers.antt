@@ -2,7 +2,7 @@ use Rattle.std.proofs.Common.{◌∙◌, ap, sym, subst, true≢false}
 use Rattle.zarrs_block.specs.Block.{IsAscending}
 use Rattle.zarrs_block.specs.Without.{IsWithout}
 use Rattle.zarrs_store.specs.Contents.{Lists}
-use Rattle.zarrs_node.specs.Meaning.{meaning}
+use Rattle.zarrs_block.specs.Meaning.{meaning}
 use Rattle.zarrs_node.specs.Consolidated.{put_all}
 use Rattle.zarrs_node.specs.Fresh.{Renewed, IsFresh}
 use Rattle.zarrs_node.proofs.Puts.{put_all_ascends}

@@ -1,0 +1,84 @@
+//! The consolidated metadata of a node, where they stand in a store.
+ghost use Rattle.std.specs.Prelude.{◌≡◌, Ok, Some, None, IfOk, IfErr, ◌⊎◌};
+ghost use Rattle.zarrs_store.specs.Faults.{IsStoreError};
+ghost use Rattle.zarrs_form.specs.Documents.{Gives, of_bytes};
+ghost use Rattle.zarrs_config.specs.declared.version.UseConsolidatedMetadata.TheVariants.{Never};
+ghost use Rattle.zarrs_block.specs.Refused.{IsExcused};
+ghost use Rattle.zarrs_block.specs.Used.{seen, used, RefusesUse};
+ghost use Rattle.zarrs_block.specs.Zmetadata.{zmetadata_of};
+ghost use Rattle.zarrs_node.specs.Below.{block_at, zmetadata_at};
+
+use std::alloc::Global;
+use zarrs_block::{
+    ConsolidatedMetadata, NodeCreateError, consolidated_metadata_for_open,
+    resolve_consolidated_policy,
+};
+use zarrs_config::UseConsolidatedMetadata;
+use zarrs_form::parse;
+use zarrs_meta::{GroupMetadata, NodeMetadata};
+use zarrs_path::{NodePath, meta_key_v2_consolidated};
+use zarrs_store::{MetadataFault, ReadableStorageTraits, StorageError};
+
+/// The block that is used of a node at a path of a store. A version 2 group has it in the document `.zmetadata` beside its own, and any
+/// other node in its metadata, as [`consolidated_metadata_for_open`] says. Under `Never` nothing is read.
+///
+/// # Errors
+///
+/// - `MissingMetadata` where there is no block that reads and the policy is `Must`, with a text that names the path.
+/// - `StorageError::Fault` of a store that can fail, and `OutOfMemory` where memory is wanting.
+///
+/// Source: own; zarr-python, consolidated metadata of version 2.
+pub fn consolidated_metadata_at<S: ReadableStorageTraits>(
+    alloc: Global,
+    storage: &S,
+    path: &NodePath,
+    metadata: &NodeMetadata,
+    policy: UseConsolidatedMetadata,
+) -> Result<Option<ConsolidatedMetadata>, NodeCreateError>
+    ensures ok { IfOk result (λ chosen. used (block_at (S.contents storage.now) path.now metadata.now) policy ≡ Some (seen chosen)) }
+    ensures never { policy ≡ Never → result ≡ Ok None }
+    ensures err { IfErr result (λ e. IsExcused (S.can_fail storage.now) e ⊎ RefusesUse path.now (used (block_at (S.contents storage.now) path.now metadata.now) policy) e) }
+{
+    match (metadata, policy) {
+        (_, UseConsolidatedMetadata::Never) => Ok(None),
+        (NodeMetadata::Group(GroupMetadata::V2(_)), _) => {
+            let block = zmetadata_at(alloc, storage, path)?;
+            resolve_consolidated_policy(alloc, path, block, policy)
+        }
+        _ => consolidated_metadata_for_open(alloc, path, metadata, policy),
+    }
+}
+
+/// The block that the document `.zmetadata` of a path is. There is none where the document is absent, is no JSON text or is refused by
+/// [`ConsolidatedMetadata::from_zmetadata`].
+///
+/// # Errors
+///
+/// `Fault` of a store that can fail, and `OutOfMemory`.
+///
+/// Source: zarr-python, consolidated metadata of version 2.
+pub fn zmetadata_at<S: ReadableStorageTraits>(
+    alloc: Global,
+    storage: &S,
+    path: &NodePath,
+) -> Result<Option<ConsolidatedMetadata>, StorageError>
+    ensures ok { IfOk result (λ block. seen block ≡ zmetadata_at (S.contents storage.now) path.now) }
+    ensures err { IfErr result (IsStoreError (S.can_fail storage.now)) }
+{
+    let key = meta_key_v2_consolidated(alloc, path)?;
+    let Some(bytes) = storage.get(alloc, &key)? else {
+        return Ok(None);
+    };
+    match block_of_bytes(alloc, &bytes) {
+        Ok(block) => Ok(Some(block)),
+        Err(MetadataFault::OutOfMemory) => Err(StorageError::OutOfMemory),
+        Err(_) => Ok(None),
+    }
+}
+
+// The block that the bytes of a document `.zmetadata` are.
+fn block_of_bytes(alloc: Global, bytes: &[u8]) -> Result<ConsolidatedMetadata, MetadataFault>
+    ensures { Gives (λ block. block.metadata) result (of_bytes zmetadata_of bytes.now) }
+{
+    ConsolidatedMetadata::from_owned_zmetadata(alloc, parse(alloc, bytes)?)
+}
