@@ -1,24 +1,24 @@
 -- The field of the block among the additional fields: set, removed, and read again.
-use Rattle.std.proofs.Common.{◌≡◌, ℕ, List, [], ◌∷◌, Bool, true, false, ◌||◌, if◌then◌else◌, String, Global, Option, Some, None, Ok, option_and_then, string_bytes, nat_cmp, bytes_eq, cond, codes, refl, ap, sym, ◌∙◌}
+use Rattle.std.proofs.Common.{◌≡◌, ℕ, List, [], ◌∷◌, Bool, true, false, if◌then◌else◌, String, Global, Option, Some, None, option_and_then, string_bytes, nat_cmp, bytes_eq, cond, codes, refl, ap, sym, ◌∙◌}
 use Rattle.std.proofs.Math.Bool.{or-false}
 use Rattle.std.specs.Map.{lookup, remove_entry}
 use Rattle.std.specs.BTreeMap.{is_at}
 use Rattle.std.specs.Cmp.Lexicographic.{slice_cmp}
 use Rattle.std.specs.Result.{result_ok}
 use Rattle.std.proofs.lemmas.Map.Text.{is_eq-slice_cmp}
-use Rattle.serde_json.specs.Data.{Data, Members, no_members, member, put}
-use Rattle.serde_json.specs.Find.{get_member}
+use Rattle.serde_json.specs.Data.{Data, Members, no_members, member}
 use Rattle.serde_json.specs.View.{members_of}
 use Rattle.serde_json.proofs.Views.{get_member-put}
 use Rattle.zarrs_form.specs.Documents.{is_own, besides, has_own}
 use Rattle.zarrs_form.proofs.MemberLaws.{get-others}
+use Rattle.zarrs_meta.specs.declared.group_v3.GroupMetadataV3.{GroupMetadataV3}
 use Rattle.zarrs_meta.specs.declared.node.GroupMetadata.{GroupMetadata}
 use Rattle.zarrs_meta.specs.declared.node.GroupMetadata.TheVariants.{V3, V2}
-use Rattle.zarrs_block.specs.Block.{Block, block_of, HasPlainNodes}
-use Rattle.zarrs_block.specs.Used.{group_held, fields_held}
+use Rattle.zarrs_block.specs.Block.{Block, block_of}
+use Rattle.zarrs_block.specs.Used.{fields_held}
 use Rattle.zarrs_block.proofs.BlockReads.{block_again}
 use Rattle.zarrs_group.specs.Groups.{GroupState}
-use Rattle.zarrs_group.specs.Consolidated.{fields_with, metadata_with, with_block, held_by, CanHold, MetadataHold}
+use Rattle.zarrs_group.specs.Consolidated.{fields_with, metadata_with, beside_with, with_block, held_in, held_by, CanHold, MetadataHold}
 
 -- ---- a field taken out of a map of fields
 
@@ -86,21 +86,19 @@ its_own : is_own (codes "consolidated_metadata" ∷ []) (codes "consolidated_met
 its_own = refl
 
 -- the fields hold the block that was set, or none where it was removed
-fields_hold : (block : Option Block) (ms : Members) → (m : GroupMetadata) → MetadataHold m block → fields_held (fields_with block ms) ≡ block
+fields_hold : (block : Option Block) (ms : Members) (m : GroupMetadataV3) → MetadataHold (V3 m) block → fields_held (fields_with block ms) ≡ block
 fields_hold None ms m can =
     ap (option_and_then (λ d. result_ok (block_of d)))
     (get-others (codes "consolidated_metadata" ∷ []) (codes "consolidated_metadata") (besides (codes "consolidated_metadata" ∷ []) ms) its_own
     (none_own (codes "consolidated_metadata" ∷ []) ms))
-fields_hold (Some B) ms (V3 m) plain =
+fields_hold (Some B) ms m plain =
     ap (option_and_then (λ d. result_ok (block_of d))) (get_member-put (codes "consolidated_metadata") _ ms) ∙ ap result_ok (block_again B plain)
-fields_hold (Some B) ms (V2 m) can = absurd can
 
--- metadata that can hold a block hold it once it was set
-metadata_hold : (m : GroupMetadata) (block : Option Block) → MetadataHold m block → group_held (metadata_with block m) ≡ block
-metadata_hold (V3 m) block can = fields_hold block m.additional_fields (V3 m) can
-metadata_hold (V2 m) None can = refl
-metadata_hold (V2 m) (Some B) can = absurd can
+-- metadata that can hold a block hold it once it was set, or it stands beside them
+metadata_hold : (m : GroupMetadata) (block old : Option Block) → MetadataHold m block → held_in (metadata_with block m) (beside_with block m old) ≡ block
+metadata_hold (V3 m) block old can = fields_hold block m.additional_fields m can
+metadata_hold (V2 m) block old can = refl
 
 -- a group that can hold a block holds it once it was set
 pub held_once_set : (g : GroupState) (block : Option Block) → CanHold g block → held_by (with_block g block) ≡ block
-held_once_set g block can = metadata_hold g.metadata block can
+held_once_set g block can = metadata_hold g.metadata block g.block can

@@ -1,8 +1,8 @@
 -- A group whose block was made of a forest gives that forest back.
 use Rattle.std.proofs.Common.{◌≡◌, ◌≢◌, ◌≤◌, ◌==◌, ◌&&◌, ℕ, ◌⊎◌, inl, inr, ⊎_elim, ◌↔◌, Bool, true, false, if◌then◌else◌, List, [], ◌∷◌, ◌++◌, Option, Some, None, option_and_then, Result, Ok, Err, IsSome, true≢false, codes, refl, sym, ap, subst, ◌∙◌, Contains}
-use Rattle.std.specs.Result.{is_ok}
 use Rattle.std.specs.FinMap as map
 use Rattle.std.proofs.lemmas.Bool.{eqb-true}
+use Rattle.std.proofs.lemmas.List.{append_cancel_left}
 use Rattle.serde_json.specs.Data.{Data, Members, depth}
 use Rattle.serde_json.specs.Find.{get, as_number, as_u64}
 use Rattle.serde_json.specs.Read.{max_depth}
@@ -22,37 +22,43 @@ use Rattle.zarrs_config.specs.declared.version.UseConsolidatedMetadata.{UseConso
 use Rattle.zarrs_config.specs.declared.version.UseConsolidatedMetadata.TheVariants.{Auto, Must, Never}
 use Rattle.zarrs_form.specs.Documents.{◌>>=◌, json_of, parsed, of_bytes, document_of, format_of, node_type_of}
 use Rattle.zarrs_meta.specs.GroupV3.{group_v3_of}
-use Rattle.zarrs_meta.specs.Node.{has_format, has_type, node_of, zarr_json_of}
+use Rattle.zarrs_meta.specs.Node.{node_of, zarr_json_of}
+use Rattle.zarrs_meta.specs.declared.group_v2.GroupMetadataV2.{GroupMetadataV2}
 use Rattle.zarrs_meta.specs.declared.group_v3.GroupMetadataV3.{GroupMetadataV3}
 use Rattle.zarrs_meta.specs.declared.node.GroupMetadata.{GroupMetadata}
 use Rattle.zarrs_meta.specs.declared.node.GroupMetadata.TheVariants.{V3, V2}
 use Rattle.zarrs_meta.specs.declared.node.ZarrJson.TheVariants.{Node}
 use Rattle.zarrs_meta.specs.declared.node.NodeMetadata.{NodeMetadata}
 use Rattle.zarrs_meta.specs.declared.node.NodeMetadata.TheVariants.{Group}
-use Rattle.zarrs_block.specs.Block.{Block, Entries, HasPlainNodes, HasValidKeys}
+use Rattle.zarrs_block.specs.Block.{Block, Entries, HasValidKeys, IsValidKey, found}
+use Rattle.zarrs_block.specs.Zmetadata.{HasVersion2}
 use Rattle.zarrs_block.specs.Used.{used}
 use Rattle.zarrs_block.specs.Refused.{LacksMemory, IsExcused}
 use Rattle.zarrs_block.specs.Expanded.{NamesBadKey}
 use Rattle.zarrs_block.specs.declared.node_create_error.NodeCreateError.{NodeCreateError}
 use Rattle.zarrs_block.specs.declared.node_create_error.NodeCreateError.TheVariants as made
+use Rattle.zarrs_node.specs.Below.{block_at}
 use Rattle.zarrs_node.specs.Forest.{Forest, pairs, Shows}
-use Rattle.zarrs_node.specs.Meaning.{Meaning, node, nothing, bad, in_bytes, document_at, document_from, named, version_3_line, zarr_json_line, meaning_in, meaning, zarray_line, zgroup_line}
-use Rattle.zarrs_node.specs.Inverse.{IsInverse}
+use Rattle.zarrs_block.specs.Meaning.{Meaning, node, nothing, bad, in_bytes, document_at, document_from, named, version_3_line, zarr_json_line, meaning_in, meaning, zarray_line, zgroup_line}
+use Rattle.zarrs_node.specs.Inverse.{HasNames, IsInverse}
+use Rattle.zarrs_node.specs.Reached.{Kept}
 use Rattle.zarrs_node.specs.Opened.{ShowsChosen, RefusesChosen, ShowsNode, RefusesOpening, RefusesText, RefusesNode}
 use Rattle.zarrs_node.specs.Opened as opened
 use Rattle.zarrs_node.proofs.Child.{node_same}
 use Rattle.zarrs_node.proofs.Found.{listed_each, lists_from}
-use Rattle.zarrs_node.proofs.Inverse.{block_gives_back}
+use Rattle.zarrs_node.proofs.Inverse.{block_gives_back, entries_are}
+use Rattle.zarrs_node.proofs.Kept.{kept_same, placed_between}
+use Rattle.zarrs_node.proofs.Unique.{one_forest}
 use Rattle.zarrs_group.specs.Groups.{GroupState, group_tree}
 use Rattle.zarrs_group.specs.Meaning.{MeansGroup, group_v3_line, group_line, group_meaning}
-use Rattle.zarrs_group.specs.Consolidated.{held_by, with_block, metadata_with, MetadataHold}
-use Rattle.zarrs_group.specs.Children.{chosen, is_listed, ListsChosen}
+use Rattle.zarrs_group.specs.Consolidated.{held_in, held_by, with_block, beside_with, metadata_with, Fits, MetadataHold}
+use Rattle.zarrs_group.specs.Children.{is_listed, ListsChosen}
 use Rattle.zarrs_group.specs.Laws.{MeansStored}
-use Rattle.zarrs_group.specs.GivesBack.{Consolidates, GivesBack, GroupGivesBack, OpensTo, StoredGivesBack}
+use Rattle.zarrs_group.specs.GivesBack.{Consolidates, ConsolidatesV2, GivesBack, GroupGivesBack, GroupV2GivesBack, OpensTo, StoredGivesBack}
 use Rattle.zarrs_group.proofs.BlockFields.{held_once_set}
 
 -- a block that is there is used, where the policy is not Never
-used_there : (B : Block) (policy : UseConsolidatedMetadata) → policy ≢ Never → used (Some B) policy ≡ Some (Some B)
+pub used_there : (B : Block) (policy : UseConsolidatedMetadata) → policy ≢ Never → used (Some B) policy ≡ Some (Some B)
 used_there B Never not = absurd (not refl)
 used_there B Auto not = refl
 used_there B Must not = refl
@@ -72,7 +78,7 @@ lacks_memory (made.MissingMetadata text) h = h
 lacks_memory made.OutOfMemory h = h
 
 -- where all keys are valid none is named
-no_bad_key : (B : Block) → HasValidKeys B → (e : NodeCreateError) → NamesBadKey B e → ⊥
+pub no_bad_key : (B : Block) → HasValidKeys B → (e : NodeCreateError) → NamesBadKey B e → ⊥
 no_bad_key B valid (made.NodePathError (InvalidPath text)) h = h.2 (valid h.0 h.1)
 no_bad_key B valid (made.NodePathError NoPathMemory) h = h
 no_bad_key B valid (made.StorePrefixError e) h = h
@@ -80,6 +86,40 @@ no_bad_key B valid (made.StorageError e) h = h
 no_bad_key B valid made.MetadataVersionMismatch h = h
 no_bad_key B valid (made.MissingMetadata text) h = h
 no_bad_key B valid made.OutOfMemory h = h
+
+-- a group that holds the block of a forest: its block is the one that is used
+module _ (g : GroupState) (f : Forest) (B : Block) (holds : held_by (with_block g (Some B)) ≡ Some B) (valid : HasValidKeys B)
+    (entries : (e : Path × NodeMetadata) → Entries B g.path e ↔ Contains (pairs f) e) (one : (t : Forest) → Shows t g.path (Kept (Entries B g.path) true g.path) → t ≡ f) where
+  -- it is the block that is used
+  is_chosen : (policy : UseConsolidatedMetadata) → policy ≢ Never → used (held_by (with_block g (Some B))) policy ≡ Some (Some B)
+  is_chosen policy not = ap (λ h. used h policy) holds ∙ used_there B policy not
+
+  -- what such a choice shows is the forest
+  chosen_shows : (s : Contents) (v : MetadataRetrieveVersion) (policy : UseConsolidatedMetadata) → policy ≢ Never → (t : Forest)
+      → ShowsChosen s v (used (held_by (with_block g (Some B))) policy) true g.path t → t ≡ f
+  chosen_shows s v policy not t shows = one t (subst (λ c. ShowsChosen s v c true g.path t) (is_chosen policy not) shows)
+
+  -- and nothing refuses it
+  chosen_clean : (s : Contents) (v : MetadataRetrieveVersion) (policy : UseConsolidatedMetadata) → policy ≢ Never → (e : NodeCreateError)
+      → RefusesChosen s v (used (held_by (with_block g (Some B))) policy) true g.path e → ⊥
+  chosen_clean s v policy not e h = no_bad_key B valid e (subst (λ c. RefusesChosen s v c true g.path e) (is_chosen policy not) h)
+
+  -- the entries of the block are the pairs
+  pairs_are : (es : List (Path × NodeMetadata)) → Lists (Entries B g.path) es → Lists (Contains (pairs f)) es
+  pairs_are es l = lists_from es (λ e. (λ h. (entries e).0 ((listed_each l e).0 h), λ h. (listed_each l e).1 ((entries e).1 h))) l.each_once
+
+  -- what is listed by such a choice are the entries
+  listed_by : (s : Contents) (policy : UseConsolidatedMetadata) → used (held_by (with_block g (Some B))) policy ≡ Some (Some B)
+      → (es : List (Path × NodeMetadata)) → ListsChosen s (used (held_by (with_block g (Some B))) policy) g.path es → Lists (Entries B g.path) es
+  listed_by s policy is es l = subst (λ c. ListsChosen s c g.path es) is l
+
+  -- so the group gives the forest back
+  gives_back : GivesBack (with_block g (Some B)) f
+  gives_back = record {
+    children = λ s config not t shows. chosen_shows s retrieve.Default config.use_consolidated not t shows;
+    traversed = λ s config not es lists. pairs_are es (listed_by s config.use_consolidated (is_chosen config.use_consolidated not) es lists);
+    excused = λ s config not can_fail e h. ⊎_elim (λ k. lacks_memory e (subst (λ c. IsExcused (is_listed c && can_fail) e) (is_chosen config.use_consolidated not) k)) (λ k. absurd (chosen_clean s retrieve.Default config.use_consolidated not e k)) h;
+  }
 
 module _ (of : Path → Meaning) (g : GroupState) (f : Forest) (B : Block) (from : Consolidates of g f B) where
   -- the block has the forest in it
@@ -95,33 +135,73 @@ module _ (of : Path → Meaning) (g : GroupState) (f : Forest) (B : Block) (from
   holds : held_by (with_block g (Some B)) ≡ Some B
   holds = held_once_set g (Some B) (can_hold g.metadata from.version_3)
 
-  -- it is the block that is used
-  is_chosen : (policy : UseConsolidatedMetadata) → policy ≢ Never → used (held_by (with_block g (Some B))) policy ≡ Some (Some B)
-  is_chosen policy not = ap (λ h. used h policy) holds ∙ used_there B policy not
-
-  -- what such a choice shows is the forest
+  -- what a choice shows is the forest
   shown_is : (s : Contents) (v : MetadataRetrieveVersion) (policy : UseConsolidatedMetadata) → policy ≢ Never → (t : Forest) → ShowsChosen s v (used (held_by (with_block g (Some B))) policy) true g.path t → t ≡ f
-  shown_is s v policy not t shows = inverse.one_forest t (subst (λ c. ShowsChosen s v c true g.path t) (is_chosen policy not) shows)
+  shown_is = chosen_shows g f B holds inverse.valid inverse.entries inverse.one_forest
 
   -- and nothing refuses it
   none_refused : (s : Contents) (v : MetadataRetrieveVersion) (policy : UseConsolidatedMetadata) → policy ≢ Never → (e : NodeCreateError) → RefusesChosen s v (used (held_by (with_block g (Some B))) policy) true g.path e → ⊥
-  none_refused s v policy not e h = no_bad_key B inverse.valid e (subst (λ c. RefusesChosen s v c true g.path e) (is_chosen policy not) h)
+  none_refused = chosen_clean g f B holds inverse.valid inverse.entries inverse.one_forest
+
+-- a version 3 group with the block of a listed forest gives the forest back
+pub group_gives_back : GroupGivesBack
+group_gives_back of g f B from =
+    gives_back g f B (holds of g f B from) (inverse of g f B from).valid (inverse of g f B from).entries (inverse of g f B from).one_forest
+
+-- ---- of version 2
+
+module _ (of : Path → Meaning) (g : GroupState) (f : Forest) (B : Block) (from : ConsolidatesV2 of g f B) where
+  -- each pair stands at names below the group
+  names : HasNames g.path (pairs f)
+  names e in' = ((listed_each from.listed.shown e).0 in').0.below
 
   -- the entries of the block are the pairs
-  pairs_are : (es : List (Path × NodeMetadata)) → Lists (Entries B g.path) es → Lists (Contains (pairs f)) es
-  pairs_are es l = lists_from es (λ e. (λ h. (inverse.entries e).0 ((listed_each l e).0 h), λ h. (listed_each l e).1 ((inverse.entries e).1 h))) l.each_once
+  pub same_pairs : (e : Path × NodeMetadata) → Entries B g.path e ↔ Contains (pairs f) e
+  same_pairs = entries_are (Contains (pairs f)) g.path B names from.block
 
--- a group with the block of a listed forest gives the forest back
-pub group_gives_back : GroupGivesBack
-group_gives_back of g f B from = record {
-  children = λ s config not t shows. shown_is of g f B from s retrieve.Default config.use_consolidated not t shows;
-  traversed = λ s config not es lists. pairs_are of g f B from es (listed_by s config.use_consolidated (is_chosen of g f B from config.use_consolidated not) es lists);
-  excused = λ s config not can_fail e h. ⊎_elim (λ k. lacks_memory e (subst (λ c. IsExcused (is_listed c && can_fail) e) (is_chosen of g f B from config.use_consolidated not) k)) (λ k. absurd (none_refused of g f B from s retrieve.Default config.use_consolidated not e k)) h;
-}
-  where
-    listed_by : (s : Contents) (policy : UseConsolidatedMetadata) → used (held_by (with_block g (Some B))) policy ≡ Some (Some B)
-        → (es : List (Path × NodeMetadata)) → ListsChosen s (used (held_by (with_block g (Some B))) policy) g.path es → Lists (Entries B g.path) es
-    listed_by s policy is es l = subst (λ c. ListsChosen s c g.path es) is l
+  -- each key is the text of names
+  valid_at : (t : List ℕ) (m : NodeMetadata) → found B t ≡ Some m → IsValidKey t
+  valid_at t m at =
+      let w = (from.block t m).0 at in
+      let pair = names (g.path ++ w.0 ∷ w.1, m) w.3 in
+      (w.0 ∷ w.1, subst IsPath (sym (append_cancel_left g.path (w.0 ∷ w.1) (pair.0 ∷ pair.1) pair.2)) pair.3, inl w.2)
+
+  -- so each key is valid
+  pub keys_valid : HasValidKeys B
+  keys_valid t some = elim (found B t) as (λ o. found B t ≡ o → IsSome o → IsValidKey t) [
+    | Some m ↦ λ at _. valid_at t m at
+    | None ↦ λ at none. absurd (true≢false (sym none))
+  ] refl some
+
+  -- the entries are of version 2
+  pub entries_v2 : HasVersion2 B
+  entries_v2 e h = from.nodes (g.path ++ h.0 ∷ h.1, e.1) ((same_pairs (g.path ++ h.0 ∷ h.1, e.1)).0 (h.0, h.1, h.2, refl, h.4))
+
+  -- so the group takes the block
+  takes : (m : GroupMetadata) → (k : GroupMetadataV2) × (m ≡ V2 k) → Fits m (Some B)
+  takes m (k, is) = subst (λ x. Fits x (Some B)) (sym is) (keys_valid, entries_v2)
+
+  -- and can hold it
+  can_hold_v2 : (m : GroupMetadata) → (k : GroupMetadataV2) × (m ≡ V2 k) → MetadataHold m (Some B)
+  can_hold_v2 m (k, is) = subst (λ x. MetadataHold x (Some B)) (sym is) tt
+
+  -- each pair is kept of what is the pairs
+  kept_pair : (N : Path × NodeMetadata → Type 0) → ((e : Path × NodeMetadata) → N e ↔ Contains (pairs f) e) → (e : Path × NodeMetadata) → Contains (pairs f) e → Kept N true g.path e
+  kept_pair N same e in' =
+      (kept_same N (Contains (pairs f)) true g.path (λ d low. same d) e).1
+      (record { below = names e in'; between = λ q low up. (refl, placed_between g.path f from.listed.placed e in' q low up) }, in')
+
+  -- the one forest of what is the pairs is the forest
+  pub one_is : (N : Path × NodeMetadata → Type 0) → ((e : Path × NodeMetadata) → N e ↔ Contains (pairs f) e) → (t : Forest) → Shows t g.path (Kept N true g.path) → t ≡ f
+  one_is N same t shows = one_forest g.path t f shows.placed from.listed.placed
+      (λ e. (λ in'. (same e).0 ((listed_each shows.shown e).0 in').1, λ in'. (listed_each shows.shown e).1 (kept_pair N same e in')))
+
+-- a version 2 group takes the block of a listed forest of version 2 nodes, and gives the forest back
+pub group_v2_gives_back : GroupV2GivesBack
+group_v2_gives_back of g f B from = (
+  takes of g f B from g.metadata from.version_2,
+  gives_back g f B (held_once_set g (Some B) (can_hold_v2 of g f B from g.metadata from.version_2)) (keys_valid of g f B from) (same_pairs of g f B from) (one_is of g f B from (Entries B g.path) (same_pairs of g f B from)),
+)
 
 -- ---- the stored group as the document of a node
 
@@ -197,8 +277,39 @@ means_node S s p m stored same retrieve.V3 not =
 means_node S s p m stored same retrieve.V2 not = absurd (not refl)
 
 -- paths with one text are one
-one_path : (p q : Path) → IsPath p → IsPath q → path_text p ≡ path_text q → p ≡ q
+pub one_path : (p q : Path) → IsPath p → IsPath q → path_text p ≡ path_text q → p ≡ q
 one_path p q h k e = sym (segments_of-path_text p h) ∙ ap segments_of e ∙ segments_of-path_text q k
+
+-- where a path means a node and nothing refuses what stands below it
+module _ (s : Contents) (v : MetadataRetrieveVersion) (policy : UseConsolidatedMetadata) (p : Path) (valid : IsPath p) (k : NodeMetadata) (means : meaning s v p ≡ node k)
+    (clean : (e : NodeCreateError) → opened.RefusesBelow s v policy p k e → ⊥) where
+  -- a text of a path is not refused
+  no_text : (e : NodeCreateError) → RefusesText (path_text p) e → ⊥
+  no_text (made.NodePathError (InvalidPath text)) h = h.1 (record { path = p; valid = valid; text = refl })
+  no_text (made.NodePathError NoPathMemory) h = h
+  no_text (made.StorePrefixError e) h = h
+  no_text (made.StorageError e) h = h
+  no_text made.MetadataVersionMismatch h = h
+  no_text (made.MissingMetadata text) h = h
+  no_text made.OutOfMemory h = h
+
+  -- the node itself is not refused
+  no_node : (e : NodeCreateError) → RefusesNode s v p e → ⊥
+  no_node e (inl (none, missing)) = let both : node k ≡ nothing = sym means ∙ none in cc
+  no_node e (inr wrong) = let both : node k ≡ bad e = sym means ∙ wrong in cc
+
+  -- nor is what stands below it
+  none_below : (e : NodeCreateError) (m : NodeMetadata) → meaning s v p ≡ node m → opened.RefusesBelow s v policy p m e → ⊥
+  none_below e m is h = clean e (subst (λ x. opened.RefusesBelow s v policy p x e) (node_same m k (sym is ∙ means)) h)
+
+  -- so the opening is not refused
+  pub opens_clean : (e : NodeCreateError) → RefusesOpening s v policy (path_text p) e → ⊥
+  opens_clean e (inl text) = no_text e text
+  opens_clean e (inr (b, named', text, why)) = at_path b (one_path b p named' valid text) why
+    where
+      at_path : (b : Path) → b ≡ p → RefusesNode s v b e ⊎ ((m : NodeMetadata) × (meaning s v b ≡ node m) × opened.RefusesBelow s v policy b m e) → ⊥
+      at_path b is why = ⊎_elim (no_node e) (λ w. none_below e w.0 w.1 w.2)
+          (subst (λ q. RefusesNode s v q e ⊎ ((m : NodeMetadata) × (meaning s v q ≡ node m) × opened.RefusesBelow s v policy q m e)) is why)
 
 module _ (of : Path → Meaning) (g : GroupState) (f : Forest) (B : Block) (from : Consolidates of g f B) (named' : IsPath g.path) (S : Contents)
     (stored : MeansStored S g.path (with_block g (Some B)).metadata) (shallow : depth (group_tree (with_block g (Some B)).metadata) ≤ max_depth)
@@ -212,6 +323,12 @@ module _ (of : Path → Meaning) (g : GroupState) (f : Forest) (B : Block) (from
       go (V3 y) e means shallow = means_node S s g.path y (means shallow).1 same v not
       go (V2 y) e means shallow = cc
 
+  -- the block that stands for the nodes below a version 3 group is the one that the group holds
+  held_there : (s : Contents) (p : Path) (m : GroupMetadata) (old : Option Block) → (k : GroupMetadataV3) × (m ≡ V3 k)
+      → block_at s p (Group (metadata_with (Some B) m)) ≡ held_in (metadata_with (Some B) m) old
+  held_there s p (V3 m) old is = refl
+  held_there s p (V2 m) old (k, is) = cc
+
   means_group : (v : MetadataRetrieveVersion) → v ≢ retrieve.V2 → meaning s v g.path ≡ node (Group (with_block g (Some B)).metadata)
   means_group v not = opens_group (with_block g (Some B)).metadata g.metadata from.version_3 refl stored shallow v not
 
@@ -220,42 +337,22 @@ module _ (of : Path → Meaning) (g : GroupState) (f : Forest) (B : Block) (from
       → meaning s v g.path ≡ node m → ShowsNode s v policy g.path m t → t ≡ f
   opened_is v not policy some m t means shows =
       let is : m ≡ Group (with_block g (Some B)).metadata = node_same m (Group (with_block g (Some B)).metadata) (sym means ∙ means_group v not) in
-      shown_is of g f B from s v policy some t (subst (λ x. ShowsNode s v policy g.path x t) is shows)
+      let shown = subst (λ x. ShowsNode s v policy g.path x t) is shows in
+      shown_is of g f B from s v policy some t (subst (λ h. ShowsChosen s v (used h policy) true g.path t) (held_there s g.path g.metadata (beside_with (Some B) g.metadata g.block) from.version_3) shown)
 
   -- and nothing refuses it
-  opened_clean : (v : MetadataRetrieveVersion) → v ≢ retrieve.V2 → (policy : UseConsolidatedMetadata) → policy ≢ Never → (m : NodeMetadata) → meaning s v g.path ≡ node m
-      → (e : NodeCreateError) → opened.RefusesBelow s v policy g.path m e → ⊥
-  opened_clean v not policy some m means e h =
-      let is : m ≡ Group (with_block g (Some B)).metadata = node_same m (Group (with_block g (Some B)).metadata) (sym means ∙ means_group v not) in
-      none_refused of g f B from s v policy some e (subst (λ x. opened.RefusesBelow s v policy g.path x e) is h)
-
-  -- a text of a path is not refused
-  no_text : (e : NodeCreateError) → RefusesText (path_text g.path) e → ⊥
-  no_text (made.NodePathError (InvalidPath text)) h = h.1 (record { path = g.path; valid = named'; text = refl })
-  no_text (made.NodePathError NoPathMemory) h = h
-  no_text (made.StorePrefixError e) h = h
-  no_text (made.StorageError e) h = h
-  no_text made.MetadataVersionMismatch h = h
-  no_text (made.MissingMetadata text) h = h
-  no_text made.OutOfMemory h = h
-
-  -- the node itself is not refused
-  no_node : (v : MetadataRetrieveVersion) → v ≢ retrieve.V2 → (e : NodeCreateError) → RefusesNode s v g.path e → ⊥
-  no_node v not e (inl (none, missing)) = let both : node (Group (with_block g (Some B)).metadata) ≡ nothing = sym (means_group v not) ∙ none in cc
-  no_node v not e (inr wrong) = let both : node (Group (with_block g (Some B)).metadata) ≡ bad e = sym (means_group v not) ∙ wrong in cc
-
-  -- nor is the opening
-  not_refused : (v : MetadataRetrieveVersion) → v ≢ retrieve.V2 → (policy : UseConsolidatedMetadata) → policy ≢ Never → (e : NodeCreateError) → RefusesOpening s v policy (path_text g.path) e → ⊥
-  not_refused v not policy some e (inl text) = no_text e text
-  not_refused v not policy some e (inr (b, valid, text, why)) = at_path b (one_path b g.path valid named' text) why
-    where
-      at_path : (b : Path) → b ≡ g.path → RefusesNode s v b e ⊎ ((m : NodeMetadata) × (meaning s v b ≡ node m) × opened.RefusesBelow s v policy b m e) → ⊥
-      at_path b is why = ⊎_elim (no_node v not e) (λ w. opened_clean v not policy some w.0 w.1 e w.2)
-          (subst (λ p. RefusesNode s v p e ⊎ ((m : NodeMetadata) × (meaning s v p ≡ node m) × opened.RefusesBelow s v policy p m e)) is why)
+  opened_clean : (v : MetadataRetrieveVersion) (policy : UseConsolidatedMetadata) → policy ≢ Never → (e : NodeCreateError)
+      → opened.RefusesBelow s v policy g.path (Group (with_block g (Some B)).metadata) e → ⊥
+  opened_clean v policy some e refused =
+      none_refused of g f B from s v policy some e (subst (λ x. RefusesChosen s v (used x policy) true g.path e) (held_there s g.path g.metadata (beside_with (Some B) g.metadata g.block) from.version_3) refused)
 
   -- so the stored group gives the forest back
   opens_to : OpensTo s (with_block g (Some B)) f
-  opens_to = record { means = means_group; children = opened_is; opened = not_refused }
+  opens_to = record {
+    means = means_group;
+    children = opened_is;
+    opened = λ v not policy some. opens_clean s v policy g.path named' (Group (with_block g (Some B)).metadata) (means_group v not) (opened_clean v policy some);
+  }
 
 -- a node opened over the stored group gives the forest back
 pub stored_gives_back : StoredGivesBack

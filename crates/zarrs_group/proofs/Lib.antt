@@ -10,3 +10,6 @@ pub mod Version3
 pub mod BlockFields
 pub mod Together
 pub mod GivesBack
+pub mod StoredAgain
+pub mod Beside
+pub mod BlockPlain

@@ -7,7 +7,7 @@ use Rattle.serde_json.specs.Written.{members_have_float}
 use Rattle.zarrs_store.specs.Segments.{Segments}
 use Rattle.zarrs_store.specs.Contents.{Contents}
 use Rattle.zarrs_store.proofs.ContentsLemmas.{get_inserted, get_removed, AgreesExceptAt-insert}
-use Rattle.zarrs_path.specs.Keys.{zarr_json, zgroup, zattrs}
+use Rattle.zarrs_path.specs.Keys.{zarr_json, zgroup, zattrs, zmetadata}
 use Rattle.zarrs_path.specs.Paths.{Path}
 use Rattle.zarrs_form.specs.Documents.{json_of, is_empty, has_own}
 use Rattle.zarrs_group.specs.Layout.{pretty_text}
@@ -27,22 +27,24 @@ use Rattle.zarrs_meta.specs.declared.attributes.AttributesDocument.{AttributesDo
 use Rattle.zarrs_meta.specs.declared.node.NodeMetadata.TheVariants.{Group}
 use Rattle.zarrs_meta.specs.Node.{group_with}
 use Rattle.zarrs_meta.specs.GroupV2.{group_v2_of}
-use Rattle.zarrs_node.specs.Meaning.{in_bytes, Meaning, node, nothing, document_at, attributes_at, version_2_line, zgroup_line}
+use Rattle.zarrs_block.specs.Meaning.{in_bytes, Meaning, node, nothing, document_at, attributes_at, version_2_line, zgroup_line}
 use Rattle.zarrs_group.specs.Meaning.{group_line, group_meaning}
 use Rattle.zarrs_group.specs.Layout.{IsReadBack}
-use Rattle.zarrs_group.specs.Stored.{AreReadBack, attributes_edit, store_edits, without_attributes}
+use Rattle.zarrs_block.specs.Block.{Block}
+use Rattle.zarrs_block.specs.Zmetadata.{zmetadata_tree}
+use Rattle.zarrs_group.specs.Stored.{AreReadBack, attributes_edit, own_edits, store_edits, without_attributes}
 use Rattle.zarrs_group.specs.Laws.{MeansStored, StoredMeans}
-use Rattle.zarrs_group.proofs.EraseLaws.{keys_differ, group_attrs}
+use Rattle.zarrs_group.proofs.EraseLaws.{keys_differ, group_attrs, group_metadata, attrs_metadata}
 
 -- from the bytes that were made to those of the definition
 pub read_again : (bytes : List ℕ) (v d : Data) → v ≡ d → bytes ≡ pretty_text d → (depth v ≤ max_depth → json_of bytes ≡ Some v) → IsReadBack d
 read_again bytes v d is text reads shallow = ap json_of (sym text) ∙ reads (subst (λ x. depth x ≤ max_depth) (sym is) shallow) ∙ ap Some is
 
 -- the line of `zarr.json` over a stored version 3 group
-stored_v3 : (S : Contents) (p : Path) (m : GroupMetadataV3) (rest : Meaning) → group_v3_fault m ≡ None → json_of (pretty_text (group_v3_tree m)) ≡ Some (group_v3_tree m)
-    → group_line (after S (store_edits p (V3 m))) p rest ≡ node (Group (V3 m))
+stored_v3 : (S : Contents) (p : Path) (m : GroupMetadataV3) (block : Option Block) (rest : Meaning) → group_v3_fault m ≡ None → json_of (pretty_text (group_v3_tree m)) ≡ Some (group_v3_tree m)
+    → group_line (after S (store_edits p (V3 m) block)) p rest ≡ node (Group (V3 m))
 unfolding group_line document_at
-stored_v3 S p m rest plain read =
+stored_v3 S p m block rest plain read =
     let here : map.get (map.insert S (p ++ zarr_json ∷ []) (pretty_text (group_v3_tree m))) (p ++ zarr_json ∷ []) ≡ Some (pretty_text (group_v3_tree m)) =
     get_inserted S (p ++ zarr_json ∷ []) (pretty_text (group_v3_tree m)) in
     rw (here, read, group_v3_again m (plain_v3 m plain)) refl
@@ -80,11 +82,11 @@ unfolding stored_attributes
 whole m no_members rest is = ap (λ a. node (Group (V2 (record { attributes = a; additional_fields = m.additional_fields })))) (sym is)
 whole m (member k d ms) rest is = ap (λ a. node (Group (V2 (record { attributes = a; additional_fields = m.additional_fields })))) (sym is)
 
--- the line of `.zgroup` over a stored version 2 group
-stored_v2 : (S : Contents) (p : Path) (m : GroupMetadataV2) (rest : Meaning) → group_v2_fault m ≡ None → AreReadBack (V2 m) → depth (object m.attributes) ≤ max_depth → depth (group_v2_tree (without_attributes m)) ≤ max_depth
-    → zgroup_line in_bytes (after S (store_edits p (V2 m))) p rest ≡ node (Group (V2 m))
+-- the line of `.zgroup` over the stored documents of a version 2 group
+stored_own : (S : Contents) (p : Path) (m : GroupMetadataV2) (rest : Meaning) → group_v2_fault m ≡ None → AreReadBack (V2 m) → depth (object m.attributes) ≤ max_depth → depth (group_v2_tree (without_attributes m)) ≤ max_depth
+    → zgroup_line in_bytes (after S (own_edits p m)) p rest ≡ node (Group (V2 m))
 unfolding zgroup_line document_at
-stored_v2 S p m rest fault reads shallow shallow' =
+stored_own S p m rest fault reads shallow shallow' =
     let own : Segments = p ++ zgroup ∷ [] in
     let attributes : Segments = p ++ zattrs ∷ [] in
     let bytes : List ℕ = pretty_text (group_v2_tree (without_attributes m)) in
@@ -96,14 +98,31 @@ stored_v2 S p m rest fault reads shallow shallow' =
     let found : attributes_at first p ≡ Ok (stored_attributes m.attributes) = found_stored S p m.attributes (fits_v2 m fault).0 reads.0 shallow in
     rw (here, there, read, group_v2_again (without_attributes m) (plain_without m plain), found) (whole m m.attributes rest refl)
 
--- what is stored means what was stored
-pub means_stored : (S : Contents) (p : Path) (m : GroupMetadata) → group_fault m ≡ None → AreReadBack m → MeansStored (after S (store_edits p m)) p m
-unfolding group_meaning
-means_stored S p (V3 m) fault reads =
-    λ shallow.
-    (stored_v3 S p m (zgroup_line in_bytes (after S (store_edits p (V3 m))) p nothing) fault (reads shallow), stored_v3 S p m nothing fault (reads shallow))
-means_stored S p (V2 m) fault reads = stored_v2 S p m nothing fault reads
+-- another key does not matter to the line of `.zgroup`
+line_elsewhere : (S : Contents) (p : Path) (bytes : List ℕ) (rest : Meaning) → zgroup_line in_bytes (map.insert S (p ++ zmetadata ∷ []) bytes) p rest ≡ zgroup_line in_bytes S p rest
+unfolding zgroup_line document_at
+line_elsewhere S p bytes rest =
+    let own : map.get (map.insert S (p ++ zmetadata ∷ []) bytes) (p ++ zgroup ∷ []) ≡ map.get S (p ++ zgroup ∷ []) =
+    AgreesExceptAt-insert S (p ++ zmetadata ∷ []) bytes (p ++ zgroup ∷ []) (keys_differ p zgroup zmetadata group_metadata) in
+    let attributes : map.get (map.insert S (p ++ zmetadata ∷ []) bytes) (p ++ zattrs ∷ []) ≡ map.get S (p ++ zattrs ∷ []) =
+    AgreesExceptAt-insert S (p ++ zmetadata ∷ []) bytes (p ++ zattrs ∷ []) (keys_differ p zattrs zmetadata attrs_metadata) in
+    rw (own, attributes) refl
 
--- the same at every path and over every store
+-- the line of `.zgroup` over a stored version 2 group, with whatever block
+stored_v2 : (S : Contents) (p : Path) (m : GroupMetadataV2) (block : Option Block) (rest : Meaning) → group_v2_fault m ≡ None → AreReadBack (V2 m) → depth (object m.attributes) ≤ max_depth
+    → depth (group_v2_tree (without_attributes m)) ≤ max_depth → zgroup_line in_bytes (after S (store_edits p (V2 m) block)) p rest ≡ node (Group (V2 m))
+stored_v2 S p m None rest fault reads shallow shallow' = stored_own (map.remove S (p ++ zmetadata ∷ [])) p m rest fault reads shallow shallow'
+stored_v2 S p m (Some B) rest fault reads shallow shallow' =
+    line_elsewhere (after S (own_edits p m)) p (pretty_text (zmetadata_tree m B)) rest ∙ stored_own S p m rest fault reads shallow shallow'
+
+-- what is stored means what was stored
+pub means_stored : (S : Contents) (p : Path) (m : GroupMetadata) (block : Option Block) → group_fault m ≡ None → AreReadBack m → MeansStored (after S (store_edits p m block)) p m
+unfolding group_meaning
+means_stored S p (V3 m) block fault reads =
+    λ shallow.
+    (stored_v3 S p m block (zgroup_line in_bytes (after S (store_edits p (V3 m) block)) p nothing) fault (reads shallow), stored_v3 S p m block nothing fault (reads shallow))
+means_stored S p (V2 m) block fault reads = stored_v2 S p m block nothing fault reads
+
+-- the same at every path, with every block and over every store
 pub stored_means : (m : GroupMetadata) → group_fault m ≡ None → AreReadBack m → StoredMeans m
-stored_means m fault reads = λ S p. means_stored S p m fault reads
+stored_means m fault reads = λ S p block. means_stored S p m block fault reads

@@ -1,11 +1,11 @@
--- Storing and erasing change no key but the three of the group.
-use Rattle.std.proofs.Common.{◌≡◌, ◌≢◌, false, true, Bool, List, [], ◌∷◌, ◌++◌, refl, ◌∙◌, subst}
+-- Storing and erasing change no key but the four of the group.
+use Rattle.std.proofs.Common.{◌≡◌, ◌≢◌, false, true, Bool, List, [], ◌∷◌, ◌++◌, Option, Some, None, refl, ◌∙◌, subst}
 use Rattle.std.specs.FinMap as map
 use Rattle.serde_json.specs.Data.{Members}
 use Rattle.zarrs_store.specs.Segments.{Segments}
 use Rattle.zarrs_store.specs.Contents.{Contents, AgreesExceptAt}
 use Rattle.zarrs_store.proofs.ContentsLemmas.{AgreesExceptAt-insert, AgreesExceptAt-remove}
-use Rattle.zarrs_path.specs.Keys.{zarr_json, zarray, zgroup, zattrs}
+use Rattle.zarrs_path.specs.Keys.{zarr_json, zarray, zgroup, zattrs, zmetadata}
 use Rattle.zarrs_path.specs.Paths.{Path}
 use Rattle.zarrs_form.specs.Documents.{is_empty}
 use Rattle.zarrs_form.proofs.MemberLaws.{differ}
@@ -13,6 +13,7 @@ use Rattle.zarrs_meta.specs.declared.node.GroupMetadata.{GroupMetadata}
 use Rattle.zarrs_meta.specs.declared.node.GroupMetadata.TheVariants.{V3, V2}
 use Rattle.zarrs_config.specs.declared.version.MetadataEraseVersion.{MetadataEraseVersion}
 use Rattle.zarrs_config.specs.declared.version.MetadataEraseVersion.TheVariants as erase
+use Rattle.zarrs_block.specs.Block.{Block}
 use Rattle.zarrs_group.specs.Edits.{Edit, set, remove, edited, after, edit_key, IsCutShort}
 use Rattle.zarrs_group.specs.Stored.{attributes_edit, store_edits, erase_edits}
 use Rattle.zarrs_group.specs.Laws.{OthersStayAfter, OtherKeysStay, ArraysStay}
@@ -48,38 +49,39 @@ cut_elsewhere key S S' es all cut =
     let parts = front_elsewhere key cut.done cut.rest cut.next (subst (λ ds. EachElsewhere key ds) cut.is all) in
     cut.others key parts.1 ∙ after_elsewhere key S cut.done parts.0
 
--- the key is none of the three of the group
+-- the key is none of the four of the group
 abbrev IsOther : Path → Segments → Type 0
-IsOther p key = (key ≢ p ++ zarr_json ∷ []) × (key ≢ p ++ zgroup ∷ []) × (key ≢ p ++ zattrs ∷ [])
+IsOther p key = (key ≢ p ++ zarr_json ∷ []) × (key ≢ p ++ zgroup ∷ []) × (key ≢ p ++ zattrs ∷ []) × (key ≢ p ++ zmetadata ∷ [])
 
 -- edits that are at other keys than every other key leave those as they were
 others_after : (p : Path) (es : List Edit) → ((key : Segments) → IsOther p key → EachElsewhere key es) → OthersStayAfter p es
-others_after p es all S = (λ key a b c. after_elsewhere key S es (all key (a, b, c)), λ S' cut key a b c. cut_elsewhere key S S' es (all key (a, b, c)) cut)
+others_after p es all S = (λ key a b c d. after_elsewhere key S es (all key (a, b, c, d)), λ S' cut key a b c d. cut_elsewhere key S S' es (all key (a, b, c, d)) cut)
 
 -- the edit of the attributes is at `.zattrs`
 attributes_elsewhere : (p : Path) (key : Segments) (a : Members) (b : Bool) → is_empty a ≡ b → key ≢ p ++ zattrs ∷ [] → Elsewhere key (attributes_edit p a)
 attributes_elsewhere p key a true is other = rw is other
 attributes_elsewhere p key a false is other = rw is other
 
--- the edits that store are at the three keys
-storing : (p : Path) (m : GroupMetadata) (key : Segments) → IsOther p key → EachElsewhere key (store_edits p m)
-storing p (V3 m) key other = (other.0, tt)
-storing p (V2 m) key other = (attributes_elsewhere p key m.attributes (is_empty m.attributes) refl other.2, (other.1, tt))
+-- the edits that store are at the four keys
+storing : (p : Path) (m : GroupMetadata) (block : Option Block) (key : Segments) → IsOther p key → EachElsewhere key (store_edits p m block)
+storing p (V3 m) block key other = (other.0, tt)
+storing p (V2 m) None key other = (other.3, (attributes_elsewhere p key m.attributes (is_empty m.attributes) refl other.2, (other.1, tt)))
+storing p (V2 m) (Some B) key other = (attributes_elsewhere p key m.attributes (is_empty m.attributes) refl other.2, (other.1, (other.3, tt)))
 
--- the edits that erase are at the three keys
+-- the edits that erase are at the four keys
 erasing : (p : Path) (v : MetadataEraseVersion) (m : GroupMetadata) (key : Segments) → IsOther p key → EachElsewhere key (erase_edits p v m)
 erasing p erase.Default (V3 m) key other = (other.0, tt)
-erasing p erase.Default (V2 m) key other = (other.1, (other.2, tt))
-erasing p erase.All m key other = (other.0, (other.1, (other.2, tt)))
+erasing p erase.Default (V2 m) key other = (other.1, (other.2, (other.3, tt)))
+erasing p erase.All m key other = (other.0, (other.1, (other.2, (other.3, tt))))
 erasing p erase.V3 m key other = (other.0, tt)
-erasing p erase.V2 m key other = (other.1, (other.2, tt))
+erasing p erase.V2 m key other = (other.1, (other.2, (other.3, tt)))
 
--- storing and erasing change no key but the three
+-- storing and erasing change no key but the four
 pub other_keys_stay : OtherKeysStay
-other_keys_stay p m = (others_after p (store_edits p m) (storing p m), λ v. others_after p (erase_edits p v m) (erasing p v m))
+other_keys_stay p m = (λ block. others_after p (store_edits p m block) (storing p m block), λ v. others_after p (erase_edits p v m) (erasing p v m))
 
--- `.zarray` is at none of the three keys
+-- `.zarray` is at none of the four keys
 pub arrays_stay : ArraysStay
 arrays_stay p S S' others =
     others (p ++ zarray ∷ []) (keys_differ p zarray zarr_json (differ zarray zarr_json refl)) (keys_differ p zarray zgroup (differ zarray zgroup refl))
-    (keys_differ p zarray zattrs (differ zarray zattrs refl))
+    (keys_differ p zarray zattrs (differ zarray zattrs refl)) (keys_differ p zarray zmetadata (differ zarray zmetadata refl))

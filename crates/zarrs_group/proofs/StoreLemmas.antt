@@ -1,24 +1,29 @@
 -- What storing and erasing say before the first edit.
-use Rattle.std.proofs.Common.{Result, Ok, Err, OnOk, Bool, List, [], ◌∷◌, refl}
+use Rattle.std.proofs.Common.{◌≡◌, Result, Ok, Err, OnOk, Bool, List, [], ◌∷◌, ◌++◌, Option, Some, None, refl, ap, ◌∙◌}
 use Rattle.zarrs_store.specs.Contents.{Contents}
+use Rattle.zarrs_store.specs.declared.fault.MetadataFault.{MetadataFault}
 use Rattle.zarrs_store.specs.declared.storage_error.StorageError.{StorageError}
 use Rattle.zarrs_store.specs.declared.storage_error.StorageError.TheVariants.{Fault, InvalidMetadata, Other, OutOfMemory}
+use Rattle.zarrs_path.specs.Keys.{zmetadata}
 use Rattle.zarrs_path.specs.Paths.{Path}
 use Rattle.zarrs_meta.specs.declared.node.GroupMetadata.{GroupMetadata}
 use Rattle.zarrs_meta.specs.declared.node.GroupMetadata.TheVariants.{V3, V2}
 use Rattle.zarrs_config.specs.declared.version.MetadataEraseVersion.{MetadataEraseVersion}
 use Rattle.zarrs_config.specs.declared.version.MetadataEraseVersion.TheVariants as version
+use Rattle.zarrs_block.specs.Block.{Block}
 use Rattle.zarrs_group.specs.Edits.{Edit, IsCutShort}
-use Rattle.zarrs_group.specs.Stored.{store_edits, erase_edits, RefusesMetadata, RefusesStore}
+use Rattle.zarrs_group.specs.Plain.{group_fault, beside_fault}
+use Rattle.zarrs_group.specs.Stored.{metadata_key, store_edits, erase_edits, fault_at, first_fault, stored_fault, RefusesMetadata, RefusesStore}
 
 -- where nothing was done, the first edit is the next
 none_done : (S : Contents) (e : Edit) (es : List Edit) → IsCutShort S (e ∷ es) S
 none_done S e es = record { done = []; next = e; rest = es; is = refl; others = λ q n. refl }
 
 -- where nothing was done of storing, it was cut short at its first edit
-pub none_stored : (S : Contents) (p : Path) (m : GroupMetadata) → IsCutShort S (store_edits p m) S
-none_stored S p (V3 m) = none_done S _ _
-none_stored S p (V2 m) = none_done S _ _
+pub none_stored : (S : Contents) (p : Path) (m : GroupMetadata) (block : Option Block) → IsCutShort S (store_edits p m block) S
+none_stored S p (V3 m) block = none_done S _ _
+none_stored S p (V2 m) None = none_done S _ _
+none_stored S p (V2 m) (Some B) = none_done S _ _
 
 -- where nothing was done of erasing, it was cut short at its first edit
 pub none_erased : (S : Contents) (p : Path) (v : MetadataEraseVersion) (m : GroupMetadata) → IsCutShort S (erase_edits p v m) S
@@ -29,13 +34,33 @@ none_erased S p version.V3 m = none_done S _ _
 none_erased S p version.V2 m = none_done S _ _
 
 -- a refusal before the first edit is a refusal of storing, with the store unchanged
-pub refused_before : (b : Bool) (p : Path) (m : GroupMetadata) (S : Contents) (e : StorageError) → RefusesMetadata p m e → RefusesStore b p m S S e
-refused_before b p m S Fault h = absurd h
-refused_before b p m S (InvalidMetadata key fault) h = (refl, h.0, h.1)
-refused_before b p m S (Other text) h = absurd h
-refused_before b p m S OutOfMemory h = none_stored S p m
+pub refused_before : (b : Bool) (p : Path) (m : GroupMetadata) (block : Option Block) (S : Contents) (e : StorageError) → RefusesMetadata p m block e → RefusesStore b p m block S S e
+refused_before b p m block S Fault h = absurd h
+refused_before b p m block S (InvalidMetadata key fault) h = (refl, h)
+refused_before b p m block S (Other text) h = absurd h
+refused_before b p m block S OutOfMemory h = none_stored S p m block
 
 -- what follows from success
 pub on_ok : {X E A B : Type 0} (r : Result X E) → OnOk r A → (A → B) → OnOk r B
 on_ok (Ok x) a f = f a
 on_ok (Err e) a f = tt
+
+-- ---- the faults
+
+-- a fault of the metadata is the one that is named
+pub own_fault : (p : Path) (m : GroupMetadata) (block : Option Block) (fault : MetadataFault) → group_fault m ≡ Some fault → stored_fault p m block ≡ Some (metadata_key p m, fault)
+own_fault p m block fault is = ap (λ f. first_fault (fault_at (metadata_key p m) f) (fault_at (p ++ zmetadata ∷ []) (beside_fault m block))) is
+
+-- else it is that of the block
+pub beside_is : (p : Path) (m : GroupMetadata) (block : Option Block) (fault : Option MetadataFault) → group_fault m ≡ None → beside_fault m block ≡ fault
+    → stored_fault p m block ≡ fault_at (p ++ zmetadata ∷ []) fault
+beside_is p m block fault own is =
+    ap (λ f. first_fault (fault_at (metadata_key p m) f) (fault_at (p ++ zmetadata ∷ []) (beside_fault m block))) own ∙ ap (fault_at (p ++ zmetadata ∷ [])) is
+
+-- where there is no fault the metadata have none
+pub own_plain : (p : Path) (m : GroupMetadata) (block : Option Block) → stored_fault p m block ≡ None → group_fault m ≡ None
+own_plain p m block none = at (group_fault m) none
+  where
+    at : (o : Option MetadataFault) → first_fault (fault_at (metadata_key p m) o) (fault_at (p ++ zmetadata ∷ []) (beside_fault m block)) ≡ None → o ≡ None
+    at None e = refl
+    at (Some f) e = cc

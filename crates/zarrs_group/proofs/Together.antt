@@ -1,5 +1,5 @@
 -- The children of a group as pairs of path and metadata.
-use Rattle.std.proofs.Common.{append-nil, ◌≡◌, ◌≢◌, Result, Ok, Err, IfOk, ℕ, ◌↔◌, ◌⊎◌, ⊎_elim, Bool, true, false, true≢false, List, [], ◌∷◌, ◌++◌, map, filter, cond, length, Option, Some, None, refl, sym, ap, subst, ◌∙◌, append_assoc, arith, Contains}
+use Rattle.std.proofs.Common.{append-nil, ◌≡◌, ◌≢◌, Result, Ok, Err, IfOk, ℕ, ◌↔◌, ⊎_elim, Bool, true, false, true≢false, List, [], ◌∷◌, ◌++◌, map, filter, cond, length, Option, Some, None, refl, sym, ap, subst, ◌∙◌, append_assoc, arith, Contains}
 use Rattle.std.proofs.lemmas.List.{append_cancel_left, map-append}
 use Rattle.std.proofs.lemmas.List.Elements.{Contains-append_left, Contains-append_right, Contains-push}
 use Rattle.zarrs_store.specs.Contents.{Contents, Lists}
@@ -12,7 +12,6 @@ use Rattle.zarrs_meta.specs.declared.node.NodeMetadata.{NodeMetadata}
 use Rattle.zarrs_meta.specs.declared.node.NodeMetadata.TheVariants.{Group, Array}
 use Rattle.zarrs_block.specs.Block.{Block, Entries}
 use Rattle.zarrs_block.specs.Expanded.{HaveOwnPaths}
-use Rattle.zarrs_node.specs.Below.{NodesBelow}
 use Rattle.zarrs_node.specs.Nodes.{Meant, Bad}
 use Rattle.zarrs_node.specs.Order.{Ascend}
 use Rattle.zarrs_node.specs.Reached.{Kept}

@@ -1,9 +1,9 @@
--- Zarr core specification 3.1, "Hierarchy" and "Group metadata", the field `consolidated_metadata`: what stands below a group, by its block or by a listing.
+-- Zarr core specification 3.1, "Hierarchy" and "Group metadata", the field `consolidated_metadata`, and the document `.zmetadata` of version 2: what stands below a group, by its block or by a listing.
 --     chosen g config      the block that is used of a group, or that the store is listed, or nothing where the want of a block is refused
 --     ShowsChildren, ListsNodes, AreChildren      what its trees show; what all its nodes are; what its children are, in order
 --     IsCleanBelow, RefusesBelow      that nothing refuses it; what a refusal is
 --     is_listed choice      whether the store is listed: only there its fault is excused
-use Rattle.std.specs.Prelude.{◌≡◌, Bool, true, false, ◌&&◌, List, [], ◌∷◌, Option, Some, None, ◌⊎◌}
+use Rattle.std.specs.Prelude.{Bool, true, false, ◌&&◌, List, [], ◌∷◌, Option, Some, None, ◌⊎◌}
 use Rattle.zarrs_store.specs.Contents.{Contents, Lists}
 use Rattle.zarrs_path.specs.Paths.{Path}
 use Rattle.zarrs_config.specs.Settings.{Settings}
@@ -67,9 +67,9 @@ RefusesBelow can_fail s g config recursive e = IsExcused (is_listed (chosen g co
 
 -- ---- groups among the children
 
--- the group at a path with these metadata, and with the choices of a configuration
+-- the group at a path with these metadata, without a block beside them, and with the choices of a configuration
 abbrev pub group_at : Settings → Path → GroupMetadata → GroupState
-group_at config p m = record { path = p; metadata = m; convert_version = config.convert_version; erase_version = config.erase_version }
+group_at config p m = record { path = p; metadata = m; block = None; convert_version = config.convert_version; erase_version = config.erase_version }
 
 -- a group before others, where the metadata are a group's
 abbrev pub with_group : Settings → Path → NodeMetadata → List GroupState → List GroupState

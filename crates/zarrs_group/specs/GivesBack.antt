@@ -1,13 +1,16 @@
--- Zarr core specification 3.1, "Group metadata", the field `consolidated_metadata`: a group whose block was made of a forest gives that forest back.
+-- Zarr core specification 3.1, "Group metadata", the field `consolidated_metadata`, and the document `.zmetadata` of version 2: a group whose block was made of a forest gives that forest back.
 --     Consolidates g f B      B is the block of the listed forest f below the version 3 group g
+--     ConsolidatesV2 g f B      B is the block of the listed forest f of version 2 nodes below the version 2 group g
 --     GivesBack g f      what the children of g are, whatever the store holds
 --     OpensTo s g f      what a node opened at the path of g has below it
-use Rattle.std.specs.Prelude.{◌≡◌, ◌≢◌, ◌≤◌, Bool, true, List, [], ◌∷◌, ◌++◌, Contains, Some}
+--     HasStoredBlock S s g      s has the document `.zmetadata` that storing the version 2 group g over S leaves
+--     OpensToV2 s g f B      what a node opened at the path of a version 2 group g has below it, and the block of a group opened there
+use Rattle.std.specs.Prelude.{◌≡◌, ◌≢◌, ◌≤◌, Bool, true, List, [], ◌∷◌, ◌++◌, Contains, IsTrue, Option, Some, None}
 use Rattle.std.specs.FinMap as map
 use Rattle.serde_json.specs.Data.{depth}
 use Rattle.serde_json.specs.Read.{max_depth}
 use Rattle.zarrs_store.specs.Contents.{Contents, Lists}
-use Rattle.zarrs_path.specs.Keys.{zarr_json}
+use Rattle.zarrs_path.specs.Keys.{zarr_json, zmetadata}
 use Rattle.zarrs_path.specs.Paths.{Path, IsPath, path_text}
 use Rattle.zarrs_config.specs.Settings.{Settings}
 use Rattle.zarrs_config.specs.declared.version.MetadataRetrieveVersion.{MetadataRetrieveVersion}
@@ -15,21 +18,25 @@ use Rattle.zarrs_config.specs.declared.version.MetadataRetrieveVersion.TheVarian
 use Rattle.zarrs_config.specs.declared.version.UseConsolidatedMetadata.{UseConsolidatedMetadata}
 use Rattle.zarrs_config.specs.declared.version.UseConsolidatedMetadata.TheVariants.{Never}
 use Rattle.zarrs_meta.specs.declared.group_v3.GroupMetadataV3.{GroupMetadataV3}
-use Rattle.zarrs_meta.specs.declared.node.GroupMetadata.TheVariants.{V3}
+use Rattle.zarrs_meta.specs.declared.group_v2.GroupMetadataV2.{GroupMetadataV2}
+use Rattle.zarrs_meta.specs.declared.node.GroupMetadata.{GroupMetadata}
+use Rattle.zarrs_meta.specs.declared.node.GroupMetadata.TheVariants.{V3, V2}
 use Rattle.zarrs_meta.specs.declared.node.NodeMetadata.{NodeMetadata}
 use Rattle.zarrs_meta.specs.declared.node.NodeMetadata.TheVariants.{Group}
 use Rattle.zarrs_block.specs.Block.{Block, IsAscending, IsBlockOf}
+use Rattle.zarrs_block.specs.Zmetadata.{is_version_2, zmetadata_tree, HaveSameEntries}
 use Rattle.zarrs_block.specs.Refused.{LacksMemory}
 use Rattle.zarrs_block.specs.declared.node_create_error.NodeCreateError.{NodeCreateError}
 use Rattle.zarrs_node.specs.Forest.{Forest, pairs, Shows}
-use Rattle.zarrs_node.specs.Meaning.{Meaning, meaning, node}
-use Rattle.zarrs_node.specs.Nodes.{Means}
+use Rattle.zarrs_block.specs.Meaning.{Meaning, Means, meaning, node}
 use Rattle.zarrs_node.specs.Reached.{Kept}
 use Rattle.zarrs_node.specs.Inverse.{ArePlain}
 use Rattle.zarrs_node.specs.Opened.{ShowsNode, RefusesOpening}
 use Rattle.zarrs_group.specs.Groups.{GroupState, group_tree}
-use Rattle.zarrs_group.specs.Consolidated.{with_block}
+use Rattle.zarrs_group.specs.Consolidated.{block_beside, with_block, Fits}
 use Rattle.zarrs_group.specs.Children.{ShowsChildren, ListsNodes, RefusesBelow}
+use Rattle.zarrs_group.specs.Edits.{after}
+use Rattle.zarrs_group.specs.Stored.{store_edits, stored_fault, IsBlockReadBack}
 use Rattle.zarrs_group.specs.Laws.{MeansStored}
 
 -- the group is of version 3; f is what a listing below it finds, whatever the meanings of paths, and its metadata are plain; and B holds exactly the pairs of f, as `consolidate_metadata` makes it
@@ -50,6 +57,18 @@ pub record GivesBack (g : GroupState) (f : Forest) : Type 0 where
 abbrev pub GroupGivesBack : Type 0
 GroupGivesBack = (of : Path → Meaning) (g : GroupState) (f : Forest) (B : Block) → Consolidates of g f B → GivesBack (with_block g (Some B)) f
 
+-- the group is of version 2; f is what a listing below it finds, whatever the meanings of paths, and its nodes are of version 2; and B holds exactly the pairs of f, as `consolidate_metadata` makes it
+pub record ConsolidatesV2 (of : Path → Meaning) (g : GroupState) (f : Forest) (B : Block) : Type 0 where
+  pub version_2 : (m : GroupMetadataV2) × (g.metadata ≡ V2 m)
+  pub listed : Shows f g.path (Kept (Means of) true g.path)
+  pub nodes : (e : Path × NodeMetadata) → Contains (pairs f) e → IsTrue (is_version_2 e.1)
+  pub block : IsBlockOf (Contains (pairs f)) g.path B
+
+-- A version 2 group takes the block of such a forest, and once it was set gives the forest back.
+abbrev pub GroupV2GivesBack : Type 0
+GroupV2GivesBack = (of : Path → Meaning) (g : GroupState) (f : Forest) (B : Block) → ConsolidatesV2 of g f B
+    → Fits g.metadata (Some B) × GivesBack (with_block g (Some B)) f
+
 -- in a store, as version 3 or by default, where the policy is not Never: the path of the group means the group, the one forest of a node opened there is f, and the opening is not refused
 pub record OpensTo (s : Contents) (g : GroupState) (f : Forest) : Type 0 where
   pub means : (v : MetadataRetrieveVersion) → v ≢ retrieve.V2 → meaning s v g.path ≡ node (Group g.metadata)
@@ -63,3 +82,29 @@ abbrev pub StoredGivesBack : Type 0
 StoredGivesBack = (of : Path → Meaning) (g : GroupState) (f : Forest) (B : Block) → Consolidates of g f B → IsPath g.path
     → (S : Contents) → MeansStored S g.path (with_block g (Some B)).metadata → depth (group_tree (with_block g (Some B)).metadata) ≤ max_depth
     → (s : Contents) → map.get s (g.path ++ zarr_json ∷ []) ≡ map.get S (g.path ++ zarr_json ∷ []) → OpensTo s (with_block g (Some B)) f
+
+-- the document `.zmetadata` of the block beside the metadata of version 2 does not nest too deep
+abbrev pub IsBlockShallow : GroupMetadata → Option Block → Type 0
+IsBlockShallow (V2 m) (Some B) = depth (zmetadata_tree m B) ≤ max_depth
+IsBlockShallow (V2 m) None = Unit {0}
+IsBlockShallow (V3 m) block = Unit {0}
+
+-- the group is at no fault when it is stored over S; the bytes of its document `.zmetadata` are read back, and it does not nest too deep; and s has at the key of `.zmetadata` what storing leaves there
+pub record HasStoredBlock (S s : Contents) (g : GroupState) : Type 0 where
+  pub plain : stored_fault g.path g.metadata g.block ≡ None
+  pub reads : IsBlockReadBack g.metadata g.block
+  pub shallow : IsBlockShallow g.metadata g.block
+  pub same : map.get s (g.path ++ zmetadata ∷ []) ≡ map.get (after S (store_edits g.path g.metadata g.block)) (g.path ++ zmetadata ∷ [])
+
+-- in a store, by each version by which the path of the group means the group, where the policy is not Never: the one forest of a node opened there is f, and the opening is not refused; and a group opened there has beside its metadata a block with the entries of B
+pub record OpensToV2 (s : Contents) (g : GroupState) (f : Forest) (B : Block) : Type 0 where
+  pub children : (v : MetadataRetrieveVersion) → meaning s v g.path ≡ node (Group g.metadata) → (policy : UseConsolidatedMetadata) → policy ≢ Never
+      → (t : Forest) → ShowsNode s v policy g.path (Group g.metadata) t → t ≡ f
+  pub opened : (v : MetadataRetrieveVersion) → meaning s v g.path ≡ node (Group g.metadata) → (policy : UseConsolidatedMetadata) → policy ≢ Never
+      → (e : NodeCreateError) → RefusesOpening s v policy (path_text g.path) e → ⊥
+  pub beside : (C : Block) × (block_beside s g.path g.metadata ≡ Some C) × HaveSameEntries B C
+
+-- A version 2 group that was stored with the block of such a forest, in the order of its keys, gives the forest back over any store that has its document `.zmetadata`.
+abbrev pub StoredV2GivesBack : Type 0
+StoredV2GivesBack = (of : Path → Meaning) (g : GroupState) (f : Forest) (B : Block) → ConsolidatesV2 of g f B → IsAscending B → IsPath g.path
+    → (S s : Contents) → HasStoredBlock S s (with_block g (Some B)) → OpensToV2 s (with_block g (Some B)) f B

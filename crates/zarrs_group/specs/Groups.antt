@@ -1,5 +1,5 @@
 -- Zarr core specification 3.1, "Group metadata": what a group holds, and its metadata under the options.
-use Rattle.std.specs.Prelude.{ℕ, List, ◌++◌, codes}
+use Rattle.std.specs.Prelude.{ℕ, List, ◌++◌, Option, None, codes}
 use Rattle.serde_json.specs.Data.{Data, Members}
 use Rattle.serde_json.specs.Written.{compact_text}
 use Rattle.zarrs_path.specs.Paths.{Path, path_text}
@@ -11,11 +11,13 @@ use Rattle.zarrs_meta.specs.declared.node.GroupMetadata.TheVariants.{V3, V2}
 use Rattle.zarrs_meta.specs.GroupV3.{group_v3_tree}
 use Rattle.zarrs_meta.specs.GroupV2.{group_v2_tree}
 use Rattle.zarrs_convert.specs.Groups.{group_v2_to_v3}
+use Rattle.zarrs_block.specs.Block.{Block}
 
--- what a group holds: its path, its metadata, and the versions that it is stored and erased by
+-- what a group holds: its path, its metadata, the block that a version 2 group holds beside its metadata (one of version 3 has it in them), and the versions that it is stored and erased by
 pub record GroupState : Type 0 where
   pub path : Path
   pub metadata : GroupMetadata
+  pub block : Option Block
   pub convert_version : MetadataConvertVersion
   pub erase_version : MetadataEraseVersion
 
@@ -39,9 +41,14 @@ abbrev pub converted : MetadataConvertVersion → GroupMetadata → GroupMetadat
 converted convert.Default m = m
 converted convert.V3 m = as_v3 m
 
--- the group with its metadata as version 3, and all else as it was
+-- what is beside the metadata as version 3: the block of a version 2 group is dropped, and a version 3 group stays
+abbrev pub beside_as_v3 : GroupMetadata → Option Block → Option Block
+beside_as_v3 (V3 m) block = block
+beside_as_v3 (V2 m) block = None
+
+-- the group with its metadata as version 3, without the block of a version 2 group, and all else as it was
 abbrev pub group_as_v3 : GroupState → GroupState
-group_as_v3 g = record { path = g.path; metadata = as_v3 g.metadata; convert_version = g.convert_version; erase_version = g.erase_version }
+group_as_v3 g = record { path = g.path; metadata = as_v3 g.metadata; block = beside_as_v3 g.metadata g.block; convert_version = g.convert_version; erase_version = g.erase_version }
 
 -- what is written of the metadata in one document
 abbrev pub group_tree : GroupMetadata → Data

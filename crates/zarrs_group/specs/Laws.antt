@@ -1,11 +1,11 @@
 -- What holds of groups by the definitions alone.
-use Rattle.std.specs.Prelude.{◌≡◌, ◌≢◌, ◌≤◌, ◌↔◌, List, [], ◌∷◌, ◌++◌, None, IsTrue}
+use Rattle.std.specs.Prelude.{◌≡◌, ◌≢◌, ◌≤◌, ◌↔◌, List, [], ◌∷◌, ◌++◌, Option, None, IsTrue}
 use Rattle.std.specs.FinMap as map
 use Rattle.serde_json.specs.Data.{depth, object}
 use Rattle.serde_json.specs.Read.{max_depth}
 use Rattle.zarrs_store.specs.Segments.{Segments}
 use Rattle.zarrs_store.specs.Contents.{Contents}
-use Rattle.zarrs_path.specs.Keys.{zarr_json, zarray, zgroup, zattrs}
+use Rattle.zarrs_path.specs.Keys.{zarr_json, zarray, zgroup, zattrs, zmetadata}
 use Rattle.zarrs_path.specs.Paths.{Path}
 use Rattle.zarrs_config.specs.declared.version.MetadataEraseVersion.{MetadataEraseVersion}
 use Rattle.zarrs_config.specs.declared.version.MetadataEraseVersion.TheVariants as erase
@@ -15,6 +15,7 @@ use Rattle.zarrs_meta.specs.GroupV2.{group_v2_tree}
 use Rattle.zarrs_meta.specs.declared.group_v3.GroupMetadataV3.{GroupMetadataV3}
 use Rattle.zarrs_meta.specs.declared.node.GroupMetadata.{GroupMetadata}
 use Rattle.zarrs_meta.specs.declared.node.GroupMetadata.TheVariants.{V3, V2}
+use Rattle.zarrs_block.specs.Block.{Block}
 use Rattle.zarrs_group.specs.Groups.{GroupState, attributes_of_group, group_as_v3}
 use Rattle.zarrs_group.specs.Plain.{group_fault, is_plain_group}
 use Rattle.zarrs_group.specs.Edits.{Edit, after, IsCutShort}
@@ -44,30 +45,31 @@ Version3Twice = (g : GroupState) → group_as_v3 (group_as_v3 g) ≡ group_as_v3
 abbrev pub PlainIsStored : Type 0
 PlainIsStored = (m : GroupMetadata) → (group_fault m ≡ None) ↔ IsTrue (is_plain_group m)
 
--- every key but the three of a group has what it had
+-- every key but the four of a group has what it had
 abbrev pub OthersStay : Path → Contents → Contents → Type 0
-OthersStay p old new = (key : Segments) → key ≢ p ++ zarr_json ∷ [] → key ≢ p ++ zgroup ∷ [] → key ≢ p ++ zattrs ∷ [] → map.get new key ≡ map.get old key
+OthersStay p old new = (key : Segments) → key ≢ p ++ zarr_json ∷ [] → key ≢ p ++ zgroup ∷ [] → key ≢ p ++ zattrs ∷ [] → key ≢ p ++ zmetadata ∷ [] → map.get new key ≡ map.get old key
 
 -- edits leave every other key as it was, also where they were cut short
 abbrev pub OthersStayAfter : Path → List Edit → Type 0
 OthersStayAfter p edits = (S : Contents) → OthersStay p S (after S edits) × ((S' : Contents) → IsCutShort S edits S' → OthersStay p S S')
 
--- storing and erasing leave every key but the three of the group as it was, also where they are refused
+-- storing and erasing leave every key but the four of the group as it was, also where they are refused
 abbrev pub OtherKeysStay : Type 0
-OtherKeysStay = (p : Path) (m : GroupMetadata) → OthersStayAfter p (store_edits p m) × ((v : MetadataEraseVersion) → OthersStayAfter p (erase_edits p v m))
+OtherKeysStay = (p : Path) (m : GroupMetadata) → ((block : Option Block) → OthersStayAfter p (store_edits p m block)) × ((v : MetadataEraseVersion) → OthersStayAfter p (erase_edits p v m))
 
--- `.zarray` is at none of the three keys, so storing and erasing never touch it
+-- `.zarray` is at none of the four keys, so storing and erasing never touch it
 abbrev pub ArraysStay : Type 0
 ArraysStay = (p : Path) (S S' : Contents) → OthersStay p S S' → map.get S' (p ++ zarray ∷ []) ≡ map.get S (p ++ zarray ∷ [])
 
--- none of the three keys of a group is there, and every other key has what it had
+-- none of the four keys of a group is there, and every other key has what it had
 pub record IsErased (p : Path) (old new : Contents) : Type 0 where
   pub no_zarr_json : map.get new (p ++ zarr_json ∷ []) ≡ None
   pub no_zgroup : map.get new (p ++ zgroup ∷ []) ≡ None
   pub no_zattrs : map.get new (p ++ zattrs ∷ []) ≡ None
+  pub no_zmetadata : map.get new (p ++ zmetadata ∷ []) ≡ None
   pub others : OthersStay p old new
 
--- erasing with All leaves none of the three keys, and every other key as it was
+-- erasing with All leaves none of the four keys, and every other key as it was
 abbrev pub ErasingAllErases : Type 0
 ErasingAllErases = (S : Contents) (p : Path) (m : GroupMetadata) → IsErased p S (after S (erase_edits p erase.All m))
 
@@ -78,6 +80,6 @@ MeansStored S p (V3 m) = depth (group_v3_tree m) ≤ max_depth
 MeansStored S p (V2 m) = depth (object m.attributes) ≤ max_depth → depth (group_v2_tree (without_attributes m)) ≤ max_depth
     → MeansGroup S retrieve.V2 p (V2 m)
 
--- after it was stored, at whatever path and over whatever store, the path means the group
+-- after it was stored, at whatever path, with whatever block and over whatever store, the path means the group
 abbrev pub StoredMeans : GroupMetadata → Type 0
-StoredMeans m = (S : Contents) (p : Path) → MeansStored (after S (store_edits p m)) p m
+StoredMeans m = (S : Contents) (p : Path) (block : Option Block) → MeansStored (after S (store_edits p m block)) p m

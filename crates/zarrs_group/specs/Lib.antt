@@ -8,6 +8,7 @@ pub mod Unsupported
 pub mod Opened
 pub mod BorrowedMetadata
 pub mod Borrowed
+pub mod Beside
 pub mod Consolidated
 pub mod Children
 pub mod Laws

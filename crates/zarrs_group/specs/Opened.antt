@@ -19,7 +19,7 @@ use Rattle.zarrs_block.specs.declared.node_create_error.NodeCreateError.TheVaria
 use Rattle.zarrs_group.specs.declared.create_error.GroupCreateError.{GroupCreateError}
 use Rattle.zarrs_group.specs.declared.create_error.GroupCreateError.TheVariants as error
 use Rattle.zarrs_group.specs.Unsupported.{UnsupportedField}
-use Rattle.zarrs_node.specs.Meaning.{Meaning, nothing, bad}
+use Rattle.zarrs_block.specs.Meaning.{Meaning, nothing, bad}
 use Rattle.zarrs_group.specs.Meaning.{MeansGroup, group_meaning}
 
 -- of the fields that must be understood, this one has the least name

@@ -1,17 +1,25 @@
--- Zarr core specification 3.1, "Group metadata": the fields that a group has by its format, and what cannot stand beside them.
+-- Zarr core specification 3.1, "Group metadata", and the document `.zmetadata` of version 2: the fields that a group has by its format, and what cannot stand beside them.
 -- Why the metadata of a group could not have come from a document: a number that does not fit, or else the least name
 -- of an additional field that clashes with a name of the document's own.
-use Rattle.std.specs.Prelude.{ℕ, Bool, ◌||◌, if◌then◌else◌, List, Option, Some, None, is_some, option_map, codes}
+use Rattle.std.specs.Prelude.{ℕ, Bool, ◌||◌, if◌then◌else◌, List, [], Option, Some, None, is_some, option_map, codes}
+use Rattle.std.specs.List.{list_all, list_any}
 use Rattle.serde_json.specs.Data.{Members}
 use Rattle.serde_json.specs.Find.{get_member}
-use Rattle.serde_json.specs.Written.{members_have_float}
+use Rattle.serde_json.specs.Written.{has_float, members_have_float}
 use Rattle.zarrs_form.specs.Documents.{is_null}
 use Rattle.zarrs_meta.specs.GroupV3.{is_plain_group_v3}
 use Rattle.zarrs_meta.specs.GroupV2.{is_plain_group_v2}
+use Rattle.zarrs_meta.specs.Node.{node_tree, is_plain_node}
+use Rattle.zarrs_meta.specs.declared.node.ArrayMetadata.TheVariants.{V3 as array_v3, V2 as array_v2}
 use Rattle.zarrs_meta.specs.declared.node.GroupMetadata.{GroupMetadata}
 use Rattle.zarrs_meta.specs.declared.node.GroupMetadata.TheVariants.{V3, V2}
+use Rattle.zarrs_meta.specs.declared.node.NodeMetadata.{NodeMetadata}
+use Rattle.zarrs_meta.specs.declared.node.NodeMetadata.TheVariants.{Group, Array}
 use Rattle.zarrs_meta.specs.declared.group_v3.GroupMetadataV3.{GroupMetadataV3}
 use Rattle.zarrs_meta.specs.declared.group_v2.GroupMetadataV2.{GroupMetadataV2}
+use Rattle.zarrs_path.specs.Paths.{Path}
+use Rattle.zarrs_block.specs.Block.{Block}
+use Rattle.zarrs_block.specs.Expanded.{paired, paths_at}
 use Rattle.zarrs_store.specs.declared.fault.MetadataFault.{MetadataFault}
 use Rattle.zarrs_store.specs.declared.fault.MetadataFault.TheVariants.{UnsupportedNumber, BadMember}
 
@@ -57,3 +65,37 @@ group_fault (V2 m) = group_v2_fault m
 abbrev pub is_plain_group : GroupMetadata → Bool
 is_plain_group (V3 m) = is_plain_group_v3 m
 is_plain_group (V2 m) = is_plain_group_v2 m
+
+-- ---- the block of a version 2 group
+
+-- the additional fields of a node
+abbrev pub node_fields : NodeMetadata → Members
+node_fields (Group (V3 m)) = m.additional_fields
+node_fields (Group (V2 m)) = m.additional_fields
+node_fields (Array (array_v3 m)) = m.additional_fields
+node_fields (Array (array_v2 m)) = m.additional_fields
+
+-- some number of a node does not fit, in what is written of it or in its additional fields
+abbrev pub node_has_float : NodeMetadata → Bool
+node_has_float m = has_float (node_tree m) || members_have_float (node_fields m)
+
+-- the entries of a block, in the order of their keys: all but the base itself, and but those behind a slash that stand without it too
+abbrev pub entries_of : Block → List (Path × NodeMetadata)
+entries_of B = paired (paths_at [] B B) B
+
+-- a number of some entry that does not fit, or else `metadata` where some entry could not have come from a document
+abbrev pub entries_fault : List (Path × NodeMetadata) → Option MetadataFault
+entries_fault es =
+    if list_any (λ e. node_has_float e.1) es then Some UnsupportedNumber
+    else if list_all (λ e. is_plain_node e.1) es then None
+    else Some (BadMember (codes "metadata"))
+
+-- why a block is not stored, or nothing where it is
+abbrev pub block_fault : Block → Option MetadataFault
+block_fault B = entries_fault (entries_of B)
+
+-- why what stands beside the metadata is not stored: the fault of the block of a version 2 group; that of version 3 is in its metadata
+abbrev pub beside_fault : GroupMetadata → Option Block → Option MetadataFault
+beside_fault (V3 m) block = None
+beside_fault (V2 m) None = None
+beside_fault (V2 m) (Some B) = block_fault B

@@ -1,5 +1,5 @@
 //! Groups that are made from parts.
-ghost use Rattle.std.specs.Prelude.{◌≡◌, IfOk, IfErr};
+ghost use Rattle.std.specs.Prelude.{◌≡◌, None, IfOk, IfErr};
 ghost use Rattle.serde_json.specs.Data.{no_members};
 ghost use Rattle.serde_json.specs.View.{members_view};
 ghost use Rattle.zarrs_meta.specs.declared.node.GroupMetadata.TheVariants.{V3};
@@ -90,6 +90,7 @@ impl GroupBuilder {
     ) -> Result<Group, GroupCreateError>
         ensures path { IfOk result (λ group. IsPath group.path × (path_text group.path ≡ path.now)) }
         ensures metadata { IfOk result (λ group. group.metadata ≡ V3 self.now) }
+        ensures block { IfOk result (λ group. group.block ≡ None) }
         ensures choices { IfOk result (λ group. (group.convert_version ≡ config.now.convert_version) × (group.erase_version ≡ config.now.erase_version)) }
         ensures err { IfErr result (RefusesMaking path.now) }
     {

@@ -249,7 +249,8 @@ fn push_group(
 {
     match metadata {
         NodeMetadata::Group(metadata) => {
-            Ok(groups.push(Group::with_choices(path, metadata, config))?)
+            let group = Group::with_choices(path, metadata, None, config);
+            Ok(groups.push(group)?)
         }
         NodeMetadata::Array(_) => Ok(()),
     }

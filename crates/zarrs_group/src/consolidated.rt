@@ -1,54 +1,67 @@
 //! The consolidated block of a group.
-ghost use Rattle.std.specs.Prelude.{◌≡◌, [], ◌∷◌, codes, IfOk, OnOk, OnErr};
+ghost use Rattle.std.specs.Prelude.{◌≡◌, [], ◌∷◌, codes, IfOk, IfErr, OnOk, OnErr};
 ghost use Rattle.serde_json.specs.Data.{put};
 ghost use Rattle.zarrs_form.specs.Documents.{besides};
 ghost use Rattle.zarrs_form.specs.Fields.{field_data};
+ghost use Rattle.zarrs_meta.specs.declared.node.GroupMetadata.TheVariants.{V2};
 ghost use Rattle.zarrs_block.specs.Block.{block_tree};
 ghost use Rattle.zarrs_block.specs.Used.{seen};
-ghost use Rattle.zarrs_group.specs.Consolidated.{held_by, fields_with, metadata_with, with_block, CanHold};
+ghost use Rattle.zarrs_group.specs.Beside.{IsBeside};
+ghost use Rattle.zarrs_group.specs.Consolidated.{held_by, fields_with, metadata_with, with_block, Fits, RefusesBlock, CanHold};
 
 use crate::group::Group;
 use serde_json::Map;
 use std::alloc::{AllocError, Global};
 use std::mem::replace;
-use zarrs_block::{ConsolidatedMetadata, consolidated_metadata_of};
-use zarrs_meta::{AdditionalFieldV3, AdditionalFieldsV3, GroupMetadata};
+use zarrs_block::{ConsolidatedMetadata, NodeCreateError, consolidated_metadata_of};
+use zarrs_meta::{AdditionalFieldV3, AdditionalFieldsV3, GroupMetadata, GroupMetadataV2};
 
 impl Group {
-    /// The consolidated block that the group holds: the field `consolidated_metadata` of a version 3 group, where it reads as one. A version
-    /// 2 group has none.
+    /// The consolidated block that the group holds: of version 3 the field `consolidated_metadata`, where it reads as one; of version 2 a copy
+    /// of the block beside its metadata.
     ///
     /// # Errors
     ///
     /// `AllocError` where there is no memory for the block.
     ///
-    /// Source: `zarrs::group::Group::consolidated_metadata`.
+    /// Source: `zarrs::group::Group::consolidated_metadata`; zarr-python, consolidated metadata of version 2.
     pub fn consolidated_metadata(
         &self,
         alloc: Global,
     ) -> Result<Option<ConsolidatedMetadata>, AllocError>
         ensures { IfOk result (λ block. seen block ≡ held_by self.now) }
     {
-        consolidated_metadata_of(alloc, self.metadata())
+        match &self.metadata {
+            GroupMetadata::V3(_) => consolidated_metadata_of(alloc, &self.metadata),
+            GroupMetadata::V2(_) => copy_of(alloc, &self.block),
+        }
     }
 
-    /// Sets the consolidated block of a version 3 group, its field `consolidated_metadata`, which need not be understood; or removes that
-    /// field. A version 2 group stays as it is.
+    /// Sets the consolidated block: of a version 3 group its field `consolidated_metadata`, which need not be understood; of a version 2 group
+    /// the block beside its metadata, which is stored as `.zmetadata`. Or removes it.
     ///
     /// # Errors
     ///
-    /// `AllocError` where there is no memory for the field. Then nothing is changed.
+    /// Of a version 2 group, which a block has to fit, the first that applies:
     ///
-    /// Source: `zarrs::group::Group::set_consolidated_metadata`.
+    /// - `NodePathError` where a key of the block is not names joined by slashes, also behind one slash.
+    /// - `MetadataVersionMismatch` where an entry of the block is of version 3.
+    ///
+    /// Of either, `OutOfMemory` where memory is wanting. After an error nothing is changed, as
+    /// [`Group::replace_consolidated_metadata`] promises.
+    ///
+    /// Source: `zarrs::group::Group::set_consolidated_metadata`; zarr-python, consolidated metadata of version 2.
     #[tactic(auto, using(crate::proofs::BlockFields::held_once_set))]
     pub fn set_consolidated_metadata(
         &mut self,
         alloc: Global,
         consolidated_metadata: Option<ConsolidatedMetadata>,
-    ) -> Result<&mut Group, AllocError>
+    ) -> Result<&mut Group, NodeCreateError>
         ensures same { IfOk result (λ group. group.ghost_name ≡ self.entry.ghost_name) }
         ensures ok { IfOk result (λ group. group.now ≡ with_block self.old (seen consolidated_metadata)) }
         ensures held { IfOk result (λ group. CanHold self.old (seen consolidated_metadata) → held_by group.now ≡ seen consolidated_metadata) }
+        ensures fits { IfOk result (λ _. Fits self.old.metadata (seen consolidated_metadata)) }
+        ensures err { IfErr result (RefusesBlock self.old.metadata (seen consolidated_metadata)) }
     {
         self.replace_consolidated_metadata(alloc, consolidated_metadata)?;
         Ok(self)
@@ -59,34 +72,56 @@ impl Group {
     ///
     /// # Errors
     ///
-    /// `AllocError` where there is no memory for the field. Then nothing is changed.
+    /// Those of [`Group::set_consolidated_metadata`]. Then nothing is changed.
     pub fn replace_consolidated_metadata(
         &mut self,
         alloc: Global,
         block: Option<ConsolidatedMetadata>,
-    ) -> Result<(), AllocError>
+    ) -> Result<(), NodeCreateError>
         ensures ok { OnOk result (self.new ≡ with_block self.old (seen block)) }
+        ensures fits { OnOk result (Fits self.old.metadata (seen block)) }
         ensures unchanged { OnErr result (self.new ≡ self.old) }
+        ensures err { IfErr result (RefusesBlock self.old.metadata (seen block)) }
     {
-        set_block_of(&mut self.metadata, alloc, block)
+        match &mut self.metadata {
+            GroupMetadata::V3(group) => Ok(set_block(&mut group.additional_fields, alloc, block)?),
+            GroupMetadata::V2(group) => {
+                self.block = fitting(alloc, group, block)?;
+                Ok(())
+            }
+        }
     }
 }
 
-// Sets the block that metadata hold, or removes it.
-fn set_block_of(
-    metadata: &mut GroupMetadata,
+/// A copy of a block, where there is one.
+pub(crate) fn copy_of(
     alloc: Global,
-    block: Option<ConsolidatedMetadata>,
-) -> Result<(), AllocError>
-    ensures ok { OnOk result (metadata.new ≡ metadata_with (seen block) metadata.old) }
-    ensures unchanged { OnErr result (metadata.new ≡ metadata.old) }
+    block: &Option<ConsolidatedMetadata>,
+) -> Result<Option<ConsolidatedMetadata>, AllocError>
+    ensures { IfOk result (λ copy. copy ≡ block.now) }
 {
-    match metadata {
-        GroupMetadata::V3(group) => set_block(&mut group.additional_fields, alloc, block),
-        GroupMetadata::V2(_) => {
-            drop(block);
-            Ok(())
+    match block {
+        Some(block) => Ok(Some(block.try_clone(alloc)?)),
+        None => Ok(None),
+    }
+}
+
+// The block itself, where it can stand beside the metadata of a version 2 group: what is written of it is made, and let go.
+fn fitting(
+    alloc: Global,
+    group: &GroupMetadataV2,
+    block: Option<ConsolidatedMetadata>,
+) -> Result<Option<ConsolidatedMetadata>, NodeCreateError>
+    ensures ok { IfOk result (λ same. same ≡ block) }
+    ensures fits { IfOk result (λ _. IsBeside (seen block)) }
+    ensures err { IfErr result (RefusesBlock (V2 group.now) (seen block)) }
+{
+    match block {
+        Some(block) => {
+            drop(block.to_zmetadata(alloc, group)?);
+            Ok(Some(block))
         }
+        None => Ok(None),
     }
 }
 

@@ -3,63 +3,76 @@ ghost use Rattle.std.specs.Prelude.{◌≡◌, ◌≢◌, None, string_bytes, If
 ghost use Rattle.serde_json.specs.Written.{compact_text};
 ghost use Rattle.zarrs_store.specs.Faults.{IsStoreError};
 ghost use Rattle.zarrs_path.specs.Paths.{IsPath, path_text};
-ghost use Rattle.zarrs_meta.specs.declared.node.GroupMetadata.TheVariants.{V3};
+ghost use Rattle.zarrs_meta.specs.declared.node.GroupMetadata.TheVariants.{V3, V2};
 ghost use Rattle.zarrs_group.specs.Groups.{attributes_of_group, as_v3, converted, group_as_v3, group_text, group_tree};
+ghost use Rattle.zarrs_block.specs.Used.{seen};
+ghost use Rattle.zarrs_group.specs.Beside.{IsBeside};
+ghost use Rattle.zarrs_group.specs.Consolidated.{block_beside};
 ghost use Rattle.zarrs_group.specs.Plain.{group_fault};
 ghost use Rattle.zarrs_group.specs.Edits.{after, IsCutShort};
 ghost use Rattle.zarrs_group.specs.Laws.{MeansStored};
 ghost use Rattle.zarrs_group.specs.Meaning.{MeansGroup};
 ghost use Rattle.zarrs_group.specs.Opened.{IsUnsupportedIn, RefusesMaking, RefusesOpen};
-ghost use Rattle.zarrs_group.specs.Stored.{store_edits, erase_edits, RefusesStore};
+ghost use Rattle.zarrs_group.specs.Stored.{IsBlockReadBack, store_edits, erase_edits, stored_fault, RefusesStore};
 ghost use Rattle.zarrs_config.specs.declared.version.MetadataRetrieveVersion.TheVariants.{Default as BothVersions};
 
+use crate::consolidated::copy_of;
 use crate::create_error::GroupCreateError;
 use crate::edit::apply_all;
-use crate::open::find_metadata;
+use crate::open::{find_block, find_metadata};
 use crate::stored::{edits_to_erase, edits_to_store};
 use crate::unsupported::unsupported_field;
 use std::alloc::{AllocError, Global};
 use std::marker::Model;
+use zarrs_block::ConsolidatedMetadata;
 use zarrs_config::{
     Config, GroupMetadataOptions, MetadataConvertVersion, MetadataEraseVersion,
     MetadataRetrieveVersion,
 };
 use zarrs_convert::group_metadata_v2_to_v3;
-use zarrs_meta::{GroupMetadata, GroupMetadataV3, Object};
+use zarrs_meta::{GroupMetadata, GroupMetadataV2, GroupMetadataV3, Object};
 use zarrs_path::NodePath;
 use zarrs_store::{ReadableStorageTraits, StorageError, WritableStorageTraits};
 
-/// A group: a path with metadata, and the versions that it is stored and erased by.
+/// A group: a path with metadata, of version 2 with the consolidated block beside them where there is one, and the versions that it is stored
+/// and erased by.
 ///
 /// Source: `zarrs::group::Group`.
 #[derive(Debug, Drop)]
 pub struct Group {
     path: NodePath,
     pub(crate) metadata: GroupMetadata,
+    pub(crate) block: Option<ConsolidatedMetadata>,
     options: GroupMetadataOptions,
     erase_version: MetadataEraseVersion,
 }
 
-// Contracts see the record of these.
+// Contracts see the record of these. Keys of a block beside the metadata are valid, and its entries are of version 2, so that it can be written.
 impl Model for Group {
     ghost use Rattle.zarrs_group.specs.Groups.{GroupState};
+    ghost use Rattle.zarrs_group.specs.Beside.{IsBeside};
+    ghost use Rattle.zarrs_block.specs.Used.{seen};
     ghost use Rattle.std.specs.Coded.{codes};
     ghost use Rattle.zarrs_meta.specs.contracts.node.GroupMetadata.{the_row as metadata_row};
+    ghost use Rattle.zarrs_block.specs.contracts.consolidated.ConsolidatedMetadataMetadata.{the_row as block_row};
 
     ghost Value = { GroupState };
 
-    ghost coded = { Prim.hlevel (codes, metadata_row.coded) };
+    ghost coded = { Prim.hlevel (codes, metadata_row.coded, block_row.coded) };
 
     ghost view = { λ group. record {
       path = group.path;
       metadata = group.metadata;
+      block = seen group.block;
       convert_version = group.options;
       erase_version = group.erase_version;
     } };
+
+    ghost invariant = { λ group. IsBeside (seen group.block) };
 }
 
 impl Group {
-    /// The group with this path and metadata, and with the options and the erase version of the configuration.
+    /// The group with this path and metadata, without a block beside them, and with the options and the erase version of the configuration.
     ///
     /// # Errors
     ///
@@ -74,11 +87,12 @@ impl Group {
     ) -> Result<Group, GroupCreateError>
         ensures path { IfOk result (λ group. IsPath group.path × (path_text group.path ≡ path.now)) }
         ensures metadata { IfOk result (λ group. group.metadata ≡ metadata) }
+        ensures block { IfOk result (λ group. group.block ≡ None) }
         ensures choices { IfOk result (λ group. (group.convert_version ≡ config.now.convert_version) × (group.erase_version ≡ config.now.erase_version)) }
         ensures err { IfErr result (RefusesMaking path.now) }
     {
         let path = NodePath::new(alloc, path)?;
-        Ok(Group::with_choices(path, metadata, config))
+        Ok(Group::with_choices(path, metadata, None, config))
     }
 
     /// The group that the store has at this path, looked for in both versions.
@@ -96,6 +110,7 @@ impl Group {
     ) -> Result<Group, GroupCreateError>
         ensures path { IfOk result (λ group. IsPath group.path × (path_text group.path ≡ path.now)) }
         ensures means { IfOk result (λ group. MeansGroup (S.contents storage.now) BothVersions group.path group.metadata) }
+        ensures block { IfOk result (λ group. group.block ≡ block_beside (S.contents storage.now) group.path group.metadata) }
         ensures understood { IfOk result (λ group. IsUnsupportedIn group.metadata None) }
         ensures choices { IfOk result (λ group. (group.convert_version ≡ config.now.convert_version) × (group.erase_version ≡ config.now.erase_version)) }
         ensures err { IfErr result (RefusesOpen (S.can_fail storage.now) (S.contents storage.now) BothVersions path.now) }
@@ -110,7 +125,8 @@ impl Group {
     }
 
     /// The group that the store has at this path, looked for in this version: `zarr.json` as a version 3 group, then
-    /// `.zgroup` with the attributes of `.zattrs`. It has the options and the erase version of the configuration.
+    /// `.zgroup` with the attributes of `.zattrs`, and then the block that `.zmetadata` is, where it reads as one. It has the options and the
+    /// erase version of the configuration.
     ///
     /// # Errors
     ///
@@ -119,7 +135,7 @@ impl Group {
     /// `AdditionalFieldUnsupportedError` with the least field of a version 3 group that must be understood. Besides,
     /// want of memory.
     ///
-    /// Source: `zarrs::group::Group::open_opt`; Zarr core specification 3.1, "Group metadata".
+    /// Source: `zarrs::group::Group::open_opt`; Zarr core specification 3.1, "Group metadata"; zarr-python, consolidated metadata of version 2.
     pub fn open_opt<S: ReadableStorageTraits>(
         alloc: Global,
         storage: &S,
@@ -129,6 +145,7 @@ impl Group {
     ) -> Result<Group, GroupCreateError>
         ensures path { IfOk result (λ group. IsPath group.path × (path_text group.path ≡ path.now)) }
         ensures means { IfOk result (λ group. MeansGroup (S.contents storage.now) version.now group.path group.metadata) }
+        ensures block { IfOk result (λ group. group.block ≡ block_beside (S.contents storage.now) group.path group.metadata) }
         ensures understood { IfOk result (λ group. IsUnsupportedIn group.metadata None) }
         ensures choices { IfOk result (λ group. (group.convert_version ≡ config.now.convert_version) × (group.erase_version ≡ config.now.erase_version)) }
         ensures err { IfErr result (RefusesOpen (S.can_fail storage.now) (S.contents storage.now) version.now path.now) }
@@ -140,14 +157,22 @@ impl Group {
         if let Some(error) = unsupported_field(&found)? {
             return Err(GroupCreateError::AdditionalFieldUnsupportedError(error));
         }
-        Ok(Group::with_choices(path, found, config))
+        let block = find_block(alloc, storage, &path, &found)?;
+        Ok(Group::with_choices(path, found, block, config))
     }
 
     // The group of these parts, with the choices of the configuration.
-    pub(crate) fn with_choices(path: NodePath, metadata: GroupMetadata, config: &Config) -> Group
+    pub(crate) fn with_choices(
+        path: NodePath,
+        metadata: GroupMetadata,
+        block: Option<ConsolidatedMetadata>,
+        config: &Config,
+    ) -> Group
+        requires { IsBeside (seen block) }
         ensures { result ≡ record {
           path = path;
           metadata = metadata;
+          block = seen block;
           convert_version = config.now.convert_version;
           erase_version = config.now.erase_version;
         } }
@@ -155,6 +180,7 @@ impl Group {
         Group {
             path,
             metadata,
+            block,
             options: config.group_metadata_options(),
             erase_version: config.metadata_erase_version(),
         }
@@ -213,18 +239,30 @@ impl Group {
         }
     }
 
-    /// The group with its metadata as version 3: those of version 2 are converted, and path, attributes, options and
-    /// erase version are kept.
+    /// The group with its metadata as version 3: those of version 2 are converted and the block beside them is dropped, and path, attributes,
+    /// options and erase version are kept.
     ///
     /// Source: `zarrs::group::Group::to_v3`.
     pub fn to_v3(self, alloc: Global) -> Group
         ensures { result ≡ group_as_v3 self }
     {
+        let Group {
+            path,
+            metadata,
+            block,
+            options,
+            erase_version,
+        } = self;
+        let (metadata, block) = match metadata {
+            GroupMetadata::V3(group) => (group, block),
+            GroupMetadata::V2(group) => (into_v3(alloc, group), None),
+        };
         Group {
-            metadata: GroupMetadata::V3(into_v3(alloc, self.metadata)),
-            path: self.path,
-            options: self.options,
-            erase_version: self.erase_version,
+            path,
+            metadata: GroupMetadata::V3(metadata),
+            block,
+            options,
+            erase_version,
         }
     }
 
@@ -258,12 +296,13 @@ impl Group {
         Ok(Group {
             path: self.path.try_clone(alloc)?,
             metadata: self.metadata.try_clone(alloc)?,
+            block: copy_of(alloc, &self.block)?,
             options: self.options,
             erase_version: self.erase_version,
         })
     }
 
-    /// Stores the metadata by the group's own options.
+    /// Stores the group by its own options.
     ///
     /// # Errors
     ///
@@ -276,28 +315,36 @@ impl Group {
         storage: &mut S,
     ) -> Result<(), StorageError>
         ensures ok { OnOk result (S.contents storage.new
-            ≡ after (S.contents storage.old) (store_edits self.now.path (converted self.now.convert_version self.now.metadata))) }
+            ≡ after (S.contents storage.old) (store_edits self.now.path (converted self.now.convert_version self.now.metadata) self.now.block)) }
         ensures means { OnOk result (MeansStored (S.contents storage.new) self.now.path (converted self.now.convert_version self.now.metadata)) }
-        ensures plain { OnOk result (group_fault (converted self.now.convert_version self.now.metadata) ≡ None) }
-        ensures unchanged { group_fault (converted self.now.convert_version self.now.metadata) ≢ None → S.contents storage.new ≡ S.contents storage.old }
+        ensures plain { OnOk result (stored_fault self.now.path (converted self.now.convert_version self.now.metadata) self.now.block ≡ None) }
+        ensures block_reads { OnOk result (IsBlockReadBack (converted self.now.convert_version self.now.metadata) self.now.block) }
+        ensures unchanged { stored_fault self.now.path (converted self.now.convert_version self.now.metadata) self.now.block ≢ None
+            → S.contents storage.new ≡ S.contents storage.old }
         ensures err { IfErr result (RefusesStore (S.can_fail storage.old) self.now.path
-            (converted self.now.convert_version self.now.metadata) (S.contents storage.old) (S.contents storage.new)) }
+            (converted self.now.convert_version self.now.metadata) self.now.block (S.contents storage.old) (S.contents storage.new)) }
         ensures nature { S.can_fail storage.new ≡ S.can_fail storage.old }
     {
         self.store_metadata_opt(alloc, storage, &self.options)
     }
 
-    /// Stores the metadata as the options have them written. All keys and bytes are made before the store is changed:
+    /// Stores the group as the options have its metadata written. All keys and bytes are made before the store is changed:
     /// version 3 sets `zarr.json`; version 2 sets `.zattrs`, or erases it where there are no attributes, and then sets
-    /// `.zgroup`.
+    /// `.zgroup`. Where it holds no block, version 2 first erases `.zmetadata`, so that no older block is taken for its own; where it holds
+    /// one, it sets `.zmetadata` last.
     ///
     /// # Errors
     ///
-    /// `InvalidMetadata` with the key of the group's document, and the store unchanged, where the metadata could not have
-    /// come from a document: `UnsupportedNumber` for a number that is neither `u64` nor `i64`, else `BadMember` with the
-    /// least additional field that clashes with a name of the document's own. Besides, the store's own error and want of
-    /// memory: then the changes before the refused one stand, of its key nothing is promised, and no later key was
-    /// touched.
+    /// The first that applies, with the store unchanged:
+    ///
+    /// - `InvalidMetadata` with the key of the group's document where the metadata could not have come from a document:
+    ///   `UnsupportedNumber` for a number that is neither `u64` nor `i64`, else `BadMember` with the least additional
+    ///   field that clashes with a name of the document's own.
+    /// - `InvalidMetadata` with the key of `.zmetadata` where the metadata of an entry of the block could not have come
+    ///   from a document: `UnsupportedNumber` for a number of any entry, else `BadMember` with `metadata`.
+    ///
+    /// Besides, the store's own error and want of memory: then the changes before the refused one stand, of its key
+    /// nothing is promised, and no later key was touched.
     ///
     /// Source: `zarrs::group::Group::store_metadata_opt`.
     pub fn store_metadata_opt<S: WritableStorageTraits>(
@@ -307,20 +354,21 @@ impl Group {
         options: &GroupMetadataOptions,
     ) -> Result<(), StorageError>
         ensures ok { OnOk result (S.contents storage.new
-            ≡ after (S.contents storage.old) (store_edits self.now.path (converted options.now self.now.metadata))) }
+            ≡ after (S.contents storage.old) (store_edits self.now.path (converted options.now self.now.metadata) self.now.block)) }
         ensures means { OnOk result (MeansStored (S.contents storage.new) self.now.path (converted options.now self.now.metadata)) }
-        ensures plain { OnOk result (group_fault (converted options.now self.now.metadata) ≡ None) }
-        ensures unchanged { group_fault (converted options.now self.now.metadata) ≢ None → S.contents storage.new ≡ S.contents storage.old }
+        ensures plain { OnOk result (stored_fault self.now.path (converted options.now self.now.metadata) self.now.block ≡ None) }
+        ensures block_reads { OnOk result (IsBlockReadBack (converted options.now self.now.metadata) self.now.block) }
+        ensures unchanged { stored_fault self.now.path (converted options.now self.now.metadata) self.now.block ≢ None → S.contents storage.new ≡ S.contents storage.old }
         ensures err { IfErr result (RefusesStore (S.can_fail storage.old) self.now.path
-            (converted options.now self.now.metadata) (S.contents storage.old) (S.contents storage.new)) }
+            (converted options.now self.now.metadata) self.now.block (S.contents storage.old) (S.contents storage.new)) }
         ensures nature { S.can_fail storage.new ≡ S.can_fail storage.old }
     {
         let metadata = self.metadata_opt(alloc, options)?;
-        let edits = edits_to_store(alloc, &self.path, metadata)?;
+        let edits = edits_to_store(alloc, &self.path, metadata, &self.block)?;
         apply_all(storage, edits.as_slice())
     }
 
-    /// Erases the metadata by the group's own erase version.
+    /// Erases the group by its own erase version.
     ///
     /// # Errors
     ///
@@ -342,8 +390,8 @@ impl Group {
         self.erase_metadata_opt(alloc, storage, self.erase_version)
     }
 
-    /// Erases the metadata. All keys are made before the store is changed: by Default those of the version that is held;
-    /// V3 erases `zarr.json`; V2 erases `.zgroup`, then `.zattrs`; All erases `zarr.json`, `.zgroup`, `.zattrs`.
+    /// Erases the group. All keys are made before the store is changed: by Default those of the version that is held;
+    /// V3 erases `zarr.json`; V2 erases `.zgroup`, then `.zattrs` and `.zmetadata`; All erases `zarr.json`, and then these.
     ///
     /// # Errors
     ///
@@ -399,17 +447,12 @@ fn attributes_of_mut(metadata: &mut GroupMetadata) -> &mut Object
 }
 
 // The metadata as version 3, by a move.
-fn into_v3(alloc: Global, metadata: GroupMetadata) -> GroupMetadataV3
-    ensures { V3 result ≡ as_v3 metadata }
+fn into_v3(alloc: Global, group: GroupMetadataV2) -> GroupMetadataV3
+    ensures { V3 result ≡ as_v3 (V2 group) }
 {
-    match metadata {
-        GroupMetadata::V3(group) => group,
-        GroupMetadata::V2(group) => {
-            let mut converted = GroupMetadataV3::new(alloc);
-            converted.attributes = group.attributes;
-            converted
-        }
-    }
+    let mut converted = GroupMetadataV3::new(alloc);
+    converted.attributes = group.attributes;
+    converted
 }
 
 // The metadata in the compact layout.

@@ -2,7 +2,7 @@
 //! which its law speaks; its contract is the law.
 ghost use Rattle.std.specs.Prelude.{◌≡◌, None, IfErr, OnOk};
 ghost use Rattle.zarrs_group.specs.Laws.{Version3Keeps, Version3Stays, Version3Twice, PlainIsStored, ErasingAllErases, OtherKeysStay, ArraysStay, StoredMeans};
-ghost use Rattle.zarrs_group.specs.GivesBack.{GroupGivesBack, StoredGivesBack};
+ghost use Rattle.zarrs_group.specs.GivesBack.{GroupGivesBack, GroupV2GivesBack, StoredGivesBack, StoredV2GivesBack};
 ghost use Rattle.zarrs_group.specs.Stored.{RefusesMetadata};
 
 use crate::stored::edits_to_store;
@@ -35,23 +35,24 @@ pub fn plain_is_stored()
     ensures { PlainIsStored }
 {}
 
-/// Erasing with All leaves none of the three keys of the group, and every other key as it was.
+/// Erasing with All leaves none of the four keys of the group, and every other key as it was.
 pub fn erasing_all_erases()
     ensures { ErasingAllErases }
 {}
 
-/// Storing and erasing leave every key but the three of the group as it was, also where they are refused.
+/// Storing and erasing leave every key but the four of the group as it was, also where they are refused.
 pub fn other_keys_stay()
     ensures { OtherKeysStay }
 {}
 
-/// The key of `.zarray` is none of the three.
+/// The key of `.zarray` is none of the four.
 #[tactic(auto, using(crate::proofs::OtherKeys::arrays_stay))]
 pub fn arrays_stay()
     ensures { ArraysStay }
 {}
 
-/// Where plain metadata are stored, at whatever path and over whatever store, the path means the group.
+/// Where plain metadata are stored, at whatever path, with whatever block beside those of version 2 and over whatever store, the path means the
+/// group.
 ///
 /// # Errors
 ///
@@ -62,10 +63,10 @@ pub fn stored_means(
     metadata: &GroupMetadata,
 ) -> Result<(), StorageError>
     ensures ok { OnOk result (StoredMeans metadata.now) }
-    ensures err { IfErr result (RefusesMetadata path.now metadata.now) }
+    ensures err { IfErr result (RefusesMetadata path.now metadata.now None) }
 {
     let copy = metadata.try_clone(alloc)?;
-    let edits = edits_to_store(alloc, path, copy)?;
+    let edits = edits_to_store(alloc, path, copy, &None)?;
     drop(edits);
     Ok(())
 }
@@ -78,10 +79,26 @@ pub fn group_gives_back()
     ensures { GroupGivesBack }
 {}
 
-/// So does a node opened at its path over any store that has the bytes of the stored group at its key, by default and as version 3, where the
+/// A version 2 group takes the block of a listed forest of version 2 nodes, and once it was set gives the forest back: by `children`,
+/// recursive, and by `traverse`, whatever store is handed in, under every policy but Never.
+///
+/// Source: `zarrs::group::Group::children`, `traverse`, `set_consolidated_metadata`; zarr-python, consolidated metadata of version 2.
+pub fn group_v2_gives_back()
+    ensures { GroupV2GivesBack }
+{}
+
+/// As the group of version 3 does, so does a node opened at its path over any store that has the bytes of the stored group at its key, by default and as version 3, where the
 /// group's document does not nest too deep.
 ///
 /// Source: `zarrs::node::Node::open_opt`, `zarrs::group::Group::store_metadata`.
 pub fn stored_gives_back()
     ensures { StoredGivesBack }
+{}
+
+/// As the group of version 2 does, so does a node opened at its path over any store that has the document `.zmetadata` of the stored group, by each version by which the path means the
+/// group there, where that document does not nest too deep; and a group opened there holds a block with the same entries.
+///
+/// Source: `zarrs::node::Node::open_opt`, `zarrs::group::Group::store_metadata`; zarr-python, consolidated metadata of version 2.
+pub fn stored_v2_gives_back()
+    ensures { StoredV2GivesBack }
 {}

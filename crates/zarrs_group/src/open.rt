@@ -1,12 +1,18 @@
 //! What a path means as a group.
-ghost use Rattle.std.specs.Prelude.{IfOk, IfErr};
-ghost use Rattle.zarrs_node.specs.Meaning.{in_bytes, zgroup_line};
+ghost use Rattle.std.specs.Prelude.{◌≡◌, IfOk, IfErr};
+ghost use Rattle.zarrs_store.specs.Faults.{IsStoreError};
+ghost use Rattle.zarrs_block.specs.Meaning.{in_bytes, zgroup_line};
+ghost use Rattle.zarrs_block.specs.Used.{seen};
+ghost use Rattle.zarrs_group.specs.Beside.{IsBeside};
+ghost use Rattle.zarrs_group.specs.Consolidated.{block_beside};
 ghost use Rattle.zarrs_group.specs.Meaning.{group_line, group_meaning, FindsByLine, FindsMeaning, RefusesLine, RefusesMeaning};
 
 use std::alloc::Global;
+use zarrs_block::ConsolidatedMetadata;
 use zarrs_config::MetadataRetrieveVersion;
 use zarrs_meta::{GroupMetadata, GroupMetadataV2, GroupMetadataV3};
 use zarrs_node::documents::{attributes_at, document_at};
+use zarrs_node::zmetadata_at;
 use zarrs_path::{NodePath, meta_key_v2_group, meta_key_v3};
 use zarrs_store::{ReadableStorageTraits, StorageError};
 
@@ -50,7 +56,7 @@ fn find_v3<S: ReadableStorageTraits>(
 }
 
 // What the document `.zgroup` of a path says, with the attributes beside it.
-#[tactic(auto, unfolding(zarrs_node::specs::Meaning::zgroup_line))]
+#[tactic(auto, unfolding(zarrs_block::specs::Meaning::zgroup_line))]
 fn find_v2<S: ReadableStorageTraits>(
     alloc: Global,
     storage: &S,
@@ -70,5 +76,22 @@ fn find_v2<S: ReadableStorageTraits>(
             additional_fields: group.additional_fields,
         }))),
         None => Ok(Some(GroupMetadata::V2(group))),
+    }
+}
+
+/// The block that a store has beside the metadata of a group: of a version 2 group the one that the document `.zmetadata` is.
+pub(crate) fn find_block<S: ReadableStorageTraits>(
+    alloc: Global,
+    storage: &S,
+    path: &NodePath,
+    metadata: &GroupMetadata,
+) -> Result<Option<ConsolidatedMetadata>, StorageError>
+    ensures ok { IfOk result (λ block. seen block ≡ block_beside (S.contents storage.now) path.now metadata.now) }
+    ensures fits { IfOk result (λ block. IsBeside (seen block)) }
+    ensures err { IfErr result (IsStoreError (S.can_fail storage.now)) }
+{
+    match metadata {
+        GroupMetadata::V3(_) => Ok(None),
+        GroupMetadata::V2(_) => zmetadata_at(alloc, storage, path),
     }
 }

@@ -1,12 +1,19 @@
-//! Why the metadata of a group are not plain.
-ghost use Rattle.std.specs.Prelude.{◌≡◌};
-ghost use Rattle.serde_json.specs.View.{members_view, members_of};
-ghost use Rattle.zarrs_group.specs.Plain.{group_v3_fault, group_v2_fault};
+//! Why a group is not plain: its metadata, or the block beside those of version 2.
+ghost use Rattle.std.specs.Prelude.{◌≡◌, [], is_some, IfOk};
+ghost use Rattle.serde_json.specs.Data.{Members, object};
+ghost use Rattle.serde_json.specs.View.{view, members_view, members_of};
+ghost use Rattle.serde_json.specs.Written as written;
+ghost use Rattle.zarrs_block.specs.Expanded.{path_at};
+ghost use Rattle.zarrs_group.specs.Plain.{group_v3_fault, group_v2_fault, block_fault, node_has_float, node_fields};
 ghost use Rattle.zarrs_group.specs.Plain as plain;
 
 use serde_json::{Map, Value};
+use std::alloc::{AllocError, Global};
+use zarrs_block::{ConsolidatedMetadata, ConsolidatedMetadataMetadata};
 use zarrs_form::{fields_have_float, is_null_at, members_have_float};
-use zarrs_meta::{AdditionalFieldV3, GroupMetadataV2, GroupMetadataV3};
+use zarrs_meta::{
+    AdditionalFieldV3, ArrayMetadata, GroupMetadata, GroupMetadataV2, GroupMetadataV3, NodeMetadata,
+};
 use zarrs_store::{MemberName, MetadataFault};
 
 /// Why a version 3 group is not plain, or nothing where it is.
@@ -68,5 +75,75 @@ fn has_field(fields: &Map<String, AdditionalFieldV3>, name: &str) -> bool
     match fields.get(name) {
         Some(_) => true,
         None => false,
+    }
+}
+
+/// Why a block is not stored beside the metadata of a version 2 group, or nothing where it is.
+pub(crate) fn block_fault(
+    alloc: Global,
+    block: &ConsolidatedMetadata,
+) -> Result<Option<MetadataFault>, AllocError>
+    ensures { IfOk result (λ fault. fault ≡ block_fault block.now.metadata) }
+{
+    let mut clash = false;
+    for (key, node) in block.metadata.as_map().iter() {
+        if node.is_plain() || !is_entry(&block.metadata, key.as_str()) {
+            continue;
+        }
+        if node_has_float(alloc, node)? {
+            return Ok(Some(MetadataFault::UnsupportedNumber));
+        }
+        clash = true;
+    }
+    if clash {
+        let name = MemberName::new("metadata");
+        return Ok(Some(MetadataFault::BadMember(name)));
+    }
+    Ok(None)
+}
+
+// Whether a key of a block is that of an entry: none of the base itself, and none behind a slash that stands without it too.
+fn is_entry(block: &ConsolidatedMetadataMetadata, key: &str) -> bool
+    ensures { result ≡ is_some (path_at [] block.now key.now) }
+{
+    match key.strip_prefix('/') {
+        Some(rest) => !rest.is_empty() && block.get(rest).is_none(),
+        None => !key.is_empty(),
+    }
+}
+
+// Whether some number of a node does not fit.
+fn node_has_float(alloc: Global, node: &NodeMetadata) -> Result<bool, AllocError>
+    ensures { IfOk result (λ found. found ≡ node_has_float node.now) }
+{
+    let value = node.to_value(alloc)?;
+    Ok(document_has_float(&value) || own_fields_have_float(node))
+}
+
+// Whether some number of a document does not fit.
+fn document_has_float(value: &Value) -> bool
+    ensures { (ms : Members) → view value.now ≡ object ms → result ≡ written.members_have_float ms }
+{
+    match value {
+        Value::Object(members) => members_have_float(members),
+        _ => false,
+    }
+}
+
+// Whether some number of the additional fields of a node does not fit.
+fn own_fields_have_float(node: &NodeMetadata) -> bool
+    ensures { result ≡ written.members_have_float (node_fields node.now) }
+{
+    match node {
+        NodeMetadata::Group(GroupMetadata::V3(group)) => {
+            fields_have_float(group.additional_fields.as_map())
+        }
+        NodeMetadata::Group(GroupMetadata::V2(group)) => {
+            members_have_float(group.additional_fields.as_map())
+        }
+        NodeMetadata::Array(array) => match array.as_ref() {
+            ArrayMetadata::V3(array) => fields_have_float(array.additional_fields.as_map()),
+            ArrayMetadata::V2(array) => members_have_float(array.additional_fields.as_map()),
+        },
     }
 }

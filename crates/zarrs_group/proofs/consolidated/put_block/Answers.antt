@@ -1,4 +1,4 @@
-use Rattle.std.proofs.Common.{◌≡◌, ◌∙◌, ap}
+use Rattle.std.proofs.Common.{◌∙◌, ap}
 use Rattle.serde_json.specs.View.{members_of}
 use Rattle.zarrs_form.proofs.Shared.{members_of-insert_entry}
 use Rattle.zarrs_group.proofs.consolidated.put_block.Goals as goal

@@ -1,4 +1,4 @@
-use Rattle.std.proofs.Common.{◌≡◌, [], ◌∷◌, ◌∙◌, ap, codes}
+use Rattle.std.proofs.Common.{[], ◌∷◌, ◌∙◌, ap, codes}
 use Rattle.zarrs_form.specs.Documents.{besides}
 use Rattle.zarrs_group.proofs.BlockFields.{fields_left}
 use Rattle.zarrs_group.proofs.consolidated.remove_block.Goals as goal

@@ -1,0 +1,126 @@
+-- A version 2 group that was stored with its block, opened again, gives the forest of the block back.
+use Rattle.std.proofs.Common.{◌≡◌, ◌≢◌, ℕ, ◌↔◌, true, List, [], ◌∷◌, ◌++◌, Option, Some, None, Ok, IsTrue, codes, refl, sym, ap, subst, ◌∙◌, Contains}
+use Rattle.std.specs.FinMap as map
+use Rattle.std.specs.List.{list_all, list_any}
+use Rattle.std.proofs.lemmas.List.Elements.{All-contains}
+use Rattle.std.proofs.lemmas.List.Sums.{AllPass-from_list_all}
+use Rattle.serde_json.specs.Data.{Data}
+use Rattle.zarrs_store.specs.Segments.{Segments}
+use Rattle.zarrs_store.specs.Contents.{Contents}
+use Rattle.zarrs_store.specs.declared.fault.MetadataFault.{MetadataFault}
+use Rattle.zarrs_store.specs.declared.fault.MetadataFault.TheVariants.{UnsupportedNumber, BadMember}
+use Rattle.zarrs_store.proofs.ContentsLemmas.{get_inserted}
+use Rattle.zarrs_path.specs.Keys.{zmetadata}
+use Rattle.zarrs_path.specs.Paths.{Path, IsPath}
+use Rattle.zarrs_config.specs.declared.version.MetadataRetrieveVersion.{MetadataRetrieveVersion}
+use Rattle.zarrs_config.specs.declared.version.UseConsolidatedMetadata.{UseConsolidatedMetadata}
+use Rattle.zarrs_config.specs.declared.version.UseConsolidatedMetadata.TheVariants.{Never}
+use Rattle.zarrs_form.specs.Documents.{json_of}
+use Rattle.zarrs_meta.specs.Node.{is_plain_node}
+use Rattle.zarrs_meta.specs.declared.group_v2.GroupMetadataV2.{GroupMetadataV2}
+use Rattle.zarrs_meta.specs.declared.node.GroupMetadata.{GroupMetadata}
+use Rattle.zarrs_meta.specs.declared.node.GroupMetadata.TheVariants.{V2}
+use Rattle.zarrs_meta.specs.declared.node.NodeMetadata.{NodeMetadata}
+use Rattle.zarrs_meta.specs.declared.node.NodeMetadata.TheVariants.{Group}
+use Rattle.zarrs_block.specs.Block.{Block, Entries, HasValidKeys, IsAscending}
+use Rattle.zarrs_block.specs.Meaning.{Meaning}
+use Rattle.zarrs_block.specs.Used.{used}
+use Rattle.zarrs_block.specs.Zmetadata.{zmetadata_of, zmetadata_tree, HasPlainEntries, HaveSameEntries}
+use Rattle.zarrs_block.specs.declared.node_create_error.NodeCreateError.{NodeCreateError}
+use Rattle.zarrs_block.proofs.Expansion.{entries_listed}
+use Rattle.zarrs_block.proofs.ZmetadataAgain.{written_reads_back}
+use Rattle.zarrs_node.specs.Below.{zmetadata_at}
+use Rattle.zarrs_node.specs.Forest.{Forest, pairs}
+use Rattle.zarrs_node.specs.Opened.{ShowsChosen, RefusesChosen, ShowsNode}
+use Rattle.zarrs_node.specs.Opened as opened
+use Rattle.zarrs_group.specs.Beside.{IsBeside}
+use Rattle.zarrs_group.specs.Consolidated.{with_block}
+use Rattle.zarrs_group.specs.Edits.{after}
+use Rattle.zarrs_group.specs.Groups.{GroupState}
+use Rattle.zarrs_group.specs.Layout.{pretty_text}
+use Rattle.zarrs_group.specs.Plain.{node_has_float, entries_of, block_fault}
+use Rattle.zarrs_group.specs.Stored.{own_edits, store_edits, fault_at, stored_fault}
+use Rattle.zarrs_group.specs.GivesBack.{ConsolidatesV2, HasStoredBlock, OpensToV2, StoredV2GivesBack}
+use Rattle.zarrs_group.proofs.Beside.{beside_read}
+use Rattle.zarrs_group.proofs.BlockPlain.{all_plain}
+use Rattle.zarrs_group.proofs.GivesBack.{used_there, no_bad_key, opens_clean, same_pairs, keys_valid, entries_v2, one_is}
+use Rattle.zarrs_group.proofs.PlainLaws.{plain_v2}
+use Rattle.zarrs_group.proofs.StoreLemmas.{own_plain, beside_is}
+
+-- ---- the document that is stored
+
+-- the key of `.zmetadata` has what is written of the block
+block_stored : (S : Contents) (p : Path) (m : GroupMetadataV2) (B : Block) → map.get (after S (store_edits p (V2 m) (Some B))) (p ++ zmetadata ∷ []) ≡ Some (pretty_text (zmetadata_tree m B))
+block_stored S p m B = get_inserted (after S (own_edits p m)) (p ++ zmetadata ∷ []) (pretty_text (zmetadata_tree m B))
+
+-- bytes that are read as the document of a block are that block
+block_read : (s : Contents) (p : Path) (bytes : List ℕ) (d : Data) (C : Block) → map.get s (p ++ zmetadata ∷ []) ≡ Some bytes → json_of bytes ≡ Some d → zmetadata_of d ≡ Ok C → zmetadata_at s p ≡ Some C
+block_read s p bytes d C here read is = rw (here, read, is) refl
+
+-- where no fault is told there is none
+none_told : (key : Segments) (fault : Option MetadataFault) → fault_at key fault ≡ None → fault ≡ None
+none_told key None e = refl
+none_told key (Some f) e = cc
+
+-- a version 2 group that is stored has no fault in its block
+no_block_fault : (p : Path) (m : GroupMetadataV2) (B : Block) → stored_fault p (V2 m) (Some B) ≡ None → block_fault B ≡ None
+no_block_fault p m B none =
+    none_told (p ++ zmetadata ∷ []) (block_fault B) (sym (beside_is p (V2 m) (Some B) (block_fault B) (own_plain p (V2 m) (Some B) none) refl) ∙ none)
+
+-- the entries of a block without a fault are plain
+entries_plain : (B : Block) → IsAscending B → HasValidKeys B → block_fault B ≡ None → HasPlainEntries B
+entries_plain B up valid none e here =
+    let all : list_all (λ d. is_plain_node d.1) (entries_of B) ≡ true =
+    all_plain (list_any (λ d. node_has_float d.1) (entries_of B)) (list_all (λ d. is_plain_node d.1) (entries_of B)) UnsupportedNumber (BadMember (codes "metadata")) none in
+    All-contains (λ d. IsTrue (is_plain_node d.1)) (entries_of B) e (AllPass-from_list_all (λ d. is_plain_node d.1) (entries_of B) all) ((entries_listed [] B up valid).complete e here)
+
+-- ---- the group that is opened
+
+module _ (of : Path → Meaning) (g : GroupState) (f : Forest) (B : Block) (from : ConsolidatesV2 of g f B) (named : IsPath g.path) where
+  -- the group with these metadata
+  abbrev grouped : GroupMetadata → GroupState
+  grouped m = with_block (record { path = g.path; metadata = m; block = g.block; convert_version = g.convert_version; erase_version = g.erase_version }) (Some B)
+
+  -- over a store that has beside it a block with the entries of B
+  module _ (s : Contents) (m : GroupMetadataV2) (C : Block) (there : zmetadata_at s g.path ≡ Some C) (same : HaveSameEntries B C) where
+    -- its entries are the pairs
+    pairs_again : (e : Path × NodeMetadata) → Entries C g.path e ↔ Contains (pairs f) e
+    pairs_again e = (λ h. (same_pairs of g f B from e).0 ((same g.path e).0 h), λ h. (same g.path e).1 ((same_pairs of g f B from e).1 h))
+
+    -- its keys are valid
+    valid_again : HasValidKeys C
+    valid_again = (subst IsBeside there (beside_read s g.path (V2 m))).0
+
+    -- it is the block that is used
+    is_used : (policy : UseConsolidatedMetadata) → policy ≢ Never → used (zmetadata_at s g.path) policy ≡ Some (Some C)
+    is_used policy not = ap (λ h. used h policy) there ∙ used_there C policy not
+
+    -- what is shown is the forest
+    shown_again : (v : MetadataRetrieveVersion) (policy : UseConsolidatedMetadata) → policy ≢ Never → (t : Forest) → ShowsNode s v policy g.path (Group (V2 m)) t → t ≡ f
+    shown_again v policy not t shows = one_is of g f B from (Entries C g.path) pairs_again t (subst (λ c. ShowsChosen s v c true g.path t) (is_used policy not) shows)
+
+    -- and nothing refuses it
+    clean_again : (v : MetadataRetrieveVersion) (policy : UseConsolidatedMetadata) → policy ≢ Never → (e : NodeCreateError) → opened.RefusesBelow s v policy g.path (Group (V2 m)) e → ⊥
+    clean_again v policy not e refused = no_bad_key C valid_again e (subst (λ c. RefusesChosen s v c true g.path e) (is_used policy not) refused)
+
+    -- so the group gives the forest back
+    opens_again : OpensToV2 s (grouped (V2 m)) f B
+    opens_again = record {
+      children = λ v means policy not t shows. shown_again v policy not t shows;
+      opened = λ v means policy not. opens_clean s v policy g.path named (Group (V2 m)) means (clean_again v policy not);
+      beside = (C, there, same);
+    }
+
+  -- storing leaves such a block
+  stored_again : (S s : Contents) (m : GroupMetadataV2) → IsAscending B → HasStoredBlock S s (grouped (V2 m)) → OpensToV2 s (grouped (V2 m)) f B
+  stored_again S s m up stored =
+      let valid : HasValidKeys B = keys_valid of g f B from in
+      let plain : HasPlainEntries B = entries_plain B up valid (no_block_fault g.path m B stored.plain) in
+      let again = written_reads_back m B (plain_v2 m (own_plain g.path (V2 m) (Some B) stored.plain)) up valid (entries_v2 of g f B from) plain in
+      opens_again s m again.0
+      (block_read s g.path (pretty_text (zmetadata_tree m B)) (zmetadata_tree m B) again.0 (stored.same ∙ block_stored S g.path m B) (stored.reads stored.shallow) again.1) again.2
+
+-- a node opened over the document of a stored version 2 group gives the forest back
+pub stored_v2_gives_back : StoredV2GivesBack
+stored_v2_gives_back of g f B from up named S s =
+    subst (λ m. HasStoredBlock S s (grouped of g f B from named m) → OpensToV2 s (grouped of g f B from named m) f B) (sym from.version_2.1) (stored_again of g f B from named S s from.version_2.0 up)
