@@ -20,7 +20,7 @@ use Rattle.zarrs_meta.specs.declared.node.NodeMetadata.TheVariants.{Group, Array
 use Rattle.zarrs_block.specs.Block.{Block, IsAscending, IsBlockOf, block_of, block_tree}
 use Rattle.zarrs_node.specs.declared.node.Node.{Node}
 use Rattle.zarrs_node.specs.Forest.{Forest, pairs, IsPlaced, ArePlacedBelow, Shows, path_of, metadata_of, below_of}
-use Rattle.zarrs_node.specs.Meaning.{meaning, node}
+use Rattle.zarrs_block.specs.Meaning.{meaning, node}
 use Rattle.zarrs_node.specs.Nodes.{Nodes}
 use Rattle.zarrs_node.specs.Opened.{ShowsNode, IsCleanNode}
 use Rattle.zarrs_node.specs.Inverse.{ArePlain}

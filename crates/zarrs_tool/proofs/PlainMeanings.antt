@@ -26,7 +26,7 @@ use Rattle.zarrs_meta.specs.declared.node.ZarrJson.TheVariants.{Node, Version2}
 use Rattle.zarrs_meta.proofs.PlainNodes.{PlainAttributes, PlainZarrJson, attributes_plain, zarr_json_plain, array_with_is_plain, group_with_is_plain}
 use Rattle.zarrs_meta.proofs.PlainArrays as arrays
 use Rattle.zarrs_meta.proofs.PlainGroups as groups
-use Rattle.zarrs_node.specs.Meaning.{Meaning, node, nothing, bad, named, document_from, document_at, in_bytes, attributes_in, version_3_line, version_2_line, zarr_json_line, zarray_line, zgroup_line, meaning_in, meaning}
+use Rattle.zarrs_block.specs.Meaning.{Meaning, node, nothing, bad, named, document_from, document_at, in_bytes, attributes_in, version_3_line, version_2_line, zarr_json_line, zarray_line, zgroup_line, meaning_in, meaning}
 
 -- where a path means a node, the node is plain
 abbrev pub IsPlainMeaning : Meaning → Type 0

@@ -11,7 +11,7 @@ use Rattle.zarrs_tool.specs.declared.fault.ToolFault.TheVariants.{Folder, OutOfM
 
 -- the names of the files that are documents
 abbrev pub document_names : List (List ℕ)
-document_names = codes "zarr.json" ∷ codes ".zarray" ∷ codes ".zgroup" ∷ codes ".zattrs" ∷ []
+document_names = codes "zarr.json" ∷ codes ".zarray" ∷ codes ".zgroup" ∷ codes ".zattrs" ∷ codes ".zmetadata" ∷ []
 
 -- a name behind the names that lead to it, with a slash between where there are any
 abbrev pub joined_names : List ℕ → List ℕ → List ℕ

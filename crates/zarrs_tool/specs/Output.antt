@@ -17,7 +17,7 @@ use Rattle.zarrs_config.specs.declared.version.UseConsolidatedMetadata.TheVarian
 use Rattle.zarrs_block.specs.Block.{Block, IsAscending, IsBlockOf, block_tree}
 use Rattle.zarrs_node.specs.declared.node.Node.{Node}
 use Rattle.zarrs_node.specs.Forest.{HasPlacedChildren, path_of, metadata_of, below_of}
-use Rattle.zarrs_node.specs.Meaning.{meaning, node}
+use Rattle.zarrs_block.specs.Meaning.{meaning, node}
 use Rattle.zarrs_node.specs.Order.{Ascend}
 use Rattle.zarrs_node.specs.Nodes.{Nodes, Bad}
 use Rattle.zarrs_node.specs.Opened.{ShowsNode, IsCleanNode}

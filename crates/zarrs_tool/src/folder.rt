@@ -22,9 +22,9 @@ pub const MOST_ENTRIES: u32 = 1_000_000;
 pub const MOST_DEPTH: u32 = 100;
 
 /// The store of the files below a folder. At its names joined by slashes a document, which is a file
-/// named `zarr.json`, `.zarray`, `.zgroup` or `.zattrs`, stands with its bytes; every other file
-/// stands with none, and is not opened. What is neither a file nor a folder is passed over, links
-/// among them.
+/// named `zarr.json`, `.zarray`, `.zgroup`, `.zattrs` or `.zmetadata`, stands with its bytes; every
+/// other file stands with none, and is not opened. What is neither a file nor a folder is passed
+/// over, links among them.
 ///
 /// # Errors
 /// `Folder` where a folder or a file is not read, a name is not UTF-8, or a bound is passed: those
@@ -178,7 +178,10 @@ fn put<R: Log + Files + AllocGlobal>(
 fn is_document(name: &str) -> bool
     ensures { IsTrue result ↔ Contains document_names name.now }
 {
-    matches!(name, "zarr.json" | ".zarray" | ".zgroup" | ".zattrs")
+    matches!(
+        name,
+        "zarr.json" | ".zarray" | ".zgroup" | ".zattrs" | ".zmetadata"
+    )
 }
 
 // The bytes of a document, and none of any other file.

@@ -129,6 +129,7 @@ fn documents_have_bytes_and_links_are_passed_over(rt: HostRuntime) {
         ("a0/.zarray", "22"),
         ("a0/.zgroup", "333"),
         ("a0/.zattrs", "4444"),
+        ("a0/.zmetadata", "55555"),
         ("a/x", "chunk"),
         ("a-b/zarr.json/c", "chunk"),
         ("a-b/zarr.jso", "no document"),
@@ -155,14 +156,17 @@ fn documents_have_bytes_and_links_are_passed_over(rt: HostRuntime) {
     let loaded = load(&rt, folder).expect(&rt, "memory");
     assert_eq!(rt;
         loaded.0.as_str(),
-        "a b\n\"\\/\u{e9} 0\na-b/zarr.jso 0\na-b/zarr.json/c 0\na/x 0\na0/.zarray 2\na0/.zattrs 4\na0/.zgroup 3\nzarr.json 1\n"
+        "a b\n\"\\/\u{e9} 0\na-b/zarr.jso 0\na-b/zarr.json/c 0\na/x 0\na0/.zarray 2\na0/.zattrs 4\na0/.zgroup 3\na0/.zmetadata 5\nzarr.json 1\n"
     );
     assert_eq!(rt; loaded.1.as_str(), "");
     // A link to a folder is read where it is the folder that is asked for.
     let loaded = load(&rt, "documents_have_bytes_and_links_are_passed_over/a/up").expect(
         &rt, "memory",
     );
-    assert_eq!(rt; loaded.0.as_str(), ".zarray 2\n.zattrs 4\n.zgroup 3\n");
+    assert_eq!(rt;
+        loaded.0.as_str(),
+        ".zarray 2\n.zattrs 4\n.zgroup 3\n.zmetadata 5\n"
+    );
     let loaded = load(&rt, "documents_have_bytes_and_links_are_passed_over/e//").expect(
         &rt, "memory",
     );
