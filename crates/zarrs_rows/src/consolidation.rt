@@ -6,7 +6,7 @@ use crate::fixtures::{
 use log::sink::Discard;
 use std::alloc::{AllocError, Global};
 use std::process::Abort;
-use zarrs_block::{ConsolidatedMetadataMetadata, NodeCreateError};
+use zarrs_block::{ConsolidatedMetadata, ConsolidatedMetadataMetadata, NodeCreateError};
 use zarrs_meta::{GroupMetadata, GroupMetadataV3, NodeMetadata};
 use zarrs_node::{Node, get_child_nodes, laws};
 use zarrs_path::NodePath;
@@ -22,6 +22,20 @@ fn node_at(alloc: Global, documents: &[(&str, &str)], path: &str) -> Result<Node
         children,
         |metadata, children| Node::new_with_metadata(path, metadata, children),
     )
+}
+
+/// The block of a node at a path of the store with these documents, made of all nodes below it, which a listing places.
+pub(crate) fn block_at(
+    alloc: Global,
+    documents: &[(&str, &str)],
+    path: &str,
+) -> Result<Option<ConsolidatedMetadata>, NodeCreateError> {
+    let node = node_at(alloc, documents, path)?;
+    if !node.has_placed_children() {
+        return Ok(None);
+    }
+    let block = node.consolidate_metadata(alloc)?;
+    Ok(block.map(|metadata| ConsolidatedMetadata { metadata }))
 }
 
 // A line for each key of a block, with the metadata; or `no block`.

@@ -15,8 +15,8 @@ ghost use Rattle.zarrs_group.specs.Groups.{converted};
 ghost use Rattle.zarrs_group.specs.Stored.{store_edits, erase_edits, RefusesStore};
 
 use crate::fixtures::{
-    A2, A3_SQUARE, ANY, G3, THREE_LEVELS, config_of, forest_text, key_of, listed_in, listing_text,
-    metadata_in, pairs_text, said, store_of, with_block,
+    A2, A3_SQUARE, ANY, G2, G3, THREE_LEVELS, config_of, forest_text, key_of, listed_in,
+    listing_text, metadata_in, pairs_text, said, store_of, with_block,
 };
 use crate::group_children::{LEVELS, LEVELS_TREES, groups_text, levels, paths_text, refused};
 use crate::groups::{Step, done};
@@ -82,8 +82,8 @@ fn stored_over_faults(
     store: &mut FaultStore,
     options: &GroupMetadataOptions,
 ) -> Result<(), StorageError>
-    ensures ok { OnOk result (held store.new ≡ after (held store.old) (store_edits group.now.path (converted options.now group.now.metadata))) }
-    ensures err { IfErr result (RefusesStore true group.now.path (converted options.now group.now.metadata) (held store.old) (held store.new)) }
+    ensures ok { OnOk result (held store.new ≡ after (held store.old) (store_edits group.now.path (converted options.now group.now.metadata) group.now.block)) }
+    ensures err { IfErr result (RefusesStore true group.now.path (converted options.now group.now.metadata) group.now.block (held store.old) (held store.new)) }
 {
     group.store_metadata_opt(alloc, store, options)
 }
@@ -518,7 +518,7 @@ fn a_failing_erasure_leaves_its_document(rt: HostRuntime) -> Result<(), Fail> {
 }
 
 // Changes: a text is set at its key, the empty text is a key that is erased. A change without a key is none.
-type Changes<'a> = [(&'a str, &'a str); 3];
+type Changes<'a> = [(&'a str, &'a str); 4];
 
 const NONE: (&str, &str) = ("", "");
 
@@ -531,33 +531,51 @@ const SET_NEW: (&str, &str) = (
     "{\n  \"node_type\": \"group\",\n  \"zarr_format\": 3\n}",
 );
 
+// A group without a block erases one that was stored.
+const NO_BLOCK: (&str, &str) = ("g/.zmetadata", "");
+
 // Steps on groups of version 2 at `/g`, one after another, each with its changes.
 const STEPS: [(&str, Step, Changes<'static>); 6] = [
-    (OLD_K, Step::Store, [SET_K, SET_OLD, NONE]),
-    (OLD, Step::Store, [("g/.zattrs", ""), SET_OLD, NONE]),
+    (OLD_K, Step::Store, [NO_BLOCK, SET_K, SET_OLD, NONE]),
+    (
+        OLD,
+        Step::Store,
+        [NO_BLOCK, ("g/.zattrs", ""), SET_OLD, NONE],
+    ),
     (
         OLD,
         Step::StoreAs(MetadataConvertVersion::V3),
-        [SET_NEW, NONE, NONE],
+        [SET_NEW, NONE, NONE, NONE],
     ),
     (
         OLD,
         Step::EraseAs(MetadataEraseVersion::Default),
-        [("g/.zgroup", ""), ("g/.zattrs", ""), NONE],
+        [("g/.zgroup", ""), ("g/.zattrs", ""), NO_BLOCK, NONE],
     ),
     (
         OLD_K,
         Step::StoreAs(MetadataConvertVersion::Default),
-        [SET_K, SET_OLD, NONE],
+        [NO_BLOCK, SET_K, SET_OLD, NONE],
     ),
     (
         OLD_K,
         Step::EraseAs(MetadataEraseVersion::All),
-        [("g/zarr.json", ""), ("g/.zgroup", ""), ("g/.zattrs", "")],
+        [
+            ("g/zarr.json", ""),
+            ("g/.zgroup", ""),
+            ("g/.zattrs", ""),
+            NO_BLOCK,
+        ],
     ),
 ];
 
-const STEP_KEYS: [&str; 4] = ["g/.zarray", "g/.zattrs", "g/.zgroup", "g/zarr.json"];
+const STEP_KEYS: [&str; 5] = [
+    "g/.zarray",
+    "g/.zattrs",
+    "g/.zgroup",
+    "g/.zmetadata",
+    "g/zarr.json",
+];
 
 // Makes the first `count` of these changes, up to the first that is refused.
 fn change<S: WritableStorageTraits>(
@@ -584,7 +602,7 @@ fn change<S: WritableStorageTraits>(
 fn before(alloc: Global, number: usize) -> Result<MemoryStore, StorageError> {
     let mut store = store_of(alloc, &[("g/.zarray", A2)])?;
     for (_, _, changes) in STEPS.iter().take(number) {
-        change(alloc, &mut store, changes, 3)?;
+        change(alloc, &mut store, changes, 4)?;
     }
     Ok(store)
 }
@@ -610,7 +628,7 @@ fn changed_text(
     place: Place,
 ) -> Result<String, StorageError> {
     let mut store = FaultStore::new(before(alloc, number)?, fault_at(alloc, place)?);
-    let answer = change(alloc, &mut store, changes, 3);
+    let answer = change(alloc, &mut store, changes, 4);
     left_text(alloc, answer, store.inner())
 }
 
@@ -632,8 +650,8 @@ fn a_step_does_its_changes_up_to_the_one_that_fails(rt: HostRuntime) -> Result<(
             }
         }
     }
-    assert_eq!(rt; runs, 84);
-    assert_eq!(rt; faults, 12);
+    assert_eq!(rt; runs, 102);
+    assert_eq!(rt; faults, 17);
     Ok(())
 }
 
@@ -735,7 +753,7 @@ fn reading_both_versions_answers_as_usual_or_the_fault(rt: HostRuntime) -> Resul
         ("/", MetadataRetrieveVersion::Default, 9),
         ("/g", MetadataRetrieveVersion::Default, 23),
         ("/g", MetadataRetrieveVersion::V3, 23),
-        ("/g", MetadataRetrieveVersion::V2, 30),
+        ("/g", MetadataRetrieveVersion::V2, 36),
     ] {
         let asked = Asked {
             path,
@@ -743,7 +761,7 @@ fn reading_both_versions_answers_as_usual_or_the_fault(rt: HostRuntime) -> Resul
             policy: UseConsolidatedMetadata::Auto,
         };
         let runs = run_all(alloc, &BOTH_VERSIONS, places.as_slice(), asked)?;
-        assert_eq!(rt; runs.runs, 196, "{path}");
+        assert_eq!(rt; runs.runs, 238, "{path}");
         assert_eq!(rt; runs.faults, wanted, "{path}");
     }
     Ok(())
@@ -804,6 +822,29 @@ fn memory_fails_in_reading_both_versions(rt: HostRuntime) -> Result<(), Fail> {
             policy: UseConsolidatedMetadata::Auto,
         };
         answer_alike(alloc, &BOTH_VERSIONS, asked)?;
+    }
+    Ok(())
+}
+
+// A version 2 group with the block of an array and of a group beside it, and neither of them in the store.
+const BESIDE: [(&str, &str); 2] = [
+    ("g/.zgroup", G2),
+    (
+        "g/.zmetadata",
+        r#"{"metadata":{"a/.zarray":{"chunks":[1],"compressor":null,"dtype":"<f8","fill_value":"NaN","filters":null,"order":"C","shape":[1],"zarr_format":2},"a/.zattrs":{"k":1},"b/.zgroup":{"zarr_format":2}},"zarr_consolidated_format":1}"#,
+    ),
+];
+
+#[test]
+fn memory_fails_in_reading_a_block_of_version_2(rt: HostRuntime) -> Result<(), Fail> {
+    let alloc = rt.alloc();
+    for policy in [UseConsolidatedMetadata::Must, UseConsolidatedMetadata::Auto] {
+        let asked = Asked {
+            path: "/g",
+            version: ANY,
+            policy,
+        };
+        answer_alike(alloc, &BESIDE, asked)?;
     }
     Ok(())
 }

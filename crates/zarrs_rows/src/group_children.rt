@@ -1,20 +1,22 @@
-//! The block that a group holds, and what stands below a group: by that block, or by a listing.
+//! The block that a group holds, of version 2 beside its metadata, and what stands below a group: by that block, or by a listing.
 //!
 //! Generic helpers hold the groups and the blocks, so that no test drops them itself; the tests compare texts.
 
+use crate::consolidation::block_at;
 use crate::fixtures::{
-    A3, A3_SQUARE, G2, G3, THREE_LEVELS, both, config_of, forest_text, pairs_text, said, store_of,
+    A2, A3, A3_SQUARE, G2, G3, THREE_LEVELS, both, config_of, forest_text, key_of, pairs_text,
+    said, store_of,
 };
 use log::sink::{Discard, Writer};
 use std::alloc::{AllocError, Global};
 use std::fmt::Display;
 use std::test::Fail;
-use zarrs_block::{ConsolidatedMetadata, ConsolidatedMetadataMetadata};
+use zarrs_block::{ConsolidatedMetadata, ConsolidatedMetadataMetadata, NodeCreateError};
 use zarrs_config::{Config, UseConsolidatedMetadata};
 use zarrs_group::{Group, GroupCreateError};
 use zarrs_meta::{GroupMetadata, GroupMetadataV2, GroupMetadataV3, NodeMetadata};
 use zarrs_path::NodePath;
-use zarrs_store::{MemoryStore, MetadataFault, StorageError};
+use zarrs_store::{MemoryStore, MetadataFault, ReadableStorageTraits, StorageError};
 
 // ---- groups with blocks
 
@@ -79,19 +81,17 @@ fn block_of(
     Ok(ConsolidatedMetadata { metadata })
 }
 
-// A value after a call on it, where the call succeeded.
-fn changed<T, E>(made: Result<(T, Result<(), AllocError>), E>) -> Result<T, E>
-where
-    T: Drop,
-    E: Drop + From<AllocError>,
-{
-    let (value, answer) = made?;
-    answer?;
-    Ok(value)
-}
-
 // A group after a block was set, or removed, and what that call answers.
-type Set = (Group, Result<(), AllocError>);
+type Set = (Group, Result<(), NodeCreateError>);
+
+// A group after a call on it, where the call succeeded.
+fn changed(alloc: Global, made: Result<Set, GroupCreateError>) -> Result<Group, GroupCreateError> {
+    let (group, answer) = made?;
+    match answer {
+        Ok(()) => Ok(group),
+        Err(error) => Err(GroupCreateError::from_node_error(alloc, error)),
+    }
+}
 
 fn set(mut group: Group, alloc: Global, block: Option<ConsolidatedMetadata>) -> Set {
     let answer = match group.set_consolidated_metadata(alloc, block) {
@@ -117,7 +117,7 @@ fn with_block(
     group: Result<Group, GroupCreateError>,
     block: &[(&str, &str)],
 ) -> Result<Group, GroupCreateError> {
-    changed(set_in(alloc, group, block))
+    changed(alloc, set_in(alloc, group, block))
 }
 
 // A group with its block removed.
@@ -125,7 +125,7 @@ fn without_block(
     alloc: Global,
     group: Result<Group, GroupCreateError>,
 ) -> Result<Group, GroupCreateError> {
-    changed(group.map(|group| set(group, alloc, None)))
+    changed(alloc, group.map(|group| set(group, alloc, None)))
 }
 
 // The group without attributes at a path, with a block set.
@@ -325,7 +325,7 @@ type Lent = (Group, Result<String, AllocError>);
 fn lent(mut group: Group, alloc: Global, block: ConsolidatedMetadata) -> Lent {
     let answer = match group.set_consolidated_metadata(alloc, Some(block)) {
         Ok(group) => group.to_text(alloc),
-        Err(error) => Err(error),
+        Err(error) => format!(in alloc; "{error}"),
     };
     (group, answer)
 }
@@ -373,9 +373,9 @@ fn a_block_is_replaced_as_it_is_set(rt: HostRuntime) -> Result<(), Fail> {
         block,
         |group, block| replaced(group, alloc, Some(block)),
     );
-    reads(alloc, changed(made), OTHERS_SET)?;
+    reads(alloc, changed(alloc, made), OTHERS_SET)?;
     let removed = others_set(alloc).map(|group| replaced(group, alloc, None));
-    reads(alloc, changed(removed), OTHERS_TEXT)
+    reads(alloc, changed(alloc, removed), OTHERS_TEXT)
 }
 
 #[test]
@@ -387,17 +387,129 @@ fn the_group_is_lent_once_a_block_was_set(rt: HostRuntime) -> Result<(), Fail> {
     is_same(said(alloc, made, lent_text)?.as_str(), OTHERS_SET)
 }
 
+// The version 2 group at `/g` with a block of one group set.
+fn old_set(alloc: Global) -> Result<Group, GroupCreateError> {
+    with_block(alloc, old_group(alloc, "/g"), &[("a", G2)])
+}
+
 #[test]
-fn a_version_2_group_takes_no_block(rt: HostRuntime) -> Result<(), Fail> {
+fn a_version_2_group_has_its_block_beside_its_metadata(rt: HostRuntime) -> Result<(), Fail> {
     let alloc = rt.alloc();
-    let group = with_block(alloc, old_group(alloc, "/g"), &[("a", G3)]);
-    reads(
+    let text = r#"group at /g with metadata {"zarr_format":2}"#;
+    let block = r#"{"kind":"inline","metadata":{"a":{"zarr_format":2}},"must_understand":false}"#;
+    reads(alloc, old_set(alloc), text)?;
+    holds(alloc, old_set(alloc), block)?;
+    holds(
         alloc,
-        group,
-        r#"group at /g with metadata {"zarr_format":2}"#,
+        old_set(alloc).map(|group| group.to_v3(alloc)),
+        "none",
     )?;
-    let group = with_block(alloc, old_group(alloc, "/g"), &[("a", G3)]);
-    holds(alloc, group, "none")
+    holds(alloc, without_block(alloc, old_set(alloc)), "none")
+}
+
+// What a call that set a block answers, and the block that the group then holds.
+fn set_and_held(set: &Set, alloc: Global) -> Result<String, AllocError> {
+    let held = held_text(&set.0, alloc)?;
+    match &set.1 {
+        Ok(()) => Ok(held),
+        Err(error) => format!(in alloc; "{error}: {held}"),
+    }
+}
+
+#[test]
+fn a_version_2_group_takes_no_block_that_cannot_be_written(rt: HostRuntime) -> Result<(), Fail> {
+    let alloc = rt.alloc();
+    for (key, document, wanted) in [
+        ("a", G3, "Found V2 metadata in V3 key or vice-versa: none"),
+        (
+            "a/",
+            G2,
+            "invalid node path invalid node name `` in 'a/': none",
+        ),
+    ] {
+        let set = set_in(alloc, old_group(alloc, "/g"), &[(key, document)]);
+        is_same(said(alloc, set, set_and_held)?.as_str(), wanted)?;
+    }
+    Ok(())
+}
+
+// What a store holds at a key, or `none`.
+fn text_at(alloc: Global, store: &MemoryStore, key: &str) -> Result<String, AllocError> {
+    let Ok(key) = key_of(alloc, key) else {
+        return String::from_str(alloc, "no key");
+    };
+    match store.get(alloc, &key) {
+        Ok(Some(bytes)) => String::from_utf8_lossy(alloc, bytes.as_slice()),
+        Ok(None) => String::from_str(alloc, "none"),
+        Err(error) => format!(in alloc; "{error}"),
+    }
+}
+
+// What stands at `.zmetadata` of the group at `/g` once it was stored over nothing.
+fn zmetadata_text(group: &Group, alloc: Global) -> Result<String, AllocError> {
+    stored(
+        group,
+        alloc,
+        |store: &MemoryStore| text_at(alloc, store, "g/.zmetadata"),
+    )
+}
+
+// A group of version 2, and an array below it.
+const OLD_LEVELS: [(&str, &str); 2] = [("g/.zgroup", G2), ("g/a/.zarray", A2)];
+
+// That group with the block of all below it set.
+fn old_levels(alloc: Global) -> Result<Group, GroupCreateError> {
+    let block = block_at(alloc, &OLD_LEVELS, "/g").map_err(
+        |error| GroupCreateError::from_node_error(alloc, error),
+    );
+    let group = old_group(alloc, "/g");
+    changed(
+        alloc,
+        both(group, block, |group, block| set(group, alloc, block)),
+    )
+}
+
+// What is stored of that block.
+const OLD_LEVELS_STORED: &str = r#"{
+  "metadata": {
+    ".zgroup": {
+      "zarr_format": 2
+    },
+    "a/.zarray": {
+      "chunks": [
+        1
+      ],
+      "compressor": null,
+      "dimension_separator": ".",
+      "dtype": "<f8",
+      "fill_value": "NaN",
+      "filters": null,
+      "order": "C",
+      "shape": [
+        1
+      ],
+      "zarr_format": 2
+    }
+  },
+  "zarr_consolidated_format": 1
+}"#;
+
+#[test]
+fn the_block_of_a_version_2_group_is_stored_as_zmetadata(rt: HostRuntime) -> Result<(), Fail> {
+    let alloc = rt.alloc();
+    let found = said(alloc, old_levels(alloc), zmetadata_text)?;
+    is_same(found.as_str(), OLD_LEVELS_STORED)?;
+    let found = said(alloc, old_group(alloc, "/g"), zmetadata_text)?;
+    is_same(found.as_str(), "none")?;
+    let never = UseConsolidatedMetadata::Never;
+    is_below(alloc, old_levels(alloc), &[], never, ("", ""))?;
+    is_below(
+        alloc,
+        old_levels(alloc),
+        &[],
+        UseConsolidatedMetadata::Must,
+        ("/g/a [1] Simple(\"<f8\")\n", "/g/a array\n"),
+    )
 }
 
 // ---- a field that must be understood
@@ -849,7 +961,7 @@ fn levels_text(alloc: Global) -> Result<String, AllocError> {
 
 // The text of that group where its block was refused, which leaves it as it was.
 const NOT_SET: &str =
-    r#"memory allocation failed: group at /group with metadata {"node_type":"group","zarr_format":3}"#;
+    r#"out of memory: group at /group with metadata {"node_type":"group","zarr_format":3}"#;
 
 #[test]
 fn memory_fails_in_setting_a_block(rt: HostRuntime) -> Result<(), Fail> {

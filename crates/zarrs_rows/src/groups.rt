@@ -91,10 +91,16 @@ fn is_said(found: &str, wanted: Says) -> Result<(), Fail> {
 
 // ---- stores
 
-const KEYS: [&str; 4] = ["g/zarr.json", "g/.zgroup", "g/.zattrs", "g/.zarray"];
+const KEYS: [&str; 5] = [
+    "g/zarr.json",
+    "g/.zgroup",
+    "g/.zattrs",
+    "g/.zarray",
+    "g/.zmetadata",
+];
 
-// The store with these texts at the four keys, where a text is not empty; nothing where memory was refused.
-fn filled(alloc: Global, texts: [&str; 4]) -> Option<MemoryStore> {
+// The store with these texts at the first of the keys, where a text is not empty; nothing where memory was refused.
+fn filled(alloc: Global, texts: &[&str]) -> Option<MemoryStore> {
     let mut store = MemoryStore::new(alloc);
     for (key, text) in KEYS.iter().zip(texts.iter()) {
         if !text.is_empty() {
@@ -105,7 +111,7 @@ fn filled(alloc: Global, texts: [&str; 4]) -> Option<MemoryStore> {
     Some(store)
 }
 
-fn store_of(alloc: Global, texts: [&str; 4]) -> Result<MemoryStore, Fail> {
+fn store_of(alloc: Global, texts: &[&str]) -> Result<MemoryStore, Fail> {
     match filled(alloc, texts) {
         Some(store) => Ok(store),
         None => Err(Fail::from("no store")),
@@ -123,7 +129,7 @@ fn push_seen(alloc: Global, store: &MemoryStore, key: &str, all: &mut String) ->
     }
 }
 
-// What the store holds at the four keys, each with a period; nothing where memory was refused for the look.
+// What the store holds at the keys, each with a period; nothing where memory was refused for the look.
 fn seen(alloc: Global, store: &MemoryStore) -> Option<String> {
     let mut all = String::new(alloc);
     for key in KEYS {
@@ -247,7 +253,7 @@ fn a_path_is_opened_by_its_first_document(rt: HostRuntime) -> Result<(), Fail> {
         ),
         (["", G2, "[]", ""], Says::Fault("g/.zattrs: not an object")),
     ] {
-        let store = store_of(alloc, texts)?;
+        let store = store_of(alloc, &texts)?;
         is_said(opened(alloc, &store)?.as_str(), wanted)?;
     }
     Ok(())
@@ -331,7 +337,7 @@ fn the_version_limits_what_is_looked_at(rt: HostRuntime) -> Result<(), Fail> {
             Says::Text("group metadata is missing"),
         ),
     ] {
-        let store = store_of(alloc, texts)?;
+        let store = store_of(alloc, &texts)?;
         let found = opened_as(alloc, &store, version)?;
         is_said(found.as_str(), wanted)?;
     }
@@ -345,7 +351,7 @@ fn document(alloc: Global, members: &str) -> Result<String, Fail> {
 
 fn store_with(alloc: Global, members: &str) -> Result<MemoryStore, Fail> {
     let document = document(alloc, members)?;
-    store_of(alloc, [document.as_str(), "", "", ""])
+    store_of(alloc, &[document.as_str()])
 }
 
 fn opened_with(alloc: Global, members: &str) -> Result<String, Fail> {
@@ -486,26 +492,26 @@ fn after(
 #[test]
 fn version_2_is_stored_and_erased_key_by_key(rt: HostRuntime) -> Result<(), Fail> {
     let alloc = rt.alloc();
-    let mut store = store_of(alloc, ["", "", "", "x"])?;
+    let mut store = store_of(alloc, &["", "", "", "x", "m"])?;
     for (attributes, step, wanted) in [
-        (K, Step::Store, "-.two.k.x."),
-        ("{}", Step::Store, "-.two.-.x."),
+        (K, Step::Store, "-.two.k.x.-."),
+        ("{}", Step::Store, "-.two.-.x.-."),
         (
             "{}",
             Step::StoreAs(MetadataConvertVersion::V3),
-            "three.two.-.x.",
+            "three.two.-.x.-.",
         ),
         (
             "{}",
             Step::EraseAs(MetadataEraseVersion::Default),
-            "three.-.-.x.",
+            "three.-.-.x.-.",
         ),
         (
             K,
             Step::StoreAs(MetadataConvertVersion::Default),
-            "three.two.k.x.",
+            "three.two.k.x.-.",
         ),
-        (K, Step::EraseAs(MetadataEraseVersion::All), "-.-.-.x."),
+        (K, Step::EraseAs(MetadataEraseVersion::All), "-.-.-.x.-."),
     ] {
         let found = after(
             alloc,
@@ -523,16 +529,16 @@ fn version_2_is_stored_and_erased_key_by_key(rt: HostRuntime) -> Result<(), Fail
 fn each_version_erases_its_own_keys(rt: HostRuntime) -> Result<(), Fail> {
     let alloc = rt.alloc();
     for (version, erased, wanted) in [
-        (2, MetadataEraseVersion::Default, "j.-.-.x."),
-        (2, MetadataEraseVersion::V3, "-.g.a.x."),
-        (2, MetadataEraseVersion::V2, "j.-.-.x."),
-        (2, MetadataEraseVersion::All, "-.-.-.x."),
-        (3, MetadataEraseVersion::Default, "-.g.a.x."),
-        (3, MetadataEraseVersion::V3, "-.g.a.x."),
-        (3, MetadataEraseVersion::V2, "j.-.-.x."),
-        (3, MetadataEraseVersion::All, "-.-.-.x."),
+        (2, MetadataEraseVersion::Default, "j.-.-.x.-."),
+        (2, MetadataEraseVersion::V3, "-.g.a.x.m."),
+        (2, MetadataEraseVersion::V2, "j.-.-.x.-."),
+        (2, MetadataEraseVersion::All, "-.-.-.x.-."),
+        (3, MetadataEraseVersion::Default, "-.g.a.x.m."),
+        (3, MetadataEraseVersion::V3, "-.g.a.x.m."),
+        (3, MetadataEraseVersion::V2, "j.-.-.x.-."),
+        (3, MetadataEraseVersion::All, "-.-.-.x.-."),
     ] {
-        let mut store = store_of(alloc, ["j", "g", "a", "x"])?;
+        let mut store = store_of(alloc, &["j", "g", "a", "x", "m"])?;
         let step = Step::EraseAs(erased);
         let found = after(
             alloc,
@@ -552,8 +558,11 @@ fn a_configuration_gives_the_options(rt: HostRuntime) -> Result<(), Fail> {
     let mut config = Config::new();
     config.set_metadata_convert_version(MetadataConvertVersion::V3);
     config.set_metadata_erase_version(MetadataEraseVersion::All);
-    let mut store = store_of(alloc, ["", "g", "a", "x"])?;
-    for (step, wanted) in [(Step::Store, "three k.g.a.x."), (Step::Erase, "-.-.-.x.")] {
+    let mut store = store_of(alloc, &["", "g", "a", "x", "m"])?;
+    for (step, wanted) in [
+        (Step::Store, "three k.g.a.x.m."),
+        (Step::Erase, "-.-.-.x.-."),
+    ] {
         let found = after(alloc, &mut store, &config, (2, K, "{}"), step)?;
         is_same(found.as_str(), wanted)?;
     }
@@ -563,27 +572,27 @@ fn a_configuration_gives_the_options(rt: HostRuntime) -> Result<(), Fail> {
 #[test]
 fn what_is_not_plain_is_refused_before_any_write(rt: HostRuntime) -> Result<(), Fail> {
     let alloc = rt.alloc();
-    let mut store = store_of(alloc, ["j", "g", "a", ""])?;
+    let mut store = store_of(alloc, &["j", "g", "a"])?;
     for (given, wanted) in [
         (
             (3, "{}", r#"{"node_type":1,"attributes":1}"#),
-            "g/zarr.json: bad member attributes, j.g.a.-.",
+            "g/zarr.json: bad member attributes, j.g.a.-.-.",
         ),
         (
             (3, "{}", r#"{"node_type":1,"consolidated_metadata":null}"#),
-            "g/zarr.json: bad member consolidated_metadata, j.g.a.-.",
+            "g/zarr.json: bad member consolidated_metadata, j.g.a.-.-.",
         ),
         (
             (3, r#"{"n":1.5}"#, r#"{"attributes":1}"#),
-            "g/zarr.json: unsupported number, j.g.a.-.",
+            "g/zarr.json: unsupported number, j.g.a.-.-.",
         ),
         (
             (2, "{}", r#"{"shape":[1]}"#),
-            "g/.zgroup: bad member shape, j.g.a.-.",
+            "g/.zgroup: bad member shape, j.g.a.-.-.",
         ),
         (
             (2, "{}", r#"{"shape":[1.5]}"#),
-            "g/.zgroup: unsupported number, j.g.a.-.",
+            "g/.zgroup: unsupported number, j.g.a.-.-.",
         ),
     ] {
         let found = after(alloc, &mut store, &Config::new(), given, Step::Store)?;
@@ -907,6 +916,10 @@ fn the_laws_are_called(rt: HostRuntime) -> Result<(), Fail> {
     laws::erasing_all_erases();
     laws::other_keys_stay();
     laws::arrays_stay();
+    laws::group_gives_back();
+    laws::group_v2_gives_back();
+    laws::stored_gives_back();
+    laws::stored_v2_gives_back();
     let path = NodePath::new(alloc, "/g")?;
     let metadata = metadata_of(alloc, (3, K, "{}"))?;
     laws::stored_means(alloc, &path, &metadata)?;

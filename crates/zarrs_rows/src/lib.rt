@@ -37,4 +37,6 @@ mod parts;
 #[cfg(test)]
 mod refreshing;
 #[cfg(test)]
+mod small_stores;
+#[cfg(test)]
 mod text;
