@@ -135,7 +135,7 @@ zmetadata_tree g B =
     object (member (codes "metadata") (object (documents_written g B))
     (member (codes "zarr_consolidated_format") (number (unsigned 1)) no_members))
 
--- the nodes of the block are of version 2
+-- the node is of version 2
 abbrev pub is_version_2 : NodeMetadata → Bool
 is_version_2 (Group (group_v2 m)) = true
 is_version_2 (Group (group_v3 m)) = false
