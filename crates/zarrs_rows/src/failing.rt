@@ -880,7 +880,9 @@ fn is_stepped(
     let count = changes.iter().filter(|change| !change.0.is_empty()).count();
     match done(alloc, group, &mut store, step) {
         Ok(()) => {
-            let wanted = changed_text(alloc, number, changes, Place::List(""))?;
+            let mut wanted = before(alloc, number)?;
+            change(alloc, &mut wanted, changes, 4)?;
+            let wanted = held_text(alloc, &wanted)?;
             is_same(held_text(alloc, &store)?.as_str(), wanted.as_str())
         }
         Err(StorageError::OutOfMemory) => {
