@@ -8,6 +8,7 @@ pub mod Cuts
 pub mod Depths
 pub mod Below
 pub mod Ranges
+pub mod Runs
 pub mod Digits
 pub mod PlaceLemmas
 pub mod SameLemmas

@@ -7,7 +7,7 @@ use Rattle.std.specs.Ordering.{eq_by_cmp, is_eq, is_lt, on, nat_cmp, ordering_th
 use Rattle.std.specs.Cmp.{IsTotalOrder}
 use Rattle.std.specs.FinMap as finite
 use Rattle.std.specs.FinMap.{nat_cmp-IsAntisymmetric}
-use Rattle.std.specs.List.{dedup, dedup_from, cons_option}
+use Rattle.std.specs.List.{dedup, cons_option}
 use Rattle.std.specs.List.Sorted.{IsStrictlySortedBy}
 use Rattle.std.specs.Map.{keys_of}
 use Rattle.std.specs.Cmp.Lexicographic.{texts_ties}
@@ -21,7 +21,7 @@ use Rattle.std.proofs.lemmas.Map.Keys.{IsDistinct-from_sorted, apart_from_distin
 use Rattle.std.proofs.lemmas.Map.Views.{All-after_first}
 use Rattle.zarrs_store.specs.Segments.{Segments, bytes_cmp, bytes_eq, key_cmp, key_text, prefix_text, IsKey, IsSegment}
 use Rattle.zarrs_store.specs.Contents.{HasKey, Lists, IsKeyBelow, IsChildKey, IsChildPrefix}
-use Rattle.zarrs_store.specs.Entries.{beyond, is_below, is_one, is_child_key, first_of_more, child_name}
+use Rattle.zarrs_store.specs.Entries.{beyond, is_below, is_one, is_child_key, first_of_more, child_name, child_of, child_names, child_prefixes}
 use Rattle.zarrs_store.proofs.ChildLemmas.{key_cmp_total, key_cmp-IsAntisymmetric, Contains-filter}
 use Rattle.zarrs_store.proofs.BelowLemmas.{beyond-append, from_beyond, all_behind, key_text-below}
 use Rattle.zarrs_store.proofs.EntryLemmas.{text_cmp_total, equal_of, shown, HoldsKeys}
@@ -114,7 +114,8 @@ module _ {X : Type 0} (f : X → List ℕ) (es : List (Segments × X)) (p : Segm
       up
 
 module _ {X Y : Type 0} (h : X → Option Y) where
-  All-filter_map : (Q : X → Type 0) (P : Y → Type 0) → ((x : X) (y : Y) → Q x → h x ≡ Some y → P y) → (xs : List X) → All Q xs → All P (filter_map h xs)
+  -- what a function gives of items is such
+  pub All-filter_map : (Q : X → Type 0) (P : Y → Type 0) → ((x : X) (y : Y) → Q x → h x ≡ Some y → P y) → (xs : List X) → All Q xs → All P (filter_map h xs)
   All-filter_map Q P gives [] all = All-nil P
   All-filter_map Q P gives (x ∷ xs) all =
       let rest : All P (filter_map h xs) = All-filter_map Q P gives xs (All-tail Q x xs all) in
@@ -136,30 +137,6 @@ module _ {X Y : Type 0} (h : X → Option Y) where
       ]
 
 -- ---- the names of children
-
--- each name that is not the last one again
-abbrev pub fresh : List ℕ → List (List ℕ) → List (List ℕ)
-fresh last [] = []
-fresh last (n ∷ ns) = cond (bytes_eq n last) (fresh last ns) (n ∷ fresh n ns)
-
--- after a name that was kept, those are what `dedup` keeps
-dedup_after : (last : List ℕ) (ns : List (List ℕ)) → last ∷ fresh last ns ≡ dedup_from bytes_eq last ns
-dedup_after last [] = refl
-dedup_after last (n ∷ ns) =
-    elim (bytes_eq n last) as (λ b. last ∷ cond b (fresh last ns) (n ∷ fresh n ns) ≡ cond b (dedup_from bytes_eq last ns) (last ∷ dedup_from bytes_eq n ns)) [
-      | true ↦ dedup_after last ns
-      | false ↦ ap (λ r. last ∷ r) (dedup_after n ns)
-    ]
-
--- an item of a nonempty text is not the empty one again
-not_again : (n : List ℕ) → n ≢ [] → bytes_eq n [] ≡ false
-not_again [] h = absurd (h refl)
-not_again (b ∷ n) h = refl
-
--- of names that are not empty, all are kept that `dedup` keeps
-fresh_is : (ns : List (List ℕ)) → All IsSegment ns → fresh [] ns ≡ dedup bytes_eq ns
-fresh_is [] h = refl
-fresh_is (n ∷ ns) h = ap (λ b. cond b (fresh [] ns) (n ∷ fresh n ns)) (not_again n ((All-head IsSegment n ns h).nonempty)) ∙ dedup_after n ns
 
 -- a name in the order of child prefixes: by its bytes and a slash
 abbrev slashed : List ℕ → List ℕ
@@ -216,17 +193,18 @@ first_not_greater Equal b e = refl
 first_not_greater Greater b e = cc
 
 -- the segments of a key that stands in the child of this name
-record IsIn (p k : Segments) (name : List ℕ) : Type 0 where
-  next : List ℕ
-  rest : Segments
-  is : k ≡ p ++ name ∷ next ∷ rest
+pub record IsIn (p k : Segments) (name : List ℕ) : Type 0 where
+  pub next : List ℕ
+  pub rest : Segments
+  pub is : k ≡ p ++ name ∷ next ∷ rest
 
 first_of_more_is : (t : Segments) (name : List ℕ) → first_of_more (Some t) ≡ Some name → (next : List ℕ) × (rest : Segments) × (t ≡ name ∷ next ∷ rest)
 first_of_more_is [] name e = cc
 first_of_more_is (n ∷ []) name e = cc
 first_of_more_is (n ∷ m ∷ r) name e = (m, r, ap (λ x. x ∷ m ∷ r) (let same : n ≡ name = cc in same))
 
-is_in : (p k : Segments) (name : List ℕ) → child_name p k ≡ Some name → IsIn p k name
+-- a key that has this name of a child stands in that child
+pub is_in : (p k : Segments) (name : List ℕ) → child_name p k ≡ Some name → IsIn p k name
 is_in p k name e =
     elim (beyond p k) as (λ o. beyond p k ≡ o → first_of_more o ≡ Some name → IsIn p k name) [
       | None ↦ λ _ f. cc
@@ -268,10 +246,6 @@ names_sorted p (k ∷ ks) up keys =
           rest
     ] refl
 
--- the child of this name
-abbrev pub child_of : Segments → List ℕ → Segments
-child_of p name = p ++ name ∷ []
-
 child_injective : (p : Segments) (m n : List ℕ) → child_of p m ≡ child_of p n → m ≡ n
 child_injective p m n e = let f : m ∷ [] ≡ n ∷ [] = append_cancel_left p (m ∷ []) (n ∷ []) e in cc
 
@@ -303,17 +277,14 @@ module _ {X : Type 0} (f : X → List ℕ) (es : List (Segments × X)) (p : Segm
   abbrev names : List (List ℕ)
   names = filter_map (child_name p) (keys_of es)
 
-  record IsGood (n : List ℕ) : Type 0 where
-    child : IsChildPrefix (finite.from_entries {R = key_cmp} (shown f es)) p (child_of p n)
-    segment : IsSegment n
+  abbrev IsGood : List ℕ → Type 0
+  IsGood n = IsChildPrefix (finite.from_entries {R = key_cmp} (shown f es)) p (child_of p n)
 
+  -- a key in the child of a name makes that a child prefix
   good : (k : Segments) (n : List ℕ) → IsHeld k → child_name p k ≡ Some n → IsGood n
   good k n h e =
       let g = is_in p k n e in
-      record {
-        child = record { name = n; is = refl; has = record { next = g.next; rest = g.rest; held = subst held g.is h.is_held } };
-        segment = name_segment p k n h.is_key g;
-      }
+      record { name = n; is = refl; has = record { next = g.next; rest = g.rest; held = subst held g.is h.is_held } }
 
   all_good : All IsGood names
   all_good = All-filter_map (child_name p) IsHeld IsGood good (keys_of es) all_keys
@@ -333,17 +304,13 @@ module _ {X : Type 0} (f : X → List ℕ) (es : List (Segments × X)) (p : Segm
       (IsStrictlySortedBy-dedup (on_total slashed nat_list_cmp_total) name_ties names (λ k d low high. sorted k (k + 1) d (omega arith) high))
 
   -- the children of those names are the child prefixes
-  pub Lists-child_prefixes : (ws : List Segments) → ws ≡ map (child_of p) (fresh [] names)
-      → Lists (IsChildPrefix (finite.from_entries {R = key_cmp} (shown f es)) p) ws
-  Lists-child_prefixes ws is =
-      let kept : fresh [] names ≡ dedup bytes_eq names = fresh_is names (λ k d l. (all_good k d l).segment) in
-      let same : ws ≡ map (child_of p) (dedup bytes_eq names) = is ∙ ap (map (child_of p)) kept in
-      subst (Lists (IsChildPrefix (finite.from_entries {R = key_cmp} (shown f es)) p)) (sym same) (record {
-        each_once = apart-map (child_of p) (child_injective p) [] (dedup bytes_eq names) names_once;
-        sound = All-map (IsChildPrefix (finite.from_entries {R = key_cmp} (shown f es)) p) (child_of p) (dedup bytes_eq names)
-            (λ k d l. (All-dedup bytes_eq IsGood names all_good k d l).child);
-        complete = λ c h.
-            subst (Contains (map (child_of p) (dedup bytes_eq names))) (sym h.is)
-            (Contains-map (child_of p) (dedup bytes_eq names) h.name
-            (Contains-dedup nat_list_eq_equiv (λ x y. (bytes_eq-Decides x y).0) names h.name (name_listed c h)));
-      })
+  pub Lists-child_prefixes : Lists (IsChildPrefix (finite.from_entries {R = key_cmp} (shown f es)) p) (child_prefixes p (keys_of es))
+  Lists-child_prefixes = record {
+    each_once = apart-map (child_of p) (child_injective p) [] (child_names p (keys_of es)) names_once;
+    sound = All-map (IsChildPrefix (finite.from_entries {R = key_cmp} (shown f es)) p) (child_of p) (child_names p (keys_of es))
+        (All-dedup bytes_eq IsGood names all_good);
+    complete = λ c h.
+        subst (Contains (child_prefixes p (keys_of es))) (sym h.is)
+        (Contains-map (child_of p) (child_names p (keys_of es)) h.name
+        (Contains-dedup nat_list_eq_equiv (λ x y. (bytes_eq-Decides x y).0) names h.name (name_listed c h)));
+  }

@@ -1,23 +1,22 @@
 -- The keys below a prefix stand together, from the first that is not before the prefix's text on.
 use Rattle.std.proofs.Common.{◌≡◌, ◌≢◌, ℕ, suc, ◌+◌, ◌-◌, ◌<◌, ◌≤◌, Bool, true, false, cond, List, [], ◌∷◌, ◌++◌, length, get_or, take, drop, slice_range, refl, sym, ap, subst, ◌∙◌, append_assoc, append-nil, Some, None, Option, option_map, arith}
-use Rattle.std.specs.Prelude.{All, filter, filter_map, is_some, map}
+use Rattle.std.specs.Prelude.{All, filter, filter_map, is_some}
 use Rattle.std.specs.declared.cmp.Ordering.TheVariants.{Less, Equal, Greater}
 use Rattle.std.specs.Ordering.{is_lt, nat_cmp, ordering_then}
 use Rattle.std.specs.FinMap.{nat_cmp-IsAntisymmetric}
 use Rattle.std.specs.List.{cons_option}
 use Rattle.std.specs.Map.{keys_of}
 use Rattle.std.proofs.lemmas.Cmp.{nat_cmp_total, nat_list_cmp_total, tied_itself}
-use Rattle.std.proofs.lemmas.List.{drop_all, get_or-map, take-map, drop-map}
+use Rattle.std.proofs.lemmas.List.{drop_all, take-map, drop-map}
 use Rattle.std.proofs.Math.Seq.{drop-cons}
 use Rattle.std.proofs.lemmas.List.Edits.{split_between}
-use Rattle.std.proofs.lemmas.List.Elements.{All-head, All-tail, All-map, filter-append, filter_map-append}
+use Rattle.std.proofs.lemmas.List.Elements.{All-head, All-tail, All-map, filter-append}
 use Rattle.std.proofs.lemmas.Map.Entries.{length-keys_of}
-use Rattle.zarrs_store.specs.Segments.{Segments, bytes_cmp, bytes_eq, key_text, prefix_text, IsKey, IsPrefix}
+use Rattle.zarrs_store.specs.Segments.{Segments, bytes_cmp, key_text, prefix_text, IsKey, IsPrefix}
 use Rattle.zarrs_store.specs.Entries.{beyond, is_below, is_one, is_child_key, first_of_more, child_name}
 use Rattle.zarrs_store.specs.Places.{text_cmp, AreAscending, IsRange}
 use Rattle.zarrs_store.proofs.BelowLemmas.{from_beyond, key_text-below, beyond-text}
 use Rattle.zarrs_store.proofs.EntryLemmas.{shown}
-use Rattle.zarrs_store.proofs.ListLemmas.{fresh, child_of}
 use Rattle.zarrs_store.proofs.PlaceLemmas.{less_of, keys_of-shown, all_before, at_from, all_from, all_between, up_to, on_from, keys_before, keys_from}
 
 -- ---- texts that begin with a text
@@ -175,18 +174,8 @@ module _ {X Y : Type 0} (f : X → Y) (es : List (Segments × X)) (p : Segments)
   within : All (λ k. is_below p k ≡ true) ks
   within = subst (All (λ k. is_below p k ≡ true)) (keys_between es p first end) own.within
 
-  -- the range lies in the entries
-  pub range_ends : end ≤ length es
-  range_ends = omega (arith, own.inside, length-keys_of es)
-
   whole : keys_of es ≡ take first (keys_of es) ++ (ks ++ drop end (keys_of es))
   whole = split_between (keys_of es) first end own.ordered ∙ ap (λ x. take first (keys_of es) ++ (x ++ drop end (keys_of es))) (keys_between es p first end)
-
-  -- what stands in the range is below the prefix
-  pub below_there : (i : ℕ) (x : Segments × X) → i < length (slice_range es first end) → x ≡ get_or (slice_range es first end) i x → is_below p x.0 ≡ true
-  below_there i x lt is =
-      ap (λ (e : Segments × X). is_below p e.0) is ∙ ap (is_below p) (sym (get_or-map (λ (e : Segments × X). e.0) (slice_range es first end) i x x.0 lt))
-      ∙ within i x.0 (omega (arith, lt, length-keys_of (slice_range es first end)))
 
   -- a test that no key outside passes keeps the same of the range as of all
   pub range_filter : (t : Segments → Bool) → ((k : Segments) → is_below p k ≡ false → t k ≡ false) → filter t ks ≡ filter t (keys_of es)
@@ -200,15 +189,6 @@ module _ {X Y : Type 0} (f : X → Y) (es : List (Segments × X)) (p : Segments)
   -- all keys below the prefix are those in the range
   pub range_below : filter (is_below p) (keys_of es) ≡ ks
   range_below = sym (range_filter (is_below p) (λ k e. e)) ∙ filter_all (is_below p) ks within
-
-  -- and so does a function that gives nothing of the keys outside
-  pub range_filter_map : {Z : Type 0} (h : Segments → Option Z) → ((k : Segments) → is_below p k ≡ false → h k ≡ None) → filter_map h ks ≡ filter_map h (keys_of es)
-  range_filter_map h outside =
-      sym (ap (filter_map h) whole ∙ filter_map-append h (take first (keys_of es)) (ks ++ drop end (keys_of es))
-      ∙ ap (λ x. x ++ filter_map h (ks ++ drop end (keys_of es))) (filter_map_none h (take first (keys_of es)) (λ i d l. outside (get_or (take first (keys_of es)) i d) (own.before i d l)))
-      ∙ filter_map-append h ks (drop end (keys_of es))
-      ∙ ap (λ x. filter_map h ks ++ x) (filter_map_none h (drop end (keys_of es)) (λ i d l. outside (get_or (drop end (keys_of es)) i d) (own.behind i d l)))
-      ∙ append-nil (filter_map h ks))
 
 -- outside there is no child key
 pub no_child_key : (p k : Segments) → is_below p k ≡ false → is_child_key p k ≡ false
@@ -243,31 +223,6 @@ module _ {X : Type 0} (k : Segments) (v : X) (es rest : List (Segments × X)) (i
   pub dropped_step : (t : Segments → Bool) (xs zs : List Segments) → t k ≡ false → xs ++ filter t (keys_of es) ≡ zs → xs ++ filter t (keys_of rest) ≡ zs
   dropped_step t xs zs fails h =
       ap (λ b. xs ++ cond b (k ∷ filter t (keys_of rest)) (filter t (keys_of rest))) (sym fails) ∙ ap (λ e. xs ++ filter t (keys_of e)) (sym is) ∙ h
-
-  module _ (p : Segments) (last : List ℕ) (xs zs : List Segments) (h : xs ++ map (child_of p) (fresh last (filter_map (child_name p) (keys_of es))) ≡ zs) where
-    after_key : (o : Option (List ℕ)) → child_name p k ≡ o → xs ++ map (child_of p) (fresh last (cons_option o (filter_map (child_name p) (keys_of rest)))) ≡ zs
-    after_key o e =
-        ap (λ o. xs ++ map (child_of p) (fresh last (cons_option o (filter_map (child_name p) (keys_of rest))))) (sym e)
-        ∙ ap (λ x. xs ++ map (child_of p) (fresh last (filter_map (child_name p) (keys_of x)))) (sym is) ∙ h
-
-    -- a key that stands in no child adds none
-    pub no_name_step : child_name p k ≡ None → xs ++ map (child_of p) (fresh last (filter_map (child_name p) (keys_of rest))) ≡ zs
-    no_name_step e = after_key None e
-
-    -- a key in the last child adds none
-    pub same_name_step : (n : List ℕ) → child_name p k ≡ Some n → bytes_eq n last ≡ true → xs ++ map (child_of p) (fresh last (filter_map (child_name p) (keys_of rest))) ≡ zs
-    same_name_step n e again =
-        ap (λ b. xs ++ map (child_of p) (cond b (fresh last (filter_map (child_name p) (keys_of rest))) (n ∷ fresh n (filter_map (child_name p) (keys_of rest))))) (sym again)
-        ∙ after_key (Some n) e
-
-    -- a key in another child adds that
-    pub new_name_step : (n : List ℕ) (c : Segments) (ys : List Segments) → child_name p k ≡ Some n → bytes_eq n last ≡ false → ys ≡ xs ++ c ∷ [] → c ≡ child_of p n
-        → ys ++ map (child_of p) (fresh n (filter_map (child_name p) (keys_of rest))) ≡ zs
-    new_name_step n c ys e other pushed same =
-        ap (λ y. y ++ map (child_of p) (fresh n (filter_map (child_name p) (keys_of rest)))) (pushed ∙ ap (λ x. xs ++ x ∷ []) same)
-        ∙ append_assoc xs (child_of p n ∷ []) (map (child_of p) (fresh n (filter_map (child_name p) (keys_of rest))))
-        ∙ ap (λ b. xs ++ map (child_of p) (cond b (fresh last (filter_map (child_name p) (keys_of rest))) (n ∷ fresh n (filter_map (child_name p) (keys_of rest))))) (sym other)
-        ∙ after_key (Some n) e
 
 -- of two segments or more there is not just one
 one_of_more : (o : Option Segments) (n : List ℕ) → first_of_more o ≡ Some n → is_one o ≡ false

@@ -9,6 +9,7 @@ mod children;
 mod fault;
 mod fault_store;
 mod key;
+mod listing;
 mod memory_store;
 mod places;
 mod prefix;

@@ -1,11 +1,13 @@
-ghost use Rattle.std.specs.Prelude.{◌≡◌, ◌≤◌, ◌*◌, false, [], length, IsOk, OnOk, OnErr, IfOk, IfErr};
+ghost use Rattle.std.specs.Prelude.{◌≡◌, ◌≤◌, ◌+◌, ◌*◌, suc, false, [], length, IsOk, OnOk, OnErr, IfOk, IfErr};
 ghost use Rattle.std.specs.Map.{keys_of};
 ghost use Rattle.zarrs_store.specs.Segments.{key_cmp};
+ghost use Rattle.zarrs_store.specs.Contents.{Lists, IsChildKey, IsChildPrefix};
 ghost use Rattle.zarrs_store.specs.Faults.{IsStoreError};
 ghost use Rattle.zarrs_store.specs.Places.{IsAt, IsGap, IsRange, digits};
 ghost use Rattle.std.specs.FinMap as map;
 
 use crate::key::StoreKey;
+use crate::listing::directly_below;
 use crate::places::{place_of, range_of};
 use crate::prefix::StorePrefix;
 use crate::storage_error::StorageError;
@@ -93,6 +95,30 @@ impl MemoryStore {
         range_of(&self.entries, prefix)
     }
 
+    /// What `list_dir` answers, and the number of comparisons of keys: one for each key and each child that it answers, and those that find
+    /// where the keys below the prefix and those of each child end, each time at most twice as many as the number of keys has binary digits.
+    ///
+    /// # Errors
+    /// `StorageError::OutOfMemory`.
+    ///
+    /// Source: own.
+    pub fn list_dir_counted(
+        &self,
+        alloc: Global,
+        prefix: &StorePrefix,
+    ) -> Result<(StoreKeysPrefixes, u64), StorageError>
+        ensures keys { IfOk result (λ dir. Lists (IsChildKey (map.from_entries {R = key_cmp} self.now) prefix.now) dir.0.keys.items) }
+        ensures prefixes { IfOk result (λ dir. Lists (IsChildPrefix (map.from_entries {R = key_cmp} self.now) prefix.now) dir.0.prefixes.items) }
+        ensures comparisons { IfOk result (λ dir. dir.1 ≤ length dir.0.keys.items + length dir.0.prefixes.items
+            + suc (length dir.0.prefixes.items) * (2 * digits (length self.now))) }
+        ensures err { IfErr result (IsStoreError false) }
+    {
+        let _valid = prefix.as_str();
+        let (first, end, searched) = self.range_counted(prefix);
+        let (dir, compared) = directly_below(alloc, &self.entries, prefix, first, end)?;
+        Ok((dir, u64::from(searched) + compared))
+    }
+
     // What `find_counted` finds; a key behind the last is told by one comparison, with no search.
     fn place(&self, key: &StoreKey) -> Result<usize, usize>
         ensures found { IfOk result (IsAt (keys_of self.now) key.now) }
@@ -157,8 +183,8 @@ impl ListableStorageTraits for MemoryStore {
         Ok(below)
     }
 
-    /// The keys and the child prefixes directly below the prefix, ascending by their texts. Only the keys below the prefix are walked,
-    /// and memory is taken only for those and for each child once.
+    /// The keys and the child prefixes directly below the prefix, ascending by their texts, as `list_dir_counted` finds them.
+    /// Memory is taken only for those, and for each child once.
     ///
     /// # Errors
     /// `StorageError::OutOfMemory`.
@@ -167,22 +193,7 @@ impl ListableStorageTraits for MemoryStore {
         alloc: Global,
         prefix: &StorePrefix,
     ) -> Result<StoreKeysPrefixes, StorageError> {
-        let (first, end, _) = self.range_counted(prefix);
-        let mut keys = Vec::new(alloc);
-        let mut prefixes = Vec::new(alloc);
-        let mut last = "";
-        for (key, _) in &self.entries.as_slice()[first..end] {
-            let Some(name) = prefix.child_name(key) else {
-                keys.push(key.try_clone(alloc)?)?;
-                continue;
-            };
-            if name == last {
-                continue;
-            }
-            prefixes.push(prefix.child(alloc, name)?)?;
-            last = name;
-        }
-        Ok(StoreKeysPrefixes { keys, prefixes })
+        Ok(self.list_dir_counted(alloc, prefix)?.0)
     }
 }
 

@@ -1,5 +1,5 @@
-// Where keys stand among entries that ascend by their texts. Each search halves what is left, by one comparison a round, and counts them.
-ghost use Rattle.std.specs.Prelude.{◌≡◌, ◌≤◌, ◌*◌, true, false, length, IfOk, IfErr, All, take, drop, slice_range};
+// Where keys stand among entries that ascend by their texts. Each search counts its comparisons: most halve what is left at each, one goes on from its start.
+ghost use Rattle.std.specs.Prelude.{◌≡◌, ◌≤◌, ◌-◌, ◌*◌, max, true, false, length, IfOk, IfErr, All, take, drop, slice_range};
 ghost use Rattle.std.specs.Map.{keys_of};
 ghost use Rattle.std.specs.Ordering.{is_lt};
 ghost use Rattle.zarrs_store.specs.Segments.{bytes_cmp, key_text, prefix_text, IsKey, IsPrefix};
@@ -78,6 +78,39 @@ fn end_from(entries: &[(StoreKey, Vec<u8>)], prefix: &StorePrefix, first: usize)
     let mut comparisons = 0;
     while low < high {
         let middle = low + (high - low) / 2;
+        comparisons += 1;
+        if prefix.is_above(&entries[middle].0) {
+            low = middle + 1;
+        } else {
+            high = middle;
+        }
+    }
+    (low, comparisons)
+}
+
+// The end of the keys below the prefix among those from `first` on, where they begin, if there are any. It is looked for near `first`:
+// each step doubles how many are found, until a key is not below; then what is between is halved.
+pub(crate) fn end_near(
+    entries: &[(StoreKey, Vec<u8>)],
+    prefix: &StorePrefix,
+    first: usize,
+) -> (usize, u32)
+    requires ascending { AreAscending entries.now }
+    requires valid { IsPrefix prefix.now }
+    requires inside { first ≤ length entries.now }
+    requires from { All (λ e. is_lt (bytes_cmp (key_text e.0) (prefix_text prefix.now)) ≡ false) (drop first entries.now) }
+    ensures ordered { first ≤ result.0 }
+    ensures inside { result.0 ≤ length entries.now }
+    ensures within { All (λ e. is_below prefix.now e.0 ≡ true) (slice_range entries.now first result.0) }
+    ensures behind { All (λ e. is_below prefix.now e.0 ≡ false) (drop result.0 entries.now) }
+    ensures comparisons { result.1 ≤ max 1 (2 * digits (result.0 - first)) }
+{
+    let mut low = first;
+    let mut high = entries.len();
+    let mut comparisons = 0;
+    while low < high {
+        let step = (low - first).saturating_sub(1).min((high - low) / 2);
+        let middle = low + step;
         comparisons += 1;
         if prefix.is_above(&entries[middle].0) {
             low = middle + 1;

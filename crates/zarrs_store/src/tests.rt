@@ -424,6 +424,101 @@ fn a_child_with_many_keys_is_listed_once(rt: HostRuntime) -> Result<(), Fail> {
     has_children(alloc, &store, "", ("", "a/ b/ "))
 }
 
+#[test]
+fn lists_what_stands_beside_runs_of_keys(rt: HostRuntime) -> Result<(), Fail> {
+    let alloc = rt.alloc();
+    let store = store_of(
+        alloc,
+        &[
+            "a-b/0", "a/0", "a/1", "a/2", "a/c/0/0", "a/c/0/1", "a/c/1/0", "a0/0", "b/x/y",
+        ],
+    )?;
+    lists_runs(alloc, &store)
+}
+
+fn lists_runs(alloc: Global, store: &MemoryStore) -> Result<(), Fail> {
+    for (below, keys, prefixes) in [
+        ("", "", "a-b/ a/ a0/ b/ "),
+        ("a/", "a/0 a/1 a/2 ", "a/c/ "),
+        ("a/c/", "", "a/c/0/ a/c/1/ "),
+        ("a/c/0/", "a/c/0/0 a/c/0/1 ", ""),
+        ("a-/", "", ""),
+        ("b/x/", "b/x/y ", ""),
+        ("c/", "", ""),
+    ] {
+        has_children(alloc, store, below, (keys, prefixes))?;
+    }
+    Ok(())
+}
+
+#[test]
+fn an_empty_store_has_no_children(rt: HostRuntime) -> Result<(), Fail> {
+    let alloc = rt.alloc();
+    let store = MemoryStore::new(alloc);
+    has_children(alloc, &store, "", ("", ""))?;
+    counts(alloc, &store, "", 0, 0)
+}
+
+// How many comparisons of keys a store makes to list what stands directly below a prefix.
+fn comparisons_below(alloc: Global, store: &MemoryStore, below: &str) -> Result<u64, Fail> {
+    let prefix = prefix(alloc, below)?;
+    let (_, comparisons) = store.list_dir_counted(alloc, &prefix)?;
+    Ok(comparisons)
+}
+
+// Asks that a store makes so many comparisons of keys, from the least to the most.
+fn counts(
+    alloc: Global,
+    store: &MemoryStore,
+    below: &str,
+    least: u64,
+    most: u64,
+) -> Result<(), Fail> {
+    let found = comparisons_below(alloc, store, below)?;
+    if least <= found && found <= most {
+        Ok(())
+    } else {
+        Err(Fail::new(format_args!(
+            "below {below}: {found} comparisons in place of {least} to {most}"
+        )))
+    }
+}
+
+// Of three keys the search for the first makes two comparisons, that for the end two; `a/0` is looked at, `a/1` and `b/0` are found to be
+// and not to be in `a/`, and `b/0` is looked at.
+#[test]
+fn counts_the_comparisons_of_a_listing(rt: HostRuntime) -> Result<(), Fail> {
+    let alloc = rt.alloc();
+    let store = store_of(alloc, &["a/0", "a/1", "b/0"])?;
+    counts(alloc, &store, "", 8, 8)
+}
+
+// Sets two hundred keys of chunks below `a/c/`, of ten in a row.
+fn set_chunks(alloc: Global, store: &mut MemoryStore) -> Result<(), Fail> {
+    for i in 0..200u32 {
+        let at = format!(in alloc; "a/c/{}/{}", i / 10, i % 10)?;
+        set(alloc, store, at.as_str(), b"x")?;
+    }
+    Ok(())
+}
+
+// The number of all keys, 203, has eight binary digits: each search takes sixteen comparisons at most.
+fn leaps_over_chunks(alloc: Global, store: &MemoryStore) -> Result<(), Fail> {
+    has_children(alloc, store, "", ("zarr.json ", "a/ b/ "))?;
+    has_children(alloc, store, "a/", ("a/zarr.json ", "a/c/ "))?;
+    counts(alloc, store, "", 4, 51)?;
+    counts(alloc, store, "a/", 3, 34)?;
+    counts(alloc, store, "a/c/19/", 10, 26)
+}
+
+#[test]
+fn a_listing_leaps_over_the_chunks_of_an_array(rt: HostRuntime) -> Result<(), Fail> {
+    let alloc = rt.alloc();
+    let mut store = store_of(alloc, &["a/zarr.json", "b/zarr.json", "zarr.json"])?;
+    set_chunks(alloc, &mut store)?;
+    leaps_over_chunks(alloc, &store)
+}
+
 // The children that are discovered below a prefix.
 fn children_of(alloc: Global, store: &MemoryStore, below: &str) -> Result<Vec<StorePrefix>, Fail> {
     let prefix = prefix(alloc, below)?;
