@@ -1,5 +1,5 @@
 -- The block of what paths mean, and the documents that count for it.
-use Rattle.std.proofs.Common.{◌≡◌, ℕ, Bool, true, false, true≢false, not, cond, ◌||◌, List, [], ◌∷◌, ◌++◌, Option, Some, None, refl, sym, ap, subst, ◌∙◌, bytes_eq, is_eq, length, arith}
+use Rattle.std.proofs.Common.{◌≡◌, ℕ, Bool, true, false, true≢false, not, cond, ◌||◌, List, [], ◌∷◌, ◌++◌, Option, Some, None, refl, sym, ap, subst, ◌∙◌, bytes_eq, is_eq}
 use Rattle.std.specs.List.{AllByRecursion, list_all, list_any, filter}
 use Rattle.std.proofs.lemmas.Bool.{and_from}
 use Rattle.std.proofs.lemmas.List.Elements.{All-filter, All-from_recursion, recursion_from_All}
@@ -9,9 +9,8 @@ use Rattle.serde_json.specs.Find.{get_member}
 use Rattle.zarrs_store.specs.Segments.{Segments, bytes_cmp, key_text, last_segment}
 use Rattle.zarrs_store.proofs.ChildLemmas.{last_segment-child}
 use Rattle.zarrs_path.specs.Names.{is_name}
-use Rattle.zarrs_path.specs.Paths.{Path, IsPath, path_eq, relative_names, without_leading_slash}
+use Rattle.zarrs_path.specs.Paths.{Path, IsPath, path_eq}
 use Rattle.zarrs_path.specs.PathOrder.{path_decides}
-use Rattle.zarrs_path.proofs.Relative.{relative_of_text}
 use Rattle.zarrs_form.specs.Forms.{is_nil}
 use Rattle.zarrs_meta.specs.declared.node.NodeMetadata.{NodeMetadata}
 use Rattle.zarrs_block.specs.Block.{Block, found}
@@ -19,24 +18,13 @@ use Rattle.zarrs_block.specs.Meaning.{Meaning, node, nothing, bad}
 use Rattle.zarrs_block.specs.Small.{is_document_v2, stretches, counted}
 use Rattle.zarrs_block.specs.Zmetadata.{before_last, below, is_bad, is_good, with_node, block_from}
 use Rattle.zarrs_block.proofs.Expansion.{same_text, at_itself}
-use Rattle.zarrs_block.proofs.KeyLaws.{text_bare}
+use Rattle.zarrs_block.proofs.KeyLaws.{one_text, slash_apart}
 use Rattle.zarrs_block.proofs.Puts.{found_put}
 use Rattle.zarrs_block.proofs.SmallStores.{before_last-child}
 use Rattle.zarrs_block.proofs.SmallLaws.{stretches_of, got_member}
 use Rattle.zarrs_block.proofs.ZmetadataDocuments.{IsNamed, AreNamed}
 
 -- ---- the block of what paths mean
-
--- names with one text are one
-one_text : (p q : Path) → IsPath p → IsPath q → key_text p ≡ key_text q → p ≡ q
-one_text p q h g e = sym (relative_of_text p h) ∙ ap relative_names e ∙ relative_of_text q g
-
--- the text of names is not that of others behind a slash
-slash_apart : (p q : Path) → IsPath q → 47 ∷ key_text p ≡ key_text q → ⊥
-slash_apart p q g e =
-    let bare : key_text p ≡ key_text q = ap without_leading_slash e ∙ text_bare q g in
-    let long = ap length (e ∙ sym bare) in
-    omega (arith, long)
 
 -- the node that a path means, if it means one
 abbrev pub node_of : Meaning → Option NodeMetadata

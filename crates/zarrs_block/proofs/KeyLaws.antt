@@ -99,6 +99,17 @@ bare_key B (c ∷ t) e =
 pub text_bare : (p : Path) → IsPath p → without_leading_slash (key_text p) ≡ key_text p
 text_bare p h = sym (text_of_relative (key_text p)) ∙ ap key_text (relative_of_text p h)
 
+-- names with one text are one
+pub one_text : (p q : Path) → IsPath p → IsPath q → key_text p ≡ key_text q → p ≡ q
+one_text p q h g e = sym (relative_of_text p h) ∙ ap relative_names e ∙ relative_of_text q g
+
+-- the text of names is not that of others behind a slash
+pub slash_apart : (p q : Path) → IsPath q → 47 ∷ key_text p ≡ key_text q → ⊥
+slash_apart p q g e =
+    let bare : key_text p ≡ key_text q = ap without_leading_slash e ∙ text_bare q g in
+    let long = ap length (e ∙ sym bare) in
+    omega (arith, long)
+
 -- nor is one that was not found to begin with a slash
 pub no_slash : (B : Block) (t : List ℕ) → ((rest : List ℕ) → t ≢ 47 ∷ rest) → false ≡ is_covered B t
 no_slash B [] h = refl

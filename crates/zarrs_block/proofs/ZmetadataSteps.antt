@@ -32,9 +32,10 @@ use Rattle.zarrs_meta.specs.declared.node.NodeMetadata.{NodeMetadata}
 use Rattle.zarrs_block.specs.Block.{Block, IsAscending, found, put}
 use Rattle.zarrs_block.specs.Small.{is_document_v2, stretches, counted}
 use Rattle.zarrs_block.specs.Zmetadata.{one, before_last, below, small_block, zmetadata_members, zmetadata_of, HoldsStore, IsClean}
-use Rattle.zarrs_block.specs.ZmetadataRead.{file_name, is_file, member_at, read_files, tree_in, tree_at, is_below, IsPlace, are_named, RefusesNames, HoldsNodes, RefusesTrees, zmetadata_taken}
+use Rattle.zarrs_block.specs.ZmetadataRead.{file_name, is_file, member_at, first_tree, gathered_at, read_files, tree_in, tree_at, is_below, IsPlace, are_named, RefusesNames, HoldsNodes, RefusesTrees, zmetadata_taken}
 use Rattle.zarrs_block.specs.declared.consolidated.ConsolidatedMetadata.{ConsolidatedMetadata}
 use Rattle.zarrs_block.specs.declared.zmetadata.Documents.{Documents}
+use Rattle.zarrs_block.specs.declared.zmetadata.Run.{Run}
 use Rattle.zarrs_block.specs.declared.zmetadata.File.{File}
 use Rattle.zarrs_block.specs.declared.zmetadata.File.TheVariants.{Array as array_file, Group as group_file, Attributes as attributes_file}
 use Rattle.zarrs_block.proofs.Expansion.{at_itself, same_text}
@@ -121,15 +122,14 @@ named_cons u d ms = by (is_document_v2 (last_segment (stretches u))) (is_nil (be
 
 -- ---- the documents at the texts of their paths
 
--- the first document, where there is one, and else the second
-abbrev pub first_tree : Option Data → Option Data → Option Data
-first_tree (Some d) other = Some d
-first_tree None other = other
+-- the documents that were gathered so far, by the texts of their paths
+abbrev pub Gathered : Type 0
+Gathered = List ℕ → File → Option Data
 
--- members of a map that are left: what all members have is what these have, or else what was put; and the names are those of nodes where those that are left are
-pub record IsGathered (ms : Members) (all : BTreeMap (String Global) Documents) (left : List Entry) : Type 0 where
+-- members of a map that are left: what all members have is what these have, or else what was gathered; and the names are those of nodes where those that are left are
+pub record IsGathered (ms : Members) (got : Gathered) (left : List Entry) : Type 0 where
   pub up : IsStrictlySortedBy string_cmp (keys_of left)
-  pub here : (t : List ℕ) (file : File) → member_at ms t file ≡ first_tree (member_at (members_view left) t file) (tree_at all t file)
+  pub here : (t : List ℕ) (file : File) → member_at ms t file ≡ first_tree (member_at (members_view left) t file) (got t file)
   pub named : are_named ms ≡ are_named (members_view left)
 
 -- a member whose name is before all others stands at it alone
@@ -146,39 +146,36 @@ first_none None = refl
 first_none (Some d) = refl
 
 -- at first all members are left
-pub none_gathered : (es left : List Entry) (all : BTreeMap (String Global) Documents) → left ≡ es → all.entries ≡ [] → IsStrictlySortedBy string_cmp (keys_of es) → IsGathered (members_view es) all left
-none_gathered es left all is empty up = record {
+pub none_gathered : (es left : List Entry) (got : Gathered) → left ≡ es → ((t : List ℕ) (file : File) → got t file ≡ None) → IsStrictlySortedBy string_cmp (keys_of es) → IsGathered (members_view es) got left
+none_gathered es left got is none up = record {
   up = subst (λ xs. IsStrictlySortedBy string_cmp (keys_of xs)) (sym is) up;
   here = λ t file.
       first_none (member_at (members_view es) t file)
-      ∙ ap (λ o. first_tree (member_at (members_view es) t file) (option_and_then (λ (h : Documents). tree_in h file) o)) (sym (none t))
-      ∙ ap (λ xs. first_tree (member_at (members_view xs) t file) (tree_at all t file)) (sym is);
+      ∙ ap (first_tree (member_at (members_view es) t file)) (sym (none t file))
+      ∙ ap (λ xs. first_tree (member_at (members_view xs) t file) (got t file)) (sym is);
   named = ap (λ xs. are_named (members_view xs)) (sym is);
 }
-  where
-    none : (t : List ℕ) → get_by_text all t ≡ None
-    none t = ap (lookup (is_at (λ k. slice_cmp nat_cmp t (string_bytes k)))) empty
 
-module _ (ms : Members) (all : BTreeMap (String Global) Documents) (left : List Entry) (e : Entry) (es : List Entry) (is : left ≡ e ∷ es) (h : IsGathered ms all left) where
+module _ (ms : Members) (got : Gathered) (left : List Entry) (e : Entry) (es : List Entry) (is : left ≡ e ∷ es) (h : IsGathered ms got left) where
   -- what was gathered before this member
-  before : IsGathered ms all (e ∷ es)
-  before = subst (IsGathered ms all) is h
+  before : IsGathered ms got (e ∷ es)
+  before = subst (IsGathered ms got) is h
 
   -- a member that does not count is passed over
-  pub passed_over : is_below (string_bytes e.0) ≡ false → IsGathered ms all es
+  pub passed_over : is_below (string_bytes e.0) ≡ false → IsGathered ms got es
   passed_over none = record {
     up = sorted_tail string_cmp e.0 (keys_of es) before.up;
     here = λ t file.
         before.here t file
-        ∙ ap (λ o. first_tree o (tree_at all t file)) (member_later (t ++ 47 ∷ file_name file) e es (λ same. true≢false (sym (file_below t file) ∙ ap is_below same ∙ none)));
+        ∙ ap (λ o. first_tree o (got t file)) (member_later (t ++ 47 ∷ file_name file) e es (λ same. true≢false (sym (file_below t file) ∙ ap is_below same ∙ none)));
     named =
         before.named ∙ named_cons (string_bytes e.0) (view e.1) (members_view es)
         ∙ ap (λ b. if b then list_all is_name (before_last (stretches (string_bytes e.0))) && are_named (members_view es) else are_named (members_view es)) none;
   }
 
-  -- one that counts below names is put at the text of its path
-  pub put_there : (new : BTreeMap (String Global) Documents) (path : List ℕ) (file : File) → string_bytes e.0 ≡ path ++ 47 ∷ file_name file → IsPath (stretches path)
-      → ((t : List ℕ) (other : File) → tree_at new t other ≡ (if bytes_eq path t && is_file file other then Some (view e.1) else tree_at all t other)) → IsGathered ms new es
+  -- one that counts below names is gathered at the text of its path
+  pub put_there : (new : Gathered) (path : List ℕ) (file : File) → string_bytes e.0 ≡ path ++ 47 ∷ file_name file → IsPath (stretches path)
+      → ((t : List ℕ) (other : File) → new t other ≡ (if bytes_eq path t && is_file file other then Some (view e.1) else got t other)) → IsGathered ms new es
   put_there new path file name valid fresh = record {
     up = sorted_tail string_cmp e.0 (keys_of es) before.up;
     here = λ t other. before.here t other ∙ by t other (bytes_eq path t && is_file file other) refl;
@@ -198,16 +195,16 @@ module _ (ms : Members) (all : BTreeMap (String Global) Documents) (left : List 
           true≢false (sym (and_from (bytes_eq path t) (is_file file other) ((bytes_eq-Decides path t).1 texts) ((bytes_eq-Decides (file_name file) (file_name other)).1 files)) ∙ differ)
 
       by : (t : List ℕ) (other : File) (b : Bool) → (bytes_eq path t && is_file file other) ≡ b
-          → first_tree (member_at (members_view (e ∷ es)) t other) (tree_at all t other) ≡ first_tree (member_at (members_view es) t other) (tree_at new t other)
+          → first_tree (member_at (members_view (e ∷ es)) t other) (got t other) ≡ first_tree (member_at (members_view es) t other) (new t other)
       by t other true at =
           let both = and_parts (bytes_eq path t) (is_file file other) at in
           let same : t ++ 47 ∷ file_name other ≡ string_bytes e.0 = (λ i. sym ((bytes_eq-Decides path t).0 both.0) i ++ 47 ∷ sym ((bytes_eq-Decides (file_name file) (file_name other)).0 both.1) i) ∙ sym name in
-          ap (λ o. first_tree o (tree_at all t other)) (member_here (t ++ 47 ∷ file_name other) e es same)
-          ∙ sym (ap (λ o. first_tree o (tree_at new t other)) (ap (λ u. get_member u (members_view es)) same ∙ alone e.0 es (sorted_head string_cmp e.0 (keys_of es) before.up))
-          ∙ fresh t other ∙ ap (λ b. if b then Some (view e.1) else tree_at all t other) at)
+          ap (λ o. first_tree o (got t other)) (member_here (t ++ 47 ∷ file_name other) e es same)
+          ∙ sym (ap (λ o. first_tree o (new t other)) (ap (λ u. get_member u (members_view es)) same ∙ alone e.0 es (sorted_head string_cmp e.0 (keys_of es) before.up))
+          ∙ fresh t other ∙ ap (λ b. if b then Some (view e.1) else got t other) at)
       by t other false at =
-          ap (λ o. first_tree o (tree_at all t other)) (member_later (t ++ 47 ∷ file_name other) e es (apart t other at))
-          ∙ ap (λ o. first_tree (member_at (members_view es) t other) o) (sym (fresh t other ∙ ap (λ b. if b then Some (view e.1) else tree_at all t other) at))
+          ap (λ o. first_tree o (got t other)) (member_later (t ++ 47 ∷ file_name other) e es (apart t other at))
+          ∙ ap (λ o. first_tree (member_at (members_view es) t other) o) (sym (fresh t other ∙ ap (λ b. if b then Some (view e.1) else got t other) at))
 
   -- one that counts below no names is refused
   pub names_are_bad : is_below (string_bytes e.0) ≡ true → list_all is_name (before_last (stretches (string_bytes e.0))) ≡ false → are_named ms ≡ false
@@ -227,39 +224,80 @@ module _ (ms : Members) (all : BTreeMap (String Global) Documents) (left : List 
   refused_place (BadMember name) refused = (refused.0, names_are_bad refused.1 refused.2)
   refused_place OutOfMemory refused = tt
 
--- where none is left, all are put
-pub all_gathered : (ms : Members) (all : BTreeMap (String Global) Documents) (left : List Entry) → left ≡ [] → IsGathered ms all left
-    → ((t : List ℕ) (file : File) → tree_at all t file ≡ member_at ms t file) × IsTrue (are_named ms)
-all_gathered ms all left is h =
-    let done : IsGathered ms all [] = subst (IsGathered ms all) is h in
+-- where none is left, all are gathered
+pub all_gathered : (ms : Members) (got : Gathered) (left : List Entry) → left ≡ [] → IsGathered ms got left → ((t : List ℕ) (file : File) → got t file ≡ member_at ms t file) × IsTrue (are_named ms)
+all_gathered ms got left is h =
+    let done : IsGathered ms got [] = subst (IsGathered ms got) is h in
     (λ t file. sym (done.here t file), done.named)
 
--- ---- one document put
+-- ---- runs of documents
 
--- the documents at a text taken out and put back with one more are those of before and that one
-pub put_tree : (old mid new : BTreeMap (String Global) Documents) (p : List ℕ) (k : String Global) (file : File) (d : Data) (was now : Documents) → string_bytes k ≡ p
-    → UpdatesBy string_cmp (λ x. slice_cmp nat_cmp p (string_bytes x)) old mid None → UpdatesBy string_cmp (string_cmp k) mid new (Some now)
-    → ((other : File) → tree_in was other ≡ tree_at old p other)
-    → ((other : File) → tree_in now other ≡ (if is_file file other then Some d else tree_in was other))
-    → (t : List ℕ) (other : File) → tree_at new t other ≡ (if bytes_eq p t && is_file file other then Some d else tree_at old t other)
-put_tree old mid new p k file d was now key gone there before after t other =
-    ap (option_and_then (λ (h : Documents). tree_in h other)) found_new ∙ by (bytes_eq p t) refl
-  where
-    found_new : get_by_text new t ≡ cond (bytes_eq p t) (Some now) (get_by_text old t)
-    found_new =
-        btree_map_updates_text (string_bytes k) mid new (Some now) there t
-        ∙ ap (λ q. cond (bytes_eq q t) (Some now) (get_by_text mid t)) key
-        ∙ ap (cond (bytes_eq p t) (Some now)) (btree_map_updates_text p old mid None gone t)
-        ∙ twice (bytes_eq p t)
+-- nothing is the first of two where both are none
+first_of_none : (b : Bool) (o p : Option Data) → o ≡ None → p ≡ None → first_tree (cond b o None) p ≡ None
+first_of_none true o p none empty = ap (λ x. first_tree x p) none ∙ empty
+first_of_none false o p none empty = empty
+
+-- at first nothing is gathered
+pub nothing_gathered : (all : BTreeMap (String Global) Documents) (run : Run) → all.entries ≡ [] → ((file : File) → tree_in run.documents file ≡ None) → (t : List ℕ) (file : File) → gathered_at all run t file ≡ None
+nothing_gathered all run empty none t file =
+    first_of_none (bytes_eq (string_bytes run.path) t) (tree_in run.documents file) (tree_at all t file) (none file)
+    (ap (λ es. option_and_then (λ (h : Documents). tree_in h file) (lookup (is_at (λ k. slice_cmp nat_cmp t (string_bytes k))) es)) empty)
+
+module _ (old : BTreeMap (String Global) Documents) (run : Run) where
+  -- the text of the run's path
+  abbrev own : List ℕ
+  own = string_bytes run.path
+
+  -- what all have where the documents of the run are put beside others at its path
+  beside : (new : BTreeMap (String Global) Documents) (now : Documents) → ((t : List ℕ) → get_by_text new t ≡ cond (bytes_eq own t) (Some now) (get_by_text old t))
+      → ((file : File) → tree_in now file ≡ first_tree (tree_in run.documents file) (tree_at old own file)) → (t : List ℕ) (file : File) → tree_at new t file ≡ gathered_at old run t file
+  beside new now put joined t file = ap (option_and_then (λ (h : Documents). tree_in h file)) (put t) ∙ by (bytes_eq own t) refl
+    where
+      by : (b : Bool) → bytes_eq own t ≡ b → option_and_then (λ h. tree_in h file) (cond b (Some now) (get_by_text old t)) ≡ first_tree (cond b (tree_in run.documents file) None) (tree_at old t file)
+      by true at = joined file ∙ ap (λ q. first_tree (tree_in run.documents file) (tree_at old q file)) ((bytes_eq-Decides own t).0 at)
+      by false at = refl
+
+  -- the first document, where there is one, and else none
+  or_none_is : (o : Option Data) → o ≡ first_tree o None
+  or_none_is None = refl
+  or_none_is (Some d) = refl
+
+  -- a run whose path is new is put there
+  pub first_put : (new : BTreeMap (String Global) Documents) → UpdatesBy string_cmp (string_cmp run.path) old new (Some run.documents) → get_by_text old own ≡ None
+      → (t : List ℕ) (file : File) → tree_at new t file ≡ gathered_at old run t file
+  first_put new there none =
+      beside new run.documents (btree_map_updates_text own old new (Some run.documents) there)
+      (λ file. or_none_is (tree_in run.documents file) ∙ ap (first_tree (tree_in run.documents file)) (sym (ap (option_and_then (λ (h : Documents). tree_in h file)) none)))
+
+  module _ (mid gone new : BTreeMap (String Global) Documents) (k : String Global) (earlier was now : Documents) where
+    -- a run whose path came before is put beside the documents there
+    pub put_again : (q : List ℕ) → q ≡ own → string_bytes k ≡ own → UpdatesBy string_cmp (string_cmp run.path) old mid (Some run.documents) → get_by_text old own ≡ Some earlier
+        → UpdatesBy string_cmp (λ x. slice_cmp nat_cmp q (string_bytes x)) mid gone None → UpdatesBy string_cmp (string_cmp k) gone new (Some now)
+        → ((file : File) → tree_in was file ≡ tree_at mid q file) → ((file : File) → tree_in now file ≡ first_tree (tree_in was file) (tree_in earlier file))
+        → (t : List ℕ) (file : File) → tree_at new t file ≡ gathered_at old run t file
+    put_again q text key there before out back taken joined = beside new now put_now with_earlier
       where
-        twice : (b : Bool) → cond b (Some now) (cond b None (get_by_text old t)) ≡ cond b (Some now) (get_by_text old t)
-        twice true = refl
-        twice false = refl
+        at_own : (b : Bool) (x : Documents) (o : Option Documents) → cond b (Some now) (cond b None (cond b (Some x) o)) ≡ cond b (Some now) o
+        at_own true x o = refl
+        at_own false x o = refl
 
-    by : (b : Bool) → bytes_eq p t ≡ b → option_and_then (λ h. tree_in h other) (cond b (Some now) (get_by_text old t)) ≡ (if b && is_file file other then Some d else tree_at old t other)
-    by true at =
-        after other ∙ ap (λ o. if is_file file other then Some d else o) (before other ∙ ap (λ q. tree_at old q other) ((bytes_eq-Decides p t).0 at))
-    by false at = refl
+        put_now : (t : List ℕ) → get_by_text new t ≡ cond (bytes_eq own t) (Some now) (get_by_text old t)
+        put_now t =
+            btree_map_updates_text (string_bytes k) gone new (Some now) back t
+            ∙ ap (λ q. cond (bytes_eq q t) (Some now) (get_by_text gone t)) key
+            ∙ ap (cond (bytes_eq own t) (Some now)) (btree_map_updates_text q mid gone None out t ∙ ap (λ u. cond (bytes_eq u t) None (get_by_text mid t)) text)
+            ∙ ap (λ o. cond (bytes_eq own t) (Some now) (cond (bytes_eq own t) None o)) (btree_map_updates_text own old mid (Some run.documents) there t)
+            ∙ at_own (bytes_eq own t) run.documents (get_by_text old t)
+
+        there_now : get_by_text mid own ≡ Some run.documents
+        there_now =
+            btree_map_updates_text own old mid (Some run.documents) there own
+            ∙ ap (λ b. cond b (Some run.documents) (get_by_text old own)) ((bytes_eq-Decides own own).1 refl)
+
+        with_earlier : (file : File) → tree_in now file ≡ first_tree (tree_in run.documents file) (tree_at old own file)
+        with_earlier file =
+            joined file ∙ ap (λ o. first_tree o (tree_in earlier file)) (taken file ∙ ap (λ u. tree_at mid u file) text ∙ ap (option_and_then (λ (h : Documents). tree_in h file)) there_now)
+            ∙ ap (first_tree (tree_in run.documents file)) (sym (ap (option_and_then (λ (h : Documents). tree_in h file)) before))
 
 -- ---- the nodes
 

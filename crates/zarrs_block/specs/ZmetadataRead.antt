@@ -2,9 +2,10 @@
 --     member_at ms t file      a document of version 2 that members have for the text of a path
 --     read_files document      the node that the documents of a path are, or nothing, or the first fault
 --     tree_at all t file      a document that was put at a text
+--     gathered_at all run t file      a document that a run has for a text, or that was put at it
 --     IsPlace t r      the path and the file that a member's name tells, where it counts below the group
 --     are_named ms, RefusesNames ms      the names that count below the group are those of nodes; that they are not
-use Rattle.std.specs.Prelude.{◌≡◌, ℕ, Bool, true, false, not, ◌&&◌, List, ◌∷◌, ◌++◌, Option, Some, None, Result, Ok, Err, option_map, option_and_then, String, codes, bytes_eq}
+use Rattle.std.specs.Prelude.{◌≡◌, ℕ, Bool, true, false, not, ◌&&◌, List, ◌∷◌, ◌++◌, Option, Some, None, Result, Ok, Err, option_map, option_and_then, if◌then◌else◌, String, string_bytes, codes, bytes_eq}
 use Rattle.std.specs.declared.alloc.Global.{Global}
 use Rattle.std.specs.List.{list_all}
 use Rattle.std.specs.Result.{result_ok}
@@ -37,6 +38,7 @@ use Rattle.zarrs_block.specs.Small.{is_document_v2, stretches}
 use Rattle.zarrs_block.specs.Zmetadata.{one, before_last, below, small_block}
 use Rattle.zarrs_block.specs.declared.zmetadata.Documents.{Documents}
 use Rattle.zarrs_block.specs.declared.zmetadata.File.{File}
+use Rattle.zarrs_block.specs.declared.zmetadata.Run.{Run}
 use Rattle.zarrs_block.specs.declared.zmetadata.File.TheVariants.{Array as array_file, Group as group_file, Attributes as attributes_file}
 
 -- ---- the documents of one path
@@ -81,6 +83,19 @@ tree_in all attributes_file = option_map view all.attributes
 -- the document of a file that was put at a text
 abbrev pub tree_at : BTreeMap (String Global) Documents → List ℕ → File → Option Data
 tree_at all t file = option_and_then (λ here. tree_in here file) (get_by_text all t)
+
+-- the first, where there is one, and else the second
+abbrev pub first_tree : Option Data → Option Data → Option Data
+first_tree (Some d) other = Some d
+first_tree None other = other
+
+-- the document of a file that a run has for a text: where this is that of its path
+abbrev pub run_tree : Run → List ℕ → File → Option Data
+run_tree run t file = if bytes_eq (string_bytes run.path) t then tree_in run.documents file else None
+
+-- the document of a file that a run has for a text, and else the one that was put at the text
+abbrev pub gathered_at : BTreeMap (String Global) Documents → Run → List ℕ → File → Option Data
+gathered_at all run t file = first_tree (run_tree run t file) (tree_at all t file)
 
 -- ---- the names of members
 

@@ -1,5 +1,5 @@
 //! The version 2 document of consolidated metadata, `.zmetadata`, read as a block.
-ghost use Rattle.std.specs.Prelude.{◌≡◌, ℕ, List, IfOk, IfErr, OnOk, Ok, Some, ◌&&◌, if◌then◌else◌, codes, bytes_eq, IsTrue, option_map, option_and_then};
+ghost use Rattle.std.specs.Prelude.{◌≡◌, ℕ, List, IfOk, IfErr, OnOk, Ok, Some, None, ◌&&◌, if◌then◌else◌, codes, bytes_eq, string_bytes, IsTrue, option_map, option_and_then};
 ghost use Rattle.std.specs.Result.{result_ok};
 ghost use Rattle.std.specs.List.{list_all};
 ghost use Rattle.serde_json.specs.Data.{object, Members};
@@ -17,7 +17,7 @@ ghost use Rattle.zarrs_block.specs.Block.{IsAscending, found};
 ghost use Rattle.zarrs_block.specs.Small.{stretches};
 ghost use Rattle.zarrs_block.specs.Zmetadata.{one, small_block, zmetadata_members, zmetadata_of, HoldsStore, IsClean};
 ghost use Rattle.zarrs_block.specs.declared.zmetadata.File.{File};
-ghost use Rattle.zarrs_block.specs.ZmetadataRead.{is_file, member_at, tree_in, tree_at, read_with, read_files, IsFile, IsPlace, are_named, RefusesNames, HoldsNodes, RefusesTrees, zmetadata_taken};
+ghost use Rattle.zarrs_block.specs.ZmetadataRead.{is_file, member_at, first_tree, tree_in, tree_at, gathered_at, read_with, read_files, IsFile, IsPlace, are_named, RefusesNames, HoldsNodes, RefusesTrees, zmetadata_taken};
 
 use crate::consolidated::{ConsolidatedMetadata, ConsolidatedMetadataMetadata};
 use serde_json::{Map, Value};
@@ -139,16 +139,41 @@ enum File {
     Attributes,
 }
 
+// The documents of version 2 of one path whose members stand side by side.
+#[derive(Debug, Drop)]
+struct Run {
+    path: String,
+    documents: Documents,
+}
+
 impl Documents {
+    // No documents.
+    fn none() -> Documents
+        ensures { (file : File) → tree_in result file ≡ None }
+    {
+        Documents {
+            array: None,
+            group: None,
+            attributes: None,
+        }
+    }
+
     // These documents, where there are any, or none.
     fn or_none(found: Option<Documents>) -> Documents
         ensures { (file : File) → tree_in result file ≡ option_and_then (λ here. tree_in here file) found }
     {
-        found.unwrap_or(Documents {
-            array: None,
-            group: None,
-            attributes: None,
-        })
+        found.unwrap_or(Documents::none())
+    }
+
+    // These documents, and of the files of which there is none those of the others.
+    fn or(self, others: Documents) -> Documents
+        ensures { (file : File) → tree_in result file ≡ first_tree (tree_in self file) (tree_in others file) }
+    {
+        Documents {
+            array: self.array.or(others.array),
+            group: self.group.or(others.group),
+            attributes: self.attributes.or(others.attributes),
+        }
     }
 
     // Puts a document in the place of the one that was there.
@@ -173,28 +198,72 @@ fn by_path(
     ensures err { IfErr result (RefusesNames (members_view documents.entries)) }
 {
     let mut all = Map::new(alloc);
+    let mut run = Run {
+        path: String::new(alloc),
+        documents: Documents::none(),
+    };
     for (key, document) in documents {
         match place_of(key.as_str())? {
-            Some((path, file)) => put_document(alloc, &mut all, path, file, document)?,
+            Some((path, file)) => {
+                run = put_document(alloc, &mut all, run, path, file, document)?;
+            }
             None => drop(document),
         }
     }
+    put_run(alloc, &mut all, run)?;
     Ok(all)
 }
 
-// Puts a document beside those of the same path.
+// The run with a document more where it is that of the path, and else a new run of that document, once the other is put among all.
 fn put_document(
     alloc: Global,
     all: &mut Map<String, Documents>,
+    run: Run,
     path: &str,
     file: File,
     document: Value,
-) -> Result<(), AllocError>
-    ensures { OnOk result ((t : List ℕ) (other : File) → tree_at all.new t other ≡ (if bytes_eq path.now t && is_file file other then Some (view document) else tree_at all.old t other)) }
+) -> Result<Run, AllocError>
+    ensures { IfOk result (λ next. (t : List ℕ) (other : File) → gathered_at all.new next t other ≡ (if bytes_eq path.now t && is_file file other then Some (view document) else gathered_at all.old run t other)) }
 {
-    let mut documents = Documents::or_none(all.remove(path));
+    let Run {
+        path,
+        mut documents,
+    } = run_of(alloc, all, run, path)?;
     documents.put(file, document);
-    drop(all.insert(String::from_str(alloc, path)?, documents)?);
+    Ok(Run { path, documents })
+}
+
+// The run where it is that of the path, and else a new one, once the other is put among all.
+fn run_of(
+    alloc: Global,
+    all: &mut Map<String, Documents>,
+    run: Run,
+    path: &str,
+) -> Result<Run, AllocError>
+    ensures path { IfOk result (λ next. string_bytes next.path ≡ path.now) }
+    ensures same { IfOk result (λ next. (t : List ℕ) (file : File) → gathered_at all.new next t file ≡ gathered_at all.old run t file) }
+{
+    if run.path.as_str() == path {
+        return Ok(run);
+    }
+    put_run(alloc, all, run)?;
+    Ok(Run {
+        path: String::from_str(alloc, path)?,
+        documents: Documents::none(),
+    })
+}
+
+// Puts the documents of a run at its path, beside those that were put there before.
+fn put_run(alloc: Global, all: &mut Map<String, Documents>, run: Run) -> Result<(), AllocError>
+    ensures { OnOk result ((t : List ℕ) (file : File) → tree_at all.new t file ≡ gathered_at all.old run t file) }
+{
+    let Run { path, documents } = run;
+    let again = String::from_str(alloc, path.as_str())?;
+    let Some(earlier) = all.insert(path, documents)? else {
+        return Ok(());
+    };
+    let documents = Documents::or_none(all.remove(again.as_str()));
+    drop(all.insert(again, documents.or(earlier))?);
     Ok(())
 }
 

@@ -142,6 +142,18 @@ fn groups_have_the_attributes_beside_them(rt: HostRuntime) -> Result<(), Fail> {
     )
 }
 
+// Those of `a/.zb` stand between the attributes of `a` and its `.zgroup`.
+#[test]
+fn documents_of_a_path_may_stand_apart(rt: HostRuntime) -> Result<(), Fail> {
+    let alloc = rt.alloc();
+    reads(
+        &rt,
+        alloc,
+        "\"a/.zattrs\":{\"k\":1},\"a/.zb/.zgroup\":{\"zarr_format\":2},\"a/.zgroup\":{\"zarr_format\":2}",
+        "a {\"attributes\":{\"k\":1},\"zarr_format\":2};a/.zb {\"zarr_format\":2};",
+    )
+}
+
 #[test]
 fn an_array_counts_before_a_group(rt: HostRuntime) -> Result<(), Fail> {
     let alloc = rt.alloc();
@@ -185,6 +197,85 @@ fn a_document_of_zarr_python_is_read(rt: HostRuntime) -> Result<(), Fail> {
     let found = read(alloc, WRITTEN)?;
     let wanted =
         "outer {\"zarr_format\":2};outer/inner {\"attributes\":{\"unit\":\"m\"},\"chunks\":[10,20],\"compressor\":{\"blocksize\":0,\"clevel\":5,\"cname\":\"lz4\",\"id\":\"blosc\",\"shuffle\":1},\"dimension_separator\":\".\",\"dtype\":\"<i4\",\"fill_value\":0,\"filters\":[{\"dtype\":\"<i4\",\"id\":\"delta\"}],\"order\":\"C\",\"shape\":[100,200],\"zarr_format\":2};";
+    assert_eq!(rt; found.as_str(), wanted);
+    Ok(())
+}
+
+// A document as GDAL writes it: a group with attributes and a group within, arrays without and with compressors and filters, the
+// dimensions of each named in its attributes, and a spatial reference by its address.
+const WRITTEN_BY_GDAL: &str = r#"{
+  "zarr_consolidated_format":1,
+  "metadata":{
+    ".zgroup":{
+      "zarr_format":2
+    },
+    ".zattrs":{
+      "Conventions":"CF-1.6"
+    },
+    "y/.zarray":{
+      "chunks":[2],
+      "compressor":null,
+      "dtype":"<f8",
+      "fill_value":null,
+      "filters":null,
+      "order":"C",
+      "shape":[2],
+      "zarr_format":2
+    },
+    "y/.zattrs":{
+      "_ARRAY_DIMENSIONS":["y"]
+    },
+    "sub/.zgroup":{
+      "zarr_format":2
+    },
+    "sub/.zattrs":{},
+    "sub/band/.zarray":{
+      "chunks":[1,256],
+      "compressor":{"id":"zlib","level":6},
+      "dtype":"<u2",
+      "fill_value":"NaN",
+      "filters":[{"id":"delta","dtype":"<u2","astype":"<u2"}],
+      "order":"C",
+      "shape":[2,512],
+      "zarr_format":2
+    },
+    "sub/band/.zattrs":{
+      "_ARRAY_DIMENSIONS":["y","x"],
+      "_CRS":{"url":"http://www.opengis.net/def/crs/EPSG/0/26711"}
+    }
+  }
+}"#;
+
+#[test]
+fn a_document_of_gdal_is_read(rt: HostRuntime) -> Result<(), Fail> {
+    let alloc = rt.alloc();
+    let found = read(alloc, WRITTEN_BY_GDAL)?;
+    let wanted =
+        "sub {\"zarr_format\":2};sub/band {\"attributes\":{\"_ARRAY_DIMENSIONS\":[\"y\",\"x\"],\"_CRS\":{\"url\":\"http://www.opengis.net/def/crs/EPSG/0/26711\"}},\"chunks\":[1,256],\"compressor\":{\"id\":\"zlib\",\"level\":6},\"dimension_separator\":\".\",\"dtype\":\"<u2\",\"fill_value\":\"NaN\",\"filters\":[{\"astype\":\"<u2\",\"dtype\":\"<u2\",\"id\":\"delta\"}],\"order\":\"C\",\"shape\":[2,512],\"zarr_format\":2};y {\"attributes\":{\"_ARRAY_DIMENSIONS\":[\"y\"]},\"chunks\":[2],\"compressor\":null,\"dimension_separator\":\".\",\"dtype\":\"<f8\",\"fill_value\":null,\"filters\":null,\"order\":\"C\",\"shape\":[2],\"zarr_format\":2};";
+    assert_eq!(rt; found.as_str(), wanted);
+    Ok(())
+}
+
+// A document as netCDF-C writes it: what it keeps of its own stands in the attributes.
+const WRITTEN_BY_NETCDF: &str = r#"{
+  "metadata": {
+    ".zgroup": {"zarr_format": 2},
+    ".zattrs": {"_nczarr_superblock": {"version": "2.0.0"}, "_nczarr_group": {"dimensions": {"t": 4}, "arrays": ["t"], "groups": []}},
+    "t/.zarray": {
+      "zarr_format": 2, "shape": [4], "dtype": "<i4", "chunks": [4], "fill_value": -2147483647, "order": "C",
+      "compressor": {"id": "zlib", "level": 1}, "filters": [{"id": "shuffle", "elementsize": 4}]
+    },
+    "t/.zattrs": {"_nczarr_array": {"dimension_references": ["/t"], "storage": "chunked"}, "_nczarr_attr": {"types": {"units": "<S1"}}, "units": "s"}
+  },
+  "zarr_consolidated_format": 1
+}"#;
+
+#[test]
+fn a_document_of_netcdf_is_read(rt: HostRuntime) -> Result<(), Fail> {
+    let alloc = rt.alloc();
+    let found = read(alloc, WRITTEN_BY_NETCDF)?;
+    let wanted =
+        "t {\"attributes\":{\"_nczarr_array\":{\"dimension_references\":[\"/t\"],\"storage\":\"chunked\"},\"_nczarr_attr\":{\"types\":{\"units\":\"<S1\"}},\"units\":\"s\"},\"chunks\":[4],\"compressor\":{\"id\":\"zlib\",\"level\":1},\"dimension_separator\":\".\",\"dtype\":\"<i4\",\"fill_value\":-2147483647,\"filters\":[{\"elementsize\":4,\"id\":\"shuffle\"}],\"order\":\"C\",\"shape\":[4],\"zarr_format\":2};";
     assert_eq!(rt; found.as_str(), wanted);
     Ok(())
 }
