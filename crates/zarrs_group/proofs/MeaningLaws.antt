@@ -25,14 +25,14 @@ use Rattle.zarrs_meta.proofs.GroupV2Laws.{group_v2_again, plain_group_v2}
 use Rattle.zarrs_group.specs.Edits.{after, edited}
 use Rattle.zarrs_meta.specs.declared.attributes.AttributesDocument.{AttributesDocument}
 use Rattle.zarrs_meta.specs.declared.node.NodeMetadata.TheVariants.{Group}
-use Rattle.zarrs_meta.specs.Node.{group_with}
+use Rattle.zarrs_meta.specs.Node.{group_with, group_without_attributes}
 use Rattle.zarrs_meta.specs.GroupV2.{group_v2_of}
 use Rattle.zarrs_block.specs.Meaning.{in_bytes, Meaning, node, nothing, document_at, attributes_at, version_2_line, zgroup_line}
 use Rattle.zarrs_group.specs.Meaning.{group_line, group_meaning}
 use Rattle.zarrs_group.specs.Layout.{IsReadBack}
 use Rattle.zarrs_block.specs.Block.{Block}
 use Rattle.zarrs_block.specs.Zmetadata.{zmetadata_tree}
-use Rattle.zarrs_group.specs.Stored.{AreReadBack, attributes_edit, own_edits, store_edits, without_attributes}
+use Rattle.zarrs_group.specs.Stored.{AreReadBack, attributes_edit, own_edits, store_edits}
 use Rattle.zarrs_group.specs.Laws.{MeansStored, StoredMeans}
 use Rattle.zarrs_group.proofs.EraseLaws.{keys_differ, group_attrs, group_metadata, attrs_metadata}
 
@@ -50,7 +50,7 @@ stored_v3 S p m block rest plain read =
     rw (here, read, group_v3_again m (plain_v3 m plain)) refl
 
 -- a plain version 2 group is plain without its attributes
-pub plain_without : (m : GroupMetadataV2) → IsTrue (is_plain_group_v2 m) → IsTrue (is_plain_group_v2 (without_attributes m))
+pub plain_without : (m : GroupMetadataV2) → IsTrue (is_plain_group_v2 m) → IsTrue (is_plain_group_v2 (group_without_attributes m))
 plain_without m plain =
     let parts = plain_group_v2 m plain in
     let f : members_have_float m.additional_fields ≡ false = parts.1 in
@@ -77,26 +77,26 @@ found_stored S p (member k d ms) fits reads shallow =
 
 -- the document without attributes, and the attributes beside it, are the group
 whole : (m : GroupMetadataV2) (a : Members) (rest : Meaning) → m.attributes ≡ a
-    → version_2_line (λ x. Group (V2 x)) group_with (Ok (Some (without_attributes m))) (Ok (stored_attributes a)) rest ≡ node (Group (V2 m))
+    → version_2_line (λ x. Group (V2 x)) group_with (Ok (Some (group_without_attributes m))) (Ok (stored_attributes a)) rest ≡ node (Group (V2 m))
 unfolding stored_attributes
 whole m no_members rest is = ap (λ a. node (Group (V2 (record { attributes = a; additional_fields = m.additional_fields })))) (sym is)
 whole m (member k d ms) rest is = ap (λ a. node (Group (V2 (record { attributes = a; additional_fields = m.additional_fields })))) (sym is)
 
 -- the line of `.zgroup` over the stored documents of a version 2 group
-stored_own : (S : Contents) (p : Path) (m : GroupMetadataV2) (rest : Meaning) → group_v2_fault m ≡ None → AreReadBack (V2 m) → depth (object m.attributes) ≤ max_depth → depth (group_v2_tree (without_attributes m)) ≤ max_depth
+stored_own : (S : Contents) (p : Path) (m : GroupMetadataV2) (rest : Meaning) → group_v2_fault m ≡ None → AreReadBack (V2 m) → depth (object m.attributes) ≤ max_depth → depth (group_v2_tree (group_without_attributes m)) ≤ max_depth
     → zgroup_line in_bytes (after S (own_edits p m)) p rest ≡ node (Group (V2 m))
 unfolding zgroup_line document_at
 stored_own S p m rest fault reads shallow shallow' =
     let own : Segments = p ++ zgroup ∷ [] in
     let attributes : Segments = p ++ zattrs ∷ [] in
-    let bytes : List ℕ = pretty_text (group_v2_tree (without_attributes m)) in
+    let bytes : List ℕ = pretty_text (group_v2_tree (group_without_attributes m)) in
     let first : Contents = edited S (attributes_edit p m.attributes) in
     let plain : IsTrue (is_plain_group_v2 m) = plain_v2 m fault in
     let here : map.get (map.insert first own bytes) own ≡ Some bytes = get_inserted first own bytes in
     let there : map.get (map.insert first own bytes) attributes ≡ map.get first attributes = AgreesExceptAt-insert first own bytes attributes (keys_differ p zattrs zgroup (λ e. group_attrs (sym e))) in
-    let read : json_of bytes ≡ Some (group_v2_tree (without_attributes m)) = reads.1 shallow' in
+    let read : json_of bytes ≡ Some (group_v2_tree (group_without_attributes m)) = reads.1 shallow' in
     let found : attributes_at first p ≡ Ok (stored_attributes m.attributes) = found_stored S p m.attributes (fits_v2 m fault).0 reads.0 shallow in
-    rw (here, there, read, group_v2_again (without_attributes m) (plain_without m plain), found) (whole m m.attributes rest refl)
+    rw (here, there, read, group_v2_again (group_without_attributes m) (plain_without m plain), found) (whole m m.attributes rest refl)
 
 -- another key does not matter to the line of `.zgroup`
 line_elsewhere : (S : Contents) (p : Path) (bytes : List ℕ) (rest : Meaning) → zgroup_line in_bytes (map.insert S (p ++ zmetadata ∷ []) bytes) p rest ≡ zgroup_line in_bytes S p rest
@@ -110,7 +110,7 @@ line_elsewhere S p bytes rest =
 
 -- the line of `.zgroup` over a stored version 2 group, with whatever block
 stored_v2 : (S : Contents) (p : Path) (m : GroupMetadataV2) (block : Option Block) (rest : Meaning) → group_v2_fault m ≡ None → AreReadBack (V2 m) → depth (object m.attributes) ≤ max_depth
-    → depth (group_v2_tree (without_attributes m)) ≤ max_depth → zgroup_line in_bytes (after S (store_edits p (V2 m) block)) p rest ≡ node (Group (V2 m))
+    → depth (group_v2_tree (group_without_attributes m)) ≤ max_depth → zgroup_line in_bytes (after S (store_edits p (V2 m) block)) p rest ≡ node (Group (V2 m))
 stored_v2 S p m None rest fault reads shallow shallow' = stored_own (map.remove S (p ++ zmetadata ∷ [])) p m rest fault reads shallow shallow'
 stored_v2 S p m (Some B) rest fault reads shallow shallow' =
     line_elsewhere (after S (own_edits p m)) p (pretty_text (zmetadata_tree m B)) rest ∙ stored_own S p m rest fault reads shallow shallow'

@@ -20,7 +20,8 @@ use Rattle.zarrs_group.specs.Groups.{GroupState, attributes_of_group, group_as_v
 use Rattle.zarrs_group.specs.Plain.{group_fault, is_plain_group}
 use Rattle.zarrs_group.specs.Edits.{Edit, after, IsCutShort}
 use Rattle.zarrs_group.specs.Meaning.{MeansGroup}
-use Rattle.zarrs_group.specs.Stored.{erase_edits, store_edits, without_attributes}
+use Rattle.zarrs_meta.specs.Node.{group_without_attributes}
+use Rattle.zarrs_group.specs.Stored.{erase_edits, store_edits}
 
 -- as version 3 a group keeps its path, its attributes, and the versions that it is stored and erased by
 pub record IsKept (old new : GroupState) : Type 0 where
@@ -77,7 +78,7 @@ ErasingAllErases = (S : Contents) (p : Path) (m : GroupMetadata) → IsErased p 
 abbrev pub MeansStored : Contents → Path → GroupMetadata → Type 0
 MeansStored S p (V3 m) = depth (group_v3_tree m) ≤ max_depth
     → MeansGroup S retrieve.Default p (V3 m) × MeansGroup S retrieve.V3 p (V3 m)
-MeansStored S p (V2 m) = depth (object m.attributes) ≤ max_depth → depth (group_v2_tree (without_attributes m)) ≤ max_depth
+MeansStored S p (V2 m) = depth (object m.attributes) ≤ max_depth → depth (group_v2_tree (group_without_attributes m)) ≤ max_depth
     → MeansGroup S retrieve.V2 p (V2 m)
 
 -- after it was stored, at whatever path, with whatever block and over whatever store, the path means the group

@@ -1,6 +1,6 @@
 -- Zarr core specification 3.1, "Group metadata", the keys of Zarr version 2, and its document `.zmetadata`: what storing and erasing a group does to a store.
 use Rattle.std.specs.Prelude.{false, ◌≡◌, ℕ, Bool, IsTrue, List, [], ◌∷◌, ◌++◌, if◌then◌else◌, Option, Some, None, option_map, map}
-use Rattle.serde_json.specs.Data.{object, Members, no_members}
+use Rattle.serde_json.specs.Data.{object, Members}
 use Rattle.zarrs_store.specs.Segments.{Segments}
 use Rattle.zarrs_store.specs.Contents.{Contents}
 use Rattle.zarrs_store.specs.declared.fault.MetadataFault.{MetadataFault}
@@ -13,6 +13,7 @@ use Rattle.zarrs_config.specs.declared.version.MetadataEraseVersion.TheVariants 
 use Rattle.zarrs_form.specs.Documents.{is_empty}
 use Rattle.zarrs_meta.specs.GroupV3.{group_v3_tree}
 use Rattle.zarrs_meta.specs.GroupV2.{group_v2_tree}
+use Rattle.zarrs_meta.specs.Node.{group_without_attributes}
 use Rattle.zarrs_meta.specs.declared.node.GroupMetadata.{GroupMetadata}
 use Rattle.zarrs_meta.specs.declared.node.GroupMetadata.TheVariants.{V3, V2}
 use Rattle.zarrs_meta.specs.declared.group_v2.GroupMetadataV2.{GroupMetadataV2}
@@ -29,17 +30,13 @@ abbrev pub metadata_key : Path → GroupMetadata → Segments
 metadata_key p (V3 m) = p ++ zarr_json ∷ []
 metadata_key p (V2 m) = p ++ zgroup ∷ []
 
--- the version 2 group with no attributes, as its own document has it
-abbrev pub without_attributes : GroupMetadataV2 → GroupMetadataV2
-without_attributes m = record { attributes = no_members; additional_fields = m.additional_fields }
-
 -- attributes have a document of their own, which is removed where there are none
 abbrev pub attributes_edit : Path → Members → Edit
 attributes_edit p attributes = if is_empty attributes then remove (p ++ zattrs ∷ []) else set (p ++ zattrs ∷ []) (pretty_text (object attributes))
 
 -- the documents of a version 2 group: `.zattrs` is set or removed, and then `.zgroup` set
 abbrev pub own_edits : Path → GroupMetadataV2 → List Edit
-own_edits p m = attributes_edit p m.attributes ∷ set (p ++ zgroup ∷ []) (pretty_text (group_v2_tree (without_attributes m))) ∷ []
+own_edits p m = attributes_edit p m.attributes ∷ set (p ++ zgroup ∷ []) (pretty_text (group_v2_tree (group_without_attributes m))) ∷ []
 
 -- the block is set, as the document `.zmetadata`
 abbrev pub block_edit : Path → GroupMetadataV2 → Block → Edit
@@ -81,7 +78,7 @@ RefusesStore can_fail p m block S S' OutOfMemory = IsCutShort S (store_edits p m
 -- the bytes of each document of the metadata are read as that document
 abbrev pub AreReadBack : GroupMetadata → Type 0
 AreReadBack (V3 m) = IsReadBack (group_v3_tree m)
-AreReadBack (V2 m) = (is_empty m.attributes ≡ false → IsReadBack (object m.attributes)) × IsReadBack (group_v2_tree (without_attributes m))
+AreReadBack (V2 m) = (is_empty m.attributes ≡ false → IsReadBack (object m.attributes)) × IsReadBack (group_v2_tree (group_without_attributes m))
 
 -- the bytes of the block beside the metadata of version 2 are read as its document `.zmetadata`
 abbrev pub IsBlockReadBack : GroupMetadata → Option Block → Type 0

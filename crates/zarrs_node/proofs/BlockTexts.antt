@@ -1,26 +1,13 @@
 -- The texts of names beyond a base.
-use Rattle.std.proofs.Common.{◌≡◌, ℕ, List, ◌∷◌, ◌++◌, length, drop, sym, ap, ◌∙◌, subst, arith}
+use Rattle.std.proofs.Common.{◌≡◌, ℕ, List, ◌∷◌, ◌++◌, length, drop, sym, ap, ◌∙◌, subst}
 use Rattle.std.proofs.Math.Seq.{drop-append_seam}
 use Rattle.std.proofs.lemmas.List.{append_cancel_left}
 use Rattle.zarrs_store.specs.Segments.{key_text}
-use Rattle.zarrs_path.specs.Paths.{Path, IsPath, IsBelow, slashed, relative_names, without_leading_slash}
+use Rattle.zarrs_path.specs.Paths.{Path, IsPath, IsBelow, slashed, without_leading_slash}
 use Rattle.zarrs_path.proofs.PathTexts.{IsPath-parts, slashed-append, slashed-cons}
-use Rattle.zarrs_path.proofs.Relative.{relative_of_text}
-use Rattle.zarrs_block.proofs.KeyLaws.{text_bare}
 use Rattle.zarrs_meta.specs.declared.node.NodeMetadata.{NodeMetadata}
 use Rattle.zarrs_node.specs.Consolidated.{AreBelow, ArePaths, text_beyond}
 use Rattle.zarrs_node.specs.Inverse.{HasNames}
-
--- names with one text are one
-pub one_text_of : (ns ks : Path) → IsPath ns → IsPath ks → key_text ns ≡ key_text ks → ns ≡ ks
-one_text_of ns ks h g e = sym (relative_of_text ns h) ∙ ap relative_names e ∙ relative_of_text ks g
-
--- the text of names is not that of others behind a slash
-pub no_slash_first : (ns ks : Path) → IsPath ks → 47 ∷ key_text ns ≡ key_text ks → ⊥
-no_slash_first ns ks g e =
-    let bare : key_text ns ≡ key_text ks = ap without_leading_slash e ∙ text_bare ks g in
-    let long = ap length (e ∙ sym bare) in
-    omega (arith, long)
 
 -- the text of a path beyond b is that of its names there
 pub text_is : (b p : Path) (n : List ℕ) (ns : Path) → p ≡ b ++ n ∷ ns → text_beyond b p ≡ key_text (n ∷ ns)

@@ -67,7 +67,7 @@ module _ (s : Contents) (v : MetadataRetrieveVersion) (r : Bool) where
   }
 
   -- what means nothing is not listed
-  not_open : (c : Path) → meaning s v c ≡ nothing → Opens (Meant s v) r c → ⊥
+  pub not_open : (c : Path) → meaning s v c ≡ nothing → Opens (Meant s v) r c → ⊥
   not_open c is o = subst IsNode (sym o.1.1 ∙ is) tt
 
   -- a child that means nothing is passed over, with all below it

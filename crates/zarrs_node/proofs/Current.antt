@@ -25,7 +25,7 @@ use Rattle.zarrs_meta.specs.Node.{zarr_json_of, array_with, group_with}
 use Rattle.zarrs_form.specs.Documents.{of_bytes}
 use Rattle.zarrs_block.specs.Block.{Block, Entries, IsBlockOf}
 use Rattle.zarrs_block.specs.Without.{IsAbout}
-use Rattle.zarrs_block.proofs.KeyLaws.{text_bare}
+use Rattle.zarrs_block.proofs.KeyLaws.{one_text, text_bare}
 use Rattle.zarrs_block.specs.Meaning.{in_bytes, Meaning, meaning, nothing, document_from, document_at, version_2_line, version_3_line, zarr_json_line, zarray_line, zgroup_line}
 use Rattle.zarrs_node.specs.Reached.{HasGroup, Kept, Reached}
 use Rattle.zarrs_node.specs.Nodes.{Means, Nodes}
@@ -38,7 +38,7 @@ use Rattle.zarrs_node.proofs.Found.{listed_each}
 use Rattle.zarrs_node.proofs.Graft.{Contains-first, Contains-cons}
 use Rattle.zarrs_node.proofs.Reach.{head_same, rest_same}
 use Rattle.zarrs_node.proofs.Kept.{below_below, reached_between}
-use Rattle.zarrs_node.proofs.BlockTexts.{one_text_of, text_is}
+use Rattle.zarrs_node.proofs.BlockTexts.{text_is}
 use Rattle.zarrs_block.proofs.SameBlocks.{one_block}
 use Rattle.zarrs_node.proofs.Inverse.{entries_are}
 use Rattle.zarrs_node.proofs.Leads.{names_beyond}
@@ -169,7 +169,7 @@ begins_with xs ns x n rest one two e =
 about_from : (b p q : Path) (n : List ℕ) (ns : Path) → IsBelow b p → IsPath p → q ≡ b ++ n ∷ ns → IsPath (n ∷ ns) → IsAbout (text_beyond b p) (key_text (n ∷ ns)) → AtOrBelow p q
 about_from b p q n ns (x, xs, low) valid is names about = ⊎_elim
     (λ at. ⊎_elim
-    (λ same. inl (is ∙ ap (λ l. b ++ l) (one_text_of (n ∷ ns) (x ∷ xs) names own (same ∙ text)) ∙ sym low))
+    (λ same. inl (is ∙ ap (λ l. b ++ l) (one_text (n ∷ ns) (x ∷ xs) names own (same ∙ text)) ∙ sym low))
     (λ deep.
     let w = begins_with xs ns x n deep.0 own names (deep.1 ∙ ap (λ t. t ++ 47 ∷ deep.0) text) in
     inr (w.0, w.1, is ∙ ap (λ l. b ++ l) w.2 ∙ sym (append_assoc b (x ∷ xs) (w.0 ∷ w.1)) ∙ ap (λ l. l ++ w.0 ∷ w.1) (sym low)))

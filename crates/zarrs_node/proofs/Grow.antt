@@ -69,7 +69,7 @@ holds_none (Group n) = tt
 holds_none (Array n) = refl
 
 -- a group may have any children
-holds_group : (m : NodeMetadata) (f : Forest) → IsTrue (is_group m) → MayHold m f
+pub holds_group : (m : NodeMetadata) (f : Forest) → IsTrue (is_group m) → MayHold m f
 holds_group (Group n) f h = tt
 holds_group (Array n) f h = absurd (true≢false (sym h))
 

@@ -17,7 +17,7 @@ use Rattle.zarrs_node.specs.Inverse.{HasNames, BlockGivesBack, ListingGivesBack}
 use Rattle.zarrs_node.proofs.Found.{listed_each}
 use Rattle.zarrs_node.proofs.Kept.{kept_same, placed_between}
 use Rattle.zarrs_node.proofs.Unique.{one_forest}
-use Rattle.zarrs_node.proofs.BlockTexts.{one_text_of, no_slash_first}
+use Rattle.zarrs_block.proofs.KeyLaws.{one_text, slash_apart}
 
 -- what the two keys of a path have
 entry_cases : (B : Block) (ns : Path) (m : NodeMetadata) → entry B ns ≡ Some m → (found B (key_text ns) ≡ Some m) ⊎ (found B (47 ∷ key_text ns) ≡ Some m)
@@ -44,11 +44,11 @@ module _ (N : Path × NodeMetadata → Type 0) (b : Path) (B : Block) (names : (
     λ h. ⊎_elim
         (λ plain.
         let w = (is (key_text (h.0 ∷ h.1)) e.1).0 plain in
-        let same = one_text_of (h.0 ∷ h.1) (w.0 ∷ w.1) h.2 (own_names w.0 w.1 e.1 w.3) w.2 in
+        let same = one_text (h.0 ∷ h.1) (w.0 ∷ w.1) h.2 (own_names w.0 w.1 e.1 w.3) w.2 in
         subst (λ p. N (p, e.1)) (ap (λ x. b ++ x) (sym same) ∙ sym h.3) w.3)
         (λ slashed.
         let w = (is (47 ∷ key_text (h.0 ∷ h.1)) e.1).0 slashed in
-        absurd (no_slash_first (h.0 ∷ h.1) (w.0 ∷ w.1) (own_names w.0 w.1 e.1 w.3) w.2))
+        absurd (slash_apart (h.0 ∷ h.1) (w.0 ∷ w.1) (own_names w.0 w.1 e.1 w.3) w.2))
         (entry_cases B (h.0 ∷ h.1) e.1 h.4),
     λ here.
         let w = names e here in

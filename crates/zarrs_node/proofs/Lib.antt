@@ -6,6 +6,11 @@ pub mod Found
 pub mod Child
 pub mod Steps
 pub mod Walk
+pub mod Attach
+pub mod Apart
+pub mod Ahead
+pub mod Walked
+pub mod Turns
 pub mod Trees
 pub mod LastNames
 pub mod Order
@@ -22,6 +27,7 @@ pub mod BlockTexts
 pub mod PutsLatest
 pub mod Inverse
 pub mod SmallShown
+pub mod HeldStores
 pub mod Consolidated
 pub mod Grow
 pub mod Stems

@@ -1,23 +1,12 @@
 -- Keys among those that a listing gave.
 use Rattle.std.proofs.Common.{◌≡◌, ◌↔◌, ℕ, ◌+◌, ◌<◌, ◌≤◌, Bool, true, false, ◌||◌, List, [], ◌∷◌, ◌++◌, length, take, take_all, get_or, Contains, IsTrue, sym, ap, subst, ◌∙◌, ◌⊎◌, inl, inr, ⊎_elim, refl, true≢false}
-use Rattle.std.specs.Str.{bytes_eq}
 use Rattle.std.proofs.lemmas.List.{take_more}
 use Rattle.std.proofs.lemmas.List.Elements.{Contains-push_cases}
-use Rattle.std.proofs.lemmas.Slice.Eq.{bytes_eq-Decides}
-use Rattle.zarrs_store.specs.Segments.{Segments, IsKey, key_text, segments_of}
+use Rattle.zarrs_store.specs.Segments.{Segments}
 use Rattle.zarrs_store.specs.Contents.{Contents, HasKey, Lists, IsChildKey}
 use Rattle.zarrs_path.specs.Paths.{Path}
 use Rattle.zarrs_path.specs.Keys.{zarr_json, zarray, zgroup}
-use Rattle.zarrs_path.proofs.KeyTexts.{key_parts}
 use Rattle.zarrs_node.specs.Exists.{HasNodeKey}
-
--- two keys are one where their texts are
-pub same_keys : (a b : Segments) (s t : List ℕ) (r : Bool) → s ≡ key_text a → t ≡ key_text b → IsKey a → IsKey b → r ≡ bytes_eq s t → IsTrue r ↔ (a ≡ b)
-same_keys a b s t r sa tb va vb e =
-    let d = bytes_eq-Decides s t in (
-      λ same. sym (key_parts s a sa va) ∙ ap segments_of (d.0 (sym e ∙ same)) ∙ key_parts t b tb vb,
-      λ same. e ∙ d.1 (sa ∙ ap key_text same ∙ sym tb),
-    )
 
 -- a key that is neither among the first keys nor the next is not among those up to the next
 pub not_yet : (keys : List Segments) (key held : Segments) (i : ℕ) → i < length keys → held ≡ get_or keys i held → (held ≡ key → ⊥) → (Contains (take i keys) key → ⊥) → Contains (take (i + 1) keys) key → ⊥

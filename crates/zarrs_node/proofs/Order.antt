@@ -69,11 +69,11 @@ all_after b n (tree p m below after) h first e in' =
     (contains_cases (p, m) (pairs below ++ pairs after) e in')
 
 -- of two paths below b the one with the earlier name there is earlier
-later_less : (b p q : Path) (n k : List ℕ) (ns ks : Path) → p ≡ b ++ n ∷ ns → q ≡ b ++ k ∷ ks → bytes_cmp n k ≡ Less → path_cmp p q ≡ Less
+pub later_less : (b p q : Path) (n k : List ℕ) (ns ks : Path) → p ≡ b ++ n ∷ ns → q ≡ b ++ k ∷ ks → bytes_cmp n k ≡ Less → path_cmp p q ≡ Less
 later_less b p q n k ns ks e f less = ap (λ x. path_cmp x q) e ∙ ap (path_cmp (b ++ n ∷ ns)) f ∙ path_cmp-append b (n ∷ ns) (k ∷ ks) ∙ ap (λ o. ordering_then o (path_cmp ns ks)) less
 
 -- a path is before each path below it
-below_less : (p q : Path) → Begins p q → path_cmp p q ≡ Less
+pub below_less : (p q : Path) → Begins p q → path_cmp p q ≡ Less
 below_less p q h = ap (path_cmp p) h.is ∙ ap (λ x. path_cmp x (p ++ h.name ∷ h.rest)) (sym (append-nil p)) ∙ path_cmp-append p [] (h.name ∷ h.rest)
 
 -- the pairs of a placed forest ascend

@@ -17,7 +17,8 @@ use Rattle.zarrs_node.proofs.Latest.{latest_last, latest_keep, latest_push, late
 use Rattle.zarrs_block.proofs.CutOut.{none_some}
 use Rattle.zarrs_block.proofs.Expansion.{at_itself, same_text}
 use Rattle.zarrs_node.proofs.Puts.{found_put, put_all-append}
-use Rattle.zarrs_node.proofs.BlockTexts.{one_text_of, text_is}
+use Rattle.zarrs_block.proofs.KeyLaws.{one_text}
+use Rattle.zarrs_node.proofs.BlockTexts.{text_is}
 
 module _ (b : Path) where
   -- the pairs done, and one more
@@ -59,7 +60,7 @@ module _ (b : Path) where
           | true ↦ λ at.
               let texts : key_text (own.0 ∷ own.1) ≡ key_text (v.0 ∷ v.1) =
               sym (text_is b e.0 own.0 own.1 own.2) ∙ sym (same_text t (text_beyond b e.0) at) ∙ w.2 ∙ sym (text_is b (b ++ w.0 ∷ w.1) w.0 w.1 refl) ∙ text_is b (b ++ w.0 ∷ w.1) v.0 v.1 v.2 in
-              let same : e.0 ≡ b ++ w.0 ∷ w.1 = own.2 ∙ ap (λ l. b ++ l) (one_text_of (own.0 ∷ own.1) (v.0 ∷ v.1) own.3 v.3 texts) ∙ sym v.2 in
+              let same : e.0 ≡ b ++ w.0 ∷ w.1 = own.2 ∙ ap (λ l. b ++ l) (one_text (own.0 ∷ own.1) (v.0 ∷ v.1) own.3 v.3 texts) ∙ sym v.2 in
               absurd (true≢false (sym ((path_decides e.0 (b ++ w.0 ∷ w.1)).1 same) ∙ old.0))
           | false ↦ λ at. refl
         ] in

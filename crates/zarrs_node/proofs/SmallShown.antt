@@ -1,5 +1,5 @@
 -- What stands below a base in the small store of a document `.zmetadata`, and what its block shows.
-use Rattle.std.proofs.Common.{◌≡◌, ℕ, Bool, true, false, true≢false, cond, not, ◌&&◌, ◌⊎◌, inl, inr, ⊎_elim, ◌↔◌, List, [], ◌∷◌, ◌++◌, Option, Some, None, is_some, is_eq, IsTrue, All, refl, sym, ap, subst, append_assoc, append-nil, ◌∙◌}
+use Rattle.std.proofs.Common.{◌≡◌, ℕ, Bool, true, false, true≢false, cond, not, ◌&&◌, inl, inr, ⊎_elim, List, [], ◌∷◌, ◌++◌, Option, Some, None, is_some, is_eq, IsTrue, All, refl, sym, ap, subst, append_assoc, append-nil, ◌∙◌}
 use Rattle.std.specs.List.{list_all}
 use Rattle.std.specs.FinMap.{get, find}
 use Rattle.std.proofs.lemmas.Bool.{and_parts}
@@ -18,7 +18,6 @@ use Rattle.zarrs_block.specs.Small.{small_meaning, small, counted}
 use Rattle.zarrs_block.specs.Zmetadata.{HoldsStore, IsClean, before_last}
 use Rattle.zarrs_block.proofs.SmallStores.{as_read, before_last-child, same_key, get_based, based_read}
 use Rattle.zarrs_block.proofs.SmallBlocks.{document_or_none, store_law}
-use Rattle.zarrs_node.specs.Nodes.{HasBadDocument, IsBadName, IsListed}
 use Rattle.zarrs_node.specs.Small.{SmallBad, ShowsSmall, ZmetadataShows}
 use Rattle.zarrs_node.proofs.Inverse.{entries_are, keys_valid}
 use Rattle.zarrs_node.proofs.Kept.{kept_same}

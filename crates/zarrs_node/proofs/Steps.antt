@@ -57,7 +57,7 @@ pub take_one : (names : Path) (i : ℕ) (n : List ℕ) → i < length names → 
 take_one names i n lt is = ap (λ x. take i names ++ x ∷ []) is ∙ sym (take_more names i n lt)
 
 -- periods only do not begin with `__`
-not_reserved : (n : List ℕ) → IsTrue (is_all_periods n) → IsFalse (is_reserved n)
+pub not_reserved : (n : List ℕ) → IsTrue (is_all_periods n) → IsFalse (is_reserved n)
 not_reserved [] h = refl
 not_reserved (c ∷ []) h =
     let same = eqb-true c 46 (first_so (c == 46) _ h) in

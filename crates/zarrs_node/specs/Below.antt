@@ -1,22 +1,24 @@
 -- Zarr core specification 3.1, "Group metadata", the field `consolidated_metadata`, and the document `.zmetadata` of version 2: what stands below a base, by the block that is used or, where none is used, by a listing.
 --     zmetadata_at s b      the block that the document `.zmetadata` of b is
+--     HoldsZmetadata s b B      B holds the small store that this document is
 --     block_at s b m      the block that stands for the nodes below b, where there is one
 --     NodesBelow, PairsBelow      what a tree below b shows; what a flat list below b holds
 --     BadBelow, ShowsBadBelow      what refuses it; what a refusal shows
-use Rattle.std.specs.Prelude.{[], ◌∷◌, ◌++◌, Bool, true, Option, Some, None, option_and_then}
+use Rattle.std.specs.Prelude.{◌≡◌, ℕ, [], ◌∷◌, ◌++◌, Bool, true, List, Option, Some, None, Ok, option_and_then}
 use Rattle.std.specs.Result.{result_ok}
 use Rattle.std.specs.FinMap.{get}
+use Rattle.serde_json.specs.Data.{Data, Members}
 use Rattle.zarrs_store.specs.Contents.{Contents}
 use Rattle.zarrs_path.specs.Keys.{zmetadata}
 use Rattle.zarrs_path.specs.Paths.{Path}
-use Rattle.zarrs_form.specs.Documents.{of_bytes}
+use Rattle.zarrs_form.specs.Documents.{json_of, of_bytes}
 use Rattle.zarrs_meta.specs.declared.node.GroupMetadata.TheVariants.{V2, V3}
 use Rattle.zarrs_meta.specs.declared.node.NodeMetadata.{NodeMetadata}
 use Rattle.zarrs_meta.specs.declared.node.NodeMetadata.TheVariants.{Group, Array}
 use Rattle.zarrs_config.specs.declared.version.MetadataRetrieveVersion.{MetadataRetrieveVersion}
 use Rattle.zarrs_block.specs.Block.{Block, Entries, HasValidKeys}
 use Rattle.zarrs_block.specs.Used.{held}
-use Rattle.zarrs_block.specs.Zmetadata.{zmetadata_of}
+use Rattle.zarrs_block.specs.Zmetadata.{zmetadata_of, zmetadata_members, HoldsStore, IsClean}
 use Rattle.zarrs_block.specs.Expanded.{NamesBadKey}
 use Rattle.zarrs_block.specs.declared.node_create_error.NodeCreateError.{NodeCreateError}
 use Rattle.zarrs_node.specs.Reached.{Kept}
@@ -25,6 +27,10 @@ use Rattle.zarrs_node.specs.Nodes.{Nodes, Bad, ShowsBad}
 -- the block that the document `.zmetadata` of b is, where it is there and reads as one
 abbrev pub zmetadata_at : Contents → Path → Option Block
 zmetadata_at s b = option_and_then (λ bytes. result_ok (of_bytes zmetadata_of bytes)) (get s (b ++ zmetadata ∷ []))
+
+-- the document `.zmetadata` of b has members, and the block has exactly the paths that mean nodes in the small store that these are, in which nothing below b is bad
+abbrev pub HoldsZmetadata : Contents → Path → Block → Type 0
+HoldsZmetadata s b B = (bytes : List ℕ) × (d : Data) × (ms : Members) × (get s (b ++ zmetadata ∷ []) ≡ Some bytes) × (json_of bytes ≡ Some d) × (zmetadata_members d ≡ Ok ms) × HoldsStore ms B × IsClean ms
 
 -- the block that stands for the nodes below b in a store, where b has these metadata: of a version 2 group the one beside its documents, else the one that they hold
 abbrev pub block_at : Contents → Path → NodeMetadata → Option Block

@@ -60,6 +60,11 @@ abbrev pub passed : Path → Option NodeMetadata → List Path → List Path
 passed p None below = p ∷ []
 passed p (Some m) below = below
 
+-- the paths told of a child by itself: its own, where it is a node
+abbrev pub told : Path → Option NodeMetadata → List Path
+told p None = []
+told p (Some m) = p ∷ []
+
 -- what was found is a group
 abbrev pub found_group : Option NodeMetadata → Bool
 found_group None = false
@@ -69,6 +74,16 @@ found_group (Some m) = is_group m
 pub record Shows (f : Forest) (b : Path) (N : Path × NodeMetadata → Type 0) : Type 0 where
   pub shown : Lists N (pairs f)
   pub placed : IsPlaced b f
+
+-- the paths of a forest, parents before children
+abbrev pub paths_of : Forest → List Path
+paths_of f = map (λ e. e.0) (pairs f)
+
+-- xs are the paths of a forest that shows N below b, parents before children
+pub record ShowsPaths (xs : List Path) (b : Path) (N : Path × NodeMetadata → Type 0) : Type 0 where
+  pub trees : Forest
+  pub shows : Shows trees b N
+  pub are : xs ≡ paths_of trees
 
 -- the forest of some trees, each a function that puts it in front of the trees after it
 abbrev pub plant_all : List (Forest → Forest) → Forest

@@ -15,3 +15,4 @@ pub mod Pass
 pub mod Opened
 pub mod Fresh
 pub mod Changes
+pub mod Stacked

@@ -7,7 +7,7 @@ use Rattle.zarrs_path.specs.Paths.{Path}
 use Rattle.zarrs_meta.specs.declared.node.NodeMetadata.{NodeMetadata}
 use Rattle.zarrs_config.specs.declared.version.MetadataRetrieveVersion.{MetadataRetrieveVersion}
 use Rattle.zarrs_block.specs.declared.node_create_error.NodeCreateError.{NodeCreateError}
-use Rattle.zarrs_block.specs.Meaning.{Meaning, meaning, node, nothing, bad}
+use Rattle.zarrs_block.specs.Meaning.{Meaning, meaning, nothing, bad}
 use Rattle.zarrs_node.specs.Reached.{Reached, Opens, Kept}
 use Rattle.zarrs_block.specs.Refused.{IsInvalidPath}
 -- `Means of`: the paths that mean nodes, with their metadata

@@ -2,11 +2,12 @@
 ghost use Rattle.std.specs.Prelude.{◌≡◌, ◌++◌, IfOk, IfErr, OnOk, ◌⊎◌, true};
 ghost use Rattle.zarrs_store.specs.Contents.{Lists};
 ghost use Rattle.zarrs_block.specs.Refused.{IsExcused};
-ghost use Rattle.zarrs_node.specs.Forest.{Shows, forest, pairs};
+ghost use Rattle.zarrs_node.specs.Forest.{Shows, ShowsPaths, forest, pairs};
 ghost use Rattle.zarrs_node.specs.Nodes.{Nodes, ShowsBad, Bad};
 
 use crate::listing::list_nodes;
 use crate::node::Node;
+use crate::paths::list_paths;
 use log::{Log, warn};
 use std::alloc::{AllocError, Global};
 use zarrs_block::NodeCreateError;
@@ -70,6 +71,60 @@ pub fn get_child_nodes_opt<L: Log, S: ReadableStorageTraits + ListableStorageTra
     let listed = list_nodes(alloc, storage, path, recursive, version)?;
     warn_ignored(log, &listed.ignored);
     Ok(listed.nodes)
+}
+
+/// The paths of the nodes below a path, parents before children, siblings ascending, by the documents of version 3 and where there is none by those of version 2.
+/// Each document is read as for the nodes, and its metadata are not kept. A path without documents is passed over with all below it, and warned of.
+///
+/// # Errors
+///
+/// The refusals of `get_child_nodes_opt`.
+///
+/// Source: `zarrs::node::get_child_nodes`, its nodes by their paths.
+pub fn get_child_paths<L: Log, S: ReadableStorageTraits + ListableStorageTraits>(
+    log: &L,
+    alloc: Global,
+    storage: &S,
+    path: &NodePath,
+    recursive: bool,
+) -> Result<Vec<NodePath>, NodeCreateError>
+    ensures shows { IfOk result (λ paths. ShowsPaths paths.items path.now (Nodes (S.contents storage.now) MetadataRetrieveVersion.Default recursive path.now)) }
+    ensures clean { IfOk result (λ _. Bad (S.contents storage.now) MetadataRetrieveVersion.Default recursive path.now → ⊥) }
+    ensures refused { IfErr result (λ e. IsExcused (S.can_fail storage.now) e ⊎ ShowsBad (S.contents storage.now) MetadataRetrieveVersion.Default recursive path.now e) }
+{
+    get_child_paths_opt(
+        log,
+        alloc,
+        storage,
+        path,
+        recursive,
+        &MetadataRetrieveVersion::Default,
+    )
+}
+
+/// The paths of the nodes below a path, parents before children, siblings ascending, by the documents of a version.
+/// Each document is read as for the nodes, and its metadata are not kept. A path without documents is passed over with all below it, and warned of.
+///
+/// # Errors
+///
+/// The refusals of `get_child_nodes_opt`.
+///
+/// Source: `zarrs::node::get_child_nodes_opt`, its nodes by their paths.
+pub fn get_child_paths_opt<L: Log, S: ReadableStorageTraits + ListableStorageTraits>(
+    log: &L,
+    alloc: Global,
+    storage: &S,
+    path: &NodePath,
+    recursive: bool,
+    version: &MetadataRetrieveVersion,
+) -> Result<Vec<NodePath>, NodeCreateError>
+    ensures shows { IfOk result (λ paths. ShowsPaths paths.items path.now (Nodes (S.contents storage.now) version.now recursive path.now)) }
+    ensures clean { IfOk result (λ _. Bad (S.contents storage.now) version.now recursive path.now → ⊥) }
+    ensures refused { IfErr result (λ e. IsExcused (S.can_fail storage.now) e ⊎ ShowsBad (S.contents storage.now) version.now recursive path.now e) }
+{
+    let listed = list_paths(alloc, storage, path, recursive, version)?;
+    warn_ignored(log, &listed.ignored);
+    Ok(listed.paths)
 }
 
 // Warns of each path that was passed over.

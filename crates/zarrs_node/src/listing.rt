@@ -136,7 +136,7 @@ impl ListedNodes {
 }
 
 // Whether what was found is a group.
-fn is_group(found: &Option<NodeMetadata>) -> bool
+pub(crate) fn is_group(found: &Option<NodeMetadata>) -> bool
     ensures { result ≡ found_group found.now }
 {
     match found {
@@ -146,7 +146,7 @@ fn is_group(found: &Option<NodeMetadata>) -> bool
 }
 
 // The prefixes of the children of a path.
-fn child_prefixes<S: ListableStorageTraits>(
+pub(crate) fn child_prefixes<S: ListableStorageTraits>(
     alloc: Global,
     storage: &S,
     path: &NodePath,
@@ -159,7 +159,7 @@ fn child_prefixes<S: ListableStorageTraits>(
 }
 
 // The path of a child prefix, and its metadata.
-fn read_child<S: ReadableStorageTraits>(
+pub(crate) fn read_child<S: ReadableStorageTraits>(
     alloc: Global,
     storage: &S,
     prefix: StorePrefix,

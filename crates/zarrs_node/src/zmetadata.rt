@@ -1,12 +1,12 @@
 //! The consolidated metadata of a node, where they stand in a store.
-ghost use Rattle.std.specs.Prelude.{◌≡◌, Ok, Some, None, IfOk, IfErr, ◌⊎◌};
+ghost use Rattle.std.specs.Prelude.{◌≡◌, Ok, Some, None, IfOk, IfErr, IfSome, ◌⊎◌};
 ghost use Rattle.zarrs_store.specs.Faults.{IsStoreError};
 ghost use Rattle.zarrs_form.specs.Documents.{Gives, of_bytes};
 ghost use Rattle.zarrs_config.specs.declared.version.UseConsolidatedMetadata.TheVariants.{Never};
 ghost use Rattle.zarrs_block.specs.Refused.{IsExcused};
 ghost use Rattle.zarrs_block.specs.Used.{seen, used, RefusesUse};
 ghost use Rattle.zarrs_block.specs.Zmetadata.{zmetadata_of};
-ghost use Rattle.zarrs_node.specs.Below.{block_at, zmetadata_at};
+ghost use Rattle.zarrs_node.specs.Below.{block_at, zmetadata_at, HoldsZmetadata};
 
 use std::alloc::Global;
 use zarrs_block::{
@@ -63,6 +63,7 @@ pub fn zmetadata_at<S: ReadableStorageTraits>(
     path: &NodePath,
 ) -> Result<Option<ConsolidatedMetadata>, StorageError>
     ensures ok { IfOk result (λ block. seen block ≡ zmetadata_at (S.contents storage.now) path.now) }
+    ensures store { IfOk result (λ block. IfSome block (λ b. HoldsZmetadata (S.contents storage.now) path.now b.metadata)) }
     ensures err { IfErr result (IsStoreError (S.can_fail storage.now)) }
 {
     let key = meta_key_v2_consolidated(alloc, path)?;

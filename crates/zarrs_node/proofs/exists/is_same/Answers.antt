@@ -1,4 +1,4 @@
-use Rattle.zarrs_node.proofs.Listed.{same_keys}
+use Rattle.zarrs_store.proofs.SameLemmas.{same_keys}
 use Rattle.zarrs_node.proofs.exists.is_same.Goals as goal
 
 pub returns : goal.returns

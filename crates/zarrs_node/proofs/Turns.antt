@@ -1,0 +1,134 @@
+-- One turn of the walk, by what the calls of that turn answered.
+use Rattle.std.proofs.Common.{◌≡◌, ℕ, ◌-◌, take, ◌⊎◌, inl, inr, ⊎_elim, Bool, Option, Some, None, Ok, true, true≢false, Less, ◌<◌, List, [], ◌∷◌, ◌++◌, map, reverse, sym, ap, subst, ◌∙◌, append-nil, Contains}
+use Rattle.std.proofs.lemmas.List.{map-append}
+use Rattle.std.proofs.lemmas.List.Elements.{Contains-push, Contains-append_cases}
+use Rattle.zarrs_path.specs.Paths.{Path, IsPath, path_cmp}
+use Rattle.zarrs_path.proofs.NameLemmas.{name_one, periods_from}
+use Rattle.zarrs_path.proofs.PathTexts.{IsPath-append}
+use Rattle.zarrs_store.specs.Contents.{Contents, HasBelow, Lists}
+use Rattle.zarrs_store.specs.Segments.{Segments, IsPrefix}
+use Rattle.zarrs_store.specs.Children.{IsVisibleChild, AreVisibleChildren}
+use Rattle.zarrs_store.proofs.Below.{last_segment_is}
+use Rattle.zarrs_meta.specs.Node.{is_group}
+use Rattle.zarrs_meta.specs.declared.node.NodeMetadata.{NodeMetadata}
+use Rattle.zarrs_config.specs.declared.version.MetadataRetrieveVersion.{MetadataRetrieveVersion}
+use Rattle.zarrs_block.specs.declared.node_create_error.NodeCreateError.{NodeCreateError}
+use Rattle.zarrs_block.specs.Meaning.{meaning, bad}
+use Rattle.zarrs_block.specs.Refused.{IsExcused, IsInvalidPath}
+use Rattle.zarrs_node.specs.Refused.{Finds}
+use Rattle.zarrs_node.specs.Forest.{Forest, none, pairs, paths_of, told, passed, found_group, ShowsPaths}
+use Rattle.zarrs_node.specs.Nodes.{Nodes, Ignored, Bad, ShowsBad, IsListed}
+use Rattle.zarrs_node.proofs.Child.{node_same}
+use Rattle.zarrs_node.proofs.Unique.{Pair}
+use Rattle.zarrs_node.proofs.Ahead.{ahead, ahead_less}
+use Rattle.zarrs_node.proofs.Apart.{StandsBefore, stands_less, turned_in, all_pairs_last}
+use Rattle.zarrs_node.proofs.Walked.{Walked, IsPending, name_less, walked_start, walked_reached, walked_attached, walked_open, walked_closed, walked_nothing, walked_shows, walked_ignores, walked_clean}
+
+-- the walk has come so far, and xs are the paths that it told
+pub record HasWalked (s : Contents) (v : MetadataRetrieveVersion) (r : Bool) (b : Path) (xs ig ps : List Path) : Type 0 where
+  pub trees : Forest
+  pub walk : Walked s v r b trees ig ps
+  pub are : xs ≡ paths_of trees
+
+-- nothing is left where the stack gives nothing
+pub left_none : (len : ℕ) (ps qs : List Path) → ps ≡ qs ++ [] → qs ≡ take (len - 1) ps → len ≡ 0 → ps ≡ []
+left_none len ps qs e f g = e ∙ append-nil qs ∙ f ∙ ap (λ n. take (n - 1) ps) g
+
+module _ (s : Contents) (v : MetadataRetrieveVersion) (r : Bool) (b : Path) where
+  -- before the first prefix is read
+  pub has_started : (cs : List Segments) → AreVisibleChildren s b cs → (xs ig ps : List Path) → xs ≡ [] → ig ≡ [] → ps ≡ [] ++ reverse cs → HasWalked s v r b xs ig ps
+  has_started cs h xs ig ps e f g = rw (f, g) (record { trees = none; walk = walked_start s v r b cs h; are = e })
+
+  -- after the last
+  pub has_shown : (xs ig ps : List Path) → ps ≡ [] → HasWalked s v r b xs ig ps → ShowsPaths xs b (Nodes s v r b)
+  has_shown xs ig ps e h = record { trees = h.trees; shows = walked_shows s v r b h.trees ig (subst (Walked s v r b h.trees ig) e h.walk); are = h.are }
+
+  -- then the list has the ignored paths
+  pub has_ignored : (xs ig ps : List Path) → ps ≡ [] → HasWalked s v r b xs ig ps → Lists (Ignored s v r b) ig
+  has_ignored xs ig ps e h = walked_ignores s v r b h.trees ig (subst (Walked s v r b h.trees ig) e h.walk)
+
+  -- and nothing was bad
+  pub has_clean : (xs ig ps : List Path) → ps ≡ [] → HasWalked s v r b xs ig ps → Bad s v r b → ⊥
+  has_clean xs ig ps e h = walked_clean s v r b h.trees ig (subst (Walked s v r b h.trees ig) e h.walk)
+
+  module _ (c : Path) (can_fail : Bool) (xs ig ps ys jg : List Path) (h : HasWalked s v r b xs ig (ps ++ c ∷ [])) where
+    -- the paths with that of one node more
+    one_more : (m : NodeMetadata) (f : Forest) → pairs f ≡ pairs h.trees ++ (c, m) ∷ [] → ys ≡ xs ++ c ∷ [] → ys ≡ paths_of f
+    one_more m f are e = e ∙ ap (λ zs. zs ++ c ∷ []) h.are ∙ sym (map-append (λ (x : Pair). x.0) (pairs h.trees) ((c, m) ∷ [])) ∙ ap (map (λ (x : Pair). x.0)) (sym are)
+
+    -- a turn at what was found, where the walk does not go on below it
+    pub turn_alone : IsPath c → (o : Option NodeMetadata) → Finds can_fail (Ok o) (meaning s v c) → (r ≡ true → true ≡ found_group o → ⊥) → ys ≡ xs ++ told c o → jg ≡ ig ++ passed c o [] → HasWalked s v r b ys jg ps
+    turn_alone valid None means closed e f = subst (λ x. HasWalked s v r b ys x ps) (sym f) (record {
+      trees = h.trees;
+      walk = walked_nothing s v r b h.trees ig ps c h.walk valid means;
+      are = e ∙ append-nil xs ∙ h.are;
+    })
+    turn_alone valid (Some m) means closed e f =
+        let a = walked_attached s v r b h.trees ig ps c h.walk valid m in
+        subst (λ x. HasWalked s v r b ys x ps) (sym (f ∙ append-nil ig)) (record {
+          trees = a.whole;
+          walk = walked_closed s v r b h.trees ig ps c h.walk valid m means a (λ o. closed o.0 (sym (ap is_group (node_same m o.1.0 (sym means ∙ o.1.1)) ∙ o.1.2)));
+          are = one_more m a.whole a.are e;
+        })
+
+    -- a turn at a group below which it goes on
+    pub turn_deeper : IsPath c → (o : Option NodeMetadata) → Finds can_fail (Ok o) (meaning s v c) → r ≡ true → true ≡ found_group o → (cs : List Segments) → AreVisibleChildren s c cs → (qs : List Path) → qs ≡ ps ++ reverse cs
+        → ys ≡ xs ++ told c o → jg ≡ ig ++ passed c o [] → HasWalked s v r b ys jg qs
+    turn_deeper valid None means deep group cs children qs g e f = absurd (true≢false group)
+    turn_deeper valid (Some m) means deep group cs children qs g e f =
+        let a = walked_attached s v r b h.trees ig ps c h.walk valid m in
+        subst (λ x. HasWalked s v r b ys x qs) (sym (f ∙ append-nil ig)) (subst (HasWalked s v r b ys ig) (sym g) (record {
+          trees = a.whole;
+          walk = walked_open s v r b h.trees ig ps c h.walk valid m means a cs children deep group;
+          are = one_more m a.whole a.are e;
+        }))
+
+    -- a refusal at a prefix is one at the base
+    pub turn_refused : (e : NodeCreateError) → IsPath b → IsPrefix c → IsExcused can_fail e ⊎ (IsInvalidPath c e × (IsPath c → ⊥)) ⊎ (IsPath c × (meaning s v c ≡ bad e)) → IsExcused can_fail e ⊎ ShowsBad s v r b e
+    turn_refused e valid segments why = ⊎_elim inl (⊎_elim
+        (λ name. inr (inr (
+          c,
+          (
+            p.parent,
+            p.name,
+            listed,
+            periods_from p.name (last_segment_is p.parent p.name (subst IsPrefix p.is segments)) p.visible
+                (λ is_name. name.1 (subst IsPath (sym p.is) (IsPath-append p.parent (p.name ∷ []) parent_valid (name_one p.name is_name)))),
+            subst (HasBelow s) p.is p.below,
+            p.is,
+          ),
+          name.0,
+        )))
+        (λ doc. inr (inl (c, walked_reached s v r b h.trees ig ps c h.walk doc.0, doc.1)))) why
+      where
+        p : IsPending s v r b h.trees c
+        p = h.walk.pending c (Contains-push ps c)
+
+        listed : IsListed (meaning s v) r b p.parent
+        listed = ⊎_elim inl (λ o. let n = h.walk.nodes (p.parent, o.1) o.2 in inr (n.0, (o.0, (o.1, n.1, o.3)))) p.opened
+
+        parent_valid : IsPath p.parent
+        parent_valid = ⊎_elim (λ same. subst IsPath (sym same) valid)
+            (λ o. let reached = (h.walk.nodes (p.parent, o.1) o.2).0 in subst IsPath (sym reached.below.2) (IsPath-append b (reached.below.0 ∷ reached.below.1) valid reached.below.3)) p.opened
+
+    -- what was pending behind a prefix is after it
+    behind : (q : Path) → Contains ps q → path_cmp c q ≡ Less
+    behind q l = stands_less c q (all_pairs_last (λ x y. StandsBefore y x) ps c h.walk.order q l)
+
+    -- a key stands below a prefix
+    below : HasBelow s c
+    below = (h.walk.pending c (Contains-push ps c)).below
+
+    -- a turn without children leaves fewer beginnings of keys ahead
+    pub falls_alone : (old qs : List Path) → old ≡ ps ++ c ∷ [] → qs ≡ ps → ahead s qs < ahead s old
+    falls_alone old qs e f = subst (λ x. ahead s qs < ahead s x) (sym e) (subst (λ x. ahead s x < ahead s (ps ++ c ∷ [])) (sym f) (ahead_less s (ps ++ c ∷ []) ps c (Contains-push ps c) below behind))
+
+    -- and so does a turn with children
+    pub falls_deeper : (cs : List Segments) → AreVisibleChildren s c cs → (old qs : List Path) → old ≡ ps ++ c ∷ [] → qs ≡ ps ++ reverse cs → ahead s qs < ahead s old
+    falls_deeper cs children old qs e f = subst (λ x. ahead s qs < ahead s x) (sym e) (subst (λ x. ahead s x < ahead s (ps ++ c ∷ [])) (sym f)
+        (ahead_less s (ps ++ c ∷ []) (ps ++ reverse cs) c (Contains-push ps c) below
+        (λ q l. ⊎_elim (behind q)
+        (λ in'. let at = turned_in cs q in' in
+        let child = subst (IsVisibleChild s c) at.2 (children.sound at.0 q at.1) in
+        subst (λ x. path_cmp c x ≡ Less) (sym child.is) (name_less c child.name))
+        (Contains-append_cases ps (reverse cs) q l))))
