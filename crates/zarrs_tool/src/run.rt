@@ -1,12 +1,12 @@
 //! The commands, over an image or a store.
-ghost use Rattle.std.specs.Prelude.{◌≡◌, ◌≢◌, ◌↔◌, ◌++◌, IfOk, IfErr, IfSome, OnOk, IsOk, Err, option_map};
+ghost use Rattle.std.specs.Prelude.{[], ◌∷◌, ◌≡◌, ◌≢◌, ◌↔◌, ◌++◌, IfOk, IfErr, IfSome, OnOk, IsOk, Err, option_map};
 ghost use Rattle.std.specs.FinMap as map;
+ghost use Rattle.std.specs.List.{flat_map};
 ghost use Rattle.std.specs.Io.KnownBytes.{Appends, Keeps, IsAtEnd};
 ghost use Rattle.zarrs_store.specs.Contents.{Contents};
 ghost use Rattle.zarrs_path.specs.Paths.{IsPath, path_text};
-ghost use Rattle.zarrs_node.specs.Forest.{forest, pairs};
 ghost use Rattle.zarrs_tool.specs.Image.{IsLoaded};
-ghost use Rattle.zarrs_tool.specs.Output.{IsCommand, IsListing, IsOutput, Writes, WritesOutput, command_words, path_lines, texts, word_text};
+ghost use Rattle.zarrs_tool.specs.Output.{IsCommand, IsListing, IsOutput, Writes, WritesOutput, command_words, texts, word_text};
 ghost use Rattle.zarrs_tool.specs.Refused.{IsListingFault, IsPathFault, IsRefusal, IsWordFault, RefusedRun, status_of};
 
 use crate::fault::ToolFault;
@@ -16,7 +16,7 @@ use log::Log;
 use std::alloc::{AllocError, Global};
 use std::io::{Read, Write};
 use zarrs_block::NodeCreateError;
-use zarrs_node::{Node, get_child_nodes};
+use zarrs_node::get_child_paths;
 use zarrs_path::NodePath;
 use zarrs_store::{ListableStorageTraits, ReadableStorageTraits};
 
@@ -214,20 +214,19 @@ fn listing<L: Log, S: ReadableStorageTraits + ListableStorageTraits>(
     ensures ok { IfOk result (λ text. IsListing (S.contents store.now) recursive base.now text.items) }
     ensures err { IfErr result (IsListingFault (S.can_fail store.now) (S.contents store.now) recursive base.now) }
 {
-    let nodes = get_child_nodes(log, alloc, store, base, recursive)?;
+    let paths = get_child_paths(log, alloc, store, base, recursive)?;
     let mut lines = Vec::new(alloc);
-    push_lines(&mut lines, &nodes)?;
+    push_lines(&mut lines, &paths)?;
     Ok(lines)
 }
 
-// Appends the paths of a forest, parents before children, one a line.
-fn push_lines(lines: &mut Vec<u8>, nodes: &[Node]) -> Result<(), AllocError>
-    ensures { OnOk result (lines.new.items ≡ lines.old.items ++ path_lines (pairs (forest nodes.now))) }
+// Appends the paths, one a line.
+fn push_lines(lines: &mut Vec<u8>, paths: &[NodePath]) -> Result<(), AllocError>
+    ensures { OnOk result (lines.new.items ≡ lines.old.items ++ flat_map (λ p. path_text p ++ 10 ∷ []) paths.now) }
 {
-    for node in nodes {
-        lines.extend_from_slice(node.path().as_str().as_bytes())?;
+    for path in paths {
+        lines.extend_from_slice(path.as_str().as_bytes())?;
         lines.push(b'\n')?;
-        push_lines(lines, node.children())?;
     }
     Ok(())
 }
