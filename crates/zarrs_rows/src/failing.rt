@@ -16,9 +16,12 @@ ghost use Rattle.zarrs_group.specs.Stored.{store_edits, erase_edits, RefusesStor
 
 use crate::fixtures::{
     A2, A3_SQUARE, ANY, G2, G3, THREE_LEVELS, config_of, forest_text, key_of, listed_in,
-    listing_text, metadata_in, pairs_text, said, store_of, with_block,
+    listing_text, metadata_in, pairs_text, paths_listed_in, paths_listing_text, said, store_of,
+    with_block,
 };
-use crate::group_children::{LEVELS, LEVELS_TREES, groups_text, levels, paths_text, refused};
+use crate::group_children::{
+    LEVELS, LEVELS_TREES, groups_text, levels, paths_text, refused, with_block as with_block_of,
+};
 use crate::groups::{Step, done};
 use crate::refreshing::{entries_of, keys_text};
 use log::sink::Discard;
@@ -166,6 +169,7 @@ enum Call {
     Metadata,
     Exists,
     Listed(bool),
+    Paths(bool),
     All,
     Opened,
     Hierarchy,
@@ -177,11 +181,13 @@ enum Call {
     Refreshed,
 }
 
-const CALLS: [Call; 14] = [
+const CALLS: [Call; 16] = [
     Call::Metadata,
     Call::Exists,
     Call::Listed(true),
     Call::Listed(false),
+    Call::Paths(true),
+    Call::Paths(false),
     Call::All,
     Call::Opened,
     Call::Hierarchy,
@@ -271,6 +277,10 @@ fn answered<S: ReadableStorageTraits + ListableStorageTraits>(
         Call::Listed(recursive) => {
             let listed = listed_in(alloc, store, path, recursive, version);
             said(alloc, listed, listing_text)
+        }
+        Call::Paths(recursive) => {
+            let listed = paths_listed_in(alloc, store, path, recursive, version);
+            said(alloc, listed, paths_listing_text)
         }
         Call::All => said(alloc, all_in(alloc, store, asked), pairs_text),
         Call::Refreshed => said(alloc, refreshed_at(alloc, store, asked), keys_text),
@@ -457,6 +467,17 @@ fn old_group(alloc: Global, document: &str) -> Result<Group, GroupCreateError> {
     }
 }
 
+// The group of a step.
+fn group_of(alloc: Global, held: Held) -> Result<Group, GroupCreateError> {
+    let (document, has_block) = held;
+    let group = old_group(alloc, document);
+    if has_block {
+        with_block_of(alloc, group, &[("b", G2)])
+    } else {
+        group
+    }
+}
+
 // The keys of a store, each with its bytes.
 fn held_text(alloc: Global, store: &MemoryStore) -> Result<String, StorageError> {
     let mut text = String::new(alloc);
@@ -534,31 +555,57 @@ const SET_NEW: (&str, &str) = (
 // A group without a block erases one that was stored.
 const NO_BLOCK: (&str, &str) = ("g/.zmetadata", "");
 
-// Steps on groups of version 2 at `/g`, one after another, each with its changes.
-const STEPS: [(&str, Step, Changes<'static>); 6] = [
-    (OLD_K, Step::Store, [NO_BLOCK, SET_K, SET_OLD, NONE]),
+// A group with a block sets it behind its own documents.
+const SET_BLOCK: (&str, &str) = (
+    "g/.zmetadata",
+    r#"{
+  "metadata": {
+    ".zattrs": {
+      "k": 1
+    },
+    ".zgroup": {
+      "zarr_format": 2
+    },
+    "b/.zgroup": {
+      "zarr_format": 2
+    }
+  },
+  "zarr_consolidated_format": 1
+}"#,
+);
+
+// The document of a group of version 2 at `/g`, and whether it holds a block with the group `b`.
+type Held<'a> = (&'a str, bool);
+
+// Steps on such groups, one after another, each with its changes.
+const STEPS: [(Held<'static>, Step, Changes<'static>); 8] = [
     (
-        OLD,
+        (OLD_K, false),
+        Step::Store,
+        [NO_BLOCK, SET_K, SET_OLD, NONE],
+    ),
+    (
+        (OLD, false),
         Step::Store,
         [NO_BLOCK, ("g/.zattrs", ""), SET_OLD, NONE],
     ),
     (
-        OLD,
+        (OLD, false),
         Step::StoreAs(MetadataConvertVersion::V3),
         [SET_NEW, NONE, NONE, NONE],
     ),
     (
-        OLD,
+        (OLD, false),
         Step::EraseAs(MetadataEraseVersion::Default),
         [("g/.zgroup", ""), ("g/.zattrs", ""), NO_BLOCK, NONE],
     ),
     (
-        OLD_K,
+        (OLD_K, false),
         Step::StoreAs(MetadataConvertVersion::Default),
         [NO_BLOCK, SET_K, SET_OLD, NONE],
     ),
     (
-        OLD_K,
+        (OLD_K, false),
         Step::EraseAs(MetadataEraseVersion::All),
         [
             ("g/zarr.json", ""),
@@ -566,6 +613,16 @@ const STEPS: [(&str, Step, Changes<'static>); 6] = [
             ("g/.zattrs", ""),
             NO_BLOCK,
         ],
+    ),
+    (
+        (OLD_K, true),
+        Step::Store,
+        [SET_K, SET_OLD, SET_BLOCK, NONE],
+    ),
+    (
+        (OLD_K, true),
+        Step::EraseAs(MetadataEraseVersion::Default),
+        [("g/.zgroup", ""), ("g/.zattrs", ""), NO_BLOCK, NONE],
     ),
 ];
 
@@ -638,8 +695,8 @@ fn a_step_does_its_changes_up_to_the_one_that_fails(rt: HostRuntime) -> Result<(
     let places = places_of(alloc, &STEP_KEYS, &["", "g/"])?;
     let mut runs = 0u32;
     let mut faults = 0u32;
-    for (number, (document, step, changes)) in STEPS.iter().enumerate() {
-        let group = old_group(alloc, document)?;
+    for (number, (held, step, changes)) in STEPS.iter().enumerate() {
+        let group = group_of(alloc, *held)?;
         for place in &places {
             let found = stepped_text(&group, alloc, number, *step, *place)?;
             let wanted = changed_text(alloc, number, changes, *place)?;
@@ -650,8 +707,8 @@ fn a_step_does_its_changes_up_to_the_one_that_fails(rt: HostRuntime) -> Result<(
             }
         }
     }
-    assert_eq!(rt; runs, 102);
-    assert_eq!(rt; faults, 17);
+    assert_eq!(rt; runs, 136);
+    assert_eq!(rt; faults, 23);
     Ok(())
 }
 
@@ -724,7 +781,7 @@ const LEVELS_PREFIXES: [&str; 7] = [
 fn reads_levels(alloc: Global, path: &str, wanted: u32) -> Result<(), Fail> {
     let places = places_of(alloc, &LEVELS_KEYS, &LEVELS_PREFIXES)?;
     let runs = run_all(alloc, &LEVELS_AND_ONE, places.as_slice(), by_default(path))?;
-    if runs.runs == 392 && runs.faults == wanted {
+    if runs.runs == 448 && runs.faults == wanted {
         return Ok(());
     }
     let Runs { runs, faults } = runs;
@@ -733,13 +790,13 @@ fn reads_levels(alloc: Global, path: &str, wanted: u32) -> Result<(), Fail> {
 
 #[test]
 fn reading_three_levels_answers_as_usual_or_the_fault(rt: HostRuntime) -> Result<(), Fail> {
-    reads_levels(rt.alloc(), "/", 93)
+    reads_levels(rt.alloc(), "/", 107)
 }
 
 #[test]
 fn reading_below_the_root_answers_as_usual_or_the_fault(rt: HostRuntime) -> Result<(), Fail> {
-    reads_levels(rt.alloc(), "/group", 61)?;
-    reads_levels(rt.alloc(), "/array", 15)
+    reads_levels(rt.alloc(), "/group", 69)?;
+    reads_levels(rt.alloc(), "/array", 17)
 }
 
 // The documents of a group of version 2 and of one of version 3 at one path, beside an array's.
@@ -750,10 +807,10 @@ fn reading_both_versions_answers_as_usual_or_the_fault(rt: HostRuntime) -> Resul
     let alloc = rt.alloc();
     let places = places_of(alloc, &STEP_KEYS, &["", "g/"])?;
     for (path, version, wanted) in [
-        ("/", MetadataRetrieveVersion::Default, 9),
-        ("/g", MetadataRetrieveVersion::Default, 23),
-        ("/g", MetadataRetrieveVersion::V3, 23),
-        ("/g", MetadataRetrieveVersion::V2, 36),
+        ("/", MetadataRetrieveVersion::Default, 14),
+        ("/g", MetadataRetrieveVersion::Default, 25),
+        ("/g", MetadataRetrieveVersion::V3, 25),
+        ("/g", MetadataRetrieveVersion::V2, 38),
     ] {
         let asked = Asked {
             path,
@@ -761,7 +818,7 @@ fn reading_both_versions_answers_as_usual_or_the_fault(rt: HostRuntime) -> Resul
             policy: UseConsolidatedMetadata::Auto,
         };
         let runs = run_all(alloc, &BOTH_VERSIONS, places.as_slice(), asked)?;
-        assert_eq!(rt; runs.runs, 238, "{path}");
+        assert_eq!(rt; runs.runs, 272, "{path}");
         assert_eq!(rt; runs.faults, wanted, "{path}");
     }
     Ok(())
@@ -899,8 +956,8 @@ fn is_stepped(
 #[test]
 fn memory_fails_in_storing_and_erasing(rt: HostRuntime) -> Result<(), Fail> {
     let alloc = rt.alloc();
-    for (number, (document, step, changes)) in STEPS.iter().enumerate() {
-        let group = old_group(alloc, document)?;
+    for (number, (held, step, changes)) in STEPS.iter().enumerate() {
+        let group = group_of(alloc, *held)?;
         is_stepped(alloc, number, *step, &group, changes)?;
     }
     Ok(())

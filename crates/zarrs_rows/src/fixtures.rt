@@ -9,30 +9,13 @@ use std::process::Abort;
 use zarrs_block::NodeCreateError;
 use zarrs_config::{Config, MetadataRetrieveVersion, UseConsolidatedMetadata};
 use zarrs_meta::NodeMetadata;
-use zarrs_node::{ListedNodes, Node, list_nodes};
+use zarrs_node::{ListedNodes, ListedPaths, Node, list_nodes, list_paths};
 use zarrs_path::NodePath;
+pub(crate) use zarrs_rows_documents::{A2, A2_WRITTEN, A3, G2, G3, made, printed, said};
 use zarrs_store::{
     ListableStorageTraits, MemoryStore, ReadableStorageTraits, StorageError, StoreKey,
     StoreKeyError, WritableStorageTraits,
 };
-
-/// A group of version 3.
-pub(crate) const G3: &str = r#"{"node_type":"group","zarr_format":3}"#;
-
-/// A group of version 2.
-pub(crate) const G2: &str = r#"{"zarr_format":2}"#;
-
-/// An array of version 2.
-pub(crate) const A2: &str =
-    r#"{"chunks":[1],"compressor":null,"dtype":"<f8","fill_value":"NaN","filters":null,"order":"C","shape":[1],"zarr_format":2}"#;
-
-/// The array of version 2 as it is written.
-pub(crate) const A2_WRITTEN: &str =
-    r#"{"chunks":[1],"compressor":null,"dimension_separator":".","dtype":"<f8","fill_value":"NaN","filters":null,"order":"C","shape":[1],"zarr_format":2}"#;
-
-/// An array of version 3 with the shape `[1]`, which is its chunks' shape too.
-pub(crate) const A3: &str =
-    r#"{"chunk_grid":{"configuration":{"chunk_shape":[1]},"name":"regular"},"chunk_key_encoding":{"configuration":{"separator":"/"},"name":"default"},"codecs":[{"configuration":{"endian":"little"},"name":"bytes"}],"data_type":"float32","fill_value":0,"node_type":"array","shape":[1],"zarr_format":3}"#;
 
 /// An array of version 3 with the shape `[10,10]`, which is its chunks' shape too.
 pub(crate) const A3_SQUARE: &str =
@@ -93,24 +76,6 @@ pub(crate) fn key_of(alloc: Global, text: &str) -> Result<StoreKey, StorageError
     }
 }
 
-/// The text of what a call answers: what `look` makes of the value, or the text of the error.
-pub(crate) fn said<T, E, F>(
-    alloc: Global,
-    answer: Result<T, E>,
-    look: F,
-) -> Result<String, AllocError>
-where
-    T: Drop,
-    E: Display + Drop,
-    F: FnOnce(&T, Global) -> Result<String, AllocError>,
-    requires { F.IsAlwaysCallable look }
-{
-    match answer {
-        Ok(value) => look(&value, alloc),
-        Err(error) => format!(in alloc; "{error}"),
-    }
-}
-
 /// Asserts that a call answers this text, by `said`. The case is named where the assertion fails.
 pub(crate) fn assert_says<R, T, E, F>(
     rt: &R,
@@ -149,16 +114,6 @@ where
     let first = first?;
     let second = second?;
     Ok(make(first, second))
-}
-
-/// The printed form of a value.
-pub(crate) fn printed<T: Display>(value: &T, alloc: Global) -> Result<String, AllocError> {
-    format!(in alloc; "{value}")
-}
-
-/// An answer that is no error.
-pub(crate) fn made<T>(value: T) -> Result<T, AllocError> {
-    Ok(value)
 }
 
 /// The metadata at a path of a store.
@@ -205,6 +160,45 @@ pub(crate) fn listed(
 ) -> Result<ListedNodes, NodeCreateError> {
     let store = store_of(alloc, documents)?;
     listed_in(alloc, &store, base, recursive, version)
+}
+
+/// The paths that are listed below a path of a store.
+pub(crate) fn paths_listed_in<S: ReadableStorageTraits + ListableStorageTraits>(
+    alloc: Global,
+    store: &S,
+    base: &str,
+    recursive: bool,
+    version: MetadataRetrieveVersion,
+) -> Result<ListedPaths, NodeCreateError> {
+    let base = NodePath::new(alloc, base)?;
+    list_paths(alloc, store, &base, recursive, &version)
+}
+
+/// The paths that are listed below a path of the store with these documents.
+pub(crate) fn paths_listed(
+    alloc: Global,
+    documents: &[(&str, &str)],
+    base: &str,
+    recursive: bool,
+    version: MetadataRetrieveVersion,
+) -> Result<ListedPaths, NodeCreateError> {
+    let store = store_of(alloc, documents)?;
+    paths_listed_in(alloc, &store, base, recursive, version)
+}
+
+/// The paths of a listing, one a line, and a line for each path that was passed over.
+pub(crate) fn paths_listing_text(
+    listed: &ListedPaths,
+    alloc: Global,
+) -> Result<String, AllocError> {
+    let mut text = String::new(alloc);
+    for path in &listed.paths {
+        write!(text, "{path}\n")?;
+    }
+    for path in &listed.ignored {
+        write!(text, "ignored {path}\n")?;
+    }
+    Ok(text)
 }
 
 /// The trees of nodes: a line for each node, with its path, and indented lines for those below it.

@@ -112,7 +112,7 @@ fn set_in(
 }
 
 // A group with a block of these documents set.
-fn with_block(
+pub(crate) fn with_block(
     alloc: Global,
     group: Result<Group, GroupCreateError>,
     block: &[(&str, &str)],

@@ -1,23 +1,13 @@
-//! Tests that cross crates: documents, nodes and groups of stores, read, listed, stored and erased by public calls alone.
+//! Tests that cross crates: nodes and groups of stores, read, listed, stored and erased by public calls alone.
 //! The crate has no call of its own.
 #![tactic(auto)]
 
 #[cfg(test)]
 mod consolidation;
 #[cfg(test)]
-mod conversion;
-#[cfg(test)]
-mod conversion_errors;
-#[cfg(test)]
-mod conversion_tables;
-#[cfg(test)]
-mod documents;
-#[cfg(test)]
 mod failing;
 #[cfg(test)]
 mod fixtures;
-#[cfg(test)]
-mod forms;
 #[cfg(test)]
 mod group_children;
 #[cfg(test)]
@@ -32,8 +22,6 @@ mod metadata;
 mod nodes;
 #[cfg(test)]
 mod opening;
-#[cfg(test)]
-mod parts;
 #[cfg(test)]
 mod refreshing;
 #[cfg(test)]

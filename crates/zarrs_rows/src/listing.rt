@@ -1,12 +1,17 @@
 //! What a listing shows, passes over and refuses.
 
 use crate::fixtures::{
-    A2, A3_SQUARE, ANY, G2, G3, THREE_LEVELS, assert_says, listed, listing_text, said,
+    A2, A3_SQUARE, ANY, G2, G3, THREE_LEVELS, assert_says, listed, listing_text, paths_listed,
+    paths_listing_text, said, store_of,
 };
-use std::alloc::Global;
+use log::sink::Discard;
+use std::alloc::{AllocError, Global};
 use std::process::Abort;
 use zarrs_block::NodeCreateError;
 use zarrs_config::MetadataRetrieveVersion;
+use zarrs_meta::NodeMetadata;
+use zarrs_node::get_all_nodes_of;
+use zarrs_path::NodePath;
 use zarrs_store::StorageError;
 
 // Asserts what is listed below a path of the store with these documents.
@@ -179,4 +184,116 @@ fn a_listing_without_memory_says_so(rt: HostRuntime) {
 
 fn is_one_of(text: &str, first: &str, second: &str) -> bool {
     text == first || text == second
+}
+
+// ---- the paths alone
+
+// Asserts which paths are listed below a path of the store with these documents, and which are passed over.
+fn assert_paths<R: Abort>(
+    rt: &R,
+    alloc: Global,
+    documents: &[(&str, &str)],
+    base: &str,
+    recursive: bool,
+    wanted: &str,
+) {
+    let found = paths_listed(alloc, documents, base, recursive, ANY);
+    assert_says(rt, alloc, base, found, paths_listing_text, wanted);
+}
+
+#[test]
+fn paths_stand_before_those_below_them_and_before_later_siblings(rt: HostRuntime) {
+    let documents = [
+        ("zarr.json", G3),
+        ("a/zarr.json", G3),
+        ("a/x/zarr.json", G3),
+        ("a-b/zarr.json", G3),
+    ];
+    let alloc = rt.alloc();
+    assert_paths(&rt, alloc, &documents, "/", true, "/a\n/a/x\n/a-b\n");
+    assert_paths(&rt, alloc, &documents, "/", false, "/a\n/a-b\n");
+    assert_paths(&rt, alloc, &documents, "/a", true, "/a/x\n");
+    assert_paths(&rt, alloc, &documents, "/a-b", true, "");
+}
+
+#[test]
+fn paths_without_documents_are_passed_over_with_all_below_them(rt: HostRuntime) {
+    let documents = [
+        ("g/zarr.json", G3),
+        ("g/x/content", "\0"),
+        ("g/x/y/zarr.json", G3),
+        ("y/c", "\0"),
+    ];
+    let alloc = rt.alloc();
+    let wanted = "/g\nignored /g/x\nignored /y\n";
+    assert_paths(&rt, alloc, &documents, "/", true, wanted);
+    assert_paths(&rt, alloc, &documents, "/", false, "/g\nignored /y\n");
+}
+
+#[test]
+fn paths_are_refused_where_something_bad_is_come_upon(rt: HostRuntime) {
+    let documents = [
+        ("a/zarr.json", G3),
+        ("a/b/zarr.json", "\0"),
+        ("c/../zarr.json", G3),
+        ("c/zarr.json", G3),
+    ];
+    let alloc = rt.alloc();
+    let refused = "error parsing metadata for a/b/zarr.json: not JSON";
+    assert_paths(&rt, alloc, &documents, "/", true, refused);
+    assert_paths(&rt, alloc, &documents, "/", false, "/a\n/c\n");
+    let refused = "invalid node path /c/..";
+    assert_paths(&rt, alloc, &documents, "/c", false, refused);
+}
+
+// Asserts which paths of both versions are listed by this one.
+fn assert_paths_by<R: Abort>(
+    rt: &R,
+    alloc: Global,
+    version: MetadataRetrieveVersion,
+    recursive: bool,
+    wanted: &str,
+) {
+    let found = paths_listed(alloc, &BOTH_VERSIONS, "/", recursive, version);
+    assert_says(rt, alloc, "by a version", found, paths_listing_text, wanted);
+}
+
+#[test]
+fn a_version_limits_which_paths_are_listed(rt: HostRuntime) {
+    let alloc = rt.alloc();
+    let of_3 =
+        "/array\n/group\n/group/array\n/group/subgroup\n/group/subgroup/mysubarray\nignored /groupv2\n";
+    assert_paths_by(&rt, alloc, MetadataRetrieveVersion::V3, true, of_3);
+    let of_2 = "/groupv2\n/groupv2/arrayv2\nignored /array\nignored /group\n";
+    assert_paths_by(&rt, alloc, MetadataRetrieveVersion::V2, true, of_2);
+    assert_paths_by(&rt, alloc, ANY, false, "/array\n/group\n/groupv2\n");
+}
+
+// All pairs below the root of the store with the documents of both versions.
+fn pairs_by(
+    alloc: Global,
+    version: MetadataRetrieveVersion,
+) -> Result<Vec<(NodePath, NodeMetadata)>, NodeCreateError> {
+    let store = store_of(alloc, &BOTH_VERSIONS)?;
+    let root = NodePath::root(alloc)?;
+    get_all_nodes_of(&Discard, alloc, &store, &root, &version)
+}
+
+// The paths of pairs, one a line.
+fn paths_of_pairs(
+    pairs: &Vec<(NodePath, NodeMetadata)>,
+    alloc: Global,
+) -> Result<String, AllocError> {
+    let mut text = String::new(alloc);
+    for (path, _) in pairs {
+        write!(text, "{path}\n")?;
+    }
+    Ok(text)
+}
+
+#[test]
+fn the_paths_are_those_of_the_nodes(rt: HostRuntime) {
+    let alloc = rt.alloc();
+    let by_nodes = said(alloc, pairs_by(alloc, ANY), paths_of_pairs).expect(&rt, "memory");
+    assert_paths_by(&rt, alloc, ANY, true, by_nodes.as_str());
 }

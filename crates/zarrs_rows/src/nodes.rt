@@ -3,13 +3,16 @@
 use crate::fixtures::{
     A2, A3, ANY, G2, G3, assert_says, forest_text, pairs_text, printed, said, store_of,
 };
+use crate::group_children::paths_text;
 use log::sink::{Discard, Writer};
 use std::alloc::{AllocError, Global};
 use std::process::Abort;
 use zarrs_block::NodeCreateError;
 use zarrs_config::MetadataRetrieveVersion;
 use zarrs_meta::{GroupMetadata, GroupMetadataV3, NodeMetadata};
-use zarrs_node::{Node, get_all_nodes_of, get_child_nodes, get_child_nodes_opt, laws};
+use zarrs_node::{
+    Node, get_all_nodes_of, get_child_nodes, get_child_nodes_opt, get_child_paths, laws,
+};
 use zarrs_path::{NodePath, meta_key_v3};
 use zarrs_store::{MemoryStore, WritableStorageTraits};
 
@@ -65,6 +68,29 @@ fn all_nodes_are_listed_with_warnings(rt: HostRuntime) {
     let wanted =
         "/g group\nwarned: [WARN  zarrs_node::children] Object at /g/x is not recognized as a component of a Zarr hierarchy. Ignoring.\n[WARN  zarrs_node::children] Object at /y is not recognized as a component of a Zarr hierarchy. Ignoring.\n";
     let found = pairs_and_warnings(rt.alloc(), &documents, "/");
+    assert_says(&rt, rt.alloc(), "warnings", found, printed, wanted);
+}
+
+// The paths below a path of the store with these documents, and what is warned of.
+fn paths_and_warnings(
+    alloc: Global,
+    documents: &[(&str, &str)],
+    base: &str,
+) -> Result<String, NodeCreateError> {
+    let base = NodePath::new(alloc, base)?;
+    let store = store_of(alloc, documents)?;
+    let sink = Writer::new(Vec::new(alloc));
+    let paths = get_child_paths(&sink, alloc, &store, &base, true);
+    let text = said(alloc, paths, paths_text)?;
+    Ok(with_lines(alloc, text.as_str(), &sink.into_inner())?)
+}
+
+#[test]
+fn paths_are_listed_with_the_same_warnings(rt: HostRuntime) {
+    let documents = [("g/zarr.json", G3), ("g/x/content", "\0"), ("y/c", "\0")];
+    let wanted =
+        "/g\nwarned: [WARN  zarrs_node::children] Object at /g/x is not recognized as a component of a Zarr hierarchy. Ignoring.\n[WARN  zarrs_node::children] Object at /y is not recognized as a component of a Zarr hierarchy. Ignoring.\n";
+    let found = paths_and_warnings(rt.alloc(), &documents, "/");
     assert_says(&rt, rt.alloc(), "warnings", found, printed, wanted);
 }
 

@@ -1,6 +1,6 @@
 //! The calls that take documents apart and put them together, and the forms of members, one by one.
 
-use crate::fixtures::said;
+use crate::answers::said;
 use serde_json::{Map, Value};
 use std::alloc::{AllocError, Global};
 use std::process::Abort;

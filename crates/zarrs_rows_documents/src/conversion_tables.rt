@@ -1,7 +1,8 @@
 //! The tables of the conversion, line by line: data types, byte orders, fill values and codecs.
 
+use crate::answers::made;
+use crate::asserts::assert_says;
 use crate::conversion::{array_of, named, order_refusal, refusal, told, value_of, with_lines};
-use crate::fixtures::{assert_says, made};
 use log::sink::Writer;
 use serde_json::{Map, put};
 use std::alloc::{AllocError, Global};

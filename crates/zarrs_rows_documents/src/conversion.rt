@@ -1,6 +1,7 @@
 //! Groups and arrays of version 2 as groups and arrays of version 3: what is answered, and what is warned of.
 
-use crate::fixtures::{assert_says, said};
+use crate::answers::said;
+use crate::asserts::assert_says;
 use log::sink::Writer;
 use serde_json::{Map, Value};
 use std::alloc::{AllocError, Global};

@@ -1,6 +1,7 @@
 //! The parts of metadata: texts, lists, objects, fields, and what is not plain of them.
 
-use crate::fixtures::{A2, A3, assert_says, made, printed, said};
+use crate::answers::{A2, A3, made, printed, said};
+use crate::asserts::assert_says;
 use serde_json::{Map, Value};
 use std::alloc::{AllocError, Global};
 use std::process::Abort;

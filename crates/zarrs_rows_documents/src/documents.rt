@@ -1,6 +1,7 @@
 //! Documents as they are read and written, by every way that leads in or out.
 
-use crate::fixtures::{A2, A2_WRITTEN, A3, G2, G3, assert_says, made, said};
+use crate::answers::{A2, A2_WRITTEN, A3, G2, G3, made, said};
+use crate::asserts::assert_says;
 use serde_json::Value;
 use std::alloc::{AllocError, Global};
 use std::process::Abort;

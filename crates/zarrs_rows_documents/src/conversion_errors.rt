@@ -1,7 +1,8 @@
 //! The texts of the errors of conversion, and the faults that become such errors.
 
+use crate::answers::made;
+use crate::asserts::assert_says;
 use crate::conversion::{object_of, string_of};
-use crate::fixtures::{assert_says, made};
 use serde_json::Value;
 use std::alloc::{AllocError, AllocFailed, Global};
 use std::fmt::Display;

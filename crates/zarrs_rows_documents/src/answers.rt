@@ -1,0 +1,49 @@
+//! The documents that tests share, and what a call answers as a text.
+//!
+//! A test hands each answer on at once and compares texts: these are generic in the value and in the error, so that no
+//! test drops metadata or nodes itself, which is proved variant by variant and field by field.
+
+use std::alloc::{AllocError, Global};
+use std::fmt::Display;
+
+/// A group of version 3.
+pub const G3: &str = r#"{"node_type":"group","zarr_format":3}"#;
+
+/// A group of version 2.
+pub const G2: &str = r#"{"zarr_format":2}"#;
+
+/// An array of version 2.
+pub const A2: &str =
+    r#"{"chunks":[1],"compressor":null,"dtype":"<f8","fill_value":"NaN","filters":null,"order":"C","shape":[1],"zarr_format":2}"#;
+
+/// The array of version 2 as it is written.
+pub const A2_WRITTEN: &str =
+    r#"{"chunks":[1],"compressor":null,"dimension_separator":".","dtype":"<f8","fill_value":"NaN","filters":null,"order":"C","shape":[1],"zarr_format":2}"#;
+
+/// An array of version 3 with the shape `[1]`, which is its chunks' shape too.
+pub const A3: &str =
+    r#"{"chunk_grid":{"configuration":{"chunk_shape":[1]},"name":"regular"},"chunk_key_encoding":{"configuration":{"separator":"/"},"name":"default"},"codecs":[{"configuration":{"endian":"little"},"name":"bytes"}],"data_type":"float32","fill_value":0,"node_type":"array","shape":[1],"zarr_format":3}"#;
+
+/// The text of what a call answers: what `look` makes of the value, or the text of the error.
+pub fn said<T, E, F>(alloc: Global, answer: Result<T, E>, look: F) -> Result<String, AllocError>
+where
+    T: Drop,
+    E: Display + Drop,
+    F: FnOnce(&T, Global) -> Result<String, AllocError>,
+    requires { F.IsAlwaysCallable look }
+{
+    match answer {
+        Ok(value) => look(&value, alloc),
+        Err(error) => format!(in alloc; "{error}"),
+    }
+}
+
+/// The printed form of a value.
+pub fn printed<T: Display>(value: &T, alloc: Global) -> Result<String, AllocError> {
+    format!(in alloc; "{value}")
+}
+
+/// An answer that is no error.
+pub fn made<T>(value: T) -> Result<T, AllocError> {
+    Ok(value)
+}
