@@ -14,16 +14,10 @@ ghost use Rattle.zarrs_group.specs.Edits.{after, IsCutShort};
 ghost use Rattle.zarrs_group.specs.Groups.{converted};
 ghost use Rattle.zarrs_group.specs.Stored.{store_edits, erase_edits, RefusesStore};
 
-use crate::fixtures::{
-    A2, A3_SQUARE, ANY, G2, G3, THREE_LEVELS, config_of, forest_text, key_of, listed_in,
-    listing_text, metadata_in, pairs_text, paths_listed_in, paths_listing_text, said, store_of,
-    with_block,
-};
 use crate::group_children::{
-    LEVELS, LEVELS_TREES, groups_text, levels, paths_text, refused, with_block as with_block_of,
+    LEVELS, LEVELS_TREES, groups_text, levels, refused, with_block as with_block_of,
 };
 use crate::groups::{Step, done};
-use crate::refreshing::{entries_of, keys_text};
 use log::sink::Discard;
 use std::alloc::{AllocError, Global};
 use std::test::Fail;
@@ -40,6 +34,12 @@ use zarrs_node::{
     node_exists_listable, refresh_block,
 };
 use zarrs_path::NodePath;
+use zarrs_rows_documents::{A2, G2, G3, said};
+use zarrs_rows_nodes::{
+    A3_SQUARE, ANY, THREE_LEVELS, config_of, entries_of, forest_text, key_of, keys_text, listed_in,
+    listing_text, metadata_in, pairs_text, paths_listed_in, paths_listing_text, paths_text,
+    store_of, with_block,
+};
 use zarrs_store::{
     FaultAt, FaultStore, ListableStorageTraits, MemoryStore, ReadableStorageTraits, StorageError,
     StorePrefix, StorePrefixError, WritableStorageTraits,

@@ -2,11 +2,6 @@
 //!
 //! Generic helpers hold the groups and the blocks, so that no test drops them itself; the tests compare texts.
 
-use crate::consolidation::block_at;
-use crate::fixtures::{
-    A2, A3, A3_SQUARE, G2, G3, THREE_LEVELS, both, config_of, forest_text, key_of, pairs_text,
-    said, store_of,
-};
 use log::sink::{Discard, Writer};
 use std::alloc::{AllocError, Global};
 use std::fmt::Display;
@@ -16,6 +11,11 @@ use zarrs_config::{Config, UseConsolidatedMetadata};
 use zarrs_group::{Group, GroupCreateError};
 use zarrs_meta::{GroupMetadata, GroupMetadataV2, GroupMetadataV3, NodeMetadata};
 use zarrs_path::NodePath;
+use zarrs_rows_documents::{A2, A3, G2, G3, said};
+use zarrs_rows_nodes::{
+    A3_SQUARE, THREE_LEVELS, both, config_of, forest_text, key_of, node_at, pairs_text, paths_text,
+    store_of,
+};
 use zarrs_store::{MemoryStore, MetadataFault, ReadableStorageTraits, StorageError};
 
 // ---- groups with blocks
@@ -138,15 +138,6 @@ fn group_with(
 }
 
 // ---- answers as texts
-
-/// The paths, one a line.
-pub(crate) fn paths_text(paths: &Vec<NodePath>, alloc: Global) -> Result<String, AllocError> {
-    let mut text = String::new(alloc);
-    for path in paths {
-        write!(text, "{path}\n")?;
-    }
-    Ok(text)
-}
 
 /// The groups, one a line.
 pub(crate) fn groups_text(groups: &Vec<Group>, alloc: Global) -> Result<String, AllocError> {
@@ -456,6 +447,20 @@ fn zmetadata_text(group: &Group, alloc: Global) -> Result<String, AllocError> {
 
 // A group of version 2, and an array below it.
 const OLD_LEVELS: [(&str, &str); 2] = [("g/.zgroup", G2), ("g/a/.zarray", A2)];
+
+// The block of a node at a path of the store with these documents, made of all nodes below it, which a listing places.
+fn block_at(
+    alloc: Global,
+    documents: &[(&str, &str)],
+    path: &str,
+) -> Result<Option<ConsolidatedMetadata>, NodeCreateError> {
+    let node = node_at(alloc, documents, path)?;
+    if !node.has_placed_children() {
+        return Ok(None);
+    }
+    let block = node.consolidate_metadata(alloc)?;
+    Ok(block.map(|metadata| ConsolidatedMetadata { metadata }))
+}
 
 // That group with the block of all below it set.
 fn old_levels(alloc: Global) -> Result<Group, GroupCreateError> {

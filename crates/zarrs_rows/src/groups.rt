@@ -1,8 +1,6 @@
 //! Groups that are made, opened, stored and erased. Each helper holds a group and answers a text; the tests are tables of
 //! short texts.
 
-use crate::fixtures;
-use crate::fixtures::{A2, G2, G3};
 use serde_json::{Map, Value};
 use std::alloc::{AllocError, Global};
 use std::test::Fail;
@@ -16,6 +14,7 @@ use zarrs_meta::{
     AdditionalFieldV3, AdditionalFieldsV3, GroupMetadata, GroupMetadataV2, GroupMetadataV3, Object,
 };
 use zarrs_path::{NodePath, NodePathError};
+use zarrs_rows_documents::{A2, G2, G3};
 use zarrs_store::{
     MemoryStore, ReadableStorageTraits, StorageError, StoreKey, StorePrefix, WritableStorageTraits,
 };
@@ -261,7 +260,7 @@ fn a_path_is_opened_by_its_first_document(rt: HostRuntime) -> Result<(), Fail> {
 
 // What opening a path says over a store with this document at the root.
 fn opened_at(alloc: Global, path: &str, document: &str) -> Result<String, Fail> {
-    let store = fixtures::store_of(alloc, &[("zarr.json", document)])?;
+    let store = zarrs_rows_nodes::store_of(alloc, &[("zarr.json", document)])?;
     said(alloc, Group::open(alloc, &store, path, &Config::new()))
 }
 
@@ -292,7 +291,7 @@ fn the_root_is_opened(rt: HostRuntime) -> Result<(), Fail> {
 
 // What opening `/p` says over a store with an array and this document of a group.
 fn opened_beside_an_array(alloc: Global, document: &str) -> Result<String, Fail> {
-    let store = fixtures::store_of(alloc, &[("p/.zarray", A2), ("p/.zgroup", document)])?;
+    let store = zarrs_rows_nodes::store_of(alloc, &[("p/.zarray", A2), ("p/.zgroup", document)])?;
     said(alloc, Group::open(alloc, &store, "/p", &Config::new()))
 }
 

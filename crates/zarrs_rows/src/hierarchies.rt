@@ -1,8 +1,6 @@
 //! Hierarchies: made of an array, of a group and of what a store has, and their text.
 
-use crate::fixtures::{
-    A2, A3, ANY, G2, G3, THREE_LEVELS, assert_says, config_of, printed, said, store_of, with_block,
-};
+use crate::asserts::assert_says;
 use log::sink::{Discard, Writer};
 use std::alloc::{AllocError, Global};
 use std::fmt::Display;
@@ -12,6 +10,8 @@ use zarrs_group::{Group, GroupCreateError};
 use zarrs_hierarchy::{Hierarchy, laws};
 use zarrs_meta::{ArrayMetadata, ArrayMetadataV2, ArrayMetadataV3, GroupMetadata, GroupMetadataV3};
 use zarrs_path::NodePath;
+use zarrs_rows_documents::{A2, A3, G2, G3, printed, said};
+use zarrs_rows_nodes::{ANY, THREE_LEVELS, config_of, store_of, with_block};
 use zarrs_store::{MemoryStore, MetadataFault, StorageError};
 
 const TREE: &str =

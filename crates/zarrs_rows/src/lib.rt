@@ -1,13 +1,11 @@
-//! Tests that cross crates: nodes and groups of stores, read, listed, stored and erased by public calls alone.
-//! The crate has no call of its own.
+//! Tests that cross crates: groups and hierarchies, opened, read, stored and erased by public calls alone, version 2 groups with a
+//! `.zmetadata`, and every such call over stores that fail. The crate has no call of its own.
 #![tactic(auto)]
 
 #[cfg(test)]
-mod consolidation;
+mod asserts;
 #[cfg(test)]
 mod failing;
-#[cfg(test)]
-mod fixtures;
 #[cfg(test)]
 mod group_children;
 #[cfg(test)]
@@ -15,16 +13,4 @@ mod groups;
 #[cfg(test)]
 mod hierarchies;
 #[cfg(test)]
-mod listing;
-#[cfg(test)]
-mod metadata;
-#[cfg(test)]
-mod nodes;
-#[cfg(test)]
-mod opening;
-#[cfg(test)]
-mod refreshing;
-#[cfg(test)]
 mod small_stores;
-#[cfg(test)]
-mod text;

@@ -1,6 +1,6 @@
 //! Version 2 groups opened by the document `.zmetadata` beside them, as nodes and as hierarchies.
 
-use crate::fixtures::{A2, A2_WRITTEN, G2, G3, assert_says, config_of, store_of};
+use crate::asserts::assert_says;
 use log::sink::Discard;
 use std::alloc::{AllocError, Global};
 use std::process::Abort;
@@ -8,6 +8,8 @@ use zarrs_block::NodeCreateError;
 use zarrs_config::UseConsolidatedMetadata;
 use zarrs_hierarchy::Hierarchy;
 use zarrs_node::Node;
+use zarrs_rows_documents::{A2, A2_WRITTEN, G2, G3};
+use zarrs_rows_nodes::{config_of, store_of};
 
 // The document `.zmetadata` of format 1 with these members, each a key and a document.
 fn small_store(alloc: Global, members: &[(&str, &str)]) -> Result<String, AllocError> {

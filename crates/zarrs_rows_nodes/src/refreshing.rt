@@ -1,8 +1,7 @@
 //! A block made current where the documents of one path changed.
 
-use crate::fixtures::{
-    A3, A3_SQUARE, ANY, G2, G3, THREE_LEVELS, assert_says, key_of, metadata_at, said, store_of,
-};
+use crate::asserts::assert_says;
+use crate::fixtures::{A3_SQUARE, ANY, THREE_LEVELS, entries_of, key_of, keys_text, store_of};
 use log::sink::Discard;
 use std::alloc::{AllocError, Global};
 use std::process::Abort;
@@ -11,6 +10,7 @@ use zarrs_block::{ConsolidatedMetadataMetadata, NodeCreateError};
 use zarrs_meta::{GroupMetadata, GroupMetadataV3, NodeMetadata};
 use zarrs_node::{Node, get_child_nodes, laws, refresh_block};
 use zarrs_path::NodePath;
+use zarrs_rows_documents::{A3, G2, G3, said};
 use zarrs_store::{
     ListableStorageTraits, MemoryStore, ReadableStorageTraits, StorageError, WritableStorageTraits,
 };
@@ -51,19 +51,6 @@ fn refreshed<S: ReadableStorageTraits + ListableStorageTraits>(
     refresh_block(alloc, store, &base, &ANY, block, &path)
 }
 
-// The block with these metadata at these keys.
-pub(crate) fn entries_of(
-    alloc: Global,
-    entries: &[(&str, &str)],
-) -> Result<Block, NodeCreateError> {
-    let mut block = Block::new(alloc);
-    for (key, document) in entries {
-        let metadata = metadata_at(alloc, &[("zarr.json", document)], "/", ANY)?;
-        block.insert(String::from_str(alloc, key)?, metadata)?;
-    }
-    Ok(block)
-}
-
 // A block made current at a path, in the store with these documents.
 fn refreshed_in(
     alloc: Global,
@@ -75,15 +62,6 @@ fn refreshed_in(
     let block = entries_of(alloc, entries)?;
     let store = store_of(alloc, documents)?;
     refreshed(alloc, &store, base, &block, path)
-}
-
-// The keys of a block, one a line.
-pub(crate) fn keys_text(block: &Block, alloc: Global) -> Result<String, AllocError> {
-    let mut text = String::new(alloc);
-    for (key, _metadata) in block.as_map().iter() {
-        write!(text, "{key}\n")?;
-    }
-    Ok(text)
 }
 
 // A line for each key of a block, with its kind.

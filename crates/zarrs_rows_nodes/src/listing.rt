@@ -1,8 +1,8 @@
 //! What a listing shows, passes over and refuses.
 
+use crate::asserts::assert_says;
 use crate::fixtures::{
-    A2, A3_SQUARE, ANY, G2, G3, THREE_LEVELS, assert_says, listed, listing_text, paths_listed,
-    paths_listing_text, said, store_of,
+    A3_SQUARE, ANY, THREE_LEVELS, listed, listing_text, paths_listed, paths_listing_text, store_of,
 };
 use log::sink::Discard;
 use std::alloc::{AllocError, Global};
@@ -12,6 +12,7 @@ use zarrs_config::MetadataRetrieveVersion;
 use zarrs_meta::NodeMetadata;
 use zarrs_node::get_all_nodes_of;
 use zarrs_path::NodePath;
+use zarrs_rows_documents::{A2, G2, G3, said};
 use zarrs_store::StorageError;
 
 // Asserts what is listed below a path of the store with these documents.

@@ -1,6 +1,7 @@
 //! What a path means, and whether a node is there.
 
-use crate::fixtures::{A2, A2_WRITTEN, ANY, G2, G3, assert_says, metadata_at, printed, store_of};
+use crate::asserts::assert_says;
+use crate::fixtures::{ANY, metadata_at, store_of};
 use std::alloc::Global;
 use std::process::Abort;
 use zarrs_block::NodeCreateError;
@@ -8,6 +9,7 @@ use zarrs_config::MetadataRetrieveVersion;
 use zarrs_meta::NodeMetadata;
 use zarrs_node::{node_exists, node_exists_listable};
 use zarrs_path::NodePath;
+use zarrs_rows_documents::{A2, A2_WRITTEN, G2, G3, printed};
 
 // Asserts what a path of the store with these documents means: the text of its metadata, or of the error.
 fn assert_means<R: Abort>(

@@ -1,28 +1,24 @@
-//! Stores made from pairs of a key and a document, the documents that the tests share, and what a call answers as a text.
-//!
-//! A test hands each answer on at once, to `assert_says` or `said`, and compares texts: these are generic in the value
-//! and in the error, so that no test drops metadata or nodes itself, which is proved variant by variant and field by field.
+//! Stores made from pairs of a key and a document, and what stands or is listed at a path of such a store, as a value and as a text.
 
+use log::sink::Discard;
 use std::alloc::{AllocError, Global};
-use std::fmt::Display;
-use std::process::Abort;
-use zarrs_block::NodeCreateError;
+use zarrs_block::{ConsolidatedMetadataMetadata, NodeCreateError};
 use zarrs_config::{Config, MetadataRetrieveVersion, UseConsolidatedMetadata};
 use zarrs_meta::NodeMetadata;
-use zarrs_node::{ListedNodes, ListedPaths, Node, list_nodes, list_paths};
+use zarrs_node::{ListedNodes, ListedPaths, Node, get_child_nodes, list_nodes, list_paths};
 use zarrs_path::NodePath;
-pub(crate) use zarrs_rows_documents::{A2, A2_WRITTEN, A3, G2, G3, made, printed, said};
+use zarrs_rows_documents::G3;
 use zarrs_store::{
     ListableStorageTraits, MemoryStore, ReadableStorageTraits, StorageError, StoreKey,
     StoreKeyError, WritableStorageTraits,
 };
 
 /// An array of version 3 with the shape `[10,10]`, which is its chunks' shape too.
-pub(crate) const A3_SQUARE: &str =
+pub const A3_SQUARE: &str =
     r#"{"chunk_grid":{"configuration":{"chunk_shape":[10,10]},"name":"regular"},"chunk_key_encoding":{"configuration":{"separator":"/"},"name":"default"},"codecs":[{"configuration":{"endian":"little"},"name":"bytes"}],"data_type":"float32","fill_value":0,"node_type":"array","shape":[10,10],"zarr_format":3}"#;
 
 /// Groups and arrays of version 3 in three levels.
-pub(crate) const THREE_LEVELS: [(&str, &str); 6] = [
+pub const THREE_LEVELS: [(&str, &str); 6] = [
     ("zarr.json", G3),
     ("group/zarr.json", G3),
     ("group/subgroup/zarr.json", G3),
@@ -32,17 +28,17 @@ pub(crate) const THREE_LEVELS: [(&str, &str); 6] = [
 ];
 
 /// The version by which both kinds of documents are read.
-pub(crate) const ANY: MetadataRetrieveVersion = MetadataRetrieveVersion::Default;
+pub const ANY: MetadataRetrieveVersion = MetadataRetrieveVersion::Default;
 
 /// The configuration with this policy of blocks.
-pub(crate) fn config_of(policy: UseConsolidatedMetadata) -> Config {
+pub fn config_of(policy: UseConsolidatedMetadata) -> Config {
     let mut config = Config::new();
     config.set_use_consolidated_metadata(policy);
     config
 }
 
 /// The document of a version 3 group with a block of these keys and documents.
-pub(crate) fn with_block(alloc: Global, nodes: &[(&str, &str)]) -> Result<String, AllocError> {
+pub fn with_block(alloc: Global, nodes: &[(&str, &str)]) -> Result<String, AllocError> {
     let mut text = String::new(alloc);
     text.push_str(r#"{"consolidated_metadata":{"kind":"inline","metadata":{"#)?;
     let mut comma = "";
@@ -55,10 +51,7 @@ pub(crate) fn with_block(alloc: Global, nodes: &[(&str, &str)]) -> Result<String
 }
 
 /// The store with these documents at these keys.
-pub(crate) fn store_of(
-    alloc: Global,
-    documents: &[(&str, &str)],
-) -> Result<MemoryStore, StorageError> {
+pub fn store_of(alloc: Global, documents: &[(&str, &str)]) -> Result<MemoryStore, StorageError> {
     let mut store = MemoryStore::new(alloc);
     for (key, document) in documents {
         let key = key_of(alloc, key)?;
@@ -68,7 +61,7 @@ pub(crate) fn store_of(
 }
 
 /// The key that a text is.
-pub(crate) fn key_of(alloc: Global, text: &str) -> Result<StoreKey, StorageError> {
+pub fn key_of(alloc: Global, text: &str) -> Result<StoreKey, StorageError> {
     match StoreKey::new(alloc, text) {
         Ok(key) => Ok(key),
         Err(StoreKeyError::Invalid(text)) => Err(StorageError::Other(text)),
@@ -76,34 +69,8 @@ pub(crate) fn key_of(alloc: Global, text: &str) -> Result<StoreKey, StorageError
     }
 }
 
-/// Asserts that a call answers this text, by `said`. The case is named where the assertion fails.
-pub(crate) fn assert_says<R, T, E, F>(
-    rt: &R,
-    alloc: Global,
-    case: &str,
-    answer: Result<T, E>,
-    look: F,
-    wanted: &str,
-)
-where
-    R: Abort,
-    T: Drop,
-    E: Display + Drop,
-    F: FnOnce(&T, Global) -> Result<String, AllocError>,
-    requires { F.IsAlwaysCallable look }
-{
-    match said(alloc, answer, look) {
-        Ok(text) => assert_eq!(rt; text.as_str(), wanted, "{case}"),
-        Err(_) => assert!(rt; false, "no memory: {case}"),
-    }
-}
-
 /// What a call makes of two values, where both are there.
-pub(crate) fn both<A, B, T, E, F>(
-    first: Result<A, E>,
-    second: Result<B, E>,
-    make: F,
-) -> Result<T, E>
+pub fn both<A, B, T, E, F>(first: Result<A, E>, second: Result<B, E>, make: F) -> Result<T, E>
 where
     A: Drop,
     B: Drop,
@@ -117,7 +84,7 @@ where
 }
 
 /// The metadata at a path of a store.
-pub(crate) fn metadata_in<S: ReadableStorageTraits>(
+pub fn metadata_in<S: ReadableStorageTraits>(
     alloc: Global,
     store: &S,
     path: &str,
@@ -128,7 +95,7 @@ pub(crate) fn metadata_in<S: ReadableStorageTraits>(
 }
 
 /// The metadata at a path of the store with these documents.
-pub(crate) fn metadata_at(
+pub fn metadata_at(
     alloc: Global,
     documents: &[(&str, &str)],
     path: &str,
@@ -138,8 +105,38 @@ pub(crate) fn metadata_at(
     metadata_in(alloc, &store, path, version)
 }
 
+/// The node at a path of the store with these documents, with all nodes below it.
+pub fn node_at(
+    alloc: Global,
+    documents: &[(&str, &str)],
+    path: &str,
+) -> Result<Node, NodeCreateError> {
+    let store = store_of(alloc, documents)?;
+    let path = NodePath::new(alloc, path)?;
+    let metadata = Node::get_metadata(alloc, &store, &path, &ANY);
+    let children = get_child_nodes(&Discard, alloc, &store, &path, true);
+    both(
+        metadata,
+        children,
+        |metadata, children| Node::new_with_metadata(path, metadata, children),
+    )
+}
+
+/// The block with these metadata at these keys.
+pub fn entries_of(
+    alloc: Global,
+    entries: &[(&str, &str)],
+) -> Result<ConsolidatedMetadataMetadata, NodeCreateError> {
+    let mut block = ConsolidatedMetadataMetadata::new(alloc);
+    for (key, document) in entries {
+        let metadata = metadata_at(alloc, &[("zarr.json", document)], "/", ANY)?;
+        block.insert(String::from_str(alloc, key)?, metadata)?;
+    }
+    Ok(block)
+}
+
 /// What is listed below a path of a store.
-pub(crate) fn listed_in<S: ReadableStorageTraits + ListableStorageTraits>(
+pub fn listed_in<S: ReadableStorageTraits + ListableStorageTraits>(
     alloc: Global,
     store: &S,
     base: &str,
@@ -151,7 +148,7 @@ pub(crate) fn listed_in<S: ReadableStorageTraits + ListableStorageTraits>(
 }
 
 /// What is listed below a path of the store with these documents.
-pub(crate) fn listed(
+pub fn listed(
     alloc: Global,
     documents: &[(&str, &str)],
     base: &str,
@@ -163,7 +160,7 @@ pub(crate) fn listed(
 }
 
 /// The paths that are listed below a path of a store.
-pub(crate) fn paths_listed_in<S: ReadableStorageTraits + ListableStorageTraits>(
+pub fn paths_listed_in<S: ReadableStorageTraits + ListableStorageTraits>(
     alloc: Global,
     store: &S,
     base: &str,
@@ -175,7 +172,7 @@ pub(crate) fn paths_listed_in<S: ReadableStorageTraits + ListableStorageTraits>(
 }
 
 /// The paths that are listed below a path of the store with these documents.
-pub(crate) fn paths_listed(
+pub fn paths_listed(
     alloc: Global,
     documents: &[(&str, &str)],
     base: &str,
@@ -186,11 +183,17 @@ pub(crate) fn paths_listed(
     paths_listed_in(alloc, &store, base, recursive, version)
 }
 
+/// The paths, one a line.
+pub fn paths_text(paths: &Vec<NodePath>, alloc: Global) -> Result<String, AllocError> {
+    let mut text = String::new(alloc);
+    for path in paths {
+        write!(text, "{path}\n")?;
+    }
+    Ok(text)
+}
+
 /// The paths of a listing, one a line, and a line for each path that was passed over.
-pub(crate) fn paths_listing_text(
-    listed: &ListedPaths,
-    alloc: Global,
-) -> Result<String, AllocError> {
+pub fn paths_listing_text(listed: &ListedPaths, alloc: Global) -> Result<String, AllocError> {
     let mut text = String::new(alloc);
     for path in &listed.paths {
         write!(text, "{path}\n")?;
@@ -202,7 +205,7 @@ pub(crate) fn paths_listing_text(
 }
 
 /// The trees of nodes: a line for each node, with its path, and indented lines for those below it.
-pub(crate) fn forest_text(nodes: &Vec<Node>, alloc: Global) -> Result<String, AllocError> {
+pub fn forest_text(nodes: &Vec<Node>, alloc: Global) -> Result<String, AllocError> {
     let mut text = String::new(alloc);
     for node in nodes {
         let tree = node.hierarchy_tree(alloc)?;
@@ -213,7 +216,7 @@ pub(crate) fn forest_text(nodes: &Vec<Node>, alloc: Global) -> Result<String, Al
 }
 
 /// The trees of the nodes of a listing, and a line for each path that was passed over.
-pub(crate) fn listing_text(listed: &ListedNodes, alloc: Global) -> Result<String, AllocError> {
+pub fn listing_text(listed: &ListedNodes, alloc: Global) -> Result<String, AllocError> {
     let mut text = forest_text(&listed.nodes, alloc)?;
     for path in &listed.ignored {
         write!(text, "ignored {path}\n")?;
@@ -222,7 +225,7 @@ pub(crate) fn listing_text(listed: &ListedNodes, alloc: Global) -> Result<String
 }
 
 /// The paths and kinds of pairs, one a line.
-pub(crate) fn pairs_text(
+pub fn pairs_text(
     pairs: &Vec<(NodePath, NodeMetadata)>,
     alloc: Global,
 ) -> Result<String, AllocError> {
@@ -234,6 +237,18 @@ pub(crate) fn pairs_text(
             "array"
         };
         write!(text, "{path} {kind}\n")?;
+    }
+    Ok(text)
+}
+
+/// The keys of a block, one a line.
+pub fn keys_text(
+    block: &ConsolidatedMetadataMetadata,
+    alloc: Global,
+) -> Result<String, AllocError> {
+    let mut text = String::new(alloc);
+    for (key, _metadata) in block.as_map().iter() {
+        write!(text, "{key}\n")?;
     }
     Ok(text)
 }

@@ -1,42 +1,14 @@
 //! The block of a node, made of all nodes below it.
 
-use crate::fixtures::{
-    A2, A3, A3_SQUARE, ANY, G2, G3, THREE_LEVELS, assert_says, both, metadata_at, said, store_of,
-};
-use log::sink::Discard;
+use crate::asserts::assert_says;
+use crate::fixtures::{A3_SQUARE, ANY, THREE_LEVELS, metadata_at, node_at};
 use std::alloc::{AllocError, Global};
 use std::process::Abort;
-use zarrs_block::{ConsolidatedMetadata, ConsolidatedMetadataMetadata, NodeCreateError};
+use zarrs_block::{ConsolidatedMetadataMetadata, NodeCreateError};
 use zarrs_meta::{GroupMetadata, GroupMetadataV3, NodeMetadata};
-use zarrs_node::{Node, get_child_nodes, laws};
+use zarrs_node::{Node, laws};
 use zarrs_path::NodePath;
-
-// The node at a path of the store with these documents, with all nodes below it.
-fn node_at(alloc: Global, documents: &[(&str, &str)], path: &str) -> Result<Node, NodeCreateError> {
-    let store = store_of(alloc, documents)?;
-    let path = NodePath::new(alloc, path)?;
-    let metadata = Node::get_metadata(alloc, &store, &path, &ANY);
-    let children = get_child_nodes(&Discard, alloc, &store, &path, true);
-    both(
-        metadata,
-        children,
-        |metadata, children| Node::new_with_metadata(path, metadata, children),
-    )
-}
-
-/// The block of a node at a path of the store with these documents, made of all nodes below it, which a listing places.
-pub(crate) fn block_at(
-    alloc: Global,
-    documents: &[(&str, &str)],
-    path: &str,
-) -> Result<Option<ConsolidatedMetadata>, NodeCreateError> {
-    let node = node_at(alloc, documents, path)?;
-    if !node.has_placed_children() {
-        return Ok(None);
-    }
-    let block = node.consolidate_metadata(alloc)?;
-    Ok(block.map(|metadata| ConsolidatedMetadata { metadata }))
-}
+use zarrs_rows_documents::{A2, A3, G2, G3, said};
 
 // A line for each key of a block, with the metadata; or `no block`.
 fn lines_text(

@@ -1,12 +1,14 @@
 //! The printed tree of what was listed.
 
-use crate::fixtures::{A2, ANY, G2, G3, THREE_LEVELS, assert_says, listed};
+use crate::asserts::assert_says;
+use crate::fixtures::{ANY, THREE_LEVELS, listed};
 use std::alloc::Global;
 use std::process::Abort;
 use zarrs_block::NodeCreateError;
 use zarrs_meta::{GroupMetadata, GroupMetadataV3, NodeMetadata};
 use zarrs_node::{ListedNodes, Node};
 use zarrs_path::NodePath;
+use zarrs_rows_documents::{A2, G2, G3};
 
 // The group of version 3 at the root, over what is listed below it in the store with these documents.
 fn root_over_listed(alloc: Global, documents: &[(&str, &str)]) -> Result<Node, NodeCreateError> {

@@ -1,8 +1,8 @@
 //! Trees built of pairs, and nodes opened by a block or by a listing.
 
+use crate::asserts::assert_says;
 use crate::fixtures::{
-    A2, A3, A3_SQUARE, ANY, G2, G3, THREE_LEVELS, assert_says, config_of, forest_text, metadata_at,
-    printed, said, store_of, with_block,
+    A3_SQUARE, ANY, THREE_LEVELS, config_of, forest_text, metadata_at, store_of, with_block,
 };
 use log::sink::{Discard, Writer};
 use std::alloc::{AllocError, Global};
@@ -12,6 +12,7 @@ use zarrs_config::{Config, MetadataRetrieveVersion, UseConsolidatedMetadata};
 use zarrs_meta::NodeMetadata;
 use zarrs_node::{Node, build_node_tree, build_node_tree_counted, direct_children_from_flat};
 use zarrs_path::NodePath;
+use zarrs_rows_documents::{A2, A3, G2, G3, printed, said};
 
 // ---- trees of pairs
 

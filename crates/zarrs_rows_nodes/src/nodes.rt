@@ -1,9 +1,7 @@
 //! Nodes, the calls that warn, and the pairs of a listing.
 
-use crate::fixtures::{
-    A2, A3, ANY, G2, G3, assert_says, forest_text, pairs_text, printed, said, store_of,
-};
-use crate::group_children::paths_text;
+use crate::asserts::assert_says;
+use crate::fixtures::{ANY, forest_text, pairs_text, paths_text, store_of};
 use log::sink::{Discard, Writer};
 use std::alloc::{AllocError, Global};
 use std::process::Abort;
@@ -14,6 +12,7 @@ use zarrs_node::{
     Node, get_all_nodes_of, get_child_nodes, get_child_nodes_opt, get_child_paths, laws,
 };
 use zarrs_path::{NodePath, meta_key_v3};
+use zarrs_rows_documents::{A2, A3, G2, G3, printed, said};
 use zarrs_store::{MemoryStore, WritableStorageTraits};
 
 // What is listed below a path of the store with these documents, and what is warned of.
