@@ -362,7 +362,7 @@ fn read_array(
 {
     let mut array = ArrayMetadataV2::from_owned_value(alloc, value)?;
     if let Some(value) = attributes {
-        array.attributes = AttributesDocument::from_owned_value(value)?.0;
+        array.attributes = AttributesDocument::from_owned_value(alloc, value)?.0;
     }
     let boxed = BoxedArray::new(alloc, ArrayMetadata::V2(array))?;
     Ok(NodeMetadata::Array(boxed))
@@ -378,7 +378,7 @@ fn read_group(
 {
     let mut group = GroupMetadataV2::from_owned_value(alloc, value)?;
     if let Some(value) = attributes {
-        group.attributes = AttributesDocument::from_owned_value(value)?.0;
+        group.attributes = AttributesDocument::from_owned_value(alloc, value)?.0;
     }
     Ok(NodeMetadata::Group(GroupMetadata::V2(group)))
 }

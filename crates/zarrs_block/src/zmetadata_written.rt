@@ -107,7 +107,7 @@ fn put_group(
 ) -> Result<(), AllocError>
     ensures { OnOk result (members_view documents.new.entries ≡ put_documents path.now (node_written (Group (group_v2 group))) (members_view documents.old.entries)) }
 {
-    let attributes = replace(&mut group.attributes, Object::new(Map::new(alloc)));
+    let attributes = replace(&mut group.attributes, Object::new(alloc));
     put_attributes(documents, alloc, path, attributes)?;
     let key = meta_key_v2_group(alloc, path)?;
     put(documents, alloc, key.as_str(), group.to_value(alloc)?)
@@ -122,7 +122,7 @@ fn put_array(
 ) -> Result<(), AllocError>
     ensures { OnOk result (members_view documents.new.entries ≡ put_documents path.now (node_written (Array (array_v2 array))) (members_view documents.old.entries)) }
 {
-    let attributes = replace(&mut array.attributes, Object::new(Map::new(alloc)));
+    let attributes = replace(&mut array.attributes, Object::new(alloc));
     put_attributes(documents, alloc, path, attributes)?;
     let key = meta_key_v2_array(alloc, path)?;
     put(documents, alloc, key.as_str(), array.to_value(alloc)?)
@@ -141,6 +141,6 @@ fn put_attributes(
         return Ok(());
     }
     let key = meta_key_v2_attributes(alloc, path)?;
-    let value = Value::Object(attributes.into_map());
+    let value = Value::Object(attributes.into_map(alloc)?);
     put(documents, alloc, key.as_str(), value)
 }

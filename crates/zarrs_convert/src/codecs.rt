@@ -139,10 +139,10 @@ fn unsupported(alloc: Global, codec: &MetadataV2) -> ArrayMetadataV2ToV3Error
 {
     match (
         String::from_str(alloc, codec.id.as_str()),
-        codec.configuration.try_clone(alloc),
+        codec.configuration.to_map(alloc),
     ) {
         (Ok(id), Ok(configuration)) => {
-            ArrayMetadataV2ToV3Error::UnsupportedCodec(id, configuration.into_map())
+            ArrayMetadataV2ToV3Error::UnsupportedCodec(id, configuration)
         }
         _ => ArrayMetadataV2ToV3Error::OutOfMemory,
     }

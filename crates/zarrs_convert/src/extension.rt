@@ -24,7 +24,7 @@ pub(crate) fn unconfigured(alloc: Global, name: &str) -> Result<MetadataV3, Allo
 {
     Ok(MetadataV3 {
         name: Text::from_str(alloc, name)?,
-        configuration: Some(Object::new(Map::new(alloc))),
+        configuration: Some(Object::new(alloc)),
         must_understand: true,
     })
 }
@@ -42,7 +42,7 @@ pub(crate) fn configured<T: Form>(
     put_member(&mut configuration, alloc, key, Some(value))?;
     Ok(MetadataV3 {
         name: Text::from_str(alloc, name)?,
-        configuration: Some(Object::new(configuration)),
+        configuration: Some(Object::from_map(alloc, configuration)?),
         must_understand: true,
     })
 }

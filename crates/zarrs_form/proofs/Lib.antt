@@ -5,6 +5,7 @@ pub mod RowLaws
 pub mod AttributeLaws
 pub mod CodecLaws
 pub mod FieldLaws
+pub mod SortedLaws
 pub mod PlainForms
 pub mod TextLaws
 pub mod ExtensionTexts

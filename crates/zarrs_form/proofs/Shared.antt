@@ -1,5 +1,5 @@
 -- Lemmas on lists of members.
-use Rattle.std.proofs.Common.{◌≡◌, ℕ, List, [], ◌∷◌, ◌++◌, Bool, true, false, map, ◌||◌, if◌then◌else◌, String, Global, string_bytes, string_cmp, nat_cmp, Less, Equal, Greater, Ordering, Option, Some, None, Err, Result, Ok, IfOk, IsTrue, true≢false, length, arith, cond, is_eq, refl, ap, sym, ◌∙◌}
+use Rattle.std.proofs.Common.{◌≡◌, ℕ, zero, suc, ◌+◌, ◌<◌, List, [], ◌∷◌, ◌++◌, get_or, take, OnOk, OnErr, Bool, true, false, map, ◌||◌, if◌then◌else◌, String, Global, string_bytes, string_cmp, nat_cmp, Less, Equal, Greater, Ordering, Option, Some, None, Err, Result, Ok, IfOk, IsTrue, true≢false, length, arith, cond, is_eq, refl, ap, sym, ◌∙◌}
 use Rattle.std.specs.List.{list_any, AllByRecursion, AllZip}
 use Rattle.std.specs.List.Sorted.{IsStrictlySortedBy}
 use Rattle.std.specs.Map.{keys_of, lookup}
@@ -62,14 +62,16 @@ pub members_by_itself : (es : List (String Global × Data)) → members_by (λ d
 members_by_itself [] = refl
 members_by_itself (e ∷ es) = ap (member (string_bytes e.0) e.1) (members_by_itself es)
 
-module _ {X : Type 0} (see : X → Data) where
+module _ {X : Type 0} where
   below_middle : (first : String Global × X) (es : List (String Global × X)) (e : String Global × X) (more : List (String Global × X)) → AllByRecursion (λ y. string_cmp first.0 y ≡ Less) (keys_of (es ++ e ∷ more)) → string_cmp first.0 e.0 ≡ Less
   below_middle first [] e more h = h.0
   below_middle first (x ∷ es) e more h = below_middle first es e more h.1
 
-  above_first : (first : String Global × X) (es : List (String Global × X)) (e : String Global × X) (more : List (String Global × X)) → AllByRecursion (λ y. string_cmp first.0 y ≡ Less) (keys_of (es ++ e ∷ more)) → slice_cmp nat_cmp (string_bytes e.0) (string_bytes first.0) ≡ Greater
+  -- a key that stands later is above the first
+  pub above_first : (first : String Global × X) (es : List (String Global × X)) (e : String Global × X) (more : List (String Global × X)) → AllByRecursion (λ y. string_cmp first.0 y ≡ Less) (keys_of (es ++ e ∷ more)) → slice_cmp nat_cmp (string_bytes e.0) (string_bytes first.0) ≡ Greater
   above_first first es e more h = nat_list_cmp_total.antisymm (string_bytes e.0) (string_bytes first.0) ∙ ap ordering_reverse (below_middle first es e more h)
 
+module _ {X : Type 0} (see : X → Data) where
   -- a key that is above those before it goes last
   pub put_last : (done : List (String Global × X)) (e : String Global × X) (more : List (String Global × X)) → IsStrictlySortedBy string_cmp (keys_of (done ++ e ∷ more))
       → put (string_bytes e.0) (see e.1) (members_by see done) ≡ members_by see (done ++ e ∷ [])
@@ -80,28 +82,6 @@ module _ {X : Type 0} (see : X → Data) where
 pub put_last_of : (done : List (String Global × Data)) (e : String Global × Data) (more : List (String Global × Data)) → IsStrictlySortedBy string_cmp (keys_of (done ++ e ∷ more))
     → put (string_bytes e.0) e.1 (members_of done) ≡ members_of (done ++ e ∷ [])
 put_last_of done e more h = ap (put (string_bytes e.0) e.1) (sym (members_by_itself done)) ∙ put_last (λ d. d) done e more h ∙ members_by_itself (done ++ e ∷ [])
-
-put_behind : (b : Bool) (l k : List ℕ) (c d : Data) (ms ns : Members) → slice_cmp nat_cmp k l ≡ Greater → put k d ms ≡ ns → put k d (if b then ms else member l c ms) ≡ (if b then ns else member l c ns)
-put_behind true l k c d ms ns above later = later
-put_behind false l k c d ms ns above later = rw above (ap (member l c) later)
-
-choose_same : (b : Bool) (l : List ℕ) (c : Data) (ms ns : Members) → ms ≡ ns → (if b then ms else member l c ms) ≡ (if b then ns else member l c ns)
-choose_same b l c ms ns e = ap (λ m. if b then m else member l c m) e
-
-module _ {X : Type 0} (see : X → Data) (names : List (List ℕ)) where
-  -- so it does among those that are kept
-  pub kept_last : (done : List (String Global × X)) (e : String Global × X) (more : List (String Global × X)) → IsStrictlySortedBy string_cmp (keys_of (done ++ e ∷ more)) → is_own names (string_bytes e.0) ≡ false
-      → put (string_bytes e.0) (see e.1) (besides names (members_by see done)) ≡ besides names (members_by see (done ++ e ∷ []))
-  unfolding IsStrictlySortedBy
-  kept_last [] e more h other = rw other refl
-  kept_last (first ∷ done) e more h other =
-      put_behind (is_own names (string_bytes first.0)) (string_bytes first.0) (string_bytes e.0) (see first.1) (see e.1) _ _ (above_first see first done e more h.0) (kept_last done e more h.1 other)
-
-  -- an own name is passed over
-  pub own_last : (done : List (String Global × X)) (e : String Global × X) → is_own names (string_bytes e.0) ≡ true
-      → besides names (members_by see done) ≡ besides names (members_by see (done ++ e ∷ []))
-  own_last [] e own = rw own refl
-  own_last (first ∷ done) e own = choose_same (is_own names (string_bytes first.0)) (string_bytes first.0) (see first.1) _ _ (own_last done e own)
 
 -- ---- looking up
 
@@ -124,19 +104,26 @@ parsed_none bytes h =
       | false ↦ λ e. refl
     ] refl
 
-pub is_empty-members_view : (b : Bool) (es : List Entry) → (IsTrue b → length es ≡ 0) × (length es ≡ 0 → IsTrue b) → b ≡ is_empty (members_view es)
-is_empty-members_view true [] h = refl
-is_empty-members_view false [] h = absurd (true≢false (sym (h.1 refl)))
-is_empty-members_view true (e ∷ es) h = let none : length (e ∷ es) ≡ 0 = h.0 refl in absurd (omega (arith, none))
-is_empty-members_view false (e ∷ es) h = refl
-
--- the fields of an empty map are none
-pub is_empty-members_of : (b : Bool) (es : List (String Global × Data)) → (IsTrue b → length es ≡ 0) × (length es ≡ 0 → IsTrue b) → b ≡ is_empty (members_of es)
-is_empty-members_of true [] h = refl
-is_empty-members_of false [] h = absurd (true≢false (sym (h.1 refl)))
-is_empty-members_of true (e ∷ es) h = let none : length (e ∷ es) ≡ 0 = h.0 refl in absurd (omega (arith, none))
-is_empty-members_of false (e ∷ es) h = refl
-
 pub if_ok_then : {A E : Type 0} {P Q : A → Type 0} (r : Result A E) → IfOk r P → ((x : A) → P x → Q x) → IfOk r Q
 if_ok_then (Ok x) p f = f x p
 if_ok_then (Err e) p f = tt
+
+-- what follows from what holds where the answer is good, or where it is an error
+pub on_ok_then : {A E : Type 0} {P Q : Type 0} (r : Result A E) → OnOk r P → (P → Q) → OnOk r Q
+on_ok_then (Ok x) p f = f p
+on_ok_then (Err e) p f = tt
+
+pub on_err_then : {A E : Type 0} {P Q : Type 0} (r : Result A E) → OnErr r P → (P → Q) → OnErr r Q
+on_err_then (Ok x) p f = tt
+on_err_then (Err e) p f = f p
+
+-- one more of the first items
+take_one_more : {X : Type 0} (xs : List X) (i : ℕ) (d : X) → i < length xs → take i xs ++ get_or xs i d ∷ [] ≡ take (suc i) xs
+take_one_more [] i d lt = absurd (omega (arith, lt))
+take_one_more (x ∷ xs) zero d lt = refl
+take_one_more (x ∷ xs) (suc i) d lt = ap (λ ys. x ∷ ys) (take_one_more xs i d (omega (arith, lt)))
+
+pub take_next : {X : Type 0} (xs : List X) (i : ℕ) (d : X) → i < length xs → take i xs ++ get_or xs i d ∷ [] ≡ take (i + 1) xs
+take_next xs i d lt =
+    let same : suc i ≡ i + 1 = omega arith in
+    take_one_more xs i d lt ∙ ap (λ n. take n xs) same

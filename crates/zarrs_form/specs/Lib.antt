@@ -3,4 +3,5 @@ pub mod Documents
 pub mod Fields
 pub mod Forms
 pub mod FormsV2
+pub mod Sorted
 pub mod Texts

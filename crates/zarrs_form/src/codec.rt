@@ -4,7 +4,7 @@ ghost use Rattle.serde_json.specs.View.{view};
 ghost use Rattle.zarrs_form.specs.FormsV2.{codec, codec_data, codec_fits};
 
 use crate::form::Form;
-use crate::members::{has_own_member, members_have_float, put_text, take_member};
+use crate::members::{put_text, take_member};
 use crate::shapes::{Object, Text};
 use crate::text::write_value;
 use serde_json::Value;
@@ -27,7 +27,7 @@ const OWN_NAMES: &[&str] = &["id"];
 impl Form for MetadataV2 {
     ghost form = { codec };
 
-    fn read(_alloc: Global, value: Value) -> Result<Option<MetadataV2>, AllocError> {
+    fn read(alloc: Global, value: Value) -> Result<Option<MetadataV2>, AllocError> {
         let Value::Object(mut members) = value else {
             return Ok(None);
         };
@@ -36,14 +36,14 @@ impl Form for MetadataV2 {
         };
         Ok(Some(MetadataV2 {
             id: Text::new(id),
-            configuration: Object::new(members),
+            configuration: Object::from_map(alloc, members)?,
         }))
     }
 
     ghost written = { codec_data };
 
     fn to_value(&self, alloc: Global) -> Result<Value, AllocError> {
-        let mut members = Object::copy_of(self.configuration.as_map())?.into_map();
+        let mut members = self.configuration.to_map(alloc)?;
         put_text(&mut members, alloc, "id", self.id.as_str())?;
         Ok(Value::Object(members))
     }
@@ -51,8 +51,7 @@ impl Form for MetadataV2 {
     ghost fits = { codec_fits };
 
     fn is_plain(&self) -> bool {
-        let configuration = self.configuration.as_map();
-        !members_have_float(configuration) && !has_own_member(configuration, OWN_NAMES)
+        !self.configuration.has_float() && !self.configuration.has_own_member(OWN_NAMES)
     }
 
     fn write(&self, alloc: Global, out: &mut String) -> Result<(), AllocError> {

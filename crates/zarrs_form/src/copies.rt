@@ -4,7 +4,7 @@ ghost use Rattle.std.specs.Prelude.{◌≡◌, IfOk};
 use crate::codec::MetadataV2;
 use crate::data_type::DataTypeMetadataV2;
 use crate::extension::MetadataV3;
-use crate::fields::{AdditionalFieldV3, AdditionalFieldsV3};
+use crate::fields::AdditionalFieldV3;
 use crate::shapes::{FillValueMetadata, Json, List, Object, Text};
 use std::alloc::{AllocError, Global};
 
@@ -87,19 +87,6 @@ impl Text {
     }
 }
 
-impl Object {
-    /// A copy that equals its source.
-    ///
-    /// # Errors
-    ///
-    /// `AllocError` where there is no memory for the copy.
-    pub fn try_clone(&self, _alloc: Global) -> Result<Object, AllocError>
-        ensures { IfOk result (λ copy. copy ≡ self.now) }
-    {
-        Object::copy_of(self.as_map())
-    }
-}
-
 impl Json {
     /// A copy that equals its source.
     ///
@@ -136,19 +123,6 @@ impl AdditionalFieldV3 {
         ensures { IfOk result (λ copy. copy ≡ self.now) }
     {
         self.clone()
-    }
-}
-
-impl AdditionalFieldsV3 {
-    /// A copy that equals its source.
-    ///
-    /// # Errors
-    ///
-    /// `AllocError` where there is no memory for the copy.
-    pub fn try_clone(&self, _alloc: Global) -> Result<AdditionalFieldsV3, AllocError>
-        ensures { IfOk result (λ copy. copy ≡ self.now) }
-    {
-        Ok(AdditionalFieldsV3::new(self.as_map().clone()?))
     }
 }
 

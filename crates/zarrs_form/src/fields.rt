@@ -1,13 +1,17 @@
 //! The additional fields of a version 3 document.
-ghost use Rattle.std.specs.Prelude.{◌≡◌, IfErr, IfOk, IsFalse, IsTrue, map, option_map};
+ghost use Rattle.std.specs.Prelude.{◌≡◌, ◌∷◌, [], IfErr, IfOk, IsFalse, IsTrue, OnErr, OnOk, map, option_map, string_bytes};
 ghost use Rattle.serde_json.specs.View.{view, members_of, members_view};
 ghost use Rattle.serde_json.specs.Written as written;
 ghost use Rattle.zarrs_form.specs.Documents.{besides, has_own, is_empty, is_null};
+ghost use Rattle.zarrs_form.specs.Sorted.{AreAscending};
+ghost use Rattle.serde_json.specs.Events.{members_len};
 ghost use Rattle.serde_json.specs.Find.{get_member};
-ghost use Rattle.serde_json.specs.Data.{object};
+ghost use Rattle.serde_json.specs.Data.{no_members, object};
+ghost use Rattle.serde_json.specs.Data as json;
 ghost use Rattle.zarrs_form.specs.Fields.{field_data, gains_member, must_understand};
 
 use crate::members::{has_float, is_one_of};
+use crate::sorted::{entries_of, find, has_own_entry, put_entry, take_entry};
 use serde_json::{Map, Value, put};
 use std::alloc::{AllocError, Global};
 use std::marker::Model;
@@ -79,22 +83,28 @@ impl AdditionalFieldV3 {
     }
 }
 
-/// The additional fields of a version 3 document, by their names.
+/// The additional fields of a version 3 document, in the order of their names in a vector of their number. With
+/// no field they take no memory.
+///
+/// Source: Zarr core specification 3.1, "Group metadata" and "Array metadata".
 #[derive(Debug, Drop)]
 pub struct AdditionalFieldsV3 {
-    fields: Map<String, AdditionalFieldV3>,
+    entries: Vec<(String, AdditionalFieldV3)>,
 }
 
 impl Model for AdditionalFieldsV3 {
     ghost use Rattle.serde_json.specs.Data.{Members};
     ghost use Rattle.zarrs_form.specs.DataCode.{members_code};
+    ghost use Rattle.zarrs_form.specs.Sorted.{AreAscending};
     ghost use Rattle.serde_json.specs.View.{members_of};
 
     ghost Value = { Members };
 
     ghost coded = { members_code };
 
-    ghost view = { λ a. members_of a.fields.entries };
+    ghost view = { λ a. members_of a.entries.items };
+
+    ghost invariant = { λ a. AreAscending a.entries.items };
 }
 
 impl Clone for AdditionalFieldV3 {
@@ -108,39 +118,140 @@ impl Clone for AdditionalFieldV3 {
 }
 
 impl AdditionalFieldsV3 {
-    /// The fields of a map.
-    pub fn new(fields: Map<String, AdditionalFieldV3>) -> AdditionalFieldsV3
-        ensures { result ≡ members_of fields.entries }
+    /// No fields. They take no memory.
+    pub fn new(alloc: Global) -> AdditionalFieldsV3
+        ensures { result ≡ no_members }
     {
-        AdditionalFieldsV3 { fields }
+        AdditionalFieldsV3 {
+            entries: Vec::new(alloc),
+        }
+    }
+
+    /// The fields of a map.
+    ///
+    /// # Errors
+    ///
+    /// `AllocError` where there is no memory for them.
+    pub fn from_map(
+        alloc: Global,
+        fields: Map<String, AdditionalFieldV3>,
+    ) -> Result<AdditionalFieldsV3, AllocError>
+        ensures { IfOk result (λ all. all ≡ members_of fields.entries) }
+    {
+        Ok(AdditionalFieldsV3 {
+            entries: entries_of(alloc, fields)?,
+        })
     }
 
     /// The field of that name, if there is one.
     pub fn get(&self, name: &str) -> Option<&AdditionalFieldV3>
         ensures { option_map (λ field. field.now) result ≡ get_member name.now self.now }
     {
-        self.fields.get(name)
+        find(self.as_slice(), name)
     }
 
-    /// The fields as a map.
-    pub fn as_map(&self) -> &Map<String, AdditionalFieldV3>
-        ensures { members_of result.now.entries ≡ self.now }
+    /// The fields in the order of their names, each with its name.
+    pub fn as_slice(&self) -> &[(String, AdditionalFieldV3)]
+        ensures fields { members_of result.now ≡ self.now }
+        ensures ascending { AreAscending result.now }
     {
-        &self.fields
+        self.entries.as_slice()
+    }
+
+    /// The number of fields.
+    pub fn len(&self) -> usize
+        ensures { result ≡ members_len self.now }
+    {
+        self.as_slice().len()
     }
 
     /// Whether there is no field.
     pub fn is_empty(&self) -> bool
         ensures { result ≡ is_empty self.now }
     {
-        self.fields.is_empty()
+        self.as_slice().is_empty()
     }
 
-    /// The map that the fields are.
-    pub fn into_map(self) -> Map<String, AdditionalFieldV3>
-        ensures { members_of result.entries ≡ self }
+    /// Puts a field at that name, and answers the field that stood there, if there was one.
+    ///
+    /// # Errors
+    ///
+    /// `AllocError` where there is no memory for a new field; the fields are unchanged.
+    pub fn insert(
+        &mut self,
+        name: String,
+        field: AdditionalFieldV3,
+    ) -> Result<Option<AdditionalFieldV3>, AllocError>
+        ensures before { IfOk result (λ before. before ≡ get_member (string_bytes name) self.old) }
+        ensures ok { OnOk result (self.new ≡ json.put (string_bytes name) field self.old) }
+        ensures unchanged { OnErr result (self.new ≡ self.old) }
     {
-        self.fields
+        put_entry(&mut self.entries, name, field)
+    }
+
+    /// Takes the field of that name out, and answers it, if there is one.
+    pub fn remove(&mut self, name: &str) -> Option<AdditionalFieldV3>
+        ensures found { result ≡ get_member name.now self.old }
+        ensures left { self.new ≡ besides (name.now ∷ []) self.old }
+    {
+        take_entry(&mut self.entries, name)
+    }
+
+    /// A copy that equals its source.
+    ///
+    /// # Errors
+    ///
+    /// `AllocError` where there is no memory for the copy.
+    pub fn try_clone(&self, _alloc: Global) -> Result<AdditionalFieldsV3, AllocError>
+        ensures { IfOk result (λ copy. copy ≡ self.now) }
+    {
+        Ok(AdditionalFieldsV3 {
+            entries: self.entries.clone()?,
+        })
+    }
+
+    /// Copies of the fields as members of a JSON object.
+    ///
+    /// # Errors
+    ///
+    /// `AllocError` where there is no memory for them.
+    pub fn to_members(&self, alloc: Global) -> Result<Map<String, Value>, AllocError>
+        ensures { IfOk result (λ members. members_view members.entries ≡ self.now) }
+    {
+        let mut members = Map::new(alloc);
+        for entry in self.as_slice() {
+            drop(members.insert(entry.0.clone()?, entry.1.as_value().clone()?)?);
+        }
+        Ok(members)
+    }
+
+    /// Whether a number in a field is neither `u64` nor `i64`, at any depth.
+    pub fn has_float(&self) -> bool
+        ensures { result ≡ written.members_have_float self.now }
+    {
+        for entry in self.as_slice() {
+            if has_float(entry.1.as_value()) {
+                return true;
+            }
+        }
+        false
+    }
+
+    /// Whether some field has one of the names.
+    pub fn has_own_name(&self, own_names: &[&str]) -> bool
+        ensures { result ≡ has_own (map (λ name. name.now) own_names.now) self.now }
+    {
+        has_own_entry(self.as_slice(), own_names)
+    }
+
+    /// Whether there is a field of this name, and it is null.
+    pub fn is_null_at(&self, name: &str) -> bool
+        ensures { result ≡ is_null (get_member name.now self.now) }
+    {
+        match self.get(name) {
+            Some(field) => field.value.is_null(),
+            None => false,
+        }
     }
 }
 
@@ -162,50 +273,6 @@ fn with_must_understand(
     Ok(members)
 }
 
-/// The fields as members of a JSON object.
-///
-/// # Errors
-///
-/// `AllocError` where there is no memory for them.
-///
-/// Source: Zarr core specification 3.1, "Array metadata".
-pub fn members_of_fields(
-    alloc: Global,
-    fields: &Map<String, AdditionalFieldV3>,
-) -> Result<Map<String, Value>, AllocError>
-    ensures { IfOk result (λ members. members_view members.entries ≡ members_of fields.now.entries) }
-{
-    let mut members = Map::new(alloc);
-    for (name, field) in fields.iter() {
-        drop(members.insert(name.clone()?, field.value.clone()?)?);
-    }
-    Ok(members)
-}
-
-/// Whether a number in a field is neither `u64` nor `i64`, at any depth.
-pub fn fields_have_float(fields: &Map<String, AdditionalFieldV3>) -> bool
-    ensures { result ≡ written.members_have_float (members_of fields.now.entries) }
-{
-    for (_name, field) in fields.iter() {
-        if has_float(&field.value) {
-            return true;
-        }
-    }
-    false
-}
-
-/// Whether some field has one of the own names.
-pub fn has_own_name(fields: &Map<String, AdditionalFieldV3>, own_names: &[&str]) -> bool
-    ensures { result ≡ has_own (map (λ name. name.now) own_names.now) (members_of fields.now.entries) }
-{
-    for (name, _field) in fields.iter() {
-        if is_one_of(name.as_str(), own_names) {
-            return true;
-        }
-    }
-    false
-}
-
 /// The members that have none of the own names, as fields.
 ///
 /// # Errors
@@ -221,21 +288,12 @@ pub fn fields_of(
     ensures { IfOk result (λ fields. fields
         ≡ besides (map (λ name. name.now) own_names.now) (members_view members.entries)) }
 {
-    let mut fields = Map::new(alloc);
+    let mut entries = Vec::new(alloc);
     for (name, value) in members {
         if !is_one_of(name.as_str(), own_names) {
-            drop(fields.insert(name, AdditionalFieldV3 { value })?);
+            entries.push((name, AdditionalFieldV3 { value }))?;
         }
     }
-    Ok(AdditionalFieldsV3 { fields })
-}
-
-/// Whether there is a field of this name, and it is null.
-pub fn is_null_at(fields: &Map<String, AdditionalFieldV3>, name: &str) -> bool
-    ensures { result ≡ is_null (get_member name.now (members_of fields.now.entries)) }
-{
-    match fields.get(name) {
-        Some(field) => field.value.is_null(),
-        None => false,
-    }
+    entries.shrink_to_fit();
+    Ok(AdditionalFieldsV3 { entries })
 }

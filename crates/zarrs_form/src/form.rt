@@ -12,7 +12,7 @@ ghost use Rattle.zarrs_form.specs.Forms as forms;
 ghost use Rattle.zarrs_form.specs.Texts.{BeginsWith};
 ghost use Rattle.zarrs_form.specs.Forms.{number_u64, any, nullable, list_of, number_data, list_data, nullable_data, none_or, put_row};
 
-use crate::members::{has_float, members_have_float, take_member};
+use crate::members::{has_float, take_member};
 use crate::shapes::{FillValueMetadata, Json, List, Object, Text};
 use crate::text::{write_comma, write_members, write_text, write_value};
 use serde_json::{Map, Value, put};
@@ -144,27 +144,27 @@ impl Form for Text {
 impl Form for Object {
     ghost form = { as_object };
 
-    fn read(_alloc: Global, value: Value) -> Result<Option<Object>, AllocError> {
+    fn read(alloc: Global, value: Value) -> Result<Option<Object>, AllocError> {
         let Value::Object(members) = value else {
             return Ok(None);
         };
-        Ok(Some(Object::new(members)))
+        Ok(Some(Object::from_map(alloc, members)?))
     }
 
     ghost written = { object };
 
-    fn to_value(&self, _alloc: Global) -> Result<Value, AllocError> {
-        Ok(Value::Object(Object::copy_of(self.as_map())?.into_map()))
+    fn to_value(&self, alloc: Global) -> Result<Value, AllocError> {
+        Ok(Value::Object(self.to_map(alloc)?))
     }
 
     ghost fits = { λ ms. forms.fits (object ms) };
 
     fn is_plain(&self) -> bool {
-        !members_have_float(self.as_map())
+        !self.has_float()
     }
 
     fn write(&self, alloc: Global, out: &mut String) -> Result<(), AllocError> {
-        write_members(alloc, out, self.as_map())
+        write_members(alloc, out, self.as_slice())
     }
 }
 
@@ -377,7 +377,7 @@ pub fn attributes(alloc: Global, members: &mut Map<String, Value>) -> Result<Obj
     ensures left { members_view members.new.entries
         ≡ besides (codes "attributes" ∷ []) (members_view members.old.entries) }
 {
-    optional(alloc, members, "attributes", Object::new(Map::new(alloc)))
+    optional(alloc, members, "attributes", Object::new(alloc))
 }
 
 /// Puts what is written of the value as the member of that name, or nothing where there is no value.

@@ -12,6 +12,7 @@ mod fields;
 mod form;
 mod members;
 mod shapes;
+mod sorted;
 mod text;
 
 pub use chunks::{ArrayMetadataV2Order, ChunkKeySeparator, chunk_lengths, has_zero};
@@ -19,14 +20,11 @@ pub use codec::MetadataV2;
 pub use copies::Duplicate;
 pub use data_type::{DataTypeMetadataV2, Endianness};
 pub use extension::MetadataV3;
-pub use fields::{
-    AdditionalFieldV3, AdditionalFieldsV3, fields_have_float, fields_of, has_own_name, is_null_at,
-    members_of_fields,
-};
+pub use fields::{AdditionalFieldV3, AdditionalFieldsV3, fields_of};
 pub use form::{Form, attributes, optional, put_member, put_unless, required};
 pub use members::{
-    ask_format, ask_node_type, document, document_copy, has_own_member, member, members_have_float,
-    parse, put_text, refuse, take_member, take_null,
+    ask_format, ask_node_type, document, document_copy, member, members_have_float, parse,
+    put_text, refuse, take_member, take_null,
 };
 pub use shapes::{FillValueMetadata, Json, List, Object, Text};
 pub use text::{open_table, write_last, write_row, write_unless};

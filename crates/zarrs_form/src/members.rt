@@ -4,9 +4,8 @@ ghost use Rattle.serde_json.specs.Data.{object, string, put};
 ghost use Rattle.serde_json.specs.Find.{get_member};
 ghost use Rattle.serde_json.specs.Written as written;
 ghost use Rattle.serde_json.specs.View.{view, items_view, members_view};
-ghost use Rattle.zarrs_form.specs.Documents.{Gives, absent, besides, besides_null, has_own, is_own, object_of, parsed, json_of, document_of, format_of, node_type_of};
+ghost use Rattle.zarrs_form.specs.Documents.{Gives, absent, besides, besides_null, is_own, object_of, parsed, json_of, document_of, format_of, node_type_of};
 
-use crate::shapes::Object;
 use serde_json::{Category, Map, Value};
 use std::alloc::{AllocError, Global};
 use zarrs_store::{MemberName, MetadataFault};
@@ -98,9 +97,16 @@ pub fn document_copy(value: &Value) -> Result<Map<String, Value>, MetadataFault>
         return Err(MetadataFault::UnsupportedNumber);
     }
     match value {
-        Value::Object(members) => Ok(Object::copy_of(members)?.into_map()),
+        Value::Object(members) => Ok(copy_of(members)?),
         _ => Err(MetadataFault::NotAnObject),
     }
+}
+
+fn copy_of(members: &Map<String, Value>) -> Result<Map<String, Value>, AllocError>
+    ensures { IfOk result (λ copy. members_view copy.entries ≡ members_view members.now.entries) }
+{
+    let copy = members.clone()?;
+    Ok(copy)
 }
 
 /// The member of that name, if there is one.
@@ -217,16 +223,4 @@ pub fn refuse(members: &Map<String, Value>, name: &'static str) -> Result<(), Me
         None => Ok(()),
         Some(_) => Err(MetadataFault::BadMember(MemberName::new(name))),
     }
-}
-
-/// Whether some member has one of the own names.
-pub fn has_own_member(members: &Map<String, Value>, own_names: &[&str]) -> bool
-    ensures { result ≡ has_own (map (λ name. name.now) own_names.now) (members_view members.now.entries) }
-{
-    for (name, _member) in members.iter() {
-        if is_one_of(name.as_str(), own_names) {
-            return true;
-        }
-    }
-    false
 }

@@ -12,7 +12,7 @@ ghost use Rattle.zarrs_form.specs.Forms.{none_or};
 ghost use Rattle.zarrs_form.specs.Texts.{BeginsWith, has_escape, row_text};
 
 use crate::form::Form;
-use serde_json::{Map, Value};
+use serde_json::Value;
 use std::alloc::{AllocError, Global};
 
 /// Whether a byte stands otherwise than as itself within quotes.
@@ -81,20 +81,20 @@ fn write_name(alloc: Global, out: &mut String, name: &str) -> Result<(), AllocEr
 pub(crate) fn write_members(
     alloc: Global,
     out: &mut String,
-    members: &Map<String, Value>,
+    members: &[(String, Value)],
 ) -> Result<(), AllocError>
-    ensures ok { OnOk result (written.members_have_float (members_view members.now.entries) ≡ false
-        → string_bytes out.new ≡ string_bytes out.old ++ compact_text (object (members_view members.now.entries))) }
-    ensures err { OnErr result (written.members_have_float (members_view members.now.entries) ≡ false
-        → BeginsWith (string_bytes out.old ++ compact_text (object (members_view members.now.entries))) (string_bytes out.new)) }
+    ensures ok { OnOk result (written.members_have_float (members_view members.now) ≡ false
+        → string_bytes out.new ≡ string_bytes out.old ++ compact_text (object (members_view members.now))) }
+    ensures err { OnErr result (written.members_have_float (members_view members.now) ≡ false
+        → BeginsWith (string_bytes out.old ++ compact_text (object (members_view members.now))) (string_bytes out.new)) }
     ensures kept { BeginsWith (string_bytes out.new) (string_bytes out.old) }
 {
     out.push_str("{")?;
     let mut later = false;
-    for (name, member) in members.iter() {
+    for member in members {
         write_comma(out, later)?;
-        write_name(alloc, out, name.as_str())?;
-        write_value(alloc, out, member)?;
+        write_name(alloc, out, member.0.as_str())?;
+        write_value(alloc, out, &member.1)?;
         later = true;
     }
     out.push_str("}")

@@ -8,7 +8,6 @@ ghost use Rattle.zarrs_group.specs.Opened.{RefusesMaking};
 
 use crate::create_error::GroupCreateError;
 use crate::group::Group;
-use serde_json::{Map, Value};
 use std::alloc::Global;
 use std::marker::Model;
 use zarrs_config::Config;
@@ -49,14 +48,14 @@ impl GroupBuilder {
     /// Puts these attributes in place of the others.
     ///
     /// Source: `zarrs::group::GroupBuilder::attributes`.
-    pub fn attributes(&mut self, attributes: Map<String, Value>) -> &mut GroupBuilder
+    pub fn attributes(&mut self, attributes: Object) -> &mut GroupBuilder
         ensures same { result.ghost_name ≡ self.entry.ghost_name }
         ensures value { result.now ≡ record {
-          attributes = members_view attributes.entries;
+          attributes = attributes;
           additional_fields = self.old.additional_fields;
         } }
     {
-        self.metadata.attributes = Object::new(attributes);
+        self.metadata.attributes = attributes;
         self
     }
 

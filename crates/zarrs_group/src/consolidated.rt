@@ -10,9 +10,7 @@ ghost use Rattle.zarrs_group.specs.Beside.{IsBeside};
 ghost use Rattle.zarrs_group.specs.Consolidated.{held_by, fields_with, metadata_with, with_block, Fits, RefusesBlock, CanHold};
 
 use crate::group::Group;
-use serde_json::Map;
 use std::alloc::{AllocError, Global};
-use std::mem::replace;
 use zarrs_block::{ConsolidatedMetadata, NodeCreateError, consolidated_metadata_of};
 use zarrs_meta::{AdditionalFieldV3, AdditionalFieldsV3, GroupMetadata, GroupMetadataV2};
 
@@ -141,7 +139,7 @@ fn set_block(
             put_block(fields, alloc, field)
         }
         None => {
-            remove_block(fields, alloc);
+            remove_block(fields);
             Ok(())
         }
     }
@@ -157,20 +155,13 @@ fn put_block(
     ensures unchanged { OnErr result (fields.new ≡ fields.old) }
 {
     let name = String::from_str(alloc, "consolidated_metadata")?;
-    let none = AdditionalFieldsV3::new(Map::new(alloc));
-    let mut map = replace(fields, none).into_map();
-    let inserted = map.insert(name, field);
-    *fields = AdditionalFieldsV3::new(map);
-    drop(inserted?);
+    drop(fields.insert(name, field)?);
     Ok(())
 }
 
 // Removes the field `consolidated_metadata`.
-fn remove_block(fields: &mut AdditionalFieldsV3, alloc: Global)
+fn remove_block(fields: &mut AdditionalFieldsV3)
     ensures { fields.new ≡ besides (codes "consolidated_metadata" ∷ []) fields.old }
 {
-    let none = AdditionalFieldsV3::new(Map::new(alloc));
-    let mut map = replace(fields, none).into_map();
-    drop(map.remove("consolidated_metadata"));
-    *fields = AdditionalFieldsV3::new(map);
+    drop(fields.remove("consolidated_metadata"));
 }

@@ -1,18 +1,19 @@
 //! Why a group is not plain: its metadata, or the block beside those of version 2.
 ghost use Rattle.std.specs.Prelude.{◌≡◌, [], is_some, IfOk};
 ghost use Rattle.serde_json.specs.Data.{Members, object};
-ghost use Rattle.serde_json.specs.View.{view, members_view, members_of};
+ghost use Rattle.serde_json.specs.View.{view};
 ghost use Rattle.serde_json.specs.Written as written;
 ghost use Rattle.zarrs_block.specs.Expanded.{path_at};
 ghost use Rattle.zarrs_group.specs.Plain.{group_v3_fault, group_v2_fault, block_fault, node_has_float, node_fields};
 ghost use Rattle.zarrs_group.specs.Plain as plain;
 
-use serde_json::{Map, Value};
+use serde_json::Value;
 use std::alloc::{AllocError, Global};
 use zarrs_block::{ConsolidatedMetadata, ConsolidatedMetadataMetadata};
-use zarrs_form::{fields_have_float, is_null_at, members_have_float};
+use zarrs_form::members_have_float;
 use zarrs_meta::{
-    AdditionalFieldV3, ArrayMetadata, GroupMetadata, GroupMetadataV2, GroupMetadataV3, NodeMetadata,
+    AdditionalFieldsV3, ArrayMetadata, GroupMetadata, GroupMetadataV2, GroupMetadataV3,
+    NodeMetadata, Object,
 };
 use zarrs_store::{MemberName, MetadataFault};
 
@@ -20,13 +21,13 @@ use zarrs_store::{MemberName, MetadataFault};
 pub(crate) fn group_v3_fault(group: &GroupMetadataV3) -> Option<MetadataFault>
     ensures { result ≡ group_v3_fault group.now }
 {
-    let fields = group.additional_fields.as_map();
-    if members_have_float(group.attributes.as_map()) || fields_have_float(fields) {
+    let fields = &group.additional_fields;
+    if group.attributes.has_float() || fields.has_float() {
         return Some(MetadataFault::UnsupportedNumber);
     }
     let clash = if has_field(fields, "attributes") {
         "attributes"
-    } else if is_null_at(fields, "consolidated_metadata") {
+    } else if fields.is_null_at("consolidated_metadata") {
         "consolidated_metadata"
     } else if has_field(fields, "node_type") {
         "node_type"
@@ -42,8 +43,8 @@ pub(crate) fn group_v3_fault(group: &GroupMetadataV3) -> Option<MetadataFault>
 pub(crate) fn group_v2_fault(group: &GroupMetadataV2) -> Option<MetadataFault>
     ensures { result ≡ group_v2_fault group.now }
 {
-    let fields = group.additional_fields.as_map();
-    if members_have_float(group.attributes.as_map()) || members_have_float(fields) {
+    let fields = &group.additional_fields;
+    if group.attributes.has_float() || fields.has_float() {
         return Some(MetadataFault::UnsupportedNumber);
     }
     let clash = if has_member(fields, "attributes") {
@@ -59,8 +60,8 @@ pub(crate) fn group_v2_fault(group: &GroupMetadataV2) -> Option<MetadataFault>
 }
 
 // Whether a member has this name.
-fn has_member(members: &Map<String, Value>, name: &str) -> bool
-    ensures { result ≡ plain.has_member name.now (members_view members.now.entries) }
+fn has_member(members: &Object, name: &str) -> bool
+    ensures { result ≡ plain.has_member name.now members.now }
 {
     match members.get(name) {
         Some(_) => true,
@@ -69,8 +70,8 @@ fn has_member(members: &Map<String, Value>, name: &str) -> bool
 }
 
 // Whether a field has this name.
-fn has_field(fields: &Map<String, AdditionalFieldV3>, name: &str) -> bool
-    ensures { result ≡ plain.has_member name.now (members_of fields.now.entries) }
+fn has_field(fields: &AdditionalFieldsV3, name: &str) -> bool
+    ensures { result ≡ plain.has_member name.now fields.now }
 {
     match fields.get(name) {
         Some(_) => true,
@@ -135,15 +136,11 @@ fn own_fields_have_float(node: &NodeMetadata) -> bool
     ensures { result ≡ written.members_have_float (node_fields node.now) }
 {
     match node {
-        NodeMetadata::Group(GroupMetadata::V3(group)) => {
-            fields_have_float(group.additional_fields.as_map())
-        }
-        NodeMetadata::Group(GroupMetadata::V2(group)) => {
-            members_have_float(group.additional_fields.as_map())
-        }
+        NodeMetadata::Group(GroupMetadata::V3(group)) => { group.additional_fields.has_float() }
+        NodeMetadata::Group(GroupMetadata::V2(group)) => { group.additional_fields.has_float() }
         NodeMetadata::Array(array) => match array.as_ref() {
-            ArrayMetadata::V3(array) => fields_have_float(array.additional_fields.as_map()),
-            ArrayMetadata::V2(array) => members_have_float(array.additional_fields.as_map()),
+            ArrayMetadata::V3(array) => array.additional_fields.has_float(),
+            ArrayMetadata::V2(array) => array.additional_fields.has_float(),
         },
     }
 }

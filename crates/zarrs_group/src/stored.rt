@@ -17,7 +17,7 @@ ghost use Rattle.zarrs_group.specs.Stored.{AreReadBack, IsBlockReadBack, Refuses
 use crate::edit::Edit;
 use crate::layout::pretty_bytes;
 use crate::plain::{block_fault, group_v2_fault, group_v3_fault};
-use serde_json::{Map, Value};
+use serde_json::Value;
 use std::alloc::{AllocError, Global};
 use zarrs_block::{ConsolidatedMetadata, NodeCreateError};
 use zarrs_config::MetadataEraseVersion;
@@ -128,7 +128,7 @@ fn edits_of_documents(
 {
     let attributes = edit_of_attributes(alloc, path, group.attributes)?;
     let group = GroupMetadataV2 {
-        attributes: Object::new(Map::new(alloc)),
+        attributes: Object::new(alloc),
         additional_fields: group.additional_fields,
     };
     let key = meta_key_v2_group(alloc, path)?;
@@ -150,7 +150,7 @@ fn edit_of_attributes(
     if attributes.is_empty() {
         return Ok(Edit::Erase(key));
     }
-    let value = Value::Object(attributes.into_map());
+    let value = Value::Object(attributes.into_map(alloc)?);
     Ok(Edit::Set(key, pretty_bytes(alloc, &value)?))
 }
 

@@ -73,17 +73,17 @@ pub(crate) fn unsupported_field(
     }
 }
 
-// The names of a map ascend, so the first of these fields has the least name.
+// The names of the fields ascend, so the first of these fields has the least name.
 fn least_unsupported(
     fields: &AdditionalFieldsV3,
 ) -> Result<Option<AdditionalFieldUnsupportedError>, AllocError>
     ensures { IfOk result (IsUnsupported fields.now) }
 {
-    for (name, field) in fields.as_map().iter() {
-        if field.must_understand() {
+    for entry in fields.as_slice() {
+        if entry.1.must_understand() {
             let error = AdditionalFieldUnsupportedError::new(
-                name.clone()?,
-                field.as_value().clone()?,
+                entry.0.clone()?,
+                entry.1.as_value().clone()?,
             );
             return Ok(Some(error));
         }

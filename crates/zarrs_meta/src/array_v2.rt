@@ -14,9 +14,9 @@ use serde_json::{Map, Value, put};
 use std::alloc::{AllocError, Global};
 use zarrs_form::{
     ArrayMetadataV2Order, ChunkKeySeparator, DataTypeMetadataV2, FillValueMetadata, Form, List,
-    MetadataV2, Object, ask_format, attributes, chunk_lengths, document, document_copy,
-    has_own_member, has_zero, members_have_float, open_table, optional, parse, put_member,
-    put_unless, required, take_member, write_last, write_row, write_unless,
+    MetadataV2, Object, ask_format, attributes, chunk_lengths, document, document_copy, has_zero,
+    open_table, optional, parse, put_member, put_unless, required, take_member, write_last,
+    write_row, write_unless,
 };
 use zarrs_store::MetadataFault;
 
@@ -111,7 +111,7 @@ impl ArrayMetadataV2 {
             filters: optional(alloc, &mut members, "filters", None)?,
             dimension_separator: dimension_separator(alloc, &mut members)?,
             attributes: attributes(alloc, &mut members)?,
-            additional_fields: Object::new(members),
+            additional_fields: Object::from_map(alloc, members)?,
         })
     }
 
@@ -153,7 +153,7 @@ impl ArrayMetadataV2 {
     pub fn to_value(&self, alloc: Global) -> Result<Value, AllocError>
         ensures { IfOk result (λ v. view v ≡ array_v2_tree self.now) }
     {
-        let mut all = Object::copy_of(self.additional_fields.as_map())?.into_map();
+        let mut all = self.additional_fields.to_map(alloc)?;
         put(&mut all, alloc, "zarr_format", Value::from(2u64))?;
         put_member(&mut all, alloc, "shape", Some(&self.shape))?;
         put_member(&mut all, alloc, "chunks", Some(&self.chunks))?;
@@ -217,15 +217,14 @@ impl ArrayMetadataV2 {
     pub fn is_plain(&self) -> bool
         ensures { result ≡ is_plain_array_v2 self.now }
     {
-        let fields = self.additional_fields.as_map();
         !has_zero(&self.chunks)
             && self.dtype.is_plain()
             && self.fill_value.is_plain()
             && self.compressor.is_plain()
             && self.filters.is_plain()
             && self.attributes.is_plain()
-            && !members_have_float(fields)
-            && !has_own_member(fields, OWN_NAMES)
+            && !self.additional_fields.has_float()
+            && !self.additional_fields.has_own_member(OWN_NAMES)
     }
 }
 

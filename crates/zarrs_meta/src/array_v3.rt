@@ -14,9 +14,9 @@ use serde_json::{Map, Value, put};
 use std::alloc::{AllocError, Global};
 use zarrs_form::{
     AdditionalFieldsV3, ChunkKeySeparator, FillValueMetadata, Form, List, MetadataV3, Object, Text,
-    ask_format, ask_node_type, attributes, document, document_copy, fields_have_float, fields_of,
-    has_own_name, members_of_fields, open_table, optional, parse, put_member, put_text, put_unless,
-    required, write_last, write_row, write_unless,
+    ask_format, ask_node_type, attributes, document, document_copy, fields_of, open_table,
+    optional, parse, put_member, put_text, put_unless, required, write_last, write_row,
+    write_unless,
 };
 use zarrs_store::MetadataFault;
 
@@ -88,10 +88,10 @@ impl ArrayMetadataV3 {
             chunk_key_encoding: default_encoding(alloc)?,
             fill_value,
             codecs,
-            attributes: Object::new(Map::new(alloc)),
+            attributes: Object::new(alloc),
             storage_transformers: List::new(Vec::new(alloc)),
             dimension_names: None,
-            additional_fields: AdditionalFieldsV3::new(Map::new(alloc)),
+            additional_fields: AdditionalFieldsV3::new(alloc),
         })
     }
 
@@ -192,7 +192,7 @@ impl ArrayMetadataV3 {
     pub fn to_value(&self, alloc: Global) -> Result<Value, AllocError>
         ensures { IfOk result (λ v. view v ≡ array_v3_tree self.now) }
     {
-        let mut all = members_of_fields(alloc, self.additional_fields.as_map())?;
+        let mut all = self.additional_fields.to_members(alloc)?;
         put(&mut all, alloc, "zarr_format", Value::from(3u64))?;
         put_text(&mut all, alloc, "node_type", "array")?;
         put_member(&mut all, alloc, "shape", Some(&self.shape))?;
@@ -280,8 +280,8 @@ impl ArrayMetadataV3 {
             && self.codecs.is_plain()
             && self.attributes.is_plain()
             && self.storage_transformers.is_plain()
-            && !fields_have_float(self.additional_fields.as_map())
-            && !has_own_name(self.additional_fields.as_map(), OWN_NAMES)
+            && !self.additional_fields.has_float()
+            && !self.additional_fields.has_own_name(OWN_NAMES)
     }
 }
 
@@ -294,7 +294,7 @@ fn default_encoding(alloc: Global) -> Result<MetadataV3, AllocError>
     put_member(&mut configuration, alloc, "separator", Some(&separator))?;
     Ok(MetadataV3 {
         name: Text::from_str(alloc, "default")?,
-        configuration: Some(Object::new(configuration)),
+        configuration: Some(Object::from_map(alloc, configuration)?),
         must_understand: true,
     })
 }

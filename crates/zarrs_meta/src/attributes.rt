@@ -25,11 +25,11 @@ impl AttributesDocument {
     /// `NotAnObject` where the value is none. `OutOfMemory` where there is no memory.
     ///
     /// Source: Zarr specification version 2, "Attributes".
-    pub fn from_value(_alloc: Global, value: &Value) -> Result<AttributesDocument, MetadataFault>
+    pub fn from_value(alloc: Global, value: &Value) -> Result<AttributesDocument, MetadataFault>
         ensures { Gives (λ a. a) result (attributes_of (view value.now)) }
     {
         let members = document_copy(value)?;
-        Ok(AttributesDocument(Object::new(members)))
+        Ok(AttributesDocument(Object::from_map(alloc, members)?))
     }
 
     /// The attributes that a JSON value is, whose members they take over.
@@ -39,10 +39,14 @@ impl AttributesDocument {
     /// As [`AttributesDocument::from_value`].
     ///
     /// Source: Zarr specification version 2, "Attributes".
-    pub fn from_owned_value(value: Value) -> Result<AttributesDocument, MetadataFault>
+    pub fn from_owned_value(
+        alloc: Global,
+        value: Value,
+    ) -> Result<AttributesDocument, MetadataFault>
         ensures { Gives (λ a. a) result (attributes_of (view value)) }
     {
-        Ok(AttributesDocument(Object::new(document(value)?)))
+        let members = document(value)?;
+        Ok(AttributesDocument(Object::from_map(alloc, members)?))
     }
 
     /// The attributes that the bytes of `.zattrs` are.
@@ -57,7 +61,7 @@ impl AttributesDocument {
         ensures { Gives (λ a. a) result (of_bytes attributes_of bytes.now) }
     {
         let members = document(parse(alloc, bytes)?)?;
-        Ok(AttributesDocument(Object::new(members)))
+        Ok(AttributesDocument(Object::from_map(alloc, members)?))
     }
 
     /// The written form: an object with the attributes.

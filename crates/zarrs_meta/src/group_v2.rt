@@ -11,8 +11,8 @@ ghost use Rattle.zarrs_meta.specs.Taken.{group_v2_taken};
 use serde_json::{Map, Value, put};
 use std::alloc::{AllocError, Global};
 use zarrs_form::{
-    Object, ask_format, attributes, document, document_copy, has_own_member, members_have_float,
-    open_table, parse, put_unless, refuse, take_member, write_last, write_unless,
+    Object, ask_format, attributes, document, document_copy, open_table, parse, put_unless, refuse,
+    take_member, write_last, write_unless,
 };
 use zarrs_store::MetadataFault;
 
@@ -38,8 +38,8 @@ impl GroupMetadataV2 {
         ensures { result ≡ record { attributes = no_members; additional_fields = no_members } }
     {
         GroupMetadataV2 {
-            attributes: Object::new(Map::new(alloc)),
-            additional_fields: Object::new(Map::new(alloc)),
+            attributes: Object::new(alloc),
+            additional_fields: Object::new(alloc),
         }
     }
 
@@ -85,7 +85,7 @@ impl GroupMetadataV2 {
     {
         Ok(GroupMetadataV2 {
             attributes: attributes(alloc, &mut members)?,
-            additional_fields: Object::new(members),
+            additional_fields: Object::from_map(alloc, members)?,
         })
     }
 
@@ -127,7 +127,7 @@ impl GroupMetadataV2 {
     pub fn to_value(&self, alloc: Global) -> Result<Value, AllocError>
         ensures { IfOk result (λ v. view v ≡ group_v2_tree self.now) }
     {
-        let mut all = Object::copy_of(self.additional_fields.as_map())?.into_map();
+        let mut all = self.additional_fields.to_map(alloc)?;
         put(&mut all, alloc, "zarr_format", Value::from(2u64))?;
         let bare = self.attributes.is_empty();
         put_unless(&mut all, alloc, "attributes", bare, &self.attributes)?;
@@ -168,9 +168,8 @@ impl GroupMetadataV2 {
     pub fn is_plain(&self) -> bool
         ensures { result ≡ is_plain_group_v2 self.now }
     {
-        let fields = self.additional_fields.as_map();
-        !members_have_float(self.attributes.as_map())
-            && !members_have_float(fields)
-            && !has_own_member(fields, OWN_NAMES)
+        !self.attributes.has_float()
+            && !self.additional_fields.has_float()
+            && !self.additional_fields.has_own_member(OWN_NAMES)
     }
 }

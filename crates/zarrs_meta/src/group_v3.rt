@@ -12,9 +12,8 @@ use serde_json::{Map, Value, put};
 use std::alloc::{AllocError, Global};
 use zarrs_form::{
     AdditionalFieldsV3, Object, Text, ask_format, ask_node_type, attributes, document,
-    document_copy, fields_have_float, fields_of, has_own_name, is_null_at, members_have_float,
-    members_of_fields, open_table, parse, put_text, put_unless, take_null, write_last, write_row,
-    write_unless,
+    document_copy, fields_of, open_table, parse, put_text, put_unless, take_null, write_last,
+    write_row, write_unless,
 };
 use zarrs_store::MetadataFault;
 
@@ -37,8 +36,8 @@ impl GroupMetadataV3 {
         ensures { result ≡ record { attributes = no_members; additional_fields = no_members } }
     {
         GroupMetadataV3 {
-            attributes: Object::new(Map::new(alloc)),
-            additional_fields: AdditionalFieldsV3::new(Map::new(alloc)),
+            attributes: Object::new(alloc),
+            additional_fields: AdditionalFieldsV3::new(alloc),
         }
     }
 
@@ -114,7 +113,7 @@ impl GroupMetadataV3 {
     pub fn to_value(&self, alloc: Global) -> Result<Value, AllocError>
         ensures { IfOk result (λ v. view v ≡ group_v3_tree self.now) }
     {
-        let mut all = members_of_fields(alloc, self.additional_fields.as_map())?;
+        let mut all = self.additional_fields.to_members(alloc)?;
         put(&mut all, alloc, "zarr_format", Value::from(3u64))?;
         put_text(&mut all, alloc, "node_type", "group")?;
         let bare = self.attributes.is_empty();
@@ -158,10 +157,10 @@ impl GroupMetadataV3 {
     pub fn is_plain(&self) -> bool
         ensures { result ≡ is_plain_group_v3 self.now }
     {
-        let fields = self.additional_fields.as_map();
-        !members_have_float(self.attributes.as_map())
-            && !fields_have_float(fields)
-            && !has_own_name(fields, &["zarr_format", "node_type", "attributes"])
-            && !is_null_at(fields, "consolidated_metadata")
+        let fields = &self.additional_fields;
+        !self.attributes.has_float()
+            && !fields.has_float()
+            && !fields.has_own_name(&["zarr_format", "node_type", "attributes"])
+            && !fields.is_null_at("consolidated_metadata")
     }
 }

@@ -161,13 +161,13 @@ fn fields(alloc: Global, text: &str) -> Result<AdditionalFieldsV3, Fail> {
         let field = AdditionalFieldV3::new(alloc, value.clone()?, understood)?;
         drop(fields.insert(name.clone()?, field)?);
     }
-    Ok(AdditionalFieldsV3::new(fields))
+    Ok(AdditionalFieldsV3::from_map(alloc, fields)?)
 }
 
 // Metadata of version 2 with these attributes and these other fields.
 fn two(alloc: Global, attributes: &str, others: &str) -> Result<GroupMetadata, Fail> {
-    let attributes = Object::new(members(alloc, attributes)?);
-    let additional_fields = Object::new(members(alloc, others)?);
+    let attributes = Object::from_map(alloc, members(alloc, attributes)?)?;
+    let additional_fields = Object::from_map(alloc, members(alloc, others)?)?;
     Ok(GroupMetadata::V2(GroupMetadataV2 {
         attributes,
         additional_fields,
@@ -176,7 +176,7 @@ fn two(alloc: Global, attributes: &str, others: &str) -> Result<GroupMetadata, F
 
 // Metadata of version 3 with these attributes and these other fields.
 fn three(alloc: Global, attributes: &str, others: &str) -> Result<GroupMetadata, Fail> {
-    let attributes = Object::new(members(alloc, attributes)?);
+    let attributes = Object::from_map(alloc, members(alloc, attributes)?)?;
     let additional_fields = fields(alloc, others)?;
     Ok(GroupMetadata::V3(GroupMetadataV3 {
         attributes,
@@ -660,7 +660,7 @@ fn made_at(alloc: Global, path: &str, given: Given) -> Result<String, Fail> {
 
 // What a builder of these parts makes at a path.
 fn built(alloc: Global, path: &str, attributes: &str, others: &str) -> Result<String, Fail> {
-    let attributes = members(alloc, attributes)?;
+    let attributes = Object::from_map(alloc, members(alloc, attributes)?)?;
     let others = fields(alloc, others)?;
     let mut builder = GroupBuilder::new(alloc);
     builder.attributes(attributes);
@@ -697,7 +697,7 @@ fn a_group_is_made_at_a_path(rt: HostRuntime) -> Result<(), Fail> {
 // The path, the number of attributes and the version that the accessors show.
 fn parts_of(alloc: Global, group: &Group) -> Result<String, Fail> {
     let path = group.path().as_str();
-    let count = group.attributes().as_map().len();
+    let count = group.attributes().len();
     let version = match group.metadata() {
         GroupMetadata::V3(_) => 3,
         GroupMetadata::V2(_) => 2,
@@ -712,7 +712,7 @@ fn shown(alloc: Global, given: Given) -> Result<String, Fail> {
 
 // The group after its attributes were written.
 fn written(alloc: Global, given: Given) -> Result<String, Fail> {
-    let attributes = Object::new(members(alloc, r#"{"n":1}"#)?);
+    let attributes = Object::from_map(alloc, members(alloc, r#"{"n":1}"#)?)?;
     let mut group = group_of(alloc, given, &Config::new())?;
     *group.attributes_mut() = attributes;
     group_text(alloc, &group)

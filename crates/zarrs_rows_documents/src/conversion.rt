@@ -27,11 +27,19 @@ pub(crate) fn value_of(alloc: Global, text: &str) -> Value {
     }
 }
 
-/// The object that a text is; the empty one where it is none.
-pub(crate) fn object_of(alloc: Global, text: &str) -> Object {
+/// The members of the object that a text is; none where it is none.
+pub(crate) fn members_of(alloc: Global, text: &str) -> Map<String, Value> {
     match value_of(alloc, text) {
-        Value::Object(members) => Object::new(members),
-        _other => Object::new(Map::new(alloc)),
+        Value::Object(members) => members,
+        _other => Map::new(alloc),
+    }
+}
+
+/// The object that a text is; the empty one where it is none, or where there is no memory.
+pub(crate) fn object_of(alloc: Global, text: &str) -> Object {
+    match Object::from_map(alloc, members_of(alloc, text)) {
+        Ok(object) => object,
+        Err(_) => Object::new(alloc),
     }
 }
 
@@ -120,10 +128,8 @@ fn with_members<E: Display>(
     error: &E,
     members: &Map<String, Value>,
 ) -> Result<String, AllocError> {
-    match Object::copy_of(members) {
-        Ok(object) => with_part(alloc, error, &object),
-        Err(error) => Err(error),
-    }
+    let object = Object::from_map(alloc, members.clone()?)?;
+    with_part(alloc, error, &object)
 }
 
 /// A text, and behind it the lines of a log, if there are any.

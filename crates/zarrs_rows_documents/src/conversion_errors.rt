@@ -2,7 +2,7 @@
 
 use crate::answers::made;
 use crate::asserts::assert_says;
-use crate::conversion::{object_of, string_of};
+use crate::conversion::{members_of, string_of};
 use serde_json::Value;
 use std::alloc::{AllocError, AllocFailed, Global};
 use std::fmt::Display;
@@ -30,7 +30,7 @@ fn errors_of_conversion_have_their_texts(rt: HostRuntime) {
     let data_type = DataTypeMetadataV2::Simple(Text::new(string_of(alloc, "<i1")));
     let error = ArrayMetadataV2ToV3Error::UnsupportedDataType(data_type);
     assert_error(&rt, alloc, error, "unsupported data type");
-    let configuration = object_of(alloc, r#"{"n":1}"#).into_map();
+    let configuration = members_of(alloc, r#"{"n":1}"#);
     let error = ArrayMetadataV2ToV3Error::UnsupportedCodec(string_of(alloc, "zlib"), configuration);
     assert_error(&rt, alloc, error, "unsupported codec zlib");
     let fill_value = FillValueMetadata::new(Value::Null);

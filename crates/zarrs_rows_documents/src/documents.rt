@@ -432,7 +432,7 @@ fn unknown_field(group: &GroupMetadataV3, alloc: Global) -> Result<String, Alloc
     match fields.get("unknown") {
         Some(field) => format!(in alloc;
             "{} fields, must be understood: {}",
-            fields.as_map().len(),
+            fields.len(),
             field.must_understand()
         ),
         None => String::from_str(alloc, "no such field"),

@@ -7,9 +7,8 @@ use std::process::Abort;
 use zarrs_form::{
     AdditionalFieldsV3, ArrayMetadataV2Order, ChunkKeySeparator, DataTypeMetadataV2, Duplicate,
     FillValueMetadata, Form, Json, List, MetadataV2, MetadataV3, Object, Text, ask_format,
-    ask_node_type, attributes, chunk_lengths, document, document_copy, fields_have_float,
-    fields_of, has_own_member, has_own_name, has_zero, is_null_at, member, members_have_float,
-    members_of_fields, open_table, optional, parse, put_member, put_text, put_unless, refuse,
+    ask_node_type, attributes, chunk_lengths, document, document_copy, fields_of, has_zero, member,
+    members_have_float, open_table, optional, parse, put_member, put_text, put_unless, refuse,
     required, take_member, take_null, write_last, write_row, write_unless,
 };
 use zarrs_store::MetadataFault;
@@ -317,8 +316,7 @@ fn what_is_put_stands_at_its_name(rt: HostRuntime) {
 
 // The fields as members.
 fn fields_text(fields: &AdditionalFieldsV3, alloc: Global) -> Result<String, AllocError> {
-    let members = members_of_fields(alloc, fields.as_map())?;
-    Value::Object(members).to_string(alloc)
+    Value::Object(fields.to_members(alloc)?).to_string(alloc)
 }
 
 fn fields_say(alloc: Global, text: &str) -> Result<String, AllocError> {
@@ -336,12 +334,11 @@ fn fields_are_the_members_of_no_own_name(rt: HostRuntime) {
 
 // Whether a field has one of two names, whether one has a fraction, and whether the one named z is null.
 fn fields_tests(fields: &AdditionalFieldsV3, alloc: Global) -> Result<String, AllocError> {
-    let fields = fields.as_map();
     format!(in alloc;
         "{} {} {}",
-        has_own_name(fields, &["x", "y"]),
-        fields_have_float(fields),
-        is_null_at(fields, "z")
+        fields.has_own_name(&["x", "y"]),
+        fields.has_float(),
+        fields.is_null_at("z")
     )
 }
 
@@ -364,17 +361,23 @@ fn fields_are_tested(rt: HostRuntime) {
 
 fn members_tests_say(alloc: Global, text: &str) -> Result<String, AllocError> {
     let members = members_of(alloc, text);
-    let own = has_own_member(&members, &["x", "y"]);
-    format!(in alloc; "{own} {}", members_have_float(&members))
+    let found = members_have_float(&members);
+    let object = Object::from_map(alloc, members)?;
+    let own = object.has_own_member(&["x", "y"]);
+    format!(in alloc; "{own} {found} {}", object.has_float())
 }
 
 #[test]
 fn members_are_tested(rt: HostRuntime) {
     let alloc = rt.alloc();
-    assert_text(&rt, members_tests_say(alloc, "{}"), "false false");
-    assert_text(&rt, members_tests_say(alloc, r#"{"y":1}"#), "true false");
+    assert_text(&rt, members_tests_say(alloc, "{}"), "false false false");
+    assert_text(
+        &rt,
+        members_tests_say(alloc, r#"{"y":1}"#),
+        "true false false",
+    );
     let answer = members_tests_say(alloc, r#"{"xy":[{"a":0.5}]}"#);
-    assert_text(&rt, answer, "false true");
+    assert_text(&rt, answer, "false true true");
 }
 
 // ---- the text of a table

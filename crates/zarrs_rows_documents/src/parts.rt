@@ -21,11 +21,15 @@ fn value_of(alloc: Global, text: &str) -> Value {
     }
 }
 
-// The object that a text is; the empty one where it is none.
+// The object that a text is; the empty one where it is none, or where there is no memory.
 fn object_of(alloc: Global, text: &str) -> Object {
-    match value_of(alloc, text) {
-        Value::Object(members) => Object::new(members),
-        _other => Object::new(Map::new(alloc)),
+    let members = match value_of(alloc, text) {
+        Value::Object(members) => members,
+        _other => Map::new(alloc),
+    };
+    match Object::from_map(alloc, members) {
+        Ok(object) => object,
+        Err(_) => Object::new(alloc),
     }
 }
 
@@ -61,31 +65,108 @@ fn lists_go_in_and_out(rt: HostRuntime) -> Result<(), Fail> {
 }
 
 fn object_text(object: &Object, alloc: Global) -> Result<String, AllocError> {
-    format!(in alloc; "{} {}", object.as_map().len(), object.is_empty())
+    format!(in alloc; "{} {}", object.len(), object.is_empty())
 }
 
 fn object_copy(object: &Object, alloc: Global) -> Result<String, AllocError> {
     said(alloc, object.try_clone(alloc), object_text)
 }
 
-fn object_copy_of(object: &Object, alloc: Global) -> Result<String, AllocError> {
-    said(alloc, Object::copy_of(object.as_map()), object_text)
+// The object that the map of an object's members is.
+fn object_of_map(object: &Object, alloc: Global) -> Result<String, AllocError> {
+    let members = object.to_map(alloc)?;
+    said(alloc, Object::from_map(alloc, members), object_text)
 }
 
 #[test]
-fn objects_go_in_and_out(rt: HostRuntime) {
+fn objects_go_in_and_out(rt: HostRuntime) -> Result<(), Fail> {
     let alloc = rt.alloc();
-    let object = Object::new(object_of(alloc, r#"{"k":1}"#).into_map());
-    assert_says(&rt, alloc, "copy", made(object), object_copy, "1 false");
-    let object = object_of(alloc, "{}");
+    let members = object_of(alloc, r#"{"k":1}"#).into_map(alloc)?;
+    let object = Object::from_map(alloc, members);
+    assert_says(&rt, alloc, "copy", object, object_copy, "1 false");
+    let object = made(object_of(alloc, r#"{"b":1,"a":2}"#));
+    assert_says(&rt, alloc, "of a map", object, object_of_map, "2 false");
+    let object = made(Object::new(alloc));
+    assert_says(&rt, alloc, "copy of none", object, object_copy, "0 true");
+    Ok(())
+}
+
+// The members of an object in turn, each with its name.
+fn members_text(object: &Object, alloc: Global) -> Result<String, AllocError> {
+    let mut text = String::new(alloc);
+    for member in object.as_slice() {
+        let value = member.1.to_string(alloc)?;
+        text.push_str(format!(in alloc; "{}={value} ", member.0)?.as_str())?;
+    }
+    Ok(text)
+}
+
+// What an object shows of the member k and the member z, and how many it has.
+fn members_found(object: &Object, alloc: Global) -> Result<String, AllocError> {
+    let found = object.get("k").and_then(Value::as_u64).unwrap_or(0);
+    let missing = object.get("z").is_none();
+    format!(in alloc; "{found} {missing} {}", object.len())
+}
+
+#[test]
+fn objects_show_their_members_in_the_order_of_names(rt: HostRuntime) {
+    let alloc = rt.alloc();
+    let object = made(object_of(alloc, r#"{"k":7,"b":[],"q":null}"#));
     assert_says(
         &rt,
         alloc,
-        "copy of",
-        made(object),
-        object_copy_of,
-        "0 true",
+        "members",
+        object,
+        members_text,
+        "b=[] k=7 q=null ",
     );
+    let object = made(object_of(alloc, r#"{"q":0,"b":1,"k":7}"#));
+    assert_says(&rt, alloc, "found", object, members_found, "7 true 3");
+}
+
+// Puts a number at a name, and says what stood there before and what the object is then.
+fn with_member(
+    alloc: Global,
+    object: &mut Object,
+    name: &str,
+    value: u64,
+) -> Result<String, AllocError> {
+    let name = String::from_str(alloc, name)?;
+    let before = object.insert(name, Value::from(value))?;
+    let before = before.is_some();
+    format!(in alloc; "{before} {}", members_text(object, alloc)?)
+}
+
+// Takes the member of a name out, and says whether there was one and what the object is then.
+fn without_member(alloc: Global, object: &mut Object, name: &str) -> Result<String, AllocError> {
+    let taken = object.remove(name).is_some();
+    format!(in alloc; "{taken} {}", members_text(object, alloc)?)
+}
+
+#[test]
+fn members_are_put_and_taken_out(rt: HostRuntime) -> Result<(), Fail> {
+    let alloc = rt.alloc();
+    let mut object = Object::new(alloc);
+    for (name, value, wanted) in [
+        ("k", 1, "false k=1 "),
+        ("b", 2, "false b=2 k=1 "),
+        ("q", 3, "false b=2 k=1 q=3 "),
+        ("k", 4, "true b=2 k=4 q=3 "),
+    ] {
+        let said = with_member(alloc, &mut object, name, value)?;
+        assert_eq!(rt; said.as_str(), wanted);
+    }
+    for (name, wanted) in [
+        ("c", "false b=2 k=4 q=3 "),
+        ("b", "true k=4 q=3 "),
+        ("q", "true k=4 "),
+        ("k", "true "),
+        ("k", "false "),
+    ] {
+        let said = without_member(alloc, &mut object, name)?;
+        assert_eq!(rt; said.as_str(), wanted);
+    }
+    Ok(())
 }
 
 fn json_text(json: &Json, alloc: Global) -> Result<String, AllocError> {
@@ -159,7 +240,7 @@ fn fields_say_whether_they_must_be_understood(rt: HostRuntime) {
 // One field, of this name and value.
 fn fields_of(alloc: Global, name: &str, value: Value) -> Result<AdditionalFieldsV3, AllocError> {
     match AdditionalFieldV3::new(alloc, value, true) {
-        Ok(field) => Ok(AdditionalFieldsV3::new(one_member(alloc, name, field)?)),
+        Ok(field) => AdditionalFieldsV3::from_map(alloc, one_member(alloc, name, field)?),
         Err(error) => Err(error),
     }
 }
@@ -176,7 +257,7 @@ fn one_member<T: Drop>(alloc: Global, name: &str, value: T) -> Result<Map<String
 fn fields_text(fields: &AdditionalFieldsV3, alloc: Global) -> Result<String, AllocError> {
     format!(in alloc;
         "{} {} {}",
-        fields.as_map().len(),
+        fields.len(),
         fields.get("x").is_some(),
         fields.is_empty()
     )
@@ -200,9 +281,62 @@ fn fields_go_in_and_out(rt: HostRuntime) {
         fields_copy,
         "1 false false",
     );
-    let empty = AdditionalFieldsV3::new(Map::new(alloc));
+    let empty = AdditionalFieldsV3::new(alloc);
     assert!(rt; empty.is_empty());
-    assert_eq!(rt; empty.into_map().len(), 0);
+    assert_eq!(rt; empty.len(), 0);
+}
+
+// The fields in turn, each with its name.
+fn fields_shown(fields: &AdditionalFieldsV3, alloc: Global) -> Result<String, AllocError> {
+    let mut text = String::new(alloc);
+    for field in fields.as_slice() {
+        let value = field.1.as_value().to_string(alloc)?;
+        text.push_str(format!(in alloc; "{}={value} ", field.0)?.as_str())?;
+    }
+    Ok(text)
+}
+
+// Puts a field of this value, and says whether there was one before and what the fields are then.
+fn with_field(
+    alloc: Global,
+    fields: &mut AdditionalFieldsV3,
+    name: &str,
+    value: u64,
+) -> Result<String, AllocError> {
+    let field = AdditionalFieldV3::new(alloc, Value::from(value), true)?;
+    let name = String::from_str(alloc, name)?;
+    let before = fields.insert(name, field)?;
+    let before = before.is_some();
+    format!(in alloc; "{before} {}", fields_shown(fields, alloc)?)
+}
+
+// Takes the field of a name out, and says whether there was one and what the fields are then.
+fn without_field(
+    alloc: Global,
+    fields: &mut AdditionalFieldsV3,
+    name: &str,
+) -> Result<String, AllocError> {
+    let taken = fields.remove(name).is_some();
+    format!(in alloc; "{taken} {}", fields_shown(fields, alloc)?)
+}
+
+#[test]
+fn fields_are_put_and_taken_out(rt: HostRuntime) -> Result<(), Fail> {
+    let alloc = rt.alloc();
+    let mut fields = AdditionalFieldsV3::new(alloc);
+    for (name, value, wanted) in [
+        ("y", 1, "false y=1 "),
+        ("x", 2, "false x=2 y=1 "),
+        ("y", 3, "true x=2 y=3 "),
+    ] {
+        let said = with_field(alloc, &mut fields, name, value)?;
+        assert_eq!(rt; said.as_str(), wanted);
+    }
+    for (name, wanted) in [("z", "false x=2 y=3 "), ("x", "true y=3 "), ("y", "true ")] {
+        let said = without_field(alloc, &mut fields, name)?;
+        assert_eq!(rt; said.as_str(), wanted);
+    }
+    Ok(())
 }
 
 // ---- what is not plain
@@ -235,7 +369,7 @@ fn some_groups_of_version_2_are_not_plain(rt: HostRuntime) {
 fn group_v3_of(alloc: Global, name: &str) -> Result<GroupMetadataV3, AllocError> {
     match fields_of(alloc, name, Value::Null) {
         Ok(additional_fields) => Ok(GroupMetadataV3 {
-            attributes: Object::new(Map::new(alloc)),
+            attributes: Object::new(alloc),
             additional_fields,
         }),
         Err(error) => Err(error),
@@ -303,11 +437,7 @@ fn array_v2_fields(array: &ArrayMetadataV2, alloc: Global) -> Result<String, All
 }
 
 fn codec_text(codec: &MetadataV2, alloc: Global) -> Result<String, AllocError> {
-    format!(in alloc;
-        "{} {}",
-        codec.id.as_str(),
-        codec.configuration.as_map().len()
-    )
+    format!(in alloc; "{} {}", codec.id.as_str(), codec.configuration.len())
 }
 
 fn compressor_copy(array: &ArrayMetadataV2, alloc: Global) -> Result<String, AllocError> {

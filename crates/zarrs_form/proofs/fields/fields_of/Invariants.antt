@@ -1,9 +1,9 @@
-use Rattle.std.proofs.Common.{◌≡◌, ◌++◌, List, map}
-use Rattle.serde_json.specs.View.{members_of, members_view}
-use Rattle.serde_json.proofs.Views.{Entry}
-use Rattle.zarrs_form.specs.Documents.{besides}
+use Rattle.std.proofs.Common.{◌≡◌, ◌++◌, map}
+use Rattle.zarrs_form.proofs.SortedLaws.{kept}
 use Rattle.zarrs_form.proofs.fields.fields_of.Given as goal
 
+-- the fields that were kept and those that will be are those of all members
 abbrev pub invariant-loop-name : goal.invariant-loop-name
 invariant-loop-name l =
-    (done : List Entry) × (l.fn.members.entries ≡ done ++ l.name-iterator) × (members_of l.fields.entries ≡ besides (map (λ name. name.now) l.own_names) (members_view done))
+    let names = map (λ name. name.now) l.own_names in
+    l.entries.items ++ kept names l.name-iterator ≡ kept names l.fn.members.entries

@@ -1,9 +1,8 @@
-use Rattle.std.proofs.Common.{◌∙◌, ap, is_some}
-use Rattle.zarrs_form.proofs.Shared.{lookup-members_of}
+use Rattle.std.proofs.Common.{ap, is_some}
 use Rattle.zarrs_group.proofs.plain.has_field.Goals as goal
 
 pub returns-in-Some : goal.returns-in-Some
-returns-in-Some c = ap is_some (c.in-Some.ensures.value ∙ lookup-members_of c.args.name.now c.args.fields.now.entries)
+returns-in-Some c = ap is_some c.in-Some.ensures
 
 pub returns-in-None : goal.returns-in-None
-returns-in-None c = ap is_some (c.in-None.ensures.value ∙ lookup-members_of c.args.name.now c.args.fields.now.entries)
+returns-in-None c = ap is_some c.in-None.ensures

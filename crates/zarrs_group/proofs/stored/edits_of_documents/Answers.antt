@@ -13,7 +13,7 @@ use Rattle.zarrs_group.proofs.stored.edits_of_documents.Goals as goal
 
 pub returns-clause-ok : goal.returns-clause-ok
 returns-clause-ok c =
-    let none : c.new-2.result ≡ no_members = c.new-2.ensures ∙ ap members_view c.new.ensures.empty in
+    let none : c.new.result ≡ no_members = c.new.ensures in
     let tree : view c.in_ok-to_value.field-0 ≡ group_v2_tree (group_without_attributes c.args.group) =
     c.in_ok-to_value.ensures ∙ ap (λ a. group_v2_tree (record { attributes = a; additional_fields = c.args.group.additional_fields })) none in
     let fits : has_float (view c.in_ok-to_value.field-0) ≡ false =
@@ -25,7 +25,7 @@ returns-clause-ok c =
 
 pub returns-clause-reads : goal.returns-clause-reads
 returns-clause-reads c =
-    let none : c.new-2.result ≡ no_members = c.new-2.ensures ∙ ap members_view c.new.ensures.empty in
+    let none : c.new.result ≡ no_members = c.new.ensures in
     let tree : view c.in_ok-to_value.field-0 ≡ group_v2_tree (group_without_attributes c.args.group) =
     c.in_ok-to_value.ensures ∙ ap (λ a. group_v2_tree (record { attributes = a; additional_fields = c.args.group.additional_fields })) none in
     let fits : has_float (view c.in_ok-to_value.field-0) ≡ false =

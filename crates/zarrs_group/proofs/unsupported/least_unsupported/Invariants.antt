@@ -1,7 +1,7 @@
-use Rattle.std.proofs.Common.{◌≡◌}
+use Rattle.std.proofs.Common.{◌≡◌, drop}
 use Rattle.serde_json.specs.View.{members_of}
 use Rattle.zarrs_group.proofs.Fields.{first_unsupported}
 use Rattle.zarrs_group.proofs.unsupported.least_unsupported.Given as goal
 
-abbrev pub invariant-loop-name : goal.invariant-loop-name
-invariant-loop-name l = first_unsupported (members_of l.name-iterator) ≡ first_unsupported l.fields
+abbrev pub invariant-loop-entry : goal.invariant-loop-entry
+invariant-loop-entry l = first_unsupported (members_of (drop l.entry-index l.entry-items)) ≡ first_unsupported l.fields

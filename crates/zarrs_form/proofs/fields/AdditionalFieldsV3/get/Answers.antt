@@ -4,4 +4,4 @@ use Rattle.zarrs_form.proofs.Shared.{lookup-members_of}
 use Rattle.zarrs_form.proofs.fields.AdditionalFieldsV3.get.Goals as goal
 
 pub returns : goal.returns
-returns c = c.get.ensures.value ∙ lookup-members_of c.args.name.now c.self.inside.fields.entries ∙ ap (get_member c.args.name.now) c.self.view_is
+returns c = c.find.ensures ∙ lookup-members_of c.args.name.now c.as_slice.result.now ∙ ap (get_member c.args.name.now) c.as_slice.ensures.fields

@@ -1,7 +1,8 @@
 use Rattle.std.proofs.Common.{◌∙◌, ap}
+use Rattle.serde_json.specs.View.{view}
 use Rattle.zarrs_form.specs.Documents.{is_empty}
-use Rattle.zarrs_form.proofs.Shared.{is_empty-members_view}
+use Rattle.zarrs_form.proofs.SortedLaws.{none_of_members}
 use Rattle.zarrs_form.proofs.shapes.Object.is_empty.Goals as goal
 
 pub returns : goal.returns
-returns c = is_empty-members_view c.is_empty.result c.self.inside.members.entries c.is_empty.ensures ∙ ap is_empty c.self.view_is
+returns c = c.is_empty.ensures ∙ none_of_members view c.as_slice.result.now ∙ ap is_empty c.as_slice.ensures.members

@@ -19,7 +19,5 @@ returns c =
       c.in_ok-put_member.ensures.ok,
       c.in_ok-put.ensures.ok,
       c.from.ensures,
-      c.into_map-all.ensures,
-      c.in_ok-copy_of.ensures,
-      c.as_map.ensures,
+      c.in_ok-all.ensures,
     ) refl)

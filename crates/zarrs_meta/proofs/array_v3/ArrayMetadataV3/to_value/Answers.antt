@@ -29,5 +29,4 @@ returns c =
       c.in_ok-put.ensures.ok,
       c.from.ensures,
       c.in_ok-all.ensures,
-      c.as_map.ensures,
     ) refl)

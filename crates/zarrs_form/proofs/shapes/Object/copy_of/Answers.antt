@@ -1,5 +1,0 @@
-use Rattle.zarrs_form.proofs.Shared.{members_view-clone}
-use Rattle.zarrs_form.proofs.shapes.Object.copy_of.Goals as goal
-
-pub returns : goal.returns
-returns c = members_view-clone _ _ c.in_ok-clone.ensures.cases
