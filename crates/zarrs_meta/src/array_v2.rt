@@ -8,7 +8,7 @@ ghost use Rattle.zarrs_form.specs.Forms.{put_rows};
 ghost use Rattle.zarrs_form.specs.FormsV2.{separator};
 ghost use Rattle.zarrs_form.specs.declared.chunks.ChunkKeySeparator.TheVariants.{Dot};
 ghost use Rattle.zarrs_meta.specs.ArrayV2.{array_v2_of, array_v2_rows, array_v2_tree, is_plain_array_v2};
-ghost use Rattle.zarrs_meta.specs.Taken.{array_v2_taken};
+ghost use Rattle.zarrs_meta.specs.Taken.{array_v2_taken, array_v2_required, array_v2_required_names, array_v2_optional, array_v2_optional_names, array_v2_with};
 
 use serde_json::{Map, Value, put};
 use std::alloc::{AllocError, Global};
@@ -101,18 +101,10 @@ impl ArrayMetadataV2 {
     ) -> Result<ArrayMetadataV2, MetadataFault>
         ensures { Gives (λ m. m) result (array_v2_taken (members_view members.entries)) }
     {
-        Ok(ArrayMetadataV2 {
-            shape: required(alloc, &mut members, "shape")?,
-            chunks: chunk_lengths(alloc, &mut members, "chunks")?,
-            dtype: required(alloc, &mut members, "dtype")?,
-            fill_value: required(alloc, &mut members, "fill_value")?,
-            order: required(alloc, &mut members, "order")?,
-            compressor: optional(alloc, &mut members, "compressor", None)?,
-            filters: optional(alloc, &mut members, "filters", None)?,
-            dimension_separator: dimension_separator(alloc, &mut members)?,
-            attributes: attributes(alloc, &mut members)?,
-            additional_fields: Object::from_map(alloc, members)?,
-        })
+        let required = RequiredMembers::take(alloc, &mut members)?;
+        let optional = OptionalMembers::take(alloc, &mut members)?;
+        let additional_fields = Object::from_map(alloc, members)?;
+        Ok(required.with(optional, additional_fields))
     }
 
     /// The array that a JSON value is, whose parts it takes over.
@@ -225,6 +217,99 @@ impl ArrayMetadataV2 {
             && self.attributes.is_plain()
             && !self.additional_fields.has_float()
             && !self.additional_fields.has_own_member(OWN_NAMES)
+    }
+}
+
+/// The members of the table that each array has.
+#[derive(Debug, Drop)]
+pub(crate) struct RequiredMembers {
+    pub(crate) shape: List<u64>,
+    pub(crate) chunks: List<u64>,
+    pub(crate) dtype: DataTypeMetadataV2,
+    pub(crate) fill_value: FillValueMetadata,
+    pub(crate) order: ArrayMetadataV2Order,
+}
+
+/// The members of the table that may be absent.
+#[derive(Debug, Drop)]
+pub(crate) struct OptionalMembers {
+    pub(crate) compressor: Option<MetadataV2>,
+    pub(crate) filters: Option<List<MetadataV2>>,
+    pub(crate) dimension_separator: ChunkKeySeparator,
+    pub(crate) attributes: Object,
+}
+
+impl RequiredMembers {
+    /// Takes the members that each array has, one by one.
+    #[tactic(auto, unfolding(crate::specs::Taken::array_v2_required))]
+    fn take(
+        alloc: Global,
+        members: &mut Map<String, Value>,
+    ) -> Result<RequiredMembers, MetadataFault>
+        ensures gives { Gives (λ m. m) result (array_v2_required (members_view members.old.entries)) }
+        ensures left { IfOk result (λ _. members_view members.new.entries ≡ besides array_v2_required_names (members_view members.old.entries)) }
+    {
+        Ok(RequiredMembers {
+            shape: required(alloc, members, "shape")?,
+            chunks: chunk_lengths(alloc, members, "chunks")?,
+            dtype: required(alloc, members, "dtype")?,
+            fill_value: required(alloc, members, "fill_value")?,
+            order: required(alloc, members, "order")?,
+        })
+    }
+
+    /// The array of these members, those that may be absent and the additional fields.
+    pub(crate) fn with(
+        self,
+        optional: OptionalMembers,
+        additional_fields: Object,
+    ) -> ArrayMetadataV2
+        ensures { result ≡ array_v2_with self optional additional_fields }
+    {
+        let RequiredMembers {
+            shape,
+            chunks,
+            dtype,
+            fill_value,
+            order,
+        } = self;
+        let OptionalMembers {
+            compressor,
+            filters,
+            dimension_separator,
+            attributes,
+        } = optional;
+        ArrayMetadataV2 {
+            shape,
+            chunks,
+            dtype,
+            fill_value,
+            order,
+            compressor,
+            filters,
+            dimension_separator,
+            attributes,
+            additional_fields,
+        }
+    }
+}
+
+impl OptionalMembers {
+    /// Takes the members that may be absent, one by one.
+    #[tactic(auto, unfolding(crate::specs::Taken::array_v2_optional))]
+    fn take(
+        alloc: Global,
+        members: &mut Map<String, Value>,
+    ) -> Result<OptionalMembers, MetadataFault>
+        ensures gives { Gives (λ m. m) result (array_v2_optional (members_view members.old.entries)) }
+        ensures left { IfOk result (λ _. members_view members.new.entries ≡ besides array_v2_optional_names (members_view members.old.entries)) }
+    {
+        Ok(OptionalMembers {
+            compressor: optional(alloc, members, "compressor", None)?,
+            filters: optional(alloc, members, "filters", None)?,
+            dimension_separator: dimension_separator(alloc, members)?,
+            attributes: attributes(alloc, members)?,
+        })
     }
 }
 

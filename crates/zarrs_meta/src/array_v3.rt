@@ -8,7 +8,7 @@ ghost use Rattle.zarrs_form.specs.Documents.{Gives, besides, document_of, of_byt
 ghost use Rattle.zarrs_form.specs.Forms.{extension, list_of, nullable, put_rows};
 ghost use Rattle.zarrs_meta.specs.ArrayV3.{array_v3_of, array_v3_rows, array_v3_tree, is_plain_array_v3};
 ghost use Rattle.zarrs_meta.specs.MadeArray.{default_encoding, made_array};
-ghost use Rattle.zarrs_meta.specs.Taken.{array_v3_taken};
+ghost use Rattle.zarrs_meta.specs.Taken.{array_v3_taken, array_v3_required, array_v3_required_names, array_v3_optional, array_v3_optional_names, array_v3_with};
 
 use serde_json::{Map, Value, put};
 use std::alloc::{AllocError, Global};
@@ -154,18 +154,10 @@ impl ArrayMetadataV3 {
     ) -> Result<ArrayMetadataV3, MetadataFault>
         ensures { Gives (λ m. m) result (array_v3_taken (members_view members.entries)) }
     {
-        Ok(ArrayMetadataV3 {
-            shape: required(alloc, &mut members, "shape")?,
-            data_type: required(alloc, &mut members, "data_type")?,
-            chunk_grid: required(alloc, &mut members, "chunk_grid")?,
-            chunk_key_encoding: required(alloc, &mut members, "chunk_key_encoding")?,
-            fill_value: required(alloc, &mut members, "fill_value")?,
-            codecs: required(alloc, &mut members, "codecs")?,
-            attributes: attributes(alloc, &mut members)?,
-            storage_transformers: storage_transformers(alloc, &mut members)?,
-            dimension_names: dimension_names(alloc, &mut members)?,
-            additional_fields: fields_of(alloc, members, &["zarr_format", "node_type"])?,
-        })
+        let required = RequiredMembers::take(alloc, &mut members)?;
+        let optional = OptionalMembers::take(alloc, &mut members)?;
+        let additional_fields = fields_of(alloc, members, &["zarr_format", "node_type"])?;
+        Ok(required.with(optional, additional_fields))
     }
 
     /// The array that the bytes of a document are.
@@ -282,6 +274,99 @@ impl ArrayMetadataV3 {
             && self.storage_transformers.is_plain()
             && !self.additional_fields.has_float()
             && !self.additional_fields.has_own_name(OWN_NAMES)
+    }
+}
+
+/// The members of the table that each array has.
+#[derive(Debug, Drop)]
+pub(crate) struct RequiredMembers {
+    pub(crate) shape: List<u64>,
+    pub(crate) data_type: MetadataV3,
+    pub(crate) chunk_grid: MetadataV3,
+    pub(crate) chunk_key_encoding: MetadataV3,
+    pub(crate) fill_value: FillValueMetadata,
+    pub(crate) codecs: List<MetadataV3>,
+}
+
+/// The members of the table that may be absent.
+#[derive(Debug, Drop)]
+pub(crate) struct OptionalMembers {
+    pub(crate) attributes: Object,
+    pub(crate) storage_transformers: List<MetadataV3>,
+    pub(crate) dimension_names: Option<List<Option<Text>>>,
+}
+
+impl RequiredMembers {
+    /// Takes the members that each array has, one by one.
+    #[tactic(auto, unfolding(crate::specs::Taken::array_v3_required))]
+    fn take(
+        alloc: Global,
+        members: &mut Map<String, Value>,
+    ) -> Result<RequiredMembers, MetadataFault>
+        ensures gives { Gives (λ m. m) result (array_v3_required (members_view members.old.entries)) }
+        ensures left { IfOk result (λ _. members_view members.new.entries ≡ besides array_v3_required_names (members_view members.old.entries)) }
+    {
+        Ok(RequiredMembers {
+            shape: required(alloc, members, "shape")?,
+            data_type: required(alloc, members, "data_type")?,
+            chunk_grid: required(alloc, members, "chunk_grid")?,
+            chunk_key_encoding: required(alloc, members, "chunk_key_encoding")?,
+            fill_value: required(alloc, members, "fill_value")?,
+            codecs: required(alloc, members, "codecs")?,
+        })
+    }
+
+    /// The array of these members, those that may be absent and the additional fields.
+    pub(crate) fn with(
+        self,
+        optional: OptionalMembers,
+        additional_fields: AdditionalFieldsV3,
+    ) -> ArrayMetadataV3
+        ensures { result ≡ array_v3_with self optional additional_fields }
+    {
+        let RequiredMembers {
+            shape,
+            data_type,
+            chunk_grid,
+            chunk_key_encoding,
+            fill_value,
+            codecs,
+        } = self;
+        let OptionalMembers {
+            attributes,
+            storage_transformers,
+            dimension_names,
+        } = optional;
+        ArrayMetadataV3 {
+            shape,
+            data_type,
+            chunk_grid,
+            chunk_key_encoding,
+            fill_value,
+            codecs,
+            attributes,
+            storage_transformers,
+            dimension_names,
+            additional_fields,
+        }
+    }
+}
+
+impl OptionalMembers {
+    /// Takes the members that may be absent, one by one.
+    #[tactic(auto, unfolding(crate::specs::Taken::array_v3_optional))]
+    fn take(
+        alloc: Global,
+        members: &mut Map<String, Value>,
+    ) -> Result<OptionalMembers, MetadataFault>
+        ensures gives { Gives (λ m. m) result (array_v3_optional (members_view members.old.entries)) }
+        ensures left { IfOk result (λ _. members_view members.new.entries ≡ besides array_v3_optional_names (members_view members.old.entries)) }
+    {
+        Ok(OptionalMembers {
+            attributes: attributes(alloc, members)?,
+            storage_transformers: storage_transformers(alloc, members)?,
+            dimension_names: dimension_names(alloc, members)?,
+        })
     }
 }
 

@@ -1,8 +1,9 @@
 //! Copies of documents that equal their source.
 ghost use Rattle.std.specs.Prelude.{◌≡◌, IfOk};
+ghost use Rattle.zarrs_meta.specs.Taken.{array_v3_required_of, array_v3_optional_of, array_v2_required_of, array_v2_optional_of};
 
-use crate::array_v2::ArrayMetadataV2;
-use crate::array_v3::ArrayMetadataV3;
+use crate::array_v2::{self, ArrayMetadataV2};
+use crate::array_v3::{self, ArrayMetadataV3};
 use crate::attributes::AttributesDocument;
 use crate::boxed_array::BoxedArray;
 use crate::group_v2::GroupMetadataV2;
@@ -52,18 +53,10 @@ impl ArrayMetadataV3 {
     pub fn try_clone(&self, alloc: Global) -> Result<ArrayMetadataV3, AllocError>
         ensures { IfOk result (λ copy. copy ≡ self.now) }
     {
-        Ok(ArrayMetadataV3 {
-            shape: self.shape.duplicate(alloc)?,
-            data_type: self.data_type.try_clone(alloc)?,
-            chunk_grid: self.chunk_grid.try_clone(alloc)?,
-            chunk_key_encoding: self.chunk_key_encoding.try_clone(alloc)?,
-            fill_value: self.fill_value.try_clone(alloc)?,
-            codecs: self.codecs.duplicate(alloc)?,
-            attributes: self.attributes.try_clone(alloc)?,
-            storage_transformers: self.storage_transformers.duplicate(alloc)?,
-            dimension_names: self.dimension_names.duplicate(alloc)?,
-            additional_fields: self.additional_fields.try_clone(alloc)?,
-        })
+        let required = array_v3::RequiredMembers::copy_of(alloc, self)?;
+        let optional = array_v3::OptionalMembers::copy_of(alloc, self)?;
+        let additional_fields = self.additional_fields.try_clone(alloc)?;
+        Ok(required.with(optional, additional_fields))
     }
 }
 
@@ -76,17 +69,79 @@ impl ArrayMetadataV2 {
     pub fn try_clone(&self, alloc: Global) -> Result<ArrayMetadataV2, AllocError>
         ensures { IfOk result (λ copy. copy ≡ self.now) }
     {
-        Ok(ArrayMetadataV2 {
-            shape: self.shape.duplicate(alloc)?,
-            chunks: self.chunks.duplicate(alloc)?,
-            dtype: self.dtype.try_clone(alloc)?,
-            fill_value: self.fill_value.try_clone(alloc)?,
-            order: self.order,
-            compressor: self.compressor.duplicate(alloc)?,
-            filters: self.filters.duplicate(alloc)?,
-            dimension_separator: self.dimension_separator,
-            attributes: self.attributes.try_clone(alloc)?,
-            additional_fields: self.additional_fields.try_clone(alloc)?,
+        let required = array_v2::RequiredMembers::copy_of(alloc, self)?;
+        let optional = array_v2::OptionalMembers::copy_of(alloc, self)?;
+        let additional_fields = self.additional_fields.try_clone(alloc)?;
+        Ok(required.with(optional, additional_fields))
+    }
+}
+
+impl array_v3::RequiredMembers {
+    /// A copy of the members that each array has.
+    fn copy_of(
+        alloc: Global,
+        array: &ArrayMetadataV3,
+    ) -> Result<array_v3::RequiredMembers, AllocError>
+        ensures { IfOk result (λ copy. copy ≡ array_v3_required_of array.now) }
+    {
+        Ok(array_v3::RequiredMembers {
+            shape: array.shape.duplicate(alloc)?,
+            data_type: array.data_type.try_clone(alloc)?,
+            chunk_grid: array.chunk_grid.try_clone(alloc)?,
+            chunk_key_encoding: array.chunk_key_encoding.try_clone(alloc)?,
+            fill_value: array.fill_value.try_clone(alloc)?,
+            codecs: array.codecs.duplicate(alloc)?,
+        })
+    }
+}
+
+impl array_v3::OptionalMembers {
+    /// A copy of the members that may be absent.
+    fn copy_of(
+        alloc: Global,
+        array: &ArrayMetadataV3,
+    ) -> Result<array_v3::OptionalMembers, AllocError>
+        ensures { IfOk result (λ copy. copy ≡ array_v3_optional_of array.now) }
+    {
+        Ok(array_v3::OptionalMembers {
+            attributes: array.attributes.try_clone(alloc)?,
+            storage_transformers: array.storage_transformers.duplicate(alloc)?,
+            dimension_names: array.dimension_names.duplicate(alloc)?,
+        })
+    }
+}
+
+impl array_v2::RequiredMembers {
+    /// A copy of the members that each array has.
+    fn copy_of(
+        alloc: Global,
+        array: &ArrayMetadataV2,
+    ) -> Result<array_v2::RequiredMembers, AllocError>
+        ensures { IfOk result (λ copy. copy ≡ array_v2_required_of array.now) }
+    {
+        Ok(array_v2::RequiredMembers {
+            shape: array.shape.duplicate(alloc)?,
+            chunks: array.chunks.duplicate(alloc)?,
+            dtype: array.dtype.try_clone(alloc)?,
+            fill_value: array.fill_value.try_clone(alloc)?,
+            order: array.order,
+        })
+    }
+}
+
+impl array_v2::OptionalMembers {
+    /// A copy of the members that may be absent.
+    fn copy_of(
+        alloc: Global,
+        array: &ArrayMetadataV2,
+    ) -> Result<array_v2::OptionalMembers, AllocError>
+        ensures { IfOk result (λ copy. copy ≡ array_v2_optional_of array.now) }
+    {
+        Ok(array_v2::OptionalMembers {
+            compressor: array.compressor.duplicate(alloc)?,
+            filters: array.filters.duplicate(alloc)?,
+            dimension_separator: array.dimension_separator,
+            attributes: array.attributes.try_clone(alloc)?,
         })
     }
 }
