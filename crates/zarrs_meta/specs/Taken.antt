@@ -92,11 +92,11 @@ array_v3_with r o fields = record {
   additional_fields = fields;
 }
 
--- the members that each version 3 array has, of one
+-- of a version 3 array, the members that each has
 abbrev pub array_v3_required_of : ArrayMetadataV3 → RequiredV3
 array_v3_required_of m = record { shape = m.shape; data_type = m.data_type; chunk_grid = m.chunk_grid; chunk_key_encoding = m.chunk_key_encoding; fill_value = m.fill_value; codecs = m.codecs }
 
--- the members that may be absent, of a version 3 array
+-- of a version 3 array, those that may be absent
 abbrev pub array_v3_optional_of : ArrayMetadataV3 → OptionalV3
 array_v3_optional_of m = record { attributes = m.attributes; storage_transformers = m.storage_transformers; dimension_names = m.dimension_names }
 
@@ -168,11 +168,11 @@ array_v2_with r o fields = record {
   additional_fields = fields;
 }
 
--- the members that each version 2 array has, of one
+-- of a version 2 array, the members that each has
 abbrev pub array_v2_required_of : ArrayMetadataV2 → RequiredV2
 array_v2_required_of m = record { shape = m.shape; chunks = m.chunks; dtype = m.dtype; fill_value = m.fill_value; order = m.order }
 
--- the members that may be absent, of a version 2 array
+-- of a version 2 array, those that may be absent
 abbrev pub array_v2_optional_of : ArrayMetadataV2 → OptionalV2
 array_v2_optional_of m = record { compressor = m.compressor; filters = m.filters; dimension_separator = m.dimension_separator; attributes = m.attributes }
 
