@@ -17,10 +17,3 @@ pub use node_create_error::NodeCreateError;
 pub use policy::{
     consolidated_metadata_for_open, consolidated_metadata_of, resolve_consolidated_policy,
 };
-
-#[cfg(test)]
-mod tests;
-#[cfg(test)]
-mod zmetadata_tests;
-#[cfg(test)]
-mod zmetadata_written_tests;

@@ -11,6 +11,3 @@ pub use group_metadata_options::GroupMetadataOptions;
 pub use version::{
     MetadataConvertVersion, MetadataEraseVersion, MetadataRetrieveVersion, UseConsolidatedMetadata,
 };
-
-#[cfg(test)]
-mod tests;

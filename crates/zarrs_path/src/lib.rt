@@ -16,6 +16,3 @@ pub use key::{
 };
 pub use node_name::{NodeName, NodeNameError};
 pub use node_path::{NodePath, NodePathError};
-
-#[cfg(test)]
-mod tests;

@@ -14,10 +14,6 @@ ghost use Rattle.zarrs_group.specs.Edits.{after, IsCutShort};
 ghost use Rattle.zarrs_group.specs.Groups.{converted};
 ghost use Rattle.zarrs_group.specs.Stored.{store_edits, erase_edits, RefusesStore};
 
-use crate::group_children::{
-    LEVELS, LEVELS_TREES, groups_text, levels, refused, with_block as with_block_of,
-};
-use crate::groups::{Step, done};
 use log::sink::Discard;
 use std::alloc::{AllocError, Global};
 use std::test::Fail;
@@ -35,6 +31,9 @@ use zarrs_node::{
 };
 use zarrs_path::NodePath;
 use zarrs_rows_documents::{A2, G2, G3, said};
+use zarrs_rows_groups::{
+    LEVELS, LEVELS_TREES, Step, done, groups_text, levels, refused, with_block as with_block_of,
+};
 use zarrs_rows_nodes::{
     A3_SQUARE, ANY, THREE_LEVELS, config_of, entries_of, forest_text, key_of, keys_text, listed_in,
     listing_text, metadata_in, pairs_text, paths_listed_in, paths_listing_text, paths_text,

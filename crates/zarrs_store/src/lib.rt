@@ -26,6 +26,3 @@ pub use storage_error::StorageError;
 pub use store::{
     ListableStorageTraits, ReadableStorageTraits, Store, StoreKeysPrefixes, WritableStorageTraits,
 };
-
-#[cfg(test)]
-mod tests;

@@ -1,8 +1,8 @@
-use crate::ConsolidatedMetadata;
 use serde_json::Value;
 use std::alloc::{AllocError, Global};
 use std::process::Abort;
 use std::test::Fail;
+use zarrs_block::ConsolidatedMetadata;
 use zarrs_store::MetadataFault;
 
 // What is read of a document: the keys of the block, each with the text of its metadata and a semicolon, or the text of the fault.

@@ -1,7 +1,11 @@
 //! The block that a group holds, of version 2 beside its metadata, and what stands below a group: by that block, or by a listing.
 //!
-//! Generic helpers hold the groups and the blocks, so that no test drops them itself; the tests compare texts.
+//! The tests compare texts.
 
+use crate::fixtures::{
+    LEVELS, LEVELS_TREES, Set, block_of, changed, group_of, group_with, groups_text, levels, set,
+    set_in, with_block,
+};
 use log::sink::{Discard, Writer};
 use std::alloc::{AllocError, Global};
 use std::fmt::Display;
@@ -20,104 +24,10 @@ use zarrs_store::{MemoryStore, MetadataFault, ReadableStorageTraits, StorageErro
 
 // ---- groups with blocks
 
-/// The fault of a document as a refusal.
-pub(crate) fn refused(alloc: Global, fault: MetadataFault) -> GroupCreateError {
-    match format!(in alloc; "{fault}") {
-        Ok(text) => GroupCreateError::StorageError(StorageError::Other(text)),
-        Err(_) => GroupCreateError::OutOfMemory,
-    }
-}
-
-// The version 3 group that a document is, at a path.
-fn group_of(alloc: Global, path: &str, document: &str) -> Result<Group, GroupCreateError> {
-    match GroupMetadataV3::from_bytes(alloc, document.as_bytes()) {
-        Ok(metadata) => {
-            Group::new_with_metadata(alloc, path, GroupMetadata::V3(metadata), &Config::new())
-        }
-        Err(fault) => Err(refused(alloc, fault)),
-    }
-}
-
 // The version 2 group at a path.
 fn old_group(alloc: Global, path: &str) -> Result<Group, GroupCreateError> {
     let metadata = GroupMetadata::V2(GroupMetadataV2::new(alloc));
     Group::new_with_metadata(alloc, path, metadata, &Config::new())
-}
-
-// A value once it was given each of these rows.
-fn filled<T, E, F>(alloc: Global, mut value: T, rows: &[(&str, &str)], give: F) -> Result<T, E>
-where
-    T: Drop,
-    F: Fn(&mut T, Global, &str, &str) -> Result<(), E>,
-    requires { F.IsAlwaysCallable give }
-{
-    for (key, document) in rows {
-        give(&mut value, alloc, key, document)?;
-    }
-    Ok(value)
-}
-
-// Puts the node that a document is at a key.
-fn put_node(
-    nodes: &mut ConsolidatedMetadataMetadata,
-    alloc: Global,
-    key: &str,
-    document: &str,
-) -> Result<(), GroupCreateError> {
-    let key = String::from_str(alloc, key)?;
-    match NodeMetadata::from_bytes(alloc, document.as_bytes()) {
-        Ok(node) => Ok(nodes.insert(key, node)?),
-        Err(fault) => Err(refused(alloc, fault)),
-    }
-}
-
-// The block with these documents at these keys.
-fn block_of(
-    alloc: Global,
-    documents: &[(&str, &str)],
-) -> Result<ConsolidatedMetadata, GroupCreateError> {
-    let nodes = ConsolidatedMetadataMetadata::new(alloc);
-    let metadata = filled(alloc, nodes, documents, put_node)?;
-    Ok(ConsolidatedMetadata { metadata })
-}
-
-// A group after a block was set, or removed, and what that call answers.
-type Set = (Group, Result<(), NodeCreateError>);
-
-// A group after a call on it, where the call succeeded.
-fn changed(alloc: Global, made: Result<Set, GroupCreateError>) -> Result<Group, GroupCreateError> {
-    let (group, answer) = made?;
-    match answer {
-        Ok(()) => Ok(group),
-        Err(error) => Err(GroupCreateError::from_node_error(alloc, error)),
-    }
-}
-
-fn set(mut group: Group, alloc: Global, block: Option<ConsolidatedMetadata>) -> Set {
-    let answer = match group.set_consolidated_metadata(alloc, block) {
-        Ok(_) => Ok(()),
-        Err(error) => Err(error),
-    };
-    (group, answer)
-}
-
-// A group with a block of these documents set, and what the call that set it answers.
-fn set_in(
-    alloc: Global,
-    group: Result<Group, GroupCreateError>,
-    block: &[(&str, &str)],
-) -> Result<Set, GroupCreateError> {
-    let block = block_of(alloc, block);
-    both(group, block, |group, block| set(group, alloc, Some(block)))
-}
-
-// A group with a block of these documents set.
-pub(crate) fn with_block(
-    alloc: Global,
-    group: Result<Group, GroupCreateError>,
-    block: &[(&str, &str)],
-) -> Result<Group, GroupCreateError> {
-    changed(alloc, set_in(alloc, group, block))
 }
 
 // A group with its block removed.
@@ -128,26 +38,7 @@ fn without_block(
     changed(alloc, group.map(|group| set(group, alloc, None)))
 }
 
-// The group without attributes at a path, with a block set.
-fn group_with(
-    alloc: Global,
-    path: &str,
-    block: &[(&str, &str)],
-) -> Result<Group, GroupCreateError> {
-    with_block(alloc, group_of(alloc, path, G3), block)
-}
-
 // ---- answers as texts
-
-/// The groups, one a line.
-pub(crate) fn groups_text(groups: &Vec<Group>, alloc: Global) -> Result<String, AllocError> {
-    let mut text = String::new(alloc);
-    for group in groups {
-        let line = group.to_text(alloc)?;
-        write!(text, "{line}\n")?;
-    }
-    Ok(text)
-}
 
 // The documents of the metadata of pairs, one after another.
 fn documents_text(
@@ -577,24 +468,8 @@ fn a_block_that_was_set_need_not_be_understood(rt: HostRuntime) -> Result<(), Fa
 
 // ---- by a block
 
-/// The block of a group of three levels.
-pub(crate) const LEVELS: [(&str, &str); 3] = [
-    ("array", A3_SQUARE),
-    ("subgroup", G3),
-    ("subgroup/mysubarray", A3_SQUARE),
-];
-
-/// The trees of that block.
-pub(crate) const LEVELS_TREES: &str =
-    "/group/array [10, 10] float32\n/group/subgroup\n  mysubarray [10, 10] float32\n";
-
 const LEVELS_ALL: &str =
     "/group/array array\n/group/subgroup group\n/group/subgroup/mysubarray array\n";
-
-/// The group of three levels with its block.
-pub(crate) fn levels(alloc: Global) -> Result<Group, GroupCreateError> {
-    group_with(alloc, "/group", &LEVELS)
-}
 
 #[test]
 fn a_block_stands_for_the_store(rt: HostRuntime) -> Result<(), Fail> {

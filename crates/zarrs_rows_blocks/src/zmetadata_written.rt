@@ -1,7 +1,7 @@
-use crate::{ConsolidatedMetadata, ConsolidatedMetadataMetadata};
 use std::alloc::{AllocError, Global};
 use std::process::Abort;
 use std::test::Fail;
+use zarrs_block::{ConsolidatedMetadata, ConsolidatedMetadataMetadata};
 use zarrs_meta::{GroupMetadataV2, NodeMetadata};
 use zarrs_store::MetadataFault;
 

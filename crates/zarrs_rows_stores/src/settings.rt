@@ -1,8 +1,8 @@
-use crate::{
+use std::test::Fail;
+use zarrs_config::{
     Config, GroupMetadataOptions, MetadataConvertVersion, MetadataEraseVersion,
     UseConsolidatedMetadata,
 };
-use std::test::Fail;
 
 #[test]
 fn a_new_configuration_holds_the_defaults(rt: HostRuntime) -> Result<(), Fail> {

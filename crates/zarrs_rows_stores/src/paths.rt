@@ -1,11 +1,11 @@
-use crate::{
-    NodeName, NodeNameError, NodePath, NodePathError, data_key, laws, meta_key, meta_key_v2_array,
-    meta_key_v2_attributes, meta_key_v2_consolidated, meta_key_v2_group, meta_key_v3,
-};
 use std::alloc::Global;
 use std::cmp::Ordering;
 use std::hash::{BuildHasher, BuildHasherDefault, FoldHasher};
 use std::test::Fail;
+use zarrs_path::{
+    NodeName, NodeNameError, NodePath, NodePathError, data_key, laws, meta_key, meta_key_v2_array,
+    meta_key_v2_attributes, meta_key_v2_consolidated, meta_key_v2_group, meta_key_v3,
+};
 use zarrs_store::{StoreKey, StorePrefix};
 
 fn path(alloc: Global, text: &str) -> Result<NodePath, Fail> {

@@ -1,18 +1,13 @@
 // A test holds a store over one `?` at most, and asks the rest of calls that are lent it: each `?` drops all that is held, and a
 // drop of a store is long to prove.
-use crate::children::discover_children;
-use crate::fault::{MemberName, MetadataFault};
-use crate::fault_store::{FaultAt, FaultStore};
-use crate::key::{StoreKey, StoreKeyError};
-use crate::memory_store::MemoryStore;
-use crate::prefix::{StorePrefix, StorePrefixError};
-use crate::storage_error::StorageError;
-use crate::store::{
-    ListableStorageTraits, ReadableStorageTraits, StoreKeysPrefixes, WritableStorageTraits,
-};
 use std::alloc::{AllocError, Global};
 use std::fmt::Display;
 use std::test::Fail;
+use zarrs_store::{
+    FaultAt, FaultStore, ListableStorageTraits, MemberName, MemoryStore, MetadataFault,
+    ReadableStorageTraits, StorageError, StoreKey, StoreKeyError, StoreKeysPrefixes, StorePrefix,
+    StorePrefixError, WritableStorageTraits, discover_children,
+};
 
 // ---- what is asked
 

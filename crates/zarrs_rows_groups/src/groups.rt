@@ -1,6 +1,7 @@
 //! Groups that are made, opened, stored and erased. Each helper holds a group and answers a text; the tests are tables of
 //! short texts.
 
+use crate::fixtures::{Step, done};
 use serde_json::{Map, Value};
 use std::alloc::{AllocError, Global};
 use std::test::Fail;
@@ -428,33 +429,6 @@ fn the_least_field_that_must_be_understood_is_named(rt: HostRuntime) -> Result<(
 }
 
 // ---- storing and erasing
-
-/// A call on a group that changes a store.
-#[derive(Clone, Copy, Drop)]
-pub(crate) enum Step {
-    Store,
-    StoreAs(MetadataConvertVersion),
-    Erase,
-    EraseAs(MetadataEraseVersion),
-}
-
-/// What a call on a group answers that changes a store.
-pub(crate) fn done<S: WritableStorageTraits>(
-    alloc: Global,
-    group: &Group,
-    store: &mut S,
-    step: Step,
-) -> Result<(), StorageError> {
-    match step {
-        Step::Store => group.store_metadata(alloc, store),
-        Step::StoreAs(version) => {
-            let options = GroupMetadataOptions::default().with_metadata_convert_version(version);
-            group.store_metadata_opt(alloc, store, &options)
-        }
-        Step::Erase => group.erase_metadata(alloc, store),
-        Step::EraseAs(version) => group.erase_metadata_opt(alloc, store, version),
-    }
-}
 
 // The text of a refusal and a comma, or no text.
 fn refusal(alloc: Global, answer: Result<(), StorageError>) -> Result<String, Fail> {

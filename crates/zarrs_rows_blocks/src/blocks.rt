@@ -1,11 +1,11 @@
-use crate::{
-    ConsolidatedMetadata, ConsolidatedMetadataMetadata, NodeCreateError,
-    consolidated_metadata_for_open, expand_consolidated_metadata, resolve_consolidated_policy,
-};
 use serde_json::Value;
 use std::alloc::{AllocError, Global};
 use std::process::Abort;
 use std::test::Fail;
+use zarrs_block::{
+    ConsolidatedMetadata, ConsolidatedMetadataMetadata, NodeCreateError,
+    consolidated_metadata_for_open, expand_consolidated_metadata, resolve_consolidated_policy,
+};
 use zarrs_config::UseConsolidatedMetadata;
 use zarrs_meta::NodeMetadata;
 use zarrs_path::NodePath;
