@@ -12,7 +12,7 @@ use Rattle.serde_json.specs.Data.{Data, boolean, string, object, Members, no_mem
 use Rattle.serde_json.specs.Find.{as_object}
 use Rattle.std.specs.List.Sorted.{IsStrictlySortedBy}
 use Rattle.zarrs_store.specs.Segments.{bytes_cmp, key_text}
-use Rattle.zarrs_store.specs.declared.fault.MetadataFault.{MetadataFault}
+use Rattle.zarrs_fault.specs.declared.fault.MetadataFault.{MetadataFault}
 use Rattle.zarrs_path.specs.Paths.{Path, IsPath}
 use Rattle.zarrs_form.specs.Documents.{document_of, required, optional}
 use Rattle.zarrs_form.specs.Documents as steps

@@ -15,8 +15,8 @@ use Rattle.serde_json.specs.Data.{Data, Members}
 use Rattle.serde_json.specs.Find.{get_member}
 use Rattle.serde_json.specs.View.{view}
 use Rattle.zarrs_store.specs.Segments.{last_segment}
-use Rattle.zarrs_store.specs.declared.fault.MetadataFault.{MetadataFault}
-use Rattle.zarrs_store.specs.declared.fault.MetadataFault.TheVariants.{BadMember, OutOfMemory}
+use Rattle.zarrs_fault.specs.declared.fault.MetadataFault.{MetadataFault}
+use Rattle.zarrs_fault.specs.declared.fault.MetadataFault.TheVariants.{BadMember, OutOfMemory}
 use Rattle.zarrs_path.specs.Keys.{zarray, zgroup, zattrs}
 use Rattle.zarrs_path.specs.Names.{is_name}
 use Rattle.zarrs_path.specs.Paths.{IsPath}

@@ -3,8 +3,8 @@ use Rattle.std.proofs.Common.{◌≡◌, ◌≢◌, ℕ, List, Bool, true, false
 use Rattle.serde_json.specs.Data.{Data}
 use Rattle.serde_json.specs.Find.{get}
 use Rattle.zarrs_form.specs.Documents.{◌>>=◌, NeverLacksMemory, json_of, parsed, of_bytes, format_of, node_type_of, present, formed, required, optional_from, optional}
-use Rattle.zarrs_store.specs.declared.fault.MetadataFault.{MetadataFault}
-use Rattle.zarrs_store.specs.declared.fault.MetadataFault.TheVariants.{WrongFormat, WrongNodeType, BadMember, OutOfMemory}
+use Rattle.zarrs_fault.specs.declared.fault.MetadataFault.{MetadataFault}
+use Rattle.zarrs_fault.specs.declared.fault.MetadataFault.TheVariants.{WrongFormat, WrongNodeType, BadMember, OutOfMemory}
 
 -- ---- steps
 

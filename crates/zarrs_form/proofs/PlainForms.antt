@@ -11,8 +11,8 @@ use Rattle.zarrs_form.specs.Documents as documents
 use Rattle.zarrs_form.specs.Documents.{NeverLacksMemory, is_own, besides, has_own, document_of, present, formed, required, optional_from, optional}
 use Rattle.zarrs_form.specs.Forms as forms
 use Rattle.zarrs_form.specs.Forms.{any, nullable, each, list_of, none_or, fits, unless_absent}
-use Rattle.zarrs_store.specs.declared.fault.MetadataFault.{MetadataFault}
-use Rattle.zarrs_store.specs.declared.fault.MetadataFault.TheVariants.{NotAnObject, OutOfMemory, UnsupportedNumber}
+use Rattle.zarrs_fault.specs.declared.fault.MetadataFault.{MetadataFault}
+use Rattle.zarrs_fault.specs.declared.fault.MetadataFault.TheVariants.{NotAnObject, OutOfMemory, UnsupportedNumber}
 use Rattle.zarrs_form.proofs.MemberLaws.{neither}
 
 -- ---- steps that give a value, or none, or a fault

@@ -12,7 +12,7 @@ use Rattle.serde_json.specs.Data.{Data, Members, member, put}
 use Rattle.serde_json.specs.View.{view, members_of, members_view}
 use Rattle.serde_json.proofs.Views.{Entry}
 use Rattle.zarrs_form.specs.Documents.{is_own, besides, is_empty, parsed, json_of}
-use Rattle.zarrs_store.specs.declared.fault.MetadataFault.TheVariants.{NotJson}
+use Rattle.zarrs_fault.specs.declared.fault.MetadataFault.TheVariants.{NotJson}
 use Rattle.serde_json.specs.Read.{read}
 use Rattle.std.specs.Str.{IsUtf8, is_utf8}
 use Rattle.std.proofs.lemmas.Str.{IsUtf8-from_is_utf8}

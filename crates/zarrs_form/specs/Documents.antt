@@ -6,8 +6,8 @@ use Rattle.serde_json.specs.Read.{read}
 use Rattle.serde_json.specs.Data.{Data, object, Members, no_members, member}
 use Rattle.serde_json.specs.Find.{get, get_member, as_null, as_number, as_u64, as_str}
 use Rattle.serde_json.specs.Written.{has_float}
-use Rattle.zarrs_store.specs.declared.fault.MetadataFault.{MetadataFault}
-use Rattle.zarrs_store.specs.declared.fault.MetadataFault.TheVariants.{NotJson, UnsupportedNumber, NotAnObject, WrongFormat, WrongNodeType, MissingMember, BadMember, OutOfMemory}
+use Rattle.zarrs_fault.specs.declared.fault.MetadataFault.{MetadataFault}
+use Rattle.zarrs_fault.specs.declared.fault.MetadataFault.TheVariants.{NotJson, UnsupportedNumber, NotAnObject, WrongFormat, WrongNodeType, MissingMember, BadMember, OutOfMemory}
 
 infixl 10 ◌>>=◌
 -- a step, and the next where it answered a value

@@ -11,7 +11,7 @@ use crate::shapes::List;
 use crate::text::write_text;
 use serde_json::{Map, Value};
 use std::alloc::{AllocError, Global};
-use zarrs_store::{MemberName, MetadataFault};
+use zarrs_fault::{MemberName, MetadataFault};
 
 /// The layout of the items within a chunk.
 ///

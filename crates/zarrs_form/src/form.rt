@@ -17,7 +17,7 @@ use crate::shapes::{FillValueMetadata, Json, List, Object, Text};
 use crate::text::{write_comma, write_members, write_text, write_value};
 use serde_json::{Map, Value, put};
 use std::alloc::{AllocError, Global};
-use zarrs_store::{MemberName, MetadataFault};
+use zarrs_fault::{MemberName, MetadataFault};
 
 /// A type whose values stand in a document in one form, and are written in it.
 ///

@@ -8,7 +8,7 @@ ghost use Rattle.zarrs_form.specs.Documents.{Gives, absent, besides, besides_nul
 
 use serde_json::{Category, Map, Value};
 use std::alloc::{AllocError, Global};
-use zarrs_store::{MemberName, MetadataFault};
+use zarrs_fault::{MemberName, MetadataFault};
 
 /// Whether the name is one of the names.
 pub(crate) fn is_one_of(name: &str, names: &[&str]) -> bool

@@ -5,8 +5,8 @@ use Rattle.std.proofs.lemmas.Bool.{and_parts, eqb-true}
 use Rattle.serde_json.specs.Data.{Data, Members, no_members, member}
 use Rattle.serde_json.specs.Written.{has_float, members_have_float}
 use Rattle.zarrs_store.specs.Segments.{is_slash, key_text}
-use Rattle.zarrs_store.specs.declared.fault.MetadataFault.{MetadataFault}
-use Rattle.zarrs_store.specs.declared.fault.MetadataFault.TheVariants.{UnsupportedNumber, BadMember}
+use Rattle.zarrs_fault.specs.declared.fault.MetadataFault.{MetadataFault}
+use Rattle.zarrs_fault.specs.declared.fault.MetadataFault.TheVariants.{UnsupportedNumber, BadMember}
 use Rattle.zarrs_path.specs.Paths.{Path, parts, relative_names, without_leading_slash}
 use Rattle.zarrs_form.specs.Forms.{is_nil}
 use Rattle.zarrs_form.proofs.AttributeLaws.{not_true}

@@ -6,8 +6,8 @@ use Rattle.std.proofs.Common.{Less, Equal, Greater, Ordering, is_eq, nat_cmp, by
 use Rattle.serde_json.specs.Data.{Data, Members, no_members, member}
 use Rattle.serde_json.specs.Find.{get_member}
 use Rattle.serde_json.specs.Written.{has_float, members_have_float}
-use Rattle.zarrs_store.specs.declared.fault.MetadataFault.{MetadataFault}
-use Rattle.zarrs_store.specs.declared.fault.MetadataFault.TheVariants.{UnsupportedNumber, BadMember}
+use Rattle.zarrs_fault.specs.declared.fault.MetadataFault.{MetadataFault}
+use Rattle.zarrs_fault.specs.declared.fault.MetadataFault.TheVariants.{UnsupportedNumber, BadMember}
 use Rattle.zarrs_form.specs.Documents.{has_own, is_null}
 use Rattle.zarrs_meta.specs.GroupV3 as v3
 use Rattle.zarrs_meta.specs.GroupV2 as v2

@@ -7,8 +7,8 @@ use Rattle.std.proofs.lemmas.List.Sums.{AllPass-from_list_all}
 use Rattle.serde_json.specs.Data.{Data}
 use Rattle.zarrs_store.specs.Segments.{Segments}
 use Rattle.zarrs_store.specs.Contents.{Contents}
-use Rattle.zarrs_store.specs.declared.fault.MetadataFault.{MetadataFault}
-use Rattle.zarrs_store.specs.declared.fault.MetadataFault.TheVariants.{UnsupportedNumber, BadMember}
+use Rattle.zarrs_fault.specs.declared.fault.MetadataFault.{MetadataFault}
+use Rattle.zarrs_fault.specs.declared.fault.MetadataFault.TheVariants.{UnsupportedNumber, BadMember}
 use Rattle.zarrs_store.proofs.ContentsLemmas.{get_inserted}
 use Rattle.zarrs_path.specs.Keys.{zmetadata}
 use Rattle.zarrs_path.specs.Paths.{Path, IsPath}

@@ -20,8 +20,8 @@ use Rattle.zarrs_meta.specs.declared.group_v2.GroupMetadataV2.{GroupMetadataV2}
 use Rattle.zarrs_path.specs.Paths.{Path}
 use Rattle.zarrs_block.specs.Block.{Block}
 use Rattle.zarrs_block.specs.Expanded.{paired, paths_at}
-use Rattle.zarrs_store.specs.declared.fault.MetadataFault.{MetadataFault}
-use Rattle.zarrs_store.specs.declared.fault.MetadataFault.TheVariants.{UnsupportedNumber, BadMember}
+use Rattle.zarrs_fault.specs.declared.fault.MetadataFault.{MetadataFault}
+use Rattle.zarrs_fault.specs.declared.fault.MetadataFault.TheVariants.{UnsupportedNumber, BadMember}
 
 -- some member has this name
 abbrev pub has_member : List ℕ → Members → Bool

@@ -3,7 +3,7 @@ use Rattle.std.specs.Prelude.{false, ◌≡◌, ℕ, Bool, IsTrue, List, [], ◌
 use Rattle.serde_json.specs.Data.{object, Members}
 use Rattle.zarrs_store.specs.Segments.{Segments}
 use Rattle.zarrs_store.specs.Contents.{Contents}
-use Rattle.zarrs_store.specs.declared.fault.MetadataFault.{MetadataFault}
+use Rattle.zarrs_fault.specs.declared.fault.MetadataFault.{MetadataFault}
 use Rattle.zarrs_store.specs.declared.storage_error.StorageError.{StorageError}
 use Rattle.zarrs_store.specs.declared.storage_error.StorageError.TheVariants.{Fault, InvalidMetadata, Other, OutOfMemory}
 use Rattle.zarrs_path.specs.Keys.{zarr_json, zgroup, zattrs, zmetadata}

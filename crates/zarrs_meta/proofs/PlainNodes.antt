@@ -14,7 +14,7 @@ use Rattle.zarrs_meta.specs.GroupV2 as v2
 use Rattle.zarrs_form.specs.Forms.{fits}
 use Rattle.zarrs_meta.specs.Node.{has_format, has_type, node_v3_of, node_v2_of, node_of, zarr_json_of, is_plain_node, group_with, array_with}
 use Rattle.zarrs_meta.specs.Laws.{WithAttributesIsPlain}
-use Rattle.zarrs_store.specs.declared.fault.MetadataFault.TheVariants.{WrongFormat, WrongNodeType}
+use Rattle.zarrs_fault.specs.declared.fault.MetadataFault.TheVariants.{WrongFormat, WrongNodeType}
 use Rattle.zarrs_meta.specs.declared.group_v2.GroupMetadataV2.{GroupMetadataV2}
 use Rattle.zarrs_meta.specs.declared.array_v2.ArrayMetadataV2.{ArrayMetadataV2}
 use Rattle.zarrs_meta.specs.declared.attributes.AttributesDocument.{AttributesDocument}

@@ -2,8 +2,8 @@
 use Rattle.std.proofs.Common.{◌≡◌, Result, Ok, Err, refl, subst, sym}
 use Rattle.std.specs.Result.{IsErrAnd}
 use Rattle.zarrs_form.specs.Documents.{◌>>=◌, Gives, Refuses}
-use Rattle.zarrs_store.specs.declared.fault.MetadataFault.{MetadataFault}
-use Rattle.zarrs_store.specs.declared.fault.MetadataFault.TheVariants.{NotJson, UnsupportedNumber, NotAnObject, WrongFormat, WrongNodeType, MissingMember, BadMember, OutOfMemory}
+use Rattle.zarrs_fault.specs.declared.fault.MetadataFault.{MetadataFault}
+use Rattle.zarrs_fault.specs.declared.fault.MetadataFault.TheVariants.{NotJson, UnsupportedNumber, NotAnObject, WrongFormat, WrongNodeType, MissingMember, BadMember, OutOfMemory}
 
 -- the fault of a part is that of the whole, where the whole is refused as the part is
 pub refuses_whole : {A B : Type 0} (fault : MetadataFault) (part : Result A MetadataFault) (whole : Result B MetadataFault) → (part ≡ Err fault → whole ≡ Err fault) → Refuses fault part → Refuses fault whole

@@ -14,7 +14,7 @@ use Rattle.zarrs_form.specs.FormsV2.{codec, data_type, order, separator, chunk_l
 use Rattle.zarrs_meta.specs.Taken.{node_names, group_v3_taken, group_v2_taken, array_v3_required_names, array_v3_optional_names, array_v3_required, array_v3_optional, array_v3_with, array_v3_taken, array_v2_required_names, array_v2_optional_names, array_v2_required, array_v2_optional, array_v2_with, array_v2_taken}
 use Rattle.zarrs_form.proofs.MemberLaws.{get_besides}
 use Rattle.zarrs_form.proofs.LeftLaws.{left, get_left, left_besides, besides_both}
-use Rattle.zarrs_store.specs.declared.fault.MetadataFault.{MetadataFault}
+use Rattle.zarrs_fault.specs.declared.fault.MetadataFault.{MetadataFault}
 use Rattle.zarrs_meta.specs.declared.array_v3.ArrayMetadataV3.{ArrayMetadataV3}
 use Rattle.zarrs_meta.specs.declared.array_v2.ArrayMetadataV2.{ArrayMetadataV2}
 use Rattle.zarrs_form.specs.declared.chunks.ChunkKeySeparator.{ChunkKeySeparator}

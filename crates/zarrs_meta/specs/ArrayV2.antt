@@ -6,7 +6,7 @@ use Rattle.serde_json.specs.Find.{as_object}
 use Rattle.zarrs_form.specs.Documents.{◌>>=◌, document_of, format_of, required, optional, besides, has_own, is_empty}
 use Rattle.zarrs_form.specs.Forms.{number_u64, any, list_of, nullable, number_data, list_data, nullable_data, none_or, fits, unless, put_rows}
 use Rattle.zarrs_form.specs.FormsV2.{codec, codec_data, codec_fits, data_type, data_type_data, data_type_fits, order, order_data, separator, separator_data, has_zero, chunk_lengths}
-use Rattle.zarrs_store.specs.declared.fault.MetadataFault.{MetadataFault}
+use Rattle.zarrs_fault.specs.declared.fault.MetadataFault.{MetadataFault}
 use Rattle.zarrs_meta.specs.declared.array_v2.ArrayMetadataV2.{ArrayMetadataV2}
 use Rattle.zarrs_form.specs.declared.chunks.ChunkKeySeparator.TheVariants.{Dot}
 

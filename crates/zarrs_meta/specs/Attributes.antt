@@ -3,7 +3,7 @@ use Rattle.std.specs.Prelude.{Bool, Result, Ok}
 use Rattle.serde_json.specs.Data.{Data, object}
 use Rattle.zarrs_form.specs.Documents.{◌>>=◌, document_of}
 use Rattle.zarrs_form.specs.Forms.{fits}
-use Rattle.zarrs_store.specs.declared.fault.MetadataFault.{MetadataFault}
+use Rattle.zarrs_fault.specs.declared.fault.MetadataFault.{MetadataFault}
 use Rattle.zarrs_meta.specs.declared.attributes.AttributesDocument.{AttributesDocument}
 
 -- the attributes are all the members of the document

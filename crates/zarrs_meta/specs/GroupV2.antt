@@ -4,7 +4,7 @@ use Rattle.serde_json.specs.Data.{Data, object, no_members}
 use Rattle.serde_json.specs.Find.{as_object}
 use Rattle.zarrs_form.specs.Documents.{◌>>=◌, document_of, format_of, absent, optional, besides, has_own, is_empty}
 use Rattle.zarrs_form.specs.Forms.{number_data, fits, unless, put_rows}
-use Rattle.zarrs_store.specs.declared.fault.MetadataFault.{MetadataFault}
+use Rattle.zarrs_fault.specs.declared.fault.MetadataFault.{MetadataFault}
 use Rattle.zarrs_meta.specs.declared.group_v2.GroupMetadataV2.{GroupMetadataV2}
 
 -- `zarr_format` and the members of the table, with `shape`, which must be absent

@@ -4,7 +4,7 @@ use Rattle.serde_json.specs.Data.{Data, string, object, no_members}
 use Rattle.serde_json.specs.Find.{get, get_member, as_object}
 use Rattle.zarrs_form.specs.Documents.{◌>>=◌, document_of, format_of, node_type_of, optional, besides, has_own, is_null, is_empty}
 use Rattle.zarrs_form.specs.Forms.{number_data, fits, unless, put_rows}
-use Rattle.zarrs_store.specs.declared.fault.MetadataFault.{MetadataFault}
+use Rattle.zarrs_fault.specs.declared.fault.MetadataFault.{MetadataFault}
 use Rattle.zarrs_meta.specs.declared.group_v3.GroupMetadataV3.{GroupMetadataV3}
 
 -- `zarr_format`, `node_type` and the member of the table

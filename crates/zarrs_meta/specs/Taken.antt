@@ -5,7 +5,7 @@ use Rattle.serde_json.specs.Find.{as_object, as_str}
 use Rattle.zarrs_form.specs.Documents.{◌>>=◌, required, optional, besides, besides_null}
 use Rattle.zarrs_form.specs.Forms.{number_u64, any, nullable, list_of, extension}
 use Rattle.zarrs_form.specs.FormsV2.{codec, data_type, order, separator, chunk_lengths}
-use Rattle.zarrs_store.specs.declared.fault.MetadataFault.{MetadataFault}
+use Rattle.zarrs_fault.specs.declared.fault.MetadataFault.{MetadataFault}
 use Rattle.zarrs_meta.specs.declared.group_v2.GroupMetadataV2.{GroupMetadataV2}
 use Rattle.zarrs_meta.specs.declared.group_v3.GroupMetadataV3.{GroupMetadataV3}
 use Rattle.zarrs_meta.specs.declared.array_v2.ArrayMetadataV2.{ArrayMetadataV2}

@@ -12,13 +12,13 @@ ghost use Rattle.zarrs_meta.specs.Taken.{array_v2_taken, array_v2_required, arra
 
 use serde_json::{Map, Value, put};
 use std::alloc::{AllocError, Global};
+use zarrs_fault::MetadataFault;
 use zarrs_form::{
     ArrayMetadataV2Order, ChunkKeySeparator, DataTypeMetadataV2, FillValueMetadata, Form, List,
     MetadataV2, Object, ask_format, attributes, chunk_lengths, document, document_copy, has_zero,
     open_table, optional, parse, put_member, put_unless, required, take_member, write_last,
     write_row, write_unless,
 };
-use zarrs_store::MetadataFault;
 
 /// The metadata of a version 2 array.
 ///

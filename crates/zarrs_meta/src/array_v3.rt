@@ -12,13 +12,13 @@ ghost use Rattle.zarrs_meta.specs.Taken.{array_v3_taken, array_v3_required, arra
 
 use serde_json::{Map, Value, put};
 use std::alloc::{AllocError, Global};
+use zarrs_fault::MetadataFault;
 use zarrs_form::{
     AdditionalFieldsV3, ChunkKeySeparator, FillValueMetadata, Form, List, MetadataV3, Object, Text,
     ask_format, ask_node_type, attributes, document, document_copy, fields_of, open_table,
     optional, parse, put_member, put_text, put_unless, required, write_last, write_row,
     write_unless,
 };
-use zarrs_store::MetadataFault;
 
 /// The metadata of a version 3 array.
 ///

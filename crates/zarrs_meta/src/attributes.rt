@@ -7,8 +7,8 @@ ghost use Rattle.zarrs_form.specs.Documents.{Gives, of_bytes};
 
 use serde_json::Value;
 use std::alloc::{AllocError, Global};
+use zarrs_fault::MetadataFault;
 use zarrs_form::{Form, Object, document, document_copy, parse};
-use zarrs_store::MetadataFault;
 
 /// The attributes beside a version 2 group or array.
 ///

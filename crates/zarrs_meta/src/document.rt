@@ -6,7 +6,7 @@ ghost use Rattle.zarrs_meta.specs.GroupV2.{group_v2_of};
 ghost use Rattle.zarrs_meta.specs.GroupV3.{group_v3_of};
 ghost use Rattle.zarrs_meta.specs.Attributes.{attributes_of};
 ghost use Rattle.zarrs_meta.specs.Node.{zarr_json_of};
-ghost use Rattle.zarrs_store.specs.declared.fault.MetadataFault.{MetadataFault};
+ghost use Rattle.zarrs_fault.specs.declared.fault.MetadataFault.{MetadataFault};
 
 use crate::array_v2::ArrayMetadataV2;
 use crate::attributes::AttributesDocument;
@@ -14,7 +14,7 @@ use crate::group_v2::GroupMetadataV2;
 use crate::group_v3::GroupMetadataV3;
 use crate::node::ZarrJson;
 use std::alloc::{AllocError, Global};
-use zarrs_store::MetadataFault;
+use zarrs_fault::MetadataFault;
 
 /// A kind of document that a store holds at a key.
 pub trait Document: Sized {

@@ -10,11 +10,11 @@ ghost use Rattle.zarrs_meta.specs.Taken.{group_v2_taken};
 
 use serde_json::{Map, Value, put};
 use std::alloc::{AllocError, Global};
+use zarrs_fault::MetadataFault;
 use zarrs_form::{
     Object, ask_format, attributes, document, document_copy, open_table, parse, put_unless, refuse,
     take_member, write_last, write_unless,
 };
-use zarrs_store::MetadataFault;
 
 /// The metadata of a version 2 group.
 ///

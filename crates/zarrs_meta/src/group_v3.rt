@@ -10,12 +10,12 @@ ghost use Rattle.zarrs_meta.specs.Taken.{group_v3_taken};
 
 use serde_json::{Map, Value, put};
 use std::alloc::{AllocError, Global};
+use zarrs_fault::MetadataFault;
 use zarrs_form::{
     AdditionalFieldsV3, Object, Text, ask_format, ask_node_type, attributes, document,
     document_copy, fields_of, open_table, parse, put_text, put_unless, take_null, write_last,
     write_row, write_unless,
 };
-use zarrs_store::MetadataFault;
 
 /// The metadata of a version 3 group.
 ///

@@ -15,8 +15,8 @@ use crate::group_v2::GroupMetadataV2;
 use crate::group_v3::GroupMetadataV3;
 use serde_json::{Map, Value};
 use std::alloc::{AllocError, Global};
+use zarrs_fault::MetadataFault;
 use zarrs_form::{ask_format, ask_node_type, document, document_copy, member, parse};
-use zarrs_store::MetadataFault;
 
 /// The metadata of a group of either version.
 #[derive(Debug, Drop)]

@@ -4,7 +4,7 @@ use Rattle.std.specs.FinMap.{get}
 use Rattle.serde_json.specs.Data.{Data}
 use Rattle.zarrs_store.specs.Segments.{Segments}
 use Rattle.zarrs_store.specs.Contents.{Contents}
-use Rattle.zarrs_store.specs.declared.fault.MetadataFault.{MetadataFault}
+use Rattle.zarrs_fault.specs.declared.fault.MetadataFault.{MetadataFault}
 use Rattle.zarrs_path.specs.Paths.{Path, IsBelow}
 use Rattle.zarrs_path.specs.Keys.{zarray, zgroup, zattrs}
 use Rattle.zarrs_form.specs.Documents.{json_of, of_bytes}

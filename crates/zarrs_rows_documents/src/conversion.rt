@@ -10,12 +10,12 @@ use zarrs_convert::{
     ArrayMetadataV2ToV3Error, DataTypeMetadataV2EndiannessError, array_metadata_v2_to_v3,
     group_metadata_v2_to_v3, laws,
 };
+use zarrs_fault::MetadataFault;
 use zarrs_form::Form;
 use zarrs_meta::{
     ArrayMetadataV2, ArrayMetadataV3, FillValueMetadata, GroupMetadataV2, GroupMetadataV3, List,
     MetadataV3, Object, Text,
 };
-use zarrs_store::MetadataFault;
 
 // ---- what the tests share
 

@@ -12,9 +12,9 @@ use zarrs_convert::{
     codec_metadata_v2_to_v3, data_type_metadata_v2_to_endianness, data_type_metadata_v2_to_v3,
     fill_value_metadata_v2_to_v3,
 };
+use zarrs_fault::MetadataFault;
 use zarrs_form::{Form, required};
 use zarrs_meta::{ArrayMetadataV2, DataTypeMetadataV2, Endianness, FillValueMetadata, MetadataV3};
-use zarrs_store::MetadataFault;
 
 // What a text reads as in the form of a type.
 fn read_as<T: Form + Drop>(alloc: Global, text: &str) -> Result<T, MetadataFault> {

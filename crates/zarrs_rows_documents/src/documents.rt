@@ -5,11 +5,11 @@ use crate::asserts::assert_says;
 use serde_json::Value;
 use std::alloc::{AllocError, Global};
 use std::process::Abort;
+use zarrs_fault::MetadataFault;
 use zarrs_meta::{
     ArrayMetadata, ArrayMetadataV2, ArrayMetadataV3, AttributesDocument, BoxedArray, Document,
     GroupMetadata, GroupMetadataV2, GroupMetadataV3, NodeMetadata, ZarrJson, laws,
 };
-use zarrs_store::MetadataFault;
 
 // ---- what the document types have in common
 

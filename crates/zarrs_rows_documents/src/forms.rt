@@ -4,6 +4,7 @@ use crate::answers::said;
 use serde_json::{Map, Value};
 use std::alloc::{AllocError, Global};
 use std::process::Abort;
+use zarrs_fault::MetadataFault;
 use zarrs_form::{
     AdditionalFieldsV3, ArrayMetadataV2Order, ChunkKeySeparator, DataTypeMetadataV2, Duplicate,
     FillValueMetadata, Form, Json, List, MetadataV2, MetadataV3, Object, Text, ask_format,
@@ -11,7 +12,6 @@ use zarrs_form::{
     members_have_float, open_table, optional, parse, put_member, put_text, put_unless, refuse,
     required, take_member, take_null, write_last, write_row, write_unless,
 };
-use zarrs_store::MetadataFault;
 
 // ---- what the tests share
 

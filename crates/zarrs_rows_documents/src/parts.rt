@@ -6,12 +6,12 @@ use serde_json::{Map, Value};
 use std::alloc::{AllocError, Global};
 use std::process::Abort;
 use std::test::Fail;
+use zarrs_fault::MetadataFault;
 use zarrs_meta::{
     AdditionalFieldV3, AdditionalFieldsV3, ArrayMetadataV2, ArrayMetadataV3, DataTypeMetadataV2,
     Endianness, FillValueMetadata, GroupMetadataV2, GroupMetadataV3, Json, List, MetadataV2,
     MetadataV3, Object, Text,
 };
-use zarrs_store::MetadataFault;
 
 // The value that a text is; null where it is none.
 fn value_of(alloc: Global, text: &str) -> Value {

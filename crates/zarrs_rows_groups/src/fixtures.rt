@@ -104,7 +104,7 @@ pub(crate) fn set_in(
     both(group, block, |group, block| set(group, alloc, Some(block)))
 }
 
-// A group with a block of these documents set.
+/// A group with a block of these documents set.
 pub fn with_block(
     alloc: Global,
     group: Result<Group, GroupCreateError>,

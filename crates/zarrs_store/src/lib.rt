@@ -1,12 +1,11 @@
 //! Stores of keys and bytes: keys and prefixes, the traits that a store has, a store in memory, one that fails at a place, and the
-//! faults of stores and documents.
+//! faults of stores.
 //!
 //! Contracts see a store as a finite map from keys to bytes, a key as its list of segments. Each call is a look-up, the keys or
 //! next segments behind a prefix, or one change.
 #![tactic(auto)]
 
 mod children;
-mod fault;
 mod fault_store;
 mod key;
 mod listing;
@@ -17,7 +16,6 @@ mod storage_error;
 mod store;
 
 pub use children::discover_children;
-pub use fault::{MemberName, MetadataFault};
 pub use fault_store::{FaultAt, FaultStore};
 pub use key::{StoreKey, StoreKeyError};
 pub use memory_store::MemoryStore;
@@ -26,3 +24,4 @@ pub use storage_error::StorageError;
 pub use store::{
     ListableStorageTraits, ReadableStorageTraits, Store, StoreKeysPrefixes, WritableStorageTraits,
 };
+pub use zarrs_fault::{MemberName, MetadataFault};

@@ -1,10 +1,10 @@
 ghost use Rattle.std.specs.Prelude.{◌≡◌};
 ghost use Rattle.zarrs_store.specs.declared.storage_error.StorageError.TheVariants.{OutOfMemory};
 
-use crate::fault::MetadataFault;
 use crate::key::StoreKey;
 use std::alloc::{AllocError, AllocFailed};
 use thiserror::Error;
+use zarrs_fault::MetadataFault;
 
 /// Why a call over a store was refused.
 ///

@@ -1,5 +1,5 @@
 ghost use Rattle.std.specs.Prelude.{◌≡◌, Some};
-ghost use Rattle.zarrs_store.specs.declared.fault.MetadataFault.TheVariants.{OutOfMemory};
+ghost use Rattle.zarrs_fault.specs.declared.fault.MetadataFault.TheVariants.{OutOfMemory};
 
 use std::alloc::{AllocError, AllocFailed};
 use std::fmt;
