@@ -202,7 +202,7 @@ fn a_document_of_zarr_python_is_read(rt: HostRuntime) -> Result<(), Fail> {
 }
 
 // A document as GDAL writes it: a group with attributes and a group within, arrays without and with compressors and filters, the
-// dimensions of each named in its attributes, and a spatial reference by its address.
+// dimensions of each named in its attributes, and a spatial reference by its address; each slash in a text behind a backslash.
 const WRITTEN_BY_GDAL: &str = r#"{
   "zarr_consolidated_format":1,
   "metadata":{
@@ -212,7 +212,7 @@ const WRITTEN_BY_GDAL: &str = r#"{
     ".zattrs":{
       "Conventions":"CF-1.6"
     },
-    "y/.zarray":{
+    "y\/.zarray":{
       "chunks":[2],
       "compressor":null,
       "dtype":"<f8",
@@ -222,14 +222,14 @@ const WRITTEN_BY_GDAL: &str = r#"{
       "shape":[2],
       "zarr_format":2
     },
-    "y/.zattrs":{
+    "y\/.zattrs":{
       "_ARRAY_DIMENSIONS":["y"]
     },
-    "sub/.zgroup":{
+    "sub\/.zgroup":{
       "zarr_format":2
     },
-    "sub/.zattrs":{},
-    "sub/band/.zarray":{
+    "sub\/.zattrs":{},
+    "sub\/band\/.zarray":{
       "chunks":[1,256],
       "compressor":{"id":"zlib","level":6},
       "dtype":"<u2",
@@ -239,9 +239,9 @@ const WRITTEN_BY_GDAL: &str = r#"{
       "shape":[2,512],
       "zarr_format":2
     },
-    "sub/band/.zattrs":{
+    "sub\/band\/.zattrs":{
       "_ARRAY_DIMENSIONS":["y","x"],
-      "_CRS":{"url":"http://www.opengis.net/def/crs/EPSG/0/26711"}
+      "_CRS":{"url":"http:\/\/www.opengis.net\/def\/crs\/EPSG\/0\/26711"}
     }
   }
 }"#;
