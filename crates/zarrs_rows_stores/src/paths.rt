@@ -1,3 +1,4 @@
+use crate::asserts::{assert_answer, assert_text};
 use std::alloc::Global;
 use std::cmp::Ordering;
 use std::hash::{BuildHasher, BuildHasherDefault, FoldHasher};
@@ -10,6 +11,14 @@ use zarrs_store::{StoreKey, StorePrefix};
 
 fn path(alloc: Global, text: &str) -> Result<NodePath, Fail> {
     Ok(NodePath::new(alloc, text)?)
+}
+
+// The text of a path, or `none`.
+fn text_of(path: &Option<NodePath>) -> &str {
+    match path {
+        Some(path) => path.as_str(),
+        None => "none",
+    }
 }
 
 fn hash_of(path: &NodePath) -> u64 {
@@ -35,7 +44,7 @@ fn names_are_valid_by_their_bytes(rt: HostRuntime) {
         ("/", false),
         ("a/b", false),
     ] {
-        assert_eq!(rt; NodeName::validate(text), valid, "at {text}");
+        assert_answer(&rt, text, NodeName::validate(text), valid);
     }
 }
 
@@ -44,8 +53,8 @@ fn names_show_their_texts(rt: HostRuntime) -> Result<(), Fail> {
     let alloc = rt.alloc();
     for text in ["", "a", "a.b", "..a"] {
         let name = NodeName::new(alloc, text)?;
-        assert_eq!(rt; name.as_str(), text);
-        assert_eq!(rt; name.to_string(alloc)?.as_str(), text);
+        assert_text(&rt, text, name.as_str(), text);
+        assert_text(&rt, text, name.to_string(alloc)?.as_str(), text);
     }
     Ok(())
 }
@@ -58,10 +67,11 @@ fn refuses_what_is_no_name(rt: HostRuntime) -> Result<(), Fail> {
         ("__a", "invalid node name __a"),
         ("a/b", "invalid node name a/b"),
     ] {
-        match NodeName::new(alloc, text) {
-            Ok(name) => assert!(rt; false, "{name}"),
-            Err(error) => assert_eq!(rt; error.to_string(alloc)?.as_str(), want),
-        }
+        let said = match NodeName::new(alloc, text) {
+            Ok(name) => name.to_string(alloc)?,
+            Err(error) => error.to_string(alloc)?,
+        };
+        assert_text(&rt, text, said.as_str(), want);
     }
     Ok(())
 }
@@ -70,14 +80,17 @@ fn refuses_what_is_no_name(rt: HostRuntime) -> Result<(), Fail> {
 fn names_are_equal_by_their_texts(rt: HostRuntime) -> Result<(), Fail> {
     let alloc = rt.alloc();
     let name = NodeName::new_unchecked(String::from_str(alloc, "ab")?);
-    assert_eq!(rt; name.as_str(), "ab");
-    assert!(rt; name == NodeName::new(alloc, "ab")?);
-    assert!(rt; name != NodeName::new(alloc, "a")?);
+    assert_text(&rt, "new_unchecked", name.as_str(), "ab");
+    for (text, wanted) in [("ab", true), ("a", false)] {
+        let is_same = name == NodeName::new(alloc, text)?;
+        assert_answer(&rt, text, is_same, wanted);
+    }
     let root = NodeName::root(alloc);
-    assert_eq!(rt; root.as_str(), "");
-    assert!(rt; root.is_root());
-    assert!(rt; root == NodeName::new(alloc, "")?);
-    assert!(rt; !name.is_root());
+    assert_text(&rt, "root", root.as_str(), "");
+    let is_empty = root == NodeName::new(alloc, "")?;
+    assert_answer(&rt, "root is the empty name", is_empty, true);
+    assert_answer(&rt, "root", root.is_root(), true);
+    assert_answer(&rt, "ab", name.is_root(), false);
     Ok(())
 }
 
@@ -97,7 +110,7 @@ fn paths_are_valid_by_their_names(rt: HostRuntime) {
         ("/..", false),
         ("/a//b", false),
     ] {
-        assert_eq!(rt; NodePath::validate(text), valid, "at {text}");
+        assert_answer(&rt, text, NodePath::validate(text), valid);
     }
 }
 
@@ -106,16 +119,15 @@ fn paths_show_their_texts(rt: HostRuntime) -> Result<(), Fail> {
     let alloc = rt.alloc();
     for text in ["/", "/a", "/foo__bar", "/foo./bar", "/foo/bar.."] {
         let path = NodePath::new(alloc, text)?;
-        assert_eq!(rt; path.as_str(), text);
-        assert_eq!(rt; path.to_string(alloc)?.as_str(), text);
-        assert_eq!(rt; path.try_clone(alloc)?.as_str(), text);
+        assert_text(&rt, text, path.as_str(), text);
+        assert_text(&rt, text, path.to_string(alloc)?.as_str(), text);
+        assert_text(&rt, text, path.try_clone(alloc)?.as_str(), text);
+        assert_answer(&rt, text, path.is_root(), text == "/");
     }
-    let root = NodePath::root(alloc)?;
-    assert_eq!(rt; root.as_str(), "/");
-    assert!(rt; root.is_root());
-    assert!(rt; !path(alloc, "/a")?.is_root());
-    assert!(rt; laws::accepted_texts(alloc, "/a")?);
-    assert!(rt; !laws::accepted_texts(alloc, "a")?);
+    assert_text(&rt, "root", NodePath::root(alloc)?.as_str(), "/");
+    for (text, wanted) in [("/a", true), ("a", false)] {
+        assert_answer(&rt, text, laws::accepted_texts(alloc, text)?, wanted);
+    }
     Ok(())
 }
 
@@ -128,10 +140,11 @@ fn refuses_what_is_no_path(rt: HostRuntime) -> Result<(), Fail> {
         ("/a/b/", "invalid node path /a/b/"),
         ("", "invalid node path "),
     ] {
-        match NodePath::new(alloc, text) {
-            Ok(path) => assert!(rt; false, "{path}"),
-            Err(error) => assert_eq!(rt; error.to_string(alloc)?.as_str(), want),
-        }
+        let said = match NodePath::new(alloc, text) {
+            Ok(path) => path.to_string(alloc)?,
+            Err(error) => error.to_string(alloc)?,
+        };
+        assert_text(&rt, text, said.as_str(), want);
     }
     Ok(())
 }
@@ -140,8 +153,10 @@ fn refuses_what_is_no_path(rt: HostRuntime) -> Result<(), Fail> {
 fn every_error_says_that_memory_ran_out(rt: HostRuntime) -> Result<(), Fail> {
     let alloc = rt.alloc();
     let want = "out of memory";
-    assert_eq!(rt; NodeNameError::OutOfMemory.to_string(alloc)?.as_str(), want);
-    assert_eq!(rt; NodePathError::OutOfMemory.to_string(alloc)?.as_str(), want);
+    let of_name = NodeNameError::OutOfMemory.to_string(alloc)?;
+    assert_text(&rt, "of a name", of_name.as_str(), want);
+    let of_path = NodePathError::OutOfMemory.to_string(alloc)?;
+    assert_text(&rt, "of a path", of_path.as_str(), want);
     Ok(())
 }
 
@@ -156,7 +171,7 @@ fn joins_names(rt: HostRuntime) -> Result<(), Fail> {
         ("/", "a/b", "/a/b"),
     ] {
         let joined = path(alloc, base)?.join(alloc, relative)?;
-        assert_eq!(rt; joined.as_str(), want);
+        assert_text(&rt, relative, joined.as_str(), want);
     }
     Ok(())
 }
@@ -174,10 +189,11 @@ fn refuses_the_first_bad_part(rt: HostRuntime) -> Result<(), Fail> {
         ("//foo", "invalid node path invalid node name `` in '/foo'"),
         ("__c", "invalid node path invalid node name `__c` in '__c'"),
     ] {
-        match root.join(alloc, relative) {
-            Ok(path) => assert!(rt; false, "{path}"),
-            Err(error) => assert_eq!(rt; error.to_string(alloc)?.as_str(), want),
-        }
+        let said = match root.join(alloc, relative) {
+            Ok(path) => path.to_string(alloc)?,
+            Err(error) => error.to_string(alloc)?,
+        };
+        assert_text(&rt, relative, said.as_str(), want);
     }
     Ok(())
 }
@@ -185,18 +201,14 @@ fn refuses_the_first_bad_part(rt: HostRuntime) -> Result<(), Fail> {
 #[test]
 fn parents_lack_the_last_name(rt: HostRuntime) -> Result<(), Fail> {
     let alloc = rt.alloc();
-    assert!(rt; NodePath::root(alloc)?.parent(alloc)?.is_none());
-    assert!(rt; laws::parent_of_root(alloc)?.is_none());
-    for (text, want) in [("/foo", "/"), ("/foo/bar/baz", "/foo/bar")] {
-        match path(alloc, text)?.parent(alloc)? {
-            Some(parent) => assert_eq!(rt; parent.as_str(), want),
-            None => assert!(rt; false, "{text}"),
-        }
+    for (text, want) in [("/", "none"), ("/foo", "/"), ("/foo/bar/baz", "/foo/bar")] {
+        let parent = path(alloc, text)?.parent(alloc)?;
+        assert_text(&rt, text, text_of(&parent), want);
     }
-    match laws::parent_of_join(alloc, &path(alloc, "/foo")?, "bar")? {
-        Some(parent) => assert_eq!(rt; parent.as_str(), "/foo"),
-        None => assert!(rt; false),
-    }
+    let of_root = laws::parent_of_root(alloc)?;
+    assert_text(&rt, "parent_of_root", text_of(&of_root), "none");
+    let of_join = laws::parent_of_join(alloc, &path(alloc, "/foo")?, "bar")?;
+    assert_text(&rt, "parent_of_join", text_of(&of_join), "/foo");
     Ok(())
 }
 
@@ -215,7 +227,7 @@ fn is_below_by_names(rt: HostRuntime) -> Result<(), Fail> {
         ("/b/a", "/a", false),
     ] {
         let below = path(alloc, text)?.is_below(&path(alloc, base)?);
-        assert_eq!(rt; below, want, "{text} below {base}");
+        assert_answer(&rt, text, below, want);
     }
     Ok(())
 }
@@ -225,23 +237,20 @@ fn prefixes_are_paths(rt: HostRuntime) -> Result<(), Fail> {
     let alloc = rt.alloc();
     for (prefix, text) in [("", "/"), ("a/", "/a"), ("a/b/", "/a/b")] {
         let from = NodePath::from_prefix(alloc, &StorePrefix::new(alloc, prefix)?)?;
-        assert_eq!(rt; from.as_str(), text);
+        assert_text(&rt, prefix, from.as_str(), text);
         let owned = NodePath::from_owned_prefix(StorePrefix::new(alloc, prefix)?)?;
-        assert_eq!(rt; owned.as_str(), text);
-        assert_eq!(rt; from.to_prefix(alloc)?.as_str(), prefix);
-        assert_eq!(rt; laws::prefix_and_back(alloc, &from)?.as_str(), text);
+        assert_text(&rt, prefix, owned.as_str(), text);
+        assert_text(&rt, prefix, from.to_prefix(alloc)?.as_str(), prefix);
+        let again = laws::prefix_and_back(alloc, &from)?;
+        assert_text(&rt, prefix, again.as_str(), text);
         let back = laws::path_and_back(alloc, &StorePrefix::new(alloc, prefix)?)?;
-        assert_eq!(rt; back.as_str(), prefix);
+        assert_text(&rt, prefix, back.as_str(), prefix);
     }
-    match NodePath::from_prefix(alloc, &StorePrefix::new(alloc, "a/__x/")?) {
-        Ok(path) => assert!(rt; false, "{path}"),
-        Err(error) => {
-            assert_eq!(rt;
-                error.to_string(alloc)?.as_str(),
-                "invalid node path /a/__x"
-            )
-        }
-    }
+    let said = match NodePath::from_prefix(alloc, &StorePrefix::new(alloc, "a/__x/")?) {
+        Ok(path) => path.to_string(alloc)?,
+        Err(error) => error.to_string(alloc)?,
+    };
+    assert_text(&rt, "a/__x/", said.as_str(), "invalid node path /a/__x");
     Ok(())
 }
 
@@ -254,13 +263,15 @@ fn paths_are_ordered_by_names(rt: HostRuntime) -> Result<(), Fail> {
     }
     paths.sort()?;
     for (path, want) in paths.iter().zip(["/", "/a", "/a/x", "/a-b"]) {
-        assert_eq!(rt; path.as_str(), want);
+        assert_text(&rt, want, path.as_str(), want);
     }
     let lower = path(alloc, "/a/x")?;
     let upper = path(alloc, "/a-b")?;
-    assert!(rt; lower.cmp(&upper) == Ordering::Less);
-    assert!(rt; lower.partial_cmp(&upper) == Some(Ordering::Less));
-    assert!(rt; upper > lower);
+    let is_less = lower.cmp(&upper) == Ordering::Less;
+    assert_answer(&rt, "cmp", is_less, true);
+    let is_less_too = lower.partial_cmp(&upper) == Some(Ordering::Less);
+    assert_answer(&rt, "partial_cmp", is_less_too, true);
+    assert_answer(&rt, "greater", upper > lower, true);
     Ok(())
 }
 
@@ -270,13 +281,18 @@ fn equal_paths_are_level_and_hash_alike(rt: HostRuntime) -> Result<(), Fail> {
     let first = path(alloc, "/a/b")?;
     let second = path(alloc, "/a")?.join(alloc, "b")?;
     let other = path(alloc, "/a")?;
-    assert!(rt; first == second);
-    assert!(rt; first != other);
-    assert!(rt; first.cmp(&second) == Ordering::Equal);
-    assert!(rt; laws::order_and_equality(&first, &second));
-    assert!(rt; laws::order_and_equality(&first, &other));
-    assert_eq!(rt; hash_of(&first), hash_of(&second));
-    assert_ne!(rt; hash_of(&first), hash_of(&other));
+    assert_answer(&rt, "equal", first == second, true);
+    assert_answer(&rt, "another", first == other, false);
+    let is_level = first.cmp(&second) == Ordering::Equal;
+    assert_answer(&rt, "cmp", is_level, true);
+    for path in [&second, &other] {
+        let agree = laws::order_and_equality(&first, path);
+        assert_answer(&rt, path.as_str(), agree, true);
+    }
+    let are_alike = hash_of(&first) == hash_of(&second);
+    assert_answer(&rt, "hash", are_alike, true);
+    let is_other = hash_of(&first) == hash_of(&other);
+    assert_answer(&rt, "hash of another", is_other, false);
     Ok(())
 }
 
@@ -317,7 +333,7 @@ fn metadata_keys_end_in_the_file_name(rt: HostRuntime) -> Result<(), Fail> {
             meta_key_v2_consolidated(alloc, &path)?,
         ];
         for (key, want) in keys.iter().zip(wanted) {
-            assert_eq!(rt; key.as_str(), want);
+            assert_text(&rt, text, key.as_str(), want);
         }
     }
     Ok(())
@@ -328,10 +344,8 @@ fn data_keys_end_in_the_chunk_key(rt: HostRuntime) -> Result<(), Fail> {
     let alloc = rt.alloc();
     let chunk = StoreKey::new(alloc, "c/0")?;
     for (text, want) in [("/a", "a/c/0"), ("/a/b", "a/b/c/0"), ("/", "c/0")] {
-        assert_eq!(rt;
-            data_key(alloc, &path(alloc, text)?, &chunk)?.as_str(),
-            want
-        );
+        let key = data_key(alloc, &path(alloc, text)?, &chunk)?;
+        assert_text(&rt, text, key.as_str(), want);
     }
     Ok(())
 }

@@ -1,5 +1,6 @@
 //! What a folder gives: folders that a test makes, and a file system that it plans.
 use crate::answer;
+use crate::asserts::{assert_ran, assert_text};
 use crate::folder::{MOST_ENTRIES, load_folder};
 use crate::tests::{GROUP, USAGE, words};
 use log::sink::Writer;
@@ -89,12 +90,9 @@ fn prints_the_tree_of_a_folder(rt: HostRuntime) {
     ];
     make_folder(&rt, FOLDER, &files).expect(&rt, "a folder");
     let tree = run(&rt, &["folder", FOLDER, "tree", "/"]).expect(&rt, "memory");
-    assert_eq!(rt; tree.0.as_str(), "/\n  a\n");
-    assert_eq!(rt;
-        tree.1.as_str(),
-        "[WARN  zarrs_node::children] Object at /a/c is not recognized as a component of a Zarr hierarchy. Ignoring.\n"
-    );
-    assert_eq!(rt; tree.2, 0);
+    let warning =
+        "[WARN  zarrs_node::children] Object at /a/c is not recognized as a component of a Zarr hierarchy. Ignoring.\n";
+    assert_ran(&rt, FOLDER, &tree, "/\n  a\n", warning, 0);
     let table: [(&[&str], &str, u8); 7] = [
         (
             &["folder", FOLDER, "tree", "a"],
@@ -114,9 +112,7 @@ fn prints_the_tree_of_a_folder(rt: HostRuntime) {
     ];
     for (texts, errors, status) in table {
         let ran = run(&rt, texts).expect(&rt, "memory");
-        assert_eq!(rt; ran.0.as_str(), "");
-        assert_eq!(rt; ran.1.as_str(), errors);
-        assert_eq!(rt; ran.2, status);
+        assert_ran(&rt, errors, &ran, "", errors, status);
     }
     fs::remove_dir_all(&rt, FOLDER).expect(&rt, "a folder");
 }
@@ -154,23 +150,20 @@ fn documents_have_bytes_and_links_are_passed_over(rt: HostRuntime) {
         symlink(&rt, to, path.as_str()).expect(&rt, "a link");
     }
     let loaded = load(&rt, folder).expect(&rt, "memory");
-    assert_eq!(rt;
-        loaded.0.as_str(),
-        "a b\n\"\\/\u{e9} 0\na-b/zarr.jso 0\na-b/zarr.json/c 0\na/x 0\na0/.zarray 2\na0/.zattrs 4\na0/.zgroup 3\na0/.zmetadata 5\nzarr.json 1\n"
-    );
-    assert_eq!(rt; loaded.1.as_str(), "");
+    let keys =
+        "a b\n\"\\/\u{e9} 0\na-b/zarr.jso 0\na-b/zarr.json/c 0\na/x 0\na0/.zarray 2\na0/.zattrs 4\na0/.zgroup 3\na0/.zmetadata 5\nzarr.json 1\n";
+    assert_text(&rt, folder, loaded.0.as_str(), keys);
+    assert_text(&rt, folder, loaded.1.as_str(), "");
     // A link to a folder is read where it is the folder that is asked for.
     let loaded = load(&rt, "documents_have_bytes_and_links_are_passed_over/a/up").expect(
         &rt, "memory",
     );
-    assert_eq!(rt;
-        loaded.0.as_str(),
-        ".zarray 2\n.zattrs 4\n.zgroup 3\n.zmetadata 5\n"
-    );
+    let keys = ".zarray 2\n.zattrs 4\n.zgroup 3\n.zmetadata 5\n";
+    assert_text(&rt, "a/up", loaded.0.as_str(), keys);
     let loaded = load(&rt, "documents_have_bytes_and_links_are_passed_over/e//").expect(
         &rt, "memory",
     );
-    assert_eq!(rt; loaded.0.as_str(), "");
+    assert_text(&rt, "e//", loaded.0.as_str(), "");
     fs::remove_dir_all(&rt, folder).expect(&rt, "a folder");
 }
 
@@ -196,11 +189,11 @@ fn what_is_no_folder_or_too_deep_is_refused(rt: HostRuntime) {
     ];
     for (path, why) in table {
         let loaded = load(&rt, path).expect(&rt, "memory");
-        assert_eq!(rt; loaded.0.as_str(), "folder fault");
+        assert_text(&rt, path, loaded.0.as_str(), "folder fault");
         let warning = format!(in alloc; "[WARN  zarrs_tool::folder] {path}{why}\n").expect(
             &rt, "memory",
         );
-        assert_eq!(rt; loaded.1.as_str(), warning.as_str());
+        assert_text(&rt, path, loaded.1.as_str(), warning.as_str());
     }
     let mut deep = String::from_str(alloc, folder).expect(&rt, "memory");
     for _ in 0..100 {
@@ -219,13 +212,13 @@ fn what_is_no_folder_or_too_deep_is_refused(rt: HostRuntime) {
     deep.push_str("/e").expect(&rt, "memory");
     fs::create_dir_all(&rt, deep.as_str()).expect(&rt, "folders");
     let loaded = load(&rt, folder).expect(&rt, "memory");
-    assert_eq!(rt; loaded.0.as_str(), "folder fault");
+    assert_text(&rt, "too deep", loaded.0.as_str(), "folder fault");
     let warning = format!(in alloc;
         "[WARN  zarrs_tool::folder] {deep} was not read: it lies too deep\n"
     ).expect(&rt, "memory");
-    assert_eq!(rt; loaded.1.as_str(), warning.as_str());
+    assert_text(&rt, "too deep", loaded.1.as_str(), warning.as_str());
     let ran = run(&rt, &["folder", folder, "tree", "x"]).expect(&rt, "memory");
-    assert_eq!(rt; ran.0.as_str(), "");
+    assert_text(&rt, "too deep", ran.0.as_str(), "");
     assert!(rt; ran.1.as_str().ends_with("\nzarrs_tool: folder fault\n"));
     assert_eq!(rt; ran.2, 1);
     fs::remove_dir_all(&rt, folder).expect(&rt, "a folder");
@@ -434,7 +427,7 @@ fn what_is_not_read_is_named(rt: HostRuntime) {
             file,
         };
         let loaded = load(&planned, "p").expect(&rt, "memory");
-        assert_eq!(rt; loaded.0.as_str(), keys);
+        assert_text(&rt, keys, loaded.0.as_str(), keys);
         assert!(rt; loaded.1.as_str().contains(warning));
         assert_eq!(rt; loaded.1.is_empty(), warning.is_empty());
     }
@@ -455,7 +448,7 @@ fn looks_at_a_million_entries_at_most(rt: HostRuntime) {
         file: Planted::Broken,
     };
     let loaded = load(&planned, "p").expect(&rt, "memory");
-    assert_eq!(rt; loaded.0.as_str(), "folder fault");
+    assert_text(&rt, "too many", loaded.0.as_str(), "folder fault");
     assert!(rt;
         loaded
             .1

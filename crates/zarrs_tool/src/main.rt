@@ -8,6 +8,8 @@ ghost use Rattle.zarrs_tool.specs.Image.{IsLoaded};
 ghost use Rattle.zarrs_tool.specs.Output.{IsCommand, IsFolderCommand, IsFolderWords, IsNoCommand, WritesOutput, texts};
 ghost use Rattle.zarrs_tool.specs.Refused.{RefusedFolder};
 
+#[cfg(test)]
+mod asserts;
 mod fault;
 mod folder;
 #[cfg(test)]

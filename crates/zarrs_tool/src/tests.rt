@@ -1,4 +1,5 @@
 //! What the program answers, row by row, and readers and writers that fail.
+use crate::asserts::{assert_ran, assert_text};
 use crate::fault::ToolFault;
 use crate::image::load_image;
 use crate::read::read_whole;
@@ -201,9 +202,7 @@ fn answers_or_says_why_not(rt: HostRuntime) {
     ];
     for (image, texts, output, errors, status) in table {
         let ran = run(rt.alloc(), image, texts).expect(&rt, "memory");
-        assert_eq!(rt; ran.0.as_str(), output, "{image}");
-        assert_eq!(rt; ran.1.as_str(), errors, "{image}");
-        assert_eq!(rt; ran.2, status, "{image}");
+        assert_ran(&rt, image, &ran, output, errors, status);
     }
 }
 
@@ -268,9 +267,7 @@ fn lists_groups_in_path_order(rt: HostRuntime) {
     for (keys, texts, output, errors, status) in table {
         let image = groups_at(rt.alloc(), keys).expect(&rt, "memory");
         let ran = run(rt.alloc(), image.as_str(), texts).expect(&rt, "memory");
-        assert_eq!(rt; ran.0.as_str(), output);
-        assert_eq!(rt; ran.1.as_str(), errors);
-        assert_eq!(rt; ran.2, status);
+        assert_ran(&rt, image.as_str(), &ran, output, errors, status);
     }
 }
 
@@ -303,9 +300,7 @@ fn prints_the_tree_of_groups_and_arrays(rt: HostRuntime) {
     let image = image_of(rt.alloc(), &documents).expect(&rt, "memory");
     for (path, output) in table {
         let ran = run(rt.alloc(), image.as_str(), &["tree", path]).expect(&rt, "memory");
-        assert_eq!(rt; ran.0.as_str(), output);
-        assert_eq!(rt; ran.1.as_str(), "");
-        assert_eq!(rt; ran.2, 0);
+        assert_ran(&rt, path, &ran, output, "", 0);
     }
 }
 
@@ -316,9 +311,7 @@ fn a_block_is_printed_and_not_consolidated(rt: HostRuntime) {
     let table = [("tree", "/\n    r\n"), ("consolidate", EMPTY_BLOCK)];
     for (word, output) in table {
         let ran = run(rt.alloc(), image.as_str(), &[word, "/"]).expect(&rt, "memory");
-        assert_eq!(rt; ran.0.as_str(), output, "{word}");
-        assert_eq!(rt; ran.1.as_str(), "", "{word}");
-        assert_eq!(rt; ran.2, 0, "{word}");
+        assert_ran(&rt, word, &ran, output, "", 0);
     }
 }
 
@@ -355,9 +348,7 @@ fn what_is_not_opened_is_not_printed(rt: HostRuntime) {
     ];
     for (texts, errors) in table {
         let ran = run(rt.alloc(), image.as_str(), texts).expect(&rt, "memory");
-        assert_eq!(rt; ran.0.as_str(), "");
-        assert_eq!(rt; ran.1.as_str(), errors);
-        assert_eq!(rt; ran.2, 1);
+        assert_ran(&rt, errors, &ran, "", errors, 1);
     }
 }
 
@@ -380,9 +371,7 @@ fn keys_that_are_no_documents(rt: HostRuntime) {
     ];
     for (image, texts, output, errors, status) in table {
         let ran = run(rt.alloc(), image, texts).expect(&rt, "memory");
-        assert_eq!(rt; ran.0.as_str(), output, "{image}");
-        assert_eq!(rt; ran.1.as_str(), errors, "{image}");
-        assert_eq!(rt; ran.2, status, "{image}");
+        assert_ran(&rt, image, &ran, output, errors, status);
     }
 }
 
@@ -405,9 +394,7 @@ fn the_first_bad_member_is_named(rt: HostRuntime) {
     ];
     for (image, errors) in table {
         let ran = run(rt.alloc(), image, &["children", "/"]).expect(&rt, "memory");
-        assert_eq!(rt; ran.0.as_str(), "", "{image}");
-        assert_eq!(rt; ran.1.as_str(), errors, "{image}");
-        assert_eq!(rt; ran.2, 1, "{image}");
+        assert_ran(&rt, image, &ran, "", errors, 1);
     }
 }
 
@@ -535,6 +522,6 @@ fn faults_have_their_texts(rt: HostRuntime) {
     ];
     for (fault, text) in table {
         let shown = format!(in alloc; "{fault}").expect(&rt, "memory");
-        assert_eq!(rt; shown.as_str(), text);
+        assert_text(&rt, text, shown.as_str(), text);
     }
 }
