@@ -31,14 +31,15 @@ use zarrs_node::{
 };
 use zarrs_path::NodePath;
 use zarrs_rows_documents::{A2, G2, G3, said};
-use zarrs_rows_groups::{
-    LEVELS, LEVELS_TREES, Step, done, groups_text, levels, refused, with_block as with_block_of,
-};
-use zarrs_rows_nodes::{
+use zarrs_rows_fixtures::{
     A3_SQUARE, ANY, THREE_LEVELS, config_of, entries_of, forest_text, key_of, keys_text, listed_in,
     listing_text, metadata_in, pairs_text, paths_listed_in, paths_listing_text, paths_text,
     store_of, with_block,
 };
+use zarrs_rows_groups::{
+    LEVELS, LEVELS_TREES, Step, done, groups_text, levels, refused, with_block as with_block_of,
+};
+use zarrs_rows_table::{check_rows, fields};
 use zarrs_store::{
     FaultAt, FaultStore, ListableStorageTraits, MemoryStore, ReadableStorageTraits, StorageError,
     StorePrefix, StorePrefixError, WritableStorageTraits,
@@ -385,12 +386,23 @@ fn is_same(found: &str, wanted: &str) -> Result<(), Fail> {
 
 // ---- single faults
 
-// Whether a call is refused by the fault of the store.
-fn is_fault<T: Drop>(answer: Result<T, NodeCreateError>) -> bool {
-    matches!(
-        answer,
-        Err(NodeCreateError::StorageError(StorageError::Fault))
-    )
+// What a call answers as a text, with the fault of the store, and no other error, as `the fault`.
+fn fault_or<T, F>(
+    alloc: Global,
+    answer: Result<T, NodeCreateError>,
+    look: F,
+) -> Result<String, AllocError>
+where
+    T: Drop,
+    F: FnOnce(&T, Global) -> Result<String, AllocError>,
+    requires { F.IsAlwaysCallable look }
+{
+    match answer {
+        Err(NodeCreateError::StorageError(StorageError::Fault)) => {
+            String::from_str(alloc, "the fault")
+        }
+        answer => said(alloc, answer, look),
+    }
 }
 
 // What is listed below the root, as such a store promises it.
@@ -412,41 +424,67 @@ fn nodes_below(
     nodes_over_faults(alloc, store, &root, recursive, &ANY)
 }
 
+// What a call answers of three levels, whose store fails where it gets a key: what is listed, or the nodes, of `all` levels or of one.
+// `CALL | LEVELS | KEY`.
+fn below_a_key(alloc: Global, given: &str) -> Result<String, StorageError> {
+    let (call, rest) = fields(given);
+    let (levels, key) = fields(rest);
+    let recursive = levels == "all";
+    let store = failing(alloc, &THREE_LEVELS, Place::Get(key))?;
+    match call {
+        "listed" => Ok(fault_or(alloc, listed_below(alloc, &store, recursive), listing_text)?),
+        _ => Ok(fault_or(alloc, nodes_below(alloc, &store, recursive), forest_text)?),
+    }
+}
+
+const BELOW_A_KEY: &str = r#"
+listed | all | group/subgroup/zarr.json => the fault
+nodes | all | group/subgroup/zarr.json => the fault
+listed | one | group/subgroup/zarr.json => /array [10, 10] float32\n/group\n
+nodes | one | group/subgroup/zarr.json => /array [10, 10] float32\n/group\n
+"#;
+
 #[test]
 fn a_listing_fails_where_it_comes_to_the_key(rt: HostRuntime) -> Result<(), Fail> {
-    let alloc = rt.alloc();
-    let place = Place::Get("group/subgroup/zarr.json");
-    let store = failing(alloc, &THREE_LEVELS, place)?;
-    assert!(rt; is_fault(listed_below(alloc, &store, true)));
-    assert!(rt; is_fault(nodes_below(alloc, &store, true)));
-    let wanted = "/array [10, 10] float32\n/group\n";
-    let found = said(alloc, listed_below(alloc, &store, false), listing_text)?;
-    is_same(found.as_str(), wanted)?;
-    let found = said(alloc, nodes_below(alloc, &store, false), forest_text)?;
-    is_same(found.as_str(), wanted)
+    check_rows(rt.alloc(), BELOW_A_KEY, below_a_key)
 }
+
+// What a call that opens the root of three levels answers, where the store fails as it lists a prefix. `CALL | PREFIX`.
+fn over_a_prefix(alloc: Global, given: &str) -> Result<String, StorageError> {
+    let (call, prefix) = fields(given);
+    let store = failing(alloc, &THREE_LEVELS, Place::List(prefix))?;
+    let config = Config::new();
+    let text = match call {
+        "node" => {
+            let node = Node::open(&Discard, alloc, &store, "/", &config);
+            fault_or(alloc, node, Node::hierarchy_tree)
+        }
+        "hierarchy" => {
+            let hierarchy = Hierarchy::open(&Discard, alloc, &store, "/", &config);
+            fault_or(alloc, hierarchy, tree)
+        }
+        _ => answered(alloc, &store, Call::Traversed, by_default("/")),
+    };
+    Ok(text?)
+}
+
+const OVER_A_PREFIX: &str = r#"
+node | group/ => the fault
+hierarchy | group/ => the fault
+traversed | group/ => store fault
+"#;
 
 #[test]
 fn opening_fails_where_it_lists_the_prefix(rt: HostRuntime) -> Result<(), Fail> {
-    let alloc = rt.alloc();
-    let config = Config::new();
-    let store = failing(alloc, &THREE_LEVELS, Place::List("group/"))?;
-    assert!(rt; is_fault(Node::open(&Discard, alloc, &store, "/", &config)));
-    assert!(rt; is_fault(Hierarchy::open(&Discard, alloc, &store, "/", &config)));
-    let found = answered(alloc, &store, Call::Traversed, by_default("/"))?;
-    is_same(found.as_str(), FAULT)
+    check_rows(rt.alloc(), OVER_A_PREFIX, over_a_prefix)
 }
 
 #[test]
 fn a_block_stands_for_a_store_that_fails(rt: HostRuntime) -> Result<(), Fail> {
     let alloc = rt.alloc();
     let store = failing(alloc, &[], Place::List("group/"))?;
-    let config = Config::new();
-    let found = said(
-        alloc,
-        levels(alloc),
-        |group: &Group, alloc| group_text(group, alloc, &store, Call::Children(true), &config),
-    )?;
+    let group = levels(alloc)?;
+    let found = group_text(&group, alloc, &store, Call::Children(true), &Config::new())?;
     is_same(found.as_str(), LEVELS_TREES)
 }
 
@@ -518,23 +556,29 @@ fn erased_text(group: &Group, alloc: Global, place: Place) -> Result<String, Sto
     left_text(alloc, answer, store.inner())
 }
 
-#[test]
-fn a_failing_write_leaves_half_of_its_document(rt: HostRuntime) -> Result<(), Fail> {
-    let alloc = rt.alloc();
+// What storing or erasing the group with an attribute answers where the store fails at a key, and what that then holds.
+// `CALL | KEY`.
+fn left_at(alloc: Global, given: &str) -> Result<String, GroupCreateError> {
+    let (call, key) = fields(given);
     let group = old_group(alloc, OLD_K)?;
-    let found = stored_text(&group, alloc, Place::Set("g/.zattrs"))?;
-    is_same(found.as_str(), "store fault: g/.zattrs {\n  \"k\n")?;
-    let found = stored_text(&group, alloc, Place::Set("g/.zgroup"))?;
-    let wanted = "store fault: g/.zattrs {\n  \"k\": 1\n}\ng/.zgroup {\n  \"zarr_f\n";
-    is_same(found.as_str(), wanted)
+    let text = match call {
+        "store" => stored_text(&group, alloc, Place::Set(key)),
+        _ => erased_text(&group, alloc, Place::Erase(key)),
+    };
+    Ok(text?)
 }
 
+const LEFT: &str = r#"
+# a failing write leaves half of its document
+store | g/.zattrs => store fault: g/.zattrs {\n  "k\n
+store | g/.zgroup => store fault: g/.zattrs {\n  "k": 1\n}\ng/.zgroup {\n  "zarr_f\n
+# a failing erasure leaves its document
+erase | g/.zgroup => store fault: g/.zattrs a\ng/.zgroup g\n
+"#;
+
 #[test]
-fn a_failing_erasure_leaves_its_document(rt: HostRuntime) -> Result<(), Fail> {
-    let alloc = rt.alloc();
-    let group = old_group(alloc, OLD_K)?;
-    let found = erased_text(&group, alloc, Place::Erase("g/.zgroup"))?;
-    is_same(found.as_str(), "store fault: g/.zattrs a\ng/.zgroup g\n")
+fn a_failing_change_leaves_a_part(rt: HostRuntime) -> Result<(), Fail> {
+    check_rows(rt.alloc(), LEFT, left_at)
 }
 
 // Changes: a text is set at its key, the empty text is a key that is erased. A change without a key is none.

@@ -1,24 +1,33 @@
 //! Hierarchies: made of an array, of a group and of what a store has, and their text.
+//!
+//! A row says what of a hierarchy it looks at: `tree` is its text, `copy` the text of a copy, `len` its length, `told` what it has at two
+//! paths, and a path its text from there on. Stores, documents, policies and versions are named as in `stores`.
 
-use crate::asserts::assert_says;
+use crate::stores::{document_of, policy_of, seen, store_in, version_of};
 use log::sink::{Discard, Writer};
 use std::alloc::{AllocError, Global};
 use std::fmt::Display;
+use std::test::Fail;
 use zarrs_block::NodeCreateError;
-use zarrs_config::{Config, MetadataRetrieveVersion, UseConsolidatedMetadata};
+use zarrs_config::Config;
 use zarrs_group::{Group, GroupCreateError};
 use zarrs_hierarchy::{Hierarchy, laws};
 use zarrs_meta::{ArrayMetadata, ArrayMetadataV2, ArrayMetadataV3, GroupMetadata, GroupMetadataV3};
 use zarrs_path::NodePath;
-use zarrs_rows_documents::{A2, A3, G2, G3, printed, said};
-use zarrs_rows_nodes::{ANY, THREE_LEVELS, config_of, store_of, with_block};
+use zarrs_rows_documents::{printed, said};
+use zarrs_rows_fixtures::config_of;
+use zarrs_rows_table::{check_rows, fields};
 use zarrs_store::{MemoryStore, MetadataFault, StorageError};
 
-const TREE: &str =
-    "/\n  array [10, 10] float32\n  group\n    array [10, 10] float32\n    subgroup\n      mysubarray [10, 10] float32\n";
-
-fn tree(hierarchy: &Hierarchy, alloc: Global) -> Result<String, AllocError> {
-    hierarchy.tree(alloc)
+// What is seen of a hierarchy by the word of a row.
+fn looked(hierarchy: &Hierarchy, alloc: Global, word: &str) -> Result<String, AllocError> {
+    match word {
+        "tree" => hierarchy.tree(alloc),
+        "copy" => said(alloc, hierarchy.try_clone(alloc), printed),
+        "len" => printed(&hierarchy.len(), alloc),
+        "told" => told(hierarchy, alloc),
+        path => tree_of(hierarchy, alloc, path),
+    }
 }
 
 // The text of a hierarchy from a path on, or the text of the error that it is none.
@@ -29,7 +38,36 @@ fn tree_of(hierarchy: &Hierarchy, alloc: Global, path: &str) -> Result<String, A
     }
 }
 
+// Whether the hierarchy has a node at `/group` and at `/nothing`, how many nodes it has, and whether it is empty.
+fn told(hierarchy: &Hierarchy, alloc: Global) -> Result<String, AllocError> {
+    let group = has(hierarchy, alloc, "/group");
+    let none = has(hierarchy, alloc, "/nothing");
+    let len = hierarchy.as_map().len();
+    let empty = hierarchy.is_empty();
+    format!(in alloc; "{group} {none} {len} {empty}")
+}
+
+fn has(hierarchy: &Hierarchy, alloc: Global, path: &str) -> bool {
+    match NodePath::new(alloc, path) {
+        Ok(path) => hierarchy.get(&path).is_some(),
+        Err(_) => false,
+    }
+}
+
 // ---- of one array
+
+// The array that a document of a version says.
+fn array_of(alloc: Global, version: &str, document: &str) -> Result<ArrayMetadata, MetadataFault> {
+    match version {
+        "v2" => Ok(ArrayMetadata::V2(ArrayMetadataV2::from_bytes(alloc, document.as_bytes())?)),
+        _ => Ok(ArrayMetadata::V3(ArrayMetadataV3::from_bytes(alloc, document.as_bytes())?)),
+    }
+}
+
+// The path with a text that is one.
+fn path_of(alloc: Global, text: &str) -> Result<NodePath, MetadataFault> {
+    NodePath::new(alloc, text).map_err(|_| MetadataFault::OutOfMemory)
+}
 
 // The hierarchy of one array at a path.
 fn of_array(
@@ -40,304 +78,144 @@ fn of_array(
     Ok(Hierarchy::from_array(alloc, path, array)?)
 }
 
-// The hierarchy of the array that a document of version 3 says, at a path.
-fn of_array_v3(alloc: Global, path: &str, document: &str) -> Result<Hierarchy, MetadataFault> {
+// The hierarchy of the array that a document of a version says, at a path. `VERSION | PATH | DOCUMENT | LOOK`.
+fn from_array(alloc: Global, given: &str) -> Result<String, MetadataFault> {
+    let (version, rest) = fields(given);
+    let (path, rest) = fields(rest);
+    let (document, word) = fields(rest);
     let path = path_of(alloc, path)?;
-    let array = ArrayMetadataV3::from_bytes(alloc, document.as_bytes())?;
-    of_array(alloc, path, ArrayMetadata::V3(array))
+    let array = array_of(alloc, version, document_of(document))?;
+    Ok(seen(alloc, of_array(alloc, path, array), word, looked)?)
 }
 
-// The hierarchy of the array that a document of version 2 says, at a path.
-fn of_array_v2(alloc: Global, path: &str, document: &str) -> Result<Hierarchy, MetadataFault> {
-    let path = path_of(alloc, path)?;
-    let array = ArrayMetadataV2::from_bytes(alloc, document.as_bytes())?;
-    of_array(alloc, path, ArrayMetadata::V2(array))
-}
-
-// The path with a text that is one.
-fn path_of(alloc: Global, text: &str) -> Result<NodePath, MetadataFault> {
-    NodePath::new(alloc, text).map_err(|_| MetadataFault::OutOfMemory)
-}
-
-fn from_a(hierarchy: &Hierarchy, alloc: Global) -> Result<String, AllocError> {
-    tree_of(hierarchy, alloc, "/a")
-}
-
-fn from_a_b(hierarchy: &Hierarchy, alloc: Global) -> Result<String, AllocError> {
-    tree_of(hierarchy, alloc, "/a/b")
-}
+const ARRAYS: &str = r#"
+# an array is indented by its names beyond the path
+v3 | /a/b | A3 | tree => /\n    b [1] float32\n
+v3 | /a/b | A3 | /a => /a\n  b [1] float32\n
+v3 | /a/b | A3 | /a/b => /a/b\n
+# a configuration and a list of types are marked
+v3 | /z | {"chunk_grid":"regular","chunk_key_encoding":"default","codecs":[],"data_type":{"configuration":{"n":1},"name":"t"},"fill_value":0,"node_type":"array","shape":[],"zarr_format":3} | tree => /\n  z [] t(..)\n
+v2 | /z | {"chunks":[],"compressor":null,"dtype":[["f","<f8"]],"fill_value":0,"filters":null,"order":"C","shape":[],"zarr_format":2} | tree => /\n  z [] Structured(..)\n
+# an array is a hierarchy of one
+v3 | /store/of/data.zarr/path/to/an/array | A3 | len => 1
+"#;
 
 #[test]
-fn an_array_is_indented_by_its_names_beyond_the_path(rt: HostRuntime) {
-    let alloc = rt.alloc();
-    let whole = of_array_v3(alloc, "/a/b", A3);
-    assert_says(&rt, alloc, "/", whole, tree, "/\n    b [1] float32\n");
-    let part = of_array_v3(alloc, "/a/b", A3);
-    assert_says(&rt, alloc, "/a", part, from_a, "/a\n  b [1] float32\n");
-    let none = of_array_v3(alloc, "/a/b", A3);
-    assert_says(&rt, alloc, "/a/b", none, from_a_b, "/a/b\n");
-}
-
-#[test]
-fn a_configuration_and_a_list_of_types_are_marked(rt: HostRuntime) {
-    let alloc = rt.alloc();
-    let configured =
-        r#"{"chunk_grid":"regular","chunk_key_encoding":"default","codecs":[],"data_type":{"configuration":{"n":1},"name":"t"},"fill_value":0,"node_type":"array","shape":[],"zarr_format":3}"#;
-    let listed =
-        r#"{"chunks":[],"compressor":null,"dtype":[["f","<f8"]],"fill_value":0,"filters":null,"order":"C","shape":[],"zarr_format":2}"#;
-    let version_3 = of_array_v3(alloc, "/z", configured);
-    assert_says(&rt, alloc, "3", version_3, tree, "/\n  z [] t(..)\n");
-    let version_2 = of_array_v2(alloc, "/z", listed);
-    assert_says(
-        &rt,
-        alloc,
-        "2",
-        version_2,
-        tree,
-        "/\n  z [] Structured(..)\n",
-    );
-}
-
-fn length(hierarchy: &Hierarchy, alloc: Global) -> Result<String, AllocError> {
-    printed(&hierarchy.len(), alloc)
-}
-
-#[test]
-fn an_array_is_a_hierarchy_of_one(rt: HostRuntime) {
-    let path = "/store/of/data.zarr/path/to/an/array";
-    let one = of_array_v3(rt.alloc(), path, A3);
-    assert_says(&rt, rt.alloc(), "length", one, length, "1");
+fn an_array_is_a_hierarchy_of_one(rt: HostRuntime) -> Result<(), Fail> {
+    check_rows(rt.alloc(), ARRAYS, from_array)
 }
 
 // ---- opened
 
-// The hierarchy at a path of the store with these documents, by a policy.
-fn opened_by(
-    alloc: Global,
-    documents: &[(&str, &str)],
-    path: &str,
-    policy: UseConsolidatedMetadata,
-) -> Result<Hierarchy, NodeCreateError> {
-    let store = store_of(alloc, documents)?;
-    Hierarchy::open(&Discard, alloc, &store, path, &config_of(policy))
+// The hierarchy at a path of a store, by a policy. `STORE | PATH | POLICY | LOOK`.
+fn opened(alloc: Global, given: &str) -> Result<String, StorageError> {
+    let (documents, rest) = fields(given);
+    let (path, rest) = fields(rest);
+    let (policy, word) = fields(rest);
+    let store = store_in(alloc, documents)?;
+    let config = config_of(policy_of(policy));
+    let hierarchy = Hierarchy::open(&Discard, alloc, &store, path, &config);
+    Ok(seen(alloc, hierarchy, word, looked)?)
 }
 
-// The hierarchy at a path of the store with these documents.
-fn opened(
-    alloc: Global,
-    documents: &[(&str, &str)],
-    path: &str,
-) -> Result<Hierarchy, NodeCreateError> {
-    opened_by(alloc, documents, path, UseConsolidatedMetadata::Auto)
-}
-
-fn from_group(hierarchy: &Hierarchy, alloc: Global) -> Result<String, AllocError> {
-    tree_of(hierarchy, alloc, "/group")
-}
-
-fn from_subgroup(hierarchy: &Hierarchy, alloc: Global) -> Result<String, AllocError> {
-    tree_of(hierarchy, alloc, "/group/subgroup")
-}
-
-#[test]
-fn nothing_is_opened_in_an_empty_store(rt: HostRuntime) {
-    let none = opened(rt.alloc(), &[], "/");
-    assert_says(
-        &rt,
-        rt.alloc(),
-        "empty",
-        none,
-        tree,
-        "Metadata is missing for /",
-    );
-}
-
-#[test]
-fn a_text_that_is_no_path_is_refused(rt: HostRuntime) {
-    let none = opened(rt.alloc(), &[("zarr.json", G3)], "x");
-    assert_says(&rt, rt.alloc(), "x", none, tree, "invalid node path x");
-}
+const OPENED: &str = r#"
+# nothing is opened in an empty store
+nothing | / | auto | tree => Metadata is missing for /
+# a text that is no path is refused
+zarr.json G3 | x | auto | tree => invalid node path x
+# siblings stand in the order of names
+zarr.json G3; a/zarr.json G3; a/x/zarr.json G3; a-b/zarr.json G3 | / | auto | tree => /\n  a\n    x\n  a-b\n
+# three levels are printed from each path
+THREE_LEVELS | / | auto | tree => /\n  array [10, 10] float32\n  group\n    array [10, 10] float32\n    subgroup\n      mysubarray [10, 10] float32\n
+THREE_LEVELS | / | auto | /group/subgroup => /group/subgroup\n  mysubarray [10, 10] float32\n
+THREE_LEVELS | /array | auto | tree => /\n  array [10, 10] float32\n
+# a sibling with a longer name is not below
+zarr.json G3; group/zarr.json G3; group/subgroup/zarr.json G3; group2/zarr.json G3; group2/a/zarr.json G3 | / | auto | /group => /group\n  subgroup\n
+# a hierarchy is copied and looked up
+THREE_LEVELS | / | auto | copy => /\n  array [10, 10] float32\n  group\n    array [10, 10] float32\n    subgroup\n      mysubarray [10, 10] float32\n
+THREE_LEVELS | / | auto | told => true false 6 false
+# of two spellings the one without the slash counts
+zarr.json {"consolidated_metadata":{"kind":"inline","metadata":{"-x":{"chunk_grid":{"configuration":{"chunk_shape":[1]},"name":"regular"},"chunk_key_encoding":{"configuration":{"separator":"/"},"name":"default"},"codecs":[{"configuration":{"endian":"little"},"name":"bytes"}],"data_type":"float32","fill_value":0,"node_type":"array","shape":[1],"zarr_format":3},"/-x":{"chunk_grid":"regular","chunk_key_encoding":"default","codecs":[],"data_type":"float32","fill_value":0,"node_type":"array","shape":[2],"zarr_format":3}},"must_understand":false},"node_type":"group","zarr_format":3} | / | auto | tree => /\n  -x [1] float32\n
+# a hierarchy has all entries of a block
+zarr.json {"consolidated_metadata":{"kind":"inline","metadata":{"a":{"chunk_grid":{"configuration":{"chunk_shape":[1]},"name":"regular"},"chunk_key_encoding":{"configuration":{"separator":"/"},"name":"default"},"codecs":[{"configuration":{"endian":"little"},"name":"bytes"}],"data_type":"float32","fill_value":0,"node_type":"array","shape":[1],"zarr_format":3},"a/y":{"node_type":"group","zarr_format":3},"q/r":{"node_type":"group","zarr_format":3}},"must_understand":false},"node_type":"group","zarr_format":3} | / | auto | tree => /\n  a [1] float32\n    y\n    r\n
+zarr.json {"consolidated_metadata":{"kind":"inline","metadata":{"a":{"chunk_grid":{"configuration":{"chunk_shape":[1]},"name":"regular"},"chunk_key_encoding":{"configuration":{"separator":"/"},"name":"default"},"codecs":[{"configuration":{"endian":"little"},"name":"bytes"}],"data_type":"float32","fill_value":0,"node_type":"array","shape":[1],"zarr_format":3},"a/y":{"node_type":"group","zarr_format":3},"q/r":{"node_type":"group","zarr_format":3}},"must_understand":false},"node_type":"group","zarr_format":3} | / | never | tree => /\n
+# a block that must be understood is used
+zarr.json {"consolidated_metadata":{"kind":"inline","metadata":{}},"node_type":"group","zarr_format":3}; a/zarr.json G3 | / | auto | tree => /\n
+# a bad key of a block is refused
+zarr.json {"consolidated_metadata":{"kind":"inline","metadata":{"foo/":{"node_type":"group","zarr_format":3}},"must_understand":false},"node_type":"group","zarr_format":3} | / | must | tree => invalid node path invalid node name `` in 'foo/'
+# the want of a block is refused, unless it is an array that is opened
+zarr.json G3 | / | must | tree => Metadata is missing for Consolidated metadata required but missing on group /
+a/zarr.json A3 | /a | must | tree => /\n  a [1] float32\n
+# in the block beside a version 2 group, a node below no group is mapped
+g/.zgroup G2; g/.zmetadata {"metadata":{"x/y/.zgroup":{"zarr_format":2}},"zarr_consolidated_format":1} | /g | must | tree => /\n  g\n      y\n
+# in the block beside a version 2 group, attributes alone are no node
+g/.zgroup G2; g/.zmetadata {"metadata":{"a/.zattrs":{}},"zarr_consolidated_format":1} | /g | must | tree => /\n  g\n
+"#;
 
 #[test]
-fn siblings_stand_in_the_order_of_names(rt: HostRuntime) {
-    let documents = [
-        ("zarr.json", G3),
-        ("a/zarr.json", G3),
-        ("a/x/zarr.json", G3),
-        ("a-b/zarr.json", G3),
-    ];
-    let hierarchy = opened(rt.alloc(), &documents, "/");
-    assert_says(
-        &rt,
-        rt.alloc(),
-        "order",
-        hierarchy,
-        tree,
-        "/\n  a\n    x\n  a-b\n",
-    );
+fn a_hierarchy_has_what_a_store_lists_or_a_block_has(rt: HostRuntime) -> Result<(), Fail> {
+    check_rows(rt.alloc(), OPENED, opened)
 }
+
+// The text of the hierarchy at a path of a store, by a version. `STORE | PATH | VERSION`.
+fn opened_opt(alloc: Global, given: &str) -> Result<String, StorageError> {
+    let (documents, rest) = fields(given);
+    let (path, version) = fields(rest);
+    let store = store_in(alloc, documents)?;
+    let version = version_of(version);
+    let hierarchy = Hierarchy::open_opt(&Discard, alloc, &store, path, &version, &Config::new());
+    Ok(seen(alloc, hierarchy, "tree", looked)?)
+}
+
+const VERSIONS: &str = r#"
+zarr.json G3; g/zarr.json G3; old/.zgroup G2 | / | v3 => /\n  g\n
+zarr.json G3; g/zarr.json G3; old/.zgroup G2 | / | any => /\n  g\n  old\n
+zarr.json G3; g/zarr.json G3; old/.zgroup G2 | / | v2 => Metadata is missing for /
+"#;
 
 #[test]
-fn three_levels_are_printed_from_each_path(rt: HostRuntime) {
-    let alloc = rt.alloc();
-    let whole = opened(alloc, &THREE_LEVELS, "/");
-    assert_says(&rt, alloc, "/", whole, tree, TREE);
-    let subgroup = opened(alloc, &THREE_LEVELS, "/");
-    let wanted = "/group/subgroup\n  mysubarray [10, 10] float32\n";
-    assert_says(&rt, alloc, "subgroup", subgroup, from_subgroup, wanted);
-    let array = opened(alloc, &THREE_LEVELS, "/array");
-    assert_says(
-        &rt,
-        alloc,
-        "/array",
-        array,
-        tree,
-        "/\n  array [10, 10] float32\n",
-    );
+fn a_version_admits_its_documents(rt: HostRuntime) -> Result<(), Fail> {
+    check_rows(rt.alloc(), VERSIONS, opened_opt)
 }
 
-#[test]
-fn a_sibling_with_a_longer_name_is_not_below(rt: HostRuntime) {
-    let alloc = rt.alloc();
-    let documents = [
-        ("zarr.json", G3),
-        ("group/zarr.json", G3),
-        ("group/subgroup/zarr.json", G3),
-        ("group2/zarr.json", G3),
-        ("group2/a/zarr.json", G3),
-    ];
-    let hierarchy = opened(alloc, &documents, "/");
-    assert_says(
-        &rt,
-        alloc,
-        "/group",
-        hierarchy,
-        from_group,
-        "/group\n  subgroup\n",
-    );
-}
-
-#[test]
-fn a_version_admits_its_documents(rt: HostRuntime) {
-    let alloc = rt.alloc();
-    let documents = [("zarr.json", G3), ("g/zarr.json", G3), ("old/.zgroup", G2)];
-    let by_three = opened_opt(alloc, &documents, MetadataRetrieveVersion::V3);
-    assert_says(&rt, alloc, "3", by_three, tree, "/\n  g\n");
-    let by_both = opened_opt(alloc, &documents, ANY);
-    assert_says(&rt, alloc, "both", by_both, tree, "/\n  g\n  old\n");
-    let by_two = opened_opt(alloc, &documents, MetadataRetrieveVersion::V2);
-    assert_says(&rt, alloc, "2", by_two, tree, "Metadata is missing for /");
-}
-
-// The hierarchy at the root of the store with these documents, by a version.
-fn opened_opt(
-    alloc: Global,
-    documents: &[(&str, &str)],
-    version: MetadataRetrieveVersion,
-) -> Result<Hierarchy, NodeCreateError> {
-    let store = store_of(alloc, documents)?;
-    Hierarchy::open_opt(&Discard, alloc, &store, "/", &version, &Config::new())
-}
-
-#[test]
-fn what_is_passed_over_is_warned_of(rt: HostRuntime) {
-    let documents = [("zarr.json", G3), ("fakenode/content/c", "")];
-    let wanted =
-        "/\n[WARN  zarrs_node::children] Object at /fakenode is not recognized as a component of a Zarr hierarchy. Ignoring.\n";
-    let text = warnings(rt.alloc(), &documents);
-    assert_says(&rt, rt.alloc(), "warning", text, printed, wanted);
-}
-
-// The tree of the root of the store with these documents, and what is warned of.
-fn warnings(alloc: Global, documents: &[(&str, &str)]) -> Result<String, NodeCreateError> {
-    let store = store_of(alloc, documents)?;
+// The text of the hierarchy at the root of a store, and what is warned of. `STORE`.
+fn warnings(alloc: Global, given: &str) -> Result<String, NodeCreateError> {
+    let store = store_in(alloc, given)?;
     let sink = Writer::new(Vec::new(alloc));
     let hierarchy = Hierarchy::open(&sink, alloc, &store, "/", &Config::new());
-    let text = said(alloc, hierarchy, tree)?;
+    let text = seen(alloc, hierarchy, "tree", looked)?;
     let lines = sink.into_inner();
     let lines = String::from_utf8_lossy(alloc, &lines)?;
     Ok(format!(in alloc; "{text}{lines}")?)
 }
 
-// ---- by a block
-
-// The hierarchy at the root of a store with a block of these keys and documents alone, by a policy.
-fn opened_block(
-    alloc: Global,
-    nodes: &[(&str, &str)],
-    policy: UseConsolidatedMetadata,
-) -> Result<Hierarchy, NodeCreateError> {
-    let root = with_block(alloc, nodes)?;
-    opened_by(alloc, &[("zarr.json", root.as_str())], "/", policy)
-}
+const WARNINGS: &str = r#"
+zarr.json G3; fakenode/content/c => /\n[WARN  zarrs_node::children] Object at /fakenode is not recognized as a component of a Zarr hierarchy. Ignoring.\n
+"#;
 
 #[test]
-fn of_two_spellings_the_one_without_the_slash_counts(rt: HostRuntime) {
-    let alloc = rt.alloc();
-    let two =
-        r#"{"chunk_grid":"regular","chunk_key_encoding":"default","codecs":[],"data_type":"float32","fill_value":0,"node_type":"array","shape":[2],"zarr_format":3}"#;
-    let nodes = [("-x", A3), ("/-x", two)];
-    let block = opened_block(alloc, &nodes, UseConsolidatedMetadata::Auto);
-    assert_says(&rt, alloc, "-x", block, tree, "/\n  -x [1] float32\n");
-}
-
-#[test]
-fn a_hierarchy_has_all_entries_of_a_block(rt: HostRuntime) {
-    let alloc = rt.alloc();
-    let nodes = [("a", A3), ("a/y", G3), ("q/r", G3)];
-    let wanted = "/\n  a [1] float32\n    y\n    r\n";
-    let block = opened_block(alloc, &nodes, UseConsolidatedMetadata::Auto);
-    assert_says(&rt, alloc, "auto", block, tree, wanted);
-    let never = opened_block(alloc, &nodes, UseConsolidatedMetadata::Never);
-    assert_says(&rt, alloc, "never", never, tree, "/\n");
-}
-
-#[test]
-fn a_block_that_must_be_understood_is_used(rt: HostRuntime) {
-    let alloc = rt.alloc();
-    let understood =
-        r#"{"consolidated_metadata":{"kind":"inline","metadata":{}},"node_type":"group","zarr_format":3}"#;
-    let documents = [("zarr.json", understood), ("a/zarr.json", G3)];
-    let hierarchy = opened(alloc, &documents, "/");
-    assert_says(&rt, alloc, "block", hierarchy, tree, "/\n");
-}
-
-#[test]
-fn a_bad_key_of_a_block_is_refused(rt: HostRuntime) {
-    let alloc = rt.alloc();
-    let block = opened_block(alloc, &[("foo/", G3)], UseConsolidatedMetadata::Must);
-    let wanted = "invalid node path invalid node name `` in 'foo/'";
-    assert_says(&rt, alloc, "foo/", block, tree, wanted);
-}
-
-#[test]
-fn the_want_of_a_block_is_refused(rt: HostRuntime) {
-    let alloc = rt.alloc();
-    let policy = UseConsolidatedMetadata::Must;
-    let none = opened_by(alloc, &[("zarr.json", G3)], "/", policy);
-    let wanted = "Metadata is missing for Consolidated metadata required but missing on group /";
-    assert_says(&rt, alloc, "group", none, tree, wanted);
-    let array = opened_by(alloc, &[("a/zarr.json", A3)], "/a", policy);
-    assert_says(&rt, alloc, "array", array, tree, "/\n  a [1] float32\n");
+fn what_is_passed_over_is_warned_of(rt: HostRuntime) -> Result<(), Fail> {
+    check_rows(rt.alloc(), WARNINGS, warnings)
 }
 
 // ---- of a group
 
-// What is seen of a group over a store, or the text of the error that there is none.
+// What is seen of a group over a store by a word, or the text of the error that there is none.
 fn seen_of<T, E, F>(
     alloc: Global,
     store: &MemoryStore,
     group: Result<T, E>,
+    word: &str,
     look: F,
 ) -> Result<String, AllocError>
 where
     T: Drop,
     E: Display + Drop,
-    F: FnOnce(&T, Global, &MemoryStore) -> Result<String, AllocError>,
+    F: FnOnce(&T, Global, &MemoryStore, &str) -> Result<String, AllocError>,
     requires { F.IsAlwaysCallable look }
 {
     match group {
-        Ok(group) => look(&group, alloc, store),
+        Ok(group) => look(&group, alloc, store, word),
         Err(error) => format!(in alloc; "{error}"),
     }
 }
@@ -354,103 +232,54 @@ fn of_group(
     }
 }
 
-// The text of that hierarchy.
-fn group_tree(group: &Group, alloc: Global, store: &MemoryStore) -> Result<String, AllocError> {
-    said(alloc, of_group(group, alloc, store), tree)
+// What is seen of that hierarchy.
+fn group_looked(
+    group: &Group,
+    alloc: Global,
+    store: &MemoryStore,
+    word: &str,
+) -> Result<String, AllocError> {
+    seen(alloc, of_group(group, alloc, store), word, looked)
 }
 
-// The number of its nodes.
-fn group_length(group: &Group, alloc: Global, store: &MemoryStore) -> Result<String, AllocError> {
-    said(alloc, of_group(group, alloc, store), length)
+// The hierarchy of the group at a path of a store. `STORE | PATH | LOOK`.
+fn of_opened(alloc: Global, given: &str) -> Result<String, StorageError> {
+    let (documents, rest) = fields(given);
+    let (path, word) = fields(rest);
+    let store = store_in(alloc, documents)?;
+    let group = Group::open(alloc, &store, path, &Config::new());
+    Ok(seen_of(alloc, &store, group, word, group_looked)?)
 }
 
-// The text of the hierarchy of a version 3 group at the root that is made, over the store with these documents.
-fn tree_of_made(alloc: Global, documents: &[(&str, &str)]) -> Result<String, StorageError> {
-    let store = store_of(alloc, documents)?;
+const GROUPS: &str = r#"
+# a group has what is listed below it
+THREE_LEVELS | / | len => 6
+THREE_LEVELS | / | tree => /\n  array [10, 10] float32\n  group\n    array [10, 10] float32\n    subgroup\n      mysubarray [10, 10] float32\n
+# a group of version 2 has what is listed below it
+groupv2/.zgroup G2; groupv2/arrayv2/.zarray A2 | /groupv2 | tree => /\n  groupv2\n    arrayv2 [1] Simple("<f8")\n
+"#;
+
+#[test]
+fn a_group_has_what_is_listed_below_it(rt: HostRuntime) -> Result<(), Fail> {
+    check_rows(rt.alloc(), GROUPS, of_opened)
+}
+
+// The text of the hierarchy of a version 3 group at the root that is made, over a store. `STORE`.
+fn of_made(alloc: Global, given: &str) -> Result<String, StorageError> {
+    let store = store_in(alloc, given)?;
     let metadata = GroupMetadata::V3(GroupMetadataV3::new(alloc));
     let group = Group::new_with_metadata(alloc, "/", metadata, &Config::new());
-    Ok(seen_of(alloc, &store, group, group_tree)?)
+    Ok(seen_of(alloc, &store, group, "tree", group_looked)?)
 }
 
-// The text of the hierarchy of the group at a path of the store with these documents.
-fn tree_of_opened(
-    alloc: Global,
-    documents: &[(&str, &str)],
-    path: &str,
-) -> Result<String, StorageError> {
-    let store = store_of(alloc, documents)?;
-    let group = Group::open(alloc, &store, path, &Config::new());
-    Ok(seen_of(alloc, &store, group, group_tree)?)
-}
-
-// The number of nodes of the hierarchy of the group at a path of the store with these documents.
-fn length_of_opened(
-    alloc: Global,
-    documents: &[(&str, &str)],
-    path: &str,
-) -> Result<String, StorageError> {
-    let store = store_of(alloc, documents)?;
-    let group = Group::open(alloc, &store, path, &Config::new());
-    Ok(seen_of(alloc, &store, group, group_length)?)
-}
+const MADE: &str = r#"
+nothing => /\n
+subgroup/zarr.json NUL => error parsing metadata for subgroup/zarr.json: not JSON
+"#;
 
 #[test]
-fn a_group_has_what_is_listed_below_it(rt: HostRuntime) {
-    let alloc = rt.alloc();
-    let six = length_of_opened(alloc, &THREE_LEVELS, "/");
-    assert_says(&rt, alloc, "six", six, printed, "6");
-    let whole = tree_of_opened(alloc, &THREE_LEVELS, "/");
-    assert_says(&rt, alloc, "tree", whole, printed, TREE);
-}
-
-#[test]
-fn a_group_of_version_2_has_what_is_listed_below_it(rt: HostRuntime) {
-    let documents = [("groupv2/.zgroup", G2), ("groupv2/arrayv2/.zarray", A2)];
-    let text = tree_of_opened(rt.alloc(), &documents, "/groupv2");
-    let wanted = "/\n  groupv2\n    arrayv2 [1] Simple(\"<f8\")\n";
-    assert_says(&rt, rt.alloc(), "2", text, printed, wanted);
-}
-
-#[test]
-fn a_bad_subgroup_is_refused(rt: HostRuntime) {
-    let alloc = rt.alloc();
-    let good = tree_of_made(alloc, &[]);
-    assert_says(&rt, alloc, "good", good, printed, "/\n");
-    let bad = tree_of_made(alloc, &[("subgroup/zarr.json", "\0")]);
-    let wanted = "error parsing metadata for subgroup/zarr.json: not JSON";
-    assert_says(&rt, alloc, "bad", bad, printed, wanted);
-}
-
-// ---- what a hierarchy tells
-
-// The text of a copy.
-fn copied(hierarchy: &Hierarchy, alloc: Global) -> Result<String, AllocError> {
-    said(alloc, hierarchy.try_clone(alloc), printed)
-}
-
-// Whether the hierarchy has a node at each of some paths, and how many nodes it has.
-fn told(hierarchy: &Hierarchy, alloc: Global) -> Result<String, AllocError> {
-    let group = has(hierarchy, alloc, "/group");
-    let none = has(hierarchy, alloc, "/nothing");
-    let len = hierarchy.as_map().len();
-    let empty = hierarchy.is_empty();
-    format!(in alloc; "{group} {none} {len} {empty}")
-}
-
-fn has(hierarchy: &Hierarchy, alloc: Global, path: &str) -> bool {
-    match NodePath::new(alloc, path) {
-        Ok(path) => hierarchy.get(&path).is_some(),
-        Err(_) => false,
-    }
-}
-
-#[test]
-fn a_hierarchy_is_copied_and_looked_up(rt: HostRuntime) {
-    let alloc = rt.alloc();
-    let source = opened(alloc, &THREE_LEVELS, "/");
-    assert_says(&rt, alloc, "copy", source, copied, TREE);
-    let looked = opened(alloc, &THREE_LEVELS, "/");
-    assert_says(&rt, alloc, "look", looked, told, "true false 6 false");
+fn a_bad_subgroup_is_refused(rt: HostRuntime) -> Result<(), Fail> {
+    check_rows(rt.alloc(), MADE, of_made)
 }
 
 #[test]

@@ -3,10 +3,10 @@
 #![tactic(auto)]
 
 #[cfg(test)]
-mod asserts;
-#[cfg(test)]
 mod failing;
 #[cfg(test)]
 mod hierarchies;
 #[cfg(test)]
 mod small_stores;
+#[cfg(test)]
+mod stores;

@@ -1,6 +1,5 @@
 use serde_json::Value;
 use std::alloc::{AllocError, Global};
-use std::process::Abort;
 use std::test::Fail;
 use zarrs_block::{
     ConsolidatedMetadata, ConsolidatedMetadataMetadata, NodeCreateError,
@@ -9,96 +8,118 @@ use zarrs_block::{
 use zarrs_config::UseConsolidatedMetadata;
 use zarrs_meta::NodeMetadata;
 use zarrs_path::NodePath;
+use zarrs_rows_table::{check_rows, fields};
 use zarrs_store::{MetadataFault, StorageError, StoreKey, StorePrefix};
 
-fn says<R: Abort>(rt: &R, alloc: Global, error: NodeCreateError, text: &str) -> Result<(), Fail> {
-    let said = format!(in alloc; "{error}")?;
-    assert_eq!(rt; said.as_str(), text);
-    Ok(())
+// ---- errors
+
+// The kind of an error, and the text that the error is about.
+const ERRORS: &str = r#"
+version => Found V2 metadata in V3 key or vice-versa
+missing | /a => Metadata is missing for /a
+memory => out of memory
+store => store fault
+document | a/zarr.json => error parsing metadata for a/zarr.json: not JSON
+path | a//b => invalid node path a//b
+prefix | / => invalid store prefix /
+allocation => out of memory
+"#;
+
+// The text of the error of a kind.
+fn error_text(alloc: Global, given: &str) -> Result<String, AllocError> {
+    match refused(alloc, given) {
+        Ok(()) => String::from_str(alloc, "no error"),
+        Err(error) => format!(in alloc; "{error}"),
+    }
+}
+
+// The error of a kind, about a text. Those of a path, of a prefix and of an allocation are made of the error below.
+fn refused(alloc: Global, given: &str) -> Result<(), NodeCreateError> {
+    let (kind, text) = fields(given);
+    match kind {
+        "version" => Err(NodeCreateError::MetadataVersionMismatch),
+        "missing" => without_document(alloc, text),
+        "memory" => Err(NodeCreateError::OutOfMemory),
+        "store" => Err(NodeCreateError::StorageError(StorageError::Fault)),
+        "document" => not_json(alloc, text),
+        "path" => no_path(alloc, text),
+        "prefix" => no_prefix(alloc, text),
+        "allocation" => Err(NodeCreateError::from(AllocError)),
+        _ => Ok(()),
+    }
+}
+
+// The error of a path where no document stands.
+fn without_document(alloc: Global, path: &str) -> Result<(), NodeCreateError> {
+    Err(NodeCreateError::MissingMetadata(String::from_str(alloc, path)?))
+}
+
+// The error of a key where a document is not JSON.
+fn not_json(alloc: Global, key: &str) -> Result<(), NodeCreateError> {
+    match StoreKey::new(alloc, key) {
+        Ok(key) => {
+            Err(NodeCreateError::from(StorageError::InvalidMetadata(key, MetadataFault::NotJson)))
+        }
+        Err(_) => Ok(()),
+    }
+}
+
+// The error of a text that is no path.
+fn no_path(alloc: Global, text: &str) -> Result<(), NodeCreateError> {
+    match NodePath::new(alloc, text) {
+        Ok(_) => Ok(()),
+        Err(error) => Err(NodeCreateError::from(error)),
+    }
+}
+
+// The error of a text that is no prefix.
+fn no_prefix(alloc: Global, text: &str) -> Result<(), NodeCreateError> {
+    match StorePrefix::new(alloc, text) {
+        Ok(_) => Ok(()),
+        Err(error) => Err(NodeCreateError::from(error)),
+    }
 }
 
 #[test]
-fn refusals_have_their_texts(rt: HostRuntime) -> Result<(), Fail> {
-    let alloc = rt.alloc();
-    says(
-        &rt,
-        alloc,
-        NodeCreateError::MetadataVersionMismatch,
-        "Found V2 metadata in V3 key or vice-versa",
-    )?;
-    says(
-        &rt,
-        alloc,
-        NodeCreateError::MissingMetadata(String::from_str(alloc, "/a")?),
-        "Metadata is missing for /a",
-    )?;
-    says(&rt, alloc, NodeCreateError::OutOfMemory, "out of memory")?;
-    says(
-        &rt,
-        alloc,
-        NodeCreateError::StorageError(StorageError::Fault),
-        "store fault",
-    )?;
-    let key = StoreKey::new(alloc, "a/zarr.json")?;
-    let refused = StorageError::InvalidMetadata(key, MetadataFault::NotJson);
-    says(
-        &rt,
-        alloc,
-        NodeCreateError::from(refused),
-        "error parsing metadata for a/zarr.json: not JSON",
-    )?;
-    Ok(())
-}
-
-#[test]
-fn an_error_below_is_kept(rt: HostRuntime) -> Result<(), Fail> {
-    let alloc = rt.alloc();
-    match NodePath::new(alloc, "a//b") {
-        Err(error) => says(
-            &rt,
-            alloc,
-            NodeCreateError::from(error),
-            "invalid node path a//b",
-        )?,
-        Ok(_) => assert!(rt; false, "no path"),
-    }
-    match StorePrefix::new(alloc, "/") {
-        Err(error) => says(
-            &rt,
-            alloc,
-            NodeCreateError::from(error),
-            "invalid store prefix /",
-        )?,
-        Ok(_) => assert!(rt; false, "no prefix"),
-    }
-    says(
-        &rt,
-        alloc,
-        NodeCreateError::from(AllocError),
-        "out of memory",
-    )?;
-    Ok(())
+fn errors_have_their_texts_and_those_below_are_kept(rt: HostRuntime) -> Result<(), Fail> {
+    check_rows(rt.alloc(), ERRORS, error_text)
 }
 
 // ---- blocks
 
-// A group of version 3.
-const G3: &str = "{\"node_type\":\"group\",\"zarr_format\":3}";
-
-// An array of version 3 with the shape `[1]`.
-const A3: &str =
-    "{\"chunk_grid\":\"g\",\"chunk_key_encoding\":\"k\",\"codecs\":[],\"data_type\":\"float32\",\"fill_value\":0,\"node_type\":\"array\",\"shape\":[1],\"zarr_format\":3}";
-
-// An array of version 3 with the shape `[2]`.
-const OTHER: &str =
-    "{\"chunk_grid\":\"g\",\"chunk_key_encoding\":\"k\",\"codecs\":[],\"data_type\":\"float32\",\"fill_value\":0,\"node_type\":\"array\",\"shape\":[2],\"zarr_format\":3}";
+// Texts, and the written form of the block that each is or its first fault.
+const BLOCKS: &str = r#"
+[1.5] => unsupported number
+{"kind":1.5} => unsupported number
+[] => not an object
+{} => missing member kind
+{"kind":"other","must_understand":true} => bad member kind
+{"kind":null} => bad member kind
+{"kind":"inline","must_understand":true} => bad member must_understand
+{"kind":"inline","must_understand":null} => bad member must_understand
+{"kind":"inline"} => missing member metadata
+{"kind":"inline","metadata":[]} => bad member metadata
+{"kind":"inline","metadata":{"a":{"zarr_format":3}}} => bad member metadata
+{"kind":"inline","metadata":{"a":{"attributes":1,"node_type":"group","zarr_format":3}}} => bad member metadata
+{"kind":"inline","metadata":{"a":{"attributes":{"n":1.5},"node_type":"group","zarr_format":3}}} => unsupported number
+{"kind":"inline","metadata":{},"more":1} => {"kind":"inline","metadata":{},"must_understand":false}
+{"kind":"inline","metadata":{"b":{"zarr_format":2},"a":{"node_type":"group","zarr_format":3}},"must_understand":false} => {"kind":"inline","metadata":{"a":{"node_type":"group","zarr_format":3},"b":{"zarr_format":2}},"must_understand":false}
+"#;
 
 // The text of the block that a JSON text is, or of the fault.
 fn read_block(alloc: Global, text: &str) -> Result<String, AllocError> {
-    let Ok(value) = Value::from_slice(alloc, text.as_bytes()) else {
-        return String::from_str(alloc, "not JSON");
-    };
-    match ConsolidatedMetadata::from_value(alloc, &value) {
+    match Value::from_slice(alloc, text.as_bytes()) {
+        Ok(value) => block_or_fault(alloc, ConsolidatedMetadata::from_value(alloc, &value)),
+        Err(_) => String::from_str(alloc, "not JSON"),
+    }
+}
+
+// The text of a block, or of the fault.
+fn block_or_fault(
+    alloc: Global,
+    read: Result<ConsolidatedMetadata, MetadataFault>,
+) -> Result<String, AllocError> {
+    match read {
         Ok(block) => written(alloc, &block),
         Err(fault) => format!(in alloc; "{fault}"),
     }
@@ -111,88 +132,72 @@ fn written(alloc: Global, block: &ConsolidatedMetadata) -> Result<String, AllocE
 
 #[test]
 fn blocks_are_read_or_refused_by_the_first_fault(rt: HostRuntime) -> Result<(), Fail> {
-    let alloc = rt.alloc();
-    for (text, wanted) in [
-        ("[1.5]", "unsupported number"),
-        ("{\"kind\":1.5}", "unsupported number"),
-        ("[]", "not an object"),
-        ("{}", "missing member kind"),
-        (
-            "{\"kind\":\"other\",\"must_understand\":true}",
-            "bad member kind",
-        ),
-        ("{\"kind\":null}", "bad member kind"),
-        (
-            "{\"kind\":\"inline\",\"must_understand\":true}",
-            "bad member must_understand",
-        ),
-        (
-            "{\"kind\":\"inline\",\"must_understand\":null}",
-            "bad member must_understand",
-        ),
-        ("{\"kind\":\"inline\"}", "missing member metadata"),
-        (
-            "{\"kind\":\"inline\",\"metadata\":[]}",
-            "bad member metadata",
-        ),
-        (
-            "{\"kind\":\"inline\",\"metadata\":{\"a\":{\"zarr_format\":3}}}",
-            "bad member metadata",
-        ),
-        (
-            r#"{"kind":"inline","metadata":{"a":{"attributes":1,"node_type":"group","zarr_format":3}}}"#,
-            "bad member metadata",
-        ),
-        (
-            r#"{"kind":"inline","metadata":{"a":{"attributes":{"n":1.5},"node_type":"group","zarr_format":3}}}"#,
-            "unsupported number",
-        ),
-        (
-            "{\"kind\":\"inline\",\"metadata\":{},\"more\":1}",
-            "{\"kind\":\"inline\",\"metadata\":{},\"must_understand\":false}",
-        ),
-        (
-            "{\"kind\":\"inline\",\"metadata\":{\"b\":{\"zarr_format\":2},\"a\":{\"node_type\":\"group\",\"zarr_format\":3}},\"must_understand\":false}",
-            "{\"kind\":\"inline\",\"metadata\":{\"a\":{\"node_type\":\"group\",\"zarr_format\":3},\"b\":{\"zarr_format\":2}},\"must_understand\":false}",
-        ),
-    ] {
-        let said = read_block(alloc, text)?;
-        assert_eq!(rt; said.as_str(), wanted, "{text}");
-    }
-    Ok(())
+    check_rows(rt.alloc(), BLOCKS, read_block)
 }
 
-// The node that a JSON text is.
-fn node(alloc: Global, text: &str) -> Result<NodeMetadata, MetadataFault> {
-    NodeMetadata::from_bytes(alloc, text.as_bytes())
-}
-
-// The block with these documents at these keys.
-fn block_of(
+/// The block of documents at keys: `KEY=DOCUMENT`, a semicolon between two; a key that stands alone has a group of version 2.
+pub(crate) fn block_of(
     alloc: Global,
-    documents: &[(&str, &str)],
+    documents: &str,
 ) -> Result<ConsolidatedMetadata, MetadataFault> {
     let mut metadata = ConsolidatedMetadataMetadata::new(alloc);
-    for (key, document) in documents {
-        let key = String::from_str(alloc, key)?;
-        metadata.insert(key, node(alloc, document)?)?;
+    for document in documents.split(';') {
+        insert_document(alloc, &mut metadata, document)?;
     }
     Ok(ConsolidatedMetadata { metadata })
 }
 
-// The paths and texts of the nodes of a block below a path, a line each, or the text of the error.
-fn expanded(
+// Inserts a document at its key; nothing where the text is empty.
+fn insert_document(
     alloc: Global,
-    path: &str,
-    documents: &[(&str, &str)],
-) -> Result<String, MetadataFault> {
-    let Ok(path) = NodePath::new(alloc, path) else {
-        return Ok(String::from_str(alloc, "no path")?);
-    };
+    metadata: &mut ConsolidatedMetadataMetadata,
+    text: &str,
+) -> Result<(), MetadataFault> {
+    if text.is_empty() {
+        return Ok(());
+    }
+    let (key, document) = text
+        .split_once('=')
+        .unwrap_or((text, "{\"zarr_format\":2}"));
+    let node = NodeMetadata::from_bytes(alloc, document.as_bytes())?;
+    metadata.insert(String::from_str(alloc, key)?, node)?;
+    Ok(())
+}
+
+// ---- nodes of a block
+
+// A path and the documents of a block at their keys, and a line for each node of the block below the path, or the text of the error.
+const EXPANDED: &str = r#"
+# Keys are joined to the base.
+/group | foo={"node_type":"group","zarr_format":3};sub/leaf={"node_type":"group","zarr_format":3};/={"node_type":"group","zarr_format":3};={"node_type":"group","zarr_format":3} => /group/foo {"node_type":"group","zarr_format":3}\n/group/sub/leaf {"node_type":"group","zarr_format":3}\n
+/group | foo={"node_type":"group","zarr_format":3};sub/leaf={"node_type":"group","zarr_format":3};/={"node_type":"group","zarr_format":3};foo/={"node_type":"group","zarr_format":3} => invalid node path invalid node name `` in 'foo/'
+/group | foo={"node_type":"group","zarr_format":3};sub/leaf={"node_type":"group","zarr_format":3};/={"node_type":"group","zarr_format":3};//foo={"node_type":"group","zarr_format":3} => invalid node path invalid node name `` in '/foo'
+# Pairs stand in the order of paths and not of keys.
+/ | a-b={"node_type":"group","zarr_format":3};a/c={"node_type":"group","zarr_format":3};b={"node_type":"group","zarr_format":3};/a={"node_type":"group","zarr_format":3} => /a {"node_type":"group","zarr_format":3}\n/a/c {"node_type":"group","zarr_format":3}\n/a-b {"node_type":"group","zarr_format":3}\n/b {"node_type":"group","zarr_format":3}\n
+# The key without a slash counts.
+/ | -x={"chunk_grid":"g","chunk_key_encoding":"k","codecs":[],"data_type":"float32","fill_value":0,"node_type":"array","shape":[1],"zarr_format":3};/-x={"chunk_grid":"g","chunk_key_encoding":"k","codecs":[],"data_type":"float32","fill_value":0,"node_type":"array","shape":[2],"zarr_format":3} => /-x {"chunk_grid":"g","chunk_key_encoding":"k","codecs":[],"data_type":"float32","fill_value":0,"node_type":"array","shape":[1],"zarr_format":3}\n
+/ | /x={"chunk_grid":"g","chunk_key_encoding":"k","codecs":[],"data_type":"float32","fill_value":0,"node_type":"array","shape":[1],"zarr_format":3};x={"chunk_grid":"g","chunk_key_encoding":"k","codecs":[],"data_type":"float32","fill_value":0,"node_type":"array","shape":[2],"zarr_format":3} => /x {"chunk_grid":"g","chunk_key_encoding":"k","codecs":[],"data_type":"float32","fill_value":0,"node_type":"array","shape":[2],"zarr_format":3}\n
+"#;
+
+// The paths and texts of the nodes of a block below a path, a line each, or the text of the error.
+fn expanded(alloc: Global, given: &str) -> Result<String, MetadataFault> {
+    let (path, documents) = fields(given);
     let block = block_of(alloc, documents)?;
-    match expand_consolidated_metadata(alloc, &path, block) {
-        Ok(all) => Ok(lines(alloc, &all)?),
-        Err(error) => Ok(format!(in alloc; "{error}")?),
+    match NodePath::new(alloc, path) {
+        Ok(path) => Ok(below(alloc, &path, block)?),
+        Err(_) => Ok(String::from_str(alloc, "no path")?),
+    }
+}
+
+// The paths and texts of the nodes of a block below a path, or the text of the error.
+fn below(
+    alloc: Global,
+    path: &NodePath,
+    block: ConsolidatedMetadata,
+) -> Result<String, AllocError> {
+    match expand_consolidated_metadata(alloc, path, block) {
+        Ok(all) => lines(alloc, &all),
+        Err(error) => format!(in alloc; "{error}"),
     }
 }
 
@@ -200,85 +205,63 @@ fn expanded(
 fn lines(alloc: Global, pairs: &[(NodePath, NodeMetadata)]) -> Result<String, AllocError> {
     let mut out = String::new(alloc);
     for (path, metadata) in pairs {
-        out.push_str(path.as_str())?;
-        out.push_str(" ")?;
-        out.push_str(metadata.to_text(alloc)?.as_str())?;
-        out.push_str("\n")?;
+        let path = path.as_str();
+        let metadata = metadata.to_text(alloc)?;
+        write!(out, "{path} {metadata}\n")?;
     }
     Ok(out)
 }
 
 #[test]
-fn keys_are_joined_to_the_base(rt: HostRuntime) {
-    let alloc = rt.alloc();
-    let both =
-        "/group/foo {\"node_type\":\"group\",\"zarr_format\":3}\n/group/sub/leaf {\"node_type\":\"group\",\"zarr_format\":3}\n";
-    for (key, wanted) in [
-        ("", both),
-        ("foo/", "invalid node path invalid node name `` in 'foo/'"),
-        ("//foo", "invalid node path invalid node name `` in '/foo'"),
-    ] {
-        let documents = [("foo", G3), ("sub/leaf", G3), ("/", G3), (key, G3)];
-        match expanded(alloc, "/group", &documents) {
-            Ok(said) => assert_eq!(rt; said.as_str(), wanted, "{key}"),
-            Err(_) => assert!(rt; false, "no node"),
-        }
-    }
+fn blocks_are_expanded_below_a_path(rt: HostRuntime) -> Result<(), Fail> {
+    check_rows(rt.alloc(), EXPANDED, expanded)
 }
 
-#[test]
-fn pairs_stand_in_the_order_of_paths_and_not_of_keys(rt: HostRuntime) -> Result<(), Fail> {
-    let alloc = rt.alloc();
-    let documents = [("a-b", G3), ("a/c", G3), ("b", G3), ("/a", G3)];
-    let mut wanted = String::new(alloc);
-    for path in ["/a", "/a/c", "/a-b", "/b"] {
-        let line = format!(in alloc; "{path} {G3}\n")?;
-        wanted.push_str(line.as_str())?;
-    }
-    match expanded(alloc, "/", &documents) {
-        Ok(said) => assert_eq!(rt; said.as_str(), wanted.as_str()),
-        Err(_) => assert!(rt; false, "no node"),
-    }
-    Ok(())
-}
+// ---- policies
 
-#[test]
-fn the_key_without_a_slash_counts(rt: HostRuntime) {
-    let alloc = rt.alloc();
-    for (documents, wanted) in [
-        ([("-x", A3), ("/-x", OTHER)], A3),
-        ([("/x", A3), ("x", OTHER)], OTHER),
-    ] {
-        match expanded(alloc, "/", &documents) {
-            Ok(said) => {
-                assert!(rt; said.as_str().trim_end().ends_with(wanted), "{said}");
-                assert_eq!(rt; said.as_str().lines().count(), 1);
-            }
-            Err(_) => assert!(rt; false, "no node"),
-        }
-    }
-}
+// A policy, and whether there is a block: what the policy makes of it.
+const CHOSEN: &str = r#"
+Must | none => Metadata is missing for Consolidated metadata required but missing on group /g
+Never | block => none
+Auto | none => none
+Must | block => {"kind":"inline","metadata":{},"must_understand":false}
+Auto | block => {"kind":"inline","metadata":{},"must_understand":false}
+"#;
 
 // What a policy makes of a block that there is or is not: the text of the block, `none`, or the text of the error.
-fn resolved(
-    alloc: Global,
-    is_there: bool,
-    policy: UseConsolidatedMetadata,
-) -> Result<String, AllocError> {
-    let Ok(path) = NodePath::new(alloc, "/g") else {
-        return String::from_str(alloc, "no path");
-    };
-    let block = if is_there {
+fn resolved(alloc: Global, given: &str) -> Result<String, AllocError> {
+    let (policy, block) = fields(given);
+    match NodePath::new(alloc, "/g") {
+        Ok(path) => {
+            let block = empty_block(alloc, block == "block");
+            let policy = policy_of(policy);
+            chosen(
+                alloc,
+                resolve_consolidated_policy(alloc, &path, block, policy),
+            )
+        }
+        Err(_) => String::from_str(alloc, "no path"),
+    }
+}
+
+// The policy of a name.
+fn policy_of(name: &str) -> UseConsolidatedMetadata {
+    match name {
+        "Must" => UseConsolidatedMetadata::Must,
+        "Never" => UseConsolidatedMetadata::Never,
+        _ => UseConsolidatedMetadata::Auto,
+    }
+}
+
+// The block without nodes, where it is there.
+fn empty_block(alloc: Global, is_there: bool) -> Option<ConsolidatedMetadata> {
+    if is_there {
         Some(ConsolidatedMetadata {
             metadata: ConsolidatedMetadataMetadata::new(alloc),
         })
     } else {
         None
-    };
-    chosen(
-        alloc,
-        resolve_consolidated_policy(alloc, &path, block, policy),
-    )
+    }
 }
 
 // The text of the block, `none`, or the text of the error.
@@ -293,130 +276,113 @@ fn chosen(
     }
 }
 
-// The text of a block without nodes.
-const EMPTY: &str = "{\"kind\":\"inline\",\"metadata\":{},\"must_understand\":false}";
-
 #[test]
 fn a_policy_chooses(rt: HostRuntime) -> Result<(), Fail> {
-    let alloc = rt.alloc();
-    let missing = "Metadata is missing for Consolidated metadata required but missing on group /g";
-    for (is_there, policy, wanted) in [
-        (false, UseConsolidatedMetadata::Must, missing),
-        (true, UseConsolidatedMetadata::Never, "none"),
-        (false, UseConsolidatedMetadata::Auto, "none"),
-        (true, UseConsolidatedMetadata::Must, EMPTY),
-        (true, UseConsolidatedMetadata::Auto, EMPTY),
-    ] {
-        let said = resolved(alloc, is_there, policy)?;
-        assert_eq!(rt; said.as_str(), wanted);
-    }
-    Ok(())
+    check_rows(rt.alloc(), CHOSEN, resolved)
 }
 
+// A policy and the document of a node: what the policy makes of the node's block.
+const OPENED: &str = r#"
+Auto | {"consolidated_metadata":{"kind":"inline","metadata":{}},"node_type":"group","zarr_format":3} => {"kind":"inline","metadata":{},"must_understand":false}
+Never | {"consolidated_metadata":{"kind":"inline","metadata":{}},"node_type":"group","zarr_format":3} => none
+Auto | {"consolidated_metadata":{},"node_type":"group","zarr_format":3} => none
+Must | {"consolidated_metadata":{},"node_type":"group","zarr_format":3} => Metadata is missing for Consolidated metadata required but missing on group /g
+Must | {"zarr_format":2} => Metadata is missing for Consolidated metadata required but missing on group /g
+Auto | {"chunk_grid":"g","chunk_key_encoding":"k","codecs":[],"data_type":"float32","fill_value":0,"node_type":"array","shape":[1],"zarr_format":3} => none
+"#;
+
 // What a policy makes of the node that a JSON text is, as `chosen` says it.
-fn opened(
+fn opened(alloc: Global, given: &str) -> Result<String, MetadataFault> {
+    let (policy, document) = fields(given);
+    let node = NodeMetadata::from_bytes(alloc, document.as_bytes())?;
+    Ok(opened_by(alloc, &node, policy_of(policy))?)
+}
+
+// What a policy makes of a node at `/g`.
+fn opened_by(
     alloc: Global,
-    document: &str,
+    node: &NodeMetadata,
     policy: UseConsolidatedMetadata,
 ) -> Result<String, AllocError> {
-    let (Ok(path), Ok(metadata)) = (NodePath::new(alloc, "/g"), node(alloc, document)) else {
-        return String::from_str(alloc, "no node");
-    };
-    chosen(
-        alloc,
-        consolidated_metadata_for_open(alloc, &path, &metadata, policy),
-    )
+    match NodePath::new(alloc, "/g") {
+        Ok(path) => {
+            chosen(
+                alloc,
+                consolidated_metadata_for_open(alloc, &path, node, policy),
+            )
+        }
+        Err(_) => String::from_str(alloc, "no path"),
+    }
 }
 
 #[test]
 fn a_group_is_opened_by_its_block(rt: HostRuntime) -> Result<(), Fail> {
-    let alloc = rt.alloc();
-    let with_block =
-        "{\"consolidated_metadata\":{\"kind\":\"inline\",\"metadata\":{}},\"node_type\":\"group\",\"zarr_format\":3}";
-    let malformed = "{\"consolidated_metadata\":{},\"node_type\":\"group\",\"zarr_format\":3}";
-    let missing = "Metadata is missing for Consolidated metadata required but missing on group /g";
-    for (document, policy, wanted) in [
-        (with_block, UseConsolidatedMetadata::Auto, EMPTY),
-        (with_block, UseConsolidatedMetadata::Never, "none"),
-        (malformed, UseConsolidatedMetadata::Auto, "none"),
-        (malformed, UseConsolidatedMetadata::Must, missing),
-        (
-            "{\"zarr_format\":2}",
-            UseConsolidatedMetadata::Must,
-            missing,
-        ),
-        (A3, UseConsolidatedMetadata::Auto, "none"),
-    ] {
-        let said = opened(alloc, document, policy)?;
-        assert_eq!(rt; said.as_str(), wanted, "{document}");
-    }
-    Ok(())
+    check_rows(rt.alloc(), OPENED, opened)
 }
 
-// The keys of a block, each behind a blank.
-fn keys_text(block: &ConsolidatedMetadataMetadata, alloc: Global) -> Result<String, AllocError> {
-    let mut text = String::new(alloc);
+// ---- keys of a block
+
+// A word, and behind it the keys of a block, each behind a blank.
+fn keys_text(
+    alloc: Global,
+    word: &str,
+    block: &ConsolidatedMetadataMetadata,
+) -> Result<String, AllocError> {
+    let mut text = String::from_str(alloc, word)?;
     for (key, _metadata) in block.as_map().iter() {
         write!(text, " {key}")?;
     }
     Ok(text)
 }
 
-// The block of groups at these keys.
-fn groups_at(alloc: Global, keys: &[&str]) -> Result<ConsolidatedMetadataMetadata, MetadataFault> {
-    let mut block = ConsolidatedMetadataMetadata::new(alloc);
-    for key in keys {
-        let group = node(alloc, "{\"zarr_format\":2}")?;
-        block.insert(String::from_str(alloc, key)?, group)?;
-    }
-    Ok(block)
-}
+// The keys of a block and the key that is taken out of it: whether it was there, and the keys that are left.
+const TAKEN_OUT: &str = r#"
+a;b;c | b => true a c
+a;b;c | a => true b c
+a;b;c | d => false a b c
+a;b;c | => false a b c
+"#;
 
 // The keys of the block of groups at these keys, once a key was taken out, behind whether it was there.
-fn removed(alloc: Global, keys: &[&str], key: &str) -> Result<String, AllocError> {
-    let Ok(mut block) = groups_at(alloc, keys) else {
-        return String::from_str(alloc, "no block");
-    };
+fn removed(alloc: Global, given: &str) -> Result<String, MetadataFault> {
+    let (keys, key) = fields(given);
+    let block = block_of(alloc, keys)?;
+    Ok(taken_out(alloc, block.metadata, key)?)
+}
+
+// The keys of a block, once a key was taken out, behind whether it was there.
+fn taken_out(
+    alloc: Global,
+    block: ConsolidatedMetadataMetadata,
+    key: &str,
+) -> Result<String, AllocError> {
+    let mut block = block;
     let was_there = block.remove(key).is_some();
-    let left = keys_text(&block, alloc)?;
-    format!(in alloc; "{was_there}{left}")
+    keys_text(alloc, if was_there { "true" } else { "false" }, &block)
 }
 
 #[test]
 fn a_key_is_taken_out(rt: HostRuntime) -> Result<(), Fail> {
-    let alloc = rt.alloc();
-    for (key, wanted) in [
-        ("b", "true a c"),
-        ("a", "true b c"),
-        ("d", "false a b c"),
-        ("", "false a b c"),
-    ] {
-        assert_eq!(rt; removed(alloc, &["a", "b", "c"], key)?.as_str(), wanted);
-    }
-    Ok(())
+    check_rows(rt.alloc(), TAKEN_OUT, removed)
 }
 
+// The keys of a block and the key that its copy leaves out, with what is below it: the keys of the copy.
+const LEFT: &str = r#"
+a;a/b;a/b/c;a-b;a0;/a;/a/b;//a;b/a;/a-b | a =>  //a /a-b a-b a0 b/a
+a;a/b;a/b/c;a-b;a0;/a;/a/b;//a;b/a;/a-b | a/b =>  //a /a /a-b a a-b a0 b/a
+a;a/b;a/b/c;a-b;a0;/a;/a/b;//a;b/a;/a-b | b =>  //a /a /a-b /a/b a a-b a/b a/b/c a0
+a;a/b;a/b/c;a-b;a0;/a;/a/b;//a;b/a;/a-b | c =>  //a /a /a-b /a/b a a-b a/b a/b/c a0 b/a
+"#;
+
 // The keys of a copy of the block of groups at these keys, without a key and what is below it.
-fn without(alloc: Global, keys: &[&str], key: &str) -> Result<String, AllocError> {
-    let Ok(block) = groups_at(alloc, keys) else {
-        return String::from_str(alloc, "no block");
-    };
-    keys_text(&block.try_clone_without(alloc, key)?, alloc)
+fn without(alloc: Global, given: &str) -> Result<String, MetadataFault> {
+    let (keys, key) = fields(given);
+    let block = block_of(alloc, keys)?;
+    let copy = block.metadata.try_clone_without(alloc, key)?;
+    Ok(keys_text(alloc, "", &copy)?)
 }
 
 #[test]
 fn a_copy_leaves_out_a_key_and_what_is_below_it(rt: HostRuntime) -> Result<(), Fail> {
-    let alloc = rt.alloc();
-    let keys = [
-        "a", "a/b", "a/b/c", "a-b", "a0", "/a", "/a/b", "//a", "b/a", "/a-b",
-    ];
-    for (key, wanted) in [
-        ("a", " //a /a-b a-b a0 b/a"),
-        ("a/b", " //a /a /a-b a a-b a0 b/a"),
-        ("b", " //a /a /a-b /a/b a a-b a/b a/b/c a0"),
-        ("c", " //a /a /a-b /a/b a a-b a/b a/b/c a0 b/a"),
-    ] {
-        assert_eq!(rt; without(alloc, &keys, key)?.as_str(), wanted);
-    }
-    Ok(())
+    check_rows(rt.alloc(), LEFT, without)
 }

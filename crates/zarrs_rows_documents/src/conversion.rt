@@ -1,21 +1,21 @@
 //! Groups and arrays of version 2 as groups and arrays of version 3: what is answered, and what is warned of.
 
 use crate::answers::said;
-use crate::asserts::assert_says;
 use log::sink::Writer;
 use serde_json::{Map, Value};
 use std::alloc::{AllocError, Global};
 use std::fmt::Display;
+use std::test::Fail;
 use zarrs_convert::{
     ArrayMetadataV2ToV3Error, DataTypeMetadataV2EndiannessError, array_metadata_v2_to_v3,
     group_metadata_v2_to_v3, laws,
 };
-use zarrs_fault::MetadataFault;
 use zarrs_form::Form;
 use zarrs_meta::{
     ArrayMetadataV2, ArrayMetadataV3, FillValueMetadata, GroupMetadataV2, GroupMetadataV3, List,
     MetadataV3, Object, Text,
 };
+use zarrs_rows_table::check_rows;
 
 // ---- what the tests share
 
@@ -148,6 +148,12 @@ pub(crate) fn with_lines(
 
 // ---- groups
 
+// Groups of version 2, and the group of version 3 that each becomes: it keeps its attributes and drops its other fields.
+const GROUPS: &str = r#"
+{"zarr_format":2} => {"node_type":"group","zarr_format":3}
+{"attributes":{"spam":1},"other":2,"zarr_format":2} => {"attributes":{"spam":1},"node_type":"group","zarr_format":3}
+"#;
+
 fn group_text(group: &GroupMetadataV3, alloc: Global) -> Result<String, AllocError> {
     group.to_text(alloc)
 }
@@ -156,25 +162,42 @@ fn group_says(group: &GroupMetadataV2, alloc: Global) -> Result<String, AllocErr
     said(alloc, group_metadata_v2_to_v3(alloc, group), group_text)
 }
 
+// What the group that a text is becomes, or the text of the fault.
+fn converted_group(alloc: Global, document: &str) -> Result<String, AllocError> {
+    said(
+        alloc,
+        GroupMetadataV2::from_bytes(alloc, document.as_bytes()),
+        group_says,
+    )
+}
+
 #[test]
-fn a_group_keeps_its_attributes_and_drops_its_other_fields(rt: HostRuntime) {
-    let alloc = rt.alloc();
-    for (document, wanted) in [
-        (
-            r#"{"zarr_format":2}"#,
-            r#"{"node_type":"group","zarr_format":3}"#,
-        ),
-        (
-            r#"{"attributes":{"spam":1},"other":2,"zarr_format":2}"#,
-            r#"{"attributes":{"spam":1},"node_type":"group","zarr_format":3}"#,
-        ),
-    ] {
-        let group = GroupMetadataV2::from_bytes(alloc, document.as_bytes());
-        assert_says(&rt, alloc, document, group, group_says, wanted);
-    }
+fn groups_of_version_2_become_groups_of_version_3(rt: HostRuntime) -> Result<(), Fail> {
+    check_rows(rt.alloc(), GROUPS, converted_group)
 }
 
 // ---- arrays
+
+// Arrays of version 2, and the array of version 3 that each becomes or the error, with the lines that are warned with.
+const ARRAYS: &str = r#"
+# An array keeps its shape, its chunks and its attributes.
+{"chunks":[1000,1000],"compressor":null,"dtype":"<f8","fill_value":"NaN","filters":null,"order":"F","shape":[10000,10000],"zarr_format":2} => {"chunk_grid":{"configuration":{"chunk_shape":[1000,1000]},"name":"regular"},"chunk_key_encoding":{"configuration":{"separator":"."},"name":"v2"},"codecs":[{"configuration":{"order":[1,0]},"name":"transpose"},{"configuration":{"endian":"little"},"name":"bytes"}],"data_type":"float64","fill_value":"NaN","node_type":"array","shape":[10000,10000],"zarr_format":3}
+{"chunks":[],"compressor":null,"dtype":"<f8","fill_value":"NaN","filters":null,"order":"F","shape":[],"zarr_format":2} => {"chunk_grid":{"configuration":{"chunk_shape":[]},"name":"regular"},"chunk_key_encoding":{"configuration":{"separator":"."},"name":"v2"},"codecs":[{"configuration":{"order":[]},"name":"transpose"},{"configuration":{"endian":"little"},"name":"bytes"}],"data_type":"float64","fill_value":"NaN","node_type":"array","shape":[],"zarr_format":3}
+{"attributes":{"k":1},"chunks":[2],"compressor":null,"dimension_separator":"/","dtype":">c16","fill_value":0,"filters":null,"order":"C","other":5,"shape":[7],"zarr_format":2} => {"attributes":{"k":1},"chunk_grid":{"configuration":{"chunk_shape":[2]},"name":"regular"},"chunk_key_encoding":{"configuration":{"separator":"/"},"name":"v2"},"codecs":[{"configuration":{"endian":"big"},"name":"bytes"}],"data_type":"complex128","fill_value":0,"node_type":"array","shape":[7],"zarr_format":3}
+# It is warned of where its fill value changes.
+{"chunks":[2],"compressor":null,"dtype":"|V2","fill_value":null,"filters":[],"order":"C","shape":[7],"zarr_format":2} => {"chunk_grid":{"configuration":{"chunk_shape":[2]},"name":"regular"},"chunk_key_encoding":{"configuration":{"separator":"."},"name":"v2"},"codecs":[{"configuration":{"endian":"little"},"name":"bytes"}],"data_type":"r16","fill_value":[0,0],"node_type":"array","shape":[7],"zarr_format":3}\n[WARN  zarrs_convert::fill_value] Fill value of `null` specified for data type r16. This is unsupported in Zarr V3; mapping to a default value.\n
+{"chunks":[2],"compressor":null,"dtype":"|O","fill_value":0,"filters":[{"id":"vlen-utf8"}],"order":"C","shape":[7],"zarr_format":2} => {"chunk_grid":{"configuration":{"chunk_shape":[2]},"name":"regular"},"chunk_key_encoding":{"configuration":{"separator":"."},"name":"v2"},"codecs":[{"configuration":{},"name":"vlen-utf8"}],"data_type":"string","fill_value":"","node_type":"array","shape":[7],"zarr_format":3}\n[WARN  zarrs_convert::fill_value] Permitting non-conformant `0` fill value for `string` data type (zarr-python compatibility).\n
+# It is refused by its first fault.
+{"chunks":[1],"shape":[1],"zarr_format":2,"dtype":"float64","fill_value":0,"order":"C"} => invalid endianness: float64
+{"chunks":[1],"shape":[1],"zarr_format":2,"dtype":"","fill_value":0,"order":"C"} => invalid endianness: 
+{"chunks":[1],"shape":[1],"zarr_format":2,"dtype":"|i2","fill_value":0,"order":"C"} => unsupported data type: "|i2"
+{"chunks":[1],"shape":[1],"zarr_format":2,"dtype":[["r","|u1"],["g","|u1"]],"fill_value":0,"order":"C"} => unsupported data type: [["r","|u1"],["g","|u1"]]
+{"chunks":[1],"shape":[1],"zarr_format":2,"compressor":{"id":"zlib"},"dtype":"=i2","fill_value":null,"filters":[{"id":"delta"}],"order":"F"} => invalid endianness: =i2
+{"chunks":[1],"shape":[1],"zarr_format":2,"compressor":{"id":"zlib"},"dtype":"<i1","fill_value":null,"filters":[{"id":"delta"}],"order":"F"} => unsupported data type: "<i1"
+{"chunks":[1],"shape":[1],"zarr_format":2,"compressor":{"id":"zlib"},"dtype":"|V8","fill_value":null,"filters":[{"id":"delta","n":1}],"order":"F"} => unsupported codec delta: {"n":1}\n[WARN  zarrs_convert::fill_value] Fill value of `null` specified for data type r64. This is unsupported in Zarr V3; mapping to a default value.\n
+{"chunks":[1],"shape":[1],"zarr_format":2,"compressor":{"id":"zlib"},"dtype":"|O","fill_value":"","filters":[{"id":"vlen-utf8"},{"id":"vlen-bytes"}],"order":"C"} => multiple array to bytes codecs
+{"chunks":[1],"shape":[1],"zarr_format":2,"compressor":{"id":"blosc","cname":"lz4","clevel":5,"shuffle":1},"dtype":"<f8","fill_value":"NaN","order":"F"} => unsupported codec blosc: {"clevel":5,"cname":"lz4","shuffle":1}
+"#;
 
 fn array_text(array: &ArrayMetadataV3, alloc: Global) -> Result<String, AllocError> {
     array.to_text(alloc)
@@ -188,98 +211,18 @@ fn array_says(array: &ArrayMetadataV2, alloc: Global) -> Result<String, AllocErr
     with_lines(alloc, text, sink)
 }
 
-#[test]
-fn an_array_keeps_its_shape_its_chunks_and_its_attributes(rt: HostRuntime) {
-    let alloc = rt.alloc();
-    for (document, wanted) in [
-        (
-            r#"{"chunks":[1000,1000],"compressor":null,"dtype":"<f8","fill_value":"NaN","filters":null,"order":"F","shape":[10000,10000],"zarr_format":2}"#,
-            r#"{"chunk_grid":{"configuration":{"chunk_shape":[1000,1000]},"name":"regular"},"chunk_key_encoding":{"configuration":{"separator":"."},"name":"v2"},"codecs":[{"configuration":{"order":[1,0]},"name":"transpose"},{"configuration":{"endian":"little"},"name":"bytes"}],"data_type":"float64","fill_value":"NaN","node_type":"array","shape":[10000,10000],"zarr_format":3}"#,
-        ),
-        (
-            r#"{"chunks":[],"compressor":null,"dtype":"<f8","fill_value":"NaN","filters":null,"order":"F","shape":[],"zarr_format":2}"#,
-            r#"{"chunk_grid":{"configuration":{"chunk_shape":[]},"name":"regular"},"chunk_key_encoding":{"configuration":{"separator":"."},"name":"v2"},"codecs":[{"configuration":{"order":[]},"name":"transpose"},{"configuration":{"endian":"little"},"name":"bytes"}],"data_type":"float64","fill_value":"NaN","node_type":"array","shape":[],"zarr_format":3}"#,
-        ),
-        (
-            r#"{"attributes":{"k":1},"chunks":[2],"compressor":null,"dimension_separator":"/","dtype":">c16","fill_value":0,"filters":null,"order":"C","other":5,"shape":[7],"zarr_format":2}"#,
-            r#"{"attributes":{"k":1},"chunk_grid":{"configuration":{"chunk_shape":[2]},"name":"regular"},"chunk_key_encoding":{"configuration":{"separator":"/"},"name":"v2"},"codecs":[{"configuration":{"endian":"big"},"name":"bytes"}],"data_type":"complex128","fill_value":0,"node_type":"array","shape":[7],"zarr_format":3}"#,
-        ),
-    ] {
-        let array = ArrayMetadataV2::from_bytes(alloc, document.as_bytes());
-        assert_says(&rt, alloc, document, array, array_says, wanted);
-    }
+// What the array that a text is becomes, or the text of the fault.
+fn converted_array(alloc: Global, document: &str) -> Result<String, AllocError> {
+    said(
+        alloc,
+        ArrayMetadataV2::from_bytes(alloc, document.as_bytes()),
+        array_says,
+    )
 }
 
 #[test]
-fn an_array_is_warned_of_where_its_fill_value_changes(rt: HostRuntime) {
-    let alloc = rt.alloc();
-    for (document, wanted) in [
-        (
-            r#"{"chunks":[2],"compressor":null,"dtype":"|V2","fill_value":null,"filters":[],"order":"C","shape":[7],"zarr_format":2}"#,
-            "{\"chunk_grid\":{\"configuration\":{\"chunk_shape\":[2]},\"name\":\"regular\"},\"chunk_key_encoding\":{\"configuration\":{\"separator\":\".\"},\"name\":\"v2\"},\"codecs\":[{\"configuration\":{\"endian\":\"little\"},\"name\":\"bytes\"}],\"data_type\":\"r16\",\"fill_value\":[0,0],\"node_type\":\"array\",\"shape\":[7],\"zarr_format\":3}\n[WARN  zarrs_convert::fill_value] Fill value of `null` specified for data type r16. This is unsupported in Zarr V3; mapping to a default value.\n",
-        ),
-        (
-            r#"{"chunks":[2],"compressor":null,"dtype":"|O","fill_value":0,"filters":[{"id":"vlen-utf8"}],"order":"C","shape":[7],"zarr_format":2}"#,
-            "{\"chunk_grid\":{\"configuration\":{\"chunk_shape\":[2]},\"name\":\"regular\"},\"chunk_key_encoding\":{\"configuration\":{\"separator\":\".\"},\"name\":\"v2\"},\"codecs\":[{\"configuration\":{},\"name\":\"vlen-utf8\"}],\"data_type\":\"string\",\"fill_value\":\"\",\"node_type\":\"array\",\"shape\":[7],\"zarr_format\":3}\n[WARN  zarrs_convert::fill_value] Permitting non-conformant `0` fill value for `string` data type (zarr-python compatibility).\n",
-        ),
-    ] {
-        let array = ArrayMetadataV2::from_bytes(alloc, document.as_bytes());
-        assert_says(&rt, alloc, document, array, array_says, wanted);
-    }
-}
-
-/// The array of one dimension that has these members in addition.
-pub(crate) fn array_of(alloc: Global, members: &str) -> Result<ArrayMetadataV2, MetadataFault> {
-    let document = format!(in alloc;
-        "{{\"chunks\":[1],\"shape\":[1],\"zarr_format\":2,{members}}}"
-    )?;
-    ArrayMetadataV2::from_bytes(alloc, document.as_bytes())
-}
-
-#[test]
-fn an_array_is_refused_by_its_first_fault(rt: HostRuntime) {
-    let alloc = rt.alloc();
-    for (members, wanted) in [
-        (
-            r#""dtype":"float64","fill_value":0,"order":"C""#,
-            "invalid endianness: float64",
-        ),
-        (
-            r#""dtype":"","fill_value":0,"order":"C""#,
-            "invalid endianness: ",
-        ),
-        (
-            r#""dtype":"|i2","fill_value":0,"order":"C""#,
-            "unsupported data type: \"|i2\"",
-        ),
-        (
-            r#""dtype":[["r","|u1"],["g","|u1"]],"fill_value":0,"order":"C""#,
-            "unsupported data type: [[\"r\",\"|u1\"],[\"g\",\"|u1\"]]",
-        ),
-        (
-            r#""compressor":{"id":"zlib"},"dtype":"=i2","fill_value":null,"filters":[{"id":"delta"}],"order":"F""#,
-            "invalid endianness: =i2",
-        ),
-        (
-            r#""compressor":{"id":"zlib"},"dtype":"<i1","fill_value":null,"filters":[{"id":"delta"}],"order":"F""#,
-            "unsupported data type: \"<i1\"",
-        ),
-        (
-            r#""compressor":{"id":"zlib"},"dtype":"|V8","fill_value":null,"filters":[{"id":"delta","n":1}],"order":"F""#,
-            "unsupported codec delta: {\"n\":1}\n[WARN  zarrs_convert::fill_value] Fill value of `null` specified for data type r64. This is unsupported in Zarr V3; mapping to a default value.\n",
-        ),
-        (
-            r#""compressor":{"id":"zlib"},"dtype":"|O","fill_value":"","filters":[{"id":"vlen-utf8"},{"id":"vlen-bytes"}],"order":"C""#,
-            "multiple array to bytes codecs",
-        ),
-        (
-            r#""compressor":{"id":"blosc","cname":"lz4","clevel":5,"shuffle":1},"dtype":"<f8","fill_value":"NaN","order":"F""#,
-            "unsupported codec blosc: {\"clevel\":5,\"cname\":\"lz4\",\"shuffle\":1}",
-        ),
-    ] {
-        let array = array_of(alloc, members);
-        assert_says(&rt, alloc, members, array, array_says, wanted);
-    }
+fn arrays_of_version_2_become_arrays_of_version_3(rt: HostRuntime) -> Result<(), Fail> {
+    check_rows(rt.alloc(), ARRAYS, converted_array)
 }
 
 // ---- arrays of version 3 that are made of their parts
@@ -323,22 +266,23 @@ fn changed_array(alloc: Global) -> Result<ArrayMetadataV3, AllocError> {
     }
 }
 
+// The arrays above, and what each is.
+const MADE: &str = r#"
+new => {"chunk_grid":{"configuration":{"chunk_shape":[2]},"name":"regular"},"chunk_key_encoding":{"configuration":{"separator":"/"},"name":"default"},"codecs":["crc32c"],"data_type":"int8","fill_value":7,"node_type":"array","shape":[5],"zarr_format":3}
+changed => {"attributes":{"k":1},"chunk_grid":{"configuration":{"chunk_shape":[2]},"name":"regular"},"chunk_key_encoding":"other","codecs":["crc32c"],"data_type":"int8","fill_value":7,"node_type":"array","shape":[5],"zarr_format":3}
+"#;
+
+// The text of the new array or of the changed one.
+fn made_array(alloc: Global, given: &str) -> Result<String, AllocError> {
+    match given {
+        "changed" => said(alloc, changed_array(alloc), array_text),
+        _ => said(alloc, new_array(alloc), array_text),
+    }
+}
+
 #[test]
-fn an_array_of_version_3_is_made_of_its_parts(rt: HostRuntime) {
-    let alloc = rt.alloc();
-    let wanted =
-        r#"{"chunk_grid":{"configuration":{"chunk_shape":[2]},"name":"regular"},"chunk_key_encoding":{"configuration":{"separator":"/"},"name":"default"},"codecs":["crc32c"],"data_type":"int8","fill_value":7,"node_type":"array","shape":[5],"zarr_format":3}"#;
-    assert_says(&rt, alloc, "new", new_array(alloc), array_text, wanted);
-    let wanted =
-        r#"{"attributes":{"k":1},"chunk_grid":{"configuration":{"chunk_shape":[2]},"name":"regular"},"chunk_key_encoding":"other","codecs":["crc32c"],"data_type":"int8","fill_value":7,"node_type":"array","shape":[5],"zarr_format":3}"#;
-    assert_says(
-        &rt,
-        alloc,
-        "changed",
-        changed_array(alloc),
-        array_text,
-        wanted,
-    );
+fn an_array_of_version_3_is_made_of_its_parts(rt: HostRuntime) -> Result<(), Fail> {
+    check_rows(rt.alloc(), MADE, made_array)
 }
 
 // ---- laws

@@ -1,9 +1,10 @@
 //! The calls that take documents apart and put them together, and the forms of members, one by one.
 
 use crate::answers::said;
+use crate::documents::agreed;
 use serde_json::{Map, Value};
 use std::alloc::{AllocError, Global};
-use std::process::Abort;
+use std::test::Fail;
 use zarrs_fault::MetadataFault;
 use zarrs_form::{
     AdditionalFieldsV3, ArrayMetadataV2Order, ChunkKeySeparator, DataTypeMetadataV2, Duplicate,
@@ -12,6 +13,7 @@ use zarrs_form::{
     members_have_float, open_table, optional, parse, put_member, put_text, put_unless, refuse,
     required, take_member, take_null, write_last, write_row, write_unless,
 };
+use zarrs_rows_table::{check_rows, fields};
 
 // ---- what the tests share
 
@@ -23,19 +25,16 @@ fn value_of(alloc: Global, text: &str) -> Value {
     }
 }
 
+// The number that a text is; 0 where it is none.
+fn number_of(alloc: Global, text: &str) -> u64 {
+    value_of(alloc, text).as_u64().unwrap_or(0)
+}
+
 // The members of the object that a text is; none where it is no object.
 fn members_of(alloc: Global, text: &str) -> Map<String, Value> {
     match value_of(alloc, text) {
         Value::Object(members) => members,
         _other => Map::new(alloc),
-    }
-}
-
-// Asserts that a text was made, and that it is this one.
-fn assert_text<R: Abort>(rt: &R, answer: Result<String, AllocError>, wanted: &str) {
-    match answer {
-        Ok(text) => assert_eq!(rt; text.as_str(), wanted),
-        Err(_) => assert!(rt; false, "no memory: {wanted}"),
     }
 }
 
@@ -80,29 +79,10 @@ fn required_says(alloc: Global, text: &str, name: &'static str) -> Result<String
     and_left(alloc, said(alloc, found, number_text), members)
 }
 
-#[test]
-fn a_required_member_is_there_in_its_form(rt: HostRuntime) {
-    let alloc = rt.alloc();
-    assert_text(&rt, required_says(alloc, r#"{"a":1}"#, "a"), "1 {}");
-    let answer = required_says(alloc, r#"{"a":1}"#, "b");
-    assert_text(&rt, answer, r#"missing member b {"a":1}"#);
-    let answer = required_says(alloc, r#"{"a":"x","b":2}"#, "a");
-    assert_text(&rt, answer, r#"bad member a {"b":2}"#);
-}
-
 fn optional_says(alloc: Global, text: &str, name: &'static str) -> Result<String, AllocError> {
     let mut members = members_of(alloc, text);
     let found: Result<u64, MetadataFault> = optional(alloc, &mut members, name, 7);
     and_left(alloc, said(alloc, found, number_text), members)
-}
-
-#[test]
-fn an_optional_member_may_be_absent(rt: HostRuntime) {
-    let alloc = rt.alloc();
-    assert_text(&rt, optional_says(alloc, r#"{"a":1}"#, "a"), "1 {}");
-    assert_text(&rt, optional_says(alloc, r#"{"a":1}"#, "b"), r#"7 {"a":1}"#);
-    let answer = optional_says(alloc, r#"{"a":null}"#, "a");
-    assert_text(&rt, answer, "bad member a {}");
 }
 
 fn attributes_say(alloc: Global, text: &str) -> Result<String, AllocError> {
@@ -111,48 +91,55 @@ fn attributes_say(alloc: Global, text: &str) -> Result<String, AllocError> {
     and_left(alloc, said(alloc, found, object_text), members)
 }
 
-#[test]
-fn absent_attributes_are_empty(rt: HostRuntime) {
-    let alloc = rt.alloc();
-    let answer = attributes_say(alloc, r#"{"attributes":{"k":1},"b":2}"#);
-    assert_text(&rt, answer, r#"{"k":1} {"b":2}"#);
-    assert_text(&rt, attributes_say(alloc, r#"{"b":2}"#), r#"{} {"b":2}"#);
-    let answer = attributes_say(alloc, r#"{"attributes":[]}"#);
-    assert_text(&rt, answer, "bad member attributes {}");
-}
-
 fn chunk_lengths_say(alloc: Global, text: &str) -> Result<String, AllocError> {
     let mut members = members_of(alloc, text);
     let found = chunk_lengths(alloc, &mut members, "chunks");
     and_left(alloc, said(alloc, found, numbers_text), members)
 }
 
+// What is taken of a document's members, by the word before it, and what is left of them.
+fn taken_says(alloc: Global, given: &str) -> Result<String, AllocError> {
+    let (kind, text) = fields(given);
+    match kind {
+        "required a" => required_says(alloc, text, "a"),
+        "required b" => required_says(alloc, text, "b"),
+        "optional a" => optional_says(alloc, text, "a"),
+        "optional b" => optional_says(alloc, text, "b"),
+        "attributes" => attributes_say(alloc, text),
+        "chunk lengths" => chunk_lengths_say(alloc, text),
+        _ => String::from_str(alloc, "nothing of the kind"),
+    }
+}
+
+// What is taken of members by its name.
+const TAKEN: &str = r#"
+# a required member is there in its form
+required a | {"a":1} => 1 {}
+required b | {"a":1} => missing member b {"a":1}
+required a | {"a":"x","b":2} => bad member a {"b":2}
+# an optional member may be absent
+optional a | {"a":1} => 1 {}
+optional b | {"a":1} => 7 {"a":1}
+optional a | {"a":null} => bad member a {}
+# absent attributes are empty
+attributes | {"attributes":{"k":1},"b":2} => {"k":1} {"b":2}
+attributes | {"b":2} => {} {"b":2}
+attributes | {"attributes":[]} => bad member attributes {}
+# no chunk length is 0
+chunk lengths | {"chunks":[2,3]} => [2, 3] {}
+chunk lengths | {"chunks":[2,0]} => bad member chunks {}
+chunk lengths | {"chunks":2} => bad member chunks {}
+chunk lengths | {} => missing member chunks {}
+"#;
+
 #[test]
-fn no_chunk_length_is_0(rt: HostRuntime) {
-    let alloc = rt.alloc();
-    let answer = chunk_lengths_say(alloc, r#"{"chunks":[2,3]}"#);
-    assert_text(&rt, answer, "[2, 3] {}");
-    let answer = chunk_lengths_say(alloc, r#"{"chunks":[2,0]}"#);
-    assert_text(&rt, answer, "bad member chunks {}");
-    let answer = chunk_lengths_say(alloc, r#"{"chunks":2}"#);
-    assert_text(&rt, answer, "bad member chunks {}");
-    assert_text(
-        &rt,
-        chunk_lengths_say(alloc, "{}"),
-        "missing member chunks {}",
-    );
+fn members_are_taken_out_by_their_names(rt: HostRuntime) -> Result<(), Fail> {
+    check_rows(rt.alloc(), TAKEN, taken_says)
 }
 
 fn has_zero_says(alloc: Global, length: u64) -> Result<String, AllocError> {
     let lengths = List::new(vec![in alloc; 1, length]?);
     format!(in alloc; "{}", has_zero(&lengths))
-}
-
-#[test]
-fn a_length_of_0_is_found(rt: HostRuntime) {
-    let alloc = rt.alloc();
-    assert_text(&rt, has_zero_says(alloc, 0), "true");
-    assert_text(&rt, has_zero_says(alloc, 2), "false");
 }
 
 // The text of what was found, and what there was none of.
@@ -180,32 +167,43 @@ fn take_null_leaves(alloc: Global, text: &str, name: &str) -> Result<String, All
     Value::Object(members).to_string(alloc)
 }
 
+// What is found of members, or of lengths, by the word before them.
+fn found_says(alloc: Global, given: &str) -> Result<String, AllocError> {
+    let (kind, text) = fields(given);
+    match kind {
+        "length" => has_zero_says(alloc, number_of(alloc, text)),
+        "member b" => member_says(alloc, text, "b"),
+        "taken b" => take_member_says(alloc, text, "b"),
+        "null a" => take_null_leaves(alloc, text, "a"),
+        _ => String::from_str(alloc, "nothing of the kind"),
+    }
+}
+
+// What is found of members and of lengths.
+const FOUND: &str = r#"
+# a length of 0 is found
+length | 0 => true
+length | 2 => false
+# a member is found by its name
+member b | {"a":1,"b":2} => 2
+member b | {"a":1} => none
+# what is taken leaves the others
+taken b | {"a":1,"b":2} => 2 {"a":1}
+taken b | {"a":1} => none {"a":1}
+# null is taken, and no other value
+null a | {"a":null} => {}
+null a | {"a":1,"b":null} => {"a":1,"b":null}
+"#;
+
 #[test]
-fn a_member_is_found_by_its_name(rt: HostRuntime) {
-    let alloc = rt.alloc();
-    assert_text(&rt, member_says(alloc, r#"{"a":1,"b":2}"#, "b"), "2");
-    assert_text(&rt, member_says(alloc, r#"{"a":1}"#, "b"), "none");
-    let answer = take_member_says(alloc, r#"{"a":1,"b":2}"#, "b");
-    assert_text(&rt, answer, r#"2 {"a":1}"#);
-    let answer = take_member_says(alloc, r#"{"a":1}"#, "b");
-    assert_text(&rt, answer, r#"none {"a":1}"#);
-    assert_text(&rt, take_null_leaves(alloc, r#"{"a":null}"#, "a"), "{}");
-    let answer = take_null_leaves(alloc, r#"{"a":1,"b":null}"#, "a");
-    assert_text(&rt, answer, r#"{"a":1,"b":null}"#);
+fn a_member_is_found_by_its_name(rt: HostRuntime) -> Result<(), Fail> {
+    check_rows(rt.alloc(), FOUND, found_says)
 }
 
 // ---- documents, and what is asked of them
 
 fn parse_says(alloc: Global, text: &str) -> Result<String, AllocError> {
     said(alloc, parse(alloc, text.as_bytes()), value_text)
-}
-
-#[test]
-fn bytes_are_json_or_not(rt: HostRuntime) {
-    let alloc = rt.alloc();
-    assert_text(&rt, parse_says(alloc, " [1, true] "), "[1,true]");
-    assert_text(&rt, parse_says(alloc, "[1,"), "not JSON");
-    assert_text(&rt, parse_says(alloc, ""), "not JSON");
 }
 
 fn members_text(members: &Map<String, Value>, alloc: Global) -> Result<String, AllocError> {
@@ -226,20 +224,6 @@ fn document_copy_says(alloc: Global, text: &str) -> Result<String, AllocError> {
     said(alloc, document_copy(&value), members_text)
 }
 
-#[test]
-fn a_document_is_an_object_of_whole_numbers(rt: HostRuntime) {
-    let alloc = rt.alloc();
-    for (text, wanted) in [
-        (r#"{"a":-1,"b":[]}"#, "a=-1;b=[];"),
-        (r#"{"a":[0.5]}"#, "unsupported number"),
-        ("0.5", "unsupported number"),
-        ("[1]", "not an object"),
-    ] {
-        assert_text(&rt, document_says(alloc, text), wanted);
-        assert_text(&rt, document_copy_says(alloc, text), wanted);
-    }
-}
-
 fn format_says(alloc: Global, text: &str) -> Result<String, AllocError> {
     let members = members_of(alloc, text);
     said(alloc, ask_format(&members, 3), unit_text)
@@ -255,29 +239,52 @@ fn refuse_says(alloc: Global, text: &str) -> Result<String, AllocError> {
     said(alloc, refuse(&members, "shape"), unit_text)
 }
 
+// What a document reads as, or what it is refused with, by the word before it.
+fn asked_says(alloc: Global, given: &str) -> Result<String, AllocError> {
+    let (kind, text) = fields(given);
+    match kind {
+        "bytes" => parse_says(alloc, text),
+        "document" => agreed(
+            alloc,
+            document_says(alloc, text),
+            document_copy_says(alloc, text),
+        ),
+        "format" => format_says(alloc, text),
+        "node type" => node_type_says(alloc, text),
+        "no shape" => refuse_says(alloc, text),
+        _ => String::from_str(alloc, "nothing of the kind"),
+    }
+}
+
+// What is asked of documents.
+const ASKED: &str = r#"
+# bytes are JSON or not
+bytes |  [1, true]  => [1,true]
+bytes | [1, => not JSON
+bytes | => not JSON
+# a document, and its copy, is an object of whole numbers
+document | {"a":-1,"b":[]} => a=-1;b=[];
+document | {"a":[0.5]} => unsupported number
+document | 0.5 => unsupported number
+document | [1] => not an object
+# the format is 3
+format | {"zarr_format":3} => ok
+format | {"zarr_format":2} => wrong zarr_format
+format | {"zarr_format":"3"} => wrong zarr_format
+format | {} => wrong zarr_format
+# the node type is that of a group
+node type | {"node_type":"group"} => ok
+node type | {"node_type":"array"} => wrong node_type
+node type | {"node_type":3} => wrong node_type
+node type | {} => wrong node_type
+# there is no shape
+no shape | {"a":1} => ok
+no shape | {"shape":1} => bad member shape
+"#;
+
 #[test]
-fn format_node_type_and_absence_are_asked(rt: HostRuntime) {
-    let alloc = rt.alloc();
-    assert_text(&rt, format_says(alloc, r#"{"zarr_format":3}"#), "ok");
-    let wanted = "wrong zarr_format";
-    assert_text(&rt, format_says(alloc, r#"{"zarr_format":2}"#), wanted);
-    assert_text(&rt, format_says(alloc, r#"{"zarr_format":"3"}"#), wanted);
-    assert_text(&rt, format_says(alloc, "{}"), wanted);
-    let wanted = "wrong node_type";
-    assert_text(&rt, node_type_says(alloc, r#"{"node_type":"group"}"#), "ok");
-    assert_text(
-        &rt,
-        node_type_says(alloc, r#"{"node_type":"array"}"#),
-        wanted,
-    );
-    assert_text(&rt, node_type_says(alloc, r#"{"node_type":3}"#), wanted);
-    assert_text(&rt, node_type_says(alloc, "{}"), wanted);
-    assert_text(&rt, refuse_says(alloc, r#"{"a":1}"#), "ok");
-    assert_text(
-        &rt,
-        refuse_says(alloc, r#"{"shape":1}"#),
-        "bad member shape",
-    );
+fn documents_answer_what_is_asked(rt: HostRuntime) -> Result<(), Fail> {
+    check_rows(rt.alloc(), ASKED, asked_says)
 }
 
 // ---- what is put stands at its name
@@ -300,16 +307,32 @@ fn put_text_leaves(alloc: Global, name: &str) -> Result<String, AllocError> {
     Value::Object(members).to_string(alloc)
 }
 
+// What the members `{"a":1}` are once this was put.
+fn put_says(alloc: Global, given: &str) -> Result<String, AllocError> {
+    match given {
+        "2 at b" => put_member_leaves(alloc, Some(&2)),
+        "nothing at b" => put_member_leaves(alloc, None),
+        "2 at a, not empty" => put_unless_leaves(alloc, false),
+        "2 at a, empty" => put_unless_leaves(alloc, true),
+        "a text at a" => put_text_leaves(alloc, "a"),
+        "a text at b" => put_text_leaves(alloc, "b"),
+        _ => String::from_str(alloc, "nothing of the kind"),
+    }
+}
+
+// What is put to the members `{"a":1}`.
+const PUT: &str = r#"
+2 at b => {"a":1,"b":2}
+nothing at b => {"a":1}
+2 at a, not empty => {"a":2}
+2 at a, empty => {"a":1}
+a text at a => {"a":" x"}
+a text at b => {"a":1,"b":" x"}
+"#;
+
 #[test]
-fn what_is_put_stands_at_its_name(rt: HostRuntime) {
-    let alloc = rt.alloc();
-    let answer = put_member_leaves(alloc, Some(&2));
-    assert_text(&rt, answer, r#"{"a":1,"b":2}"#);
-    assert_text(&rt, put_member_leaves(alloc, None), r#"{"a":1}"#);
-    assert_text(&rt, put_unless_leaves(alloc, false), r#"{"a":2}"#);
-    assert_text(&rt, put_unless_leaves(alloc, true), r#"{"a":1}"#);
-    assert_text(&rt, put_text_leaves(alloc, "a"), r#"{"a":" x"}"#);
-    assert_text(&rt, put_text_leaves(alloc, "b"), r#"{"a":1,"b":" x"}"#);
+fn what_is_put_stands_at_its_name(rt: HostRuntime) -> Result<(), Fail> {
+    check_rows(rt.alloc(), PUT, put_says)
 }
 
 // ---- additional fields, and tests of members
@@ -322,14 +345,6 @@ fn fields_text(fields: &AdditionalFieldsV3, alloc: Global) -> Result<String, All
 fn fields_say(alloc: Global, text: &str) -> Result<String, AllocError> {
     let members = members_of(alloc, text);
     said(alloc, fields_of(alloc, members, &["a", "b"]), fields_text)
-}
-
-#[test]
-fn fields_are_the_members_of_no_own_name(rt: HostRuntime) {
-    let alloc = rt.alloc();
-    let answer = fields_say(alloc, r#"{"a":1,"b":2,"c":{"a":3}}"#);
-    assert_text(&rt, answer, r#"{"c":{"a":3}}"#);
-    assert_text(&rt, fields_say(alloc, "{}"), "{}");
 }
 
 // Whether a field has one of two names, whether one has a fraction, and whether the one named z is null.
@@ -347,18 +362,6 @@ fn fields_tests_say(alloc: Global, text: &str) -> Result<String, AllocError> {
     said(alloc, fields_of(alloc, members, &[]), fields_tests)
 }
 
-#[test]
-fn fields_are_tested(rt: HostRuntime) {
-    let alloc = rt.alloc();
-    for (text, wanted) in [
-        ("{}", "false false false"),
-        (r#"{"y":1,"z":null}"#, "true false true"),
-        (r#"{" x":[0.5],"z":0}"#, "false true false"),
-    ] {
-        assert_text(&rt, fields_tests_say(alloc, text), wanted);
-    }
-}
-
 fn members_tests_say(alloc: Global, text: &str) -> Result<String, AllocError> {
     let members = members_of(alloc, text);
     let found = members_have_float(&members);
@@ -367,17 +370,35 @@ fn members_tests_say(alloc: Global, text: &str) -> Result<String, AllocError> {
     format!(in alloc; "{own} {found} {}", object.has_float())
 }
 
+// What fields and members say of themselves, by the word before them.
+fn tested_says(alloc: Global, given: &str) -> Result<String, AllocError> {
+    let (kind, text) = fields(given);
+    match kind {
+        "fields" => fields_say(alloc, text),
+        "fields tested" => fields_tests_say(alloc, text),
+        "members tested" => members_tests_say(alloc, text),
+        _ => String::from_str(alloc, "nothing of the kind"),
+    }
+}
+
+// Additional fields, and tests of them and of members.
+const TESTED: &str = r#"
+# fields are the members of no own name
+fields | {"a":1,"b":2,"c":{"a":3}} => {"c":{"a":3}}
+fields | {} => {}
+# names x and y, fractions, and null at z
+fields tested | {} => false false false
+fields tested | {"y":1,"z":null} => true false true
+fields tested | {" x":[0.5],"z":0} => false true false
+# names x and y, and fractions
+members tested | {} => false false false
+members tested | {"y":1} => true false false
+members tested | {"xy":[{"a":0.5}]} => false true true
+"#;
+
 #[test]
-fn members_are_tested(rt: HostRuntime) {
-    let alloc = rt.alloc();
-    assert_text(&rt, members_tests_say(alloc, "{}"), "false false false");
-    assert_text(
-        &rt,
-        members_tests_say(alloc, r#"{"y":1}"#),
-        "true false false",
-    );
-    let answer = members_tests_say(alloc, r#"{"xy":[{"a":0.5}]}"#);
-    assert_text(&rt, answer, "false true true");
+fn fields_and_members_are_tested(rt: HostRuntime) -> Result<(), Fail> {
+    check_rows(rt.alloc(), TESTED, tested_says)
 }
 
 // ---- the text of a table
@@ -390,6 +411,7 @@ fn table_of_two(alloc: Global) -> Result<String, AllocError> {
     Ok(out)
 }
 
+// A line end that is not escaped would be told by its name.
 fn table_of_absent(alloc: Global) -> Result<String, AllocError> {
     let mut out = open_table(alloc)?;
     let none: Option<&u64> = None;
@@ -397,15 +419,29 @@ fn table_of_absent(alloc: Global) -> Result<String, AllocError> {
     write_unless(alloc, &mut out, "b", true, &2u64)?;
     write_unless(alloc, &mut out, "c\n", false, &3u64)?;
     write_last(alloc, &mut out, "d", &false)?;
-    Ok(out)
+    out.replace(alloc, '\n', "a line end")
 }
 
+// The table with these rows.
+fn written_table(alloc: Global, given: &str) -> Result<String, AllocError> {
+    match given {
+        "open" => open_table(alloc),
+        "two rows" => table_of_two(alloc),
+        "absent rows" => table_of_absent(alloc),
+        _ => String::from_str(alloc, "no such table"),
+    }
+}
+
+// Tables as they are written.
+const TABLES: &str = r#"
+open => {
+two rows => {"a":1,"b":"x\"y"}
+absent rows => {"c\n":3,"d":false}
+"#;
+
 #[test]
-fn a_table_is_written_row_by_row(rt: HostRuntime) {
-    let alloc = rt.alloc();
-    assert_text(&rt, open_table(alloc), "{");
-    assert_text(&rt, table_of_two(alloc), "{\"a\":1,\"b\":\"x\\\"y\"}");
-    assert_text(&rt, table_of_absent(alloc), "{\"c\\n\":3,\"d\":false}");
+fn a_table_is_written_row_by_row(rt: HostRuntime) -> Result<(), Fail> {
+    check_rows(rt.alloc(), TABLES, written_table)
 }
 
 // ---- forms
@@ -434,76 +470,71 @@ fn plain_form_says<T: Form + Drop>(alloc: Global, text: &str) -> Result<String, 
     }
 }
 
-#[test]
-fn numbers_texts_and_objects_have_their_forms(rt: HostRuntime) {
-    let alloc = rt.alloc();
-    assert_text(&rt, form_says::<u64>(alloc, "5"), "5 5 true");
-    assert_text(&rt, form_says::<u64>(alloc, "-5"), "another form");
-    let answer = form_says::<Text>(alloc, "\"a\\\\b\"");
-    assert_text(&rt, answer, "\"a\\\\b\" \"a\\\\b\" true");
-    assert_text(&rt, form_says::<Text>(alloc, "5"), "another form");
-    let answer = form_says::<Object>(alloc, r#"{"k":[1]}"#);
-    assert_text(&rt, answer, r#"{"k":[1]} {"k":[1]} true"#);
-    assert_text(&rt, form_says::<Object>(alloc, "[]"), "another form");
-    let answer = form_says::<Json>(alloc, "[null,0.5]");
-    assert_text(&rt, answer, "[null,0.5] [null,0.5] false");
+// What a row's text reads as in the form of the type before it.
+fn type_says(alloc: Global, given: &str) -> Result<String, AllocError> {
+    let (kind, text) = fields(given);
+    match kind {
+        "number" => form_says::<u64>(alloc, text),
+        "text" => form_says::<Text>(alloc, text),
+        "object" => form_says::<Object>(alloc, text),
+        "item" => form_says::<Json>(alloc, text),
+        "number or null" => form_says::<Option<u64>>(alloc, text),
+        "numbers" => form_says::<List<u64>>(alloc, text),
+        "codec" => form_says::<MetadataV2>(alloc, text),
+        "extension" => form_says::<MetadataV3>(alloc, text),
+        _ => plain_type_says(alloc, kind, text),
+    }
 }
 
-#[test]
-fn options_and_lists_have_the_form_of_their_items(rt: HostRuntime) {
-    let alloc = rt.alloc();
-    let answer = form_says::<Option<u64>>(alloc, "null");
-    assert_text(&rt, answer, "null null true");
-    assert_text(&rt, form_says::<Option<u64>>(alloc, "5"), "5 5 true");
-    let answer = form_says::<Option<u64>>(alloc, r#""5""#);
-    assert_text(&rt, answer, "another form");
-    let answer = form_says::<List<u64>>(alloc, "[1,2]");
-    assert_text(&rt, answer, "[1,2] [1,2] true");
-    assert_text(&rt, form_says::<List<u64>>(alloc, "[]"), "[] [] true");
-    let answer = form_says::<List<u64>>(alloc, "[1,null]");
-    assert_text(&rt, answer, "another form");
+// The same of the types whose values are not copied.
+fn plain_type_says(alloc: Global, kind: &str, text: &str) -> Result<String, AllocError> {
+    match kind {
+        "truth" => plain_form_says::<bool>(alloc, text),
+        "fill value" => plain_form_says::<FillValueMetadata>(alloc, text),
+        "order" => plain_form_says::<ArrayMetadataV2Order>(alloc, text),
+        "separator" => plain_form_says::<ChunkKeySeparator>(alloc, text),
+        "data type" => plain_form_says::<DataTypeMetadataV2>(alloc, text),
+        _ => String::from_str(alloc, "no such type"),
+    }
 }
 
-#[test]
-fn codecs_and_extensions_have_their_forms(rt: HostRuntime) {
-    let alloc = rt.alloc();
-    let answer = form_says::<MetadataV2>(alloc, r#"{"id":"zlib","level":1}"#);
-    let wanted = r#"{"id":"zlib","level":1} {"id":"zlib","level":1} true"#;
-    assert_text(&rt, answer, wanted);
-    let answer = form_says::<MetadataV2>(alloc, r#"{"level":1}"#);
-    assert_text(&rt, answer, "another form");
-    let answer = form_says::<MetadataV3>(alloc, r#"{"name":"t"}"#);
-    assert_text(&rt, answer, r#""t" "t" true"#);
-    let answer = form_says::<MetadataV3>(alloc, r#"{"configuration":{}}"#);
-    assert_text(&rt, answer, "another form");
-}
+// Values in the forms of their types: the value written, the text written, and whether it is plain.
+const FORMS: &str = r#"
+# numbers, texts and objects
+number | 5 => 5 5 true
+number | -5 => another form
+text | "a\\b" => "a\\b" "a\\b" true
+text | 5 => another form
+object | {"k":[1]} => {"k":[1]} {"k":[1]} true
+object | [] => another form
+item | [null,0.5] => [null,0.5] [null,0.5] false
+# options and lists have the form of their items
+number or null | null => null null true
+number or null | 5 => 5 5 true
+number or null | "5" => another form
+numbers | [1,2] => [1,2] [1,2] true
+numbers | [] => [] [] true
+numbers | [1,null] => another form
+# codecs and extensions
+codec | {"id":"zlib","level":1} => {"id":"zlib","level":1} {"id":"zlib","level":1} true
+codec | {"level":1} => another form
+extension | {"name":"t"} => "t" "t" true
+extension | {"configuration":{}} => another form
+# truth values and fill values
+truth | true => true true true
+truth | 0 => another form
+fill value | null => null null true
+fill value | 0.5 => 0.5 0.5 false
+# arrays of version 2 have forms of their own
+order | "F" => "F" "F" true
+order | "f" => another form
+separator | null => "." "." true
+separator | "-" => another form
+data type | "<f8" => "<f8" "<f8" true
+data type | {} => another form
+"#;
 
 #[test]
-fn truth_values_and_fill_values_have_their_forms(rt: HostRuntime) {
-    let alloc = rt.alloc();
-    let answer = plain_form_says::<bool>(alloc, "true");
-    assert_text(&rt, answer, "true true true");
-    let answer = plain_form_says::<bool>(alloc, "0");
-    assert_text(&rt, answer, "another form");
-    let answer = plain_form_says::<FillValueMetadata>(alloc, "null");
-    assert_text(&rt, answer, "null null true");
-    let answer = plain_form_says::<FillValueMetadata>(alloc, "0.5");
-    assert_text(&rt, answer, "0.5 0.5 false");
-}
-
-#[test]
-fn arrays_of_version_2_have_forms_of_their_own(rt: HostRuntime) {
-    let alloc = rt.alloc();
-    let answer = plain_form_says::<ArrayMetadataV2Order>(alloc, r#""F""#);
-    assert_text(&rt, answer, r#""F" "F" true"#);
-    let answer = plain_form_says::<ArrayMetadataV2Order>(alloc, r#""f""#);
-    assert_text(&rt, answer, "another form");
-    let answer = plain_form_says::<ChunkKeySeparator>(alloc, "null");
-    assert_text(&rt, answer, r#""." "." true"#);
-    let answer = plain_form_says::<ChunkKeySeparator>(alloc, r#""-""#);
-    assert_text(&rt, answer, "another form");
-    let answer = plain_form_says::<DataTypeMetadataV2>(alloc, r#""<f8""#);
-    assert_text(&rt, answer, r#""<f8" "<f8" true"#);
-    let answer = plain_form_says::<DataTypeMetadataV2>(alloc, "{}");
-    assert_text(&rt, answer, "another form");
+fn types_have_their_forms(rt: HostRuntime) -> Result<(), Fail> {
+    check_rows(rt.alloc(), FORMS, type_says)
 }

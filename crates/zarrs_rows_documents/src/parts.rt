@@ -1,10 +1,9 @@
 //! The parts of metadata: texts, lists, objects, fields, and what is not plain of them.
 
-use crate::answers::{A2, A3, made, printed, said};
-use crate::asserts::assert_says;
+use crate::answers::{A2, made, printed, said};
+use crate::documents::agreed;
 use serde_json::{Map, Value};
 use std::alloc::{AllocError, Global};
-use std::process::Abort;
 use std::test::Fail;
 use zarrs_fault::MetadataFault;
 use zarrs_meta::{
@@ -12,6 +11,7 @@ use zarrs_meta::{
     Endianness, FillValueMetadata, GroupMetadataV2, GroupMetadataV3, Json, List, MetadataV2,
     MetadataV3, Object, Text,
 };
+use zarrs_rows_table::{check_rows, fields};
 
 // The value that a text is; null where it is none.
 fn value_of(alloc: Global, text: &str) -> Value {
@@ -19,6 +19,11 @@ fn value_of(alloc: Global, text: &str) -> Value {
         Ok(value) => value,
         Err(_) => Value::Null,
     }
+}
+
+// The number that a text is; 0 where it is none.
+fn number_of(alloc: Global, text: &str) -> u64 {
+    value_of(alloc, text).as_u64().unwrap_or(0)
 }
 
 // The object that a text is; the empty one where it is none, or where there is no memory.
@@ -43,25 +48,19 @@ fn text_copy(text: &Text, alloc: Global) -> Result<String, AllocError> {
     said(alloc, text.try_clone(alloc), text_text)
 }
 
-#[test]
-fn texts_go_in_and_out(rt: HostRuntime) -> Result<(), Fail> {
-    let alloc = rt.alloc();
-    let text = Text::new(Text::from_str(alloc, "a")?.into_string());
-    assert_says(&rt, alloc, "text", made(text), text_copy, "a");
-    Ok(())
+fn text_says(alloc: Global, given: &str) -> Result<String, AllocError> {
+    let text = Text::new(Text::from_str(alloc, given)?.into_string());
+    said(alloc, made(text), text_copy)
 }
 
 fn list_text(list: &List<u64>, alloc: Global) -> Result<String, AllocError> {
     format!(in alloc; "{:?} {}", list.as_slice(), list.is_empty())
 }
 
-#[test]
-fn lists_go_in_and_out(rt: HostRuntime) -> Result<(), Fail> {
-    let alloc = rt.alloc();
-    let list: List<u64> = List::new(vec![in alloc; 7]?);
+fn list_says(alloc: Global, number: u64) -> Result<String, AllocError> {
+    let list: List<u64> = List::new(vec![in alloc; number]?);
     let list = List::new(list.into_vec());
-    assert_says(&rt, alloc, "list", made(list), list_text, "[7] false");
-    Ok(())
+    said(alloc, made(list), list_text)
 }
 
 fn object_text(object: &Object, alloc: Global) -> Result<String, AllocError> {
@@ -78,17 +77,10 @@ fn object_of_map(object: &Object, alloc: Global) -> Result<String, AllocError> {
     said(alloc, Object::from_map(alloc, members), object_text)
 }
 
-#[test]
-fn objects_go_in_and_out(rt: HostRuntime) -> Result<(), Fail> {
-    let alloc = rt.alloc();
-    let members = object_of(alloc, r#"{"k":1}"#).into_map(alloc)?;
-    let object = Object::from_map(alloc, members);
-    assert_says(&rt, alloc, "copy", object, object_copy, "1 false");
-    let object = made(object_of(alloc, r#"{"b":1,"a":2}"#));
-    assert_says(&rt, alloc, "of a map", object, object_of_map, "2 false");
-    let object = made(Object::new(alloc));
-    assert_says(&rt, alloc, "copy of none", object, object_copy, "0 true");
-    Ok(())
+// The object that the members of an object are, which are taken out of it.
+fn object_again(alloc: Global, text: &str) -> Result<String, AllocError> {
+    let members = object_of(alloc, text).into_map(alloc)?;
+    said(alloc, Object::from_map(alloc, members), object_copy)
 }
 
 // The members of an object in turn, each with its name.
@@ -96,7 +88,7 @@ fn members_text(object: &Object, alloc: Global) -> Result<String, AllocError> {
     let mut text = String::new(alloc);
     for member in object.as_slice() {
         let value = member.1.to_string(alloc)?;
-        text.push_str(format!(in alloc; "{}={value} ", member.0)?.as_str())?;
+        text.push_str(format!(in alloc; "{}={value};", member.0)?.as_str())?;
     }
     Ok(text)
 }
@@ -106,67 +98,6 @@ fn members_found(object: &Object, alloc: Global) -> Result<String, AllocError> {
     let found = object.get("k").and_then(Value::as_u64).unwrap_or(0);
     let missing = object.get("z").is_none();
     format!(in alloc; "{found} {missing} {}", object.len())
-}
-
-#[test]
-fn objects_show_their_members_in_the_order_of_names(rt: HostRuntime) {
-    let alloc = rt.alloc();
-    let object = made(object_of(alloc, r#"{"k":7,"b":[],"q":null}"#));
-    assert_says(
-        &rt,
-        alloc,
-        "members",
-        object,
-        members_text,
-        "b=[] k=7 q=null ",
-    );
-    let object = made(object_of(alloc, r#"{"q":0,"b":1,"k":7}"#));
-    assert_says(&rt, alloc, "found", object, members_found, "7 true 3");
-}
-
-// Puts a number at a name, and says what stood there before and what the object is then.
-fn with_member(
-    alloc: Global,
-    object: &mut Object,
-    name: &str,
-    value: u64,
-) -> Result<String, AllocError> {
-    let name = String::from_str(alloc, name)?;
-    let before = object.insert(name, Value::from(value))?;
-    let before = before.is_some();
-    format!(in alloc; "{before} {}", members_text(object, alloc)?)
-}
-
-// Takes the member of a name out, and says whether there was one and what the object is then.
-fn without_member(alloc: Global, object: &mut Object, name: &str) -> Result<String, AllocError> {
-    let taken = object.remove(name).is_some();
-    format!(in alloc; "{taken} {}", members_text(object, alloc)?)
-}
-
-#[test]
-fn members_are_put_and_taken_out(rt: HostRuntime) -> Result<(), Fail> {
-    let alloc = rt.alloc();
-    let mut object = Object::new(alloc);
-    for (name, value, wanted) in [
-        ("k", 1, "false k=1 "),
-        ("b", 2, "false b=2 k=1 "),
-        ("q", 3, "false b=2 k=1 q=3 "),
-        ("k", 4, "true b=2 k=4 q=3 "),
-    ] {
-        let said = with_member(alloc, &mut object, name, value)?;
-        assert_eq!(rt; said.as_str(), wanted);
-    }
-    for (name, wanted) in [
-        ("c", "false b=2 k=4 q=3 "),
-        ("b", "true k=4 q=3 "),
-        ("q", "true k=4 "),
-        ("k", "true "),
-        ("k", "false "),
-    ] {
-        let said = without_member(alloc, &mut object, name)?;
-        assert_eq!(rt; said.as_str(), wanted);
-    }
-    Ok(())
 }
 
 fn json_text(json: &Json, alloc: Global) -> Result<String, AllocError> {
@@ -185,21 +116,110 @@ fn fill_value_copy(fill_value: &FillValueMetadata, alloc: Global) -> Result<Stri
     said(alloc, fill_value.try_clone(alloc), fill_value_text)
 }
 
+// What a small part says, by the word before what it is made of.
+fn part_says(alloc: Global, given: &str) -> Result<String, AllocError> {
+    let (kind, text) = fields(given);
+    match kind {
+        "text" => text_says(alloc, text),
+        "list" => list_says(alloc, number_of(alloc, text)),
+        "object" => object_again(alloc, text),
+        "object of a map" => said(alloc, made(object_of(alloc, text)), object_of_map),
+        "new object" => said(alloc, made(Object::new(alloc)), object_copy),
+        "members" => said(alloc, made(object_of(alloc, text)), members_text),
+        "found" => said(alloc, made(object_of(alloc, text)), members_found),
+        _ => value_says(alloc, kind, number_of(alloc, text)),
+    }
+}
+
+// The same of what holds a number.
+fn value_says(alloc: Global, kind: &str, number: u64) -> Result<String, AllocError> {
+    match kind {
+        "item" => said(alloc, made(Json::new(Value::from(number))), json_copy),
+        "fill value" => said(
+            alloc,
+            made(FillValueMetadata::new(Value::from(number))),
+            fill_value_copy,
+        ),
+        "byte orders differ" => printed(&(Endianness::Little != Endianness::Big), alloc),
+        _ => String::from_str(alloc, "no such part"),
+    }
+}
+
+// Small parts.
+const PARTS: &str = r#"
+# texts, lists and objects go in and out
+text | a => a
+list | 7 => [7] false
+object | {"k":1} => 1 false
+object of a map | {"b":1,"a":2} => 2 false
+new object | => 0 true
+# objects show their members in the order of names
+members | {"k":7,"b":[],"q":null} => b=[];k=7;q=null;
+found | {"q":0,"b":1,"k":7} => 7 true 3
+# values go in and out
+item | 3 => 3
+fill value | 4 => 4
+byte orders differ => true
+"#;
+
 #[test]
-fn values_go_in_and_out(rt: HostRuntime) {
-    let alloc = rt.alloc();
-    let json = Json::new(Value::from(3u64));
-    assert_says(&rt, alloc, "item", made(json), json_copy, "3");
-    let fill_value = FillValueMetadata::new(Value::from(4u64));
-    assert_says(
-        &rt,
-        alloc,
-        "fill value",
-        made(fill_value),
-        fill_value_copy,
-        "4",
-    );
-    assert!(rt; Endianness::Little != Endianness::Big);
+fn parts_go_in_and_out(rt: HostRuntime) -> Result<(), Fail> {
+    check_rows(rt.alloc(), PARTS, part_says)
+}
+
+// Puts a number at a name, and says what stood there before and what the object is then.
+fn with_member(
+    alloc: Global,
+    object: &mut Object,
+    name: &str,
+    value: u64,
+) -> Result<String, AllocError> {
+    let name = String::from_str(alloc, name)?;
+    let before = object.insert(name, Value::from(value))?;
+    let before = before.is_some();
+    format!(in alloc; "{before} [{}]", members_text(object, alloc)?)
+}
+
+// Takes the member of a name out, and says whether there was one and what the object is then.
+fn without_member(alloc: Global, object: &mut Object, name: &str) -> Result<String, AllocError> {
+    let taken = object.remove(name).is_some();
+    format!(in alloc; "{taken} [{}]", members_text(object, alloc)?)
+}
+
+// One step: a number is put at a name, or the name alone is taken out.
+fn object_step(alloc: Global, object: &mut Object, step: &str) -> Result<String, AllocError> {
+    match step.split_once('=') {
+        Some((name, value)) => with_member(alloc, object, name, number_of(alloc, value)),
+        None => without_member(alloc, object, step),
+    }
+}
+
+// What the last of some steps says, the first of which meets an empty object.
+fn object_steps(alloc: Global, given: &str) -> Result<String, AllocError> {
+    let mut object = Object::new(alloc);
+    let mut last = String::new(alloc);
+    for step in given.split(' ') {
+        last = object_step(alloc, &mut object, step)?;
+    }
+    Ok(last)
+}
+
+// Members that are put and taken out: whether there was one before the last step, and all that there are behind it.
+const OBJECT_STEPS: &str = r#"
+k=1 => false [k=1;]
+k=1 b=2 => false [b=2;k=1;]
+k=1 b=2 q=3 => false [b=2;k=1;q=3;]
+k=1 b=2 q=3 k=4 => true [b=2;k=4;q=3;]
+k=1 b=2 q=3 k=4 c => false [b=2;k=4;q=3;]
+k=1 b=2 q=3 k=4 c b => true [k=4;q=3;]
+k=1 b=2 q=3 k=4 c b q => true [k=4;]
+k=1 b=2 q=3 k=4 c b q k => true []
+k=1 b=2 q=3 k=4 c b q k k => false []
+"#;
+
+#[test]
+fn members_are_put_and_taken_out(rt: HostRuntime) -> Result<(), Fail> {
+    check_rows(rt.alloc(), OBJECT_STEPS, object_steps)
 }
 
 // ---- additional fields
@@ -218,23 +238,12 @@ fn field_clone(field: &AdditionalFieldV3, alloc: Global) -> Result<String, Alloc
     said(alloc, field.clone(), field_text)
 }
 
-// Asserts what a new field holds, by its copy and by its clone.
-fn assert_field<R: Abort>(rt: &R, alloc: Global, given: &str, understood: bool, wanted: &str) {
+// What a new field holds, by its copy and by its clone.
+fn new_field_says(alloc: Global, given: &str, understood: bool) -> Result<String, AllocError> {
     let field = AdditionalFieldV3::new(alloc, value_of(alloc, given), understood);
-    assert_says(rt, alloc, given, field, field_copy, wanted);
+    let copy = said(alloc, field, field_copy);
     let field = AdditionalFieldV3::new(alloc, value_of(alloc, given), understood);
-    assert_says(rt, alloc, given, field, field_clone, wanted);
-}
-
-#[test]
-fn fields_say_whether_they_must_be_understood(rt: HostRuntime) {
-    let alloc = rt.alloc();
-    let given = r#"{"a":1,"must_understand":false}"#;
-    assert_field(&rt, alloc, given, true, r#"{"a":1} true"#);
-    let wanted = r#"{"a":1,"must_understand":false} false"#;
-    assert_field(&rt, alloc, r#"{"a":1}"#, false, wanted);
-    assert_field(&rt, alloc, "5", false, "5 true");
-    assert_field(&rt, alloc, "5", true, "5 true");
+    agreed(alloc, copy, said(alloc, field, field_clone))
 }
 
 // One field, of this name and value.
@@ -267,23 +276,34 @@ fn fields_copy(fields: &AdditionalFieldsV3, alloc: Global) -> Result<String, All
     said(alloc, fields.try_clone(alloc), fields_text)
 }
 
+// What a field or fields say, by the word before what they are made of.
+fn fields_say(alloc: Global, given: &str) -> Result<String, AllocError> {
+    let (kind, text) = fields(given);
+    match kind {
+        "must be understood" => new_field_says(alloc, text, true),
+        "may be passed over" => new_field_says(alloc, text, false),
+        "field of the name" => said(alloc, fields_of(alloc, text, Value::Null), fields_copy),
+        "no fields" => said(alloc, made(AdditionalFieldsV3::new(alloc)), fields_text),
+        _ => String::from_str(alloc, "no such field"),
+    }
+}
+
+// Additional fields.
+const FIELDS: &str = r#"
+# fields say whether they must be understood
+must be understood | {"a":1,"must_understand":false} => {"a":1} true
+may be passed over | {"a":1} => {"a":1,"must_understand":false} false
+may be passed over | 5 => 5 true
+must be understood | 5 => 5 true
+# how many there are, whether one has the name x, and whether there is none
+field of the name | x => 1 true false
+field of the name | y => 1 false false
+no fields => 0 false true
+"#;
+
 #[test]
-fn fields_go_in_and_out(rt: HostRuntime) {
-    let alloc = rt.alloc();
-    let fields = fields_of(alloc, "x", Value::Null);
-    assert_says(&rt, alloc, "copy", fields, fields_copy, "1 true false");
-    let fields = fields_of(alloc, "y", Value::Null);
-    assert_says(
-        &rt,
-        alloc,
-        "another copy",
-        fields,
-        fields_copy,
-        "1 false false",
-    );
-    let empty = AdditionalFieldsV3::new(alloc);
-    assert!(rt; empty.is_empty());
-    assert_eq!(rt; empty.len(), 0);
+fn fields_go_in_and_out(rt: HostRuntime) -> Result<(), Fail> {
+    check_rows(rt.alloc(), FIELDS, fields_say)
 }
 
 // The fields in turn, each with its name.
@@ -291,7 +311,7 @@ fn fields_shown(fields: &AdditionalFieldsV3, alloc: Global) -> Result<String, Al
     let mut text = String::new(alloc);
     for field in fields.as_slice() {
         let value = field.1.as_value().to_string(alloc)?;
-        text.push_str(format!(in alloc; "{}={value} ", field.0)?.as_str())?;
+        text.push_str(format!(in alloc; "{}={value};", field.0)?.as_str())?;
     }
     Ok(text)
 }
@@ -307,7 +327,7 @@ fn with_field(
     let name = String::from_str(alloc, name)?;
     let before = fields.insert(name, field)?;
     let before = before.is_some();
-    format!(in alloc; "{before} {}", fields_shown(fields, alloc)?)
+    format!(in alloc; "{before} [{}]", fields_shown(fields, alloc)?)
 }
 
 // Takes the field of a name out, and says whether there was one and what the fields are then.
@@ -317,26 +337,44 @@ fn without_field(
     name: &str,
 ) -> Result<String, AllocError> {
     let taken = fields.remove(name).is_some();
-    format!(in alloc; "{taken} {}", fields_shown(fields, alloc)?)
+    format!(in alloc; "{taken} [{}]", fields_shown(fields, alloc)?)
 }
+
+// One step: a number is put at a name, or the name alone is taken out.
+fn field_step(
+    alloc: Global,
+    fields: &mut AdditionalFieldsV3,
+    step: &str,
+) -> Result<String, AllocError> {
+    match step.split_once('=') {
+        Some((name, value)) => with_field(alloc, fields, name, number_of(alloc, value)),
+        None => without_field(alloc, fields, step),
+    }
+}
+
+// What the last of some steps says, the first of which meets no fields.
+fn field_steps(alloc: Global, given: &str) -> Result<String, AllocError> {
+    let mut fields = AdditionalFieldsV3::new(alloc);
+    let mut last = String::new(alloc);
+    for step in given.split(' ') {
+        last = field_step(alloc, &mut fields, step)?;
+    }
+    Ok(last)
+}
+
+// Fields that are put and taken out: whether there was one before the last step, and all that there are behind it.
+const FIELD_STEPS: &str = r#"
+y=1 => false [y=1;]
+y=1 x=2 => false [x=2;y=1;]
+y=1 x=2 y=3 => true [x=2;y=3;]
+y=1 x=2 y=3 z => false [x=2;y=3;]
+y=1 x=2 y=3 z x => true [y=3;]
+y=1 x=2 y=3 z x y => true []
+"#;
 
 #[test]
 fn fields_are_put_and_taken_out(rt: HostRuntime) -> Result<(), Fail> {
-    let alloc = rt.alloc();
-    let mut fields = AdditionalFieldsV3::new(alloc);
-    for (name, value, wanted) in [
-        ("y", 1, "false y=1 "),
-        ("x", 2, "false x=2 y=1 "),
-        ("y", 3, "true x=2 y=3 "),
-    ] {
-        let said = with_field(alloc, &mut fields, name, value)?;
-        assert_eq!(rt; said.as_str(), wanted);
-    }
-    for (name, wanted) in [("z", "false x=2 y=3 "), ("x", "true y=3 "), ("y", "true ")] {
-        let said = without_field(alloc, &mut fields, name)?;
-        assert_eq!(rt; said.as_str(), wanted);
-    }
-    Ok(())
+    check_rows(rt.alloc(), FIELD_STEPS, field_steps)
 }
 
 // ---- what is not plain
@@ -352,19 +390,6 @@ fn group_v2_plain(group: &GroupMetadataV2, alloc: Global) -> Result<String, Allo
     printed(&group.is_plain(), alloc)
 }
 
-#[test]
-fn some_groups_of_version_2_are_not_plain(rt: HostRuntime) {
-    let alloc = rt.alloc();
-    for (attributes, fields, wanted) in [
-        ("{}", "{}", "true"),
-        (r#"{"n":0.5}"#, "{}", "false"),
-        ("{}", r#"{"shape":1}"#, "false"),
-    ] {
-        let group = made(group_v2_of(alloc, attributes, fields));
-        assert_says(&rt, alloc, fields, group, group_v2_plain, wanted);
-    }
-}
-
 // The version 3 group with a null field of this name.
 fn group_v3_of(alloc: Global, name: &str) -> Result<GroupMetadataV3, AllocError> {
     match fields_of(alloc, name, Value::Null) {
@@ -378,20 +403,6 @@ fn group_v3_of(alloc: Global, name: &str) -> Result<GroupMetadataV3, AllocError>
 
 fn group_v3_plain(group: &GroupMetadataV3, alloc: Global) -> Result<String, AllocError> {
     printed(&group.is_plain(), alloc)
-}
-
-#[test]
-fn some_groups_of_version_3_are_not_plain(rt: HostRuntime) {
-    let alloc = rt.alloc();
-    for (name, wanted) in [
-        ("x", "true"),
-        ("consolidated_metadata", "false"),
-        ("attributes", "false"),
-        ("node_type", "false"),
-    ] {
-        let group = group_v3_of(alloc, name);
-        assert_says(&rt, alloc, name, group, group_v3_plain, wanted);
-    }
 }
 
 // An array with these chunks in place of its own.
@@ -412,16 +423,47 @@ fn array_v2_plain(array: &ArrayMetadataV2, alloc: Global) -> Result<String, Allo
     printed(&array.is_plain(), alloc)
 }
 
-#[test]
-fn a_chunk_length_of_0_is_not_plain(rt: HostRuntime) -> Result<(), Fail> {
-    let alloc = rt.alloc();
-    for (length, wanted) in [(1, "true"), (0, "false")] {
-        let chunks: Vec<u64> = vec![in alloc; length]?;
-        let array = ArrayMetadataV2::from_bytes(alloc, A2.as_bytes());
-        let array = with_chunks(array, chunks);
-        assert_says(&rt, alloc, "chunks", array, array_v2_plain, wanted);
+// Whether an array with chunks of this length is plain.
+fn chunks_plain(alloc: Global, length: u64) -> Result<String, AllocError> {
+    let chunks: Vec<u64> = vec![in alloc; length]?;
+    let array = ArrayMetadataV2::from_bytes(alloc, A2.as_bytes());
+    said(alloc, with_chunks(array, chunks), array_v2_plain)
+}
+
+// Whether metadata is plain, by the word before what it is made of.
+fn plain_says(alloc: Global, given: &str) -> Result<String, AllocError> {
+    let (kind, text) = fields(given);
+    match kind {
+        "attributes and fields" => {
+            let (attributes, others) = fields(text);
+            let group = made(group_v2_of(alloc, attributes, others));
+            said(alloc, group, group_v2_plain)
+        }
+        "null field" => said(alloc, group_v3_of(alloc, text), group_v3_plain),
+        "chunk length" => chunks_plain(alloc, number_of(alloc, text)),
+        _ => String::from_str(alloc, "nothing of the kind"),
     }
-    Ok(())
+}
+
+// What is plain, and what is not.
+const PLAIN: &str = r#"
+# groups of version 2
+attributes and fields | {} | {} => true
+attributes and fields | {"n":0.5} | {} => false
+attributes and fields | {} | {"shape":1} => false
+# groups of version 3
+null field | x => true
+null field | consolidated_metadata => false
+null field | attributes => false
+null field | node_type => false
+# arrays of version 2
+chunk length | 1 => true
+chunk length | 0 => false
+"#;
+
+#[test]
+fn some_metadata_is_not_plain(rt: HostRuntime) -> Result<(), Fail> {
+    check_rows(rt.alloc(), PLAIN, plain_says)
 }
 
 // ---- the fields of arrays
@@ -461,43 +503,6 @@ fn data_type_v2_copy(array: &ArrayMetadataV2, alloc: Global) -> Result<String, A
     said(alloc, array.dtype.try_clone(alloc), data_type_v2_text)
 }
 
-#[test]
-fn an_array_of_version_2_has_its_fields(rt: HostRuntime) {
-    let alloc = rt.alloc();
-    let text =
-        r#"{"chunks":[1000,1000],"compressor":{"id":"blosc","cname":"lz4","clevel":5,"shuffle":1},"dtype":"<f8","fill_value":"NaN","filters":null,"order":"F","shape":[10000,10000],"zarr_format":2}"#;
-    let array = ArrayMetadataV2::from_bytes(alloc, text.as_bytes());
-    let wanted = "[10000, 10000] [1000, 1000] Dot F";
-    assert_says(&rt, alloc, "fields", array, array_v2_fields, wanted);
-    let array = ArrayMetadataV2::from_bytes(alloc, text.as_bytes());
-    assert_says(&rt, alloc, "compressor", array, compressor_copy, "blosc 3");
-    let array = ArrayMetadataV2::from_bytes(alloc, text.as_bytes());
-    assert_says(
-        &rt,
-        alloc,
-        "data type",
-        array,
-        data_type_v2_copy,
-        "Simple <f8",
-    );
-}
-
-#[test]
-fn a_structured_data_type_is_kept(rt: HostRuntime) {
-    let alloc = rt.alloc();
-    let text =
-        r#"{"chunks":[1],"compressor":null,"dtype":[["r","|u1"],["g","|u1"]],"fill_value":null,"filters":null,"order":"C","shape":[1],"zarr_format":2}"#;
-    let array = ArrayMetadataV2::from_bytes(alloc, text.as_bytes());
-    assert_says(
-        &rt,
-        alloc,
-        "data type",
-        array,
-        data_type_v2_copy,
-        "Structured 2",
-    );
-}
-
 fn extension_text(extension: &MetadataV3, alloc: Global) -> Result<String, AllocError> {
     let has_configuration = extension.configuration.is_some();
     format!(in alloc; "{} {has_configuration}", extension.name.as_str())
@@ -511,25 +516,49 @@ fn chunk_grid_copy(array: &ArrayMetadataV3, alloc: Global) -> Result<String, All
     said(alloc, array.chunk_grid.try_clone(alloc), extension_text)
 }
 
+// What an array says of itself, or of the copy of a part, by the word before its text.
+fn array_says(alloc: Global, given: &str) -> Result<String, AllocError> {
+    let (kind, text) = fields(given);
+    match kind {
+        "data type of version 3" => said(
+            alloc,
+            ArrayMetadataV3::from_bytes(alloc, text.as_bytes()),
+            data_type_v3_copy,
+        ),
+        "chunk grid" => said(
+            alloc,
+            ArrayMetadataV3::from_bytes(alloc, text.as_bytes()),
+            chunk_grid_copy,
+        ),
+        _ => array_v2_says(alloc, kind, text.as_bytes()),
+    }
+}
+
+// The same of an array of version 2; its text where the word is another.
+fn array_v2_says(alloc: Global, kind: &str, bytes: &[u8]) -> Result<String, AllocError> {
+    let array = ArrayMetadataV2::from_bytes(alloc, bytes);
+    match kind {
+        "fields" => said(alloc, array, array_v2_fields),
+        "compressor" => said(alloc, array, compressor_copy),
+        "data type of version 2" => said(alloc, array, data_type_v2_copy),
+        _ => said(alloc, array, ArrayMetadataV2::to_text),
+    }
+}
+
+// The fields of arrays.
+const ARRAYS: &str = r#"
+# an array of version 2 has its fields
+fields | {"chunks":[1000,1000],"compressor":{"id":"blosc","cname":"lz4","clevel":5,"shuffle":1},"dtype":"<f8","fill_value":"NaN","filters":null,"order":"F","shape":[10000,10000],"zarr_format":2} => [10000, 10000] [1000, 1000] Dot F
+compressor | {"chunks":[1000,1000],"compressor":{"id":"blosc","cname":"lz4","clevel":5,"shuffle":1},"dtype":"<f8","fill_value":"NaN","filters":null,"order":"F","shape":[10000,10000],"zarr_format":2} => blosc 3
+data type of version 2 | {"chunks":[1000,1000],"compressor":{"id":"blosc","cname":"lz4","clevel":5,"shuffle":1},"dtype":"<f8","fill_value":"NaN","filters":null,"order":"F","shape":[10000,10000],"zarr_format":2} => Simple <f8
+# a structured data type is kept
+data type of version 2 | {"chunks":[1],"compressor":null,"dtype":[["r","|u1"],["g","|u1"]],"fill_value":null,"filters":null,"order":"C","shape":[1],"zarr_format":2} => Structured 2
+# an array of version 3 has its extensions
+data type of version 3 | {"chunk_grid":{"configuration":{"chunk_shape":[1]},"name":"regular"},"chunk_key_encoding":{"configuration":{"separator":"/"},"name":"default"},"codecs":[{"configuration":{"endian":"little"},"name":"bytes"}],"data_type":"float32","fill_value":0,"node_type":"array","shape":[1],"zarr_format":3} => float32 false
+chunk grid | {"chunk_grid":{"configuration":{"chunk_shape":[1]},"name":"regular"},"chunk_key_encoding":{"configuration":{"separator":"/"},"name":"default"},"codecs":[{"configuration":{"endian":"little"},"name":"bytes"}],"data_type":"float32","fill_value":0,"node_type":"array","shape":[1],"zarr_format":3} => regular true
+"#;
+
 #[test]
-fn an_array_of_version_3_has_its_extensions(rt: HostRuntime) {
-    let alloc = rt.alloc();
-    let array = ArrayMetadataV3::from_bytes(alloc, A3.as_bytes());
-    assert_says(
-        &rt,
-        alloc,
-        "data type",
-        array,
-        data_type_v3_copy,
-        "float32 false",
-    );
-    let array = ArrayMetadataV3::from_bytes(alloc, A3.as_bytes());
-    assert_says(
-        &rt,
-        alloc,
-        "chunk grid",
-        array,
-        chunk_grid_copy,
-        "regular true",
-    );
+fn arrays_have_their_fields(rt: HostRuntime) -> Result<(), Fail> {
+    check_rows(rt.alloc(), ARRAYS, array_says)
 }

@@ -8,7 +8,7 @@ use zarrs_config::{Config, GroupMetadataOptions, MetadataConvertVersion, Metadat
 use zarrs_group::{Group, GroupCreateError};
 use zarrs_meta::{GroupMetadata, GroupMetadataV3, NodeMetadata};
 use zarrs_rows_documents::G3;
-use zarrs_rows_nodes::{A3_SQUARE, both};
+use zarrs_rows_fixtures::{A3_SQUARE, both};
 use zarrs_store::{MetadataFault, StorageError, WritableStorageTraits};
 
 /// The fault of a document as a refusal.

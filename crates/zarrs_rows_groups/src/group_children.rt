@@ -3,24 +3,23 @@
 //! The tests compare texts.
 
 use crate::fixtures::{
-    LEVELS, LEVELS_TREES, Set, block_of, changed, group_of, group_with, groups_text, levels, set,
-    set_in, with_block,
+    LEVELS, Set, block_of, changed, group_of, groups_text, set, set_in, with_block,
 };
+use crate::rows::{entries, store_in, text_of};
 use log::sink::{Discard, Writer};
 use std::alloc::{AllocError, Global};
-use std::fmt::Display;
 use std::test::Fail;
 use zarrs_block::{ConsolidatedMetadata, ConsolidatedMetadataMetadata, NodeCreateError};
 use zarrs_config::{Config, UseConsolidatedMetadata};
 use zarrs_group::{Group, GroupCreateError};
-use zarrs_meta::{GroupMetadata, GroupMetadataV2, GroupMetadataV3, NodeMetadata};
+use zarrs_meta::{GroupMetadata, GroupMetadataV2, NodeMetadata};
 use zarrs_path::NodePath;
-use zarrs_rows_documents::{A2, A3, G2, G3, said};
-use zarrs_rows_nodes::{
-    A3_SQUARE, THREE_LEVELS, both, config_of, forest_text, key_of, node_at, pairs_text, paths_text,
-    store_of,
+use zarrs_rows_documents::{A2, G2, G3, said};
+use zarrs_rows_fixtures::{
+    A3_SQUARE, both, config_of, forest_text, key_of, node_at, pairs_text, paths_text,
 };
-use zarrs_store::{MemoryStore, MetadataFault, ReadableStorageTraits, StorageError};
+use zarrs_rows_table::{check_rows, fields};
+use zarrs_store::{MemoryStore, ReadableStorageTraits, StorageError};
 
 // ---- groups with blocks
 
@@ -36,6 +35,67 @@ fn without_block(
     group: Result<Group, GroupCreateError>,
 ) -> Result<Group, GroupCreateError> {
     changed(alloc, group.map(|group| set(group, alloc, None)))
+}
+
+// A group of version 2, and an array below it.
+const OLD_LEVELS: [(&str, &str); 2] = [("g/.zgroup", G2), ("g/a/.zarray", A2)];
+
+// The block of a node at a path of the store with these documents, made of all nodes below it, which a listing places.
+fn block_at(
+    alloc: Global,
+    documents: &[(&str, &str)],
+    path: &str,
+) -> Result<Option<ConsolidatedMetadata>, NodeCreateError> {
+    let node = node_at(alloc, documents, path)?;
+    if !node.has_placed_children() {
+        return Ok(None);
+    }
+    let block = node.consolidate_metadata(alloc)?;
+    Ok(block.map(|metadata| ConsolidatedMetadata { metadata }))
+}
+
+// The version 2 group at `/g` with the block of all below it set.
+fn old_levels(alloc: Global) -> Result<Group, GroupCreateError> {
+    let block = block_at(alloc, &OLD_LEVELS, "/g").map_err(
+        |error| GroupCreateError::from_node_error(alloc, error),
+    );
+    let group = old_group(alloc, "/g");
+    changed(
+        alloc,
+        both(group, block, |group, block| set(group, alloc, block)),
+    )
+}
+
+// The group without a block that a document, or a name, is at a path.
+fn plain_group(alloc: Global, path: &str, document: &str) -> Result<Group, GroupCreateError> {
+    match document {
+        "OLD" => old_group(alloc, path),
+        "OLD_LEVELS" => old_levels(alloc),
+        document => group_of(alloc, path, text_of(document)),
+    }
+}
+
+// A group with the block of a list set, and what the call that set it answers.
+fn set_of(
+    alloc: Global,
+    group: Result<Group, GroupCreateError>,
+    list: &str,
+) -> Result<Set, GroupCreateError> {
+    match entries(alloc, list) {
+        Ok(entries) => set_in(alloc, group, entries.as_slice()),
+        Err(_) => Err(GroupCreateError::OutOfMemory),
+    }
+}
+
+// The group that three fields are: a path, a document, and the list of the block that is set; `-` where none is.
+fn group_in(alloc: Global, given: &str) -> Result<Group, GroupCreateError> {
+    let (path, rest) = fields(given);
+    let (document, list) = fields(rest);
+    let group = plain_group(alloc, path, document);
+    match list {
+        "-" => group,
+        list => changed(alloc, set_of(alloc, group, list)),
+    }
 }
 
 // ---- answers as texts
@@ -94,52 +154,6 @@ fn below(alloc: Global, parts: (&str, &str)) -> Result<String, AllocError> {
     format!(in alloc; "trees:\n{trees}all:\n{all}")
 }
 
-fn is_same(found: &str, wanted: &str) -> Result<(), Fail> {
-    if found == wanted {
-        Ok(())
-    } else {
-        Err(Fail::new(format_args!("found {found} in place of {wanted}")))
-    }
-}
-
-// What a group says over the store with these documents, or the text of its refusal.
-fn over<T, E, F>(
-    alloc: Global,
-    documents: &[(&str, &str)],
-    answer: Result<T, E>,
-    look: F,
-) -> Result<String, Fail>
-where
-    T: Drop,
-    E: Display + Drop,
-    F: FnOnce(&T, Global, &MemoryStore) -> Result<String, AllocError>,
-    requires { F.IsAlwaysCallable look }
-{
-    let store = store_of(alloc, documents)?;
-    match answer {
-        Ok(value) => Ok(look(&value, alloc, &store)?),
-        Err(error) => Ok(format!(in alloc; "{error}")?),
-    }
-}
-
-// Asks what stands below a group by a policy, over the store with these documents: its trees, and all of it.
-fn is_below(
-    alloc: Global,
-    group: Result<Group, GroupCreateError>,
-    documents: &[(&str, &str)],
-    policy: UseConsolidatedMetadata,
-    wanted: (&str, &str),
-) -> Result<(), Fail> {
-    let found = over(
-        alloc,
-        documents,
-        group,
-        |group: &Group, alloc, store: &MemoryStore| below_text(group, alloc, store, policy),
-    )?;
-    let wanted = below(alloc, wanted)?;
-    is_same(found.as_str(), wanted.as_str())
-}
-
 // ---- what a group holds
 
 // The written form of a block, or `none`.
@@ -155,55 +169,58 @@ fn held_text(group: &Group, alloc: Global) -> Result<String, AllocError> {
     said(alloc, group.consolidated_metadata(alloc), block_text)
 }
 
-fn holds(alloc: Global, group: Result<Group, GroupCreateError>, wanted: &str) -> Result<(), Fail> {
-    is_same(said(alloc, group, held_text)?.as_str(), wanted)
+// A group after its block was replaced, and what that call answers.
+fn replaced(mut group: Group, alloc: Global, block: Option<ConsolidatedMetadata>) -> Set {
+    let answer = group.replace_consolidated_metadata(alloc, block);
+    (group, answer)
 }
 
-// Asks the text of a group.
-fn reads(alloc: Global, group: Result<Group, GroupCreateError>, wanted: &str) -> Result<(), Fail> {
-    is_same(said(alloc, group, Group::to_text)?.as_str(), wanted)
+// The group of a path and a document once its block was replaced by that of one group.
+fn replaced_in(alloc: Global, given: &str) -> Result<Group, GroupCreateError> {
+    let (path, rest) = fields(given);
+    let group = plain_group(alloc, path, fields(rest).0);
+    let block = block_of(alloc, &[("a", G3)]);
+    let made = both(
+        group,
+        block,
+        |group, block| replaced(group, alloc, Some(block)),
+    );
+    changed(alloc, made)
 }
 
-#[test]
-fn the_field_is_held_where_it_reads_as_a_block(rt: HostRuntime) -> Result<(), Fail> {
-    let alloc = rt.alloc();
-    for (field, wanted) in [
-        (
-            r#"{"kind":"inline","metadata":{"a":{"node_type":"group","zarr_format":3}}}"#,
-            r#"{"kind":"inline","metadata":{"a":{"node_type":"group","zarr_format":3}},"must_understand":false}"#,
-        ),
-        (r#"{"kind":"outline","metadata":{}}"#, "none"),
-        (r#"{"kind":"inline"}"#, "none"),
-        (
-            r#"{"kind":"inline","metadata":{},"must_understand":true}"#,
-            "none",
-        ),
-        (r#"{"kind":"inline","metadata":{"a":{}}}"#, "none"),
-        ("null", "none"),
-    ] {
-        let document = format!(in alloc;
-            r#"{{"consolidated_metadata":{field},"node_type":"group","zarr_format":3}}"#
-        )?;
-        holds(alloc, group_of(alloc, "/g", document.as_str()), wanted)?;
+// A group after its block was replaced by none.
+fn replaced_by_none(
+    alloc: Global,
+    group: Result<Group, GroupCreateError>,
+) -> Result<Group, GroupCreateError> {
+    changed(alloc, group.map(|group| replaced(group, alloc, None)))
+}
+
+// A group with the block of one group set, once more where it has it.
+fn set_again(
+    alloc: Global,
+    group: Result<Group, GroupCreateError>,
+) -> Result<Group, GroupCreateError> {
+    with_block(alloc, group, &[("a", G3)])
+}
+
+// The group of three fields after a change.
+fn changed_in(alloc: Global, change: &str, given: &str) -> Result<Group, GroupCreateError> {
+    match change {
+        "set again" => set_again(alloc, group_in(alloc, given)),
+        "set again and removed" => without_block(alloc, set_again(alloc, group_in(alloc, given))),
+        "removed" => without_block(alloc, group_in(alloc, given)),
+        "replaced" => replaced_in(alloc, given),
+        "replaced by none" => replaced_by_none(alloc, group_in(alloc, given)),
+        "as version 3" => group_in(alloc, given).map(|group| group.to_v3(alloc)),
+        _ => group_in(alloc, given),
     }
-    holds(alloc, group_of(alloc, "/g", G3), "none")?;
-    holds(alloc, old_group(alloc, "/g"), "none")
 }
-
-// A group with attributes and with other members.
-const OTHERS: &str =
-    r#"{"attributes":{"k":1},"b":{"must_understand":false},"node_type":"group","z":1,"zarr_format":3}"#;
-
-const OTHERS_TEXT: &str =
-    r#"group at /g with metadata {"attributes":{"k":1},"b":{"must_understand":false},"node_type":"group","z":1,"zarr_format":3}"#;
-
-// That group, once a block of one group was set.
-const OTHERS_SET: &str =
-    r#"group at /g with metadata {"attributes":{"k":1},"b":{"must_understand":false},"consolidated_metadata":{"kind":"inline","metadata":{"a":{"node_type":"group","zarr_format":3}},"must_understand":false},"node_type":"group","z":1,"zarr_format":3}"#;
 
 // A group after a block was set, and the text of the group that this lends.
 type Lent = (Group, Result<String, AllocError>);
 
+// A group after a block was set, and the text of the group that the call lends.
 fn lent(mut group: Group, alloc: Global, block: ConsolidatedMetadata) -> Lent {
     let answer = match group.set_consolidated_metadata(alloc, Some(block)) {
         Ok(group) => group.to_text(alloc),
@@ -219,74 +236,12 @@ fn lent_text(lent: &Lent, alloc: Global) -> Result<String, AllocError> {
     }
 }
 
-// The group with other members at `/g`, with a block of one group set.
-fn others_set(alloc: Global) -> Result<Group, GroupCreateError> {
-    with_block(alloc, group_of(alloc, "/g", OTHERS), &[("a", G3)])
-}
-
-// That group with the block set once more.
-fn others_set_twice(alloc: Global) -> Result<Group, GroupCreateError> {
-    with_block(alloc, others_set(alloc), &[("a", G3)])
-}
-
-#[test]
-fn a_block_is_set_and_removed_and_all_else_stays(rt: HostRuntime) -> Result<(), Fail> {
-    let alloc = rt.alloc();
-    reads(alloc, group_of(alloc, "/g", OTHERS), OTHERS_TEXT)?;
-    reads(alloc, others_set(alloc), OTHERS_SET)?;
-    reads(alloc, others_set_twice(alloc), OTHERS_SET)?;
-    let removed = without_block(alloc, others_set_twice(alloc));
-    reads(alloc, removed, OTHERS_TEXT)
-}
-
-// A group after its block was replaced, and what that call answers.
-fn replaced(mut group: Group, alloc: Global, block: Option<ConsolidatedMetadata>) -> Set {
-    let answer = group.replace_consolidated_metadata(alloc, block);
-    (group, answer)
-}
-
-#[test]
-fn a_block_is_replaced_as_it_is_set(rt: HostRuntime) -> Result<(), Fail> {
-    let alloc = rt.alloc();
-    let group = group_of(alloc, "/g", OTHERS);
+// The group of a path and a document after the block of one group was set, and the text that this lends.
+fn lent_in(alloc: Global, given: &str) -> Result<Lent, GroupCreateError> {
+    let (path, rest) = fields(given);
+    let group = plain_group(alloc, path, fields(rest).0);
     let block = block_of(alloc, &[("a", G3)]);
-    let made = both(
-        group,
-        block,
-        |group, block| replaced(group, alloc, Some(block)),
-    );
-    reads(alloc, changed(alloc, made), OTHERS_SET)?;
-    let removed = others_set(alloc).map(|group| replaced(group, alloc, None));
-    reads(alloc, changed(alloc, removed), OTHERS_TEXT)
-}
-
-#[test]
-fn the_group_is_lent_once_a_block_was_set(rt: HostRuntime) -> Result<(), Fail> {
-    let alloc = rt.alloc();
-    let group = group_of(alloc, "/g", OTHERS);
-    let block = block_of(alloc, &[("a", G3)]);
-    let made = both(group, block, |group, block| lent(group, alloc, block));
-    is_same(said(alloc, made, lent_text)?.as_str(), OTHERS_SET)
-}
-
-// The version 2 group at `/g` with a block of one group set.
-fn old_set(alloc: Global) -> Result<Group, GroupCreateError> {
-    with_block(alloc, old_group(alloc, "/g"), &[("a", G2)])
-}
-
-#[test]
-fn a_version_2_group_has_its_block_beside_its_metadata(rt: HostRuntime) -> Result<(), Fail> {
-    let alloc = rt.alloc();
-    let text = r#"group at /g with metadata {"zarr_format":2}"#;
-    let block = r#"{"kind":"inline","metadata":{"a":{"zarr_format":2}},"must_understand":false}"#;
-    reads(alloc, old_set(alloc), text)?;
-    holds(alloc, old_set(alloc), block)?;
-    holds(
-        alloc,
-        old_set(alloc).map(|group| group.to_v3(alloc)),
-        "none",
-    )?;
-    holds(alloc, without_block(alloc, old_set(alloc)), "none")
+    both(group, block, |group, block| lent(group, alloc, block))
 }
 
 // What a call that set a block answers, and the block that the group then holds.
@@ -298,22 +253,69 @@ fn set_and_held(set: &Set, alloc: Global) -> Result<String, AllocError> {
     }
 }
 
-#[test]
-fn a_version_2_group_takes_no_block_that_cannot_be_written(rt: HostRuntime) -> Result<(), Fail> {
-    let alloc = rt.alloc();
-    for (key, document, wanted) in [
-        ("a", G3, "Found V2 metadata in V3 key or vice-versa: none"),
-        (
-            "a/",
-            G2,
-            "invalid node path invalid node name `` in 'a/': none",
-        ),
-    ] {
-        let set = set_in(alloc, old_group(alloc, "/g"), &[(key, document)]);
-        is_same(said(alloc, set, set_and_held)?.as_str(), wanted)?;
-    }
-    Ok(())
+// What the call answers that sets the block of three fields, and the block that the group then holds.
+fn setting_text(alloc: Global, given: &str) -> Result<String, AllocError> {
+    let (path, rest) = fields(given);
+    let (document, list) = fields(rest);
+    let set = set_of(alloc, plain_group(alloc, path, document), list);
+    said(alloc, set, set_and_held)
 }
+
+// What a group says of itself after a change: its text, or its block.
+fn asked(alloc: Global, given: &str) -> Result<String, AllocError> {
+    let (ask, rest) = fields(given);
+    match (ask, fields(rest)) {
+        ("text", ("lent", group)) => said(alloc, lent_in(alloc, group), lent_text),
+        ("text", (change, group)) => {
+            said(alloc, changed_in(alloc, change, group), Group::to_text)
+        }
+        ("block", (change, group)) => said(alloc, changed_in(alloc, change, group), held_text),
+        (_, (_, group)) => setting_text(alloc, group),
+    }
+}
+
+// What is asked, a change, and a group with the block that is set; and the answer.
+const ASKED: &str = r#"
+# The field is held where it reads as a block.
+block | - | /g | {"consolidated_metadata":{"kind":"inline","metadata":{"a":{"node_type":"group","zarr_format":3}}},"node_type":"group","zarr_format":3} | - => {"kind":"inline","metadata":{"a":{"node_type":"group","zarr_format":3}},"must_understand":false}
+block | - | /g | {"consolidated_metadata":{"kind":"outline","metadata":{}},"node_type":"group","zarr_format":3} | - => none
+block | - | /g | {"consolidated_metadata":{"kind":"inline"},"node_type":"group","zarr_format":3} | - => none
+block | - | /g | {"consolidated_metadata":{"kind":"inline","metadata":{},"must_understand":true},"node_type":"group","zarr_format":3} | - => none
+block | - | /g | {"consolidated_metadata":{"kind":"inline","metadata":{"a":{}}},"node_type":"group","zarr_format":3} | - => none
+block | - | /g | {"consolidated_metadata":null,"node_type":"group","zarr_format":3} | - => none
+block | - | /g | G3 | - => none
+block | - | /g | OLD | - => none
+
+# A block is set and removed, and all else stays.
+text | - | /g | OTHERS | - => group at /g with metadata {"attributes":{"k":1},"b":{"must_understand":false},"node_type":"group","z":1,"zarr_format":3}
+text | - | /g | OTHERS | a=G3 => group at /g with metadata {"attributes":{"k":1},"b":{"must_understand":false},"consolidated_metadata":{"kind":"inline","metadata":{"a":{"node_type":"group","zarr_format":3}},"must_understand":false},"node_type":"group","z":1,"zarr_format":3}
+text | set again | /g | OTHERS | a=G3 => group at /g with metadata {"attributes":{"k":1},"b":{"must_understand":false},"consolidated_metadata":{"kind":"inline","metadata":{"a":{"node_type":"group","zarr_format":3}},"must_understand":false},"node_type":"group","z":1,"zarr_format":3}
+text | set again and removed | /g | OTHERS | a=G3 => group at /g with metadata {"attributes":{"k":1},"b":{"must_understand":false},"node_type":"group","z":1,"zarr_format":3}
+
+# A block is replaced as it is set.
+text | replaced | /g | OTHERS | a=G3 => group at /g with metadata {"attributes":{"k":1},"b":{"must_understand":false},"consolidated_metadata":{"kind":"inline","metadata":{"a":{"node_type":"group","zarr_format":3}},"must_understand":false},"node_type":"group","z":1,"zarr_format":3}
+text | replaced by none | /g | OTHERS | a=G3 => group at /g with metadata {"attributes":{"k":1},"b":{"must_understand":false},"node_type":"group","z":1,"zarr_format":3}
+
+# The group is lent once a block was set.
+text | lent | /g | OTHERS | a=G3 => group at /g with metadata {"attributes":{"k":1},"b":{"must_understand":false},"consolidated_metadata":{"kind":"inline","metadata":{"a":{"node_type":"group","zarr_format":3}},"must_understand":false},"node_type":"group","z":1,"zarr_format":3}
+
+# A version 2 group has its block beside its metadata.
+text | - | /g | OLD | a=G2 => group at /g with metadata {"zarr_format":2}
+block | - | /g | OLD | a=G2 => {"kind":"inline","metadata":{"a":{"zarr_format":2}},"must_understand":false}
+block | as version 3 | /g | OLD | a=G2 => none
+block | removed | /g | OLD | a=G2 => none
+
+# A version 2 group takes no block that cannot be written.
+set | - | /g | OLD | a=G3 => Found V2 metadata in V3 key or vice-versa: none
+set | - | /g | OLD | a/=G2 => invalid node path invalid node name `` in 'a/': none
+"#;
+
+#[test]
+fn groups_hold_blocks(rt: HostRuntime) -> Result<(), Fail> {
+    check_rows(rt.alloc(), ASKED, asked)
+}
+
+// ---- stored blocks
 
 // What a store holds at a key, or `none`.
 fn text_at(alloc: Global, store: &MemoryStore, key: &str) -> Result<String, AllocError> {
@@ -327,270 +329,59 @@ fn text_at(alloc: Global, store: &MemoryStore, key: &str) -> Result<String, Allo
     }
 }
 
-// What stands at `.zmetadata` of the group at `/g` once it was stored over nothing.
-fn zmetadata_text(group: &Group, alloc: Global) -> Result<String, AllocError> {
-    stored(
-        group,
-        alloc,
-        |store: &MemoryStore| text_at(alloc, store, "g/.zmetadata"),
-    )
-}
-
-// A group of version 2, and an array below it.
-const OLD_LEVELS: [(&str, &str); 2] = [("g/.zgroup", G2), ("g/a/.zarray", A2)];
-
-// The block of a node at a path of the store with these documents, made of all nodes below it, which a listing places.
-fn block_at(
+// What opening a path says over a store: the text of the group, or its trees by a policy.
+fn opened_text(
     alloc: Global,
-    documents: &[(&str, &str)],
-    path: &str,
-) -> Result<Option<ConsolidatedMetadata>, NodeCreateError> {
-    let node = node_at(alloc, documents, path)?;
-    if !node.has_placed_children() {
-        return Ok(None);
-    }
-    let block = node.consolidate_metadata(alloc)?;
-    Ok(block.map(|metadata| ConsolidatedMetadata { metadata }))
-}
-
-// That group with the block of all below it set.
-fn old_levels(alloc: Global) -> Result<Group, GroupCreateError> {
-    let block = block_at(alloc, &OLD_LEVELS, "/g").map_err(
-        |error| GroupCreateError::from_node_error(alloc, error),
-    );
-    let group = old_group(alloc, "/g");
-    changed(
-        alloc,
-        both(group, block, |group, block| set(group, alloc, block)),
-    )
-}
-
-// What is stored of that block.
-const OLD_LEVELS_STORED: &str = r#"{
-  "metadata": {
-    ".zgroup": {
-      "zarr_format": 2
-    },
-    "a/.zarray": {
-      "chunks": [
-        1
-      ],
-      "compressor": null,
-      "dimension_separator": ".",
-      "dtype": "<f8",
-      "fill_value": "NaN",
-      "filters": null,
-      "order": "C",
-      "shape": [
-        1
-      ],
-      "zarr_format": 2
-    }
-  },
-  "zarr_consolidated_format": 1
-}"#;
-
-#[test]
-fn the_block_of_a_version_2_group_is_stored_as_zmetadata(rt: HostRuntime) -> Result<(), Fail> {
-    let alloc = rt.alloc();
-    let found = said(alloc, old_levels(alloc), zmetadata_text)?;
-    is_same(found.as_str(), OLD_LEVELS_STORED)?;
-    let found = said(alloc, old_group(alloc, "/g"), zmetadata_text)?;
-    is_same(found.as_str(), "none")?;
-    let never = UseConsolidatedMetadata::Never;
-    is_below(alloc, old_levels(alloc), &[], never, ("", ""))?;
-    is_below(
-        alloc,
-        old_levels(alloc),
-        &[],
-        UseConsolidatedMetadata::Must,
-        ("/g/a [1] Simple(\"<f8\")\n", "/g/a array\n"),
-    )
-}
-
-// ---- a field that must be understood
-
-// What opening a group at a path says over a store.
-fn opened_text(alloc: Global, store: &MemoryStore, path: &str) -> Result<String, AllocError> {
-    let group = Group::open(alloc, store, path, &Config::new());
-    said(alloc, group, Group::to_text)
-}
-
-// What is said over the store that holds a group and nothing else.
-fn stored<F>(group: &Group, alloc: Global, look: F) -> Result<String, AllocError>
-where
-    F: FnOnce(&MemoryStore) -> Result<String, AllocError>,
-    requires { F.IsAlwaysCallable look }
-{
-    let mut store = MemoryStore::new(alloc);
-    match group.store_metadata(alloc, &mut store) {
-        Ok(()) => look(&store),
-        Err(error) => format!(in alloc; "{error}"),
-    }
-}
-
-// What opening a group says once it was stored.
-fn reopened_text(group: &Group, alloc: Global) -> Result<String, AllocError> {
-    let path = group.path().as_str();
-    stored(
-        group,
-        alloc,
-        |store: &MemoryStore| opened_text(alloc, store, path),
-    )
-}
-
-#[test]
-fn a_block_that_was_set_need_not_be_understood(rt: HostRuntime) -> Result<(), Fail> {
-    let alloc = rt.alloc();
-    for (document, wanted) in [
-        (
-            r#"{"consolidated_metadata":{"kind":"inline","metadata":{}},"node_type":"group","zarr_format":3}"#,
-            "unsupported additional field consolidated_metadata",
-        ),
-        (
-            r#"{"consolidated_metadata":null,"node_type":"group","zarr_format":3}"#,
-            r#"group at / with metadata {"node_type":"group","zarr_format":3}"#,
-        ),
-        (
-            r#"{"node_type":"group","unknown":"unsupported","zarr_format":3}"#,
-            "unsupported additional field unknown",
-        ),
-    ] {
-        let store = store_of(alloc, &[("zarr.json", document)])?;
-        is_same(opened_text(alloc, &store, "/")?.as_str(), wanted)?;
-    }
-    let found = said(alloc, group_with(alloc, "/", &[]), reopened_text)?;
-    is_same(
-        found.as_str(),
-        r#"group at / with metadata {"consolidated_metadata":{"kind":"inline","metadata":{},"must_understand":false},"node_type":"group","zarr_format":3}"#,
-    )
-}
-
-// ---- by a block
-
-const LEVELS_ALL: &str =
-    "/group/array array\n/group/subgroup group\n/group/subgroup/mysubarray array\n";
-
-#[test]
-fn a_block_stands_for_the_store(rt: HostRuntime) -> Result<(), Fail> {
-    let alloc = rt.alloc();
-    let whole = (LEVELS_TREES, LEVELS_ALL);
-    for policy in [UseConsolidatedMetadata::Auto, UseConsolidatedMetadata::Must] {
-        is_below(alloc, levels(alloc), &[], policy, whole)?;
-        let bad = [("group/x/zarr.json", "x")];
-        is_below(alloc, levels(alloc), &bad, policy, whole)?;
-    }
-    let never = UseConsolidatedMetadata::Never;
-    is_below(alloc, levels(alloc), &[], never, ("", ""))?;
-    let other = [("group/other/zarr.json", G3)];
-    let listed = ("/group/other\n", "/group/other group\n");
-    is_below(alloc, levels(alloc), &other, never, listed)
-}
-
-// The trees below a group that was stored and opened again, by a policy.
-fn reopened_trees(
-    group: &Group,
-    alloc: Global,
-    policy: UseConsolidatedMetadata,
-) -> Result<String, AllocError> {
-    let path = group.path().as_str();
-    stored(
-        group,
-        alloc,
-        |store: &MemoryStore| opened_trees(alloc, store, path, policy),
-    )
-}
-
-// The trees below the group that is opened at a path, by a policy.
-fn opened_trees(
-    alloc: Global,
+    look: &str,
     store: &MemoryStore,
     path: &str,
-    policy: UseConsolidatedMetadata,
 ) -> Result<String, AllocError> {
-    let opened = Group::open(alloc, store, path, &Config::new());
-    said(
-        alloc,
-        opened,
-        |group: &Group, alloc| children_text(group, alloc, store, policy, true),
-    )
-}
-
-#[test]
-fn a_stored_group_is_opened_with_its_block(rt: HostRuntime) -> Result<(), Fail> {
-    let alloc = rt.alloc();
-    for (policy, wanted) in [
-        (UseConsolidatedMetadata::Auto, LEVELS_TREES),
-        (UseConsolidatedMetadata::Must, LEVELS_TREES),
-        (UseConsolidatedMetadata::Never, ""),
-    ] {
-        let found = said(
-            alloc,
-            levels(alloc),
-            |group: &Group, alloc| reopened_trees(group, alloc, policy),
-        )?;
-        is_same(found.as_str(), wanted)?;
+    match (look, Group::open(alloc, store, path, &Config::new())) {
+        ("text", opened) => said(alloc, opened, Group::to_text),
+        (policy, Ok(group)) => children_text(&group, alloc, store, policy_of(policy), true),
+        (_, Err(error)) => format!(in alloc; "{error}"),
     }
-    Ok(())
 }
 
-// The block with the base's own keys, and one that stands below no group.
-const OWN_KEYS: [(&str, &str); 4] = [("", G3), ("/", G3), ("foo", A3), ("sub/leaf", G3)];
-
-#[test]
-fn keys_are_paths_below_the_group(rt: HostRuntime) -> Result<(), Fail> {
-    let alloc = rt.alloc();
-    let group = group_with(alloc, "/group", &OWN_KEYS);
-    let trees = "/group/foo [1] float32\n";
-    let all = "/group/foo array\n/group/sub/leaf group\n";
-    is_below(
-        alloc,
-        group,
-        &[],
-        UseConsolidatedMetadata::Auto,
-        (trees, all),
-    )
+// The store that holds a group and nothing else.
+fn store_with(alloc: Global, given: &str) -> Result<MemoryStore, GroupCreateError> {
+    let group = group_in(alloc, given)?;
+    let mut store = MemoryStore::new(alloc);
+    group.store_metadata(alloc, &mut store)?;
+    Ok(store)
 }
 
-#[test]
-fn a_key_that_is_no_path_refuses(rt: HostRuntime) -> Result<(), Fail> {
-    let alloc = rt.alloc();
-    for (key, refused) in [
-        ("foo/", "invalid node path invalid node name `` in 'foo/'"),
-        ("//foo", "invalid node path invalid node name `` in '/foo'"),
-        ("__x", "invalid node path invalid node name `__x` in '__x'"),
-        ("a/..", "invalid node path invalid node name `..` in 'a/..'"),
-    ] {
-        for (policy, wanted) in [
-            (UseConsolidatedMetadata::Auto, refused),
-            (UseConsolidatedMetadata::Must, refused),
-            (UseConsolidatedMetadata::Never, ""),
-        ] {
-            let group = group_with(alloc, "/group", &[("foo", A3), (key, G3)]);
-            is_below(alloc, group, &[], policy, (wanted, wanted))?;
-        }
+// What a store says that holds a group and nothing else: what stands at `.zmetadata`, or what opening the group says.
+fn stored(alloc: Global, given: &str) -> Result<String, GroupCreateError> {
+    let (look, group) = fields(given);
+    let store = store_with(alloc, group)?;
+    match look {
+        "zmetadata" => Ok(text_at(alloc, &store, "g/.zmetadata")?),
+        look => Ok(opened_text(alloc, look, &store, fields(group).0)?),
     }
-    Ok(())
 }
 
-// What a group says over a store without keys.
-fn over_nothing<F>(
-    alloc: Global,
-    group: Result<Group, GroupCreateError>,
-    look: F,
-    wanted: &str,
-) -> Result<(), Fail>
-where
-    F: FnOnce(&Group, Global, &MemoryStore) -> Result<String, AllocError>,
-    requires { F.IsAlwaysCallable look }
-{
-    is_same(over(alloc, &[], group, look)?.as_str(), wanted)
+// What is asked, and the group that is stored with the block that is set; and the answer.
+const STORED: &str = r#"
+# The block of a version 2 group is stored as `.zmetadata`.
+zmetadata | /g | OLD_LEVELS | - => {\n  "metadata": {\n    ".zgroup": {\n      "zarr_format": 2\n    },\n    "a/.zarray": {\n      "chunks": [\n        1\n      ],\n      "compressor": null,\n      "dimension_separator": ".",\n      "dtype": "<f8",\n      "fill_value": "NaN",\n      "filters": null,\n      "order": "C",\n      "shape": [\n        1\n      ],\n      "zarr_format": 2\n    }\n  },\n  "zarr_consolidated_format": 1\n}
+zmetadata | /g | OLD | - => none
+
+# A block that was set need not be understood.
+text | / | G3 | {} => group at / with metadata {"consolidated_metadata":{"kind":"inline","metadata":{},"must_understand":false},"node_type":"group","zarr_format":3}
+
+# A stored group is opened with its block.
+auto | /group | G3 | LEVELS => /group/array [10, 10] float32\n/group/subgroup\n  mysubarray [10, 10] float32\n
+must | /group | G3 | LEVELS => /group/array [10, 10] float32\n/group/subgroup\n  mysubarray [10, 10] float32\n
+never | /group | G3 | LEVELS =>
+"#;
+
+#[test]
+fn blocks_are_stored(rt: HostRuntime) -> Result<(), Fail> {
+    check_rows(rt.alloc(), STORED, stored)
 }
 
-// The group at the root with a key with and without a slash.
-fn two_spellings(alloc: Global) -> Result<Group, GroupCreateError> {
-    group_with(alloc, "/", &[("-x", A3), ("/-x", A3_SQUARE)])
-}
+// ---- what stands below a group
 
 // The documents of all that stands below a group.
 fn traversed_documents(
@@ -601,77 +392,6 @@ fn traversed_documents(
     let auto = UseConsolidatedMetadata::Auto;
     let pairs = group.traverse(&Discard, alloc, store, &config_of(auto));
     said(alloc, pairs, documents_text)
-}
-
-#[test]
-fn the_key_without_a_slash_counts(rt: HostRuntime) -> Result<(), Fail> {
-    let alloc = rt.alloc();
-    for recursive in [true, false] {
-        over_nothing(
-            alloc,
-            two_spellings(alloc),
-            |group: &Group, alloc, store: &MemoryStore| {
-                children_text(
-                    group,
-                    alloc,
-                    store,
-                    UseConsolidatedMetadata::Auto,
-                    recursive,
-                )
-            },
-            "/-x [1] float32\n",
-        )?;
-    }
-    over_nothing(alloc, two_spellings(alloc), traversed_documents, A3)
-}
-
-#[test]
-fn entries_below_no_group_are_traversed_and_are_no_children(rt: HostRuntime) -> Result<(), Fail> {
-    let alloc = rt.alloc();
-    let group = group_with(alloc, "/", &[("a", A3), ("a/y", G3), ("q/r", G3)]);
-    let trees = "/a [1] float32\n";
-    let all = "/a array\n/a/y group\n/q/r group\n";
-    is_below(
-        alloc,
-        group,
-        &[],
-        UseConsolidatedMetadata::Auto,
-        (trees, all),
-    )
-}
-
-// ---- by a listing
-
-#[test]
-fn without_a_block_the_store_is_listed(rt: HostRuntime) -> Result<(), Fail> {
-    let alloc = rt.alloc();
-    let whole = (LEVELS_TREES, LEVELS_ALL);
-    for policy in [
-        UseConsolidatedMetadata::Auto,
-        UseConsolidatedMetadata::Never,
-    ] {
-        let group = group_of(alloc, "/group", G3);
-        is_below(alloc, group, &THREE_LEVELS, policy, whole)?;
-    }
-    let bad = [("group/zarr.json", G3), ("group/a/zarr.json", "x")];
-    let refused = "error parsing metadata for group/a/zarr.json: not JSON";
-    is_below(
-        alloc,
-        group_of(alloc, "/group", G3),
-        &bad,
-        UseConsolidatedMetadata::Auto,
-        (refused, refused),
-    )
-}
-
-#[test]
-fn a_block_that_has_to_be_used_and_is_not_there_refuses(rt: HostRuntime) -> Result<(), Fail> {
-    let alloc = rt.alloc();
-    let must = UseConsolidatedMetadata::Must;
-    let refused = "Metadata is missing for Consolidated metadata required but missing on group /";
-    let both = (refused, refused);
-    is_below(alloc, old_group(alloc, "/"), &THREE_LEVELS, must, both)?;
-    is_below(alloc, group_of(alloc, "/", G3), &THREE_LEVELS, must, both)
 }
 
 // A text, and the lines of a log.
@@ -704,32 +424,6 @@ fn traversal_warned(
     with_lines(alloc, text.as_str(), &sink.into_inner())
 }
 
-#[test]
-fn a_listing_warns_and_a_block_does_not(rt: HostRuntime) -> Result<(), Fail> {
-    let alloc = rt.alloc();
-    let strange = [("root/fakenode/content/zarr.json", "\0")];
-    let line =
-        "warned: [WARN  zarrs_node::children] Object at /root/fakenode is not recognized as a component of a Zarr hierarchy. Ignoring.\n";
-    let listed = group_of(alloc, "/root", G3);
-    is_same(
-        over(alloc, &strange, listed, children_warned)?.as_str(),
-        line,
-    )?;
-    let listed = group_of(alloc, "/root", G3);
-    is_same(
-        over(alloc, &strange, listed, traversal_warned)?.as_str(),
-        line,
-    )?;
-    let held = group_with(alloc, "/root", &[("a", G3)]);
-    let found = over(alloc, &strange, held, children_warned)?;
-    is_same(found.as_str(), "/root/a\nwarned: ")?;
-    let held = group_with(alloc, "/root", &[("a", G3)]);
-    let found = over(alloc, &strange, held, traversal_warned)?;
-    is_same(found.as_str(), "/root/a group\nwarned: ")
-}
-
-// ---- the children alone
-
 // The paths of the children of a group, of the groups and of the arrays among them.
 fn kinds_text(group: &Group, alloc: Global, store: &MemoryStore) -> Result<String, AllocError> {
     let config = Config::new();
@@ -740,36 +434,6 @@ fn kinds_text(group: &Group, alloc: Global, store: &MemoryStore) -> Result<Strin
     let arrays = group.child_array_paths(&Discard, alloc, store, &config);
     let arrays = said(alloc, arrays, paths_text)?;
     format!(in alloc; "all:\n{all}groups:\n{groups}arrays:\n{arrays}")
-}
-
-// Asks the paths of the children of a group, of the groups and of the arrays among them.
-fn has_children(
-    alloc: Global,
-    documents: &[(&str, &str)],
-    group: Result<Group, GroupCreateError>,
-    wanted: (&str, &str, &str),
-) -> Result<(), Fail> {
-    let (all, groups, arrays) = wanted;
-    let found = over(alloc, documents, group, kinds_text)?;
-    let wanted = format!(in alloc; "all:\n{all}groups:\n{groups}arrays:\n{arrays}")?;
-    is_same(found.as_str(), wanted.as_str())
-}
-
-#[test]
-fn children_by_their_kinds(rt: HostRuntime) -> Result<(), Fail> {
-    let alloc = rt.alloc();
-    let block = group_with(alloc, "/group", &OWN_KEYS);
-    let wanted = ("/group/foo\n", "", "/group/foo\n");
-    has_children(alloc, &[], block, wanted)?;
-    let root = group_of(alloc, "/", G3);
-    let wanted = ("/array\n/group\n", "/group\n", "/array\n");
-    has_children(alloc, &THREE_LEVELS, root, wanted)?;
-    let wanted = (
-        "/group/array\n/group/subgroup\n",
-        "/group/subgroup\n",
-        "/group/array\n",
-    );
-    has_children(alloc, &[], levels(alloc), wanted)
 }
 
 // The groups among the children of a group, or the text of the refusal and whether it is told by its text.
@@ -792,33 +456,114 @@ fn is_other(answer: &Result<Vec<Group>, GroupCreateError>) -> bool {
     )
 }
 
-#[test]
-fn a_refusal_of_the_children_is_handed_on(rt: HostRuntime) -> Result<(), Fail> {
-    let alloc = rt.alloc();
-    let group = group_with(alloc, "/group", &[("foo/", G3)]);
-    let refused = "invalid node path invalid node name `` in 'foo/'";
-    has_children(alloc, &[], group, (refused, refused, refused))?;
-    let group = group_with(alloc, "/group", &[("foo/", G3)]);
-    let refused = "other: invalid node path invalid node name `` in 'foo/'";
-    over_nothing(alloc, group, child_groups_text, refused)
+// The policy that a word is of.
+fn policy_of(word: &str) -> UseConsolidatedMetadata {
+    match word {
+        "must" => UseConsolidatedMetadata::Must,
+        "never" => UseConsolidatedMetadata::Never,
+        _ => UseConsolidatedMetadata::Auto,
+    }
 }
 
+// What stands below a group over a store, by what is asked; trees and all of it by a policy.
+fn looked_at(
+    alloc: Global,
+    look: &str,
+    group: &Group,
+    store: &MemoryStore,
+) -> Result<String, AllocError> {
+    let auto = UseConsolidatedMetadata::Auto;
+    match look {
+        "trees" => children_text(group, alloc, store, auto, true),
+        "children" => children_text(group, alloc, store, auto, false),
+        "documents" => traversed_documents(group, alloc, store),
+        "children warned" => children_warned(group, alloc, store),
+        "traversal warned" => traversal_warned(group, alloc, store),
+        "kinds" => kinds_text(group, alloc, store),
+        "groups" => child_groups_text(group, alloc, store),
+        policy => below_text(group, alloc, store, policy_of(policy)),
+    }
+}
+
+// What stands below the group of a row over the store with the documents of a list.
+fn looked(alloc: Global, given: &str) -> Result<String, GroupCreateError> {
+    let (look, rest) = fields(given);
+    let (list, group) = fields(rest);
+    let store = store_in(alloc, list)?;
+    let group = group_in(alloc, group)?;
+    Ok(looked_at(alloc, look, &group, &store)?)
+}
+
+// What is asked, the documents of a store, and a group with the block that is set; and the answer.
+const LOOKED: &str = r#"
+# The block of a version 2 group stands for the store.
+never | - | /g | OLD_LEVELS | - => trees:\nall:\n
+must | - | /g | OLD_LEVELS | - => trees:\n/g/a [1] Simple("<f8")\nall:\n/g/a array\n
+
+# A block stands for the store.
+auto | - | /group | G3 | LEVELS => trees:\n/group/array [10, 10] float32\n/group/subgroup\n  mysubarray [10, 10] float32\nall:\n/group/array array\n/group/subgroup group\n/group/subgroup/mysubarray array\n
+auto | group/x/zarr.json=x | /group | G3 | LEVELS => trees:\n/group/array [10, 10] float32\n/group/subgroup\n  mysubarray [10, 10] float32\nall:\n/group/array array\n/group/subgroup group\n/group/subgroup/mysubarray array\n
+must | - | /group | G3 | LEVELS => trees:\n/group/array [10, 10] float32\n/group/subgroup\n  mysubarray [10, 10] float32\nall:\n/group/array array\n/group/subgroup group\n/group/subgroup/mysubarray array\n
+must | group/x/zarr.json=x | /group | G3 | LEVELS => trees:\n/group/array [10, 10] float32\n/group/subgroup\n  mysubarray [10, 10] float32\nall:\n/group/array array\n/group/subgroup group\n/group/subgroup/mysubarray array\n
+never | - | /group | G3 | LEVELS => trees:\nall:\n
+never | group/other/zarr.json=G3 | /group | G3 | LEVELS => trees:\n/group/other\nall:\n/group/other group\n
+
+# Keys are paths below the group; the base's own keys, and one that stands below no group.
+auto | - | /group | G3 | =G3 /=G3 foo=A3 sub/leaf=G3 => trees:\n/group/foo [1] float32\nall:\n/group/foo array\n/group/sub/leaf group\n
+
+# A key that is no path refuses.
+auto | - | /group | G3 | foo=A3 foo/=G3 => trees:\ninvalid node path invalid node name `` in 'foo/'all:\ninvalid node path invalid node name `` in 'foo/'
+must | - | /group | G3 | foo=A3 foo/=G3 => trees:\ninvalid node path invalid node name `` in 'foo/'all:\ninvalid node path invalid node name `` in 'foo/'
+never | - | /group | G3 | foo=A3 foo/=G3 => trees:\nall:\n
+auto | - | /group | G3 | foo=A3 //foo=G3 => trees:\ninvalid node path invalid node name `` in '/foo'all:\ninvalid node path invalid node name `` in '/foo'
+must | - | /group | G3 | foo=A3 //foo=G3 => trees:\ninvalid node path invalid node name `` in '/foo'all:\ninvalid node path invalid node name `` in '/foo'
+never | - | /group | G3 | foo=A3 //foo=G3 => trees:\nall:\n
+auto | - | /group | G3 | foo=A3 __x=G3 => trees:\ninvalid node path invalid node name `__x` in '__x'all:\ninvalid node path invalid node name `__x` in '__x'
+must | - | /group | G3 | foo=A3 __x=G3 => trees:\ninvalid node path invalid node name `__x` in '__x'all:\ninvalid node path invalid node name `__x` in '__x'
+never | - | /group | G3 | foo=A3 __x=G3 => trees:\nall:\n
+auto | - | /group | G3 | foo=A3 a/..=G3 => trees:\ninvalid node path invalid node name `..` in 'a/..'all:\ninvalid node path invalid node name `..` in 'a/..'
+must | - | /group | G3 | foo=A3 a/..=G3 => trees:\ninvalid node path invalid node name `..` in 'a/..'all:\ninvalid node path invalid node name `..` in 'a/..'
+never | - | /group | G3 | foo=A3 a/..=G3 => trees:\nall:\n
+
+# The key without a slash counts.
+trees | - | / | G3 | -x=A3 /-x=SQUARE => /-x [1] float32\n
+children | - | / | G3 | -x=A3 /-x=SQUARE => /-x [1] float32\n
+documents | - | / | G3 | -x=A3 /-x=SQUARE => {"chunk_grid":{"configuration":{"chunk_shape":[1]},"name":"regular"},"chunk_key_encoding":{"configuration":{"separator":"/"},"name":"default"},"codecs":[{"configuration":{"endian":"little"},"name":"bytes"}],"data_type":"float32","fill_value":0,"node_type":"array","shape":[1],"zarr_format":3}
+
+# Entries below no group are traversed and are no children.
+auto | - | / | G3 | a=A3 a/y=G3 q/r=G3 => trees:\n/a [1] float32\nall:\n/a array\n/a/y group\n/q/r group\n
+
+# Without a block the store is listed.
+auto | THREE_LEVELS | /group | G3 | - => trees:\n/group/array [10, 10] float32\n/group/subgroup\n  mysubarray [10, 10] float32\nall:\n/group/array array\n/group/subgroup group\n/group/subgroup/mysubarray array\n
+never | THREE_LEVELS | /group | G3 | - => trees:\n/group/array [10, 10] float32\n/group/subgroup\n  mysubarray [10, 10] float32\nall:\n/group/array array\n/group/subgroup group\n/group/subgroup/mysubarray array\n
+auto | group/zarr.json=G3 group/a/zarr.json=x | /group | G3 | - => trees:\nerror parsing metadata for group/a/zarr.json: not JSONall:\nerror parsing metadata for group/a/zarr.json: not JSON
+
+# A block that has to be used and is not there refuses.
+must | THREE_LEVELS | / | OLD | - => trees:\nMetadata is missing for Consolidated metadata required but missing on group /all:\nMetadata is missing for Consolidated metadata required but missing on group /
+must | THREE_LEVELS | / | G3 | - => trees:\nMetadata is missing for Consolidated metadata required but missing on group /all:\nMetadata is missing for Consolidated metadata required but missing on group /
+
+# A listing warns and a block does not.
+children warned | root/fakenode/content/zarr.json=NUL | /root | G3 | - => warned: [WARN  zarrs_node::children] Object at /root/fakenode is not recognized as a component of a Zarr hierarchy. Ignoring.\n
+traversal warned | root/fakenode/content/zarr.json=NUL | /root | G3 | - => warned: [WARN  zarrs_node::children] Object at /root/fakenode is not recognized as a component of a Zarr hierarchy. Ignoring.\n
+children warned | root/fakenode/content/zarr.json=NUL | /root | G3 | a=G3 => /root/a\nwarned: 
+traversal warned | root/fakenode/content/zarr.json=NUL | /root | G3 | a=G3 => /root/a group\nwarned: 
+
+# Children by their kinds.
+kinds | - | /group | G3 | =G3 /=G3 foo=A3 sub/leaf=G3 => all:\n/group/foo\ngroups:\narrays:\n/group/foo\n
+kinds | THREE_LEVELS | / | G3 | - => all:\n/array\n/group\ngroups:\n/group\narrays:\n/array\n
+kinds | - | /group | G3 | LEVELS => all:\n/group/array\n/group/subgroup\ngroups:\n/group/subgroup\narrays:\n/group/array\n
+
+# A refusal of the children is handed on.
+kinds | - | /group | G3 | foo/=G3 => all:\ninvalid node path invalid node name `` in 'foo/'groups:\ninvalid node path invalid node name `` in 'foo/'arrays:\ninvalid node path invalid node name `` in 'foo/'
+groups | - | /group | G3 | foo/=G3 => other: invalid node path invalid node name `` in 'foo/'
+
+# The groups among the children.
+groups | zarr.json=G3 b/zarr.json=OTHERS a/.zgroup=G2 c/zarr.json=A3 b/x/zarr.json=G3 | / | G3 | - => group at /a with metadata {"zarr_format":2}\ngroup at /b with metadata {"attributes":{"k":1},"b":{"must_understand":false},"node_type":"group","z":1,"zarr_format":3}\n
+"#;
+
 #[test]
-fn the_groups_among_the_children(rt: HostRuntime) -> Result<(), Fail> {
-    let alloc = rt.alloc();
-    let documents = [
-        ("zarr.json", G3),
-        ("b/zarr.json", OTHERS),
-        ("a/.zgroup", G2),
-        ("c/zarr.json", A3),
-        ("b/x/zarr.json", G3),
-    ];
-    let root = group_of(alloc, "/", G3);
-    let found = over(alloc, &documents, root, child_groups_text)?;
-    let wanted = format!(in alloc;
-        "group at /a with metadata {G2}\ngroup at /b with metadata {OTHERS}\n"
-    )?;
-    is_same(found.as_str(), wanted.as_str())
+fn groups_say_what_stands_below(rt: HostRuntime) -> Result<(), Fail> {
+    check_rows(rt.alloc(), LOOKED, looked)
 }
 
 // ---- with each allocation refused in turn a block is set, or memory is wanting and the group stays
@@ -842,6 +587,14 @@ fn levels_text(alloc: Global) -> Result<String, AllocError> {
 // The text of that group where its block was refused, which leaves it as it was.
 const NOT_SET: &str =
     r#"out of memory: group at /group with metadata {"node_type":"group","zarr_format":3}"#;
+
+fn is_same(found: &str, wanted: &str) -> Result<(), Fail> {
+    if found == wanted {
+        Ok(())
+    } else {
+        Err(Fail::new(format_args!("found {found} in place of {wanted}")))
+    }
+}
 
 #[test]
 fn memory_fails_in_setting_a_block(rt: HostRuntime) -> Result<(), Fail> {

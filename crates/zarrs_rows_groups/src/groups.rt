@@ -1,7 +1,7 @@
-//! Groups that are made, opened, stored and erased. Each helper holds a group and answers a text; the tests are tables of
-//! short texts.
+//! Groups that are made, opened, stored and erased. Each helper holds a group and answers a text; the tests are tables of texts.
 
 use crate::fixtures::{Step, done};
+use crate::rows::store_in;
 use serde_json::{Map, Value};
 use std::alloc::{AllocError, Global};
 use std::test::Fail;
@@ -15,12 +15,10 @@ use zarrs_meta::{
     AdditionalFieldV3, AdditionalFieldsV3, GroupMetadata, GroupMetadataV2, GroupMetadataV3, Object,
 };
 use zarrs_path::{NodePath, NodePathError};
-use zarrs_rows_documents::{A2, G2, G3};
+use zarrs_rows_table::{check_rows, fields};
 use zarrs_store::{
     MemoryStore, ReadableStorageTraits, StorageError, StoreKey, StorePrefix, WritableStorageTraits,
 };
-
-const K: &str = r#"{"k":1}"#;
 
 const TWO: &str = r#"{
   "zarr_format": 2
@@ -58,34 +56,15 @@ fn name_of(text: &str) -> &str {
     }
 }
 
-fn is_same(found: &str, wanted: &str) -> Result<(), Fail> {
-    if found == wanted {
-        Ok(())
-    } else {
-        Err(Fail::new(format_args!("found {found} in place of {wanted}")))
-    }
-}
-
-// What a call says, without the words that each such text begins with.
-#[derive(Clone, Copy, Drop)]
-enum Says<'a> {
-    // The group at `/g` with this document.
-    Group(&'a str),
-    // This fault of a document.
-    Fault(&'a str),
-    // This text.
-    Text(&'a str),
-}
-
-fn is_said(found: &str, wanted: Says) -> Result<(), Fail> {
-    let (words, wanted) = match wanted {
-        Says::Group(document) => ("group at /g with metadata ", document),
-        Says::Fault(fault) => ("error parsing metadata for ", fault),
-        Says::Text(text) => ("", text),
-    };
-    match found.strip_prefix(words) {
-        Some(rest) => is_same(rest, wanted),
-        None => Err(Fail::new(format_args!("found {found} in place of {words}{wanted}"))),
+// The stored document that a name is of, or the text as it is; no text for `-`.
+fn text_named(name: &str) -> &str {
+    match name {
+        "two" => TWO,
+        "three" => THREE,
+        "k" => K_STORED,
+        "three k" => THREE_K,
+        "-" => "",
+        text => text,
     }
 }
 
@@ -99,10 +78,11 @@ const KEYS: [&str; 5] = [
     "g/.zmetadata",
 ];
 
-// The store with these texts at the first of the keys, where a text is not empty; nothing where memory was refused.
-fn filled(alloc: Global, texts: &[&str]) -> Option<MemoryStore> {
+// The store with the texts that these names, each with a period, are of at the keys; nothing where memory was refused.
+fn filled(alloc: Global, names: &str) -> Option<MemoryStore> {
     let mut store = MemoryStore::new(alloc);
-    for (key, text) in KEYS.iter().zip(texts.iter()) {
+    for (key, name) in KEYS.iter().zip(names.split('.')) {
+        let text = text_named(name);
         if !text.is_empty() {
             let key = StoreKey::new(alloc, key).ok()?;
             store.set(&key, text.as_bytes()).ok()?;
@@ -111,10 +91,10 @@ fn filled(alloc: Global, texts: &[&str]) -> Option<MemoryStore> {
     Some(store)
 }
 
-fn store_of(alloc: Global, texts: &[&str]) -> Result<MemoryStore, Fail> {
-    match filled(alloc, texts) {
+fn store_of(alloc: Global, names: &str) -> Result<MemoryStore, GroupCreateError> {
+    match filled(alloc, names) {
         Some(store) => Ok(store),
-        None => Err(Fail::from("no store")),
+        None => Err(GroupCreateError::OutOfMemory),
     }
 }
 
@@ -139,23 +119,24 @@ fn seen(alloc: Global, store: &MemoryStore) -> Option<String> {
     Some(all)
 }
 
-fn held(alloc: Global, store: &MemoryStore) -> Result<String, Fail> {
+fn held(alloc: Global, store: &MemoryStore) -> Result<String, GroupCreateError> {
     match seen(alloc, store) {
         Some(all) => Ok(all),
-        None => Err(Fail::from("no look")),
+        None => Err(GroupCreateError::OutOfMemory),
     }
 }
 
 // ---- groups
 
-fn members(alloc: Global, text: &str) -> Result<Map<String, Value>, Fail> {
-    match Value::from_str(alloc, text)? {
-        Value::Object(members) => Ok(members),
-        _ => Ok(Map::new(alloc)),
+fn members(alloc: Global, text: &str) -> Result<Map<String, Value>, GroupCreateError> {
+    match Value::from_str(alloc, text) {
+        Ok(Value::Object(members)) => Ok(members),
+        Ok(_) => Ok(Map::new(alloc)),
+        Err(_) => Err(GroupCreateError::OutOfMemory),
     }
 }
 
-fn fields(alloc: Global, text: &str) -> Result<AdditionalFieldsV3, Fail> {
+fn other_fields(alloc: Global, text: &str) -> Result<AdditionalFieldsV3, GroupCreateError> {
     let mut fields = Map::new(alloc);
     for (name, value) in members(alloc, text)?.iter() {
         let understood = value.get("must_understand").is_none();
@@ -166,7 +147,7 @@ fn fields(alloc: Global, text: &str) -> Result<AdditionalFieldsV3, Fail> {
 }
 
 // Metadata of version 2 with these attributes and these other fields.
-fn two(alloc: Global, attributes: &str, others: &str) -> Result<GroupMetadata, Fail> {
+fn two(alloc: Global, attributes: &str, others: &str) -> Result<GroupMetadata, GroupCreateError> {
     let attributes = Object::from_map(alloc, members(alloc, attributes)?)?;
     let additional_fields = Object::from_map(alloc, members(alloc, others)?)?;
     Ok(GroupMetadata::V2(GroupMetadataV2 {
@@ -176,41 +157,44 @@ fn two(alloc: Global, attributes: &str, others: &str) -> Result<GroupMetadata, F
 }
 
 // Metadata of version 3 with these attributes and these other fields.
-fn three(alloc: Global, attributes: &str, others: &str) -> Result<GroupMetadata, Fail> {
+fn three(alloc: Global, attributes: &str, others: &str) -> Result<GroupMetadata, GroupCreateError> {
     let attributes = Object::from_map(alloc, members(alloc, attributes)?)?;
-    let additional_fields = fields(alloc, others)?;
+    let additional_fields = other_fields(alloc, others)?;
     Ok(GroupMetadata::V3(GroupMetadataV3 {
         attributes,
         additional_fields,
     }))
 }
 
-// A group's version, attributes and other fields.
-type Given<'a> = (u8, &'a str, &'a str);
-
-fn metadata_of(alloc: Global, given: Given) -> Result<GroupMetadata, Fail> {
-    if given.0 == 2 {
-        two(alloc, given.1, given.2)
+// The metadata that three fields are: a version, attributes and other fields.
+fn metadata_of(alloc: Global, given: &str) -> Result<GroupMetadata, GroupCreateError> {
+    let (version, rest) = fields(given);
+    let (attributes, others) = fields(rest);
+    if version == "2" {
+        two(alloc, attributes, others)
     } else {
-        three(alloc, given.1, given.2)
+        three(alloc, attributes, others)
     }
 }
 
-fn group_of(alloc: Global, given: Given, config: &Config) -> Result<Group, Fail> {
+fn group_of(alloc: Global, given: &str, config: &Config) -> Result<Group, GroupCreateError> {
     let metadata = metadata_of(alloc, given)?;
     Ok(Group::new_with_metadata(alloc, "/g", metadata, config)?)
 }
 
-fn group_text(alloc: Global, group: &Group) -> Result<String, Fail> {
+fn group_text(alloc: Global, group: &Group) -> Result<String, GroupCreateError> {
     Ok(group.to_text(alloc)?)
 }
 
-fn error_text(alloc: Global, error: &GroupCreateError) -> Result<String, Fail> {
+fn error_text(alloc: Global, error: &GroupCreateError) -> Result<String, GroupCreateError> {
     Ok(format!(in alloc; "{error}")?)
 }
 
 // The group in words, or the text of the refusal.
-fn said(alloc: Global, answer: Result<Group, GroupCreateError>) -> Result<String, Fail> {
+fn said(
+    alloc: Global,
+    answer: Result<Group, GroupCreateError>,
+) -> Result<String, GroupCreateError> {
     match answer {
         Ok(group) => group_text(alloc, &group),
         Err(error) => error_text(alloc, &error),
@@ -219,412 +203,244 @@ fn said(alloc: Global, answer: Result<Group, GroupCreateError>) -> Result<String
 
 // ---- opening
 
-// What opening `/g` says by default.
-fn opened(alloc: Global, store: &MemoryStore) -> Result<String, Fail> {
-    said(alloc, Group::open(alloc, store, "/g", &Config::new()))
+// The version that a word is of; none for `-`.
+fn retrieved(word: &str) -> Option<MetadataRetrieveVersion> {
+    match word {
+        "default" => Some(MetadataRetrieveVersion::Default),
+        "v3" => Some(MetadataRetrieveVersion::V3),
+        "v2" => Some(MetadataRetrieveVersion::V2),
+        _ => None,
+    }
 }
 
-// What opening `/g` says by a version.
-fn opened_as(
-    alloc: Global,
-    store: &MemoryStore,
-    version: MetadataRetrieveVersion,
-) -> Result<String, Fail> {
-    said(
-        alloc,
-        Group::open_opt(alloc, store, "/g", &version, &Config::new()),
-    )
+// What opening a path says by a version, or by default for `-`, over the store with the documents of a list.
+fn opened(alloc: Global, given: &str) -> Result<String, GroupCreateError> {
+    let (path, rest) = fields(given);
+    let (version, list) = fields(rest);
+    let store = store_in(alloc, list)?;
+    let config = Config::new();
+    match retrieved(version) {
+        Some(version) => said(
+            alloc,
+            Group::open_opt(alloc, &store, path, &version, &config),
+        ),
+        None => said(alloc, Group::open(alloc, &store, path, &config)),
+    }
 }
+
+// Paths, versions and documents, and what opening says.
+const OPENED: &str = r#"
+# A path is opened by its first document.
+/g | - | g/zarr.json=G3 g/.zgroup=[] g/.zattrs=[] => group at /g with metadata {"node_type":"group","zarr_format":3}
+/g | - | g/.zgroup=G2 g/.zarray={} => group at /g with metadata {"zarr_format":2}
+/g | - | g/.zgroup=G2 g/.zattrs={"k":1} => group at /g with metadata {"attributes":{"k":1},"zarr_format":2}
+/g | - | g/.zattrs={"k":1} g/.zarray={} => group metadata is missing
+/g | - | g/.zgroup=[] g/.zarray={} => error parsing metadata for g/.zgroup: not an object
+/g | - | g/.zgroup=G2 g/.zattrs=[] => error parsing metadata for g/.zattrs: not an object
+
+# The root is opened.
+/ | - | zarr.json=NUL => error parsing metadata for zarr.json: not JSON
+/ | - | zarr.json=G2 => error parsing metadata for zarr.json: wrong zarr_format
+/ | - | zarr.json={"node_type":"array","zarr_format":3} => error parsing metadata for zarr.json: wrong node_type
+abc | - | zarr.json=G3 => invalid node path abc
+/group | - | zarr.json=G3 => group metadata is missing
+/ | - | zarr.json=G3 => group at / with metadata {"node_type":"group","zarr_format":3}
+
+# An array beside a group is not looked at.
+/p | - | p/.zarray=A2 p/.zgroup=[] => error parsing metadata for p/.zgroup: not an object
+/p | - | p/.zarray=A2 p/.zgroup=G2 => group at /p with metadata {"zarr_format":2}
+
+# The version limits what is looked at.
+/g | default | g/zarr.json=G3 g/.zgroup=G2 => group at /g with metadata {"node_type":"group","zarr_format":3}
+/g | v3 | g/zarr.json=G3 g/.zgroup=G2 => group at /g with metadata {"node_type":"group","zarr_format":3}
+/g | v2 | g/zarr.json=G3 g/.zgroup=G2 => group at /g with metadata {"zarr_format":2}
+/g | v3 | g/.zgroup=G2 => group metadata is missing
+
+# Fields and attributes are opened.
+/g | - | g/zarr.json={"attributes":{"eggs":42,"spam":"ham"},"node_type":"group","zarr_format":3} => group at /g with metadata {"attributes":{"eggs":42,"spam":"ham"},"node_type":"group","zarr_format":3}
+/g | - | g/zarr.json={"a":{"must_understand":false},"node_type":"group","zarr_format":3} => group at /g with metadata {"a":{"must_understand":false},"node_type":"group","zarr_format":3}
+/g | - | g/zarr.json={"attributes":{"n":1.5},"node_type":"group","zarr_format":3} => error parsing metadata for g/zarr.json: unsupported number
+/g | - | g/zarr.json={"consolidated_metadata":{"kind":"inline","metadata":{"a":{"attributes":{"n":1.5},"node_type":"group","zarr_format":3}}},"node_type":"group","zarr_format":3} => error parsing metadata for g/zarr.json: unsupported number
+/g | - | g/zarr.json={"consolidated_metadata":null,"node_type":"group","zarr_format":3} => group at /g with metadata {"node_type":"group","zarr_format":3}
+/g | - | g/zarr.json={"consolidated_metadata":{"kind":"inline","metadata":{}},"node_type":"group","zarr_format":3} => unsupported additional field consolidated_metadata
+/g | - | g/zarr.json={"unknown":"unsupported","node_type":"group","zarr_format":3} => unsupported additional field unknown
+
+# A block need not be understood where it is null alone.
+/ | - | zarr.json={"consolidated_metadata":{"kind":"inline","metadata":{}},"node_type":"group","zarr_format":3} => unsupported additional field consolidated_metadata
+/ | - | zarr.json={"consolidated_metadata":null,"node_type":"group","zarr_format":3} => group at / with metadata {"node_type":"group","zarr_format":3}
+/ | - | zarr.json={"node_type":"group","unknown":"unsupported","zarr_format":3} => unsupported additional field unknown
+"#;
 
 #[test]
-fn a_path_is_opened_by_its_first_document(rt: HostRuntime) -> Result<(), Fail> {
-    let alloc = rt.alloc();
-    for (texts, wanted) in [
-        ([G3, "[]", "[]", ""], Says::Group(G3)),
-        (["", G2, "", "{}"], Says::Group(G2)),
-        (
-            ["", G2, K, ""],
-            Says::Group(r#"{"attributes":{"k":1},"zarr_format":2}"#),
-        ),
-        (["", "", K, "{}"], Says::Text("group metadata is missing")),
-        (
-            ["", "[]", "", "{}"],
-            Says::Fault("g/.zgroup: not an object"),
-        ),
-        (["", G2, "[]", ""], Says::Fault("g/.zattrs: not an object")),
-    ] {
-        let store = store_of(alloc, &texts)?;
-        is_said(opened(alloc, &store)?.as_str(), wanted)?;
-    }
-    Ok(())
-}
-
-// What opening a path says over a store with this document at the root.
-fn opened_at(alloc: Global, path: &str, document: &str) -> Result<String, Fail> {
-    let store = zarrs_rows_nodes::store_of(alloc, &[("zarr.json", document)])?;
-    said(alloc, Group::open(alloc, &store, path, &Config::new()))
-}
-
-#[test]
-fn the_root_is_opened(rt: HostRuntime) -> Result<(), Fail> {
-    let alloc = rt.alloc();
-    for (path, document, wanted) in [
-        ("/", "\0", Says::Fault("zarr.json: not JSON")),
-        ("/", G2, Says::Fault("zarr.json: wrong zarr_format")),
-        (
-            "/",
-            r#"{"node_type":"array","zarr_format":3}"#,
-            Says::Fault("zarr.json: wrong node_type"),
-        ),
-        ("abc", G3, Says::Text("invalid node path abc")),
-        ("/group", G3, Says::Text("group metadata is missing")),
-        (
-            "/",
-            G3,
-            Says::Text(r#"group at / with metadata {"node_type":"group","zarr_format":3}"#),
-        ),
-    ] {
-        let found = opened_at(alloc, path, document)?;
-        is_said(found.as_str(), wanted)?;
-    }
-    Ok(())
-}
-
-// What opening `/p` says over a store with an array and this document of a group.
-fn opened_beside_an_array(alloc: Global, document: &str) -> Result<String, Fail> {
-    let store = zarrs_rows_nodes::store_of(alloc, &[("p/.zarray", A2), ("p/.zgroup", document)])?;
-    said(alloc, Group::open(alloc, &store, "/p", &Config::new()))
-}
-
-#[test]
-fn an_array_beside_a_group_is_not_looked_at(rt: HostRuntime) -> Result<(), Fail> {
-    let alloc = rt.alloc();
-    for (document, wanted) in [
-        ("[]", Says::Fault("p/.zgroup: not an object")),
-        (
-            G2,
-            Says::Text(r#"group at /p with metadata {"zarr_format":2}"#),
-        ),
-    ] {
-        let found = opened_beside_an_array(alloc, document)?;
-        is_said(found.as_str(), wanted)?;
-    }
-    Ok(())
-}
-
-#[test]
-fn the_version_limits_what_is_looked_at(rt: HostRuntime) -> Result<(), Fail> {
-    let alloc = rt.alloc();
-    for (texts, version, wanted) in [
-        (
-            [G3, G2, "", ""],
-            MetadataRetrieveVersion::Default,
-            Says::Group(G3),
-        ),
-        (
-            [G3, G2, "", ""],
-            MetadataRetrieveVersion::V3,
-            Says::Group(G3),
-        ),
-        (
-            [G3, G2, "", ""],
-            MetadataRetrieveVersion::V2,
-            Says::Group(G2),
-        ),
-        (
-            ["", G2, "", ""],
-            MetadataRetrieveVersion::V3,
-            Says::Text("group metadata is missing"),
-        ),
-    ] {
-        let store = store_of(alloc, &texts)?;
-        let found = opened_as(alloc, &store, version)?;
-        is_said(found.as_str(), wanted)?;
-    }
-    Ok(())
-}
-
-// The version 3 document with these members first.
-fn document(alloc: Global, members: &str) -> Result<String, Fail> {
-    Ok(format!(in alloc; r#"{{{members},"node_type":"group","zarr_format":3}}"#)?)
-}
-
-fn store_with(alloc: Global, members: &str) -> Result<MemoryStore, Fail> {
-    let document = document(alloc, members)?;
-    store_of(alloc, &[document.as_str()])
-}
-
-fn opened_with(alloc: Global, members: &str) -> Result<String, Fail> {
-    let store = store_with(alloc, members)?;
-    opened(alloc, &store)
-}
-
-#[test]
-fn fields_and_attributes_are_opened(rt: HostRuntime) -> Result<(), Fail> {
-    let alloc = rt.alloc();
-    for members in [
-        r#""attributes":{"eggs":42,"spam":"ham"}"#,
-        r#""a":{"must_understand":false}"#,
-    ] {
-        let found = opened_with(alloc, members)?;
-        let wanted = document(alloc, members)?;
-        is_said(found.as_str(), Says::Group(wanted.as_str()))?;
-    }
-    for (members, wanted) in [
-        (
-            r#""attributes":{"n":1.5}"#,
-            Says::Fault("g/zarr.json: unsupported number"),
-        ),
-        (
-            r#""consolidated_metadata":{"kind":"inline","metadata":{"a":{"attributes":{"n":1.5},"node_type":"group","zarr_format":3}}}"#,
-            Says::Fault("g/zarr.json: unsupported number"),
-        ),
-        (r#""consolidated_metadata":null"#, Says::Group(G3)),
-        (
-            r#""consolidated_metadata":{"kind":"inline","metadata":{}}"#,
-            Says::Text("unsupported additional field consolidated_metadata"),
-        ),
-        (
-            r#""unknown":"unsupported""#,
-            Says::Text("unsupported additional field unknown"),
-        ),
-    ] {
-        let found = opened_with(alloc, members)?;
-        is_said(found.as_str(), wanted)?;
-    }
-    Ok(())
+fn groups_are_opened(rt: HostRuntime) -> Result<(), Fail> {
+    check_rows(rt.alloc(), OPENED, opened)
 }
 
 // The name and the value of a field.
-fn field_text(alloc: Global, field: &AdditionalFieldUnsupportedError) -> Result<String, Fail> {
+fn field_text(
+    alloc: Global,
+    field: &AdditionalFieldUnsupportedError,
+) -> Result<String, GroupCreateError> {
     let value = field.value().to_string(alloc)?;
     let name = field.name();
     Ok(format!(in alloc; "{name} {value}")?)
 }
 
-// The field that opening refuses, or `none` where it names none.
-fn field_said(alloc: Global, answer: Result<Group, GroupCreateError>) -> Result<String, Fail> {
-    match answer {
+// The field that opening `/g` refuses over the store with the documents of a list, or `none` where it names none.
+fn field_said(alloc: Global, list: &str) -> Result<String, GroupCreateError> {
+    let store = store_in(alloc, list)?;
+    match Group::open(alloc, &store, "/g", &Config::new()) {
         Err(GroupCreateError::AdditionalFieldUnsupportedError(field)) => field_text(alloc, &field),
         _ => Ok(String::from_str(alloc, "none")?),
     }
 }
 
-fn field_with(alloc: Global, members: &str) -> Result<String, Fail> {
-    let store = store_with(alloc, members)?;
-    field_said(alloc, Group::open(alloc, &store, "/g", &Config::new()))
-}
+// Documents, and the field that is named.
+const FIELDS: &str = r#"
+g/zarr.json={"b":1,"a":1,"node_type":"group","zarr_format":3} => a 1
+g/zarr.json={"b":[2],"a":{"must_understand":false},"node_type":"group","zarr_format":3} => b [2]
+g/zarr.json={"a":{"must_understand":false},"node_type":"group","zarr_format":3} => none
+"#;
 
 #[test]
 fn the_least_field_that_must_be_understood_is_named(rt: HostRuntime) -> Result<(), Fail> {
-    let alloc = rt.alloc();
-    for (members, wanted) in [
-        (r#""b":1,"a":1"#, "a 1"),
-        (r#""b":[2],"a":{"must_understand":false}"#, "b [2]"),
-        (r#""a":{"must_understand":false}"#, "none"),
-    ] {
-        is_same(field_with(alloc, members)?.as_str(), wanted)?;
-    }
-    Ok(())
+    check_rows(rt.alloc(), FIELDS, field_said)
 }
 
 // ---- storing and erasing
 
 // The text of a refusal and a comma, or no text.
-fn refusal(alloc: Global, answer: Result<(), StorageError>) -> Result<String, Fail> {
+fn refusal(alloc: Global, answer: Result<(), StorageError>) -> Result<String, GroupCreateError> {
     match answer {
         Ok(()) => Ok(String::new(alloc)),
         Err(error) => Ok(format!(in alloc; "{error}, ")?),
     }
 }
 
+// The version that a word is of by which metadata are written.
+fn converted(word: &str) -> MetadataConvertVersion {
+    match word {
+        "v3" => MetadataConvertVersion::V3,
+        _ => MetadataConvertVersion::Default,
+    }
+}
+
+// The call that a word is of.
+fn step_of(word: &str) -> Step {
+    match word {
+        "store" => Step::Store,
+        "store v3" => Step::StoreAs(MetadataConvertVersion::V3),
+        "store default" => Step::StoreAs(MetadataConvertVersion::Default),
+        "erase" => Step::Erase,
+        "erase v3" => Step::EraseAs(MetadataEraseVersion::V3),
+        "erase v2" => Step::EraseAs(MetadataEraseVersion::V2),
+        "erase all" => Step::EraseAs(MetadataEraseVersion::All),
+        _ => Step::EraseAs(MetadataEraseVersion::Default),
+    }
+}
+
+// The configuration that a word is of.
+fn config_of(word: &str) -> Config {
+    let mut config = Config::new();
+    if word == "v3 and all" {
+        config.set_metadata_convert_version(MetadataConvertVersion::V3);
+        config.set_metadata_erase_version(MetadataEraseVersion::All);
+    }
+    config
+}
+
+// What a step on a group says over a store, where it is refused; the step, then the group.
 fn stepped(
     alloc: Global,
     store: &mut MemoryStore,
     config: &Config,
-    given: Given,
-    step: Step,
-) -> Result<String, Fail> {
+    given: &str,
+) -> Result<String, GroupCreateError> {
+    let (step, given) = fields(given);
     let group = group_of(alloc, given, config)?;
-    refusal(alloc, done(alloc, &group, store, step))
+    refusal(alloc, done(alloc, &group, store, step_of(step)))
 }
 
 // What a step on a group under a configuration says, where it is refused, and then what the store holds.
-fn after(
-    alloc: Global,
-    store: &mut MemoryStore,
-    config: &Config,
-    given: Given,
-    step: Step,
-) -> Result<String, Fail> {
-    let said = stepped(alloc, store, config, given, step)?;
-    let held = held(alloc, store)?;
+fn after(alloc: Global, given: &str) -> Result<String, GroupCreateError> {
+    let (names, rest) = fields(given);
+    let (config, step) = fields(rest);
+    let mut store = store_of(alloc, names)?;
+    let said = stepped(alloc, &mut store, &config_of(config), step)?;
+    let held = held(alloc, &store)?;
     Ok(format!(in alloc; "{said}{held}")?)
 }
 
-#[test]
-fn version_2_is_stored_and_erased_key_by_key(rt: HostRuntime) -> Result<(), Fail> {
-    let alloc = rt.alloc();
-    let mut store = store_of(alloc, &["", "", "", "x", "m"])?;
-    for (attributes, step, wanted) in [
-        (K, Step::Store, "-.two.k.x.-."),
-        ("{}", Step::Store, "-.two.-.x.-."),
-        (
-            "{}",
-            Step::StoreAs(MetadataConvertVersion::V3),
-            "three.two.-.x.-.",
-        ),
-        (
-            "{}",
-            Step::EraseAs(MetadataEraseVersion::Default),
-            "three.-.-.x.-.",
-        ),
-        (
-            K,
-            Step::StoreAs(MetadataConvertVersion::Default),
-            "three.two.k.x.-.",
-        ),
-        (K, Step::EraseAs(MetadataEraseVersion::All), "-.-.-.x.-."),
-    ] {
-        let found = after(
-            alloc,
-            &mut store,
-            &Config::new(),
-            (2, attributes, "{}"),
-            step,
-        )?;
-        is_same(found.as_str(), wanted)?;
-    }
-    Ok(())
-}
+// What a store holds, a configuration, a step and a group, and what the store then holds.
+const STORED: &str = r#"
+# Version 2 is stored and erased key by key, each step over what the one before left.
+-.-.-.x.m. | - | store | 2 | {"k":1} | {} => -.two.k.x.-.
+-.two.k.x.-. | - | store | 2 | {} | {} => -.two.-.x.-.
+-.two.-.x.-. | - | store v3 | 2 | {} | {} => three.two.-.x.-.
+three.two.-.x.-. | - | erase default | 2 | {} | {} => three.-.-.x.-.
+three.-.-.x.-. | - | store default | 2 | {"k":1} | {} => three.two.k.x.-.
+three.two.k.x.-. | - | erase all | 2 | {"k":1} | {} => -.-.-.x.-.
+
+# Each version erases its own keys.
+j.g.a.x.m. | - | erase default | 2 | {} | {} => j.-.-.x.-.
+j.g.a.x.m. | - | erase v3 | 2 | {} | {} => -.g.a.x.m.
+j.g.a.x.m. | - | erase v2 | 2 | {} | {} => j.-.-.x.-.
+j.g.a.x.m. | - | erase all | 2 | {} | {} => -.-.-.x.-.
+j.g.a.x.m. | - | erase default | 3 | {} | {} => -.g.a.x.m.
+j.g.a.x.m. | - | erase v3 | 3 | {} | {} => -.g.a.x.m.
+j.g.a.x.m. | - | erase v2 | 3 | {} | {} => j.-.-.x.-.
+j.g.a.x.m. | - | erase all | 3 | {} | {} => -.-.-.x.-.
+
+# A configuration gives the options.
+-.g.a.x.m. | v3 and all | store | 2 | {"k":1} | {} => three k.g.a.x.m.
+three k.g.a.x.m. | v3 and all | erase | 2 | {"k":1} | {} => -.-.-.x.-.
+
+# What is not plain is refused before any write.
+j.g.a.-.-. | - | store | 3 | {} | {"node_type":1,"attributes":1} => error parsing metadata for g/zarr.json: bad member attributes, j.g.a.-.-.
+j.g.a.-.-. | - | store | 3 | {} | {"node_type":1,"consolidated_metadata":null} => error parsing metadata for g/zarr.json: bad member consolidated_metadata, j.g.a.-.-.
+j.g.a.-.-. | - | store | 3 | {"n":1.5} | {"attributes":1} => error parsing metadata for g/zarr.json: unsupported number, j.g.a.-.-.
+j.g.a.-.-. | - | store | 2 | {} | {"shape":[1]} => error parsing metadata for g/.zgroup: bad member shape, j.g.a.-.-.
+j.g.a.-.-. | - | store | 2 | {} | {"shape":[1.5]} => error parsing metadata for g/.zgroup: unsupported number, j.g.a.-.-.
+"#;
 
 #[test]
-fn each_version_erases_its_own_keys(rt: HostRuntime) -> Result<(), Fail> {
-    let alloc = rt.alloc();
-    for (version, erased, wanted) in [
-        (2, MetadataEraseVersion::Default, "j.-.-.x.-."),
-        (2, MetadataEraseVersion::V3, "-.g.a.x.m."),
-        (2, MetadataEraseVersion::V2, "j.-.-.x.-."),
-        (2, MetadataEraseVersion::All, "-.-.-.x.-."),
-        (3, MetadataEraseVersion::Default, "-.g.a.x.m."),
-        (3, MetadataEraseVersion::V3, "-.g.a.x.m."),
-        (3, MetadataEraseVersion::V2, "j.-.-.x.-."),
-        (3, MetadataEraseVersion::All, "-.-.-.x.-."),
-    ] {
-        let mut store = store_of(alloc, &["j", "g", "a", "x", "m"])?;
-        let step = Step::EraseAs(erased);
-        let found = after(
-            alloc,
-            &mut store,
-            &Config::new(),
-            (version, "{}", "{}"),
-            step,
-        )?;
-        is_same(found.as_str(), wanted)?;
-    }
-    Ok(())
+fn groups_are_stored_and_erased(rt: HostRuntime) -> Result<(), Fail> {
+    check_rows(rt.alloc(), STORED, after)
 }
 
-#[test]
-fn a_configuration_gives_the_options(rt: HostRuntime) -> Result<(), Fail> {
-    let alloc = rt.alloc();
-    let mut config = Config::new();
-    config.set_metadata_convert_version(MetadataConvertVersion::V3);
-    config.set_metadata_erase_version(MetadataEraseVersion::All);
-    let mut store = store_of(alloc, &["", "g", "a", "x", "m"])?;
-    for (step, wanted) in [
-        (Step::Store, "three k.g.a.x.m."),
-        (Step::Erase, "-.-.-.x.-."),
-    ] {
-        let found = after(alloc, &mut store, &config, (2, K, "{}"), step)?;
-        is_same(found.as_str(), wanted)?;
-    }
-    Ok(())
-}
-
-#[test]
-fn what_is_not_plain_is_refused_before_any_write(rt: HostRuntime) -> Result<(), Fail> {
-    let alloc = rt.alloc();
-    let mut store = store_of(alloc, &["j", "g", "a"])?;
-    for (given, wanted) in [
-        (
-            (3, "{}", r#"{"node_type":1,"attributes":1}"#),
-            "g/zarr.json: bad member attributes, j.g.a.-.-.",
-        ),
-        (
-            (3, "{}", r#"{"node_type":1,"consolidated_metadata":null}"#),
-            "g/zarr.json: bad member consolidated_metadata, j.g.a.-.-.",
-        ),
-        (
-            (3, r#"{"n":1.5}"#, r#"{"attributes":1}"#),
-            "g/zarr.json: unsupported number, j.g.a.-.-.",
-        ),
-        (
-            (2, "{}", r#"{"shape":[1]}"#),
-            "g/.zgroup: bad member shape, j.g.a.-.-.",
-        ),
-        (
-            (2, "{}", r#"{"shape":[1.5]}"#),
-            "g/.zgroup: unsupported number, j.g.a.-.-.",
-        ),
-    ] {
-        let found = after(alloc, &mut store, &Config::new(), given, Step::Store)?;
-        is_said(found.as_str(), Says::Fault(wanted))?;
-    }
-    Ok(())
+// The store that holds a group by a version and nothing else.
+fn store_with(alloc: Global, given: &str) -> Result<MemoryStore, GroupCreateError> {
+    let (version, given) = fields(given);
+    let group = group_of(alloc, given, &Config::new())?;
+    let mut store = MemoryStore::new(alloc);
+    drop(done(alloc, &group, &mut store, Step::StoreAs(converted(version))));
+    Ok(store)
 }
 
 // What storing over nothing and opening again says.
-fn again(alloc: Global, given: Given, version: MetadataConvertVersion) -> Result<String, Fail> {
-    let mut store = MemoryStore::new(alloc);
-    let stored = after(
-        alloc,
-        &mut store,
-        &Config::new(),
-        given,
-        Step::StoreAs(version),
-    )?;
-    drop(stored);
-    opened(alloc, &store)
+fn again(alloc: Global, given: &str) -> Result<String, GroupCreateError> {
+    let store = store_with(alloc, given)?;
+    said(alloc, Group::open(alloc, &store, "/g", &Config::new()))
 }
+
+// Versions and groups, and what opening says.
+const AGAIN: &str = r#"
+default | 3 | {} | {} => group at /g with metadata {"node_type":"group","zarr_format":3}
+v3 | 2 | {} | {"shape":[1]} => group at /g with metadata {"node_type":"group","zarr_format":3}
+default | 3 | {} | {"unknown":"unsupported"} => unsupported additional field unknown
+default | 2 | {} | {"f":2} => group at /g with metadata {"f":2,"zarr_format":2}
+default | 2 | {"k":1} | {} => group at /g with metadata {"attributes":{"k":1},"zarr_format":2}
+"#;
 
 #[test]
 fn a_stored_group_is_opened_again(rt: HostRuntime) -> Result<(), Fail> {
-    let alloc = rt.alloc();
-    let as_held = MetadataConvertVersion::Default;
-    for (given, version, wanted) in [
-        ((3, "{}", "{}"), as_held, Says::Group(G3)),
-        (
-            (2, "{}", r#"{"shape":[1]}"#),
-            MetadataConvertVersion::V3,
-            Says::Group(G3),
-        ),
-        (
-            (3, "{}", r#"{"unknown":"unsupported"}"#),
-            as_held,
-            Says::Text("unsupported additional field unknown"),
-        ),
-        (
-            (2, "{}", r#"{"f":2}"#),
-            as_held,
-            Says::Group(r#"{"f":2,"zarr_format":2}"#),
-        ),
-        (
-            (2, K, "{}"),
-            as_held,
-            Says::Group(r#"{"attributes":{"k":1},"zarr_format":2}"#),
-        ),
-    ] {
-        let found = again(alloc, given, version)?;
-        is_said(found.as_str(), wanted)?;
-    }
-    Ok(())
+    check_rows(rt.alloc(), AGAIN, again)
 }
 
 // ---- making
 
 // What `new_with_metadata` says at a path.
-fn made_at(alloc: Global, path: &str, given: Given) -> Result<String, Fail> {
+fn made_at(alloc: Global, path: &str, given: &str) -> Result<String, GroupCreateError> {
     let metadata = metadata_of(alloc, given)?;
     said(
         alloc,
@@ -633,43 +449,51 @@ fn made_at(alloc: Global, path: &str, given: Given) -> Result<String, Fail> {
 }
 
 // What a builder of these parts makes at a path.
-fn built(alloc: Global, path: &str, attributes: &str, others: &str) -> Result<String, Fail> {
+fn built(alloc: Global, path: &str, parts: &str) -> Result<String, GroupCreateError> {
+    let (attributes, others) = fields(parts);
     let attributes = Object::from_map(alloc, members(alloc, attributes)?)?;
-    let others = fields(alloc, others)?;
+    let others = other_fields(alloc, others)?;
     let mut builder = GroupBuilder::new(alloc);
     builder.attributes(attributes);
     builder.additional_fields(others);
     said(alloc, builder.build(alloc, path, &Config::new()))
 }
 
-fn built_of_nothing(alloc: Global, path: &str) -> Result<String, Fail> {
+fn built_of_nothing(alloc: Global, path: &str) -> Result<String, GroupCreateError> {
     let builder = GroupBuilder::new(alloc);
     said(alloc, builder.build(alloc, path, &Config::new()))
 }
 
+// What a builder of nothing or of parts, or `new_with_metadata`, makes at a path.
+fn made(alloc: Global, given: &str) -> Result<String, GroupCreateError> {
+    let (by, rest) = fields(given);
+    let (path, parts) = fields(rest);
+    match by {
+        "nothing" => built_of_nothing(alloc, path),
+        "parts" => built(alloc, path, fields(parts).1),
+        _ => made_at(alloc, path, parts),
+    }
+}
+
+// What a group is made of, its path and parts, and what that says.
+const MADE: &str = r#"
+nothing | /group | 3 | {} | {} => group at /group with metadata {"node_type":"group","zarr_format":3}
+nothing | abc | 3 | {} | {} => invalid node path abc
+parts | /g | 3 | {"k":1} | {"key":{}} => group at /g with metadata {"attributes":{"k":1},"key":{},"node_type":"group","zarr_format":3}
+metadata | /g | 3 | {"k":1} | {"key":{}} => group at /g with metadata {"attributes":{"k":1},"key":{},"node_type":"group","zarr_format":3}
+parts | abc | 3 | {"k":1} | {"key":{}} => invalid node path abc
+metadata | abc | 3 | {"k":1} | {"key":{}} => invalid node path abc
+"#;
+
 #[test]
 fn a_group_is_made_at_a_path(rt: HostRuntime) -> Result<(), Fail> {
-    let alloc = rt.alloc();
-    let bad = "invalid node path abc";
-    let empty = r#"group at /group with metadata {"node_type":"group","zarr_format":3}"#;
-    for (path, wanted) in [("/group", empty), ("abc", bad)] {
-        let found = built_of_nothing(alloc, path)?;
-        is_same(found.as_str(), wanted)?;
-    }
-    let full = r#"{"attributes":{"k":1},"key":{},"node_type":"group","zarr_format":3}"#;
-    for (path, wanted) in [("/g", Says::Group(full)), ("abc", Says::Text(bad))] {
-        let found = built(alloc, path, K, r#"{"key":{}}"#)?;
-        is_said(found.as_str(), wanted)?;
-        let found = made_at(alloc, path, (3, K, r#"{"key":{}}"#))?;
-        is_said(found.as_str(), wanted)?;
-    }
-    Ok(())
+    check_rows(rt.alloc(), MADE, made)
 }
 
 // ---- parts of a group
 
 // The path, the number of attributes and the version that the accessors show.
-fn parts_of(alloc: Global, group: &Group) -> Result<String, Fail> {
+fn parts_of(alloc: Global, group: &Group) -> Result<String, GroupCreateError> {
     let path = group.path().as_str();
     let count = group.attributes().len();
     let version = match group.metadata() {
@@ -679,32 +503,32 @@ fn parts_of(alloc: Global, group: &Group) -> Result<String, Fail> {
     Ok(format!(in alloc; "{path} {count} {version}")?)
 }
 
-fn shown(alloc: Global, given: Given) -> Result<String, Fail> {
+fn shown(alloc: Global, given: &str) -> Result<String, GroupCreateError> {
     let group = group_of(alloc, given, &Config::new())?;
     parts_of(alloc, &group)
 }
 
 // The group after its attributes were written.
-fn written(alloc: Global, given: Given) -> Result<String, Fail> {
+fn written(alloc: Global, given: &str) -> Result<String, GroupCreateError> {
     let attributes = Object::from_map(alloc, members(alloc, r#"{"n":1}"#)?)?;
     let mut group = group_of(alloc, given, &Config::new())?;
     *group.attributes_mut() = attributes;
     group_text(alloc, &group)
 }
 
-fn copy_of(alloc: Global, given: Given) -> Result<Group, Fail> {
+fn copy_of(alloc: Global, given: &str) -> Result<Group, GroupCreateError> {
     let group = group_of(alloc, given, &Config::new())?;
     Ok(group.try_clone(alloc)?)
 }
 
 // A copy of the group.
-fn copied(alloc: Global, given: Given) -> Result<String, Fail> {
+fn copied(alloc: Global, given: &str) -> Result<String, GroupCreateError> {
     let copy = copy_of(alloc, given)?;
     group_text(alloc, &copy)
 }
 
 // The group as version 3.
-fn as_version_3(alloc: Global, given: Given) -> Result<String, Fail> {
+fn as_version_3(alloc: Global, given: &str) -> Result<String, GroupCreateError> {
     let group = group_of(alloc, given, &Config::new())?.to_v3(alloc);
     group_text(alloc, &group)
 }
@@ -712,16 +536,20 @@ fn as_version_3(alloc: Global, given: Given) -> Result<String, Fail> {
 // The metadata as the options have them written.
 fn optioned(
     alloc: Global,
-    given: Given,
+    given: &str,
     version: MetadataConvertVersion,
-) -> Result<GroupMetadata, Fail> {
+) -> Result<GroupMetadata, GroupCreateError> {
     let group = group_of(alloc, given, &Config::new())?;
     let options = GroupMetadataOptions::default().with_metadata_convert_version(version);
     Ok(group.metadata_opt(alloc, &options)?)
 }
 
 // The group of these metadata.
-fn under(alloc: Global, given: Given, version: MetadataConvertVersion) -> Result<String, Fail> {
+fn under(
+    alloc: Global,
+    given: &str,
+    version: MetadataConvertVersion,
+) -> Result<String, GroupCreateError> {
     let metadata = optioned(alloc, given, version)?;
     said(
         alloc,
@@ -729,89 +557,67 @@ fn under(alloc: Global, given: Given, version: MetadataConvertVersion) -> Result
     )
 }
 
-// A call on a group that answers of it.
-#[derive(Clone, Copy, Drop)]
-enum Look {
-    Shown,
-    Written,
-    Copied,
-    AsVersion3,
-    Under(MetadataConvertVersion),
-}
-
-fn looked(alloc: Global, look: Look, given: Given) -> Result<String, Fail> {
+// What a call on a group answers of it.
+fn looked(alloc: Global, row: &str) -> Result<String, GroupCreateError> {
+    let (look, given) = fields(row);
     match look {
-        Look::Shown => shown(alloc, given),
-        Look::Written => written(alloc, given),
-        Look::Copied => copied(alloc, given),
-        Look::AsVersion3 => as_version_3(alloc, given),
-        Look::Under(version) => under(alloc, given, version),
+        "shown" => shown(alloc, given),
+        "written" => written(alloc, given),
+        "copied" => copied(alloc, given),
+        "as version 3" => as_version_3(alloc, given),
+        "under v3" => under(alloc, given, MetadataConvertVersion::V3),
+        _ => under(alloc, given, MetadataConvertVersion::Default),
     }
 }
+
+// A call, and the version, attributes and other fields of a group, and what the call answers.
+const LOOKED: &str = r#"
+shown | 2 | {"k":1} | {"f":2} => /g 1 2
+written | 2 | {"k":1} | {"f":2} => group at /g with metadata {"attributes":{"n":1},"f":2,"zarr_format":2}
+copied | 2 | {"k":1} | {"f":2} => group at /g with metadata {"attributes":{"k":1},"f":2,"zarr_format":2}
+as version 3 | 2 | {"k":1} | {"f":2} => group at /g with metadata {"attributes":{"k":1},"node_type":"group","zarr_format":3}
+under default | 2 | {"k":1} | {"f":2} => group at /g with metadata {"attributes":{"k":1},"f":2,"zarr_format":2}
+under v3 | 2 | {"k":1} | {"f":2} => group at /g with metadata {"attributes":{"k":1},"node_type":"group","zarr_format":3}
+shown | 3 | {"k":1} | {} => /g 1 3
+as version 3 | 3 | {"k":1} | {} => group at /g with metadata {"attributes":{"k":1},"node_type":"group","zarr_format":3}
+"#;
 
 #[test]
 fn a_group_shows_and_keeps_its_parts(rt: HostRuntime) -> Result<(), Fail> {
-    let alloc = rt.alloc();
-    let old = r#"{"attributes":{"k":1},"f":2,"zarr_format":2}"#;
-    let new = r#"{"attributes":{"k":1},"node_type":"group","zarr_format":3}"#;
-    for (look, wanted) in [
-        (Look::Shown, Says::Text("/g 1 2")),
-        (
-            Look::Written,
-            Says::Group(r#"{"attributes":{"n":1},"f":2,"zarr_format":2}"#),
-        ),
-        (Look::Copied, Says::Group(old)),
-        (Look::AsVersion3, Says::Group(new)),
-        (
-            Look::Under(MetadataConvertVersion::Default),
-            Says::Group(old),
-        ),
-        (Look::Under(MetadataConvertVersion::V3), Says::Group(new)),
-    ] {
-        let found = looked(alloc, look, (2, K, r#"{"f":2}"#))?;
-        is_said(found.as_str(), wanted)?;
-    }
-    for (look, wanted) in [
-        (Look::Shown, Says::Text("/g 1 3")),
-        (Look::AsVersion3, Says::Group(new)),
-    ] {
-        let found = looked(alloc, look, (3, K, "{}"))?;
-        is_said(found.as_str(), wanted)?;
-    }
-    Ok(())
+    check_rows(rt.alloc(), LOOKED, looked)
 }
 
 // ---- refusals
 
-// The refusal of a node by its number.
-fn node_error(alloc: Global, number: u8) -> Result<NodeCreateError, Fail> {
-    match number {
-        0 => Ok(NodeCreateError::StorageError(StorageError::Fault)),
-        1 => Ok(NodeCreateError::MetadataVersionMismatch),
-        2 => Ok(NodeCreateError::MissingMetadata(String::from_str(alloc, "/a")?)),
-        3 => Ok(NodeCreateError::NodePathError(NodePathError::OutOfMemory)),
-        4 => path_error(alloc),
-        5 => prefix_error(alloc),
+// The refusal of a node by its name.
+fn node_error(alloc: Global, name: &str) -> Result<NodeCreateError, GroupCreateError> {
+    match name {
+        "fault" => Ok(NodeCreateError::StorageError(StorageError::Fault)),
+        "mismatch" => Ok(NodeCreateError::MetadataVersionMismatch),
+        "missing" => Ok(NodeCreateError::MissingMetadata(String::from_str(alloc, "/a")?)),
+        "path memory" => Ok(NodeCreateError::NodePathError(NodePathError::OutOfMemory)),
+        "path" => path_error(alloc),
+        "prefix" => prefix_error(alloc),
         _ => Ok(NodeCreateError::OutOfMemory),
     }
 }
 
-fn path_error(alloc: Global) -> Result<NodeCreateError, Fail> {
+fn path_error(alloc: Global) -> Result<NodeCreateError, GroupCreateError> {
     match NodePath::new(alloc, "x") {
         Err(error) => Ok(NodeCreateError::NodePathError(error)),
-        Ok(_) => Err(Fail::from("a path")),
+        Ok(_) => Err(GroupCreateError::OutOfMemory),
     }
 }
 
-fn prefix_error(alloc: Global) -> Result<NodeCreateError, Fail> {
+fn prefix_error(alloc: Global) -> Result<NodeCreateError, GroupCreateError> {
     match StorePrefix::new(alloc, "/") {
         Err(error) => Ok(NodeCreateError::StorePrefixError(error)),
-        Ok(_) => Err(Fail::from("a prefix")),
+        Ok(_) => Err(GroupCreateError::OutOfMemory),
     }
 }
 
 // The kind of a refusal and its text.
-fn kind_and_text(alloc: Global, error: &GroupCreateError) -> Result<String, Fail> {
+fn kind_and_text(alloc: Global, error: &GroupCreateError) -> Result<String, GroupCreateError> {
     let kind = match error {
         GroupCreateError::StorageError(_) => "storage",
         GroupCreateError::OutOfMemory => "memory",
@@ -820,63 +626,53 @@ fn kind_and_text(alloc: Global, error: &GroupCreateError) -> Result<String, Fail
     Ok(format!(in alloc; "{kind}: {error}")?)
 }
 
-fn from_node(alloc: Global, number: u8) -> Result<String, Fail> {
-    let error = node_error(alloc, number)?;
-    kind_and_text(alloc, &GroupCreateError::from_node_error(alloc, error))
-}
-
-#[test]
-fn the_refusal_of_a_node_becomes_that_of_a_group(rt: HostRuntime) -> Result<(), Fail> {
-    let alloc = rt.alloc();
-    for (number, wanted) in [
-        (0, "storage: store fault"),
-        (1, "storage: Found V2 metadata in V3 key or vice-versa"),
-        (2, "storage: Metadata is missing for /a"),
-        (3, "memory: out of memory"),
-        (4, "storage: invalid node path x"),
-        (5, "storage: invalid store prefix /"),
-        (6, "memory: out of memory"),
-    ] {
-        let found = from_node(alloc, number)?;
-        is_same(found.as_str(), wanted)?;
-    }
-    Ok(())
-}
-
-// The refusal of a group by its number.
-fn group_error(alloc: Global, number: u8) -> Result<GroupCreateError, Fail> {
-    match number {
-        0 => {
+// The refusal of a group by its name.
+fn group_error(alloc: Global, name: &str) -> Result<GroupCreateError, GroupCreateError> {
+    match name {
+        "field" => {
             let name = String::from_str(alloc, "a")?;
             let field = AdditionalFieldUnsupportedError::new(name, Value::from(1u64));
             Ok(GroupCreateError::AdditionalFieldUnsupportedError(field))
         }
-        1 => Ok(GroupCreateError::MissingMetadata),
-        2 => Ok(GroupCreateError::from(AllocError)),
-        3 => Ok(GroupCreateError::from(StorageError::Fault)),
+        "missing" => Ok(GroupCreateError::MissingMetadata),
+        "memory" => Ok(GroupCreateError::from(AllocError)),
+        "storage" => Ok(GroupCreateError::from(StorageError::Fault)),
         _ => Ok(GroupCreateError::from(NodePathError::OutOfMemory)),
     }
 }
 
-fn error_said(alloc: Global, number: u8) -> Result<String, Fail> {
-    let error = group_error(alloc, number)?;
+// The kind and the text of the refusal of a group, or of what that of a node becomes.
+fn refused(alloc: Global, given: &str) -> Result<String, GroupCreateError> {
+    let (of, name) = fields(given);
+    let error = match of {
+        "node" => GroupCreateError::from_node_error(alloc, node_error(alloc, name)?),
+        _ => group_error(alloc, name)?,
+    };
     kind_and_text(alloc, &error)
 }
 
+// Refusals, and their kinds and texts.
+const REFUSED: &str = r#"
+# The refusal of a node becomes that of a group.
+node | fault => storage: store fault
+node | mismatch => storage: Found V2 metadata in V3 key or vice-versa
+node | missing => storage: Metadata is missing for /a
+node | path memory => memory: out of memory
+node | path => storage: invalid node path x
+node | prefix => storage: invalid store prefix /
+node | memory => memory: out of memory
+
+# Refusals have their texts.
+group | field => other: unsupported additional field a
+group | missing => other: group metadata is missing
+group | memory => memory: out of memory
+group | storage => storage: store fault
+group | path memory => other: out of memory
+"#;
+
 #[test]
 fn refusals_have_their_texts(rt: HostRuntime) -> Result<(), Fail> {
-    let alloc = rt.alloc();
-    for (number, wanted) in [
-        (0, "other: unsupported additional field a"),
-        (1, "other: group metadata is missing"),
-        (2, "memory: out of memory"),
-        (3, "storage: store fault"),
-        (4, "other: out of memory"),
-    ] {
-        let found = error_said(alloc, number)?;
-        is_same(found.as_str(), wanted)?;
-    }
-    Ok(())
+    check_rows(rt.alloc(), REFUSED, refused)
 }
 
 #[test]
@@ -894,7 +690,7 @@ fn the_laws_are_called(rt: HostRuntime) -> Result<(), Fail> {
     laws::stored_gives_back();
     laws::stored_v2_gives_back();
     let path = NodePath::new(alloc, "/g")?;
-    let metadata = metadata_of(alloc, (3, K, "{}"))?;
+    let metadata = metadata_of(alloc, r#"3 | {"k":1} | {}"#)?;
     laws::stored_means(alloc, &path, &metadata)?;
     Ok(())
 }

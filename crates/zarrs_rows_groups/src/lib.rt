@@ -7,5 +7,7 @@ mod fixtures;
 mod group_children;
 #[cfg(test)]
 mod groups;
+#[cfg(test)]
+mod rows;
 
 pub use fixtures::{LEVELS, LEVELS_TREES, Step, done, groups_text, levels, refused, with_block};

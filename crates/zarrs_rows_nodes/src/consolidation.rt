@@ -1,16 +1,17 @@
 //! The block of a node, made of all nodes below it.
 
-use crate::asserts::assert_says;
-use crate::fixtures::{A3_SQUARE, ANY, THREE_LEVELS, metadata_at, node_at};
+use crate::given::{document_name, list_of, no_word, pairs_in};
 use std::alloc::{AllocError, Global};
-use std::process::Abort;
+use std::test::Fail;
 use zarrs_block::{ConsolidatedMetadataMetadata, NodeCreateError};
 use zarrs_meta::{GroupMetadata, GroupMetadataV3, NodeMetadata};
 use zarrs_node::{Node, laws};
 use zarrs_path::NodePath;
-use zarrs_rows_documents::{A2, A3, G2, G3, said};
+use zarrs_rows_documents::said;
+use zarrs_rows_fixtures::{ANY, metadata_at, node_at};
+use zarrs_rows_table::{check_rows, fields};
 
-// A line for each key of a block, with the metadata; or `no block`.
+// A line for each key of a block, with the word for its document, or the document; or `no block`.
 fn lines_text(
     block: &Option<ConsolidatedMetadataMetadata>,
     alloc: Global,
@@ -21,7 +22,7 @@ fn lines_text(
     let mut text = String::new(alloc);
     for (key, metadata) in block.as_map().iter() {
         let document = metadata.to_text(alloc)?;
-        write!(text, "{key} {document}\n")?;
+        write!(text, "{key} {}\n", document_name(document.as_str()))?;
     }
     Ok(text)
 }
@@ -35,60 +36,10 @@ fn block_text(node: &Node, alloc: Global) -> Result<String, AllocError> {
     }
 }
 
-// Asserts the block of a node. The case is named where the assertion fails.
-fn assert_block<R: Abort>(
-    rt: &R,
-    alloc: Global,
-    case: &str,
-    node: Result<Node, NodeCreateError>,
-    wanted: &[(&str, &str)],
-) {
-    match lines(alloc, wanted) {
-        Ok(wanted) => assert_says(rt, alloc, case, node, block_text, wanted.as_str()),
-        Err(_) => assert_says(rt, alloc, case, node, block_text, "no memory"),
-    }
-}
-
-// A line for each pair.
-fn lines(alloc: Global, pairs: &[(&str, &str)]) -> Result<String, AllocError> {
-    let mut text = String::new(alloc);
-    for (key, document) in pairs {
-        write!(text, "{key} {document}\n")?;
-    }
-    Ok(text)
-}
-
-#[test]
-fn all_below_a_group_stand_at_their_names_beyond_it(rt: HostRuntime) {
-    let below_group = [
-        ("array", A3_SQUARE),
-        ("subgroup", G3),
-        ("subgroup/mysubarray", A3_SQUARE),
-    ];
-    let alloc = rt.alloc();
-    let group = node_at(alloc, &THREE_LEVELS, "/group");
-    assert_block(&rt, alloc, "/group", group, &below_group);
-    let below_root = [
-        ("array", A3_SQUARE),
-        ("group", G3),
-        ("group/array", A3_SQUARE),
-        ("group/subgroup", G3),
-        ("group/subgroup/mysubarray", A3_SQUARE),
-    ];
-    let root = node_at(alloc, &THREE_LEVELS, "/");
-    assert_block(&rt, alloc, "/", root, &below_root);
-}
-
-#[test]
-fn a_group_without_children_has_an_empty_block(rt: HostRuntime) {
-    let group = node_at(rt.alloc(), &[("g/.zgroup", G2)], "/g");
-    assert_block(&rt, rt.alloc(), "/g", group, &[]);
-}
-
-#[test]
-fn an_array_has_no_block(rt: HostRuntime) {
-    let node = node_at(rt.alloc(), &[("a/.zarray", A2)], "/a");
-    assert_says(&rt, rt.alloc(), "/a", node, block_text, "no block");
+// The node at a path of a store.
+fn stored(alloc: Global, path: &str, documents: &str) -> Result<Node, NodeCreateError> {
+    let documents = pairs_in(alloc, list_of(documents))?;
+    node_at(alloc, documents.as_slice(), path)
 }
 
 // A node of a document without children.
@@ -98,27 +49,61 @@ fn leaf(alloc: Global, path: &str, document: &str) -> Result<Node, NodeCreateErr
     Ok(Node::new_with_metadata(path, metadata, Vec::new(alloc)))
 }
 
-// The group at the root with these nodes below it.
-fn root_with(alloc: Global, nodes: &[(&str, &str)]) -> Result<Node, NodeCreateError> {
-    let root = NodePath::root(alloc)?;
-    let metadata = NodeMetadata::Group(GroupMetadata::V3(GroupMetadataV3::new(alloc)));
-    let children: Result<Vec<Node>, NodeCreateError> = nodes
+// The nodes of a list, without children.
+fn leaves(alloc: Global, nodes: &str) -> Result<Vec<Node>, NodeCreateError> {
+    let nodes = pairs_in(alloc, nodes)?;
+    nodes
+        .as_slice()
         .iter()
         .map(|(path, document)| leaf(alloc, path, document))
-        .try_collect(alloc);
-    children.map(|children| Node::new_with_metadata(root, metadata, children))
+        .try_collect(alloc)
 }
 
-#[test]
-fn of_two_nodes_with_one_path_the_later_counts(rt: HostRuntime) {
-    let node = root_with(rt.alloc(), &[("/a", G3), ("/b", G3), ("/a", A3)]);
-    assert_block(&rt, rt.alloc(), "twice", node, &[("a", A3), ("b", G3)]);
+// The group at a path over the nodes of a list.
+fn made(alloc: Global, path: &str, nodes: &str) -> Result<Node, NodeCreateError> {
+    let children = leaves(alloc, nodes)?;
+    let path = NodePath::new(alloc, path)?;
+    let metadata = NodeMetadata::Group(GroupMetadata::V3(GroupMetadataV3::new(alloc)));
+    Ok(Node::new_with_metadata(path, metadata, children))
 }
 
+// The node of a row: one of a store, or one that is made of nodes.
+fn node_given(alloc: Global, given: &str) -> Result<Node, NodeCreateError> {
+    let (origin, rest) = fields(given);
+    let (path, list) = fields(rest);
+    match origin {
+        "stored" => stored(alloc, path, list),
+        "made" => made(alloc, path, list),
+        origin => Err(no_word(alloc, origin)),
+    }
+}
+
+fn block_said(alloc: Global, given: &str) -> Result<String, AllocError> {
+    said(alloc, node_given(alloc, given), block_text)
+}
+
+// Where a node is from, its path, and the store or the nodes below it; the keys of its block with the words for their documents.
+const BLOCKS: &str = r#"
+# all below a group stand at their names beyond it
+stored | /group | three levels => array square\nsubgroup g3\nsubgroup/mysubarray square\n
+stored | / | three levels => array square\ngroup g3\ngroup/array square\ngroup/subgroup g3\ngroup/subgroup/mysubarray square\n
+
+# a group without children has an empty block
+stored | /g | g/.zgroup g2 =>
+
+# an array has no block
+stored | /a | a/.zarray a2 => no block
+
+# of two nodes with one path the later counts
+made | / | /a g3;/b g3;/a a3 => a a3\nb g3\n
+
+# a stranger among the children is told
+made | / | /a/b g3 => not placed
+"#;
+
 #[test]
-fn a_stranger_among_the_children_is_told(rt: HostRuntime) {
-    let node = root_with(rt.alloc(), &[("/a/b", G3)]);
-    assert_says(&rt, rt.alloc(), "stranger", node, block_text, "not placed");
+fn a_block_has_all_below_its_node(rt: HostRuntime) -> Result<(), Fail> {
+    check_rows(rt.alloc(), BLOCKS, block_said)
 }
 
 #[test]

@@ -1,93 +1,76 @@
 //! What a listing shows, passes over and refuses.
 
-use crate::asserts::assert_says;
-use crate::fixtures::{
-    A3_SQUARE, ANY, THREE_LEVELS, listed, listing_text, paths_listed, paths_listing_text, store_of,
-};
-use log::sink::Discard;
+use crate::given::{is_all, store_in, version_of};
 use std::alloc::{AllocError, Global};
-use std::process::Abort;
+use std::test::Fail;
 use zarrs_block::NodeCreateError;
-use zarrs_config::MetadataRetrieveVersion;
-use zarrs_meta::NodeMetadata;
-use zarrs_node::get_all_nodes_of;
-use zarrs_path::NodePath;
-use zarrs_rows_documents::{A2, G2, G3, said};
+use zarrs_node::{ListedNodes, ListedPaths};
+use zarrs_rows_documents::said;
+use zarrs_rows_fixtures::{
+    ANY, THREE_LEVELS, listed, listed_in, listing_text, paths_listed_in, paths_listing_text,
+};
+use zarrs_rows_table::{check_rows, fields};
 use zarrs_store::StorageError;
 
-// Asserts what is listed below a path of the store with these documents.
-fn assert_listed<R: Abort>(
-    rt: &R,
-    alloc: Global,
-    documents: &[(&str, &str)],
-    base: &str,
-    recursive: bool,
-    wanted: &str,
-) {
-    let found = listed(alloc, documents, base, recursive, ANY);
-    assert_says(rt, alloc, base, found, listing_text, wanted);
+// What is listed as a row says: the base, whether all below it is, the version, and the store.
+fn listed_given(alloc: Global, given: &str) -> Result<ListedNodes, NodeCreateError> {
+    let (base, rest) = fields(given);
+    let (depth, rest) = fields(rest);
+    let (version, documents) = fields(rest);
+    let recursive = is_all(alloc, depth)?;
+    let version = version_of(alloc, version)?;
+    let store = store_in(alloc, documents)?;
+    listed_in(alloc, &store, base, recursive, version)
 }
 
-#[test]
-fn an_empty_store_has_no_nodes(rt: HostRuntime) {
-    assert_listed(&rt, rt.alloc(), &[], "/", true, "");
+fn listed_said(alloc: Global, given: &str) -> Result<String, AllocError> {
+    said(alloc, listed_given(alloc, given), listing_text)
 }
 
-#[test]
-fn children_stand_before_a_later_sibling_whose_text_is_less(rt: HostRuntime) {
-    let documents = [
-        ("zarr.json", G3),
-        ("a/zarr.json", G3),
-        ("a/x/zarr.json", G3),
-        ("a-b/zarr.json", G3),
-    ];
-    let alloc = rt.alloc();
-    assert_listed(&rt, alloc, &documents, "/", true, "/a\n  x\n/a-b\n");
-    assert_listed(&rt, alloc, &documents, "/", false, "/a\n/a-b\n");
-}
+// Base, depth, version and store; the trees of the nodes and the paths that were passed over, or the refusal.
+const LISTED: &str = r#"
+# an empty store has no nodes
+/ | all | any | =>
+
+# children stand before a later sibling whose text is less
+/ | all | any | zarr.json g3;a/zarr.json g3;a/x/zarr.json g3;a-b/zarr.json g3 => /a\n  x\n/a-b\n
+/ | children | any | zarr.json g3;a/zarr.json g3;a/x/zarr.json g3;a-b/zarr.json g3 => /a\n/a-b\n
+
+# a path without documents is passed over with all below it
+/root | all | any | root/zarr.json g3;root/fakenode/content/zarr.json nul => ignored /root/fakenode\n
+/root/fakenode | all | any | root/zarr.json g3;root/fakenode/content/zarr.json nul => error parsing metadata for root/fakenode/content/zarr.json: not JSON
+
+# a text that is no path refuses
+root | all | any | zarr.json g3 => invalid node path root
+
+# a corrupted document refuses where it is come upon
+/ | all | any | zarr.json g3;a/zarr.json g3;a/b/zarr.json nul => error parsing metadata for a/b/zarr.json: not JSON
+/ | children | any | zarr.json g3;a/zarr.json g3;a/b/zarr.json nul => /a\n
+
+# a name of periods refuses where it is come upon
+/ | all | any | a/zarr.json g3;a/../zarr.json g3 => invalid node path /a/..
+/ | children | any | a/zarr.json g3;a/../zarr.json g3 => /a\n
+
+# reserved names are not seen
+/ | all | any | a/zarr.json g3;a/__x/zarr.json g3 => /a\n
+
+# attributes beside an array are read
+/ | all | any | a/.zarray a2;a/.zattrs [] => error parsing metadata for a/.zattrs: not an object
+
+# a document of version 3 stands before those of version 2
+/ | all | any | a/.zarray a2;a/.zattrs [];a/zarr.json g3 => /a\n
+
+# both versions and both kinds are listed
+/ | all | any | both versions => /array [10, 10] float32\n/group\n  array [10, 10] float32\n  subgroup\n    mysubarray [10, 10] float32\n/groupv2\n  arrayv2 [1] Simple("<f8")\n
+
+# a version limits what is listed
+/ | all | v2 | both versions => /groupv2\n  arrayv2 [1] Simple("<f8")\nignored /array\nignored /group\n
+/ | all | v3 | both versions => /array [10, 10] float32\n/group\n  array [10, 10] float32\n  subgroup\n    mysubarray [10, 10] float32\nignored /groupv2\n
+"#;
 
 #[test]
-fn a_path_without_documents_is_passed_over_with_all_below_it(rt: HostRuntime) {
-    let documents = [
-        ("root/zarr.json", G3),
-        ("root/fakenode/content/zarr.json", "\0"),
-    ];
-    let alloc = rt.alloc();
-    let ignored = "ignored /root/fakenode\n";
-    assert_listed(&rt, alloc, &documents, "/root", true, ignored);
-    let refused = "error parsing metadata for root/fakenode/content/zarr.json: not JSON";
-    assert_listed(&rt, alloc, &documents, "/root/fakenode", true, refused);
-}
-
-#[test]
-fn a_text_that_is_no_path_refuses(rt: HostRuntime) {
-    let documents = [("zarr.json", G3)];
-    let refused = "invalid node path root";
-    assert_listed(&rt, rt.alloc(), &documents, "root", true, refused);
-}
-
-#[test]
-fn a_corrupted_document_refuses_where_it_is_come_upon(rt: HostRuntime) {
-    let documents = [
-        ("zarr.json", G3),
-        ("a/zarr.json", G3),
-        ("a/b/zarr.json", "\0"),
-    ];
-    let alloc = rt.alloc();
-    let refused = "error parsing metadata for a/b/zarr.json: not JSON";
-    assert_listed(&rt, alloc, &documents, "/", true, refused);
-    assert_listed(&rt, alloc, &documents, "/", false, "/a\n");
-}
-
-#[test]
-fn a_name_of_periods_refuses_where_it_is_come_upon(rt: HostRuntime) {
-    let documents = [("a/zarr.json", G3), ("a/../zarr.json", G3)];
-    let alloc = rt.alloc();
-    let refused = "invalid node path /a/..";
-    assert_listed(&rt, alloc, &documents, "/", true, refused);
-    assert_listed(&rt, alloc, &documents, "/", false, "/a\n");
-    let found = listed(alloc, &documents, "/", true, ANY);
-    assert!(rt; is_other(found), "another error");
+fn nodes_are_listed_passed_over_or_refused(rt: HostRuntime) -> Result<(), Fail> {
+    check_rows(rt.alloc(), LISTED, listed_said)
 }
 
 // Whether a listing was refused by a text of its own.
@@ -98,73 +81,15 @@ fn is_other<T: Drop>(answer: Result<T, NodeCreateError>) -> bool {
     )
 }
 
-#[test]
-fn reserved_names_are_not_seen(rt: HostRuntime) {
-    let documents = [("a/zarr.json", G3), ("a/__x/zarr.json", G3)];
-    assert_listed(&rt, rt.alloc(), &documents, "/", true, "/a\n");
+fn other_said(alloc: Global, given: &str) -> Result<String, AllocError> {
+    let other = is_other(listed_given(alloc, given));
+    format!(in alloc; "{other}")
 }
 
 #[test]
-fn attributes_beside_an_array_are_read(rt: HostRuntime) {
-    let documents = [("a/.zarray", A2), ("a/.zattrs", "[]")];
-    let refused = "error parsing metadata for a/.zattrs: not an object";
-    assert_listed(&rt, rt.alloc(), &documents, "/", true, refused);
-}
-
-#[test]
-fn a_document_of_version_3_stands_before_those_of_version_2(rt: HostRuntime) {
-    let documents = [("a/.zarray", A2), ("a/.zattrs", "[]"), ("a/zarr.json", G3)];
-    assert_listed(&rt, rt.alloc(), &documents, "/", true, "/a\n");
-}
-
-// Groups and arrays of both versions, with a chunk.
-const BOTH_VERSIONS: [(&str, &str); 9] = [
-    ("zarr.json", G3),
-    ("group/zarr.json", G3),
-    ("group/subgroup/zarr.json", G3),
-    ("array/zarr.json", A3_SQUARE),
-    ("array/c/0/0", ""),
-    ("group/array/zarr.json", A3_SQUARE),
-    ("group/subgroup/mysubarray/zarr.json", A3_SQUARE),
-    ("groupv2/.zgroup", G2),
-    ("groupv2/arrayv2/.zarray", A2),
-];
-
-// Asserts what is listed of both versions by this one.
-fn assert_listed_by<R: Abort>(
-    rt: &R,
-    alloc: Global,
-    version: MetadataRetrieveVersion,
-    wanted: &str,
-) {
-    let found = listed(alloc, &BOTH_VERSIONS, "/", true, version);
-    assert_says(rt, alloc, "by a version", found, listing_text, wanted);
-}
-
-#[test]
-fn both_versions_and_both_kinds_are_listed(rt: HostRuntime) {
-    let wanted = r#"/array [10, 10] float32
-/group
-  array [10, 10] float32
-  subgroup
-    mysubarray [10, 10] float32
-/groupv2
-  arrayv2 [1] Simple("<f8")
-"#;
-    assert_listed_by(&rt, rt.alloc(), ANY, wanted);
-}
-
-#[test]
-fn a_version_limits_what_is_listed(rt: HostRuntime) {
-    let wanted = r#"/groupv2
-  arrayv2 [1] Simple("<f8")
-ignored /array
-ignored /group
-"#;
-    assert_listed_by(&rt, rt.alloc(), MetadataRetrieveVersion::V2, wanted);
-    let wanted =
-        "/array [10, 10] float32\n/group\n  array [10, 10] float32\n  subgroup\n    mysubarray [10, 10] float32\nignored /groupv2\n";
-    assert_listed_by(&rt, rt.alloc(), MetadataRetrieveVersion::V3, wanted);
+fn a_name_of_periods_is_refused_by_a_text_of_its_own(rt: HostRuntime) -> Result<(), Fail> {
+    let row = "/ | all | any | a/zarr.json g3;a/../zarr.json g3 => true";
+    check_rows(rt.alloc(), row, other_said)
 }
 
 // With each allocation refused in turn the listing lacks memory or is whole, and never another one.
@@ -189,112 +114,48 @@ fn is_one_of(text: &str, first: &str, second: &str) -> bool {
 
 // ---- the paths alone
 
-// Asserts which paths are listed below a path of the store with these documents, and which are passed over.
-fn assert_paths<R: Abort>(
-    rt: &R,
-    alloc: Global,
-    documents: &[(&str, &str)],
-    base: &str,
-    recursive: bool,
-    wanted: &str,
-) {
-    let found = paths_listed(alloc, documents, base, recursive, ANY);
-    assert_says(rt, alloc, base, found, paths_listing_text, wanted);
+// The paths that are listed as a row says: the base, whether all below it is, the version, and the store.
+fn paths_given(alloc: Global, given: &str) -> Result<ListedPaths, NodeCreateError> {
+    let (base, rest) = fields(given);
+    let (depth, rest) = fields(rest);
+    let (version, documents) = fields(rest);
+    let recursive = is_all(alloc, depth)?;
+    let version = version_of(alloc, version)?;
+    let store = store_in(alloc, documents)?;
+    paths_listed_in(alloc, &store, base, recursive, version)
 }
+
+fn paths_said(alloc: Global, given: &str) -> Result<String, AllocError> {
+    said(alloc, paths_given(alloc, given), paths_listing_text)
+}
+
+// Base, depth, version and store; the paths and those that were passed over, or the refusal.
+const PATHS: &str = r#"
+# paths stand before those below them and before later siblings
+/ | all | any | zarr.json g3;a/zarr.json g3;a/x/zarr.json g3;a-b/zarr.json g3 => /a\n/a/x\n/a-b\n
+/ | children | any | zarr.json g3;a/zarr.json g3;a/x/zarr.json g3;a-b/zarr.json g3 => /a\n/a-b\n
+/a | all | any | zarr.json g3;a/zarr.json g3;a/x/zarr.json g3;a-b/zarr.json g3 => /a/x\n
+/a-b | all | any | zarr.json g3;a/zarr.json g3;a/x/zarr.json g3;a-b/zarr.json g3 =>
+
+# paths without documents are passed over with all below them
+/ | all | any | g/zarr.json g3;g/x/content nul;g/x/y/zarr.json g3;y/c nul => /g\nignored /g/x\nignored /y\n
+/ | children | any | g/zarr.json g3;g/x/content nul;g/x/y/zarr.json g3;y/c nul => /g\nignored /y\n
+
+# paths are refused where something bad is come upon
+/ | all | any | a/zarr.json g3;a/b/zarr.json nul;c/../zarr.json g3;c/zarr.json g3 => error parsing metadata for a/b/zarr.json: not JSON
+/ | children | any | a/zarr.json g3;a/b/zarr.json nul;c/../zarr.json g3;c/zarr.json g3 => /a\n/c\n
+/c | children | any | a/zarr.json g3;a/b/zarr.json nul;c/../zarr.json g3;c/zarr.json g3 => invalid node path /c/..
+
+# a version limits which paths are listed
+/ | all | v3 | both versions => /array\n/group\n/group/array\n/group/subgroup\n/group/subgroup/mysubarray\nignored /groupv2\n
+/ | all | v2 | both versions => /groupv2\n/groupv2/arrayv2\nignored /array\nignored /group\n
+/ | children | any | both versions => /array\n/group\n/groupv2\n
+
+# the paths are those of the nodes: the table of pairs has the same
+/ | all | any | both versions => /array\n/group\n/group/array\n/group/subgroup\n/group/subgroup/mysubarray\n/groupv2\n/groupv2/arrayv2\n
+"#;
 
 #[test]
-fn paths_stand_before_those_below_them_and_before_later_siblings(rt: HostRuntime) {
-    let documents = [
-        ("zarr.json", G3),
-        ("a/zarr.json", G3),
-        ("a/x/zarr.json", G3),
-        ("a-b/zarr.json", G3),
-    ];
-    let alloc = rt.alloc();
-    assert_paths(&rt, alloc, &documents, "/", true, "/a\n/a/x\n/a-b\n");
-    assert_paths(&rt, alloc, &documents, "/", false, "/a\n/a-b\n");
-    assert_paths(&rt, alloc, &documents, "/a", true, "/a/x\n");
-    assert_paths(&rt, alloc, &documents, "/a-b", true, "");
-}
-
-#[test]
-fn paths_without_documents_are_passed_over_with_all_below_them(rt: HostRuntime) {
-    let documents = [
-        ("g/zarr.json", G3),
-        ("g/x/content", "\0"),
-        ("g/x/y/zarr.json", G3),
-        ("y/c", "\0"),
-    ];
-    let alloc = rt.alloc();
-    let wanted = "/g\nignored /g/x\nignored /y\n";
-    assert_paths(&rt, alloc, &documents, "/", true, wanted);
-    assert_paths(&rt, alloc, &documents, "/", false, "/g\nignored /y\n");
-}
-
-#[test]
-fn paths_are_refused_where_something_bad_is_come_upon(rt: HostRuntime) {
-    let documents = [
-        ("a/zarr.json", G3),
-        ("a/b/zarr.json", "\0"),
-        ("c/../zarr.json", G3),
-        ("c/zarr.json", G3),
-    ];
-    let alloc = rt.alloc();
-    let refused = "error parsing metadata for a/b/zarr.json: not JSON";
-    assert_paths(&rt, alloc, &documents, "/", true, refused);
-    assert_paths(&rt, alloc, &documents, "/", false, "/a\n/c\n");
-    let refused = "invalid node path /c/..";
-    assert_paths(&rt, alloc, &documents, "/c", false, refused);
-}
-
-// Asserts which paths of both versions are listed by this one.
-fn assert_paths_by<R: Abort>(
-    rt: &R,
-    alloc: Global,
-    version: MetadataRetrieveVersion,
-    recursive: bool,
-    wanted: &str,
-) {
-    let found = paths_listed(alloc, &BOTH_VERSIONS, "/", recursive, version);
-    assert_says(rt, alloc, "by a version", found, paths_listing_text, wanted);
-}
-
-#[test]
-fn a_version_limits_which_paths_are_listed(rt: HostRuntime) {
-    let alloc = rt.alloc();
-    let of_3 =
-        "/array\n/group\n/group/array\n/group/subgroup\n/group/subgroup/mysubarray\nignored /groupv2\n";
-    assert_paths_by(&rt, alloc, MetadataRetrieveVersion::V3, true, of_3);
-    let of_2 = "/groupv2\n/groupv2/arrayv2\nignored /array\nignored /group\n";
-    assert_paths_by(&rt, alloc, MetadataRetrieveVersion::V2, true, of_2);
-    assert_paths_by(&rt, alloc, ANY, false, "/array\n/group\n/groupv2\n");
-}
-
-// All pairs below the root of the store with the documents of both versions.
-fn pairs_by(
-    alloc: Global,
-    version: MetadataRetrieveVersion,
-) -> Result<Vec<(NodePath, NodeMetadata)>, NodeCreateError> {
-    let store = store_of(alloc, &BOTH_VERSIONS)?;
-    let root = NodePath::root(alloc)?;
-    get_all_nodes_of(&Discard, alloc, &store, &root, &version)
-}
-
-// The paths of pairs, one a line.
-fn paths_of_pairs(
-    pairs: &Vec<(NodePath, NodeMetadata)>,
-    alloc: Global,
-) -> Result<String, AllocError> {
-    let mut text = String::new(alloc);
-    for (path, _) in pairs {
-        write!(text, "{path}\n")?;
-    }
-    Ok(text)
-}
-
-#[test]
-fn the_paths_are_those_of_the_nodes(rt: HostRuntime) {
-    let alloc = rt.alloc();
-    let by_nodes = said(alloc, pairs_by(alloc, ANY), paths_of_pairs).expect(&rt, "memory");
-    assert_paths_by(&rt, alloc, ANY, true, by_nodes.as_str());
+fn paths_are_listed_passed_over_or_refused(rt: HostRuntime) -> Result<(), Fail> {
+    check_rows(rt.alloc(), PATHS, paths_said)
 }

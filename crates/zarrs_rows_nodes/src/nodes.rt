@@ -1,33 +1,20 @@
 //! Nodes, the calls that warn, and the pairs of a listing.
 
 use crate::asserts::assert_says;
-use crate::fixtures::{ANY, forest_text, pairs_text, paths_text, store_of};
+use crate::given::{is_all, no_word, store_in, version_of};
 use log::sink::{Discard, Writer};
 use std::alloc::{AllocError, Global};
-use std::process::Abort;
+use std::test::Fail;
 use zarrs_block::NodeCreateError;
-use zarrs_config::MetadataRetrieveVersion;
 use zarrs_meta::{GroupMetadata, GroupMetadataV3, NodeMetadata};
 use zarrs_node::{
     Node, get_all_nodes_of, get_child_nodes, get_child_nodes_opt, get_child_paths, laws,
 };
-use zarrs_path::{NodePath, meta_key_v3};
-use zarrs_rows_documents::{A2, A3, G2, G3, printed, said};
+use zarrs_path::{NodePath, NodePathError, meta_key_v3};
+use zarrs_rows_documents::{G3, printed, said};
+use zarrs_rows_fixtures::{ANY, forest_text, pairs_text, paths_text};
+use zarrs_rows_table::{check_rows, fields};
 use zarrs_store::{MemoryStore, WritableStorageTraits};
-
-// What is listed below a path of the store with these documents, and what is warned of.
-fn warnings(
-    alloc: Global,
-    documents: &[(&str, &str)],
-    base: &str,
-) -> Result<String, NodeCreateError> {
-    let base = NodePath::new(alloc, base)?;
-    let store = store_of(alloc, documents)?;
-    let sink = Writer::new(Vec::new(alloc));
-    let nodes = get_child_nodes(&sink, alloc, &store, &base, true);
-    let text = said(alloc, nodes, forest_text)?;
-    Ok(with_lines(alloc, text.as_str(), &sink.into_inner())?)
-}
 
 // A text, and the lines of a log.
 fn with_lines(alloc: Global, text: &str, lines: &[u8]) -> Result<String, AllocError> {
@@ -35,97 +22,76 @@ fn with_lines(alloc: Global, text: &str, lines: &[u8]) -> Result<String, AllocEr
     format!(in alloc; "{text}warned: {lines}")
 }
 
-#[test]
-fn what_is_passed_over_is_warned_of(rt: HostRuntime) {
-    let documents = [
-        ("root/zarr.json", G3),
-        ("root/fakenode/content/zarr.json", "\0"),
-    ];
-    let wanted =
-        "warned: [WARN  zarrs_node::children] Object at /root/fakenode is not recognized as a component of a Zarr hierarchy. Ignoring.\n";
-    let found = warnings(rt.alloc(), &documents, "/root");
-    assert_says(&rt, rt.alloc(), "warning", found, printed, wanted);
-}
-
-// All pairs below a path of the store with these documents, and what is warned of.
-fn pairs_and_warnings(
-    alloc: Global,
-    documents: &[(&str, &str)],
-    base: &str,
-) -> Result<String, NodeCreateError> {
+// What a call lists below the base of a row in its store, and what is warned of.
+fn warnings(alloc: Global, given: &str) -> Result<String, NodeCreateError> {
+    let (call, rest) = fields(given);
+    let (base, documents) = fields(rest);
     let base = NodePath::new(alloc, base)?;
-    let store = store_of(alloc, documents)?;
+    let store = store_in(alloc, documents)?;
     let sink = Writer::new(Vec::new(alloc));
-    let pairs = get_all_nodes_of(&sink, alloc, &store, &base, &ANY);
-    let text = said(alloc, pairs, pairs_text)?;
+    let text = match call {
+        "nodes" => said(
+            alloc,
+            get_child_nodes(&sink, alloc, &store, &base, true),
+            forest_text,
+        )?,
+        "pairs" => said(
+            alloc,
+            get_all_nodes_of(&sink, alloc, &store, &base, &ANY),
+            pairs_text,
+        )?,
+        "paths" => said(
+            alloc,
+            get_child_paths(&sink, alloc, &store, &base, true),
+            paths_text,
+        )?,
+        call => return Err(no_word(alloc, call)),
+    };
     Ok(with_lines(alloc, text.as_str(), &sink.into_inner())?)
 }
 
-#[test]
-fn all_nodes_are_listed_with_warnings(rt: HostRuntime) {
-    let documents = [("g/zarr.json", G3), ("g/x/content", "\0"), ("y/c", "\0")];
-    let wanted =
-        "/g group\nwarned: [WARN  zarrs_node::children] Object at /g/x is not recognized as a component of a Zarr hierarchy. Ignoring.\n[WARN  zarrs_node::children] Object at /y is not recognized as a component of a Zarr hierarchy. Ignoring.\n";
-    let found = pairs_and_warnings(rt.alloc(), &documents, "/");
-    assert_says(&rt, rt.alloc(), "warnings", found, printed, wanted);
-}
+// Call, base and store; what is listed, and the log.
+const WARNED: &str = r#"
+# what is passed over is warned of
+nodes | /root | root/zarr.json g3;root/fakenode/content/zarr.json nul => warned: [WARN  zarrs_node::children] Object at /root/fakenode is not recognized as a component of a Zarr hierarchy. Ignoring.\n
 
-// The paths below a path of the store with these documents, and what is warned of.
-fn paths_and_warnings(
-    alloc: Global,
-    documents: &[(&str, &str)],
-    base: &str,
-) -> Result<String, NodeCreateError> {
-    let base = NodePath::new(alloc, base)?;
-    let store = store_of(alloc, documents)?;
-    let sink = Writer::new(Vec::new(alloc));
-    let paths = get_child_paths(&sink, alloc, &store, &base, true);
-    let text = said(alloc, paths, paths_text)?;
-    Ok(with_lines(alloc, text.as_str(), &sink.into_inner())?)
-}
+# all nodes are listed with warnings
+pairs | / | g/zarr.json g3;g/x/content nul;y/c nul => /g group\nwarned: [WARN  zarrs_node::children] Object at /g/x is not recognized as a component of a Zarr hierarchy. Ignoring.\n[WARN  zarrs_node::children] Object at /y is not recognized as a component of a Zarr hierarchy. Ignoring.\n
+
+# paths are listed with the same warnings
+paths | / | g/zarr.json g3;g/x/content nul;y/c nul => /g\nwarned: [WARN  zarrs_node::children] Object at /g/x is not recognized as a component of a Zarr hierarchy. Ignoring.\n[WARN  zarrs_node::children] Object at /y is not recognized as a component of a Zarr hierarchy. Ignoring.\n
+"#;
 
 #[test]
-fn paths_are_listed_with_the_same_warnings(rt: HostRuntime) {
-    let documents = [("g/zarr.json", G3), ("g/x/content", "\0"), ("y/c", "\0")];
-    let wanted =
-        "/g\nwarned: [WARN  zarrs_node::children] Object at /g/x is not recognized as a component of a Zarr hierarchy. Ignoring.\n[WARN  zarrs_node::children] Object at /y is not recognized as a component of a Zarr hierarchy. Ignoring.\n";
-    let found = paths_and_warnings(rt.alloc(), &documents, "/");
-    assert_says(&rt, rt.alloc(), "warnings", found, printed, wanted);
+fn what_is_passed_over_is_warned_of(rt: HostRuntime) -> Result<(), Fail> {
+    check_rows(rt.alloc(), WARNED, warnings)
 }
 
-// The children of the root of the store with these documents.
-fn children_of_root(
-    alloc: Global,
-    documents: &[(&str, &str)],
-    version: MetadataRetrieveVersion,
-) -> Result<Vec<Node>, NodeCreateError> {
+// The nodes that a row asks for: whether all below the root, the version, and the store.
+fn children_given(alloc: Global, given: &str) -> Result<Vec<Node>, NodeCreateError> {
+    let (depth, rest) = fields(given);
+    let (version, documents) = fields(rest);
+    let recursive = is_all(alloc, depth)?;
+    let version = version_of(alloc, version)?;
     let root = NodePath::root(alloc)?;
-    let store = store_of(alloc, documents)?;
-    get_child_nodes_opt(&Discard, alloc, &store, &root, false, &version)
+    let store = store_in(alloc, documents)?;
+    get_child_nodes_opt(&Discard, alloc, &store, &root, recursive, &version)
 }
 
-// Asserts the children of the root by this version.
-fn assert_children<R: Abort>(
-    rt: &R,
-    alloc: Global,
-    version: MetadataRetrieveVersion,
-    wanted: &str,
-) {
-    let documents = [
-        ("g/zarr.json", G3),
-        ("g/a/zarr.json", G3),
-        ("old/.zgroup", G2),
-    ];
-    let nodes = children_of_root(alloc, &documents, version);
-    assert_says(rt, alloc, wanted, nodes, forest_text, wanted);
+fn children_said(alloc: Global, given: &str) -> Result<String, AllocError> {
+    said(alloc, children_given(alloc, given), forest_text)
 }
+
+// Depth, version and store; the nodes below the root.
+const CHILDREN: &str = r#"
+children | any | g/zarr.json g3;g/a/zarr.json g3;old/.zgroup g2 => /g\n/old\n
+children | v3 | g/zarr.json g3;g/a/zarr.json g3;old/.zgroup g2 => /g\n
+children | v2 | g/zarr.json g3;g/a/zarr.json g3;old/.zgroup g2 => /old\n
+"#;
 
 #[test]
-fn children_by_version(rt: HostRuntime) {
-    let alloc = rt.alloc();
-    assert_children(&rt, alloc, ANY, "/g\n/old\n");
-    assert_children(&rt, alloc, MetadataRetrieveVersion::V3, "/g\n");
-    assert_children(&rt, alloc, MetadataRetrieveVersion::V2, "/old\n");
+fn children_by_version(rt: HostRuntime) -> Result<(), Fail> {
+    check_rows(rt.alloc(), CHILDREN, children_said)
 }
 
 // All pairs below the root of a store.
@@ -137,26 +103,24 @@ fn all_pairs(
     get_all_nodes_of(&Discard, alloc, store, &root, &ANY)
 }
 
-// All pairs below the root of the store with these documents.
-fn all_pairs_of(
-    alloc: Global,
-    documents: &[(&str, &str)],
-) -> Result<Vec<(NodePath, NodeMetadata)>, NodeCreateError> {
-    let store = store_of(alloc, documents)?;
-    all_pairs(alloc, &store)
+// All pairs below the root of the store of a row.
+fn pairs_said(alloc: Global, given: &str) -> Result<String, NodeCreateError> {
+    let store = store_in(alloc, given)?;
+    Ok(said(alloc, all_pairs(alloc, &store), pairs_text)?)
 }
 
+// A store, and the paths and kinds of all pairs below its root.
+const PAIRS: &str = r#"
+# all nodes stand once with their metadata
+g/zarr.json g3;g/a/zarr.json a3;old/.zgroup g2;old/b/.zarray a2 => /g group\n/g/a array\n/old group\n/old/b array\n
+
+# their paths are those that are listed: the table of paths has the same
+both versions => /array array\n/group group\n/group/array array\n/group/subgroup group\n/group/subgroup/mysubarray array\n/groupv2 group\n/groupv2/arrayv2 array\n
+"#;
+
 #[test]
-fn all_nodes_stand_once_with_their_metadata(rt: HostRuntime) {
-    let documents = [
-        ("g/zarr.json", G3),
-        ("g/a/zarr.json", A3),
-        ("old/.zgroup", G2),
-        ("old/b/.zarray", A2),
-    ];
-    let wanted = "/g group\n/g/a array\n/old group\n/old/b array\n";
-    let pairs = all_pairs_of(rt.alloc(), &documents);
-    assert_says(&rt, rt.alloc(), "pairs", pairs, pairs_text, wanted);
+fn all_nodes_stand_once_with_their_metadata(rt: HostRuntime) -> Result<(), Fail> {
+    check_rows(rt.alloc(), PAIRS, pairs_said)
 }
 
 // All pairs below the root of a store with a chain of groups, each the only child of the one before.
@@ -185,33 +149,20 @@ fn a_long_chain_of_groups_is_listed(rt: HostRuntime) {
 
 // ---- nodes that are made
 
-fn group(alloc: Global) -> NodeMetadata {
-    NodeMetadata::Group(GroupMetadata::V3(GroupMetadataV3::new(alloc)))
-}
-
-// The group at a path, without children.
-fn leaf(alloc: Global, path: &str) -> Result<Node, NodeCreateError> {
+// The group at a path with these children.
+fn group_over(alloc: Global, path: &str, children: Vec<Node>) -> Result<Node, NodePathError> {
     let path = NodePath::new(alloc, path)?;
-    Ok(Node::new_with_metadata(path, group(alloc), Vec::new(alloc)))
+    let metadata = NodeMetadata::Group(GroupMetadata::V3(GroupMetadataV3::new(alloc)));
+    Ok(Node::new_with_metadata(path, metadata, children))
 }
 
-// The group at a path with one child.
-fn with_child(alloc: Global, parent: &str, child: &str) -> Result<Node, NodeCreateError> {
-    let path = NodePath::new(alloc, parent)?;
-    match one(alloc, leaf(alloc, child)) {
-        Ok(children) => Ok(Node::new_with_metadata(path, group(alloc), children)),
-        Err(error) => Err(error),
+// The group at a path with one child; with none where the child's path is empty.
+fn node_with(alloc: Global, path: &str, child: &str) -> Result<Node, NodeCreateError> {
+    let mut children = Vec::new(alloc);
+    if !child.is_empty() {
+        children.push(group_over(alloc, child, Vec::new(alloc))?)?;
     }
-}
-
-// A list of one item.
-fn one<T: Drop>(
-    alloc: Global,
-    item: Result<T, NodeCreateError>,
-) -> Result<Vec<T>, NodeCreateError> {
-    let mut items = Vec::new(alloc);
-    items.push(item?)?;
-    Ok(items)
+    Ok(group_over(alloc, path, children)?)
 }
 
 // What a node says of itself.
@@ -227,71 +178,52 @@ fn node_text(node: &Node, alloc: Global) -> Result<String, AllocError> {
     )
 }
 
-// What a node's copy says of itself.
-fn copy_text(node: &Node, alloc: Global) -> Result<String, AllocError> {
-    said(alloc, node.try_clone(alloc), node_text)
-}
-
-// The tree of a node's copy.
-fn copy_tree(node: &Node, alloc: Global) -> Result<String, AllocError> {
-    said(alloc, node.try_clone(alloc), Node::hierarchy_tree)
-}
-
-// The part of a node that is moved out.
-fn part<P: From<Node>>(node: Result<Node, NodeCreateError>) -> Result<P, NodeCreateError> {
-    match node {
-        Ok(node) => Ok(P::from(node)),
-        Err(error) => Err(error),
+// What a look at a node shows.
+fn looked(alloc: Global, node: Node, look: &str) -> Result<String, AllocError> {
+    match look {
+        "node" => node_text(&node, alloc),
+        "copy" => said(alloc, node.try_clone(alloc), node_text),
+        "tree of copy" => said(alloc, node.try_clone(alloc), Node::hierarchy_tree),
+        "path" => printed(&NodePath::from(node), alloc),
+        "metadata" => NodeMetadata::from(node).to_text(alloc),
+        "placed" => printed(&node.has_placed_children(), alloc),
+        look => format!(in alloc; "no such word: {look}"),
     }
 }
 
-#[test]
-fn a_node_holds_what_it_was_made_of(rt: HostRuntime) {
-    let alloc = rt.alloc();
-    let said = "path /a name a root false group true children 1 placed true";
-    let node = with_child(alloc, "/a", "/a/x");
-    assert_says(&rt, alloc, "node", node, node_text, said);
-    let node = with_child(alloc, "/a", "/a/x");
-    assert_says(&rt, alloc, "copy", node, copy_text, said);
-    let node = with_child(alloc, "/a", "/a/x");
-    assert_says(&rt, alloc, "tree", node, copy_tree, "/\n  x\n");
+// What the look of a row shows at the node of a path with a child of another.
+fn node_said(alloc: Global, given: &str) -> Result<String, NodeCreateError> {
+    let (look, rest) = fields(given);
+    let (path, child) = fields(rest);
+    let node = node_with(alloc, path, child)?;
+    Ok(looked(alloc, node, look)?)
 }
+
+// Look, path and the path of the child; what is seen.
+const NODES: &str = r#"
+# a node holds what it was made of
+node | /a | /a/x => path /a name a root false group true children 1 placed true
+copy | /a | /a/x => path /a name a root false group true children 1 placed true
+tree of copy | /a | /a/x => /\n  x\n
+
+# a node gives its parts
+path | /a | /a/x => /a
+metadata | /a | /a/x => {"node_type":"group","zarr_format":3}
+
+# the root has the empty name
+node | / | => path / name  root true group true children 0 placed true
+
+# placed children are one name below
+placed | / | /a => true
+placed | /g | /g/a => true
+placed | /g | /gx/a => false
+placed | /g | /g/a/b => false
+placed | /g | /g => false
+"#;
 
 #[test]
-fn a_node_gives_its_parts(rt: HostRuntime) {
-    let alloc = rt.alloc();
-    let path: Result<NodePath, NodeCreateError> = part(with_child(alloc, "/a", "/a/x"));
-    assert_says(&rt, alloc, "path", path, printed, "/a");
-    let metadata: Result<NodeMetadata, NodeCreateError> = part(with_child(alloc, "/a", "/a/x"));
-    assert_says(&rt, alloc, "metadata", metadata, NodeMetadata::to_text, G3);
-}
-
-#[test]
-fn the_root_has_the_empty_name(rt: HostRuntime) {
-    let alloc = rt.alloc();
-    let wanted = "path / name  root true group true children 0 placed true";
-    assert_says(&rt, alloc, "root", leaf(alloc, "/"), node_text, wanted);
-}
-
-// Whether a node's children are placed.
-fn placed_text(node: &Node, alloc: Global) -> Result<String, AllocError> {
-    printed(&node.has_placed_children(), alloc)
-}
-
-// Asserts whether a child of this path is placed below a parent of that one.
-fn assert_placed<R: Abort>(rt: &R, alloc: Global, parent: &str, child: &str, wanted: &str) {
-    let node = with_child(alloc, parent, child);
-    assert_says(rt, alloc, child, node, placed_text, wanted);
-}
-
-#[test]
-fn placed_children_are_one_name_below(rt: HostRuntime) {
-    let alloc = rt.alloc();
-    assert_placed(&rt, alloc, "/", "/a", "true");
-    assert_placed(&rt, alloc, "/g", "/g/a", "true");
-    assert_placed(&rt, alloc, "/g", "/gx/a", "false");
-    assert_placed(&rt, alloc, "/g", "/g/a/b", "false");
-    assert_placed(&rt, alloc, "/g", "/g", "false");
+fn a_node_holds_what_it_was_made_of(rt: HostRuntime) -> Result<(), Fail> {
+    check_rows(rt.alloc(), NODES, node_said)
 }
 
 #[test]

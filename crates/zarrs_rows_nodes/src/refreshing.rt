@@ -1,7 +1,6 @@
 //! A block made current where the documents of one path changed.
 
-use crate::asserts::assert_says;
-use crate::fixtures::{A3_SQUARE, ANY, THREE_LEVELS, entries_of, key_of, keys_text, store_of};
+use crate::given::{pairs_in, store_in};
 use log::sink::Discard;
 use std::alloc::{AllocError, Global};
 use std::process::Abort;
@@ -10,7 +9,9 @@ use zarrs_block::{ConsolidatedMetadataMetadata, NodeCreateError};
 use zarrs_meta::{GroupMetadata, GroupMetadataV3, NodeMetadata};
 use zarrs_node::{Node, get_child_nodes, laws, refresh_block};
 use zarrs_path::NodePath;
-use zarrs_rows_documents::{A3, G2, G3, said};
+use zarrs_rows_documents::{A3, G3, said};
+use zarrs_rows_fixtures::{ANY, entries_of, key_of, keys_text};
+use zarrs_rows_table::{check_rows, fields};
 use zarrs_store::{
     ListableStorageTraits, MemoryStore, ReadableStorageTraits, StorageError, WritableStorageTraits,
 };
@@ -51,19 +52,6 @@ fn refreshed<S: ReadableStorageTraits + ListableStorageTraits>(
     refresh_block(alloc, store, &base, &ANY, block, &path)
 }
 
-// A block made current at a path, in the store with these documents.
-fn refreshed_in(
-    alloc: Global,
-    entries: &[(&str, &str)],
-    documents: &[(&str, &str)],
-    base: &str,
-    path: &str,
-) -> Result<Block, NodeCreateError> {
-    let block = entries_of(alloc, entries)?;
-    let store = store_of(alloc, documents)?;
-    refreshed(alloc, &store, base, &block, path)
-}
-
 // A line for each key of a block, with its kind.
 fn kinds_text(block: &Block, alloc: Global) -> Result<String, AllocError> {
     let mut text = String::new(alloc);
@@ -90,148 +78,99 @@ fn lines_text(block: &Block, alloc: Global) -> Result<String, AllocError> {
 
 // ---- one change after another
 
-// The three levels without the documents of `/array` and `/group/subgroup`.
-const TWO_ERASED: [(&str, &str); 4] = [
-    ("zarr.json", G3),
-    ("group/zarr.json", G3),
-    ("group/array/zarr.json", A3_SQUARE),
-    ("group/subgroup/mysubarray/zarr.json", A3_SQUARE),
-];
-
-// The block of the three levels, made current at `/group/subgroup` once the two were erased.
-fn once_erased(alloc: Global) -> Result<Block, NodeCreateError> {
-    let block = block_of(alloc, &store_of(alloc, &THREE_LEVELS)?, "/")?;
-    let store = store_of(alloc, &TWO_ERASED)?;
-    refreshed(alloc, &store, "/", &block, "/group/subgroup")
-}
-
-// And again once `/group/subgroup` was set.
-fn once_set(alloc: Global) -> Result<Block, NodeCreateError> {
-    let block = once_erased(alloc)?;
-    let mut store = store_of(alloc, &TWO_ERASED)?;
-    let key = key_of(alloc, "group/subgroup/zarr.json")?;
-    store.set(&key, G3.as_bytes())?;
-    refreshed(alloc, &store, "/", &block, "/group/subgroup")
-}
-
-#[test]
-fn only_the_path_and_what_is_below_it_is_made_anew(rt: HostRuntime) {
-    let alloc = rt.alloc();
-    let erased = "array\ngroup\ngroup/array\n";
-    assert_says(&rt, alloc, "erased", once_erased(alloc), keys_text, erased);
-    let set = "array\ngroup\ngroup/array\ngroup/subgroup\ngroup/subgroup/mysubarray\n";
-    assert_says(&rt, alloc, "set", once_set(alloc), keys_text, set);
-}
-
-#[test]
-fn siblings_and_keys_that_are_no_paths_stay(rt: HostRuntime) {
-    let alloc = rt.alloc();
-    let entries = [
-        ("a", G3),
-        ("/a", G3),
-        ("a/x", A3),
-        ("/a/x", A3),
-        ("a-b", A3),
-        ("a0", A3),
-        ("ab", G3),
-        ("//a", A3),
-        ("__x", G3),
-        ("", G3),
-        ("/", G3),
-        ("b/../c", A3),
-    ];
-    let kept = "\n/\n//a\n__x\na-b\na0\nab\nb/../c\n";
-    let fresh = refreshed_in(alloc, &entries, &[], "/", "/a");
-    assert_says(&rt, alloc, "gone", fresh, keys_text, kept);
-    let kept = "\n/\n//a\n__x\na\na-b\na0\nab\nb/../c\n";
-    let fresh = refreshed_in(alloc, &entries, &[("a/zarr.json", A3)], "/", "/a");
-    assert_says(&rt, alloc, "there", fresh, keys_text, kept);
-}
-
-#[test]
-fn a_group_that_became_an_array_has_nothing_below_it(rt: HostRuntime) {
-    let alloc = rt.alloc();
-    let entries = [("g", G3), ("g/a", A3), ("g/a/b", A3), ("h", G3)];
-    let documents = [("g/zarr.json", A3), ("g/a/zarr.json", A3)];
-    let fresh = refreshed_in(alloc, &entries, &documents, "/", "/g");
-    assert_says(&rt, alloc, "array", fresh, kinds_text, "g array\nh group\n");
-}
-
-#[test]
-fn an_array_that_became_a_group_has_all_below_it(rt: HostRuntime) {
-    let alloc = rt.alloc();
-    let entries = [("x/g", A3), ("x", G3)];
-    let documents = [
-        ("b/x/g/.zgroup", G2),
-        ("b/x/g/a/zarr.json", A3),
-        ("b/x/g/h/zarr.json", G3),
-        ("b/x/g/h/i/zarr.json", G3),
-        ("b/x/g/n/c/0", ""),
-        ("b/y/zarr.json", A3),
-    ];
-    let fresh = refreshed_in(alloc, &entries, &documents, "/b", "/b/x/g");
-    let wanted = "x group\nx/g group\nx/g/a array\nx/g/h group\nx/g/h/i group\n";
-    assert_says(&rt, alloc, "group", fresh, kinds_text, wanted);
-}
-
-#[test]
-fn below_a_path_that_is_no_group_of_the_block_nothing_is_added(rt: HostRuntime) {
-    let alloc = rt.alloc();
-    let documents = [("g/a/zarr.json", A3), ("g/zarr.json", G3)];
-    for entries in [[("g", A3), ("g/a", G3)], [("h", G3), ("g/a/b", G3)]] {
-        let fresh = refreshed_in(alloc, &entries, &documents, "/", "/g/a");
-        let wanted = if entries[0].0 == "g" {
-            "g array\n"
-        } else {
-            "h group\n"
-        };
-        assert_says(&rt, alloc, "no group", fresh, kinds_text, wanted);
+// The block of the first store of a row, made current at the row's path in each store behind it, one after another.
+fn changed(alloc: Global, given: &str) -> Result<Block, NodeCreateError> {
+    let (path, rest) = fields(given);
+    let (first, changes) = fields(rest);
+    let mut block = block_of(alloc, &store_in(alloc, first)?, "/")?;
+    for change in changes.split('|') {
+        block = refreshed(alloc, &store_in(alloc, change.trim())?, "/", &block, path)?;
     }
-    let rooted = [("/g", G3), ("x", A3)];
-    let fresh = refreshed_in(alloc, &rooted, &documents, "/", "/g/a");
-    let wanted = "/g group\ng/a array\nx array\n";
-    assert_says(&rt, alloc, "rooted", fresh, kinds_text, wanted);
-    let both = [("/g", G3), ("g", A3)];
-    let fresh = refreshed_in(alloc, &both, &documents, "/", "/g/a");
-    let wanted = "/g group\ng array\n";
-    assert_says(&rt, alloc, "both", fresh, kinds_text, wanted);
+    Ok(block)
 }
 
-// Asserts the keys of a block with a group and an array, made current at a path in the store with these documents, or its refusal.
-fn assert_refreshed<R: Abort>(
-    rt: &R,
-    alloc: Global,
-    documents: &[(&str, &str)],
-    path: &str,
-    wanted: &str,
-) {
-    let fresh = refreshed_in(alloc, &[("g", G3), ("h", A3)], documents, "/", path);
-    assert_says(rt, alloc, path, fresh, keys_text, wanted);
+fn changed_said(alloc: Global, given: &str) -> Result<String, AllocError> {
+    said(alloc, changed(alloc, given), keys_text)
 }
+
+// Path and stores; the keys of the last block.
+const CHANGED: &str = r#"
+# only the path and what is below it is made anew
+/group/subgroup | three levels | two erased => array\ngroup\ngroup/array\n
+/group/subgroup | three levels | two erased | one set again => array\ngroup\ngroup/array\ngroup/subgroup\ngroup/subgroup/mysubarray\n
+"#;
 
 #[test]
-fn what_is_bad_at_the_path_or_below_it_refuses(rt: HostRuntime) {
-    let alloc = rt.alloc();
-    let documents = [("g/zarr.json", "{}"), ("g/a/zarr.json", G3)];
-    let refused = "error parsing metadata for g/zarr.json: wrong zarr_format";
-    assert_refreshed(&rt, alloc, &documents, "/g", refused);
-    let documents = [("g/zarr.json", G3), ("g/a/zarr.json", "[")];
-    let refused = "error parsing metadata for g/a/zarr.json: not JSON";
-    assert_refreshed(&rt, alloc, &documents, "/g", refused);
-    let documents = [("g/zarr.json", G2), ("g/a/zarr.json", G3)];
-    let refused = "Found V2 metadata in V3 key or vice-versa";
-    assert_refreshed(&rt, alloc, &documents, "/g", refused);
-    let documents = [("g/zarr.json", G3), ("g/../x", "")];
-    assert_refreshed(&rt, alloc, &documents, "/g", "invalid node path /g/..");
+fn only_the_path_and_what_is_below_it_is_made_anew(rt: HostRuntime) -> Result<(), Fail> {
+    check_rows(rt.alloc(), CHANGED, changed_said)
 }
 
+// ---- one change
+
+// The block that has the nodes of a list.
+fn block_in(alloc: Global, nodes: &str) -> Result<Block, NodeCreateError> {
+    let nodes = pairs_in(alloc, nodes)?;
+    entries_of(alloc, nodes.as_slice())
+}
+
+// The block of a row made current: the base, the path, the nodes of the block, and the store.
+fn refreshed_given(alloc: Global, given: &str) -> Result<Block, NodeCreateError> {
+    let (base, rest) = fields(given);
+    let (path, rest) = fields(rest);
+    let (nodes, documents) = fields(rest);
+    let block = block_in(alloc, nodes)?;
+    let store = store_in(alloc, documents)?;
+    refreshed(alloc, &store, base, &block, path)
+}
+
+fn keys_said(alloc: Global, given: &str) -> Result<String, AllocError> {
+    said(alloc, refreshed_given(alloc, given), keys_text)
+}
+
+fn kinds_said(alloc: Global, given: &str) -> Result<String, AllocError> {
+    said(alloc, refreshed_given(alloc, given), kinds_text)
+}
+
+// Base, path, the nodes of the block, and the store; the keys of the block that is made current, or the refusal.
+const KEYS: &str = r#"
+# siblings and keys that are no paths stay
+/ | /a | a g3;/a g3;a/x a3;/a/x a3;a-b a3;a0 a3;ab g3;//a a3;__x g3; g3;/ g3;b/../c a3 | => \n/\n//a\n__x\na-b\na0\nab\nb/../c\n
+/ | /a | a g3;/a g3;a/x a3;/a/x a3;a-b a3;a0 a3;ab g3;//a a3;__x g3; g3;/ g3;b/../c a3 | a/zarr.json a3 => \n/\n//a\n__x\na\na-b\na0\nab\nb/../c\n
+
+# what is bad at the path or below it refuses
+/ | /g | g g3;h a3 | g/zarr.json {};g/a/zarr.json g3 => error parsing metadata for g/zarr.json: wrong zarr_format
+/ | /g | g g3;h a3 | g/zarr.json g3;g/a/zarr.json [ => error parsing metadata for g/a/zarr.json: not JSON
+/ | /g | g g3;h a3 | g/zarr.json g2;g/a/zarr.json g3 => Found V2 metadata in V3 key or vice-versa
+/ | /g | g g3;h a3 | g/zarr.json g3;g/../x => invalid node path /g/..
+
+# what is bad elsewhere or below no group is not asked
+/ | /x | g g3;h a3 | g/zarr.json {};x/zarr.json a3 => g\nh\nx\n
+/ | /h/a | g g3;h a3 | h/a/zarr.json {};x/zarr.json a3 => g\nh\n
+"#;
+
 #[test]
-fn what_is_bad_elsewhere_or_below_no_group_is_not_asked(rt: HostRuntime) {
-    let alloc = rt.alloc();
-    let documents = [("g/zarr.json", "{}"), ("x/zarr.json", A3)];
-    assert_refreshed(&rt, alloc, &documents, "/x", "g\nh\nx\n");
-    let documents = [("h/a/zarr.json", "{}"), ("x/zarr.json", A3)];
-    assert_refreshed(&rt, alloc, &documents, "/h/a", "g\nh\n");
+fn a_block_made_current_has_these_keys(rt: HostRuntime) -> Result<(), Fail> {
+    check_rows(rt.alloc(), KEYS, keys_said)
+}
+
+// The same; the keys of the block that is made current, and their kinds.
+const KINDS: &str = r#"
+# a group that became an array has nothing below it
+/ | /g | g g3;g/a a3;g/a/b a3;h g3 | g/zarr.json a3;g/a/zarr.json a3 => g array\nh group\n
+
+# an array that became a group has all below it
+/b | /b/x/g | x/g a3;x g3 | b/x/g/.zgroup g2;b/x/g/a/zarr.json a3;b/x/g/h/zarr.json g3;b/x/g/h/i/zarr.json g3;b/x/g/n/c/0;b/y/zarr.json a3 => x group\nx/g group\nx/g/a array\nx/g/h group\nx/g/h/i group\n
+
+# below a path that is no group of the block nothing is added
+/ | /g/a | g a3;g/a g3 | g/a/zarr.json a3;g/zarr.json g3 => g array\n
+/ | /g/a | h g3;g/a/b g3 | g/a/zarr.json a3;g/zarr.json g3 => h group\n
+/ | /g/a | /g g3;x a3 | g/a/zarr.json a3;g/zarr.json g3 => /g group\ng/a array\nx array\n
+/ | /g/a | /g g3;g a3 | g/a/zarr.json a3;g/zarr.json g3 => /g group\ng array\n
+"#;
+
+#[test]
+fn a_block_made_current_has_these_kinds(rt: HostRuntime) -> Result<(), Fail> {
+    check_rows(rt.alloc(), KINDS, kinds_said)
 }
 
 // ---- every store of three paths, and every change of one
@@ -311,7 +250,8 @@ fn the_block_follows_every_change_of_every_small_store(rt: HostRuntime) {
 #[test]
 fn a_fresh_block_is_whole_or_memory_is_wanting(rt: HostRuntime) -> Result<(), Fail> {
     let alloc = rt.alloc();
-    let found = said(alloc, once_set(alloc), keys_text)?;
+    let given = "/group/subgroup | three levels | two erased | one set again";
+    let found = changed_said(alloc, given)?;
     let whole = "array\ngroup\ngroup/array\ngroup/subgroup\ngroup/subgroup/mysubarray\n";
     match found.as_str() {
         "out of memory" => Err(Fail::from(AllocError)),

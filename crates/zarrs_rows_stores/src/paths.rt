@@ -1,5 +1,5 @@
-use crate::asserts::{assert_answer, assert_text};
-use std::alloc::Global;
+// Each call that is tested is read from the text of a row, and answers a text; the tests are tables of such rows.
+use std::alloc::{AllocError, AllocFailed, Global};
 use std::cmp::Ordering;
 use std::hash::{BuildHasher, BuildHasherDefault, FoldHasher};
 use std::test::Fail;
@@ -7,18 +7,327 @@ use zarrs_path::{
     NodeName, NodeNameError, NodePath, NodePathError, data_key, laws, meta_key, meta_key_v2_array,
     meta_key_v2_attributes, meta_key_v2_consolidated, meta_key_v2_group, meta_key_v3,
 };
-use zarrs_store::{StoreKey, StorePrefix};
+use zarrs_rows_table::{check_rows, fields};
+use zarrs_store::{StoreKey, StoreKeyError, StorePrefix, StorePrefixError};
 
-fn path(alloc: Global, text: &str) -> Result<NodePath, Fail> {
-    Ok(NodePath::new(alloc, text)?)
+// That a row has no answer.
+#[derive(Debug, Drop)]
+enum NoAnswer {
+    OutOfMemory,
+    // What is given is refused, or is no word that is known.
+    Unknown,
 }
 
-// The text of a path, or `none`.
-fn text_of(path: &Option<NodePath>) -> &str {
-    match path {
-        Some(path) => path.as_str(),
-        None => "none",
+impl From<AllocError> for NoAnswer {
+    fn from(_error: AllocError) -> NoAnswer {
+        NoAnswer::OutOfMemory
     }
+}
+
+impl<T: Drop> From<AllocFailed<T>> for NoAnswer {
+    fn from(_failed: AllocFailed<T>) -> NoAnswer {
+        NoAnswer::OutOfMemory
+    }
+}
+
+impl From<NodeNameError> for NoAnswer {
+    fn from(error: NodeNameError) -> NoAnswer {
+        match error {
+            NodeNameError::OutOfMemory => NoAnswer::OutOfMemory,
+            _ => NoAnswer::Unknown,
+        }
+    }
+}
+
+impl From<NodePathError> for NoAnswer {
+    fn from(error: NodePathError) -> NoAnswer {
+        match error {
+            NodePathError::OutOfMemory => NoAnswer::OutOfMemory,
+            _ => NoAnswer::Unknown,
+        }
+    }
+}
+
+impl From<StorePrefixError> for NoAnswer {
+    fn from(error: StorePrefixError) -> NoAnswer {
+        match error {
+            StorePrefixError::OutOfMemory => NoAnswer::OutOfMemory,
+            _ => NoAnswer::Unknown,
+        }
+    }
+}
+
+impl From<StoreKeyError> for NoAnswer {
+    fn from(error: StoreKeyError) -> NoAnswer {
+        match error {
+            StoreKeyError::OutOfMemory => NoAnswer::OutOfMemory,
+            _ => NoAnswer::Unknown,
+        }
+    }
+}
+
+// ---- names
+
+// Whether a text is valid as a name, and the name that is made of it, as it is shown and by its text, or the refusal.
+fn name_said(alloc: Global, text: &str) -> Result<String, NoAnswer> {
+    let valid = NodeName::validate(text);
+    match NodeName::new(alloc, text) {
+        Ok(name) => Ok(format!(in alloc; "{valid}: '{name}' '{}'", name.as_str())?),
+        Err(error) => Ok(format!(in alloc; "{valid}: {error}")?),
+    }
+}
+
+const NAMES: &str = r#"
+# names are valid by their bytes, and show their texts
+ => true: '' ''
+a => true: 'a' 'a'
+a.b => true: 'a.b' 'a.b'
+..a => true: '..a' '..a'
+_ => true: '_' '_'
+_a => true: '_a' '_a'
+a__ => true: 'a__' 'a__'
+.a => true: '.a' '.a'
+a. => true: 'a.' 'a.'
+é => true: 'é' 'é'
+# what is no name is refused, and named
+. => false: invalid node name .
+.. => false: invalid node name ..
+... => false: invalid node name ...
+__ => false: invalid node name __
+__a => false: invalid node name __a
+/ => false: invalid node name /
+a/b => false: invalid node name a/b
+a/ => false: invalid node name a/
+/a => false: invalid node name /a
+.... => false: invalid node name ....
+___ => false: invalid node name ___
+"#;
+
+#[test]
+fn names_are_valid_by_their_bytes(rt: HostRuntime) -> Result<(), Fail> {
+    check_rows(rt.alloc(), NAMES, name_said)
+}
+
+// The name `ab` made without a look at its text, the name of the root, or the name with a text.
+fn name_of(alloc: Global, word: &str) -> Result<NodeName, NodeNameError> {
+    match word {
+        "new_unchecked" => Ok(NodeName::new_unchecked(String::from_str(alloc, "ab")?)),
+        "root" => Ok(NodeName::root(alloc)),
+        text => NodeName::new(alloc, text),
+    }
+}
+
+// The text of a name, whether it is the root's, and whether it equals another.
+fn names_compared(alloc: Global, given: &str) -> Result<String, NoAnswer> {
+    let (first, second) = fields(given);
+    let name = name_of(alloc, first)?;
+    let is_same = name == name_of(alloc, second)?;
+    let is_root = name.is_root();
+    Ok(format!(in alloc; "'{}', root {is_root}, equal {is_same}", name.as_str())?)
+}
+
+const NAMES_COMPARED: &str = r#"
+# names are equal by their texts
+new_unchecked | ab => 'ab', root false, equal true
+new_unchecked | a => 'ab', root false, equal false
+# the root's name is the empty name
+root |  => '', root true, equal true
+"#;
+
+#[test]
+fn names_are_equal_by_their_texts(rt: HostRuntime) -> Result<(), Fail> {
+    check_rows(rt.alloc(), NAMES_COMPARED, names_compared)
+}
+
+// ---- paths
+
+// A path and a relative text behind ` + ` that is joined to it, or the path with a text, or the root.
+fn path(alloc: Global, text: &str) -> Result<NodePath, NoAnswer> {
+    match text.split_once(" + ") {
+        Some((base, relative)) => Ok(NodePath::new(alloc, base)?.join(alloc, relative)?),
+        None => path_of(alloc, text),
+    }
+}
+
+// The root for its word, or the path with a text.
+fn path_of(alloc: Global, text: &str) -> Result<NodePath, NoAnswer> {
+    match text {
+        "root" => Ok(NodePath::root(alloc)?),
+        _ => Ok(NodePath::new(alloc, text)?),
+    }
+}
+
+// The path as it is shown, or the refusal.
+fn said(alloc: Global, answer: Result<NodePath, NodePathError>) -> Result<String, NoAnswer> {
+    match answer {
+        Ok(path) => Ok(path.to_string(alloc)?),
+        Err(error) => Ok(error.to_string(alloc)?),
+    }
+}
+
+// Whether a text is valid, and the path of it as it is shown, by its text and by that of a copy, and whether it is the root.
+fn path_texts(alloc: Global, valid: bool, path: &NodePath) -> Result<String, AllocError> {
+    let copy = path.try_clone(alloc)?;
+    let is_root = path.is_root();
+    format!(in alloc;
+        "{valid}: '{path}' '{}' '{}', root {is_root}",
+        path.as_str(),
+        copy.as_str()
+    )
+}
+
+// Whether a text is valid as a path, and the path that is made of it, or the refusal.
+fn path_said(alloc: Global, text: &str) -> Result<String, NoAnswer> {
+    let valid = NodePath::validate(text);
+    match NodePath::new(alloc, text) {
+        Ok(path) => Ok(path_texts(alloc, valid, &path)?),
+        Err(error) => Ok(format!(in alloc; "{valid}: {error}.")?),
+    }
+}
+
+const PATHS: &str = r#"
+# paths are valid by their names, and show their texts
+/ => true: '/' '/' '/', root true
+/a => true: '/a' '/a' '/a', root false
+/foo__bar => true: '/foo__bar' '/foo__bar' '/foo__bar', root false
+/foo./bar => true: '/foo./bar' '/foo./bar' '/foo./bar', root false
+/foo/bar.. => true: '/foo/bar..' '/foo/bar..' '/foo/bar..', root false
+/a/b => true: '/a/b' '/a/b' '/a/b', root false
+/é => true: '/é' '/é' '/é', root false
+# what is no path is refused, and named
+ => false: invalid node path .
+/a/b/ => false: invalid node path /a/b/.
+//// => false: invalid node path ////.
+/... => false: invalid node path /....
+/foo/__bar => false: invalid node path /foo/__bar.
+x => false: invalid node path x.
+/.. => false: invalid node path /...
+/a//b => false: invalid node path /a//b.
+a => false: invalid node path a.
+a/b => false: invalid node path a/b.
+// => false: invalid node path //.
+/a/ => false: invalid node path /a/.
+/. => false: invalid node path /..
+/__a => false: invalid node path /__a.
+"#;
+
+#[test]
+fn paths_are_valid_by_their_names(rt: HostRuntime) -> Result<(), Fail> {
+    check_rows(rt.alloc(), PATHS, path_said)
+}
+
+// What an error says where memory ran out, or whether a law says that a text is accepted as a path.
+fn word_said(alloc: Global, given: &str) -> Result<String, NoAnswer> {
+    let (word, text) = fields(given);
+    match word {
+        "NodeNameError" => Ok(NodeNameError::OutOfMemory.to_string(alloc)?),
+        "NodePathError" => Ok(NodePathError::OutOfMemory.to_string(alloc)?),
+        "accepted_texts" => Ok(laws::accepted_texts(alloc, text)?.to_string(alloc)?),
+        _ => Err(NoAnswer::Unknown),
+    }
+}
+
+const WORDS: &str = r#"
+# every error says that memory ran out
+NodeNameError => out of memory
+NodePathError => out of memory
+# a law accepts the texts of paths
+accepted_texts | /a => true
+accepted_texts | a => false
+"#;
+
+#[test]
+fn errors_say_that_memory_ran_out_and_a_law_accepts_texts(rt: HostRuntime) -> Result<(), Fail> {
+    check_rows(rt.alloc(), WORDS, word_said)
+}
+
+// A path joined with a relative text, or the refusal.
+fn joined(alloc: Global, given: &str) -> Result<String, NoAnswer> {
+    let (base, relative) = fields(given);
+    said(alloc, path_of(alloc, base)?.join(alloc, relative))
+}
+
+const JOINED: &str = r#"
+# names are joined
+/group | /sub => /group/sub
+/group | sub/leaf => /group/sub/leaf
+/group | / => /group
+/ |  => /
+/ | a/b => /a/b
+# the first bad part is refused
+root | foo/ => invalid node path invalid node name `` in 'foo/'
+root | a/../b/__c => invalid node path invalid node name `..` in 'a/../b/__c'
+root | //foo => invalid node path invalid node name `` in '/foo'
+root | __c => invalid node path invalid node name `__c` in '__c'
+"#;
+
+#[test]
+fn joins_names(rt: HostRuntime) -> Result<(), Fail> {
+    check_rows(rt.alloc(), JOINED, joined)
+}
+
+// The path that a call answers: the root, the parent of a path, or what two laws say of parents.
+fn parent(alloc: Global, given: &str) -> Result<Option<NodePath>, NoAnswer> {
+    let (call, text) = fields(given);
+    match call {
+        "root" => Ok(Some(NodePath::root(alloc)?)),
+        "parent" => Ok(NodePath::new(alloc, text)?.parent(alloc)?),
+        "parent_of_root" => Ok(laws::parent_of_root(alloc)?),
+        "parent_of_join bar" => {
+            let path = NodePath::new(alloc, text)?;
+            Ok(laws::parent_of_join(alloc, &path, "bar")?)
+        }
+        _ => Err(NoAnswer::Unknown),
+    }
+}
+
+// The text of the path that such a call answers, or `none`.
+fn parent_said(alloc: Global, given: &str) -> Result<String, NoAnswer> {
+    match parent(alloc, given)? {
+        Some(path) => Ok(String::from_str(alloc, path.as_str())?),
+        None => Ok(String::from_str(alloc, "none")?),
+    }
+}
+
+const PARENTS: &str = r#"
+root => /
+# a parent lacks the last name
+parent | / => none
+parent | /foo => /
+parent | /foo/bar => /foo
+parent | /foo/bar/baz => /foo/bar
+# the laws of parents
+parent_of_root => none
+parent_of_join bar | /foo => /foo
+"#;
+
+#[test]
+fn parents_lack_the_last_name(rt: HostRuntime) -> Result<(), Fail> {
+    check_rows(rt.alloc(), PARENTS, parent_said)
+}
+
+// ---- two paths
+
+// The word for an order.
+fn order_word(order: Ordering) -> &'static str {
+    match order {
+        Ordering::Less => "Less",
+        Ordering::Equal => "Equal",
+        Ordering::Greater => "Greater",
+    }
+}
+
+// How a path stands to another: by `cmp`, by `partial_cmp`, by `>` of the other, by `==`, and whether order and equality agree.
+fn order_said(alloc: Global, path: &NodePath, other: &NodePath) -> Result<String, AllocError> {
+    let order = order_word(path.cmp(other));
+    let partial = match path.partial_cmp(other) {
+        Some(order) => order_word(order),
+        None => "none",
+    };
+    let is_greater = *other > *path;
+    let is_equal = *path == *other;
+    let agree = laws::order_and_equality(path, other);
+    format!(in alloc; "{order} {partial}, before {is_greater}, equal {is_equal}, agree {agree}")
 }
 
 fn hash_of(path: &NodePath) -> u64 {
@@ -26,329 +335,208 @@ fn hash_of(path: &NodePath) -> u64 {
     hashers.hash_one(path)
 }
 
-#[test]
-fn names_are_valid_by_their_bytes(rt: HostRuntime) {
-    for (text, valid) in [
-        ("", true),
-        ("a", true),
-        ("a.b", true),
-        ("..a", true),
-        ("_", true),
-        ("_a", true),
-        ("a__", true),
-        (".", false),
-        ("..", false),
-        ("...", false),
-        ("__", false),
-        ("__a", false),
-        ("/", false),
-        ("a/b", false),
-    ] {
-        assert_answer(&rt, text, NodeName::validate(text), valid);
+// What a call says of a path and another.
+fn relation(
+    alloc: Global,
+    call: &str,
+    path: &NodePath,
+    other: &NodePath,
+) -> Result<String, NoAnswer> {
+    match call {
+        "is_below" => Ok(path.is_below(other).to_string(alloc)?),
+        "order" => Ok(order_said(alloc, path, other)?),
+        "same hash" => Ok((hash_of(path) == hash_of(other)).to_string(alloc)?),
+        _ => Err(NoAnswer::Unknown),
     }
 }
 
-#[test]
-fn names_show_their_texts(rt: HostRuntime) -> Result<(), Fail> {
-    let alloc = rt.alloc();
-    for text in ["", "a", "a.b", "..a"] {
-        let name = NodeName::new(alloc, text)?;
-        assert_text(&rt, text, name.as_str(), text);
-        assert_text(&rt, text, name.to_string(alloc)?.as_str(), text);
-    }
-    Ok(())
+// What a call says of the paths with two texts.
+fn related(alloc: Global, given: &str) -> Result<String, NoAnswer> {
+    let (call, texts) = fields(given);
+    let (first, second) = fields(texts);
+    let first = path(alloc, first)?;
+    let second = path(alloc, second)?;
+    relation(alloc, call, &first, &second)
 }
 
-#[test]
-fn refuses_what_is_no_name(rt: HostRuntime) -> Result<(), Fail> {
-    let alloc = rt.alloc();
-    for (text, want) in [
-        ("..", "invalid node name .."),
-        ("__a", "invalid node name __a"),
-        ("a/b", "invalid node name a/b"),
-    ] {
-        let said = match NodeName::new(alloc, text) {
-            Ok(name) => name.to_string(alloc)?,
-            Err(error) => error.to_string(alloc)?,
-        };
-        assert_text(&rt, text, said.as_str(), want);
-    }
-    Ok(())
-}
+const RELATED: &str = r#"
+# a path is below another by its names
+is_below | /a/b | /a => true
+is_below | /a/b/c | /a => true
+is_below | /a | / => true
+is_below | /group2 | /group => false
+is_below | /ab | /a => false
+is_below | /a | /a => false
+is_below | /a | /a/b => false
+is_below | / | / => false
+is_below | /b/a | /a => false
+# paths are ordered by names
+order | /a/x | /a-b => Less Less, before true, equal false, agree true
+order | /a/b | /a/c => Less Less, before true, equal false, agree true
+order | / | /a => Less Less, before true, equal false, agree true
+order | /a | /a/b => Less Less, before true, equal false, agree true
+order | /ab | /a => Greater Greater, before false, equal false, agree true
+order | /group2 | /group => Greater Greater, before false, equal false, agree true
+order | /b/a | /a => Greater Greater, before false, equal false, agree true
+order | / | / => Equal Equal, before false, equal true, agree true
+# equal paths are level and hash alike
+order | /a/b | /a + b => Equal Equal, before false, equal true, agree true
+order | /a/b | /a => Greater Greater, before false, equal false, agree true
+same hash | /a/b | /a + b => true
+same hash | /a/b | /a => false
+same hash | / | / => true
+same hash | / | root => true
+"#;
 
 #[test]
-fn names_are_equal_by_their_texts(rt: HostRuntime) -> Result<(), Fail> {
-    let alloc = rt.alloc();
-    let name = NodeName::new_unchecked(String::from_str(alloc, "ab")?);
-    assert_text(&rt, "new_unchecked", name.as_str(), "ab");
-    for (text, wanted) in [("ab", true), ("a", false)] {
-        let is_same = name == NodeName::new(alloc, text)?;
-        assert_answer(&rt, text, is_same, wanted);
-    }
-    let root = NodeName::root(alloc);
-    assert_text(&rt, "root", root.as_str(), "");
-    let is_empty = root == NodeName::new(alloc, "")?;
-    assert_answer(&rt, "root is the empty name", is_empty, true);
-    assert_answer(&rt, "root", root.is_root(), true);
-    assert_answer(&rt, "ab", name.is_root(), false);
-    Ok(())
+fn paths_are_related_by_their_names(rt: HostRuntime) -> Result<(), Fail> {
+    check_rows(rt.alloc(), RELATED, related)
 }
 
+// The paths with these texts.
+fn paths_of(alloc: Global, texts: &str) -> Result<Vec<NodePath>, NoAnswer> {
+    let mut paths = Vec::new(alloc);
+    for text in texts.split(' ') {
+        paths.push(NodePath::new(alloc, text)?)?;
+    }
+    Ok(paths)
+}
+
+// The texts of the paths, each with a space in front of it.
+fn texts_of(alloc: Global, paths: &[NodePath]) -> Result<String, NoAnswer> {
+    let mut texts = String::from_str(alloc, "sorted")?;
+    for path in paths {
+        texts.push_str(" ")?;
+        texts.push_str(path.as_str())?;
+    }
+    Ok(texts)
+}
+
+// The texts of paths in their order.
+fn sorted(alloc: Global, given: &str) -> Result<String, NoAnswer> {
+    let mut paths = paths_of(alloc, given)?;
+    paths.sort()?;
+    texts_of(alloc, paths.as_slice())
+}
+
+const SORTED: &str = r#"
+/a-b /a/x / /a => sorted / /a /a/x /a-b
+"#;
+
 #[test]
-fn paths_are_valid_by_their_names(rt: HostRuntime) {
-    for (text, valid) in [
-        ("/", true),
-        ("", false),
-        ("/a/b/", false),
-        ("////", false),
-        ("/...", false),
-        ("/foo/__bar", false),
-        ("/foo__bar", true),
-        ("/foo./bar", true),
-        ("/foo/bar..", true),
-        ("x", false),
-        ("/..", false),
-        ("/a//b", false),
-    ] {
-        assert_answer(&rt, text, NodePath::validate(text), valid);
+fn paths_are_sorted_by_names(rt: HostRuntime) -> Result<(), Fail> {
+    check_rows(rt.alloc(), SORTED, sorted)
+}
+
+// ---- prefixes and keys
+
+fn prefix(alloc: Global, text: &str) -> Result<StorePrefix, NoAnswer> {
+    Ok(StorePrefix::new(alloc, text)?)
+}
+
+// The path of the prefix with a text.
+fn path_of_prefix(alloc: Global, text: &str) -> Result<NodePath, NoAnswer> {
+    Ok(NodePath::from_prefix(alloc, &prefix(alloc, text)?)?)
+}
+
+// What a call between prefixes and paths says of the prefix with a text.
+fn prefix_said(alloc: Global, given: &str) -> Result<String, NoAnswer> {
+    let (call, text) = fields(given);
+    match call {
+        "from_prefix" => said(alloc, NodePath::from_prefix(alloc, &prefix(alloc, text)?)),
+        "from_owned_prefix" => said(alloc, NodePath::from_owned_prefix(prefix(alloc, text)?)),
+        "to_prefix" => prefix_text(alloc, &path_of_prefix(alloc, text)?.to_prefix(alloc)?),
+        "prefix_and_back" => {
+            let path = path_of_prefix(alloc, text)?;
+            said(alloc, laws::prefix_and_back(alloc, &path))
+        }
+        "path_and_back" => {
+            let prefix = prefix(alloc, text)?;
+            prefix_text(alloc, &laws::path_and_back(alloc, &prefix)?)
+        }
+        _ => Err(NoAnswer::Unknown),
     }
 }
 
-#[test]
-fn paths_show_their_texts(rt: HostRuntime) -> Result<(), Fail> {
-    let alloc = rt.alloc();
-    for text in ["/", "/a", "/foo__bar", "/foo./bar", "/foo/bar.."] {
-        let path = NodePath::new(alloc, text)?;
-        assert_text(&rt, text, path.as_str(), text);
-        assert_text(&rt, text, path.to_string(alloc)?.as_str(), text);
-        assert_text(&rt, text, path.try_clone(alloc)?.as_str(), text);
-        assert_answer(&rt, text, path.is_root(), text == "/");
-    }
-    assert_text(&rt, "root", NodePath::root(alloc)?.as_str(), "/");
-    for (text, wanted) in [("/a", true), ("a", false)] {
-        assert_answer(&rt, text, laws::accepted_texts(alloc, text)?, wanted);
-    }
-    Ok(())
+// The text of a prefix between marks.
+fn prefix_text(alloc: Global, prefix: &StorePrefix) -> Result<String, NoAnswer> {
+    Ok(format!(in alloc; "'{}'", prefix.as_str())?)
 }
 
-#[test]
-fn refuses_what_is_no_path(rt: HostRuntime) -> Result<(), Fail> {
-    let alloc = rt.alloc();
-    for (text, want) in [
-        ("x", "invalid node path x"),
-        ("/..", "invalid node path /.."),
-        ("/a/b/", "invalid node path /a/b/"),
-        ("", "invalid node path "),
-    ] {
-        let said = match NodePath::new(alloc, text) {
-            Ok(path) => path.to_string(alloc)?,
-            Err(error) => error.to_string(alloc)?,
-        };
-        assert_text(&rt, text, said.as_str(), want);
-    }
-    Ok(())
-}
-
-#[test]
-fn every_error_says_that_memory_ran_out(rt: HostRuntime) -> Result<(), Fail> {
-    let alloc = rt.alloc();
-    let want = "out of memory";
-    let of_name = NodeNameError::OutOfMemory.to_string(alloc)?;
-    assert_text(&rt, "of a name", of_name.as_str(), want);
-    let of_path = NodePathError::OutOfMemory.to_string(alloc)?;
-    assert_text(&rt, "of a path", of_path.as_str(), want);
-    Ok(())
-}
-
-#[test]
-fn joins_names(rt: HostRuntime) -> Result<(), Fail> {
-    let alloc = rt.alloc();
-    for (base, relative, want) in [
-        ("/group", "/sub", "/group/sub"),
-        ("/group", "sub/leaf", "/group/sub/leaf"),
-        ("/group", "/", "/group"),
-        ("/", "", "/"),
-        ("/", "a/b", "/a/b"),
-    ] {
-        let joined = path(alloc, base)?.join(alloc, relative)?;
-        assert_text(&rt, relative, joined.as_str(), want);
-    }
-    Ok(())
-}
-
-#[test]
-fn refuses_the_first_bad_part(rt: HostRuntime) -> Result<(), Fail> {
-    let alloc = rt.alloc();
-    let root = NodePath::root(alloc)?;
-    for (relative, want) in [
-        ("foo/", "invalid node path invalid node name `` in 'foo/'"),
-        (
-            "a/../b/__c",
-            "invalid node path invalid node name `..` in 'a/../b/__c'",
-        ),
-        ("//foo", "invalid node path invalid node name `` in '/foo'"),
-        ("__c", "invalid node path invalid node name `__c` in '__c'"),
-    ] {
-        let said = match root.join(alloc, relative) {
-            Ok(path) => path.to_string(alloc)?,
-            Err(error) => error.to_string(alloc)?,
-        };
-        assert_text(&rt, relative, said.as_str(), want);
-    }
-    Ok(())
-}
-
-#[test]
-fn parents_lack_the_last_name(rt: HostRuntime) -> Result<(), Fail> {
-    let alloc = rt.alloc();
-    for (text, want) in [("/", "none"), ("/foo", "/"), ("/foo/bar/baz", "/foo/bar")] {
-        let parent = path(alloc, text)?.parent(alloc)?;
-        assert_text(&rt, text, text_of(&parent), want);
-    }
-    let of_root = laws::parent_of_root(alloc)?;
-    assert_text(&rt, "parent_of_root", text_of(&of_root), "none");
-    let of_join = laws::parent_of_join(alloc, &path(alloc, "/foo")?, "bar")?;
-    assert_text(&rt, "parent_of_join", text_of(&of_join), "/foo");
-    Ok(())
-}
-
-#[test]
-fn is_below_by_names(rt: HostRuntime) -> Result<(), Fail> {
-    let alloc = rt.alloc();
-    for (text, base, want) in [
-        ("/a/b", "/a", true),
-        ("/a/b/c", "/a", true),
-        ("/a", "/", true),
-        ("/group2", "/group", false),
-        ("/ab", "/a", false),
-        ("/a", "/a", false),
-        ("/a", "/a/b", false),
-        ("/", "/", false),
-        ("/b/a", "/a", false),
-    ] {
-        let below = path(alloc, text)?.is_below(&path(alloc, base)?);
-        assert_answer(&rt, text, below, want);
-    }
-    Ok(())
-}
+const PREFIXES: &str = r#"
+# prefixes are paths
+from_prefix |  => /
+from_prefix | a/ => /a
+from_prefix | a/b/ => /a/b
+from_owned_prefix |  => /
+from_owned_prefix | a/ => /a
+from_owned_prefix | a/b/ => /a/b
+to_prefix |  => ''
+to_prefix | a/ => 'a/'
+to_prefix | a/b/ => 'a/b/'
+prefix_and_back |  => /
+prefix_and_back | a/ => /a
+prefix_and_back | a/b/ => /a/b
+path_and_back |  => ''
+path_and_back | a/ => 'a/'
+path_and_back | a/b/ => 'a/b/'
+# a prefix with what is no name is refused
+from_prefix | a/__x/ => invalid node path /a/__x
+"#;
 
 #[test]
 fn prefixes_are_paths(rt: HostRuntime) -> Result<(), Fail> {
-    let alloc = rt.alloc();
-    for (prefix, text) in [("", "/"), ("a/", "/a"), ("a/b/", "/a/b")] {
-        let from = NodePath::from_prefix(alloc, &StorePrefix::new(alloc, prefix)?)?;
-        assert_text(&rt, prefix, from.as_str(), text);
-        let owned = NodePath::from_owned_prefix(StorePrefix::new(alloc, prefix)?)?;
-        assert_text(&rt, prefix, owned.as_str(), text);
-        assert_text(&rt, prefix, from.to_prefix(alloc)?.as_str(), prefix);
-        let again = laws::prefix_and_back(alloc, &from)?;
-        assert_text(&rt, prefix, again.as_str(), text);
-        let back = laws::path_and_back(alloc, &StorePrefix::new(alloc, prefix)?)?;
-        assert_text(&rt, prefix, back.as_str(), prefix);
-    }
-    let said = match NodePath::from_prefix(alloc, &StorePrefix::new(alloc, "a/__x/")?) {
-        Ok(path) => path.to_string(alloc)?,
-        Err(error) => error.to_string(alloc)?,
-    };
-    assert_text(&rt, "a/__x/", said.as_str(), "invalid node path /a/__x");
-    Ok(())
+    check_rows(rt.alloc(), PREFIXES, prefix_said)
 }
 
-#[test]
-fn paths_are_ordered_by_names(rt: HostRuntime) -> Result<(), Fail> {
-    let alloc = rt.alloc();
-    let mut paths = Vec::new(alloc);
-    for text in ["/a-b", "/a/x", "/", "/a"] {
-        paths.push(path(alloc, text)?)?;
+// The key of a document of a path, or of the chunk `c/0` of it.
+fn document_key(alloc: Global, call: &str, path: &NodePath) -> Result<StoreKey, NoAnswer> {
+    match call {
+        "meta_key" => Ok(meta_key(alloc, path)?),
+        "meta_key_v3" => Ok(meta_key_v3(alloc, path)?),
+        "meta_key_v2_array" => Ok(meta_key_v2_array(alloc, path)?),
+        "meta_key_v2_group" => Ok(meta_key_v2_group(alloc, path)?),
+        "meta_key_v2_attributes" => Ok(meta_key_v2_attributes(alloc, path)?),
+        "meta_key_v2_consolidated" => Ok(meta_key_v2_consolidated(alloc, path)?),
+        "data_key" => Ok(data_key(alloc, path, &StoreKey::new(alloc, "c/0")?)?),
+        _ => Err(NoAnswer::Unknown),
     }
-    paths.sort()?;
-    for (path, want) in paths.iter().zip(["/", "/a", "/a/x", "/a-b"]) {
-        assert_text(&rt, want, path.as_str(), want);
-    }
-    let lower = path(alloc, "/a/x")?;
-    let upper = path(alloc, "/a-b")?;
-    let is_less = lower.cmp(&upper) == Ordering::Less;
-    assert_answer(&rt, "cmp", is_less, true);
-    let is_less_too = lower.partial_cmp(&upper) == Some(Ordering::Less);
-    assert_answer(&rt, "partial_cmp", is_less_too, true);
-    assert_answer(&rt, "greater", upper > lower, true);
-    Ok(())
 }
 
-#[test]
-fn equal_paths_are_level_and_hash_alike(rt: HostRuntime) -> Result<(), Fail> {
-    let alloc = rt.alloc();
-    let first = path(alloc, "/a/b")?;
-    let second = path(alloc, "/a")?.join(alloc, "b")?;
-    let other = path(alloc, "/a")?;
-    assert_answer(&rt, "equal", first == second, true);
-    assert_answer(&rt, "another", first == other, false);
-    let is_level = first.cmp(&second) == Ordering::Equal;
-    assert_answer(&rt, "cmp", is_level, true);
-    for path in [&second, &other] {
-        let agree = laws::order_and_equality(&first, path);
-        assert_answer(&rt, path.as_str(), agree, true);
-    }
-    let are_alike = hash_of(&first) == hash_of(&second);
-    assert_answer(&rt, "hash", are_alike, true);
-    let is_other = hash_of(&first) == hash_of(&other);
-    assert_answer(&rt, "hash of another", is_other, false);
-    Ok(())
+// The text of such a key of the path with a text.
+fn key_said(alloc: Global, given: &str) -> Result<String, NoAnswer> {
+    let (call, text) = fields(given);
+    let path = NodePath::new(alloc, text)?;
+    let key = document_key(alloc, call, &path)?;
+    Ok(String::from_str(alloc, key.as_str())?)
 }
 
-#[test]
-fn metadata_keys_end_in_the_file_name(rt: HostRuntime) -> Result<(), Fail> {
-    let alloc = rt.alloc();
-    for (text, wanted) in [
-        (
-            "/",
-            [
-                "zarr.json",
-                "zarr.json",
-                ".zarray",
-                ".zgroup",
-                ".zattrs",
-                ".zmetadata",
-            ],
-        ),
-        (
-            "/a/b",
-            [
-                "a/b/zarr.json",
-                "a/b/zarr.json",
-                "a/b/.zarray",
-                "a/b/.zgroup",
-                "a/b/.zattrs",
-                "a/b/.zmetadata",
-            ],
-        ),
-    ] {
-        let path = path(alloc, text)?;
-        let keys = [
-            meta_key(alloc, &path)?,
-            meta_key_v3(alloc, &path)?,
-            meta_key_v2_array(alloc, &path)?,
-            meta_key_v2_group(alloc, &path)?,
-            meta_key_v2_attributes(alloc, &path)?,
-            meta_key_v2_consolidated(alloc, &path)?,
-        ];
-        for (key, want) in keys.iter().zip(wanted) {
-            assert_text(&rt, text, key.as_str(), want);
-        }
-    }
-    Ok(())
-}
+const KEYS: &str = r#"
+# keys of metadata end in the file name
+meta_key | / => zarr.json
+meta_key_v3 | / => zarr.json
+meta_key_v2_array | / => .zarray
+meta_key_v2_group | / => .zgroup
+meta_key_v2_attributes | / => .zattrs
+meta_key_v2_consolidated | / => .zmetadata
+meta_key | /a/b => a/b/zarr.json
+meta_key_v3 | /a/b => a/b/zarr.json
+meta_key_v2_array | /a/b => a/b/.zarray
+meta_key_v2_group | /a/b => a/b/.zgroup
+meta_key_v2_attributes | /a/b => a/b/.zattrs
+meta_key_v2_consolidated | /a/b => a/b/.zmetadata
+# keys of data end in the chunk's key
+data_key | /a => a/c/0
+data_key | /a/b => a/b/c/0
+data_key | / => c/0
+"#;
 
 #[test]
-fn data_keys_end_in_the_chunk_key(rt: HostRuntime) -> Result<(), Fail> {
-    let alloc = rt.alloc();
-    let chunk = StoreKey::new(alloc, "c/0")?;
-    for (text, want) in [("/a", "a/c/0"), ("/a/b", "a/b/c/0"), ("/", "c/0")] {
-        let key = data_key(alloc, &path(alloc, text)?, &chunk)?;
-        assert_text(&rt, text, key.as_str(), want);
-    }
-    Ok(())
+fn keys_end_in_the_file_name_or_the_chunk_key(rt: HostRuntime) -> Result<(), Fail> {
+    check_rows(rt.alloc(), KEYS, key_said)
 }
+
+// ---- laws
 
 #[test]
 fn laws_can_be_called() {

@@ -1,60 +1,33 @@
-// A test holds a store over one `?` at most, and asks the rest of calls that are lent it: each `?` drops all that is held, and a
-// drop of a store is long to prove.
+// Each call that is tested is read from the text of a row, and answers a text; the tests are tables of such rows. A row over a store
+// gives the store's keys, each with the byte `x`, and the steps that are taken in it.
 use std::alloc::{AllocError, Global};
-use std::fmt::Display;
 use std::test::Fail;
+use zarrs_rows_table::{check_rows, fields};
 use zarrs_store::{
     FaultAt, FaultStore, ListableStorageTraits, MemberName, MemoryStore, MetadataFault,
     ReadableStorageTraits, StorageError, StoreKey, StoreKeyError, StoreKeysPrefixes, StorePrefix,
     StorePrefixError, WritableStorageTraits, discover_children,
 };
 
-// ---- what is asked
-
-// Asks that a text is the wanted one.
-fn is_same(of: &str, found: &str, wanted: &str) -> Result<(), Fail> {
-    if found == wanted {
-        Ok(())
-    } else {
-        Err(Fail::new(format_args!("{of}: found {found} in place of {wanted}")))
-    }
-}
-
-// Asks that an answer is the wanted one.
-fn is_answer(of: &str, found: bool, wanted: bool) -> Result<(), Fail> {
-    if found == wanted {
-        Ok(())
-    } else {
-        Err(Fail::new(format_args!("{of}: found {found} in place of {wanted}")))
-    }
-}
-
-// Asks that a value is shown by this text.
-fn shows<D: Display + Drop>(alloc: Global, shown: D, wanted: &str) -> Result<(), Fail> {
-    let text = shown.to_string(alloc)?;
-    is_same("shown", text.as_str(), wanted)
-}
-
-// Asks that a call is refused by an error with this text.
-fn is_refused<T: Drop, E: Display + Drop>(
-    alloc: Global,
-    answer: Result<T, E>,
-    wanted: &str,
-) -> Result<(), Fail> {
-    match answer {
-        Ok(_) => Err(Fail::new(format_args!("nothing is refused in place of {wanted}"))),
-        Err(error) => shows(alloc, error, wanted),
-    }
-}
-
 // ---- keys, prefixes and stores of texts
 
-fn key(alloc: Global, text: &str) -> Result<StoreKey, Fail> {
-    Ok(StoreKey::new(alloc, text)?)
+// That a text is none of those that are known.
+fn unknown<T: Drop>(alloc: Global, text: &str) -> Result<T, StorageError> {
+    Err(StorageError::Other(format!(in alloc; "unknown: {text}")?))
 }
 
-fn prefix(alloc: Global, text: &str) -> Result<StorePrefix, Fail> {
-    Ok(StorePrefix::new(alloc, text)?)
+fn key(alloc: Global, text: &str) -> Result<StoreKey, StorageError> {
+    match StoreKey::new(alloc, text) {
+        Ok(key) => Ok(key),
+        Err(_) => unknown(alloc, text),
+    }
+}
+
+fn prefix(alloc: Global, text: &str) -> Result<StorePrefix, StorageError> {
+    match StorePrefix::new(alloc, text) {
+        Ok(prefix) => Ok(prefix),
+        Err(_) => unknown(alloc, text),
+    }
 }
 
 fn set<S: WritableStorageTraits>(
@@ -62,403 +35,504 @@ fn set<S: WritableStorageTraits>(
     store: &mut S,
     at: &str,
     bytes: &[u8],
-) -> Result<(), Fail> {
+) -> Result<(), StorageError> {
     let key = key(alloc, at)?;
-    Ok(store.set(&key, bytes)?)
+    store.set(&key, bytes)
 }
 
-fn erase<S: WritableStorageTraits>(alloc: Global, store: &mut S, at: &str) -> Result<(), Fail> {
-    let key = key(alloc, at)?;
-    Ok(store.erase(&key)?)
+// Sets two hundred keys of chunks below `a/c/`, of ten in a row.
+fn set_chunks(alloc: Global, store: &mut MemoryStore) -> Result<(), StorageError> {
+    for i in 0..200u32 {
+        let at = format!(in alloc; "a/c/{}/{}", i / 10, i % 10)?;
+        set(alloc, store, at.as_str(), b"x")?;
+    }
+    Ok(())
 }
 
-fn insert(alloc: Global, store: &mut MemoryStore, at: &str, bytes: &[u8]) -> Result<(), Fail> {
-    let bytes = Vec::from_slice(alloc, bytes)?;
-    let key = key(alloc, at)?;
-    Ok(store.insert(key, bytes)?)
+// Sets the key of a word, those of chunks for the word `chunks`, and none for the empty word.
+fn set_word(alloc: Global, store: &mut MemoryStore, word: &str) -> Result<(), StorageError> {
+    match word {
+        "" => Ok(()),
+        "chunks" => set_chunks(alloc, store),
+        at => set(alloc, store, at, b"x"),
+    }
 }
 
-fn store_of(alloc: Global, keys: &[&str]) -> Result<MemoryStore, Fail> {
+// The store with the keys of these words.
+fn store_of(alloc: Global, words: &str) -> Result<MemoryStore, StorageError> {
     let mut store = MemoryStore::new(alloc);
-    for text in keys {
-        set(alloc, &mut store, text, b"x")?;
+    for word in words.split(' ') {
+        set_word(alloc, &mut store, word)?;
     }
     Ok(store)
 }
 
-// The texts of the keys, each with a space behind it.
-fn texts_of_keys(alloc: Global, keys: &[StoreKey]) -> Result<String, Fail> {
-    let mut texts = String::new(alloc);
-    for key in keys {
-        texts.push_str(key.as_str())?;
-        texts.push_str(" ")?;
-    }
-    Ok(texts)
-}
-
-// The texts of the prefixes, each with a space behind it.
-fn texts_of_prefixes(alloc: Global, prefixes: &[StorePrefix]) -> Result<String, Fail> {
-    let mut texts = String::new(alloc);
-    for prefix in prefixes {
-        texts.push_str(prefix.as_str())?;
-        texts.push_str(" ")?;
-    }
-    Ok(texts)
-}
-
-// ---- what a store holds
-
-// Asks that these are the keys.
-fn are_keys(alloc: Global, of: &str, keys: &[StoreKey], wanted: &str) -> Result<(), Fail> {
-    let texts = texts_of_keys(alloc, keys)?;
-    is_same(of, texts.as_str(), wanted)
-}
-
-// Asks that these are the prefixes.
-fn are_prefixes(
-    alloc: Global,
-    of: &str,
-    prefixes: &[StorePrefix],
-    wanted: &str,
-) -> Result<(), Fail> {
-    let texts = texts_of_prefixes(alloc, prefixes)?;
-    is_same(of, texts.as_str(), wanted)
-}
-
-// Asks that a store lists these keys.
-fn lists<S: ListableStorageTraits>(alloc: Global, store: &S, wanted: &str) -> Result<(), Fail> {
-    let keys = store.list(alloc)?;
-    are_keys(alloc, "all keys", keys.as_slice(), wanted)
-}
-
-// The keys that a store lists below a prefix.
-fn keys_below<S: ListableStorageTraits>(
-    alloc: Global,
-    store: &S,
-    below: &str,
-) -> Result<Vec<StoreKey>, Fail> {
-    let prefix = prefix(alloc, below)?;
-    Ok(store.list_prefix(alloc, &prefix)?)
-}
-
-// Asks that a store lists these keys below a prefix.
-fn lists_below<S: ListableStorageTraits>(
-    alloc: Global,
-    store: &S,
-    below: &str,
-    wanted: &str,
-) -> Result<(), Fail> {
-    let keys = keys_below(alloc, store, below)?;
-    are_keys(alloc, below, keys.as_slice(), wanted)
-}
-
-// What a store lists directly below a prefix.
-fn directly_below<S: ListableStorageTraits>(
-    alloc: Global,
-    store: &S,
-    below: &str,
-) -> Result<StoreKeysPrefixes, Fail> {
-    let prefix = prefix(alloc, below)?;
-    Ok(store.list_dir(alloc, &prefix)?)
-}
-
-// Asks that these keys and these prefixes are listed.
-fn are_children(
-    alloc: Global,
-    below: &str,
-    dir: &StoreKeysPrefixes,
-    wanted: (&str, &str),
-) -> Result<(), Fail> {
-    are_keys(alloc, below, dir.keys.as_slice(), wanted.0)?;
-    are_prefixes(alloc, below, dir.prefixes.as_slice(), wanted.1)
-}
-
-// Asks that a store lists these keys and these prefixes directly below a prefix.
-fn has_children<S: ListableStorageTraits>(
-    alloc: Global,
-    store: &S,
-    below: &str,
-    wanted: (&str, &str),
-) -> Result<(), Fail> {
-    let dir = directly_below(alloc, store, below)?;
-    are_children(alloc, below, &dir, wanted)
-}
-
-// The bytes that a store has at a key.
-fn bytes_at<S: ReadableStorageTraits>(
-    alloc: Global,
-    store: &S,
-    at: &str,
-) -> Result<Option<Vec<u8>>, Fail> {
-    let key = key(alloc, at)?;
-    Ok(store.get(alloc, &key)?)
-}
-
-// The bytes as a text, or `nothing`.
-fn text_of(alloc: Global, found: &Option<Vec<u8>>) -> Result<String, AllocError> {
-    match found {
-        Some(bytes) => String::from_utf8_lossy(alloc, bytes.as_slice()),
-        None => String::from_str(alloc, "nothing"),
-    }
-}
-
-// Asks that these bytes are found, or `nothing`.
-fn are_bytes(alloc: Global, at: &str, found: &Option<Vec<u8>>, wanted: &str) -> Result<(), Fail> {
-    let text = text_of(alloc, found)?;
-    is_same(at, text.as_str(), wanted)
-}
-
-// Asks that a store has these bytes at a key, or `nothing` there.
-fn has_bytes<S: ReadableStorageTraits>(
-    alloc: Global,
-    store: &S,
-    at: &str,
-    wanted: &str,
-) -> Result<(), Fail> {
-    let found = bytes_at(alloc, store, at)?;
-    are_bytes(alloc, at, &found, wanted)
-}
-
 // ---- keys and prefixes
 
-// Asks whether a text is told to be a key, and whether a prefix, by the test and by the call that makes one.
-fn is_told(alloc: Global, text: &str, is_key: bool, is_prefix: bool) -> Result<(), Fail> {
-    let is_made_key = StoreKey::new(alloc, text).is_ok();
-    let is_made_prefix = StorePrefix::new(alloc, text).is_ok();
-    is_answer(text, StoreKey::validate(text), is_key)?;
-    is_answer(text, StorePrefix::validate(text), is_prefix)?;
-    is_answer(text, is_made_key, is_key)?;
-    is_answer(text, is_made_prefix, is_prefix)
-}
-
-#[test]
-fn tells_texts_of_keys_and_prefixes(rt: HostRuntime) -> Result<(), Fail> {
-    let alloc = rt.alloc();
-    for (text, is_key, is_prefix) in [
-        ("", false, true),
-        ("/", false, false),
-        ("a", true, false),
-        ("a/", false, true),
-        ("a/b", true, false),
-        ("a//b", false, false),
-        ("/a", false, false),
-        ("a/b/", false, true),
-        ("a//", false, false),
-        ("../a", true, false),
-    ] {
-        is_told(alloc, text, is_key, is_prefix)?;
-    }
-    Ok(())
-}
-
-// Asks that a key and its copy have this text, and that the key is shown by it.
-fn key_shows(alloc: Global, key: &StoreKey, wanted: &str) -> Result<(), Fail> {
+// Whether a text is valid, and the key of it as it is shown, by its text and by that of a copy.
+fn key_texts(alloc: Global, valid: bool, key: &StoreKey) -> Result<String, AllocError> {
     let copy = key.try_clone(alloc)?;
-    is_same("key", key.as_str(), wanted)?;
-    is_same("copy", copy.as_str(), wanted)?;
-    shows(alloc, key, wanted)
+    format!(in alloc; "{valid}: '{key}' '{}' '{}'", key.as_str(), copy.as_str())
 }
 
-// Asks that a prefix and its copy have this text, and that the prefix is shown by it.
-fn prefix_shows(alloc: Global, prefix: &StorePrefix, wanted: &str) -> Result<(), Fail> {
-    let copy = prefix.try_clone(alloc)?;
-    is_same("prefix", prefix.as_str(), wanted)?;
-    is_same("copy", copy.as_str(), wanted)?;
-    shows(alloc, prefix, wanted)
+// Whether a text is told to be a key, and the key that is made of it, or the refusal.
+fn key_said(alloc: Global, text: &str) -> Result<String, AllocError> {
+    let valid = StoreKey::validate(text);
+    match StoreKey::new(alloc, text) {
+        Ok(key) => key_texts(alloc, valid, &key),
+        Err(error) => format!(in alloc; "{valid}: {error}."),
+    }
 }
+
+const KEYS: &str = r#"
+# texts of keys
+a => true: 'a' 'a' 'a'
+a/b => true: 'a/b' 'a/b' 'a/b'
+../a => true: '../a' '../a' '../a'
+a/zarr.json => true: 'a/zarr.json' 'a/zarr.json' 'a/zarr.json'
+# other texts are refused, and named
+ => false: invalid store key .
+/ => false: invalid store key /.
+a/ => false: invalid store key a/.
+a//b => false: invalid store key a//b.
+/a => false: invalid store key /a.
+a/b/ => false: invalid store key a/b/.
+a// => false: invalid store key a//.
+"#;
 
 #[test]
-fn keys_and_prefixes_show_their_texts(rt: HostRuntime) -> Result<(), Fail> {
-    let alloc = rt.alloc();
-    let key = key(alloc, "a/zarr.json")?;
-    key_shows(alloc, &key, "a/zarr.json")?;
-    let prefix = prefix(alloc, "a/b/")?;
-    prefix_shows(alloc, &prefix, "a/b/")?;
-    let text = prefix.into_string();
-    is_same("text of the prefix", text.as_str(), "a/b/")
+fn keys_show_their_texts(rt: HostRuntime) -> Result<(), Fail> {
+    check_rows(rt.alloc(), KEYS, key_said)
 }
 
-// Asks whether a value stands before another, and whether they are the same.
-fn compares<T: Ord>(of: &str, a: &T, b: &T, is_less: bool, is_equal: bool) -> Result<(), Fail> {
-    is_answer(of, *a < *b, is_less)?;
-    is_answer(of, *a == *b, is_equal)?;
-    is_answer(of, *a != *b, !is_equal)
+// Whether a text is valid, and the prefix of it as it is shown, by its text and by that of a copy.
+fn prefix_texts(alloc: Global, valid: bool, prefix: &StorePrefix) -> Result<String, AllocError> {
+    let copy = prefix.try_clone(alloc)?;
+    format!(in alloc;
+        "{valid}: '{prefix}' '{}' '{}'",
+        prefix.as_str(),
+        copy.as_str()
+    )
 }
 
-// Asks whether a key stands before another; they are the same exactly where their texts are.
-fn keys_compare(alloc: Global, a: &str, b: &str, is_less: bool) -> Result<(), Fail> {
-    let (of, is_equal) = (a, a == b);
-    let a = key(alloc, a)?;
-    let b = key(alloc, b)?;
-    compares(of, &a, &b, is_less, is_equal)
+// Whether a text is told to be a prefix, and the prefix that is made of it, or the refusal.
+fn prefix_said(alloc: Global, text: &str) -> Result<String, AllocError> {
+    let valid = StorePrefix::validate(text);
+    match StorePrefix::new(alloc, text) {
+        Ok(prefix) => prefix_texts(alloc, valid, &prefix),
+        Err(error) => format!(in alloc; "{valid}: {error}."),
+    }
 }
 
-// Asks whether a prefix stands before another; they are the same exactly where their texts are.
-fn prefixes_compare(alloc: Global, a: &str, b: &str, is_less: bool) -> Result<(), Fail> {
-    let (of, is_equal) = (a, a == b);
-    let a = prefix(alloc, a)?;
-    let b = prefix(alloc, b)?;
-    compares(of, &a, &b, is_less, is_equal)
+const PREFIXES: &str = r#"
+# texts of prefixes
+ => true: '' '' ''
+a/ => true: 'a/' 'a/' 'a/'
+a/b/ => true: 'a/b/' 'a/b/' 'a/b/'
+# other texts are refused, and named
+/ => false: invalid store prefix /.
+a => false: invalid store prefix a.
+a/b => false: invalid store prefix a/b.
+a//b => false: invalid store prefix a//b.
+/a => false: invalid store prefix /a.
+a// => false: invalid store prefix a//.
+../a => false: invalid store prefix ../a.
+"#;
+
+#[test]
+fn prefixes_show_their_texts(rt: HostRuntime) -> Result<(), Fail> {
+    check_rows(rt.alloc(), PREFIXES, prefix_said)
 }
+
+// Whether a value stands before another, whether they are equal and whether they are not.
+fn order_said<T: Ord>(alloc: Global, a: &T, b: &T) -> Result<String, StorageError> {
+    let is_less = *a < *b;
+    let is_equal = *a == *b;
+    let is_other = *a != *b;
+    Ok(format!(in alloc; "less {is_less}, equal {is_equal}, other {is_other}")?)
+}
+
+// How two keys or two prefixes stand to each other, or the text that is taken out of a prefix.
+fn compared(alloc: Global, given: &str) -> Result<String, StorageError> {
+    let (kind, texts) = fields(given);
+    let (a, b) = fields(texts);
+    match kind {
+        "keys" => order_said(alloc, &key(alloc, a)?, &key(alloc, b)?),
+        "prefixes" => order_said(alloc, &prefix(alloc, a)?, &prefix(alloc, b)?),
+        "into_string" => Ok(prefix(alloc, a)?.into_string()),
+        _ => unknown(alloc, kind),
+    }
+}
+
+const COMPARED: &str = r#"
+# keys and prefixes are ordered by the bytes of their texts
+keys | a-b/c | a/b => less true, equal false, other true
+keys | a/b | a0 => less true, equal false, other true
+keys | a/b | a/b => less false, equal true, other false
+keys | a/b | a/c => less true, equal false, other true
+prefixes |  | a-b/ => less true, equal false, other true
+prefixes | a-b/ | a/ => less true, equal false, other true
+prefixes | a/ | a/ => less false, equal true, other false
+prefixes | a/ | b/ => less true, equal false, other true
+# a prefix is made its text
+into_string | a/b/ => a/b/
+"#;
 
 #[test]
 fn keys_and_prefixes_are_ordered_by_the_bytes_of_their_texts(rt: HostRuntime) -> Result<(), Fail> {
-    let alloc = rt.alloc();
-    keys_compare(alloc, "a-b/c", "a/b", true)?;
-    keys_compare(alloc, "a/b", "a0", true)?;
-    keys_compare(alloc, "a/b", "a/b", false)?;
-    keys_compare(alloc, "a/b", "a/c", true)?;
-    prefixes_compare(alloc, "", "a-b/", true)?;
-    prefixes_compare(alloc, "a-b/", "a/", true)?;
-    prefixes_compare(alloc, "a/", "a/", false)?;
-    prefixes_compare(alloc, "a/", "b/", true)
+    check_rows(rt.alloc(), COMPARED, compared)
 }
 
 // ---- errors
 
-fn faults_show(alloc: Global) -> Result<(), Fail> {
-    shows(alloc, MetadataFault::NotJson, "not JSON")?;
-    shows(
-        alloc,
-        MetadataFault::UnsupportedNumber,
-        "unsupported number",
-    )?;
-    shows(alloc, MetadataFault::NotAnObject, "not an object")?;
-    shows(alloc, MetadataFault::WrongFormat, "wrong zarr_format")?;
-    shows(alloc, MetadataFault::WrongNodeType, "wrong node_type")?;
-    shows(
-        alloc,
-        MetadataFault::MissingMember(MemberName::new("shape")),
-        "missing member shape",
-    )?;
-    shows(
-        alloc,
-        MetadataFault::BadMember(MemberName::new("shape")),
-        "bad member shape",
-    )?;
-    shows(alloc, MetadataFault::OutOfMemory, "out of memory")
+// The fault with a name; that memory ran out for any other word.
+fn fault_of(name: &str) -> MetadataFault {
+    match name {
+        "NotJson" => MetadataFault::NotJson,
+        "UnsupportedNumber" => MetadataFault::UnsupportedNumber,
+        "NotAnObject" => MetadataFault::NotAnObject,
+        "WrongFormat" => MetadataFault::WrongFormat,
+        "WrongNodeType" => MetadataFault::WrongNodeType,
+        "MissingMember" => MetadataFault::MissingMember(MemberName::new("shape")),
+        "BadMember" => MetadataFault::BadMember(MemberName::new("shape")),
+        _ => MetadataFault::OutOfMemory,
+    }
 }
 
-fn errors_show(alloc: Global) -> Result<(), Fail> {
-    shows(alloc, StorageError::Fault, "store fault")?;
-    let document = key(alloc, "a/zarr.json")?;
-    shows(
-        alloc,
-        StorageError::InvalidMetadata(document, MetadataFault::NotJson),
-        "error parsing metadata for a/zarr.json: not JSON",
-    )?;
-    let other = String::from_str(alloc, "invalid node path /..")?;
-    shows(alloc, StorageError::Other(other), "invalid node path /..")?;
-    shows(alloc, StorageError::OutOfMemory, "out of memory")
+// The error of a store with a name; that memory ran out for any other word.
+fn error_of(alloc: Global, name: &str) -> Result<StorageError, StorageError> {
+    match name {
+        "Fault" => Ok(StorageError::Fault),
+        "InvalidMetadata" => {
+            let document = key(alloc, "a/zarr.json")?;
+            Ok(StorageError::InvalidMetadata(document, MetadataFault::NotJson))
+        }
+        "Other" => {
+            let other = String::from_str(alloc, "invalid node path /..")?;
+            Ok(StorageError::Other(other))
+        }
+        _ => Ok(StorageError::OutOfMemory),
+    }
 }
 
-#[test]
-fn faults_have_their_texts(rt: HostRuntime) -> Result<(), Fail> {
-    let alloc = rt.alloc();
-    faults_show(alloc)?;
-    errors_show(alloc)
+// What an error or a fault with a name says, or the name of a member.
+fn error_said(alloc: Global, given: &str) -> Result<String, StorageError> {
+    let (kind, name) = fields(given);
+    match kind {
+        "fault" => Ok(fault_of(name).to_string(alloc)?),
+        "store" => Ok(error_of(alloc, name)?.to_string(alloc)?),
+        "key" => Ok(StoreKeyError::OutOfMemory.to_string(alloc)?),
+        "prefix" => Ok(StorePrefixError::OutOfMemory.to_string(alloc)?),
+        "member" => Ok(String::from_str(alloc, MemberName::new("shape").as_str())?),
+        _ => unknown(alloc, kind),
+    }
 }
 
-#[test]
-fn refused_texts_are_named(rt: HostRuntime) -> Result<(), Fail> {
-    let alloc = rt.alloc();
-    is_refused(
-        alloc,
-        StoreKey::new(alloc, "a//b"),
-        "invalid store key a//b",
-    )?;
-    is_refused(
-        alloc,
-        StorePrefix::new(alloc, "a"),
-        "invalid store prefix a",
-    )
-}
-
-#[test]
-fn every_error_says_that_memory_ran_out(rt: HostRuntime) -> Result<(), Fail> {
-    let alloc = rt.alloc();
-    let wanted = "out of memory";
-    shows(alloc, StoreKeyError::OutOfMemory, wanted)?;
-    shows(alloc, StorePrefixError::OutOfMemory, wanted)?;
-    shows(alloc, MetadataFault::OutOfMemory, wanted)?;
-    shows(alloc, StorageError::OutOfMemory, wanted)
-}
+const ERRORS: &str = r#"
+# faults of metadata have their texts
+fault | NotJson => not JSON
+fault | UnsupportedNumber => unsupported number
+fault | NotAnObject => not an object
+fault | WrongFormat => wrong zarr_format
+fault | WrongNodeType => wrong node_type
+fault | MissingMember => missing member shape
+fault | BadMember => bad member shape
+# errors of stores have their texts
+store | Fault => store fault
+store | InvalidMetadata => error parsing metadata for a/zarr.json: not JSON
+store | Other => invalid node path /..
+# every error says that memory ran out
+key | OutOfMemory => out of memory
+prefix | OutOfMemory => out of memory
+fault | OutOfMemory => out of memory
+store | OutOfMemory => out of memory
+# the name of a member shows its text
+member | shape => shape
+"#;
 
 #[test]
-fn member_names_show_their_text() -> Result<(), Fail> {
-    is_same("name", MemberName::new("shape").as_str(), "shape")
+fn errors_have_their_texts(rt: HostRuntime) -> Result<(), Fail> {
+    check_rows(rt.alloc(), ERRORS, error_said)
+}
+
+// ---- steps in a store
+
+// The word for a fault of a store, or another error in words.
+fn refusal(alloc: Global, error: &StorageError) -> Result<String, AllocError> {
+    match error {
+        StorageError::Fault => String::from_str(alloc, "Fault"),
+        other => format!(in alloc; "no fault: {other}"),
+    }
+}
+
+// That a change is done, or the refusal.
+fn done(alloc: Global, answer: Result<(), StorageError>) -> Result<String, AllocError> {
+    match answer {
+        Ok(()) => String::from_str(alloc, "done"),
+        Err(error) => refusal(alloc, &error),
+    }
+}
+
+// The bytes as a text, or `nothing`, or the refusal.
+fn bytes_said(
+    alloc: Global,
+    answer: Result<Option<Vec<u8>>, StorageError>,
+) -> Result<String, AllocError> {
+    match answer {
+        Ok(Some(bytes)) => {
+            let text = String::from_utf8_lossy(alloc, bytes.as_slice())?;
+            format!(in alloc; "bytes '{text}'")
+        }
+        Ok(None) => String::from_str(alloc, "nothing"),
+        Err(error) => refusal(alloc, &error),
+    }
+}
+
+// The texts of keys, each with a space in front of it.
+fn texts_of_keys(alloc: Global, keys: &[StoreKey]) -> Result<String, StorageError> {
+    let mut texts = String::from_str(alloc, "keys")?;
+    for key in keys {
+        texts.push_str(" ")?;
+        texts.push_str(key.as_str())?;
+    }
+    Ok(texts)
+}
+
+// The texts of prefixes, each with a space in front of it.
+fn texts_of_prefixes(alloc: Global, prefixes: &[StorePrefix]) -> Result<String, StorageError> {
+    let mut texts = String::from_str(alloc, "prefixes")?;
+    for prefix in prefixes {
+        texts.push_str(" ")?;
+        texts.push_str(prefix.as_str())?;
+    }
+    Ok(texts)
+}
+
+// The texts of the keys that are listed, or the refusal.
+fn keys_said(
+    alloc: Global,
+    answer: Result<Vec<StoreKey>, StorageError>,
+) -> Result<String, StorageError> {
+    match answer {
+        Ok(keys) => texts_of_keys(alloc, keys.as_slice()),
+        Err(error) => Ok(refusal(alloc, &error)?),
+    }
+}
+
+// The texts of the keys and of the prefixes that are listed, or the refusal.
+fn children_said(
+    alloc: Global,
+    answer: Result<StoreKeysPrefixes, StorageError>,
+) -> Result<String, StorageError> {
+    match answer {
+        Ok(dir) => children_texts(alloc, &dir),
+        Err(error) => Ok(refusal(alloc, &error)?),
+    }
+}
+
+fn children_texts(alloc: Global, dir: &StoreKeysPrefixes) -> Result<String, StorageError> {
+    let keys = texts_of_keys(alloc, dir.keys.as_slice())?;
+    let prefixes = texts_of_prefixes(alloc, dir.prefixes.as_slice())?;
+    Ok(format!(in alloc; "{keys}, {prefixes}")?)
+}
+
+// What a store answers to a call that lists, for a prefix.
+fn listing<S: ListableStorageTraits>(
+    alloc: Global,
+    store: &S,
+    call: &str,
+    below: &str,
+) -> Result<String, StorageError> {
+    let prefix = prefix(alloc, below)?;
+    match call {
+        "list" => keys_said(alloc, store.list(alloc)),
+        "list_prefix" => keys_said(alloc, store.list_prefix(alloc, &prefix)),
+        "list_dir" => children_said(alloc, store.list_dir(alloc, &prefix)),
+        "discover" => {
+            let children = discover_children(alloc, store, &prefix)?;
+            texts_of_prefixes(alloc, children.as_slice())
+        }
+        _ => unknown(alloc, call),
+    }
+}
+
+// What a store answers to a call that reads.
+fn reading<S: ReadableStorageTraits + ListableStorageTraits>(
+    alloc: Global,
+    store: &S,
+    call: &str,
+    at: &str,
+) -> Result<String, StorageError> {
+    match call {
+        "get" => {
+            let key = key(alloc, at)?;
+            Ok(bytes_said(alloc, store.get(alloc, &key))?)
+        }
+        _ => listing(alloc, store, call, at),
+    }
+}
+
+// A step's call and what stands behind it.
+fn parts(step: &str) -> (&str, &str) {
+    step.split_once(' ').unwrap_or((step, ""))
+}
+
+// What a store answers to a step: a call that sets a key to bytes, that erases a key, or that reads.
+fn stepped<S: ReadableStorageTraits + ListableStorageTraits + WritableStorageTraits>(
+    alloc: Global,
+    store: &mut S,
+    step: &str,
+) -> Result<String, StorageError> {
+    let (call, at) = parts(step);
+    match call {
+        "set" => {
+            let (at, bytes) = parts(at);
+            let key = key(alloc, at)?;
+            Ok(done(alloc, store.set(&key, bytes.as_bytes()))?)
+        }
+        "erase" => {
+            let key = key(alloc, at)?;
+            Ok(done(alloc, store.erase(&key))?)
+        }
+        _ => reading(alloc, &*store, call, at),
+    }
+}
+
+// Adds the answer to a step to those to the steps before it.
+fn push_answer(answers: &mut String, answer: &str) -> Result<(), StorageError> {
+    if !answers.is_empty() {
+        answers.push_str("; ")?;
+    }
+    Ok(answers.push_str(answer)?)
 }
 
 // ---- the store in memory
 
-fn lists_each(alloc: Global, store: &MemoryStore) -> Result<(), Fail> {
-    for (text, below, keys, prefixes) in [
-        ("", "a a-b/c a/b a/c/d a0 ", "a a0 ", "a-b/ a/ "),
-        ("a/", "a/b a/c/d ", "a/b ", "a/c/ "),
-        ("a-b/", "a-b/c ", "a-b/c ", ""),
-        ("a/c/d/", "", "", ""),
-        ("b/", "", "", ""),
-    ] {
-        lists_below(alloc, store, text, below)?;
-        has_children(alloc, store, text, (keys, prefixes))?;
-    }
-    lists(alloc, store, "a a-b/c a/b a/c/d a0 ")
-}
-
-#[test]
-fn lists_keys_below_prefixes(rt: HostRuntime) -> Result<(), Fail> {
-    let alloc = rt.alloc();
-    let store = store_of(alloc, &["a", "a-b/c", "a/b", "a/c/d", "a0"])?;
-    lists_each(alloc, &store)
-}
-
-#[test]
-fn a_child_with_many_keys_is_listed_once(rt: HostRuntime) -> Result<(), Fail> {
-    let alloc = rt.alloc();
-    let store = store_of(alloc, &["a/c/0", "a/c/1/2", "a/zarr.json", "b/zarr.json"])?;
-    has_children(alloc, &store, "", ("", "a/ b/ "))
-}
-
-#[test]
-fn lists_what_stands_beside_runs_of_keys(rt: HostRuntime) -> Result<(), Fail> {
-    let alloc = rt.alloc();
-    let store = store_of(
-        alloc,
-        &[
-            "a-b/0", "a/0", "a/1", "a/2", "a/c/0/0", "a/c/0/1", "a/c/1/0", "a0/0", "b/x/y",
-        ],
-    )?;
-    lists_runs(alloc, &store)
-}
-
-fn lists_runs(alloc: Global, store: &MemoryStore) -> Result<(), Fail> {
-    for (below, keys, prefixes) in [
-        ("", "", "a-b/ a/ a0/ b/ "),
-        ("a/", "a/0 a/1 a/2 ", "a/c/ "),
-        ("a/c/", "", "a/c/0/ a/c/1/ "),
-        ("a/c/0/", "a/c/0/0 a/c/0/1 ", ""),
-        ("a-/", "", ""),
-        ("b/x/", "b/x/y ", ""),
-        ("c/", "", ""),
-    ] {
-        has_children(alloc, store, below, (keys, prefixes))?;
-    }
-    Ok(())
-}
-
-#[test]
-fn an_empty_store_has_no_children(rt: HostRuntime) -> Result<(), Fail> {
-    let alloc = rt.alloc();
-    let store = MemoryStore::new(alloc);
-    has_children(alloc, &store, "", ("", ""))?;
-    counts(alloc, &store, "", 0, 0)
+// Sets a key to bytes that the store takes over.
+fn insert(alloc: Global, store: &mut MemoryStore, given: &str) -> Result<(), StorageError> {
+    let (at, bytes) = parts(given);
+    let bytes = Vec::from_slice(alloc, bytes.as_bytes())?;
+    let key = key(alloc, at)?;
+    Ok(store.insert(key, bytes)?)
 }
 
 // How many comparisons of keys a store makes to list what stands directly below a prefix.
-fn comparisons_below(alloc: Global, store: &MemoryStore, below: &str) -> Result<u64, Fail> {
+fn comparisons_below(alloc: Global, store: &MemoryStore, below: &str) -> Result<u64, StorageError> {
     let prefix = prefix(alloc, below)?;
     let (_, comparisons) = store.list_dir_counted(alloc, &prefix)?;
     Ok(comparisons)
+}
+
+// From where to where the keys below a prefix stand, and whether they are found by one to six comparisons.
+fn range_said(alloc: Global, store: &MemoryStore, below: &str) -> Result<String, StorageError> {
+    let prefix = prefix(alloc, below)?;
+    let (first, end, comparisons) = store.range_counted(&prefix);
+    let are_few = comparisons >= 1 && comparisons <= 6;
+    Ok(format!(in alloc; "from {first} to {end}, one to six {are_few}")?)
+}
+
+// What a store in memory answers to a step, be it one that no other store has.
+fn memory_step(alloc: Global, store: &mut MemoryStore, step: &str) -> Result<String, StorageError> {
+    let (call, rest) = parts(step);
+    match call {
+        "insert" => Ok(done(alloc, insert(alloc, store, rest))?),
+        "count" => Ok(comparisons_below(alloc, &*store, rest)?.to_string(alloc)?),
+        "range" => range_said(alloc, &*store, rest),
+        _ => stepped(alloc, store, step),
+    }
+}
+
+// What a store in memory answers to steps.
+fn memory_steps(
+    alloc: Global,
+    store: &mut MemoryStore,
+    steps: &str,
+) -> Result<String, StorageError> {
+    let mut answers = String::new(alloc);
+    for step in steps.split(';') {
+        let step = step.strip_prefix(' ').unwrap_or(step);
+        let answer = memory_step(alloc, store, step)?;
+        push_answer(&mut answers, answer.as_str())?;
+    }
+    Ok(answers)
+}
+
+// What the store in memory with some keys answers to steps.
+fn memory_said(alloc: Global, given: &str) -> Result<String, StorageError> {
+    let (keys, steps) = fields(given);
+    let mut store = store_of(alloc, keys)?;
+    memory_steps(alloc, &mut store, steps)
+}
+
+const LISTINGS: &str = r#"
+# keys are listed below prefixes
+a a-b/c a/b a/c/d a0 | list_prefix => keys a a-b/c a/b a/c/d a0
+a a-b/c a/b a/c/d a0 | list_dir => keys a a0, prefixes a-b/ a/
+a a-b/c a/b a/c/d a0 | list_prefix a/ => keys a/b a/c/d
+a a-b/c a/b a/c/d a0 | list_dir a/ => keys a/b, prefixes a/c/
+a a-b/c a/b a/c/d a0 | list_prefix a-b/ => keys a-b/c
+a a-b/c a/b a/c/d a0 | list_dir a-b/ => keys a-b/c, prefixes
+a a-b/c a/b a/c/d a0 | list_prefix a/c/d/ => keys
+a a-b/c a/b a/c/d a0 | list_dir a/c/d/ => keys, prefixes
+a a-b/c a/b a/c/d a0 | list_prefix b/ => keys
+a a-b/c a/b a/c/d a0 | list_dir b/ => keys, prefixes
+a a-b/c a/b a/c/d a0 | list => keys a a-b/c a/b a/c/d a0
+a a-b/c a/b a/c/d a0 | list_prefix a/; list_dir a/; list => keys a/b a/c/d; keys a/b, prefixes a/c/; keys a a-b/c a/b a/c/d a0
+# a child with many keys is listed once
+a/c/0 a/c/1/2 a/zarr.json b/zarr.json | list_dir => keys, prefixes a/ b/
+# what stands beside runs of keys is listed
+a-b/0 a/0 a/1 a/2 a/c/0/0 a/c/0/1 a/c/1/0 a0/0 b/x/y | list_dir => keys, prefixes a-b/ a/ a0/ b/
+a-b/0 a/0 a/1 a/2 a/c/0/0 a/c/0/1 a/c/1/0 a0/0 b/x/y | list_dir a/ => keys a/0 a/1 a/2, prefixes a/c/
+a-b/0 a/0 a/1 a/2 a/c/0/0 a/c/0/1 a/c/1/0 a0/0 b/x/y | list_dir a/c/ => keys, prefixes a/c/0/ a/c/1/
+a-b/0 a/0 a/1 a/2 a/c/0/0 a/c/0/1 a/c/1/0 a0/0 b/x/y | list_dir a/c/0/ => keys a/c/0/0 a/c/0/1, prefixes
+a-b/0 a/0 a/1 a/2 a/c/0/0 a/c/0/1 a/c/1/0 a0/0 b/x/y | list_dir a-/ => keys, prefixes
+a-b/0 a/0 a/1 a/2 a/c/0/0 a/c/0/1 a/c/1/0 a0/0 b/x/y | list_dir b/x/ => keys b/x/y, prefixes
+a-b/0 a/0 a/1 a/2 a/c/0/0 a/c/0/1 a/c/1/0 a0/0 b/x/y | list_dir c/ => keys, prefixes
+# an empty store has no children, and finds that without a comparison
+ | list_dir => keys, prefixes
+ | count => 0
+ | list => keys
+# Of three keys the search for the first makes two comparisons, that for the end two; `a/0` is looked at, `a/1` and `b/0` are found to
+# be and not to be in `a/`, and `b/0` is looked at.
+a/0 a/1 b/0 | count => 8
+# a listing leaps over the chunks of an array
+a/zarr.json b/zarr.json zarr.json chunks | list_dir => keys zarr.json, prefixes a/ b/
+a/zarr.json b/zarr.json zarr.json chunks | list_dir a/ => keys a/zarr.json, prefixes a/c/
+# the keys below a prefix stand together
+a/c/d a a0 a-b/c a/b | range => from 0 to 5, one to six true
+a/c/d a a0 a-b/c a/b | range a/ => from 2 to 4, one to six true
+a/c/d a a0 a-b/c a/b | range a-b/ => from 1 to 2, one to six true
+a/c/d a a0 a-b/c a/b | range a/c/ => from 3 to 4, one to six true
+a/c/d a a0 a-b/c a/b | range a/b/ => from 3 to 3, one to six true
+a/c/d a a0 a-b/c a/b | range b/ => from 5 to 5, one to six true
+a/c/d a a0 a-b/c a/b | list_dir a/ => keys a/b, prefixes a/c/
+# children are discovered by name
+a-b/z a/z b/c/z __x/z | discover => prefixes a/ a-b/ b/
+../z zarr.json __x/z a/y/z | discover => prefixes ../ a/
+a a/zarr.json | discover => prefixes a/
+a a/zarr.json | discover a/ => prefixes
+zarr.json/z .zarray/z ..a/z | discover => prefixes ..a/ .zarray/ zarr.json/
+z/zarr.json é/zarr.json | discover => prefixes z/ é/
+a/zarr.json a/.../x a/__c/x | discover a/ => prefixes a/.../
+"#;
+
+#[test]
+fn a_store_in_memory_lists_its_keys(rt: HostRuntime) -> Result<(), Fail> {
+    check_rows(rt.alloc(), LISTINGS, memory_said)
+}
+
+const CHANGES: &str = r#"
+# one key is changed
+a b | set a yz; erase b; erase c; get a; get b; list => done; done; done; bytes 'yz'; nothing; keys a
+# a key and its bytes are taken over
+a | insert a yz; get a => done; bytes 'yz'
+# keys ascend in whatever order they are set
+b d a c b | list; erase a; erase d; insert e; list => keys a b c d; done; done; done; keys b c e
+"#;
+
+#[test]
+fn a_store_in_memory_changes_one_key(rt: HostRuntime) -> Result<(), Fail> {
+    check_rows(rt.alloc(), CHANGES, memory_said)
 }
 
 // Asks that a store makes so many comparisons of keys, from the least to the most.
@@ -479,28 +553,8 @@ fn counts(
     }
 }
 
-// Of three keys the search for the first makes two comparisons, that for the end two; `a/0` is looked at, `a/1` and `b/0` are found to be
-// and not to be in `a/`, and `b/0` is looked at.
-#[test]
-fn counts_the_comparisons_of_a_listing(rt: HostRuntime) -> Result<(), Fail> {
-    let alloc = rt.alloc();
-    let store = store_of(alloc, &["a/0", "a/1", "b/0"])?;
-    counts(alloc, &store, "", 8, 8)
-}
-
-// Sets two hundred keys of chunks below `a/c/`, of ten in a row.
-fn set_chunks(alloc: Global, store: &mut MemoryStore) -> Result<(), Fail> {
-    for i in 0..200u32 {
-        let at = format!(in alloc; "a/c/{}/{}", i / 10, i % 10)?;
-        set(alloc, store, at.as_str(), b"x")?;
-    }
-    Ok(())
-}
-
 // The number of all keys, 203, has eight binary digits: each search takes sixteen comparisons at most.
 fn leaps_over_chunks(alloc: Global, store: &MemoryStore) -> Result<(), Fail> {
-    has_children(alloc, store, "", ("zarr.json ", "a/ b/ "))?;
-    has_children(alloc, store, "a/", ("a/zarr.json ", "a/c/ "))?;
     counts(alloc, store, "", 4, 51)?;
     counts(alloc, store, "a/", 3, 34)?;
     counts(alloc, store, "a/c/19/", 10, 26)
@@ -509,88 +563,8 @@ fn leaps_over_chunks(alloc: Global, store: &MemoryStore) -> Result<(), Fail> {
 #[test]
 fn a_listing_leaps_over_the_chunks_of_an_array(rt: HostRuntime) -> Result<(), Fail> {
     let alloc = rt.alloc();
-    let mut store = store_of(alloc, &["a/zarr.json", "b/zarr.json", "zarr.json"])?;
-    set_chunks(alloc, &mut store)?;
+    let store = store_of(alloc, "a/zarr.json b/zarr.json zarr.json chunks")?;
     leaps_over_chunks(alloc, &store)
-}
-
-// The children that are discovered below a prefix.
-fn children_of(alloc: Global, store: &MemoryStore, below: &str) -> Result<Vec<StorePrefix>, Fail> {
-    let prefix = prefix(alloc, below)?;
-    Ok(discover_children(alloc, store, &prefix)?)
-}
-
-fn discovers_in(alloc: Global, store: &MemoryStore, below: &str, wanted: &str) -> Result<(), Fail> {
-    let children = children_of(alloc, store, below)?;
-    are_prefixes(alloc, below, children.as_slice(), wanted)
-}
-
-// Asks that these children are discovered below a prefix of a store with these keys.
-fn discovers(alloc: Global, keys: &[&str], below: &str, wanted: &str) -> Result<(), Fail> {
-    let store = store_of(alloc, keys)?;
-    discovers_in(alloc, &store, below, wanted)
-}
-
-#[test]
-fn discovers_children_by_name(rt: HostRuntime) -> Result<(), Fail> {
-    let alloc = rt.alloc();
-    discovers(
-        alloc,
-        &["a-b/z", "a/z", "b/c/z", "__x/z"],
-        "",
-        "a/ a-b/ b/ ",
-    )?;
-    discovers(
-        alloc,
-        &["../z", "zarr.json", "__x/z", "a/y/z"],
-        "",
-        "../ a/ ",
-    )?;
-    discovers(alloc, &["a", "a/zarr.json"], "", "a/ ")?;
-    discovers(alloc, &["a", "a/zarr.json"], "a/", "")?;
-    discovers(
-        alloc,
-        &["zarr.json/z", ".zarray/z", "..a/z"],
-        "",
-        "..a/ .zarray/ zarr.json/ ",
-    )?;
-    discovers(
-        alloc,
-        &["z/zarr.json", "\u{e9}/zarr.json"],
-        "",
-        "z/ \u{e9}/ ",
-    )?;
-    discovers(
-        alloc,
-        &["a/zarr.json", "a/.../x", "a/__c/x"],
-        "a/",
-        "a/.../ ",
-    )
-}
-
-fn changes(alloc: Global, store: &mut MemoryStore) -> Result<(), Fail> {
-    set(alloc, store, "a", b"yz")?;
-    erase(alloc, store, "b")?;
-    erase(alloc, store, "c")?;
-    has_bytes(alloc, &*store, "a", "yz")?;
-    has_bytes(alloc, &*store, "b", "nothing")?;
-    lists(alloc, &*store, "a ")
-}
-
-#[test]
-fn changes_one_key(rt: HostRuntime) -> Result<(), Fail> {
-    let alloc = rt.alloc();
-    let mut store = store_of(alloc, &["a", "b"])?;
-    changes(alloc, &mut store)?;
-    lists(alloc, &MemoryStore::new(alloc), "")
-}
-
-#[test]
-fn takes_over_a_key_and_its_bytes(rt: HostRuntime) -> Result<(), Fail> {
-    let alloc = rt.alloc();
-    let mut store = store_of(alloc, &["a"])?;
-    insert(alloc, &mut store, "a", b"yz")?;
-    has_bytes(alloc, &store, "a", "yz")
 }
 
 // A store with a key for each number below `count`, in the order of their texts.
@@ -605,7 +579,7 @@ fn numbered(alloc: Global, count: u32) -> Result<MemoryStore, Fail> {
 // The key of a number: four digits and what stands behind them.
 fn numbered_key(alloc: Global, number: u32, behind: &str) -> Result<StoreKey, Fail> {
     let text = format!(in alloc; "{number:04}{behind}")?;
-    key(alloc, text.as_str())
+    Ok(key(alloc, text.as_str())?)
 }
 
 // Asks that a key is found at this place; the number of comparisons that this took.
@@ -662,201 +636,111 @@ fn are_found(alloc: Global, store: &MemoryStore, count: u32, digits: u32) -> Res
     absent_at(store, &before, 0, digits)
 }
 
+// Asks the same of a store of so many numbers.
+fn numbers_are_found(alloc: Global, count: u32, digits: u32) -> Result<(), Fail> {
+    let store = numbered(alloc, count)?;
+    are_found(alloc, &store, count, digits)
+}
+
 #[test]
 fn a_key_is_found_by_as_many_comparisons_as_the_number_of_keys_has_digits(
     rt: HostRuntime,
 ) -> Result<(), Fail> {
     let alloc = rt.alloc();
-    for (count, digits) in [(0, 0), (1, 1), (1000, 10), (1024, 11)] {
-        let store = numbered(alloc, count)?;
-        are_found(alloc, &store, count, digits)?;
-    }
-    Ok(())
-}
-
-// Asks that the keys below a prefix stand from the first place to the end, found by one to six comparisons.
-fn stand_together(
-    alloc: Global,
-    store: &MemoryStore,
-    text: &str,
-    wanted: (usize, usize),
-) -> Result<(), Fail> {
-    let prefix = prefix(alloc, text)?;
-    let (first, end, comparisons) = store.range_counted(&prefix);
-    if first == wanted.0 && end == wanted.1 && comparisons >= 1 && comparisons <= 6 {
-        return Ok(());
-    }
-    Err(Fail::new(format_args!("{text}: from {first} to {end} by {comparisons} comparisons")))
-}
-
-fn all_stand_together(alloc: Global, store: &MemoryStore) -> Result<(), Fail> {
-    for (text, first, end) in [
-        ("", 0, 5),
-        ("a/", 2, 4),
-        ("a-b/", 1, 2),
-        ("a/c/", 3, 4),
-        ("a/b/", 3, 3),
-        ("b/", 5, 5),
-    ] {
-        stand_together(alloc, store, text, (first, end))?;
-    }
-    has_children(alloc, store, "a/", ("a/b ", "a/c/ "))
-}
-
-#[test]
-fn the_keys_below_a_prefix_stand_together(rt: HostRuntime) -> Result<(), Fail> {
-    let alloc = rt.alloc();
-    let store = store_of(alloc, &["a/c/d", "a", "a0", "a-b/c", "a/b"])?;
-    all_stand_together(alloc, &store)
-}
-
-fn ascend(alloc: Global, store: &mut MemoryStore) -> Result<(), Fail> {
-    lists(alloc, &*store, "a b c d ")?;
-    erase(alloc, store, "a")?;
-    erase(alloc, store, "d")?;
-    insert(alloc, store, "e", b"")?;
-    lists(alloc, &*store, "b c e ")
-}
-
-#[test]
-fn keys_ascend_in_whatever_order_they_are_set(rt: HostRuntime) -> Result<(), Fail> {
-    let alloc = rt.alloc();
-    let mut store = store_of(alloc, &["b", "d", "a", "c", "b"])?;
-    ascend(alloc, &mut store)
+    numbers_are_found(alloc, 0, 0)?;
+    numbers_are_found(alloc, 1, 1)?;
+    numbers_are_found(alloc, 1000, 10)?;
+    numbers_are_found(alloc, 1024, 11)
 }
 
 // ---- the store that fails
 
-// The store with these keys that fails at a place.
-fn failing(alloc: Global, keys: &[&str], place: FaultAt) -> Result<FaultStore, Fail> {
+// The place at which a store fails: a call, and the key or the prefix that it fails for.
+fn place_of(alloc: Global, text: &str) -> Result<FaultAt, StorageError> {
+    let (call, at) = parts(text);
+    match call {
+        "get" => Ok(FaultAt::OnGet(key(alloc, at)?)),
+        "list" => Ok(FaultAt::OnList(prefix(alloc, at)?)),
+        "set" => Ok(FaultAt::OnSet(key(alloc, at)?)),
+        "erase" => Ok(FaultAt::OnErase(key(alloc, at)?)),
+        _ => unknown(alloc, call),
+    }
+}
+
+// What a failing store, or for the word `inner` the store in it, answers to a step.
+fn failing_step(alloc: Global, store: &mut FaultStore, step: &str) -> Result<String, StorageError> {
+    let (word, rest) = parts(step);
+    match word {
+        "inner" => {
+            let (call, at) = parts(rest);
+            reading(alloc, store.inner(), call, at)
+        }
+        _ => stepped(alloc, store, step),
+    }
+}
+
+// What a failing store answers to steps.
+fn failing_steps(
+    alloc: Global,
+    store: &mut FaultStore,
+    steps: &str,
+) -> Result<String, StorageError> {
+    let mut answers = String::new(alloc);
+    for step in steps.split(';') {
+        let step = step.strip_prefix(' ').unwrap_or(step);
+        let answer = failing_step(alloc, store, step)?;
+        push_answer(&mut answers, answer.as_str())?;
+    }
+    Ok(answers)
+}
+
+// The store with some keys that fails at a place.
+fn failing(alloc: Global, place: &str, keys: &str) -> Result<FaultStore, StorageError> {
+    let place = place_of(alloc, place)?;
     Ok(FaultStore::new(store_of(alloc, keys)?, place))
 }
 
-// Whether the answer is a fault of the store.
-fn is_fault<T: Drop>(answer: Result<T, StorageError>) -> bool {
-    matches!(answer, Err(StorageError::Fault))
+// What the store with some keys that fails at a place answers to steps.
+fn failing_said(alloc: Global, given: &str) -> Result<String, StorageError> {
+    let (place, rest) = fields(given);
+    let (keys, steps) = fields(rest);
+    let mut store = failing(alloc, place, keys)?;
+    failing_steps(alloc, &mut store, steps)
 }
 
-// Asks that reading a key fails.
-fn get_fails(alloc: Global, store: &FaultStore, at: &str) -> Result<(), Fail> {
-    let key = key(alloc, at)?;
-    is_answer(at, is_fault(store.get(alloc, &key)), true)
-}
-
-fn fails_to_read_one_key(alloc: Global, store: &FaultStore) -> Result<(), Fail> {
-    get_fails(alloc, store, "a")?;
-    get_fails(alloc, store, "a")?;
-    has_bytes(alloc, store, "a/b", "x")?;
-    has_bytes(alloc, store, "b", "nothing")?;
-    has_bytes(alloc, store.inner(), "a", "x")?;
-    lists(alloc, store, "a a/b ")
-}
-
-#[test]
-fn a_store_fails_as_often_as_its_key_is_read(rt: HostRuntime) -> Result<(), Fail> {
-    let alloc = rt.alloc();
-    let place = FaultAt::OnGet(key(alloc, "a")?);
-    let store = failing(alloc, &["a", "a/b"], place)?;
-    fails_to_read_one_key(alloc, &store)
-}
-
-// Asks whether listing a prefix fails, by each of the two calls.
-fn fails_below(alloc: Global, store: &FaultStore, below: &str, wanted: bool) -> Result<(), Fail> {
-    let prefix = prefix(alloc, below)?;
-    is_answer(below, is_fault(store.list_prefix(alloc, &prefix)), wanted)?;
-    is_answer(below, is_fault(store.list_dir(alloc, &prefix)), wanted)
-}
-
-// Asks whether listing fails: all keys, what is below the root, and what is below `a`.
-fn fails_to_list(
-    alloc: Global,
-    store: &FaultStore,
-    wanted: (bool, bool, bool),
-) -> Result<(), Fail> {
-    let (all, root, below) = wanted;
-    is_answer("all keys", is_fault(store.list(alloc)), all)?;
-    fails_below(alloc, store, "", root)?;
-    fails_below(alloc, store, "a/", below)
-}
-
-// Asks whether listing fails in a store that fails where this prefix is listed.
-fn fails_at(alloc: Global, place: &str, wanted: (bool, bool, bool)) -> Result<(), Fail> {
-    let place = FaultAt::OnList(prefix(alloc, place)?);
-    let store = failing(alloc, &["a", "a/b/c", "a/d"], place)?;
-    fails_to_list(alloc, &store, wanted)
-}
+const FAILING: &str = r#"
+# a store fails as often as its key is read
+get a | a a/b | get a; get a; get a/b; get b; inner get a; list => Fault; Fault; bytes 'x'; nothing; bytes 'x'; keys a a/b
+# a store fails where its prefix is listed
+list | a a/b/c a/d | list => Fault
+list | a a/b/c a/d | list_prefix => Fault
+list | a a/b/c a/d | list_dir => Fault
+list | a a/b/c a/d | list_prefix a/ => keys a/b/c a/d
+list | a a/b/c a/d | list_dir a/ => keys a/d, prefixes a/b/
+list a/ | a a/b/c a/d | list => keys a a/b/c a/d
+list a/ | a a/b/c a/d | list_prefix => keys a a/b/c a/d
+list a/ | a a/b/c a/d | list_dir => keys a, prefixes a/
+list a/ | a a/b/c a/d | list_prefix a/ => Fault
+list a/ | a a/b/c a/d | list_dir a/ => Fault
+list a/b/ | a a/b/c a/d | list => keys a a/b/c a/d
+list a/b/ | a a/b/c a/d | list_prefix => keys a a/b/c a/d
+list a/b/ | a a/b/c a/d | list_dir => keys a, prefixes a/
+list a/b/ | a a/b/c a/d | list_prefix a/ => keys a/b/c a/d
+list a/b/ | a a/b/c a/d | list_dir a/ => keys a/d, prefixes a/b/
+# and as often as it is listed
+list | a a/b/c a/d | list; list_prefix; list_dir; list_prefix a/; list_dir a/ => Fault; Fault; Fault; keys a/b/c a/d; keys a/d, prefixes a/b/
+list a/ | a a/b/c a/d | list; list_prefix; list_dir => keys a a/b/c a/d; keys a a/b/c a/d; keys a, prefixes a/
+list a/ | a a/b/c a/d | list_dir; list_prefix a/; list_dir a/ => keys a, prefixes a/; Fault; Fault
+# a failing store lists what the inner store lists
+list a/b/ | a a/b/c a/d | list; list_prefix a/; list_dir a/ => keys a a/b/c a/d; keys a/b/c a/d; keys a/d, prefixes a/b/
+# a failing set leaves the first half of the bytes
+set a | a b | set a 12345; get a; set a 1234; get a; set a 1; get a; set a; get a => Fault; bytes '12'; Fault; bytes '12'; Fault; bytes ''; Fault; bytes ''
+set a | a b | set a; set b 12345; inner get b; erase a; set a 12345; inner get a => Fault; done; bytes '12345'; done; Fault; bytes '12'
+# a failing erase leaves the key
+erase a | a b | erase a; get a; erase b; erase c; list => Fault; bytes 'x'; done; done; keys a
+"#;
 
 #[test]
-fn a_store_fails_where_its_prefix_is_listed(rt: HostRuntime) -> Result<(), Fail> {
-    let alloc = rt.alloc();
-    fails_at(alloc, "", (true, true, false))?;
-    fails_at(alloc, "a/", (false, false, true))?;
-    fails_at(alloc, "a/b/", (false, false, false))
-}
-
-fn lists_as_the_inner_store(alloc: Global, store: &FaultStore) -> Result<(), Fail> {
-    lists(alloc, store, "a a/b/c a/d ")?;
-    lists_below(alloc, store, "a/", "a/b/c a/d ")?;
-    has_children(alloc, store, "a/", ("a/d ", "a/b/ "))
-}
-
-#[test]
-fn a_failing_store_lists_what_the_inner_store_lists(rt: HostRuntime) -> Result<(), Fail> {
-    let alloc = rt.alloc();
-    let place = FaultAt::OnList(prefix(alloc, "a/b/")?);
-    let store = failing(alloc, &["a", "a/b/c", "a/d"], place)?;
-    lists_as_the_inner_store(alloc, &store)
-}
-
-// Asks that setting the key `a` fails.
-fn set_fails(alloc: Global, store: &mut FaultStore, bytes: &str) -> Result<(), Fail> {
-    let key = key(alloc, "a")?;
-    is_answer(bytes, is_fault(store.set(&key, bytes.as_bytes())), true)
-}
-
-fn sets_halves(alloc: Global, store: &mut FaultStore) -> Result<(), Fail> {
-    for (bytes, half) in [("12345", "12"), ("1234", "12"), ("1", ""), ("", "")] {
-        set_fails(alloc, store, bytes)?;
-        has_bytes(alloc, &*store, "a", half)?;
-    }
-    Ok(())
-}
-
-fn fails_to_set_one_key(alloc: Global, store: &mut FaultStore) -> Result<(), Fail> {
-    sets_halves(alloc, store)?;
-    set(alloc, store, "b", b"12345")?;
-    has_bytes(alloc, store.inner(), "b", "12345")?;
-    erase(alloc, store, "a")?;
-    set_fails(alloc, store, "12345")?;
-    has_bytes(alloc, store.inner(), "a", "12")
-}
-
-#[test]
-fn a_failing_set_leaves_the_first_half_of_the_bytes(rt: HostRuntime) -> Result<(), Fail> {
-    let alloc = rt.alloc();
-    let place = FaultAt::OnSet(key(alloc, "a")?);
-    let mut store = failing(alloc, &["a", "b"], place)?;
-    fails_to_set_one_key(alloc, &mut store)
-}
-
-// Asks that erasing a key fails.
-fn erase_fails(alloc: Global, store: &mut FaultStore, at: &str) -> Result<(), Fail> {
-    let key = key(alloc, at)?;
-    is_answer(at, is_fault(store.erase(&key)), true)
-}
-
-fn fails_to_erase_one_key(alloc: Global, store: &mut FaultStore) -> Result<(), Fail> {
-    erase_fails(alloc, store, "a")?;
-    has_bytes(alloc, &*store, "a", "x")?;
-    erase(alloc, store, "b")?;
-    erase(alloc, store, "c")?;
-    lists(alloc, &*store, "a ")
-}
-
-#[test]
-fn a_failing_erase_leaves_the_key(rt: HostRuntime) -> Result<(), Fail> {
-    let alloc = rt.alloc();
-    let place = FaultAt::OnErase(key(alloc, "a")?);
-    let mut store = failing(alloc, &["a", "b"], place)?;
-    fails_to_erase_one_key(alloc, &mut store)
+fn a_failing_store_fails_at_one_place(rt: HostRuntime) -> Result<(), Fail> {
+    check_rows(rt.alloc(), FAILING, failing_said)
 }

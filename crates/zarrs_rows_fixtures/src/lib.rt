@@ -1,4 +1,6 @@
-//! Stores made from pairs of a key and a document, and what stands or is listed at a path of such a store, as a value and as a text.
+//! What tests of nodes, groups and hierarchies share: stores made from pairs of a key and a document, and what stands or is listed at a
+//! path of such a store, as a value and as a text.
+#![tactic(auto)]
 
 use log::sink::Discard;
 use std::alloc::{AllocError, Global};
