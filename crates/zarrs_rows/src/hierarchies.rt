@@ -1,9 +1,9 @@
 //! Hierarchies: made of an array, of a group and of what a store has, and their text.
 //!
 //! A row says what of a hierarchy it looks at: `tree` is its text, `copy` the text of a copy, `len` its length, `told` what it has at two
-//! paths, and a path its text from there on. Stores, documents, policies and versions are named as in `stores`.
+//! paths, and a path its text from there on. Stores and documents are named as in `stores`.
 
-use crate::stores::{document_of, policy_of, seen, store_in, version_of};
+use crate::stores::{document_of, seen, store_in};
 use log::sink::{Discard, Writer};
 use std::alloc::{AllocError, Global};
 use std::fmt::Display;
@@ -15,7 +15,7 @@ use zarrs_hierarchy::{Hierarchy, laws};
 use zarrs_meta::{ArrayMetadata, ArrayMetadataV2, ArrayMetadataV3, GroupMetadata, GroupMetadataV3};
 use zarrs_path::NodePath;
 use zarrs_rows_documents::{printed, said};
-use zarrs_rows_fixtures::config_of;
+use zarrs_rows_fixtures::{config_of, policy_of, version_of};
 use zarrs_rows_table::{check_rows, fields};
 use zarrs_store::{MemoryStore, MetadataFault, StorageError};
 
@@ -113,7 +113,7 @@ fn opened(alloc: Global, given: &str) -> Result<String, StorageError> {
     let (path, rest) = fields(rest);
     let (policy, word) = fields(rest);
     let store = store_in(alloc, documents)?;
-    let config = config_of(policy_of(policy));
+    let config = config_of(policy_of(alloc, policy)?);
     let hierarchy = Hierarchy::open(&Discard, alloc, &store, path, &config);
     Ok(seen(alloc, hierarchy, word, looked)?)
 }
@@ -162,7 +162,7 @@ fn opened_opt(alloc: Global, given: &str) -> Result<String, StorageError> {
     let (documents, rest) = fields(given);
     let (path, version) = fields(rest);
     let store = store_in(alloc, documents)?;
-    let version = version_of(version);
+    let version = version_of(alloc, version)?;
     let hierarchy = Hierarchy::open_opt(&Discard, alloc, &store, path, &version, &Config::new());
     Ok(seen(alloc, hierarchy, "tree", looked)?)
 }

@@ -1,11 +1,11 @@
 //! Version 2 groups opened as nodes by the document `.zmetadata` beside them. As hierarchies they stand in `hierarchies`.
 
-use crate::stores::{policy_of, seen, store_in};
+use crate::stores::{seen, store_in};
 use log::sink::Discard;
 use std::alloc::{AllocError, Global};
 use std::test::Fail;
 use zarrs_node::Node;
-use zarrs_rows_fixtures::config_of;
+use zarrs_rows_fixtures::{config_of, policy_of};
 use zarrs_rows_table::{check_rows, fields};
 use zarrs_store::StorageError;
 
@@ -28,12 +28,13 @@ fn children_text(node: &Node, alloc: Global) -> Result<String, AllocError> {
     Ok(text)
 }
 
-// The node at `/g` of a store, by a policy. `STORE | POLICY | LOOK`, where stores and policies are named as in `stores`.
+// The node at `/g` of a store, by a policy. `STORE | POLICY | LOOK`, where stores are named as in `stores`.
 fn opened(alloc: Global, given: &str) -> Result<String, StorageError> {
     let (documents, rest) = fields(given);
     let (policy, word) = fields(rest);
     let store = store_in(alloc, documents)?;
-    let node = Node::open(&Discard, alloc, &store, "/g", &config_of(policy_of(policy)));
+    let config = config_of(policy_of(alloc, policy)?);
+    let node = Node::open(&Discard, alloc, &store, "/g", &config);
     Ok(seen(alloc, node, word, looked)?)
 }
 

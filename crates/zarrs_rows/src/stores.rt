@@ -1,8 +1,7 @@
-//! The stores, documents and policies that rows name by words.
+//! The stores and documents that rows name by words.
 
 use std::alloc::{AllocError, Global};
 use std::fmt::Display;
-use zarrs_config::{MetadataRetrieveVersion, UseConsolidatedMetadata};
 use zarrs_rows_documents::{A2, A3, G2, G3};
 use zarrs_rows_fixtures::{THREE_LEVELS, key_of, store_of};
 use zarrs_store::{MemoryStore, StorageError, WritableStorageTraits};
@@ -36,24 +35,6 @@ pub(crate) fn document_of(text: &str) -> &str {
         "G3" => G3,
         "NUL" => "\0",
         _ => text,
-    }
-}
-
-// The policy of blocks with this name.
-pub(crate) fn policy_of(word: &str) -> UseConsolidatedMetadata {
-    match word {
-        "must" => UseConsolidatedMetadata::Must,
-        "never" => UseConsolidatedMetadata::Never,
-        _ => UseConsolidatedMetadata::Auto,
-    }
-}
-
-// The version with this name.
-pub(crate) fn version_of(word: &str) -> MetadataRetrieveVersion {
-    match word {
-        "v2" => MetadataRetrieveVersion::V2,
-        "v3" => MetadataRetrieveVersion::V3,
-        _ => MetadataRetrieveVersion::Default,
     }
 }
 

@@ -231,25 +231,25 @@ Auto | block => {"kind":"inline","metadata":{},"must_understand":false}
 // What a policy makes of a block that there is or is not: the text of the block, `none`, or the text of the error.
 fn resolved(alloc: Global, given: &str) -> Result<String, AllocError> {
     let (policy, block) = fields(given);
-    match NodePath::new(alloc, "/g") {
-        Ok(path) => {
+    match (policy_of(policy), NodePath::new(alloc, "/g")) {
+        (Some(policy), Ok(path)) => {
             let block = empty_block(alloc, block == "block");
-            let policy = policy_of(policy);
             chosen(
                 alloc,
                 resolve_consolidated_policy(alloc, &path, block, policy),
             )
         }
-        Err(_) => String::from_str(alloc, "no path"),
+        _ => String::from_str(alloc, "no policy or no path"),
     }
 }
 
 // The policy of a name.
-fn policy_of(name: &str) -> UseConsolidatedMetadata {
+fn policy_of(name: &str) -> Option<UseConsolidatedMetadata> {
     match name {
-        "Must" => UseConsolidatedMetadata::Must,
-        "Never" => UseConsolidatedMetadata::Never,
-        _ => UseConsolidatedMetadata::Auto,
+        "Auto" => Some(UseConsolidatedMetadata::Auto),
+        "Must" => Some(UseConsolidatedMetadata::Must),
+        "Never" => Some(UseConsolidatedMetadata::Never),
+        _ => None,
     }
 }
 
@@ -295,7 +295,10 @@ Auto | {"chunk_grid":"g","chunk_key_encoding":"k","codecs":[],"data_type":"float
 fn opened(alloc: Global, given: &str) -> Result<String, MetadataFault> {
     let (policy, document) = fields(given);
     let node = NodeMetadata::from_bytes(alloc, document.as_bytes())?;
-    Ok(opened_by(alloc, &node, policy_of(policy))?)
+    match policy_of(policy) {
+        Some(policy) => Ok(opened_by(alloc, &node, policy)?),
+        None => Ok(String::from_str(alloc, "no policy")?),
+    }
 }
 
 // What a policy makes of a node at `/g`.

@@ -2,6 +2,10 @@
 //! path of such a store, as a value and as a text.
 #![tactic(auto)]
 
+mod words;
+
+pub use words::{no_word, policy_of, version_of};
+
 use log::sink::Discard;
 use std::alloc::{AllocError, Global};
 use zarrs_block::{ConsolidatedMetadataMetadata, NodeCreateError};

@@ -16,7 +16,8 @@ use zarrs_meta::{GroupMetadata, GroupMetadataV2, NodeMetadata};
 use zarrs_path::NodePath;
 use zarrs_rows_documents::{A2, G2, G3, said};
 use zarrs_rows_fixtures::{
-    A3_SQUARE, both, config_of, forest_text, key_of, node_at, pairs_text, paths_text,
+    A3_SQUARE, both, config_of, forest_text, key_of, no_word, node_at, pairs_text, paths_text,
+    policy_of,
 };
 use zarrs_rows_table::{check_rows, fields};
 use zarrs_store::{MemoryStore, ReadableStorageTraits, StorageError};
@@ -213,7 +214,8 @@ fn changed_in(alloc: Global, change: &str, given: &str) -> Result<Group, GroupCr
         "replaced" => replaced_in(alloc, given),
         "replaced by none" => replaced_by_none(alloc, group_in(alloc, given)),
         "as version 3" => group_in(alloc, given).map(|group| group.to_v3(alloc)),
-        _ => group_in(alloc, given),
+        "-" => group_in(alloc, given),
+        word => Err(GroupCreateError::from(no_word(alloc, word))),
     }
 }
 
@@ -335,11 +337,25 @@ fn opened_text(
     look: &str,
     store: &MemoryStore,
     path: &str,
+) -> Result<String, StorageError> {
+    let opened = Group::open(alloc, store, path, &Config::new());
+    let text = match look {
+        "text" => said(alloc, opened, Group::to_text)?,
+        policy => trees_text(alloc, opened, store, policy_of(alloc, policy)?)?,
+    };
+    Ok(text)
+}
+
+// The trees below a group by a policy, over a store, or the text of the refusal to open it.
+fn trees_text(
+    alloc: Global,
+    opened: Result<Group, GroupCreateError>,
+    store: &MemoryStore,
+    policy: UseConsolidatedMetadata,
 ) -> Result<String, AllocError> {
-    match (look, Group::open(alloc, store, path, &Config::new())) {
-        ("text", opened) => said(alloc, opened, Group::to_text),
-        (policy, Ok(group)) => children_text(&group, alloc, store, policy_of(policy), true),
-        (_, Err(error)) => format!(in alloc; "{error}"),
+    match opened {
+        Ok(group) => children_text(&group, alloc, store, policy, true),
+        Err(error) => format!(in alloc; "{error}"),
     }
 }
 
@@ -456,33 +472,25 @@ fn is_other(answer: &Result<Vec<Group>, GroupCreateError>) -> bool {
     )
 }
 
-// The policy that a word is of.
-fn policy_of(word: &str) -> UseConsolidatedMetadata {
-    match word {
-        "must" => UseConsolidatedMetadata::Must,
-        "never" => UseConsolidatedMetadata::Never,
-        _ => UseConsolidatedMetadata::Auto,
-    }
-}
-
 // What stands below a group over a store, by what is asked; trees and all of it by a policy.
 fn looked_at(
     alloc: Global,
     look: &str,
     group: &Group,
     store: &MemoryStore,
-) -> Result<String, AllocError> {
+) -> Result<String, StorageError> {
     let auto = UseConsolidatedMetadata::Auto;
-    match look {
-        "trees" => children_text(group, alloc, store, auto, true),
-        "children" => children_text(group, alloc, store, auto, false),
-        "documents" => traversed_documents(group, alloc, store),
-        "children warned" => children_warned(group, alloc, store),
-        "traversal warned" => traversal_warned(group, alloc, store),
-        "kinds" => kinds_text(group, alloc, store),
-        "groups" => child_groups_text(group, alloc, store),
-        policy => below_text(group, alloc, store, policy_of(policy)),
-    }
+    let text = match look {
+        "trees" => children_text(group, alloc, store, auto, true)?,
+        "children" => children_text(group, alloc, store, auto, false)?,
+        "documents" => traversed_documents(group, alloc, store)?,
+        "children warned" => children_warned(group, alloc, store)?,
+        "traversal warned" => traversal_warned(group, alloc, store)?,
+        "kinds" => kinds_text(group, alloc, store)?,
+        "groups" => child_groups_text(group, alloc, store)?,
+        policy => below_text(group, alloc, store, policy_of(alloc, policy)?)?,
+    };
+    Ok(text)
 }
 
 // What stands below the group of a row over the store with the documents of a list.

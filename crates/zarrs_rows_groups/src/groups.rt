@@ -6,15 +6,13 @@ use serde_json::{Map, Value};
 use std::alloc::{AllocError, Global};
 use std::test::Fail;
 use zarrs_block::NodeCreateError;
-use zarrs_config::{
-    Config, GroupMetadataOptions, MetadataConvertVersion, MetadataEraseVersion,
-    MetadataRetrieveVersion,
-};
+use zarrs_config::{Config, GroupMetadataOptions, MetadataConvertVersion, MetadataEraseVersion};
 use zarrs_group::{AdditionalFieldUnsupportedError, Group, GroupBuilder, GroupCreateError, laws};
 use zarrs_meta::{
     AdditionalFieldV3, AdditionalFieldsV3, GroupMetadata, GroupMetadataV2, GroupMetadataV3, Object,
 };
 use zarrs_path::{NodePath, NodePathError};
+use zarrs_rows_fixtures::{no_word, version_of};
 use zarrs_rows_table::{check_rows, fields};
 use zarrs_store::{
     MemoryStore, ReadableStorageTraits, StorageError, StoreKey, StorePrefix, WritableStorageTraits,
@@ -203,28 +201,21 @@ fn said(
 
 // ---- opening
 
-// The version that a word is of; none for `-`.
-fn retrieved(word: &str) -> Option<MetadataRetrieveVersion> {
-    match word {
-        "default" => Some(MetadataRetrieveVersion::Default),
-        "v3" => Some(MetadataRetrieveVersion::V3),
-        "v2" => Some(MetadataRetrieveVersion::V2),
-        _ => None,
-    }
-}
-
 // What opening a path says by a version, or by default for `-`, over the store with the documents of a list.
 fn opened(alloc: Global, given: &str) -> Result<String, GroupCreateError> {
     let (path, rest) = fields(given);
     let (version, list) = fields(rest);
     let store = store_in(alloc, list)?;
     let config = Config::new();
-    match retrieved(version) {
-        Some(version) => said(
-            alloc,
-            Group::open_opt(alloc, &store, path, &version, &config),
-        ),
-        None => said(alloc, Group::open(alloc, &store, path, &config)),
+    match version {
+        "-" => said(alloc, Group::open(alloc, &store, path, &config)),
+        word => {
+            let version = version_of(alloc, word)?;
+            said(
+                alloc,
+                Group::open_opt(alloc, &store, path, &version, &config),
+            )
+        }
     }
 }
 
@@ -251,7 +242,7 @@ abc | - | zarr.json=G3 => invalid node path abc
 /p | - | p/.zarray=A2 p/.zgroup=G2 => group at /p with metadata {"zarr_format":2}
 
 # The version limits what is looked at.
-/g | default | g/zarr.json=G3 g/.zgroup=G2 => group at /g with metadata {"node_type":"group","zarr_format":3}
+/g | any | g/zarr.json=G3 g/.zgroup=G2 => group at /g with metadata {"node_type":"group","zarr_format":3}
 /g | v3 | g/zarr.json=G3 g/.zgroup=G2 => group at /g with metadata {"node_type":"group","zarr_format":3}
 /g | v2 | g/zarr.json=G3 g/.zgroup=G2 => group at /g with metadata {"zarr_format":2}
 /g | v3 | g/.zgroup=G2 => group metadata is missing
@@ -318,35 +309,44 @@ fn refusal(alloc: Global, answer: Result<(), StorageError>) -> Result<String, Gr
 }
 
 // The version that a word is of by which metadata are written.
-fn converted(word: &str) -> MetadataConvertVersion {
+fn converted(alloc: Global, word: &str) -> Result<MetadataConvertVersion, StorageError> {
     match word {
-        "v3" => MetadataConvertVersion::V3,
-        _ => MetadataConvertVersion::Default,
+        "default" => Ok(MetadataConvertVersion::Default),
+        "v3" => Ok(MetadataConvertVersion::V3),
+        word => Err(no_word(alloc, word)),
     }
 }
 
 // The call that a word is of.
-fn step_of(word: &str) -> Step {
+fn step_of(alloc: Global, word: &str) -> Result<Step, StorageError> {
     match word {
-        "store" => Step::Store,
-        "store v3" => Step::StoreAs(MetadataConvertVersion::V3),
-        "store default" => Step::StoreAs(MetadataConvertVersion::Default),
-        "erase" => Step::Erase,
-        "erase v3" => Step::EraseAs(MetadataEraseVersion::V3),
-        "erase v2" => Step::EraseAs(MetadataEraseVersion::V2),
-        "erase all" => Step::EraseAs(MetadataEraseVersion::All),
-        _ => Step::EraseAs(MetadataEraseVersion::Default),
+        "store" => Ok(Step::Store),
+        "store v3" => Ok(Step::StoreAs(MetadataConvertVersion::V3)),
+        "store default" => Ok(Step::StoreAs(MetadataConvertVersion::Default)),
+        "erase" => Ok(Step::Erase),
+        "erase v3" => Ok(Step::EraseAs(MetadataEraseVersion::V3)),
+        "erase v2" => Ok(Step::EraseAs(MetadataEraseVersion::V2)),
+        "erase all" => Ok(Step::EraseAs(MetadataEraseVersion::All)),
+        "erase default" => Ok(Step::EraseAs(MetadataEraseVersion::Default)),
+        word => Err(no_word(alloc, word)),
     }
 }
 
-// The configuration that a word is of.
-fn config_of(word: &str) -> Config {
+// The configuration that stores as version 3 and erases all documents.
+fn v3_and_all() -> Config {
     let mut config = Config::new();
-    if word == "v3 and all" {
-        config.set_metadata_convert_version(MetadataConvertVersion::V3);
-        config.set_metadata_erase_version(MetadataEraseVersion::All);
-    }
+    config.set_metadata_convert_version(MetadataConvertVersion::V3);
+    config.set_metadata_erase_version(MetadataEraseVersion::All);
     config
+}
+
+// The configuration that a word is of; the new one for `-`.
+fn config_of(alloc: Global, word: &str) -> Result<Config, StorageError> {
+    match word {
+        "-" => Ok(Config::new()),
+        "v3 and all" => Ok(v3_and_all()),
+        word => Err(no_word(alloc, word)),
+    }
 }
 
 // What a step on a group says over a store, where it is refused; the step, then the group.
@@ -357,16 +357,18 @@ fn stepped(
     given: &str,
 ) -> Result<String, GroupCreateError> {
     let (step, given) = fields(given);
+    let step = step_of(alloc, step)?;
     let group = group_of(alloc, given, config)?;
-    refusal(alloc, done(alloc, &group, store, step_of(step)))
+    refusal(alloc, done(alloc, &group, store, step))
 }
 
 // What a step on a group under a configuration says, where it is refused, and then what the store holds.
 fn after(alloc: Global, given: &str) -> Result<String, GroupCreateError> {
     let (names, rest) = fields(given);
     let (config, step) = fields(rest);
+    let config = config_of(alloc, config)?;
     let mut store = store_of(alloc, names)?;
-    let said = stepped(alloc, &mut store, &config_of(config), step)?;
+    let said = stepped(alloc, &mut store, &config, step)?;
     let held = held(alloc, &store)?;
     Ok(format!(in alloc; "{said}{held}")?)
 }
@@ -411,9 +413,10 @@ fn groups_are_stored_and_erased(rt: HostRuntime) -> Result<(), Fail> {
 // The store that holds a group by a version and nothing else.
 fn store_with(alloc: Global, given: &str) -> Result<MemoryStore, GroupCreateError> {
     let (version, given) = fields(given);
+    let version = converted(alloc, version)?;
     let group = group_of(alloc, given, &Config::new())?;
     let mut store = MemoryStore::new(alloc);
-    drop(done(alloc, &group, &mut store, Step::StoreAs(converted(version))));
+    done(alloc, &group, &mut store, Step::StoreAs(version))?;
     Ok(store)
 }
 

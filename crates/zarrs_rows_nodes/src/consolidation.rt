@@ -1,6 +1,6 @@
 //! The block of a node, made of all nodes below it.
 
-use crate::given::{document_name, list_of, no_word, pairs_in};
+use crate::given::{document_name, list_of, pairs_in};
 use std::alloc::{AllocError, Global};
 use std::test::Fail;
 use zarrs_block::{ConsolidatedMetadataMetadata, NodeCreateError};
@@ -8,7 +8,7 @@ use zarrs_meta::{GroupMetadata, GroupMetadataV3, NodeMetadata};
 use zarrs_node::{Node, laws};
 use zarrs_path::NodePath;
 use zarrs_rows_documents::said;
-use zarrs_rows_fixtures::{ANY, metadata_at, node_at};
+use zarrs_rows_fixtures::{ANY, metadata_at, no_word, node_at};
 use zarrs_rows_table::{check_rows, fields};
 
 // A line for each key of a block, with the word for its document, or the document; or `no block`.
@@ -74,7 +74,7 @@ fn node_given(alloc: Global, given: &str) -> Result<Node, NodeCreateError> {
     match origin {
         "stored" => stored(alloc, path, list),
         "made" => made(alloc, path, list),
-        origin => Err(no_word(alloc, origin)),
+        origin => Err(NodeCreateError::from(no_word(alloc, origin))),
     }
 }
 

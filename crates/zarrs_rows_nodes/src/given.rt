@@ -1,10 +1,8 @@
 //! What the rows of tables give: stores and blocks as lists, documents and enum values as words.
 
 use std::alloc::{AllocError, Global};
-use zarrs_block::NodeCreateError;
-use zarrs_config::{MetadataRetrieveVersion, UseConsolidatedMetadata};
 use zarrs_rows_documents::{A2, A3, G2, G3};
-use zarrs_rows_fixtures::{A3_SQUARE, store_of};
+use zarrs_rows_fixtures::{A3_SQUARE, no_word, store_of};
 use zarrs_store::{MemoryStore, StorageError};
 
 // Groups and arrays of version 3 in three levels.
@@ -81,45 +79,11 @@ pub(crate) fn store_in(alloc: Global, list: &str) -> Result<MemoryStore, Storage
     store_of(alloc, pairs.as_slice())
 }
 
-/// The version that a word names.
-pub(crate) fn version_of(
-    alloc: Global,
-    word: &str,
-) -> Result<MetadataRetrieveVersion, NodeCreateError> {
-    match word {
-        "any" => Ok(MetadataRetrieveVersion::Default),
-        "v2" => Ok(MetadataRetrieveVersion::V2),
-        "v3" => Ok(MetadataRetrieveVersion::V3),
-        word => Err(no_word(alloc, word)),
-    }
-}
-
-/// The policy of blocks that a word names.
-pub(crate) fn policy_of(
-    alloc: Global,
-    word: &str,
-) -> Result<UseConsolidatedMetadata, NodeCreateError> {
-    match word {
-        "auto" => Ok(UseConsolidatedMetadata::Auto),
-        "must" => Ok(UseConsolidatedMetadata::Must),
-        "never" => Ok(UseConsolidatedMetadata::Never),
-        word => Err(no_word(alloc, word)),
-    }
-}
-
 /// Whether a word names all below a path, and not its children alone.
-pub(crate) fn is_all(alloc: Global, word: &str) -> Result<bool, NodeCreateError> {
+pub(crate) fn is_all(alloc: Global, word: &str) -> Result<bool, StorageError> {
     match word {
         "all" => Ok(true),
         "children" => Ok(false),
         word => Err(no_word(alloc, word)),
-    }
-}
-
-/// The refusal of a word that names nothing.
-pub(crate) fn no_word(alloc: Global, word: &str) -> NodeCreateError {
-    match format!(in alloc; "no such word: {word}") {
-        Ok(text) => NodeCreateError::StorageError(StorageError::Other(text)),
-        Err(_) => NodeCreateError::OutOfMemory,
     }
 }

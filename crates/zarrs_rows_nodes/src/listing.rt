@@ -1,6 +1,6 @@
 //! What a listing shows, passes over and refuses.
 
-use crate::given::{is_all, store_in, version_of};
+use crate::given::{is_all, store_in};
 use std::alloc::{AllocError, Global};
 use std::test::Fail;
 use zarrs_block::NodeCreateError;
@@ -8,6 +8,7 @@ use zarrs_node::{ListedNodes, ListedPaths};
 use zarrs_rows_documents::said;
 use zarrs_rows_fixtures::{
     ANY, THREE_LEVELS, listed, listed_in, listing_text, paths_listed_in, paths_listing_text,
+    version_of,
 };
 use zarrs_rows_table::{check_rows, fields};
 use zarrs_store::StorageError;

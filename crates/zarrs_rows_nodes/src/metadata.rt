@@ -1,6 +1,6 @@
 //! What a path means, and whether a node is there.
 
-use crate::given::{store_in, version_of};
+use crate::given::store_in;
 use std::alloc::{AllocError, Global};
 use std::test::Fail;
 use zarrs_block::NodeCreateError;
@@ -8,7 +8,7 @@ use zarrs_meta::NodeMetadata;
 use zarrs_node::{node_exists, node_exists_listable};
 use zarrs_path::NodePath;
 use zarrs_rows_documents::said;
-use zarrs_rows_fixtures::metadata_in;
+use zarrs_rows_fixtures::{metadata_in, version_of};
 use zarrs_rows_table::{check_rows, fields};
 
 // The metadata that a row asks for: the path, the version, and the store.

@@ -1,7 +1,7 @@
 //! Nodes, the calls that warn, and the pairs of a listing.
 
 use crate::asserts::assert_says;
-use crate::given::{is_all, no_word, store_in, version_of};
+use crate::given::{is_all, store_in};
 use log::sink::{Discard, Writer};
 use std::alloc::{AllocError, Global};
 use std::test::Fail;
@@ -12,7 +12,7 @@ use zarrs_node::{
 };
 use zarrs_path::{NodePath, NodePathError, meta_key_v3};
 use zarrs_rows_documents::{G3, printed, said};
-use zarrs_rows_fixtures::{ANY, forest_text, pairs_text, paths_text};
+use zarrs_rows_fixtures::{ANY, forest_text, no_word, pairs_text, paths_text, version_of};
 use zarrs_rows_table::{check_rows, fields};
 use zarrs_store::{MemoryStore, WritableStorageTraits};
 
@@ -45,7 +45,7 @@ fn warnings(alloc: Global, given: &str) -> Result<String, NodeCreateError> {
             get_child_paths(&sink, alloc, &store, &base, true),
             paths_text,
         )?,
-        call => return Err(no_word(alloc, call)),
+        call => return Err(NodeCreateError::from(no_word(alloc, call))),
     };
     Ok(with_lines(alloc, text.as_str(), &sink.into_inner())?)
 }

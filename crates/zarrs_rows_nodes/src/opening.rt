@@ -1,6 +1,6 @@
 //! Trees built of pairs, and nodes opened by a block or by a listing.
 
-use crate::given::{no_word, pairs_in, policy_of, store_in, version_of};
+use crate::given::{pairs_in, store_in};
 use log::sink::{Discard, Writer};
 use std::alloc::{AllocError, Global};
 use std::test::Fail;
@@ -10,7 +10,9 @@ use zarrs_meta::NodeMetadata;
 use zarrs_node::{Node, build_node_tree, build_node_tree_counted, direct_children_from_flat};
 use zarrs_path::NodePath;
 use zarrs_rows_documents::said;
-use zarrs_rows_fixtures::{ANY, config_of, forest_text, metadata_at, with_block};
+use zarrs_rows_fixtures::{
+    ANY, config_of, forest_text, metadata_at, no_word, policy_of, version_of, with_block,
+};
 use zarrs_rows_table::{check_rows, fields};
 use zarrs_store::MemoryStore;
 
@@ -61,7 +63,7 @@ fn built(alloc: Global, given: &str) -> Result<String, NodeCreateError> {
             direct_children_from_flat(alloc, &base, pairs),
             forest_text,
         )?,
-        call => return Err(no_word(alloc, call)),
+        call => return Err(NodeCreateError::from(no_word(alloc, call))),
     };
     Ok(text)
 }

@@ -3,6 +3,9 @@
 //! A table is data: a test is one call, and its rows cost the prover nothing.
 #![tactic(auto)]
 
+#[cfg(test)]
+mod tests;
+
 use std::alloc::{AllocError, Global};
 use std::fmt::Debug;
 use std::test::Fail;
@@ -14,8 +17,26 @@ use std::test::Fail;
 ///
 /// # Errors
 ///
-/// The first row whose answer is another, with that answer; a line that is no heading and has no arrow; a table without rows.
+/// What `complaint` says of the table; want of memory for that.
 pub fn check_rows<E, F>(alloc: Global, table: &str, call: F) -> Result<(), Fail>
+where
+    E: Debug + Drop,
+    F: Fn(Global, &str) -> Result<String, E>,
+    requires { F.IsAlwaysCallable call }
+{
+    match complaint(alloc, table, call)? {
+        Some(complaint) => Err(Fail::new(complaint)),
+        None => Ok(()),
+    }
+}
+
+/// What is wrong with a table, as `check_rows` reads it: the first row whose answer is another, with that answer; a line that is no
+/// heading and has no arrow; that no row is there. Nothing where every row is answered as it wants.
+///
+/// # Errors
+///
+/// Out of memory.
+pub fn complaint<E, F>(alloc: Global, table: &str, call: F) -> Result<Option<String>, AllocError>
 where
     E: Debug + Drop,
     F: Fn(Global, &str) -> Result<String, E>,
@@ -25,14 +46,16 @@ where
     for row in table.lines() {
         if is_row(row) {
             has_rows = true;
-            let (given, wanted) = parts(row);
-            check_row(alloc, call(alloc, given), wanted, row)?;
+            let complaint = complaint_of(alloc, row, &call)?;
+            if complaint.is_some() {
+                return Ok(complaint);
+            }
         }
     }
     if has_rows {
-        Ok(())
+        Ok(None)
     } else {
-        Err(Fail::from("no rows"))
+        Ok(Some(String::from_str(alloc, "no rows")?))
     }
 }
 
@@ -41,34 +64,35 @@ fn is_row(line: &str) -> bool {
     !line.is_empty() && !line.starts_with("# ")
 }
 
-// What stands before and behind the arrow of a row. Where there is none, what is wanted is what no call answers.
-fn parts(row: &str) -> (&str, &str) {
-    match row.split_once(" =>") {
-        Some((given, wanted)) => (given, wanted.strip_prefix(' ').unwrap_or(wanted)),
-        None => (row, "an arrow"),
+// What is wrong with a row.
+fn complaint_of<E, F>(alloc: Global, row: &str, call: &F) -> Result<Option<String>, AllocError>
+where
+    E: Debug + Drop,
+    F: Fn(Global, &str) -> Result<String, E>,
+    requires { F.IsAlwaysCallable call.now }
+{
+    let Some((given, wanted)) = row.split_once(" =>") else {
+        return Ok(Some(format!(in alloc; "no arrow in {row}")?));
+    };
+    let wanted = wanted.strip_prefix(' ').unwrap_or(wanted);
+    match call(alloc, given) {
+        Ok(said) => line_complaint(alloc, said.as_str(), wanted, row),
+        Err(error) => Ok(Some(format!(in alloc; "{error:?} in place of {row}")?)),
     }
 }
 
-// Compares an answer with the text that a row wants.
-fn check_row<E: Debug + Drop>(
+// What is wrong with a text, its line ends as `\n`, beside the one that a row wants.
+fn line_complaint(
     alloc: Global,
-    answer: Result<String, E>,
+    said: &str,
     wanted: &str,
     row: &str,
-) -> Result<(), Fail> {
-    match answer {
-        Ok(said) => check_line(alloc, said.as_str(), wanted, row),
-        Err(error) => Err(Fail::new(format_args!("{error:?} in place of {row}"))),
-    }
-}
-
-// Compares a text, its line ends as `\n`, with the one that a row wants.
-fn check_line(alloc: Global, said: &str, wanted: &str, row: &str) -> Result<(), Fail> {
+) -> Result<Option<String>, AllocError> {
     let line = one_line(alloc, said)?;
     if line.as_str() == wanted {
-        Ok(())
+        Ok(None)
     } else {
-        Err(Fail::new(format_args!("{line} in place of {row}")))
+        Ok(Some(format!(in alloc; "{line} in place of {row}")?))
     }
 }
 
