@@ -4,10 +4,9 @@
 
 mod words;
 
-pub use words::{no_word, policy_of, version_of};
-
 use log::sink::Discard;
 use std::alloc::{AllocError, Global};
+pub use words::{no_word, policy_of, version_of};
 use zarrs_block::{ConsolidatedMetadataMetadata, NodeCreateError};
 use zarrs_config::{Config, MetadataRetrieveVersion, UseConsolidatedMetadata};
 use zarrs_meta::NodeMetadata;
