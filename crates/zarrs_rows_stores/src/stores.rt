@@ -19,14 +19,16 @@ fn unknown<T: Drop>(alloc: Global, text: &str) -> Result<T, StorageError> {
 fn key(alloc: Global, text: &str) -> Result<StoreKey, StorageError> {
     match StoreKey::new(alloc, text) {
         Ok(key) => Ok(key),
-        Err(_) => unknown(alloc, text),
+        Err(StoreKeyError::Invalid(_)) => unknown(alloc, text),
+        Err(StoreKeyError::OutOfMemory) => Err(StorageError::OutOfMemory),
     }
 }
 
 fn prefix(alloc: Global, text: &str) -> Result<StorePrefix, StorageError> {
     match StorePrefix::new(alloc, text) {
         Ok(prefix) => Ok(prefix),
-        Err(_) => unknown(alloc, text),
+        Err(StorePrefixError::Invalid(_)) => unknown(alloc, text),
+        Err(StorePrefixError::OutOfMemory) => Err(StorageError::OutOfMemory),
     }
 }
 
