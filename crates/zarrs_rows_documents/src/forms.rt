@@ -18,7 +18,7 @@ use zarrs_rows_table::{check_rows, fields};
 // ---- what the tests share
 
 // The value that a text is; null where it is none.
-fn value_of(alloc: Global, text: &str) -> Value {
+pub(crate) fn value_of(alloc: Global, text: &str) -> Value {
     match Value::from_str(alloc, text) {
         Ok(value) => value,
         Err(_) => Value::Null,
@@ -26,7 +26,7 @@ fn value_of(alloc: Global, text: &str) -> Value {
 }
 
 // The number that a text is; 0 where it is none.
-fn number_of(alloc: Global, text: &str) -> u64 {
+pub(crate) fn number_of(alloc: Global, text: &str) -> u64 {
     value_of(alloc, text).as_u64().unwrap_or(0)
 }
 

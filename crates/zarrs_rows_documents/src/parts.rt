@@ -2,6 +2,7 @@
 
 use crate::answers::{A2, made, printed, said};
 use crate::documents::agreed;
+use crate::forms::{number_of, value_of};
 use serde_json::{Map, Value};
 use std::alloc::{AllocError, Global};
 use std::test::Fail;
@@ -12,19 +13,6 @@ use zarrs_meta::{
     MetadataV3, Object, Text,
 };
 use zarrs_rows_table::{check_rows, fields};
-
-// The value that a text is; null where it is none.
-fn value_of(alloc: Global, text: &str) -> Value {
-    match Value::from_str(alloc, text) {
-        Ok(value) => value,
-        Err(_) => Value::Null,
-    }
-}
-
-// The number that a text is; 0 where it is none.
-fn number_of(alloc: Global, text: &str) -> u64 {
-    value_of(alloc, text).as_u64().unwrap_or(0)
-}
 
 // The object that a text is; the empty one where it is none, or where there is no memory.
 fn object_of(alloc: Global, text: &str) -> Object {

@@ -1,6 +1,5 @@
 //! Nodes, the calls that warn, and the pairs of a listing.
 
-use crate::asserts::assert_says;
 use crate::given::{is_all, store_in};
 use log::sink::{Discard, Writer};
 use std::alloc::{AllocError, Global};
@@ -142,9 +141,10 @@ fn pairs_count(pairs: &Vec<(NodePath, NodeMetadata)>, alloc: Global) -> Result<S
 }
 
 #[test]
-fn a_long_chain_of_groups_is_listed(rt: HostRuntime) {
-    let pairs = pairs_of_chain(rt.alloc(), 200);
-    assert_says(&rt, rt.alloc(), "chain", pairs, pairs_count, "200");
+fn a_long_chain_of_groups_is_listed(rt: HostRuntime) -> Result<(), Fail> {
+    let count = said(rt.alloc(), pairs_of_chain(rt.alloc(), 200), pairs_count)?;
+    assert_eq!(rt; count.as_str(), "200");
+    Ok(())
 }
 
 // ---- nodes that are made
