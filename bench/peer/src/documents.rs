@@ -4,7 +4,7 @@
 
 use serde::de::value::MapAccessDeserializer;
 use serde::de::{Error, MapAccess, Visitor};
-use serde::{Deserialize, Deserializer};
+use serde::{Deserialize, Deserializer, Serialize};
 use serde_json::{Map, Value};
 use std::borrow::Cow;
 use std::fmt;
@@ -31,8 +31,25 @@ impl NodeMetadata<'_> {
 pub fn node_v3(text: &str) -> serde_json::Result<NodeMetadata<'_>> {
     let kind: KindV3 = serde_json::from_str(text)?;
     match kind.node_type {
-        NodeType::Group => serde_json::from_str(text).map(NodeMetadata::GroupV3),
+        NodeType::Group => serde_json::from_str(text)
+            .map(GroupV3::known)
+            .map(NodeMetadata::GroupV3),
         NodeType::Array => serde_json::from_str(text).map(NodeMetadata::ArrayV3),
+    }
+}
+
+/// The node that an entry of a block is.
+pub fn entry(document: Value) -> serde_json::Result<NodeMetadata<'static>> {
+    let is_text = |name, text| document.get(name).and_then(Value::as_str) == Some(text);
+    let format = document.get("zarr_format").and_then(Value::as_u64);
+    match format {
+        Some(3) if is_text("node_type", "group") => GroupV3::deserialize(document)
+            .map(GroupV3::known)
+            .map(NodeMetadata::GroupV3),
+        Some(3) if is_text("node_type", "array") => Box::deserialize(document).map(NodeMetadata::ArrayV3),
+        Some(2) if document.get("shape").is_some() => Box::deserialize(document).map(NodeMetadata::ArrayV2),
+        Some(2) => group_v2_of(document).map(NodeMetadata::GroupV2),
+        _ => Err(Error::custom("neither a group nor an array")),
     }
 }
 
@@ -43,7 +60,15 @@ pub fn array_v2(text: &str) -> serde_json::Result<ArrayV2<'_>> {
 
 /// The group that the document `.zgroup` is.
 pub fn group_v2(text: &str) -> serde_json::Result<GroupV2> {
-    let group: GroupV2 = serde_json::from_str(text)?;
+    let mut document = serde_json::Deserializer::from_str(text);
+    let group = group_v2_of(&mut document)?;
+    document.end()?;
+    Ok(group)
+}
+
+/// The version 2 group that a document is.
+pub fn group_v2_of<'de, D: Deserializer<'de>>(document: D) -> Result<GroupV2, D::Error> {
+    let group = GroupV2::deserialize(document)?;
     if group.additional_fields.contains_key("shape") {
         return Err(Error::custom("a group has no shape"));
     }
@@ -52,8 +77,35 @@ pub fn group_v2(text: &str) -> serde_json::Result<GroupV2> {
 
 /// The attributes that the document `.zattrs` is.
 pub fn attributes(text: &str) -> serde_json::Result<Members> {
-    whole_members(&mut serde_json::Deserializer::from_str(text))
+    serde_json::from_str(text).map(|attributes: Attributes| attributes.0)
 }
+
+/// The documents of a version 3 group's block by their keys, moved out of its fields, where it has one of this form.
+pub fn block_document(group: &mut GroupV3) -> Option<Members> {
+    let Some(Value::Object(mut block)) = group.additional_fields.remove("consolidated_metadata") else {
+        return None;
+    };
+    let is_inline = block.get("kind").and_then(Value::as_str) == Some("inline");
+    let need_not = matches!(block.get("must_understand"), None | Some(Value::Bool(false)));
+    match block.remove("metadata") {
+        Some(Value::Object(documents)) if is_inline && need_not => Some(documents),
+        _ => None,
+    }
+}
+
+/// The document `.zmetadata`.
+#[derive(Deserialize)]
+pub struct SmallStore {
+    zarr_consolidated_format: Format<1>,
+    #[serde(deserialize_with = "whole_members")]
+    pub metadata: Members,
+    #[serde(flatten, deserialize_with = "whole_members")]
+    additional_fields: Members,
+}
+
+/// The document `.zattrs`.
+#[derive(Deserialize)]
+pub struct Attributes(#[serde(deserialize_with = "whole_members")] pub Members);
 
 /// What tells the kind of a version 3 document.
 #[derive(Deserialize)]
@@ -75,9 +127,19 @@ pub struct GroupV3 {
     zarr_format: Format<3>,
     node_type: NodeType,
     #[serde(default, deserialize_with = "whole_members")]
-    attributes: Members,
+    pub attributes: Members,
     #[serde(flatten, deserialize_with = "whole_members")]
-    additional_fields: Members,
+    pub additional_fields: Members,
+}
+
+impl GroupV3 {
+    /// The group without a block that is null, which is none.
+    fn known(mut self) -> Self {
+        if let Some(Value::Null) = self.additional_fields.get("consolidated_metadata") {
+            self.additional_fields.remove("consolidated_metadata");
+        }
+        self
+    }
 }
 
 /// A version 3 array.
@@ -85,25 +147,25 @@ pub struct GroupV3 {
 pub struct ArrayV3<'a> {
     zarr_format: Format<3>,
     node_type: NodeType,
-    shape: Vec<u64>,
+    pub shape: Vec<u64>,
     #[serde(borrow)]
-    data_type: Extension<'a>,
+    pub data_type: Extension<'a>,
     #[serde(borrow)]
-    chunk_grid: Extension<'a>,
+    pub chunk_grid: Extension<'a>,
     #[serde(borrow)]
-    chunk_key_encoding: Extension<'a>,
+    pub chunk_key_encoding: Extension<'a>,
     #[serde(deserialize_with = "whole")]
-    fill_value: Value,
+    pub fill_value: Value,
     #[serde(borrow)]
-    codecs: Vec<Extension<'a>>,
+    pub codecs: Vec<Extension<'a>>,
     #[serde(default, deserialize_with = "whole_members")]
-    attributes: Members,
+    pub attributes: Members,
     #[serde(default, borrow)]
-    storage_transformers: Vec<Extension<'a>>,
+    pub storage_transformers: Vec<Extension<'a>>,
     #[serde(default, borrow)]
-    dimension_names: Option<Vec<Option<Text<'a>>>>,
+    pub dimension_names: Option<Vec<Option<Text<'a>>>>,
     #[serde(flatten, deserialize_with = "whole_members")]
-    additional_fields: Members,
+    pub additional_fields: Members,
 }
 
 /// A version 2 group.
@@ -113,30 +175,36 @@ pub struct GroupV2 {
     #[serde(default, deserialize_with = "whole_members")]
     pub attributes: Members,
     #[serde(flatten, deserialize_with = "whole_members")]
-    additional_fields: Members,
+    pub additional_fields: Members,
 }
 
 /// A version 2 array.
 #[derive(Deserialize)]
 pub struct ArrayV2<'a> {
     zarr_format: Format<2>,
-    shape: Vec<u64>,
-    chunks: Vec<NonZeroU64>,
+    pub shape: Vec<u64>,
+    pub chunks: Vec<NonZeroU64>,
     #[serde(borrow)]
-    dtype: DataTypeV2<'a>,
+    pub dtype: DataTypeV2<'a>,
     #[serde(deserialize_with = "whole")]
-    fill_value: Value,
-    order: Order,
+    pub fill_value: Value,
+    pub order: Order,
     #[serde(default, borrow)]
-    compressor: Option<CodecV2<'a>>,
+    pub compressor: Option<CodecV2<'a>>,
     #[serde(default, borrow)]
-    filters: Option<Vec<CodecV2<'a>>>,
+    pub filters: Option<Vec<CodecV2<'a>>>,
     #[serde(default)]
     dimension_separator: Option<Separator>,
     #[serde(default, deserialize_with = "whole_members")]
     pub attributes: Members,
     #[serde(flatten, deserialize_with = "whole_members")]
-    additional_fields: Members,
+    pub additional_fields: Members,
+}
+
+impl ArrayV2<'_> {
+    pub fn dimension_separator(&self) -> &Separator {
+        self.dimension_separator.as_ref().unwrap_or(&Separator::Dot)
+    }
 }
 
 /// A data type of version 2: a text, or a list of fields.
@@ -149,13 +217,13 @@ pub enum DataTypeV2<'a> {
     Structured(Vec<Value>),
 }
 
-#[derive(Deserialize)]
+#[derive(Deserialize, Serialize)]
 pub enum Order {
     C,
     F,
 }
 
-#[derive(Deserialize)]
+#[derive(Deserialize, Serialize)]
 pub enum Separator {
     #[serde(rename = ".")]
     Dot,
@@ -167,14 +235,14 @@ pub enum Separator {
 #[derive(Deserialize)]
 pub struct CodecV2<'a> {
     #[serde(borrow)]
-    id: Text<'a>,
+    pub id: Text<'a>,
     #[serde(flatten, deserialize_with = "whole_members")]
-    configuration: Members,
+    pub configuration: Members,
 }
 
 /// A text, borrowed where it stands in the document as it is.
 #[derive(Deserialize)]
-pub struct Text<'a>(#[serde(borrow)] Cow<'a, str>);
+pub struct Text<'a>(#[serde(borrow)] pub Cow<'a, str>);
 
 /// The number `N` of a format.
 pub struct Format<const N: u64>;
@@ -190,9 +258,9 @@ impl<'de, const N: u64> Deserialize<'de> for Format<N> {
 
 /// An extension of version 3: a text, which is its name, or an object.
 pub struct Extension<'a> {
-    name: Text<'a>,
-    configuration: Option<Members>,
-    must_understand: bool,
+    pub name: Text<'a>,
+    pub configuration: Option<Members>,
+    pub must_understand: bool,
 }
 
 #[derive(Deserialize)]

@@ -7,43 +7,44 @@ use std::ops::Bound::{Included, Unbounded};
 /// Keys with their texts, ascending.
 pub type Store = BTreeMap<String, String>;
 
-/// A node, what is kept of its metadata, and the nodes below it.
-pub struct Node<M> {
-    pub path: String,
-    #[allow(dead_code)] // held for the user of a listing, whom this program does not have
-    pub metadata: M,
-    pub below: Vec<Node<M>>,
+/// A path with the metadata of its node.
+pub type Pair<'a> = (String, NodeMetadata<'a>);
+
+/// Whether a text is the name of a node.
+pub fn is_name(text: &str) -> bool {
+    text.bytes().any(|byte| byte != b'.') && !text.starts_with("__")
 }
 
-/// The nodes below a prefix, siblings ascending. A child without documents is passed over with all below it.
+/// The nodes below a prefix, parents before children and siblings ascending, each with what is kept of its metadata. A child
+/// without documents is passed over with all below it.
 pub fn list_below<'a, M>(
     store: &'a Store,
     prefix: &str,
     keep: &impl Fn(NodeMetadata<'a>) -> M,
-) -> Result<Vec<Node<M>>, String> {
-    let names = child_names(store, prefix);
-    let mut nodes = Vec::with_capacity(names.len());
-    for name in names {
-        let path = format!("/{prefix}{name}");
+) -> Result<Vec<(String, M)>, String> {
+    let mut nodes = Vec::new();
+    let mut prefix = prefix.to_owned();
+    let mut groups = vec![(prefix.len(), child_names(store, &prefix).into_iter())];
+    while let Some((length, names)) = groups.last_mut() {
+        prefix.truncate(*length);
+        let Some(name) = names.next() else {
+            groups.pop();
+            continue;
+        };
+        prefix.push_str(name);
+        let path = format!("/{prefix}");
         if name.bytes().all(|byte| byte == b'.') {
             return Err(format!("invalid node path {path}"));
         }
-        let prefix = format!("{prefix}{name}/");
-        match metadata_at(store, &prefix)? {
-            Some(metadata) => {
-                let below = if metadata.is_group() {
-                    list_below(store, &prefix, keep)?
-                } else {
-                    Vec::new()
-                };
-                nodes.push(Node {
-                    path,
-                    metadata: keep(metadata),
-                    below,
-                });
-            }
-            None => eprintln!("object at {path} is no part of a hierarchy"),
+        prefix.push('/');
+        let Some(metadata) = metadata_at(store, &prefix)? else {
+            eprintln!("object at {path} is no part of a hierarchy");
+            continue;
+        };
+        if metadata.is_group() {
+            groups.push((prefix.len(), child_names(store, &prefix).into_iter()));
         }
+        nodes.push((path, keep(metadata)));
     }
     Ok(nodes)
 }
@@ -73,7 +74,7 @@ fn child_names<'a>(store: &'a Store, prefix: &str) -> Vec<&'a str> {
 }
 
 /// What the documents below a prefix say, or none where there are none.
-fn metadata_at<'a>(store: &'a Store, prefix: &str) -> Result<Option<NodeMetadata<'a>>, String> {
+pub fn metadata_at<'a>(store: &'a Store, prefix: &str) -> Result<Option<NodeMetadata<'a>>, String> {
     if let Some(metadata) = document(store, format!("{prefix}zarr.json"), node_v3)? {
         return Ok(Some(metadata));
     }
