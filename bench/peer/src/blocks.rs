@@ -53,11 +53,10 @@ impl Documents {
     }
 
     fn node(self) -> serde_json::Result<Option<NodeMetadata<'static>>> {
-        let attributes = self.attributes.map(Attributes::deserialize).transpose()?;
         if let Some(document) = self.array {
             let mut array = Box::<ArrayV2>::deserialize(document)?;
-            if let Some(attributes) = attributes {
-                array.attributes = attributes.0;
+            if let Some(attributes) = self.attributes {
+                array.attributes = Attributes::deserialize(attributes)?.0;
             }
             return Ok(Some(NodeMetadata::ArrayV2(array)));
         }
@@ -65,8 +64,8 @@ impl Documents {
             return Ok(None);
         };
         let mut group = group_v2_of(document)?;
-        if let Some(attributes) = attributes {
-            group.attributes = attributes.0;
+        if let Some(attributes) = self.attributes {
+            group.attributes = Attributes::deserialize(attributes)?.0;
         }
         Ok(Some(NodeMetadata::GroupV2(group)))
     }
@@ -100,8 +99,8 @@ pub fn small(text: &str) -> Option<Nodes<'static>> {
     Some(nodes)
 }
 
-/// The nodes of a block at their paths, ascending by names. The key of the group itself is passed over, and so is a key behind
-/// a slash where the same stands without it.
+/// The nodes of a block at their paths, ascending by names. The key of the group itself is passed over, and so is a key
+/// behind a slash where the same stands without it.
 pub fn expand<'a>(prefix: &str, nodes: Nodes<'a>) -> Result<Vec<Pair<'a>>, String> {
     let is_again = |key: &str| key.strip_prefix('/').map_or(false, |names| nodes.contains_key(names));
     let again: Vec<bool> = nodes.keys().map(|key| is_again(key)).collect();

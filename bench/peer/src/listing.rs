@@ -15,8 +15,8 @@ pub fn is_name(text: &str) -> bool {
     text.bytes().any(|byte| byte != b'.') && !text.starts_with("__")
 }
 
-/// The nodes below a prefix, parents before children and siblings ascending, each with what is kept of its metadata. A child
-/// without documents is passed over with all below it.
+/// The nodes below a prefix, parents before children and siblings ascending, each with what is kept of its metadata.
+/// A child without documents is passed over with all below it.
 pub fn list_below<'a, M>(
     store: &'a Store,
     prefix: &str,
