@@ -19,6 +19,15 @@ program_errors() {
     head -n -1 "$1" | sed '${/^checked: ended /d}'
 }
 
+# Writes them, with a folder that was given by a relative path as it was given.
+show_errors() {
+    local text
+    text=$(program_errors "$1" && echo .)
+    text=${text%.}
+    [ -z "${given-}" ] || text=${text//"$PWD/$given"/"$given"}
+    printf '%s' "$text"
+}
+
 # Says why a run gave no answer, from what `rt try` wrote to standard error, and what to do.
 explain() {
     local name=$1 errors=$2 reason
@@ -50,7 +59,7 @@ run_unproved() {
         explain "$name" "$work/errors"
         return 3
     fi
-    program_errors "$work/errors" >&2
+    show_errors "$work/errors" >&2
     cat "$work/output"
     return "$status"
 }
