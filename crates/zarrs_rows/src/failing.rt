@@ -30,16 +30,15 @@ use zarrs_node::{
     node_exists_listable, refresh_block,
 };
 use zarrs_path::NodePath;
-use zarrs_rows_documents::{A2, G2, G3, said};
 use zarrs_rows_fixtures::{
     A3_SQUARE, ANY, THREE_LEVELS, config_of, entries_of, forest_text, key_of, keys_text, listed_in,
     listing_text, metadata_in, pairs_text, paths_listed_in, paths_listing_text, paths_text,
     store_of, with_block,
 };
-use zarrs_rows_groups::{
+use zarrs_rows_group_fixtures::{
     LEVELS, LEVELS_TREES, Step, done, groups_text, levels, refused, with_block as with_block_of,
 };
-use zarrs_rows_table::{check_rows, fields};
+use zarrs_rows_table::{A2, G2, G3, check_rows, fields, said};
 use zarrs_store::{
     FaultAt, FaultStore, ListableStorageTraits, MemoryStore, ReadableStorageTraits, StorageError,
     StorePrefix, StorePrefixError, WritableStorageTraits,

@@ -14,9 +14,8 @@ use zarrs_group::{Group, GroupCreateError};
 use zarrs_hierarchy::{Hierarchy, laws};
 use zarrs_meta::{ArrayMetadata, ArrayMetadataV2, ArrayMetadataV3, GroupMetadata, GroupMetadataV3};
 use zarrs_path::NodePath;
-use zarrs_rows_documents::{printed, said};
 use zarrs_rows_fixtures::{config_of, policy_of, version_of};
-use zarrs_rows_table::{check_rows, fields};
+use zarrs_rows_table::{check_rows, fields, printed, said, with_lines};
 use zarrs_store::{MemoryStore, MetadataFault, StorageError};
 
 // What is seen of a hierarchy by the word of a row.
@@ -183,10 +182,8 @@ fn warnings(alloc: Global, given: &str) -> Result<String, NodeCreateError> {
     let store = store_in(alloc, given)?;
     let sink = Writer::new(Vec::new(alloc));
     let hierarchy = Hierarchy::open(&sink, alloc, &store, "/", &Config::new());
-    let text = seen(alloc, hierarchy, "tree", looked)?;
-    let lines = sink.into_inner();
-    let lines = String::from_utf8_lossy(alloc, &lines)?;
-    Ok(format!(in alloc; "{text}{lines}")?)
+    let text = seen(alloc, hierarchy, "tree", looked);
+    Ok(with_lines(alloc, text, "", sink.into_inner())?)
 }
 
 const WARNINGS: &str = r#"

@@ -2,8 +2,8 @@
 
 use std::alloc::{AllocError, Global};
 use std::fmt::Display;
-use zarrs_rows_documents::{A2, A3, G2, G3};
 use zarrs_rows_fixtures::{THREE_LEVELS, key_of, store_of};
+use zarrs_rows_table::{A2, A3, G2, G3};
 use zarrs_store::{MemoryStore, StorageError, WritableStorageTraits};
 
 // The store of a row: the one with this name, or the one with these keys, each with its document behind a blank; `; ` parts them.

@@ -1,9 +1,9 @@
 //! Assertions on what a call answers.
 
-use crate::answers::said;
 use std::alloc::{AllocError, Global};
 use std::fmt::Display;
 use std::process::Abort;
+use zarrs_rows_table::said;
 
 /// Asserts that a call answers this text, by `said`. The case is named where the assertion fails.
 pub(crate) fn assert_says<R, T, E, F>(

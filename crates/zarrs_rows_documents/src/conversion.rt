@@ -1,6 +1,6 @@
 //! Groups and arrays of version 2 as groups and arrays of version 3: what is answered, and what is warned of.
 
-use crate::answers::said;
+use crate::given::object_of;
 use log::sink::Writer;
 use serde_json::{Map, Value};
 use std::alloc::{AllocError, Global};
@@ -15,33 +15,9 @@ use zarrs_meta::{
     ArrayMetadataV2, ArrayMetadataV3, FillValueMetadata, GroupMetadataV2, GroupMetadataV3, List,
     MetadataV3, Object, Text,
 };
-use zarrs_rows_table::check_rows;
+use zarrs_rows_table::{check_rows, said, with_lines};
 
 // ---- what the tests share
-
-/// The value that a text is; null where it is none.
-pub(crate) fn value_of(alloc: Global, text: &str) -> Value {
-    match Value::from_str(alloc, text) {
-        Ok(value) => value,
-        Err(_) => Value::Null,
-    }
-}
-
-/// The members of the object that a text is; none where it is none.
-pub(crate) fn members_of(alloc: Global, text: &str) -> Map<String, Value> {
-    match value_of(alloc, text) {
-        Value::Object(members) => members,
-        _other => Map::new(alloc),
-    }
-}
-
-/// The object that a text is; the empty one where it is none, or where there is no memory.
-pub(crate) fn object_of(alloc: Global, text: &str) -> Object {
-    match Object::from_map(alloc, members_of(alloc, text)) {
-        Ok(object) => object,
-        Err(_) => Object::new(alloc),
-    }
-}
 
 /// A text of its own; the empty one where there is no memory.
 pub(crate) fn string_of(alloc: Global, text: &str) -> String {
@@ -132,20 +108,6 @@ fn with_members<E: Display>(
     with_part(alloc, error, &object)
 }
 
-/// A text, and behind it the lines of a log, if there are any.
-pub(crate) fn with_lines(
-    alloc: Global,
-    text: Result<String, AllocError>,
-    sink: Writer<Vec<u8>>,
-) -> Result<String, AllocError> {
-    let mut text = text?;
-    let lines = String::from_utf8_lossy(alloc, &sink.into_inner())?;
-    if !lines.is_empty() {
-        write!(text, "\n{lines}")?;
-    }
-    Ok(text)
-}
-
 // ---- groups
 
 // Groups of version 2, and the group of version 3 that each becomes: it keeps its attributes and drops its other fields.
@@ -208,7 +170,7 @@ fn array_says(array: &ArrayMetadataV2, alloc: Global) -> Result<String, AllocErr
     let sink = Writer::new(Vec::new(alloc));
     let answer = array_metadata_v2_to_v3(&sink, alloc, array);
     let text = told(alloc, answer, array_text, refusal);
-    with_lines(alloc, text, sink)
+    with_lines(alloc, text, "\n", sink.into_inner())
 }
 
 // What the array that a text is becomes, or the text of the fault.

@@ -1,13 +1,13 @@
 //! The texts of the errors of conversion, and the faults that become such errors.
 
-use crate::answers::said;
-use crate::conversion::{members_of, string_of};
+use crate::conversion::string_of;
+use crate::given::members_of;
 use serde_json::Value;
 use std::alloc::{AllocError, AllocFailed, Global};
 use std::test::Fail;
 use zarrs_convert::{ArrayMetadataV2ToV3Error, DataTypeMetadataV2EndiannessError};
 use zarrs_meta::{DataTypeMetadataV2, FillValueMetadata, Text};
-use zarrs_rows_table::{check_rows, fields};
+use zarrs_rows_table::{check_rows, fields, said};
 
 // ---- errors of conversion
 

@@ -1,7 +1,7 @@
 //! The tables of the conversion, line by line: data types, byte orders, fill values and codecs.
 
-use crate::answers::said;
-use crate::conversion::{named, order_refusal, refusal, told, value_of, with_lines};
+use crate::conversion::{named, order_refusal, refusal, told};
+use crate::given::value_of;
 use log::sink::Writer;
 use serde_json::{Map, put};
 use std::alloc::{AllocError, Global};
@@ -13,7 +13,7 @@ use zarrs_convert::{
 use zarrs_fault::MetadataFault;
 use zarrs_form::{Form, required};
 use zarrs_meta::{ArrayMetadataV2, DataTypeMetadataV2, Endianness, FillValueMetadata, MetadataV3};
-use zarrs_rows_table::{check_rows, fields};
+use zarrs_rows_table::{check_rows, fields, said, with_lines};
 
 // What a text reads as in the form of a type.
 fn read_as<T: Form + Drop>(alloc: Global, text: &str) -> Result<T, MetadataFault> {
@@ -193,7 +193,7 @@ fn converted_fill_value(alloc: Global, given: &str) -> Result<String, AllocError
     let sink = Writer::new(Vec::new(alloc));
     let answer = fill_value_metadata_v2_to_v3(&sink, alloc, &fill_value, &data_type);
     let text = told(alloc, answer, written, refusal);
-    with_lines(alloc, text, sink)
+    with_lines(alloc, text, "\n", sink.into_inner())
 }
 
 #[test]

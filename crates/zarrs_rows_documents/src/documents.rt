@@ -1,6 +1,5 @@
 //! Documents as they are read and written, by every way that leads in or out.
 
-use crate::answers::{A3, made, said};
 use crate::asserts::assert_says;
 use serde_json::Value;
 use std::alloc::{AllocError, Global};
@@ -10,7 +9,7 @@ use zarrs_meta::{
     ArrayMetadata, ArrayMetadataV2, ArrayMetadataV3, AttributesDocument, BoxedArray, Document,
     GroupMetadata, GroupMetadataV2, GroupMetadataV3, NodeMetadata, ZarrJson, laws,
 };
-use zarrs_rows_table::{check_rows, fields};
+use zarrs_rows_table::{A3, check_rows, fields, made, said};
 
 // ---- what the document types have in common
 

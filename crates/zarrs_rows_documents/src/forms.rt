@@ -1,7 +1,7 @@
 //! The calls that take documents apart and put them together, and the forms of members, one by one.
 
-use crate::answers::said;
 use crate::documents::agreed;
+use crate::given::{members_of, number_of, value_of};
 use serde_json::{Map, Value};
 use std::alloc::{AllocError, Global};
 use std::test::Fail;
@@ -13,30 +13,9 @@ use zarrs_form::{
     members_have_float, open_table, optional, parse, put_member, put_text, put_unless, refuse,
     required, take_member, take_null, write_last, write_row, write_unless,
 };
-use zarrs_rows_table::{check_rows, fields};
+use zarrs_rows_table::{check_rows, fields, said};
 
 // ---- what the tests share
-
-// The value that a text is; null where it is none.
-pub(crate) fn value_of(alloc: Global, text: &str) -> Value {
-    match Value::from_str(alloc, text) {
-        Ok(value) => value,
-        Err(_) => Value::Null,
-    }
-}
-
-// The number that a text is; 0 where it is none.
-pub(crate) fn number_of(alloc: Global, text: &str) -> u64 {
-    value_of(alloc, text).as_u64().unwrap_or(0)
-}
-
-// The members of the object that a text is; none where it is no object.
-fn members_of(alloc: Global, text: &str) -> Map<String, Value> {
-    match value_of(alloc, text) {
-        Value::Object(members) => members,
-        _other => Map::new(alloc),
-    }
-}
 
 // What a step answered, and the members that it left.
 fn and_left(

@@ -1,8 +1,7 @@
 //! Tests that cross crates: the documents of groups and arrays, the forms of their members and the conversion of version 2 to 3, by
-//! public calls alone. What such tests share is public, for those of stores.
+//! public calls alone. The crate has no call of its own.
 #![tactic(auto)]
 
-mod answers;
 #[cfg(test)]
 mod asserts;
 #[cfg(test)]
@@ -16,6 +15,6 @@ mod documents;
 #[cfg(test)]
 mod forms;
 #[cfg(test)]
+mod given;
+#[cfg(test)]
 mod parts;
-
-pub use answers::{A2, A2_WRITTEN, A3, G2, G3, made, printed, said};

@@ -1,8 +1,7 @@
 //! The parts of metadata: texts, lists, objects, fields, and what is not plain of them.
 
-use crate::answers::{A2, made, printed, said};
 use crate::documents::agreed;
-use crate::forms::{number_of, value_of};
+use crate::given::{number_of, object_of, value_of};
 use serde_json::{Map, Value};
 use std::alloc::{AllocError, Global};
 use std::test::Fail;
@@ -12,19 +11,7 @@ use zarrs_meta::{
     Endianness, FillValueMetadata, GroupMetadataV2, GroupMetadataV3, Json, List, MetadataV2,
     MetadataV3, Object, Text,
 };
-use zarrs_rows_table::{check_rows, fields};
-
-// The object that a text is; the empty one where it is none, or where there is no memory.
-fn object_of(alloc: Global, text: &str) -> Object {
-    let members = match value_of(alloc, text) {
-        Value::Object(members) => members,
-        _other => Map::new(alloc),
-    };
-    match Object::from_map(alloc, members) {
-        Ok(object) => object,
-        Err(_) => Object::new(alloc),
-    }
-}
+use zarrs_rows_table::{A2, check_rows, fields, made, printed, said};
 
 // ---- small parts: what each says of itself, of its copy, and once it was taken apart and put together
 

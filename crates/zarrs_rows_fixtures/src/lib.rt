@@ -12,7 +12,7 @@ use zarrs_config::{Config, MetadataRetrieveVersion, UseConsolidatedMetadata};
 use zarrs_meta::NodeMetadata;
 use zarrs_node::{ListedNodes, ListedPaths, Node, get_child_nodes, list_nodes, list_paths};
 use zarrs_path::NodePath;
-use zarrs_rows_documents::G3;
+use zarrs_rows_table::G3;
 use zarrs_store::{
     ListableStorageTraits, MemoryStore, ReadableStorageTraits, StorageError, StoreKey,
     StoreKeyError, WritableStorageTraits,

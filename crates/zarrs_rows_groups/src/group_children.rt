@@ -2,9 +2,6 @@
 //!
 //! The tests compare texts.
 
-use crate::fixtures::{
-    LEVELS, Set, block_of, changed, group_of, groups_text, set, set_in, with_block,
-};
 use crate::rows::{entries, store_in, text_of};
 use log::sink::{Discard, Writer};
 use std::alloc::{AllocError, Global};
@@ -14,12 +11,14 @@ use zarrs_config::{Config, UseConsolidatedMetadata};
 use zarrs_group::{Group, GroupCreateError};
 use zarrs_meta::{GroupMetadata, GroupMetadataV2, NodeMetadata};
 use zarrs_path::NodePath;
-use zarrs_rows_documents::{A2, G2, G3, said};
 use zarrs_rows_fixtures::{
     A3_SQUARE, both, config_of, forest_text, key_of, no_word, node_at, pairs_text, paths_text,
     policy_of,
 };
-use zarrs_rows_table::{check_rows, fields};
+use zarrs_rows_group_fixtures::{
+    LEVELS, Set, block_of, changed, group_of, groups_text, set, set_in, with_block,
+};
+use zarrs_rows_table::{A2, G2, G3, check_rows, fields, said};
 use zarrs_store::{MemoryStore, ReadableStorageTraits, StorageError};
 
 // ---- groups with blocks

@@ -1,6 +1,5 @@
 //! Groups that are made, opened, stored and erased. Each helper holds a group and answers a text; the tests are tables of texts.
 
-use crate::fixtures::{Step, done};
 use crate::rows::store_in;
 use serde_json::{Map, Value};
 use std::alloc::{AllocError, Global};
@@ -13,6 +12,7 @@ use zarrs_meta::{
 };
 use zarrs_path::{NodePath, NodePathError};
 use zarrs_rows_fixtures::{no_word, version_of};
+use zarrs_rows_group_fixtures::{Step, done};
 use zarrs_rows_table::{check_rows, fields};
 use zarrs_store::{
     MemoryStore, ReadableStorageTraits, StorageError, StoreKey, StorePrefix, WritableStorageTraits,

@@ -2,8 +2,8 @@
 
 use std::alloc::{AllocError, Global};
 use zarrs_group::GroupCreateError;
-use zarrs_rows_documents::{A2, A3, G2, G3};
 use zarrs_rows_fixtures::A3_SQUARE;
+use zarrs_rows_table::{A2, A3, G2, G3};
 use zarrs_store::MemoryStore;
 
 /// A group with attributes and with other members.

@@ -7,9 +7,8 @@ use zarrs_block::{ConsolidatedMetadataMetadata, NodeCreateError};
 use zarrs_meta::{GroupMetadata, GroupMetadataV3, NodeMetadata};
 use zarrs_node::{Node, laws};
 use zarrs_path::NodePath;
-use zarrs_rows_documents::said;
 use zarrs_rows_fixtures::{ANY, metadata_at, no_word, node_at};
-use zarrs_rows_table::{check_rows, fields};
+use zarrs_rows_table::{check_rows, fields, said};
 
 // A line for each key of a block, with the word for its document, or the document; or `no block`.
 fn lines_text(

@@ -1,8 +1,8 @@
 //! What the rows of tables give: stores and blocks as lists, documents and enum values as words.
 
 use std::alloc::{AllocError, Global};
-use zarrs_rows_documents::{A2, A3, G2, G3};
 use zarrs_rows_fixtures::{A3_SQUARE, no_word, store_of};
+use zarrs_rows_table::{A2, A3, G2, G3};
 use zarrs_store::{MemoryStore, StorageError};
 
 // Groups and arrays of version 3 in three levels.

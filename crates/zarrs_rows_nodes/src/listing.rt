@@ -5,12 +5,11 @@ use std::alloc::{AllocError, Global};
 use std::test::Fail;
 use zarrs_block::NodeCreateError;
 use zarrs_node::{ListedNodes, ListedPaths};
-use zarrs_rows_documents::said;
 use zarrs_rows_fixtures::{
     ANY, THREE_LEVELS, listed, listed_in, listing_text, paths_listed_in, paths_listing_text,
     version_of,
 };
-use zarrs_rows_table::{check_rows, fields};
+use zarrs_rows_table::{check_rows, fields, said};
 use zarrs_store::StorageError;
 
 // What is listed as a row says: the base, whether all below it is, the version, and the store.

@@ -7,9 +7,8 @@ use zarrs_block::NodeCreateError;
 use zarrs_meta::NodeMetadata;
 use zarrs_node::{node_exists, node_exists_listable};
 use zarrs_path::NodePath;
-use zarrs_rows_documents::said;
 use zarrs_rows_fixtures::{metadata_in, version_of};
-use zarrs_rows_table::{check_rows, fields};
+use zarrs_rows_table::{check_rows, fields, said};
 
 // The metadata that a row asks for: the path, the version, and the store.
 fn metadata_given(alloc: Global, given: &str) -> Result<NodeMetadata, NodeCreateError> {

@@ -1,6 +1,7 @@
 //! Nodes, the calls that warn, and the pairs of a listing.
 
 use crate::given::{is_all, store_in};
+use log::Log;
 use log::sink::{Discard, Writer};
 use std::alloc::{AllocError, Global};
 use std::test::Fail;
@@ -10,15 +11,36 @@ use zarrs_node::{
     Node, get_all_nodes_of, get_child_nodes, get_child_nodes_opt, get_child_paths, laws,
 };
 use zarrs_path::{NodePath, NodePathError, meta_key_v3};
-use zarrs_rows_documents::{G3, printed, said};
-use zarrs_rows_fixtures::{ANY, forest_text, no_word, pairs_text, paths_text, version_of};
-use zarrs_rows_table::{check_rows, fields};
+use zarrs_rows_fixtures::{ANY, forest_text, pairs_text, paths_text, version_of};
+use zarrs_rows_table::{G3, check_rows, fields, printed, said, with_lines};
 use zarrs_store::{MemoryStore, WritableStorageTraits};
 
-// A text, and the lines of a log.
-fn with_lines(alloc: Global, text: &str, lines: &[u8]) -> Result<String, AllocError> {
-    let lines = String::from_utf8_lossy(alloc, lines)?;
-    format!(in alloc; "{text}warned: {lines}")
+// What a call lists below a base in a store, with its warnings in a log.
+fn listed_by<L: Log>(
+    alloc: Global,
+    log: &L,
+    call: &str,
+    store: &MemoryStore,
+    base: &NodePath,
+) -> Result<String, AllocError> {
+    match call {
+        "nodes" => said(
+            alloc,
+            get_child_nodes(log, alloc, store, base, true),
+            forest_text,
+        ),
+        "pairs" => said(
+            alloc,
+            get_all_nodes_of(log, alloc, store, base, &ANY),
+            pairs_text,
+        ),
+        "paths" => said(
+            alloc,
+            get_child_paths(log, alloc, store, base, true),
+            paths_text,
+        ),
+        call => format!(in alloc; "no such call: {call}"),
+    }
 }
 
 // What a call lists below the base of a row in its store, and what is warned of.
@@ -28,25 +50,8 @@ fn warnings(alloc: Global, given: &str) -> Result<String, NodeCreateError> {
     let base = NodePath::new(alloc, base)?;
     let store = store_in(alloc, documents)?;
     let sink = Writer::new(Vec::new(alloc));
-    let text = match call {
-        "nodes" => said(
-            alloc,
-            get_child_nodes(&sink, alloc, &store, &base, true),
-            forest_text,
-        )?,
-        "pairs" => said(
-            alloc,
-            get_all_nodes_of(&sink, alloc, &store, &base, &ANY),
-            pairs_text,
-        )?,
-        "paths" => said(
-            alloc,
-            get_child_paths(&sink, alloc, &store, &base, true),
-            paths_text,
-        )?,
-        call => return Err(NodeCreateError::from(no_word(alloc, call))),
-    };
-    Ok(with_lines(alloc, text.as_str(), &sink.into_inner())?)
+    let text = listed_by(alloc, &sink, call, &store, &base);
+    Ok(with_lines(alloc, text, "warned: ", sink.into_inner())?)
 }
 
 // Call, base and store; what is listed, and the log.

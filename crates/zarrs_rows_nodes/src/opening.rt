@@ -9,11 +9,10 @@ use zarrs_config::Config;
 use zarrs_meta::NodeMetadata;
 use zarrs_node::{Node, build_node_tree, build_node_tree_counted, direct_children_from_flat};
 use zarrs_path::NodePath;
-use zarrs_rows_documents::said;
 use zarrs_rows_fixtures::{
     ANY, config_of, forest_text, metadata_at, no_word, policy_of, version_of, with_block,
 };
-use zarrs_rows_table::{check_rows, fields};
+use zarrs_rows_table::{check_rows, fields, said};
 use zarrs_store::MemoryStore;
 
 // ---- trees of pairs

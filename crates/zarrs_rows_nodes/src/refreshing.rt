@@ -9,9 +9,8 @@ use zarrs_block::{ConsolidatedMetadataMetadata, NodeCreateError};
 use zarrs_meta::{GroupMetadata, GroupMetadataV3, NodeMetadata};
 use zarrs_node::{Node, get_child_nodes, laws, refresh_block};
 use zarrs_path::NodePath;
-use zarrs_rows_documents::{A3, G3, said};
 use zarrs_rows_fixtures::{ANY, entries_of, key_of, keys_text};
-use zarrs_rows_table::{check_rows, fields};
+use zarrs_rows_table::{A3, G3, check_rows, fields, said};
 use zarrs_store::{
     ListableStorageTraits, MemoryStore, ReadableStorageTraits, StorageError, WritableStorageTraits,
 };

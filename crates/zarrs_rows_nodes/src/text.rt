@@ -7,9 +7,8 @@ use zarrs_block::NodeCreateError;
 use zarrs_meta::{GroupMetadata, GroupMetadataV3, NodeMetadata};
 use zarrs_node::{ListedNodes, Node};
 use zarrs_path::NodePath;
-use zarrs_rows_documents::said;
 use zarrs_rows_fixtures::{ANY, listed_in};
-use zarrs_rows_table::check_rows;
+use zarrs_rows_table::{check_rows, said};
 
 // All that is listed of a store.
 fn all_of(alloc: Global, documents: &str) -> Result<ListedNodes, NodeCreateError> {

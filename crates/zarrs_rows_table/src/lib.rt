@@ -1,11 +1,14 @@
-//! Tables of rows, for tests: a text with a row a line, an arrow `=>` between what a call is given and the text that it has to answer.
+//! What all tests share: tables of rows, documents, and what a call answers as a text.
 //!
-//! A table is data: a test is one call, and its rows cost the prover nothing.
+//! A table is a text with a row a line, an arrow `=>` between what a call is given and the text that it has to answer. It is data: a test
+//! is one call, and its rows cost the prover nothing.
 #![tactic(auto)]
 
+mod answers;
 #[cfg(test)]
 mod tests;
 
+pub use answers::{A2, A3, G2, G3, made, printed, said, with_lines};
 use std::alloc::{AllocError, Global};
 use std::fmt::Debug;
 use std::test::Fail;

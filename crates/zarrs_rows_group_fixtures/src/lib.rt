@@ -1,14 +1,15 @@
 //! Groups with blocks, and the calls on groups that change a store, for tests.
 //!
 //! Generic helpers hold the groups and the blocks, so that no test drops them itself.
+#![tactic(auto)]
 
 use std::alloc::{AllocError, Global};
 use zarrs_block::{ConsolidatedMetadata, ConsolidatedMetadataMetadata, NodeCreateError};
 use zarrs_config::{Config, GroupMetadataOptions, MetadataConvertVersion, MetadataEraseVersion};
 use zarrs_group::{Group, GroupCreateError};
 use zarrs_meta::{GroupMetadata, GroupMetadataV3, NodeMetadata};
-use zarrs_rows_documents::G3;
 use zarrs_rows_fixtures::{A3_SQUARE, both};
+use zarrs_rows_table::G3;
 use zarrs_store::{MetadataFault, StorageError, WritableStorageTraits};
 
 /// The fault of a document as a refusal.
@@ -19,12 +20,8 @@ pub fn refused(alloc: Global, fault: MetadataFault) -> GroupCreateError {
     }
 }
 
-// The version 3 group that a document is, at a path.
-pub(crate) fn group_of(
-    alloc: Global,
-    path: &str,
-    document: &str,
-) -> Result<Group, GroupCreateError> {
+/// The version 3 group that a document is, at a path.
+pub fn group_of(alloc: Global, path: &str, document: &str) -> Result<Group, GroupCreateError> {
     match GroupMetadataV3::from_bytes(alloc, document.as_bytes()) {
         Ok(metadata) => {
             Group::new_with_metadata(alloc, path, GroupMetadata::V3(metadata), &Config::new())
@@ -60,8 +57,8 @@ fn put_node(
     }
 }
 
-// The block with these documents at these keys.
-pub(crate) fn block_of(
+/// The block with these documents at these keys.
+pub fn block_of(
     alloc: Global,
     documents: &[(&str, &str)],
 ) -> Result<ConsolidatedMetadata, GroupCreateError> {
@@ -70,11 +67,11 @@ pub(crate) fn block_of(
     Ok(ConsolidatedMetadata { metadata })
 }
 
-// A group after a block was set, or removed, and what that call answers.
-pub(crate) type Set = (Group, Result<(), NodeCreateError>);
+/// A group after a block was set, or removed, and what that call answers.
+pub type Set = (Group, Result<(), NodeCreateError>);
 
-// A group after a call on it, where the call succeeded.
-pub(crate) fn changed(
+/// A group after a call on it, where the call succeeded.
+pub fn changed(
     alloc: Global,
     made: Result<Set, GroupCreateError>,
 ) -> Result<Group, GroupCreateError> {
@@ -85,8 +82,8 @@ pub(crate) fn changed(
     }
 }
 
-// A group once a block was set, or removed, and what that call answers.
-pub(crate) fn set(mut group: Group, alloc: Global, block: Option<ConsolidatedMetadata>) -> Set {
+/// A group once a block was set, or removed, and what that call answers.
+pub fn set(mut group: Group, alloc: Global, block: Option<ConsolidatedMetadata>) -> Set {
     let answer = match group.set_consolidated_metadata(alloc, block) {
         Ok(_) => Ok(()),
         Err(error) => Err(error),
@@ -94,8 +91,8 @@ pub(crate) fn set(mut group: Group, alloc: Global, block: Option<ConsolidatedMet
     (group, answer)
 }
 
-// A group with a block of these documents set, and what the call that set it answers.
-pub(crate) fn set_in(
+/// A group with a block of these documents set, and what the call that set it answers.
+pub fn set_in(
     alloc: Global,
     group: Result<Group, GroupCreateError>,
     block: &[(&str, &str)],
@@ -113,8 +110,8 @@ pub fn with_block(
     changed(alloc, set_in(alloc, group, block))
 }
 
-// The group without attributes at a path, with a block set.
-pub(crate) fn group_with(
+/// The group without attributes at a path, with a block set.
+pub fn group_with(
     alloc: Global,
     path: &str,
     block: &[(&str, &str)],

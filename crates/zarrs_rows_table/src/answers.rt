@@ -16,10 +16,6 @@ pub const G2: &str = r#"{"zarr_format":2}"#;
 pub const A2: &str =
     r#"{"chunks":[1],"compressor":null,"dtype":"<f8","fill_value":"NaN","filters":null,"order":"C","shape":[1],"zarr_format":2}"#;
 
-/// The array of version 2 as it is written.
-pub const A2_WRITTEN: &str =
-    r#"{"chunks":[1],"compressor":null,"dimension_separator":".","dtype":"<f8","fill_value":"NaN","filters":null,"order":"C","shape":[1],"zarr_format":2}"#;
-
 /// An array of version 3 with the shape `[1]`, which is its chunks' shape too.
 pub const A3: &str =
     r#"{"chunk_grid":{"configuration":{"chunk_shape":[1]},"name":"regular"},"chunk_key_encoding":{"configuration":{"separator":"/"},"name":"default"},"codecs":[{"configuration":{"endian":"little"},"name":"bytes"}],"data_type":"float32","fill_value":0,"node_type":"array","shape":[1],"zarr_format":3}"#;
@@ -46,4 +42,17 @@ pub fn printed<T: Display>(value: &T, alloc: Global) -> Result<String, AllocErro
 /// An answer that is no error.
 pub fn made<T>(value: T) -> Result<T, AllocError> {
     Ok(value)
+}
+
+/// A text and, where a log has lines, a mark and the lines behind it.
+pub fn with_lines(
+    alloc: Global,
+    text: Result<String, AllocError>,
+    mark: &str,
+    lines: Vec<u8>,
+) -> Result<String, AllocError> {
+    let text = text?;
+    let lines = String::from_utf8_lossy(alloc, &lines)?;
+    let mark = if lines.is_empty() { "" } else { mark };
+    format!(in alloc; "{text}{mark}{lines}")
 }
