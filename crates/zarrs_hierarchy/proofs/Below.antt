@@ -7,8 +7,6 @@ use Rattle.std.specs.Map.{keys_of}
 use Rattle.std.specs.Ordering.{ordering_then, ordering_reverse, is_lt}
 use Rattle.std.specs.Cmp.{tied_itself}
 use Rattle.std.specs.Cmp.Lexicographic.{nat_list_cmp_total}
-use Rattle.std.specs.declared.ops.Bound.TheVariants.{Excluded, Unbounded}
-use Rattle.std.specs.BTreeMap.Range.{entries_between, range_contains}
 use Rattle.std.proofs.lemmas.Bool.{false_from_ne_true, cases_Bool}
 use Rattle.std.proofs.lemmas.List.Kept.{AllPairs-filter}
 use Rattle.std.proofs.lemmas.Map.Lookups.{exact_bytes}
@@ -24,7 +22,8 @@ use Rattle.zarrs_node.proofs.Graft.{Contains-first, Contains-cons, path_cmp-appe
 use Rattle.zarrs_node.proofs.Order.{contains_cases}
 use Rattle.zarrs_node.proofs.LawProofs.{apart}
 use Rattle.zarrs_hierarchy.specs.Held.{Pairs}
-use Rattle.zarrs_hierarchy.specs.Tree.{is_below, pairs_below}
+use Rattle.zarrs_hierarchy.specs.Tree.{is_below, pairs_behind, pairs_below}
+use Rattle.zarrs_hierarchy.proofs.Maps.{sorted}
 
 -- nothing is below the root's own path
 not_below : (b : Path) → IsBelow b [] → ⊥
@@ -121,57 +120,53 @@ pub left_less : (b p : Path) (es : Pairs) → IsStrictlySortedBy path_cmp (b ∷
 unfolding IsStrictlySortedBy
 left_less b p es h = (h.0.1, h.1.1)
 
--- ---- the range behind b
-
--- the pairs behind b
-abbrev pub behind : Path → Pairs → Pairs
-behind b es = entries_between path_cmp (Excluded b) Unbounded es
+-- ---- the pairs behind b
 
 lt_from : (o : Ordering) → is_lt o ≡ true → o ≡ Less
 lt_from Less e = refl
 lt_from Equal e = absurd (true≢false (sym e))
 lt_from Greater e = absurd (true≢false (sym e))
 
-more_above : (b p : Path) (es : Pairs) → AllByRecursion (λ q. path_cmp p q ≡ Less) (keys_of es) → AllByRecursion (λ q. path_cmp p q ≡ Less) (keys_of (behind b es))
+more_above : (b p : Path) (es : Pairs) → AllByRecursion (λ q. path_cmp p q ≡ Less) (keys_of es) → AllByRecursion (λ q. path_cmp p q ≡ Less) (keys_of (pairs_behind b es))
 more_above b p [] h = tt
 more_above b p (e ∷ es) h = by (is_lt (path_cmp b e.0)) refl (more_above b p es h.1)
   where
-    by : (t : Bool) → is_lt (path_cmp b e.0) ≡ t → AllByRecursion (λ q. path_cmp p q ≡ Less) (keys_of (behind b es)) → AllByRecursion (λ q. path_cmp p q ≡ Less) (keys_of (behind b (e ∷ es)))
+    by : (t : Bool) → is_lt (path_cmp b e.0) ≡ t → AllByRecursion (λ q. path_cmp p q ≡ Less) (keys_of (pairs_behind b es)) → AllByRecursion (λ q. path_cmp p q ≡ Less) (keys_of (pairs_behind b (e ∷ es)))
     by true s again = rw s (h.0, again)
     by false s again = rw s again
 
-all_behind : (b : Path) (es : Pairs) → AllByRecursion (λ q. path_cmp b q ≡ Less) (keys_of (behind b es))
+all_behind : (b : Path) (es : Pairs) → AllByRecursion (λ q. path_cmp b q ≡ Less) (keys_of (pairs_behind b es))
 all_behind b [] = tt
 all_behind b (e ∷ es) = by (is_lt (path_cmp b e.0)) refl (all_behind b es)
   where
-    by : (t : Bool) → is_lt (path_cmp b e.0) ≡ t → AllByRecursion (λ q. path_cmp b q ≡ Less) (keys_of (behind b es)) → AllByRecursion (λ q. path_cmp b q ≡ Less) (keys_of (behind b (e ∷ es)))
+    by : (t : Bool) → is_lt (path_cmp b e.0) ≡ t → AllByRecursion (λ q. path_cmp b q ≡ Less) (keys_of (pairs_behind b es)) → AllByRecursion (λ q. path_cmp b q ≡ Less) (keys_of (pairs_behind b (e ∷ es)))
     by true s again = rw s (lt_from (path_cmp b e.0) s, again)
     by false s again = rw s again
 
-still_sorted : (b : Path) (es : Pairs) → IsStrictlySortedBy path_cmp (keys_of es) → IsStrictlySortedBy path_cmp (keys_of (behind b es))
+still_sorted : (b : Path) (es : Pairs) → IsStrictlySortedBy path_cmp (keys_of es) → IsStrictlySortedBy path_cmp (keys_of (pairs_behind b es))
 unfolding IsStrictlySortedBy
 still_sorted b [] h = tt
 still_sorted b (e ∷ es) h = by (is_lt (path_cmp b e.0)) refl (still_sorted b es h.1)
   where
-    by : (t : Bool) → is_lt (path_cmp b e.0) ≡ t → IsStrictlySortedBy path_cmp (keys_of (behind b es)) → IsStrictlySortedBy path_cmp (keys_of (behind b (e ∷ es)))
+    by : (t : Bool) → is_lt (path_cmp b e.0) ≡ t → IsStrictlySortedBy path_cmp (keys_of (pairs_behind b es)) → IsStrictlySortedBy path_cmp (keys_of (pairs_behind b (e ∷ es)))
     by true s again = rw s (more_above b e.0 es h.0, again)
     by false s again = rw s again
 
 -- the pairs behind b ascend from b on
-pub behind_sorted : (b : Path) (es : Pairs) → IsStrictlySortedBy path_cmp (keys_of es) → IsStrictlySortedBy path_cmp (b ∷ keys_of (behind b es))
+pub behind_sorted : (b : Path) (es : Pairs) → IsStrictlySortedBy path_cmp (keys_of es) → IsStrictlySortedBy path_cmp (b ∷ keys_of (pairs_behind b es))
 unfolding IsStrictlySortedBy
 behind_sorted b es h = (all_behind b es, still_sorted b es h)
 
 -- a path stands behind each that it is below
-stands_behind : (b p : Path) → IsBelow b p → path_cmp b p ≡ Less
+pub stands_behind : (b p : Path) → IsBelow b p → path_cmp b p ≡ Less
 stands_behind b p (n, ns, e) = ap (path_cmp b) e ∙ ap (λ x. path_cmp x (b ++ n ∷ ns)) (sym (append-nil b)) ∙ path_cmp-append b [] (n ∷ ns)
 
 -- and have all that is below b
-pub behind_has : (b : Path) (es : Pairs) → pairs_below b (behind b es) ≡ pairs_below b es
+pub behind_has : (b : Path) (es : Pairs) → pairs_below b (pairs_behind b es) ≡ pairs_below b es
 behind_has b [] = refl
 behind_has b (e ∷ es) = by (is_lt (path_cmp b e.0)) refl (is_below b e.0) refl (behind_has b es)
   where
-    by : (t : Bool) → is_lt (path_cmp b e.0) ≡ t → (o : Bool) → is_below b e.0 ≡ o → pairs_below b (behind b es) ≡ pairs_below b es → pairs_below b (behind b (e ∷ es)) ≡ pairs_below b (e ∷ es)
+    by : (t : Bool) → is_lt (path_cmp b e.0) ≡ t → (o : Bool) → is_below b e.0 ≡ o → pairs_below b (pairs_behind b es) ≡ pairs_below b es → pairs_below b (pairs_behind b (e ∷ es)) ≡ pairs_below b (e ∷ es)
     by true s true u again = rw (s, u) (ap (λ x. e ∷ x) again)
     by true s false u again = rw (s, u) again
     by false s false u again = rw (s, u) again
@@ -235,9 +230,9 @@ pub lines_end : (b : Path) (left : Pairs) (before whole : List ℕ) → left ≡
 lines_end b left before whole is h = sym (append-nil before) ∙ ap (λ xs. before ++ lines b (pairs_below b xs)) (sym is) ∙ h
 
 -- at first all that is below b is left
-pub lines_start : (b : Path) (es left : Pairs) (before : List ℕ) → IsStrictlySortedBy path_cmp (keys_of es) → left ≡ behind b es
+pub lines_start : (b : Path) (es left : Pairs) (before : List ℕ) → Ascend es → left ≡ pairs_behind b es
     → IsStrictlySortedBy path_cmp (b ∷ keys_of left) × (before ++ lines b (pairs_below b left) ≡ before ++ lines b (pairs_below b es))
-lines_start b es left before h is = rw is (behind_sorted b es h, ap (λ xs. before ++ lines b xs) (behind_has b es))
+lines_start b es left before up is = rw is (behind_sorted b es (sorted es up), ap (λ xs. before ++ lines b xs) (behind_has b es))
 
 -- the root is not below itself, and each other path is
 pub skips_root : (p : Path) (m : NodeMetadata) (es : Pairs) → p ≡ [] → pairs_below [] ((p, m) ∷ es) ≡ pairs_below [] es

@@ -1,4 +1,5 @@
 pub mod Maps
+pub mod Places
 pub mod Below
 pub mod Depth
 pub mod Opening

@@ -1,7 +1,8 @@
 -- Zarr core specification 3.1, "Hierarchy": a hierarchy as text.
 use Rattle.std.specs.Prelude.{◌≡◌, ℕ, Bool, true, false, ◌&&◌, List, [], ◌∷◌, ◌++◌, Contains, bytes_eq}
 use Rattle.std.specs.List.{filter}
-use Rattle.zarrs_path.specs.Paths.{Path, path_text}
+use Rattle.std.specs.Ordering.{is_lt}
+use Rattle.zarrs_path.specs.Paths.{Path, path_cmp, path_text}
 use Rattle.zarrs_node.specs.Lines.{lines, IsLines}
 use Rattle.zarrs_hierarchy.specs.Held.{Pairs}
 
@@ -20,6 +21,10 @@ is_below (m ∷ b) (n ∷ p) = bytes_eq m n && is_below b p
 -- the pairs below b, as they stand
 abbrev pub pairs_below : Path → Pairs → Pairs
 pairs_below b h = filter (λ e. is_below b e.0) h
+
+-- the pairs behind b in the order of paths, as they stand
+abbrev pub pairs_behind : Path → Pairs → Pairs
+pairs_behind b h = filter (λ e. is_lt (path_cmp b e.0)) h
 
 -- the text of a hierarchy as it is shown: the text of the root and a newline, and behind them the lines of the pairs below the root
 abbrev pub shown : Pairs → List ℕ

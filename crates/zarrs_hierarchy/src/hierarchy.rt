@@ -1,12 +1,10 @@
 //! A hierarchy: nodes by their paths.
-ghost use Rattle.std.specs.Prelude.{◌≡◌, ◌∷◌, [], length, IfOk, option_copied, Contains};
-ghost use Rattle.std.specs.BTreeMap.{IsFromIterResult};
-ghost use Rattle.zarrs_path.specs.Paths.{path_cmp};
+ghost use Rattle.std.specs.Prelude.{◌≡◌, ◌∷◌, [], length, IfErr, IfOk, option_copied};
 ghost use Rattle.zarrs_form.specs.Forms.{is_nil};
 ghost use Rattle.zarrs_meta.specs.declared.node.NodeMetadata.TheVariants.{Array};
 ghost use Rattle.zarrs_node.specs.Order.{Ascend};
-ghost use Rattle.zarrs_block.specs.Expanded.{HaveOwnPaths};
-ghost use Rattle.zarrs_hierarchy.specs.Held.{Holds, found};
+ghost use Rattle.zarrs_hierarchy.specs.Held.{IsAt, IsGap, found};
+ghost use Rattle.zarrs_hierarchy.specs.Tree.{pairs_behind};
 
 use std::alloc::{AllocError, Global};
 use std::collections::BTreeMap;
@@ -20,14 +18,14 @@ use zarrs_path::NodePath;
 /// Source: `zarrs::hierarchy::HierarchyCreateError`.
 pub type HierarchyCreateError = NodeCreateError;
 
-/// Nodes of a Zarr hierarchy: the metadata at each of some paths.
+/// Nodes of a Zarr hierarchy: the metadata at each of some paths. They stand in the order of paths, and one is found by halving.
 ///
 /// Contracts see the list of the paths with their metadata, in the order of paths.
 ///
 /// Source: `zarrs::hierarchy::Hierarchy`.
 #[derive(Debug, Drop)]
 pub struct Hierarchy {
-    pub(crate) nodes: BTreeMap<NodePath, NodeMetadata>,
+    pub(crate) nodes: Vec<(NodePath, NodeMetadata)>,
 }
 
 impl Model for Hierarchy {
@@ -35,15 +33,29 @@ impl Model for Hierarchy {
     ghost use Rattle.std.specs.Coded.{codes, coded_list, coded×, coded_ℕ};
     ghost use Rattle.zarrs_meta.specs.declared.node.NodeMetadata.{NodeMetadata};
     ghost use Rattle.zarrs_meta.specs.contracts.node.NodeMetadata as e;
+    ghost use Rattle.zarrs_node.specs.Order.{Ascend};
 
     ghost Value = { List (List (List ℕ) × NodeMetadata) };
 
     ghost coded = { coded_list (coded× (coded_list (coded_list coded_ℕ)) (Prim.hlevel (codes, e.the_row.coded))) };
 
-    ghost view = { λ a. a.nodes.entries };
+    ghost view = { λ a. a.nodes.items };
+
+    ghost invariant = { λ a. Ascend a.nodes.items };
 }
 
 impl Hierarchy {
+    /// The hierarchy without nodes.
+    ///
+    /// Source: `zarrs::hierarchy::Hierarchy::new`.
+    pub fn new(alloc: Global) -> Hierarchy
+        ensures { result ≡ [] }
+    {
+        Hierarchy {
+            nodes: Vec::new(alloc),
+        }
+    }
+
     /// The hierarchy of one array.
     ///
     /// # Errors
@@ -59,24 +71,9 @@ impl Hierarchy {
         ensures { IfOk result (λ hierarchy. hierarchy ≡ (path, Array array) ∷ []) }
     {
         let array = BoxedArray::new(alloc, array)?;
-        let mut nodes = BTreeMap::new(alloc);
-        drop(nodes.insert(path, NodeMetadata::Array(array))?);
+        let mut nodes = Vec::new(alloc);
+        nodes.push((path, NodeMetadata::Array(array)))?;
         Ok(Hierarchy { nodes })
-    }
-
-    // The hierarchy of a base and of the nodes below it.
-    pub(crate) fn from_nodes(
-        alloc: Global,
-        base: NodePath,
-        metadata: NodeMetadata,
-        mut nodes: Vec<(NodePath, NodeMetadata)>,
-    ) -> Result<Hierarchy, AllocError>
-        ensures { IfOk result (λ hierarchy. HaveOwnPaths ((base, metadata) ∷ nodes.items) → Holds hierarchy (Contains ((base, metadata) ∷ nodes.items))) }
-    {
-        nodes.insert(0, (base, metadata))?;
-        Ok(Hierarchy {
-            nodes: map_of(alloc, nodes)?,
-        })
     }
 
     /// The number of nodes.
@@ -97,16 +94,35 @@ impl Hierarchy {
     pub fn get(&self, path: &NodePath) -> Option<&NodeMetadata>
         ensures { option_copied result ≡ found self.now path.now }
     {
-        self.nodes.get(path)
+        match place_of(&self.nodes, path) {
+            Ok(place) => Some(&self.nodes[place].1),
+            Err(_gap) => None,
+        }
     }
 
-    /// The paths with their metadata, as a map.
-    pub fn as_map(&self) -> &BTreeMap<NodePath, NodeMetadata>
-        ensures pairs { result.now.entries ≡ self.now }
+    /// The paths with their metadata, in the order of paths.
+    pub fn nodes(&self) -> &[(NodePath, NodeMetadata)]
+        ensures pairs { result.now ≡ self.now }
         ensures ordered { Ascend self.now }
     {
-        let _len = self.nodes.len();
         &self.nodes
+    }
+
+    /// The paths with their metadata, as a map of copies.
+    ///
+    /// # Errors
+    ///
+    /// `AllocError` where there is no memory for the map.
+    pub fn as_map(&self, alloc: Global) -> Result<BTreeMap<NodePath, NodeMetadata>, AllocError>
+        ensures pairs { IfOk result (λ map. map.entries ≡ self.now) }
+        ensures ordered { Ascend self.now }
+    {
+        let mut map = BTreeMap::new(alloc);
+        for (path, metadata) in &self.nodes {
+            let path = path.try_clone(alloc)?;
+            drop(map.insert(path, metadata.try_clone(alloc)?)?);
+        }
+        Ok(map)
     }
 
     /// A copy that equals its source.
@@ -119,21 +135,31 @@ impl Hierarchy {
     pub fn try_clone(&self, alloc: Global) -> Result<Hierarchy, AllocError>
         ensures { IfOk result (λ copy. copy ≡ self.now) }
     {
-        let mut nodes = BTreeMap::new(alloc);
+        let mut nodes = Vec::with_capacity(alloc, self.nodes.len())?;
         for (path, metadata) in &self.nodes {
-            let path = path.try_clone(alloc)?;
-            drop(nodes.insert(path, metadata.try_clone(alloc)?)?);
+            nodes.push((path.try_clone(alloc)?, metadata.try_clone(alloc)?))?;
         }
         Ok(Hierarchy { nodes })
     }
+
+    // The nodes behind a path in the order of paths.
+    pub(crate) fn behind(&self, path: &NodePath) -> &[(NodePath, NodeMetadata)]
+        ensures behind { result.now ≡ pairs_behind path.now self.now }
+        ensures ordered { Ascend self.now }
+    {
+        let start = match place_of(&self.nodes, path) {
+            Ok(place) => place + 1,
+            Err(gap) => gap,
+        };
+        &self.nodes.as_slice()[start..]
+    }
 }
 
-// The map of pairs, where of two with one path the later stays.
-fn map_of(
-    alloc: Global,
-    nodes: Vec<(NodePath, NodeMetadata)>,
-) -> Result<BTreeMap<NodePath, NodeMetadata>, AllocError>
-    ensures { IfOk result (IsFromIterResult path_cmp nodes.items) }
+// Where the path stands, or where it would stand.
+fn place_of(nodes: &[(NodePath, NodeMetadata)], path: &NodePath) -> Result<usize, usize>
+    requires ascending { Ascend nodes.now }
+    ensures found { IfOk result (IsAt nodes.now path.now) }
+    ensures absent { IfErr result (IsGap nodes.now path.now) }
 {
-    nodes.into_iter().collect(alloc)
+    nodes.binary_search_by(|node| node.0.cmp(path))
 }

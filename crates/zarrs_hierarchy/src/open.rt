@@ -1,7 +1,6 @@
 //! Hierarchies of what a store has at a path and below it.
-ghost use Rattle.std.specs.Prelude.{◌≡◌, true, IfOk, IfErr, ◌⊎◌};
+ghost use Rattle.std.specs.Prelude.{◌≡◌, ◌∷◌, [], true, IfOk, IfErr, ◌⊎◌};
 ghost use Rattle.zarrs_meta.specs.declared.node.NodeMetadata.TheVariants.{Group as group_node};
-ghost use Rattle.zarrs_store.specs.Contents.{Lists};
 ghost use Rattle.zarrs_block.specs.Refused.{IsExcused};
 ghost use Rattle.zarrs_node.specs.Nodes.{Nodes, Bad, ShowsBad};
 ghost use Rattle.zarrs_node.specs.Opened.{IsCleanNode, RefusesBelow, RefusesOpening};
@@ -10,12 +9,12 @@ ghost use Rattle.zarrs_hierarchy.specs.Opened.{PairsOf, IsOpened};
 
 use crate::hierarchy::{Hierarchy, HierarchyCreateError};
 use log::Log;
-use std::alloc::Global;
+use std::alloc::{AllocError, Global};
 use zarrs_block::expand_consolidated_metadata;
 use zarrs_config::{Config, MetadataRetrieveVersion};
 use zarrs_group::Group;
 use zarrs_meta::NodeMetadata;
-use zarrs_node::{Node, consolidated_metadata_at, get_all_nodes_of};
+use zarrs_node::{Node, consolidated_metadata_at, walk_child_nodes};
 use zarrs_path::NodePath;
 use zarrs_store::{ListableStorageTraits, ReadableStorageTraits};
 
@@ -81,8 +80,8 @@ impl Hierarchy {
     {
         let path = NodePath::new(alloc, path)?;
         let metadata = Node::get_metadata(alloc, storage, &path, version)?;
-        let nodes = nodes_below(log, alloc, storage, &path, &metadata, version, config)?;
-        Ok(Hierarchy::from_nodes(alloc, path, metadata, nodes)?)
+        let nodes = nodes_from(log, alloc, storage, &path, metadata, version, config)?;
+        Ok(Hierarchy { nodes })
     }
 
     /// The hierarchy of a group and of the nodes that a listing finds below it, by the documents of version 3 and where there is none
@@ -105,34 +104,55 @@ impl Hierarchy {
     {
         let base = group.path();
         let version = MetadataRetrieveVersion::Default;
-        let nodes = get_all_nodes_of(log, alloc, storage, base, &version)?;
-        let path = base.try_clone(alloc)?;
         let metadata = group.metadata().try_clone(alloc)?;
-        let hierarchy = Hierarchy::from_nodes(alloc, path, NodeMetadata::Group(metadata), nodes)?;
-        Ok(hierarchy)
+        let mut nodes = base_alone(alloc, base, NodeMetadata::Group(metadata))?;
+        walk_child_nodes(log, alloc, storage, base, true, &version, &mut nodes)?;
+        Ok(Hierarchy { nodes })
     }
 }
 
-// The nodes below a path that has these metadata.
-fn nodes_below<L: Log, S: ReadableStorageTraits + ListableStorageTraits>(
+// The node at a path, which has these metadata, and behind it the nodes below.
+fn nodes_from<L: Log, S: ReadableStorageTraits + ListableStorageTraits>(
     log: &L,
     alloc: Global,
     storage: &S,
     path: &NodePath,
-    metadata: &NodeMetadata,
+    metadata: NodeMetadata,
     version: &MetadataRetrieveVersion,
     config: &Config,
 ) -> Result<Vec<(NodePath, NodeMetadata)>, HierarchyCreateError>
-    ensures pairs { IfOk result (λ nodes. Lists (PairsOf (S.contents storage.now) version.now config.now.use_consolidated path.now metadata.now) nodes.items) }
-    ensures clean { IfOk result (λ _. IsCleanNode (S.contents storage.now) version.now config.now.use_consolidated path.now metadata.now) }
-    ensures refused { IfErr result (λ e. IsExcused (S.can_fail storage.now) e ⊎ RefusesBelow (S.contents storage.now) version.now config.now.use_consolidated path.now metadata.now e) }
+    ensures holds { IfOk result (λ nodes. Holds nodes.items (WithBase path.now metadata (PairsOf (S.contents storage.now) version.now config.now.use_consolidated path.now metadata))) }
+    ensures clean { IfOk result (λ _. IsCleanNode (S.contents storage.now) version.now config.now.use_consolidated path.now metadata) }
+    ensures refused { IfErr result (λ e. IsExcused (S.can_fail storage.now) e ⊎ RefusesBelow (S.contents storage.now) version.now config.now.use_consolidated path.now metadata e) }
 {
     if !metadata.is_group() {
-        return Ok(Vec::new(alloc));
+        return Ok(base_alone(alloc, path, metadata)?);
     }
     let policy = config.use_consolidated_metadata();
-    match consolidated_metadata_at(alloc, storage, path, metadata, policy)? {
-        Some(block) => expand_consolidated_metadata(alloc, path, block),
-        None => get_all_nodes_of(log, alloc, storage, path, version),
+    let block = consolidated_metadata_at(alloc, storage, path, &metadata, policy)?;
+    let mut nodes = base_alone(alloc, path, metadata)?;
+    match block {
+        Some(block) => {
+            let mut entries = expand_consolidated_metadata(alloc, path, block)?;
+            nodes.append(&mut entries)?;
+            Ok(nodes)
+        }
+        None => {
+            walk_child_nodes(log, alloc, storage, path, true, version, &mut nodes)?;
+            Ok(nodes)
+        }
     }
+}
+
+// A path with its metadata.
+fn base_alone(
+    alloc: Global,
+    path: &NodePath,
+    metadata: NodeMetadata,
+) -> Result<Vec<(NodePath, NodeMetadata)>, AllocError>
+    ensures { IfOk result (λ nodes. nodes.items ≡ (path.now, metadata) ∷ []) }
+{
+    let mut nodes = Vec::new(alloc);
+    nodes.push((path.try_clone(alloc)?, metadata))?;
+    Ok(nodes)
 }

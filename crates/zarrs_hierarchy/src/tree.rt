@@ -10,7 +10,6 @@ ghost use Rattle.zarrs_hierarchy.specs.Tree.{IsTreeOf, pairs_below, shown};
 use crate::hierarchy::Hierarchy;
 use std::alloc::{AllocError, Global};
 use std::fmt;
-use std::ops::Bound;
 use zarrs_meta::NodeMetadata;
 use zarrs_node::NodeLine;
 use zarrs_path::NodePath;
@@ -27,7 +26,7 @@ impl Hierarchy {
         ensures tree { IfOk result (λ text. IsTreeOf self.now [] (string_bytes text)) }
         ensures shown { IfOk result (λ text. string_bytes text ≡ shown self.now) }
     {
-        let _ordered = self.as_map();
+        let _ordered = self.nodes();
         let text = format!(in alloc; "{self}")?;
         Ok(text)
     }
@@ -57,8 +56,7 @@ impl Hierarchy {
         ensures ordered { Ascend self.now }
     {
         let above = depth(base);
-        let behind = (Bound::Excluded(base), Bound::Unbounded);
-        for (path, metadata) in self.nodes.range(behind) {
+        for (path, metadata) in self.behind(base) {
             if !path.is_below(base) {
                 return Ok(());
             }

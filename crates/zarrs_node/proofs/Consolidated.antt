@@ -1,26 +1,20 @@
 -- Nodes whose metadata are put into a block.
-use Rattle.std.proofs.Common.{◌≡◌, ℕ, ◌+◌, ◌<◌, ⊎_elim, List, [], ◌∷◌, ◌++◌, length, get_or, take, drop, refl, sym, ap, subst, ◌∙◌, append_assoc, length-append, arith, Contains}
-use Rattle.std.proofs.lemmas.List.{take_more, drop_more, take-append-drop}
-use Rattle.std.proofs.lemmas.List.Elements.{Contains-append_left, Contains-append_right, Contains-append_cases}
+use Rattle.std.proofs.Common.{◌≡◌, ℕ, ⊎_elim, List, [], ◌∷◌, ◌++◌, sym, ap, subst, ◌∙◌, append_assoc, arith, Contains}
+use Rattle.std.proofs.lemmas.List.Elements.{Contains-append_cases}
 use Rattle.zarrs_path.specs.Paths.{Path, IsPath, IsBelow}
 use Rattle.zarrs_meta.specs.declared.node.NodeMetadata.{NodeMetadata}
 use Rattle.zarrs_block.specs.Block.{Block, IsAscending, IsBlockOf, put}
 use Rattle.zarrs_node.specs.declared.node.Node.{Node}
-use Rattle.zarrs_node.specs.Forest.{Forest, none, tree, graft, plant, pairs, forest, path_of, metadata_of, below_of, ArePlacedBelow}
+use Rattle.zarrs_node.specs.Forest.{Forest, none, tree, pairs, path_of, metadata_of, ArePlacedBelow}
+use Rattle.zarrs_node.specs.Stops.{Stop, stops, stop_of}
 use Rattle.zarrs_node.specs.Latest.{IsLatest}
 use Rattle.zarrs_node.specs.Consolidated.{AreBelow, ArePaths, text_beyond, put_all}
-use Rattle.zarrs_node.proofs.Graft.{plant_out, pairs-graft, Contains-first, Contains-cons}
+use Rattle.zarrs_node.proofs.Graft.{Contains-first, Contains-cons}
 use Rattle.zarrs_node.proofs.Order.{contains_cases}
-use Rattle.zarrs_node.proofs.Trees.{pairs_push}
-use Rattle.zarrs_node.proofs.Puts.{put_all-append, put_all_ascends, none_ascend}
+use Rattle.zarrs_node.proofs.Stops.{pairs_at, pairs_stops}
+use Rattle.zarrs_node.proofs.Puts.{put_all_ascends, none_ascend}
 use Rattle.zarrs_node.proofs.BlockTexts.{names_of}
 use Rattle.zarrs_node.proofs.PutsLatest.{latest_block}
-
--- the forest of two lists of nodes in a row
-forest-append : (xs ys : List Node) → forest (xs ++ ys) ≡ graft (forest xs) (forest ys)
-forest-append [] ys = refl
-forest-append (x ∷ xs) ys =
-    ap (plant x) (forest-append xs ys) ∙ plant_out x (graft (forest xs) (forest ys)) ∙ ap (λ f. graft f (forest ys)) (sym (plant_out x (forest xs)))
 
 -- a path below a child is below its parent
 below_child : (b p q : Path) (n : List ℕ) → p ≡ b ++ n ∷ [] → IsBelow p q → IsBelow b q
@@ -37,64 +31,40 @@ placed_below b (tree p m below after) h e in' = ⊎_elim
     (Contains-append_cases (pairs below) (pairs after) e rest))
     (contains_cases (p, m) (pairs below ++ pairs after) e in')
 
--- a node x at place i of ns
-module _ (ns : List Node) (i : ℕ) (x : Node) (lt : i < length ns) (is : x ≡ get_or ns i x) where
-  -- the nodes before x, x, and those after it
-  cut : ns ≡ take i ns ++ x ∷ drop (i + 1) ns
-  cut = sym (take-append-drop i ns) ∙ ap (λ l. take i ns ++ l) (drop_more ns i x lt ∙ ap (λ y. y ∷ drop (i + 1) ns) (sym is))
+-- a loop over the nodes ss that are ahead of a walk: they stand below b, they make with the block now what the pairs es make of the old one, and those have names only where these do
+pub record PutsAhead (b : Path) (old now : Block) (es : List (Path × NodeMetadata)) (ss : List Stop) : Type 0 where
+  pub below : AreBelow b (pairs_at ss)
+  pub puts : put_all b now (pairs_at ss) ≡ put_all b old es
+  pub valid : ArePaths (pairs_at ss) → ArePaths es
 
-  -- the pairs of x and of those below it
-  own : List (Path × NodeMetadata)
-  own = (path_of x, metadata_of x) ∷ pairs (below_of x)
+module _ (b : Path) where
+  -- where all nodes of a forest are ahead
+  pub puts_start : (old : Block) (f : Forest) (ss : List Stop) → ss ≡ stops 1 f → AreBelow b (pairs f) → PutsAhead b old old (pairs f) ss
+  puts_start old f ss all below =
+      let same : pairs_at ss ≡ pairs f = ap pairs_at all ∙ pairs_stops 1 f in
+      record { below = subst (AreBelow b) (sym same) below; puts = ap (put_all b old) same; valid = subst ArePaths same }
 
-  -- they stand between those of the nodes before x and of those after it
-  whole : pairs (forest ns) ≡ pairs (forest (take i ns)) ++ (own ++ pairs (forest (drop (i + 1) ns)))
-  unfolding own
-  whole =
-      ap (λ l. pairs (forest l)) cut ∙ ap pairs (forest-append (take i ns) (x ∷ drop (i + 1) ns)) ∙ pairs-graft (forest (take i ns)) (forest (x ∷ drop (i + 1) ns))
-      ∙ ap (λ f. pairs (forest (take i ns)) ++ pairs f) (plant_out x (forest (drop (i + 1) ns)))
+  module _ {old now : Block} {es : List (Path × NodeMetadata)} {ss : List Stop} (h : PutsAhead b old now es ss) where
+    -- the next node is below b
+    pub puts_low : (level : ℕ) (n : Node) (later : List Stop) → ss ≡ stop_of level n ∷ later → IsBelow b (path_of n)
+    puts_low level n later e = subst (λ l. AreBelow b (pairs_at l)) e h.below (path_of n, metadata_of n) (Contains-first (path_of n, metadata_of n) (pairs_at later))
 
-  -- so they are among those of ns
-  inside : (e : Path × NodeMetadata) → Contains ((path_of x, metadata_of x) ∷ pairs (below_of x)) e → Contains (pairs (forest ns)) e
-  unfolding own
-  inside e h = subst (λ l. Contains l e) (sym whole) (Contains-append_right (pairs (forest (take i ns))) (own ++ pairs (forest (drop (i + 1) ns))) e (Contains-append_left own (pairs (forest (drop (i + 1) ns))) e h))
+    -- the next node is put into the block
+    pub puts_turn : (level : ℕ) (n : Node) (later : List Stop) (new : Block) (k : List ℕ) (m : NodeMetadata) → ss ≡ stop_of level n ∷ later → IsPath (path_of n) → k ≡ text_beyond b (path_of n) → m ≡ metadata_of n
+        → new ≡ put k m now → PutsAhead b old new es later
+    puts_turn level n later new k m e own key same put_is = record {
+      below = λ d in'. subst (λ l. AreBelow b (pairs_at l)) e h.below d (Contains-cons (path_of n, metadata_of n) (pairs_at later) d in');
+      puts = ap (λ B. put_all b B (pairs_at later)) (put_is ∙ (λ j. put (key j) (same j) now)) ∙ ap (λ l. put_all b now (pairs_at l)) (sym e) ∙ h.puts;
+      valid = λ rest. h.valid (subst (λ l. ArePaths (pairs_at l)) (sym e)
+          (λ d in'. ⊎_elim (λ is. subst IsPath (ap (λ x. x.0) is) own) (λ l. rest d l) (contains_cases (path_of n, metadata_of n) (pairs_at later) d in')));
+    }
 
-  -- and those below x are fewer
-  pub fewer : length (pairs (below_of x)) < length (pairs (forest ns))
-  unfolding own
-  fewer =
-      let long = ap length whole in
-      let first = length-append (pairs (forest (take i ns))) (own ++ pairs (forest (drop (i + 1) ns))) in
-      let second = length-append own (pairs (forest (drop (i + 1) ns))) in
-      omega (arith, long, first, second)
-
-  module _ (b : Path) (below : AreBelow b (pairs (forest ns))) where
-    -- x is below b
-    pub own_below : IsBelow b (path_of x)
-    own_below = below (path_of x, metadata_of x) (inside (path_of x, metadata_of x) (Contains-first (path_of x, metadata_of x) (pairs (below_of x))))
-
-    -- and so are those below x
-    pub inner_below : AreBelow b (pairs (below_of x))
-    inner_below e h = below e (inside e (Contains-cons (path_of x, metadata_of x) (pairs (below_of x)) e h))
-
-  -- the pairs before x, and its own
-  pairs_next : pairs (forest (take (i + 1) ns)) ≡ pairs (forest (take i ns)) ++ (path_of x, metadata_of x) ∷ pairs (below_of x)
-  pairs_next = ap (λ l. pairs (forest l)) (take_more ns i x lt ∙ ap (λ y. take i ns ++ y ∷ []) (sym is)) ∙ pairs_push (take i ns) x
-
-  -- x put into the block, and then those below it
-  pub put_next : (b : Path) (old now one new : Block) (k : List ℕ) (m : NodeMetadata) → k ≡ text_beyond b (path_of x) → m ≡ metadata_of x
-      → now ≡ put_all b old (pairs (forest (take i ns))) → one ≡ put k m now → new ≡ put_all b one (pairs (below_of x)) → new ≡ put_all b old (pairs (forest (take (i + 1) ns)))
-  put_next b old now one new k m key same done own below =
-      below
-      ∙ ap (λ B. put_all b B (pairs (below_of x))) (own ∙ (λ j. put (key j) (same j) (done j)))
-      ∙ sym (put_all-append b old (pairs (forest (take i ns))) ((path_of x, metadata_of x) ∷ pairs (below_of x)))
-      ∙ ap (put_all b old) (sym pairs_next)
-
-  -- the names of x are names, and so are those below it
-  pub paths_next : ArePaths (pairs (forest (take i ns))) → IsPath (path_of x) → ArePaths (pairs (below_of x)) → ArePaths (pairs (forest (take (i + 1) ns)))
-  paths_next done own below e h = ⊎_elim (λ l. done e l)
-      (λ l. ⊎_elim (λ same. subst IsPath (ap (λ d. d.0) same) own) (λ k. below e k) (contains_cases (path_of x, metadata_of x) (pairs (below_of x)) e l))
-      (Contains-append_cases (pairs (forest (take i ns))) ((path_of x, metadata_of x) ∷ pairs (below_of x)) e (subst (λ l. Contains l e) pairs_next h))
+    -- no node is left
+    pub puts_end : ss ≡ [] → (now ≡ put_all b old es) × ArePaths es
+    puts_end none_left = (
+      ap (λ l. put_all b now (pairs_at l)) (sym none_left) ∙ h.puts,
+      h.valid (subst (λ l. ArePaths (pairs_at l)) (sym none_left) (λ d in'. absurd (omega (arith, in'.1)))),
+    )
 
 -- the block of all nodes below b, put into an empty one, and its order
 module _ (b base : Path) (f g : Forest) (start B : Block) (path : base ≡ b) (same : f ≡ g) (empty : start ≡ []) (all : B ≡ put_all base start (pairs f)) where

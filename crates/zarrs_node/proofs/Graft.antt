@@ -25,10 +25,6 @@ pub path_cmp-append : (b xs ys : Path) → path_cmp (b ++ xs) (b ++ ys) ≡ path
 path_cmp-append [] xs ys = refl
 path_cmp-append (n ∷ b) xs ys = ap (λ o. ordering_then o (path_cmp (b ++ xs) (b ++ ys))) (tied_itself nat_list_cmp_total n) ∙ path_cmp-append b xs ys
 
--- children of one base are ordered as their names
-pub sibling_less : (b : Path) (m n : List ℕ) → bytes_cmp m n ≡ Less → path_cmp (b ++ m ∷ []) (b ++ n ∷ []) ≡ Less
-sibling_less b m n h = path_cmp-append b (m ∷ []) (n ∷ []) ∙ ap (λ o. ordering_then o (path_cmp [] [])) h
-
 -- a list with one item more in front has its items
 pub Contains-cons : {A : Type 0} (x : A) (xs : List A) (y : A) → Contains xs y → Contains (x ∷ xs) y
 Contains-cons x xs y h = Contains-append_right (x ∷ []) xs y h

@@ -17,7 +17,7 @@ graft_none none = refl
 graft_none (tree p m below after) = ap (tree p m below) (graft_none after)
 
 -- grafting goes from left or from right
-graft_assoc : (f g h : Forest) → graft (graft f g) h ≡ graft f (graft g h)
+pub graft_assoc : (f g h : Forest) → graft (graft f g) h ≡ graft f (graft g h)
 graft_assoc none g h = refl
 graft_assoc (tree p m below after) g h = ap (tree p m below) (graft_assoc after g h)
 

@@ -1,5 +1,5 @@
 -- A forest and its block are inverse.
-use Rattle.std.proofs.Common.{◌≡◌, ℕ, ◌⊎◌, inl, inr, ⊎_elim, ◌↔◌, true, List, [], ◌∷◌, ◌++◌, Some, None, IsSome, refl, sym, ap, subst, ◌∙◌, Contains, IsTrue, true≢false}
+use Rattle.std.proofs.Common.{◌≡◌, ℕ, ◌⊎◌, inl, inr, ⊎_elim, ◌↔◌, true, List, [], ◌∷◌, ◌++◌, Some, None, IsSome, Ok, refl, sym, ap, subst, ◌∙◌, Contains, IsTrue, true≢false}
 use Rattle.std.specs.Prelude.{All}
 use Rattle.std.specs.List.{AllByRecursion}
 use Rattle.std.proofs.lemmas.List.{append_cancel_left}
@@ -8,11 +8,11 @@ use Rattle.zarrs_store.specs.Segments.{key_text}
 use Rattle.zarrs_path.specs.Paths.{Path, IsPath}
 use Rattle.zarrs_meta.specs.Node.{is_plain_node}
 use Rattle.zarrs_meta.specs.declared.node.NodeMetadata.{NodeMetadata}
-use Rattle.zarrs_block.specs.Block.{Block, Entries, HasValidKeys, IsBlockOf, IsValidKey, entry, first_some, found}
+use Rattle.zarrs_block.specs.Block.{Block, Entries, HasValidKeys, IsAscending, IsBlockOf, IsValidKey, block_of, block_tree, entry, first_some, found}
 use Rattle.zarrs_block.proofs.BlockReads.{block_again}
 use Rattle.zarrs_block.proofs.Expansion.{found_all}
 use Rattle.zarrs_node.specs.Forest.{Forest, pairs, IsPlaced}
-use Rattle.zarrs_node.specs.Reached.{Closed}
+use Rattle.zarrs_node.specs.Reached.{Closed, Kept}
 use Rattle.zarrs_node.specs.Inverse.{HasNames, BlockGivesBack, ListingGivesBack}
 use Rattle.zarrs_node.proofs.Found.{listed_each}
 use Rattle.zarrs_node.proofs.Kept.{kept_same, placed_between}
@@ -68,6 +68,10 @@ module _ (N : Path × NodeMetadata → Type 0) (b : Path) (B : Block) (names : (
   nodes_plain plain (e ∷ es) at =
       let w = (is e.0 e.1).0 at.0 in
       All-cons (λ e. IsTrue (is_plain_node e.1)) e es (plain (b ++ w.0 ∷ w.1, e.1) w.3) (nodes_plain plain es at.1)
+
+-- a block of exactly the nodes that are kept reads back, where their metadata are plain
+pub kept_reads_back : (N : Path × NodeMetadata → Type 0) (b : Path) (B : Block) → ((e : Path × NodeMetadata) → Kept N true b e → IsTrue (is_plain_node e.1)) → IsAscending B → IsBlockOf (Kept N true b) b B → block_of (block_tree B) ≡ Ok B
+kept_reads_back N b B plain up is = block_again B (nodes_plain (Kept N true b) b B (λ e k. k.0.below) is plain B (found_all B up))
 
 -- the pairs of a placed forest are closed
 pairs_closed : (b : Path) (f : Forest) → HasNames b (pairs f) → IsPlaced b f → Closed (Contains (pairs f)) b

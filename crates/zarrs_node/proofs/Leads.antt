@@ -1,14 +1,19 @@
 -- Which paths the groups of a block lead to.
-use Rattle.std.proofs.Common.{◌≡◌, ◌↔◌, ◌⊎◌, inl, inr, ⊎_elim, ℕ, Bool, true, false, true≢false, List, [], ◌∷◌, ◌++◌, length, Option, Some, None, IsTrue, refl, sym, ap, subst, ◌∙◌, append_assoc, length-append, arith}
+use Rattle.std.proofs.Common.{◌≡◌, ◌≢◌, ◌<◌, ◌==◌, ◌↔◌, ◌⊎◌, inl, inr, ⊎_elim, ℕ, Bool, true, false, true≢false, List, [], ◌∷◌, ◌++◌, length, Option, Some, None, IsTrue, refl, sym, ap, subst, ◌∙◌, append_assoc, length-append, arith}
+use Rattle.std.proofs.lemmas.Bool.{eqb-true}
 use Rattle.std.proofs.lemmas.List.{append_cancel_left}
-use Rattle.zarrs_store.specs.Segments.{key_text}
-use Rattle.zarrs_path.specs.Paths.{Path, IsPath, IsBelow}
-use Rattle.zarrs_path.proofs.PathTexts.{IsPath-parts}
+use Rattle.zarrs_store.specs.Segments.{has_no_slash, key_text}
+use Rattle.zarrs_path.specs.Paths.{Path, IsPath, IsBelow, slashed, without_leading_slash}
+use Rattle.zarrs_path.proofs.ByteTests.{nonempty_from_test}
+use Rattle.zarrs_path.proofs.PathTexts.{IsCutAt, IsPath-parts, cut_last, slashed-cons, slashed_nil}
 use Rattle.zarrs_meta.specs.Node.{is_group}
 use Rattle.zarrs_meta.specs.declared.node.NodeMetadata.{NodeMetadata}
 use Rattle.zarrs_block.specs.Block.{Block, Entries, entry, first_some, found}
 use Rattle.zarrs_node.specs.Reached.{HasGroup, Reached}
 use Rattle.zarrs_node.specs.Consolidated.{text_beyond}
+use Rattle.zarrs_node.specs.Fresh.{LeadsTo}
+use Rattle.zarrs_node.proofs.LastNames.{IsCutText, has_slash}
+use Rattle.zarrs_node.proofs.Stops.{length_zero}
 use Rattle.zarrs_node.proofs.BlockTexts.{text_is}
 use Rattle.zarrs_node.proofs.Reach.{head_same, rest_same, no_room}
 use Rattle.zarrs_node.proofs.Kept.{reached_between}
@@ -61,13 +66,6 @@ module _ (N : Path × NodeMetadata → Type 0) (b q p : Path) (n : List ℕ) (ch
         (same_or_above q b n low.0 low.1 (sym child ∙ low.2));
   }
 
--- the root is below nothing
-pub root_alone : (b p : Path) → p ≡ [] → IsBelow b p → ⊥
-root_alone b p root low =
-    let long = ap length (sym root ∙ low.2) in
-    let more = length-append b (low.0 ∷ low.1) in
-    absurd (omega (arith, long, more))
-
 -- ---- entries that are groups
 
 -- the metadata are a group's
@@ -109,12 +107,106 @@ module _ (B : Block) (b p : Path) (low : IsBelow b p) (valid : IsPath p) where
       let second : found B (47 ∷ key_text (low.0 ∷ low.1)) ≡ r = ap (λ k. found B (47 ∷ k)) (sym (key_is key text)) ∙ ap (found B) (sym slash) ∙ sym behind in
       subst (λ y. IsTrue y ↔ HasGroup (Entries B b) p) (sym group) (has_group_by r (ap (λ f. first_some f (found B (47 ∷ key_text (low.0 ∷ low.1)))) first ∙ second))
 
--- ---- step by step
+-- a text behind a slash, without it
+pub bare_is : (rooted key text : List ℕ) → key ≡ without_leading_slash rooted → rooted ≡ 47 ∷ text → key ≡ text
+bare_is rooted key text is e = is ∙ ap without_leading_slash e
 
--- a test that decides one fact and a test that decides another decide both
-pub both_tests : {G R W : Type 0} (x y r : Bool) → x ≡ true → r ≡ y → IsTrue x ↔ G → IsTrue y ↔ R → W ↔ (G × R) → IsTrue r ↔ W
-both_tests x y r on same one two whole = (λ t. whole.1 (one.0 on, two.0 (sym same ∙ t)), λ w. same ∙ two.1 (whole.0 w).1)
+-- ---- name by name, from the last on
 
--- where the first does not pass both do not
-pub first_fails : {G R W : Type 0} (x r : Bool) → x ≡ false → r ≡ false → IsTrue x ↔ G → W ↔ (G × R) → IsTrue r ↔ W
-first_fails x r off same one whole = (λ t. absurd (true≢false (sym t ∙ same)), λ w. absurd (true≢false (sym (one.1 (whole.0 w).0) ∙ off)))
+-- left is the text of names beyond b, a slash before each, and to these the block leads where it leads to p
+pub record IsOnTheWay (B : Block) (b p : Path) (left : List ℕ) : Type 0 where
+  pub name : List ℕ
+  pub rest : Path
+  pub valid : IsPath (b ++ name ∷ rest)
+  pub text : left ≡ slashed (name ∷ rest)
+  pub same : LeadsTo B b p ↔ LeadsTo B b (b ++ name ∷ rest)
+
+-- at first they are all names of p
+pub way_start : (B : Block) (b p : Path) → IsBelow b p → IsPath p → (key left : List ℕ) → key ≡ text_beyond b p → left ≡ 47 ∷ key → IsOnTheWay B b p left
+way_start B b p low valid key left at slash = record {
+  name = low.0;
+  rest = low.1;
+  valid = subst IsPath low.2 valid;
+  text = slash ∙ ap (λ t. 47 ∷ t) (at ∙ text_is b p low.0 low.1 low.2) ∙ sym (slashed-cons low.0 low.1);
+  same = subst (λ q. LeadsTo B b p ↔ LeadsTo B b q) low.2 (λ h. h, λ h. h);
+}
+
+-- nothing is below itself
+not_below_itself : (b : Path) → IsBelow b b → ⊥
+not_below_itself b (n, ns, e) =
+    let long = ap length e in
+    let more = length-append b (n ∷ ns) in
+    absurd (omega (arith, long, more))
+
+-- names with a text that is not empty are some
+some_names : (q : Path) (front : List ℕ) → slashed q ≡ front → front ≢ [] → (n : List ℕ) × (ns : Path) × (q ≡ n ∷ ns)
+some_names [] front e some = absurd (some (sym e))
+some_names (n ∷ ns) front e some = (n, ns, refl)
+
+module _ {B : Block} {b p : Path} {left above last : List ℕ} (h : IsOnTheWay B b p left) (t : IsCutText left above last) where
+  -- the names without the last of them
+  cut : IsCutAt (h.name ∷ h.rest) above
+  cut = cut_last (h.name ∷ h.rest) above last (IsPath-parts b (h.name ∷ h.rest) h.valid).1 (λ e. cc) (sym h.text ∙ t.cut) t.clean
+
+  -- the last of them stands behind the others
+  child : b ++ h.name ∷ h.rest ≡ (b ++ cut.upper) ++ cut.name ∷ []
+  child = ap (λ q. b ++ q) cut.whole ∙ sym (append_assoc b cut.upper (cut.name ∷ []))
+
+  -- where there are no others, it is led to
+  pub way_done : {empty : Bool} → empty ≡ (length above == 0) → empty ≡ true → IsTrue true ↔ LeadsTo B b p
+  way_done is none_left =
+      let root : cut.upper ≡ [] = slashed_nil cut.upper (cut.text ∙ length_zero above (eqb-true (length above) 0 (sym is ∙ none_left))) in
+      let one : b ++ h.name ∷ h.rest ≡ b ++ cut.name ∷ [] = ap (λ q. b ++ q) (cut.whole ∙ ap (λ q. q ++ cut.name ∷ []) root) in
+      (λ _. h.same.1 (at_once (Entries B b) b b (b ++ h.name ∷ h.rest) cut.name one h.valid (h.name, h.rest, refl) (not_below_itself b)), λ _. refl)
+
+  module _ {empty : Bool} (is : empty ≡ (length above == 0)) (some : empty ≡ false) where
+    -- else there are names before it
+    front : (n : List ℕ) × (ns : Path) × (cut.upper ≡ n ∷ ns)
+    front = some_names cut.upper above cut.text (nonempty_from_test above (sym is ∙ some))
+
+    -- below b
+    low : IsBelow b (b ++ cut.upper)
+    low = (front.0, front.1, ap (λ q. b ++ q) front.2)
+
+    -- whose text is what stands above
+    text_above : above ≡ 47 ∷ text_beyond b (b ++ cut.upper)
+    unfolding front low
+    text_above = sym cut.text ∙ ap slashed front.2 ∙ slashed-cons front.0 front.1 ∙ ap (λ x. 47 ∷ x) (sym (text_is b (b ++ cut.upper) front.0 front.1 low.2))
+
+    -- a path
+    valid_above : IsPath (b ++ cut.upper)
+    valid_above = (IsPath-parts (b ++ cut.upper) (cut.name ∷ []) (subst IsPath child h.valid)).0
+
+    module _ {group : Bool} (asked : (q r : Path) → IsPath r → IsBelow q r → above ≡ 47 ∷ text_beyond q r → IsTrue group ↔ HasGroup (Entries B q) r) where
+      -- which leads on where it is a group
+      step : LeadsTo B b (b ++ h.name ∷ h.rest) ↔ (HasGroup (Entries B b) (b ++ cut.upper) × LeadsTo B b (b ++ cut.upper))
+      step = by_parent (Entries B b) b (b ++ cut.upper) (b ++ h.name ∷ h.rest) cut.name child h.valid low
+
+      -- and it is asked whether it is
+      answer : IsTrue group ↔ HasGroup (Entries B b) (b ++ cut.upper)
+      answer = asked b (b ++ cut.upper) valid_above low text_above
+
+      -- what is no group leads no further
+      pub way_shut : group ≡ false → IsTrue false ↔ LeadsTo B b p
+      way_shut shut = (λ f. absurd (true≢false (sym f)), λ led. absurd (true≢false (sym (answer.1 (step.0 (h.same.0 led)).0) ∙ shut)))
+
+      -- a group leads on
+      pub way_on : group ≡ true → IsOnTheWay B b p above
+      way_on open_to = record {
+        name = front.0;
+        rest = front.1;
+        valid = subst (λ q. IsPath (b ++ q)) front.2 valid_above;
+        text = sym cut.text ∙ ap slashed front.2;
+        same = subst (λ q. LeadsTo B b p ↔ LeadsTo B b (b ++ q)) front.2 (λ led. (step.0 (h.same.0 led)).1, λ led. h.same.1 (step.1 (answer.0 open_to, led)));
+      }
+
+-- less is left
+pub way_shorter : {left above last : List ℕ} → IsCutText left above last → length above < length left
+way_shorter {left} {above} {last} t =
+    let long = ap length t.cut in
+    let more = length-append above (47 ∷ last) in
+    omega (arith, long, more)
+
+-- there is always a slash
+pub way_none : {A : Type 0} {B : Block} {b p : Path} {left : List ℕ} → IsOnTheWay B b p left → IsTrue (has_no_slash left) → A
+way_none h clean = absurd (has_slash (h.name ∷ h.rest) (subst (λ t. IsTrue (has_no_slash t)) h.text clean))

@@ -4,8 +4,6 @@ pub mod Keys
 pub mod Graft
 pub mod Found
 pub mod Child
-pub mod Steps
-pub mod Walk
 pub mod Attach
 pub mod Apart
 pub mod Ahead
@@ -20,7 +18,6 @@ pub mod Unique
 pub mod Written
 pub mod LawProofs
 pub mod Listed
-pub mod Rest
 pub mod Latest
 pub mod Puts
 pub mod BlockTexts
@@ -35,8 +32,14 @@ pub mod Keeps
 pub mod Holds
 pub mod Lasts
 pub mod Counted
+pub mod Feeding
 pub mod Direct
 pub mod Opening
+pub mod ListedBlock
 pub mod Leads
 pub mod Anew
 pub mod Current
+pub mod Sizes
+pub mod Stops
+pub mod Plugged
+pub mod Pending

@@ -12,7 +12,7 @@ use Rattle.zarrs_meta.specs.declared.node.NodeMetadata.{NodeMetadata}
 use Rattle.zarrs_meta.specs.declared.node.NodeMetadata.TheVariants.{Group, Array}
 use Rattle.zarrs_block.specs.Block.{Block, Entries, HasValidKeys}
 use Rattle.zarrs_block.specs.Used.{RefusesUse, LacksBlockMemory}
-use Rattle.zarrs_block.specs.Expanded.{RefusesKeys, NamesBadKey, HaveOwnPaths}
+use Rattle.zarrs_block.specs.Expanded.{RefusesKeys, NamesBadKey}
 use Rattle.zarrs_block.specs.Refused.{IsExcused, IsMissing}
 use Rattle.zarrs_block.specs.declared.node_create_error.NodeCreateError.{NodeCreateError}
 use Rattle.zarrs_block.specs.declared.node_create_error.NodeCreateError.TheVariants.{NodePathError, StorePrefixError, StorageError, MetadataVersionMismatch, MissingMetadata, OutOfMemory}
@@ -20,50 +20,17 @@ use Rattle.zarrs_block.specs.Meaning.{meaning, node, nothing, bad}
 use Rattle.zarrs_node.specs.Reached.{Kept}
 use Rattle.zarrs_node.specs.Nodes.{Nodes, Bad, ShowsBad}
 use Rattle.zarrs_node.specs.Forest.{Forest, none, Shows}
-use Rattle.zarrs_node.specs.Latest.{IsLatest}
 use Rattle.zarrs_node.specs.Opened.{choice, ShowsChosen, IsCleanChosen, RefusesChosen, ShowsNode, IsCleanNode, RefusesBelow, RefusesOpening}
 use Rattle.zarrs_node.proofs.Unique.{Pair}
-use Rattle.zarrs_node.proofs.Found.{all_pairs_tail, all_pairs_first, listed_each}
-use Rattle.zarrs_node.proofs.Order.{contains_cases}
+use Rattle.zarrs_node.proofs.Found.{listed_each}
 use Rattle.zarrs_node.proofs.Kept.{kept_same}
-use Rattle.zarrs_node.proofs.Lasts.{latest_in}
-use Rattle.zarrs_node.proofs.Counted.{latest_of, shows_same}
+use Rattle.zarrs_node.proofs.Counted.{shows_same}
 
 -- ---- the nodes of a block
 
--- of pairs of which no path stands twice one has a path
-own_same : (xs : List Pair) → HaveOwnPaths xs → (d e : Pair) → Contains xs d → Contains xs e → d.0 ≡ e.0 → d ≡ e
-own_same [] own d e hd he same = absurd (omega (arith, hd.1))
-own_same (x ∷ xs) own d e hd he same = ⊎_elim
-    (λ at_d. ⊎_elim
-    (λ at_e. sym at_d ∙ at_e)
-    (λ in_e. absurd (all_pairs_first (λ d e. d.0 ≡ e.0 → ⊥) x xs own e in_e (ap (λ z. z.0) at_d ∙ same)))
-    (contains_cases x xs e he))
-    (λ in_d. ⊎_elim
-    (λ at_e. absurd (all_pairs_first (λ d e. d.0 ≡ e.0 → ⊥) x xs own d in_d (ap (λ z. z.0) at_e ∙ sym same)))
-    (λ in_e. own_same xs (all_pairs_tail (λ d e. d.0 ≡ e.0 → ⊥) x xs own) d e in_d in_e same)
-    (contains_cases x xs e he))
-    (contains_cases x xs d hd)
-
--- where no path stands twice each pair is the last with its path
-pub latest_own : (xs : List Pair) → HaveOwnPaths xs → (e : Pair) → IsLatest xs e ↔ Contains xs e
-latest_own xs own e = (
-  latest_in xs e,
-  λ h. let w = latest_of xs e h in subst (IsLatest xs) (own_same xs own w.0 e (latest_in xs w.0 w.1) h w.2) w.1,
-)
-
 -- a forest that shows what is kept of listed pairs shows what is kept of the pairs that are listed
-pub entries_shown : (N : Pair → Type 0) (xs : List Pair) (b : Path) (f : Forest) → Lists N xs → HaveOwnPaths xs → Shows f b (Kept (IsLatest xs) true b) → Shows f b (Kept N true b)
-entries_shown N xs b f listed own h =
-    shows_same f b (Kept (IsLatest xs) true b) (Kept N true b) (kept_same (IsLatest xs) N true b (λ e low. (
-      λ l. (listed_each listed e).0 ((latest_own xs own e).0 l),
-      λ n. (latest_own xs own e).1 ((listed_each listed e).1 n),
-    ))) h
-
--- the same of what a call answers
-pub nodes_shown : {R E : Type 0} (forest_of : R → Forest) (N : Pair → Type 0) (xs : List Pair) (b : Path) → Lists N xs → HaveOwnPaths xs → (r : Result R E) → IfOk r (λ v. Shows (forest_of v) b (Kept (IsLatest xs) true b)) → IfOk r (λ v. Shows (forest_of v) b (Kept N true b))
-nodes_shown forest_of N xs b listed own (Ok v) h = entries_shown N xs b (forest_of v) listed own h
-nodes_shown forest_of N xs b listed own (Err e) h = h
+pub entries_shown : (N : Pair → Type 0) (xs : List Pair) (b : Path) (f : Forest) → Lists N xs → Shows f b (Kept (Contains xs) true b) → Shows f b (Kept N true b)
+entries_shown N xs b f listed h = shows_same f b (Kept (Contains xs) true b) (Kept N true b) (kept_same (Contains xs) N true b (λ e low. listed_each listed e)) h
 
 -- ---- by a choice
 

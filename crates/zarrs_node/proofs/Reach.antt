@@ -75,20 +75,6 @@ module _ (N : Path × NodeMetadata → Type 0) (r : Bool) where
     }
   ]
 
-  -- what is reached through n begins with b and n
-  pub through_begins : (b p : Path) (n : List ℕ) → Through N r (b ++ n ∷ []) p → (ns : Path) × (p ≡ b ++ n ∷ ns)
-  through_begins b p n t = elim t as (λ _. (ns : Path) × (p ≡ b ++ n ∷ ns)) [
-    | inl e ↦ ([], e)
-    | inr (open', h) ↦ (h.below.0 ∷ h.below.1, h.below.2 ∙ append_assoc b (n ∷ []) (h.below.0 ∷ h.below.1))
-  ]
-
-  -- and so through no other name
-  pub through_one : (b p : Path) (m n : List ℕ) → Through N r (b ++ m ∷ []) p → Through N r (b ++ n ∷ []) p → m ≡ n
-  through_one b p m n t u =
-      let (ms, e) = through_begins b p m t in
-      let (ns, f) = through_begins b p n u in
-      head_same _ _ _ _ (append_cancel_left b (m ∷ ms) (n ∷ ns) (sym e ∙ f))
-
   -- c itself is not reached from c
   pub not_itself : (c : Path) → Reached N r c c → ⊥
   not_itself c h =

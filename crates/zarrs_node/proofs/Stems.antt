@@ -4,6 +4,7 @@ use Rattle.std.proofs.lemmas.List.{take_more, take_more_set, length-set, length-
 use Rattle.std.proofs.Math.Seq.{take-append_seam}
 use Rattle.zarrs_path.specs.Paths.{Path, IsPath}
 use Rattle.zarrs_meta.specs.Node.{is_group}
+use Rattle.zarrs_meta.specs.declared.node.NodeMetadata.{NodeMetadata}
 use Rattle.zarrs_node.specs.declared.node.Node.{Node}
 use Rattle.zarrs_node.specs.declared.node.Node.TheOpen.{Node-F}
 use Rattle.zarrs_node.specs.declared.node.Node.TheViews.{out-Node, roll-Node, out-roll-Node}
@@ -118,6 +119,11 @@ none_if (suc n) h = absurd (h (omega arith))
 pub added_root : (roots after ns : List Node) (x : Node) → after ≡ roots ++ x ∷ [] → length ns ≡ 0 → whole after ns ≡ with_tree roots ns (plant x none)
 added_root roots after [] x e l = ap (λ r. grow r [] none) (ap forest e ∙ forest_push roots x) ∙ grow_roots (forest roots) (plant x none)
 added_root roots after (n ∷ ns) x e l = absurd (omega (arith, l))
+
+-- a node made of the parts of another has its tree
+pub remade : (n made : Node) (p : Path) (m : NodeMetadata) (kids : List Node) → p ≡ (out-Node n).path → m ≡ (out-Node n).metadata → kids ≡ (out-Node n).children.items → forest (made ∷ []) ≡ tree p m (forest kids) none
+    → plant made none ≡ plant n none
+remade n made p m kids path metadata children e = e ∙ (λ i. tree (path i) (metadata i) (forest (children i)) none) ∙ sym (plant_out n none)
 
 -- the last open group, closed
 pub closed_last : (roots ns : List Node) (n : Node) → whole roots (ns ++ n ∷ []) ≡ with_tree roots ns (plant n none)

@@ -1,6 +1,5 @@
 -- One turn of the walk, by what the calls of that turn answered.
-use Rattle.std.proofs.Common.{◌≡◌, ℕ, ◌-◌, take, ◌⊎◌, inl, inr, ⊎_elim, Bool, Option, Some, None, Ok, true, true≢false, Less, ◌<◌, List, [], ◌∷◌, ◌++◌, map, reverse, sym, ap, subst, ◌∙◌, append-nil, Contains}
-use Rattle.std.proofs.lemmas.List.{map-append}
+use Rattle.std.proofs.Common.{◌≡◌, ℕ, ◌-◌, take, ◌⊎◌, inl, inr, ⊎_elim, Bool, Option, Some, None, Ok, true, true≢false, Less, ◌<◌, List, [], ◌∷◌, ◌++◌, reverse, sym, ap, subst, ◌∙◌, append-nil, Contains}
 use Rattle.std.proofs.lemmas.List.Elements.{Contains-push, Contains-append_cases}
 use Rattle.zarrs_path.specs.Paths.{Path, IsPath, path_cmp}
 use Rattle.zarrs_path.proofs.NameLemmas.{name_one, periods_from}
@@ -16,7 +15,7 @@ use Rattle.zarrs_block.specs.declared.node_create_error.NodeCreateError.{NodeCre
 use Rattle.zarrs_block.specs.Meaning.{meaning, bad}
 use Rattle.zarrs_block.specs.Refused.{IsExcused, IsInvalidPath}
 use Rattle.zarrs_node.specs.Refused.{Finds}
-use Rattle.zarrs_node.specs.Forest.{Forest, none, pairs, paths_of, told, passed, found_group, ShowsPaths}
+use Rattle.zarrs_node.specs.Forest.{Forest, none, pairs, told, passed, found_group, Shows}
 use Rattle.zarrs_node.specs.Nodes.{Nodes, Ignored, Bad, ShowsBad, IsListed}
 use Rattle.zarrs_node.proofs.Child.{node_same}
 use Rattle.zarrs_node.proofs.Unique.{Pair}
@@ -24,11 +23,11 @@ use Rattle.zarrs_node.proofs.Ahead.{ahead, ahead_less}
 use Rattle.zarrs_node.proofs.Apart.{StandsBefore, stands_less, turned_in, all_pairs_last}
 use Rattle.zarrs_node.proofs.Walked.{Walked, IsPending, name_less, walked_start, walked_reached, walked_attached, walked_open, walked_closed, walked_nothing, walked_shows, walked_ignores, walked_clean}
 
--- the walk has come so far, and xs are the paths that it told
-pub record HasWalked (s : Contents) (v : MetadataRetrieveVersion) (r : Bool) (b : Path) (xs ig ps : List Path) : Type 0 where
+-- the walk has come so far, and xs are the nodes that it told
+pub record HasWalked (s : Contents) (v : MetadataRetrieveVersion) (r : Bool) (b : Path) (xs : List (Path × NodeMetadata)) (ig ps : List Path) : Type 0 where
   pub trees : Forest
   pub walk : Walked s v r b trees ig ps
-  pub are : xs ≡ paths_of trees
+  pub are : xs ≡ pairs trees
 
 -- nothing is left where the stack gives nothing
 pub left_none : (len : ℕ) (ps qs : List Path) → ps ≡ qs ++ [] → qs ≡ take (len - 1) ps → len ≡ 0 → ps ≡ []
@@ -36,25 +35,25 @@ left_none len ps qs e f g = e ∙ append-nil qs ∙ f ∙ ap (λ n. take (n - 1)
 
 module _ (s : Contents) (v : MetadataRetrieveVersion) (r : Bool) (b : Path) where
   -- before the first prefix is read
-  pub has_started : (cs : List Segments) → AreVisibleChildren s b cs → (xs ig ps : List Path) → xs ≡ [] → ig ≡ [] → ps ≡ [] ++ reverse cs → HasWalked s v r b xs ig ps
+  pub has_started : (cs : List Segments) → AreVisibleChildren s b cs → (xs : List Pair) (ig ps : List Path) → xs ≡ [] → ig ≡ [] → ps ≡ [] ++ reverse cs → HasWalked s v r b xs ig ps
   has_started cs h xs ig ps e f g = rw (f, g) (record { trees = none; walk = walked_start s v r b cs h; are = e })
 
   -- after the last
-  pub has_shown : (xs ig ps : List Path) → ps ≡ [] → HasWalked s v r b xs ig ps → ShowsPaths xs b (Nodes s v r b)
-  has_shown xs ig ps e h = record { trees = h.trees; shows = walked_shows s v r b h.trees ig (subst (Walked s v r b h.trees ig) e h.walk); are = h.are }
+  pub has_shown : (xs : List Pair) (ig ps : List Path) → ps ≡ [] → (h : HasWalked s v r b xs ig ps) → Shows h.trees b (Nodes s v r b)
+  has_shown xs ig ps e h = walked_shows s v r b h.trees ig (subst (Walked s v r b h.trees ig) e h.walk)
 
   -- then the list has the ignored paths
-  pub has_ignored : (xs ig ps : List Path) → ps ≡ [] → HasWalked s v r b xs ig ps → Lists (Ignored s v r b) ig
+  pub has_ignored : (xs : List Pair) (ig ps : List Path) → ps ≡ [] → HasWalked s v r b xs ig ps → Lists (Ignored s v r b) ig
   has_ignored xs ig ps e h = walked_ignores s v r b h.trees ig (subst (Walked s v r b h.trees ig) e h.walk)
 
   -- and nothing was bad
-  pub has_clean : (xs ig ps : List Path) → ps ≡ [] → HasWalked s v r b xs ig ps → Bad s v r b → ⊥
+  pub has_clean : (xs : List Pair) (ig ps : List Path) → ps ≡ [] → HasWalked s v r b xs ig ps → Bad s v r b → ⊥
   has_clean xs ig ps e h = walked_clean s v r b h.trees ig (subst (Walked s v r b h.trees ig) e h.walk)
 
-  module _ (c : Path) (can_fail : Bool) (xs ig ps ys jg : List Path) (h : HasWalked s v r b xs ig (ps ++ c ∷ [])) where
-    -- the paths with that of one node more
-    one_more : (m : NodeMetadata) (f : Forest) → pairs f ≡ pairs h.trees ++ (c, m) ∷ [] → ys ≡ xs ++ c ∷ [] → ys ≡ paths_of f
-    one_more m f are e = e ∙ ap (λ zs. zs ++ c ∷ []) h.are ∙ sym (map-append (λ (x : Pair). x.0) (pairs h.trees) ((c, m) ∷ [])) ∙ ap (map (λ (x : Pair). x.0)) (sym are)
+  module _ (c : Path) (can_fail : Bool) (xs : List Pair) (ig ps : List Path) (ys : List Pair) (jg : List Path) (h : HasWalked s v r b xs ig (ps ++ c ∷ [])) where
+    -- the nodes with one more
+    one_more : (m : NodeMetadata) (f : Forest) → pairs f ≡ pairs h.trees ++ (c, m) ∷ [] → ys ≡ xs ++ (c, m) ∷ [] → ys ≡ pairs f
+    one_more m f are e = e ∙ ap (λ zs. zs ++ (c, m) ∷ []) h.are ∙ sym are
 
     -- a turn at what was found, where the walk does not go on below it
     pub turn_alone : IsPath c → (o : Option NodeMetadata) → Finds can_fail (Ok o) (meaning s v c) → (r ≡ true → true ≡ found_group o → ⊥) → ys ≡ xs ++ told c o → jg ≡ ig ++ passed c o [] → HasWalked s v r b ys jg ps

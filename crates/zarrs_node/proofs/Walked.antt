@@ -20,8 +20,7 @@ use Rattle.zarrs_node.proofs.Keys.{means_or_nothing, below_through}
 use Rattle.zarrs_node.proofs.Reach.{Through, reached_first, reached_through, not_itself}
 use Rattle.zarrs_node.proofs.Leads.{same_or_above}
 use Rattle.zarrs_node.proofs.Found.{all_pairs_append, lists_from}
-use Rattle.zarrs_node.proofs.Child.{IsNode, IsBad, node_same, not_open}
-use Rattle.zarrs_node.proofs.Steps.{not_reserved}
+use Rattle.zarrs_node.proofs.Child.{IsNode, IsBad, node_same, not_open, not_reserved}
 use Rattle.zarrs_node.proofs.Order.{below_less, pairs_ascend}
 use Rattle.zarrs_node.proofs.Unique.{Pair, Lt, lt_irrefl, names_total, names_irrefl}
 use Rattle.zarrs_node.proofs.Attach.{Attached, attach_root, attach_below}

@@ -2,49 +2,47 @@
 use Rattle.std.proofs.Debugs.{debug_list-Some}
 use Rattle.std.proofs.lemmas.List.{replicate-append-replicate}
 use Rattle.std.specs.Fmt.{◌++?◌, debug_list, decimal}
-use Rattle.std.proofs.Common.{Some, arith, ◌≡◌, ℕ, ◌+◌, ◌*◌, ◌<◌, replicate, ◌++◌, List, [], ◌∷◌, codes, sym, ap, ◌∙◌, append_assoc, length, drop, drop-cons, get_or, add-one, suc}
+use Rattle.std.proofs.Common.{Some, arith, ◌≡◌, ℕ, ◌+◌, ◌*◌, replicate, ◌++◌, List, [], ◌∷◌, codes, refl, sym, ap, ◌∙◌, append_assoc}
 use Rattle.zarrs_store.specs.Segments.{last_segment}
 use Rattle.zarrs_node.specs.declared.node.Node.{Node}
-use Rattle.zarrs_node.specs.declared.node.Node.TheViews.{out-Node}
-use Rattle.zarrs_node.specs.Forest.{Forest, plant, forest, metadata_of, below_of}
+use Rattle.zarrs_node.specs.Forest.{Forest, none, tree, forest, path_of, metadata_of, below_of}
+use Rattle.zarrs_node.specs.Weights.{children_of}
+use Rattle.zarrs_node.specs.Stops.{Stop, stops, stop_of}
 use Rattle.zarrs_node.specs.Lines.{shape_text, named_line, line, preorder, first_line, tree_text}
-use Rattle.zarrs_node.proofs.Graft.{plant_out}
 
--- the preorder of a node and of what stands after it
-preorder_node : (level : ℕ) (n : Node) (after : Forest) → preorder level (plant n after)
-    ≡ line level (out-Node n).path (out-Node n).metadata ++ (preorder (level + 1) (forest (out-Node n).children.items) ++ preorder level after)
-preorder_node level n after = ap (preorder level) (plant_out n after)
+-- the lines of the nodes that a walk comes to
+abbrev pub text_of : List Stop → List ℕ
+text_of [] = []
+text_of (s ∷ ss) = line s.level s.path s.metadata ++ text_of ss
 
--- the nodes from one on are that one and those behind it
-from_one : (nodes : List Node) (i : ℕ) (n : Node) → i < length nodes → n ≡ get_or nodes i n → drop i nodes ≡ n ∷ drop (i + 1) nodes
-from_one nodes i n lt is = rw (add-one) (drop-cons nodes i n lt ∙ ap (λ x. x ∷ drop (suc i) nodes) (sym is))
+-- those of two walks in a row
+text_of-append : (xs ys : List Stop) → text_of (xs ++ ys) ≡ text_of xs ++ text_of ys
+text_of-append [] ys = refl
+text_of-append (x ∷ xs) ys = ap (λ t. line x.level x.path x.metadata ++ t) (text_of-append xs ys) ∙ sym (append_assoc (line x.level x.path x.metadata) (text_of xs) (text_of ys))
 
--- a line and the lines below it were written: what is written and what is left make the same whole
-pub node_written : (level : ℕ) (indent name before lined written whole : List ℕ) (nodes below : List Node) (i : ℕ) (n : Node)
-    → i < length nodes → n ≡ get_or nodes i n → indent ≡ replicate (2 * level) 32 → name ≡ last_segment (out-Node n).path → below ≡ (out-Node n).children.items
-    → lined ≡ before ++ (indent ++ named_line name (out-Node n).metadata)
-    → written ≡ lined ++ preorder (level + 1) (forest below)
-    → before ++ preorder level (forest (drop i nodes)) ≡ whole
-    → written ++ preorder level (forest (drop (i + 1) nodes)) ≡ whole
-node_written level indent name before lined written whole nodes below i n lt is deep named children l w h =
-    let rest = preorder level (forest (drop (i + 1) nodes)) in
-    let inner = preorder (level + 1) (forest (out-Node n).children.items) in
-    let here = line level (out-Node n).path (out-Node n).metadata in
-    let line_is : indent ++ named_line name (out-Node n).metadata ≡ here =
-    ap (λ x. x ++ named_line name (out-Node n).metadata) deep ∙ ap (λ x. replicate (2 * level) 32 ++ named_line x (out-Node n).metadata) named in
-    let first : lined ≡ before ++ here = l ∙ ap (λ x. before ++ x) line_is in
-    let then : written ≡ (before ++ here) ++ inner = w ∙ ap (λ x. x ++ preorder (level + 1) (forest below)) first ∙ ap (λ x. (before ++ here) ++ preorder (level + 1) (forest x)) children in
-    let left : preorder level (forest (drop i nodes)) ≡ here ++ (inner ++ rest) = ap (λ x. preorder level (forest x)) (from_one nodes i n lt is) ∙ preorder_node level n (forest (drop (i + 1) nodes)) in
-    ap (λ x. x ++ rest) then ∙ append_assoc (before ++ here) inner rest ∙ append_assoc before here (inner ++ rest) ∙ ap (λ x. before ++ x) (sym left) ∙ h
+-- a walk over a forest has the lines of the forest
+text_of-stops : (l : ℕ) (f : Forest) → text_of (stops l f) ≡ preorder l f
+text_of-stops l none = refl
+text_of-stops l (tree p m below after) =
+    ap (λ t. line l p m ++ t)
+    (text_of-append (stops (l + 1) below) (stops l after) ∙ ap (λ t. t ++ text_of (stops l after)) (text_of-stops (l + 1) below) ∙ ap (λ t. preorder (l + 1) below ++ t) (text_of-stops l after))
 
--- the first line and the lines below it were written
-pub tree_written : (n : Node) (start lined written : List ℕ) (below : List Node) → start ≡ [] → below ≡ (out-Node n).children.items
-    → lined ≡ start ++ named_line (codes "/") (out-Node n).metadata
-    → written ≡ lined ++ preorder 1 (forest below)
-    → written ≡ tree_text (metadata_of n) (below_of n)
-tree_written n start lined written below empty children l w =
-    let first : lined ≡ first_line (out-Node n).metadata = l ∙ ap (λ x. x ++ named_line (codes "/") (out-Node n).metadata) empty in
-    w ∙ ap (λ x. x ++ preorder 1 (forest below)) first ∙ ap (λ x. first_line (out-Node n).metadata ++ preorder 1 (forest x)) children
+-- the first line was written, and all nodes below are ahead
+pub first_written : (n : Node) (start written : List ℕ) (ss : List Stop) (below : List Node) → start ≡ [] → written ≡ start ++ (replicate (2 * 0) 32 ++ named_line (codes "/") (metadata_of n))
+    → ss ≡ stops 1 (forest below) → below ≡ children_of n → written ++ text_of ss ≡ tree_text (metadata_of n) (below_of n)
+first_written n start written ss below empty w all children =
+    ap (λ x. x ++ text_of ss) (w ∙ ap (λ x. x ++ first_line (metadata_of n)) empty)
+    ∙ ap (λ x. first_line (metadata_of n) ++ x) (ap text_of all ∙ text_of-stops 1 (forest below) ∙ ap (λ x. preorder 1 (forest x)) children)
+
+-- a line was written: what is written and what is ahead make the same whole
+pub line_written : (level : ℕ) (before written name : List ℕ) (whole : List ℕ) (n : Node) (was later : List Stop) → written ≡ before ++ (replicate (2 * level) 32 ++ named_line name (metadata_of n))
+    → name ≡ last_segment (path_of n) → was ≡ stop_of level n ∷ later → before ++ text_of was ≡ whole → written ++ text_of later ≡ whole
+line_written level before written name whole n was later w named e h =
+    let here = line level (path_of n) (metadata_of n) in
+    ap (λ x. x ++ text_of later) (w ∙ ap (λ x. before ++ (replicate (2 * level) 32 ++ named_line x (metadata_of n))) named)
+    ∙ append_assoc before here (text_of later)
+    ∙ ap (λ x. before ++ text_of x) (sym e)
+    ∙ h
 
 -- two spaces more are one level more
 pub deeper_indent : (level : ℕ) (indent : List ℕ) → indent ≡ replicate (2 * level) 32 → indent ++ 32 ∷ 32 ∷ [] ≡ replicate (2 * (level + 1)) 32

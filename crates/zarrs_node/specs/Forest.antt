@@ -50,20 +50,15 @@ abbrev pub graft : Forest → Forest → Forest
 graft none g = g
 graft (tree p m below after) g = tree p m below (graft after g)
 
--- a forest with the tree of one child more, or as it was where the child was passed over
-abbrev pub with_child : Forest → Path → Option NodeMetadata → Forest → Forest
-with_child f p None below = f
-with_child f p (Some m) below = graft f (tree p m below none)
-
 -- the paths passed over with a child: the child itself, or those below it
 abbrev pub passed : Path → Option NodeMetadata → List Path → List Path
 passed p None below = p ∷ []
 passed p (Some m) below = below
 
--- the paths told of a child by itself: its own, where it is a node
-abbrev pub told : Path → Option NodeMetadata → List Path
+-- the nodes told of a child by itself: its own, where it is a node
+abbrev pub told : Path → Option NodeMetadata → List (Path × NodeMetadata)
 told p None = []
-told p (Some m) = p ∷ []
+told p (Some m) = (p, m) ∷ []
 
 -- what was found is a group
 abbrev pub found_group : Option NodeMetadata → Bool

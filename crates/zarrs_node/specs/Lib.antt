@@ -16,3 +16,7 @@ pub mod Opened
 pub mod Fresh
 pub mod Changes
 pub mod Stacked
+pub mod Sinks
+pub mod Weights
+pub mod Stops
+pub mod Plug

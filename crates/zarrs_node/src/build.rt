@@ -132,8 +132,8 @@ fn drop_equal(pairs: &mut Vec<(NodePath, NodeMetadata)>, path: &NodePath)
     }
 }
 
-// The nodes of ascending pairs, and the steps: one for each pair, and one for each group that is closed.
-fn build_ascending(
+/// The nodes of ascending pairs, and the steps: one for each pair, and one for each group that is closed.
+pub(crate) fn build_ascending(
     alloc: Global,
     base: &NodePath,
     pairs: Vec<(NodePath, NodeMetadata)>,
@@ -198,6 +198,7 @@ impl Pass {
             path,
             metadata,
             children: Vec::new(alloc),
+            count: 1,
         };
         if is_group {
             self.opened.push(node)?;
@@ -231,13 +232,14 @@ impl Pass {
         }
     }
 
-    // Closes the last open group.
+    // Closes the last open group. It is made anew of its parts, so that its nodes are counted.
     fn close(&mut self) -> Result<(), AllocError>
         ensures same { OnOk result (whole self.new.roots.items self.new.opened.items ≡ whole self.old.roots.items self.old.opened.items) }
         ensures heads { OnOk result (heads self.new.opened.items ≡ take (length (heads self.old.opened.items) - 1) (heads self.old.opened.items)) }
     {
         if let Some(group) = self.opened.pop() {
-            self.add(group)?;
+            let (path, metadata, children) = group.into_parts();
+            self.add(Node::new_with_metadata(path, metadata, children))?;
         }
         Ok(())
     }

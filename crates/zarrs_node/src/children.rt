@@ -1,16 +1,21 @@
 //! The nodes below a path, where what is passed over is warned of.
-ghost use Rattle.std.specs.Prelude.{◌≡◌, ◌++◌, IfOk, IfErr, OnOk, ◌⊎◌, true};
+ghost use Rattle.std.specs.Prelude.{IfOk, IfErr, OnOk, ◌⊎◌, true};
 ghost use Rattle.zarrs_store.specs.Contents.{Lists};
 ghost use Rattle.zarrs_block.specs.Refused.{IsExcused};
-ghost use Rattle.zarrs_node.specs.Forest.{Shows, ShowsPaths, forest, pairs};
+ghost use Rattle.zarrs_node.specs.Forest.{Shows, ShowsPaths, forest};
 ghost use Rattle.zarrs_node.specs.Nodes.{Nodes, ShowsBad, Bad};
+ghost use Rattle.zarrs_block.specs.Block.{IsAscending, IsBlockOf};
+ghost use Rattle.zarrs_node.specs.Order.{Ascend};
+ghost use Rattle.zarrs_node.specs.Sinks.{TakesForest};
 
+use crate::descent::walk_nodes;
 use crate::listing::list_nodes;
 use crate::node::Node;
-use crate::paths::list_paths;
+use crate::refresh::insert_pairs;
+use crate::sink::NodeSink;
 use log::{Log, warn};
-use std::alloc::{AllocError, Global};
-use zarrs_block::NodeCreateError;
+use std::alloc::Global;
+use zarrs_block::{ConsolidatedMetadataMetadata, NodeCreateError};
 use zarrs_config::MetadataRetrieveVersion;
 use zarrs_meta::NodeMetadata;
 use zarrs_path::NodePath;
@@ -110,6 +115,7 @@ pub fn get_child_paths<L: Log, S: ReadableStorageTraits + ListableStorageTraits>
 /// The refusals of `get_child_nodes_opt`.
 ///
 /// Source: `zarrs::node::get_child_nodes_opt`, its nodes by their paths.
+#[tactic(auto, using(crate::proofs::Feeding::shown_paths))]
 pub fn get_child_paths_opt<L: Log, S: ReadableStorageTraits + ListableStorageTraits>(
     log: &L,
     alloc: Global,
@@ -122,9 +128,35 @@ pub fn get_child_paths_opt<L: Log, S: ReadableStorageTraits + ListableStorageTra
     ensures clean { IfOk result (λ _. Bad (S.contents storage.now) version.now recursive path.now → ⊥) }
     ensures refused { IfErr result (λ e. IsExcused (S.can_fail storage.now) e ⊎ ShowsBad (S.contents storage.now) version.now recursive path.now e) }
 {
-    let listed = list_paths(alloc, storage, path, recursive, version)?;
-    warn_ignored(log, &listed.ignored);
-    Ok(listed.paths)
+    let mut paths = Vec::new(alloc);
+    walk_child_nodes(log, alloc, storage, path, recursive, version, &mut paths)?;
+    Ok(paths)
+}
+
+/// Hands each node below a path to a sink, parents before children, siblings ascending, by the documents of a version.
+/// A path without documents is passed over with all below it, and warned of. After a refusal the sink has some of the nodes.
+///
+/// # Errors
+///
+/// The refusals of `get_child_nodes_opt`.
+///
+/// Source: `zarrs::node::get_child_nodes_opt`, its nodes one by one.
+pub fn walk_child_nodes<L: Log, S: ReadableStorageTraits + ListableStorageTraits, K: NodeSink>(
+    log: &L,
+    alloc: Global,
+    storage: &S,
+    path: &NodePath,
+    recursive: bool,
+    version: &MetadataRetrieveVersion,
+    sink: &mut K,
+) -> Result<(), NodeCreateError>
+    ensures takes { OnOk result (TakesForest K.takes sink.old sink.new path.now (Nodes (S.contents storage.now) version.now recursive path.now)) }
+    ensures clean { OnOk result (Bad (S.contents storage.now) version.now recursive path.now → ⊥) }
+    ensures refused { IfErr result (λ e. IsExcused (S.can_fail storage.now) e ⊎ ShowsBad (S.contents storage.now) version.now recursive path.now e) }
+{
+    let ignored = walk_nodes(alloc, storage, path, recursive, version, sink)?;
+    warn_ignored(log, &ignored);
+    Ok(())
 }
 
 // Warns of each path that was passed over.
@@ -134,7 +166,7 @@ fn warn_ignored<L: Log>(log: &L, ignored: &[NodePath]) {
     }
 }
 
-/// All nodes below a path, each once with its metadata, by the documents of a version.
+/// All nodes below a path with their metadata, in the order of paths, by the documents of a version.
 /// A path without documents is passed over with all below it, and warned of.
 ///
 /// # Errors
@@ -150,30 +182,38 @@ pub fn get_all_nodes_of<L: Log, S: ReadableStorageTraits + ListableStorageTraits
     version: &MetadataRetrieveVersion,
 ) -> Result<Vec<(NodePath, NodeMetadata)>, NodeCreateError>
     ensures nodes { IfOk result (λ all. Lists (Nodes (S.contents storage.now) version.now true path.now) all.items) }
+    ensures ascending { IfOk result (λ all. Ascend all.items) }
     ensures clean { IfOk result (λ _. Bad (S.contents storage.now) version.now true path.now → ⊥) }
     ensures refused { IfErr result (λ e. IsExcused (S.can_fail storage.now) e ⊎ ShowsBad (S.contents storage.now) version.now true path.now e) }
 {
-    let nodes = get_child_nodes_opt(log, alloc, storage, path, true, version)?;
     let mut all = Vec::new(alloc);
-    push_pairs(&mut all, nodes)?;
+    walk_child_nodes(log, alloc, storage, path, true, version, &mut all)?;
     Ok(all)
 }
 
-// Adds the paths and metadata of nodes and of those below them, parents before children.
-pub(crate) fn push_pairs(
-    all: &mut Vec<(NodePath, NodeMetadata)>,
-    nodes: Vec<Node>,
-) -> Result<(), AllocError>
-    ensures { OnOk result (all.new.items ≡ all.old.items ++ pairs (forest nodes.items)) }
+/// The metadata of all nodes below a path as a block, each at its path relative to that path: its names beyond it, joined by slashes,
+/// without a slash in front. The nodes are those that `get_all_nodes_of` answers, with its warnings. No metadata are copied.
+///
+/// # Errors
+///
+/// The refusals of `get_child_nodes_opt`, recursive.
+///
+/// Source: `zarrs::node::Node::consolidate_metadata`, of what `zarrs::node::get_all_nodes_of` answers.
+#[tactic(auto, using(crate::proofs::ListedBlock::listed_below, crate::proofs::ListedBlock::listed_ascends))]
+pub fn consolidate_nodes_of<L: Log, S: ReadableStorageTraits + ListableStorageTraits>(
+    log: &L,
+    alloc: Global,
+    storage: &S,
+    path: &NodePath,
+    version: &MetadataRetrieveVersion,
+) -> Result<ConsolidatedMetadataMetadata, NodeCreateError>
+    ensures exact { IfOk result (IsBlockOf (Nodes (S.contents storage.now) version.now true path.now) path.now) }
+    ensures ascending { IfOk result IsAscending }
+    ensures clean { IfOk result (λ _. Bad (S.contents storage.now) version.now true path.now → ⊥) }
+    ensures refused { IfErr result (λ e. IsExcused (S.can_fail storage.now) e ⊎ ShowsBad (S.contents storage.now) version.now true path.now e) }
 {
-    for node in nodes {
-        let Node {
-            path,
-            metadata,
-            children,
-        } = node;
-        all.push((path, metadata))?;
-        push_pairs(all, children)?;
-    }
-    Ok(())
+    let all = get_all_nodes_of(log, alloc, storage, path, version)?;
+    let mut block = ConsolidatedMetadataMetadata::new(alloc);
+    insert_pairs(alloc, path, all, &mut block)?;
+    Ok(block)
 }

@@ -9,6 +9,7 @@ ghost use Rattle.zarrs_node.specs.Consolidated.{AreBelow, ArePaths, put_all, tex
 
 use crate::last_name::slashed;
 use crate::node::Node;
+use crate::preorder::Preorder;
 use std::alloc::{AllocError, Global};
 use zarrs_block::ConsolidatedMetadataMetadata;
 use zarrs_meta::NodeMetadata;
@@ -54,11 +55,11 @@ fn insert_all(
     ensures inserted { OnOk result (block.new ≡ put_all base.now block.old (pairs (forest nodes.now))) }
     ensures valid { OnOk result (ArePaths (pairs (forest nodes.now))) }
 {
-    for node in nodes {
+    let mut walk = Preorder::new(alloc, nodes)?;
+    while let Some((_level, node)) = walk.next()? {
         let key = String::from_str(alloc, text_beyond(base, &node.path))?;
         let metadata = node.metadata.try_clone(alloc)?;
         block.insert(key, metadata)?;
-        insert_all(alloc, base, &node.children, block)?;
     }
     Ok(())
 }

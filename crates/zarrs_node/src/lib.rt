@@ -4,6 +4,8 @@
 mod build;
 mod children;
 mod consolidate;
+mod copies;
+mod descent;
 pub mod documents;
 mod exists;
 mod last_name;
@@ -14,18 +16,23 @@ mod metadata;
 mod node;
 mod open;
 mod paths;
+mod preorder;
 mod refresh;
+mod sink;
 mod text;
 mod zmetadata;
 
 pub use build::{build_node_tree, build_node_tree_counted, direct_children_from_flat};
 pub use children::{
-    get_all_nodes_of, get_child_nodes, get_child_nodes_opt, get_child_paths, get_child_paths_opt,
+    consolidate_nodes_of, get_all_nodes_of, get_child_nodes, get_child_nodes_opt, get_child_paths,
+    get_child_paths_opt, walk_child_nodes,
 };
+pub use descent::walk_nodes;
 pub use exists::{node_exists, node_exists_listable};
 pub use listing::{ListedNodes, list_nodes};
 pub use node::Node;
 pub use paths::{ListedPaths, list_paths};
 pub use refresh::refresh_block;
+pub use sink::NodeSink;
 pub use text::NodeLine;
 pub use zmetadata::{consolidated_metadata_at, zmetadata_at};

@@ -1,21 +1,25 @@
 //! A node and the nodes below it.
-ghost use Rattle.std.specs.Prelude.{◌≡◌, ◌↔◌, [], ◌∷◌, IsTrue, IfOk, OnOk};
+ghost use Rattle.std.specs.Prelude.{◌≡◌, ◌↔◌, ◌+◌, ◌<◌, ◌≤◌, [], ◌∷◌, ◌++◌, MatchOption, None, IsTrue, IfOk, OnOk, length, vec_capacity, vec_len};
 ghost use Rattle.zarrs_store.specs.Segments.{last_segment};
 ghost use Rattle.zarrs_node.specs.Forest.{forest, graft, tree, none, path_of, metadata_of, below_of, HasPlacedChildren, ArePlacedBelow};
+ghost use Rattle.zarrs_node.specs.Weights.{children_of, weights};
 
+use crate::copies::copy_nodes;
 use crate::last_name::{is_child, last_name};
 use std::alloc::{AllocError, Global};
+use std::fmt;
 use zarrs_meta::NodeMetadata;
 use zarrs_path::{NodeName, NodePath};
 
 /// A node of a hierarchy: its path, its metadata and the nodes directly below it, each with those below it.
 ///
 /// Source: `zarrs::node::Node`.
-#[derive(Debug, Drop)]
 pub struct Node {
     pub(crate) path: NodePath,
     pub(crate) metadata: NodeMetadata,
     pub(crate) children: Vec<Node>,
+    // The number of nodes of its tree, by which `has_placed_children` goes: no answer depends on it.
+    pub(crate) count: u64,
 }
 
 impl Node {
@@ -29,10 +33,12 @@ impl Node {
         ensures children { below_of result ≡ forest children.items }
         ensures tree { forest (result ∷ []) ≡ tree path metadata (forest children.items) none }
     {
+        let count = count_with(&children);
         Node {
             path,
             metadata,
             children,
+            count,
         }
     }
 
@@ -102,13 +108,43 @@ impl Node {
         Ok(Node::new_with_metadata(path, metadata, children))
     }
 
+    // The path, the metadata and the children of the node.
+    pub(crate) fn into_parts(self) -> (NodePath, NodeMetadata, Vec<Node>)
+        ensures path { result.0 ≡ path_of self }
+        ensures metadata { result.1 ≡ metadata_of self }
+        ensures children { result.2.items ≡ children_of self }
+    {
+        let Node {
+            path,
+            metadata,
+            children,
+            count: _,
+        } = self;
+        (path, metadata, children)
+    }
+
+    // A node that holds others while they wait to be dropped.
+    fn waiting(path: NodePath, metadata: NodeMetadata, children: Vec<Node>) -> Node
+        ensures { children_of result ≡ children.items }
+    {
+        Node {
+            path,
+            metadata,
+            children,
+            count: 0,
+        }
+    }
+
     /// Whether throughout the node's tree the path of each child is its parent's and one name.
+    ///
+    /// It takes no memory, and no more calls are open at once than the logarithm of the number of nodes: it goes on by a loop below the
+    /// child with the most nodes, and calls itself for the others alone, of which none has more than half of them.
     ///
     /// Source: Zarr core specification 3.1, "Hierarchy": a node's parent is named by the path without its last name.
     pub fn has_placed_children(&self) -> bool
         ensures { IsTrue result ↔ HasPlacedChildren self.now }
     {
-        are_placed(self.path(), self.children())
+        is_placed(self)
     }
 }
 
@@ -125,30 +161,127 @@ pub(crate) fn push_node(
     Ok(())
 }
 
-// A copy of each of the nodes with all below it.
-fn copy_nodes(alloc: Global, nodes: &[Node]) -> Result<Vec<Node>, AllocError>
-    ensures { IfOk result (λ copies. forest copies.items ≡ forest nodes.now) }
+// Whether throughout a node's tree each child stands one name below its parent.
+#[cycle(placed)]
+fn is_placed(root: &Node) -> bool
+    ensures { IsTrue result ↔ HasPlacedChildren root.now }
 {
-    let mut copies = Vec::new(alloc);
-    for node in nodes {
-        let path = node.path.try_clone(alloc)?;
-        let children = copy_nodes(alloc, &node.children)?;
-        let metadata = node.metadata.try_clone(alloc)?;
-        push_node(&mut copies, path, metadata, children)?;
+    let mut node = root;
+    while let Some((before, largest, after)) = around_largest(&node.children) {
+        if !are_placed(&node.path, before)
+            || !is_child(&node.path, &largest.path)
+            || !are_placed(&node.path, after)
+        {
+            return false;
+        }
+        node = largest;
     }
-    Ok(copies)
+    true
 }
 
 // Whether each of the nodes stands one name below the base, and so throughout their trees.
+#[cycle(placed)]
 fn are_placed(base: &NodePath, nodes: &[Node]) -> bool
     ensures { IsTrue result ↔ ArePlacedBelow base.now (forest nodes.now) }
 {
     for node in nodes {
-        if !is_child(base, &node.path) || !are_placed(&node.path, &node.children) {
+        if !is_child(base, &node.path) || !is_placed(node) {
             return false;
         }
     }
     true
+}
+
+// The node with the most nodes in its tree, and those before it and after it.
+fn around_largest(nodes: &[Node]) -> Option<(&[Node], &Node, &[Node])>
+    ensures { MatchOption result (nodes.now ≡ []) (λ r. nodes.now ≡ r.0.now ++ r.1.now ∷ r.2.now) }
+{
+    let (before, rest) = nodes.split_at(place_of_largest(nodes));
+    match rest.split_first() {
+        Some((largest, after)) => Some((before, largest, after)),
+        None => None,
+    }
+}
+
+// The place of the node with the most nodes in its tree.
+fn place_of_largest(nodes: &[Node]) -> usize
+    ensures within { result ≤ length nodes.now }
+    ensures some { 0 < length nodes.now → result < length nodes.now }
+{
+    let mut place = 0;
+    for at in 1..nodes.len() {
+        if nodes[at].count > nodes[place].count {
+            place = at;
+        }
+    }
+    place
+}
+
+// The number of some nodes with all below them, and one more.
+fn count_with(nodes: &[Node]) -> u64 {
+    let mut count: u64 = 1;
+    for node in nodes {
+        count = count.saturating_add(node.count);
+    }
+    count
+}
+
+// What is printed does not go below the node, so that no depth is too much for it.
+impl fmt::Debug for Node {
+    fn fmt<W: fmt::Write>(&self, f: &mut fmt::Formatter<W>) -> fmt::Result {
+        write!(
+            f,
+            "Node({:?}, {:?}, {} children)",
+            self.path,
+            self.metadata,
+            self.children.len()
+        )
+    }
+}
+
+// The node at hand is taken apart, and one of its children comes next. What else is left waits in a node before its other children, in the
+// room that the child left: nothing is allocated, and no other drop of a node runs, however deep the tree is.
+impl Drop for Node {
+    fn drop(self) {
+        let (_path, _metadata, mut others) = self.into_parts();
+        if let Some(mut node) = others.pop() {
+            loop {
+                let (path, metadata, mut children) = node.into_parts();
+                if let Some(next) = children.pop() {
+                    if others.is_empty() {
+                        drop(path);
+                        drop(metadata);
+                        others = children;
+                    } else {
+                        let waiting = Node::waiting(path, metadata, others);
+                        let _none = put_first(&mut children, waiting);
+                        others = children;
+                    }
+                    node = next;
+                } else if let Some(other) = others.pop() {
+                    node = other;
+                } else {
+                    return;
+                }
+            }
+        }
+    }
+}
+
+// Puts a node before the others, where there is room for it, and gives nothing back.
+fn put_first(nodes: &mut Vec<Node>, node: Node) -> Option<Node>
+    requires { vec_len nodes.old < vec_capacity nodes.old }
+    ensures none { result ≡ None }
+    ensures weights { weights nodes.new.items ≡ weights nodes.old.items + (weights (children_of node) + 1) }
+{
+    let end = nodes.len();
+    match nodes.push(node) {
+        Ok(()) => {
+            nodes.swap(0, end);
+            None
+        }
+        Err(refused) => Some(refused.value),
+    }
 }
 
 impl From<Node> for NodePath {
@@ -157,7 +290,8 @@ impl From<Node> for NodePath {
     ghost from_gives = { λ node path. path ≡ path_of node };
 
     fn from(node: Node) -> NodePath {
-        node.path
+        let (path, _metadata, _children) = node.into_parts();
+        path
     }
 }
 
@@ -167,6 +301,7 @@ impl From<Node> for NodeMetadata {
     ghost from_gives = { λ node metadata. metadata ≡ metadata_of node };
 
     fn from(node: Node) -> NodeMetadata {
-        node.metadata
+        let (_path, metadata, _children) = node.into_parts();
+        metadata
     }
 }

@@ -9,7 +9,7 @@ ghost use Rattle.zarrs_node.specs.Forest.{Shows, forest, path_of, metadata_of, b
 ghost use Rattle.zarrs_node.specs.Reached.{Kept};
 ghost use Rattle.zarrs_node.specs.Opened.{choice, ShowsChosen, IsCleanChosen, RefusesChosen, ShowsNode, IsCleanNode, RefusesOpening};
 
-use crate::build::build_node_tree;
+use crate::build::build_ascending;
 use crate::children::get_child_nodes_opt;
 use crate::node::Node;
 use crate::zmetadata::consolidated_metadata_at;
@@ -130,5 +130,6 @@ fn nodes_of_block(
     ensures err { IfErr result (RefusesKeys block.metadata) }
 {
     let pairs = expand_consolidated_metadata(alloc, path, block)?;
-    Ok(build_node_tree(alloc, path, pairs)?)
+    let (nodes, _steps) = build_ascending(alloc, path, pairs)?;
+    Ok(nodes)
 }

@@ -1,24 +1,23 @@
 //! A block made current where the documents of one path changed.
-ghost use Rattle.std.specs.Prelude.{◌≡◌, ◌↔◌, IfOk, IfErr, OnOk, IsTrue, ◌⊎◌, Contains};
+ghost use Rattle.std.specs.Prelude.{◌≡◌, ◌↔◌, ◌∷◌, IfOk, IfErr, OnOk, IsTrue, ◌⊎◌, Contains};
 ghost use Rattle.zarrs_store.specs.Contents.{Lists};
-ghost use Rattle.zarrs_path.specs.Paths.{IsBelow, IsPath};
+ghost use Rattle.zarrs_path.specs.Paths.{IsBelow, IsPath, Path, without_leading_slash};
 ghost use Rattle.zarrs_block.specs.Block.{Entries, IsAscending};
 ghost use Rattle.zarrs_block.specs.Refused.{IsExcused};
 ghost use Rattle.zarrs_block.specs.Meaning.{meaning};
 ghost use Rattle.zarrs_node.specs.Reached.{HasGroup};
-ghost use Rattle.zarrs_node.specs.Consolidated.{AreBelow, put_all};
+ghost use Rattle.zarrs_node.specs.Consolidated.{AreBelow, put_all, text_beyond};
 ghost use Rattle.zarrs_node.specs.Fresh.{LeadsTo, Renewed, IsFresh, BadAnew, ShowsBadAnew};
 
-use crate::children::push_pairs;
 use crate::consolidate::text_beyond;
+use crate::descent::walk_nodes;
 use crate::last_read::LastDocuments;
-use crate::listing::list_nodes;
 use crate::metadata::find_metadata;
 use std::alloc::{AllocError, Global};
 use zarrs_block::{ConsolidatedMetadataMetadata, NodeCreateError};
 use zarrs_config::MetadataRetrieveVersion;
 use zarrs_meta::NodeMetadata;
-use zarrs_path::{NodePath, NodePathError};
+use zarrs_path::NodePath;
 use zarrs_store::{ListableStorageTraits, ReadableStorageTraits};
 
 /// The block of a group, made current where the documents of one path below the group changed: without what it has at the path and
@@ -67,39 +66,44 @@ fn leads_to(
     block: &ConsolidatedMetadataMetadata,
     base: &NodePath,
     path: &NodePath,
-) -> Result<bool, NodePathError>
-    requires below { IsBelow base.now path.now }
-    ensures leads { IfOk result (λ leads. IsTrue leads ↔ LeadsTo block.now base.now path.now) }
-    ensures err { IfErr result (λ e. e ≡ NodePathError.OutOfMemory) }
-{
-    let Some(parent) = path.parent(alloc)? else {
-        return Ok(true);
-    };
-    if !parent.is_below(base) {
-        return Ok(true);
-    }
-    Ok(has_group(alloc, block, base, &parent)? && leads_to(alloc, block, base, &parent)?)
-}
-
-// Whether the entry of a path below the base is a group.
-fn has_group(
-    alloc: Global,
-    block: &ConsolidatedMetadataMetadata,
-    base: &NodePath,
-    path: &NodePath,
 ) -> Result<bool, AllocError>
     requires below { IsBelow base.now path.now }
-    ensures { IfOk result (λ group. IsTrue group ↔ HasGroup (Entries block.now base.now) path.now) }
+    ensures leads { IfOk result (λ leads. IsTrue leads ↔ LeadsTo block.now base.now path.now) }
 {
     let key = text_beyond(base, path);
-    if let Some(metadata) = block.get(key) {
-        return Ok(metadata.is_group());
-    }
     let rooted = format!(in alloc; "/{key}")?;
-    match block.get(&rooted) {
-        Some(metadata) => Ok(metadata.is_group()),
-        None => Ok(false),
+    let mut left = rooted.as_str();
+    while let Some((above, _name)) = left.rsplit_once('/') {
+        if above.is_empty() {
+            return Ok(true);
+        }
+        if !has_group(block, above) {
+            return Ok(false);
+        }
+        left = above;
     }
+    Ok(true)
+}
+
+// Whether the entry at a key, which is given with a slash in front, is a group.
+fn has_group(block: &ConsolidatedMetadataMetadata, rooted: &str) -> bool
+    ensures { (b p : Path) → IsPath p → IsBelow b p → rooted.now ≡ 47 ∷ text_beyond b p → IsTrue result ↔ HasGroup (Entries block.now b) p }
+{
+    let key = without_slash(rooted);
+    if let Some(metadata) = block.get(key) {
+        return metadata.is_group();
+    }
+    match block.get(rooted) {
+        Some(metadata) => metadata.is_group(),
+        None => false,
+    }
+}
+
+// The text without a slash in front.
+fn without_slash(text: &str) -> &str
+    ensures { result.now ≡ without_leading_slash text.now }
+{
+    text.strip_prefix('/').unwrap_or(text)
 }
 
 // The node at a path, if there is one, and for a group all below it, parents before children.
@@ -120,18 +124,17 @@ fn read_anew<S: ReadableStorageTraits + ListableStorageTraits>(
     let Some(metadata) = found? else {
         return Ok(pairs);
     };
-    let nodes = if metadata.is_group() {
-        list_nodes(alloc, storage, path, true, version)?.nodes
-    } else {
-        Vec::new(alloc)
-    };
+    let deeper = metadata.is_group();
     pairs.push((path.try_clone(alloc)?, metadata))?;
-    push_pairs(&mut pairs, nodes)?;
+    if !deeper {
+        return Ok(pairs);
+    }
+    drop(walk_nodes(alloc, storage, path, true, version, &mut pairs)?);
     Ok(pairs)
 }
 
-// Puts metadata into a block, each at its path relative to the base.
-fn insert_pairs(
+/// Puts metadata into a block, each at its path relative to the base.
+pub(crate) fn insert_pairs(
     alloc: Global,
     base: &NodePath,
     pairs: Vec<(NodePath, NodeMetadata)>,

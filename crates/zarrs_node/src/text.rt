@@ -1,12 +1,13 @@
 //! A node and the nodes below it as text.
-ghost use Rattle.std.specs.Prelude.{◌≡◌, ◌∷◌, [], ◌++◌, ◌*◌, ℕ, Some, IfOk, OnOk, replicate, string_bytes};
+ghost use Rattle.std.specs.Prelude.{◌≡◌, ◌∷◌, [], ◌++◌, ◌*◌, Some, IfOk, OnOk, replicate, string_bytes};
 ghost use Rattle.std.specs.Fmt.{WritesOnOk};
 ghost use Rattle.zarrs_store.specs.Segments.{last_segment};
-ghost use Rattle.zarrs_node.specs.Forest.{forest, metadata_of, below_of};
-ghost use Rattle.zarrs_node.specs.Lines.{array_text, shape_text, type_text_v2, type_text_v3, node_text, named_line, preorder, tree_text};
+ghost use Rattle.zarrs_node.specs.Forest.{metadata_of, below_of};
+ghost use Rattle.zarrs_node.specs.Lines.{array_text, shape_text, type_text_v2, type_text_v3, node_text, named_line, tree_text};
 
 use crate::last_name::last_name;
 use crate::node::Node;
+use crate::preorder::Preorder;
 use std::alloc::{AllocError, Global};
 use std::fmt;
 use zarrs_meta::{ArrayMetadata, DataTypeMetadataV2, MetadataV3, NodeMetadata};
@@ -26,40 +27,28 @@ impl Node {
         ensures ok { IfOk result (λ text. string_bytes text ≡ tree_text (metadata_of self.now) (below_of self.now)) }
     {
         let mut text = String::new(alloc);
-        push_line(&mut text, "", "/", &self.metadata)?;
-        push_forest(alloc, &mut text, "  ", &self.children)?;
+        push_line(&mut text, 0, "/", &self.metadata)?;
+        let mut walk = Preorder::new(alloc, &self.children)?;
+        while let Some((level, node)) = walk.next()? {
+            push_line(&mut text, level, last_name(&node.path), &node.metadata)?;
+        }
         Ok(text)
     }
 }
 
-// Adds the lines of some nodes and of those below them.
-fn push_forest(
-    alloc: Global,
-    text: &mut String,
-    indent: &str,
-    nodes: &[Node],
-) -> Result<(), AllocError>
-    ensures { OnOk result ((level : ℕ) → indent.now ≡ replicate (2 * level) 32 → string_bytes text.new ≡ string_bytes text.old ++ preorder level (forest nodes.now)) }
-{
-    let deeper = format!(in alloc; "{indent}  ")?;
-    for node in nodes {
-        push_line(text, indent, last_name(&node.path), &node.metadata)?;
-        push_forest(alloc, text, deeper.as_str(), &node.children)?;
-    }
-    Ok(())
-}
-
-// Adds a line.
+// Adds a line, two spaces deeper for each level.
 fn push_line(
     text: &mut String,
-    indent: &str,
+    level: usize,
     name: &str,
     metadata: &NodeMetadata,
 ) -> Result<(), AllocError>
-    ensures { OnOk result (string_bytes text.new ≡ string_bytes text.old ++ (indent.now ++ named_line name.now metadata.now)) }
+    ensures { OnOk result (string_bytes text.new ≡ string_bytes text.old ++ (replicate (2 * level) 32 ++ named_line name.now metadata.now)) }
 {
+    for _step in 0..level {
+        text.push_str("  ")?;
+    }
     let line = NodeLine { name, metadata };
-    text.push_str(indent)?;
     write!(text, "{line}")
 }
 

@@ -41,7 +41,7 @@ fn tree_of(hierarchy: &Hierarchy, alloc: Global, path: &str) -> Result<String, A
 fn told(hierarchy: &Hierarchy, alloc: Global) -> Result<String, AllocError> {
     let group = has(hierarchy, alloc, "/group");
     let none = has(hierarchy, alloc, "/nothing");
-    let len = hierarchy.as_map().len();
+    let len = hierarchy.as_map(alloc)?.len();
     let empty = hierarchy.is_empty();
     format!(in alloc; "{group} {none} {len} {empty}")
 }

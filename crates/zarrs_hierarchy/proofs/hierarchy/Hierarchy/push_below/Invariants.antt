@@ -1,4 +1,4 @@
-use Rattle.std.proofs.Common.{◌≡◌, ◌∷◌, ◌++◌, string_bytes}
+use Rattle.std.proofs.Common.{◌≡◌, ◌∷◌, ◌++◌, drop, string_bytes}
 use Rattle.std.specs.List.Sorted.{IsStrictlySortedBy}
 use Rattle.std.specs.Map.{keys_of}
 use Rattle.zarrs_path.specs.Paths.{path_cmp}
@@ -9,5 +9,6 @@ use Rattle.zarrs_hierarchy.proofs.hierarchy.Hierarchy.push_below.Given as goal
 -- what is written and what is left below the base make the whole, and what is left ascends from the base on
 abbrev pub invariant-loop-path : goal.invariant-loop-path
 invariant-loop-path l =
-    IsStrictlySortedBy path_cmp (l.base ∷ keys_of l.path-iterator)
-    × (string_bytes l.text ++ lines l.base (pairs_below l.base l.path-iterator) ≡ string_bytes l.initial.text ++ lines l.base (pairs_below l.base l.self))
+    let left = drop l.path-index l.path-items in
+    IsStrictlySortedBy path_cmp (l.base ∷ keys_of left)
+    × (string_bytes l.text ++ lines l.base (pairs_below l.base left) ≡ string_bytes l.initial.text ++ lines l.base (pairs_below l.base l.self))

@@ -1,0 +1,175 @@
+//! The walk over the nodes below a path.
+ghost use Rattle.std.specs.Prelude.{◌≡◌, [], ◌++◌, Ok, false, IfOk, IfErr, OnOk, ◌⊎◌};
+ghost use Rattle.zarrs_store.specs.Segments.{IsPrefix};
+ghost use Rattle.zarrs_store.specs.Contents.{Lists};
+ghost use Rattle.zarrs_store.specs.Children.{AreVisibleChildren};
+ghost use Rattle.zarrs_path.specs.Paths.{IsPath};
+ghost use Rattle.zarrs_block.specs.Meaning.{meaning, bad};
+ghost use Rattle.zarrs_block.specs.Refused.{IsExcused, IsInvalidPath};
+ghost use Rattle.zarrs_node.specs.Forest.{told, passed, found_group};
+ghost use Rattle.zarrs_node.specs.Nodes.{Nodes, Ignored, ShowsBad, Bad};
+ghost use Rattle.zarrs_node.specs.Refused.{Finds};
+ghost use Rattle.zarrs_node.specs.Sinks.{TakesAll, TakesForest};
+ghost use Rattle.zarrs_node.specs.Stacked.{AreOnTop};
+
+use crate::last_read::LastDocuments;
+use crate::metadata::find_metadata;
+use crate::sink::NodeSink;
+use std::alloc::{AllocError, Global};
+use zarrs_block::NodeCreateError;
+use zarrs_config::MetadataRetrieveVersion;
+use zarrs_meta::NodeMetadata;
+use zarrs_path::{NodePath, NodePathError};
+use zarrs_store::{
+    ListableStorageTraits, ReadableStorageTraits, StorageError, StorePrefix, discover_children,
+};
+
+/// The paths without documents that a walk below a path passed over with all below them, each once, where each node that it found was
+/// handed to a sink: parents before children, siblings ascending. Where the walk is not recursive, these are the nodes directly below
+/// the path. The path itself is not asked for a document. After a refusal the sink has some of the nodes.
+///
+/// # Errors
+///
+/// - `StorageError::InvalidMetadata` where a document on the way does not read, with its key and the fault.
+/// - `MetadataVersionMismatch` where a document of version 2 stands at `zarr.json`.
+/// - `StorageError::Other` with `invalid node path ` and the child's text where a child's name is made of periods only.
+/// - `StorageError::Fault` of a store that can fail, and `OutOfMemory` where memory is wanting.
+///
+/// Source: `zarrs::node::get_child_nodes_opt`, without a logger, its nodes one by one.
+pub fn walk_nodes<S: ReadableStorageTraits + ListableStorageTraits, K: NodeSink>(
+    alloc: Global,
+    storage: &S,
+    path: &NodePath,
+    recursive: bool,
+    version: &MetadataRetrieveVersion,
+    sink: &mut K,
+) -> Result<Vec<NodePath>, NodeCreateError>
+    ensures takes { IfOk result (λ _. TakesForest K.takes sink.old sink.new path.now (Nodes (S.contents storage.now) version.now recursive path.now)) }
+    ensures ignored { IfOk result (λ ignored. Lists (Ignored (S.contents storage.now) version.now recursive path.now) ignored.items) }
+    ensures clean { IfOk result (λ _. Bad (S.contents storage.now) version.now recursive path.now → ⊥) }
+    ensures refused { IfErr result (λ e. IsExcused (S.can_fail storage.now) e ⊎ ShowsBad (S.contents storage.now) version.now recursive path.now e) }
+{
+    let mut last = LastDocuments::new(alloc);
+    let walked = walk(alloc, storage, path, recursive, version, &mut last, sink);
+    drop(last);
+    walked
+}
+
+// What `walk_nodes` answers, where some documents were read before. The prefixes that are still to be read stand on a stack, those of one path with the
+// first of them on top.
+fn walk<S: ReadableStorageTraits + ListableStorageTraits, K: NodeSink>(
+    alloc: Global,
+    storage: &S,
+    path: &NodePath,
+    recursive: bool,
+    version: &MetadataRetrieveVersion,
+    last: &mut LastDocuments,
+    sink: &mut K,
+) -> Result<Vec<NodePath>, NodeCreateError>
+    ensures takes { IfOk result (λ _. TakesForest K.takes sink.old sink.new path.now (Nodes (S.contents storage.now) version.now recursive path.now)) }
+    ensures ignored { IfOk result (λ ignored. Lists (Ignored (S.contents storage.now) version.now recursive path.now) ignored.items) }
+    ensures clean { IfOk result (λ _. Bad (S.contents storage.now) version.now recursive path.now → ⊥) }
+    ensures refused { IfErr result (λ e. IsExcused (S.can_fail storage.now) e ⊎ ShowsBad (S.contents storage.now) version.now recursive path.now e) }
+{
+    let mut pending = Vec::new(alloc);
+    push_children(alloc, storage, path, &mut pending)?;
+    let mut ignored = Vec::new(alloc);
+    while let Some(prefix) = pending.pop() {
+        let (child, found) = read_child(alloc, storage, prefix, version, last)?;
+        if recursive && is_group(&found) {
+            push_children(alloc, storage, &child, &mut pending)?;
+        }
+        tell(child, found, sink, &mut ignored)?;
+    }
+    Ok(ignored)
+}
+
+// Hands a node to the sink, or puts a path that was passed over behind the others.
+fn tell<K: NodeSink>(
+    path: NodePath,
+    found: Option<NodeMetadata>,
+    sink: &mut K,
+    ignored: &mut Vec<NodePath>,
+) -> Result<(), AllocError>
+    ensures nodes { OnOk result (TakesAll K.takes sink.old (told path found) sink.new) }
+    ensures ignored { OnOk result (ignored.new.items ≡ ignored.old.items ++ passed path found []) }
+{
+    match found {
+        Some(metadata) => sink.take(path, metadata),
+        None => Ok(ignored.push(path)?),
+    }
+}
+
+// Puts the prefixes of the children of a path on the stack, the first of them on top.
+fn push_children<S: ListableStorageTraits>(
+    alloc: Global,
+    storage: &S,
+    path: &NodePath,
+    pending: &mut Vec<StorePrefix>,
+) -> Result<(), NodeCreateError>
+    ensures ok { OnOk result (AreOnTop (S.contents storage.now) path.now pending.old.items pending.new.items) }
+    ensures valid { OnOk result (IsPath path.now) }
+    ensures err { IfErr result (IsExcused (S.can_fail storage.now)) }
+{
+    let mut children = child_prefixes(alloc, storage, path)?;
+    children.reverse();
+    pending.append(&mut children)?;
+    Ok(())
+}
+
+// Whether what was found is a group.
+fn is_group(found: &Option<NodeMetadata>) -> bool
+    ensures { result ≡ found_group found.now }
+{
+    match found {
+        Some(metadata) => metadata.is_group(),
+        None => false,
+    }
+}
+
+// The prefixes of the children of a path.
+fn child_prefixes<S: ListableStorageTraits>(
+    alloc: Global,
+    storage: &S,
+    path: &NodePath,
+) -> Result<Vec<StorePrefix>, NodeCreateError>
+    ensures ok { IfOk result (λ children. AreVisibleChildren (S.contents storage.now) path.now children.items × IsPath path.now) }
+    ensures err { IfErr result (IsExcused (S.can_fail storage.now)) }
+{
+    let base = path.to_prefix(alloc)?;
+    Ok(discover_children(alloc, storage, &base)?)
+}
+
+// The path of a child prefix, and its metadata.
+fn read_child<S: ReadableStorageTraits>(
+    alloc: Global,
+    storage: &S,
+    prefix: StorePrefix,
+    version: &MetadataRetrieveVersion,
+    last: &mut LastDocuments,
+) -> Result<(NodePath, Option<NodeMetadata>), NodeCreateError>
+    ensures path { IfOk result (λ x. (x.0 ≡ prefix) × IsPath x.0) }
+    ensures found { IfOk result (λ x. Finds (S.can_fail storage.now) (Ok x.1) (meaning (S.contents storage.now) version.now x.0)) }
+    ensures refused { IfErr result (λ e. IsExcused (S.can_fail storage.now) e ⊎ (IsInvalidPath prefix e × (¬ IsPath prefix)) ⊎ (IsPath prefix × (meaning (S.contents storage.now) version.now prefix ≡ bad e))) }
+    ensures valid { IsPrefix prefix }
+{
+    let path = child_path(alloc, prefix)?;
+    let found = find_metadata(alloc, storage, &path, version, last)?;
+    Ok((path, found))
+}
+
+// The path of a child prefix.
+fn child_path(alloc: Global, prefix: StorePrefix) -> Result<NodePath, NodeCreateError>
+    ensures path { IfOk result (λ p. (p ≡ prefix) × IsPath p) }
+    ensures refused { IfErr result (λ e. IsExcused false e ⊎ (IsInvalidPath prefix e × (¬ IsPath prefix))) }
+    ensures valid { IsPrefix prefix }
+{
+    match NodePath::from_owned_prefix(prefix) {
+        Ok(path) => Ok(path),
+        Err(NodePathError::OutOfMemory) => Err(NodeCreateError::OutOfMemory),
+        Err(NodePathError::Invalid(text)) => {
+            let text = format!(in alloc; "invalid node path {text}")?;
+            Err(NodeCreateError::StorageError(StorageError::Other(text)))
+        }
+    }
+}
