@@ -1,5 +1,5 @@
 -- Blocks without some of their keys.
-use Rattle.std.proofs.Common.{◌≡◌, ◌≢◌, ◌⊎◌, inl, inr, ⊎_elim, ◌↔◌, ◌<◌, ℕ, Bool, true, false, true≢false, not, ◌&&◌, cond, List, [], ◌∷◌, ◌++◌, Some, None, String, Global, string_bytes, string_cmp, nat_cmp, Ordering, Less, Equal, Greater, refl, ap, sym, subst, ◌∙◌, arith}
+use Rattle.std.proofs.Common.{◌≡◌, ◌≢◌, ◌⊎◌, inl, inr, ⊎_elim, ◌↔◌, ◌<◌, ℕ, Bool, true, false, true≢false, not, ◌&&◌, cond, List, [], ◌∷◌, ◌++◌, map, Some, None, String, Global, string_bytes, string_cmp, nat_cmp, Ordering, Less, Equal, Greater, refl, ap, sym, subst, ◌∙◌, arith}
 use Rattle.std.specs.List.{filter}
 use Rattle.std.specs.Map.{remove_entry}
 use Rattle.std.specs.BTreeMap.{is_at}
@@ -12,8 +12,8 @@ use Rattle.std.proofs.lemmas.Cmp.{nat_cmp_total, ranked, tied_itself}
 use Rattle.zarrs_store.specs.Segments.{bytes_cmp}
 use Rattle.zarrs_meta.specs.declared.node.NodeMetadata.{NodeMetadata}
 use Rattle.zarrs_block.specs.Block.{Block, IsAscending, found}
-use Rattle.zarrs_block.specs.Without.{IsAtOrBelow, IsWithout, IsCutBy, HasNoMore}
-use Rattle.zarrs_block.proofs.BlockLaws.{shown}
+use Rattle.zarrs_block.specs.Without.{Among, AreBelow, Begins, IsAtOrBelow, IsWithout, IsCutBy}
+use Rattle.zarrs_block.proofs.BlockLaws.{shown, texts, nothing_behind}
 use Rattle.zarrs_block.proofs.Expansion.{same_text}
 
 -- an entry of a map of texts
@@ -97,44 +97,70 @@ runs_forward (k ∷ r) = ap (λ o. is_gt (ordering_then o (bytes_cmp (r ++ 47 �
 
 -- ---- the entries of a range
 
--- t is the key of one of the entries
-abbrev pub Among : List Entry → List ℕ → Type 0
-Among [] t = ⊥
-Among (e ∷ es) t = (t ≡ string_bytes e.0) ⊎ Among es t
-
 module _ (test : List ℕ → Bool) where
   -- the entries whose keys pass the test
   abbrev passing : List Entry → List Entry
   passing es = filter (λ e. test (string_bytes e.0)) es
 
   -- a key that passes and is found is among them
-  among_of : (t : List ℕ) (m : NodeMetadata) (es : List Entry) → test t ≡ true → found (shown es) t ≡ Some m → Among (passing es) t
+  among_of : (t : List ℕ) (m : NodeMetadata) (es : List Entry) → test t ≡ true → found (shown es) t ≡ Some m → Among (texts (passing es)) t
   among_of t m [] pass h = absurd (none_some m h)
   among_of t m (e ∷ es) pass h = by (is_eq (bytes_cmp t (string_bytes e.0))) refl (test (string_bytes e.0)) refl (among_of t m es pass) h
     where
-      by : (x : Bool) → is_eq (bytes_cmp t (string_bytes e.0)) ≡ x → (y : Bool) → test (string_bytes e.0) ≡ y → (found (shown es) t ≡ Some m → Among (passing es) t)
-          → cond x (Some e.1) (found (shown es) t) ≡ Some m → Among (cond y (e ∷ passing es) (passing es)) t
+      by : (x : Bool) → is_eq (bytes_cmp t (string_bytes e.0)) ≡ x → (y : Bool) → test (string_bytes e.0) ≡ y → (found (shown es) t ≡ Some m → Among (texts (passing es)) t)
+          → cond x (Some e.1) (found (shown es) t) ≡ Some m → Among (texts (cond y (e ∷ passing es) (passing es))) t
       by true at true is again g = inl (same_text t (string_bytes e.0) at)
       by true at false is again g = absurd (true≢false (sym pass ∙ ap test (same_text t (string_bytes e.0) at) ∙ is))
       by false at true is again g = inr (again g)
       by false at false is again g = again g
 
   -- and each of them passes
-  among_from : (t : List ℕ) (es : List Entry) → Among (passing es) t → test t ≡ true
+  among_from : (t : List ℕ) (es : List Entry) → Among (texts (passing es)) t → test t ≡ true
   among_from t [] h = absurd h
   among_from t (e ∷ es) h = by (test (string_bytes e.0)) refl (among_from t es) h
     where
-      by : (y : Bool) → test (string_bytes e.0) ≡ y → (Among (passing es) t → test t ≡ true) → Among (cond y (e ∷ passing es) (passing es)) t → test t ≡ true
+      by : (y : Bool) → test (string_bytes e.0) ≡ y → (Among (texts (passing es)) t → test t ≡ true) → Among (texts (cond y (e ∷ passing es) (passing es))) t → test t ≡ true
       by true is again g = ⊎_elim (λ same. ap test same ∙ is) again g
       by false is again g = again g
 
--- ---- what is cut from a copy
+-- the keys of the range are those that begin with r and a slash
+pub range_below : (r : List ℕ) (B : Block) (es left : List Entry) (first end : String Global) → shown es ≡ B
+    → string_bytes first ≡ r ++ 47 ∷ [] → string_bytes end ≡ r ++ 48 ∷ [] → left ≡ entries_between string_cmp (Included first) (Excluded end) es → AreBelow r B (texts left)
+range_below r B es left first end all low high range t = (
+  λ among. begins_from r t (among_from (is_between r) t es (subst (λ xs. Among (texts xs) t) whole among)),
+  λ m h begins.
+      subst (λ xs. Among (texts xs) t) (sym whole)
+      (among_of (is_between r) t m es (ap (is_between r) begins.1 ∙ begins_of r begins.0) (ap (λ C. found C t) all ∙ h)),
+)
+  where
+    -- the range by the bytes of its bounds
+    whole : left ≡ filter (λ e. is_between r (string_bytes e.0)) es
+    whole = range ∙ ap (λ k. filter (λ e. is_le (bytes_cmp k (string_bytes e.0)) && not (is_le (bytes_cmp (string_bytes end) (string_bytes e.0)))) es) low
+        ∙ ap (λ k. filter (λ e. is_le (bytes_cmp (r ++ 47 ∷ []) (string_bytes e.0)) && not (is_le (bytes_cmp k (string_bytes e.0)))) es) high
 
--- the text begins with r and a slash
-abbrev pub Begins : List ℕ → List ℕ → Type 0
-Begins r t = (rest : List ℕ) × (t ≡ r ++ 47 ∷ rest)
+-- the texts with one more at their end, and further texts
+copied_one : (keys : List (String Global)) (k : String Global) (ts : List (List ℕ)) → map string_bytes (keys ++ k ∷ []) ++ ts ≡ map string_bytes keys ++ string_bytes k ∷ ts
+copied_one [] k ts = refl
+copied_one (x ∷ keys) k ts = ap (λ ks. string_bytes x ∷ ks) (copied_one keys k ts)
 
--- without a key a copy has at each text what it had, but for that key
+-- one more key is copied
+pub copied_key : (r : List ℕ) (B : Block) (keys new : List (String Global)) (k : String Global) (left es : List Entry) (e : Entry) → left ≡ e ∷ es → string_bytes k ≡ string_bytes e.0
+    → new ≡ keys ++ k ∷ [] → AreBelow r B (map string_bytes keys ++ texts left) → AreBelow r B (map string_bytes new ++ texts es)
+copied_key r B keys new k left es e is key push h =
+    let same : map string_bytes new ++ texts es ≡ map string_bytes keys ++ texts left =
+    ap (λ ks. map string_bytes ks ++ texts es) push ∙ copied_one keys k (texts es) ∙ ap (λ t. map string_bytes keys ++ t ∷ texts es) key ∙ ap (λ xs. map string_bytes keys ++ texts xs) (sym is) in
+    subst (AreBelow r B) (sym same) h
+
+-- at first all are left, and at the end none
+pub all_left : (r : List ℕ) (B : Block) (keys : List (String Global)) (left : List Entry) → keys ≡ [] → AreBelow r B (texts left) → AreBelow r B (map string_bytes keys ++ texts left)
+all_left r B keys left none h = subst (λ ks. AreBelow r B (map string_bytes ks ++ texts left)) (sym none) h
+
+pub all_copied : (r : List ℕ) (B : Block) (keys : List (String Global)) (left : List Entry) → left ≡ [] → AreBelow r B (map string_bytes keys ++ texts left) → AreBelow r B (map string_bytes keys)
+all_copied r B keys left none h = subst (AreBelow r B) (ap (λ xs. map string_bytes keys ++ texts xs) none ∙ nothing_behind (map string_bytes keys)) h
+
+-- ---- what is cut out of a block
+
+-- without a key a block has at each text what it had, but for that key
 module _ (r : List ℕ) (old one : Block) (gone : found one r ≡ None) (others : (t : List ℕ) → t ≢ r → found one t ≡ found old t) where
   -- what it has is not at the key
   pub not_there : (t : List ℕ) (m : NodeMetadata) → found one t ≡ Some m → t ≢ r
@@ -145,36 +171,24 @@ module _ (r : List ℕ) (old one : Block) (gone : found one r ≡ None) (others 
   was_there t m h = sym (others t (not_there t m h)) ∙ h
 
 module _ (r : List ℕ) (one : Block) where
-  -- the entries that are left are still to be taken out
-  abbrev pub IsLeft : Block → List Entry → Type 0
+  -- the keys that are left are still to be taken out
+  abbrev pub IsLeft : Block → List (List ℕ) → Type 0
   IsLeft now left = IsAscending now × ((t : List ℕ) (m : NodeMetadata) → ((Among left t → ⊥) × (found now t ≡ Some m)) ↔ ((Begins r t → ⊥) × (found one t ≡ Some m)))
 
   -- at first those are left that begin with the text and a slash
-  pub cut_start : (B : Block) (es left : List Entry) (first end : String Global) → shown es ≡ B → HasNoMore B one → IsAscending one
-      → string_bytes first ≡ r ++ 47 ∷ [] → string_bytes end ≡ r ++ 48 ∷ [] → left ≡ entries_between string_cmp (Included first) (Excluded end) es → IsLeft one left
-  cut_start B es left first end all more up low high range = (
+  pub cut_start : (ks left : List (List ℕ)) → left ≡ ks → IsAscending one → AreBelow r one ks → IsLeft one left
+  cut_start ks left all up below = (
     up,
     λ t m. (
-      λ h. (λ begins. h.0 (here t m begins h.1), h.1),
-      λ h. (λ among. h.0 (begins_from r t (among_from (is_between r) t es (subst (λ xs. Among xs t) whole among))), h.1),
+      λ h. (λ begins. h.0 (subst (λ xs. Among xs t) (sym all) ((below t).1 m h.1 begins)), h.1),
+      λ h. (λ among. h.0 ((below t).0 (subst (λ xs. Among xs t) all among)), h.1),
     ),
   )
-    where
-      -- the range by the bytes of its bounds
-      whole : left ≡ filter (λ e. is_between r (string_bytes e.0)) es
-      whole = range ∙ ap (λ k. filter (λ e. is_le (bytes_cmp k (string_bytes e.0)) && not (is_le (bytes_cmp (string_bytes end) (string_bytes e.0)))) es) low
-          ∙ ap (λ k. filter (λ e. is_le (bytes_cmp (r ++ 47 ∷ []) (string_bytes e.0)) && not (is_le (bytes_cmp k (string_bytes e.0)))) es) high
-
-      -- what begins so and is there is in the range
-      here : (t : List ℕ) (m : NodeMetadata) → Begins r t → found one t ≡ Some m → Among left t
-      here t m (rest, is) h =
-          subst (λ xs. Among xs t) (sym whole)
-          (among_of (is_between r) t m es (ap (is_between r) is ∙ begins_of r rest) (ap (λ C. found C t) all ∙ more t m h))
 
   -- one more is taken out
-  pub cut_next : (now new : Block) (left es : List Entry) (e : Entry) (k : List ℕ) → left ≡ e ∷ es → k ≡ string_bytes e.0
-      → found new k ≡ None → ((t : List ℕ) → t ≢ k → found new t ≡ found now t) → IsAscending new → IsLeft now left → IsLeft new es
-  cut_next now new left es e k is key gone others up h = (
+  pub cut_next : (now new : Block) (left ks : List (List ℕ)) (k t' : List ℕ) → left ≡ t' ∷ ks → k ≡ t'
+      → found new k ≡ None → ((t : List ℕ) → t ≢ k → found new t ≡ found now t) → IsAscending new → IsLeft now left → IsLeft new ks
+  cut_next now new left ks k t' is key gone others up h = (
     up,
     λ t m. (
       λ g.
@@ -182,31 +196,19 @@ module _ (r : List ℕ) (one : Block) where
           (h.1 t m).0 (λ among. ⊎_elim (λ same. other (same ∙ sym key)) g.0 (subst (λ xs. Among xs t) is among), sym (others t other) ∙ g.1),
       λ g.
           let w = (h.1 t m).1 g in
-          let apart : Among (e ∷ es) t → ⊥ = λ among. w.0 (subst (λ xs. Among xs t) (sym is) among) in
+          let apart : Among (t' ∷ ks) t → ⊥ = λ among. w.0 (subst (λ xs. Among xs t) (sym is) among) in
           (λ among. apart (inr among), others t (λ same. apart (inl (same ∙ key))) ∙ w.1),
     ),
   )
 
   -- where none is left, all are taken out, and the key itself before them
-  pub cut_end : (old now : Block) (left : List Entry) → left ≡ [] → found one r ≡ None → ((t : List ℕ) → t ≢ r → found one t ≡ found old t) → IsLeft now left → IsCutBy r old now
+  pub cut_end : (old now : Block) (left : List (List ℕ)) → left ≡ [] → found one r ≡ None → ((t : List ℕ) → t ≢ r → found one t ≡ found old t) → IsLeft now left → IsCutBy r old now
   cut_end old now left is gone others h t m = (
     λ g.
         let w = (h.1 t m).0 (λ among. subst (λ xs. Among xs t) is among, g) in
         (λ at. ⊎_elim (not_there r old one gone others t m w.1) w.0 at, was_there r old one gone others t m w.1),
     λ g. ((h.1 t m).1 (λ begins. g.0 (inr begins), others t (λ same. g.0 (inl same)) ∙ g.1)).1,
   )
-
--- a copy without a key has no more than its source
-pub one_no_more : (r : List ℕ) (B old one : Block) → HasNoMore B old → found one r ≡ None → ((t : List ℕ) → t ≢ r → found one t ≡ found old t) → HasNoMore B one
-one_no_more r B old one more gone others t m h = more t m (was_there r old one gone others t m h)
-
--- what is cut has no more than there was
-pub cut_no_more : (r : List ℕ) (B old now : Block) → HasNoMore B old → IsCutBy r old now → HasNoMore B now
-cut_no_more r B old now more cut t m h = more t m ((cut t m).0 h).1
-
--- a copy has no more than its source
-pub copy_no_more : (B C : Block) → C ≡ B → HasNoMore B C
-copy_no_more B C same t m h = subst (λ D. found D t ≡ Some m) same h
 
 -- a text at or below one behind a slash is one at or below it, behind a slash
 rooted_from : (r t : List ℕ) → IsAtOrBelow (47 ∷ r) t → (u : List ℕ) × (t ≡ 47 ∷ u) × IsAtOrBelow r u
@@ -215,16 +217,16 @@ rooted_from r t h = ⊎_elim (λ same. (r, same, inl refl)) (λ w. (r ++ 47 ∷ 
 rooted_of : (r t : List ℕ) → (u : List ℕ) × (t ≡ 47 ∷ u) × IsAtOrBelow r u → IsAtOrBelow (47 ∷ r) t
 rooted_of r t (u, is, h) = ⊎_elim (λ same. inl (is ∙ ap (λ x. 47 ∷ x) same)) (λ w. inr (w.0, is ∙ ap (λ x. 47 ∷ x) w.1)) h
 
--- a copy cut by a text, and then by that text behind a slash, is the block without both
-pub cut_twice : (r s : List ℕ) (B copy one two : Block) → copy ≡ B → s ≡ 47 ∷ r → IsCutBy r copy one → IsCutBy s one two → IsWithout r B two
-cut_twice r s B copy one two same rooted first second t m = (
+-- a block cut by a text, and then by that text behind a slash, is the block without both
+pub cut_twice : (r s : List ℕ) (B one two : Block) → s ≡ 47 ∷ r → IsCutBy r B one → IsCutBy s one two → IsWithout r B two
+cut_twice r s B one two rooted first second t m = (
   λ h.
       let w = (second t m).0 h in
       let v = (first t m).0 w.1 in
-      (λ about. ⊎_elim v.0 (λ deep. w.0 (subst (λ x. IsAtOrBelow x t) (sym rooted) (rooted_of r t deep))) about, subst (λ D. found D t ≡ Some m) same v.1),
+      (λ about. ⊎_elim v.0 (λ deep. w.0 (subst (λ x. IsAtOrBelow x t) (sym rooted) (rooted_of r t deep))) about, v.1),
   λ h.
       (second t m).1 (
         λ at. h.0 (inr (rooted_from r t (subst (λ x. IsAtOrBelow x t) rooted at))),
-        (first t m).1 (λ at. h.0 (inl at), subst (λ D. found D t ≡ Some m) (sym same) h.1),
+        (first t m).1 (λ at. h.0 (inl at), h.1),
       ),
 )

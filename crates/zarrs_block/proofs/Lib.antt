@@ -15,3 +15,4 @@ pub mod SmallLaws
 pub mod ZmetadataDocuments
 pub mod BlockFrom
 pub mod ZmetadataAgain
+pub mod PrettyBlock

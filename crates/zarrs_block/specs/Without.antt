@@ -1,7 +1,7 @@
 -- Zarr core specification 3.1, "Group metadata", the field `consolidated_metadata`: a block without what it has at a path and below it.
 --     IsAtOrBelow r t, IsAbout r t      which keys stand for the path whose text is r, or for one below it
 --     IsWithout r B C      C is B without those
-use Rattle.std.specs.Prelude.{◌≡◌, ℕ, List, ◌∷◌, ◌++◌, Some, ◌⊎◌, ◌↔◌}
+use Rattle.std.specs.Prelude.{◌≡◌, ℕ, List, [], ◌∷◌, ◌++◌, Some, ◌⊎◌, ◌↔◌}
 use Rattle.zarrs_meta.specs.declared.node.NodeMetadata.{NodeMetadata}
 use Rattle.zarrs_block.specs.Block.{Block, found}
 
@@ -21,6 +21,15 @@ IsWithout r B C = (t : List ℕ) (m : NodeMetadata) → (found C t ≡ Some m) �
 abbrev pub IsCutBy : List ℕ → Block → Block → Type 0
 IsCutBy r B C = (t : List ℕ) (m : NodeMetadata) → (found C t ≡ Some m) ↔ ((IsAtOrBelow r t → ⊥) × (found B t ≡ Some m))
 
--- C has no more than B has
-abbrev pub HasNoMore : Block → Block → Type 0
-HasNoMore B C = (t : List ℕ) (m : NodeMetadata) → found C t ≡ Some m → found B t ≡ Some m
+-- t is one of the texts
+abbrev pub Among : List (List ℕ) → List ℕ → Type 0
+Among [] t = ⊥
+Among (k ∷ ks) t = (t ≡ k) ⊎ Among ks t
+
+-- the text t begins with r and a slash
+abbrev pub Begins : List ℕ → List ℕ → Type 0
+Begins r t = (rest : List ℕ) × (t ≡ r ++ 47 ∷ rest)
+
+-- each of the texts begins with r and a slash, and each key of B that does is among them
+abbrev pub AreBelow : List ℕ → Block → List (List ℕ) → Type 0
+AreBelow r B ks = (t : List ℕ) → (Among ks t → Begins r t) × ((m : NodeMetadata) → found B t ≡ Some m → Begins r t → Among ks t)

@@ -7,6 +7,7 @@ mod expand;
 pub mod laws;
 mod node_create_error;
 mod policy;
+mod pretty;
 mod without;
 mod zmetadata;
 mod zmetadata_written;

@@ -1,7 +1,7 @@
 //! A block without what it has at a path and below it.
-ghost use Rattle.std.specs.Prelude.{IfOk, OnOk};
+ghost use Rattle.std.specs.Prelude.{IfOk, OnOk, map, string_bytes};
 ghost use Rattle.zarrs_block.specs.Block.{IsAscending};
-ghost use Rattle.zarrs_block.specs.Without.{IsWithout, IsCutBy, HasNoMore};
+ghost use Rattle.zarrs_block.specs.Without.{IsWithout, IsCutBy, AreBelow};
 
 use crate::consolidated::ConsolidatedMetadataMetadata;
 use std::alloc::{AllocError, Global};
@@ -24,30 +24,55 @@ impl ConsolidatedMetadataMetadata {
         ensures ascending { IfOk result IsAscending }
     {
         let mut copy = self.try_clone(alloc)?;
-        let rooted = format!(in alloc; "/{key}")?;
-        cut(alloc, self, &mut copy, key)?;
-        cut(alloc, self, &mut copy, &rooted)?;
+        copy.remove_below(alloc, key)?;
         Ok(copy)
+    }
+
+    /// Takes out the metadata of a path and of all paths below it: at the key, at those that begin with it and a slash, and at each of
+    /// these behind one slash. What stays is neither copied nor looked at.
+    ///
+    /// # Errors
+    ///
+    /// `AllocError` where there is no memory for the keys that go; some of these may be gone.
+    ///
+    /// Source: own.
+    pub fn remove_below(&mut self, alloc: Global, key: &str) -> Result<(), AllocError>
+        ensures without { OnOk result (IsWithout key.now self.old self.new) }
+        ensures ascending { OnOk result (IsAscending self.new) }
+    {
+        let rooted = format!(in alloc; "/{key}")?;
+        cut(alloc, self, key)?;
+        cut(alloc, self, &rooted)?;
+        Ok(())
     }
 }
 
-// Takes a key and those that begin with it and a slash out of a copy of a block, or of what is left of one. The latter stand together in
-// the order of the keys, before the key and a `0`, which is the character behind the slash.
-fn cut(
-    alloc: Global,
-    block: &ConsolidatedMetadataMetadata,
-    copy: &mut ConsolidatedMetadataMetadata,
-    key: &str,
-) -> Result<(), AllocError>
-    requires copied { HasNoMore block.now copy.old }
-    ensures cut { OnOk result (IsCutBy key.now copy.old copy.new) }
-    ensures ascending { OnOk result (IsAscending copy.new) }
+// Takes a key and those that begin with it and a slash out of a block.
+fn cut(alloc: Global, block: &mut ConsolidatedMetadataMetadata, key: &str) -> Result<(), AllocError>
+    ensures cut { OnOk result (IsCutBy key.now block.old block.new) }
+    ensures ascending { OnOk result (IsAscending block.new) }
 {
-    drop(copy.remove(key));
-    let first = format!(in alloc; "{key}/")?;
-    let end = format!(in alloc; "{key}0")?;
-    for (below, _metadata) in block.as_map().range(first..end) {
-        drop(copy.remove(below.as_str()));
+    drop(block.remove(key));
+    for below in keys_below(alloc, block, key)? {
+        drop(block.remove(below.as_str()));
     }
     Ok(())
+}
+
+// The keys of a block that begin with a key and a slash. They stand together in the order of the keys, before the key and a `0`, which is
+// the character behind the slash.
+fn keys_below(
+    alloc: Global,
+    block: &ConsolidatedMetadataMetadata,
+    key: &str,
+) -> Result<Vec<String>, AllocError>
+    ensures { IfOk result (λ keys. AreBelow key.now block.now (map string_bytes keys.items)) }
+{
+    let first = format!(in alloc; "{key}/")?;
+    let end = format!(in alloc; "{key}0")?;
+    let mut keys = Vec::new(alloc);
+    for (below, _metadata) in block.as_map().range(first..end) {
+        keys.push(below.clone()?)?;
+    }
+    Ok(keys)
 }

@@ -11,6 +11,7 @@ mod extension;
 mod fields;
 mod form;
 mod members;
+mod pretty;
 mod shapes;
 mod sorted;
 mod text;
@@ -26,5 +27,6 @@ pub use members::{
     ask_format, ask_node_type, document, document_copy, member, members_have_float, parse,
     put_text, refuse, take_member, take_null,
 };
+pub use pretty::write_entry;
 pub use shapes::{FillValueMetadata, Json, List, Object, Text};
 pub use text::{open_table, write_last, write_row, write_unless};

@@ -32,7 +32,7 @@ pub use exists::{node_exists, node_exists_listable};
 pub use listing::{ListedNodes, list_nodes};
 pub use node::Node;
 pub use paths::{ListedPaths, list_paths};
-pub use refresh::refresh_block;
+pub use refresh::{refresh_block, refresh_owned_block};
 pub use sink::NodeSink;
 pub use text::NodeLine;
 pub use zmetadata::{consolidated_metadata_at, zmetadata_at};

@@ -50,14 +50,40 @@ pub fn refresh_block<S: ReadableStorageTraits + ListableStorageTraits>(
     ensures clean { IfOk result (λ _. LeadsTo block.now base.now path.now → BadAnew (S.contents storage.now) version.now path.now → ⊥) }
     ensures refused { IfErr result (λ e. IsExcused (S.can_fail storage.now) e ⊎ (LeadsTo block.now base.now path.now × ShowsBadAnew (S.contents storage.now) version.now path.now e)) }
 {
-    let renewed = if leads_to(alloc, block, base, path)? {
+    let copy = block.try_clone(alloc)?;
+    refresh_owned_block(alloc, storage, base, version, copy, path)
+}
+
+/// The block of a group, made current as [`refresh_block`] makes it, and changed in its place: what stays is not copied, so the call
+/// takes the time of what is read anew and of what goes. After an error the block is gone.
+///
+/// # Errors
+///
+/// As [`refresh_block`].
+///
+/// Source: own.
+pub fn refresh_owned_block<S: ReadableStorageTraits + ListableStorageTraits>(
+    alloc: Global,
+    storage: &S,
+    base: &NodePath,
+    version: &MetadataRetrieveVersion,
+    mut block: ConsolidatedMetadataMetadata,
+    path: &NodePath,
+) -> Result<ConsolidatedMetadataMetadata, NodeCreateError>
+    requires below { IsBelow base.now path.now }
+    ensures fresh { IfOk result (IsFresh (meaning (S.contents storage.now) version.now) base.now block path.now) }
+    ensures ascending { IfOk result IsAscending }
+    ensures clean { IfOk result (λ _. LeadsTo block base.now path.now → BadAnew (S.contents storage.now) version.now path.now → ⊥) }
+    ensures refused { IfErr result (λ e. IsExcused (S.can_fail storage.now) e ⊎ (LeadsTo block base.now path.now × ShowsBadAnew (S.contents storage.now) version.now path.now e)) }
+{
+    let renewed = if leads_to(alloc, &block, base, path)? {
         read_anew(alloc, storage, path, version)?
     } else {
         Vec::new(alloc)
     };
-    let mut fresh = block.try_clone_without(alloc, text_beyond(base, path))?;
-    insert_pairs(alloc, base, renewed, &mut fresh)?;
-    Ok(fresh)
+    block.remove_below(alloc, text_beyond(base, path))?;
+    insert_pairs(alloc, base, renewed, &mut block)?;
+    Ok(block)
 }
 
 // Whether the block has a group at each path between the base and a path below it.

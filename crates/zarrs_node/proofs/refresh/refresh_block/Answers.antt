@@ -1,33 +1,22 @@
-use Rattle.std.proofs.Common.{◌∙◌, ap, sym, subst, true≢false}
-use Rattle.zarrs_block.specs.Block.{IsAscending}
-use Rattle.zarrs_block.specs.Without.{IsWithout}
-use Rattle.zarrs_store.specs.Contents.{Lists}
+use Rattle.std.proofs.Common.{◌⊎◌, IfErr, IfOk, subst}
 use Rattle.zarrs_block.specs.Meaning.{meaning}
-use Rattle.zarrs_node.specs.Consolidated.{put_all}
-use Rattle.zarrs_node.specs.Fresh.{Renewed, IsFresh}
-use Rattle.zarrs_node.proofs.Puts.{put_all_ascends}
-use Rattle.zarrs_node.proofs.Anew.{fresh_led, fresh_kept}
+use Rattle.zarrs_block.specs.Refused.{IsExcused}
+use Rattle.zarrs_node.specs.Fresh.{LeadsTo, IsFresh, BadAnew, ShowsBadAnew}
 use Rattle.zarrs_node.proofs.refresh.refresh_block.Goals as goal
-use Rattle.zarrs_node.proofs.refresh.refresh_block.Goals.{then-branch+in_ok-renewed, else-branch}
 
 pub returns-clause-fresh : goal.returns-clause-fresh
 returns-clause-fresh g c =
     let of = meaning (g.S.Store.contents c.args.storage.now) c.args.version.now in
-    let b = c.args.base.now in
-    let p = c.args.path.now in
-    let B = c.args.block.now in
-    let old = c.in_ok-fresh.fresh in
-    let C = c.insert_pairs.new.block in
-    let without = subst (λ k. IsWithout k B old) c.text_beyond.ensures.text c.in_ok-fresh.ensures.without in
-    elim c.if-branch.branch as (λ _. IsFresh of b B p C) [
-      | then-branch+in_ok-renewed w ↦
-          fresh_led of b p c.requires.below c.text_beyond.ensures.valid c.if-branch.renewed.items (subst (λ v. Lists (Renewed of p) v.items) (sym w.renewed-is) w.in_ok-renewed.ensures.renewed)
-          B old C (c.in_ok-leads_to.ensures.leads.0 w.if-branch.true) without c.in_ok-insert_pairs.ensures.inserted
-      | else-branch w ↦
-          fresh_kept of b p c.requires.below c.text_beyond.ensures.valid B old C (λ led. true≢false (sym (c.in_ok-leads_to.ensures.leads.1 led) ∙ w.if-branch.false)) without
-          (c.in_ok-insert_pairs.ensures.inserted ∙ ap (put_all b old) (ap (λ v. v.items) w.renewed-is ∙ w.new-renewed.ensures.items))
-    ]
+    subst (λ B. IfOk c.refresh_owned_block.result (IsFresh of c.args.base.now B c.args.path.now)) c.in_ok-copy.ensures c.refresh_owned_block.ensures.fresh
 
-pub returns-clause-ascending : goal.returns-clause-ascending
-returns-clause-ascending g c =
-    subst IsAscending (sym c.in_ok-insert_pairs.ensures.inserted) (put_all_ascends c.args.base.now c.in_ok-fresh.fresh c.if-branch.renewed.items c.in_ok-fresh.ensures.ascending)
+pub returns-clause-clean : goal.returns-clause-clean
+returns-clause-clean g c =
+    let bad = BadAnew (g.S.Store.contents c.args.storage.now) c.args.version.now c.args.path.now in
+    subst (λ B. IfOk c.refresh_owned_block.result (λ _. LeadsTo B c.args.base.now c.args.path.now → bad → ⊥)) c.in_ok-copy.ensures c.refresh_owned_block.ensures.clean
+
+pub returns-clause-refused : goal.returns-clause-refused
+returns-clause-refused g c =
+    let store = g.S.Store.contents c.args.storage.now in
+    let p = c.args.path.now in
+    subst (λ B. IfErr c.refresh_owned_block.result (λ e. IsExcused (g.S.Store.can_fail c.args.storage.now) e ⊎ (LeadsTo B c.args.base.now p × ShowsBadAnew store c.args.version.now p e)))
+    c.in_ok-copy.ensures c.refresh_owned_block.ensures.refused

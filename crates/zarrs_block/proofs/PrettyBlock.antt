@@ -1,0 +1,59 @@
+-- The pretty text of a block is a head, the texts of its nodes in order, and a tail.
+use Rattle.std.proofs.Common.{◌≡◌, ℕ, ◌^◌, ◌<◌, List, [], ◌∷◌, ◌++◌, true, false, not, codes, length, refl, sym, ap, ◌∙◌, append_assoc}
+use Rattle.std.proofs.lemmas.Bool.{or_parts}
+use Rattle.json.specs.Layout.{line}
+use Rattle.json.specs.Print.{escape_byte, quoted}
+use Rattle.serde_json.specs.Data.{Members, no_members, member}
+use Rattle.serde_json.specs.Written.{comma_if, has_float, members_have_float}
+use Rattle.zarrs_form.specs.Forms.{is_nil}
+use Rattle.zarrs_form.specs.Pretty.{close_line, text_at, members_at, pretty_text, entries_text}
+use Rattle.zarrs_form.proofs.PrettyPieces.{piece_pretty}
+use Rattle.zarrs_meta.specs.Node.{node_tree}
+use Rattle.zarrs_block.specs.Block.{Block, documents, block_tree}
+
+-- what stands before the nodes of a block
+abbrev pub head : List ℕ
+head = codes "{\n  \"kind\": \"inline\",\n  \"metadata\": {"
+
+-- what stands behind them
+abbrev pub tail : List ℕ
+tail = codes "},\n  \"must_understand\": false\n}"
+
+regroup : (c l q t r close : List ℕ) → c ++ (l ++ (q ++ 58 ∷ 32 ∷ (t ++ (r ++ close)))) ≡ ((c ++ (l ++ (q ++ 58 ∷ 32 ∷ t))) ++ r) ++ close
+regroup c l q t r close = simp append_assoc
+
+-- members that follow another are their texts and a close
+later_entries : (ms : Members) → members_at true 1 ms ≡ entries_text true ms ++ (close_line true 1 ++ 125 ∷ [])
+later_entries no_members = refl
+later_entries (member k d ms) =
+    ap (λ t. comma_if true ++ (line 2 ++ (quoted k ++ 58 ∷ 32 ∷ (text_at 2 d ++ t)))) (later_entries ms)
+    ∙ regroup (comma_if true) (line 2) (quoted k) (text_at 2 d) (entries_text true ms) (close_line true 1 ++ 125 ∷ [])
+
+-- the nodes of a block are their texts, and a close where there are some
+entries_are : (B : Block) → members_at false 1 (documents B) ≡ entries_text false (documents B) ++ (close_line (not (is_nil B)) 1 ++ 125 ∷ [])
+entries_are [] = refl
+entries_are (e ∷ B) =
+    ap (λ t. comma_if false ++ (line 2 ++ (quoted e.0 ++ 58 ∷ 32 ∷ (text_at 2 (node_tree e.1) ++ t)))) (later_entries (documents B))
+    ∙ regroup (comma_if false) (line 2) (quoted e.0) (text_at 2 (node_tree e.1)) (entries_text true (documents B)) (close_line true 1 ++ 125 ∷ [])
+
+regroup_close : (a c : List ℕ) → (a ++ (c ++ 125 ∷ [])) ++ codes ",\n  \"must_understand\": false\n}" ≡ a ++ (c ++ tail)
+regroup_close a c = append_assoc a (c ++ 125 ∷ []) _ ∙ ap (λ t. a ++ t) (append_assoc c (125 ∷ []) _)
+
+-- the text of a block is its head, its nodes and its tail
+block_is : (B : Block) → text_at 0 (block_tree B) ≡ head ++ (entries_text false (documents B) ++ (close_line (not (is_nil B)) 1 ++ tail))
+unfolding escape_byte
+block_is B =
+    ap (λ t. head ++ (t ++ codes ",\n  \"must_understand\": false\n}")) (entries_are B)
+    ∙ ap (λ t. head ++ t) (regroup_close (entries_text false (documents B)) (close_line (not (is_nil B)) 1))
+
+-- the documents of a block without fractions have none
+pub documents_whole : (B : Block) → has_float (block_tree B) ≡ false → members_have_float (documents B) ≡ false
+documents_whole B h = (or_parts (members_have_float (documents B)) _ h).0
+
+regroup_written : (h e c t : List ℕ) → ((h ++ e) ++ c) ++ t ≡ h ++ (e ++ (c ++ t))
+regroup_written h e c t = simp append_assoc
+
+-- a text that fits memory and was written as head, nodes, close and tail is the pretty text of the block
+pub block_written : (B : Block) (text : List ℕ) → length text < 2 ^ 64 → text ≡ ((head ++ entries_text false (documents B)) ++ close_line (not (is_nil B)) 1) ++ tail → text ≡ pretty_text (block_tree B)
+block_written B text fits is =
+    piece_pretty (block_tree B) text fits (is ∙ regroup_written head (entries_text false (documents B)) (close_line (not (is_nil B)) 1) tail ∙ sym (block_is B))

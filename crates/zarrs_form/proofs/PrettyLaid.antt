@@ -1,0 +1,93 @@
+-- (a) the pretty text of a value is `text_at`.
+use Rattle.std.proofs.Common.{◌≡◌, ℕ, ◌+◌, ◌-◌, ◌^◌, ◌≤◌, min, List, [], ◌∷◌, ◌++◌, Bool, true, false, refl, sym, ap, ◌∙◌, append_assoc, append-nil, arith}
+use Rattle.std.proofs.Math.Nat.{min-eq_left}
+use Rattle.json.specs.Layout.{Last, nothing, bracket, name, value, is_value, gap, line, pretty, pretty_from, piece}
+use Rattle.json.specs.Print.{quoted, separator}
+use Rattle.json.specs.Token.{Token}
+use Rattle.json.specs.Tree.{json_tokens, items_tokens, members_tokens}
+use Rattle.serde_json.specs.Data.{Data, null, boolean, number, string, array, object, Items, no_items, item, Members, no_members, member, depth, items_depth, members_depth}
+use Rattle.serde_json.specs.Written.{comma_if, outline, items_outline, members_outline}
+use Rattle.zarrs_form.specs.Pretty.{text_at, items_at, members_at, pretty_text}
+
+abbrev most : ℕ
+most = 2 ^ 64 - 1
+
+-- what stands before a value, after what was last
+abbrev lead : Last → ℕ → List ℕ
+lead s n = separator (is_value s) Token.null ++ gap s true n
+
+-- what was last within brackets
+abbrev last_in : Bool → Last
+last_in true = value
+last_in false = bracket
+
+regroup_piece : (a b c r : List ℕ) → (a ++ (b ++ c)) ++ r ≡ (a ++ b) ++ (c ++ r)
+regroup_piece a b c r = simp append_assoc
+
+-- the state after an opening bracket
+deeper : (n : ℕ) → n + 1 ≤ most → min (n + 1) most ≡ n + 1
+deeper n h = min-eq_left h
+
+outer : (n : ℕ) → n + 1 - 1 ≡ n
+outer n = omega arith
+
+lead_in : (later : Bool) (n : ℕ) → lead (last_in later) n ≡ comma_if later ++ line n
+lead_in true n = refl
+lead_in false n = refl
+
+key_in : (later : Bool) (n : ℕ) (k : List ℕ) → piece (last_in later, n) (Token.key k) ≡ comma_if later ++ (line n ++ (quoted k ++ 58 ∷ []))
+key_in true n k = refl
+key_in false n k = refl
+
+regroup_item : (c l t r rest : List ℕ) → (c ++ l) ++ (t ++ (r ++ rest)) ≡ (c ++ (l ++ (t ++ r))) ++ rest
+regroup_item c l t r rest = simp append_assoc
+
+regroup_member : (c l q t r rest : List ℕ) → (c ++ (l ++ (q ++ 58 ∷ []))) ++ (32 ∷ (t ++ (r ++ rest))) ≡ (c ++ (l ++ (q ++ 58 ∷ 32 ∷ (t ++ r)))) ++ rest
+regroup_member c l q t r rest = simp append_assoc
+
+mutual
+  unfolding pretty_from
+
+  value_laid : (s : Last) (n : ℕ) (d : Data) (ts : List Token) → n + depth d ≤ most → pretty_from (s, n) (json_tokens (outline d) ++ ts) ≡ lead s n ++ (text_at n d ++ pretty_from (value, n) ts)
+  value_laid s n null ts h = regroup_piece (separator (is_value s) Token.null) (gap s true n) _ _
+  value_laid s n (boolean b) ts h = regroup_piece (separator (is_value s) Token.null) (gap s true n) _ _
+  value_laid s n (number x) ts h = regroup_piece (separator (is_value s) Token.null) (gap s true n) _ _
+  value_laid s n (string t) ts h = regroup_piece (separator (is_value s) Token.null) (gap s true n) _ _
+  value_laid s n (array ds) ts h =
+      regroup_piece (separator (is_value s) Token.null) (gap s true n) (91 ∷ []) _
+      ∙ ap (λ m. lead s n ++ 91 ∷ pretty_from (bracket, m) (items_tokens (items_outline ds) ++ ts)) (deeper n (omega arith))
+      ∙ ap (λ t. lead s n ++ 91 ∷ t) (items_laid false n ds ts (omega arith))
+  value_laid s n (object ms) ts h =
+      regroup_piece (separator (is_value s) Token.null) (gap s true n) (123 ∷ []) _
+      ∙ ap (λ m. lead s n ++ 123 ∷ pretty_from (bracket, m) (members_tokens (members_outline ms) ++ ts)) (deeper n (omega arith))
+      ∙ ap (λ t. lead s n ++ 123 ∷ t) (members_laid false n ms ts (omega arith))
+
+  items_laid : (later : Bool) (n : ℕ) (ds : Items) (ts : List Token) → n + 1 + items_depth ds ≤ most
+      → pretty_from (last_in later, n + 1) (items_tokens (items_outline ds) ++ ts) ≡ items_at later n ds ++ pretty_from (value, n) ts
+  items_laid true n no_items ts h = ap (λ m. (line m ++ 93 ∷ []) ++ pretty_from (value, m) ts) (outer n)
+  items_laid false n no_items ts h = ap (λ m. 93 ∷ pretty_from (value, m) ts) (outer n)
+  items_laid later n (item d ds) ts h =
+      let rest = items_tokens (items_outline ds) in
+      ap (pretty_from (last_in later, n + 1)) (append_assoc (json_tokens (outline d)) rest ts)
+      ∙ value_laid (last_in later) (n + 1) d (rest ++ ts) (omega arith)
+      ∙ ap (λ t. t ++ (text_at (n + 1) d ++ pretty_from (value, n + 1) (rest ++ ts))) (lead_in later (n + 1))
+      ∙ ap (λ t. (comma_if later ++ line (n + 1)) ++ (text_at (n + 1) d ++ t)) (items_laid true n ds ts (omega arith))
+      ∙ regroup_item (comma_if later) (line (n + 1)) (text_at (n + 1) d) (items_at true n ds) (pretty_from (value, n) ts)
+
+  members_laid : (later : Bool) (n : ℕ) (ms : Members) (ts : List Token) → n + 1 + members_depth ms ≤ most
+      → pretty_from (last_in later, n + 1) (members_tokens (members_outline ms) ++ ts) ≡ members_at later n ms ++ pretty_from (value, n) ts
+  members_laid true n no_members ts h = ap (λ m. (line m ++ 125 ∷ []) ++ pretty_from (value, m) ts) (outer n)
+  members_laid false n no_members ts h = ap (λ m. 125 ∷ pretty_from (value, m) ts) (outer n)
+  members_laid later n (member k d ms) ts h =
+      let rest = members_tokens (members_outline ms) in
+      ap (λ t. t ++ pretty_from (name, n + 1) ((json_tokens (outline d) ++ rest) ++ ts)) (key_in later (n + 1) k)
+      ∙ ap (λ t. (comma_if later ++ (line (n + 1) ++ (quoted k ++ 58 ∷ []))) ++ t)
+      (ap (pretty_from (name, n + 1)) (append_assoc (json_tokens (outline d)) rest ts)
+      ∙ value_laid name (n + 1) d (rest ++ ts) (omega arith)
+      ∙ ap (λ t. 32 ∷ (text_at (n + 1) d ++ t)) (members_laid true n ms ts (omega arith)))
+      ∙ regroup_member (comma_if later) (line (n + 1)) (quoted k) (text_at (n + 1) d) (members_at true n ms) (pretty_from (value, n) ts)
+
+-- the pretty text of a value is its text at no depth
+pub pretty_text_is : (d : Data) → depth d ≤ most → pretty_text d ≡ text_at 0 d
+unfolding pretty_from
+pretty_text_is d h = ap pretty (sym (append-nil (json_tokens (outline d)))) ∙ value_laid nothing 0 d [] (omega arith) ∙ append-nil (text_at 0 d)

@@ -1,0 +1,60 @@
+-- RFC 8259: the pretty layout of a value, piece by piece. A level is two spaces.
+--     pretty_text d, text_at n d      the layout of a value; that of one n levels deep
+--     indented s      a text two levels deeper
+--     entry_text, entries_text      members of an object that stands one level deep
+use Rattle.std.specs.Prelude.{ℕ, ◌+◌, List, [], ◌∷◌, ◌++◌, ◌==◌, Bool, true, false, if◌then◌else◌, flat_map}
+use Rattle.json.specs.Layout.{line, pretty}
+use Rattle.json.specs.Print.{quoted, token_text}
+use Rattle.json.specs.Token.{Token}
+use Rattle.json.specs.Tree.{json_tokens}
+use Rattle.serde_json.specs.Data.{Data, null, boolean, number, string, array, object, Items, no_items, item, Members, no_members, member}
+use Rattle.serde_json.specs.Written.{comma_if, number_text, outline}
+
+-- the pretty layout of a tree whose numbers are all whole: two spaces a level, and no newline at the end
+abbrev pub pretty_text : Data → List ℕ
+pretty_text d = pretty (json_tokens (outline d))
+
+-- a line of its own for a closing bracket, where something stands before it
+abbrev pub close_line : Bool → ℕ → List ℕ
+close_line later n = if later then line n else []
+
+abbrev mutual
+  -- the text of a value that stands n levels deep
+  pub text_at : ℕ → Data → List ℕ
+  text_at n null = token_text Token.null
+  text_at n (boolean b) = token_text (Token.boolean b)
+  text_at n (number x) = number_text x
+  text_at n (string s) = quoted s
+  text_at n (array ds) = 91 ∷ items_at false n ds
+  text_at n (object ms) = 123 ∷ members_at false n ms
+
+  -- the items that are left of an array that stands n levels deep, and its bracket
+  pub items_at : Bool → ℕ → Items → List ℕ
+  items_at later n no_items = close_line later n ++ 93 ∷ []
+  items_at later n (item d ds) = comma_if later ++ (line (n + 1) ++ (text_at (n + 1) d ++ items_at true n ds))
+
+  -- the members that are left of an object that stands n levels deep, and its bracket
+  pub members_at : Bool → ℕ → Members → List ℕ
+  members_at later n no_members = close_line later n ++ 125 ∷ []
+  members_at later n (member k d ms) = comma_if later ++ (line (n + 1) ++ (quoted k ++ 58 ∷ 32 ∷ (text_at (n + 1) d ++ members_at true n ms)))
+
+-- a byte, and after a newline four spaces more
+abbrev pub four_more : ℕ → List ℕ
+four_more b = if b == 10 then 10 ∷ 32 ∷ 32 ∷ 32 ∷ 32 ∷ [] else b ∷ []
+
+-- a text with four spaces more after each newline
+abbrev pub indented : List ℕ → List ℕ
+indented = flat_map four_more
+
+-- a line of its own two levels deep, where a text stands before it
+abbrev pub break_if : Bool → List ℕ
+break_if later = if later then 10 ∷ 32 ∷ 32 ∷ 32 ∷ 32 ∷ [] else []
+
+-- a member of an object that stands one level deep, behind a comma where one stands before it
+abbrev pub entry_text : Bool → List ℕ → Data → List ℕ
+entry_text later k d = comma_if later ++ (line 2 ++ (quoted k ++ 58 ∷ 32 ∷ text_at 2 d))
+
+-- the members, one after the other
+abbrev pub entries_text : Bool → Members → List ℕ
+entries_text later no_members = []
+entries_text later (member k d ms) = entry_text later k d ++ entries_text true ms
