@@ -1,27 +1,23 @@
--- The lines of paths, path by path.
-use Rattle.std.proofs.Common.{◌≡◌, ℕ, ◌+◌, ◌<◌, List, [], ◌∷◌, ◌++◌, length, take, get_or, map, refl, sym, ap, ◌∙◌, append_assoc}
-use Rattle.std.specs.List.{flat_map}
-use Rattle.std.proofs.lemmas.List.{take_more, flat_map_more}
+-- The lines of the nodes that a walk told.
+use Rattle.std.proofs.Common.{◌≡◌, Bool, [], ◌∷◌, ◌++◌, ap, ◌∙◌}
+use Rattle.zarrs_store.specs.Contents.{Contents}
 use Rattle.zarrs_path.specs.Paths.{Path, path_text}
-use Rattle.zarrs_meta.specs.declared.node.NodeMetadata.{NodeMetadata}
-use Rattle.zarrs_tool.specs.Output.{path_lines}
+use Rattle.zarrs_config.specs.declared.version.MetadataRetrieveVersion.TheVariants.{Default}
+use Rattle.zarrs_node.specs.Forest.{pairs}
+use Rattle.zarrs_node.specs.Nodes.{Nodes, Bad}
+use Rattle.zarrs_node.specs.Sinks.{TakesForest}
+use Rattle.zarrs_node.proofs.Feeding.{took_joined}
+use Rattle.zarrs_node.proofs.Order.{shown_ascend}
+use Rattle.zarrs_tool.specs.Output.{IsListing, path_lines}
+use Rattle.zarrs_tool.specs.Sinks.{AppendsLine}
+use Rattle.zarrs_tool.specs.declared.run.PathLines.{PathLines}
 
--- the texts of paths, one a line
-abbrev pub lines_of : List Path → List ℕ
-lines_of ps = flat_map (λ p. path_text p ++ 10 ∷ []) ps
-
--- the lines of pairs are those of their paths
-pub lines_are : (es : List (Path × NodeMetadata)) → lines_of (map (λ e. e.0) es) ≡ path_lines es
-lines_are [] = refl
-lines_are (e ∷ es) = ap (λ t. (path_text e.0 ++ 10 ∷ []) ++ t) (lines_are es)
-
--- the lines of the paths before one, with its own, are those of the paths up to it
-pub lines_more : (ps : List Path) (i : ℕ) (p : Path) → i < length ps → p ≡ get_or ps i p
-    → (first old new text : List ℕ) → text ≡ path_text p → old ≡ first ++ lines_of (take i ps) → new ≡ (old ++ text) ++ 10 ∷ [] → new ≡ first ++ lines_of (take (i + 1) ps)
-lines_more ps i p in' is first old new text e f g =
-    g
-    ∙ append_assoc old text (10 ∷ [])
-    ∙ ap (λ t. old ++ (t ++ 10 ∷ [])) e
-    ∙ ap (λ t. t ++ (path_text p ++ 10 ∷ [])) f
-    ∙ flat_map_more (λ q. path_text q ++ 10 ∷ []) first (take i ps) p
-    ∙ ap (λ qs. first ++ lines_of qs) (ap (λ q. take i ps ++ q ∷ []) is ∙ sym (take_more ps i p in'))
+-- an empty text that took the nodes below the base is their listing
+pub told_lines : (store : Contents) (recursive : Bool) (base : Path) (a z : PathLines) → TakesForest AppendsLine a z base (Nodes store Default recursive base) → a.text.items ≡ [] → (Bad store Default recursive base → ⊥) → IsListing store recursive base z.text.items
+told_lines store recursive base a z t empty clean = record {
+  nodes = pairs t.trees;
+  lists = t.shows.shown;
+  ascend = shown_ascend base (Nodes store Default recursive base) t.trees t.shows;
+  is = took_joined AppendsLine (λ l. l.text.items) (λ e. path_text e.0 ++ 10 ∷ []) (λ x e y r. r) a (pairs t.trees) z t.took ∙ ap (λ x. x ++ path_lines (pairs t.trees)) empty;
+  clean = clean;
+}

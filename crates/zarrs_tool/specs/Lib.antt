@@ -3,3 +3,4 @@ pub mod Image
 pub mod Output
 pub mod Reading
 pub mod Refused
+pub mod Sinks

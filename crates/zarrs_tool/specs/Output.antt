@@ -13,14 +13,11 @@ use Rattle.zarrs_meta.specs.declared.node.GroupMetadata.{GroupMetadata}
 use Rattle.zarrs_meta.specs.declared.node.NodeMetadata.{NodeMetadata}
 use Rattle.zarrs_meta.specs.declared.node.NodeMetadata.TheVariants.{Group}
 use Rattle.zarrs_config.specs.declared.version.MetadataRetrieveVersion.TheVariants.{Default}
-use Rattle.zarrs_config.specs.declared.version.UseConsolidatedMetadata.TheVariants.{Auto, Never}
+use Rattle.zarrs_config.specs.declared.version.UseConsolidatedMetadata.TheVariants.{Auto}
 use Rattle.zarrs_block.specs.Block.{Block, IsAscending, IsBlockOf, block_tree}
-use Rattle.zarrs_node.specs.declared.node.Node.{Node}
-use Rattle.zarrs_node.specs.Forest.{HasPlacedChildren, path_of, metadata_of, below_of}
 use Rattle.zarrs_block.specs.Meaning.{meaning, node}
 use Rattle.zarrs_node.specs.Order.{Ascend}
 use Rattle.zarrs_node.specs.Nodes.{Nodes, Bad}
-use Rattle.zarrs_node.specs.Opened.{ShowsNode, IsCleanNode}
 use Rattle.zarrs_group.specs.Layout.{pretty_text}
 use Rattle.zarrs_hierarchy.specs.Held.{Pairs}
 use Rattle.zarrs_hierarchy.specs.Opened.{IsOpened}
@@ -97,14 +94,6 @@ Writes Consolidate store base text = IsBlockText store base text
 -- what the words write about a store
 abbrev pub IsOutput : List (List ℕ) → Contents → List ℕ → Type 0
 IsOutput words store text = (word : Word) × (base : Path) × IsPath base × (words ≡ word_text word ∷ path_text base ∷ []) × Writes word store base text
-
--- the node is what the base means, with all that a listing finds below it where it is a group
-pub record IsListed (store : Contents) (base : Path) (opened : Node) : Type 0 where
-  pub path : path_of opened ≡ base
-  pub means : meaning store Default base ≡ node (metadata_of opened)
-  pub shows : ShowsNode store Default Never base (metadata_of opened) (below_of opened)
-  pub clean : IsCleanNode store Default Never base (metadata_of opened)
-  pub placed : HasPlacedChildren opened
 
 -- the words' output was appended to what the writer held
 abbrev pub WritesOutput : List (List ℕ) → Contents → Option (List ℕ) → Option (List ℕ) → Type 0

@@ -1,23 +1,18 @@
 //! The texts of a hierarchy and of a consolidated block.
-ghost use Rattle.std.specs.Prelude.{◌≡◌, ◌++◌, ◌∷◌, [], false, IfOk, IfErr, ◌⊎◌};
+ghost use Rattle.std.specs.Prelude.{◌≡◌, ◌++◌, ◌∷◌, [], false, IfOk, IfErr};
 ghost use Rattle.serde_json.specs.Written.{has_float};
-ghost use Rattle.zarrs_path.specs.Paths.{path_text};
-ghost use Rattle.zarrs_config.specs.declared.version.UseConsolidatedMetadata.TheVariants.{Never};
-ghost use Rattle.zarrs_config.specs.declared.version.MetadataRetrieveVersion.TheVariants.{Default};
 ghost use Rattle.zarrs_block.specs.Block.{block_tree};
-ghost use Rattle.zarrs_block.specs.Refused.{IsExcused};
-ghost use Rattle.zarrs_node.specs.Opened.{RefusesOpening};
 ghost use Rattle.zarrs_group.specs.Layout.{pretty_text};
-ghost use Rattle.zarrs_tool.specs.Output.{IsBlockText, IsListed, IsTree};
+ghost use Rattle.zarrs_tool.specs.Output.{IsBlockText, IsTree};
 ghost use Rattle.zarrs_tool.specs.Refused.{IsBlockFault, IsTreeFault};
 
 use crate::fault::ToolFault;
 use log::Log;
 use std::alloc::{AllocError, Global};
-use zarrs_block::{ConsolidatedMetadata, NodeCreateError};
-use zarrs_config::{Config, UseConsolidatedMetadata};
+use zarrs_block::ConsolidatedMetadata;
+use zarrs_config::{Config, MetadataRetrieveVersion};
 use zarrs_hierarchy::Hierarchy;
-use zarrs_node::Node;
+use zarrs_node::{Node, consolidate_nodes_of};
 use zarrs_path::NodePath;
 use zarrs_store::{ListableStorageTraits, ReadableStorageTraits};
 
@@ -44,6 +39,7 @@ pub(crate) fn tree_text<L: Log, S: ReadableStorageTraits + ListableStorageTraits
 ///
 /// # Errors
 /// `Node` where opening is refused; `NotAGroup` where the path is an array; `OutOfMemory`.
+#[tactic(auto, using(crate::proofs::Blocks::node_refused, crate::proofs::Blocks::listing_refused, crate::proofs::Blocks::array_means))]
 pub(crate) fn block_text<L: Log, S: ReadableStorageTraits + ListableStorageTraits>(
     log: &L,
     alloc: Global,
@@ -53,36 +49,16 @@ pub(crate) fn block_text<L: Log, S: ReadableStorageTraits + ListableStorageTrait
     ensures ok { IfOk result (λ text. IsBlockText (S.contents store.now) base.now text.items) }
     ensures err { IfErr result (IsBlockFault (S.can_fail store.now) (S.contents store.now) base.now) }
 {
-    let node = open_listed(log, alloc, store, base)?;
-    let Some(metadata) = node.consolidate_metadata(alloc)? else {
+    let _valid = base.as_str();
+    let version = MetadataRetrieveVersion::Default;
+    let found = Node::get_metadata(alloc, store, base, &version)?;
+    if !found.is_group() {
         return Err(ToolFault::NotAGroup);
-    };
+    }
+    drop(found);
+    let metadata = consolidate_nodes_of(log, alloc, store, base, &version)?;
     let text = pretty_line(alloc, &ConsolidatedMetadata { metadata })?;
     Ok(text)
-}
-
-// The node at a path with all that a listing finds below it, whatever block stands there.
-fn open_listed<L: Log, S: ReadableStorageTraits + ListableStorageTraits>(
-    log: &L,
-    alloc: Global,
-    store: &S,
-    base: &NodePath,
-) -> Result<Node, NodeCreateError>
-    ensures listed { IfOk result (IsListed (S.contents store.now) base.now) }
-    ensures refused { IfErr result (λ e. IsExcused (S.can_fail store.now) e ⊎ RefusesOpening (S.contents store.now) Default Never (path_text base.now) e) }
-{
-    let node = Node::open(log, alloc, store, base.as_str(), &listing())?;
-    let _path = node.path().as_str();
-    Ok(node)
-}
-
-// The configuration that has the nodes below a group listed.
-fn listing() -> Config
-    ensures { result.use_consolidated ≡ Never }
-{
-    let mut config = Config::new();
-    config.set_use_consolidated_metadata(UseConsolidatedMetadata::Never);
-    config
 }
 
 // The pretty layout of a block, and a newline.

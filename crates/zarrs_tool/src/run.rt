@@ -1,11 +1,11 @@
 //! The commands, over an image or a store.
-ghost use Rattle.std.specs.Prelude.{[], ◌∷◌, ◌≡◌, ◌≢◌, ◌↔◌, ◌++◌, IfOk, IfErr, IfSome, OnOk, IsOk, Err, option_map};
+ghost use Rattle.std.specs.Prelude.{◌≡◌, ◌≢◌, ◌↔◌, IfOk, IfErr, IfSome, OnOk, IsOk, Err, option_map};
 ghost use Rattle.std.specs.FinMap as map;
-ghost use Rattle.std.specs.List.{flat_map};
 ghost use Rattle.std.specs.Io.KnownBytes.{Appends, Keeps, IsAtEnd};
 ghost use Rattle.zarrs_store.specs.Contents.{Contents};
 ghost use Rattle.zarrs_path.specs.Paths.{IsPath, path_text};
 ghost use Rattle.zarrs_tool.specs.Image.{IsLoaded};
+ghost use Rattle.zarrs_tool.specs.Sinks.{AppendsLine};
 ghost use Rattle.zarrs_tool.specs.Output.{IsCommand, IsListing, IsOutput, Writes, WritesOutput, command_words, texts, word_text};
 ghost use Rattle.zarrs_tool.specs.Refused.{IsListingFault, IsPathFault, IsRefusal, IsWordFault, RefusedRun, status_of};
 
@@ -16,7 +16,9 @@ use log::Log;
 use std::alloc::{AllocError, Global};
 use std::io::{Read, Write};
 use zarrs_block::NodeCreateError;
-use zarrs_node::get_child_paths;
+use zarrs_config::MetadataRetrieveVersion;
+use zarrs_meta::NodeMetadata;
+use zarrs_node::{NodeSink, walk_child_nodes};
 use zarrs_path::NodePath;
 use zarrs_store::{ListableStorageTraits, ReadableStorageTraits};
 
@@ -204,6 +206,7 @@ fn output_of<L: Log, S: ReadableStorageTraits + ListableStorageTraits>(
 }
 
 // The paths of the nodes below a path, one a line.
+#[tactic(auto, using(crate::proofs::Lines::told_lines))]
 fn listing<L: Log, S: ReadableStorageTraits + ListableStorageTraits>(
     log: &L,
     alloc: Global,
@@ -214,21 +217,29 @@ fn listing<L: Log, S: ReadableStorageTraits + ListableStorageTraits>(
     ensures ok { IfOk result (λ text. IsListing (S.contents store.now) recursive base.now text.items) }
     ensures err { IfErr result (IsListingFault (S.can_fail store.now) (S.contents store.now) recursive base.now) }
 {
-    let paths = get_child_paths(log, alloc, store, base, recursive)?;
-    let mut lines = Vec::new(alloc);
-    push_lines(&mut lines, &paths)?;
-    Ok(lines)
+    let mut lines = PathLines {
+        text: Vec::new(alloc),
+    };
+    let version = MetadataRetrieveVersion::Default;
+    walk_child_nodes(log, alloc, store, base, recursive, &version, &mut lines)?;
+    Ok(lines.text)
 }
 
-// Appends the paths, one a line.
-fn push_lines(lines: &mut Vec<u8>, paths: &[NodePath]) -> Result<(), AllocError>
-    ensures { OnOk result (lines.new.items ≡ lines.old.items ++ flat_map (λ p. path_text p ++ 10 ∷ []) paths.now) }
-{
-    for path in paths {
-        lines.extend_from_slice(path.as_str().as_bytes())?;
-        lines.push(b'\n')?;
+// A text with the path of each node on a line of its own.
+#[derive(Drop)]
+struct PathLines {
+    text: Vec<u8>,
+}
+
+// Appends the line of each node as it is told.
+impl NodeSink for PathLines {
+    ghost takes = { AppendsLine };
+
+    fn take(&mut self, path: NodePath, metadata: NodeMetadata) -> Result<(), AllocError> {
+        drop(metadata);
+        self.text.extend_from_slice(path.as_str().as_bytes())?;
+        Ok(self.text.push(b'\n')?)
     }
-    Ok(())
 }
 
 fn write_text<W: Write>(text: &[u8], writer: &mut W) -> Result<(), ToolFault>

@@ -1,0 +1,9 @@
+-- How a text takes the nodes of a walk.
+use Rattle.std.specs.Prelude.{◌≡◌, [], ◌∷◌, ◌++◌}
+use Rattle.zarrs_path.specs.Paths.{Path, path_text}
+use Rattle.zarrs_meta.specs.declared.node.NodeMetadata.{NodeMetadata}
+use Rattle.zarrs_tool.specs.declared.run.PathLines.{PathLines}
+
+-- the line of the node's path was put behind the others
+abbrev pub AppendsLine : PathLines → Path × NodeMetadata → PathLines → Type 0
+AppendsLine old e new = new.text.items ≡ old.text.items ++ (path_text e.0 ++ 10 ∷ [])
