@@ -5,6 +5,8 @@
 #[cfg(test)]
 mod consolidation;
 #[cfg(test)]
+mod depth;
+#[cfg(test)]
 mod given;
 #[cfg(test)]
 mod listing;
