@@ -135,6 +135,33 @@ fn blocks_are_read_or_refused_by_the_first_fault(rt: HostRuntime) -> Result<(), 
     check_rows(rt.alloc(), BLOCKS, read_block)
 }
 
+// Texts of blocks, and the pretty layout of each.
+const PRETTY: &str = r#"
+{"kind":"inline","metadata":{}} => {\n  "kind": "inline",\n  "metadata": {},\n  "must_understand": false\n}
+{"kind":"inline","metadata":{"a":{"node_type":"group","zarr_format":3}}} => {\n  "kind": "inline",\n  "metadata": {\n    "a": {\n      "node_type": "group",\n      "zarr_format": 3\n    }\n  },\n  "must_understand": false\n}
+{"kind":"inline","metadata":{"a":{"attributes":{"list":[1,[],{},[-2,null]],"text":"two\nlines"},"node_type":"group","zarr_format":3},"a/\"b\"":{"zarr_format":2}}} => {\n  "kind": "inline",\n  "metadata": {\n    "a": {\n      "attributes": {\n        "list": [\n          1,\n          [],\n          {},\n          [\n            -2,\n            null\n          ]\n        ],\n        "text": "two\nlines"\n      },\n      "node_type": "group",\n      "zarr_format": 3\n    },\n    "a/\"b\"": {\n      "zarr_format": 2\n    }\n  },\n  "must_understand": false\n}
+"#;
+
+// The pretty layout of the block that a JSON text is, node by node, where the block as one JSON value has the same.
+fn pretty_block(alloc: Global, text: &str) -> Result<String, MetadataFault> {
+    let Ok(value) = Value::from_slice(alloc, text.as_bytes()) else {
+        return Ok(String::from_str(alloc, "not JSON")?);
+    };
+    let block = ConsolidatedMetadata::from_value(alloc, &value)?;
+    let pretty = block.to_pretty_text(alloc)?;
+    let whole = block.to_value(alloc)?.to_vec_pretty(alloc)?;
+    if pretty.as_bytes() == whole.as_slice() {
+        Ok(pretty)
+    } else {
+        Ok(String::from_str(alloc, "another text than that of one value")?)
+    }
+}
+
+#[test]
+fn blocks_have_this_pretty_layout(rt: HostRuntime) -> Result<(), Fail> {
+    check_rows(rt.alloc(), PRETTY, pretty_block)
+}
+
 /// The block of documents at keys: `KEY=DOCUMENT`, a semicolon between two; a key that stands alone has a group of version 2.
 pub(crate) fn block_of(
     alloc: Global,
@@ -388,4 +415,18 @@ fn without(alloc: Global, given: &str) -> Result<String, MetadataFault> {
 #[test]
 fn a_copy_leaves_out_a_key_and_what_is_below_it(rt: HostRuntime) -> Result<(), Fail> {
     check_rows(rt.alloc(), LEFT, without)
+}
+
+// The keys of the block of groups at these keys, once a key and what is below it are taken out of it.
+fn removed_below(alloc: Global, given: &str) -> Result<String, MetadataFault> {
+    let (keys, key) = fields(given);
+    let ConsolidatedMetadata { metadata } = block_of(alloc, keys)?;
+    let mut block = metadata;
+    block.remove_below(alloc, key)?;
+    Ok(keys_text(alloc, "", &block)?)
+}
+
+#[test]
+fn a_key_and_what_is_below_it_are_taken_out(rt: HostRuntime) -> Result<(), Fail> {
+    check_rows(rt.alloc(), LEFT, removed_below)
 }

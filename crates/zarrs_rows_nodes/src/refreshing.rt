@@ -7,7 +7,7 @@ use std::process::Abort;
 use std::test::Fail;
 use zarrs_block::{ConsolidatedMetadataMetadata, NodeCreateError};
 use zarrs_meta::{GroupMetadata, GroupMetadataV3, NodeMetadata};
-use zarrs_node::{Node, get_child_nodes, laws, refresh_block};
+use zarrs_node::{Node, get_child_nodes, laws, refresh_block, refresh_owned_block};
 use zarrs_path::NodePath;
 use zarrs_rows_fixtures::{ANY, entries_of, key_of, keys_text};
 use zarrs_rows_table::{A3, G3, check_rows, fields, said};
@@ -130,6 +130,29 @@ fn kinds_said(alloc: Global, given: &str) -> Result<String, AllocError> {
     said(alloc, refreshed_given(alloc, given), kinds_text)
 }
 
+// The block of a row made current in its place: the base, the path, the nodes of the block, and the store.
+fn owned_given(alloc: Global, given: &str) -> Result<Block, NodeCreateError> {
+    let (base, rest) = fields(given);
+    let (path, rest) = fields(rest);
+    let (nodes, documents) = fields(rest);
+    let block = block_in(alloc, nodes)?;
+    let store = store_in(alloc, documents)?;
+    let base = NodePath::new(alloc, base)?;
+    let path = NodePath::new(alloc, path)?;
+    if !path.is_below(&base) {
+        return Err(NodeCreateError::MetadataVersionMismatch);
+    }
+    refresh_owned_block(alloc, &store, &base, &ANY, block, &path)
+}
+
+fn owned_keys_said(alloc: Global, given: &str) -> Result<String, AllocError> {
+    said(alloc, owned_given(alloc, given), keys_text)
+}
+
+fn owned_kinds_said(alloc: Global, given: &str) -> Result<String, AllocError> {
+    said(alloc, owned_given(alloc, given), kinds_text)
+}
+
 // Base, path, the nodes of the block, and the store; the keys of the block that is made current, or the refusal.
 const KEYS: &str = r#"
 # siblings and keys that are no paths stay
@@ -170,6 +193,16 @@ const KINDS: &str = r#"
 #[test]
 fn a_block_made_current_has_these_kinds(rt: HostRuntime) -> Result<(), Fail> {
     check_rows(rt.alloc(), KINDS, kinds_said)
+}
+
+#[test]
+fn a_block_changed_in_its_place_has_the_same_keys(rt: HostRuntime) -> Result<(), Fail> {
+    check_rows(rt.alloc(), KEYS, owned_keys_said)
+}
+
+#[test]
+fn a_block_changed_in_its_place_has_the_same_kinds(rt: HostRuntime) -> Result<(), Fail> {
+    check_rows(rt.alloc(), KINDS, owned_kinds_said)
 }
 
 // ---- every store of three paths, and every change of one

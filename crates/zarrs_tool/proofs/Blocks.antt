@@ -1,10 +1,7 @@
 -- The block of the nodes that a listing finds.
-use Rattle.std.proofs.Common.{◌≡◌, ◌⊎◌, inl, inr, ⊎_elim, ℕ, Bool, true, false, List, [], ◌∷◌, ◌++◌, Result, Ok, Err, IsTrue, if◌then◌else◌, refl, ap, ◌∙◌}
+use Rattle.std.proofs.Common.{◌≡◌, ◌⊎◌, inl, inr, ⊎_elim, ℕ, Bool, true, false, List, [], ◌∷◌, ◌++◌, Result, Ok, Err, IsTrue, if◌then◌else◌, refl}
 use Rattle.serde_json.specs.Data.{Data, Members}
-use Rattle.json.specs.Layout.{pretty}
-use Rattle.json.specs.Lex.{tokens}
-use Rattle.serde_json.specs.Written.{has_float, IsInOrder}
-use Rattle.serde_json.proofs.Texts.{tokens_from_order}
+use Rattle.serde_json.specs.Written.{has_float}
 use Rattle.zarrs_store.specs.Contents.{Contents}
 use Rattle.zarrs_fault.specs.declared.fault.MetadataFault.{MetadataFault}
 use Rattle.zarrs_fault.specs.declared.fault.MetadataFault.TheVariants.{UnsupportedNumber}
@@ -67,9 +64,3 @@ pub listing_refused : (can_fail : Bool) (store : Contents) (base : Path) (m : No
     → IsExcused can_fail e ⊎ ShowsBad store Default true base e → RefusesOpen can_fail store Never base e
 listing_refused can_fail store base (Array a) e valid means group h = let no : false ≡ true = group in cc no
 listing_refused can_fail store base (Group g) e valid means group h = below_refused can_fail store Default Never (path_text base) base (Group g) e valid refl means h
-
--- the layout of a tree without fractions, and a newline
-pub line_of : (tree d : Data) (bytes text : List ℕ) → d ≡ tree → bytes ≡ pretty (tokens bytes) → IsInOrder bytes d → text ≡ bytes ++ 10 ∷ [] → has_float tree ≡ false
-    → text ≡ pretty_text tree ++ 10 ∷ []
-line_of tree d bytes text same laid order line whole =
-    line ∙ ap (λ t. t ++ 10 ∷ []) (laid ∙ ap pretty (tokens_from_order bytes d order (ap has_float same ∙ whole)) ∙ ap pretty_text same)

@@ -66,8 +66,7 @@ fn pretty_line(alloc: Global, block: &ConsolidatedMetadata) -> Result<Vec<u8>, A
     ensures layout { IfOk result (λ text. has_float (block_tree block.now.metadata) ≡ false
         → text.items ≡ pretty_text (block_tree block.now.metadata) ++ 10 ∷ []) }
 {
-    let value = block.to_value(alloc)?;
-    let mut text = value.to_vec_pretty(alloc)?;
-    text.push(b'\n')?;
-    Ok(text)
+    let mut text = block.to_pretty_text(alloc)?;
+    text.push('\n')?;
+    Ok(text.into_bytes())
 }
