@@ -1,5 +1,6 @@
 -- The block of the nodes that a listing finds.
-use Rattle.std.proofs.Common.{◌≡◌, ◌⊎◌, inl, inr, ⊎_elim, ℕ, Bool, true, false, List, [], ◌∷◌, ◌++◌, Result, Ok, Err, IsTrue, if◌then◌else◌, refl}
+use Rattle.std.proofs.Common.{◌≡◌, ◌⊎◌, inl, inr, ⊎_elim, ℕ, Bool, true, false, List, [], ◌∷◌, ◌++◌, Result, Ok, Err, IfErr, IsTrue, if◌then◌else◌, refl, sym, subst}
+use Rattle.std.specs.Result.{IsErrAnd}
 use Rattle.serde_json.specs.Data.{Data, Members}
 use Rattle.serde_json.specs.Written.{has_float}
 use Rattle.zarrs_store.specs.Contents.{Contents}
@@ -21,7 +22,9 @@ use Rattle.zarrs_node.proofs.Inverse.{kept_reads_back}
 use Rattle.zarrs_hierarchy.proofs.Opening.{below_refused}
 use Rattle.zarrs_group.specs.Layout.{pretty_text}
 use Rattle.zarrs_tool.specs.Output.{IsBlockText}
-use Rattle.zarrs_tool.specs.Refused.{IsArray, RefusesOpen}
+use Rattle.zarrs_tool.specs.declared.fault.ToolFault.{ToolFault}
+use Rattle.zarrs_tool.specs.declared.fault.ToolFault.TheVariants.{Node}
+use Rattle.zarrs_tool.specs.Refused.{IsArray, IsBlockFault, RefusesOpen}
 use Rattle.zarrs_tool.proofs.PlainMeanings.{plain_node}
 
 -- what was read as a document has numbers that fit
@@ -64,3 +67,9 @@ pub listing_refused : (can_fail : Bool) (store : Contents) (base : Path) (m : No
     → IsExcused can_fail e ⊎ ShowsBad store Default true base e → RefusesOpen can_fail store Never base e
 listing_refused can_fail store base (Array a) e valid means group h = let no : false ≡ true = group in cc no
 listing_refused can_fail store base (Group g) e valid means group h = below_refused can_fail store Default Never (path_text base) base (Group g) e valid refl means h
+
+-- a fault that holds such a refusal is one of the block
+pub listing_fault : {A : Type 0} (r : Result A ToolFault) (can_fail : Bool) (store : Contents) (base : Path) (m : NodeMetadata) (e : NodeCreateError) → IsErrAnd r (λ fault. fault ≡ Node e)
+    → IsPath base → meaning store Default base ≡ node m → IsTrue (is_group m) → IsExcused can_fail e ⊎ ShowsBad store Default true base e → IfErr r (IsBlockFault can_fail store base)
+listing_fault (Ok a) can_fail store base m e is valid means group h = tt
+listing_fault (Err fault) can_fail store base m e is valid means group h = subst (IsBlockFault can_fail store base) (sym is) (listing_refused can_fail store base m e valid means group h)
