@@ -1,11 +1,11 @@
 -- The number of names of a path, by its text.
-use Rattle.std.proofs.Common.{◌≡◌, ◌≢◌, ◌↔◌, ℕ, ◌+◌, suc, Bool, true, false, List, [], ◌∷◌, ◌++◌, length, refl, sym, ap, ◌∙◌, arith, IsTrue, true≢false}
+use Rattle.std.proofs.Common.{◌≡◌, ◌≢◌, ℕ, ◌+◌, List, [], ◌∷◌, length, refl, ap, ◌∙◌, arith}
 use Rattle.std.specs.List.{count_by, filter, slice_split}
 use Rattle.std.proofs.lemmas.List.Sums.{length-filter}
 use Rattle.std.proofs.lemmas.List.Splits.{length-slice_split}
 use Rattle.zarrs_store.specs.Segments.{is_slash}
 use Rattle.zarrs_path.specs.Paths.{Path, IsPath, path_text}
-use Rattle.zarrs_path.proofs.PathTexts.{parts-path_text, text_parts}
+use Rattle.zarrs_path.proofs.PathTexts.{parts-path_text}
 
 -- a path with names has a slash for each
 slashes : (n : List ℕ) (p : Path) → IsPath (n ∷ p) → count_by is_slash (path_text (n ∷ p)) ≡ length (n ∷ p)

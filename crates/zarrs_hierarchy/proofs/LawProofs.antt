@@ -1,5 +1,5 @@
 -- The laws of hierarchies.
-use Rattle.std.proofs.Common.{◌≡◌, ◌↔◌, ◌⊎◌, inl, inr, ⊎_elim, ℕ, true, List, [], ◌∷◌, ◌++◌, refl, sym, ap, subst, ◌∙◌, append_assoc, Contains, IsTrue, Option, Some, None, codes, false, true≢false}
+use Rattle.std.proofs.Common.{◌≡◌, ◌↔◌, inr, ⊎_elim, ℕ, true, List, [], ◌∷◌, ◌++◌, refl, sym, ap, subst, ◌∙◌, append_assoc, Contains, IsTrue, Option, Some, None, codes, true≢false}
 use Rattle.zarrs_store.specs.Contents.{Contents}
 use Rattle.zarrs_path.specs.Paths.{Path, IsPath, IsBelow, path_text}
 use Rattle.zarrs_path.proofs.PathTexts.{segments_of-path_text}
@@ -12,16 +12,14 @@ use Rattle.zarrs_config.specs.declared.version.UseConsolidatedMetadata.{UseConso
 use Rattle.zarrs_block.specs.Block.{Block, Entries}
 use Rattle.zarrs_node.specs.Forest.{Forest, Shows}
 use Rattle.zarrs_node.specs.Order.{Ascend}
-use Rattle.zarrs_node.specs.Lines.{lines, preorder, tree_text, IsLines}
-use Rattle.zarrs_block.specs.Meaning.{meaning, node}
-use Rattle.zarrs_node.specs.Nodes.{Nodes}
+use Rattle.zarrs_node.specs.Lines.{lines, preorder, tree_text}
+use Rattle.zarrs_block.specs.Meaning.{meaning}
 use Rattle.zarrs_node.specs.Opened.{choice, ShowsNode, ShowsChosen}
-use Rattle.zarrs_node.specs.Reached.{Kept, Closed}
 use Rattle.zarrs_node.proofs.Found.{listed_each}
 use Rattle.zarrs_node.proofs.Kept.{closed_is_kept}
 use Rattle.zarrs_node.proofs.LawProofs.{placed_lines, lines_unique}
 use Rattle.zarrs_hierarchy.specs.Held.{Pairs, Holds, WithBase}
-use Rattle.zarrs_hierarchy.specs.Opened.{PairsChosen, PairsOf, IsOpened}
+use Rattle.zarrs_hierarchy.specs.Opened.{PairsChosen, PairsOf}
 use Rattle.zarrs_hierarchy.specs.Tree.{IsTreeOf, pairs_below, shown}
 use Rattle.zarrs_hierarchy.specs.Laws.{IsClosedChoice, PrintingAgrees, ShownIsTree}
 use Rattle.zarrs_hierarchy.proofs.Maps.{lists_same}

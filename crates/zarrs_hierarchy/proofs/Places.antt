@@ -1,10 +1,9 @@
 -- Pairs in the order of paths: what a search by halving finds, and what stands behind a path.
-use Rattle.std.proofs.Common.{◌≡◌, ℕ, zero, suc, ◌+◌, ◌<◌, true, false, List, [], ◌∷◌, drop, length, get_or, refl, sym, ap, subst, ◌∙◌, arith, Contains, Less, Equal, Greater, Ordering, Option, Some, None, Result, Ok, Err, IfOk, IfErr, is_eq}
+use Rattle.std.proofs.Common.{◌≡◌, ℕ, zero, suc, ◌+◌, false, [], ◌∷◌, drop, length, get_or, refl, ap, subst, ◌∙◌, arith, Contains, Less, Equal, Greater, Ordering, Some, None, Result, Ok, Err, IfOk, IfErr, is_eq}
 use Rattle.std.proofs.lemmas.Cmp.{tied_itself}
 use Rattle.std.proofs.lemmas.List.Sorted.{searchable_from_sorted}
 use Rattle.std.proofs.Math.Seq.{drop-nil}
 use Rattle.std.specs.BTreeMap.{is_at}
-use Rattle.std.specs.List.{filter}
 use Rattle.std.specs.List.Sorted.{IsBinarySearchResult, IsNonDecreasingBy, IsSearchInRange}
 use Rattle.std.specs.Map.{lookup}
 use Rattle.std.specs.Ordering.{is_lt, ordering_index, ordering_reverse}

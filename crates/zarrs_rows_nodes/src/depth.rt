@@ -40,13 +40,14 @@ fn placed_chain(alloc: Global, levels: u64) -> Result<Node, NodeCreateError> {
 
 // The levels below a node, by the last child of each.
 fn levels_below(node: &Node) -> u64 {
-    let mut levels: u64 = 0;
     let mut at = node;
-    while let Some(child) = at.children().last() {
-        levels = levels.saturating_add(1);
-        at = child;
+    for levels in 0..u64::MAX {
+        match at.children().last() {
+            Some(child) => at = child,
+            None => return levels,
+        }
     }
-    levels
+    u64::MAX
 }
 
 // The levels of a chain's copy.

@@ -9,7 +9,7 @@ use Rattle.zarrs_fault.specs.declared.fault.MetadataFault.TheVariants.{Unsupport
 use Rattle.zarrs_path.specs.Paths.{Path, IsPath, path_text}
 use Rattle.zarrs_config.specs.declared.version.MetadataRetrieveVersion.TheVariants.{Default}
 use Rattle.zarrs_config.specs.declared.version.UseConsolidatedMetadata.TheVariants.{Never}
-use Rattle.zarrs_form.specs.Documents.{◌>>=◌, document_of, object_of}
+use Rattle.zarrs_form.specs.Documents.{◌>>=◌, object_of}
 use Rattle.zarrs_meta.specs.Node.{is_group}
 use Rattle.zarrs_meta.specs.declared.node.NodeMetadata.{NodeMetadata}
 use Rattle.zarrs_meta.specs.declared.node.NodeMetadata.TheVariants.{Group, Array}

@@ -1,5 +1,5 @@
 -- What paths mean in a store could have come from documents.
-use Rattle.std.proofs.Common.{◌≡◌, List, ℕ, ◌∷◌, [], ◌++◌, Option, Some, None, Result, Ok, Err, IsTrue, ap, subst}
+use Rattle.std.proofs.Common.{◌≡◌, List, ℕ, ◌∷◌, [], ◌++◌, Option, Some, None, Result, Ok, Err, IsTrue, subst}
 use Rattle.std.specs.FinMap.{get}
 use Rattle.serde_json.specs.Data.{Data}
 use Rattle.zarrs_store.specs.Segments.{Segments}

@@ -1,4 +1,4 @@
-use Rattle.std.proofs.Common.{◌≡◌, ◌∙◌, ◌++◌, sym, ap, Some, None}
+use Rattle.std.proofs.Common.{◌∙◌, ◌++◌, sym, ap, Some}
 use Rattle.zarrs_block.specs.Used.{seen, used}
 use Rattle.zarrs_node.specs.Below.{block_at}
 use Rattle.zarrs_hierarchy.specs.Opened.{PairsOf}

@@ -1,4 +1,4 @@
-use Rattle.std.proofs.Common.{◌≡◌, ◌∙◌, sym, true≢false}
+use Rattle.std.proofs.Common.{◌∙◌, sym, true≢false}
 use Rattle.zarrs_hierarchy.proofs.Depth.{depth_of}
 use Rattle.zarrs_hierarchy.proofs.tree.depth.Goals as goal
 

@@ -1,4 +1,4 @@
-use Rattle.std.proofs.Common.{◌≡◌, ◌∙◌, ◌++◌, string_bytes, ap}
+use Rattle.std.proofs.Common.{◌∙◌, ◌++◌, string_bytes, ap}
 use Rattle.zarrs_hierarchy.proofs.LawProofs.{written_tree}
 use Rattle.zarrs_hierarchy.proofs.hierarchy.Hierarchy.tree_of.Goals as goal
 

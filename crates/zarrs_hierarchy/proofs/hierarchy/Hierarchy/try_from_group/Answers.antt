@@ -1,6 +1,5 @@
-use Rattle.std.proofs.Common.{◌∙◌, ◌⊎◌, true, subst, ap, [], ◌∷◌, rules}
+use Rattle.std.proofs.Common.{◌∙◌, ◌⊎◌, true, subst, rules}
 use Rattle.zarrs_config.specs.declared.version.MetadataRetrieveVersion.TheVariants.{Default}
-use Rattle.zarrs_meta.specs.declared.node.NodeMetadata.TheVariants.{Group}
 use Rattle.zarrs_block.specs.Refused.{IsExcused}
 use Rattle.zarrs_node.specs.Nodes.{Bad, ShowsBad}
 use Rattle.zarrs_hierarchy.proofs.Opening.{group_holds}
