@@ -1,6 +1,7 @@
 -- What a hierarchy holds that is made of a base and of what stands below it.
-use Rattle.std.proofs.Common.{◌≡◌, ◌↔◌, ◌⊎◌, inl, inr, ⊎_elim, ℕ, Bool, true, false, List, [], ◌∷◌, ◌++◌, get_or, length, sym, ap, subst, ◌∙◌, arith, length-append, Contains, Less, Option, Some, None, true≢false, IsTrue}
+use Rattle.std.proofs.Common.{◌≡◌, ◌↔◌, ◌⊎◌, inl, inr, ⊎_elim, ℕ, Bool, true, false, List, [], ◌∷◌, ◌++◌, get_or, length, refl, sym, ap, subst, ◌∙◌, ◌-◌, arith, length-append, append-nil, append_assoc, string_bytes, Contains, Less, Option, Some, None, true≢false, IsTrue}
 use Rattle.std.specs.Global.{Vec}
+use Rattle.std.specs.List.{flat_map}
 use Rattle.std.proofs.lemmas.List.Kept.{AllPairs-cons}
 use Rattle.zarrs_store.specs.Contents.{Contents, Lists}
 use Rattle.zarrs_path.specs.Paths.{Path, IsPath, IsBelow, path_cmp, path_text}
@@ -15,17 +16,21 @@ use Rattle.zarrs_block.specs.Refused.{IsExcused}
 use Rattle.zarrs_block.specs.declared.node_create_error.NodeCreateError.{NodeCreateError}
 use Rattle.zarrs_block.specs.Meaning.{Meaning, node, nothing, bad, meaning}
 use Rattle.zarrs_node.specs.Forest.{pairs}
-use Rattle.zarrs_node.specs.Nodes.{Nodes, Bad}
-use Rattle.zarrs_node.specs.Opened.{choice, IsCleanChosen, IsCleanNode, RefusesBelow, RefusesOpening}
+use Rattle.zarrs_node.specs.Below.{PairsBelow, BadBelow, ShowsBadBelow}
+use Rattle.zarrs_node.specs.Lines.{line, lines}
+use Rattle.zarrs_node.specs.Nodes.{Nodes}
+use Rattle.zarrs_node.specs.Opened.{choice, IsCleanChosen, IsCleanNode, RefusesBelow, RefusesChosen, RefusesOpening}
 use Rattle.zarrs_node.specs.Order.{Ascend}
-use Rattle.zarrs_node.specs.Sinks.{TakesForest, KeepsPair}
-use Rattle.zarrs_node.proofs.Feeding.{kept_pairs}
+use Rattle.zarrs_node.specs.Sinks.{TakesAll, TakesForest, KeepsPair}
+use Rattle.zarrs_node.proofs.Feeding.{kept_pairs, took_joined}
 use Rattle.zarrs_node.proofs.Found.{lists_from, listed_each}
 use Rattle.zarrs_node.proofs.Graft.{Contains-first, Contains-cons}
 use Rattle.zarrs_node.proofs.LawProofs.{apart}
 use Rattle.zarrs_node.proofs.Order.{contains_cases, shown_ascend}
 use Rattle.zarrs_hierarchy.specs.Held.{Pairs, Holds, WithBase}
-use Rattle.zarrs_hierarchy.specs.Opened.{PairsChosen, PairsOf}
+use Rattle.zarrs_hierarchy.specs.Opened.{PairsChosen, PairsOf, IsOpenedTree}
+use Rattle.zarrs_hierarchy.specs.Sinks.{AppendsNode, TakesPairs}
+use Rattle.zarrs_hierarchy.specs.declared.tree_text.TreeText.{TreeText}
 use Rattle.zarrs_hierarchy.proofs.Below.{stands_behind}
 
 -- no path is below itself
@@ -103,18 +108,99 @@ module _ (s : Contents) (v : MetadataRetrieveVersion) where
   listed_by policy b (Array a) c xs group e h = absurd (true≢false (sym group))
   listed_by policy b (Group g) c xs group e h = subst (λ k. Lists (PairsChosen s v k b) xs) (sym e) h
 
--- a list with a group alone that took a listing below it holds the group and what stands below it, where its nodes are listed
-pub walked_by : (s : Contents) (v : MetadataRetrieveVersion) (policy : UseConsolidatedMetadata) (b : Path) (m : NodeMetadata) (a z : Vec (Path × NodeMetadata)) → IsTrue (is_group m) → choice s policy b m ≡ Some None
-    → a.items ≡ (b, m) ∷ [] → TakesForest KeepsPair a z b (Nodes s v true b) → Holds z.items (WithBase b m (PairsOf s v policy b m))
-walked_by s v policy b m a z group chosen alone t =
-    holds_front b m (PairsOf s v policy b m) (pairs_low s v policy b m) (pairs t.trees)
-    (listed_by s v policy b m (Some None) (pairs t.trees) group chosen t.shows.shown) (shown_ascend b (Nodes s v true b) t.trees t.shows) z.items
-    (kept_pairs a z b (Nodes s v true b) t ∙ ap (λ x. x ++ pairs t.trees) alone)
+-- each pair put behind those before it gives all of them
+joined_same : (es : Pairs) → flat_map (λ (d : Path × NodeMetadata). d ∷ []) es ≡ es
+joined_same [] = refl
+joined_same (e ∷ es) = ap (λ xs. e ∷ xs) (joined_same es)
 
--- where nothing that is listed below a group is bad, the group is clean
-pub clean_by : (s : Contents) (v : MetadataRetrieveVersion) (policy : UseConsolidatedMetadata) (b : Path) (m : NodeMetadata) → IsTrue (is_group m) → choice s policy b m ≡ Some None → (Bad s v true b → ⊥) → IsCleanNode s v policy b m
-clean_by s v policy b (Array a) group chosen clean = tt
-clean_by s v policy b (Group g) group chosen clean = subst (λ k. IsCleanChosen s v k true b) (sym chosen) clean
+-- a list with a group alone that took what stands below it holds the group and that
+pub holds_told : (s : Contents) (v : MetadataRetrieveVersion) (policy : UseConsolidatedMetadata) (b : Path) (m : NodeMetadata) (c : Option Block) (a z : Vec (Path × NodeMetadata)) → IsTrue (is_group m) → choice s policy b m ≡ Some c
+    → a.items ≡ (b, m) ∷ [] → TakesPairs KeepsPair a z (PairsBelow s v c b) → Holds z.items (WithBase b m (PairsOf s v policy b m))
+holds_told s v policy b m c a z group chosen alone t =
+    holds_front b m (PairsOf s v policy b m) (pairs_low s v policy b m) t.nodes (listed_by s v policy b m (Some c) t.nodes group chosen t.lists) t.ordered z.items
+    (took_joined KeepsPair (λ x. x.items) (λ d. d ∷ []) (λ x d y r. r) a t.nodes z t.took ∙ ap (λ x. x ++ flat_map (λ (d : Path × NodeMetadata). d ∷ []) t.nodes) alone ∙ ap (λ x. (b, m) ∷ x) (joined_same t.nodes))
+
+-- what a sink took of what stands below a group is what stands below the node
+pub told_group : {K : Type 0} (R : K → Path × NodeMetadata → K → Type 0) (s : Contents) (v : MetadataRetrieveVersion) (policy : UseConsolidatedMetadata) (b : Path) (m : NodeMetadata) (c : Option Block) (a z : K)
+    → IsTrue (is_group m) → choice s policy b m ≡ Some c → TakesPairs R a z (PairsBelow s v c b) → TakesPairs R a z (PairsOf s v policy b m)
+told_group R s v policy b m c a z group chosen t = record {
+  nodes = t.nodes;
+  lists = listed_by s v policy b m (Some c) t.nodes group chosen t.lists;
+  ordered = t.ordered;
+  took = t.took;
+}
+
+-- below a node that is no group a sink takes nothing
+pub told_array : {K : Type 0} (R : K → Path × NodeMetadata → K → Type 0) (s : Contents) (v : MetadataRetrieveVersion) (policy : UseConsolidatedMetadata) (b : Path) (m : NodeMetadata) (a : K)
+    → is_group m ≡ false → TakesPairs R a a (PairsOf s v policy b m)
+told_array R s v policy b (Group g) a other = absurd (true≢false other)
+told_array R s v policy b (Array m) a other = record {
+  nodes = [];
+  lists = lists_from [] (λ e. (λ in'. absurd (omega (arith, in'.1)), λ none. absurd none)) (λ i j d l k. absurd (omega (arith, l, k)));
+  ordered = λ i j d l k. absurd (omega (arith, l, k));
+  took = refl;
+}
+
+-- what a sink took of a forest below a base are its pairs
+pub told_forest : {K : Type 0} (R : K → Path × NodeMetadata → K → Type 0) (N : Path × NodeMetadata → Type 0) (b : Path) (a z : K) → TakesForest R a z b N → TakesPairs R a z N
+told_forest R N b a z t = record {
+  nodes = pairs t.trees;
+  lists = t.shows.shown;
+  ordered = shown_ascend b N t.trees t.shows;
+  took = t.took;
+}
+
+-- where nothing below a group is refused, the group is clean
+pub clean_by : (s : Contents) (v : MetadataRetrieveVersion) (policy : UseConsolidatedMetadata) (b : Path) (m : NodeMetadata) (c : Option Block) → IsTrue (is_group m) → choice s policy b m ≡ Some c
+    → (BadBelow s v c true b → ⊥) → IsCleanNode s v policy b m
+clean_by s v policy b (Array a) c group chosen clean = tt
+clean_by s v policy b (Group g) c group chosen clean = subst (λ k. IsCleanChosen s v k true b) (sym chosen) clean
+
+-- a refusal of what stands below a group is one below the node
+pub refused_by : (can_fail : Bool) (s : Contents) (v : MetadataRetrieveVersion) (policy : UseConsolidatedMetadata) (b : Path) (m : NodeMetadata) (c : Option Block) (e : NodeCreateError) → IsTrue (is_group m)
+    → choice s policy b m ≡ Some c → IsExcused can_fail e ⊎ ShowsBadBelow s v c true b e → IsExcused can_fail e ⊎ RefusesBelow s v policy b m e
+refused_by can_fail s v policy b (Array a) c e group chosen h = absurd (true≢false (sym group))
+refused_by can_fail s v policy b (Group g) c e group chosen h = ⊎_elim inl (λ shown. inr (subst (λ k. RefusesChosen s v k true b e) (sym chosen) shown)) h
+
+-- ---- the text of what stands below a base
+
+-- a text that took pairs has the line of each
+took_lines : (b : Path) (a : TreeText) (es : Pairs) (z : TreeText) → TakesAll AppendsNode a es z → a.above ≡ length b → string_bytes z.text ≡ string_bytes a.text ++ lines b es
+took_lines b a [] z t at = ap (λ (x : TreeText). string_bytes x.text) t ∙ sym (append-nil (string_bytes a.text))
+took_lines b a (e ∷ es) z t at =
+    took_lines b t.0 es z t.2 (t.1.base ∙ at)
+    ∙ ap (λ w. w ++ lines b es) (t.1.bytes ∙ ap (λ n. string_bytes a.text ++ line (length e.0 - n) e.0 e.1) at)
+    ∙ append_assoc (string_bytes a.text) (line (length e.0 - length b) e.0 e.1) (lines b es)
+
+-- a text with the line of a base that took what stands below it is the tree of the hierarchy that has both
+pub told_tree : (s : Contents) (v : MetadataRetrieveVersion) (policy : UseConsolidatedMetadata) (b : Path) (m : NodeMetadata) (a z : TreeText) → IsPath b → meaning s v b ≡ node m → a.above ≡ length b
+    → string_bytes a.text ≡ path_text b ++ 10 ∷ [] → TakesPairs AppendsNode a z (PairsOf s v policy b m) → IsCleanNode s v policy b m → IsOpenedTree s v policy b (string_bytes z.text)
+told_tree s v policy b m a z valid means at start t clean = (
+  (b, m) ∷ t.nodes,
+  record {
+    base = b;
+    valid = valid;
+    path = refl;
+    metadata = m;
+    means = means;
+    holds = holds_front b m (PairsOf s v policy b m) low t.nodes t.lists t.ordered ((b, m) ∷ t.nodes) refl;
+    clean = clean;
+  },
+  record {
+    below = lines b t.nodes;
+    is = took_lines b a t.nodes z t.took at ∙ ap (λ x. x ++ lines b t.nodes) start ∙ append_assoc (path_text b) (10 ∷ []) (lines b t.nodes);
+    lines_below = (t.nodes, lists_from t.nodes each (apart t.nodes t.ordered), t.ordered, refl);
+  },
+)
+  where
+    low : (e : Path × NodeMetadata) → PairsOf s v policy b m e → IsBelow b e.0
+    low = pairs_low s v policy b m
+
+    each : (e : Path × NodeMetadata) → Contains t.nodes e ↔ (Contains ((b, m) ∷ t.nodes) e × IsBelow b e.0)
+    each e = (
+      λ in'. (Contains-cons (b, m) t.nodes e in', low e ((listed_each t.lists e).0 in')),
+      λ both. ⊎_elim (λ same. absurd (not_itself b (subst (λ x. IsBelow b x.0) (sym same) both.1))) (λ l. l) (contains_cases (b, m) t.nodes e both.0),
+    )
 
 -- a list of a group's path and copied metadata that took a listing below it holds the group and that
 pub group_holds : (s : Contents) (v : MetadataRetrieveVersion) (b q : Path) (m k : GroupMetadata) (a z : Vec (Path × NodeMetadata)) → q ≡ b → k ≡ m → a.items ≡ (q, Group k) ∷ []

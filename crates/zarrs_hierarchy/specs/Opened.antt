@@ -11,6 +11,7 @@ use Rattle.zarrs_block.specs.Meaning.{meaning, node}
 use Rattle.zarrs_node.specs.Below.{PairsBelow}
 use Rattle.zarrs_node.specs.Opened.{choice, IsCleanNode}
 use Rattle.zarrs_hierarchy.specs.Held.{Pairs, Holds, WithBase}
+use Rattle.zarrs_hierarchy.specs.Tree.{IsTreeOf}
 
 -- the pairs below b by the block that is chosen or by a listing; none where the want of a block is refused
 abbrev pub PairsChosen : Contents → MetadataRetrieveVersion → Option (Option Block) → Path → Path × NodeMetadata → Type 0
@@ -31,3 +32,7 @@ pub record IsOpened (s : Contents) (v : MetadataRetrieveVersion) (policy : UseCo
   pub means : meaning s v base ≡ node metadata
   pub holds : Holds h (WithBase base metadata (PairsOf s v policy base metadata))
   pub clean : IsCleanNode s v policy base metadata
+
+-- the text is the tree, from b on, of the hierarchy that opening at b finds
+abbrev pub IsOpenedTree : Contents → MetadataRetrieveVersion → UseConsolidatedMetadata → Path → List ℕ → Type 0
+IsOpenedTree s v policy b text = (h : Pairs) × IsOpened s v policy (path_text b) h × IsTreeOf h b text

@@ -7,8 +7,10 @@ mod hierarchy;
 pub mod laws;
 mod open;
 mod tree;
+mod tree_text;
 
 pub use hierarchy::{Hierarchy, HierarchyCreateError};
+pub use tree_text::tree_at;
 pub use zarrs_block::NodeCreateError;
 pub use zarrs_meta::NodeMetadata;
 pub use zarrs_node::Node;

@@ -1,20 +1,24 @@
 //! Hierarchies of what a store has at a path and below it.
-ghost use Rattle.std.specs.Prelude.{◌≡◌, ◌∷◌, [], true, IfOk, IfErr, ◌⊎◌};
+ghost use Rattle.std.specs.Prelude.{◌≡◌, ◌∷◌, [], true, IfOk, IfErr, OnOk, ◌⊎◌};
 ghost use Rattle.zarrs_meta.specs.declared.node.NodeMetadata.TheVariants.{Group as group_node};
 ghost use Rattle.zarrs_block.specs.Refused.{IsExcused};
+ghost use Rattle.zarrs_block.specs.Used.{seen};
+ghost use Rattle.zarrs_node.specs.Below.{PairsBelow, BadBelow, ShowsBadBelow};
 ghost use Rattle.zarrs_node.specs.Nodes.{Nodes, Bad, ShowsBad};
 ghost use Rattle.zarrs_node.specs.Opened.{IsCleanNode, RefusesBelow, RefusesOpening};
 ghost use Rattle.zarrs_hierarchy.specs.Held.{Holds, WithBase};
+ghost use Rattle.zarrs_node.specs.Sinks.{TakesAll};
 ghost use Rattle.zarrs_hierarchy.specs.Opened.{PairsOf, IsOpened};
+ghost use Rattle.zarrs_hierarchy.specs.Sinks.{TakesPairs};
 
 use crate::hierarchy::{Hierarchy, HierarchyCreateError};
 use log::Log;
 use std::alloc::{AllocError, Global};
-use zarrs_block::expand_consolidated_metadata;
+use zarrs_block::{ConsolidatedMetadata, expand_consolidated_metadata};
 use zarrs_config::{Config, MetadataRetrieveVersion};
 use zarrs_group::Group;
 use zarrs_meta::NodeMetadata;
-use zarrs_node::{Node, consolidated_metadata_at, walk_child_nodes};
+use zarrs_node::{Node, NodeSink, consolidated_metadata_at, walk_child_nodes};
 use zarrs_path::NodePath;
 use zarrs_store::{ListableStorageTraits, ReadableStorageTraits};
 
@@ -131,17 +135,45 @@ fn nodes_from<L: Log, S: ReadableStorageTraits + ListableStorageTraits>(
     let policy = config.use_consolidated_metadata();
     let block = consolidated_metadata_at(alloc, storage, path, &metadata, policy)?;
     let mut nodes = base_alone(alloc, path, metadata)?;
+    tell_below(log, alloc, storage, path, version, block, &mut nodes)?;
+    Ok(nodes)
+}
+
+// Hands the nodes below a group to a sink, in the order of paths: the entries of the block that is used, or where none is, the nodes that a
+// listing finds.
+pub(crate) fn tell_below<L: Log, S: ReadableStorageTraits + ListableStorageTraits, K: NodeSink>(
+    log: &L,
+    alloc: Global,
+    storage: &S,
+    path: &NodePath,
+    version: &MetadataRetrieveVersion,
+    block: Option<ConsolidatedMetadata>,
+    sink: &mut K,
+) -> Result<(), HierarchyCreateError>
+    ensures takes { OnOk result (TakesPairs K.takes sink.old sink.new (PairsBelow (S.contents storage.now) version.now (seen block) path.now)) }
+    ensures clean { OnOk result (BadBelow (S.contents storage.now) version.now (seen block) true path.now → ⊥) }
+    ensures refused { IfErr result (λ e. IsExcused (S.can_fail storage.now) e ⊎ ShowsBadBelow (S.contents storage.now) version.now (seen block) true path.now e) }
+{
     match block {
         Some(block) => {
-            let mut entries = expand_consolidated_metadata(alloc, path, block)?;
-            nodes.append(&mut entries)?;
-            Ok(nodes)
+            let entries = expand_consolidated_metadata(alloc, path, block)?;
+            Ok(tell_all(entries, sink)?)
         }
-        None => {
-            walk_child_nodes(log, alloc, storage, path, true, version, &mut nodes)?;
-            Ok(nodes)
-        }
+        None => Ok(walk_child_nodes(log, alloc, storage, path, true, version, sink)?),
     }
+}
+
+// Hands nodes to a sink, one after another.
+fn tell_all<K: NodeSink>(
+    nodes: Vec<(NodePath, NodeMetadata)>,
+    sink: &mut K,
+) -> Result<(), AllocError>
+    ensures { OnOk result (TakesAll K.takes sink.old nodes.items sink.new) }
+{
+    for (path, metadata) in nodes {
+        sink.take(path, metadata)?;
+    }
+    Ok(())
 }
 
 // A path with its metadata.

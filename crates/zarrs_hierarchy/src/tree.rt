@@ -94,10 +94,10 @@ impl fmt::Display for Hierarchy {
 
 // The line of a node in a text whose base has so many names.
 #[derive(Clone, Copy)]
-struct TreeLine<'a> {
-    above: usize,
-    path: &'a NodePath,
-    metadata: &'a NodeMetadata,
+pub(crate) struct TreeLine<'a> {
+    pub(crate) above: usize,
+    pub(crate) path: &'a NodePath,
+    pub(crate) metadata: &'a NodeMetadata,
 }
 
 impl<'a> fmt::Display for TreeLine<'a> {
@@ -113,7 +113,7 @@ impl<'a> fmt::Display for TreeLine<'a> {
 }
 
 // The number of a path's names.
-fn depth(path: &NodePath) -> usize
+pub(crate) fn depth(path: &NodePath) -> usize
     ensures { result ≡ length path.now }
 {
     if path.is_root() {

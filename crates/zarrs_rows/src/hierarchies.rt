@@ -9,9 +9,9 @@ use std::alloc::{AllocError, Global};
 use std::fmt::Display;
 use std::test::Fail;
 use zarrs_block::NodeCreateError;
-use zarrs_config::Config;
+use zarrs_config::{Config, MetadataRetrieveVersion};
 use zarrs_group::{Group, GroupCreateError};
-use zarrs_hierarchy::{Hierarchy, laws};
+use zarrs_hierarchy::{Hierarchy, laws, tree_at};
 use zarrs_meta::{ArrayMetadata, ArrayMetadataV2, ArrayMetadataV3, GroupMetadata, GroupMetadataV3};
 use zarrs_path::NodePath;
 use zarrs_rows_fixtures::{config_of, policy_of, version_of};
@@ -175,6 +175,51 @@ zarr.json G3; g/zarr.json G3; old/.zgroup G2 | / | v2 => Metadata is missing for
 #[test]
 fn a_version_admits_its_documents(rt: HostRuntime) -> Result<(), Fail> {
     check_rows(rt.alloc(), VERSIONS, opened_opt)
+}
+
+// The tree of what is opened at a path of a store.
+fn opened_tree(
+    alloc: Global,
+    store: &MemoryStore,
+    path: &str,
+    version: &MetadataRetrieveVersion,
+    config: &Config,
+) -> Result<String, NodeCreateError> {
+    let path = NodePath::new(alloc, path)?;
+    tree_at(&Discard, alloc, store, &path, version, config)
+}
+
+// That tree, by a version and a policy. `STORE | PATH | VERSION | POLICY`.
+fn tree_at_path(alloc: Global, given: &str) -> Result<String, StorageError> {
+    let (documents, rest) = fields(given);
+    let (path, rest) = fields(rest);
+    let (version, policy) = fields(rest);
+    let store = store_in(alloc, documents)?;
+    let version = version_of(alloc, version)?;
+    let config = config_of(policy_of(alloc, policy)?);
+    let tree = opened_tree(alloc, &store, path, &version, &config);
+    Ok(said(alloc, tree, printed)?)
+}
+
+const TREES: &str = r#"
+# a line for each node below the path, by a listing
+THREE_LEVELS | / | any | auto => /\n  array [10, 10] float32\n  group\n    array [10, 10] float32\n    subgroup\n      mysubarray [10, 10] float32\n
+THREE_LEVELS | /group/subgroup | any | auto => /group/subgroup\n  mysubarray [10, 10] float32\n
+THREE_LEVELS | /array | any | must => /array\n
+# by a version
+zarr.json G3; g/zarr.json G3; old/.zgroup G2 | / | v3 | auto => /\n  g\n
+zarr.json G3; g/zarr.json G3; old/.zgroup G2 | / | v2 | auto => Metadata is missing for /
+# by a block, and where none may be used by a listing
+zarr.json {"consolidated_metadata":{"kind":"inline","metadata":{"q/r":{"node_type":"group","zarr_format":3}},"must_understand":false},"node_type":"group","zarr_format":3}; s/zarr.json G3 | / | any | auto => /\n    r\n
+zarr.json {"consolidated_metadata":{"kind":"inline","metadata":{"q/r":{"node_type":"group","zarr_format":3}},"must_understand":false},"node_type":"group","zarr_format":3}; s/zarr.json G3 | / | any | never => /\n  s\n
+zarr.json G3 | / | any | must => Metadata is missing for Consolidated metadata required but missing on group /
+# what is bad below a group is refused
+zarr.json G3; a/zarr.json x | / | any | auto => error parsing metadata for a/zarr.json: not JSON
+"#;
+
+#[test]
+fn a_tree_is_that_of_what_is_opened(rt: HostRuntime) -> Result<(), Fail> {
+    check_rows(rt.alloc(), TREES, tree_at_path)
 }
 
 // The text of the hierarchy at the root of a store, and what is warned of. `STORE`.

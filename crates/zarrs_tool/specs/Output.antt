@@ -19,9 +19,7 @@ use Rattle.zarrs_block.specs.Meaning.{meaning, node}
 use Rattle.zarrs_node.specs.Order.{Ascend}
 use Rattle.zarrs_node.specs.Nodes.{Nodes, Bad}
 use Rattle.zarrs_group.specs.Layout.{pretty_text}
-use Rattle.zarrs_hierarchy.specs.Held.{Pairs}
-use Rattle.zarrs_hierarchy.specs.Opened.{IsOpened}
-use Rattle.zarrs_hierarchy.specs.Tree.{IsTreeOf}
+use Rattle.zarrs_hierarchy.specs.Opened.{IsOpenedTree}
 use Rattle.zarrs_tool.specs.declared.run.Word.{Word}
 use Rattle.zarrs_tool.specs.declared.run.Word.TheVariants.{Children, List as ListAll, Tree, Consolidate}
 use Rattle.zarrs_tool.specs.declared.run.Command.{Command}
@@ -71,7 +69,7 @@ pub record IsListing (store : Contents) (recursive : Bool) (base : Path) (text :
 
 -- the text is the tree, from the base on, of the hierarchy that is opened at the base with a block used where there is one
 abbrev pub IsTree : Contents → Path → List ℕ → Type 0
-IsTree store base text = (hierarchy : Pairs) × IsOpened store Default Auto (path_text base) hierarchy × IsTreeOf hierarchy base text
+IsTree store base text = IsOpenedTree store Default Auto base text
 
 -- the base means a group, and the text is the pretty layout of the block that holds exactly the nodes that a listing finds below the base, and a
 -- newline; nothing on the way is bad

@@ -11,7 +11,7 @@ use log::Log;
 use std::alloc::{AllocError, Global};
 use zarrs_block::ConsolidatedMetadata;
 use zarrs_config::{Config, MetadataRetrieveVersion};
-use zarrs_hierarchy::Hierarchy;
+use zarrs_hierarchy::tree_at;
 use zarrs_node::{Node, consolidate_nodes_of};
 use zarrs_path::NodePath;
 use zarrs_store::{ListableStorageTraits, ReadableStorageTraits};
@@ -29,8 +29,8 @@ pub(crate) fn tree_text<L: Log, S: ReadableStorageTraits + ListableStorageTraits
     ensures ok { IfOk result (λ text. IsTree (S.contents store.now) base.now text.items) }
     ensures err { IfErr result (IsTreeFault (S.can_fail store.now) (S.contents store.now) base.now) }
 {
-    let hierarchy = Hierarchy::open(log, alloc, store, base.as_str(), &Config::new())?;
-    let text = hierarchy.tree_of(alloc, base)?;
+    let version = MetadataRetrieveVersion::Default;
+    let text = tree_at(log, alloc, store, base, &version, &Config::new())?;
     Ok(text.into_bytes())
 }
 
