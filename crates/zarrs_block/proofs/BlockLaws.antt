@@ -1,5 +1,5 @@
 -- Blocks, entry by entry.
-use Rattle.std.proofs.Common.{◌≡◌, ℕ, List, [], ◌∷◌, ◌++◌, map, String, Global, string_bytes, string_cmp, nat_cmp, Ordering, Less, Equal, Greater, Option, Some, None, option_map, Ok, codes, cond, refl, ap, sym, subst, append_assoc, ◌∙◌}
+use Rattle.std.proofs.Common.{◌≡◌, ℕ, false, List, [], ◌∷◌, ◌++◌, map, String, Global, string_bytes, string_cmp, nat_cmp, Ordering, Less, Equal, Greater, Option, Some, None, IfSome, option_map, Ok, codes, cond, refl, ap, sym, subst, append_assoc, ◌∙◌}
 use Rattle.std.specs.List.{AllByRecursion}
 use Rattle.std.specs.List.Sorted.{IsStrictlySortedBy}
 use Rattle.std.specs.Map.{keys_of, lookup}
@@ -8,12 +8,16 @@ use Rattle.std.specs.Ordering.{is_eq, match_ordering, ordering_reverse}
 use Rattle.std.specs.Cmp.Lexicographic.{slice_cmp}
 use Rattle.std.specs.Result.{result_ok}
 use Rattle.std.proofs.lemmas.Cmp.{nat_list_cmp_total}
-use Rattle.serde_json.specs.Data.{Data, Members, member, put as put_member}
+use Rattle.serde_json.specs.Data.{Data, null, boolean, number, string, array, object, Members, member, put as put_member}
+use Rattle.serde_json.specs.Find.{get_member, as_object}
 use Rattle.serde_json.specs.View.{view, members_view}
+use Rattle.serde_json.specs.Written.{has_float, members_have_float}
 use Rattle.serde_json.proofs.Views.{Entry}
 use Rattle.zarrs_store.specs.Segments.{bytes_cmp}
 use Rattle.zarrs_form.specs.Documents.{formed}
 use Rattle.zarrs_form.specs.Forms.{◌>>=◌}
+use Rattle.zarrs_form.proofs.MemberLaws.{neither}
+use Rattle.zarrs_form.proofs.PlainForms.{member_fits}
 use Rattle.zarrs_form.proofs.Shared.{members_by, put_last as put_member_last}
 use Rattle.zarrs_meta.specs.Node.{node_of, node_tree}
 use Rattle.zarrs_meta.specs.declared.node.NodeMetadata.{NodeMetadata}
@@ -178,3 +182,20 @@ read_next B C o left e es t m is key reads new h =
       step.1,
       ap (λ K. with_rest K es) step.0 ∙ reads_next B e es m (formed_some (codes "metadata") (result_ok (node_of (view e.1))) m reads) ∙ ap (with_rest B) (sym is) ∙ h.1,
     )
+
+-- the first of members that have no float has none, and neither do the others
+pub without_floats : (left : List Entry) (e : Entry) (es : List Entry) → left ≡ e ∷ es → members_have_float (members_view left) ≡ false
+    → (has_float (view e.1) ≡ false) × (members_have_float (members_view es) ≡ false)
+without_floats left e es is none = neither (has_float (view e.1)) (members_have_float (members_view es)) (subst (λ xs. members_have_float (members_view xs) ≡ false) is none)
+
+-- nor do the members of an object at a name
+pub without_floats_at : (name : List ℕ) (ms : Members) (d : Data) (ns : Members) → members_have_float ms ≡ false → get_member name ms ≡ Some d → as_object d ≡ Some ns → members_have_float ns ≡ false
+without_floats_at name ms d ns none at is = by d is (subst (λ o. IfSome o (λ e. has_float e ≡ false)) at (member_fits name ms none))
+  where
+    by : (d : Data) → as_object d ≡ Some ns → has_float d ≡ false → members_have_float ns ≡ false
+    by null is none = cc
+    by (boolean b) is none = cc
+    by (number n) is none = cc
+    by (string s) is none = cc
+    by (array ds) is none = cc
+    by (object ms) is none = let same : ms ≡ ns = cc in subst (λ xs. members_have_float xs ≡ false) same none

@@ -1,13 +1,15 @@
 //! The consolidated block of a group: the metadata of the nodes below it.
-ghost use Rattle.std.specs.Prelude.{◌≡◌, ◌≢◌, ℕ, List, None, [], length, IfOk, OnOk, OnErr, string_bytes, codes, map, option_copied};
+ghost use Rattle.std.specs.Prelude.{◌≡◌, ◌≢◌, ℕ, List, false, None, [], length, IfOk, OnOk, OnErr, string_bytes, codes, map, option_copied};
 ghost use Rattle.std.specs.Result.{result_ok};
 ghost use Rattle.serde_json.specs.Data.{object};
 ghost use Rattle.serde_json.specs.View.{view, members_view};
+ghost use Rattle.serde_json.specs.Written.{has_float, members_have_float};
 ghost use Rattle.zarrs_form.specs.Documents.{Gives, document_of, formed, required, optional};
 ghost use Rattle.zarrs_form.specs.Forms.{is_nil};
 ghost use Rattle.zarrs_meta.specs.Node.{node_of};
 ghost use Rattle.zarrs_block.specs.Block.{IsAscending, found, put as put_node, inline, untrue, nodes_of, nodes, block_of, documents, block_tree};
 
+use crate::asked::asked_node;
 use serde_json::{Map, Value, put};
 use std::alloc::{AllocError, Global};
 use std::marker::Model;
@@ -207,6 +209,7 @@ impl ConsolidatedMetadata {
 fn members_of(value: &Value) -> Result<&Map<String, Value>, MetadataFault>
     ensures gives { Gives (λ m. members_view m.now.entries) result (document_of (view value.now)) }
     ensures whole { IfOk result (λ m. view value.now ≡ object (members_view m.now.entries)) }
+    ensures fits { IfOk result (λ m. members_have_float (members_view m.now.entries) ≡ false) }
 {
     if let Value::Object(members) = value {
         if !members_have_float(members) {
@@ -250,6 +253,7 @@ fn metadata_of(
     alloc: Global,
     members: &Map<String, Value>,
 ) -> Result<ConsolidatedMetadataMetadata, MetadataFault>
+    requires { members_have_float (members_view members.now.entries) ≡ false }
     ensures { Gives (λ all. all) result (required (codes "metadata") nodes (object (members_view members.now.entries))) }
 {
     let Some(value) = member(members, "metadata") else {
@@ -266,6 +270,7 @@ fn nodes_of(
     alloc: Global,
     documents: &Map<String, Value>,
 ) -> Result<ConsolidatedMetadataMetadata, MetadataFault>
+    requires { members_have_float (members_view documents.now.entries) ≡ false }
     ensures { Gives (λ all. all) result (formed (codes "metadata") (nodes_of (members_view documents.now.entries))) }
 {
     let mut all = ConsolidatedMetadataMetadata::new(alloc);
@@ -278,9 +283,10 @@ fn nodes_of(
 
 // The node that a whole node document is.
 fn node_of(alloc: Global, document: &Value) -> Result<NodeMetadata, MetadataFault>
+    requires { has_float (view document.now) ≡ false }
     ensures { Gives (λ m. m) result (formed (codes "metadata") (result_ok (node_of (view document.now)))) }
 {
-    match NodeMetadata::from_value(alloc, document) {
+    match asked_node(alloc, document) {
         Ok(node) => Ok(node),
         Err(MetadataFault::OutOfMemory) => Err(MetadataFault::OutOfMemory),
         Err(_) => Err(MetadataFault::BadMember(MemberName::new("metadata"))),

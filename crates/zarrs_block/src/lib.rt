@@ -2,6 +2,7 @@
 //! expanded to paths. And why a node was not made: the refusals that reading, listing and building nodes share.
 #![tactic(auto)]
 
+mod asked;
 mod consolidated;
 mod expand;
 pub mod laws;

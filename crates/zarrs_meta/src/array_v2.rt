@@ -79,9 +79,16 @@ impl ArrayMetadataV2 {
         ArrayMetadataV2::from_members(alloc, document_copy(value)?)
     }
 
-    /// The array that the members of a document are.
+    /// The array that the members of a document are, which has been asked for its numbers: none of them is asked again.
+    ///
+    /// # Errors
+    ///
+    /// `WrongFormat` where `zarr_format` is not 2, then `MissingMember` or `BadMember` of the first member of the table that
+    /// is absent or of another form. `OutOfMemory` where there is no memory.
+    ///
+    /// Source: Zarr specification version 2, "Arrays".
     #[tactic(auto, unfolding(crate::specs::ArrayV2::array_v2_of))]
-    pub(crate) fn from_members(
+    pub fn from_members(
         alloc: Global,
         mut members: Map<String, Value>,
     ) -> Result<ArrayMetadataV2, MetadataFault>

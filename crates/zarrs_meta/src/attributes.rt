@@ -1,11 +1,12 @@
 //! The attributes of a version 2 node, as a document of their own.
-ghost use Rattle.std.specs.Prelude.{◌≡◌, IfOk, IsTrue, string_bytes};
-ghost use Rattle.serde_json.specs.View.{view};
+ghost use Rattle.std.specs.Prelude.{◌≡◌, Ok, IfOk, IsTrue, string_bytes};
+ghost use Rattle.serde_json.specs.Data.{object};
+ghost use Rattle.serde_json.specs.View.{view, members_view};
 ghost use Rattle.serde_json.specs.Written.{compact_text};
 ghost use Rattle.zarrs_meta.specs.Attributes.{attributes_of, attributes_tree, is_plain_attributes};
-ghost use Rattle.zarrs_form.specs.Documents.{Gives, of_bytes};
+ghost use Rattle.zarrs_form.specs.Documents.{Gives, document_of, of_bytes};
 
-use serde_json::Value;
+use serde_json::{Map, Value};
 use std::alloc::{AllocError, Global};
 use zarrs_fault::MetadataFault;
 use zarrs_form::{Form, Object, document, document_copy, parse};
@@ -47,6 +48,24 @@ impl AttributesDocument {
     {
         let members = document(value)?;
         Ok(AttributesDocument(Object::from_map(alloc, members)?))
+    }
+
+    /// The attributes that the members of a document are, which has been asked for its numbers: none of them is asked again.
+    ///
+    /// # Errors
+    ///
+    /// `OutOfMemory` where there is no memory.
+    ///
+    /// Source: Zarr specification version 2, "Attributes".
+    pub fn from_members(
+        alloc: Global,
+        members: Map<String, Value>,
+    ) -> Result<AttributesDocument, MetadataFault>
+        requires { document_of (object (members_view members.entries)) ≡ Ok (members_view members.entries) }
+        ensures { Gives (λ a. a) result (attributes_of (object (members_view members.entries))) }
+    {
+        let attributes = Object::from_map(alloc, members)?;
+        Ok(AttributesDocument(attributes))
     }
 
     /// The attributes that the bytes of `.zattrs` are.

@@ -59,9 +59,16 @@ impl GroupMetadataV2 {
         GroupMetadataV2::from_members(alloc, document_copy(value)?)
     }
 
-    /// The group that the members of a document are.
+    /// The group that the members of a document are, which has been asked for its numbers: none of them is asked again.
+    ///
+    /// # Errors
+    ///
+    /// `WrongFormat` where `zarr_format` is not 2, `BadMember` of `shape` where there is one, or of `attributes` where it is no
+    /// object. `OutOfMemory` where there is no memory.
+    ///
+    /// Source: Zarr specification version 2, "Groups".
     #[tactic(auto, unfolding(crate::specs::GroupV2::group_v2_of))]
-    pub(crate) fn from_members(
+    pub fn from_members(
         alloc: Global,
         mut members: Map<String, Value>,
     ) -> Result<GroupMetadataV2, MetadataFault>

@@ -102,7 +102,33 @@ impl NodeMetadata {
     pub fn from_value(alloc: Global, value: &Value) -> Result<NodeMetadata, MetadataFault>
         ensures { Gives (λ m. m) result (node_of (view value.now)) }
     {
-        node(alloc, document_copy(value)?)
+        NodeMetadata::from_members(alloc, document_copy(value)?)
+    }
+
+    /// The group or array that the members of a document are, which has been asked for its numbers: none of them is asked again.
+    ///
+    /// # Errors
+    ///
+    /// The first that applies: `WrongFormat` where `zarr_format` is neither 3 nor 2, `WrongNodeType`, then
+    /// `MissingMember` or `BadMember` of the first member of the table that is absent or of another form.
+    /// `OutOfMemory` where there is no memory.
+    ///
+    /// Source: Zarr core specification 3.1, "Metadata documents".
+    #[tactic(auto, unfolding(crate::specs::Node::node_of))]
+    pub fn from_members(
+        alloc: Global,
+        members: Map<String, Value>,
+    ) -> Result<NodeMetadata, MetadataFault>
+        requires { document_of (object (members_view members.entries)) ≡ Ok (members_view members.entries) }
+        ensures { Gives (λ m. m) result (node_of (object (members_view members.entries))) }
+    {
+        if has_format(&members, 3) {
+            node_v3(alloc, members)
+        } else if has_format(&members, 2) {
+            node_v2(alloc, members)
+        } else {
+            Err(MetadataFault::WrongFormat)
+        }
     }
 
     /// The group or array that the bytes of a document are.
@@ -116,7 +142,7 @@ impl NodeMetadata {
     pub fn from_bytes(alloc: Global, bytes: &[u8]) -> Result<NodeMetadata, MetadataFault>
         ensures { Gives (λ m. m) result (of_bytes node_of bytes.now) }
     {
-        node(alloc, document(parse(alloc, bytes)?)?)
+        NodeMetadata::from_members(alloc, document(parse(alloc, bytes)?)?)
     }
 
     /// The written form of the group or array.
@@ -221,22 +247,7 @@ fn zarr_json(alloc: Global, members: Map<String, Value>) -> Result<ZarrJson, Met
     if has_format(&members, 2) {
         return Ok(ZarrJson::Version2);
     }
-    Ok(ZarrJson::Node(node(alloc, members)?))
-}
-
-/// A node whose members were asked for: by its format.
-#[tactic(auto, unfolding(crate::specs::Node::node_of))]
-fn node(alloc: Global, members: Map<String, Value>) -> Result<NodeMetadata, MetadataFault>
-    requires { document_of (object (members_view members.entries)) ≡ Ok (members_view members.entries) }
-    ensures { Gives (λ m. m) result (node_of (object (members_view members.entries))) }
-{
-    if has_format(&members, 3) {
-        node_v3(alloc, members)
-    } else if has_format(&members, 2) {
-        node_v2(alloc, members)
-    } else {
-        Err(MetadataFault::WrongFormat)
-    }
+    Ok(ZarrJson::Node(NodeMetadata::from_members(alloc, members)?))
 }
 
 /// A node of version 3: by its node type.
