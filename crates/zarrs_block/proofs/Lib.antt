@@ -3,6 +3,7 @@ pub mod SameBlocks
 pub mod SmallStores
 pub mod SmallBlocks
 pub mod LastSlash
+pub mod Runs
 pub mod ZmetadataSteps
 pub mod BlockLaws
 pub mod KeyLaws

@@ -3,15 +3,11 @@ use Rattle.std.proofs.Common.{◌≡◌, ℕ, Bool, true, false, true≢false, n
 use Rattle.std.specs.Prelude.{◌==◌, is_some, option_and_then}
 use Rattle.std.specs.List.{list_all, filter, AllByRecursion}
 use Rattle.std.specs.List.Sorted.{IsStrictlySortedBy}
-use Rattle.std.specs.Map.{keys_of, lookup}
-use Rattle.std.specs.BTreeMap.{BTreeMap, get_by_text, UpdatesBy, is_at}
-use Rattle.std.specs.Ordering.{nat_cmp}
-use Rattle.std.specs.Cmp.Lexicographic.{slice_cmp}
+use Rattle.std.specs.Map.{keys_of}
 use Rattle.std.specs.Result.{result_ok, IsErrAnd}
 use Rattle.std.specs.Str.{bytes_eq}
 use Rattle.std.proofs.lemmas.Bool.{and_parts, and_from, and_left}
 use Rattle.std.proofs.lemmas.Map.Keys.{sorted_head, sorted_tail}
-use Rattle.std.proofs.lemmas.Map.Text.{btree_map_updates_text}
 use Rattle.std.proofs.lemmas.Slice.Eq.{bytes_eq-Decides}
 use Rattle.std.proofs.lemmas.List.Splits.{join_with_byte-slice_split}
 use Rattle.serde_json.specs.Data.{Data, object, Members, member}
@@ -32,7 +28,7 @@ use Rattle.zarrs_meta.specs.declared.node.NodeMetadata.{NodeMetadata}
 use Rattle.zarrs_block.specs.Block.{Block, IsAscending, found, put}
 use Rattle.zarrs_block.specs.Small.{is_document_v2, stretches, counted}
 use Rattle.zarrs_block.specs.Zmetadata.{one, before_last, below, small_block, zmetadata_members, zmetadata_of, HoldsStore, IsClean}
-use Rattle.zarrs_block.specs.ZmetadataRead.{file_name, is_file, member_at, first_tree, gathered_at, read_files, tree_in, tree_at, is_below, IsPlace, are_named, RefusesNames, HoldsNodes, RefusesTrees, zmetadata_taken}
+use Rattle.zarrs_block.specs.ZmetadataRead.{file_name, is_file, member_at, first_tree, paths, run_tree, tree_among, RunsAscend, read_files, tree_in, is_below, IsPlace, are_named, RefusesNames, HoldsNodes, RefusesTrees, zmetadata_taken}
 use Rattle.zarrs_block.specs.declared.consolidated.ConsolidatedMetadata.{ConsolidatedMetadata}
 use Rattle.zarrs_block.specs.declared.zmetadata.Documents.{Documents}
 use Rattle.zarrs_block.specs.declared.zmetadata.Run.{Run}
@@ -40,6 +36,7 @@ use Rattle.zarrs_block.specs.declared.zmetadata.File.{File}
 use Rattle.zarrs_block.specs.declared.zmetadata.File.TheVariants.{Array as array_file, Group as group_file, Attributes as attributes_file}
 use Rattle.zarrs_block.proofs.Expansion.{at_itself, same_text}
 use Rattle.zarrs_block.proofs.LastSlash.{IsCutText}
+use Rattle.zarrs_block.proofs.Runs.{first_none}
 use Rattle.zarrs_block.proofs.Puts.{found_put, put_ascends, none_ascend}
 use Rattle.zarrs_block.proofs.SmallBlocks.{block_is, names_refused, trees_refused, store_law, ascending_law}
 use Rattle.zarrs_block.proofs.SmallStores.{before_last-child, parts_child}
@@ -140,11 +137,6 @@ alone k (e ∷ es) h = member_later (string_bytes k) e es apart ∙ alone k es h
     apart : string_bytes k ≡ string_bytes e.0 → ⊥
     apart same = let both : true ≡ false = sym (at_itself (string_bytes k)) ∙ ap (λ t. is_eq (bytes_cmp (string_bytes k) t)) same ∙ ap is_eq h.0 in cc
 
--- before nothing stands the first
-first_none : (o : Option Data) → o ≡ first_tree o None
-first_none None = refl
-first_none (Some d) = refl
-
 -- at first all members are left
 pub none_gathered : (es left : List Entry) (got : Gathered) → left ≡ es → ((t : List ℕ) (file : File) → got t file ≡ None) → IsStrictlySortedBy string_cmp (keys_of es) → IsGathered (members_view es) got left
 none_gathered es left got is none up = record {
@@ -230,75 +222,6 @@ all_gathered ms got left is h =
     let done : IsGathered ms got [] = subst (IsGathered ms got) is h in
     (λ t file. sym (done.here t file), done.named)
 
--- ---- runs of documents
-
--- nothing is the first of two where both are none
-first_of_none : (b : Bool) (o p : Option Data) → o ≡ None → p ≡ None → first_tree (cond b o None) p ≡ None
-first_of_none true o p none empty = ap (λ x. first_tree x p) none ∙ empty
-first_of_none false o p none empty = empty
-
--- at first nothing is gathered
-pub nothing_gathered : (all : BTreeMap (String Global) Documents) (run : Run) → all.entries ≡ [] → ((file : File) → tree_in run.documents file ≡ None) → (t : List ℕ) (file : File) → gathered_at all run t file ≡ None
-nothing_gathered all run empty none t file =
-    first_of_none (bytes_eq (string_bytes run.path) t) (tree_in run.documents file) (tree_at all t file) (none file)
-    (ap (λ es. option_and_then (λ (h : Documents). tree_in h file) (lookup (is_at (λ k. slice_cmp nat_cmp t (string_bytes k))) es)) empty)
-
-module _ (old : BTreeMap (String Global) Documents) (run : Run) where
-  -- the text of the run's path
-  abbrev own : List ℕ
-  own = string_bytes run.path
-
-  -- what all have where the documents of the run are put beside others at its path
-  beside : (new : BTreeMap (String Global) Documents) (now : Documents) → ((t : List ℕ) → get_by_text new t ≡ cond (bytes_eq own t) (Some now) (get_by_text old t))
-      → ((file : File) → tree_in now file ≡ first_tree (tree_in run.documents file) (tree_at old own file)) → (t : List ℕ) (file : File) → tree_at new t file ≡ gathered_at old run t file
-  beside new now put joined t file = ap (option_and_then (λ (h : Documents). tree_in h file)) (put t) ∙ by (bytes_eq own t) refl
-    where
-      by : (b : Bool) → bytes_eq own t ≡ b → option_and_then (λ h. tree_in h file) (cond b (Some now) (get_by_text old t)) ≡ first_tree (cond b (tree_in run.documents file) None) (tree_at old t file)
-      by true at = joined file ∙ ap (λ q. first_tree (tree_in run.documents file) (tree_at old q file)) ((bytes_eq-Decides own t).0 at)
-      by false at = refl
-
-  -- the first document, where there is one, and else none
-  or_none_is : (o : Option Data) → o ≡ first_tree o None
-  or_none_is None = refl
-  or_none_is (Some d) = refl
-
-  -- a run whose path is new is put there
-  pub first_put : (new : BTreeMap (String Global) Documents) → UpdatesBy string_cmp (string_cmp run.path) old new (Some run.documents) → get_by_text old own ≡ None
-      → (t : List ℕ) (file : File) → tree_at new t file ≡ gathered_at old run t file
-  first_put new there none =
-      beside new run.documents (btree_map_updates_text own old new (Some run.documents) there)
-      (λ file. or_none_is (tree_in run.documents file) ∙ ap (first_tree (tree_in run.documents file)) (sym (ap (option_and_then (λ (h : Documents). tree_in h file)) none)))
-
-  module _ (mid gone new : BTreeMap (String Global) Documents) (k : String Global) (earlier was now : Documents) where
-    -- a run whose path came before is put beside the documents there
-    pub put_again : (q : List ℕ) → q ≡ own → string_bytes k ≡ own → UpdatesBy string_cmp (string_cmp run.path) old mid (Some run.documents) → get_by_text old own ≡ Some earlier
-        → UpdatesBy string_cmp (λ x. slice_cmp nat_cmp q (string_bytes x)) mid gone None → UpdatesBy string_cmp (string_cmp k) gone new (Some now)
-        → ((file : File) → tree_in was file ≡ tree_at mid q file) → ((file : File) → tree_in now file ≡ first_tree (tree_in was file) (tree_in earlier file))
-        → (t : List ℕ) (file : File) → tree_at new t file ≡ gathered_at old run t file
-    put_again q text key there before out back taken joined = beside new now put_now with_earlier
-      where
-        at_own : (b : Bool) (x : Documents) (o : Option Documents) → cond b (Some now) (cond b None (cond b (Some x) o)) ≡ cond b (Some now) o
-        at_own true x o = refl
-        at_own false x o = refl
-
-        put_now : (t : List ℕ) → get_by_text new t ≡ cond (bytes_eq own t) (Some now) (get_by_text old t)
-        put_now t =
-            btree_map_updates_text (string_bytes k) gone new (Some now) back t
-            ∙ ap (λ q. cond (bytes_eq q t) (Some now) (get_by_text gone t)) key
-            ∙ ap (cond (bytes_eq own t) (Some now)) (btree_map_updates_text q mid gone None out t ∙ ap (λ u. cond (bytes_eq u t) None (get_by_text mid t)) text)
-            ∙ ap (λ o. cond (bytes_eq own t) (Some now) (cond (bytes_eq own t) None o)) (btree_map_updates_text own old mid (Some run.documents) there t)
-            ∙ at_own (bytes_eq own t) run.documents (get_by_text old t)
-
-        there_now : get_by_text mid own ≡ Some run.documents
-        there_now =
-            btree_map_updates_text own old mid (Some run.documents) there own
-            ∙ ap (λ b. cond b (Some run.documents) (get_by_text old own)) ((bytes_eq-Decides own own).1 refl)
-
-        with_earlier : (file : File) → tree_in now file ≡ first_tree (tree_in run.documents file) (tree_at old own file)
-        with_earlier file =
-            joined file ∙ ap (λ o. first_tree o (tree_in earlier file)) (taken file ∙ ap (λ u. tree_at mid u file) text ∙ ap (option_and_then (λ (h : Documents). tree_in h file)) there_now)
-            ∙ ap (first_tree (tree_in run.documents file)) (sym (ap (option_and_then (λ (h : Documents). tree_in h file)) before))
-
 -- ---- the nodes
 
 -- what the block has at a text, or what the documents there that are left are read as
@@ -306,96 +229,117 @@ abbrev pub now_at : Option NodeMetadata → Option Documents → Option (Option 
 now_at o None = Some o
 now_at o (Some here) = result_ok (read_files (tree_in here))
 
+-- whether a text is the path of a run
+abbrev is_of : List ℕ → Run → Bool
+is_of t run = is_eq (bytes_cmp t (string_bytes run.path))
+
 -- the documents that are left at a text
-abbrev pub left_at : List (String Global × Documents) → List ℕ → Option Documents
-left_at left t = lookup (is_at (λ k. slice_cmp nat_cmp t (string_bytes k))) left
+abbrev pub left_at : List Run → List ℕ → Option Documents
+left_at [] t = None
+left_at (run ∷ left) t = cond (is_of t run) (Some run.documents) (left_at left t)
 
 -- the block has what was read, and nothing where documents are left
-pub record IsRead (all : BTreeMap (String Global) Documents) (B : Block) (left : List (String Global × Documents)) : Type 0 where
-  pub up : IsStrictlySortedBy string_cmp (keys_of left)
+pub record IsRead (at : List ℕ → File → Option Data) (B : Block) (left : List Run) : Type 0 where
+  pub up : RunsAscend left
   pub ascending : IsAscending B
   pub apart : (t : List ℕ) → IsSome (left_at left t) → found B t ≡ None
-  pub here : (t : List ℕ) → result_ok (read_files (tree_at all t)) ≡ now_at (found B t) (left_at left t)
+  pub here : (t : List ℕ) → result_ok (read_files (at t)) ≡ now_at (found B t) (left_at left t)
+
+-- nothing is left where the first documents were
+none_left : (k : List ℕ) (runs : List Run) → AllByRecursion (λ y. bytes_cmp k y ≡ Less) (paths runs) → left_at runs k ≡ None
+none_left k [] h = refl
+none_left k (run ∷ runs) h = ap (λ o. cond (is_eq o) (Some run.documents) (left_at runs k)) h.0 ∙ none_left k runs h.1
+
+-- what ascending runs have for a text is in the one that is left at it
+among_left : (runs : List Run) → RunsAscend runs → (t : List ℕ) (file : File) → tree_among runs t file ≡ option_and_then (λ here. tree_in here file) (left_at runs t)
+among_left [] up t file = refl
+among_left (run ∷ runs) up t file =
+    ap (λ o. first_tree o (run_tree run t file)) (among_left runs (sorted_tail bytes_cmp (string_bytes run.path) (paths runs) up) t file) ∙ by (is_of t run) refl
+  where
+    by : (b : Bool) → is_of t run ≡ b
+        → first_tree (option_and_then (λ here. tree_in here file) (left_at runs t)) (run_tree run t file) ≡ option_and_then (λ here. tree_in here file) (cond b (Some run.documents) (left_at runs t))
+    by true at =
+        let same = same_text t (string_bytes run.path) at in
+        ap (λ o. first_tree (option_and_then (λ (here : Documents). tree_in here file) o) (run_tree run t file)) (ap (left_at runs) same ∙ none_left (string_bytes run.path) runs (sorted_head bytes_cmp (string_bytes run.path) (paths runs) up))
+        ∙ ap (λ b. cond b (tree_in run.documents file) None) ((bytes_eq-Decides (string_bytes run.path) t).1 (sym same))
+    by false at = ap (first_tree (option_and_then (λ (here : Documents). tree_in here file) (left_at runs t))) (other (bytes_eq (string_bytes run.path) t) refl) ∙ sym (first_none (option_and_then (λ (here : Documents). tree_in here file) (left_at runs t)))
+      where
+        other : (b : Bool) → bytes_eq (string_bytes run.path) t ≡ b → cond b (tree_in run.documents file) None ≡ None
+        other false e = refl
+        other true e = absurd (true≢false (sym (ap (λ u. is_eq (bytes_cmp t u)) ((bytes_eq-Decides (string_bytes run.path) t).0 e) ∙ at_itself t) ∙ at))
 
 -- at first all documents are left
-pub none_read_yet : (all : BTreeMap (String Global) Documents) (B : Block) (left : List (String Global × Documents)) → B ≡ [] → left ≡ all.entries → IsStrictlySortedBy string_cmp (keys_of all.entries) → IsRead all B left
-none_read_yet all B left none is up = subst (λ C. IsRead all C left) (sym none) (subst (IsRead all []) (sym is) (record {
+pub none_read_yet : (runs : List Run) (B : Block) (left : List Run) → B ≡ [] → left ≡ runs → RunsAscend runs → IsRead (tree_among runs) B left
+none_read_yet runs B left none is up = subst (λ C. IsRead (tree_among runs) C left) (sym none) (subst (IsRead (tree_among runs) []) (sym is) (record {
   up = up;
   ascending = none_ascend;
   apart = λ t some. refl;
-  here = λ t. by (left_at all.entries t);
+  here = λ t. ap (λ (f : File → Option Data). result_ok (read_files f)) (λ i file. among_left runs up t file i) ∙ by (left_at runs t);
 }))
   where
     by : (o : Option Documents) → result_ok (read_files (λ file. option_and_then (λ (h : Documents). tree_in h file) o)) ≡ now_at None o
     by None = refl
     by (Some x) = refl
 
--- nothing is left where the first documents were
-none_left : (k : String Global) (es : List (String Global × Documents)) → AllByRecursion (λ y. string_cmp k y ≡ Less) (keys_of es) → left_at es (string_bytes k) ≡ None
-none_left k [] h = refl
-none_left k (e ∷ es) h = ap (λ o. cond (is_eq o) (Some e.1) (left_at es (string_bytes k))) h.0 ∙ none_left k es h.1
-
 -- behind one more, what is left is still left
 some_left : (b : Bool) (x : Documents) (o : Option Documents) → IsSome o → IsSome (cond b (Some x) o)
 some_left true x o h = refl
 some_left false x o h = h
 
-module _ (all : BTreeMap (String Global) Documents) (B : Block) (left : List (String Global × Documents)) (e : String Global × Documents) (es : List (String Global × Documents)) (is : left ≡ e ∷ es) (h : IsRead all B left) where
+module _ (at : List ℕ → File → Option Data) (B : Block) (left : List Run) (run : Run) (runs : List Run) (is : left ≡ run ∷ runs) (h : IsRead at B left) where
   -- what was read before these documents
-  then_read : IsRead all B (e ∷ es)
-  then_read = subst (IsRead all B) is h
+  then_read : IsRead at B (run ∷ runs)
+  then_read = subst (IsRead at B) is h
 
-  -- whether a text is that of these documents
-  abbrev is_here : List ℕ → Bool
-  is_here t = is_eq (bytes_cmp t (string_bytes e.0))
+  -- nothing is left behind them at their text
+  none_more : (t : List ℕ) → is_of t run ≡ true → left_at runs t ≡ None
+  none_more t here = ap (left_at runs) (same_text t (string_bytes run.path) here) ∙ none_left (string_bytes run.path) runs (sorted_head bytes_cmp (string_bytes run.path) (paths runs) then_read.up)
 
-  module _ (C : Block) (o : Option NodeMetadata) (reads : result_ok (read_files (tree_in e.1)) ≡ Some o) (fresh : (t : List ℕ) → found C t ≡ cond (is_here t) o (found B t)) where
+  module _ (C : Block) (o : Option NodeMetadata) (reads : result_ok (read_files (tree_in run.documents)) ≡ Some o) (fresh : (t : List ℕ) → found C t ≡ cond (is_of t run) o (found B t)) where
     -- what is read at each text is in the block, or left
-    here_next : (t : List ℕ) (b : Bool) → is_here t ≡ b → result_ok (read_files (tree_at all t)) ≡ now_at (cond b o (found B t)) (left_at es t)
+    here_next : (t : List ℕ) (b : Bool) → is_of t run ≡ b → result_ok (read_files (at t)) ≡ now_at (cond b o (found B t)) (left_at runs t)
     here_next t true at =
-        then_read.here t ∙ ap (λ b. now_at (found B t) (cond b (Some e.1) (left_at es t))) at ∙ reads
-        ∙ ap (now_at o) (sym (ap (left_at es) (same_text t (string_bytes e.0) at) ∙ none_left e.0 es (sorted_head string_cmp e.0 (keys_of es) then_read.up)))
-    here_next t false at = then_read.here t ∙ ap (λ b. now_at (found B t) (cond b (Some e.1) (left_at es t))) at
+        then_read.here t ∙ ap (λ b. now_at (found B t) (cond b (Some run.documents) (left_at runs t))) at ∙ reads
+        ∙ ap (now_at o) (sym (none_more t at))
+    here_next t false at = then_read.here t ∙ ap (λ b. now_at (found B t) (cond b (Some run.documents) (left_at runs t))) at
 
     -- and the block has nothing where documents are left
-    apart_next : (t : List ℕ) → IsSome (left_at es t) → (b : Bool) → is_here t ≡ b → cond b o (found B t) ≡ None
-    apart_next t some true at =
-        let none : left_at es t ≡ None = ap (left_at es) (same_text t (string_bytes e.0) at) ∙ none_left e.0 es (sorted_head string_cmp e.0 (keys_of es) then_read.up) in
-        absurd (true≢false (sym some ∙ ap is_some none))
-    apart_next t some false at = then_read.apart t (some_left (is_here t) e.1 (left_at es t) some)
+    apart_next : (t : List ℕ) → IsSome (left_at runs t) → (b : Bool) → is_of t run ≡ b → cond b o (found B t) ≡ None
+    apart_next t some true at = absurd (true≢false (sym some ∙ ap is_some (none_more t at)))
+    apart_next t some false at = then_read.apart t (some_left (is_of t run) run.documents (left_at runs t) some)
 
     -- so the reading goes on
-    read_on : IsAscending C → IsRead all C es
+    read_on : IsAscending C → IsRead at C runs
     read_on up = record {
-      up = sorted_tail string_cmp e.0 (keys_of es) then_read.up;
+      up = sorted_tail bytes_cmp (string_bytes run.path) (paths runs) then_read.up;
       ascending = up;
-      apart = λ t some. fresh t ∙ apart_next t some (is_here t) refl;
-      here = λ t. here_next t (is_here t) refl ∙ ap (λ x. now_at x (left_at es t)) (sym (fresh t));
+      apart = λ t some. fresh t ∙ apart_next t some (is_of t run) refl;
+      here = λ t. here_next t (is_of t run) refl ∙ ap (λ x. now_at x (left_at runs t)) (sym (fresh t));
     }
 
   -- documents that are no node leave the block as it is
-  pub read_none : result_ok (read_files (tree_in e.1)) ≡ Some None → IsRead all B es
-  read_none reads = read_on B None reads (λ t. sym (by t (is_here t) refl)) then_read.ascending
+  pub read_none : result_ok (read_files (tree_in run.documents)) ≡ Some None → IsRead at B runs
+  read_none reads = read_on B None reads (λ t. sym (by t (is_of t run) refl)) then_read.ascending
     where
-      by : (t : List ℕ) (b : Bool) → is_here t ≡ b → cond b None (found B t) ≡ found B t
-      by t true at = sym (then_read.apart t (ap (λ b. is_some (cond b (Some e.1) (left_at es t))) at))
+      by : (t : List ℕ) (b : Bool) → is_of t run ≡ b → cond b None (found B t) ≡ found B t
+      by t true at = sym (then_read.apart t (ap (λ b. is_some (cond b (Some run.documents) (left_at runs t))) at))
       by t false at = refl
 
   -- the node that they are is put at their text
-  pub read_some : (C : Block) (m : NodeMetadata) → result_ok (read_files (tree_in e.1)) ≡ Some (Some m) → C ≡ put (string_bytes e.0) m B → IsRead all C es
+  pub read_some : (C : Block) (m : NodeMetadata) → result_ok (read_files (tree_in run.documents)) ≡ Some (Some m) → C ≡ put (string_bytes run.path) m B → IsRead at C runs
   read_some C m reads new =
-      read_on C (Some m) reads (λ t. ap (λ D. found D t) new ∙ found_put t (string_bytes e.0) m B)
-      (subst IsAscending (sym new) (put_ascends (string_bytes e.0) m B then_read.ascending))
+      read_on C (Some m) reads (λ t. ap (λ D. found D t) new ∙ found_put t (string_bytes run.path) m B)
+      (subst IsAscending (sym new) (put_ascends (string_bytes run.path) m B then_read.ascending))
 
   -- where they do not read, the documents at some text do not
-  not_read : result_ok (read_files (tree_in e.1)) ≡ None → (t : List ℕ) × (result_ok (read_files (tree_at all t)) ≡ None)
-  not_read none = (string_bytes e.0, then_read.here (string_bytes e.0) ∙ ap (λ b. now_at (found B (string_bytes e.0)) (cond b (Some e.1) (left_at es (string_bytes e.0)))) (at_itself (string_bytes e.0)) ∙ none)
+  not_read : result_ok (read_files (tree_in run.documents)) ≡ None → (t : List ℕ) × (result_ok (read_files (at t)) ≡ None)
+  not_read none = (string_bytes run.path, then_read.here (string_bytes run.path) ∙ ap (λ b. now_at (found B (string_bytes run.path)) (cond b (Some run.documents) (left_at runs (string_bytes run.path)))) (at_itself (string_bytes run.path)) ∙ none)
 
   -- the refusal of a reading is one of the documents
-  pub refused_node : (fault : MetadataFault) → Refuses fault (formed (codes "metadata") (result_ok (read_files (tree_in e.1)))) → RefusesTrees all fault
-  refused_node fault refused = by (result_ok (read_files (tree_in e.1))) refl fault refused
+  pub refused_node : (fault : MetadataFault) → Refuses fault (formed (codes "metadata") (result_ok (read_files (tree_in run.documents)))) → RefusesTrees at fault
+  refused_node fault refused = by (result_ok (read_files (tree_in run.documents))) refl fault refused
     where
-      by : (o : Option (Option NodeMetadata)) → result_ok (read_files (tree_in e.1)) ≡ o → (fault : MetadataFault) → Refuses fault (formed (codes "metadata") o) → RefusesTrees all fault
+      by : (o : Option (Option NodeMetadata)) → result_ok (read_files (tree_in run.documents)) ≡ o → (fault : MetadataFault) → Refuses fault (formed (codes "metadata") o) → RefusesTrees at fault
       by (Some x) none NotJson refused = cc
       by (Some x) none UnsupportedNumber refused = cc
       by (Some x) none NotAnObject refused = cc
@@ -414,8 +358,8 @@ module _ (all : BTreeMap (String Global) Documents) (B : Block) (left : List (St
       by None none OutOfMemory refused = tt
 
 -- where none is left, all are read
-pub all_nodes : (all : BTreeMap (String Global) Documents) (B : Block) (left : List (String Global × Documents)) → left ≡ [] → IsRead all B left → HoldsNodes all (found B)
-all_nodes all B left is h = let done : IsRead all B [] = subst (IsRead all B) is h in λ t. done.here t
+pub all_nodes : (at : List ℕ → File → Option Data) (B : Block) (left : List Run) → left ≡ [] → IsRead at B left → HoldsNodes at (found B)
+all_nodes at B left is h = let done : IsRead at B [] = subst (IsRead at B) is h in λ t. done.here t
 
 -- ---- refusals
 
@@ -454,13 +398,13 @@ module _ (ms : Members) where
   gives_names (BadMember name) refused = names_refused ms refused.1 ∙ ap (λ n. Err (BadMember n)) (sym refused.0)
   gives_names OutOfMemory refused = tt
 
-  module _ (all : BTreeMap (String Global) Documents) (whole : (t : List ℕ) (file : File) → tree_at all t file ≡ member_at ms t file) (named : are_named ms ≡ true) where
-    -- what is put at a text reads as what the members have for it
-    same_files : (t : List ℕ) → result_ok (read_files (member_at ms t)) ≡ result_ok (read_files (tree_at all t))
+  module _ (at : List ℕ → File → Option Data) (whole : (t : List ℕ) (file : File) → at t file ≡ member_at ms t file) (named : are_named ms ≡ true) where
+    -- what stands at a text reads as what the members have for it
+    same_files : (t : List ℕ) → result_ok (read_files (member_at ms t)) ≡ result_ok (read_files (at t))
     same_files t = ap (λ (f : File → Option Data). result_ok (read_files f)) (λ i file. sym (whole t file) i)
 
     -- the block that was read is that of the members, and a refusal is theirs
-    pub gives_nodes : (r : Result Block MetadataFault) → IfOk r (λ B. HoldsNodes all (found B)) → IfOk r IsAscending → IfErr r (RefusesTrees all) → Gives (λ B. B) r (small_block ms)
+    pub gives_nodes : (r : Result Block MetadataFault) → IfOk r (λ B. HoldsNodes at (found B)) → IfOk r IsAscending → IfErr r (RefusesTrees at) → Gives (λ B. B) r (small_block ms)
     gives_nodes (Ok B) nodes up refused = block_is ms B named up (λ t. same_files t ∙ nodes t)
     gives_nodes (Err NotJson) nodes up refused = absurd refused
     gives_nodes (Err UnsupportedNumber) nodes up refused = absurd refused

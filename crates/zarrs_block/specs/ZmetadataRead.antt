@@ -1,20 +1,21 @@
 -- The version 2 convention of consolidated metadata, the document `.zmetadata` of a group: the parts of its reader, by look-ups.
 --     member_at ms t file      a document of version 2 that members have for the text of a path
 --     read_files document      the node that the documents of a path are, or nothing, or the first fault
---     tree_at all t file      a document that was put at a text
---     gathered_at all run t file      a document that a run has for a text, or that was put at it
+--     tree_among runs t file      a document that runs have for a text
+--     gathered_at runs run t file      a document that a run has for a text, or that the runs before it have
+--     RunsAscend runs      the paths of the runs ascend
 --     IsPlace t r      the path and the file that a member's name tells, where it counts below the group
 --     are_named ms, RefusesNames ms      the names that count below the group are those of nodes; that they are not
-use Rattle.std.specs.Prelude.{◌≡◌, ℕ, Bool, true, false, not, ◌&&◌, List, ◌∷◌, ◌++◌, Option, Some, None, Result, Ok, Err, option_map, option_and_then, if◌then◌else◌, String, string_bytes, codes, bytes_eq}
-use Rattle.std.specs.declared.alloc.Global.{Global}
+use Rattle.std.specs.Prelude.{◌≡◌, ◌≢◌, ◌⊎◌, ℕ, Bool, true, false, not, ◌&&◌, List, [], ◌∷◌, ◌++◌, map, Option, Some, None, Result, Ok, Err, option_map, if◌then◌else◌, string_bytes, codes, bytes_eq}
 use Rattle.std.specs.List.{list_all}
 use Rattle.std.specs.Result.{result_ok}
-use Rattle.std.specs.BTreeMap.{BTreeMap, get_by_text}
+use Rattle.std.specs.List.Sorted.{IsStrictlySortedBy}
+use Rattle.std.specs.Ordering.{is_lt}
 use denote.Ref.{Bor}
 use Rattle.serde_json.specs.Data.{Data, Members}
 use Rattle.serde_json.specs.Find.{get_member}
 use Rattle.serde_json.specs.View.{view}
-use Rattle.zarrs_store.specs.Segments.{last_segment}
+use Rattle.zarrs_store.specs.Segments.{bytes_cmp, last_segment}
 use Rattle.zarrs_fault.specs.declared.fault.MetadataFault.{MetadataFault}
 use Rattle.zarrs_fault.specs.declared.fault.MetadataFault.TheVariants.{BadMember, OutOfMemory}
 use Rattle.zarrs_path.specs.Keys.{zarray, zgroup, zattrs}
@@ -80,10 +81,6 @@ tree_in all array_file = option_map view all.array
 tree_in all group_file = option_map view all.group
 tree_in all attributes_file = option_map view all.attributes
 
--- the document of a file that was put at a text
-abbrev pub tree_at : BTreeMap (String Global) Documents → List ℕ → File → Option Data
-tree_at all t file = option_and_then (λ here. tree_in here file) (get_by_text all t)
-
 -- the first, where there is one, and else the second
 abbrev pub first_tree : Option Data → Option Data → Option Data
 first_tree (Some d) other = Some d
@@ -93,9 +90,33 @@ first_tree None other = other
 abbrev pub run_tree : Run → List ℕ → File → Option Data
 run_tree run t file = if bytes_eq (string_bytes run.path) t then tree_in run.documents file else None
 
--- the document of a file that a run has for a text, and else the one that was put at the text
-abbrev pub gathered_at : BTreeMap (String Global) Documents → Run → List ℕ → File → Option Data
-gathered_at all run t file = first_tree (run_tree run t file) (tree_at all t file)
+-- the document of a file that runs have for a text: of those that have one, that of the last
+abbrev pub tree_among : List Run → List ℕ → File → Option Data
+tree_among [] t file = None
+tree_among (run ∷ runs) t file = first_tree (tree_among runs t file) (run_tree run t file)
+
+-- the document of a file that a run has for a text, and else the one that the runs before it have
+abbrev pub gathered_at : List Run → Run → List ℕ → File → Option Data
+gathered_at runs run t file = first_tree (run_tree run t file) (tree_among runs t file)
+
+-- the path of the first is before that of the second
+abbrev pub is_before : Run → Run → Bool
+is_before a b = is_lt (bytes_cmp (string_bytes a.path) (string_bytes b.path))
+
+-- the paths of the runs, as texts
+abbrev pub paths : List Run → List (List ℕ)
+paths runs = map (λ run. string_bytes run.path) runs
+
+-- the paths ascend, so each stands once
+abbrev pub RunsAscend : List Run → Type 0
+RunsAscend runs = IsStrictlySortedBy bytes_cmp (paths runs)
+
+-- the next run, to which a run of the same path was joined; or behind which, with another path, it was put among those before
+abbrev pub IsJoined : Run → Run → List Run → List Run → Run → Type 0
+IsJoined run next old new now =
+    ((new ≡ old) × (string_bytes run.path ≡ string_bytes next.path) × (string_bytes now.path ≡ string_bytes next.path)
+    × ((file : File) → tree_in now.documents file ≡ first_tree (tree_in next.documents file) (tree_in run.documents file)))
+    ⊎ ((new ≡ old ++ run ∷ []) × (string_bytes run.path ≢ string_bytes next.path) × (now ≡ next))
 
 -- ---- the names of members
 
@@ -128,14 +149,14 @@ RefusesNames ms _ = ⊥
 -- ---- the nodes
 
 -- what the block has at each text is what the documents at it are read as
-abbrev pub HoldsNodes : BTreeMap (String Global) Documents → (List ℕ → Option NodeMetadata) → Type 0
-HoldsNodes all at = (t : List ℕ) → result_ok (read_files (tree_at all t)) ≡ Some (at t)
+abbrev pub HoldsNodes : (List ℕ → File → Option Data) → (List ℕ → Option NodeMetadata) → Type 0
+HoldsNodes document at = (t : List ℕ) → result_ok (read_files (document t)) ≡ Some (at t)
 
 -- the documents at some text do not read; or memory was wanting
-abbrev pub RefusesTrees : BTreeMap (String Global) Documents → MetadataFault → Type 0
-RefusesTrees all (BadMember name) = (name ≡ codes "metadata") × ((t : List ℕ) × (result_ok (read_files (tree_at all t)) ≡ None))
-RefusesTrees all OutOfMemory = Unit {0}
-RefusesTrees all _ = ⊥
+abbrev pub RefusesTrees : (List ℕ → File → Option Data) → MetadataFault → Type 0
+RefusesTrees document (BadMember name) = (name ≡ codes "metadata") × ((t : List ℕ) × (result_ok (read_files (document t)) ≡ None))
+RefusesTrees document OutOfMemory = Unit {0}
+RefusesTrees document _ = ⊥
 
 -- the block of the members of a document, or the first fault
 abbrev pub zmetadata_taken : Data → Result Block MetadataFault

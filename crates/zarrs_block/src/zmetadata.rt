@@ -1,7 +1,8 @@
 //! The version 2 document of consolidated metadata, `.zmetadata`, read as a block.
-ghost use Rattle.std.specs.Prelude.{◌≡◌, ℕ, List, IfOk, IfErr, OnOk, Ok, Some, None, ◌&&◌, if◌then◌else◌, codes, bytes_eq, string_bytes, IsTrue, option_map, option_and_then};
+ghost use Rattle.std.specs.Prelude.{◌≡◌, ℕ, List, [], IfOk, IfErr, Ok, Some, None, ◌&&◌, if◌then◌else◌, codes, bytes_eq, string_bytes, IsTrue, option_map};
 ghost use Rattle.std.specs.Result.{result_ok};
 ghost use Rattle.std.specs.List.{list_all};
+ghost use Rattle.std.specs.List.Sorted.{IsSortedBy};
 ghost use Rattle.serde_json.specs.Data.{object, Members};
 ghost use Rattle.serde_json.specs.Find.{as_object};
 ghost use Rattle.serde_json.specs.View.{view, members_view};
@@ -17,7 +18,7 @@ ghost use Rattle.zarrs_block.specs.Block.{IsAscending, found};
 ghost use Rattle.zarrs_block.specs.Small.{stretches};
 ghost use Rattle.zarrs_block.specs.Zmetadata.{one, small_block, zmetadata_members, zmetadata_of, HoldsStore, IsClean};
 ghost use Rattle.zarrs_block.specs.declared.zmetadata.File.{File};
-ghost use Rattle.zarrs_block.specs.ZmetadataRead.{is_file, member_at, first_tree, tree_in, tree_at, gathered_at, read_with, read_files, IsFile, IsPlace, are_named, RefusesNames, HoldsNodes, RefusesTrees, zmetadata_taken};
+ghost use Rattle.zarrs_block.specs.ZmetadataRead.{is_file, is_before, member_at, first_tree, tree_in, tree_among, gathered_at, read_with, read_files, IsFile, IsPlace, are_named, RefusesNames, HoldsNodes, IsJoined, RunsAscend, RefusesTrees, zmetadata_taken};
 
 use crate::consolidated::{ConsolidatedMetadata, ConsolidatedMetadataMetadata};
 use serde_json::{Map, Value};
@@ -119,8 +120,8 @@ fn small_block(
 ) -> Result<ConsolidatedMetadataMetadata, MetadataFault>
     ensures { Gives (λ all. all) result (small_block (members_view documents.entries)) }
 {
-    let all = by_path(alloc, documents)?;
-    nodes_of(alloc, all)
+    let runs = runs_of(alloc, documents)?;
+    nodes_of(alloc, joined(alloc, sorted(runs)?)?)
 }
 
 // The documents of version 2 of one path.
@@ -146,6 +147,34 @@ struct Run {
     documents: Documents,
 }
 
+impl Run {
+    // The run of no documents, at the empty path.
+    fn empty(alloc: Global) -> Run
+        ensures path { string_bytes result.path ≡ [] }
+        ensures none { (file : File) → tree_in result.documents file ≡ None }
+    {
+        Run {
+            path: String::new(alloc),
+            documents: Documents::none(),
+        }
+    }
+
+    // The next run with the documents of this one, where they are of one path; else the next, once this one is put behind those before it.
+    fn join(self, all: &mut Vec<Run>, next: Run) -> Result<Run, AllocError>
+        ensures { IfOk result (IsJoined self next all.old.items all.new.items) }
+    {
+        if self.path == next.path {
+            let Run { path, documents } = next;
+            return Ok(Run {
+                path,
+                documents: documents.or(self.documents),
+            });
+        }
+        all.push(self)?;
+        Ok(next)
+    }
+}
+
 impl Documents {
     // No documents.
     fn none() -> Documents
@@ -156,13 +185,6 @@ impl Documents {
             group: None,
             attributes: None,
         }
-    }
-
-    // These documents, where there are any, or none.
-    fn or_none(found: Option<Documents>) -> Documents
-        ensures { (file : File) → tree_in result file ≡ option_and_then (λ here. tree_in here file) found }
-    {
-        found.unwrap_or(Documents::none())
     }
 
     // These documents, and of the files of which there is none those of the others.
@@ -188,83 +210,83 @@ impl Documents {
     }
 }
 
-// The documents of version 2 below the group, at the texts of their paths.
-fn by_path(
-    alloc: Global,
-    documents: Map<String, Value>,
-) -> Result<Map<String, Documents>, MetadataFault>
-    ensures all { IfOk result (λ all. (t : List ℕ) (file : File) → tree_at all t file ≡ member_at (members_view documents.entries) t file) }
+// The documents of version 2 below the group, in runs of those of one path, as they come.
+fn runs_of(alloc: Global, documents: Map<String, Value>) -> Result<Vec<Run>, MetadataFault>
+    ensures all { IfOk result (λ runs. (t : List ℕ) (file : File) → tree_among runs.items t file ≡ member_at (members_view documents.entries) t file) }
     ensures named { IfOk result (λ _. IsTrue (are_named (members_view documents.entries))) }
     ensures err { IfErr result (RefusesNames (members_view documents.entries)) }
 {
-    let mut all = Map::new(alloc);
-    let mut run = Run {
-        path: String::new(alloc),
-        documents: Documents::none(),
-    };
+    let mut runs = Vec::new(alloc);
+    let mut run = Run::empty(alloc);
     for (key, document) in documents {
         match place_of(key.as_str())? {
             Some((path, file)) => {
-                run = put_document(alloc, &mut all, run, path, file, document)?;
+                run = put_document(alloc, &mut runs, run, path, file, document)?;
             }
             None => drop(document),
         }
     }
-    put_run(alloc, &mut all, run)?;
-    Ok(all)
+    runs.push(run)?;
+    Ok(runs)
 }
 
-// The run with a document more where it is that of the path, and else a new run of that document, once the other is put among all.
+// The run with a document more where it is that of the path, and else a new run of that document, once the other is put behind the
+// runs before it.
 fn put_document(
     alloc: Global,
-    all: &mut Map<String, Documents>,
+    runs: &mut Vec<Run>,
     run: Run,
     path: &str,
     file: File,
     document: Value,
 ) -> Result<Run, AllocError>
-    ensures { IfOk result (λ next. (t : List ℕ) (other : File) → gathered_at all.new next t other ≡ (if bytes_eq path.now t && is_file file other then Some (view document) else gathered_at all.old run t other)) }
+    ensures { IfOk result (λ next. (t : List ℕ) (other : File) → gathered_at runs.new.items next t other ≡ (if bytes_eq path.now t && is_file file other then Some (view document) else gathered_at runs.old.items run t other)) }
 {
     let Run {
         path,
         mut documents,
-    } = run_of(alloc, all, run, path)?;
+    } = run_of(alloc, runs, run, path)?;
     documents.put(file, document);
     Ok(Run { path, documents })
 }
 
-// The run where it is that of the path, and else a new one, once the other is put among all.
-fn run_of(
-    alloc: Global,
-    all: &mut Map<String, Documents>,
-    run: Run,
-    path: &str,
-) -> Result<Run, AllocError>
+// The run where it is that of the path, and else a new one, once the other is put behind the runs before it.
+fn run_of(alloc: Global, runs: &mut Vec<Run>, run: Run, path: &str) -> Result<Run, AllocError>
     ensures path { IfOk result (λ next. string_bytes next.path ≡ path.now) }
-    ensures same { IfOk result (λ next. (t : List ℕ) (file : File) → gathered_at all.new next t file ≡ gathered_at all.old run t file) }
+    ensures same { IfOk result (λ next. (t : List ℕ) (file : File) → gathered_at runs.new.items next t file ≡ gathered_at runs.old.items run t file) }
 {
     if run.path.as_str() == path {
         return Ok(run);
     }
-    put_run(alloc, all, run)?;
+    runs.push(run)?;
     Ok(Run {
         path: String::from_str(alloc, path)?,
         documents: Documents::none(),
     })
 }
 
-// Puts the documents of a run at its path, beside those that were put there before.
-fn put_run(alloc: Global, all: &mut Map<String, Documents>, run: Run) -> Result<(), AllocError>
-    ensures { OnOk result ((t : List ℕ) (file : File) → tree_at all.new t file ≡ gathered_at all.old run t file) }
+// The runs in the order of their paths.
+fn sorted(mut runs: Vec<Run>) -> Result<Vec<Run>, AllocError>
+    ensures same { IfOk result (λ all. (t : List ℕ) (file : File) → tree_among all.items t file ≡ tree_among runs.items t file) }
+    ensures sorted { IfOk result (λ all. IsSortedBy is_before all.items) }
 {
-    let Run { path, documents } = run;
-    let again = String::from_str(alloc, path.as_str())?;
-    let Some(earlier) = all.insert(path, documents)? else {
-        return Ok(());
-    };
-    let documents = Documents::or_none(all.remove(again.as_str()));
-    drop(all.insert(again, documents.or(earlier))?);
-    Ok(())
+    runs.sort_by(|a, b| a.path.cmp(&b.path))?;
+    Ok(runs)
+}
+
+// The runs, those of one path joined to one.
+fn joined(alloc: Global, runs: Vec<Run>) -> Result<Vec<Run>, AllocError>
+    requires { IsSortedBy is_before runs.items }
+    ensures same { IfOk result (λ all. (t : List ℕ) (file : File) → tree_among all.items t file ≡ tree_among runs.items t file) }
+    ensures ascend { IfOk result (λ all. RunsAscend all.items) }
+{
+    let mut all = Vec::new(alloc);
+    let mut run = Run::empty(alloc);
+    for next in runs {
+        run = run.join(&mut all, next)?;
+    }
+    all.push(run)?;
+    Ok(all)
 }
 
 // The path and the file that the name of a member tells, or nothing where it does not count below the group.
@@ -305,16 +327,15 @@ fn are_names(text: &str) -> bool
 }
 
 // The nodes that the documents are, at their paths.
-fn nodes_of(
-    alloc: Global,
-    all: Map<String, Documents>,
-) -> Result<ConsolidatedMetadataMetadata, MetadataFault>
-    ensures nodes { IfOk result (λ block. HoldsNodes all (found block)) }
+fn nodes_of(alloc: Global, runs: Vec<Run>) -> Result<ConsolidatedMetadataMetadata, MetadataFault>
+    requires { RunsAscend runs.items }
+    ensures nodes { IfOk result (λ block. HoldsNodes (tree_among runs.items) (found block)) }
     ensures ascending { IfOk result IsAscending }
-    ensures err { IfErr result (RefusesTrees all) }
+    ensures err { IfErr result (RefusesTrees (tree_among runs.items)) }
 {
     let mut block = ConsolidatedMetadataMetadata::new(alloc);
-    for (path, documents) in all {
+    for run in runs {
+        let Run { path, documents } = run;
         match node_of(alloc, documents)? {
             Some(node) => block.insert(path, node)?,
             None => drop(path),

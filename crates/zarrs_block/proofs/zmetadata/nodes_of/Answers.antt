@@ -1,29 +1,48 @@
 use Rattle.std.proofs.Common.{◌∙◌, ap, codes, Some}
 use Rattle.std.specs.Result.{result_ok}
-use Rattle.zarrs_block.specs.ZmetadataRead.{read_files, tree_in, RefusesTrees}
+use Rattle.std.specs.Vec.Iter.{into_iter_items}
+use Rattle.zarrs_block.specs.ZmetadataRead.{read_files, tree_in, tree_among, RefusesTrees}
 use Rattle.zarrs_block.proofs.BlockLaws.{formed_some}
-use Rattle.zarrs_block.proofs.ZmetadataSteps.{none_read_yet, read_none, read_some, refused_node, handed_on}
+use Rattle.zarrs_block.proofs.Runs.{none_remain}
+use Rattle.zarrs_block.proofs.ZmetadataSteps.{none_read_yet, read_none, read_some, refused_node, handed_on, all_nodes}
 use Rattle.zarrs_block.proofs.zmetadata.nodes_of.Goals as goal
 
-pub loop-path-init : goal.loop-path-init
-loop-path-init c =
-    let given = c.into_iter-path-iterator.ensures.into_iter_gives in
-    none_read_yet c.args.all c.new-block.result c.into_iter-path-iterator.result c.new-block.ensures given.0 given.5
+pub loop-run-init : goal.loop-run-init
+loop-run-init c = record {
+  can_next = tt;
+  is_finite = tt;
+  read = none_read_yet c.args.runs.items c.new-block.result (into_iter_items c.into_iter-run-iterator.result) c.new-block.ensures c.into_iter-run-iterator.ensures.into_iter_gives.0 c.requires;
+}
 
 pub returns-in_err-node-clause-err : goal.returns-in_err-node-clause-err
 returns-in_err-node-clause-err c =
-    let l = c.loop-path in
-    handed_on c.from_residual.result c.in_err-node.field-0.0 (RefusesTrees c.args.all) c.from_residual.ensures.1
-    (refused_node c.args.all l.block l.path-iterator (c.in-Some.path, c.in-Some.documents) c.next.new.self c.in-Some.ensures.steps l.invariant c.in_err-node.field-0.0 c.in_err-node.ensures)
+    let l = c.loop-run in
+    handed_on c.from_residual.result c.in_err-node.field-0.0 (RefusesTrees (tree_among c.args.runs.items)) c.from_residual.ensures.1
+    (refused_node (tree_among c.args.runs.items) l.block (into_iter_items l.run-iterator) c.in-Some.run' (into_iter_items c.next.new.self) c.in-Some.ensures.steps.0 l.invariant.read c.in_err-node.field-0.0 c.in_err-node.ensures)
 
-pub loop-path-preserved-in-Continue-branch-3 : goal.loop-path-preserved-in-Continue-branch-3
-loop-path-preserved-in-Continue-branch-3 c =
-    let l = c.loop-path in
-    read_some c.args.all l.block l.path-iterator (c.in-Some.path, c.in-Some.documents) c.next.new.self c.in-Some.ensures.steps l.invariant c.insert.new.self c.in-Some-2.node
-    (formed_some (codes "metadata") (result_ok (read_files (tree_in c.in-Some.documents))) c.in_ok-node.field-0 c.in_ok-node.ensures ∙ ap Some c.in-Some-2.is) c.in_ok-insert-in-Some-2.ensures.ok
+pub loop-run-preserved-in-Continue-branch-3 : goal.loop-run-preserved-in-Continue-branch-3
+loop-run-preserved-in-Continue-branch-3 c =
+    let l = c.loop-run in
+    record {
+      can_next = tt;
+      is_finite = tt;
+      read =
+          read_some (tree_among c.args.runs.items) l.block (into_iter_items l.run-iterator) c.in-Some.run' (into_iter_items c.next.new.self) c.in-Some.ensures.steps.0 l.invariant.read c.insert.new.self c.in-Some-2.node
+          (formed_some (codes "metadata") (result_ok (read_files (tree_in c.in-Some.run'.documents))) c.in_ok-node.field-0 c.in_ok-node.ensures ∙ ap Some c.in-Some-2.is) c.in_ok-insert-in-Some-2.ensures.ok;
+    }
 
-pub loop-path-preserved : goal.loop-path-preserved
-loop-path-preserved c =
-    let l = c.loop-path in
-    read_none c.args.all l.block l.path-iterator (c.in-Some.path, c.in-Some.documents) c.next.new.self c.in-Some.ensures.steps l.invariant
-    (formed_some (codes "metadata") (result_ok (read_files (tree_in c.in-Some.documents))) c.in_ok-node.field-0 c.in_ok-node.ensures ∙ ap Some c.in-None-2.is)
+pub loop-run-preserved : goal.loop-run-preserved
+loop-run-preserved c =
+    let l = c.loop-run in
+    record {
+      can_next = tt;
+      is_finite = tt;
+      read =
+          read_none (tree_among c.args.runs.items) l.block (into_iter_items l.run-iterator) c.in-Some.run' (into_iter_items c.next.new.self) c.in-Some.ensures.steps.0 l.invariant.read
+          (formed_some (codes "metadata") (result_ok (read_files (tree_in c.in-Some.run'.documents))) c.in_ok-node.field-0 c.in_ok-node.ensures ∙ ap Some c.in-None-2.is);
+    }
+
+pub returns-clause-nodes : goal.returns-clause-nodes
+returns-clause-nodes c =
+    let l = c.loop-run in
+    all_nodes (tree_among c.args.runs.items) l.block (into_iter_items l.run-iterator) (none_remain _ _ l.run-iterator.rest.ok.0 c.in-None.ensures.steps.0) l.invariant.read
