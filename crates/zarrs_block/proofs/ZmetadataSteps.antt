@@ -1,5 +1,5 @@
 -- The passes of the reader of `.zmetadata`: the names of members, the documents put at the texts of their paths, and the nodes read from them.
-use Rattle.std.proofs.Common.{◌≡◌, ℕ, Bool, true, false, true≢false, not, ◌&&◌, cond, if◌then◌else◌, List, [], ◌∷◌, ◌++◌, length, Option, Some, None, IsSome, Result, Ok, Err, IfOk, IfErr, String, Global, string_bytes, string_cmp, Less, is_eq, IsTrue, codes, refl, sym, ap, subst, ◌∙◌}
+use Rattle.std.proofs.Common.{◌≡◌, ℕ, Bool, true, false, true≢false, not, ◌&&◌, cond, if◌then◌else◌, List, [], ◌∷◌, ◌++◌, length, Option, Some, None, IsSome, IfSome, Result, Ok, Err, IfOk, IfErr, String, Global, string_bytes, string_cmp, Less, is_eq, IsTrue, codes, refl, sym, ap, subst, ◌∙◌}
 use Rattle.std.specs.Prelude.{◌==◌, is_some, option_and_then}
 use Rattle.std.specs.List.{list_all, filter, AllByRecursion}
 use Rattle.std.specs.List.Sorted.{IsStrictlySortedBy}
@@ -13,6 +13,7 @@ use Rattle.std.proofs.lemmas.List.Splits.{join_with_byte-slice_split}
 use Rattle.serde_json.specs.Data.{Data, object, Members, member}
 use Rattle.serde_json.specs.Find.{get_member, as_object}
 use Rattle.serde_json.specs.View.{view, members_view}
+use Rattle.serde_json.specs.Written.{has_float, members_have_float}
 use Rattle.serde_json.proofs.Views.{Entry, member_here, member_later}
 use Rattle.zarrs_store.specs.Segments.{Segments, bytes_cmp, key_text, has_no_slash, last_segment}
 use Rattle.zarrs_fault.specs.declared.fault.MetadataFault.{MetadataFault}
@@ -21,14 +22,16 @@ use Rattle.zarrs_store.proofs.ChildLemmas.{last_segment-child}
 use Rattle.zarrs_store.proofs.Cuts.{parts_one, parts_some, nonempty_is}
 use Rattle.zarrs_path.specs.Names.{is_name, is_node_name}
 use Rattle.zarrs_path.specs.Paths.{IsPath}
-use Rattle.zarrs_form.specs.Documents.{Gives, Refuses, document_of, formed, required}
+use Rattle.zarrs_form.specs.Documents.{Gives, Refuses, document_of, formed, present, required}
 use Rattle.zarrs_form.specs.Documents as steps
 use Rattle.zarrs_form.specs.Forms.{is_nil}
+use Rattle.zarrs_form.proofs.PlainForms.{member_fits}
+use Rattle.zarrs_block.proofs.BlockLaws.{formed_some, without_floats_at}
 use Rattle.zarrs_meta.specs.declared.node.NodeMetadata.{NodeMetadata}
 use Rattle.zarrs_block.specs.Block.{Block, IsAscending, found, put}
 use Rattle.zarrs_block.specs.Small.{is_document_v2, stretches, counted}
 use Rattle.zarrs_block.specs.Zmetadata.{one, before_last, below, small_block, zmetadata_members, zmetadata_of, HoldsStore, IsClean}
-use Rattle.zarrs_block.specs.ZmetadataRead.{file_name, is_file, member_at, first_tree, paths, run_tree, tree_among, RunsAscend, read_files, tree_in, is_below, IsPlace, are_named, RefusesNames, HoldsNodes, RefusesTrees, zmetadata_taken}
+use Rattle.zarrs_block.specs.ZmetadataRead.{file_name, is_file, member_at, first_tree, paths, run_tree, tree_among, RunsAscend, read_files, tree_in, is_below, IsPlace, are_named, RefusesNames, HaveNoFloat, HoldsNodes, RefusesTrees, zmetadata_taken}
 use Rattle.zarrs_block.specs.declared.consolidated.ConsolidatedMetadata.{ConsolidatedMetadata}
 use Rattle.zarrs_block.specs.declared.zmetadata.Documents.{Documents}
 use Rattle.zarrs_block.specs.declared.zmetadata.Run.{Run}
@@ -238,12 +241,13 @@ abbrev pub left_at : List Run → List ℕ → Option Documents
 left_at [] t = None
 left_at (run ∷ left) t = cond (is_of t run) (Some run.documents) (left_at left t)
 
--- the block has what was read, and nothing where documents are left
+-- the block has what was read, and nothing where documents are left, whose numbers fit
 pub record IsRead (at : List ℕ → File → Option Data) (B : Block) (left : List Run) : Type 0 where
   pub up : RunsAscend left
   pub ascending : IsAscending B
   pub apart : (t : List ℕ) → IsSome (left_at left t) → found B t ≡ None
   pub here : (t : List ℕ) → result_ok (read_files (at t)) ≡ now_at (found B t) (left_at left t)
+  pub fit : AllByRecursion (λ run. HaveNoFloat (tree_in run.documents)) left
 
 -- nothing is left where the first documents were
 none_left : (k : List ℕ) (runs : List Run) → AllByRecursion (λ y. bytes_cmp k y ≡ Less) (paths runs) → left_at runs k ≡ None
@@ -268,13 +272,36 @@ among_left (run ∷ runs) up t file =
         other false e = refl
         other true e = absurd (true≢false (sym (ap (λ u. is_eq (bytes_cmp t u)) ((bytes_eq-Decides (string_bytes run.path) t).0 e) ∙ at_itself t) ∙ at))
 
+-- the first of two fits where the first that is there does
+first_fits : (a b : Option Data) → IfSome (first_tree a b) (λ d. has_float d ≡ false) → IfSome a (λ d. has_float d ≡ false)
+first_fits None b h = tt
+first_fits (Some d) b h = h
+
+-- the documents of each of ascending runs fit where what they have for each text does
+runs_fit : (runs : List Run) → RunsAscend runs → ((t : List ℕ) → HaveNoFloat (tree_among runs t)) → AllByRecursion (λ run. HaveNoFloat (tree_in run.documents)) runs
+runs_fit [] up fit = tt
+runs_fit (run ∷ runs) up fit = (
+  λ file. subst (λ o. IfSome o (λ d. has_float d ≡ false)) (own file) (fit (string_bytes run.path) file),
+  runs_fit runs later (λ t file. first_fits (tree_among runs t file) (run_tree run t file) (fit t file)),
+)
+  where
+    later : RunsAscend runs
+    later = sorted_tail bytes_cmp (string_bytes run.path) (paths runs) up
+
+    own : (file : File) → tree_among (run ∷ runs) (string_bytes run.path) file ≡ tree_in run.documents file
+    own file =
+        ap (λ o. first_tree o (run_tree run (string_bytes run.path) file))
+        (among_left runs later (string_bytes run.path) file ∙ ap (option_and_then (λ (here : Documents). tree_in here file)) (none_left (string_bytes run.path) runs (sorted_head bytes_cmp (string_bytes run.path) (paths runs) up)))
+        ∙ ap (λ b. cond b (tree_in run.documents file) None) ((bytes_eq-Decides (string_bytes run.path) (string_bytes run.path)).1 refl)
+
 -- at first all documents are left
-pub none_read_yet : (runs : List Run) (B : Block) (left : List Run) → B ≡ [] → left ≡ runs → RunsAscend runs → IsRead (tree_among runs) B left
-none_read_yet runs B left none is up = subst (λ C. IsRead (tree_among runs) C left) (sym none) (subst (IsRead (tree_among runs) []) (sym is) (record {
+pub none_read_yet : (runs : List Run) (B : Block) (left : List Run) → B ≡ [] → left ≡ runs → RunsAscend runs → ((t : List ℕ) → HaveNoFloat (tree_among runs t)) → IsRead (tree_among runs) B left
+none_read_yet runs B left none is up fit = subst (λ C. IsRead (tree_among runs) C left) (sym none) (subst (IsRead (tree_among runs) []) (sym is) (record {
   up = up;
   ascending = none_ascend;
   apart = λ t some. refl;
   here = λ t. ap (λ (f : File → Option Data). result_ok (read_files f)) (λ i file. among_left runs up t file i) ∙ by (left_at runs t);
+  fit = runs_fit runs up fit;
 }))
   where
     by : (o : Option Documents) → result_ok (read_files (λ file. option_and_then (λ (h : Documents). tree_in h file) o)) ≡ now_at None o
@@ -290,6 +317,10 @@ module _ (at : List ℕ → File → Option Data) (B : Block) (left : List Run) 
   -- what was read before these documents
   then_read : IsRead at B (run ∷ runs)
   then_read = subst (IsRead at B) is h
+
+  -- the numbers of these documents fit
+  pub this_fits : HaveNoFloat (tree_in run.documents)
+  this_fits = then_read.fit.0
 
   -- nothing is left behind them at their text
   none_more : (t : List ℕ) → is_of t run ≡ true → left_at runs t ≡ None
@@ -315,6 +346,7 @@ module _ (at : List ℕ → File → Option Data) (B : Block) (left : List Run) 
       ascending = up;
       apart = λ t some. fresh t ∙ apart_next t some (is_of t run) refl;
       here = λ t. here_next t (is_of t run) refl ∙ ap (λ x. now_at x (left_at runs t)) (sym (fresh t));
+      fit = then_read.fit.1;
     }
 
   -- documents that are no node leave the block as it is
@@ -427,6 +459,26 @@ taken_by d (Ok ns) ms is = by (required (codes "zarr_consolidated_format") one d
     by (Ok x) = refl
     by (Err e) = refl
 taken_by d (Err e) ms is = cc
+
+-- the members of a document have no float
+no_float_of : (ms : Members) → document_of (object ms) ≡ Ok ms → members_have_float ms ≡ false
+no_float_of ms reads = by (members_have_float ms) refl
+  where
+    by : (b : Bool) → members_have_float ms ≡ b → members_have_float ms ≡ false
+    by false none = none
+    by true some = let bad : Err UnsupportedNumber ≡ Ok ms = sym (ap (λ b. if b then Err UnsupportedNumber else Ok ms) some) ∙ reads in cc
+
+-- nor have the members that a document has to have
+pub no_float_in : (ms ns : Members) → document_of (object ms) ≡ Ok ms → required (codes "metadata") as_object (object ms) ≡ Ok ns → members_have_float ns ≡ false
+no_float_in ms ns reads is = by (get_member (codes "metadata") ms) refl is
+  where
+    by : (o : Option Data) → get_member (codes "metadata") ms ≡ o → steps.◌>>=◌ (present (codes "metadata") o) (λ d. formed (codes "metadata") (as_object d)) ≡ Ok ns → members_have_float ns ≡ false
+    by None at e = cc
+    by (Some d) at e = without_floats_at (codes "metadata") ms d ns (no_float_of ms reads) at (formed_some (codes "metadata") (as_object d) ns e)
+
+-- what members that have no float have for a text fits
+pub members_fit : (ms : Members) → members_have_float ms ≡ false → (document : List ℕ → File → Option Data) → ((t : List ℕ) (file : File) → document t file ≡ member_at ms t file) → (t : List ℕ) → HaveNoFloat (document t)
+members_fit ms none document is t file = subst (λ o. IfSome o (λ d. has_float d ≡ false)) (sym (is t file)) (member_fits (t ++ 47 ∷ file_name file) ms none)
 
 -- what a document means is what its members mean
 taken_is : (d : Data) (ms : Members) → document_of d ≡ Ok ms → zmetadata_of d ≡ zmetadata_taken d

@@ -1,12 +1,13 @@
 -- The version 2 convention of consolidated metadata, the document `.zmetadata` of a group: the parts of its reader, by look-ups.
 --     member_at ms t file      a document of version 2 that members have for the text of a path
+--     HaveNoFloat document      each number of the documents of a path fits
 --     read_files document      the node that the documents of a path are, or nothing, or the first fault
 --     tree_among runs t file      a document that runs have for a text
 --     gathered_at runs run t file      a document that a run has for a text, or that the runs before it have
 --     RunsAscend runs      the paths of the runs ascend
 --     IsPlace t r      the path and the file that a member's name tells, where it counts below the group
 --     are_named ms, RefusesNames ms      the names that count below the group are those of nodes; that they are not
-use Rattle.std.specs.Prelude.{◌≡◌, ◌≢◌, ◌⊎◌, ℕ, Bool, true, false, not, ◌&&◌, List, [], ◌∷◌, ◌++◌, map, Option, Some, None, Result, Ok, Err, option_map, if◌then◌else◌, string_bytes, codes, bytes_eq}
+use Rattle.std.specs.Prelude.{◌≡◌, ◌≢◌, ◌⊎◌, IfSome, ℕ, Bool, true, false, not, ◌&&◌, List, [], ◌∷◌, ◌++◌, map, Option, Some, None, Result, Ok, Err, option_map, if◌then◌else◌, string_bytes, codes, bytes_eq}
 use Rattle.std.specs.List.{list_all}
 use Rattle.std.specs.Result.{result_ok}
 use Rattle.std.specs.List.Sorted.{IsStrictlySortedBy}
@@ -15,6 +16,7 @@ use denote.Ref.{Bor}
 use Rattle.serde_json.specs.Data.{Data, Members}
 use Rattle.serde_json.specs.Find.{get_member}
 use Rattle.serde_json.specs.View.{view}
+use Rattle.serde_json.specs.Written.{has_float}
 use Rattle.zarrs_store.specs.Segments.{bytes_cmp, last_segment}
 use Rattle.zarrs_fault.specs.declared.fault.MetadataFault.{MetadataFault}
 use Rattle.zarrs_fault.specs.declared.fault.MetadataFault.TheVariants.{BadMember, OutOfMemory}
@@ -72,6 +74,10 @@ read_documents None None attributes = Ok None
 -- the node that the documents of the three files are, or nothing, or the first fault
 abbrev pub read_files : (File → Option Data) → Result (Option NodeMetadata) MetadataFault
 read_files document = read_documents (document array_file) (document group_file) (document attributes_file)
+
+-- each number of the documents of the three files fits
+abbrev pub HaveNoFloat : (File → Option Data) → Type 0
+HaveNoFloat document = (file : File) → IfSome (document file) (λ d. has_float d ≡ false)
 
 -- ---- the documents of all paths
 

@@ -1,13 +1,14 @@
 //! The version 2 document of consolidated metadata, `.zmetadata`, read as a block.
-ghost use Rattle.std.specs.Prelude.{◌≡◌, ℕ, List, [], IfOk, IfErr, Ok, Some, None, ◌&&◌, if◌then◌else◌, codes, bytes_eq, string_bytes, IsTrue, option_map};
+ghost use Rattle.std.specs.Prelude.{◌≡◌, ℕ, List, [], false, IfOk, IfErr, IfSome, Ok, Some, None, ◌&&◌, if◌then◌else◌, codes, bytes_eq, string_bytes, IsTrue, option_map};
 ghost use Rattle.std.specs.Result.{result_ok};
 ghost use Rattle.std.specs.List.{list_all};
 ghost use Rattle.std.specs.List.Sorted.{IsSortedBy};
 ghost use Rattle.serde_json.specs.Data.{object, Members};
 ghost use Rattle.serde_json.specs.Find.{as_object};
 ghost use Rattle.serde_json.specs.View.{view, members_view};
+ghost use Rattle.serde_json.specs.Written.{has_float, members_have_float};
 ghost use Rattle.zarrs_path.specs.Names.{is_name};
-ghost use Rattle.zarrs_form.specs.Documents.{Gives, formed, required};
+ghost use Rattle.zarrs_form.specs.Documents.{Gives, document_of, formed, required};
 ghost use Rattle.zarrs_meta.specs.ArrayV2.{array_v2_of};
 ghost use Rattle.zarrs_meta.specs.GroupV2.{group_v2_of};
 ghost use Rattle.zarrs_meta.specs.Node.{array_with, group_with};
@@ -18,16 +19,14 @@ ghost use Rattle.zarrs_block.specs.Block.{IsAscending, found};
 ghost use Rattle.zarrs_block.specs.Small.{stretches};
 ghost use Rattle.zarrs_block.specs.Zmetadata.{one, small_block, zmetadata_members, zmetadata_of, HoldsStore, IsClean};
 ghost use Rattle.zarrs_block.specs.declared.zmetadata.File.{File};
-ghost use Rattle.zarrs_block.specs.ZmetadataRead.{is_file, is_before, member_at, first_tree, tree_in, tree_among, gathered_at, read_with, read_files, IsFile, IsPlace, are_named, RefusesNames, HoldsNodes, IsJoined, RunsAscend, RefusesTrees, zmetadata_taken};
+ghost use Rattle.zarrs_block.specs.ZmetadataRead.{is_file, is_before, member_at, first_tree, tree_in, tree_among, gathered_at, read_with, read_files, IsFile, IsPlace, are_named, RefusesNames, HaveNoFloat, HoldsNodes, IsJoined, RunsAscend, RefusesTrees, zmetadata_taken};
 
+use crate::asked::{asked_array, asked_attributes, asked_group};
 use crate::consolidated::{ConsolidatedMetadata, ConsolidatedMetadataMetadata};
 use serde_json::{Map, Value};
 use std::alloc::{AllocError, Global};
 use zarrs_form::{document, document_copy, member, take_member};
-use zarrs_meta::{
-    ArrayMetadata, ArrayMetadataV2, AttributesDocument, BoxedArray, GroupMetadata, GroupMetadataV2,
-    NodeMetadata,
-};
+use zarrs_meta::{ArrayMetadata, BoxedArray, GroupMetadata, NodeMetadata};
 use zarrs_path::NodeName;
 use zarrs_store::{MemberName, MetadataFault};
 
@@ -79,6 +78,7 @@ fn block_of(
     alloc: Global,
     mut members: Map<String, Value>,
 ) -> Result<ConsolidatedMetadata, MetadataFault>
+    requires { document_of (object (members_view members.entries)) ≡ Ok (members_view members.entries) }
     ensures { Gives (λ block. block.metadata) result (zmetadata_taken (object (members_view members.entries))) }
 {
     ask_consolidated_format(&members)?;
@@ -118,6 +118,7 @@ fn small_block(
     alloc: Global,
     documents: Map<String, Value>,
 ) -> Result<ConsolidatedMetadataMetadata, MetadataFault>
+    requires { members_have_float (members_view documents.entries) ≡ false }
     ensures { Gives (λ all. all) result (small_block (members_view documents.entries)) }
 {
     let runs = runs_of(alloc, documents)?;
@@ -328,7 +329,8 @@ fn are_names(text: &str) -> bool
 
 // The nodes that the documents are, at their paths.
 fn nodes_of(alloc: Global, runs: Vec<Run>) -> Result<ConsolidatedMetadataMetadata, MetadataFault>
-    requires { RunsAscend runs.items }
+    requires ascend { RunsAscend runs.items }
+    requires fit { (t : List ℕ) → HaveNoFloat (tree_among runs.items t) }
     ensures nodes { IfOk result (λ block. HoldsNodes (tree_among runs.items) (found block)) }
     ensures ascending { IfOk result IsAscending }
     ensures err { IfErr result (RefusesTrees (tree_among runs.items)) }
@@ -346,6 +348,7 @@ fn nodes_of(alloc: Global, runs: Vec<Run>) -> Result<ConsolidatedMetadataMetadat
 
 // The node that the documents of a path are, if they are one.
 fn node_of(alloc: Global, documents: Documents) -> Result<Option<NodeMetadata>, MetadataFault>
+    requires { HaveNoFloat (tree_in documents) }
     ensures { Gives (λ node. node) result (formed (codes "metadata") (result_ok (read_files (tree_in documents)))) }
 {
     match read_node(alloc, documents) {
@@ -357,6 +360,7 @@ fn node_of(alloc: Global, documents: Documents) -> Result<Option<NodeMetadata>, 
 
 // The node that the documents of a path are: the array, or else the group, with the attributes beside it.
 fn read_node(alloc: Global, documents: Documents) -> Result<Option<NodeMetadata>, MetadataFault>
+    requires { HaveNoFloat (tree_in documents) }
     ensures { Gives (λ node. node) result (read_files (tree_in documents)) }
 {
     let Documents {
@@ -379,11 +383,13 @@ fn read_array(
     value: Value,
     attributes: Option<Value>,
 ) -> Result<NodeMetadata, MetadataFault>
+    requires document { has_float (view value) ≡ false }
+    requires attributes { IfSome (option_map view attributes) (λ d. has_float d ≡ false) }
     ensures { Gives (λ node. node) result (read_with array_v2_of (λ m. Array (array_v2 m)) array_with (view value) (option_map view attributes)) }
 {
-    let mut array = ArrayMetadataV2::from_owned_value(alloc, value)?;
+    let mut array = asked_array(alloc, value)?;
     if let Some(value) = attributes {
-        array.attributes = AttributesDocument::from_owned_value(alloc, value)?.0;
+        array.attributes = asked_attributes(alloc, value)?.0;
     }
     let boxed = BoxedArray::new(alloc, ArrayMetadata::V2(array))?;
     Ok(NodeMetadata::Array(boxed))
@@ -395,11 +401,13 @@ fn read_group(
     value: Value,
     attributes: Option<Value>,
 ) -> Result<NodeMetadata, MetadataFault>
+    requires document { has_float (view value) ≡ false }
+    requires attributes { IfSome (option_map view attributes) (λ d. has_float d ≡ false) }
     ensures { Gives (λ node. node) result (read_with group_v2_of (λ m. Group (group_v2 m)) group_with (view value) (option_map view attributes)) }
 {
-    let mut group = GroupMetadataV2::from_owned_value(alloc, value)?;
+    let mut group = asked_group(alloc, value)?;
     if let Some(value) = attributes {
-        group.attributes = AttributesDocument::from_owned_value(alloc, value)?.0;
+        group.attributes = asked_attributes(alloc, value)?.0;
     }
     Ok(NodeMetadata::Group(GroupMetadata::V2(group)))
 }

@@ -11,7 +11,7 @@ pub loop-run-init : goal.loop-run-init
 loop-run-init c = record {
   can_next = tt;
   is_finite = tt;
-  read = none_read_yet c.args.runs.items c.new-block.result (into_iter_items c.into_iter-run-iterator.result) c.new-block.ensures c.into_iter-run-iterator.ensures.into_iter_gives.0 c.requires;
+  read = none_read_yet c.args.runs.items c.new-block.result (into_iter_items c.into_iter-run-iterator.result) c.new-block.ensures c.into_iter-run-iterator.ensures.into_iter_gives.0 c.requires.ascend c.requires.fit;
 }
 
 pub returns-in_err-node-clause-err : goal.returns-in_err-node-clause-err
