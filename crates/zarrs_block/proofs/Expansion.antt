@@ -1,11 +1,12 @@
 -- The pairs that the keys of a block come to below a base.
-use Rattle.std.proofs.Common.{◌≡◌, ◌≢◌, ◌<◌, ◌⊎◌, inl, inr, ℕ, zero, suc, Bool, true, false, true≢false, cond, List, [], ◌∷◌, ◌++◌, length, Option, Some, None, IsSome, is_some, unwrap_or, String, Global, string_bytes, string_cmp, Less, Greater, refl, ap, sym, subst, append_assoc, ◌∙◌, arith}
+use Rattle.std.proofs.Common.{◌≡◌, ◌≢◌, ◌<◌, ◌⊎◌, inl, inr, ℕ, zero, suc, Bool, true, false, true≢false, cond, List, [], ◌∷◌, ◌++◌, length, Option, Some, None, Result, Ok, Err, IfErr, IsSome, is_some, unwrap_or, String, Global, string_bytes, string_cmp, Less, Greater, refl, ap, sym, subst, append_assoc, ◌∙◌, arith}
 use Rattle.std.specs.Prelude.{All, Contains}
 use Rattle.std.specs.List.{AllByRecursion}
 use Rattle.std.specs.List.Sorted.{IsStrictlySortedBy}
 use Rattle.std.specs.Map.{keys_of}
 use Rattle.std.specs.BTreeMap.{is_at}
 use Rattle.std.specs.Ordering.{is_eq, ordering_reverse}
+use Rattle.std.specs.Result.{IsErrAnd}
 use Rattle.std.proofs.lemmas.Cmp.{tied_itself, nat_list_cmp_total}
 use Rattle.std.proofs.lemmas.Map.Text.{is_eq-slice_cmp}
 use Rattle.std.proofs.lemmas.Slice.Eq.{bytes_eq-Decides}
@@ -22,6 +23,7 @@ use Rattle.zarrs_form.specs.Forms.{is_nil}
 use Rattle.zarrs_meta.specs.declared.node.NodeMetadata.{NodeMetadata}
 use Rattle.zarrs_block.specs.Block.{Block, IsAscending, IsValidKey, HasValidKeys, found, first_some, Entries}
 use Rattle.zarrs_block.specs.Expanded.{RefusesKeys, HaveOwnPaths, is_covered, path_at, paths_at, with_pair, paired}
+use Rattle.zarrs_block.specs.declared.node_create_error.NodeCreateError.{NodeCreateError}
 use Rattle.zarrs_block.specs.declared.node_create_error.NodeCreateError.TheVariants.{NodePathError}
 use Rattle.zarrs_block.proofs.BlockLaws.{shown, texts, texts_ascend, nothing_behind}
 use Rattle.zarrs_block.proofs.KeyLaws.{names_of_key, not_valid, path_of_key, own_path, bare_key, text_bare}
@@ -69,28 +71,9 @@ keys_shown (e ∷ es) = ap (λ ks. string_bytes e.0 ∷ ks) (keys_shown es)
 pub map_ascends : (B : Block) (es : List (String Global × NodeMetadata)) → shown es ≡ B → IsStrictlySortedBy string_cmp (keys_of es) → IsAscending B
 map_ascends B es is h = subst IsAscending is (subst (IsStrictlySortedBy bytes_cmp) (sym (keys_shown es)) (texts_ascend es h))
 
--- ---- the paths, key by key
+-- ---- valid keys
 
--- these are the paths of the first keys, and those of the keys that are left make them all; the keys of the block are valid where those that are left are
-abbrev pub IsAsked : Path → Block → List (Option Path) → Block → Type 0
-IsAsked b B ps left =
-    (ps ++ paths_at b B left ≡ paths_at b B B) × (AllByRecursion (λ e. IsValidKey e.0) left → AllByRecursion (λ e. IsValidKey e.0) B)
-    × ((t : List ℕ) → IsSome (found left t) → IsSome (found B t))
-
--- at first none is asked
-pub none_asked : (b : Path) (B : Block) (ps : List (Option Path)) (left : Block) → ps ≡ [] → left ≡ B → IsAsked b B ps left
-none_asked b B ps left none is = subst (λ L. IsAsked b B ps L) (sym is) (ap (λ qs. qs ++ paths_at b B B) none, λ h. h, λ t h. h)
-
--- one more is asked
-pub asked_next : (b : Path) (B : Block) (ps qs : List (Option Path)) (left : Block) (e : List ℕ × NodeMetadata) (es : Block) (p : Option Path)
-    → left ≡ e ∷ es → p ≡ path_at b B e.0 → IsValidKey e.0 → qs ≡ ps ++ p ∷ [] → IsAsked b B ps left → IsAsked b B qs es
-asked_next b B ps qs left e es p is path valid new h =
-    let here : IsAsked b B ps (e ∷ es) = subst (IsAsked b B ps) is h in (
-      ap (λ xs. xs ++ paths_at b B es) new ∙ append_assoc ps (p ∷ []) (paths_at b B es) ∙ ap (λ o. ps ++ o ∷ paths_at b B es) path ∙ here.0,
-      λ all. here.1 (valid, all),
-      λ t s. here.2 t (found_later e es t s),
-    )
-
+-- each key is valid where all are
 valid_keys : (B : Block) → AllByRecursion (λ e. IsValidKey e.0) B → HasValidKeys B
 valid_keys [] all t s = absurd (true≢false (sym s))
 valid_keys (e ∷ B) all t s =
@@ -98,20 +81,6 @@ valid_keys (e ∷ B) all t s =
       | true ↦ λ same _. subst IsValidKey (sym (same_text t e.0 same)) all.0
       | false ↦ λ _ later. valid_keys B all.1 t later
     ] refl s
-
--- where none is left, all are asked
-pub all_asked : (b : Path) (B : Block) (ps : List (Option Path)) (left : Block) → left ≡ [] → IsAsked b B ps left → (ps ≡ paths_at b B B) × HasValidKeys B
-all_asked b B ps left none h =
-    let here : IsAsked b B ps [] = subst (IsAsked b B ps) none h in
-    (sym (nothing_behind ps) ∙ here.0, valid_keys B (here.1 tt))
-
--- a key that is left and does not join is refused
-pub refuses_keys : (b : Path) (B : Block) (ps : List (Option Path)) (left : Block) (e : List ℕ × NodeMetadata) (es : Block) (err : PathError)
-    → left ≡ e ∷ es → RefusesJoin e.0 err → IsAsked b B ps left → RefusesKeys B (NodePathError err)
-refuses_keys b B ps left e es (Invalid text) is refused h =
-    let here : IsAsked b B ps (e ∷ es) = subst (IsAsked b B ps) is h in
-    (e.0, here.2 e.0 (subst IsSome (sym (found_here e es)) refl), not_valid e.0 refused.0 refused.1, refused)
-refuses_keys b B ps left e es OutOfMemory is refused h = tt
 
 -- ---- the pairs are the entries
 
@@ -255,17 +224,55 @@ entries_listed b B up v = record {
   complete = complete b B;
 }
 
--- ---- pairing
+-- ---- pairs, key by key
 
--- the pairs that were made, and those of the paths and entries that are left, make them all
-abbrev pub IsPairing : List (Path × NodeMetadata) → List (Option Path) → Block → List (Path × NodeMetadata) → Type 0
-IsPairing all ps left whole = all ++ paired ps left ≡ whole
+-- these are the pairs of the first keys, and those of the keys that are left make them all; the keys of the block are valid where those that are left are
+abbrev pub IsExpanding : Path → Block → List (Path × NodeMetadata) → Block → Type 0
+IsExpanding b B all left =
+    (all ++ pairs_by b B left ≡ pairs_by b B B) × (AllByRecursion (λ e. IsValidKey e.0) left → AllByRecursion (λ e. IsValidKey e.0) B)
+    × ((t : List ℕ) → IsSome (found left t) → IsSome (found B t))
 
-paired_none : (ps : List (Option Path)) → paired ps [] ≡ []
-paired_none [] = refl
-paired_none (p ∷ ps) = refl
+-- at first there are none
+pub none_expanded : (b : Path) (B : Block) (all : List (Path × NodeMetadata)) (left : Block) → all ≡ [] → left ≡ B → IsExpanding b B all left
+none_expanded b B all left none is = subst (λ L. IsExpanding b B all L) (sym is) (ap (λ es. es ++ pairs_by b B B) none, λ h. h, λ t h. h)
 
--- behind the last entry there are no pairs
-pub pairing_done : (all whole : List (Path × NodeMetadata)) (ps : List (Option Path)) (left : Block) → left ≡ [] → IsPairing all ps left whole → all ≡ whole
-pairing_done all whole ps left none h =
-    sym (nothing_behind all) ∙ ap (λ xs. all ++ xs) (sym (paired_none ps)) ∙ ap (λ es. all ++ paired ps es) (sym none) ∙ h
+module _ (b : Path) (B : Block) (all : List (Path × NodeMetadata)) (left : Block) (e : List ℕ × NodeMetadata) (es : Block) (is : left ≡ e ∷ es) (h : IsExpanding b B all left) where
+  then_here : IsExpanding b B all (e ∷ es)
+  then_here = subst (IsExpanding b B all) is h
+
+  -- a key that is left is one of the block
+  pub is_there : IsSome (found B e.0)
+  is_there = then_here.2 e.0 (subst IsSome (sym (found_here e es)) refl)
+
+  -- a key that adds a path has its pair
+  pub expanded_some : (new : List (Path × NodeMetadata)) (p : Path) → Some p ≡ path_at b B e.0 → IsValidKey e.0 → new ≡ all ++ (p, e.1) ∷ [] → IsExpanding b B new es
+  expanded_some new p path valid more = (
+    ap (λ xs. xs ++ pairs_by b B es) more ∙ append_assoc all ((p, e.1) ∷ []) (pairs_by b B es)
+        ∙ ap (λ o. all ++ with_pair o e.1 (pairs_by b B es)) path ∙ then_here.0,
+    λ v. then_here.1 (valid, v),
+    λ t s. then_here.2 t (found_later e es t s),
+  )
+
+  -- one that adds none is passed over
+  pub expanded_none : None ≡ path_at b B e.0 → IsValidKey e.0 → IsExpanding b B all es
+  expanded_none path valid = (
+    ap (λ o. all ++ with_pair o e.1 (pairs_by b B es)) path ∙ then_here.0,
+    λ v. then_here.1 (valid, v),
+    λ t s. then_here.2 t (found_later e es t s),
+  )
+
+  -- one that does not join is refused
+  pub refuses_key : (err : PathError) → RefusesJoin e.0 err → RefusesKeys B (NodePathError err)
+  refuses_key (Invalid text) refused = (e.0, is_there, not_valid e.0 refused.0 refused.1, refused)
+  refuses_key OutOfMemory refused = tt
+
+-- where none is left, all have their pairs
+pub all_expanded : (b : Path) (B : Block) (all : List (Path × NodeMetadata)) (left : Block) → left ≡ [] → IsExpanding b B all left → (all ≡ pairs_by b B B) × HasValidKeys B
+all_expanded b B all left none h =
+    let done : IsExpanding b B all [] = subst (IsExpanding b B all) none h in
+    (sym (nothing_behind all) ∙ done.0, valid_keys B (done.1 tt))
+
+-- a refusal that is handed on is one
+pub keys_refused : {A : Type 0} (B : Block) (r : Result A NodeCreateError) (e : NodeCreateError) → IsErrAnd r (λ made. made ≡ e) → RefusesKeys B e → IfErr r (RefusesKeys B)
+keys_refused B (Ok x) e is h = absurd is
+keys_refused B (Err made) e is h = subst (RefusesKeys B) (sym is) h

@@ -2,11 +2,10 @@
 use Rattle.std.proofs.Common.{◌≡◌, ◌≢◌, ◌⊎◌, inl, inr, ℕ, Bool, true, false, cond, ◌||◌, ◌&&◌, if◌then◌else◌, List, [], ◌∷◌, ◌++◌, length, Some, None, is_some, unwrap_or, refl, ap, sym, subst, ◌∙◌, arith}
 use Rattle.std.specs.List.{list_all}
 use Rattle.std.proofs.lemmas.Bool.{and_parts, eqb-true}
-use Rattle.std.proofs.lemmas.List.{append_cancel_left}
 use Rattle.std.proofs.lemmas.List.Folds.{list_all-append}
 use Rattle.zarrs_store.specs.Segments.{is_slash, key_text}
 use Rattle.zarrs_path.specs.Names.{is_name}
-use Rattle.zarrs_path.specs.Paths.{Path, IsPath, IsBelow, relative_names, without_leading_slash, first_bad}
+use Rattle.zarrs_path.specs.Paths.{Path, IsPath, relative_names, without_leading_slash, first_bad}
 use Rattle.zarrs_path.proofs.NameLemmas.{name_head, name_tail}
 use Rattle.zarrs_path.proofs.Relative.{relative_of_text, relative_of_slashed, text_of_relative}
 use Rattle.zarrs_form.specs.Forms.{is_nil}
@@ -51,24 +50,7 @@ not_valid t c bad v =
 
 -- ---- the path of a key
 
--- a path with names behind it is below
-pub below_some : (b R p : Path) → p ≡ b ++ R → IsBelow b p → is_nil R ≡ false
-below_some b R p is below = ap is_nil (append_cancel_left b R (below.0 ∷ below.1) (sym is ∙ below.2))
-
--- a path that is not below has no names behind it
-pub not_below_none : (b R p : Path) → p ≡ b ++ R → (IsBelow b p → ⊥) → is_nil R ≡ true
-not_below_none b [] p is apart = refl
-not_below_none b (n ∷ R) p is apart = absurd (apart (n, R, is))
-
--- a key of the base itself adds no path
-pub no_path : (b : Path) (B : Block) (t : List ℕ) → is_nil (relative_names t) ≡ true → None ≡ path_at b B t
-no_path b B t none = rw none refl
-
--- a key behind a slash adds no path where the block has it without
-pub no_covered_path : (b : Path) (B : Block) (t : List ℕ) → is_nil (relative_names t) ≡ false → is_covered B t ≡ true → None ≡ path_at b B t
-no_covered_path b B t some covered = rw (some, covered) refl
-
--- any other key adds the path with its names behind the base
+-- a key that has names and is not covered adds the path with its names behind the base
 pub own_path : (b : Path) (B : Block) (t : List ℕ) (p : Path) → p ≡ b ++ relative_names t → is_nil (relative_names t) ≡ false → is_covered B t ≡ false → Some p ≡ path_at b B t
 own_path b B t p is some bare = ap Some is ∙ rw (some, bare) refl
 

@@ -8,6 +8,7 @@ pub mod ZmetadataSteps
 pub mod BlockLaws
 pub mod KeyLaws
 pub mod Expansion
+pub mod Covered
 pub mod InOrder
 pub mod BlockReads
 pub mod CutOut

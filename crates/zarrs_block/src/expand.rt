@@ -1,13 +1,18 @@
 //! The nodes of a consolidated block, at their paths.
-ghost use Rattle.std.specs.Prelude.{◌≡◌, IfOk, IfErr};
+ghost use Rattle.std.specs.Prelude.{◌≡◌, ◌||◌, ◌++◌, ℕ, List, IfOk, IfErr, IsSome, Some, None, is_some, if◌then◌else◌};
+ghost use Rattle.std.specs.BTreeMap.{get_by_text};
 ghost use Rattle.zarrs_store.specs.Contents.{Lists};
 ghost use Rattle.zarrs_path.specs.PathErrors.{RefusesJoin};
-ghost use Rattle.zarrs_block.specs.Block.{Entries, HasValidKeys, IsAscending, IsValidKey};
-ghost use Rattle.zarrs_block.specs.Expanded.{RefusesKeys, HaveOwnPaths, is_covered, path_at, paths_at, paired};
+ghost use Rattle.zarrs_path.specs.Paths.{relative_names};
+ghost use Rattle.zarrs_form.specs.Forms.{is_nil};
+ghost use Rattle.zarrs_block.specs.Block.{Entries, HasValidKeys, IsAscending, IsValidKey, found};
+ghost use Rattle.zarrs_block.specs.Expanded.{RefusesKeys, HaveOwnPaths, is_covered, paths_at, paired};
 ghost use Rattle.zarrs_block.specs.Order.{Ascend};
 
 use crate::consolidated::{ConsolidatedMetadata, ConsolidatedMetadataMetadata};
 use crate::node_create_error::NodeCreateError;
+use crate::without::keys_below;
+use serde_json::Map;
 use std::alloc::{AllocError, Global};
 use zarrs_meta::NodeMetadata;
 use zarrs_path::{NodePath, NodePathError};
@@ -49,50 +54,31 @@ pub(crate) fn pairs_of(
     ensures err { IfErr result (RefusesKeys block.metadata) }
 {
     let ConsolidatedMetadata { metadata } = block;
-    let paths = paths_of(alloc, path, &metadata)?;
-    Ok(pair_up(alloc, paths, metadata)?)
-}
-
-// The path of each key, in the order of the keys, or `None` where the key is passed over.
-fn paths_of(
-    alloc: Global,
-    base: &NodePath,
-    block: &ConsolidatedMetadataMetadata,
-) -> Result<Vec<Option<NodePath>>, NodeCreateError>
-    ensures paths { IfOk result (λ paths. paths.items ≡ paths_at base.now block.now block.now) }
-    ensures keys { IfOk result (λ _. HasValidKeys block.now) }
-    ensures ordered { IfOk result (λ _. IsAscending block.now) }
-    ensures err { IfErr result (RefusesKeys block.now) }
-{
-    let mut paths = Vec::new(alloc);
-    for (key, _metadata) in block.as_map().iter() {
-        match path_of(alloc, base, block, key.as_str()) {
-            Ok(path) => paths.push(path)?,
-            Err(error) => return Err(NodeCreateError::NodePathError(error)),
+    let covered = covered_keys(alloc, &metadata)?;
+    let mut all = Vec::new(alloc);
+    for (key, metadata) in metadata.into_map() {
+        match path_of(alloc, path, &covered, key.as_str())? {
+            Some(path) => all.push((path, metadata))?,
+            None => drop(metadata),
         }
     }
-    Ok(paths)
+    Ok(all)
 }
 
-// The path of a key, or `None` for a key of the base itself, and for a key behind a slash where the block has the key without it.
-fn path_of(
+// The keys behind a slash where the block has the key without it. Those behind a slash stand together.
+fn covered_keys(
     alloc: Global,
-    base: &NodePath,
     block: &ConsolidatedMetadataMetadata,
-    key: &str,
-) -> Result<Option<NodePath>, NodePathError>
-    ensures path { IfOk result (λ path. path ≡ path_at base.now block.now key.now) }
-    ensures valid { IfOk result (λ _. IsValidKey key.now) }
-    ensures err { IfErr result (RefusesJoin key.now) }
+) -> Result<Map<String, ()>, AllocError>
+    ensures { IfOk result (λ covered. (t : List ℕ) → IsSome (found block.now t) → is_some (get_by_text covered t) ≡ is_covered block.now t) }
 {
-    let path = base.join(alloc, key)?;
-    if path.is_below(base) {
-        if is_covered(block, key) {
-            return Ok(None);
+    let mut covered = Map::new(alloc);
+    for key in keys_below(alloc, block, "")? {
+        if is_covered(block, key.as_str()) {
+            drop(covered.insert(key, ())?);
         }
-        return Ok(Some(path));
     }
-    Ok(None)
+    Ok(covered)
 }
 
 // Whether the key begins with a slash, and the block has what stands behind that.
@@ -105,20 +91,23 @@ fn is_covered(block: &ConsolidatedMetadataMetadata, key: &str) -> bool
     }
 }
 
-// The paths that there are, with the metadata of the keys.
-fn pair_up(
+// The path of a key, or `None` for a key of the base itself, and for a covered key.
+fn path_of(
     alloc: Global,
-    paths: Vec<Option<NodePath>>,
-    block: ConsolidatedMetadataMetadata,
-) -> Result<Vec<(NodePath, NodeMetadata)>, AllocError>
-    ensures { IfOk result (λ all. all.items ≡ paired paths.items block) }
+    base: &NodePath,
+    covered: &Map<String, ()>,
+    key: &str,
+) -> Result<Option<NodePath>, NodePathError>
+    ensures path { IfOk result (λ path. path ≡ (if is_nil (relative_names key.now) || is_some (get_by_text covered.now key.now) then None else Some (base.now ++ relative_names key.now))) }
+    ensures valid { IfOk result (λ _. IsValidKey key.now) }
+    ensures err { IfErr result (RefusesJoin key.now) }
 {
-    let mut all = Vec::new(alloc);
-    let mut rest = paths.into_iter();
-    for (_key, metadata) in block.into_map() {
-        if let Some(Some(path)) = rest.next() {
-            all.push((path, metadata))?;
-        }
+    if key.is_empty() || key == "/" {
+        return Ok(None);
     }
-    Ok(all)
+    let path = base.join(alloc, key)?;
+    match covered.get(key) {
+        Some(_) => Ok(None),
+        None => Ok(Some(path)),
+    }
 }

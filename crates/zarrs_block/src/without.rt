@@ -61,7 +61,7 @@ fn cut(alloc: Global, block: &mut ConsolidatedMetadataMetadata, key: &str) -> Re
 
 // The keys of a block that begin with a key and a slash. They stand together in the order of the keys, before the key and a `0`, which is
 // the character behind the slash.
-fn keys_below(
+pub(crate) fn keys_below(
     alloc: Global,
     block: &ConsolidatedMetadataMetadata,
     key: &str,

@@ -1,18 +1,20 @@
-use Rattle.std.proofs.Common.{sym, ◌∙◌}
-use Rattle.zarrs_path.specs.Paths.{relative_names}
-use Rattle.zarrs_block.proofs.KeyLaws.{valid_joined, below_some, own_path}
+use Rattle.std.proofs.Common.{inl, inr, sym, ◌∙◌}
+use Rattle.std.proofs.lemmas.Slice.Eq.{bytes_eq-Decides}
+use Rattle.zarrs_block.proofs.Covered.{own_key, empty_text}
+use Rattle.zarrs_block.proofs.KeyLaws.{valid_joined}
+use Rattle.zarrs_block.proofs.expand.path_of.Goals.{then-is_empty-via-then-is_empty, then-is_empty-via-else-is_empty+then-eq}
 use Rattle.zarrs_block.proofs.expand.path_of.Goals as goal
 
-pub returns-then-is_covered-clause-valid : goal.returns-then-is_covered-clause-valid
-returns-then-is_covered-clause-valid c = valid_joined c.args.base.now c.in_ok-path.path c.args.key.now c.in_ok-path.ensures.ok c.in_ok-path.ensures.valid
-
-pub returns-then-is_below-clause-path : goal.returns-then-is_below-clause-path
-returns-then-is_below-clause-path c =
-    let b = c.args.base.now in
+pub returns-then-is_empty-clause-valid : goal.returns-then-is_empty-clause-valid
+returns-then-is_empty-clause-valid c =
     let t = c.args.key.now in
-    let p = c.in_ok-path.path in
-    own_path b c.args.block.now t p c.in_ok-path.ensures.ok (below_some b (relative_names t) p c.in_ok-path.ensures.ok (c.is_below.ensures.below.0 c.if-is_below.true))
-    (sym c.is_covered.ensures ∙ c.if-is_covered.false)
+    elim c.then-is_empty.branch [
+      | then-is_empty-via-then-is_empty w ↦ own_key t (inl (empty_text t (sym c.is_empty.ensures ∙ w.if-is_empty.true)))
+      | then-is_empty-via-else-is_empty+then-eq w ↦ own_key t (inr ((bytes_eq-Decides t _).0 (sym w.eq.ensures ∙ w.if-eq.true)))
+    ]
 
-pub returns-then-is_below-clause-valid : goal.returns-then-is_below-clause-valid
-returns-then-is_below-clause-valid c = valid_joined c.args.base.now c.in_ok-path.path c.args.key.now c.in_ok-path.ensures.ok c.in_ok-path.ensures.valid
+pub returns-in-Some-clause-valid : goal.returns-in-Some-clause-valid
+returns-in-Some-clause-valid c = valid_joined c.args.base.now c.in_ok-path.path c.args.key.now c.in_ok-path.ensures.ok c.in_ok-path.ensures.valid
+
+pub returns-in-None-clause-valid : goal.returns-in-None-clause-valid
+returns-in-None-clause-valid c = valid_joined c.args.base.now c.in_ok-path.path c.args.key.now c.in_ok-path.ensures.ok c.in_ok-path.ensures.valid
