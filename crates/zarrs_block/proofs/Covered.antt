@@ -1,5 +1,5 @@
 -- The keys behind a slash that a key without it covers.
-use Rattle.std.proofs.Common.{◌≡◌, ◌≢◌, ◌⊎◌, inl, inr, ℕ, Bool, true, false, true≢false, if◌then◌else◌, ◌&&◌, ◌||◌, rules, cond, List, [], ◌∷◌, ◌++◌, String, Global, string_bytes, string_cmp, Option, Some, None, IsSome, is_some, refl, sym, ap, subst, ◌∙◌, length, arith}
+use Rattle.std.proofs.Common.{◌≡◌, ◌⊎◌, inl, inr, ℕ, Bool, true, false, true≢false, if◌then◌else◌, ◌&&◌, ◌||◌, rules, cond, List, [], ◌∷◌, ◌++◌, String, Global, string_bytes, string_cmp, Option, Some, None, IsSome, is_some, refl, sym, ap, subst, ◌∙◌, length, arith}
 use Rattle.std.specs.Prelude.{◌==◌}
 use Rattle.std.specs.BTreeMap.{BTreeMap, get_by_text, UpdatesBy}
 use Rattle.std.specs.Cmp.{both_ways}
@@ -8,9 +8,8 @@ use Rattle.std.proofs.lemmas.Bool.{eqb-true}
 use Rattle.std.proofs.lemmas.Map.Text.{btree_map_updates_text}
 use Rattle.std.proofs.lemmas.Slice.Eq.{bytes_eq-Decides}
 use Rattle.zarrs_store.specs.Segments.{is_slash}
-use Rattle.zarrs_store.proofs.Cuts.{parts_some}
 use Rattle.zarrs_form.specs.Forms.{is_nil}
-use Rattle.zarrs_path.specs.Paths.{Path, relative_names, parts}
+use Rattle.zarrs_path.specs.Paths.{Path, relative_names}
 use Rattle.zarrs_block.specs.Block.{Block, found, IsValidKey}
 use Rattle.zarrs_block.specs.Expanded.{is_covered, path_at}
 use Rattle.zarrs_block.specs.Without.{Among, Begins, AreBelow}
@@ -106,24 +105,6 @@ own_key t (inr is) = ([], refl, inr is)
 pub empty_text : (t : List ℕ) → (length t == 0) ≡ true → t ≡ []
 empty_text [] h = refl
 empty_text (c ∷ t) h = let none : length (c ∷ t) ≡ 0 = eqb-true (length (c ∷ t)) 0 h in absurd (omega (arith, none))
-
--- any other text has names
-pub has_names : (t : List ℕ) → (t ≢ []) → (t ≢ 47 ∷ []) → is_nil (relative_names t) ≡ false
-has_names [] some other = absurd (some refl)
-has_names (c ∷ t) some other = by (is_slash c) refl t refl
-  where
-    cut : (u : List ℕ) (p : List (List ℕ)) → parts (c ∷ u) ≡ p → is_nil p ≡ false
-    cut u [] is = absurd (parts_some (c ∷ u) is)
-    cut u (n ∷ ns) is = refl
-
-    rest : (d : ℕ) (u : List ℕ) (p : List (List ℕ)) → parts (d ∷ u) ≡ p → is_nil p ≡ false
-    rest d u [] is = absurd (parts_some (d ∷ u) is)
-    rest d u (n ∷ ns) is = refl
-
-    by : (b : Bool) → is_slash c ≡ b → (u : List ℕ) → t ≡ u → is_nil (parts (cond b u (c ∷ u))) ≡ false
-    by false s u is = cut u (parts (c ∷ u)) refl
-    by true s [] is = absurd (other (λ i. eqb-true c 47 s i ∷ is i))
-    by true s (d ∷ u) is = rest d u (parts (d ∷ u)) refl
 
 -- what was asked of the keys that are covered is the path that a key adds
 pub path_asked : (b : Path) (B : Block) (covered : Keys) (t u : List ℕ) (o : Option Path) → u ≡ t

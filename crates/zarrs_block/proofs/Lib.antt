@@ -9,6 +9,7 @@ pub mod BlockLaws
 pub mod KeyLaws
 pub mod Expansion
 pub mod Covered
+pub mod PlainKeys
 pub mod InOrder
 pub mod BlockReads
 pub mod CutOut

@@ -55,7 +55,7 @@ pub own_key : (k : Segments) → is_eq (key_cmp k k) ≡ true
 own_key k = ap is_eq (tied_itself key_cmp_total k)
 
 -- keys behind the same segments are in their own order
-key_cmp-append : (b j k : Segments) → key_cmp (b ++ j) (b ++ k) ≡ key_cmp j k
+pub key_cmp-append : (b j k : Segments) → key_cmp (b ++ j) (b ++ k) ≡ key_cmp j k
 key_cmp-append [] j k = refl
 key_cmp-append (s ∷ b) j k = ap (λ r. ordering_then r (key_cmp (b ++ j) (b ++ k))) (tied_itself nat_list_cmp_total s) ∙ key_cmp-append b j k
 

@@ -1,5 +1,6 @@
 -- Zarr core specification 3.1, "Group metadata", the field `consolidated_metadata`: how the keys of a block are read as paths below a base.
-use Rattle.std.specs.Prelude.{◌≢◌, ℕ, Bool, false, ◌&&◌, ◌||◌, if◌then◌else◌, List, [], ◌∷◌, ◌++◌, Option, Some, None, is_some, IsSome, AllPairs, map}
+use Rattle.std.specs.Prelude.{◌≡◌, ◌≢◌, nat_lt, ℕ, Bool, false, ◌&&◌, ◌||◌, if◌then◌else◌, List, [], ◌∷◌, ◌++◌, Option, Some, None, is_some, IsSome, AllPairs, map}
+use Rattle.std.specs.List.{list_any}
 use Rattle.zarrs_store.specs.Segments.{is_slash}
 use Rattle.zarrs_path.specs.Paths.{Path, relative_names}
 use Rattle.zarrs_path.specs.PathErrors.{RefusesJoin}
@@ -37,6 +38,14 @@ is_covered B (c ∷ t) = is_slash c && is_some (found B t)
 -- the path that a key adds: none for the base's own keys, and for a key that a key without a slash covers
 abbrev pub path_at : Path → Block → List ℕ → Option Path
 path_at b B t = if is_nil (relative_names t) || is_covered B t then None else Some (b ++ relative_names t)
+
+-- the byte is below the slash
+abbrev pub is_low : ℕ → Bool
+is_low c = nat_lt c 47
+
+-- the key begins with no slash, and no byte of it is below the slash: such keys ascend as their paths do
+abbrev pub IsPlainKey : List ℕ → Type 0
+IsPlainKey t = ((rest : List ℕ) → t ≢ 47 ∷ rest) × (list_any is_low t ≡ false)
 
 -- the path of each key of the entries
 abbrev pub paths_at : Path → Block → Block → List (Option Path)

@@ -1,12 +1,13 @@
 //! The nodes of a consolidated block, at their paths.
-ghost use Rattle.std.specs.Prelude.{◌≡◌, ◌||◌, ◌++◌, ℕ, List, IfOk, IfErr, IsSome, Some, None, is_some, if◌then◌else◌};
+ghost use Rattle.std.specs.Prelude.{◌≡◌, ◌||◌, ◌++◌, ℕ, List, IfOk, IfErr, IsSome, IsTrue, Some, None, is_some, if◌then◌else◌};
 ghost use Rattle.std.specs.BTreeMap.{get_by_text};
+ghost use Rattle.std.specs.List.{list_any};
 ghost use Rattle.zarrs_store.specs.Contents.{Lists};
 ghost use Rattle.zarrs_path.specs.PathErrors.{RefusesJoin};
 ghost use Rattle.zarrs_path.specs.Paths.{relative_names};
 ghost use Rattle.zarrs_form.specs.Forms.{is_nil};
 ghost use Rattle.zarrs_block.specs.Block.{Entries, HasValidKeys, IsAscending, IsValidKey, found};
-ghost use Rattle.zarrs_block.specs.Expanded.{RefusesKeys, HaveOwnPaths, is_covered, paths_at, paired};
+ghost use Rattle.zarrs_block.specs.Expanded.{RefusesKeys, HaveOwnPaths, IsPlainKey, is_covered, is_low, paths_at, paired};
 ghost use Rattle.zarrs_block.specs.Order.{Ascend};
 
 use crate::consolidated::{ConsolidatedMetadata, ConsolidatedMetadataMetadata};
@@ -37,18 +38,22 @@ pub fn expand_consolidated_metadata(
     ensures keys { IfOk result (λ _. HasValidKeys block.metadata) }
     ensures err { IfErr result (RefusesKeys block.metadata) }
 {
-    let mut pairs = pairs_of(alloc, path, block)?;
+    let (mut pairs, ascend) = pairs_of(alloc, path, block)?;
+    if ascend {
+        return Ok(pairs);
+    }
     pairs.sort_by(|a, b| a.0.cmp(&b.0))?;
     Ok(pairs)
 }
 
-/// The nodes of a block below a path, in the order of their keys.
+/// The nodes of a block below a path, in the order of their keys, and whether it is known that their paths ascend.
 pub(crate) fn pairs_of(
     alloc: Global,
     path: &NodePath,
     block: ConsolidatedMetadata,
-) -> Result<Vec<(NodePath, NodeMetadata)>, NodeCreateError>
-    ensures pairs { IfOk result (λ all. all.items ≡ paired (paths_at path.now block.metadata block.metadata) block.metadata) }
+) -> Result<(Vec<(NodePath, NodeMetadata)>, bool), NodeCreateError>
+    ensures pairs { IfOk result (λ made. made.0.items ≡ paired (paths_at path.now block.metadata block.metadata) block.metadata) }
+    ensures ascend { IfOk result (λ made. IsTrue made.1 → Ascend made.0.items) }
     ensures keys { IfOk result (λ _. HasValidKeys block.metadata) }
     ensures ordered { IfOk result (λ _. IsAscending block.metadata) }
     ensures err { IfErr result (RefusesKeys block.metadata) }
@@ -56,13 +61,16 @@ pub(crate) fn pairs_of(
     let ConsolidatedMetadata { metadata } = block;
     let covered = covered_keys(alloc, &metadata)?;
     let mut all = Vec::new(alloc);
+    let mut plain = true;
     for (key, metadata) in metadata.into_map() {
-        match path_of(alloc, path, &covered, key.as_str())? {
+        let text = key.as_str();
+        plain = stay_plain(plain, text);
+        match path_of(alloc, path, &covered, text)? {
             Some(path) => all.push((path, metadata))?,
             None => drop(metadata),
         }
     }
-    Ok(all)
+    Ok((all, plain))
 }
 
 // The keys behind a slash where the block has the key without it. Those behind a slash stand together.
@@ -110,4 +118,33 @@ fn path_of(
         Some(_) => Ok(None),
         None => Ok(Some(path)),
     }
+}
+
+// Whether the keys before were plain, and this one is.
+fn stay_plain(plain: bool, key: &str) -> bool
+    ensures { IsTrue result → IsTrue plain × IsPlainKey key.now }
+{
+    plain && is_plain(key)
+}
+
+// Whether the key begins with no slash, and has no byte below the slash: where all do, they ascend as their paths do.
+fn is_plain(key: &str) -> bool
+    ensures { IsTrue result → IsPlainKey key.now }
+{
+    match key.strip_prefix('/') {
+        Some(_) => false,
+        None => !has_low(key),
+    }
+}
+
+// Whether a byte of the text is below the slash.
+fn has_low(text: &str) -> bool
+    ensures { result ≡ list_any is_low text.now }
+{
+    for byte in text.as_bytes() {
+        if *byte < b'/' {
+            return true;
+        }
+    }
+    false
 }

@@ -41,7 +41,7 @@ impl ConsolidatedMetadata {
         ensures err { IfErr result (RefusesZmetadata self.now.metadata) }
     {
         let root = NodePath::root(alloc)?;
-        let pairs = pairs_of(alloc, &root, self.try_clone(alloc)?)?;
+        let (pairs, _ascend) = pairs_of(alloc, &root, self.try_clone(alloc)?)?;
         let mut documents = documents_of(alloc, pairs)?;
         put_group(&mut documents, alloc, &root, group.try_clone(alloc)?)?;
         let mut all = Map::new(alloc);

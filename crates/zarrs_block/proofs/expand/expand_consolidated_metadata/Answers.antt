@@ -6,6 +6,18 @@ use Rattle.zarrs_block.proofs.Expansion.{entries_listed, own_paths}
 use Rattle.zarrs_block.proofs.InOrder.{sorted_by_path, own_moved, lists_moved, sorted_ascend}
 use Rattle.zarrs_block.proofs.expand.expand_consolidated_metadata.Goals as goal
 
+pub returns-then-ascend-clause-entries : goal.returns-then-ascend-clause-entries
+returns-then-ascend-clause-entries c =
+    let b = c.args.path.now in
+    let B = c.args.block.metadata in
+    subst (Lists (Entries B b)) (sym c.in_ok-pairs.ensures.pairs) (entries_listed b B c.in_ok-pairs.ensures.ordered c.in_ok-pairs.ensures.keys)
+
+pub returns-then-ascend-clause-once : goal.returns-then-ascend-clause-once
+returns-then-ascend-clause-once c =
+    let b = c.args.path.now in
+    let B = c.args.block.metadata in
+    subst HaveOwnPaths (sym c.in_ok-pairs.ensures.pairs) (own_paths b B c.in_ok-pairs.ensures.ordered c.in_ok-pairs.ensures.keys)
+
 pub returns-clause-entries : goal.returns-clause-entries
 returns-clause-entries c =
     let b = c.args.path.now in
