@@ -1,13 +1,7 @@
 -- The field of the block among the additional fields: set, removed, and read again.
-use Rattle.std.proofs.Common.{◌≡◌, ℕ, List, [], ◌∷◌, Bool, true, false, if◌then◌else◌, String, Global, Option, Some, None, option_and_then, string_bytes, nat_cmp, bytes_eq, cond, codes, refl, ap, sym, ◌∙◌}
-use Rattle.std.proofs.Math.Bool.{or-false}
-use Rattle.std.specs.Map.{lookup, remove_entry}
-use Rattle.std.specs.BTreeMap.{is_at}
-use Rattle.std.specs.Cmp.Lexicographic.{slice_cmp}
+use Rattle.std.proofs.Common.{◌≡◌, ℕ, List, [], ◌∷◌, Bool, true, false, if◌then◌else◌, Option, Some, None, option_and_then, codes, refl, ap, ◌∙◌}
 use Rattle.std.specs.Result.{result_ok}
-use Rattle.std.proofs.lemmas.Map.Text.{is_eq-slice_cmp}
 use Rattle.serde_json.specs.Data.{Data, Members, no_members, member}
-use Rattle.serde_json.specs.View.{members_of}
 use Rattle.serde_json.proofs.Views.{get_member-put}
 use Rattle.zarrs_form.specs.Documents.{is_own, besides, has_own}
 use Rattle.zarrs_form.proofs.MemberLaws.{get-others}

@@ -1,5 +1,5 @@
 -- What a sink took of a walk.
-use Rattle.std.proofs.Common.{◌≡◌, Bool, Option, Some, None, Ok, true, List, [], ◌∷◌, ◌++◌, map, reverse, refl, sym, ap, subst, ◌∙◌, append-nil, append_assoc, Contains, ◌↔◌}
+use Rattle.std.proofs.Common.{◌≡◌, Bool, Option, Ok, true, List, [], ◌∷◌, ◌++◌, map, reverse, refl, sym, ap, subst, ◌∙◌, append-nil, append_assoc, Contains, ◌↔◌}
 use Rattle.std.specs.Global.{Vec}
 use Rattle.std.specs.List.{flat_map}
 use Rattle.zarrs_path.specs.Paths.{Path, IsPath}

@@ -1,5 +1,5 @@
 -- Lists that list what has a property, and what holds between their items.
-use Rattle.std.proofs.Common.{suc, ◌≡◌, ◌≢◌, ◌↔◌, ⊎_elim, List, [], ◌∷◌, ◌++◌, get_or, sym, subst, append_assoc, append-nil, arith, Contains, AllPairs}
+use Rattle.std.proofs.Common.{suc, ◌≢◌, ◌↔◌, ⊎_elim, List, [], ◌∷◌, ◌++◌, get_or, sym, subst, append_assoc, append-nil, arith, Contains, AllPairs}
 use Rattle.std.proofs.lemmas.List.Elements.{Contains-push_cases, Contains-get_or}
 use Rattle.std.proofs.lemmas.List.Quantifiers.{all_pairs_push}
 use Rattle.zarrs_store.specs.Contents.{Lists}

@@ -6,7 +6,6 @@ use Rattle.std.proofs.lemmas.List.{append_cancel_left}
 use Rattle.std.specs.Cmp.{tied_itself}
 use Rattle.std.specs.Cmp.Lexicographic.{nat_list_cmp_total}
 use Rattle.zarrs_path.specs.Paths.{Path, path_cmp}
-use Rattle.zarrs_store.specs.Segments.{bytes_cmp}
 use Rattle.zarrs_meta.specs.declared.node.NodeMetadata.{NodeMetadata}
 use Rattle.zarrs_node.specs.declared.node.Node.{Node}
 use Rattle.zarrs_node.specs.declared.node.Node.TheOpen.{Node-F}

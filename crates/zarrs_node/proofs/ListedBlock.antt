@@ -1,5 +1,5 @@
 -- The block of the nodes that a listing finds.
-use Rattle.std.proofs.Common.{◌≡◌, ◌≢◌, true, List, [], ◌∷◌, ◌++◌, sym, ap, subst, ◌∙◌, get_or, AllPairs, Contains}
+use Rattle.std.proofs.Common.{◌≡◌, ◌≢◌, true, List, [], ◌∷◌, ◌++◌, sym, ap, subst, ◌∙◌, get_or, AllPairs}
 use Rattle.zarrs_store.specs.Contents.{Lists}
 use Rattle.zarrs_path.specs.Paths.{Path, path_cmp}
 use Rattle.zarrs_block.specs.Block.{Block, IsAscending, IsBlockOf}

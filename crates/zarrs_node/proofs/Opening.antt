@@ -1,5 +1,5 @@
 -- What an opened node shows, and what refuses its opening.
-use Rattle.std.proofs.Common.{◌≡◌, ℕ, ◌⊎◌, inl, inr, ⊎_elim, ◌↔◌, Bool, true, false, List, refl, sym, ap, subst, ◌∙◌, Option, Some, None, Result, Ok, Err, IfOk, IfErr, Contains, true≢false, arith, [], ◌∷◌}
+use Rattle.std.proofs.Common.{◌≡◌, ℕ, ◌⊎◌, inl, inr, ⊎_elim, Bool, true, false, List, refl, sym, subst, Option, Some, None, Result, Ok, Err, IfOk, IfErr, Contains, true≢false}
 use Rattle.zarrs_store.specs.Contents.{Contents, Lists}
 use Rattle.zarrs_path.specs.Paths.{Path, IsPath, path_text}
 use Rattle.zarrs_path.specs.PathErrors.{RefusesPath}

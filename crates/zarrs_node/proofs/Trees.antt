@@ -1,12 +1,12 @@
 -- The tree of a node.
 use Rattle.std.proofs.lemmas.List.{take-append-drop, drop_more}
-use Rattle.std.proofs.Common.{◌≡◌, ◌↔◌, ℕ, suc, ◌+◌, ◌<◌, ◌≤◌, List, [], ◌∷◌, ◌++◌, length, get_or, take, drop, append-nil, append_assoc, ap, sym, subst, ◌∙◌, add-one, drop-cons, refl, arith}
+use Rattle.std.proofs.Common.{◌≡◌, ◌↔◌, ℕ, suc, ◌+◌, ◌<◌, ◌≤◌, List, [], ◌∷◌, ◌++◌, length, get_or, take, drop, ap, sym, subst, ◌∙◌, add-one, drop-cons, refl, arith}
 use Rattle.zarrs_path.specs.Paths.{Path}
 use Rattle.zarrs_meta.specs.declared.node.NodeMetadata.{NodeMetadata}
 use Rattle.zarrs_node.specs.declared.node.Node.{Node}
-use Rattle.zarrs_node.specs.Forest.{Forest, graft, plant, pairs, tree, none, forest, IsChildOf, ArePlacedBelow, HasPlacedChildren, path_of, metadata_of, below_of}
+use Rattle.zarrs_node.specs.Forest.{Forest, graft, plant, tree, none, forest, IsChildOf, ArePlacedBelow, HasPlacedChildren, path_of, metadata_of, below_of}
 use Rattle.zarrs_node.specs.Weights.{children_of, weight, weights}
-use Rattle.zarrs_node.proofs.Graft.{plant_out, forest_push, pairs-graft}
+use Rattle.zarrs_node.proofs.Graft.{plant_out, forest_push}
 use Rattle.zarrs_node.proofs.Sizes.{weight_out, weights-append}
 
 -- the tree of a node is its path, its metadata and what is below it

@@ -1,4 +1,4 @@
-use Rattle.std.proofs.Common.{sym, ap, ◌∙◌, refl}
+use Rattle.std.proofs.Common.{sym, ap, ◌∙◌}
 use Rattle.zarrs_node.specs.Forest.{forest, graft}
 use Rattle.zarrs_node.specs.Plug.{plug}
 use Rattle.zarrs_node.proofs.Grow.{graft_none}
