@@ -51,18 +51,6 @@ module _ (B : Block) (covered : Keys) (left : List (List ℕ)) (k : List ℕ) (k
   here : AreGathered B covered (k ∷ ks)
   here = subst (AreGathered B covered) is h
 
-  -- a key that is not covered is passed over
-  pub key_passed : is_covered B k ≡ false → AreGathered B covered ks
-  key_passed bare = record {
-    sound = here.sound;
-    whole = λ t some is_cov. by t is_cov (here.whole t some is_cov);
-  }
-    where
-      by : (t : List ℕ) → is_covered B t ≡ true → (is_some (get_by_text covered t) ≡ true) ⊎ Among (k ∷ ks) t → (is_some (get_by_text covered t) ≡ true) ⊎ Among ks t
-      by t is_cov (inl has) = inl has
-      by t is_cov (inr (inl same)) = absurd (true≢false (sym is_cov ∙ ap (is_covered B) same ∙ bare))
-      by t is_cov (inr (inr later)) = inr later
-
   -- one that is covered is gathered
   pub key_put : (new : Keys) (s : String Global) → string_bytes s ≡ k → is_covered B k ≡ true → UpdatesBy string_cmp (string_cmp s) covered new (Some tt) → AreGathered B new ks
   key_put new s text cov there = record {
@@ -85,14 +73,6 @@ module _ (B : Block) (covered : Keys) (left : List (List ℕ)) (k : List ℕ) (k
       by t (inl has) = inl (ap is_some (now t) ∙ still t (bytes_eq k t) has)
       by t (inr (inl same)) = inl (ap is_some (now t) ∙ ap (λ b. is_some (cond b (Some tt) (get_by_text covered t))) ((bytes_eq-Decides k t).1 (sym same)))
       by t (inr (inr later)) = inr later
-
--- where none is left, the map has the covered keys of the block
-pub all_covered : (B : Block) (covered : Keys) (left : List (List ℕ)) → left ≡ [] → AreGathered B covered left → (t : List ℕ) → IsSome (found B t) → is_some (get_by_text covered t) ≡ is_covered B t
-all_covered B covered left none h t some = both_ways (is_some (get_by_text covered t)) (is_covered B t) (h.sound t) (λ is_cov. by (h.whole t some is_cov))
-  where
-    by : (is_some (get_by_text covered t) ≡ true) ⊎ Among left t → is_some (get_by_text covered t) ≡ true
-    by (inl has) = has
-    by (inr more) = absurd (subst (λ ks. Among ks t) none more)
 
 -- ---- the base's own keys
 

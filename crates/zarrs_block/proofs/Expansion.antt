@@ -232,10 +232,6 @@ IsExpanding b B all left =
     (all ++ pairs_by b B left ≡ pairs_by b B B) × (AllByRecursion (λ e. IsValidKey e.0) left → AllByRecursion (λ e. IsValidKey e.0) B)
     × ((t : List ℕ) → IsSome (found left t) → IsSome (found B t))
 
--- at first there are none
-pub none_expanded : (b : Path) (B : Block) (all : List (Path × NodeMetadata)) (left : Block) → all ≡ [] → left ≡ B → IsExpanding b B all left
-none_expanded b B all left none is = subst (λ L. IsExpanding b B all L) (sym is) (ap (λ es. es ++ pairs_by b B B) none, λ h. h, λ t h. h)
-
 module _ (b : Path) (B : Block) (all : List (Path × NodeMetadata)) (left : Block) (e : List ℕ × NodeMetadata) (es : Block) (is : left ≡ e ∷ es) (h : IsExpanding b B all left) where
   then_here : IsExpanding b B all (e ∷ es)
   then_here = subst (IsExpanding b B all) is h

@@ -100,7 +100,3 @@ no_slash B (c ∷ t) h =
       | true ↦ λ s. absurd (h t (ap (λ d. d ∷ t) (eqb-true c 47 s)))
       | false ↦ λ _. refl
     ] refl
-
--- one that begins with a slash is covered where the block has the rest
-pub slash_covered : (B : Block) (t rest : List ℕ) → t ≡ 47 ∷ rest → is_some (found B rest) ≡ is_covered B t
-slash_covered B t rest e = ap (is_covered B) (sym e)

@@ -140,17 +140,6 @@ alone k (e ∷ es) h = member_later (string_bytes k) e es apart ∙ alone k es h
     apart : string_bytes k ≡ string_bytes e.0 → ⊥
     apart same = let both : true ≡ false = sym (at_itself (string_bytes k)) ∙ ap (λ t. is_eq (bytes_cmp (string_bytes k) t)) same ∙ ap is_eq h.0 in cc
 
--- at first all members are left
-pub none_gathered : (es left : List Entry) (got : Gathered) → left ≡ es → ((t : List ℕ) (file : File) → got t file ≡ None) → IsStrictlySortedBy string_cmp (keys_of es) → IsGathered (members_view es) got left
-none_gathered es left got is none up = record {
-  up = subst (λ xs. IsStrictlySortedBy string_cmp (keys_of xs)) (sym is) up;
-  here = λ t file.
-      first_none (member_at (members_view es) t file)
-      ∙ ap (first_tree (member_at (members_view es) t file)) (sym (none t file))
-      ∙ ap (λ xs. first_tree (member_at (members_view xs) t file) (got t file)) (sym is);
-  named = ap (λ xs. are_named (members_view xs)) (sym is);
-}
-
 module _ (ms : Members) (got : Gathered) (left : List Entry) (e : Entry) (es : List Entry) (is : left ≡ e ∷ es) (h : IsGathered ms got left) where
   -- what was gathered before this member
   before : IsGathered ms got (e ∷ es)
@@ -200,24 +189,6 @@ module _ (ms : Members) (got : Gathered) (left : List Entry) (e : Entry) (es : L
       by t other false at =
           ap (λ o. first_tree o (got t other)) (member_later (t ++ 47 ∷ file_name other) e es (apart t other at))
           ∙ ap (λ o. first_tree (member_at (members_view es) t other) o) (sym (fresh t other ∙ ap (λ b. if b then Some (view e.1) else got t other) at))
-
-  -- one that counts below no names is refused
-  pub names_are_bad : is_below (string_bytes e.0) ≡ true → list_all is_name (before_last (stretches (string_bytes e.0))) ≡ false → are_named ms ≡ false
-  names_are_bad counts bad =
-      before.named ∙ named_cons (string_bytes e.0) (view e.1) (members_view es)
-      ∙ ap (λ b. if b then list_all is_name (before_last (stretches (string_bytes e.0))) && are_named (members_view es) else are_named (members_view es)) counts
-      ∙ ap (λ b. b && are_named (members_view es)) bad
-
-  -- a refusal of its name is one of the members
-  pub refused_place : (fault : MetadataFault) → IsPlace (string_bytes e.0) (Err fault) → RefusesNames ms fault
-  refused_place NotJson refused = absurd refused
-  refused_place UnsupportedNumber refused = absurd refused
-  refused_place NotAnObject refused = absurd refused
-  refused_place WrongFormat refused = absurd refused
-  refused_place WrongNodeType refused = absurd refused
-  refused_place (MissingMember name) refused = absurd refused
-  refused_place (BadMember name) refused = (refused.0, names_are_bad refused.1 refused.2)
-  refused_place OutOfMemory refused = tt
 
 -- where none is left, all are gathered
 pub all_gathered : (ms : Members) (got : Gathered) (left : List Entry) → left ≡ [] → IsGathered ms got left → ((t : List ℕ) (file : File) → got t file ≡ member_at ms t file) × IsTrue (are_named ms)
@@ -317,10 +288,6 @@ module _ (at : List ℕ → File → Option Data) (B : Block) (left : List Run) 
   -- what was read before these documents
   then_read : IsRead at B (run ∷ runs)
   then_read = subst (IsRead at B) is h
-
-  -- the numbers of these documents fit
-  pub this_fits : HaveNoFloat (tree_in run.documents)
-  this_fits = then_read.fit.0
 
   -- nothing is left behind them at their text
   none_more : (t : List ℕ) → is_of t run ≡ true → left_at runs t ≡ None

@@ -39,10 +39,6 @@ module _ (n : List ℕ) (h : IsName n) where
   pub name_nonempty : IsTrue (is_nonempty n)
   name_nonempty = (and_parts (is_nonempty n) (has_no_slash n && (not (is_all_periods n) && not (is_reserved n))) h).0
 
-  -- a name holds no slash
-  pub name_no_slash : IsTrue (has_no_slash n)
-  name_no_slash = (and_parts (has_no_slash n) (not (is_all_periods n) && not (is_reserved n)) clean).0
-
   -- a name is not made of periods only
   pub not_periods : is_all_periods n ≡ false
   not_periods = not-true (is_all_periods n) (and_parts (not (is_all_periods n)) (not (is_reserved n)) last_two).0

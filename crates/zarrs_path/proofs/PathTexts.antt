@@ -95,10 +95,6 @@ text_from_names rest h = record {
   text = path_text_some (slice_split is_slash rest) (parts_some rest) ∙ ap (λ t. 47 ∷ t) (join_with_byte-slice_split 47 rest);
 }
 
--- a slash alone is the text of the root
-pub root_text : IsPathText (47 ∷ [])
-root_text = record { path = []; valid = refl; text = refl }
-
 -- what follows the slash is nothing, or names
 pub names_from_text : (rest : List ℕ) → IsPathText (47 ∷ rest) → rest ≢ [] → IsPath (slice_split is_slash rest)
 names_from_text rest t some =

@@ -1,7 +1,8 @@
 //! Paths of nodes. Zarr core specification 3.1, "Paths".
 ghost use Rattle.std.specs.Prelude.{◌≡◌, ◌↔◌, [], ◌++◌, IsTrue, IfOk, IfErr, IfSome, string_bytes, option_copied, IsOkUnless};
 ghost use Rattle.std.specs.List.{slice_split};
-ghost use Rattle.zarrs_store.specs.Segments.{is_slash, IsPrefix};
+ghost use Rattle.zarrs_store.specs.Segments.{is_slash, last_segment, IsPrefix};
+ghost use Rattle.zarrs_path.specs.Names.{IsName};
 ghost use Rattle.zarrs_path.specs.Paths.{IsPath, IsPathText, path_text, IsBelow, IsParent, slashed, relative_names, without_leading_slash, first_bad};
 ghost use Rattle.zarrs_path.specs.PathErrors.{RefusesPath, RefusesJoin, RefusesPrefix};
 
@@ -217,12 +218,52 @@ impl NodePath {
         ensures err { IfErr result (RefusesPrefix prefix) }
         ensures segments { IsPrefix prefix }
     {
-        let text = slash_in_front(prefix)?;
+        let text = NodePath::text_of(prefix)?;
         if NodePath::validate(text.as_str()) {
             Ok(NodePath { text })
         } else {
             Err(NodePathError::Invalid(text))
         }
+    }
+
+    /// The path of a prefix whose segments are known to be names, made of the text of the prefix without a copy.
+    ///
+    /// # Errors
+    /// `AllocError` where memory for the slash of the root is wanting.
+    ///
+    /// Source: own.
+    pub fn from_valid_prefix(prefix: StorePrefix) -> Result<Self, AllocError>
+        requires { IsPath prefix }
+        ensures { IfOk result (λ path. path ≡ prefix) }
+    {
+        let text = NodePath::text_of(prefix)?;
+        Ok(NodePath { text })
+    }
+
+    /// Whether the last segment of a prefix is a name, so that the prefix is that of a path where the segments before it are names.
+    ///
+    /// Source: own.
+    pub fn ends_in_name(prefix: &StorePrefix) -> bool
+        ensures { IsTrue result ↔ IsName (last_segment prefix.now) }
+    {
+        is_name(prefix.name())
+    }
+
+    /// The text of a path with the segments of a prefix, also where a segment is no name: the last slash of the prefix's text is moved to
+    /// the front, in place.
+    ///
+    /// # Errors
+    /// `AllocError` where memory for the slash of the root is wanting.
+    ///
+    /// Source: own.
+    pub fn text_of(prefix: StorePrefix) -> Result<String, AllocError>
+        ensures ok { IfOk result (λ text. string_bytes text ≡ path_text prefix) }
+        ensures segments { IsPrefix prefix }
+    {
+        let mut text = prefix.into_string();
+        text.pop();
+        text.insert(0, '/')?;
+        Ok(text)
     }
 
     /// The prefix whose segments are the names of the path, which for the root is empty.
@@ -268,17 +309,6 @@ impl NodePath {
         let text = self.as_str();
         if self.is_root() { "" } else { text }
     }
-}
-
-// The text of a prefix with its last slash moved to the front; the root's for the empty prefix.
-fn slash_in_front(prefix: StorePrefix) -> Result<String, AllocError>
-    ensures ok { IfOk result (λ text. string_bytes text ≡ path_text prefix) }
-    ensures segments { IsPrefix prefix }
-{
-    let mut text = prefix.into_string();
-    text.pop();
-    text.insert(0, '/')?;
-    Ok(text)
 }
 
 // The text without one leading slash.

@@ -66,10 +66,6 @@ module _ (s : Contents) (b : Segments) where
     long : length (map last_segment cs) ≡ length cs
     long = length-map cs last_segment
 
-    -- what stands at a place of the children is a child
-    pub visible_at : (i : ℕ) (c : Segments) → i < length cs → c ≡ get_or cs i c → IsVisibleChild s b c
-    visible_at i c lt is = subst (IsVisibleChild s b) (sym is) (h.sound i c lt)
-
     -- each of the names is visible and has a key below it
     found_child : (n : List ℕ) → Contains (map last_segment cs) n → IsFalse (is_reserved n) × HasBelow s (b ++ n ∷ [])
     found_child n (k, lt, e) =

@@ -7,7 +7,7 @@ use Rattle.std.proofs.Common.{append_assoc}
 use Rattle.std.specs.Prelude.{All}
 use Rattle.std.proofs.lemmas.Bool.{eqb-false}
 use Rattle.std.proofs.lemmas.List.Sums.{AllPass-from_list_all, list_all-from_AllPass}
-use Rattle.std.proofs.lemmas.List.Elements.{All-nil, All-cons, All-head, All-tail}
+use Rattle.std.proofs.lemmas.List.Elements.{All-nil, All-cons, All-head, All-tail, All-append}
 use Rattle.std.proofs.lemmas.List.{append_cancel_right, append-nil, length-append}
 use Rattle.std.proofs.lemmas.List.Folds.{list_all-append}
 use Rattle.zarrs_store.specs.Segments.{Segments, is_slash, has_no_slash, is_nonempty, is_segment, last_segment, IsSegment, IsSegments, IsKey, IsKeyText, IsPrefix, IsPrefixText, segments_of, key_text, prefix_text}
@@ -203,6 +203,20 @@ pub prefix_text-key : (s : List ℕ) (p : Segments) → prefix_text (s ∷ p) �
 prefix_text-key s [] = append-nil (s ++ 47 ∷ [])
 prefix_text-key s (t ∷ p) = prefix_text-cons s (t ∷ p) ∙ ap (λ r. s ++ 47 ∷ r) (prefix_text-key t p) ∙ sym (append_assoc s (47 ∷ key_text (t ∷ p)) (47 ∷ []))
 
+-- the text of some segments and one more as a key is that of them as a prefix and the segment
+pub key_text-child : (p : Segments) (s : List ℕ) → key_text (p ++ s ∷ []) ≡ prefix_text p ++ s
+key_text-child [] s = refl
+key_text-child (n ∷ []) s = sym (ap (λ t. t ++ s) (prefix_text-cons n []) ∙ append_assoc n (47 ∷ []) s)
+key_text-child (n ∷ m ∷ p) s =
+    ap (λ t. n ++ 47 ∷ t) (key_text-child (m ∷ p) s) ∙ sym (ap (λ t. t ++ s) (prefix_text-cons n (m ∷ p)) ∙ append_assoc n (47 ∷ prefix_text (m ∷ p)) s)
+
+-- a prefix and one segment more is a key
+pub key_from_child : (p : Segments) (s : List ℕ) → IsPrefix p → IsTrue (is_segment s) → IsKey (p ++ s ∷ [])
+key_from_child p s h k = record {
+  some = λ e. let n = length-append p (s ∷ []) in let none : length (p ++ s ∷ []) ≡ 0 = ap length e in absurd (omega (arith, n, none));
+  each = All-append IsSegment p (s ∷ []) h (All-cons IsSegment s [] (segment_of_test s k) (All-nil IsSegment));
+}
+
 -- a key's text and a slash is a prefix's text
 pub prefix_from_key : (u : List ℕ) → IsKeyText u → IsPrefixText (u ++ 47 ∷ [])
 prefix_from_key u t =
@@ -233,10 +247,6 @@ prefix_open t h apart =
 -- the empty text is a prefix's
 pub prefix_from_nothing : IsPrefixText []
 prefix_from_nothing = record { prefix = []; valid = All-nil IsSegment; is = refl }
-
--- the text decides the prefix
-pub prefix_text-injective : (a b : Segments) → IsPrefix a → IsPrefix b → prefix_text a ≡ prefix_text b → a ≡ b
-prefix_text-injective a b h k e = sym (segments_of-prefix_text a (segments_test a h)) ∙ ap segments_of e ∙ segments_of-prefix_text b (segments_test b k)
 
 -- ---- the last segment of a prefix's text
 

@@ -23,11 +23,6 @@ least_up_to (suc most) (suc n) (suc k) h =
     let half = least_up_to most (suc n / 2) k (omega (arith, h, pow-succ' 2 k)) in
     omega (arith, half)
 
--- a number that a word holds has at most 64 digits
-pub digits_fit : (n : ℕ) → n < 2 ^ 64 → digits n ≤ 64
-unfolding digits
-digits_fit n h = least_up_to n n 64 h
-
 -- there are at most `most` of them
 up_to_most : (most n : ℕ) → digits_up_to most n ≤ most
 up_to_most zero n = omega arith
@@ -64,10 +59,6 @@ digits_least n (suc k) h =
 -- of n items at most `left` are left after `count` halvings: were n below a power of two, then that many rounds and what is left fit into it
 pub record Halved (n count left : ℕ) : Type 0 where
   pub rounds : (k : ℕ) → n < 2 ^ k → (r : ℕ) × (count + r ≡ k) × (left < 2 ^ r)
-
--- before the first round
-pub halved_start : (n left : ℕ) → left ≤ n → Halved n 0 left
-halved_start n left le = record { rounds = λ k h. (k, omega arith, omega (arith, le, h)) }
 
 halve : (count k left less r : ℕ) → count + r ≡ k → left < 2 ^ r → zero < left → less ≤ left / 2 → (s : ℕ) × ((count + 1) + s ≡ k) × (less < 2 ^ s)
 halve count k left less zero e h some small = absurd (omega (arith, h, some, pow-zero 2))

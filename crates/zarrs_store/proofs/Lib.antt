@@ -5,7 +5,6 @@ pub mod BelowLemmas
 pub mod ListLemmas
 pub mod ContentsLemmas
 pub mod Cuts
-pub mod Depths
 pub mod Below
 pub mod Ranges
 pub mod Runs

@@ -36,10 +36,6 @@ module _ {X : Type 0} (P : X → Type 0) (xs : List X) (i : ℕ) (inside : i ≤
       let lt : j < i = omega (arith, l, length-take-le i xs inside) in
       subst P (sym (get_or-take i xs j d lt)) (h j d lt)
 
-  -- and back
-  pub at_before : All P (take i xs) → (j : ℕ) (d : X) → j < i → P (get_or xs j d)
-  at_before h j d lt = subst P (get_or-take i xs j d lt) (h j d (omega (arith, lt, length-take-le i xs inside)))
-
   -- what holds at each place from i on holds of what is behind the first i
   pub all_from : ((j : ℕ) (d : X) → i ≤ j → j < length xs → P (get_or xs j d)) → All P (drop i xs)
   all_from h j d l = subst P (sym (get_or-drop i xs j d)) (h (i + j) d (omega arith) (omega (arith, l, length-drop i xs)))
@@ -326,10 +322,6 @@ module _ {X Y : Type 0} (f : X → Y) (es : List (Segments × X)) where
     module _ (gap : IsGap (keys_of (shown f es)) key i) where
       own_gap : IsGap (keys_of es) key i
       own_gap = subst (λ ks. IsGap ks key i) keys_of-shown gap
-
-      -- the gap is at a place of the entries, or behind them
-      pub gap_inside : i ≤ length es
-      gap_inside = omega (arith, own_gap.inside, length-keys_of es)
 
       -- the map has nothing at the key
       pub get_missing : finite.get (shown_map f es) key ≡ None

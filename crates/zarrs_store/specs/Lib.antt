@@ -3,6 +3,5 @@ pub mod Contents
 pub mod Faults
 pub mod Children
 pub mod Entries
-pub mod Depth
 pub mod Places
 pub mod Failing

@@ -25,7 +25,7 @@ pub fn discover_children<S: ListableStorageTraits>(
     ensures ok { IfOk result (λ children. AreVisibleChildren (S.contents storage.now) prefix.now children.items) }
     ensures err { IfErr result (IsStoreError (S.can_fail storage.now)) }
 {
-    let mut children = storage.list_dir(alloc, prefix)?.prefixes;
+    let mut children = storage.list_child_prefixes(alloc, prefix)?;
     children.retain(|child| is_visible(child));
     children.sort_unstable_by(|a, b| compare_names(a, b));
     Ok(children)

@@ -221,6 +221,25 @@ impl ListableStorageTraits for FaultStore {
         }
         self.inner.list_dir(alloc, prefix)
     }
+
+    /// The child prefixes directly below the prefix, ascending by their texts.
+    ///
+    /// # Errors
+    /// `StorageError::Fault` exactly where this is the place. `StorageError::OutOfMemory`.
+    fn list_child_prefixes(
+        &self,
+        alloc: Global,
+        prefix: &StorePrefix,
+    ) -> Result<Vec<StorePrefix>, StorageError>
+        ensures prefixes { IfOk result (λ prefixes. Lists (IsChildPrefix (held self.now) prefix.now) prefixes.items) }
+        ensures err { IfErr result (IsStoreError true) }
+        ensures place { (result ≡ Err StorageError.Fault) ↔ (self.now.place ≡ FaultAt.OnList prefix.now) }
+    {
+        if self.place.is_list(prefix) {
+            return Err(StorageError::Fault);
+        }
+        self.inner.list_child_prefixes(alloc, prefix)
+    }
 }
 
 impl WritableStorageTraits for FaultStore {

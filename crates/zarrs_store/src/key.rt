@@ -116,6 +116,18 @@ impl StoreKey {
         let text = String::from_str(alloc, self.text.as_str())?;
         Ok(StoreKey { text })
     }
+
+    /// The text that the key is made of, without a copy.
+    ///
+    /// Source: own.
+    pub fn into_string(self) -> String
+        ensures text { string_bytes result ≡ key_text self }
+        ensures valid { IsKey self }
+    {
+        let _valid = self.as_str();
+        let StoreKey { text } = self;
+        text
+    }
 }
 
 impl PartialEq for StoreKey {

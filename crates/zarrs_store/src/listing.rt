@@ -49,3 +49,32 @@ pub(crate) fn directly_below(
     }
     Ok((StoreKeysPrefixes { keys, prefixes }, comparisons))
 }
+
+// The child prefixes directly below the prefix, ascending by their texts: the keys below the prefix are those from `first` to before
+// `end`.
+pub(crate) fn children_below(
+    alloc: Global,
+    entries: &[(StoreKey, Vec<u8>)],
+    prefix: &StorePrefix,
+    first: usize,
+    end: usize,
+) -> Result<Vec<StorePrefix>, AllocError>
+    requires ascending { AreAscending entries.now }
+    requires valid { IsPrefix prefix.now }
+    requires range { IsRange (keys_of entries.now) prefix.now first end }
+    ensures { IfOk result (λ prefixes. prefixes.items ≡ child_prefixes prefix.now (keys_of entries.now)) }
+{
+    let mut prefixes = Vec::new(alloc);
+    let mut at = first;
+    while at < end {
+        let (key, _) = &entries[at];
+        at += 1;
+        let Some(name) = prefix.child_name(key) else {
+            continue;
+        };
+        let child = prefix.child(alloc, name)?;
+        at = end_near(entries, &child, at).0;
+        prefixes.push(child)?;
+    }
+    Ok(prefixes)
+}

@@ -7,7 +7,7 @@ ghost use Rattle.zarrs_store.specs.Places.{IsAt, IsGap, IsRange, digits};
 ghost use Rattle.std.specs.FinMap as map;
 
 use crate::key::StoreKey;
-use crate::listing::directly_below;
+use crate::listing::{children_below, directly_below};
 use crate::places::{place_of, range_of};
 use crate::prefix::StorePrefix;
 use crate::storage_error::StorageError;
@@ -194,6 +194,20 @@ impl ListableStorageTraits for MemoryStore {
         prefix: &StorePrefix,
     ) -> Result<StoreKeysPrefixes, StorageError> {
         Ok(self.list_dir_counted(alloc, prefix)?.0)
+    }
+
+    /// The child prefixes directly below the prefix, ascending by their texts. Memory is taken only for those, and no key is copied.
+    ///
+    /// # Errors
+    /// `StorageError::OutOfMemory`.
+    fn list_child_prefixes(
+        &self,
+        alloc: Global,
+        prefix: &StorePrefix,
+    ) -> Result<Vec<StorePrefix>, StorageError> {
+        let _valid = prefix.as_str();
+        let (first, end, _) = self.range_counted(prefix);
+        Ok(children_below(alloc, &self.entries, prefix, first, end)?)
     }
 }
 

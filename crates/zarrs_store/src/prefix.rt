@@ -3,7 +3,7 @@ ghost use Rattle.std.proofs.Common.{rules};
 ghost use Rattle.std.specs.Cmp.{partial_order_from_own_ties};
 ghost use Rattle.std.specs.Cmp.Rules.{comparing};
 ghost use Rattle.std.specs.Ordering.{on, as_partial_cmp};
-ghost use Rattle.zarrs_store.specs.Segments.{segments_of, key_text, prefix_text, last_segment, bytes_cmp, bytes_eq, IsPrefix, IsPrefixText};
+ghost use Rattle.zarrs_store.specs.Segments.{segments_of, key_text, prefix_text, last_segment, is_segment, bytes_cmp, bytes_eq, IsPrefix, IsPrefixText};
 ghost use Rattle.zarrs_store.specs.Faults.{RefusesPrefix};
 ghost use Rattle.std.specs.Prelude.{[], ◌∷◌, ◌++◌};
 ghost use Rattle.std.specs.Option.{option_map};
@@ -137,8 +137,26 @@ impl StorePrefix {
         text
     }
 
-    // The last segment, and for the empty prefix the empty text.
-    pub(crate) fn name(&self) -> &str
+    /// The key of the prefix and one segment more, in the room of a text, of which nothing else is left.
+    ///
+    /// # Errors
+    /// `AllocError`, where the text has no room and memory was refused.
+    ///
+    /// Source: own.
+    pub fn key_in(&self, mut text: String, segment: &str) -> Result<StoreKey, AllocError>
+        requires { IsTrue (is_segment segment.now) }
+        ensures { IfOk result (λ key. key ≡ self.now ++ segment.now ∷ []) }
+    {
+        text.clear();
+        text.push_str(self.as_str())?;
+        text.push_str(segment)?;
+        Ok(StoreKey::new_unchecked(text))
+    }
+
+    /// The last segment, and for the empty prefix the empty text.
+    ///
+    /// Source: own.
+    pub fn name(&self) -> &str
         ensures { result.now ≡ last_segment self.now }
     {
         let text = self.text.as_str();

@@ -81,6 +81,21 @@ pub trait ListableStorageTraits: Store {
         ensures keys { IfOk result (λ dir. Lists (IsChildKey (Self.contents self.now) prefix.now) dir.keys.items) }
         ensures prefixes { IfOk result (λ dir. Lists (IsChildPrefix (Self.contents self.now) prefix.now) dir.prefixes.items) }
         ensures err { IfErr result (IsStoreError (Self.can_fail self.now)) };
+
+    /// The child prefixes directly below the prefix, each once, in any order: those of `list_dir`, for a caller that wants no keys.
+    ///
+    /// # Errors
+    /// `StorageError::Fault`, where the store can fail and did. `StorageError::OutOfMemory`.
+    fn list_child_prefixes(
+        &self,
+        alloc: Global,
+        prefix: &StorePrefix,
+    ) -> Result<Vec<StorePrefix>, StorageError>
+        ensures prefixes { IfOk result (λ prefixes. Lists (IsChildPrefix (Self.contents self.now) prefix.now) prefixes.items) }
+        ensures err { IfErr result (IsStoreError (Self.can_fail self.now)) }
+    {
+        Ok(self.list_dir(alloc, prefix)?.prefixes)
+    }
 }
 
 /// A store whose values can be changed.

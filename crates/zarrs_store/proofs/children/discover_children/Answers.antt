@@ -9,7 +9,7 @@ use Rattle.zarrs_store.proofs.children.discover_children.Goals as goal
 
 pub returns-clause-ok : goal.returns-clause-ok
 returns-clause-ok g c =
-    children_from_listed _ _ c.in_ok-children.field-0.prefixes.items c.retain.new.self.items c.sort_unstable_by.new.self.items
+    children_from_listed _ _ c.in_ok-children.children.items c.retain.new.self.items c.sort_unstable_by.new.self.items
     c.in_ok-children.ensures.prefixes
     (filter_same _ is_visible _ (λ x b f' k. search rules) _ _ c.retain.ensures.filtered)
     c.sort_unstable_by.ensures.permutation

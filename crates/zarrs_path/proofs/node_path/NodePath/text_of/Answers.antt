@@ -1,7 +1,7 @@
 use Rattle.std.proofs.Common.{◌∙◌, ap, string_bytes, lit<}
 use Rattle.std.specs.List.{insert_slice}
 use Rattle.zarrs_path.proofs.Prefixes.{slash_moved}
-use Rattle.zarrs_path.proofs.node_path.slash_in_front.Goals as goal
+use Rattle.zarrs_path.proofs.node_path.NodePath.text_of.Goals as goal
 
 pub returns-clause-ok : goal.returns-clause-ok
 returns-clause-ok c =
