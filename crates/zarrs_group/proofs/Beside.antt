@@ -149,13 +149,3 @@ beside_read s p m = at m
     at (V2 g) = by_bytes (get s (p ++ zmetadata ∷ []))
 
 -- ---- what refuses to write it
-
--- of a block that can stand beside the metadata, only want of memory refuses what is written
-pub only_memory : (B : Block) → IsBeside (Some B) → (e : NodeCreateError) → RefusesZmetadata B e → LacksMemory e
-only_memory B fits (made.NodePathError (InvalidPath text)) h = absurd (h.2 (fits.0 h.0 h.1))
-only_memory B fits (made.NodePathError NoPathMemory) h = tt
-only_memory B fits (made.StorePrefixError e) h = absurd h
-only_memory B fits (made.StorageError e) h = absurd h
-only_memory B fits made.MetadataVersionMismatch h = absurd (h.1 fits.1)
-only_memory B fits (made.MissingMetadata text) h = absurd h
-only_memory B fits made.OutOfMemory h = tt

@@ -77,20 +77,6 @@ other_passes : (clash : Bool) (o : Option Path) (m : NodeMetadata) (es : List (P
 other_passes clash None m es none = refl
 other_passes clash (Some p) m es none = cc
 
--- a float decides
-float_decides : (clash : Bool) (o : Option Path) (m : NodeMetadata) (es : List (Path × NodeMetadata)) → is_some o ≡ true → node_has_float m ≡ true
-    → fault_left clash (with_pair o m es) ≡ Some UnsupportedNumber
-float_decides clash None m es some float = cc
-float_decides clash (Some p) m es some float = rw float refl
-
--- an entry that is not plain clashes
-not_plain : (clash : Bool) (o : Option Path) (m : NodeMetadata) (es : List (Path × NodeMetadata)) → is_some o ≡ true → node_has_float m ≡ false → is_plain_node m ≡ false
-    → fault_left clash (with_pair o m es) ≡ fault_left true es
-not_plain true None m es some fits plain = cc
-not_plain false None m es some fits plain = cc
-not_plain true (Some p) m es some fits plain = rw fits refl
-not_plain false (Some p) m es some fits plain = rw (fits, plain) refl
-
 -- one more key, whose entry changes nothing
 pass_by : (B : Block) (clash : Bool) (left : List (String Global × NodeMetadata)) (e : String Global × NodeMetadata) (es : List (String Global × NodeMetadata)) → left ≡ e ∷ es
     → fault_left clash (with_pair (path_at [] B (string_bytes e.0)) e.1 (entries_left B (shown es))) ≡ fault_left clash (entries_left B (shown es))
@@ -153,14 +139,6 @@ bare_entry B t bare =
           | true ↦ λ s. absurd (bare t (ap (λ d. d ∷ t) (eqb-true c 47 s)))
           | false ↦ λ _. refl
         ] refl
-
--- a key behind a slash is that of an entry where the rest is not empty, and is no key itself
-pub slashed_entry : (B : Block) (t rest : List ℕ) → t ≡ 47 ∷ rest → (not (is_nil rest) && not (is_some (found B rest))) ≡ is_some (path_at [] B t)
-slashed_entry B t rest is =
-    let names : is_nil (relative_names (47 ∷ rest)) ≡ is_nil rest = parts_nil rest in
-    let here : is_some (path_at [] B (47 ∷ rest)) ≡ (not (is_nil rest) && not (is_some (found B rest))) =
-    some_path (is_nil (relative_names (47 ∷ rest))) (is_covered B (47 ∷ rest)) _ ∙ ap (λ b. not b && not (is_some (found B rest))) names in
-    sym (ap (λ x. is_some (path_at [] B x)) is ∙ here)
 
 -- ---- what is written
 

@@ -47,10 +47,6 @@ on_ok (Err e) a f = tt
 
 -- ---- the faults
 
--- a fault of the metadata is the one that is named
-pub own_fault : (p : Path) (m : GroupMetadata) (block : Option Block) (fault : MetadataFault) → group_fault m ≡ Some fault → stored_fault p m block ≡ Some (metadata_key p m, fault)
-own_fault p m block fault is = ap (λ f. first_fault (fault_at (metadata_key p m) f) (fault_at (p ++ zmetadata ∷ []) (beside_fault m block))) is
-
 -- else it is that of the block
 pub beside_is : (p : Path) (m : GroupMetadata) (block : Option Block) (fault : Option MetadataFault) → group_fault m ≡ None → beside_fault m block ≡ fault
     → stored_fault p m block ≡ fault_at (p ++ zmetadata ∷ []) fault

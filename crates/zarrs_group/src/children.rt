@@ -20,9 +20,7 @@ use zarrs_block::{
 };
 use zarrs_config::{Config, MetadataRetrieveVersion, UseConsolidatedMetadata};
 use zarrs_meta::NodeMetadata;
-use zarrs_node::{
-    Node, build_node_tree, direct_children_from_flat, get_all_nodes_of, get_child_nodes,
-};
+use zarrs_node::{Node, get_all_nodes_of, get_child_nodes, nodes_of_block};
 use zarrs_path::NodePath;
 use zarrs_store::{ListableStorageTraits, ReadableStorageTraits};
 
@@ -202,26 +200,6 @@ impl Group {
         }
         let block = self.consolidated_metadata(alloc)?;
         resolve_consolidated_policy(alloc, self.path(), block, policy)
-    }
-}
-
-// The nodes of a block below a path: those between which and the path all are groups of the block; or those directly below it, without
-// children.
-fn nodes_of_block(
-    alloc: Global,
-    path: &NodePath,
-    block: ConsolidatedMetadata,
-    recursive: bool,
-) -> Result<Vec<Node>, NodeCreateError>
-    ensures shows { IfOk result (λ nodes. Shows (forest nodes.items) path.now (Kept (Entries block.metadata path.now) recursive path.now)) }
-    ensures keys { IfOk result (λ _. HasValidKeys block.metadata) }
-    ensures err { IfErr result (RefusesKeys block.metadata) }
-{
-    let pairs = expand_consolidated_metadata(alloc, path, block)?;
-    if recursive {
-        Ok(build_node_tree(alloc, path, pairs)?)
-    } else {
-        Ok(direct_children_from_flat(alloc, path, pairs)?)
     }
 }
 

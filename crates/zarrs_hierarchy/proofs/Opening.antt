@@ -16,7 +16,7 @@ use Rattle.zarrs_block.specs.Refused.{IsExcused}
 use Rattle.zarrs_block.specs.declared.node_create_error.NodeCreateError.{NodeCreateError}
 use Rattle.zarrs_block.specs.Meaning.{Meaning, node, nothing, bad, meaning}
 use Rattle.zarrs_node.specs.Forest.{pairs}
-use Rattle.zarrs_node.specs.Below.{PairsBelow, BadBelow, ShowsBadBelow}
+use Rattle.zarrs_node.specs.Below.{PairsBelow, IsGoodBelow, ShowsBadBelow}
 use Rattle.zarrs_node.specs.Lines.{line, lines}
 use Rattle.zarrs_node.specs.Nodes.{Nodes}
 use Rattle.zarrs_node.specs.Opened.{choice, IsCleanChosen, IsCleanNode, RefusesBelow, RefusesChosen, RefusesOpening}
@@ -152,7 +152,7 @@ told_forest R N b a z t = record {
 
 -- where nothing below a group is refused, the group is clean
 pub clean_by : (s : Contents) (v : MetadataRetrieveVersion) (policy : UseConsolidatedMetadata) (b : Path) (m : NodeMetadata) (c : Option Block) → IsTrue (is_group m) → choice s policy b m ≡ Some c
-    → (BadBelow s v c true b → ⊥) → IsCleanNode s v policy b m
+    → IsGoodBelow s v c true b → IsCleanNode s v policy b m
 clean_by s v policy b (Array a) c group chosen clean = tt
 clean_by s v policy b (Group g) c group chosen clean = subst (λ k. IsCleanChosen s v k true b) (sym chosen) clean
 

@@ -3,7 +3,7 @@ ghost use Rattle.std.specs.Prelude.{◌≡◌, ◌∷◌, [], true, IfOk, IfErr,
 ghost use Rattle.zarrs_meta.specs.declared.node.NodeMetadata.TheVariants.{Group as group_node};
 ghost use Rattle.zarrs_block.specs.Refused.{IsExcused};
 ghost use Rattle.zarrs_block.specs.Used.{seen};
-ghost use Rattle.zarrs_node.specs.Below.{PairsBelow, BadBelow, ShowsBadBelow};
+ghost use Rattle.zarrs_node.specs.Below.{PairsBelow, IsGoodBelow, ShowsBadBelow};
 ghost use Rattle.zarrs_node.specs.Nodes.{Nodes, Bad, ShowsBad};
 ghost use Rattle.zarrs_node.specs.Opened.{IsCleanNode, RefusesBelow, RefusesOpening};
 ghost use Rattle.zarrs_hierarchy.specs.Held.{Holds, WithBase};
@@ -151,7 +151,7 @@ pub(crate) fn tell_below<L: Log, S: ReadableStorageTraits + ListableStorageTrait
     sink: &mut K,
 ) -> Result<(), HierarchyCreateError>
     ensures takes { OnOk result (TakesPairs K.takes sink.old sink.new (PairsBelow (S.contents storage.now) version.now (seen block) path.now)) }
-    ensures clean { OnOk result (BadBelow (S.contents storage.now) version.now (seen block) true path.now → ⊥) }
+    ensures clean { OnOk result (IsGoodBelow (S.contents storage.now) version.now (seen block) true path.now) }
     ensures refused { IfErr result (λ e. IsExcused (S.can_fail storage.now) e ⊎ ShowsBadBelow (S.contents storage.now) version.now (seen block) true path.now e) }
 {
     match block {

@@ -38,27 +38,7 @@ means_one of p m n e f = ap taken (sym e ∙ f)
     taken (node x) = x
     taken other = m
 
--- what means nothing means no node
-nothing_no_node : (of : Path → Meaning) (p : Path) (m : NodeMetadata) → of p ≡ nothing → of p ≡ node m → ⊥
-nothing_no_node of p m e f = true≢false (ap told (sym f ∙ e))
-  where
-    told : Meaning → Bool
-    told nothing = false
-    told other = true
-
 module _ (of : Path → Meaning) (p : Path) where
-  -- of a path that means nothing nothing is renewed
-  pub renewed_none : (xs : List (Path × NodeMetadata)) → xs ≡ [] → of p ≡ nothing → Lists (Renewed of p) xs
-  renewed_none xs empty is = subst (Lists (Renewed of p)) (sym empty) (lists_from []
-      (λ e. (
-        λ in'. absurd (omega (arith, in'.1)),
-        λ h. absurd (⊎_elim
-            (λ same. nothing_no_node of p e.1 is (ap of (sym same) ∙ h.0))
-            (λ w. nothing_no_node of p w.0.0 is w.0.1)
-            h.1),
-      ))
-      (λ i j d l m. absurd (omega (arith, m))))
-
   module _ (m : NodeMetadata) (is : of p ≡ node m) where
     -- of a path that means no group it alone is
     pub renewed_one : (xs : List (Path × NodeMetadata)) → xs ≡ (p, m) ∷ [] → (IsTrue (is_group m) → ⊥) → Lists (Renewed of p) xs

@@ -28,10 +28,6 @@ use Rattle.zarrs_node.proofs.Counted.{filter_holds, filter_keeps}
 
 -- ---- the children as they stand
 
--- of no pairs none are
-pub stand_none : (b : Path) → StandBelow b [] []
-stand_none b = record { children = λ e h. absurd (omega (arith, h.1)); as_often = λ p child. refl }
-
 -- a filtered list with one pair more
 filter_more : (xs : List Pair) (e : Pair) (p : Path) → filter (λ d. path_eq d.0 p) (xs ++ e ∷ []) ≡ filter (λ d. path_eq d.0 p) xs ++ cond (path_eq e.0 p) (e ∷ []) []
 filter_more xs e p = filter-append (λ d. path_eq d.0 p) xs (e ∷ [])

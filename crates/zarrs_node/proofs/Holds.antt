@@ -167,10 +167,6 @@ pub record Counts (done : List Pair) (roots opened : List Node) (steps : ℕ) : 
   pub steps_are : steps + length (heads opened) ≡ length done + groups (whole roots opened)
   pub few : groups (whole roots opened) ≤ length done
 
--- before the first pair there are none
-pub counts_none : Counts [] [] [] 0
-counts_none = record { steps_are = refl; few = omega arith }
-
 -- closing groups counts them
 pub counts_closed : (done : List Pair) (roots opened roots' opened' : List Node) (steps n : ℕ) → Counts done roots opened steps → whole roots' opened' ≡ whole roots opened → n + length (heads opened') ≡ length (heads opened) → Counts done roots' opened' (steps + n)
 counts_closed done roots opened roots' opened' steps n c same count =
@@ -220,10 +216,6 @@ pub record Closing (p : Path) (hs after : List Pair) : Type 0 where
   pub parts : hs ≡ after ++ dropped
   pub passed : (h : Pair) → Contains dropped h → IsBelow h.0 p → ⊥
 
--- before the first is closed
-pub closing_none : (p : Path) (hs : List Pair) → Closing p hs hs
-closing_none p hs = record { dropped = []; parts = sym (append-nil hs); passed = λ h in' _. omega (arith, in'.1) }
-
 -- one group more is closed
 pub closing_more : (p : Path) (hs now after : List Pair) (h : Pair) → Closing p hs now → now ≡ after ++ h ∷ [] → (IsBelow h.0 p → ⊥) → Closing p hs after
 closing_more p hs now after h c e not_below = record {
@@ -235,10 +227,6 @@ closing_more p hs now after h c e not_below = record {
 -- as far as the path is below the last that is left
 pub closing_done : (p : Path) (hs now : List Pair) → Closing p hs now → ((b : Path) → IsBelow b p → IsBelow (top b now) p) → IsClosedTo p hs now
 closing_done p hs now c covers = record { dropped = c.dropped; parts = c.parts; passed = c.passed; covers = covers }
-
--- no nodes have no heads
-pub no_nodes : (ns : List Node) → ns ≡ [] → heads ns ≡ []
-no_nodes ns e = ap heads e
 
 -- one turn of the pass
 module _ (b : Path) (all done items left : List Pair) (e : Pair) (roots opened roots1 opened1 roots2 opened2 : List Node) (up : Ascend all) (is : done ++ items ≡ all) (next : items ≡ e ∷ left)

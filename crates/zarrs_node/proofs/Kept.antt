@@ -22,13 +22,6 @@ pub record KeptByWords (N : Path × NodeMetadata → Type 0) (b : Path) (e : Pat
   pub below : (n : List ℕ) × (ns : Path) × (e.0 ≡ b ++ n ∷ ns) × IsPath (n ∷ ns)
   pub between : (q : Path) → IsBelow b q → IsBelow q e.0 → HasGroup N q
 
--- what is kept is what these words say
-pub kept_by_words : (N : Path × NodeMetadata → Type 0) (b : Path) (e : Path × NodeMetadata) → Kept N true b e ↔ KeptByWords N b e
-kept_by_words N b e = (
-  λ h. record { held = h.1; below = h.0.below; between = λ q low up. (h.0.between q low up).1 },
-  λ h. (record { below = h.below; between = λ q low up. (refl, h.between q low up) }, h.held),
-)
-
 -- what is below what is below is below
 pub below_below : (b q p : Path) → IsBelow b q → IsBelow q p → IsBelow b p
 below_below b q p (n, ns, e) (m, ms, f) = (n, ns ++ m ∷ ms, f ∙ ap (λ x. x ++ m ∷ ms) e ∙ append_assoc b (n ∷ ns) (m ∷ ms))
@@ -48,10 +41,6 @@ module _ (N M : Path × NodeMetadata → Type 0) (r : Bool) (b : Path) (more : (
 -- pairs that are the same below b keep the same
 pub kept_same : (N M : Path × NodeMetadata → Type 0) (r : Bool) (b : Path) → ((e : Path × NodeMetadata) → IsBelow b e.0 → N e ↔ M e) → (e : Path × NodeMetadata) → Kept N r b e ↔ Kept M r b e
 kept_same N M r b same e = (kept_more N M r b (λ d low. (same d low).0) e, kept_more M N r b (λ d low. (same d low).1) e)
-
--- what is kept of pairs is the nodes of every meaning that answers them
-pub kept_is_nodes : (N : Path × NodeMetadata → Type 0) (of : Path → Meaning) (r : Bool) (b : Path) → ((p : Path) (m : NodeMetadata) → IsBelow b p → N (p, m) ↔ (of p ≡ node m)) → (e : Path × NodeMetadata) → Kept N r b e ↔ Kept (Means of) r b e
-kept_is_nodes N of r b is = kept_same N (Means of) r b (λ e low. is e.0 e.1 low)
 
 -- meanings that are the same below b have the same nodes
 pub nodes_same : (of as' : Path → Meaning) (r : Bool) (b : Path) → ((p : Path) → IsBelow b p → of p ≡ as' p) → (e : Path × NodeMetadata) → Kept (Means of) r b e ↔ Kept (Means as') r b e

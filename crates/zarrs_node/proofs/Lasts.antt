@@ -157,13 +157,6 @@ module _ (done v w : List Pair) (e : Pair) (k : KeepsLast done v) (sorted : (d :
 pub no_push : {A : Type 0} (xs : List A) (x : A) → [] ≡ xs ++ x ∷ [] → ⊥
 no_push xs x e = let l = ap (λ y. length y) e in let m = length-append xs (x ∷ []) in omega (arith, l, m)
 
--- before the first pair it holds
-pub keeps_none : KeepsLast [] []
-keeps_none = record {
-  ascends = λ i j d l m. absurd (omega (arith, m));
-  latest = λ e. (λ h. absurd (omega (arith, h.1)), λ h. absurd (no_push h.0 e h.1));
-}
-
 -- pairs tie where their paths are equal
 pub ties_same : (x y : Pair) → ties (λ x y. is_lt (path_cmp x.0 y.0)) x y ≡ path_eq y.0 x.0
 ties_same x y =

@@ -13,7 +13,6 @@ pub mod Trees
 pub mod LastNames
 pub mod Order
 pub mod Kept
-pub mod Small
 pub mod Unique
 pub mod Written
 pub mod LawProofs
@@ -42,4 +41,3 @@ pub mod Current
 pub mod Sizes
 pub mod Stops
 pub mod Plugged
-pub mod Pending

@@ -96,9 +96,3 @@ module _ (can_fail : Bool) (line : Meaning → Meaning) where
   -- an answer without metadata that follows a line
   pub follows_none : (o : Option NodeMetadata) → o ≡ None → FollowsLine can_fail (Ok o) line → (after : Meaning) → line after ≡ after
   follows_none o e h = subst (λ x. FollowsLine can_fail (Ok x) line) e h
-
-  -- where a line says nothing, an answer that follows the next line follows both
-  pub follows_next : (r : Result (Option NodeMetadata) NodeCreateError) (next : Meaning → Meaning) → ((after : Meaning) → line after ≡ after) → FollowsLine can_fail r next → FollowsLine can_fail r (λ after. line (next after))
-  follows_next (Ok (Some m)) next none h = λ after. none (next after) ∙ h after
-  follows_next (Ok None) next none h = λ after. none (next after) ∙ h after
-  follows_next (Err e) next none h = ⊎_elim inl (λ all. inr (λ after. none (next after) ∙ all after)) h

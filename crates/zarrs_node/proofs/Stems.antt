@@ -148,11 +148,6 @@ top_last b ns n some is =
     ∙ ap (top b) (heads_push (take (length ns - 1) ns) n)
     ∙ top_push b (heads (take (length ns - 1) ns)) ((out-Node n).path, (out-Node n).metadata)
 
--- without open groups the last path is the base
-pub top_none : (b : Path) (ns : List Node) → length ns ≡ 0 → top b (heads ns) ≡ b
-top_none b [] l = refl
-top_none b (n ∷ ns) l = absurd (omega (arith, l))
-
 -- the heads are those before the last, and its own
 pub heads_of_last : (ns : List Node) (n : Node) → 0 < length ns → n ≡ get_or ns (length ns - 1) n → heads ns ≡ heads (take (length ns - 1) ns) ++ ((out-Node n).path, (out-Node n).metadata) ∷ []
 heads_of_last ns n some is = ap heads (last_part ns n some ∙ ap (λ y. take (length ns - 1) ns ++ y ∷ []) (sym is)) ∙ heads_push (take (length ns - 1) ns) n

@@ -77,10 +77,6 @@ module _ (root n next : Node) (before after : List Node) (same : HasPlacedChildr
       let c = weights-append (next ∷ []) after in
       (omega (arith, a, b, c), omega (arith, a, b, c), omega (arith, a, b, c))
 
--- no children are placed
-pub placed_none : (root n : Node) → HasPlacedChildren root ↔ HasPlacedChildren n → children_of n ≡ [] → HasPlacedChildren root
-placed_none root n same none_left = same.1 (subst (λ ns. ArePlacedBelow (path_of n) (forest ns)) (sym none_left) tt)
-
 -- one of some nodes has no more than all
 pub weight_at : (ns : List Node) (i : ℕ) (x : Node) → i < length ns → x ≡ get_or ns i x → weight x ≤ weights ns
 weight_at ns i x lt is =

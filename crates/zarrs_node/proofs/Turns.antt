@@ -2,12 +2,14 @@
 use Rattle.std.proofs.Common.{◌≡◌, ℕ, ◌-◌, take, ◌⊎◌, inl, inr, ⊎_elim, Bool, Option, Some, None, Ok, true, true≢false, Less, ◌<◌, List, [], ◌∷◌, ◌++◌, reverse, sym, ap, subst, ◌∙◌, append-nil, Contains}
 use Rattle.std.proofs.lemmas.List.Elements.{Contains-push, Contains-append_cases}
 use Rattle.zarrs_path.specs.Paths.{Path, IsPath, path_cmp}
-use Rattle.zarrs_path.proofs.NameLemmas.{name_one, periods_from}
-use Rattle.zarrs_path.proofs.PathTexts.{IsPath-append}
+use Rattle.zarrs_path.specs.Names.{IsName}
+use Rattle.zarrs_path.proofs.NameLemmas.{name_one, name_head, periods_from}
+use Rattle.zarrs_path.proofs.PathTexts.{IsPath-append, IsPath-parts}
 use Rattle.zarrs_store.specs.Contents.{Contents, HasBelow, Lists}
-use Rattle.zarrs_store.specs.Segments.{Segments, IsPrefix}
+use Rattle.zarrs_store.specs.Segments.{Segments, last_segment, IsSegment, IsPrefix}
 use Rattle.zarrs_store.specs.Children.{IsVisibleChild, AreVisibleChildren}
 use Rattle.zarrs_store.proofs.Below.{last_segment_is}
+use Rattle.zarrs_store.proofs.ChildLemmas.{last_segment-child}
 use Rattle.zarrs_meta.specs.Node.{is_group}
 use Rattle.zarrs_meta.specs.declared.node.NodeMetadata.{NodeMetadata}
 use Rattle.zarrs_config.specs.declared.version.MetadataRetrieveVersion.{MetadataRetrieveVersion}
@@ -17,6 +19,7 @@ use Rattle.zarrs_block.specs.Refused.{IsExcused, IsInvalidPath}
 use Rattle.zarrs_node.specs.Refused.{Finds}
 use Rattle.zarrs_node.specs.Forest.{Forest, none, pairs, told, passed, found_group, Shows}
 use Rattle.zarrs_node.specs.Nodes.{Nodes, Ignored, Bad, ShowsBad, IsListed}
+use Rattle.zarrs_node.specs.Stacked.{IsPathAndOne}
 use Rattle.zarrs_node.proofs.Child.{node_same}
 use Rattle.zarrs_node.proofs.Unique.{Pair}
 use Rattle.zarrs_node.proofs.Ahead.{ahead, ahead_less}
@@ -28,6 +31,14 @@ pub record HasWalked (s : Contents) (v : MetadataRetrieveVersion) (r : Bool) (b 
   pub trees : Forest
   pub walk : Walked s v r b trees ig ps
   pub are : xs ≡ pairs trees
+
+-- a path and one text more is a path where that text, its last, is a name
+pub path_if_name : (p : Path) → IsPathAndOne p → IsName (last_segment p) → IsPath p
+path_if_name p (q, n, valid, is) name = subst IsPath (sym is) (IsPath-append q (n ∷ []) valid (name_one n (subst IsName (ap last_segment is ∙ last_segment-child q n) name)))
+
+-- and only there
+pub name_if_path : (p : Path) → IsPathAndOne p → IsPath p → IsName (last_segment p)
+name_if_path p (q, n, valid, is) path = subst IsName (sym (ap last_segment is ∙ last_segment-child q n)) (name_head n [] (IsPath-parts q (n ∷ []) (subst IsPath is path)).1)
 
 -- nothing is left where the stack gives nothing
 pub left_none : (len : ℕ) (ps qs : List Path) → ps ≡ qs ++ [] → qs ≡ take (len - 1) ps → len ≡ 0 → ps ≡ []
@@ -82,33 +93,43 @@ module _ (s : Contents) (v : MetadataRetrieveVersion) (r : Bool) (b : Path) wher
           are = one_more m a.whole a.are e;
         }))
 
+    -- the prefix that is read next
+    next : IsPending s v r b h.trees c
+    next = h.walk.pending c (Contains-push ps c)
+
+    -- what stands above it is a path
+    above_valid : IsPath b → IsPath next.parent
+    above_valid valid = ⊎_elim (λ same. subst IsPath (sym same) valid)
+        (λ o. let reached = (h.walk.nodes (next.parent, o.1) o.2).0 in subst IsPath (sym reached.below.2) (IsPath-append b (reached.below.0 ∷ reached.below.1) valid reached.below.3)) next.opened
+
+    -- so it is a path and one segment more
+    pub turn_above : IsPath b → IsPathAndOne c
+    turn_above valid = (next.parent, next.name, above_valid valid, next.is)
+
     -- a refusal at a prefix is one at the base
     pub turn_refused : (e : NodeCreateError) → IsPath b → IsPrefix c → IsExcused can_fail e ⊎ (IsInvalidPath c e × (IsPath c → ⊥)) ⊎ (IsPath c × (meaning s v c ≡ bad e)) → IsExcused can_fail e ⊎ ShowsBad s v r b e
     turn_refused e valid segments why = ⊎_elim inl (⊎_elim
         (λ name. inr (inr (
           c,
           (
-            p.parent,
-            p.name,
+            next.parent,
+            next.name,
             listed,
-            periods_from p.name (last_segment_is p.parent p.name (subst IsPrefix p.is segments)) p.visible
-                (λ is_name. name.1 (subst IsPath (sym p.is) (IsPath-append p.parent (p.name ∷ []) parent_valid (name_one p.name is_name)))),
-            subst (HasBelow s) p.is p.below,
-            p.is,
+            periods_from next.name segment next.visible
+                (λ is_name. name.1 (subst IsPath (sym next.is) (IsPath-append next.parent (next.name ∷ []) (above_valid valid) (name_one next.name is_name)))),
+            subst (HasBelow s) next.is next.below,
+            next.is,
+            segment.nonempty,
           ),
           name.0,
         )))
         (λ doc. inr (inl (c, walked_reached s v r b h.trees ig ps c h.walk doc.0, doc.1)))) why
       where
-        p : IsPending s v r b h.trees c
-        p = h.walk.pending c (Contains-push ps c)
+        segment : IsSegment next.name
+        segment = last_segment_is next.parent next.name (subst IsPrefix next.is segments)
 
-        listed : IsListed (meaning s v) r b p.parent
-        listed = ⊎_elim inl (λ o. let n = h.walk.nodes (p.parent, o.1) o.2 in inr (n.0, (o.0, (o.1, n.1, o.3)))) p.opened
-
-        parent_valid : IsPath p.parent
-        parent_valid = ⊎_elim (λ same. subst IsPath (sym same) valid)
-            (λ o. let reached = (h.walk.nodes (p.parent, o.1) o.2).0 in subst IsPath (sym reached.below.2) (IsPath-append b (reached.below.0 ∷ reached.below.1) valid reached.below.3)) p.opened
+        listed : IsListed (meaning s v) r b next.parent
+        listed = ⊎_elim inl (λ o. let n = h.walk.nodes (next.parent, o.1) o.2 in inr (n.0, (o.0, (o.1, n.1, o.3)))) next.opened
 
     -- what was pending behind a prefix is after it
     behind : (q : Path) → Contains ps q → path_cmp c q ≡ Less
@@ -116,7 +137,7 @@ module _ (s : Contents) (v : MetadataRetrieveVersion) (r : Bool) (b : Path) wher
 
     -- a key stands below a prefix
     below : HasBelow s c
-    below = (h.walk.pending c (Contains-push ps c)).below
+    below = next.below
 
     -- a turn without children leaves fewer beginnings of keys ahead
     pub falls_alone : (old qs : List Path) → old ≡ ps ++ c ∷ [] → qs ≡ ps → ahead s qs < ahead s old

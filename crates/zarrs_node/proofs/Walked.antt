@@ -170,7 +170,7 @@ module _ (s : Contents) (v : MetadataRetrieveVersion) (r : Bool) (b : Path) wher
       | inl (e, (p, reached, means)) ↦
           let t = done p reached (λ n. subst IsBad (sym means ∙ n) tt) in
           subst IsBad (sym means ∙ (w.nodes (p, t.0) t.1).1) tt
-      | inr (q, (g, n, listed, periods, below, _)) ↦ let a = w.names g n listed periods below in absurd (omega (arith, a.1.1))
+      | inr (q, (g, n, listed, periods, below, _, _)) ↦ let a = w.names g n listed periods below in absurd (omega (arith, a.1.1))
     ]
 
   -- the prefix c, which is read next

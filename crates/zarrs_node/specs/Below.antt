@@ -3,7 +3,7 @@
 --     HoldsZmetadata s b B      B holds the small store that this document is
 --     block_at s b m      the block that stands for the nodes below b, where there is one
 --     NodesBelow, PairsBelow      what a tree below b shows; what a flat list below b holds
---     BadBelow, ShowsBadBelow      what refuses it; what a refusal shows
+--     IsGoodBelow, ShowsBadBelow      that nothing refuses it; what a refusal shows
 use Rattle.std.specs.Prelude.{◌≡◌, ℕ, [], ◌∷◌, ◌++◌, Bool, true, List, Option, Some, None, Ok, option_and_then}
 use Rattle.std.specs.Result.{result_ok}
 use Rattle.std.specs.FinMap.{get}
@@ -48,10 +48,10 @@ abbrev pub PairsBelow : Contents → MetadataRetrieveVersion → Option Block �
 PairsBelow s v None b = Nodes s v true b
 PairsBelow s v (Some B) b = Entries B b
 
--- what stands below b is refused: a listing comes upon something bad, or a key of the block that is used is not valid
-abbrev pub BadBelow : Contents → MetadataRetrieveVersion → Option Block → Bool → Path → Type 0
-BadBelow s v None recursive b = Bad s v recursive b
-BadBelow s v (Some B) recursive b = HasValidKeys B → ⊥
+-- nothing below b is refused: a listing comes upon nothing bad, or each key of the block that is used is valid
+abbrev pub IsGoodBelow : Contents → MetadataRetrieveVersion → Option Block → Bool → Path → Type 0
+IsGoodBelow s v None recursive b = Bad s v recursive b → ⊥
+IsGoodBelow s v (Some B) recursive b = HasValidKeys B
 
 -- the refusal is what a listing comes upon, or names the first bad part of a key of the block that is used
 abbrev pub ShowsBadBelow : Contents → MetadataRetrieveVersion → Option Block → Bool → Path → NodeCreateError → Type 0

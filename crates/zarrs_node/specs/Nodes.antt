@@ -1,6 +1,6 @@
 -- Zarr core specification 3.1, "Hierarchy" and "Node names": what a listing below a base is to find, and what it is to refuse.
 -- What paths mean is any function; `..In` takes it and, where it matters, which paths have a key below them. Those of a store of bytes stand last.
-use Rattle.std.specs.Prelude.{◌≡◌, ℕ, Bool, List, [], ◌∷◌, ◌++◌, IsTrue, ◌⊎◌}
+use Rattle.std.specs.Prelude.{◌≡◌, ◌≢◌, ℕ, Bool, List, [], ◌∷◌, ◌++◌, IsTrue, ◌⊎◌}
 use Rattle.zarrs_store.specs.Contents.{Contents, HasBelow}
 use Rattle.zarrs_path.specs.Names.{is_all_periods}
 use Rattle.zarrs_path.specs.Paths.{Path}
@@ -25,9 +25,9 @@ HasBadDocument of recursive b e = (p : Path) × Reached (Means of) recursive b p
 abbrev pub IsListed : (Path → Meaning) → Bool → Path → Path → Type 0
 IsListed of recursive b g = (g ≡ b) ⊎ (Reached (Means of) recursive b g × Opens (Means of) recursive g)
 
--- p is a listed path and a segment of periods only, and some key goes on behind it
+-- p is a listed path and a segment of periods only, at least one, and some key goes on behind it
 abbrev pub IsBadName : (Path → Meaning) → (Path → Type 0) → Bool → Path → Path → Type 0
-IsBadName of has recursive b p = (g : Path) × (n : List ℕ) × IsListed of recursive b g × IsTrue (is_all_periods n) × has (g ++ n ∷ []) × (p ≡ g ++ n ∷ [])
+IsBadName of has recursive b p = (g : Path) × (n : List ℕ) × IsListed of recursive b g × IsTrue (is_all_periods n) × has (g ++ n ∷ []) × (p ≡ g ++ n ∷ []) × (n ≢ [])
 
 -- some reached path means `bad e`, or some child of a listed path has a name of periods only
 abbrev pub BadIn : (Path → Meaning) → (Path → Type 0) → Bool → Path → Type 0

@@ -18,7 +18,7 @@ use Rattle.zarrs_block.specs.declared.node_create_error.NodeCreateError.{NodeCre
 use Rattle.zarrs_block.specs.declared.node_create_error.NodeCreateError.TheVariants.{NodePathError}
 use Rattle.zarrs_block.specs.Meaning.{meaning, node, nothing, bad}
 use Rattle.zarrs_node.specs.Forest.{Forest, none, Shows}
-use Rattle.zarrs_node.specs.Below.{block_at, NodesBelow, BadBelow, ShowsBadBelow}
+use Rattle.zarrs_node.specs.Below.{block_at, NodesBelow, IsGoodBelow, ShowsBadBelow}
 
 -- ---- by a choice of a block, or of a listing, or of neither
 
@@ -30,7 +30,7 @@ ShowsChosen s v (Some c) recursive b f = Shows f b (NodesBelow s v c recursive b
 -- what stands below b is not refused
 abbrev pub IsCleanChosen : Contents → MetadataRetrieveVersion → Option (Option Block) → Bool → Path → Type 0
 IsCleanChosen s v None recursive b = ⊥
-IsCleanChosen s v (Some c) recursive b = BadBelow s v c recursive b → ⊥
+IsCleanChosen s v (Some c) recursive b = IsGoodBelow s v c recursive b
 
 -- the want of a block is refused, or what stands below b is
 abbrev pub RefusesChosen : Contents → MetadataRetrieveVersion → Option (Option Block) → Bool → Path → NodeCreateError → Type 0

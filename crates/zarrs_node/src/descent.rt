@@ -2,7 +2,6 @@
 ghost use Rattle.std.specs.Prelude.{◌≡◌, [], ◌++◌, Ok, false, IfOk, IfErr, OnOk, ◌⊎◌};
 ghost use Rattle.zarrs_store.specs.Segments.{IsPrefix};
 ghost use Rattle.zarrs_store.specs.Contents.{Lists};
-ghost use Rattle.zarrs_store.specs.Children.{AreVisibleChildren};
 ghost use Rattle.zarrs_path.specs.Paths.{IsPath};
 ghost use Rattle.zarrs_block.specs.Meaning.{meaning, bad};
 ghost use Rattle.zarrs_block.specs.Refused.{IsExcused, IsInvalidPath};
@@ -10,7 +9,7 @@ ghost use Rattle.zarrs_node.specs.Forest.{told, passed, found_group};
 ghost use Rattle.zarrs_node.specs.Nodes.{Nodes, Ignored, ShowsBad, Bad};
 ghost use Rattle.zarrs_node.specs.Refused.{Finds};
 ghost use Rattle.zarrs_node.specs.Sinks.{TakesAll, TakesForest};
-ghost use Rattle.zarrs_node.specs.Stacked.{AreOnTop};
+ghost use Rattle.zarrs_node.specs.Stacked.{AreOnTop, IsPathAndOne};
 
 use crate::last_read::LastDocuments;
 use crate::metadata::find_metadata;
@@ -19,7 +18,7 @@ use std::alloc::{AllocError, Global};
 use zarrs_block::NodeCreateError;
 use zarrs_config::MetadataRetrieveVersion;
 use zarrs_meta::NodeMetadata;
-use zarrs_path::{NodePath, NodePathError};
+use zarrs_path::NodePath;
 use zarrs_store::{
     ListableStorageTraits, ReadableStorageTraits, StorageError, StorePrefix, discover_children,
 };
@@ -71,14 +70,16 @@ fn walk<S: ReadableStorageTraits + ListableStorageTraits, K: NodeSink>(
     ensures clean { IfOk result (λ _. Bad (S.contents storage.now) version.now recursive path.now → ⊥) }
     ensures refused { IfErr result (λ e. IsExcused (S.can_fail storage.now) e ⊎ ShowsBad (S.contents storage.now) version.now recursive path.now e) }
 {
+    let base = path.to_prefix(alloc)?;
     let mut pending = Vec::new(alloc);
-    push_children(alloc, storage, path, &mut pending)?;
+    push_children(alloc, storage, &base, &mut pending)?;
     let mut ignored = Vec::new(alloc);
     while let Some(prefix) = pending.pop() {
-        let (child, found) = read_child(alloc, storage, prefix, version, last)?;
+        let found = read_child(alloc, storage, &prefix, version, last)?;
         if recursive && is_group(&found) {
-            push_children(alloc, storage, &child, &mut pending)?;
+            push_children(alloc, storage, &prefix, &mut pending)?;
         }
+        let child = NodePath::from_valid_prefix(prefix)?;
         tell(child, found, sink, &mut ignored)?;
     }
     Ok(ignored)
@@ -100,18 +101,17 @@ fn tell<K: NodeSink>(
     }
 }
 
-// Puts the prefixes of the children of a path on the stack, the first of them on top.
+// Puts the prefixes of the children of a prefix on the stack, the first of them on top.
 fn push_children<S: ListableStorageTraits>(
     alloc: Global,
     storage: &S,
-    path: &NodePath,
+    prefix: &StorePrefix,
     pending: &mut Vec<StorePrefix>,
 ) -> Result<(), NodeCreateError>
-    ensures ok { OnOk result (AreOnTop (S.contents storage.now) path.now pending.old.items pending.new.items) }
-    ensures valid { OnOk result (IsPath path.now) }
+    ensures ok { OnOk result (AreOnTop (S.contents storage.now) prefix.now pending.old.items pending.new.items) }
     ensures err { IfErr result (IsExcused (S.can_fail storage.now)) }
 {
-    let mut children = child_prefixes(alloc, storage, path)?;
+    let mut children = discover_children(alloc, storage, prefix)?;
     children.reverse();
     pending.append(&mut children)?;
     Ok(())
@@ -127,49 +127,32 @@ fn is_group(found: &Option<NodeMetadata>) -> bool
     }
 }
 
-// The prefixes of the children of a path.
-fn child_prefixes<S: ListableStorageTraits>(
-    alloc: Global,
-    storage: &S,
-    path: &NodePath,
-) -> Result<Vec<StorePrefix>, NodeCreateError>
-    ensures ok { IfOk result (λ children. AreVisibleChildren (S.contents storage.now) path.now children.items × IsPath path.now) }
-    ensures err { IfErr result (IsExcused (S.can_fail storage.now)) }
-{
-    let base = path.to_prefix(alloc)?;
-    Ok(discover_children(alloc, storage, &base)?)
-}
-
-// The path of a child prefix, and its metadata.
+// The metadata of a path and one name more, given as a prefix, or none where it has no document.
 fn read_child<S: ReadableStorageTraits>(
     alloc: Global,
     storage: &S,
-    prefix: StorePrefix,
+    prefix: &StorePrefix,
     version: &MetadataRetrieveVersion,
     last: &mut LastDocuments,
-) -> Result<(NodePath, Option<NodeMetadata>), NodeCreateError>
-    ensures path { IfOk result (λ x. (x.0 ≡ prefix) × IsPath x.0) }
-    ensures found { IfOk result (λ x. Finds (S.can_fail storage.now) (Ok x.1) (meaning (S.contents storage.now) version.now x.0)) }
-    ensures refused { IfErr result (λ e. IsExcused (S.can_fail storage.now) e ⊎ (IsInvalidPath prefix e × (¬ IsPath prefix)) ⊎ (IsPath prefix × (meaning (S.contents storage.now) version.now prefix ≡ bad e))) }
-    ensures valid { IsPrefix prefix }
+) -> Result<Option<NodeMetadata>, NodeCreateError>
+    requires above { IsPathAndOne prefix.now }
+    ensures valid { IfOk result (λ _. IsPath prefix.now) }
+    ensures found { IfOk result (λ found. Finds (S.can_fail storage.now) (Ok found) (meaning (S.contents storage.now) version.now prefix.now)) }
+    ensures refused { IfErr result (λ e. IsExcused (S.can_fail storage.now) e ⊎ (IsInvalidPath prefix.now e × (¬ IsPath prefix.now)) ⊎ (IsPath prefix.now × (meaning (S.contents storage.now) version.now prefix.now ≡ bad e))) }
+    ensures segments { IsPrefix prefix.now }
 {
-    let path = child_path(alloc, prefix)?;
-    let found = find_metadata(alloc, storage, &path, version, last)?;
-    Ok((path, found))
+    let _segments = prefix.as_str();
+    if !NodePath::ends_in_name(prefix) {
+        return Err(invalid_child(alloc, prefix.try_clone(alloc)?)?);
+    }
+    find_metadata(alloc, storage, prefix, version, last)
 }
 
-// The path of a child prefix.
-fn child_path(alloc: Global, prefix: StorePrefix) -> Result<NodePath, NodeCreateError>
-    ensures path { IfOk result (λ p. (p ≡ prefix) × IsPath p) }
-    ensures refused { IfErr result (λ e. IsExcused false e ⊎ (IsInvalidPath prefix e × (¬ IsPath prefix))) }
-    ensures valid { IsPrefix prefix }
+// The refusal of a child whose name is made of periods only.
+fn invalid_child(alloc: Global, prefix: StorePrefix) -> Result<NodeCreateError, AllocError>
+    ensures { IfOk result (IsInvalidPath prefix) }
 {
-    match NodePath::from_owned_prefix(prefix) {
-        Ok(path) => Ok(path),
-        Err(NodePathError::OutOfMemory) => Err(NodeCreateError::OutOfMemory),
-        Err(NodePathError::Invalid(text)) => {
-            let text = format!(in alloc; "invalid node path {text}")?;
-            Err(NodeCreateError::StorageError(StorageError::Other(text)))
-        }
-    }
+    let path = NodePath::text_of(prefix)?;
+    let text = format!(in alloc; "invalid node path {path}")?;
+    Ok(NodeCreateError::StorageError(StorageError::Other(text)))
 }

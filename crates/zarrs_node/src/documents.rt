@@ -1,13 +1,15 @@
 //! The documents of a store, as they are read.
-ghost use Rattle.std.specs.Prelude.{◌≡◌, Ok, IfOk, IfErr};
+ghost use Rattle.std.specs.Prelude.{◌≡◌, [], ◌∷◌, ◌++◌, Ok, IfOk, IfErr, IsTrue};
+ghost use Rattle.zarrs_store.specs.Segments.{is_segment};
 ghost use Rattle.zarrs_block.specs.Meaning.{attributes_at, document_at};
 ghost use Rattle.zarrs_node.specs.Refused.{RefusesReading, refusal_at};
 
 use crate::last_read::LastRead;
 use std::alloc::Global;
+use std::mem::replace;
 use zarrs_meta::{AttributesDocument, Document};
 use zarrs_path::{NodePath, meta_key_v2_attributes};
-use zarrs_store::{MetadataFault, ReadableStorageTraits, StorageError, StoreKey};
+use zarrs_store::{MetadataFault, ReadableStorageTraits, StorageError, StoreKey, StorePrefix};
 
 /// The document at a key, or none where the key is absent.
 ///
@@ -26,7 +28,9 @@ pub fn document_at<S: ReadableStorageTraits, D: Document + Drop>(
     ensures err { IfErr result (RefusesReading (S.can_fail storage.now) (document_at D.reading (S.contents storage.now) key)) }
 {
     let mut last = LastRead::new(alloc);
-    find_document(alloc, storage, key, &mut last)
+    let (key, found) = find_document(alloc, storage, key, &mut last)?;
+    drop(key);
+    Ok(found)
 }
 
 /// The attributes that `.zattrs` of a path has, or none where it is absent.
@@ -45,42 +49,47 @@ pub fn attributes_at<S: ReadableStorageTraits>(
     ensures ok { IfOk result (λ found. attributes_at (S.contents storage.now) path.now ≡ Ok found) }
     ensures err { IfErr result (RefusesReading (S.can_fail storage.now) (attributes_at (S.contents storage.now) path.now)) }
 {
-    let mut last = LastRead::new(alloc);
-    find_attributes(alloc, storage, path, &mut last)
+    document_at(alloc, storage, meta_key_v2_attributes(alloc, path)?)
 }
 
-// What `attributes_at` answers, where such a document was read before.
-pub(crate) fn find_attributes<S: ReadableStorageTraits>(
-    alloc: Global,
-    storage: &S,
-    path: &NodePath,
-    last: &mut LastRead<AttributesDocument>,
-) -> Result<Option<AttributesDocument>, StorageError>
-    ensures ok { IfOk result (λ found. attributes_at (S.contents storage.now) path.now ≡ Ok found) }
-    ensures err { IfErr result (RefusesReading (S.can_fail storage.now) (attributes_at (S.contents storage.now) path.now)) }
-{
-    let key = meta_key_v2_attributes(alloc, path)?;
-    find_document(alloc, storage, key, last)
-}
-
-// What `document_at` answers, where such a document was read before.
+// What `document_at` answers, where such a document was read before, and the key.
 #[tactic(auto, unfolding(zarrs_block::specs::Meaning::document_at))]
-pub(crate) fn find_document<S: ReadableStorageTraits, D: Document + Drop>(
+fn find_document<S: ReadableStorageTraits, D: Document + Drop>(
     alloc: Global,
     storage: &S,
     key: StoreKey,
     last: &mut LastRead<D>,
-) -> Result<Option<D>, StorageError>
-    ensures ok { IfOk result (λ found. document_at D.reading (S.contents storage.now) key ≡ Ok found) }
+) -> Result<(StoreKey, Option<D>), StorageError>
+    ensures ok { IfOk result (λ x. document_at D.reading (S.contents storage.now) key ≡ Ok x.1) }
     ensures err { IfErr result (RefusesReading (S.can_fail storage.now) (document_at D.reading (S.contents storage.now) key)) }
 {
     let Some(bytes) = storage.get(alloc, &key)? else {
-        return Ok(None);
+        return Ok((key, None));
     };
     match last.read(alloc, bytes) {
-        Ok(document) => Ok(Some(document)),
+        Ok(document) => Ok((key, Some(document))),
         Err(fault) => Err(invalid(key, fault)),
     }
+}
+
+// The document with a name below a prefix, where such a document was read before. Its key is made in the room of a text.
+pub(crate) fn find_below<S: ReadableStorageTraits, D: Document + Drop>(
+    alloc: Global,
+    storage: &S,
+    prefix: &StorePrefix,
+    name: &str,
+    text: &mut String,
+    last: &mut LastRead<D>,
+) -> Result<Option<D>, StorageError>
+    requires segment { IsTrue (is_segment name.now) }
+    ensures ok { IfOk result (λ found. document_at D.reading (S.contents storage.now) (prefix.now ++ name.now ∷ []) ≡ Ok found) }
+    ensures err { IfErr result (RefusesReading (S.can_fail storage.now) (document_at D.reading (S.contents storage.now) (prefix.now ++ name.now ∷ []))) }
+{
+    let room = replace(text, String::new(alloc));
+    let key = prefix.key_in(room, name)?;
+    let (key, found) = find_document(alloc, storage, key, last)?;
+    *text = key.into_string();
+    Ok(found)
 }
 
 // The refusal for a fault of the document at a key.

@@ -53,9 +53,10 @@ impl<D: Document + Drop> LastRead<D> {
     }
 }
 
-/// The last documents of each kind that a listing reads.
+/// The last documents of each kind that a listing reads, and a text in whose room the key of the next is made.
 #[derive(Drop)]
 pub(crate) struct LastDocuments {
+    pub(crate) text: String,
     pub(crate) zarr_json: LastRead<ZarrJson>,
     pub(crate) zarray: LastRead<ArrayMetadataV2>,
     pub(crate) zgroup: LastRead<GroupMetadataV2>,
@@ -66,6 +67,7 @@ impl LastDocuments {
     /// Nothing was read yet.
     pub(crate) fn new(alloc: Global) -> LastDocuments {
         LastDocuments {
+            text: String::new(alloc),
             zarr_json: LastRead::new(alloc),
             zarray: LastRead::new(alloc),
             zgroup: LastRead::new(alloc),

@@ -31,6 +31,7 @@ pub use descent::walk_nodes;
 pub use exists::{node_exists, node_exists_listable};
 pub use listing::{ListedNodes, list_nodes};
 pub use node::Node;
+pub use open::nodes_of_block;
 pub use paths::{ListedPaths, list_paths};
 pub use refresh::{refresh_block, refresh_owned_block};
 pub use sink::NodeSink;

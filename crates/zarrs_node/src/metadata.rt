@@ -1,21 +1,21 @@
 //! What a path means in a store.
-ghost use Rattle.std.specs.Prelude.{◌≡◌, ◌∷◌, [], ◌++◌, IfOk, IfErr, ◌⊎◌};
+ghost use Rattle.std.specs.Prelude.{◌≡◌, Ok, IfOk, IfErr, ◌⊎◌};
 ghost use Rattle.zarrs_block.specs.Refused.{IsExcused, IsMissing};
-ghost use Rattle.zarrs_block.specs.Meaning.{in_bytes, meaning, node, nothing, bad, zarr_json_line, zarray_line, zgroup_line};
-ghost use Rattle.zarrs_node.specs.Refused.{FollowsLine, Finds};
+ghost use Rattle.zarrs_block.specs.Meaning.{in_bytes, meaning, attributes_at, node, nothing, bad, zarr_json_line, zarray_line, zgroup_line};
+ghost use Rattle.zarrs_node.specs.Refused.{RefusesReading, FollowsLine, Finds};
 
-use crate::documents::{find_attributes, find_document};
+use crate::documents::find_below;
 use crate::last_read::LastDocuments;
 use crate::node::Node;
 use std::alloc::Global;
 use zarrs_block::NodeCreateError;
 use zarrs_config::MetadataRetrieveVersion;
 use zarrs_meta::{
-    ArrayMetadata, ArrayMetadataV2, BoxedArray, GroupMetadata, GroupMetadataV2, NodeMetadata,
-    ZarrJson,
+    ArrayMetadata, ArrayMetadataV2, AttributesDocument, BoxedArray, GroupMetadata, GroupMetadataV2,
+    NodeMetadata, ZarrJson,
 };
-use zarrs_path::{NodePath, meta_key_v2_array, meta_key_v2_group, meta_key_v3};
-use zarrs_store::ReadableStorageTraits;
+use zarrs_path::NodePath;
+use zarrs_store::{ReadableStorageTraits, StorageError, StorePrefix};
 
 impl Node {
     /// The metadata of the node at a path, by the first of `zarr.json`, `.zarray` and `.zgroup` that is there and that the version admits;
@@ -38,8 +38,9 @@ impl Node {
         ensures ok { IfOk result (λ metadata. meaning (S.contents storage.now) version.now path.now ≡ node metadata) }
         ensures refused { IfErr result (λ e. IsExcused (S.can_fail storage.now) e ⊎ ((meaning (S.contents storage.now) version.now path.now ≡ nothing) × IsMissing path.now e) ⊎ (meaning (S.contents storage.now) version.now path.now ≡ bad e)) }
     {
+        let prefix = path.to_prefix(alloc)?;
         let mut last = LastDocuments::new(alloc);
-        let found = find_metadata(alloc, storage, path, version, &mut last);
+        let found = find_metadata(alloc, storage, &prefix, version, &mut last);
         drop(last);
         match found? {
             Some(metadata) => Ok(metadata),
@@ -51,23 +52,23 @@ impl Node {
     }
 }
 
-// The metadata of a path, or none where it has no document.
+// The metadata of the path with the names of a prefix, or none where it has no document.
 pub(crate) fn find_metadata<S: ReadableStorageTraits>(
     alloc: Global,
     storage: &S,
-    path: &NodePath,
+    prefix: &StorePrefix,
     version: &MetadataRetrieveVersion,
     last: &mut LastDocuments,
 ) -> Result<Option<NodeMetadata>, NodeCreateError>
-    ensures { Finds (S.can_fail storage.now) result (meaning (S.contents storage.now) version.now path.now) }
+    ensures { Finds (S.can_fail storage.now) result (meaning (S.contents storage.now) version.now prefix.now) }
 {
     match version {
-        MetadataRetrieveVersion::Default => match find_v3(alloc, storage, path, last)? {
+        MetadataRetrieveVersion::Default => match find_v3(alloc, storage, prefix, last)? {
             Some(metadata) => Ok(Some(metadata)),
-            None => find_v2(alloc, storage, path, last),
+            None => find_v2(alloc, storage, prefix, last),
         },
-        MetadataRetrieveVersion::V3 => find_v3(alloc, storage, path, last),
-        MetadataRetrieveVersion::V2 => find_v2(alloc, storage, path, last),
+        MetadataRetrieveVersion::V3 => find_v3(alloc, storage, prefix, last),
+        MetadataRetrieveVersion::V2 => find_v2(alloc, storage, prefix, last),
     }
 }
 
@@ -75,13 +76,19 @@ pub(crate) fn find_metadata<S: ReadableStorageTraits>(
 fn find_v3<S: ReadableStorageTraits>(
     alloc: Global,
     storage: &S,
-    path: &NodePath,
+    prefix: &StorePrefix,
     last: &mut LastDocuments,
 ) -> Result<Option<NodeMetadata>, NodeCreateError>
-    ensures { FollowsLine (S.can_fail storage.now) result (zarr_json_line in_bytes (S.contents storage.now) path.now) }
+    ensures { FollowsLine (S.can_fail storage.now) result (zarr_json_line in_bytes (S.contents storage.now) prefix.now) }
 {
-    let key = meta_key_v3(alloc, path)?;
-    match find_document(alloc, storage, key, &mut last.zarr_json)? {
+    match find_below(
+        alloc,
+        storage,
+        prefix,
+        "zarr.json",
+        &mut last.text,
+        &mut last.zarr_json,
+    )? {
         Some(ZarrJson::Node(metadata)) => Ok(Some(metadata)),
         Some(ZarrJson::Version2) => Err(NodeCreateError::MetadataVersionMismatch),
         None => Ok(None),
@@ -92,14 +99,14 @@ fn find_v3<S: ReadableStorageTraits>(
 fn find_v2<S: ReadableStorageTraits>(
     alloc: Global,
     storage: &S,
-    path: &NodePath,
+    prefix: &StorePrefix,
     last: &mut LastDocuments,
 ) -> Result<Option<NodeMetadata>, NodeCreateError>
-    ensures { FollowsLine (S.can_fail storage.now) result (λ after. zarray_line in_bytes (S.contents storage.now) path.now (zgroup_line in_bytes (S.contents storage.now) path.now after)) }
+    ensures { FollowsLine (S.can_fail storage.now) result (λ after. zarray_line in_bytes (S.contents storage.now) prefix.now (zgroup_line in_bytes (S.contents storage.now) prefix.now after)) }
 {
-    match find_array_v2(alloc, storage, path, last)? {
+    match find_array_v2(alloc, storage, prefix, last)? {
         Some(metadata) => Ok(Some(metadata)),
-        None => find_group_v2(alloc, storage, path, last),
+        None => find_group_v2(alloc, storage, prefix, last),
     }
 }
 
@@ -107,17 +114,23 @@ fn find_v2<S: ReadableStorageTraits>(
 fn find_array_v2<S: ReadableStorageTraits>(
     alloc: Global,
     storage: &S,
-    path: &NodePath,
+    prefix: &StorePrefix,
     last: &mut LastDocuments,
 ) -> Result<Option<NodeMetadata>, NodeCreateError>
-    ensures { FollowsLine (S.can_fail storage.now) result (zarray_line in_bytes (S.contents storage.now) path.now) }
+    ensures { FollowsLine (S.can_fail storage.now) result (zarray_line in_bytes (S.contents storage.now) prefix.now) }
 {
-    let key = meta_key_v2_array(alloc, path)?;
-    let found: Option<ArrayMetadataV2> = find_document(alloc, storage, key, &mut last.zarray)?;
+    let found: Option<ArrayMetadataV2> = find_below(
+        alloc,
+        storage,
+        prefix,
+        ".zarray",
+        &mut last.text,
+        &mut last.zarray,
+    )?;
     let Some(mut array) = found else {
         return Ok(None);
     };
-    if let Some(document) = find_attributes(alloc, storage, path, &mut last.zattrs)? {
+    if let Some(document) = find_attributes(alloc, storage, prefix, last)? {
         array.attributes = document.0;
     }
     let boxed = BoxedArray::new(alloc, ArrayMetadata::V2(array))?;
@@ -128,18 +141,44 @@ fn find_array_v2<S: ReadableStorageTraits>(
 fn find_group_v2<S: ReadableStorageTraits>(
     alloc: Global,
     storage: &S,
-    path: &NodePath,
+    prefix: &StorePrefix,
     last: &mut LastDocuments,
 ) -> Result<Option<NodeMetadata>, NodeCreateError>
-    ensures { FollowsLine (S.can_fail storage.now) result (zgroup_line in_bytes (S.contents storage.now) path.now) }
+    ensures { FollowsLine (S.can_fail storage.now) result (zgroup_line in_bytes (S.contents storage.now) prefix.now) }
 {
-    let key = meta_key_v2_group(alloc, path)?;
-    let found: Option<GroupMetadataV2> = find_document(alloc, storage, key, &mut last.zgroup)?;
+    let found: Option<GroupMetadataV2> = find_below(
+        alloc,
+        storage,
+        prefix,
+        ".zgroup",
+        &mut last.text,
+        &mut last.zgroup,
+    )?;
     let Some(mut group) = found else {
         return Ok(None);
     };
-    if let Some(document) = find_attributes(alloc, storage, path, &mut last.zattrs)? {
+    if let Some(document) = find_attributes(alloc, storage, prefix, last)? {
         group.attributes = document.0;
     }
     Ok(Some(NodeMetadata::Group(GroupMetadata::V2(group))))
+}
+
+// The attributes that the document `.zattrs` of a path has, or none where it is absent.
+fn find_attributes<S: ReadableStorageTraits>(
+    alloc: Global,
+    storage: &S,
+    prefix: &StorePrefix,
+    last: &mut LastDocuments,
+) -> Result<Option<AttributesDocument>, StorageError>
+    ensures ok { IfOk result (λ found. attributes_at (S.contents storage.now) prefix.now ≡ Ok found) }
+    ensures err { IfErr result (RefusesReading (S.can_fail storage.now) (attributes_at (S.contents storage.now) prefix.now)) }
+{
+    find_below(
+        alloc,
+        storage,
+        prefix,
+        ".zattrs",
+        &mut last.text,
+        &mut last.zattrs,
+    )
 }

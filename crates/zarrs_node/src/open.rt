@@ -5,11 +5,11 @@ ghost use Rattle.zarrs_block.specs.Refused.{IsExcused};
 ghost use Rattle.zarrs_block.specs.Meaning.{meaning, node};
 ghost use Rattle.zarrs_block.specs.Block.{Entries, HasValidKeys};
 ghost use Rattle.zarrs_block.specs.Expanded.{RefusesKeys};
-ghost use Rattle.zarrs_node.specs.Forest.{Shows, forest, path_of, metadata_of, below_of};
+ghost use Rattle.zarrs_node.specs.Forest.{Shows, forest, path_of, metadata_of, below_of, HasPlacedChildren};
 ghost use Rattle.zarrs_node.specs.Reached.{Kept};
 ghost use Rattle.zarrs_node.specs.Opened.{choice, ShowsChosen, IsCleanChosen, RefusesChosen, ShowsNode, IsCleanNode, RefusesOpening};
 
-use crate::build::build_ascending;
+use crate::build::{build_ascending, direct_children_from_flat};
 use crate::children::get_child_nodes_opt;
 use crate::node::Node;
 use crate::zmetadata::consolidated_metadata_at;
@@ -40,6 +40,7 @@ impl Node {
         ensures means { IfOk result (λ made. meaning (S.contents storage.now) MetadataRetrieveVersion.Default (path_of made) ≡ node (metadata_of made)) }
         ensures shows { IfOk result (λ made. ShowsNode (S.contents storage.now) MetadataRetrieveVersion.Default config.now.use_consolidated (path_of made) (metadata_of made) (below_of made)) }
         ensures clean { IfOk result (λ made. IsCleanNode (S.contents storage.now) MetadataRetrieveVersion.Default config.now.use_consolidated (path_of made) (metadata_of made)) }
+        ensures placed { IfOk result HasPlacedChildren }
         ensures refused { IfErr result (λ e. IsExcused (S.can_fail storage.now) e ⊎ RefusesOpening (S.contents storage.now) MetadataRetrieveVersion.Default config.now.use_consolidated path.now e) }
     {
         Node::open_opt(
@@ -85,6 +86,7 @@ impl Node {
         ensures means { IfOk result (λ made. meaning (S.contents storage.now) version.now (path_of made) ≡ node (metadata_of made)) }
         ensures shows { IfOk result (λ made. ShowsNode (S.contents storage.now) version.now config.now.use_consolidated (path_of made) (metadata_of made) (below_of made)) }
         ensures clean { IfOk result (λ made. IsCleanNode (S.contents storage.now) version.now config.now.use_consolidated (path_of made) (metadata_of made)) }
+        ensures placed { IfOk result HasPlacedChildren }
         ensures refused { IfErr result (λ e. IsExcused (S.can_fail storage.now) e ⊎ RefusesOpening (S.contents storage.now) version.now config.now.use_consolidated path.now e) }
     {
         let path = NodePath::new(alloc, path)?;
@@ -114,22 +116,35 @@ fn nodes_below<L: Log, S: ReadableStorageTraits + ListableStorageTraits>(
 {
     let policy = config.use_consolidated_metadata();
     match consolidated_metadata_at(alloc, storage, path, metadata, policy)? {
-        Some(block) => nodes_of_block(alloc, path, block),
+        Some(block) => nodes_of_block(alloc, path, block, true),
         None => get_child_nodes_opt(log, alloc, storage, path, true, version),
     }
 }
 
-// The nodes below a path that a block holds.
-fn nodes_of_block(
+/// The nodes below a path that a block holds, siblings ascending: those between which and the path all are groups of the block. Or those
+/// directly below the path, without children. The pairs of a block ascend once they are expanded, and are not sorted for their trees.
+///
+/// # Errors
+///
+/// - `NodePathError` where a key of the block is no relative path.
+/// - `OutOfMemory` where memory is wanting.
+///
+/// Source: own; `zarrs::group::Group::children` makes them of the expanded pairs.
+pub fn nodes_of_block(
     alloc: Global,
     path: &NodePath,
     block: ConsolidatedMetadata,
+    recursive: bool,
 ) -> Result<Vec<Node>, NodeCreateError>
-    ensures shows { IfOk result (λ nodes. Shows (forest nodes.items) path.now (Kept (Entries block.metadata path.now) true path.now)) }
+    ensures shows { IfOk result (λ nodes. Shows (forest nodes.items) path.now (Kept (Entries block.metadata path.now) recursive path.now)) }
     ensures keys { IfOk result (λ _. HasValidKeys block.metadata) }
     ensures err { IfErr result (RefusesKeys block.metadata) }
 {
     let pairs = expand_consolidated_metadata(alloc, path, block)?;
-    let (nodes, _steps) = build_ascending(alloc, path, pairs)?;
-    Ok(nodes)
+    if recursive {
+        let (nodes, _steps) = build_ascending(alloc, path, pairs)?;
+        Ok(nodes)
+    } else {
+        Ok(direct_children_from_flat(alloc, path, pairs)?)
+    }
 }

@@ -143,8 +143,9 @@ fn read_anew<S: ReadableStorageTraits + ListableStorageTraits>(
     ensures clean { IfOk result (λ _. BadAnew (S.contents storage.now) version.now path.now → ⊥) }
     ensures refused { IfErr result (λ e. IsExcused (S.can_fail storage.now) e ⊎ ShowsBadAnew (S.contents storage.now) version.now path.now e) }
 {
+    let prefix = path.to_prefix(alloc)?;
     let mut last = LastDocuments::new(alloc);
-    let found = find_metadata(alloc, storage, path, version, &mut last);
+    let found = find_metadata(alloc, storage, &prefix, version, &mut last);
     drop(last);
     let mut pairs = Vec::new(alloc);
     let Some(metadata) = found? else {

@@ -1,6 +1,9 @@
 use Rattle.std.proofs.Common.{◌≡◌, ◌++◌, [], ◌∷◌, reverse, sym, ap, subst, ◌∙◌, true≢false}
 use Rattle.std.proofs.lemmas.Result.{err_from_is_err_and}
-use Rattle.zarrs_node.proofs.Turns.{left_none, turn_refused, falls_alone, falls_deeper}
+use Rattle.zarrs_store.specs.Children.{AreVisibleChildren}
+use Rattle.zarrs_node.specs.Forest.{told, passed}
+use Rattle.zarrs_node.specs.Sinks.{TakesAll}
+use Rattle.zarrs_node.proofs.Turns.{left_none, turn_above, turn_refused, falls_alone, falls_deeper}
 use Rattle.zarrs_node.proofs.Feeding.{HasFed, fed_start, fed_forest, fed_ignored, fed_clean, fed_alone, fed_deeper}
 use Rattle.zarrs_node.proofs.descent.walk.Goals as goal
 use Rattle.zarrs_node.proofs.descent.walk.Goals.{then-recursive+then-is_group+in_ok-push_children-2, else-recursive, else-recursive-via-then-recursive+else-is_group, else-recursive-via-else-recursive}
@@ -8,18 +11,29 @@ use Rattle.zarrs_node.proofs.descent.walk.Goals.{then-recursive+then-is_group+in
 pub loop-prefix-init : goal.loop-prefix-init
 loop-prefix-init g c =
     let p = c.in_ok-push_children.ensures.ok in
-    fed_start g.K.NodeSink.takes (g.S.Store.contents c.args.storage.now) c.args.version.now c.args.recursive c.args.path.now c.args.sink.now p.children p.discovered _ _ c.new-ignored.ensures.items (p.stacked ∙ ap (λ x. x ++ reverse p.children) c.new-pending.ensures.items)
+    fed_start g.K.NodeSink.takes (g.S.Store.contents c.args.storage.now) c.args.version.now c.args.recursive c.args.path.now c.args.sink.now p.children
+    (subst (λ q. AreVisibleChildren (g.S.Store.contents c.args.storage.now) q p.children) c.in_ok-base.ensures.ok p.discovered) _ _ c.new-ignored.ensures.items (p.stacked ∙ ap (λ x. x ++ reverse p.children) c.new-pending.ensures.items)
 
-pub returns-in_err-child-clause-refused : goal.returns-in_err-child-clause-refused
-returns-in_err-child-clause-refused g c =
+pub read_child-requires : goal.read_child-requires
+read_child-requires g c =
     let s = g.S.Store.contents c.args.storage.now in
     let v = c.args.version.now in
     let r = c.args.recursive in
     let b = c.args.path.now in
     let ig = c.loop-prefix.ignored.items in
     let at = subst (HasFed g.K.NodeSink.takes s v r b c.args.sink.now c.loop-prefix.sink ig) c.in-Some.ensures.items c.loop-prefix.invariant in
-    let p = err_from_is_err_and c.from_residual-in_err-child.result c.from_residual-in_err-child.ensures.1 in
-    rw (p.1, p.2) (turn_refused s v r b c.in-Some.prefix (g.S.Store.can_fail c.args.storage.now) at.nodes ig c.pop.new.self.items at.nodes ig at.walked _ c.in_ok-push_children.ensures.valid c.in_err-child.ensures.valid c.in_err-child.ensures.refused)
+    record { above = turn_above s v r b c.in-Some.prefix (g.S.Store.can_fail c.args.storage.now) at.nodes ig c.pop.new.self.items at.nodes ig at.walked c.in_ok-base.ensures.valid }
+
+pub returns-in_err-found-clause-refused : goal.returns-in_err-found-clause-refused
+returns-in_err-found-clause-refused g c =
+    let s = g.S.Store.contents c.args.storage.now in
+    let v = c.args.version.now in
+    let r = c.args.recursive in
+    let b = c.args.path.now in
+    let ig = c.loop-prefix.ignored.items in
+    let at = subst (HasFed g.K.NodeSink.takes s v r b c.args.sink.now c.loop-prefix.sink ig) c.in-Some.ensures.items c.loop-prefix.invariant in
+    let p = err_from_is_err_and c.from_residual-in_err-found.result c.from_residual-in_err-found.ensures.1 in
+    rw (p.1, p.2) (turn_refused s v r b c.in-Some.prefix (g.S.Store.can_fail c.args.storage.now) at.nodes ig c.pop.new.self.items at.nodes ig at.walked _ c.in_ok-base.ensures.valid c.in_err-found.ensures.segments c.in_err-found.ensures.refused)
 
 pub loop-prefix-preserved : goal.loop-prefix-preserved
 loop-prefix-preserved g c =
@@ -31,18 +45,21 @@ loop-prefix-preserved g c =
     let a = c.args.sink.now in
     let z = c.loop-prefix.sink in
     let ps = c.pop.new.self.items in
-    let child = c.in_ok-child.child in
+    let child = c.in-Some.prefix in
     let can_fail = g.S.Store.can_fail c.args.storage.now in
     let ig = c.loop-prefix.ignored.items in
-    let at = subst (HasFed takes s v r b a z ig) (c.in-Some.ensures.items ∙ ap (λ q. ps ++ q ∷ []) (sym c.in_ok-child.ensures.path.0)) c.loop-prefix.invariant in
+    let at = subst (HasFed takes s v r b a z ig) c.in-Some.ensures.items c.loop-prefix.invariant in
+    let found = c.in_ok-found.found in
+    let told_all = subst (λ q. TakesAll takes z (told q found) c.tell.new.sink) c.in_ok-child.ensures c.in_ok-tell.ensures.nodes in
+    let passed_all = c.in_ok-tell.ensures.ignored ∙ ap (λ q. ig ++ passed q found []) c.in_ok-child.ensures in
     elim c.if-recursive.branch [
       | then-recursive+then-is_group+in_ok-push_children-2 w ↦
           let p = w.in_ok-push_children-2.ensures.ok in
-          fed_deeper takes s v r b a child can_fail z ig ps at c.in_ok-child.ensures.path.1 c.in_ok-child.found c.in_ok-child.ensures.found c.tell.new.sink c.tell.new.ignored.items c.in_ok-tell.ensures.nodes c.in_ok-tell.ensures.ignored
+          fed_deeper takes s v r b a child can_fail z ig ps at c.in_ok-found.ensures.valid found c.in_ok-found.ensures.found c.tell.new.sink c.tell.new.ignored.items told_all passed_all
           w.if-recursive.true (sym w.if-is_group.true ∙ w.is_group.ensures) p.children p.discovered c.if-recursive.pending.items (ap (λ x. x.items) w.pending-is ∙ p.stacked)
       | else-recursive w ↦
           subst (HasFed takes s v r b a c.tell.new.sink c.tell.new.ignored.items) (sym (ap (λ x. x.items) w.pending-is))
-          (fed_alone takes s v r b a child can_fail z ig ps at c.in_ok-child.ensures.path.1 c.in_ok-child.found c.in_ok-child.ensures.found c.tell.new.sink c.tell.new.ignored.items c.in_ok-tell.ensures.nodes c.in_ok-tell.ensures.ignored
+          (fed_alone takes s v r b a child can_fail z ig ps at c.in_ok-found.ensures.valid found c.in_ok-found.ensures.found c.tell.new.sink c.tell.new.ignored.items told_all passed_all
           (λ deep group. elim w.else-recursive.branch [
             | else-recursive-via-then-recursive+else-is_group w' ↦ true≢false (group ∙ sym w'.is_group.ensures ∙ w'.if-is_group.false)
             | else-recursive-via-else-recursive w' ↦ true≢false (sym deep ∙ w'.if-recursive.false)
@@ -56,9 +73,9 @@ loop-prefix-smaller g c =
     let r = c.args.recursive in
     let b = c.args.path.now in
     let ps = c.pop.new.self.items in
-    let child = c.in_ok-child.child in
+    let child = c.in-Some.prefix in
     let can_fail = g.S.Store.can_fail c.args.storage.now in
-    let read : c.loop-prefix.pending.items ≡ ps ++ child ∷ [] = c.in-Some.ensures.items ∙ ap (λ q. ps ++ q ∷ []) (sym c.in_ok-child.ensures.path.0) in
+    let read : c.loop-prefix.pending.items ≡ ps ++ child ∷ [] = c.in-Some.ensures.items in
     let ig = c.loop-prefix.ignored.items in
     let at = subst (HasFed g.K.NodeSink.takes s v r b c.args.sink.now c.loop-prefix.sink ig) read c.loop-prefix.invariant in
     let xs = at.nodes in
