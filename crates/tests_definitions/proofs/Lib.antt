@@ -1,0 +1,12 @@
+pub mod Names
+pub mod Keys
+pub mod Stores
+pub mod Meanings
+pub mod Reached
+pub mod Listing
+pub mod Lines
+pub mod Blocks
+pub mod Fresh
+pub mod Documents
+pub mod Edits
+pub mod Conversions
