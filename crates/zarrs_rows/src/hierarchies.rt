@@ -124,17 +124,19 @@ nothing | / | auto | tree => Metadata is missing for /
 zarr.json G3 | x | auto | tree => invalid node path x
 # siblings stand in the order of names
 zarr.json G3; a/zarr.json G3; a/x/zarr.json G3; a-b/zarr.json G3 | / | auto | tree => /\n  a\n    x\n  a-b\n
+zarr.json G3; a/zarr.json G3; a/x/zarr.json G3; a-b/zarr.json G3 | / | auto | / => /\n  a\n    x\n  a-b\n
 # three levels are printed from each path
 THREE_LEVELS | / | auto | tree => /\n  array [10, 10] float32\n  group\n    array [10, 10] float32\n    subgroup\n      mysubarray [10, 10] float32\n
 THREE_LEVELS | / | auto | /group/subgroup => /group/subgroup\n  mysubarray [10, 10] float32\n
 THREE_LEVELS | /array | auto | tree => /\n  array [10, 10] float32\n
 # a sibling with a longer name is not below
 zarr.json G3; group/zarr.json G3; group/subgroup/zarr.json G3; group2/zarr.json G3; group2/a/zarr.json G3 | / | auto | /group => /group\n  subgroup\n
+zarr.json G3; group/zarr.json G3; group/subgroup/zarr.json G3; array/zarr.json SQUARE; group/array/zarr.json SQUARE; group/subgroup/mysubarray/zarr.json SQUARE; group2/zarr.json G3 | / | auto | /group => /group\n  array [10, 10] float32\n  subgroup\n    mysubarray [10, 10] float32\n
 # a hierarchy is copied and looked up
 THREE_LEVELS | / | auto | copy => /\n  array [10, 10] float32\n  group\n    array [10, 10] float32\n    subgroup\n      mysubarray [10, 10] float32\n
 THREE_LEVELS | / | auto | told => true false 6 false
 # of two spellings the one without the slash counts
-zarr.json {"consolidated_metadata":{"kind":"inline","metadata":{"-x":{"chunk_grid":{"configuration":{"chunk_shape":[1]},"name":"regular"},"chunk_key_encoding":{"configuration":{"separator":"/"},"name":"default"},"codecs":[{"configuration":{"endian":"little"},"name":"bytes"}],"data_type":"float32","fill_value":0,"node_type":"array","shape":[1],"zarr_format":3},"/-x":{"chunk_grid":"regular","chunk_key_encoding":"default","codecs":[],"data_type":"float32","fill_value":0,"node_type":"array","shape":[2],"zarr_format":3}},"must_understand":false},"node_type":"group","zarr_format":3} | / | auto | tree => /\n  -x [1] float32\n
+zarr.json {"consolidated_metadata":{"kind":"inline","metadata":{"-x":{"chunk_grid":{"configuration":{"chunk_shape":[1]},"name":"regular"},"chunk_key_encoding":{"configuration":{"separator":"/"},"name":"default"},"codecs":[{"configuration":{"endian":"little"},"name":"bytes"}],"data_type":"float32","fill_value":0,"node_type":"array","shape":[1],"zarr_format":3},"/-x":{"chunk_grid":{"configuration":{"chunk_shape":[2]},"name":"regular"},"chunk_key_encoding":{"configuration":{"separator":"/"},"name":"default"},"codecs":[{"configuration":{"endian":"little"},"name":"bytes"}],"data_type":"float32","fill_value":0,"node_type":"array","shape":[2],"zarr_format":3}},"must_understand":false},"node_type":"group","zarr_format":3} | / | auto | tree => /\n  -x [1] float32\n
 # a hierarchy has all entries of a block
 zarr.json {"consolidated_metadata":{"kind":"inline","metadata":{"a":{"chunk_grid":{"configuration":{"chunk_shape":[1]},"name":"regular"},"chunk_key_encoding":{"configuration":{"separator":"/"},"name":"default"},"codecs":[{"configuration":{"endian":"little"},"name":"bytes"}],"data_type":"float32","fill_value":0,"node_type":"array","shape":[1],"zarr_format":3},"a/y":{"node_type":"group","zarr_format":3},"q/r":{"node_type":"group","zarr_format":3}},"must_understand":false},"node_type":"group","zarr_format":3} | / | auto | tree => /\n  a [1] float32\n    y\n    r\n
 zarr.json {"consolidated_metadata":{"kind":"inline","metadata":{"a":{"chunk_grid":{"configuration":{"chunk_shape":[1]},"name":"regular"},"chunk_key_encoding":{"configuration":{"separator":"/"},"name":"default"},"codecs":[{"configuration":{"endian":"little"},"name":"bytes"}],"data_type":"float32","fill_value":0,"node_type":"array","shape":[1],"zarr_format":3},"a/y":{"node_type":"group","zarr_format":3},"q/r":{"node_type":"group","zarr_format":3}},"must_understand":false},"node_type":"group","zarr_format":3} | / | never | tree => /\n
@@ -297,6 +299,7 @@ const GROUPS: &str = r#"
 # a group has what is listed below it
 THREE_LEVELS | / | len => 6
 THREE_LEVELS | / | tree => /\n  array [10, 10] float32\n  group\n    array [10, 10] float32\n    subgroup\n      mysubarray [10, 10] float32\n
+THREE_LEVELS | / | /group/subgroup => /group/subgroup\n  mysubarray [10, 10] float32\n
 # a group of version 2 has what is listed below it
 groupv2/.zgroup G2; groupv2/arrayv2/.zarray A2 | /groupv2 | tree => /\n  groupv2\n    arrayv2 [1] Simple("<f8")\n
 "#;

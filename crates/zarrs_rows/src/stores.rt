@@ -2,7 +2,7 @@
 
 use std::alloc::{AllocError, Global};
 use std::fmt::Display;
-use zarrs_rows_fixtures::{THREE_LEVELS, key_of, store_of};
+use zarrs_rows_fixtures::{A3_SQUARE, THREE_LEVELS, key_of, store_of};
 use zarrs_rows_table::{A2, A3, G2, G3};
 use zarrs_store::{MemoryStore, StorageError, WritableStorageTraits};
 
@@ -33,6 +33,7 @@ pub(crate) fn document_of(text: &str) -> &str {
         "A3" => A3,
         "G2" => G2,
         "G3" => G3,
+        "SQUARE" => A3_SQUARE,
         "NUL" => "\0",
         _ => text,
     }

@@ -94,6 +94,9 @@ const BLOCKS: &str = r#"
 [] => not an object
 {} => missing member kind
 {"kind":"other","must_understand":true} => bad member kind
+{"kind":"outline","metadata":{},"must_understand":false} => bad member kind
+{"kind":"inline","must_understand":false} => missing member metadata
+{"kind":"inline","metadata":{},"must_understand":true} => bad member must_understand
 {"kind":null} => bad member kind
 {"kind":"inline","must_understand":true} => bad member must_understand
 {"kind":"inline","must_understand":null} => bad member must_understand
@@ -199,6 +202,9 @@ const EXPANDED: &str = r#"
 /group | foo={"node_type":"group","zarr_format":3};sub/leaf={"node_type":"group","zarr_format":3};/={"node_type":"group","zarr_format":3};={"node_type":"group","zarr_format":3} => /group/foo {"node_type":"group","zarr_format":3}\n/group/sub/leaf {"node_type":"group","zarr_format":3}\n
 /group | foo={"node_type":"group","zarr_format":3};sub/leaf={"node_type":"group","zarr_format":3};/={"node_type":"group","zarr_format":3};foo/={"node_type":"group","zarr_format":3} => invalid node path invalid node name `` in 'foo/'
 /group | foo={"node_type":"group","zarr_format":3};sub/leaf={"node_type":"group","zarr_format":3};/={"node_type":"group","zarr_format":3};//foo={"node_type":"group","zarr_format":3} => invalid node path invalid node name `` in '/foo'
+/group | foo={"node_type":"group","zarr_format":3};sub/leaf={"node_type":"group","zarr_format":3};={"node_type":"group","zarr_format":3};/={"node_type":"group","zarr_format":3};foo/={"node_type":"group","zarr_format":3} => invalid node path invalid node name `` in 'foo/'
+/group | foo={"node_type":"group","zarr_format":3};sub/leaf={"node_type":"group","zarr_format":3};={"node_type":"group","zarr_format":3};/={"node_type":"group","zarr_format":3};//foo={"node_type":"group","zarr_format":3} => invalid node path invalid node name `` in '/foo'
+/ | foo={"chunk_grid":"g","chunk_key_encoding":"k","codecs":[],"data_type":"float32","fill_value":0,"node_type":"array","shape":[1],"zarr_format":3};/bar={"chunk_grid":"g","chunk_key_encoding":"k","codecs":[],"data_type":"float32","fill_value":0,"node_type":"array","shape":[1],"zarr_format":3};={"node_type":"group","zarr_format":3};/={"node_type":"group","zarr_format":3} => /bar {"chunk_grid":"g","chunk_key_encoding":"k","codecs":[],"data_type":"float32","fill_value":0,"node_type":"array","shape":[1],"zarr_format":3}\n/foo {"chunk_grid":"g","chunk_key_encoding":"k","codecs":[],"data_type":"float32","fill_value":0,"node_type":"array","shape":[1],"zarr_format":3}\n
 # Pairs stand in the order of paths and not of keys.
 / | a-b={"node_type":"group","zarr_format":3};a/c={"node_type":"group","zarr_format":3};b={"node_type":"group","zarr_format":3};/a={"node_type":"group","zarr_format":3} => /a {"node_type":"group","zarr_format":3}\n/a/c {"node_type":"group","zarr_format":3}\n/a-b {"node_type":"group","zarr_format":3}\n/b {"node_type":"group","zarr_format":3}\n
 # The key without a slash counts.
@@ -314,6 +320,7 @@ Auto | {"consolidated_metadata":{"kind":"inline","metadata":{}},"node_type":"gro
 Never | {"consolidated_metadata":{"kind":"inline","metadata":{}},"node_type":"group","zarr_format":3} => none
 Auto | {"consolidated_metadata":{},"node_type":"group","zarr_format":3} => none
 Must | {"consolidated_metadata":{},"node_type":"group","zarr_format":3} => Metadata is missing for Consolidated metadata required but missing on group /g
+Auto | {"zarr_format":2} => none
 Must | {"zarr_format":2} => Metadata is missing for Consolidated metadata required but missing on group /g
 Auto | {"chunk_grid":"g","chunk_key_encoding":"k","codecs":[],"data_type":"float32","fill_value":0,"node_type":"array","shape":[1],"zarr_format":3} => none
 "#;

@@ -370,6 +370,10 @@ const NODES: &str = r#"
 {"zarr_format":3,"node_type":"array"} => missing member shape
 {"zarr_format":3,"node_type":"group","attributes":1} => bad member attributes
 {"zarr_format":3,"node_type":"group","attributes":{"spam":"ham","eggs":42}} => {"attributes":{"eggs":42,"spam":"ham"},"node_type":"group","zarr_format":3}
+{"node_type":"group","zarr_format":3}x => not JSON
+{"node_type":"group","zarr_format":3}¶ => {"node_type":"group","zarr_format":3}
+{"attributes":{"k":[[[[[[[[[[[[[[[[[[[[[[[[[[[[[[[[[[[[[[[[[[[[[[[[[[[[[[[[[[[[[[[[[[[[[[[[[[[[[[[[[[[[[[[[[[[[[[[[[[[[]]]]]]]]]]]]]]]]]]]]]]]]]]]]]]]]]]]]]]]]]]]]]]]]]]]]]]]]]]]]]]]]]]]]]]]]]]]]]]]]]]]]]]]]]]]]]]]]]]]]},"node_type":"group","zarr_format":3} => {"attributes":{"k":[[[[[[[[[[[[[[[[[[[[[[[[[[[[[[[[[[[[[[[[[[[[[[[[[[[[[[[[[[[[[[[[[[[[[[[[[[[[[[[[[[[[[[[[[[[[[[[[[[[[]]]]]]]]]]]]]]]]]]]]]]]]]]]]]]]]]]]]]]]]]]]]]]]]]]]]]]]]]]]]]]]]]]]]]]]]]]]]]]]]]]]]]]]]]]]]]]]]]]]]},"node_type":"group","zarr_format":3}
+{"attributes":{"k":[[[[[[[[[[[[[[[[[[[[[[[[[[[[[[[[[[[[[[[[[[[[[[[[[[[[[[[[[[[[[[[[[[[[[[[[[[[[[[[[[[[[[[[[[[[[[[[[[[[[[[[[[[[[[[[[[[[[[[[[[[[[[[[[[[[[[[[[[[[[[[[[[[[[[[[[[[[[[[[[[[[[[[[[[[[[[[[[[[[[[[[[[[[[[[[[[[[[[[[[]]]]]]]]]]]]]]]]]]]]]]]]]]]]]]]]]]]]]]]]]]]]]]]]]]]]]]]]]]]]]]]]]]]]]]]]]]]]]]]]]]]]]]]]]]]]]]]]]]]]]]]]]]]]]]]]]]]]]]]]]]]]]]]]]]]]]]]]]]]]]]]]]]]]]]]]]]]]]]]]]]]]]]]]]]]]]]]]]]]]]]]]]]]]]]]]]]]]]]]]},"node_type":"group","zarr_format":3} => not JSON
 {"zarr_format":3,"node_type":"group"}x => not JSON
 {"zarr_format":3,"node_type":"group"}¶ => {"node_type":"group","zarr_format":3}
 {"node_type":"group","zarr_format":3} => {"node_type":"group","zarr_format":3}
@@ -440,6 +444,15 @@ fn bytes_that_are_not_utf_8_are_not_json(rt: HostRuntime) {
         "not UTF-8",
         read,
         GroupMetadataV3::to_text,
+        "not JSON",
+    );
+    let read = NodeMetadata::from_bytes(alloc, not_utf8);
+    assert_says(
+        &rt,
+        alloc,
+        "not UTF-8",
+        read,
+        NodeMetadata::to_text,
         "not JSON",
     );
 }

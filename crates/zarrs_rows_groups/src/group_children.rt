@@ -10,6 +10,7 @@ use zarrs_block::{ConsolidatedMetadata, ConsolidatedMetadataMetadata, NodeCreate
 use zarrs_config::{Config, UseConsolidatedMetadata};
 use zarrs_group::{Group, GroupCreateError};
 use zarrs_meta::{GroupMetadata, GroupMetadataV2, NodeMetadata};
+use zarrs_node::Node;
 use zarrs_path::NodePath;
 use zarrs_rows_fixtures::{
     A3_SQUARE, both, config_of, forest_text, key_of, no_word, node_at, pairs_text, paths_text,
@@ -283,6 +284,7 @@ block | - | /g | {"consolidated_metadata":{"kind":"outline","metadata":{}},"node
 block | - | /g | {"consolidated_metadata":{"kind":"inline"},"node_type":"group","zarr_format":3} | - => none
 block | - | /g | {"consolidated_metadata":{"kind":"inline","metadata":{},"must_understand":true},"node_type":"group","zarr_format":3} | - => none
 block | - | /g | {"consolidated_metadata":{"kind":"inline","metadata":{"a":{}}},"node_type":"group","zarr_format":3} | - => none
+block | - | /g | {"consolidated_metadata":{"kind":"inline","metadata":{"a":{"attributes":1,"node_type":"group","zarr_format":3}},"must_understand":false},"node_type":"group","zarr_format":3} | - => none
 block | - | /g | {"consolidated_metadata":null,"node_type":"group","zarr_format":3} | - => none
 block | - | /g | G3 | - => none
 block | - | /g | OLD | - => none
@@ -337,6 +339,11 @@ fn opened_text(
     store: &MemoryStore,
     path: &str,
 ) -> Result<String, StorageError> {
+    if let Some(policy) = look.strip_prefix("node ") {
+        let config = config_of(policy_of(alloc, policy)?);
+        let node = Node::open(&Discard, alloc, store, path, &config);
+        return Ok(said(alloc, node, Node::hierarchy_tree)?);
+    }
     let opened = Group::open(alloc, store, path, &Config::new());
     let text = match look {
         "text" => said(alloc, opened, Group::to_text)?,
@@ -389,6 +396,14 @@ text | / | G3 | {} => group at / with metadata {"consolidated_metadata":{"kind":
 auto | /group | G3 | LEVELS => /group/array [10, 10] float32\n/group/subgroup\n  mysubarray [10, 10] float32\n
 must | /group | G3 | LEVELS => /group/array [10, 10] float32\n/group/subgroup\n  mysubarray [10, 10] float32\n
 never | /group | G3 | LEVELS =>
+
+# So is the node at its path, where nothing else is stored.
+node auto | /group | G3 | LEVELS => /\n  array [10, 10] float32\n  subgroup\n    mysubarray [10, 10] float32\n
+node must | /group | G3 | LEVELS => /\n  array [10, 10] float32\n  subgroup\n    mysubarray [10, 10] float32\n
+node never | /group | G3 | LEVELS => /\n
+node auto | /g | OLD_LEVELS | - => /\n  a [1] Simple("<f8")\n
+node must | /g | OLD_LEVELS | - => /\n  a [1] Simple("<f8")\n
+node never | /g | OLD_LEVELS | - => /\n
 "#;
 
 #[test]
@@ -532,13 +547,29 @@ auto | - | /group | G3 | foo=A3 a/..=G3 => trees:\ninvalid node path invalid nod
 must | - | /group | G3 | foo=A3 a/..=G3 => trees:\ninvalid node path invalid node name `..` in 'a/..'all:\ninvalid node path invalid node name `..` in 'a/..'
 never | - | /group | G3 | foo=A3 a/..=G3 => trees:\nall:\n
 
+# A key that is no path refuses also beside one that is, and the store is listed where no block is used.
+auto | group/other/zarr.json=G3 | /group | G3 | foo=A3 /foo=A3 //foo=G3 => trees:\ninvalid node path invalid node name `` in '/foo'all:\ninvalid node path invalid node name `` in '/foo'
+must | group/other/zarr.json=G3 | /group | G3 | foo=A3 /foo=A3 //foo=G3 => trees:\ninvalid node path invalid node name `` in '/foo'all:\ninvalid node path invalid node name `` in '/foo'
+never | group/other/zarr.json=G3 | /group | G3 | foo=A3 /foo=A3 //foo=G3 => trees:\n/group/other\nall:\n/group/other group\n
+auto | group/other/zarr.json=G3 | /group | G3 | __x=G3 => trees:\ninvalid node path invalid node name `__x` in '__x'all:\ninvalid node path invalid node name `__x` in '__x'
+must | group/other/zarr.json=G3 | /group | G3 | __x=G3 => trees:\ninvalid node path invalid node name `__x` in '__x'all:\ninvalid node path invalid node name `__x` in '__x'
+never | group/other/zarr.json=G3 | /group | G3 | __x=G3 => trees:\n/group/other\nall:\n/group/other group\n
+auto | group/other/zarr.json=G3 | /group | G3 | a/..=G3 => trees:\ninvalid node path invalid node name `..` in 'a/..'all:\ninvalid node path invalid node name `..` in 'a/..'
+must | group/other/zarr.json=G3 | /group | G3 | a/..=G3 => trees:\ninvalid node path invalid node name `..` in 'a/..'all:\ninvalid node path invalid node name `..` in 'a/..'
+never | group/other/zarr.json=G3 | /group | G3 | a/..=G3 => trees:\n/group/other\nall:\n/group/other group\n
+
 # The key without a slash counts.
 trees | - | / | G3 | -x=A3 /-x=SQUARE => /-x [1] float32\n
 children | - | / | G3 | -x=A3 /-x=SQUARE => /-x [1] float32\n
+trees | - | / | G3 | -x=A3 /-x={"chunk_grid":{"configuration":{"chunk_shape":[2]},"name":"regular"},"chunk_key_encoding":{"configuration":{"separator":"/"},"name":"default"},"codecs":[{"configuration":{"endian":"little"},"name":"bytes"}],"data_type":"float32","fill_value":0,"node_type":"array","shape":[2],"zarr_format":3} => /-x [1] float32\n
+children | - | / | G3 | -x=A3 /-x={"chunk_grid":{"configuration":{"chunk_shape":[2]},"name":"regular"},"chunk_key_encoding":{"configuration":{"separator":"/"},"name":"default"},"codecs":[{"configuration":{"endian":"little"},"name":"bytes"}],"data_type":"float32","fill_value":0,"node_type":"array","shape":[2],"zarr_format":3} => /-x [1] float32\n
+documents | - | / | G3 | -x=A3 /-x={"chunk_grid":{"configuration":{"chunk_shape":[2]},"name":"regular"},"chunk_key_encoding":{"configuration":{"separator":"/"},"name":"default"},"codecs":[{"configuration":{"endian":"little"},"name":"bytes"}],"data_type":"float32","fill_value":0,"node_type":"array","shape":[2],"zarr_format":3} => {"chunk_grid":{"configuration":{"chunk_shape":[1]},"name":"regular"},"chunk_key_encoding":{"configuration":{"separator":"/"},"name":"default"},"codecs":[{"configuration":{"endian":"little"},"name":"bytes"}],"data_type":"float32","fill_value":0,"node_type":"array","shape":[1],"zarr_format":3}
 documents | - | / | G3 | -x=A3 /-x=SQUARE => {"chunk_grid":{"configuration":{"chunk_shape":[1]},"name":"regular"},"chunk_key_encoding":{"configuration":{"separator":"/"},"name":"default"},"codecs":[{"configuration":{"endian":"little"},"name":"bytes"}],"data_type":"float32","fill_value":0,"node_type":"array","shape":[1],"zarr_format":3}
 
 # Entries below no group are traversed and are no children.
 auto | - | / | G3 | a=A3 a/y=G3 q/r=G3 => trees:\n/a [1] float32\nall:\n/a array\n/a/y group\n/q/r group\n
+
+must | - | /g | OLD | x/y=G2 => trees:\nall:\n/g/x/y group\n
 
 # Without a block the store is listed.
 auto | THREE_LEVELS | /group | G3 | - => trees:\n/group/array [10, 10] float32\n/group/subgroup\n  mysubarray [10, 10] float32\nall:\n/group/array array\n/group/subgroup group\n/group/subgroup/mysubarray array\n

@@ -11,7 +11,7 @@ use zarrs_meta::{
     AdditionalFieldV3, AdditionalFieldsV3, GroupMetadata, GroupMetadataV2, GroupMetadataV3, Object,
 };
 use zarrs_path::{NodePath, NodePathError};
-use zarrs_rows_fixtures::{no_word, version_of};
+use zarrs_rows_fixtures::{config_of as config_by, no_word, policy_of, version_of};
 use zarrs_rows_group_fixtures::{Step, done};
 use zarrs_rows_table::{check_rows, fields};
 use zarrs_store::{
@@ -201,7 +201,7 @@ fn said(
 
 // ---- opening
 
-// What opening a path says by a version, or by default for `-`, over the store with the documents of a list.
+// What opening a path says by a version, by a policy of blocks, or by default for `-`, over the store with the documents of a list.
 fn opened(alloc: Global, given: &str) -> Result<String, GroupCreateError> {
     let (path, rest) = fields(given);
     let (version, list) = fields(rest);
@@ -209,6 +209,10 @@ fn opened(alloc: Global, given: &str) -> Result<String, GroupCreateError> {
     let config = Config::new();
     match version {
         "-" => said(alloc, Group::open(alloc, &store, path, &config)),
+        "auto" | "must" | "never" => {
+            let config = config_by(policy_of(alloc, version)?);
+            said(alloc, Group::open(alloc, &store, path, &config))
+        }
         word => {
             let version = version_of(alloc, word)?;
             said(
@@ -252,6 +256,9 @@ abc | - | zarr.json=G3 => invalid node path abc
 /g | - | g/zarr.json={"a":{"must_understand":false},"node_type":"group","zarr_format":3} => group at /g with metadata {"a":{"must_understand":false},"node_type":"group","zarr_format":3}
 /g | - | g/zarr.json={"attributes":{"n":1.5},"node_type":"group","zarr_format":3} => error parsing metadata for g/zarr.json: unsupported number
 /g | - | g/zarr.json={"consolidated_metadata":{"kind":"inline","metadata":{"a":{"attributes":{"n":1.5},"node_type":"group","zarr_format":3}}},"node_type":"group","zarr_format":3} => error parsing metadata for g/zarr.json: unsupported number
+/ | auto | zarr.json={"consolidated_metadata":{"kind":"inline","metadata":{"a":{"attributes":{"n":1.5},"node_type":"group","zarr_format":3}}},"node_type":"group","zarr_format":3} => error parsing metadata for zarr.json: unsupported number
+/ | must | zarr.json={"consolidated_metadata":{"kind":"inline","metadata":{"a":{"attributes":{"n":1.5},"node_type":"group","zarr_format":3}}},"node_type":"group","zarr_format":3} => error parsing metadata for zarr.json: unsupported number
+/ | never | zarr.json={"consolidated_metadata":{"kind":"inline","metadata":{"a":{"attributes":{"n":1.5},"node_type":"group","zarr_format":3}}},"node_type":"group","zarr_format":3} => error parsing metadata for zarr.json: unsupported number
 /g | - | g/zarr.json={"consolidated_metadata":null,"node_type":"group","zarr_format":3} => group at /g with metadata {"node_type":"group","zarr_format":3}
 /g | - | g/zarr.json={"consolidated_metadata":{"kind":"inline","metadata":{}},"node_type":"group","zarr_format":3} => unsupported additional field consolidated_metadata
 /g | - | g/zarr.json={"unknown":"unsupported","node_type":"group","zarr_format":3} => unsupported additional field unknown

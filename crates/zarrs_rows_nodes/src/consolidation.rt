@@ -1,11 +1,12 @@
 //! The block of a node, made of all nodes below it.
 
-use crate::given::{document_name, list_of, pairs_in};
+use crate::given::{document_name, list_of, pairs_in, store_in};
+use log::sink::Discard;
 use std::alloc::{AllocError, Global};
 use std::test::Fail;
 use zarrs_block::{ConsolidatedMetadataMetadata, NodeCreateError};
 use zarrs_meta::{GroupMetadata, GroupMetadataV3, NodeMetadata};
-use zarrs_node::{Node, laws};
+use zarrs_node::{Node, consolidate_nodes_of, laws};
 use zarrs_path::NodePath;
 use zarrs_rows_fixtures::{ANY, metadata_at, no_word, node_at};
 use zarrs_rows_table::{check_rows, fields, said};
@@ -77,8 +78,23 @@ fn node_given(alloc: Global, given: &str) -> Result<Node, NodeCreateError> {
     }
 }
 
+// The block of all that is listed below a path of a store.
+fn listed(
+    alloc: Global,
+    given: &str,
+) -> Result<Option<ConsolidatedMetadataMetadata>, NodeCreateError> {
+    let (path, documents) = fields(given);
+    let path = NodePath::new(alloc, path)?;
+    let store = store_in(alloc, documents)?;
+    let block = consolidate_nodes_of(&Discard, alloc, &store, &path, &ANY)?;
+    Ok(Some(block))
+}
+
 fn block_said(alloc: Global, given: &str) -> Result<String, AllocError> {
-    said(alloc, node_given(alloc, given), block_text)
+    match fields(given) {
+        ("listed", rest) => said(alloc, listed(alloc, rest), lines_text),
+        _ => said(alloc, node_given(alloc, given), block_text),
+    }
 }
 
 // Where a node is from, its path, and the store or the nodes below it; the keys of its block with the words for their documents.
@@ -86,6 +102,9 @@ const BLOCKS: &str = r#"
 # all below a group stand at their names beyond it
 stored | /group | three levels => array square\nsubgroup g3\nsubgroup/mysubarray square\n
 stored | / | three levels => array square\ngroup g3\ngroup/array square\ngroup/subgroup g3\ngroup/subgroup/mysubarray square\n
+
+listed | /group | three levels => array square\nsubgroup g3\nsubgroup/mysubarray square\n
+listed | / | three levels => array square\ngroup g3\ngroup/array square\ngroup/subgroup g3\ngroup/subgroup/mysubarray square\n
 
 # a group without children has an empty block
 stored | /g | g/.zgroup g2 =>

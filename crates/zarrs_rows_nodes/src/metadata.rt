@@ -71,6 +71,7 @@ fn existence(alloc: Global, given: &str) -> Result<String, NodeCreateError> {
 
 // Path and store; whether a node is there, by either call.
 const EXISTENCE: &str = r#"
+/a | a/.zattrs {} => false false
 /a | a/.zattrs {};b/zarr.json x;c/.zarray;d/.zgroup;e/zarr.json/x => false false
 /b | a/.zattrs {};b/zarr.json x;c/.zarray;d/.zgroup;e/zarr.json/x => true true
 /c | a/.zattrs {};b/zarr.json x;c/.zarray;d/.zgroup;e/zarr.json/x => true true

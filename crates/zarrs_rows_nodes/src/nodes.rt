@@ -6,14 +6,31 @@ use log::sink::{Discard, Writer};
 use std::alloc::{AllocError, Global};
 use std::test::Fail;
 use zarrs_block::NodeCreateError;
+use zarrs_config::MetadataRetrieveVersion;
 use zarrs_meta::{GroupMetadata, GroupMetadataV3, NodeMetadata};
 use zarrs_node::{
-    Node, get_all_nodes_of, get_child_nodes, get_child_nodes_opt, get_child_paths, laws,
+    Node, get_all_nodes_of, get_child_nodes, get_child_nodes_opt, get_child_paths,
+    get_child_paths_opt, laws, walk_child_nodes,
 };
 use zarrs_path::{NodePath, NodePathError, meta_key_v3};
 use zarrs_rows_fixtures::{ANY, forest_text, pairs_text, paths_text, version_of};
 use zarrs_rows_table::{G3, check_rows, fields, printed, said, with_lines};
 use zarrs_store::{MemoryStore, WritableStorageTraits};
+
+// The version of `zarr.json` alone.
+const V3: MetadataRetrieveVersion = MetadataRetrieveVersion::V3;
+
+// The paths that a walk hands to a list of them.
+fn walked<L: Log>(
+    log: &L,
+    alloc: Global,
+    store: &MemoryStore,
+    base: &NodePath,
+) -> Result<Vec<NodePath>, NodeCreateError> {
+    let mut paths = Vec::new(alloc);
+    walk_child_nodes(log, alloc, store, base, true, &ANY, &mut paths)?;
+    Ok(paths)
+}
 
 // What a call lists below a base in a store, with its warnings in a log.
 fn listed_by<L: Log>(
@@ -39,6 +56,12 @@ fn listed_by<L: Log>(
             get_child_paths(log, alloc, store, base, true),
             paths_text,
         ),
+        "paths of version 3" => said(
+            alloc,
+            get_child_paths_opt(log, alloc, store, base, true, &V3),
+            paths_text,
+        ),
+        "walked" => said(alloc, walked(log, alloc, store, base), paths_text),
         call => format!(in alloc; "no such call: {call}"),
     }
 }
@@ -59,10 +82,15 @@ const WARNED: &str = r#"
 # what is passed over is warned of
 nodes | /root | root/zarr.json g3;root/fakenode/content/zarr.json nul => warned: [WARN  zarrs_node::children] Object at /root/fakenode is not recognized as a component of a Zarr hierarchy. Ignoring.\n
 
+# a refusal warns of nothing
+nodes | /root/fakenode | root/zarr.json g3;root/fakenode/content/zarr.json nul;root/fakenode/zarr.json nul => error parsing metadata for root/fakenode/content/zarr.json: not JSON
+
 # all nodes are listed with warnings
 pairs | / | g/zarr.json g3;g/x/content nul;y/c nul => /g group\nwarned: [WARN  zarrs_node::children] Object at /g/x is not recognized as a component of a Zarr hierarchy. Ignoring.\n[WARN  zarrs_node::children] Object at /y is not recognized as a component of a Zarr hierarchy. Ignoring.\n
 
 # paths are listed with the same warnings
+paths of version 3 | / | g/zarr.json g3;y/.zgroup g2 => /g\nwarned: [WARN  zarrs_node::children] Object at /y is not recognized as a component of a Zarr hierarchy. Ignoring.\n
+walked | / | g/zarr.json g3;g/a/zarr.json a3;y/c nul => /g\n/g/a\nwarned: [WARN  zarrs_node::children] Object at /y is not recognized as a component of a Zarr hierarchy. Ignoring.\n
 paths | / | g/zarr.json g3;g/x/content nul;y/c nul => /g\nwarned: [WARN  zarrs_node::children] Object at /g/x is not recognized as a component of a Zarr hierarchy. Ignoring.\n[WARN  zarrs_node::children] Object at /y is not recognized as a component of a Zarr hierarchy. Ignoring.\n
 "#;
 

@@ -1,13 +1,15 @@
 //! Trees built of pairs, and nodes opened by a block or by a listing.
 
-use crate::given::{pairs_in, store_in};
+use crate::given::{is_all, pairs_in, store_in};
 use log::sink::{Discard, Writer};
 use std::alloc::{AllocError, Global};
 use std::test::Fail;
-use zarrs_block::NodeCreateError;
+use zarrs_block::{ConsolidatedMetadata, ConsolidatedMetadataMetadata, NodeCreateError};
 use zarrs_config::Config;
 use zarrs_meta::NodeMetadata;
-use zarrs_node::{Node, build_node_tree, build_node_tree_counted, direct_children_from_flat};
+use zarrs_node::{
+    Node, build_node_tree, build_node_tree_counted, direct_children_from_flat, nodes_of_block,
+};
 use zarrs_path::NodePath;
 use zarrs_rows_fixtures::{
     ANY, config_of, forest_text, metadata_at, no_word, policy_of, version_of, with_block,
@@ -89,6 +91,50 @@ fn trees_are_built_of_pairs(rt: HostRuntime) -> Result<(), Fail> {
     check_rows(rt.alloc(), BUILT, built)
 }
 
+// ---- nodes of a block
+
+// The block of a list of keys and documents.
+fn block_of(alloc: Global, list: &str) -> Result<ConsolidatedMetadata, NodeCreateError> {
+    let mut metadata = ConsolidatedMetadataMetadata::new(alloc);
+    for (key, document) in pairs_in(alloc, list)? {
+        let node = metadata_at(alloc, &[("zarr.json", document)], "/", ANY)?;
+        metadata.insert(String::from_str(alloc, key)?, node)?;
+    }
+    Ok(ConsolidatedMetadata { metadata })
+}
+
+// The nodes below a base that the block of a row holds, all or one level.
+fn held(alloc: Global, given: &str) -> Result<Vec<Node>, NodeCreateError> {
+    let (depth, rest) = fields(given);
+    let (base, list) = fields(rest);
+    let base = NodePath::new(alloc, base)?;
+    let recursive = is_all(alloc, depth)?;
+    nodes_of_block(alloc, &base, block_of(alloc, list)?, recursive)
+}
+
+fn held_said(alloc: Global, given: &str) -> Result<String, AllocError> {
+    said(alloc, held(alloc, given), forest_text)
+}
+
+// Depth, base and block; the trees of its nodes, or the refusal.
+const HELD: &str = r#"
+# the entries stand below their groups
+all | / | a g3;a/x a3;a/y g3;b g3 => /a\n  x [1] float32\n  y\n/b\n
+children | / | a g3;a/x a3;a/y g3;b g3 => /a\n/b\n
+
+# what stands below an array or below no entry is dropped
+all | /b | a a3;a/x g3;c/d g3 => /b/a [1] float32\n
+
+# a key that is no relative path is refused
+all | / | a g3;a//b g3 => invalid node path invalid node name `` in 'a//b'
+children | / | a g3;a//b g3 => invalid node path invalid node name `` in 'a//b'
+"#;
+
+#[test]
+fn nodes_are_made_of_a_block(rt: HostRuntime) -> Result<(), Fail> {
+    check_rows(rt.alloc(), HELD, held_said)
+}
+
 // ---- opening
 
 // The node at the path of a row by its policy, in its store.
@@ -109,10 +155,19 @@ const OPENED: &str = r#"
 # an empty store has no root
 / | auto | => Metadata is missing for /
 
+/node | auto | => Metadata is missing for /node
+
+# a document that is no JSON refuses its own node, and no node above it that has none
+/node | auto | node/zarr.json nul => error parsing metadata for node/zarr.json: not JSON
+/node/array | auto | node/array/zarr.json nul => error parsing metadata for node/array/zarr.json: not JSON
+/node | auto | node/array/zarr.json nul => Metadata is missing for /node
+
 # a text that is no path is refused before the store is asked
+node | auto | => invalid node path node
 x/ | must | => invalid node path x/
 
 # an array stands before a group of version 2
+/p | auto | p/.zarray a2;p/.zgroup [] => / [1] Simple("<f8")\n
 /p | auto | p/.zarray a2;p/.zgroup [];p/q/zarr.json g3 => / [1] Simple("<f8")\n
 /p | must | p/.zarray a2;p/.zgroup [];p/q/zarr.json g3 => / [1] Simple("<f8")\n
 
@@ -128,6 +183,24 @@ x/ | must | => invalid node path x/
 / | must | zarr.json g3 => Metadata is missing for Consolidated metadata required but missing on group /
 / | must | zarr.json {"consolidated_metadata":{"kind":"outline"},"node_type":"group","zarr_format":3};a/zarr.json g3 => Metadata is missing for Consolidated metadata required but missing on group /
 / | auto | zarr.json {"consolidated_metadata":{"kind":"outline"},"node_type":"group","zarr_format":3};a/zarr.json g3 => /\n  a\n
+
+# a block that does not read counts as absent
+/ | auto | zarr.json {"consolidated_metadata":{"kind":"outline","metadata":{},"must_understand":false},"node_type":"group","zarr_format":3};a/zarr.json g3 => /\n  a\n
+/ | must | zarr.json {"consolidated_metadata":{"kind":"outline","metadata":{},"must_understand":false},"node_type":"group","zarr_format":3};a/zarr.json g3 => Metadata is missing for Consolidated metadata required but missing on group /
+/ | auto | zarr.json {"consolidated_metadata":{"kind":"inline","must_understand":false},"node_type":"group","zarr_format":3};a/zarr.json g3 => /\n  a\n
+/ | must | zarr.json {"consolidated_metadata":{"kind":"inline","must_understand":false},"node_type":"group","zarr_format":3};a/zarr.json g3 => Metadata is missing for Consolidated metadata required but missing on group /
+/ | auto | zarr.json {"consolidated_metadata":{"kind":"inline","metadata":{},"must_understand":true},"node_type":"group","zarr_format":3};a/zarr.json g3 => /\n  a\n
+/ | must | zarr.json {"consolidated_metadata":{"kind":"inline","metadata":{},"must_understand":true},"node_type":"group","zarr_format":3};a/zarr.json g3 => Metadata is missing for Consolidated metadata required but missing on group /
+/ | auto | zarr.json {"consolidated_metadata":{"kind":"inline","metadata":{"a":{"attributes":1,"node_type":"group","zarr_format":3}},"must_understand":false},"node_type":"group","zarr_format":3};a/zarr.json g3 => /\n  a\n
+/ | must | zarr.json {"consolidated_metadata":{"kind":"inline","metadata":{"a":{"attributes":1,"node_type":"group","zarr_format":3}},"must_understand":false},"node_type":"group","zarr_format":3};a/zarr.json g3 => Metadata is missing for Consolidated metadata required but missing on group /
+
+# a block stands for a store that has nothing below the group
+/group | auto | group/zarr.json {"consolidated_metadata":{"kind":"inline","metadata":{"array":{"chunk_grid":{"configuration":{"chunk_shape":[10,10]},"name":"regular"},"chunk_key_encoding":{"configuration":{"separator":"/"},"name":"default"},"codecs":[{"configuration":{"endian":"little"},"name":"bytes"}],"data_type":"float32","fill_value":0,"node_type":"array","shape":[10,10],"zarr_format":3},"subgroup":{"node_type":"group","zarr_format":3},"subgroup/mysubarray":{"chunk_grid":{"configuration":{"chunk_shape":[10,10]},"name":"regular"},"chunk_key_encoding":{"configuration":{"separator":"/"},"name":"default"},"codecs":[{"configuration":{"endian":"little"},"name":"bytes"}],"data_type":"float32","fill_value":0,"node_type":"array","shape":[10,10],"zarr_format":3}},"must_understand":false},"node_type":"group","zarr_format":3} => /\n  array [10, 10] float32\n  subgroup\n    mysubarray [10, 10] float32\n
+/group | must | group/zarr.json {"consolidated_metadata":{"kind":"inline","metadata":{"array":{"chunk_grid":{"configuration":{"chunk_shape":[10,10]},"name":"regular"},"chunk_key_encoding":{"configuration":{"separator":"/"},"name":"default"},"codecs":[{"configuration":{"endian":"little"},"name":"bytes"}],"data_type":"float32","fill_value":0,"node_type":"array","shape":[10,10],"zarr_format":3},"subgroup":{"node_type":"group","zarr_format":3},"subgroup/mysubarray":{"chunk_grid":{"configuration":{"chunk_shape":[10,10]},"name":"regular"},"chunk_key_encoding":{"configuration":{"separator":"/"},"name":"default"},"codecs":[{"configuration":{"endian":"little"},"name":"bytes"}],"data_type":"float32","fill_value":0,"node_type":"array","shape":[10,10],"zarr_format":3}},"must_understand":false},"node_type":"group","zarr_format":3} => /\n  array [10, 10] float32\n  subgroup\n    mysubarray [10, 10] float32\n
+/group | never | group/zarr.json {"consolidated_metadata":{"kind":"inline","metadata":{"array":{"chunk_grid":{"configuration":{"chunk_shape":[10,10]},"name":"regular"},"chunk_key_encoding":{"configuration":{"separator":"/"},"name":"default"},"codecs":[{"configuration":{"endian":"little"},"name":"bytes"}],"data_type":"float32","fill_value":0,"node_type":"array","shape":[10,10],"zarr_format":3},"subgroup":{"node_type":"group","zarr_format":3},"subgroup/mysubarray":{"chunk_grid":{"configuration":{"chunk_shape":[10,10]},"name":"regular"},"chunk_key_encoding":{"configuration":{"separator":"/"},"name":"default"},"codecs":[{"configuration":{"endian":"little"},"name":"bytes"}],"data_type":"float32","fill_value":0,"node_type":"array","shape":[10,10],"zarr_format":3}},"must_understand":false},"node_type":"group","zarr_format":3} => /\n
+
+# an entry of a block below an array, or below no entry, is not kept
+/ | auto | zarr.json {"consolidated_metadata":{"kind":"inline","metadata":{"a":{"chunk_grid":{"configuration":{"chunk_shape":[1]},"name":"regular"},"chunk_key_encoding":{"configuration":{"separator":"/"},"name":"default"},"codecs":[{"configuration":{"endian":"little"},"name":"bytes"}],"data_type":"float32","fill_value":0,"node_type":"array","shape":[1],"zarr_format":3},"a/y":{"node_type":"group","zarr_format":3},"q/r":{"node_type":"group","zarr_format":3}},"must_understand":false},"node_type":"group","zarr_format":3} => /\n  a [1] float32\n
 
 # a number in a block that is no whole one refuses the document
 / | auto | zarr.json {"consolidated_metadata":{"kind":"inline","metadata":{"a":{"attributes":{"n":1.5},"node_type":"group","zarr_format":3}}},"node_type":"group","zarr_format":3} => error parsing metadata for zarr.json: unsupported number

@@ -189,6 +189,8 @@ const PATHS: &str = r#"
 # paths are valid by their names, and show their texts
 / => true: '/' '/' '/', root true
 /a => true: '/a' '/a' '/a', root false
+/foo => true: '/foo' '/foo' '/foo', root false
+/a/b/c => true: '/a/b/c' '/a/b/c' '/a/b/c', root false
 /foo__bar => true: '/foo__bar' '/foo__bar' '/foo__bar', root false
 /foo./bar => true: '/foo./bar' '/foo./bar' '/foo./bar', root false
 /foo/bar.. => true: '/foo/bar..' '/foo/bar..' '/foo/bar..', root false
@@ -200,6 +202,9 @@ const PATHS: &str = r#"
 //// => false: invalid node path ////.
 /... => false: invalid node path /....
 /foo/__bar => false: invalid node path /foo/__bar.
+/foo/__bar/baz => false: invalid node path /foo/__bar/baz.
+/foo/../bar => false: invalid node path /foo/../bar.
+/__foo => false: invalid node path /__foo.
 x => false: invalid node path x.
 /.. => false: invalid node path /...
 /a//b => false: invalid node path /a//b.
@@ -254,7 +259,26 @@ const JOINED: &str = r#"
 /group | / => /group
 / |  => /
 / | a/b => /a/b
+root | foo => /foo
+root | /foo => /foo
+root | sub/leaf => /sub/leaf
+/group | sub => /group/sub
+# names that look forbidden and are not
+root | foo__bar => /foo__bar
+root | foo__bar/baz => /foo__bar/baz
+root | foo. => /foo.
+root | ..foo => /..foo
+root | foo.. => /foo..
 # the first bad part is refused
+/foo | ./bar => invalid node path invalid node name `.` in './bar'
+root | ./bar => invalid node path invalid node name `.` in './bar'
+root | ../bar => invalid node path invalid node name `..` in '../bar'
+root | ../other => invalid node path invalid node name `..` in '../other'
+root | sub/../other => invalid node path invalid node name `..` in 'sub/../other'
+root | .../bar => invalid node path invalid node name `...` in '.../bar'
+root | foo//bar => invalid node path invalid node name `` in 'foo//bar'
+root | foo/__bar => invalid node path invalid node name `__bar` in 'foo/__bar'
+root | __bar => invalid node path invalid node name `__bar` in '__bar'
 root | foo/ => invalid node path invalid node name `` in 'foo/'
 root | a/../b/__c => invalid node path invalid node name `..` in 'a/../b/__c'
 root | //foo => invalid node path invalid node name `` in '/foo'
@@ -445,6 +469,16 @@ fn prefix_said(alloc: Global, given: &str) -> Result<String, NoAnswer> {
     match call {
         "from_prefix" => said(alloc, NodePath::from_prefix(alloc, &prefix(alloc, text)?)),
         "from_owned_prefix" => said(alloc, NodePath::from_owned_prefix(prefix(alloc, text)?)),
+        "from_valid_prefix" => {
+            let prefix = path_of_prefix(alloc, text)?.to_prefix(alloc)?;
+            let path = NodePath::from_valid_prefix(prefix)?;
+            Ok(path.to_string(alloc)?)
+        }
+        "text_of" => Ok(NodePath::text_of(prefix(alloc, text)?)?),
+        "ends_in_name" => {
+            let ends = NodePath::ends_in_name(&prefix(alloc, text)?);
+            Ok(format!(in alloc; "{ends}")?)
+        }
         "to_prefix" => prefix_text(alloc, &path_of_prefix(alloc, text)?.to_prefix(alloc)?),
         "prefix_and_back" => {
             let path = path_of_prefix(alloc, text)?;
@@ -471,6 +505,15 @@ from_prefix | a/b/ => /a/b
 from_owned_prefix |  => /
 from_owned_prefix | a/ => /a
 from_owned_prefix | a/b/ => /a/b
+from_valid_prefix |  => /
+from_valid_prefix | a/b/ => /a/b
+text_of |  => /
+text_of | a/b/ => /a/b
+text_of | a/__x/ => /a/__x
+ends_in_name |  => false
+ends_in_name | a/b/ => true
+ends_in_name | a/../ => false
+ends_in_name | __a/b/ => true
 to_prefix |  => ''
 to_prefix | a/ => 'a/'
 to_prefix | a/b/ => 'a/b/'

@@ -162,6 +162,12 @@ fn compared(alloc: Global, given: &str) -> Result<String, StorageError> {
         "keys" => order_said(alloc, &key(alloc, a)?, &key(alloc, b)?),
         "prefixes" => order_said(alloc, &prefix(alloc, a)?, &prefix(alloc, b)?),
         "into_string" => Ok(prefix(alloc, a)?.into_string()),
+        "key_into_string" => Ok(key(alloc, a)?.into_string()),
+        "name" => Ok(format!(in alloc; "'{}'", prefix(alloc, a)?.name())?),
+        "key_in" => {
+            let room = String::from_str(alloc, "what is gone")?;
+            Ok(prefix(alloc, a)?.key_in(room, "zarr.json")?.into_string())
+        }
         _ => unknown(alloc, kind),
     }
 }
@@ -176,8 +182,16 @@ prefixes |  | a-b/ => less true, equal false, other true
 prefixes | a-b/ | a/ => less true, equal false, other true
 prefixes | a/ | a/ => less false, equal true, other false
 prefixes | a/ | b/ => less true, equal false, other true
-# a prefix is made its text
+# a prefix, and a key, is made its text
 into_string | a/b/ => a/b/
+key_into_string | a/zarr.json => a/zarr.json
+# the last segment of a prefix
+name |  => ''
+name | a/ => 'a'
+name | a/b/ => 'b'
+# the key of a prefix and one segment more
+key_in |  => zarr.json
+key_in | a/b/ => a/b/zarr.json
 "#;
 
 #[test]
@@ -332,6 +346,17 @@ fn children_said(
     }
 }
 
+// The texts of the child prefixes that are listed, or the refusal.
+fn prefixes_said(
+    alloc: Global,
+    answer: Result<Vec<StorePrefix>, StorageError>,
+) -> Result<String, StorageError> {
+    match answer {
+        Ok(prefixes) => texts_of_prefixes(alloc, prefixes.as_slice()),
+        Err(error) => Ok(refusal(alloc, &error)?),
+    }
+}
+
 fn children_texts(alloc: Global, dir: &StoreKeysPrefixes) -> Result<String, StorageError> {
     let keys = texts_of_keys(alloc, dir.keys.as_slice())?;
     let prefixes = texts_of_prefixes(alloc, dir.prefixes.as_slice())?;
@@ -350,6 +375,7 @@ fn listing<S: ListableStorageTraits>(
         "list" => keys_said(alloc, store.list(alloc)),
         "list_prefix" => keys_said(alloc, store.list_prefix(alloc, &prefix)),
         "list_dir" => children_said(alloc, store.list_dir(alloc, &prefix)),
+        "list_child_prefixes" => { prefixes_said(alloc, store.list_child_prefixes(alloc, &prefix)) }
         "discover" => {
             let children = discover_children(alloc, store, &prefix)?;
             texts_of_prefixes(alloc, children.as_slice())
@@ -472,6 +498,9 @@ a a-b/c a/b a/c/d a0 | list_prefix => keys a a-b/c a/b a/c/d a0
 a a-b/c a/b a/c/d a0 | list_dir => keys a a0, prefixes a-b/ a/
 a a-b/c a/b a/c/d a0 | list_prefix a/ => keys a/b a/c/d
 a a-b/c a/b a/c/d a0 | list_dir a/ => keys a/b, prefixes a/c/
+a a-b/c a/b a/c/d a0 | list_child_prefixes => prefixes a-b/ a/
+a a-b/c a/b a/c/d a0 | list_child_prefixes a/ => prefixes a/c/
+a a-b/c a/b a/c/d a0 | list_child_prefixes a/c/d/ => prefixes
 a a-b/c a/b a/c/d a0 | list_prefix a-b/ => keys a-b/c
 a a-b/c a/b a/c/d a0 | list_dir a-b/ => keys a-b/c, prefixes
 a a-b/c a/b a/c/d a0 | list_prefix a/c/d/ => keys
@@ -486,6 +515,8 @@ a/c/0 a/c/1/2 a/zarr.json b/zarr.json | list_dir => keys, prefixes a/ b/
 a-b/0 a/0 a/1 a/2 a/c/0/0 a/c/0/1 a/c/1/0 a0/0 b/x/y | list_dir => keys, prefixes a-b/ a/ a0/ b/
 a-b/0 a/0 a/1 a/2 a/c/0/0 a/c/0/1 a/c/1/0 a0/0 b/x/y | list_dir a/ => keys a/0 a/1 a/2, prefixes a/c/
 a-b/0 a/0 a/1 a/2 a/c/0/0 a/c/0/1 a/c/1/0 a0/0 b/x/y | list_dir a/c/ => keys, prefixes a/c/0/ a/c/1/
+a-b/0 a/0 a/1 a/2 a/c/0/0 a/c/0/1 a/c/1/0 a0/0 b/x/y | list_child_prefixes => prefixes a-b/ a/ a0/ b/
+a-b/0 a/0 a/1 a/2 a/c/0/0 a/c/0/1 a/c/1/0 a0/0 b/x/y | list_child_prefixes a/c/ => prefixes a/c/0/ a/c/1/
 a-b/0 a/0 a/1 a/2 a/c/0/0 a/c/0/1 a/c/1/0 a0/0 b/x/y | list_dir a/c/0/ => keys a/c/0/0 a/c/0/1, prefixes
 a-b/0 a/0 a/1 a/2 a/c/0/0 a/c/0/1 a/c/1/0 a0/0 b/x/y | list_dir a-/ => keys, prefixes
 a-b/0 a/0 a/1 a/2 a/c/0/0 a/c/0/1 a/c/1/0 a0/0 b/x/y | list_dir b/x/ => keys b/x/y, prefixes
@@ -724,6 +755,8 @@ list a/ | a a/b/c a/d | list_prefix => keys a a/b/c a/d
 list a/ | a a/b/c a/d | list_dir => keys a, prefixes a/
 list a/ | a a/b/c a/d | list_prefix a/ => Fault
 list a/ | a a/b/c a/d | list_dir a/ => Fault
+list a/ | a a/b/c a/d | list_child_prefixes a/ => Fault
+list a/ | a a/b/c a/d | list_child_prefixes => prefixes a/
 list a/b/ | a a/b/c a/d | list => keys a a/b/c a/d
 list a/b/ | a a/b/c a/d | list_prefix => keys a a/b/c a/d
 list a/b/ | a a/b/c a/d | list_dir => keys a, prefixes a/
