@@ -48,7 +48,7 @@ run_unproved() {
     fault=$(toolchain_fault)
     [ -z "$fault" ] || echo "$name: $fault" >&2
     command -v rt >/dev/null || return 3
-    echo "$name: not built, or older than its sources: this run is not proved and takes half a minute; ./build proves and builds it, and then each call starts at once" >&2
+    echo "$name: not built, or older than its sources: this run is not proved and takes up to a minute; ./build proves and builds it, and then each call starts at once" >&2
     if [ "$(stat -L -c %s "$input")" -gt "$most_input" ]; then
         echo "$name: the run without a proof reads at most 64 MiB of standard input; ./build first, and the built program has no such bound" >&2
         return 3
