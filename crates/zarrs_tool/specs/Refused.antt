@@ -15,10 +15,13 @@ use Rattle.zarrs_meta.specs.declared.node.NodeMetadata.TheVariants.{Array}
 use Rattle.zarrs_block.specs.Meaning.{meaning, node}
 use Rattle.zarrs_node.specs.Nodes.{ShowsBad}
 use Rattle.zarrs_node.specs.Opened.{RefusesOpening}
-use Rattle.zarrs_tool.specs.Image.{IsLoaded, RefusedImage}
+use Rattle.zarrs_load.specs.Image.{IsLoaded, RefusedImage}
+use Rattle.zarrs_load.specs.Folder.{IsFolderFault}
+use Rattle.zarrs_load.specs.declared.fault.LoadFault.{LoadFault}
+use Rattle.zarrs_load.specs.declared.fault.LoadFault.TheVariants as load
 use Rattle.zarrs_tool.specs.Output.{IsCommand, IsOutput, word_text}
 use Rattle.zarrs_tool.specs.declared.fault.ToolFault.{ToolFault}
-use Rattle.zarrs_tool.specs.declared.fault.ToolFault.TheVariants.{Usage, Folder, NotAGroup, Node, Write, OutOfMemory}
+use Rattle.zarrs_tool.specs.declared.fault.ToolFault.TheVariants.{Usage, Read, ReadTooLong, Image, ImageKey, ImageValue, Folder, NotAGroup, Node, Write, OutOfMemory}
 use Rattle.zarrs_tool.specs.declared.run.Word.{Word}
 use Rattle.zarrs_tool.specs.declared.run.Word.TheVariants.{Children, List as ListAll, Tree, Consolidate}
 
@@ -107,19 +110,28 @@ IsRefusal can_fail words store _ = ⊥
 abbrev pub RefusedAfterLoad : List (List ℕ) → Option (List ℕ) → Option (List ℕ) → ToolFault → Type 0
 RefusedAfterLoad words before after fault = IsAtEnd after × ((store : Contents) × IsLoaded before store × IsRefusal false words store fault)
 
+-- the fault is one of loading, of which P holds
+abbrev pub IsLoadFault : (LoadFault → Type 0) → ToolFault → Type 0
+IsLoadFault P Read = P load.Read
+IsLoadFault P ReadTooLong = P load.ReadTooLong
+IsLoadFault P Image = P load.Image
+IsLoadFault P (ImageKey name) = P (load.ImageKey name)
+IsLoadFault P (ImageValue name) = P (load.ImageValue name)
+IsLoadFault P Folder = P load.Folder
+IsLoadFault P OutOfMemory = P load.OutOfMemory
+IsLoadFault P _ = ⊥
+
 -- the words are refused over what a reader gives, and it stands here
 abbrev pub RefusedRun : List (List ℕ) → Option (List ℕ) → Option (List ℕ) → ToolFault → Type 0
 RefusedRun words before after Usage = Keeps before after
 RefusedRun words before after (Node e) = RefusedAfterLoad words before after (Node e)
 RefusedRun words before after NotAGroup = RefusedAfterLoad words before after NotAGroup
 RefusedRun words before after Write = RefusedAfterLoad words before after Write
-RefusedRun words before after fault = RefusedImage before after fault
+RefusedRun words before after fault = IsLoadFault (RefusedImage before after) fault
 
 -- the folder makes no store, or memory was wanting, or the words are refused over a store
 abbrev pub RefusedFolder : List (List ℕ) → ToolFault → Type 0
-RefusedFolder words Folder = ⊤
-RefusedFolder words OutOfMemory = ⊤
-RefusedFolder words fault = (store : Contents) × IsRefusal false words store fault
+RefusedFolder words fault = IsLoadFault IsFolderFault fault ⊎ ((store : Contents) × IsRefusal false words store fault)
 
 -- the exit status: 0 where all went well, 2 for wrong words, else 1
 abbrev pub status_of : Result Unit ToolFault → ℕ

@@ -4,7 +4,7 @@
 ghost use Rattle.std.specs.Prelude.{◌≡◌, ◌≢◌, ◌↔◌, IfErr, OnOk, IfSome, IfNone};
 ghost use Rattle.std.specs.Io.KnownBytes.{Keeps};
 ghost use Rattle.zarrs_store.specs.Contents.{Contents};
-ghost use Rattle.zarrs_tool.specs.Image.{IsLoaded};
+ghost use Rattle.zarrs_load.specs.Image.{IsLoaded};
 ghost use Rattle.zarrs_tool.specs.Output.{IsCommand, IsFolderCommand, IsFolderWords, IsNoCommand, WritesOutput, texts};
 ghost use Rattle.zarrs_tool.specs.Refused.{RefusedFolder};
 
@@ -16,7 +16,6 @@ mod folder;
 mod folder_tests;
 mod image;
 mod printed;
-mod read;
 mod run;
 #[cfg(test)]
 mod tests;

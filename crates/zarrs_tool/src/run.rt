@@ -4,7 +4,7 @@ ghost use Rattle.std.specs.FinMap as map;
 ghost use Rattle.std.specs.Io.KnownBytes.{Appends, Keeps, IsAtEnd};
 ghost use Rattle.zarrs_store.specs.Contents.{Contents};
 ghost use Rattle.zarrs_path.specs.Paths.{IsPath, path_text};
-ghost use Rattle.zarrs_tool.specs.Image.{IsLoaded};
+ghost use Rattle.zarrs_load.specs.Image.{IsLoaded};
 ghost use Rattle.zarrs_tool.specs.Sinks.{AppendsLine};
 ghost use Rattle.zarrs_tool.specs.Output.{IsCommand, IsListing, IsOutput, Writes, WritesOutput, command_words, texts, word_text};
 ghost use Rattle.zarrs_tool.specs.Refused.{IsListingFault, IsPathFault, IsRefusal, IsWordFault, RefusedRun, status_of};
