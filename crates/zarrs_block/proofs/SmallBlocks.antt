@@ -4,7 +4,7 @@ use Rattle.std.specs.List.{list_all, filter, AllByRecursion}
 use Rattle.std.specs.FinMap.{find}
 use Rattle.std.specs.Result.{result_ok}
 use Rattle.std.proofs.lemmas.Bool.{and_parts, and_from, not-true, false_from_ne_true}
-use Rattle.std.proofs.lemmas.List.Elements.{All-from_recursion}
+use Rattle.std.proofs.lemmas.List.Elements.{All-head, All-tail, All-from_recursion}
 use Rattle.std.proofs.lemmas.List.Splits.{join_with_byte-slice_split}
 use Rattle.serde_json.specs.Data.{Data, Members}
 use Rattle.zarrs_store.specs.Segments.{Segments, bytes_cmp, key_cmp, key_text}
@@ -19,9 +19,10 @@ use Rattle.zarrs_form.specs.Documents as steps
 use Rattle.zarrs_form.specs.Forms.{is_nil}
 use Rattle.zarrs_meta.specs.declared.node.NodeMetadata.{NodeMetadata}
 use Rattle.zarrs_block.specs.Block.{Block, IsAscending, found}
+use Rattle.zarrs_block.specs.declared.node_create_error.NodeCreateError.{NodeCreateError}
 use Rattle.zarrs_block.specs.Meaning.{Meaning, node, nothing, bad}
 use Rattle.zarrs_block.specs.Small.{small_meaning, stretches, counted, small}
-use Rattle.zarrs_block.specs.Zmetadata.{before_last, below, is_bad, is_good, with_node, block_from, small_block, zmetadata_members, zmetadata_of, HoldsStore, IsClean}
+use Rattle.zarrs_block.specs.Zmetadata.{before_last, below, is_bad, is_good, with_node, block_from, small_block, zmetadata_members, zmetadata_of, HoldsStore, IsClean, IsZmetadataFault}
 use Rattle.zarrs_block.specs.ZmetadataRead.{read_documents, read_files, member_at, are_named}
 use Rattle.zarrs_block.proofs.Expansion.{at_itself, same_text}
 use Rattle.zarrs_block.proofs.Puts.{found_put, put_ascends, none_ascend}
@@ -325,6 +326,34 @@ module _ (ms : Members) where
       by [] is some good = some is
       by (n ∷ ns) is some good = some_read ms good n ns (sym (based_read [] (n ∷ ns) ms) ∙ ap (λ p. as_read (here p)) (sym is) ∙ text_read t ms ∙ e)
 
+  -- where no document stands at no names, those below the group stand below names
+  all_named : (es : List (Segments × Data)) → All (λ e. IsPath (before_last e.0)) es → list_all (λ e. list_all is_name (before_last e.0)) (below_of es) ≡ true
+  all_named [] h = refl
+  all_named (x ∷ es) h = by (is_nil (before_last x.0)) (All-head (λ e. IsPath (before_last e.0)) x es h) (all_named es (All-tail (λ e. IsPath (before_last e.0)) x es h))
+    where
+      by : (b : Bool) → IsPath (before_last x.0) → list_all (λ e. list_all is_name (before_last e.0)) (below_of es) ≡ true
+          → list_all (λ e. list_all is_name (before_last e.0)) (cond (not b) (x ∷ below_of es) (below_of es)) ≡ true
+      by true own rest = rest
+      by false own rest = and_from (list_all is_name (before_last x.0)) (list_all (λ e. list_all is_name (before_last e.0)) (below_of es)) own rest
+
+  -- the documents of a clean store are good
+  clean_good : IsClean ms → all_good here (counted ms) ≡ true
+  clean_good h = good_by (counted ms) (all_named (counted ms) h.named) (λ n ns valid. fine (here (n ∷ ns)) (h.means [] n ns))
+    where
+      fine : (x : Meaning) → ((e : NodeCreateError) → x ≢ bad e) → is_bad x ≡ false
+      fine (node m) never = refl
+      fine nothing never = refl
+      fine (bad e) never = absurd (never e refl)
+
+  -- members that are refused are no clean store
+  pub small_refused : (f : MetadataFault) → small_block ms ≡ Err f → (IsClean ms → ⊥) × (f ≡ BadMember (codes "metadata"))
+  small_refused f h = by (all_good here (counted ms)) refl h
+    where
+      by : (x : Bool) → all_good here (counted ms) ≡ x → (if x then Ok (block_from here (below ms)) else Err (BadMember (codes "metadata"))) ≡ Err f
+          → (IsClean ms → ⊥) × (f ≡ BadMember (codes "metadata"))
+      by true good e = cc
+      by false some e = let same : BadMember (codes "metadata") ≡ f = cc in (λ clean. true≢false (sym (clean_good clean) ∙ some), sym same)
+
   module _ (B : Block) (named : are_named ms ≡ true) (up : IsAscending B) (nodes : (t : List ℕ) → result_ok (read_files (member_at ms t)) ≡ Some (found B t)) where
     -- each path of names is read
     read_at : (n : List ℕ) (ns : Path) → IsPath (n ∷ ns) → as_read (here (n ∷ ns)) ≡ Some (found B (key_text (n ∷ ns)))
@@ -357,3 +386,12 @@ module _ (ms : Members) where
     block_is =
         ap (λ b. if b then Ok (block_from here (below ms)) else Err (BadMember (codes "metadata"))) every_good
         ∙ ap Ok (one_block (block_from here (below ms)) B (from_ascends here (below ms)) up (λ t m. (of_from t m, to_from t m)))
+
+-- a document that does not read is refused by its fault
+pub refused_law : (d : Data) (f : MetadataFault) → zmetadata_of d ≡ Err f → IsZmetadataFault d f
+unfolding zmetadata_of
+refused_law d f h = by (zmetadata_members d) refl h
+  where
+    by : (r : Result Members MetadataFault) → zmetadata_members d ≡ r → steps.◌>>=◌ r small_block ≡ Err f → IsZmetadataFault d f
+    by (Ok ms) is e = let refused = small_refused ms f e in inr (ms, is, refused.0, refused.1)
+    by (Err g) is e = let same : g ≡ f = cc in inl (is ∙ ap Err same)

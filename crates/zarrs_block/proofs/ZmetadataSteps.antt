@@ -1,5 +1,5 @@
 -- The passes of the reader of `.zmetadata`: the names of members, the documents put at the texts of their paths, and the nodes read from them.
-use Rattle.std.proofs.Common.{◌≡◌, ℕ, Bool, true, false, true≢false, not, ◌&&◌, cond, if◌then◌else◌, List, [], ◌∷◌, ◌++◌, length, Option, Some, None, IsSome, IfSome, Result, Ok, Err, IfOk, IfErr, String, Global, string_bytes, string_cmp, Less, is_eq, IsTrue, codes, refl, sym, ap, subst, ◌∙◌}
+use Rattle.std.proofs.Common.{◌≡◌, ◌⊎◌, inl, inr, ℕ, Bool, true, false, true≢false, not, ◌&&◌, cond, if◌then◌else◌, List, [], ◌∷◌, ◌++◌, length, Option, Some, None, IsSome, IfSome, Result, Ok, Err, IfOk, IfErr, String, Global, string_bytes, string_cmp, Less, is_eq, IsTrue, codes, refl, sym, ap, subst, ◌∙◌}
 use Rattle.std.specs.Prelude.{◌==◌, is_some, option_and_then}
 use Rattle.std.specs.List.{list_all, filter, AllByRecursion}
 use Rattle.std.specs.List.Sorted.{IsStrictlySortedBy}
@@ -30,7 +30,7 @@ use Rattle.zarrs_block.proofs.BlockLaws.{formed_some, without_floats_at}
 use Rattle.zarrs_meta.specs.declared.node.NodeMetadata.{NodeMetadata}
 use Rattle.zarrs_block.specs.Block.{Block, IsAscending, found, put}
 use Rattle.zarrs_block.specs.Small.{is_document_v2, stretches, counted}
-use Rattle.zarrs_block.specs.Zmetadata.{one, before_last, below, small_block, zmetadata_members, zmetadata_of, HoldsStore, IsClean}
+use Rattle.zarrs_block.specs.Zmetadata.{one, before_last, below, small_block, zmetadata_members, zmetadata_of, HoldsStore, IsClean, IsZmetadataFault}
 use Rattle.zarrs_block.specs.ZmetadataRead.{file_name, is_file, member_at, first_tree, paths, run_tree, tree_among, RunsAscend, read_files, tree_in, is_below, IsPlace, are_named, RefusesNames, HaveNoFloat, HoldsNodes, RefusesTrees, zmetadata_taken}
 use Rattle.zarrs_block.specs.declared.consolidated.ConsolidatedMetadata.{ConsolidatedMetadata}
 use Rattle.zarrs_block.specs.declared.zmetadata.Documents.{Documents}
@@ -41,7 +41,7 @@ use Rattle.zarrs_block.proofs.Expansion.{at_itself, same_text}
 use Rattle.zarrs_block.proofs.LastSlash.{IsCutText}
 use Rattle.zarrs_block.proofs.Runs.{first_none}
 use Rattle.zarrs_block.proofs.Puts.{found_put, put_ascends, none_ascend}
-use Rattle.zarrs_block.proofs.SmallBlocks.{block_is, names_refused, trees_refused, store_law, ascending_law}
+use Rattle.zarrs_block.proofs.SmallBlocks.{block_is, names_refused, trees_refused, store_law, refused_law, ascending_law}
 use Rattle.zarrs_block.proofs.SmallStores.{before_last-child, parts_child}
 
 -- ---- the names of members
@@ -473,6 +473,23 @@ module _ (d : Data) where
       → IfOk r (λ block. (ms : Members) × (zmetadata_members d ≡ Ok ms) × HoldsStore ms block.metadata × IsClean ms)
   gives_store (Ok block) gives = store_law d block.metadata gives
   gives_store (Err fault) gives = tt
+
+  -- a fault is that of the document
+  fault_shown : (fault : MetadataFault) → Refuses fault (zmetadata_of d) → (fault ≡ OutOfMemory) ⊎ IsZmetadataFault d fault
+  fault_shown OutOfMemory h = inl refl
+  fault_shown NotJson h = inr (refused_law d NotJson h)
+  fault_shown UnsupportedNumber h = inr (refused_law d UnsupportedNumber h)
+  fault_shown NotAnObject h = inr (refused_law d NotAnObject h)
+  fault_shown WrongFormat h = inr (refused_law d WrongFormat h)
+  fault_shown WrongNodeType h = inr (refused_law d WrongNodeType h)
+  fault_shown (MissingMember name) h = inr (refused_law d (MissingMember name) h)
+  fault_shown (BadMember name) h = inr (refused_law d (BadMember name) h)
+
+  -- so is what refused the reading
+  pub gives_fault : (r : Result ConsolidatedMetadata MetadataFault) → Gives (λ block. block.metadata) r (zmetadata_of d)
+      → IfErr r (λ fault. (fault ≡ OutOfMemory) ⊎ IsZmetadataFault d fault)
+  gives_fault (Ok block) gives = tt
+  gives_fault (Err fault) gives = fault_shown fault gives
 
   -- and its keys ascend
   pub gives_ascending : (r : Result ConsolidatedMetadata MetadataFault) → Gives (λ block. block.metadata) r (zmetadata_of d) → IfOk r (λ block. IsAscending block.metadata)

@@ -1,7 +1,7 @@
 -- Zarr core specification 3.1, "Group metadata", the field `consolidated_metadata`: which block stands in place of a listing.
-use Rattle.std.specs.Prelude.{◌≡◌, ◌≢◌, ◌++◌, Option, Some, None, option_map, option_and_then, string_bytes, codes}
+use Rattle.std.specs.Prelude.{◌≡◌, ◌≢◌, ◌++◌, Option, Some, None, IsSome, option_map, option_and_then, string_bytes, codes}
 use Rattle.std.specs.Result.{result_ok}
-use Rattle.serde_json.specs.Data.{Members}
+use Rattle.serde_json.specs.Data.{Data, Members}
 use Rattle.serde_json.specs.Find.{get_member}
 use Rattle.zarrs_path.specs.Paths.{Path, path_text}
 use Rattle.zarrs_config.specs.declared.version.UseConsolidatedMetadata.{UseConsolidatedMetadata}
@@ -48,7 +48,17 @@ RefusesUse p choice (MissingMetadata text) =
 RefusesUse p choice OutOfMemory = choice ≡ None
 RefusesUse p choice _ = ⊥
 
--- memory for the block was wanting, where it is read at all
-abbrev pub LacksBlockMemory : UseConsolidatedMetadata → NodeCreateError → Type 0
-LacksBlockMemory policy OutOfMemory = policy ≢ Never
-LacksBlockMemory policy _ = ⊥
+-- the field `consolidated_metadata` of a group, whether it reads as a block or not; a version 2 group has none
+abbrev pub group_field : GroupMetadata → Option Data
+group_field (V3 m) = get_member (codes "consolidated_metadata") m.additional_fields
+group_field (V2 m) = None
+
+-- that of a node; an array has none
+abbrev pub block_field : NodeMetadata → Option Data
+block_field (Group g) = group_field g
+block_field (Array a) = None
+
+-- out of memory, as the field is read: where there is one, and the policy lets it be used
+abbrev pub LacksBlockMemory : NodeMetadata → UseConsolidatedMetadata → NodeCreateError → Type 0
+LacksBlockMemory m policy OutOfMemory = (policy ≢ Never) × IsSome (block_field m)
+LacksBlockMemory m policy _ = ⊥

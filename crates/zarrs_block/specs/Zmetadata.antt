@@ -1,10 +1,12 @@
 -- The version 2 convention of consolidated metadata, the document `.zmetadata` of a group (zarr-python, "Consolidated metadata"): how it is read as a block, and how it is written.
 --     zmetadata_of d      the block that a document is, or its first fault
 --     HoldsStore, IsClean      what that block has and that nothing below the group is bad, as of any store
+--     IsZmetadataFault d fault      what refuses a document
 --     zmetadata_tree g B      what is written of a group of version 2 and its block
+--     IsWrittenOf g B d      what that has at each key
 --     RefusesZmetadata      what refuses that
 --     HoldsDocuments, WrittenHoldsDocuments, WrittenReadsBack      what the written document has, and that it reads back
-use Rattle.std.specs.Prelude.{◌≡◌, ◌≢◌, ◌↔◌, ◌==◌, ℕ, Bool, true, false, not, ◌&&◌, if◌then◌else◌, List, [], ◌∷◌, ◌++◌, Option, Some, None, option_and_then, IsSome, Result, Ok, Err, All, IsTrue, bytes_eq, codes}
+use Rattle.std.specs.Prelude.{◌≡◌, ◌≢◌, ◌⊎◌, ◌↔◌, ◌==◌, ℕ, Bool, true, false, not, ◌&&◌, if◌then◌else◌, List, [], ◌∷◌, ◌++◌, Option, Some, None, option_and_then, IsSome, Result, Ok, Err, All, IsTrue, bytes_eq, codes}
 use Rattle.std.specs.List.{list_all, filter}
 use Rattle.std.specs.Map.{lookup}
 use Rattle.serde_json.specs.Data.{Data, number, unsigned, object, Members, no_members, member, put as put_member}
@@ -98,6 +100,12 @@ pub record IsClean (ms : Members) : Type 0 where
   pub means : (b : Path) (n : List ℕ) (ns : Path) (e : NodeCreateError) → small_meaning (small b ms) (b ++ n ∷ ns) ≢ bad e
   pub named : All (λ e. IsPath (before_last e.0)) (counted ms)
 
+-- the fault of a document that is no form of format 1; or its members are no clean store, and the fault is that of the member that has them
+abbrev pub IsZmetadataFault : Data → MetadataFault → Type 0
+IsZmetadataFault d fault =
+    (zmetadata_members d ≡ Err fault)
+    ⊎ ((ms : Members) × (zmetadata_members d ≡ Ok ms) × (IsClean ms → ⊥) × (fault ≡ BadMember (codes "metadata")))
+
 -- A document that reads as a block has members; the block holds the store that they are, in which nothing is bad, and the keys of the block ascend.
 abbrev pub ZmetadataHolds : Type 0
 ZmetadataHolds = (d : Data) (B : Block) → zmetadata_of d ≡ Ok B → ((ms : Members) × (zmetadata_members d ≡ Ok ms) × HoldsStore ms B × IsClean ms) × IsAscending B
@@ -129,11 +137,13 @@ nodes_written (e ∷ es) = put_documents e.0 (node_written e.1) (nodes_written e
 abbrev pub documents_written : GroupMetadataV2 → Block → Members
 documents_written g B = nodes_written (([], Group (group_v2 g)) ∷ paired (paths_at [] B B) B)
 
+-- an object with these members and with the format
+abbrev pub zmetadata_with : Members → Data
+zmetadata_with ms = object (member (codes "metadata") (object ms) (member (codes "zarr_consolidated_format") (number (unsigned 1)) no_members))
+
 -- what is written of a group of version 2 and its block: an object with their documents and with the format
 abbrev pub zmetadata_tree : GroupMetadataV2 → Block → Data
-zmetadata_tree g B =
-    object (member (codes "metadata") (object (documents_written g B))
-    (member (codes "zarr_consolidated_format") (number (unsigned 1)) no_members))
+zmetadata_tree g B = zmetadata_with (documents_written g B)
 
 -- the node is of version 2
 abbrev pub is_version_2 : NodeMetadata → Bool
@@ -163,7 +173,7 @@ abbrev pub RefusesZmetadata : Block → NodeCreateError → Type 0
 RefusesZmetadata B MetadataVersionMismatch = HasValidKeys B × (HasVersion2 B → ⊥)
 RefusesZmetadata B e = RefusesKeys B e
 
--- ---- laws of the written form
+-- ---- the written form, as what a store holds
 
 -- the node at some names: at none the group itself, and else the entry of the block
 abbrev pub node_at : GroupMetadataV2 → Block → Path → Option NodeMetadata
@@ -178,6 +188,14 @@ document_written file m = lookup (bytes_eq file) (node_written m)
 pub record HoldsDocuments (g : GroupMetadataV2) (B : Block) (ms : Members) : Type 0 where
   pub documents : (ns : Path) (file : List ℕ) → IsPath ns → IsTrue (is_document_v2 file) → get_member (key_text (ns ++ file ∷ [])) ms ≡ option_and_then (document_written file) (node_at g B ns)
   pub no_others : (t : List ℕ) → IsSome (get_member t ms) → (ns : Path) × (file : List ℕ) × IsPath ns × IsTrue (is_document_v2 file) × (t ≡ key_text (ns ++ file ∷ []))
+
+-- the document is an object with the format and with members that hold the documents of the group and of the block's entries
+pub record IsWrittenOf (g : GroupMetadataV2) (B : Block) (d : Data) : Type 0 where
+  pub members : Members
+  pub is : d ≡ zmetadata_with members
+  pub holds : HoldsDocuments g B members
+
+-- ---- laws of the written form
 
 -- what is written of a group and a block with valid keys holds their documents
 abbrev pub WrittenHoldsDocuments : Type 0

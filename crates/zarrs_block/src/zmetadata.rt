@@ -1,5 +1,5 @@
 //! The version 2 document of consolidated metadata, `.zmetadata`, read as a block.
-ghost use Rattle.std.specs.Prelude.{◌≡◌, ℕ, List, [], false, IfOk, IfErr, IfSome, Ok, Some, None, ◌&&◌, if◌then◌else◌, codes, bytes_eq, string_bytes, IsTrue, option_map};
+ghost use Rattle.std.specs.Prelude.{◌≡◌, ◌⊎◌, ℕ, List, [], false, IfOk, IfErr, IfSome, Ok, Some, None, ◌&&◌, if◌then◌else◌, codes, bytes_eq, string_bytes, IsTrue, option_map};
 ghost use Rattle.std.specs.Result.{result_ok};
 ghost use Rattle.std.specs.List.{list_all};
 ghost use Rattle.std.specs.List.Sorted.{IsSortedBy};
@@ -17,7 +17,7 @@ ghost use Rattle.zarrs_meta.specs.declared.node.GroupMetadata.TheVariants.{V2 as
 ghost use Rattle.zarrs_meta.specs.declared.node.NodeMetadata.TheVariants.{Group, Array};
 ghost use Rattle.zarrs_block.specs.Block.{IsAscending, found};
 ghost use Rattle.zarrs_block.specs.Small.{stretches};
-ghost use Rattle.zarrs_block.specs.Zmetadata.{one, small_block, zmetadata_members, zmetadata_of, HoldsStore, IsClean};
+ghost use Rattle.zarrs_block.specs.Zmetadata.{one, small_block, zmetadata_members, zmetadata_of, HoldsStore, IsClean, IsZmetadataFault};
 ghost use Rattle.zarrs_block.specs.declared.zmetadata.File.{File};
 ghost use Rattle.zarrs_block.specs.ZmetadataRead.{is_file, is_before, member_at, first_tree, tree_in, tree_among, gathered_at, read_with, read_files, IsFile, IsPlace, are_named, RefusesNames, HaveNoFloat, HoldsNodes, IsJoined, RunsAscend, RefusesTrees, zmetadata_taken};
 
@@ -49,6 +49,8 @@ impl ConsolidatedMetadata {
     ) -> Result<ConsolidatedMetadata, MetadataFault>
         ensures gives { Gives (λ block. block.metadata) result (zmetadata_of (view value.now)) }
         ensures store { IfOk result (λ block. (ms : Members) × (zmetadata_members (view value.now) ≡ Ok ms) × HoldsStore ms block.metadata × IsClean ms) }
+        ensures refused { IfErr result (λ fault. (fault ≡ MetadataFault.OutOfMemory)
+            ⊎ IsZmetadataFault (view value.now) fault) }
         ensures ascending { IfOk result (λ block. IsAscending block.metadata) }
     {
         block_of(alloc, document_copy(value)?)
@@ -67,6 +69,8 @@ impl ConsolidatedMetadata {
     ) -> Result<ConsolidatedMetadata, MetadataFault>
         ensures gives { Gives (λ block. block.metadata) result (zmetadata_of (view value)) }
         ensures store { IfOk result (λ block. (ms : Members) × (zmetadata_members (view value) ≡ Ok ms) × HoldsStore ms block.metadata × IsClean ms) }
+        ensures refused { IfErr result (λ fault. (fault ≡ MetadataFault.OutOfMemory)
+            ⊎ IsZmetadataFault (view value) fault) }
         ensures ascending { IfOk result (λ block. IsAscending block.metadata) }
     {
         block_of(alloc, document(value)?)

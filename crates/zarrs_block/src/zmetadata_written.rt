@@ -5,7 +5,7 @@ ghost use Rattle.zarrs_meta.specs.declared.node.ArrayMetadata.TheVariants.{V2 as
 ghost use Rattle.zarrs_meta.specs.declared.node.GroupMetadata.TheVariants.{V2 as group_v2};
 ghost use Rattle.zarrs_meta.specs.declared.node.NodeMetadata.TheVariants.{Group, Array};
 ghost use Rattle.zarrs_block.specs.Block.{HasValidKeys};
-ghost use Rattle.zarrs_block.specs.Zmetadata.{zmetadata_tree, is_version_2, HasVersion2, RefusesZmetadata, RefusesNode, RefusesNodes, attributes_written, node_written, nodes_written, put_documents};
+ghost use Rattle.zarrs_block.specs.Zmetadata.{IsWrittenOf, zmetadata_tree, is_version_2, HasVersion2, RefusesZmetadata, RefusesNode, RefusesNodes, attributes_written, node_written, nodes_written, put_documents};
 
 use crate::consolidated::ConsolidatedMetadata;
 use crate::expand::pairs_of;
@@ -35,6 +35,7 @@ impl ConsolidatedMetadata {
         alloc: Global,
         group: &GroupMetadataV2,
     ) -> Result<Value, NodeCreateError>
+        ensures documents { IfOk result (λ value. IsWrittenOf group.now self.now.metadata (view value)) }
         ensures tree { IfOk result (λ value. view value ≡ zmetadata_tree group.now self.now.metadata) }
         ensures keys { IfOk result (λ _. HasValidKeys self.now.metadata) }
         ensures version { IfOk result (λ _. HasVersion2 self.now.metadata) }

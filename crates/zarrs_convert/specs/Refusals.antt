@@ -1,5 +1,5 @@
 -- Zarr core specification 3.1, "Array metadata": why an array of version 2 has no form of version 3.
-use Rattle.std.specs.Prelude.{◌≡◌, ℕ, List, Option, Result, Ok, Err, string_bytes}
+use Rattle.std.specs.Prelude.{◌≡◌, ℕ, List, Option, Result, Ok, Err, IsErr, string_bytes}
 use Rattle.serde_json.specs.Data.{Members}
 use Rattle.serde_json.specs.View.{members_view}
 use Rattle.zarrs_form.specs.declared.data_type.DataTypeMetadataV2.{DataTypeMetadataV2}
@@ -53,8 +53,8 @@ abbrev pub Gives : {A B : Type 0} → (A → B) → Result A ArrayMetadataV2ToV3
 Gives see (Ok x) answer = answer ≡ Ok (see x)
 Gives see (Err e) answer = Shows e answer
 
--- the call on byte orders answers what its table does: the byte order, or the text that has none
+-- the call on byte orders answers what its table does: the byte order, or the text that has none; it is out of memory for such a text alone
 abbrev pub GivesOrder : Result (Option Endianness) DataTypeMetadataV2EndiannessError → Result (Option Endianness) (List ℕ) → Type 0
 GivesOrder (Ok order) answer = answer ≡ Ok order
 GivesOrder (Err (Invalid text)) answer = answer ≡ Err (string_bytes text)
-GivesOrder (Err NoMemory) answer = Unit {0}
+GivesOrder (Err NoMemory) answer = IsErr answer

@@ -3,7 +3,7 @@ ghost use Rattle.std.specs.Prelude.{◌≡◌, Some, List, ◌∷◌, ◌++◌, 
 ghost use Rattle.zarrs_path.specs.Paths.{Path};
 ghost use Rattle.zarrs_meta.specs.Node.{is_group};
 ghost use Rattle.zarrs_meta.specs.declared.node.NodeMetadata.{NodeMetadata as Metadata};
-ghost use Rattle.zarrs_block.specs.Used.{seen, RefusesUse, LacksBlockMemory};
+ghost use Rattle.zarrs_block.specs.Used.{seen, RefusesUse};
 ghost use Rattle.zarrs_block.specs.Block.{Entries, HasValidKeys};
 ghost use Rattle.zarrs_block.specs.Expanded.{RefusesKeys};
 ghost use Rattle.zarrs_node.specs.Forest.{Shows, forest, path_of, metadata_of};
@@ -192,7 +192,7 @@ impl Group {
         config: &Config,
     ) -> Result<Option<ConsolidatedMetadata>, NodeCreateError>
         ensures ok { IfOk result (λ block. chosen self.now config.now ≡ Some (seen block)) }
-        ensures err { IfErr result (λ e. RefusesUse self.now.path (chosen self.now config.now) e ⊎ LacksBlockMemory config.now.use_consolidated e) }
+        ensures err { IfErr result (λ e. RefusesUse self.now.path (chosen self.now config.now) e ⊎ (e ≡ NodeCreateError.OutOfMemory)) }
     {
         let policy = config.use_consolidated_metadata();
         if let UseConsolidatedMetadata::Never = policy {

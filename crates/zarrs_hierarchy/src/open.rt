@@ -116,6 +116,7 @@ impl Hierarchy {
 }
 
 // The node at a path, which has these metadata, and behind it the nodes below.
+#[tactic(auto, using(crate::proofs::Opening::excused_by))]
 fn nodes_from<L: Log, S: ReadableStorageTraits + ListableStorageTraits>(
     log: &L,
     alloc: Global,

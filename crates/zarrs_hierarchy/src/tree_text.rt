@@ -53,7 +53,7 @@ pub fn tree_at<L: Log, S: ReadableStorageTraits + ListableStorageTraits>(
 }
 
 // Hands the nodes below one, which has these metadata, to a sink, in the order of paths.
-#[tactic(auto, using(crate::proofs::Opening::clean_by, crate::proofs::Opening::refused_by, crate::proofs::Opening::told_array, crate::proofs::Opening::told_group))]
+#[tactic(auto, using(crate::proofs::Opening::excused_by, crate::proofs::Opening::clean_by, crate::proofs::Opening::refused_by, crate::proofs::Opening::told_array, crate::proofs::Opening::told_group))]
 fn tell_node<L: Log, S: ReadableStorageTraits + ListableStorageTraits, K: NodeSink>(
     log: &L,
     alloc: Global,

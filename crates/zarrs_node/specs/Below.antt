@@ -2,9 +2,10 @@
 --     zmetadata_at s b      the block that the document `.zmetadata` of b is
 --     HoldsZmetadata s b B      B holds the small store that this document is
 --     block_at s b m      the block that stands for the nodes below b, where there is one
+--     ExcusesBlock can_fail m policy e      why it was not found out
 --     NodesBelow, PairsBelow      what a tree below b shows; what a flat list below b holds
 --     IsGoodBelow, ShowsBadBelow      that nothing refuses it; what a refusal shows
-use Rattle.std.specs.Prelude.{◌≡◌, ℕ, [], ◌∷◌, ◌++◌, Bool, true, List, Option, Some, None, Ok, option_and_then}
+use Rattle.std.specs.Prelude.{◌≡◌, ◌≢◌, ℕ, [], ◌∷◌, ◌++◌, Bool, true, List, Option, Some, None, Ok, option_and_then}
 use Rattle.std.specs.Result.{result_ok}
 use Rattle.std.specs.FinMap.{get}
 use Rattle.serde_json.specs.Data.{Data, Members}
@@ -17,7 +18,10 @@ use Rattle.zarrs_meta.specs.declared.node.NodeMetadata.{NodeMetadata}
 use Rattle.zarrs_meta.specs.declared.node.NodeMetadata.TheVariants.{Group, Array}
 use Rattle.zarrs_config.specs.declared.version.MetadataRetrieveVersion.{MetadataRetrieveVersion}
 use Rattle.zarrs_block.specs.Block.{Block, Entries, HasValidKeys}
-use Rattle.zarrs_block.specs.Used.{held}
+use Rattle.zarrs_config.specs.declared.version.UseConsolidatedMetadata.{UseConsolidatedMetadata}
+use Rattle.zarrs_config.specs.declared.version.UseConsolidatedMetadata.TheVariants.{Never}
+use Rattle.zarrs_block.specs.Used.{held, LacksBlockMemory}
+use Rattle.zarrs_block.specs.Refused.{IsExcused}
 use Rattle.zarrs_block.specs.Zmetadata.{zmetadata_of, zmetadata_members, HoldsStore, IsClean}
 use Rattle.zarrs_block.specs.Expanded.{NamesBadKey}
 use Rattle.zarrs_block.specs.declared.node_create_error.NodeCreateError.{NodeCreateError}
@@ -37,6 +41,13 @@ abbrev pub block_at : Contents → Path → NodeMetadata → Option Block
 block_at s b (Group (V2 g)) = zmetadata_at s b
 block_at s b (Group (V3 g)) = held (Group (V3 g))
 block_at s b (Array a) = held (Array a)
+
+-- the block was not found out: of a version 2 group, whose document is looked for in the store, for the fault of a store that can fail or out of
+-- memory; of a version 3 group out of memory for its field; of an array never; and never where no block is used
+abbrev pub ExcusesBlock : Bool → NodeMetadata → UseConsolidatedMetadata → NodeCreateError → Type 0
+ExcusesBlock can_fail (Group (V2 g)) policy e = (policy ≢ Never) × IsExcused can_fail e
+ExcusesBlock can_fail (Group (V3 g)) policy e = LacksBlockMemory (Group (V3 g)) policy e
+ExcusesBlock can_fail (Array a) policy e = ⊥
 
 -- the nodes below b: those that a listing finds, or where a block is used its entries between which and b all entries are groups
 abbrev pub NodesBelow : Contents → MetadataRetrieveVersion → Option Block → Bool → Path → Path × NodeMetadata → Type 0

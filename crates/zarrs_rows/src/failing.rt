@@ -31,12 +31,12 @@ use zarrs_node::{
 };
 use zarrs_path::NodePath;
 use zarrs_rows_fixtures::{
-    A3_SQUARE, ANY, THREE_LEVELS, config_of, entries_of, forest_text, key_of, keys_text, listed_in,
-    listing_text, metadata_in, pairs_text, paths_listed_in, paths_listing_text, paths_text,
+    A3_SQUARE, ANY, THREE_LEVELS, config_of, entries_of, forest_data, forest_text, key_of, keys_text,
+    listed_in, listing_text, metadata_in, pairs_text, paths_listed_in, paths_listing_text, paths_text,
     store_of, with_block,
 };
 use zarrs_rows_group_fixtures::{
-    LEVELS, LEVELS_TREES, Step, done, groups_text, levels, refused, with_block as with_block_of,
+    LEVELS, LEVELS_DATA, Step, done, groups_text, levels, refused, with_block as with_block_of,
 };
 use zarrs_rows_table::{A2, G2, G3, check_rows, fields, said};
 use zarrs_store::{
@@ -483,8 +483,9 @@ fn a_block_stands_for_a_store_that_fails(rt: HostRuntime) -> Result<(), Fail> {
     let alloc = rt.alloc();
     let store = failing(alloc, &[], Place::List("group/"))?;
     let group = levels(alloc)?;
-    let found = group_text(&group, alloc, &store, Call::Children(true), &Config::new())?;
-    is_same(found.as_str(), LEVELS_TREES)
+    let nodes = group.children(&Discard, alloc, &store, &Config::new(), true);
+    let found = said(alloc, nodes, forest_data)?;
+    is_same(found.as_str(), LEVELS_DATA)
 }
 
 // ---- storing and erasing

@@ -1,9 +1,9 @@
-ghost use Rattle.std.specs.Prelude.{◌≡◌, ◌≤◌, ◌+◌, ◌*◌, suc, false, [], length, IsOk, OnOk, OnErr, IfOk, IfErr};
+ghost use Rattle.std.specs.Prelude.{◌≡◌, ◌≤◌, ◌+◌, ◌*◌, false, [], length, IsOk, OnOk, OnErr, IfOk, IfErr};
 ghost use Rattle.std.specs.Map.{keys_of};
 ghost use Rattle.zarrs_store.specs.Segments.{key_cmp};
 ghost use Rattle.zarrs_store.specs.Contents.{Lists, IsChildKey, IsChildPrefix};
 ghost use Rattle.zarrs_store.specs.Faults.{IsStoreError};
-ghost use Rattle.zarrs_store.specs.Places.{IsAt, IsGap, IsRange, digits};
+ghost use Rattle.zarrs_store.specs.Places.{IsAt, IsGap, IsRange, digits, keys_below};
 ghost use Rattle.std.specs.FinMap as map;
 
 use crate::key::StoreKey;
@@ -95,8 +95,9 @@ impl MemoryStore {
         range_of(&self.entries, prefix)
     }
 
-    /// What `list_dir` answers, and the number of comparisons of keys: one for each key and each child that it answers, and those that find
-    /// where the keys below the prefix and those of each child end, each time at most twice as many as the number of keys has binary digits.
+    /// What `list_dir` answers, and the number of comparisons of keys: one for each key and each child that it answers; those that find where
+    /// the keys of each child end, at most twice as many as the number of keys below the prefix has binary digits; and once those that find
+    /// where the keys below the prefix begin and end, at most twice as many as the number of all keys has.
     ///
     /// # Errors
     /// `StorageError::OutOfMemory`.
@@ -110,7 +111,8 @@ impl MemoryStore {
         ensures keys { IfOk result (λ dir. Lists (IsChildKey (map.from_entries {R = key_cmp} self.now) prefix.now) dir.0.keys.items) }
         ensures prefixes { IfOk result (λ dir. Lists (IsChildPrefix (map.from_entries {R = key_cmp} self.now) prefix.now) dir.0.prefixes.items) }
         ensures comparisons { IfOk result (λ dir. dir.1 ≤ length dir.0.keys.items + length dir.0.prefixes.items
-            + suc (length dir.0.prefixes.items) * (2 * digits (length self.now))) }
+            + length dir.0.prefixes.items * (2 * digits (keys_below prefix.now (keys_of self.now)))
+            + 2 * digits (length self.now)) }
         ensures err { IfErr result (IsStoreError false) }
     {
         let _valid = prefix.as_str();
