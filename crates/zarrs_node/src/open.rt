@@ -127,7 +127,7 @@ fn nodes_below<L: Log, S: ReadableStorageTraits + ListableStorageTraits>(
 /// # Errors
 ///
 /// - `NodePathError` where a key of the block is no relative path.
-/// - `OutOfMemory` where memory is wanting.
+/// - `OutOfMemory` when out of memory.
 ///
 /// Source: own; `zarrs::group::Group::children` makes them of the expanded pairs.
 pub fn nodes_of_block(

@@ -25,7 +25,7 @@ use zarrs_store::{MetadataFault, ReadableStorageTraits, StorageError};
 /// # Errors
 ///
 /// - `MissingMetadata` where there is no block that reads and the policy is `Must`, with a text that names the path.
-/// - `StorageError::Fault` of a store that can fail, and `OutOfMemory` where memory is wanting.
+/// - `StorageError::Fault` of a store that can fail, and `OutOfMemory` when out of memory.
 ///
 /// Source: own; zarr-python, consolidated metadata of version 2.
 pub fn consolidated_metadata_at<S: ReadableStorageTraits>(

@@ -22,7 +22,7 @@ pub fn names_are()
 /// `NodePath::new` accepts exactly the texts of paths.
 ///
 /// # Errors
-/// `AllocError` where memory for the path is wanting.
+/// `AllocError` when out of memory for the path.
 pub fn accepted_texts(alloc: Global, text: &str) -> Result<bool, AllocError>
     ensures { IfOk result (λ accepted. IsTrue accepted ↔ IsPathText text.now) }
 {
@@ -98,7 +98,7 @@ pub fn root_alone()
 /// The parent of the root, which it does not have.
 ///
 /// # Errors
-/// `NodePathError::OutOfMemory` where memory for the root is wanting.
+/// `NodePathError::OutOfMemory` when out of memory for the root.
 pub fn parent_of_root(alloc: Global) -> Result<Option<NodePath>, NodePathError>
     ensures ok { IfOk result (λ parent. parent ≡ None) }
     ensures err { IsOkUnless result NodePathError.OutOfMemory }
