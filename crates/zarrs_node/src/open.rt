@@ -70,8 +70,8 @@ impl Node {
     /// - `NodePathError` where a key of the block is no relative path.
     /// - The refusals of `get_child_nodes_opt`, recursive, where the children are listed.
     ///
-    /// In the place of each of these, and of a node, `StorageError::Fault` of a store that can fail, and `OutOfMemory` where memory is
-    /// wanting.
+    /// In the place of each of these, and of a node, `StorageError::Fault` of a store that can fail, and `OutOfMemory` when out of
+    /// memory.
     ///
     /// Source: `zarrs::node::Node::open_opt`.
     pub fn open_opt<L: Log, S: ReadableStorageTraits + ListableStorageTraits>(

@@ -19,7 +19,7 @@ pub enum NodePathError {
     /// What is wrong: the text that is no path, or the bad part of a joined text.
     #[error("invalid node path {0}")]
     Invalid(String),
-    /// Memory for the path, or for the text of this error, was wanting.
+    /// Out of memory for the path, or for the text of this error.
     #[error("out of memory")]
     OutOfMemory,
 }
@@ -209,7 +209,7 @@ impl NodePath {
     ///
     /// # Errors
     /// `NodePathError::Invalid` with the path's text where a segment is no name.
-    /// `NodePathError::OutOfMemory` where memory for the slash of the root is wanting.
+    /// `NodePathError::OutOfMemory` when out of memory for the slash of the root.
     ///
     /// Source: own.
     pub fn from_owned_prefix(prefix: StorePrefix) -> Result<Self, NodePathError>
@@ -229,7 +229,7 @@ impl NodePath {
     /// The path of a prefix whose segments are known to be names, made of the text of the prefix without a copy.
     ///
     /// # Errors
-    /// `AllocError` where memory for the slash of the root is wanting.
+    /// `AllocError` when out of memory for the slash of the root.
     ///
     /// Source: own.
     pub fn from_valid_prefix(prefix: StorePrefix) -> Result<Self, AllocError>
@@ -253,7 +253,7 @@ impl NodePath {
     /// the front, in place.
     ///
     /// # Errors
-    /// `AllocError` where memory for the slash of the root is wanting.
+    /// `AllocError` when out of memory for the slash of the root.
     ///
     /// Source: own.
     pub fn text_of(prefix: StorePrefix) -> Result<String, AllocError>
