@@ -17,7 +17,7 @@ NamesBadKey B (NodePathError (InvalidPath text)) =
     (t : List ℕ) × IsSome (found B t) × (IsValidKey t → ⊥) × RefusesJoin t (InvalidPath text)
 NamesBadKey B _ = ⊥
 
--- some key of the block is not valid, and the error names its first part that is no name; or memory was wanting
+-- some key of the block is not valid, and the error names its first part that is no name; or out of memory
 abbrev pub RefusesKeys : Block → NodeCreateError → Type 0
 RefusesKeys B (NodePathError (InvalidPath text)) = NamesBadKey B (NodePathError (InvalidPath text))
 RefusesKeys B (NodePathError NoPathMemory) = Unit {0}

@@ -8,7 +8,7 @@ use Rattle.zarrs_path.specs.Paths.{Path, path_text}
 use Rattle.zarrs_block.specs.declared.node_create_error.NodeCreateError.{NodeCreateError}
 use Rattle.zarrs_block.specs.declared.node_create_error.NodeCreateError.TheVariants.{NodePathError, StorePrefixError, StorageError, MetadataVersionMismatch, MissingMetadata, OutOfMemory}
 
--- memory was wanting: the error is `OutOfMemory`, or holds an error that is
+-- out of memory: the error is `OutOfMemory`, or holds an error that is
 abbrev pub LacksMemory : NodeCreateError → Type 0
 LacksMemory (NodePathError (InvalidPath text)) = ⊥
 LacksMemory (NodePathError NoPathMemory) = Unit {0}
@@ -22,7 +22,7 @@ LacksMemory MetadataVersionMismatch = ⊥
 LacksMemory (MissingMetadata text) = ⊥
 LacksMemory OutOfMemory = Unit {0}
 
--- memory was wanting, or the error is the fault of a store that can fail
+-- out of memory, or the error is the fault of a store that can fail
 abbrev pub IsExcused : Bool → NodeCreateError → Type 0
 IsExcused can_fail (NodePathError (InvalidPath text)) = ⊥
 IsExcused can_fail (NodePathError NoPathMemory) = Unit {0}

@@ -41,7 +41,7 @@ used (Some B) Must = Some (Some B)
 used None Auto = Some None
 used None Must = None
 
--- the want of a block is refused, and the error says so with the text of p; or memory for that text was wanting
+-- the want of a block is refused, and the error says so with the text of p; or out of memory for that text
 abbrev pub RefusesUse : Path → Option (Option Block) → NodeCreateError → Type 0
 RefusesUse p choice (MissingMetadata text) =
     (choice ≡ None) × (string_bytes text ≡ codes "Consolidated metadata required but missing on group " ++ path_text p)

@@ -156,19 +156,19 @@ is_version_2 (Array (array_v3 m)) = false
 abbrev pub HasVersion2 : Block → Type 0
 HasVersion2 B = (e : Path × NodeMetadata) → Entries B [] e → IsTrue (is_version_2 e.1)
 
--- the node is of version 3, or memory was wanting
+-- the node is of version 3, or out of memory
 abbrev pub RefusesNode : NodeMetadata → NodeCreateError → Type 0
 RefusesNode m MetadataVersionMismatch = is_version_2 m ≡ false
 RefusesNode m OutOfMemory = Unit {0}
 RefusesNode m _ = ⊥
 
--- some node is of version 3, or memory was wanting
+-- some node is of version 3, or out of memory
 abbrev pub RefusesNodes : List (Path × NodeMetadata) → NodeCreateError → Type 0
 RefusesNodes es MetadataVersionMismatch = All (λ e. IsTrue (is_version_2 e.1)) es → ⊥
 RefusesNodes es OutOfMemory = Unit {0}
 RefusesNodes es _ = ⊥
 
--- a key of the block is not valid, and the error names its first part that is no name; or all are valid and an entry is of version 3; or memory was wanting
+-- a key of the block is not valid, and the error names its first part that is no name; or all are valid and an entry is of version 3; or out of memory
 abbrev pub RefusesZmetadata : Block → NodeCreateError → Type 0
 RefusesZmetadata B MetadataVersionMismatch = HasValidKeys B × (HasVersion2 B → ⊥)
 RefusesZmetadata B e = RefusesKeys B e

@@ -146,7 +146,7 @@ IsPlace t (Err _) = ⊥
 abbrev pub are_named : Members → Bool
 are_named ms = list_all (λ e. list_all is_name (before_last e.0)) (below ms)
 
--- a name that counts below the group is that of no node; or memory was wanting
+-- a name that counts below the group is that of no node; or out of memory
 abbrev pub RefusesNames : Members → MetadataFault → Type 0
 RefusesNames ms (BadMember name) = (name ≡ codes "metadata") × (are_named ms ≡ false)
 RefusesNames ms OutOfMemory = Unit {0}
@@ -158,7 +158,7 @@ RefusesNames ms _ = ⊥
 abbrev pub HoldsNodes : (List ℕ → File → Option Data) → (List ℕ → Option NodeMetadata) → Type 0
 HoldsNodes document at = (t : List ℕ) → result_ok (read_files (document t)) ≡ Some (at t)
 
--- the documents at some text do not read; or memory was wanting
+-- the documents at some text do not read; or out of memory
 abbrev pub RefusesTrees : (List ℕ → File → Option Data) → MetadataFault → Type 0
 RefusesTrees document (BadMember name) = (name ≡ codes "metadata") × ((t : List ℕ) × (result_ok (read_files (document t)) ≡ None))
 RefusesTrees document OutOfMemory = Unit {0}

@@ -24,7 +24,7 @@ abbrev pub ◌>>=◌ : {A B : Type 0} → Result A Refusal → (A → Result B R
 (Ok x) >>= f = f x
 (Err e) >>= f = Err e
 
--- an error is the refusal that the table answers; want of memory says nothing, and two errors never come
+-- an error is the refusal that the table answers; out of memory says nothing, and two errors never come
 abbrev pub Shows : {B : Type 0} → ArrayMetadataV2ToV3Error → Result B Refusal → Type 0
 Shows (UnsupportedDataType data_type) answer = answer ≡ Err (unsupported_data_type data_type)
 Shows (InvalidEndianness (Invalid text)) answer = answer ≡ Err (invalid_endianness (string_bytes text))
@@ -36,13 +36,13 @@ Shows MultipleArrayToBytesCodecs answer = answer ≡ Err multiple_array_to_bytes
 Shows (Other text) answer = answer ≡ Err (other (string_bytes text))
 Shows OutOfMemory answer = Unit {0}
 
--- the error names a codec of version 2, or memory was wanting
+-- the error names a codec of version 2, or out of memory
 abbrev pub IsUnsupported : MetadataV2 → ArrayMetadataV2ToV3Error → Type 0
 IsUnsupported codec (UnsupportedCodec id configuration) = (string_bytes id ≡ codec.id) × (members_view configuration.entries ≡ codec.configuration)
 IsUnsupported codec OutOfMemory = Unit {0}
 IsUnsupported codec _ = ⊥
 
--- the error names a data type of version 2, or memory was wanting
+-- the error names a data type of version 2, or out of memory
 abbrev pub IsUnsupportedType : DataTypeMetadataV2 → ArrayMetadataV2ToV3Error → Type 0
 IsUnsupportedType data_type (UnsupportedDataType named) = named ≡ data_type
 IsUnsupportedType data_type OutOfMemory = Unit {0}

@@ -133,7 +133,7 @@ fn filter_v3(alloc: Global, filter: &MetadataV2) -> Result<MetadataV3, ArrayMeta
     Ok(unconfigured(alloc, filter.id.as_str())?)
 }
 
-// The refusal of a codec, or want of memory for it.
+// The refusal of a codec, or out of memory for it.
 fn unsupported(alloc: Global, codec: &MetadataV2) -> ArrayMetadataV2ToV3Error
     ensures { IsUnsupported codec.now result }
 {

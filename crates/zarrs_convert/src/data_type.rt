@@ -52,7 +52,7 @@ pub fn data_type_metadata_v2_to_v3(
     Err(unsupported(alloc, data_type))
 }
 
-// The refusal of a data type, or want of memory for it.
+// The refusal of a data type, or out of memory for it.
 fn unsupported(alloc: Global, data_type: &DataTypeMetadataV2) -> ArrayMetadataV2ToV3Error
     ensures { IsUnsupportedType data_type.now result }
 {

@@ -1,4 +1,4 @@
--- No step of reading a document means want of memory: what it refuses with is never that fault.
+-- No step of reading a document means out of memory: what it refuses with is never that fault.
 use Rattle.std.proofs.Common.{◌≡◌, ◌≢◌, ℕ, List, Bool, true, false, if◌then◌else◌, Option, Some, None, Result, Ok, Err}
 use Rattle.serde_json.specs.Data.{Data}
 use Rattle.serde_json.specs.Find.{get}
@@ -8,14 +8,14 @@ use Rattle.zarrs_fault.specs.declared.fault.MetadataFault.TheVariants.{WrongForm
 
 -- ---- steps
 
--- two steps that never lack memory never do together
+-- two steps that are never out of memory never are together
 both_never : {A B : Type 0} (r : Result A MetadataFault) (f : A → Result B MetadataFault) → NeverLacksMemory r → ((x : A) → NeverLacksMemory (f x)) → NeverLacksMemory (r >>= f)
 both_never (Ok x) f h g = g x
 both_never (Err fault) f h g = λ e. h (let same : fault ≡ OutOfMemory = cc in cc)
 
 -- ---- the steps of reading a document
 
--- no bytes are want of memory
+-- no bytes are out of memory
 parsed_never : (o : Option Data) → NeverLacksMemory (parsed o)
 parsed_never None e = cc
 parsed_never (Some d) e = cc

@@ -32,7 +32,7 @@ pub some_map : {A B : Type 0} (P : A → Type 0) (Q : B → Type 0) (f : A → B
 some_map P Q f None h g = tt
 some_map P Q f (Some x) h g = g x h
 
--- reading gives a value that has P, or a fault that is not want of memory
+-- reading gives a value that has P, or a fault that is not out of memory
 abbrev pub Reads : {A : Type 0} → Result A MetadataFault → (A → Type 0) → Type 0
 Reads r P = MatchResult r P (λ fault. fault ≢ OutOfMemory)
 
@@ -51,7 +51,7 @@ pub of_ok : {A : Type 0} (P : A → Type 0) (r : Result A MetadataFault) (x : A)
 of_ok P (Ok y) x h e = let same : y ≡ x = cc in subst P same h
 of_ok P (Err y) x h e = cc
 
--- such a reading never means want of memory
+-- such a reading never means out of memory
 pub never_of : {A : Type 0} (P : A → Type 0) (r : Result A MetadataFault) → Reads r P → NeverLacksMemory r
 never_of P (Ok x) h e = cc
 never_of P (Err fault) h e = h (let same : fault ≡ OutOfMemory = cc in same)

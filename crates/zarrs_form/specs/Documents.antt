@@ -20,7 +20,7 @@ abbrev pub Refuses : {B : Type 0} → MetadataFault → Result B MetadataFault �
 Refuses OutOfMemory reading = Unit {0}
 Refuses fault reading = reading ≡ Err fault
 
--- a function answers what the reading gives: its value as it is seen, or its fault, and want of memory says nothing
+-- a function answers what the reading gives: its value as it is seen, or its fault, and out of memory says nothing
 abbrev pub Gives : {A B : Type 0} → (A → B) → Result A MetadataFault → Result B MetadataFault → Type 0
 Gives see (Ok x) reading = reading ≡ Ok (see x)
 Gives see (Err fault) reading = Refuses fault reading
@@ -119,7 +119,7 @@ is_null found = is_some (option_and_then as_null found)
 abbrev pub besides_null : List ℕ → Members → Members
 besides_null name ms = if is_null (get_member name ms) then besides (name ∷ []) ms else ms
 
--- what reading gives is not want of memory
+-- what reading gives is not out of memory
 abbrev pub NeverLacksMemory : {A : Type 0} → Result A MetadataFault → Type 0
 NeverLacksMemory reading = reading ≢ Err OutOfMemory
 

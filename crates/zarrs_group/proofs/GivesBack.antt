@@ -63,7 +63,7 @@ used_there B Never not = absurd (not refl)
 used_there B Auto not = refl
 used_there B Must not = refl
 
--- where no store can fail, only want of memory is excused
+-- where no store can fail, only out of memory is excused
 lacks_memory : (e : NodeCreateError) → IsExcused false e → LacksMemory e
 lacks_memory (made.NodePathError (InvalidPath text)) h = h
 lacks_memory (made.NodePathError NoPathMemory) h = h

@@ -61,7 +61,7 @@ is_listed None = false
 is_listed (Some None) = true
 is_listed (Some (Some B)) = false
 
--- memory was wanting, or the error is the fault of a store that is listed and can fail; or the want of a block is refused; or, by the block that is used or by a listing, what stands below the group is
+-- out of memory, or the error is the fault of a store that is listed and can fail; or the want of a block is refused; or, by the block that is used or by a listing, what stands below the group is
 abbrev pub RefusesBelow : Bool → Contents → GroupState → Settings → Bool → NodeCreateError → Type 0
 RefusesBelow can_fail s g config recursive e = IsExcused (is_listed (chosen g config) && can_fail) e ⊎ RefusesChosen s Default (chosen g config) recursive g.path e
 

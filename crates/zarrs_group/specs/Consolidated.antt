@@ -61,7 +61,7 @@ abbrev pub Fits : GroupMetadata → Option Block → Type 0
 Fits (V3 m) block = Unit {0}
 Fits (V2 m) block = IsBeside block
 
--- setting a block is refused: of version 3 for want of memory, of version 2 as the block cannot be written; to set no block there is never refused
+-- setting a block is refused: of version 3 as out of memory, of version 2 as the block cannot be written; to set no block there is never refused
 abbrev pub RefusesBlock : GroupMetadata → Option Block → NodeCreateError → Type 0
 RefusesBlock (V3 m) block e = e ≡ OutOfMemory
 RefusesBlock (V2 m) (Some B) e = RefusesZmetadata B e

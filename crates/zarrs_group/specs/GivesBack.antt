@@ -47,7 +47,7 @@ pub record Consolidates (of : Path → Meaning) (g : GroupState) (f : Forest) (B
   pub ascending : IsAscending B
   pub block : IsBlockOf (Contains (pairs f)) g.path B
 
--- whatever store is handed in, where the policy is not Never: the one forest of the group's children is f, what is traversed are the pairs of f in some order, and nothing refuses but want of memory
+-- whatever store is handed in, where the policy is not Never: the one forest of the group's children is f, what is traversed are the pairs of f in some order, and nothing refuses but out of memory
 pub record GivesBack (g : GroupState) (f : Forest) : Type 0 where
   pub children : (s : Contents) (config : Settings) → config.use_consolidated ≢ Never → (t : Forest) → ShowsChildren s g config true t → t ≡ f
   pub traversed : (s : Contents) (config : Settings) → config.use_consolidated ≢ Never → (es : List (Path × NodeMetadata)) → ListsNodes s g config es → Lists (Contains (pairs f)) es

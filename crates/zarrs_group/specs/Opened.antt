@@ -54,7 +54,7 @@ pub record HasUnsupported (S : Contents) (v : MetadataRetrieveVersion) (text : L
   pub means : MeansGroup S v path metadata
   pub unsupported : IsUnsupportedIn metadata (Some field)
 
--- opening is refused: the text is no path; the store can fail; a document is bad; there is none; a field must be understood; or memory was wanting.
+-- opening is refused: the text is no path; the store can fail; a document is bad; there is none; a field must be understood; or out of memory.
 -- A path has one meaning, so no two of the others hold at once
 abbrev pub RefusesOpen : Bool → Contents → MetadataRetrieveVersion → List ℕ → GroupCreateError → Type 0
 RefusesOpen can_fail S v text (error.NodePathError e) = RefusesPath text e
@@ -66,7 +66,7 @@ RefusesOpen can_fail S v text (error.StorageError storage.OutOfMemory) = Unit {0
 RefusesOpen can_fail S v text error.MissingMetadata = MeansAt S v text nothing
 RefusesOpen can_fail S v text error.OutOfMemory = Unit {0}
 
--- making a group is refused: the text is no path, or memory was wanting
+-- making a group is refused: the text is no path, or out of memory
 abbrev pub RefusesMaking : List ℕ → GroupCreateError → Type 0
 RefusesMaking text (error.NodePathError e) = RefusesPath text e
 RefusesMaking text (error.AdditionalFieldUnsupportedError e) = ⊥
@@ -76,13 +76,13 @@ RefusesMaking text error.OutOfMemory = Unit {0}
 
 -- ---- from the refusal of a node
 
--- the error holds a text of its own, or memory was wanting for that text
+-- the error holds a text of its own, or out of memory for that text
 abbrev pub IsTold : GroupCreateError → Type 0
 IsTold (error.StorageError (storage.Other said)) = Unit {0}
 IsTold error.OutOfMemory = Unit {0}
 IsTold _ = ⊥
 
--- the refusal of a node as that of a group: a storage error is kept, want of memory stays want of memory, and the rest is told by its text
+-- the refusal of a node as that of a group: a storage error is kept, out of memory stays out of memory, and the rest is told by its text
 abbrev pub IsFromNode : NodeCreateError → GroupCreateError → Type 0
 IsFromNode (node.StorageError e) made = made ≡ error.StorageError e
 IsFromNode (node.NodePathError path.OutOfMemory) made = made ≡ error.OutOfMemory

@@ -61,14 +61,14 @@ first_fault None second = second
 abbrev pub stored_fault : Path → GroupMetadata → Option Block → Option (Segments × MetadataFault)
 stored_fault p m block = first_fault (fault_at (metadata_key p m) (group_fault m)) (fault_at (p ++ zmetadata ∷ []) (beside_fault m block))
 
--- the refusal of a group before anything is written: it is not plain, and the error names the key and why; or memory was wanting
+-- the refusal of a group before anything is written: it is not plain, and the error names the key and why; or out of memory
 abbrev pub RefusesMetadata : Path → GroupMetadata → Option Block → StorageError → Type 0
 RefusesMetadata p m block Fault = ⊥
 RefusesMetadata p m block (InvalidMetadata key fault) = stored_fault p m block ≡ Some (key, fault)
 RefusesMetadata p m block (Other text) = ⊥
 RefusesMetadata p m block OutOfMemory = Unit {0}
 
--- a refused store: of a group that is not plain, with the store unchanged; or of a plain one by the store or for want of memory, with a first part of the edits done
+-- a refused store: of a group that is not plain, with the store unchanged; or of a plain one by the store or as out of memory, with a first part of the edits done
 abbrev pub RefusesStore : Bool → Path → GroupMetadata → Option Block → Contents → Contents → StorageError → Type 0
 RefusesStore can_fail p m block S S' Fault = IsTrue can_fail × (stored_fault p m block ≡ None) × IsCutShort S (store_edits p m block) S'
 RefusesStore can_fail p m block S S' (InvalidMetadata key fault) = (S' ≡ S) × (stored_fault p m block ≡ Some (key, fault))

@@ -78,7 +78,7 @@ impl GroupBuilder {
     ///
     /// # Errors
     ///
-    /// `NodePathError` where the text is no path, and want of memory.
+    /// `NodePathError` where the text is no path, and out of memory.
     ///
     /// Source: `zarrs::group::GroupBuilder::build`.
     pub fn build(

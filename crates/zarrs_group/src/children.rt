@@ -37,7 +37,7 @@ impl Group {
     /// - `NodePathError` where a key of the block is no relative path.
     /// - The refusals of `get_child_nodes_opt` where the store is listed.
     ///
-    /// In the place of each of these, and of the nodes, `OutOfMemory` where memory is wanting, and, where the store is listed and can fail, its
+    /// In the place of each of these, and of the nodes, `OutOfMemory` when out of memory, and, where the store is listed and can fail, its
     /// `StorageError::Fault`.
     ///
     /// Source: `zarrs::group::Group::children`.

@@ -45,7 +45,7 @@ impl Group {
     /// - `NodePathError` where a key of the block is not names joined by slashes, also behind one slash.
     /// - `MetadataVersionMismatch` where an entry of the block is of version 3.
     ///
-    /// Of either, `OutOfMemory` where memory is wanting. After an error nothing is changed, as
+    /// Of either, `OutOfMemory` when out of memory. After an error nothing is changed, as
     /// [`Group::replace_consolidated_metadata`] promises.
     ///
     /// Source: `zarrs::group::Group::set_consolidated_metadata`; zarr-python, consolidated metadata of version 2.

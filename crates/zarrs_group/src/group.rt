@@ -76,7 +76,7 @@ impl Group {
     ///
     /// # Errors
     ///
-    /// `NodePathError` where the text is no path, and want of memory.
+    /// `NodePathError` where the text is no path, and out of memory.
     ///
     /// Source: `zarrs::group::Group::new_with_metadata`.
     pub fn new_with_metadata(
@@ -133,7 +133,7 @@ impl Group {
     /// The first that applies: `NodePathError` where the text is no path; `StorageError` with the store's own error, or
     /// with the key and the fault of a document that does not read; `MissingMetadata` where there is no document;
     /// `AdditionalFieldUnsupportedError` with the least field of a version 3 group that must be understood. Besides,
-    /// want of memory.
+    /// out of memory.
     ///
     /// Source: `zarrs::group::Group::open_opt`; Zarr core specification 3.1, "Group metadata"; zarr-python, consolidated metadata of version 2.
     pub fn open_opt<S: ReadableStorageTraits>(
@@ -221,7 +221,7 @@ impl Group {
     ///
     /// # Errors
     ///
-    /// `AllocError` for want of memory alone.
+    /// `AllocError` for out of memory alone.
     ///
     /// Source: `zarrs::group::Group::metadata_opt`.
     pub fn metadata_opt(
@@ -270,7 +270,7 @@ impl Group {
     ///
     /// # Errors
     ///
-    /// `AllocError` for want of memory alone.
+    /// `AllocError` for out of memory alone.
     ///
     /// Source: the `Display` of `zarrs::group::Group`.
     pub fn to_text(&self, alloc: Global) -> Result<String, AllocError>
@@ -287,7 +287,7 @@ impl Group {
     ///
     /// # Errors
     ///
-    /// `AllocError` for want of memory alone.
+    /// `AllocError` for out of memory alone.
     ///
     /// Source: `Clone` of `zarrs::group::Group`.
     pub fn try_clone(&self, alloc: Global) -> Result<Group, AllocError>
@@ -343,7 +343,7 @@ impl Group {
     /// - `InvalidMetadata` with the key of `.zmetadata` where the metadata of an entry of the block could not have come
     ///   from a document: `UnsupportedNumber` for a number of any entry, else `BadMember` with `metadata`.
     ///
-    /// Besides, the store's own error and want of memory: then the changes before the refused one stand, of its key
+    /// Besides, the store's own error and out of memory: then the changes before the refused one stand, of its key
     /// nothing is promised, and no later key was touched.
     ///
     /// Source: `zarrs::group::Group::store_metadata_opt`.
@@ -395,7 +395,7 @@ impl Group {
     ///
     /// # Errors
     ///
-    /// The store's own error and want of memory: then the changes before the refused one stand, of its key nothing is
+    /// The store's own error and out of memory: then the changes before the refused one stand, of its key nothing is
     /// promised, and no later key was touched.
     ///
     /// Source: `zarrs::group::Group::erase_metadata_opt`.

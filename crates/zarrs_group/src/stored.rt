@@ -176,7 +176,7 @@ fn edit_of_block(
     Ok(Edit::Set(key, bytes))
 }
 
-// What is written of a block that stands beside the metadata of a version 2 group: nothing but want of memory refuses it.
+// What is written of a block that stands beside the metadata of a version 2 group: nothing but out of memory refuses it.
 fn written(
     alloc: Global,
     group: &GroupMetadataV2,

@@ -10,7 +10,7 @@ use Rattle.zarrs_meta.specs.declared.node.NodeMetadata.{NodeMetadata}
 use Rattle.zarrs_block.specs.declared.node_create_error.NodeCreateError.{NodeCreateError}
 use Rattle.zarrs_block.specs.Meaning.{Meaning, node, nothing, bad}
 
--- a fault of the document at a key is refused with the key and the fault, and want of memory as such
+-- a fault of the document at a key is refused with the key and the fault, and out of memory as such
 abbrev pub refusal_at : Segments → MetadataFault → StorageError
 refusal_at key NoMemoryToRead = OutOfMemory
 refusal_at key fault = InvalidMetadata key fault

@@ -20,7 +20,7 @@ use zarrs_path::NodePath;
 ///
 /// # Errors
 ///
-/// `AllocError` where memory is wanting.
+/// `AllocError` when out of memory.
 ///
 /// Source: `zarrs::node::build_node_tree`.
 pub fn build_node_tree(
@@ -39,7 +39,7 @@ pub fn build_node_tree(
 ///
 /// # Errors
 ///
-/// `AllocError` where memory is wanting.
+/// `AllocError` when out of memory.
 ///
 /// Source: own.
 pub fn build_node_tree_counted(
@@ -59,7 +59,7 @@ pub fn build_node_tree_counted(
 ///
 /// # Errors
 ///
-/// `AllocError` where memory is wanting.
+/// `AllocError` when out of memory.
 ///
 /// Source: `zarrs::node::direct_children_from_flat`.
 pub fn direct_children_from_flat(

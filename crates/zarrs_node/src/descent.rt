@@ -32,7 +32,7 @@ use zarrs_store::{
 /// - `StorageError::InvalidMetadata` where a document on the way does not read, with its key and the fault.
 /// - `MetadataVersionMismatch` where a document of version 2 stands at `zarr.json`.
 /// - `StorageError::Other` with `invalid node path ` and the child's text where a child's name is made of periods only.
-/// - `StorageError::Fault` of a store that can fail, and `OutOfMemory` where memory is wanting.
+/// - `StorageError::Fault` of a store that can fail, and `OutOfMemory` when out of memory.
 ///
 /// Source: `zarrs::node::get_child_nodes_opt`, without a logger, its nodes one by one.
 pub fn walk_nodes<S: ReadableStorageTraits + ListableStorageTraits, K: NodeSink>(

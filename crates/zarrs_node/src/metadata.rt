@@ -26,7 +26,7 @@ impl Node {
     /// - `MissingMetadata` with the path's text where there is none of these documents.
     /// - `StorageError::InvalidMetadata` where a document does not read, with its key and the fault.
     /// - `MetadataVersionMismatch` where a document of version 2 stands at `zarr.json`.
-    /// - `StorageError::Fault` of a store that can fail, and `OutOfMemory` where memory is wanting.
+    /// - `StorageError::Fault` of a store that can fail, and `OutOfMemory` when out of memory.
     ///
     /// Source: `zarrs::node::Node::get_metadata`.
     pub fn get_metadata<S: ReadableStorageTraits>(

@@ -82,7 +82,7 @@ impl Node {
     ///
     /// # Errors
     ///
-    /// `AllocError` where memory is wanting.
+    /// `AllocError` when out of memory.
     ///
     /// Source: `zarrs::node::Node::name`.
     pub fn name(&self, alloc: Global) -> Result<NodeName, AllocError>
@@ -96,7 +96,7 @@ impl Node {
     ///
     /// # Errors
     ///
-    /// `AllocError` where memory is wanting.
+    /// `AllocError` when out of memory.
     ///
     /// Source: `zarrs::node::Node`, its `Clone`.
     pub fn try_clone(&self, alloc: Global) -> Result<Node, AllocError>

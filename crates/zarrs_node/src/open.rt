@@ -70,8 +70,8 @@ impl Node {
     /// - `NodePathError` where a key of the block is no relative path.
     /// - The refusals of `get_child_nodes_opt`, recursive, where the children are listed.
     ///
-    /// In the place of each of these, and of a node, `StorageError::Fault` of a store that can fail, and `OutOfMemory` where memory is
-    /// wanting.
+    /// In the place of each of these, and of a node, `StorageError::Fault` of a store that can fail, and `OutOfMemory` when out of
+    /// memory.
     ///
     /// Source: `zarrs::node::Node::open_opt`.
     pub fn open_opt<L: Log, S: ReadableStorageTraits + ListableStorageTraits>(
@@ -128,7 +128,7 @@ fn nodes_below<L: Log, S: ReadableStorageTraits + ListableStorageTraits>(
 /// # Errors
 ///
 /// - `NodePathError` where a key of the block is no relative path.
-/// - `OutOfMemory` where memory is wanting.
+/// - `OutOfMemory` when out of memory.
 ///
 /// Source: own; `zarrs::group::Group::children` makes them of the expanded pairs.
 pub fn nodes_of_block(

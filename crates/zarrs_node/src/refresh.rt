@@ -33,7 +33,7 @@ use zarrs_store::{ListableStorageTraits, ReadableStorageTraits};
 /// - `StorageError::Other` where a name below the path is made of periods only.
 /// - `StorageError::Fault` of a store that can fail.
 ///
-/// And `OutOfMemory` where memory is wanting.
+/// And `OutOfMemory` when out of memory.
 ///
 /// Source: own.
 pub fn refresh_block<S: ReadableStorageTraits + ListableStorageTraits>(

@@ -2,7 +2,7 @@
 //!
 //! A call that reads is a value here, and what it answers a text, so one loop goes over all calls and all places of a store. A store is
 //! lent to such a call for reading alone, so it is left as it was. Each allocation of the tests `memory_fails_in_..` is refused in turn
-//! by `bench/failures`; such a test ends then as usual, or in an error that lacks memory.
+//! by `bench/failures`; such a test ends then as usual, or in an error that is out of memory.
 ghost use Rattle.std.specs.Prelude.{◌≡◌, true, ◌⊎◌, IfOk, IfErr, OnOk, OnErr};
 ghost use Rattle.zarrs_store.specs.Failing.{held};
 ghost use Rattle.zarrs_store.specs.Contents.{Lists};
@@ -46,7 +46,7 @@ use zarrs_store::{
 
 // ---- what is promised over a store that fails: the contracts of the calls over any store, at this one
 
-// What is listed below a path. It shows the nodes of what the store holds, and refuses by what is bad there, by the fault or for want of memory.
+// What is listed below a path. It shows the nodes of what the store holds, and refuses by what is bad there, by the fault or as out of memory.
 fn listed_over_faults(
     alloc: Global,
     store: &FaultStore,
@@ -372,7 +372,7 @@ fn kinds_text<S: ReadableStorageTraits + ListableStorageTraits>(
 // The text of a fault of the store.
 const FAULT: &str = "store fault";
 
-// The text of want of memory.
+// The text of out of memory.
 const NO_MEMORY: &str = "out of memory";
 
 fn is_same(found: &str, wanted: &str) -> Result<(), Fail> {
@@ -869,7 +869,7 @@ fn reading_both_versions_answers_as_usual_or_the_fault(rt: HostRuntime) -> Resul
 
 // ---- reading, storing and erasing, with each allocation refused in turn
 
-// Hands want of memory on as such.
+// Hands out of memory on as such.
 fn unless_memory_failed(answer: &str) -> Result<(), Fail> {
     if answer == NO_MEMORY {
         Err(Fail::from(AllocError))
@@ -968,7 +968,7 @@ fn is_cut_short(
     Ok(false)
 }
 
-// Asks whether a step did all its changes, or lacks memory and did a first part of them.
+// Asks whether a step did all its changes, or is out of memory and did a first part of them.
 fn is_stepped(
     alloc: Global,
     number: usize,

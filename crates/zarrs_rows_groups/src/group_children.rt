@@ -666,7 +666,7 @@ fn groups_say_what_stands_below(rt: HostRuntime) -> Result<(), Fail> {
     check_rows(rt.alloc(), LOOKED, looked)
 }
 
-// ---- with each allocation refused in turn a block is set, or memory is wanting and the group stays
+// ---- with each allocation refused in turn a block is set, or the call is out of memory and the group stays
 
 // A group after a block was set; where that was refused, the refusal and the group.
 fn set_text(set: &Set, alloc: Global) -> Result<String, AllocError> {

@@ -114,7 +114,7 @@ fn a_name_of_periods_is_refused_by_a_text_of_its_own(rt: HostRuntime) -> Result<
     check_rows(rt.alloc(), row, other_said)
 }
 
-// With each allocation refused in turn the listing lacks memory or is whole, and never another one.
+// With each allocation refused in turn the listing is out of memory or whole, and never another one.
 #[test]
 fn a_listing_without_memory_says_so(rt: HostRuntime) {
     let alloc = rt.alloc();

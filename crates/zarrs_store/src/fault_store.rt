@@ -243,7 +243,7 @@ impl ListableStorageTraits for FaultStore {
 }
 
 impl WritableStorageTraits for FaultStore {
-    /// Sets the bytes at the key. A fault leaves the first half of them there, half their number rounded down; want of memory leaves
+    /// Sets the bytes at the key. A fault leaves the first half of them there, half their number rounded down; out of memory leaves
     /// the store as it was, at the place too.
     ///
     /// # Errors

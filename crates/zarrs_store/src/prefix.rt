@@ -54,7 +54,7 @@ impl From<AllocError> for StorePrefixError {
 
     ghost from_gives = { λ _ e. e ≡ OutOfMemory };
 
-    /// Want of memory.
+    /// Out of memory.
     fn from(_e: AllocError) -> StorePrefixError {
         StorePrefixError::OutOfMemory
     }
