@@ -21,7 +21,7 @@ use Rattle.zarrs_form.proofs.PlainForms.{member_fits}
 use Rattle.zarrs_form.proofs.Shared.{members_by, put_last as put_member_last}
 use Rattle.zarrs_meta.specs.Node.{node_of, node_tree}
 use Rattle.zarrs_meta.specs.declared.node.NodeMetadata.{NodeMetadata}
-use Rattle.zarrs_block.specs.Block.{Block, found, put, nodes_of, documents}
+use Rattle.zarrs_block.specs.Block.{Block, node_at_key, put, nodes_of, documents}
 
 -- the entries of a map, as a block
 abbrev pub shown : List (String Global × NodeMetadata) → Block
@@ -45,7 +45,7 @@ found_by : (o : Ordering) (m : NodeMetadata) (a b : Option NodeMetadata) → a �
 found_by o m a b e = ap (λ x. cond (is_eq o) (Some m) x) e
 
 -- what a map has at a text is what the block has there
-pub found_shown : (t : List ℕ) (es : List (String Global × NodeMetadata)) → lookup (is_at (λ k. slice_cmp nat_cmp t (string_bytes k))) es ≡ found (shown es) t
+pub found_shown : (t : List ℕ) (es : List (String Global × NodeMetadata)) → lookup (is_at (λ k. slice_cmp nat_cmp t (string_bytes k))) es ≡ node_at_key (shown es) t
 found_shown t [] = refl
 found_shown t (e ∷ es) = found_by (bytes_cmp t (string_bytes e.0)) e.1 _ _ (found_shown t es)
 

@@ -18,12 +18,12 @@ use Rattle.zarrs_path.proofs.PathTexts.{segments_from_names}
 use Rattle.zarrs_form.specs.Documents as steps
 use Rattle.zarrs_form.specs.Forms.{is_nil}
 use Rattle.zarrs_meta.specs.declared.node.NodeMetadata.{NodeMetadata}
-use Rattle.zarrs_block.specs.Block.{Block, IsAscending, found}
+use Rattle.zarrs_block.specs.Block.{Block, IsAscending, node_at_key}
 use Rattle.zarrs_block.specs.declared.node_create_error.NodeCreateError.{NodeCreateError}
 use Rattle.zarrs_block.specs.Meaning.{Meaning, node, nothing, bad}
 use Rattle.zarrs_block.specs.Small.{small_meaning, stretches, counted, small}
-use Rattle.zarrs_block.specs.Zmetadata.{before_last, below, is_bad, is_good, with_node, block_from, small_block, zmetadata_members, zmetadata_of, HoldsStore, IsClean, IsZmetadataFault}
-use Rattle.zarrs_block.specs.ZmetadataRead.{read_documents, read_files, member_at, are_named}
+use Rattle.zarrs_block.specs.Zmetadata.{before_last, documents_below, is_bad, is_good, with_node, block_from, small_block, zmetadata_members, zmetadata_of, HoldsStore, IsClean, IsZmetadataFault}
+use Rattle.zarrs_block.specs.StepsOfZmetadata.{read_documents, read_files, member_at, are_named}
 use Rattle.zarrs_block.proofs.Expansion.{at_itself, same_text}
 use Rattle.zarrs_block.proofs.Puts.{found_put, put_ascends, none_ascend}
 use Rattle.zarrs_block.proofs.SameBlocks.{one_block}
@@ -110,25 +110,25 @@ module _ (of : Path → Meaning) where
     IsMeant = (n : List ℕ) × (ns : Path) × (t ≡ key_text (n ∷ ns)) × (of (n ∷ ns) ≡ node m)
 
     -- the same of a block with one more, or as before
-    meant_with : (n : List ℕ) (ns : Path) (x : Meaning) (B : Block) → of (n ∷ ns) ≡ x → (found B t ≡ Some m → IsMeant) → found (with_node (n ∷ ns) x B) t ≡ Some m → IsMeant
+    meant_with : (n : List ℕ) (ns : Path) (x : Meaning) (B : Block) → of (n ∷ ns) ≡ x → (node_at_key B t ≡ Some m → IsMeant) → node_at_key (with_node (n ∷ ns) x B) t ≡ Some m → IsMeant
     meant_with n ns (node y) B is again h = by (is_eq (bytes_cmp t (key_text (n ∷ ns)))) refl (sym (found_put t (key_text (n ∷ ns)) y B) ∙ h)
       where
-        by : (b : Bool) → is_eq (bytes_cmp t (key_text (n ∷ ns))) ≡ b → cond b (Some y) (found B t) ≡ Some m → IsMeant
+        by : (b : Bool) → is_eq (bytes_cmp t (key_text (n ∷ ns))) ≡ b → cond b (Some y) (node_at_key B t) ≡ Some m → IsMeant
         by true at e = let same : y ≡ m = cc in (n, ns, same_text t (key_text (n ∷ ns)) at, is ∙ ap node same)
         by false at e = again e
     meant_with n ns nothing B is again h = again h
     meant_with n ns (bad e) B is again h = again h
 
     -- what the block has at a text, a path of that text means
-    pub meant_from : (es : List (Segments × Data)) → found (block_from of (below_of es)) t ≡ Some m → IsMeant
+    pub meant_from : (es : List (Segments × Data)) → node_at_key (block_from of (below_of es)) t ≡ Some m → IsMeant
     meant_from [] h = cc
     meant_from (x ∷ es) h = by (before_last x.0) refl (meant_from es) h
       where
-        by : (p : Path) → before_last x.0 ≡ p → (found (block_from of (below_of es)) t ≡ Some m → IsMeant)
-            → found (block_from of (cond (not (is_nil p)) (x ∷ below_of es) (below_of es))) t ≡ Some m → IsMeant
+        by : (p : Path) → before_last x.0 ≡ p → (node_at_key (block_from of (below_of es)) t ≡ Some m → IsMeant)
+            → node_at_key (block_from of (cond (not (is_nil p)) (x ∷ below_of es) (below_of es))) t ≡ Some m → IsMeant
         by [] is again g = again g
         by (n ∷ ns) is again g =
-            meant_with n ns (of (n ∷ ns)) (block_from of (below_of es)) refl again (subst (λ q. found (with_node q (of q) (block_from of (below_of es))) t ≡ Some m) is g)
+            meant_with n ns (of (n ∷ ns)) (block_from of (below_of es)) refl again (subst (λ q. node_at_key (with_node q (of q) (block_from of (below_of es))) t ≡ Some m) is g)
 
   module _ (n : List ℕ) (ns : Path) (m : NodeMetadata) (valid : IsPath (n ∷ ns)) (means : of (n ∷ ns) ≡ node m) where
     -- the text of the path
@@ -136,14 +136,14 @@ module _ (of : Path → Meaning) where
     own = key_text (n ∷ ns)
 
     -- where the path comes first, its metadata are put at its text
-    here_with : (B : Block) → found (with_node (n ∷ ns) (of (n ∷ ns)) B) own ≡ Some m
-    here_with B = subst (λ x. found (with_node (n ∷ ns) x B) own ≡ Some m) (sym means) (found_put own own m B ∙ ap (λ b. cond b (Some m) (found B own)) (at_itself own))
+    here_with : (B : Block) → node_at_key (with_node (n ∷ ns) (of (n ∷ ns)) B) own ≡ Some m
+    here_with B = subst (λ x. node_at_key (with_node (n ∷ ns) x B) own ≡ Some m) (sym means) (found_put own own m B ∙ ap (λ b. cond b (Some m) (node_at_key B own)) (at_itself own))
 
     -- where another comes first, they stay there
-    later_with : (l : List ℕ) (ls : Path) (x : Meaning) (B : Block) → of (l ∷ ls) ≡ x → IsPath (l ∷ ls) → found B own ≡ Some m → found (with_node (l ∷ ls) x B) own ≡ Some m
+    later_with : (l : List ℕ) (ls : Path) (x : Meaning) (B : Block) → of (l ∷ ls) ≡ x → IsPath (l ∷ ls) → node_at_key B own ≡ Some m → node_at_key (with_node (l ∷ ls) x B) own ≡ Some m
     later_with l ls (node y) B is other h = found_put own (key_text (l ∷ ls)) y B ∙ by (is_eq (bytes_cmp own (key_text (l ∷ ls)))) refl
       where
-        by : (b : Bool) → is_eq (bytes_cmp own (key_text (l ∷ ls))) ≡ b → cond b (Some y) (found B own) ≡ Some m
+        by : (b : Bool) → is_eq (bytes_cmp own (key_text (l ∷ ls))) ≡ b → cond b (Some y) (node_at_key B own) ≡ Some m
         by true at =
             let path : n ∷ ns ≡ l ∷ ls = sym (parts_text n ns valid) ∙ ap stretches (same_text own (key_text (l ∷ ls)) at) ∙ parts_text l ls other in
             let same : node y ≡ node m = sym is ∙ ap of (sym path) ∙ means in
@@ -154,7 +154,7 @@ module _ (of : Path → Meaning) where
     later_with l ls (bad e) B is other h = h
 
     -- where a path of names has a document and means metadata, the block has them at its text
-    pub held_at : (f : List ℕ) (d : Data) (es : List (Segments × Data)) → all_good es ≡ true → find key_cmp ((n ∷ ns) ++ f ∷ []) es ≡ Some d → found (block_from of (below_of es)) own ≡ Some m
+    pub held_at : (f : List ℕ) (d : Data) (es : List (Segments × Data)) → all_good es ≡ true → find key_cmp ((n ∷ ns) ++ f ∷ []) es ≡ Some d → node_at_key (block_from of (below_of es)) own ≡ Some m
     held_at f d [] all e = cc
     held_at f d (x ∷ es) all e = by (before_last x.0) refl (is_eq (key_cmp ((n ∷ ns) ++ f ∷ []) x.0)) refl (held_at f d es) all e
       where
@@ -163,15 +163,15 @@ module _ (of : Path → Meaning) where
         same at = sym (before_last-child (n ∷ ns) f) ∙ ap before_last (same_key ((n ∷ ns) ++ f ∷ []) x.0 at)
 
         by : (p : Path) → before_last x.0 ≡ p → (c : Bool) → is_eq (key_cmp ((n ∷ ns) ++ f ∷ []) x.0) ≡ c
-            → (all_good es ≡ true → find key_cmp ((n ∷ ns) ++ f ∷ []) es ≡ Some d → found (block_from of (below_of es)) own ≡ Some m)
+            → (all_good es ≡ true → find key_cmp ((n ∷ ns) ++ f ∷ []) es ≡ Some d → node_at_key (block_from of (below_of es)) own ≡ Some m)
             → list_all (λ e. is_good of e.0) (cond (not (is_nil p)) (x ∷ below_of es) (below_of es)) ≡ true → cond c (Some x.1) (find key_cmp ((n ∷ ns) ++ f ∷ []) es) ≡ Some d
-            → found (block_from of (cond (not (is_nil p)) (x ∷ below_of es) (below_of es))) own ≡ Some m
+            → node_at_key (block_from of (cond (not (is_nil p)) (x ∷ below_of es) (below_of es))) own ≡ Some m
         by [] is true at again every g = let none : n ∷ ns ≡ [] = same at ∙ is in cc
         by [] is false at again every g = again every g
-        by (l ∷ ls) is true at again every g = subst (λ q. found (with_node q (of q) (block_from of (below_of es))) own ≡ Some m) (same at) (here_with (block_from of (below_of es)))
+        by (l ∷ ls) is true at again every g = subst (λ q. node_at_key (with_node q (of q) (block_from of (below_of es))) own ≡ Some m) (same at) (here_with (block_from of (below_of es)))
         by (l ∷ ls) is false at again every g =
             let both = and_parts (is_good of x.0) (all_good es) every in
-            subst (λ q. found (with_node q (of q) (block_from of (below_of es))) own ≡ Some m) (sym is)
+            subst (λ q. node_at_key (with_node q (of q) (block_from of (below_of es))) own ≡ Some m) (sym is)
             (later_with l ls (of (l ∷ ls)) (block_from of (below_of es)) refl (subst IsPath is (names_of_good x.0 both.0)) (again both.1 g))
 
 -- ---- the documents of a path
@@ -224,16 +224,16 @@ module _ (ms : Members) where
         ⊎_elim (λ has. has) (λ empty. let both : Some (Some m) ≡ Some None = sym (ap as_read is) ∙ based_read [] (n ∷ ns) ms ∙ empty in cc) (document_or_none (n ∷ ns))
 
     -- the block has what the paths below the group mean
-    pub meant_held : (n : List ℕ) (ns : Path) (m : NodeMetadata) → meant (n ∷ ns) ≡ node m → found (block_from meant (below ms)) (key_text (n ∷ ns)) ≡ Some m
+    pub meant_held : (n : List ℕ) (ns : Path) (m : NodeMetadata) → meant (n ∷ ns) ≡ node m → node_at_key (block_from meant (documents_below ms)) (key_text (n ∷ ns)) ≡ Some m
     meant_held n ns m is =
         let has = has_document n ns m is in
         held_at meant n ns m (path_good n ns has) is has.0 has.1 (counted ms) good has.2
 
     -- the block holds the store
-    pub holds_small : HoldsStore ms (block_from meant (below ms))
+    pub holds_small : HoldsStore ms (block_from meant (documents_below ms))
     holds_small b t m = (
       λ h. let w = meant_from meant t m (counted ms) h in (w.0, w.1, w.2, node_from (small_meaning (small b ms) (b ++ w.0 ∷ w.1)) m (same_read b (w.0 ∷ w.1) ∙ ap as_read w.3)),
-      λ w. ap (found (block_from meant (below ms))) w.2 ∙ meant_held w.0 w.1 m (node_from (meant (w.0 ∷ w.1)) m (sym (same_read b (w.0 ∷ w.1)) ∙ ap as_read w.3)),
+      λ w. ap (node_at_key (block_from meant (documents_below ms))) w.2 ∙ meant_held w.0 w.1 m (node_from (meant (w.0 ∷ w.1)) m (sym (same_read b (w.0 ∷ w.1)) ∙ ap as_read w.3)),
     )
 
     -- and it is clean
@@ -249,10 +249,10 @@ module _ (ms : Members) where
 small_law : (ms : Members) (B : Block) → small_block ms ≡ Ok B → (HoldsStore ms B × IsClean ms) × IsAscending B
 small_law ms B h = by (all_good (meant ms) (counted ms)) refl h
   where
-    by : (x : Bool) → all_good (meant ms) (counted ms) ≡ x → (if x then Ok (block_from (meant ms) (below ms)) else Err (BadMember (codes "metadata"))) ≡ Ok B → (HoldsStore ms B × IsClean ms) × IsAscending B
+    by : (x : Bool) → all_good (meant ms) (counted ms) ≡ x → (if x then Ok (block_from (meant ms) (documents_below ms)) else Err (BadMember (codes "metadata"))) ≡ Ok B → (HoldsStore ms B × IsClean ms) × IsAscending B
     by true good e =
-        let is : block_from (meant ms) (below ms) ≡ B = ap (λ r. unwrap_or (result_ok r) B) e in
-        ((subst (HoldsStore ms) is (holds_small ms good), clean_small ms good), subst IsAscending is (from_ascends (meant ms) (below ms)))
+        let is : block_from (meant ms) (documents_below ms) ≡ B = ap (λ r. unwrap_or (result_ok r) B) e in
+        ((subst (HoldsStore ms) is (holds_small ms good), clean_small ms good), subst IsAscending is (from_ascends (meant ms) (documents_below ms)))
     by false good e = cc
 
 -- a document that reads is one whose members are a clean store that the block holds
@@ -312,7 +312,7 @@ module _ (ms : Members) where
 
   -- where some document is not good, the members are refused
   refused_by : all_good here (counted ms) ≡ false → small_block ms ≡ Err (BadMember (codes "metadata"))
-  refused_by e = ap (λ b. if b then Ok (block_from here (below ms)) else Err (BadMember (codes "metadata"))) e
+  refused_by e = ap (λ b. if b then Ok (block_from here (documents_below ms)) else Err (BadMember (codes "metadata"))) e
 
   -- where a name is that of no node, the members are refused
   pub names_refused : are_named ms ≡ false → small_block ms ≡ Err (BadMember (codes "metadata"))
@@ -349,43 +349,43 @@ module _ (ms : Members) where
   pub small_refused : (f : MetadataFault) → small_block ms ≡ Err f → (IsClean ms → ⊥) × (f ≡ BadMember (codes "metadata"))
   small_refused f h = by (all_good here (counted ms)) refl h
     where
-      by : (x : Bool) → all_good here (counted ms) ≡ x → (if x then Ok (block_from here (below ms)) else Err (BadMember (codes "metadata"))) ≡ Err f
+      by : (x : Bool) → all_good here (counted ms) ≡ x → (if x then Ok (block_from here (documents_below ms)) else Err (BadMember (codes "metadata"))) ≡ Err f
           → (IsClean ms → ⊥) × (f ≡ BadMember (codes "metadata"))
       by true good e = cc
       by false some e = let same : BadMember (codes "metadata") ≡ f = cc in (λ clean. true≢false (sym (clean_good clean) ∙ some), sym same)
 
-  module _ (B : Block) (named : are_named ms ≡ true) (up : IsAscending B) (nodes : (t : List ℕ) → result_ok (read_files (member_at ms t)) ≡ Some (found B t)) where
+  module _ (B : Block) (named : are_named ms ≡ true) (up : IsAscending B) (nodes : (t : List ℕ) → result_ok (read_files (member_at ms t)) ≡ Some (node_at_key B t)) where
     -- each path of names is read
-    read_at : (n : List ℕ) (ns : Path) → IsPath (n ∷ ns) → as_read (here (n ∷ ns)) ≡ Some (found B (key_text (n ∷ ns)))
+    read_at : (n : List ℕ) (ns : Path) → IsPath (n ∷ ns) → as_read (here (n ∷ ns)) ≡ Some (node_at_key B (key_text (n ∷ ns)))
     read_at n ns h = ap (λ p. as_read (here p)) (sym (parts_text n ns h)) ∙ text_read (key_text (n ∷ ns)) ms ∙ nodes (key_text (n ∷ ns))
 
     -- each document is good
     every_good : all_good here (counted ms) ≡ true
-    every_good = good_by (counted ms) named (λ n ns h. not_bad (here (n ∷ ns)) (found B (key_text (n ∷ ns))) (read_at n ns h))
+    every_good = good_by (counted ms) named (λ n ns h. not_bad (here (n ∷ ns)) (node_at_key B (key_text (n ∷ ns))) (read_at n ns h))
 
     -- what is read at a text is what a path of that text means
-    to_from : (t : List ℕ) (m : NodeMetadata) → found B t ≡ Some m → found (block_from here (below ms)) t ≡ Some m
+    to_from : (t : List ℕ) (m : NodeMetadata) → node_at_key B t ≡ Some m → node_at_key (block_from here (documents_below ms)) t ≡ Some m
     to_from t m h = by (stretches t) refl (parts_some t)
       where
-        by : (p : Path) → stretches t ≡ p → stretches t ≢ [] → found (block_from here (below ms)) t ≡ Some m
+        by : (p : Path) → stretches t ≡ p → stretches t ≢ [] → node_at_key (block_from here (documents_below ms)) t ≡ Some m
         by [] is some = absurd (some is)
         by (n ∷ ns) is some =
             let means : here (n ∷ ns) ≡ node m = node_from (here (n ∷ ns)) m (ap (λ p. as_read (here p)) (sym is) ∙ text_read t ms ∙ nodes t ∙ ap Some h) in
-            ap (found (block_from here (below ms))) (sym (join_with_byte-slice_split 47 t) ∙ ap key_text is) ∙ meant_held ms every_good n ns m means
+            ap (node_at_key (block_from here (documents_below ms))) (sym (join_with_byte-slice_split 47 t) ∙ ap key_text is) ∙ meant_held ms every_good n ns m means
 
     -- and the other way round
-    of_from : (t : List ℕ) (m : NodeMetadata) → found (block_from here (below ms)) t ≡ Some m → found B t ≡ Some m
+    of_from : (t : List ℕ) (m : NodeMetadata) → node_at_key (block_from here (documents_below ms)) t ≡ Some m → node_at_key B t ≡ Some m
     of_from t m h =
         let w = meant_from here t m (counted ms) h in
         let valid : IsPath (w.0 ∷ w.1) = path_good ms every_good w.0 w.1 (has_document ms every_good w.0 w.1 m w.3) in
-        let same : Some (found B (key_text (w.0 ∷ w.1))) ≡ Some (Some m) = sym (read_at w.0 w.1 valid) ∙ ap as_read w.3 in
-        ap (found B) w.2 ∙ ap (λ o. unwrap_or o (Some m)) same
+        let same : Some (node_at_key B (key_text (w.0 ∷ w.1))) ≡ Some (Some m) = sym (read_at w.0 w.1 valid) ∙ ap as_read w.3 in
+        ap (node_at_key B) w.2 ∙ ap (λ o. unwrap_or o (Some m)) same
 
     -- where the names are those of nodes, and the documents at each text read as what a block has there, it is the block of the members
     pub block_is : small_block ms ≡ Ok B
     block_is =
-        ap (λ b. if b then Ok (block_from here (below ms)) else Err (BadMember (codes "metadata"))) every_good
-        ∙ ap Ok (one_block (block_from here (below ms)) B (from_ascends here (below ms)) up (λ t m. (of_from t m, to_from t m)))
+        ap (λ b. if b then Ok (block_from here (documents_below ms)) else Err (BadMember (codes "metadata"))) every_good
+        ∙ ap Ok (one_block (block_from here (documents_below ms)) B (from_ascends here (documents_below ms)) up (λ t m. (of_from t m, to_from t m)))
 
 -- a document that does not read is refused by its fault
 pub refused_law : (d : Data) (f : MetadataFault) → zmetadata_of d ≡ Err f → IsZmetadataFault d f

@@ -27,10 +27,10 @@ use Rattle.zarrs_meta.specs.declared.node.ArrayMetadata.TheVariants.{V2 as array
 use Rattle.zarrs_meta.specs.declared.node.GroupMetadata.TheVariants.{V2 as group_v2}
 use Rattle.zarrs_meta.specs.declared.node.NodeMetadata.{NodeMetadata}
 use Rattle.zarrs_meta.specs.declared.node.NodeMetadata.TheVariants.{Group, Array}
-use Rattle.zarrs_block.specs.Meaning.{Meaning, node, nothing, bad, named, document_from, document_at, version_2_line, zarray_line, zgroup_line, meaning_in}
+use Rattle.zarrs_block.specs.Meaning.{Meaning, node, nothing, bad, document_or_fault, document_from, document_at, version_2_line, zarray_line, zgroup_line, meaning_in}
 use Rattle.zarrs_block.specs.Small.{SmallStore, small_meaning, is_document_v2, stretches, counted, small}
 use Rattle.zarrs_block.specs.Zmetadata.{before_last}
-use Rattle.zarrs_block.specs.ZmetadataRead.{read_with, read_documents, read_files, member_at}
+use Rattle.zarrs_block.specs.StepsOfZmetadata.{read_with, read_documents, read_files, member_at}
 
 -- ---- segments
 
@@ -127,13 +127,13 @@ as_read (bad e) = None
 
 module _ {D : Type 0} (document : Data → Result D MetadataFault) (kind : D → NodeMetadata) (with' : AttributesDocument → D → D) (k j : Segments) (after : Meaning) where
   -- without attributes beside it
-  bare_line : (r : Result D MetadataFault) → as_read (version_2_line kind with' (named k r) (Ok None) after) ≡ result_ok (steps.◌>>=◌ (steps.◌>>=◌ r λ m. Ok (kind m)) λ m. Ok (Some m))
+  bare_line : (r : Result D MetadataFault) → as_read (version_2_line kind with' (document_or_fault k r) (Ok None) after) ≡ result_ok (steps.◌>>=◌ (steps.◌>>=◌ r λ m. Ok (kind m)) λ m. Ok (Some m))
   bare_line (Ok m) = refl
   bare_line (Err e) = refl
 
   -- with attributes beside it
   full_line : (r : Result D MetadataFault) (q : Result AttributesDocument MetadataFault)
-      → as_read (version_2_line kind with' (named k r) (named j q) after) ≡ result_ok (steps.◌>>=◌ (steps.◌>>=◌ r λ m. steps.◌>>=◌ q λ x. Ok (kind (with' x m))) λ m. Ok (Some m))
+      → as_read (version_2_line kind with' (document_or_fault k r) (document_or_fault j q) after) ≡ result_ok (steps.◌>>=◌ (steps.◌>>=◌ r λ m. steps.◌>>=◌ q λ x. Ok (kind (with' x m))) λ m. Ok (Some m))
   full_line (Ok m) (Ok x) = refl
   full_line (Ok m) (Err e) = refl
   full_line (Err e) (Ok x) = refl

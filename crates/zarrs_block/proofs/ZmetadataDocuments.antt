@@ -21,7 +21,7 @@ use Rattle.zarrs_meta.specs.declared.node.GroupMetadata.TheVariants.{V2 as group
 use Rattle.zarrs_meta.specs.declared.node.NodeMetadata.{NodeMetadata}
 use Rattle.zarrs_meta.specs.declared.node.NodeMetadata.TheVariants.{Group, Array}
 use Rattle.zarrs_block.specs.Block.{Block, IsAscending, HasValidKeys, Entries, entry}
-use Rattle.zarrs_block.specs.Expanded.{HaveOwnPaths, paired, paths_at}
+use Rattle.zarrs_block.specs.BlockExpansion.{HaveOwnPaths, pairs_at, paths_at}
 use Rattle.zarrs_block.specs.Small.{is_document_v2, stretches}
 use Rattle.zarrs_block.specs.Zmetadata.{before_last, attributes_written, node_written, nodes_written, put_documents, documents_written, zmetadata_tree, node_at, document_written, HoldsDocuments, IsWrittenOf, WrittenHoldsDocuments}
 use Rattle.zarrs_block.proofs.Expansion.{entries_listed, own_paths}
@@ -160,7 +160,7 @@ listed_found p m (e ∷ es) apart (suc k, l, is) = by (eq_by_cmp path_cmp p e.0)
 
 -- the pairs of a block below the root
 abbrev pub pairs : Block → List (Path × NodeMetadata)
-pairs B = paired (paths_at [] B B) B
+pairs B = pairs_at (paths_at [] B B) B
 
 module _ (B : Block) (up : IsAscending B) (valid : HasValidKeys B) where
   -- what is listed is an entry

@@ -1,12 +1,12 @@
 -- The version 2 convention of consolidated metadata, the document `.zmetadata` of a group (zarr-python, "Consolidated metadata"): how it is read as a block, and how it is written.
 --     zmetadata_of d      the block that a document is, or its first fault
---     HoldsStore, IsClean      what that block has and that nothing below the group is bad, as of any store
+--     HoldsStore, IsClean      what that block has and that nothing documents_below the group is bad, as of any store
 --     IsZmetadataFault d fault      what refuses a document
 --     zmetadata_tree g B      what is written of a group of version 2 and its block
 --     IsWrittenOf g B d      what that has at each key
 --     RefusesZmetadata      what refuses that
 --     HoldsDocuments, WrittenHoldsDocuments, WrittenReadsBack      what the written document has, and that it reads back
-use Rattle.std.specs.Prelude.{◌≡◌, ◌≢◌, ◌⊎◌, ◌↔◌, ◌==◌, ℕ, Bool, true, false, not, ◌&&◌, if◌then◌else◌, List, [], ◌∷◌, ◌++◌, Option, Some, None, option_and_then, IsSome, Result, Ok, Err, All, IsTrue, bytes_eq, codes}
+use Rattle.std.specs.Prelude.{if◌then◌else◌, ◌≡◌, ◌≢◌, ◌⊎◌, ◌↔◌, ◌==◌, ℕ, Bool, true, false, not, ◌&&◌, List, [], ◌∷◌, ◌++◌, Option, Some, None, option_and_then, IsSome, Result, Ok, Err, All, IsTrue, bytes_eq, codes}
 use Rattle.std.specs.List.{list_all, filter}
 use Rattle.std.specs.Map.{lookup}
 use Rattle.serde_json.specs.Data.{Data, number, unsigned, object, Members, no_members, member, put as put_member}
@@ -29,9 +29,9 @@ use Rattle.zarrs_meta.specs.declared.node.GroupMetadata.TheVariants.{V2 as group
 use Rattle.zarrs_meta.specs.declared.node.NodeMetadata.{NodeMetadata}
 use Rattle.zarrs_meta.specs.declared.node.NodeMetadata.TheVariants.{Group, Array}
 use Rattle.zarrs_block.specs.Block.{Block, IsAscending, IsBlockOf, put, entry, Entries, HasValidKeys}
-use Rattle.zarrs_block.specs.Expanded.{RefusesKeys, paired, paths_at}
+use Rattle.zarrs_block.specs.BlockExpansion.{RefusesKeys, pairs_at, paths_at}
 use Rattle.zarrs_block.specs.declared.node_create_error.NodeCreateError.{NodeCreateError}
-use Rattle.zarrs_block.specs.declared.node_create_error.NodeCreateError.TheVariants.{MetadataVersionMismatch, OutOfMemory}
+use Rattle.zarrs_block.specs.declared.node_create_error.NodeCreateError.TheVariants.{MetadataVersionMismatch}
 use Rattle.zarrs_block.specs.Meaning.{Meaning, Means, node, nothing, bad}
 use Rattle.zarrs_block.specs.Small.{is_document_v2, counted, small, small_meaning}
 
@@ -55,8 +55,8 @@ before_last (s ∷ []) = []
 before_last (s ∷ t ∷ ss) = s ∷ before_last (t ∷ ss)
 
 -- the documents that count below the group: those of the group itself have one segment alone
-abbrev pub below : Members → List (Segments × Data)
-below ms = filter (λ e. not (is_nil (before_last e.0))) (counted ms)
+abbrev pub documents_below : Members → List (Segments × Data)
+documents_below ms = filter (λ e. not (is_nil (before_last e.0))) (counted ms)
 
 -- the path is bad
 abbrev pub is_bad : Meaning → Bool
@@ -82,7 +82,7 @@ block_from of (e ∷ es) = with_node (before_last e.0) (of (before_last e.0)) (b
 -- the block of the nodes below the group, where none is bad
 abbrev pub small_block : Members → Result Block MetadataFault
 small_block ms =
-    if list_all (λ e. is_good (small_meaning (small [] ms)) e.0) (below ms) then Ok (block_from (small_meaning (small [] ms)) (below ms))
+    if list_all (λ e. is_good (small_meaning (small [] ms)) e.0) (documents_below ms) then Ok (block_from (small_meaning (small [] ms)) (documents_below ms))
     else Err (BadMember (codes "metadata"))
 
 -- the block that a document `.zmetadata` is, or its first fault
@@ -135,7 +135,7 @@ nodes_written (e ∷ es) = put_documents e.0 (node_written e.1) (nodes_written e
 
 -- the documents of a group of version 2, and of all entries of its block behind their names
 abbrev pub documents_written : GroupMetadataV2 → Block → Members
-documents_written g B = nodes_written (([], Group (group_v2 g)) ∷ paired (paths_at [] B B) B)
+documents_written g B = nodes_written (([], Group (group_v2 g)) ∷ pairs_at (paths_at [] B B) B)
 
 -- an object with these members and with the format
 abbrev pub zmetadata_with : Members → Data
@@ -155,18 +155,6 @@ is_version_2 (Array (array_v3 m)) = false
 -- each entry is of version 2
 abbrev pub HasVersion2 : Block → Type 0
 HasVersion2 B = (e : Path × NodeMetadata) → Entries B [] e → IsTrue (is_version_2 e.1)
-
--- the node is of version 3, or out of memory
-abbrev pub RefusesNode : NodeMetadata → NodeCreateError → Type 0
-RefusesNode m MetadataVersionMismatch = is_version_2 m ≡ false
-RefusesNode m OutOfMemory = Unit {0}
-RefusesNode m _ = ⊥
-
--- some node is of version 3, or out of memory
-abbrev pub RefusesNodes : List (Path × NodeMetadata) → NodeCreateError → Type 0
-RefusesNodes es MetadataVersionMismatch = All (λ e. IsTrue (is_version_2 e.1)) es → ⊥
-RefusesNodes es OutOfMemory = Unit {0}
-RefusesNodes es _ = ⊥
 
 -- a key of the block is not valid, and the error names its first part that is no name; or all are valid and an entry is of version 3; or out of memory
 abbrev pub RefusesZmetadata : Block → NodeCreateError → Type 0

@@ -7,7 +7,7 @@ ghost use Rattle.serde_json.specs.Written.{has_float, members_have_float};
 ghost use Rattle.zarrs_form.specs.Documents.{Gives, document_of, formed, required, optional};
 ghost use Rattle.zarrs_form.specs.Forms.{is_nil};
 ghost use Rattle.zarrs_meta.specs.Node.{node_of};
-ghost use Rattle.zarrs_block.specs.Block.{IsAscending, found, put as put_node, inline, untrue, nodes_of, nodes, block_of, documents, block_tree};
+ghost use Rattle.zarrs_block.specs.Block.{IsAscending, node_at_key, put as put_node, inline, untrue, nodes_of, nodes, block_of, documents, block_tree};
 
 use crate::asked::asked_node;
 use serde_json::{Map, Value, put};
@@ -77,7 +77,7 @@ impl ConsolidatedMetadataMetadata {
 
     /// The metadata at a key, if there are any.
     pub fn get(&self, key: &str) -> Option<&NodeMetadata>
-        ensures { option_copied result ≡ found self.now key.now }
+        ensures { option_copied result ≡ node_at_key self.now key.now }
     {
         self.entries.get(key)
     }
@@ -98,9 +98,9 @@ impl ConsolidatedMetadataMetadata {
 
     /// Takes out the metadata at a key, and answers them where there were any.
     pub fn remove(&mut self, key: &str) -> Option<NodeMetadata>
-        ensures value { result ≡ found self.old key.now }
-        ensures gone { found self.new key.now ≡ None }
-        ensures others { (t : List ℕ) → t ≢ key.now → found self.new t ≡ found self.old t }
+        ensures value { result ≡ node_at_key self.old key.now }
+        ensures gone { node_at_key self.new key.now ≡ None }
+        ensures others { (t : List ℕ) → t ≢ key.now → node_at_key self.new t ≡ node_at_key self.old t }
         ensures ascending { IsAscending self.new }
     {
         self.entries.remove(key)

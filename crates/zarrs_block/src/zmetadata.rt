@@ -15,11 +15,11 @@ ghost use Rattle.zarrs_meta.specs.Node.{array_with, group_with};
 ghost use Rattle.zarrs_meta.specs.declared.node.ArrayMetadata.TheVariants.{V2 as array_v2};
 ghost use Rattle.zarrs_meta.specs.declared.node.GroupMetadata.TheVariants.{V2 as group_v2};
 ghost use Rattle.zarrs_meta.specs.declared.node.NodeMetadata.TheVariants.{Group, Array};
-ghost use Rattle.zarrs_block.specs.Block.{IsAscending, found};
+ghost use Rattle.zarrs_block.specs.Block.{IsAscending, node_at_key};
 ghost use Rattle.zarrs_block.specs.Small.{stretches};
 ghost use Rattle.zarrs_block.specs.Zmetadata.{one, small_block, zmetadata_members, zmetadata_of, HoldsStore, IsClean, IsZmetadataFault};
 ghost use Rattle.zarrs_block.specs.declared.zmetadata.File.{File};
-ghost use Rattle.zarrs_block.specs.ZmetadataRead.{is_file, is_before, member_at, first_tree, tree_in, tree_among, gathered_at, read_with, read_files, IsFile, IsPlace, are_named, RefusesNames, HaveNoFloat, HoldsNodes, IsJoined, RunsAscend, RefusesTrees, zmetadata_taken};
+ghost use Rattle.zarrs_block.specs.StepsOfZmetadata.{is_file, is_before, member_at, first_tree, tree_in, tree_among, gathered_at, read_with, read_files, IsFile, IsPlace, are_named, RefusesNames, HaveNoFloat, HoldsNodes, IsJoined, RunsAscend, RefusesTrees, zmetadata_taken};
 
 use crate::asked::{asked_array, asked_attributes, asked_group};
 use crate::consolidated::{ConsolidatedMetadata, ConsolidatedMetadataMetadata};
@@ -335,7 +335,7 @@ fn are_names(text: &str) -> bool
 fn nodes_of(alloc: Global, runs: Vec<Run>) -> Result<ConsolidatedMetadataMetadata, MetadataFault>
     requires ascend { RunsAscend runs.items }
     requires fit { (t : List ℕ) → HaveNoFloat (tree_among runs.items t) }
-    ensures nodes { IfOk result (λ block. HoldsNodes (tree_among runs.items) (found block)) }
+    ensures nodes { IfOk result (λ block. HoldsNodes (tree_among runs.items) (node_at_key block)) }
     ensures ascending { IfOk result IsAscending }
     ensures err { IfErr result (RefusesTrees (tree_among runs.items)) }
 {

@@ -8,7 +8,8 @@ use Rattle.json.specs.Layout.{line}
 use Rattle.json.specs.Print.{escape, escape_byte, escape_letter, quoted}
 use Rattle.serde_json.specs.Data.{Num, unsigned, negative, float, Data, null, boolean, number, string, array, object, Items, no_items, item, Members, no_members, member}
 use Rattle.serde_json.specs.Written.{comma_if, number_text}
-use Rattle.zarrs_form.specs.Pretty.{close_line, text_at, items_at, members_at, four_more, indented}
+use Rattle.zarrs_form.specs.Pretty.{close_line, text_at, items_at, members_at}
+use Rattle.zarrs_form.specs.StepsOfTexts.{four_more, indented}
 
 -- ---- texts with no newline stay
 

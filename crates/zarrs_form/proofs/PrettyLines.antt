@@ -1,7 +1,7 @@
 -- A text with four spaces more after each newline is its lines, each later one behind a break.
 use Rattle.std.proofs.Common.{◌≡◌, ℕ, List, [], ◌∷◌, ◌++◌, Bool, true, false, cond, eqb, if◌then◌else◌, refl, sym, ap, ◌∙◌}
 use Rattle.std.specs.List.{slice_split, onto_first}
-use Rattle.zarrs_form.specs.Pretty.{break_if, four_more, indented}
+use Rattle.zarrs_form.specs.StepsOfTexts.{break_if, four_more, indented}
 
 -- the lines that are left
 abbrev pub lines_left : Bool → List (List ℕ) → List ℕ

@@ -1,7 +1,8 @@
 -- The pretty text of a value that fits memory, and the same two levels deeper.
 use Rattle.std.proofs.Common.{◌≡◌, ℕ, ◌^◌, ◌*◌, ◌≤◌, ◌<◌, List, length, sym, ap, ◌∙◌, subst, arith}
 use Rattle.serde_json.specs.Data.{Data, depth}
-use Rattle.zarrs_form.specs.Pretty.{text_at, pretty_text, indented}
+use Rattle.zarrs_form.specs.Pretty.{text_at, pretty_text}
+use Rattle.zarrs_form.specs.StepsOfTexts.{indented}
 use Rattle.zarrs_form.proofs.PrettyLaid.{pretty_text_is}
 use Rattle.zarrs_form.proofs.PrettyDeeper.{value_deeper}
 use Rattle.zarrs_form.proofs.PrettyLong.{pretty_longer, text_longer}

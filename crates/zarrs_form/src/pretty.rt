@@ -2,7 +2,8 @@
 ghost use Rattle.std.specs.Prelude.{◌≡◌, ◌++◌, false, IfOk, OnOk, string_bytes};
 ghost use Rattle.serde_json.specs.View.{view};
 ghost use Rattle.serde_json.specs.Written.{has_float};
-ghost use Rattle.zarrs_form.specs.Pretty.{break_if, entry_text, indented, text_at};
+ghost use Rattle.zarrs_form.specs.Pretty.{entry_text, text_at};
+ghost use Rattle.zarrs_form.specs.StepsOfTexts.{break_if, indented};
 
 use crate::text::{write_comma, write_text};
 use serde_json::Value;

@@ -30,20 +30,20 @@ use Rattle.zarrs_meta.specs.declared.node.GroupMetadata.TheVariants.{V3, V2}
 use Rattle.zarrs_meta.specs.declared.node.ZarrJson.TheVariants.{Node}
 use Rattle.zarrs_meta.specs.declared.node.NodeMetadata.{NodeMetadata}
 use Rattle.zarrs_meta.specs.declared.node.NodeMetadata.TheVariants.{Group}
-use Rattle.zarrs_block.specs.Block.{Block, Entries, HasValidKeys, IsValidKey, found}
+use Rattle.zarrs_block.specs.Block.{Block, Entries, HasValidKeys, IsValidKey, node_at_key}
 use Rattle.zarrs_block.specs.Zmetadata.{HasVersion2}
-use Rattle.zarrs_block.specs.Used.{used}
+use Rattle.zarrs_block.specs.Policy.{block_to_use}
 use Rattle.zarrs_block.specs.Refused.{LacksMemory, IsExcused}
-use Rattle.zarrs_block.specs.Expanded.{NamesBadKey}
+use Rattle.zarrs_block.specs.BlockExpansion.{NamesBadKey}
 use Rattle.zarrs_block.specs.declared.node_create_error.NodeCreateError.{NodeCreateError}
 use Rattle.zarrs_block.specs.declared.node_create_error.NodeCreateError.TheVariants as made
-use Rattle.zarrs_node.specs.Below.{block_at}
+use Rattle.zarrs_node.specs.BlocksBelow.{block_at}
 use Rattle.zarrs_node.specs.Forest.{Forest, pairs, Shows}
-use Rattle.zarrs_block.specs.Meaning.{Meaning, node, nothing, bad, in_bytes, document_at, document_from, named, version_3_line, zarr_json_line, meaning_in, meaning, zarray_line, zgroup_line}
+use Rattle.zarrs_block.specs.Meaning.{Meaning, node, nothing, bad, in_bytes, document_at, document_from, document_or_fault, version_3_line, zarr_json_line, meaning_in, meaning, zarray_line, zgroup_line}
 use Rattle.zarrs_node.specs.Inverse.{HasNames, IsInverse}
-use Rattle.zarrs_node.specs.Reached.{Kept}
-use Rattle.zarrs_node.specs.Opened.{ShowsChosen, RefusesChosen, ShowsNode, RefusesOpening, RefusesText, RefusesNode}
-use Rattle.zarrs_node.specs.Opened as opened
+use Rattle.zarrs_node.specs.Reach.{Kept}
+use Rattle.zarrs_node.specs.OpeningNodes.{ShowsChosen, RefusesChosen, ShowsNode, RefusesOpening, RefusesText, RefusesNode}
+use Rattle.zarrs_node.specs.OpeningNodes as opened
 use Rattle.zarrs_node.proofs.Child.{node_same}
 use Rattle.zarrs_node.proofs.Found.{listed_each, lists_from}
 use Rattle.zarrs_node.proofs.Inverse.{block_gives_back, entries_are}
@@ -51,14 +51,14 @@ use Rattle.zarrs_node.proofs.Kept.{kept_same, placed_between}
 use Rattle.zarrs_node.proofs.Unique.{one_forest}
 use Rattle.zarrs_group.specs.Groups.{GroupState, group_tree}
 use Rattle.zarrs_group.specs.Meaning.{MeansGroup, group_v3_line, group_line, group_meaning}
-use Rattle.zarrs_group.specs.Consolidated.{held_in, held_by, with_block, beside_with, metadata_with, Fits, MetadataHold}
+use Rattle.zarrs_group.specs.BlocksOfGroups.{held_in, held_by, with_block, beside_with, metadata_with, Fits, MetadataHold}
 use Rattle.zarrs_group.specs.Children.{is_listed, ListsChosen}
 use Rattle.zarrs_group.specs.Laws.{MeansStored}
 use Rattle.zarrs_group.specs.GivesBack.{Consolidates, ConsolidatesV2, GivesBack, GroupGivesBack, GroupV2GivesBack, OpensTo, StoredGivesBack}
 use Rattle.zarrs_group.proofs.BlockFields.{held_once_set}
 
 -- a block that is there is used, where the policy is not Never
-pub used_there : (B : Block) (policy : UseConsolidatedMetadata) → policy ≢ Never → used (Some B) policy ≡ Some (Some B)
+pub used_there : (B : Block) (policy : UseConsolidatedMetadata) → policy ≢ Never → block_to_use (Some B) policy ≡ Some (Some B)
 used_there B Never not = absurd (not refl)
 used_there B Auto not = refl
 used_there B Must not = refl
@@ -91,17 +91,17 @@ no_bad_key B valid made.OutOfMemory h = h
 module _ (g : GroupState) (f : Forest) (B : Block) (holds : held_by (with_block g (Some B)) ≡ Some B) (valid : HasValidKeys B)
     (entries : (e : Path × NodeMetadata) → Entries B g.path e ↔ Contains (pairs f) e) (one : (t : Forest) → Shows t g.path (Kept (Entries B g.path) true g.path) → t ≡ f) where
   -- it is the block that is used
-  is_chosen : (policy : UseConsolidatedMetadata) → policy ≢ Never → used (held_by (with_block g (Some B))) policy ≡ Some (Some B)
-  is_chosen policy not = ap (λ h. used h policy) holds ∙ used_there B policy not
+  is_chosen : (policy : UseConsolidatedMetadata) → policy ≢ Never → block_to_use (held_by (with_block g (Some B))) policy ≡ Some (Some B)
+  is_chosen policy not = ap (λ h. block_to_use h policy) holds ∙ used_there B policy not
 
   -- what such a choice shows is the forest
   chosen_shows : (s : Contents) (v : MetadataRetrieveVersion) (policy : UseConsolidatedMetadata) → policy ≢ Never → (t : Forest)
-      → ShowsChosen s v (used (held_by (with_block g (Some B))) policy) true g.path t → t ≡ f
+      → ShowsChosen s v (block_to_use (held_by (with_block g (Some B))) policy) true g.path t → t ≡ f
   chosen_shows s v policy not t shows = one t (subst (λ c. ShowsChosen s v c true g.path t) (is_chosen policy not) shows)
 
   -- and nothing refuses it
   chosen_clean : (s : Contents) (v : MetadataRetrieveVersion) (policy : UseConsolidatedMetadata) → policy ≢ Never → (e : NodeCreateError)
-      → RefusesChosen s v (used (held_by (with_block g (Some B))) policy) true g.path e → ⊥
+      → RefusesChosen s v (block_to_use (held_by (with_block g (Some B))) policy) true g.path e → ⊥
   chosen_clean s v policy not e h = no_bad_key B valid e (subst (λ c. RefusesChosen s v c true g.path e) (is_chosen policy not) h)
 
   -- the entries of the block are the pairs
@@ -109,8 +109,8 @@ module _ (g : GroupState) (f : Forest) (B : Block) (holds : held_by (with_block 
   pairs_are es l = lists_from es (λ e. (λ h. (entries e).0 ((listed_each l e).0 h), λ h. (listed_each l e).1 ((entries e).1 h))) l.each_once
 
   -- what is listed by such a choice are the entries
-  listed_by : (s : Contents) (policy : UseConsolidatedMetadata) → used (held_by (with_block g (Some B))) policy ≡ Some (Some B)
-      → (es : List (Path × NodeMetadata)) → ListsChosen s (used (held_by (with_block g (Some B))) policy) g.path es → Lists (Entries B g.path) es
+  listed_by : (s : Contents) (policy : UseConsolidatedMetadata) → block_to_use (held_by (with_block g (Some B))) policy ≡ Some (Some B)
+      → (es : List (Path × NodeMetadata)) → ListsChosen s (block_to_use (held_by (with_block g (Some B))) policy) g.path es → Lists (Entries B g.path) es
   listed_by s policy is es l = subst (λ c. ListsChosen s c g.path es) is l
 
   -- so the group gives the forest back
@@ -136,11 +136,11 @@ module _ (of : Path → Meaning) (g : GroupState) (f : Forest) (B : Block) (from
   holds = held_once_set g (Some B) (can_hold g.metadata from.version_3)
 
   -- what a choice shows is the forest
-  shown_is : (s : Contents) (v : MetadataRetrieveVersion) (policy : UseConsolidatedMetadata) → policy ≢ Never → (t : Forest) → ShowsChosen s v (used (held_by (with_block g (Some B))) policy) true g.path t → t ≡ f
+  shown_is : (s : Contents) (v : MetadataRetrieveVersion) (policy : UseConsolidatedMetadata) → policy ≢ Never → (t : Forest) → ShowsChosen s v (block_to_use (held_by (with_block g (Some B))) policy) true g.path t → t ≡ f
   shown_is = chosen_shows g f B holds inverse.valid inverse.entries inverse.one_forest
 
   -- and nothing refuses it
-  none_refused : (s : Contents) (v : MetadataRetrieveVersion) (policy : UseConsolidatedMetadata) → policy ≢ Never → (e : NodeCreateError) → RefusesChosen s v (used (held_by (with_block g (Some B))) policy) true g.path e → ⊥
+  none_refused : (s : Contents) (v : MetadataRetrieveVersion) (policy : UseConsolidatedMetadata) → policy ≢ Never → (e : NodeCreateError) → RefusesChosen s v (block_to_use (held_by (with_block g (Some B))) policy) true g.path e → ⊥
   none_refused = chosen_clean g f B holds inverse.valid inverse.entries inverse.one_forest
 
 -- a version 3 group with the block of a listed forest gives the forest back
@@ -160,7 +160,7 @@ module _ (of : Path → Meaning) (g : GroupState) (f : Forest) (B : Block) (from
   same_pairs = entries_are (Contains (pairs f)) g.path B names from.block
 
   -- each key is the text of names
-  valid_at : (t : List ℕ) (m : NodeMetadata) → found B t ≡ Some m → IsValidKey t
+  valid_at : (t : List ℕ) (m : NodeMetadata) → node_at_key B t ≡ Some m → IsValidKey t
   valid_at t m at =
       let w = (from.block t m).0 at in
       let pair = names (g.path ++ w.0 ∷ w.1, m) w.3 in
@@ -168,7 +168,7 @@ module _ (of : Path → Meaning) (g : GroupState) (f : Forest) (B : Block) (from
 
   -- so each key is valid
   pub keys_valid : HasValidKeys B
-  keys_valid t some = elim (found B t) as (λ o. found B t ≡ o → IsSome o → IsValidKey t) [
+  keys_valid t some = elim (node_at_key B t) as (λ o. node_at_key B t ≡ o → IsSome o → IsValidKey t) [
     | Some m ↦ λ at _. valid_at t m at
     | None ↦ λ at none. absurd (true≢false (sym none))
   ] refl some
@@ -257,11 +257,11 @@ line_says : (key : Segments) (m : GroupMetadataV3) (after : Meaning) (o : Option
 line_says key m after None e = cc
 line_says key m after (Some bytes) e = by_tree (parsed (json_of bytes)) e
   where
-    by_group : (d : Data) (r : Result GroupMetadataV3 MetadataFault) → group_v3_of d ≡ r → group_v3_line (named key r) nothing ≡ node (Group (V3 m)) → version_3_line (named key (zarr_json_of d)) after ≡ node (Group (V3 m))
-    by_group d (Ok k) is e = ap (λ r. version_3_line (named key r) after) (group_is_node d k is) ∙ e
+    by_group : (d : Data) (r : Result GroupMetadataV3 MetadataFault) → group_v3_of d ≡ r → group_v3_line (document_or_fault key r) nothing ≡ node (Group (V3 m)) → version_3_line (document_or_fault key (zarr_json_of d)) after ≡ node (Group (V3 m))
+    by_group d (Ok k) is e = ap (λ r. version_3_line (document_or_fault key r) after) (group_is_node d k is) ∙ e
     by_group d (Err fault) is e = cc
 
-    by_tree : (r : Result Data MetadataFault) → group_v3_line (named key (r >>= group_v3_of)) nothing ≡ node (Group (V3 m)) → version_3_line (named key (r >>= zarr_json_of)) after ≡ node (Group (V3 m))
+    by_tree : (r : Result Data MetadataFault) → group_v3_line (document_or_fault key (r >>= group_v3_of)) nothing ≡ node (Group (V3 m)) → version_3_line (document_or_fault key (r >>= zarr_json_of)) after ≡ node (Group (V3 m))
     by_tree (Ok d) e = by_group d (group_v3_of d) refl e
     by_tree (Err fault) e = cc
 
@@ -338,13 +338,13 @@ module _ (of : Path → Meaning) (g : GroupState) (f : Forest) (B : Block) (from
   opened_is v not policy some m t means shows =
       let is : m ≡ Group (with_block g (Some B)).metadata = node_same m (Group (with_block g (Some B)).metadata) (sym means ∙ means_group v not) in
       let shown = subst (λ x. ShowsNode s v policy g.path x t) is shows in
-      shown_is of g f B from s v policy some t (subst (λ h. ShowsChosen s v (used h policy) true g.path t) (held_there s g.path g.metadata (beside_with (Some B) g.metadata g.block) from.version_3) shown)
+      shown_is of g f B from s v policy some t (subst (λ h. ShowsChosen s v (block_to_use h policy) true g.path t) (held_there s g.path g.metadata (beside_with (Some B) g.metadata g.block) from.version_3) shown)
 
   -- and nothing refuses it
   opened_clean : (v : MetadataRetrieveVersion) (policy : UseConsolidatedMetadata) → policy ≢ Never → (e : NodeCreateError)
       → opened.RefusesBelow s v policy g.path (Group (with_block g (Some B)).metadata) e → ⊥
   opened_clean v policy some e refused =
-      none_refused of g f B from s v policy some e (subst (λ x. RefusesChosen s v (used x policy) true g.path e) (held_there s g.path g.metadata (beside_with (Some B) g.metadata g.block) from.version_3) refused)
+      none_refused of g f B from s v policy some e (subst (λ x. RefusesChosen s v (block_to_use x policy) true g.path e) (held_there s g.path g.metadata (beside_with (Some B) g.metadata g.block) from.version_3) refused)
 
   -- so the stored group gives the forest back
   opens_to : OpensTo s (with_block g (Some B)) f

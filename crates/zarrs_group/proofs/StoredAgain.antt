@@ -24,22 +24,22 @@ use Rattle.zarrs_meta.specs.declared.node.NodeMetadata.{NodeMetadata}
 use Rattle.zarrs_meta.specs.declared.node.NodeMetadata.TheVariants.{Group}
 use Rattle.zarrs_block.specs.Block.{Block, Entries, HasValidKeys, IsAscending}
 use Rattle.zarrs_block.specs.Meaning.{Meaning}
-use Rattle.zarrs_block.specs.Used.{used}
+use Rattle.zarrs_block.specs.Policy.{block_to_use}
 use Rattle.zarrs_block.specs.Zmetadata.{zmetadata_of, zmetadata_tree, HasPlainEntries, HaveSameEntries}
 use Rattle.zarrs_block.specs.declared.node_create_error.NodeCreateError.{NodeCreateError}
 use Rattle.zarrs_block.proofs.Expansion.{entries_listed}
 use Rattle.zarrs_block.proofs.ZmetadataAgain.{written_reads_back}
-use Rattle.zarrs_node.specs.Below.{zmetadata_at}
+use Rattle.zarrs_node.specs.BlocksBelow.{zmetadata_at}
 use Rattle.zarrs_node.specs.Forest.{Forest, pairs}
-use Rattle.zarrs_node.specs.Opened.{ShowsChosen, RefusesChosen, ShowsNode}
-use Rattle.zarrs_node.specs.Opened as opened
-use Rattle.zarrs_group.specs.Beside.{IsBeside}
-use Rattle.zarrs_group.specs.Consolidated.{with_block}
+use Rattle.zarrs_node.specs.OpeningNodes.{ShowsChosen, RefusesChosen, ShowsNode}
+use Rattle.zarrs_node.specs.OpeningNodes as opened
+use Rattle.zarrs_group.specs.BlocksBeside.{IsBeside}
+use Rattle.zarrs_group.specs.BlocksOfGroups.{with_block}
 use Rattle.zarrs_group.specs.Edits.{after}
 use Rattle.zarrs_group.specs.Groups.{GroupState}
 use Rattle.zarrs_group.specs.Layout.{pretty_text}
 use Rattle.zarrs_group.specs.Plain.{node_has_float, entries_of, block_fault}
-use Rattle.zarrs_group.specs.Stored.{own_edits, store_edits, fault_at, stored_fault}
+use Rattle.zarrs_group.specs.StoringGroups.{own_edits, store_edits, fault_at, stored_fault}
 use Rattle.zarrs_group.specs.GivesBack.{ConsolidatesV2, HasStoredBlock, OpensToV2, StoredV2GivesBack}
 use Rattle.zarrs_group.proofs.Beside.{beside_read}
 use Rattle.zarrs_group.proofs.BlockPlain.{all_plain}
@@ -92,8 +92,8 @@ module _ (of : Path → Meaning) (g : GroupState) (f : Forest) (B : Block) (from
     valid_again = (subst IsBeside there (beside_read s g.path (V2 m))).0
 
     -- it is the block that is used
-    is_used : (policy : UseConsolidatedMetadata) → policy ≢ Never → used (zmetadata_at s g.path) policy ≡ Some (Some C)
-    is_used policy not = ap (λ h. used h policy) there ∙ used_there C policy not
+    is_used : (policy : UseConsolidatedMetadata) → policy ≢ Never → block_to_use (zmetadata_at s g.path) policy ≡ Some (Some C)
+    is_used policy not = ap (λ h. block_to_use h policy) there ∙ used_there C policy not
 
     -- what is shown is the forest
     shown_again : (v : MetadataRetrieveVersion) (policy : UseConsolidatedMetadata) → policy ≢ Never → (t : Forest) → ShowsNode s v policy g.path (Group (V2 m)) t → t ≡ f

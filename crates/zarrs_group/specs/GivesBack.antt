@@ -29,14 +29,14 @@ use Rattle.zarrs_block.specs.Refused.{LacksMemory}
 use Rattle.zarrs_block.specs.declared.node_create_error.NodeCreateError.{NodeCreateError}
 use Rattle.zarrs_node.specs.Forest.{Forest, pairs, Shows}
 use Rattle.zarrs_block.specs.Meaning.{Meaning, Means, meaning, node}
-use Rattle.zarrs_node.specs.Reached.{Kept}
+use Rattle.zarrs_node.specs.Reach.{Kept}
 use Rattle.zarrs_node.specs.Inverse.{ArePlain}
-use Rattle.zarrs_node.specs.Opened.{ShowsNode, RefusesOpening}
+use Rattle.zarrs_node.specs.OpeningNodes.{ShowsNode, RefusesOpening}
 use Rattle.zarrs_group.specs.Groups.{GroupState, group_tree}
-use Rattle.zarrs_group.specs.Consolidated.{block_beside, with_block, Fits}
-use Rattle.zarrs_group.specs.Children.{ShowsChildren, ListsNodes, RefusesBelow}
+use Rattle.zarrs_group.specs.BlocksOfGroups.{block_beside, with_block, Fits}
+use Rattle.zarrs_group.specs.Children.{ShowsChildren, ListsNodes, RefusesChildren}
 use Rattle.zarrs_group.specs.Edits.{after}
-use Rattle.zarrs_group.specs.Stored.{store_edits, stored_fault, IsBlockReadBack}
+use Rattle.zarrs_group.specs.StoringGroups.{store_edits, stored_fault, IsBlockReadBack}
 use Rattle.zarrs_group.specs.Laws.{MeansStored}
 
 -- the group is of version 3; f is what a listing below it finds, whatever the meanings of paths, and its metadata are plain; and B holds exactly the pairs of f, as `consolidate_metadata` makes it
@@ -51,7 +51,7 @@ pub record Consolidates (of : Path → Meaning) (g : GroupState) (f : Forest) (B
 pub record GivesBack (g : GroupState) (f : Forest) : Type 0 where
   pub children : (s : Contents) (config : Settings) → config.use_consolidated ≢ Never → (t : Forest) → ShowsChildren s g config true t → t ≡ f
   pub traversed : (s : Contents) (config : Settings) → config.use_consolidated ≢ Never → (es : List (Path × NodeMetadata)) → ListsNodes s g config es → Lists (Contains (pairs f)) es
-  pub excused : (s : Contents) (config : Settings) → config.use_consolidated ≢ Never → (can_fail : Bool) (e : NodeCreateError) → RefusesBelow can_fail s g config true e → LacksMemory e
+  pub excused : (s : Contents) (config : Settings) → config.use_consolidated ≢ Never → (can_fail : Bool) (e : NodeCreateError) → RefusesChildren can_fail s g config true e → LacksMemory e
 
 -- After its block was set to that of a listed forest, a version 3 group gives the forest back.
 abbrev pub GroupGivesBack : Type 0

@@ -1,6 +1,6 @@
 //! Why a group was not made.
 ghost use Rattle.std.specs.Prelude.{◌≡◌};
-ghost use Rattle.zarrs_group.specs.Opened.{IsFromNode, IsTold};
+ghost use Rattle.zarrs_group.specs.OpeningGroups.{IsFromNode, IsTold};
 
 use crate::unsupported::AdditionalFieldUnsupportedError;
 use std::alloc::{AllocError, AllocFailed, Global};

@@ -3,7 +3,7 @@
 ghost use Rattle.std.specs.Prelude.{◌≡◌, None, IfErr, OnOk};
 ghost use Rattle.zarrs_group.specs.Laws.{Version3Keeps, Version3Stays, Version3Twice, PlainIsStored, ErasingAllErases, OtherKeysStay, ArraysStay, StoredMeans};
 ghost use Rattle.zarrs_group.specs.GivesBack.{GroupGivesBack, GroupV2GivesBack, StoredGivesBack, StoredV2GivesBack};
-ghost use Rattle.zarrs_group.specs.Stored.{RefusesMetadata};
+ghost use Rattle.zarrs_group.specs.StoringGroups.{RefusesMetadata};
 
 use crate::stored::edits_to_store;
 use std::alloc::Global;

@@ -16,10 +16,10 @@ use Rattle.zarrs_block.specs.Refused.{IsExcused}
 use Rattle.zarrs_block.specs.declared.node_create_error.NodeCreateError.{NodeCreateError}
 use Rattle.zarrs_block.specs.Meaning.{Meaning, node, nothing, bad, meaning}
 use Rattle.zarrs_node.specs.Forest.{pairs}
-use Rattle.zarrs_node.specs.Below.{ExcusesBlock, PairsBelow, IsGoodBelow, ShowsBadBelow}
+use Rattle.zarrs_node.specs.BlocksBelow.{ExcusesBlock, PairsBelow, IsGoodBelow, ShowsBadBelow}
 use Rattle.zarrs_node.specs.Lines.{line, lines}
 use Rattle.zarrs_node.specs.Nodes.{Nodes}
-use Rattle.zarrs_node.specs.Opened.{choice, IsCleanChosen, IsCleanNode, RefusesBelow, RefusesChosen, RefusesOpening}
+use Rattle.zarrs_node.specs.OpeningNodes.{choice, IsCleanChosen, IsCleanNode, RefusesBelow, RefusesChosen, RefusesOpening}
 use Rattle.zarrs_node.specs.Order.{Ascend}
 use Rattle.zarrs_node.specs.Sinks.{TakesAll, TakesForest, KeepsPair}
 use Rattle.zarrs_node.proofs.Feeding.{kept_pairs, took_joined}
@@ -28,9 +28,10 @@ use Rattle.zarrs_node.proofs.Graft.{Contains-first, Contains-cons}
 use Rattle.zarrs_node.proofs.LawProofs.{apart}
 use Rattle.zarrs_node.proofs.Opening.{block_excused}
 use Rattle.zarrs_node.proofs.Order.{contains_cases, shown_ascend}
-use Rattle.zarrs_hierarchy.specs.Held.{Pairs, Holds, WithBase}
-use Rattle.zarrs_hierarchy.specs.Opened.{PairsChosen, PairsOf, IsOpenedTree}
-use Rattle.zarrs_hierarchy.specs.Sinks.{AppendsNode, TakesPairs}
+use Rattle.zarrs_hierarchy.specs.PairsOfHierarchies.{Pairs, Holds, WithBase}
+use Rattle.zarrs_hierarchy.specs.OpeningHierarchies.{PairsChosen, PairsOf, IsOpenedTree}
+use Rattle.zarrs_hierarchy.specs.Sinks.{AppendsNode}
+use Rattle.zarrs_hierarchy.specs.StepsOfHierarchies.{TakesPairs}
 use Rattle.zarrs_hierarchy.specs.declared.tree_text.TreeText.{TreeText}
 use Rattle.zarrs_hierarchy.proofs.Below.{stands_behind}
 

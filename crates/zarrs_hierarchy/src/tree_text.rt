@@ -2,9 +2,10 @@
 ghost use Rattle.std.specs.Prelude.{◌≡◌, ◌∷◌, [], ◌++◌, IfOk, IfErr, OnOk, ◌⊎◌, string_bytes};
 ghost use Rattle.zarrs_path.specs.Paths.{path_text};
 ghost use Rattle.zarrs_block.specs.Refused.{IsExcused};
-ghost use Rattle.zarrs_node.specs.Opened.{IsCleanNode, RefusesBelow, RefusesOpening};
-ghost use Rattle.zarrs_hierarchy.specs.Opened.{PairsOf, IsOpenedTree};
-ghost use Rattle.zarrs_hierarchy.specs.Sinks.{AppendsNode, TakesPairs};
+ghost use Rattle.zarrs_node.specs.OpeningNodes.{IsCleanNode, RefusesBelow, RefusesOpening};
+ghost use Rattle.zarrs_hierarchy.specs.OpeningHierarchies.{PairsOf, IsOpenedTree};
+ghost use Rattle.zarrs_hierarchy.specs.Sinks.{AppendsNode};
+ghost use Rattle.zarrs_hierarchy.specs.StepsOfHierarchies.{TakesPairs};
 
 use crate::hierarchy::HierarchyCreateError;
 use crate::open::tell_below;

@@ -6,7 +6,7 @@ use Rattle.serde_json.specs.Find.{get_member, as_object, as_str}
 use Rattle.serde_json.specs.Written.{has_float, members_have_float}
 use Rattle.zarrs_form.specs.Documents.{is_own, besides, has_own, is_empty, optional_from, required, optional, format_of, node_type_of}
 use Rattle.zarrs_form.specs.Forms.{number_u64, any, nullable, list_of, extension, number_data, list_data, nullable_data, extension_data, extension_fits, fits, unless, is_nil, put_rows}
-use Rattle.zarrs_meta.specs.ArrayV3.{own_names, array_v3_of, array_v3_rows, array_v3_tree, is_plain_array_v3}
+use Rattle.zarrs_meta.specs.ArrayV3.{array_v3_names, array_v3_of, array_v3_rows, array_v3_tree, is_plain_array_v3}
 use Rattle.zarrs_meta.specs.declared.array_v3.ArrayMetadataV3.{ArrayMetadataV3}
 use Rattle.zarrs_form.specs.declared.extension.MetadataV3.{MetadataV3}
 use Rattle.zarrs_form.proofs.MemberLaws.{besides-others, get-others}
@@ -73,7 +73,7 @@ all_names_no_float (Some names) = list_no_float (nullable_data string) (λ _. tr
 
 -- ---- the whole
 
-module _ (m : ArrayMetadataV3) (no_own : has_own own_names m.additional_fields ≡ false) where
+module _ (m : ArrayMetadataV3) (no_own : has_own array_v3_names m.additional_fields ≡ false) where
   -- the rows of the table
   abbrev rows : List (List ℕ × Option Data)
   rows = array_v3_rows m
@@ -87,8 +87,8 @@ module _ (m : ArrayMetadataV3) (no_own : has_own own_names m.additional_fields �
   at k = get-put_rows k rows m.additional_fields
 
   -- no additional field has an own name
-  none_at : (k : List ℕ) → is_own own_names k ≡ true → get_member k m.additional_fields ≡ None
-  none_at k own = get-others own_names k m.additional_fields own no_own
+  none_at : (k : List ℕ) → is_own array_v3_names k ≡ true → get_member k m.additional_fields ≡ None
+  none_at k own = get-others array_v3_names k m.additional_fields own no_own
 
   -- each member is found and reads again
   pub has_format : get_member (codes "zarr_format") whole ≡ Some (number (unsigned 3))
@@ -134,8 +134,8 @@ module _ (m : ArrayMetadataV3) (no_own : has_own own_names m.additional_fields �
       ∙ names_again m.dimension_names
 
   -- the members with no own name are the additional fields
-  others : besides own_names whole ≡ m.additional_fields
-  others = besides-put_rows own_names rows m.additional_fields refl ∙ besides-others own_names m.additional_fields no_own
+  others : besides array_v3_names whole ≡ m.additional_fields
+  others = besides-put_rows array_v3_names rows m.additional_fields refl ∙ besides-others array_v3_names m.additional_fields no_own
 
   -- an array whose written form has only numbers that fit reads again
   pub array_v3_again_where : has_float (array_v3_tree m) ≡ false → array_v3_of (array_v3_tree m) ≡ Ok m
@@ -147,7 +147,7 @@ pub plain_parts : (m : ArrayMetadataV3) → IsTrue (is_plain_array_v3 m) → (ex
     × (fits m.fill_value ≡ true) × (list_all extension_fits m.codecs ≡ true) × (fits (object m.attributes) ≡ true) × (list_all extension_fits m.storage_transformers ≡ true)
     × (fits (object m.additional_fields) ≡ true)
 plain_parts m plain =
-    let h = both _ (not (has_own own_names m.additional_fields)) plain in
+    let h = both _ (not (has_own array_v3_names m.additional_fields)) plain in
     let g = both _ (fits (object m.additional_fields)) h.0 in
     let f = both _ (list_all extension_fits m.storage_transformers) g.0 in
     let e = both _ (fits (object m.attributes)) f.0 in
@@ -179,11 +179,11 @@ array_v3_no_float m plain =
 -- a plain array that was written reads as that array
 pub array_v3_again : (m : ArrayMetadataV3) → IsTrue (is_plain_array_v3 m) → array_v3_of (array_v3_tree m) ≡ Ok m
 array_v3_again m plain =
-    array_v3_again_where m (not_true (has_own own_names m.additional_fields) (both _ (not (has_own own_names m.additional_fields)) plain).1) (array_v3_no_float m plain)
+    array_v3_again_where m (not_true (has_own array_v3_names m.additional_fields) (both _ (not (has_own array_v3_names m.additional_fields)) plain).1) (array_v3_no_float m plain)
 
 -- no field of a plain array has an own name
-plain_own : (m : ArrayMetadataV3) → IsTrue (is_plain_array_v3 m) → has_own own_names m.additional_fields ≡ false
-plain_own m plain = not_true (has_own own_names m.additional_fields) (both _ (not (has_own own_names m.additional_fields)) plain).1
+plain_own : (m : ArrayMetadataV3) → IsTrue (is_plain_array_v3 m) → has_own array_v3_names m.additional_fields ≡ false
+plain_own m plain = not_true (has_own array_v3_names m.additional_fields) (both _ (not (has_own array_v3_names m.additional_fields)) plain).1
 
 -- a plain array is written with its format
 pub format_again : (m : ArrayMetadataV3) → IsTrue (is_plain_array_v3 m) → get_member (codes "zarr_format") (put_rows (array_v3_rows m) m.additional_fields) ≡ Some (number (unsigned 3))

@@ -75,10 +75,10 @@ array_v3_plain d =
     (optional_fits [] (list_of extension) (list_all extension_fits) (list_fitting extension extension_fits extension_fitting) refl (codes "storage_transformers") d no_float) (λ transformers i.
     ok_next PlainV3 (optional (codes "dimension_names") None (nullable (list_of (nullable as_str))) d) _
     (optional_never None (nullable (list_of (nullable as_str))) (codes "dimension_names") d) (λ names.
-    let fields = besides v3.own_names ms in
+    let fields = besides v3.array_v3_names ms in
     both_true _ _ (both_true _ _ (both_true _ _ (both_true _ _ (both_true _ _ (both_true _ _ (both_true _ _ (both_true _ _ a b) c) e) f) g) i)
-    (false_not (members_have_float fields) (no_float-besides v3.own_names ms h.1)))
-    (false_not (has_own v3.own_names fields) (no_own-besides v3.own_names ms))))))))))))))
+    (false_not (members_have_float fields) (no_float-besides v3.array_v3_names ms h.1)))
+    (false_not (has_own v3.array_v3_names fields) (no_own-besides v3.array_v3_names ms))))))))))))))
 
 -- a version 3 array that was read is plain
 pub read_array_v3_is_plain : (d : Data) (m : ArrayMetadataV3) → array_v3_of d ≡ Ok m → IsTrue (is_plain_array_v3 m)
@@ -138,10 +138,10 @@ array_v2_plain d =
     (optional_fits None (nullable (list_of codec)) (none_or (list_all codec_fits)) (nullable_fitting (list_of codec) (list_all codec_fits) (list_fitting codec codec_fits codec_fitting)) refl (codes "filters") d no_float) (λ filters f.
     ok_next PlainV2 (optional (codes "dimension_separator") Dot separator d) _ (optional_never Dot separator (codes "dimension_separator") d) (λ between.
     ok_then (λ a. fits (object a) ≡ true) PlainV2 (optional (codes "attributes") no_members as_object d) _ (attributes_fit d no_float) (λ attributes g.
-    let fields = besides v2.own_names ms in
+    let fields = besides v2.array_v2_names ms in
     both_true _ _ (both_true _ _ (both_true _ _ (both_true _ _ (both_true _ _ (both_true _ _ (both_true _ _ a b) c) e) f) g)
-    (false_not (members_have_float fields) (no_float-besides v2.own_names ms h.1)))
-    (false_not (has_own v2.own_names fields) (no_own-besides v2.own_names ms)))))))))))))
+    (false_not (members_have_float fields) (no_float-besides v2.array_v2_names ms h.1)))
+    (false_not (has_own v2.array_v2_names fields) (no_own-besides v2.array_v2_names ms)))))))))))))
 
 -- a version 2 array that was read is plain
 pub read_array_v2_is_plain : (d : Data) (m : ArrayMetadataV2) → array_v2_of d ≡ Ok m → IsTrue (is_plain_array_v2 m)

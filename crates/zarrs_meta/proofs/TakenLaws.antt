@@ -11,7 +11,7 @@ use Rattle.zarrs_meta.specs.ArrayV2 as array_v2
 use Rattle.zarrs_meta.specs.ArrayV2.{array_v2_of}
 use Rattle.zarrs_meta.specs.ArrayV3.{array_v3_of}
 use Rattle.zarrs_form.specs.FormsV2.{codec, data_type, order, separator, chunk_lengths}
-use Rattle.zarrs_meta.specs.Taken.{node_names, group_v3_taken, group_v2_taken, array_v3_required_names, array_v3_optional_names, array_v3_required, array_v3_optional, array_v3_with, array_v3_taken, array_v2_required_names, array_v2_optional_names, array_v2_required, array_v2_optional, array_v2_with, array_v2_taken}
+use Rattle.zarrs_meta.specs.StepsOfReading.{node_names, group_v3_taken, group_v2_taken, array_v3_required_names, array_v3_optional_names, array_v3_required, array_v3_optional, array_v3_with, array_v3_taken, array_v2_required_names, array_v2_optional_names, array_v2_required, array_v2_optional, array_v2_with, array_v2_taken}
 use Rattle.zarrs_form.proofs.MemberLaws.{get_besides}
 use Rattle.zarrs_form.proofs.LeftLaws.{left, get_left, left_besides, besides_both}
 use Rattle.zarrs_fault.specs.declared.fault.MetadataFault.{MetadataFault}
@@ -222,7 +222,7 @@ array_v2_each_is ms is_document is_2 =
     let found = λ (names : List (List ℕ)) (name : List ℕ) (other : is_own names name ≡ false). sym (get_left names name ms other) in
     let later = λ (names : List (List ℕ)) (name : List ℕ) (other : is_own names name ≡ false) (optional : is_own array_v2_required_names name ≡ false) (format : is_own (codes "zarr_format" ∷ []) name ≡ false).
     sym (get_left names name rest other ∙ get_besides array_v2_required_names name others optional ∙ get_besides (codes "zarr_format" ∷ []) name ms format) in
-    let fields = sym (left_besides array_v2.own_names ms) ∙ ap (left array_v2_optional_names) (left_besides array_v2_required_names others) ∙ left_besides array_v2_optional_names rest in
+    let fields = sym (left_besides array_v2.array_v2_names ms) ∙ ap (left array_v2_optional_names) (left_besides array_v2_required_names others) ∙ left_besides array_v2_optional_names rest in
     rw (is_document, is_2) (λ i. array_v2_found
     (found (codes "zarr_format" ∷ []) (codes "shape") refl i)
     (found (codes "zarr_format" ∷ codes "shape" ∷ []) (codes "chunks") refl i)
@@ -276,4 +276,4 @@ pub group_v2_taken_is : (ms : Members) → document_of (object ms) ≡ Ok ms →
 unfolding group_v2_of group_v2_taken
 group_v2_taken_is ms is_document is_2 no_shape =
     let found = sym (get_left (codes "zarr_format" ∷ codes "shape" ∷ []) (codes "attributes") ms refl) in
-    rw (is_document, is_2, no_shape) (λ i. group_v2_found (found i) (sym (left_besides group_v2.own_names ms) i))
+    rw (is_document, is_2, no_shape) (λ i. group_v2_found (found i) (sym (left_besides group_v2.group_v2_names ms) i))

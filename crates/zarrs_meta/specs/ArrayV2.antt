@@ -11,8 +11,8 @@ use Rattle.zarrs_meta.specs.declared.array_v2.ArrayMetadataV2.{ArrayMetadataV2}
 use Rattle.zarrs_form.specs.declared.chunks.ChunkKeySeparator.TheVariants.{Dot}
 
 -- `zarr_format` and the members of the table
-abbrev pub own_names : List (List ℕ)
-own_names =
+abbrev pub array_v2_names : List (List ℕ)
+array_v2_names =
     codes "zarr_format" ∷ codes "shape" ∷ codes "chunks" ∷ codes "dtype" ∷ codes "fill_value" ∷ codes "order" ∷ codes "compressor" ∷ codes "filters"
     ∷ codes "dimension_separator" ∷ codes "attributes" ∷ []
 
@@ -40,7 +40,7 @@ array_v2_of d = do
     filters = filters;
     dimension_separator = dimension_separator;
     attributes = attributes;
-    additional_fields = besides own_names ms;
+    additional_fields = besides array_v2_names ms;
   })
 
 -- ---- the written form
@@ -67,4 +67,4 @@ array_v2_tree m = object (put_rows (array_v2_rows m) m.additional_fields)
 abbrev pub is_plain_array_v2 : ArrayMetadataV2 → Bool
 is_plain_array_v2 m =
     not (has_zero m.chunks) && data_type_fits m.dtype && fits m.fill_value && none_or codec_fits m.compressor && none_or (list_all codec_fits) m.filters
-    && fits (object m.attributes) && fits (object m.additional_fields) && not (has_own own_names m.additional_fields)
+    && fits (object m.attributes) && fits (object m.additional_fields) && not (has_own array_v2_names m.additional_fields)

@@ -9,8 +9,8 @@ use Rattle.zarrs_fault.specs.declared.fault.MetadataFault.{MetadataFault}
 use Rattle.zarrs_meta.specs.declared.array_v3.ArrayMetadataV3.{ArrayMetadataV3}
 
 -- `zarr_format`, `node_type` and the members of the table
-abbrev pub own_names : List (List ℕ)
-own_names =
+abbrev pub array_v3_names : List (List ℕ)
+array_v3_names =
     codes "zarr_format" ∷ codes "node_type" ∷ codes "shape" ∷ codes "data_type" ∷ codes "chunk_grid" ∷ codes "chunk_key_encoding" ∷ codes "fill_value" ∷ codes "codecs"
     ∷ codes "attributes" ∷ codes "storage_transformers" ∷ codes "dimension_names" ∷ []
 
@@ -39,7 +39,7 @@ array_v3_of d = do
     attributes = attributes;
     storage_transformers = storage_transformers;
     dimension_names = dimension_names;
-    additional_fields = besides own_names ms;
+    additional_fields = besides array_v3_names ms;
   })
 
 -- ---- the written form
@@ -67,4 +67,4 @@ abbrev pub is_plain_array_v3 : ArrayMetadataV3 → Bool
 is_plain_array_v3 m =
     extension_fits m.data_type && extension_fits m.chunk_grid && extension_fits m.chunk_key_encoding && fits m.fill_value && list_all extension_fits m.codecs
     && fits (object m.attributes) && list_all extension_fits m.storage_transformers && fits (object m.additional_fields)
-    && not (has_own own_names m.additional_fields)
+    && not (has_own array_v3_names m.additional_fields)

@@ -8,8 +8,8 @@ use Rattle.zarrs_fault.specs.declared.fault.MetadataFault.{MetadataFault}
 use Rattle.zarrs_meta.specs.declared.group_v2.GroupMetadataV2.{GroupMetadataV2}
 
 -- `zarr_format` and the members of the table, with `shape`, which must be absent
-abbrev pub own_names : List (List ℕ)
-own_names = codes "zarr_format" ∷ codes "shape" ∷ codes "attributes" ∷ []
+abbrev pub group_v2_names : List (List ℕ)
+group_v2_names = codes "zarr_format" ∷ codes "shape" ∷ codes "attributes" ∷ []
 
 -- the group that a version 2 document means, or its first fault
 unfoldable pub group_v2_of : Data → Result GroupMetadataV2 MetadataFault
@@ -18,7 +18,7 @@ group_v2_of d = do
   _ ← format_of 2 d
   _ ← absent (codes "shape") d
   attributes ← optional (codes "attributes") no_members as_object d
-  Ok (record { attributes = attributes; additional_fields = besides own_names ms })
+  Ok (record { attributes = attributes; additional_fields = besides group_v2_names ms })
 
 -- ---- the written form
 
@@ -33,4 +33,4 @@ group_v2_tree m = object (put_rows (group_v2_rows m) m.additional_fields)
 
 -- a group could have come from a document where its numbers fit and no field has an own name
 abbrev pub is_plain_group_v2 : GroupMetadataV2 → Bool
-is_plain_group_v2 m = fits (object m.attributes) && fits (object m.additional_fields) && not (has_own own_names m.additional_fields)
+is_plain_group_v2 m = fits (object m.attributes) && fits (object m.additional_fields) && not (has_own group_v2_names m.additional_fields)

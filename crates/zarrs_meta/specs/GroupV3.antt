@@ -8,12 +8,12 @@ use Rattle.zarrs_fault.specs.declared.fault.MetadataFault.{MetadataFault}
 use Rattle.zarrs_meta.specs.declared.group_v3.GroupMetadataV3.{GroupMetadataV3}
 
 -- `zarr_format`, `node_type` and the member of the table
-abbrev pub own_names : List (List ℕ)
-own_names = codes "zarr_format" ∷ codes "node_type" ∷ codes "attributes" ∷ []
+abbrev pub group_v3_names : List (List ℕ)
+group_v3_names = codes "zarr_format" ∷ codes "node_type" ∷ codes "attributes" ∷ []
 
 -- the names of members that are no additional fields: the own names, and `consolidated_metadata` where it is null, which counts as absent
 abbrev pub read_names : Data → List (List ℕ)
-read_names d = if is_null (get (codes "consolidated_metadata") d) then codes "zarr_format" ∷ codes "node_type" ∷ codes "attributes" ∷ codes "consolidated_metadata" ∷ [] else own_names
+read_names d = if is_null (get (codes "consolidated_metadata") d) then codes "zarr_format" ∷ codes "node_type" ∷ codes "attributes" ∷ codes "consolidated_metadata" ∷ [] else group_v3_names
 
 -- the group that a version 3 document means, or its first fault
 unfoldable pub group_v3_of : Data → Result GroupMetadataV3 MetadataFault
@@ -39,5 +39,5 @@ group_v3_tree m = object (put_rows (group_v3_rows m) m.additional_fields)
 -- a group could have come from a document where its numbers fit, no field has an own name, and no field `consolidated_metadata` is null
 abbrev pub is_plain_group_v3 : GroupMetadataV3 → Bool
 is_plain_group_v3 m =
-    fits (object m.attributes) && fits (object m.additional_fields) && not (has_own own_names m.additional_fields)
+    fits (object m.attributes) && fits (object m.additional_fields) && not (has_own group_v3_names m.additional_fields)
     && not (is_null (get_member (codes "consolidated_metadata") m.additional_fields))

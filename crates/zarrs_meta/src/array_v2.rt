@@ -8,7 +8,7 @@ ghost use Rattle.zarrs_form.specs.Forms.{put_rows};
 ghost use Rattle.zarrs_form.specs.FormsV2.{separator};
 ghost use Rattle.zarrs_form.specs.declared.chunks.ChunkKeySeparator.TheVariants.{Dot};
 ghost use Rattle.zarrs_meta.specs.ArrayV2.{array_v2_of, array_v2_rows, array_v2_tree, is_plain_array_v2};
-ghost use Rattle.zarrs_meta.specs.Taken.{array_v2_taken, array_v2_required, array_v2_required_names, array_v2_optional, array_v2_optional_names, array_v2_with};
+ghost use Rattle.zarrs_meta.specs.StepsOfReading.{array_v2_taken, array_v2_required, array_v2_required_names, array_v2_optional, array_v2_optional_names, array_v2_with};
 
 use serde_json::{Map, Value, put};
 use std::alloc::{AllocError, Global};
@@ -101,7 +101,7 @@ impl ArrayMetadataV2 {
     }
 
     /// Takes the members of the table one by one; those that are left are the additional fields.
-    #[tactic(auto, unfolding(crate::specs::Taken::array_v2_taken))]
+    #[tactic(auto, unfolding(crate::specs::StepsOfReading::array_v2_taken))]
     fn take(
         alloc: Global,
         mut members: Map<String, Value>,
@@ -248,7 +248,7 @@ pub(crate) struct OptionalMembers {
 
 impl RequiredMembers {
     /// Takes the members that each array has, one by one.
-    #[tactic(auto, unfolding(crate::specs::Taken::array_v2_required))]
+    #[tactic(auto, unfolding(crate::specs::StepsOfReading::array_v2_required))]
     fn take(
         alloc: Global,
         members: &mut Map<String, Value>,
@@ -303,7 +303,7 @@ impl RequiredMembers {
 
 impl OptionalMembers {
     /// Takes the members that may be absent, one by one.
-    #[tactic(auto, unfolding(crate::specs::Taken::array_v2_optional))]
+    #[tactic(auto, unfolding(crate::specs::StepsOfReading::array_v2_optional))]
     fn take(
         alloc: Global,
         members: &mut Map<String, Value>,

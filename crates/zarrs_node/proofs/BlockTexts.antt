@@ -6,7 +6,8 @@ use Rattle.zarrs_store.specs.Segments.{key_text}
 use Rattle.zarrs_path.specs.Paths.{Path, IsPath, IsBelow, slashed, without_leading_slash}
 use Rattle.zarrs_path.proofs.PathTexts.{IsPath-parts, slashed-append, slashed-cons}
 use Rattle.zarrs_meta.specs.declared.node.NodeMetadata.{NodeMetadata}
-use Rattle.zarrs_node.specs.Consolidated.{AreBelow, ArePaths, text_beyond}
+use Rattle.zarrs_node.specs.BlocksOfNodes.{text_beyond}
+use Rattle.zarrs_node.specs.StepsOfBlocks.{ArePairsBelow, ArePaths}
 use Rattle.zarrs_node.specs.Inverse.{HasNames}
 
 -- the text of a path beyond b is that of its names there
@@ -20,7 +21,7 @@ rest_is b p rest r (n, ns, is) cut stripped =
     stripped ∙ ap without_leading_slash (behind ∙ slashed-cons n ns) ∙ sym (text_is b p n ns is)
 
 -- paths below b have names beyond it
-pub names_of : (b : Path) (es : List (Path × NodeMetadata)) → AreBelow b es → ArePaths es → HasNames b es
+pub names_of : (b : Path) (es : List (Path × NodeMetadata)) → ArePairsBelow b es → ArePaths es → HasNames b es
 names_of b es below valid e in' =
     let w = below e in' in
     (w.0, w.1, w.2, (IsPath-parts b (w.0 ∷ w.1) (subst IsPath w.2 (valid e in'))).1)

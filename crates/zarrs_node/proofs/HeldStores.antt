@@ -11,7 +11,7 @@ use Rattle.zarrs_form.specs.Documents.{◌>>=◌, json_of, of_bytes, parsed}
 use Rattle.zarrs_block.specs.Block.{Block}
 use Rattle.zarrs_block.specs.Zmetadata.{zmetadata_of}
 use Rattle.zarrs_block.proofs.SmallBlocks.{store_law}
-use Rattle.zarrs_node.specs.Below.{zmetadata_at, HoldsZmetadata}
+use Rattle.zarrs_node.specs.BlocksBelow.{zmetadata_at, HoldsZmetadata}
 
 -- a reading that gives a block is one of it
 gives_it : (r : Result Block MetadataFault) (B : Block) → result_ok r ≡ Some B → r ≡ Ok B

@@ -12,17 +12,17 @@ use Rattle.zarrs_meta.specs.declared.node.GroupMetadata.TheVariants.{V3, V2}
 use Rattle.zarrs_meta.specs.declared.node.NodeMetadata.{NodeMetadata}
 use Rattle.zarrs_meta.specs.declared.node.NodeMetadata.TheVariants.{Group, Array}
 use Rattle.zarrs_block.specs.Block.{Block, Entries, HasValidKeys}
-use Rattle.zarrs_block.specs.Used.{RefusesUse, LacksBlockMemory}
-use Rattle.zarrs_block.specs.Expanded.{RefusesKeys, NamesBadKey}
+use Rattle.zarrs_block.specs.Policy.{RefusesUse, LacksBlockMemory}
+use Rattle.zarrs_block.specs.BlockExpansion.{RefusesKeys, NamesBadKey}
 use Rattle.zarrs_block.specs.Refused.{IsExcused, IsMissing}
 use Rattle.zarrs_block.specs.declared.node_create_error.NodeCreateError.{NodeCreateError}
 use Rattle.zarrs_block.specs.declared.node_create_error.NodeCreateError.TheVariants.{NodePathError, StorePrefixError, StorageError, MetadataVersionMismatch, MissingMetadata, OutOfMemory}
 use Rattle.zarrs_block.specs.Meaning.{meaning, node, nothing, bad}
-use Rattle.zarrs_node.specs.Below.{ExcusesBlock}
-use Rattle.zarrs_node.specs.Reached.{Kept}
+use Rattle.zarrs_node.specs.BlocksBelow.{ExcusesBlock}
+use Rattle.zarrs_node.specs.Reach.{Kept}
 use Rattle.zarrs_node.specs.Nodes.{Nodes, Bad, ShowsBad}
 use Rattle.zarrs_node.specs.Forest.{Forest, none, Shows, ArePlacedBelow}
-use Rattle.zarrs_node.specs.Opened.{choice, ShowsChosen, IsCleanChosen, RefusesChosen, ShowsNode, IsCleanNode, RefusesBelow, RefusesOpening}
+use Rattle.zarrs_node.specs.OpeningNodes.{choice, ShowsChosen, IsCleanChosen, RefusesChosen, ShowsNode, IsCleanNode, RefusesBelow, RefusesOpening}
 use Rattle.zarrs_node.proofs.Unique.{Pair}
 use Rattle.zarrs_node.proofs.Found.{listed_each}
 use Rattle.zarrs_node.proofs.Kept.{kept_same}

@@ -1,19 +1,7 @@
 -- Zarr core specification 3.1, "Metadata documents": what the calls that read documents answer.
-use Rattle.std.specs.Prelude.{◌≡◌, Bool, IsTrue, Option, Some, None, Result, Ok, Err, ◌⊎◌}
-use Rattle.zarrs_store.specs.Segments.{Segments}
-use Rattle.zarrs_fault.specs.declared.fault.MetadataFault.{MetadataFault}
-use Rattle.zarrs_fault.specs.declared.fault.MetadataFault.TheVariants.{OutOfMemory as NoMemoryToRead}
+use Rattle.std.specs.Prelude.{◌≡◌, Bool, IsTrue, Result, Err}
 use Rattle.zarrs_store.specs.declared.storage_error.StorageError.{StorageError}
 use Rattle.zarrs_store.specs.declared.storage_error.StorageError.TheVariants.{Fault, InvalidMetadata, Other, OutOfMemory}
-use Rattle.zarrs_block.specs.Refused.{IsExcused}
-use Rattle.zarrs_meta.specs.declared.node.NodeMetadata.{NodeMetadata}
-use Rattle.zarrs_block.specs.declared.node_create_error.NodeCreateError.{NodeCreateError}
-use Rattle.zarrs_block.specs.Meaning.{Meaning, node, nothing, bad}
-
--- a fault of the document at a key is refused with the key and the fault, and out of memory as such
-abbrev pub refusal_at : Segments → MetadataFault → StorageError
-refusal_at key NoMemoryToRead = OutOfMemory
-refusal_at key fault = InvalidMetadata key fault
 
 -- the error is the fault of a store that can fail, or out of memory, or what the reading refuses
 abbrev pub RefusesReading : {D : Type 0} → Bool → Result D StorageError → StorageError → Type 0
@@ -21,15 +9,3 @@ RefusesReading can_fail reading Fault = IsTrue can_fail
 RefusesReading can_fail reading (InvalidMetadata key fault) = reading ≡ Err (InvalidMetadata key fault)
 RefusesReading can_fail reading (Other text) = ⊥
 RefusesReading can_fail reading OutOfMemory = Unit {0}
-
--- the answer is what this line of the table says, unless it is excused
-abbrev pub FollowsLine : Bool → Result (Option NodeMetadata) NodeCreateError → (Meaning → Meaning) → Type 0
-FollowsLine can_fail (Ok (Some m)) line = (after : Meaning) → line after ≡ node m
-FollowsLine can_fail (Ok None) line = (after : Meaning) → line after ≡ after
-FollowsLine can_fail (Err e) line = IsExcused can_fail e ⊎ ((after : Meaning) → line after ≡ bad e)
-
--- the answer is the meaning, unless it is excused
-abbrev pub Finds : Bool → Result (Option NodeMetadata) NodeCreateError → Meaning → Type 0
-Finds can_fail (Ok (Some m)) meaning = meaning ≡ node m
-Finds can_fail (Ok None) meaning = meaning ≡ nothing
-Finds can_fail (Err e) meaning = IsExcused can_fail e ⊎ (meaning ≡ bad e)

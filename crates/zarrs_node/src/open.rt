@@ -4,10 +4,10 @@ ghost use Rattle.zarrs_path.specs.Paths.{path_text};
 ghost use Rattle.zarrs_block.specs.Refused.{IsExcused};
 ghost use Rattle.zarrs_block.specs.Meaning.{meaning, node};
 ghost use Rattle.zarrs_block.specs.Block.{Entries, HasValidKeys};
-ghost use Rattle.zarrs_block.specs.Expanded.{RefusesKeys};
+ghost use Rattle.zarrs_block.specs.BlockExpansion.{RefusesKeys};
 ghost use Rattle.zarrs_node.specs.Forest.{Shows, forest, path_of, metadata_of, below_of, HasPlacedChildren};
-ghost use Rattle.zarrs_node.specs.Reached.{Kept};
-ghost use Rattle.zarrs_node.specs.Opened.{choice, ShowsChosen, IsCleanChosen, RefusesChosen, ShowsNode, IsCleanNode, RefusesOpening};
+ghost use Rattle.zarrs_node.specs.Reach.{Kept};
+ghost use Rattle.zarrs_node.specs.OpeningNodes.{choice, ShowsChosen, IsCleanChosen, RefusesChosen, ShowsNode, IsCleanNode, RefusesOpening};
 
 use crate::build::{build_ascending, direct_children_from_flat};
 use crate::children::get_child_nodes_opt;

@@ -3,7 +3,8 @@ use Rattle.std.proofs.Common.{is_none, Some, None, ◌≡◌, ◌≢◌, ℕ, Bo
 use Rattle.std.specs.List.{slice_split, list_all}
 use Rattle.std.proofs.lemmas.List.Splits.{join_with_byte-slice_split}
 use Rattle.std.proofs.lemmas.Bool.{and_parts, and_from}
-use Rattle.zarrs_store.specs.Segments.{segments_of, key_text, is_segment, IsSegments, is_nonempty, has_no_slash, is_slash}
+use Rattle.zarrs_store.specs.Segments.{segments_of, key_text, is_segment, is_nonempty, has_no_slash, is_slash}
+use Rattle.zarrs_store.specs.StepsOfStores.{IsSegments}
 use Rattle.zarrs_store.proofs.Cuts.{segments_of-append, segments_of_one, segments_of-nil, parts-join, parts_some, segments_clean}
 use Rattle.zarrs_path.specs.Names.{is_name, is_all_periods, is_reserved}
 use Rattle.std.proofs.lemmas.Grind.{flat_map-append}

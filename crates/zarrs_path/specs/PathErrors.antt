@@ -20,6 +20,6 @@ RefusesJoin rel (Invalid text) =
 RefusesJoin rel OutOfMemory = Unit {0}
 
 -- a segment is no name, and the error holds the text of the path; or out of memory
-abbrev pub RefusesPrefix : Path → NodePathError → Type 0
-RefusesPrefix p (Invalid text) = (string_bytes text ≡ path_text p) × (¬ IsPath p)
-RefusesPrefix p OutOfMemory = Unit {0}
+abbrev pub RefusesSegments : Path → NodePathError → Type 0
+RefusesSegments p (Invalid text) = (string_bytes text ≡ path_text p) × (¬ IsPath p)
+RefusesSegments p OutOfMemory = Unit {0}

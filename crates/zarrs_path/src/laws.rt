@@ -4,7 +4,7 @@ ghost use Rattle.std.specs.Prelude.{◌≡◌, ◌↔◌, ◌++◌, IfOk, IfErr,
 ghost use Rattle.zarrs_path.specs.Names.{IsName};
 ghost use Rattle.std.specs.declared.cmp.Ordering.TheVariants.{Equal};
 ghost use Rattle.zarrs_path.specs.Paths.{IsParent, IsPathText, path_eq, path_cmp, relative_names};
-ghost use Rattle.zarrs_path.specs.PathErrors.{RefusesPrefix, RefusesJoin};
+ghost use Rattle.zarrs_path.specs.PathErrors.{RefusesSegments, RefusesJoin};
 ghost use Rattle.zarrs_path.specs.Laws.{NamesAre, TextsDiffer, EqualNames, EqualOrder, TotalOrder, HashAlike, BelowIsAfter, BelowIsTransitive, OneParent, RootAlone, ParentOfJoined, DocumentKeysDiffer, RelativeNamesRead, RelativeNamesJoined};
 
 use crate::{NodePath, NodePathError};
@@ -152,7 +152,7 @@ pub fn prefix_and_back(alloc: Global, path: &NodePath) -> Result<NodePath, NodeP
 /// `NodePathError::OutOfMemory` when out of memory for the path or the prefix.
 pub fn path_and_back(alloc: Global, prefix: &StorePrefix) -> Result<StorePrefix, NodePathError>
     ensures ok { IfOk result (λ back. back ≡ prefix.now) }
-    ensures err { IfErr result (RefusesPrefix prefix.now) }
+    ensures err { IfErr result (RefusesSegments prefix.now) }
 {
     let path = NodePath::from_prefix(alloc, prefix)?;
     Ok(path.to_prefix(alloc)?)

@@ -4,7 +4,7 @@ ghost use Rattle.std.specs.List.{slice_split};
 ghost use Rattle.zarrs_store.specs.Segments.{is_slash, last_segment, IsPrefix};
 ghost use Rattle.zarrs_path.specs.Names.{IsName};
 ghost use Rattle.zarrs_path.specs.Paths.{IsPath, IsPathText, path_text, IsBelow, IsParent, slashed, relative_names, without_leading_slash, first_bad};
-ghost use Rattle.zarrs_path.specs.PathErrors.{RefusesPath, RefusesJoin, RefusesPrefix};
+ghost use Rattle.zarrs_path.specs.PathErrors.{RefusesPath, RefusesJoin, RefusesSegments};
 
 use crate::node_name::is_name;
 use crate::text::joined;
@@ -198,7 +198,7 @@ impl NodePath {
     pub fn from_prefix(alloc: Global, prefix: &StorePrefix) -> Result<Self, NodePathError>
         ensures ok { IfOk result (λ path. path ≡ prefix.now) }
         ensures valid { IfOk result IsPath }
-        ensures err { IfErr result (RefusesPrefix prefix.now) }
+        ensures err { IfErr result (RefusesSegments prefix.now) }
         ensures segments { IsPrefix prefix.now }
     {
         let _valid = prefix.as_str();
@@ -215,7 +215,7 @@ impl NodePath {
     pub fn from_owned_prefix(prefix: StorePrefix) -> Result<Self, NodePathError>
         ensures ok { IfOk result (λ path. path ≡ prefix) }
         ensures valid { IfOk result IsPath }
-        ensures err { IfErr result (RefusesPrefix prefix) }
+        ensures err { IfErr result (RefusesSegments prefix) }
         ensures segments { IsPrefix prefix }
     {
         let text = NodePath::text_of(prefix)?;

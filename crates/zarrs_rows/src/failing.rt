@@ -4,15 +4,15 @@
 //! lent to such a call for reading alone, so it is left as it was. Each allocation of the tests `memory_fails_in_..` is refused in turn
 //! by `bench/failures`; such a test ends then as usual, or in an error that is out of memory.
 ghost use Rattle.std.specs.Prelude.{◌≡◌, true, ◌⊎◌, IfOk, IfErr, OnOk, OnErr};
-ghost use Rattle.zarrs_store.specs.Failing.{held};
+ghost use Rattle.zarrs_store.specs.FailingStores.{inner_contents};
 ghost use Rattle.zarrs_store.specs.Contents.{Lists};
 ghost use Rattle.zarrs_store.specs.Faults.{IsStoreError};
 ghost use Rattle.zarrs_block.specs.Refused.{IsExcused};
 ghost use Rattle.zarrs_node.specs.Forest.{Shows, forest};
 ghost use Rattle.zarrs_node.specs.Nodes.{Nodes, Ignored, ShowsBad, Bad};
 ghost use Rattle.zarrs_group.specs.Edits.{after, IsCutShort};
-ghost use Rattle.zarrs_group.specs.Groups.{converted};
-ghost use Rattle.zarrs_group.specs.Stored.{store_edits, erase_edits, RefusesStore};
+ghost use Rattle.zarrs_group.specs.Groups.{metadata_by_version};
+ghost use Rattle.zarrs_group.specs.StoringGroups.{store_edits, erase_edits, RefusesStoring};
 
 use log::sink::Discard;
 use std::alloc::{AllocError, Global};
@@ -54,10 +54,10 @@ fn listed_over_faults(
     recursive: bool,
     version: &MetadataRetrieveVersion,
 ) -> Result<ListedNodes, NodeCreateError>
-    ensures shows { IfOk result (λ l. Shows (forest l.nodes.items) path.now (Nodes (held store.now) version.now recursive path.now)) }
-    ensures ignored { IfOk result (λ l. Lists (Ignored (held store.now) version.now recursive path.now) l.ignored.items) }
-    ensures clean { IfOk result (λ _. Bad (held store.now) version.now recursive path.now → ⊥) }
-    ensures refused { IfErr result (λ e. IsExcused true e ⊎ ShowsBad (held store.now) version.now recursive path.now e) }
+    ensures shows { IfOk result (λ l. Shows (forest l.nodes.items) path.now (Nodes (inner_contents store.now) version.now recursive path.now)) }
+    ensures ignored { IfOk result (λ l. Lists (Ignored (inner_contents store.now) version.now recursive path.now) l.ignored.items) }
+    ensures clean { IfOk result (λ _. Bad (inner_contents store.now) version.now recursive path.now → ⊥) }
+    ensures refused { IfErr result (λ e. IsExcused true e ⊎ ShowsBad (inner_contents store.now) version.now recursive path.now e) }
 {
     list_nodes(alloc, store, path, recursive, version)
 }
@@ -70,9 +70,9 @@ fn nodes_over_faults(
     recursive: bool,
     version: &MetadataRetrieveVersion,
 ) -> Result<Vec<Node>, NodeCreateError>
-    ensures shows { IfOk result (λ nodes. Shows (forest nodes.items) path.now (Nodes (held store.now) version.now recursive path.now)) }
-    ensures clean { IfOk result (λ _. Bad (held store.now) version.now recursive path.now → ⊥) }
-    ensures refused { IfErr result (λ e. IsExcused true e ⊎ ShowsBad (held store.now) version.now recursive path.now e) }
+    ensures shows { IfOk result (λ nodes. Shows (forest nodes.items) path.now (Nodes (inner_contents store.now) version.now recursive path.now)) }
+    ensures clean { IfOk result (λ _. Bad (inner_contents store.now) version.now recursive path.now → ⊥) }
+    ensures refused { IfErr result (λ e. IsExcused true e ⊎ ShowsBad (inner_contents store.now) version.now recursive path.now e) }
 {
     get_child_nodes_opt(&Discard, alloc, store, path, recursive, version)
 }
@@ -84,8 +84,8 @@ fn stored_over_faults(
     store: &mut FaultStore,
     options: &GroupMetadataOptions,
 ) -> Result<(), StorageError>
-    ensures ok { OnOk result (held store.new ≡ after (held store.old) (store_edits group.now.path (converted options.now group.now.metadata) group.now.block)) }
-    ensures err { IfErr result (RefusesStore true group.now.path (converted options.now group.now.metadata) group.now.block (held store.old) (held store.new)) }
+    ensures ok { OnOk result (inner_contents store.new ≡ after (inner_contents store.old) (store_edits group.now.path (metadata_by_version options.now group.now.metadata) group.now.block)) }
+    ensures err { IfErr result (RefusesStoring true group.now.path (metadata_by_version options.now group.now.metadata) group.now.block (inner_contents store.old) (inner_contents store.new)) }
 {
     group.store_metadata_opt(alloc, store, options)
 }
@@ -97,9 +97,9 @@ fn erased_over_faults(
     store: &mut FaultStore,
     version: MetadataEraseVersion,
 ) -> Result<(), StorageError>
-    ensures ok { OnOk result (held store.new ≡ after (held store.old) (erase_edits group.now.path version group.now.metadata)) }
+    ensures ok { OnOk result (inner_contents store.new ≡ after (inner_contents store.old) (erase_edits group.now.path version group.now.metadata)) }
     ensures err { IfErr result (IsStoreError true) }
-    ensures cut { OnErr result (IsCutShort (held store.old) (erase_edits group.now.path version group.now.metadata) (held store.new)) }
+    ensures cut { OnErr result (IsCutShort (inner_contents store.old) (erase_edits group.now.path version group.now.metadata) (inner_contents store.new)) }
 {
     group.erase_metadata_opt(alloc, store, version)
 }

@@ -13,7 +13,8 @@ use Rattle.std.proofs.lemmas.List.Edits.{split_between, length-between}
 use Rattle.std.proofs.lemmas.List.Elements.{All-head, All-tail, All-map, filter-append}
 use Rattle.std.proofs.lemmas.Map.Entries.{length-keys_of}
 use Rattle.zarrs_store.specs.Segments.{Segments, bytes_cmp, key_text, prefix_text, IsKey, IsPrefix}
-use Rattle.zarrs_store.specs.Entries.{beyond, is_below, is_one, is_child_key, first_of_more, child_name}
+use Rattle.zarrs_store.specs.Entries.{beyond, is_below}
+use Rattle.zarrs_store.specs.StepsOfStores.{is_one, is_child_key, first_of_more, child_name}
 use Rattle.zarrs_store.specs.Places.{text_cmp, AreAscending, IsRange, keys_below}
 use Rattle.zarrs_store.proofs.BelowLemmas.{from_beyond, key_text-below, beyond-text}
 use Rattle.zarrs_store.proofs.EntryLemmas.{shown}

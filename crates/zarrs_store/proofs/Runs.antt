@@ -10,7 +10,8 @@ use Rattle.std.proofs.lemmas.List.Edits.{get_or-between, length-between}
 use Rattle.std.proofs.lemmas.List.Elements.{All-head, All-tail, All-drop, All-map, filter-append, filter_map-append}
 use Rattle.std.proofs.lemmas.Map.Entries.{length-keys_of}
 use Rattle.zarrs_store.specs.Segments.{Segments, bytes_eq}
-use Rattle.zarrs_store.specs.Entries.{beyond, is_below, is_child_key, first_of_more, child_name, child_of, child_names, child_prefixes}
+use Rattle.zarrs_store.specs.Entries.{beyond, is_below}
+use Rattle.zarrs_store.specs.StepsOfStores.{is_child_key, first_of_more, child_name, child_of, child_names, child_prefixes}
 use Rattle.zarrs_store.specs.Places.{AreAscending, IsRange, digits}
 use Rattle.zarrs_store.proofs.BelowLemmas.{beyond-append, from_beyond}
 use Rattle.zarrs_store.proofs.Digits.{digits_least, digits_mono, digits_at_most}

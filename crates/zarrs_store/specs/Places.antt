@@ -1,6 +1,6 @@
 -- A store in memory: where keys stand among keys that ascend by the bytes of their texts, and how many comparisons find that out.
 --     text_cmp, AreAscending      the order of keys; that entries stand in it
---     IsAt, IsGap, IsRange      where a key stands, where it would stand, and where the keys below a prefix stand
+--     IsKeyAt, IsKeyGap, IsRange      where a key stands, where it would stand, and where the keys below a prefix stand
 --     keys_below      how many keys begin with a prefix
 --     digits      the number of binary digits of a number
 use Rattle.std.specs.Prelude.{◌≡◌, ℕ, zero, suc, ◌<◌, ◌≤◌, ◌/◌, true, false, List, length, All, filter, take, drop, slice_range, slice_index_or}
@@ -22,12 +22,12 @@ pub record AreAscending {X : Type 0} (entries : List (Segments × X)) : Type 0 w
   pub ascending : IsStrictlySortedBy text_cmp (keys_of entries)
 
 -- the key stands at place i
-pub record IsAt (keys : List Segments) (key : Segments) (i : ℕ) : Type 0 where
+pub record IsKeyAt (keys : List Segments) (key : Segments) (i : ℕ) : Type 0 where
   pub inside : i < length keys
   pub is : slice_index_or keys i key ≡ key
 
 -- the key would stand at place i: each key before it is smaller, and each from there on is greater
-pub record IsGap (keys : List Segments) (key : Segments) (i : ℕ) : Type 0 where
+pub record IsKeyGap (keys : List Segments) (key : Segments) (i : ℕ) : Type 0 where
   pub inside : i ≤ length keys
   pub smaller : All (λ k. text_cmp k key ≡ Less) (take i keys)
   pub greater : All (λ k. text_cmp k key ≡ Greater) (drop i keys)

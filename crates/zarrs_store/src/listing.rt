@@ -3,7 +3,7 @@
 ghost use Rattle.std.specs.Prelude.{◌≡◌, ◌+◌, ◌-◌, ◌*◌, ◌≤◌, length, filter, IfOk};
 ghost use Rattle.std.specs.Map.{keys_of};
 ghost use Rattle.zarrs_store.specs.Segments.{IsPrefix};
-ghost use Rattle.zarrs_store.specs.Entries.{is_child_key, child_prefixes};
+ghost use Rattle.zarrs_store.specs.StepsOfStores.{is_child_key, child_prefixes};
 ghost use Rattle.zarrs_store.specs.Places.{AreAscending, IsRange, digits};
 
 use crate::key::StoreKey;

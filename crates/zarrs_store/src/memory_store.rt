@@ -3,7 +3,7 @@ ghost use Rattle.std.specs.Map.{keys_of};
 ghost use Rattle.zarrs_store.specs.Segments.{key_cmp};
 ghost use Rattle.zarrs_store.specs.Contents.{Lists, IsChildKey, IsChildPrefix};
 ghost use Rattle.zarrs_store.specs.Faults.{IsStoreError};
-ghost use Rattle.zarrs_store.specs.Places.{IsAt, IsGap, IsRange, digits, keys_below};
+ghost use Rattle.zarrs_store.specs.Places.{IsKeyAt, IsKeyGap, IsRange, digits, keys_below};
 ghost use Rattle.std.specs.FinMap as map;
 
 use crate::key::StoreKey;
@@ -75,8 +75,8 @@ impl MemoryStore {
     ///
     /// Source: own.
     pub fn find_counted(&self, key: &StoreKey) -> (Result<usize, usize>, u32)
-        ensures found { IfOk result.0 (IsAt (keys_of self.now) key.now) }
-        ensures absent { IfErr result.0 (IsGap (keys_of self.now) key.now) }
+        ensures found { IfOk result.0 (IsKeyAt (keys_of self.now) key.now) }
+        ensures absent { IfErr result.0 (IsKeyGap (keys_of self.now) key.now) }
         ensures comparisons { result.1 ≤ digits (length self.now) }
     {
         let _valid = key.as_str();
@@ -123,8 +123,8 @@ impl MemoryStore {
 
     // What `find_counted` finds; a key behind the last is told by one comparison, with no search.
     fn place(&self, key: &StoreKey) -> Result<usize, usize>
-        ensures found { IfOk result (IsAt (keys_of self.now) key.now) }
-        ensures absent { IfErr result (IsGap (keys_of self.now) key.now) }
+        ensures found { IfOk result (IsKeyAt (keys_of self.now) key.now) }
+        ensures absent { IfErr result (IsKeyGap (keys_of self.now) key.now) }
     {
         if let Some((last, _)) = self.entries.last() {
             if last < key {

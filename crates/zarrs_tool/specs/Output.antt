@@ -20,7 +20,7 @@ use Rattle.zarrs_block.specs.Meaning.{meaning, node}
 use Rattle.zarrs_node.specs.Order.{Ascend}
 use Rattle.zarrs_node.specs.Nodes.{Nodes, Bad}
 use Rattle.zarrs_group.specs.Layout.{pretty_text}
-use Rattle.zarrs_hierarchy.specs.Opened.{IsOpenedTree}
+use Rattle.zarrs_hierarchy.specs.OpeningHierarchies.{IsOpenedTree}
 use Rattle.zarrs_tool.specs.Folder.{HoldsDocuments}
 use Rattle.zarrs_tool.specs.Image.{IsLoaded}
 use Rattle.zarrs_tool.specs.declared.run.Word.{Word}

@@ -14,7 +14,7 @@ use Rattle.zarrs_meta.specs.declared.node.ArrayMetadata.{ArrayMetadata}
 use Rattle.zarrs_meta.specs.declared.node.NodeMetadata.TheVariants.{Array}
 use Rattle.zarrs_block.specs.Meaning.{meaning, node}
 use Rattle.zarrs_node.specs.Nodes.{ShowsBad}
-use Rattle.zarrs_node.specs.Opened.{RefusesOpening}
+use Rattle.zarrs_node.specs.OpeningNodes.{RefusesOpening}
 use Rattle.zarrs_tool.specs.Image.{IsLoaded, RefusedImage}
 use Rattle.zarrs_tool.specs.Output.{IsCommand, IsOutput, word_text}
 use Rattle.zarrs_tool.specs.declared.fault.ToolFault.{ToolFault}

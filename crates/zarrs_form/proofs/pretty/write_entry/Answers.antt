@@ -3,7 +3,8 @@ use Rattle.json.specs.Print.{quoted}
 use Rattle.json.specs.Layout.{line}
 use Rattle.serde_json.specs.View.{view}
 use Rattle.serde_json.specs.Written.{comma_if, has_float}
-use Rattle.zarrs_form.specs.Pretty.{text_at, indented}
+use Rattle.zarrs_form.specs.Pretty.{text_at}
+use Rattle.zarrs_form.specs.StepsOfTexts.{indented}
 use Rattle.zarrs_form.proofs.PrettyPieces.{piece_deeper}
 use Rattle.zarrs_form.proofs.pretty.write_entry.Goals as goal
 

@@ -1,5 +1,5 @@
 use Rattle.std.proofs.Common.{◌≡◌, ◌++◌, drop, length, string_bytes}
-use Rattle.zarrs_form.specs.Pretty.{indented}
+use Rattle.zarrs_form.specs.StepsOfTexts.{indented}
 use Rattle.zarrs_form.proofs.PrettyLines.{cut, lines_left}
 use Rattle.zarrs_form.proofs.pretty.write_indented.Given as goal
 

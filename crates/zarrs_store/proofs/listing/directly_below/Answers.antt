@@ -2,7 +2,8 @@ use Rattle.std.proofs.Common.{rules, ◌≡◌, ◌<◌, ◌≤◌, ◌+◌, ◌
 use Rattle.std.specs.Prelude.{All, filter, max}
 use Rattle.std.specs.Map.{keys_of}
 use Rattle.std.proofs.lemmas.List.{length_push}
-use Rattle.zarrs_store.specs.Entries.{is_below, is_child_key, child_name, child_prefixes}
+use Rattle.zarrs_store.specs.Entries.{is_below}
+use Rattle.zarrs_store.specs.StepsOfStores.{is_child_key, child_name, child_prefixes}
 use Rattle.zarrs_store.specs.Places.{digits}
 use Rattle.zarrs_store.proofs.Ranges.{is_before, left_at, no_child_key, kept_step, child_key_from}
 use Rattle.zarrs_store.proofs.Runs.{child_from, no_child_step, run_keys, run_child, run_inside, range_ends, below_there, first_keys, first_children, last_keys, last_children, many_step, few_step}

@@ -1,7 +1,7 @@
 use Rattle.std.proofs.Common.{◌≡◌, ◌≤◌, ◌+◌, ◌-◌, ◌*◌, ◌++◌, length, drop}
 use Rattle.std.specs.Prelude.{filter}
 use Rattle.std.specs.Map.{keys_of}
-use Rattle.zarrs_store.specs.Entries.{is_child_key, child_prefixes}
+use Rattle.zarrs_store.specs.StepsOfStores.{is_child_key, child_prefixes}
 use Rattle.zarrs_store.specs.Places.{digits}
 use Rattle.zarrs_store.proofs.listing.directly_below.Given as goal
 

@@ -4,7 +4,7 @@ use Rattle.std.specs.Map.{keys_of}
 use Rattle.std.specs.Prelude.{filter}
 use Rattle.zarrs_store.specs.Segments.{key_cmp}
 use Rattle.zarrs_store.specs.Contents.{Lists, IsChildKey, IsChildPrefix}
-use Rattle.zarrs_store.specs.Entries.{is_child_key, child_prefixes}
+use Rattle.zarrs_store.specs.StepsOfStores.{is_child_key, child_prefixes}
 use Rattle.zarrs_store.specs.Places.{IsRange, digits, keys_below}
 use Rattle.zarrs_store.proofs.EntryLemmas.{shown}
 use Rattle.zarrs_store.proofs.ListLemmas.{Lists-child_keys, Lists-child_prefixes}

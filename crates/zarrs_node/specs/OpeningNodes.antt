@@ -12,13 +12,13 @@ use Rattle.zarrs_meta.specs.declared.node.NodeMetadata.TheVariants.{Group, Array
 use Rattle.zarrs_config.specs.declared.version.MetadataRetrieveVersion.{MetadataRetrieveVersion}
 use Rattle.zarrs_config.specs.declared.version.UseConsolidatedMetadata.{UseConsolidatedMetadata}
 use Rattle.zarrs_block.specs.Block.{Block}
-use Rattle.zarrs_block.specs.Used.{used, RefusesUse}
+use Rattle.zarrs_block.specs.Policy.{block_to_use, RefusesUse}
 use Rattle.zarrs_block.specs.Refused.{IsMissing}
 use Rattle.zarrs_block.specs.declared.node_create_error.NodeCreateError.{NodeCreateError}
 use Rattle.zarrs_block.specs.declared.node_create_error.NodeCreateError.TheVariants.{NodePathError}
 use Rattle.zarrs_block.specs.Meaning.{meaning, node, nothing, bad}
 use Rattle.zarrs_node.specs.Forest.{Forest, none, Shows}
-use Rattle.zarrs_node.specs.Below.{block_at, NodesBelow, IsGoodBelow, ShowsBadBelow}
+use Rattle.zarrs_node.specs.BlocksBelow.{block_at, NodesBelow, IsGoodBelow, ShowsBadBelow}
 
 -- ---- by a choice of a block, or of a listing, or of neither
 
@@ -41,7 +41,7 @@ RefusesChosen s v (Some c) recursive b e = ShowsBadBelow s v c recursive b e
 
 -- the choice of a block for the nodes below b, where b has these metadata
 abbrev pub choice : Contents → UseConsolidatedMetadata → Path → NodeMetadata → Option (Option Block)
-choice s policy b m = used (block_at s b m) policy
+choice s policy b m = block_to_use (block_at s b m) policy
 
 -- below an array there is nothing, and f shows what stands below a group
 abbrev pub ShowsNode : Contents → MetadataRetrieveVersion → UseConsolidatedMetadata → Path → NodeMetadata → Forest → Type 0

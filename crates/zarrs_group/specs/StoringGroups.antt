@@ -1,5 +1,5 @@
 -- Zarr core specification 3.1, "Group metadata", the keys of Zarr version 2, and its document `.zmetadata`: what storing and erasing a group does to a store.
-use Rattle.std.specs.Prelude.{false, ◌≡◌, ℕ, Bool, IsTrue, List, [], ◌∷◌, ◌++◌, if◌then◌else◌, Option, Some, None, option_map, map}
+use Rattle.std.specs.Prelude.{if◌then◌else◌, ◌≡◌, ℕ, Bool, IsTrue, List, [], ◌∷◌, ◌++◌, Option, Some, None, option_map, map}
 use Rattle.serde_json.specs.Data.{object, Members}
 use Rattle.zarrs_store.specs.Segments.{Segments}
 use Rattle.zarrs_store.specs.Contents.{Contents}
@@ -69,16 +69,11 @@ RefusesMetadata p m block (Other text) = ⊥
 RefusesMetadata p m block OutOfMemory = Unit {0}
 
 -- a refused store: of a group that is not plain, with the store unchanged; or of a plain one by the store or as out of memory, with a first part of the edits done
-abbrev pub RefusesStore : Bool → Path → GroupMetadata → Option Block → Contents → Contents → StorageError → Type 0
-RefusesStore can_fail p m block S S' Fault = IsTrue can_fail × (stored_fault p m block ≡ None) × IsCutShort S (store_edits p m block) S'
-RefusesStore can_fail p m block S S' (InvalidMetadata key fault) = (S' ≡ S) × (stored_fault p m block ≡ Some (key, fault))
-RefusesStore can_fail p m block S S' (Other text) = ⊥
-RefusesStore can_fail p m block S S' OutOfMemory = IsCutShort S (store_edits p m block) S'
-
--- the bytes of each document of the metadata are read as that document
-abbrev pub AreReadBack : GroupMetadata → Type 0
-AreReadBack (V3 m) = IsReadBack (group_v3_tree m)
-AreReadBack (V2 m) = (is_empty m.attributes ≡ false → IsReadBack (object m.attributes)) × IsReadBack (group_v2_tree (group_without_attributes m))
+abbrev pub RefusesStoring : Bool → Path → GroupMetadata → Option Block → Contents → Contents → StorageError → Type 0
+RefusesStoring can_fail p m block S S' Fault = IsTrue can_fail × (stored_fault p m block ≡ None) × IsCutShort S (store_edits p m block) S'
+RefusesStoring can_fail p m block S S' (InvalidMetadata key fault) = (S' ≡ S) × (stored_fault p m block ≡ Some (key, fault))
+RefusesStoring can_fail p m block S S' (Other text) = ⊥
+RefusesStoring can_fail p m block S S' OutOfMemory = IsCutShort S (store_edits p m block) S'
 
 -- the bytes of the block beside the metadata of version 2 are read as its document `.zmetadata`
 abbrev pub IsBlockReadBack : GroupMetadata → Option Block → Type 0

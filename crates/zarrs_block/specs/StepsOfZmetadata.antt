@@ -5,16 +5,16 @@
 --     tree_among runs t file      a document that runs have for a text
 --     gathered_at runs run t file      a document that a run has for a text, or that the runs before it have
 --     RunsAscend runs      the paths of the runs ascend
---     IsPlace t r      the path and the file that a member's name tells, where it counts below the group
---     are_named ms, RefusesNames ms      the names that count below the group are those of nodes; that they are not
-use Rattle.std.specs.Prelude.{◌≡◌, ◌≢◌, ◌⊎◌, IfSome, ℕ, Bool, true, false, not, ◌&&◌, List, [], ◌∷◌, ◌++◌, map, Option, Some, None, Result, Ok, Err, option_map, if◌then◌else◌, string_bytes, codes, bytes_eq}
+--     IsPlace t r      the path and the file that a member's name tells, where it counts documents_below the group
+--     are_named ms, RefusesNames ms      the names that count documents_below the group are those of nodes; that they are not
+use Rattle.std.specs.Prelude.{◌≡◌, ◌≢◌, ◌⊎◌, IfSome, ℕ, Bool, true, false, not, ◌&&◌, List, [], ◌∷◌, ◌++◌, map, Option, Some, None, Result, Ok, Err, option_map, if◌then◌else◌, string_bytes, codes, bytes_eq, All, IsTrue}
 use Rattle.std.specs.List.{list_all}
 use Rattle.std.specs.Result.{result_ok}
 use Rattle.std.specs.List.Sorted.{IsStrictlySortedBy}
 use Rattle.std.specs.Ordering.{is_lt}
 use denote.Ref.{Bor}
 use Rattle.serde_json.specs.Data.{Data, Members}
-use Rattle.serde_json.specs.Find.{get_member}
+use Rattle.serde_json.specs.Find.{get_member, as_object}
 use Rattle.serde_json.specs.View.{view}
 use Rattle.serde_json.specs.Written.{has_float}
 use Rattle.zarrs_store.specs.Segments.{bytes_cmp, last_segment}
@@ -22,11 +22,10 @@ use Rattle.zarrs_fault.specs.declared.fault.MetadataFault.{MetadataFault}
 use Rattle.zarrs_fault.specs.declared.fault.MetadataFault.TheVariants.{BadMember, OutOfMemory}
 use Rattle.zarrs_path.specs.Keys.{zarray, zgroup, zattrs}
 use Rattle.zarrs_path.specs.Names.{is_name}
-use Rattle.zarrs_path.specs.Paths.{IsPath}
+use Rattle.zarrs_path.specs.Paths.{IsPath, Path}
 use Rattle.zarrs_form.specs.Documents as steps
 use Rattle.zarrs_form.specs.Documents.{required}
 use Rattle.zarrs_form.specs.Forms.{is_nil}
-use Rattle.serde_json.specs.Find.{as_object}
 use Rattle.zarrs_meta.specs.ArrayV2.{array_v2_of}
 use Rattle.zarrs_meta.specs.GroupV2.{group_v2_of}
 use Rattle.zarrs_meta.specs.Attributes.{attributes_of}
@@ -38,11 +37,14 @@ use Rattle.zarrs_meta.specs.declared.node.NodeMetadata.{NodeMetadata}
 use Rattle.zarrs_meta.specs.declared.node.NodeMetadata.TheVariants.{Group, Array}
 use Rattle.zarrs_block.specs.Block.{Block}
 use Rattle.zarrs_block.specs.Small.{is_document_v2, stretches}
-use Rattle.zarrs_block.specs.Zmetadata.{one, before_last, below, small_block}
+use Rattle.zarrs_block.specs.Zmetadata.{one, before_last, documents_below, small_block, is_version_2}
 use Rattle.zarrs_block.specs.declared.zmetadata.Documents.{Documents}
 use Rattle.zarrs_block.specs.declared.zmetadata.File.{File}
 use Rattle.zarrs_block.specs.declared.zmetadata.Run.{Run}
 use Rattle.zarrs_block.specs.declared.zmetadata.File.TheVariants.{Array as array_file, Group as group_file, Attributes as attributes_file}
+use Rattle.zarrs_block.specs.declared.node_create_error.NodeCreateError.{NodeCreateError}
+use Rattle.zarrs_block.specs.declared.node_create_error.NodeCreateError.TheVariants.{MetadataVersionMismatch, OutOfMemory}
+use Rattle.zarrs_block.specs.Meaning.{node}
 
 -- ---- the documents of one path
 
@@ -127,8 +129,8 @@ IsJoined run next old new now =
 -- ---- the names of members
 
 -- the name is that of a document of version 2 below the group
-abbrev pub is_below : List ℕ → Bool
-is_below t = is_document_v2 (last_segment (stretches t)) && not (is_nil (before_last (stretches t)))
+abbrev pub is_below_group : List ℕ → Bool
+is_below_group t = is_document_v2 (last_segment (stretches t)) && not (is_nil (before_last (stretches t)))
 
 -- what a name of a file tells: which one it is, or that it is none
 abbrev pub IsFile : List ℕ → Option File → Type 0
@@ -137,14 +139,14 @@ IsFile t (Some file) = t ≡ file_name file
 
 -- what a member's name tells: that it does not count below the group, or the text of the path, whose parts are names, and the file, or that they are no names
 abbrev pub IsPlace : List ℕ → Result (Option (Bor (List ℕ) × File)) MetadataFault → Type 0
-IsPlace t (Ok None) = is_below t ≡ false
+IsPlace t (Ok None) = is_below_group t ≡ false
 IsPlace t (Ok (Some place)) = (t ≡ place.0.now ++ 47 ∷ file_name place.1) × IsPath (stretches place.0.now)
-IsPlace t (Err (BadMember name)) = (name ≡ codes "metadata") × (is_below t ≡ true) × (list_all is_name (before_last (stretches t)) ≡ false)
+IsPlace t (Err (BadMember name)) = (name ≡ codes "metadata") × (is_below_group t ≡ true) × (list_all is_name (before_last (stretches t)) ≡ false)
 IsPlace t (Err _) = ⊥
 
 -- the names that count below the group are those of nodes
 abbrev pub are_named : Members → Bool
-are_named ms = list_all (λ e. list_all is_name (before_last e.0)) (below ms)
+are_named ms = list_all (λ e. list_all is_name (before_last e.0)) (documents_below ms)
 
 -- a name that counts below the group is that of no node; or out of memory
 abbrev pub RefusesNames : Members → MetadataFault → Type 0
@@ -169,3 +171,15 @@ abbrev pub zmetadata_taken : Data → Result Block MetadataFault
 zmetadata_taken d =
     steps.◌>>=◌ (required (codes "zarr_consolidated_format") one d) λ _.
     steps.◌>>=◌ (required (codes "metadata") as_object d) small_block
+
+-- the node is of version 3, or out of memory
+abbrev pub RefusesWritingNode : NodeMetadata → NodeCreateError → Type 0
+RefusesWritingNode m MetadataVersionMismatch = is_version_2 m ≡ false
+RefusesWritingNode m OutOfMemory = Unit {0}
+RefusesWritingNode m _ = ⊥
+
+-- some node is of version 3, or out of memory
+abbrev pub RefusesWritingNodes : List (Path × NodeMetadata) → NodeCreateError → Type 0
+RefusesWritingNodes es MetadataVersionMismatch = All (λ e. IsTrue (is_version_2 e.1)) es → ⊥
+RefusesWritingNodes es OutOfMemory = Unit {0}
+RefusesWritingNodes es _ = ⊥

@@ -16,30 +16,30 @@ use Rattle.zarrs_block.specs.declared.node_create_error.NodeCreateError.{NodeCre
 use Rattle.zarrs_block.specs.declared.node_create_error.NodeCreateError.TheVariants.{MissingMetadata, OutOfMemory}
 
 -- the block of a consolidated metadata, where there is one
-abbrev pub seen : Option ConsolidatedMetadata → Option Block
-seen block = option_map (λ c. c.metadata) block
+abbrev pub as_block : Option ConsolidatedMetadata → Option Block
+as_block block = option_map (λ c. c.metadata) block
 
 -- the field `consolidated_metadata`, where it reads as a block
-abbrev pub fields_held : Members → Option Block
-fields_held ms = option_and_then (λ d. result_ok (block_of d)) (get_member (codes "consolidated_metadata") ms)
+abbrev pub block_in_fields : Members → Option Block
+block_in_fields ms = option_and_then (λ d. result_ok (block_of d)) (get_member (codes "consolidated_metadata") ms)
 
 -- the block that a version 3 group holds in its additional fields; a version 2 group has none
-abbrev pub group_held : GroupMetadata → Option Block
-group_held (V3 m) = fields_held m.additional_fields
-group_held (V2 m) = None
+abbrev pub block_in_group : GroupMetadata → Option Block
+block_in_group (V3 m) = block_in_fields m.additional_fields
+block_in_group (V2 m) = None
 
 -- the block that metadata hold; an array has none
-abbrev pub held : NodeMetadata → Option Block
-held (Group g) = group_held g
-held (Array a) = None
+abbrev pub block_in : NodeMetadata → Option Block
+block_in (Group g) = block_in_group g
+block_in (Array a) = None
 
 -- the block that is used or that there is none, or nothing where the want of a block is refused
-abbrev pub used : Option Block → UseConsolidatedMetadata → Option (Option Block)
-used block Never = Some None
-used (Some B) Auto = Some (Some B)
-used (Some B) Must = Some (Some B)
-used None Auto = Some None
-used None Must = None
+abbrev pub block_to_use : Option Block → UseConsolidatedMetadata → Option (Option Block)
+block_to_use block Never = Some None
+block_to_use (Some B) Auto = Some (Some B)
+block_to_use (Some B) Must = Some (Some B)
+block_to_use None Auto = Some None
+block_to_use None Must = None
 
 -- the want of a block is refused, and the error says so with the text of p; or out of memory for that text
 abbrev pub RefusesUse : Path → Option (Option Block) → NodeCreateError → Type 0

@@ -18,7 +18,7 @@ use Rattle.zarrs_block.specs.declared.node_create_error.NodeCreateError.{NodeCre
 use Rattle.zarrs_block.specs.declared.node_create_error.NodeCreateError.TheVariants as node
 use Rattle.zarrs_group.specs.declared.create_error.GroupCreateError.{GroupCreateError}
 use Rattle.zarrs_group.specs.declared.create_error.GroupCreateError.TheVariants as error
-use Rattle.zarrs_group.specs.Unsupported.{UnsupportedField}
+use Rattle.zarrs_group.specs.UnsupportedFields.{UnsupportedField}
 use Rattle.zarrs_block.specs.Meaning.{Meaning, nothing, bad}
 use Rattle.zarrs_group.specs.Meaning.{MeansGroup, group_meaning}
 
@@ -56,15 +56,15 @@ pub record HasUnsupported (S : Contents) (v : MetadataRetrieveVersion) (text : L
 
 -- opening is refused: the text is no path; the store can fail; a document is bad; there is none; a field must be understood; or out of memory.
 -- A path has one meaning, so no two of the others hold at once
-abbrev pub RefusesOpen : Bool → Contents → MetadataRetrieveVersion → List ℕ → GroupCreateError → Type 0
-RefusesOpen can_fail S v text (error.NodePathError e) = RefusesPath text e
-RefusesOpen can_fail S v text (error.AdditionalFieldUnsupportedError field) = HasUnsupported S v text field
-RefusesOpen can_fail S v text (error.StorageError storage.Fault) = IsTrue can_fail
-RefusesOpen can_fail S v text (error.StorageError (storage.InvalidMetadata key fault)) = MeansAt S v text (bad (node.StorageError (storage.InvalidMetadata key fault)))
-RefusesOpen can_fail S v text (error.StorageError (storage.Other said)) = ⊥
-RefusesOpen can_fail S v text (error.StorageError storage.OutOfMemory) = Unit {0}
-RefusesOpen can_fail S v text error.MissingMetadata = MeansAt S v text nothing
-RefusesOpen can_fail S v text error.OutOfMemory = Unit {0}
+abbrev pub RefusesOpeningGroup : Bool → Contents → MetadataRetrieveVersion → List ℕ → GroupCreateError → Type 0
+RefusesOpeningGroup can_fail S v text (error.NodePathError e) = RefusesPath text e
+RefusesOpeningGroup can_fail S v text (error.AdditionalFieldUnsupportedError field) = HasUnsupported S v text field
+RefusesOpeningGroup can_fail S v text (error.StorageError storage.Fault) = IsTrue can_fail
+RefusesOpeningGroup can_fail S v text (error.StorageError (storage.InvalidMetadata key fault)) = MeansAt S v text (bad (node.StorageError (storage.InvalidMetadata key fault)))
+RefusesOpeningGroup can_fail S v text (error.StorageError (storage.Other said)) = ⊥
+RefusesOpeningGroup can_fail S v text (error.StorageError storage.OutOfMemory) = Unit {0}
+RefusesOpeningGroup can_fail S v text error.MissingMetadata = MeansAt S v text nothing
+RefusesOpeningGroup can_fail S v text error.OutOfMemory = Unit {0}
 
 -- making a group is refused: the text is no path, or out of memory
 abbrev pub RefusesMaking : List ℕ → GroupCreateError → Type 0

@@ -13,17 +13,17 @@ use Rattle.zarrs_form.specs.Fields.{field_data}
 use Rattle.zarrs_meta.specs.declared.node.GroupMetadata.{GroupMetadata}
 use Rattle.zarrs_meta.specs.declared.node.GroupMetadata.TheVariants.{V3, V2}
 use Rattle.zarrs_block.specs.Block.{Block, block_tree, HasPlainNodes}
-use Rattle.zarrs_block.specs.Used.{group_held}
+use Rattle.zarrs_block.specs.Policy.{block_in_group}
 use Rattle.zarrs_block.specs.Zmetadata.{RefusesZmetadata}
 use Rattle.zarrs_block.specs.declared.node_create_error.NodeCreateError.{NodeCreateError}
 use Rattle.zarrs_block.specs.declared.node_create_error.NodeCreateError.TheVariants.{OutOfMemory}
-use Rattle.zarrs_node.specs.Below.{zmetadata_at}
-use Rattle.zarrs_group.specs.Beside.{IsBeside}
+use Rattle.zarrs_node.specs.BlocksBelow.{zmetadata_at}
+use Rattle.zarrs_group.specs.BlocksBeside.{IsBeside}
 use Rattle.zarrs_group.specs.Groups.{GroupState}
 
 -- the block of a group with these metadata and this block beside them: the one in the metadata of version 3, the one beside those of version 2
 abbrev pub held_in : GroupMetadata → Option Block → Option Block
-held_in (V3 m) block = group_held (V3 m)
+held_in (V3 m) block = block_in_group (V3 m)
 held_in (V2 m) block = block
 
 -- the block that a group holds, where there is one

@@ -11,8 +11,8 @@ pub record Failing : Type 0 where
   pub place : FaultAt
 
 -- it holds what the store in memory holds
-abbrev pub held : Failing → Contents
-held s = map.from_entries s.inner
+abbrev pub inner_contents : Failing → Contents
+inner_contents s = map.from_entries s.inner
 
 -- the first half of these bytes: half their number, rounded down
 abbrev pub first_half : List ℕ → List ℕ

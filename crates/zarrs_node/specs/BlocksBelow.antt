@@ -20,12 +20,12 @@ use Rattle.zarrs_config.specs.declared.version.MetadataRetrieveVersion.{Metadata
 use Rattle.zarrs_block.specs.Block.{Block, Entries, HasValidKeys}
 use Rattle.zarrs_config.specs.declared.version.UseConsolidatedMetadata.{UseConsolidatedMetadata}
 use Rattle.zarrs_config.specs.declared.version.UseConsolidatedMetadata.TheVariants.{Never}
-use Rattle.zarrs_block.specs.Used.{held, LacksBlockMemory}
+use Rattle.zarrs_block.specs.Policy.{block_in, LacksBlockMemory}
 use Rattle.zarrs_block.specs.Refused.{IsExcused}
 use Rattle.zarrs_block.specs.Zmetadata.{zmetadata_of, zmetadata_members, HoldsStore, IsClean}
-use Rattle.zarrs_block.specs.Expanded.{NamesBadKey}
+use Rattle.zarrs_block.specs.BlockExpansion.{NamesBadKey}
 use Rattle.zarrs_block.specs.declared.node_create_error.NodeCreateError.{NodeCreateError}
-use Rattle.zarrs_node.specs.Reached.{Kept}
+use Rattle.zarrs_node.specs.Reach.{Kept}
 use Rattle.zarrs_node.specs.Nodes.{Nodes, Bad, ShowsBad}
 
 -- the block that the document `.zmetadata` of b is, where it is there and reads as one
@@ -39,8 +39,8 @@ HoldsZmetadata s b B = (bytes : List ℕ) × (d : Data) × (ms : Members) × (ge
 -- the block that stands for the nodes below b in a store, where b has these metadata: of a version 2 group the one beside its documents, else the one that they hold
 abbrev pub block_at : Contents → Path → NodeMetadata → Option Block
 block_at s b (Group (V2 g)) = zmetadata_at s b
-block_at s b (Group (V3 g)) = held (Group (V3 g))
-block_at s b (Array a) = held (Array a)
+block_at s b (Group (V3 g)) = block_in (Group (V3 g))
+block_at s b (Array a) = block_in (Array a)
 
 -- the block was not found out: of a version 2 group, whose document is looked for in the store, for the fault of a store that can fail or out of
 -- memory; of a version 3 group out of memory for its field; of an array never; and never where no block is used

@@ -8,9 +8,9 @@ use Rattle.zarrs_config.specs.declared.version.MetadataRetrieveVersion.{Metadata
 use Rattle.zarrs_config.specs.declared.version.UseConsolidatedMetadata.{UseConsolidatedMetadata}
 use Rattle.zarrs_block.specs.Block.{Block}
 use Rattle.zarrs_block.specs.Meaning.{meaning, node}
-use Rattle.zarrs_node.specs.Below.{PairsBelow}
-use Rattle.zarrs_node.specs.Opened.{choice, IsCleanNode}
-use Rattle.zarrs_hierarchy.specs.Held.{Pairs, Holds, WithBase}
+use Rattle.zarrs_node.specs.BlocksBelow.{PairsBelow}
+use Rattle.zarrs_node.specs.OpeningNodes.{choice, IsCleanNode}
+use Rattle.zarrs_hierarchy.specs.PairsOfHierarchies.{Pairs, Holds, WithBase}
 use Rattle.zarrs_hierarchy.specs.Tree.{IsTreeOf}
 
 -- the pairs below b by the block that is chosen or by a listing; none where the want of a block is refused
