@@ -15,7 +15,7 @@ use Rattle.zarrs_form.specs.Forms.{is_nil}
 use Rattle.zarrs_meta.specs.declared.node.NodeMetadata.{NodeMetadata}
 use Rattle.zarrs_block.specs.Block.{Block, node_at_key}
 use Rattle.zarrs_block.specs.Meaning.{Meaning, node, nothing, bad}
-use Rattle.zarrs_block.specs.Small.{is_document_v2, stretches, counted}
+use Rattle.zarrs_block.specs.Small.{is_document_v2, stretches, counted_members}
 use Rattle.zarrs_block.specs.Zmetadata.{before_last, documents_below, is_bad, is_good, with_node, block_from}
 use Rattle.zarrs_block.proofs.Expansion.{same_text, at_itself}
 use Rattle.zarrs_block.proofs.KeyLaws.{one_text, slash_apart}
@@ -100,18 +100,18 @@ names_before : (t : List ℕ) → IsNamed t → IsPath (before_last (stretches t
 names_before t (ns, file, h, doc, is) = subst IsPath (sym (ap before_last (ap stretches is ∙ stretches_of ns file h doc) ∙ before_last-child ns file)) h
 
 -- each document that counts stands behind names
-counted_named : (ms : Members) → AreNamed ms → AllByRecursion IsBelowNames (counted ms)
+counted_named : (ms : Members) → AreNamed ms → AllByRecursion IsBelowNames (counted_members ms)
 counted_named no_members named = tt
 counted_named (member t d ms) named = by (is_document_v2 (last_segment (stretches t))) (counted_named ms named.1)
   where
-    by : (b : Bool) → AllByRecursion IsBelowNames (counted ms) → AllByRecursion IsBelowNames (cond b ((stretches t, d) ∷ counted ms) (counted ms))
+    by : (b : Bool) → AllByRecursion IsBelowNames (counted_members ms) → AllByRecursion IsBelowNames (cond b ((stretches t, d) ∷ counted_members ms) (counted_members ms))
     by true rest = (names_before t named.0, rest)
     by false rest = rest
 
 -- so does each below the group
 pub below_named : (ms : Members) → AreNamed ms → AllByRecursion IsBelowNames (documents_below ms)
 below_named ms named =
-    recursion_from_All IsBelowNames (documents_below ms) (All-filter (λ e. not (is_nil (before_last e.0))) IsBelowNames (counted ms) (All-from_recursion IsBelowNames (counted ms) (counted_named ms named)))
+    recursion_from_All IsBelowNames (documents_below ms) (All-filter (λ e. not (is_nil (before_last e.0))) IsBelowNames (counted_members ms) (All-from_recursion IsBelowNames (counted_members ms) (counted_named ms named)))
 
 or_true : (b : Bool) → (b || true) ≡ true
 or_true true = refl
@@ -151,5 +151,5 @@ module _ (n : List ℕ) (ns : Path) (h : IsPath (n ∷ ns)) (file : List ℕ) (d
     where
       by : (b : Bool) → bytes_eq (key_text name) t ≡ b → cond b (Some e) (get_member (key_text name) ms) ≡ Some d → (get_member (key_text name) ms ≡ Some d → list_any here (documents_below ms) ≡ true)
           → list_any here (documents_below (member t e ms)) ≡ true
-      by true at node_at_key rest = listed_first (stretches t) (ap stretches (sym ((bytes_eq-Decides (key_text name) t).0 at)) ∙ stretches_of (n ∷ ns) file h doc) e (counted ms)
-      by false at node_at_key rest = listed_later (is_document_v2 (last_segment (stretches t))) (stretches t, e) (counted ms) (rest node_at_key)
+      by true at node_at_key rest = listed_first (stretches t) (ap stretches (sym ((bytes_eq-Decides (key_text name) t).0 at)) ∙ stretches_of (n ∷ ns) file h doc) e (counted_members ms)
+      by false at node_at_key rest = listed_later (is_document_v2 (last_segment (stretches t))) (stretches t, e) (counted_members ms) (rest node_at_key)

@@ -21,7 +21,7 @@ use Rattle.zarrs_meta.specs.declared.node.NodeMetadata.{NodeMetadata}
 use Rattle.zarrs_block.specs.Block.{Block, IsAscending, node_at_key}
 use Rattle.zarrs_block.specs.declared.node_create_error.NodeCreateError.{NodeCreateError}
 use Rattle.zarrs_block.specs.Meaning.{Meaning, node, nothing, bad}
-use Rattle.zarrs_block.specs.Small.{small_meaning, stretches, counted, small}
+use Rattle.zarrs_block.specs.Small.{small_meaning, stretches, counted_members, small}
 use Rattle.zarrs_block.specs.Zmetadata.{before_last, documents_below, is_bad, is_good, with_node, block_from, small_block, zmetadata_members, zmetadata_of, HoldsStore, IsClean, IsZmetadataFault}
 use Rattle.zarrs_block.specs.StepsOfZmetadata.{read_documents, read_files, member_at, are_named}
 use Rattle.zarrs_block.proofs.Expansion.{at_itself, same_text}
@@ -183,14 +183,14 @@ module _ (ms : Members) where
 
   -- a document of the path counts
   abbrev pub HasDocument : Path → Type 0
-  HasDocument q = (f : List ℕ) × (d : Data) × (find key_cmp (q ++ f ∷ []) (counted ms) ≡ Some d)
+  HasDocument q = (f : List ℕ) × (d : Data) × (find key_cmp (q ++ f ∷ []) (counted_members ms) ≡ Some d)
 
   -- a document of a path counts, or it means nothing
   pub document_or_none : (q : Path) → HasDocument q ⊎ (result_ok (looked_up ms q) ≡ Some None)
-  document_or_none q = by (find key_cmp (q ++ zarray ∷ []) (counted ms)) refl (find key_cmp (q ++ zgroup ∷ []) (counted ms)) refl
+  document_or_none q = by (find key_cmp (q ++ zarray ∷ []) (counted_members ms)) refl (find key_cmp (q ++ zgroup ∷ []) (counted_members ms)) refl
     where
-      by : (a : Option Data) → find key_cmp (q ++ zarray ∷ []) (counted ms) ≡ a → (g : Option Data) → find key_cmp (q ++ zgroup ∷ []) (counted ms) ≡ g
-          → HasDocument q ⊎ (result_ok (read_documents a g (find key_cmp (q ++ zattrs ∷ []) (counted ms))) ≡ Some None)
+      by : (a : Option Data) → find key_cmp (q ++ zarray ∷ []) (counted_members ms) ≡ a → (g : Option Data) → find key_cmp (q ++ zgroup ∷ []) (counted_members ms) ≡ g
+          → HasDocument q ⊎ (result_ok (read_documents a g (find key_cmp (q ++ zattrs ∷ []) (counted_members ms))) ≡ Some None)
       by (Some d) is g _ = inl (zarray, d, is)
       by None _ (Some d) is = inl (zgroup, d, is)
       by None _ None _ = inr refl
@@ -199,18 +199,18 @@ module _ (ms : Members) where
   pub same_read : (b q : Path) → as_read (small_meaning (small b ms) (b ++ q)) ≡ as_read (meant q)
   same_read b q = based_read b q ms ∙ sym (based_read [] q ms)
 
-  module _ (good : all_good meant (counted ms) ≡ true) where
+  module _ (good : all_good meant (counted_members ms) ≡ true) where
     -- a path with a document is of names
     pub path_good : (n : List ℕ) (ns : Path) → HasDocument (n ∷ ns) → IsPath (n ∷ ns)
     path_good n ns (f, d, is) =
         subst IsPath (before_last-child (n ∷ ns) f)
-        (names_of_good meant ((n ∷ ns) ++ f ∷ []) (good_found meant (counted ms) ((n ∷ ns) ++ f ∷ []) d (ap is_nil (before_last-child (n ∷ ns) f)) good is))
+        (names_of_good meant ((n ∷ ns) ++ f ∷ []) (good_found meant (counted_members ms) ((n ∷ ns) ++ f ∷ []) d (ap is_nil (before_last-child (n ∷ ns) f)) good is))
 
     -- and is not bad
     pub sound_good : (n : List ℕ) (ns : Path) → HasDocument (n ∷ ns) → is_bad (meant (n ∷ ns)) ≡ false
     sound_good n ns (f, d, is) =
         subst (λ p. is_bad (meant p) ≡ false) (before_last-child (n ∷ ns) f)
-        (sound_of_good meant ((n ∷ ns) ++ f ∷ []) (good_found meant (counted ms) ((n ∷ ns) ++ f ∷ []) d (ap is_nil (before_last-child (n ∷ ns) f)) good is))
+        (sound_of_good meant ((n ∷ ns) ++ f ∷ []) (good_found meant (counted_members ms) ((n ∷ ns) ++ f ∷ []) d (ap is_nil (before_last-child (n ∷ ns) f)) good is))
 
     -- no path below the group is bad
     pub some_read : (n : List ℕ) (ns : Path) → result_ok (looked_up ms (n ∷ ns)) ≢ None
@@ -227,12 +227,12 @@ module _ (ms : Members) where
     pub meant_held : (n : List ℕ) (ns : Path) (m : NodeMetadata) → meant (n ∷ ns) ≡ node m → node_at_key (block_from meant (documents_below ms)) (key_text (n ∷ ns)) ≡ Some m
     meant_held n ns m is =
         let has = has_document n ns m is in
-        held_at meant n ns m (path_good n ns has) is has.0 has.1 (counted ms) good has.2
+        held_at meant n ns m (path_good n ns has) is has.0 has.1 (counted_members ms) good has.2
 
     -- the block holds the store
     pub holds_small : HoldsStore ms (block_from meant (documents_below ms))
     holds_small b t m = (
-      λ h. let w = meant_from meant t m (counted ms) h in (w.0, w.1, w.2, node_from (small_meaning (small b ms) (b ++ w.0 ∷ w.1)) m (same_read b (w.0 ∷ w.1) ∙ ap as_read w.3)),
+      λ h. let w = meant_from meant t m (counted_members ms) h in (w.0, w.1, w.2, node_from (small_meaning (small b ms) (b ++ w.0 ∷ w.1)) m (same_read b (w.0 ∷ w.1) ∙ ap as_read w.3)),
       λ w. ap (node_at_key (block_from meant (documents_below ms))) w.2 ∙ meant_held w.0 w.1 m (node_from (meant (w.0 ∷ w.1)) m (sym (same_read b (w.0 ∷ w.1)) ∙ ap as_read w.3)),
     )
 
@@ -240,16 +240,16 @@ module _ (ms : Members) where
     pub clean_small : IsClean ms
     clean_small = record {
       means = λ b n ns e is. some_read n ns (sym (based_read b (n ∷ ns) ms) ∙ ap as_read is);
-      named = All-from_recursion (λ e. IsPath (before_last e.0)) (counted ms) (all_paths meant (counted ms) good);
+      named = All-from_recursion (λ e. IsPath (before_last e.0)) (counted_members ms) (all_paths meant (counted_members ms) good);
     }
 
 -- ---- what a document that reads is
 
 -- the block of the members, where it is one, holds the store, which is clean, and its keys ascend
 small_law : (ms : Members) (B : Block) → small_block ms ≡ Ok B → (HoldsStore ms B × IsClean ms) × IsAscending B
-small_law ms B h = by (all_good (meant ms) (counted ms)) refl h
+small_law ms B h = by (all_good (meant ms) (counted_members ms)) refl h
   where
-    by : (x : Bool) → all_good (meant ms) (counted ms) ≡ x → (if x then Ok (block_from (meant ms) (documents_below ms)) else Err (BadMember (codes "metadata"))) ≡ Ok B → (HoldsStore ms B × IsClean ms) × IsAscending B
+    by : (x : Bool) → all_good (meant ms) (counted_members ms) ≡ x → (if x then Ok (block_from (meant ms) (documents_below ms)) else Err (BadMember (codes "metadata"))) ≡ Ok B → (HoldsStore ms B × IsClean ms) × IsAscending B
     by true good e =
         let is : block_from (meant ms) (documents_below ms) ≡ B = ap (λ r. unwrap_or (result_ok r) B) e in
         ((subst (HoldsStore ms) is (holds_small ms good), clean_small ms good), subst IsAscending is (from_ascends (meant ms) (documents_below ms)))
@@ -311,18 +311,18 @@ module _ (ms : Members) where
           and_from (list_all is_name (before_last x.0)) (list_all (λ e. list_all is_name (before_last e.0)) (below_of es)) (names_of_good here x.0 both.0) (again both.1)
 
   -- where some document is not good, the members are refused
-  refused_by : all_good here (counted ms) ≡ false → small_block ms ≡ Err (BadMember (codes "metadata"))
+  refused_by : all_good here (counted_members ms) ≡ false → small_block ms ≡ Err (BadMember (codes "metadata"))
   refused_by e = ap (λ b. if b then Ok (block_from here (documents_below ms)) else Err (BadMember (codes "metadata"))) e
 
   -- where a name is that of no node, the members are refused
   pub names_refused : are_named ms ≡ false → small_block ms ≡ Err (BadMember (codes "metadata"))
-  names_refused e = refused_by (false_from_ne_true (all_good here (counted ms)) (λ good. true≢false (sym (named_by (counted ms) good) ∙ e)))
+  names_refused e = refused_by (false_from_ne_true (all_good here (counted_members ms)) (λ good. true≢false (sym (named_by (counted_members ms) good) ∙ e)))
 
   -- where the documents at a text do not read, the members are refused
   pub trees_refused : (t : List ℕ) → result_ok (read_files (member_at ms t)) ≡ None → small_block ms ≡ Err (BadMember (codes "metadata"))
-  trees_refused t e = refused_by (false_from_ne_true (all_good here (counted ms)) (λ good. by (stretches t) refl (parts_some t) good))
+  trees_refused t e = refused_by (false_from_ne_true (all_good here (counted_members ms)) (λ good. by (stretches t) refl (parts_some t) good))
     where
-      by : (p : Path) → stretches t ≡ p → stretches t ≢ [] → all_good here (counted ms) ≡ true → ⊥
+      by : (p : Path) → stretches t ≡ p → stretches t ≢ [] → all_good here (counted_members ms) ≡ true → ⊥
       by [] is some good = some is
       by (n ∷ ns) is some good = some_read ms good n ns (sym (based_read [] (n ∷ ns) ms) ∙ ap (λ p. as_read (here p)) (sym is) ∙ text_read t ms ∙ e)
 
@@ -337,8 +337,8 @@ module _ (ms : Members) where
       by false own rest = and_from (list_all is_name (before_last x.0)) (list_all (λ e. list_all is_name (before_last e.0)) (below_of es)) own rest
 
   -- the documents of a clean store are good
-  clean_good : IsClean ms → all_good here (counted ms) ≡ true
-  clean_good h = good_by (counted ms) (all_named (counted ms) h.named) (λ n ns valid. fine (here (n ∷ ns)) (h.means [] n ns))
+  clean_good : IsClean ms → all_good here (counted_members ms) ≡ true
+  clean_good h = good_by (counted_members ms) (all_named (counted_members ms) h.named) (λ n ns valid. fine (here (n ∷ ns)) (h.means [] n ns))
     where
       fine : (x : Meaning) → ((e : NodeCreateError) → x ≢ bad e) → is_bad x ≡ false
       fine (node m) never = refl
@@ -347,9 +347,9 @@ module _ (ms : Members) where
 
   -- members that are refused are no clean store
   pub small_refused : (f : MetadataFault) → small_block ms ≡ Err f → (IsClean ms → ⊥) × (f ≡ BadMember (codes "metadata"))
-  small_refused f h = by (all_good here (counted ms)) refl h
+  small_refused f h = by (all_good here (counted_members ms)) refl h
     where
-      by : (x : Bool) → all_good here (counted ms) ≡ x → (if x then Ok (block_from here (documents_below ms)) else Err (BadMember (codes "metadata"))) ≡ Err f
+      by : (x : Bool) → all_good here (counted_members ms) ≡ x → (if x then Ok (block_from here (documents_below ms)) else Err (BadMember (codes "metadata"))) ≡ Err f
           → (IsClean ms → ⊥) × (f ≡ BadMember (codes "metadata"))
       by true good e = cc
       by false some e = let same : BadMember (codes "metadata") ≡ f = cc in (λ clean. true≢false (sym (clean_good clean) ∙ some), sym same)
@@ -360,8 +360,8 @@ module _ (ms : Members) where
     read_at n ns h = ap (λ p. as_read (here p)) (sym (parts_text n ns h)) ∙ text_read (key_text (n ∷ ns)) ms ∙ nodes (key_text (n ∷ ns))
 
     -- each document is good
-    every_good : all_good here (counted ms) ≡ true
-    every_good = good_by (counted ms) named (λ n ns h. not_bad (here (n ∷ ns)) (node_at_key B (key_text (n ∷ ns))) (read_at n ns h))
+    every_good : all_good here (counted_members ms) ≡ true
+    every_good = good_by (counted_members ms) named (λ n ns h. not_bad (here (n ∷ ns)) (node_at_key B (key_text (n ∷ ns))) (read_at n ns h))
 
     -- what is read at a text is what a path of that text means
     to_from : (t : List ℕ) (m : NodeMetadata) → node_at_key B t ≡ Some m → node_at_key (block_from here (documents_below ms)) t ≡ Some m
@@ -376,7 +376,7 @@ module _ (ms : Members) where
     -- and the other way round
     of_from : (t : List ℕ) (m : NodeMetadata) → node_at_key (block_from here (documents_below ms)) t ≡ Some m → node_at_key B t ≡ Some m
     of_from t m h =
-        let w = meant_from here t m (counted ms) h in
+        let w = meant_from here t m (counted_members ms) h in
         let valid : IsPath (w.0 ∷ w.1) = path_good ms every_good w.0 w.1 (has_document ms every_good w.0 w.1 m w.3) in
         let same : Some (node_at_key B (key_text (w.0 ∷ w.1))) ≡ Some (Some m) = sym (read_at w.0 w.1 valid) ∙ ap as_read w.3 in
         ap (node_at_key B) w.2 ∙ ap (λ o. unwrap_or o (Some m)) same

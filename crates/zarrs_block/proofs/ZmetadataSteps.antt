@@ -22,14 +22,14 @@ use Rattle.zarrs_store.proofs.ChildLemmas.{last_segment-child}
 use Rattle.zarrs_store.proofs.Cuts.{parts_one, parts_some, nonempty_is}
 use Rattle.zarrs_path.specs.Names.{is_name, is_node_name}
 use Rattle.zarrs_path.specs.Paths.{IsPath}
-use Rattle.zarrs_form.specs.Documents.{Gives, Refuses, document_of, formed, present, required}
+use Rattle.zarrs_form.specs.Documents.{Gives, Refuses, document_of, form_or_fault, member_or_fault, required_member}
 use Rattle.zarrs_form.specs.Documents as steps
 use Rattle.zarrs_form.specs.Forms.{is_nil}
 use Rattle.zarrs_form.proofs.PlainForms.{member_fits}
 use Rattle.zarrs_block.proofs.BlockLaws.{formed_some, without_floats_at}
 use Rattle.zarrs_meta.specs.declared.node.NodeMetadata.{NodeMetadata}
 use Rattle.zarrs_block.specs.Block.{Block, IsAscending, node_at_key, put}
-use Rattle.zarrs_block.specs.Small.{is_document_v2, stretches, counted}
+use Rattle.zarrs_block.specs.Small.{is_document_v2, stretches, counted_members}
 use Rattle.zarrs_block.specs.Zmetadata.{one, before_last, documents_below, small_block, zmetadata_members, zmetadata_of, HoldsStore, IsClean, IsZmetadataFault}
 use Rattle.zarrs_block.specs.StepsOfZmetadata.{file_name, is_file, member_at, first_tree, paths, run_tree, tree_among, RunsAscend, read_files, tree_in, is_below_group, IsPlace, are_named, RefusesNames, HaveNoFloat, HoldsNodes, RefusesTrees, zmetadata_taken}
 use Rattle.zarrs_block.specs.declared.consolidated.ConsolidatedMetadata.{ConsolidatedMetadata}
@@ -114,7 +114,7 @@ named_cons : (u : List ℕ) (d : Data) (ms : Members) → are_named (member u d 
 named_cons u d ms = by (is_document_v2 (last_segment (stretches u))) (is_nil (before_last (stretches u))) refl
   where
     by : (x y : Bool) → is_nil (before_last (stretches u)) ≡ y
-        → list_all (λ e. list_all is_name (before_last e.0)) (filter (λ e. not (is_nil (before_last e.0))) (if x then (stretches u, d) ∷ counted ms else counted ms))
+        → list_all (λ e. list_all is_name (before_last e.0)) (filter (λ e. not (is_nil (before_last e.0))) (if x then (stretches u, d) ∷ counted_members ms else counted_members ms))
         ≡ (if x && not y then list_all is_name (before_last (stretches u)) && are_named ms else are_named ms)
     by true true is = ap (λ b. list_all (λ (e : Segments × Data). list_all is_name (before_last e.0)) (cond (not b) ((stretches u, d) ∷ documents_below ms) (documents_below ms))) is
     by true false is = ap (λ b. list_all (λ (e : Segments × Data). list_all is_name (before_last e.0)) (cond (not b) ((stretches u, d) ∷ documents_below ms) (documents_below ms))) is
@@ -335,10 +335,10 @@ module _ (at : List ℕ → File → Option Data) (B : Block) (left : List Run) 
   not_read none = (string_bytes run.path, then_read.here (string_bytes run.path) ∙ ap (λ b. now_at (node_at_key B (string_bytes run.path)) (cond b (Some run.documents) (left_at runs (string_bytes run.path)))) (at_itself (string_bytes run.path)) ∙ none)
 
   -- the refusal of a reading is one of the documents
-  pub refused_node : (fault : MetadataFault) → Refuses fault (formed (codes "metadata") (result_ok (read_files (tree_in run.documents)))) → RefusesTrees at fault
+  pub refused_node : (fault : MetadataFault) → Refuses fault (form_or_fault (codes "metadata") (result_ok (read_files (tree_in run.documents)))) → RefusesTrees at fault
   refused_node fault refused = by (result_ok (read_files (tree_in run.documents))) refl fault refused
     where
-      by : (o : Option (Option NodeMetadata)) → result_ok (read_files (tree_in run.documents)) ≡ o → (fault : MetadataFault) → Refuses fault (formed (codes "metadata") o) → RefusesTrees at fault
+      by : (o : Option (Option NodeMetadata)) → result_ok (read_files (tree_in run.documents)) ≡ o → (fault : MetadataFault) → Refuses fault (form_or_fault (codes "metadata") o) → RefusesTrees at fault
       by (Some x) none NotJson refused = cc
       by (Some x) none UnsupportedNumber refused = cc
       by (Some x) none NotAnObject refused = cc
@@ -418,11 +418,11 @@ module _ (ms : Members) where
 
 -- once its members are told, the rest of a document is read of them
 taken_by : (d : Data) (r : Result Members MetadataFault) (ms : Members) → r ≡ Ok ms
-    → steps.◌>>=◌ (steps.◌>>=◌ r λ _. steps.◌>>=◌ (required (codes "zarr_consolidated_format") one d) λ _. required (codes "metadata") as_object d) small_block ≡ zmetadata_taken d
-taken_by d (Ok ns) ms is = by (required (codes "zarr_consolidated_format") one d)
+    → steps.◌>>=◌ (steps.◌>>=◌ r λ _. steps.◌>>=◌ (required_member (codes "zarr_consolidated_format") one d) λ _. required_member (codes "metadata") as_object d) small_block ≡ zmetadata_taken d
+taken_by d (Ok ns) ms is = by (required_member (codes "zarr_consolidated_format") one d)
   where
-    by : (q : Result (Unit {0}) MetadataFault) → steps.◌>>=◌ (steps.◌>>=◌ q λ _. required (codes "metadata") as_object d) small_block
-        ≡ (steps.◌>>=◌ q λ _. steps.◌>>=◌ (required (codes "metadata") as_object d) small_block)
+    by : (q : Result (Unit {0}) MetadataFault) → steps.◌>>=◌ (steps.◌>>=◌ q λ _. required_member (codes "metadata") as_object d) small_block
+        ≡ (steps.◌>>=◌ q λ _. steps.◌>>=◌ (required_member (codes "metadata") as_object d) small_block)
     by (Ok x) = refl
     by (Err e) = refl
 taken_by d (Err e) ms is = cc
@@ -436,10 +436,10 @@ no_float_of ms reads = by (members_have_float ms) refl
     by true some = let bad : Err UnsupportedNumber ≡ Ok ms = sym (ap (λ b. if b then Err UnsupportedNumber else Ok ms) some) ∙ reads in cc
 
 -- nor have the members that a document has to have
-pub no_float_in : (ms ns : Members) → document_of (object ms) ≡ Ok ms → required (codes "metadata") as_object (object ms) ≡ Ok ns → members_have_float ns ≡ false
+pub no_float_in : (ms ns : Members) → document_of (object ms) ≡ Ok ms → required_member (codes "metadata") as_object (object ms) ≡ Ok ns → members_have_float ns ≡ false
 no_float_in ms ns reads is = by (get_member (codes "metadata") ms) refl is
   where
-    by : (o : Option Data) → get_member (codes "metadata") ms ≡ o → steps.◌>>=◌ (present (codes "metadata") o) (λ d. formed (codes "metadata") (as_object d)) ≡ Ok ns → members_have_float ns ≡ false
+    by : (o : Option Data) → get_member (codes "metadata") ms ≡ o → steps.◌>>=◌ (member_or_fault (codes "metadata") o) (λ d. form_or_fault (codes "metadata") (as_object d)) ≡ Ok ns → members_have_float ns ≡ false
     by None at e = cc
     by (Some d) at e = without_floats_at (codes "metadata") ms d ns (no_float_of ms reads) at (formed_some (codes "metadata") (as_object d) ns e)
 
@@ -456,7 +456,7 @@ taken_is d ms is = taken_by d (document_of d) ms is
 document_faults : (d : Data) (f : MetadataFault) → document_of d ≡ Err f → zmetadata_of d ≡ Err f
 unfolding zmetadata_of
 document_faults d f e =
-    ap (λ (r : Result Members MetadataFault). steps.◌>>=◌ (steps.◌>>=◌ r λ _. steps.◌>>=◌ (required (codes "zarr_consolidated_format") one d) λ _. required (codes "metadata") as_object d) small_block) e
+    ap (λ (r : Result Members MetadataFault). steps.◌>>=◌ (steps.◌>>=◌ r λ _. steps.◌>>=◌ (required_member (codes "zarr_consolidated_format") one d) λ _. required_member (codes "metadata") as_object d) small_block) e
 
 module _ (d : Data) where
   -- what refuses the members refuses the document

@@ -14,7 +14,7 @@ use Rattle.std.specs.List.Sorted.{IsStrictlySortedBy}
 use Rattle.zarrs_store.specs.Segments.{bytes_cmp, key_text}
 use Rattle.zarrs_fault.specs.declared.fault.MetadataFault.{MetadataFault}
 use Rattle.zarrs_path.specs.Paths.{Path, IsPath}
-use Rattle.zarrs_form.specs.Documents.{document_of, required, optional}
+use Rattle.zarrs_form.specs.Documents.{document_of, required_member, optional_member}
 use Rattle.zarrs_form.specs.Documents as steps
 use Rattle.zarrs_form.specs.Forms.{◌>>=◌}
 use Rattle.zarrs_meta.specs.Node.{node_of, node_tree, is_plain_node}
@@ -91,9 +91,9 @@ nodes d = option_and_then nodes_of (as_object d)
 unfoldable pub block_of : Data → Result Block MetadataFault
 block_of d =
     steps.◌>>=◌ (document_of d) λ _.
-    steps.◌>>=◌ (required (codes "kind") inline d) λ _.
-    steps.◌>>=◌ (optional (codes "must_understand") tt untrue d) λ _.
-    required (codes "metadata") nodes d
+    steps.◌>>=◌ (required_member (codes "kind") inline d) λ _.
+    steps.◌>>=◌ (optional_member (codes "must_understand") tt untrue d) λ _.
+    required_member (codes "metadata") nodes d
 
 -- ---- the written form
 

@@ -24,7 +24,7 @@ use Rattle.zarrs_path.specs.Keys.{zarray, zgroup, zattrs}
 use Rattle.zarrs_path.specs.Names.{is_name}
 use Rattle.zarrs_path.specs.Paths.{IsPath, Path}
 use Rattle.zarrs_form.specs.Documents as steps
-use Rattle.zarrs_form.specs.Documents.{required}
+use Rattle.zarrs_form.specs.Documents.{required_member}
 use Rattle.zarrs_form.specs.Forms.{is_nil}
 use Rattle.zarrs_meta.specs.ArrayV2.{array_v2_of}
 use Rattle.zarrs_meta.specs.GroupV2.{group_v2_of}
@@ -169,8 +169,8 @@ RefusesTrees document _ = ⊥
 -- the block of the members of a document, or the first fault
 abbrev pub zmetadata_taken : Data → Result Block MetadataFault
 zmetadata_taken d =
-    steps.◌>>=◌ (required (codes "zarr_consolidated_format") one d) λ _.
-    steps.◌>>=◌ (required (codes "metadata") as_object d) small_block
+    steps.◌>>=◌ (required_member (codes "zarr_consolidated_format") one d) λ _.
+    steps.◌>>=◌ (required_member (codes "metadata") as_object d) small_block
 
 -- the node is of version 3, or out of memory
 abbrev pub RefusesWritingNode : NodeMetadata → NodeCreateError → Type 0

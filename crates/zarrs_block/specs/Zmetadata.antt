@@ -17,7 +17,7 @@ use Rattle.zarrs_fault.specs.declared.fault.MetadataFault.TheVariants.{BadMember
 use Rattle.zarrs_path.specs.Keys.{zarray, zgroup, zattrs}
 use Rattle.zarrs_path.specs.Names.{is_name}
 use Rattle.zarrs_path.specs.Paths.{Path, IsPath}
-use Rattle.zarrs_form.specs.Documents.{document_of, required, is_empty}
+use Rattle.zarrs_form.specs.Documents.{document_of, required_member, is_empty}
 use Rattle.zarrs_form.specs.Documents as steps
 use Rattle.zarrs_form.specs.Forms.{number_u64, is_nil}
 use Rattle.zarrs_meta.specs.ArrayV2.{array_v2_tree}
@@ -33,7 +33,7 @@ use Rattle.zarrs_block.specs.BlockExpansion.{RefusesKeys, pairs_at, paths_at}
 use Rattle.zarrs_block.specs.declared.node_create_error.NodeCreateError.{NodeCreateError}
 use Rattle.zarrs_block.specs.declared.node_create_error.NodeCreateError.TheVariants.{MetadataVersionMismatch}
 use Rattle.zarrs_block.specs.Meaning.{Meaning, Means, node, nothing, bad}
-use Rattle.zarrs_block.specs.Small.{is_document_v2, counted, small, small_meaning}
+use Rattle.zarrs_block.specs.Small.{is_document_v2, counted_members, small, small_meaning}
 
 -- ---- reading
 
@@ -45,8 +45,8 @@ one d = option_and_then (λ n. if n == 1 then Some tt else None) (number_u64 d)
 abbrev pub zmetadata_members : Data → Result Members MetadataFault
 zmetadata_members d =
     steps.◌>>=◌ (document_of d) λ _.
-    steps.◌>>=◌ (required (codes "zarr_consolidated_format") one d) λ _.
-    required (codes "metadata") as_object d
+    steps.◌>>=◌ (required_member (codes "zarr_consolidated_format") one d) λ _.
+    required_member (codes "metadata") as_object d
 
 -- all segments but the last
 abbrev pub before_last : Segments → Segments
@@ -56,7 +56,7 @@ before_last (s ∷ t ∷ ss) = s ∷ before_last (t ∷ ss)
 
 -- the documents that count below the group: those of the group itself have one segment alone
 abbrev pub documents_below : Members → List (Segments × Data)
-documents_below ms = filter (λ e. not (is_nil (before_last e.0))) (counted ms)
+documents_below ms = filter (λ e. not (is_nil (before_last e.0))) (counted_members ms)
 
 -- the path is bad
 abbrev pub is_bad : Meaning → Bool
@@ -98,7 +98,7 @@ HoldsStore ms B = (b : Path) → IsBlockOf (Means (small_meaning (small b ms))) 
 -- below no base a path is bad in the small store behind it, and each document that counts stands below names
 pub record IsClean (ms : Members) : Type 0 where
   pub means : (b : Path) (n : List ℕ) (ns : Path) (e : NodeCreateError) → small_meaning (small b ms) (b ++ n ∷ ns) ≢ bad e
-  pub named : All (λ e. IsPath (before_last e.0)) (counted ms)
+  pub named : All (λ e. IsPath (before_last e.0)) (counted_members ms)
 
 -- the fault of a document that is no form of format 1; or its members are no clean store, and the fault is that of the member that has them
 abbrev pub IsZmetadataFault : Data → MetadataFault → Type 0

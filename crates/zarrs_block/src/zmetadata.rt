@@ -8,7 +8,7 @@ ghost use Rattle.serde_json.specs.Find.{as_object};
 ghost use Rattle.serde_json.specs.View.{view, members_view};
 ghost use Rattle.serde_json.specs.Written.{has_float, members_have_float};
 ghost use Rattle.zarrs_path.specs.Names.{is_name};
-ghost use Rattle.zarrs_form.specs.Documents.{Gives, document_of, formed, required};
+ghost use Rattle.zarrs_form.specs.Documents.{Gives, document_of, form_or_fault, required_member};
 ghost use Rattle.zarrs_meta.specs.ArrayV2.{array_v2_of};
 ghost use Rattle.zarrs_meta.specs.GroupV2.{group_v2_of};
 ghost use Rattle.zarrs_meta.specs.Node.{array_with, group_with};
@@ -93,7 +93,7 @@ fn block_of(
 
 // Asks whether the member `zarr_consolidated_format` is the number 1.
 fn ask_consolidated_format(members: &Map<String, Value>) -> Result<(), MetadataFault>
-    ensures { result ≡ required (codes "zarr_consolidated_format") one (object (members_view members.now.entries)) }
+    ensures { result ≡ required_member (codes "zarr_consolidated_format") one (object (members_view members.now.entries)) }
 {
     let Some(format) = member(members, "zarr_consolidated_format") else {
         return Err(MetadataFault::MissingMember(MemberName::new("zarr_consolidated_format")));
@@ -106,7 +106,7 @@ fn ask_consolidated_format(members: &Map<String, Value>) -> Result<(), MetadataF
 
 // Takes the member `metadata` out of the members.
 fn take_documents(members: &mut Map<String, Value>) -> Result<Map<String, Value>, MetadataFault>
-    ensures { Gives (λ documents. members_view documents.entries) result (required (codes "metadata") as_object (object (members_view members.old.entries))) }
+    ensures { Gives (λ documents. members_view documents.entries) result (required_member (codes "metadata") as_object (object (members_view members.old.entries))) }
 {
     let Some(value) = take_member(members, "metadata") else {
         return Err(MetadataFault::MissingMember(MemberName::new("metadata")));
@@ -353,7 +353,7 @@ fn nodes_of(alloc: Global, runs: Vec<Run>) -> Result<ConsolidatedMetadataMetadat
 // The node that the documents of a path are, if they are one.
 fn node_of(alloc: Global, documents: Documents) -> Result<Option<NodeMetadata>, MetadataFault>
     requires { HaveNoFloat (tree_in documents) }
-    ensures { Gives (λ node. node) result (formed (codes "metadata") (result_ok (read_files (tree_in documents)))) }
+    ensures { Gives (λ node. node) result (form_or_fault (codes "metadata") (result_ok (read_files (tree_in documents)))) }
 {
     match read_node(alloc, documents) {
         Ok(node) => Ok(node),

@@ -14,7 +14,7 @@ use Rattle.zarrs_path.specs.Keys.{zarray, zgroup, zmetadata}
 use Rattle.zarrs_path.specs.declared.node_path.NodePathError.TheVariants.{Invalid as InvalidPath, OutOfMemory as NoPathMemory}
 use Rattle.zarrs_path.specs.Names.{is_name}
 use Rattle.zarrs_path.specs.Paths.{Path, IsPath}
-use Rattle.zarrs_form.specs.Documents.{◌>>=◌, json_of, parsed, of_bytes}
+use Rattle.zarrs_form.specs.Documents.{◌>>=◌, json_of, tree_or_fault, of_bytes}
 use Rattle.zarrs_meta.specs.declared.attributes.AttributesDocument.{AttributesDocument}
 use Rattle.zarrs_meta.specs.declared.node.GroupMetadata.{GroupMetadata}
 use Rattle.zarrs_meta.specs.declared.node.GroupMetadata.TheVariants.{V3, V2}
@@ -142,7 +142,7 @@ beside_read s p m = at m
 
     by_bytes : (o : Option (List ℕ)) → IsBeside (option_and_then (λ bytes. result_ok (of_bytes zmetadata_of bytes)) o)
     by_bytes None = tt
-    by_bytes (Some bytes) = by_tree (parsed (json_of bytes))
+    by_bytes (Some bytes) = by_tree (tree_or_fault (json_of bytes))
 
     at : (m : GroupMetadata) → IsBeside (block_beside s p m)
     at (V3 g) = tt

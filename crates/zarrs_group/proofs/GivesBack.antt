@@ -20,7 +20,7 @@ use Rattle.zarrs_config.specs.declared.version.MetadataRetrieveVersion.{Metadata
 use Rattle.zarrs_config.specs.declared.version.MetadataRetrieveVersion.TheVariants as retrieve
 use Rattle.zarrs_config.specs.declared.version.UseConsolidatedMetadata.{UseConsolidatedMetadata}
 use Rattle.zarrs_config.specs.declared.version.UseConsolidatedMetadata.TheVariants.{Auto, Must, Never}
-use Rattle.zarrs_form.specs.Documents.{◌>>=◌, json_of, parsed, of_bytes, document_of, format_of, node_type_of}
+use Rattle.zarrs_form.specs.Documents.{◌>>=◌, json_of, tree_or_fault, of_bytes, document_of, format_of, node_type_of}
 use Rattle.zarrs_meta.specs.GroupV3.{group_v3_of}
 use Rattle.zarrs_meta.specs.Node.{node_of, zarr_json_of}
 use Rattle.zarrs_meta.specs.declared.group_v2.GroupMetadataV2.{GroupMetadataV2}
@@ -255,7 +255,7 @@ group_is_node d m e = let p = read_parts d m e in node_from d m p.0 p.1 p.2 (oth
 line_says : (key : Segments) (m : GroupMetadataV3) (after : Meaning) (o : Option (List ℕ)) → group_v3_line (document_from (of_bytes group_v3_of) key o) nothing ≡ node (Group (V3 m))
     → version_3_line (document_from (of_bytes zarr_json_of) key o) after ≡ node (Group (V3 m))
 line_says key m after None e = cc
-line_says key m after (Some bytes) e = by_tree (parsed (json_of bytes)) e
+line_says key m after (Some bytes) e = by_tree (tree_or_fault (json_of bytes)) e
   where
     by_group : (d : Data) (r : Result GroupMetadataV3 MetadataFault) → group_v3_of d ≡ r → group_v3_line (document_or_fault key r) nothing ≡ node (Group (V3 m)) → version_3_line (document_or_fault key (zarr_json_of d)) after ≡ node (Group (V3 m))
     by_group d (Ok k) is e = ap (λ r. version_3_line (document_or_fault key r) after) (group_is_node d k is) ∙ e

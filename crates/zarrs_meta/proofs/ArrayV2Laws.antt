@@ -5,7 +5,7 @@ use Rattle.serde_json.specs.Data.{Data, number, string, object, unsigned, Member
 use Rattle.serde_json.specs.Find.{get_member, as_object}
 use Rattle.serde_json.specs.Written.{has_float, members_have_float}
 use Rattle.serde_json.proofs.Views.{get_member-put}
-use Rattle.zarrs_form.specs.Documents.{besides, has_own, is_empty, optional_from, required, optional, format_of}
+use Rattle.zarrs_form.specs.Documents.{besides, has_own, is_empty, optional_found, required_member, optional_member, format_of}
 use Rattle.zarrs_form.specs.Forms.{number_u64, any, nullable, list_of, number_data, list_data, nullable_data, none_or, fits, unless, put_rows}
 use Rattle.zarrs_form.specs.FormsV2.{codec_names, codec, codec_data, codec_fits, data_type, data_type_data, data_type_fits, order, order_data, separator, separator_data, has_zero, chunk_lengths}
 use Rattle.zarrs_meta.specs.ArrayV2.{array_v2_names, array_v2_of, array_v2_rows, array_v2_tree, is_plain_array_v2}
@@ -161,38 +161,38 @@ module _ (m : ArrayMetadataV2) (plain : IsTrue (is_plain_array_v2 m)) where
   pub has_shape : get_member (codes "shape") whole ≡ Some (list_data number_data m.shape)
   has_shape = at (codes "shape")
 
-  shape : required (codes "shape") (list_of number_u64) (object whole) ≡ Ok m.shape
+  shape : required_member (codes "shape") (list_of number_u64) (object whole) ≡ Ok m.shape
   shape = rw (has_shape, list_again number_u64 number_data number_again m.shape) refl
 
-  chunks : required (codes "chunks") chunk_lengths (object whole) ≡ Ok m.chunks
+  chunks : required_member (codes "chunks") chunk_lengths (object whole) ≡ Ok m.chunks
   chunks = let here : get_member (codes "chunks") whole ≡ Some (list_data number_data m.chunks) = at (codes "chunks") in rw (here, chunks_again m.chunks parts.0) refl
 
-  dtype : required (codes "dtype") data_type (object whole) ≡ Ok m.dtype
+  dtype : required_member (codes "dtype") data_type (object whole) ≡ Ok m.dtype
   dtype = let here : get_member (codes "dtype") whole ≡ Some (data_type_data m.dtype) = at (codes "dtype") in rw (here, data_type_again m.dtype) refl
 
-  fill_value : required (codes "fill_value") any (object whole) ≡ Ok m.fill_value
+  fill_value : required_member (codes "fill_value") any (object whole) ≡ Ok m.fill_value
   fill_value = let here : get_member (codes "fill_value") whole ≡ Some m.fill_value = at (codes "fill_value") in rw here refl
 
-  array_order : required (codes "order") order (object whole) ≡ Ok m.order
+  array_order : required_member (codes "order") order (object whole) ≡ Ok m.order
   array_order = let here : get_member (codes "order") whole ≡ Some (order_data m.order) = at (codes "order") in rw (here, order_again m.order) refl
 
-  compressor : optional (codes "compressor") None (nullable codec) (object whole) ≡ Ok m.compressor
+  compressor : optional_member (codes "compressor") None (nullable codec) (object whole) ≡ Ok m.compressor
   compressor =
       let here : get_member (codes "compressor") whole ≡ Some (nullable_data codec_data m.compressor) = at (codes "compressor") in
       rw (here, compressor_again m.compressor parts.3) refl
 
-  filters : optional (codes "filters") None (nullable (list_of codec)) (object whole) ≡ Ok m.filters
+  filters : optional_member (codes "filters") None (nullable (list_of codec)) (object whole) ≡ Ok m.filters
   filters =
       let here : get_member (codes "filters") whole ≡ Some (nullable_data (list_data codec_data) m.filters) = at (codes "filters") in
       rw (here, filters_again m.filters parts.4) refl
 
-  dimension_separator : optional (codes "dimension_separator") Dot separator (object whole) ≡ Ok m.dimension_separator
+  dimension_separator : optional_member (codes "dimension_separator") Dot separator (object whole) ≡ Ok m.dimension_separator
   dimension_separator =
       let here : get_member (codes "dimension_separator") whole ≡ Some (separator_data m.dimension_separator) = at (codes "dimension_separator") in
       rw (here, separator_again m.dimension_separator) refl
 
-  attributes : optional (codes "attributes") no_members as_object (object whole) ≡ Ok m.attributes
-  attributes = ap (optional_from (codes "attributes") no_members as_object)
+  attributes : optional_member (codes "attributes") no_members as_object (object whole) ≡ Ok m.attributes
+  attributes = ap (optional_found (codes "attributes") no_members as_object)
       (at (codes "attributes") ∙ ap (or_rest (unless (is_empty m.attributes) (object m.attributes))) (get-others array_v2_names (codes "attributes") m.additional_fields refl parts.7))
       ∙ attributes_again m.attributes
 

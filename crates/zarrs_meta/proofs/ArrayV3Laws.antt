@@ -4,7 +4,7 @@ use Rattle.std.specs.List.{list_all}
 use Rattle.serde_json.specs.Data.{Data, number, string, object, unsigned, Members, no_members}
 use Rattle.serde_json.specs.Find.{get_member, as_object, as_str}
 use Rattle.serde_json.specs.Written.{has_float, members_have_float}
-use Rattle.zarrs_form.specs.Documents.{is_own, besides, has_own, is_empty, optional_from, required, optional, format_of, node_type_of}
+use Rattle.zarrs_form.specs.Documents.{is_own, besides, has_own, is_empty, optional_found, required_member, optional_member, format_of, node_type_of}
 use Rattle.zarrs_form.specs.Forms.{number_u64, any, nullable, list_of, extension, number_data, list_data, nullable_data, extension_data, extension_fits, fits, unless, is_nil, put_rows}
 use Rattle.zarrs_meta.specs.ArrayV3.{array_v3_names, array_v3_of, array_v3_rows, array_v3_tree, is_plain_array_v3}
 use Rattle.zarrs_meta.specs.declared.array_v3.ArrayMetadataV3.{ArrayMetadataV3}
@@ -47,12 +47,12 @@ name_again (Some s) = refl
 -- ---- members that may be absent
 
 -- storage transformers that were written read again, and those that were not written read as none
-transformers_again : (xs : List MetadataV3) → optional_from (codes "storage_transformers") [] (list_of extension) (or_rest (unless (is_nil xs) (list_data extension_data xs)) None) ≡ Ok xs
+transformers_again : (xs : List MetadataV3) → optional_found (codes "storage_transformers") [] (list_of extension) (or_rest (unless (is_nil xs) (list_data extension_data xs)) None) ≡ Ok xs
 transformers_again [] = refl
 transformers_again (x ∷ xs) = rw (extension_again x, list_again extension extension_data extension_again xs) refl
 
 -- dimension names that were written read again, and those that were not written read as absent
-names_again : (o : Option (List (Option (List ℕ)))) → optional_from (codes "dimension_names") None (nullable (list_of (nullable as_str))) (or_rest (option_map (list_data (nullable_data string)) o) None) ≡ Ok o
+names_again : (o : Option (List (Option (List ℕ)))) → optional_found (codes "dimension_names") None (nullable (list_of (nullable as_str))) (or_rest (option_map (list_data (nullable_data string)) o) None) ≡ Ok o
 names_again None = refl
 names_again (Some names) = rw (list_again (nullable as_str) (nullable_data string) name_again names) refl
 
@@ -97,39 +97,39 @@ module _ (m : ArrayMetadataV3) (no_own : has_own array_v3_names m.additional_fie
   pub has_kind : get_member (codes "node_type") whole ≡ Some (string (codes "array"))
   has_kind = at (codes "node_type")
 
-  shape : required (codes "shape") (list_of number_u64) (object whole) ≡ Ok m.shape
+  shape : required_member (codes "shape") (list_of number_u64) (object whole) ≡ Ok m.shape
   shape = let here : get_member (codes "shape") whole ≡ Some (list_data number_data m.shape) = at (codes "shape") in rw (here, list_again number_u64 number_data number_again m.shape) refl
 
-  data_type : required (codes "data_type") extension (object whole) ≡ Ok m.data_type
+  data_type : required_member (codes "data_type") extension (object whole) ≡ Ok m.data_type
   data_type = let here : get_member (codes "data_type") whole ≡ Some (extension_data m.data_type) = at (codes "data_type") in rw (here, extension_again m.data_type) refl
 
-  chunk_grid : required (codes "chunk_grid") extension (object whole) ≡ Ok m.chunk_grid
+  chunk_grid : required_member (codes "chunk_grid") extension (object whole) ≡ Ok m.chunk_grid
   chunk_grid = let here : get_member (codes "chunk_grid") whole ≡ Some (extension_data m.chunk_grid) = at (codes "chunk_grid") in rw (here, extension_again m.chunk_grid) refl
 
-  chunk_key_encoding : required (codes "chunk_key_encoding") extension (object whole) ≡ Ok m.chunk_key_encoding
+  chunk_key_encoding : required_member (codes "chunk_key_encoding") extension (object whole) ≡ Ok m.chunk_key_encoding
   chunk_key_encoding =
       let here : get_member (codes "chunk_key_encoding") whole ≡ Some (extension_data m.chunk_key_encoding) = at (codes "chunk_key_encoding") in
       rw (here, extension_again m.chunk_key_encoding) refl
 
-  fill_value : required (codes "fill_value") any (object whole) ≡ Ok m.fill_value
+  fill_value : required_member (codes "fill_value") any (object whole) ≡ Ok m.fill_value
   fill_value = let here : get_member (codes "fill_value") whole ≡ Some m.fill_value = at (codes "fill_value") in rw here refl
 
-  codecs : required (codes "codecs") (list_of extension) (object whole) ≡ Ok m.codecs
+  codecs : required_member (codes "codecs") (list_of extension) (object whole) ≡ Ok m.codecs
   codecs =
       let here : get_member (codes "codecs") whole ≡ Some (list_data extension_data m.codecs) = at (codes "codecs") in
       rw (here, list_again extension extension_data extension_again m.codecs) refl
 
-  attributes : optional (codes "attributes") no_members as_object (object whole) ≡ Ok m.attributes
-  attributes = ap (optional_from (codes "attributes") no_members as_object) (at (codes "attributes") ∙ ap (or_rest (unless (is_empty m.attributes) (object m.attributes))) (none_at (codes "attributes") refl))
+  attributes : optional_member (codes "attributes") no_members as_object (object whole) ≡ Ok m.attributes
+  attributes = ap (optional_found (codes "attributes") no_members as_object) (at (codes "attributes") ∙ ap (or_rest (unless (is_empty m.attributes) (object m.attributes))) (none_at (codes "attributes") refl))
       ∙ attributes_again m.attributes
 
-  transformers : optional (codes "storage_transformers") [] (list_of extension) (object whole) ≡ Ok m.storage_transformers
-  transformers = ap (optional_from (codes "storage_transformers") [] (list_of extension))
+  transformers : optional_member (codes "storage_transformers") [] (list_of extension) (object whole) ≡ Ok m.storage_transformers
+  transformers = ap (optional_found (codes "storage_transformers") [] (list_of extension))
       (at (codes "storage_transformers") ∙ ap (or_rest (unless (is_nil m.storage_transformers) (list_data extension_data m.storage_transformers))) (none_at (codes "storage_transformers") refl))
       ∙ transformers_again m.storage_transformers
 
-  names : optional (codes "dimension_names") None (nullable (list_of (nullable as_str))) (object whole) ≡ Ok m.dimension_names
-  names = ap (optional_from (codes "dimension_names") None (nullable (list_of (nullable as_str))))
+  names : optional_member (codes "dimension_names") None (nullable (list_of (nullable as_str))) (object whole) ≡ Ok m.dimension_names
+  names = ap (optional_found (codes "dimension_names") None (nullable (list_of (nullable as_str))))
       (at (codes "dimension_names") ∙ ap (or_rest (option_map (list_data (nullable_data string)) m.dimension_names)) (none_at (codes "dimension_names") refl))
       ∙ names_again m.dimension_names
 

@@ -3,7 +3,7 @@ use Rattle.std.proofs.Common.{◌≡◌, ℕ, List, true, false, not, Option, So
 use Rattle.serde_json.specs.Data.{Data, number, object, unsigned, Members, no_members}
 use Rattle.serde_json.specs.Find.{get_member, as_object}
 use Rattle.serde_json.specs.Written.{has_float, members_have_float}
-use Rattle.zarrs_form.specs.Documents.{besides, has_own, is_empty, optional_from, optional, format_of}
+use Rattle.zarrs_form.specs.Documents.{besides, has_own, is_empty, optional_found, optional_member, format_of}
 use Rattle.zarrs_form.specs.Forms.{fits, unless, put_rows}
 use Rattle.zarrs_meta.specs.GroupV2.{group_v2_names, group_v2_of, group_v2_rows, group_v2_tree, is_plain_group_v2}
 use Rattle.zarrs_meta.specs.declared.group_v2.GroupMetadataV2.{GroupMetadataV2}
@@ -45,8 +45,8 @@ module _ (m : GroupMetadataV2) (plain : IsTrue (is_plain_group_v2 m)) where
   pub no_shape : get_member (codes "shape") whole ≡ None
   no_shape = at (codes "shape") ∙ get-others group_v2_names (codes "shape") m.additional_fields refl parts.2
 
-  attributes : optional (codes "attributes") no_members as_object (object whole) ≡ Ok m.attributes
-  attributes = ap (optional_from (codes "attributes") no_members as_object)
+  attributes : optional_member (codes "attributes") no_members as_object (object whole) ≡ Ok m.attributes
+  attributes = ap (optional_found (codes "attributes") no_members as_object)
       (at (codes "attributes") ∙ ap (or_rest (unless (is_empty m.attributes) (object m.attributes))) (get-others group_v2_names (codes "attributes") m.additional_fields refl parts.2))
       ∙ attributes_again m.attributes
 

@@ -3,7 +3,7 @@ use Rattle.std.proofs.Common.{◌≡◌, ℕ, List, true, false, not, Option, So
 use Rattle.serde_json.specs.Data.{Data, number, string, object, unsigned, Members, no_members}
 use Rattle.serde_json.specs.Find.{get_member, as_object}
 use Rattle.serde_json.specs.Written.{has_float, members_have_float}
-use Rattle.zarrs_form.specs.Documents.{besides, has_own, is_null, is_empty, optional_from, optional, format_of, node_type_of}
+use Rattle.zarrs_form.specs.Documents.{besides, has_own, is_null, is_empty, optional_found, optional_member, format_of, node_type_of}
 use Rattle.zarrs_form.specs.Forms.{fits, unless, put_rows}
 use Rattle.zarrs_meta.specs.GroupV3.{group_v3_names, group_v3_of, group_v3_rows, group_v3_tree, is_plain_group_v3}
 use Rattle.zarrs_meta.specs.declared.group_v3.GroupMetadataV3.{GroupMetadataV3}
@@ -52,8 +52,8 @@ module _ (m : GroupMetadataV3) (plain : IsTrue (is_plain_group_v3 m)) where
   pub has_kind : get_member (codes "node_type") whole ≡ Some (string (codes "group"))
   has_kind = at (codes "node_type")
 
-  attributes : optional (codes "attributes") no_members as_object (object whole) ≡ Ok m.attributes
-  attributes = ap (optional_from (codes "attributes") no_members as_object)
+  attributes : optional_member (codes "attributes") no_members as_object (object whole) ≡ Ok m.attributes
+  attributes = ap (optional_found (codes "attributes") no_members as_object)
       (at (codes "attributes") ∙ ap (or_rest (unless (is_empty m.attributes) (object m.attributes))) (get-others group_v3_names (codes "attributes") m.additional_fields refl parts.2))
       ∙ attributes_again m.attributes
 

@@ -3,7 +3,7 @@ use Rattle.std.proofs.Common.{◌≡◌, ℕ, List, [], ◌∷◌, Bool, true, f
 use Rattle.serde_json.specs.Data.{Data, object, Members, no_members}
 use Rattle.serde_json.specs.Find.{get, get_member, as_object}
 use Rattle.serde_json.specs.Written.{has_float, members_have_float}
-use Rattle.zarrs_form.specs.Documents.{is_own, besides, has_own, is_null, document_of, format_of, node_type_of, optional, absent}
+use Rattle.zarrs_form.specs.Documents.{is_own, besides, has_own, is_null, document_of, format_of, node_type_of, optional_member, no_member}
 use Rattle.zarrs_form.specs.Forms.{fits}
 use Rattle.zarrs_meta.specs.GroupV3 as v3
 use Rattle.zarrs_meta.specs.GroupV3.{read_names, group_v3_of, is_plain_group_v3}
@@ -16,7 +16,7 @@ use Rattle.zarrs_form.proofs.MemoryLaws.{absent_by, format_never, node_type_neve
 use Rattle.zarrs_form.proofs.PlainForms.{ok_then, ok_next, of_ok, both_true, false_not, no_float-besides, none_own, no_own-besides, Reads, object_fitting, optional_fits, IsDocument, document_fits, document_no_float}
 
 -- attributes that were read have only numbers that fit
-pub attributes_fit : (d : Data) → has_float d ≡ false → Reads (optional (codes "attributes") no_members as_object d) (λ ms. fits (object ms) ≡ true)
+pub attributes_fit : (d : Data) → has_float d ≡ false → Reads (optional_member (codes "attributes") no_members as_object d) (λ ms. fits (object ms) ≡ true)
 attributes_fit d h = optional_fits no_members as_object (λ ms. fits (object ms)) object_fitting refl (codes "attributes") d h
 
 -- ---- version 2
@@ -38,8 +38,8 @@ unfolding group_v2_of
 group_v2_plain d =
     ok_then (IsDocument d) PlainV2 (document_of d) _ (document_fits d) (λ ms h.
     ok_next PlainV2 (format_of 2 d) _ (format_never 2 d) (λ _.
-    ok_next PlainV2 (absent (codes "shape") d) _ (absent_by (get (codes "shape") d) (codes "shape")) (λ _.
-    ok_then (λ a. fits (object a) ≡ true) PlainV2 (optional (codes "attributes") no_members as_object d) _ (attributes_fit d (document_no_float d ms h)) (λ a fine.
+    ok_next PlainV2 (no_member (codes "shape") d) _ (absent_by (get (codes "shape") d) (codes "shape")) (λ _.
+    ok_then (λ a. fits (object a) ≡ true) PlainV2 (optional_member (codes "attributes") no_members as_object d) _ (attributes_fit d (document_no_float d ms h)) (λ a fine.
     plain_v2 ms a h.1 fine))))
 
 -- a version 2 group that was read is plain
@@ -101,7 +101,7 @@ group_v3_plain d =
     ok_then (IsDocument d) PlainV3 (document_of d) _ (document_fits d) (λ ms h.
     ok_next PlainV3 (format_of 3 d) _ (format_never 3 d) (λ _.
     ok_next PlainV3 (node_type_of (codes "group") d) _ (node_type_never (codes "group") d) (λ _.
-    ok_then (λ a. fits (object a) ≡ true) PlainV3 (optional (codes "attributes") no_members as_object d) _ (attributes_fit d (document_no_float d ms h)) (λ a fine.
+    ok_then (λ a. fits (object a) ≡ true) PlainV3 (optional_member (codes "attributes") no_members as_object d) _ (attributes_fit d (document_no_float d ms h)) (λ a fine.
     plain_v3 d ms a h fine))))
 
 -- a version 3 group that was read is plain

@@ -2,7 +2,7 @@
 use Rattle.std.specs.Prelude.{ℕ, Bool, not, ◌&&◌, List, [], ◌∷◌, Option, Some, Result, Ok, codes}
 use Rattle.serde_json.specs.Data.{Data, object, no_members}
 use Rattle.serde_json.specs.Find.{as_object}
-use Rattle.zarrs_form.specs.Documents.{◌>>=◌, document_of, format_of, absent, optional, besides, has_own, is_empty}
+use Rattle.zarrs_form.specs.Documents.{◌>>=◌, document_of, format_of, no_member, optional_member, besides, has_own, is_empty}
 use Rattle.zarrs_form.specs.Forms.{number_data, fits, unless, put_rows}
 use Rattle.zarrs_fault.specs.declared.fault.MetadataFault.{MetadataFault}
 use Rattle.zarrs_meta.specs.declared.group_v2.GroupMetadataV2.{GroupMetadataV2}
@@ -16,8 +16,8 @@ unfoldable pub group_v2_of : Data → Result GroupMetadataV2 MetadataFault
 group_v2_of d = do
   ms ← document_of d
   _ ← format_of 2 d
-  _ ← absent (codes "shape") d
-  attributes ← optional (codes "attributes") no_members as_object d
+  _ ← no_member (codes "shape") d
+  attributes ← optional_member (codes "attributes") no_members as_object d
   Ok (record { attributes = attributes; additional_fields = besides group_v2_names ms })
 
 -- ---- the written form

@@ -2,7 +2,7 @@
 use Rattle.std.specs.Prelude.{ℕ, Bool, not, ◌&&◌, if◌then◌else◌, List, [], ◌∷◌, Option, Some, Result, Ok, codes}
 use Rattle.serde_json.specs.Data.{Data, string, object, no_members}
 use Rattle.serde_json.specs.Find.{get, get_member, as_object}
-use Rattle.zarrs_form.specs.Documents.{◌>>=◌, document_of, format_of, node_type_of, optional, besides, has_own, is_null, is_empty}
+use Rattle.zarrs_form.specs.Documents.{◌>>=◌, document_of, format_of, node_type_of, optional_member, besides, has_own, is_null, is_empty}
 use Rattle.zarrs_form.specs.Forms.{number_data, fits, unless, put_rows}
 use Rattle.zarrs_fault.specs.declared.fault.MetadataFault.{MetadataFault}
 use Rattle.zarrs_meta.specs.declared.group_v3.GroupMetadataV3.{GroupMetadataV3}
@@ -21,7 +21,7 @@ group_v3_of d = do
   ms ← document_of d
   _ ← format_of 3 d
   _ ← node_type_of (codes "group") d
-  attributes ← optional (codes "attributes") no_members as_object d
+  attributes ← optional_member (codes "attributes") no_members as_object d
   Ok (record { attributes = attributes; additional_fields = besides (read_names d) ms })
 
 -- ---- the written form

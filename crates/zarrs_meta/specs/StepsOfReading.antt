@@ -2,7 +2,7 @@
 use Rattle.std.specs.Prelude.{ℕ, List, [], ◌∷◌, None, Result, Ok, codes}
 use Rattle.serde_json.specs.Data.{object, Members, no_members}
 use Rattle.serde_json.specs.Find.{as_object, as_str}
-use Rattle.zarrs_form.specs.Documents.{◌>>=◌, required, optional, besides, besides_null}
+use Rattle.zarrs_form.specs.Documents.{◌>>=◌, required_member, optional_member, besides, besides_null}
 use Rattle.zarrs_form.specs.Forms.{number_u64, any, nullable, list_of, extension}
 use Rattle.zarrs_form.specs.FormsV2.{codec, data_type, order, separator, chunk_lengths}
 use Rattle.zarrs_fault.specs.declared.fault.MetadataFault.{MetadataFault}
@@ -23,13 +23,13 @@ node_names = codes "zarr_format" ∷ codes "node_type" ∷ []
 -- a version 3 group: a null `consolidated_metadata` counts as absent
 unfoldable pub group_v3_taken : Members → Result GroupMetadataV3 MetadataFault
 group_v3_taken ms =
-    optional (codes "attributes") no_members as_object (object ms) >>= λ attributes.
+    optional_member (codes "attributes") no_members as_object (object ms) >>= λ attributes.
     Ok (record { attributes = attributes; additional_fields = besides node_names (besides_null (codes "consolidated_metadata") (besides (codes "attributes" ∷ []) ms)) })
 
 -- a version 2 group, once `zarr_format` and a `shape`, which must be absent, are not among the members
 unfoldable pub group_v2_taken : Members → Result GroupMetadataV2 MetadataFault
 group_v2_taken ms =
-    optional (codes "attributes") no_members as_object (object ms) >>= λ attributes.
+    optional_member (codes "attributes") no_members as_object (object ms) >>= λ attributes.
     Ok (record { attributes = attributes; additional_fields = besides (codes "attributes" ∷ []) ms })
 
 -- the members that each version 3 array has
@@ -43,17 +43,17 @@ array_v3_optional_names = codes "attributes" ∷ codes "storage_transformers" �
 -- the members that each version 3 array has, each found in what those before it left
 unfoldable pub array_v3_required : Members → Result RequiredV3 MetadataFault
 array_v3_required ms =
-    required (codes "shape") (list_of number_u64) (object ms) >>= λ shape.
+    required_member (codes "shape") (list_of number_u64) (object ms) >>= λ shape.
     let ms1 = besides (codes "shape" ∷ []) ms in
-    required (codes "data_type") extension (object ms1) >>= λ data_type.
+    required_member (codes "data_type") extension (object ms1) >>= λ data_type.
     let ms2 = besides (codes "data_type" ∷ []) ms1 in
-    required (codes "chunk_grid") extension (object ms2) >>= λ chunk_grid.
+    required_member (codes "chunk_grid") extension (object ms2) >>= λ chunk_grid.
     let ms3 = besides (codes "chunk_grid" ∷ []) ms2 in
-    required (codes "chunk_key_encoding") extension (object ms3) >>= λ chunk_key_encoding.
+    required_member (codes "chunk_key_encoding") extension (object ms3) >>= λ chunk_key_encoding.
     let ms4 = besides (codes "chunk_key_encoding" ∷ []) ms3 in
-    required (codes "fill_value") any (object ms4) >>= λ fill_value.
+    required_member (codes "fill_value") any (object ms4) >>= λ fill_value.
     let ms5 = besides (codes "fill_value" ∷ []) ms4 in
-    required (codes "codecs") (list_of extension) (object ms5) >>= λ codecs.
+    required_member (codes "codecs") (list_of extension) (object ms5) >>= λ codecs.
     Ok (record {
       shape = shape;
       data_type = data_type;
@@ -66,11 +66,11 @@ array_v3_required ms =
 -- those that may be absent, likewise
 unfoldable pub array_v3_optional : Members → Result OptionalV3 MetadataFault
 array_v3_optional ms =
-    optional (codes "attributes") no_members as_object (object ms) >>= λ attributes.
+    optional_member (codes "attributes") no_members as_object (object ms) >>= λ attributes.
     let ms1 = besides (codes "attributes" ∷ []) ms in
-    optional (codes "storage_transformers") [] (list_of extension) (object ms1) >>= λ storage_transformers.
+    optional_member (codes "storage_transformers") [] (list_of extension) (object ms1) >>= λ storage_transformers.
     let ms2 = besides (codes "storage_transformers" ∷ []) ms1 in
-    optional (codes "dimension_names") None (nullable (list_of (nullable as_str))) (object ms2) >>= λ dimension_names.
+    optional_member (codes "dimension_names") None (nullable (list_of (nullable as_str))) (object ms2) >>= λ dimension_names.
     Ok (record {
       attributes = attributes;
       storage_transformers = storage_transformers;
@@ -119,15 +119,15 @@ array_v2_optional_names = codes "compressor" ∷ codes "filters" ∷ codes "dime
 -- the members that each version 2 array has, each found in what those before it left
 unfoldable pub array_v2_required : Members → Result RequiredV2 MetadataFault
 array_v2_required ms =
-    required (codes "shape") (list_of number_u64) (object ms) >>= λ shape.
+    required_member (codes "shape") (list_of number_u64) (object ms) >>= λ shape.
     let ms1 = besides (codes "shape" ∷ []) ms in
-    required (codes "chunks") chunk_lengths (object ms1) >>= λ chunks.
+    required_member (codes "chunks") chunk_lengths (object ms1) >>= λ chunks.
     let ms2 = besides (codes "chunks" ∷ []) ms1 in
-    required (codes "dtype") data_type (object ms2) >>= λ dtype.
+    required_member (codes "dtype") data_type (object ms2) >>= λ dtype.
     let ms3 = besides (codes "dtype" ∷ []) ms2 in
-    required (codes "fill_value") any (object ms3) >>= λ fill_value.
+    required_member (codes "fill_value") any (object ms3) >>= λ fill_value.
     let ms4 = besides (codes "fill_value" ∷ []) ms3 in
-    required (codes "order") order (object ms4) >>= λ array_order.
+    required_member (codes "order") order (object ms4) >>= λ array_order.
     Ok (record {
       shape = shape;
       chunks = chunks;
@@ -139,13 +139,13 @@ array_v2_required ms =
 -- those that may be absent, likewise
 unfoldable pub array_v2_optional : Members → Result OptionalV2 MetadataFault
 array_v2_optional ms =
-    optional (codes "compressor") None (nullable codec) (object ms) >>= λ compressor.
+    optional_member (codes "compressor") None (nullable codec) (object ms) >>= λ compressor.
     let ms1 = besides (codes "compressor" ∷ []) ms in
-    optional (codes "filters") None (nullable (list_of codec)) (object ms1) >>= λ filters.
+    optional_member (codes "filters") None (nullable (list_of codec)) (object ms1) >>= λ filters.
     let ms2 = besides (codes "filters" ∷ []) ms1 in
-    optional (codes "dimension_separator") Dot separator (object ms2) >>= λ dimension_separator.
+    optional_member (codes "dimension_separator") Dot separator (object ms2) >>= λ dimension_separator.
     let ms3 = besides (codes "dimension_separator" ∷ []) ms2 in
-    optional (codes "attributes") no_members as_object (object ms3) >>= λ attributes.
+    optional_member (codes "attributes") no_members as_object (object ms3) >>= λ attributes.
     Ok (record {
       compressor = compressor;
       filters = filters;

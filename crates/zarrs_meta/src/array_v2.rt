@@ -3,7 +3,7 @@ ghost use Rattle.std.specs.Prelude.{◌≡◌, [], ◌∷◌, Ok, IfOk, IsTrue, 
 ghost use Rattle.serde_json.specs.Data.{object, no_members};
 ghost use Rattle.serde_json.specs.View.{view, members_view};
 ghost use Rattle.serde_json.specs.Written.{compact_text};
-ghost use Rattle.zarrs_form.specs.Documents.{Gives, besides, document_of, of_bytes, optional};
+ghost use Rattle.zarrs_form.specs.Documents.{Gives, besides, document_of, of_bytes, optional_member};
 ghost use Rattle.zarrs_form.specs.Forms.{put_rows};
 ghost use Rattle.zarrs_form.specs.FormsV2.{separator};
 ghost use Rattle.zarrs_form.specs.declared.chunks.ChunkKeySeparator.TheVariants.{Dot};
@@ -326,7 +326,7 @@ fn dimension_separator(
     members: &mut Map<String, Value>,
 ) -> Result<ChunkKeySeparator, MetadataFault>
     ensures gives { Gives (λ x. x) result
-        (optional (codes "dimension_separator") Dot separator (object (members_view members.old.entries))) }
+        (optional_member (codes "dimension_separator") Dot separator (object (members_view members.old.entries))) }
     ensures left { members_view members.new.entries
         ≡ besides (codes "dimension_separator" ∷ []) (members_view members.old.entries) }
 {

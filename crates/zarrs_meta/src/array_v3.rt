@@ -4,7 +4,7 @@ ghost use Rattle.serde_json.specs.Data.{object, no_members};
 ghost use Rattle.serde_json.specs.Find.{as_str};
 ghost use Rattle.serde_json.specs.View.{view, members_view};
 ghost use Rattle.serde_json.specs.Written.{compact_text};
-ghost use Rattle.zarrs_form.specs.Documents.{Gives, besides, document_of, of_bytes, optional};
+ghost use Rattle.zarrs_form.specs.Documents.{Gives, besides, document_of, of_bytes, optional_member};
 ghost use Rattle.zarrs_form.specs.Forms.{extension, list_of, nullable, put_rows};
 ghost use Rattle.zarrs_meta.specs.ArrayV3.{array_v3_of, array_v3_rows, array_v3_tree, is_plain_array_v3};
 ghost use Rattle.zarrs_meta.specs.MadeArray.{default_encoding, made_array};
@@ -390,7 +390,7 @@ fn storage_transformers(
     members: &mut Map<String, Value>,
 ) -> Result<List<MetadataV3>, MetadataFault>
     ensures gives { Gives (λ x. x) result
-        (optional (codes "storage_transformers") [] (list_of extension) (object (members_view members.old.entries))) }
+        (optional_member (codes "storage_transformers") [] (list_of extension) (object (members_view members.old.entries))) }
     ensures left { members_view members.new.entries
         ≡ besides (codes "storage_transformers" ∷ []) (members_view members.old.entries) }
 {
@@ -408,7 +408,7 @@ fn dimension_names(
     members: &mut Map<String, Value>,
 ) -> Result<Option<List<Option<Text>>>, MetadataFault>
     ensures gives { Gives (λ x. x) result
-        (optional (codes "dimension_names") None (nullable (list_of (nullable as_str))) (object (members_view members.old.entries))) }
+        (optional_member (codes "dimension_names") None (nullable (list_of (nullable as_str))) (object (members_view members.old.entries))) }
     ensures left { members_view members.new.entries
         ≡ besides (codes "dimension_names" ∷ []) (members_view members.old.entries) }
 {

@@ -3,7 +3,7 @@ use Rattle.std.proofs.Common.{◌≡◌, ◌≢◌, ◌<◌, ◌==◌, ◌↔◌
 use Rattle.std.proofs.lemmas.Bool.{eqb-true}
 use Rattle.std.proofs.lemmas.List.{append_cancel_left}
 use Rattle.zarrs_store.specs.Segments.{has_no_slash, key_text}
-use Rattle.zarrs_path.specs.Paths.{Path, IsPath, IsBelow, slashed, without_leading_slash}
+use Rattle.zarrs_path.specs.Paths.{Path, IsPath, IsBelow, names_text, without_leading_slash}
 use Rattle.zarrs_path.proofs.ByteTests.{nonempty_from_test}
 use Rattle.zarrs_path.proofs.PathTexts.{IsCutAt, IsPath-parts, cut_last, slashed-cons, slashed_nil}
 use Rattle.zarrs_meta.specs.Node.{is_group}
@@ -118,7 +118,7 @@ pub record IsOnTheWay (B : Block) (b p : Path) (left : List ℕ) : Type 0 where
   pub name : List ℕ
   pub rest : Path
   pub valid : IsPath (b ++ name ∷ rest)
-  pub text : left ≡ slashed (name ∷ rest)
+  pub text : left ≡ names_text (name ∷ rest)
   pub same : LeadsTo B b p ↔ LeadsTo B b (b ++ name ∷ rest)
 
 -- at first they are all names of p
@@ -139,7 +139,7 @@ not_below_itself b (n, ns, e) =
     absurd (omega (arith, long, more))
 
 -- names with a text that is not empty are some
-some_names : (q : Path) (front : List ℕ) → slashed q ≡ front → front ≢ [] → (n : List ℕ) × (ns : Path) × (q ≡ n ∷ ns)
+some_names : (q : Path) (front : List ℕ) → names_text q ≡ front → front ≢ [] → (n : List ℕ) × (ns : Path) × (q ≡ n ∷ ns)
 some_names [] front e some = absurd (some (sym e))
 some_names (n ∷ ns) front e some = (n, ns, refl)
 
@@ -171,7 +171,7 @@ module _ {B : Block} {b p : Path} {left above last : List ℕ} (h : IsOnTheWay B
     -- whose text is what stands above
     text_above : above ≡ 47 ∷ text_beyond b (b ++ cut.upper)
     unfolding front low
-    text_above = sym cut.text ∙ ap slashed front.2 ∙ slashed-cons front.0 front.1 ∙ ap (λ x. 47 ∷ x) (sym (text_is b (b ++ cut.upper) front.0 front.1 low.2))
+    text_above = sym cut.text ∙ ap names_text front.2 ∙ slashed-cons front.0 front.1 ∙ ap (λ x. 47 ∷ x) (sym (text_is b (b ++ cut.upper) front.0 front.1 low.2))
 
     -- a path
     valid_above : IsPath (b ++ cut.upper)
@@ -196,7 +196,7 @@ module _ {B : Block} {b p : Path} {left above last : List ℕ} (h : IsOnTheWay B
         name = front.0;
         rest = front.1;
         valid = subst (λ q. IsPath (b ++ q)) front.2 valid_above;
-        text = sym cut.text ∙ ap slashed front.2;
+        text = sym cut.text ∙ ap names_text front.2;
         same = subst (λ q. LeadsTo B b p ↔ LeadsTo B b (b ++ q)) front.2 (λ led. (step.0 (h.same.0 led)).1, λ led. h.same.1 (step.1 (answer.0 open_to, led)));
       }
 

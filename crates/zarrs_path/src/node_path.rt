@@ -3,7 +3,7 @@ ghost use Rattle.std.specs.Prelude.{◌≡◌, ◌↔◌, [], ◌++◌, IsTrue, 
 ghost use Rattle.std.specs.List.{slice_split};
 ghost use Rattle.zarrs_store.specs.Segments.{is_slash, last_segment, IsPrefix};
 ghost use Rattle.zarrs_path.specs.Names.{IsName};
-ghost use Rattle.zarrs_path.specs.Paths.{IsPath, IsPathText, path_text, IsBelow, IsParent, slashed, relative_names, without_leading_slash, first_bad};
+ghost use Rattle.zarrs_path.specs.Paths.{IsPath, IsPathText, path_text, IsBelow, IsParent, names_text, relative_names, without_leading_slash, first_bad};
 ghost use Rattle.zarrs_path.specs.PathErrors.{RefusesPath, RefusesJoin, RefusesSegments};
 
 use crate::node_name::is_name;
@@ -303,7 +303,7 @@ impl NodePath {
 
     // Each name with a slash before it, which is nothing for the root.
     pub(crate) fn slashed(&self) -> &str
-        ensures text { result.now ≡ slashed self.now }
+        ensures text { result.now ≡ names_text self.now }
         ensures valid { IsPath self.now }
     {
         let text = self.as_str();

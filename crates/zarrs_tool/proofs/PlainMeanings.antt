@@ -10,7 +10,7 @@ use Rattle.zarrs_path.specs.Paths.{Path}
 use Rattle.zarrs_path.specs.Keys.{zarr_json, zarray, zgroup, zattrs}
 use Rattle.zarrs_config.specs.declared.version.MetadataRetrieveVersion.{MetadataRetrieveVersion}
 use Rattle.zarrs_config.specs.declared.version.MetadataRetrieveVersion.TheVariants.{Default, V3, V2}
-use Rattle.zarrs_form.specs.Documents.{of_bytes, parsed, json_of, ◌>>=◌}
+use Rattle.zarrs_form.specs.Documents.{of_bytes, tree_or_fault, json_of, ◌>>=◌}
 use Rattle.zarrs_form.proofs.PlainForms.{Reads}
 use Rattle.zarrs_meta.specs.ArrayV2.{array_v2_of}
 use Rattle.zarrs_meta.specs.GroupV2.{group_v2_of}
@@ -45,7 +45,7 @@ module _ {D : Type 0} (P : D → Type 0) (form : Data → Result D MetadataFault
   named_has key (Ok d) h = h
   named_has key (Err fault) h = tt
 
-  tree_has : (key : Segments) (o : Option Data) → FoundHas P (document_or_fault key (parsed o >>= form))
+  tree_has : (key : Segments) (o : Option Data) → FoundHas P (document_or_fault key (tree_or_fault o >>= form))
   tree_has key None = tt
   tree_has key (Some d) = named_has key (form d) (reads d)
 
