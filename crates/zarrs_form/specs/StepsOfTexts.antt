@@ -13,8 +13,8 @@ abbrev pub four_more : ℕ → List ℕ
 four_more b = if b == 10 then 10 ∷ 32 ∷ 32 ∷ 32 ∷ 32 ∷ [] else b ∷ []
 
 -- a text with four spaces more after each newline
-abbrev pub indented : List ℕ → List ℕ
-indented = flat_map four_more
+abbrev pub text_with_four_more : List ℕ → List ℕ
+text_with_four_more = flat_map four_more
 
 -- a line of its own two levels deep, where a text stands before it
 abbrev pub break_if : Bool → List ℕ

@@ -29,7 +29,7 @@ use Rattle.zarrs_meta.specs.declared.node.NodeMetadata.{NodeMetadata}
 use Rattle.zarrs_meta.specs.declared.node.NodeMetadata.TheVariants.{Group, Array}
 use Rattle.zarrs_block.specs.Block.{Block, IsValidKey, first_some, node_at_key, put}
 use Rattle.zarrs_block.specs.Meaning.{Meaning, node, nothing, bad, attributes_in, document_at, in_trees, version_2_line, meaning_in, zarray_line, zgroup_line}
-use Rattle.zarrs_block.specs.Refused.{LacksMemory}
+use Rattle.zarrs_block.specs.Refusals.{LacksMemory}
 use Rattle.zarrs_block.specs.declared.node_create_error.NodeCreateError.{NodeCreateError}
 use Rattle.zarrs_block.specs.declared.node_create_error.NodeCreateError.TheVariants as made
 use Rattle.zarrs_block.specs.Small.{SmallStore, small, small_meaning}

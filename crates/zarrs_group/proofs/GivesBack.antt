@@ -33,7 +33,7 @@ use Rattle.zarrs_meta.specs.declared.node.NodeMetadata.TheVariants.{Group}
 use Rattle.zarrs_block.specs.Block.{Block, Entries, HasValidKeys, IsValidKey, node_at_key}
 use Rattle.zarrs_block.specs.Zmetadata.{HasVersion2}
 use Rattle.zarrs_block.specs.Policy.{block_to_use}
-use Rattle.zarrs_block.specs.Refused.{LacksMemory, IsExcused}
+use Rattle.zarrs_block.specs.Refusals.{LacksMemory, IsExcused}
 use Rattle.zarrs_block.specs.BlockExpansion.{NamesBadKey}
 use Rattle.zarrs_block.specs.declared.node_create_error.NodeCreateError.{NodeCreateError}
 use Rattle.zarrs_block.specs.declared.node_create_error.NodeCreateError.TheVariants as made

@@ -25,7 +25,7 @@ use Rattle.zarrs_meta.specs.declared.node.NodeMetadata.{NodeMetadata}
 use Rattle.zarrs_meta.specs.declared.node.NodeMetadata.TheVariants.{Group}
 use Rattle.zarrs_block.specs.Block.{Block, IsAscending, IsBlockOf}
 use Rattle.zarrs_block.specs.Zmetadata.{is_version_2, zmetadata_tree, HaveSameEntries}
-use Rattle.zarrs_block.specs.Refused.{LacksMemory}
+use Rattle.zarrs_block.specs.Refusals.{LacksMemory}
 use Rattle.zarrs_block.specs.declared.node_create_error.NodeCreateError.{NodeCreateError}
 use Rattle.zarrs_node.specs.Forest.{Forest, pairs, Shows}
 use Rattle.zarrs_block.specs.Meaning.{Meaning, Means, meaning, node}

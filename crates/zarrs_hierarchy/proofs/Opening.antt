@@ -12,7 +12,7 @@ use Rattle.zarrs_meta.specs.declared.node.NodeMetadata.TheVariants.{Group, Array
 use Rattle.zarrs_config.specs.declared.version.MetadataRetrieveVersion.{MetadataRetrieveVersion}
 use Rattle.zarrs_config.specs.declared.version.UseConsolidatedMetadata.{UseConsolidatedMetadata}
 use Rattle.zarrs_block.specs.Block.{Block, Entries}
-use Rattle.zarrs_block.specs.Refused.{IsExcused}
+use Rattle.zarrs_block.specs.Refusals.{IsExcused}
 use Rattle.zarrs_block.specs.declared.node_create_error.NodeCreateError.{NodeCreateError}
 use Rattle.zarrs_block.specs.Meaning.{Meaning, node, nothing, bad, meaning}
 use Rattle.zarrs_node.specs.Forest.{pairs}

@@ -1,7 +1,7 @@
 //! Hierarchies of what a store has at a path and below it.
 ghost use Rattle.std.specs.Prelude.{◌≡◌, ◌∷◌, [], true, IfOk, IfErr, OnOk, ◌⊎◌};
 ghost use Rattle.zarrs_meta.specs.declared.node.NodeMetadata.TheVariants.{Group as group_node};
-ghost use Rattle.zarrs_block.specs.Refused.{IsExcused};
+ghost use Rattle.zarrs_block.specs.Refusals.{IsExcused};
 ghost use Rattle.zarrs_block.specs.Policy.{as_block};
 ghost use Rattle.zarrs_node.specs.BlocksBelow.{PairsBelow, IsGoodBelow, ShowsBadBelow};
 ghost use Rattle.zarrs_node.specs.Nodes.{Nodes, Bad, ShowsBad};

@@ -1,7 +1,7 @@
 //! The text of what a store has at a path and below it.
 ghost use Rattle.std.specs.Prelude.{◌≡◌, ◌∷◌, [], ◌++◌, IfOk, IfErr, OnOk, ◌⊎◌, string_bytes};
 ghost use Rattle.zarrs_path.specs.Paths.{path_text};
-ghost use Rattle.zarrs_block.specs.Refused.{IsExcused};
+ghost use Rattle.zarrs_block.specs.Refusals.{IsExcused};
 ghost use Rattle.zarrs_node.specs.OpeningNodes.{IsCleanNode, RefusesBelow, RefusesOpening};
 ghost use Rattle.zarrs_hierarchy.specs.OpeningHierarchies.{PairsOf, IsOpenedTree};
 ghost use Rattle.zarrs_hierarchy.specs.Sinks.{AppendsNode};

@@ -14,7 +14,7 @@ use Rattle.zarrs_meta.specs.declared.node.NodeMetadata.TheVariants.{Group, Array
 use Rattle.zarrs_block.specs.Block.{Block, Entries, HasValidKeys}
 use Rattle.zarrs_block.specs.Policy.{RefusesUse, LacksBlockMemory}
 use Rattle.zarrs_block.specs.BlockExpansion.{RefusesKeys, NamesBadKey}
-use Rattle.zarrs_block.specs.Refused.{IsExcused, IsMissing}
+use Rattle.zarrs_block.specs.Refusals.{IsExcused, IsMissing}
 use Rattle.zarrs_block.specs.declared.node_create_error.NodeCreateError.{NodeCreateError}
 use Rattle.zarrs_block.specs.declared.node_create_error.NodeCreateError.TheVariants.{NodePathError, StorePrefixError, StorageError, MetadataVersionMismatch, MissingMetadata, OutOfMemory}
 use Rattle.zarrs_block.specs.Meaning.{meaning, node, nothing, bad}

@@ -15,7 +15,7 @@ use Rattle.zarrs_meta.specs.declared.node.NodeMetadata.{NodeMetadata}
 use Rattle.zarrs_config.specs.declared.version.MetadataRetrieveVersion.{MetadataRetrieveVersion}
 use Rattle.zarrs_block.specs.declared.node_create_error.NodeCreateError.{NodeCreateError}
 use Rattle.zarrs_block.specs.Meaning.{meaning, bad}
-use Rattle.zarrs_block.specs.Refused.{IsExcused, IsInvalidPath}
+use Rattle.zarrs_block.specs.Refusals.{IsExcused, IsInvalidPath}
 use Rattle.zarrs_node.specs.StepsOfDocuments.{Finds}
 use Rattle.zarrs_node.specs.Forest.{Forest, none, pairs, Shows}
 use Rattle.zarrs_node.specs.StepsOfTrees.{own_node, paths_passed, is_group_found}

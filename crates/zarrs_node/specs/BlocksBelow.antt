@@ -21,7 +21,7 @@ use Rattle.zarrs_block.specs.Block.{Block, Entries, HasValidKeys}
 use Rattle.zarrs_config.specs.declared.version.UseConsolidatedMetadata.{UseConsolidatedMetadata}
 use Rattle.zarrs_config.specs.declared.version.UseConsolidatedMetadata.TheVariants.{Never}
 use Rattle.zarrs_block.specs.Policy.{block_in, LacksBlockMemory}
-use Rattle.zarrs_block.specs.Refused.{IsExcused}
+use Rattle.zarrs_block.specs.Refusals.{IsExcused}
 use Rattle.zarrs_block.specs.Zmetadata.{zmetadata_of, zmetadata_members, HoldsStore, IsClean}
 use Rattle.zarrs_block.specs.BlockExpansion.{NamesBadKey}
 use Rattle.zarrs_block.specs.declared.node_create_error.NodeCreateError.{NodeCreateError}

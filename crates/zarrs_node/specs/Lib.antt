@@ -13,7 +13,7 @@ pub mod OpeningNodes
 pub mod Order
 pub mod StepsOfGrafts
 pub mod Reach
-pub mod Refused
+pub mod Refusals
 pub mod Sinks
 pub mod Small
 pub mod StepsOfBlocks

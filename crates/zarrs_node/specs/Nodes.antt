@@ -9,7 +9,7 @@ use Rattle.zarrs_config.specs.declared.version.MetadataRetrieveVersion.{Metadata
 use Rattle.zarrs_block.specs.declared.node_create_error.NodeCreateError.{NodeCreateError}
 use Rattle.zarrs_block.specs.Meaning.{Meaning, meaning, nothing, bad}
 use Rattle.zarrs_node.specs.Reach.{Reached, Opens, Kept}
-use Rattle.zarrs_block.specs.Refused.{IsInvalidPath}
+use Rattle.zarrs_block.specs.Refusals.{IsInvalidPath}
 -- `Means of`: the paths that mean nodes, with their metadata
 pub use Rattle.zarrs_block.specs.Meaning.{Means}
 

@@ -13,7 +13,7 @@ use Rattle.zarrs_config.specs.declared.version.MetadataRetrieveVersion.{Metadata
 use Rattle.zarrs_config.specs.declared.version.UseConsolidatedMetadata.{UseConsolidatedMetadata}
 use Rattle.zarrs_block.specs.Block.{Block}
 use Rattle.zarrs_block.specs.Policy.{block_to_use, RefusesUse}
-use Rattle.zarrs_block.specs.Refused.{IsMissing}
+use Rattle.zarrs_block.specs.Refusals.{IsMissing}
 use Rattle.zarrs_block.specs.declared.node_create_error.NodeCreateError.{NodeCreateError}
 use Rattle.zarrs_block.specs.declared.node_create_error.NodeCreateError.TheVariants.{NodePathError}
 use Rattle.zarrs_block.specs.Meaning.{meaning, node, nothing, bad}

@@ -1,7 +1,7 @@
 //! The nodes below a path, where what is passed over is warned of.
 ghost use Rattle.std.specs.Prelude.{IfOk, IfErr, OnOk, ◌⊎◌, true};
 ghost use Rattle.zarrs_store.specs.Contents.{Lists};
-ghost use Rattle.zarrs_block.specs.Refused.{IsExcused};
+ghost use Rattle.zarrs_block.specs.Refusals.{IsExcused};
 ghost use Rattle.zarrs_node.specs.Forest.{Shows, ShowsPaths, forest};
 ghost use Rattle.zarrs_node.specs.Nodes.{Nodes, ShowsBad, Bad};
 ghost use Rattle.zarrs_block.specs.Block.{IsAscending, IsBlockOf};

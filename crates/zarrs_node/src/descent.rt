@@ -4,7 +4,7 @@ ghost use Rattle.zarrs_store.specs.Segments.{IsPrefix};
 ghost use Rattle.zarrs_store.specs.Contents.{Lists};
 ghost use Rattle.zarrs_path.specs.Paths.{IsPath};
 ghost use Rattle.zarrs_block.specs.Meaning.{meaning, bad};
-ghost use Rattle.zarrs_block.specs.Refused.{IsExcused, IsInvalidPath};
+ghost use Rattle.zarrs_block.specs.Refusals.{IsExcused, IsInvalidPath};
 ghost use Rattle.zarrs_node.specs.StepsOfTrees.{own_node, paths_passed, is_group_found};
 ghost use Rattle.zarrs_node.specs.Nodes.{Nodes, Ignored, ShowsBad, Bad};
 ghost use Rattle.zarrs_node.specs.StepsOfDocuments.{Finds};

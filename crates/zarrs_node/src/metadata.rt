@@ -1,8 +1,8 @@
 //! What a path means in a store.
 ghost use Rattle.std.specs.Prelude.{◌≡◌, Ok, IfOk, IfErr, ◌⊎◌};
-ghost use Rattle.zarrs_block.specs.Refused.{IsExcused, IsMissing};
+ghost use Rattle.zarrs_block.specs.Refusals.{IsExcused, IsMissing};
 ghost use Rattle.zarrs_block.specs.Meaning.{in_bytes, meaning, attributes_at, node, nothing, bad, zarr_json_line, zarray_line, zgroup_line};
-ghost use Rattle.zarrs_node.specs.Refused.{RefusesReading};
+ghost use Rattle.zarrs_node.specs.Refusals.{RefusesReading};
 ghost use Rattle.zarrs_node.specs.StepsOfDocuments.{FollowsLine, Finds};
 
 use crate::documents::find_below;

@@ -3,7 +3,7 @@ ghost use Rattle.std.specs.Prelude.{◌≡◌, ◌↔◌, ◌∷◌, IfOk, IfErr
 ghost use Rattle.zarrs_store.specs.Contents.{Lists};
 ghost use Rattle.zarrs_path.specs.Paths.{IsBelow, IsPath, Path, without_leading_slash};
 ghost use Rattle.zarrs_block.specs.Block.{Entries, IsAscending};
-ghost use Rattle.zarrs_block.specs.Refused.{IsExcused};
+ghost use Rattle.zarrs_block.specs.Refusals.{IsExcused};
 ghost use Rattle.zarrs_block.specs.Meaning.{meaning};
 ghost use Rattle.zarrs_node.specs.Reach.{HasGroup};
 ghost use Rattle.zarrs_node.specs.BlocksOfNodes.{text_beyond};

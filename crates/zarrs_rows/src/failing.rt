@@ -7,7 +7,7 @@ ghost use Rattle.std.specs.Prelude.{◌≡◌, true, ◌⊎◌, IfOk, IfErr, OnO
 ghost use Rattle.zarrs_store.specs.FailingStores.{inner_contents};
 ghost use Rattle.zarrs_store.specs.Contents.{Lists};
 ghost use Rattle.zarrs_store.specs.Faults.{IsStoreError};
-ghost use Rattle.zarrs_block.specs.Refused.{IsExcused};
+ghost use Rattle.zarrs_block.specs.Refusals.{IsExcused};
 ghost use Rattle.zarrs_node.specs.Forest.{Shows, forest};
 ghost use Rattle.zarrs_node.specs.Nodes.{Nodes, Ignored, ShowsBad, Bad};
 ghost use Rattle.zarrs_group.specs.Edits.{after, IsCutShort};
