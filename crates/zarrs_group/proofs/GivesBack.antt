@@ -88,20 +88,20 @@ no_bad_key B valid (made.MissingMetadata text) h = h
 no_bad_key B valid made.OutOfMemory h = h
 
 -- a group that holds the block of a forest: its block is the one that is used
-module _ (g : GroupState) (f : Forest) (B : Block) (holds : held_by (with_block g (Some B)) ≡ Some B) (valid : HasValidKeys B)
+module _ (g : GroupState) (f : Forest) (B : Block) (holds : held_by g ≡ Some B) (valid : HasValidKeys B)
     (entries : (e : Path × NodeMetadata) → Entries B g.path e ↔ Contains (pairs f) e) (one : (t : Forest) → Shows t g.path (Kept (Entries B g.path) true g.path) → t ≡ f) where
   -- it is the block that is used
-  is_chosen : (policy : UseConsolidatedMetadata) → policy ≢ Never → block_to_use (held_by (with_block g (Some B))) policy ≡ Some (Some B)
+  is_chosen : (policy : UseConsolidatedMetadata) → policy ≢ Never → block_to_use (held_by g) policy ≡ Some (Some B)
   is_chosen policy not = ap (λ h. block_to_use h policy) holds ∙ used_there B policy not
 
   -- what such a choice shows is the forest
   chosen_shows : (s : Contents) (v : MetadataRetrieveVersion) (policy : UseConsolidatedMetadata) → policy ≢ Never → (t : Forest)
-      → ShowsChosen s v (block_to_use (held_by (with_block g (Some B))) policy) true g.path t → t ≡ f
+      → ShowsChosen s v (block_to_use (held_by g) policy) true g.path t → t ≡ f
   chosen_shows s v policy not t shows = one t (subst (λ c. ShowsChosen s v c true g.path t) (is_chosen policy not) shows)
 
   -- and nothing refuses it
   chosen_clean : (s : Contents) (v : MetadataRetrieveVersion) (policy : UseConsolidatedMetadata) → policy ≢ Never → (e : NodeCreateError)
-      → RefusesChosen s v (block_to_use (held_by (with_block g (Some B))) policy) true g.path e → ⊥
+      → RefusesChosen s v (block_to_use (held_by g) policy) true g.path e → ⊥
   chosen_clean s v policy not e h = no_bad_key B valid e (subst (λ c. RefusesChosen s v c true g.path e) (is_chosen policy not) h)
 
   -- the entries of the block are the pairs
@@ -109,12 +109,12 @@ module _ (g : GroupState) (f : Forest) (B : Block) (holds : held_by (with_block 
   pairs_are es l = lists_from es (λ e. (λ h. (entries e).0 ((listed_each l e).0 h), λ h. (listed_each l e).1 ((entries e).1 h))) l.each_once
 
   -- what is listed by such a choice are the entries
-  listed_by : (s : Contents) (policy : UseConsolidatedMetadata) → block_to_use (held_by (with_block g (Some B))) policy ≡ Some (Some B)
-      → (es : List (Path × NodeMetadata)) → ListsChosen s (block_to_use (held_by (with_block g (Some B))) policy) g.path es → Lists (Entries B g.path) es
+  listed_by : (s : Contents) (policy : UseConsolidatedMetadata) → block_to_use (held_by g) policy ≡ Some (Some B)
+      → (es : List (Path × NodeMetadata)) → ListsChosen s (block_to_use (held_by g) policy) g.path es → Lists (Entries B g.path) es
   listed_by s policy is es l = subst (λ c. ListsChosen s c g.path es) is l
 
   -- so the group gives the forest back
-  gives_back : GivesBack (with_block g (Some B)) f
+  pub gives_back : GivesBack g f
   gives_back = record {
     children = λ s config not t shows. chosen_shows s retrieve.Default config.use_consolidated not t shows;
     traversed = λ s config not es lists. pairs_are es (listed_by s config.use_consolidated (is_chosen config.use_consolidated not) es lists);
@@ -137,16 +137,16 @@ module _ (of : Path → Meaning) (g : GroupState) (f : Forest) (B : Block) (from
 
   -- what a choice shows is the forest
   shown_is : (s : Contents) (v : MetadataRetrieveVersion) (policy : UseConsolidatedMetadata) → policy ≢ Never → (t : Forest) → ShowsChosen s v (block_to_use (held_by (with_block g (Some B))) policy) true g.path t → t ≡ f
-  shown_is = chosen_shows g f B holds inverse.valid inverse.entries inverse.one_forest
+  shown_is = chosen_shows (with_block g (Some B)) f B holds inverse.valid inverse.entries inverse.one_forest
 
   -- and nothing refuses it
   none_refused : (s : Contents) (v : MetadataRetrieveVersion) (policy : UseConsolidatedMetadata) → policy ≢ Never → (e : NodeCreateError) → RefusesChosen s v (block_to_use (held_by (with_block g (Some B))) policy) true g.path e → ⊥
-  none_refused = chosen_clean g f B holds inverse.valid inverse.entries inverse.one_forest
+  none_refused = chosen_clean (with_block g (Some B)) f B holds inverse.valid inverse.entries inverse.one_forest
 
 -- a version 3 group with the block of a listed forest gives the forest back
 pub group_gives_back : GroupGivesBack
 group_gives_back of g f B from =
-    gives_back g f B (holds of g f B from) (inverse of g f B from).valid (inverse of g f B from).entries (inverse of g f B from).one_forest
+    gives_back (with_block g (Some B)) f B (holds of g f B from) (inverse of g f B from).valid (inverse of g f B from).entries (inverse of g f B from).one_forest
 
 -- ---- of version 2
 
@@ -200,7 +200,7 @@ module _ (of : Path → Meaning) (g : GroupState) (f : Forest) (B : Block) (from
 pub group_v2_gives_back : GroupV2GivesBack
 group_v2_gives_back of g f B from = (
   takes of g f B from g.metadata from.version_2,
-  gives_back g f B (held_once_set g (Some B) (can_hold_v2 of g f B from g.metadata from.version_2)) (keys_valid of g f B from) (same_pairs of g f B from) (one_is of g f B from (Entries B g.path) (same_pairs of g f B from)),
+  gives_back (with_block g (Some B)) f B (held_once_set g (Some B) (can_hold_v2 of g f B from g.metadata from.version_2)) (keys_valid of g f B from) (same_pairs of g f B from) (one_is of g f B from (Entries B g.path) (same_pairs of g f B from)),
 )
 
 -- ---- the stored group as the document of a node

@@ -96,13 +96,14 @@ pub record HasStoredBlock (S s : Contents) (g : GroupState) : Type 0 where
   pub shallow : IsBlockShallow g.metadata g.block
   pub same : map.get s (g.path ++ zmetadata ∷ []) ≡ map.get (after S (store_edits g.path g.metadata g.block)) (g.path ++ zmetadata ∷ [])
 
--- in a store, by each version by which the path of the group means the group, where the policy is not Never: the one forest of a node opened there is f, and the opening is not refused; and a group opened there has beside its metadata a block with the entries of B
+-- in a store, by each version by which the path of the group means the group, where the policy is not Never: the one forest of a node opened there is f, and the opening is not refused; and a group opened there has beside its metadata a block with the entries of B, and gives the forest back
 pub record OpensToV2 (s : Contents) (g : GroupState) (f : Forest) (B : Block) : Type 0 where
   pub children : (v : MetadataRetrieveVersion) → meaning s v g.path ≡ node (Group g.metadata) → (policy : UseConsolidatedMetadata) → policy ≢ Never
       → (t : Forest) → ShowsNode s v policy g.path (Group g.metadata) t → t ≡ f
   pub opened : (v : MetadataRetrieveVersion) → meaning s v g.path ≡ node (Group g.metadata) → (policy : UseConsolidatedMetadata) → policy ≢ Never
       → (e : NodeCreateError) → RefusesOpening s v policy (path_text g.path) e → ⊥
   pub beside : (C : Block) × (block_beside s g.path g.metadata ≡ Some C) × HaveSameEntries B C
+  pub group : (h : GroupState) → h.path ≡ g.path → h.metadata ≡ g.metadata → h.block ≡ block_beside s g.path g.metadata → GivesBack h f
 
 -- A version 2 group that was stored with the block of such a forest, in the order of its keys, gives the forest back over any store that has its document `.zmetadata`.
 abbrev pub StoredV2GivesBack : Type 0
