@@ -34,7 +34,7 @@ AreFound files = All (λ f. IsFound (key_text f.0) f.1.items) files
 abbrev pub HoldsDocuments : Contents → Type 0
 HoldsDocuments store = (key : Segments) → IfSome (map.get store key) (IsFound (key_text key))
 
--- a folder or a file was not read, or memory was wanting
+-- a folder or a file was not read, or out of memory
 abbrev pub IsFolderFault : LoadFault → Type 0
 IsFolderFault Folder = ⊤
 IsFolderFault OutOfMemory = ⊤

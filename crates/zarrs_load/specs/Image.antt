@@ -56,7 +56,7 @@ IsFirstBadKey members name = (value : Data) × IsFirstBad members name value × 
 abbrev pub IsFirstBadValue : List (List ℕ × Data) → List ℕ → Type 0
 IsFirstBadValue members name = (value : Data) × IsFirstBad members name value × IsKeyText name × (IsSome (as_str value) → ⊥)
 
--- the members make no store, and this is why, or memory was wanting
+-- the members make no store, and this is why, or out of memory
 abbrev pub IsMemberFault : List (List ℕ × Data) → LoadFault → Type 0
 IsMemberFault members (ImageKey name) = IsFirstBadKey members (string_bytes name)
 IsMemberFault members (ImageValue name) = IsFirstBadValue members (string_bytes name)

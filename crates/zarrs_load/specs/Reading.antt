@@ -17,7 +17,7 @@ IsWithinBound bytes = length bytes ≤ 1000000 * 65536
 abbrev pub ReadsAtLeast : ℕ → Option (List ℕ) → Option (List ℕ) → Type 0
 ReadsAtLeast n before after = (bytes : List ℕ) × Consumes before after bytes × (n ≤ length bytes)
 
--- reading is refused where the reader fails, where memory is wanting, or after a million bytes
+-- reading is refused where the reader fails, when out of memory, or after a million bytes
 abbrev pub RefusedReading : Option (List ℕ) → Option (List ℕ) → LoadFault → Type 0
 RefusedReading before after Read = ⊤
 RefusedReading before after OutOfMemory = ⊤

@@ -15,7 +15,7 @@ use Rattle.zarrs_meta.specs.declared.node.NodeMetadata.{NodeMetadata}
 use Rattle.zarrs_meta.specs.declared.node.NodeMetadata.TheVariants.{Group, Array}
 use Rattle.zarrs_block.specs.Block.{Block, IsAscending, IsBlockOf, block_of, block_tree}
 use Rattle.zarrs_block.specs.Meaning.{Means, meaning, node, nothing, bad}
-use Rattle.zarrs_block.specs.Refused.{IsExcused, IsMissing}
+use Rattle.zarrs_block.specs.Refusals.{IsExcused, IsMissing}
 use Rattle.zarrs_block.specs.declared.node_create_error.NodeCreateError.{NodeCreateError}
 use Rattle.zarrs_node.specs.Nodes.{Nodes, Bad, ShowsBad}
 use Rattle.zarrs_node.proofs.Inverse.{kept_reads_back}

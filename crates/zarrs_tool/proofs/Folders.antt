@@ -4,8 +4,8 @@ use Rattle.std.specs.Prelude.{Result, Ok, Err, IfErr, OnOk}
 use Rattle.std.specs.Str.{bytes_eq}
 use Rattle.std.proofs.lemmas.Slice.Eq.{bytes_eq-Decides}
 use Rattle.zarrs_store.specs.Contents.{Contents}
-use Rattle.zarrs_load.specs.Folder.{IsFolderFault}
-use Rattle.zarrs_tool.specs.Output.{IsCommand, IsFolderWords, WritesOutput, texts}
+use Rattle.zarrs_load.specs.Folder.{HoldsDocuments, IsFolderFault}
+use Rattle.zarrs_tool.specs.Output.{IsCommand, IsFolderWords, WritesAnswer, WritesOfFolder, WritesOfImage, WritesOutput, texts}
 use Rattle.zarrs_tool.specs.Refused.{IsLoadFault, IsRefusal, RefusedFolder}
 use Rattle.zarrs_tool.specs.declared.fault.ToolFault.{ToolFault}
 use Rattle.zarrs_tool.specs.declared.fault.ToolFault.TheVariants.{Usage}
@@ -21,9 +21,18 @@ store_fault_result words store (Err fault) refused = inr (store, refused)
 
 -- what the words wrote about the folder's store, the run wrote
 pub written_folder : {E : Type 0} (words : List (List ℕ)) (store : Contents) (old new : Option (List ℕ)) (r : Result (Unit {0}) E)
-    → OnOk r (WritesOutput words store old new) → OnOk r ((s : Contents) × WritesOutput words s old new)
-written_folder words store old new (Ok done) writes = (store, writes)
-written_folder words store old new (Err e) writes = tt
+    → HoldsDocuments store → OnOk r (WritesOutput words store old new) → OnOk r (WritesOfFolder words old new)
+written_folder words store old new (Ok done) holds writes = (store, holds, writes)
+written_folder words store old new (Err e) holds writes = tt
+
+-- a run over a folder answers
+pub folder_answered : (words : List (List ℕ)) (left before after : Option (List ℕ)) (folder : List ℕ) (tree : List (List ℕ)) → IsFolderWords words folder tree
+    → WritesOfFolder tree before after → WritesAnswer words left before after
+folder_answered words left before after folder tree is writes = inr (folder, tree, is, writes)
+
+-- so does a run over an image
+pub image_answered : (words : List (List ℕ)) (left before after : Option (List ℕ)) → WritesOfImage words left before after → WritesAnswer words left before after
+image_answered words left before after writes = inl writes
 
 -- a run that is refused for its words has none that are a command
 pub not_words : {T : Type 0} (words : List (List ℕ)) (r : Result T ToolFault) → r ≡ Err Usage → IfErr r (RefusedFolder words) → IsCommand words → ⊥

@@ -3,7 +3,8 @@
 --     word_text w, IsCommand words      how a word is written; words that are a command's
 --     IsListing, IsTree, IsBlockText      what the words write of a path
 --     Writes w, IsOutput words      the text that a word writes of a path; the text that a command's words write
-use Rattle.std.specs.Prelude.{◌≡◌, ℕ, Bool, true, false, List, [], ◌∷◌, ◌++◌, map, codes, Option, String, string_bytes}
+--     WritesAnswer words left      what a run writes that ends well
+use Rattle.std.specs.Prelude.{◌≡◌, ◌⊎◌, ℕ, Bool, true, false, List, [], ◌∷◌, ◌++◌, map, codes, Option, String, string_bytes}
 use Rattle.std.specs.declared.alloc.Global.{Global}
 use Rattle.std.specs.List.{flat_map}
 use Rattle.std.specs.Io.KnownBytes.{Appends}
@@ -19,7 +20,9 @@ use Rattle.zarrs_block.specs.Meaning.{meaning, node}
 use Rattle.zarrs_node.specs.Order.{Ascend}
 use Rattle.zarrs_node.specs.Nodes.{Nodes, Bad}
 use Rattle.zarrs_group.specs.Layout.{pretty_text}
-use Rattle.zarrs_hierarchy.specs.Opened.{IsOpenedTree}
+use Rattle.zarrs_hierarchy.specs.OpeningHierarchies.{IsOpenedTree}
+use Rattle.zarrs_load.specs.Folder.{HoldsDocuments}
+use Rattle.zarrs_load.specs.Image.{IsLoaded}
 use Rattle.zarrs_tool.specs.declared.run.Word.{Word}
 use Rattle.zarrs_tool.specs.declared.run.Word.TheVariants.{Children, List as ListAll, Tree, Consolidate}
 use Rattle.zarrs_tool.specs.declared.run.Command.{Command}
@@ -96,3 +99,19 @@ IsOutput words store text = (word : Word) × (base : Path) × IsPath base × (wo
 -- the words' output was appended to what the writer held
 abbrev pub WritesOutput : List (List ℕ) → Contents → Option (List ℕ) → Option (List ℕ) → Type 0
 WritesOutput words store before after = (text : List ℕ) × IsOutput words store text × Appends before after text
+
+-- ---- of a run
+
+-- the words' output over the store of the image that a reader had left
+abbrev pub WritesOfImage : List (List ℕ) → Option (List ℕ) → Option (List ℕ) → Option (List ℕ) → Type 0
+WritesOfImage words left before after = (store : Contents) × IsLoaded left store × WritesOutput words store before after
+
+-- the words' output over a store in which no key but a document's has bytes, as a folder's
+abbrev pub WritesOfFolder : List (List ℕ) → Option (List ℕ) → Option (List ℕ) → Type 0
+WritesOfFolder words before after = (store : Contents) × HoldsDocuments store × WritesOutput words store before after
+
+-- the output of a run that ends well: that over the image, or where the words are `folder DIR tree PATH` that of `tree PATH` over the folder's store
+abbrev pub WritesAnswer : List (List ℕ) → Option (List ℕ) → Option (List ℕ) → Option (List ℕ) → Type 0
+WritesAnswer words left before after =
+    WritesOfImage words left before after
+    ⊎ ((folder : List ℕ) × (tree : List (List ℕ)) × IsFolderWords words folder tree × WritesOfFolder tree before after)

@@ -6,7 +6,7 @@ use Rattle.zarrs_path.specs.Paths.{Path, IsPath, path_text}
 use Rattle.zarrs_path.specs.PathErrors.{RefusesPath}
 use Rattle.zarrs_block.specs.declared.node_create_error.NodeCreateError.{NodeCreateError}
 use Rattle.zarrs_block.specs.declared.node_create_error.NodeCreateError.TheVariants.{NodePathError}
-use Rattle.zarrs_block.specs.Refused.{IsExcused}
+use Rattle.zarrs_block.specs.Refusals.{IsExcused}
 use Rattle.zarrs_config.specs.declared.version.MetadataRetrieveVersion.TheVariants.{Default}
 use Rattle.zarrs_config.specs.declared.version.UseConsolidatedMetadata.TheVariants.{Auto, Never}
 use Rattle.zarrs_config.specs.declared.version.UseConsolidatedMetadata.{UseConsolidatedMetadata}
@@ -14,7 +14,7 @@ use Rattle.zarrs_meta.specs.declared.node.ArrayMetadata.{ArrayMetadata}
 use Rattle.zarrs_meta.specs.declared.node.NodeMetadata.TheVariants.{Array}
 use Rattle.zarrs_block.specs.Meaning.{meaning, node}
 use Rattle.zarrs_node.specs.Nodes.{ShowsBad}
-use Rattle.zarrs_node.specs.Opened.{RefusesOpening}
+use Rattle.zarrs_node.specs.OpeningNodes.{RefusesOpening}
 use Rattle.zarrs_load.specs.Image.{IsLoaded, RefusedImage}
 use Rattle.zarrs_load.specs.Folder.{IsFolderFault}
 use Rattle.zarrs_load.specs.declared.fault.LoadFault.{LoadFault}
@@ -25,21 +25,21 @@ use Rattle.zarrs_tool.specs.declared.fault.ToolFault.TheVariants.{Usage, Read, R
 use Rattle.zarrs_tool.specs.declared.run.Word.{Word}
 use Rattle.zarrs_tool.specs.declared.run.Word.TheVariants.{Children, List as ListAll, Tree, Consolidate}
 
--- the text is no path, and the error holds it; or memory was wanting
+-- the text is no path, and the error holds it; or out of memory
 abbrev pub RefusesPathText : List ℕ → NodeCreateError → Type 0
 RefusesPathText text (NodePathError e) = RefusesPath text e
 RefusesPathText text _ = ⊥
 
--- the text is no path, or memory was wanting
+-- the text is no path, or out of memory
 abbrev pub IsPathFault : List ℕ → ToolFault → Type 0
 IsPathFault text (Node e) = RefusesPathText text e
 IsPathFault text _ = ⊥
 
--- the listing is excused, as memory is wanting or a store that can fail did, or the refusal shows what is bad
+-- the listing is excused, as out of memory or the fault of a store that can fail, or the refusal shows what is bad
 abbrev pub RefusesListing : Bool → Contents → Bool → Path → NodeCreateError → Type 0
 RefusesListing can_fail store recursive base e = IsExcused can_fail e ⊎ ShowsBad store Default recursive base e
 
--- opening the path is excused, as memory is wanting or a store that can fail did, or it is refused by the first reason that applies
+-- opening the path is excused, as out of memory or the fault of a store that can fail, or it is refused by the first reason that applies
 abbrev pub RefusesOpen : Bool → Contents → UseConsolidatedMetadata → Path → NodeCreateError → Type 0
 RefusesOpen can_fail store policy base e = IsExcused can_fail e ⊎ RefusesOpening store Default policy (path_text base) e
 
@@ -61,22 +61,22 @@ WantsGroup ListAll store base = ⊥
 WantsGroup Tree store base = ⊥
 WantsGroup Consolidate store base = IsArray store base
 
--- the fault holds an error that refuses; or says that there is no group, where that may be said; or memory was wanting
+-- the fault holds an error that refuses; or says that there is no group, where that may be said; or out of memory
 abbrev pub IsFault : (NodeCreateError → Type 0) → Type 0 → ToolFault → Type 0
 IsFault refuses no_group (Node e) = refuses e
 IsFault refuses no_group NotAGroup = no_group
 IsFault refuses no_group OutOfMemory = ⊤
 IsFault refuses no_group _ = ⊥
 
--- a listing is refused, or memory was wanting
+-- a listing is refused, or out of memory
 abbrev pub IsListingFault : Bool → Contents → Bool → Path → ToolFault → Type 0
 IsListingFault can_fail store recursive base = IsFault (RefusesListing can_fail store recursive base) ⊥
 
--- opening a hierarchy is refused, or memory was wanting
+-- opening a hierarchy is refused, or out of memory
 abbrev pub IsTreeFault : Bool → Contents → Path → ToolFault → Type 0
 IsTreeFault can_fail store base = IsFault (RefusesOpen can_fail store Auto base) ⊥
 
--- opening a node is refused, or it is an array, or memory was wanting
+-- opening a node is refused, or it is an array, or out of memory
 abbrev pub IsBlockFault : Bool → Contents → Path → ToolFault → Type 0
 IsBlockFault can_fail store base = IsFault (RefusesOpen can_fail store Never base) (IsArray store base)
 
@@ -129,7 +129,7 @@ RefusedRun words before after NotAGroup = RefusedAfterLoad words before after No
 RefusedRun words before after Write = RefusedAfterLoad words before after Write
 RefusedRun words before after fault = IsLoadFault (RefusedImage before after) fault
 
--- the folder makes no store, or memory was wanting, or the words are refused over a store
+-- the folder makes no store, or out of memory, or the words are refused over a store
 abbrev pub RefusedFolder : List (List ℕ) → ToolFault → Type 0
 RefusedFolder words fault = IsLoadFault IsFolderFault fault ⊎ ((store : Contents) × IsRefusal false words store fault)
 

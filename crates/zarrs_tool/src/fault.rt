@@ -40,7 +40,7 @@ pub enum ToolFault {
     /// The writer failed.
     #[error("write fault")]
     Write,
-    /// Memory was wanting.
+    /// Out of memory.
     #[error("out of memory")]
     OutOfMemory,
 }
