@@ -16,14 +16,14 @@ use Rattle.serde_json.specs.View.{view, members_view}
 use Rattle.serde_json.specs.declared.value.Value.{Value}
 use Rattle.zarrs_store.specs.Segments.{Segments, key_cmp, IsKey, IsKeyText, key_text}
 use Rattle.zarrs_store.specs.Contents.{Contents, HasKey}
-use Rattle.zarrs_load.specs.Image.{IsEntry, text_at, listed, HoldsMembers, IsFirstBad}
+use Rattle.zarrs_load.specs.Image.{IsEntry, member_text, member_list, HoldsMembers, IsFirstBad}
 use Rattle.zarrs_load.proofs.StoreSteps.{at_key, keys_more}
 
 abbrev pub Entry : Type 0
 Entry = String Global × Value
 
 abbrev pub seen : List Entry → List (List ℕ × Data)
-seen es = listed (members_view es)
+seen es = member_list (members_view es)
 
 -- the members of two lists after one another
 pub seen-append : (xs ys : List Entry) → seen (xs ++ ys) ≡ seen xs ++ seen ys
@@ -69,7 +69,7 @@ push_past false a d later old text new step = step new
 
 -- one more member at the end, with a new name
 pub text_at-push : (name : List ℕ) (ms : List (List ℕ × Data)) (last : List ℕ) (d : Data) (text : List ℕ) → as_str d ≡ Some text
-    → (bytes_eq name last ≡ true → lookup (bytes_eq name) ms ≡ None) → text_at name (ms ++ (last, d) ∷ []) ≡ cond (bytes_eq name last) (Some text) (text_at name ms)
+    → (bytes_eq name last ≡ true → lookup (bytes_eq name) ms ≡ None) → member_text name (ms ++ (last, d) ∷ []) ≡ cond (bytes_eq name last) (Some text) (member_text name ms)
 text_at-push name [] last d text is new = at_last (bytes_eq name last) d text is
 text_at-push name (m ∷ ms) last d text is new = push_past (bytes_eq name m.0) (bytes_eq name last) m.1 _ _ text new (text_at-push name ms last d text is)
 
@@ -124,7 +124,7 @@ module _ {all rest : List Entry} {store : Contents} (so_far : HoldsSoFar all res
               ∙ ap (λ k. cond (bytes_eq name k) (Some text) (map.get store other)) key_is
               ∙ ap (λ o. cond (bytes_eq name (string_bytes e.0)) (Some text) o) (so_far.holds.same other h)
               ∙ sym (text_at-push name (seen so_far.done) (string_bytes e.0) (view e.1) text is new_name)
-              ∙ sym (ap (text_at name) (seen-append so_far.done (e ∷ [])));
+              ∙ sym (ap (member_text name) (seen-append so_far.done (e ∷ [])));
           keys = λ other has. keys_more store key text valid so_far.holds.keys other (subst (λ s. HasKey s other) sets has);
         };
       }

@@ -1,7 +1,6 @@
 -- The store of a folder: a file's key is the names that lead to it, joined by slashes, and documents alone have bytes (Zarr core specification 3.1,
 -- "Storage keys"; the keys of version 2 metadata).
-use Rattle.std.specs.Prelude.{◌≡◌, ℕ, List, [], ◌∷◌, ◌++◌, ◌⊎◌, ⊤, All, Contains, IfSome, Vec, codes}
-use Rattle.std.specs.declared.alloc.Global.{Global}
+use Rattle.std.specs.Prelude.{◌≡◌, ℕ, List, [], ◌∷◌, ◌++◌, ◌⊎◌, ⊤, Contains, IfSome, codes}
 use Rattle.std.specs.FinMap as map
 use Rattle.zarrs_store.specs.Segments.{Segments, key_text}
 use Rattle.zarrs_store.specs.Contents.{Contents}
@@ -26,13 +25,9 @@ IsRead name bytes = (bytes ≡ []) ⊎ (Contains document_names name × IsWithin
 abbrev pub IsFound : List ℕ → List ℕ → Type 0
 IsFound text bytes = (front name : List ℕ) × (text ≡ joined_names front name) × IsRead name bytes
 
--- so are the bytes of each file, at the text of its key
-abbrev pub AreFound : List (Segments × Vec ℕ Global) → Type 0
-AreFound files = All (λ f. IsFound (key_text f.0) f.1.items) files
-
 -- and those that the store has at any key: no bytes but of documents
-abbrev pub HoldsDocuments : Contents → Type 0
-HoldsDocuments store = (key : Segments) → IfSome (map.get store key) (IsFound (key_text key))
+abbrev pub HoldsDocumentsAlone : Contents → Type 0
+HoldsDocumentsAlone store = (key : Segments) → IfSome (map.get store key) (IsFound (key_text key))
 
 -- a folder or a file was not read, or out of memory
 abbrev pub IsFolderFault : LoadFault → Type 0

@@ -2,7 +2,8 @@
 ghost use Rattle.std.specs.Prelude.{◌≡◌, ◌+◌, ◌<◌, ◌≤◌, ◌↔◌, Contains, IfOk, IfErr, IsTrue, OnOk, string_bytes, vec_len};
 ghost use Rattle.std.specs.FinMap as map;
 ghost use Rattle.zarrs_store.specs.Segments.{key_cmp, key_text};
-ghost use Rattle.zarrs_load.specs.Folder.{AreFound, HoldsDocuments, IsFolderFault, IsRead, document_names, joined_names};
+ghost use Rattle.zarrs_load.specs.Folder.{HoldsDocumentsAlone, IsFolderFault, IsRead, document_names, joined_names};
+ghost use Rattle.zarrs_load.specs.StepsOfLoading.{AreFound};
 
 use crate::fault::LoadFault;
 use crate::read::read_whole;
@@ -34,7 +35,7 @@ pub fn load_folder<R: Log + Files + AllocGlobal>(
     rt: &R,
     folder: &str,
 ) -> Result<MemoryStore, LoadFault>
-    ensures ok { IfOk result (λ store. HoldsDocuments (map.from_entries {R = key_cmp} store)) }
+    ensures ok { IfOk result (λ store. HoldsDocumentsAlone (map.from_entries {R = key_cmp} store)) }
     ensures err { IfErr result IsFolderFault }
 {
     let alloc = rt.alloc();
@@ -262,7 +263,7 @@ fn refused<R: Log, D: Display + Drop>(rt: &R, path: &str, why: D) -> LoadFault
 // The store of these files, which are put into it in the order of their keys, each behind the last:
 // no other is moved for it.
 fn store_of(alloc: Global, files: Vec<(StoreKey, Vec<u8>)>) -> Result<MemoryStore, AllocError>
-    ensures { IfOk result (λ store. AreFound files.items → HoldsDocuments (map.from_entries {R = key_cmp} store)) }
+    ensures { IfOk result (λ store. AreFound files.items → HoldsDocumentsAlone (map.from_entries {R = key_cmp} store)) }
 {
     let mut sorted = files;
     sorted.sort_unstable();

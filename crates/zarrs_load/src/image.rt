@@ -6,7 +6,8 @@ ghost use Rattle.serde_json.specs.View.{members_view, view};
 ghost use Rattle.serde_json.specs.Find.{as_object, as_str};
 ghost use Rattle.zarrs_store.specs.Segments.{key_cmp};
 ghost use Rattle.zarrs_load.specs.Reading.{IsWithinBound};
-ghost use Rattle.zarrs_load.specs.Image.{HoldsMembers, IsMemberFault, IsLoaded, IsObject, RefusedImage, RefusedObject, listed};
+ghost use Rattle.zarrs_load.specs.Image.{HoldsMembers, IsLoaded, IsObject, RefusedImage, member_list};
+ghost use Rattle.zarrs_load.specs.StepsOfLoading.{IsMemberFault, RefusedObject};
 
 use crate::fault::LoadFault;
 use crate::read::read_whole;
@@ -71,8 +72,8 @@ fn text_of(value: Value) -> Option<String>
 // The store of an object's members, whose names and texts it takes over.
 fn store_of(alloc: Global, members: Map<String, Value>) -> Result<MemoryStore, LoadFault>
     ensures ok { IfOk result (λ store.
-        HoldsMembers (listed (members_view members.entries)) (map.from_entries {R = key_cmp} store)) }
-    ensures err { IfErr result (IsMemberFault (listed (members_view members.entries))) }
+        HoldsMembers (member_list (members_view members.entries)) (map.from_entries {R = key_cmp} store)) }
+    ensures err { IfErr result (IsMemberFault (member_list (members_view members.entries))) }
 {
     let mut store = MemoryStore::new(alloc);
     for (name, value) in members {

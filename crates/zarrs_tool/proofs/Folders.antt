@@ -4,9 +4,10 @@ use Rattle.std.specs.Prelude.{Result, Ok, Err, IfErr, OnOk}
 use Rattle.std.specs.Str.{bytes_eq}
 use Rattle.std.proofs.lemmas.Slice.Eq.{bytes_eq-Decides}
 use Rattle.zarrs_store.specs.Contents.{Contents}
-use Rattle.zarrs_load.specs.Folder.{HoldsDocuments, IsFolderFault}
-use Rattle.zarrs_tool.specs.Output.{IsCommand, IsFolderWords, WritesAnswer, WritesOfFolder, WritesOfImage, WritesOutput, texts}
-use Rattle.zarrs_tool.specs.Refused.{IsLoadFault, IsRefusal, RefusedFolder}
+use Rattle.zarrs_load.specs.Folder.{HoldsDocumentsAlone, IsFolderFault}
+use Rattle.zarrs_tool.specs.Output.{IsCommand, WritesOfImage, WritesOutput, texts}
+use Rattle.zarrs_tool.specs.StepsOfRuns.{IsFolderWords, WritesAnswer, WritesOfFolder, RefusedFolder}
+use Rattle.zarrs_tool.specs.Refusals.{IsLoadFault, IsRefusal}
 use Rattle.zarrs_tool.specs.declared.fault.ToolFault.{ToolFault}
 use Rattle.zarrs_tool.specs.declared.fault.ToolFault.TheVariants.{Usage}
 
@@ -21,7 +22,7 @@ store_fault_result words store (Err fault) refused = inr (store, refused)
 
 -- what the words wrote about the folder's store, the run wrote
 pub written_folder : {E : Type 0} (words : List (List ℕ)) (store : Contents) (old new : Option (List ℕ)) (r : Result (Unit {0}) E)
-    → HoldsDocuments store → OnOk r (WritesOutput words store old new) → OnOk r (WritesOfFolder words old new)
+    → HoldsDocumentsAlone store → OnOk r (WritesOutput words store old new) → OnOk r (WritesOfFolder words old new)
 written_folder words store old new (Ok done) holds writes = (store, holds, writes)
 written_folder words store old new (Err e) holds writes = tt
 

@@ -5,8 +5,9 @@ use Rattle.std.specs.Io.KnownBytes.{Appends, IsAtEnd}
 use Rattle.zarrs_store.specs.Contents.{Contents}
 use Rattle.zarrs_path.specs.Paths.{Path, IsPath, path_text}
 use Rattle.zarrs_load.specs.Image.{IsLoaded, RefusedImage}
-use Rattle.zarrs_tool.specs.Output.{IsCommand, IsOutput, Writes, WritesOutput, command_words, word_text}
-use Rattle.zarrs_tool.specs.Refused.{IsLoadFault, IsPathFault, IsRefusal, IsWordFault, RefusedRun}
+use Rattle.zarrs_tool.specs.Output.{IsCommand, IsOutput, Writes, WritesOutput, word_text}
+use Rattle.zarrs_tool.specs.StepsOfRuns.{command_words, IsPathFault, IsWordFault}
+use Rattle.zarrs_tool.specs.Refusals.{IsLoadFault, IsRefusal, RefusedRun}
 use Rattle.zarrs_tool.specs.declared.run.Command.{Command}
 use Rattle.zarrs_tool.specs.declared.fault.ToolFault.{ToolFault}
 use Rattle.zarrs_tool.specs.declared.fault.ToolFault.TheVariants.{Usage, Read, ReadTooLong, Image, ImageKey, ImageValue, Folder, NotAGroup, Node, Write, OutOfMemory}

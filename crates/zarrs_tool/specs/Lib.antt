@@ -1,3 +1,4 @@
 pub mod Output
-pub mod Refused
+pub mod Refusals
 pub mod Sinks
+pub mod StepsOfRuns

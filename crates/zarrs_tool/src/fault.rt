@@ -71,7 +71,7 @@ impl From<NodeCreateError> for ToolFault {
 }
 
 impl From<LoadFault> for ToolFault {
-    ghost use Rattle.zarrs_tool.specs.Refused.{IsLoadFault};
+    ghost use Rattle.zarrs_tool.specs.Refusals.{IsLoadFault};
 
     ghost from_gives = { λ error fault. IsLoadFault (λ e. e ≡ error) fault };
 

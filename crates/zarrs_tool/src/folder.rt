@@ -2,8 +2,8 @@
 ghost use Rattle.std.specs.Prelude.{IfOk, IfErr};
 ghost use Rattle.std.specs.FinMap as map;
 ghost use Rattle.zarrs_store.specs.Segments.{key_cmp};
-ghost use Rattle.zarrs_load.specs.Folder.{HoldsDocuments, IsFolderFault};
-ghost use Rattle.zarrs_tool.specs.Refused.{IsLoadFault};
+ghost use Rattle.zarrs_load.specs.Folder.{HoldsDocumentsAlone, IsFolderFault};
+ghost use Rattle.zarrs_tool.specs.Refusals.{IsLoadFault};
 
 use crate::fault::ToolFault;
 use log::Log;
@@ -18,7 +18,7 @@ pub fn load_folder<R: Log + Files + AllocGlobal>(
     rt: &R,
     folder: &str,
 ) -> Result<MemoryStore, ToolFault>
-    ensures ok { IfOk result (λ store. HoldsDocuments (map.from_entries {R = key_cmp} store)) }
+    ensures ok { IfOk result (λ store. HoldsDocumentsAlone (map.from_entries {R = key_cmp} store)) }
     ensures err { IfErr result (IsLoadFault IsFolderFault) }
 {
     let rt = rt.with_target(module_path!());

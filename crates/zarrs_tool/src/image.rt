@@ -5,7 +5,7 @@ ghost use Rattle.std.specs.Io.KnownBytes.{IsAtEnd};
 ghost use Rattle.zarrs_store.specs.Segments.{key_cmp};
 ghost use Rattle.zarrs_load.specs.Reading.{IsWithinBound};
 ghost use Rattle.zarrs_load.specs.Image.{IsLoaded, RefusedImage};
-ghost use Rattle.zarrs_tool.specs.Refused.{IsLoadFault};
+ghost use Rattle.zarrs_tool.specs.Refusals.{IsLoadFault};
 
 use crate::fault::ToolFault;
 use std::alloc::Global;

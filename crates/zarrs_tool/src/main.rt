@@ -3,8 +3,8 @@
 
 ghost use Rattle.std.specs.Prelude.{◌≡◌, ◌≢◌, ◌↔◌, IfErr, OnOk, IfSome, IfNone};
 ghost use Rattle.std.specs.Io.KnownBytes.{Keeps};
-ghost use Rattle.zarrs_tool.specs.Output.{IsCommand, IsFolderCommand, IsFolderWords, IsNoCommand, WritesAnswer, WritesOfFolder, WritesOfImage, texts};
-ghost use Rattle.zarrs_tool.specs.Refused.{RefusedFolder};
+ghost use Rattle.zarrs_tool.specs.Output.{IsCommand, WritesOfImage, texts};
+ghost use Rattle.zarrs_tool.specs.StepsOfRuns.{IsFolderCommand, IsFolderWords, IsNoCommand, WritesAnswer, WritesOfFolder, RefusedFolder};
 
 #[cfg(test)]
 mod asserts;

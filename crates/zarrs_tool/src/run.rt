@@ -4,8 +4,9 @@ ghost use Rattle.std.specs.FinMap as map;
 ghost use Rattle.std.specs.Io.KnownBytes.{Appends, Keeps, IsAtEnd};
 ghost use Rattle.zarrs_path.specs.Paths.{IsPath, path_text};
 ghost use Rattle.zarrs_tool.specs.Sinks.{AppendsLine};
-ghost use Rattle.zarrs_tool.specs.Output.{IsCommand, IsListing, IsOutput, Writes, WritesOfImage, WritesOutput, command_words, texts, word_text};
-ghost use Rattle.zarrs_tool.specs.Refused.{IsListingFault, IsPathFault, IsRefusal, IsWordFault, RefusedRun, status_of};
+ghost use Rattle.zarrs_tool.specs.Output.{IsCommand, IsListing, IsOutput, Writes, WritesOfImage, WritesOutput, texts, word_text};
+ghost use Rattle.zarrs_tool.specs.StepsOfRuns.{command_words, IsListingFault, IsPathFault, IsWordFault};
+ghost use Rattle.zarrs_tool.specs.Refusals.{IsRefusal, RefusedRun, status_of};
 
 use crate::fault::ToolFault;
 use crate::image::load_image;

@@ -1,5 +1,5 @@
 use Rattle.std.proofs.Common.{vec_len, ◌+◌, ◌≤◌}
-use Rattle.zarrs_load.specs.Folder.{AreFound}
+use Rattle.zarrs_load.specs.StepsOfLoading.{AreFound}
 use Rattle.zarrs_load.proofs.folder.list.Given as goal
 
 abbrev pub invariant-loop-entry : goal.invariant-loop-entry

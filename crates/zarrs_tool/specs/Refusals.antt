@@ -16,7 +16,6 @@ use Rattle.zarrs_block.specs.Meaning.{meaning, node}
 use Rattle.zarrs_node.specs.Nodes.{ShowsBad}
 use Rattle.zarrs_node.specs.OpeningNodes.{RefusesOpening}
 use Rattle.zarrs_load.specs.Image.{IsLoaded, RefusedImage}
-use Rattle.zarrs_load.specs.Folder.{IsFolderFault}
 use Rattle.zarrs_load.specs.declared.fault.LoadFault.{LoadFault}
 use Rattle.zarrs_load.specs.declared.fault.LoadFault.TheVariants as load
 use Rattle.zarrs_tool.specs.Output.{IsCommand, IsOutput, word_text}
@@ -29,11 +28,6 @@ use Rattle.zarrs_tool.specs.declared.run.Word.TheVariants.{Children, List as Lis
 abbrev pub RefusesPathText : List ℕ → NodeCreateError → Type 0
 RefusesPathText text (NodePathError e) = RefusesPath text e
 RefusesPathText text _ = ⊥
-
--- the text is no path, or out of memory
-abbrev pub IsPathFault : List ℕ → ToolFault → Type 0
-IsPathFault text (Node e) = RefusesPathText text e
-IsPathFault text _ = ⊥
 
 -- the listing is excused, as out of memory or the fault of a store that can fail, or the refusal shows what is bad
 abbrev pub RefusesListing : Bool → Contents → Bool → Path → NodeCreateError → Type 0
@@ -60,29 +54,6 @@ WantsGroup Children store base = ⊥
 WantsGroup ListAll store base = ⊥
 WantsGroup Tree store base = ⊥
 WantsGroup Consolidate store base = IsArray store base
-
--- the fault holds an error that refuses; or says that there is no group, where that may be said; or out of memory
-abbrev pub IsFault : (NodeCreateError → Type 0) → Type 0 → ToolFault → Type 0
-IsFault refuses no_group (Node e) = refuses e
-IsFault refuses no_group NotAGroup = no_group
-IsFault refuses no_group OutOfMemory = ⊤
-IsFault refuses no_group _ = ⊥
-
--- a listing is refused, or out of memory
-abbrev pub IsListingFault : Bool → Contents → Bool → Path → ToolFault → Type 0
-IsListingFault can_fail store recursive base = IsFault (RefusesListing can_fail store recursive base) ⊥
-
--- opening a hierarchy is refused, or out of memory
-abbrev pub IsTreeFault : Bool → Contents → Path → ToolFault → Type 0
-IsTreeFault can_fail store base = IsFault (RefusesOpen can_fail store Auto base) ⊥
-
--- opening a node is refused, or it is an array, or out of memory
-abbrev pub IsBlockFault : Bool → Contents → Path → ToolFault → Type 0
-IsBlockFault can_fail store base = IsFault (RefusesOpen can_fail store Never base) (IsArray store base)
-
--- a word is refused of a path
-abbrev pub IsWordFault : Bool → Word → Contents → Path → ToolFault → Type 0
-IsWordFault can_fail word store base = IsFault (RefusesWord can_fail word store base) (WantsGroup word store base)
 
 -- the words' path is none
 abbrev pub RefusesWords : List (List ℕ) → NodeCreateError → Type 0
@@ -128,10 +99,6 @@ RefusedRun words before after (Node e) = RefusedAfterLoad words before after (No
 RefusedRun words before after NotAGroup = RefusedAfterLoad words before after NotAGroup
 RefusedRun words before after Write = RefusedAfterLoad words before after Write
 RefusedRun words before after fault = IsLoadFault (RefusedImage before after) fault
-
--- the folder makes no store, or out of memory, or the words are refused over a store
-abbrev pub RefusedFolder : List (List ℕ) → ToolFault → Type 0
-RefusedFolder words fault = IsLoadFault IsFolderFault fault ⊎ ((store : Contents) × IsRefusal false words store fault)
 
 -- the exit status: 0 where all went well, 2 for wrong words, else 1
 abbrev pub status_of : Result Unit ToolFault → ℕ
