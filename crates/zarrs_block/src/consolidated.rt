@@ -100,7 +100,8 @@ impl ConsolidatedMetadataMetadata {
     pub fn remove(&mut self, key: &str) -> Option<NodeMetadata>
         ensures value { result ≡ node_at_key self.old key.now }
         ensures gone { node_at_key self.new key.now ≡ None }
-        ensures others { (t : List ℕ) → t ≢ key.now → node_at_key self.new t ≡ node_at_key self.old t }
+        ensures others { (t : List ℕ) → t ≢ key.now
+            → node_at_key self.new t ≡ node_at_key self.old t }
         ensures ascending { IsAscending self.new }
     {
         self.entries.remove(key)
@@ -227,7 +228,8 @@ fn members_of(value: &Value) -> Result<&Map<String, Value>, MetadataFault>
 
 // Asks whether the member `kind` is the text `inline`.
 fn ask_kind(members: &Map<String, Value>) -> Result<(), MetadataFault>
-    ensures { result ≡ required_member (codes "kind") inline (object (members_view members.now.entries)) }
+    ensures { result
+        ≡ required_member (codes "kind") inline (object (members_view members.now.entries)) }
 {
     let Some(kind) = member(members, "kind") else {
         return Err(MetadataFault::MissingMember(MemberName::new("kind")));
@@ -240,7 +242,9 @@ fn ask_kind(members: &Map<String, Value>) -> Result<(), MetadataFault>
 
 // Asks whether the member `must_understand` is false, or not there.
 fn ask_not_understood(members: &Map<String, Value>) -> Result<(), MetadataFault>
-    ensures { result ≡ optional_member (codes "must_understand") tt untrue (object (members_view members.now.entries)) }
+    ensures { result
+        ≡ optional_member (codes "must_understand") tt untrue
+        (object (members_view members.now.entries)) }
 {
     match member(members, "must_understand") {
         None | Some(Value::Bool(false)) => Ok(()),
@@ -254,7 +258,8 @@ fn metadata_of(
     members: &Map<String, Value>,
 ) -> Result<ConsolidatedMetadataMetadata, MetadataFault>
     requires { members_have_float (members_view members.now.entries) ≡ false }
-    ensures { Gives (λ all. all) result (required_member (codes "metadata") nodes (object (members_view members.now.entries))) }
+    ensures { Gives (λ all. all) result
+        (required_member (codes "metadata") nodes (object (members_view members.now.entries))) }
 {
     let Some(value) = member(members, "metadata") else {
         return Err(MetadataFault::MissingMember(MemberName::new("metadata")));
@@ -271,7 +276,8 @@ fn nodes_of(
     documents: &Map<String, Value>,
 ) -> Result<ConsolidatedMetadataMetadata, MetadataFault>
     requires { members_have_float (members_view documents.now.entries) ≡ false }
-    ensures { Gives (λ all. all) result (form_or_fault (codes "metadata") (nodes_of (members_view documents.now.entries))) }
+    ensures { Gives (λ all. all) result
+        (form_or_fault (codes "metadata") (nodes_of (members_view documents.now.entries))) }
 {
     let mut all = ConsolidatedMetadataMetadata::new(alloc);
     for (key, document) in documents.iter() {
@@ -284,7 +290,8 @@ fn nodes_of(
 // The node that a whole node document is.
 fn node_of(alloc: Global, document: &Value) -> Result<NodeMetadata, MetadataFault>
     requires { has_float (view document.now) ≡ false }
-    ensures { Gives (λ m. m) result (form_or_fault (codes "metadata") (result_ok (node_of (view document.now)))) }
+    ensures { Gives (λ m. m) result
+        (form_or_fault (codes "metadata") (result_ok (node_of (view document.now)))) }
 {
     match asked_node(alloc, document) {
         Ok(node) => Ok(node),

@@ -25,7 +25,8 @@ pub fn resolve_consolidated_policy(
     block: Option<ConsolidatedMetadata>,
     policy: UseConsolidatedMetadata,
 ) -> Result<Option<ConsolidatedMetadata>, NodeCreateError>
-    ensures ok { IfOk result (λ chosen. block_to_use (as_block block) policy ≡ Some (as_block chosen)) }
+    ensures ok { IfOk result
+        (λ chosen. block_to_use (as_block block) policy ≡ Some (as_block chosen)) }
     ensures err { IfErr result (RefusesUse path.now (block_to_use (as_block block) policy)) }
 {
     match policy {
@@ -101,8 +102,11 @@ pub fn consolidated_metadata_for_open(
     metadata: &NodeMetadata,
     policy: UseConsolidatedMetadata,
 ) -> Result<Option<ConsolidatedMetadata>, NodeCreateError>
-    ensures ok { IfOk result (λ chosen. block_to_use (block_in metadata.now) policy ≡ Some (as_block chosen)) }
-    ensures err { IfErr result (λ e. RefusesUse path.now (block_to_use (block_in metadata.now) policy) e ⊎ LacksBlockMemory metadata.now policy e) }
+    ensures ok { IfOk result
+        (λ chosen. block_to_use (block_in metadata.now) policy ≡ Some (as_block chosen)) }
+    ensures err { IfErr result
+        (λ e. RefusesUse path.now (block_to_use (block_in metadata.now) policy) e
+            ⊎ LacksBlockMemory metadata.now policy e) }
 {
     if let UseConsolidatedMetadata::Never = policy {
         return Ok(None);

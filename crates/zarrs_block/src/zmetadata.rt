@@ -48,7 +48,9 @@ impl ConsolidatedMetadata {
         value: &Value,
     ) -> Result<ConsolidatedMetadata, MetadataFault>
         ensures gives { Gives (λ block. block.metadata) result (zmetadata_of (view value.now)) }
-        ensures store { IfOk result (λ block. (ms : Members) × (zmetadata_members (view value.now) ≡ Ok ms) × HoldsStore ms block.metadata × IsClean ms) }
+        ensures store { IfOk result
+            (λ block. (ms : Members) × (zmetadata_members (view value.now) ≡ Ok ms)
+                × HoldsStore ms block.metadata × IsClean ms) }
         ensures refused { IfErr result (λ fault. (fault ≡ MetadataFault.OutOfMemory)
             ⊎ IsZmetadataFault (view value.now) fault) }
         ensures ascending { IfOk result (λ block. IsAscending block.metadata) }
@@ -68,7 +70,9 @@ impl ConsolidatedMetadata {
         value: Value,
     ) -> Result<ConsolidatedMetadata, MetadataFault>
         ensures gives { Gives (λ block. block.metadata) result (zmetadata_of (view value)) }
-        ensures store { IfOk result (λ block. (ms : Members) × (zmetadata_members (view value) ≡ Ok ms) × HoldsStore ms block.metadata × IsClean ms) }
+        ensures store { IfOk result
+            (λ block. (ms : Members) × (zmetadata_members (view value) ≡ Ok ms)
+                × HoldsStore ms block.metadata × IsClean ms) }
         ensures refused { IfErr result (λ fault. (fault ≡ MetadataFault.OutOfMemory)
             ⊎ IsZmetadataFault (view value) fault) }
         ensures ascending { IfOk result (λ block. IsAscending block.metadata) }
@@ -82,8 +86,10 @@ fn block_of(
     alloc: Global,
     mut members: Map<String, Value>,
 ) -> Result<ConsolidatedMetadata, MetadataFault>
-    requires { document_of (object (members_view members.entries)) ≡ Ok (members_view members.entries) }
-    ensures { Gives (λ block. block.metadata) result (zmetadata_taken (object (members_view members.entries))) }
+    requires { document_of (object (members_view members.entries))
+        ≡ Ok (members_view members.entries) }
+    ensures { Gives (λ block. block.metadata) result
+        (zmetadata_taken (object (members_view members.entries))) }
 {
     ask_consolidated_format(&members)?;
     let documents = take_documents(&mut members)?;
@@ -93,7 +99,9 @@ fn block_of(
 
 // Asks whether the member `zarr_consolidated_format` is the number 1.
 fn ask_consolidated_format(members: &Map<String, Value>) -> Result<(), MetadataFault>
-    ensures { result ≡ required_member (codes "zarr_consolidated_format") one (object (members_view members.now.entries)) }
+    ensures { result
+        ≡ required_member (codes "zarr_consolidated_format") one
+        (object (members_view members.now.entries)) }
 {
     let Some(format) = member(members, "zarr_consolidated_format") else {
         return Err(MetadataFault::MissingMember(MemberName::new("zarr_consolidated_format")));
@@ -106,7 +114,8 @@ fn ask_consolidated_format(members: &Map<String, Value>) -> Result<(), MetadataF
 
 // Takes the member `metadata` out of the members.
 fn take_documents(members: &mut Map<String, Value>) -> Result<Map<String, Value>, MetadataFault>
-    ensures { Gives (λ documents. members_view documents.entries) result (required_member (codes "metadata") as_object (object (members_view members.old.entries))) }
+    ensures { Gives (λ documents. members_view documents.entries) result
+        (required_member (codes "metadata") as_object (object (members_view members.old.entries))) }
 {
     let Some(value) = take_member(members, "metadata") else {
         return Err(MetadataFault::MissingMember(MemberName::new("metadata")));
@@ -194,7 +203,8 @@ impl Documents {
 
     // These documents, and of the files of which there is none those of the others.
     fn or(self, others: Documents) -> Documents
-        ensures { (file : File) → tree_in result file ≡ first_tree (tree_in self file) (tree_in others file) }
+        ensures { (file : File)
+            → tree_in result file ≡ first_tree (tree_in self file) (tree_in others file) }
     {
         Documents {
             array: self.array.or(others.array),
@@ -205,7 +215,9 @@ impl Documents {
 
     // Puts a document in the place of the one that was there.
     fn put(&mut self, file: File, document: Value)
-        ensures { (other : File) → tree_in self.new other ≡ (if is_file file other then Some (view document) else tree_in self.old other) }
+        ensures { (other : File)
+            → tree_in self.new other
+            ≡ (if is_file file other then Some (view document) else tree_in self.old other) }
     {
         match file {
             File::Array => self.array = Some(document),
@@ -217,7 +229,9 @@ impl Documents {
 
 // The documents of version 2 below the group, in runs of those of one path, as they come.
 fn runs_of(alloc: Global, documents: Map<String, Value>) -> Result<Vec<Run>, MetadataFault>
-    ensures all { IfOk result (λ runs. (t : List ℕ) (file : File) → tree_among runs.items t file ≡ member_at (members_view documents.entries) t file) }
+    ensures all { IfOk result
+        (λ runs. (t : List ℕ) (file : File)
+            → tree_among runs.items t file ≡ member_at (members_view documents.entries) t file) }
     ensures named { IfOk result (λ _. IsTrue (are_named (members_view documents.entries))) }
     ensures err { IfErr result (RefusesNames (members_view documents.entries)) }
 {
@@ -245,7 +259,12 @@ fn put_document(
     file: File,
     document: Value,
 ) -> Result<Run, AllocError>
-    ensures { IfOk result (λ next. (t : List ℕ) (other : File) → gathered_at runs.new.items next t other ≡ (if bytes_eq path.now t && is_file file other then Some (view document) else gathered_at runs.old.items run t other)) }
+    ensures { IfOk result
+        (λ next. (t : List ℕ) (other : File)
+            → gathered_at runs.new.items next t other
+            ≡ (if bytes_eq path.now t
+                && is_file file other then Some
+                (view document) else gathered_at runs.old.items run t other)) }
 {
     let Run {
         path,
@@ -258,7 +277,9 @@ fn put_document(
 // The run where it is that of the path, and else a new one, once the other is put behind the runs before it.
 fn run_of(alloc: Global, runs: &mut Vec<Run>, run: Run, path: &str) -> Result<Run, AllocError>
     ensures path { IfOk result (λ next. string_bytes next.path ≡ path.now) }
-    ensures same { IfOk result (λ next. (t : List ℕ) (file : File) → gathered_at runs.new.items next t file ≡ gathered_at runs.old.items run t file) }
+    ensures same { IfOk result
+        (λ next. (t : List ℕ) (file : File)
+            → gathered_at runs.new.items next t file ≡ gathered_at runs.old.items run t file) }
 {
     if run.path.as_str() == path {
         return Ok(run);
@@ -272,7 +293,9 @@ fn run_of(alloc: Global, runs: &mut Vec<Run>, run: Run, path: &str) -> Result<Ru
 
 // The runs in the order of their paths.
 fn sorted(mut runs: Vec<Run>) -> Result<Vec<Run>, AllocError>
-    ensures same { IfOk result (λ all. (t : List ℕ) (file : File) → tree_among all.items t file ≡ tree_among runs.items t file) }
+    ensures same { IfOk result
+        (λ all. (t : List ℕ) (file : File)
+            → tree_among all.items t file ≡ tree_among runs.items t file) }
     ensures sorted { IfOk result (λ all. IsSortedBy is_before all.items) }
 {
     runs.sort_by(|a, b| a.path.cmp(&b.path))?;
@@ -282,7 +305,9 @@ fn sorted(mut runs: Vec<Run>) -> Result<Vec<Run>, AllocError>
 // The runs, those of one path joined to one.
 fn joined(alloc: Global, runs: Vec<Run>) -> Result<Vec<Run>, AllocError>
     requires { IsSortedBy is_before runs.items }
-    ensures same { IfOk result (λ all. (t : List ℕ) (file : File) → tree_among all.items t file ≡ tree_among runs.items t file) }
+    ensures same { IfOk result
+        (λ all. (t : List ℕ) (file : File)
+            → tree_among all.items t file ≡ tree_among runs.items t file) }
     ensures ascend { IfOk result (λ all. RunsAscend all.items) }
 {
     let mut all = Vec::new(alloc);
@@ -353,7 +378,8 @@ fn nodes_of(alloc: Global, runs: Vec<Run>) -> Result<ConsolidatedMetadataMetadat
 // The node that the documents of a path are, if they are one.
 fn node_of(alloc: Global, documents: Documents) -> Result<Option<NodeMetadata>, MetadataFault>
     requires { HaveNoFloat (tree_in documents) }
-    ensures { Gives (λ node. node) result (form_or_fault (codes "metadata") (result_ok (read_files (tree_in documents)))) }
+    ensures { Gives (λ node. node) result
+        (form_or_fault (codes "metadata") (result_ok (read_files (tree_in documents)))) }
 {
     match read_node(alloc, documents) {
         Ok(node) => Ok(node),
@@ -389,7 +415,9 @@ fn read_array(
 ) -> Result<NodeMetadata, MetadataFault>
     requires document { has_float (view value) ≡ false }
     requires attributes { IfSome (option_map view attributes) (λ d. has_float d ≡ false) }
-    ensures { Gives (λ node. node) result (read_with array_v2_of (λ m. Array (array_v2 m)) array_with (view value) (option_map view attributes)) }
+    ensures { Gives (λ node. node) result
+        (read_with array_v2_of (λ m. Array (array_v2 m)) array_with (view value)
+            (option_map view attributes)) }
 {
     let mut array = asked_array(alloc, value)?;
     if let Some(value) = attributes {
@@ -407,7 +435,9 @@ fn read_group(
 ) -> Result<NodeMetadata, MetadataFault>
     requires document { has_float (view value) ≡ false }
     requires attributes { IfSome (option_map view attributes) (λ d. has_float d ≡ false) }
-    ensures { Gives (λ node. node) result (read_with group_v2_of (λ m. Group (group_v2 m)) group_with (view value) (option_map view attributes)) }
+    ensures { Gives (λ node. node) result
+        (read_with group_v2_of (λ m. Group (group_v2 m)) group_with (view value)
+            (option_map view attributes)) }
 {
     let mut group = asked_group(alloc, value)?;
     if let Some(value) = attributes {

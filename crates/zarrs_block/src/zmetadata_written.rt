@@ -36,8 +36,10 @@ impl ConsolidatedMetadata {
         alloc: Global,
         group: &GroupMetadataV2,
     ) -> Result<Value, NodeCreateError>
-        ensures documents { IfOk result (λ value. IsWrittenOf group.now self.now.metadata (view value)) }
-        ensures tree { IfOk result (λ value. view value ≡ zmetadata_tree group.now self.now.metadata) }
+        ensures documents { IfOk result
+            (λ value. IsWrittenOf group.now self.now.metadata (view value)) }
+        ensures tree { IfOk result
+            (λ value. view value ≡ zmetadata_tree group.now self.now.metadata) }
         ensures keys { IfOk result (λ _. HasValidKeys self.now.metadata) }
         ensures version { IfOk result (λ _. HasVersion2 self.now.metadata) }
         ensures err { IfErr result (RefusesZmetadata self.now.metadata) }
@@ -63,7 +65,8 @@ fn documents_of(
     alloc: Global,
     mut nodes: Vec<(NodePath, NodeMetadata)>,
 ) -> Result<Map<String, Value>, NodeCreateError>
-    ensures ok { IfOk result (λ documents. members_view documents.entries ≡ nodes_written nodes.items) }
+    ensures ok { IfOk result
+        (λ documents. members_view documents.entries ≡ nodes_written nodes.items) }
     ensures version { IfOk result (λ _. All (λ e. IsTrue (is_version_2 e.1)) nodes.items) }
     ensures err { IfErr result (RefusesWritingNodes nodes.items) }
 {
@@ -81,7 +84,9 @@ fn put_node(
     path: &NodePath,
     node: NodeMetadata,
 ) -> Result<(), NodeCreateError>
-    ensures ok { OnOk result (members_view documents.new.entries ≡ put_documents path.now (node_written node) (members_view documents.old.entries)) }
+    ensures ok { OnOk result
+        (members_view documents.new.entries
+            ≡ put_documents path.now (node_written node) (members_view documents.old.entries)) }
     ensures version { OnOk result (IsTrue (is_version_2 node)) }
     ensures err { IfErr result (RefusesWritingNode node) }
 {
@@ -107,7 +112,10 @@ fn put_group(
     path: &NodePath,
     mut group: GroupMetadataV2,
 ) -> Result<(), AllocError>
-    ensures { OnOk result (members_view documents.new.entries ≡ put_documents path.now (node_written (Group (group_v2 group))) (members_view documents.old.entries)) }
+    ensures { OnOk result
+        (members_view documents.new.entries
+            ≡ put_documents path.now (node_written (Group (group_v2 group)))
+            (members_view documents.old.entries)) }
 {
     let attributes = replace(&mut group.attributes, Object::new(alloc));
     put_attributes(documents, alloc, path, attributes)?;
@@ -122,7 +130,10 @@ fn put_array(
     path: &NodePath,
     mut array: ArrayMetadataV2,
 ) -> Result<(), AllocError>
-    ensures { OnOk result (members_view documents.new.entries ≡ put_documents path.now (node_written (Array (array_v2 array))) (members_view documents.old.entries)) }
+    ensures { OnOk result
+        (members_view documents.new.entries
+            ≡ put_documents path.now (node_written (Array (array_v2 array)))
+            (members_view documents.old.entries)) }
 {
     let attributes = replace(&mut array.attributes, Object::new(alloc));
     put_attributes(documents, alloc, path, attributes)?;
@@ -137,7 +148,10 @@ fn put_attributes(
     path: &NodePath,
     attributes: Object,
 ) -> Result<(), AllocError>
-    ensures { OnOk result (members_view documents.new.entries ≡ put_documents path.now (attributes_written attributes) (members_view documents.old.entries)) }
+    ensures { OnOk result
+        (members_view documents.new.entries
+            ≡ put_documents path.now (attributes_written attributes)
+            (members_view documents.old.entries)) }
 {
     if attributes.is_empty() {
         return Ok(());

@@ -36,7 +36,8 @@ pub(crate) fn configured<T: Form>(
     key: &str,
     value: &T,
 ) -> Result<MetadataV3, AllocError>
-    ensures { IfOk result (λ extension. extension ≡ with_configuration name.now key.now (T.written value.now)) }
+    ensures { IfOk result
+        (λ extension. extension ≡ with_configuration name.now key.now (T.written value.now)) }
 {
     let mut configuration = Map::new(alloc);
     put_member(&mut configuration, alloc, key, Some(value))?;

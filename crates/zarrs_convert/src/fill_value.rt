@@ -78,7 +78,9 @@ fn default_value(alloc: Global, name: &str) -> Result<Value, ArrayMetadataV2ToV3
 
 // The fill value for the type `string`: 0 is the empty text, and any other is kept.
 fn string_value(alloc: Global, value: &Value) -> Result<Value, AllocError>
-    ensures { IfOk result (λ made. view made ≡ (if is_fill_number 0 (view value.now) then string [] else view value.now)) }
+    ensures { IfOk result
+        (λ made. view made
+            ≡ (if is_fill_number 0 (view value.now) then string [] else view value.now)) }
 {
     if is_number(value, 0) {
         return Ok(Value::String(String::new(alloc)));
@@ -88,8 +90,10 @@ fn string_value(alloc: Global, value: &Value) -> Result<Value, AllocError>
 
 // The fill value for the type `bool`: 0 and 1 are truth values, and any other is kept.
 fn bool_value(value: &Value) -> Result<Value, AllocError>
-    ensures { IfOk result (λ made. view made ≡ (if is_fill_number 0 (view value.now) then boolean false
-        else (if is_fill_number 1 (view value.now) then boolean true else view value.now))) }
+    ensures { IfOk result
+        (λ made. view made
+            ≡ (if is_fill_number 0 (view value.now) then boolean false else
+                (if is_fill_number 1 (view value.now) then boolean true else view value.now))) }
 {
     if is_number(value, 0) {
         return Ok(Value::Bool(false));

@@ -26,7 +26,9 @@ fn is_decimal(text: &str) -> bool
 /// The number that one or more decimal digits write, where it fits 64 bits.
 pub(crate) fn number_of(digits: &str) -> Option<u64>
     requires { IsTrue (is_decimal digits.now) }
-    ensures { result ≡ (if fits_u64 (digits_value 10 digits.now) then Some (digits_value 10 digits.now) else None) }
+    ensures { result
+        ≡ (if fits_u64 (digits_value 10 digits.now) then Some
+            (digits_value 10 digits.now) else None) }
 {
     digits.parse().ok()
 }

@@ -42,7 +42,8 @@ impl MetadataV3 {
         alloc: Global,
         mut members: Map<String, Value>,
     ) -> Result<Option<MetadataV3>, AllocError>
-        ensures { IfOk result (λ found. found ≡ extension_object (object (members_view members.entries))) }
+        ensures { IfOk result
+            (λ found. found ≡ extension_object (object (members_view members.entries))) }
     {
         let Some(name) = take_member(&mut members, "name") else {
             return Ok(None);

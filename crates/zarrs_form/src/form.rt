@@ -61,8 +61,10 @@ pub trait Form: Sized {
     fn write(&self, alloc: Global, out: &mut String) -> Result<(), AllocError>
         ensures ok { OnOk result (IsTrue (fits self.now)
             → string_bytes out.new ≡ string_bytes out.old ++ compact_text (written self.now)) }
-        ensures err { OnErr result (IsTrue (fits self.now)
-            → BeginsWith (string_bytes out.old ++ compact_text (written self.now)) (string_bytes out.new)) }
+        ensures err { OnErr result
+            (IsTrue (fits self.now)
+                → BeginsWith (string_bytes out.old ++ compact_text (written self.now))
+                (string_bytes out.new)) }
         ensures kept { BeginsWith (string_bytes out.new) (string_bytes out.old) };
 }
 
@@ -350,7 +352,8 @@ pub fn optional<T: Form + Drop>(
     absent: T,
 ) -> Result<T, MetadataFault>
     ensures gives { Gives (λ x. x) result
-        (documents.optional_member name.now absent T.form (object (members_view members.old.entries))) }
+        (documents.optional_member name.now absent T.form
+            (object (members_view members.old.entries))) }
     ensures left { members_view members.new.entries
         ≡ besides (name.now ∷ []) (members_view members.old.entries) }
 {
@@ -373,7 +376,8 @@ pub fn optional<T: Form + Drop>(
 /// Source: Zarr core specification 3.1, "Array metadata", "attributes"; specification version 2, "Attributes".
 pub fn attributes(alloc: Global, members: &mut Map<String, Value>) -> Result<Object, MetadataFault>
     ensures gives { Gives (λ x. x) result
-        (documents.optional_member (codes "attributes") no_members as_object (object (members_view members.old.entries))) }
+        (documents.optional_member (codes "attributes") no_members as_object
+            (object (members_view members.old.entries))) }
     ensures left { members_view members.new.entries
         ≡ besides (codes "attributes" ∷ []) (members_view members.old.entries) }
 {
@@ -391,8 +395,10 @@ pub fn put_member<T: Form>(
     name: &str,
     value: Option<&T>,
 ) -> Result<(), AllocError>
-    ensures ok { OnOk result (members_view members.new.entries
-        ≡ put_row name.now (option_map (λ x. T.written x.now) value.entry) (members_view members.old.entries)) }
+    ensures ok { OnOk result
+        (members_view members.new.entries
+            ≡ put_row name.now (option_map (λ x. T.written x.now) value.entry)
+            (members_view members.old.entries)) }
     ensures unchanged { OnErr result (members.new.entries ≡ members.old.entries) }
 {
     match value {
@@ -413,8 +419,10 @@ pub fn put_unless<T: Form>(
     is_empty: bool,
     value: &T,
 ) -> Result<(), AllocError>
-    ensures ok { OnOk result (members_view members.new.entries
-        ≡ put_row name.now (forms.unless is_empty (T.written value.now)) (members_view members.old.entries)) }
+    ensures ok { OnOk result
+        (members_view members.new.entries
+            ≡ put_row name.now (forms.unless is_empty (T.written value.now))
+            (members_view members.old.entries)) }
     ensures unchanged { OnErr result (members.new.entries ≡ members.old.entries) }
 {
     if is_empty {

@@ -111,14 +111,16 @@ fn copy_of(members: &Map<String, Value>) -> Result<Map<String, Value>, AllocErro
 
 /// The member of that name, if there is one.
 pub fn member<'a>(members: &'a Map<String, Value>, name: &str) -> Option<&'a Value>
-    ensures { option_map (λ v. view v.now) result ≡ get_member name.now (members_view members.now.entries) }
+    ensures { option_map (λ v. view v.now) result
+        ≡ get_member name.now (members_view members.now.entries) }
 {
     members.get(name)
 }
 
 /// Takes the member of that name out of the members, if there is one.
 pub fn take_member(members: &mut Map<String, Value>, name: &str) -> Option<Value>
-    ensures found { option_map view result ≡ get_member name.now (members_view members.old.entries) }
+    ensures found { option_map view result
+        ≡ get_member name.now (members_view members.old.entries) }
     ensures left { members_view members.new.entries
         ≡ besides (name.now ∷ []) (members_view members.old.entries) }
 {
@@ -127,7 +129,8 @@ pub fn take_member(members: &mut Map<String, Value>, name: &str) -> Option<Value
 
 /// Takes the member of that name out of the members where it is null, and leaves any other.
 pub fn take_null(members: &mut Map<String, Value>, name: &str)
-    ensures { members_view members.new.entries ≡ besides_null name.now (members_view members.old.entries) }
+    ensures { members_view members.new.entries
+        ≡ besides_null name.now (members_view members.old.entries) }
 {
     if let Some(Value::Null) = member(members, name) {
         drop(take_member(members, name));

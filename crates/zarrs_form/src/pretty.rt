@@ -24,8 +24,10 @@ pub fn write_entry(
     name: &str,
     value: &Value,
 ) -> Result<(), AllocError>
-    ensures ok { OnOk result (has_float (view value.now) ≡ false
-        → string_bytes out.new ≡ string_bytes out.old ++ entry_text later name.now (view value.now)) }
+    ensures ok { OnOk result
+        (has_float (view value.now) ≡ false
+            → string_bytes out.new ≡ string_bytes out.old
+            ++ entry_text later name.now (view value.now)) }
 {
     write_comma(out, later)?;
     out.push_str("\n    ")?;
@@ -37,7 +39,8 @@ pub fn write_entry(
 
 /// The pretty text of a value.
 fn pretty_text(alloc: Global, value: &Value) -> Result<String, AllocError>
-    ensures { IfOk result (λ s. has_float (view value.now) ≡ false → string_bytes s ≡ text_at 0 (view value.now)) }
+    ensures { IfOk result
+        (λ s. has_float (view value.now) ≡ false → string_bytes s ≡ text_at 0 (view value.now)) }
 {
     let text = value.to_string_pretty(alloc)?;
     let _length = text.len();
@@ -46,7 +49,8 @@ fn pretty_text(alloc: Global, value: &Value) -> Result<String, AllocError>
 
 /// Appends a text, with four spaces more after each newline.
 fn write_indented(out: &mut String, text: &str) -> Result<(), AllocError>
-    ensures ok { OnOk result (string_bytes out.new ≡ string_bytes out.old ++ text_with_four_more text.now) }
+    ensures ok { OnOk result
+        (string_bytes out.new ≡ string_bytes out.old ++ text_with_four_more text.now) }
 {
     let mut later = false;
     for line in text.split('\n') {

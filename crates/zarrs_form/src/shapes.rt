@@ -197,7 +197,8 @@ impl Object {
     ///
     /// `AllocError` where there is no memory for a new member; the object is unchanged.
     pub fn insert(&mut self, name: String, value: Value) -> Result<Option<Value>, AllocError>
-        ensures before { IfOk result (λ before. option_map view before ≡ get_member (string_bytes name) self.old) }
+        ensures before { IfOk result
+            (λ before. option_map view before ≡ get_member (string_bytes name) self.old) }
         ensures ok { OnOk result (self.new ≡ put (string_bytes name) (view value) self.old) }
         ensures unchanged { OnErr result (self.new ≡ self.old) }
     {

@@ -39,8 +39,10 @@ pub(crate) fn put_entry<T: Drop>(
     value: T,
 ) -> Result<Option<T>, AllocError>
     requires ascending { NamesAscend entries.old.items }
-    ensures before { IfOk result (λ before. before ≡ lookup (at_name (string_bytes name)) entries.old.items) }
-    ensures ok { OnOk result (entries.new.items ≡ insert_entry string_cmp entries.old.items name value) }
+    ensures before { IfOk result
+        (λ before. before ≡ lookup (at_name (string_bytes name)) entries.old.items) }
+    ensures ok { OnOk result
+        (entries.new.items ≡ insert_entry string_cmp entries.old.items name value) }
     ensures unchanged { OnErr result (entries.new.items ≡ entries.old.items) }
     ensures ascending { NamesAscend entries.new.items }
 {
@@ -101,7 +103,9 @@ pub(crate) fn map_of<T: Drop>(
 
 // Whether some entry has one of the own names.
 pub(crate) fn has_own_entry<T>(entries: &[(String, T)], own_names: &[&str]) -> bool
-    ensures { result ≡ list_any (λ k. is_own (map (λ n. n.now) own_names.now) (string_bytes k)) (keys_of entries.now) }
+    ensures { result
+        ≡ list_any (λ k. is_own (map (λ n. n.now) own_names.now) (string_bytes k))
+        (keys_of entries.now) }
 {
     for entry in entries {
         if is_one_of(entry.0.as_str(), own_names) {

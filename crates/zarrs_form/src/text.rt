@@ -39,7 +39,8 @@ fn is_bare(text: &str) -> bool
 #[tactic(auto, using(crate::proofs::TextLaws::quoted_bare))]
 pub(crate) fn write_text(alloc: Global, out: &mut String, text: &str) -> Result<(), AllocError>
     ensures ok { OnOk result (string_bytes out.new ≡ string_bytes out.old ++ quoted text.now) }
-    ensures err { OnErr result (BeginsWith (string_bytes out.old ++ quoted text.now) (string_bytes out.new)) }
+    ensures err { OnErr result
+        (BeginsWith (string_bytes out.old ++ quoted text.now) (string_bytes out.new)) }
     ensures kept { BeginsWith (string_bytes out.new) (string_bytes out.old) }
 {
     if is_bare(text) {
@@ -70,8 +71,10 @@ pub(crate) fn write_comma(out: &mut String, later: bool) -> Result<(), AllocErro
 
 /// Appends a member's name and its colon.
 fn write_name(alloc: Global, out: &mut String, name: &str) -> Result<(), AllocError>
-    ensures ok { OnOk result (string_bytes out.new ≡ string_bytes out.old ++ (quoted name.now ++ 58 ∷ [])) }
-    ensures err { OnErr result (BeginsWith (string_bytes out.old ++ (quoted name.now ++ 58 ∷ [])) (string_bytes out.new)) }
+    ensures ok { OnOk result
+        (string_bytes out.new ≡ string_bytes out.old ++ (quoted name.now ++ 58 ∷ [])) }
+    ensures err { OnErr result
+        (BeginsWith (string_bytes out.old ++ (quoted name.now ++ 58 ∷ [])) (string_bytes out.new)) }
     ensures kept { BeginsWith (string_bytes out.new) (string_bytes out.old) }
 {
     write_text(alloc, out, name)?;
@@ -84,10 +87,14 @@ pub(crate) fn write_members(
     out: &mut String,
     members: &[(String, Value)],
 ) -> Result<(), AllocError>
-    ensures ok { OnOk result (written.members_have_float (members_view members.now) ≡ false
-        → string_bytes out.new ≡ string_bytes out.old ++ compact_text (object (members_view members.now))) }
-    ensures err { OnErr result (written.members_have_float (members_view members.now) ≡ false
-        → BeginsWith (string_bytes out.old ++ compact_text (object (members_view members.now))) (string_bytes out.new)) }
+    ensures ok { OnOk result
+        (written.members_have_float (members_view members.now) ≡ false
+            → string_bytes out.new ≡ string_bytes out.old
+            ++ compact_text (object (members_view members.now))) }
+    ensures err { OnErr result
+        (written.members_have_float (members_view members.now) ≡ false
+            → BeginsWith (string_bytes out.old ++ compact_text (object (members_view members.now)))
+            (string_bytes out.new)) }
     ensures kept { BeginsWith (string_bytes out.new) (string_bytes out.old) }
 {
     out.push_str("{")?;
@@ -130,10 +137,15 @@ pub fn write_row<T: Form>(
     name: &str,
     value: Option<&T>,
 ) -> Result<(), AllocError>
-    ensures ok { OnOk result (IsTrue (none_or T.fits (option_copied value.entry))
-        → string_bytes out.new ≡ string_bytes out.old ++ row_text name.now (option_map T.written (option_copied value.entry))) }
-    ensures err { OnErr result (IsTrue (none_or T.fits (option_copied value.entry))
-        → BeginsWith (string_bytes out.old ++ row_text name.now (option_map T.written (option_copied value.entry))) (string_bytes out.new)) }
+    ensures ok { OnOk result
+        (IsTrue (none_or T.fits (option_copied value.entry))
+            → string_bytes out.new ≡ string_bytes out.old
+            ++ row_text name.now (option_map T.written (option_copied value.entry))) }
+    ensures err { OnErr result
+        (IsTrue (none_or T.fits (option_copied value.entry))
+            → BeginsWith (string_bytes out.old
+                ++ row_text name.now (option_map T.written (option_copied value.entry)))
+            (string_bytes out.new)) }
     ensures kept { BeginsWith (string_bytes out.new) (string_bytes out.old) }
 {
     let Some(value) = value else {
@@ -158,10 +170,15 @@ pub fn write_unless<T: Form>(
     is_empty: bool,
     value: &T,
 ) -> Result<(), AllocError>
-    ensures ok { OnOk result (IsTrue (T.fits value.now)
-        → string_bytes out.new ≡ string_bytes out.old ++ row_text name.now (forms.unless is_empty (T.written value.now))) }
-    ensures err { OnErr result (IsTrue (T.fits value.now)
-        → BeginsWith (string_bytes out.old ++ row_text name.now (forms.unless is_empty (T.written value.now))) (string_bytes out.new)) }
+    ensures ok { OnOk result
+        (IsTrue (T.fits value.now)
+            → string_bytes out.new ≡ string_bytes out.old
+            ++ row_text name.now (forms.unless is_empty (T.written value.now))) }
+    ensures err { OnErr result
+        (IsTrue (T.fits value.now)
+            → BeginsWith (string_bytes out.old
+                ++ row_text name.now (forms.unless is_empty (T.written value.now)))
+            (string_bytes out.new)) }
     ensures kept { BeginsWith (string_bytes out.new) (string_bytes out.old) }
 {
     if is_empty {
@@ -183,10 +200,15 @@ pub fn write_last<T: Form>(
     name: &str,
     last: &T,
 ) -> Result<(), AllocError>
-    ensures ok { OnOk result (IsTrue (T.fits last.now)
-        → string_bytes out.new ≡ string_bytes out.old ++ members_text false (member name.now (T.written last.now) no_members)) }
-    ensures err { OnErr result (IsTrue (T.fits last.now)
-        → BeginsWith (string_bytes out.old ++ members_text false (member name.now (T.written last.now) no_members)) (string_bytes out.new)) }
+    ensures ok { OnOk result
+        (IsTrue (T.fits last.now)
+            → string_bytes out.new ≡ string_bytes out.old
+            ++ members_text false (member name.now (T.written last.now) no_members)) }
+    ensures err { OnErr result
+        (IsTrue (T.fits last.now)
+            → BeginsWith (string_bytes out.old
+                ++ members_text false (member name.now (T.written last.now) no_members))
+            (string_bytes out.new)) }
     ensures kept { BeginsWith (string_bytes out.new) (string_bytes out.old) }
 {
     write_name(alloc, out, name)?;

@@ -87,10 +87,13 @@ impl GroupBuilder {
         path: &str,
         config: &Config,
     ) -> Result<Group, GroupCreateError>
-        ensures path { IfOk result (λ group. IsPath group.path × (path_text group.path ≡ path.now)) }
+        ensures path { IfOk result
+            (λ group. IsPath group.path × (path_text group.path ≡ path.now)) }
         ensures metadata { IfOk result (λ group. group.metadata ≡ V3 self.now) }
         ensures block { IfOk result (λ group. group.block ≡ None) }
-        ensures choices { IfOk result (λ group. (group.convert_version ≡ config.now.convert_version) × (group.erase_version ≡ config.now.erase_version)) }
+        ensures choices { IfOk result
+            (λ group. (group.convert_version ≡ config.now.convert_version)
+                × (group.erase_version ≡ config.now.erase_version)) }
         ensures err { IfErr result (RefusesMaking path.now) }
     {
         let metadata = self.metadata.try_clone(alloc)?;

@@ -49,9 +49,14 @@ impl Group {
         config: &Config,
         recursive: bool,
     ) -> Result<Vec<Node>, NodeCreateError>
-        ensures shows { IfOk result (λ nodes. ShowsChildren (S.contents storage.now) self.now config.now recursive (forest nodes.items)) }
-        ensures clean { IfOk result (λ _. IsCleanBelow (S.contents storage.now) self.now config.now recursive) }
-        ensures refused { IfErr result (RefusesChildren (S.can_fail storage.now) (S.contents storage.now) self.now config.now recursive) }
+        ensures shows { IfOk result
+            (λ nodes. ShowsChildren (S.contents storage.now) self.now config.now recursive
+                (forest nodes.items)) }
+        ensures clean { IfOk result
+            (λ _. IsCleanBelow (S.contents storage.now) self.now config.now recursive) }
+        ensures refused { IfErr result
+            (RefusesChildren (S.can_fail storage.now)
+                (S.contents storage.now) self.now config.now recursive) }
     {
         match self.used_block(alloc, config)? {
             Some(block) => nodes_of_block(alloc, self.path(), block, recursive),
@@ -75,9 +80,13 @@ impl Group {
         storage: &S,
         config: &Config,
     ) -> Result<Vec<(NodePath, NodeMetadata)>, NodeCreateError>
-        ensures nodes { IfOk result (λ all. ListsNodes (S.contents storage.now) self.now config.now all.items) }
-        ensures clean { IfOk result (λ _. IsCleanBelow (S.contents storage.now) self.now config.now true) }
-        ensures refused { IfErr result (RefusesChildren (S.can_fail storage.now) (S.contents storage.now) self.now config.now true) }
+        ensures nodes { IfOk result
+            (λ all. ListsNodes (S.contents storage.now) self.now config.now all.items) }
+        ensures clean { IfOk result
+            (λ _. IsCleanBelow (S.contents storage.now) self.now config.now true) }
+        ensures refused { IfErr result
+            (RefusesChildren (S.can_fail storage.now)
+                (S.contents storage.now) self.now config.now true) }
     {
         match self.used_block(alloc, config)? {
             Some(block) => expand_consolidated_metadata(alloc, self.path(), block),
@@ -105,10 +114,14 @@ impl Group {
         storage: &S,
         config: &Config,
     ) -> Result<Vec<Group>, GroupCreateError>
-        ensures groups { IfOk result (λ groups. (es : List (Path × Metadata))
-            × AreChildren (S.contents storage.now) self.now config.now es × (groups.items ≡ groups_of config.now es)) }
-        ensures clean { IfOk result (λ _. IsCleanBelow (S.contents storage.now) self.now config.now false) }
-        ensures refused { IfErr result (RefusesGroups (S.can_fail storage.now) (S.contents storage.now) self.now config.now) }
+        ensures groups { IfOk result
+            (λ groups. (es : List (Path × Metadata))
+                × AreChildren (S.contents storage.now) self.now config.now es
+                × (groups.items ≡ groups_of config.now es)) }
+        ensures clean { IfOk result
+            (λ _. IsCleanBelow (S.contents storage.now) self.now config.now false) }
+        ensures refused { IfErr result
+            (RefusesGroups (S.can_fail storage.now) (S.contents storage.now) self.now config.now) }
     {
         match self.children(log, alloc, storage, config, false) {
             Ok(nodes) => Ok(groups_among(alloc, nodes, config)?),
@@ -130,10 +143,15 @@ impl Group {
         storage: &S,
         config: &Config,
     ) -> Result<Vec<NodePath>, NodeCreateError>
-        ensures paths { IfOk result (λ paths. (es : List (Path × Metadata))
-            × AreChildren (S.contents storage.now) self.now config.now es × (paths.items ≡ map (λ e. e.0) es)) }
-        ensures clean { IfOk result (λ _. IsCleanBelow (S.contents storage.now) self.now config.now false) }
-        ensures refused { IfErr result (RefusesChildren (S.can_fail storage.now) (S.contents storage.now) self.now config.now false) }
+        ensures paths { IfOk result
+            (λ paths. (es : List (Path × Metadata))
+                × AreChildren (S.contents storage.now) self.now config.now es
+                × (paths.items ≡ map (λ e. e.0) es)) }
+        ensures clean { IfOk result
+            (λ _. IsCleanBelow (S.contents storage.now) self.now config.now false) }
+        ensures refused { IfErr result
+            (RefusesChildren (S.can_fail storage.now)
+                (S.contents storage.now) self.now config.now false) }
     {
         let nodes = self.children(log, alloc, storage, config, false)?;
         Ok(paths_of(alloc, nodes)?)
@@ -153,10 +171,15 @@ impl Group {
         storage: &S,
         config: &Config,
     ) -> Result<Vec<NodePath>, NodeCreateError>
-        ensures paths { IfOk result (λ paths. (es : List (Path × Metadata))
-            × AreChildren (S.contents storage.now) self.now config.now es × (paths.items ≡ map (λ e. e.0) (filter (λ e. is_group e.1) es))) }
-        ensures clean { IfOk result (λ _. IsCleanBelow (S.contents storage.now) self.now config.now false) }
-        ensures refused { IfErr result (RefusesChildren (S.can_fail storage.now) (S.contents storage.now) self.now config.now false) }
+        ensures paths { IfOk result
+            (λ paths. (es : List (Path × Metadata))
+                × AreChildren (S.contents storage.now) self.now config.now es
+                × (paths.items ≡ map (λ e. e.0) (filter (λ e. is_group e.1) es))) }
+        ensures clean { IfOk result
+            (λ _. IsCleanBelow (S.contents storage.now) self.now config.now false) }
+        ensures refused { IfErr result
+            (RefusesChildren (S.can_fail storage.now)
+                (S.contents storage.now) self.now config.now false) }
     {
         let nodes = self.children(log, alloc, storage, config, false)?;
         Ok(group_paths_of(alloc, nodes)?)
@@ -176,10 +199,15 @@ impl Group {
         storage: &S,
         config: &Config,
     ) -> Result<Vec<NodePath>, NodeCreateError>
-        ensures paths { IfOk result (λ paths. (es : List (Path × Metadata))
-            × AreChildren (S.contents storage.now) self.now config.now es × (paths.items ≡ map (λ e. e.0) (filter (λ e. not (is_group e.1)) es))) }
-        ensures clean { IfOk result (λ _. IsCleanBelow (S.contents storage.now) self.now config.now false) }
-        ensures refused { IfErr result (RefusesChildren (S.can_fail storage.now) (S.contents storage.now) self.now config.now false) }
+        ensures paths { IfOk result
+            (λ paths. (es : List (Path × Metadata))
+                × AreChildren (S.contents storage.now) self.now config.now es
+                × (paths.items ≡ map (λ e. e.0) (filter (λ e. not (is_group e.1)) es))) }
+        ensures clean { IfOk result
+            (λ _. IsCleanBelow (S.contents storage.now) self.now config.now false) }
+        ensures refused { IfErr result
+            (RefusesChildren (S.can_fail storage.now)
+                (S.contents storage.now) self.now config.now false) }
     {
         let nodes = self.children(log, alloc, storage, config, false)?;
         Ok(array_paths_of(alloc, nodes)?)
@@ -191,8 +219,11 @@ impl Group {
         alloc: Global,
         config: &Config,
     ) -> Result<Option<ConsolidatedMetadata>, NodeCreateError>
-        ensures ok { IfOk result (λ block. block_choice self.now config.now ≡ Some (as_block block)) }
-        ensures err { IfErr result (λ e. RefusesUse self.now.path (block_choice self.now config.now) e ⊎ (e ≡ NodeCreateError.OutOfMemory)) }
+        ensures ok { IfOk result
+            (λ block. block_choice self.now config.now ≡ Some (as_block block)) }
+        ensures err { IfErr result
+            (λ e. RefusesUse self.now.path (block_choice self.now config.now) e
+                ⊎ (e ≡ NodeCreateError.OutOfMemory)) }
     {
         let policy = config.use_consolidated_metadata();
         if let UseConsolidatedMetadata::Never = policy {
@@ -205,7 +236,9 @@ impl Group {
 
 // The groups among nodes, in their order, with the choices of a configuration.
 fn groups_among(alloc: Global, nodes: Vec<Node>, config: &Config) -> Result<Vec<Group>, AllocError>
-    ensures { IfOk result (λ groups. groups.items ≡ groups_of config.now (map (λ n. (path_of n, metadata_of n)) nodes.items)) }
+    ensures { IfOk result
+        (λ groups. groups.items
+            ≡ groups_of config.now (map (λ n. (path_of n, metadata_of n)) nodes.items)) }
 {
     let mut groups = Vec::new(alloc);
     for node in nodes {
@@ -223,7 +256,8 @@ fn push_group(
     metadata: NodeMetadata,
     config: &Config,
 ) -> Result<(), AllocError>
-    ensures { OnOk result (groups.new.items ≡ groups.old.items ++ with_group config.now path metadata []) }
+    ensures { OnOk result
+        (groups.new.items ≡ groups.old.items ++ with_group config.now path metadata []) }
 {
     match metadata {
         NodeMetadata::Group(metadata) => {
@@ -246,7 +280,8 @@ fn paths_of(alloc: Global, nodes: Vec<Node>) -> Result<Vec<NodePath>, AllocError
 
 // The paths of the groups among nodes, in their order.
 fn group_paths_of(alloc: Global, nodes: Vec<Node>) -> Result<Vec<NodePath>, AllocError>
-    ensures { IfOk result (λ paths. paths.items ≡ map path_of (filter (λ n. is_group (metadata_of n)) nodes.items)) }
+    ensures { IfOk result
+        (λ paths. paths.items ≡ map path_of (filter (λ n. is_group (metadata_of n)) nodes.items)) }
 {
     nodes
         .into_iter()
@@ -257,7 +292,9 @@ fn group_paths_of(alloc: Global, nodes: Vec<Node>) -> Result<Vec<NodePath>, Allo
 
 // The paths of the arrays among nodes, in their order.
 fn array_paths_of(alloc: Global, nodes: Vec<Node>) -> Result<Vec<NodePath>, AllocError>
-    ensures { IfOk result (λ paths. paths.items ≡ map path_of (filter (λ n. not (is_group (metadata_of n))) nodes.items)) }
+    ensures { IfOk result
+        (λ paths. paths.items
+            ≡ map path_of (filter (λ n. not (is_group (metadata_of n))) nodes.items)) }
 {
     nodes
         .into_iter()

@@ -56,10 +56,14 @@ impl Group {
         consolidated_metadata: Option<ConsolidatedMetadata>,
     ) -> Result<&mut Group, NodeCreateError>
         ensures same { IfOk result (λ group. group.ghost_name ≡ self.entry.ghost_name) }
-        ensures ok { IfOk result (λ group. group.now ≡ with_block self.old (as_block consolidated_metadata)) }
-        ensures held { IfOk result (λ group. CanHold self.old (as_block consolidated_metadata) → held_by group.now ≡ as_block consolidated_metadata) }
+        ensures ok { IfOk result
+            (λ group. group.now ≡ with_block self.old (as_block consolidated_metadata)) }
+        ensures held { IfOk result
+            (λ group. CanHold self.old (as_block consolidated_metadata)
+                → held_by group.now ≡ as_block consolidated_metadata) }
         ensures fits { IfOk result (λ _. Fits self.old.metadata (as_block consolidated_metadata)) }
-        ensures err { IfErr result (RefusesBlock self.old.metadata (as_block consolidated_metadata)) }
+        ensures err { IfErr result
+            (RefusesBlock self.old.metadata (as_block consolidated_metadata)) }
     {
         self.replace_consolidated_metadata(alloc, consolidated_metadata)?;
         Ok(self)

@@ -22,9 +22,12 @@ impl Edit {
         &self,
         storage: &mut S,
     ) -> Result<(), StorageError>
-        ensures ok { OnOk result (S.contents storage.new ≡ after_edit (S.contents storage.old) (edit_of self.now)) }
+        ensures ok { OnOk result
+            (S.contents storage.new ≡ after_edit (S.contents storage.old) (edit_of self.now)) }
         ensures err { IfErr result (IsStoreError (S.can_fail storage.old)) }
-        ensures others { OnErr result (AgreesExceptAt (edit_key (edit_of self.now)) (S.contents storage.old) (S.contents storage.new)) }
+        ensures others { OnErr result
+            (AgreesExceptAt (edit_key (edit_of self.now)) (S.contents storage.old)
+                (S.contents storage.new)) }
         ensures nature { S.can_fail storage.new ≡ S.can_fail storage.old }
     {
         match self {
@@ -39,9 +42,11 @@ pub(crate) fn apply_all<S: WritableStorageTraits>(
     storage: &mut S,
     edits: &[Edit],
 ) -> Result<(), StorageError>
-    ensures ok { OnOk result (S.contents storage.new ≡ after (S.contents storage.old) (map edit_of edits.now)) }
+    ensures ok { OnOk result
+        (S.contents storage.new ≡ after (S.contents storage.old) (map edit_of edits.now)) }
     ensures err { IfErr result (IsStoreError (S.can_fail storage.old)) }
-    ensures cut { OnErr result (IsCutShort (S.contents storage.old) (map edit_of edits.now) (S.contents storage.new)) }
+    ensures cut { OnErr result
+        (IsCutShort (S.contents storage.old) (map edit_of edits.now) (S.contents storage.new)) }
     ensures nature { S.can_fail storage.new ≡ S.can_fail storage.old }
 {
     for edit in edits {

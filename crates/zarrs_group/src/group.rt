@@ -85,10 +85,13 @@ impl Group {
         metadata: GroupMetadata,
         config: &Config,
     ) -> Result<Group, GroupCreateError>
-        ensures path { IfOk result (λ group. IsPath group.path × (path_text group.path ≡ path.now)) }
+        ensures path { IfOk result
+            (λ group. IsPath group.path × (path_text group.path ≡ path.now)) }
         ensures metadata { IfOk result (λ group. group.metadata ≡ metadata) }
         ensures block { IfOk result (λ group. group.block ≡ None) }
-        ensures choices { IfOk result (λ group. (group.convert_version ≡ config.now.convert_version) × (group.erase_version ≡ config.now.erase_version)) }
+        ensures choices { IfOk result
+            (λ group. (group.convert_version ≡ config.now.convert_version)
+                × (group.erase_version ≡ config.now.erase_version)) }
         ensures err { IfErr result (RefusesMaking path.now) }
     {
         let path = NodePath::new(alloc, path)?;
@@ -108,12 +111,20 @@ impl Group {
         path: &str,
         config: &Config,
     ) -> Result<Group, GroupCreateError>
-        ensures path { IfOk result (λ group. IsPath group.path × (path_text group.path ≡ path.now)) }
-        ensures means { IfOk result (λ group. MeansGroup (S.contents storage.now) BothVersions group.path group.metadata) }
-        ensures block { IfOk result (λ group. group.block ≡ block_beside (S.contents storage.now) group.path group.metadata) }
+        ensures path { IfOk result
+            (λ group. IsPath group.path × (path_text group.path ≡ path.now)) }
+        ensures means { IfOk result
+            (λ group. MeansGroup (S.contents storage.now) BothVersions group.path group.metadata) }
+        ensures block { IfOk result
+            (λ group. group.block
+                ≡ block_beside (S.contents storage.now) group.path group.metadata) }
         ensures understood { IfOk result (λ group. IsUnsupportedIn group.metadata None) }
-        ensures choices { IfOk result (λ group. (group.convert_version ≡ config.now.convert_version) × (group.erase_version ≡ config.now.erase_version)) }
-        ensures err { IfErr result (RefusesOpeningGroup (S.can_fail storage.now) (S.contents storage.now) BothVersions path.now) }
+        ensures choices { IfOk result
+            (λ group. (group.convert_version ≡ config.now.convert_version)
+                × (group.erase_version ≡ config.now.erase_version)) }
+        ensures err { IfErr result
+            (RefusesOpeningGroup (S.can_fail storage.now)
+                (S.contents storage.now) BothVersions path.now) }
     {
         Group::open_opt(
             alloc,
@@ -143,12 +154,20 @@ impl Group {
         version: &MetadataRetrieveVersion,
         config: &Config,
     ) -> Result<Group, GroupCreateError>
-        ensures path { IfOk result (λ group. IsPath group.path × (path_text group.path ≡ path.now)) }
-        ensures means { IfOk result (λ group. MeansGroup (S.contents storage.now) version.now group.path group.metadata) }
-        ensures block { IfOk result (λ group. group.block ≡ block_beside (S.contents storage.now) group.path group.metadata) }
+        ensures path { IfOk result
+            (λ group. IsPath group.path × (path_text group.path ≡ path.now)) }
+        ensures means { IfOk result
+            (λ group. MeansGroup (S.contents storage.now) version.now group.path group.metadata) }
+        ensures block { IfOk result
+            (λ group. group.block
+                ≡ block_beside (S.contents storage.now) group.path group.metadata) }
         ensures understood { IfOk result (λ group. IsUnsupportedIn group.metadata None) }
-        ensures choices { IfOk result (λ group. (group.convert_version ≡ config.now.convert_version) × (group.erase_version ≡ config.now.erase_version)) }
-        ensures err { IfErr result (RefusesOpeningGroup (S.can_fail storage.now) (S.contents storage.now) version.now path.now) }
+        ensures choices { IfOk result
+            (λ group. (group.convert_version ≡ config.now.convert_version)
+                × (group.erase_version ≡ config.now.erase_version)) }
+        ensures err { IfErr result
+            (RefusesOpeningGroup (S.can_fail storage.now)
+                (S.contents storage.now) version.now path.now) }
     {
         let path = NodePath::new(alloc, path)?;
         let Some(found) = find_metadata(alloc, storage, &path, version)? else {
@@ -229,7 +248,8 @@ impl Group {
         alloc: Global,
         options: &GroupMetadataOptions,
     ) -> Result<GroupMetadata, AllocError>
-        ensures { IfOk result (λ metadata. metadata ≡ metadata_by_version options.now self.now.metadata) }
+        ensures { IfOk result
+            (λ metadata. metadata ≡ metadata_by_version options.now self.now.metadata) }
     {
         match (options.metadata_convert_version(), &self.metadata) {
             (MetadataConvertVersion::V3, GroupMetadata::V2(group)) => {
@@ -314,15 +334,29 @@ impl Group {
         alloc: Global,
         storage: &mut S,
     ) -> Result<(), StorageError>
-        ensures ok { OnOk result (S.contents storage.new
-            ≡ after (S.contents storage.old) (store_edits self.now.path (metadata_by_version self.now.convert_version self.now.metadata) self.now.block)) }
-        ensures means { OnOk result (MeansStored (S.contents storage.new) self.now.path (metadata_by_version self.now.convert_version self.now.metadata)) }
-        ensures plain { OnOk result (stored_fault self.now.path (metadata_by_version self.now.convert_version self.now.metadata) self.now.block ≡ None) }
-        ensures block_reads { OnOk result (IsBlockReadBack (metadata_by_version self.now.convert_version self.now.metadata) self.now.block) }
-        ensures unchanged { stored_fault self.now.path (metadata_by_version self.now.convert_version self.now.metadata) self.now.block ≢ None
+        ensures ok { OnOk result
+            (S.contents storage.new
+                ≡ after (S.contents storage.old)
+                (store_edits self.now.path
+                    (metadata_by_version self.now.convert_version self.now.metadata)
+                    self.now.block)) }
+        ensures means { OnOk result
+            (MeansStored (S.contents storage.new) self.now.path
+                (metadata_by_version self.now.convert_version self.now.metadata)) }
+        ensures plain { OnOk result
+            (stored_fault self.now.path
+                (metadata_by_version self.now.convert_version self.now.metadata) self.now.block
+                ≡ None) }
+        ensures block_reads { OnOk result
+            (IsBlockReadBack
+                (metadata_by_version self.now.convert_version self.now.metadata) self.now.block) }
+        ensures unchanged { stored_fault self.now.path
+            (metadata_by_version self.now.convert_version self.now.metadata) self.now.block ≢ None
             → S.contents storage.new ≡ S.contents storage.old }
-        ensures err { IfErr result (RefusesStoring (S.can_fail storage.old) self.now.path
-            (metadata_by_version self.now.convert_version self.now.metadata) self.now.block (S.contents storage.old) (S.contents storage.new)) }
+        ensures err { IfErr result
+            (RefusesStoring (S.can_fail storage.old) self.now.path
+                (metadata_by_version self.now.convert_version self.now.metadata) self.now.block
+                (S.contents storage.old) (S.contents storage.new)) }
         ensures nature { S.can_fail storage.new ≡ S.can_fail storage.old }
     {
         self.store_metadata_opt(alloc, storage, &self.options)
@@ -353,14 +387,26 @@ impl Group {
         storage: &mut S,
         options: &GroupMetadataOptions,
     ) -> Result<(), StorageError>
-        ensures ok { OnOk result (S.contents storage.new
-            ≡ after (S.contents storage.old) (store_edits self.now.path (metadata_by_version options.now self.now.metadata) self.now.block)) }
-        ensures means { OnOk result (MeansStored (S.contents storage.new) self.now.path (metadata_by_version options.now self.now.metadata)) }
-        ensures plain { OnOk result (stored_fault self.now.path (metadata_by_version options.now self.now.metadata) self.now.block ≡ None) }
-        ensures block_reads { OnOk result (IsBlockReadBack (metadata_by_version options.now self.now.metadata) self.now.block) }
-        ensures unchanged { stored_fault self.now.path (metadata_by_version options.now self.now.metadata) self.now.block ≢ None → S.contents storage.new ≡ S.contents storage.old }
-        ensures err { IfErr result (RefusesStoring (S.can_fail storage.old) self.now.path
-            (metadata_by_version options.now self.now.metadata) self.now.block (S.contents storage.old) (S.contents storage.new)) }
+        ensures ok { OnOk result
+            (S.contents storage.new
+                ≡ after (S.contents storage.old)
+                (store_edits self.now.path
+                    (metadata_by_version options.now self.now.metadata) self.now.block)) }
+        ensures means { OnOk result
+            (MeansStored (S.contents storage.new) self.now.path
+                (metadata_by_version options.now self.now.metadata)) }
+        ensures plain { OnOk result
+            (stored_fault self.now.path
+                (metadata_by_version options.now self.now.metadata) self.now.block ≡ None) }
+        ensures block_reads { OnOk result
+            (IsBlockReadBack (metadata_by_version options.now self.now.metadata) self.now.block) }
+        ensures unchanged { stored_fault self.now.path
+            (metadata_by_version options.now self.now.metadata) self.now.block ≢ None
+            → S.contents storage.new ≡ S.contents storage.old }
+        ensures err { IfErr result
+            (RefusesStoring (S.can_fail storage.old) self.now.path
+                (metadata_by_version options.now self.now.metadata) self.now.block
+                (S.contents storage.old) (S.contents storage.new)) }
         ensures nature { S.can_fail storage.new ≡ S.can_fail storage.old }
     {
         let metadata = self.metadata_opt(alloc, options)?;
@@ -380,11 +426,15 @@ impl Group {
         alloc: Global,
         storage: &mut S,
     ) -> Result<(), StorageError>
-        ensures ok { OnOk result (S.contents storage.new
-            ≡ after (S.contents storage.old) (erase_edits self.now.path self.now.erase_version self.now.metadata)) }
+        ensures ok { OnOk result
+            (S.contents storage.new
+                ≡ after (S.contents storage.old)
+                (erase_edits self.now.path self.now.erase_version self.now.metadata)) }
         ensures err { IfErr result (IsStoreError (S.can_fail storage.old)) }
-        ensures cut { OnErr result (IsCutShort (S.contents storage.old)
-            (erase_edits self.now.path self.now.erase_version self.now.metadata) (S.contents storage.new)) }
+        ensures cut { OnErr result
+            (IsCutShort (S.contents storage.old)
+                (erase_edits self.now.path self.now.erase_version self.now.metadata)
+                (S.contents storage.new)) }
         ensures nature { S.can_fail storage.new ≡ S.can_fail storage.old }
     {
         self.erase_metadata_opt(alloc, storage, self.erase_version)
@@ -405,8 +455,10 @@ impl Group {
         storage: &mut S,
         version: MetadataEraseVersion,
     ) -> Result<(), StorageError>
-        ensures ok { OnOk result (S.contents storage.new
-            ≡ after (S.contents storage.old) (erase_edits self.now.path version self.now.metadata)) }
+        ensures ok { OnOk result
+            (S.contents storage.new
+                ≡ after (S.contents storage.old)
+                (erase_edits self.now.path version self.now.metadata)) }
         ensures err { IfErr result (IsStoreError (S.can_fail storage.old)) }
         ensures cut { OnErr result (IsCutShort (S.contents storage.old)
             (erase_edits self.now.path version self.now.metadata) (S.contents storage.new)) }

@@ -12,8 +12,11 @@ use std::alloc::{AllocError, Global};
 
 /// The pretty layout of a value, which is read as the value again.
 pub(crate) fn pretty_bytes(alloc: Global, value: &Value) -> Result<Vec<u8>, AllocError>
-    ensures layout { IfOk result (λ bytes. has_float (view value.now) ≡ false → bytes.items ≡ pretty_text (view value.now)) }
-    ensures reads_back { IfOk result (λ bytes. depth (view value.now) ≤ max_depth → json_of bytes.items ≡ Some (view value.now)) }
+    ensures layout { IfOk result
+        (λ bytes. has_float (view value.now) ≡ false → bytes.items ≡ pretty_text (view value.now)) }
+    ensures reads_back { IfOk result
+        (λ bytes. depth (view value.now) ≤ max_depth
+            → json_of bytes.items ≡ Some (view value.now)) }
 {
     let bytes = value.to_vec_pretty(alloc)?;
     Ok(bytes)

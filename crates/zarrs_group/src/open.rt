@@ -25,8 +25,12 @@ pub(crate) fn find_metadata<S: ReadableStorageTraits>(
     path: &NodePath,
     version: &MetadataRetrieveVersion,
 ) -> Result<Option<GroupMetadata>, StorageError>
-    ensures ok { IfOk result (λ found. FindsMeaning found (group_meaning (S.contents storage.now) version.now path.now)) }
-    ensures err { IfErr result (RefusesMeaning (S.can_fail storage.now) (group_meaning (S.contents storage.now) version.now path.now)) }
+    ensures ok { IfOk result
+        (λ found. FindsMeaning found
+            (group_meaning (S.contents storage.now) version.now path.now)) }
+    ensures err { IfErr result
+        (RefusesMeaning (S.can_fail storage.now)
+            (group_meaning (S.contents storage.now) version.now path.now)) }
 {
     match version {
         MetadataRetrieveVersion::Default => match find_v3(alloc, storage, path)? {
@@ -45,8 +49,10 @@ fn find_v3<S: ReadableStorageTraits>(
     storage: &S,
     path: &NodePath,
 ) -> Result<Option<GroupMetadata>, StorageError>
-    ensures ok { IfOk result (λ found. FindsByLine found (group_line (S.contents storage.now) path.now)) }
-    ensures err { IfErr result (RefusesLine (S.can_fail storage.now) (group_line (S.contents storage.now) path.now)) }
+    ensures ok { IfOk result
+        (λ found. FindsByLine found (group_line (S.contents storage.now) path.now)) }
+    ensures err { IfErr result
+        (RefusesLine (S.can_fail storage.now) (group_line (S.contents storage.now) path.now)) }
 {
     let key = meta_key_v3(alloc, path)?;
     let found: Option<GroupMetadataV3> = document_at(alloc, storage, key)?;
@@ -63,8 +69,11 @@ fn find_v2<S: ReadableStorageTraits>(
     storage: &S,
     path: &NodePath,
 ) -> Result<Option<GroupMetadata>, StorageError>
-    ensures ok { IfOk result (λ found. FindsByLine found (zgroup_line in_bytes (S.contents storage.now) path.now)) }
-    ensures err { IfErr result (RefusesLine (S.can_fail storage.now) (zgroup_line in_bytes (S.contents storage.now) path.now)) }
+    ensures ok { IfOk result
+        (λ found. FindsByLine found (zgroup_line in_bytes (S.contents storage.now) path.now)) }
+    ensures err { IfErr result
+        (RefusesLine (S.can_fail storage.now)
+            (zgroup_line in_bytes (S.contents storage.now) path.now)) }
 {
     let key = meta_key_v2_group(alloc, path)?;
     let found: Option<GroupMetadataV2> = document_at(alloc, storage, key)?;
@@ -87,7 +96,8 @@ pub(crate) fn find_block<S: ReadableStorageTraits>(
     path: &NodePath,
     metadata: &GroupMetadata,
 ) -> Result<Option<ConsolidatedMetadata>, StorageError>
-    ensures ok { IfOk result (λ block. as_block block ≡ block_beside (S.contents storage.now) path.now metadata.now) }
+    ensures ok { IfOk result
+        (λ block. as_block block ≡ block_beside (S.contents storage.now) path.now metadata.now) }
     ensures fits { IfOk result (λ block. IsBeside (as_block block)) }
     ensures err { IfErr result (IsStoreError (S.can_fail storage.now)) }
 {

@@ -36,7 +36,8 @@ pub(crate) fn edits_to_store(
     block: &Option<ConsolidatedMetadata>,
 ) -> Result<Vec<Edit>, StorageError>
     requires { IsBeside (as_block block.now) }
-    ensures ok { IfOk result (λ edits. map edit_of edits.items ≡ store_edits path.now metadata (as_block block.now)) }
+    ensures ok { IfOk result
+        (λ edits. map edit_of edits.items ≡ store_edits path.now metadata (as_block block.now)) }
     ensures plain { IfOk result (λ _. stored_fault path.now metadata (as_block block.now) ≡ None) }
     ensures reads { IfOk result (λ _. AreReadBack metadata) }
     ensures block_reads { IfOk result (λ _. IsBlockReadBack metadata (as_block block.now)) }
@@ -54,10 +55,14 @@ fn edits_to_store_v3(
     path: &NodePath,
     group: &GroupMetadataV3,
 ) -> Result<Vec<Edit>, StorageError>
-    ensures ok { IfOk result (λ edits. (block : Option Block) → map edit_of edits.items ≡ store_edits path.now (V3 group.now) block) }
-    ensures plain { IfOk result (λ _. (block : Option Block) → stored_fault path.now (V3 group.now) block ≡ None) }
+    ensures ok { IfOk result
+        (λ edits. (block : Option Block)
+            → map edit_of edits.items ≡ store_edits path.now (V3 group.now) block) }
+    ensures plain { IfOk result
+        (λ _. (block : Option Block) → stored_fault path.now (V3 group.now) block ≡ None) }
     ensures reads { IfOk result (λ _. AreReadBack (V3 group.now)) }
-    ensures err { IfErr result (λ e. (block : Option Block) → RefusesMetadata path.now (V3 group.now) block e) }
+    ensures err { IfErr result
+        (λ e. (block : Option Block) → RefusesMetadata path.now (V3 group.now) block e) }
 {
     let key = meta_key_v3(alloc, path)?;
     if let Some(fault) = group_v3_fault(group) {
@@ -73,7 +78,8 @@ fn edits_without_block(
     path: &NodePath,
     group: GroupMetadataV2,
 ) -> Result<Vec<Edit>, StorageError>
-    ensures ok { IfOk result (λ edits. map edit_of edits.items ≡ store_edits path.now (V2 group) None) }
+    ensures ok { IfOk result
+        (λ edits. map edit_of edits.items ≡ store_edits path.now (V2 group) None) }
     ensures plain { IfOk result (λ _. stored_fault path.now (V2 group) None ≡ None) }
     ensures reads { IfOk result (λ _. AreReadBack (V2 group)) }
     ensures err { IfErr result (RefusesMetadata path.now (V2 group) None) }
@@ -92,8 +98,11 @@ fn edits_with_block(
     block: &ConsolidatedMetadata,
 ) -> Result<Vec<Edit>, StorageError>
     requires { IsBeside (Some block.now.metadata) }
-    ensures ok { IfOk result (λ edits. map edit_of edits.items ≡ store_edits path.now (V2 group) (Some block.now.metadata)) }
-    ensures plain { IfOk result (λ _. stored_fault path.now (V2 group) (Some block.now.metadata) ≡ None) }
+    ensures ok { IfOk result
+        (λ edits. map edit_of edits.items
+            ≡ store_edits path.now (V2 group) (Some block.now.metadata)) }
+    ensures plain { IfOk result
+        (λ _. stored_fault path.now (V2 group) (Some block.now.metadata) ≡ None) }
     ensures reads { IfOk result (λ _. AreReadBack (V2 group)) }
     ensures block_reads { IfOk result (λ _. IsBlockReadBack (V2 group) (Some block.now.metadata)) }
     ensures err { IfErr result (RefusesMetadata path.now (V2 group) (Some block.now.metadata)) }
@@ -107,7 +116,8 @@ fn edits_with_block(
 // Asks whether the metadata of a version 2 group are plain.
 fn ask_plain(alloc: Global, path: &NodePath, group: &GroupMetadataV2) -> Result<(), StorageError>
     ensures plain { IfOk result (λ _. group_v2_fault group.now ≡ None) }
-    ensures err { IfErr result (λ e. (block : Option Block) → RefusesMetadata path.now (V2 group.now) block e) }
+    ensures err { IfErr result
+        (λ e. (block : Option Block) → RefusesMetadata path.now (V2 group.now) block e) }
 {
     let key = meta_key_v2_group(alloc, path)?;
     match group_v2_fault(group) {
@@ -123,7 +133,8 @@ fn edits_of_documents(
     group: GroupMetadataV2,
 ) -> Result<(Edit, Edit), AllocError>
     requires { group_v2_fault group ≡ None }
-    ensures ok { IfOk result (λ edits. map edit_of (edits.0 ∷ edits.1 ∷ []) ≡ own_edits path.now group) }
+    ensures ok { IfOk result
+        (λ edits. map edit_of (edits.0 ∷ edits.1 ∷ []) ≡ own_edits path.now group) }
     ensures reads { IfOk result (λ _. AreReadBack (V2 group)) }
 {
     let attributes = edit_of_attributes(alloc, path, group.attributes)?;
@@ -144,7 +155,8 @@ fn edit_of_attributes(
 ) -> Result<Edit, AllocError>
     requires { members_have_float attributes ≡ false }
     ensures ok { IfOk result (λ edit. edit_of edit ≡ attributes_edit path.now attributes) }
-    ensures reads { IfOk result (λ _. is_empty attributes ≡ false → IsReadBack (object attributes)) }
+    ensures reads { IfOk result
+        (λ _. is_empty attributes ≡ false → IsReadBack (object attributes)) }
 {
     let key = meta_key_v2_attributes(alloc, path)?;
     if attributes.is_empty() {
@@ -163,7 +175,8 @@ fn edit_of_block(
 ) -> Result<Edit, StorageError>
     requires own { group_v2_fault group.now ≡ None }
     requires beside { IsBeside (Some block.now.metadata) }
-    ensures ok { IfOk result (λ edit. edit_of edit ≡ block_edit path.now group.now block.now.metadata) }
+    ensures ok { IfOk result
+        (λ edit. edit_of edit ≡ block_edit path.now group.now block.now.metadata) }
     ensures plain { IfOk result (λ _. block_fault block.now.metadata ≡ None) }
     ensures reads { IfOk result (λ _. IsReadBack (zmetadata_tree group.now block.now.metadata)) }
     ensures err { IfErr result (RefusesMetadata path.now (V2 group.now) (Some block.now.metadata)) }
@@ -202,7 +215,8 @@ pub(crate) fn edits_to_erase(
     metadata: &GroupMetadata,
     version: MetadataEraseVersion,
 ) -> Result<Vec<Edit>, AllocError>
-    ensures { IfOk result (λ edits. map edit_of edits.items ≡ erase_edits path.now version metadata.now) }
+    ensures { IfOk result
+        (λ edits. map edit_of edits.items ≡ erase_edits path.now version metadata.now) }
 {
     match (version, metadata) {
         (MetadataEraseVersion::All, _) => Ok(vec![in alloc;

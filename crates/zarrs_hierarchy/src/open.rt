@@ -37,8 +37,14 @@ impl Hierarchy {
         path: &str,
         config: &Config,
     ) -> Result<Hierarchy, HierarchyCreateError>
-        ensures opened { IfOk result (IsOpened (S.contents storage.now) MetadataRetrieveVersion.Default config.now.use_consolidated path.now) }
-        ensures refused { IfErr result (λ e. IsExcused (S.can_fail storage.now) e ⊎ RefusesOpening (S.contents storage.now) MetadataRetrieveVersion.Default config.now.use_consolidated path.now e) }
+        ensures opened { IfOk result
+            (IsOpened (S.contents storage.now) MetadataRetrieveVersion.Default
+                config.now.use_consolidated path.now) }
+        ensures refused { IfErr result
+            (λ e. IsExcused (S.can_fail storage.now) e
+                ⊎ RefusesOpening
+                (S.contents storage.now) MetadataRetrieveVersion.Default config.now.use_consolidated
+                path.now e) }
     {
         Hierarchy::open_opt(
             log,
@@ -79,8 +85,12 @@ impl Hierarchy {
         version: &MetadataRetrieveVersion,
         config: &Config,
     ) -> Result<Hierarchy, HierarchyCreateError>
-        ensures opened { IfOk result (IsOpened (S.contents storage.now) version.now config.now.use_consolidated path.now) }
-        ensures refused { IfErr result (λ e. IsExcused (S.can_fail storage.now) e ⊎ RefusesOpening (S.contents storage.now) version.now config.now.use_consolidated path.now e) }
+        ensures opened { IfOk result
+            (IsOpened (S.contents storage.now) version.now config.now.use_consolidated path.now) }
+        ensures refused { IfErr result
+            (λ e. IsExcused (S.can_fail storage.now) e
+                ⊎ RefusesOpening
+                (S.contents storage.now) version.now config.now.use_consolidated path.now e) }
     {
         let path = NodePath::new(alloc, path)?;
         let metadata = Node::get_metadata(alloc, storage, &path, version)?;
@@ -102,9 +112,19 @@ impl Hierarchy {
         group: &Group,
         storage: &S,
     ) -> Result<Hierarchy, HierarchyCreateError>
-        ensures pairs { IfOk result (λ hierarchy. Holds hierarchy (WithBase group.now.path (group_node group.now.metadata) (Nodes (S.contents storage.now) MetadataRetrieveVersion.Default true group.now.path))) }
-        ensures clean { IfOk result (λ _. Bad (S.contents storage.now) MetadataRetrieveVersion.Default true group.now.path → ⊥) }
-        ensures refused { IfErr result (λ e. IsExcused (S.can_fail storage.now) e ⊎ ShowsBad (S.contents storage.now) MetadataRetrieveVersion.Default true group.now.path e) }
+        ensures pairs { IfOk result
+            (λ hierarchy.
+                Holds hierarchy
+                (WithBase group.now.path (group_node group.now.metadata)
+                    (Nodes (S.contents storage.now) MetadataRetrieveVersion.Default true
+                    group.now.path))) }
+        ensures clean { IfOk result
+            (λ _. Bad (S.contents storage.now) MetadataRetrieveVersion.Default true group.now.path
+                → ⊥) }
+        ensures refused { IfErr result
+            (λ e. IsExcused (S.can_fail storage.now) e
+                ⊎ ShowsBad (S.contents storage.now) MetadataRetrieveVersion.Default true
+                group.now.path e) }
     {
         let base = group.path();
         let version = MetadataRetrieveVersion::Default;
@@ -126,9 +146,18 @@ fn nodes_from<L: Log, S: ReadableStorageTraits + ListableStorageTraits>(
     version: &MetadataRetrieveVersion,
     config: &Config,
 ) -> Result<Vec<(NodePath, NodeMetadata)>, HierarchyCreateError>
-    ensures holds { IfOk result (λ nodes. Holds nodes.items (WithBase path.now metadata (PairsOf (S.contents storage.now) version.now config.now.use_consolidated path.now metadata))) }
-    ensures clean { IfOk result (λ _. IsCleanNode (S.contents storage.now) version.now config.now.use_consolidated path.now metadata) }
-    ensures refused { IfErr result (λ e. IsExcused (S.can_fail storage.now) e ⊎ RefusesBelow (S.contents storage.now) version.now config.now.use_consolidated path.now metadata e) }
+    ensures holds { IfOk result
+        (λ nodes. Holds nodes.items
+            (WithBase path.now metadata
+                (PairsOf (S.contents storage.now) version.now config.now.use_consolidated path.now
+                metadata))) }
+    ensures clean { IfOk result
+        (λ _. IsCleanNode
+            (S.contents storage.now) version.now config.now.use_consolidated path.now metadata) }
+    ensures refused { IfErr result
+        (λ e. IsExcused (S.can_fail storage.now) e
+            ⊎ RefusesBelow
+            (S.contents storage.now) version.now config.now.use_consolidated path.now metadata e) }
 {
     if !metadata.is_group() {
         return Ok(base_alone(alloc, path, metadata)?);
@@ -151,9 +180,14 @@ pub(crate) fn tell_below<L: Log, S: ReadableStorageTraits + ListableStorageTrait
     block: Option<ConsolidatedMetadata>,
     sink: &mut K,
 ) -> Result<(), HierarchyCreateError>
-    ensures takes { OnOk result (TakesPairs K.takes sink.old sink.new (PairsBelow (S.contents storage.now) version.now (as_block block) path.now)) }
-    ensures clean { OnOk result (IsGoodBelow (S.contents storage.now) version.now (as_block block) true path.now) }
-    ensures refused { IfErr result (λ e. IsExcused (S.can_fail storage.now) e ⊎ ShowsBadBelow (S.contents storage.now) version.now (as_block block) true path.now e) }
+    ensures takes { OnOk result
+        (TakesPairs K.takes sink.old sink.new
+            (PairsBelow (S.contents storage.now) version.now (as_block block) path.now)) }
+    ensures clean { OnOk result
+        (IsGoodBelow (S.contents storage.now) version.now (as_block block) true path.now) }
+    ensures refused { IfErr result
+        (λ e. IsExcused (S.can_fail storage.now) e
+            ⊎ ShowsBadBelow (S.contents storage.now) version.now (as_block block) true path.now e) }
 {
     match block {
         Some(block) => {

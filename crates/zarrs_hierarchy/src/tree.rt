@@ -52,7 +52,9 @@ impl Hierarchy {
 
     // Adds the lines of the nodes below a path. They stand in one run behind it, since paths are in the order of their names.
     fn push_below(&self, text: &mut String, base: &NodePath) -> Result<(), AllocError>
-        ensures lines { OnOk result (string_bytes text.new ≡ string_bytes text.old ++ lines base.now (pairs_below base.now self.now)) }
+        ensures lines { OnOk result
+            (string_bytes text.new ≡ string_bytes text.old
+                ++ lines base.now (pairs_below base.now self.now)) }
         ensures ordered { Ascend self.now }
     {
         let above = depth(base);

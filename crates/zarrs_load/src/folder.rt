@@ -81,7 +81,9 @@ fn list<R: Log + Files + AllocGlobal>(
     walk: &mut Walk,
 ) -> Result<(), LoadFault>
     ensures ok { OnOk result (AreFound walk.old.files.items → AreFound walk.new.files.items) }
-    ensures fewer { OnOk result (vec_len walk.new.folders + walk.new.entries_left ≤ vec_len walk.old.folders + walk.old.entries_left) }
+    ensures fewer { OnOk result
+        (vec_len walk.new.folders + walk.new.entries_left
+            ≤ vec_len walk.old.folders + walk.old.entries_left) }
     ensures err { IfErr result IsFolderFault }
 {
     let entries = match fs::read_dir(&rt, folder.path.as_str()) {
@@ -106,7 +108,9 @@ fn take<R: Log + Files + AllocGlobal>(
     walk: &mut Walk,
 ) -> Result<(), LoadFault>
     ensures ok { OnOk result (AreFound walk.old.files.items → AreFound walk.new.files.items) }
-    ensures fewer { OnOk result (vec_len walk.new.folders + walk.new.entries_left ≤ vec_len walk.old.folders + walk.old.entries_left) }
+    ensures fewer { OnOk result
+        (vec_len walk.new.folders + walk.new.entries_left
+            ≤ vec_len walk.old.folders + walk.old.entries_left) }
     ensures err { IfErr result IsFolderFault }
 {
     let kind = look_at(rt, path, &mut walk.entries_left)?;
@@ -263,7 +267,9 @@ fn refused<R: Log, D: Display + Drop>(rt: &R, path: &str, why: D) -> LoadFault
 // The store of these files, which are put into it in the order of their keys, each behind the last:
 // no other is moved for it.
 fn store_of(alloc: Global, files: Vec<(StoreKey, Vec<u8>)>) -> Result<MemoryStore, AllocError>
-    ensures { IfOk result (λ store. AreFound files.items → HoldsDocumentsAlone (map.from_entries {R = key_cmp} store)) }
+    ensures { IfOk result
+        (λ store. AreFound files.items
+            → HoldsDocumentsAlone (map.from_entries {R = key_cmp} store)) }
 {
     let mut sorted = files;
     sorted.sort_unstable();

@@ -35,7 +35,8 @@ pub fn load_image<R: Read>(alloc: Global, reader: &mut R) -> Result<MemoryStore,
 
 // The members of the JSON object that a reader gives.
 fn read_object<R: Read>(alloc: Global, reader: &mut R) -> Result<Map<String, Value>, LoadFault>
-    ensures ok { IfOk result (λ members. IfSome (R.remaining reader.old) (IsObject (members_view members.entries))) }
+    ensures ok { IfOk result
+        (λ members. IfSome (R.remaining reader.old) (IsObject (members_view members.entries))) }
     ensures end { OnOk result (IsAtEnd (R.remaining reader.new)) }
     ensures bound { OnOk result (IfSome (R.remaining reader.old) IsWithinBound) }
     ensures err { IfErr result (RefusedObject (R.remaining reader.old) (R.remaining reader.new)) }
@@ -71,8 +72,9 @@ fn text_of(value: Value) -> Option<String>
 
 // The store of an object's members, whose names and texts it takes over.
 fn store_of(alloc: Global, members: Map<String, Value>) -> Result<MemoryStore, LoadFault>
-    ensures ok { IfOk result (λ store.
-        HoldsMembers (member_list (members_view members.entries)) (map.from_entries {R = key_cmp} store)) }
+    ensures ok { IfOk result
+        (λ store. HoldsMembers (member_list (members_view members.entries))
+            (map.from_entries {R = key_cmp} store)) }
     ensures err { IfErr result (IsMemberFault (member_list (members_view members.entries))) }
 {
     let mut store = MemoryStore::new(alloc);

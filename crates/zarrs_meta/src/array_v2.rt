@@ -92,7 +92,8 @@ impl ArrayMetadataV2 {
         alloc: Global,
         mut members: Map<String, Value>,
     ) -> Result<ArrayMetadataV2, MetadataFault>
-        requires { document_of (object (members_view members.entries)) ≡ Ok (members_view members.entries) }
+        requires { document_of (object (members_view members.entries))
+            ≡ Ok (members_view members.entries) }
         ensures { Gives (λ m. m) result (array_v2_of (object (members_view members.entries))) }
     {
         ask_format(&members, 2)?;
@@ -191,8 +192,10 @@ impl ArrayMetadataV2 {
 
     /// The text of the members of the table alone, in the order of their names.
     fn table_text(&self, alloc: Global) -> Result<String, AllocError>
-        ensures { IfOk result (λ text. IsTrue (is_plain_array_v2 self.now)
-            → string_bytes text ≡ compact_text (object (put_rows (array_v2_rows self.now) no_members))) }
+        ensures { IfOk result
+            (λ text. IsTrue (is_plain_array_v2 self.now)
+                → string_bytes text
+                ≡ compact_text (object (put_rows (array_v2_rows self.now) no_members))) }
     {
         let mut out = open_table(alloc)?;
         let empty = self.attributes.is_empty();
@@ -253,8 +256,11 @@ impl RequiredMembers {
         alloc: Global,
         members: &mut Map<String, Value>,
     ) -> Result<RequiredMembers, MetadataFault>
-        ensures gives { Gives (λ m. m) result (array_v2_required (members_view members.old.entries)) }
-        ensures left { IfOk result (λ _. members_view members.new.entries ≡ besides array_v2_required_names (members_view members.old.entries)) }
+        ensures gives { Gives (λ m. m) result
+            (array_v2_required (members_view members.old.entries)) }
+        ensures left { IfOk result
+            (λ _. members_view members.new.entries
+                ≡ besides array_v2_required_names (members_view members.old.entries)) }
     {
         Ok(RequiredMembers {
             shape: required(alloc, members, "shape")?,
@@ -308,8 +314,11 @@ impl OptionalMembers {
         alloc: Global,
         members: &mut Map<String, Value>,
     ) -> Result<OptionalMembers, MetadataFault>
-        ensures gives { Gives (λ m. m) result (array_v2_optional (members_view members.old.entries)) }
-        ensures left { IfOk result (λ _. members_view members.new.entries ≡ besides array_v2_optional_names (members_view members.old.entries)) }
+        ensures gives { Gives (λ m. m) result
+            (array_v2_optional (members_view members.old.entries)) }
+        ensures left { IfOk result
+            (λ _. members_view members.new.entries
+                ≡ besides array_v2_optional_names (members_view members.old.entries)) }
     {
         Ok(OptionalMembers {
             compressor: optional(alloc, members, "compressor", None)?,
@@ -326,7 +335,8 @@ fn dimension_separator(
     members: &mut Map<String, Value>,
 ) -> Result<ChunkKeySeparator, MetadataFault>
     ensures gives { Gives (λ x. x) result
-        (optional_member (codes "dimension_separator") Dot separator (object (members_view members.old.entries))) }
+        (optional_member (codes "dimension_separator") Dot separator
+            (object (members_view members.old.entries))) }
     ensures left { members_view members.new.entries
         ≡ besides (codes "dimension_separator" ∷ []) (members_view members.old.entries) }
 {

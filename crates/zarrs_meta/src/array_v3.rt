@@ -79,7 +79,8 @@ impl ArrayMetadataV3 {
         fill_value: FillValueMetadata,
         codecs: List<MetadataV3>,
     ) -> Result<ArrayMetadataV3, AllocError>
-        ensures { IfOk result (λ array. array ≡ made_array shape chunk_grid data_type fill_value codecs) }
+        ensures { IfOk result
+            (λ array. array ≡ made_array shape chunk_grid data_type fill_value codecs) }
     {
         Ok(ArrayMetadataV3 {
             shape,
@@ -138,7 +139,8 @@ impl ArrayMetadataV3 {
         alloc: Global,
         members: Map<String, Value>,
     ) -> Result<ArrayMetadataV3, MetadataFault>
-        requires { document_of (object (members_view members.entries)) ≡ Ok (members_view members.entries) }
+        requires { document_of (object (members_view members.entries))
+            ≡ Ok (members_view members.entries) }
         ensures { Gives (λ m. m) result (array_v3_of (object (members_view members.entries))) }
     {
         ask_format(&members, 3)?;
@@ -236,8 +238,10 @@ impl ArrayMetadataV3 {
 
     /// The text of the members of the table alone, in the order of their names.
     fn table_text(&self, alloc: Global) -> Result<String, AllocError>
-        ensures { IfOk result (λ text. IsTrue (is_plain_array_v3 self.now)
-            → string_bytes text ≡ compact_text (object (put_rows (array_v3_rows self.now) no_members))) }
+        ensures { IfOk result
+            (λ text. IsTrue (is_plain_array_v3 self.now)
+                → string_bytes text
+                ≡ compact_text (object (put_rows (array_v3_rows self.now) no_members))) }
     {
         let mut out = open_table(alloc)?;
         let empty = self.attributes.is_empty();
@@ -303,8 +307,11 @@ impl RequiredMembers {
         alloc: Global,
         members: &mut Map<String, Value>,
     ) -> Result<RequiredMembers, MetadataFault>
-        ensures gives { Gives (λ m. m) result (array_v3_required (members_view members.old.entries)) }
-        ensures left { IfOk result (λ _. members_view members.new.entries ≡ besides array_v3_required_names (members_view members.old.entries)) }
+        ensures gives { Gives (λ m. m) result
+            (array_v3_required (members_view members.old.entries)) }
+        ensures left { IfOk result
+            (λ _. members_view members.new.entries
+                ≡ besides array_v3_required_names (members_view members.old.entries)) }
     {
         Ok(RequiredMembers {
             shape: required(alloc, members, "shape")?,
@@ -359,8 +366,11 @@ impl OptionalMembers {
         alloc: Global,
         members: &mut Map<String, Value>,
     ) -> Result<OptionalMembers, MetadataFault>
-        ensures gives { Gives (λ m. m) result (array_v3_optional (members_view members.old.entries)) }
-        ensures left { IfOk result (λ _. members_view members.new.entries ≡ besides array_v3_optional_names (members_view members.old.entries)) }
+        ensures gives { Gives (λ m. m) result
+            (array_v3_optional (members_view members.old.entries)) }
+        ensures left { IfOk result
+            (λ _. members_view members.new.entries
+                ≡ besides array_v3_optional_names (members_view members.old.entries)) }
     {
         Ok(OptionalMembers {
             attributes: attributes(alloc, members)?,
@@ -390,7 +400,8 @@ fn storage_transformers(
     members: &mut Map<String, Value>,
 ) -> Result<List<MetadataV3>, MetadataFault>
     ensures gives { Gives (λ x. x) result
-        (optional_member (codes "storage_transformers") [] (list_of extension) (object (members_view members.old.entries))) }
+        (optional_member (codes "storage_transformers") [] (list_of extension)
+            (object (members_view members.old.entries))) }
     ensures left { members_view members.new.entries
         ≡ besides (codes "storage_transformers" ∷ []) (members_view members.old.entries) }
 {
@@ -408,7 +419,8 @@ fn dimension_names(
     members: &mut Map<String, Value>,
 ) -> Result<Option<List<Option<Text>>>, MetadataFault>
     ensures gives { Gives (λ x. x) result
-        (optional_member (codes "dimension_names") None (nullable (list_of (nullable as_str))) (object (members_view members.old.entries))) }
+        (optional_member (codes "dimension_names") None (nullable (list_of (nullable as_str)))
+            (object (members_view members.old.entries))) }
     ensures left { members_view members.new.entries
         ≡ besides (codes "dimension_names" ∷ []) (members_view members.old.entries) }
 {

@@ -61,7 +61,8 @@ impl AttributesDocument {
         alloc: Global,
         members: Map<String, Value>,
     ) -> Result<AttributesDocument, MetadataFault>
-        requires { document_of (object (members_view members.entries)) ≡ Ok (members_view members.entries) }
+        requires { document_of (object (members_view members.entries))
+            ≡ Ok (members_view members.entries) }
         ensures { Gives (λ a. a) result (attributes_of (object (members_view members.entries))) }
     {
         let attributes = Object::from_map(alloc, members)?;

@@ -72,7 +72,8 @@ impl GroupMetadataV2 {
         alloc: Global,
         mut members: Map<String, Value>,
     ) -> Result<GroupMetadataV2, MetadataFault>
-        requires { document_of (object (members_view members.entries)) ≡ Ok (members_view members.entries) }
+        requires { document_of (object (members_view members.entries))
+            ≡ Ok (members_view members.entries) }
         ensures { Gives (λ m. m) result (group_v2_of (object (members_view members.entries))) }
     {
         ask_format(&members, 2)?;
@@ -160,8 +161,10 @@ impl GroupMetadataV2 {
 
     /// The text of the members of the table alone, in the order of their names.
     fn table_text(&self, alloc: Global) -> Result<String, AllocError>
-        ensures { IfOk result (λ text. IsTrue (is_plain_group_v2 self.now)
-            → string_bytes text ≡ compact_text (object (put_rows (group_v2_rows self.now) no_members))) }
+        ensures { IfOk result
+            (λ text. IsTrue (is_plain_group_v2 self.now)
+                → string_bytes text
+                ≡ compact_text (object (put_rows (group_v2_rows self.now) no_members))) }
     {
         let mut out = open_table(alloc)?;
         let empty = self.attributes.is_empty();

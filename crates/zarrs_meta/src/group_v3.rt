@@ -64,7 +64,8 @@ impl GroupMetadataV3 {
         alloc: Global,
         members: Map<String, Value>,
     ) -> Result<GroupMetadataV3, MetadataFault>
-        requires { document_of (object (members_view members.entries)) ≡ Ok (members_view members.entries) }
+        requires { document_of (object (members_view members.entries))
+            ≡ Ok (members_view members.entries) }
         ensures { Gives (λ m. m) result (group_v3_of (object (members_view members.entries))) }
     {
         ask_format(&members, 3)?;
@@ -140,8 +141,10 @@ impl GroupMetadataV3 {
 
     /// The text of the members of the table alone, in the order of their names.
     fn table_text(&self, alloc: Global) -> Result<String, AllocError>
-        ensures { IfOk result (λ text. IsTrue (is_plain_group_v3 self.now)
-            → string_bytes text ≡ compact_text (object (put_rows (group_v3_rows self.now) no_members))) }
+        ensures { IfOk result
+            (λ text. IsTrue (is_plain_group_v3 self.now)
+                → string_bytes text
+                ≡ compact_text (object (put_rows (group_v3_rows self.now) no_members))) }
     {
         let mut out = open_table(alloc)?;
         let empty = self.attributes.is_empty();

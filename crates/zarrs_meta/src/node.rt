@@ -119,7 +119,8 @@ impl NodeMetadata {
         alloc: Global,
         members: Map<String, Value>,
     ) -> Result<NodeMetadata, MetadataFault>
-        requires { document_of (object (members_view members.entries)) ≡ Ok (members_view members.entries) }
+        requires { document_of (object (members_view members.entries))
+            ≡ Ok (members_view members.entries) }
         ensures { Gives (λ m. m) result (node_of (object (members_view members.entries))) }
     {
         if has_format(&members, 3) {
@@ -241,7 +242,8 @@ impl ZarrJson {
 /// What a document whose members these are is at the key `zarr.json`.
 #[tactic(auto, unfolding(crate::specs::Node::zarr_json_of))]
 fn zarr_json(alloc: Global, members: Map<String, Value>) -> Result<ZarrJson, MetadataFault>
-    requires { document_of (object (members_view members.entries)) ≡ Ok (members_view members.entries) }
+    requires { document_of (object (members_view members.entries))
+        ≡ Ok (members_view members.entries) }
     ensures { Gives (λ z. z) result (zarr_json_of (object (members_view members.entries))) }
 {
     if has_format(&members, 2) {
@@ -252,7 +254,8 @@ fn zarr_json(alloc: Global, members: Map<String, Value>) -> Result<ZarrJson, Met
 
 /// A node of version 3: by its node type.
 fn node_v3(alloc: Global, members: Map<String, Value>) -> Result<NodeMetadata, MetadataFault>
-    requires { document_of (object (members_view members.entries)) ≡ Ok (members_view members.entries) }
+    requires { document_of (object (members_view members.entries))
+        ≡ Ok (members_view members.entries) }
     ensures { Gives (λ m. m) result (node_v3_of (object (members_view members.entries))) }
 {
     if has_type(&members, "group") {
@@ -269,7 +272,8 @@ fn node_v3(alloc: Global, members: Map<String, Value>) -> Result<NodeMetadata, M
 
 /// A node of version 2: an array is known by its shape.
 fn node_v2(alloc: Global, members: Map<String, Value>) -> Result<NodeMetadata, MetadataFault>
-    requires { document_of (object (members_view members.entries)) ≡ Ok (members_view members.entries) }
+    requires { document_of (object (members_view members.entries))
+        ≡ Ok (members_view members.entries) }
     ensures { Gives (λ m. m) result (node_v2_of (object (members_view members.entries))) }
 {
     if member(&members, "shape").is_some() {

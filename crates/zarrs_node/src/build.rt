@@ -28,7 +28,8 @@ pub fn build_node_tree(
     path: &NodePath,
     pairs: Vec<(NodePath, NodeMetadata)>,
 ) -> Result<Vec<Node>, AllocError>
-    ensures shows { IfOk result (λ nodes. Shows (forest nodes.items) path.now (Kept (IsLatest pairs.items) true path.now)) }
+    ensures shows { IfOk result
+        (λ nodes. Shows (forest nodes.items) path.now (Kept (IsLatest pairs.items) true path.now)) }
 {
     let (nodes, _steps) = build_node_tree_counted(alloc, path, pairs)?;
     Ok(nodes)
@@ -47,7 +48,8 @@ pub fn build_node_tree_counted(
     path: &NodePath,
     pairs: Vec<(NodePath, NodeMetadata)>,
 ) -> Result<(Vec<Node>, u64), AllocError>
-    ensures shows { IfOk result (λ made. Shows (forest made.0.items) path.now (Kept (IsLatest pairs.items) true path.now)) }
+    ensures shows { IfOk result
+        (λ made. Shows (forest made.0.items) path.now (Kept (IsLatest pairs.items) true path.now)) }
     ensures steps { IfOk result (λ made. CountsSteps pairs.items (forest made.0.items) made.1) }
 {
     let latest = latest_by_path(alloc, pairs)?;
@@ -67,8 +69,12 @@ pub fn direct_children_from_flat(
     path: &NodePath,
     pairs: Vec<(NodePath, NodeMetadata)>,
 ) -> Result<Vec<Node>, AllocError>
-    ensures children { IfOk result (λ nodes. (es : List (Path × NodeMetadata)) × AreChildrenOf path.now pairs.items es × (forest nodes.items ≡ row es)) }
-    ensures shows { IfOk result (λ nodes. HaveOwnPaths pairs.items → Shows (forest nodes.items) path.now (Kept (Contains pairs.items) false path.now)) }
+    ensures children { IfOk result
+        (λ nodes. (es : List (Path × NodeMetadata)) × AreChildrenOf path.now pairs.items es
+            × (forest nodes.items ≡ row es)) }
+    ensures shows { IfOk result
+        (λ nodes. HaveOwnPaths pairs.items
+            → Shows (forest nodes.items) path.now (Kept (Contains pairs.items) false path.now)) }
 {
     let mut children = children_of(alloc, path, pairs)?;
     children.sort_by(|a, b| a.0.cmp(&b.0))?;
@@ -109,7 +115,8 @@ fn latest_by_path(
     pairs: Vec<(NodePath, NodeMetadata)>,
 ) -> Result<Vec<(NodePath, NodeMetadata)>, AllocError>
     ensures ascends { IfOk result (λ latest. Ascend latest.items) }
-    ensures latest { IfOk result (λ latest. (e : Path × NodeMetadata) → Contains latest.items e ↔ IsLatest pairs.items e) }
+    ensures latest { IfOk result
+        (λ latest. (e : Path × NodeMetadata) → Contains latest.items e ↔ IsLatest pairs.items e) }
 {
     let mut sorted = pairs;
     sorted.sort_by(|a, b| a.0.cmp(&b.0))?;
@@ -139,8 +146,10 @@ pub(crate) fn build_ascending(
     pairs: Vec<(NodePath, NodeMetadata)>,
 ) -> Result<(Vec<Node>, u64), AllocError>
     requires { Ascend pairs.items }
-    ensures shows { IfOk result (λ made. Shows (forest made.0.items) base.now (Kept (Contains pairs.items) true base.now)) }
-    ensures steps { IfOk result (λ made. made.1 ≡ length pairs.items + groups (forest made.0.items)) }
+    ensures shows { IfOk result
+        (λ made. Shows (forest made.0.items) base.now (Kept (Contains pairs.items) true base.now)) }
+    ensures steps { IfOk result
+        (λ made. made.1 ≡ length pairs.items + groups (forest made.0.items)) }
 {
     let mut pass = Pass {
         roots: Vec::new(alloc),
@@ -165,9 +174,13 @@ struct Pass {
 impl Pass {
     // Closes open groups until the path is below the last.
     fn close_to(&mut self, path: &NodePath) -> Result<u64, AllocError>
-        ensures same { OnOk result (whole self.new.roots.items self.new.opened.items ≡ whole self.old.roots.items self.old.opened.items) }
-        ensures closed { OnOk result (IsClosedTo path.now (heads self.old.opened.items) (heads self.new.opened.items)) }
-        ensures count { IfOk result (λ n. n + length (heads self.new.opened.items) ≡ length (heads self.old.opened.items)) }
+        ensures same { OnOk result
+            (whole self.new.roots.items self.new.opened.items
+                ≡ whole self.old.roots.items self.old.opened.items) }
+        ensures closed { OnOk result
+            (IsClosedTo path.now (heads self.old.opened.items) (heads self.new.opened.items)) }
+        ensures count { IfOk result
+            (λ n. n + length (heads self.new.opened.items) ≡ length (heads self.old.opened.items)) }
     {
         let mut closed = 0;
         while let Some(group) = self.opened.last() {
@@ -188,7 +201,10 @@ impl Pass {
         path: NodePath,
         metadata: NodeMetadata,
     ) -> Result<(), AllocError>
-        ensures { OnOk result (IsTaken base.now (path, metadata) self.old.roots.items self.old.opened.items self.new.roots.items self.new.opened.items) }
+        ensures { OnOk result
+            (IsTaken base.now
+                (path, metadata) self.old.roots.items self.old.opened.items self.new.roots.items
+                self.new.opened.items) }
     {
         if !is_child(self.parent(base), &path) {
             return Ok(());
@@ -210,7 +226,9 @@ impl Pass {
 
     // Closes all open groups.
     fn close_all(&mut self) -> Result<u64, AllocError>
-        ensures same { OnOk result (whole self.new.roots.items self.new.opened.items ≡ whole self.old.roots.items self.old.opened.items) }
+        ensures same { OnOk result
+            (whole self.new.roots.items self.new.opened.items
+                ≡ whole self.old.roots.items self.old.opened.items) }
         ensures closed { OnOk result (self.new.opened.items ≡ []) }
         ensures count { IfOk result (λ n. n ≡ length (heads self.old.opened.items)) }
     {
@@ -234,8 +252,12 @@ impl Pass {
 
     // Closes the last open group. It is made anew of its parts, so that its nodes are counted.
     fn close(&mut self) -> Result<(), AllocError>
-        ensures same { OnOk result (whole self.new.roots.items self.new.opened.items ≡ whole self.old.roots.items self.old.opened.items) }
-        ensures heads { OnOk result (heads self.new.opened.items ≡ take (length (heads self.old.opened.items) - 1) (heads self.old.opened.items)) }
+        ensures same { OnOk result
+            (whole self.new.roots.items self.new.opened.items
+                ≡ whole self.old.roots.items self.old.opened.items) }
+        ensures heads { OnOk result
+            (heads self.new.opened.items
+                ≡ take (length (heads self.old.opened.items) - 1) (heads self.old.opened.items)) }
     {
         if let Some(group) = self.opened.pop() {
             let (path, metadata, children) = group.into_parts();
@@ -246,7 +268,9 @@ impl Pass {
 
     // Puts a node behind the children of the last open group, or behind the roots.
     fn add(&mut self, node: Node) -> Result<(), AllocError>
-        ensures grows { OnOk result (whole self.new.roots.items self.new.opened.items ≡ with_tree self.old.roots.items self.old.opened.items (plant node none)) }
+        ensures grows { OnOk result
+            (whole self.new.roots.items self.new.opened.items
+                ≡ with_tree self.old.roots.items self.old.opened.items (plant node none)) }
         ensures heads { OnOk result (heads self.new.opened.items ≡ heads self.old.opened.items) }
     {
         match self.opened.last_mut() {

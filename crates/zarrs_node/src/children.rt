@@ -36,9 +36,15 @@ pub fn get_child_nodes<L: Log, S: ReadableStorageTraits + ListableStorageTraits>
     path: &NodePath,
     recursive: bool,
 ) -> Result<Vec<Node>, NodeCreateError>
-    ensures shows { IfOk result (λ nodes. Shows (forest nodes.items) path.now (Nodes (S.contents storage.now) MetadataRetrieveVersion.Default recursive path.now)) }
-    ensures clean { IfOk result (λ _. Bad (S.contents storage.now) MetadataRetrieveVersion.Default recursive path.now → ⊥) }
-    ensures refused { IfErr result (λ e. IsExcused (S.can_fail storage.now) e ⊎ ShowsBad (S.contents storage.now) MetadataRetrieveVersion.Default recursive path.now e) }
+    ensures shows { IfOk result
+        (λ nodes. Shows (forest nodes.items) path.now
+            (Nodes (S.contents storage.now) MetadataRetrieveVersion.Default recursive path.now)) }
+    ensures clean { IfOk result
+        (λ _. Bad (S.contents storage.now) MetadataRetrieveVersion.Default recursive path.now → ⊥) }
+    ensures refused { IfErr result
+        (λ e. IsExcused (S.can_fail storage.now) e
+            ⊎ ShowsBad (S.contents storage.now) MetadataRetrieveVersion.Default recursive path.now
+            e) }
 {
     get_child_nodes_opt(
         log,
@@ -69,9 +75,14 @@ pub fn get_child_nodes_opt<L: Log, S: ReadableStorageTraits + ListableStorageTra
     recursive: bool,
     version: &MetadataRetrieveVersion,
 ) -> Result<Vec<Node>, NodeCreateError>
-    ensures shows { IfOk result (λ nodes. Shows (forest nodes.items) path.now (Nodes (S.contents storage.now) version.now recursive path.now)) }
-    ensures clean { IfOk result (λ _. Bad (S.contents storage.now) version.now recursive path.now → ⊥) }
-    ensures refused { IfErr result (λ e. IsExcused (S.can_fail storage.now) e ⊎ ShowsBad (S.contents storage.now) version.now recursive path.now e) }
+    ensures shows { IfOk result
+        (λ nodes. Shows (forest nodes.items) path.now
+            (Nodes (S.contents storage.now) version.now recursive path.now)) }
+    ensures clean { IfOk result
+        (λ _. Bad (S.contents storage.now) version.now recursive path.now → ⊥) }
+    ensures refused { IfErr result
+        (λ e. IsExcused (S.can_fail storage.now) e
+            ⊎ ShowsBad (S.contents storage.now) version.now recursive path.now e) }
 {
     let listed = list_nodes(alloc, storage, path, recursive, version)?;
     warn_ignored(log, &listed.ignored);
@@ -93,9 +104,15 @@ pub fn get_child_paths<L: Log, S: ReadableStorageTraits + ListableStorageTraits>
     path: &NodePath,
     recursive: bool,
 ) -> Result<Vec<NodePath>, NodeCreateError>
-    ensures shows { IfOk result (λ paths. ShowsPaths paths.items path.now (Nodes (S.contents storage.now) MetadataRetrieveVersion.Default recursive path.now)) }
-    ensures clean { IfOk result (λ _. Bad (S.contents storage.now) MetadataRetrieveVersion.Default recursive path.now → ⊥) }
-    ensures refused { IfErr result (λ e. IsExcused (S.can_fail storage.now) e ⊎ ShowsBad (S.contents storage.now) MetadataRetrieveVersion.Default recursive path.now e) }
+    ensures shows { IfOk result
+        (λ paths. ShowsPaths paths.items path.now
+            (Nodes (S.contents storage.now) MetadataRetrieveVersion.Default recursive path.now)) }
+    ensures clean { IfOk result
+        (λ _. Bad (S.contents storage.now) MetadataRetrieveVersion.Default recursive path.now → ⊥) }
+    ensures refused { IfErr result
+        (λ e. IsExcused (S.can_fail storage.now) e
+            ⊎ ShowsBad (S.contents storage.now) MetadataRetrieveVersion.Default recursive path.now
+            e) }
 {
     get_child_paths_opt(
         log,
@@ -124,9 +141,14 @@ pub fn get_child_paths_opt<L: Log, S: ReadableStorageTraits + ListableStorageTra
     recursive: bool,
     version: &MetadataRetrieveVersion,
 ) -> Result<Vec<NodePath>, NodeCreateError>
-    ensures shows { IfOk result (λ paths. ShowsPaths paths.items path.now (Nodes (S.contents storage.now) version.now recursive path.now)) }
-    ensures clean { IfOk result (λ _. Bad (S.contents storage.now) version.now recursive path.now → ⊥) }
-    ensures refused { IfErr result (λ e. IsExcused (S.can_fail storage.now) e ⊎ ShowsBad (S.contents storage.now) version.now recursive path.now e) }
+    ensures shows { IfOk result
+        (λ paths. ShowsPaths paths.items path.now
+            (Nodes (S.contents storage.now) version.now recursive path.now)) }
+    ensures clean { IfOk result
+        (λ _. Bad (S.contents storage.now) version.now recursive path.now → ⊥) }
+    ensures refused { IfErr result
+        (λ e. IsExcused (S.can_fail storage.now) e
+            ⊎ ShowsBad (S.contents storage.now) version.now recursive path.now e) }
 {
     let mut paths = Vec::new(alloc);
     walk_child_nodes(log, alloc, storage, path, recursive, version, &mut paths)?;
@@ -150,9 +172,13 @@ pub fn walk_child_nodes<L: Log, S: ReadableStorageTraits + ListableStorageTraits
     version: &MetadataRetrieveVersion,
     sink: &mut K,
 ) -> Result<(), NodeCreateError>
-    ensures takes { OnOk result (TakesForest K.takes sink.old sink.new path.now (Nodes (S.contents storage.now) version.now recursive path.now)) }
+    ensures takes { OnOk result
+        (TakesForest K.takes sink.old sink.new path.now
+            (Nodes (S.contents storage.now) version.now recursive path.now)) }
     ensures clean { OnOk result (Bad (S.contents storage.now) version.now recursive path.now → ⊥) }
-    ensures refused { IfErr result (λ e. IsExcused (S.can_fail storage.now) e ⊎ ShowsBad (S.contents storage.now) version.now recursive path.now e) }
+    ensures refused { IfErr result
+        (λ e. IsExcused (S.can_fail storage.now) e
+            ⊎ ShowsBad (S.contents storage.now) version.now recursive path.now e) }
 {
     let ignored = walk_nodes(alloc, storage, path, recursive, version, sink)?;
     warn_ignored(log, &ignored);
@@ -181,10 +207,13 @@ pub fn get_all_nodes_of<L: Log, S: ReadableStorageTraits + ListableStorageTraits
     path: &NodePath,
     version: &MetadataRetrieveVersion,
 ) -> Result<Vec<(NodePath, NodeMetadata)>, NodeCreateError>
-    ensures nodes { IfOk result (λ all. Lists (Nodes (S.contents storage.now) version.now true path.now) all.items) }
+    ensures nodes { IfOk result
+        (λ all. Lists (Nodes (S.contents storage.now) version.now true path.now) all.items) }
     ensures ascending { IfOk result (λ all. Ascend all.items) }
     ensures clean { IfOk result (λ _. Bad (S.contents storage.now) version.now true path.now → ⊥) }
-    ensures refused { IfErr result (λ e. IsExcused (S.can_fail storage.now) e ⊎ ShowsBad (S.contents storage.now) version.now true path.now e) }
+    ensures refused { IfErr result
+        (λ e. IsExcused (S.can_fail storage.now) e
+            ⊎ ShowsBad (S.contents storage.now) version.now true path.now e) }
 {
     let mut all = Vec::new(alloc);
     walk_child_nodes(log, alloc, storage, path, true, version, &mut all)?;
@@ -207,10 +236,13 @@ pub fn consolidate_nodes_of<L: Log, S: ReadableStorageTraits + ListableStorageTr
     path: &NodePath,
     version: &MetadataRetrieveVersion,
 ) -> Result<ConsolidatedMetadataMetadata, NodeCreateError>
-    ensures exact { IfOk result (IsBlockOf (Nodes (S.contents storage.now) version.now true path.now) path.now) }
+    ensures exact { IfOk result
+        (IsBlockOf (Nodes (S.contents storage.now) version.now true path.now) path.now) }
     ensures ascending { IfOk result IsAscending }
     ensures clean { IfOk result (λ _. Bad (S.contents storage.now) version.now true path.now → ⊥) }
-    ensures refused { IfErr result (λ e. IsExcused (S.can_fail storage.now) e ⊎ ShowsBad (S.contents storage.now) version.now true path.now e) }
+    ensures refused { IfErr result
+        (λ e. IsExcused (S.can_fail storage.now) e
+            ⊎ ShowsBad (S.contents storage.now) version.now true path.now e) }
 {
     let all = get_all_nodes_of(log, alloc, storage, path, version)?;
     let mut block = ConsolidatedMetadataMetadata::new(alloc);

@@ -30,10 +30,15 @@ impl Node {
         alloc: Global,
     ) -> Result<Option<ConsolidatedMetadataMetadata>, AllocError>
         requires placed { HasPlacedChildren self.now }
-        ensures group { IfOk result (λ block. IsSome block ↔ IsTrue (is_group (metadata_of self.now))) }
-        ensures latest { IfOk result (λ block. IfSome block (λ B. IsBlockOf (IsLatest (pairs (below_of self.now))) (path_of self.now) B)) }
-        ensures exact { IfOk result (λ block. IfSome block (λ B. IsPlaced (path_of self.now) (below_of self.now)
-            → IsBlockOf (Contains (pairs (below_of self.now))) (path_of self.now) B)) }
+        ensures group { IfOk result
+            (λ block. IsSome block ↔ IsTrue (is_group (metadata_of self.now))) }
+        ensures latest { IfOk result
+            (λ block. IfSome block
+                (λ B. IsBlockOf (IsLatest (pairs (below_of self.now))) (path_of self.now) B)) }
+        ensures exact { IfOk result
+            (λ block. IfSome block
+                (λ B. IsPlaced (path_of self.now) (below_of self.now)
+                    → IsBlockOf (Contains (pairs (below_of self.now))) (path_of self.now) B)) }
         ensures ascending { IfOk result (λ block. IfSome block IsAscending) }
     {
         if let NodeMetadata::Array(_) = self.metadata() {
@@ -53,7 +58,8 @@ fn insert_all(
     block: &mut ConsolidatedMetadataMetadata,
 ) -> Result<(), AllocError>
     requires below { ArePairsBelow base.now (pairs (forest nodes.now)) }
-    ensures inserted { OnOk result (block.new ≡ put_all base.now block.old (pairs (forest nodes.now))) }
+    ensures inserted { OnOk result
+        (block.new ≡ put_all base.now block.old (pairs (forest nodes.now))) }
     ensures valid { OnOk result (ArePaths (pairs (forest nodes.now))) }
 {
     let mut walk = Preorder::new(alloc, nodes)?;

@@ -43,10 +43,17 @@ pub fn walk_nodes<S: ReadableStorageTraits + ListableStorageTraits, K: NodeSink>
     version: &MetadataRetrieveVersion,
     sink: &mut K,
 ) -> Result<Vec<NodePath>, NodeCreateError>
-    ensures takes { IfOk result (λ _. TakesForest K.takes sink.old sink.new path.now (Nodes (S.contents storage.now) version.now recursive path.now)) }
-    ensures ignored { IfOk result (λ ignored. Lists (Ignored (S.contents storage.now) version.now recursive path.now) ignored.items) }
-    ensures clean { IfOk result (λ _. Bad (S.contents storage.now) version.now recursive path.now → ⊥) }
-    ensures refused { IfErr result (λ e. IsExcused (S.can_fail storage.now) e ⊎ ShowsBad (S.contents storage.now) version.now recursive path.now e) }
+    ensures takes { IfOk result
+        (λ _. TakesForest K.takes sink.old sink.new path.now
+            (Nodes (S.contents storage.now) version.now recursive path.now)) }
+    ensures ignored { IfOk result
+        (λ ignored. Lists
+            (Ignored (S.contents storage.now) version.now recursive path.now) ignored.items) }
+    ensures clean { IfOk result
+        (λ _. Bad (S.contents storage.now) version.now recursive path.now → ⊥) }
+    ensures refused { IfErr result
+        (λ e. IsExcused (S.can_fail storage.now) e
+            ⊎ ShowsBad (S.contents storage.now) version.now recursive path.now e) }
 {
     let mut last = LastDocuments::new(alloc);
     let walked = walk(alloc, storage, path, recursive, version, &mut last, sink);
@@ -65,10 +72,17 @@ fn walk<S: ReadableStorageTraits + ListableStorageTraits, K: NodeSink>(
     last: &mut LastDocuments,
     sink: &mut K,
 ) -> Result<Vec<NodePath>, NodeCreateError>
-    ensures takes { IfOk result (λ _. TakesForest K.takes sink.old sink.new path.now (Nodes (S.contents storage.now) version.now recursive path.now)) }
-    ensures ignored { IfOk result (λ ignored. Lists (Ignored (S.contents storage.now) version.now recursive path.now) ignored.items) }
-    ensures clean { IfOk result (λ _. Bad (S.contents storage.now) version.now recursive path.now → ⊥) }
-    ensures refused { IfErr result (λ e. IsExcused (S.can_fail storage.now) e ⊎ ShowsBad (S.contents storage.now) version.now recursive path.now e) }
+    ensures takes { IfOk result
+        (λ _. TakesForest K.takes sink.old sink.new path.now
+            (Nodes (S.contents storage.now) version.now recursive path.now)) }
+    ensures ignored { IfOk result
+        (λ ignored. Lists
+            (Ignored (S.contents storage.now) version.now recursive path.now) ignored.items) }
+    ensures clean { IfOk result
+        (λ _. Bad (S.contents storage.now) version.now recursive path.now → ⊥) }
+    ensures refused { IfErr result
+        (λ e. IsExcused (S.can_fail storage.now) e
+            ⊎ ShowsBad (S.contents storage.now) version.now recursive path.now e) }
 {
     let base = path.to_prefix(alloc)?;
     let mut pending = Vec::new(alloc);
@@ -93,7 +107,8 @@ fn tell<K: NodeSink>(
     ignored: &mut Vec<NodePath>,
 ) -> Result<(), AllocError>
     ensures nodes { OnOk result (TakesAll K.takes sink.old (own_node path found) sink.new) }
-    ensures ignored { OnOk result (ignored.new.items ≡ ignored.old.items ++ paths_passed path found []) }
+    ensures ignored { OnOk result
+        (ignored.new.items ≡ ignored.old.items ++ paths_passed path found []) }
 {
     match found {
         Some(metadata) => sink.take(path, metadata),
@@ -108,7 +123,8 @@ fn push_children<S: ListableStorageTraits>(
     prefix: &StorePrefix,
     pending: &mut Vec<StorePrefix>,
 ) -> Result<(), NodeCreateError>
-    ensures ok { OnOk result (AreOnTop (S.contents storage.now) prefix.now pending.old.items pending.new.items) }
+    ensures ok { OnOk result
+        (AreOnTop (S.contents storage.now) prefix.now pending.old.items pending.new.items) }
     ensures err { IfErr result (IsExcused (S.can_fail storage.now)) }
 {
     let mut children = discover_children(alloc, storage, prefix)?;
@@ -137,8 +153,14 @@ fn read_child<S: ReadableStorageTraits>(
 ) -> Result<Option<NodeMetadata>, NodeCreateError>
     requires above { IsPathAndOne prefix.now }
     ensures valid { IfOk result (λ _. IsPath prefix.now) }
-    ensures found { IfOk result (λ found. Finds (S.can_fail storage.now) (Ok found) (meaning (S.contents storage.now) version.now prefix.now)) }
-    ensures refused { IfErr result (λ e. IsExcused (S.can_fail storage.now) e ⊎ (IsInvalidPath prefix.now e × (¬ IsPath prefix.now)) ⊎ (IsPath prefix.now × (meaning (S.contents storage.now) version.now prefix.now ≡ bad e))) }
+    ensures found { IfOk result
+        (λ found. Finds (S.can_fail storage.now) (Ok found)
+            (meaning (S.contents storage.now) version.now prefix.now)) }
+    ensures refused { IfErr result
+        (λ e. IsExcused (S.can_fail storage.now) e
+            ⊎ (IsInvalidPath prefix.now e × (¬ IsPath prefix.now))
+            ⊎ (IsPath prefix.now
+                × (meaning (S.contents storage.now) version.now prefix.now ≡ bad e))) }
     ensures segments { IsPrefix prefix.now }
 {
     let _segments = prefix.as_str();

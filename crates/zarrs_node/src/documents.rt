@@ -25,8 +25,11 @@ pub fn document_at<S: ReadableStorageTraits, D: Document + Drop>(
     storage: &S,
     key: StoreKey,
 ) -> Result<Option<D>, StorageError>
-    ensures ok { IfOk result (λ found. document_at D.reading (S.contents storage.now) key ≡ Ok found) }
-    ensures err { IfErr result (RefusesReading (S.can_fail storage.now) (document_at D.reading (S.contents storage.now) key)) }
+    ensures ok { IfOk result
+        (λ found. document_at D.reading (S.contents storage.now) key ≡ Ok found) }
+    ensures err { IfErr result
+        (RefusesReading (S.can_fail storage.now)
+            (document_at D.reading (S.contents storage.now) key)) }
 {
     let mut last = LastRead::new(alloc);
     let (key, found) = find_document(alloc, storage, key, &mut last)?;
@@ -48,7 +51,9 @@ pub fn attributes_at<S: ReadableStorageTraits>(
     path: &NodePath,
 ) -> Result<Option<AttributesDocument>, StorageError>
     ensures ok { IfOk result (λ found. attributes_at (S.contents storage.now) path.now ≡ Ok found) }
-    ensures err { IfErr result (RefusesReading (S.can_fail storage.now) (attributes_at (S.contents storage.now) path.now)) }
+    ensures err { IfErr result
+        (RefusesReading (S.can_fail storage.now)
+            (attributes_at (S.contents storage.now) path.now)) }
 {
     document_at(alloc, storage, meta_key_v2_attributes(alloc, path)?)
 }
@@ -62,7 +67,9 @@ fn find_document<S: ReadableStorageTraits, D: Document + Drop>(
     last: &mut LastRead<D>,
 ) -> Result<(StoreKey, Option<D>), StorageError>
     ensures ok { IfOk result (λ x. document_at D.reading (S.contents storage.now) key ≡ Ok x.1) }
-    ensures err { IfErr result (RefusesReading (S.can_fail storage.now) (document_at D.reading (S.contents storage.now) key)) }
+    ensures err { IfErr result
+        (RefusesReading (S.can_fail storage.now)
+            (document_at D.reading (S.contents storage.now) key)) }
 {
     let Some(bytes) = storage.get(alloc, &key)? else {
         return Ok((key, None));
@@ -83,8 +90,12 @@ pub(crate) fn find_below<S: ReadableStorageTraits, D: Document + Drop>(
     last: &mut LastRead<D>,
 ) -> Result<Option<D>, StorageError>
     requires segment { IsTrue (is_segment name.now) }
-    ensures ok { IfOk result (λ found. document_at D.reading (S.contents storage.now) (prefix.now ++ name.now ∷ []) ≡ Ok found) }
-    ensures err { IfErr result (RefusesReading (S.can_fail storage.now) (document_at D.reading (S.contents storage.now) (prefix.now ++ name.now ∷ []))) }
+    ensures ok { IfOk result
+        (λ found. document_at D.reading (S.contents storage.now) (prefix.now ++ name.now ∷ [])
+            ≡ Ok found) }
+    ensures err { IfErr result
+        (RefusesReading (S.can_fail storage.now)
+            (document_at D.reading (S.contents storage.now) (prefix.now ++ name.now ∷ []))) }
 {
     let room = replace(text, String::new(alloc));
     let key = prefix.key_in(room, name)?;

@@ -20,7 +20,8 @@ pub fn node_exists<S: ReadableStorageTraits>(
     storage: &S,
     path: &NodePath,
 ) -> Result<bool, StorageError>
-    ensures ok { IfOk result (λ exists. IsTrue exists ↔ HasNodeKey (S.contents storage.now) path.now) }
+    ensures ok { IfOk result
+        (λ exists. IsTrue exists ↔ HasNodeKey (S.contents storage.now) path.now) }
     ensures refused { IfErr result (IsStoreError (S.can_fail storage.now)) }
 {
     Ok(
@@ -54,7 +55,8 @@ pub fn node_exists_listable<S: ListableStorageTraits>(
     storage: &S,
     path: &NodePath,
 ) -> Result<bool, StorageError>
-    ensures ok { IfOk result (λ exists. IsTrue exists ↔ HasNodeKey (S.contents storage.now) path.now) }
+    ensures ok { IfOk result
+        (λ exists. IsTrue exists ↔ HasNodeKey (S.contents storage.now) path.now) }
     ensures refused { IfErr result (IsStoreError (S.can_fail storage.now)) }
 {
     let keys = storage.list_dir(alloc, &path.to_prefix(alloc)?)?.keys;

@@ -36,8 +36,13 @@ impl Node {
         path: &NodePath,
         version: &MetadataRetrieveVersion,
     ) -> Result<NodeMetadata, NodeCreateError>
-        ensures ok { IfOk result (λ metadata. meaning (S.contents storage.now) version.now path.now ≡ node metadata) }
-        ensures refused { IfErr result (λ e. IsExcused (S.can_fail storage.now) e ⊎ ((meaning (S.contents storage.now) version.now path.now ≡ nothing) × IsMissing path.now e) ⊎ (meaning (S.contents storage.now) version.now path.now ≡ bad e)) }
+        ensures ok { IfOk result
+            (λ metadata. meaning (S.contents storage.now) version.now path.now ≡ node metadata) }
+        ensures refused { IfErr result
+            (λ e. IsExcused (S.can_fail storage.now) e
+                ⊎ ((meaning (S.contents storage.now) version.now path.now ≡ nothing)
+                    × IsMissing path.now e)
+                ⊎ (meaning (S.contents storage.now) version.now path.now ≡ bad e)) }
     {
         let prefix = path.to_prefix(alloc)?;
         let mut last = LastDocuments::new(alloc);
@@ -61,7 +66,8 @@ pub(crate) fn find_metadata<S: ReadableStorageTraits>(
     version: &MetadataRetrieveVersion,
     last: &mut LastDocuments,
 ) -> Result<Option<NodeMetadata>, NodeCreateError>
-    ensures { Finds (S.can_fail storage.now) result (meaning (S.contents storage.now) version.now prefix.now) }
+    ensures { Finds (S.can_fail storage.now) result
+        (meaning (S.contents storage.now) version.now prefix.now) }
 {
     match version {
         MetadataRetrieveVersion::Default => match find_v3(alloc, storage, prefix, last)? {
@@ -80,7 +86,8 @@ fn find_v3<S: ReadableStorageTraits>(
     prefix: &StorePrefix,
     last: &mut LastDocuments,
 ) -> Result<Option<NodeMetadata>, NodeCreateError>
-    ensures { FollowsLine (S.can_fail storage.now) result (zarr_json_line in_bytes (S.contents storage.now) prefix.now) }
+    ensures { FollowsLine (S.can_fail storage.now) result
+        (zarr_json_line in_bytes (S.contents storage.now) prefix.now) }
 {
     match find_below(
         alloc,
@@ -103,7 +110,9 @@ fn find_v2<S: ReadableStorageTraits>(
     prefix: &StorePrefix,
     last: &mut LastDocuments,
 ) -> Result<Option<NodeMetadata>, NodeCreateError>
-    ensures { FollowsLine (S.can_fail storage.now) result (λ after. zarray_line in_bytes (S.contents storage.now) prefix.now (zgroup_line in_bytes (S.contents storage.now) prefix.now after)) }
+    ensures { FollowsLine (S.can_fail storage.now) result
+        (λ after. zarray_line in_bytes (S.contents storage.now) prefix.now
+            (zgroup_line in_bytes (S.contents storage.now) prefix.now after)) }
 {
     match find_array_v2(alloc, storage, prefix, last)? {
         Some(metadata) => Ok(Some(metadata)),
@@ -118,7 +127,8 @@ fn find_array_v2<S: ReadableStorageTraits>(
     prefix: &StorePrefix,
     last: &mut LastDocuments,
 ) -> Result<Option<NodeMetadata>, NodeCreateError>
-    ensures { FollowsLine (S.can_fail storage.now) result (zarray_line in_bytes (S.contents storage.now) prefix.now) }
+    ensures { FollowsLine (S.can_fail storage.now) result
+        (zarray_line in_bytes (S.contents storage.now) prefix.now) }
 {
     let found: Option<ArrayMetadataV2> = find_below(
         alloc,
@@ -145,7 +155,8 @@ fn find_group_v2<S: ReadableStorageTraits>(
     prefix: &StorePrefix,
     last: &mut LastDocuments,
 ) -> Result<Option<NodeMetadata>, NodeCreateError>
-    ensures { FollowsLine (S.can_fail storage.now) result (zgroup_line in_bytes (S.contents storage.now) prefix.now) }
+    ensures { FollowsLine (S.can_fail storage.now) result
+        (zgroup_line in_bytes (S.contents storage.now) prefix.now) }
 {
     let found: Option<GroupMetadataV2> = find_below(
         alloc,
@@ -171,8 +182,11 @@ fn find_attributes<S: ReadableStorageTraits>(
     prefix: &StorePrefix,
     last: &mut LastDocuments,
 ) -> Result<Option<AttributesDocument>, StorageError>
-    ensures ok { IfOk result (λ found. attributes_at (S.contents storage.now) prefix.now ≡ Ok found) }
-    ensures err { IfErr result (RefusesReading (S.can_fail storage.now) (attributes_at (S.contents storage.now) prefix.now)) }
+    ensures ok { IfOk result
+        (λ found. attributes_at (S.contents storage.now) prefix.now ≡ Ok found) }
+    ensures err { IfErr result
+        (RefusesReading (S.can_fail storage.now)
+            (attributes_at (S.contents storage.now) prefix.now)) }
 {
     find_below(
         alloc,

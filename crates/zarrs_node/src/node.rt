@@ -156,7 +156,9 @@ pub(crate) fn push_node(
     metadata: NodeMetadata,
     children: Vec<Node>,
 ) -> Result<(), AllocError>
-    ensures { OnOk result (forest nodes.new.items ≡ graft (forest nodes.old.items) (tree path metadata (forest children.items) none)) }
+    ensures { OnOk result
+        (forest nodes.new.items
+            ≡ graft (forest nodes.old.items) (tree path metadata (forest children.items) none)) }
 {
     nodes.push(Node::new_with_metadata(path, metadata, children))?;
     Ok(())
@@ -273,7 +275,8 @@ impl Drop for Node {
 fn put_first(nodes: &mut Vec<Node>, node: Node) -> Option<Node>
     requires { vec_len nodes.old < vec_capacity nodes.old }
     ensures none { result ≡ None }
-    ensures weights { weights nodes.new.items ≡ weights nodes.old.items + (weights (children_of node) + 1) }
+    ensures weights { weights nodes.new.items
+        ≡ weights nodes.old.items + (weights (children_of node) + 1) }
 {
     let end = nodes.len();
     match nodes.push(node) {

@@ -37,11 +37,23 @@ impl Node {
         config: &Config,
     ) -> Result<Node, NodeCreateError>
         ensures path { IfOk result (λ made. path_text (path_of made) ≡ path.now) }
-        ensures means { IfOk result (λ made. meaning (S.contents storage.now) MetadataRetrieveVersion.Default (path_of made) ≡ node (metadata_of made)) }
-        ensures shows { IfOk result (λ made. ShowsNode (S.contents storage.now) MetadataRetrieveVersion.Default config.now.use_consolidated (path_of made) (metadata_of made) (below_of made)) }
-        ensures clean { IfOk result (λ made. IsCleanNode (S.contents storage.now) MetadataRetrieveVersion.Default config.now.use_consolidated (path_of made) (metadata_of made)) }
+        ensures means { IfOk result
+            (λ made. meaning (S.contents storage.now) MetadataRetrieveVersion.Default (path_of made)
+                ≡ node (metadata_of made)) }
+        ensures shows { IfOk result
+            (λ made. ShowsNode
+                (S.contents storage.now) MetadataRetrieveVersion.Default config.now.use_consolidated
+                (path_of made) (metadata_of made) (below_of made)) }
+        ensures clean { IfOk result
+            (λ made. IsCleanNode
+                (S.contents storage.now) MetadataRetrieveVersion.Default config.now.use_consolidated
+                (path_of made) (metadata_of made)) }
         ensures placed { IfOk result HasPlacedChildren }
-        ensures refused { IfErr result (λ e. IsExcused (S.can_fail storage.now) e ⊎ RefusesOpening (S.contents storage.now) MetadataRetrieveVersion.Default config.now.use_consolidated path.now e) }
+        ensures refused { IfErr result
+            (λ e. IsExcused (S.can_fail storage.now) e
+                ⊎ RefusesOpening
+                (S.contents storage.now) MetadataRetrieveVersion.Default config.now.use_consolidated
+                path.now e) }
     {
         Node::open_opt(
             log,
@@ -83,11 +95,20 @@ impl Node {
         config: &Config,
     ) -> Result<Node, NodeCreateError>
         ensures path { IfOk result (λ made. path_text (path_of made) ≡ path.now) }
-        ensures means { IfOk result (λ made. meaning (S.contents storage.now) version.now (path_of made) ≡ node (metadata_of made)) }
-        ensures shows { IfOk result (λ made. ShowsNode (S.contents storage.now) version.now config.now.use_consolidated (path_of made) (metadata_of made) (below_of made)) }
-        ensures clean { IfOk result (λ made. IsCleanNode (S.contents storage.now) version.now config.now.use_consolidated (path_of made) (metadata_of made)) }
+        ensures means { IfOk result
+            (λ made. meaning (S.contents storage.now) version.now (path_of made)
+                ≡ node (metadata_of made)) }
+        ensures shows { IfOk result
+            (λ made. ShowsNode (S.contents storage.now) version.now config.now.use_consolidated
+                (path_of made) (metadata_of made) (below_of made)) }
+        ensures clean { IfOk result
+            (λ made. IsCleanNode (S.contents storage.now) version.now config.now.use_consolidated
+                (path_of made) (metadata_of made)) }
         ensures placed { IfOk result HasPlacedChildren }
-        ensures refused { IfErr result (λ e. IsExcused (S.can_fail storage.now) e ⊎ RefusesOpening (S.contents storage.now) version.now config.now.use_consolidated path.now e) }
+        ensures refused { IfErr result
+            (λ e. IsExcused (S.can_fail storage.now) e
+                ⊎ RefusesOpening
+                (S.contents storage.now) version.now config.now.use_consolidated path.now e) }
     {
         let path = NodePath::new(alloc, path)?;
         let metadata = Node::get_metadata(alloc, storage, &path, version)?;
@@ -111,9 +132,19 @@ fn nodes_below<L: Log, S: ReadableStorageTraits + ListableStorageTraits>(
     version: &MetadataRetrieveVersion,
     config: &Config,
 ) -> Result<Vec<Node>, NodeCreateError>
-    ensures shows { IfOk result (λ nodes. ShowsChosen (S.contents storage.now) version.now (choice (S.contents storage.now) config.now.use_consolidated path.now metadata.now) true path.now (forest nodes.items)) }
-    ensures clean { IfOk result (λ _. IsCleanChosen (S.contents storage.now) version.now (choice (S.contents storage.now) config.now.use_consolidated path.now metadata.now) true path.now) }
-    ensures refused { IfErr result (λ e. IsExcused (S.can_fail storage.now) e ⊎ RefusesChosen (S.contents storage.now) version.now (choice (S.contents storage.now) config.now.use_consolidated path.now metadata.now) true path.now e) }
+    ensures shows { IfOk result
+        (λ nodes. ShowsChosen (S.contents storage.now) version.now
+            (choice (S.contents storage.now) config.now.use_consolidated path.now metadata.now) true
+            path.now (forest nodes.items)) }
+    ensures clean { IfOk result
+        (λ _. IsCleanChosen (S.contents storage.now) version.now
+            (choice (S.contents storage.now) config.now.use_consolidated path.now metadata.now) true
+            path.now) }
+    ensures refused { IfErr result
+        (λ e. IsExcused (S.can_fail storage.now) e
+            ⊎ RefusesChosen (S.contents storage.now) version.now
+            (choice (S.contents storage.now) config.now.use_consolidated path.now metadata.now) true
+            path.now e) }
 {
     let policy = config.use_consolidated_metadata();
     match consolidated_metadata_at(alloc, storage, path, metadata, policy)? {
@@ -137,7 +168,9 @@ pub fn nodes_of_block(
     block: ConsolidatedMetadata,
     recursive: bool,
 ) -> Result<Vec<Node>, NodeCreateError>
-    ensures shows { IfOk result (λ nodes. Shows (forest nodes.items) path.now (Kept (Entries block.metadata path.now) recursive path.now)) }
+    ensures shows { IfOk result
+        (λ nodes. Shows (forest nodes.items) path.now
+            (Kept (Entries block.metadata path.now) recursive path.now)) }
     ensures keys { IfOk result (λ _. HasValidKeys block.metadata) }
     ensures err { IfErr result (RefusesKeys block.metadata) }
 {

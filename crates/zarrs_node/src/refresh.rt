@@ -46,10 +46,16 @@ pub fn refresh_block<S: ReadableStorageTraits + ListableStorageTraits>(
     path: &NodePath,
 ) -> Result<ConsolidatedMetadataMetadata, NodeCreateError>
     requires below { IsBelow base.now path.now }
-    ensures fresh { IfOk result (IsFresh (meaning (S.contents storage.now) version.now) base.now block.now path.now) }
+    ensures fresh { IfOk result
+        (IsFresh (meaning (S.contents storage.now) version.now) base.now block.now path.now) }
     ensures ascending { IfOk result IsAscending }
-    ensures clean { IfOk result (λ _. LeadsTo block.now base.now path.now → BadAnew (S.contents storage.now) version.now path.now → ⊥) }
-    ensures refused { IfErr result (λ e. IsExcused (S.can_fail storage.now) e ⊎ (LeadsTo block.now base.now path.now × ShowsBadAnew (S.contents storage.now) version.now path.now e)) }
+    ensures clean { IfOk result
+        (λ _. LeadsTo block.now base.now path.now
+            → BadAnew (S.contents storage.now) version.now path.now → ⊥) }
+    ensures refused { IfErr result
+        (λ e. IsExcused (S.can_fail storage.now) e
+            ⊎ (LeadsTo block.now base.now path.now
+                × ShowsBadAnew (S.contents storage.now) version.now path.now e)) }
 {
     let copy = block.try_clone(alloc)?;
     refresh_owned_block(alloc, storage, base, version, copy, path)
@@ -72,10 +78,16 @@ pub fn refresh_owned_block<S: ReadableStorageTraits + ListableStorageTraits>(
     path: &NodePath,
 ) -> Result<ConsolidatedMetadataMetadata, NodeCreateError>
     requires below { IsBelow base.now path.now }
-    ensures fresh { IfOk result (IsFresh (meaning (S.contents storage.now) version.now) base.now block path.now) }
+    ensures fresh { IfOk result
+        (IsFresh (meaning (S.contents storage.now) version.now) base.now block path.now) }
     ensures ascending { IfOk result IsAscending }
-    ensures clean { IfOk result (λ _. LeadsTo block base.now path.now → BadAnew (S.contents storage.now) version.now path.now → ⊥) }
-    ensures refused { IfErr result (λ e. IsExcused (S.can_fail storage.now) e ⊎ (LeadsTo block base.now path.now × ShowsBadAnew (S.contents storage.now) version.now path.now e)) }
+    ensures clean { IfOk result
+        (λ _. LeadsTo block base.now path.now
+            → BadAnew (S.contents storage.now) version.now path.now → ⊥) }
+    ensures refused { IfErr result
+        (λ e. IsExcused (S.can_fail storage.now) e
+            ⊎ (LeadsTo block base.now path.now
+                × ShowsBadAnew (S.contents storage.now) version.now path.now e)) }
 {
     let renewed = if leads_to(alloc, &block, base, path)? {
         read_anew(alloc, storage, path, version)?
@@ -114,7 +126,8 @@ fn leads_to(
 
 // Whether the entry at a key, which is given with a slash in front, is a group.
 fn has_group(block: &ConsolidatedMetadataMetadata, rooted: &str) -> bool
-    ensures { (b p : Path) → IsPath p → IsBelow b p → rooted.now ≡ 47 ∷ text_beyond b p → IsTrue result ↔ HasGroup (Entries block.now b) p }
+    ensures { (b p : Path) → IsPath p → IsBelow b p → rooted.now ≡ 47 ∷ text_beyond b p
+        → IsTrue result ↔ HasGroup (Entries block.now b) p }
 {
     let key = without_slash(rooted);
     if let Some(metadata) = block.get(key) {
@@ -140,9 +153,13 @@ fn read_anew<S: ReadableStorageTraits + ListableStorageTraits>(
     path: &NodePath,
     version: &MetadataRetrieveVersion,
 ) -> Result<Vec<(NodePath, NodeMetadata)>, NodeCreateError>
-    ensures renewed { IfOk result (λ pairs. Lists (IsNewPair (meaning (S.contents storage.now) version.now) path.now) pairs.items) }
+    ensures renewed { IfOk result
+        (λ pairs. Lists
+            (IsNewPair (meaning (S.contents storage.now) version.now) path.now) pairs.items) }
     ensures clean { IfOk result (λ _. BadAnew (S.contents storage.now) version.now path.now → ⊥) }
-    ensures refused { IfErr result (λ e. IsExcused (S.can_fail storage.now) e ⊎ ShowsBadAnew (S.contents storage.now) version.now path.now e) }
+    ensures refused { IfErr result
+        (λ e. IsExcused (S.can_fail storage.now) e
+            ⊎ ShowsBadAnew (S.contents storage.now) version.now path.now e) }
 {
     let prefix = path.to_prefix(alloc)?;
     let mut last = LastDocuments::new(alloc);

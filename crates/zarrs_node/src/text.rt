@@ -24,7 +24,8 @@ impl Node {
     ///
     /// Source: `zarrs::node::Node::hierarchy_tree`.
     pub fn hierarchy_tree(&self, alloc: Global) -> Result<String, AllocError>
-        ensures ok { IfOk result (λ text. string_bytes text ≡ tree_text (metadata_of self.now) (below_of self.now)) }
+        ensures ok { IfOk result
+            (λ text. string_bytes text ≡ tree_text (metadata_of self.now) (below_of self.now)) }
     {
         let mut text = String::new(alloc);
         push_line(&mut text, 0, "/", &self.metadata)?;
@@ -43,7 +44,9 @@ fn push_line(
     name: &str,
     metadata: &NodeMetadata,
 ) -> Result<(), AllocError>
-    ensures { OnOk result (string_bytes text.new ≡ string_bytes text.old ++ (replicate (2 * level) 32 ++ named_line name.now metadata.now)) }
+    ensures { OnOk result
+        (string_bytes text.new ≡ string_bytes text.old
+            ++ (replicate (2 * level) 32 ++ named_line name.now metadata.now)) }
 {
     for _step in 0..level {
         text.push_str("  ")?;
@@ -118,7 +121,8 @@ fn write_shape_and_type<W: fmt::Write>(
 
 // Writes a shape between two spaces.
 fn write_shape<W: fmt::Write>(f: &mut fmt::Formatter<W>, shape: &[u64]) -> fmt::Result
-    ensures { WritesOnOk W.write_str_gives f.old result (32 ∷ (shape_text shape.now ++ 32 ∷ [])) f.new }
+    ensures { WritesOnOk W.write_str_gives f.old result
+        (32 ∷ (shape_text shape.now ++ 32 ∷ [])) f.new }
 {
     write!(f, " {shape:?} ")
 }

@@ -35,10 +35,14 @@ pub fn consolidated_metadata_at<S: ReadableStorageTraits>(
     metadata: &NodeMetadata,
     policy: UseConsolidatedMetadata,
 ) -> Result<Option<ConsolidatedMetadata>, NodeCreateError>
-    ensures ok { IfOk result (λ chosen. block_to_use (block_at (S.contents storage.now) path.now metadata.now) policy ≡ Some (as_block chosen)) }
+    ensures ok { IfOk result
+        (λ chosen. block_to_use (block_at (S.contents storage.now) path.now metadata.now) policy
+            ≡ Some (as_block chosen)) }
     ensures never { policy ≡ Never → result ≡ Ok None }
-    ensures excused { IfErr result (λ e. ExcusesBlock (S.can_fail storage.now) metadata.now policy e
-        ⊎ RefusesUse path.now (block_to_use (block_at (S.contents storage.now) path.now metadata.now) policy) e) }
+    ensures excused { IfErr result
+        (λ e. ExcusesBlock (S.can_fail storage.now) metadata.now policy e
+            ⊎ RefusesUse path.now
+            (block_to_use (block_at (S.contents storage.now) path.now metadata.now) policy) e) }
 {
     match (metadata, policy) {
         (_, UseConsolidatedMetadata::Never) => Ok(None),
@@ -63,8 +67,10 @@ pub fn zmetadata_at<S: ReadableStorageTraits>(
     storage: &S,
     path: &NodePath,
 ) -> Result<Option<ConsolidatedMetadata>, StorageError>
-    ensures ok { IfOk result (λ block. as_block block ≡ zmetadata_at (S.contents storage.now) path.now) }
-    ensures store { IfOk result (λ block. IfSome block (λ b. HoldsZmetadata (S.contents storage.now) path.now b.metadata)) }
+    ensures ok { IfOk result
+        (λ block. as_block block ≡ zmetadata_at (S.contents storage.now) path.now) }
+    ensures store { IfOk result
+        (λ block. IfSome block (λ b. HoldsZmetadata (S.contents storage.now) path.now b.metadata)) }
     ensures err { IfErr result (IsStoreError (S.can_fail storage.now)) }
 {
     let key = meta_key_v2_consolidated(alloc, path)?;

@@ -65,7 +65,9 @@ impl Ord for NodePath {
 
 // The order of two texts by their parts between slashes.
 fn cmp_by_parts(first: &str, second: &str) -> Ordering
-    ensures { result ≡ slice_cmp (slice_cmp nat_cmp) (slice_split is_slash first.now) (slice_split is_slash second.now) }
+    ensures { result
+        ≡ slice_cmp (slice_cmp nat_cmp) (slice_split is_slash first.now)
+        (slice_split is_slash second.now) }
 {
     first.split('/').cmp(second.split('/'))
 }

@@ -156,9 +156,11 @@ impl ReadableStorageTraits for FaultStore {
     /// # Errors
     /// `StorageError::Fault` exactly where this is the place. `StorageError::OutOfMemory`.
     fn get(&self, alloc: Global, key: &StoreKey) -> Result<Option<Vec<u8>>, StorageError>
-        ensures ok { IfOk result (λ found. option_map (λ v. v.items) found ≡ map.get (inner_contents self.now) key.now) }
+        ensures ok { IfOk result
+            (λ found. option_map (λ v. v.items) found ≡ map.get (inner_contents self.now) key.now) }
         ensures err { IfErr result (IsStoreError true) }
-        ensures place { (result ≡ Err StorageError.Fault) ↔ (self.now.place ≡ FaultAt.OnGet key.now) }
+        ensures place { (result ≡ Err StorageError.Fault)
+            ↔ (self.now.place ≡ FaultAt.OnGet key.now) }
     {
         if self.place.is_get(key) {
             return Err(StorageError::Fault);
@@ -192,9 +194,11 @@ impl ListableStorageTraits for FaultStore {
         alloc: Global,
         prefix: &StorePrefix,
     ) -> Result<Vec<StoreKey>, StorageError>
-        ensures ok { IfOk result (λ keys. Lists (IsKeyBelow (inner_contents self.now) prefix.now) keys.items) }
+        ensures ok { IfOk result
+            (λ keys. Lists (IsKeyBelow (inner_contents self.now) prefix.now) keys.items) }
         ensures err { IfErr result (IsStoreError true) }
-        ensures place { (result ≡ Err StorageError.Fault) ↔ (self.now.place ≡ FaultAt.OnList prefix.now) }
+        ensures place { (result ≡ Err StorageError.Fault)
+            ↔ (self.now.place ≡ FaultAt.OnList prefix.now) }
     {
         if self.place.is_list(prefix) {
             return Err(StorageError::Fault);
@@ -211,10 +215,13 @@ impl ListableStorageTraits for FaultStore {
         alloc: Global,
         prefix: &StorePrefix,
     ) -> Result<StoreKeysPrefixes, StorageError>
-        ensures keys { IfOk result (λ dir. Lists (IsChildKey (inner_contents self.now) prefix.now) dir.keys.items) }
-        ensures prefixes { IfOk result (λ dir. Lists (IsChildPrefix (inner_contents self.now) prefix.now) dir.prefixes.items) }
+        ensures keys { IfOk result
+            (λ dir. Lists (IsChildKey (inner_contents self.now) prefix.now) dir.keys.items) }
+        ensures prefixes { IfOk result
+            (λ dir. Lists (IsChildPrefix (inner_contents self.now) prefix.now) dir.prefixes.items) }
         ensures err { IfErr result (IsStoreError true) }
-        ensures place { (result ≡ Err StorageError.Fault) ↔ (self.now.place ≡ FaultAt.OnList prefix.now) }
+        ensures place { (result ≡ Err StorageError.Fault)
+            ↔ (self.now.place ≡ FaultAt.OnList prefix.now) }
     {
         if self.place.is_list(prefix) {
             return Err(StorageError::Fault);
@@ -231,9 +238,12 @@ impl ListableStorageTraits for FaultStore {
         alloc: Global,
         prefix: &StorePrefix,
     ) -> Result<Vec<StorePrefix>, StorageError>
-        ensures prefixes { IfOk result (λ prefixes. Lists (IsChildPrefix (inner_contents self.now) prefix.now) prefixes.items) }
+        ensures prefixes { IfOk result
+            (λ prefixes. Lists
+                (IsChildPrefix (inner_contents self.now) prefix.now) prefixes.items) }
         ensures err { IfErr result (IsStoreError true) }
-        ensures place { (result ≡ Err StorageError.Fault) ↔ (self.now.place ≡ FaultAt.OnList prefix.now) }
+        ensures place { (result ≡ Err StorageError.Fault)
+            ↔ (self.now.place ≡ FaultAt.OnList prefix.now) }
     {
         if self.place.is_list(prefix) {
             return Err(StorageError::Fault);
@@ -250,13 +260,18 @@ impl WritableStorageTraits for FaultStore {
     /// `StorageError::Fault` only where this is the place, and there `StorageError::Fault` or `StorageError::OutOfMemory`.
     /// `StorageError::OutOfMemory`.
     fn set(&mut self, key: &StoreKey, value: &[u8]) -> Result<(), StorageError>
-        ensures ok { OnOk result (inner_contents self.new ≡ map.insert (inner_contents self.old) key.now value.now) }
+        ensures ok { OnOk result
+            (inner_contents self.new ≡ map.insert (inner_contents self.old) key.now value.now) }
         ensures err { IfErr result (IsStoreError true) }
-        ensures others { OnErr result (AgreesExceptAt key.now (inner_contents self.old) (inner_contents self.new)) }
+        ensures others { OnErr result
+            (AgreesExceptAt key.now (inner_contents self.old) (inner_contents self.new)) }
         ensures nature { self.new.place ≡ self.old.place }
         ensures place { self.old.place ≡ FaultAt.OnSet key.now → IsErr result }
-        ensures elsewhere { result ≡ Err StorageError.Fault → self.old.place ≡ FaultAt.OnSet key.now }
-        ensures half { result ≡ Err StorageError.Fault → inner_contents self.new ≡ map.insert (inner_contents self.old) key.now (first_half value.now) }
+        ensures elsewhere { result ≡ Err StorageError.Fault
+            → self.old.place ≡ FaultAt.OnSet key.now }
+        ensures half { result ≡ Err StorageError.Fault
+            → inner_contents self.new
+            ≡ map.insert (inner_contents self.old) key.now (first_half value.now) }
         ensures unchanged { result ≡ Err StorageError.OutOfMemory → self.new ≡ self.old }
     {
         if self.place.is_set(key) {
@@ -271,11 +286,14 @@ impl WritableStorageTraits for FaultStore {
     /// # Errors
     /// `StorageError::Fault` exactly where this is the place, and no other.
     fn erase(&mut self, key: &StoreKey) -> Result<(), StorageError>
-        ensures ok { OnOk result (inner_contents self.new ≡ map.remove (inner_contents self.old) key.now) }
+        ensures ok { OnOk result
+            (inner_contents self.new ≡ map.remove (inner_contents self.old) key.now) }
         ensures err { IfErr result (IsStoreError true) }
-        ensures others { OnErr result (AgreesExceptAt key.now (inner_contents self.old) (inner_contents self.new)) }
+        ensures others { OnErr result
+            (AgreesExceptAt key.now (inner_contents self.old) (inner_contents self.new)) }
         ensures nature { self.new.place ≡ self.old.place }
-        ensures place { (result ≡ Err StorageError.Fault) ↔ (self.old.place ≡ FaultAt.OnErase key.now) }
+        ensures place { (result ≡ Err StorageError.Fault)
+            ↔ (self.old.place ≡ FaultAt.OnErase key.now) }
         ensures succeeds { self.old.place ≢ FaultAt.OnErase key.now → IsOk result }
         ensures unchanged { OnErr result (self.new ≡ self.old) }
     {

@@ -24,10 +24,14 @@ pub(crate) fn directly_below(
     requires ascending { AreAscending entries.now }
     requires valid { IsPrefix prefix.now }
     requires range { IsRange (keys_of entries.now) prefix.now first end }
-    ensures keys { IfOk result (λ dir. dir.0.keys.items ≡ filter (is_child_key prefix.now) (keys_of entries.now)) }
-    ensures prefixes { IfOk result (λ dir. dir.0.prefixes.items ≡ child_prefixes prefix.now (keys_of entries.now)) }
-    ensures comparisons { IfOk result (λ dir. dir.1 ≤ length dir.0.keys.items + length dir.0.prefixes.items
-        + length dir.0.prefixes.items * (2 * digits (end - first))) }
+    ensures keys { IfOk result
+        (λ dir. dir.0.keys.items ≡ filter (is_child_key prefix.now) (keys_of entries.now)) }
+    ensures prefixes { IfOk result
+        (λ dir. dir.0.prefixes.items ≡ child_prefixes prefix.now (keys_of entries.now)) }
+    ensures comparisons { IfOk result
+        (λ dir. dir.1
+            ≤ length dir.0.keys.items + length dir.0.prefixes.items + length dir.0.prefixes.items *
+            (2 * digits (end - first))) }
     ensures few { IfOk result (λ dir. dir.1 ≤ 2 * length entries.now) }
 {
     let mut keys = Vec::new(alloc);
@@ -63,7 +67,8 @@ pub(crate) fn children_below(
     requires ascending { AreAscending entries.now }
     requires valid { IsPrefix prefix.now }
     requires range { IsRange (keys_of entries.now) prefix.now first end }
-    ensures { IfOk result (λ prefixes. prefixes.items ≡ child_prefixes prefix.now (keys_of entries.now)) }
+    ensures { IfOk result
+        (λ prefixes. prefixes.items ≡ child_prefixes prefix.now (keys_of entries.now)) }
 {
     let mut prefixes = Vec::new(alloc);
     let mut at = first;

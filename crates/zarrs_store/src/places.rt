@@ -40,8 +40,10 @@ pub(crate) fn place_of(
 fn first_from(entries: &[(StoreKey, Vec<u8>)], prefix: &StorePrefix) -> (usize, u32)
     requires ascending { AreAscending entries.now }
     ensures inside { result.0 ≤ length entries.now }
-    ensures before { All (λ e. is_lt (bytes_cmp (key_text e.0) (prefix_text prefix.now)) ≡ true) (take result.0 entries.now) }
-    ensures from { All (λ e. is_lt (bytes_cmp (key_text e.0) (prefix_text prefix.now)) ≡ false) (drop result.0 entries.now) }
+    ensures before { All (λ e. is_lt (bytes_cmp (key_text e.0) (prefix_text prefix.now)) ≡ true)
+        (take result.0 entries.now) }
+    ensures from { All (λ e. is_lt (bytes_cmp (key_text e.0) (prefix_text prefix.now)) ≡ false)
+        (drop result.0 entries.now) }
     ensures comparisons { result.1 ≤ digits (length entries.now) }
     ensures few { result.1 ≤ 64 }
 {
@@ -65,10 +67,12 @@ fn end_from(entries: &[(StoreKey, Vec<u8>)], prefix: &StorePrefix, first: usize)
     requires ascending { AreAscending entries.now }
     requires valid { IsPrefix prefix.now }
     requires inside { first ≤ length entries.now }
-    requires from { All (λ e. is_lt (bytes_cmp (key_text e.0) (prefix_text prefix.now)) ≡ false) (drop first entries.now) }
+    requires from { All (λ e. is_lt (bytes_cmp (key_text e.0) (prefix_text prefix.now)) ≡ false)
+        (drop first entries.now) }
     ensures ordered { first ≤ result.0 }
     ensures inside { result.0 ≤ length entries.now }
-    ensures within { All (λ e. is_below prefix.now e.0 ≡ true) (slice_range entries.now first result.0) }
+    ensures within { All (λ e. is_below prefix.now e.0 ≡ true)
+        (slice_range entries.now first result.0) }
     ensures behind { All (λ e. is_below prefix.now e.0 ≡ false) (drop result.0 entries.now) }
     ensures comparisons { result.1 ≤ digits (length entries.now) }
     ensures few { result.1 ≤ 64 }
@@ -98,10 +102,12 @@ pub(crate) fn end_near(
     requires ascending { AreAscending entries.now }
     requires valid { IsPrefix prefix.now }
     requires inside { first ≤ length entries.now }
-    requires from { All (λ e. is_lt (bytes_cmp (key_text e.0) (prefix_text prefix.now)) ≡ false) (drop first entries.now) }
+    requires from { All (λ e. is_lt (bytes_cmp (key_text e.0) (prefix_text prefix.now)) ≡ false)
+        (drop first entries.now) }
     ensures ordered { first ≤ result.0 }
     ensures inside { result.0 ≤ length entries.now }
-    ensures within { All (λ e. is_below prefix.now e.0 ≡ true) (slice_range entries.now first result.0) }
+    ensures within { All (λ e. is_below prefix.now e.0 ≡ true)
+        (slice_range entries.now first result.0) }
     ensures behind { All (λ e. is_below prefix.now e.0 ≡ false) (drop result.0 entries.now) }
     ensures comparisons { result.1 ≤ max 1 (2 * digits (result.0 - first)) }
 {

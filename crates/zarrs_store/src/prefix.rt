@@ -172,7 +172,8 @@ impl StorePrefix {
 
     // The text of the key behind the prefix, where it begins with it.
     fn strip<'a>(&self, key: &'a StoreKey) -> Option<&'a str>
-        ensures { option_map (λ rest. rest.now) result ≡ option_map key_text (beyond self.now key.now) }
+        ensures { option_map (λ rest. rest.now) result
+            ≡ option_map key_text (beyond self.now key.now) }
     {
         key.as_str().strip_prefix(self.as_str())
     }

@@ -30,7 +30,8 @@ pub trait ReadableStorageTraits: Store {
     /// # Errors
     /// `StorageError::Fault`, where the store can fail and did. `StorageError::OutOfMemory`.
     fn get(&self, alloc: Global, key: &StoreKey) -> Result<Option<Vec<u8>>, StorageError>
-        ensures ok { IfOk result (λ found. option_map (λ v. v.items) found ≡ map.get (Self.contents self.now) key.now) }
+        ensures ok { IfOk result
+            (λ found. option_map (λ v. v.items) found ≡ map.get (Self.contents self.now) key.now) }
         ensures err { IfErr result (IsStoreError (Self.can_fail self.now)) };
 }
 
@@ -66,7 +67,8 @@ pub trait ListableStorageTraits: Store {
         alloc: Global,
         prefix: &StorePrefix,
     ) -> Result<Vec<StoreKey>, StorageError>
-        ensures ok { IfOk result (λ keys. Lists (IsKeyBelow (Self.contents self.now) prefix.now) keys.items) }
+        ensures ok { IfOk result
+            (λ keys. Lists (IsKeyBelow (Self.contents self.now) prefix.now) keys.items) }
         ensures err { IfErr result (IsStoreError (Self.can_fail self.now)) };
 
     /// The keys and the child prefixes directly below the prefix, each once, in any order.
@@ -78,8 +80,10 @@ pub trait ListableStorageTraits: Store {
         alloc: Global,
         prefix: &StorePrefix,
     ) -> Result<StoreKeysPrefixes, StorageError>
-        ensures keys { IfOk result (λ dir. Lists (IsChildKey (Self.contents self.now) prefix.now) dir.keys.items) }
-        ensures prefixes { IfOk result (λ dir. Lists (IsChildPrefix (Self.contents self.now) prefix.now) dir.prefixes.items) }
+        ensures keys { IfOk result
+            (λ dir. Lists (IsChildKey (Self.contents self.now) prefix.now) dir.keys.items) }
+        ensures prefixes { IfOk result
+            (λ dir. Lists (IsChildPrefix (Self.contents self.now) prefix.now) dir.prefixes.items) }
         ensures err { IfErr result (IsStoreError (Self.can_fail self.now)) };
 
     /// The child prefixes directly below the prefix, each once, in any order: those of `list_dir`, for a caller that wants no keys.
@@ -91,7 +95,8 @@ pub trait ListableStorageTraits: Store {
         alloc: Global,
         prefix: &StorePrefix,
     ) -> Result<Vec<StorePrefix>, StorageError>
-        ensures prefixes { IfOk result (λ prefixes. Lists (IsChildPrefix (Self.contents self.now) prefix.now) prefixes.items) }
+        ensures prefixes { IfOk result
+            (λ prefixes. Lists (IsChildPrefix (Self.contents self.now) prefix.now) prefixes.items) }
         ensures err { IfErr result (IsStoreError (Self.can_fail self.now)) }
     {
         Ok(self.list_dir(alloc, prefix)?.prefixes)
@@ -107,9 +112,11 @@ pub trait WritableStorageTraits: Store {
     /// # Errors
     /// `StorageError::Fault`, where the store can fail and did. `StorageError::OutOfMemory`.
     fn set(&mut self, key: &StoreKey, value: &[u8]) -> Result<(), StorageError>
-        ensures ok { OnOk result (Self.contents self.new ≡ map.insert (Self.contents self.old) key.now value.now) }
+        ensures ok { OnOk result
+            (Self.contents self.new ≡ map.insert (Self.contents self.old) key.now value.now) }
         ensures err { IfErr result (IsStoreError (Self.can_fail self.old)) }
-        ensures others { OnErr result (AgreesExceptAt key.now (Self.contents self.old) (Self.contents self.new)) }
+        ensures others { OnErr result
+            (AgreesExceptAt key.now (Self.contents self.old) (Self.contents self.new)) }
         ensures nature { Self.can_fail self.new ≡ Self.can_fail self.old };
 
     /// Removes the key; where the store does not have it, nothing is changed. After an error every other key is as it was; of the key itself nothing is promised.
@@ -117,8 +124,10 @@ pub trait WritableStorageTraits: Store {
     /// # Errors
     /// `StorageError::Fault`, where the store can fail and did. `StorageError::OutOfMemory`.
     fn erase(&mut self, key: &StoreKey) -> Result<(), StorageError>
-        ensures ok { OnOk result (Self.contents self.new ≡ map.remove (Self.contents self.old) key.now) }
+        ensures ok { OnOk result
+            (Self.contents self.new ≡ map.remove (Self.contents self.old) key.now) }
         ensures err { IfErr result (IsStoreError (Self.can_fail self.old)) }
-        ensures others { OnErr result (AgreesExceptAt key.now (Self.contents self.old) (Self.contents self.new)) }
+        ensures others { OnErr result
+            (AgreesExceptAt key.now (Self.contents self.old) (Self.contents self.new)) }
         ensures nature { Self.can_fail self.new ≡ Self.can_fail self.old };
 }

@@ -68,7 +68,8 @@ fn answer<R: Log + Files + AllocGlobal, I: Read, W: Write, E: Write>(
 
 // The folder and the words `tree PATH`, where the words are `folder DIR tree PATH`.
 fn folder_words(words: &[String]) -> Option<(&str, &[String])>
-    ensures some { IfSome result (λ found. IsFolderWords (texts words.now) found.0.now (texts found.1.now)) }
+    ensures some { IfSome result
+        (λ found. IsFolderWords (texts words.now) found.0.now (texts found.1.now)) }
     ensures none { IfNone result (IsFolderCommand (texts words.now) → ⊥) }
 {
     let [word, folder, tree, _path] = words else {

@@ -27,7 +27,8 @@ pub(crate) fn tree_text<L: Log, S: ReadableStorageTraits + ListableStorageTraits
     base: &NodePath,
 ) -> Result<Vec<u8>, ToolFault>
     ensures ok { IfOk result (λ text. IsTree (S.contents store.now) base.now text.items) }
-    ensures err { IfErr result (IsTreeFault (S.can_fail store.now) (S.contents store.now) base.now) }
+    ensures err { IfErr result
+        (IsTreeFault (S.can_fail store.now) (S.contents store.now) base.now) }
 {
     let version = MetadataRetrieveVersion::Default;
     let text = tree_at(log, alloc, store, base, &version, &Config::new())?;
@@ -47,7 +48,8 @@ pub(crate) fn block_text<L: Log, S: ReadableStorageTraits + ListableStorageTrait
     base: &NodePath,
 ) -> Result<Vec<u8>, ToolFault>
     ensures ok { IfOk result (λ text. IsBlockText (S.contents store.now) base.now text.items) }
-    ensures err { IfErr result (IsBlockFault (S.can_fail store.now) (S.contents store.now) base.now) }
+    ensures err { IfErr result
+        (IsBlockFault (S.can_fail store.now) (S.contents store.now) base.now) }
 {
     let _valid = base.as_str();
     let version = MetadataRetrieveVersion::Default;

@@ -114,7 +114,8 @@ struct Command<'a> {
 
 fn parse(words: &[String]) -> Result<Command<'_>, ToolFault>
     ensures ok { IfOk result (λ command. command_words command ≡ texts words.now) }
-    ensures err { IfErr result (λ fault. (fault ≡ ToolFault.Usage) × (IsCommand (texts words.now) → ⊥)) }
+    ensures err { IfErr result
+        (λ fault. (fault ≡ ToolFault.Usage) × (IsCommand (texts words.now) → ⊥)) }
 {
     let [word, path] = words else {
         return Err(ToolFault::Usage);
@@ -128,7 +129,8 @@ fn parse(words: &[String]) -> Result<Command<'_>, ToolFault>
 
 fn parse_word(text: &str) -> Result<Word, ToolFault>
     ensures ok { IfOk result (λ word. word_text word ≡ text.now) }
-    ensures err { IfErr result (λ fault. (fault ≡ ToolFault.Usage) × ((word : Word) → word_text word ≢ text.now)) }
+    ensures err { IfErr result
+        (λ fault. (fault ≡ ToolFault.Usage) × ((word : Word) → word_text word ≢ text.now)) }
 {
     match text {
         "children" => Ok(Word::Children),
@@ -166,9 +168,12 @@ fn output<L: Log, S: ReadableStorageTraits + ListableStorageTraits>(
     command: &Command<'_>,
     store: &S,
 ) -> Result<Vec<u8>, ToolFault>
-    ensures ok { IfOk result (λ text. IsOutput (command_words command.now) (S.contents store.now) text.items) }
-    ensures err { IfErr result (λ fault. (fault ≢ ToolFault.Write) × (fault ≢ ToolFault.Usage)
-        × IsRefusal (S.can_fail store.now) (command_words command.now) (S.contents store.now) fault) }
+    ensures ok { IfOk result
+        (λ text. IsOutput (command_words command.now) (S.contents store.now) text.items) }
+    ensures err { IfErr result
+        (λ fault. (fault ≢ ToolFault.Write) × (fault ≢ ToolFault.Usage)
+            × IsRefusal (S.can_fail store.now) (command_words command.now)
+            (S.contents store.now) fault) }
 {
     let base = parse_path(alloc, command.path)?;
     output_of(log, alloc, command.word, store, &base)
@@ -193,7 +198,8 @@ fn output_of<L: Log, S: ReadableStorageTraits + ListableStorageTraits>(
     base: &NodePath,
 ) -> Result<Vec<u8>, ToolFault>
     ensures ok { IfOk result (λ text. Writes word (S.contents store.now) base.now text.items) }
-    ensures err { IfErr result (IsWordFault (S.can_fail store.now) word (S.contents store.now) base.now) }
+    ensures err { IfErr result
+        (IsWordFault (S.can_fail store.now) word (S.contents store.now) base.now) }
 {
     match word {
         Word::Children => listing(log, alloc, store, base, false),
@@ -212,8 +218,10 @@ fn listing<L: Log, S: ReadableStorageTraits + ListableStorageTraits>(
     base: &NodePath,
     recursive: bool,
 ) -> Result<Vec<u8>, ToolFault>
-    ensures ok { IfOk result (λ text. IsListing (S.contents store.now) recursive base.now text.items) }
-    ensures err { IfErr result (IsListingFault (S.can_fail store.now) (S.contents store.now) recursive base.now) }
+    ensures ok { IfOk result
+        (λ text. IsListing (S.contents store.now) recursive base.now text.items) }
+    ensures err { IfErr result
+        (IsListingFault (S.can_fail store.now) (S.contents store.now) recursive base.now) }
 {
     let mut lines = PathLines {
         text: Vec::new(alloc),
