@@ -23,7 +23,7 @@ use Rattle.zarrs_meta.specs.declared.node.NodeMetadata.TheVariants.{Group, Array
 use Rattle.zarrs_block.specs.Block.{Block, IsAscending, HasValidKeys, Entries, entry}
 use Rattle.zarrs_block.specs.BlockExpansion.{HaveOwnPaths, pairs_at, paths_at}
 use Rattle.zarrs_block.specs.Small.{is_document_v2, stretches}
-use Rattle.zarrs_block.specs.Zmetadata.{before_last, attributes_written, node_written, nodes_written, put_documents, documents_written, zmetadata_tree, node_at, document_written, HoldsDocuments, IsWrittenOf, WrittenHoldsDocuments}
+use Rattle.zarrs_block.specs.Zmetadata.{before_last, attributes_written, node_written, nodes_written, put_documents, documents_written, zmetadata_tree, zmetadata_with, node_at, document_written, HoldsDocuments, IsWrittenOf, WrittenHoldsDocuments}
 use Rattle.zarrs_block.proofs.Expansion.{entries_listed, own_paths}
 use Rattle.zarrs_block.proofs.SmallStores.{before_last-child, same_key, own_key}
 use Rattle.zarrs_block.proofs.SmallLaws.{stretches_of, got_member}
@@ -249,10 +249,23 @@ written_holds_documents g B up valid = record {
   no_others = λ t s. named_of t (documents_written g B) (nodes_named (([], Group (group_v2 g)) ∷ pairs B) (refl, pairs_have_paths B up valid)) s;
 }
 
--- so does a document that was written of a copy of the block
-pub written_by : (g : GroupMetadataV2) (B C : Block) (d : Data) → C ≡ B → IsAscending C → HasValidKeys C → d ≡ zmetadata_tree g B → IsWrittenOf g B d
-written_by g B C d copied up valid is = record {
-  members = documents_written g B;
-  is = is;
-  holds = subst (λ X. HoldsDocuments g X (documents_written g X)) copied (written_holds_documents g C up valid);
-}
+module _ (g h : GroupMetadataV2) (B C : Block) (b : Path) (es : List (Path × NodeMetadata)) (low ms : Members) (d : Data) (copied : C ≡ B) (root : b ≡ []) (same : h ≡ g)
+    (up : IsAscending C) (valid : HasValidKeys C) (listed : es ≡ pairs_at (paths_at b C C) C) (lower : low ≡ nodes_written es)
+    (put : ms ≡ put_documents b (node_written (Group (group_v2 h))) low) (is : d ≡ zmetadata_with ms) where
+  -- the documents that were put of copies are those of the group and the block
+  are_written : ms ≡ documents_written g C
+  are_written =
+      put ∙ ap (λ p. put_documents p (node_written (Group (group_v2 h))) low) root ∙ ap (λ m. put_documents [] (node_written (Group (group_v2 m))) low) same
+      ∙ ap (λ x. put_documents [] (node_written (Group (group_v2 g))) x) (lower ∙ ap nodes_written (listed ∙ ap (λ p. pairs_at (paths_at p C C) C) root))
+
+  -- so the document is that of the group and the block
+  pub tree_written : d ≡ zmetadata_tree g B
+  tree_written = is ∙ ap zmetadata_with (are_written ∙ ap (documents_written g) copied)
+
+  -- and holds their documents
+  pub holds_written : IsWrittenOf g B d
+  holds_written = record {
+    members = ms;
+    is = is;
+    holds = subst (λ X. HoldsDocuments g X ms) copied (subst (HoldsDocuments g C) (sym are_written) (written_holds_documents g C up valid));
+  }

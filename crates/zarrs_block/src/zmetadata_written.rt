@@ -5,7 +5,7 @@ ghost use Rattle.zarrs_meta.specs.declared.node.ArrayMetadata.TheVariants.{V2 as
 ghost use Rattle.zarrs_meta.specs.declared.node.GroupMetadata.TheVariants.{V2 as group_v2};
 ghost use Rattle.zarrs_meta.specs.declared.node.NodeMetadata.TheVariants.{Group, Array};
 ghost use Rattle.zarrs_block.specs.Block.{HasValidKeys};
-ghost use Rattle.zarrs_block.specs.Zmetadata.{IsWrittenOf, zmetadata_tree, is_version_2, HasVersion2, RefusesZmetadata, attributes_written, node_written, nodes_written, put_documents};
+ghost use Rattle.zarrs_block.specs.Zmetadata.{IsWrittenOf, zmetadata_tree, zmetadata_with, is_version_2, HasVersion2, RefusesZmetadata, attributes_written, node_written, nodes_written, put_documents};
 ghost use Rattle.zarrs_block.specs.StepsOfZmetadata.{RefusesWritingNode, RefusesWritingNodes};
 
 use crate::consolidated::ConsolidatedMetadata;
@@ -48,16 +48,24 @@ impl ConsolidatedMetadata {
         let (pairs, _ascend) = pairs_of(alloc, &root, self.try_clone(alloc)?)?;
         let mut documents = documents_of(alloc, pairs)?;
         put_group(&mut documents, alloc, &root, group.try_clone(alloc)?)?;
-        let mut all = Map::new(alloc);
-        put(&mut all, alloc, "metadata", Value::Object(documents))?;
-        put(
-            &mut all,
-            alloc,
-            "zarr_consolidated_format",
-            Value::from(1u64),
-        )?;
-        Ok(Value::Object(all))
+        Ok(with_format(alloc, documents)?)
     }
+}
+
+// The document of format 1 with these members.
+fn with_format(alloc: Global, documents: Map<String, Value>) -> Result<Value, AllocError>
+    ensures { IfOk result
+        (λ value. view value ≡ zmetadata_with (members_view documents.entries)) }
+{
+    let mut all = Map::new(alloc);
+    put(&mut all, alloc, "metadata", Value::Object(documents))?;
+    put(
+        &mut all,
+        alloc,
+        "zarr_consolidated_format",
+        Value::from(1u64),
+    )?;
+    Ok(Value::Object(all))
 }
 
 // The documents of nodes, each behind the names of its path.

@@ -1,6 +1,6 @@
 use Rattle.std.proofs.Common.{rules, ap}
 use Rattle.zarrs_block.specs.Zmetadata.{RefusesZmetadata}
-use Rattle.zarrs_block.proofs.ZmetadataDocuments.{written_by}
+use Rattle.zarrs_block.proofs.ZmetadataDocuments.{holds_written, tree_written}
 use Rattle.zarrs_block.proofs.ZmetadataWritten.{copy_version_2, copy_refused}
 use Rattle.zarrs_block.proofs.consolidated.ConsolidatedMetadata.to_zmetadata.Goals as goal
 
@@ -16,6 +16,14 @@ returns-clause-version c =
     copy_version_2 c.args.self.now.metadata c.in_ok-try_clone.field-0.metadata _ c.in_ok-pairs.pairs.items (ap (λ b. b.metadata) c.in_ok-try_clone.ensures) c.in_ok-root.ensures.ok
     c.in_ok-pairs.ensures.pairs c.in_ok-pairs.ensures.ordered c.in_ok-pairs.ensures.keys c.in_ok-documents.ensures.version
 
+pub returns-clause-tree : goal.returns-clause-tree
+returns-clause-tree c =
+    tree_written _ c.in_ok-try_clone-2.field-0 c.args.self.now.metadata c.in_ok-try_clone.field-0.metadata _ c.in_ok-pairs.pairs.items _ _ _
+    (ap (λ b. b.metadata) c.in_ok-try_clone.ensures) c.in_ok-root.ensures.ok c.in_ok-try_clone-2.ensures c.in_ok-pairs.ensures.ordered c.in_ok-pairs.ensures.keys
+    c.in_ok-pairs.ensures.pairs c.in_ok-documents.ensures.ok c.in_ok-put_group.ensures c.in_ok-with_format.ensures
+
 pub returns-clause-documents : goal.returns-clause-documents
 returns-clause-documents c =
-    written_by _ c.args.self.now.metadata c.in_ok-try_clone.field-0.metadata _ (ap (λ b. b.metadata) c.in_ok-try_clone.ensures) c.in_ok-pairs.ensures.ordered c.in_ok-pairs.ensures.keys (search rules)
+    holds_written _ c.in_ok-try_clone-2.field-0 c.args.self.now.metadata c.in_ok-try_clone.field-0.metadata _ c.in_ok-pairs.pairs.items _ _ _
+    (ap (λ b. b.metadata) c.in_ok-try_clone.ensures) c.in_ok-root.ensures.ok c.in_ok-try_clone-2.ensures c.in_ok-pairs.ensures.ordered c.in_ok-pairs.ensures.keys
+    c.in_ok-pairs.ensures.pairs c.in_ok-documents.ensures.ok c.in_ok-put_group.ensures c.in_ok-with_format.ensures
