@@ -7,6 +7,26 @@ use Rattle.zarrs_node.specs.declared.node.Node.{Node}
 use Rattle.zarrs_node.specs.declared.node.Node.TheViews.{out-Node}
 use Rattle.zarrs_node.specs.Forest.{Forest, none, tree, forest, IsChildOf}
 
+-- the trees of f, and then those of g
+abbrev pub graft : Forest → Forest → Forest
+graft none g = g
+graft (tree p m below after) g = tree p m below (graft after g)
+
+-- the paths passed over with a child: the child itself, or those below it
+abbrev pub paths_passed : Path → Option NodeMetadata → List Path → List Path
+paths_passed p None below = p ∷ []
+paths_passed p (Some m) below = below
+
+-- the nodes told of a child by itself: its own, where it is a node
+abbrev pub own_node : Path → Option NodeMetadata → List (Path × NodeMetadata)
+own_node p None = []
+own_node p (Some m) = (p, m) ∷ []
+
+-- what was found is a group
+abbrev pub is_group_found : Option NodeMetadata → Bool
+is_group_found None = false
+is_group_found (Some m) = is_group m
+
 -- an open group, with the trees that it has so far
 pub record Stem : Type 0 where
   pub path : Path
@@ -61,23 +81,3 @@ abbrev pub DropsEqual : Path → List (Path × NodeMetadata) → List (Path × N
 DropsEqual p xs ys =
     ((e : Path × NodeMetadata) × (xs ≡ ys ++ e ∷ []) × (e.0 ≡ p))
     ⊎ ((xs ≡ ys) × ((front : List (Path × NodeMetadata)) (e : Path × NodeMetadata) → xs ≡ front ++ e ∷ [] → e.0 ≡ p → ⊥))
-
--- the trees of f, and then those of g
-abbrev pub graft : Forest → Forest → Forest
-graft none g = g
-graft (tree p m below after) g = tree p m below (graft after g)
-
--- the paths passed over with a child: the child itself, or those below it
-abbrev pub paths_passed : Path → Option NodeMetadata → List Path → List Path
-paths_passed p None below = p ∷ []
-paths_passed p (Some m) below = below
-
--- the nodes told of a child by itself: its own, where it is a node
-abbrev pub own_node : Path → Option NodeMetadata → List (Path × NodeMetadata)
-own_node p None = []
-own_node p (Some m) = (p, m) ∷ []
-
--- what was found is a group
-abbrev pub is_group_found : Option NodeMetadata → Bool
-is_group_found None = false
-is_group_found (Some m) = is_group m
