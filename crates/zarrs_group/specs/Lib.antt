@@ -10,6 +10,8 @@ pub mod BorrowedMetadata
 pub mod Borrowed
 pub mod Beside
 pub mod Consolidated
+pub mod Lending
+pub mod LendingSteps
 pub mod Children
 pub mod Laws
 pub mod GivesBack
