@@ -24,5 +24,5 @@ is_old() {
     program=$(built "$1")
     [ ! -x "$program" ] || [ "$top/crates.txt" -nt "$program" ] ||
         [ -n "$(cd "$top/crates" && find "$1" $(below "$1" | cut -d' ' -f1) \
-            \( -name out -o -name must-fail \) -prune -o -type f -newer "$program" -print -quit)" ]
+            \( -name out -o -name must-fail -o -name README.md \) -prune -o -type f -newer "$program" -print -quit)" ]
 }

@@ -5,9 +5,9 @@ use Rattle.zarrs_path.specs.Paths.{Path}
 use Rattle.zarrs_block.proofs.Expansion.{same_text}
 use Rattle.zarrs_meta.specs.Node.{is_group}
 use Rattle.zarrs_meta.specs.declared.node.NodeMetadata.{NodeMetadata}
-use Rattle.zarrs_block.specs.Block.{Block, found, entry, Entries, IsBlockOf, IsValidKey}
-use Rattle.zarrs_block.specs.Expanded.{path_at}
-use Rattle.zarrs_node.specs.Reached.{Kept}
+use Rattle.zarrs_block.specs.Block.{Block, node_at_key, entry, Entries, IsBlockOf, IsValidKey}
+use Rattle.zarrs_block.specs.BlockExpansion.{path_at}
+use Rattle.zarrs_node.specs.Reach.{Kept}
 use Rattle.tests_definitions.proofs.Meanings.{plain_group, small_array}
 use Rattle.tests_definitions.proofs.Reached.{reached}
 
@@ -93,13 +93,13 @@ one_block t m = (λ h. from (is_eq (bytes_cmp t (codes "a"))) refl h, λ w. back
     from true at h = let same : plain_group ≡ m = cc in (codes "a", [], same_text t (codes "a") at, ap (λ k. (b ++ codes "a" ∷ [], k)) (sym same))
     from false at h = cc
 
-    back : ((n : List ℕ) × (ns : Path) × (t ≡ key_text (n ∷ ns)) × One (b ++ n ∷ ns, m)) → found ((codes "a", plain_group) ∷ []) t ≡ Some m
+    back : ((n : List ℕ) × (ns : Path) × (t ≡ key_text (n ∷ ns)) × One (b ++ n ∷ ns, m)) → node_at_key ((codes "a", plain_group) ∷ []) t ≡ Some m
     back w =
         let names : codes "b" ∷ w.0 ∷ w.1 ≡ codes "b" ∷ codes "a" ∷ [] = ap (λ e. e.0) w.3 in
         let same : w.0 ∷ w.1 ≡ codes "a" ∷ [] = cc in
         let text : t ≡ codes "a" = w.2 ∙ ap key_text same in
         let is : m ≡ plain_group = ap (λ e. e.1) w.3 in
-        ap (found ((codes "a", plain_group) ∷ [])) text ∙ ap Some (sym is)
+        ap (node_at_key ((codes "a", plain_group) ∷ [])) text ∙ ap Some (sym is)
 
 -- with a slash in front it is none
 slash_is_none : IsBlockOf One b ((codes "/a", plain_group) ∷ []) → ⊥

@@ -17,9 +17,9 @@ use Rattle.std.specs.FinMap.{find}
 use Rattle.zarrs_config.specs.declared.version.MetadataRetrieveVersion.TheVariants.{V2}
 use Rattle.zarrs_convert.specs.Arrays.{array_v3}
 use Rattle.zarrs_block.specs.Meaning.{Meaning, in_trees}
-use Rattle.zarrs_block.specs.Small.{counted}
+use Rattle.zarrs_block.specs.Small.{counted_members}
 use Rattle.zarrs_block.specs.Block.{Block, block_of}
-use Rattle.zarrs_block.specs.Zmetadata.{zmetadata_of, zmetadata_members, below, is_good, block_from}
+use Rattle.zarrs_block.specs.Zmetadata.{zmetadata_of, zmetadata_members, documents_below, is_good, block_from}
 use Rattle.tests_definitions.proofs.Stores.{listed_in, looked_up, quoted, texts_compute, documents_compute}
 use Rattle.tests_definitions.proofs.Meanings.{plain_group, small_array}
 
@@ -52,15 +52,15 @@ must_is_bad = refl
 
 -- the block of a document `.zmetadata`, by look-ups in the list of its documents
 abbrev block_by : (Path → Meaning) → Members → Result Block MetadataFault
-block_by of ms = if list_all (λ e. is_good of e.0) (below ms) then Ok (block_from of (below ms)) else Err (BadMember (codes "metadata"))
+block_by of ms = if list_all (λ e. is_good of e.0) (documents_below ms) then Ok (block_from of (documents_below ms)) else Err (BadMember (codes "metadata"))
 
 abbrev small_listed : Members → Path → Meaning
-small_listed ms p = looked_up in_trees (λ k. find key_cmp k (map (λ e. ([] ++ e.0, e.1)) (counted ms))) V2 p
+small_listed ms p = looked_up in_trees (λ k. find key_cmp k (map (λ e. ([] ++ e.0, e.1)) (counted_members ms))) V2 p
 
 block_listed : (text : List ℕ) → of_bytes zmetadata_of text ≡ of_bytes (λ d. zmetadata_members d >>= λ ms. block_by (small_listed ms) ms) text
 unfolding zmetadata_of
 block_listed text =
-    λ i. of_bytes (λ d. zmetadata_members d >>= λ ms. block_by (λ p. listed_in in_trees (map (λ e. ([] ++ e.0, e.1)) (counted ms)) V2 p i) ms) text
+    λ i. of_bytes (λ d. zmetadata_members d >>= λ ms. block_by (λ p. listed_in in_trees (map (λ e. ([] ++ e.0, e.1)) (counted_members ms)) V2 p i) ms) text
 
 abbrev zmetadata_text : List ℕ
 zmetadata_text =

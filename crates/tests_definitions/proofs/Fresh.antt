@@ -4,10 +4,10 @@ use Rattle.zarrs_store.specs.Segments.{bytes_cmp}
 use Rattle.zarrs_block.proofs.Expansion.{same_text}
 use Rattle.zarrs_path.specs.Paths.{Path}
 use Rattle.zarrs_meta.specs.declared.node.NodeMetadata.{NodeMetadata}
-use Rattle.zarrs_block.specs.Block.{Block, found}
+use Rattle.zarrs_block.specs.Block.{Block, node_at_key}
 use Rattle.zarrs_block.specs.Meaning.{Meaning, node, nothing}
-use Rattle.zarrs_block.specs.Without.{IsAbout}
-use Rattle.zarrs_node.specs.Fresh.{IsFresh, HoldsAt, Renewed, LeadsTo}
+use Rattle.zarrs_block.specs.KeysAboutAPath.{IsAbout}
+use Rattle.zarrs_node.specs.CurrentBlocks.{IsFresh, HoldsAt, IsNewPair, LeadsTo}
 use Rattle.tests_definitions.proofs.Meanings.{a, plain_group}
 
 -- nothing stands at any path now
@@ -19,7 +19,7 @@ abbrev with_a : Block
 with_a = (codes "a", plain_group) ∷ []
 
 -- nothing is renewed there
-none_renewed : (t : List ℕ) (m : NodeMetadata) → HoldsAt (Renewed gone a) [] t m → ⊥
+none_renewed : (t : List ℕ) (m : NodeMetadata) → HoldsAt (IsNewPair gone a) [] t m → ⊥
 none_renewed t m h = let is : nothing ≡ node m = h.3.0 in cc
 
 -- where `/a` is gone, the block that had it has nothing
@@ -29,10 +29,10 @@ a_goes t m = (
   λ h. ⊎_elim (λ kept. absurd (kept.0 (at_a kept.1))) (λ new. absurd (none_renewed t m new.1)) h,
 )
   where
-    at_a : found with_a t ≡ Some m → IsAbout (codes "a") t
+    at_a : node_at_key with_a t ≡ Some m → IsAbout (codes "a") t
     at_a h = inl (inl (only t h))
       where
-        only : (t : List ℕ) → found with_a t ≡ Some m → t ≡ codes "a"
+        only : (t : List ℕ) → node_at_key with_a t ≡ Some m → t ≡ codes "a"
         only t h = by (is_eq (bytes_cmp t (codes "a"))) refl h
           where
             by : (c : Bool) → is_eq (bytes_cmp t (codes "a")) ≡ c → cond c (Some plain_group) None ≡ Some m → t ≡ codes "a"

@@ -11,7 +11,7 @@ use Rattle.zarrs_block.specs.Meaning.{node, nothing, bad, meaning}
 use Rattle.zarrs_fault.specs.declared.fault.MetadataFault.TheVariants.{NotJson}
 use Rattle.zarrs_store.specs.declared.storage_error.StorageError.TheVariants.{InvalidMetadata}
 use Rattle.zarrs_block.specs.declared.node_create_error.NodeCreateError.TheVariants.{StorageError as InStore}
-use Rattle.zarrs_node.specs.Reached.{Reached, Opens}
+use Rattle.zarrs_node.specs.Reach.{Reached, Opens}
 use Rattle.zarrs_node.specs.Nodes.{Nodes, Ignored, Bad}
 use Rattle.tests_definitions.proofs.Stores.{Entries, documents_compute, listed, has_key}
 use Rattle.tests_definitions.proofs.Meanings.{a, group_text, plain_group, array_text, small_array}

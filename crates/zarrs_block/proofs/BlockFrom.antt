@@ -13,10 +13,10 @@ use Rattle.zarrs_path.specs.Paths.{Path, IsPath, path_eq}
 use Rattle.zarrs_path.specs.PathOrder.{path_decides}
 use Rattle.zarrs_form.specs.Forms.{is_nil}
 use Rattle.zarrs_meta.specs.declared.node.NodeMetadata.{NodeMetadata}
-use Rattle.zarrs_block.specs.Block.{Block, found}
+use Rattle.zarrs_block.specs.Block.{Block, node_at_key}
 use Rattle.zarrs_block.specs.Meaning.{Meaning, node, nothing, bad}
-use Rattle.zarrs_block.specs.Small.{is_document_v2, stretches, counted}
-use Rattle.zarrs_block.specs.Zmetadata.{before_last, below, is_bad, is_good, with_node, block_from}
+use Rattle.zarrs_block.specs.Small.{is_document_v2, stretches, counted_members}
+use Rattle.zarrs_block.specs.Zmetadata.{before_last, documents_below, is_bad, is_good, with_node, block_from}
 use Rattle.zarrs_block.proofs.Expansion.{same_text, at_itself}
 use Rattle.zarrs_block.proofs.KeyLaws.{one_text, slash_apart}
 use Rattle.zarrs_block.proofs.Puts.{found_put}
@@ -37,8 +37,8 @@ abbrev pub IsBelowNames : Segments × Data → Type 0
 IsBelowNames e = IsPath (before_last e.0)
 
 -- at another text there is what there was
-found_apart : (q t : List ℕ) (p : Path) (m : Meaning) (B : Block) → q ≡ key_text p → is_eq (bytes_cmp t q) ≡ false → found (with_node p m B) t ≡ found B t
-found_apart q t p (node m) B is apart = found_put t (key_text p) m B ∙ ap (λ b. cond b (Some m) (found B t)) (ap (λ s. is_eq (bytes_cmp t s)) (sym is) ∙ apart)
+found_apart : (q t : List ℕ) (p : Path) (m : Meaning) (B : Block) → q ≡ key_text p → is_eq (bytes_cmp t q) ≡ false → node_at_key (with_node p m B) t ≡ node_at_key B t
+found_apart q t p (node m) B is apart = found_put t (key_text p) m B ∙ ap (λ b. cond b (Some m) (node_at_key B t)) (ap (λ s. is_eq (bytes_cmp t s)) (sym is) ∙ apart)
 found_apart q t p nothing B is apart = refl
 found_apart q t p (bad e) B is apart = refl
 
@@ -58,17 +58,17 @@ none_either false o none = sym none
 module _ (of : Path → Meaning) where
   -- at names the block has the node that they mean, where a document stands behind them
   pub found_block : (es : List (Segments × Data)) → AllByRecursion IsBelowNames es → (p : Path) → IsPath p
-      → found (block_from of es) (key_text p) ≡ cond (list_any (λ e. path_eq p (before_last e.0)) es) (node_of (of p)) None
+      → node_at_key (block_from of es) (key_text p) ≡ cond (list_any (λ e. path_eq p (before_last e.0)) es) (node_of (of p)) None
   found_block [] paths p h = refl
   found_block (e ∷ es) paths p h = by (path_eq p (before_last e.0)) refl (of (before_last e.0)) refl (found_block es paths.1 p h)
     where
       by : (b : Bool) → path_eq p (before_last e.0) ≡ b → (m : Meaning) → of (before_last e.0) ≡ m
-          → found (block_from of es) (key_text p) ≡ cond (list_any (λ e. path_eq p (before_last e.0)) es) (node_of (of p)) None
-          → found (with_node (before_last e.0) m (block_from of es)) (key_text p) ≡ cond (b || list_any (λ e. path_eq p (before_last e.0)) es) (node_of (of p)) None
+          → node_at_key (block_from of es) (key_text p) ≡ cond (list_any (λ e. path_eq p (before_last e.0)) es) (node_of (of p)) None
+          → node_at_key (with_node (before_last e.0) m (block_from of es)) (key_text p) ≡ cond (b || list_any (λ e. path_eq p (before_last e.0)) es) (node_of (of p)) None
       by true here (node m) is rest =
           let same : p ≡ before_last e.0 = (path_decides p (before_last e.0)).0 here in
           found_put (key_text p) (key_text (before_last e.0)) m (block_from of es)
-          ∙ ap (λ b. cond b (Some m) (found (block_from of es) (key_text p))) (ap (λ r. is_eq (bytes_cmp (key_text p) (key_text r))) (sym same) ∙ at_itself (key_text p))
+          ∙ ap (λ b. cond b (Some m) (node_at_key (block_from of es) (key_text p))) (ap (λ r. is_eq (bytes_cmp (key_text p) (key_text r))) (sym same) ∙ at_itself (key_text p))
           ∙ ap node_of (sym (ap of same ∙ is))
       by true here nothing is rest = rest ∙ none_either (list_any (λ e. path_eq p (before_last e.0)) es) (node_of (of p)) (ap node_of (ap of ((path_decides p (before_last e.0)).0 here) ∙ is))
       by true here (bad x) is rest = rest ∙ none_either (list_any (λ e. path_eq p (before_last e.0)) es) (node_of (of p)) (ap node_of (ap of ((path_decides p (before_last e.0)).0 here) ∙ is))
@@ -78,7 +78,7 @@ module _ (of : Path → Meaning) where
           ∙ rest
 
   -- behind a slash it has nothing
-  pub found_slashed : (es : List (Segments × Data)) → AllByRecursion IsBelowNames es → (p : Path) → found (block_from of es) (47 ∷ key_text p) ≡ None
+  pub found_slashed : (es : List (Segments × Data)) → AllByRecursion IsBelowNames es → (p : Path) → node_at_key (block_from of es) (47 ∷ key_text p) ≡ None
   found_slashed [] paths p = refl
   found_slashed (e ∷ es) paths p =
       found_apart (key_text (before_last e.0)) (47 ∷ key_text p) (before_last e.0) (of (before_last e.0)) (block_from of es) refl
@@ -100,18 +100,18 @@ names_before : (t : List ℕ) → IsNamed t → IsPath (before_last (stretches t
 names_before t (ns, file, h, doc, is) = subst IsPath (sym (ap before_last (ap stretches is ∙ stretches_of ns file h doc) ∙ before_last-child ns file)) h
 
 -- each document that counts stands behind names
-counted_named : (ms : Members) → AreNamed ms → AllByRecursion IsBelowNames (counted ms)
+counted_named : (ms : Members) → AreNamed ms → AllByRecursion IsBelowNames (counted_members ms)
 counted_named no_members named = tt
 counted_named (member t d ms) named = by (is_document_v2 (last_segment (stretches t))) (counted_named ms named.1)
   where
-    by : (b : Bool) → AllByRecursion IsBelowNames (counted ms) → AllByRecursion IsBelowNames (cond b ((stretches t, d) ∷ counted ms) (counted ms))
+    by : (b : Bool) → AllByRecursion IsBelowNames (counted_members ms) → AllByRecursion IsBelowNames (cond b ((stretches t, d) ∷ counted_members ms) (counted_members ms))
     by true rest = (names_before t named.0, rest)
     by false rest = rest
 
 -- so does each below the group
-pub below_named : (ms : Members) → AreNamed ms → AllByRecursion IsBelowNames (below ms)
+pub below_named : (ms : Members) → AreNamed ms → AllByRecursion IsBelowNames (documents_below ms)
 below_named ms named =
-    recursion_from_All IsBelowNames (below ms) (All-filter (λ e. not (is_nil (before_last e.0))) IsBelowNames (counted ms) (All-from_recursion IsBelowNames (counted ms) (counted_named ms named)))
+    recursion_from_All IsBelowNames (documents_below ms) (All-filter (λ e. not (is_nil (before_last e.0))) IsBelowNames (counted_members ms) (All-from_recursion IsBelowNames (counted_members ms) (counted_named ms named)))
 
 or_true : (b : Bool) → (b || true) ≡ true
 or_true true = refl
@@ -145,11 +145,11 @@ module _ (n : List ℕ) (ns : Path) (h : IsPath (n ∷ ns)) (file : List ℕ) (d
       by false = later
 
   -- a document that the members have is listed below the group
-  pub listed_below : (ms : Members) (d : Data) → get_member (key_text name) ms ≡ Some d → list_any here (below ms) ≡ true
+  pub listed_below : (ms : Members) (d : Data) → get_member (key_text name) ms ≡ Some d → list_any here (documents_below ms) ≡ true
   listed_below no_members d is = cc
   listed_below (member t e ms) d is = by (bytes_eq (key_text name) t) refl (sym (got_member (key_text name) t e ms) ∙ is) (listed_below ms d)
     where
-      by : (b : Bool) → bytes_eq (key_text name) t ≡ b → cond b (Some e) (get_member (key_text name) ms) ≡ Some d → (get_member (key_text name) ms ≡ Some d → list_any here (below ms) ≡ true)
-          → list_any here (below (member t e ms)) ≡ true
-      by true at found rest = listed_first (stretches t) (ap stretches (sym ((bytes_eq-Decides (key_text name) t).0 at)) ∙ stretches_of (n ∷ ns) file h doc) e (counted ms)
-      by false at found rest = listed_later (is_document_v2 (last_segment (stretches t))) (stretches t, e) (counted ms) (rest found)
+      by : (b : Bool) → bytes_eq (key_text name) t ≡ b → cond b (Some e) (get_member (key_text name) ms) ≡ Some d → (get_member (key_text name) ms ≡ Some d → list_any here (documents_below ms) ≡ true)
+          → list_any here (documents_below (member t e ms)) ≡ true
+      by true at node_at_key rest = listed_first (stretches t) (ap stretches (sym ((bytes_eq-Decides (key_text name) t).0 at)) ∙ stretches_of (n ∷ ns) file h doc) e (counted_members ms)
+      by false at node_at_key rest = listed_later (is_document_v2 (last_segment (stretches t))) (stretches t, e) (counted_members ms) (rest node_at_key)

@@ -14,14 +14,14 @@ use Rattle.serde_json.specs.View.{view, members_view}
 use Rattle.serde_json.specs.Written.{has_float, members_have_float}
 use Rattle.serde_json.proofs.Views.{Entry}
 use Rattle.zarrs_store.specs.Segments.{bytes_cmp}
-use Rattle.zarrs_form.specs.Documents.{formed}
+use Rattle.zarrs_form.specs.Documents.{form_or_fault}
 use Rattle.zarrs_form.specs.Forms.{◌>>=◌}
 use Rattle.zarrs_form.proofs.MemberLaws.{neither}
 use Rattle.zarrs_form.proofs.PlainForms.{member_fits}
 use Rattle.zarrs_form.proofs.Shared.{members_by, put_last as put_member_last}
 use Rattle.zarrs_meta.specs.Node.{node_of, node_tree}
 use Rattle.zarrs_meta.specs.declared.node.NodeMetadata.{NodeMetadata}
-use Rattle.zarrs_block.specs.Block.{Block, found, put, nodes_of, documents}
+use Rattle.zarrs_block.specs.Block.{Block, node_at_key, put, nodes_of, documents}
 
 -- the entries of a map, as a block
 abbrev pub shown : List (String Global × NodeMetadata) → Block
@@ -45,7 +45,7 @@ found_by : (o : Ordering) (m : NodeMetadata) (a b : Option NodeMetadata) → a �
 found_by o m a b e = ap (λ x. cond (is_eq o) (Some m) x) e
 
 -- what a map has at a text is what the block has there
-pub found_shown : (t : List ℕ) (es : List (String Global × NodeMetadata)) → lookup (is_at (λ k. slice_cmp nat_cmp t (string_bytes k))) es ≡ found (shown es) t
+pub found_shown : (t : List ℕ) (es : List (String Global × NodeMetadata)) → lookup (is_at (λ k. slice_cmp nat_cmp t (string_bytes k))) es ≡ node_at_key (shown es) t
 found_shown t [] = refl
 found_shown t (e ∷ es) = found_by (bytes_cmp t (string_bytes e.0)) e.1 _ _ (found_shown t es)
 
@@ -157,12 +157,12 @@ pub none_read : (B : Block) (left es : List Entry) → B ≡ [] → left ≡ es 
     → IsStrictlySortedBy bytes_cmp (keys_of B ++ texts left) × (with_rest B left ≡ nodes_of (members_view es))
 none_read B left es none is h = rw (none, is) (texts_ascend es h, with_none (nodes_of (members_view es)))
 
-formed_ok : {A : Type 0} (name : List ℕ) (o : Option A) → result_ok (formed name o) ≡ o
+formed_ok : {A : Type 0} (name : List ℕ) (o : Option A) → result_ok (form_or_fault name o) ≡ o
 formed_ok name None = refl
 formed_ok name (Some x) = refl
 
 -- a value of the form was there
-pub formed_some : {A : Type 0} (name : List ℕ) (o : Option A) (x : A) → formed name o ≡ Ok x → o ≡ Some x
+pub formed_some : {A : Type 0} (name : List ℕ) (o : Option A) (x : A) → form_or_fault name o ≡ Ok x → o ≡ Some x
 formed_some name o x e = sym (formed_ok name o) ∙ ap result_ok e
 
 next_by : (B : Block) (x : List ℕ × NodeMetadata) (o : Option Block) → option_map (λ C. (B ++ x ∷ []) ++ C) o ≡ option_map (λ C. B ++ C) (o >>= λ C. Some (x ∷ C))
@@ -175,7 +175,7 @@ reads_next B e es m is = rw is (next_by B (string_bytes e.0, m) (nodes_of (membe
 
 -- one more is read
 pub read_next : (B C : Block) (o : Option Block) (left : List Entry) (e : Entry) (es : List Entry) (t : List ℕ) (m : NodeMetadata)
-    → left ≡ e ∷ es → t ≡ string_bytes e.0 → formed (codes "metadata") (result_ok (node_of (view e.1))) ≡ Ok m → C ≡ put t m B
+    → left ≡ e ∷ es → t ≡ string_bytes e.0 → form_or_fault (codes "metadata") (result_ok (node_of (view e.1))) ≡ Ok m → C ≡ put t m B
     → IsStrictlySortedBy bytes_cmp (keys_of B ++ texts left) × (with_rest B left ≡ o) → IsStrictlySortedBy bytes_cmp (keys_of C ++ texts es) × (with_rest C es ≡ o)
 read_next B C o left e es t m is key reads new h =
     let step = grown B C left e es t m is key new h.0 in (

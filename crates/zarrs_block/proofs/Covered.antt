@@ -10,9 +10,9 @@ use Rattle.std.proofs.lemmas.Slice.Eq.{bytes_eq-Decides}
 use Rattle.zarrs_store.specs.Segments.{is_slash}
 use Rattle.zarrs_form.specs.Forms.{is_nil}
 use Rattle.zarrs_path.specs.Paths.{Path, relative_names}
-use Rattle.zarrs_block.specs.Block.{Block, found, IsValidKey}
-use Rattle.zarrs_block.specs.Expanded.{is_covered, path_at}
-use Rattle.zarrs_block.specs.Without.{Among, Begins, AreBelow}
+use Rattle.zarrs_block.specs.Block.{Block, node_at_key, IsValidKey}
+use Rattle.zarrs_block.specs.BlockExpansion.{is_covered, path_at}
+use Rattle.zarrs_block.specs.StepsOfKeys.{Among, Begins, AreKeysBelow}
 
 -- texts as the keys of a map of nothing
 abbrev Keys : Type 0
@@ -21,14 +21,14 @@ Keys = BTreeMap (String Global) (Unit {0})
 -- the map has covered keys, and each covered key that begins with a slash is in it, or left
 pub record AreGathered (B : Block) (covered : Keys) (left : List (List ℕ)) : Type 0 where
   pub sound : (t : List ℕ) → is_some (get_by_text covered t) ≡ true → is_covered B t ≡ true
-  pub whole : (t : List ℕ) → IsSome (found B t) → is_covered B t ≡ true → (is_some (get_by_text covered t) ≡ true) ⊎ Among left t
+  pub whole : (t : List ℕ) → IsSome (node_at_key B t) → is_covered B t ≡ true → (is_some (get_by_text covered t) ≡ true) ⊎ Among left t
 
 -- a covered key begins with a slash
 begins : (B : Block) (t : List ℕ) → is_covered B t ≡ true → Begins [] t
 begins B [] is = absurd (true≢false (sym is))
 begins B (c ∷ t) is = by (is_slash c) refl is
   where
-    by : (b : Bool) → is_slash c ≡ b → (b && is_some (found B t)) ≡ true → Begins [] (c ∷ t)
+    by : (b : Bool) → is_slash c ≡ b → (b && is_some (node_at_key B t)) ≡ true → Begins [] (c ∷ t)
     by true s h = (t, ap (λ d. d ∷ t) (eqb-true c 47 s))
     by false s h = absurd (true≢false (sym h))
 
@@ -38,10 +38,10 @@ some_is (Some x) h = (x, refl)
 some_is None h = absurd (true≢false (sym h))
 
 -- at first all keys that begin with a slash are left
-pub all_left : (B : Block) (covered : Keys) (left keys : List (List ℕ)) → covered.entries ≡ [] → left ≡ keys → AreBelow [] B keys → AreGathered B covered left
+pub all_left : (B : Block) (covered : Keys) (left keys : List (List ℕ)) → covered.entries ≡ [] → left ≡ keys → AreKeysBelow [] B keys → AreGathered B covered left
 all_left B covered left keys empty is below = record {
   sound = λ t some. absurd (true≢false (sym some ∙ ap is_some (none t)));
-  whole = λ t some is_cov. let m = some_is (found B t) some in inr (subst (λ ks. Among ks t) (sym is) ((below t).1 m.0 m.1 (begins B t is_cov)));
+  whole = λ t some is_cov. let m = some_is (node_at_key B t) some in inr (subst (λ ks. Among ks t) (sym is) ((below t).1 m.0 m.1 (begins B t is_cov)));
 }
   where
     none : (t : List ℕ) → get_by_text covered t ≡ None

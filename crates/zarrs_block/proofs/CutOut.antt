@@ -11,8 +11,9 @@ use Rattle.std.proofs.lemmas.Bool.{false_from_ne_true}
 use Rattle.std.proofs.lemmas.Cmp.{nat_cmp_total, ranked, tied_itself}
 use Rattle.zarrs_store.specs.Segments.{bytes_cmp}
 use Rattle.zarrs_meta.specs.declared.node.NodeMetadata.{NodeMetadata}
-use Rattle.zarrs_block.specs.Block.{Block, IsAscending, found}
-use Rattle.zarrs_block.specs.Without.{Among, AreBelow, Begins, IsAtOrBelow, IsWithout, IsCutBy}
+use Rattle.zarrs_block.specs.Block.{Block, IsAscending, node_at_key}
+use Rattle.zarrs_block.specs.KeysAboutAPath.{IsAtOrBelow, IsWithout}
+use Rattle.zarrs_block.specs.StepsOfKeys.{Among, AreKeysBelow, Begins, IsCutBy}
 use Rattle.zarrs_block.proofs.BlockLaws.{shown, texts, nothing_behind}
 use Rattle.zarrs_block.proofs.Expansion.{same_text}
 
@@ -27,16 +28,16 @@ none_some m e = cc
 -- ---- one key removed
 
 -- at another text there is what there was
-pub others_kept : (k t : List ℕ) (es : List Entry) → t ≢ k → found (shown (remove_entry (is_at (λ q. slice_cmp nat_cmp k (string_bytes q))) es)) t ≡ found (shown es) t
+pub others_kept : (k t : List ℕ) (es : List Entry) → t ≢ k → node_at_key (shown (remove_entry (is_at (λ q. slice_cmp nat_cmp k (string_bytes q))) es)) t ≡ node_at_key (shown es) t
 others_kept k t [] other = refl
 others_kept k t (e ∷ es) other = by (is_eq (bytes_cmp k (string_bytes e.0))) refl (others_kept k t es other)
   where
-    by : (x : Bool) → is_eq (bytes_cmp k (string_bytes e.0)) ≡ x → found (shown (remove_entry (is_at (λ q. slice_cmp nat_cmp k (string_bytes q))) es)) t ≡ found (shown es) t
-        → found (shown (cond x es (e ∷ remove_entry (is_at (λ q. slice_cmp nat_cmp k (string_bytes q))) es))) t ≡ found (shown (e ∷ es)) t
+    by : (x : Bool) → is_eq (bytes_cmp k (string_bytes e.0)) ≡ x → node_at_key (shown (remove_entry (is_at (λ q. slice_cmp nat_cmp k (string_bytes q))) es)) t ≡ node_at_key (shown es) t
+        → node_at_key (shown (cond x es (e ∷ remove_entry (is_at (λ q. slice_cmp nat_cmp k (string_bytes q))) es))) t ≡ node_at_key (shown (e ∷ es)) t
     by true is again =
         let off : is_eq (bytes_cmp t (string_bytes e.0)) ≡ false =
         false_from_ne_true (is_eq (bytes_cmp t (string_bytes e.0))) (λ at. other (same_text t (string_bytes e.0) at ∙ sym (same_text k (string_bytes e.0) is))) in
-        sym (ap (λ y. cond y (Some e.1) (found (shown es) t)) off)
+        sym (ap (λ y. cond y (Some e.1) (node_at_key (shown es) t)) off)
     by false is again = ap (λ o. cond (is_eq (bytes_cmp t (string_bytes e.0))) (Some e.1) o) again
 
 -- ---- the texts that begin with a text and a slash
@@ -103,12 +104,12 @@ module _ (test : List ℕ → Bool) where
   passing es = filter (λ e. test (string_bytes e.0)) es
 
   -- a key that passes and is found is among them
-  among_of : (t : List ℕ) (m : NodeMetadata) (es : List Entry) → test t ≡ true → found (shown es) t ≡ Some m → Among (texts (passing es)) t
+  among_of : (t : List ℕ) (m : NodeMetadata) (es : List Entry) → test t ≡ true → node_at_key (shown es) t ≡ Some m → Among (texts (passing es)) t
   among_of t m [] pass h = absurd (none_some m h)
   among_of t m (e ∷ es) pass h = by (is_eq (bytes_cmp t (string_bytes e.0))) refl (test (string_bytes e.0)) refl (among_of t m es pass) h
     where
-      by : (x : Bool) → is_eq (bytes_cmp t (string_bytes e.0)) ≡ x → (y : Bool) → test (string_bytes e.0) ≡ y → (found (shown es) t ≡ Some m → Among (texts (passing es)) t)
-          → cond x (Some e.1) (found (shown es) t) ≡ Some m → Among (texts (cond y (e ∷ passing es) (passing es))) t
+      by : (x : Bool) → is_eq (bytes_cmp t (string_bytes e.0)) ≡ x → (y : Bool) → test (string_bytes e.0) ≡ y → (node_at_key (shown es) t ≡ Some m → Among (texts (passing es)) t)
+          → cond x (Some e.1) (node_at_key (shown es) t) ≡ Some m → Among (texts (cond y (e ∷ passing es) (passing es))) t
       by true at true is again g = inl (same_text t (string_bytes e.0) at)
       by true at false is again g = absurd (true≢false (sym pass ∙ ap test (same_text t (string_bytes e.0) at) ∙ is))
       by false at true is again g = inr (again g)
@@ -125,12 +126,12 @@ module _ (test : List ℕ → Bool) where
 
 -- the keys of the range are those that begin with r and a slash
 pub range_below : (r : List ℕ) (B : Block) (es left : List Entry) (first end : String Global) → shown es ≡ B
-    → string_bytes first ≡ r ++ 47 ∷ [] → string_bytes end ≡ r ++ 48 ∷ [] → left ≡ entries_between string_cmp (Included first) (Excluded end) es → AreBelow r B (texts left)
+    → string_bytes first ≡ r ++ 47 ∷ [] → string_bytes end ≡ r ++ 48 ∷ [] → left ≡ entries_between string_cmp (Included first) (Excluded end) es → AreKeysBelow r B (texts left)
 range_below r B es left first end all low high range t = (
   λ among. begins_from r t (among_from (is_between r) t es (subst (λ xs. Among (texts xs) t) whole among)),
   λ m h begins.
       subst (λ xs. Among (texts xs) t) (sym whole)
-      (among_of (is_between r) t m es (ap (is_between r) begins.1 ∙ begins_of r begins.0) (ap (λ C. found C t) all ∙ h)),
+      (among_of (is_between r) t m es (ap (is_between r) begins.1 ∙ begins_of r begins.0) (ap (λ C. node_at_key C t) all ∙ h)),
 )
   where
     -- the range by the bytes of its bounds
@@ -145,38 +146,38 @@ copied_one (x ∷ keys) k ts = ap (λ ks. string_bytes x ∷ ks) (copied_one key
 
 -- one more key is copied
 pub copied_key : (r : List ℕ) (B : Block) (keys new : List (String Global)) (k : String Global) (left es : List Entry) (e : Entry) → left ≡ e ∷ es → string_bytes k ≡ string_bytes e.0
-    → new ≡ keys ++ k ∷ [] → AreBelow r B (map string_bytes keys ++ texts left) → AreBelow r B (map string_bytes new ++ texts es)
+    → new ≡ keys ++ k ∷ [] → AreKeysBelow r B (map string_bytes keys ++ texts left) → AreKeysBelow r B (map string_bytes new ++ texts es)
 copied_key r B keys new k left es e is key push h =
     let same : map string_bytes new ++ texts es ≡ map string_bytes keys ++ texts left =
     ap (λ ks. map string_bytes ks ++ texts es) push ∙ copied_one keys k (texts es) ∙ ap (λ t. map string_bytes keys ++ t ∷ texts es) key ∙ ap (λ xs. map string_bytes keys ++ texts xs) (sym is) in
-    subst (AreBelow r B) (sym same) h
+    subst (AreKeysBelow r B) (sym same) h
 
 -- at first all are left, and at the end none
-pub all_left : (r : List ℕ) (B : Block) (keys : List (String Global)) (left : List Entry) → keys ≡ [] → AreBelow r B (texts left) → AreBelow r B (map string_bytes keys ++ texts left)
-all_left r B keys left none h = subst (λ ks. AreBelow r B (map string_bytes ks ++ texts left)) (sym none) h
+pub all_left : (r : List ℕ) (B : Block) (keys : List (String Global)) (left : List Entry) → keys ≡ [] → AreKeysBelow r B (texts left) → AreKeysBelow r B (map string_bytes keys ++ texts left)
+all_left r B keys left none h = subst (λ ks. AreKeysBelow r B (map string_bytes ks ++ texts left)) (sym none) h
 
-pub all_copied : (r : List ℕ) (B : Block) (keys : List (String Global)) (left : List Entry) → left ≡ [] → AreBelow r B (map string_bytes keys ++ texts left) → AreBelow r B (map string_bytes keys)
-all_copied r B keys left none h = subst (AreBelow r B) (ap (λ xs. map string_bytes keys ++ texts xs) none ∙ nothing_behind (map string_bytes keys)) h
+pub all_copied : (r : List ℕ) (B : Block) (keys : List (String Global)) (left : List Entry) → left ≡ [] → AreKeysBelow r B (map string_bytes keys ++ texts left) → AreKeysBelow r B (map string_bytes keys)
+all_copied r B keys left none h = subst (AreKeysBelow r B) (ap (λ xs. map string_bytes keys ++ texts xs) none ∙ nothing_behind (map string_bytes keys)) h
 
 -- ---- what is cut out of a block
 
 -- without a key a block has at each text what it had, but for that key
-module _ (r : List ℕ) (old one : Block) (gone : found one r ≡ None) (others : (t : List ℕ) → t ≢ r → found one t ≡ found old t) where
+module _ (r : List ℕ) (old one : Block) (gone : node_at_key one r ≡ None) (others : (t : List ℕ) → t ≢ r → node_at_key one t ≡ node_at_key old t) where
   -- what it has is not at the key
-  pub not_there : (t : List ℕ) (m : NodeMetadata) → found one t ≡ Some m → t ≢ r
-  not_there t m h same = none_some m (sym gone ∙ ap (found one) (sym same) ∙ h)
+  pub not_there : (t : List ℕ) (m : NodeMetadata) → node_at_key one t ≡ Some m → t ≢ r
+  not_there t m h same = none_some m (sym gone ∙ ap (node_at_key one) (sym same) ∙ h)
 
   -- and was there
-  pub was_there : (t : List ℕ) (m : NodeMetadata) → found one t ≡ Some m → found old t ≡ Some m
+  pub was_there : (t : List ℕ) (m : NodeMetadata) → node_at_key one t ≡ Some m → node_at_key old t ≡ Some m
   was_there t m h = sym (others t (not_there t m h)) ∙ h
 
 module _ (r : List ℕ) (one : Block) where
   -- the keys that are left are still to be taken out
   abbrev pub IsLeft : Block → List (List ℕ) → Type 0
-  IsLeft now left = IsAscending now × ((t : List ℕ) (m : NodeMetadata) → ((Among left t → ⊥) × (found now t ≡ Some m)) ↔ ((Begins r t → ⊥) × (found one t ≡ Some m)))
+  IsLeft now left = IsAscending now × ((t : List ℕ) (m : NodeMetadata) → ((Among left t → ⊥) × (node_at_key now t ≡ Some m)) ↔ ((Begins r t → ⊥) × (node_at_key one t ≡ Some m)))
 
   -- at first those are left that begin with the text and a slash
-  pub cut_start : (ks left : List (List ℕ)) → left ≡ ks → IsAscending one → AreBelow r one ks → IsLeft one left
+  pub cut_start : (ks left : List (List ℕ)) → left ≡ ks → IsAscending one → AreKeysBelow r one ks → IsLeft one left
   cut_start ks left all up below = (
     up,
     λ t m. (
@@ -187,7 +188,7 @@ module _ (r : List ℕ) (one : Block) where
 
   -- one more is taken out
   pub cut_next : (now new : Block) (left ks : List (List ℕ)) (k t' : List ℕ) → left ≡ t' ∷ ks → k ≡ t'
-      → found new k ≡ None → ((t : List ℕ) → t ≢ k → found new t ≡ found now t) → IsAscending new → IsLeft now left → IsLeft new ks
+      → node_at_key new k ≡ None → ((t : List ℕ) → t ≢ k → node_at_key new t ≡ node_at_key now t) → IsAscending new → IsLeft now left → IsLeft new ks
   cut_next now new left ks k t' is key gone others up h = (
     up,
     λ t m. (
@@ -202,7 +203,7 @@ module _ (r : List ℕ) (one : Block) where
   )
 
   -- where none is left, all are taken out, and the key itself before them
-  pub cut_end : (old now : Block) (left : List (List ℕ)) → left ≡ [] → found one r ≡ None → ((t : List ℕ) → t ≢ r → found one t ≡ found old t) → IsLeft now left → IsCutBy r old now
+  pub cut_end : (old now : Block) (left : List (List ℕ)) → left ≡ [] → node_at_key one r ≡ None → ((t : List ℕ) → t ≢ r → node_at_key one t ≡ node_at_key old t) → IsLeft now left → IsCutBy r old now
   cut_end old now left is gone others h t m = (
     λ g.
         let w = (h.1 t m).0 (λ among. subst (λ xs. Among xs t) is among, g) in

@@ -21,8 +21,8 @@ use Rattle.zarrs_path.specs.declared.node_path.NodePathError.{NodePathError as P
 use Rattle.zarrs_path.specs.declared.node_path.NodePathError.TheVariants.{Invalid, OutOfMemory}
 use Rattle.zarrs_form.specs.Forms.{is_nil}
 use Rattle.zarrs_meta.specs.declared.node.NodeMetadata.{NodeMetadata}
-use Rattle.zarrs_block.specs.Block.{Block, IsAscending, IsValidKey, HasValidKeys, found, first_some, Entries}
-use Rattle.zarrs_block.specs.Expanded.{RefusesKeys, HaveOwnPaths, is_covered, path_at, paths_at, with_pair, paired}
+use Rattle.zarrs_block.specs.Block.{Block, IsAscending, IsValidKey, HasValidKeys, node_at_key, first_some, Entries}
+use Rattle.zarrs_block.specs.BlockExpansion.{RefusesKeys, HaveOwnPaths, is_covered, path_at, paths_at, with_pair, pairs_at}
 use Rattle.zarrs_block.specs.declared.node_create_error.NodeCreateError.{NodeCreateError}
 use Rattle.zarrs_block.specs.declared.node_create_error.NodeCreateError.TheVariants.{NodePathError}
 use Rattle.zarrs_block.proofs.BlockLaws.{shown, texts, texts_ascend, nothing_behind}
@@ -38,27 +38,27 @@ at_itself t = ap is_eq (tied_itself nat_list_cmp_total t)
 pub same_text : (t s : List ℕ) → is_at (bytes_cmp t) s ≡ true → t ≡ s
 same_text t s e = (bytes_eq-Decides t s).0 (sym (is_eq-slice_cmp t s) ∙ e)
 
-found_here : (e : List ℕ × NodeMetadata) (es : Block) → found (e ∷ es) e.0 ≡ Some e.1
-found_here e es = ap (λ b. cond b (Some e.1) (found es e.0)) (at_itself e.0)
+found_here : (e : List ℕ × NodeMetadata) (es : Block) → node_at_key (e ∷ es) e.0 ≡ Some e.1
+found_here e es = ap (λ b. cond b (Some e.1) (node_at_key es e.0)) (at_itself e.0)
 
 some_or : (b : Bool) (m : NodeMetadata) (o : Option NodeMetadata) → IsSome o → IsSome (cond b (Some m) o)
 some_or true m o h = refl
 some_or false m o h = h
 
-found_later : (e : List ℕ × NodeMetadata) (es : Block) (t : List ℕ) → IsSome (found es t) → IsSome (found (e ∷ es) t)
-found_later e es t h = some_or (is_at (bytes_cmp t) e.0) e.1 (found es t) h
+found_later : (e : List ℕ × NodeMetadata) (es : Block) (t : List ℕ) → IsSome (node_at_key es t) → IsSome (node_at_key (e ∷ es) t)
+found_later e es t h = some_or (is_at (bytes_cmp t) e.0) e.1 (node_at_key es t) h
 
-found_behind : (x : List ℕ × NodeMetadata) (es fs : Block) → AllByRecursion (λ y. bytes_cmp x.0 y ≡ Less) (keys_of fs) → AllByRecursion (λ e. found es e.0 ≡ Some e.1) fs
-    → AllByRecursion (λ e. found (x ∷ es) e.0 ≡ Some e.1) fs
+found_behind : (x : List ℕ × NodeMetadata) (es fs : Block) → AllByRecursion (λ y. bytes_cmp x.0 y ≡ Less) (keys_of fs) → AllByRecursion (λ e. node_at_key es e.0 ≡ Some e.1) fs
+    → AllByRecursion (λ e. node_at_key (x ∷ es) e.0 ≡ Some e.1) fs
 found_behind x es [] below h = tt
 found_behind x es (e ∷ fs) below h =
     let above : bytes_cmp e.0 x.0 ≡ Greater = nat_list_cmp_total.antisymm e.0 x.0 ∙ ap ordering_reverse below.0 in (
-      ap (λ o. cond (is_eq o) (Some x.1) (found es e.0)) above ∙ h.0,
+      ap (λ o. cond (is_eq o) (Some x.1) (node_at_key es e.0)) above ∙ h.0,
       found_behind x es fs below.1 h.1,
     )
 
 -- a block whose keys ascend has each entry at its key
-pub found_all : (B : Block) → IsAscending B → AllByRecursion (λ e. found B e.0 ≡ Some e.1) B
+pub found_all : (B : Block) → IsAscending B → AllByRecursion (λ e. node_at_key B e.0 ≡ Some e.1) B
 unfolding IsStrictlySortedBy
 found_all [] h = tt
 found_all (x ∷ es) h = (found_here x es, found_behind x es es h.0 (found_all es h.1))
@@ -77,7 +77,7 @@ map_ascends B es is h = subst IsAscending is (subst (IsStrictlySortedBy bytes_cm
 valid_keys : (B : Block) → AllByRecursion (λ e. IsValidKey e.0) B → HasValidKeys B
 valid_keys [] all t s = absurd (true≢false (sym s))
 valid_keys (e ∷ B) all t s =
-    elim (is_at (bytes_cmp t) e.0) as (λ b. is_at (bytes_cmp t) e.0 ≡ b → IsSome (cond b (Some e.1) (found B t)) → IsValidKey t) [
+    elim (is_at (bytes_cmp t) e.0) as (λ b. is_at (bytes_cmp t) e.0 ≡ b → IsSome (cond b (Some e.1) (node_at_key B t)) → IsValidKey t) [
       | true ↦ λ same _. subst IsValidKey (sym (same_text t e.0 same)) all.0
       | false ↦ λ _ later. valid_keys B all.1 t later
     ] refl s
@@ -85,30 +85,30 @@ valid_keys (e ∷ B) all t s =
 -- ---- the pairs are the entries
 
 abbrev pairs_by : Path → Block → Block → List (Path × NodeMetadata)
-pairs_by b B es = paired (paths_at b B es) es
+pairs_by b B es = pairs_at (paths_at b B es) es
 
 is_none : (o : Option NodeMetadata) → is_some o ≡ false → o ≡ None
 is_none None e = refl
 is_none (Some m) e = cc
 
-entry_found : (B : Block) (k t : List ℕ) (m : NodeMetadata) → ((t ≡ k) ⊎ (t ≡ 47 ∷ k)) → is_covered B t ≡ false → found B t ≡ Some m
-    → first_some (found B k) (found B (47 ∷ k)) ≡ Some m
-entry_found B k t m (inl e) bare is = ap (λ o. first_some o (found B (47 ∷ k))) (ap (found B) (sym e) ∙ is)
+entry_found : (B : Block) (k t : List ℕ) (m : NodeMetadata) → ((t ≡ k) ⊎ (t ≡ 47 ∷ k)) → is_covered B t ≡ false → node_at_key B t ≡ Some m
+    → first_some (node_at_key B k) (node_at_key B (47 ∷ k)) ≡ Some m
+entry_found B k t m (inl e) bare is = ap (λ o. first_some o (node_at_key B (47 ∷ k))) (ap (node_at_key B) (sym e) ∙ is)
 entry_found B k t m (inr e) bare is =
-    ap (λ o. first_some o (found B (47 ∷ k))) (is_none (found B k) (ap (is_covered B) (sym e) ∙ bare)) ∙ ap (found B) (sym e) ∙ is
+    ap (λ o. first_some o (node_at_key B (47 ∷ k))) (is_none (node_at_key B k) (ap (is_covered B) (sym e) ∙ bare)) ∙ ap (node_at_key B) (sym e) ∙ is
 
 entry_by : (b : Path) (B : Block) (ns p : Path) (t : List ℕ) (m : NodeMetadata) → IsPath ns → ((t ≡ key_text ns) ⊎ (t ≡ 47 ∷ key_text ns)) → is_nil ns ≡ false
-    → is_covered B t ≡ false → p ≡ b ++ ns → found B t ≡ Some m → Entries B b (p, m)
+    → is_covered B t ≡ false → p ≡ b ++ ns → node_at_key B t ≡ Some m → Entries B b (p, m)
 entry_by b B [] p t m h form some bare path is = cc
 entry_by b B (n ∷ ns) p t m h form some bare path is = (n, ns, h, path, entry_found B (key_text (n ∷ ns)) t m form bare is)
 
-entry_of : (b p : Path) (B : Block) (t : List ℕ) (m : NodeMetadata) → path_at b B t ≡ Some p → found B t ≡ Some m → IsValidKey t → Entries B b (p, m)
+entry_of : (b p : Path) (B : Block) (t : List ℕ) (m : NodeMetadata) → path_at b B t ≡ Some p → node_at_key B t ≡ Some m → IsValidKey t → Entries B b (p, m)
 entry_of b p B t m path is v =
     let parts = path_of_key b p B t path in
     let names = names_of_key t v.0 v.1 v.2 in
     entry_by b B v.0 p t m v.1 v.2 (ap is_nil (sym names) ∙ parts.0) parts.1 (parts.2 ∙ ap (λ ns. b ++ ns) names) is
 
-sound : (b : Path) (B es : Block) → AllByRecursion (λ e. found B e.0 ≡ Some e.1) es → AllByRecursion (λ e. IsValidKey e.0) es → All (Entries B b) (pairs_by b B es)
+sound : (b : Path) (B es : Block) → AllByRecursion (λ e. node_at_key B e.0 ≡ Some e.1) es → AllByRecursion (λ e. IsValidKey e.0) es → All (Entries B b) (pairs_by b B es)
 sound b B [] h v = All-nil (Entries B b)
 sound b B (e ∷ es) h v =
     let rest = sound b B es h.1 v.1 in
@@ -123,10 +123,10 @@ contains_behind (Some q) n m p es h =
     let less : h.0 < length es = h.1 in
     (suc h.0, omega (arith, less), h.2)
 
-listed : (b p : Path) (B es : Block) (t : List ℕ) (m : NodeMetadata) → path_at b B t ≡ Some p → found es t ≡ Some m → Contains (pairs_by b B es) (p, m)
+listed : (b p : Path) (B es : Block) (t : List ℕ) (m : NodeMetadata) → path_at b B t ≡ Some p → node_at_key es t ≡ Some m → Contains (pairs_by b B es) (p, m)
 listed b p B [] t m path is = cc
 listed b p B (e ∷ es) t m path is =
-    elim (is_at (bytes_cmp t) e.0) as (λ c. is_at (bytes_cmp t) e.0 ≡ c → cond c (Some e.1) (found es t) ≡ Some m → Contains (pairs_by b B (e ∷ es)) (p, m)) [
+    elim (is_at (bytes_cmp t) e.0) as (λ c. is_at (bytes_cmp t) e.0 ≡ c → cond c (Some e.1) (node_at_key es t) ≡ Some m → Contains (pairs_by b B (e ∷ es)) (p, m)) [
       | true ↦ λ same here.
           let own : path_at b B e.0 ≡ Some p = ap (path_at b B) (sym (same_text t e.0 same)) ∙ path in
           let last : m ≡ e.1 = sym (ap (λ o. unwrap_or o m) here) in
@@ -139,7 +139,7 @@ first_is (Some n) other m e = inl e
 first_is None other m e = inr (refl, e)
 
 listed_by : (b p : Path) (B : Block) (n : List ℕ) (ns : Path) (m : NodeMetadata) → IsPath (n ∷ ns) → p ≡ b ++ n ∷ ns
-    → ((found B (key_text (n ∷ ns)) ≡ Some m) ⊎ ((found B (key_text (n ∷ ns)) ≡ None) × (found B (47 ∷ key_text (n ∷ ns)) ≡ Some m)))
+    → ((node_at_key B (key_text (n ∷ ns)) ≡ Some m) ⊎ ((node_at_key B (key_text (n ∷ ns)) ≡ None) × (node_at_key B (47 ∷ key_text (n ∷ ns)) ≡ Some m)))
     → Contains (pairs_by b B B) (p, m)
 listed_by b p B n ns m h path (inl is) =
     let k = key_text (n ∷ ns) in
@@ -152,26 +152,26 @@ listed_by b p B n ns m h path (inr is) =
 
 complete : (b : Path) (B : Block) (e : Path × NodeMetadata) → Entries B b e → Contains (pairs_by b B B) e
 complete b B e h =
-    listed_by b e.0 B h.0 h.1 e.1 h.2 h.3 (first_is (found B (key_text (h.0 ∷ h.1))) (found B (47 ∷ key_text (h.0 ∷ h.1))) e.1 h.4)
+    listed_by b e.0 B h.0 h.1 e.1 h.2 h.3 (first_is (node_at_key B (key_text (h.0 ∷ h.1))) (node_at_key B (47 ∷ key_text (h.0 ∷ h.1))) e.1 h.4)
 
 -- ---- each path once
 
-some_found : (B : Block) (t : List ℕ) (m : NodeMetadata) → found B t ≡ Some m → is_some (found B t) ≡ true
+some_found : (B : Block) (t : List ℕ) (m : NodeMetadata) → node_at_key B t ≡ Some m → is_some (node_at_key B t) ≡ true
 some_found B t m e = ap is_some e
 
 one_key : (B : Block) (k t s : List ℕ) → ((t ≡ k) ⊎ (t ≡ 47 ∷ k)) → ((s ≡ k) ⊎ (s ≡ 47 ∷ k)) → is_covered B t ≡ false → is_covered B s ≡ false
-    → is_some (found B t) ≡ true → is_some (found B s) ≡ true → t ≡ s
+    → is_some (node_at_key B t) ≡ true → is_some (node_at_key B s) ≡ true → t ≡ s
 one_key B k t s (inl d) (inl e) bare_t bare_s has_t has_s = d ∙ sym e
 one_key B k t s (inr d) (inr e) bare_t bare_s has_t has_s = d ∙ sym e
 one_key B k t s (inl d) (inr e) bare_t bare_s has_t has_s =
-    let both : true ≡ false = sym has_t ∙ ap (λ x. is_some (found B x)) d ∙ ap (is_covered B) (sym e) ∙ bare_s in
+    let both : true ≡ false = sym has_t ∙ ap (λ x. is_some (node_at_key B x)) d ∙ ap (is_covered B) (sym e) ∙ bare_s in
     cc
 one_key B k t s (inr d) (inl e) bare_t bare_s has_t has_s =
-    let both : true ≡ false = sym has_s ∙ ap (λ x. is_some (found B x)) e ∙ ap (is_covered B) (sym d) ∙ bare_t in
+    let both : true ≡ false = sym has_s ∙ ap (λ x. is_some (node_at_key B x)) e ∙ ap (is_covered B) (sym d) ∙ bare_t in
     cc
 
 -- keys with one path are one key
-same_key : (b p q : Path) (B : Block) (t s : List ℕ) (m n : NodeMetadata) → path_at b B t ≡ Some p → path_at b B s ≡ Some q → p ≡ q → found B t ≡ Some m → found B s ≡ Some n
+same_key : (b p q : Path) (B : Block) (t s : List ℕ) (m n : NodeMetadata) → path_at b B t ≡ Some p → path_at b B s ≡ Some q → p ≡ q → node_at_key B t ≡ Some m → node_at_key B s ≡ Some n
     → IsValidKey t → IsValidKey s → t ≡ s
 same_key b p q B t s m n at_t at_s same is_t is_s v w =
     let parts = path_of_key b p B t at_t in
@@ -184,8 +184,8 @@ differ t s less e =
     let both : Less ≡ Rattle.std.specs.declared.cmp.Ordering.TheVariants.Equal = sym less ∙ ap (bytes_cmp t) (sym e) ∙ tied_itself nat_list_cmp_total t in
     cc
 
-apart : (b p : Path) (B es : Block) (t : List ℕ) (m : NodeMetadata) → path_at b B t ≡ Some p → found B t ≡ Some m → IsValidKey t
-    → AllByRecursion (λ y. bytes_cmp t y ≡ Less) (keys_of es) → AllByRecursion (λ e. found B e.0 ≡ Some e.1) es → AllByRecursion (λ e. IsValidKey e.0) es
+apart : (b p : Path) (B es : Block) (t : List ℕ) (m : NodeMetadata) → path_at b B t ≡ Some p → node_at_key B t ≡ Some m → IsValidKey t
+    → AllByRecursion (λ y. bytes_cmp t y ≡ Less) (keys_of es) → AllByRecursion (λ e. node_at_key B e.0 ≡ Some e.1) es → AllByRecursion (λ e. IsValidKey e.0) es
     → All (λ e. p ≢ e.0) (pairs_by b B es)
 apart b p B [] t m path is v below h w = All-nil (λ e. p ≢ e.0)
 apart b p B (e ∷ es) t m path is v below h w =
@@ -196,7 +196,7 @@ apart b p B (e ∷ es) t m path is v below h w =
           All-cons (λ d. p ≢ d.0) (q, e.1) (pairs_by b B es) (λ same. differ t e.0 below.0 (same_key b p q B t e.0 m e.1 path other same is h.0 v w.0)) rest
     ] refl
 
-once : (b : Path) (B es : Block) → IsStrictlySortedBy bytes_cmp (keys_of es) → AllByRecursion (λ e. found B e.0 ≡ Some e.1) es → AllByRecursion (λ e. IsValidKey e.0) es
+once : (b : Path) (B es : Block) → IsStrictlySortedBy bytes_cmp (keys_of es) → AllByRecursion (λ e. node_at_key B e.0 ≡ Some e.1) es → AllByRecursion (λ e. IsValidKey e.0) es
     → HaveOwnPaths (pairs_by b B es)
 unfolding IsStrictlySortedBy
 once b B [] up h v = λ i j d less inside. absurd (omega (arith, inside))
@@ -208,16 +208,16 @@ once b B (e ∷ es) up h v =
           AllPairs-cons (λ d f. d.0 ≢ f.0) (p, e.1) (pairs_by b B es) (apart b p B es e.0 e.1 path h.0 v.0 up.0 h.1 v.1) rest
     ] refl
 
-all_valid : (B es : Block) → HasValidKeys B → AllByRecursion (λ e. found B e.0 ≡ Some e.1) es → AllByRecursion (λ e. IsValidKey e.0) es
+all_valid : (B es : Block) → HasValidKeys B → AllByRecursion (λ e. node_at_key B e.0 ≡ Some e.1) es → AllByRecursion (λ e. IsValidKey e.0) es
 all_valid B [] v h = tt
 all_valid B (e ∷ es) v h = (v e.0 (subst IsSome (sym h.0) refl), all_valid B es v h.1)
 
 -- the pairs of a block whose keys ascend and are valid have each path once
-pub own_paths : (b : Path) (B : Block) → IsAscending B → HasValidKeys B → HaveOwnPaths (paired (paths_at b B B) B)
+pub own_paths : (b : Path) (B : Block) → IsAscending B → HasValidKeys B → HaveOwnPaths (pairs_at (paths_at b B B) B)
 own_paths b B up v = once b B B up (found_all B up) (all_valid B B v (found_all B up))
 
 -- they are the entries of the block below the base
-pub entries_listed : (b : Path) (B : Block) → IsAscending B → HasValidKeys B → Lists (Entries B b) (paired (paths_at b B B) B)
+pub entries_listed : (b : Path) (B : Block) → IsAscending B → HasValidKeys B → Lists (Entries B b) (pairs_at (paths_at b B B) B)
 entries_listed b B up v = record {
   each_once = λ i j d less inside e. own_paths b B up v i j d less inside (ap (λ x. x.0) e);
   sound = sound b B B (found_all B up) (all_valid B B v (found_all B up));
@@ -230,14 +230,14 @@ entries_listed b B up v = record {
 abbrev pub IsExpanding : Path → Block → List (Path × NodeMetadata) → Block → Type 0
 IsExpanding b B all left =
     (all ++ pairs_by b B left ≡ pairs_by b B B) × (AllByRecursion (λ e. IsValidKey e.0) left → AllByRecursion (λ e. IsValidKey e.0) B)
-    × ((t : List ℕ) → IsSome (found left t) → IsSome (found B t))
+    × ((t : List ℕ) → IsSome (node_at_key left t) → IsSome (node_at_key B t))
 
 module _ (b : Path) (B : Block) (all : List (Path × NodeMetadata)) (left : Block) (e : List ℕ × NodeMetadata) (es : Block) (is : left ≡ e ∷ es) (h : IsExpanding b B all left) where
   then_here : IsExpanding b B all (e ∷ es)
   then_here = subst (IsExpanding b B all) is h
 
   -- a key that is left is one of the block
-  pub is_there : IsSome (found B e.0)
+  pub is_there : IsSome (node_at_key B e.0)
   is_there = then_here.2 e.0 (subst IsSome (sym (found_here e es)) refl)
 
   -- a key that adds a path has its pair

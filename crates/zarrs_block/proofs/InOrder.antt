@@ -13,7 +13,7 @@ use Rattle.zarrs_store.specs.Contents.{Lists}
 use Rattle.zarrs_path.specs.Paths.{Path, path_cmp, path_eq}
 use Rattle.zarrs_path.specs.PathOrder.{path_decides, path_ties, path_total, path_equiv}
 use Rattle.zarrs_meta.specs.declared.node.NodeMetadata.{NodeMetadata}
-use Rattle.zarrs_block.specs.Expanded.{HaveOwnPaths}
+use Rattle.zarrs_block.specs.BlockExpansion.{HaveOwnPaths}
 use Rattle.zarrs_block.specs.Order.{Ascend}
 
 -- whether a pair's path stands before that of another

@@ -9,8 +9,8 @@ use Rattle.zarrs_path.specs.Paths.{Path, IsPath, relative_names, without_leading
 use Rattle.zarrs_path.proofs.NameLemmas.{name_head, name_tail}
 use Rattle.zarrs_path.proofs.Relative.{relative_of_text, relative_of_slashed, text_of_relative}
 use Rattle.zarrs_form.specs.Forms.{is_nil}
-use Rattle.zarrs_block.specs.Block.{Block, IsValidKey, found}
-use Rattle.zarrs_block.specs.Expanded.{is_covered, path_at}
+use Rattle.zarrs_block.specs.Block.{Block, IsValidKey, node_at_key}
+use Rattle.zarrs_block.specs.BlockExpansion.{is_covered, path_at}
 
 -- ---- valid keys
 
@@ -72,7 +72,7 @@ longer t c e = let l : length t ≡ length (c ∷ t) = ap length e in omega (ari
 pub bare_key : (B : Block) (t : List ℕ) → without_leading_slash t ≡ t → is_covered B t ≡ false
 bare_key B [] e = refl
 bare_key B (c ∷ t) e =
-    elim (is_slash c) as (λ b. cond b t (c ∷ t) ≡ c ∷ t → (b && is_some (found B t)) ≡ false) [
+    elim (is_slash c) as (λ b. cond b t (c ∷ t) ≡ c ∷ t → (b && is_some (node_at_key B t)) ≡ false) [
       | true ↦ λ same. absurd (longer t c same)
       | false ↦ λ same. refl
     ] e
@@ -96,7 +96,7 @@ slash_apart p q g e =
 pub no_slash : (B : Block) (t : List ℕ) → ((rest : List ℕ) → t ≢ 47 ∷ rest) → false ≡ is_covered B t
 no_slash B [] h = refl
 no_slash B (c ∷ t) h =
-    elim (is_slash c) as (λ b. is_slash c ≡ b → false ≡ (b && is_some (found B t))) [
+    elim (is_slash c) as (λ b. is_slash c ≡ b → false ≡ (b && is_some (node_at_key B t))) [
       | true ↦ λ s. absurd (h t (ap (λ d. d ∷ t) (eqb-true c 47 s)))
       | false ↦ λ _. refl
     ] refl

@@ -16,7 +16,8 @@ use Rattle.zarrs_form.proofs.MemberLaws.{neither}
 use Rattle.zarrs_path.specs.Paths.{Path, path_cmp, relative_names, parts}
 use Rattle.zarrs_meta.specs.declared.node.NodeMetadata.{NodeMetadata}
 use Rattle.zarrs_block.specs.Block.{Block, IsAscending}
-use Rattle.zarrs_block.specs.Expanded.{IsPlainKey, is_low, path_at, paths_at, paired, with_pair}
+use Rattle.zarrs_block.specs.BlockExpansion.{path_at, paths_at, pairs_at, with_pair}
+use Rattle.zarrs_block.specs.StepsOfExpansion.{IsPlainKey, is_low}
 use Rattle.zarrs_block.specs.Order.{Ascend}
 use Rattle.zarrs_block.proofs.KeyLaws.{path_of_key}
 use Rattle.zarrs_block.proofs.SmallStores.{key_cmp-append}
@@ -119,7 +120,7 @@ abbrev pub ArePlain : Block → Type 0
 ArePlain B = AllByRecursion (λ e. IsPlainKey e.0) B
 
 abbrev pairs_by : Path → Block → Block → List (Path × NodeMetadata)
-pairs_by b B es = paired (paths_at b B es) es
+pairs_by b B es = pairs_at (paths_at b B es) es
 
 -- the pair of a plain key is before those of later ones
 before_later : (b p : Path) (B es : Block) (t : List ℕ) → path_at b B t ≡ Some p → IsPlainKey t → AllByRecursion (λ y. bytes_cmp t y ≡ Less) (keys_of es) → ArePlain es
@@ -149,7 +150,7 @@ plain_up b B (e ∷ es) up w =
     ] refl
 
 -- the pairs of plain keys ascend
-pub plain_ascend : (b : Path) (B : Block) → IsAscending B → ArePlain B → Ascend (paired (paths_at b B B) B)
+pub plain_ascend : (b : Path) (B : Block) → IsAscending B → ArePlain B → Ascend (pairs_at (paths_at b B B) B)
 plain_ascend b B up w = plain_up b B B up w
 
 -- one more key is plain where it was asked
@@ -157,5 +158,5 @@ pub plain_next : (B left : Block) (e : List ℕ × NodeMetadata) (es : Block) (w
 plain_next B left e es was now is asked before plain rest = let here = asked plain in subst (λ L. ArePlain L → ArePlain B) is (before here.0) (here.1, rest)
 
 -- where none is left, the pairs ascend
-pub plain_pairs : (b : Path) (B left : Block) (all : List (Path × NodeMetadata)) → left ≡ [] → all ≡ paired (paths_at b B B) B → IsAscending B → (ArePlain left → ArePlain B) → Ascend all
+pub plain_pairs : (b : Path) (B left : Block) (all : List (Path × NodeMetadata)) → left ≡ [] → all ≡ pairs_at (paths_at b B B) B → IsAscending B → (ArePlain left → ArePlain B) → Ascend all
 plain_pairs b B left all none made up plain = subst Ascend (sym made) (plain_ascend b B up (subst (λ L. ArePlain L → ArePlain B) none plain tt))

@@ -6,7 +6,8 @@ use Rattle.json.specs.Print.{escape_byte, quoted}
 use Rattle.serde_json.specs.Data.{Members, no_members, member}
 use Rattle.serde_json.specs.Written.{comma_if, has_float, members_have_float}
 use Rattle.zarrs_form.specs.Forms.{is_nil}
-use Rattle.zarrs_form.specs.Pretty.{close_line, text_at, members_at, pretty_text, entries_text}
+use Rattle.zarrs_form.specs.Pretty.{close_line, text_at, members_at, pretty_text}
+use Rattle.zarrs_form.specs.StepsOfTexts.{entries_text}
 use Rattle.zarrs_form.proofs.PrettyPieces.{piece_pretty}
 use Rattle.zarrs_meta.specs.Node.{node_tree}
 use Rattle.zarrs_block.specs.Block.{Block, documents, block_tree}

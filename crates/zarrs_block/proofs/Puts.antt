@@ -7,7 +7,7 @@ use Rattle.std.specs.Ordering.{match_ordering, ordering_reverse}
 use Rattle.std.proofs.lemmas.Cmp.{nat_list_cmp_total}
 use Rattle.zarrs_store.specs.Segments.{bytes_cmp}
 use Rattle.zarrs_meta.specs.declared.node.NodeMetadata.{NodeMetadata}
-use Rattle.zarrs_block.specs.Block.{Block, IsAscending, found, put}
+use Rattle.zarrs_block.specs.Block.{Block, IsAscending, node_at_key, put}
 use Rattle.zarrs_block.proofs.Expansion.{at_itself, same_text}
 
 -- the same test twice is that test once
@@ -29,19 +29,19 @@ not_above_itself k s t above one two =
     true≢false (sym tied ∙ ap is_eq above)
 
 -- with metadata put at a text a block has these there, and elsewhere what it had
-pub found_put : (t k : List ℕ) (m : NodeMetadata) (B : Block) → found (put k m B) t ≡ cond (is_eq (bytes_cmp t k)) (Some m) (found B t)
+pub found_put : (t k : List ℕ) (m : NodeMetadata) (B : Block) → node_at_key (put k m B) t ≡ cond (is_eq (bytes_cmp t k)) (Some m) (node_at_key B t)
 found_put t k m [] = refl
 found_put t k m (e ∷ B) = by (bytes_cmp k e.0) refl (found_put t k m B)
   where
-    by : (o : Ordering) → bytes_cmp k e.0 ≡ o → found (put k m B) t ≡ cond (is_eq (bytes_cmp t k)) (Some m) (found B t)
-        → found (match_ordering o ((k, m) ∷ e ∷ B) ((e.0, m) ∷ B) (e ∷ put k m B)) t ≡ cond (is_eq (bytes_cmp t k)) (Some m) (found (e ∷ B) t)
+    by : (o : Ordering) → bytes_cmp k e.0 ≡ o → node_at_key (put k m B) t ≡ cond (is_eq (bytes_cmp t k)) (Some m) (node_at_key B t)
+        → node_at_key (match_ordering o ((k, m) ∷ e ∷ B) ((e.0, m) ∷ B) (e ∷ put k m B)) t ≡ cond (is_eq (bytes_cmp t k)) (Some m) (node_at_key (e ∷ B) t)
     by Less is h = refl
     by Equal is h =
         let same : k ≡ e.0 = same_text k e.0 (ap is_eq is) in
-        test_twice (is_eq (bytes_cmp t e.0)) m e.1 (found B t) ∙ ap (λ x. cond (is_eq (bytes_cmp t x)) (Some m) (cond (is_eq (bytes_cmp t e.0)) (Some e.1) (found B t))) (sym same)
+        test_twice (is_eq (bytes_cmp t e.0)) m e.1 (node_at_key B t) ∙ ap (λ x. cond (is_eq (bytes_cmp t x)) (Some m) (cond (is_eq (bytes_cmp t e.0)) (Some e.1) (node_at_key B t))) (sym same)
     by Greater is h =
         ap (λ o. cond (is_eq (bytes_cmp t e.0)) (Some e.1) o) h
-        ∙ tests_turned (is_eq (bytes_cmp t k)) (is_eq (bytes_cmp t e.0)) m e.1 (found B t) (not_above_itself k e.0 t is)
+        ∙ tests_turned (is_eq (bytes_cmp t k)) (is_eq (bytes_cmp t e.0)) m e.1 (node_at_key B t) (not_above_itself k e.0 t is)
 
 -- ---- the order of the keys
 

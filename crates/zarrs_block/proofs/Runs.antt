@@ -14,7 +14,7 @@ use Rattle.std.proofs.lemmas.Map.Text.{is_eq-slice_cmp}
 use Rattle.std.proofs.lemmas.Slice.Eq.{bytes_eq-Decides}
 use Rattle.serde_json.specs.Data.{Data}
 use Rattle.zarrs_store.specs.Segments.{bytes_cmp}
-use Rattle.zarrs_block.specs.ZmetadataRead.{first_tree, tree_in, run_tree, tree_among, gathered_at, is_before, paths, RunsAscend, IsJoined}
+use Rattle.zarrs_block.specs.StepsOfZmetadata.{first_tree, tree_in, run_tree, tree_among, gathered_at, is_before, paths, RunsAscend, IsJoined}
 use Rattle.zarrs_block.specs.declared.zmetadata.File.{File}
 use Rattle.zarrs_block.specs.declared.zmetadata.Run.{Run}
 use Rattle.zarrs_block.proofs.Expansion.{same_text}

@@ -4,7 +4,7 @@ use Rattle.std.specs.List.{list_all, filter, AllByRecursion}
 use Rattle.std.specs.FinMap.{find}
 use Rattle.std.specs.Result.{result_ok}
 use Rattle.std.proofs.lemmas.Bool.{and_parts, and_from, not-true, false_from_ne_true}
-use Rattle.std.proofs.lemmas.List.Elements.{All-from_recursion}
+use Rattle.std.proofs.lemmas.List.Elements.{All-head, All-tail, All-from_recursion}
 use Rattle.std.proofs.lemmas.List.Splits.{join_with_byte-slice_split}
 use Rattle.serde_json.specs.Data.{Data, Members}
 use Rattle.zarrs_store.specs.Segments.{Segments, bytes_cmp, key_cmp, key_text}
@@ -18,11 +18,12 @@ use Rattle.zarrs_path.proofs.PathTexts.{segments_from_names}
 use Rattle.zarrs_form.specs.Documents as steps
 use Rattle.zarrs_form.specs.Forms.{is_nil}
 use Rattle.zarrs_meta.specs.declared.node.NodeMetadata.{NodeMetadata}
-use Rattle.zarrs_block.specs.Block.{Block, IsAscending, found}
+use Rattle.zarrs_block.specs.Block.{Block, IsAscending, node_at_key}
+use Rattle.zarrs_block.specs.declared.node_create_error.NodeCreateError.{NodeCreateError}
 use Rattle.zarrs_block.specs.Meaning.{Meaning, node, nothing, bad}
-use Rattle.zarrs_block.specs.Small.{small_meaning, stretches, counted, small}
-use Rattle.zarrs_block.specs.Zmetadata.{before_last, below, is_bad, is_good, with_node, block_from, small_block, zmetadata_members, zmetadata_of, HoldsStore, IsClean}
-use Rattle.zarrs_block.specs.ZmetadataRead.{read_documents, read_files, member_at, are_named}
+use Rattle.zarrs_block.specs.Small.{small_meaning, stretches, counted_members, small}
+use Rattle.zarrs_block.specs.Zmetadata.{before_last, documents_below, is_bad, is_good, with_node, block_from, small_block, zmetadata_members, zmetadata_of, HoldsStore, IsClean, IsZmetadataFault}
+use Rattle.zarrs_block.specs.StepsOfZmetadata.{read_documents, read_files, member_at, are_named}
 use Rattle.zarrs_block.proofs.Expansion.{at_itself, same_text}
 use Rattle.zarrs_block.proofs.Puts.{found_put, put_ascends, none_ascend}
 use Rattle.zarrs_block.proofs.SameBlocks.{one_block}
@@ -109,25 +110,25 @@ module _ (of : Path → Meaning) where
     IsMeant = (n : List ℕ) × (ns : Path) × (t ≡ key_text (n ∷ ns)) × (of (n ∷ ns) ≡ node m)
 
     -- the same of a block with one more, or as before
-    meant_with : (n : List ℕ) (ns : Path) (x : Meaning) (B : Block) → of (n ∷ ns) ≡ x → (found B t ≡ Some m → IsMeant) → found (with_node (n ∷ ns) x B) t ≡ Some m → IsMeant
+    meant_with : (n : List ℕ) (ns : Path) (x : Meaning) (B : Block) → of (n ∷ ns) ≡ x → (node_at_key B t ≡ Some m → IsMeant) → node_at_key (with_node (n ∷ ns) x B) t ≡ Some m → IsMeant
     meant_with n ns (node y) B is again h = by (is_eq (bytes_cmp t (key_text (n ∷ ns)))) refl (sym (found_put t (key_text (n ∷ ns)) y B) ∙ h)
       where
-        by : (b : Bool) → is_eq (bytes_cmp t (key_text (n ∷ ns))) ≡ b → cond b (Some y) (found B t) ≡ Some m → IsMeant
+        by : (b : Bool) → is_eq (bytes_cmp t (key_text (n ∷ ns))) ≡ b → cond b (Some y) (node_at_key B t) ≡ Some m → IsMeant
         by true at e = let same : y ≡ m = cc in (n, ns, same_text t (key_text (n ∷ ns)) at, is ∙ ap node same)
         by false at e = again e
     meant_with n ns nothing B is again h = again h
     meant_with n ns (bad e) B is again h = again h
 
     -- what the block has at a text, a path of that text means
-    pub meant_from : (es : List (Segments × Data)) → found (block_from of (below_of es)) t ≡ Some m → IsMeant
+    pub meant_from : (es : List (Segments × Data)) → node_at_key (block_from of (below_of es)) t ≡ Some m → IsMeant
     meant_from [] h = cc
     meant_from (x ∷ es) h = by (before_last x.0) refl (meant_from es) h
       where
-        by : (p : Path) → before_last x.0 ≡ p → (found (block_from of (below_of es)) t ≡ Some m → IsMeant)
-            → found (block_from of (cond (not (is_nil p)) (x ∷ below_of es) (below_of es))) t ≡ Some m → IsMeant
+        by : (p : Path) → before_last x.0 ≡ p → (node_at_key (block_from of (below_of es)) t ≡ Some m → IsMeant)
+            → node_at_key (block_from of (cond (not (is_nil p)) (x ∷ below_of es) (below_of es))) t ≡ Some m → IsMeant
         by [] is again g = again g
         by (n ∷ ns) is again g =
-            meant_with n ns (of (n ∷ ns)) (block_from of (below_of es)) refl again (subst (λ q. found (with_node q (of q) (block_from of (below_of es))) t ≡ Some m) is g)
+            meant_with n ns (of (n ∷ ns)) (block_from of (below_of es)) refl again (subst (λ q. node_at_key (with_node q (of q) (block_from of (below_of es))) t ≡ Some m) is g)
 
   module _ (n : List ℕ) (ns : Path) (m : NodeMetadata) (valid : IsPath (n ∷ ns)) (means : of (n ∷ ns) ≡ node m) where
     -- the text of the path
@@ -135,14 +136,14 @@ module _ (of : Path → Meaning) where
     own = key_text (n ∷ ns)
 
     -- where the path comes first, its metadata are put at its text
-    here_with : (B : Block) → found (with_node (n ∷ ns) (of (n ∷ ns)) B) own ≡ Some m
-    here_with B = subst (λ x. found (with_node (n ∷ ns) x B) own ≡ Some m) (sym means) (found_put own own m B ∙ ap (λ b. cond b (Some m) (found B own)) (at_itself own))
+    here_with : (B : Block) → node_at_key (with_node (n ∷ ns) (of (n ∷ ns)) B) own ≡ Some m
+    here_with B = subst (λ x. node_at_key (with_node (n ∷ ns) x B) own ≡ Some m) (sym means) (found_put own own m B ∙ ap (λ b. cond b (Some m) (node_at_key B own)) (at_itself own))
 
     -- where another comes first, they stay there
-    later_with : (l : List ℕ) (ls : Path) (x : Meaning) (B : Block) → of (l ∷ ls) ≡ x → IsPath (l ∷ ls) → found B own ≡ Some m → found (with_node (l ∷ ls) x B) own ≡ Some m
+    later_with : (l : List ℕ) (ls : Path) (x : Meaning) (B : Block) → of (l ∷ ls) ≡ x → IsPath (l ∷ ls) → node_at_key B own ≡ Some m → node_at_key (with_node (l ∷ ls) x B) own ≡ Some m
     later_with l ls (node y) B is other h = found_put own (key_text (l ∷ ls)) y B ∙ by (is_eq (bytes_cmp own (key_text (l ∷ ls)))) refl
       where
-        by : (b : Bool) → is_eq (bytes_cmp own (key_text (l ∷ ls))) ≡ b → cond b (Some y) (found B own) ≡ Some m
+        by : (b : Bool) → is_eq (bytes_cmp own (key_text (l ∷ ls))) ≡ b → cond b (Some y) (node_at_key B own) ≡ Some m
         by true at =
             let path : n ∷ ns ≡ l ∷ ls = sym (parts_text n ns valid) ∙ ap stretches (same_text own (key_text (l ∷ ls)) at) ∙ parts_text l ls other in
             let same : node y ≡ node m = sym is ∙ ap of (sym path) ∙ means in
@@ -153,7 +154,7 @@ module _ (of : Path → Meaning) where
     later_with l ls (bad e) B is other h = h
 
     -- where a path of names has a document and means metadata, the block has them at its text
-    pub held_at : (f : List ℕ) (d : Data) (es : List (Segments × Data)) → all_good es ≡ true → find key_cmp ((n ∷ ns) ++ f ∷ []) es ≡ Some d → found (block_from of (below_of es)) own ≡ Some m
+    pub held_at : (f : List ℕ) (d : Data) (es : List (Segments × Data)) → all_good es ≡ true → find key_cmp ((n ∷ ns) ++ f ∷ []) es ≡ Some d → node_at_key (block_from of (below_of es)) own ≡ Some m
     held_at f d [] all e = cc
     held_at f d (x ∷ es) all e = by (before_last x.0) refl (is_eq (key_cmp ((n ∷ ns) ++ f ∷ []) x.0)) refl (held_at f d es) all e
       where
@@ -162,15 +163,15 @@ module _ (of : Path → Meaning) where
         same at = sym (before_last-child (n ∷ ns) f) ∙ ap before_last (same_key ((n ∷ ns) ++ f ∷ []) x.0 at)
 
         by : (p : Path) → before_last x.0 ≡ p → (c : Bool) → is_eq (key_cmp ((n ∷ ns) ++ f ∷ []) x.0) ≡ c
-            → (all_good es ≡ true → find key_cmp ((n ∷ ns) ++ f ∷ []) es ≡ Some d → found (block_from of (below_of es)) own ≡ Some m)
+            → (all_good es ≡ true → find key_cmp ((n ∷ ns) ++ f ∷ []) es ≡ Some d → node_at_key (block_from of (below_of es)) own ≡ Some m)
             → list_all (λ e. is_good of e.0) (cond (not (is_nil p)) (x ∷ below_of es) (below_of es)) ≡ true → cond c (Some x.1) (find key_cmp ((n ∷ ns) ++ f ∷ []) es) ≡ Some d
-            → found (block_from of (cond (not (is_nil p)) (x ∷ below_of es) (below_of es))) own ≡ Some m
+            → node_at_key (block_from of (cond (not (is_nil p)) (x ∷ below_of es) (below_of es))) own ≡ Some m
         by [] is true at again every g = let none : n ∷ ns ≡ [] = same at ∙ is in cc
         by [] is false at again every g = again every g
-        by (l ∷ ls) is true at again every g = subst (λ q. found (with_node q (of q) (block_from of (below_of es))) own ≡ Some m) (same at) (here_with (block_from of (below_of es)))
+        by (l ∷ ls) is true at again every g = subst (λ q. node_at_key (with_node q (of q) (block_from of (below_of es))) own ≡ Some m) (same at) (here_with (block_from of (below_of es)))
         by (l ∷ ls) is false at again every g =
             let both = and_parts (is_good of x.0) (all_good es) every in
-            subst (λ q. found (with_node q (of q) (block_from of (below_of es))) own ≡ Some m) (sym is)
+            subst (λ q. node_at_key (with_node q (of q) (block_from of (below_of es))) own ≡ Some m) (sym is)
             (later_with l ls (of (l ∷ ls)) (block_from of (below_of es)) refl (subst IsPath is (names_of_good x.0 both.0)) (again both.1 g))
 
 -- ---- the documents of a path
@@ -182,14 +183,14 @@ module _ (ms : Members) where
 
   -- a document of the path counts
   abbrev pub HasDocument : Path → Type 0
-  HasDocument q = (f : List ℕ) × (d : Data) × (find key_cmp (q ++ f ∷ []) (counted ms) ≡ Some d)
+  HasDocument q = (f : List ℕ) × (d : Data) × (find key_cmp (q ++ f ∷ []) (counted_members ms) ≡ Some d)
 
   -- a document of a path counts, or it means nothing
   pub document_or_none : (q : Path) → HasDocument q ⊎ (result_ok (looked_up ms q) ≡ Some None)
-  document_or_none q = by (find key_cmp (q ++ zarray ∷ []) (counted ms)) refl (find key_cmp (q ++ zgroup ∷ []) (counted ms)) refl
+  document_or_none q = by (find key_cmp (q ++ zarray ∷ []) (counted_members ms)) refl (find key_cmp (q ++ zgroup ∷ []) (counted_members ms)) refl
     where
-      by : (a : Option Data) → find key_cmp (q ++ zarray ∷ []) (counted ms) ≡ a → (g : Option Data) → find key_cmp (q ++ zgroup ∷ []) (counted ms) ≡ g
-          → HasDocument q ⊎ (result_ok (read_documents a g (find key_cmp (q ++ zattrs ∷ []) (counted ms))) ≡ Some None)
+      by : (a : Option Data) → find key_cmp (q ++ zarray ∷ []) (counted_members ms) ≡ a → (g : Option Data) → find key_cmp (q ++ zgroup ∷ []) (counted_members ms) ≡ g
+          → HasDocument q ⊎ (result_ok (read_documents a g (find key_cmp (q ++ zattrs ∷ []) (counted_members ms))) ≡ Some None)
       by (Some d) is g _ = inl (zarray, d, is)
       by None _ (Some d) is = inl (zgroup, d, is)
       by None _ None _ = inr refl
@@ -198,18 +199,18 @@ module _ (ms : Members) where
   pub same_read : (b q : Path) → as_read (small_meaning (small b ms) (b ++ q)) ≡ as_read (meant q)
   same_read b q = based_read b q ms ∙ sym (based_read [] q ms)
 
-  module _ (good : all_good meant (counted ms) ≡ true) where
+  module _ (good : all_good meant (counted_members ms) ≡ true) where
     -- a path with a document is of names
     pub path_good : (n : List ℕ) (ns : Path) → HasDocument (n ∷ ns) → IsPath (n ∷ ns)
     path_good n ns (f, d, is) =
         subst IsPath (before_last-child (n ∷ ns) f)
-        (names_of_good meant ((n ∷ ns) ++ f ∷ []) (good_found meant (counted ms) ((n ∷ ns) ++ f ∷ []) d (ap is_nil (before_last-child (n ∷ ns) f)) good is))
+        (names_of_good meant ((n ∷ ns) ++ f ∷ []) (good_found meant (counted_members ms) ((n ∷ ns) ++ f ∷ []) d (ap is_nil (before_last-child (n ∷ ns) f)) good is))
 
     -- and is not bad
     pub sound_good : (n : List ℕ) (ns : Path) → HasDocument (n ∷ ns) → is_bad (meant (n ∷ ns)) ≡ false
     sound_good n ns (f, d, is) =
         subst (λ p. is_bad (meant p) ≡ false) (before_last-child (n ∷ ns) f)
-        (sound_of_good meant ((n ∷ ns) ++ f ∷ []) (good_found meant (counted ms) ((n ∷ ns) ++ f ∷ []) d (ap is_nil (before_last-child (n ∷ ns) f)) good is))
+        (sound_of_good meant ((n ∷ ns) ++ f ∷ []) (good_found meant (counted_members ms) ((n ∷ ns) ++ f ∷ []) d (ap is_nil (before_last-child (n ∷ ns) f)) good is))
 
     -- no path below the group is bad
     pub some_read : (n : List ℕ) (ns : Path) → result_ok (looked_up ms (n ∷ ns)) ≢ None
@@ -223,35 +224,35 @@ module _ (ms : Members) where
         ⊎_elim (λ has. has) (λ empty. let both : Some (Some m) ≡ Some None = sym (ap as_read is) ∙ based_read [] (n ∷ ns) ms ∙ empty in cc) (document_or_none (n ∷ ns))
 
     -- the block has what the paths below the group mean
-    pub meant_held : (n : List ℕ) (ns : Path) (m : NodeMetadata) → meant (n ∷ ns) ≡ node m → found (block_from meant (below ms)) (key_text (n ∷ ns)) ≡ Some m
+    pub meant_held : (n : List ℕ) (ns : Path) (m : NodeMetadata) → meant (n ∷ ns) ≡ node m → node_at_key (block_from meant (documents_below ms)) (key_text (n ∷ ns)) ≡ Some m
     meant_held n ns m is =
         let has = has_document n ns m is in
-        held_at meant n ns m (path_good n ns has) is has.0 has.1 (counted ms) good has.2
+        held_at meant n ns m (path_good n ns has) is has.0 has.1 (counted_members ms) good has.2
 
     -- the block holds the store
-    pub holds_small : HoldsStore ms (block_from meant (below ms))
+    pub holds_small : HoldsStore ms (block_from meant (documents_below ms))
     holds_small b t m = (
-      λ h. let w = meant_from meant t m (counted ms) h in (w.0, w.1, w.2, node_from (small_meaning (small b ms) (b ++ w.0 ∷ w.1)) m (same_read b (w.0 ∷ w.1) ∙ ap as_read w.3)),
-      λ w. ap (found (block_from meant (below ms))) w.2 ∙ meant_held w.0 w.1 m (node_from (meant (w.0 ∷ w.1)) m (sym (same_read b (w.0 ∷ w.1)) ∙ ap as_read w.3)),
+      λ h. let w = meant_from meant t m (counted_members ms) h in (w.0, w.1, w.2, node_from (small_meaning (small b ms) (b ++ w.0 ∷ w.1)) m (same_read b (w.0 ∷ w.1) ∙ ap as_read w.3)),
+      λ w. ap (node_at_key (block_from meant (documents_below ms))) w.2 ∙ meant_held w.0 w.1 m (node_from (meant (w.0 ∷ w.1)) m (sym (same_read b (w.0 ∷ w.1)) ∙ ap as_read w.3)),
     )
 
     -- and it is clean
     pub clean_small : IsClean ms
     clean_small = record {
       means = λ b n ns e is. some_read n ns (sym (based_read b (n ∷ ns) ms) ∙ ap as_read is);
-      named = All-from_recursion (λ e. IsPath (before_last e.0)) (counted ms) (all_paths meant (counted ms) good);
+      named = All-from_recursion (λ e. IsPath (before_last e.0)) (counted_members ms) (all_paths meant (counted_members ms) good);
     }
 
 -- ---- what a document that reads is
 
 -- the block of the members, where it is one, holds the store, which is clean, and its keys ascend
 small_law : (ms : Members) (B : Block) → small_block ms ≡ Ok B → (HoldsStore ms B × IsClean ms) × IsAscending B
-small_law ms B h = by (all_good (meant ms) (counted ms)) refl h
+small_law ms B h = by (all_good (meant ms) (counted_members ms)) refl h
   where
-    by : (x : Bool) → all_good (meant ms) (counted ms) ≡ x → (if x then Ok (block_from (meant ms) (below ms)) else Err (BadMember (codes "metadata"))) ≡ Ok B → (HoldsStore ms B × IsClean ms) × IsAscending B
+    by : (x : Bool) → all_good (meant ms) (counted_members ms) ≡ x → (if x then Ok (block_from (meant ms) (documents_below ms)) else Err (BadMember (codes "metadata"))) ≡ Ok B → (HoldsStore ms B × IsClean ms) × IsAscending B
     by true good e =
-        let is : block_from (meant ms) (below ms) ≡ B = ap (λ r. unwrap_or (result_ok r) B) e in
-        ((subst (HoldsStore ms) is (holds_small ms good), clean_small ms good), subst IsAscending is (from_ascends (meant ms) (below ms)))
+        let is : block_from (meant ms) (documents_below ms) ≡ B = ap (λ r. unwrap_or (result_ok r) B) e in
+        ((subst (HoldsStore ms) is (holds_small ms good), clean_small ms good), subst IsAscending is (from_ascends (meant ms) (documents_below ms)))
     by false good e = cc
 
 -- a document that reads is one whose members are a clean store that the block holds
@@ -310,50 +311,87 @@ module _ (ms : Members) where
           and_from (list_all is_name (before_last x.0)) (list_all (λ e. list_all is_name (before_last e.0)) (below_of es)) (names_of_good here x.0 both.0) (again both.1)
 
   -- where some document is not good, the members are refused
-  refused_by : all_good here (counted ms) ≡ false → small_block ms ≡ Err (BadMember (codes "metadata"))
-  refused_by e = ap (λ b. if b then Ok (block_from here (below ms)) else Err (BadMember (codes "metadata"))) e
+  refused_by : all_good here (counted_members ms) ≡ false → small_block ms ≡ Err (BadMember (codes "metadata"))
+  refused_by e = ap (λ b. if b then Ok (block_from here (documents_below ms)) else Err (BadMember (codes "metadata"))) e
 
   -- where a name is that of no node, the members are refused
   pub names_refused : are_named ms ≡ false → small_block ms ≡ Err (BadMember (codes "metadata"))
-  names_refused e = refused_by (false_from_ne_true (all_good here (counted ms)) (λ good. true≢false (sym (named_by (counted ms) good) ∙ e)))
+  names_refused e = refused_by (false_from_ne_true (all_good here (counted_members ms)) (λ good. true≢false (sym (named_by (counted_members ms) good) ∙ e)))
 
   -- where the documents at a text do not read, the members are refused
   pub trees_refused : (t : List ℕ) → result_ok (read_files (member_at ms t)) ≡ None → small_block ms ≡ Err (BadMember (codes "metadata"))
-  trees_refused t e = refused_by (false_from_ne_true (all_good here (counted ms)) (λ good. by (stretches t) refl (parts_some t) good))
+  trees_refused t e = refused_by (false_from_ne_true (all_good here (counted_members ms)) (λ good. by (stretches t) refl (parts_some t) good))
     where
-      by : (p : Path) → stretches t ≡ p → stretches t ≢ [] → all_good here (counted ms) ≡ true → ⊥
+      by : (p : Path) → stretches t ≡ p → stretches t ≢ [] → all_good here (counted_members ms) ≡ true → ⊥
       by [] is some good = some is
       by (n ∷ ns) is some good = some_read ms good n ns (sym (based_read [] (n ∷ ns) ms) ∙ ap (λ p. as_read (here p)) (sym is) ∙ text_read t ms ∙ e)
 
-  module _ (B : Block) (named : are_named ms ≡ true) (up : IsAscending B) (nodes : (t : List ℕ) → result_ok (read_files (member_at ms t)) ≡ Some (found B t)) where
+  -- where no document stands at no names, those below the group stand below names
+  all_named : (es : List (Segments × Data)) → All (λ e. IsPath (before_last e.0)) es → list_all (λ e. list_all is_name (before_last e.0)) (below_of es) ≡ true
+  all_named [] h = refl
+  all_named (x ∷ es) h = by (is_nil (before_last x.0)) (All-head (λ e. IsPath (before_last e.0)) x es h) (all_named es (All-tail (λ e. IsPath (before_last e.0)) x es h))
+    where
+      by : (b : Bool) → IsPath (before_last x.0) → list_all (λ e. list_all is_name (before_last e.0)) (below_of es) ≡ true
+          → list_all (λ e. list_all is_name (before_last e.0)) (cond (not b) (x ∷ below_of es) (below_of es)) ≡ true
+      by true own rest = rest
+      by false own rest = and_from (list_all is_name (before_last x.0)) (list_all (λ e. list_all is_name (before_last e.0)) (below_of es)) own rest
+
+  -- the documents of a clean store are good
+  clean_good : IsClean ms → all_good here (counted_members ms) ≡ true
+  clean_good h = good_by (counted_members ms) (all_named (counted_members ms) h.named) (λ n ns valid. fine (here (n ∷ ns)) (h.means [] n ns))
+    where
+      fine : (x : Meaning) → ((e : NodeCreateError) → x ≢ bad e) → is_bad x ≡ false
+      fine (node m) never = refl
+      fine nothing never = refl
+      fine (bad e) never = absurd (never e refl)
+
+  -- members that are refused are no clean store
+  pub small_refused : (f : MetadataFault) → small_block ms ≡ Err f → (IsClean ms → ⊥) × (f ≡ BadMember (codes "metadata"))
+  small_refused f h = by (all_good here (counted_members ms)) refl h
+    where
+      by : (x : Bool) → all_good here (counted_members ms) ≡ x → (if x then Ok (block_from here (documents_below ms)) else Err (BadMember (codes "metadata"))) ≡ Err f
+          → (IsClean ms → ⊥) × (f ≡ BadMember (codes "metadata"))
+      by true good e = cc
+      by false some e = let same : BadMember (codes "metadata") ≡ f = cc in (λ clean. true≢false (sym (clean_good clean) ∙ some), sym same)
+
+  module _ (B : Block) (named : are_named ms ≡ true) (up : IsAscending B) (nodes : (t : List ℕ) → result_ok (read_files (member_at ms t)) ≡ Some (node_at_key B t)) where
     -- each path of names is read
-    read_at : (n : List ℕ) (ns : Path) → IsPath (n ∷ ns) → as_read (here (n ∷ ns)) ≡ Some (found B (key_text (n ∷ ns)))
+    read_at : (n : List ℕ) (ns : Path) → IsPath (n ∷ ns) → as_read (here (n ∷ ns)) ≡ Some (node_at_key B (key_text (n ∷ ns)))
     read_at n ns h = ap (λ p. as_read (here p)) (sym (parts_text n ns h)) ∙ text_read (key_text (n ∷ ns)) ms ∙ nodes (key_text (n ∷ ns))
 
     -- each document is good
-    every_good : all_good here (counted ms) ≡ true
-    every_good = good_by (counted ms) named (λ n ns h. not_bad (here (n ∷ ns)) (found B (key_text (n ∷ ns))) (read_at n ns h))
+    every_good : all_good here (counted_members ms) ≡ true
+    every_good = good_by (counted_members ms) named (λ n ns h. not_bad (here (n ∷ ns)) (node_at_key B (key_text (n ∷ ns))) (read_at n ns h))
 
     -- what is read at a text is what a path of that text means
-    to_from : (t : List ℕ) (m : NodeMetadata) → found B t ≡ Some m → found (block_from here (below ms)) t ≡ Some m
+    to_from : (t : List ℕ) (m : NodeMetadata) → node_at_key B t ≡ Some m → node_at_key (block_from here (documents_below ms)) t ≡ Some m
     to_from t m h = by (stretches t) refl (parts_some t)
       where
-        by : (p : Path) → stretches t ≡ p → stretches t ≢ [] → found (block_from here (below ms)) t ≡ Some m
+        by : (p : Path) → stretches t ≡ p → stretches t ≢ [] → node_at_key (block_from here (documents_below ms)) t ≡ Some m
         by [] is some = absurd (some is)
         by (n ∷ ns) is some =
             let means : here (n ∷ ns) ≡ node m = node_from (here (n ∷ ns)) m (ap (λ p. as_read (here p)) (sym is) ∙ text_read t ms ∙ nodes t ∙ ap Some h) in
-            ap (found (block_from here (below ms))) (sym (join_with_byte-slice_split 47 t) ∙ ap key_text is) ∙ meant_held ms every_good n ns m means
+            ap (node_at_key (block_from here (documents_below ms))) (sym (join_with_byte-slice_split 47 t) ∙ ap key_text is) ∙ meant_held ms every_good n ns m means
 
     -- and the other way round
-    of_from : (t : List ℕ) (m : NodeMetadata) → found (block_from here (below ms)) t ≡ Some m → found B t ≡ Some m
+    of_from : (t : List ℕ) (m : NodeMetadata) → node_at_key (block_from here (documents_below ms)) t ≡ Some m → node_at_key B t ≡ Some m
     of_from t m h =
-        let w = meant_from here t m (counted ms) h in
+        let w = meant_from here t m (counted_members ms) h in
         let valid : IsPath (w.0 ∷ w.1) = path_good ms every_good w.0 w.1 (has_document ms every_good w.0 w.1 m w.3) in
-        let same : Some (found B (key_text (w.0 ∷ w.1))) ≡ Some (Some m) = sym (read_at w.0 w.1 valid) ∙ ap as_read w.3 in
-        ap (found B) w.2 ∙ ap (λ o. unwrap_or o (Some m)) same
+        let same : Some (node_at_key B (key_text (w.0 ∷ w.1))) ≡ Some (Some m) = sym (read_at w.0 w.1 valid) ∙ ap as_read w.3 in
+        ap (node_at_key B) w.2 ∙ ap (λ o. unwrap_or o (Some m)) same
 
     -- where the names are those of nodes, and the documents at each text read as what a block has there, it is the block of the members
     pub block_is : small_block ms ≡ Ok B
     block_is =
-        ap (λ b. if b then Ok (block_from here (below ms)) else Err (BadMember (codes "metadata"))) every_good
-        ∙ ap Ok (one_block (block_from here (below ms)) B (from_ascends here (below ms)) up (λ t m. (of_from t m, to_from t m)))
+        ap (λ b. if b then Ok (block_from here (documents_below ms)) else Err (BadMember (codes "metadata"))) every_good
+        ∙ ap Ok (one_block (block_from here (documents_below ms)) B (from_ascends here (documents_below ms)) up (λ t m. (of_from t m, to_from t m)))
+
+-- a document that does not read is refused by its fault
+pub refused_law : (d : Data) (f : MetadataFault) → zmetadata_of d ≡ Err f → IsZmetadataFault d f
+unfolding zmetadata_of
+refused_law d f h = by (zmetadata_members d) refl h
+  where
+    by : (r : Result Members MetadataFault) → zmetadata_members d ≡ r → steps.◌>>=◌ r small_block ≡ Err f → IsZmetadataFault d f
+    by (Ok ms) is e = let refused = small_refused ms f e in inr (ms, is, refused.0, refused.1)
+    by (Err g) is e = let same : g ≡ f = cc in inl (is ∙ ap Err same)

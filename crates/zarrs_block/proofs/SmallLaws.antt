@@ -17,7 +17,7 @@ use Rattle.zarrs_store.proofs.Cuts.{parts-join, segments_clean}
 use Rattle.zarrs_path.specs.Keys.{zarray, zgroup, zattrs}
 use Rattle.zarrs_path.specs.Paths.{Path, IsPath}
 use Rattle.zarrs_path.proofs.PathTexts.{segments_from_names}
-use Rattle.zarrs_block.specs.Small.{is_document_v2, stretches, counted, small}
+use Rattle.zarrs_block.specs.Small.{is_document_v2, stretches, counted_members, small}
 use Rattle.zarrs_block.proofs.SmallStores.{same_key, own_key, get_based}
 
 -- ---- names and their stretches
@@ -79,13 +79,13 @@ level_text k t cut false e = by (eq_by_cmp key_cmp k (stretches t)) refl
 
 module _ (k : Segments) (cut : stretches (key_text k) ≡ k) (doc : is_document_v2 (last_segment k) ≡ true) where
   -- among the members that count, a key of a document has what the members have at its text
-  pub find_counted : (ms : Members) → find key_cmp k (counted ms) ≡ get_member (key_text k) ms
+  pub find_counted : (ms : Members) → find key_cmp k (counted_members ms) ≡ get_member (key_text k) ms
   find_counted no_members = refl
   find_counted (member t d ms) = by (bytes_eq (key_text k) t) refl (is_document_v2 (last_segment (stretches t))) refl (find_counted ms) ∙ sym (got_member (key_text k) t d ms)
     where
-      by : (b : Bool) → bytes_eq (key_text k) t ≡ b → (c : Bool) → is_document_v2 (last_segment (stretches t)) ≡ c → find key_cmp k (counted ms) ≡ get_member (key_text k) ms
-          → find key_cmp k (cond c ((stretches t, d) ∷ counted ms) (counted ms)) ≡ cond b (Some d) (get_member (key_text k) ms)
-      by b here true counts rest = ap (λ x. cond x (Some d) (find key_cmp k (counted ms))) (level_text k t cut b here) ∙ ap (cond b (Some d)) rest
+      by : (b : Bool) → bytes_eq (key_text k) t ≡ b → (c : Bool) → is_document_v2 (last_segment (stretches t)) ≡ c → find key_cmp k (counted_members ms) ≡ get_member (key_text k) ms
+          → find key_cmp k (cond c ((stretches t, d) ∷ counted_members ms) (counted_members ms)) ≡ cond b (Some d) (get_member (key_text k) ms)
+      by b here true counts rest = ap (λ x. cond x (Some d) (find key_cmp k (counted_members ms))) (level_text k t cut b here) ∙ ap (cond b (Some d)) rest
       by false here false counts rest = rest
       by true here false counts rest =
           let same : k ≡ stretches t = sym cut ∙ ap stretches ((bytes_eq-Decides (key_text k) t).0 here) in

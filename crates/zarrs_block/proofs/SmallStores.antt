@@ -27,10 +27,10 @@ use Rattle.zarrs_meta.specs.declared.node.ArrayMetadata.TheVariants.{V2 as array
 use Rattle.zarrs_meta.specs.declared.node.GroupMetadata.TheVariants.{V2 as group_v2}
 use Rattle.zarrs_meta.specs.declared.node.NodeMetadata.{NodeMetadata}
 use Rattle.zarrs_meta.specs.declared.node.NodeMetadata.TheVariants.{Group, Array}
-use Rattle.zarrs_block.specs.Meaning.{Meaning, node, nothing, bad, named, document_from, document_at, version_2_line, zarray_line, zgroup_line, meaning_in}
-use Rattle.zarrs_block.specs.Small.{SmallStore, small_meaning, is_document_v2, stretches, counted, small}
+use Rattle.zarrs_block.specs.Meaning.{Meaning, node, nothing, bad, document_or_fault, document_from, document_at, version_2_line, zarray_line, zgroup_line, meaning_in}
+use Rattle.zarrs_block.specs.Small.{SmallStore, small_meaning, is_document_v2, stretches, counted_members, small}
 use Rattle.zarrs_block.specs.Zmetadata.{before_last}
-use Rattle.zarrs_block.specs.ZmetadataRead.{read_with, read_documents, read_files, member_at}
+use Rattle.zarrs_block.specs.StepsOfZmetadata.{read_with, read_documents, read_files, member_at}
 
 -- ---- segments
 
@@ -70,8 +70,8 @@ module _ (b k : Segments) where
       ∙ ap (λ o. cond (is_eq (key_cmp k e.0)) (Some e.1) o) (find_based es)
 
   -- at a key behind the base stands what is found among the documents that count
-  pub get_based : (ms : Members) → get (small b ms) (b ++ k) ≡ find key_cmp k (counted ms)
-  get_based ms = get-from_entries key_cmp_total (map (λ e. (b ++ e.0, e.1)) (counted ms)) (b ++ k) ∙ find_based (counted ms)
+  pub get_based : (ms : Members) → get (small b ms) (b ++ k) ≡ find key_cmp k (counted_members ms)
+  get_based ms = get-from_entries key_cmp_total (map (λ e. (b ++ e.0, e.1)) (counted_members ms)) (b ++ k) ∙ find_based (counted_members ms)
 
 -- another name is passed over
 passed : (o : Ordering) (a b : Option Data) → is_eq o ≡ false → match_ordering o a b a ≡ a
@@ -86,7 +86,7 @@ module _ (t f : List ℕ) (clean : IsTrue (has_no_slash f)) where
 
   module _ (document : is_document_v2 f ≡ true) where
     -- what is found among the documents that count is the member of that name
-    pub find_counted : (ms : Members) → find key_cmp (stretches t ++ f ∷ []) (counted ms) ≡ get_member (t ++ 47 ∷ f) ms
+    pub find_counted : (ms : Members) → find key_cmp (stretches t ++ f ∷ []) (counted_members ms) ≡ get_member (t ++ 47 ∷ f) ms
     find_counted no_members = refl
     find_counted (member u d ms) = by (bytes_eq (t ++ 47 ∷ f) u) refl (is_document_v2 (last_segment (stretches u))) refl (find_counted ms)
       where
@@ -104,17 +104,17 @@ module _ (t f : List ℕ) (clean : IsTrue (has_no_slash f)) where
         skipped : bytes_eq (t ++ 47 ∷ f) u ≡ false → get_member (t ++ 47 ∷ f) ms ≡ get_member (t ++ 47 ∷ f) (member u d ms)
         skipped other = sym (passed (bytes_cmp (t ++ 47 ∷ f) u) (get_member (t ++ 47 ∷ f) ms) (Some d) (is_eq-slice_cmp (t ++ 47 ∷ f) u ∙ other))
 
-        by : (x : Bool) → bytes_eq (t ++ 47 ∷ f) u ≡ x → (y : Bool) → is_document_v2 (last_segment (stretches u)) ≡ y → find key_cmp (stretches t ++ f ∷ []) (counted ms) ≡ get_member (t ++ 47 ∷ f) ms
-            → find key_cmp (stretches t ++ f ∷ []) (if y then (stretches u, d) ∷ counted ms else counted ms) ≡ get_member (t ++ 47 ∷ f) (member u d ms)
+        by : (x : Bool) → bytes_eq (t ++ 47 ∷ f) u ≡ x → (y : Bool) → is_document_v2 (last_segment (stretches u)) ≡ y → find key_cmp (stretches t ++ f ∷ []) (counted_members ms) ≡ get_member (t ++ 47 ∷ f) ms
+            → find key_cmp (stretches t ++ f ∷ []) (if y then (stretches u, d) ∷ counted_members ms else counted_members ms) ≡ get_member (t ++ 47 ∷ f) (member u d ms)
         by true at true counts again =
             let same : t ++ 47 ∷ f ≡ u = (bytes_eq-Decides (t ++ 47 ∷ f) u).0 at in
-            ap (λ j. cond (is_eq (key_cmp (stretches t ++ f ∷ []) j)) (Some d) (find key_cmp (stretches t ++ f ∷ []) (counted ms))) (sym (here same))
-            ∙ ap (λ x. cond x (Some d) (find key_cmp (stretches t ++ f ∷ []) (counted ms))) (own_key (stretches t ++ f ∷ []))
+            ap (λ j. cond (is_eq (key_cmp (stretches t ++ f ∷ []) j)) (Some d) (find key_cmp (stretches t ++ f ∷ []) (counted_members ms))) (sym (here same))
+            ∙ ap (λ x. cond x (Some d) (find key_cmp (stretches t ++ f ∷ []) (counted_members ms))) (own_key (stretches t ++ f ∷ []))
             ∙ sym (ap (λ o. match_ordering o (get_member (t ++ 47 ∷ f) ms) (Some d) (get_member (t ++ 47 ∷ f) ms)) (ap (bytes_cmp (t ++ 47 ∷ f)) (sym same) ∙ tied_itself nat_list_cmp_total (t ++ 47 ∷ f)))
         by true at false fails again =
             let same : t ++ 47 ∷ f ≡ u = (bytes_eq-Decides (t ++ 47 ∷ f) u).0 at in
             absurd (true≢false (sym document ∙ ap is_document_v2 (sym (last_segment-child (stretches t) f)) ∙ ap (λ ss. is_document_v2 (last_segment ss)) (here same) ∙ fails))
-        by false other true counts again = ap (λ x. cond x (Some d) (find key_cmp (stretches t ++ f ∷ []) (counted ms))) (apart other) ∙ again ∙ skipped other
+        by false other true counts again = ap (λ x. cond x (Some d) (find key_cmp (stretches t ++ f ∷ []) (counted_members ms))) (apart other) ∙ again ∙ skipped other
         by false other false fails again = again ∙ skipped other
 
 -- ---- what a path means
@@ -127,13 +127,13 @@ as_read (bad e) = None
 
 module _ {D : Type 0} (document : Data → Result D MetadataFault) (kind : D → NodeMetadata) (with' : AttributesDocument → D → D) (k j : Segments) (after : Meaning) where
   -- without attributes beside it
-  bare_line : (r : Result D MetadataFault) → as_read (version_2_line kind with' (named k r) (Ok None) after) ≡ result_ok (steps.◌>>=◌ (steps.◌>>=◌ r λ m. Ok (kind m)) λ m. Ok (Some m))
+  bare_line : (r : Result D MetadataFault) → as_read (version_2_line kind with' (document_or_fault k r) (Ok None) after) ≡ result_ok (steps.◌>>=◌ (steps.◌>>=◌ r λ m. Ok (kind m)) λ m. Ok (Some m))
   bare_line (Ok m) = refl
   bare_line (Err e) = refl
 
   -- with attributes beside it
   full_line : (r : Result D MetadataFault) (q : Result AttributesDocument MetadataFault)
-      → as_read (version_2_line kind with' (named k r) (named j q) after) ≡ result_ok (steps.◌>>=◌ (steps.◌>>=◌ r λ m. steps.◌>>=◌ q λ x. Ok (kind (with' x m))) λ m. Ok (Some m))
+      → as_read (version_2_line kind with' (document_or_fault k r) (document_or_fault j q) after) ≡ result_ok (steps.◌>>=◌ (steps.◌>>=◌ r λ m. steps.◌>>=◌ q λ x. Ok (kind (with' x m))) λ m. Ok (Some m))
   full_line (Ok m) (Ok x) = refl
   full_line (Ok m) (Err e) = refl
   full_line (Err e) (Ok x) = refl
@@ -163,13 +163,13 @@ module _ (z : SmallStore) (p : Path) where
 
 -- what the documents of a path among those that count are read as
 abbrev pub looked_up : Members → Path → Result (Option NodeMetadata) MetadataFault
-looked_up ms q = read_documents (find key_cmp (q ++ zarray ∷ []) (counted ms)) (find key_cmp (q ++ zgroup ∷ []) (counted ms)) (find key_cmp (q ++ zattrs ∷ []) (counted ms))
+looked_up ms q = read_documents (find key_cmp (q ++ zarray ∷ []) (counted_members ms)) (find key_cmp (q ++ zgroup ∷ []) (counted_members ms)) (find key_cmp (q ++ zattrs ∷ []) (counted_members ms))
 
 -- behind any base a path means what its documents are read as
 pub based_read : (b q : Path) (ms : Members) → as_read (small_meaning (small b ms) (b ++ q)) ≡ result_ok (looked_up ms q)
 based_read b q ms = small_read (small b ms) (b ++ q) ∙ (λ i. result_ok (read_documents (at zarray i) (at zgroup i) (at zattrs i)))
   where
-    at : (f : List ℕ) → get (small b ms) ((b ++ q) ++ f ∷ []) ≡ find key_cmp (q ++ f ∷ []) (counted ms)
+    at : (f : List ℕ) → get (small b ms) ((b ++ q) ++ f ∷ []) ≡ find key_cmp (q ++ f ∷ []) (counted_members ms)
     at f = ap (get (small b ms)) (append_assoc b q (f ∷ [])) ∙ get_based b (q ++ f ∷ []) ms
 
 -- the parts of a text mean what the members have for it

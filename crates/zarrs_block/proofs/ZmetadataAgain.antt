@@ -25,10 +25,10 @@ use Rattle.zarrs_meta.specs.declared.node.NodeMetadata.TheVariants.{Group, Array
 use Rattle.zarrs_meta.proofs.GroupV2Laws as groups
 use Rattle.zarrs_meta.proofs.ArrayV2Laws as arrays
 use Rattle.zarrs_meta.proofs.PlainNodes.{with_attributes_is_plain}
-use Rattle.zarrs_block.specs.Block.{Block, IsAscending, HasValidKeys, Entries, entry, first_some, found}
-use Rattle.zarrs_block.specs.Meaning.{Meaning, node, nothing, meaning_in, document_at, document_from, named, zarray_line, zgroup_line, version_2_line}
+use Rattle.zarrs_block.specs.Block.{Block, IsAscending, HasValidKeys, Entries, entry, first_some, node_at_key}
+use Rattle.zarrs_block.specs.Meaning.{Meaning, node, nothing, meaning_in, document_at, document_from, document_or_fault, zarray_line, zgroup_line, version_2_line}
 use Rattle.zarrs_block.specs.Small.{SmallStore, is_document_v2, small, small_meaning}
-use Rattle.zarrs_block.specs.Zmetadata.{before_last, below, is_bad, is_good, block_from, zmetadata_of, zmetadata_tree, attributes_written, node_written, put_documents, nodes_written, documents_written, is_version_2, HasVersion2, HasPlainEntries, HaveSameEntries, node_at, document_written, WrittenReadsBack}
+use Rattle.zarrs_block.specs.Zmetadata.{before_last, documents_below, is_bad, is_good, block_from, zmetadata_of, zmetadata_tree, attributes_written, node_written, put_documents, nodes_written, documents_written, is_version_2, HasVersion2, HasPlainEntries, HaveSameEntries, node_at, document_written, WrittenReadsBack}
 use Rattle.zarrs_block.proofs.Expansion.{entries_listed}
 use Rattle.zarrs_block.proofs.BlockFrom.{node_of, none_either, found_block, found_slashed, all_good, below_named, listed_below}
 use Rattle.zarrs_block.proofs.SmallLaws.{get_document}
@@ -122,7 +122,7 @@ module _ (p : Path) where
       → read_by p (document_written zarray (Group (group_v2 m))) (document_written zgroup (Group (group_v2 m))) (document_written zattrs (Group (group_v2 m))) ≡ node (Group (group_v2 m))
   group_again m plain =
       ap (λ x. read_by p x (Some (group_v2_tree (group_without_attributes m))) (lookup (bytes_eq zattrs) (attributes_written m.attributes))) (no_array m.attributes)
-      ∙ ap (λ r. version_2_line (λ d. Group (group_v2 d)) group_with (named (p ++ zgroup ∷ []) r) (document_from attributes_of (p ++ zattrs ∷ []) (lookup (bytes_eq zattrs) (attributes_written m.attributes))) nothing)
+      ∙ ap (λ r. version_2_line (λ d. Group (group_v2 d)) group_with (document_or_fault (p ++ zgroup ∷ []) r) (document_from attributes_of (p ++ zattrs ∷ []) (lookup (bytes_eq zattrs) (attributes_written m.attributes))) nothing)
       (groups.group_v2_again (group_without_attributes m) (bare_group m plain))
       ∙ attributes_line (λ d. Group (group_v2 d)) group_with (group_without_attributes m) m m.attributes (p ++ zattrs ∷ []) nothing (group_attributes m plain) refl
       (λ e i. record { attributes = sym e i; additional_fields = m.additional_fields })
@@ -131,7 +131,7 @@ module _ (p : Path) where
   array_again : (m : ArrayMetadataV2) → IsTrue (is_plain_array_v2 m)
       → read_by p (document_written zarray (Array (array_v2 m))) (document_written zgroup (Array (array_v2 m))) (document_written zattrs (Array (array_v2 m))) ≡ node (Array (array_v2 m))
   array_again m plain =
-      ap (λ r. version_2_line (λ d. Array (array_v2 d)) array_with (named (p ++ zarray ∷ []) r) (document_from attributes_of (p ++ zattrs ∷ []) (lookup (bytes_eq zattrs) (attributes_written m.attributes)))
+      ap (λ r. version_2_line (λ d. Array (array_v2 d)) array_with (document_or_fault (p ++ zarray ∷ []) r) (document_from attributes_of (p ++ zattrs ∷ []) (lookup (bytes_eq zattrs) (attributes_written m.attributes)))
       (version_2_line (λ d. Group (group_v2 d)) group_with (document_from group_v2_of (p ++ zgroup ∷ []) (document_written zgroup (Array (array_v2 m)))) (document_from attributes_of (p ++ zattrs ∷ []) (lookup (bytes_eq zattrs) (attributes_written m.attributes))) nothing))
       (arrays.array_v2_again (array_without_attributes m) (bare_array m plain))
       ∙ attributes_line (λ d. Array (array_v2 d)) array_with (array_without_attributes m) m m.attributes (p ++ zattrs ∷ []) _ (array_attributes m plain) refl
@@ -159,8 +159,8 @@ module _ (p : Path) where
 -- ---- the whole
 
 -- members with numbers that fit, of which all are good, read as the block of their meanings
-read_members : (ms : Members) → members_have_float ms ≡ false → list_all (λ e. is_good (small_meaning (small [] ms)) e.0) (below ms) ≡ true
-    → zmetadata_of (object (member (codes "metadata") (object ms) (member (codes "zarr_consolidated_format") (number (unsigned 1)) no_members))) ≡ Ok (block_from (small_meaning (small [] ms)) (below ms))
+read_members : (ms : Members) → members_have_float ms ≡ false → list_all (λ e. is_good (small_meaning (small [] ms)) e.0) (documents_below ms) ≡ true
+    → zmetadata_of (object (member (codes "metadata") (object ms) (member (codes "zarr_consolidated_format") (number (unsigned 1)) no_members))) ≡ Ok (block_from (small_meaning (small [] ms)) (documents_below ms))
 unfolding zmetadata_of
 read_members ms fits good = rw (fits, good) refl
 
@@ -189,7 +189,7 @@ module _ (g : GroupMetadataV2) (B : Block) (plain_group : IsTrue (is_plain_group
   of p = small_meaning (small [] ms) p
 
   abbrev C : Block
-  C = block_from of (below ms)
+  C = block_from of (documents_below ms)
 
   -- the node at each path is plain and of version 2
   entry_fits : (n : List ℕ) (ns : Path) → IsPath (n ∷ ns) → (o : Option NodeMetadata) → entry B (n ∷ ns) ≡ o → Fits o
@@ -222,8 +222,8 @@ module _ (g : GroupMetadataV2) (B : Block) (plain_group : IsTrue (is_plain_group
   no_float = nodes_fit (([], Group (group_v2 g)) ∷ pairs B) (plain_group, pairs_plain)
 
   -- and all is good
-  good : list_all (λ e. is_good of e.0) (below ms) ≡ true
-  good = all_good of (below ms) (below_named ms names) (λ p h. ap is_bad (meaning_is p h) ∙ meant_good (node_at g B p))
+  good : list_all (λ e. is_good of e.0) (documents_below ms) ≡ true
+  good = all_good of (documents_below ms) (below_named ms names) (λ p h. ap is_bad (meaning_is p h) ∙ meant_good (node_at g B p))
 
   -- the document reads as the block of these meanings
   reads : zmetadata_of (zmetadata_tree g B) ≡ Ok C
@@ -231,27 +231,27 @@ module _ (g : GroupMetadataV2) (B : Block) (plain_group : IsTrue (is_plain_group
 
   -- a document of an entry is listed
   listed : (n : List ℕ) (ns : Path) → IsPath (n ∷ ns) → (file : List ℕ) → is_document_v2 file ≡ true → (m : NodeMetadata) (d : Data) → entry B (n ∷ ns) ≡ Some m → document_written file m ≡ Some d
-      → list_any (λ e. path_eq (n ∷ ns) (before_last e.0)) (below ms) ≡ true
+      → list_any (λ e. path_eq (n ∷ ns) (before_last e.0)) (documents_below ms) ≡ true
   listed n ns h file doc m d is written = listed_below n ns h file doc ms d (found_documents B up valid g (n ∷ ns) file h doc ∙ ap (option_and_then (document_written file)) is ∙ written)
 
   -- each entry has one
-  listed_node : (n : List ℕ) (ns : Path) → IsPath (n ∷ ns) → (m : NodeMetadata) → IsTrue (is_version_2 m) → entry B (n ∷ ns) ≡ Some m → list_any (λ e. path_eq (n ∷ ns) (before_last e.0)) (below ms) ≡ true
+  listed_node : (n : List ℕ) (ns : Path) → IsPath (n ∷ ns) → (m : NodeMetadata) → IsTrue (is_version_2 m) → entry B (n ∷ ns) ≡ Some m → list_any (λ e. path_eq (n ∷ ns) (before_last e.0)) (documents_below ms) ≡ true
   listed_node n ns h (Group (group_v2 m)) fits is = listed n ns h zgroup refl (Group (group_v2 m)) (group_v2_tree (group_without_attributes m)) is refl
   listed_node n ns h (Group (group_v3 m)) fits is = absurd (true≢false (sym fits))
   listed_node n ns h (Array (array_v2 m)) fits is = listed n ns h zarray refl (Array (array_v2 m)) (array_v2_tree (array_without_attributes m)) is refl
   listed_node n ns h (Array (array_v3 m)) fits is = absurd (true≢false (sym fits))
 
   -- so nothing is lost by the test
-  found_by : (n : List ℕ) (ns : Path) → IsPath (n ∷ ns) → (o : Option NodeMetadata) → entry B (n ∷ ns) ≡ o → Fits o → cond (list_any (λ e. path_eq (n ∷ ns) (before_last e.0)) (below ms)) o None ≡ o
-  found_by n ns h None is fits = none_either (list_any (λ e. path_eq (n ∷ ns) (before_last e.0)) (below ms)) None refl
+  found_by : (n : List ℕ) (ns : Path) → IsPath (n ∷ ns) → (o : Option NodeMetadata) → entry B (n ∷ ns) ≡ o → Fits o → cond (list_any (λ e. path_eq (n ∷ ns) (before_last e.0)) (documents_below ms)) o None ≡ o
+  found_by n ns h None is fits = none_either (list_any (λ e. path_eq (n ∷ ns) (before_last e.0)) (documents_below ms)) None refl
   found_by n ns h (Some m) is fits = ap (λ b. cond b (Some m) None) (listed_node n ns h m fits.0 is)
 
   -- that block has the same entries
   entry_again : (n : List ℕ) (ns : Path) → IsPath (n ∷ ns) → entry C (n ∷ ns) ≡ entry B (n ∷ ns)
   entry_again n ns h =
-      ap (first_some (found C (key_text (n ∷ ns)))) (found_slashed of (below ms) (below_named ms names) (n ∷ ns)) ∙ first_alone (found C (key_text (n ∷ ns)))
-      ∙ found_block of (below ms) (below_named ms names) (n ∷ ns) h
-      ∙ ap (λ o. cond (list_any (λ e. path_eq (n ∷ ns) (before_last e.0)) (below ms)) o None) (ap node_of (meaning_is (n ∷ ns) h) ∙ node_meant (entry B (n ∷ ns)))
+      ap (first_some (node_at_key C (key_text (n ∷ ns)))) (found_slashed of (documents_below ms) (below_named ms names) (n ∷ ns)) ∙ first_alone (node_at_key C (key_text (n ∷ ns)))
+      ∙ found_block of (documents_below ms) (below_named ms names) (n ∷ ns) h
+      ∙ ap (λ o. cond (list_any (λ e. path_eq (n ∷ ns) (before_last e.0)) (documents_below ms)) o None) (ap node_of (meaning_is (n ∷ ns) h) ∙ node_meant (entry B (n ∷ ns)))
       ∙ found_by n ns h (entry B (n ∷ ns)) refl (fits_at (n ∷ ns) h)
 
   same_entries : HaveSameEntries B C

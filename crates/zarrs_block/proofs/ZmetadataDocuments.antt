@@ -21,9 +21,9 @@ use Rattle.zarrs_meta.specs.declared.node.GroupMetadata.TheVariants.{V2 as group
 use Rattle.zarrs_meta.specs.declared.node.NodeMetadata.{NodeMetadata}
 use Rattle.zarrs_meta.specs.declared.node.NodeMetadata.TheVariants.{Group, Array}
 use Rattle.zarrs_block.specs.Block.{Block, IsAscending, HasValidKeys, Entries, entry}
-use Rattle.zarrs_block.specs.Expanded.{HaveOwnPaths, paired, paths_at}
+use Rattle.zarrs_block.specs.BlockExpansion.{HaveOwnPaths, pairs_at, paths_at}
 use Rattle.zarrs_block.specs.Small.{is_document_v2, stretches}
-use Rattle.zarrs_block.specs.Zmetadata.{before_last, attributes_written, node_written, nodes_written, put_documents, documents_written, node_at, document_written, WrittenHoldsDocuments}
+use Rattle.zarrs_block.specs.Zmetadata.{before_last, attributes_written, node_written, nodes_written, put_documents, documents_written, zmetadata_tree, node_at, document_written, HoldsDocuments, IsWrittenOf, WrittenHoldsDocuments}
 use Rattle.zarrs_block.proofs.Expansion.{entries_listed, own_paths}
 use Rattle.zarrs_block.proofs.SmallStores.{before_last-child, same_key, own_key}
 use Rattle.zarrs_block.proofs.SmallLaws.{stretches_of, got_member}
@@ -160,7 +160,7 @@ listed_found p m (e ∷ es) apart (suc k, l, is) = by (eq_by_cmp path_cmp p e.0)
 
 -- the pairs of a block below the root
 abbrev pub pairs : Block → List (Path × NodeMetadata)
-pairs B = paired (paths_at [] B B) B
+pairs B = pairs_at (paths_at [] B B) B
 
 module _ (B : Block) (up : IsAscending B) (valid : HasValidKeys B) where
   -- what is listed is an entry
@@ -247,4 +247,12 @@ pub written_holds_documents : WrittenHoldsDocuments
 written_holds_documents g B up valid = record {
   documents = found_documents B up valid g;
   no_others = λ t s. named_of t (documents_written g B) (nodes_named (([], Group (group_v2 g)) ∷ pairs B) (refl, pairs_have_paths B up valid)) s;
+}
+
+-- so does a document that was written of a copy of the block
+pub written_by : (g : GroupMetadataV2) (B C : Block) (d : Data) → C ≡ B → IsAscending C → HasValidKeys C → d ≡ zmetadata_tree g B → IsWrittenOf g B d
+written_by g B C d copied up valid is = record {
+  members = documents_written g B;
+  is = is;
+  holds = subst (λ X. HoldsDocuments g X (documents_written g X)) copied (written_holds_documents g C up valid);
 }

@@ -1,5 +1,5 @@
 -- The passes of the reader of `.zmetadata`: the names of members, the documents put at the texts of their paths, and the nodes read from them.
-use Rattle.std.proofs.Common.{◌≡◌, ℕ, Bool, true, false, true≢false, not, ◌&&◌, cond, if◌then◌else◌, List, [], ◌∷◌, ◌++◌, length, Option, Some, None, IsSome, IfSome, Result, Ok, Err, IfOk, IfErr, String, Global, string_bytes, string_cmp, Less, is_eq, IsTrue, codes, refl, sym, ap, subst, ◌∙◌}
+use Rattle.std.proofs.Common.{◌≡◌, ◌⊎◌, inl, inr, ℕ, Bool, true, false, true≢false, not, ◌&&◌, cond, if◌then◌else◌, List, [], ◌∷◌, ◌++◌, length, Option, Some, None, IsSome, IfSome, Result, Ok, Err, IfOk, IfErr, String, Global, string_bytes, string_cmp, Less, is_eq, IsTrue, codes, refl, sym, ap, subst, ◌∙◌}
 use Rattle.std.specs.Prelude.{◌==◌, is_some, option_and_then}
 use Rattle.std.specs.List.{list_all, filter, AllByRecursion}
 use Rattle.std.specs.List.Sorted.{IsStrictlySortedBy}
@@ -22,16 +22,16 @@ use Rattle.zarrs_store.proofs.ChildLemmas.{last_segment-child}
 use Rattle.zarrs_store.proofs.Cuts.{parts_one, parts_some, nonempty_is}
 use Rattle.zarrs_path.specs.Names.{is_name, is_node_name}
 use Rattle.zarrs_path.specs.Paths.{IsPath}
-use Rattle.zarrs_form.specs.Documents.{Gives, Refuses, document_of, formed, present, required}
+use Rattle.zarrs_form.specs.Documents.{Gives, Refuses, document_of, form_or_fault, member_or_fault, required_member}
 use Rattle.zarrs_form.specs.Documents as steps
 use Rattle.zarrs_form.specs.Forms.{is_nil}
 use Rattle.zarrs_form.proofs.PlainForms.{member_fits}
 use Rattle.zarrs_block.proofs.BlockLaws.{formed_some, without_floats_at}
 use Rattle.zarrs_meta.specs.declared.node.NodeMetadata.{NodeMetadata}
-use Rattle.zarrs_block.specs.Block.{Block, IsAscending, found, put}
-use Rattle.zarrs_block.specs.Small.{is_document_v2, stretches, counted}
-use Rattle.zarrs_block.specs.Zmetadata.{one, before_last, below, small_block, zmetadata_members, zmetadata_of, HoldsStore, IsClean}
-use Rattle.zarrs_block.specs.ZmetadataRead.{file_name, is_file, member_at, first_tree, paths, run_tree, tree_among, RunsAscend, read_files, tree_in, is_below, IsPlace, are_named, RefusesNames, HaveNoFloat, HoldsNodes, RefusesTrees, zmetadata_taken}
+use Rattle.zarrs_block.specs.Block.{Block, IsAscending, node_at_key, put}
+use Rattle.zarrs_block.specs.Small.{is_document_v2, stretches, counted_members}
+use Rattle.zarrs_block.specs.Zmetadata.{one, before_last, documents_below, small_block, zmetadata_members, zmetadata_of, HoldsStore, IsClean, IsZmetadataFault}
+use Rattle.zarrs_block.specs.StepsOfZmetadata.{file_name, is_file, member_at, first_tree, paths, run_tree, tree_among, RunsAscend, read_files, tree_in, is_below_group, IsPlace, are_named, RefusesNames, HaveNoFloat, HoldsNodes, RefusesTrees, zmetadata_taken}
 use Rattle.zarrs_block.specs.declared.consolidated.ConsolidatedMetadata.{ConsolidatedMetadata}
 use Rattle.zarrs_block.specs.declared.zmetadata.Documents.{Documents}
 use Rattle.zarrs_block.specs.declared.zmetadata.Run.{Run}
@@ -41,7 +41,7 @@ use Rattle.zarrs_block.proofs.Expansion.{at_itself, same_text}
 use Rattle.zarrs_block.proofs.LastSlash.{IsCutText}
 use Rattle.zarrs_block.proofs.Runs.{first_none}
 use Rattle.zarrs_block.proofs.Puts.{found_put, put_ascends, none_ascend}
-use Rattle.zarrs_block.proofs.SmallBlocks.{block_is, names_refused, trees_refused, store_law, ascending_law}
+use Rattle.zarrs_block.proofs.SmallBlocks.{block_is, names_refused, trees_refused, store_law, refused_law, ascending_law}
 use Rattle.zarrs_block.proofs.SmallStores.{before_last-child, parts_child}
 
 -- ---- the names of members
@@ -81,7 +81,7 @@ module _ (path name : List ℕ) (clean : IsTrue (has_no_slash name)) where
   front_is = ap before_last (parts_child path name clean) ∙ before_last-child (stretches path) name
 
 -- a text without a slash does not count below the group
-pub whole_not_below : (t : List ℕ) → IsTrue (has_no_slash t) → is_below t ≡ false
+pub whole_not_below : (t : List ℕ) → IsTrue (has_no_slash t) → is_below_group t ≡ false
 whole_not_below t clean = ap (λ ps. is_document_v2 (last_segment ps) && not (is_nil (before_last ps))) (parts_one t clean) ∙ by (is_document_v2 t)
   where
     by : (b : Bool) → (b && false) ≡ false
@@ -89,13 +89,13 @@ whole_not_below t clean = ap (λ ps. is_document_v2 (last_segment ps) && not (is
     by false = refl
 
 -- nor does one whose last part is no file
-pub other_not_below : (t path name : List ℕ) → IsCutText t path name → is_document_v2 name ≡ false → is_below t ≡ false
+pub other_not_below : (t path name : List ℕ) → IsCutText t path name → is_document_v2 name ≡ false → is_below_group t ≡ false
 other_not_below t path name cut none =
-    ap is_below cut.cut ∙ and_left (is_document_v2 (last_segment (stretches (path ++ 47 ∷ name)))) (not (is_nil (before_last (stretches (path ++ 47 ∷ name)))))
+    ap is_below_group cut.cut ∙ and_left (is_document_v2 (last_segment (stretches (path ++ 47 ∷ name)))) (not (is_nil (before_last (stretches (path ++ 47 ∷ name)))))
     (ap is_document_v2 (last_is path name cut.clean) ∙ none)
 
 -- a file behind a slash counts
-file_below : (t : List ℕ) (file : File) → is_below (t ++ 47 ∷ file_name file) ≡ true
+file_below : (t : List ℕ) (file : File) → is_below_group (t ++ 47 ∷ file_name file) ≡ true
 file_below t file =
     and_from (is_document_v2 (last_segment (stretches (t ++ 47 ∷ file_name file)))) (not (is_nil (before_last (stretches (t ++ 47 ∷ file_name file)))))
     (ap is_document_v2 (last_is t (file_name file) (file_clean file)) ∙ file_counts file)
@@ -103,21 +103,21 @@ file_below t file =
 
 -- a file below what are no names is refused
 pub place_refused : (t path name : List ℕ) (file : File) → IsCutText t path name → name ≡ file_name file → list_all is_name (stretches path) ≡ false
-    → (is_below t ≡ true) × (list_all is_name (before_last (stretches t)) ≡ false)
+    → (is_below_group t ≡ true) × (list_all is_name (before_last (stretches t)) ≡ false)
 place_refused t path name file cut is none = (
-  ap is_below (cut.cut ∙ ap (λ n. path ++ 47 ∷ n) is) ∙ file_below path file,
+  ap is_below_group (cut.cut ∙ ap (λ n. path ++ 47 ∷ n) is) ∙ file_below path file,
   ap (λ u. list_all is_name (before_last (stretches u))) cut.cut ∙ ap (list_all is_name) (front_is path name cut.clean) ∙ none,
 )
 
 -- with one more member in front, the names are those of nodes where its own is, if it counts, and the others are
-named_cons : (u : List ℕ) (d : Data) (ms : Members) → are_named (member u d ms) ≡ (if is_below u then list_all is_name (before_last (stretches u)) && are_named ms else are_named ms)
+named_cons : (u : List ℕ) (d : Data) (ms : Members) → are_named (member u d ms) ≡ (if is_below_group u then list_all is_name (before_last (stretches u)) && are_named ms else are_named ms)
 named_cons u d ms = by (is_document_v2 (last_segment (stretches u))) (is_nil (before_last (stretches u))) refl
   where
     by : (x y : Bool) → is_nil (before_last (stretches u)) ≡ y
-        → list_all (λ e. list_all is_name (before_last e.0)) (filter (λ e. not (is_nil (before_last e.0))) (if x then (stretches u, d) ∷ counted ms else counted ms))
+        → list_all (λ e. list_all is_name (before_last e.0)) (filter (λ e. not (is_nil (before_last e.0))) (if x then (stretches u, d) ∷ counted_members ms else counted_members ms))
         ≡ (if x && not y then list_all is_name (before_last (stretches u)) && are_named ms else are_named ms)
-    by true true is = ap (λ b. list_all (λ (e : Segments × Data). list_all is_name (before_last e.0)) (cond (not b) ((stretches u, d) ∷ below ms) (below ms))) is
-    by true false is = ap (λ b. list_all (λ (e : Segments × Data). list_all is_name (before_last e.0)) (cond (not b) ((stretches u, d) ∷ below ms) (below ms))) is
+    by true true is = ap (λ b. list_all (λ (e : Segments × Data). list_all is_name (before_last e.0)) (cond (not b) ((stretches u, d) ∷ documents_below ms) (documents_below ms))) is
+    by true false is = ap (λ b. list_all (λ (e : Segments × Data). list_all is_name (before_last e.0)) (cond (not b) ((stretches u, d) ∷ documents_below ms) (documents_below ms))) is
     by false y is = refl
 
 -- ---- the documents at the texts of their paths
@@ -146,12 +146,12 @@ module _ (ms : Members) (got : Gathered) (left : List Entry) (e : Entry) (es : L
   before = subst (IsGathered ms got) is h
 
   -- a member that does not count is passed over
-  pub passed_over : is_below (string_bytes e.0) ≡ false → IsGathered ms got es
+  pub passed_over : is_below_group (string_bytes e.0) ≡ false → IsGathered ms got es
   passed_over none = record {
     up = sorted_tail string_cmp e.0 (keys_of es) before.up;
     here = λ t file.
         before.here t file
-        ∙ ap (λ o. first_tree o (got t file)) (member_later (t ++ 47 ∷ file_name file) e es (λ same. true≢false (sym (file_below t file) ∙ ap is_below same ∙ none)));
+        ∙ ap (λ o. first_tree o (got t file)) (member_later (t ++ 47 ∷ file_name file) e es (λ same. true≢false (sym (file_below t file) ∙ ap is_below_group same ∙ none)));
     named =
         before.named ∙ named_cons (string_bytes e.0) (view e.1) (members_view es)
         ∙ ap (λ b. if b then list_all is_name (before_last (stretches (string_bytes e.0))) && are_named (members_view es) else are_named (members_view es)) none;
@@ -165,7 +165,7 @@ module _ (ms : Members) (got : Gathered) (left : List Entry) (e : Entry) (es : L
     here = λ t other. before.here t other ∙ by t other (bytes_eq path t && is_file file other) refl;
     named =
         before.named ∙ named_cons (string_bytes e.0) (view e.1) (members_view es)
-        ∙ ap (λ b. if b then list_all is_name (before_last (stretches (string_bytes e.0))) && are_named (members_view es) else are_named (members_view es)) (ap is_below name ∙ file_below path file)
+        ∙ ap (λ b. if b then list_all is_name (before_last (stretches (string_bytes e.0))) && are_named (members_view es) else are_named (members_view es)) (ap is_below_group name ∙ file_below path file)
         ∙ ap (λ b. b && are_named (members_view es)) (ap (λ u. list_all is_name (before_last (stretches u))) name ∙ ap (list_all is_name) (front_is path (file_name file) (file_clean file)) ∙ valid);
   }
     where
@@ -216,8 +216,8 @@ left_at (run ∷ left) t = cond (is_of t run) (Some run.documents) (left_at left
 pub record IsRead (at : List ℕ → File → Option Data) (B : Block) (left : List Run) : Type 0 where
   pub up : RunsAscend left
   pub ascending : IsAscending B
-  pub apart : (t : List ℕ) → IsSome (left_at left t) → found B t ≡ None
-  pub here : (t : List ℕ) → result_ok (read_files (at t)) ≡ now_at (found B t) (left_at left t)
+  pub apart : (t : List ℕ) → IsSome (left_at left t) → node_at_key B t ≡ None
+  pub here : (t : List ℕ) → result_ok (read_files (at t)) ≡ now_at (node_at_key B t) (left_at left t)
   pub fit : AllByRecursion (λ run. HaveNoFloat (tree_in run.documents)) left
 
 -- nothing is left where the first documents were
@@ -293,16 +293,16 @@ module _ (at : List ℕ → File → Option Data) (B : Block) (left : List Run) 
   none_more : (t : List ℕ) → is_of t run ≡ true → left_at runs t ≡ None
   none_more t here = ap (left_at runs) (same_text t (string_bytes run.path) here) ∙ none_left (string_bytes run.path) runs (sorted_head bytes_cmp (string_bytes run.path) (paths runs) then_read.up)
 
-  module _ (C : Block) (o : Option NodeMetadata) (reads : result_ok (read_files (tree_in run.documents)) ≡ Some o) (fresh : (t : List ℕ) → found C t ≡ cond (is_of t run) o (found B t)) where
+  module _ (C : Block) (o : Option NodeMetadata) (reads : result_ok (read_files (tree_in run.documents)) ≡ Some o) (fresh : (t : List ℕ) → node_at_key C t ≡ cond (is_of t run) o (node_at_key B t)) where
     -- what is read at each text is in the block, or left
-    here_next : (t : List ℕ) (b : Bool) → is_of t run ≡ b → result_ok (read_files (at t)) ≡ now_at (cond b o (found B t)) (left_at runs t)
+    here_next : (t : List ℕ) (b : Bool) → is_of t run ≡ b → result_ok (read_files (at t)) ≡ now_at (cond b o (node_at_key B t)) (left_at runs t)
     here_next t true at =
-        then_read.here t ∙ ap (λ b. now_at (found B t) (cond b (Some run.documents) (left_at runs t))) at ∙ reads
+        then_read.here t ∙ ap (λ b. now_at (node_at_key B t) (cond b (Some run.documents) (left_at runs t))) at ∙ reads
         ∙ ap (now_at o) (sym (none_more t at))
-    here_next t false at = then_read.here t ∙ ap (λ b. now_at (found B t) (cond b (Some run.documents) (left_at runs t))) at
+    here_next t false at = then_read.here t ∙ ap (λ b. now_at (node_at_key B t) (cond b (Some run.documents) (left_at runs t))) at
 
     -- and the block has nothing where documents are left
-    apart_next : (t : List ℕ) → IsSome (left_at runs t) → (b : Bool) → is_of t run ≡ b → cond b o (found B t) ≡ None
+    apart_next : (t : List ℕ) → IsSome (left_at runs t) → (b : Bool) → is_of t run ≡ b → cond b o (node_at_key B t) ≡ None
     apart_next t some true at = absurd (true≢false (sym some ∙ ap is_some (none_more t at)))
     apart_next t some false at = then_read.apart t (some_left (is_of t run) run.documents (left_at runs t) some)
 
@@ -320,25 +320,25 @@ module _ (at : List ℕ → File → Option Data) (B : Block) (left : List Run) 
   pub read_none : result_ok (read_files (tree_in run.documents)) ≡ Some None → IsRead at B runs
   read_none reads = read_on B None reads (λ t. sym (by t (is_of t run) refl)) then_read.ascending
     where
-      by : (t : List ℕ) (b : Bool) → is_of t run ≡ b → cond b None (found B t) ≡ found B t
+      by : (t : List ℕ) (b : Bool) → is_of t run ≡ b → cond b None (node_at_key B t) ≡ node_at_key B t
       by t true at = sym (then_read.apart t (ap (λ b. is_some (cond b (Some run.documents) (left_at runs t))) at))
       by t false at = refl
 
   -- the node that they are is put at their text
   pub read_some : (C : Block) (m : NodeMetadata) → result_ok (read_files (tree_in run.documents)) ≡ Some (Some m) → C ≡ put (string_bytes run.path) m B → IsRead at C runs
   read_some C m reads new =
-      read_on C (Some m) reads (λ t. ap (λ D. found D t) new ∙ found_put t (string_bytes run.path) m B)
+      read_on C (Some m) reads (λ t. ap (λ D. node_at_key D t) new ∙ found_put t (string_bytes run.path) m B)
       (subst IsAscending (sym new) (put_ascends (string_bytes run.path) m B then_read.ascending))
 
   -- where they do not read, the documents at some text do not
   not_read : result_ok (read_files (tree_in run.documents)) ≡ None → (t : List ℕ) × (result_ok (read_files (at t)) ≡ None)
-  not_read none = (string_bytes run.path, then_read.here (string_bytes run.path) ∙ ap (λ b. now_at (found B (string_bytes run.path)) (cond b (Some run.documents) (left_at runs (string_bytes run.path)))) (at_itself (string_bytes run.path)) ∙ none)
+  not_read none = (string_bytes run.path, then_read.here (string_bytes run.path) ∙ ap (λ b. now_at (node_at_key B (string_bytes run.path)) (cond b (Some run.documents) (left_at runs (string_bytes run.path)))) (at_itself (string_bytes run.path)) ∙ none)
 
   -- the refusal of a reading is one of the documents
-  pub refused_node : (fault : MetadataFault) → Refuses fault (formed (codes "metadata") (result_ok (read_files (tree_in run.documents)))) → RefusesTrees at fault
+  pub refused_node : (fault : MetadataFault) → Refuses fault (form_or_fault (codes "metadata") (result_ok (read_files (tree_in run.documents)))) → RefusesTrees at fault
   refused_node fault refused = by (result_ok (read_files (tree_in run.documents))) refl fault refused
     where
-      by : (o : Option (Option NodeMetadata)) → result_ok (read_files (tree_in run.documents)) ≡ o → (fault : MetadataFault) → Refuses fault (formed (codes "metadata") o) → RefusesTrees at fault
+      by : (o : Option (Option NodeMetadata)) → result_ok (read_files (tree_in run.documents)) ≡ o → (fault : MetadataFault) → Refuses fault (form_or_fault (codes "metadata") o) → RefusesTrees at fault
       by (Some x) none NotJson refused = cc
       by (Some x) none UnsupportedNumber refused = cc
       by (Some x) none NotAnObject refused = cc
@@ -357,7 +357,7 @@ module _ (at : List ℕ → File → Option Data) (B : Block) (left : List Run) 
       by None none OutOfMemory refused = tt
 
 -- where none is left, all are read
-pub all_nodes : (at : List ℕ → File → Option Data) (B : Block) (left : List Run) → left ≡ [] → IsRead at B left → HoldsNodes at (found B)
+pub all_nodes : (at : List ℕ → File → Option Data) (B : Block) (left : List Run) → left ≡ [] → IsRead at B left → HoldsNodes at (node_at_key B)
 all_nodes at B left is h = let done : IsRead at B [] = subst (IsRead at B) is h in λ t. done.here t
 
 -- ---- refusals
@@ -403,7 +403,7 @@ module _ (ms : Members) where
     same_files t = ap (λ (f : File → Option Data). result_ok (read_files f)) (λ i file. sym (whole t file) i)
 
     -- the block that was read is that of the members, and a refusal is theirs
-    pub gives_nodes : (r : Result Block MetadataFault) → IfOk r (λ B. HoldsNodes at (found B)) → IfOk r IsAscending → IfErr r (RefusesTrees at) → Gives (λ B. B) r (small_block ms)
+    pub gives_nodes : (r : Result Block MetadataFault) → IfOk r (λ B. HoldsNodes at (node_at_key B)) → IfOk r IsAscending → IfErr r (RefusesTrees at) → Gives (λ B. B) r (small_block ms)
     gives_nodes (Ok B) nodes up refused = block_is ms B named up (λ t. same_files t ∙ nodes t)
     gives_nodes (Err NotJson) nodes up refused = absurd refused
     gives_nodes (Err UnsupportedNumber) nodes up refused = absurd refused
@@ -418,11 +418,11 @@ module _ (ms : Members) where
 
 -- once its members are told, the rest of a document is read of them
 taken_by : (d : Data) (r : Result Members MetadataFault) (ms : Members) → r ≡ Ok ms
-    → steps.◌>>=◌ (steps.◌>>=◌ r λ _. steps.◌>>=◌ (required (codes "zarr_consolidated_format") one d) λ _. required (codes "metadata") as_object d) small_block ≡ zmetadata_taken d
-taken_by d (Ok ns) ms is = by (required (codes "zarr_consolidated_format") one d)
+    → steps.◌>>=◌ (steps.◌>>=◌ r λ _. steps.◌>>=◌ (required_member (codes "zarr_consolidated_format") one d) λ _. required_member (codes "metadata") as_object d) small_block ≡ zmetadata_taken d
+taken_by d (Ok ns) ms is = by (required_member (codes "zarr_consolidated_format") one d)
   where
-    by : (q : Result (Unit {0}) MetadataFault) → steps.◌>>=◌ (steps.◌>>=◌ q λ _. required (codes "metadata") as_object d) small_block
-        ≡ (steps.◌>>=◌ q λ _. steps.◌>>=◌ (required (codes "metadata") as_object d) small_block)
+    by : (q : Result (Unit {0}) MetadataFault) → steps.◌>>=◌ (steps.◌>>=◌ q λ _. required_member (codes "metadata") as_object d) small_block
+        ≡ (steps.◌>>=◌ q λ _. steps.◌>>=◌ (required_member (codes "metadata") as_object d) small_block)
     by (Ok x) = refl
     by (Err e) = refl
 taken_by d (Err e) ms is = cc
@@ -436,10 +436,10 @@ no_float_of ms reads = by (members_have_float ms) refl
     by true some = let bad : Err UnsupportedNumber ≡ Ok ms = sym (ap (λ b. if b then Err UnsupportedNumber else Ok ms) some) ∙ reads in cc
 
 -- nor have the members that a document has to have
-pub no_float_in : (ms ns : Members) → document_of (object ms) ≡ Ok ms → required (codes "metadata") as_object (object ms) ≡ Ok ns → members_have_float ns ≡ false
+pub no_float_in : (ms ns : Members) → document_of (object ms) ≡ Ok ms → required_member (codes "metadata") as_object (object ms) ≡ Ok ns → members_have_float ns ≡ false
 no_float_in ms ns reads is = by (get_member (codes "metadata") ms) refl is
   where
-    by : (o : Option Data) → get_member (codes "metadata") ms ≡ o → steps.◌>>=◌ (present (codes "metadata") o) (λ d. formed (codes "metadata") (as_object d)) ≡ Ok ns → members_have_float ns ≡ false
+    by : (o : Option Data) → get_member (codes "metadata") ms ≡ o → steps.◌>>=◌ (member_or_fault (codes "metadata") o) (λ d. form_or_fault (codes "metadata") (as_object d)) ≡ Ok ns → members_have_float ns ≡ false
     by None at e = cc
     by (Some d) at e = without_floats_at (codes "metadata") ms d ns (no_float_of ms reads) at (formed_some (codes "metadata") (as_object d) ns e)
 
@@ -456,7 +456,7 @@ taken_is d ms is = taken_by d (document_of d) ms is
 document_faults : (d : Data) (f : MetadataFault) → document_of d ≡ Err f → zmetadata_of d ≡ Err f
 unfolding zmetadata_of
 document_faults d f e =
-    ap (λ (r : Result Members MetadataFault). steps.◌>>=◌ (steps.◌>>=◌ r λ _. steps.◌>>=◌ (required (codes "zarr_consolidated_format") one d) λ _. required (codes "metadata") as_object d) small_block) e
+    ap (λ (r : Result Members MetadataFault). steps.◌>>=◌ (steps.◌>>=◌ r λ _. steps.◌>>=◌ (required_member (codes "zarr_consolidated_format") one d) λ _. required_member (codes "metadata") as_object d) small_block) e
 
 module _ (d : Data) where
   -- what refuses the members refuses the document
@@ -473,6 +473,23 @@ module _ (d : Data) where
       → IfOk r (λ block. (ms : Members) × (zmetadata_members d ≡ Ok ms) × HoldsStore ms block.metadata × IsClean ms)
   gives_store (Ok block) gives = store_law d block.metadata gives
   gives_store (Err fault) gives = tt
+
+  -- a fault is that of the document
+  fault_shown : (fault : MetadataFault) → Refuses fault (zmetadata_of d) → (fault ≡ OutOfMemory) ⊎ IsZmetadataFault d fault
+  fault_shown OutOfMemory h = inl refl
+  fault_shown NotJson h = inr (refused_law d NotJson h)
+  fault_shown UnsupportedNumber h = inr (refused_law d UnsupportedNumber h)
+  fault_shown NotAnObject h = inr (refused_law d NotAnObject h)
+  fault_shown WrongFormat h = inr (refused_law d WrongFormat h)
+  fault_shown WrongNodeType h = inr (refused_law d WrongNodeType h)
+  fault_shown (MissingMember name) h = inr (refused_law d (MissingMember name) h)
+  fault_shown (BadMember name) h = inr (refused_law d (BadMember name) h)
+
+  -- so is what refused the reading
+  pub gives_fault : (r : Result ConsolidatedMetadata MetadataFault) → Gives (λ block. block.metadata) r (zmetadata_of d)
+      → IfErr r (λ fault. (fault ≡ OutOfMemory) ⊎ IsZmetadataFault d fault)
+  gives_fault (Ok block) gives = tt
+  gives_fault (Err fault) gives = fault_shown fault gives
 
   -- and its keys ascend
   pub gives_ascending : (r : Result ConsolidatedMetadata MetadataFault) → Gives (λ block. block.metadata) r (zmetadata_of d) → IfOk r (λ block. IsAscending block.metadata)

@@ -1,5 +1,5 @@
 -- Zarr core specification 3.1, "Group metadata", the field `consolidated_metadata` in the form of zarr-python: blocks of metadata, and what their keys mean below a base.
---     Block, found B t, put t m B      texts with metadata; what a block has at a text; the block with one more
+--     Block, node_at_key B t, put t m B      texts with metadata; what a block has at a text; the block with one more
 --     IsValidKey t, HasValidKeys B      what a block may have as a key; that each key is such
 --     entry B ns, Entries B b      what a block has for the path that is ns beyond the base; all pairs below b that it has
 --     IsBlockOf N b B      B holds exactly the pairs of N, each at its names beyond b
@@ -14,7 +14,7 @@ use Rattle.std.specs.List.Sorted.{IsStrictlySortedBy}
 use Rattle.zarrs_store.specs.Segments.{bytes_cmp, key_text}
 use Rattle.zarrs_fault.specs.declared.fault.MetadataFault.{MetadataFault}
 use Rattle.zarrs_path.specs.Paths.{Path, IsPath}
-use Rattle.zarrs_form.specs.Documents.{document_of, required, optional}
+use Rattle.zarrs_form.specs.Documents.{document_of, required_member, optional_member}
 use Rattle.zarrs_form.specs.Documents as steps
 use Rattle.zarrs_form.specs.Forms.{◌>>=◌}
 use Rattle.zarrs_meta.specs.Node.{node_of, node_tree, is_plain_node}
@@ -29,8 +29,8 @@ abbrev pub IsAscending : Block → Type 0
 IsAscending B = IsStrictlySortedBy bytes_cmp (keys_of B)
 
 -- what the block has at a text
-abbrev pub found : Block → List ℕ → Option NodeMetadata
-found B t = lookup (is_at (bytes_cmp t)) B
+abbrev pub node_at_key : Block → List ℕ → Option NodeMetadata
+node_at_key B t = lookup (is_at (bytes_cmp t)) B
 
 -- the block with metadata at a text, in the place of those that it had there
 abbrev pub put : List ℕ → NodeMetadata → Block → Block
@@ -44,7 +44,7 @@ IsValidKey t = (ns : Path) × IsPath ns × ((t ≡ key_text ns) ⊎ (t ≡ 47 �
 
 -- each key of the block is valid
 abbrev pub HasValidKeys : Block → Type 0
-HasValidKeys B = (t : List ℕ) → IsSome (found B t) → IsValidKey t
+HasValidKeys B = (t : List ℕ) → IsSome (node_at_key B t) → IsValidKey t
 
 -- the first, where there is one, and else the second
 abbrev pub first_some : Option NodeMetadata → Option NodeMetadata → Option NodeMetadata
@@ -53,7 +53,7 @@ first_some None other = other
 
 -- what the block has at the names joined by slashes, and where it has nothing there, behind one slash
 abbrev pub entry : Block → Path → Option NodeMetadata
-entry B ns = first_some (found B (key_text ns)) (found B (47 ∷ key_text ns))
+entry B ns = first_some (node_at_key B (key_text ns)) (node_at_key B (47 ∷ key_text ns))
 
 -- the paths below b, each with the entry of its names beyond b
 abbrev pub Entries : Block → Path → Path × NodeMetadata → Type 0
@@ -61,7 +61,7 @@ Entries B b e = (n : List ℕ) × (ns : Path) × IsPath (n ∷ ns) × (e.0 ≡ b
 
 -- the block holds exactly the pairs of N, each at the text of its names beyond b
 abbrev pub IsBlockOf : (Path × NodeMetadata → Type 0) → Path → Block → Type 0
-IsBlockOf N b B = (t : List ℕ) (m : NodeMetadata) → (found B t ≡ Some m) ↔ ((n : List ℕ) × (ns : Path) × (t ≡ key_text (n ∷ ns)) × N (b ++ n ∷ ns, m))
+IsBlockOf N b B = (t : List ℕ) (m : NodeMetadata) → (node_at_key B t ≡ Some m) ↔ ((n : List ℕ) × (ns : Path) × (t ≡ key_text (n ∷ ns)) × N (b ++ n ∷ ns, m))
 
 -- ---- reading
 
@@ -91,9 +91,9 @@ nodes d = option_and_then nodes_of (as_object d)
 unfoldable pub block_of : Data → Result Block MetadataFault
 block_of d =
     steps.◌>>=◌ (document_of d) λ _.
-    steps.◌>>=◌ (required (codes "kind") inline d) λ _.
-    steps.◌>>=◌ (optional (codes "must_understand") tt untrue d) λ _.
-    required (codes "metadata") nodes d
+    steps.◌>>=◌ (required_member (codes "kind") inline d) λ _.
+    steps.◌>>=◌ (optional_member (codes "must_understand") tt untrue d) λ _.
+    required_member (codes "metadata") nodes d
 
 -- ---- the written form
 

@@ -35,9 +35,9 @@ pub data Meaning : Type 0 where
   bad : NodeCreateError → Meaning
 
 -- a document as it was read, where a fault names the key
-abbrev pub named : {D : Type 0} → Segments → Result D MetadataFault → Result (Option D) StorageError
-named key (Ok d) = Ok (Some d)
-named key (Err fault) = Err (InvalidMetadata key fault)
+abbrev pub document_or_fault : {D : Type 0} → Segments → Result D MetadataFault → Result (Option D) StorageError
+document_or_fault key (Ok d) = Ok (Some d)
+document_or_fault key (Err fault) = Err (InvalidMetadata key fault)
 
 -- how what stands at the keys of a store reads as a document
 abbrev pub Reading : Type 0 → Type 1
@@ -54,7 +54,7 @@ in_trees D document = document
 -- the document of what stands at a key, or none where nothing stands there
 abbrev pub document_from : {V D : Type 0} → (V → Result D MetadataFault) → Segments → Option V → Result (Option D) StorageError
 document_from reading key None = Ok None
-document_from reading key (Some x) = named key (reading x)
+document_from reading key (Some x) = document_or_fault key (reading x)
 
 -- the document at a key of a store of bytes or of trees, or none where the key is absent
 unfoldable pub document_at : {V D : Type 0} → (V → Result D MetadataFault) → FinMap key_cmp V → Segments → Result (Option D) StorageError

@@ -1,5 +1,5 @@
 -- The version 2 convention of consolidated metadata (`.zmetadata`): a small store, which holds JSON trees at its keys in the place of bytes.
---     counted ms      the members that are documents of version 2, each at the segments of its name
+--     counted_members ms      the members that are documents of version 2, each at the segments of its name
 --     small b ms      the small store that they are, behind the names of a base
 --     small_meaning z p      what a path means in a small store
 use Rattle.std.specs.Prelude.{ℕ, ◌||◌, Bool, if◌then◌else◌, List, [], ◌∷◌, ◌++◌, bytes_eq, map}
@@ -29,10 +29,10 @@ abbrev pub stretches : List ℕ → Segments
 stretches t = slice_split is_slash t
 
 -- the members whose last segment names a document of version 2, each at the segments of its name
-abbrev pub counted : Members → List (Segments × Data)
-counted no_members = []
-counted (member t d ms) = if is_document_v2 (last_segment (stretches t)) then (stretches t, d) ∷ counted ms else counted ms
+abbrev pub counted_members : Members → List (Segments × Data)
+counted_members no_members = []
+counted_members (member t d ms) = if is_document_v2 (last_segment (stretches t)) then (stretches t, d) ∷ counted_members ms else counted_members ms
 
 -- the small store that the members are: each that counts, behind the names of a base
 abbrev pub small : Path → Members → SmallStore
-small b ms = from_entries {R = key_cmp} (map (λ e. (b ++ e.0, e.1)) (counted ms))
+small b ms = from_entries {R = key_cmp} (map (λ e. (b ++ e.0, e.1)) (counted_members ms))

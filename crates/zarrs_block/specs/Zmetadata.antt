@@ -1,10 +1,12 @@
 -- The version 2 convention of consolidated metadata, the document `.zmetadata` of a group (zarr-python, "Consolidated metadata"): how it is read as a block, and how it is written.
 --     zmetadata_of d      the block that a document is, or its first fault
---     HoldsStore, IsClean      what that block has and that nothing below the group is bad, as of any store
+--     HoldsStore, IsClean      what that block has and that nothing documents_below the group is bad, as of any store
+--     IsZmetadataFault d fault      what refuses a document
 --     zmetadata_tree g B      what is written of a group of version 2 and its block
+--     IsWrittenOf g B d      what that has at each key
 --     RefusesZmetadata      what refuses that
 --     HoldsDocuments, WrittenHoldsDocuments, WrittenReadsBack      what the written document has, and that it reads back
-use Rattle.std.specs.Prelude.{◌≡◌, ◌≢◌, ◌↔◌, ◌==◌, ℕ, Bool, true, false, not, ◌&&◌, if◌then◌else◌, List, [], ◌∷◌, ◌++◌, Option, Some, None, option_and_then, IsSome, Result, Ok, Err, All, IsTrue, bytes_eq, codes}
+use Rattle.std.specs.Prelude.{if◌then◌else◌, ◌≡◌, ◌≢◌, ◌⊎◌, ◌↔◌, ◌==◌, ℕ, Bool, true, false, not, ◌&&◌, List, [], ◌∷◌, ◌++◌, Option, Some, None, option_and_then, IsSome, Result, Ok, Err, All, IsTrue, bytes_eq, codes}
 use Rattle.std.specs.List.{list_all, filter}
 use Rattle.std.specs.Map.{lookup}
 use Rattle.serde_json.specs.Data.{Data, number, unsigned, object, Members, no_members, member, put as put_member}
@@ -15,7 +17,7 @@ use Rattle.zarrs_fault.specs.declared.fault.MetadataFault.TheVariants.{BadMember
 use Rattle.zarrs_path.specs.Keys.{zarray, zgroup, zattrs}
 use Rattle.zarrs_path.specs.Names.{is_name}
 use Rattle.zarrs_path.specs.Paths.{Path, IsPath}
-use Rattle.zarrs_form.specs.Documents.{document_of, required, is_empty}
+use Rattle.zarrs_form.specs.Documents.{document_of, required_member, is_empty}
 use Rattle.zarrs_form.specs.Documents as steps
 use Rattle.zarrs_form.specs.Forms.{number_u64, is_nil}
 use Rattle.zarrs_meta.specs.ArrayV2.{array_v2_tree}
@@ -27,11 +29,11 @@ use Rattle.zarrs_meta.specs.declared.node.GroupMetadata.TheVariants.{V2 as group
 use Rattle.zarrs_meta.specs.declared.node.NodeMetadata.{NodeMetadata}
 use Rattle.zarrs_meta.specs.declared.node.NodeMetadata.TheVariants.{Group, Array}
 use Rattle.zarrs_block.specs.Block.{Block, IsAscending, IsBlockOf, put, entry, Entries, HasValidKeys}
-use Rattle.zarrs_block.specs.Expanded.{RefusesKeys, paired, paths_at}
+use Rattle.zarrs_block.specs.BlockExpansion.{RefusesKeys, pairs_at, paths_at}
 use Rattle.zarrs_block.specs.declared.node_create_error.NodeCreateError.{NodeCreateError}
-use Rattle.zarrs_block.specs.declared.node_create_error.NodeCreateError.TheVariants.{MetadataVersionMismatch, OutOfMemory}
+use Rattle.zarrs_block.specs.declared.node_create_error.NodeCreateError.TheVariants.{MetadataVersionMismatch}
 use Rattle.zarrs_block.specs.Meaning.{Meaning, Means, node, nothing, bad}
-use Rattle.zarrs_block.specs.Small.{is_document_v2, counted, small, small_meaning}
+use Rattle.zarrs_block.specs.Small.{is_document_v2, counted_members, small, small_meaning}
 
 -- ---- reading
 
@@ -43,8 +45,8 @@ one d = option_and_then (λ n. if n == 1 then Some tt else None) (number_u64 d)
 abbrev pub zmetadata_members : Data → Result Members MetadataFault
 zmetadata_members d =
     steps.◌>>=◌ (document_of d) λ _.
-    steps.◌>>=◌ (required (codes "zarr_consolidated_format") one d) λ _.
-    required (codes "metadata") as_object d
+    steps.◌>>=◌ (required_member (codes "zarr_consolidated_format") one d) λ _.
+    required_member (codes "metadata") as_object d
 
 -- all segments but the last
 abbrev pub before_last : Segments → Segments
@@ -53,8 +55,8 @@ before_last (s ∷ []) = []
 before_last (s ∷ t ∷ ss) = s ∷ before_last (t ∷ ss)
 
 -- the documents that count below the group: those of the group itself have one segment alone
-abbrev pub below : Members → List (Segments × Data)
-below ms = filter (λ e. not (is_nil (before_last e.0))) (counted ms)
+abbrev pub documents_below : Members → List (Segments × Data)
+documents_below ms = filter (λ e. not (is_nil (before_last e.0))) (counted_members ms)
 
 -- the path is bad
 abbrev pub is_bad : Meaning → Bool
@@ -80,7 +82,7 @@ block_from of (e ∷ es) = with_node (before_last e.0) (of (before_last e.0)) (b
 -- the block of the nodes below the group, where none is bad
 abbrev pub small_block : Members → Result Block MetadataFault
 small_block ms =
-    if list_all (λ e. is_good (small_meaning (small [] ms)) e.0) (below ms) then Ok (block_from (small_meaning (small [] ms)) (below ms))
+    if list_all (λ e. is_good (small_meaning (small [] ms)) e.0) (documents_below ms) then Ok (block_from (small_meaning (small [] ms)) (documents_below ms))
     else Err (BadMember (codes "metadata"))
 
 -- the block that a document `.zmetadata` is, or its first fault
@@ -96,7 +98,13 @@ HoldsStore ms B = (b : Path) → IsBlockOf (Means (small_meaning (small b ms))) 
 -- below no base a path is bad in the small store behind it, and each document that counts stands below names
 pub record IsClean (ms : Members) : Type 0 where
   pub means : (b : Path) (n : List ℕ) (ns : Path) (e : NodeCreateError) → small_meaning (small b ms) (b ++ n ∷ ns) ≢ bad e
-  pub named : All (λ e. IsPath (before_last e.0)) (counted ms)
+  pub named : All (λ e. IsPath (before_last e.0)) (counted_members ms)
+
+-- the fault of a document that is no form of format 1; or its members are no clean store, and the fault is that of the member that has them
+abbrev pub IsZmetadataFault : Data → MetadataFault → Type 0
+IsZmetadataFault d fault =
+    (zmetadata_members d ≡ Err fault)
+    ⊎ ((ms : Members) × (zmetadata_members d ≡ Ok ms) × (IsClean ms → ⊥) × (fault ≡ BadMember (codes "metadata")))
 
 -- A document that reads as a block has members; the block holds the store that they are, in which nothing is bad, and the keys of the block ascend.
 abbrev pub ZmetadataHolds : Type 0
@@ -127,13 +135,15 @@ nodes_written (e ∷ es) = put_documents e.0 (node_written e.1) (nodes_written e
 
 -- the documents of a group of version 2, and of all entries of its block behind their names
 abbrev pub documents_written : GroupMetadataV2 → Block → Members
-documents_written g B = nodes_written (([], Group (group_v2 g)) ∷ paired (paths_at [] B B) B)
+documents_written g B = nodes_written (([], Group (group_v2 g)) ∷ pairs_at (paths_at [] B B) B)
+
+-- an object with these members and with the format
+abbrev pub zmetadata_with : Members → Data
+zmetadata_with ms = object (member (codes "metadata") (object ms) (member (codes "zarr_consolidated_format") (number (unsigned 1)) no_members))
 
 -- what is written of a group of version 2 and its block: an object with their documents and with the format
 abbrev pub zmetadata_tree : GroupMetadataV2 → Block → Data
-zmetadata_tree g B =
-    object (member (codes "metadata") (object (documents_written g B))
-    (member (codes "zarr_consolidated_format") (number (unsigned 1)) no_members))
+zmetadata_tree g B = zmetadata_with (documents_written g B)
 
 -- the node is of version 2
 abbrev pub is_version_2 : NodeMetadata → Bool
@@ -146,24 +156,12 @@ is_version_2 (Array (array_v3 m)) = false
 abbrev pub HasVersion2 : Block → Type 0
 HasVersion2 B = (e : Path × NodeMetadata) → Entries B [] e → IsTrue (is_version_2 e.1)
 
--- the node is of version 3, or memory was wanting
-abbrev pub RefusesNode : NodeMetadata → NodeCreateError → Type 0
-RefusesNode m MetadataVersionMismatch = is_version_2 m ≡ false
-RefusesNode m OutOfMemory = Unit {0}
-RefusesNode m _ = ⊥
-
--- some node is of version 3, or memory was wanting
-abbrev pub RefusesNodes : List (Path × NodeMetadata) → NodeCreateError → Type 0
-RefusesNodes es MetadataVersionMismatch = All (λ e. IsTrue (is_version_2 e.1)) es → ⊥
-RefusesNodes es OutOfMemory = Unit {0}
-RefusesNodes es _ = ⊥
-
--- a key of the block is not valid, and the error names its first part that is no name; or all are valid and an entry is of version 3; or memory was wanting
+-- a key of the block is not valid, and the error names its first part that is no name; or all are valid and an entry is of version 3; or out of memory
 abbrev pub RefusesZmetadata : Block → NodeCreateError → Type 0
 RefusesZmetadata B MetadataVersionMismatch = HasValidKeys B × (HasVersion2 B → ⊥)
 RefusesZmetadata B e = RefusesKeys B e
 
--- ---- laws of the written form
+-- ---- the written form, as what a store holds
 
 -- the node at some names: at none the group itself, and else the entry of the block
 abbrev pub node_at : GroupMetadataV2 → Block → Path → Option NodeMetadata
@@ -178,6 +176,14 @@ document_written file m = lookup (bytes_eq file) (node_written m)
 pub record HoldsDocuments (g : GroupMetadataV2) (B : Block) (ms : Members) : Type 0 where
   pub documents : (ns : Path) (file : List ℕ) → IsPath ns → IsTrue (is_document_v2 file) → get_member (key_text (ns ++ file ∷ [])) ms ≡ option_and_then (document_written file) (node_at g B ns)
   pub no_others : (t : List ℕ) → IsSome (get_member t ms) → (ns : Path) × (file : List ℕ) × IsPath ns × IsTrue (is_document_v2 file) × (t ≡ key_text (ns ++ file ∷ []))
+
+-- the document is an object with the format and with members that hold the documents of the group and of the block's entries
+pub record IsWrittenOf (g : GroupMetadataV2) (B : Block) (d : Data) : Type 0 where
+  pub members : Members
+  pub is : d ≡ zmetadata_with members
+  pub holds : HoldsDocuments g B members
+
+-- ---- laws of the written form
 
 -- what is written of a group and a block with valid keys holds their documents
 abbrev pub WrittenHoldsDocuments : Type 0

@@ -4,10 +4,10 @@ ghost use Rattle.std.specs.Result.{result_ok};
 ghost use Rattle.serde_json.specs.Data.{object};
 ghost use Rattle.serde_json.specs.View.{view, members_view};
 ghost use Rattle.serde_json.specs.Written.{has_float, members_have_float};
-ghost use Rattle.zarrs_form.specs.Documents.{Gives, document_of, formed, required, optional};
+ghost use Rattle.zarrs_form.specs.Documents.{Gives, document_of, form_or_fault, required_member, optional_member};
 ghost use Rattle.zarrs_form.specs.Forms.{is_nil};
 ghost use Rattle.zarrs_meta.specs.Node.{node_of};
-ghost use Rattle.zarrs_block.specs.Block.{IsAscending, found, put as put_node, inline, untrue, nodes_of, nodes, block_of, documents, block_tree};
+ghost use Rattle.zarrs_block.specs.Block.{IsAscending, node_at_key, put as put_node, inline, untrue, nodes_of, nodes, block_of, documents, block_tree};
 
 use crate::asked::asked_node;
 use serde_json::{Map, Value, put};
@@ -77,7 +77,7 @@ impl ConsolidatedMetadataMetadata {
 
     /// The metadata at a key, if there are any.
     pub fn get(&self, key: &str) -> Option<&NodeMetadata>
-        ensures { option_copied result ≡ found self.now key.now }
+        ensures { option_copied result ≡ node_at_key self.now key.now }
     {
         self.entries.get(key)
     }
@@ -98,9 +98,9 @@ impl ConsolidatedMetadataMetadata {
 
     /// Takes out the metadata at a key, and answers them where there were any.
     pub fn remove(&mut self, key: &str) -> Option<NodeMetadata>
-        ensures value { result ≡ found self.old key.now }
-        ensures gone { found self.new key.now ≡ None }
-        ensures others { (t : List ℕ) → t ≢ key.now → found self.new t ≡ found self.old t }
+        ensures value { result ≡ node_at_key self.old key.now }
+        ensures gone { node_at_key self.new key.now ≡ None }
+        ensures others { (t : List ℕ) → t ≢ key.now → node_at_key self.new t ≡ node_at_key self.old t }
         ensures ascending { IsAscending self.new }
     {
         self.entries.remove(key)
@@ -227,7 +227,7 @@ fn members_of(value: &Value) -> Result<&Map<String, Value>, MetadataFault>
 
 // Asks whether the member `kind` is the text `inline`.
 fn ask_kind(members: &Map<String, Value>) -> Result<(), MetadataFault>
-    ensures { result ≡ required (codes "kind") inline (object (members_view members.now.entries)) }
+    ensures { result ≡ required_member (codes "kind") inline (object (members_view members.now.entries)) }
 {
     let Some(kind) = member(members, "kind") else {
         return Err(MetadataFault::MissingMember(MemberName::new("kind")));
@@ -240,7 +240,7 @@ fn ask_kind(members: &Map<String, Value>) -> Result<(), MetadataFault>
 
 // Asks whether the member `must_understand` is false, or not there.
 fn ask_not_understood(members: &Map<String, Value>) -> Result<(), MetadataFault>
-    ensures { result ≡ optional (codes "must_understand") tt untrue (object (members_view members.now.entries)) }
+    ensures { result ≡ optional_member (codes "must_understand") tt untrue (object (members_view members.now.entries)) }
 {
     match member(members, "must_understand") {
         None | Some(Value::Bool(false)) => Ok(()),
@@ -254,7 +254,7 @@ fn metadata_of(
     members: &Map<String, Value>,
 ) -> Result<ConsolidatedMetadataMetadata, MetadataFault>
     requires { members_have_float (members_view members.now.entries) ≡ false }
-    ensures { Gives (λ all. all) result (required (codes "metadata") nodes (object (members_view members.now.entries))) }
+    ensures { Gives (λ all. all) result (required_member (codes "metadata") nodes (object (members_view members.now.entries))) }
 {
     let Some(value) = member(members, "metadata") else {
         return Err(MetadataFault::MissingMember(MemberName::new("metadata")));
@@ -271,7 +271,7 @@ fn nodes_of(
     documents: &Map<String, Value>,
 ) -> Result<ConsolidatedMetadataMetadata, MetadataFault>
     requires { members_have_float (members_view documents.now.entries) ≡ false }
-    ensures { Gives (λ all. all) result (formed (codes "metadata") (nodes_of (members_view documents.now.entries))) }
+    ensures { Gives (λ all. all) result (form_or_fault (codes "metadata") (nodes_of (members_view documents.now.entries))) }
 {
     let mut all = ConsolidatedMetadataMetadata::new(alloc);
     for (key, document) in documents.iter() {
@@ -284,7 +284,7 @@ fn nodes_of(
 // The node that a whole node document is.
 fn node_of(alloc: Global, document: &Value) -> Result<NodeMetadata, MetadataFault>
     requires { has_float (view document.now) ≡ false }
-    ensures { Gives (λ m. m) result (formed (codes "metadata") (result_ok (node_of (view document.now)))) }
+    ensures { Gives (λ m. m) result (form_or_fault (codes "metadata") (result_ok (node_of (view document.now)))) }
 {
     match asked_node(alloc, document) {
         Ok(node) => Ok(node),

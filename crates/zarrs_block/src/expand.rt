@@ -6,8 +6,9 @@ ghost use Rattle.zarrs_store.specs.Contents.{Lists};
 ghost use Rattle.zarrs_path.specs.PathErrors.{RefusesJoin};
 ghost use Rattle.zarrs_path.specs.Paths.{relative_names};
 ghost use Rattle.zarrs_form.specs.Forms.{is_nil};
-ghost use Rattle.zarrs_block.specs.Block.{Entries, HasValidKeys, IsAscending, IsValidKey, found};
-ghost use Rattle.zarrs_block.specs.Expanded.{RefusesKeys, HaveOwnPaths, IsPlainKey, is_covered, is_low, paths_at, paired};
+ghost use Rattle.zarrs_block.specs.Block.{Entries, HasValidKeys, IsAscending, IsValidKey, node_at_key};
+ghost use Rattle.zarrs_block.specs.BlockExpansion.{RefusesKeys, HaveOwnPaths, is_covered, paths_at, pairs_at};
+ghost use Rattle.zarrs_block.specs.StepsOfExpansion.{IsPlainKey, is_low};
 ghost use Rattle.zarrs_block.specs.Order.{Ascend};
 
 use crate::consolidated::{ConsolidatedMetadata, ConsolidatedMetadataMetadata};
@@ -52,7 +53,7 @@ pub(crate) fn pairs_of(
     path: &NodePath,
     block: ConsolidatedMetadata,
 ) -> Result<(Vec<(NodePath, NodeMetadata)>, bool), NodeCreateError>
-    ensures pairs { IfOk result (λ made. made.0.items ≡ paired (paths_at path.now block.metadata block.metadata) block.metadata) }
+    ensures pairs { IfOk result (λ made. made.0.items ≡ pairs_at (paths_at path.now block.metadata block.metadata) block.metadata) }
     ensures ascend { IfOk result (λ made. IsTrue made.1 → Ascend made.0.items) }
     ensures keys { IfOk result (λ _. HasValidKeys block.metadata) }
     ensures ordered { IfOk result (λ _. IsAscending block.metadata) }
@@ -78,7 +79,7 @@ fn covered_keys(
     alloc: Global,
     block: &ConsolidatedMetadataMetadata,
 ) -> Result<Map<String, ()>, AllocError>
-    ensures { IfOk result (λ covered. (t : List ℕ) → IsSome (found block.now t) → is_some (get_by_text covered t) ≡ is_covered block.now t) }
+    ensures { IfOk result (λ covered. (t : List ℕ) → IsSome (node_at_key block.now t) → is_some (get_by_text covered t) ≡ is_covered block.now t) }
 {
     let mut covered = Map::new(alloc);
     for key in keys_below(alloc, block, "")? {

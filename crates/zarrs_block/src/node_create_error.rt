@@ -26,7 +26,7 @@ pub enum NodeCreateError {
     /// No document stands at a path, whose text this holds.
     #[error("Metadata is missing for {0}")]
     MissingMetadata(String),
-    /// Memory was wanting.
+    /// Out of memory.
     #[error("out of memory")]
     OutOfMemory,
 }

@@ -1,6 +1,7 @@
 //! Whether a consolidated block stands in place of a listing.
-ghost use Rattle.std.specs.Prelude.{◌≡◌, Some, None, IfOk, IfErr, ◌⊎◌};
-ghost use Rattle.zarrs_block.specs.Used.{seen, fields_held, group_held, held, used, RefusesUse, LacksBlockMemory};
+ghost use Rattle.std.specs.Prelude.{◌≡◌, ◌⊎◌, Some, None, codes, IfOk, IfErr, IsErr, IsSome};
+ghost use Rattle.serde_json.specs.Find.{get_member};
+ghost use Rattle.zarrs_block.specs.Policy.{as_block, block_in_fields, group_field, block_in_group, block_field, block_in, block_to_use, RefusesUse, LacksBlockMemory};
 
 use crate::consolidated::ConsolidatedMetadata;
 use crate::node_create_error::NodeCreateError;
@@ -24,8 +25,8 @@ pub fn resolve_consolidated_policy(
     block: Option<ConsolidatedMetadata>,
     policy: UseConsolidatedMetadata,
 ) -> Result<Option<ConsolidatedMetadata>, NodeCreateError>
-    ensures ok { IfOk result (λ chosen. used (seen block) policy ≡ Some (seen chosen)) }
-    ensures err { IfErr result (RefusesUse path.now (used (seen block) policy)) }
+    ensures ok { IfOk result (λ chosen. block_to_use (as_block block) policy ≡ Some (as_block chosen)) }
+    ensures err { IfErr result (RefusesUse path.now (block_to_use (as_block block) policy)) }
 {
     match policy {
         UseConsolidatedMetadata::Never => Ok(None),
@@ -52,14 +53,15 @@ fn missing_block(alloc: Global, path: &NodePath) -> NodeCreateError
 ///
 /// # Errors
 ///
-/// `AllocError` where there is no memory for the block.
+/// `AllocError` where the group has the field and there is no memory for the block.
 ///
 /// Source: `zarrs::group::Group::consolidated_metadata`.
 pub fn consolidated_metadata_of(
     alloc: Global,
     group: &GroupMetadata,
 ) -> Result<Option<ConsolidatedMetadata>, AllocError>
-    ensures { IfOk result (λ block. seen block ≡ group_held group.now) }
+    ensures ok { IfOk result (λ block. as_block block ≡ block_in_group group.now) }
+    ensures err { IsErr result → IsSome (group_field group.now) }
 {
     match group {
         GroupMetadata::V3(group) => block_of_fields(alloc, &group.additional_fields),
@@ -72,7 +74,8 @@ fn block_of_fields(
     alloc: Global,
     fields: &AdditionalFieldsV3,
 ) -> Result<Option<ConsolidatedMetadata>, AllocError>
-    ensures { IfOk result (λ block. seen block ≡ fields_held fields.now) }
+    ensures ok { IfOk result (λ block. as_block block ≡ block_in_fields fields.now) }
+    ensures err { IsErr result → IsSome (get_member (codes "consolidated_metadata") fields.now) }
 {
     let Some(field) = fields.get("consolidated_metadata") else {
         return Ok(None);
@@ -89,7 +92,7 @@ fn block_of_fields(
 /// # Errors
 ///
 /// `MissingMetadata` where there is no block and the policy is `Must`, with a text that names the path.
-/// `OutOfMemory` where there is no memory for the block or for that text.
+/// `OutOfMemory` where there is no memory for that text, or for the block where the metadata have the field.
 ///
 /// Source: `zarrs::node::consolidated_metadata_for_open`.
 pub fn consolidated_metadata_for_open(
@@ -98,8 +101,8 @@ pub fn consolidated_metadata_for_open(
     metadata: &NodeMetadata,
     policy: UseConsolidatedMetadata,
 ) -> Result<Option<ConsolidatedMetadata>, NodeCreateError>
-    ensures ok { IfOk result (λ chosen. used (held metadata.now) policy ≡ Some (seen chosen)) }
-    ensures err { IfErr result (λ e. RefusesUse path.now (used (held metadata.now) policy) e ⊎ LacksBlockMemory policy e) }
+    ensures ok { IfOk result (λ chosen. block_to_use (block_in metadata.now) policy ≡ Some (as_block chosen)) }
+    ensures err { IfErr result (λ e. RefusesUse path.now (block_to_use (block_in metadata.now) policy) e ⊎ LacksBlockMemory metadata.now policy e) }
 {
     if let UseConsolidatedMetadata::Never = policy {
         return Ok(None);
@@ -113,7 +116,8 @@ fn held_block(
     alloc: Global,
     metadata: &NodeMetadata,
 ) -> Result<Option<ConsolidatedMetadata>, AllocError>
-    ensures { IfOk result (λ block. seen block ≡ held metadata.now) }
+    ensures ok { IfOk result (λ block. as_block block ≡ block_in metadata.now) }
+    ensures err { IsErr result → IsSome (block_field metadata.now) }
 {
     match metadata {
         NodeMetadata::Group(group) => consolidated_metadata_of(alloc, group),

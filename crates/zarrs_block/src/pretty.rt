@@ -1,7 +1,8 @@
 //! The written form of a block in the pretty layout.
 ghost use Rattle.std.specs.Prelude.{◌≡◌, ◌++◌, false, IfOk, OnOk, string_bytes};
 ghost use Rattle.serde_json.specs.Written.{has_float, members_have_float};
-ghost use Rattle.zarrs_form.specs.Pretty.{close_line, entries_text, pretty_text};
+ghost use Rattle.zarrs_form.specs.Pretty.{close_line, pretty_text};
+ghost use Rattle.zarrs_form.specs.StepsOfTexts.{entries_text};
 ghost use Rattle.zarrs_block.specs.Block.{block_tree, documents};
 
 use crate::consolidated::{ConsolidatedMetadata, ConsolidatedMetadataMetadata};

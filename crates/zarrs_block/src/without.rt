@@ -1,7 +1,8 @@
 //! A block without what it has at a path and below it.
 ghost use Rattle.std.specs.Prelude.{IfOk, OnOk, map, string_bytes};
 ghost use Rattle.zarrs_block.specs.Block.{IsAscending};
-ghost use Rattle.zarrs_block.specs.Without.{IsWithout, IsCutBy, AreBelow};
+ghost use Rattle.zarrs_block.specs.KeysAboutAPath.{IsWithout};
+ghost use Rattle.zarrs_block.specs.StepsOfKeys.{IsCutBy, AreKeysBelow};
 
 use crate::consolidated::ConsolidatedMetadataMetadata;
 use std::alloc::{AllocError, Global};
@@ -66,7 +67,7 @@ pub(crate) fn keys_below(
     block: &ConsolidatedMetadataMetadata,
     key: &str,
 ) -> Result<Vec<String>, AllocError>
-    ensures { IfOk result (λ keys. AreBelow key.now block.now (map string_bytes keys.items)) }
+    ensures { IfOk result (λ keys. AreKeysBelow key.now block.now (map string_bytes keys.items)) }
 {
     let first = format!(in alloc; "{key}/")?;
     let end = format!(in alloc; "{key}0")?;

@@ -1,5 +1,5 @@
 //! The version 2 document of consolidated metadata, `.zmetadata`, read as a block.
-ghost use Rattle.std.specs.Prelude.{◌≡◌, ℕ, List, [], false, IfOk, IfErr, IfSome, Ok, Some, None, ◌&&◌, if◌then◌else◌, codes, bytes_eq, string_bytes, IsTrue, option_map};
+ghost use Rattle.std.specs.Prelude.{◌≡◌, ◌⊎◌, ℕ, List, [], false, IfOk, IfErr, IfSome, Ok, Some, None, ◌&&◌, if◌then◌else◌, codes, bytes_eq, string_bytes, IsTrue, option_map};
 ghost use Rattle.std.specs.Result.{result_ok};
 ghost use Rattle.std.specs.List.{list_all};
 ghost use Rattle.std.specs.List.Sorted.{IsSortedBy};
@@ -8,18 +8,18 @@ ghost use Rattle.serde_json.specs.Find.{as_object};
 ghost use Rattle.serde_json.specs.View.{view, members_view};
 ghost use Rattle.serde_json.specs.Written.{has_float, members_have_float};
 ghost use Rattle.zarrs_path.specs.Names.{is_name};
-ghost use Rattle.zarrs_form.specs.Documents.{Gives, document_of, formed, required};
+ghost use Rattle.zarrs_form.specs.Documents.{Gives, document_of, form_or_fault, required_member};
 ghost use Rattle.zarrs_meta.specs.ArrayV2.{array_v2_of};
 ghost use Rattle.zarrs_meta.specs.GroupV2.{group_v2_of};
 ghost use Rattle.zarrs_meta.specs.Node.{array_with, group_with};
 ghost use Rattle.zarrs_meta.specs.declared.node.ArrayMetadata.TheVariants.{V2 as array_v2};
 ghost use Rattle.zarrs_meta.specs.declared.node.GroupMetadata.TheVariants.{V2 as group_v2};
 ghost use Rattle.zarrs_meta.specs.declared.node.NodeMetadata.TheVariants.{Group, Array};
-ghost use Rattle.zarrs_block.specs.Block.{IsAscending, found};
+ghost use Rattle.zarrs_block.specs.Block.{IsAscending, node_at_key};
 ghost use Rattle.zarrs_block.specs.Small.{stretches};
-ghost use Rattle.zarrs_block.specs.Zmetadata.{one, small_block, zmetadata_members, zmetadata_of, HoldsStore, IsClean};
+ghost use Rattle.zarrs_block.specs.Zmetadata.{one, small_block, zmetadata_members, zmetadata_of, HoldsStore, IsClean, IsZmetadataFault};
 ghost use Rattle.zarrs_block.specs.declared.zmetadata.File.{File};
-ghost use Rattle.zarrs_block.specs.ZmetadataRead.{is_file, is_before, member_at, first_tree, tree_in, tree_among, gathered_at, read_with, read_files, IsFile, IsPlace, are_named, RefusesNames, HaveNoFloat, HoldsNodes, IsJoined, RunsAscend, RefusesTrees, zmetadata_taken};
+ghost use Rattle.zarrs_block.specs.StepsOfZmetadata.{is_file, is_before, member_at, first_tree, tree_in, tree_among, gathered_at, read_with, read_files, IsFile, IsPlace, are_named, RefusesNames, HaveNoFloat, HoldsNodes, IsJoined, RunsAscend, RefusesTrees, zmetadata_taken};
 
 use crate::asked::{asked_array, asked_attributes, asked_group};
 use crate::consolidated::{ConsolidatedMetadata, ConsolidatedMetadataMetadata};
@@ -49,6 +49,8 @@ impl ConsolidatedMetadata {
     ) -> Result<ConsolidatedMetadata, MetadataFault>
         ensures gives { Gives (λ block. block.metadata) result (zmetadata_of (view value.now)) }
         ensures store { IfOk result (λ block. (ms : Members) × (zmetadata_members (view value.now) ≡ Ok ms) × HoldsStore ms block.metadata × IsClean ms) }
+        ensures refused { IfErr result (λ fault. (fault ≡ MetadataFault.OutOfMemory)
+            ⊎ IsZmetadataFault (view value.now) fault) }
         ensures ascending { IfOk result (λ block. IsAscending block.metadata) }
     {
         block_of(alloc, document_copy(value)?)
@@ -67,6 +69,8 @@ impl ConsolidatedMetadata {
     ) -> Result<ConsolidatedMetadata, MetadataFault>
         ensures gives { Gives (λ block. block.metadata) result (zmetadata_of (view value)) }
         ensures store { IfOk result (λ block. (ms : Members) × (zmetadata_members (view value) ≡ Ok ms) × HoldsStore ms block.metadata × IsClean ms) }
+        ensures refused { IfErr result (λ fault. (fault ≡ MetadataFault.OutOfMemory)
+            ⊎ IsZmetadataFault (view value) fault) }
         ensures ascending { IfOk result (λ block. IsAscending block.metadata) }
     {
         block_of(alloc, document(value)?)
@@ -89,7 +93,7 @@ fn block_of(
 
 // Asks whether the member `zarr_consolidated_format` is the number 1.
 fn ask_consolidated_format(members: &Map<String, Value>) -> Result<(), MetadataFault>
-    ensures { result ≡ required (codes "zarr_consolidated_format") one (object (members_view members.now.entries)) }
+    ensures { result ≡ required_member (codes "zarr_consolidated_format") one (object (members_view members.now.entries)) }
 {
     let Some(format) = member(members, "zarr_consolidated_format") else {
         return Err(MetadataFault::MissingMember(MemberName::new("zarr_consolidated_format")));
@@ -102,7 +106,7 @@ fn ask_consolidated_format(members: &Map<String, Value>) -> Result<(), MetadataF
 
 // Takes the member `metadata` out of the members.
 fn take_documents(members: &mut Map<String, Value>) -> Result<Map<String, Value>, MetadataFault>
-    ensures { Gives (λ documents. members_view documents.entries) result (required (codes "metadata") as_object (object (members_view members.old.entries))) }
+    ensures { Gives (λ documents. members_view documents.entries) result (required_member (codes "metadata") as_object (object (members_view members.old.entries))) }
 {
     let Some(value) = take_member(members, "metadata") else {
         return Err(MetadataFault::MissingMember(MemberName::new("metadata")));
@@ -331,7 +335,7 @@ fn are_names(text: &str) -> bool
 fn nodes_of(alloc: Global, runs: Vec<Run>) -> Result<ConsolidatedMetadataMetadata, MetadataFault>
     requires ascend { RunsAscend runs.items }
     requires fit { (t : List ℕ) → HaveNoFloat (tree_among runs.items t) }
-    ensures nodes { IfOk result (λ block. HoldsNodes (tree_among runs.items) (found block)) }
+    ensures nodes { IfOk result (λ block. HoldsNodes (tree_among runs.items) (node_at_key block)) }
     ensures ascending { IfOk result IsAscending }
     ensures err { IfErr result (RefusesTrees (tree_among runs.items)) }
 {
@@ -349,7 +353,7 @@ fn nodes_of(alloc: Global, runs: Vec<Run>) -> Result<ConsolidatedMetadataMetadat
 // The node that the documents of a path are, if they are one.
 fn node_of(alloc: Global, documents: Documents) -> Result<Option<NodeMetadata>, MetadataFault>
     requires { HaveNoFloat (tree_in documents) }
-    ensures { Gives (λ node. node) result (formed (codes "metadata") (result_ok (read_files (tree_in documents)))) }
+    ensures { Gives (λ node. node) result (form_or_fault (codes "metadata") (result_ok (read_files (tree_in documents)))) }
 {
     match read_node(alloc, documents) {
         Ok(node) => Ok(node),

@@ -5,7 +5,8 @@ ghost use Rattle.zarrs_meta.specs.declared.node.ArrayMetadata.TheVariants.{V2 as
 ghost use Rattle.zarrs_meta.specs.declared.node.GroupMetadata.TheVariants.{V2 as group_v2};
 ghost use Rattle.zarrs_meta.specs.declared.node.NodeMetadata.TheVariants.{Group, Array};
 ghost use Rattle.zarrs_block.specs.Block.{HasValidKeys};
-ghost use Rattle.zarrs_block.specs.Zmetadata.{zmetadata_tree, is_version_2, HasVersion2, RefusesZmetadata, RefusesNode, RefusesNodes, attributes_written, node_written, nodes_written, put_documents};
+ghost use Rattle.zarrs_block.specs.Zmetadata.{IsWrittenOf, zmetadata_tree, is_version_2, HasVersion2, RefusesZmetadata, attributes_written, node_written, nodes_written, put_documents};
+ghost use Rattle.zarrs_block.specs.StepsOfZmetadata.{RefusesWritingNode, RefusesWritingNodes};
 
 use crate::consolidated::ConsolidatedMetadata;
 use crate::expand::pairs_of;
@@ -35,6 +36,7 @@ impl ConsolidatedMetadata {
         alloc: Global,
         group: &GroupMetadataV2,
     ) -> Result<Value, NodeCreateError>
+        ensures documents { IfOk result (λ value. IsWrittenOf group.now self.now.metadata (view value)) }
         ensures tree { IfOk result (λ value. view value ≡ zmetadata_tree group.now self.now.metadata) }
         ensures keys { IfOk result (λ _. HasValidKeys self.now.metadata) }
         ensures version { IfOk result (λ _. HasVersion2 self.now.metadata) }
@@ -63,7 +65,7 @@ fn documents_of(
 ) -> Result<Map<String, Value>, NodeCreateError>
     ensures ok { IfOk result (λ documents. members_view documents.entries ≡ nodes_written nodes.items) }
     ensures version { IfOk result (λ _. All (λ e. IsTrue (is_version_2 e.1)) nodes.items) }
-    ensures err { IfErr result (RefusesNodes nodes.items) }
+    ensures err { IfErr result (RefusesWritingNodes nodes.items) }
 {
     let mut documents = Map::new(alloc);
     while let Some((path, node)) = nodes.pop() {
@@ -81,7 +83,7 @@ fn put_node(
 ) -> Result<(), NodeCreateError>
     ensures ok { OnOk result (members_view documents.new.entries ≡ put_documents path.now (node_written node) (members_view documents.old.entries)) }
     ensures version { OnOk result (IsTrue (is_version_2 node)) }
-    ensures err { IfErr result (RefusesNode node) }
+    ensures err { IfErr result (RefusesWritingNode node) }
 {
     match node {
         NodeMetadata::Group(GroupMetadata::V2(group)) => {

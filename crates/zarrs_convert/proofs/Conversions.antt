@@ -9,19 +9,19 @@ use Rattle.zarrs_meta.specs.declared.array_v3.ArrayMetadataV3.{ArrayMetadataV3}
 use Rattle.zarrs_convert.specs.declared.error.ArrayMetadataV2ToV3Error.TheVariants.{InvalidEndianness}
 use Rattle.zarrs_convert.specs.declared.error.DataTypeMetadataV2EndiannessError.{DataTypeMetadataV2EndiannessError}
 use Rattle.zarrs_convert.specs.declared.error.DataTypeMetadataV2EndiannessError.TheVariants.{Invalid, OutOfMemory}
-use Rattle.zarrs_convert.specs.Refusals.{◌>>=◌, Refusal, GivesOrder, Shows}
+use Rattle.zarrs_convert.specs.Refusals.{◌>>=◌, Refusal, GivesOrder, ShowsRefusal}
 use Rattle.zarrs_convert.specs.DataTypes.{byte_order, data_type_v3}
 use Rattle.zarrs_convert.specs.FillValues.{fill_value_v3}
 use Rattle.zarrs_convert.specs.Codecs.{codecs_v3}
-use Rattle.zarrs_convert.specs.Arrays.{array_v3, asked, regular_grid, v2_encoding}
+use Rattle.zarrs_convert.specs.Arrays.{array_v3, byte_order_refusal, regular_grid, v2_encoding}
 
 -- a byte order that was given is the one that is asked
-pub asked_ok : (order : Option Endianness) (r : Result (Option Endianness) (List ℕ)) → r ≡ Ok order → asked r ≡ Ok order
-asked_ok order r h = ap asked h
+pub asked_ok : (order : Option Endianness) (r : Result (Option Endianness) (List ℕ)) → r ≡ Ok order → byte_order_refusal r ≡ Ok order
+asked_ok order r h = ap byte_order_refusal h
 
 -- an error of the byte order shows its refusal
-pub asked_shows : (e : DataTypeMetadataV2EndiannessError) (r : Result (Option Endianness) (List ℕ)) → GivesOrder (Err e) r → Shows (InvalidEndianness e) (asked r)
-asked_shows (Invalid text) r h = ap asked h
+pub asked_shows : (e : DataTypeMetadataV2EndiannessError) (r : Result (Option Endianness) (List ℕ)) → GivesOrder (Err e) r → ShowsRefusal (InvalidEndianness e) (byte_order_refusal r)
+asked_shows (Invalid text) r h = ap byte_order_refusal h
 asked_shows OutOfMemory r h = tt
 
 -- the array of its parts
@@ -31,7 +31,7 @@ converted m data_type fill_value codecs =
 
 -- where each step answers, the array is that of its parts
 pub array_v3_is : (m : ArrayMetadataV2) (order : Option Endianness) (data_type : MetadataV3) (fill_value : Data) (n : ℕ) (codecs : List MetadataV3)
-    → asked (byte_order m.dtype) ≡ Ok order → data_type_v3 m.dtype ≡ Ok data_type → fill_value_v3 m.fill_value data_type.name ≡ Ok fill_value
+    → byte_order_refusal (byte_order m.dtype) ≡ Ok order → data_type_v3 m.dtype ≡ Ok data_type → fill_value_v3 m.fill_value data_type.name ≡ Ok fill_value
     → n ≡ length m.shape → codecs_v3 m.order n order m.filters m.compressor ≡ Ok codecs → array_v3 m ≡ Ok (converted m data_type fill_value codecs)
 unfolding array_v3
 array_v3_is m order data_type fill_value n codecs a b c e d =

@@ -4,10 +4,10 @@ use Rattle.serde_json.specs.Data.{Data, null, boolean, number, string, array, ob
 use Rattle.serde_json.specs.View.{view}
 use Rattle.serde_json.specs.declared.value.Value.{Value}
 use Rattle.std.proofs.lemmas.List.{map-append, replicate_more}
-use Rattle.zarrs_convert.specs.FillValues.{is_null, zero_value}
+use Rattle.zarrs_convert.specs.FillValues.{is_fill_null, zero_value}
 
 -- the fill value that is null
-pub null_is : (d : Data) → is_null d ≡ true → d ≡ null
+pub null_is : (d : Data) → is_fill_null d ≡ true → d ≡ null
 null_is null e = refl
 null_is (boolean b) e = absurd (true≢false (sym e))
 null_is (number n) e = absurd (true≢false (sym e))

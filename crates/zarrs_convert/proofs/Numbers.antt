@@ -5,7 +5,8 @@ use Rattle.std.specs.List.{list_all}
 use Rattle.std.specs.Str.{IsCharBoundary, all_ascii_digits}
 use Rattle.std.specs.Str.Pattern.{FindsTextPrefix, StripsPrefix}
 use Rattle.std.proofs.lemmas.Str.Pattern.{starts_text}
-use Rattle.zarrs_convert.specs.Tables.{begins, digits_behind, fits_u64, is_decimal}
+use Rattle.zarrs_convert.specs.Tables.{begins, fits_u64, is_decimal}
+use Rattle.zarrs_convert.specs.StepsOfConversion.{digits_behind}
 use Rattle.std.specs.Result.{OkIff, result_ok}
 use Rattle.std.specs.Str.Parse.{ParsesUnsigned, digits_value}
 use Rattle.std.proofs.lemmas.Bool.{ltb-true, lt-ltb}

@@ -25,11 +25,11 @@ use Rattle.zarrs_meta.specs.ArrayV3.{is_plain_array_v3}
 use Rattle.zarrs_meta.specs.declared.array_v2.ArrayMetadataV2.{ArrayMetadataV2}
 use Rattle.zarrs_meta.specs.declared.array_v3.ArrayMetadataV3.{ArrayMetadataV3}
 use Rattle.zarrs_convert.specs.Refusals.{◌>>=◌, Refusal}
-use Rattle.zarrs_convert.specs.Tables.{configured, first_line, fits_u64, is_among, number_behind, unconfigured}
-use Rattle.zarrs_convert.specs.DataTypes.{byte_order, data_type_name, data_type_v3, named}
+use Rattle.zarrs_convert.specs.Tables.{with_configuration, first_row, fits_u64, is_among, number_behind, with_no_configuration}
+use Rattle.zarrs_convert.specs.DataTypes.{byte_order, data_type_name, data_type_v3, data_type_of_name}
 use Rattle.zarrs_convert.specs.FillValues.{fill_lines, fill_value_v3, zero_bytes, zero_value}
-use Rattle.zarrs_convert.specs.Codecs.{array_to_bytes, codecs_v3, filter_v3, filters_v3, transposition, unsupported, vlen_names, without_compressor}
-use Rattle.zarrs_convert.specs.Arrays.{array_v3, asked, v2_encoding}
+use Rattle.zarrs_convert.specs.Codecs.{array_to_bytes, codecs_v3, filter_v3, filters_v3, transposition, no_codec, vlen_names, without_compressor}
+use Rattle.zarrs_convert.specs.Arrays.{array_v3, byte_order_refusal, v2_encoding}
 
 -- ---- steps that give a value or a refusal
 
@@ -64,7 +64,7 @@ numbers_fit [] = refl
 numbers_fit (n ∷ ns) = numbers_fit ns
 
 -- an extension with one member has the numbers of that member
-configured_fits : (name key : List ℕ) (d : Data) → has_float d ≡ false → ExtensionFits (configured name key d)
+configured_fits : (name key : List ℕ) (d : Data) → has_float d ≡ false → ExtensionFits (with_configuration name key d)
 configured_fits name key d h = ap (λ b. not (b || false)) h
 
 -- the encoding of version 2 has no number
@@ -74,7 +74,7 @@ encoding_fits Slash = refl
 
 -- ---- data types
 
-named_fits : (t : DataTypeMetadataV2) (name : Option (List ℕ)) → IfOk (named t name) ExtensionFits
+named_fits : (t : DataTypeMetadataV2) (name : Option (List ℕ)) → IfOk (data_type_of_name t name) ExtensionFits
 named_fits t None = tt
 named_fits t (Some name) = refl
 
@@ -105,9 +105,9 @@ abbrev AllFit : List (Bool × Result Data Refusal) → Type 0
 AllFit [] = Unit {0}
 AllFit (line ∷ lines) = FillFits line.1 × AllFit lines
 
-lines_fit : (lines : List (Bool × Result Data Refusal)) (rest : Result Data Refusal) → AllFit lines → FillFits rest → FillFits (first_line lines rest)
+lines_fit : (lines : List (Bool × Result Data Refusal)) (rest : Result Data Refusal) → AllFit lines → FillFits rest → FillFits (first_row lines rest)
 lines_fit [] rest h k = k
-lines_fit (line ∷ lines) rest h k = either_fits line.0 line.1 (first_line lines rest) h.0 (lines_fit lines rest h.1 k)
+lines_fit (line ∷ lines) rest h k = either_fits line.0 line.1 (first_row lines rest) h.0 (lines_fit lines rest h.1 k)
 
 -- a fill value that is converted of one whose numbers fit
 fill_value_fits : (d : Data) (name : List ℕ) → fits d ≡ true → FillFits (fill_value_v3 d name)
@@ -119,7 +119,7 @@ transposition_fits : (order : ArrayMetadataV2Order) (n : ℕ) → CodecsFit (tra
 transposition_fits C n = refl
 transposition_fits F n = both_true _ true (configured_fits (codes "transpose") (codes "order") (list_data number_data (reverse (range_with_len 0 n))) (numbers_fit (reverse (range_with_len 0 n)))) refl
 
-filter_by : (b : Bool) (filter : MetadataV2) → IfOk (if b then Ok (unconfigured filter.id) else unsupported filter) ExtensionFits
+filter_by : (b : Bool) (filter : MetadataV2) → IfOk (if b then Ok (with_no_configuration filter.id) else no_codec filter) ExtensionFits
 filter_by true filter = refl
 filter_by false filter = tt
 
@@ -170,8 +170,8 @@ array_converted : (m : ArrayMetadataV2) → IsTrue (is_plain_array_v2 m) → IfO
 unfolding array_v3
 array_converted m plain =
     let parts = two_of_eight (not (has_zero m.chunks)) (data_type_fits m.dtype) (fits m.fill_value) (none_or codec_fits m.compressor) (none_or (list_all codec_fits) m.filters)
-    (fits (object m.attributes)) (fits (object m.additional_fields)) (not (has_own v2.own_names m.additional_fields)) plain in
-    next_ok Plain (asked (byte_order m.dtype)) _ (λ endianness.
+    (fits (object m.attributes)) (fits (object m.additional_fields)) (not (has_own v2.array_v2_names m.additional_fields)) plain in
+    next_ok Plain (byte_order_refusal (byte_order m.dtype)) _ (λ endianness.
     then_ok ExtensionFits Plain (data_type_v3 m.dtype) _ (data_type_converted_fits m.dtype) (λ data_type a.
     then_ok (λ d. fits d ≡ true) Plain (fill_value_v3 m.fill_value data_type.name) _ (fill_value_fits m.fill_value data_type.name parts.0) (λ fill_value b.
     then_ok CodecsFit Plain (codecs_v3 m.order (length m.shape) endianness m.filters m.compressor) _ (codecs_fit m.order (length m.shape) endianness m.filters m.compressor) (λ codecs c.
@@ -189,7 +189,7 @@ Keeps m converted = (converted.shape ≡ m.shape) × (converted.attributes ≡ m
 array_keeps : (m : ArrayMetadataV2) → IfOk (array_v3 m) (Keeps m)
 unfolding array_v3
 array_keeps m =
-    next_ok (Keeps m) (asked (byte_order m.dtype)) _ (λ endianness.
+    next_ok (Keeps m) (byte_order_refusal (byte_order m.dtype)) _ (λ endianness.
     next_ok (Keeps m) (data_type_v3 m.dtype) _ (λ data_type.
     next_ok (Keeps m) (fill_value_v3 m.fill_value data_type.name) _ (λ fill_value.
     next_ok (Keeps m) (codecs_v3 m.order (length m.shape) endianness m.filters m.compressor) _ (λ codecs. (refl, refl, refl)))))

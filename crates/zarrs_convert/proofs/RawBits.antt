@@ -4,7 +4,8 @@ use Rattle.std.specs.Prelude.{SomeIff}
 use Rattle.std.specs.Str.Parse.{digits_value}
 use Rattle.std.proofs.lemmas.Bool.{lt-ltb}
 use Rattle.zarrs_convert.specs.DataTypes.{raw_size}
-use Rattle.zarrs_convert.specs.Tables.{digits_behind, fits_u64, is_numbered}
+use Rattle.zarrs_convert.specs.Tables.{fits_u64, is_numbered}
+use Rattle.zarrs_convert.specs.StepsOfConversion.{digits_behind}
 use Rattle.zarrs_convert.proofs.Numbers.{too_large}
 
 -- eight times as many bits, where that fits

@@ -8,28 +8,28 @@ use Rattle.zarrs_meta.specs.MadeArray.{made_array}
 use Rattle.zarrs_meta.specs.declared.array_v2.ArrayMetadataV2.{ArrayMetadataV2}
 use Rattle.zarrs_meta.specs.declared.array_v3.ArrayMetadataV3.{ArrayMetadataV3}
 use Rattle.zarrs_convert.specs.Refusals.{◌>>=◌, Refusal, invalid_endianness}
-use Rattle.zarrs_convert.specs.Tables.{configured}
+use Rattle.zarrs_convert.specs.Tables.{with_configuration}
 use Rattle.zarrs_convert.specs.DataTypes.{byte_order, data_type_v3}
 use Rattle.zarrs_convert.specs.FillValues.{fill_value_v3}
 use Rattle.zarrs_convert.specs.Codecs.{codecs_v3}
 
 -- the chunk grid of chunks that all have this shape
 abbrev pub regular_grid : List ℕ → MetadataV3
-regular_grid chunks = configured (codes "regular") (codes "chunk_shape") (list_data number_data chunks)
+regular_grid chunks = with_configuration (codes "regular") (codes "chunk_shape") (list_data number_data chunks)
 
 -- the encoding of the keys of chunks as in version 2, with this separator
 abbrev pub v2_encoding : ChunkKeySeparator → MetadataV3
-v2_encoding separator = configured (codes "v2") (codes "separator") (separator_data separator)
+v2_encoding separator = with_configuration (codes "v2") (codes "separator") (separator_data separator)
 
 -- a text without byte order is refused as such
-abbrev pub asked : {A : Type 0} → Result A (List ℕ) → Result A Refusal
-asked (Ok x) = Ok x
-asked (Err text) = Err (invalid_endianness text)
+abbrev pub byte_order_refusal : {A : Type 0} → Result A (List ℕ) → Result A Refusal
+byte_order_refusal (Ok x) = Ok x
+byte_order_refusal (Err text) = Err (invalid_endianness text)
 
 -- the version 3 array of a version 2 array: byte order, data type, fill value and codecs are asked in this order, and the attributes are kept
 unfoldable pub array_v3 : ArrayMetadataV2 → Result ArrayMetadataV3 Refusal
 array_v3 m = do
-  endianness ← asked (byte_order m.dtype)
+  endianness ← byte_order_refusal (byte_order m.dtype)
   data_type ← data_type_v3 m.dtype
   fill_value ← fill_value_v3 m.fill_value data_type.name
   codecs ← codecs_v3 m.order (length m.shape) endianness m.filters m.compressor

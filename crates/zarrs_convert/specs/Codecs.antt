@@ -10,24 +10,24 @@ use Rattle.zarrs_form.specs.declared.chunks.ArrayMetadataV2Order.TheVariants.{C,
 use Rattle.zarrs_form.specs.declared.data_type.Endianness.{Endianness}
 use Rattle.zarrs_form.specs.declared.data_type.Endianness.TheVariants.{Little, Big}
 use Rattle.zarrs_convert.specs.Refusals.{◌>>=◌, Refusal, unsupported_codec, multiple_array_to_bytes_codecs}
-use Rattle.zarrs_convert.specs.Tables.{is_among, unconfigured, configured}
+use Rattle.zarrs_convert.specs.Tables.{is_among, with_no_configuration, with_configuration}
 
 -- order F is a transposition of the dimensions, the last one first; order C is no codec
 abbrev pub transposition : ArrayMetadataV2Order → ℕ → List MetadataV3
 transposition C dimensionality = []
-transposition F dimensionality = configured (codes "transpose") (codes "order") (list_data number_data (reverse (range_with_len 0 dimensionality))) ∷ []
+transposition F dimensionality = with_configuration (codes "transpose") (codes "order") (list_data number_data (reverse (range_with_len 0 dimensionality))) ∷ []
 
 -- the filters that have a form of version 3, each of the same name
 abbrev pub vlen_names : List (List ℕ)
 vlen_names = codes "vlen-array" ∷ codes "vlen-bytes" ∷ codes "vlen-utf8" ∷ []
 
 -- a codec of version 2 that has no form of version 3
-abbrev pub unsupported : {A : Type 0} → MetadataV2 → Result A Refusal
-unsupported codec = Err (unsupported_codec codec.id codec.configuration)
+abbrev pub no_codec : {A : Type 0} → MetadataV2 → Result A Refusal
+no_codec codec = Err (unsupported_codec codec.id codec.configuration)
 
 -- such a filter keeps its name, with an empty configuration
 abbrev pub filter_v3 : MetadataV2 → Result MetadataV3 Refusal
-filter_v3 filter = if is_among vlen_names filter.id then Ok (unconfigured filter.id) else unsupported filter
+filter_v3 filter = if is_among vlen_names filter.id then Ok (with_no_configuration filter.id) else no_codec filter
 
 -- each filter in turn
 abbrev pub filters_v3 : List MetadataV2 → Result (List MetadataV3) Refusal
@@ -45,7 +45,7 @@ endian None = codes "little"
 
 -- the codec `bytes` with a byte order
 abbrev pub bytes_codec : Option Endianness → MetadataV3
-bytes_codec endianness = configured (codes "bytes") (codes "endian") (string (endian endianness))
+bytes_codec endianness = with_configuration (codes "bytes") (codes "endian") (string (endian endianness))
 
 -- the one codec from arrays to bytes: that of the filters, or the codec `bytes` where there is none
 abbrev pub array_to_bytes : Option Endianness → List MetadataV3 → Result (List MetadataV3) Refusal
@@ -56,7 +56,7 @@ array_to_bytes endianness (codec ∷ another ∷ codecs) = Err multiple_array_to
 -- no compressor has a form of version 3
 abbrev pub without_compressor : {A : Type 0} → Option MetadataV2 → A → Result A Refusal
 without_compressor None x = Ok x
-without_compressor (Some compressor) x = unsupported compressor
+without_compressor (Some compressor) x = no_codec compressor
 
 -- the codecs of version 3: the transposition, the filters, the codec `bytes`, the compressor
 abbrev pub codecs_v3 : ArrayMetadataV2Order → ℕ → Option Endianness → Option (List MetadataV2) → Option MetadataV2 → Result (List MetadataV3) Refusal

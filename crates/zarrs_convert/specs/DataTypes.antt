@@ -7,12 +7,12 @@ use Rattle.zarrs_form.specs.declared.data_type.DataTypeMetadataV2.TheVariants.{S
 use Rattle.zarrs_form.specs.declared.data_type.Endianness.{Endianness}
 use Rattle.zarrs_form.specs.declared.data_type.Endianness.TheVariants.{Little, Big}
 use Rattle.zarrs_convert.specs.Refusals.{Refusal, unsupported_data_type}
-use Rattle.zarrs_convert.specs.Tables.{first_line, look_up, begins, is_numbered, number_behind, fits_u64, bare}
+use Rattle.zarrs_convert.specs.Tables.{first_row, look_up, begins, is_numbered, number_behind, fits_u64, name_alone}
 
 -- the byte order by the first character of a data type; a list has none, and any other text has no answer
 abbrev pub byte_order : DataTypeMetadataV2 → Result (Option Endianness) (List ℕ)
 byte_order (Simple text) =
-    first_line (
+    first_row (
     (begins (codes "<") text, Ok (Some Little))
     ∷ (begins (codes ">") text, Ok (Some Big))
     ∷ (begins (codes "|") text, Ok None)
@@ -59,11 +59,11 @@ abbrev pub data_type_name : List ℕ → Option (List ℕ)
 data_type_name text = or_else (look_up data_types text) (raw_bits text)
 
 -- a name is a data type without configuration; where there is none, the data type of version 2 is unsupported
-abbrev pub named : DataTypeMetadataV2 → Option (List ℕ) → Result MetadataV3 Refusal
-named data_type None = Err (unsupported_data_type data_type)
-named data_type (Some name) = Ok (bare name)
+abbrev pub data_type_of_name : DataTypeMetadataV2 → Option (List ℕ) → Result MetadataV3 Refusal
+data_type_of_name data_type None = Err (unsupported_data_type data_type)
+data_type_of_name data_type (Some name) = Ok (name_alone name)
 
 -- the version 3 data type of a version 2 data type; a list has none
 abbrev pub data_type_v3 : DataTypeMetadataV2 → Result MetadataV3 Refusal
-data_type_v3 (Simple text) = named (Simple text) (data_type_name text)
+data_type_v3 (Simple text) = data_type_of_name (Simple text) (data_type_name text)
 data_type_v3 (Structured fields) = Err (unsupported_data_type (Structured fields))

@@ -4,11 +4,11 @@ use Rattle.serde_json.specs.Data.{Data, boolean, number, unsigned, string, array
 use Rattle.serde_json.specs.Find.{as_null, as_number, as_u64}
 use Rattle.serde_json.specs.View.{items_of}
 use Rattle.zarrs_convert.specs.Refusals.{Refusal, other}
-use Rattle.zarrs_convert.specs.Tables.{first_line, is_numbered, number_behind, fits_u64}
+use Rattle.zarrs_convert.specs.Tables.{first_row, is_numbered, number_behind, fits_u64}
 
 -- the fill value is null
-abbrev pub is_null : Data → Bool
-is_null d = is_some (as_null d)
+abbrev pub is_fill_null : Data → Bool
+is_fill_null d = is_some (as_null d)
 
 -- a number was found, and it is this one
 abbrev pub is_same : ℕ → Option ℕ → Bool
@@ -16,8 +16,8 @@ is_same n None = false
 is_same n (Some m) = m == n
 
 -- the fill value is this whole number
-abbrev pub is_number : ℕ → Data → Bool
-is_number n d = is_same n (option_and_then as_u64 (as_number d))
+abbrev pub is_fill_number : ℕ → Data → Bool
+is_fill_number n d = is_same n (option_and_then as_u64 (as_number d))
 
 -- a zero
 abbrev pub zero_value : Data
@@ -32,15 +32,15 @@ zero_bytes bits =
 -- the answers by the fill value and the name of the data type
 abbrev pub fill_lines : Data → List ℕ → List (Bool × Result Data Refusal)
 fill_lines d name =
-    (is_null d && bytes_eq name (codes "string"), Ok (string []))
-    ∷ (is_null d && bytes_eq name (codes "bool"), Ok (boolean false))
-    ∷ (is_null d && is_numbered (codes "r") name, zero_bytes (number_behind (codes "r") name))
-    ∷ (is_null d, Ok zero_value)
-    ∷ (bytes_eq name (codes "string") && is_number 0 d, Ok (string []))
-    ∷ (bytes_eq name (codes "bool") && is_number 0 d, Ok (boolean false))
-    ∷ (bytes_eq name (codes "bool") && is_number 1 d, Ok (boolean true))
+    (is_fill_null d && bytes_eq name (codes "string"), Ok (string []))
+    ∷ (is_fill_null d && bytes_eq name (codes "bool"), Ok (boolean false))
+    ∷ (is_fill_null d && is_numbered (codes "r") name, zero_bytes (number_behind (codes "r") name))
+    ∷ (is_fill_null d, Ok zero_value)
+    ∷ (bytes_eq name (codes "string") && is_fill_number 0 d, Ok (string []))
+    ∷ (bytes_eq name (codes "bool") && is_fill_number 0 d, Ok (boolean false))
+    ∷ (bytes_eq name (codes "bool") && is_fill_number 1 d, Ok (boolean true))
     ∷ []
 
 -- the version 3 fill value of a fill value, by the name of the data type; any other is kept
 abbrev pub fill_value_v3 : Data → List ℕ → Result Data Refusal
-fill_value_v3 d name = first_line (fill_lines d name) (Ok d)
+fill_value_v3 d name = first_row (fill_lines d name) (Ok d)

@@ -1,8 +1,9 @@
-pub mod Groups
-pub mod Refusals
-pub mod Tables
+pub mod Arrays
+pub mod Codecs
 pub mod DataTypes
 pub mod FillValues
-pub mod Codecs
-pub mod Arrays
+pub mod Groups
 pub mod Laws
+pub mod Refusals
+pub mod StepsOfConversion
+pub mod Tables

@@ -1,9 +1,8 @@
 -- Zarr core specification 3.1, "Array metadata": why an array of version 2 has no form of version 3.
-use Rattle.std.specs.Prelude.{◌≡◌, ℕ, List, Option, Result, Ok, Err, string_bytes}
+use Rattle.std.specs.Prelude.{◌≡◌, ℕ, List, Option, Result, Ok, Err, IsErr, string_bytes}
 use Rattle.serde_json.specs.Data.{Members}
 use Rattle.serde_json.specs.View.{members_view}
 use Rattle.zarrs_form.specs.declared.data_type.DataTypeMetadataV2.{DataTypeMetadataV2}
-use Rattle.zarrs_form.specs.declared.codec.MetadataV2.{MetadataV2}
 use Rattle.zarrs_form.specs.declared.data_type.Endianness.{Endianness}
 use Rattle.zarrs_convert.specs.declared.error.ArrayMetadataV2ToV3Error.{ArrayMetadataV2ToV3Error}
 use Rattle.zarrs_convert.specs.declared.error.ArrayMetadataV2ToV3Error.TheVariants.{UnsupportedDataType, InvalidEndianness, UnsupportedCodec, UnsupportedFillValue, SerdeError, MultipleArrayToBytesCodecs, Other, OutOfMemory}
@@ -24,37 +23,25 @@ abbrev pub ◌>>=◌ : {A B : Type 0} → Result A Refusal → (A → Result B R
 (Ok x) >>= f = f x
 (Err e) >>= f = Err e
 
--- an error is the refusal that the table answers; want of memory says nothing, and two errors never come
-abbrev pub Shows : {B : Type 0} → ArrayMetadataV2ToV3Error → Result B Refusal → Type 0
-Shows (UnsupportedDataType data_type) answer = answer ≡ Err (unsupported_data_type data_type)
-Shows (InvalidEndianness (Invalid text)) answer = answer ≡ Err (invalid_endianness (string_bytes text))
-Shows (InvalidEndianness NoMemory) answer = Unit {0}
-Shows (UnsupportedCodec id configuration) answer = answer ≡ Err (unsupported_codec (string_bytes id) (members_view configuration.entries))
-Shows (UnsupportedFillValue name fill_value) answer = ⊥
-Shows (SerdeError error) answer = ⊥
-Shows MultipleArrayToBytesCodecs answer = answer ≡ Err multiple_array_to_bytes_codecs
-Shows (Other text) answer = answer ≡ Err (other (string_bytes text))
-Shows OutOfMemory answer = Unit {0}
-
--- the error names a codec of version 2, or memory was wanting
-abbrev pub IsUnsupported : MetadataV2 → ArrayMetadataV2ToV3Error → Type 0
-IsUnsupported codec (UnsupportedCodec id configuration) = (string_bytes id ≡ codec.id) × (members_view configuration.entries ≡ codec.configuration)
-IsUnsupported codec OutOfMemory = Unit {0}
-IsUnsupported codec _ = ⊥
-
--- the error names a data type of version 2, or memory was wanting
-abbrev pub IsUnsupportedType : DataTypeMetadataV2 → ArrayMetadataV2ToV3Error → Type 0
-IsUnsupportedType data_type (UnsupportedDataType named) = named ≡ data_type
-IsUnsupportedType data_type OutOfMemory = Unit {0}
-IsUnsupportedType data_type _ = ⊥
+-- an error is the refusal that the table answers; out of memory says nothing, and two errors never come
+abbrev pub ShowsRefusal : {B : Type 0} → ArrayMetadataV2ToV3Error → Result B Refusal → Type 0
+ShowsRefusal (UnsupportedDataType data_type) answer = answer ≡ Err (unsupported_data_type data_type)
+ShowsRefusal (InvalidEndianness (Invalid text)) answer = answer ≡ Err (invalid_endianness (string_bytes text))
+ShowsRefusal (InvalidEndianness NoMemory) answer = Unit {0}
+ShowsRefusal (UnsupportedCodec id configuration) answer = answer ≡ Err (unsupported_codec (string_bytes id) (members_view configuration.entries))
+ShowsRefusal (UnsupportedFillValue name fill_value) answer = ⊥
+ShowsRefusal (SerdeError error) answer = ⊥
+ShowsRefusal MultipleArrayToBytesCodecs answer = answer ≡ Err multiple_array_to_bytes_codecs
+ShowsRefusal (Other text) answer = answer ≡ Err (other (string_bytes text))
+ShowsRefusal OutOfMemory answer = Unit {0}
 
 -- a call answers what the table does: its value as it is seen, or its refusal
-abbrev pub Gives : {A B : Type 0} → (A → B) → Result A ArrayMetadataV2ToV3Error → Result B Refusal → Type 0
-Gives see (Ok x) answer = answer ≡ Ok (see x)
-Gives see (Err e) answer = Shows e answer
+abbrev pub AnswersAs : {A B : Type 0} → (A → B) → Result A ArrayMetadataV2ToV3Error → Result B Refusal → Type 0
+AnswersAs see (Ok x) answer = answer ≡ Ok (see x)
+AnswersAs see (Err e) answer = ShowsRefusal e answer
 
--- the call on byte orders answers what its table does: the byte order, or the text that has none
+-- the call on byte orders answers what its table does: the byte order, or the text that has none; it is out of memory for such a text alone
 abbrev pub GivesOrder : Result (Option Endianness) DataTypeMetadataV2EndiannessError → Result (Option Endianness) (List ℕ) → Type 0
 GivesOrder (Ok order) answer = answer ≡ Ok order
 GivesOrder (Err (Invalid text)) answer = answer ≡ Err (string_bytes text)
-GivesOrder (Err NoMemory) answer = Unit {0}
+GivesOrder (Err NoMemory) answer = IsErr answer

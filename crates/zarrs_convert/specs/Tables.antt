@@ -1,5 +1,5 @@
 -- How the tables of the conversion are read, and the words that they share.
-use Rattle.std.specs.Prelude.{ℕ, List, [], ◌∷◌, Bool, true, false, bytes_eq, if◌then◌else◌, ◌&&◌, Option, Some, None, drop, length, nat_eq, nat_lt, ◌^◌}
+use Rattle.std.specs.Prelude.{if◌then◌else◌, ℕ, List, [], ◌∷◌, Bool, true, false, bytes_eq, ◌&&◌, Option, Some, None, drop, length, nat_eq, nat_lt, ◌^◌}
 use Rattle.std.specs.List.{list_any, starts_with}
 use Rattle.std.specs.Str.{all_ascii_digits}
 use Rattle.std.specs.Str.Parse.{digits_value}
@@ -7,9 +7,9 @@ use Rattle.serde_json.specs.Data.{Data, no_members, member}
 use Rattle.zarrs_form.specs.declared.extension.MetadataV3.{MetadataV3}
 
 -- the answer of the first line whose condition holds, or the answer for all else
-abbrev pub first_line : {A : Type 0} → List (Bool × A) → A → A
-first_line [] rest = rest
-first_line (line ∷ lines) rest = if line.0 then line.1 else first_line lines rest
+abbrev pub first_row : {A : Type 0} → List (Bool × A) → A → A
+first_row [] rest = rest
+first_row (line ∷ lines) rest = if line.0 then line.1 else first_row lines rest
 
 -- the text is one of these
 abbrev pub is_among : List (List ℕ) → List ℕ → Bool
@@ -33,10 +33,6 @@ is_decimal (d ∷ ds) = all_ascii_digits (d ∷ ds)
 abbrev pub is_numbered : List ℕ → List ℕ → Bool
 is_numbered start text = begins start text && is_decimal (drop (length start) text)
 
--- the digits behind a beginning, where the text is so
-abbrev pub digits_behind : List ℕ → List ℕ → Option (List ℕ)
-digits_behind start text = if is_numbered start text then Some (drop (length start) text) else None
-
 -- the number that the digits behind a beginning write
 abbrev pub number_behind : List ℕ → List ℕ → ℕ
 number_behind start text = digits_value 10 (drop (length start) text)
@@ -46,13 +42,13 @@ abbrev pub fits_u64 : ℕ → Bool
 fits_u64 n = nat_lt n (2 ^ 64)
 
 -- the extension that has this name alone
-abbrev pub bare : List ℕ → MetadataV3
-bare name = record { name = name; configuration = None; must_understand = true }
+abbrev pub name_alone : List ℕ → MetadataV3
+name_alone name = record { name = name; configuration = None; must_understand = true }
 
 -- the extension of this name, with an empty configuration
-abbrev pub unconfigured : List ℕ → MetadataV3
-unconfigured name = record { name = name; configuration = Some no_members; must_understand = true }
+abbrev pub with_no_configuration : List ℕ → MetadataV3
+with_no_configuration name = record { name = name; configuration = Some no_members; must_understand = true }
 
 -- the extension of this name, whose configuration has one member
-abbrev pub configured : List ℕ → List ℕ → Data → MetadataV3
-configured name key value = record { name = name; configuration = Some (member key value no_members); must_understand = true }
+abbrev pub with_configuration : List ℕ → List ℕ → Data → MetadataV3
+with_configuration name key value = record { name = name; configuration = Some (member key value no_members); must_understand = true }

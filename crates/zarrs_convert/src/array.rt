@@ -1,7 +1,7 @@
 //! Arrays of version 2 as arrays of version 3.
-ghost use Rattle.zarrs_convert.specs.Arrays.{array_v3, asked};
+ghost use Rattle.zarrs_convert.specs.Arrays.{array_v3, byte_order_refusal};
 ghost use Rattle.zarrs_convert.specs.DataTypes.{byte_order};
-ghost use Rattle.zarrs_convert.specs.Refusals.{Gives};
+ghost use Rattle.zarrs_convert.specs.Refusals.{AnswersAs};
 
 use crate::codecs::codec_metadata_v2_to_v3;
 use crate::data_type::data_type_metadata_v2_to_v3;
@@ -30,7 +30,7 @@ pub fn array_metadata_v2_to_v3<L: Log>(
     alloc: Global,
     array: &ArrayMetadataV2,
 ) -> Result<ArrayMetadataV3, ArrayMetadataV2ToV3Error>
-    ensures { Gives (λ m. m) result (array_v3 array.now) }
+    ensures { AnswersAs (λ m. m) result (array_v3 array.now) }
 {
     let endianness = endianness_of(alloc, &array.dtype)?;
     let data_type = data_type_metadata_v2_to_v3(alloc, &array.dtype)?;
@@ -61,7 +61,7 @@ fn endianness_of(
     alloc: Global,
     data_type: &DataTypeMetadataV2,
 ) -> Result<Option<Endianness>, ArrayMetadataV2ToV3Error>
-    ensures { Gives (λ order. order) result (asked (byte_order data_type.now)) }
+    ensures { AnswersAs (λ order. order) result (byte_order_refusal (byte_order data_type.now)) }
 {
     match data_type_metadata_v2_to_endianness(alloc, data_type) {
         Ok(endianness) => Ok(endianness),

@@ -2,7 +2,8 @@
 ghost use Rattle.std.specs.Prelude.{◌≡◌, IfOk, [], reverse, unwrap_or};
 ghost use Rattle.std.specs.List.{range_with_len};
 ghost use Rattle.zarrs_convert.specs.Codecs.{array_to_bytes, bytes_codec, codecs_v3, endian, filter_v3, filters_v3, transposition};
-ghost use Rattle.zarrs_convert.specs.Refusals.{Gives, IsUnsupported};
+ghost use Rattle.zarrs_convert.specs.Refusals.{AnswersAs};
+ghost use Rattle.zarrs_convert.specs.StepsOfConversion.{NamesCodec};
 
 use crate::error::ArrayMetadataV2ToV3Error;
 use crate::extension::{configured, unconfigured};
@@ -31,7 +32,7 @@ pub fn codec_metadata_v2_to_v3(
     filters: &Option<List<MetadataV2>>,
     compressor: &Option<MetadataV2>,
 ) -> Result<Vec<MetadataV3>, ArrayMetadataV2ToV3Error>
-    ensures { Gives (λ codecs. codecs.items) result
+    ensures { AnswersAs (λ codecs. codecs.items) result
         (codecs_v3 order dimensionality endianness filters.now compressor.now) }
 {
     let vlen = all_filters(alloc, filters)?;
@@ -84,7 +85,7 @@ fn array_to_bytes(
     endianness: Option<Endianness>,
     mut filters: Vec<MetadataV3>,
 ) -> Result<Vec<MetadataV3>, ArrayMetadataV2ToV3Error>
-    ensures { Gives (λ codecs. codecs.items) result (array_to_bytes endianness filters.items) }
+    ensures { AnswersAs (λ codecs. codecs.items) result (array_to_bytes endianness filters.items) }
 {
     if filters.is_empty() {
         filters.push(bytes(alloc, endianness)?)?;
@@ -101,7 +102,7 @@ fn all_filters(
     alloc: Global,
     filters: &Option<List<MetadataV2>>,
 ) -> Result<Vec<MetadataV3>, ArrayMetadataV2ToV3Error>
-    ensures { Gives (λ codecs. codecs.items) result (filters_v3 (unwrap_or filters.now [])) }
+    ensures { AnswersAs (λ codecs. codecs.items) result (filters_v3 (unwrap_or filters.now [])) }
 {
     match filters {
         Some(filters) => filters_v3(alloc, filters.as_slice()),
@@ -114,7 +115,7 @@ fn filters_v3(
     alloc: Global,
     filters: &[MetadataV2],
 ) -> Result<Vec<MetadataV3>, ArrayMetadataV2ToV3Error>
-    ensures { Gives (λ codecs. codecs.items) result (filters_v3 filters.now) }
+    ensures { AnswersAs (λ codecs. codecs.items) result (filters_v3 filters.now) }
 {
     let mut codecs = Vec::new(alloc);
     for filter in filters {
@@ -125,7 +126,7 @@ fn filters_v3(
 
 // A filter of variable length keeps its name, with an empty configuration.
 fn filter_v3(alloc: Global, filter: &MetadataV2) -> Result<MetadataV3, ArrayMetadataV2ToV3Error>
-    ensures { Gives (λ codec. codec) result (filter_v3 filter.now) }
+    ensures { AnswersAs (λ codec. codec) result (filter_v3 filter.now) }
 {
     if !VLEN_NAMES.contains(&filter.id.as_str()) {
         return Err(unsupported(alloc, filter));
@@ -133,9 +134,9 @@ fn filter_v3(alloc: Global, filter: &MetadataV2) -> Result<MetadataV3, ArrayMeta
     Ok(unconfigured(alloc, filter.id.as_str())?)
 }
 
-// The refusal of a codec, or want of memory for it.
+// The refusal of a codec, or out of memory for it.
 fn unsupported(alloc: Global, codec: &MetadataV2) -> ArrayMetadataV2ToV3Error
-    ensures { IsUnsupported codec.now result }
+    ensures { NamesCodec codec.now result }
 {
     match (
         String::from_str(alloc, codec.id.as_str()),

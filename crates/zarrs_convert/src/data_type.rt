@@ -1,7 +1,8 @@
 //! Data types of version 2 as data types of version 3.
 ghost use Rattle.std.specs.Prelude.{◌≡◌, IfOk, map, option_map};
 ghost use Rattle.zarrs_convert.specs.DataTypes.{data_type_name, data_type_v3, raw_bits, raw_size};
-ghost use Rattle.zarrs_convert.specs.Refusals.{Gives, IsUnsupportedType};
+ghost use Rattle.zarrs_convert.specs.Refusals.{AnswersAs};
+ghost use Rattle.zarrs_convert.specs.StepsOfConversion.{NamesDataType};
 ghost use Rattle.zarrs_convert.specs.Tables.{look_up};
 
 use crate::error::ArrayMetadataV2ToV3Error;
@@ -41,7 +42,7 @@ pub fn data_type_metadata_v2_to_v3(
     alloc: Global,
     data_type: &DataTypeMetadataV2,
 ) -> Result<MetadataV3, ArrayMetadataV2ToV3Error>
-    ensures { Gives (λ m. m) result (data_type_v3 data_type.now) }
+    ensures { AnswersAs (λ m. m) result (data_type_v3 data_type.now) }
 {
     if let DataTypeMetadataV2::Simple(text) = data_type {
         return match data_type_name(alloc, text.as_str())? {
@@ -52,9 +53,9 @@ pub fn data_type_metadata_v2_to_v3(
     Err(unsupported(alloc, data_type))
 }
 
-// The refusal of a data type, or want of memory for it.
+// The refusal of a data type, or out of memory for it.
 fn unsupported(alloc: Global, data_type: &DataTypeMetadataV2) -> ArrayMetadataV2ToV3Error
-    ensures { IsUnsupportedType data_type.now result }
+    ensures { NamesDataType data_type.now result }
 {
     match data_type.try_clone(alloc) {
         Ok(data_type) => ArrayMetadataV2ToV3Error::UnsupportedDataType(data_type),

@@ -32,7 +32,7 @@ pub enum ArrayMetadataV2ToV3Error {
     /// Any other reason.
     #[error("{0}")]
     Other(String),
-    /// Memory was wanting.
+    /// Out of memory.
     #[error("out of memory")]
     OutOfMemory,
 }
@@ -45,7 +45,7 @@ pub enum DataTypeMetadataV2EndiannessError {
     /// The text of the data type does not begin with a byte order.
     #[error("invalid endianness")]
     Invalid(String),
-    /// Memory was wanting.
+    /// Out of memory.
     #[error("out of memory")]
     OutOfMemory,
 }

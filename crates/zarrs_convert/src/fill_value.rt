@@ -3,8 +3,8 @@ ghost use Rattle.std.specs.Prelude.{◌≡◌, [], IfOk, IsTrue, false, if◌the
 ghost use Rattle.std.specs.Str.Parse.{digits_value};
 ghost use Rattle.serde_json.specs.Data.{array, boolean, null, string};
 ghost use Rattle.serde_json.specs.View.{items_of, view};
-ghost use Rattle.zarrs_convert.specs.FillValues.{fill_value_v3, is_number, zero_bytes, zero_value};
-ghost use Rattle.zarrs_convert.specs.Refusals.{Gives};
+ghost use Rattle.zarrs_convert.specs.FillValues.{fill_value_v3, is_fill_number, zero_bytes, zero_value};
+ghost use Rattle.zarrs_convert.specs.Refusals.{AnswersAs};
 ghost use Rattle.zarrs_convert.specs.Tables.{is_decimal};
 
 use crate::error::ArrayMetadataV2ToV3Error;
@@ -29,7 +29,7 @@ pub fn fill_value_metadata_v2_to_v3<L: Log>(
     fill_value: &FillValueMetadata,
     data_type: &MetadataV3,
 ) -> Result<FillValueMetadata, ArrayMetadataV2ToV3Error>
-    ensures { Gives (λ v. v) result (fill_value_v3 fill_value.now data_type.now.name) }
+    ensures { AnswersAs (λ v. v) result (fill_value_v3 fill_value.now data_type.now.name) }
 {
     let name = data_type.name.as_str();
     warn_of(log, fill_value.as_value(), name);
@@ -48,7 +48,7 @@ fn warn_of<L: Log>(log: &L, value: &Value, name: &str) {
 
 // The fill value of version 3, for the data type of this name.
 fn converted(alloc: Global, value: &Value, name: &str) -> Result<Value, ArrayMetadataV2ToV3Error>
-    ensures { Gives view result (fill_value_v3 (view value.now) name.now) }
+    ensures { AnswersAs view result (fill_value_v3 (view value.now) name.now) }
 {
     if value.is_null() {
         return default_value(alloc, name);
@@ -64,7 +64,7 @@ fn converted(alloc: Global, value: &Value, name: &str) -> Result<Value, ArrayMet
 
 // The fill value for null.
 fn default_value(alloc: Global, name: &str) -> Result<Value, ArrayMetadataV2ToV3Error>
-    ensures { Gives view result (fill_value_v3 null name.now) }
+    ensures { AnswersAs view result (fill_value_v3 null name.now) }
 {
     match name {
         "string" => Ok(Value::String(String::new(alloc))),
@@ -78,7 +78,7 @@ fn default_value(alloc: Global, name: &str) -> Result<Value, ArrayMetadataV2ToV3
 
 // The fill value for the type `string`: 0 is the empty text, and any other is kept.
 fn string_value(alloc: Global, value: &Value) -> Result<Value, AllocError>
-    ensures { IfOk result (λ made. view made ≡ (if is_number 0 (view value.now) then string [] else view value.now)) }
+    ensures { IfOk result (λ made. view made ≡ (if is_fill_number 0 (view value.now) then string [] else view value.now)) }
 {
     if is_number(value, 0) {
         return Ok(Value::String(String::new(alloc)));
@@ -88,8 +88,8 @@ fn string_value(alloc: Global, value: &Value) -> Result<Value, AllocError>
 
 // The fill value for the type `bool`: 0 and 1 are truth values, and any other is kept.
 fn bool_value(value: &Value) -> Result<Value, AllocError>
-    ensures { IfOk result (λ made. view made ≡ (if is_number 0 (view value.now) then boolean false
-        else (if is_number 1 (view value.now) then boolean true else view value.now))) }
+    ensures { IfOk result (λ made. view made ≡ (if is_fill_number 0 (view value.now) then boolean false
+        else (if is_fill_number 1 (view value.now) then boolean true else view value.now))) }
 {
     if is_number(value, 0) {
         return Ok(Value::Bool(false));
@@ -102,7 +102,7 @@ fn bool_value(value: &Value) -> Result<Value, AllocError>
 
 // Whether the fill value is this whole number.
 fn is_number(value: &Value, wanted: u64) -> bool
-    ensures { result ≡ is_number wanted (view value.now) }
+    ensures { result ≡ is_fill_number wanted (view value.now) }
 {
     match value.as_u64() {
         Some(number) => number == wanted,
@@ -113,7 +113,7 @@ fn is_number(value: &Value, wanted: u64) -> bool
 // As many zeros as this number of bits has bytes.
 fn zero_bytes(alloc: Global, bits: &str) -> Result<Value, ArrayMetadataV2ToV3Error>
     requires { IsTrue (is_decimal bits.now) }
-    ensures { Gives view result (zero_bytes (digits_value 10 bits.now)) }
+    ensures { AnswersAs view result (zero_bytes (digits_value 10 bits.now)) }
 {
     match number_of(bits) {
         Some(bits) if bits % 8 == 0 => Ok(zeros(alloc, bits / 8)?),

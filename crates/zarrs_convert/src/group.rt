@@ -9,7 +9,7 @@ use zarrs_meta::{GroupMetadataV2, GroupMetadataV3};
 ///
 /// # Errors
 ///
-/// `AllocError` for want of memory alone.
+/// `AllocError` for out of memory alone.
 ///
 /// Source: `zarrs::convert::group_metadata_v2_to_v3`.
 pub fn group_metadata_v2_to_v3(

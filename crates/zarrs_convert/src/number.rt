@@ -1,7 +1,8 @@
 //! Numbers at the end of texts, as in `|V8` and `r64`.
 ghost use Rattle.std.specs.Prelude.{◌≡◌, IsTrue, None, Some, if◌then◌else◌, option_map};
 ghost use Rattle.std.specs.Str.Parse.{digits_value};
-ghost use Rattle.zarrs_convert.specs.Tables.{digits_behind, fits_u64, is_decimal};
+ghost use Rattle.zarrs_convert.specs.Tables.{fits_u64, is_decimal};
+ghost use Rattle.zarrs_convert.specs.StepsOfConversion.{digits_behind};
 
 /// What stands behind the beginning of a text, where that is one or more decimal digits.
 pub(crate) fn digits_behind<'a>(text: &'a str, start: &str) -> Option<&'a str>

@@ -81,7 +81,7 @@ pub enum MetadataFault {
 impl From<AllocError> for MetadataFault {
     ghost from_gives = { λ _ fault. fault ≡ OutOfMemory };
 
-    /// Want of memory.
+    /// Out of memory.
     fn from(_error: AllocError) -> MetadataFault {
         MetadataFault::OutOfMemory
     }
@@ -90,7 +90,7 @@ impl From<AllocError> for MetadataFault {
 impl<T: Drop> From<AllocFailed<T>> for MetadataFault {
     ghost from_gives = { λ _ fault. fault ≡ OutOfMemory };
 
-    /// Want of memory.
+    /// Out of memory.
     fn from(_error: AllocFailed<T>) -> MetadataFault {
         MetadataFault::OutOfMemory
     }

@@ -8,7 +8,7 @@ use Rattle.serde_json.specs.Data.{Data, member}
 use Rattle.serde_json.specs.View.{view, members_view}
 use Rattle.serde_json.proofs.Views.{Entry}
 use Rattle.zarrs_form.specs.Documents.{is_own, besides}
-use Rattle.zarrs_form.specs.Sorted.{at_name}
+use Rattle.zarrs_form.specs.StepsOfMembers.{at_name}
 use Rattle.zarrs_form.proofs.Shared.{members_by}
 
 -- one name is an own name exactly where the map finds it

@@ -8,7 +8,7 @@ use Rattle.serde_json.specs.Data.{unsigned, negative, float, Data, null, boolean
 use Rattle.serde_json.specs.Find.{get, get_member, as_object}
 use Rattle.serde_json.specs.Written.{has_float, items_have_float, members_have_float}
 use Rattle.zarrs_form.specs.Documents as documents
-use Rattle.zarrs_form.specs.Documents.{NeverLacksMemory, is_own, besides, has_own, document_of, present, formed, required, optional_from, optional}
+use Rattle.zarrs_form.specs.Documents.{NeverLacksMemory, is_own, besides, has_own, document_of, member_or_fault, form_or_fault, required_member, optional_found, optional_member}
 use Rattle.zarrs_form.specs.Forms as forms
 use Rattle.zarrs_form.specs.Forms.{any, nullable, each, list_of, none_or, fits, unless_absent}
 use Rattle.zarrs_fault.specs.declared.fault.MetadataFault.{MetadataFault}
@@ -32,7 +32,7 @@ pub some_map : {A B : Type 0} (P : A → Type 0) (Q : B → Type 0) (f : A → B
 some_map P Q f None h g = tt
 some_map P Q f (Some x) h g = g x h
 
--- reading gives a value that has P, or a fault that is not want of memory
+-- reading gives a value that has P, or a fault that is not out of memory
 abbrev pub Reads : {A : Type 0} → Result A MetadataFault → (A → Type 0) → Type 0
 Reads r P = MatchResult r P (λ fault. fault ≢ OutOfMemory)
 
@@ -51,7 +51,7 @@ pub of_ok : {A : Type 0} (P : A → Type 0) (r : Result A MetadataFault) (x : A)
 of_ok P (Ok y) x h e = let same : y ≡ x = cc in subst P same h
 of_ok P (Err y) x h e = cc
 
--- such a reading never means want of memory
+-- such a reading never means out of memory
 pub never_of : {A : Type 0} (P : A → Type 0) (r : Result A MetadataFault) → Reads r P → NeverLacksMemory r
 never_of P (Ok x) h e = cc
 never_of P (Err fault) h e = h (let same : fault ≡ OutOfMemory = cc in same)
@@ -171,29 +171,29 @@ absent_fits absent form test fitting base (Some d) h = fitting d h
 -- ---- members of documents
 
 -- the value of a form, or the fault that names the member
-formed_fits : {A : Type 0} (P : A → Type 0) (name : List ℕ) (o : Option A) → IfSome o P → Reads (formed name o) P
+formed_fits : {A : Type 0} (P : A → Type 0) (name : List ℕ) (o : Option A) → IfSome o P → Reads (form_or_fault name o) P
 formed_fits P name None h = λ e. cc
 formed_fits P name (Some x) h = h
 
 -- a member that has to be there, by what was found
 required_from : {A : Type 0} (form : Data → Option A) (test : A → Bool) → Fitting form test → (name : List ℕ) (o : Option Data) → IfSome o (λ d. has_float d ≡ false)
-    → Reads (documents.◌>>=◌ (present name o) (λ v. formed name (form v))) (λ x. test x ≡ true)
+    → Reads (documents.◌>>=◌ (member_or_fault name o) (λ v. form_or_fault name (form v))) (λ x. test x ≡ true)
 required_from form test fitting name None h = λ e. cc
 required_from form test fitting name (Some d) h = formed_fits (λ x. test x ≡ true) name (form d) (fitting d h)
 
 -- a member that has to be there
-pub required_fits : {A : Type 0} (form : Data → Option A) (test : A → Bool) → Fitting form test → (name : List ℕ) (d : Data) → has_float d ≡ false → Reads (required name form d) (λ x. test x ≡ true)
+pub required_fits : {A : Type 0} (form : Data → Option A) (test : A → Bool) → Fitting form test → (name : List ℕ) (d : Data) → has_float d ≡ false → Reads (required_member name form d) (λ x. test x ≡ true)
 required_fits form test fitting name d h = required_from form test fitting name (get name d) (get_fits name d h)
 
 -- a member that may be absent, by what was found
 optional_fits_from : {A : Type 0} (absent : A) (form : Data → Option A) (test : A → Bool) → Fitting form test → test absent ≡ true → (name : List ℕ) (o : Option Data) → IfSome o (λ d. has_float d ≡ false)
-    → Reads (optional_from name absent form o) (λ x. test x ≡ true)
+    → Reads (optional_found name absent form o) (λ x. test x ≡ true)
 optional_fits_from absent form test fitting base name None h = base
 optional_fits_from absent form test fitting base name (Some d) h = formed_fits (λ x. test x ≡ true) name (form d) (fitting d h)
 
 -- a member that may be absent
 pub optional_fits : {A : Type 0} (absent : A) (form : Data → Option A) (test : A → Bool) → Fitting form test → test absent ≡ true → (name : List ℕ) (d : Data) → has_float d ≡ false
-    → Reads (optional name absent form d) (λ x. test x ≡ true)
+    → Reads (optional_member name absent form d) (λ x. test x ≡ true)
 optional_fits absent form test fitting base name d h = optional_fits_from absent form test fitting base name (get name d) (get_fits name d h)
 
 -- ---- documents

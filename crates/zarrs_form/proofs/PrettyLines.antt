@@ -1,7 +1,7 @@
 -- A text with four spaces more after each newline is its lines, each later one behind a break.
 use Rattle.std.proofs.Common.{◌≡◌, ℕ, List, [], ◌∷◌, ◌++◌, Bool, true, false, cond, eqb, if◌then◌else◌, refl, sym, ap, ◌∙◌}
 use Rattle.std.specs.List.{slice_split, onto_first}
-use Rattle.zarrs_form.specs.Pretty.{break_if, four_more, indented}
+use Rattle.zarrs_form.specs.StepsOfTexts.{break_if, four_more, text_with_four_more}
 
 -- the lines that are left
 abbrev pub lines_left : Bool → List (List ℕ) → List ℕ
@@ -41,6 +41,6 @@ one_byte : (b : Bool) (x : ℕ) (ps : List (List ℕ)) → IsSome ps
 one_byte true x ps h = sym (behind ps h)
 one_byte false x ps h = sym (onto_left x ps h)
 
-pub indented_lines : (s : List ℕ) → indented s ≡ lines_left false (cut s)
+pub indented_lines : (s : List ℕ) → text_with_four_more s ≡ lines_left false (cut s)
 indented_lines [] = refl
 indented_lines (x ∷ xs) = ap (λ t. four_more x ++ t) (indented_lines xs) ∙ one_byte (eqb x 10) x (cut xs) (cut_some xs)

@@ -1,7 +1,8 @@
 -- The pretty text of a value that fits memory, and the same two levels deeper.
 use Rattle.std.proofs.Common.{◌≡◌, ℕ, ◌^◌, ◌*◌, ◌≤◌, ◌<◌, List, length, sym, ap, ◌∙◌, subst, arith}
 use Rattle.serde_json.specs.Data.{Data, depth}
-use Rattle.zarrs_form.specs.Pretty.{text_at, pretty_text, indented}
+use Rattle.zarrs_form.specs.Pretty.{text_at, pretty_text}
+use Rattle.zarrs_form.specs.StepsOfTexts.{text_with_four_more}
 use Rattle.zarrs_form.proofs.PrettyLaid.{pretty_text_is}
 use Rattle.zarrs_form.proofs.PrettyDeeper.{value_deeper}
 use Rattle.zarrs_form.proofs.PrettyLong.{pretty_longer, text_longer}
@@ -19,5 +20,5 @@ piece_pretty d text fits is =
     is ∙ sym (pretty_text_is d (omega arith))
 
 -- that text with four spaces more after each newline stands two levels deep
-pub piece_deeper : (d : Data) (text : List ℕ) → text ≡ text_at 0 d → indented text ≡ text_at 2 d
-piece_deeper d text is = ap indented is ∙ value_deeper 0 d
+pub piece_deeper : (d : Data) (text : List ℕ) → text ≡ text_at 0 d → text_with_four_more text ≡ text_at 2 d
+piece_deeper d text is = ap text_with_four_more is ∙ value_deeper 0 d

@@ -11,7 +11,7 @@ use Rattle.std.proofs.lemmas.Cmp.{nat_list_cmp_total}
 use Rattle.serde_json.specs.Data.{Data, Members, member, put}
 use Rattle.serde_json.specs.View.{view, members_of, members_view}
 use Rattle.serde_json.proofs.Views.{Entry}
-use Rattle.zarrs_form.specs.Documents.{is_own, besides, is_empty, parsed, json_of}
+use Rattle.zarrs_form.specs.Documents.{is_own, besides, is_empty, tree_or_fault, json_of}
 use Rattle.zarrs_fault.specs.declared.fault.MetadataFault.TheVariants.{NotJson}
 use Rattle.serde_json.specs.Read.{read}
 use Rattle.std.specs.Str.{IsUtf8, is_utf8}
@@ -96,11 +96,11 @@ lookup-members_of name (e ∷ es) = found_or (slice_cmp nat_cmp name (string_byt
 
 -- ---- reading
 
-pub parsed_none : (bytes : List ℕ) → (IsUtf8 bytes → read bytes ≡ None) → parsed (json_of bytes) ≡ Err NotJson
+pub parsed_none : (bytes : List ℕ) → (IsUtf8 bytes → read bytes ≡ None) → tree_or_fault (json_of bytes) ≡ Err NotJson
 unfolding json_of
 parsed_none bytes h =
-    elim (is_utf8 bytes) as (λ b. is_utf8 bytes ≡ b → parsed (if b then read bytes else None) ≡ Err NotJson) [
-      | true ↦ λ e. ap parsed (h (IsUtf8-from_is_utf8 bytes e))
+    elim (is_utf8 bytes) as (λ b. is_utf8 bytes ≡ b → tree_or_fault (if b then read bytes else None) ≡ Err NotJson) [
+      | true ↦ λ e. ap tree_or_fault (h (IsUtf8-from_is_utf8 bytes e))
       | false ↦ λ e. refl
     ] refl
 

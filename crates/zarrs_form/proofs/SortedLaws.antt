@@ -21,7 +21,8 @@ use Rattle.serde_json.specs.Events.{members_len}
 use Rattle.serde_json.specs.View.{view, members_of, members_view}
 use Rattle.serde_json.proofs.Views.{Entry}
 use Rattle.zarrs_form.specs.Documents.{besides, has_own, is_empty, is_own}
-use Rattle.zarrs_form.specs.Sorted.{AreAscending, IsAt, IsGap, at_name}
+use Rattle.zarrs_form.specs.SortedMembers.{NamesAscend}
+use Rattle.zarrs_form.specs.StepsOfMembers.{IsNameAt, IsNameGap, at_name}
 use Rattle.zarrs_form.proofs.FieldLaws.{absent_in, besides_removed}
 use Rattle.zarrs_form.proofs.MemberLaws.{same_text}
 use Rattle.zarrs_form.proofs.Shared.{above_first, members_by}
@@ -38,7 +39,7 @@ module _ {X : Type 0} where
   -- ---- the search for a name
 
   -- the names at two places are in the places' order
-  less_at : (es : List (String Global × X)) → AreAscending es → (i j : ℕ) (d : String Global × X) → i < j → j < length es → string_cmp (get_or es i d).0 (get_or es j d).0 ≡ Less
+  less_at : (es : List (String Global × X)) → NamesAscend es → (i j : ℕ) (d : String Global × X) → i < j → j < length es → string_cmp (get_or es i d).0 (get_or es j d).0 ≡ Less
   less_at es up i j d before inside =
       let long = length-keys_of es in
       let first = get_or-map (λ (e : String Global × X). e.0) es i d d.0 (omega (arith, before, inside)) in
@@ -47,47 +48,47 @@ module _ {X : Type 0} where
       ∙ Less-from_sorted string_cmp (keys_of es) i j d.0 up before (omega (arith, inside, long))
 
   -- compared with one name, the names rise, as halving asks
-  rises : (es : List (String Global × X)) → AreAscending es → (name : List ℕ) → IsNonDecreasingBy (λ e. ordering_index (slice_cmp nat_cmp (string_bytes e.0) name)) es
+  rises : (es : List (String Global × X)) → NamesAscend es → (name : List ℕ) → IsNonDecreasingBy (λ e. ordering_index (slice_cmp nat_cmp (string_bytes e.0) name)) es
   rises es up name = searchable_from_sorted nat_list_cmp_total (λ (e : String Global × X). string_bytes e.0) es name
       (λ k d a b. ap is_lt (turned (string_bytes (get_or es k d).0) (string_bytes (get_or es (k + 1) d).0) Less (less_at es up k (k + 1) d (omega arith) b)))
 
   -- a search by halving ends at the name
-  pub search_found : (es : List (String Global × X)) (name : List ℕ) (r : Result ℕ ℕ) → IsSearchInRange r (length es) → IsBinarySearchResult (λ e. slice_cmp nat_cmp (string_bytes e.0) name) es r → IfOk r (IsAt es name)
+  pub search_found : (es : List (String Global × X)) (name : List ℕ) (r : Result ℕ ℕ) → IsSearchInRange r (length es) → IsBinarySearchResult (λ e. slice_cmp nat_cmp (string_bytes e.0) name) es r → IfOk r (IsNameAt es name)
   search_found es name (Ok i) inside at = record { inside = inside; is = λ d. same_text _ name (at d) }
   search_found es name (Err i) inside parted = tt
 
   -- or at the gap for it
-  pub search_missed : (es : List (String Global × X)) → AreAscending es → (name : List ℕ) (r : Result ℕ ℕ) → IsSearchInRange r (length es) → IsBinarySearchResult (λ e. slice_cmp nat_cmp (string_bytes e.0) name) es r → IfErr r (IsGap es name)
+  pub search_missed : (es : List (String Global × X)) → NamesAscend es → (name : List ℕ) (r : Result ℕ ℕ) → IsSearchInRange r (length es) → IsBinarySearchResult (λ e. slice_cmp nat_cmp (string_bytes e.0) name) es r → IfErr r (IsNameGap es name)
   search_missed es up name (Ok i) inside at = tt
   search_missed es up name (Err i) inside parted = let p = parted (rises es up name) in record { inside = inside; smaller = p.0; greater = p.1 }
 
   -- ---- where the name stands
 
   -- one place further
-  at_tail : (e : String Global × X) (es : List (String Global × X)) (name : List ℕ) (i : ℕ) → IsAt (e ∷ es) name (suc i) → IsAt es name i
+  at_tail : (e : String Global × X) (es : List (String Global × X)) (name : List ℕ) (i : ℕ) → IsNameAt (e ∷ es) name (suc i) → IsNameAt es name i
   at_tail e es name i at = record { inside = omega (arith, at.inside); is = at.is }
 
   -- the first name is the name, where it stands first
-  tied_first : (e : String Global × X) (es : List (String Global × X)) (name : List ℕ) → IsAt (e ∷ es) name zero → slice_cmp nat_cmp name (string_bytes e.0) ≡ Equal
+  tied_first : (e : String Global × X) (es : List (String Global × X)) (name : List ℕ) → IsNameAt (e ∷ es) name zero → slice_cmp nat_cmp name (string_bytes e.0) ≡ Equal
   tied_first e es name at = ap (slice_cmp nat_cmp name) (at.is e) ∙ tied_itself nat_list_cmp_total name
 
   -- and before it, where it stands later
-  above_head : (e : String Global × X) (es : List (String Global × X)) (name : List ℕ) (i : ℕ) → AreAscending (e ∷ es) → IsAt (e ∷ es) name (suc i) → slice_cmp nat_cmp name (string_bytes e.0) ≡ Greater
+  above_head : (e : String Global × X) (es : List (String Global × X)) (name : List ℕ) (i : ℕ) → NamesAscend (e ∷ es) → IsNameAt (e ∷ es) name (suc i) → slice_cmp nat_cmp name (string_bytes e.0) ≡ Greater
   above_head e es name i up at = turned (string_bytes e.0) name Less (subst (λ n. slice_cmp nat_cmp (string_bytes e.0) n ≡ Less) (at.is e) (less_at (e ∷ es) up 0 (suc i) e (omega arith) at.inside))
 
   -- the rest ascends too
-  tail_ascends : (e : String Global × X) (es : List (String Global × X)) → AreAscending (e ∷ es) → AreAscending es
+  tail_ascends : (e : String Global × X) (es : List (String Global × X)) → NamesAscend (e ∷ es) → NamesAscend es
   unfolding IsStrictlySortedBy
   tail_ascends e es up = up.1
 
   -- the value there is the name's
-  pub lookup_there : (es : List (String Global × X)) (name : List ℕ) (i : ℕ) (d : String Global × X) → AreAscending es → IsAt es name i → lookup (at_name name) es ≡ Some (get_or es i d).1
+  pub lookup_there : (es : List (String Global × X)) (name : List ℕ) (i : ℕ) (d : String Global × X) → NamesAscend es → IsNameAt es name i → lookup (at_name name) es ≡ Some (get_or es i d).1
   lookup_there [] name i d up at = absurd (omega (arith, at.inside))
   lookup_there (e ∷ es) name zero d up at = rw (tied_first e es name at) refl
   lookup_there (e ∷ es) name (suc i) d up at = rw (above_head e es name i up at) (lookup_there es name i d (tail_ascends e es up) (at_tail e es name i at))
 
   -- another value at a place
-  put_at : (es : List (String Global × X)) (k : String Global) (v : X) (i : ℕ) (d : String Global × X) → AreAscending es → IsAt es (string_bytes k) i → set es i ((get_or es i d).0, v) ≡ insert_entry string_cmp es k v
+  put_at : (es : List (String Global × X)) (k : String Global) (v : X) (i : ℕ) (d : String Global × X) → NamesAscend es → IsNameAt es (string_bytes k) i → set es i ((get_or es i d).0, v) ≡ insert_entry string_cmp es k v
   put_at [] k v i d up at = absurd (omega (arith, at.inside))
   put_at (e ∷ es) k v zero d up at =
       let here : string_cmp k e.0 ≡ Equal = tied_first e es (string_bytes k) at in
@@ -97,11 +98,11 @@ module _ {X : Type 0} where
       rw above (ap (λ x. e ∷ x) (put_at es k v i d (tail_ascends e es up) (at_tail e es (string_bytes k) i at)))
 
   -- another value there, beside the name that was read there
-  pub put_there : (es : List (String Global × X)) (k : String Global) (v : X) (i : ℕ) (x : String Global × X) → x ≡ get_or es i x → AreAscending es → IsAt es (string_bytes k) i → set es i (x.0, v) ≡ insert_entry string_cmp es k v
+  pub put_there : (es : List (String Global × X)) (k : String Global) (v : X) (i : ℕ) (x : String Global × X) → x ≡ get_or es i x → NamesAscend es → IsNameAt es (string_bytes k) i → set es i (x.0, v) ≡ insert_entry string_cmp es k v
   put_there es k v i x is up at = ap (λ (e : String Global × X). set es i (e.0, v)) is ∙ put_at es k v i x up at
 
   -- the entry there is taken away
-  pub removed_there : (es : List (String Global × X)) (name : List ℕ) (i : ℕ) → AreAscending es → IsAt es name i → remove es i ≡ remove_entry (at_name name) es
+  pub removed_there : (es : List (String Global × X)) (name : List ℕ) (i : ℕ) → NamesAscend es → IsNameAt es name i → remove es i ≡ remove_entry (at_name name) es
   removed_there [] name i up at = absurd (omega (arith, at.inside))
   removed_there (e ∷ es) name zero up at = rw (tied_first e es name at) refl
   removed_there (e ∷ es) name (suc i) up at = rw (above_head e es name i up at) (ap (λ x. e ∷ x) (removed_there es name i (tail_ascends e es up) (at_tail e es name i at)))
@@ -109,7 +110,7 @@ module _ {X : Type 0} where
   -- ---- where it would stand
 
   -- one place further
-  gap_tail : (e : String Global × X) (es : List (String Global × X)) (name : List ℕ) (i : ℕ) → IsGap (e ∷ es) name (suc i) → IsGap es name i
+  gap_tail : (e : String Global × X) (es : List (String Global × X)) (name : List ℕ) (i : ℕ) → IsNameGap (e ∷ es) name (suc i) → IsNameGap es name i
   gap_tail e es name i gap = record {
     inside = omega (arith, gap.inside);
     smaller = λ k d a b. gap.smaller (suc k) d (omega arith) (omega (arith, b));
@@ -117,27 +118,27 @@ module _ {X : Type 0} where
   }
 
   -- before the first name it would stand before the second too
-  gap_first : (e : String Global × X) (es : List (String Global × X)) (name : List ℕ) → IsGap (e ∷ es) name zero → IsGap es name zero
+  gap_first : (e : String Global × X) (es : List (String Global × X)) (name : List ℕ) → IsNameGap (e ∷ es) name zero → IsNameGap es name zero
   gap_first e es name gap = record {
     inside = omega arith;
     smaller = λ k d a b. absurd (omega (arith, b));
     greater = λ k d a b. gap.greater (suc k) d (omega arith) (omega (arith, b));
   }
 
-  below_head : (e : String Global × X) (es : List (String Global × X)) (name : List ℕ) → IsGap (e ∷ es) name zero → slice_cmp nat_cmp name (string_bytes e.0) ≡ Less
+  below_head : (e : String Global × X) (es : List (String Global × X)) (name : List ℕ) → IsNameGap (e ∷ es) name zero → slice_cmp nat_cmp name (string_bytes e.0) ≡ Less
   below_head e es name gap = turned (string_bytes e.0) name Greater (gap.greater 0 e (omega arith) (omega arith))
 
-  behind_head : (e : String Global × X) (es : List (String Global × X)) (name : List ℕ) (i : ℕ) → IsGap (e ∷ es) name (suc i) → slice_cmp nat_cmp name (string_bytes e.0) ≡ Greater
+  behind_head : (e : String Global × X) (es : List (String Global × X)) (name : List ℕ) (i : ℕ) → IsNameGap (e ∷ es) name (suc i) → slice_cmp nat_cmp name (string_bytes e.0) ≡ Greater
   behind_head e es name i gap = turned (string_bytes e.0) name Less (gap.smaller 0 e (omega arith) (omega arith))
 
   -- nothing is found at the name
-  pub lookup_missing : (es : List (String Global × X)) (name : List ℕ) (i : ℕ) → IsGap es name i → lookup (at_name name) es ≡ None
+  pub lookup_missing : (es : List (String Global × X)) (name : List ℕ) (i : ℕ) → IsNameGap es name i → lookup (at_name name) es ≡ None
   lookup_missing [] name i gap = refl
   lookup_missing (e ∷ es) name zero gap = rw (below_head e es name gap) (lookup_missing es name zero (gap_first e es name gap))
   lookup_missing (e ∷ es) name (suc i) gap = rw (behind_head e es name i gap) (lookup_missing es name i (gap_tail e es name i gap))
 
   -- a value is put there
-  pub put_in_gap : (es : List (String Global × X)) (k : String Global) (v : X) (i : ℕ) → IsGap es (string_bytes k) i → insert es i (k, v) ≡ insert_entry string_cmp es k v
+  pub put_in_gap : (es : List (String Global × X)) (k : String Global) (v : X) (i : ℕ) → IsNameGap es (string_bytes k) i → insert es i (k, v) ≡ insert_entry string_cmp es k v
   put_in_gap [] k v zero gap = refl
   put_in_gap [] k v (suc i) gap = absurd (omega (arith, gap.inside))
   put_in_gap (e ∷ es) k v zero gap =
@@ -156,12 +157,12 @@ module _ {X : Type 0} where
 
   -- ---- the order after a change
 
-  pub ascending_put : (es : List (String Global × X)) (k : String Global) (v : X) → AreAscending es → AreAscending (insert_entry string_cmp es k v)
+  pub ascending_put : (es : List (String Global × X)) (k : String Global) (v : X) → NamesAscend es → NamesAscend (insert_entry string_cmp es k v)
   unfolding IsStrictlySortedBy
   ascending_put [] k v up = (tt, tt)
   ascending_put (e ∷ es) k v up =
       let after = All-after_first string_cmp e.0 (keys_of es) up in
-      elim (string_cmp k e.0) as (λ o. string_cmp k e.0 ≡ o → AreAscending (match_ordering o ((k, v) ∷ e ∷ es) ((e.0, v) ∷ es) (e ∷ insert_entry string_cmp es k v))) [
+      elim (string_cmp k e.0) as (λ o. string_cmp k e.0 ≡ o → NamesAscend (match_ordering o ((k, v) ∷ e ∷ es) ((e.0, v) ∷ es) (e ∷ insert_entry string_cmp es k v))) [
         | Less ↦ λ is. (
           (
             is,
@@ -178,10 +179,10 @@ module _ {X : Type 0} where
         )
       ] refl
 
-  pub ascending_taken : (test : String Global → Bool) (es : List (String Global × X)) → AreAscending es → AreAscending (remove_entry test es)
+  pub ascending_taken : (test : String Global → Bool) (es : List (String Global × X)) → NamesAscend es → NamesAscend (remove_entry test es)
   unfolding IsStrictlySortedBy
   ascending_taken test [] up = tt
-  ascending_taken test (e ∷ es) up = elim (test e.0) as (λ b. AreAscending (cond b es (e ∷ remove_entry test es))) [
+  ascending_taken test (e ∷ es) up = elim (test e.0) as (λ b. NamesAscend (cond b es (e ∷ remove_entry test es))) [
     | true ↦ up.1
     | false ↦ (
       recursion_from_All (λ y. string_cmp e.0 y ≡ Less) (keys_of (remove_entry test es))
@@ -191,12 +192,12 @@ module _ {X : Type 0} where
   ]
 
   -- no entries ascend
-  pub none_ascend : (es : List (String Global × X)) → es ≡ [] → AreAscending es
+  pub none_ascend : (es : List (String Global × X)) → es ≡ [] → NamesAscend es
   unfolding IsStrictlySortedBy
-  none_ascend es is = subst AreAscending (sym is) tt
+  none_ascend es is = subst NamesAscend (sym is) tt
 
   -- what is put behind all goes last
-  pub put_behind_all : (done : List (String Global × X)) (e : String Global × X) (more : List (String Global × X)) → AreAscending (done ++ e ∷ more) → insert_entry string_cmp done e.0 e.1 ≡ done ++ e ∷ []
+  pub put_behind_all : (done : List (String Global × X)) (e : String Global × X) (more : List (String Global × X)) → NamesAscend (done ++ e ∷ more) → insert_entry string_cmp done e.0 e.1 ≡ done ++ e ∷ []
   unfolding IsStrictlySortedBy
   put_behind_all [] e more up = refl
   put_behind_all (first ∷ done) e more up =
@@ -211,7 +212,7 @@ module _ {X : Type 0} where
   none_above (e ∷ es) name above = rw above.0 (none_above es name above.1)
 
   -- once taken away, the name is not found
-  gone : (es : List (String Global × X)) (name : List ℕ) → AreAscending es → lookup (at_name name) (remove_entry (at_name name) es) ≡ None
+  gone : (es : List (String Global × X)) (name : List ℕ) → NamesAscend es → lookup (at_name name) (remove_entry (at_name name) es) ≡ None
   unfolding IsStrictlySortedBy
   gone [] name up = refl
   gone (e ∷ es) name up = elim (at_name name e.0) as (λ b. at_name name e.0 ≡ b → lookup (at_name name) (cond b es (e ∷ remove_entry (at_name name) es)) ≡ None) [
@@ -222,7 +223,7 @@ module _ {X : Type 0} where
 -- ---- entries and the members that they are
 
 -- the members that are left
-pub members_left : {X : Type 0} (see : X → Data) (name : List ℕ) (es left : List (String Global × X)) → AreAscending es → left ≡ remove_entry (at_name name) es → members_by see left ≡ besides (name ∷ []) (members_by see es)
+pub members_left : {X : Type 0} (see : X → Data) (name : List ℕ) (es left : List (String Global × X)) → NamesAscend es → left ≡ remove_entry (at_name name) es → members_by see left ≡ besides (name ∷ []) (members_by see es)
 members_left see name es left up is = ap (members_by see) is ∙ besides_removed see name es (gone es name up)
 
 -- entries are none where the members are
@@ -255,7 +256,7 @@ module _ {X : Type 0} (IsCopy : X → X → Type 0) where
   )
 
   -- copies of entries stand in their order
-  pub copies_ascend : (es fs : List (String Global × X)) → AllZip (λ e f. (string_bytes f.0 ≡ string_bytes e.0) × IsCopy e.1 f.1) es fs → AreAscending es → AreAscending fs
+  pub copies_ascend : (es fs : List (String Global × X)) → AllZip (λ e f. (string_bytes f.0 ≡ string_bytes e.0) × IsCopy e.1 f.1) es fs → NamesAscend es → NamesAscend fs
   unfolding IsStrictlySortedBy
   copies_ascend [] [] zip up = tt
   copies_ascend [] (f ∷ fs) zip up = absurd zip
@@ -286,10 +287,10 @@ kept_below P names (e ∷ es) h = elim (is_own names (string_bytes e.0)) as (λ 
 ]
 
 -- and they stand in the same order
-pub kept_ascend : (names : List (List ℕ)) (es : List Entry) → AreAscending es → AreAscending (kept names es)
+pub kept_ascend : (names : List (List ℕ)) (es : List Entry) → NamesAscend es → NamesAscend (kept names es)
 unfolding IsStrictlySortedBy
 kept_ascend names [] up = tt
-kept_ascend names (e ∷ es) up = elim (is_own names (string_bytes e.0)) as (λ b. AreAscending (if b then kept names es else (e.0, view e.1) ∷ kept names es)) [
+kept_ascend names (e ∷ es) up = elim (is_own names (string_bytes e.0)) as (λ b. NamesAscend (if b then kept names es else (e.0, view e.1) ∷ kept names es)) [
   | true ↦ kept_ascend names es up.1
   | false ↦ (kept_below (λ y. string_cmp e.0 y ≡ Less) names es up.0, kept_ascend names es up.1)
 ]

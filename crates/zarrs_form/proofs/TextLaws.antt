@@ -9,7 +9,8 @@ use Rattle.serde_json.specs.Data.{Data, Items, item, Members, no_members, member
 use Rattle.serde_json.specs.Written.{comma_if, compact_text, items_text, members_text}
 use Rattle.zarrs_form.specs.Documents.{is_empty}
 use Rattle.zarrs_form.specs.Forms.{none_or, number_data, put_rows, unless}
-use Rattle.zarrs_form.specs.Texts.{BeginsWith, has_escape, row_text}
+use Rattle.zarrs_form.specs.Texts.{BeginsWith, row_text}
+use Rattle.zarrs_form.specs.StepsOfTexts.{has_escape}
 
 -- a byte with no escape stands as itself
 escape_byte_bare : (x : ℕ) → (x == 34) ≡ false → (x == 92) ≡ false → (x == 8) ≡ false → (x == 12) ≡ false → (x == 10) ≡ false → (x == 13) ≡ false → (x == 9) ≡ false → nat_lt x 32 ≡ false

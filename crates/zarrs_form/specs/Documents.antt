@@ -20,7 +20,7 @@ abbrev pub Refuses : {B : Type 0} → MetadataFault → Result B MetadataFault �
 Refuses OutOfMemory reading = Unit {0}
 Refuses fault reading = reading ≡ Err fault
 
--- a function answers what the reading gives: its value as it is seen, or its fault, and want of memory says nothing
+-- a function answers what the reading gives: its value as it is seen, or its fault, and out of memory says nothing
 abbrev pub Gives : {A B : Type 0} → (A → B) → Result A MetadataFault → Result B MetadataFault → Type 0
 Gives see (Ok x) reading = reading ≡ Ok (see x)
 Gives see (Err fault) reading = Refuses fault reading
@@ -30,13 +30,13 @@ unfoldable pub json_of : List ℕ → Option Data
 json_of bytes = if is_utf8 bytes then read bytes else None
 
 -- what is no JSON text is the fault `NotJson`
-abbrev pub parsed : Option Data → Result Data MetadataFault
-parsed None = Err NotJson
-parsed (Some d) = Ok d
+abbrev pub tree_or_fault : Option Data → Result Data MetadataFault
+tree_or_fault None = Err NotJson
+tree_or_fault (Some d) = Ok d
 
 -- what bytes mean: the document that their tree is
 abbrev pub of_bytes : {A : Type 0} → (Data → Result A MetadataFault) → List ℕ → Result A MetadataFault
-of_bytes document bytes = parsed (json_of bytes) >>= document
+of_bytes document bytes = tree_or_fault (json_of bytes) >>= document
 
 -- the members of an object
 abbrev pub object_of : Data → Result Members MetadataFault
@@ -66,36 +66,36 @@ unfoldable pub node_type_of : List ℕ → Data → Result (Unit {0}) MetadataFa
 node_type_of t d = if is_text t (option_and_then as_str (get (codes "node_type") d)) then Ok tt else Err WrongNodeType
 
 -- a value of the form, where the data have it
-abbrev pub formed : {A : Type 0} → List ℕ → Option A → Result A MetadataFault
-formed name None = Err (BadMember name)
-formed name (Some x) = Ok x
+abbrev pub form_or_fault : {A : Type 0} → List ℕ → Option A → Result A MetadataFault
+form_or_fault name None = Err (BadMember name)
+form_or_fault name (Some x) = Ok x
 
 -- a member that is there
-abbrev pub present : List ℕ → Option Data → Result Data MetadataFault
-present name None = Err (MissingMember name)
-present name (Some d) = Ok d
+abbrev pub member_or_fault : List ℕ → Option Data → Result Data MetadataFault
+member_or_fault name None = Err (MissingMember name)
+member_or_fault name (Some d) = Ok d
 
 -- what was found has the form; where nothing was found it is the value for absent
-abbrev pub optional_from : {A : Type 0} → List ℕ → A → (Data → Option A) → Option Data → Result A MetadataFault
-optional_from name absent form None = Ok absent
-optional_from name absent form (Some d) = formed name (form d)
+abbrev pub optional_found : {A : Type 0} → List ℕ → A → (Data → Option A) → Option Data → Result A MetadataFault
+optional_found name otherwise form None = Ok otherwise
+optional_found name otherwise form (Some d) = form_or_fault name (form d)
 
 -- what must not be found
-abbrev absent_from : List ℕ → Option Data → Result (Unit {0}) MetadataFault
-absent_from name None = Ok tt
-absent_from name (Some d) = Err (BadMember name)
+abbrev no_member_found : List ℕ → Option Data → Result (Unit {0}) MetadataFault
+no_member_found name None = Ok tt
+no_member_found name (Some d) = Err (BadMember name)
 
 -- a member that must not be there
-abbrev pub absent : List ℕ → Data → Result (Unit {0}) MetadataFault
-absent name d = absent_from name (get name d)
+abbrev pub no_member : List ℕ → Data → Result (Unit {0}) MetadataFault
+no_member name d = no_member_found name (get name d)
 
 -- a member that has to be there, of the form
-abbrev pub required : {A : Type 0} → List ℕ → (Data → Option A) → Data → Result A MetadataFault
-required name form d = present name (get name d) >>= λ v. formed name (form v)
+abbrev pub required_member : {A : Type 0} → List ℕ → (Data → Option A) → Data → Result A MetadataFault
+required_member name form d = member_or_fault name (get name d) >>= λ v. form_or_fault name (form v)
 
 -- a member that may be absent, of the form
-abbrev pub optional : {A : Type 0} → List ℕ → A → (Data → Option A) → Data → Result A MetadataFault
-optional name absent form d = optional_from name absent form (get name d)
+abbrev pub optional_member : {A : Type 0} → List ℕ → A → (Data → Option A) → Data → Result A MetadataFault
+optional_member name otherwise form d = optional_found name otherwise form (get name d)
 
 -- the name is one of the names
 abbrev pub is_own : List (List ℕ) → List ℕ → Bool
@@ -119,7 +119,7 @@ is_null found = is_some (option_and_then as_null found)
 abbrev pub besides_null : List ℕ → Members → Members
 besides_null name ms = if is_null (get_member name ms) then besides (name ∷ []) ms else ms
 
--- what reading gives is not want of memory
+-- what reading gives is not out of memory
 abbrev pub NeverLacksMemory : {A : Type 0} → Result A MetadataFault → Type 0
 NeverLacksMemory reading = reading ≢ Err OutOfMemory
 

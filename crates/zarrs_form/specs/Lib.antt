@@ -4,5 +4,7 @@ pub mod Fields
 pub mod Forms
 pub mod FormsV2
 pub mod Pretty
-pub mod Sorted
+pub mod SortedMembers
+pub mod StepsOfMembers
+pub mod StepsOfTexts
 pub mod Texts

@@ -1,8 +1,7 @@
 -- RFC 8259: the pretty layout of a value, piece by piece. A level is two spaces.
 --     pretty_text d, text_at n d      the layout of a value; that of one n levels deep
---     indented s      a text two levels deeper
 --     entry_text, entries_text      members of an object that stands one level deep
-use Rattle.std.specs.Prelude.{ℕ, ◌+◌, List, [], ◌∷◌, ◌++◌, ◌==◌, Bool, true, false, if◌then◌else◌, flat_map}
+use Rattle.std.specs.Prelude.{if◌then◌else◌, ℕ, ◌+◌, List, [], ◌∷◌, ◌++◌, Bool, true, false}
 use Rattle.json.specs.Layout.{line, pretty}
 use Rattle.json.specs.Print.{quoted, token_text}
 use Rattle.json.specs.Token.{Token}
@@ -38,23 +37,6 @@ abbrev mutual
   members_at later n no_members = close_line later n ++ 125 ∷ []
   members_at later n (member k d ms) = comma_if later ++ (line (n + 1) ++ (quoted k ++ 58 ∷ 32 ∷ (text_at (n + 1) d ++ members_at true n ms)))
 
--- a byte, and after a newline four spaces more
-abbrev pub four_more : ℕ → List ℕ
-four_more b = if b == 10 then 10 ∷ 32 ∷ 32 ∷ 32 ∷ 32 ∷ [] else b ∷ []
-
--- a text with four spaces more after each newline
-abbrev pub indented : List ℕ → List ℕ
-indented = flat_map four_more
-
--- a line of its own two levels deep, where a text stands before it
-abbrev pub break_if : Bool → List ℕ
-break_if later = if later then 10 ∷ 32 ∷ 32 ∷ 32 ∷ 32 ∷ [] else []
-
 -- a member of an object that stands one level deep, behind a comma where one stands before it
 abbrev pub entry_text : Bool → List ℕ → Data → List ℕ
 entry_text later k d = comma_if later ++ (line 2 ++ (quoted k ++ 58 ∷ 32 ∷ text_at 2 d))
-
--- the members, one after the other
-abbrev pub entries_text : Bool → Members → List ℕ
-entries_text later no_members = []
-entries_text later (member k d ms) = entry_text later k d ++ entries_text true ms

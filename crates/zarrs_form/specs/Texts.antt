@@ -1,5 +1,5 @@
 -- RFC 8259, "Strings" and "Objects": the pieces of the compact text of a document.
-use Rattle.std.specs.Prelude.{◌≡◌, ℕ, List, [], ◌∷◌, ◌++◌, ◌==◌, ◌||◌, nat_lt, Bool, Option, Some, None}
+use Rattle.std.specs.Prelude.{◌≡◌, ℕ, List, [], ◌∷◌, ◌++◌, Option, Some, None}
 use Rattle.json.specs.Print.{quoted}
 use Rattle.serde_json.specs.Data.{Data}
 use Rattle.serde_json.specs.Written.{compact_text}
@@ -8,10 +8,6 @@ use Rattle.serde_json.specs.Written.{compact_text}
 pub record BeginsWith (text start : List ℕ) : Type 0 where
   pub more : List ℕ
   pub is : text ≡ start ++ more
-
--- a byte has an escape: a control character, the quotation mark or the backslash
-abbrev pub has_escape : ℕ → Bool
-has_escape b = nat_lt b 32 || ((b == 34) || (b == 92))
 
 -- the text of a row of a table: the name in quotes, a colon, what is written at it and a comma, or nothing
 abbrev pub row_text : List ℕ → Option Data → List ℕ

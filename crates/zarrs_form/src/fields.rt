@@ -3,7 +3,7 @@ ghost use Rattle.std.specs.Prelude.{◌≡◌, ◌∷◌, [], IfErr, IfOk, IsFal
 ghost use Rattle.serde_json.specs.View.{view, members_of, members_view};
 ghost use Rattle.serde_json.specs.Written as written;
 ghost use Rattle.zarrs_form.specs.Documents.{besides, has_own, is_empty, is_null};
-ghost use Rattle.zarrs_form.specs.Sorted.{AreAscending};
+ghost use Rattle.zarrs_form.specs.SortedMembers.{NamesAscend};
 ghost use Rattle.serde_json.specs.Events.{members_len};
 ghost use Rattle.serde_json.specs.Find.{get_member};
 ghost use Rattle.serde_json.specs.Data.{no_members, object};
@@ -95,7 +95,7 @@ pub struct AdditionalFieldsV3 {
 impl Model for AdditionalFieldsV3 {
     ghost use Rattle.serde_json.specs.Data.{Members};
     ghost use Rattle.zarrs_form.specs.DataCode.{members_code};
-    ghost use Rattle.zarrs_form.specs.Sorted.{AreAscending};
+    ghost use Rattle.zarrs_form.specs.SortedMembers.{NamesAscend};
     ghost use Rattle.serde_json.specs.View.{members_of};
 
     ghost Value = { Members };
@@ -104,7 +104,7 @@ impl Model for AdditionalFieldsV3 {
 
     ghost view = { λ a. members_of a.entries.items };
 
-    ghost invariant = { λ a. AreAscending a.entries.items };
+    ghost invariant = { λ a. NamesAscend a.entries.items };
 }
 
 impl Clone for AdditionalFieldV3 {
@@ -153,7 +153,7 @@ impl AdditionalFieldsV3 {
     /// The fields in the order of their names, each with its name.
     pub fn as_slice(&self) -> &[(String, AdditionalFieldV3)]
         ensures fields { members_of result.now ≡ self.now }
-        ensures ascending { AreAscending result.now }
+        ensures ascending { NamesAscend result.now }
     {
         self.entries.as_slice()
     }

@@ -321,7 +321,7 @@ pub fn required<T: Form>(
     name: &'static str,
 ) -> Result<T, MetadataFault>
     ensures gives { Gives (λ x. x) result
-        (documents.required name.now T.form (object (members_view members.old.entries))) }
+        (documents.required_member name.now T.form (object (members_view members.old.entries))) }
     ensures left { members_view members.new.entries
         ≡ besides (name.now ∷ []) (members_view members.old.entries) }
 {
@@ -350,7 +350,7 @@ pub fn optional<T: Form + Drop>(
     absent: T,
 ) -> Result<T, MetadataFault>
     ensures gives { Gives (λ x. x) result
-        (documents.optional name.now absent T.form (object (members_view members.old.entries))) }
+        (documents.optional_member name.now absent T.form (object (members_view members.old.entries))) }
     ensures left { members_view members.new.entries
         ≡ besides (name.now ∷ []) (members_view members.old.entries) }
 {
@@ -373,7 +373,7 @@ pub fn optional<T: Form + Drop>(
 /// Source: Zarr core specification 3.1, "Array metadata", "attributes"; specification version 2, "Attributes".
 pub fn attributes(alloc: Global, members: &mut Map<String, Value>) -> Result<Object, MetadataFault>
     ensures gives { Gives (λ x. x) result
-        (documents.optional (codes "attributes") no_members as_object (object (members_view members.old.entries))) }
+        (documents.optional_member (codes "attributes") no_members as_object (object (members_view members.old.entries))) }
     ensures left { members_view members.new.entries
         ≡ besides (codes "attributes" ∷ []) (members_view members.old.entries) }
 {

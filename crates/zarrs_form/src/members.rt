@@ -4,7 +4,7 @@ ghost use Rattle.serde_json.specs.Data.{object, string, put};
 ghost use Rattle.serde_json.specs.Find.{get_member};
 ghost use Rattle.serde_json.specs.Written as written;
 ghost use Rattle.serde_json.specs.View.{view, items_view, members_view};
-ghost use Rattle.zarrs_form.specs.Documents.{Gives, absent, besides, besides_null, is_own, object_of, parsed, json_of, document_of, format_of, node_type_of};
+ghost use Rattle.zarrs_form.specs.Documents.{Gives, no_member, besides, besides_null, is_own, object_of, tree_or_fault, json_of, document_of, format_of, node_type_of};
 
 use serde_json::{Category, Map, Value};
 use std::alloc::{AllocError, Global};
@@ -177,7 +177,7 @@ pub fn ask_node_type(members: &Map<String, Value>, node_type: &str) -> Result<()
 /// Source: Zarr core specification 3.1, "Metadata documents"; specification version 2, "Metadata".
 #[tactic(auto, unfolding(crate::specs::Documents::json_of))]
 pub fn parse(alloc: Global, bytes: &[u8]) -> Result<Value, MetadataFault>
-    ensures { Gives view result (parsed (json_of bytes.now)) }
+    ensures { Gives view result (tree_or_fault (json_of bytes.now)) }
 {
     match Value::from_slice(alloc, bytes) {
         Ok(value) => Ok(value),
@@ -217,7 +217,7 @@ pub fn put_text(
 ///
 /// `BadMember` where there is one.
 pub fn refuse(members: &Map<String, Value>, name: &'static str) -> Result<(), MetadataFault>
-    ensures { result ≡ absent name.now (object (members_view members.now.entries)) }
+    ensures { result ≡ no_member name.now (object (members_view members.now.entries)) }
 {
     match member(members, name) {
         None => Ok(()),

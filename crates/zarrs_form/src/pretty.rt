@@ -2,7 +2,8 @@
 ghost use Rattle.std.specs.Prelude.{◌≡◌, ◌++◌, false, IfOk, OnOk, string_bytes};
 ghost use Rattle.serde_json.specs.View.{view};
 ghost use Rattle.serde_json.specs.Written.{has_float};
-ghost use Rattle.zarrs_form.specs.Pretty.{break_if, entry_text, indented, text_at};
+ghost use Rattle.zarrs_form.specs.Pretty.{entry_text, text_at};
+ghost use Rattle.zarrs_form.specs.StepsOfTexts.{break_if, text_with_four_more};
 
 use crate::text::{write_comma, write_text};
 use serde_json::Value;
@@ -45,7 +46,7 @@ fn pretty_text(alloc: Global, value: &Value) -> Result<String, AllocError>
 
 /// Appends a text, with four spaces more after each newline.
 fn write_indented(out: &mut String, text: &str) -> Result<(), AllocError>
-    ensures ok { OnOk result (string_bytes out.new ≡ string_bytes out.old ++ indented text.now) }
+    ensures ok { OnOk result (string_bytes out.new ≡ string_bytes out.old ++ text_with_four_more text.now) }
 {
     let mut later = false;
     for line in text.split('\n') {

@@ -3,7 +3,7 @@
 ghost use Rattle.std.specs.Prelude.{◌≡◌, ◌∷◌, [], IfOk, OnErr, OnOk, map, option_map, string_bytes};
 ghost use Rattle.zarrs_form.specs.Documents.{besides, has_own, is_empty};
 ghost use Rattle.zarrs_form.specs.Forms.{is_nil};
-ghost use Rattle.zarrs_form.specs.Sorted.{AreAscending};
+ghost use Rattle.zarrs_form.specs.SortedMembers.{NamesAscend};
 ghost use Rattle.serde_json.specs.Data.{no_members, put};
 ghost use Rattle.serde_json.specs.Events.{members_len};
 ghost use Rattle.serde_json.specs.Find.{get_member};
@@ -127,7 +127,7 @@ pub struct Object {
 impl Model for Object {
     ghost use Rattle.serde_json.specs.Data.{Members};
     ghost use Rattle.zarrs_form.specs.DataCode.{members_code};
-    ghost use Rattle.zarrs_form.specs.Sorted.{AreAscending};
+    ghost use Rattle.zarrs_form.specs.SortedMembers.{NamesAscend};
     ghost use Rattle.serde_json.specs.View.{members_view};
 
     ghost Value = { Members };
@@ -136,7 +136,7 @@ impl Model for Object {
 
     ghost view = { λ a. members_view a.entries.items };
 
-    ghost invariant = { λ a. AreAscending a.entries.items };
+    ghost invariant = { λ a. NamesAscend a.entries.items };
 }
 
 impl Object {
@@ -165,7 +165,7 @@ impl Object {
     /// The members in the order of their names, each with its name.
     pub fn as_slice(&self) -> &[(String, Value)]
         ensures members { members_view result.now ≡ self.now }
-        ensures ascending { AreAscending result.now }
+        ensures ascending { NamesAscend result.now }
     {
         self.entries.as_slice()
     }

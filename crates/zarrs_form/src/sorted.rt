@@ -4,7 +4,8 @@ ghost use Rattle.std.specs.BTreeMap.{insert_entry};
 ghost use Rattle.std.specs.List.{AllZip, list_any};
 ghost use Rattle.std.specs.Map.{keys_of, lookup, remove_entry};
 ghost use Rattle.zarrs_form.specs.Documents.{is_own};
-ghost use Rattle.zarrs_form.specs.Sorted.{AreAscending, IsAt, IsGap, at_name};
+ghost use Rattle.zarrs_form.specs.SortedMembers.{NamesAscend};
+ghost use Rattle.zarrs_form.specs.StepsOfMembers.{IsNameAt, IsNameGap, at_name};
 
 use crate::members::is_one_of;
 use serde_json::Map;
@@ -13,16 +14,16 @@ use std::mem::replace;
 
 // Where the name stands, or where it would stand.
 fn place_of<T>(entries: &[(String, T)], name: &str) -> Result<usize, usize>
-    requires ascending { AreAscending entries.now }
-    ensures found { IfOk result (IsAt entries.now name.now) }
-    ensures absent { IfErr result (IsGap entries.now name.now) }
+    requires ascending { NamesAscend entries.now }
+    ensures found { IfOk result (IsNameAt entries.now name.now) }
+    ensures absent { IfErr result (IsNameGap entries.now name.now) }
 {
     entries.binary_search_by(|entry| entry.0.as_str().cmp(name))
 }
 
 // What stands at the name.
 pub(crate) fn find<'a, T>(entries: &'a [(String, T)], name: &str) -> Option<&'a T>
-    requires ascending { AreAscending entries.now }
+    requires ascending { NamesAscend entries.now }
     ensures { option_copied result ≡ lookup (at_name name.now) entries.now }
 {
     match place_of(entries, name) {
@@ -37,11 +38,11 @@ pub(crate) fn put_entry<T: Drop>(
     name: String,
     value: T,
 ) -> Result<Option<T>, AllocError>
-    requires ascending { AreAscending entries.old.items }
+    requires ascending { NamesAscend entries.old.items }
     ensures before { IfOk result (λ before. before ≡ lookup (at_name (string_bytes name)) entries.old.items) }
     ensures ok { OnOk result (entries.new.items ≡ insert_entry string_cmp entries.old.items name value) }
     ensures unchanged { OnErr result (entries.new.items ≡ entries.old.items) }
-    ensures ascending { AreAscending entries.new.items }
+    ensures ascending { NamesAscend entries.new.items }
 {
     match place_of(entries.as_slice(), name.as_str()) {
         Ok(place) => Ok(Some(replace(&mut entries[place].1, value))),
@@ -54,10 +55,10 @@ pub(crate) fn put_entry<T: Drop>(
 
 // Takes away what stands at the name.
 pub(crate) fn take_entry<T>(entries: &mut Vec<(String, T)>, name: &str) -> Option<T>
-    requires ascending { AreAscending entries.old.items }
+    requires ascending { NamesAscend entries.old.items }
     ensures found { result ≡ lookup (at_name name.now) entries.old.items }
     ensures left { entries.new.items ≡ remove_entry (at_name name.now) entries.old.items }
-    ensures ascending { AreAscending entries.new.items }
+    ensures ascending { NamesAscend entries.new.items }
 {
     match place_of(entries.as_slice(), name) {
         Ok(place) => {
@@ -74,7 +75,7 @@ pub(crate) fn entries_of<T: Drop>(
     map: Map<String, T>,
 ) -> Result<Vec<(String, T)>, AllocError>
     ensures entries { IfOk result (λ entries. entries.items ≡ map.entries) }
-    ensures ascending { AreAscending map.entries }
+    ensures ascending { NamesAscend map.entries }
 {
     let mut entries = Vec::with_capacity(alloc, map.len())?;
     for (name, value) in map {
@@ -88,7 +89,7 @@ pub(crate) fn map_of<T: Drop>(
     alloc: Global,
     entries: Vec<(String, T)>,
 ) -> Result<Map<String, T>, AllocError>
-    requires ascending { AreAscending entries.items }
+    requires ascending { NamesAscend entries.items }
     ensures { IfOk result (λ map. map.entries ≡ entries.items) }
 {
     let mut map = Map::new(alloc);

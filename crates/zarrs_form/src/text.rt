@@ -9,7 +9,8 @@ ghost use Rattle.serde_json.specs.Written as written;
 ghost use Rattle.serde_json.specs.Written.{comma_if, compact_text, members_text};
 ghost use Rattle.zarrs_form.specs.Forms as forms;
 ghost use Rattle.zarrs_form.specs.Forms.{none_or};
-ghost use Rattle.zarrs_form.specs.Texts.{BeginsWith, has_escape, row_text};
+ghost use Rattle.zarrs_form.specs.Texts.{BeginsWith, row_text};
+ghost use Rattle.zarrs_form.specs.StepsOfTexts.{has_escape};
 
 use crate::form::Form;
 use serde_json::Value;

@@ -14,7 +14,7 @@ use Rattle.zarrs_path.specs.Keys.{zarray, zgroup, zmetadata}
 use Rattle.zarrs_path.specs.declared.node_path.NodePathError.TheVariants.{Invalid as InvalidPath, OutOfMemory as NoPathMemory}
 use Rattle.zarrs_path.specs.Names.{is_name}
 use Rattle.zarrs_path.specs.Paths.{Path, IsPath}
-use Rattle.zarrs_form.specs.Documents.{◌>>=◌, json_of, parsed, of_bytes}
+use Rattle.zarrs_form.specs.Documents.{◌>>=◌, json_of, tree_or_fault, of_bytes}
 use Rattle.zarrs_meta.specs.declared.attributes.AttributesDocument.{AttributesDocument}
 use Rattle.zarrs_meta.specs.declared.node.GroupMetadata.{GroupMetadata}
 use Rattle.zarrs_meta.specs.declared.node.GroupMetadata.TheVariants.{V3, V2}
@@ -27,18 +27,18 @@ use Rattle.zarrs_meta.specs.declared.node.ArrayMetadata.TheVariants.{V2 as array
 use Rattle.zarrs_meta.specs.declared.node.GroupMetadata.TheVariants.{V2 as group_v2}
 use Rattle.zarrs_meta.specs.declared.node.NodeMetadata.{NodeMetadata}
 use Rattle.zarrs_meta.specs.declared.node.NodeMetadata.TheVariants.{Group, Array}
-use Rattle.zarrs_block.specs.Block.{Block, IsValidKey, first_some, found, put}
+use Rattle.zarrs_block.specs.Block.{Block, IsValidKey, first_some, node_at_key, put}
 use Rattle.zarrs_block.specs.Meaning.{Meaning, node, nothing, bad, attributes_in, document_at, in_trees, version_2_line, meaning_in, zarray_line, zgroup_line}
-use Rattle.zarrs_block.specs.Refused.{LacksMemory}
+use Rattle.zarrs_block.specs.Refusals.{LacksMemory}
 use Rattle.zarrs_block.specs.declared.node_create_error.NodeCreateError.{NodeCreateError}
 use Rattle.zarrs_block.specs.declared.node_create_error.NodeCreateError.TheVariants as made
 use Rattle.zarrs_block.specs.Small.{SmallStore, small, small_meaning}
-use Rattle.zarrs_block.specs.Zmetadata.{RefusesZmetadata, before_last, below, block_from, is_bad, is_good, is_version_2, small_block, with_node, zmetadata_members, zmetadata_of}
+use Rattle.zarrs_block.specs.Zmetadata.{RefusesZmetadata, before_last, documents_below, block_from, is_bad, is_good, is_version_2, small_block, with_node, zmetadata_members, zmetadata_of}
 use Rattle.zarrs_block.proofs.Expansion.{same_text}
 use Rattle.zarrs_node.proofs.Child.{node_same}
 use Rattle.zarrs_node.proofs.Puts.{found_put}
-use Rattle.zarrs_group.specs.Beside.{IsBeside}
-use Rattle.zarrs_group.specs.Consolidated.{block_beside}
+use Rattle.zarrs_group.specs.BlocksBeside.{IsBeside}
+use Rattle.zarrs_group.specs.BlocksOfGroups.{block_beside}
 
 -- ---- what a line of version 2 means
 
@@ -68,18 +68,18 @@ means_v2 z p m e =
 
 -- what the block has stands at a valid key, and is of version 2
 abbrev Fitting : Block → Type 0
-Fitting B = (t : List ℕ) (m : NodeMetadata) → found B t ≡ Some m → IsValidKey t × IsTrue (is_version_2 m)
+Fitting B = (t : List ℕ) (m : NodeMetadata) → node_at_key B t ≡ Some m → IsValidKey t × IsTrue (is_version_2 m)
 
 -- a node of version 2 that is put at names fits
 put_fits : (p : Path) (k : NodeMetadata) (B : Block) → IsPath p → IsTrue (is_version_2 k) → Fitting B → Fitting (put (key_text p) k B)
 put_fits p k B names kind fits t m e = at (is_eq (bytes_cmp t (key_text p))) refl (sym (found_put t (key_text p) k B) ∙ e)
   where
-    at : (b : Bool) → is_eq (bytes_cmp t (key_text p)) ≡ b → cond (is_eq (bytes_cmp t (key_text p))) (Some k) (found B t) ≡ Some m → IsValidKey t × IsTrue (is_version_2 m)
+    at : (b : Bool) → is_eq (bytes_cmp t (key_text p)) ≡ b → cond (is_eq (bytes_cmp t (key_text p))) (Some k) (node_at_key B t) ≡ Some m → IsValidKey t × IsTrue (is_version_2 m)
     at true is h =
-        let same : Some k ≡ Some m = ap (λ x. cond x (Some k) (found B t)) (sym is) ∙ h in
+        let same : Some k ≡ Some m = ap (λ x. cond x (Some k) (node_at_key B t)) (sym is) ∙ h in
         let node_is : k ≡ m = cc in
         ((p, names, inl (same_text t (key_text p) is)), subst (λ x. IsTrue (is_version_2 x)) node_is kind)
-    at false is h = fits t m (ap (λ x. cond x (Some k) (found B t)) (sym is) ∙ h)
+    at false is h = fits t m (ap (λ x. cond x (Some k) (node_at_key B t)) (sym is) ∙ h)
 
 -- what a meaning of version 2 adds fits
 with_fits : (p : Path) (x : Meaning) (B : Block) → IsPath p → ((m : NodeMetadata) → x ≡ node m → IsTrue (is_version_2 m)) → Fitting B → Fitting (with_node p x B)
@@ -106,22 +106,22 @@ first_cases None p m e = inr e
 -- a block whose nodes fit has valid keys and entries of version 2
 fits_beside : (B : Block) → Fitting B → IsBeside (Some B)
 fits_beside B fits = (
-  λ t some. elim (found B t) as (λ o. found B t ≡ o → IsSome o → IsValidKey t) [
+  λ t some. elim (node_at_key B t) as (λ o. node_at_key B t ≡ o → IsSome o → IsValidKey t) [
     | Some m ↦ λ at _. (fits t m at).0
     | None ↦ λ at none. absurd (true≢false (sym none))
   ] refl some,
-  λ e h. ⊎_elim (λ plain. (fits (key_text (h.0 ∷ h.1)) e.1 plain).1) (λ slashed. (fits (47 ∷ key_text (h.0 ∷ h.1)) e.1 slashed).1) (first_cases (found B (key_text (h.0 ∷ h.1))) (found B (47 ∷ key_text (h.0 ∷ h.1))) e.1 h.4),
+  λ e h. ⊎_elim (λ plain. (fits (key_text (h.0 ∷ h.1)) e.1 plain).1) (λ slashed. (fits (47 ∷ key_text (h.0 ∷ h.1)) e.1 slashed).1) (first_cases (node_at_key B (key_text (h.0 ∷ h.1))) (node_at_key B (47 ∷ key_text (h.0 ∷ h.1))) e.1 h.4),
 )
 
 -- by whether all documents are good
-small_at : (b : Bool) (ms : Members) → list_all (λ e. is_good (small_meaning (small [] ms)) e.0) (below ms) ≡ b → (fault : MetadataFault)
-    → IsBeside (result_ok (if b then Ok (block_from (small_meaning (small [] ms)) (below ms)) else Err fault))
-small_at true ms good fault = fits_beside _ (from_fits (small_meaning (small [] ms)) (below ms) (means_v2 (small [] ms)) good)
+small_at : (b : Bool) (ms : Members) → list_all (λ e. is_good (small_meaning (small [] ms)) e.0) (documents_below ms) ≡ b → (fault : MetadataFault)
+    → IsBeside (result_ok (if b then Ok (block_from (small_meaning (small [] ms)) (documents_below ms)) else Err fault))
+small_at true ms good fault = fits_beside _ (from_fits (small_meaning (small [] ms)) (documents_below ms) (means_v2 (small [] ms)) good)
 small_at false ms good fault = tt
 
 -- the block of some members can be written
 members_beside : (ms : Members) → IsBeside (result_ok (small_block ms))
-members_beside ms = small_at (list_all (λ e. is_good (small_meaning (small [] ms)) e.0) (below ms)) ms refl _
+members_beside ms = small_at (list_all (λ e. is_good (small_meaning (small [] ms)) e.0) (documents_below ms)) ms refl _
 
 -- so can the block of a tree
 tree_beside : (d : Data) → IsBeside (result_ok (zmetadata_of d))
@@ -142,7 +142,7 @@ beside_read s p m = at m
 
     by_bytes : (o : Option (List ℕ)) → IsBeside (option_and_then (λ bytes. result_ok (of_bytes zmetadata_of bytes)) o)
     by_bytes None = tt
-    by_bytes (Some bytes) = by_tree (parsed (json_of bytes))
+    by_bytes (Some bytes) = by_tree (tree_or_fault (json_of bytes))
 
     at : (m : GroupMetadata) → IsBeside (block_beside s p m)
     at (V3 g) = tt

@@ -9,10 +9,10 @@ use Rattle.zarrs_meta.specs.declared.group_v3.GroupMetadataV3.{GroupMetadataV3}
 use Rattle.zarrs_meta.specs.declared.node.GroupMetadata.{GroupMetadata}
 use Rattle.zarrs_meta.specs.declared.node.GroupMetadata.TheVariants.{V3, V2}
 use Rattle.zarrs_block.specs.Block.{Block, block_of}
-use Rattle.zarrs_block.specs.Used.{fields_held}
+use Rattle.zarrs_block.specs.Policy.{block_in_fields}
 use Rattle.zarrs_block.proofs.BlockReads.{block_again}
 use Rattle.zarrs_group.specs.Groups.{GroupState}
-use Rattle.zarrs_group.specs.Consolidated.{fields_with, metadata_with, beside_with, with_block, held_in, held_by, CanHold, MetadataHold}
+use Rattle.zarrs_group.specs.BlocksOfGroups.{fields_with, metadata_with, beside_with, with_block, held_in, held_by, CanHold, MetadataHold}
 
 -- ---- the block that is held once it was set
 
@@ -31,7 +31,7 @@ its_own : is_own (codes "consolidated_metadata" ∷ []) (codes "consolidated_met
 its_own = refl
 
 -- the fields hold the block that was set, or none where it was removed
-fields_hold : (block : Option Block) (ms : Members) (m : GroupMetadataV3) → MetadataHold (V3 m) block → fields_held (fields_with block ms) ≡ block
+fields_hold : (block : Option Block) (ms : Members) (m : GroupMetadataV3) → MetadataHold (V3 m) block → block_in_fields (fields_with block ms) ≡ block
 fields_hold None ms m can =
     ap (option_and_then (λ d. result_ok (block_of d)))
     (get-others (codes "consolidated_metadata" ∷ []) (codes "consolidated_metadata") (besides (codes "consolidated_metadata" ∷ []) ms) its_own

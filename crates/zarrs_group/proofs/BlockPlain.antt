@@ -25,8 +25,8 @@ use Rattle.zarrs_meta.proofs.ArrayV3Laws as A3
 use Rattle.zarrs_meta.proofs.GroupV2Laws as G2
 use Rattle.zarrs_meta.proofs.GroupV3Laws as G3
 use Rattle.zarrs_meta.proofs.NodeLaws.{node_no_float}
-use Rattle.zarrs_block.specs.Block.{Block, found}
-use Rattle.zarrs_block.specs.Expanded.{is_covered, path_at, paths_at, paired, with_pair}
+use Rattle.zarrs_block.specs.Block.{Block, node_at_key}
+use Rattle.zarrs_block.specs.BlockExpansion.{is_covered, path_at, paths_at, pairs_at, with_pair}
 use Rattle.zarrs_block.specs.Zmetadata.{attributes_written, node_written, nodes_written, put_documents, zmetadata_tree}
 use Rattle.zarrs_block.proofs.BlockLaws.{shown}
 use Rattle.zarrs_block.proofs.KeyLaws.{no_slash}
@@ -54,7 +54,7 @@ no_float_node m plain =
 
 -- the entries of the keys that are left
 abbrev pub entries_left : Block → Block → List (Path × NodeMetadata)
-entries_left B left = paired (paths_at [] B left) left
+entries_left B left = pairs_at (paths_at [] B left) left
 
 -- the fault of the entries that are left, where an earlier one clashes or none does
 abbrev pub fault_left : Bool → List (Path × NodeMetadata) → Option MetadataFault

@@ -3,12 +3,12 @@ use Rattle.std.proofs.Math.Seq.{take-suc, drop-cons}
 use Rattle.std.proofs.lemmas.List.{take-append-drop, map-append}
 use Rattle.std.proofs.Common.{get_or, add-one, suc, ◌≡◌, ℕ, ◌+◌, ◌<◌, List, [], ◌∷◌, ◌++◌, refl, sym, ap, ◌∙◌, subst, map, take, drop, length}
 use Rattle.zarrs_store.specs.Contents.{Contents, AgreesExceptAt}
-use Rattle.zarrs_group.specs.Edits.{Edit, edited, after, edit_key, IsCutShort}
+use Rattle.zarrs_group.specs.Edits.{Edit, after_edit, after, edit_key, IsCutShort}
 
 -- an edit after a list of edits is the last
-pub after-push : (S : Contents) (es : List Edit) (e : Edit) → after S (es ++ e ∷ []) ≡ edited (after S es) e
+pub after-push : (S : Contents) (es : List Edit) (e : Edit) → after S (es ++ e ∷ []) ≡ after_edit (after S es) e
 after-push S [] e = refl
-after-push S (d ∷ es) e = after-push (edited S d) es e
+after-push S (d ∷ es) e = after-push (after_edit S d) es e
 
 -- one more of the edits of a list
 module _ {X : Type 0} (f : X → Edit) (S : Contents) (xs : List X) (i : ℕ) (x : X) (here : x ≡ get_or xs i x) (within : i < length xs) where
@@ -21,9 +21,9 @@ module _ {X : Type 0} (f : X → Edit) (S : Contents) (xs : List X) (i : ℕ) (x
   split = sym (take-append-drop i xs) ∙ ap (λ ys. take i xs ++ ys) (drop-cons xs i x within ∙ ap (λ y. y ∷ drop (suc i) xs) (sym here))
 
   -- one more edit, and the store is what one more of the edits leave
-  pub after-next : (T : Contents) → T ≡ after S (map f (take i xs)) → edited T (f x) ≡ after S (map f (take (i + 1) xs))
+  pub after-next : (T : Contents) → T ≡ after S (map f (take i xs)) → after_edit T (f x) ≡ after S (map f (take (i + 1) xs))
   after-next T is =
-      ap (λ t. edited t (f x)) is ∙ sym (after-push S (map f (take i xs)) (f x))
+      ap (λ t. after_edit t (f x)) is ∙ sym (after-push S (map f (take i xs)) (f x))
       ∙ ap (after S) (sym (map-append f (take i xs) (x ∷ []))) ∙ ap (λ ys. after S (map f ys)) (sym at)
 
   -- where the edit at i is refused, the list was cut short there

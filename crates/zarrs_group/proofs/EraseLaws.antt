@@ -11,7 +11,7 @@ use Rattle.zarrs_form.proofs.MemberLaws.{differ}
 use Rattle.zarrs_meta.specs.declared.node.GroupMetadata.{GroupMetadata}
 use Rattle.zarrs_config.specs.declared.version.MetadataEraseVersion.TheVariants as erase
 use Rattle.zarrs_group.specs.Edits.{after}
-use Rattle.zarrs_group.specs.Stored.{erase_edits}
+use Rattle.zarrs_group.specs.StoringGroups.{erase_edits}
 use Rattle.zarrs_group.specs.Laws.{IsErased}
 
 -- keys of two documents of one path

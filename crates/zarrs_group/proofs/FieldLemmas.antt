@@ -15,8 +15,8 @@ use Rattle.serde_json.specs.Find.{get_member}
 use Rattle.serde_json.specs.View.{members_of}
 use Rattle.zarrs_form.specs.Fields.{must_understand}
 use Rattle.zarrs_group.proofs.Fields.{first_unsupported}
-use Rattle.zarrs_group.specs.Unsupported.{UnsupportedField}
-use Rattle.zarrs_group.specs.Opened.{IsUnsupported, IsLeastUnsupported}
+use Rattle.zarrs_group.specs.UnsupportedFields.{UnsupportedField}
+use Rattle.zarrs_group.specs.OpeningGroups.{IsUnsupported, IsLeastUnsupported}
 
 -- a field as the map has it
 abbrev Entry : Type 0

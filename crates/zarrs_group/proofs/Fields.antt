@@ -2,7 +2,7 @@
 use Rattle.std.specs.Prelude.{Option, Some, None, if◌then◌else◌}
 use Rattle.serde_json.specs.Data.{Members, no_members, member}
 use Rattle.zarrs_form.specs.Fields.{must_understand}
-use Rattle.zarrs_group.specs.Unsupported.{UnsupportedField}
+use Rattle.zarrs_group.specs.UnsupportedFields.{UnsupportedField}
 
 -- the first field that must be understood
 abbrev pub first_unsupported : Members → Option UnsupportedField

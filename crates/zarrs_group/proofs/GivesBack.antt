@@ -20,7 +20,7 @@ use Rattle.zarrs_config.specs.declared.version.MetadataRetrieveVersion.{Metadata
 use Rattle.zarrs_config.specs.declared.version.MetadataRetrieveVersion.TheVariants as retrieve
 use Rattle.zarrs_config.specs.declared.version.UseConsolidatedMetadata.{UseConsolidatedMetadata}
 use Rattle.zarrs_config.specs.declared.version.UseConsolidatedMetadata.TheVariants.{Auto, Must, Never}
-use Rattle.zarrs_form.specs.Documents.{◌>>=◌, json_of, parsed, of_bytes, document_of, format_of, node_type_of}
+use Rattle.zarrs_form.specs.Documents.{◌>>=◌, json_of, tree_or_fault, of_bytes, document_of, format_of, node_type_of}
 use Rattle.zarrs_meta.specs.GroupV3.{group_v3_of}
 use Rattle.zarrs_meta.specs.Node.{node_of, zarr_json_of}
 use Rattle.zarrs_meta.specs.declared.group_v2.GroupMetadataV2.{GroupMetadataV2}
@@ -30,20 +30,20 @@ use Rattle.zarrs_meta.specs.declared.node.GroupMetadata.TheVariants.{V3, V2}
 use Rattle.zarrs_meta.specs.declared.node.ZarrJson.TheVariants.{Node}
 use Rattle.zarrs_meta.specs.declared.node.NodeMetadata.{NodeMetadata}
 use Rattle.zarrs_meta.specs.declared.node.NodeMetadata.TheVariants.{Group}
-use Rattle.zarrs_block.specs.Block.{Block, Entries, HasValidKeys, IsValidKey, found}
+use Rattle.zarrs_block.specs.Block.{Block, Entries, HasValidKeys, IsValidKey, node_at_key}
 use Rattle.zarrs_block.specs.Zmetadata.{HasVersion2}
-use Rattle.zarrs_block.specs.Used.{used}
-use Rattle.zarrs_block.specs.Refused.{LacksMemory, IsExcused}
-use Rattle.zarrs_block.specs.Expanded.{NamesBadKey}
+use Rattle.zarrs_block.specs.Policy.{block_to_use}
+use Rattle.zarrs_block.specs.Refusals.{LacksMemory, IsExcused}
+use Rattle.zarrs_block.specs.BlockExpansion.{NamesBadKey}
 use Rattle.zarrs_block.specs.declared.node_create_error.NodeCreateError.{NodeCreateError}
 use Rattle.zarrs_block.specs.declared.node_create_error.NodeCreateError.TheVariants as made
-use Rattle.zarrs_node.specs.Below.{block_at}
+use Rattle.zarrs_node.specs.BlocksBelow.{block_at}
 use Rattle.zarrs_node.specs.Forest.{Forest, pairs, Shows}
-use Rattle.zarrs_block.specs.Meaning.{Meaning, node, nothing, bad, in_bytes, document_at, document_from, named, version_3_line, zarr_json_line, meaning_in, meaning, zarray_line, zgroup_line}
+use Rattle.zarrs_block.specs.Meaning.{Meaning, node, nothing, bad, in_bytes, document_at, document_from, document_or_fault, version_3_line, zarr_json_line, meaning_in, meaning, zarray_line, zgroup_line}
 use Rattle.zarrs_node.specs.Inverse.{HasNames, IsInverse}
-use Rattle.zarrs_node.specs.Reached.{Kept}
-use Rattle.zarrs_node.specs.Opened.{ShowsChosen, RefusesChosen, ShowsNode, RefusesOpening, RefusesText, RefusesNode}
-use Rattle.zarrs_node.specs.Opened as opened
+use Rattle.zarrs_node.specs.Reach.{Kept}
+use Rattle.zarrs_node.specs.OpeningNodes.{ShowsChosen, RefusesChosen, ShowsNode, RefusesOpening, RefusesText, RefusesNode}
+use Rattle.zarrs_node.specs.OpeningNodes as opened
 use Rattle.zarrs_node.proofs.Child.{node_same}
 use Rattle.zarrs_node.proofs.Found.{listed_each, lists_from}
 use Rattle.zarrs_node.proofs.Inverse.{block_gives_back, entries_are}
@@ -51,19 +51,19 @@ use Rattle.zarrs_node.proofs.Kept.{kept_same, placed_between}
 use Rattle.zarrs_node.proofs.Unique.{one_forest}
 use Rattle.zarrs_group.specs.Groups.{GroupState, group_tree}
 use Rattle.zarrs_group.specs.Meaning.{MeansGroup, group_v3_line, group_line, group_meaning}
-use Rattle.zarrs_group.specs.Consolidated.{held_in, held_by, with_block, beside_with, metadata_with, Fits, MetadataHold}
+use Rattle.zarrs_group.specs.BlocksOfGroups.{held_in, held_by, with_block, beside_with, metadata_with, Fits, MetadataHold}
 use Rattle.zarrs_group.specs.Children.{is_listed, ListsChosen}
 use Rattle.zarrs_group.specs.Laws.{MeansStored}
 use Rattle.zarrs_group.specs.GivesBack.{Consolidates, ConsolidatesV2, GivesBack, GroupGivesBack, GroupV2GivesBack, OpensTo, StoredGivesBack}
 use Rattle.zarrs_group.proofs.BlockFields.{held_once_set}
 
 -- a block that is there is used, where the policy is not Never
-pub used_there : (B : Block) (policy : UseConsolidatedMetadata) → policy ≢ Never → used (Some B) policy ≡ Some (Some B)
+pub used_there : (B : Block) (policy : UseConsolidatedMetadata) → policy ≢ Never → block_to_use (Some B) policy ≡ Some (Some B)
 used_there B Never not = absurd (not refl)
 used_there B Auto not = refl
 used_there B Must not = refl
 
--- where no store can fail, only want of memory is excused
+-- where no store can fail, only out of memory is excused
 lacks_memory : (e : NodeCreateError) → IsExcused false e → LacksMemory e
 lacks_memory (made.NodePathError (InvalidPath text)) h = h
 lacks_memory (made.NodePathError NoPathMemory) h = h
@@ -88,20 +88,20 @@ no_bad_key B valid (made.MissingMetadata text) h = h
 no_bad_key B valid made.OutOfMemory h = h
 
 -- a group that holds the block of a forest: its block is the one that is used
-module _ (g : GroupState) (f : Forest) (B : Block) (holds : held_by (with_block g (Some B)) ≡ Some B) (valid : HasValidKeys B)
+module _ (g : GroupState) (f : Forest) (B : Block) (holds : held_by g ≡ Some B) (valid : HasValidKeys B)
     (entries : (e : Path × NodeMetadata) → Entries B g.path e ↔ Contains (pairs f) e) (one : (t : Forest) → Shows t g.path (Kept (Entries B g.path) true g.path) → t ≡ f) where
   -- it is the block that is used
-  is_chosen : (policy : UseConsolidatedMetadata) → policy ≢ Never → used (held_by (with_block g (Some B))) policy ≡ Some (Some B)
-  is_chosen policy not = ap (λ h. used h policy) holds ∙ used_there B policy not
+  is_chosen : (policy : UseConsolidatedMetadata) → policy ≢ Never → block_to_use (held_by g) policy ≡ Some (Some B)
+  is_chosen policy not = ap (λ h. block_to_use h policy) holds ∙ used_there B policy not
 
   -- what such a choice shows is the forest
   chosen_shows : (s : Contents) (v : MetadataRetrieveVersion) (policy : UseConsolidatedMetadata) → policy ≢ Never → (t : Forest)
-      → ShowsChosen s v (used (held_by (with_block g (Some B))) policy) true g.path t → t ≡ f
+      → ShowsChosen s v (block_to_use (held_by g) policy) true g.path t → t ≡ f
   chosen_shows s v policy not t shows = one t (subst (λ c. ShowsChosen s v c true g.path t) (is_chosen policy not) shows)
 
   -- and nothing refuses it
   chosen_clean : (s : Contents) (v : MetadataRetrieveVersion) (policy : UseConsolidatedMetadata) → policy ≢ Never → (e : NodeCreateError)
-      → RefusesChosen s v (used (held_by (with_block g (Some B))) policy) true g.path e → ⊥
+      → RefusesChosen s v (block_to_use (held_by g) policy) true g.path e → ⊥
   chosen_clean s v policy not e h = no_bad_key B valid e (subst (λ c. RefusesChosen s v c true g.path e) (is_chosen policy not) h)
 
   -- the entries of the block are the pairs
@@ -109,12 +109,12 @@ module _ (g : GroupState) (f : Forest) (B : Block) (holds : held_by (with_block 
   pairs_are es l = lists_from es (λ e. (λ h. (entries e).0 ((listed_each l e).0 h), λ h. (listed_each l e).1 ((entries e).1 h))) l.each_once
 
   -- what is listed by such a choice are the entries
-  listed_by : (s : Contents) (policy : UseConsolidatedMetadata) → used (held_by (with_block g (Some B))) policy ≡ Some (Some B)
-      → (es : List (Path × NodeMetadata)) → ListsChosen s (used (held_by (with_block g (Some B))) policy) g.path es → Lists (Entries B g.path) es
+  listed_by : (s : Contents) (policy : UseConsolidatedMetadata) → block_to_use (held_by g) policy ≡ Some (Some B)
+      → (es : List (Path × NodeMetadata)) → ListsChosen s (block_to_use (held_by g) policy) g.path es → Lists (Entries B g.path) es
   listed_by s policy is es l = subst (λ c. ListsChosen s c g.path es) is l
 
   -- so the group gives the forest back
-  gives_back : GivesBack (with_block g (Some B)) f
+  pub gives_back : GivesBack g f
   gives_back = record {
     children = λ s config not t shows. chosen_shows s retrieve.Default config.use_consolidated not t shows;
     traversed = λ s config not es lists. pairs_are es (listed_by s config.use_consolidated (is_chosen config.use_consolidated not) es lists);
@@ -136,17 +136,17 @@ module _ (of : Path → Meaning) (g : GroupState) (f : Forest) (B : Block) (from
   holds = held_once_set g (Some B) (can_hold g.metadata from.version_3)
 
   -- what a choice shows is the forest
-  shown_is : (s : Contents) (v : MetadataRetrieveVersion) (policy : UseConsolidatedMetadata) → policy ≢ Never → (t : Forest) → ShowsChosen s v (used (held_by (with_block g (Some B))) policy) true g.path t → t ≡ f
-  shown_is = chosen_shows g f B holds inverse.valid inverse.entries inverse.one_forest
+  shown_is : (s : Contents) (v : MetadataRetrieveVersion) (policy : UseConsolidatedMetadata) → policy ≢ Never → (t : Forest) → ShowsChosen s v (block_to_use (held_by (with_block g (Some B))) policy) true g.path t → t ≡ f
+  shown_is = chosen_shows (with_block g (Some B)) f B holds inverse.valid inverse.entries inverse.one_forest
 
   -- and nothing refuses it
-  none_refused : (s : Contents) (v : MetadataRetrieveVersion) (policy : UseConsolidatedMetadata) → policy ≢ Never → (e : NodeCreateError) → RefusesChosen s v (used (held_by (with_block g (Some B))) policy) true g.path e → ⊥
-  none_refused = chosen_clean g f B holds inverse.valid inverse.entries inverse.one_forest
+  none_refused : (s : Contents) (v : MetadataRetrieveVersion) (policy : UseConsolidatedMetadata) → policy ≢ Never → (e : NodeCreateError) → RefusesChosen s v (block_to_use (held_by (with_block g (Some B))) policy) true g.path e → ⊥
+  none_refused = chosen_clean (with_block g (Some B)) f B holds inverse.valid inverse.entries inverse.one_forest
 
 -- a version 3 group with the block of a listed forest gives the forest back
 pub group_gives_back : GroupGivesBack
 group_gives_back of g f B from =
-    gives_back g f B (holds of g f B from) (inverse of g f B from).valid (inverse of g f B from).entries (inverse of g f B from).one_forest
+    gives_back (with_block g (Some B)) f B (holds of g f B from) (inverse of g f B from).valid (inverse of g f B from).entries (inverse of g f B from).one_forest
 
 -- ---- of version 2
 
@@ -160,7 +160,7 @@ module _ (of : Path → Meaning) (g : GroupState) (f : Forest) (B : Block) (from
   same_pairs = entries_are (Contains (pairs f)) g.path B names from.block
 
   -- each key is the text of names
-  valid_at : (t : List ℕ) (m : NodeMetadata) → found B t ≡ Some m → IsValidKey t
+  valid_at : (t : List ℕ) (m : NodeMetadata) → node_at_key B t ≡ Some m → IsValidKey t
   valid_at t m at =
       let w = (from.block t m).0 at in
       let pair = names (g.path ++ w.0 ∷ w.1, m) w.3 in
@@ -168,7 +168,7 @@ module _ (of : Path → Meaning) (g : GroupState) (f : Forest) (B : Block) (from
 
   -- so each key is valid
   pub keys_valid : HasValidKeys B
-  keys_valid t some = elim (found B t) as (λ o. found B t ≡ o → IsSome o → IsValidKey t) [
+  keys_valid t some = elim (node_at_key B t) as (λ o. node_at_key B t ≡ o → IsSome o → IsValidKey t) [
     | Some m ↦ λ at _. valid_at t m at
     | None ↦ λ at none. absurd (true≢false (sym none))
   ] refl some
@@ -200,7 +200,7 @@ module _ (of : Path → Meaning) (g : GroupState) (f : Forest) (B : Block) (from
 pub group_v2_gives_back : GroupV2GivesBack
 group_v2_gives_back of g f B from = (
   takes of g f B from g.metadata from.version_2,
-  gives_back g f B (held_once_set g (Some B) (can_hold_v2 of g f B from g.metadata from.version_2)) (keys_valid of g f B from) (same_pairs of g f B from) (one_is of g f B from (Entries B g.path) (same_pairs of g f B from)),
+  gives_back (with_block g (Some B)) f B (held_once_set g (Some B) (can_hold_v2 of g f B from g.metadata from.version_2)) (keys_valid of g f B from) (same_pairs of g f B from) (one_is of g f B from (Entries B g.path) (same_pairs of g f B from)),
 )
 
 -- ---- the stored group as the document of a node
@@ -255,13 +255,13 @@ group_is_node d m e = let p = read_parts d m e in node_from d m p.0 p.1 p.2 (oth
 line_says : (key : Segments) (m : GroupMetadataV3) (after : Meaning) (o : Option (List ℕ)) → group_v3_line (document_from (of_bytes group_v3_of) key o) nothing ≡ node (Group (V3 m))
     → version_3_line (document_from (of_bytes zarr_json_of) key o) after ≡ node (Group (V3 m))
 line_says key m after None e = cc
-line_says key m after (Some bytes) e = by_tree (parsed (json_of bytes)) e
+line_says key m after (Some bytes) e = by_tree (tree_or_fault (json_of bytes)) e
   where
-    by_group : (d : Data) (r : Result GroupMetadataV3 MetadataFault) → group_v3_of d ≡ r → group_v3_line (named key r) nothing ≡ node (Group (V3 m)) → version_3_line (named key (zarr_json_of d)) after ≡ node (Group (V3 m))
-    by_group d (Ok k) is e = ap (λ r. version_3_line (named key r) after) (group_is_node d k is) ∙ e
+    by_group : (d : Data) (r : Result GroupMetadataV3 MetadataFault) → group_v3_of d ≡ r → group_v3_line (document_or_fault key r) nothing ≡ node (Group (V3 m)) → version_3_line (document_or_fault key (zarr_json_of d)) after ≡ node (Group (V3 m))
+    by_group d (Ok k) is e = ap (λ r. version_3_line (document_or_fault key r) after) (group_is_node d k is) ∙ e
     by_group d (Err fault) is e = cc
 
-    by_tree : (r : Result Data MetadataFault) → group_v3_line (named key (r >>= group_v3_of)) nothing ≡ node (Group (V3 m)) → version_3_line (named key (r >>= zarr_json_of)) after ≡ node (Group (V3 m))
+    by_tree : (r : Result Data MetadataFault) → group_v3_line (document_or_fault key (r >>= group_v3_of)) nothing ≡ node (Group (V3 m)) → version_3_line (document_or_fault key (r >>= zarr_json_of)) after ≡ node (Group (V3 m))
     by_tree (Ok d) e = by_group d (group_v3_of d) refl e
     by_tree (Err fault) e = cc
 
@@ -338,13 +338,13 @@ module _ (of : Path → Meaning) (g : GroupState) (f : Forest) (B : Block) (from
   opened_is v not policy some m t means shows =
       let is : m ≡ Group (with_block g (Some B)).metadata = node_same m (Group (with_block g (Some B)).metadata) (sym means ∙ means_group v not) in
       let shown = subst (λ x. ShowsNode s v policy g.path x t) is shows in
-      shown_is of g f B from s v policy some t (subst (λ h. ShowsChosen s v (used h policy) true g.path t) (held_there s g.path g.metadata (beside_with (Some B) g.metadata g.block) from.version_3) shown)
+      shown_is of g f B from s v policy some t (subst (λ h. ShowsChosen s v (block_to_use h policy) true g.path t) (held_there s g.path g.metadata (beside_with (Some B) g.metadata g.block) from.version_3) shown)
 
   -- and nothing refuses it
   opened_clean : (v : MetadataRetrieveVersion) (policy : UseConsolidatedMetadata) → policy ≢ Never → (e : NodeCreateError)
       → opened.RefusesBelow s v policy g.path (Group (with_block g (Some B)).metadata) e → ⊥
   opened_clean v policy some e refused =
-      none_refused of g f B from s v policy some e (subst (λ x. RefusesChosen s v (used x policy) true g.path e) (held_there s g.path g.metadata (beside_with (Some B) g.metadata g.block) from.version_3) refused)
+      none_refused of g f B from s v policy some e (subst (λ x. RefusesChosen s v (block_to_use x policy) true g.path e) (held_there s g.path g.metadata (beside_with (Some B) g.metadata g.block) from.version_3) refused)
 
   -- so the stored group gives the forest back
   opens_to : OpensTo s (with_block g (Some B)) f

@@ -22,7 +22,7 @@ use Rattle.zarrs_meta.specs.declared.group_v2.GroupMetadataV2.{GroupMetadataV2}
 use Rattle.zarrs_group.proofs.PlainLaws.{plain_v3, plain_v2, fits_v2}
 use Rattle.zarrs_meta.proofs.GroupV3Laws.{group_v3_again}
 use Rattle.zarrs_meta.proofs.GroupV2Laws.{group_v2_again, plain_group_v2}
-use Rattle.zarrs_group.specs.Edits.{after, edited}
+use Rattle.zarrs_group.specs.Edits.{after, after_edit}
 use Rattle.zarrs_meta.specs.declared.attributes.AttributesDocument.{AttributesDocument}
 use Rattle.zarrs_meta.specs.declared.node.NodeMetadata.TheVariants.{Group}
 use Rattle.zarrs_meta.specs.Node.{group_with, group_without_attributes}
@@ -32,7 +32,8 @@ use Rattle.zarrs_group.specs.Meaning.{group_line, group_meaning}
 use Rattle.zarrs_group.specs.Layout.{IsReadBack}
 use Rattle.zarrs_block.specs.Block.{Block}
 use Rattle.zarrs_block.specs.Zmetadata.{zmetadata_tree}
-use Rattle.zarrs_group.specs.Stored.{AreReadBack, attributes_edit, own_edits, store_edits}
+use Rattle.zarrs_group.specs.StoringGroups.{attributes_edit, own_edits, store_edits}
+use Rattle.zarrs_group.specs.StepsOfGroups.{AreReadBack}
 use Rattle.zarrs_group.specs.Laws.{MeansStored, StoredMeans}
 use Rattle.zarrs_group.proofs.EraseLaws.{keys_differ, group_attrs, group_metadata, attrs_metadata}
 
@@ -54,7 +55,7 @@ pub plain_without : (m : GroupMetadataV2) → IsTrue (is_plain_group_v2 m) → I
 plain_without m plain =
     let parts = plain_group_v2 m plain in
     let f : members_have_float m.additional_fields ≡ false = parts.1 in
-    let o : has_own v2.own_names m.additional_fields ≡ false = parts.2 in
+    let o : has_own v2.group_v2_names m.additional_fields ≡ false = parts.2 in
     rw (f, o) refl
 
 -- the attributes that a reading finds where they were stored: none, or those
@@ -64,7 +65,7 @@ stored_attributes (member k d ms) = Some (record { 0 = member k d ms })
 
 -- the attributes that a reading finds after their edit
 found_stored : (S : Contents) (p : Path) (a : Members) → members_have_float a ≡ false → (is_empty a ≡ false → IsReadBack (object a)) → depth (object a) ≤ max_depth
-    → attributes_at (edited S (attributes_edit p a)) p ≡ Ok (stored_attributes a)
+    → attributes_at (after_edit S (attributes_edit p a)) p ≡ Ok (stored_attributes a)
 unfolding document_at stored_attributes
 found_stored S p no_members fits reads shallow =
     let gone : map.get (map.remove S (p ++ zattrs ∷ [])) (p ++ zattrs ∷ []) ≡ None = get_removed S (p ++ zattrs ∷ []) in
@@ -90,7 +91,7 @@ stored_own S p m rest fault reads shallow shallow' =
     let own : Segments = p ++ zgroup ∷ [] in
     let attributes : Segments = p ++ zattrs ∷ [] in
     let bytes : List ℕ = pretty_text (group_v2_tree (group_without_attributes m)) in
-    let first : Contents = edited S (attributes_edit p m.attributes) in
+    let first : Contents = after_edit S (attributes_edit p m.attributes) in
     let plain : IsTrue (is_plain_group_v2 m) = plain_v2 m fault in
     let here : map.get (map.insert first own bytes) own ≡ Some bytes = get_inserted first own bytes in
     let there : map.get (map.insert first own bytes) attributes ≡ map.get first attributes = AgreesExceptAt-insert first own bytes attributes (keys_differ p zattrs zgroup (λ e. group_attrs (sym e))) in

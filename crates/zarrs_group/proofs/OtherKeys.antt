@@ -14,13 +14,13 @@ use Rattle.zarrs_meta.specs.declared.node.GroupMetadata.TheVariants.{V3, V2}
 use Rattle.zarrs_config.specs.declared.version.MetadataEraseVersion.{MetadataEraseVersion}
 use Rattle.zarrs_config.specs.declared.version.MetadataEraseVersion.TheVariants as erase
 use Rattle.zarrs_block.specs.Block.{Block}
-use Rattle.zarrs_group.specs.Edits.{Edit, set, remove, edited, after, edit_key, IsCutShort}
-use Rattle.zarrs_group.specs.Stored.{attributes_edit, store_edits, erase_edits}
+use Rattle.zarrs_group.specs.Edits.{Edit, set, remove, after_edit, after, edit_key, IsCutShort}
+use Rattle.zarrs_group.specs.StoringGroups.{attributes_edit, store_edits, erase_edits}
 use Rattle.zarrs_group.specs.Laws.{OthersStayAfter, OtherKeysStay, ArraysStay}
 use Rattle.zarrs_group.proofs.EraseLaws.{keys_differ}
 
 -- an edit changes no key but its own
-edited_elsewhere : (S : Contents) (e : Edit) → AgreesExceptAt (edit_key e) S (edited S e)
+edited_elsewhere : (S : Contents) (e : Edit) → AgreesExceptAt (edit_key e) S (after_edit S e)
 edited_elsewhere S (set key bytes) = AgreesExceptAt-insert S key bytes
 edited_elsewhere S (remove key) = AgreesExceptAt-remove S key
 
@@ -36,7 +36,7 @@ EachElsewhere key (e ∷ es) = Elsewhere key e × EachElsewhere key es
 -- edits at other keys leave a key as it was
 after_elsewhere : (key : Segments) (S : Contents) (es : List Edit) → EachElsewhere key es → map.get (after S es) key ≡ map.get S key
 after_elsewhere key S [] all = refl
-after_elsewhere key S (e ∷ es) all = after_elsewhere key (edited S e) es all.1 ∙ edited_elsewhere S e key all.0
+after_elsewhere key S (e ∷ es) all = after_elsewhere key (after_edit S e) es all.1 ∙ edited_elsewhere S e key all.0
 
 -- of edits at other keys, those that were done are at other keys, and so is the next
 front_elsewhere : (key : Segments) (done rest : List Edit) (e : Edit) → EachElsewhere key (done ++ e ∷ rest) → EachElsewhere key done × Elsewhere key e

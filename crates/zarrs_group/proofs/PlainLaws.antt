@@ -30,9 +30,9 @@ pub no_fault_v3 : (m : GroupMetadataV3) → IsTrue (v3.is_plain_group_v3 m) → 
 no_fault_v3 m plain =
     let parts = plain_group_v3 m plain in
     let f : members_have_float m.attributes ≡ false = not_true (members_have_float m.attributes) parts.0 in
-    let a : get_member (codes "attributes") m.additional_fields ≡ None = get-others v3.own_names (codes "attributes") m.additional_fields refl parts.2 in
-    let n : get_member (codes "node_type") m.additional_fields ≡ None = get-others v3.own_names (codes "node_type") m.additional_fields refl parts.2 in
-    let z : get_member (codes "zarr_format") m.additional_fields ≡ None = get-others v3.own_names (codes "zarr_format") m.additional_fields refl parts.2 in
+    let a : get_member (codes "attributes") m.additional_fields ≡ None = get-others v3.group_v3_names (codes "attributes") m.additional_fields refl parts.2 in
+    let n : get_member (codes "node_type") m.additional_fields ≡ None = get-others v3.group_v3_names (codes "node_type") m.additional_fields refl parts.2 in
+    let z : get_member (codes "zarr_format") m.additional_fields ≡ None = get-others v3.group_v3_names (codes "zarr_format") m.additional_fields refl parts.2 in
     rw (f, parts.1, a, parts.3, n, z) refl
 
 -- a plain version 2 group has no fault
@@ -40,9 +40,9 @@ pub no_fault_v2 : (m : GroupMetadataV2) → IsTrue (v2.is_plain_group_v2 m) → 
 no_fault_v2 m plain =
     let parts = plain_group_v2 m plain in
     let f : members_have_float m.attributes ≡ false = not_true (members_have_float m.attributes) parts.0 in
-    let a : get_member (codes "attributes") m.additional_fields ≡ None = get-others v2.own_names (codes "attributes") m.additional_fields refl parts.2 in
-    let s : get_member (codes "shape") m.additional_fields ≡ None = get-others v2.own_names (codes "shape") m.additional_fields refl parts.2 in
-    let z : get_member (codes "zarr_format") m.additional_fields ≡ None = get-others v2.own_names (codes "zarr_format") m.additional_fields refl parts.2 in
+    let a : get_member (codes "attributes") m.additional_fields ≡ None = get-others v2.group_v2_names (codes "attributes") m.additional_fields refl parts.2 in
+    let s : get_member (codes "shape") m.additional_fields ≡ None = get-others v2.group_v2_names (codes "shape") m.additional_fields refl parts.2 in
+    let z : get_member (codes "zarr_format") m.additional_fields ≡ None = get-others v2.group_v2_names (codes "zarr_format") m.additional_fields refl parts.2 in
     rw (f, parts.1, a, s, z) refl
 
 -- ---- no fault, plain
@@ -117,7 +117,7 @@ plain_v3 m h =
     let g : members_have_float ms ≡ false = floats.1 in
     let names = four (has_member (codes "attributes") ms) (is_null (get_member (codes "consolidated_metadata") ms)) (has_member (codes "node_type") ms) (has_member (codes "zarr_format") ms)
     (codes "attributes") (codes "consolidated_metadata") (codes "node_type") (codes "zarr_format") (no_clash (members_have_float m.attributes) (members_have_float ms) _ h) in
-    let own : has_own v3.own_names ms ≡ false = no_own (codes "zarr_format") (codes "node_type") (codes "attributes") ms (not_there _ names.3) (not_there _ names.2) (not_there _ names.0) in
+    let own : has_own v3.group_v3_names ms ≡ false = no_own (codes "zarr_format") (codes "node_type") (codes "attributes") ms (not_there _ names.3) (not_there _ names.2) (not_there _ names.0) in
     let block : is_null (get_member (codes "consolidated_metadata") ms) ≡ false = names.1 in
     rw (f, g, own, block) refl
 
@@ -130,7 +130,7 @@ plain_v2 m h =
     let g : members_have_float ms ≡ false = floats.1 in
     let names = three (has_member (codes "attributes") ms) (has_member (codes "shape") ms) (has_member (codes "zarr_format") ms)
     (codes "attributes") (codes "shape") (codes "zarr_format") (no_clash (members_have_float m.attributes) (members_have_float ms) _ h) in
-    let own : has_own v2.own_names ms ≡ false = no_own (codes "zarr_format") (codes "shape") (codes "attributes") ms (not_there _ names.2) (not_there _ names.1) (not_there _ names.0) in
+    let own : has_own v2.group_v2_names ms ≡ false = no_own (codes "zarr_format") (codes "shape") (codes "attributes") ms (not_there _ names.2) (not_there _ names.1) (not_there _ names.0) in
     rw (f, g, own) refl
 
 -- metadata have no fault exactly where they are plain

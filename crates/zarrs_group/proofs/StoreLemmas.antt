@@ -13,7 +13,7 @@ use Rattle.zarrs_config.specs.declared.version.MetadataEraseVersion.TheVariants 
 use Rattle.zarrs_block.specs.Block.{Block}
 use Rattle.zarrs_group.specs.Edits.{Edit, IsCutShort}
 use Rattle.zarrs_group.specs.Plain.{group_fault, beside_fault}
-use Rattle.zarrs_group.specs.Stored.{metadata_key, store_edits, erase_edits, fault_at, first_fault, stored_fault, RefusesMetadata, RefusesStore}
+use Rattle.zarrs_group.specs.StoringGroups.{metadata_key, store_edits, erase_edits, fault_at, first_fault, stored_fault, RefusesMetadata, RefusesStoring}
 
 -- where nothing was done, the first edit is the next
 none_done : (S : Contents) (e : Edit) (es : List Edit) → IsCutShort S (e ∷ es) S
@@ -34,7 +34,7 @@ none_erased S p version.V3 m = none_done S _ _
 none_erased S p version.V2 m = none_done S _ _
 
 -- a refusal before the first edit is a refusal of storing, with the store unchanged
-pub refused_before : (b : Bool) (p : Path) (m : GroupMetadata) (block : Option Block) (S : Contents) (e : StorageError) → RefusesMetadata p m block e → RefusesStore b p m block S S e
+pub refused_before : (b : Bool) (p : Path) (m : GroupMetadata) (block : Option Block) (S : Contents) (e : StorageError) → RefusesMetadata p m block e → RefusesStoring b p m block S S e
 refused_before b p m block S Fault h = absurd h
 refused_before b p m block S (InvalidMetadata key fault) h = (refl, h)
 refused_before b p m block S (Other text) h = absurd h

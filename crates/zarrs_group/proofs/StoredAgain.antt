@@ -24,26 +24,27 @@ use Rattle.zarrs_meta.specs.declared.node.NodeMetadata.{NodeMetadata}
 use Rattle.zarrs_meta.specs.declared.node.NodeMetadata.TheVariants.{Group}
 use Rattle.zarrs_block.specs.Block.{Block, Entries, HasValidKeys, IsAscending}
 use Rattle.zarrs_block.specs.Meaning.{Meaning}
-use Rattle.zarrs_block.specs.Used.{used}
+use Rattle.zarrs_block.specs.Policy.{block_to_use}
 use Rattle.zarrs_block.specs.Zmetadata.{zmetadata_of, zmetadata_tree, HasPlainEntries, HaveSameEntries}
 use Rattle.zarrs_block.specs.declared.node_create_error.NodeCreateError.{NodeCreateError}
 use Rattle.zarrs_block.proofs.Expansion.{entries_listed}
 use Rattle.zarrs_block.proofs.ZmetadataAgain.{written_reads_back}
-use Rattle.zarrs_node.specs.Below.{zmetadata_at}
-use Rattle.zarrs_node.specs.Forest.{Forest, pairs}
-use Rattle.zarrs_node.specs.Opened.{ShowsChosen, RefusesChosen, ShowsNode}
-use Rattle.zarrs_node.specs.Opened as opened
-use Rattle.zarrs_group.specs.Beside.{IsBeside}
-use Rattle.zarrs_group.specs.Consolidated.{with_block}
+use Rattle.zarrs_node.specs.BlocksBelow.{zmetadata_at}
+use Rattle.zarrs_node.specs.Forest.{Forest, Shows, pairs}
+use Rattle.zarrs_node.specs.Reach.{Kept}
+use Rattle.zarrs_node.specs.OpeningNodes.{ShowsChosen, RefusesChosen, ShowsNode}
+use Rattle.zarrs_node.specs.OpeningNodes as opened
+use Rattle.zarrs_group.specs.BlocksBeside.{IsBeside}
+use Rattle.zarrs_group.specs.BlocksOfGroups.{held_in, with_block}
 use Rattle.zarrs_group.specs.Edits.{after}
 use Rattle.zarrs_group.specs.Groups.{GroupState}
 use Rattle.zarrs_group.specs.Layout.{pretty_text}
 use Rattle.zarrs_group.specs.Plain.{node_has_float, entries_of, block_fault}
-use Rattle.zarrs_group.specs.Stored.{own_edits, store_edits, fault_at, stored_fault}
-use Rattle.zarrs_group.specs.GivesBack.{ConsolidatesV2, HasStoredBlock, OpensToV2, StoredV2GivesBack}
+use Rattle.zarrs_group.specs.StoringGroups.{own_edits, store_edits, fault_at, stored_fault}
+use Rattle.zarrs_group.specs.GivesBack.{ConsolidatesV2, GivesBack, HasStoredBlock, OpensToV2, StoredV2GivesBack}
 use Rattle.zarrs_group.proofs.Beside.{beside_read}
 use Rattle.zarrs_group.proofs.BlockPlain.{all_plain}
-use Rattle.zarrs_group.proofs.GivesBack.{used_there, no_bad_key, opens_clean, same_pairs, keys_valid, entries_v2, one_is}
+use Rattle.zarrs_group.proofs.GivesBack.{used_there, no_bad_key, gives_back, opens_clean, same_pairs, keys_valid, entries_v2, one_is}
 use Rattle.zarrs_group.proofs.PlainLaws.{plain_v2}
 use Rattle.zarrs_group.proofs.StoreLemmas.{own_plain, beside_is}
 
@@ -92,8 +93,8 @@ module _ (of : Path → Meaning) (g : GroupState) (f : Forest) (B : Block) (from
     valid_again = (subst IsBeside there (beside_read s g.path (V2 m))).0
 
     -- it is the block that is used
-    is_used : (policy : UseConsolidatedMetadata) → policy ≢ Never → used (zmetadata_at s g.path) policy ≡ Some (Some C)
-    is_used policy not = ap (λ h. used h policy) there ∙ used_there C policy not
+    is_used : (policy : UseConsolidatedMetadata) → policy ≢ Never → block_to_use (zmetadata_at s g.path) policy ≡ Some (Some C)
+    is_used policy not = ap (λ h. block_to_use h policy) there ∙ used_there C policy not
 
     -- what is shown is the forest
     shown_again : (v : MetadataRetrieveVersion) (policy : UseConsolidatedMetadata) → policy ≢ Never → (t : Forest) → ShowsNode s v policy g.path (Group (V2 m)) t → t ≡ f
@@ -103,12 +104,20 @@ module _ (of : Path → Meaning) (g : GroupState) (f : Forest) (B : Block) (from
     clean_again : (v : MetadataRetrieveVersion) (policy : UseConsolidatedMetadata) → policy ≢ Never → (e : NodeCreateError) → opened.RefusesBelow s v policy g.path (Group (V2 m)) e → ⊥
     clean_again v policy not e refused = no_bad_key C valid_again e (subst (λ c. RefusesChosen s v c true g.path e) (is_used policy not) refused)
 
+    -- a group that is opened there holds it, and gives the forest back
+    group_again : (h : GroupState) → h.path ≡ g.path → h.metadata ≡ V2 m → h.block ≡ zmetadata_at s g.path → GivesBack h f
+    group_again h path metadata beside =
+        gives_back h f C (ap (λ k. held_in k h.block) metadata ∙ beside ∙ there) valid_again
+        (subst (λ p. (e : Path × NodeMetadata) → Entries C p e ↔ Contains (pairs f) e) (sym path) pairs_again)
+        (subst (λ p. (t : Forest) → Shows t p (Kept (Entries C p) true p) → t ≡ f) (sym path) (λ t shows. one_is of g f B from (Entries C g.path) pairs_again t shows))
+
     -- so the group gives the forest back
     opens_again : OpensToV2 s (grouped (V2 m)) f B
     opens_again = record {
       children = λ v means policy not t shows. shown_again v policy not t shows;
       opened = λ v means policy not. opens_clean s v policy g.path named (Group (V2 m)) means (clean_again v policy not);
       beside = (C, there, same);
+      group = λ h path metadata beside. group_again h path metadata beside;
     }
 
   -- storing leaves such a block

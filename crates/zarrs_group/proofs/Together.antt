@@ -11,20 +11,20 @@ use Rattle.zarrs_config.specs.declared.version.MetadataRetrieveVersion.TheVarian
 use Rattle.zarrs_meta.specs.declared.node.NodeMetadata.{NodeMetadata}
 use Rattle.zarrs_meta.specs.declared.node.NodeMetadata.TheVariants.{Group, Array}
 use Rattle.zarrs_block.specs.Block.{Block, Entries}
-use Rattle.zarrs_block.specs.Expanded.{HaveOwnPaths}
-use Rattle.zarrs_node.specs.Nodes.{Meant, Bad}
+use Rattle.zarrs_block.specs.BlockExpansion.{HaveOwnPaths}
+use Rattle.zarrs_node.specs.Nodes.{MeansNode, Bad}
 use Rattle.zarrs_node.specs.Order.{Ascend}
-use Rattle.zarrs_node.specs.Reached.{Kept}
+use Rattle.zarrs_node.specs.Reach.{Kept}
 use Rattle.zarrs_node.specs.declared.node.Node.{Node}
 use Rattle.zarrs_node.specs.Forest.{Forest, none, tree, pairs, Shows, IsPlaced, forest, path_of, metadata_of, below_of}
 use Rattle.zarrs_node.proofs.Found.{listed_each, lists_from, all_pairs_tail, all_pairs_first}
 use Rattle.zarrs_node.proofs.Graft.{plant_out, Contains-first, Contains-cons}
 use Rattle.zarrs_node.proofs.Order.{pairs_ascend, contains_cases}
 use Rattle.zarrs_node.proofs.Kept.{kept_same}
-use Rattle.zarrs_node.specs.Latest.{IsLatest}
-use Rattle.zarrs_node.specs.Opened.{ShowsChosen, IsCleanChosen}
+use Rattle.zarrs_node.specs.LastOfEqualPaths.{IsLatest}
+use Rattle.zarrs_node.specs.OpeningNodes.{ShowsChosen, IsCleanChosen}
 use Rattle.zarrs_group.specs.Groups.{GroupState}
-use Rattle.zarrs_group.specs.Children.{chosen, ListsDirectly, ShowsChildren, AreChildren, groups_of, with_group, group_at}
+use Rattle.zarrs_group.specs.Children.{block_choice, ListsDirectly, ShowsChildren, AreChildren, groups_of, with_group, group_at}
 
 -- a node as the pair of its path and its metadata
 abbrev pub pair_of : Node → Path × NodeMetadata
@@ -79,12 +79,12 @@ kept_pairs N b ns h =
 -- so are those of nodes that show what is chosen
 chosen_pairs : (s : Contents) (o : Option (Option Block)) (b : Path) (ns : List Node) → ShowsChosen s Default o false b (forest ns) → Ascend (map pair_of ns) × ListsDirectly s o b (map pair_of ns)
 chosen_pairs s None b ns h = absurd h
-chosen_pairs s (Some None) b ns h = kept_pairs (Meant s Default) b ns h
+chosen_pairs s (Some None) b ns h = kept_pairs (MeansNode s Default) b ns h
 chosen_pairs s (Some (Some B)) b ns h = kept_pairs (Entries B b) b ns h
 
 -- the pairs of the nodes that show the children of a group are its children
 pub are_children : (s : Contents) (g : GroupState) (config : Settings) (ns : List Node) → ShowsChildren s g config false (forest ns) → AreChildren s g config (map pair_of ns)
-are_children s g config ns h = let both = chosen_pairs s (chosen g config) g.path ns h in record { ascend = both.0; children = both.1 }
+are_children s g config ns h = let both = chosen_pairs s (block_choice g config) g.path ns h in record { ascend = both.0; children = both.1 }
 
 -- the paths of the pairs of nodes are those of the nodes
 pub paths_of_pairs : (ns : List Node) → map (λ e. e.0) (map pair_of ns) ≡ map path_of ns

@@ -1,7 +1,7 @@
 -- Zarr core specification 3.1, "Hierarchy" and "Group metadata", the field `consolidated_metadata`, and the document `.zmetadata` of version 2: what stands below a group, by its block or by a listing.
---     chosen g config      the block that is used of a group, or that the store is listed, or nothing where the want of a block is refused
+--     block_choice g config      the block that is block_to_use of a group, or that the store is listed, or nothing where the want of a block is refused
 --     ShowsChildren, ListsNodes, AreChildren      what its trees show; what all its nodes are; what its children are, in order
---     IsCleanBelow, RefusesBelow      that nothing refuses it; what a refusal is
+--     IsCleanBelow, RefusesChildren      that nothing refuses it; what a refusal is
 --     is_listed choice      whether the store is listed: only there its fault is excused
 use Rattle.std.specs.Prelude.{Bool, true, false, ◌&&◌, List, [], ◌∷◌, Option, Some, None, ◌⊎◌}
 use Rattle.zarrs_store.specs.Contents.{Contents, Lists}
@@ -12,25 +12,25 @@ use Rattle.zarrs_meta.specs.declared.node.GroupMetadata.{GroupMetadata}
 use Rattle.zarrs_meta.specs.declared.node.NodeMetadata.{NodeMetadata}
 use Rattle.zarrs_meta.specs.declared.node.NodeMetadata.TheVariants.{Group, Array}
 use Rattle.zarrs_block.specs.Block.{Block}
-use Rattle.zarrs_block.specs.Used.{used}
-use Rattle.zarrs_block.specs.Refused.{IsExcused}
+use Rattle.zarrs_block.specs.Policy.{block_to_use}
+use Rattle.zarrs_block.specs.Refusals.{IsExcused}
 use Rattle.zarrs_block.specs.declared.node_create_error.NodeCreateError.{NodeCreateError}
-use Rattle.zarrs_node.specs.Below.{NodesBelow, PairsBelow}
+use Rattle.zarrs_node.specs.BlocksBelow.{NodesBelow, PairsBelow}
 use Rattle.zarrs_node.specs.Forest.{Forest}
-use Rattle.zarrs_node.specs.Opened.{ShowsChosen, IsCleanChosen, RefusesChosen}
+use Rattle.zarrs_node.specs.OpeningNodes.{ShowsChosen, IsCleanChosen, RefusesChosen}
 use Rattle.zarrs_node.specs.Order.{Ascend}
 use Rattle.zarrs_group.specs.declared.create_error.GroupCreateError.{GroupCreateError}
 use Rattle.zarrs_group.specs.Groups.{GroupState}
-use Rattle.zarrs_group.specs.Consolidated.{held_by}
-use Rattle.zarrs_group.specs.Opened.{IsFromNode}
+use Rattle.zarrs_group.specs.BlocksOfGroups.{held_by}
+use Rattle.zarrs_group.specs.OpeningGroups.{IsFromNode}
 
 -- the block that is used of a group, or that there is none, or nothing where the want of a block is refused
-abbrev pub chosen : GroupState → Settings → Option (Option Block)
-chosen g config = used (held_by g) config.use_consolidated
+abbrev pub block_choice : GroupState → Settings → Option (Option Block)
+block_choice g config = block_to_use (held_by g) config.use_consolidated
 
 -- the forest shows the nodes below the group, by the block that is used or by the documents of either version; or its children alone
 abbrev pub ShowsChildren : Contents → GroupState → Settings → Bool → Forest → Type 0
-ShowsChildren s g config recursive f = ShowsChosen s Default (chosen g config) recursive g.path f
+ShowsChildren s g config recursive f = ShowsChosen s Default (block_choice g config) recursive g.path f
 
 -- the pairs are all that stands below b, each once, in any order: by the block that is chosen, or by a listing
 abbrev pub ListsChosen : Contents → Option (Option Block) → Path → List (Path × NodeMetadata) → Type 0
@@ -39,7 +39,7 @@ ListsChosen s (Some c) b es = Lists (PairsBelow s Default c b) es
 
 -- the pairs are all that stands below the group
 abbrev pub ListsNodes : Contents → GroupState → Settings → List (Path × NodeMetadata) → Type 0
-ListsNodes s g config es = ListsChosen s (chosen g config) g.path es
+ListsNodes s g config es = ListsChosen s (block_choice g config) g.path es
 
 -- the pairs are the nodes directly below b, each once: by the block that is chosen, or by a listing
 abbrev pub ListsDirectly : Contents → Option (Option Block) → Path → List (Path × NodeMetadata) → Type 0
@@ -49,11 +49,11 @@ ListsDirectly s (Some c) b es = Lists (NodesBelow s Default c false b) es
 -- the pairs are the children of the group, each once, in the order of their paths
 pub record AreChildren (s : Contents) (g : GroupState) (config : Settings) (es : List (Path × NodeMetadata)) : Type 0 where
   pub ascend : Ascend es
-  pub children : ListsDirectly s (chosen g config) g.path es
+  pub children : ListsDirectly s (block_choice g config) g.path es
 
 -- nothing refuses what stands below the group: a listing comes upon nothing bad, or all keys of the block that is used are valid
 abbrev pub IsCleanBelow : Contents → GroupState → Settings → Bool → Type 0
-IsCleanBelow s g config recursive = IsCleanChosen s Default (chosen g config) recursive g.path
+IsCleanBelow s g config recursive = IsCleanChosen s Default (block_choice g config) recursive g.path
 
 -- the store is listed: no block is used, and the want of one is not refused
 abbrev pub is_listed : Option (Option Block) → Bool
@@ -61,9 +61,9 @@ is_listed None = false
 is_listed (Some None) = true
 is_listed (Some (Some B)) = false
 
--- memory was wanting, or the error is the fault of a store that is listed and can fail; or the want of a block is refused; or, by the block that is used or by a listing, what stands below the group is
-abbrev pub RefusesBelow : Bool → Contents → GroupState → Settings → Bool → NodeCreateError → Type 0
-RefusesBelow can_fail s g config recursive e = IsExcused (is_listed (chosen g config) && can_fail) e ⊎ RefusesChosen s Default (chosen g config) recursive g.path e
+-- out of memory, or the error is the fault of a store that is listed and can fail; or the want of a block is refused; or, by the block that is used or by a listing, what stands below the group is
+abbrev pub RefusesChildren : Bool → Contents → GroupState → Settings → Bool → NodeCreateError → Type 0
+RefusesChildren can_fail s g config recursive e = IsExcused (is_listed (block_choice g config) && can_fail) e ⊎ RefusesChosen s Default (block_choice g config) recursive g.path e
 
 -- ---- groups among the children
 
@@ -83,4 +83,4 @@ groups_of config (e ∷ es) = with_group config e.0 e.1 (groups_of config es)
 
 -- the refusal of a group is that of what stands below it
 abbrev pub RefusesGroups : Bool → Contents → GroupState → Settings → GroupCreateError → Type 0
-RefusesGroups can_fail s g config made = (e : NodeCreateError) × RefusesBelow can_fail s g config false e × IsFromNode e made
+RefusesGroups can_fail s g config made = (e : NodeCreateError) × RefusesChildren can_fail s g config false e × IsFromNode e made

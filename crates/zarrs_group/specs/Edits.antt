@@ -3,8 +3,6 @@ use Rattle.std.specs.Prelude.{◌≡◌, ℕ, List, [], ◌∷◌, ◌++◌}
 use Rattle.std.specs.FinMap as map
 use Rattle.zarrs_store.specs.Segments.{Segments}
 use Rattle.zarrs_store.specs.Contents.{Contents, AgreesExceptAt}
-use Rattle.zarrs_group.specs.declared.edit.Edit.{Edit as RustEdit}
-use Rattle.zarrs_group.specs.declared.edit.Edit.TheVariants.{Set, Erase}
 
 -- an edit: one key set to bytes, or removed
 pub data Edit : Type 0 where
@@ -17,14 +15,14 @@ edit_key (set key bytes) = key
 edit_key (remove key) = key
 
 -- the store after one edit
-abbrev pub edited : Contents → Edit → Contents
-edited S (set key bytes) = map.insert S key bytes
-edited S (remove key) = map.remove S key
+abbrev pub after_edit : Contents → Edit → Contents
+after_edit S (set key bytes) = map.insert S key bytes
+after_edit S (remove key) = map.remove S key
 
 -- the store after a list of edits, from the first on
 abbrev pub after : Contents → List Edit → Contents
 after S [] = S
-after S (e ∷ es) = after (edited S e) es
+after S (e ∷ es) = after (after_edit S e) es
 
 -- a first part of the edits was done, and not all of them: the store is what these leave, except perhaps at the key of the next edit
 pub record IsCutShort (S : Contents) (edits : List Edit) (S' : Contents) : Type 0 where
@@ -33,8 +31,3 @@ pub record IsCutShort (S : Contents) (edits : List Edit) (S' : Contents) : Type 
   pub rest : List Edit
   pub is : edits ≡ done ++ next ∷ rest
   pub others : AgreesExceptAt (edit_key next) (after S done) S'
-
--- what an edit of the code does
-abbrev pub edit_of : RustEdit → Edit
-edit_of (Set key bytes) = set key bytes.items
-edit_of (Erase key) = remove key

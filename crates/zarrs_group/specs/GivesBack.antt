@@ -25,18 +25,18 @@ use Rattle.zarrs_meta.specs.declared.node.NodeMetadata.{NodeMetadata}
 use Rattle.zarrs_meta.specs.declared.node.NodeMetadata.TheVariants.{Group}
 use Rattle.zarrs_block.specs.Block.{Block, IsAscending, IsBlockOf}
 use Rattle.zarrs_block.specs.Zmetadata.{is_version_2, zmetadata_tree, HaveSameEntries}
-use Rattle.zarrs_block.specs.Refused.{LacksMemory}
+use Rattle.zarrs_block.specs.Refusals.{LacksMemory}
 use Rattle.zarrs_block.specs.declared.node_create_error.NodeCreateError.{NodeCreateError}
 use Rattle.zarrs_node.specs.Forest.{Forest, pairs, Shows}
 use Rattle.zarrs_block.specs.Meaning.{Meaning, Means, meaning, node}
-use Rattle.zarrs_node.specs.Reached.{Kept}
+use Rattle.zarrs_node.specs.Reach.{Kept}
 use Rattle.zarrs_node.specs.Inverse.{ArePlain}
-use Rattle.zarrs_node.specs.Opened.{ShowsNode, RefusesOpening}
+use Rattle.zarrs_node.specs.OpeningNodes.{ShowsNode, RefusesOpening}
 use Rattle.zarrs_group.specs.Groups.{GroupState, group_tree}
-use Rattle.zarrs_group.specs.Consolidated.{block_beside, with_block, Fits}
-use Rattle.zarrs_group.specs.Children.{ShowsChildren, ListsNodes, RefusesBelow}
+use Rattle.zarrs_group.specs.BlocksOfGroups.{block_beside, with_block, Fits}
+use Rattle.zarrs_group.specs.Children.{ShowsChildren, ListsNodes, RefusesChildren}
 use Rattle.zarrs_group.specs.Edits.{after}
-use Rattle.zarrs_group.specs.Stored.{store_edits, stored_fault, IsBlockReadBack}
+use Rattle.zarrs_group.specs.StoringGroups.{store_edits, stored_fault, IsBlockReadBack}
 use Rattle.zarrs_group.specs.Laws.{MeansStored}
 
 -- the group is of version 3; f is what a listing below it finds, whatever the meanings of paths, and its metadata are plain; and B holds exactly the pairs of f, as `consolidate_metadata` makes it
@@ -47,11 +47,11 @@ pub record Consolidates (of : Path → Meaning) (g : GroupState) (f : Forest) (B
   pub ascending : IsAscending B
   pub block : IsBlockOf (Contains (pairs f)) g.path B
 
--- whatever store is handed in, where the policy is not Never: the one forest of the group's children is f, what is traversed are the pairs of f in some order, and nothing refuses but want of memory
+-- whatever store is handed in, where the policy is not Never: the one forest of the group's children is f, what is traversed are the pairs of f in some order, and nothing refuses but out of memory
 pub record GivesBack (g : GroupState) (f : Forest) : Type 0 where
   pub children : (s : Contents) (config : Settings) → config.use_consolidated ≢ Never → (t : Forest) → ShowsChildren s g config true t → t ≡ f
   pub traversed : (s : Contents) (config : Settings) → config.use_consolidated ≢ Never → (es : List (Path × NodeMetadata)) → ListsNodes s g config es → Lists (Contains (pairs f)) es
-  pub excused : (s : Contents) (config : Settings) → config.use_consolidated ≢ Never → (can_fail : Bool) (e : NodeCreateError) → RefusesBelow can_fail s g config true e → LacksMemory e
+  pub excused : (s : Contents) (config : Settings) → config.use_consolidated ≢ Never → (can_fail : Bool) (e : NodeCreateError) → RefusesChildren can_fail s g config true e → LacksMemory e
 
 -- After its block was set to that of a listed forest, a version 3 group gives the forest back.
 abbrev pub GroupGivesBack : Type 0
@@ -96,13 +96,14 @@ pub record HasStoredBlock (S s : Contents) (g : GroupState) : Type 0 where
   pub shallow : IsBlockShallow g.metadata g.block
   pub same : map.get s (g.path ++ zmetadata ∷ []) ≡ map.get (after S (store_edits g.path g.metadata g.block)) (g.path ++ zmetadata ∷ [])
 
--- in a store, by each version by which the path of the group means the group, where the policy is not Never: the one forest of a node opened there is f, and the opening is not refused; and a group opened there has beside its metadata a block with the entries of B
+-- in a store, by each version by which the path of the group means the group, where the policy is not Never: the one forest of a node opened there is f, and the opening is not refused; and a group opened there has beside its metadata a block with the entries of B, and gives the forest back
 pub record OpensToV2 (s : Contents) (g : GroupState) (f : Forest) (B : Block) : Type 0 where
   pub children : (v : MetadataRetrieveVersion) → meaning s v g.path ≡ node (Group g.metadata) → (policy : UseConsolidatedMetadata) → policy ≢ Never
       → (t : Forest) → ShowsNode s v policy g.path (Group g.metadata) t → t ≡ f
   pub opened : (v : MetadataRetrieveVersion) → meaning s v g.path ≡ node (Group g.metadata) → (policy : UseConsolidatedMetadata) → policy ≢ Never
       → (e : NodeCreateError) → RefusesOpening s v policy (path_text g.path) e → ⊥
   pub beside : (C : Block) × (block_beside s g.path g.metadata ≡ Some C) × HaveSameEntries B C
+  pub group : (h : GroupState) → h.path ≡ g.path → h.metadata ≡ g.metadata → h.block ≡ block_beside s g.path g.metadata → GivesBack h f
 
 -- A version 2 group that was stored with the block of such a forest, in the order of its keys, gives the forest back over any store that has its document `.zmetadata`.
 abbrev pub StoredV2GivesBack : Type 0

@@ -37,9 +37,9 @@ as_v3 (V3 m) = V3 m
 as_v3 (V2 m) = V3 (group_v2_to_v3 m)
 
 -- the metadata that are written by a version: as they are held, or as version 3
-abbrev pub converted : MetadataConvertVersion → GroupMetadata → GroupMetadata
-converted convert.Default m = m
-converted convert.V3 m = as_v3 m
+abbrev pub metadata_by_version : MetadataConvertVersion → GroupMetadata → GroupMetadata
+metadata_by_version convert.Default m = m
+metadata_by_version convert.V3 m = as_v3 m
 
 -- what is beside the metadata as version 3: the block of a version 2 group is dropped, and a version 3 group stays
 abbrev pub beside_as_v3 : GroupMetadata → Option Block → Option Block

@@ -21,7 +21,7 @@ use Rattle.zarrs_group.specs.Plain.{group_fault, is_plain_group}
 use Rattle.zarrs_group.specs.Edits.{Edit, after, IsCutShort}
 use Rattle.zarrs_group.specs.Meaning.{MeansGroup}
 use Rattle.zarrs_meta.specs.Node.{group_without_attributes}
-use Rattle.zarrs_group.specs.Stored.{erase_edits, store_edits}
+use Rattle.zarrs_group.specs.StoringGroups.{erase_edits, store_edits}
 
 -- as version 3 a group keeps its path, its attributes, and the versions that it is stored and erased by
 pub record IsKept (old new : GroupState) : Type 0 where

@@ -1,9 +1,8 @@
 -- Zarr core specification 3.1, "Group metadata", and the keys of Zarr version 2: what a path means as a group.
 -- The lines are those of the meaning of a node, without the one for arrays of version 2.
-use Rattle.std.specs.Prelude.{◌≡◌, [], ◌∷◌, ◌++◌, Bool, IsTrue, Option, Some, None, Result, Ok, Err}
+use Rattle.std.specs.Prelude.{◌≡◌, [], ◌∷◌, ◌++◌, Option, Some, None, Result, Ok, Err}
 use Rattle.zarrs_store.specs.Contents.{Contents}
 use Rattle.zarrs_store.specs.declared.storage_error.StorageError.{StorageError}
-use Rattle.zarrs_store.specs.declared.storage_error.StorageError.TheVariants.{Fault, InvalidMetadata, Other, OutOfMemory}
 use Rattle.zarrs_path.specs.Paths.{Path}
 use Rattle.zarrs_path.specs.Keys.{zarr_json}
 use Rattle.zarrs_config.specs.declared.version.MetadataRetrieveVersion.{MetadataRetrieveVersion}
@@ -36,29 +35,3 @@ group_meaning s version.V2 p = zgroup_line in_bytes s p nothing
 -- p means the group with these metadata
 abbrev pub MeansGroup : Contents → MetadataRetrieveVersion → Path → GroupMetadata → Type 0
 MeansGroup s v p m = group_meaning s v p ≡ node (Group m)
-
--- ---- what a reading answers
-
--- the answer is what this line says, whatever the lines after it
-abbrev pub FindsByLine : Option GroupMetadata → (Meaning → Meaning) → Type 0
-FindsByLine (Some m) line = (after : Meaning) → line after ≡ node (Group m)
-FindsByLine None line = (after : Meaning) → line after ≡ after
-
--- the error is excused, or this line says that the path is bad
-abbrev pub RefusesLine : Bool → (Meaning → Meaning) → StorageError → Type 0
-RefusesLine can_fail line Fault = IsTrue can_fail
-RefusesLine can_fail line (InvalidMetadata key fault) = (after : Meaning) → line after ≡ bad (refused.StorageError (InvalidMetadata key fault))
-RefusesLine can_fail line (Other text) = ⊥
-RefusesLine can_fail line OutOfMemory = Unit {0}
-
--- the answer is the meaning
-abbrev pub FindsMeaning : Option GroupMetadata → Meaning → Type 0
-FindsMeaning (Some m) meaning = meaning ≡ node (Group m)
-FindsMeaning None meaning = meaning ≡ nothing
-
--- the error is excused, or the path is bad with it
-abbrev pub RefusesMeaning : Bool → Meaning → StorageError → Type 0
-RefusesMeaning can_fail meaning Fault = IsTrue can_fail
-RefusesMeaning can_fail meaning (InvalidMetadata key fault) = meaning ≡ bad (refused.StorageError (InvalidMetadata key fault))
-RefusesMeaning can_fail meaning (Other text) = ⊥
-RefusesMeaning can_fail meaning OutOfMemory = Unit {0}

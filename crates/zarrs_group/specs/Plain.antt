@@ -19,7 +19,7 @@ use Rattle.zarrs_meta.specs.declared.group_v3.GroupMetadataV3.{GroupMetadataV3}
 use Rattle.zarrs_meta.specs.declared.group_v2.GroupMetadataV2.{GroupMetadataV2}
 use Rattle.zarrs_path.specs.Paths.{Path}
 use Rattle.zarrs_block.specs.Block.{Block}
-use Rattle.zarrs_block.specs.Expanded.{paired, paths_at}
+use Rattle.zarrs_block.specs.BlockExpansion.{pairs_at, paths_at}
 use Rattle.zarrs_fault.specs.declared.fault.MetadataFault.{MetadataFault}
 use Rattle.zarrs_fault.specs.declared.fault.MetadataFault.TheVariants.{UnsupportedNumber, BadMember}
 
@@ -81,7 +81,7 @@ node_has_float m = has_float (node_tree m) || members_have_float (node_fields m)
 
 -- the entries of a block, in the order of their keys: all but the base itself, and but those behind a slash that stand without it too
 abbrev pub entries_of : Block → List (Path × NodeMetadata)
-entries_of B = paired (paths_at [] B B) B
+entries_of B = pairs_at (paths_at [] B B) B
 
 -- a number of some entry that does not fit, or else `metadata` where some entry could not have come from a document
 abbrev pub entries_fault : List (Path × NodeMetadata) → Option MetadataFault

@@ -4,7 +4,7 @@ ghost use Rattle.serde_json.specs.Data.{no_members};
 ghost use Rattle.serde_json.specs.View.{members_view};
 ghost use Rattle.zarrs_meta.specs.declared.node.GroupMetadata.TheVariants.{V3};
 ghost use Rattle.zarrs_path.specs.Paths.{IsPath, path_text};
-ghost use Rattle.zarrs_group.specs.Opened.{RefusesMaking};
+ghost use Rattle.zarrs_group.specs.OpeningGroups.{RefusesMaking};
 
 use crate::create_error::GroupCreateError;
 use crate::group::Group;
@@ -78,7 +78,7 @@ impl GroupBuilder {
     ///
     /// # Errors
     ///
-    /// `NodePathError` where the text is no path, and want of memory.
+    /// `NodePathError` where the text is no path, and out of memory.
     ///
     /// Source: `zarrs::group::GroupBuilder::build`.
     pub fn build(

@@ -3,12 +3,12 @@ ghost use Rattle.std.specs.Prelude.{◌≡◌, Some, List, ◌∷◌, ◌++◌, 
 ghost use Rattle.zarrs_path.specs.Paths.{Path};
 ghost use Rattle.zarrs_meta.specs.Node.{is_group};
 ghost use Rattle.zarrs_meta.specs.declared.node.NodeMetadata.{NodeMetadata as Metadata};
-ghost use Rattle.zarrs_block.specs.Used.{seen, RefusesUse, LacksBlockMemory};
+ghost use Rattle.zarrs_block.specs.Policy.{as_block, RefusesUse};
 ghost use Rattle.zarrs_block.specs.Block.{Entries, HasValidKeys};
-ghost use Rattle.zarrs_block.specs.Expanded.{RefusesKeys};
+ghost use Rattle.zarrs_block.specs.BlockExpansion.{RefusesKeys};
 ghost use Rattle.zarrs_node.specs.Forest.{Shows, forest, path_of, metadata_of};
-ghost use Rattle.zarrs_node.specs.Reached.{Kept};
-ghost use Rattle.zarrs_group.specs.Children.{chosen, ShowsChildren, ListsNodes, AreChildren, IsCleanBelow, RefusesBelow, RefusesGroups, groups_of, with_group};
+ghost use Rattle.zarrs_node.specs.Reach.{Kept};
+ghost use Rattle.zarrs_group.specs.Children.{block_choice, ShowsChildren, ListsNodes, AreChildren, IsCleanBelow, RefusesChildren, RefusesGroups, groups_of, with_group};
 
 use crate::create_error::GroupCreateError;
 use crate::group::Group;
@@ -37,7 +37,7 @@ impl Group {
     /// - `NodePathError` where a key of the block is no relative path.
     /// - The refusals of `get_child_nodes_opt` where the store is listed.
     ///
-    /// In the place of each of these, and of the nodes, `OutOfMemory` where memory is wanting, and, where the store is listed and can fail, its
+    /// In the place of each of these, and of the nodes, `OutOfMemory` when out of memory, and, where the store is listed and can fail, its
     /// `StorageError::Fault`.
     ///
     /// Source: `zarrs::group::Group::children`.
@@ -51,7 +51,7 @@ impl Group {
     ) -> Result<Vec<Node>, NodeCreateError>
         ensures shows { IfOk result (λ nodes. ShowsChildren (S.contents storage.now) self.now config.now recursive (forest nodes.items)) }
         ensures clean { IfOk result (λ _. IsCleanBelow (S.contents storage.now) self.now config.now recursive) }
-        ensures refused { IfErr result (RefusesBelow (S.can_fail storage.now) (S.contents storage.now) self.now config.now recursive) }
+        ensures refused { IfErr result (RefusesChildren (S.can_fail storage.now) (S.contents storage.now) self.now config.now recursive) }
     {
         match self.used_block(alloc, config)? {
             Some(block) => nodes_of_block(alloc, self.path(), block, recursive),
@@ -77,7 +77,7 @@ impl Group {
     ) -> Result<Vec<(NodePath, NodeMetadata)>, NodeCreateError>
         ensures nodes { IfOk result (λ all. ListsNodes (S.contents storage.now) self.now config.now all.items) }
         ensures clean { IfOk result (λ _. IsCleanBelow (S.contents storage.now) self.now config.now true) }
-        ensures refused { IfErr result (RefusesBelow (S.can_fail storage.now) (S.contents storage.now) self.now config.now true) }
+        ensures refused { IfErr result (RefusesChildren (S.can_fail storage.now) (S.contents storage.now) self.now config.now true) }
     {
         match self.used_block(alloc, config)? {
             Some(block) => expand_consolidated_metadata(alloc, self.path(), block),
@@ -133,7 +133,7 @@ impl Group {
         ensures paths { IfOk result (λ paths. (es : List (Path × Metadata))
             × AreChildren (S.contents storage.now) self.now config.now es × (paths.items ≡ map (λ e. e.0) es)) }
         ensures clean { IfOk result (λ _. IsCleanBelow (S.contents storage.now) self.now config.now false) }
-        ensures refused { IfErr result (RefusesBelow (S.can_fail storage.now) (S.contents storage.now) self.now config.now false) }
+        ensures refused { IfErr result (RefusesChildren (S.can_fail storage.now) (S.contents storage.now) self.now config.now false) }
     {
         let nodes = self.children(log, alloc, storage, config, false)?;
         Ok(paths_of(alloc, nodes)?)
@@ -156,7 +156,7 @@ impl Group {
         ensures paths { IfOk result (λ paths. (es : List (Path × Metadata))
             × AreChildren (S.contents storage.now) self.now config.now es × (paths.items ≡ map (λ e. e.0) (filter (λ e. is_group e.1) es))) }
         ensures clean { IfOk result (λ _. IsCleanBelow (S.contents storage.now) self.now config.now false) }
-        ensures refused { IfErr result (RefusesBelow (S.can_fail storage.now) (S.contents storage.now) self.now config.now false) }
+        ensures refused { IfErr result (RefusesChildren (S.can_fail storage.now) (S.contents storage.now) self.now config.now false) }
     {
         let nodes = self.children(log, alloc, storage, config, false)?;
         Ok(group_paths_of(alloc, nodes)?)
@@ -179,7 +179,7 @@ impl Group {
         ensures paths { IfOk result (λ paths. (es : List (Path × Metadata))
             × AreChildren (S.contents storage.now) self.now config.now es × (paths.items ≡ map (λ e. e.0) (filter (λ e. not (is_group e.1)) es))) }
         ensures clean { IfOk result (λ _. IsCleanBelow (S.contents storage.now) self.now config.now false) }
-        ensures refused { IfErr result (RefusesBelow (S.can_fail storage.now) (S.contents storage.now) self.now config.now false) }
+        ensures refused { IfErr result (RefusesChildren (S.can_fail storage.now) (S.contents storage.now) self.now config.now false) }
     {
         let nodes = self.children(log, alloc, storage, config, false)?;
         Ok(array_paths_of(alloc, nodes)?)
@@ -191,8 +191,8 @@ impl Group {
         alloc: Global,
         config: &Config,
     ) -> Result<Option<ConsolidatedMetadata>, NodeCreateError>
-        ensures ok { IfOk result (λ block. chosen self.now config.now ≡ Some (seen block)) }
-        ensures err { IfErr result (λ e. RefusesUse self.now.path (chosen self.now config.now) e ⊎ LacksBlockMemory config.now.use_consolidated e) }
+        ensures ok { IfOk result (λ block. block_choice self.now config.now ≡ Some (as_block block)) }
+        ensures err { IfErr result (λ e. RefusesUse self.now.path (block_choice self.now config.now) e ⊎ (e ≡ NodeCreateError.OutOfMemory)) }
     {
         let policy = config.use_consolidated_metadata();
         if let UseConsolidatedMetadata::Never = policy {

@@ -6,11 +6,11 @@ ghost use Rattle.zarrs_form.specs.Documents.{besides};
 ghost use Rattle.zarrs_form.specs.Fields.{field_data};
 ghost use Rattle.zarrs_meta.specs.declared.node.GroupMetadata.TheVariants.{V2};
 ghost use Rattle.zarrs_block.specs.Block.{block_tree};
-ghost use Rattle.zarrs_block.specs.Used.{seen};
-ghost use Rattle.zarrs_group.specs.Beside.{IsBeside};
-ghost use Rattle.zarrs_group.specs.Consolidated.{held_by, fields_with, metadata_with, with_block, Fits, RefusesBlock, CanHold};
+ghost use Rattle.zarrs_block.specs.Policy.{as_block};
+ghost use Rattle.zarrs_group.specs.BlocksBeside.{IsBeside};
+ghost use Rattle.zarrs_group.specs.BlocksOfGroups.{held_by, fields_with, metadata_with, with_block, Fits, RefusesBlock, CanHold};
 ghost use Rattle.zarrs_group.specs.Lending.{Rests};
-ghost use Rattle.zarrs_group.specs.LendingSteps.{RestsLent, group_lent};
+ghost use Rattle.zarrs_group.specs.StepsOfLending.{RestsLent, group_lent};
 
 use crate::group::Group;
 use std::alloc::{AllocError, Global};
@@ -30,7 +30,7 @@ impl Group {
         &self,
         alloc: Global,
     ) -> Result<Option<ConsolidatedMetadata>, AllocError>
-        ensures { IfOk result (λ block. seen block ≡ held_by self.now) }
+        ensures { IfOk result (λ block. as_block block ≡ held_by self.now) }
     {
         match &self.metadata {
             GroupMetadata::V3(_) => consolidated_metadata_of(alloc, &self.metadata),
@@ -48,7 +48,7 @@ impl Group {
     /// - `NodePathError` where a key of the block is not names joined by slashes, also behind one slash.
     /// - `MetadataVersionMismatch` where an entry of the block is of version 3.
     ///
-    /// Of either, `OutOfMemory` where memory is wanting. After an error nothing is changed.
+    /// Of either, `OutOfMemory` when out of memory. After an error nothing is changed.
     ///
     /// Source: `zarrs::group::Group::set_consolidated_metadata`; zarr-python, consolidated metadata of version 2.
     pub fn set_consolidated_metadata(
@@ -58,10 +58,10 @@ impl Group {
     ) -> Result<&mut Group, NodeCreateError>
         ensures* rests { sem 𝓛 (Rests self.entry result) }
         ensures same { IfOk result (λ group. group.ghost_name ≡ self.entry.ghost_name) }
-        ensures ok { IfOk result (λ group. group.now ≡ with_block self.old (seen consolidated_metadata)) }
-        ensures held { IfOk result (λ group. CanHold self.old (seen consolidated_metadata) → held_by group.now ≡ seen consolidated_metadata) }
-        ensures fits { IfOk result (λ _. Fits self.old.metadata (seen consolidated_metadata)) }
-        ensures err { IfErr result (RefusesBlock self.old.metadata (seen consolidated_metadata)) }
+        ensures ok { IfOk result (λ group. group.now ≡ with_block self.old (as_block consolidated_metadata)) }
+        ensures held { IfOk result (λ group. CanHold self.old (as_block consolidated_metadata) → held_by group.now ≡ as_block consolidated_metadata) }
+        ensures fits { IfOk result (λ _. Fits self.old.metadata (as_block consolidated_metadata)) }
+        ensures err { IfErr result (RefusesBlock self.old.metadata (as_block consolidated_metadata)) }
     {
         into_group(self.set_lent(alloc, consolidated_metadata))
     }
@@ -74,9 +74,9 @@ impl Group {
     ) -> Result<LentGroup<'_>, NodeCreateError>
         ensures* rests { sem 𝓛 (RestsLent self.entry result) }
         ensures same { IfOk result (λ lent. lent.group.ghost_name ≡ self.entry.ghost_name) }
-        ensures ok { IfOk result (λ lent. lent.group.now ≡ with_block self.old (seen block)) }
-        ensures fits { IfOk result (λ _. Fits self.old.metadata (seen block)) }
-        ensures err { IfErr result (RefusesBlock self.old.metadata (seen block)) }
+        ensures ok { IfOk result (λ lent. lent.group.now ≡ with_block self.old (as_block block)) }
+        ensures fits { IfOk result (λ _. Fits self.old.metadata (as_block block)) }
+        ensures err { IfErr result (RefusesBlock self.old.metadata (as_block block)) }
     {
         self.replace_consolidated_metadata(alloc, block)?;
         Ok(LentGroup { group: self })
@@ -93,10 +93,10 @@ impl Group {
         alloc: Global,
         block: Option<ConsolidatedMetadata>,
     ) -> Result<(), NodeCreateError>
-        ensures ok { OnOk result (self.new ≡ with_block self.old (seen block)) }
-        ensures fits { OnOk result (Fits self.old.metadata (seen block)) }
+        ensures ok { OnOk result (self.new ≡ with_block self.old (as_block block)) }
+        ensures fits { OnOk result (Fits self.old.metadata (as_block block)) }
         ensures unchanged { OnErr result (self.new ≡ self.old) }
-        ensures err { IfErr result (RefusesBlock self.old.metadata (seen block)) }
+        ensures err { IfErr result (RefusesBlock self.old.metadata (as_block block)) }
     {
         match &mut self.metadata {
             GroupMetadata::V3(group) => Ok(set_block(&mut group.additional_fields, alloc, block)?),
@@ -147,8 +147,8 @@ fn fitting(
     block: Option<ConsolidatedMetadata>,
 ) -> Result<Option<ConsolidatedMetadata>, NodeCreateError>
     ensures ok { IfOk result (λ same. same ≡ block) }
-    ensures fits { IfOk result (λ _. IsBeside (seen block)) }
-    ensures err { IfErr result (RefusesBlock (V2 group.now) (seen block)) }
+    ensures fits { IfOk result (λ _. IsBeside (as_block block)) }
+    ensures err { IfErr result (RefusesBlock (V2 group.now) (as_block block)) }
 {
     match block {
         Some(block) => {
@@ -165,7 +165,7 @@ fn set_block(
     alloc: Global,
     block: Option<ConsolidatedMetadata>,
 ) -> Result<(), AllocError>
-    ensures ok { OnOk result (fields.new ≡ fields_with (seen block) fields.old) }
+    ensures ok { OnOk result (fields.new ≡ fields_with (as_block block) fields.old) }
     ensures unchanged { OnErr result (fields.new ≡ fields.old) }
 {
     match block {

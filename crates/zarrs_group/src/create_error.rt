@@ -1,6 +1,6 @@
 //! Why a group was not made.
 ghost use Rattle.std.specs.Prelude.{◌≡◌};
-ghost use Rattle.zarrs_group.specs.Opened.{IsFromNode, IsTold};
+ghost use Rattle.zarrs_group.specs.OpeningGroups.{IsFromNode, IsTold};
 
 use crate::unsupported::AdditionalFieldUnsupportedError;
 use std::alloc::{AllocError, AllocFailed, Global};
@@ -26,7 +26,7 @@ pub enum GroupCreateError {
     /// No document of a group stands at the path.
     #[error("group metadata is missing")]
     MissingMetadata,
-    /// Memory was wanting.
+    /// Out of memory.
     #[error("out of memory")]
     OutOfMemory,
 }
@@ -72,7 +72,7 @@ impl From<StorageError> for GroupCreateError {
 }
 
 impl GroupCreateError {
-    /// The refusal of a node as that of a group: a storage error is kept, want of memory stays want of memory, and
+    /// The refusal of a node as that of a group: a storage error is kept, out of memory stays out of memory, and
     /// any other is `StorageError::Other` with its text.
     ///
     /// Source: `From<NodeCreateError>` of `zarrs::group::GroupCreateError`.

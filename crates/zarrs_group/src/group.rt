@@ -4,16 +4,16 @@ ghost use Rattle.serde_json.specs.Written.{compact_text};
 ghost use Rattle.zarrs_store.specs.Faults.{IsStoreError};
 ghost use Rattle.zarrs_path.specs.Paths.{IsPath, path_text};
 ghost use Rattle.zarrs_meta.specs.declared.node.GroupMetadata.TheVariants.{V3, V2};
-ghost use Rattle.zarrs_group.specs.Groups.{attributes_of_group, as_v3, converted, group_as_v3, group_text, group_tree};
-ghost use Rattle.zarrs_block.specs.Used.{seen};
-ghost use Rattle.zarrs_group.specs.Beside.{IsBeside};
-ghost use Rattle.zarrs_group.specs.Consolidated.{block_beside};
+ghost use Rattle.zarrs_group.specs.Groups.{attributes_of_group, as_v3, metadata_by_version, group_as_v3, group_text, group_tree};
+ghost use Rattle.zarrs_block.specs.Policy.{as_block};
+ghost use Rattle.zarrs_group.specs.BlocksBeside.{IsBeside};
+ghost use Rattle.zarrs_group.specs.BlocksOfGroups.{block_beside};
 ghost use Rattle.zarrs_group.specs.Plain.{group_fault};
 ghost use Rattle.zarrs_group.specs.Edits.{after, IsCutShort};
 ghost use Rattle.zarrs_group.specs.Laws.{MeansStored};
 ghost use Rattle.zarrs_group.specs.Meaning.{MeansGroup};
-ghost use Rattle.zarrs_group.specs.Opened.{IsUnsupportedIn, RefusesMaking, RefusesOpen};
-ghost use Rattle.zarrs_group.specs.Stored.{IsBlockReadBack, store_edits, erase_edits, stored_fault, RefusesStore};
+ghost use Rattle.zarrs_group.specs.OpeningGroups.{IsUnsupportedIn, RefusesMaking, RefusesOpeningGroup};
+ghost use Rattle.zarrs_group.specs.StoringGroups.{IsBlockReadBack, store_edits, erase_edits, stored_fault, RefusesStoring};
 ghost use Rattle.zarrs_config.specs.declared.version.MetadataRetrieveVersion.TheVariants.{Default as BothVersions};
 
 use crate::consolidated::copy_of;
@@ -50,8 +50,8 @@ pub struct Group {
 // Contracts see the record of these. Keys of a block beside the metadata are valid, and its entries are of version 2, so that it can be written.
 impl Model for Group {
     ghost use Rattle.zarrs_group.specs.Groups.{GroupState};
-    ghost use Rattle.zarrs_group.specs.Beside.{IsBeside};
-    ghost use Rattle.zarrs_block.specs.Used.{seen};
+    ghost use Rattle.zarrs_group.specs.BlocksBeside.{IsBeside};
+    ghost use Rattle.zarrs_block.specs.Policy.{as_block};
     ghost use Rattle.std.specs.Coded.{codes};
     ghost use Rattle.zarrs_meta.specs.contracts.node.GroupMetadata.{the_row as metadata_row};
     ghost use Rattle.zarrs_block.specs.contracts.consolidated.ConsolidatedMetadataMetadata.{the_row as block_row};
@@ -63,12 +63,12 @@ impl Model for Group {
     ghost view = { λ group. record {
       path = group.path;
       metadata = group.metadata;
-      block = seen group.block;
+      block = as_block group.block;
       convert_version = group.options;
       erase_version = group.erase_version;
     } };
 
-    ghost invariant = { λ group. IsBeside (seen group.block) };
+    ghost invariant = { λ group. IsBeside (as_block group.block) };
 }
 
 impl Group {
@@ -76,7 +76,7 @@ impl Group {
     ///
     /// # Errors
     ///
-    /// `NodePathError` where the text is no path, and want of memory.
+    /// `NodePathError` where the text is no path, and out of memory.
     ///
     /// Source: `zarrs::group::Group::new_with_metadata`.
     pub fn new_with_metadata(
@@ -113,7 +113,7 @@ impl Group {
         ensures block { IfOk result (λ group. group.block ≡ block_beside (S.contents storage.now) group.path group.metadata) }
         ensures understood { IfOk result (λ group. IsUnsupportedIn group.metadata None) }
         ensures choices { IfOk result (λ group. (group.convert_version ≡ config.now.convert_version) × (group.erase_version ≡ config.now.erase_version)) }
-        ensures err { IfErr result (RefusesOpen (S.can_fail storage.now) (S.contents storage.now) BothVersions path.now) }
+        ensures err { IfErr result (RefusesOpeningGroup (S.can_fail storage.now) (S.contents storage.now) BothVersions path.now) }
     {
         Group::open_opt(
             alloc,
@@ -133,7 +133,7 @@ impl Group {
     /// The first that applies: `NodePathError` where the text is no path; `StorageError` with the store's own error, or
     /// with the key and the fault of a document that does not read; `MissingMetadata` where there is no document;
     /// `AdditionalFieldUnsupportedError` with the least field of a version 3 group that must be understood. Besides,
-    /// want of memory.
+    /// out of memory.
     ///
     /// Source: `zarrs::group::Group::open_opt`; Zarr core specification 3.1, "Group metadata"; zarr-python, consolidated metadata of version 2.
     pub fn open_opt<S: ReadableStorageTraits>(
@@ -148,7 +148,7 @@ impl Group {
         ensures block { IfOk result (λ group. group.block ≡ block_beside (S.contents storage.now) group.path group.metadata) }
         ensures understood { IfOk result (λ group. IsUnsupportedIn group.metadata None) }
         ensures choices { IfOk result (λ group. (group.convert_version ≡ config.now.convert_version) × (group.erase_version ≡ config.now.erase_version)) }
-        ensures err { IfErr result (RefusesOpen (S.can_fail storage.now) (S.contents storage.now) version.now path.now) }
+        ensures err { IfErr result (RefusesOpeningGroup (S.can_fail storage.now) (S.contents storage.now) version.now path.now) }
     {
         let path = NodePath::new(alloc, path)?;
         let Some(found) = find_metadata(alloc, storage, &path, version)? else {
@@ -168,11 +168,11 @@ impl Group {
         block: Option<ConsolidatedMetadata>,
         config: &Config,
     ) -> Group
-        requires { IsBeside (seen block) }
+        requires { IsBeside (as_block block) }
         ensures { result ≡ record {
           path = path;
           metadata = metadata;
-          block = seen block;
+          block = as_block block;
           convert_version = config.now.convert_version;
           erase_version = config.now.erase_version;
         } }
@@ -221,7 +221,7 @@ impl Group {
     ///
     /// # Errors
     ///
-    /// `AllocError` for want of memory alone.
+    /// `AllocError` for out of memory alone.
     ///
     /// Source: `zarrs::group::Group::metadata_opt`.
     pub fn metadata_opt(
@@ -229,7 +229,7 @@ impl Group {
         alloc: Global,
         options: &GroupMetadataOptions,
     ) -> Result<GroupMetadata, AllocError>
-        ensures { IfOk result (λ metadata. metadata ≡ converted options.now self.now.metadata) }
+        ensures { IfOk result (λ metadata. metadata ≡ metadata_by_version options.now self.now.metadata) }
     {
         match (options.metadata_convert_version(), &self.metadata) {
             (MetadataConvertVersion::V3, GroupMetadata::V2(group)) => {
@@ -270,7 +270,7 @@ impl Group {
     ///
     /// # Errors
     ///
-    /// `AllocError` for want of memory alone.
+    /// `AllocError` for out of memory alone.
     ///
     /// Source: the `Display` of `zarrs::group::Group`.
     pub fn to_text(&self, alloc: Global) -> Result<String, AllocError>
@@ -287,7 +287,7 @@ impl Group {
     ///
     /// # Errors
     ///
-    /// `AllocError` for want of memory alone.
+    /// `AllocError` for out of memory alone.
     ///
     /// Source: `Clone` of `zarrs::group::Group`.
     pub fn try_clone(&self, alloc: Global) -> Result<Group, AllocError>
@@ -315,14 +315,14 @@ impl Group {
         storage: &mut S,
     ) -> Result<(), StorageError>
         ensures ok { OnOk result (S.contents storage.new
-            ≡ after (S.contents storage.old) (store_edits self.now.path (converted self.now.convert_version self.now.metadata) self.now.block)) }
-        ensures means { OnOk result (MeansStored (S.contents storage.new) self.now.path (converted self.now.convert_version self.now.metadata)) }
-        ensures plain { OnOk result (stored_fault self.now.path (converted self.now.convert_version self.now.metadata) self.now.block ≡ None) }
-        ensures block_reads { OnOk result (IsBlockReadBack (converted self.now.convert_version self.now.metadata) self.now.block) }
-        ensures unchanged { stored_fault self.now.path (converted self.now.convert_version self.now.metadata) self.now.block ≢ None
+            ≡ after (S.contents storage.old) (store_edits self.now.path (metadata_by_version self.now.convert_version self.now.metadata) self.now.block)) }
+        ensures means { OnOk result (MeansStored (S.contents storage.new) self.now.path (metadata_by_version self.now.convert_version self.now.metadata)) }
+        ensures plain { OnOk result (stored_fault self.now.path (metadata_by_version self.now.convert_version self.now.metadata) self.now.block ≡ None) }
+        ensures block_reads { OnOk result (IsBlockReadBack (metadata_by_version self.now.convert_version self.now.metadata) self.now.block) }
+        ensures unchanged { stored_fault self.now.path (metadata_by_version self.now.convert_version self.now.metadata) self.now.block ≢ None
             → S.contents storage.new ≡ S.contents storage.old }
-        ensures err { IfErr result (RefusesStore (S.can_fail storage.old) self.now.path
-            (converted self.now.convert_version self.now.metadata) self.now.block (S.contents storage.old) (S.contents storage.new)) }
+        ensures err { IfErr result (RefusesStoring (S.can_fail storage.old) self.now.path
+            (metadata_by_version self.now.convert_version self.now.metadata) self.now.block (S.contents storage.old) (S.contents storage.new)) }
         ensures nature { S.can_fail storage.new ≡ S.can_fail storage.old }
     {
         self.store_metadata_opt(alloc, storage, &self.options)
@@ -343,7 +343,7 @@ impl Group {
     /// - `InvalidMetadata` with the key of `.zmetadata` where the metadata of an entry of the block could not have come
     ///   from a document: `UnsupportedNumber` for a number of any entry, else `BadMember` with `metadata`.
     ///
-    /// Besides, the store's own error and want of memory: then the changes before the refused one stand, of its key
+    /// Besides, the store's own error and out of memory: then the changes before the refused one stand, of its key
     /// nothing is promised, and no later key was touched.
     ///
     /// Source: `zarrs::group::Group::store_metadata_opt`.
@@ -354,13 +354,13 @@ impl Group {
         options: &GroupMetadataOptions,
     ) -> Result<(), StorageError>
         ensures ok { OnOk result (S.contents storage.new
-            ≡ after (S.contents storage.old) (store_edits self.now.path (converted options.now self.now.metadata) self.now.block)) }
-        ensures means { OnOk result (MeansStored (S.contents storage.new) self.now.path (converted options.now self.now.metadata)) }
-        ensures plain { OnOk result (stored_fault self.now.path (converted options.now self.now.metadata) self.now.block ≡ None) }
-        ensures block_reads { OnOk result (IsBlockReadBack (converted options.now self.now.metadata) self.now.block) }
-        ensures unchanged { stored_fault self.now.path (converted options.now self.now.metadata) self.now.block ≢ None → S.contents storage.new ≡ S.contents storage.old }
-        ensures err { IfErr result (RefusesStore (S.can_fail storage.old) self.now.path
-            (converted options.now self.now.metadata) self.now.block (S.contents storage.old) (S.contents storage.new)) }
+            ≡ after (S.contents storage.old) (store_edits self.now.path (metadata_by_version options.now self.now.metadata) self.now.block)) }
+        ensures means { OnOk result (MeansStored (S.contents storage.new) self.now.path (metadata_by_version options.now self.now.metadata)) }
+        ensures plain { OnOk result (stored_fault self.now.path (metadata_by_version options.now self.now.metadata) self.now.block ≡ None) }
+        ensures block_reads { OnOk result (IsBlockReadBack (metadata_by_version options.now self.now.metadata) self.now.block) }
+        ensures unchanged { stored_fault self.now.path (metadata_by_version options.now self.now.metadata) self.now.block ≢ None → S.contents storage.new ≡ S.contents storage.old }
+        ensures err { IfErr result (RefusesStoring (S.can_fail storage.old) self.now.path
+            (metadata_by_version options.now self.now.metadata) self.now.block (S.contents storage.old) (S.contents storage.new)) }
         ensures nature { S.can_fail storage.new ≡ S.can_fail storage.old }
     {
         let metadata = self.metadata_opt(alloc, options)?;
@@ -395,7 +395,7 @@ impl Group {
     ///
     /// # Errors
     ///
-    /// The store's own error and want of memory: then the changes before the refused one stand, of its key nothing is
+    /// The store's own error and out of memory: then the changes before the refused one stand, of its key nothing is
     /// promised, and no later key was touched.
     ///
     /// Source: `zarrs::group::Group::erase_metadata_opt`.
@@ -419,7 +419,7 @@ impl Group {
 
 impl Group {
     ghost use Rattle.std.specs.Borrow.{sem};
-    ghost use Rattle.zarrs_group.specs.Borrowed.{LendsAttributes};
+    ghost use Rattle.zarrs_group.specs.LentAttributes.{LendsAttributes};
 
     /// The attributes, to be written.
     ///
@@ -433,7 +433,7 @@ impl Group {
 }
 
 ghost use Rattle.std.specs.Borrow.{sem};
-ghost use Rattle.zarrs_group.specs.BorrowedMetadata.{LendsAttributesOf};
+ghost use Rattle.zarrs_group.specs.StepsOfGroups.{LendsAttributesOf};
 
 // The attributes of either version, to be written.
 fn attributes_of_mut(metadata: &mut GroupMetadata) -> &mut Object

@@ -3,7 +3,7 @@
 ghost use Rattle.std.specs.Prelude.{◌≡◌, None, IfErr, OnOk};
 ghost use Rattle.zarrs_group.specs.Laws.{Version3Keeps, Version3Stays, Version3Twice, PlainIsStored, ErasingAllErases, OtherKeysStay, ArraysStay, StoredMeans};
 ghost use Rattle.zarrs_group.specs.GivesBack.{GroupGivesBack, GroupV2GivesBack, StoredGivesBack, StoredV2GivesBack};
-ghost use Rattle.zarrs_group.specs.Stored.{RefusesMetadata};
+ghost use Rattle.zarrs_group.specs.StoringGroups.{RefusesMetadata};
 
 use crate::stored::edits_to_store;
 use std::alloc::Global;
@@ -96,7 +96,8 @@ pub fn stored_gives_back()
 {}
 
 /// As the group of version 2 does, so does a node opened at its path over any store that has the document `.zmetadata` of the stored group, by each version by which the path means the
-/// group there, where that document does not nest too deep; and a group opened there holds a block with the same entries.
+/// group there, where that document does not nest too deep; and a group opened there holds a block with the same entries, and gives the forest back by
+/// `children`, recursive, and by `traverse`, whatever store is handed in.
 ///
 /// Source: `zarrs::node::Node::open_opt`, `zarrs::group::Group::store_metadata`; zarr-python, consolidated metadata of version 2.
 pub fn stored_v2_gives_back()

@@ -2,10 +2,11 @@
 ghost use Rattle.std.specs.Prelude.{◌≡◌, IfOk, IfErr};
 ghost use Rattle.zarrs_store.specs.Faults.{IsStoreError};
 ghost use Rattle.zarrs_block.specs.Meaning.{in_bytes, zgroup_line};
-ghost use Rattle.zarrs_block.specs.Used.{seen};
-ghost use Rattle.zarrs_group.specs.Beside.{IsBeside};
-ghost use Rattle.zarrs_group.specs.Consolidated.{block_beside};
-ghost use Rattle.zarrs_group.specs.Meaning.{group_line, group_meaning, FindsByLine, FindsMeaning, RefusesLine, RefusesMeaning};
+ghost use Rattle.zarrs_block.specs.Policy.{as_block};
+ghost use Rattle.zarrs_group.specs.BlocksBeside.{IsBeside};
+ghost use Rattle.zarrs_group.specs.BlocksOfGroups.{block_beside};
+ghost use Rattle.zarrs_group.specs.Meaning.{group_line, group_meaning};
+ghost use Rattle.zarrs_group.specs.StepsOfGroups.{FindsByLine, FindsMeaning, RefusesLine, RefusesMeaning};
 
 use std::alloc::Global;
 use zarrs_block::ConsolidatedMetadata;
@@ -86,8 +87,8 @@ pub(crate) fn find_block<S: ReadableStorageTraits>(
     path: &NodePath,
     metadata: &GroupMetadata,
 ) -> Result<Option<ConsolidatedMetadata>, StorageError>
-    ensures ok { IfOk result (λ block. seen block ≡ block_beside (S.contents storage.now) path.now metadata.now) }
-    ensures fits { IfOk result (λ block. IsBeside (seen block)) }
+    ensures ok { IfOk result (λ block. as_block block ≡ block_beside (S.contents storage.now) path.now metadata.now) }
+    ensures fits { IfOk result (λ block. IsBeside (as_block block)) }
     ensures err { IfErr result (IsStoreError (S.can_fail storage.now)) }
 {
     match metadata {

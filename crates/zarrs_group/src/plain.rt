@@ -3,7 +3,7 @@ ghost use Rattle.std.specs.Prelude.{◌≡◌, [], is_some, IfOk};
 ghost use Rattle.serde_json.specs.Data.{Members, object};
 ghost use Rattle.serde_json.specs.View.{view};
 ghost use Rattle.serde_json.specs.Written as written;
-ghost use Rattle.zarrs_block.specs.Expanded.{path_at};
+ghost use Rattle.zarrs_block.specs.BlockExpansion.{path_at};
 ghost use Rattle.zarrs_group.specs.Plain.{group_v3_fault, group_v2_fault, block_fault, node_has_float, node_fields};
 ghost use Rattle.zarrs_group.specs.Plain as plain;
 

@@ -6,13 +6,13 @@ ghost use Rattle.serde_json.specs.Written.{members_have_float};
 ghost use Rattle.zarrs_form.specs.Documents.{is_empty};
 ghost use Rattle.zarrs_meta.specs.declared.node.GroupMetadata.TheVariants.{V3, V2};
 ghost use Rattle.zarrs_block.specs.Block.{Block};
-ghost use Rattle.zarrs_block.specs.Used.{seen};
+ghost use Rattle.zarrs_block.specs.Policy.{as_block};
 ghost use Rattle.zarrs_block.specs.Zmetadata.{zmetadata_tree};
-ghost use Rattle.zarrs_group.specs.Beside.{IsBeside};
+ghost use Rattle.zarrs_group.specs.BlocksBeside.{IsBeside};
 ghost use Rattle.zarrs_group.specs.Layout.{IsReadBack};
 ghost use Rattle.zarrs_group.specs.Plain.{group_v2_fault, block_fault};
-ghost use Rattle.zarrs_group.specs.Edits.{edit_of};
-ghost use Rattle.zarrs_group.specs.Stored.{AreReadBack, IsBlockReadBack, RefusesMetadata, attributes_edit, own_edits, block_edit, store_edits, erase_edits, stored_fault};
+ghost use Rattle.zarrs_group.specs.StepsOfGroups.{edit_of, AreReadBack};
+ghost use Rattle.zarrs_group.specs.StoringGroups.{IsBlockReadBack, RefusesMetadata, attributes_edit, own_edits, block_edit, store_edits, erase_edits, stored_fault};
 
 use crate::edit::Edit;
 use crate::layout::pretty_bytes;
@@ -35,12 +35,12 @@ pub(crate) fn edits_to_store(
     metadata: GroupMetadata,
     block: &Option<ConsolidatedMetadata>,
 ) -> Result<Vec<Edit>, StorageError>
-    requires { IsBeside (seen block.now) }
-    ensures ok { IfOk result (λ edits. map edit_of edits.items ≡ store_edits path.now metadata (seen block.now)) }
-    ensures plain { IfOk result (λ _. stored_fault path.now metadata (seen block.now) ≡ None) }
+    requires { IsBeside (as_block block.now) }
+    ensures ok { IfOk result (λ edits. map edit_of edits.items ≡ store_edits path.now metadata (as_block block.now)) }
+    ensures plain { IfOk result (λ _. stored_fault path.now metadata (as_block block.now) ≡ None) }
     ensures reads { IfOk result (λ _. AreReadBack metadata) }
-    ensures block_reads { IfOk result (λ _. IsBlockReadBack metadata (seen block.now)) }
-    ensures err { IfErr result (RefusesMetadata path.now metadata (seen block.now)) }
+    ensures block_reads { IfOk result (λ _. IsBlockReadBack metadata (as_block block.now)) }
+    ensures err { IfErr result (RefusesMetadata path.now metadata (as_block block.now)) }
 {
     match (metadata, block) {
         (GroupMetadata::V3(group), _) => edits_to_store_v3(alloc, path, &group),
@@ -176,7 +176,7 @@ fn edit_of_block(
     Ok(Edit::Set(key, bytes))
 }
 
-// What is written of a block that stands beside the metadata of a version 2 group: nothing but want of memory refuses it.
+// What is written of a block that stands beside the metadata of a version 2 group: nothing but out of memory refuses it.
 fn written(
     alloc: Global,
     group: &GroupMetadataV2,

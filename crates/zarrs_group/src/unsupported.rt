@@ -1,7 +1,7 @@
 //! Additional fields that must be understood.
 ghost use Rattle.std.specs.Prelude.{◌≡◌, string_bytes, IfOk};
 ghost use Rattle.serde_json.specs.View.{view};
-ghost use Rattle.zarrs_group.specs.Opened.{IsUnsupported, IsUnsupportedIn};
+ghost use Rattle.zarrs_group.specs.OpeningGroups.{IsUnsupported, IsUnsupportedIn};
 
 use serde_json::Value;
 use std::alloc::AllocError;
@@ -23,7 +23,7 @@ pub struct AdditionalFieldUnsupportedError {
 impl Model for AdditionalFieldUnsupportedError {
     ghost use Rattle.std.specs.Prelude.{string_bytes};
     ghost use Rattle.serde_json.specs.View.{view as data_of};
-    ghost use Rattle.zarrs_group.specs.Unsupported.{UnsupportedField, field_code};
+    ghost use Rattle.zarrs_group.specs.UnsupportedFields.{UnsupportedField, field_code};
 
     ghost Value = { UnsupportedField };
 

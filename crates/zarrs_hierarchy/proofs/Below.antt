@@ -20,8 +20,9 @@ use Rattle.zarrs_node.proofs.Found.{lists_from}
 use Rattle.zarrs_node.proofs.Graft.{Contains-first, Contains-cons, path_cmp-append}
 use Rattle.zarrs_node.proofs.Order.{contains_cases}
 use Rattle.zarrs_node.proofs.LawProofs.{apart}
-use Rattle.zarrs_hierarchy.specs.Held.{Pairs}
-use Rattle.zarrs_hierarchy.specs.Tree.{is_below, pairs_behind, pairs_below}
+use Rattle.zarrs_hierarchy.specs.PairsOfHierarchies.{Pairs}
+use Rattle.zarrs_hierarchy.specs.Tree.{is_path_below, pairs_below}
+use Rattle.zarrs_hierarchy.specs.StepsOfHierarchies.{pairs_behind}
 use Rattle.zarrs_hierarchy.proofs.Maps.{sorted}
 
 -- nothing is below the root's own path
@@ -48,26 +49,26 @@ pub below_head : (n : List ℕ) (b p : Path) → IsBelow b p → IsBelow (n ∷ 
 below_head n b p (k, ks, e) = (k, ks, ap (λ x. n ∷ x) e)
 
 -- the test answers whether a path is below another
-pub is_below_from : (b p : Path) → IsTrue (is_below b p) → IsBelow b p
+pub is_below_from : (b p : Path) → IsTrue (is_path_below b p) → IsBelow b p
 is_below_from [] [] h = absurd (true≢false (sym h))
 is_below_from (m ∷ b) [] h = absurd (true≢false (sym h))
 is_below_from [] (n ∷ p) h = (n, p, refl)
 is_below_from (m ∷ b) (n ∷ p) h = by (bytes_eq m n) refl (is_below_from b p) h
   where
-    by : (t : Bool) → bytes_eq m n ≡ t → (IsTrue (is_below b p) → IsBelow b p) → IsTrue (t && is_below b p) → IsBelow (m ∷ b) (n ∷ p)
+    by : (t : Bool) → bytes_eq m n ≡ t → (IsTrue (is_path_below b p) → IsBelow b p) → IsTrue (t && is_path_below b p) → IsBelow (m ∷ b) (n ∷ p)
     by true e again k = subst (λ x. IsBelow (x ∷ b) (n ∷ p)) (sym ((bytes_eq-Decides m n).0 e)) (below_head n b p (again k))
     by false e again k = absurd (true≢false (sym k))
 
-pub is_below_of : (b p : Path) → IsBelow b p → IsTrue (is_below b p)
+pub is_below_of : (b p : Path) → IsBelow b p → IsTrue (is_path_below b p)
 is_below_of b [] h = absurd (not_below b h)
 is_below_of [] (n ∷ p) h = refl
 is_below_of (m ∷ b) (n ∷ p) h =
     let w = below_tail m n b p h in
-    ap (λ t. t && is_below b p) ((bytes_eq-Decides m n).1 w.0) ∙ is_below_of b p w.1
+    ap (λ t. t && is_path_below b p) ((bytes_eq-Decides m n).1 w.0) ∙ is_below_of b p w.1
 
 -- what is not below is told so
-pub not_below_of : (b p : Path) → (IsBelow b p → ⊥) → is_below b p ≡ false
-not_below_of b p h = false_from_ne_true (is_below b p) (λ t. h (is_below_from b p t))
+pub not_below_of : (b p : Path) → (IsBelow b p → ⊥) → is_path_below b p ≡ false
+not_below_of b p h = false_from_ne_true (is_path_below b p) (λ t. h (is_below_from b p t))
 
 -- ---- where the paths below b end
 
@@ -163,9 +164,9 @@ stands_behind b p (n, ns, e) = ap (path_cmp b) e ∙ ap (λ x. path_cmp x (b ++ 
 -- and have all that is below b
 pub behind_has : (b : Path) (es : Pairs) → pairs_below b (pairs_behind b es) ≡ pairs_below b es
 behind_has b [] = refl
-behind_has b (e ∷ es) = by (is_lt (path_cmp b e.0)) refl (is_below b e.0) refl (behind_has b es)
+behind_has b (e ∷ es) = by (is_lt (path_cmp b e.0)) refl (is_path_below b e.0) refl (behind_has b es)
   where
-    by : (t : Bool) → is_lt (path_cmp b e.0) ≡ t → (o : Bool) → is_below b e.0 ≡ o → pairs_below b (pairs_behind b es) ≡ pairs_below b es → pairs_below b (pairs_behind b (e ∷ es)) ≡ pairs_below b (e ∷ es)
+    by : (t : Bool) → is_lt (path_cmp b e.0) ≡ t → (o : Bool) → is_path_below b e.0 ≡ o → pairs_below b (pairs_behind b es) ≡ pairs_below b es → pairs_below b (pairs_behind b (e ∷ es)) ≡ pairs_below b (e ∷ es)
     by true s true u again = rw (s, u) (ap (λ x. e ∷ x) again)
     by true s false u again = rw (s, u) again
     by false s false u again = rw (s, u) again
@@ -177,9 +178,9 @@ behind_has b (e ∷ es) = by (is_lt (path_cmp b e.0)) refl (is_below b e.0) refl
 -- the pairs below b are those of the list that are below it
 pub each_below : (b : Path) (es : Pairs) (e : Path × NodeMetadata) → Contains (pairs_below b es) e ↔ (Contains es e × IsBelow b e.0)
 each_below b [] e = (λ in'. absurd (omega (arith, in'.1)), λ both. absurd (omega (arith, both.0.1)))
-each_below b (d ∷ es) e = by (is_below b d.0) refl (each_below b es e)
+each_below b (d ∷ es) e = by (is_path_below b d.0) refl (each_below b es e)
   where
-    by : (t : Bool) → is_below b d.0 ≡ t → Contains (pairs_below b es) e ↔ (Contains es e × IsBelow b e.0) → Contains (pairs_below b (d ∷ es)) e ↔ (Contains (d ∷ es) e × IsBelow b e.0)
+    by : (t : Bool) → is_path_below b d.0 ≡ t → Contains (pairs_below b es) e ↔ (Contains es e × IsBelow b e.0) → Contains (pairs_below b (d ∷ es)) e ↔ (Contains (d ∷ es) e × IsBelow b e.0)
     by true s again = rw s (
       λ in'. ⊎_elim
           (λ same. (subst (Contains (d ∷ es)) same (Contains-first d es), subst (λ x. IsBelow b x.0) same (is_below_from b d.0 s)))
@@ -201,7 +202,7 @@ each_below b (d ∷ es) e = by (is_below b d.0) refl (each_below b es e)
 -- the lines of the pairs below b are those of the set of the pairs of an ordered list
 pub below_is_lines : (b : Path) (es : Pairs) → Ascend es → IsLines b (Contains es) (lines b (pairs_below b es))
 below_is_lines b es up =
-    let kept = AllPairs-filter (λ d e. path_cmp d.0 e.0 ≡ Less) (λ e. is_below b e.0) es up in
+    let kept = AllPairs-filter (λ d e. path_cmp d.0 e.0 ≡ Less) (λ e. is_path_below b e.0) es up in
     (pairs_below b es, lists_from (pairs_below b es) (each_below b es) (apart (pairs_below b es) kept), kept, refl)
 
 -- ---- the lines below b, as they are written

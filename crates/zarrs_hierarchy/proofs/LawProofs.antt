@@ -14,20 +14,20 @@ use Rattle.zarrs_node.specs.Forest.{Forest, Shows}
 use Rattle.zarrs_node.specs.Order.{Ascend}
 use Rattle.zarrs_node.specs.Lines.{lines, preorder, tree_text}
 use Rattle.zarrs_block.specs.Meaning.{meaning}
-use Rattle.zarrs_node.specs.Opened.{choice, ShowsNode, ShowsChosen}
+use Rattle.zarrs_node.specs.OpeningNodes.{choice, ShowsNode, ShowsChosen}
 use Rattle.zarrs_node.proofs.Found.{listed_each}
 use Rattle.zarrs_node.proofs.Kept.{closed_is_kept}
 use Rattle.zarrs_node.proofs.LawProofs.{placed_lines, lines_unique}
-use Rattle.zarrs_hierarchy.specs.Held.{Pairs, Holds, WithBase}
-use Rattle.zarrs_hierarchy.specs.Opened.{PairsChosen, PairsOf}
-use Rattle.zarrs_hierarchy.specs.Tree.{IsTreeOf, pairs_below, shown}
+use Rattle.zarrs_hierarchy.specs.PairsOfHierarchies.{Pairs, Holds, WithBase}
+use Rattle.zarrs_hierarchy.specs.OpeningHierarchies.{PairsChosen, PairsOf}
+use Rattle.zarrs_hierarchy.specs.Tree.{IsTreeOf, pairs_below, shown_text}
 use Rattle.zarrs_hierarchy.specs.Laws.{IsClosedChoice, PrintingAgrees, ShownIsTree}
 use Rattle.zarrs_hierarchy.proofs.Maps.{lists_same}
 use Rattle.zarrs_hierarchy.proofs.Below.{below_is_lines}
 use Rattle.zarrs_hierarchy.proofs.Opening.{not_itself, node_one}
 
 -- a text that is shown is the tree from the root on
-pub shown_tree : (h : Pairs) (text : List ℕ) → Ascend h → text ≡ shown h → IsTreeOf h [] text
+pub shown_tree : (h : Pairs) (text : List ℕ) → Ascend h → text ≡ shown_text h → IsTreeOf h [] text
 shown_tree h text up is = record { below = lines [] (pairs_below [] h); is = is; lines_below = below_is_lines [] h up }
 
 -- a path, a newline and the lines of the pairs below it are the tree from it on
@@ -40,7 +40,7 @@ written_tree h b empty named lined text up e n l t = record {
 
 -- what is shown is the tree from the root on
 pub shown_is_tree : ShownIsTree
-shown_is_tree h up = shown_tree h (shown h) up refl
+shown_is_tree h up = shown_tree h (shown_text h) up refl
 
 -- paths with one text are the same
 pub one_path : (p q : Path) → IsPath p → IsPath q → path_text p ≡ path_text q → p ≡ q

@@ -12,7 +12,7 @@ use Rattle.zarrs_meta.specs.declared.node.NodeMetadata.{NodeMetadata}
 use Rattle.zarrs_node.specs.Order.{Ascend}
 use Rattle.zarrs_node.proofs.Found.{all_pairs_tail, all_pairs_first, lists_from, listed_each}
 use Rattle.zarrs_node.proofs.Graft.{Contains-first, Contains-cons}
-use Rattle.zarrs_hierarchy.specs.Held.{Pairs}
+use Rattle.zarrs_hierarchy.specs.PairsOfHierarchies.{Pairs}
 
 -- a path before those of all pairs is before each of their keys
 all_above : (p : Path) (es : Pairs) → ((e : Path × NodeMetadata) → Contains es e → path_cmp p e.0 ≡ Less) → AllByRecursion (λ q. path_cmp p q ≡ Less) (keys_of es)

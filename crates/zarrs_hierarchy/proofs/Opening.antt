@@ -12,24 +12,26 @@ use Rattle.zarrs_meta.specs.declared.node.NodeMetadata.TheVariants.{Group, Array
 use Rattle.zarrs_config.specs.declared.version.MetadataRetrieveVersion.{MetadataRetrieveVersion}
 use Rattle.zarrs_config.specs.declared.version.UseConsolidatedMetadata.{UseConsolidatedMetadata}
 use Rattle.zarrs_block.specs.Block.{Block, Entries}
-use Rattle.zarrs_block.specs.Refused.{IsExcused}
+use Rattle.zarrs_block.specs.Refusals.{IsExcused}
 use Rattle.zarrs_block.specs.declared.node_create_error.NodeCreateError.{NodeCreateError}
 use Rattle.zarrs_block.specs.Meaning.{Meaning, node, nothing, bad, meaning}
 use Rattle.zarrs_node.specs.Forest.{pairs}
-use Rattle.zarrs_node.specs.Below.{PairsBelow, IsGoodBelow, ShowsBadBelow}
+use Rattle.zarrs_node.specs.BlocksBelow.{ExcusesBlock, PairsBelow, IsGoodBelow, ShowsBadBelow}
 use Rattle.zarrs_node.specs.Lines.{line, lines}
 use Rattle.zarrs_node.specs.Nodes.{Nodes}
-use Rattle.zarrs_node.specs.Opened.{choice, IsCleanChosen, IsCleanNode, RefusesBelow, RefusesChosen, RefusesOpening}
+use Rattle.zarrs_node.specs.OpeningNodes.{choice, IsCleanChosen, IsCleanNode, RefusesBelow, RefusesChosen, RefusesOpening}
 use Rattle.zarrs_node.specs.Order.{Ascend}
 use Rattle.zarrs_node.specs.Sinks.{TakesAll, TakesForest, KeepsPair}
 use Rattle.zarrs_node.proofs.Feeding.{kept_pairs, took_joined}
 use Rattle.zarrs_node.proofs.Found.{lists_from, listed_each}
 use Rattle.zarrs_node.proofs.Graft.{Contains-first, Contains-cons}
 use Rattle.zarrs_node.proofs.LawProofs.{apart}
+use Rattle.zarrs_node.proofs.Opening.{block_excused}
 use Rattle.zarrs_node.proofs.Order.{contains_cases, shown_ascend}
-use Rattle.zarrs_hierarchy.specs.Held.{Pairs, Holds, WithBase}
-use Rattle.zarrs_hierarchy.specs.Opened.{PairsChosen, PairsOf, IsOpenedTree}
-use Rattle.zarrs_hierarchy.specs.Sinks.{AppendsNode, TakesPairs}
+use Rattle.zarrs_hierarchy.specs.PairsOfHierarchies.{Pairs, Holds, WithBase}
+use Rattle.zarrs_hierarchy.specs.OpeningHierarchies.{PairsChosen, PairsOf, IsOpenedTree}
+use Rattle.zarrs_hierarchy.specs.Sinks.{AppendsNode}
+use Rattle.zarrs_hierarchy.specs.StepsOfHierarchies.{TakesPairs}
 use Rattle.zarrs_hierarchy.specs.declared.tree_text.TreeText.{TreeText}
 use Rattle.zarrs_hierarchy.proofs.Below.{stands_behind}
 
@@ -155,6 +157,10 @@ pub clean_by : (s : Contents) (v : MetadataRetrieveVersion) (policy : UseConsoli
     → IsGoodBelow s v c true b → IsCleanNode s v policy b m
 clean_by s v policy b (Array a) c group chosen clean = tt
 clean_by s v policy b (Group g) c group chosen clean = subst (λ k. IsCleanChosen s v k true b) (sym chosen) clean
+
+-- what excuses the want of a block excuses the call
+pub excused_by : (can_fail : Bool) (m : NodeMetadata) (policy : UseConsolidatedMetadata) (e : NodeCreateError) → ExcusesBlock can_fail m policy e → IsExcused can_fail e
+excused_by can_fail m policy e h = block_excused can_fail m policy e h
 
 -- a refusal of what stands below a group is one below the node
 pub refused_by : (can_fail : Bool) (s : Contents) (v : MetadataRetrieveVersion) (policy : UseConsolidatedMetadata) (b : Path) (m : NodeMetadata) (c : Option Block) (e : NodeCreateError) → IsTrue (is_group m)

@@ -10,11 +10,11 @@ use Rattle.zarrs_block.specs.Block.{Block, Entries}
 use Rattle.zarrs_node.specs.Forest.{Forest}
 use Rattle.zarrs_node.specs.Lines.{tree_text}
 use Rattle.zarrs_block.specs.Meaning.{meaning, node}
-use Rattle.zarrs_node.specs.Opened.{choice, ShowsNode}
-use Rattle.zarrs_node.specs.Reached.{Closed}
-use Rattle.zarrs_hierarchy.specs.Held.{Pairs}
-use Rattle.zarrs_hierarchy.specs.Opened.{IsOpened}
-use Rattle.zarrs_hierarchy.specs.Tree.{IsTreeOf, shown}
+use Rattle.zarrs_node.specs.OpeningNodes.{choice, ShowsNode}
+use Rattle.zarrs_node.specs.Reach.{Closed}
+use Rattle.zarrs_hierarchy.specs.PairsOfHierarchies.{Pairs}
+use Rattle.zarrs_hierarchy.specs.OpeningHierarchies.{IsOpened}
+use Rattle.zarrs_hierarchy.specs.Tree.{IsTreeOf, shown_text}
 use Rattle.zarrs_node.specs.Order.{Ascend}
 
 -- the nodes below b are listed, or stand in a block whose entries are closed
@@ -34,4 +34,4 @@ PrintingAgrees = (s : Contents) (v : MetadataRetrieveVersion) (policy : UseConso
 
 -- What is shown of a hierarchy in the order of paths is its tree from the root on.
 abbrev pub ShownIsTree : Type 0
-ShownIsTree = (h : Pairs) → Ascend h → IsTreeOf h [] (shown h)
+ShownIsTree = (h : Pairs) → Ascend h → IsTreeOf h [] (shown_text h)

@@ -1,5 +1,6 @@
-pub mod Held
-pub mod Tree
-pub mod Opened
-pub mod Sinks
 pub mod Laws
+pub mod OpeningHierarchies
+pub mod PairsOfHierarchies
+pub mod Sinks
+pub mod StepsOfHierarchies
+pub mod Tree

@@ -1,21 +1,11 @@
 -- Zarr core specification 3.1, "Hierarchy": what a sink took of the nodes below a base.
 --     TakesPairs R a z N      z came of a by taking the pairs of N in the order of paths
 --     AppendsNode      how the text of a hierarchy takes a node
-use Rattle.std.specs.Prelude.{◌≡◌, ◌-◌, List, ◌++◌, length, string_bytes}
-use Rattle.zarrs_store.specs.Contents.{Lists}
+use Rattle.std.specs.Prelude.{◌≡◌, ◌-◌, ◌++◌, length, string_bytes}
 use Rattle.zarrs_path.specs.Paths.{Path}
 use Rattle.zarrs_meta.specs.declared.node.NodeMetadata.{NodeMetadata}
 use Rattle.zarrs_node.specs.Lines.{line}
-use Rattle.zarrs_node.specs.Order.{Ascend}
-use Rattle.zarrs_node.specs.Sinks.{TakesAll}
 use Rattle.zarrs_hierarchy.specs.declared.tree_text.TreeText.{TreeText}
-
--- z came of a by taking the pairs of N, each once, in the order of paths
-pub record TakesPairs {S : Type 0} (R : S → Path × NodeMetadata → S → Type 0) (a z : S) (N : Path × NodeMetadata → Type 0) : Type 0 where
-  pub nodes : List (Path × NodeMetadata)
-  pub lists : Lists N nodes
-  pub ordered : Ascend nodes
-  pub took : TakesAll R a nodes z
 
 -- the line of the node was put behind the others, a level deeper for each name beyond those of the base
 pub record AppendsNode (old : TreeText) (e : Path × NodeMetadata) (new : TreeText) : Type 0 where

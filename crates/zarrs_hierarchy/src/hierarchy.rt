@@ -3,8 +3,8 @@ ghost use Rattle.std.specs.Prelude.{◌≡◌, ◌∷◌, [], length, IfErr, IfO
 ghost use Rattle.zarrs_form.specs.Forms.{is_nil};
 ghost use Rattle.zarrs_meta.specs.declared.node.NodeMetadata.TheVariants.{Array};
 ghost use Rattle.zarrs_node.specs.Order.{Ascend};
-ghost use Rattle.zarrs_hierarchy.specs.Held.{IsAt, IsGap, found};
-ghost use Rattle.zarrs_hierarchy.specs.Tree.{pairs_behind};
+ghost use Rattle.zarrs_hierarchy.specs.PairsOfHierarchies.{metadata_at};
+ghost use Rattle.zarrs_hierarchy.specs.StepsOfHierarchies.{IsPathAt, IsPathGap, pairs_behind};
 
 use std::alloc::{AllocError, Global};
 use std::collections::BTreeMap;
@@ -92,7 +92,7 @@ impl Hierarchy {
 
     /// The metadata of the node at a path, if there is one.
     pub fn get(&self, path: &NodePath) -> Option<&NodeMetadata>
-        ensures { option_copied result ≡ found self.now path.now }
+        ensures { option_copied result ≡ metadata_at self.now path.now }
     {
         match place_of(&self.nodes, path) {
             Ok(place) => Some(&self.nodes[place].1),
@@ -158,8 +158,8 @@ impl Hierarchy {
 // Where the path stands, or where it would stand.
 fn place_of(nodes: &[(NodePath, NodeMetadata)], path: &NodePath) -> Result<usize, usize>
     requires ascending { Ascend nodes.now }
-    ensures found { IfOk result (IsAt nodes.now path.now) }
-    ensures absent { IfErr result (IsGap nodes.now path.now) }
+    ensures found { IfOk result (IsPathAt nodes.now path.now) }
+    ensures absent { IfErr result (IsPathGap nodes.now path.now) }
 {
     nodes.binary_search_by(|node| node.0.cmp(path))
 }

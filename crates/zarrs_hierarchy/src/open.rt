@@ -1,15 +1,15 @@
 //! Hierarchies of what a store has at a path and below it.
 ghost use Rattle.std.specs.Prelude.{◌≡◌, ◌∷◌, [], true, IfOk, IfErr, OnOk, ◌⊎◌};
 ghost use Rattle.zarrs_meta.specs.declared.node.NodeMetadata.TheVariants.{Group as group_node};
-ghost use Rattle.zarrs_block.specs.Refused.{IsExcused};
-ghost use Rattle.zarrs_block.specs.Used.{seen};
-ghost use Rattle.zarrs_node.specs.Below.{PairsBelow, IsGoodBelow, ShowsBadBelow};
+ghost use Rattle.zarrs_block.specs.Refusals.{IsExcused};
+ghost use Rattle.zarrs_block.specs.Policy.{as_block};
+ghost use Rattle.zarrs_node.specs.BlocksBelow.{PairsBelow, IsGoodBelow, ShowsBadBelow};
 ghost use Rattle.zarrs_node.specs.Nodes.{Nodes, Bad, ShowsBad};
-ghost use Rattle.zarrs_node.specs.Opened.{IsCleanNode, RefusesBelow, RefusesOpening};
-ghost use Rattle.zarrs_hierarchy.specs.Held.{Holds, WithBase};
+ghost use Rattle.zarrs_node.specs.OpeningNodes.{IsCleanNode, RefusesBelow, RefusesOpening};
+ghost use Rattle.zarrs_hierarchy.specs.PairsOfHierarchies.{Holds, WithBase};
 ghost use Rattle.zarrs_node.specs.Sinks.{TakesAll};
-ghost use Rattle.zarrs_hierarchy.specs.Opened.{PairsOf, IsOpened};
-ghost use Rattle.zarrs_hierarchy.specs.Sinks.{TakesPairs};
+ghost use Rattle.zarrs_hierarchy.specs.OpeningHierarchies.{PairsOf, IsOpened};
+ghost use Rattle.zarrs_hierarchy.specs.StepsOfHierarchies.{TakesPairs};
 
 use crate::hierarchy::{Hierarchy, HierarchyCreateError};
 use log::Log;
@@ -116,6 +116,7 @@ impl Hierarchy {
 }
 
 // The node at a path, which has these metadata, and behind it the nodes below.
+#[tactic(auto, using(crate::proofs::Opening::excused_by))]
 fn nodes_from<L: Log, S: ReadableStorageTraits + ListableStorageTraits>(
     log: &L,
     alloc: Global,
@@ -150,9 +151,9 @@ pub(crate) fn tell_below<L: Log, S: ReadableStorageTraits + ListableStorageTrait
     block: Option<ConsolidatedMetadata>,
     sink: &mut K,
 ) -> Result<(), HierarchyCreateError>
-    ensures takes { OnOk result (TakesPairs K.takes sink.old sink.new (PairsBelow (S.contents storage.now) version.now (seen block) path.now)) }
-    ensures clean { OnOk result (IsGoodBelow (S.contents storage.now) version.now (seen block) true path.now) }
-    ensures refused { IfErr result (λ e. IsExcused (S.can_fail storage.now) e ⊎ ShowsBadBelow (S.contents storage.now) version.now (seen block) true path.now e) }
+    ensures takes { OnOk result (TakesPairs K.takes sink.old sink.new (PairsBelow (S.contents storage.now) version.now (as_block block) path.now)) }
+    ensures clean { OnOk result (IsGoodBelow (S.contents storage.now) version.now (as_block block) true path.now) }
+    ensures refused { IfErr result (λ e. IsExcused (S.can_fail storage.now) e ⊎ ShowsBadBelow (S.contents storage.now) version.now (as_block block) true path.now e) }
 {
     match block {
         Some(block) => {

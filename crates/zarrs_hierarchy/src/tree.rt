@@ -5,7 +5,7 @@ ghost use Rattle.zarrs_store.specs.Segments.{is_slash};
 ghost use Rattle.zarrs_path.specs.Paths.{IsPath};
 ghost use Rattle.zarrs_node.specs.Lines.{line, lines};
 ghost use Rattle.zarrs_node.specs.Order.{Ascend};
-ghost use Rattle.zarrs_hierarchy.specs.Tree.{IsTreeOf, pairs_below, shown};
+ghost use Rattle.zarrs_hierarchy.specs.Tree.{IsTreeOf, pairs_below, shown_text};
 
 use crate::hierarchy::Hierarchy;
 use std::alloc::{AllocError, Global};
@@ -24,7 +24,7 @@ impl Hierarchy {
     /// Source: `zarrs::hierarchy::Hierarchy::tree`.
     pub fn tree(&self, alloc: Global) -> Result<String, AllocError>
         ensures tree { IfOk result (λ text. IsTreeOf self.now [] (string_bytes text)) }
-        ensures shown { IfOk result (λ text. string_bytes text ≡ shown self.now) }
+        ensures shown { IfOk result (λ text. string_bytes text ≡ shown_text self.now) }
     {
         let _ordered = self.nodes();
         let text = format!(in alloc; "{self}")?;
@@ -72,7 +72,7 @@ impl Hierarchy {
 }
 
 impl fmt::Display for Hierarchy {
-    ghost output = { λ hierarchy. Some (shown hierarchy) };
+    ghost output = { λ hierarchy. Some (shown_text hierarchy) };
 
     /// Writes the text that [`Hierarchy::tree`] answers.
     fn fmt<W: fmt::Write>(&self, f: &mut fmt::Formatter<W>) -> fmt::Result {

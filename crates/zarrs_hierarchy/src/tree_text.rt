@@ -1,10 +1,11 @@
 //! The text of what a store has at a path and below it.
 ghost use Rattle.std.specs.Prelude.{◌≡◌, ◌∷◌, [], ◌++◌, IfOk, IfErr, OnOk, ◌⊎◌, string_bytes};
 ghost use Rattle.zarrs_path.specs.Paths.{path_text};
-ghost use Rattle.zarrs_block.specs.Refused.{IsExcused};
-ghost use Rattle.zarrs_node.specs.Opened.{IsCleanNode, RefusesBelow, RefusesOpening};
-ghost use Rattle.zarrs_hierarchy.specs.Opened.{PairsOf, IsOpenedTree};
-ghost use Rattle.zarrs_hierarchy.specs.Sinks.{AppendsNode, TakesPairs};
+ghost use Rattle.zarrs_block.specs.Refusals.{IsExcused};
+ghost use Rattle.zarrs_node.specs.OpeningNodes.{IsCleanNode, RefusesBelow, RefusesOpening};
+ghost use Rattle.zarrs_hierarchy.specs.OpeningHierarchies.{PairsOf, IsOpenedTree};
+ghost use Rattle.zarrs_hierarchy.specs.Sinks.{AppendsNode};
+ghost use Rattle.zarrs_hierarchy.specs.StepsOfHierarchies.{TakesPairs};
 
 use crate::hierarchy::HierarchyCreateError;
 use crate::open::tell_below;
@@ -53,7 +54,7 @@ pub fn tree_at<L: Log, S: ReadableStorageTraits + ListableStorageTraits>(
 }
 
 // Hands the nodes below one, which has these metadata, to a sink, in the order of paths.
-#[tactic(auto, using(crate::proofs::Opening::clean_by, crate::proofs::Opening::refused_by, crate::proofs::Opening::told_array, crate::proofs::Opening::told_group))]
+#[tactic(auto, using(crate::proofs::Opening::excused_by, crate::proofs::Opening::clean_by, crate::proofs::Opening::refused_by, crate::proofs::Opening::told_array, crate::proofs::Opening::told_group))]
 fn tell_node<L: Log, S: ReadableStorageTraits + ListableStorageTraits, K: NodeSink>(
     log: &L,
     alloc: Global,

@@ -5,10 +5,10 @@ use Rattle.serde_json.specs.Data.{Data, number, string, object, unsigned, Member
 use Rattle.serde_json.specs.Find.{get_member, as_object}
 use Rattle.serde_json.specs.Written.{has_float, members_have_float}
 use Rattle.serde_json.proofs.Views.{get_member-put}
-use Rattle.zarrs_form.specs.Documents.{besides, has_own, is_empty, optional_from, required, optional, format_of}
+use Rattle.zarrs_form.specs.Documents.{besides, has_own, is_empty, optional_found, required_member, optional_member, format_of}
 use Rattle.zarrs_form.specs.Forms.{number_u64, any, nullable, list_of, number_data, list_data, nullable_data, none_or, fits, unless, put_rows}
 use Rattle.zarrs_form.specs.FormsV2.{codec_names, codec, codec_data, codec_fits, data_type, data_type_data, data_type_fits, order, order_data, separator, separator_data, has_zero, chunk_lengths}
-use Rattle.zarrs_meta.specs.ArrayV2.{own_names, array_v2_of, array_v2_rows, array_v2_tree, is_plain_array_v2}
+use Rattle.zarrs_meta.specs.ArrayV2.{array_v2_names, array_v2_of, array_v2_rows, array_v2_tree, is_plain_array_v2}
 use Rattle.zarrs_meta.specs.declared.array_v2.ArrayMetadataV2.{ArrayMetadataV2}
 use Rattle.zarrs_form.specs.declared.codec.MetadataV2.{MetadataV2}
 use Rattle.zarrs_form.specs.declared.data_type.DataTypeMetadataV2.{DataTypeMetadataV2}
@@ -98,12 +98,12 @@ abbrev pub PlainArrayV2 : ArrayMetadataV2 → Type 0
 PlainArrayV2 m =
     (has_zero m.chunks ≡ false) × (data_type_fits m.dtype ≡ true) × (fits m.fill_value ≡ true) × (none_or codec_fits m.compressor ≡ true)
     × (none_or (list_all codec_fits) m.filters ≡ true) × (fits (object m.attributes) ≡ true) × (members_have_float m.additional_fields ≡ false)
-    × (has_own own_names m.additional_fields ≡ false)
+    × (has_own array_v2_names m.additional_fields ≡ false)
 
 -- the test takes a plain array apart
 pub plain_array_v2 : (m : ArrayMetadataV2) → IsTrue (is_plain_array_v2 m) → PlainArrayV2 m
 plain_array_v2 m plain =
-    let g = both _ (not (has_own own_names m.additional_fields)) plain in
+    let g = both _ (not (has_own array_v2_names m.additional_fields)) plain in
     let f = both _ (fits (object m.additional_fields)) g.0 in
     let e = both _ (fits (object m.attributes)) f.0 in
     let d = both _ (none_or (list_all codec_fits) m.filters) e.0 in
@@ -117,7 +117,7 @@ plain_array_v2 m plain =
       d.1,
       e.1,
       not_true (members_have_float m.additional_fields) f.1,
-      not_true (has_own own_names m.additional_fields) g.1,
+      not_true (has_own array_v2_names m.additional_fields) g.1,
     )
 
 module _ (m : ArrayMetadataV2) (plain : IsTrue (is_plain_array_v2 m)) where
@@ -161,44 +161,44 @@ module _ (m : ArrayMetadataV2) (plain : IsTrue (is_plain_array_v2 m)) where
   pub has_shape : get_member (codes "shape") whole ≡ Some (list_data number_data m.shape)
   has_shape = at (codes "shape")
 
-  shape : required (codes "shape") (list_of number_u64) (object whole) ≡ Ok m.shape
+  shape : required_member (codes "shape") (list_of number_u64) (object whole) ≡ Ok m.shape
   shape = rw (has_shape, list_again number_u64 number_data number_again m.shape) refl
 
-  chunks : required (codes "chunks") chunk_lengths (object whole) ≡ Ok m.chunks
+  chunks : required_member (codes "chunks") chunk_lengths (object whole) ≡ Ok m.chunks
   chunks = let here : get_member (codes "chunks") whole ≡ Some (list_data number_data m.chunks) = at (codes "chunks") in rw (here, chunks_again m.chunks parts.0) refl
 
-  dtype : required (codes "dtype") data_type (object whole) ≡ Ok m.dtype
+  dtype : required_member (codes "dtype") data_type (object whole) ≡ Ok m.dtype
   dtype = let here : get_member (codes "dtype") whole ≡ Some (data_type_data m.dtype) = at (codes "dtype") in rw (here, data_type_again m.dtype) refl
 
-  fill_value : required (codes "fill_value") any (object whole) ≡ Ok m.fill_value
+  fill_value : required_member (codes "fill_value") any (object whole) ≡ Ok m.fill_value
   fill_value = let here : get_member (codes "fill_value") whole ≡ Some m.fill_value = at (codes "fill_value") in rw here refl
 
-  array_order : required (codes "order") order (object whole) ≡ Ok m.order
+  array_order : required_member (codes "order") order (object whole) ≡ Ok m.order
   array_order = let here : get_member (codes "order") whole ≡ Some (order_data m.order) = at (codes "order") in rw (here, order_again m.order) refl
 
-  compressor : optional (codes "compressor") None (nullable codec) (object whole) ≡ Ok m.compressor
+  compressor : optional_member (codes "compressor") None (nullable codec) (object whole) ≡ Ok m.compressor
   compressor =
       let here : get_member (codes "compressor") whole ≡ Some (nullable_data codec_data m.compressor) = at (codes "compressor") in
       rw (here, compressor_again m.compressor parts.3) refl
 
-  filters : optional (codes "filters") None (nullable (list_of codec)) (object whole) ≡ Ok m.filters
+  filters : optional_member (codes "filters") None (nullable (list_of codec)) (object whole) ≡ Ok m.filters
   filters =
       let here : get_member (codes "filters") whole ≡ Some (nullable_data (list_data codec_data) m.filters) = at (codes "filters") in
       rw (here, filters_again m.filters parts.4) refl
 
-  dimension_separator : optional (codes "dimension_separator") Dot separator (object whole) ≡ Ok m.dimension_separator
+  dimension_separator : optional_member (codes "dimension_separator") Dot separator (object whole) ≡ Ok m.dimension_separator
   dimension_separator =
       let here : get_member (codes "dimension_separator") whole ≡ Some (separator_data m.dimension_separator) = at (codes "dimension_separator") in
       rw (here, separator_again m.dimension_separator) refl
 
-  attributes : optional (codes "attributes") no_members as_object (object whole) ≡ Ok m.attributes
-  attributes = ap (optional_from (codes "attributes") no_members as_object)
-      (at (codes "attributes") ∙ ap (or_rest (unless (is_empty m.attributes) (object m.attributes))) (get-others own_names (codes "attributes") m.additional_fields refl parts.7))
+  attributes : optional_member (codes "attributes") no_members as_object (object whole) ≡ Ok m.attributes
+  attributes = ap (optional_found (codes "attributes") no_members as_object)
+      (at (codes "attributes") ∙ ap (or_rest (unless (is_empty m.attributes) (object m.attributes))) (get-others array_v2_names (codes "attributes") m.additional_fields refl parts.7))
       ∙ attributes_again m.attributes
 
   -- the members with no own name are the additional fields
-  others : besides own_names whole ≡ m.additional_fields
-  others = besides-put_rows own_names rows m.additional_fields refl ∙ besides-others own_names m.additional_fields parts.7
+  others : besides array_v2_names whole ≡ m.additional_fields
+  others = besides-put_rows array_v2_names rows m.additional_fields refl ∙ besides-others array_v2_names m.additional_fields parts.7
 
   -- a plain array that was written reads as that array
   pub array_v2_again : array_v2_of (array_v2_tree m) ≡ Ok m

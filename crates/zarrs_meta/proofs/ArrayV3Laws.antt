@@ -4,9 +4,9 @@ use Rattle.std.specs.List.{list_all}
 use Rattle.serde_json.specs.Data.{Data, number, string, object, unsigned, Members, no_members}
 use Rattle.serde_json.specs.Find.{get_member, as_object, as_str}
 use Rattle.serde_json.specs.Written.{has_float, members_have_float}
-use Rattle.zarrs_form.specs.Documents.{is_own, besides, has_own, is_empty, optional_from, required, optional, format_of, node_type_of}
+use Rattle.zarrs_form.specs.Documents.{is_own, besides, has_own, is_empty, optional_found, required_member, optional_member, format_of, node_type_of}
 use Rattle.zarrs_form.specs.Forms.{number_u64, any, nullable, list_of, extension, number_data, list_data, nullable_data, extension_data, extension_fits, fits, unless, is_nil, put_rows}
-use Rattle.zarrs_meta.specs.ArrayV3.{own_names, array_v3_of, array_v3_rows, array_v3_tree, is_plain_array_v3}
+use Rattle.zarrs_meta.specs.ArrayV3.{array_v3_names, array_v3_of, array_v3_rows, array_v3_tree, is_plain_array_v3}
 use Rattle.zarrs_meta.specs.declared.array_v3.ArrayMetadataV3.{ArrayMetadataV3}
 use Rattle.zarrs_form.specs.declared.extension.MetadataV3.{MetadataV3}
 use Rattle.zarrs_form.proofs.MemberLaws.{besides-others, get-others}
@@ -47,12 +47,12 @@ name_again (Some s) = refl
 -- ---- members that may be absent
 
 -- storage transformers that were written read again, and those that were not written read as none
-transformers_again : (xs : List MetadataV3) → optional_from (codes "storage_transformers") [] (list_of extension) (or_rest (unless (is_nil xs) (list_data extension_data xs)) None) ≡ Ok xs
+transformers_again : (xs : List MetadataV3) → optional_found (codes "storage_transformers") [] (list_of extension) (or_rest (unless (is_nil xs) (list_data extension_data xs)) None) ≡ Ok xs
 transformers_again [] = refl
 transformers_again (x ∷ xs) = rw (extension_again x, list_again extension extension_data extension_again xs) refl
 
 -- dimension names that were written read again, and those that were not written read as absent
-names_again : (o : Option (List (Option (List ℕ)))) → optional_from (codes "dimension_names") None (nullable (list_of (nullable as_str))) (or_rest (option_map (list_data (nullable_data string)) o) None) ≡ Ok o
+names_again : (o : Option (List (Option (List ℕ)))) → optional_found (codes "dimension_names") None (nullable (list_of (nullable as_str))) (or_rest (option_map (list_data (nullable_data string)) o) None) ≡ Ok o
 names_again None = refl
 names_again (Some names) = rw (list_again (nullable as_str) (nullable_data string) name_again names) refl
 
@@ -73,7 +73,7 @@ all_names_no_float (Some names) = list_no_float (nullable_data string) (λ _. tr
 
 -- ---- the whole
 
-module _ (m : ArrayMetadataV3) (no_own : has_own own_names m.additional_fields ≡ false) where
+module _ (m : ArrayMetadataV3) (no_own : has_own array_v3_names m.additional_fields ≡ false) where
   -- the rows of the table
   abbrev rows : List (List ℕ × Option Data)
   rows = array_v3_rows m
@@ -87,8 +87,8 @@ module _ (m : ArrayMetadataV3) (no_own : has_own own_names m.additional_fields �
   at k = get-put_rows k rows m.additional_fields
 
   -- no additional field has an own name
-  none_at : (k : List ℕ) → is_own own_names k ≡ true → get_member k m.additional_fields ≡ None
-  none_at k own = get-others own_names k m.additional_fields own no_own
+  none_at : (k : List ℕ) → is_own array_v3_names k ≡ true → get_member k m.additional_fields ≡ None
+  none_at k own = get-others array_v3_names k m.additional_fields own no_own
 
   -- each member is found and reads again
   pub has_format : get_member (codes "zarr_format") whole ≡ Some (number (unsigned 3))
@@ -97,45 +97,45 @@ module _ (m : ArrayMetadataV3) (no_own : has_own own_names m.additional_fields �
   pub has_kind : get_member (codes "node_type") whole ≡ Some (string (codes "array"))
   has_kind = at (codes "node_type")
 
-  shape : required (codes "shape") (list_of number_u64) (object whole) ≡ Ok m.shape
+  shape : required_member (codes "shape") (list_of number_u64) (object whole) ≡ Ok m.shape
   shape = let here : get_member (codes "shape") whole ≡ Some (list_data number_data m.shape) = at (codes "shape") in rw (here, list_again number_u64 number_data number_again m.shape) refl
 
-  data_type : required (codes "data_type") extension (object whole) ≡ Ok m.data_type
+  data_type : required_member (codes "data_type") extension (object whole) ≡ Ok m.data_type
   data_type = let here : get_member (codes "data_type") whole ≡ Some (extension_data m.data_type) = at (codes "data_type") in rw (here, extension_again m.data_type) refl
 
-  chunk_grid : required (codes "chunk_grid") extension (object whole) ≡ Ok m.chunk_grid
+  chunk_grid : required_member (codes "chunk_grid") extension (object whole) ≡ Ok m.chunk_grid
   chunk_grid = let here : get_member (codes "chunk_grid") whole ≡ Some (extension_data m.chunk_grid) = at (codes "chunk_grid") in rw (here, extension_again m.chunk_grid) refl
 
-  chunk_key_encoding : required (codes "chunk_key_encoding") extension (object whole) ≡ Ok m.chunk_key_encoding
+  chunk_key_encoding : required_member (codes "chunk_key_encoding") extension (object whole) ≡ Ok m.chunk_key_encoding
   chunk_key_encoding =
       let here : get_member (codes "chunk_key_encoding") whole ≡ Some (extension_data m.chunk_key_encoding) = at (codes "chunk_key_encoding") in
       rw (here, extension_again m.chunk_key_encoding) refl
 
-  fill_value : required (codes "fill_value") any (object whole) ≡ Ok m.fill_value
+  fill_value : required_member (codes "fill_value") any (object whole) ≡ Ok m.fill_value
   fill_value = let here : get_member (codes "fill_value") whole ≡ Some m.fill_value = at (codes "fill_value") in rw here refl
 
-  codecs : required (codes "codecs") (list_of extension) (object whole) ≡ Ok m.codecs
+  codecs : required_member (codes "codecs") (list_of extension) (object whole) ≡ Ok m.codecs
   codecs =
       let here : get_member (codes "codecs") whole ≡ Some (list_data extension_data m.codecs) = at (codes "codecs") in
       rw (here, list_again extension extension_data extension_again m.codecs) refl
 
-  attributes : optional (codes "attributes") no_members as_object (object whole) ≡ Ok m.attributes
-  attributes = ap (optional_from (codes "attributes") no_members as_object) (at (codes "attributes") ∙ ap (or_rest (unless (is_empty m.attributes) (object m.attributes))) (none_at (codes "attributes") refl))
+  attributes : optional_member (codes "attributes") no_members as_object (object whole) ≡ Ok m.attributes
+  attributes = ap (optional_found (codes "attributes") no_members as_object) (at (codes "attributes") ∙ ap (or_rest (unless (is_empty m.attributes) (object m.attributes))) (none_at (codes "attributes") refl))
       ∙ attributes_again m.attributes
 
-  transformers : optional (codes "storage_transformers") [] (list_of extension) (object whole) ≡ Ok m.storage_transformers
-  transformers = ap (optional_from (codes "storage_transformers") [] (list_of extension))
+  transformers : optional_member (codes "storage_transformers") [] (list_of extension) (object whole) ≡ Ok m.storage_transformers
+  transformers = ap (optional_found (codes "storage_transformers") [] (list_of extension))
       (at (codes "storage_transformers") ∙ ap (or_rest (unless (is_nil m.storage_transformers) (list_data extension_data m.storage_transformers))) (none_at (codes "storage_transformers") refl))
       ∙ transformers_again m.storage_transformers
 
-  names : optional (codes "dimension_names") None (nullable (list_of (nullable as_str))) (object whole) ≡ Ok m.dimension_names
-  names = ap (optional_from (codes "dimension_names") None (nullable (list_of (nullable as_str))))
+  names : optional_member (codes "dimension_names") None (nullable (list_of (nullable as_str))) (object whole) ≡ Ok m.dimension_names
+  names = ap (optional_found (codes "dimension_names") None (nullable (list_of (nullable as_str))))
       (at (codes "dimension_names") ∙ ap (or_rest (option_map (list_data (nullable_data string)) m.dimension_names)) (none_at (codes "dimension_names") refl))
       ∙ names_again m.dimension_names
 
   -- the members with no own name are the additional fields
-  others : besides own_names whole ≡ m.additional_fields
-  others = besides-put_rows own_names rows m.additional_fields refl ∙ besides-others own_names m.additional_fields no_own
+  others : besides array_v3_names whole ≡ m.additional_fields
+  others = besides-put_rows array_v3_names rows m.additional_fields refl ∙ besides-others array_v3_names m.additional_fields no_own
 
   -- an array whose written form has only numbers that fit reads again
   pub array_v3_again_where : has_float (array_v3_tree m) ≡ false → array_v3_of (array_v3_tree m) ≡ Ok m
@@ -147,7 +147,7 @@ pub plain_parts : (m : ArrayMetadataV3) → IsTrue (is_plain_array_v3 m) → (ex
     × (fits m.fill_value ≡ true) × (list_all extension_fits m.codecs ≡ true) × (fits (object m.attributes) ≡ true) × (list_all extension_fits m.storage_transformers ≡ true)
     × (fits (object m.additional_fields) ≡ true)
 plain_parts m plain =
-    let h = both _ (not (has_own own_names m.additional_fields)) plain in
+    let h = both _ (not (has_own array_v3_names m.additional_fields)) plain in
     let g = both _ (fits (object m.additional_fields)) h.0 in
     let f = both _ (list_all extension_fits m.storage_transformers) g.0 in
     let e = both _ (fits (object m.attributes)) f.0 in
@@ -179,11 +179,11 @@ array_v3_no_float m plain =
 -- a plain array that was written reads as that array
 pub array_v3_again : (m : ArrayMetadataV3) → IsTrue (is_plain_array_v3 m) → array_v3_of (array_v3_tree m) ≡ Ok m
 array_v3_again m plain =
-    array_v3_again_where m (not_true (has_own own_names m.additional_fields) (both _ (not (has_own own_names m.additional_fields)) plain).1) (array_v3_no_float m plain)
+    array_v3_again_where m (not_true (has_own array_v3_names m.additional_fields) (both _ (not (has_own array_v3_names m.additional_fields)) plain).1) (array_v3_no_float m plain)
 
 -- no field of a plain array has an own name
-plain_own : (m : ArrayMetadataV3) → IsTrue (is_plain_array_v3 m) → has_own own_names m.additional_fields ≡ false
-plain_own m plain = not_true (has_own own_names m.additional_fields) (both _ (not (has_own own_names m.additional_fields)) plain).1
+plain_own : (m : ArrayMetadataV3) → IsTrue (is_plain_array_v3 m) → has_own array_v3_names m.additional_fields ≡ false
+plain_own m plain = not_true (has_own array_v3_names m.additional_fields) (both _ (not (has_own array_v3_names m.additional_fields)) plain).1
 
 -- a plain array is written with its format
 pub format_again : (m : ArrayMetadataV3) → IsTrue (is_plain_array_v3 m) → get_member (codes "zarr_format") (put_rows (array_v3_rows m) m.additional_fields) ≡ Some (number (unsigned 3))

@@ -3,9 +3,9 @@ use Rattle.std.proofs.Common.{◌≡◌, ℕ, List, true, false, not, Option, So
 use Rattle.serde_json.specs.Data.{Data, number, object, unsigned, Members, no_members}
 use Rattle.serde_json.specs.Find.{get_member, as_object}
 use Rattle.serde_json.specs.Written.{has_float, members_have_float}
-use Rattle.zarrs_form.specs.Documents.{besides, has_own, is_empty, optional_from, optional, format_of}
+use Rattle.zarrs_form.specs.Documents.{besides, has_own, is_empty, optional_found, optional_member, format_of}
 use Rattle.zarrs_form.specs.Forms.{fits, unless, put_rows}
-use Rattle.zarrs_meta.specs.GroupV2.{own_names, group_v2_of, group_v2_rows, group_v2_tree, is_plain_group_v2}
+use Rattle.zarrs_meta.specs.GroupV2.{group_v2_names, group_v2_of, group_v2_rows, group_v2_tree, is_plain_group_v2}
 use Rattle.zarrs_meta.specs.declared.group_v2.GroupMetadataV2.{GroupMetadataV2}
 use Rattle.zarrs_form.proofs.MemberLaws.{besides-others, get-others}
 use Rattle.zarrs_form.proofs.RowLaws.{or_rest, found, get-put_rows, besides-put_rows, no_float-put_rows, both}
@@ -13,14 +13,14 @@ use Rattle.zarrs_form.proofs.AttributeLaws.{not_true, attributes_again, attribut
 
 -- what a plain group has: its numbers fit, and no field has an own name
 abbrev pub PlainGroupV2 : GroupMetadataV2 → Type 0
-PlainGroupV2 m = (fits (object m.attributes) ≡ true) × (members_have_float m.additional_fields ≡ false) × (has_own own_names m.additional_fields ≡ false)
+PlainGroupV2 m = (fits (object m.attributes) ≡ true) × (members_have_float m.additional_fields ≡ false) × (has_own group_v2_names m.additional_fields ≡ false)
 
 -- the test takes a plain group apart
 pub plain_group_v2 : (m : GroupMetadataV2) → IsTrue (is_plain_group_v2 m) → PlainGroupV2 m
 plain_group_v2 m plain =
-    let b = both _ (not (has_own own_names m.additional_fields)) plain in
+    let b = both _ (not (has_own group_v2_names m.additional_fields)) plain in
     let a = both (fits (object m.attributes)) (fits (object m.additional_fields)) b.0 in
-    (a.0, not_true (members_have_float m.additional_fields) a.1, not_true (has_own own_names m.additional_fields) b.1)
+    (a.0, not_true (members_have_float m.additional_fields) a.1, not_true (has_own group_v2_names m.additional_fields) b.1)
 
 module _ (m : GroupMetadataV2) (plain : IsTrue (is_plain_group_v2 m)) where
   parts : PlainGroupV2 m
@@ -43,15 +43,15 @@ module _ (m : GroupMetadataV2) (plain : IsTrue (is_plain_group_v2 m)) where
   has_format = at (codes "zarr_format")
 
   pub no_shape : get_member (codes "shape") whole ≡ None
-  no_shape = at (codes "shape") ∙ get-others own_names (codes "shape") m.additional_fields refl parts.2
+  no_shape = at (codes "shape") ∙ get-others group_v2_names (codes "shape") m.additional_fields refl parts.2
 
-  attributes : optional (codes "attributes") no_members as_object (object whole) ≡ Ok m.attributes
-  attributes = ap (optional_from (codes "attributes") no_members as_object)
-      (at (codes "attributes") ∙ ap (or_rest (unless (is_empty m.attributes) (object m.attributes))) (get-others own_names (codes "attributes") m.additional_fields refl parts.2))
+  attributes : optional_member (codes "attributes") no_members as_object (object whole) ≡ Ok m.attributes
+  attributes = ap (optional_found (codes "attributes") no_members as_object)
+      (at (codes "attributes") ∙ ap (or_rest (unless (is_empty m.attributes) (object m.attributes))) (get-others group_v2_names (codes "attributes") m.additional_fields refl parts.2))
       ∙ attributes_again m.attributes
 
-  others : besides own_names whole ≡ m.additional_fields
-  others = besides-put_rows own_names rows m.additional_fields refl ∙ besides-others own_names m.additional_fields parts.2
+  others : besides group_v2_names whole ≡ m.additional_fields
+  others = besides-put_rows group_v2_names rows m.additional_fields refl ∙ besides-others group_v2_names m.additional_fields parts.2
 
   -- a plain group that was written reads as that group
   pub group_v2_again : group_v2_of (group_v2_tree m) ≡ Ok m

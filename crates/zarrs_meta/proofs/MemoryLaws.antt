@@ -1,4 +1,4 @@
--- No document means want of memory: what reading refuses with is never that fault.
+-- No document means out of memory: what reading refuses with is never that fault.
 use Rattle.zarrs_form.proofs.MemoryLaws.{bytes_never}
 use Rattle.zarrs_form.proofs.PlainForms.{never_of}
 use Rattle.zarrs_meta.specs.GroupV3.{group_v3_of}
@@ -12,7 +12,7 @@ use Rattle.zarrs_meta.proofs.PlainGroups as groups
 use Rattle.zarrs_meta.proofs.PlainArrays as arrays
 use Rattle.zarrs_meta.proofs.PlainNodes as nodes
 
--- no bytes mean want of memory, whatever document they are read as
+-- no bytes mean out of memory, whatever document they are read as
 pub reading_never_lacks_memory : ReadingNeverLacksMemory
 reading_never_lacks_memory bytes = (
   bytes_never group_v3_of (λ d. never_of groups.PlainV3 (group_v3_of d) (groups.group_v3_plain d)) bytes,

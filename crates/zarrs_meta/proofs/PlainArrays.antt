@@ -5,7 +5,7 @@ use Rattle.std.specs.List.{list_all}
 use Rattle.serde_json.specs.Data.{Data, null, boolean, number, string, array, object, no_members}
 use Rattle.serde_json.specs.Find.{get, as_object, as_str, as_bool}
 use Rattle.serde_json.specs.Written.{has_float, members_have_float}
-use Rattle.zarrs_form.specs.Documents.{besides, has_own, document_of, format_of, node_type_of, required, optional}
+use Rattle.zarrs_form.specs.Documents.{besides, has_own, document_of, format_of, node_type_of, required_member, optional_member}
 use Rattle.zarrs_form.specs.Forms.{number_u64, any, nullable, list_of, none_or, unless_absent, extension, extension_object, extension_fits, fits}
 use Rattle.zarrs_meta.specs.ArrayV3 as v3
 use Rattle.zarrs_meta.specs.ArrayV3.{array_v3_of, is_plain_array_v3}
@@ -52,7 +52,7 @@ abbrev pub PlainV3 : ArrayMetadataV3 → Type 0
 PlainV3 m = IsTrue (is_plain_array_v3 m)
 
 -- an extension that has to be there
-one_extension : (name : List ℕ) (d : Data) → has_float d ≡ false → Reads (required name extension d) ExtensionFits
+one_extension : (name : List ℕ) (d : Data) → has_float d ≡ false → Reads (required_member name extension d) ExtensionFits
 one_extension name d h = required_fits extension extension_fits extension_fitting name d h
 
 -- step by step, as the document is read
@@ -63,22 +63,22 @@ array_v3_plain d =
     let no_float = document_no_float d ms h in
     ok_next PlainV3 (format_of 3 d) _ (format_never 3 d) (λ _.
     ok_next PlainV3 (node_type_of (codes "array") d) _ (node_type_never (codes "array") d) (λ _.
-    ok_next PlainV3 (required (codes "shape") (list_of number_u64) d) _ (required_never (list_of number_u64) (codes "shape") d) (λ shape.
-    ok_then ExtensionFits PlainV3 (required (codes "data_type") extension d) _ (one_extension (codes "data_type") d no_float) (λ data_type a.
-    ok_then ExtensionFits PlainV3 (required (codes "chunk_grid") extension d) _ (one_extension (codes "chunk_grid") d no_float) (λ chunk_grid b.
-    ok_then ExtensionFits PlainV3 (required (codes "chunk_key_encoding") extension d) _ (one_extension (codes "chunk_key_encoding") d no_float) (λ encoding c.
-    ok_then (λ v. fits v ≡ true) PlainV3 (required (codes "fill_value") any d) _ (required_fits any fits any_fitting (codes "fill_value") d no_float) (λ fill_value e.
-    ok_then (λ ms. list_all extension_fits ms ≡ true) PlainV3 (required (codes "codecs") (list_of extension) d) _
+    ok_next PlainV3 (required_member (codes "shape") (list_of number_u64) d) _ (required_never (list_of number_u64) (codes "shape") d) (λ shape.
+    ok_then ExtensionFits PlainV3 (required_member (codes "data_type") extension d) _ (one_extension (codes "data_type") d no_float) (λ data_type a.
+    ok_then ExtensionFits PlainV3 (required_member (codes "chunk_grid") extension d) _ (one_extension (codes "chunk_grid") d no_float) (λ chunk_grid b.
+    ok_then ExtensionFits PlainV3 (required_member (codes "chunk_key_encoding") extension d) _ (one_extension (codes "chunk_key_encoding") d no_float) (λ encoding c.
+    ok_then (λ v. fits v ≡ true) PlainV3 (required_member (codes "fill_value") any d) _ (required_fits any fits any_fitting (codes "fill_value") d no_float) (λ fill_value e.
+    ok_then (λ ms. list_all extension_fits ms ≡ true) PlainV3 (required_member (codes "codecs") (list_of extension) d) _
     (required_fits (list_of extension) (list_all extension_fits) (list_fitting extension extension_fits extension_fitting) (codes "codecs") d no_float) (λ codecs f.
-    ok_then (λ a. fits (object a) ≡ true) PlainV3 (optional (codes "attributes") no_members as_object d) _ (attributes_fit d no_float) (λ attributes g.
-    ok_then (λ ms. list_all extension_fits ms ≡ true) PlainV3 (optional (codes "storage_transformers") [] (list_of extension) d) _
+    ok_then (λ a. fits (object a) ≡ true) PlainV3 (optional_member (codes "attributes") no_members as_object d) _ (attributes_fit d no_float) (λ attributes g.
+    ok_then (λ ms. list_all extension_fits ms ≡ true) PlainV3 (optional_member (codes "storage_transformers") [] (list_of extension) d) _
     (optional_fits [] (list_of extension) (list_all extension_fits) (list_fitting extension extension_fits extension_fitting) refl (codes "storage_transformers") d no_float) (λ transformers i.
-    ok_next PlainV3 (optional (codes "dimension_names") None (nullable (list_of (nullable as_str))) d) _
+    ok_next PlainV3 (optional_member (codes "dimension_names") None (nullable (list_of (nullable as_str))) d) _
     (optional_never None (nullable (list_of (nullable as_str))) (codes "dimension_names") d) (λ names.
-    let fields = besides v3.own_names ms in
+    let fields = besides v3.array_v3_names ms in
     both_true _ _ (both_true _ _ (both_true _ _ (both_true _ _ (both_true _ _ (both_true _ _ (both_true _ _ (both_true _ _ a b) c) e) f) g) i)
-    (false_not (members_have_float fields) (no_float-besides v3.own_names ms h.1)))
-    (false_not (has_own v3.own_names fields) (no_own-besides v3.own_names ms))))))))))))))
+    (false_not (members_have_float fields) (no_float-besides v3.array_v3_names ms h.1)))
+    (false_not (has_own v3.array_v3_names fields) (no_own-besides v3.array_v3_names ms))))))))))))))
 
 -- a version 3 array that was read is plain
 pub read_array_v3_is_plain : (d : Data) (m : ArrayMetadataV3) → array_v3_of d ≡ Ok m → IsTrue (is_plain_array_v3 m)
@@ -126,22 +126,22 @@ array_v2_plain d =
     ok_then (IsDocument d) PlainV2 (document_of d) _ (document_fits d) (λ ms h.
     let no_float = document_no_float d ms h in
     ok_next PlainV2 (format_of 2 d) _ (format_never 2 d) (λ _.
-    ok_next PlainV2 (required (codes "shape") (list_of number_u64) d) _ (required_never (list_of number_u64) (codes "shape") d) (λ shape.
-    ok_then (λ ns. not (has_zero ns) ≡ true) PlainV2 (required (codes "chunks") chunk_lengths d) _
+    ok_next PlainV2 (required_member (codes "shape") (list_of number_u64) d) _ (required_never (list_of number_u64) (codes "shape") d) (λ shape.
+    ok_then (λ ns. not (has_zero ns) ≡ true) PlainV2 (required_member (codes "chunks") chunk_lengths d) _
     (required_fits chunk_lengths (λ ns. not (has_zero ns)) chunks_fitting (codes "chunks") d no_float) (λ chunks a.
-    ok_then (λ t. data_type_fits t ≡ true) PlainV2 (required (codes "dtype") data_type d) _ (required_fits data_type data_type_fits data_type_fitting (codes "dtype") d no_float) (λ dtype b.
-    ok_then (λ v. fits v ≡ true) PlainV2 (required (codes "fill_value") any d) _ (required_fits any fits any_fitting (codes "fill_value") d no_float) (λ fill_value c.
-    ok_next PlainV2 (required (codes "order") order d) _ (required_never order (codes "order") d) (λ layout.
-    ok_then (λ o. none_or codec_fits o ≡ true) PlainV2 (optional (codes "compressor") None (nullable codec) d) _
+    ok_then (λ t. data_type_fits t ≡ true) PlainV2 (required_member (codes "dtype") data_type d) _ (required_fits data_type data_type_fits data_type_fitting (codes "dtype") d no_float) (λ dtype b.
+    ok_then (λ v. fits v ≡ true) PlainV2 (required_member (codes "fill_value") any d) _ (required_fits any fits any_fitting (codes "fill_value") d no_float) (λ fill_value c.
+    ok_next PlainV2 (required_member (codes "order") order d) _ (required_never order (codes "order") d) (λ layout.
+    ok_then (λ o. none_or codec_fits o ≡ true) PlainV2 (optional_member (codes "compressor") None (nullable codec) d) _
     (optional_fits None (nullable codec) (none_or codec_fits) (nullable_fitting codec codec_fits codec_fitting) refl (codes "compressor") d no_float) (λ compressor e.
-    ok_then (λ o. none_or (list_all codec_fits) o ≡ true) PlainV2 (optional (codes "filters") None (nullable (list_of codec)) d) _
+    ok_then (λ o. none_or (list_all codec_fits) o ≡ true) PlainV2 (optional_member (codes "filters") None (nullable (list_of codec)) d) _
     (optional_fits None (nullable (list_of codec)) (none_or (list_all codec_fits)) (nullable_fitting (list_of codec) (list_all codec_fits) (list_fitting codec codec_fits codec_fitting)) refl (codes "filters") d no_float) (λ filters f.
-    ok_next PlainV2 (optional (codes "dimension_separator") Dot separator d) _ (optional_never Dot separator (codes "dimension_separator") d) (λ between.
-    ok_then (λ a. fits (object a) ≡ true) PlainV2 (optional (codes "attributes") no_members as_object d) _ (attributes_fit d no_float) (λ attributes g.
-    let fields = besides v2.own_names ms in
+    ok_next PlainV2 (optional_member (codes "dimension_separator") Dot separator d) _ (optional_never Dot separator (codes "dimension_separator") d) (λ between.
+    ok_then (λ a. fits (object a) ≡ true) PlainV2 (optional_member (codes "attributes") no_members as_object d) _ (attributes_fit d no_float) (λ attributes g.
+    let fields = besides v2.array_v2_names ms in
     both_true _ _ (both_true _ _ (both_true _ _ (both_true _ _ (both_true _ _ (both_true _ _ (both_true _ _ a b) c) e) f) g)
-    (false_not (members_have_float fields) (no_float-besides v2.own_names ms h.1)))
-    (false_not (has_own v2.own_names fields) (no_own-besides v2.own_names ms)))))))))))))
+    (false_not (members_have_float fields) (no_float-besides v2.array_v2_names ms h.1)))
+    (false_not (has_own v2.array_v2_names fields) (no_own-besides v2.array_v2_names ms)))))))))))))
 
 -- a version 2 array that was read is plain
 pub read_array_v2_is_plain : (d : Data) (m : ArrayMetadataV2) → array_v2_of d ≡ Ok m → IsTrue (is_plain_array_v2 m)

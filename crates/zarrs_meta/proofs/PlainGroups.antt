@@ -3,7 +3,7 @@ use Rattle.std.proofs.Common.{◌≡◌, ℕ, List, [], ◌∷◌, Bool, true, f
 use Rattle.serde_json.specs.Data.{Data, object, Members, no_members}
 use Rattle.serde_json.specs.Find.{get, get_member, as_object}
 use Rattle.serde_json.specs.Written.{has_float, members_have_float}
-use Rattle.zarrs_form.specs.Documents.{is_own, besides, has_own, is_null, document_of, format_of, node_type_of, optional, absent}
+use Rattle.zarrs_form.specs.Documents.{is_own, besides, has_own, is_null, document_of, format_of, node_type_of, optional_member, no_member}
 use Rattle.zarrs_form.specs.Forms.{fits}
 use Rattle.zarrs_meta.specs.GroupV3 as v3
 use Rattle.zarrs_meta.specs.GroupV3.{read_names, group_v3_of, is_plain_group_v3}
@@ -16,7 +16,7 @@ use Rattle.zarrs_form.proofs.MemoryLaws.{absent_by, format_never, node_type_neve
 use Rattle.zarrs_form.proofs.PlainForms.{ok_then, ok_next, of_ok, both_true, false_not, no_float-besides, none_own, no_own-besides, Reads, object_fitting, optional_fits, IsDocument, document_fits, document_no_float}
 
 -- attributes that were read have only numbers that fit
-pub attributes_fit : (d : Data) → has_float d ≡ false → Reads (optional (codes "attributes") no_members as_object d) (λ ms. fits (object ms) ≡ true)
+pub attributes_fit : (d : Data) → has_float d ≡ false → Reads (optional_member (codes "attributes") no_members as_object d) (λ ms. fits (object ms) ≡ true)
 attributes_fit d h = optional_fits no_members as_object (λ ms. fits (object ms)) object_fitting refl (codes "attributes") d h
 
 -- ---- version 2
@@ -26,11 +26,11 @@ abbrev pub PlainV2 : GroupMetadataV2 → Type 0
 PlainV2 m = IsTrue (is_plain_group_v2 m)
 
 -- the additional fields fit, and none has an own name
-plain_v2 : (ms attributes : Members) → members_have_float ms ≡ false → fits (object attributes) ≡ true → PlainV2 (record { attributes = attributes; additional_fields = besides v2.own_names ms })
+plain_v2 : (ms attributes : Members) → members_have_float ms ≡ false → fits (object attributes) ≡ true → PlainV2 (record { attributes = attributes; additional_fields = besides v2.group_v2_names ms })
 plain_v2 ms attributes h fine =
-    let fields = besides v2.own_names ms in
-    both_true _ _ (both_true (fits (object attributes)) (fits (object fields)) fine (false_not (members_have_float fields) (no_float-besides v2.own_names ms h)))
-    (false_not (has_own v2.own_names fields) (no_own-besides v2.own_names ms))
+    let fields = besides v2.group_v2_names ms in
+    both_true _ _ (both_true (fits (object attributes)) (fits (object fields)) fine (false_not (members_have_float fields) (no_float-besides v2.group_v2_names ms h)))
+    (false_not (has_own v2.group_v2_names fields) (no_own-besides v2.group_v2_names ms))
 
 -- step by step, as the document is read
 pub group_v2_plain : (d : Data) → Reads (group_v2_of d) PlainV2
@@ -38,8 +38,8 @@ unfolding group_v2_of
 group_v2_plain d =
     ok_then (IsDocument d) PlainV2 (document_of d) _ (document_fits d) (λ ms h.
     ok_next PlainV2 (format_of 2 d) _ (format_never 2 d) (λ _.
-    ok_next PlainV2 (absent (codes "shape") d) _ (absent_by (get (codes "shape") d) (codes "shape")) (λ _.
-    ok_then (λ a. fits (object a) ≡ true) PlainV2 (optional (codes "attributes") no_members as_object d) _ (attributes_fit d (document_no_float d ms h)) (λ a fine.
+    ok_next PlainV2 (no_member (codes "shape") d) _ (absent_by (get (codes "shape") d) (codes "shape")) (λ _.
+    ok_then (λ a. fits (object a) ≡ true) PlainV2 (optional_member (codes "attributes") no_members as_object d) _ (attributes_fit d (document_no_float d ms h)) (λ a fine.
     plain_v2 ms a h.1 fine))))
 
 -- a version 2 group that was read is plain
@@ -68,17 +68,17 @@ fewer false false true d h = h
 fewer false false false d h = refl
 
 -- what has none of these has no own name
-among : (k : List ℕ) → is_own with_block k ≡ false → is_own v3.own_names k ≡ false
+among : (k : List ℕ) → is_own with_block k ≡ false → is_own v3.group_v3_names k ≡ false
 among k h = fewer (bytes_eq (codes "zarr_format") k) (bytes_eq (codes "node_type") k) (bytes_eq (codes "attributes") k) (bytes_eq block k) h
 
 -- fields with no own name and no null `consolidated_metadata`
 abbrev Free : Members → Type 0
-Free fields = (has_own v3.own_names fields ≡ false) × (is_null (get_member block fields) ≡ false)
+Free fields = (has_own v3.group_v3_names fields ≡ false) × (is_null (get_member block fields) ≡ false)
 
 -- a null `consolidated_metadata` is left out, and another one stays
-free_by : (b : Bool) (ms : Members) → is_null (get_member block ms) ≡ b → Free (besides (if b then with_block else v3.own_names) ms)
-free_by true ms e = (none_own v3.own_names with_block among ms, ap is_null (get-others with_block block (besides with_block ms) refl (no_own-besides with_block ms)))
-free_by false ms e = (no_own-besides v3.own_names ms, ap is_null (get_besides v3.own_names block ms refl) ∙ e)
+free_by : (b : Bool) (ms : Members) → is_null (get_member block ms) ≡ b → Free (besides (if b then with_block else v3.group_v3_names) ms)
+free_by true ms e = (none_own v3.group_v3_names with_block among ms, ap is_null (get-others with_block block (besides with_block ms) refl (no_own-besides with_block ms)))
+free_by false ms e = (no_own-besides v3.group_v3_names ms, ap is_null (get_besides v3.group_v3_names block ms refl) ∙ e)
 
 -- so it is in a document
 free_fields : (d : Data) (ms : Members) → d ≡ object ms → Free (besides (read_names d) ms)
@@ -91,7 +91,7 @@ plain_v3 d ms attributes h fine =
     let free = free_fields d ms h.0 in
     both_true _ _
     (both_true _ _ (both_true (fits (object attributes)) (fits (object fields)) fine (false_not (members_have_float fields) (no_float-besides (read_names d) ms h.1)))
-    (false_not (has_own v3.own_names fields) free.0))
+    (false_not (has_own v3.group_v3_names fields) free.0))
     (false_not (is_null (get_member block fields)) free.1)
 
 -- step by step, as the document is read
@@ -101,7 +101,7 @@ group_v3_plain d =
     ok_then (IsDocument d) PlainV3 (document_of d) _ (document_fits d) (λ ms h.
     ok_next PlainV3 (format_of 3 d) _ (format_never 3 d) (λ _.
     ok_next PlainV3 (node_type_of (codes "group") d) _ (node_type_never (codes "group") d) (λ _.
-    ok_then (λ a. fits (object a) ≡ true) PlainV3 (optional (codes "attributes") no_members as_object d) _ (attributes_fit d (document_no_float d ms h)) (λ a fine.
+    ok_then (λ a. fits (object a) ≡ true) PlainV3 (optional_member (codes "attributes") no_members as_object d) _ (attributes_fit d (document_no_float d ms h)) (λ a fine.
     plain_v3 d ms a h fine))))
 
 -- a version 3 group that was read is plain

@@ -104,14 +104,14 @@ read_zarr_json_is_plain d m e = of_ok PlainZarrJson (zarr_json_of d) (Node m) (z
 -- a plain version 2 group with plain attributes is plain
 pub group_with_is_plain : (a : AttributesDocument) (m : GroupMetadataV2) → IsTrue (is_plain_attributes a) → IsTrue (is_plain_group_v2 m) → IsTrue (is_plain_group_v2 (group_with a m))
 group_with_is_plain a m fine plain =
-    let free = both _ (not (has_own v2.own_names m.additional_fields)) plain in
+    let free = both _ (not (has_own v2.group_v2_names m.additional_fields)) plain in
     let numbers = both (fits (object m.attributes)) (fits (object m.additional_fields)) free.0 in
     both_true _ _ (both_true (fits (object a.0)) (fits (object m.additional_fields)) fine numbers.1) free.1
 
 -- a plain version 2 array with plain attributes is plain
 pub array_with_is_plain : (a : AttributesDocument) (m : ArrayMetadataV2) → IsTrue (is_plain_attributes a) → IsTrue (is_plain_array_v2 m) → IsTrue (is_plain_array_v2 (array_with a m))
 array_with_is_plain a m fine plain =
-    let free = both _ (not (has_own array.own_names m.additional_fields)) plain in
+    let free = both _ (not (has_own array.array_v2_names m.additional_fields)) plain in
     let fields = both _ (fits (object m.additional_fields)) free.0 in
     let rest = both _ (fits (object m.attributes)) fields.0 in
     both_true _ _ (both_true _ _ (both_true _ (fits (object a.0)) rest.0 fine) fields.1) free.1

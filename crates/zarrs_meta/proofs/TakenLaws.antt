@@ -2,7 +2,7 @@
 use Rattle.std.proofs.Common.{◌≡◌, ℕ, List, [], ◌∷◌, ◌++◌, Bool, true, false, if◌then◌else◌, codes, Option, None, Result, Ok, Err, refl, ap, sym, ◌∙◌}
 use Rattle.serde_json.specs.Data.{Data, object, Members, no_members}
 use Rattle.serde_json.specs.Find.{get_member, as_object, as_str}
-use Rattle.zarrs_form.specs.Documents.{◌>>=◌, document_of, format_of, node_type_of, required, optional, absent, present, formed, optional_from, is_own, is_null, besides}
+use Rattle.zarrs_form.specs.Documents.{◌>>=◌, document_of, format_of, node_type_of, required_member, optional_member, no_member, member_or_fault, form_or_fault, optional_found, is_own, is_null, besides}
 use Rattle.zarrs_form.specs.Forms.{number_u64, any, nullable, list_of, extension}
 use Rattle.zarrs_meta.specs.GroupV3.{group_v3_of}
 use Rattle.zarrs_meta.specs.GroupV2 as group_v2
@@ -11,7 +11,7 @@ use Rattle.zarrs_meta.specs.ArrayV2 as array_v2
 use Rattle.zarrs_meta.specs.ArrayV2.{array_v2_of}
 use Rattle.zarrs_meta.specs.ArrayV3.{array_v3_of}
 use Rattle.zarrs_form.specs.FormsV2.{codec, data_type, order, separator, chunk_lengths}
-use Rattle.zarrs_meta.specs.Taken.{node_names, group_v3_taken, group_v2_taken, array_v3_required_names, array_v3_optional_names, array_v3_required, array_v3_optional, array_v3_with, array_v3_taken, array_v2_required_names, array_v2_optional_names, array_v2_required, array_v2_optional, array_v2_with, array_v2_taken}
+use Rattle.zarrs_meta.specs.StepsOfReading.{node_names, group_v3_taken, group_v2_taken, array_v3_required_names, array_v3_optional_names, array_v3_required, array_v3_optional, array_v3_with, array_v3_taken, array_v2_required_names, array_v2_optional_names, array_v2_required, array_v2_optional, array_v2_with, array_v2_taken}
 use Rattle.zarrs_form.proofs.MemberLaws.{get_besides}
 use Rattle.zarrs_form.proofs.LeftLaws.{left, get_left, left_besides, besides_both}
 use Rattle.zarrs_fault.specs.declared.fault.MetadataFault.{MetadataFault}
@@ -68,15 +68,15 @@ array_v3_parts (Ok x1) (Ok x2) (Ok x3) (Ok x4) (Ok x5) (Ok x6) (Ok x7) (Ok x8) (
 -- the array whose members were found
 abbrev array_v3_found : (found_1 found_2 found_3 found_4 found_5 found_6 found_7 found_8 found_9 : Option Data) → Members → Reading ArrayMetadataV3
 array_v3_found found_1 found_2 found_3 found_4 found_5 found_6 found_7 found_8 found_9 = array_v3_in_turn
-    (present (codes "shape") found_1 >>= λ v. formed (codes "shape") (list_of number_u64 v))
-    (present (codes "data_type") found_2 >>= λ v. formed (codes "data_type") (extension v))
-    (present (codes "chunk_grid") found_3 >>= λ v. formed (codes "chunk_grid") (extension v))
-    (present (codes "chunk_key_encoding") found_4 >>= λ v. formed (codes "chunk_key_encoding") (extension v))
-    (present (codes "fill_value") found_5 >>= λ v. formed (codes "fill_value") (any v))
-    (present (codes "codecs") found_6 >>= λ v. formed (codes "codecs") (list_of extension v))
-    (optional_from (codes "attributes") no_members as_object found_7)
-    (optional_from (codes "storage_transformers") [] (list_of extension) found_8)
-    (optional_from (codes "dimension_names") None (nullable (list_of (nullable as_str))) found_9)
+    (member_or_fault (codes "shape") found_1 >>= λ v. form_or_fault (codes "shape") (list_of number_u64 v))
+    (member_or_fault (codes "data_type") found_2 >>= λ v. form_or_fault (codes "data_type") (extension v))
+    (member_or_fault (codes "chunk_grid") found_3 >>= λ v. form_or_fault (codes "chunk_grid") (extension v))
+    (member_or_fault (codes "chunk_key_encoding") found_4 >>= λ v. form_or_fault (codes "chunk_key_encoding") (extension v))
+    (member_or_fault (codes "fill_value") found_5 >>= λ v. form_or_fault (codes "fill_value") (any v))
+    (member_or_fault (codes "codecs") found_6 >>= λ v. form_or_fault (codes "codecs") (list_of extension v))
+    (optional_found (codes "attributes") no_members as_object found_7)
+    (optional_found (codes "storage_transformers") [] (list_of extension) found_8)
+    (optional_found (codes "dimension_names") None (nullable (list_of (nullable as_str))) found_9)
 
 -- the array of the members, each found in what those before it left
 abbrev array_v3_each : (ms rest : Members) → Reading ArrayMetadataV3
@@ -98,15 +98,15 @@ unfolding array_v3_taken array_v3_required array_v3_optional
 array_v3_joined ms =
     let rest = besides array_v3_required_names ms in
     array_v3_parts
-    (required (codes "shape") (list_of number_u64) (object ms))
-    (required (codes "data_type") extension (object (left (codes "shape" ∷ []) ms)))
-    (required (codes "chunk_grid") extension (object (left (codes "shape" ∷ codes "data_type" ∷ []) ms)))
-    (required (codes "chunk_key_encoding") extension (object (left (codes "shape" ∷ codes "data_type" ∷ codes "chunk_grid" ∷ []) ms)))
-    (required (codes "fill_value") any (object (left (codes "shape" ∷ codes "data_type" ∷ codes "chunk_grid" ∷ codes "chunk_key_encoding" ∷ []) ms)))
-    (required (codes "codecs") (list_of extension) (object (left (codes "shape" ∷ codes "data_type" ∷ codes "chunk_grid" ∷ codes "chunk_key_encoding" ∷ codes "fill_value" ∷ []) ms)))
-    (optional (codes "attributes") no_members as_object (object rest))
-    (optional (codes "storage_transformers") [] (list_of extension) (object (left (codes "attributes" ∷ []) rest)))
-    (optional (codes "dimension_names") None (nullable (list_of (nullable as_str))) (object (left (codes "attributes" ∷ codes "storage_transformers" ∷ []) rest)))
+    (required_member (codes "shape") (list_of number_u64) (object ms))
+    (required_member (codes "data_type") extension (object (left (codes "shape" ∷ []) ms)))
+    (required_member (codes "chunk_grid") extension (object (left (codes "shape" ∷ codes "data_type" ∷ []) ms)))
+    (required_member (codes "chunk_key_encoding") extension (object (left (codes "shape" ∷ codes "data_type" ∷ codes "chunk_grid" ∷ []) ms)))
+    (required_member (codes "fill_value") any (object (left (codes "shape" ∷ codes "data_type" ∷ codes "chunk_grid" ∷ codes "chunk_key_encoding" ∷ []) ms)))
+    (required_member (codes "codecs") (list_of extension) (object (left (codes "shape" ∷ codes "data_type" ∷ codes "chunk_grid" ∷ codes "chunk_key_encoding" ∷ codes "fill_value" ∷ []) ms)))
+    (optional_member (codes "attributes") no_members as_object (object rest))
+    (optional_member (codes "storage_transformers") [] (list_of extension) (object (left (codes "attributes" ∷ []) rest)))
+    (optional_member (codes "dimension_names") None (nullable (list_of (nullable as_str))) (object (left (codes "attributes" ∷ codes "storage_transformers" ∷ []) rest)))
     (besides node_names (besides array_v3_optional_names rest))
 
 -- taken one by one it is what the document means
@@ -117,8 +117,8 @@ array_v3_each_is ms is_document is_3 is_array =
     let names = array_v3_required_names ++ array_v3_optional_names in
     let rest = besides array_v3_required_names ms in
     let found = λ (names : List (List ℕ)) (name : List ℕ) (other : is_own names name ≡ false). sym (get_left names name ms other) in
-    let later = λ (names : List (List ℕ)) (name : List ℕ) (other : is_own names name ≡ false) (optional : is_own array_v3_required_names name ≡ false).
-    sym (get_left names name rest other ∙ get_besides array_v3_required_names name ms optional) in
+    let later = λ (names : List (List ℕ)) (name : List ℕ) (other : is_own names name ≡ false) (optional_member : is_own array_v3_required_names name ≡ false).
+    sym (get_left names name rest other ∙ get_besides array_v3_required_names name ms optional_member) in
     let fields = sym (besides_both node_names names ms) ∙ ap (besides node_names) (sym (left_besides names ms)
     ∙ ap (left array_v3_optional_names) (left_besides array_v3_required_names ms) ∙ left_besides array_v3_optional_names rest) in
     rw (is_document, is_3, is_array) (λ i. array_v3_found
@@ -171,15 +171,15 @@ array_v2_parts (Ok x1) (Ok x2) (Ok x3) (Ok x4) (Ok x5) (Ok x6) (Ok x7) (Ok x8) (
 -- the array whose members were found
 abbrev array_v2_found : (found_1 found_2 found_3 found_4 found_5 found_6 found_7 found_8 found_9 : Option Data) → Members → Reading ArrayMetadataV2
 array_v2_found found_1 found_2 found_3 found_4 found_5 found_6 found_7 found_8 found_9 = array_v2_in_turn
-    (present (codes "shape") found_1 >>= λ v. formed (codes "shape") (list_of number_u64 v))
-    (present (codes "chunks") found_2 >>= λ v. formed (codes "chunks") (chunk_lengths v))
-    (present (codes "dtype") found_3 >>= λ v. formed (codes "dtype") (data_type v))
-    (present (codes "fill_value") found_4 >>= λ v. formed (codes "fill_value") (any v))
-    (present (codes "order") found_5 >>= λ v. formed (codes "order") (order v))
-    (optional_from (codes "compressor") None (nullable codec) found_6)
-    (optional_from (codes "filters") None (nullable (list_of codec)) found_7)
-    (optional_from (codes "dimension_separator") Dot separator found_8)
-    (optional_from (codes "attributes") no_members as_object found_9)
+    (member_or_fault (codes "shape") found_1 >>= λ v. form_or_fault (codes "shape") (list_of number_u64 v))
+    (member_or_fault (codes "chunks") found_2 >>= λ v. form_or_fault (codes "chunks") (chunk_lengths v))
+    (member_or_fault (codes "dtype") found_3 >>= λ v. form_or_fault (codes "dtype") (data_type v))
+    (member_or_fault (codes "fill_value") found_4 >>= λ v. form_or_fault (codes "fill_value") (any v))
+    (member_or_fault (codes "order") found_5 >>= λ v. form_or_fault (codes "order") (order v))
+    (optional_found (codes "compressor") None (nullable codec) found_6)
+    (optional_found (codes "filters") None (nullable (list_of codec)) found_7)
+    (optional_found (codes "dimension_separator") Dot separator found_8)
+    (optional_found (codes "attributes") no_members as_object found_9)
 
 -- the array of the members, each found in what those before it left
 abbrev array_v2_each : (ms rest : Members) → Reading ArrayMetadataV2
@@ -201,15 +201,15 @@ unfolding array_v2_taken array_v2_required array_v2_optional
 array_v2_joined ms =
     let rest = besides array_v2_required_names ms in
     array_v2_parts
-    (required (codes "shape") (list_of number_u64) (object ms))
-    (required (codes "chunks") chunk_lengths (object (left (codes "shape" ∷ []) ms)))
-    (required (codes "dtype") data_type (object (left (codes "shape" ∷ codes "chunks" ∷ []) ms)))
-    (required (codes "fill_value") any (object (left (codes "shape" ∷ codes "chunks" ∷ codes "dtype" ∷ []) ms)))
-    (required (codes "order") order (object (left (codes "shape" ∷ codes "chunks" ∷ codes "dtype" ∷ codes "fill_value" ∷ []) ms)))
-    (optional (codes "compressor") None (nullable codec) (object rest))
-    (optional (codes "filters") None (nullable (list_of codec)) (object (left (codes "compressor" ∷ []) rest)))
-    (optional (codes "dimension_separator") Dot separator (object (left (codes "compressor" ∷ codes "filters" ∷ []) rest)))
-    (optional (codes "attributes") no_members as_object (object (left (codes "compressor" ∷ codes "filters" ∷ codes "dimension_separator" ∷ []) rest)))
+    (required_member (codes "shape") (list_of number_u64) (object ms))
+    (required_member (codes "chunks") chunk_lengths (object (left (codes "shape" ∷ []) ms)))
+    (required_member (codes "dtype") data_type (object (left (codes "shape" ∷ codes "chunks" ∷ []) ms)))
+    (required_member (codes "fill_value") any (object (left (codes "shape" ∷ codes "chunks" ∷ codes "dtype" ∷ []) ms)))
+    (required_member (codes "order") order (object (left (codes "shape" ∷ codes "chunks" ∷ codes "dtype" ∷ codes "fill_value" ∷ []) ms)))
+    (optional_member (codes "compressor") None (nullable codec) (object rest))
+    (optional_member (codes "filters") None (nullable (list_of codec)) (object (left (codes "compressor" ∷ []) rest)))
+    (optional_member (codes "dimension_separator") Dot separator (object (left (codes "compressor" ∷ codes "filters" ∷ []) rest)))
+    (optional_member (codes "attributes") no_members as_object (object (left (codes "compressor" ∷ codes "filters" ∷ codes "dimension_separator" ∷ []) rest)))
     (besides array_v2_optional_names rest)
 
 -- taken one by one it is what the document means
@@ -220,9 +220,9 @@ array_v2_each_is ms is_document is_2 =
     let others = besides (codes "zarr_format" ∷ []) ms in
     let rest = besides array_v2_required_names others in
     let found = λ (names : List (List ℕ)) (name : List ℕ) (other : is_own names name ≡ false). sym (get_left names name ms other) in
-    let later = λ (names : List (List ℕ)) (name : List ℕ) (other : is_own names name ≡ false) (optional : is_own array_v2_required_names name ≡ false) (format : is_own (codes "zarr_format" ∷ []) name ≡ false).
-    sym (get_left names name rest other ∙ get_besides array_v2_required_names name others optional ∙ get_besides (codes "zarr_format" ∷ []) name ms format) in
-    let fields = sym (left_besides array_v2.own_names ms) ∙ ap (left array_v2_optional_names) (left_besides array_v2_required_names others) ∙ left_besides array_v2_optional_names rest in
+    let later = λ (names : List (List ℕ)) (name : List ℕ) (other : is_own names name ≡ false) (optional_member : is_own array_v2_required_names name ≡ false) (format : is_own (codes "zarr_format" ∷ []) name ≡ false).
+    sym (get_left names name rest other ∙ get_besides array_v2_required_names name others optional_member ∙ get_besides (codes "zarr_format" ∷ []) name ms format) in
+    let fields = sym (left_besides array_v2.array_v2_names ms) ∙ ap (left array_v2_optional_names) (left_besides array_v2_required_names others) ∙ left_besides array_v2_optional_names rest in
     rw (is_document, is_2) (λ i. array_v2_found
     (found (codes "zarr_format" ∷ []) (codes "shape") refl i)
     (found (codes "zarr_format" ∷ codes "shape" ∷ []) (codes "chunks") refl i)
@@ -244,11 +244,11 @@ array_v2_taken_is ms is_document is_2 = array_v2_each_is ms is_document is_2 ∙
 
 -- the version 3 group whose attributes were found
 abbrev group_v3_found : (attributes : Option Data) (fields : Members) → Result GroupMetadataV3 MetadataFault
-group_v3_found found fields = optional_from (codes "attributes") no_members as_object found >>= λ attributes. Ok (record { attributes = attributes; additional_fields = fields })
+group_v3_found found fields = optional_found (codes "attributes") no_members as_object found >>= λ attributes. Ok (record { attributes = attributes; additional_fields = fields })
 
 -- the version 2 group
 abbrev group_v2_found : (attributes : Option Data) (fields : Members) → Result GroupMetadataV2 MetadataFault
-group_v2_found found fields = optional_from (codes "attributes") no_members as_object found >>= λ attributes. Ok (record { attributes = attributes; additional_fields = fields })
+group_v2_found found fields = optional_found (codes "attributes") no_members as_object found >>= λ attributes. Ok (record { attributes = attributes; additional_fields = fields })
 
 -- the names that a version 3 group takes, with a null `consolidated_metadata`
 abbrev null_names : List (List ℕ)
@@ -271,9 +271,9 @@ group_v3_taken_is ms is_document is_3 is_group =
     rw (is_document, is_3, is_group) (λ i. group_v3_found (get_member (codes "attributes") ms) (fields i))
 
 -- what is taken out of the members beside `zarr_format` and `shape` is what the document means
-pub group_v2_taken_is : (ms : Members) → document_of (object ms) ≡ Ok ms → format_of 2 (object ms) ≡ Ok tt → absent (codes "shape") (object ms) ≡ Ok tt
+pub group_v2_taken_is : (ms : Members) → document_of (object ms) ≡ Ok ms → format_of 2 (object ms) ≡ Ok tt → no_member (codes "shape") (object ms) ≡ Ok tt
     → group_v2_of (object ms) ≡ group_v2_taken (besides (codes "shape" ∷ []) (besides (codes "zarr_format" ∷ []) ms))
 unfolding group_v2_of group_v2_taken
 group_v2_taken_is ms is_document is_2 no_shape =
     let found = sym (get_left (codes "zarr_format" ∷ codes "shape" ∷ []) (codes "attributes") ms refl) in
-    rw (is_document, is_2, no_shape) (λ i. group_v2_found (found i) (sym (left_besides group_v2.own_names ms) i))
+    rw (is_document, is_2, no_shape) (λ i. group_v2_found (found i) (sym (left_besides group_v2.group_v2_names ms) i))

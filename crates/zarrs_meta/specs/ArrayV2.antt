@@ -3,7 +3,7 @@ use Rattle.std.specs.Prelude.{ℕ, List, [], ◌∷◌, Bool, not, ◌&&◌, Opt
 use Rattle.std.specs.List.{list_all}
 use Rattle.serde_json.specs.Data.{Data, object, no_members}
 use Rattle.serde_json.specs.Find.{as_object}
-use Rattle.zarrs_form.specs.Documents.{◌>>=◌, document_of, format_of, required, optional, besides, has_own, is_empty}
+use Rattle.zarrs_form.specs.Documents.{◌>>=◌, document_of, format_of, required_member, optional_member, besides, has_own, is_empty}
 use Rattle.zarrs_form.specs.Forms.{number_u64, any, list_of, nullable, number_data, list_data, nullable_data, none_or, fits, unless, put_rows}
 use Rattle.zarrs_form.specs.FormsV2.{codec, codec_data, codec_fits, data_type, data_type_data, data_type_fits, order, order_data, separator, separator_data, has_zero, chunk_lengths}
 use Rattle.zarrs_fault.specs.declared.fault.MetadataFault.{MetadataFault}
@@ -11,8 +11,8 @@ use Rattle.zarrs_meta.specs.declared.array_v2.ArrayMetadataV2.{ArrayMetadataV2}
 use Rattle.zarrs_form.specs.declared.chunks.ChunkKeySeparator.TheVariants.{Dot}
 
 -- `zarr_format` and the members of the table
-abbrev pub own_names : List (List ℕ)
-own_names =
+abbrev pub array_v2_names : List (List ℕ)
+array_v2_names =
     codes "zarr_format" ∷ codes "shape" ∷ codes "chunks" ∷ codes "dtype" ∷ codes "fill_value" ∷ codes "order" ∷ codes "compressor" ∷ codes "filters"
     ∷ codes "dimension_separator" ∷ codes "attributes" ∷ []
 
@@ -21,15 +21,15 @@ unfoldable pub array_v2_of : Data → Result ArrayMetadataV2 MetadataFault
 array_v2_of d = do
   ms ← document_of d
   _ ← format_of 2 d
-  shape ← required (codes "shape") (list_of number_u64) d
-  chunks ← required (codes "chunks") chunk_lengths d
-  dtype ← required (codes "dtype") data_type d
-  fill_value ← required (codes "fill_value") any d
-  array_order ← required (codes "order") order d
-  compressor ← optional (codes "compressor") None (nullable codec) d
-  filters ← optional (codes "filters") None (nullable (list_of codec)) d
-  dimension_separator ← optional (codes "dimension_separator") Dot separator d
-  attributes ← optional (codes "attributes") no_members as_object d
+  shape ← required_member (codes "shape") (list_of number_u64) d
+  chunks ← required_member (codes "chunks") chunk_lengths d
+  dtype ← required_member (codes "dtype") data_type d
+  fill_value ← required_member (codes "fill_value") any d
+  array_order ← required_member (codes "order") order d
+  compressor ← optional_member (codes "compressor") None (nullable codec) d
+  filters ← optional_member (codes "filters") None (nullable (list_of codec)) d
+  dimension_separator ← optional_member (codes "dimension_separator") Dot separator d
+  attributes ← optional_member (codes "attributes") no_members as_object d
   Ok (record {
     shape = shape;
     chunks = chunks;
@@ -40,7 +40,7 @@ array_v2_of d = do
     filters = filters;
     dimension_separator = dimension_separator;
     attributes = attributes;
-    additional_fields = besides own_names ms;
+    additional_fields = besides array_v2_names ms;
   })
 
 -- ---- the written form
@@ -67,4 +67,4 @@ array_v2_tree m = object (put_rows (array_v2_rows m) m.additional_fields)
 abbrev pub is_plain_array_v2 : ArrayMetadataV2 → Bool
 is_plain_array_v2 m =
     not (has_zero m.chunks) && data_type_fits m.dtype && fits m.fill_value && none_or codec_fits m.compressor && none_or (list_all codec_fits) m.filters
-    && fits (object m.attributes) && fits (object m.additional_fields) && not (has_own own_names m.additional_fields)
+    && fits (object m.attributes) && fits (object m.additional_fields) && not (has_own array_v2_names m.additional_fields)

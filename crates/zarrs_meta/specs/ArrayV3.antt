@@ -3,14 +3,14 @@ use Rattle.std.specs.Prelude.{ℕ, List, [], ◌∷◌, Bool, Option, Some, None
 use Rattle.std.specs.List.{list_all}
 use Rattle.serde_json.specs.Data.{Data, string, object, no_members}
 use Rattle.serde_json.specs.Find.{as_object, as_str}
-use Rattle.zarrs_form.specs.Documents.{◌>>=◌, document_of, format_of, node_type_of, required, optional, besides, has_own, is_empty}
+use Rattle.zarrs_form.specs.Documents.{◌>>=◌, document_of, format_of, node_type_of, required_member, optional_member, besides, has_own, is_empty}
 use Rattle.zarrs_form.specs.Forms.{number_u64, any, nullable, list_of, extension, number_data, list_data, nullable_data, extension_data, extension_fits, fits, unless, is_nil, put_rows}
 use Rattle.zarrs_fault.specs.declared.fault.MetadataFault.{MetadataFault}
 use Rattle.zarrs_meta.specs.declared.array_v3.ArrayMetadataV3.{ArrayMetadataV3}
 
 -- `zarr_format`, `node_type` and the members of the table
-abbrev pub own_names : List (List ℕ)
-own_names =
+abbrev pub array_v3_names : List (List ℕ)
+array_v3_names =
     codes "zarr_format" ∷ codes "node_type" ∷ codes "shape" ∷ codes "data_type" ∷ codes "chunk_grid" ∷ codes "chunk_key_encoding" ∷ codes "fill_value" ∷ codes "codecs"
     ∷ codes "attributes" ∷ codes "storage_transformers" ∷ codes "dimension_names" ∷ []
 
@@ -20,15 +20,15 @@ array_v3_of d = do
   ms ← document_of d
   _ ← format_of 3 d
   _ ← node_type_of (codes "array") d
-  shape ← required (codes "shape") (list_of number_u64) d
-  data_type ← required (codes "data_type") extension d
-  chunk_grid ← required (codes "chunk_grid") extension d
-  chunk_key_encoding ← required (codes "chunk_key_encoding") extension d
-  fill_value ← required (codes "fill_value") any d
-  codecs ← required (codes "codecs") (list_of extension) d
-  attributes ← optional (codes "attributes") no_members as_object d
-  storage_transformers ← optional (codes "storage_transformers") [] (list_of extension) d
-  dimension_names ← optional (codes "dimension_names") None (nullable (list_of (nullable as_str))) d
+  shape ← required_member (codes "shape") (list_of number_u64) d
+  data_type ← required_member (codes "data_type") extension d
+  chunk_grid ← required_member (codes "chunk_grid") extension d
+  chunk_key_encoding ← required_member (codes "chunk_key_encoding") extension d
+  fill_value ← required_member (codes "fill_value") any d
+  codecs ← required_member (codes "codecs") (list_of extension) d
+  attributes ← optional_member (codes "attributes") no_members as_object d
+  storage_transformers ← optional_member (codes "storage_transformers") [] (list_of extension) d
+  dimension_names ← optional_member (codes "dimension_names") None (nullable (list_of (nullable as_str))) d
   Ok (record {
     shape = shape;
     data_type = data_type;
@@ -39,7 +39,7 @@ array_v3_of d = do
     attributes = attributes;
     storage_transformers = storage_transformers;
     dimension_names = dimension_names;
-    additional_fields = besides own_names ms;
+    additional_fields = besides array_v3_names ms;
   })
 
 -- ---- the written form
@@ -67,4 +67,4 @@ abbrev pub is_plain_array_v3 : ArrayMetadataV3 → Bool
 is_plain_array_v3 m =
     extension_fits m.data_type && extension_fits m.chunk_grid && extension_fits m.chunk_key_encoding && fits m.fill_value && list_all extension_fits m.codecs
     && fits (object m.attributes) && list_all extension_fits m.storage_transformers && fits (object m.additional_fields)
-    && not (has_own own_names m.additional_fields)
+    && not (has_own array_v3_names m.additional_fields)

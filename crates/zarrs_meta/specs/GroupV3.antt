@@ -2,18 +2,18 @@
 use Rattle.std.specs.Prelude.{ℕ, Bool, not, ◌&&◌, if◌then◌else◌, List, [], ◌∷◌, Option, Some, Result, Ok, codes}
 use Rattle.serde_json.specs.Data.{Data, string, object, no_members}
 use Rattle.serde_json.specs.Find.{get, get_member, as_object}
-use Rattle.zarrs_form.specs.Documents.{◌>>=◌, document_of, format_of, node_type_of, optional, besides, has_own, is_null, is_empty}
+use Rattle.zarrs_form.specs.Documents.{◌>>=◌, document_of, format_of, node_type_of, optional_member, besides, has_own, is_null, is_empty}
 use Rattle.zarrs_form.specs.Forms.{number_data, fits, unless, put_rows}
 use Rattle.zarrs_fault.specs.declared.fault.MetadataFault.{MetadataFault}
 use Rattle.zarrs_meta.specs.declared.group_v3.GroupMetadataV3.{GroupMetadataV3}
 
 -- `zarr_format`, `node_type` and the member of the table
-abbrev pub own_names : List (List ℕ)
-own_names = codes "zarr_format" ∷ codes "node_type" ∷ codes "attributes" ∷ []
+abbrev pub group_v3_names : List (List ℕ)
+group_v3_names = codes "zarr_format" ∷ codes "node_type" ∷ codes "attributes" ∷ []
 
 -- the names of members that are no additional fields: the own names, and `consolidated_metadata` where it is null, which counts as absent
 abbrev pub read_names : Data → List (List ℕ)
-read_names d = if is_null (get (codes "consolidated_metadata") d) then codes "zarr_format" ∷ codes "node_type" ∷ codes "attributes" ∷ codes "consolidated_metadata" ∷ [] else own_names
+read_names d = if is_null (get (codes "consolidated_metadata") d) then codes "zarr_format" ∷ codes "node_type" ∷ codes "attributes" ∷ codes "consolidated_metadata" ∷ [] else group_v3_names
 
 -- the group that a version 3 document means, or its first fault
 unfoldable pub group_v3_of : Data → Result GroupMetadataV3 MetadataFault
@@ -21,7 +21,7 @@ group_v3_of d = do
   ms ← document_of d
   _ ← format_of 3 d
   _ ← node_type_of (codes "group") d
-  attributes ← optional (codes "attributes") no_members as_object d
+  attributes ← optional_member (codes "attributes") no_members as_object d
   Ok (record { attributes = attributes; additional_fields = besides (read_names d) ms })
 
 -- ---- the written form
@@ -39,5 +39,5 @@ group_v3_tree m = object (put_rows (group_v3_rows m) m.additional_fields)
 -- a group could have come from a document where its numbers fit, no field has an own name, and no field `consolidated_metadata` is null
 abbrev pub is_plain_group_v3 : GroupMetadataV3 → Bool
 is_plain_group_v3 m =
-    fits (object m.attributes) && fits (object m.additional_fields) && not (has_own own_names m.additional_fields)
+    fits (object m.attributes) && fits (object m.additional_fields) && not (has_own group_v3_names m.additional_fields)
     && not (is_null (get_member (codes "consolidated_metadata") m.additional_fields))

@@ -50,7 +50,7 @@ WithAttributesIsPlain = (a : AttributesDocument) → IsTrue (is_plain_attributes
     ((m : GroupMetadataV2) → IsTrue (is_plain_group_v2 m) → IsTrue (is_plain_group_v2 (group_with a m)))
     × ((m : ArrayMetadataV2) → IsTrue (is_plain_array_v2 m) → IsTrue (is_plain_array_v2 (array_with a m)))
 
--- no bytes mean want of memory, whatever document they are read as
+-- no bytes mean out of memory, whatever document they are read as
 abbrev pub ReadingNeverLacksMemory : Type 0
 ReadingNeverLacksMemory = (bytes : List ℕ) →
     NeverLacksMemory (of_bytes group_v3_of bytes) × NeverLacksMemory (of_bytes array_v3_of bytes) × NeverLacksMemory (of_bytes group_v2_of bytes)

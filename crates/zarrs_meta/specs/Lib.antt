@@ -4,6 +4,6 @@ pub mod MadeArray
 pub mod GroupV2
 pub mod ArrayV2
 pub mod Attributes
-pub mod Taken
+pub mod StepsOfReading
 pub mod Node
 pub mod Laws

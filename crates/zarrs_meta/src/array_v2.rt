@@ -3,12 +3,12 @@ ghost use Rattle.std.specs.Prelude.{◌≡◌, [], ◌∷◌, Ok, IfOk, IsTrue, 
 ghost use Rattle.serde_json.specs.Data.{object, no_members};
 ghost use Rattle.serde_json.specs.View.{view, members_view};
 ghost use Rattle.serde_json.specs.Written.{compact_text};
-ghost use Rattle.zarrs_form.specs.Documents.{Gives, besides, document_of, of_bytes, optional};
+ghost use Rattle.zarrs_form.specs.Documents.{Gives, besides, document_of, of_bytes, optional_member};
 ghost use Rattle.zarrs_form.specs.Forms.{put_rows};
 ghost use Rattle.zarrs_form.specs.FormsV2.{separator};
 ghost use Rattle.zarrs_form.specs.declared.chunks.ChunkKeySeparator.TheVariants.{Dot};
 ghost use Rattle.zarrs_meta.specs.ArrayV2.{array_v2_of, array_v2_rows, array_v2_tree, is_plain_array_v2};
-ghost use Rattle.zarrs_meta.specs.Taken.{array_v2_taken, array_v2_required, array_v2_required_names, array_v2_optional, array_v2_optional_names, array_v2_with};
+ghost use Rattle.zarrs_meta.specs.StepsOfReading.{array_v2_taken, array_v2_required, array_v2_required_names, array_v2_optional, array_v2_optional_names, array_v2_with};
 
 use serde_json::{Map, Value, put};
 use std::alloc::{AllocError, Global};
@@ -101,7 +101,7 @@ impl ArrayMetadataV2 {
     }
 
     /// Takes the members of the table one by one; those that are left are the additional fields.
-    #[tactic(auto, unfolding(crate::specs::Taken::array_v2_taken))]
+    #[tactic(auto, unfolding(crate::specs::StepsOfReading::array_v2_taken))]
     fn take(
         alloc: Global,
         mut members: Map<String, Value>,
@@ -248,7 +248,7 @@ pub(crate) struct OptionalMembers {
 
 impl RequiredMembers {
     /// Takes the members that each array has, one by one.
-    #[tactic(auto, unfolding(crate::specs::Taken::array_v2_required))]
+    #[tactic(auto, unfolding(crate::specs::StepsOfReading::array_v2_required))]
     fn take(
         alloc: Global,
         members: &mut Map<String, Value>,
@@ -303,7 +303,7 @@ impl RequiredMembers {
 
 impl OptionalMembers {
     /// Takes the members that may be absent, one by one.
-    #[tactic(auto, unfolding(crate::specs::Taken::array_v2_optional))]
+    #[tactic(auto, unfolding(crate::specs::StepsOfReading::array_v2_optional))]
     fn take(
         alloc: Global,
         members: &mut Map<String, Value>,
@@ -326,7 +326,7 @@ fn dimension_separator(
     members: &mut Map<String, Value>,
 ) -> Result<ChunkKeySeparator, MetadataFault>
     ensures gives { Gives (λ x. x) result
-        (optional (codes "dimension_separator") Dot separator (object (members_view members.old.entries))) }
+        (optional_member (codes "dimension_separator") Dot separator (object (members_view members.old.entries))) }
     ensures left { members_view members.new.entries
         ≡ besides (codes "dimension_separator" ∷ []) (members_view members.old.entries) }
 {

@@ -4,11 +4,11 @@ ghost use Rattle.serde_json.specs.Data.{object, no_members};
 ghost use Rattle.serde_json.specs.Find.{as_str};
 ghost use Rattle.serde_json.specs.View.{view, members_view};
 ghost use Rattle.serde_json.specs.Written.{compact_text};
-ghost use Rattle.zarrs_form.specs.Documents.{Gives, besides, document_of, of_bytes, optional};
+ghost use Rattle.zarrs_form.specs.Documents.{Gives, besides, document_of, of_bytes, optional_member};
 ghost use Rattle.zarrs_form.specs.Forms.{extension, list_of, nullable, put_rows};
 ghost use Rattle.zarrs_meta.specs.ArrayV3.{array_v3_of, array_v3_rows, array_v3_tree, is_plain_array_v3};
 ghost use Rattle.zarrs_meta.specs.MadeArray.{default_encoding, made_array};
-ghost use Rattle.zarrs_meta.specs.Taken.{array_v3_taken, array_v3_required, array_v3_required_names, array_v3_optional, array_v3_optional_names, array_v3_with};
+ghost use Rattle.zarrs_meta.specs.StepsOfReading.{array_v3_taken, array_v3_required, array_v3_required_names, array_v3_optional, array_v3_optional_names, array_v3_with};
 
 use serde_json::{Map, Value, put};
 use std::alloc::{AllocError, Global};
@@ -147,7 +147,7 @@ impl ArrayMetadataV3 {
     }
 
     /// Takes the members of the table one by one; those that are left are the additional fields.
-    #[tactic(auto, unfolding(crate::specs::Taken::array_v3_taken))]
+    #[tactic(auto, unfolding(crate::specs::StepsOfReading::array_v3_taken))]
     fn take(
         alloc: Global,
         mut members: Map<String, Value>,
@@ -298,7 +298,7 @@ pub(crate) struct OptionalMembers {
 
 impl RequiredMembers {
     /// Takes the members that each array has, one by one.
-    #[tactic(auto, unfolding(crate::specs::Taken::array_v3_required))]
+    #[tactic(auto, unfolding(crate::specs::StepsOfReading::array_v3_required))]
     fn take(
         alloc: Global,
         members: &mut Map<String, Value>,
@@ -354,7 +354,7 @@ impl RequiredMembers {
 
 impl OptionalMembers {
     /// Takes the members that may be absent, one by one.
-    #[tactic(auto, unfolding(crate::specs::Taken::array_v3_optional))]
+    #[tactic(auto, unfolding(crate::specs::StepsOfReading::array_v3_optional))]
     fn take(
         alloc: Global,
         members: &mut Map<String, Value>,
@@ -390,7 +390,7 @@ fn storage_transformers(
     members: &mut Map<String, Value>,
 ) -> Result<List<MetadataV3>, MetadataFault>
     ensures gives { Gives (λ x. x) result
-        (optional (codes "storage_transformers") [] (list_of extension) (object (members_view members.old.entries))) }
+        (optional_member (codes "storage_transformers") [] (list_of extension) (object (members_view members.old.entries))) }
     ensures left { members_view members.new.entries
         ≡ besides (codes "storage_transformers" ∷ []) (members_view members.old.entries) }
 {
@@ -408,7 +408,7 @@ fn dimension_names(
     members: &mut Map<String, Value>,
 ) -> Result<Option<List<Option<Text>>>, MetadataFault>
     ensures gives { Gives (λ x. x) result
-        (optional (codes "dimension_names") None (nullable (list_of (nullable as_str))) (object (members_view members.old.entries))) }
+        (optional_member (codes "dimension_names") None (nullable (list_of (nullable as_str))) (object (members_view members.old.entries))) }
     ensures left { members_view members.new.entries
         ≡ besides (codes "dimension_names" ∷ []) (members_view members.old.entries) }
 {

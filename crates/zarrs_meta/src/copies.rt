@@ -1,6 +1,6 @@
 //! Copies of documents that equal their source.
 ghost use Rattle.std.specs.Prelude.{◌≡◌, IfOk};
-ghost use Rattle.zarrs_meta.specs.Taken.{array_v3_required_of, array_v3_optional_of, array_v2_required_of, array_v2_optional_of};
+ghost use Rattle.zarrs_meta.specs.StepsOfReading.{array_v3_required_of, array_v3_optional_of, array_v2_required_of, array_v2_optional_of};
 
 use crate::array_v2::{self, ArrayMetadataV2};
 use crate::array_v3::{self, ArrayMetadataV3};

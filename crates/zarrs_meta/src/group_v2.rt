@@ -6,7 +6,7 @@ ghost use Rattle.serde_json.specs.Written.{compact_text};
 ghost use Rattle.zarrs_form.specs.Documents.{Gives, document_of, of_bytes};
 ghost use Rattle.zarrs_meta.specs.GroupV2.{group_v2_of, group_v2_rows, group_v2_tree, is_plain_group_v2};
 ghost use Rattle.zarrs_form.specs.Forms.{put_rows};
-ghost use Rattle.zarrs_meta.specs.Taken.{group_v2_taken};
+ghost use Rattle.zarrs_meta.specs.StepsOfReading.{group_v2_taken};
 
 use serde_json::{Map, Value, put};
 use std::alloc::{AllocError, Global};
@@ -83,7 +83,7 @@ impl GroupMetadataV2 {
     }
 
     /// Takes the attributes; the members that are left are the additional fields.
-    #[tactic(auto, unfolding(crate::specs::Taken::group_v2_taken))]
+    #[tactic(auto, unfolding(crate::specs::StepsOfReading::group_v2_taken))]
     fn take(
         alloc: Global,
         mut members: Map<String, Value>,

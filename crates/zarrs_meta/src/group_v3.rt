@@ -6,7 +6,7 @@ ghost use Rattle.serde_json.specs.Written.{compact_text};
 ghost use Rattle.zarrs_form.specs.Documents.{Gives, document_of, of_bytes};
 ghost use Rattle.zarrs_meta.specs.GroupV3.{group_v3_of, group_v3_rows, group_v3_tree, is_plain_group_v3};
 ghost use Rattle.zarrs_form.specs.Forms.{put_rows};
-ghost use Rattle.zarrs_meta.specs.Taken.{group_v3_taken};
+ghost use Rattle.zarrs_meta.specs.StepsOfReading.{group_v3_taken};
 
 use serde_json::{Map, Value, put};
 use std::alloc::{AllocError, Global};
@@ -74,7 +74,7 @@ impl GroupMetadataV3 {
 
     /// Takes the attributes, and a null `consolidated_metadata`; the members that are left are the
     /// additional fields.
-    #[tactic(auto, unfolding(crate::specs::Taken::group_v3_taken))]
+    #[tactic(auto, unfolding(crate::specs::StepsOfReading::group_v3_taken))]
     fn take(
         alloc: Global,
         mut members: Map<String, Value>,

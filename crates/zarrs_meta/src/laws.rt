@@ -104,7 +104,7 @@ pub fn with_attributes_is_plain()
     ensures { WithAttributesIsPlain }
 {}
 
-/// No bytes mean want of memory, whatever document they are read as.
+/// No bytes mean out of memory, whatever document they are read as.
 pub fn reading_never_lacks_memory()
     ensures { ReadingNeverLacksMemory }
 {}

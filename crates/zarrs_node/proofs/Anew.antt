@@ -10,14 +10,15 @@ use Rattle.zarrs_store.proofs.BelowLemmas.{key_text-below}
 use Rattle.zarrs_path.proofs.PathTexts.{IsPath-append}
 use Rattle.zarrs_meta.specs.Node.{is_group}
 use Rattle.zarrs_meta.specs.declared.node.NodeMetadata.{NodeMetadata}
-use Rattle.zarrs_block.specs.Block.{Block, IsBlockOf, first_some, found, put}
-use Rattle.zarrs_block.specs.Without.{IsAbout, IsWithout}
+use Rattle.zarrs_block.specs.Block.{Block, IsBlockOf, first_some, node_at_key, put}
+use Rattle.zarrs_block.specs.KeysAboutAPath.{IsAbout, IsWithout}
 use Rattle.zarrs_block.specs.Meaning.{Meaning, node, nothing}
-use Rattle.zarrs_node.specs.Reached.{Kept, Reached}
+use Rattle.zarrs_node.specs.Reach.{Kept, Reached}
 use Rattle.zarrs_node.specs.Nodes.{Means}
 use Rattle.zarrs_node.specs.Forest.{Forest, pairs, Shows}
-use Rattle.zarrs_node.specs.Consolidated.{AreBelow, text_beyond, put_all}
-use Rattle.zarrs_node.specs.Fresh.{LeadsTo, Renewed, HoldsAt, IsFresh}
+use Rattle.zarrs_node.specs.BlocksOfNodes.{text_beyond}
+use Rattle.zarrs_node.specs.StepsOfBlocks.{ArePairsBelow, put_all}
+use Rattle.zarrs_node.specs.CurrentBlocks.{LeadsTo, IsNewPair, HoldsAt, IsFresh}
 use Rattle.zarrs_node.proofs.Found.{listed_each, lists_from}
 use Rattle.zarrs_node.proofs.Graft.{Contains-first, Contains-cons}
 use Rattle.zarrs_node.proofs.Order.{contains_cases}
@@ -41,11 +42,11 @@ means_one of p m n e f = ap taken (sym e ∙ f)
 module _ (of : Path → Meaning) (p : Path) where
   module _ (m : NodeMetadata) (is : of p ≡ node m) where
     -- of a path that means no group it alone is
-    pub renewed_one : (xs : List (Path × NodeMetadata)) → xs ≡ (p, m) ∷ [] → (IsTrue (is_group m) → ⊥) → Lists (Renewed of p) xs
-    renewed_one xs all other = subst (Lists (Renewed of p)) (sym all) (lists_from ((p, m) ∷ [])
+    pub renewed_one : (xs : List (Path × NodeMetadata)) → xs ≡ (p, m) ∷ [] → (IsTrue (is_group m) → ⊥) → Lists (IsNewPair of p) xs
+    renewed_one xs all other = subst (Lists (IsNewPair of p)) (sym all) (lists_from ((p, m) ∷ [])
         (λ e. (
           λ in'. ⊎_elim
-              (λ same. subst (Renewed of p) same (is, inl refl))
+              (λ same. subst (IsNewPair of p) same (is, inl refl))
               (λ rest. absurd (omega (arith, rest.1)))
               (contains_cases (p, m) [] e in'),
           λ h. ⊎_elim
@@ -56,11 +57,11 @@ module _ (of : Path → Meaning) (p : Path) where
         (λ i j d l k. absurd (omega (arith, l, k))))
 
     -- of a group it and what is reached below it are
-    pub renewed_all : (f : Forest) (xs : List (Path × NodeMetadata)) → xs ≡ (p, m) ∷ pairs f → IsTrue (is_group m) → Shows f p (Kept (Means of) true p) → Lists (Renewed of p) xs
-    renewed_all f xs all group shows = subst (Lists (Renewed of p)) (sym all) (lists_from ((p, m) ∷ pairs f)
+    pub renewed_all : (f : Forest) (xs : List (Path × NodeMetadata)) → xs ≡ (p, m) ∷ pairs f → IsTrue (is_group m) → Shows f p (Kept (Means of) true p) → Lists (IsNewPair of p) xs
+    renewed_all f xs all group shows = subst (Lists (IsNewPair of p)) (sym all) (lists_from ((p, m) ∷ pairs f)
         (λ e. (
           λ in'. ⊎_elim
-              (λ same. subst (Renewed of p) same (is, inl refl))
+              (λ same. subst (IsNewPair of p) same (is, inl refl))
               (λ rest. let w = (listed_each shows.shown e).0 rest in (w.1, inr ((m, is, group), w.0)))
               (contains_cases (p, m) (pairs f) e in'),
           λ h. ⊎_elim
@@ -85,21 +86,21 @@ first_of_three (Some m) y z = refl
 first_of_three None y z = refl
 
 -- metadata put at a text stand over what was there
-put_over : (t k : List ℕ) (m : NodeMetadata) (B : Block) → found (put k m B) t ≡ first_some (found (put k m []) t) (found B t)
+put_over : (t k : List ℕ) (m : NodeMetadata) (B : Block) → node_at_key (put k m B) t ≡ first_some (node_at_key (put k m []) t) (node_at_key B t)
 put_over t k m B = found_put t k m B ∙ by (is_eq (bytes_cmp t k))
   where
-    by : (x : Bool) → cond x (Some m) (found B t) ≡ first_some (cond x (Some m) None) (found B t)
+    by : (x : Bool) → cond x (Some m) (node_at_key B t) ≡ first_some (cond x (Some m) None) (node_at_key B t)
     by true = refl
     by false = refl
 
 -- so do pairs, one after another
-puts_over : (b : Path) (B : Block) (es : List (Path × NodeMetadata)) (t : List ℕ) → found (put_all b B es) t ≡ first_some (found (put_all b [] es) t) (found B t)
+puts_over : (b : Path) (B : Block) (es : List (Path × NodeMetadata)) (t : List ℕ) → node_at_key (put_all b B es) t ≡ first_some (node_at_key (put_all b [] es) t) (node_at_key B t)
 puts_over b B [] t = refl
 puts_over b B (e ∷ es) t =
     puts_over b (put (text_beyond b e.0) e.1 B) es t
-    ∙ ap (first_some (found (put_all b [] es) t)) (put_over t (text_beyond b e.0) e.1 B)
-    ∙ sym (first_of_three (found (put_all b [] es) t) (found (put (text_beyond b e.0) e.1 []) t) (found B t))
-    ∙ ap (λ o. first_some o (found B t)) (sym (puts_over b (put (text_beyond b e.0) e.1 []) es t))
+    ∙ ap (first_some (node_at_key (put_all b [] es) t)) (put_over t (text_beyond b e.0) e.1 B)
+    ∙ sym (first_of_three (node_at_key (put_all b [] es) t) (node_at_key (put (text_beyond b e.0) e.1 []) t) (node_at_key B t))
+    ∙ ap (λ o. first_some o (node_at_key B t)) (sym (puts_over b (put (text_beyond b e.0) e.1 []) es t))
 
 -- ---- texts about a path
 
@@ -124,11 +125,11 @@ about_of b p q n ns (x, xs, low) is at = ⊎_elim
 
 module _ (of : Path → Meaning) (b p : Path) (low : IsBelow b p) (valid : IsPath p) where
   -- what is renewed stands at p or below it
-  renewed_at : (e : Path × NodeMetadata) → Renewed of p e → (e.0 ≡ p) ⊎ IsBelow p e.0
+  renewed_at : (e : Path × NodeMetadata) → IsNewPair of p e → (e.0 ≡ p) ⊎ IsBelow p e.0
   renewed_at e h = ⊎_elim inl (λ w. inr (w.1.below.0, w.1.below.1, w.1.below.2)) h.1
 
   -- and has names beyond the base
-  renewed_names : (e : Path × NodeMetadata) → Renewed of p e → (n : List ℕ) × (ns : Path) × (e.0 ≡ b ++ n ∷ ns) × IsPath (n ∷ ns)
+  renewed_names : (e : Path × NodeMetadata) → IsNewPair of p e → (n : List ℕ) × (ns : Path) × (e.0 ≡ b ++ n ∷ ns) × IsPath (n ∷ ns)
   renewed_names e h = ⊎_elim
       (λ same. (low.0, low.1, same ∙ low.2, names_beyond b p low.0 low.1 low.2 valid))
       (λ w.
@@ -136,9 +137,9 @@ module _ (of : Path → Meaning) (b p : Path) (low : IsBelow b p) (valid : IsPat
       (low.0, low.1 ++ v.0 ∷ v.1, v.2 ∙ ap (λ x. x ++ v.0 ∷ v.1) low.2 ∙ append_assoc b (low.0 ∷ low.1) (v.0 ∷ v.1), IsPath-append (low.0 ∷ low.1) (v.0 ∷ v.1) (names_beyond b p low.0 low.1 low.2 valid) v.3))
       h.1
 
-  module _ (es : List (Path × NodeMetadata)) (lists : Lists (Renewed of p) es) where
+  module _ (es : List (Path × NodeMetadata)) (lists : Lists (IsNewPair of p) es) where
     -- its paths stand below the base
-    pub listed_below : AreBelow b es
+    pub listed_below : ArePairsBelow b es
     listed_below e in' = let w = renewed_names e ((listed_each lists e).0 in') in (w.0, w.1, w.2)
 
     -- the paths of what is renewed differ
@@ -149,7 +150,7 @@ module _ (of : Path → Meaning) (b p : Path) (low : IsBelow b p) (valid : IsPat
         lists.each_once i j d l k (λ x. (same x, means_one of (get_or es i d).0 (get_or es i d).1 (get_or es j d).1 one.0 (ap of same ∙ two.0) x))
 
     -- put into no block they are its block
-    renewed_block : IsBlockOf (Renewed of p) b (put_all b [] es)
+    renewed_block : IsBlockOf (IsNewPair of p) b (put_all b [] es)
     renewed_block t m =
         let is = latest_block b es (put_all b [] es) (λ e in'. renewed_names e ((listed_each lists e).0 in')) (λ i. put_all b [] es) in (
           λ h. let w = (is t m).0 h in (w.0, w.1, w.2, (listed_each lists (b ++ w.0 ∷ w.1, m)).0 (latest_in es (b ++ w.0 ∷ w.1, m) w.3)),
@@ -159,21 +160,21 @@ module _ (of : Path → Meaning) (b p : Path) (low : IsBelow b p) (valid : IsPat
     -- put over what is left of a block that leads to p they make it fresh
     pub fresh_led : (B old C : Block) → LeadsTo B b p → IsWithout (text_beyond b p) B old → C ≡ put_all b old es → IsFresh of b B p C
     fresh_led B old C led without puts t m = (
-      λ h. by (found (put_all b [] es) t) refl (sym over ∙ h),
+      λ h. by (node_at_key (put_all b [] es) t) refl (sym over ∙ h),
       λ h. over ∙ ⊎_elim
-          (λ kept. apart kept.0 (found (put_all b [] es) t) refl ∙ (without t m).1 kept)
-          (λ new. ap (λ o. first_some o (found old t)) ((renewed_block t m).1 new.1))
+          (λ kept. apart kept.0 (node_at_key (put_all b [] es) t) refl ∙ (without t m).1 kept)
+          (λ new. ap (λ o. first_some o (node_at_key old t)) ((renewed_block t m).1 new.1))
           h,
     )
       where
-        over : found C t ≡ first_some (found (put_all b [] es) t) (found old t)
-        over = ap (λ D. found D t) puts ∙ puts_over b old es t
+        over : node_at_key C t ≡ first_some (node_at_key (put_all b [] es) t) (node_at_key old t)
+        over = ap (λ D. node_at_key D t) puts ∙ puts_over b old es t
 
-        by : (o : Option NodeMetadata) → found (put_all b [] es) t ≡ o → first_some o (found old t) ≡ Some m → ((IsAbout (text_beyond b p) t → ⊥) × (found B t ≡ Some m)) ⊎ (LeadsTo B b p × HoldsAt (Renewed of p) b t m)
+        by : (o : Option NodeMetadata) → node_at_key (put_all b [] es) t ≡ o → first_some o (node_at_key old t) ≡ Some m → ((IsAbout (text_beyond b p) t → ⊥) × (node_at_key B t ≡ Some m)) ⊎ (LeadsTo B b p × HoldsAt (IsNewPair of p) b t m)
         by None is h = inl ((without t m).0 h)
         by (Some x) is h = inr (led, (renewed_block t m).0 (is ∙ h))
 
-        apart : (IsAbout (text_beyond b p) t → ⊥) → (o : Option NodeMetadata) → found (put_all b [] es) t ≡ o → first_some o (found old t) ≡ found old t
+        apart : (IsAbout (text_beyond b p) t → ⊥) → (o : Option NodeMetadata) → node_at_key (put_all b [] es) t ≡ o → first_some o (node_at_key old t) ≡ node_at_key old t
         apart far None is = refl
         apart far (Some x) is =
             let w = (renewed_block t x).0 is in
@@ -182,15 +183,15 @@ module _ (of : Path → Meaning) (b p : Path) (low : IsBelow b p) (valid : IsPat
   -- where a block does not lead to p, what is left of it is fresh
   pub fresh_kept : (B old C : Block) → (LeadsTo B b p → ⊥) → IsWithout (text_beyond b p) B old → C ≡ old → IsFresh of b B p C
   fresh_kept B old C other without same t m = (
-    λ h. inl ((without t m).0 (subst (λ D. found D t ≡ Some m) same h)),
-    λ h. ⊎_elim (λ kept. subst (λ D. found D t ≡ Some m) (sym same) ((without t m).1 kept)) (λ new. absurd (other new.0)) h,
+    λ h. inl ((without t m).0 (subst (λ D. node_at_key D t ≡ Some m) same h)),
+    λ h. ⊎_elim (λ kept. subst (λ D. node_at_key D t ≡ Some m) (sym same) ((without t m).1 kept)) (λ new. absurd (other new.0)) h,
   )
 
 -- ---- pairs put into a block one after another
 
 -- the pairs that are left, put into the block, make what all make of it, and they stand below the base
 abbrev pub IsInserting : Path → Block → List (Path × NodeMetadata) → Block → Type 0
-IsInserting b now left whole = (put_all b now left ≡ whole) × AreBelow b left
+IsInserting b now left whole = (put_all b now left ≡ whole) × ArePairsBelow b left
 
 -- the first of them stands below the base
 pub insert_low : (b : Path) (now whole : Block) (left es : List (Path × NodeMetadata)) (e : Path × NodeMetadata) → left ≡ e ∷ es → IsInserting b now left whole → IsBelow b e.0
@@ -209,9 +210,9 @@ pub insert_end : (b : Path) (now whole : Block) (left : List (Path × NodeMetada
 insert_end b now whole left is h = ap (put_all b now) (sym is) ∙ h.0
 
 -- at first all are left
-pub insert_start : (b : Path) (now : Block) (left all : List (Path × NodeMetadata)) → left ≡ all → AreBelow b all → IsInserting b now left (put_all b now all)
+pub insert_start : (b : Path) (now : Block) (left all : List (Path × NodeMetadata)) → left ≡ all → ArePairsBelow b all → IsInserting b now left (put_all b now all)
 insert_start b now left all is below = (ap (put_all b now) is, λ e in'. below e (subst (λ l. Contains l e) is in'))
 
 -- none stand below the base
-pub none_below : (b : Path) (es : List (Path × NodeMetadata)) → es ≡ [] → AreBelow b es
+pub none_below : (b : Path) (es : List (Path × NodeMetadata)) → es ≡ [] → ArePairsBelow b es
 none_below b es is e in' = let empty = subst (λ l. Contains l e) is in' in absurd (omega (arith, empty.1))

@@ -5,7 +5,8 @@ use Rattle.zarrs_path.specs.Paths.{Path, path_cmp}
 use Rattle.zarrs_meta.specs.declared.node.NodeMetadata.{NodeMetadata}
 use Rattle.zarrs_meta.specs.declared.node.NodeMetadata.TheVariants.{Group, Array}
 use Rattle.zarrs_meta.specs.Node.{is_group}
-use Rattle.zarrs_node.specs.Forest.{Forest, none, tree, pairs, IsBefore, IsPlaced, MayHold, IsChildOf, graft}
+use Rattle.zarrs_node.specs.Forest.{Forest, none, tree, pairs, IsBefore, IsPlaced, MayHold, IsChildOf}
+use Rattle.zarrs_node.specs.StepsOfTrees.{graft}
 use Rattle.zarrs_node.proofs.Graft.{pairs-graft, placed_graft, Contains-first, Contains-cons}
 use Rattle.zarrs_node.proofs.Order.{contains_cases, Begins, all_below, all_after, deeper, later_less}
 use Rattle.zarrs_node.proofs.Grow.{holds_none, holds_group}

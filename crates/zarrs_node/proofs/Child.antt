@@ -9,8 +9,8 @@ use Rattle.zarrs_store.specs.Contents.{Contents}
 use Rattle.zarrs_meta.specs.declared.node.NodeMetadata.{NodeMetadata}
 use Rattle.zarrs_config.specs.declared.version.MetadataRetrieveVersion.{MetadataRetrieveVersion}
 use Rattle.zarrs_block.specs.Meaning.{Meaning, meaning, node, nothing, bad}
-use Rattle.zarrs_node.specs.Reached.{Opens}
-use Rattle.zarrs_node.specs.Nodes.{Meant}
+use Rattle.zarrs_node.specs.Reach.{Opens}
+use Rattle.zarrs_node.specs.Nodes.{MeansNode}
 
 -- which of the three a meaning is
 abbrev pub IsNode : Meaning → Type 0
@@ -39,7 +39,7 @@ pub contains_one : {A : Type 0} (x y : A) → Contains (x ∷ []) y → x ≡ y
 contains_one x y h = ⊎_elim (λ in'. absurd (omega (arith, in'.1))) (λ e. e) (Contains-push_cases [] x y h)
 
 -- what means nothing is not listed
-pub not_open : (s : Contents) (v : MetadataRetrieveVersion) (r : Bool) (c : Path) → meaning s v c ≡ nothing → Opens (Meant s v) r c → ⊥
+pub not_open : (s : Contents) (v : MetadataRetrieveVersion) (r : Bool) (c : Path) → meaning s v c ≡ nothing → Opens (MeansNode s v) r c → ⊥
 not_open s v r c is o = subst IsNode (sym o.1.1 ∙ is) tt
 
 -- periods only do not begin with `__`

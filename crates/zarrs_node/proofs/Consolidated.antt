@@ -6,9 +6,10 @@ use Rattle.zarrs_meta.specs.declared.node.NodeMetadata.{NodeMetadata}
 use Rattle.zarrs_block.specs.Block.{Block, IsAscending, IsBlockOf, put}
 use Rattle.zarrs_node.specs.declared.node.Node.{Node}
 use Rattle.zarrs_node.specs.Forest.{Forest, none, tree, pairs, path_of, metadata_of, ArePlacedBelow}
-use Rattle.zarrs_node.specs.Stops.{Stop, stops, stop_of}
-use Rattle.zarrs_node.specs.Latest.{IsLatest}
-use Rattle.zarrs_node.specs.Consolidated.{AreBelow, ArePaths, text_beyond, put_all}
+use Rattle.zarrs_node.specs.StepsOfPreorder.{Stop, stops, stop_of}
+use Rattle.zarrs_node.specs.LastOfEqualPaths.{IsLatest}
+use Rattle.zarrs_node.specs.BlocksOfNodes.{text_beyond}
+use Rattle.zarrs_node.specs.StepsOfBlocks.{ArePairsBelow, ArePaths, put_all}
 use Rattle.zarrs_node.proofs.Graft.{Contains-first, Contains-cons}
 use Rattle.zarrs_node.proofs.Order.{contains_cases}
 use Rattle.zarrs_node.proofs.Stops.{pairs_at, pairs_stops}
@@ -21,7 +22,7 @@ below_child : (b p q : Path) (n : List ℕ) → p ≡ b ++ n ∷ [] → IsBelow 
 below_child b p q n child (k, ks, is) = (n, k ∷ ks, is ∙ ap (λ x. x ++ k ∷ ks) child ∙ append_assoc b (n ∷ []) (k ∷ ks))
 
 -- in a forest that is placed below b each path is below b
-pub placed_below : (b : Path) (f : Forest) → ArePlacedBelow b f → AreBelow b (pairs f)
+pub placed_below : (b : Path) (f : Forest) → ArePlacedBelow b f → ArePairsBelow b (pairs f)
 placed_below b none h e in' = absurd (omega (arith, in'.1))
 placed_below b (tree p m below after) h e in' = ⊎_elim
     (λ same. (h.0.0, [], ap (λ d. d.0) (sym same) ∙ h.0.1))
@@ -33,27 +34,27 @@ placed_below b (tree p m below after) h e in' = ⊎_elim
 
 -- a loop over the nodes ss that are ahead of a walk: they stand below b, they make with the block now what the pairs es make of the old one, and those have names only where these do
 pub record PutsAhead (b : Path) (old now : Block) (es : List (Path × NodeMetadata)) (ss : List Stop) : Type 0 where
-  pub below : AreBelow b (pairs_at ss)
+  pub below : ArePairsBelow b (pairs_at ss)
   pub puts : put_all b now (pairs_at ss) ≡ put_all b old es
   pub valid : ArePaths (pairs_at ss) → ArePaths es
 
 module _ (b : Path) where
   -- where all nodes of a forest are ahead
-  pub puts_start : (old : Block) (f : Forest) (ss : List Stop) → ss ≡ stops 1 f → AreBelow b (pairs f) → PutsAhead b old old (pairs f) ss
+  pub puts_start : (old : Block) (f : Forest) (ss : List Stop) → ss ≡ stops 1 f → ArePairsBelow b (pairs f) → PutsAhead b old old (pairs f) ss
   puts_start old f ss all below =
       let same : pairs_at ss ≡ pairs f = ap pairs_at all ∙ pairs_stops 1 f in
-      record { below = subst (AreBelow b) (sym same) below; puts = ap (put_all b old) same; valid = subst ArePaths same }
+      record { below = subst (ArePairsBelow b) (sym same) below; puts = ap (put_all b old) same; valid = subst ArePaths same }
 
   module _ {old now : Block} {es : List (Path × NodeMetadata)} {ss : List Stop} (h : PutsAhead b old now es ss) where
     -- the next node is below b
     pub puts_low : (level : ℕ) (n : Node) (later : List Stop) → ss ≡ stop_of level n ∷ later → IsBelow b (path_of n)
-    puts_low level n later e = subst (λ l. AreBelow b (pairs_at l)) e h.below (path_of n, metadata_of n) (Contains-first (path_of n, metadata_of n) (pairs_at later))
+    puts_low level n later e = subst (λ l. ArePairsBelow b (pairs_at l)) e h.below (path_of n, metadata_of n) (Contains-first (path_of n, metadata_of n) (pairs_at later))
 
     -- the next node is put into the block
     pub puts_turn : (level : ℕ) (n : Node) (later : List Stop) (new : Block) (k : List ℕ) (m : NodeMetadata) → ss ≡ stop_of level n ∷ later → IsPath (path_of n) → k ≡ text_beyond b (path_of n) → m ≡ metadata_of n
         → new ≡ put k m now → PutsAhead b old new es later
     puts_turn level n later new k m e own key same put_is = record {
-      below = λ d in'. subst (λ l. AreBelow b (pairs_at l)) e h.below d (Contains-cons (path_of n, metadata_of n) (pairs_at later) d in');
+      below = λ d in'. subst (λ l. ArePairsBelow b (pairs_at l)) e h.below d (Contains-cons (path_of n, metadata_of n) (pairs_at later) d in');
       puts = ap (λ B. put_all b B (pairs_at later)) (put_is ∙ (λ j. put (key j) (same j) now)) ∙ ap (λ l. put_all b now (pairs_at l)) (sym e) ∙ h.puts;
       valid = λ rest. h.valid (subst (λ l. ArePaths (pairs_at l)) (sym e)
           (λ d in'. ⊎_elim (λ is. subst IsPath (ap (λ x. x.0) is) own) (λ l. rest d l) (contains_cases (path_of n, metadata_of n) (pairs_at later) d in')));

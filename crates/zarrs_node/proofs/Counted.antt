@@ -6,10 +6,10 @@ use Rattle.std.proofs.lemmas.List.{length-map}
 use Rattle.zarrs_path.specs.Paths.{Path, path_cmp, path_eq}
 use Rattle.zarrs_path.specs.PathOrder.{path_decides}
 use Rattle.zarrs_node.specs.Forest.{Forest, pairs, Shows}
-use Rattle.zarrs_node.specs.Reached.{Kept}
+use Rattle.zarrs_node.specs.Reach.{Kept}
 use Rattle.zarrs_node.proofs.Unique.{Pair}
 use Rattle.zarrs_node.proofs.Kept.{kept_same}
-use Rattle.zarrs_node.specs.Latest.{IsLatest, groups, CountsSteps}
+use Rattle.zarrs_node.specs.LastOfEqualPaths.{IsLatest, groups, CountsSteps}
 use Rattle.zarrs_node.specs.Order.{Ascend}
 use Rattle.zarrs_node.proofs.Graft.{Contains-first, Contains-cons}
 use Rattle.zarrs_node.proofs.Found.{all_pairs_append, all_pairs_tail, all_pairs_first, listed_each, lists_from}

@@ -24,14 +24,14 @@ use Rattle.zarrs_meta.specs.Attributes.{attributes_of}
 use Rattle.zarrs_meta.specs.Node.{zarr_json_of, array_with, group_with}
 use Rattle.zarrs_form.specs.Documents.{of_bytes}
 use Rattle.zarrs_block.specs.Block.{Block, Entries, IsBlockOf}
-use Rattle.zarrs_block.specs.Without.{IsAbout}
+use Rattle.zarrs_block.specs.KeysAboutAPath.{IsAbout}
 use Rattle.zarrs_block.proofs.KeyLaws.{one_text, text_bare}
 use Rattle.zarrs_block.specs.Meaning.{in_bytes, Meaning, meaning, nothing, document_from, document_at, version_2_line, version_3_line, zarr_json_line, zarray_line, zgroup_line}
-use Rattle.zarrs_node.specs.Reached.{HasGroup, Kept, Reached}
+use Rattle.zarrs_node.specs.Reach.{HasGroup, Kept, Reached}
 use Rattle.zarrs_node.specs.Nodes.{Means, Nodes}
 use Rattle.zarrs_node.specs.Forest.{Forest, pairs, Shows}
-use Rattle.zarrs_node.specs.Consolidated.{text_beyond}
-use Rattle.zarrs_node.specs.Fresh.{LeadsTo, Renewed, IsFresh}
+use Rattle.zarrs_node.specs.BlocksOfNodes.{text_beyond}
+use Rattle.zarrs_node.specs.CurrentBlocks.{LeadsTo, IsNewPair, IsFresh}
 use Rattle.zarrs_node.specs.Changes.{document_files, AgreesOutside, last_of, FreshIsBlock, RefreshedIsBlock, RefreshedIsOpened}
 use Rattle.zarrs_node.proofs.Meanings.{default_is, v3_is, v2_is}
 use Rattle.zarrs_node.proofs.Found.{listed_each}
@@ -261,14 +261,14 @@ module _ (from to : Path → Meaning) (b p : Path) (low : IsBelow b p) (valid : 
       (IsPath-parts (low.0 ∷ low.1) (deep.0 ∷ deep.1) (subst IsPath cut h.below.3)).1
 
   -- what is renewed is kept
-  renewed_kept : LeadsTo B b p → (e : Path × NodeMetadata) → Renewed to p e → Kept (Means to) true b e
+  renewed_kept : LeadsTo B b p → (e : Path × NodeMetadata) → IsNewPair to p e → Kept (Means to) true b e
   renewed_kept led e new = (
     ⊎_elim (λ eq. subst (Reached (Means to) true b) (sym eq) (led_reached led)) (λ w. reached_further (Means to) b p e.0 (led_reached led) w.0 w.1) new.1,
     new.0,
   )
 
   -- and what is kept at p or below it is renewed
-  kept_renewed : (e : Path × NodeMetadata) → AtOrBelow p e.0 → Kept (Means to) true b e → Renewed to p e
+  kept_renewed : (e : Path × NodeMetadata) → AtOrBelow p e.0 → Kept (Means to) true b e → IsNewPair to p e
   kept_renewed e at h = (
     h.1,
     ⊎_elim inl (λ deep. inr ((h.0.between p low deep).1, reached_from (Means to) b p e.0 h.0 low deep (deep_names e.0 h.0 deep))) at,

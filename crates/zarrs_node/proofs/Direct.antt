@@ -8,12 +8,13 @@ use Rattle.zarrs_path.specs.Paths.{Path, IsPath, path_cmp, path_eq}
 use Rattle.zarrs_path.specs.PathOrder.{path_decides, path_total}
 use Rattle.zarrs_path.proofs.PathTexts.{IsPath-parts}
 use Rattle.zarrs_meta.specs.declared.node.NodeMetadata.{NodeMetadata}
-use Rattle.zarrs_block.specs.Expanded.{HaveOwnPaths}
+use Rattle.zarrs_block.specs.BlockExpansion.{HaveOwnPaths}
 use Rattle.zarrs_node.specs.declared.node.Node.{Node}
-use Rattle.zarrs_node.specs.Forest.{Forest, none, tree, forest, pairs, graft, IsBefore, IsPlaced, IsChildOf, Shows}
-use Rattle.zarrs_node.specs.Reached.{Reached, Kept}
+use Rattle.zarrs_node.specs.Forest.{Forest, none, tree, forest, pairs, IsBefore, IsPlaced, IsChildOf, Shows}
+use Rattle.zarrs_node.specs.StepsOfTrees.{graft}
+use Rattle.zarrs_node.specs.Reach.{Reached, Kept}
 use Rattle.zarrs_node.specs.Order.{Ascend}
-use Rattle.zarrs_node.specs.Latest.{row, StandBelow, AreChildrenOf}
+use Rattle.zarrs_node.specs.LastOfEqualPaths.{row, StandBelow, AreChildrenOf}
 use Rattle.zarrs_node.proofs.Unique.{Pair}
 use Rattle.zarrs_node.proofs.Graft.{Contains-first, Contains-cons}
 use Rattle.zarrs_node.proofs.Found.{all_pairs_append, all_pairs_tail, all_pairs_first, lists_from}

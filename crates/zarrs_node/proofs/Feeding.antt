@@ -9,11 +9,12 @@ use Rattle.zarrs_store.specs.Children.{AreVisibleChildren}
 use Rattle.zarrs_meta.specs.declared.node.NodeMetadata.{NodeMetadata}
 use Rattle.zarrs_config.specs.declared.version.MetadataRetrieveVersion.{MetadataRetrieveVersion}
 use Rattle.zarrs_block.specs.Meaning.{meaning}
-use Rattle.zarrs_node.specs.Refused.{Finds}
-use Rattle.zarrs_node.specs.Forest.{Forest, pairs, told, passed, found_group, Shows, ShowsPaths}
+use Rattle.zarrs_node.specs.StepsOfDocuments.{Finds}
+use Rattle.zarrs_node.specs.Forest.{Forest, pairs, Shows, ShowsPaths}
+use Rattle.zarrs_node.specs.StepsOfTrees.{own_node, paths_passed, is_group_found}
 use Rattle.zarrs_node.specs.Nodes.{Nodes, Ignored, Bad}
 use Rattle.zarrs_node.specs.Order.{Ascend}
-use Rattle.zarrs_node.specs.Reached.{Kept}
+use Rattle.zarrs_node.specs.Reach.{Kept}
 use Rattle.zarrs_node.specs.Sinks.{TakesAll, TakesForest, KeepsPath, KeepsPair}
 use Rattle.zarrs_node.proofs.Counted.{shows_same}
 use Rattle.zarrs_node.proofs.Found.{listed_each}
@@ -70,21 +71,21 @@ module _ {K : Type 0} (R : K → Pair → K → Type 0) (s : Contents) (v : Meta
   fed_clean z ig ps e h = has_clean s v r b h.nodes ig ps e h.walked
 
   module _ (c : Path) (can_fail : Bool) (z : K) (ig ps : List Path) (h : HasFed R s v r b a z ig (ps ++ c ∷ [])) (valid : IsPath c) (o : Option NodeMetadata) (means : Finds can_fail (Ok o) (meaning s v c))
-      (w : K) (jg : List Path) (step : TakesAll R z (told c o) w) (more : jg ≡ ig ++ passed c o []) where
+      (w : K) (jg : List Path) (step : TakesAll R z (own_node c o) w) (more : jg ≡ ig ++ paths_passed c o []) where
     -- a turn where the walk does not go on below
-    pub fed_alone : (r ≡ true → true ≡ found_group o → ⊥) → HasFed R s v r b a w jg ps
+    pub fed_alone : (r ≡ true → true ≡ is_group_found o → ⊥) → HasFed R s v r b a w jg ps
     fed_alone closed = record {
-      nodes = h.nodes ++ told c o;
-      took = took_more R a h.nodes z (told c o) w h.took step;
-      walked = turn_alone s v r b c can_fail h.nodes ig ps (h.nodes ++ told c o) jg h.walked valid o means closed refl more;
+      nodes = h.nodes ++ own_node c o;
+      took = took_more R a h.nodes z (own_node c o) w h.took step;
+      walked = turn_alone s v r b c can_fail h.nodes ig ps (h.nodes ++ own_node c o) jg h.walked valid o means closed refl more;
     }
 
     -- a turn where it does
-    pub fed_deeper : r ≡ true → true ≡ found_group o → (cs : List Segments) → AreVisibleChildren s c cs → (qs : List Path) → qs ≡ ps ++ reverse cs → HasFed R s v r b a w jg qs
+    pub fed_deeper : r ≡ true → true ≡ is_group_found o → (cs : List Segments) → AreVisibleChildren s c cs → (qs : List Path) → qs ≡ ps ++ reverse cs → HasFed R s v r b a w jg qs
     fed_deeper deep group cs children qs g = record {
-      nodes = h.nodes ++ told c o;
-      took = took_more R a h.nodes z (told c o) w h.took step;
-      walked = turn_deeper s v r b c can_fail h.nodes ig ps (h.nodes ++ told c o) jg h.walked valid o means deep group cs children qs g refl more;
+      nodes = h.nodes ++ own_node c o;
+      took = took_more R a h.nodes z (own_node c o) w h.took step;
+      walked = turn_deeper s v r b c can_fail h.nodes ig ps (h.nodes ++ own_node c o) jg h.walked valid o means deep group cs children qs g refl more;
     }
 
 -- ---- what the sinks have

@@ -11,7 +11,8 @@ use Rattle.zarrs_node.specs.declared.node.Node.{Node}
 use Rattle.zarrs_node.specs.declared.node.Node.TheOpen.{Node-F}
 use Rattle.zarrs_node.specs.declared.node.Node.TheViews.{out-Node, roll-Node}
 use Rattle.zarrs_node.specs.declared.node.Node.TheFolds.{fold-roll-Node, fold_out-Node}
-use Rattle.zarrs_node.specs.Forest.{graft, Forest, none, tree, pairs, IsBefore, IsPlaced, plant_step, plant, forest}
+use Rattle.zarrs_node.specs.Forest.{Forest, none, tree, pairs, IsBefore, IsPlaced, plant_step, plant, forest}
+use Rattle.zarrs_node.specs.StepsOfTrees.{graft}
 
 -- the pairs of two forests in a row are those of the first and then those of the second
 pub pairs-graft : (f g : Forest) → pairs (graft f g) ≡ pairs f ++ pairs g

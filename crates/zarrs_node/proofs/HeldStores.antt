@@ -7,11 +7,11 @@ use Rattle.zarrs_store.specs.Contents.{Contents}
 use Rattle.zarrs_fault.specs.declared.fault.MetadataFault.{MetadataFault}
 use Rattle.zarrs_path.specs.Keys.{zmetadata}
 use Rattle.zarrs_path.specs.Paths.{Path}
-use Rattle.zarrs_form.specs.Documents.{◌>>=◌, json_of, of_bytes, parsed}
+use Rattle.zarrs_form.specs.Documents.{◌>>=◌, json_of, of_bytes, tree_or_fault}
 use Rattle.zarrs_block.specs.Block.{Block}
 use Rattle.zarrs_block.specs.Zmetadata.{zmetadata_of}
 use Rattle.zarrs_block.proofs.SmallBlocks.{store_law}
-use Rattle.zarrs_node.specs.Below.{zmetadata_at, HoldsZmetadata}
+use Rattle.zarrs_node.specs.BlocksBelow.{zmetadata_at, HoldsZmetadata}
 
 -- a reading that gives a block is one of it
 gives_it : (r : Result Block MetadataFault) (B : Block) → result_ok r ≡ Some B → r ≡ Ok B
@@ -22,7 +22,7 @@ gives_it (Err fault) B e = cc
 pub holds_zmetadata : (s : Contents) (b : Path) (B : Block) → zmetadata_at s b ≡ Some B → HoldsZmetadata s b B
 holds_zmetadata s b B e = at (get s (b ++ zmetadata ∷ [])) refl e
   where
-    by_tree : (bytes : List ℕ) → get s (b ++ zmetadata ∷ []) ≡ Some bytes → (o : Option Data) → json_of bytes ≡ o → result_ok (parsed o >>= zmetadata_of) ≡ Some B → HoldsZmetadata s b B
+    by_tree : (bytes : List ℕ) → get s (b ++ zmetadata ∷ []) ≡ Some bytes → (o : Option Data) → json_of bytes ≡ o → result_ok (tree_or_fault o >>= zmetadata_of) ≡ Some B → HoldsZmetadata s b B
     by_tree bytes there None text e = cc
     by_tree bytes there (Some d) text e =
         let law = store_law d B (gives_it (zmetadata_of d) B e) in

@@ -9,10 +9,10 @@ use Rattle.zarrs_node.specs.declared.node.Node.{Node}
 use Rattle.zarrs_meta.specs.Node.{is_group}
 use Rattle.zarrs_node.specs.Forest.{none, tree, pairs, forest, IsPlaced, IsChildOf, Shows}
 use Rattle.zarrs_node.specs.Order.{Ascend}
-use Rattle.zarrs_node.specs.Reached.{Kept}
+use Rattle.zarrs_node.specs.Reach.{Kept}
 use Rattle.zarrs_node.proofs.Unique.{Pair}
-use Rattle.zarrs_node.specs.Pass.{stem_of, top, whole, with_tree, heads, opened_by, IsClosedTo, IsTaken}
-use Rattle.zarrs_node.specs.Latest.{groups}
+use Rattle.zarrs_node.specs.StepsOfTrees.{stem_of, top, whole, with_tree, heads, opened_by, IsClosedTo, IsTaken}
+use Rattle.zarrs_node.specs.LastOfEqualPaths.{groups}
 use Rattle.zarrs_node.proofs.Graft.{Contains-first, Contains-cons}
 use Rattle.zarrs_node.proofs.Found.{all_pairs_tail, all_pairs_first, lists_from}
 use Rattle.zarrs_node.proofs.Order.{contains_cases, pairs_ascend}

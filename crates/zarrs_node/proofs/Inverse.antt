@@ -8,11 +8,11 @@ use Rattle.zarrs_store.specs.Segments.{key_text}
 use Rattle.zarrs_path.specs.Paths.{Path, IsPath}
 use Rattle.zarrs_meta.specs.Node.{is_plain_node}
 use Rattle.zarrs_meta.specs.declared.node.NodeMetadata.{NodeMetadata}
-use Rattle.zarrs_block.specs.Block.{Block, Entries, HasValidKeys, IsAscending, IsBlockOf, IsValidKey, block_of, block_tree, entry, first_some, found}
+use Rattle.zarrs_block.specs.Block.{Block, Entries, HasValidKeys, IsAscending, IsBlockOf, IsValidKey, block_of, block_tree, entry, first_some, node_at_key}
 use Rattle.zarrs_block.proofs.BlockReads.{block_again}
 use Rattle.zarrs_block.proofs.Expansion.{found_all}
 use Rattle.zarrs_node.specs.Forest.{Forest, pairs, IsPlaced}
-use Rattle.zarrs_node.specs.Reached.{Closed, Kept}
+use Rattle.zarrs_node.specs.Reach.{Closed, Kept}
 use Rattle.zarrs_node.specs.Inverse.{HasNames, BlockGivesBack, ListingGivesBack}
 use Rattle.zarrs_node.proofs.Found.{listed_each}
 use Rattle.zarrs_node.proofs.Kept.{kept_same, placed_between}
@@ -20,16 +20,16 @@ use Rattle.zarrs_node.proofs.Unique.{one_forest}
 use Rattle.zarrs_block.proofs.KeyLaws.{one_text, slash_apart}
 
 -- what the two keys of a path have
-entry_cases : (B : Block) (ns : Path) (m : NodeMetadata) → entry B ns ≡ Some m → (found B (key_text ns) ≡ Some m) ⊎ (found B (47 ∷ key_text ns) ≡ Some m)
-entry_cases B ns m e = elim (found B (key_text ns)) as (λ o. found B (key_text ns) ≡ o → first_some o (found B (47 ∷ key_text ns)) ≡ Some m
-    → (found B (key_text ns) ≡ Some m) ⊎ (found B (47 ∷ key_text ns) ≡ Some m)) [
+entry_cases : (B : Block) (ns : Path) (m : NodeMetadata) → entry B ns ≡ Some m → (node_at_key B (key_text ns) ≡ Some m) ⊎ (node_at_key B (47 ∷ key_text ns) ≡ Some m)
+entry_cases B ns m e = elim (node_at_key B (key_text ns)) as (λ o. node_at_key B (key_text ns) ≡ o → first_some o (node_at_key B (47 ∷ key_text ns)) ≡ Some m
+    → (node_at_key B (key_text ns) ≡ Some m) ⊎ (node_at_key B (47 ∷ key_text ns) ≡ Some m)) [
       | Some k ↦ λ is h. inl (is ∙ h)
       | None ↦ λ is h. inr h
     ] refl e
 
 -- what stands at the key without a slash is the entry
-entry_plain : (B : Block) (ns : Path) (m : NodeMetadata) → found B (key_text ns) ≡ Some m → entry B ns ≡ Some m
-entry_plain B ns m e = ap (λ o. first_some o (found B (47 ∷ key_text ns))) e
+entry_plain : (B : Block) (ns : Path) (m : NodeMetadata) → node_at_key B (key_text ns) ≡ Some m → entry B ns ≡ Some m
+entry_plain B ns m e = ap (λ o. first_some o (node_at_key B (47 ∷ key_text ns))) e
 
 module _ (N : Path × NodeMetadata → Type 0) (b : Path) (B : Block) (names : (e : Path × NodeMetadata) → N e → (n : List ℕ) × (ns : Path) × (e.0 ≡ b ++ n ∷ ns) × IsPath (n ∷ ns)) (is : IsBlockOf N b B) where
   -- the names of a pair beyond b are those that its key holds
@@ -57,13 +57,13 @@ module _ (N : Path × NodeMetadata → Type 0) (b : Path) (B : Block) (names : (
 
   -- each key is the text of names
   pub keys_valid : HasValidKeys B
-  keys_valid t some = elim (found B t) as (λ o. found B t ≡ o → IsSome o → IsValidKey t) [
+  keys_valid t some = elim (node_at_key B t) as (λ o. node_at_key B t ≡ o → IsSome o → IsValidKey t) [
     | Some m ↦ λ at _. let w = (is t m).0 at in (w.0 ∷ w.1, own_names w.0 w.1 m w.3, inl w.2)
     | None ↦ λ at none. absurd (true≢false (sym none))
   ] refl some
 
   -- each node of the block is that of a pair
-  nodes_plain : ((e : Path × NodeMetadata) → N e → IsTrue (is_plain_node e.1)) → (es : Block) → AllByRecursion (λ e. found B e.0 ≡ Some e.1) es → All (λ e. IsTrue (is_plain_node e.1)) es
+  nodes_plain : ((e : Path × NodeMetadata) → N e → IsTrue (is_plain_node e.1)) → (es : Block) → AllByRecursion (λ e. node_at_key B e.0 ≡ Some e.1) es → All (λ e. IsTrue (is_plain_node e.1)) es
   nodes_plain plain [] at = All-nil (λ e. IsTrue (is_plain_node e.1))
   nodes_plain plain (e ∷ es) at =
       let w = (is e.0 e.1).0 at.0 in

@@ -11,10 +11,10 @@ use Rattle.zarrs_path.specs.PathOrder.{path_total}
 use Rattle.zarrs_store.specs.Segments.{bytes_cmp}
 use Rattle.zarrs_meta.specs.Node.{is_group}
 use Rattle.zarrs_node.specs.Forest.{IsChildOf}
-use Rattle.zarrs_node.specs.Reached.{HasGroup, Kept}
+use Rattle.zarrs_node.specs.Reach.{HasGroup, Kept}
 use Rattle.zarrs_path.proofs.PathTexts.{IsPath-parts}
 use Rattle.zarrs_node.proofs.Unique.{Pair}
-use Rattle.zarrs_node.specs.Pass.{top}
+use Rattle.zarrs_node.specs.StepsOfTrees.{top}
 use Rattle.zarrs_node.proofs.Found.{all_pairs_tail, all_pairs_first}
 use Rattle.zarrs_node.proofs.Graft.{Contains-first, Contains-cons, path_cmp-append}
 use Rattle.zarrs_node.proofs.Order.{contains_cases}

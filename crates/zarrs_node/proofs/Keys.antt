@@ -8,7 +8,7 @@ use Rattle.zarrs_config.specs.declared.version.MetadataRetrieveVersion.{Metadata
 use Rattle.zarrs_config.specs.declared.version.MetadataRetrieveVersion.TheVariants.{Default, V3, V2}
 use Rattle.zarrs_block.specs.Meaning.{in_bytes, Meaning, meaning, nothing, attributes_at, zarr_json_line, zarray_line, zgroup_line}
 use Rattle.zarrs_node.proofs.Meanings.{document_none, zarr_json_line_is, zarray_line_is, zgroup_line_is, default_is, v3_is, v2_is}
-use Rattle.zarrs_node.specs.Nodes.{Meant}
+use Rattle.zarrs_node.specs.Nodes.{MeansNode}
 use Rattle.zarrs_node.proofs.Reach.{Through}
 
 -- a line says nothing of a path with no key below it
@@ -38,7 +38,7 @@ means_or_nothing s V3 p = ⊎_elim inl (λ one. inr (v3_is s p ∙ one nothing))
 means_or_nothing s V2 p = ⊎_elim inl (λ rest. inr (v2_is s p ∙ rest)) (skips_23 s p)
 
 -- a key below p is below c too
-pub below_through : (s : Contents) (v : MetadataRetrieveVersion) (r : Bool) (c p : Path) → Through (Meant s v) r c p → HasBelow s p → HasBelow s c
+pub below_through : (s : Contents) (v : MetadataRetrieveVersion) (r : Bool) (c p : Path) → Through (MeansNode s v) r c p → HasBelow s p → HasBelow s c
 below_through s v r c p t (n, ns, there) = elim t as (λ _. HasBelow s c) [
   | inl e ↦ (n, ns, subst (λ x. HasKey s (x ++ n ∷ ns)) e there)
   | inr (open', h) ↦ (h.below.0, h.below.1 ++ n ∷ ns, subst (λ k. HasKey s k) (ap (λ x. x ++ n ∷ ns) h.below.2 ∙ append_assoc c (h.below.0 ∷ h.below.1) (n ∷ ns)) there)

@@ -7,7 +7,7 @@ use Rattle.std.proofs.lemmas.List.{append_cancel_left}
 use Rattle.std.proofs.Math.Seq.{take-append_seam}
 use Rattle.zarrs_store.specs.Segments.{is_nonempty, has_no_slash, last_segment, segments_of}
 use Rattle.zarrs_store.proofs.ChildLemmas.{last_segment-child}
-use Rattle.zarrs_path.specs.Paths.{Path, IsPath, path_text, slashed}
+use Rattle.zarrs_path.specs.Paths.{Path, IsPath, path_text, names_text}
 use Rattle.zarrs_path.proofs.PathTexts.{IsCutAt, cut_last, slashed-append, segments_of-slashed, segments_from_names, IsPath-parts}
 use Rattle.zarrs_path.proofs.NameLemmas.{name_head, name_tail, name_nonempty}
 use Rattle.zarrs_path.specs.Names.{is_node_name}
@@ -29,13 +29,13 @@ last_of [] (x ∷ front) last h t =
     absurd (omega (arith, long, more))
 last_of (n ∷ p) front last h t =
     let at : IsCutAt (n ∷ p) front = cut_last (n ∷ p) front last h (λ e. cc) t.cut t.clean in
-    let one : slashed (at.name ∷ []) ≡ 47 ∷ at.name = ap (λ t. 47 ∷ t) (append-nil at.name) in
+    let one : names_text (at.name ∷ []) ≡ 47 ∷ at.name = ap (λ t. 47 ∷ t) (append-nil at.name) in
     let both : front ++ 47 ∷ last ≡ front ++ 47 ∷ at.name =
-    sym t.cut ∙ ap slashed at.whole ∙ slashed-append at.upper (at.name ∷ []) ∙ ap (λ t. t ++ slashed (at.name ∷ [])) at.text ∙ ap (λ t. front ++ t) one in
+    sym t.cut ∙ ap names_text at.whole ∙ slashed-append at.upper (at.name ∷ []) ∙ ap (λ t. t ++ names_text (at.name ∷ [])) at.text ∙ ap (λ t. front ++ t) one in
     ap (drop 1) (append_cancel_left front (47 ∷ last) (47 ∷ at.name) both) ∙ sym (last_segment-child at.upper at.name) ∙ ap last_segment (sym at.whole)
 
 -- where the names before the last slash are those of the base, the path is the base and one name
-pub child_is : (b p : Path) (front last : List ℕ) → IsPath b → IsPath p → IsCutText (path_text p) front last → last ≢ [] → front ≡ slashed b → IsChildOf b p
+pub child_is : (b p : Path) (front last : List ℕ) → IsPath b → IsPath p → IsCutText (path_text p) front last → last ≢ [] → front ≡ names_text b → IsChildOf b p
 child_is b [] front last hb h t some e = absurd (some (last_of [] front last h t))
 child_is b (n ∷ p) front last hb h t some e =
     let at : IsCutAt (n ∷ p) front = cut_last (n ∷ p) front last h (λ e. cc) t.cut t.clean in
@@ -52,7 +52,7 @@ front_same b c n m e =
     sym (take-append_seam b (n ∷ [])) ∙ ap (take (length b)) e ∙ ap (λ k. take k (c ++ m ∷ [])) same ∙ take-append_seam c (m ∷ [])
 
 -- a path that is the base and one name has the base's names before its last slash, and a name behind it
-pub from_child : (b p : Path) (front last : List ℕ) → IsPath p → IsCutText (path_text p) front last → IsChildOf b p → (last ≢ []) × (front ≡ slashed b)
+pub from_child : (b p : Path) (front last : List ℕ) → IsPath p → IsCutText (path_text p) front last → IsChildOf b p → (last ≢ []) × (front ≡ names_text b)
 from_child b [] front last h t (n, e) =
     let long = ap length e in
     let more = length-append b (n ∷ []) in
@@ -63,7 +63,7 @@ from_child b (k ∷ p) front last h t (n, e) =
     let name = name_nonempty n (name_head n [] (IsPath-parts b (n ∷ []) (subst IsPath e h)).1) in
     let last_is : last ≡ n = last_of (k ∷ p) front last h t ∙ ap last_segment e ∙ last_segment-child b n in (
       λ none. let f : false ≡ true = ap is_nonempty (sym none ∙ last_is) ∙ name in cc,
-      sym at.text ∙ ap slashed (sym same),
+      sym at.text ∙ ap names_text (sym same),
     )
 
 -- a text without bytes is empty
@@ -73,7 +73,7 @@ nil_from (b ∷ bs) e = absurd (omega (arith, e))
 
 module _ (b p : Path) (front last : List ℕ) (h : IsPath p) (t : IsCutText (path_text p) front last) where
   -- a path with a name behind its last slash is a child where the texts before it are the same
-  pub child_test : (base : List ℕ) (empty r : Bool) → IsPath b → base ≡ slashed b → empty ≡ (length last == 0) → empty ≡ false → r ≡ bytes_eq front base → IsTrue r ↔ IsChildOf b p
+  pub child_test : (base : List ℕ) (empty r : Bool) → IsPath b → base ≡ names_text b → empty ≡ (length last == 0) → empty ≡ false → r ≡ bytes_eq front base → IsTrue r ↔ IsChildOf b p
   child_test base empty r hb same is filled e =
       let d = bytes_eq-Decides front base in (
         λ equal. child_is b p front last hb h t (nonempty_from_test last (sym is ∙ filled)) (d.0 (sym e ∙ equal) ∙ same),

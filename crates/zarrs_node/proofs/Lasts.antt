@@ -10,9 +10,9 @@ use Rattle.zarrs_path.specs.Paths.{Path, path_cmp, path_eq}
 use Rattle.zarrs_path.specs.PathOrder.{path_decides, path_ties, path_total}
 use Rattle.zarrs_block.proofs.InOrder.{before, sorted_pairs}
 use Rattle.zarrs_node.proofs.Unique.{Pair}
-use Rattle.zarrs_node.specs.Latest.{IsLatest}
+use Rattle.zarrs_node.specs.LastOfEqualPaths.{IsLatest}
 use Rattle.zarrs_node.specs.Order.{Ascend}
-use Rattle.zarrs_node.specs.Pass.{DropsEqual}
+use Rattle.zarrs_node.specs.StepsOfTrees.{DropsEqual}
 use Rattle.zarrs_node.proofs.Found.{all_pairs_append, all_pairs_tail, all_pairs_first}
 use Rattle.zarrs_node.proofs.Child.{contains_one}
 use Rattle.zarrs_node.proofs.Stems.{last_part}

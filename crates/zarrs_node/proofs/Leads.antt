@@ -3,15 +3,15 @@ use Rattle.std.proofs.Common.{◌≡◌, ◌≢◌, ◌<◌, ◌==◌, ◌↔◌
 use Rattle.std.proofs.lemmas.Bool.{eqb-true}
 use Rattle.std.proofs.lemmas.List.{append_cancel_left}
 use Rattle.zarrs_store.specs.Segments.{has_no_slash, key_text}
-use Rattle.zarrs_path.specs.Paths.{Path, IsPath, IsBelow, slashed, without_leading_slash}
+use Rattle.zarrs_path.specs.Paths.{Path, IsPath, IsBelow, names_text, without_leading_slash}
 use Rattle.zarrs_path.proofs.ByteTests.{nonempty_from_test}
 use Rattle.zarrs_path.proofs.PathTexts.{IsCutAt, IsPath-parts, cut_last, slashed-cons, slashed_nil}
 use Rattle.zarrs_meta.specs.Node.{is_group}
 use Rattle.zarrs_meta.specs.declared.node.NodeMetadata.{NodeMetadata}
-use Rattle.zarrs_block.specs.Block.{Block, Entries, entry, first_some, found}
-use Rattle.zarrs_node.specs.Reached.{HasGroup, Reached}
-use Rattle.zarrs_node.specs.Consolidated.{text_beyond}
-use Rattle.zarrs_node.specs.Fresh.{LeadsTo}
+use Rattle.zarrs_block.specs.Block.{Block, Entries, entry, first_some, node_at_key}
+use Rattle.zarrs_node.specs.Reach.{HasGroup, Reached}
+use Rattle.zarrs_node.specs.BlocksOfNodes.{text_beyond}
+use Rattle.zarrs_node.specs.CurrentBlocks.{LeadsTo}
 use Rattle.zarrs_node.proofs.LastNames.{IsCutText, has_slash}
 use Rattle.zarrs_node.proofs.Stops.{length_zero}
 use Rattle.zarrs_node.proofs.BlockTexts.{text_is}
@@ -94,18 +94,18 @@ module _ (B : Block) (b p : Path) (low : IsBelow b p) (valid : IsPath p) where
   key_is key text = text ∙ text_is b p low.0 low.1 low.2
 
   -- by what stands at the key
-  pub group_at_key : (key : List ℕ) (o : Option NodeMetadata) (m : NodeMetadata) (x : Bool) → key ≡ text_beyond b p → o ≡ found B key → o ≡ Some m → x ≡ is_group m → IsTrue x ↔ HasGroup (Entries B b) p
+  pub group_at_key : (key : List ℕ) (o : Option NodeMetadata) (m : NodeMetadata) (x : Bool) → key ≡ text_beyond b p → o ≡ node_at_key B key → o ≡ Some m → x ≡ is_group m → IsTrue x ↔ HasGroup (Entries B b) p
   group_at_key key o m x text at some group =
       subst (λ y. IsTrue y ↔ HasGroup (Entries B b) p) (sym group)
-      (has_group_by (Some m) (ap (λ f. first_some f (found B (47 ∷ key_text (low.0 ∷ low.1)))) (ap (found B) (sym (key_is key text)) ∙ sym at ∙ some)))
+      (has_group_by (Some m) (ap (λ f. first_some f (node_at_key B (47 ∷ key_text (low.0 ∷ low.1)))) (ap (node_at_key B) (sym (key_is key text)) ∙ sym at ∙ some)))
 
   -- by what stands behind a slash, where nothing stands at the key
-  pub group_rooted : (key rooted : List ℕ) (o r : Option NodeMetadata) (x : Bool) → key ≡ text_beyond b p → o ≡ found B key → o ≡ None → rooted ≡ 47 ∷ key → r ≡ found B rooted → x ≡ some_group r
+  pub group_rooted : (key rooted : List ℕ) (o r : Option NodeMetadata) (x : Bool) → key ≡ text_beyond b p → o ≡ node_at_key B key → o ≡ None → rooted ≡ 47 ∷ key → r ≡ node_at_key B rooted → x ≡ some_group r
       → IsTrue x ↔ HasGroup (Entries B b) p
   group_rooted key rooted o r x text at none slash behind group =
-      let first : found B (key_text (low.0 ∷ low.1)) ≡ None = ap (found B) (sym (key_is key text)) ∙ sym at ∙ none in
-      let second : found B (47 ∷ key_text (low.0 ∷ low.1)) ≡ r = ap (λ k. found B (47 ∷ k)) (sym (key_is key text)) ∙ ap (found B) (sym slash) ∙ sym behind in
-      subst (λ y. IsTrue y ↔ HasGroup (Entries B b) p) (sym group) (has_group_by r (ap (λ f. first_some f (found B (47 ∷ key_text (low.0 ∷ low.1)))) first ∙ second))
+      let first : node_at_key B (key_text (low.0 ∷ low.1)) ≡ None = ap (node_at_key B) (sym (key_is key text)) ∙ sym at ∙ none in
+      let second : node_at_key B (47 ∷ key_text (low.0 ∷ low.1)) ≡ r = ap (λ k. node_at_key B (47 ∷ k)) (sym (key_is key text)) ∙ ap (node_at_key B) (sym slash) ∙ sym behind in
+      subst (λ y. IsTrue y ↔ HasGroup (Entries B b) p) (sym group) (has_group_by r (ap (λ f. first_some f (node_at_key B (47 ∷ key_text (low.0 ∷ low.1)))) first ∙ second))
 
 -- a text behind a slash, without it
 pub bare_is : (rooted key text : List ℕ) → key ≡ without_leading_slash rooted → rooted ≡ 47 ∷ text → key ≡ text
@@ -118,7 +118,7 @@ pub record IsOnTheWay (B : Block) (b p : Path) (left : List ℕ) : Type 0 where
   pub name : List ℕ
   pub rest : Path
   pub valid : IsPath (b ++ name ∷ rest)
-  pub text : left ≡ slashed (name ∷ rest)
+  pub text : left ≡ names_text (name ∷ rest)
   pub same : LeadsTo B b p ↔ LeadsTo B b (b ++ name ∷ rest)
 
 -- at first they are all names of p
@@ -139,7 +139,7 @@ not_below_itself b (n, ns, e) =
     absurd (omega (arith, long, more))
 
 -- names with a text that is not empty are some
-some_names : (q : Path) (front : List ℕ) → slashed q ≡ front → front ≢ [] → (n : List ℕ) × (ns : Path) × (q ≡ n ∷ ns)
+some_names : (q : Path) (front : List ℕ) → names_text q ≡ front → front ≢ [] → (n : List ℕ) × (ns : Path) × (q ≡ n ∷ ns)
 some_names [] front e some = absurd (some (sym e))
 some_names (n ∷ ns) front e some = (n, ns, refl)
 
@@ -171,7 +171,7 @@ module _ {B : Block} {b p : Path} {left above last : List ℕ} (h : IsOnTheWay B
     -- whose text is what stands above
     text_above : above ≡ 47 ∷ text_beyond b (b ++ cut.upper)
     unfolding front low
-    text_above = sym cut.text ∙ ap slashed front.2 ∙ slashed-cons front.0 front.1 ∙ ap (λ x. 47 ∷ x) (sym (text_is b (b ++ cut.upper) front.0 front.1 low.2))
+    text_above = sym cut.text ∙ ap names_text front.2 ∙ slashed-cons front.0 front.1 ∙ ap (λ x. 47 ∷ x) (sym (text_is b (b ++ cut.upper) front.0 front.1 low.2))
 
     -- a path
     valid_above : IsPath (b ++ cut.upper)
@@ -196,7 +196,7 @@ module _ {B : Block} {b p : Path} {left above last : List ℕ} (h : IsOnTheWay B
         name = front.0;
         rest = front.1;
         valid = subst (λ q. IsPath (b ++ q)) front.2 valid_above;
-        text = sym cut.text ∙ ap slashed front.2;
+        text = sym cut.text ∙ ap names_text front.2;
         same = subst (λ q. LeadsTo B b p ↔ LeadsTo B b (b ++ q)) front.2 (λ led. (step.0 (h.same.0 led)).1, λ led. h.same.1 (step.1 (answer.0 open_to, led)));
       }
 

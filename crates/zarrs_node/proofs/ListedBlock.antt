@@ -3,10 +3,10 @@ use Rattle.std.proofs.Common.{◌≡◌, ◌≢◌, true, List, [], ◌∷◌, �
 use Rattle.zarrs_store.specs.Contents.{Lists}
 use Rattle.zarrs_path.specs.Paths.{Path, path_cmp}
 use Rattle.zarrs_block.specs.Block.{Block, IsAscending, IsBlockOf}
-use Rattle.zarrs_node.specs.Consolidated.{AreBelow, put_all}
+use Rattle.zarrs_node.specs.StepsOfBlocks.{ArePairsBelow, put_all}
 use Rattle.zarrs_node.specs.Inverse.{HasNames}
 use Rattle.zarrs_node.specs.Order.{Ascend}
-use Rattle.zarrs_node.specs.Reached.{Kept}
+use Rattle.zarrs_node.specs.Reach.{Kept}
 use Rattle.zarrs_node.proofs.Found.{listed_each}
 use Rattle.zarrs_node.proofs.Latest.{latest_in, own_latest}
 use Rattle.zarrs_node.proofs.Puts.{put_all_ascends, none_ascend}
@@ -15,7 +15,7 @@ use Rattle.zarrs_node.proofs.Unique.{Pair, lt_irrefl}
 
 module _ (N : Pair → Type 0) (b : Path) (xs : List Pair) (listed : Lists (Kept N true b) xs) where
   -- listed nodes are below the base
-  pub listed_below : AreBelow b xs
+  pub listed_below : ArePairsBelow b xs
   listed_below e in' = let low = ((listed_each listed e).0 in').0.below in (low.0, low.1, low.2)
 
   -- they have names beyond it

@@ -24,8 +24,9 @@ use Rattle.zarrs_block.specs.declared.node_create_error.NodeCreateError.{NodeCre
 use Rattle.zarrs_block.specs.declared.node_create_error.NodeCreateError.TheVariants.{StorageError as InStore}
 use Rattle.zarrs_config.specs.declared.version.MetadataRetrieveVersion.TheVariants.{Default, V3, V2}
 use Rattle.zarrs_block.specs.Meaning.{in_bytes, Meaning, meaning, meaning_in, node, nothing, document_from, document_at, attributes_at, version_3_line, version_2_line, zarr_json_line, zarray_line, zgroup_line}
-use Rattle.zarrs_block.specs.Refused.{IsExcused}
-use Rattle.zarrs_node.specs.Refused.{RefusesReading, FollowsLine, Finds}
+use Rattle.zarrs_block.specs.Refusals.{IsExcused}
+use Rattle.zarrs_node.specs.Refusals.{RefusesReading}
+use Rattle.zarrs_node.specs.StepsOfDocuments.{FollowsLine, Finds}
 
 -- an option that is no value is none
 pub none_of : {A : Type 0} (o : Option A) → ((x : A) → o ≡ Some x → ⊥) → o ≡ None

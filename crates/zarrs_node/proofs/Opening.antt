@@ -8,19 +8,21 @@ use Rattle.zarrs_path.specs.declared.node_path.NodePathError.TheVariants.{Invali
 use Rattle.zarrs_config.specs.declared.version.MetadataRetrieveVersion.{MetadataRetrieveVersion}
 use Rattle.zarrs_config.specs.declared.version.UseConsolidatedMetadata.{UseConsolidatedMetadata}
 use Rattle.zarrs_meta.specs.Node.{is_group}
+use Rattle.zarrs_meta.specs.declared.node.GroupMetadata.TheVariants.{V3, V2}
 use Rattle.zarrs_meta.specs.declared.node.NodeMetadata.{NodeMetadata}
 use Rattle.zarrs_meta.specs.declared.node.NodeMetadata.TheVariants.{Group, Array}
 use Rattle.zarrs_block.specs.Block.{Block, Entries, HasValidKeys}
-use Rattle.zarrs_block.specs.Used.{RefusesUse, LacksBlockMemory}
-use Rattle.zarrs_block.specs.Expanded.{RefusesKeys, NamesBadKey}
-use Rattle.zarrs_block.specs.Refused.{IsExcused, IsMissing}
+use Rattle.zarrs_block.specs.Policy.{RefusesUse, LacksBlockMemory}
+use Rattle.zarrs_block.specs.BlockExpansion.{RefusesKeys, NamesBadKey}
+use Rattle.zarrs_block.specs.Refusals.{IsExcused, IsMissing}
 use Rattle.zarrs_block.specs.declared.node_create_error.NodeCreateError.{NodeCreateError}
 use Rattle.zarrs_block.specs.declared.node_create_error.NodeCreateError.TheVariants.{NodePathError, StorePrefixError, StorageError, MetadataVersionMismatch, MissingMetadata, OutOfMemory}
 use Rattle.zarrs_block.specs.Meaning.{meaning, node, nothing, bad}
-use Rattle.zarrs_node.specs.Reached.{Kept}
+use Rattle.zarrs_node.specs.BlocksBelow.{ExcusesBlock}
+use Rattle.zarrs_node.specs.Reach.{Kept}
 use Rattle.zarrs_node.specs.Nodes.{Nodes, Bad, ShowsBad}
 use Rattle.zarrs_node.specs.Forest.{Forest, none, Shows, ArePlacedBelow}
-use Rattle.zarrs_node.specs.Opened.{choice, ShowsChosen, IsCleanChosen, RefusesChosen, ShowsNode, IsCleanNode, RefusesBelow, RefusesOpening}
+use Rattle.zarrs_node.specs.OpeningNodes.{choice, ShowsChosen, IsCleanChosen, RefusesChosen, ShowsNode, IsCleanNode, RefusesBelow, RefusesOpening}
 use Rattle.zarrs_node.proofs.Unique.{Pair}
 use Rattle.zarrs_node.proofs.Found.{listed_each}
 use Rattle.zarrs_node.proofs.Kept.{kept_same}
@@ -32,6 +34,23 @@ use Rattle.zarrs_node.proofs.LawProofs.{placed_children}
 -- a forest that shows what is kept of listed pairs shows what is kept of the pairs that are listed
 pub entries_shown : (N : Pair → Type 0) (xs : List Pair) (r : Bool) (b : Path) (f : Forest) → Lists N xs → Shows f b (Kept (Contains xs) r b) → Shows f b (Kept N r b)
 entries_shown N xs r b f listed h = shows_same f b (Kept (Contains xs) r b) (Kept N r b) (kept_same (Contains xs) N r b (λ e low. listed_each listed e)) h
+
+-- ---- the block that is used
+
+-- out of memory for a block excuses any call
+memory_excused : (can_fail : Bool) (m : NodeMetadata) (policy : UseConsolidatedMetadata) (e : NodeCreateError) → LacksBlockMemory m policy e → IsExcused can_fail e
+memory_excused can_fail m policy OutOfMemory h = tt
+memory_excused can_fail m policy (NodePathError x) h = absurd h
+memory_excused can_fail m policy (StorePrefixError x) h = absurd h
+memory_excused can_fail m policy (StorageError x) h = absurd h
+memory_excused can_fail m policy MetadataVersionMismatch h = absurd h
+memory_excused can_fail m policy (MissingMetadata text) h = absurd h
+
+-- what excuses the want of a block excuses any call
+pub block_excused : (can_fail : Bool) (m : NodeMetadata) (policy : UseConsolidatedMetadata) (e : NodeCreateError) → ExcusesBlock can_fail m policy e → IsExcused can_fail e
+block_excused can_fail (Group (V2 g)) policy e h = h.1
+block_excused can_fail (Group (V3 g)) policy e h = memory_excused can_fail (Group (V3 g)) policy e h
+block_excused can_fail (Array a) policy e h = absurd h
 
 -- ---- of a node
 

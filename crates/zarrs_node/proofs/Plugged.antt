@@ -4,9 +4,10 @@ use Rattle.zarrs_path.specs.Paths.{Path}
 use Rattle.zarrs_meta.specs.declared.node.NodeMetadata.{NodeMetadata}
 use Rattle.zarrs_node.specs.declared.node.Node.{Node}
 use Rattle.zarrs_node.specs.declared.copies.Frame.{Frame}
-use Rattle.zarrs_node.specs.Forest.{Forest, none, tree, forest, graft, path_of, metadata_of, below_of}
-use Rattle.zarrs_node.specs.Weights.{children_of, weights}
-use Rattle.zarrs_node.specs.Plug.{plug}
+use Rattle.zarrs_node.specs.Forest.{Forest, none, tree, forest, path_of, metadata_of, below_of}
+use Rattle.zarrs_node.specs.StepsOfTrees.{graft}
+use Rattle.zarrs_node.specs.StepsOfCounting.{children_of, weights}
+use Rattle.zarrs_node.specs.StepsOfGrafts.{plug}
 use Rattle.zarrs_node.proofs.Graft.{plant_out}
 use Rattle.zarrs_node.proofs.Grow.{graft_none, graft_assoc}
 use Rattle.zarrs_node.proofs.Sizes.{weight_out, weights-append}

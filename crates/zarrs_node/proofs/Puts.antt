@@ -5,7 +5,8 @@ use Rattle.zarrs_meta.specs.declared.node.NodeMetadata.{NodeMetadata}
 use Rattle.zarrs_block.specs.Block.{Block, IsAscending, put}
 use Rattle.zarrs_block.proofs.Puts.{put_ascends}
 pub use Rattle.zarrs_block.proofs.Puts.{found_put, before_all, none_ascend}
-use Rattle.zarrs_node.specs.Consolidated.{text_beyond, put_all}
+use Rattle.zarrs_node.specs.BlocksOfNodes.{text_beyond}
+use Rattle.zarrs_node.specs.StepsOfBlocks.{put_all}
 
 module _ (b : Path) where
   -- pairs in a row are put one part after the other

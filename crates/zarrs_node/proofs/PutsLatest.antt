@@ -5,10 +5,11 @@ use Rattle.zarrs_store.specs.Segments.{bytes_cmp, key_text}
 use Rattle.zarrs_path.specs.Paths.{Path, IsPath, path_cmp, path_eq}
 use Rattle.zarrs_path.specs.PathOrder.{path_decides}
 use Rattle.zarrs_meta.specs.declared.node.NodeMetadata.{NodeMetadata}
-use Rattle.zarrs_block.specs.Block.{Block, IsBlockOf, found}
+use Rattle.zarrs_block.specs.Block.{Block, IsBlockOf, node_at_key}
 use Rattle.zarrs_node.specs.Forest.{Forest, pairs, IsPlaced}
-use Rattle.zarrs_node.specs.Latest.{IsLatest}
-use Rattle.zarrs_node.specs.Consolidated.{text_beyond, put_all}
+use Rattle.zarrs_node.specs.LastOfEqualPaths.{IsLatest}
+use Rattle.zarrs_node.specs.BlocksOfNodes.{text_beyond}
+use Rattle.zarrs_node.specs.StepsOfBlocks.{put_all}
 use Rattle.zarrs_node.specs.Inverse.{HasNames}
 use Rattle.zarrs_node.proofs.Graft.{Contains-first}
 use Rattle.zarrs_node.proofs.Order.{pairs_ascend}
@@ -27,16 +28,16 @@ module _ (b : Path) where
     own = names e (Contains-append_right done (e ∷ []) e (Contains-first e []))
 
     -- what the block has at a text with one pair more
-    more : (t : List ℕ) → found (put_all b [] (done ++ e ∷ [])) t ≡ cond (is_eq (bytes_cmp t (text_beyond b e.0))) (Some e.1) (found (put_all b [] done) t)
-    more t = ap (λ B. found B t) (put_all-append b [] done (e ∷ [])) ∙ found_put t (text_beyond b e.0) e.1 (put_all b [] done)
+    more : (t : List ℕ) → node_at_key (put_all b [] (done ++ e ∷ [])) t ≡ cond (is_eq (bytes_cmp t (text_beyond b e.0))) (Some e.1) (node_at_key (put_all b [] done) t)
+    more t = ap (λ B. node_at_key B t) (put_all-append b [] done (e ∷ [])) ∙ found_put t (text_beyond b e.0) e.1 (put_all b [] done)
 
     -- a pair with the path of e is at the text of e
     at_own : (n : List ℕ) (ns : Path) (t : List ℕ) → e.0 ≡ b ++ n ∷ ns → t ≡ key_text (n ∷ ns) → is_eq (bytes_cmp t (text_beyond b e.0)) ≡ true
     at_own n ns t path text = ap (λ s. is_eq (bytes_cmp t s)) (text_is b e.0 n ns path ∙ sym text) ∙ at_itself t
 
-    taken : (t : List ℕ) (m : NodeMetadata) → found (put_all b [] (done ++ e ∷ [])) t ≡ Some m
+    taken : (t : List ℕ) (m : NodeMetadata) → node_at_key (put_all b [] (done ++ e ∷ [])) t ≡ Some m
         → (n : List ℕ) × (ns : Path) × (t ≡ key_text (n ∷ ns)) × IsLatest (done ++ e ∷ []) (b ++ n ∷ ns, m)
-    taken t m h = elim (is_eq (bytes_cmp t (text_beyond b e.0))) as (λ x. is_eq (bytes_cmp t (text_beyond b e.0)) ≡ x → cond x (Some e.1) (found (put_all b [] done) t) ≡ Some m
+    taken t m h = elim (is_eq (bytes_cmp t (text_beyond b e.0))) as (λ x. is_eq (bytes_cmp t (text_beyond b e.0)) ≡ x → cond x (Some e.1) (node_at_key (put_all b [] done) t) ≡ Some m
         → (n : List ℕ) × (ns : Path) × (t ≡ key_text (n ∷ ns)) × IsLatest (done ++ e ∷ []) (b ++ n ∷ ns, m)) [
           | true ↦ λ at g.
               let value : e.1 ≡ m = ap (λ o. unwrap_or o e.1) g in
@@ -51,9 +52,9 @@ module _ (b : Path) where
         ] refl (sym (more t) ∙ h)
 
     given : (t : List ℕ) (m : NodeMetadata) → (n : List ℕ) × (ns : Path) × (t ≡ key_text (n ∷ ns)) × IsLatest (done ++ e ∷ []) (b ++ n ∷ ns, m)
-        → found (put_all b [] (done ++ e ∷ [])) t ≡ Some m
+        → node_at_key (put_all b [] (done ++ e ∷ [])) t ≡ Some m
     given t m w = more t ∙ ⊎_elim
-        (λ same. ap (λ x. cond x (Some e.1) (found (put_all b [] done) t)) (at_own w.0 w.1 t (ap (λ d. d.0) same) w.2) ∙ ap (λ d. Some d.1) same)
+        (λ same. ap (λ x. cond x (Some e.1) (node_at_key (put_all b [] done) t)) (at_own w.0 w.1 t (ap (λ d. d.0) same) w.2) ∙ ap (λ d. Some d.1) same)
         (λ old.
         let v = names (b ++ w.0 ∷ w.1, m) (Contains-append_left done (e ∷ []) (b ++ w.0 ∷ w.1, m) (latest_in done (b ++ w.0 ∷ w.1, m) old.1)) in
         let off : (x : Bool) → is_eq (bytes_cmp t (text_beyond b e.0)) ≡ x → x ≡ false = elim [
@@ -64,7 +65,7 @@ module _ (b : Path) where
               absurd (true≢false (sym ((path_decides e.0 (b ++ w.0 ∷ w.1)).1 same) ∙ old.0))
           | false ↦ λ at. refl
         ] in
-        ap (λ x. cond x (Some e.1) (found (put_all b [] done) t)) (off (is_eq (bytes_cmp t (text_beyond b e.0))) refl) ∙ (is t m).1 (w.0, w.1, w.2, old.1))
+        ap (λ x. cond x (Some e.1) (node_at_key (put_all b [] done) t)) (off (is_eq (bytes_cmp t (text_beyond b e.0))) refl) ∙ (is t m).1 (w.0, w.1, w.2, old.1))
         (latest_push done e (b ++ w.0 ∷ w.1, m) w.3)
 
     -- one pair more in the block

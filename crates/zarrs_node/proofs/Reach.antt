@@ -4,7 +4,7 @@ use Rattle.std.proofs.Common.{◌≡◌, ℕ, Bool, List, [], ◌∷◌, ◌++�
 use Rattle.std.proofs.lemmas.List.{append_cancel_left}
 use Rattle.zarrs_path.specs.Paths.{Path, IsPath, IsBelow}
 use Rattle.zarrs_path.proofs.NameLemmas.{IsName, name_head, name_tail, name_cons, name_one}
-use Rattle.zarrs_node.specs.Reached.{Opens, Reached}
+use Rattle.zarrs_node.specs.Reach.{Opens, Reached}
 
 -- p is c, or is reached from c, below which the listing goes on
 abbrev pub Through : (Path × NodeMetadata → Type 0) → Bool → Path → Path → Type 0

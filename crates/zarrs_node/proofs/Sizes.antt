@@ -9,7 +9,7 @@ use Rattle.zarrs_node.specs.declared.node.Node.{Node}
 use denote.Param.Weighed.{most}
 use Rattle.zarrs_node.specs.declared.node.Node.TheViews.{size-Node, size_is-Node}
 use Rattle.zarrs_node.specs.declared.node.Node.TheFolds.{fold_out-Node}
-use Rattle.zarrs_node.specs.Weights.{weight, weights, weigh_step, children_of}
+use Rattle.zarrs_node.specs.StepsOfCounting.{weight, weights, weigh_step, children_of}
 
 -- a node more than its children have
 pub weight_out : (n : Node) → weight n ≡ weights (children_of n) + 1

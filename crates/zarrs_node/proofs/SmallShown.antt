@@ -14,7 +14,7 @@ use Rattle.zarrs_path.proofs.NameLemmas.{name_head}
 use Rattle.zarrs_meta.specs.declared.node.NodeMetadata.{NodeMetadata}
 use Rattle.zarrs_block.specs.Block.{Block, Entries, IsBlockOf}
 use Rattle.zarrs_block.specs.Meaning.{Means, node, bad}
-use Rattle.zarrs_block.specs.Small.{small_meaning, small, counted}
+use Rattle.zarrs_block.specs.Small.{small_meaning, small, counted_members}
 use Rattle.zarrs_block.specs.Zmetadata.{HoldsStore, IsClean, before_last}
 use Rattle.zarrs_block.proofs.SmallStores.{as_read, before_last-child, same_key, get_based, based_read}
 use Rattle.zarrs_block.proofs.SmallBlocks.{document_or_none, store_law}
@@ -61,24 +61,24 @@ module _ (b : Path) (ms : Members) (clean : IsClean ms) where
   small_path : (n : List ℕ) (ns : Path) (m : NodeMetadata) → small_meaning (small b ms) (b ++ n ∷ ns) ≡ node m → IsPath (n ∷ ns)
   small_path n ns m is =
       ⊎_elim
-      (λ has. subst IsPath (before_last-child (n ∷ ns) has.0) (found_named (counted ms) ((n ∷ ns) ++ has.0 ∷ []) has.1 clean.named has.2))
+      (λ has. subst IsPath (before_last-child (n ∷ ns) has.0) (found_named (counted_members ms) ((n ∷ ns) ++ has.0 ∷ []) has.1 clean.named has.2))
       (λ empty. let both : Some (Some m) ≡ Some None = sym (ap as_read is) ∙ based_read b (n ∷ ns) ms ∙ empty in cc)
       (document_or_none ms (n ∷ ns))
 
   -- a key behind the base and other segments has a name among them, where two follow
-  key_named : (gs : Segments) (n first : List ℕ) (rest : Segments) → IsTrue (is_some (find key_cmp (gs ++ n ∷ first ∷ rest) (counted ms))) → IsTrue (is_name n)
-  key_named gs n first rest some = by (find key_cmp (gs ++ n ∷ first ∷ rest) (counted ms)) refl some
+  key_named : (gs : Segments) (n first : List ℕ) (rest : Segments) → IsTrue (is_some (find key_cmp (gs ++ n ∷ first ∷ rest) (counted_members ms))) → IsTrue (is_name n)
+  key_named gs n first rest some = by (find key_cmp (gs ++ n ∷ first ∷ rest) (counted_members ms)) refl some
     where
-      by : (o : Option Data) → find key_cmp (gs ++ n ∷ first ∷ rest) (counted ms) ≡ o → IsTrue (is_some o) → IsTrue (is_name n)
+      by : (o : Option Data) → find key_cmp (gs ++ n ∷ first ∷ rest) (counted_members ms) ≡ o → IsTrue (is_some o) → IsTrue (is_name n)
       by None is none = absurd (true≢false (sym none))
-      by (Some d) is _ = middle_name gs n first rest (found_named (counted ms) (gs ++ n ∷ first ∷ rest) d clean.named is)
+      by (Some d) is _ = middle_name gs n first rest (found_named (counted_members ms) (gs ++ n ∷ first ∷ rest) d clean.named is)
 
   -- no segment of periods only stands below a path behind the base and before another
   no_periods : (gs : Path) (n : List ℕ) → IsTrue (is_all_periods n) → HasBelow (small b ms) ((b ++ gs) ++ n ∷ []) → ⊥
   no_periods gs n periods h =
       let key : ((b ++ gs) ++ n ∷ []) ++ h.0 ∷ h.1 ≡ b ++ (gs ++ n ∷ h.0 ∷ h.1) =
       append_assoc (b ++ gs) (n ∷ []) (h.0 ∷ h.1) ∙ append_assoc b gs (n ∷ h.0 ∷ h.1) in
-      let found : IsTrue (is_some (find key_cmp (gs ++ n ∷ h.0 ∷ h.1) (counted ms))) =
+      let found : IsTrue (is_some (find key_cmp (gs ++ n ∷ h.0 ∷ h.1) (counted_members ms))) =
       ap is_some (sym (get_based b (gs ++ n ∷ h.0 ∷ h.1) ms) ∙ ap (λ k. get (small b ms) k) (sym key)) ∙ h.2 in
       not_periods n (key_named gs n h.0 h.1 found) periods
 

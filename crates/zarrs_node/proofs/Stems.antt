@@ -8,9 +8,9 @@ use Rattle.zarrs_meta.specs.declared.node.NodeMetadata.{NodeMetadata}
 use Rattle.zarrs_node.specs.declared.node.Node.{Node}
 use Rattle.zarrs_node.specs.declared.node.Node.TheOpen.{Node-F}
 use Rattle.zarrs_node.specs.declared.node.Node.TheViews.{out-Node, roll-Node, out-roll-Node}
-use Rattle.zarrs_node.specs.Forest.{none, tree, plant, forest, graft, IsChildOf}
+use Rattle.zarrs_node.specs.Forest.{none, tree, plant, forest, IsChildOf}
+use Rattle.zarrs_node.specs.StepsOfTrees.{graft, Stem, grow, stem_of, whole, with_tree, heads, top, IsTaken}
 use Rattle.zarrs_node.proofs.Unique.{Pair}
-use Rattle.zarrs_node.specs.Pass.{Stem, grow, stem_of, whole, with_tree, heads, top, IsTaken}
 use Rattle.zarrs_node.proofs.Graft.{plant_out, plant_roll, forest_push}
 use Rattle.zarrs_node.proofs.Grow.{grow_last, grow_close, grow_roots, heads_of}
 

@@ -6,8 +6,8 @@ use Rattle.zarrs_path.specs.Paths.{Path}
 use Rattle.zarrs_meta.specs.declared.node.NodeMetadata.{NodeMetadata}
 use Rattle.zarrs_node.specs.declared.node.Node.{Node}
 use Rattle.zarrs_node.specs.Forest.{Forest, none, tree, forest, pairs, below_of}
-use Rattle.zarrs_node.specs.Weights.{children_of}
-use Rattle.zarrs_node.specs.Stops.{Stop, stops, stop_of, ahead, ahead_at}
+use Rattle.zarrs_node.specs.StepsOfCounting.{children_of}
+use Rattle.zarrs_node.specs.StepsOfPreorder.{Stop, stops, stop_of, ahead, ahead_at}
 use Rattle.zarrs_node.proofs.Graft.{plant_out}
 
 -- a walk over nodes begins with the first, goes on below it, and then to those after it

@@ -4,8 +4,9 @@ use Rattle.std.proofs.Common.{◌≡◌, ◌↔◌, ℕ, suc, ◌+◌, ◌<◌, 
 use Rattle.zarrs_path.specs.Paths.{Path}
 use Rattle.zarrs_meta.specs.declared.node.NodeMetadata.{NodeMetadata}
 use Rattle.zarrs_node.specs.declared.node.Node.{Node}
-use Rattle.zarrs_node.specs.Forest.{Forest, graft, plant, tree, none, forest, IsChildOf, ArePlacedBelow, HasPlacedChildren, path_of, metadata_of, below_of}
-use Rattle.zarrs_node.specs.Weights.{children_of, weight, weights}
+use Rattle.zarrs_node.specs.Forest.{Forest, plant, tree, none, forest, IsChildOf, ArePlacedBelow, HasPlacedChildren, path_of, metadata_of, below_of}
+use Rattle.zarrs_node.specs.StepsOfTrees.{graft}
+use Rattle.zarrs_node.specs.StepsOfCounting.{children_of, weight, weights}
 use Rattle.zarrs_node.proofs.Graft.{plant_out, forest_push}
 use Rattle.zarrs_node.proofs.Sizes.{weight_out, weights-append}
 

@@ -15,11 +15,12 @@ use Rattle.zarrs_meta.specs.declared.node.NodeMetadata.{NodeMetadata}
 use Rattle.zarrs_config.specs.declared.version.MetadataRetrieveVersion.{MetadataRetrieveVersion}
 use Rattle.zarrs_block.specs.declared.node_create_error.NodeCreateError.{NodeCreateError}
 use Rattle.zarrs_block.specs.Meaning.{meaning, bad}
-use Rattle.zarrs_block.specs.Refused.{IsExcused, IsInvalidPath}
-use Rattle.zarrs_node.specs.Refused.{Finds}
-use Rattle.zarrs_node.specs.Forest.{Forest, none, pairs, told, passed, found_group, Shows}
+use Rattle.zarrs_block.specs.Refusals.{IsExcused, IsInvalidPath}
+use Rattle.zarrs_node.specs.StepsOfDocuments.{Finds}
+use Rattle.zarrs_node.specs.Forest.{Forest, none, pairs, Shows}
+use Rattle.zarrs_node.specs.StepsOfTrees.{own_node, paths_passed, is_group_found}
 use Rattle.zarrs_node.specs.Nodes.{Nodes, Ignored, Bad, ShowsBad, IsListed}
-use Rattle.zarrs_node.specs.Stacked.{IsPathAndOne}
+use Rattle.zarrs_node.specs.StepsOfTheWalk.{IsPathAndOne}
 use Rattle.zarrs_node.proofs.Child.{node_same}
 use Rattle.zarrs_node.proofs.Unique.{Pair}
 use Rattle.zarrs_node.proofs.Ahead.{ahead, ahead_less}
@@ -67,7 +68,7 @@ module _ (s : Contents) (v : MetadataRetrieveVersion) (r : Bool) (b : Path) wher
     one_more m f are e = e ∙ ap (λ zs. zs ++ (c, m) ∷ []) h.are ∙ sym are
 
     -- a turn at what was found, where the walk does not go on below it
-    pub turn_alone : IsPath c → (o : Option NodeMetadata) → Finds can_fail (Ok o) (meaning s v c) → (r ≡ true → true ≡ found_group o → ⊥) → ys ≡ xs ++ told c o → jg ≡ ig ++ passed c o [] → HasWalked s v r b ys jg ps
+    pub turn_alone : IsPath c → (o : Option NodeMetadata) → Finds can_fail (Ok o) (meaning s v c) → (r ≡ true → true ≡ is_group_found o → ⊥) → ys ≡ xs ++ own_node c o → jg ≡ ig ++ paths_passed c o [] → HasWalked s v r b ys jg ps
     turn_alone valid None means closed e f = subst (λ x. HasWalked s v r b ys x ps) (sym f) (record {
       trees = h.trees;
       walk = walked_nothing s v r b h.trees ig ps c h.walk valid means;
@@ -82,8 +83,8 @@ module _ (s : Contents) (v : MetadataRetrieveVersion) (r : Bool) (b : Path) wher
         })
 
     -- a turn at a group below which it goes on
-    pub turn_deeper : IsPath c → (o : Option NodeMetadata) → Finds can_fail (Ok o) (meaning s v c) → r ≡ true → true ≡ found_group o → (cs : List Segments) → AreVisibleChildren s c cs → (qs : List Path) → qs ≡ ps ++ reverse cs
-        → ys ≡ xs ++ told c o → jg ≡ ig ++ passed c o [] → HasWalked s v r b ys jg qs
+    pub turn_deeper : IsPath c → (o : Option NodeMetadata) → Finds can_fail (Ok o) (meaning s v c) → r ≡ true → true ≡ is_group_found o → (cs : List Segments) → AreVisibleChildren s c cs → (qs : List Path) → qs ≡ ps ++ reverse cs
+        → ys ≡ xs ++ own_node c o → jg ≡ ig ++ paths_passed c o [] → HasWalked s v r b ys jg qs
     turn_deeper valid None means deep group cs children qs g e f = absurd (true≢false group)
     turn_deeper valid (Some m) means deep group cs children qs g e f =
         let a = walked_attached s v r b h.trees ig ps c h.walk valid m in

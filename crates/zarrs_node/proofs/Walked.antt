@@ -13,9 +13,9 @@ use Rattle.zarrs_meta.specs.Node.{is_group}
 use Rattle.zarrs_meta.specs.declared.node.NodeMetadata.{NodeMetadata}
 use Rattle.zarrs_config.specs.declared.version.MetadataRetrieveVersion.{MetadataRetrieveVersion}
 use Rattle.zarrs_block.specs.Meaning.{meaning, node, nothing}
-use Rattle.zarrs_node.specs.Reached.{Reached, Opens}
+use Rattle.zarrs_node.specs.Reach.{Reached, Opens}
 use Rattle.zarrs_node.specs.Forest.{Forest, none, pairs, IsPlaced, Shows}
-use Rattle.zarrs_node.specs.Nodes.{Meant, Nodes, Ignored, Bad, IsListed}
+use Rattle.zarrs_node.specs.Nodes.{MeansNode, Nodes, Ignored, Bad, IsListed}
 use Rattle.zarrs_node.proofs.Keys.{means_or_nothing, below_through}
 use Rattle.zarrs_node.proofs.Reach.{Through, reached_first, reached_through, not_itself}
 use Rattle.zarrs_node.proofs.Leads.{same_or_above}
@@ -57,7 +57,7 @@ module _ (s : Contents) (v : MetadataRetrieveVersion) (r : Bool) (b : Path) wher
 
   -- p is what a prefix that is still to be read leads to
   abbrev pub IsAhead : List Path → Path → Type 0
-  IsAhead ps p = (q : Path) × Contains ps q × Through (Meant s v) r q p
+  IsAhead ps p = (q : Path) × Contains ps q × Through (MeansNode s v) r q p
 
   -- p was told, or was passed over
   abbrev pub IsDone : Forest → List Path → Path → Type 0
@@ -73,16 +73,16 @@ module _ (s : Contents) (v : MetadataRetrieveVersion) (r : Bool) (b : Path) wher
     pub order : AllPairs (λ x y. StandsBefore y x) ps
     pub behind : (e : Pair) → Contains (pairs f) e → (q : Path) → Contains ps q → path_cmp e.0 q ≡ Less
     pub passed_behind : (p : Path) → Contains ig p → (q : Path) → Contains ps q → path_cmp p q ≡ Less
-    pub covers : (p : Path) → Reached (Meant s v) r b p → HasBelow s p → IsDone f ig p ⊎ IsAhead ps p
-    pub names : (g : Path) (n : List ℕ) → IsListed (meaning s v) r b g → IsTrue (is_all_periods n) → HasBelow s (g ++ n ∷ []) → (q : Path) × Contains ps q × ((q ≡ g ++ n ∷ []) ⊎ Through (Meant s v) r q g)
+    pub covers : (p : Path) → Reached (MeansNode s v) r b p → HasBelow s p → IsDone f ig p ⊎ IsAhead ps p
+    pub names : (g : Path) (n : List ℕ) → IsListed (meaning s v) r b g → IsTrue (is_all_periods n) → HasBelow s (g ++ n ∷ []) → (q : Path) × Contains ps q × ((q ≡ g ++ n ∷ []) ⊎ Through (MeansNode s v) r q g)
 
   -- where a key stands below g and one name, one stands below g
   below_shorter : (g : Path) (n : List ℕ) → HasBelow s (g ++ n ∷ []) → HasBelow s g
   below_shorter g n (m, ms, there) = (n, m ∷ ms, subst (HasKey s) (append_assoc g (n ∷ []) (m ∷ ms)) there)
 
   -- a reached path that is listed is one below which the listing goes on
-  listed_opens : (g : Path) → Reached (Meant s v) r b g → IsListed (meaning s v) r b g → Opens (Meant s v) r g
-  listed_opens g reached listed = ⊎_elim (λ same. absurd (not_itself (Meant s v) r b (subst (Reached (Meant s v) r b) same reached))) (λ h. h.1) listed
+  listed_opens : (g : Path) → Reached (MeansNode s v) r b g → IsListed (meaning s v) r b g → Opens (MeansNode s v) r g
+  listed_opens g reached listed = ⊎_elim (λ same. absurd (not_itself (MeansNode s v) r b (subst (Reached (MeansNode s v) r b) same reached))) (λ h. h.1) listed
 
   -- ---- the children of one prefix
 
@@ -93,9 +93,9 @@ module _ (s : Contents) (v : MetadataRetrieveVersion) (r : Bool) (b : Path) wher
         in_turned cs (g ++ n ∷ []) (h.complete (g ++ n ∷ []) (record { name = n; is = refl; has = record { next = next; rest = rest; held = subst (HasKey s) (append_assoc g (n ∷ []) (next ∷ rest)) held }; visible = visible }))
 
     -- what is reached below g and has a key below it is ahead of a child
-    child_ahead : (p : Path) → Reached (Meant s v) r g p → HasBelow s p → IsAhead (reverse cs) p
+    child_ahead : (p : Path) → Reached (MeansNode s v) r g p → HasBelow s p → IsAhead (reverse cs) p
     child_ahead p reached below =
-        let (n, name, t) = reached_first (Meant s v) r g p reached in
+        let (n, name, t) = reached_first (MeansNode s v) r g p reached in
         (g ++ n ∷ [], child_there n (name_not_reserved n name) (below_through s v r (g ++ n ∷ []) p t below), t)
 
     -- a child is pending where the walk goes on below g
@@ -135,7 +135,7 @@ module _ (s : Contents) (v : MetadataRetrieveVersion) (r : Bool) (b : Path) wher
   -- after the last prefix the forest shows the nodes
   module _ (f : Forest) (ig : List Path) (w : Walked f ig []) where
     -- what is reached and has a key below it is told or passed over
-    done : (p : Path) → Reached (Meant s v) r b p → (meaning s v p ≡ nothing → ⊥) → (m : NodeMetadata) × Contains (pairs f) (p, m)
+    done : (p : Path) → Reached (MeansNode s v) r b p → (meaning s v p ≡ nothing → ⊥) → (m : NodeMetadata) × Contains (pairs f) (p, m)
     done p reached something = ⊎_elim
         (⊎_elim (λ t. t) (λ l. absurd (something (w.passed p l).1)))
         (λ a. absurd (omega (arith, a.1.1)))
@@ -184,10 +184,10 @@ module _ (s : Contents) (v : MetadataRetrieveVersion) (r : Bool) (b : Path) wher
     named = name_of c at_hand.parent at_hand.name at_hand.is valid
 
     -- it is reached
-    pub walked_reached : Reached (Meant s v) r b c
+    pub walked_reached : Reached (MeansNode s v) r b c
     walked_reached = ⊎_elim
-        (λ same. reached_through (Meant s v) r b c at_hand.name named (inl (at_hand.is ∙ ap (λ x. x ++ at_hand.name ∷ []) same)))
-        (λ o. let e = w.nodes (at_hand.parent, o.1) o.2 in reached_deeper (Meant s v) r b at_hand.parent c at_hand.name e.0 (o.0, (o.1, e.1, o.3)) named at_hand.is)
+        (λ same. reached_through (MeansNode s v) r b c at_hand.name named (inl (at_hand.is ∙ ap (λ x. x ++ at_hand.name ∷ []) same)))
+        (λ o. let e = w.nodes (at_hand.parent, o.1) o.2 in reached_deeper (MeansNode s v) r b at_hand.parent c at_hand.name e.0 (o.0, (o.1, e.1, o.3)) named at_hand.is)
         at_hand.opened
 
     -- what was told is before it
@@ -216,8 +216,8 @@ module _ (s : Contents) (v : MetadataRetrieveVersion) (r : Bool) (b : Path) wher
         (now_done : IsDone f' ig' c)
         (children : (q : Path) → Contains ks q → IsPending f' q × ((n : List ℕ) × (q ≡ c ++ n ∷ [])))
         (stand : AllPairs (λ x y. StandsBefore y x) ks)
-        (deeper : Opens (Meant s v) r c → (p : Path) → Reached (Meant s v) r c p → HasBelow s p → IsAhead ks p)
-        (periods_there : Opens (Meant s v) r c → (n : List ℕ) → IsTrue (is_all_periods n) → HasBelow s (c ++ n ∷ []) → Contains ks (c ++ n ∷ [])) where
+        (deeper : Opens (MeansNode s v) r c → (p : Path) → Reached (MeansNode s v) r c p → HasBelow s p → IsAhead ks p)
+        (periods_there : Opens (MeansNode s v) r c → (n : List ℕ) → IsTrue (is_all_periods n) → HasBelow s (c ++ n ∷ []) → Contains ks (c ++ n ∷ [])) where
       -- what was pending still is
       still : (q : Path) → IsPending f q → IsPending f' q
       still q h = record {
@@ -244,12 +244,12 @@ module _ (s : Contents) (v : MetadataRetrieveVersion) (r : Bool) (b : Path) wher
           (λ in'. inr (q, Contains-append_left ps ks q in', t))
           (λ same. ⊎_elim
           (λ e. inl (subst (IsDone f' ig') (sym (e ∙ sym same)) now_done))
-          (λ d. let a = deeper (subst (Opens (Meant s v) r) (sym same) d.0) p (subst (λ x. Reached (Meant s v) r x p) (sym same) d.1) below in inr (a.0, Contains-append_right ps ks a.0 a.1, a.2))
+          (λ d. let a = deeper (subst (Opens (MeansNode s v) r) (sym same) d.0) p (subst (λ x. Reached (MeansNode s v) r x p) (sym same) d.1) below in inr (a.0, Contains-append_right ps ks a.0 a.1, a.2))
           t)
           (Contains-push_cases ps c q l)
 
       -- where a name of periods goes on below g, a prefix still leads to it
-      names_still : (g : Path) (n : List ℕ) → IsListed (meaning s v) r b g → IsTrue (is_all_periods n) → HasBelow s (g ++ n ∷ []) → (q : Path) × Contains (ps ++ ks) q × ((q ≡ g ++ n ∷ []) ⊎ Through (Meant s v) r q g)
+      names_still : (g : Path) (n : List ℕ) → IsListed (meaning s v) r b g → IsTrue (is_all_periods n) → HasBelow s (g ++ n ∷ []) → (q : Path) × Contains (ps ++ ks) q × ((q ≡ g ++ n ∷ []) ⊎ Through (MeansNode s v) r q g)
       names_still g n listed periods below =
           let (q, l, at) = w.names g n listed periods below in
           ⊎_elim
@@ -257,9 +257,9 @@ module _ (s : Contents) (v : MetadataRetrieveVersion) (r : Bool) (b : Path) wher
           (λ same. ⊎_elim
           (λ e. absurd (true≢false (sym periods ∙ not_periods n (name_of c g n (same ∙ e) valid))))
           (λ t. ⊎_elim
-          (λ e. let o = subst (Opens (Meant s v) r) (e ∙ sym same) (listed_opens g (subst (Reached (Meant s v) r b) (same ∙ sym e) walked_reached) listed) in
+          (λ e. let o = subst (Opens (MeansNode s v) r) (e ∙ sym same) (listed_opens g (subst (Reached (MeansNode s v) r b) (same ∙ sym e) walked_reached) listed) in
           (c ++ n ∷ [], Contains-append_right ps ks (c ++ n ∷ []) (periods_there o n periods (subst (λ x. HasBelow s (x ++ n ∷ [])) (e ∙ sym same) below)), inl (ap (λ x. x ++ n ∷ []) (same ∙ sym e))))
-          (λ d. let a = deeper (subst (Opens (Meant s v) r) (sym same) d.0) g (subst (λ x. Reached (Meant s v) r x g) (sym same) d.1) (below_shorter g n below) in
+          (λ d. let a = deeper (subst (Opens (MeansNode s v) r) (sym same) d.0) g (subst (λ x. Reached (MeansNode s v) r x g) (sym same) d.1) (below_shorter g n below) in
           (a.0, Contains-append_right ps ks a.0 a.1, inr a.2))
           t)
           at)
@@ -309,7 +309,7 @@ module _ (s : Contents) (v : MetadataRetrieveVersion) (r : Bool) (b : Path) wher
           (λ o n periods below. child_there c cs h n (not_reserved n periods) below)
 
       -- a turn at a node below which it does not go on
-      pub walked_closed : (Opens (Meant s v) r c → ⊥) → Walked a.whole ig ps
+      pub walked_closed : (Opens (MeansNode s v) r c → ⊥) → Walked a.whole ig ps
       walked_closed closed = subst (Walked a.whole ig) (append-nil ps)
           (walked_turn a.whole ig [] a.placed node_old node_kept (λ p l. inl l) (λ p l. l) w.passed_once (inl (m, node_told))
           (λ q l. absurd (omega (arith, l.1)))

@@ -6,8 +6,8 @@ use Rattle.std.proofs.Common.{Some, arith, ◌≡◌, ℕ, ◌+◌, ◌*◌, rep
 use Rattle.zarrs_store.specs.Segments.{last_segment}
 use Rattle.zarrs_node.specs.declared.node.Node.{Node}
 use Rattle.zarrs_node.specs.Forest.{Forest, none, tree, forest, path_of, metadata_of, below_of}
-use Rattle.zarrs_node.specs.Weights.{children_of}
-use Rattle.zarrs_node.specs.Stops.{Stop, stops, stop_of}
+use Rattle.zarrs_node.specs.StepsOfCounting.{children_of}
+use Rattle.zarrs_node.specs.StepsOfPreorder.{Stop, stops, stop_of}
 use Rattle.zarrs_node.specs.Lines.{shape_text, named_line, line, preorder, first_line, tree_text}
 
 -- the lines of the nodes that a walk comes to

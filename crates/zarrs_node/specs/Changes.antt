@@ -16,8 +16,8 @@ use Rattle.zarrs_block.specs.Block.{Block, IsAscending, IsBlockOf}
 use Rattle.zarrs_block.specs.Meaning.{meaning}
 use Rattle.zarrs_node.specs.Nodes.{Nodes}
 use Rattle.zarrs_node.specs.Forest.{Forest, pairs, IsPlaced}
-use Rattle.zarrs_node.specs.Opened.{ShowsNode}
-use Rattle.zarrs_node.specs.Fresh.{IsFresh}
+use Rattle.zarrs_node.specs.OpeningNodes.{ShowsNode}
+use Rattle.zarrs_node.specs.CurrentBlocks.{IsFresh}
 
 -- the files that hold the documents of a path
 abbrev pub document_files : List (List ℕ)

@@ -1,6 +1,5 @@
 -- Zarr core specification 3.1, "Hierarchy": trees of nodes side by side, as a list of nodes holds them.
-use Rattle.zarrs_meta.specs.Node.{is_group}
-use Rattle.std.specs.Prelude.{Bool, false, Option, Some, None, ◌≡◌, ℕ, List, [], ◌∷◌, ◌++◌, map}
+use Rattle.std.specs.Prelude.{◌≡◌, ℕ, List, [], ◌∷◌, ◌++◌, map}
 use Rattle.std.specs.declared.cmp.Ordering.TheVariants.{Less}
 use Rattle.zarrs_store.specs.Contents.{Lists}
 use Rattle.zarrs_path.specs.Paths.{Path, path_cmp}
@@ -44,26 +43,6 @@ ArePlacedBelow b (tree p m below after) = IsChildOf b p × ArePlacedBelow p belo
 abbrev pub IsPlaced : Path → Forest → Type 0
 IsPlaced b none = Unit {0}
 IsPlaced b (tree p m below after) = ((n : List ℕ) × (p ≡ b ++ n ∷ [])) × MayHold m below × IsPlaced p below × IsBefore p after × IsPlaced b after
-
--- the trees of f, and then those of g
-abbrev pub graft : Forest → Forest → Forest
-graft none g = g
-graft (tree p m below after) g = tree p m below (graft after g)
-
--- the paths passed over with a child: the child itself, or those below it
-abbrev pub passed : Path → Option NodeMetadata → List Path → List Path
-passed p None below = p ∷ []
-passed p (Some m) below = below
-
--- the nodes told of a child by itself: its own, where it is a node
-abbrev pub told : Path → Option NodeMetadata → List (Path × NodeMetadata)
-told p None = []
-told p (Some m) = (p, m) ∷ []
-
--- what was found is a group
-abbrev pub found_group : Option NodeMetadata → Bool
-found_group None = false
-found_group (Some m) = is_group m
 
 -- f shows N below b: its pairs are those of N, each once, and it is placed below b
 pub record Shows (f : Forest) (b : Path) (N : Path × NodeMetadata → Type 0) : Type 0 where

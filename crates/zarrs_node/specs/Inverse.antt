@@ -10,7 +10,7 @@ use Rattle.zarrs_block.specs.Block.{Block, Entries, HasPlainNodes, HasValidKeys,
 use Rattle.zarrs_node.specs.Forest.{Forest, pairs, IsPlaced, Shows}
 use Rattle.zarrs_block.specs.Meaning.{Meaning}
 use Rattle.zarrs_node.specs.Nodes.{Means}
-use Rattle.zarrs_node.specs.Reached.{Kept, Closed}
+use Rattle.zarrs_node.specs.Reach.{Kept, Closed}
 
 -- each path is b and one or more names
 abbrev pub HasNames : Path → List (Path × NodeMetadata) → Type 0

@@ -6,7 +6,7 @@ use Rattle.zarrs_node.specs.Forest.{Forest, pairs, IsPlaced, ArePlacedBelow, Sho
 use Rattle.zarrs_node.specs.Lines.{IsLines, preorder}
 use Rattle.zarrs_block.specs.Meaning.{Meaning}
 use Rattle.zarrs_node.specs.Nodes.{Means}
-use Rattle.zarrs_node.specs.Reached.{Kept, Closed}
+use Rattle.zarrs_node.specs.Reach.{Kept, Closed}
 use Rattle.zarrs_node.specs.Order.{Ascend}
 
 -- Two placed forests with the same pairs are one.

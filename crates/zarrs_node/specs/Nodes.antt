@@ -8,8 +8,8 @@ use Rattle.zarrs_meta.specs.declared.node.NodeMetadata.{NodeMetadata}
 use Rattle.zarrs_config.specs.declared.version.MetadataRetrieveVersion.{MetadataRetrieveVersion}
 use Rattle.zarrs_block.specs.declared.node_create_error.NodeCreateError.{NodeCreateError}
 use Rattle.zarrs_block.specs.Meaning.{Meaning, meaning, nothing, bad}
-use Rattle.zarrs_node.specs.Reached.{Reached, Opens, Kept}
-use Rattle.zarrs_block.specs.Refused.{IsInvalidPath}
+use Rattle.zarrs_node.specs.Reach.{Reached, Opens, Kept}
+use Rattle.zarrs_block.specs.Refusals.{IsInvalidPath}
 -- `Means of`: the paths that mean nodes, with their metadata
 pub use Rattle.zarrs_block.specs.Meaning.{Means}
 
@@ -40,12 +40,12 @@ ShowsBadIn of has recursive b e = HasBadDocument of recursive b e ⊎ ((p : Path
 -- ---- in a store, by the documents that a version admits
 
 -- the paths that mean nodes, with their metadata
-abbrev pub Meant : Contents → MetadataRetrieveVersion → Path × NodeMetadata → Type 0
-Meant s v = Means (meaning s v)
+abbrev pub MeansNode : Contents → MetadataRetrieveVersion → Path × NodeMetadata → Type 0
+MeansNode s v = Means (meaning s v)
 
 -- the reached paths that mean nodes, with their metadata
 abbrev pub Nodes : Contents → MetadataRetrieveVersion → Bool → Path → Path × NodeMetadata → Type 0
-Nodes s v = Kept (Meant s v)
+Nodes s v = Kept (MeansNode s v)
 
 -- the reached paths that mean nothing and are a beginning of some key with at least one segment more
 abbrev pub Ignored : Contents → MetadataRetrieveVersion → Bool → Path → Path → Type 0

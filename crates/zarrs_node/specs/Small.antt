@@ -10,7 +10,7 @@ use Rattle.zarrs_block.specs.Block.{Block, Entries, HasValidKeys}
 use Rattle.zarrs_block.specs.Meaning.{Means}
 use Rattle.zarrs_block.specs.Small.{SmallStore, small, small_meaning}
 use Rattle.zarrs_block.specs.Zmetadata.{zmetadata_of, zmetadata_members}
-use Rattle.zarrs_node.specs.Reached.{Kept}
+use Rattle.zarrs_node.specs.Reach.{Kept}
 use Rattle.zarrs_node.specs.Nodes.{BadIn}
 
 -- the nodes of a small store below b

@@ -2,12 +2,12 @@
 ghost use Rattle.std.specs.Prelude.{◌≡◌, ◌↔◌, ◌+◌, ◌-◌, List, [], ◌∷◌, ◌++◌, IfOk, OnOk, Contains, length, take, false, true};
 ghost use Rattle.zarrs_path.specs.Paths.{Path};
 ghost use Rattle.zarrs_meta.specs.declared.node.NodeMetadata.{NodeMetadata};
-ghost use Rattle.zarrs_block.specs.Expanded.{HaveOwnPaths};
+ghost use Rattle.zarrs_block.specs.BlockExpansion.{HaveOwnPaths};
 ghost use Rattle.zarrs_node.specs.Forest.{Shows, forest, plant, none};
-ghost use Rattle.zarrs_node.specs.Reached.{Kept};
+ghost use Rattle.zarrs_node.specs.Reach.{Kept};
 ghost use Rattle.zarrs_node.specs.Order.{Ascend};
-ghost use Rattle.zarrs_node.specs.Latest.{IsLatest, CountsSteps, groups, row, StandBelow, AreChildrenOf};
-ghost use Rattle.zarrs_node.specs.Pass.{whole, with_tree, heads, top, IsClosedTo, IsTaken, DropsEqual};
+ghost use Rattle.zarrs_node.specs.LastOfEqualPaths.{IsLatest, CountsSteps, groups, row, StandBelow, AreChildrenOf};
+ghost use Rattle.zarrs_node.specs.StepsOfTrees.{whole, with_tree, heads, top, IsClosedTo, IsTaken, DropsEqual};
 
 use crate::last_name::is_child;
 use crate::node::{Node, push_node};
@@ -20,7 +20,7 @@ use zarrs_path::NodePath;
 ///
 /// # Errors
 ///
-/// `AllocError` where memory is wanting.
+/// `AllocError` when out of memory.
 ///
 /// Source: `zarrs::node::build_node_tree`.
 pub fn build_node_tree(
@@ -39,7 +39,7 @@ pub fn build_node_tree(
 ///
 /// # Errors
 ///
-/// `AllocError` where memory is wanting.
+/// `AllocError` when out of memory.
 ///
 /// Source: own.
 pub fn build_node_tree_counted(
@@ -59,7 +59,7 @@ pub fn build_node_tree_counted(
 ///
 /// # Errors
 ///
-/// `AllocError` where memory is wanting.
+/// `AllocError` when out of memory.
 ///
 /// Source: `zarrs::node::direct_children_from_flat`.
 pub fn direct_children_from_flat(

@@ -1,7 +1,7 @@
 //! The nodes below a path, where what is passed over is warned of.
 ghost use Rattle.std.specs.Prelude.{IfOk, IfErr, OnOk, ◌⊎◌, true};
 ghost use Rattle.zarrs_store.specs.Contents.{Lists};
-ghost use Rattle.zarrs_block.specs.Refused.{IsExcused};
+ghost use Rattle.zarrs_block.specs.Refusals.{IsExcused};
 ghost use Rattle.zarrs_node.specs.Forest.{Shows, ShowsPaths, forest};
 ghost use Rattle.zarrs_node.specs.Nodes.{Nodes, ShowsBad, Bad};
 ghost use Rattle.zarrs_block.specs.Block.{IsAscending, IsBlockOf};
@@ -58,7 +58,7 @@ pub fn get_child_nodes<L: Log, S: ReadableStorageTraits + ListableStorageTraits>
 /// - `StorageError::InvalidMetadata` where a document on the way does not read, with its key and the fault.
 /// - `MetadataVersionMismatch` where a document of version 2 stands at `zarr.json`.
 /// - `StorageError::Other` where a name on the way is made of periods only.
-/// - `StorageError::Fault` of a store that can fail, and `OutOfMemory` where memory is wanting.
+/// - `StorageError::Fault` of a store that can fail, and `OutOfMemory` when out of memory.
 ///
 /// Source: `zarrs::node::get_child_nodes_opt`.
 pub fn get_child_nodes_opt<L: Log, S: ReadableStorageTraits + ListableStorageTraits>(

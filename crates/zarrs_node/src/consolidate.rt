@@ -4,8 +4,9 @@ ghost use Rattle.zarrs_path.specs.Paths.{IsBelow, IsPath};
 ghost use Rattle.zarrs_meta.specs.Node.{is_group};
 ghost use Rattle.zarrs_block.specs.Block.{IsAscending, IsBlockOf};
 ghost use Rattle.zarrs_node.specs.Forest.{HasPlacedChildren, IsPlaced, below_of, forest, metadata_of, pairs, path_of};
-ghost use Rattle.zarrs_node.specs.Latest.{IsLatest};
-ghost use Rattle.zarrs_node.specs.Consolidated.{AreBelow, ArePaths, put_all, text_beyond};
+ghost use Rattle.zarrs_node.specs.LastOfEqualPaths.{IsLatest};
+ghost use Rattle.zarrs_node.specs.BlocksOfNodes.{text_beyond};
+ghost use Rattle.zarrs_node.specs.StepsOfBlocks.{ArePairsBelow, ArePaths, put_all};
 
 use crate::last_name::slashed;
 use crate::node::Node;
@@ -51,7 +52,7 @@ fn insert_all(
     nodes: &[Node],
     block: &mut ConsolidatedMetadataMetadata,
 ) -> Result<(), AllocError>
-    requires below { AreBelow base.now (pairs (forest nodes.now)) }
+    requires below { ArePairsBelow base.now (pairs (forest nodes.now)) }
     ensures inserted { OnOk result (block.new ≡ put_all base.now block.old (pairs (forest nodes.now))) }
     ensures valid { OnOk result (ArePaths (pairs (forest nodes.now))) }
 {

@@ -4,12 +4,12 @@ ghost use Rattle.zarrs_store.specs.Segments.{IsPrefix};
 ghost use Rattle.zarrs_store.specs.Contents.{Lists};
 ghost use Rattle.zarrs_path.specs.Paths.{IsPath};
 ghost use Rattle.zarrs_block.specs.Meaning.{meaning, bad};
-ghost use Rattle.zarrs_block.specs.Refused.{IsExcused, IsInvalidPath};
-ghost use Rattle.zarrs_node.specs.Forest.{told, passed, found_group};
+ghost use Rattle.zarrs_block.specs.Refusals.{IsExcused, IsInvalidPath};
+ghost use Rattle.zarrs_node.specs.StepsOfTrees.{own_node, paths_passed, is_group_found};
 ghost use Rattle.zarrs_node.specs.Nodes.{Nodes, Ignored, ShowsBad, Bad};
-ghost use Rattle.zarrs_node.specs.Refused.{Finds};
+ghost use Rattle.zarrs_node.specs.StepsOfDocuments.{Finds};
 ghost use Rattle.zarrs_node.specs.Sinks.{TakesAll, TakesForest};
-ghost use Rattle.zarrs_node.specs.Stacked.{AreOnTop, IsPathAndOne};
+ghost use Rattle.zarrs_node.specs.StepsOfTheWalk.{AreOnTop, IsPathAndOne};
 
 use crate::last_read::LastDocuments;
 use crate::metadata::find_metadata;
@@ -32,7 +32,7 @@ use zarrs_store::{
 /// - `StorageError::InvalidMetadata` where a document on the way does not read, with its key and the fault.
 /// - `MetadataVersionMismatch` where a document of version 2 stands at `zarr.json`.
 /// - `StorageError::Other` with `invalid node path ` and the child's text where a child's name is made of periods only.
-/// - `StorageError::Fault` of a store that can fail, and `OutOfMemory` where memory is wanting.
+/// - `StorageError::Fault` of a store that can fail, and `OutOfMemory` when out of memory.
 ///
 /// Source: `zarrs::node::get_child_nodes_opt`, without a logger, its nodes one by one.
 pub fn walk_nodes<S: ReadableStorageTraits + ListableStorageTraits, K: NodeSink>(
@@ -92,8 +92,8 @@ fn tell<K: NodeSink>(
     sink: &mut K,
     ignored: &mut Vec<NodePath>,
 ) -> Result<(), AllocError>
-    ensures nodes { OnOk result (TakesAll K.takes sink.old (told path found) sink.new) }
-    ensures ignored { OnOk result (ignored.new.items ≡ ignored.old.items ++ passed path found []) }
+    ensures nodes { OnOk result (TakesAll K.takes sink.old (own_node path found) sink.new) }
+    ensures ignored { OnOk result (ignored.new.items ≡ ignored.old.items ++ paths_passed path found []) }
 {
     match found {
         Some(metadata) => sink.take(path, metadata),
@@ -119,7 +119,7 @@ fn push_children<S: ListableStorageTraits>(
 
 // Whether what was found is a group.
 fn is_group(found: &Option<NodeMetadata>) -> bool
-    ensures { result ≡ found_group found.now }
+    ensures { result ≡ is_group_found found.now }
 {
     match found {
         Some(metadata) => metadata.is_group(),

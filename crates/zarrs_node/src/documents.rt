@@ -2,7 +2,8 @@
 ghost use Rattle.std.specs.Prelude.{◌≡◌, [], ◌∷◌, ◌++◌, Ok, IfOk, IfErr, IsTrue};
 ghost use Rattle.zarrs_store.specs.Segments.{is_segment};
 ghost use Rattle.zarrs_block.specs.Meaning.{attributes_at, document_at};
-ghost use Rattle.zarrs_node.specs.Refused.{RefusesReading, refusal_at};
+ghost use Rattle.zarrs_node.specs.Refusals.{RefusesReading};
+ghost use Rattle.zarrs_node.specs.StepsOfDocuments.{refusal_at};
 
 use crate::last_read::LastRead;
 use std::alloc::Global;

@@ -12,7 +12,7 @@ use zarrs_store::{ListableStorageTraits, ReadableStorageTraits, StorageError, St
 ///
 /// # Errors
 ///
-/// `StorageError::Fault` of a store that can fail, and `StorageError::OutOfMemory` where memory is wanting.
+/// `StorageError::Fault` of a store that can fail, and `StorageError::OutOfMemory` when out of memory.
 ///
 /// Source: `zarrs::node::node_exists`.
 pub fn node_exists<S: ReadableStorageTraits>(
@@ -46,7 +46,7 @@ fn has_key<S: ReadableStorageTraits>(
 ///
 /// # Errors
 ///
-/// `StorageError::Fault` of a store that can fail, and `StorageError::OutOfMemory` where memory is wanting.
+/// `StorageError::Fault` of a store that can fail, and `StorageError::OutOfMemory` when out of memory.
 ///
 /// Source: `zarrs::node::node_exists_listable`.
 pub fn node_exists_listable<S: ListableStorageTraits>(

@@ -2,7 +2,7 @@
 ghost use Rattle.std.specs.Prelude.{◌≡◌, ◌↔◌, IsTrue};
 ghost use Rattle.zarrs_store.specs.Segments.{last_segment};
 ghost use Rattle.zarrs_path.specs.Names.{is_node_name};
-ghost use Rattle.zarrs_path.specs.Paths.{IsPath, slashed};
+ghost use Rattle.zarrs_path.specs.Paths.{IsPath, names_text};
 ghost use Rattle.zarrs_node.specs.Forest.{IsChildOf};
 
 use zarrs_path::NodePath;
@@ -31,7 +31,7 @@ pub(crate) fn is_child(base: &NodePath, path: &NodePath) -> bool
 
 // Each name with a slash before it, which is nothing for the root.
 pub(crate) fn slashed(path: &NodePath) -> &str
-    ensures text { result.now ≡ slashed path.now }
+    ensures text { result.now ≡ names_text path.now }
     ensures valid { IsPath path.now }
 {
     let text = path.as_str();

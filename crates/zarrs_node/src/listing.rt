@@ -1,7 +1,7 @@
 //! The nodes below a path.
 ghost use Rattle.std.specs.Prelude.{IfOk, IfErr, ◌⊎◌};
 ghost use Rattle.zarrs_store.specs.Contents.{Lists};
-ghost use Rattle.zarrs_block.specs.Refused.{IsExcused};
+ghost use Rattle.zarrs_block.specs.Refusals.{IsExcused};
 ghost use Rattle.zarrs_node.specs.Forest.{Shows, forest};
 ghost use Rattle.zarrs_node.specs.Nodes.{Nodes, Ignored, ShowsBad, Bad};
 
@@ -34,7 +34,7 @@ pub struct ListedNodes {
 /// - `StorageError::InvalidMetadata` where a document on the way does not read, with its key and the fault.
 /// - `MetadataVersionMismatch` where a document of version 2 stands at `zarr.json`.
 /// - `StorageError::Other` with `invalid node path ` and the child's text where a child's name is made of periods only.
-/// - `StorageError::Fault` of a store that can fail, and `OutOfMemory` where memory is wanting.
+/// - `StorageError::Fault` of a store that can fail, and `OutOfMemory` when out of memory.
 ///
 /// Source: `zarrs::node::get_child_nodes_opt`, without a logger.
 pub fn list_nodes<S: ReadableStorageTraits + ListableStorageTraits>(

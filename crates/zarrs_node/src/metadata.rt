@@ -1,8 +1,9 @@
 //! What a path means in a store.
 ghost use Rattle.std.specs.Prelude.{◌≡◌, Ok, IfOk, IfErr, ◌⊎◌};
-ghost use Rattle.zarrs_block.specs.Refused.{IsExcused, IsMissing};
+ghost use Rattle.zarrs_block.specs.Refusals.{IsExcused, IsMissing};
 ghost use Rattle.zarrs_block.specs.Meaning.{in_bytes, meaning, attributes_at, node, nothing, bad, zarr_json_line, zarray_line, zgroup_line};
-ghost use Rattle.zarrs_node.specs.Refused.{RefusesReading, FollowsLine, Finds};
+ghost use Rattle.zarrs_node.specs.Refusals.{RefusesReading};
+ghost use Rattle.zarrs_node.specs.StepsOfDocuments.{FollowsLine, Finds};
 
 use crate::documents::find_below;
 use crate::last_read::LastDocuments;
@@ -26,7 +27,7 @@ impl Node {
     /// - `MissingMetadata` with the path's text where there is none of these documents.
     /// - `StorageError::InvalidMetadata` where a document does not read, with its key and the fault.
     /// - `MetadataVersionMismatch` where a document of version 2 stands at `zarr.json`.
-    /// - `StorageError::Fault` of a store that can fail, and `OutOfMemory` where memory is wanting.
+    /// - `StorageError::Fault` of a store that can fail, and `OutOfMemory` when out of memory.
     ///
     /// Source: `zarrs::node::Node::get_metadata`.
     pub fn get_metadata<S: ReadableStorageTraits>(

@@ -1,8 +1,9 @@
 //! A node and the nodes below it.
 ghost use Rattle.std.specs.Prelude.{◌≡◌, ◌↔◌, ◌+◌, ◌<◌, ◌≤◌, [], ◌∷◌, ◌++◌, MatchOption, None, IsTrue, IfOk, OnOk, length, vec_capacity, vec_len};
 ghost use Rattle.zarrs_store.specs.Segments.{last_segment};
-ghost use Rattle.zarrs_node.specs.Forest.{forest, graft, tree, none, path_of, metadata_of, below_of, HasPlacedChildren, ArePlacedBelow};
-ghost use Rattle.zarrs_node.specs.Weights.{children_of, weights};
+ghost use Rattle.zarrs_node.specs.Forest.{forest, tree, none, path_of, metadata_of, below_of, HasPlacedChildren, ArePlacedBelow};
+ghost use Rattle.zarrs_node.specs.StepsOfTrees.{graft};
+ghost use Rattle.zarrs_node.specs.StepsOfCounting.{children_of, weights};
 
 use crate::copies::copy_nodes;
 use crate::last_name::{is_child, last_name};
@@ -82,7 +83,7 @@ impl Node {
     ///
     /// # Errors
     ///
-    /// `AllocError` where memory is wanting.
+    /// `AllocError` when out of memory.
     ///
     /// Source: `zarrs::node::Node::name`.
     pub fn name(&self, alloc: Global) -> Result<NodeName, AllocError>
@@ -96,7 +97,7 @@ impl Node {
     ///
     /// # Errors
     ///
-    /// `AllocError` where memory is wanting.
+    /// `AllocError` when out of memory.
     ///
     /// Source: `zarrs::node::Node`, its `Clone`.
     pub fn try_clone(&self, alloc: Global) -> Result<Node, AllocError>

@@ -1,13 +1,13 @@
 //! Opening a node of a store.
 ghost use Rattle.std.specs.Prelude.{◌≡◌, true, IfOk, IfErr, ◌⊎◌};
 ghost use Rattle.zarrs_path.specs.Paths.{path_text};
-ghost use Rattle.zarrs_block.specs.Refused.{IsExcused};
+ghost use Rattle.zarrs_block.specs.Refusals.{IsExcused};
 ghost use Rattle.zarrs_block.specs.Meaning.{meaning, node};
 ghost use Rattle.zarrs_block.specs.Block.{Entries, HasValidKeys};
-ghost use Rattle.zarrs_block.specs.Expanded.{RefusesKeys};
+ghost use Rattle.zarrs_block.specs.BlockExpansion.{RefusesKeys};
 ghost use Rattle.zarrs_node.specs.Forest.{Shows, forest, path_of, metadata_of, below_of, HasPlacedChildren};
-ghost use Rattle.zarrs_node.specs.Reached.{Kept};
-ghost use Rattle.zarrs_node.specs.Opened.{choice, ShowsChosen, IsCleanChosen, RefusesChosen, ShowsNode, IsCleanNode, RefusesOpening};
+ghost use Rattle.zarrs_node.specs.Reach.{Kept};
+ghost use Rattle.zarrs_node.specs.OpeningNodes.{choice, ShowsChosen, IsCleanChosen, RefusesChosen, ShowsNode, IsCleanNode, RefusesOpening};
 
 use crate::build::{build_ascending, direct_children_from_flat};
 use crate::children::get_child_nodes_opt;
@@ -70,8 +70,8 @@ impl Node {
     /// - `NodePathError` where a key of the block is no relative path.
     /// - The refusals of `get_child_nodes_opt`, recursive, where the children are listed.
     ///
-    /// In the place of each of these, and of a node, `StorageError::Fault` of a store that can fail, and `OutOfMemory` where memory is
-    /// wanting.
+    /// In the place of each of these, and of a node, `StorageError::Fault` of a store that can fail, and `OutOfMemory` when out of
+    /// memory.
     ///
     /// Source: `zarrs::node::Node::open_opt`.
     pub fn open_opt<L: Log, S: ReadableStorageTraits + ListableStorageTraits>(
@@ -101,6 +101,7 @@ impl Node {
 }
 
 // The nodes below the path of a group with these metadata, by its block or by a listing.
+#[tactic(auto, using(crate::proofs::Opening::block_excused))]
 fn nodes_below<L: Log, S: ReadableStorageTraits + ListableStorageTraits>(
     log: &L,
     alloc: Global,
@@ -127,7 +128,7 @@ fn nodes_below<L: Log, S: ReadableStorageTraits + ListableStorageTraits>(
 /// # Errors
 ///
 /// - `NodePathError` where a key of the block is no relative path.
-/// - `OutOfMemory` where memory is wanting.
+/// - `OutOfMemory` when out of memory.
 ///
 /// Source: own; `zarrs::group::Group::children` makes them of the expanded pairs.
 pub fn nodes_of_block(

@@ -1,7 +1,7 @@
 //! The nodes of some trees one after another, parents before children.
 ghost use Rattle.std.specs.Prelude.{◌≡◌, [], ◌∷◌, IfOk, MatchOption};
 ghost use Rattle.zarrs_node.specs.Forest.{forest};
-ghost use Rattle.zarrs_node.specs.Stops.{stops, stop_of, ahead};
+ghost use Rattle.zarrs_node.specs.StepsOfPreorder.{stops, stop_of, ahead};
 
 use crate::node::Node;
 use std::alloc::{AllocError, Global};

@@ -3,11 +3,12 @@ ghost use Rattle.std.specs.Prelude.{◌≡◌, ◌↔◌, ◌∷◌, IfOk, IfErr
 ghost use Rattle.zarrs_store.specs.Contents.{Lists};
 ghost use Rattle.zarrs_path.specs.Paths.{IsBelow, IsPath, Path, without_leading_slash};
 ghost use Rattle.zarrs_block.specs.Block.{Entries, IsAscending};
-ghost use Rattle.zarrs_block.specs.Refused.{IsExcused};
+ghost use Rattle.zarrs_block.specs.Refusals.{IsExcused};
 ghost use Rattle.zarrs_block.specs.Meaning.{meaning};
-ghost use Rattle.zarrs_node.specs.Reached.{HasGroup};
-ghost use Rattle.zarrs_node.specs.Consolidated.{AreBelow, put_all, text_beyond};
-ghost use Rattle.zarrs_node.specs.Fresh.{LeadsTo, Renewed, IsFresh, BadAnew, ShowsBadAnew};
+ghost use Rattle.zarrs_node.specs.Reach.{HasGroup};
+ghost use Rattle.zarrs_node.specs.BlocksOfNodes.{text_beyond};
+ghost use Rattle.zarrs_node.specs.StepsOfBlocks.{ArePairsBelow, put_all};
+ghost use Rattle.zarrs_node.specs.CurrentBlocks.{LeadsTo, IsNewPair, IsFresh, BadAnew, ShowsBadAnew};
 
 use crate::consolidate::text_beyond;
 use crate::descent::walk_nodes;
@@ -33,7 +34,7 @@ use zarrs_store::{ListableStorageTraits, ReadableStorageTraits};
 /// - `StorageError::Other` where a name below the path is made of periods only.
 /// - `StorageError::Fault` of a store that can fail.
 ///
-/// And `OutOfMemory` where memory is wanting.
+/// And `OutOfMemory` when out of memory.
 ///
 /// Source: own.
 pub fn refresh_block<S: ReadableStorageTraits + ListableStorageTraits>(
@@ -139,7 +140,7 @@ fn read_anew<S: ReadableStorageTraits + ListableStorageTraits>(
     path: &NodePath,
     version: &MetadataRetrieveVersion,
 ) -> Result<Vec<(NodePath, NodeMetadata)>, NodeCreateError>
-    ensures renewed { IfOk result (λ pairs. Lists (Renewed (meaning (S.contents storage.now) version.now) path.now) pairs.items) }
+    ensures renewed { IfOk result (λ pairs. Lists (IsNewPair (meaning (S.contents storage.now) version.now) path.now) pairs.items) }
     ensures clean { IfOk result (λ _. BadAnew (S.contents storage.now) version.now path.now → ⊥) }
     ensures refused { IfErr result (λ e. IsExcused (S.can_fail storage.now) e ⊎ ShowsBadAnew (S.contents storage.now) version.now path.now e) }
 {
@@ -167,7 +168,7 @@ pub(crate) fn insert_pairs(
     pairs: Vec<(NodePath, NodeMetadata)>,
     block: &mut ConsolidatedMetadataMetadata,
 ) -> Result<(), AllocError>
-    requires below { AreBelow base.now pairs.items }
+    requires below { ArePairsBelow base.now pairs.items }
     ensures inserted { OnOk result (block.new ≡ put_all base.now block.old pairs.items) }
 {
     for (path, metadata) in pairs {

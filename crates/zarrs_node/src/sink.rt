@@ -19,7 +19,7 @@ pub trait NodeSink {
     ///
     /// # Errors
     ///
-    /// `AllocError` where memory is wanting.
+    /// `AllocError` when out of memory.
     fn take(&mut self, path: NodePath, metadata: NodeMetadata) -> Result<(), AllocError>
         ensures { OnOk result (takes self.old (path, metadata) self.new) };
 }

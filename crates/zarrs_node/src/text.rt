@@ -20,7 +20,7 @@ impl Node {
     ///
     /// # Errors
     ///
-    /// `AllocError` where memory is wanting.
+    /// `AllocError` when out of memory.
     ///
     /// Source: `zarrs::node::Node::hierarchy_tree`.
     pub fn hierarchy_tree(&self, alloc: Global) -> Result<String, AllocError>

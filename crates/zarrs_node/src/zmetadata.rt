@@ -3,10 +3,9 @@ ghost use Rattle.std.specs.Prelude.{◌≡◌, Ok, Some, None, IfOk, IfErr, IfSo
 ghost use Rattle.zarrs_store.specs.Faults.{IsStoreError};
 ghost use Rattle.zarrs_form.specs.Documents.{Gives, of_bytes};
 ghost use Rattle.zarrs_config.specs.declared.version.UseConsolidatedMetadata.TheVariants.{Never};
-ghost use Rattle.zarrs_block.specs.Refused.{IsExcused};
-ghost use Rattle.zarrs_block.specs.Used.{seen, used, RefusesUse};
+ghost use Rattle.zarrs_block.specs.Policy.{as_block, block_to_use, RefusesUse};
 ghost use Rattle.zarrs_block.specs.Zmetadata.{zmetadata_of};
-ghost use Rattle.zarrs_node.specs.Below.{block_at, zmetadata_at, HoldsZmetadata};
+ghost use Rattle.zarrs_node.specs.BlocksBelow.{block_at, zmetadata_at, ExcusesBlock, HoldsZmetadata};
 
 use std::alloc::Global;
 use zarrs_block::{
@@ -25,7 +24,8 @@ use zarrs_store::{MetadataFault, ReadableStorageTraits, StorageError};
 /// # Errors
 ///
 /// - `MissingMetadata` where there is no block that reads and the policy is `Must`, with a text that names the path.
-/// - `StorageError::Fault` of a store that can fail, and `OutOfMemory` where memory is wanting.
+/// - Of a version 2 group `StorageError::Fault` of a store that can fail, and `OutOfMemory`; of a version 3 group `OutOfMemory` where it has the
+///   field `consolidated_metadata`. For a version 3 group and an array the store is not asked.
 ///
 /// Source: own; zarr-python, consolidated metadata of version 2.
 pub fn consolidated_metadata_at<S: ReadableStorageTraits>(
@@ -35,9 +35,10 @@ pub fn consolidated_metadata_at<S: ReadableStorageTraits>(
     metadata: &NodeMetadata,
     policy: UseConsolidatedMetadata,
 ) -> Result<Option<ConsolidatedMetadata>, NodeCreateError>
-    ensures ok { IfOk result (λ chosen. used (block_at (S.contents storage.now) path.now metadata.now) policy ≡ Some (seen chosen)) }
+    ensures ok { IfOk result (λ chosen. block_to_use (block_at (S.contents storage.now) path.now metadata.now) policy ≡ Some (as_block chosen)) }
     ensures never { policy ≡ Never → result ≡ Ok None }
-    ensures err { IfErr result (λ e. IsExcused (S.can_fail storage.now) e ⊎ RefusesUse path.now (used (block_at (S.contents storage.now) path.now metadata.now) policy) e) }
+    ensures excused { IfErr result (λ e. ExcusesBlock (S.can_fail storage.now) metadata.now policy e
+        ⊎ RefusesUse path.now (block_to_use (block_at (S.contents storage.now) path.now metadata.now) policy) e) }
 {
     match (metadata, policy) {
         (_, UseConsolidatedMetadata::Never) => Ok(None),
@@ -62,7 +63,7 @@ pub fn zmetadata_at<S: ReadableStorageTraits>(
     storage: &S,
     path: &NodePath,
 ) -> Result<Option<ConsolidatedMetadata>, StorageError>
-    ensures ok { IfOk result (λ block. seen block ≡ zmetadata_at (S.contents storage.now) path.now) }
+    ensures ok { IfOk result (λ block. as_block block ≡ zmetadata_at (S.contents storage.now) path.now) }
     ensures store { IfOk result (λ block. IfSome block (λ b. HoldsZmetadata (S.contents storage.now) path.now b.metadata)) }
     ensures err { IfErr result (IsStoreError (S.can_fail storage.now)) }
 {

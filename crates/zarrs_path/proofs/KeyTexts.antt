@@ -1,9 +1,10 @@
 -- The texts of keys below a path.
 use Rattle.std.proofs.Common.{◌≡◌, ◌≢◌, ℕ, List, [], ◌∷◌, ◌++◌, refl, sym, ap, ◌∙◌, IsTrue}
 use Rattle.std.proofs.lemmas.List.Elements.{All-nil, All-cons, All-append}
-use Rattle.zarrs_store.specs.Segments.{segments_of, key_text, is_segment, IsSegment, IsSegments, IsKey, IsKeyText}
+use Rattle.zarrs_store.specs.Segments.{segments_of, key_text, is_segment, IsSegment, IsKey, IsKeyText}
+use Rattle.zarrs_store.specs.StepsOfStores.{IsSegments}
 use Rattle.zarrs_store.proofs.Cuts.{segment_of_test, segments_of_test, segments_of-append, segments_of_one, segments_of-nil, segments_of-key_text, key_from_text}
-use Rattle.zarrs_path.specs.Paths.{Path, IsPath, slashed}
+use Rattle.zarrs_path.specs.Paths.{Path, IsPath, names_text}
 use Rattle.zarrs_path.proofs.PathTexts.{slashed-cons, slashed-append, segments_of-slashed, segments_from_names}
 
 -- a segment is the text of the key of it alone
@@ -15,7 +16,7 @@ segment_text s h = record {
 }
 
 -- segments with a slash before each are a slash and the text of their key
-slashed_key : (r : Path) → r ≢ [] → slashed r ≡ 47 ∷ key_text r
+slashed_key : (r : Path) → r ≢ [] → names_text r ≡ 47 ∷ key_text r
 slashed_key [] some = absurd (some refl)
 slashed_key (n ∷ r) some = slashed-cons n r
 
@@ -31,14 +32,14 @@ key_append p r h k = record {
   each = All-append IsSegment p r (segments_of_test p h) k.each;
 }
 
-module _ (p : Path) (names rest : List ℕ) (valid : IsPath p) (is : slashed p ≡ 47 ∷ names) (key : IsKeyText rest) where
+module _ (p : Path) (names rest : List ℕ) (valid : IsPath p) (is : names_text p ≡ 47 ∷ names) (key : IsKeyText rest) where
   -- the names of a path, a slash and the text of a key are the text of a key
   pub below_text : IsKeyText (names ++ 47 ∷ rest)
   below_text =
       let back = key_from_text rest key in
       let r : Path = segments_of rest in
       let text : 47 ∷ key_text (p ++ r) ≡ 47 ∷ (names ++ 47 ∷ rest) =
-      sym (slashed_key (p ++ r) (append_some p r back.0.some)) ∙ (slashed-append p r ∙ (ap (λ t. t ++ slashed r) is ∙ ap (λ t. 47 ∷ (names ++ t)) (slashed_key r back.0.some ∙ ap (λ t. 47 ∷ t) back.1))) in
+      sym (slashed_key (p ++ r) (append_some p r back.0.some)) ∙ (slashed-append p r ∙ (ap (λ t. t ++ names_text r) is ∙ ap (λ t. 47 ∷ (names ++ t)) (slashed_key r back.0.some ∙ ap (λ t. 47 ∷ t) back.1))) in
       record { key = p ++ r; valid = key_append p r (segments_from_names p valid) back.0; is = cc }
 
   -- that key has the names of the path, and then the segments of the other
@@ -48,9 +49,9 @@ module _ (p : Path) (names rest : List ℕ) (valid : IsPath p) (is : slashed p �
       segments_of-append names rest ∙ ap (λ q. q ++ segments_of rest) (sym first ∙ (ap segments_of (sym is) ∙ segments_of-slashed p (segments_from_names p valid)))
 
 -- what begins with no slash is the root's
-pub root_names : (p : Path) → ((rest : List ℕ) → slashed p ≢ 47 ∷ rest) → p ≡ []
+pub root_names : (p : Path) → ((rest : List ℕ) → names_text p ≢ 47 ∷ rest) → p ≡ []
 root_names [] none = refl
-root_names (n ∷ p) none = absurd (none (n ++ slashed p) refl)
+root_names (n ∷ p) none = absurd (none (n ++ names_text p) refl)
 
 -- the text of a key is cut into its segments
 pub key_parts : (bs : List ℕ) (k : Path) → bs ≡ key_text k → IsKey k → segments_of bs ≡ k

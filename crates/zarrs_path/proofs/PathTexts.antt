@@ -3,14 +3,15 @@ use Rattle.std.proofs.Common.{is_none, Some, None, ◌≡◌, ◌≢◌, ℕ, Bo
 use Rattle.std.specs.List.{slice_split, list_all}
 use Rattle.std.proofs.lemmas.List.Splits.{join_with_byte-slice_split}
 use Rattle.std.proofs.lemmas.Bool.{and_parts, and_from}
-use Rattle.zarrs_store.specs.Segments.{segments_of, key_text, is_segment, IsSegments, is_nonempty, has_no_slash, is_slash}
+use Rattle.zarrs_store.specs.Segments.{segments_of, key_text, is_segment, is_nonempty, has_no_slash, is_slash}
+use Rattle.zarrs_store.specs.StepsOfStores.{IsSegments}
 use Rattle.zarrs_store.proofs.Cuts.{segments_of-append, segments_of_one, segments_of-nil, parts-join, parts_some, segments_clean}
 use Rattle.zarrs_path.specs.Names.{is_name, is_all_periods, is_reserved}
 use Rattle.std.proofs.lemmas.Grind.{flat_map-append}
 use Rattle.std.proofs.lemmas.List.Folds.{list_all-append}
 use Rattle.std.specs.Ordering.{nat_cmp}
 use Rattle.std.specs.Cmp.Lexicographic.{slice_cmp}
-use Rattle.zarrs_path.specs.Paths.{path_cmp, parts, Path, IsPath, IsPathText, path_text, slashed, first_bad}
+use Rattle.zarrs_path.specs.Paths.{path_cmp, parts, Path, IsPath, IsPathText, path_text, names_text, first_bad}
 
 -- a name is a segment of a key
 pub segment_from_name : (n : List ℕ) → IsTrue (is_name n) → IsTrue (is_segment n)
@@ -27,18 +28,18 @@ segments_from_names (n ∷ p) h =
     and_from (is_segment n) (list_all is_segment p) (segment_from_name n both.0) (segments_from_names p both.1)
 
 -- a name, and then names with a slash before each
-segments_of_first : (n : List ℕ) (p : Path) → IsTrue (is_segment n) → IsSegments p → segments_of (n ++ slashed p) ≡ n ∷ p
+segments_of_first : (n : List ℕ) (p : Path) → IsTrue (is_segment n) → IsSegments p → segments_of (n ++ names_text p) ≡ n ∷ p
 segments_of_first n [] h hs = rw (append-nil n) (segments_of_one n h)
 segments_of_first n (m ∷ p) h hs =
     let both = and_parts _ _ hs in
-    segments_of-append n (m ++ slashed p) ∙ rw (segments_of_one n h, segments_of_first m p both.0 both.1) refl
+    segments_of-append n (m ++ names_text p) ∙ rw (segments_of_one n h, segments_of_first m p both.0 both.1) refl
 
 -- segments with a slash before each are cut into themselves
-pub segments_of-slashed : (p : Path) → IsSegments p → segments_of (slashed p) ≡ p
+pub segments_of-slashed : (p : Path) → IsSegments p → segments_of (names_text p) ≡ p
 segments_of-slashed [] h = segments_of-nil
 segments_of-slashed (n ∷ p) h =
     let both = and_parts _ _ h in
-    segments_of-append [] (n ++ slashed p) ∙ rw (segments_of-nil, segments_of_first n p both.0 both.1) refl
+    segments_of-append [] (n ++ names_text p) ∙ rw (segments_of-nil, segments_of_first n p both.0 both.1) refl
 
 -- the text of segments as a path is cut into them
 pub cut_path_text : (p : Path) → IsSegments p → segments_of (path_text p) ≡ p
@@ -64,7 +65,7 @@ valid_of_text bs t =
 -- ---- the names after the first slash
 
 -- names with a slash before each are a slash, and the names joined by slashes
-pub slashed-cons : (n : List ℕ) (p : Path) → slashed (n ∷ p) ≡ 47 ∷ key_text (n ∷ p)
+pub slashed-cons : (n : List ℕ) (p : Path) → names_text (n ∷ p) ≡ 47 ∷ key_text (n ∷ p)
 slashed-cons n [] = rw (append-nil n) refl
 slashed-cons n (m ∷ p) = ap (λ t. 47 ∷ (n ++ t)) (slashed-cons m p)
 
@@ -118,16 +119,16 @@ slash_from_text bs t =
 -- ---- whole paths
 
 -- names in a row stand one after another in the text
-pub slashed-append : (p q : Path) → slashed (p ++ q) ≡ slashed p ++ slashed q
+pub slashed-append : (p q : Path) → names_text (p ++ q) ≡ names_text p ++ names_text q
 slashed-append p q = flat_map-append (λ n. 47 ∷ n) p q
 
 -- the text of a path with names has a slash before each
-pub path_text-slashed : (p : Path) → p ≢ [] → path_text p ≡ slashed p
+pub path_text-slashed : (p : Path) → p ≢ [] → path_text p ≡ names_text p
 path_text-slashed [] some = absurd (some refl)
 path_text-slashed (n ∷ p) some = refl
 
 -- only the root has no slashed names
-pub slashed_nil : (p : Path) → slashed p ≡ [] → p ≡ []
+pub slashed_nil : (p : Path) → names_text p ≡ [] → p ≡ []
 slashed_nil [] e = refl
 slashed_nil (n ∷ p) e = cc
 
@@ -170,7 +171,7 @@ pub record IsCutAt (p : Path) (front : List ℕ) : Type 0 where
   pub name : List ℕ
   pub whole : p ≡ upper ++ name ∷ []
   pub valid : IsPath upper
-  pub text : slashed upper ≡ front
+  pub text : names_text upper ≡ front
 
 -- where the text of a path is cut at its last slash, what stands before is the text of the upper names
 pub cut_last : (p : Path) (front last : List ℕ) → IsPath p → p ≢ [] → path_text p ≡ front ++ 47 ∷ last → IsTrue (has_no_slash last) → IsCutAt p front
@@ -180,16 +181,16 @@ cut_last p front last h some e clean =
     let n : List ℕ = view.1 in
     let whole : p ≡ q ++ n ∷ [] = view.2 in
     let both : IsPath q × IsPath (n ∷ []) = IsPath-parts q (n ∷ []) (subst IsPath whole h) in
-    let text : slashed q ++ 47 ∷ n ≡ front ++ 47 ∷ last =
-    let one : slashed (n ∷ []) ≡ 47 ∷ n = ap (λ t. 47 ∷ t) (append-nil n) in
-    ap (λ t. slashed q ++ t) (sym one) ∙ (sym (slashed-append q (n ∷ [])) ∙ (ap slashed (sym whole) ∙ (sym (path_text-slashed p some) ∙ e))) in
+    let text : names_text q ++ 47 ∷ n ≡ front ++ 47 ∷ last =
+    let one : names_text (n ∷ []) ≡ 47 ∷ n = ap (λ t. 47 ∷ t) (append-nil n) in
+    ap (λ t. names_text q ++ t) (sym one) ∙ (sym (slashed-append q (n ∷ [])) ∙ (ap names_text (sym whole) ∙ (sym (path_text-slashed p some) ∙ e))) in
     let one_segment : IsTrue (is_segment n) = segment_from_name n (and_parts (is_name n) true both.1).0 in
-    record { upper = q; name = n; whole = whole; valid = both.0; text = last_slash_same (slashed q) front n last text (and_parts (is_nonempty n) (has_no_slash n) one_segment).1 clean }
+    record { upper = q; name = n; whole = whole; valid = both.0; text = last_slash_same (names_text q) front n last text (and_parts (is_nonempty n) (has_no_slash n) one_segment).1 clean }
 
 -- slashed names, if there are any, are the text of a path
-pub text_from_slashed : (q : Path) (front : List ℕ) → IsPath q → slashed q ≡ front → front ≢ [] → IsPathText front
+pub text_from_slashed : (q : Path) (front : List ℕ) → IsPath q → names_text q ≡ front → front ≢ [] → IsPathText front
 text_from_slashed q front h e some =
-    record { path = q; valid = h; text = path_text-slashed q (λ none. some (sym e ∙ ap slashed none)) ∙ e }
+    record { path = q; valid = h; text = path_text-slashed q (λ none. some (sym e ∙ ap names_text none)) ∙ e }
 
 -- ---- further names
 
@@ -199,13 +200,13 @@ parts_some_is [] some = absurd (some refl)
 parts_some_is (b ∷ rest) some = refl
 
 -- the parts of a text with a slash before each are the text behind a slash
-pub slashed_parts : (rest : List ℕ) → slashed (slice_split is_slash rest) ≡ 47 ∷ rest
+pub slashed_parts : (rest : List ℕ) → names_text (slice_split is_slash rest) ≡ 47 ∷ rest
 slashed_parts rest =
     sym (path_text-slashed (slice_split is_slash rest) (parts_some rest)) ∙ (path_text_some (slice_split is_slash rest) (parts_some rest) ∙ ap (λ t. 47 ∷ t) (join_with_byte-slice_split 47 rest))
 
 -- a path and the parts of a rest, slashed
-pub joined_slashed : (p : Path) (rest : List ℕ) → slashed (p ++ slice_split is_slash rest) ≡ slashed p ++ 47 ∷ rest
-joined_slashed p rest = slashed-append p (slice_split is_slash rest) ∙ ap (λ t. slashed p ++ t) (slashed_parts rest)
+pub joined_slashed : (p : Path) (rest : List ℕ) → names_text (p ++ slice_split is_slash rest) ≡ names_text p ++ 47 ∷ rest
+joined_slashed p rest = slashed-append p (slice_split is_slash rest) ∙ ap (λ t. names_text p ++ t) (slashed_parts rest)
 
 -- a list with further elements is not empty
 some_append : (p q : Path) → q ≢ [] → p ++ q ≢ []
@@ -213,7 +214,7 @@ some_append [] q some e = some e
 some_append (n ∷ p) q some e = cc
 
 -- the text of a path, a slash and names is the text of a path
-pub joined_text : (p : Path) (rest : List ℕ) → IsPath p → IsPath (slice_split is_slash rest) → IsPathText (slashed p ++ 47 ∷ rest)
+pub joined_text : (p : Path) (rest : List ℕ) → IsPath p → IsPath (slice_split is_slash rest) → IsPathText (names_text p ++ 47 ∷ rest)
 joined_text p rest h k = record {
   path = p ++ slice_split is_slash rest;
   valid = IsPath-append p (slice_split is_slash rest) h k;
@@ -221,7 +222,7 @@ joined_text p rest h k = record {
 }
 
 -- that text is cut into the names of the path and the further names
-pub joined_names : (p : Path) (rest : List ℕ) → IsPath p → IsPath (slice_split is_slash rest) → segments_of (slashed p ++ 47 ∷ rest) ≡ p ++ slice_split is_slash rest
+pub joined_names : (p : Path) (rest : List ℕ) → IsPath p → IsPath (slice_split is_slash rest) → segments_of (names_text p ++ 47 ∷ rest) ≡ p ++ slice_split is_slash rest
 joined_names p rest h k =
     ap segments_of (sym (joined_slashed p rest)) ∙ segments_of-slashed (p ++ slice_split is_slash rest) (segments_from_names (p ++ slice_split is_slash rest) (IsPath-append p (slice_split is_slash rest) h k))
 

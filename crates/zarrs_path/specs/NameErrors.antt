@@ -4,7 +4,7 @@ use Rattle.zarrs_path.specs.Names.{is_node_name}
 use Rattle.zarrs_path.specs.declared.node_name.NodeNameError.{NodeNameError}
 use Rattle.zarrs_path.specs.declared.node_name.NodeNameError.TheVariants.{Invalid, OutOfMemory}
 
--- the text is no name, and the error holds it; or memory was wanting
+-- the text is no name, and the error holds it; or out of memory
 abbrev pub RefusesName : List ℕ → NodeNameError → Type 0
 RefusesName n (Invalid text) = (string_bytes text ≡ n) × IsFalse (is_node_name n)
 RefusesName n OutOfMemory = Unit {0}

@@ -23,13 +23,13 @@ abbrev pub IsPath : Path → Type 0
 IsPath p = IsTrue (list_all is_name p)
 
 -- each name with a slash before it
-abbrev pub slashed : Path → List ℕ
-slashed p = flat_map (λ n. 47 ∷ n) p
+abbrev pub names_text : Path → List ℕ
+names_text p = flat_map (λ n. 47 ∷ n) p
 
 -- the text of a path: `/` for the root, else each name with a slash before it
 abbrev pub path_text : Path → List ℕ
 path_text [] = 47 ∷ []
-path_text (n ∷ p) = slashed (n ∷ p)
+path_text (n ∷ p) = names_text (n ∷ p)
 
 -- a text is that of a path: some list of names has it as its text
 pub record IsPathText (bs : List ℕ) : Type 0 where

@@ -12,7 +12,7 @@ use zarrs_store::StoreKey;
 /// The key of the metadata document of version 3: the names of the path, then `zarr.json`.
 ///
 /// # Errors
-/// `AllocError` where memory for the key is wanting.
+/// `AllocError` when out of memory for the key.
 ///
 /// Source: `zarrs::node::meta_key`.
 pub fn meta_key(alloc: Global, path: &NodePath) -> Result<StoreKey, AllocError>
@@ -24,7 +24,7 @@ pub fn meta_key(alloc: Global, path: &NodePath) -> Result<StoreKey, AllocError>
 /// The key of the metadata document of version 3: the names of the path, then `zarr.json`.
 ///
 /// # Errors
-/// `AllocError` where memory for the key is wanting.
+/// `AllocError` when out of memory for the key.
 ///
 /// Source: Zarr core specification 3.1, "Storage keys"; `zarrs::node::meta_key_v3`.
 pub fn meta_key_v3(alloc: Global, path: &NodePath) -> Result<StoreKey, AllocError>
@@ -36,7 +36,7 @@ pub fn meta_key_v3(alloc: Global, path: &NodePath) -> Result<StoreKey, AllocErro
 /// The key of the metadata document of a version 2 array: the names of the path, then `.zarray`.
 ///
 /// # Errors
-/// `AllocError` where memory for the key is wanting.
+/// `AllocError` when out of memory for the key.
 ///
 /// Source: Zarr version 2 specification, "Metadata" of arrays; `zarrs::node::meta_key_v2_array`.
 pub fn meta_key_v2_array(alloc: Global, path: &NodePath) -> Result<StoreKey, AllocError>
@@ -48,7 +48,7 @@ pub fn meta_key_v2_array(alloc: Global, path: &NodePath) -> Result<StoreKey, All
 /// The key of the metadata document of a version 2 group: the names of the path, then `.zgroup`.
 ///
 /// # Errors
-/// `AllocError` where memory for the key is wanting.
+/// `AllocError` when out of memory for the key.
 ///
 /// Source: Zarr version 2 specification, "Groups"; `zarrs::node::meta_key_v2_group`.
 pub fn meta_key_v2_group(alloc: Global, path: &NodePath) -> Result<StoreKey, AllocError>
@@ -60,7 +60,7 @@ pub fn meta_key_v2_group(alloc: Global, path: &NodePath) -> Result<StoreKey, All
 /// The key of the attributes of a version 2 node: the names of the path, then `.zattrs`.
 ///
 /// # Errors
-/// `AllocError` where memory for the key is wanting.
+/// `AllocError` when out of memory for the key.
 ///
 /// Source: Zarr version 2 specification, "Attributes"; `zarrs::node::meta_key_v2_attributes`.
 pub fn meta_key_v2_attributes(alloc: Global, path: &NodePath) -> Result<StoreKey, AllocError>
@@ -72,7 +72,7 @@ pub fn meta_key_v2_attributes(alloc: Global, path: &NodePath) -> Result<StoreKey
 /// The key of the consolidated metadata of a version 2 group: the names of the path, then `.zmetadata`.
 ///
 /// # Errors
-/// `AllocError` where memory for the key is wanting.
+/// `AllocError` when out of memory for the key.
 ///
 /// Source: zarr-python, consolidated metadata of version 2.
 pub fn meta_key_v2_consolidated(alloc: Global, path: &NodePath) -> Result<StoreKey, AllocError>
@@ -84,7 +84,7 @@ pub fn meta_key_v2_consolidated(alloc: Global, path: &NodePath) -> Result<StoreK
 /// The key of a chunk of the array at the path: the names of the path, then the chunk key's segments.
 ///
 /// # Errors
-/// `AllocError` where memory for the key is wanting.
+/// `AllocError` when out of memory for the key.
 ///
 /// Source: Zarr core specification 3.1, "Storage keys"; `zarrs::node::data_key`.
 #[tactic(auto, using(crate::proofs::KeyTexts::key_parts))]

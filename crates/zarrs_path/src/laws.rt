@@ -4,7 +4,7 @@ ghost use Rattle.std.specs.Prelude.{◌≡◌, ◌↔◌, ◌++◌, IfOk, IfErr,
 ghost use Rattle.zarrs_path.specs.Names.{IsName};
 ghost use Rattle.std.specs.declared.cmp.Ordering.TheVariants.{Equal};
 ghost use Rattle.zarrs_path.specs.Paths.{IsParent, IsPathText, path_eq, path_cmp, relative_names};
-ghost use Rattle.zarrs_path.specs.PathErrors.{RefusesPrefix, RefusesJoin};
+ghost use Rattle.zarrs_path.specs.PathErrors.{RefusesSegments, RefusesJoin};
 ghost use Rattle.zarrs_path.specs.Laws.{NamesAre, TextsDiffer, EqualNames, EqualOrder, TotalOrder, HashAlike, BelowIsAfter, BelowIsTransitive, OneParent, RootAlone, ParentOfJoined, DocumentKeysDiffer, RelativeNamesRead, RelativeNamesJoined};
 
 use crate::{NodePath, NodePathError};
@@ -22,7 +22,7 @@ pub fn names_are()
 /// `NodePath::new` accepts exactly the texts of paths.
 ///
 /// # Errors
-/// `AllocError` where memory for the path is wanting.
+/// `AllocError` when out of memory for the path.
 pub fn accepted_texts(alloc: Global, text: &str) -> Result<bool, AllocError>
     ensures { IfOk result (λ accepted. IsTrue accepted ↔ IsPathText text.now) }
 {
@@ -98,7 +98,7 @@ pub fn root_alone()
 /// The parent of the root, which it does not have.
 ///
 /// # Errors
-/// `NodePathError::OutOfMemory` where memory for the root is wanting.
+/// `NodePathError::OutOfMemory` when out of memory for the root.
 pub fn parent_of_root(alloc: Global) -> Result<Option<NodePath>, NodePathError>
     ensures ok { IfOk result (λ parent. parent ≡ None) }
     ensures err { IsOkUnless result NodePathError.OutOfMemory }
@@ -117,7 +117,7 @@ pub fn parent_of_joined()
 /// takes it is the joined path without its last name, and nothing where that is the root.
 ///
 /// # Errors
-/// `NodePathError::OutOfMemory` where memory for the joined path or its parent is wanting.
+/// `NodePathError::OutOfMemory` when out of memory for the joined path or its parent.
 /// `NodePathError::Invalid` where a part of the text is no name, as `NodePath::join` refuses it.
 pub fn parent_of_join(
     alloc: Global,
@@ -136,7 +136,7 @@ pub fn parent_of_join(
 /// A path made a prefix, and back, is the path, the root included.
 ///
 /// # Errors
-/// `NodePathError::OutOfMemory` where memory for the prefix or the path is wanting.
+/// `NodePathError::OutOfMemory` when out of memory for the prefix or the path.
 pub fn prefix_and_back(alloc: Global, path: &NodePath) -> Result<NodePath, NodePathError>
     ensures ok { IfOk result (λ back. back ≡ path.now) }
     ensures err { IsOkUnless result NodePathError.OutOfMemory }
@@ -149,10 +149,10 @@ pub fn prefix_and_back(alloc: Global, path: &NodePath) -> Result<NodePath, NodeP
 ///
 /// # Errors
 /// `NodePathError::Invalid` with the path's text where a segment is no name.
-/// `NodePathError::OutOfMemory` where memory for the path or the prefix is wanting.
+/// `NodePathError::OutOfMemory` when out of memory for the path or the prefix.
 pub fn path_and_back(alloc: Global, prefix: &StorePrefix) -> Result<StorePrefix, NodePathError>
     ensures ok { IfOk result (λ back. back ≡ prefix.now) }
-    ensures err { IfErr result (RefusesPrefix prefix.now) }
+    ensures err { IfErr result (RefusesSegments prefix.now) }
 {
     let path = NodePath::from_prefix(alloc, prefix)?;
     Ok(path.to_prefix(alloc)?)

@@ -17,7 +17,7 @@ pub enum NodeNameError {
     /// The text, which is neither empty nor a name.
     #[error("invalid node name {0}")]
     Invalid(String),
-    /// Memory for the text was wanting.
+    /// Out of memory for the text.
     #[error("out of memory")]
     OutOfMemory,
 }
@@ -57,7 +57,7 @@ impl NodeName {
     ///
     /// # Errors
     /// `NodeNameError::Invalid` with the text where it is neither empty nor a name.
-    /// `NodeNameError::OutOfMemory` where memory for the text is wanting.
+    /// `NodeNameError::OutOfMemory` when out of memory for the text.
     ///
     /// Source: Zarr core specification 3.1, "Node names"; `zarrs::node::NodeName::new`.
     pub fn new(alloc: Global, name: &str) -> Result<Self, NodeNameError>

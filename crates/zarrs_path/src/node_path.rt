@@ -3,8 +3,8 @@ ghost use Rattle.std.specs.Prelude.{◌≡◌, ◌↔◌, [], ◌++◌, IsTrue, 
 ghost use Rattle.std.specs.List.{slice_split};
 ghost use Rattle.zarrs_store.specs.Segments.{is_slash, last_segment, IsPrefix};
 ghost use Rattle.zarrs_path.specs.Names.{IsName};
-ghost use Rattle.zarrs_path.specs.Paths.{IsPath, IsPathText, path_text, IsBelow, IsParent, slashed, relative_names, without_leading_slash, first_bad};
-ghost use Rattle.zarrs_path.specs.PathErrors.{RefusesPath, RefusesJoin, RefusesPrefix};
+ghost use Rattle.zarrs_path.specs.Paths.{IsPath, IsPathText, path_text, IsBelow, IsParent, names_text, relative_names, without_leading_slash, first_bad};
+ghost use Rattle.zarrs_path.specs.PathErrors.{RefusesPath, RefusesJoin, RefusesSegments};
 
 use crate::node_name::is_name;
 use crate::text::joined;
@@ -19,7 +19,7 @@ pub enum NodePathError {
     /// What is wrong: the text that is no path, or the bad part of a joined text.
     #[error("invalid node path {0}")]
     Invalid(String),
-    /// Memory for the path, or for the text of this error, was wanting.
+    /// Out of memory for the path, or for the text of this error.
     #[error("out of memory")]
     OutOfMemory,
 }
@@ -60,7 +60,7 @@ impl NodePath {
     ///
     /// # Errors
     /// `NodePathError::Invalid` with the text where it is that of no path.
-    /// `NodePathError::OutOfMemory` where memory for the text is wanting.
+    /// `NodePathError::OutOfMemory` when out of memory for the text.
     ///
     /// Source: Zarr core specification 3.1, "Paths"; `zarrs::node::NodePath::new`.
     #[tactic(auto, using(crate::proofs::PathTexts::path_of_text, crate::proofs::PathTexts::valid_of_text))]
@@ -80,7 +80,7 @@ impl NodePath {
     /// The path of the root, which has no names.
     ///
     /// # Errors
-    /// `NodePathError::OutOfMemory` where memory for the text is wanting.
+    /// `NodePathError::OutOfMemory` when out of memory for the text.
     ///
     /// Source: `zarrs::node::NodePath::root`.
     pub fn root(alloc: Global) -> Result<Self, NodePathError>
@@ -141,7 +141,7 @@ impl NodePath {
     /// The path without its last name, and `None` for the root alone.
     ///
     /// # Errors
-    /// `NodePathError::OutOfMemory` where memory for the text is wanting.
+    /// `NodePathError::OutOfMemory` when out of memory for the text.
     ///
     /// Source: Zarr core specification 3.1, "Paths"; `zarrs::node::NodePath::parent`.
     #[tactic(auto, using(crate::proofs::PathTexts::valid_of_text))]
@@ -168,7 +168,7 @@ impl NodePath {
     ///
     /// # Errors
     /// `NodePathError::Invalid` with the first part between slashes that is no name, and the rest.
-    /// `NodePathError::OutOfMemory` where memory for the text is wanting.
+    /// `NodePathError::OutOfMemory` when out of memory for the text.
     ///
     /// Source: `zarrs::node::NodePath::join`.
     pub fn join(&self, alloc: Global, relative: &str) -> Result<Self, NodePathError>
@@ -192,13 +192,13 @@ impl NodePath {
     ///
     /// # Errors
     /// `NodePathError::Invalid` with the path's text where a segment is no name.
-    /// `NodePathError::OutOfMemory` where memory for the text is wanting.
+    /// `NodePathError::OutOfMemory` when out of memory for the text.
     ///
     /// Source: `TryFrom<&StorePrefix>` of `zarrs::node::NodePath`.
     pub fn from_prefix(alloc: Global, prefix: &StorePrefix) -> Result<Self, NodePathError>
         ensures ok { IfOk result (λ path. path ≡ prefix.now) }
         ensures valid { IfOk result IsPath }
-        ensures err { IfErr result (RefusesPrefix prefix.now) }
+        ensures err { IfErr result (RefusesSegments prefix.now) }
         ensures segments { IsPrefix prefix.now }
     {
         let _valid = prefix.as_str();
@@ -209,13 +209,13 @@ impl NodePath {
     ///
     /// # Errors
     /// `NodePathError::Invalid` with the path's text where a segment is no name.
-    /// `NodePathError::OutOfMemory` where memory for the slash of the root is wanting.
+    /// `NodePathError::OutOfMemory` when out of memory for the slash of the root.
     ///
     /// Source: own.
     pub fn from_owned_prefix(prefix: StorePrefix) -> Result<Self, NodePathError>
         ensures ok { IfOk result (λ path. path ≡ prefix) }
         ensures valid { IfOk result IsPath }
-        ensures err { IfErr result (RefusesPrefix prefix) }
+        ensures err { IfErr result (RefusesSegments prefix) }
         ensures segments { IsPrefix prefix }
     {
         let text = NodePath::text_of(prefix)?;
@@ -229,7 +229,7 @@ impl NodePath {
     /// The path of a prefix whose segments are known to be names, made of the text of the prefix without a copy.
     ///
     /// # Errors
-    /// `AllocError` where memory for the slash of the root is wanting.
+    /// `AllocError` when out of memory for the slash of the root.
     ///
     /// Source: own.
     pub fn from_valid_prefix(prefix: StorePrefix) -> Result<Self, AllocError>
@@ -253,7 +253,7 @@ impl NodePath {
     /// the front, in place.
     ///
     /// # Errors
-    /// `AllocError` where memory for the slash of the root is wanting.
+    /// `AllocError` when out of memory for the slash of the root.
     ///
     /// Source: own.
     pub fn text_of(prefix: StorePrefix) -> Result<String, AllocError>
@@ -269,7 +269,7 @@ impl NodePath {
     /// The prefix whose segments are the names of the path, which for the root is empty.
     ///
     /// # Errors
-    /// `AllocError` where memory for the text is wanting.
+    /// `AllocError` when out of memory for the text.
     ///
     /// Source: `TryInto<StorePrefix>` of `&zarrs::node::NodePath`.
     pub fn to_prefix(&self, alloc: Global) -> Result<StorePrefix, AllocError>
@@ -288,7 +288,7 @@ impl NodePath {
     /// A copy, which equals the path.
     ///
     /// # Errors
-    /// `AllocError` where memory for the text is wanting.
+    /// `AllocError` when out of memory for the text.
     ///
     /// Source: `Clone` of `zarrs::node::NodePath`.
     #[tactic(auto, using(crate::proofs::PathTexts::valid_of_text))]
@@ -303,7 +303,7 @@ impl NodePath {
 
     // Each name with a slash before it, which is nothing for the root.
     pub(crate) fn slashed(&self) -> &str
-        ensures text { result.now ≡ slashed self.now }
+        ensures text { result.now ≡ names_text self.now }
         ensures valid { IsPath self.now }
     {
         let text = self.as_str();

@@ -2,17 +2,17 @@
 //!
 //! A call that reads is a value here, and what it answers a text, so one loop goes over all calls and all places of a store. A store is
 //! lent to such a call for reading alone, so it is left as it was. Each allocation of the tests `memory_fails_in_..` is refused in turn
-//! by `bench/failures`; such a test ends then as usual, or in an error that lacks memory.
+//! by `bench/failures`; such a test ends then as usual, or in an error that is out of memory.
 ghost use Rattle.std.specs.Prelude.{◌≡◌, true, ◌⊎◌, IfOk, IfErr, OnOk, OnErr};
-ghost use Rattle.zarrs_store.specs.Failing.{held};
+ghost use Rattle.zarrs_store.specs.FailingStores.{inner_contents};
 ghost use Rattle.zarrs_store.specs.Contents.{Lists};
 ghost use Rattle.zarrs_store.specs.Faults.{IsStoreError};
-ghost use Rattle.zarrs_block.specs.Refused.{IsExcused};
+ghost use Rattle.zarrs_block.specs.Refusals.{IsExcused};
 ghost use Rattle.zarrs_node.specs.Forest.{Shows, forest};
 ghost use Rattle.zarrs_node.specs.Nodes.{Nodes, Ignored, ShowsBad, Bad};
 ghost use Rattle.zarrs_group.specs.Edits.{after, IsCutShort};
-ghost use Rattle.zarrs_group.specs.Groups.{converted};
-ghost use Rattle.zarrs_group.specs.Stored.{store_edits, erase_edits, RefusesStore};
+ghost use Rattle.zarrs_group.specs.Groups.{metadata_by_version};
+ghost use Rattle.zarrs_group.specs.StoringGroups.{store_edits, erase_edits, RefusesStoring};
 
 use log::sink::Discard;
 use std::alloc::{AllocError, Global};
@@ -31,12 +31,12 @@ use zarrs_node::{
 };
 use zarrs_path::NodePath;
 use zarrs_rows_fixtures::{
-    A3_SQUARE, ANY, THREE_LEVELS, config_of, entries_of, forest_text, key_of, keys_text, listed_in,
-    listing_text, metadata_in, pairs_text, paths_listed_in, paths_listing_text, paths_text,
+    A3_SQUARE, ANY, THREE_LEVELS, config_of, entries_of, forest_data, forest_text, key_of, keys_text,
+    listed_in, listing_text, metadata_in, pairs_text, paths_listed_in, paths_listing_text, paths_text,
     store_of, with_block,
 };
 use zarrs_rows_group_fixtures::{
-    LEVELS, LEVELS_TREES, Step, done, groups_text, levels, refused, with_block as with_block_of,
+    LEVELS, LEVELS_DATA, Step, done, groups_text, levels, refused, with_block as with_block_of,
 };
 use zarrs_rows_table::{A2, G2, G3, check_rows, fields, said};
 use zarrs_store::{
@@ -46,7 +46,7 @@ use zarrs_store::{
 
 // ---- what is promised over a store that fails: the contracts of the calls over any store, at this one
 
-// What is listed below a path. It shows the nodes of what the store holds, and refuses by what is bad there, by the fault or for want of memory.
+// What is listed below a path. It shows the nodes of what the store holds, and refuses by what is bad there, by the fault or as out of memory.
 fn listed_over_faults(
     alloc: Global,
     store: &FaultStore,
@@ -54,10 +54,10 @@ fn listed_over_faults(
     recursive: bool,
     version: &MetadataRetrieveVersion,
 ) -> Result<ListedNodes, NodeCreateError>
-    ensures shows { IfOk result (λ l. Shows (forest l.nodes.items) path.now (Nodes (held store.now) version.now recursive path.now)) }
-    ensures ignored { IfOk result (λ l. Lists (Ignored (held store.now) version.now recursive path.now) l.ignored.items) }
-    ensures clean { IfOk result (λ _. Bad (held store.now) version.now recursive path.now → ⊥) }
-    ensures refused { IfErr result (λ e. IsExcused true e ⊎ ShowsBad (held store.now) version.now recursive path.now e) }
+    ensures shows { IfOk result (λ l. Shows (forest l.nodes.items) path.now (Nodes (inner_contents store.now) version.now recursive path.now)) }
+    ensures ignored { IfOk result (λ l. Lists (Ignored (inner_contents store.now) version.now recursive path.now) l.ignored.items) }
+    ensures clean { IfOk result (λ _. Bad (inner_contents store.now) version.now recursive path.now → ⊥) }
+    ensures refused { IfErr result (λ e. IsExcused true e ⊎ ShowsBad (inner_contents store.now) version.now recursive path.now e) }
 {
     list_nodes(alloc, store, path, recursive, version)
 }
@@ -70,9 +70,9 @@ fn nodes_over_faults(
     recursive: bool,
     version: &MetadataRetrieveVersion,
 ) -> Result<Vec<Node>, NodeCreateError>
-    ensures shows { IfOk result (λ nodes. Shows (forest nodes.items) path.now (Nodes (held store.now) version.now recursive path.now)) }
-    ensures clean { IfOk result (λ _. Bad (held store.now) version.now recursive path.now → ⊥) }
-    ensures refused { IfErr result (λ e. IsExcused true e ⊎ ShowsBad (held store.now) version.now recursive path.now e) }
+    ensures shows { IfOk result (λ nodes. Shows (forest nodes.items) path.now (Nodes (inner_contents store.now) version.now recursive path.now)) }
+    ensures clean { IfOk result (λ _. Bad (inner_contents store.now) version.now recursive path.now → ⊥) }
+    ensures refused { IfErr result (λ e. IsExcused true e ⊎ ShowsBad (inner_contents store.now) version.now recursive path.now e) }
 {
     get_child_nodes_opt(&Discard, alloc, store, path, recursive, version)
 }
@@ -84,8 +84,8 @@ fn stored_over_faults(
     store: &mut FaultStore,
     options: &GroupMetadataOptions,
 ) -> Result<(), StorageError>
-    ensures ok { OnOk result (held store.new ≡ after (held store.old) (store_edits group.now.path (converted options.now group.now.metadata) group.now.block)) }
-    ensures err { IfErr result (RefusesStore true group.now.path (converted options.now group.now.metadata) group.now.block (held store.old) (held store.new)) }
+    ensures ok { OnOk result (inner_contents store.new ≡ after (inner_contents store.old) (store_edits group.now.path (metadata_by_version options.now group.now.metadata) group.now.block)) }
+    ensures err { IfErr result (RefusesStoring true group.now.path (metadata_by_version options.now group.now.metadata) group.now.block (inner_contents store.old) (inner_contents store.new)) }
 {
     group.store_metadata_opt(alloc, store, options)
 }
@@ -97,9 +97,9 @@ fn erased_over_faults(
     store: &mut FaultStore,
     version: MetadataEraseVersion,
 ) -> Result<(), StorageError>
-    ensures ok { OnOk result (held store.new ≡ after (held store.old) (erase_edits group.now.path version group.now.metadata)) }
+    ensures ok { OnOk result (inner_contents store.new ≡ after (inner_contents store.old) (erase_edits group.now.path version group.now.metadata)) }
     ensures err { IfErr result (IsStoreError true) }
-    ensures cut { OnErr result (IsCutShort (held store.old) (erase_edits group.now.path version group.now.metadata) (held store.new)) }
+    ensures cut { OnErr result (IsCutShort (inner_contents store.old) (erase_edits group.now.path version group.now.metadata) (inner_contents store.new)) }
 {
     group.erase_metadata_opt(alloc, store, version)
 }
@@ -372,7 +372,7 @@ fn kinds_text<S: ReadableStorageTraits + ListableStorageTraits>(
 // The text of a fault of the store.
 const FAULT: &str = "store fault";
 
-// The text of want of memory.
+// The text of out of memory.
 const NO_MEMORY: &str = "out of memory";
 
 fn is_same(found: &str, wanted: &str) -> Result<(), Fail> {
@@ -483,8 +483,9 @@ fn a_block_stands_for_a_store_that_fails(rt: HostRuntime) -> Result<(), Fail> {
     let alloc = rt.alloc();
     let store = failing(alloc, &[], Place::List("group/"))?;
     let group = levels(alloc)?;
-    let found = group_text(&group, alloc, &store, Call::Children(true), &Config::new())?;
-    is_same(found.as_str(), LEVELS_TREES)
+    let nodes = group.children(&Discard, alloc, &store, &Config::new(), true);
+    let found = said(alloc, nodes, forest_data)?;
+    is_same(found.as_str(), LEVELS_DATA)
 }
 
 // ---- storing and erasing
@@ -868,7 +869,7 @@ fn reading_both_versions_answers_as_usual_or_the_fault(rt: HostRuntime) -> Resul
 
 // ---- reading, storing and erasing, with each allocation refused in turn
 
-// Hands want of memory on as such.
+// Hands out of memory on as such.
 fn unless_memory_failed(answer: &str) -> Result<(), Fail> {
     if answer == NO_MEMORY {
         Err(Fail::from(AllocError))
@@ -967,7 +968,7 @@ fn is_cut_short(
     Ok(false)
 }
 
-// Asks whether a step did all its changes, or lacks memory and did a first part of them.
+// Asks whether a step did all its changes, or is out of memory and did a first part of them.
 fn is_stepped(
     alloc: Global,
     number: usize,

@@ -1,7 +1,7 @@
 //! Hierarchies: made of an array, of a group and of what a store has, and their text.
 //!
-//! A row says what of a hierarchy it looks at: `tree` is its text, `copy` the text of a copy, `len` its length, `told` what it has at two
-//! paths, and a path its text from there on. Stores and documents are named as in `stores`.
+//! A row says what of a hierarchy it looks at: `tree` is its text, `copy` the text of a copy, `len` its length, `nodes` its nodes with their
+//! metadata, `told` what it has at two paths, and a path its text from there on. Stores and documents are named as in `stores`.
 
 use crate::stores::{document_of, seen, store_in};
 use log::sink::{Discard, Writer};
@@ -12,7 +12,9 @@ use zarrs_block::NodeCreateError;
 use zarrs_config::{Config, MetadataRetrieveVersion};
 use zarrs_group::{Group, GroupCreateError};
 use zarrs_hierarchy::{Hierarchy, laws, tree_at};
-use zarrs_meta::{ArrayMetadata, ArrayMetadataV2, ArrayMetadataV3, GroupMetadata, GroupMetadataV3};
+use zarrs_meta::{
+    ArrayMetadata, ArrayMetadataV2, ArrayMetadataV3, GroupMetadata, GroupMetadataV3, NodeMetadata,
+};
 use zarrs_path::NodePath;
 use zarrs_rows_fixtures::{config_of, policy_of, version_of};
 use zarrs_rows_table::{check_rows, fields, printed, said, with_lines};
@@ -24,6 +26,7 @@ fn looked(hierarchy: &Hierarchy, alloc: Global, word: &str) -> Result<String, Al
         "tree" => hierarchy.tree(alloc),
         "copy" => said(alloc, hierarchy.try_clone(alloc), printed),
         "len" => printed(&hierarchy.len(), alloc),
+        "nodes" => nodes_text(hierarchy, alloc),
         "told" => told(hierarchy, alloc),
         path => tree_of(hierarchy, alloc, path),
     }
@@ -37,20 +40,59 @@ fn tree_of(hierarchy: &Hierarchy, alloc: Global, path: &str) -> Result<String, A
     }
 }
 
-// Whether the hierarchy has a node at `/group` and at `/nothing`, how many nodes it has, and whether it is empty.
+// The path of each node and the text of its metadata, one a line.
+fn nodes_text(hierarchy: &Hierarchy, alloc: Global) -> Result<String, AllocError> {
+    let mut text = String::new(alloc);
+    for (path, metadata) in hierarchy.nodes() {
+        let metadata = metadata.to_text(alloc)?;
+        write!(text, "{path} {metadata}\n")?;
+    }
+    Ok(text)
+}
+
+// What the hierarchy has at `/group` and at `/nothing`, how many nodes it has, and whether it is empty.
 fn told(hierarchy: &Hierarchy, alloc: Global) -> Result<String, AllocError> {
-    let group = has(hierarchy, alloc, "/group");
-    let none = has(hierarchy, alloc, "/nothing");
+    let group = got(hierarchy, alloc, "/group")?;
+    let none = got(hierarchy, alloc, "/nothing")?;
     let len = hierarchy.as_map(alloc)?.len();
     let empty = hierarchy.is_empty();
     format!(in alloc; "{group} {none} {len} {empty}")
 }
 
-fn has(hierarchy: &Hierarchy, alloc: Global, path: &str) -> bool {
+// The text of the metadata that a hierarchy has at a path.
+fn got(hierarchy: &Hierarchy, alloc: Global, path: &str) -> Result<String, AllocError> {
     match NodePath::new(alloc, path) {
-        Ok(path) => hierarchy.get(&path).is_some(),
-        Err(_) => false,
+        Ok(path) => metadata_text(hierarchy.get(&path), alloc),
+        Err(error) => format!(in alloc; "{error}"),
     }
+}
+
+fn metadata_text(found: Option<&NodeMetadata>, alloc: Global) -> Result<String, AllocError> {
+    match found {
+        Some(metadata) => metadata.to_text(alloc),
+        None => String::from_str(alloc, "none"),
+    }
+}
+
+// ---- of no node
+
+// What is seen of the hierarchy without nodes, by a word.
+fn of_none(alloc: Global, word: &str) -> Result<String, AllocError> {
+    looked(&Hierarchy::new(alloc), alloc, word)
+}
+
+const NONE: &str = r#"
+tree => /\n
+/ => /\n
+copy => /\n
+len => 0
+nodes =>
+told => none none 0 true
+"#;
+
+#[test]
+fn a_hierarchy_without_nodes_is_its_first_line(rt: HostRuntime) -> Result<(), Fail> {
+    check_rows(rt.alloc(), NONE, of_none)
 }
 
 // ---- of one array
@@ -134,7 +176,8 @@ zarr.json G3; group/zarr.json G3; group/subgroup/zarr.json G3; group2/zarr.json 
 zarr.json G3; group/zarr.json G3; group/subgroup/zarr.json G3; array/zarr.json SQUARE; group/array/zarr.json SQUARE; group/subgroup/mysubarray/zarr.json SQUARE; group2/zarr.json G3 | / | auto | /group => /group\n  array [10, 10] float32\n  subgroup\n    mysubarray [10, 10] float32\n
 # a hierarchy is copied and looked up
 THREE_LEVELS | / | auto | copy => /\n  array [10, 10] float32\n  group\n    array [10, 10] float32\n    subgroup\n      mysubarray [10, 10] float32\n
-THREE_LEVELS | / | auto | told => true false 6 false
+THREE_LEVELS | / | auto | told => {"node_type":"group","zarr_format":3} none 6 false
+zarr.json G3; a/.zarray A2; a/.zattrs {"k":1} | / | auto | nodes => / {"node_type":"group","zarr_format":3}\n/a {"attributes":{"k":1},"chunks":[1],"compressor":null,"dimension_separator":".","dtype":"<f8","fill_value":"NaN","filters":null,"order":"C","shape":[1],"zarr_format":2}\n
 # of two spellings the one without the slash counts
 zarr.json {"consolidated_metadata":{"kind":"inline","metadata":{"-x":{"chunk_grid":{"configuration":{"chunk_shape":[1]},"name":"regular"},"chunk_key_encoding":{"configuration":{"separator":"/"},"name":"default"},"codecs":[{"configuration":{"endian":"little"},"name":"bytes"}],"data_type":"float32","fill_value":0,"node_type":"array","shape":[1],"zarr_format":3},"/-x":{"chunk_grid":{"configuration":{"chunk_shape":[2]},"name":"regular"},"chunk_key_encoding":{"configuration":{"separator":"/"},"name":"default"},"codecs":[{"configuration":{"endian":"little"},"name":"bytes"}],"data_type":"float32","fill_value":0,"node_type":"array","shape":[2],"zarr_format":3}},"must_understand":false},"node_type":"group","zarr_format":3} | / | auto | tree => /\n  -x [1] float32\n
 # a hierarchy has all entries of a block

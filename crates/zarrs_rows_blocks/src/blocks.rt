@@ -3,7 +3,8 @@ use std::alloc::{AllocError, Global};
 use std::test::Fail;
 use zarrs_block::{
     ConsolidatedMetadata, ConsolidatedMetadataMetadata, NodeCreateError,
-    consolidated_metadata_for_open, expand_consolidated_metadata, resolve_consolidated_policy,
+    consolidated_metadata_for_open, consolidated_metadata_of, expand_consolidated_metadata, laws,
+    resolve_consolidated_policy,
 };
 use zarrs_config::UseConsolidatedMetadata;
 use zarrs_meta::NodeMetadata;
@@ -355,6 +356,38 @@ fn opened_by(
 #[test]
 fn a_group_is_opened_by_its_block(rt: HostRuntime) -> Result<(), Fail> {
     check_rows(rt.alloc(), OPENED, opened)
+}
+
+// The document of a node: the block that it holds, as a group.
+const HELD: &str = r#"
+{"consolidated_metadata":{"kind":"inline","metadata":{"a":{"zarr_format":2}},"must_understand":false},"node_type":"group","zarr_format":3} => {"kind":"inline","metadata":{"a":{"zarr_format":2}},"must_understand":false}
+{"consolidated_metadata":{"kind":"inline"},"node_type":"group","zarr_format":3} => none
+{"node_type":"group","zarr_format":3} => none
+{"consolidated_metadata":{"kind":"inline","metadata":{}},"zarr_format":2} => none
+"#;
+
+// The block that the group holds that a JSON text is, as `chosen` says it; an array holds none.
+fn held(alloc: Global, document: &str) -> Result<String, MetadataFault> {
+    match NodeMetadata::from_bytes(alloc, document.as_bytes())? {
+        NodeMetadata::Group(group) => {
+            let block = consolidated_metadata_of(alloc, &group)?;
+            Ok(chosen(alloc, Ok(block))?)
+        }
+        NodeMetadata::Array(_) => Ok(String::from_str(alloc, "array")?),
+    }
+}
+
+#[test]
+fn a_group_holds_a_block_in_its_field(rt: HostRuntime) -> Result<(), Fail> {
+    check_rows(rt.alloc(), HELD, held)
+}
+
+#[test]
+fn the_laws_of_blocks_are_called(rt: HostRuntime) {
+    let none = ConsolidatedMetadata {
+        metadata: ConsolidatedMetadataMetadata::new(rt.alloc()),
+    };
+    laws::block_reads_back(&none);
 }
 
 // ---- keys of a block

@@ -236,6 +236,15 @@ pub(crate) fn agreed(
     format!(in alloc; "two answers: {one} and {other}")
 }
 
+// The text of a document, and of the value that is written of it: one and the same.
+fn written_both<D: Written>(document: &D, alloc: Global) -> Result<String, AllocError> {
+    agreed(
+        alloc,
+        document.text(alloc),
+        written_text(document, alloc),
+    )
+}
+
 // The document of the value that a text is.
 fn of_value_of<D: Written>(alloc: Global, text: &str) -> Result<D, MetadataFault> {
     match Value::from_str(alloc, text) {
@@ -246,7 +255,7 @@ fn of_value_of<D: Written>(alloc: Global, text: &str) -> Result<D, MetadataFault
 
 // What the bytes of a text, and the value that they are, read as, or are refused with.
 fn read_both<D: Written + Drop>(alloc: Global, text: &str) -> Result<String, AllocError> {
-    let of_bytes = said(alloc, D::of_bytes(alloc, text.as_bytes()), D::text);
+    let of_bytes = said(alloc, D::of_bytes(alloc, text.as_bytes()), written_both);
     let of_value = said(alloc, of_value_of::<D>(alloc, text), copied_text);
     agreed(alloc, of_bytes, of_value)
 }

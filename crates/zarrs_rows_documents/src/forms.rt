@@ -11,7 +11,7 @@ use zarrs_form::{
     FillValueMetadata, Form, Json, List, MetadataV2, MetadataV3, Object, Text, ask_format,
     ask_node_type, attributes, chunk_lengths, document, document_copy, fields_of, has_zero, member,
     members_have_float, open_table, optional, parse, put_member, put_text, put_unless, refuse,
-    required, take_member, take_null, write_last, write_row, write_unless,
+    required, take_member, take_null, write_entry, write_last, write_row, write_unless,
 };
 use zarrs_rows_table::{check_rows, fields, said};
 
@@ -312,6 +312,26 @@ a text at b => {"a":1,"b":" x"}
 #[test]
 fn what_is_put_stands_at_its_name(rt: HostRuntime) -> Result<(), Fail> {
     check_rows(rt.alloc(), PUT, put_says)
+}
+
+// A text with a member put behind it in the pretty layout, with a comma where the text is more than a brace.
+fn entry_says(alloc: Global, given: &str) -> Result<String, AllocError> {
+    let (before, rest) = fields(given);
+    let (name, text) = fields(rest);
+    let mut out = String::from_str(alloc, before)?;
+    write_entry(alloc, &mut out, before != "{", name, &value_of(alloc, text))?;
+    Ok(out)
+}
+
+// A text, a name and a value.
+const ENTRIES: &str = r#"
+{ | a | [] => {\n    "a": []
+{ "x" | a"b | {"k":[1,2]} => { "x",\n    "a\"b": {\n      "k": [\n        1,\n        2\n      ]\n    }
+"#;
+
+#[test]
+fn a_member_is_written_in_the_pretty_layout(rt: HostRuntime) -> Result<(), Fail> {
+    check_rows(rt.alloc(), ENTRIES, entry_says)
 }
 
 // ---- additional fields, and tests of members

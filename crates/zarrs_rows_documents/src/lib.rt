@@ -17,4 +17,6 @@ mod forms;
 #[cfg(test)]
 mod given;
 #[cfg(test)]
+mod owned;
+#[cfg(test)]
 mod parts;

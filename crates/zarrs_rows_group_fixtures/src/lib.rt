@@ -136,9 +136,11 @@ pub const LEVELS: [(&str, &str); 3] = [
     ("subgroup/mysubarray", A3_SQUARE),
 ];
 
-/// The trees of that block.
-pub const LEVELS_TREES: &str =
-    "/group/array [10, 10] float32\n/group/subgroup\n  mysubarray [10, 10] float32\n";
+/// The nodes of that block, with their metadata.
+pub const LEVELS_DATA: &str = r#"/group/array {"chunk_grid":{"configuration":{"chunk_shape":[10,10]},"name":"regular"},"chunk_key_encoding":{"configuration":{"separator":"/"},"name":"default"},"codecs":[{"configuration":{"endian":"little"},"name":"bytes"}],"data_type":"float32","fill_value":0,"node_type":"array","shape":[10,10],"zarr_format":3}
+/group/subgroup {"node_type":"group","zarr_format":3}
+/group/subgroup/mysubarray {"chunk_grid":{"configuration":{"chunk_shape":[10,10]},"name":"regular"},"chunk_key_encoding":{"configuration":{"separator":"/"},"name":"default"},"codecs":[{"configuration":{"endian":"little"},"name":"bytes"}],"data_type":"float32","fill_value":0,"node_type":"array","shape":[10,10],"zarr_format":3}
+"#;
 
 /// The group of three levels with its block.
 pub fn levels(alloc: Global) -> Result<Group, GroupCreateError> {

@@ -13,14 +13,16 @@ use zarrs_meta::{GroupMetadata, GroupMetadataV2, NodeMetadata};
 use zarrs_node::Node;
 use zarrs_path::NodePath;
 use zarrs_rows_fixtures::{
-    A3_SQUARE, both, config_of, forest_text, key_of, no_word, node_at, pairs_text, paths_text,
-    policy_of,
+    A3_SQUARE, THREE_LEVELS, both, config_of, forest_data, forest_text, key_of, no_word, node_at,
+    pairs_text, paths_text, policy_of, store_of,
 };
 use zarrs_rows_group_fixtures::{
     LEVELS, Set, block_of, changed, group_of, groups_text, set, set_in, with_block,
 };
 use zarrs_rows_table::{A2, G2, G3, check_rows, fields, said};
-use zarrs_store::{MemoryStore, ReadableStorageTraits, StorageError};
+use zarrs_store::{
+    ListableStorageTraits, MemoryStore, ReadableStorageTraits, StorageError, WritableStorageTraits,
+};
 
 // ---- groups with blocks
 
@@ -318,6 +320,66 @@ fn groups_hold_blocks(rt: HostRuntime) -> Result<(), Fail> {
     check_rows(rt.alloc(), ASKED, asked)
 }
 
+// ---- a block that was made of a store which is then emptied
+
+// The group of a store at `/group`, with the block of all nodes below it set.
+fn group_with_its_block(alloc: Global, store: &MemoryStore) -> Result<Group, GroupCreateError> {
+    let group = Group::open(alloc, store, "/group", &Config::new());
+    let block = block_at(alloc, &THREE_LEVELS, "/group").map_err(
+        |error| GroupCreateError::from_node_error(alloc, error),
+    );
+    changed(
+        alloc,
+        both(group, block, |group, block| set(group, alloc, block)),
+    )
+}
+
+// The store without its keys.
+fn emptied(alloc: Global, mut store: MemoryStore) -> Result<MemoryStore, StorageError> {
+    for key in store.list(alloc)? {
+        store.erase(&key)?;
+    }
+    Ok(store)
+}
+
+// The nodes below the group of three levels by a policy, as data, once its block was set and the store emptied.
+fn children_of_none(alloc: Global, policy: &str) -> Result<Vec<Node>, NodeCreateError> {
+    let policy = policy_of(alloc, policy)?;
+    let store = store_of(alloc, &THREE_LEVELS)?;
+    let group = group_with_its_block(alloc, &store);
+    let store = emptied(alloc, store)?;
+    below_by(alloc, group, &store, policy)
+}
+
+// The nodes below a group by a policy, over a store.
+fn below_by(
+    alloc: Global,
+    group: Result<Group, GroupCreateError>,
+    store: &MemoryStore,
+    policy: UseConsolidatedMetadata,
+) -> Result<Vec<Node>, NodeCreateError> {
+    match group {
+        Ok(group) => group.children(&Discard, alloc, store, &config_of(policy), true),
+        Err(_) => Err(NodeCreateError::MetadataVersionMismatch),
+    }
+}
+
+fn children_of_none_said(alloc: Global, policy: &str) -> Result<String, AllocError> {
+    said(alloc, children_of_none(alloc, policy), forest_data)
+}
+
+// A policy; all nodes below the group, with their metadata.
+const EMPTIED: &str = r#"
+auto => /group/array {"chunk_grid":{"configuration":{"chunk_shape":[10,10]},"name":"regular"},"chunk_key_encoding":{"configuration":{"separator":"/"},"name":"default"},"codecs":[{"configuration":{"endian":"little"},"name":"bytes"}],"data_type":"float32","fill_value":0,"node_type":"array","shape":[10,10],"zarr_format":3}\n/group/subgroup {"node_type":"group","zarr_format":3}\n/group/subgroup/mysubarray {"chunk_grid":{"configuration":{"chunk_shape":[10,10]},"name":"regular"},"chunk_key_encoding":{"configuration":{"separator":"/"},"name":"default"},"codecs":[{"configuration":{"endian":"little"},"name":"bytes"}],"data_type":"float32","fill_value":0,"node_type":"array","shape":[10,10],"zarr_format":3}\n
+must => /group/array {"chunk_grid":{"configuration":{"chunk_shape":[10,10]},"name":"regular"},"chunk_key_encoding":{"configuration":{"separator":"/"},"name":"default"},"codecs":[{"configuration":{"endian":"little"},"name":"bytes"}],"data_type":"float32","fill_value":0,"node_type":"array","shape":[10,10],"zarr_format":3}\n/group/subgroup {"node_type":"group","zarr_format":3}\n/group/subgroup/mysubarray {"chunk_grid":{"configuration":{"chunk_shape":[10,10]},"name":"regular"},"chunk_key_encoding":{"configuration":{"separator":"/"},"name":"default"},"codecs":[{"configuration":{"endian":"little"},"name":"bytes"}],"data_type":"float32","fill_value":0,"node_type":"array","shape":[10,10],"zarr_format":3}\n
+never =>
+"#;
+
+#[test]
+fn a_block_stands_for_a_store_that_was_emptied(rt: HostRuntime) -> Result<(), Fail> {
+    check_rows(rt.alloc(), EMPTIED, children_of_none_said)
+}
+
 // ---- stored blocks
 
 // What a store holds at a key, or `none`.
@@ -604,7 +666,7 @@ fn groups_say_what_stands_below(rt: HostRuntime) -> Result<(), Fail> {
     check_rows(rt.alloc(), LOOKED, looked)
 }
 
-// ---- with each allocation refused in turn a block is set, or memory is wanting and the group stays
+// ---- with each allocation refused in turn a block is set, or the call is out of memory and the group stays
 
 // A group after a block was set; where that was refused, the refusal and the group.
 fn set_text(set: &Set, alloc: Global) -> Result<String, AllocError> {

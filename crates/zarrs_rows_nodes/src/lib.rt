@@ -7,6 +7,8 @@ mod consolidation;
 #[cfg(test)]
 mod depth;
 #[cfg(test)]
+mod documents;
+#[cfg(test)]
 mod given;
 #[cfg(test)]
 mod listing;

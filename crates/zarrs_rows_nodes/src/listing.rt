@@ -6,8 +6,8 @@ use std::test::Fail;
 use zarrs_block::NodeCreateError;
 use zarrs_node::{ListedNodes, ListedPaths};
 use zarrs_rows_fixtures::{
-    ANY, THREE_LEVELS, listed, listed_in, listing_text, paths_listed_in, paths_listing_text,
-    version_of,
+    ANY, THREE_LEVELS, forest_data, listed, listed_in, listing_text, paths_listed_in,
+    paths_listing_text, version_of,
 };
 use zarrs_rows_table::{check_rows, fields, said};
 use zarrs_store::StorageError;
@@ -73,6 +73,28 @@ fn nodes_are_listed_passed_over_or_refused(rt: HostRuntime) -> Result<(), Fail> 
     check_rows(rt.alloc(), LISTED, listed_said)
 }
 
+fn data_text(listed: &ListedNodes, alloc: Global) -> Result<String, AllocError> {
+    forest_data(&listed.nodes, alloc)
+}
+
+fn data_said(alloc: Global, given: &str) -> Result<String, AllocError> {
+    said(alloc, listed_given(alloc, given), data_text)
+}
+
+// Base, depth, version and store; each node with its metadata.
+const DATA: &str = r#"
+/ | all | any | zarr.json g3;a/zarr.json g3;a/x/zarr.json g3;a-b/zarr.json g3 => /a {"node_type":"group","zarr_format":3}\n/a/x {"node_type":"group","zarr_format":3}\n/a-b {"node_type":"group","zarr_format":3}\n
+/ | children | any | zarr.json g3;a/zarr.json g3;a/x/zarr.json g3;a-b/zarr.json g3 => /a {"node_type":"group","zarr_format":3}\n/a-b {"node_type":"group","zarr_format":3}\n
+/ | all | any | both versions => /array {"chunk_grid":{"configuration":{"chunk_shape":[10,10]},"name":"regular"},"chunk_key_encoding":{"configuration":{"separator":"/"},"name":"default"},"codecs":[{"configuration":{"endian":"little"},"name":"bytes"}],"data_type":"float32","fill_value":0,"node_type":"array","shape":[10,10],"zarr_format":3}\n/group {"node_type":"group","zarr_format":3}\n/group/array {"chunk_grid":{"configuration":{"chunk_shape":[10,10]},"name":"regular"},"chunk_key_encoding":{"configuration":{"separator":"/"},"name":"default"},"codecs":[{"configuration":{"endian":"little"},"name":"bytes"}],"data_type":"float32","fill_value":0,"node_type":"array","shape":[10,10],"zarr_format":3}\n/group/subgroup {"node_type":"group","zarr_format":3}\n/group/subgroup/mysubarray {"chunk_grid":{"configuration":{"chunk_shape":[10,10]},"name":"regular"},"chunk_key_encoding":{"configuration":{"separator":"/"},"name":"default"},"codecs":[{"configuration":{"endian":"little"},"name":"bytes"}],"data_type":"float32","fill_value":0,"node_type":"array","shape":[10,10],"zarr_format":3}\n/groupv2 {"zarr_format":2}\n/groupv2/arrayv2 {"chunks":[1],"compressor":null,"dimension_separator":".","dtype":"<f8","fill_value":"NaN","filters":null,"order":"C","shape":[1],"zarr_format":2}\n
+/ | all | v2 | both versions => /groupv2 {"zarr_format":2}\n/groupv2/arrayv2 {"chunks":[1],"compressor":null,"dimension_separator":".","dtype":"<f8","fill_value":"NaN","filters":null,"order":"C","shape":[1],"zarr_format":2}\n
+/group | all | v3 | both versions => /group/array {"chunk_grid":{"configuration":{"chunk_shape":[10,10]},"name":"regular"},"chunk_key_encoding":{"configuration":{"separator":"/"},"name":"default"},"codecs":[{"configuration":{"endian":"little"},"name":"bytes"}],"data_type":"float32","fill_value":0,"node_type":"array","shape":[10,10],"zarr_format":3}\n/group/subgroup {"node_type":"group","zarr_format":3}\n/group/subgroup/mysubarray {"chunk_grid":{"configuration":{"chunk_shape":[10,10]},"name":"regular"},"chunk_key_encoding":{"configuration":{"separator":"/"},"name":"default"},"codecs":[{"configuration":{"endian":"little"},"name":"bytes"}],"data_type":"float32","fill_value":0,"node_type":"array","shape":[10,10],"zarr_format":3}\n
+"#;
+
+#[test]
+fn nodes_are_listed_with_their_metadata(rt: HostRuntime) -> Result<(), Fail> {
+    check_rows(rt.alloc(), DATA, data_said)
+}
+
 // Whether a listing was refused by a text of its own.
 fn is_other<T: Drop>(answer: Result<T, NodeCreateError>) -> bool {
     matches!(
@@ -92,7 +114,7 @@ fn a_name_of_periods_is_refused_by_a_text_of_its_own(rt: HostRuntime) -> Result<
     check_rows(rt.alloc(), row, other_said)
 }
 
-// With each allocation refused in turn the listing lacks memory or is whole, and never another one.
+// With each allocation refused in turn the listing is out of memory or whole, and never another one.
 #[test]
 fn a_listing_without_memory_says_so(rt: HostRuntime) {
     let alloc = rt.alloc();

@@ -285,7 +285,7 @@ fn opening_by_a_version_warns_of_what_is_passed_over(rt: HostRuntime) -> Result<
     check_rows(rt.alloc(), WARNED, warnings)
 }
 
-// With each allocation refused in turn opening lacks memory or is whole, and never without a block.
+// With each allocation refused in turn opening is out of memory or whole, and never without a block.
 #[test]
 fn an_opening_without_memory_says_so(rt: HostRuntime) {
     let alloc = rt.alloc();

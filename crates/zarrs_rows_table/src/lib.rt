@@ -20,7 +20,7 @@ use std::test::Fail;
 ///
 /// # Errors
 ///
-/// What `complaint` says of the table; want of memory for that.
+/// What `complaint` says of the table; out of memory for that.
 pub fn check_rows<E, F>(alloc: Global, table: &str, call: F) -> Result<(), Fail>
 where
     E: Debug + Drop,

@@ -11,8 +11,9 @@ use Rattle.std.proofs.lemmas.List.{append_cancel_left, append-nil, length-append
 use Rattle.std.proofs.lemmas.List.Concat.{flat_map-append}
 use Rattle.std.proofs.lemmas.List.Folds.{list_all-append}
 use Rattle.std.proofs.lemmas.List.Elements.{All-head, All-tail, All-push}
-use Rattle.zarrs_store.specs.Segments.{Segments, bytes_eq, key_text, prefix_text, segments_of, is_slash, has_no_slash, is_nonempty, is_segment, IsKey, IsPrefix, IsSegment, IsSegments}
-use Rattle.zarrs_store.specs.Entries.{beyond, first_of_more}
+use Rattle.zarrs_store.specs.Segments.{Segments, bytes_eq, key_text, prefix_text, segments_of, is_slash, has_no_slash, is_nonempty, is_segment, IsKey, IsPrefix, IsSegment}
+use Rattle.zarrs_store.specs.StepsOfStores.{IsSegments, first_of_more}
+use Rattle.zarrs_store.specs.Entries.{beyond}
 use Rattle.zarrs_store.proofs.Cuts.{segments_of-append, segments_of_one, segments_of-key_text, segments_test, segment_test, prefix_text-cons, prefix_text-key}
 
 -- a text equals itself

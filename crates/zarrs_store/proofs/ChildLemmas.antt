@@ -13,7 +13,8 @@ use Rattle.std.proofs.lemmas.List.Elements.{All-filter, filter_passes}
 use Rattle.std.proofs.lemmas.List.Kept.{AllPairs-filter}
 use Rattle.zarrs_store.specs.Segments.{Segments, bytes_cmp, key_cmp, last_segment, is_reserved}
 use Rattle.zarrs_store.specs.Contents.{Contents, Lists, IsChildPrefix}
-use Rattle.zarrs_store.specs.Children.{IsVisibleChild, AreVisibleChildren, is_visible}
+use Rattle.zarrs_store.specs.Children.{IsVisibleChild, AreVisibleChildren}
+use Rattle.zarrs_store.specs.StepsOfStores.{is_visible}
 use Rattle.zarrs_store.proofs.Ascending.{strictly_from_sorted}
 
 pub key_cmp_total : IsTotalOrder key_cmp

@@ -10,7 +10,8 @@ use Rattle.std.proofs.lemmas.List.Sums.{AllPass-from_list_all, list_all-from_All
 use Rattle.std.proofs.lemmas.List.Elements.{All-nil, All-cons, All-head, All-tail, All-append}
 use Rattle.std.proofs.lemmas.List.{append_cancel_right, append-nil, length-append}
 use Rattle.std.proofs.lemmas.List.Folds.{list_all-append}
-use Rattle.zarrs_store.specs.Segments.{Segments, is_slash, has_no_slash, is_nonempty, is_segment, last_segment, IsSegment, IsSegments, IsKey, IsKeyText, IsPrefix, IsPrefixText, segments_of, key_text, prefix_text}
+use Rattle.zarrs_store.specs.Segments.{Segments, is_slash, has_no_slash, is_nonempty, is_segment, last_segment, IsSegment, IsKey, IsKeyText, IsPrefix, IsPrefixText, segments_of, key_text, prefix_text}
+use Rattle.zarrs_store.specs.StepsOfStores.{IsSegments}
 use Rattle.zarrs_store.proofs.ChildLemmas.{last_segment-child}
 
 -- a text that is not empty passes the test

@@ -21,7 +21,8 @@ use Rattle.std.proofs.lemmas.Map.Keys.{IsDistinct-from_sorted, apart_from_distin
 use Rattle.std.proofs.lemmas.Map.Views.{All-after_first}
 use Rattle.zarrs_store.specs.Segments.{Segments, bytes_cmp, bytes_eq, key_cmp, key_text, prefix_text, IsKey, IsSegment}
 use Rattle.zarrs_store.specs.Contents.{HasKey, Lists, IsKeyBelow, IsChildKey, IsChildPrefix}
-use Rattle.zarrs_store.specs.Entries.{beyond, is_below, is_one, is_child_key, first_of_more, child_name, child_of, child_names, child_prefixes}
+use Rattle.zarrs_store.specs.Entries.{beyond, is_below}
+use Rattle.zarrs_store.specs.StepsOfStores.{is_one, is_child_key, first_of_more, child_name, child_of, child_names, child_prefixes}
 use Rattle.zarrs_store.proofs.ChildLemmas.{key_cmp_total, key_cmp-IsAntisymmetric, Contains-filter}
 use Rattle.zarrs_store.proofs.BelowLemmas.{beyond-append, from_beyond, all_behind, key_text-below}
 use Rattle.zarrs_store.proofs.EntryLemmas.{text_cmp_total, equal_of, shown, HoldsKeys}

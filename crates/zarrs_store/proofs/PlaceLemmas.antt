@@ -23,7 +23,7 @@ use Rattle.std.proofs.lemmas.Map.Keys.{Less-from_sorted, sorted_tail, IsDistinct
 use Rattle.std.proofs.lemmas.Map.Views.{All-after_first}
 use Rattle.std.specs.FinMap.{slice_cmp-IsAntisymmetric, nat_cmp-IsAntisymmetric}
 use Rattle.zarrs_store.specs.Segments.{Segments, key_text, segments_of, IsKey}
-use Rattle.zarrs_store.specs.Places.{text_cmp, AreAscending, IsAt, IsGap}
+use Rattle.zarrs_store.specs.Places.{text_cmp, AreAscending, IsKeyAt, IsKeyGap}
 use Rattle.zarrs_store.proofs.Cuts.{segments_of-key_text}
 use Rattle.zarrs_store.proofs.EntryLemmas.{text_cmp_total, shown, shown_map, get-shown_key, shown_insert, shown_remove}
 
@@ -113,7 +113,7 @@ module _ {X : Type 0} (es : List (Segments × X)) (up : AreAscending es) (key : 
       all_from (λ e. text_cmp e.0 key ≡ Greater) es middle (omega (arith, inside))
       (on_from es up middle x is inside (λ e. text_cmp e.0 key ≡ Greater) h (λ a less. turned key a.0 Less (text_cmp_total.trans key x.0 a.0 (turned x.0 key Greater h) less)))
 
-  pub found_there : IsKey key → text_cmp x.0 key ≡ Equal → IsAt (keys_of es) key middle
+  pub found_there : IsKey key → text_cmp x.0 key ≡ Equal → IsKeyAt (keys_of es) key middle
   found_there valid h =
       let own = subst (λ (e : Segments × X). IsKey e.0) (sym is) (up.valid middle x inside) in
       record {
@@ -134,7 +134,7 @@ module _ {X : Type 0} (es : List (Segments × X)) where
 
   -- where a search for a key ends
   pub gap_there : (key : Segments) (low high : ℕ) → low ≤ high → high ≤ low → high ≤ length es
-      → All (λ e. text_cmp e.0 key ≡ Less) (take low es) → All (λ e. text_cmp e.0 key ≡ Greater) (drop high es) → IsGap (keys_of es) key low
+      → All (λ e. text_cmp e.0 key ≡ Less) (take low es) → All (λ e. text_cmp e.0 key ≡ Greater) (drop high es) → IsKeyGap (keys_of es) key low
   gap_there key low high le ge inside smaller greater =
       let same : high ≡ low = omega (arith, le, ge) in
       record {
@@ -210,7 +210,7 @@ module _ {X : Type 0} where
   of_keys P es h i d l = subst P (get_or-map (λ (e : Segments × X). e.0) es i d d.0 l) (h i d.0 (omega (arith, l, length-keys_of es)))
 
   -- no key is the one for which there is a gap
-  none_tied : (es : List (Segments × X)) (key : Segments) (i : ℕ) → IsGap (keys_of es) key i → NonePasses (ties key) es
+  none_tied : (es : List (Segments × X)) (key : Segments) (i : ℕ) → IsKeyGap (keys_of es) key i → NonePasses (ties key) es
   none_tied es key i gap =
       let P : Segments → Type 0 = λ k. ties key k ≡ false in
       let all : All P (take i (keys_of es) ++ drop i (keys_of es)) = All-append P (take i (keys_of es)) (drop i (keys_of es))
@@ -273,7 +273,7 @@ module _ {X Y : Type 0} (f : X → Y) (es : List (Segments × X)) where
   length-shown = length-map es (λ (e : Segments × X). (e.0, f e.1))
 
   module _ (up : AreAscending es) (key : Segments) (valid : IsKey key) (i : ℕ) where
-    module _ (at : IsAt (keys_of (shown f es)) key i) where
+    module _ (at : IsKeyAt (keys_of (shown f es)) key i) where
       -- the place is one of the entries
       pub place_inside : i < length es
       place_inside = omega (arith, at.inside, length-keys_of (shown f es), length-shown)
@@ -319,9 +319,9 @@ module _ {X Y : Type 0} (f : X → Y) (es : List (Segments × X)) where
           (λ q. lookup-removed es i x q up.ascending place_inside
           ∙ ap (λ k. cond (ties k q) None (lookup (ties q) es)) (ap (λ (e : Segments × X). e.0) (sym is) ∙ key_there x is))
 
-    module _ (gap : IsGap (keys_of (shown f es)) key i) where
-      own_gap : IsGap (keys_of es) key i
-      own_gap = subst (λ ks. IsGap ks key i) keys_of-shown gap
+    module _ (gap : IsKeyGap (keys_of (shown f es)) key i) where
+      own_gap : IsKeyGap (keys_of es) key i
+      own_gap = subst (λ ks. IsKeyGap ks key i) keys_of-shown gap
 
       -- the map has nothing at the key
       pub get_missing : finite.get (shown_map f es) key ≡ None
@@ -350,9 +350,9 @@ module _ {X Y : Type 0} (f : X → Y) (es : List (Segments × X)) where
           ] refl)
 
 -- a key behind the last stands behind all
-pub gap_behind : {X Y : Type 0} (f : X → Y) (es : List (Segments × X)) → AreAscending es → (key : Segments) → All (λ e. text_cmp e.0 key ≡ Less) es → IsGap (keys_of (shown f es)) key (length es)
+pub gap_behind : {X Y : Type 0} (f : X → Y) (es : List (Segments × X)) → AreAscending es → (key : Segments) → All (λ e. text_cmp e.0 key ≡ Less) es → IsKeyGap (keys_of (shown f es)) key (length es)
 gap_behind {X = X} f es up key less =
-    subst (λ ks. IsGap ks key (length es)) (sym (keys_of-shown f es)) (record {
+    subst (λ ks. IsKeyGap ks key (length es)) (sym (keys_of-shown f es)) (record {
       inside = omega (arith, length-keys_of es);
       smaller = keys_before es (λ k. text_cmp k key ≡ Less) (length es) (All-take (λ e. text_cmp e.0 key ≡ Less) (length es) es less);
       greater = keys_from es (λ k. text_cmp k key ≡ Greater) (length es) (λ j d l. absurd (omega (arith, l, length-drop (length es) es)));

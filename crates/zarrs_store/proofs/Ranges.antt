@@ -9,12 +9,13 @@ use Rattle.std.specs.Map.{keys_of}
 use Rattle.std.proofs.lemmas.Cmp.{nat_cmp_total, nat_list_cmp_total, tied_itself}
 use Rattle.std.proofs.lemmas.List.{drop_all, take-map, drop-map}
 use Rattle.std.proofs.Math.Seq.{drop-cons}
-use Rattle.std.proofs.lemmas.List.Edits.{split_between}
+use Rattle.std.proofs.lemmas.List.Edits.{split_between, length-between}
 use Rattle.std.proofs.lemmas.List.Elements.{All-head, All-tail, All-map, filter-append}
 use Rattle.std.proofs.lemmas.Map.Entries.{length-keys_of}
 use Rattle.zarrs_store.specs.Segments.{Segments, bytes_cmp, key_text, prefix_text, IsKey, IsPrefix}
-use Rattle.zarrs_store.specs.Entries.{beyond, is_below, is_one, is_child_key, first_of_more, child_name}
-use Rattle.zarrs_store.specs.Places.{text_cmp, AreAscending, IsRange}
+use Rattle.zarrs_store.specs.Entries.{beyond, is_below}
+use Rattle.zarrs_store.specs.StepsOfStores.{is_one, is_child_key, first_of_more, child_name}
+use Rattle.zarrs_store.specs.Places.{text_cmp, AreAscending, IsRange, keys_below}
 use Rattle.zarrs_store.proofs.BelowLemmas.{from_beyond, key_text-below, beyond-text}
 use Rattle.zarrs_store.proofs.EntryLemmas.{shown}
 use Rattle.zarrs_store.proofs.PlaceLemmas.{less_of, keys_of-shown, all_before, at_from, all_from, all_between, up_to, on_from, keys_before, keys_from}
@@ -189,6 +190,10 @@ module _ {X Y : Type 0} (f : X → Y) (es : List (Segments × X)) (p : Segments)
   -- all keys below the prefix are those in the range
   pub range_below : filter (is_below p) (keys_of es) ≡ ks
   range_below = sym (range_filter (is_below p) (λ k e. e)) ∙ filter_all (is_below p) ks within
+
+  -- they are as many as the range is long
+  pub range_count : keys_below p (keys_of es) ≡ end - first
+  range_count = ap length range_below ∙ sym (ap length (keys_between es p first end)) ∙ length-between (keys_of es) first end own.inside
 
 -- outside there is no child key
 pub no_child_key : (p k : Segments) → is_below p k ≡ false → is_child_key p k ≡ false

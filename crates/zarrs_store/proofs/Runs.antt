@@ -1,15 +1,17 @@
 -- The keys in one child stand together: a walk that passes over them at once, and how many comparisons it makes.
-use Rattle.std.proofs.Common.{◌≡◌, ℕ, ◌+◌, ◌-◌, ◌*◌, ◌<◌, ◌≤◌, true, false, cond, List, [], ◌∷◌, ◌++◌, length, get_or, take, drop, slice_range, refl, sym, ap, subst, ◌∙◌, append_assoc, Some, None, arith}
+use Rattle.std.proofs.Common.{◌≡◌, ⊎_elim, true≢false, ℕ, ◌+◌, ◌-◌, ◌*◌, ◌<◌, ◌≤◌, true, false, cond, List, [], ◌∷◌, ◌++◌, length, get_or, take, drop, slice_range, refl, sym, ap, subst, ◌∙◌, append_assoc, Some, None, arith}
 use Rattle.std.specs.Prelude.{All, Bool, filter, filter_map, is_some, map, max}
 use Rattle.std.specs.List.{dedup, dedup_from, cons_option}
 use Rattle.std.specs.Map.{keys_of}
+use Rattle.std.proofs.lemmas.Bool.Decides.{leb_tells}
 use Rattle.std.proofs.lemmas.Slice.Eq.{bytes_eq-Decides}
-use Rattle.std.proofs.lemmas.List.{get_or-map, take-append-drop, drop-drop, drop-map, map-append}
+use Rattle.std.proofs.lemmas.List.{get_or-map, get_or-drop, length-drop, take-append-drop, drop-drop, drop-map, map-append}
 use Rattle.std.proofs.lemmas.List.Edits.{get_or-between, length-between}
 use Rattle.std.proofs.lemmas.List.Elements.{All-head, All-tail, All-drop, All-map, filter-append, filter_map-append}
 use Rattle.std.proofs.lemmas.Map.Entries.{length-keys_of}
 use Rattle.zarrs_store.specs.Segments.{Segments, bytes_eq}
-use Rattle.zarrs_store.specs.Entries.{beyond, is_below, is_child_key, first_of_more, child_name, child_of, child_names, child_prefixes}
+use Rattle.zarrs_store.specs.Entries.{beyond, is_below}
+use Rattle.zarrs_store.specs.StepsOfStores.{is_child_key, first_of_more, child_name, child_of, child_names, child_prefixes}
 use Rattle.zarrs_store.specs.Places.{AreAscending, IsRange, digits}
 use Rattle.zarrs_store.proofs.BelowLemmas.{beyond-append, from_beyond}
 use Rattle.zarrs_store.proofs.Digits.{digits_least, digits_mono, digits_at_most}
@@ -156,6 +158,28 @@ module _ {X : Type 0} (es : List (Segments × X)) (p : Segments) (first end : �
       ap (λ (e : Segments × X). is_below p e.0) is ∙ ap (is_below p) (sym (get_or-map (λ (e : Segments × X). e.0) es i x x.0 inside))
       ∙ ap (λ j. is_below p (get_or (keys_of es) j x.0)) (sym same)
       ∙ ap (is_below p) (sym (get_or-between (keys_of es) first end (i - first) x.0 before)) ∙ within
+
+  -- a stretch of keys in one child that begins in the range ends in it
+  pub run_inside : (n : List ℕ) (d : Segments × X) (i e : ℕ) → first ≤ i → i ≤ end → e ≤ length es → All (λ x. is_below (child_of p n) x.0 ≡ true) (slice_range es i e) → e ≤ end
+  run_inside n d i e low le within run = ⊎_elim (λ t. t.1) (λ f. absurd (true≢false (ap is_some (sym (named f.1) ∙ unnamed f.1)))) (leb_tells e end)
+    where
+      -- the key behind the range would have the child's name
+      named : end < e → child_name p (get_or es end d).0 ≡ Some n
+      named lt =
+          let same : i + (end - i) ≡ end = omega (arith, le) in
+          let there : i + (end - i) < e = omega (arith, le, lt) in
+          let at = run (end - i) d (omega (arith, le, lt, length-between es i e within)) in
+          below_child p (get_or es end d).0 n
+          (ap (λ (x : Segments × X). is_below (child_of p n) x.0) (sym (get_or-between es i e (end - i) d there ∙ ap (λ j. get_or es j d) same)) ∙ at)
+
+      -- and has none
+      unnamed : end < e → child_name p (get_or es end d).0 ≡ None
+      unnamed lt =
+          let inside : end < length es = omega (arith, lt, within) in
+          let same : end + 0 ≡ end = omega arith in
+          let at = range.behind 0 d.0 (omega (arith, inside, length-drop end (keys_of es), length-keys_of es)) in
+          no_child p (get_or es end d).0
+          (ap (is_below p) (sym (get_or-drop end (keys_of es) 0 d.0 ∙ ap (λ j. get_or (keys_of es) j d.0) same ∙ get_or-map (λ (e : Segments × X). e.0) es end d d.0 inside)) ∙ at)
 
   -- from the first on stand all that pass a test that no key outside passes
   pub first_keys : (t : Segments → Bool) → ((k : Segments) → is_below p k ≡ false → t k ≡ false) → filter t (keys_of (drop first es)) ≡ filter t (keys_of es)

@@ -1,7 +1,7 @@
 -- Zarr core specification 3.1, "Node names": names that begin with `__` are reserved. The children of a prefix without those.
-use Rattle.std.specs.Prelude.{◌≡◌, ℕ, Bool, false, not, List, [], ◌∷◌, ◌++◌, Contains, All}
+use Rattle.std.specs.Prelude.{◌≡◌, ℕ, false, not, List, [], ◌∷◌, ◌++◌, Contains, All}
 use Rattle.std.specs.List.Sorted.{IsStrictlySortedBy}
-use Rattle.zarrs_store.specs.Segments.{Segments, key_cmp, is_reserved, last_segment}
+use Rattle.zarrs_store.specs.Segments.{Segments, key_cmp, is_reserved}
 use Rattle.zarrs_store.specs.Contents.{Contents, HasChild}
 
 -- the prefix and one segment more, which does not begin with `__` and which some key of the store has there with at least one more behind it
@@ -16,7 +16,3 @@ pub record AreVisibleChildren (S : Contents) (prefix : Segments) (children : Lis
   pub ascending : IsStrictlySortedBy key_cmp children
   pub sound : All (IsVisibleChild S prefix) children
   pub complete : (child : Segments) → IsVisibleChild S prefix child → Contains children child
-
--- the last segment of a prefix does not begin with `__`
-abbrev pub is_visible : Segments → Bool
-is_visible child = not (is_reserved (last_segment child))

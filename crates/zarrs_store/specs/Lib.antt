@@ -1,7 +1,8 @@
-pub mod Segments
-pub mod Contents
-pub mod Faults
 pub mod Children
+pub mod Contents
 pub mod Entries
+pub mod FailingStores
+pub mod Faults
 pub mod Places
-pub mod Failing
+pub mod Segments
+pub mod StepsOfStores

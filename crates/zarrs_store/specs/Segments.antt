@@ -4,7 +4,6 @@
 --     IsPrefix, prefix_text, IsPrefixText      any number of segments; each with a slash behind it; that a text is such a one
 --     bytes_cmp, key_cmp      texts by their bytes; lists of segments by their segments
 use Rattle.std.specs.Prelude.{◌≡◌, ◌≢◌, ℕ, Bool, true, false, All, List, [], ◌∷◌, ◌++◌, ◌==◌, ◌&&◌, not, nat_eq}
-use Rattle.std.specs.Prelude.{IsTrue}
 use Rattle.std.specs.List.{slice_split, list_all, filter, flat_map, join_with_byte, starts_with}
 use Rattle.std.specs.declared.cmp.Ordering.{Ordering}
 use Rattle.std.specs.Ordering.{nat_cmp}
@@ -42,10 +41,6 @@ has_no_slash s = list_all (λ b. not (is_slash b)) s
 -- the text is a segment, as a test: it has a byte, and none of its bytes is `/`
 abbrev pub is_segment : List ℕ → Bool
 is_segment s = is_nonempty s && has_no_slash s
-
--- each of these texts passes that test
-abbrev pub IsSegments : Segments → Type 0
-IsSegments ss = IsTrue (list_all is_segment ss)
 
 -- the nonempty stretches of a text between its slashes
 unfoldable pub segments_of : List ℕ → Segments

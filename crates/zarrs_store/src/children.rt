@@ -1,7 +1,8 @@
 ghost use Rattle.std.specs.Prelude.{◌≡◌, IfOk, IfErr};
 ghost use Rattle.zarrs_store.specs.Segments.{bytes_cmp, last_segment};
 ghost use Rattle.zarrs_store.specs.Faults.{IsStoreError};
-ghost use Rattle.zarrs_store.specs.Children.{AreVisibleChildren, is_visible};
+ghost use Rattle.zarrs_store.specs.Children.{AreVisibleChildren};
+ghost use Rattle.zarrs_store.specs.StepsOfStores.{is_visible};
 
 use crate::prefix::StorePrefix;
 use crate::storage_error::StorageError;

@@ -3,7 +3,7 @@ ghost use Rattle.std.specs.Prelude.{◌≡◌, ◌≢◌, ◌↔◌, IsTrue, [],
 ghost use Rattle.std.specs.Option.{option_map};
 ghost use Rattle.std.specs.FinMap as map;
 ghost use Rattle.zarrs_store.specs.Contents.{HasKey, Lists, IsKeyBelow, IsChildKey, IsChildPrefix, AgreesExceptAt};
-ghost use Rattle.zarrs_store.specs.Failing.{held, first_half};
+ghost use Rattle.zarrs_store.specs.FailingStores.{inner_contents, first_half};
 ghost use Rattle.zarrs_store.specs.Faults.{IsStoreError};
 
 use crate::key::StoreKey;
@@ -116,7 +116,7 @@ pub struct FaultStore {
 }
 
 impl Model for FaultStore {
-    ghost use Rattle.zarrs_store.specs.Failing.{Failing};
+    ghost use Rattle.zarrs_store.specs.FailingStores.{Failing};
 
     ghost Value = { Failing };
 
@@ -145,7 +145,7 @@ impl FaultStore {
 }
 
 impl Store for FaultStore {
-    ghost contents = { held };
+    ghost contents = { inner_contents };
 
     ghost can_fail = { λ _. true };
 }
@@ -156,7 +156,7 @@ impl ReadableStorageTraits for FaultStore {
     /// # Errors
     /// `StorageError::Fault` exactly where this is the place. `StorageError::OutOfMemory`.
     fn get(&self, alloc: Global, key: &StoreKey) -> Result<Option<Vec<u8>>, StorageError>
-        ensures ok { IfOk result (λ found. option_map (λ v. v.items) found ≡ map.get (held self.now) key.now) }
+        ensures ok { IfOk result (λ found. option_map (λ v. v.items) found ≡ map.get (inner_contents self.now) key.now) }
         ensures err { IfErr result (IsStoreError true) }
         ensures place { (result ≡ Err StorageError.Fault) ↔ (self.now.place ≡ FaultAt.OnGet key.now) }
     {
@@ -173,7 +173,7 @@ impl ListableStorageTraits for FaultStore {
     /// # Errors
     /// `StorageError::Fault` exactly where the place is the listing of the empty prefix. `StorageError::OutOfMemory`.
     fn list(&self, alloc: Global) -> Result<Vec<StoreKey>, StorageError>
-        ensures ok { IfOk result (λ keys. Lists (HasKey (held self.now)) keys.items) }
+        ensures ok { IfOk result (λ keys. Lists (HasKey (inner_contents self.now)) keys.items) }
         ensures err { IfErr result (IsStoreError true) }
         ensures place { (result ≡ Err StorageError.Fault) ↔ (self.now.place ≡ FaultAt.OnList []) }
     {
@@ -192,7 +192,7 @@ impl ListableStorageTraits for FaultStore {
         alloc: Global,
         prefix: &StorePrefix,
     ) -> Result<Vec<StoreKey>, StorageError>
-        ensures ok { IfOk result (λ keys. Lists (IsKeyBelow (held self.now) prefix.now) keys.items) }
+        ensures ok { IfOk result (λ keys. Lists (IsKeyBelow (inner_contents self.now) prefix.now) keys.items) }
         ensures err { IfErr result (IsStoreError true) }
         ensures place { (result ≡ Err StorageError.Fault) ↔ (self.now.place ≡ FaultAt.OnList prefix.now) }
     {
@@ -211,8 +211,8 @@ impl ListableStorageTraits for FaultStore {
         alloc: Global,
         prefix: &StorePrefix,
     ) -> Result<StoreKeysPrefixes, StorageError>
-        ensures keys { IfOk result (λ dir. Lists (IsChildKey (held self.now) prefix.now) dir.keys.items) }
-        ensures prefixes { IfOk result (λ dir. Lists (IsChildPrefix (held self.now) prefix.now) dir.prefixes.items) }
+        ensures keys { IfOk result (λ dir. Lists (IsChildKey (inner_contents self.now) prefix.now) dir.keys.items) }
+        ensures prefixes { IfOk result (λ dir. Lists (IsChildPrefix (inner_contents self.now) prefix.now) dir.prefixes.items) }
         ensures err { IfErr result (IsStoreError true) }
         ensures place { (result ≡ Err StorageError.Fault) ↔ (self.now.place ≡ FaultAt.OnList prefix.now) }
     {
@@ -231,7 +231,7 @@ impl ListableStorageTraits for FaultStore {
         alloc: Global,
         prefix: &StorePrefix,
     ) -> Result<Vec<StorePrefix>, StorageError>
-        ensures prefixes { IfOk result (λ prefixes. Lists (IsChildPrefix (held self.now) prefix.now) prefixes.items) }
+        ensures prefixes { IfOk result (λ prefixes. Lists (IsChildPrefix (inner_contents self.now) prefix.now) prefixes.items) }
         ensures err { IfErr result (IsStoreError true) }
         ensures place { (result ≡ Err StorageError.Fault) ↔ (self.now.place ≡ FaultAt.OnList prefix.now) }
     {
@@ -243,20 +243,20 @@ impl ListableStorageTraits for FaultStore {
 }
 
 impl WritableStorageTraits for FaultStore {
-    /// Sets the bytes at the key. A fault leaves the first half of them there, half their number rounded down; want of memory leaves
+    /// Sets the bytes at the key. A fault leaves the first half of them there, half their number rounded down; out of memory leaves
     /// the store as it was, at the place too.
     ///
     /// # Errors
     /// `StorageError::Fault` only where this is the place, and there `StorageError::Fault` or `StorageError::OutOfMemory`.
     /// `StorageError::OutOfMemory`.
     fn set(&mut self, key: &StoreKey, value: &[u8]) -> Result<(), StorageError>
-        ensures ok { OnOk result (held self.new ≡ map.insert (held self.old) key.now value.now) }
+        ensures ok { OnOk result (inner_contents self.new ≡ map.insert (inner_contents self.old) key.now value.now) }
         ensures err { IfErr result (IsStoreError true) }
-        ensures others { OnErr result (AgreesExceptAt key.now (held self.old) (held self.new)) }
+        ensures others { OnErr result (AgreesExceptAt key.now (inner_contents self.old) (inner_contents self.new)) }
         ensures nature { self.new.place ≡ self.old.place }
         ensures place { self.old.place ≡ FaultAt.OnSet key.now → IsErr result }
         ensures elsewhere { result ≡ Err StorageError.Fault → self.old.place ≡ FaultAt.OnSet key.now }
-        ensures half { result ≡ Err StorageError.Fault → held self.new ≡ map.insert (held self.old) key.now (first_half value.now) }
+        ensures half { result ≡ Err StorageError.Fault → inner_contents self.new ≡ map.insert (inner_contents self.old) key.now (first_half value.now) }
         ensures unchanged { result ≡ Err StorageError.OutOfMemory → self.new ≡ self.old }
     {
         if self.place.is_set(key) {
@@ -271,9 +271,9 @@ impl WritableStorageTraits for FaultStore {
     /// # Errors
     /// `StorageError::Fault` exactly where this is the place, and no other.
     fn erase(&mut self, key: &StoreKey) -> Result<(), StorageError>
-        ensures ok { OnOk result (held self.new ≡ map.remove (held self.old) key.now) }
+        ensures ok { OnOk result (inner_contents self.new ≡ map.remove (inner_contents self.old) key.now) }
         ensures err { IfErr result (IsStoreError true) }
-        ensures others { OnErr result (AgreesExceptAt key.now (held self.old) (held self.new)) }
+        ensures others { OnErr result (AgreesExceptAt key.now (inner_contents self.old) (inner_contents self.new)) }
         ensures nature { self.new.place ≡ self.old.place }
         ensures place { (result ≡ Err StorageError.Fault) ↔ (self.old.place ≡ FaultAt.OnErase key.now) }
         ensures succeeds { self.old.place ≢ FaultAt.OnErase key.now → IsOk result }

@@ -49,7 +49,7 @@ impl From<AllocError> for StoreKeyError {
 
     ghost from_gives = { λ _ e. e ≡ OutOfMemory };
 
-    /// Want of memory.
+    /// Out of memory.
     fn from(_e: AllocError) -> StoreKeyError {
         StoreKeyError::OutOfMemory
     }

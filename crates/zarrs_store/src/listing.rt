@@ -1,9 +1,9 @@
 // What stands directly below a prefix, among entries that ascend by the keys' texts. The keys of one child stand together: the first
 // of them names it, and a search finds where they end.
-ghost use Rattle.std.specs.Prelude.{◌≡◌, ◌+◌, ◌*◌, ◌≤◌, length, filter, IfOk};
+ghost use Rattle.std.specs.Prelude.{◌≡◌, ◌+◌, ◌-◌, ◌*◌, ◌≤◌, length, filter, IfOk};
 ghost use Rattle.std.specs.Map.{keys_of};
 ghost use Rattle.zarrs_store.specs.Segments.{IsPrefix};
-ghost use Rattle.zarrs_store.specs.Entries.{is_child_key, child_prefixes};
+ghost use Rattle.zarrs_store.specs.StepsOfStores.{is_child_key, child_prefixes};
 ghost use Rattle.zarrs_store.specs.Places.{AreAscending, IsRange, digits};
 
 use crate::key::StoreKey;
@@ -26,7 +26,8 @@ pub(crate) fn directly_below(
     requires range { IsRange (keys_of entries.now) prefix.now first end }
     ensures keys { IfOk result (λ dir. dir.0.keys.items ≡ filter (is_child_key prefix.now) (keys_of entries.now)) }
     ensures prefixes { IfOk result (λ dir. dir.0.prefixes.items ≡ child_prefixes prefix.now (keys_of entries.now)) }
-    ensures comparisons { IfOk result (λ dir. dir.1 ≤ length dir.0.keys.items + length dir.0.prefixes.items + length dir.0.prefixes.items * (2 * digits (length entries.now))) }
+    ensures comparisons { IfOk result (λ dir. dir.1 ≤ length dir.0.keys.items + length dir.0.prefixes.items
+        + length dir.0.prefixes.items * (2 * digits (end - first))) }
     ensures few { IfOk result (λ dir. dir.1 ≤ 2 * length entries.now) }
 {
     let mut keys = Vec::new(alloc);

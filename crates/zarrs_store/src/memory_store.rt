@@ -1,9 +1,9 @@
-ghost use Rattle.std.specs.Prelude.{◌≡◌, ◌≤◌, ◌+◌, ◌*◌, suc, false, [], length, IsOk, OnOk, OnErr, IfOk, IfErr};
+ghost use Rattle.std.specs.Prelude.{◌≡◌, ◌≤◌, ◌+◌, ◌*◌, false, [], length, IsOk, OnOk, OnErr, IfOk, IfErr};
 ghost use Rattle.std.specs.Map.{keys_of};
 ghost use Rattle.zarrs_store.specs.Segments.{key_cmp};
 ghost use Rattle.zarrs_store.specs.Contents.{Lists, IsChildKey, IsChildPrefix};
 ghost use Rattle.zarrs_store.specs.Faults.{IsStoreError};
-ghost use Rattle.zarrs_store.specs.Places.{IsAt, IsGap, IsRange, digits};
+ghost use Rattle.zarrs_store.specs.Places.{IsKeyAt, IsKeyGap, IsRange, digits, keys_below};
 ghost use Rattle.std.specs.FinMap as map;
 
 use crate::key::StoreKey;
@@ -75,8 +75,8 @@ impl MemoryStore {
     ///
     /// Source: own.
     pub fn find_counted(&self, key: &StoreKey) -> (Result<usize, usize>, u32)
-        ensures found { IfOk result.0 (IsAt (keys_of self.now) key.now) }
-        ensures absent { IfErr result.0 (IsGap (keys_of self.now) key.now) }
+        ensures found { IfOk result.0 (IsKeyAt (keys_of self.now) key.now) }
+        ensures absent { IfErr result.0 (IsKeyGap (keys_of self.now) key.now) }
         ensures comparisons { result.1 ≤ digits (length self.now) }
     {
         let _valid = key.as_str();
@@ -95,8 +95,9 @@ impl MemoryStore {
         range_of(&self.entries, prefix)
     }
 
-    /// What `list_dir` answers, and the number of comparisons of keys: one for each key and each child that it answers, and those that find
-    /// where the keys below the prefix and those of each child end, each time at most twice as many as the number of keys has binary digits.
+    /// What `list_dir` answers, and the number of comparisons of keys: one for each key and each child that it answers; those that find where
+    /// the keys of each child end, at most twice as many as the number of keys below the prefix has binary digits; and once those that find
+    /// where the keys below the prefix begin and end, at most twice as many as the number of all keys has.
     ///
     /// # Errors
     /// `StorageError::OutOfMemory`.
@@ -110,7 +111,8 @@ impl MemoryStore {
         ensures keys { IfOk result (λ dir. Lists (IsChildKey (map.from_entries {R = key_cmp} self.now) prefix.now) dir.0.keys.items) }
         ensures prefixes { IfOk result (λ dir. Lists (IsChildPrefix (map.from_entries {R = key_cmp} self.now) prefix.now) dir.0.prefixes.items) }
         ensures comparisons { IfOk result (λ dir. dir.1 ≤ length dir.0.keys.items + length dir.0.prefixes.items
-            + suc (length dir.0.prefixes.items) * (2 * digits (length self.now))) }
+            + length dir.0.prefixes.items * (2 * digits (keys_below prefix.now (keys_of self.now)))
+            + 2 * digits (length self.now)) }
         ensures err { IfErr result (IsStoreError false) }
     {
         let _valid = prefix.as_str();
@@ -121,8 +123,8 @@ impl MemoryStore {
 
     // What `find_counted` finds; a key behind the last is told by one comparison, with no search.
     fn place(&self, key: &StoreKey) -> Result<usize, usize>
-        ensures found { IfOk result (IsAt (keys_of self.now) key.now) }
-        ensures absent { IfErr result (IsGap (keys_of self.now) key.now) }
+        ensures found { IfOk result (IsKeyAt (keys_of self.now) key.now) }
+        ensures absent { IfErr result (IsKeyGap (keys_of self.now) key.now) }
     {
         if let Some((last, _)) = self.entries.last() {
             if last < key {

@@ -4,7 +4,7 @@ ghost use Rattle.std.specs.Map.{keys_of};
 ghost use Rattle.std.specs.Ordering.{is_lt};
 ghost use Rattle.zarrs_store.specs.Segments.{bytes_cmp, key_text, prefix_text, IsKey, IsPrefix};
 ghost use Rattle.zarrs_store.specs.Entries.{is_below};
-ghost use Rattle.zarrs_store.specs.Places.{AreAscending, IsAt, IsGap, IsRange, digits};
+ghost use Rattle.zarrs_store.specs.Places.{AreAscending, IsKeyAt, IsKeyGap, IsRange, digits};
 
 use crate::key::StoreKey;
 use crate::prefix::StorePrefix;
@@ -17,8 +17,8 @@ pub(crate) fn place_of(
 ) -> (Result<usize, usize>, u32)
     requires ascending { AreAscending entries.now }
     requires valid { IsKey key.now }
-    ensures found { IfOk result.0 (IsAt (keys_of entries.now) key.now) }
-    ensures absent { IfErr result.0 (IsGap (keys_of entries.now) key.now) }
+    ensures found { IfOk result.0 (IsKeyAt (keys_of entries.now) key.now) }
+    ensures absent { IfErr result.0 (IsKeyGap (keys_of entries.now) key.now) }
     ensures comparisons { result.1 ≤ digits (length entries.now) }
 {
     let mut low = 0;

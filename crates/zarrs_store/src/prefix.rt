@@ -8,7 +8,8 @@ ghost use Rattle.zarrs_store.specs.Faults.{RefusesPrefix};
 ghost use Rattle.std.specs.Prelude.{[], ◌∷◌, ◌++◌};
 ghost use Rattle.std.specs.Option.{option_map};
 ghost use Rattle.zarrs_store.specs.Segments.{IsSegment};
-ghost use Rattle.zarrs_store.specs.Entries.{beyond, is_below, child_name};
+ghost use Rattle.zarrs_store.specs.Entries.{beyond, is_below};
+ghost use Rattle.zarrs_store.specs.StepsOfStores.{child_name};
 
 use crate::key::StoreKey;
 use std::alloc::{AllocError, Global};
@@ -54,7 +55,7 @@ impl From<AllocError> for StorePrefixError {
 
     ghost from_gives = { λ _ e. e ≡ OutOfMemory };
 
-    /// Want of memory.
+    /// Out of memory.
     fn from(_e: AllocError) -> StorePrefixError {
         StorePrefixError::OutOfMemory
     }

@@ -30,7 +30,7 @@ pub enum StorageError {
 impl From<AllocError> for StorageError {
     ghost from_gives = { λ _ e. e ≡ OutOfMemory };
 
-    /// Want of memory.
+    /// Out of memory.
     fn from(_e: AllocError) -> StorageError {
         StorageError::OutOfMemory
     }
@@ -39,7 +39,7 @@ impl From<AllocError> for StorageError {
 impl<T: Drop> From<AllocFailed<T>> for StorageError {
     ghost from_gives = { λ _ e. e ≡ OutOfMemory };
 
-    /// Want of memory.
+    /// Out of memory.
     fn from(_e: AllocFailed<T>) -> StorageError {
         StorageError::OutOfMemory
     }

@@ -15,7 +15,7 @@ use Rattle.zarrs_meta.specs.declared.node.NodeMetadata.{NodeMetadata}
 use Rattle.zarrs_meta.specs.declared.node.NodeMetadata.TheVariants.{Group, Array}
 use Rattle.zarrs_block.specs.Block.{Block, IsAscending, IsBlockOf, block_of, block_tree}
 use Rattle.zarrs_block.specs.Meaning.{Means, meaning, node, nothing, bad}
-use Rattle.zarrs_block.specs.Refused.{IsExcused, IsMissing}
+use Rattle.zarrs_block.specs.Refusals.{IsExcused, IsMissing}
 use Rattle.zarrs_block.specs.declared.node_create_error.NodeCreateError.{NodeCreateError}
 use Rattle.zarrs_node.specs.Nodes.{Nodes, Bad, ShowsBad}
 use Rattle.zarrs_node.proofs.Inverse.{kept_reads_back}
@@ -24,7 +24,8 @@ use Rattle.zarrs_group.specs.Layout.{pretty_text}
 use Rattle.zarrs_tool.specs.Output.{IsBlockText}
 use Rattle.zarrs_tool.specs.declared.fault.ToolFault.{ToolFault}
 use Rattle.zarrs_tool.specs.declared.fault.ToolFault.TheVariants.{Node}
-use Rattle.zarrs_tool.specs.Refused.{IsArray, IsBlockFault, RefusesOpen}
+use Rattle.zarrs_tool.specs.Refusals.{IsArray, RefusesOpen}
+use Rattle.zarrs_tool.specs.StepsOfRuns.{IsBlockFault}
 use Rattle.zarrs_tool.proofs.PlainMeanings.{plain_node}
 
 -- what was read as a document has numbers that fit

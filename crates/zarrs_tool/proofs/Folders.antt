@@ -1,60 +1,44 @@
 -- From a folder's refusal, and from that of a run over its store, to the run's; the words of a folder's command.
-use Rattle.std.proofs.Common.{◌≡◌, ℕ, ◌-◌, ◌<◌, ◌≤◌, Bool, true, false, not, true≢false, List, [], ◌∷◌, length, get_or, take, drop, Option, String, Global, string_bytes, codes, sym, subst, ap, refl, ◌∙◌, arith}
+use Rattle.std.proofs.Common.{◌≡◌, ℕ, ◌-◌, ◌<◌, ◌≤◌, Bool, true, false, not, true≢false, List, [], ◌∷◌, length, get_or, take, drop, Option, String, Global, string_bytes, codes, inl, inr, ⊎_elim, sym, subst, ap, refl, ◌∙◌, arith}
 use Rattle.std.specs.Prelude.{Result, Ok, Err, IfErr, OnOk}
 use Rattle.std.specs.Str.{bytes_eq}
 use Rattle.std.proofs.lemmas.Slice.Eq.{bytes_eq-Decides}
 use Rattle.zarrs_store.specs.Contents.{Contents}
-use Rattle.zarrs_tool.specs.Folder.{IsFolderFault}
-use Rattle.zarrs_tool.specs.Output.{IsCommand, IsFolderWords, WritesOutput, texts}
-use Rattle.zarrs_tool.specs.Refused.{IsRefusal, RefusedFolder}
+use Rattle.zarrs_load.specs.Folder.{HoldsDocumentsAlone, IsFolderFault}
+use Rattle.zarrs_tool.specs.Output.{IsCommand, WritesOfImage, WritesOutput, texts}
+use Rattle.zarrs_tool.specs.StepsOfRuns.{IsFolderWords, WritesAnswer, WritesOfFolder, RefusedFolder}
+use Rattle.zarrs_tool.specs.Refusals.{IsLoadFault, IsRefusal}
 use Rattle.zarrs_tool.specs.declared.fault.ToolFault.{ToolFault}
-use Rattle.zarrs_tool.specs.declared.fault.ToolFault.TheVariants.{Usage, Read, ReadTooLong, Image, ImageKey, ImageValue, Folder, NotAGroup, Node, Write, OutOfMemory}
+use Rattle.zarrs_tool.specs.declared.fault.ToolFault.TheVariants.{Usage}
 
 -- a folder's fault refuses the run
-folder_fault : (words : List (List ℕ)) (fault : ToolFault) → IsFolderFault fault → RefusedFolder words fault
-folder_fault words Folder refused = tt
-folder_fault words OutOfMemory refused = tt
-folder_fault words Usage refused = absurd refused
-folder_fault words Read refused = absurd refused
-folder_fault words ReadTooLong refused = absurd refused
-folder_fault words Image refused = absurd refused
-folder_fault words (ImageKey name) refused = absurd refused
-folder_fault words (ImageValue name) refused = absurd refused
-folder_fault words NotAGroup refused = absurd refused
-folder_fault words (Node e) refused = absurd refused
-folder_fault words Write refused = absurd refused
-
-pub folder_fault_result : {T : Type 0} (words : List (List ℕ)) (r : Result T ToolFault) (fault : ToolFault) → r ≡ Err fault → IsFolderFault fault → IfErr r (RefusedFolder words)
-folder_fault_result words r fault is refused = subst (λ x. IfErr x (RefusedFolder words)) (sym is) (folder_fault words fault refused)
+pub folder_fault_result : {T : Type 0} (words : List (List ℕ)) (r : Result T ToolFault) (fault : ToolFault) → r ≡ Err fault → IsLoadFault IsFolderFault fault → IfErr r (RefusedFolder words)
+folder_fault_result words r fault is refused = subst (λ x. IfErr x (RefusedFolder words)) (sym is) (inl refused)
 
 -- what refuses the words over the folder's store refuses the run
-store_fault : (words : List (List ℕ)) (store : Contents) (fault : ToolFault) → IsRefusal false words store fault → RefusedFolder words fault
-store_fault words store Folder refused = tt
-store_fault words store OutOfMemory refused = tt
-store_fault words store Usage refused = (store, refused)
-store_fault words store Read refused = (store, refused)
-store_fault words store ReadTooLong refused = (store, refused)
-store_fault words store Image refused = (store, refused)
-store_fault words store (ImageKey name) refused = (store, refused)
-store_fault words store (ImageValue name) refused = (store, refused)
-store_fault words store NotAGroup refused = (store, refused)
-store_fault words store (Node e) refused = (store, refused)
-store_fault words store Write refused = (store, refused)
-
 pub store_fault_result : {T : Type 0} (words : List (List ℕ)) (store : Contents) (r : Result T ToolFault) → IfErr r (IsRefusal false words store) → IfErr r (RefusedFolder words)
 store_fault_result words store (Ok x) refused = tt
-store_fault_result words store (Err fault) refused = store_fault words store fault refused
+store_fault_result words store (Err fault) refused = inr (store, refused)
 
 -- what the words wrote about the folder's store, the run wrote
 pub written_folder : {E : Type 0} (words : List (List ℕ)) (store : Contents) (old new : Option (List ℕ)) (r : Result (Unit {0}) E)
-    → OnOk r (WritesOutput words store old new) → OnOk r ((s : Contents) × WritesOutput words s old new)
-written_folder words store old new (Ok done) writes = (store, writes)
-written_folder words store old new (Err e) writes = tt
+    → HoldsDocumentsAlone store → OnOk r (WritesOutput words store old new) → OnOk r (WritesOfFolder words old new)
+written_folder words store old new (Ok done) holds writes = (store, holds, writes)
+written_folder words store old new (Err e) holds writes = tt
+
+-- a run over a folder answers
+pub folder_answered : (words : List (List ℕ)) (left before after : Option (List ℕ)) (folder : List ℕ) (tree : List (List ℕ)) → IsFolderWords words folder tree
+    → WritesOfFolder tree before after → WritesAnswer words left before after
+folder_answered words left before after folder tree is writes = inr (folder, tree, is, writes)
+
+-- so does a run over an image
+pub image_answered : (words : List (List ℕ)) (left before after : Option (List ℕ)) → WritesOfImage words left before after → WritesAnswer words left before after
+image_answered words left before after writes = inl writes
 
 -- a run that is refused for its words has none that are a command
 pub not_words : {T : Type 0} (words : List (List ℕ)) (r : Result T ToolFault) → r ≡ Err Usage → IfErr r (RefusedFolder words) → IsCommand words → ⊥
 not_words words r is refused =
-    let said : RefusedFolder words Usage = subst (λ x. IfErr x (RefusedFolder words)) is refused in said.1
+    let said : RefusedFolder words Usage = subst (λ x. IfErr x (RefusedFolder words)) is refused in ⊎_elim (λ no. absurd no) (λ found. found.1) said
 
 -- texts that are not told to differ are one
 truth : (b : Bool) → false ≡ not b → b ≡ true

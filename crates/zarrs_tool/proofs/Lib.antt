@@ -1,11 +1,7 @@
 pub mod Blocks
 pub mod Folders
-pub mod FoundFiles
 pub mod Lines
-pub mod Loads
-pub mod Members
+pub mod LoadFaults
 pub mod PlainMeanings
 pub mod Runs
-pub mod StoreSteps
-pub mod WholeInput
 pub mod Status

@@ -10,7 +10,7 @@ use Rattle.zarrs_path.specs.Paths.{Path}
 use Rattle.zarrs_path.specs.Keys.{zarr_json, zarray, zgroup, zattrs}
 use Rattle.zarrs_config.specs.declared.version.MetadataRetrieveVersion.{MetadataRetrieveVersion}
 use Rattle.zarrs_config.specs.declared.version.MetadataRetrieveVersion.TheVariants.{Default, V3, V2}
-use Rattle.zarrs_form.specs.Documents.{of_bytes, parsed, json_of, ◌>>=◌}
+use Rattle.zarrs_form.specs.Documents.{of_bytes, tree_or_fault, json_of, ◌>>=◌}
 use Rattle.zarrs_form.proofs.PlainForms.{Reads}
 use Rattle.zarrs_meta.specs.ArrayV2.{array_v2_of}
 use Rattle.zarrs_meta.specs.GroupV2.{group_v2_of}
@@ -26,7 +26,7 @@ use Rattle.zarrs_meta.specs.declared.node.ZarrJson.TheVariants.{Node, Version2}
 use Rattle.zarrs_meta.proofs.PlainNodes.{PlainAttributes, PlainZarrJson, attributes_plain, zarr_json_plain, array_with_is_plain, group_with_is_plain}
 use Rattle.zarrs_meta.proofs.PlainArrays as arrays
 use Rattle.zarrs_meta.proofs.PlainGroups as groups
-use Rattle.zarrs_block.specs.Meaning.{Meaning, node, nothing, bad, named, document_from, document_at, in_bytes, attributes_in, version_3_line, version_2_line, zarr_json_line, zarray_line, zgroup_line, meaning_in, meaning}
+use Rattle.zarrs_block.specs.Meaning.{Meaning, node, nothing, bad, document_or_fault, document_from, document_at, in_bytes, attributes_in, version_3_line, version_2_line, zarr_json_line, zarray_line, zgroup_line, meaning_in, meaning}
 
 -- where a path means a node, the node is plain
 abbrev pub IsPlainMeaning : Meaning → Type 0
@@ -41,11 +41,11 @@ FoundHas P (Ok (Some d)) = P d
 FoundHas P (Err e) = Unit {0}
 
 module _ {D : Type 0} (P : D → Type 0) (form : Data → Result D MetadataFault) (reads : (d : Data) → Reads (form d) P) where
-  named_has : (key : Segments) (r : Result D MetadataFault) → Reads r P → FoundHas P (named key r)
+  named_has : (key : Segments) (r : Result D MetadataFault) → Reads r P → FoundHas P (document_or_fault key r)
   named_has key (Ok d) h = h
   named_has key (Err fault) h = tt
 
-  tree_has : (key : Segments) (o : Option Data) → FoundHas P (named key (parsed o >>= form))
+  tree_has : (key : Segments) (o : Option Data) → FoundHas P (document_or_fault key (tree_or_fault o >>= form))
   tree_has key None = tt
   tree_has key (Some d) = named_has key (form d) (reads d)
 

@@ -4,9 +4,10 @@ use Rattle.std.specs.Prelude.{◌≢◌, Result, Ok, Err, IfOk, IfErr, OnOk}
 use Rattle.std.specs.Io.KnownBytes.{Appends, IsAtEnd}
 use Rattle.zarrs_store.specs.Contents.{Contents}
 use Rattle.zarrs_path.specs.Paths.{Path, IsPath, path_text}
-use Rattle.zarrs_tool.specs.Image.{IsLoaded, RefusedImage}
-use Rattle.zarrs_tool.specs.Output.{IsCommand, IsOutput, Writes, WritesOutput, command_words, word_text}
-use Rattle.zarrs_tool.specs.Refused.{IsPathFault, IsRefusal, IsWordFault, RefusedRun}
+use Rattle.zarrs_load.specs.Image.{IsLoaded, RefusedImage}
+use Rattle.zarrs_tool.specs.Output.{IsCommand, IsOutput, Writes, WritesOutput, word_text}
+use Rattle.zarrs_tool.specs.StepsOfRuns.{command_words, IsPathFault, IsWordFault}
+use Rattle.zarrs_tool.specs.Refusals.{IsLoadFault, IsRefusal, RefusedRun}
 use Rattle.zarrs_tool.specs.declared.run.Command.{Command}
 use Rattle.zarrs_tool.specs.declared.fault.ToolFault.{ToolFault}
 use Rattle.zarrs_tool.specs.declared.fault.ToolFault.TheVariants.{Usage, Read, ReadTooLong, Image, ImageKey, ImageValue, Folder, NotAGroup, Node, Write, OutOfMemory}
@@ -42,7 +43,7 @@ refused_result command words before after store (Err fault) same end loaded refu
     refused_run words before after store fault (is_command command words same) end loaded (subst (λ w. IsRefusal false w store fault) same refused)
 
 -- a refused image refuses the run
-pub refused_load : (words : List (List ℕ)) (before after : Option (List ℕ)) (fault : ToolFault) → RefusedImage before after fault → RefusedRun words before after fault
+pub refused_load : (words : List (List ℕ)) (before after : Option (List ℕ)) (fault : ToolFault) → IsLoadFault (RefusedImage before after) fault → RefusedRun words before after fault
 refused_load words before after Usage refused = absurd refused
 refused_load words before after (Node e) refused = absurd refused
 refused_load words before after Write refused = absurd refused
@@ -57,12 +58,12 @@ refused_load words before after OutOfMemory refused = refused
 
 -- the words of a command are refused by no image
 pub not_usage : {T : Type 0} (words : List (List ℕ)) (before after : Option (List ℕ)) (r : Result T ToolFault) (fault : ToolFault) → IsCommand words → r ≡ Err fault
-    → RefusedImage before after fault → (r ≡ Err Usage → IsCommand words → ⊥) × ((IsCommand words → ⊥) → r ≡ Err Usage)
+    → IsLoadFault (RefusedImage before after) fault → (r ≡ Err Usage → IsCommand words → ⊥) × ((IsCommand words → ⊥) → r ≡ Err Usage)
 not_usage words before after r fault command is refused =
-    ((λ (usage : r ≡ Err Usage) command'. let same : fault ≡ Usage = cc in subst (RefusedImage before after) same refused), (λ none. absurd (none command)))
+    ((λ (usage : r ≡ Err Usage) command'. let same : fault ≡ Usage = cc in subst (IsLoadFault (RefusedImage before after)) same refused), (λ none. absurd (none command)))
 
 pub refused_load_result : {T : Type 0} (words : List (List ℕ)) (before after : Option (List ℕ)) (r : Result T ToolFault) (fault : ToolFault) → r ≡ Err fault
-    → RefusedImage before after fault → IfErr r (RefusedRun words before after)
+    → IsLoadFault (RefusedImage before after) fault → IfErr r (RefusedRun words before after)
 refused_load_result words before after r fault is refused = subst (λ x. IfErr x (RefusedRun words before after)) (sym is) (refused_load words before after fault refused)
 
 -- what a command wrote about the store of the image, the words wrote about the image

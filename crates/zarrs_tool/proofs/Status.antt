@@ -1,7 +1,7 @@
 -- What an exit status says of a run.
 use Rattle.std.proofs.Common.{◌≡◌, ◌∙◌, ap, ℕ, refl, arith}
 use Rattle.std.specs.Prelude.{Result, Ok, Err, OnOk, IsOk}
-use Rattle.zarrs_tool.specs.Refused.{status_of}
+use Rattle.zarrs_tool.specs.Refusals.{status_of}
 use Rattle.zarrs_tool.specs.declared.fault.ToolFault.{ToolFault}
 use Rattle.zarrs_tool.specs.declared.fault.ToolFault.TheVariants.{Usage, Read, ReadTooLong, Image, ImageKey, ImageValue, Folder, NotAGroup, Node, Write, OutOfMemory}
 

@@ -1,6 +1,4 @@
-pub mod Folder
-pub mod Image
 pub mod Output
-pub mod Reading
-pub mod Refused
+pub mod Refusals
 pub mod Sinks
+pub mod StepsOfRuns

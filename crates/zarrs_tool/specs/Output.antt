@@ -3,6 +3,7 @@
 --     word_text w, IsCommand words      how a word is written; words that are a command's
 --     IsListing, IsTree, IsBlockText      what the words write of a path
 --     Writes w, IsOutput words      the text that a word writes of a path; the text that a command's words write
+--     WritesAnswer words left      what a run writes that ends well
 use Rattle.std.specs.Prelude.{◌≡◌, ℕ, Bool, true, false, List, [], ◌∷◌, ◌++◌, map, codes, Option, String, string_bytes}
 use Rattle.std.specs.declared.alloc.Global.{Global}
 use Rattle.std.specs.List.{flat_map}
@@ -19,10 +20,10 @@ use Rattle.zarrs_block.specs.Meaning.{meaning, node}
 use Rattle.zarrs_node.specs.Order.{Ascend}
 use Rattle.zarrs_node.specs.Nodes.{Nodes, Bad}
 use Rattle.zarrs_group.specs.Layout.{pretty_text}
-use Rattle.zarrs_hierarchy.specs.Opened.{IsOpenedTree}
+use Rattle.zarrs_hierarchy.specs.OpeningHierarchies.{IsOpenedTree}
+use Rattle.zarrs_load.specs.Image.{IsLoaded}
 use Rattle.zarrs_tool.specs.declared.run.Word.{Word}
 use Rattle.zarrs_tool.specs.declared.run.Word.TheVariants.{Children, List as ListAll, Tree, Consolidate}
-use Rattle.zarrs_tool.specs.declared.run.Command.{Command}
 
 -- the texts of words
 abbrev pub texts : List (String Global) → List (List ℕ)
@@ -35,25 +36,9 @@ word_text ListAll = codes "list"
 word_text Tree = codes "tree"
 word_text Consolidate = codes "consolidate"
 
--- the words of a command
-abbrev pub command_words : Command → List (List ℕ)
-command_words command = word_text command.word ∷ command.path.now ∷ []
-
 -- the words are a command's: `children PATH`, `list PATH`, `tree PATH` or `consolidate PATH`
 abbrev pub IsCommand : List (List ℕ) → Type 0
 IsCommand words = (word : Word) × (path : List ℕ) × (words ≡ word_text word ∷ path ∷ [])
-
--- the words are `folder`, the folder, and `tree PATH`
-abbrev pub IsFolderWords : List (List ℕ) → List ℕ → List (List ℕ) → Type 0
-IsFolderWords words folder tree = (path : List ℕ) × (tree ≡ word_text Tree ∷ path ∷ []) × (words ≡ codes "folder" ∷ folder ∷ tree)
-
--- the words are `folder DIR tree PATH`
-abbrev pub IsFolderCommand : List (List ℕ) → Type 0
-IsFolderCommand words = (folder : List ℕ) × (tree : List (List ℕ)) × IsFolderWords words folder tree
-
--- the words are no command, neither over an image nor over a folder
-abbrev pub IsNoCommand : List (List ℕ) → Type 0
-IsNoCommand words = (IsCommand words → ⊥) × (IsFolderCommand words → ⊥)
 
 -- the paths of the nodes, one a line
 abbrev pub path_lines : List (Path × NodeMetadata) → List ℕ
@@ -96,3 +81,9 @@ IsOutput words store text = (word : Word) × (base : Path) × IsPath base × (wo
 -- the words' output was appended to what the writer held
 abbrev pub WritesOutput : List (List ℕ) → Contents → Option (List ℕ) → Option (List ℕ) → Type 0
 WritesOutput words store before after = (text : List ℕ) × IsOutput words store text × Appends before after text
+
+-- ---- of a run
+
+-- the words' output over the store of the image that a reader had left
+abbrev pub WritesOfImage : List (List ℕ) → Option (List ℕ) → Option (List ℕ) → Option (List ℕ) → Type 0
+WritesOfImage words left before after = (store : Contents) × IsLoaded left store × WritesOutput words store before after

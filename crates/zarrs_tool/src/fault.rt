@@ -5,6 +5,7 @@ ghost use Rattle.zarrs_tool.specs.declared.fault.ToolFault.TheVariants.{Node, Ou
 use std::alloc::{AllocError, AllocFailed};
 use thiserror::Error;
 use zarrs_block::NodeCreateError;
+use zarrs_load::LoadFault;
 
 /// Why a run of the program is refused.
 #[derive(Debug, Drop, Error)]
@@ -39,7 +40,7 @@ pub enum ToolFault {
     /// The writer failed.
     #[error("write fault")]
     Write,
-    /// Memory was wanting.
+    /// Out of memory.
     #[error("out of memory")]
     OutOfMemory,
 }
@@ -66,5 +67,23 @@ impl From<NodeCreateError> for ToolFault {
 
     fn from(error: NodeCreateError) -> ToolFault {
         ToolFault::Node(error)
+    }
+}
+
+impl From<LoadFault> for ToolFault {
+    ghost use Rattle.zarrs_tool.specs.Refusals.{IsLoadFault};
+
+    ghost from_gives = { λ error fault. IsLoadFault (λ e. e ≡ error) fault };
+
+    fn from(error: LoadFault) -> ToolFault {
+        match error {
+            LoadFault::Read => ToolFault::Read,
+            LoadFault::ReadTooLong => ToolFault::ReadTooLong,
+            LoadFault::Image => ToolFault::Image,
+            LoadFault::ImageKey(name) => ToolFault::ImageKey(name),
+            LoadFault::ImageValue(name) => ToolFault::ImageValue(name),
+            LoadFault::Folder => ToolFault::Folder,
+            LoadFault::OutOfMemory => ToolFault::OutOfMemory,
+        }
     }
 }

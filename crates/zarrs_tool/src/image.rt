@@ -1,88 +1,28 @@
-//! A store from an image, a JSON object from keys to texts.
-ghost use Rattle.std.specs.Prelude.{◌≡◌, IfOk, IfErr, IfSome, OnOk, option_map, string_bytes};
+//! A store from an image, as [`zarrs_load`] loads it, refused with the program's faults.
+ghost use Rattle.std.specs.Prelude.{IfOk, IfErr, IfSome, OnOk};
 ghost use Rattle.std.specs.FinMap as map;
 ghost use Rattle.std.specs.Io.KnownBytes.{IsAtEnd};
-ghost use Rattle.serde_json.specs.View.{members_view, view};
-ghost use Rattle.serde_json.specs.Find.{as_object, as_str};
 ghost use Rattle.zarrs_store.specs.Segments.{key_cmp};
-ghost use Rattle.zarrs_tool.specs.Reading.{IsWithinBound};
-ghost use Rattle.zarrs_tool.specs.Image.{HoldsMembers, IsMemberFault, IsLoaded, IsObject, RefusedImage, RefusedObject, listed};
+ghost use Rattle.zarrs_load.specs.Reading.{IsWithinBound};
+ghost use Rattle.zarrs_load.specs.Image.{IsLoaded, RefusedImage};
+ghost use Rattle.zarrs_tool.specs.Refusals.{IsLoadFault};
 
 use crate::fault::ToolFault;
-use crate::read::read_whole;
-use serde_json::{Map, Value};
 use std::alloc::Global;
 use std::io::Read;
-use zarrs_store::{MemoryStore, StoreKey};
+use zarrs_store::MemoryStore;
 
-/// The store of an image, which is read to its end, in at most 1,000,000 reads of at most 65,536 bytes.
+/// The store of an image, which is read to its end: what [`zarrs_load::load_image`] answers.
 ///
 /// # Errors
-/// What reading refuses; `Image` where the bytes are no JSON object; and at the first member, by
-/// ascending names, that is no key with a text: `ImageKey` where the name is no store key, else
-/// `ImageValue`. `OutOfMemory` at any time.
+/// Its refusals, as the variants of the same names.
 pub fn load_image<R: Read>(alloc: Global, reader: &mut R) -> Result<MemoryStore, ToolFault>
     ensures ok { IfOk result (λ store.
         IsLoaded (R.remaining reader.old) (map.from_entries {R = key_cmp} store)) }
     ensures end { OnOk result (IsAtEnd (R.remaining reader.new)) }
     ensures bound { OnOk result (IfSome (R.remaining reader.old) IsWithinBound) }
-    ensures err { IfErr result (RefusedImage (R.remaining reader.old) (R.remaining reader.new)) }
+    ensures err { IfErr result
+        (IsLoadFault (RefusedImage (R.remaining reader.old) (R.remaining reader.new))) }
 {
-    let members = read_object(alloc, reader)?;
-    store_of(alloc, members)
-}
-
-// The members of the JSON object that a reader gives.
-fn read_object<R: Read>(alloc: Global, reader: &mut R) -> Result<Map<String, Value>, ToolFault>
-    ensures ok { IfOk result (λ members. IfSome (R.remaining reader.old) (IsObject (members_view members.entries))) }
-    ensures end { OnOk result (IsAtEnd (R.remaining reader.new)) }
-    ensures bound { OnOk result (IfSome (R.remaining reader.old) IsWithinBound) }
-    ensures err { IfErr result (RefusedObject (R.remaining reader.old) (R.remaining reader.new)) }
-{
-    let bytes = read_whole(alloc, reader)?;
-    let image = match Value::from_slice(alloc, &bytes) {
-        Ok(image) => image,
-        Err(e) if e.is_memory() => return Err(ToolFault::OutOfMemory),
-        Err(_) => return Err(ToolFault::Image),
-    };
-    members_of(image).ok_or(ToolFault::Image)
-}
-
-// The members of an object.
-fn members_of(value: Value) -> Option<Map<String, Value>>
-    ensures { option_map (λ members. members_view members.entries) result ≡ as_object (view value) }
-{
-    match value {
-        Value::Object(members) => Some(members),
-        _ => None,
-    }
-}
-
-// The text of a text.
-fn text_of(value: Value) -> Option<String>
-    ensures { option_map string_bytes result ≡ as_str (view value) }
-{
-    match value {
-        Value::String(text) => Some(text),
-        _ => None,
-    }
-}
-
-// The store of an object's members, whose names and texts it takes over.
-fn store_of(alloc: Global, members: Map<String, Value>) -> Result<MemoryStore, ToolFault>
-    ensures ok { IfOk result (λ store.
-        HoldsMembers (listed (members_view members.entries)) (map.from_entries {R = key_cmp} store)) }
-    ensures err { IfErr result (IsMemberFault (listed (members_view members.entries))) }
-{
-    let mut store = MemoryStore::new(alloc);
-    for (name, value) in members {
-        if !StoreKey::validate(name.as_str()) {
-            return Err(ToolFault::ImageKey(name));
-        }
-        let Some(text) = text_of(value) else {
-            return Err(ToolFault::ImageValue(name));
-        };
-        store.insert(StoreKey::new_unchecked(name), text.into_bytes())?;
-    }
-    Ok(store)
+    Ok(zarrs_load::load_image(alloc, reader)?)
 }

@@ -3,10 +3,8 @@
 
 ghost use Rattle.std.specs.Prelude.{◌≡◌, ◌≢◌, ◌↔◌, IfErr, OnOk, IfSome, IfNone};
 ghost use Rattle.std.specs.Io.KnownBytes.{Keeps};
-ghost use Rattle.zarrs_store.specs.Contents.{Contents};
-ghost use Rattle.zarrs_tool.specs.Image.{IsLoaded};
-ghost use Rattle.zarrs_tool.specs.Output.{IsCommand, IsFolderCommand, IsFolderWords, IsNoCommand, WritesOutput, texts};
-ghost use Rattle.zarrs_tool.specs.Refused.{RefusedFolder};
+ghost use Rattle.zarrs_tool.specs.Output.{IsCommand, WritesOfImage, texts};
+ghost use Rattle.zarrs_tool.specs.StepsOfRuns.{IsFolderCommand, IsFolderWords, IsNoCommand, WritesAnswer, WritesOfFolder, RefusedFolder};
 
 #[cfg(test)]
 mod asserts;
@@ -16,7 +14,6 @@ mod folder;
 mod folder_tests;
 mod image;
 mod printed;
-mod read;
 mod run;
 #[cfg(test)]
 mod tests;
@@ -50,6 +47,7 @@ fn main(rt: HostRuntime) -> ExitCode {
 }
 
 // Runs a command over a folder or over an image, and gives the exit status.
+#[tactic(auto, using(crate::proofs::Folders::folder_answered, crate::proofs::Folders::image_answered))]
 fn answer<R: Log + Files + AllocGlobal, I: Read, W: Write, E: Write>(
     rt: &R,
     words: &[String],
@@ -57,6 +55,8 @@ fn answer<R: Log + Files + AllocGlobal, I: Read, W: Write, E: Write>(
     output: &mut W,
     errors: &mut E,
 ) -> u8
+    ensures ok { result ≡ 0 → WritesAnswer (texts words.now) (I.remaining reader.old)
+        (W.contents output.old) (W.contents output.new) }
     ensures usage { (result ≡ 2) ↔ IsNoCommand (texts words.now) }
     ensures silent { result ≡ 0 → Keeps (E.contents errors.old) (E.contents errors.new) }
 {
@@ -91,8 +91,8 @@ fn respond_folder<R: Log + Files + AllocGlobal, W: Write, E: Write>(
     output: &mut W,
     errors: &mut E,
 ) -> u8
-    ensures ok { result ≡ 0 → (store : Contents)
-        × WritesOutput (texts words.now) store (W.contents output.old) (W.contents output.new) }
+    ensures ok { result ≡ 0
+        → WritesOfFolder (texts words.now) (W.contents output.old) (W.contents output.new) }
     ensures usage { result ≡ 2 → IsCommand (texts words.now) → ⊥ }
     ensures silent { result ≡ 0 → Keeps (E.contents errors.old) (E.contents errors.new) }
 {
@@ -107,8 +107,8 @@ fn run_folder<R: Log + Files + AllocGlobal, W: Write>(
     words: &[String],
     output: &mut W,
 ) -> Result<(), ToolFault>
-    ensures ok { OnOk result ((store : Contents)
-        × WritesOutput (texts words.now) store (W.contents output.old) (W.contents output.new)) }
+    ensures ok { OnOk result
+        (WritesOfFolder (texts words.now) (W.contents output.old) (W.contents output.new)) }
     ensures refused { IfErr result (RefusedFolder (texts words.now)) }
     ensures silent { IfErr result (λ fault. fault ≢ ToolFault.Write
         → Keeps (W.contents output.old) (W.contents output.new)) }
@@ -126,9 +126,8 @@ fn respond<L: Log, R: Read, W: Write, E: Write>(
     output: &mut W,
     errors: &mut E,
 ) -> u8
-    ensures ok { result ≡ 0 → (store : Contents)
-        × IsLoaded (R.remaining reader.old) store
-        × WritesOutput (texts words.now) store (W.contents output.old) (W.contents output.new) }
+    ensures ok { result ≡ 0 → WritesOfImage (texts words.now) (R.remaining reader.old)
+        (W.contents output.old) (W.contents output.new) }
     ensures usage { (result ≡ 2) ↔ (IsCommand (texts words.now) → ⊥) }
     ensures silent { result ≡ 0 → Keeps (E.contents errors.old) (E.contents errors.new) }
 {

@@ -4,7 +4,7 @@ ghost use Rattle.serde_json.specs.Written.{has_float};
 ghost use Rattle.zarrs_block.specs.Block.{block_tree};
 ghost use Rattle.zarrs_group.specs.Layout.{pretty_text};
 ghost use Rattle.zarrs_tool.specs.Output.{IsBlockText, IsTree};
-ghost use Rattle.zarrs_tool.specs.Refused.{IsBlockFault, IsTreeFault};
+ghost use Rattle.zarrs_tool.specs.StepsOfRuns.{IsBlockFault, IsTreeFault};
 
 use crate::fault::ToolFault;
 use log::Log;

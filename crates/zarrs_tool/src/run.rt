@@ -2,12 +2,11 @@
 ghost use Rattle.std.specs.Prelude.{◌≡◌, ◌≢◌, ◌↔◌, IfOk, IfErr, IfSome, OnOk, IsOk, Err, option_map};
 ghost use Rattle.std.specs.FinMap as map;
 ghost use Rattle.std.specs.Io.KnownBytes.{Appends, Keeps, IsAtEnd};
-ghost use Rattle.zarrs_store.specs.Contents.{Contents};
 ghost use Rattle.zarrs_path.specs.Paths.{IsPath, path_text};
-ghost use Rattle.zarrs_tool.specs.Image.{IsLoaded};
 ghost use Rattle.zarrs_tool.specs.Sinks.{AppendsLine};
-ghost use Rattle.zarrs_tool.specs.Output.{IsCommand, IsListing, IsOutput, Writes, WritesOutput, command_words, texts, word_text};
-ghost use Rattle.zarrs_tool.specs.Refused.{IsListingFault, IsPathFault, IsRefusal, IsWordFault, RefusedRun, status_of};
+ghost use Rattle.zarrs_tool.specs.Output.{IsCommand, IsListing, IsOutput, Writes, WritesOfImage, WritesOutput, texts, word_text};
+ghost use Rattle.zarrs_tool.specs.StepsOfRuns.{command_words, IsListingFault, IsPathFault, IsWordFault};
+ghost use Rattle.zarrs_tool.specs.Refusals.{IsRefusal, RefusedRun, status_of};
 
 use crate::fault::ToolFault;
 use crate::image::load_image;
@@ -40,9 +39,8 @@ pub fn run_image<L: Log, R: Read, W: Write>(
     reader: &mut R,
     writer: &mut W,
 ) -> Result<(), ToolFault>
-    ensures ok { OnOk result ((store : Contents)
-        × IsLoaded (R.remaining reader.old) store
-        × WritesOutput (texts words.now) store (W.contents writer.old) (W.contents writer.new)) }
+    ensures ok { OnOk result (WritesOfImage (texts words.now) (R.remaining reader.old)
+        (W.contents writer.old) (W.contents writer.new)) }
     ensures end { OnOk result (IsAtEnd (R.remaining reader.new)) }
     ensures usage { (result ≡ Err ToolFault.Usage) ↔ (IsCommand (texts words.now) → ⊥) }
     ensures refused { IfErr result

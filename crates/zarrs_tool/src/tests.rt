@@ -2,13 +2,11 @@
 use crate::asserts::{assert_ran, assert_text};
 use crate::fault::ToolFault;
 use crate::image::load_image;
-use crate::read::read_whole;
 use crate::run::{finish, run_image, run_store};
 use log::sink::{Discard, Writer};
 use std::alloc::{AllocError, Global};
 use std::io;
 use std::io::{Error, ErrorKind, Read, Write};
-use zarrs_store::{ListableStorageTraits, ReadableStorageTraits, StoreKey};
 
 const TWO_GROUPS: &str =
     r#"{"zarr.json":"{\"node_type\":\"group\",\"zarr_format\":3}","a/zarr.json":"{\"node_type\":\"group\",\"zarr_format\":3}"}"#;
@@ -396,53 +394,6 @@ fn the_first_bad_member_is_named(rt: HostRuntime) {
         let ran = run(rt.alloc(), image, &["children", "/"]).expect(&rt, "memory");
         assert_ran(&rt, image, &ran, "", errors, 1);
     }
-}
-
-#[test]
-fn reads_a_million_times_at_most(rt: HostRuntime) {
-    let alloc = rt.alloc();
-    for (blanks, loads) in [(999_997, true), (999_998, false)] {
-        let mut image = vec![in alloc; b' '; 2 + blanks].expect(&rt, "memory");
-        image[0] = b'{';
-        image[1] = b'}';
-        let mut reader = OneByOne {
-            rest: &image,
-            reads_before_fault: None,
-        };
-        match load_image(alloc, &mut reader) {
-            Ok(store) => {
-                assert!(rt; loads);
-                let keys = store.list(alloc).expect(&rt, "memory");
-                assert!(rt; keys.is_empty());
-            }
-            Err(fault) => assert!(rt; !loads && matches!(fault, ToolFault::ReadTooLong)),
-        }
-    }
-}
-
-#[test]
-fn reads_whole_inputs(rt: HostRuntime) {
-    let alloc = rt.alloc();
-    let mut reader = OneByOne {
-        rest: b"three",
-        reads_before_fault: None,
-    };
-    let bytes = read_whole(alloc, &mut reader).expect(&rt, "a reader that does not fail");
-    assert_eq!(rt; bytes.as_slice(), b"three".as_slice());
-}
-
-#[test]
-fn loads_the_texts_of_an_image(rt: HostRuntime) {
-    let alloc = rt.alloc();
-    let mut reader = r#"{"b/c":"two","a":"one"}"#.as_bytes();
-    let store = load_image(alloc, &mut reader).expect(&rt, "an image");
-    assert!(rt; reader.is_empty());
-    for (text, bytes) in [("a", b"one".as_slice()), ("b/c", b"two".as_slice())] {
-        let key = StoreKey::new(alloc, text).expect(&rt, "a key");
-        let found = store.get(alloc, &key).expect(&rt, "memory");
-        assert!(rt; found.is_some_and(|found| found.as_slice() == bytes));
-    }
-    assert_eq!(rt; store.list(alloc).expect(&rt, "memory").len(), 2);
 }
 
 #[test]

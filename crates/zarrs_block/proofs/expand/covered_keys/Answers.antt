@@ -1,6 +1,6 @@
 use Rattle.std.proofs.Common.{map, string_bytes, refl, sym, ap, ◌∙◌}
 use Rattle.std.specs.Vec.Iter.{into_iter_items}
-use Rattle.zarrs_block.specs.Expanded.{is_covered}
+use Rattle.zarrs_block.specs.BlockExpansion.{is_covered}
 use Rattle.zarrs_block.proofs.Covered.{key_put}
 use Rattle.zarrs_block.proofs.expand.covered_keys.Goals as goal
 

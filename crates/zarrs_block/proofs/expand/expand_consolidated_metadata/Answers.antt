@@ -1,7 +1,7 @@
 use Rattle.std.proofs.Common.{subst, sym, rules}
 use Rattle.zarrs_store.specs.Contents.{Lists}
 use Rattle.zarrs_block.specs.Block.{Entries}
-use Rattle.zarrs_block.specs.Expanded.{HaveOwnPaths}
+use Rattle.zarrs_block.specs.BlockExpansion.{HaveOwnPaths}
 use Rattle.zarrs_block.proofs.Expansion.{entries_listed, own_paths}
 use Rattle.zarrs_block.proofs.InOrder.{sorted_by_path, own_moved, lists_moved, sorted_ascend}
 use Rattle.zarrs_block.proofs.expand.expand_consolidated_metadata.Goals as goal

@@ -1,6 +1,6 @@
 use Rattle.std.proofs.Common.{◌≡◌, drop}
 use Rattle.std.specs.List.{list_any}
-use Rattle.zarrs_block.specs.Expanded.{is_low}
+use Rattle.zarrs_block.specs.StepsOfExpansion.{is_low}
 use Rattle.zarrs_block.proofs.expand.has_low.Given as goal
 
 -- a byte of the text is low where one of those that are left is

@@ -3,7 +3,8 @@ use Rattle.zarrs_path.specs.PathErrors.{RefusesJoin}
 use Rattle.zarrs_path.specs.declared.node_path.NodePath.{NodePath}
 use Rattle.zarrs_meta.specs.declared.node.NodeMetadata.{NodeMetadata}
 use Rattle.zarrs_block.specs.Block.{IsValidKey}
-use Rattle.zarrs_block.specs.Expanded.{IsPlainKey, path_at}
+use Rattle.zarrs_block.specs.BlockExpansion.{path_at}
+use Rattle.zarrs_block.specs.StepsOfExpansion.{IsPlainKey}
 use Rattle.zarrs_block.specs.declared.node_create_error.NodeCreateError.TheVariants.{NodePathError}
 use Rattle.zarrs_block.proofs.BlockLaws.{shown}
 use Rattle.zarrs_block.proofs.Covered.{path_asked}

@@ -1,6 +1,6 @@
 use Rattle.std.proofs.Common.{◌≡◌, ◌++◌, false, string_bytes}
 use Rattle.serde_json.specs.Written.{members_have_float}
-use Rattle.zarrs_form.specs.Pretty.{entries_text}
+use Rattle.zarrs_form.specs.StepsOfTexts.{entries_text}
 use Rattle.zarrs_block.specs.Block.{documents}
 use Rattle.zarrs_block.proofs.BlockLaws.{shown}
 use Rattle.zarrs_block.proofs.pretty.write_nodes.Given as goal

@@ -1,7 +1,7 @@
 use Rattle.std.proofs.Common.{◌∙◌, ap, codes, Some}
 use Rattle.std.specs.Result.{result_ok}
 use Rattle.std.specs.Vec.Iter.{into_iter_items}
-use Rattle.zarrs_block.specs.ZmetadataRead.{read_files, tree_in, tree_among, RefusesTrees}
+use Rattle.zarrs_block.specs.StepsOfZmetadata.{read_files, tree_in, tree_among, RefusesTrees}
 use Rattle.zarrs_block.proofs.BlockLaws.{formed_some}
 use Rattle.zarrs_block.proofs.Runs.{none_remain}
 use Rattle.zarrs_block.proofs.ZmetadataSteps.{none_read_yet, read_none, read_some, refused_node, handed_on, all_nodes}

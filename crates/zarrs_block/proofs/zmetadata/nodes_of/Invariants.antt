@@ -1,5 +1,5 @@
 use Rattle.std.specs.Vec.Iter.{into_iter_items}
-use Rattle.zarrs_block.specs.ZmetadataRead.{tree_among}
+use Rattle.zarrs_block.specs.StepsOfZmetadata.{tree_among}
 use Rattle.zarrs_block.proofs.ZmetadataSteps.{IsRead}
 use Rattle.zarrs_block.proofs.zmetadata.nodes_of.Given as goal
 

@@ -1,6 +1,6 @@
 use Rattle.std.proofs.Common.{ℕ, List, sym, subst, ◌∙◌, Option, Some, IsTrue, MatchOption, Bor}
 use Rattle.zarrs_store.specs.Segments.{has_no_slash}
-use Rattle.zarrs_block.specs.ZmetadataRead.{IsFile}
+use Rattle.zarrs_block.specs.StepsOfZmetadata.{IsFile}
 use Rattle.zarrs_block.proofs.LastSlash.{IsCutText, split_of}
 use Rattle.zarrs_block.proofs.ZmetadataSteps.{whole_not_below, other_not_below, place_refused}
 use Rattle.zarrs_block.proofs.zmetadata.place_of.Goals as goal

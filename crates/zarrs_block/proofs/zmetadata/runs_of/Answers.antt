@@ -1,6 +1,6 @@
 use Rattle.std.proofs.Common.{sym, subst, ap, ap₂, ◌∙◌, Ok, string_bytes, Vec, Global}
 use Rattle.serde_json.specs.View.{members_view}
-use Rattle.zarrs_block.specs.ZmetadataRead.{gathered_at, tree_among, IsPlace}
+use Rattle.zarrs_block.specs.StepsOfZmetadata.{gathered_at, tree_among, IsPlace}
 use Rattle.zarrs_block.specs.declared.zmetadata.Run.{Run}
 use Rattle.zarrs_block.proofs.Runs.{among_last}
 use Rattle.zarrs_block.proofs.ZmetadataSteps.{IsGathered, passed_over, put_there, all_gathered}

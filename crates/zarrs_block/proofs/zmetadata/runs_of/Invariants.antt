@@ -1,5 +1,5 @@
 use Rattle.serde_json.specs.View.{members_view}
-use Rattle.zarrs_block.specs.ZmetadataRead.{gathered_at}
+use Rattle.zarrs_block.specs.StepsOfZmetadata.{gathered_at}
 use Rattle.zarrs_block.proofs.ZmetadataSteps.{IsGathered}
 use Rattle.zarrs_block.proofs.zmetadata.runs_of.Given as goal
 

@@ -2,7 +2,7 @@ use Rattle.std.proofs.Common.{◌∙◌}
 use Rattle.serde_json.specs.View.{members_view}
 use Rattle.zarrs_block.specs.Block.{Block}
 use Rattle.zarrs_block.specs.Zmetadata.{small_block}
-use Rattle.zarrs_block.specs.ZmetadataRead.{tree_among}
+use Rattle.zarrs_block.specs.StepsOfZmetadata.{tree_among}
 use Rattle.zarrs_block.proofs.ZmetadataSteps.{gives_names, gives_nodes, gives_refused, members_fit}
 use Rattle.zarrs_block.proofs.zmetadata.small_block.Goals as goal
 

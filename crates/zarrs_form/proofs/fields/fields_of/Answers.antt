@@ -3,7 +3,7 @@ use Rattle.std.proofs.lemmas.List.{append-nil}
 use Rattle.serde_json.specs.View.{view, members_of}
 use Rattle.serde_json.proofs.Views.{Entry}
 use Rattle.zarrs_form.specs.Documents.{is_own}
-use Rattle.zarrs_form.specs.Sorted.{AreAscending}
+use Rattle.zarrs_form.specs.SortedMembers.{NamesAscend}
 use Rattle.zarrs_form.proofs.SortedLaws.{kept, kept_ascend, kept_first, members_kept, own_first}
 use Rattle.zarrs_form.proofs.fields.fields_of.Goals as goal
 
@@ -38,4 +38,4 @@ invariant_of-result c =
     let done = c.loop-name.entries.items in
     let names = map (λ name. name.now) c.args.own_names.now in
     let all : done ≡ kept names c.args.members.entries = sym (append-nil done) ∙ ap (λ es. done ++ kept names es) (sym c.in-None.ensures.steps.0) ∙ c.loop-name.invariant in
-    subst AreAscending (sym (c.shrink_to_fit.ensures.items ∙ all)) (kept_ascend names c.args.members.entries c.into_iter-name-iterator.ensures.into_iter_gives.5)
+    subst NamesAscend (sym (c.shrink_to_fit.ensures.items ∙ all)) (kept_ascend names c.args.members.entries c.into_iter-name-iterator.ensures.into_iter_gives.5)

@@ -3,7 +3,7 @@ use Rattle.std.specs.Str.Iter.{split_text, split_has_more, split_pattern}
 use Rattle.std.proofs.lemmas.Iterator.Splits.{YieldsList-from_str_split}
 use Rattle.std.proofs.lemmas.Iterator.Consumers.{YieldsList-turn, YieldsList-end}
 use Rattle.std.proofs.lemmas.List.{drop_more, drop_all, length_push}
-use Rattle.zarrs_form.specs.Pretty.{break_if}
+use Rattle.zarrs_form.specs.StepsOfTexts.{break_if}
 use Rattle.zarrs_form.proofs.PrettyLines.{cut, lines_left, indented_lines}
 use Rattle.zarrs_form.proofs.pretty.write_indented.Goals as goal
 

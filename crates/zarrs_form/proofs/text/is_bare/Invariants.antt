@@ -1,6 +1,6 @@
 use Rattle.std.proofs.Common.{◌≡◌, drop}
 use Rattle.std.specs.List.{list_any}
-use Rattle.zarrs_form.specs.Texts.{has_escape}
+use Rattle.zarrs_form.specs.StepsOfTexts.{has_escape}
 use Rattle.zarrs_form.proofs.text.is_bare.Given as goal
 
 abbrev pub invariant-loop-byte : goal.invariant-loop-byte

@@ -1,6 +1,6 @@
 use Rattle.std.proofs.Common.{◌∷◌, [], ◌++◌, string_bytes, ap, sym, ◌∙◌, append_assoc}
 use Rattle.std.specs.List.{list_any}
-use Rattle.zarrs_form.specs.Texts.{has_escape}
+use Rattle.zarrs_form.specs.StepsOfTexts.{has_escape}
 use Rattle.zarrs_form.proofs.AttributeLaws.{not_true}
 use Rattle.zarrs_form.proofs.TextLaws.{begins_done, on_err_always, on_err_pushed, on_ok_pushed, quoted_bare}
 use Rattle.zarrs_form.proofs.text.write_text.Goals as goal

@@ -1,5 +1,5 @@
 use Rattle.std.proofs.Common.{◌∙◌, rules}
-use Rattle.zarrs_group.specs.Edits.{edit_of}
+use Rattle.zarrs_group.specs.StepsOfGroups.{edit_of}
 use Rattle.zarrs_group.proofs.EditLemmas.{after-next, cut-next}
 use Rattle.zarrs_group.proofs.edit.apply_all.Goals as goal
 

@@ -1,6 +1,6 @@
 use Rattle.std.proofs.Common.{◌≡◌, None, subst}
 use Rattle.zarrs_group.specs.Plain.{group_fault}
-use Rattle.zarrs_group.specs.Stored.{AreReadBack}
+use Rattle.zarrs_group.specs.StepsOfGroups.{AreReadBack}
 use Rattle.zarrs_group.proofs.MeaningLaws.{stored_means}
 use Rattle.zarrs_group.proofs.StoreLemmas.{own_plain}
 use Rattle.zarrs_group.proofs.laws.stored_means.Goals as goal

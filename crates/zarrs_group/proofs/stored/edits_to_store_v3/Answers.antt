@@ -7,7 +7,8 @@ use Rattle.zarrs_meta.proofs.GroupV3Laws.{no_float-group_v3_tree}
 use Rattle.zarrs_meta.specs.declared.node.GroupMetadata.TheVariants.{V3}
 use Rattle.zarrs_group.proofs.PlainLaws.{plain_v3}
 use Rattle.zarrs_group.proofs.StoreLemmas.{beside_is}
-use Rattle.zarrs_group.specs.Edits.{set, edit_of}
+use Rattle.zarrs_group.specs.Edits.{set}
+use Rattle.zarrs_group.specs.StepsOfGroups.{edit_of}
 use Rattle.zarrs_group.proofs.MeaningLaws.{read_again}
 use Rattle.zarrs_group.proofs.stored.edits_to_store_v3.Goals as goal
 

@@ -3,8 +3,8 @@ use Rattle.std.proofs.lemmas.List.{drop_more, drop_all}
 use Rattle.serde_json.specs.View.{members_of}
 use Rattle.zarrs_form.specs.Fields.{must_understand}
 use Rattle.zarrs_group.proofs.Fields.{first_unsupported}
-use Rattle.zarrs_group.specs.Opened.{IsUnsupported}
-use Rattle.zarrs_group.specs.Unsupported.{UnsupportedField}
+use Rattle.zarrs_group.specs.OpeningGroups.{IsUnsupported}
+use Rattle.zarrs_group.specs.UnsupportedFields.{UnsupportedField}
 use Rattle.zarrs_group.proofs.FieldLemmas.{unsupported_of}
 use Rattle.zarrs_group.proofs.unsupported.least_unsupported.Goals as goal
 

@@ -1,7 +1,7 @@
 use Rattle.std.proofs.Common.{◌≡◌, ◌++◌}
 use Rattle.std.specs.Vec.Iter.{into_iter_items}
 use Rattle.zarrs_node.specs.Forest.{forest}
-use Rattle.zarrs_node.specs.Latest.{row}
+use Rattle.zarrs_node.specs.LastOfEqualPaths.{row}
 use Rattle.zarrs_node.proofs.build.bare_nodes.Given as goal
 
 abbrev pub invariant-loop-path : goal.invariant-loop-path

@@ -1,6 +1,6 @@
 use Rattle.std.proofs.Common.{◌≡◌, ◌++◌}
 use Rattle.std.specs.Vec.Iter.{into_iter_items}
-use Rattle.zarrs_node.specs.Latest.{StandBelow}
+use Rattle.zarrs_node.specs.LastOfEqualPaths.{StandBelow}
 use Rattle.zarrs_node.proofs.build.children_of.Given as goal
 
 abbrev pub invariant-loop-pair : goal.invariant-loop-pair

@@ -1,5 +1,5 @@
 use Rattle.std.proofs.Common.{◌-◌, sym, ap, subst, ◌∙◌, take, length}
-use Rattle.zarrs_node.specs.Pass.{DropsEqual}
+use Rattle.zarrs_node.specs.StepsOfTrees.{DropsEqual}
 use Rattle.zarrs_node.proofs.Lasts.{drops_last, drops_none}
 use Rattle.zarrs_node.proofs.build.drop_equal.Goals as goal
 

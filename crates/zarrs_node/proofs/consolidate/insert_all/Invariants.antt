@@ -1,6 +1,6 @@
 use Rattle.std.proofs.Common.{length}
 use Rattle.zarrs_node.specs.Forest.{forest, pairs}
-use Rattle.zarrs_node.specs.Stops.{ahead}
+use Rattle.zarrs_node.specs.StepsOfPreorder.{ahead}
 use Rattle.zarrs_node.proofs.Consolidated.{PutsAhead}
 use Rattle.zarrs_node.proofs.consolidate.insert_all.Given as goal
 

@@ -1,6 +1,7 @@
 use Rattle.std.proofs.Common.{sym, ap, ◌∙◌}
-use Rattle.zarrs_node.specs.Forest.{forest, graft}
-use Rattle.zarrs_node.specs.Plug.{plug}
+use Rattle.zarrs_node.specs.Forest.{forest}
+use Rattle.zarrs_node.specs.StepsOfTrees.{graft}
+use Rattle.zarrs_node.specs.StepsOfGrafts.{plug}
 use Rattle.zarrs_node.proofs.Grow.{graft_none}
 use Rattle.zarrs_node.proofs.Plugged.{plug_opened, plug_closed, opened_less, closed_less}
 use Rattle.zarrs_node.proofs.Stops.{length_zero}

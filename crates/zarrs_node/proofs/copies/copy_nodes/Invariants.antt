@@ -1,7 +1,8 @@
 use Rattle.std.proofs.Common.{◌≡◌, ◌+◌, ◌*◌}
-use Rattle.zarrs_node.specs.Forest.{forest, graft}
-use Rattle.zarrs_node.specs.Weights.{weights}
-use Rattle.zarrs_node.specs.Plug.{plug}
+use Rattle.zarrs_node.specs.Forest.{forest}
+use Rattle.zarrs_node.specs.StepsOfTrees.{graft}
+use Rattle.zarrs_node.specs.StepsOfCounting.{weights}
+use Rattle.zarrs_node.specs.StepsOfGrafts.{plug}
 use Rattle.zarrs_node.proofs.Plugged.{waiting}
 use Rattle.zarrs_node.proofs.copies.copy_nodes.Given as goal
 

@@ -3,8 +3,8 @@ use Rattle.zarrs_path.specs.Paths.{Path, IsPath}
 use Rattle.zarrs_meta.specs.declared.node.NodeMetadata.{NodeMetadata}
 use Rattle.zarrs_block.specs.declared.node_create_error.NodeCreateError.{NodeCreateError}
 use Rattle.zarrs_block.specs.Meaning.{Meaning, bad}
-use Rattle.zarrs_block.specs.Refused.{IsExcused, IsInvalidPath}
-use Rattle.zarrs_node.specs.Refused.{Finds}
+use Rattle.zarrs_block.specs.Refusals.{IsExcused, IsInvalidPath}
+use Rattle.zarrs_node.specs.StepsOfDocuments.{Finds}
 use Rattle.zarrs_node.proofs.Turns.{path_if_name, name_if_path}
 use Rattle.zarrs_node.proofs.descent.read_child.Goals as goal
 

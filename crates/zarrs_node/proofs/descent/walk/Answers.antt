@@ -1,7 +1,7 @@
 use Rattle.std.proofs.Common.{◌≡◌, ◌++◌, [], ◌∷◌, reverse, sym, ap, subst, ◌∙◌, true≢false}
 use Rattle.std.proofs.lemmas.Result.{err_from_is_err_and}
 use Rattle.zarrs_store.specs.Children.{AreVisibleChildren}
-use Rattle.zarrs_node.specs.Forest.{told, passed}
+use Rattle.zarrs_node.specs.StepsOfTrees.{own_node, paths_passed}
 use Rattle.zarrs_node.specs.Sinks.{TakesAll}
 use Rattle.zarrs_node.proofs.Turns.{left_none, turn_above, turn_refused, falls_alone, falls_deeper}
 use Rattle.zarrs_node.proofs.Feeding.{HasFed, fed_start, fed_forest, fed_ignored, fed_clean, fed_alone, fed_deeper}
@@ -50,8 +50,8 @@ loop-prefix-preserved g c =
     let ig = c.loop-prefix.ignored.items in
     let at = subst (HasFed takes s v r b a z ig) c.in-Some.ensures.items c.loop-prefix.invariant in
     let found = c.in_ok-found.found in
-    let told_all = subst (λ q. TakesAll takes z (told q found) c.tell.new.sink) c.in_ok-child.ensures c.in_ok-tell.ensures.nodes in
-    let passed_all = c.in_ok-tell.ensures.ignored ∙ ap (λ q. ig ++ passed q found []) c.in_ok-child.ensures in
+    let told_all = subst (λ q. TakesAll takes z (own_node q found) c.tell.new.sink) c.in_ok-child.ensures c.in_ok-tell.ensures.nodes in
+    let passed_all = c.in_ok-tell.ensures.ignored ∙ ap (λ q. ig ++ paths_passed q found []) c.in_ok-child.ensures in
     elim c.if-recursive.branch [
       | then-recursive+then-is_group+in_ok-push_children-2 w ↦
           let p = w.in_ok-push_children-2.ensures.ok in

@@ -1,6 +1,6 @@
 use Rattle.std.proofs.Common.{◌+◌, ◌*◌, ◌<◌, sym, subst, ◌∙◌, true≢false, arith}
 use Rattle.std.proofs.lemmas.Bool.{iff_false}
-use Rattle.zarrs_node.specs.Weights.{weight, weights}
+use Rattle.zarrs_node.specs.StepsOfCounting.{weight, weights}
 use Rattle.zarrs_node.proofs.Trees.{not_placed, placed_step, placed_on, placed_off, fewer_around, weight_at}
 use Rattle.zarrs_node.proofs.node.+placed.Goals as goal
 use Rattle.zarrs_node.proofs.node.+placed.Goals.{are_placed-then-not-is_child-via-then-not-is_child, are_placed-then-not-is_child-via-else-not-is_child+then-not-is_placed}

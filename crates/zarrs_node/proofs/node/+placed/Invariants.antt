@@ -1,6 +1,6 @@
 use Rattle.std.proofs.Common.{◌↔◌, ◌+◌, ◌*◌, ◌≤◌, drop}
 use Rattle.zarrs_node.specs.Forest.{forest, ArePlacedBelow, HasPlacedChildren}
-use Rattle.zarrs_node.specs.Weights.{weight, weights}
+use Rattle.zarrs_node.specs.StepsOfCounting.{weight, weights}
 use Rattle.zarrs_node.proofs.node.+placed.Given as goal
 
 -- the question is left to what is below the node, which has no more nodes

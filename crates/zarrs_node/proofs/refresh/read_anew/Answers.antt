@@ -1,7 +1,7 @@
 use Rattle.std.proofs.Common.{◌≡◌, ◌∙◌, ◌∷◌, ◌++◌, [], Ok, ap, sym, subst, true≢false}
 use Rattle.zarrs_block.specs.Meaning.{meaning, node}
 use Rattle.zarrs_node.specs.Forest.{pairs}
-use Rattle.zarrs_node.specs.Refused.{Finds}
+use Rattle.zarrs_node.specs.StepsOfDocuments.{Finds}
 use Rattle.zarrs_node.proofs.Anew.{renewed_one, renewed_all}
 use Rattle.zarrs_node.proofs.Feeding.{kept_pairs}
 use Rattle.zarrs_node.proofs.refresh.read_anew.Goals as goal

@@ -1,10 +1,10 @@
 use Rattle.std.proofs.Common.{◌∙◌, ap, sym, subst, true≢false}
 use Rattle.zarrs_block.specs.Block.{IsAscending}
-use Rattle.zarrs_block.specs.Without.{IsWithout}
+use Rattle.zarrs_block.specs.KeysAboutAPath.{IsWithout}
 use Rattle.zarrs_store.specs.Contents.{Lists}
 use Rattle.zarrs_block.specs.Meaning.{meaning}
-use Rattle.zarrs_node.specs.Consolidated.{put_all}
-use Rattle.zarrs_node.specs.Fresh.{Renewed, IsFresh}
+use Rattle.zarrs_node.specs.StepsOfBlocks.{put_all}
+use Rattle.zarrs_node.specs.CurrentBlocks.{IsNewPair, IsFresh}
 use Rattle.zarrs_node.proofs.Puts.{put_all_ascends}
 use Rattle.zarrs_node.proofs.Anew.{fresh_led, fresh_kept}
 use Rattle.zarrs_node.proofs.refresh.refresh_owned_block.Goals as goal
@@ -21,7 +21,7 @@ returns-clause-fresh g c =
     let without = subst (λ k. IsWithout k B old) c.text_beyond.ensures.text c.in_ok-remove_below.ensures.without in
     elim c.if-branch.branch as (λ _. IsFresh of b B p C) [
       | then-branch+in_ok-renewed w ↦
-          fresh_led of b p c.requires.below c.text_beyond.ensures.valid c.if-branch.renewed.items (subst (λ v. Lists (Renewed of p) v.items) (sym w.renewed-is) w.in_ok-renewed.ensures.renewed)
+          fresh_led of b p c.requires.below c.text_beyond.ensures.valid c.if-branch.renewed.items (subst (λ v. Lists (IsNewPair of p) v.items) (sym w.renewed-is) w.in_ok-renewed.ensures.renewed)
           B old C (c.in_ok-leads_to.ensures.leads.0 w.if-branch.true) without c.in_ok-insert_pairs.ensures.inserted
       | else-branch w ↦
           fresh_kept of b p c.requires.below c.text_beyond.ensures.valid B old C (λ led. true≢false (sym (c.in_ok-leads_to.ensures.leads.1 led) ∙ w.if-branch.false)) without

@@ -1,5 +1,5 @@
 use Rattle.std.proofs.Common.{rules, ◌≡◌, Some, sym}
-use Rattle.zarrs_node.specs.Below.{zmetadata_at}
+use Rattle.zarrs_node.specs.BlocksBelow.{zmetadata_at}
 use Rattle.zarrs_node.proofs.HeldStores.{holds_zmetadata}
 use Rattle.zarrs_node.proofs.zmetadata.zmetadata_at.Goals as goal
 

@@ -1,18 +1,18 @@
 use Rattle.std.proofs.Common.{◌≡◌, [], ◌∷◌, ◌++◌, ◌∙◌, sym, ap, subst, Some, None, lit<}
 use Rattle.std.proofs.lemmas.Str.Pattern.{strip_prefix_char}
 use Rattle.zarrs_store.specs.Segments.{segments_of, IsKeyText}
-use Rattle.zarrs_path.specs.Paths.{slashed}
+use Rattle.zarrs_path.specs.Paths.{names_text}
 use Rattle.zarrs_path.proofs.KeyTexts.{below_text, below_segments, root_names}
 use Rattle.zarrs_path.proofs.key.key_below.Goals as goal
 
 pub new_unchecked-requires : goal.new_unchecked-requires
 new_unchecked-requires c =
-    let is : slashed c.args.path.now ≡ 47 ∷ c.in-Some.names.now = sym c.slashed-base.ensures.text ∙ strip_prefix_char 47 c.slashed-base.result.now (Some c.in-Some.names) c.in-Some.ensures.cases (lit< tt) in
+    let is : names_text c.args.path.now ≡ 47 ∷ c.in-Some.names.now = sym c.slashed-base.ensures.text ∙ strip_prefix_char 47 c.slashed-base.result.now (Some c.in-Some.names) c.in-Some.ensures.cases (lit< tt) in
     subst IsKeyText (sym c.in_ok-text-in-Some.ensures) (below_text c.args.path.now c.in-Some.names.now c.args.rest.now c.slashed-base.ensures.valid is c.requires)
 
 pub returns-in_ok-text-in-Some : goal.returns-in_ok-text-in-Some
 returns-in_ok-text-in-Some c =
-    let is : slashed c.args.path.now ≡ 47 ∷ c.in-Some.names.now = sym c.slashed-base.ensures.text ∙ strip_prefix_char 47 c.slashed-base.result.now (Some c.in-Some.names) c.in-Some.ensures.cases (lit< tt) in
+    let is : names_text c.args.path.now ≡ 47 ∷ c.in-Some.names.now = sym c.slashed-base.ensures.text ∙ strip_prefix_char 47 c.slashed-base.result.now (Some c.in-Some.names) c.in-Some.ensures.cases (lit< tt) in
     c.new_unchecked.ensures.segments ∙ (ap segments_of c.in_ok-text-in-Some.ensures ∙ below_segments c.args.path.now c.in-Some.names.now c.args.rest.now c.slashed-base.ensures.valid is c.requires)
 
 pub returns-in_ok-text-in-None : goal.returns-in_ok-text-in-None

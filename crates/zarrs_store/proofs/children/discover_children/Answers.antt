@@ -3,7 +3,7 @@ use Rattle.std.proofs.lemmas.Fn.{filter_same}
 use Rattle.std.proofs.lemmas.List.Sorted.{ranks_by, answers_always}
 use Rattle.std.proofs.lemmas.Cmp.{nat_list_cmp_total}
 use Rattle.zarrs_store.specs.Segments.{last_segment}
-use Rattle.zarrs_store.specs.Children.{is_visible}
+use Rattle.zarrs_store.specs.StepsOfStores.{is_visible}
 use Rattle.zarrs_store.proofs.ChildLemmas.{children_from_listed, name_lt}
 use Rattle.zarrs_store.proofs.children.discover_children.Goals as goal
 

@@ -1,7 +1,8 @@
 use Rattle.std.proofs.Common.{rules, ◌≡◌, ◌<◌, ◌+◌, ◌++◌, true, false, Some, None, length, drop, slice_range, refl, sym, ◌∙◌, ap, subst, append-nil, arith}
 use Rattle.std.specs.Prelude.{All}
 use Rattle.std.specs.Map.{keys_of}
-use Rattle.zarrs_store.specs.Entries.{is_below, child_name, child_prefixes}
+use Rattle.zarrs_store.specs.Entries.{is_below}
+use Rattle.zarrs_store.specs.StepsOfStores.{child_name, child_prefixes}
 use Rattle.zarrs_store.proofs.Ranges.{is_before, left_at}
 use Rattle.zarrs_store.proofs.Runs.{child_from, no_child_step, run_child, range_ends, range_begins, first_children, last_children}
 use Rattle.zarrs_store.proofs.listing.children_below.Goals as goal

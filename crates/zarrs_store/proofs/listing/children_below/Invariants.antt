@@ -1,6 +1,6 @@
 use Rattle.std.proofs.Common.{◌≡◌, ◌≤◌, ◌-◌, ◌++◌, length, drop}
 use Rattle.std.specs.Map.{keys_of}
-use Rattle.zarrs_store.specs.Entries.{child_prefixes}
+use Rattle.zarrs_store.specs.StepsOfStores.{child_prefixes}
 use Rattle.zarrs_store.proofs.listing.children_below.Given as goal
 
 abbrev pub invariant-loop-at : goal.invariant-loop-at

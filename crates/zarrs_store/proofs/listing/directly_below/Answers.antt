@@ -2,10 +2,11 @@ use Rattle.std.proofs.Common.{rules, ◌≡◌, ◌<◌, ◌≤◌, ◌+◌, ◌
 use Rattle.std.specs.Prelude.{All, filter, max}
 use Rattle.std.specs.Map.{keys_of}
 use Rattle.std.proofs.lemmas.List.{length_push}
-use Rattle.zarrs_store.specs.Entries.{is_below, is_child_key, child_name, child_prefixes}
+use Rattle.zarrs_store.specs.Entries.{is_below}
+use Rattle.zarrs_store.specs.StepsOfStores.{is_child_key, child_name, child_prefixes}
 use Rattle.zarrs_store.specs.Places.{digits}
 use Rattle.zarrs_store.proofs.Ranges.{is_before, left_at, no_child_key, kept_step, child_key_from}
-use Rattle.zarrs_store.proofs.Runs.{child_from, no_child_step, run_keys, run_child, range_ends, range_begins, below_there, first_keys, first_children, last_keys, last_children, many_step, few_step}
+use Rattle.zarrs_store.proofs.Runs.{child_from, no_child_step, run_keys, run_child, run_inside, range_ends, below_there, first_keys, first_children, last_keys, last_children, many_step, few_step}
 use Rattle.zarrs_store.proofs.listing.directly_below.Goals as goal
 
 pub loop-at-init : goal.loop-at-init
@@ -15,7 +16,7 @@ loop-at-init c =
     let range = c.requires.range in
     record {
       behind_first = omega arith;
-      inside = range_begins es p c.args.first c.args.end range;
+      inside = range.ordered;
       keys = ap (λ xs. xs ++ filter (is_child_key p) (keys_of (drop c.args.first es))) c.new-keys.ensures.items ∙ first_keys es p c.args.first c.args.end range (is_child_key p) (no_child_key p);
       prefixes = ap (λ xs. xs ++ child_prefixes p (keys_of (drop c.args.first es))) c.new-prefixes.ensures.items ∙ first_children es p c.args.first c.args.end range;
       bounded = omega arith;
@@ -39,7 +40,7 @@ loop-at-preserved-in_default c =
     let next : length c.push.new.self.items ≡ length c.loop-at.keys.items + 1 = ap length c.in_ok-push.ensures.items ∙ length_push c.loop-at.keys.items c.in_ok-try_clone.field-0 in
     record {
       behind_first = omega (arith, h.behind_first);
-      inside = omega (arith, inside);
+      inside = omega (arith, c.loop-at-test.true);
       keys = kept_step x.0 x.1 _ _ left (is_child_key p) c.in_ok-try_clone.field-0 _ _ _ (child_key_from p x.0 none below) c.in_ok-push.ensures.items same h.keys;
       prefixes = no_child_step p x.0 x.1 _ _ left none _ _ h.prefixes;
       bounded = omega (arith, h.bounded, next);
@@ -73,15 +74,16 @@ loop-at-preserved c =
     let name : child_name p x.0 ≡ Some n = sym c.in-Some.ensures.name in
     let run = subst (λ q. All (λ e. is_below q e.0 ≡ true) (slice_range es (i + 1) end)) c.in_ok-child.ensures found.within in
     let rest = subst (λ q. All (λ e. is_below q e.0 ≡ false) (drop end es)) c.in_ok-child.ensures found.behind in
+    let ends = run_inside es p c.args.first c.args.end c.requires.range n x (i + 1) end (omega (arith, h.behind_first)) (omega (arith, c.loop-at-test.true)) found.inside run in
     let compared : c.from.result ≤ max 1 (2 * digits (end - (i + 1))) = omega (arith, c.from.ensures, found.comparisons) in
     let pushed = c.in_ok-push-2.ensures.items in
     let next : length c.push-in-loop-at.new.self.items ≡ length c.loop-at.prefixes.items + 1 = ap length pushed ∙ length_push c.loop-at.prefixes.items c.in_ok-child.child in
     record {
       behind_first = omega (arith, h.behind_first, found.ordered);
-      inside = found.inside;
+      inside = ends;
       keys = run_keys es p n i (i + 1) end found.ordered run rest x left name _ _ h.keys;
       prefixes = run_child es p n i (i + 1) end found.ordered run rest x left name c.in_ok-child.child _ _ _ pushed c.in_ok-child.ensures h.prefixes;
-      bounded = many_step _ _ _ _ _ (end - (i + 1)) (length es) h.bounded compared (omega (arith, found.inside, inside)) next;
+      bounded = many_step _ _ _ _ _ (end - (i + 1)) (c.args.end - c.args.first) h.bounded compared (omega (arith, ends, h.behind_first, c.loop-at-test.true)) next;
       few = few_step _ _ i end h.few compared found.ordered;
     }
 

@@ -1,7 +1,7 @@
 use Rattle.serde_json.specs.View.{view, members_view}
 use Rattle.zarrs_block.specs.Zmetadata.{zmetadata_of}
 use Rattle.zarrs_block.specs.declared.consolidated.ConsolidatedMetadata.{ConsolidatedMetadata}
-use Rattle.zarrs_block.proofs.ZmetadataSteps.{gives_document, gives_store, gives_ascending, gives_refused, refused_document}
+use Rattle.zarrs_block.proofs.ZmetadataSteps.{gives_document, gives_fault, gives_store, gives_ascending, gives_refused, refused_document}
 use Rattle.zarrs_block.proofs.consolidated.ConsolidatedMetadata.from_zmetadata.Goals as goal
 
 pub returns-in_err-document_copy-clause-gives : goal.returns-in_err-document_copy-clause-gives
@@ -26,3 +26,16 @@ returns-clause-ascending c =
     let read = c.in_ok-document_copy in
     let d = view c.args.value.now in
     gives_ascending d c.block_of.result (gives_document d (members_view read.field-0.entries) c.block_of.result read.ensures.gives read.ensures.whole c.block_of.ensures)
+
+pub returns-in_err-document_copy-clause-refused : goal.returns-in_err-document_copy-clause-refused
+returns-in_err-document_copy-clause-refused c =
+    let d = view c.args.value.now in
+    let fault = c.in_err-document_copy.field-0.0 in
+    gives_fault d c.from_residual.result
+    (gives_refused (λ (block : ConsolidatedMetadata). block.metadata) c.from_residual.result fault (zmetadata_of d) c.from_residual.ensures.1 (refused_document d fault c.in_err-document_copy.ensures.gives))
+
+pub returns-clause-refused : goal.returns-clause-refused
+returns-clause-refused c =
+    let read = c.in_ok-document_copy in
+    let d = view c.args.value.now in
+    gives_fault d c.block_of.result (gives_document d (members_view read.field-0.entries) c.block_of.result read.ensures.gives read.ensures.whole c.block_of.ensures)

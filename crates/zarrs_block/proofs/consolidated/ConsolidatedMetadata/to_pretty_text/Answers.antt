@@ -1,5 +1,6 @@
 use Rattle.std.proofs.Common.{◌<◌, ◌^◌, ◌++◌, false, length, not, string_bytes, ap, ◌∙◌, arith}
-use Rattle.zarrs_form.specs.Pretty.{close_line, entries_text}
+use Rattle.zarrs_form.specs.Pretty.{close_line}
+use Rattle.zarrs_form.specs.StepsOfTexts.{entries_text}
 use Rattle.zarrs_block.specs.Block.{documents}
 use Rattle.zarrs_block.proofs.PrettyBlock.{head, tail, block_written, documents_whole}
 use Rattle.zarrs_block.proofs.consolidated.ConsolidatedMetadata.to_pretty_text.Goals as goal

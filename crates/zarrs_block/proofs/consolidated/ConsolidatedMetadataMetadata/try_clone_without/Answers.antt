@@ -1,5 +1,5 @@
 use Rattle.std.proofs.Common.{subst}
-use Rattle.zarrs_block.specs.Without.{IsWithout}
+use Rattle.zarrs_block.specs.KeysAboutAPath.{IsWithout}
 use Rattle.zarrs_block.proofs.consolidated.ConsolidatedMetadataMetadata.try_clone_without.Goals as goal
 
 pub returns-clause-without : goal.returns-clause-without

@@ -1,6 +1,7 @@
 use Rattle.std.proofs.Common.{subst}
-use Rattle.zarrs_group.specs.Meaning.{FindsMeaning, group_meaning}
-use Rattle.zarrs_group.specs.Opened.{IsUnsupportedIn}
+use Rattle.zarrs_group.specs.Meaning.{group_meaning}
+use Rattle.zarrs_group.specs.StepsOfGroups.{FindsMeaning}
+use Rattle.zarrs_group.specs.OpeningGroups.{IsUnsupportedIn}
 use Rattle.zarrs_group.proofs.group.Group.open_opt.Goals as goal
 
 -- the group was found at the path, and the field is among its own

@@ -40,7 +40,7 @@ use denote.Triple.Spec.{triple_of}
 use denote.Triple.Table.{framed}
 use denote.Triple.Walked.{Stays, stay_dropped, walk_of, Goes, Goes-dropped, Goes-spent_ref}
 use Rattle.zarrs_block.specs.Block.{Block}
-use Rattle.zarrs_block.specs.Used.{seen}
+use Rattle.zarrs_block.specs.Policy.{as_block}
 use Rattle.zarrs_block.specs.declared.consolidated.ConsolidatedMetadata.{ConsolidatedMetadata}
 use Rattle.zarrs_block.specs.declared.node_create_error.NodeCreateError.{NodeCreateError}
 use Rattle.zarrs_block.specs.contracts.consolidated.ConsolidatedMetadata.{the_row as given_row}
@@ -48,9 +48,9 @@ use Rattle.zarrs_block.specs.contracts.node_create_error.NodeCreateError.{the_ro
 use Rattle.zarrs_block.proofs.consolidated.ConsolidatedMetadata.TheLaws.{the_row_laws as given_laws}
 use Rattle.zarrs_block.proofs.node_create_error.NodeCreateError.TheLaws.{the_row_laws as error_laws}
 use Rattle.zarrs_group.specs.Groups.{GroupState}
-use Rattle.zarrs_group.specs.Consolidated.{held_by, with_block, Fits, RefusesBlock, CanHold}
+use Rattle.zarrs_group.specs.BlocksOfGroups.{held_by, with_block, Fits, RefusesBlock, CanHold}
 use Rattle.zarrs_group.specs.Lending.{Rests}
-use Rattle.zarrs_group.specs.LendingSteps.{RestsLent, group_lent}
+use Rattle.zarrs_group.specs.StepsOfLending.{RestsLent, group_lent}
 use Rattle.zarrs_group.specs.declared.consolidated.LentGroup.{LentGroup}
 use Rattle.zarrs_group.specs.contracts.group.Group.{the_row as R}
 use Rattle.zarrs_group.specs.contracts.consolidated.LentGroup.{the_row as lent_row}
@@ -133,10 +133,10 @@ set_consolidated_metadata_spec 𝓤 𝓛 𝓜 𝓡 wired =
     let HR : RattleType = result_row (lent_row (named_lft 1 0 tt κs)) error_row in
     let OR : RattleType = result_row (MutRef (named 0) κ R) error_row in
     let Same : MutBor GroupState → Type 0 = λ group. group.ghost_name ≡ s.ghost_name in
-    let Set : MutBor GroupState → Type 0 = λ group. group.now ≡ with_block s.now (seen given) in
-    let Held : MutBor GroupState → Type 0 = λ group. CanHold s.now (seen given) → held_by group.now ≡ seen given in
-    let Fitting : MutBor GroupState → Type 0 = λ _. Fits s.now.metadata (seen given) in
-    let Refused : NodeCreateError → Type 0 = RefusesBlock s.now.metadata (seen given) in
+    let Set : MutBor GroupState → Type 0 = λ group. group.now ≡ with_block s.now (as_block given) in
+    let Held : MutBor GroupState → Type 0 = λ group. CanHold s.now (as_block given) → held_by group.now ≡ as_block given in
+    let Fitting : MutBor GroupState → Type 0 = λ _. Fits s.now.metadata (as_block given) in
+    let Refused : NodeCreateError → Type 0 = RefusesBlock s.now.metadata (as_block given) in
     let At : List Val × (List Val × (List Val × Unit {0})) → W.Ghost = λ vss. ((κs, qs, y₀.0.2, a, vss), tt) in
     let vss₁ : List Val × (List Val × (List Val × Unit {0})) = (vptr s.ref_ptr.0 s.ref_ptr.1 ∷ [], (alloc-is.0 ∷ [], (given-is.0 ∷ [], tt))) in
     let y : W.Ghost = At vss₁ in
@@ -174,7 +174,7 @@ set_consolidated_metadata_spec 𝓤 𝓛 𝓜 𝓡 wired =
     let set' : IfOk r Set = if_ok Set lent r e set in
     use0 𝓛 (raw (fact 𝓤 (IfErr r Refused))) (fact_i 𝓤 _ (emp 𝓤) (if_err Refused lent r e refused)) $
     use0 𝓛 (raw (fact 𝓤 (IfOk r Fitting))) (fact_i 𝓤 _ (emp 𝓤) (if_ok Fitting lent r e fitting)) $ join ! $
-    use0 𝓛 (raw (fact 𝓤 (IfOk r Held))) (fact_i 𝓤 _ (emp 𝓤) (holds s.now (seen given) r set')) $ join ! $
+    use0 𝓛 (raw (fact 𝓤 (IfOk r Held))) (fact_i 𝓤 _ (emp 𝓤) (holds s.now (as_block given) r set')) $ join ! $
     use0 𝓛 (raw (fact 𝓤 (IfOk r Set))) (fact_i 𝓤 _ (emp 𝓤) set') $ join ! $
     use0 𝓛 (raw (fact 𝓤 (IfOk r Same))) (fact_i 𝓤 _ (emp 𝓤) (if_ok Same lent r e same)) $ join ! $
     -- [the facts; what it ends as; the result; the token]

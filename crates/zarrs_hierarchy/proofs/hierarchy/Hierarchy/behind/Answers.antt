@@ -1,7 +1,7 @@
 use Rattle.std.proofs.Common.{◌≡◌, ◌-◌, length, drop, sym, ap, subst, ◌∙◌, arith}
 use Rattle.std.proofs.lemmas.List.{take_all, length-drop}
 use Rattle.zarrs_node.specs.Order.{Ascend}
-use Rattle.zarrs_hierarchy.specs.Tree.{pairs_behind}
+use Rattle.zarrs_hierarchy.specs.StepsOfHierarchies.{pairs_behind}
 use Rattle.zarrs_hierarchy.proofs.Places.{behind_place, behind_gap}
 use Rattle.zarrs_hierarchy.proofs.hierarchy.Hierarchy.behind.Goals as goal
 use Rattle.zarrs_hierarchy.proofs.hierarchy.Hierarchy.behind.Goals.{in-Ok, in-Err}

@@ -2,7 +2,7 @@ use Rattle.std.proofs.Common.{◌≡◌, sym, ap, ◌∙◌}
 use Rattle.serde_json.specs.Data.{object}
 use Rattle.serde_json.specs.View.{members_view}
 use Rattle.zarrs_meta.specs.ArrayV2.{array_v2_of}
-use Rattle.zarrs_meta.specs.Taken.{array_v2_taken}
+use Rattle.zarrs_meta.specs.StepsOfReading.{array_v2_taken}
 use Rattle.zarrs_meta.proofs.TakenLaws.{array_v2_taken_is}
 use Rattle.zarrs_meta.proofs.array_v2.ArrayMetadataV2.from_members.Goals as goal
 

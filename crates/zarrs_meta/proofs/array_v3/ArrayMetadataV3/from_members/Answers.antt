@@ -2,7 +2,7 @@ use Rattle.std.proofs.Common.{◌≡◌, sym, ◌∙◌}
 use Rattle.serde_json.specs.Data.{object}
 use Rattle.serde_json.specs.View.{members_view}
 use Rattle.zarrs_meta.specs.ArrayV3.{array_v3_of}
-use Rattle.zarrs_meta.specs.Taken.{array_v3_taken}
+use Rattle.zarrs_meta.specs.StepsOfReading.{array_v3_taken}
 use Rattle.zarrs_meta.proofs.TakenLaws.{array_v3_taken_is}
 use Rattle.zarrs_meta.proofs.array_v3.ArrayMetadataV3.from_members.Goals as goal
 

@@ -1,6 +1,6 @@
 use Rattle.serde_json.specs.View.{members_view}
 use Rattle.zarrs_form.proofs.LeftLaws.{left_besides}
-use Rattle.zarrs_meta.specs.Taken.{array_v3_required_names}
+use Rattle.zarrs_meta.specs.StepsOfReading.{array_v3_required_names}
 use Rattle.zarrs_meta.proofs.array_v3.RequiredMembers.take.Goals as goal
 
 pub returns-clause-left : goal.returns-clause-left

@@ -3,7 +3,7 @@ use Rattle.serde_json.specs.Data.{object}
 use Rattle.serde_json.specs.View.{members_view}
 use Rattle.zarrs_form.specs.Documents.{besides}
 use Rattle.zarrs_meta.specs.GroupV2.{group_v2_of}
-use Rattle.zarrs_meta.specs.Taken.{group_v2_taken}
+use Rattle.zarrs_meta.specs.StepsOfReading.{group_v2_taken}
 use Rattle.zarrs_meta.proofs.TakenLaws.{group_v2_taken_is}
 use Rattle.zarrs_meta.proofs.group_v2.GroupMetadataV2.from_members.Goals as goal
 

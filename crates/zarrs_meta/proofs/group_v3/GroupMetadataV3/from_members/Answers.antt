@@ -2,7 +2,7 @@ use Rattle.std.proofs.Common.{◌≡◌, sym, ◌∙◌}
 use Rattle.serde_json.specs.Data.{object}
 use Rattle.serde_json.specs.View.{members_view}
 use Rattle.zarrs_meta.specs.GroupV3.{group_v3_of}
-use Rattle.zarrs_meta.specs.Taken.{group_v3_taken}
+use Rattle.zarrs_meta.specs.StepsOfReading.{group_v3_taken}
 use Rattle.zarrs_meta.proofs.TakenLaws.{group_v3_taken_is}
 use Rattle.zarrs_meta.proofs.group_v3.GroupMetadataV3.from_members.Goals as goal
 

@@ -1,5 +1,5 @@
 use Rattle.std.proofs.Common.{sym, ap, ◌∙◌}
-use Rattle.zarrs_node.specs.Pass.{whole, with_tree}
+use Rattle.zarrs_node.specs.StepsOfTrees.{whole, with_tree}
 use Rattle.zarrs_node.proofs.Stems.{closed_last, remade}
 use Rattle.zarrs_node.proofs.build.Pass.close.Goals as goal
 

@@ -1,5 +1,5 @@
 use Rattle.std.proofs.Common.{◌≡◌, ◌+◌, length}
-use Rattle.zarrs_node.specs.Pass.{whole, heads}
+use Rattle.zarrs_node.specs.StepsOfTrees.{whole, heads}
 use Rattle.zarrs_node.proofs.Holds.{Closing}
 use Rattle.zarrs_node.proofs.build.Pass.close_to.Given as goal
 

@@ -1,5 +1,5 @@
 use Rattle.std.proofs.Common.{sym, ap, ◌∙◌}
-use Rattle.zarrs_node.specs.Pass.{top, heads}
+use Rattle.zarrs_node.specs.StepsOfTrees.{top, heads}
 use Rattle.zarrs_node.proofs.Stems.{top_last}
 use Rattle.zarrs_node.proofs.build.Pass.parent.Goals as goal
 

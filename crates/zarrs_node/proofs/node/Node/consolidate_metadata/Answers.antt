@@ -1,6 +1,6 @@
 use Rattle.std.proofs.Common.{sym, subst}
 use Rattle.zarrs_node.specs.Forest.{below_of, path_of, pairs}
-use Rattle.zarrs_node.specs.Consolidated.{AreBelow}
+use Rattle.zarrs_node.specs.StepsOfBlocks.{ArePairsBelow}
 use Rattle.zarrs_node.proofs.Consolidated.{placed_below, whole_block, whole_ascends}
 use Rattle.zarrs_node.proofs.PutsLatest.{exact_block}
 use Rattle.zarrs_node.proofs.node.Node.consolidate_metadata.Goals as goal
@@ -9,7 +9,7 @@ pub insert_all-requires : goal.insert_all-requires
 insert_all-requires c =
     let n = c.args.self.now in
     let all = placed_below (path_of n) (below_of n) c.requires.placed in
-    record { below = subst (λ f. AreBelow c.path.result.now (pairs f)) (sym c.children.ensures) (subst (λ p. AreBelow p (pairs (below_of n))) (sym c.path.ensures) all) }
+    record { below = subst (λ f. ArePairsBelow c.path.result.now (pairs f)) (sym c.children.ensures) (subst (λ p. ArePairsBelow p (pairs (below_of n))) (sym c.path.ensures) all) }
 
 pub returns-clause-latest : goal.returns-clause-latest
 returns-clause-latest c =

@@ -1,5 +1,5 @@
 use Rattle.std.proofs.Common.{◌≡◌, vec_len}
-use Rattle.zarrs_node.specs.Stops.{ahead}
+use Rattle.zarrs_node.specs.StepsOfPreorder.{ahead}
 use Rattle.zarrs_node.proofs.preorder.Preorder.next.Given as goal
 
 -- a list that is used up had nothing ahead

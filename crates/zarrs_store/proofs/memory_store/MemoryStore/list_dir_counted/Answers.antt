@@ -1,14 +1,15 @@
-use Rattle.std.proofs.Common.{◌≡◌, ◌≤◌, ◌+◌, ◌*◌, length, sym, ◌∙◌, ap, subst, arith}
+use Rattle.std.proofs.Common.{◌≡◌, ◌≤◌, ◌+◌, ◌-◌, ◌*◌, length, sym, ◌∙◌, ap, subst, arith}
 use Rattle.std.specs.FinMap as map
 use Rattle.std.specs.Map.{keys_of}
 use Rattle.std.specs.Prelude.{filter}
 use Rattle.zarrs_store.specs.Segments.{key_cmp}
 use Rattle.zarrs_store.specs.Contents.{Lists, IsChildKey, IsChildPrefix}
-use Rattle.zarrs_store.specs.Entries.{is_child_key, child_prefixes}
-use Rattle.zarrs_store.specs.Places.{IsRange, digits}
+use Rattle.zarrs_store.specs.StepsOfStores.{is_child_key, child_prefixes}
+use Rattle.zarrs_store.specs.Places.{IsRange, digits, keys_below}
 use Rattle.zarrs_store.proofs.EntryLemmas.{shown}
 use Rattle.zarrs_store.proofs.ListLemmas.{Lists-child_keys, Lists-child_prefixes}
-use Rattle.zarrs_store.proofs.PlaceLemmas.{keys_of-shown, length-shown}
+use Rattle.zarrs_store.proofs.PlaceLemmas.{keys_of-shown}
+use Rattle.zarrs_store.proofs.Ranges.{range_count}
 use Rattle.zarrs_store.proofs.memory_store.MemoryStore.list_dir_counted.Goals as goal
 
 pub directly_below-requires-clause-range : goal.directly_below-requires-clause-range
@@ -38,10 +39,15 @@ returns-clause-prefixes c =
 
 pub returns-clause-comparisons : goal.returns-clause-comparisons
 returns-clause-comparisons c =
-    let same : length c.deref.result.now ≡ length c.args.self.now =
-    ap length c.deref.ensures.value ∙ sym (length-shown (λ v. v.items) c.self.inside.entries.items) ∙ ap length c.self.view_is in
+    let entries = c.self.inside.entries.items in
+    let p = c.args.prefix.now in
+    let first = c.range_counted-first.result.0 in
+    let end = c.range_counted-first.result.1 in
+    let range : IsRange (keys_of (shown (λ v. v.items) entries)) p first end = subst (λ s. IsRange (keys_of s) p first end) (sym c.self.view_is) c.range_counted-first.ensures.range in
+    let count : keys_below p (keys_of c.args.self.now) ≡ end - first =
+    ap (λ s. keys_below p (keys_of s)) (sym c.self.view_is) ∙ ap (keys_below p) (keys_of-shown (λ v. v.items) entries) ∙ range_count (λ v. v.items) entries p first end range in
     let keys = length c.in_ok-dir.dir.keys.items in
     let prefixes = length c.in_ok-dir.dir.prefixes.items in
-    let walked : c.in_ok-dir.compared ≤ keys + prefixes + prefixes * (2 * digits (length c.args.self.now)) =
-    subst (λ m. c.in_ok-dir.compared ≤ keys + prefixes + prefixes * (2 * digits m)) same c.in_ok-dir.ensures.comparisons in
+    let walked : c.in_ok-dir.compared ≤ keys + prefixes + prefixes * (2 * digits (keys_below p (keys_of c.args.self.now))) =
+    subst (λ m. c.in_ok-dir.compared ≤ keys + prefixes + prefixes * (2 * digits m)) (sym count) c.in_ok-dir.ensures.comparisons in
     omega (arith, walked, c.range_counted-first.ensures.comparisons, c.from.ensures)

@@ -2,7 +2,7 @@ use Rattle.std.proofs.Common.{◌≡◌, ◌-◌, Some, length, sym, ◌∙◌, 
 use Rattle.std.specs.List.{slice_get}
 use Rattle.std.specs.Map.{keys_of}
 use Rattle.std.specs.declared.cmp.Ordering.TheVariants.{Less}
-use Rattle.zarrs_store.specs.Places.{IsGap, text_cmp}
+use Rattle.zarrs_store.specs.Places.{IsKeyGap, text_cmp}
 use Rattle.zarrs_store.proofs.PlaceLemmas.{less_of, gap_behind, behind_last}
 use Rattle.zarrs_store.proofs.memory_store.MemoryStore.place.Goals as goal
 
@@ -13,5 +13,5 @@ returns-then-lt-clause-absent c =
     let last : Some c.in-Some.field-0.now ≡ slice_get es (length es - 1) = c.in-Some.ensures.value ∙ ap (λ s. slice_get s (length s - 1)) c.deref.ensures.value in
     let less : text_cmp c.in-Some.field-0.now.0 key ≡ Less = less_of _ (sym c.lt.ensures ∙ c.if-lt.true) in
     let long : length es ≡ c.len.result = sym (ap length c.deref.ensures.value) ∙ c.deref.ensures.len ∙ sym c.len.ensures in
-    subst (λ n. IsGap (keys_of c.args.self.now) key n) long
-    (subst (λ s. IsGap (keys_of s) key (length es)) c.self.view_is (gap_behind (λ v. v.items) es c.self.invariant key (behind_last es c.self.invariant key c.in-Some.field-0.now last less)))
+    subst (λ n. IsKeyGap (keys_of c.args.self.now) key n) long
+    (subst (λ s. IsKeyGap (keys_of s) key (length es)) c.self.view_is (gap_behind (λ v. v.items) es c.self.invariant key (behind_last es c.self.invariant key c.in-Some.field-0.now last less)))

@@ -3,7 +3,7 @@ use Rattle.std.specs.FinMap as map
 use Rattle.std.specs.Map.{keys_of}
 use Rattle.zarrs_store.specs.Segments.{key_cmp}
 use Rattle.zarrs_store.specs.Contents.{Lists, IsChildPrefix}
-use Rattle.zarrs_store.specs.Entries.{child_prefixes}
+use Rattle.zarrs_store.specs.StepsOfStores.{child_prefixes}
 use Rattle.zarrs_store.specs.Places.{IsRange}
 use Rattle.zarrs_store.proofs.EntryLemmas.{shown}
 use Rattle.zarrs_store.proofs.ListLemmas.{Lists-child_prefixes}

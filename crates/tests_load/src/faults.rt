@@ -1,0 +1,23 @@
+//! The texts of faults.
+use crate::asserts::assert_text;
+use zarrs_load::LoadFault;
+
+#[test]
+fn faults_have_their_texts(rt: HostRuntime) {
+    let alloc = rt.alloc();
+    let key = String::from_str(alloc, "a//b").expect(&rt, "memory");
+    let value = String::from_str(alloc, "a").expect(&rt, "memory");
+    let table = [
+        (LoadFault::Read, "read fault"),
+        (LoadFault::ReadTooLong, "input too long"),
+        (LoadFault::Image, "image is not a JSON object"),
+        (LoadFault::ImageKey(key), "bad store key in image: a//b"),
+        (LoadFault::ImageValue(value), "no text in image at a"),
+        (LoadFault::Folder, "folder fault"),
+        (LoadFault::OutOfMemory, "out of memory"),
+    ];
+    for (fault, text) in table {
+        let shown = format!(in alloc; "{fault}").expect(&rt, "memory");
+        assert_text(&rt, text, shown.as_str(), text);
+    }
+}

@@ -1,0 +1,64 @@
+-- Zarr core specification 3.1, "Group metadata", the field `consolidated_metadata`: which block stands in place of a listing.
+use Rattle.std.specs.Prelude.{◌≡◌, ◌≢◌, ◌++◌, Option, Some, None, IsSome, option_map, option_and_then, string_bytes, codes}
+use Rattle.std.specs.Result.{result_ok}
+use Rattle.serde_json.specs.Data.{Data, Members}
+use Rattle.serde_json.specs.Find.{get_member}
+use Rattle.zarrs_path.specs.Paths.{Path, path_text}
+use Rattle.zarrs_config.specs.declared.version.UseConsolidatedMetadata.{UseConsolidatedMetadata}
+use Rattle.zarrs_config.specs.declared.version.UseConsolidatedMetadata.TheVariants.{Auto, Must, Never}
+use Rattle.zarrs_meta.specs.declared.node.GroupMetadata.{GroupMetadata}
+use Rattle.zarrs_meta.specs.declared.node.GroupMetadata.TheVariants.{V3, V2}
+use Rattle.zarrs_meta.specs.declared.node.NodeMetadata.{NodeMetadata}
+use Rattle.zarrs_meta.specs.declared.node.NodeMetadata.TheVariants.{Group, Array}
+use Rattle.zarrs_block.specs.Block.{Block, block_of}
+use Rattle.zarrs_block.specs.declared.consolidated.ConsolidatedMetadata.{ConsolidatedMetadata}
+use Rattle.zarrs_block.specs.declared.node_create_error.NodeCreateError.{NodeCreateError}
+use Rattle.zarrs_block.specs.declared.node_create_error.NodeCreateError.TheVariants.{MissingMetadata, OutOfMemory}
+
+-- the block of a consolidated metadata, where there is one
+abbrev pub as_block : Option ConsolidatedMetadata → Option Block
+as_block block = option_map (λ c. c.metadata) block
+
+-- the field `consolidated_metadata`, where it reads as a block
+abbrev pub block_in_fields : Members → Option Block
+block_in_fields ms = option_and_then (λ d. result_ok (block_of d)) (get_member (codes "consolidated_metadata") ms)
+
+-- the block that a version 3 group holds in its additional fields; a version 2 group has none
+abbrev pub block_in_group : GroupMetadata → Option Block
+block_in_group (V3 m) = block_in_fields m.additional_fields
+block_in_group (V2 m) = None
+
+-- the block that metadata hold; an array has none
+abbrev pub block_in : NodeMetadata → Option Block
+block_in (Group g) = block_in_group g
+block_in (Array a) = None
+
+-- the block that is used or that there is none, or nothing where the want of a block is refused
+abbrev pub block_to_use : Option Block → UseConsolidatedMetadata → Option (Option Block)
+block_to_use block Never = Some None
+block_to_use (Some B) Auto = Some (Some B)
+block_to_use (Some B) Must = Some (Some B)
+block_to_use None Auto = Some None
+block_to_use None Must = None
+
+-- the want of a block is refused, and the error says so with the text of p; or out of memory for that text
+abbrev pub RefusesUse : Path → Option (Option Block) → NodeCreateError → Type 0
+RefusesUse p choice (MissingMetadata text) =
+    (choice ≡ None) × (string_bytes text ≡ codes "Consolidated metadata required but missing on group " ++ path_text p)
+RefusesUse p choice OutOfMemory = choice ≡ None
+RefusesUse p choice _ = ⊥
+
+-- the field `consolidated_metadata` of a group, whether it reads as a block or not; a version 2 group has none
+abbrev pub group_field : GroupMetadata → Option Data
+group_field (V3 m) = get_member (codes "consolidated_metadata") m.additional_fields
+group_field (V2 m) = None
+
+-- that of a node; an array has none
+abbrev pub block_field : NodeMetadata → Option Data
+block_field (Group g) = group_field g
+block_field (Array a) = None
+
+-- out of memory, as the field is read: where there is one, and the policy lets it be used
+abbrev pub LacksBlockMemory : NodeMetadata → UseConsolidatedMetadata → NodeCreateError → Type 0
+LacksBlockMemory m policy OutOfMemory = (policy ≢ Never) × IsSome (block_field m)
+LacksBlockMemory m policy _ = ⊥

@@ -1,0 +1,38 @@
+-- Zarr core specification 3.1, "Hierarchy" and "Group metadata", the field `consolidated_metadata`: what an opened hierarchy has.
+use Rattle.std.specs.Prelude.{◌≡◌, ℕ, List, Option, Some, None}
+use Rattle.zarrs_store.specs.Contents.{Contents}
+use Rattle.zarrs_path.specs.Paths.{Path, IsPath, path_text}
+use Rattle.zarrs_meta.specs.declared.node.NodeMetadata.{NodeMetadata}
+use Rattle.zarrs_meta.specs.declared.node.NodeMetadata.TheVariants.{Group, Array}
+use Rattle.zarrs_config.specs.declared.version.MetadataRetrieveVersion.{MetadataRetrieveVersion}
+use Rattle.zarrs_config.specs.declared.version.UseConsolidatedMetadata.{UseConsolidatedMetadata}
+use Rattle.zarrs_block.specs.Block.{Block}
+use Rattle.zarrs_block.specs.Meaning.{meaning, node}
+use Rattle.zarrs_node.specs.BlocksBelow.{PairsBelow}
+use Rattle.zarrs_node.specs.OpeningNodes.{choice, IsCleanNode}
+use Rattle.zarrs_hierarchy.specs.PairsOfHierarchies.{Pairs, Holds, WithBase}
+use Rattle.zarrs_hierarchy.specs.Tree.{IsTreeOf}
+
+-- the pairs below b by the block that is chosen or by a listing; none where the want of a block is refused
+abbrev pub PairsChosen : Contents → MetadataRetrieveVersion → Option (Option Block) → Path → Path × NodeMetadata → Type 0
+PairsChosen s v None b e = ⊥
+PairsChosen s v (Some c) b e = PairsBelow s v c b e
+
+-- below an array there is nothing; below a group stand all entries of its block, or where none is used the nodes that a listing finds
+abbrev pub PairsOf : Contents → MetadataRetrieveVersion → UseConsolidatedMetadata → Path → NodeMetadata → Path × NodeMetadata → Type 0
+PairsOf s v policy b (Array a) e = ⊥
+PairsOf s v policy b (Group g) e = PairsChosen s v (choice s policy b (Group g)) b e
+
+-- the text is that of a path, which means a node; the hierarchy has that node and what stands below it, and nothing there is refused
+pub record IsOpened (s : Contents) (v : MetadataRetrieveVersion) (policy : UseConsolidatedMetadata) (text : List ℕ) (h : Pairs) : Type 0 where
+  pub base : Path
+  pub valid : IsPath base
+  pub path : path_text base ≡ text
+  pub metadata : NodeMetadata
+  pub means : meaning s v base ≡ node metadata
+  pub holds : Holds h (WithBase base metadata (PairsOf s v policy base metadata))
+  pub clean : IsCleanNode s v policy base metadata
+
+-- the text is the tree, from b on, of the hierarchy that opening at b finds
+abbrev pub IsOpenedTree : Contents → MetadataRetrieveVersion → UseConsolidatedMetadata → Path → List ℕ → Type 0
+IsOpenedTree s v policy b text = (h : Pairs) × IsOpened s v policy (path_text b) h × IsTreeOf h b text

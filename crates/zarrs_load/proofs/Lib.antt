@@ -1,0 +1,5 @@
+pub mod FoundFiles
+pub mod Loads
+pub mod Members
+pub mod StoreSteps
+pub mod WholeInput

@@ -1,0 +1,4 @@
+pub mod Folder
+pub mod Image
+pub mod Reading
+pub mod StepsOfLoading

@@ -1,0 +1,70 @@
+-- Zarr core specification 3.1, "Group metadata", the field `consolidated_metadata`, and the document `.zmetadata` of version 2: what stands below a base, by the block that is used or, where none is used, by a listing.
+--     zmetadata_at s b      the block that the document `.zmetadata` of b is
+--     HoldsZmetadata s b B      B holds the small store that this document is
+--     block_at s b m      the block that stands for the nodes below b, where there is one
+--     ExcusesBlock can_fail m policy e      why it was not found out
+--     NodesBelow, PairsBelow      what a tree below b shows; what a flat list below b holds
+--     IsGoodBelow, ShowsBadBelow      that nothing refuses it; what a refusal shows
+use Rattle.std.specs.Prelude.{◌≡◌, ◌≢◌, ℕ, [], ◌∷◌, ◌++◌, Bool, true, List, Option, Some, None, Ok, option_and_then}
+use Rattle.std.specs.Result.{result_ok}
+use Rattle.std.specs.FinMap.{get}
+use Rattle.serde_json.specs.Data.{Data, Members}
+use Rattle.zarrs_store.specs.Contents.{Contents}
+use Rattle.zarrs_path.specs.Keys.{zmetadata}
+use Rattle.zarrs_path.specs.Paths.{Path}
+use Rattle.zarrs_form.specs.Documents.{json_of, of_bytes}
+use Rattle.zarrs_meta.specs.declared.node.GroupMetadata.TheVariants.{V2, V3}
+use Rattle.zarrs_meta.specs.declared.node.NodeMetadata.{NodeMetadata}
+use Rattle.zarrs_meta.specs.declared.node.NodeMetadata.TheVariants.{Group, Array}
+use Rattle.zarrs_config.specs.declared.version.MetadataRetrieveVersion.{MetadataRetrieveVersion}
+use Rattle.zarrs_block.specs.Block.{Block, Entries, HasValidKeys}
+use Rattle.zarrs_config.specs.declared.version.UseConsolidatedMetadata.{UseConsolidatedMetadata}
+use Rattle.zarrs_config.specs.declared.version.UseConsolidatedMetadata.TheVariants.{Never}
+use Rattle.zarrs_block.specs.Policy.{block_in, LacksBlockMemory}
+use Rattle.zarrs_block.specs.Refusals.{IsExcused}
+use Rattle.zarrs_block.specs.Zmetadata.{zmetadata_of, zmetadata_members, HoldsStore, IsClean}
+use Rattle.zarrs_block.specs.BlockExpansion.{NamesBadKey}
+use Rattle.zarrs_block.specs.declared.node_create_error.NodeCreateError.{NodeCreateError}
+use Rattle.zarrs_node.specs.Reach.{Kept}
+use Rattle.zarrs_node.specs.Nodes.{Nodes, Bad, ShowsBad}
+
+-- the block that the document `.zmetadata` of b is, where it is there and reads as one
+abbrev pub zmetadata_at : Contents → Path → Option Block
+zmetadata_at s b = option_and_then (λ bytes. result_ok (of_bytes zmetadata_of bytes)) (get s (b ++ zmetadata ∷ []))
+
+-- the document `.zmetadata` of b has members, and the block has exactly the paths that mean nodes in the small store that these are, in which nothing below b is bad
+abbrev pub HoldsZmetadata : Contents → Path → Block → Type 0
+HoldsZmetadata s b B = (bytes : List ℕ) × (d : Data) × (ms : Members) × (get s (b ++ zmetadata ∷ []) ≡ Some bytes) × (json_of bytes ≡ Some d) × (zmetadata_members d ≡ Ok ms) × HoldsStore ms B × IsClean ms
+
+-- the block that stands for the nodes below b in a store, where b has these metadata: of a version 2 group the one beside its documents, else the one that they hold
+abbrev pub block_at : Contents → Path → NodeMetadata → Option Block
+block_at s b (Group (V2 g)) = zmetadata_at s b
+block_at s b (Group (V3 g)) = block_in (Group (V3 g))
+block_at s b (Array a) = block_in (Array a)
+
+-- the block was not found out: of a version 2 group, whose document is looked for in the store, for the fault of a store that can fail or out of
+-- memory; of a version 3 group out of memory for its field; of an array never; and never where no block is used
+abbrev pub ExcusesBlock : Bool → NodeMetadata → UseConsolidatedMetadata → NodeCreateError → Type 0
+ExcusesBlock can_fail (Group (V2 g)) policy e = (policy ≢ Never) × IsExcused can_fail e
+ExcusesBlock can_fail (Group (V3 g)) policy e = LacksBlockMemory (Group (V3 g)) policy e
+ExcusesBlock can_fail (Array a) policy e = ⊥
+
+-- the nodes below b: those that a listing finds, or where a block is used its entries between which and b all entries are groups
+abbrev pub NodesBelow : Contents → MetadataRetrieveVersion → Option Block → Bool → Path → Path × NodeMetadata → Type 0
+NodesBelow s v None recursive b = Nodes s v recursive b
+NodesBelow s v (Some B) recursive b = Kept (Entries B b) recursive b
+
+-- all pairs below b: those that a listing finds, or where a block is used all its entries
+abbrev pub PairsBelow : Contents → MetadataRetrieveVersion → Option Block → Path → Path × NodeMetadata → Type 0
+PairsBelow s v None b = Nodes s v true b
+PairsBelow s v (Some B) b = Entries B b
+
+-- nothing below b is refused: a listing comes upon nothing bad, or each key of the block that is used is valid
+abbrev pub IsGoodBelow : Contents → MetadataRetrieveVersion → Option Block → Bool → Path → Type 0
+IsGoodBelow s v None recursive b = Bad s v recursive b → ⊥
+IsGoodBelow s v (Some B) recursive b = HasValidKeys B
+
+-- the refusal is what a listing comes upon, or names the first bad part of a key of the block that is used
+abbrev pub ShowsBadBelow : Contents → MetadataRetrieveVersion → Option Block → Bool → Path → NodeCreateError → Type 0
+ShowsBadBelow s v None recursive b e = ShowsBad s v recursive b e
+ShowsBadBelow s v (Some B) recursive b e = NamesBadKey B e

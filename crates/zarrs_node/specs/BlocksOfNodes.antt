@@ -1,0 +1,9 @@
+-- Zarr core specification 3.1, "Group metadata", the field `consolidated_metadata`: how a block is made of the nodes below a group.
+--     text_beyond b p      the text of the names of p beyond b
+use Rattle.std.specs.Prelude.{ℕ, List, drop, length}
+use Rattle.zarrs_store.specs.Segments.{key_text}
+use Rattle.zarrs_path.specs.Paths.{Path}
+
+-- the names of p beyond b, joined by slashes
+abbrev pub text_beyond : Path → Path → List ℕ
+text_beyond b p = key_text (drop (length b) p)

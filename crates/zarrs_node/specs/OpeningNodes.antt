@@ -1,0 +1,74 @@
+-- Zarr core specification 3.1, "Group metadata", the field `consolidated_metadata`: what an opened node shows, and what refuses its opening.
+--     choice s policy b m      which block stands for the nodes below b, or that they are listed, or nothing where the want of a block is refused
+--     ShowsChosen, IsCleanChosen      what a tree below b shows by such a choice; that nothing refuses it
+--     RefusesChosen, RefusesNode, RefusesOpening      what refuses it; what refuses the node itself; the first of all reasons against opening a text
+use Rattle.std.specs.Prelude.{◌≡◌, ℕ, Bool, true, List, Option, Some, None, ◌⊎◌}
+use Rattle.zarrs_store.specs.Contents.{Contents}
+use Rattle.zarrs_path.specs.Paths.{Path, IsPath, path_text}
+use Rattle.zarrs_path.specs.PathErrors.{RefusesPath}
+use Rattle.zarrs_path.specs.declared.node_path.NodePathError.TheVariants.{Invalid}
+use Rattle.zarrs_meta.specs.declared.node.NodeMetadata.{NodeMetadata}
+use Rattle.zarrs_meta.specs.declared.node.NodeMetadata.TheVariants.{Group, Array}
+use Rattle.zarrs_config.specs.declared.version.MetadataRetrieveVersion.{MetadataRetrieveVersion}
+use Rattle.zarrs_config.specs.declared.version.UseConsolidatedMetadata.{UseConsolidatedMetadata}
+use Rattle.zarrs_block.specs.Block.{Block}
+use Rattle.zarrs_block.specs.Policy.{block_to_use, RefusesUse}
+use Rattle.zarrs_block.specs.Refusals.{IsMissing}
+use Rattle.zarrs_block.specs.declared.node_create_error.NodeCreateError.{NodeCreateError}
+use Rattle.zarrs_block.specs.declared.node_create_error.NodeCreateError.TheVariants.{NodePathError}
+use Rattle.zarrs_block.specs.Meaning.{meaning, node, nothing, bad}
+use Rattle.zarrs_node.specs.Forest.{Forest, none, Shows}
+use Rattle.zarrs_node.specs.BlocksBelow.{block_at, NodesBelow, IsGoodBelow, ShowsBadBelow}
+
+-- ---- by a choice of a block, or of a listing, or of neither
+
+-- f shows what stands below b, by the block that is chosen or by a listing
+abbrev pub ShowsChosen : Contents → MetadataRetrieveVersion → Option (Option Block) → Bool → Path → Forest → Type 0
+ShowsChosen s v None recursive b f = ⊥
+ShowsChosen s v (Some c) recursive b f = Shows f b (NodesBelow s v c recursive b)
+
+-- what stands below b is not refused
+abbrev pub IsCleanChosen : Contents → MetadataRetrieveVersion → Option (Option Block) → Bool → Path → Type 0
+IsCleanChosen s v None recursive b = ⊥
+IsCleanChosen s v (Some c) recursive b = IsGoodBelow s v c recursive b
+
+-- the want of a block is refused, or what stands below b is
+abbrev pub RefusesChosen : Contents → MetadataRetrieveVersion → Option (Option Block) → Bool → Path → NodeCreateError → Type 0
+RefusesChosen s v None recursive b e = RefusesUse b None e
+RefusesChosen s v (Some c) recursive b e = ShowsBadBelow s v c recursive b e
+
+-- ---- of a node
+
+-- the choice of a block for the nodes below b, where b has these metadata
+abbrev pub choice : Contents → UseConsolidatedMetadata → Path → NodeMetadata → Option (Option Block)
+choice s policy b m = block_to_use (block_at s b m) policy
+
+-- below an array there is nothing, and f shows what stands below a group
+abbrev pub ShowsNode : Contents → MetadataRetrieveVersion → UseConsolidatedMetadata → Path → NodeMetadata → Forest → Type 0
+ShowsNode s v policy b (Array a) f = f ≡ none
+ShowsNode s v policy b (Group g) f = ShowsChosen s v (choice s policy b (Group g)) true b f
+
+-- what stands below a group is not refused
+abbrev pub IsCleanNode : Contents → MetadataRetrieveVersion → UseConsolidatedMetadata → Path → NodeMetadata → Type 0
+IsCleanNode s v policy b (Array a) = Unit {0}
+IsCleanNode s v policy b (Group g) = IsCleanChosen s v (choice s policy b (Group g)) true b
+
+-- what stands below a group is refused; below an array nothing is
+abbrev pub RefusesBelow : Contents → MetadataRetrieveVersion → UseConsolidatedMetadata → Path → NodeMetadata → NodeCreateError → Type 0
+RefusesBelow s v policy b (Array a) e = ⊥
+RefusesBelow s v policy b (Group g) e = RefusesChosen s v (choice s policy b (Group g)) true b e
+
+-- the path b means nothing, and the error names it; or it is bad with that error
+abbrev pub RefusesNode : Contents → MetadataRetrieveVersion → Path → NodeCreateError → Type 0
+RefusesNode s v b e = ((meaning s v b ≡ nothing) × IsMissing b e) ⊎ (meaning s v b ≡ bad e)
+
+-- the text is no path, and the error holds it
+abbrev pub RefusesText : List ℕ → NodeCreateError → Type 0
+RefusesText bs (NodePathError (Invalid text)) = RefusesPath bs (Invalid text)
+RefusesText bs _ = ⊥
+
+-- the text is no path; or it is that of a path b, and b itself is refused; or b means a node, and what stands below it is refused
+abbrev pub RefusesOpening : Contents → MetadataRetrieveVersion → UseConsolidatedMetadata → List ℕ → NodeCreateError → Type 0
+RefusesOpening s v policy bs e =
+    RefusesText bs e
+    ⊎ ((b : Path) × IsPath b × (path_text b ≡ bs) × (RefusesNode s v b e ⊎ ((m : NodeMetadata) × (meaning s v b ≡ node m) × RefusesBelow s v policy b m e)))

@@ -1,7 +1,0 @@
-use Rattle.std.specs.FinMap as map
-use Rattle.zarrs_store.specs.Segments.{key_cmp}
-use Rattle.zarrs_tool.proofs.Members.{HoldsSoFar}
-use Rattle.zarrs_tool.proofs.image.store_of.Given as goal
-
-abbrev pub invariant-loop-name : goal.invariant-loop-name
-invariant-loop-name l = HoldsSoFar l.fn.members.entries l.name-iterator (map.from_entries {R = key_cmp} l.store)

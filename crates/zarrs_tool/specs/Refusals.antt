@@ -1,0 +1,107 @@
+-- Why a run is refused.
+use Rattle.std.specs.Prelude.{◌≡◌, ℕ, Bool, true, false, List, [], ◌∷◌, ⊤, Option, Result, Ok, Err, ◌⊎◌}
+use Rattle.std.specs.Io.KnownBytes.{Keeps, IsAtEnd}
+use Rattle.zarrs_store.specs.Contents.{Contents}
+use Rattle.zarrs_path.specs.Paths.{Path, IsPath, path_text}
+use Rattle.zarrs_path.specs.PathErrors.{RefusesPath}
+use Rattle.zarrs_block.specs.declared.node_create_error.NodeCreateError.{NodeCreateError}
+use Rattle.zarrs_block.specs.declared.node_create_error.NodeCreateError.TheVariants.{NodePathError}
+use Rattle.zarrs_block.specs.Refusals.{IsExcused}
+use Rattle.zarrs_config.specs.declared.version.MetadataRetrieveVersion.TheVariants.{Default}
+use Rattle.zarrs_config.specs.declared.version.UseConsolidatedMetadata.TheVariants.{Auto, Never}
+use Rattle.zarrs_config.specs.declared.version.UseConsolidatedMetadata.{UseConsolidatedMetadata}
+use Rattle.zarrs_meta.specs.declared.node.ArrayMetadata.{ArrayMetadata}
+use Rattle.zarrs_meta.specs.declared.node.NodeMetadata.TheVariants.{Array}
+use Rattle.zarrs_block.specs.Meaning.{meaning, node}
+use Rattle.zarrs_node.specs.Nodes.{ShowsBad}
+use Rattle.zarrs_node.specs.OpeningNodes.{RefusesOpening}
+use Rattle.zarrs_load.specs.Image.{IsLoaded, RefusedImage}
+use Rattle.zarrs_load.specs.declared.fault.LoadFault.{LoadFault}
+use Rattle.zarrs_load.specs.declared.fault.LoadFault.TheVariants as load
+use Rattle.zarrs_tool.specs.Output.{IsCommand, IsOutput, word_text}
+use Rattle.zarrs_tool.specs.declared.fault.ToolFault.{ToolFault}
+use Rattle.zarrs_tool.specs.declared.fault.ToolFault.TheVariants.{Usage, Read, ReadTooLong, Image, ImageKey, ImageValue, Folder, NotAGroup, Node, Write, OutOfMemory}
+use Rattle.zarrs_tool.specs.declared.run.Word.{Word}
+use Rattle.zarrs_tool.specs.declared.run.Word.TheVariants.{Children, List as ListAll, Tree, Consolidate}
+
+-- the text is no path, and the error holds it; or out of memory
+abbrev pub RefusesPathText : List ℕ → NodeCreateError → Type 0
+RefusesPathText text (NodePathError e) = RefusesPath text e
+RefusesPathText text _ = ⊥
+
+-- the listing is excused, as out of memory or the fault of a store that can fail, or the refusal shows what is bad
+abbrev pub RefusesListing : Bool → Contents → Bool → Path → NodeCreateError → Type 0
+RefusesListing can_fail store recursive base e = IsExcused can_fail e ⊎ ShowsBad store Default recursive base e
+
+-- opening the path is excused, as out of memory or the fault of a store that can fail, or it is refused by the first reason that applies
+abbrev pub RefusesOpen : Bool → Contents → UseConsolidatedMetadata → Path → NodeCreateError → Type 0
+RefusesOpen can_fail store policy base e = IsExcused can_fail e ⊎ RefusesOpening store Default policy (path_text base) e
+
+-- the calls of a word refuse the path
+abbrev pub RefusesWord : Bool → Word → Contents → Path → NodeCreateError → Type 0
+RefusesWord can_fail Children store base e = RefusesListing can_fail store false base e
+RefusesWord can_fail ListAll store base e = RefusesListing can_fail store true base e
+RefusesWord can_fail Tree store base e = RefusesOpen can_fail store Auto base e
+RefusesWord can_fail Consolidate store base e = RefusesOpen can_fail store Never base e
+
+-- the path means an array
+abbrev pub IsArray : Contents → Path → Type 0
+IsArray store base = (a : ArrayMetadata) × (meaning store Default base ≡ node (Array a))
+
+-- the word wants a group, as `consolidate` alone does, and the path means an array
+abbrev pub WantsGroup : Word → Contents → Path → Type 0
+WantsGroup Children store base = ⊥
+WantsGroup ListAll store base = ⊥
+WantsGroup Tree store base = ⊥
+WantsGroup Consolidate store base = IsArray store base
+
+-- the words' path is none
+abbrev pub RefusesWords : List (List ℕ) → NodeCreateError → Type 0
+RefusesWords words e = (word : Word) × (path : List ℕ) × (words ≡ word_text word ∷ path ∷ []) × RefusesPathText path e
+
+-- the calls of the words' command over the store refuse its path
+abbrev pub RefusesStore : Bool → List (List ℕ) → Contents → NodeCreateError → Type 0
+RefusesStore can_fail words store e =
+    (word : Word) × (base : Path) × IsPath base × (words ≡ word_text word ∷ path_text base ∷ []) × RefusesWord can_fail word store base e
+
+-- the words' command wants a group, and its path means an array
+abbrev pub RefusesArray : List (List ℕ) → Contents → Type 0
+RefusesArray words store = (word : Word) × (base : Path) × IsPath base × (words ≡ word_text word ∷ path_text base ∷ []) × WantsGroup word store base
+
+-- the words are refused over a store
+abbrev pub IsRefusal : Bool → List (List ℕ) → Contents → ToolFault → Type 0
+IsRefusal can_fail words store Usage = IsCommand words → ⊥
+IsRefusal can_fail words store (Node e) = RefusesWords words e ⊎ RefusesStore can_fail words store e
+IsRefusal can_fail words store NotAGroup = RefusesArray words store
+IsRefusal can_fail words store Write = (text : List ℕ) × IsOutput words store text
+IsRefusal can_fail words store OutOfMemory = ⊤
+IsRefusal can_fail words store _ = ⊥
+
+-- the reader was read to its end, and the words are refused over the store of its image
+abbrev pub RefusedAfterLoad : List (List ℕ) → Option (List ℕ) → Option (List ℕ) → ToolFault → Type 0
+RefusedAfterLoad words before after fault = IsAtEnd after × ((store : Contents) × IsLoaded before store × IsRefusal false words store fault)
+
+-- the fault is one of loading, of which P holds
+abbrev pub IsLoadFault : (LoadFault → Type 0) → ToolFault → Type 0
+IsLoadFault P Read = P load.Read
+IsLoadFault P ReadTooLong = P load.ReadTooLong
+IsLoadFault P Image = P load.Image
+IsLoadFault P (ImageKey name) = P (load.ImageKey name)
+IsLoadFault P (ImageValue name) = P (load.ImageValue name)
+IsLoadFault P Folder = P load.Folder
+IsLoadFault P OutOfMemory = P load.OutOfMemory
+IsLoadFault P _ = ⊥
+
+-- the words are refused over what a reader gives, and it stands here
+abbrev pub RefusedRun : List (List ℕ) → Option (List ℕ) → Option (List ℕ) → ToolFault → Type 0
+RefusedRun words before after Usage = Keeps before after
+RefusedRun words before after (Node e) = RefusedAfterLoad words before after (Node e)
+RefusedRun words before after NotAGroup = RefusedAfterLoad words before after NotAGroup
+RefusedRun words before after Write = RefusedAfterLoad words before after Write
+RefusedRun words before after fault = IsLoadFault (RefusedImage before after) fault
+
+-- the exit status: 0 where all went well, 2 for wrong words, else 1
+abbrev pub status_of : Result Unit ToolFault → ℕ
+status_of (Ok done) = 0
+status_of (Err Usage) = 2
+status_of (Err fault) = 1

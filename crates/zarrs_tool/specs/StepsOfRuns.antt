@@ -1,0 +1,74 @@
+-- Steps of a run of the program: words and folders, and what its private calls write and refuse; no public contract rests on them.
+use Rattle.std.specs.Prelude.{◌≡◌, ◌⊎◌, ℕ, List, [], ◌∷◌, codes, Option, Bool, false, ⊤}
+use Rattle.zarrs_store.specs.Contents.{Contents}
+use Rattle.zarrs_load.specs.Folder.{HoldsDocumentsAlone, IsFolderFault}
+use Rattle.zarrs_tool.specs.declared.run.Word.TheVariants.{Tree}
+use Rattle.zarrs_tool.specs.declared.run.Command.{Command}
+use Rattle.zarrs_tool.specs.Output.{word_text, IsCommand, WritesOutput, WritesOfImage}
+use Rattle.zarrs_path.specs.Paths.{Path}
+use Rattle.zarrs_block.specs.declared.node_create_error.NodeCreateError.{NodeCreateError}
+use Rattle.zarrs_config.specs.declared.version.UseConsolidatedMetadata.TheVariants.{Auto, Never}
+use Rattle.zarrs_block.specs.Meaning.{node}
+use Rattle.zarrs_load.specs.declared.fault.LoadFault.TheVariants as load
+use Rattle.zarrs_tool.specs.declared.fault.ToolFault.{ToolFault}
+use Rattle.zarrs_tool.specs.declared.fault.ToolFault.TheVariants.{NotAGroup, Node, OutOfMemory}
+use Rattle.zarrs_tool.specs.declared.run.Word.{Word}
+use Rattle.zarrs_tool.specs.Refusals.{RefusesPathText, RefusesListing, RefusesOpen, RefusesWord, IsArray, WantsGroup, IsRefusal, IsLoadFault}
+
+-- the words of a command
+abbrev pub command_words : Command → List (List ℕ)
+command_words command = word_text command.word ∷ command.path.now ∷ []
+
+-- the words are `folder`, the folder, and `tree PATH`
+abbrev pub IsFolderWords : List (List ℕ) → List ℕ → List (List ℕ) → Type 0
+IsFolderWords words folder tree = (path : List ℕ) × (tree ≡ word_text Tree ∷ path ∷ []) × (words ≡ codes "folder" ∷ folder ∷ tree)
+
+-- the words are `folder DIR tree PATH`
+abbrev pub IsFolderCommand : List (List ℕ) → Type 0
+IsFolderCommand words = (folder : List ℕ) × (tree : List (List ℕ)) × IsFolderWords words folder tree
+
+-- the words are no command, neither over an image nor over a folder
+abbrev pub IsNoCommand : List (List ℕ) → Type 0
+IsNoCommand words = (IsCommand words → ⊥) × (IsFolderCommand words → ⊥)
+
+-- the words' output over a store in which no key but a document's has bytes, as a folder's
+abbrev pub WritesOfFolder : List (List ℕ) → Option (List ℕ) → Option (List ℕ) → Type 0
+WritesOfFolder words before after = (store : Contents) × HoldsDocumentsAlone store × WritesOutput words store before after
+
+-- the output of a run that ends well: that over the image, or where the words are `folder DIR tree PATH` that of `tree PATH` over the folder's store
+abbrev pub WritesAnswer : List (List ℕ) → Option (List ℕ) → Option (List ℕ) → Option (List ℕ) → Type 0
+WritesAnswer words left before after =
+    WritesOfImage words left before after
+    ⊎ ((folder : List ℕ) × (tree : List (List ℕ)) × IsFolderWords words folder tree × WritesOfFolder tree before after)
+
+-- the text is no path, or out of memory
+abbrev pub IsPathFault : List ℕ → ToolFault → Type 0
+IsPathFault text (Node e) = RefusesPathText text e
+IsPathFault text _ = ⊥
+
+-- the fault holds an error that refuses; or says that there is no group, where that may be said; or out of memory
+abbrev pub IsFault : (NodeCreateError → Type 0) → Type 0 → ToolFault → Type 0
+IsFault refuses no_group (Node e) = refuses e
+IsFault refuses no_group NotAGroup = no_group
+IsFault refuses no_group OutOfMemory = ⊤
+IsFault refuses no_group _ = ⊥
+
+-- a listing is refused, or out of memory
+abbrev pub IsListingFault : Bool → Contents → Bool → Path → ToolFault → Type 0
+IsListingFault can_fail store recursive base = IsFault (RefusesListing can_fail store recursive base) ⊥
+
+-- opening a hierarchy is refused, or out of memory
+abbrev pub IsTreeFault : Bool → Contents → Path → ToolFault → Type 0
+IsTreeFault can_fail store base = IsFault (RefusesOpen can_fail store Auto base) ⊥
+
+-- opening a node is refused, or it is an array, or out of memory
+abbrev pub IsBlockFault : Bool → Contents → Path → ToolFault → Type 0
+IsBlockFault can_fail store base = IsFault (RefusesOpen can_fail store Never base) (IsArray store base)
+
+-- a word is refused of a path
+abbrev pub IsWordFault : Bool → Word → Contents → Path → ToolFault → Type 0
+IsWordFault can_fail word store base = IsFault (RefusesWord can_fail word store base) (WantsGroup word store base)
+
+-- the folder makes no store, or out of memory, or the words are refused over a store
+abbrev pub RefusedFolder : List (List ℕ) → ToolFault → Type 0
+RefusedFolder words fault = IsLoadFault IsFolderFault fault ⊎ ((store : Contents) × IsRefusal false words store fault)
