@@ -5,8 +5,8 @@
 --     tree_among runs t file      a document that runs have for a text
 --     gathered_at runs run t file      a document that a run has for a text, or that the runs before it have
 --     RunsAscend runs      the paths of the runs ascend
---     IsPlace t r      the path and the file that a member's name tells, where it counts documents_below the group
---     are_named ms, RefusesNames ms      the names that count documents_below the group are those of nodes; that they are not
+--     IsPlace t r      the path and the file that a member's name tells, where it counts below the group
+--     are_named ms, RefusesNames ms      the names that count below the group are those of nodes; that they are not
 use Rattle.std.specs.Prelude.{◌≡◌, ◌≢◌, ◌⊎◌, IfSome, ℕ, Bool, true, false, not, ◌&&◌, List, [], ◌∷◌, ◌++◌, map, Option, Some, None, Result, Ok, Err, option_map, if◌then◌else◌, string_bytes, codes, bytes_eq, All, IsTrue}
 use Rattle.std.specs.List.{list_all}
 use Rattle.std.specs.Result.{result_ok}

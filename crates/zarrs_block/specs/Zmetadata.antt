@@ -1,6 +1,6 @@
 -- The version 2 convention of consolidated metadata, the document `.zmetadata` of a group (zarr-python, "Consolidated metadata"): how it is read as a block, and how it is written.
 --     zmetadata_of d      the block that a document is, or its first fault
---     HoldsStore, IsClean      what that block has and that nothing documents_below the group is bad, as of any store
+--     HoldsStore, IsClean      what that block has and that nothing below the group is bad, as of any store
 --     IsZmetadataFault d fault      what refuses a document
 --     zmetadata_tree g B      what is written of a group of version 2 and its block
 --     IsWrittenOf g B d      what that has at each key

@@ -1,6 +1,6 @@
 -- RFC 8259: the pretty layout of a value, piece by piece. A level is two spaces.
 --     pretty_text d, text_at n d      the layout of a value; that of one n levels deep
---     entry_text, entries_text      members of an object that stands one level deep
+--     entry_text      a member of an object that stands one level deep
 use Rattle.std.specs.Prelude.{if◌then◌else◌, ℕ, ◌+◌, List, [], ◌∷◌, ◌++◌, Bool, true, false}
 use Rattle.json.specs.Layout.{line, pretty}
 use Rattle.json.specs.Print.{quoted, token_text}

@@ -1,5 +1,5 @@
 -- Zarr core specification 3.1, "Hierarchy" and "Group metadata", the field `consolidated_metadata`, and the document `.zmetadata` of version 2: what stands below a group, by its block or by a listing.
---     block_choice g config      the block that is block_to_use of a group, or that the store is listed, or nothing where the want of a block is refused
+--     block_choice g config      the block that is used of a group, or that the store is listed, or nothing where the want of a block is refused
 --     ShowsChildren, ListsNodes, AreChildren      what its trees show; what all its nodes are; what its children are, in order
 --     IsCleanBelow, RefusesChildren      that nothing refuses it; what a refusal is
 --     is_listed choice      whether the store is listed: only there its fault is excused

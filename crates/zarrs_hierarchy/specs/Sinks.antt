@@ -1,5 +1,4 @@
 -- Zarr core specification 3.1, "Hierarchy": what a sink took of the nodes below a base.
---     TakesPairs R a z N      z came of a by taking the pairs of N in the order of paths
 --     AppendsNode      how the text of a hierarchy takes a node
 use Rattle.std.specs.Prelude.{◌≡◌, ◌-◌, ◌++◌, length, string_bytes}
 use Rattle.zarrs_path.specs.Paths.{Path}

@@ -2,7 +2,7 @@
 --     LeadsTo B b p      the block has a group at each path between b and p
 --     IsNewPair of p      what p means now, and what is reached below it
 --     IsFresh of b B p C      C is B, with what stands at p and below it made anew
---     BadAnew, RefusesAnew      what refuses that; what a refusal shows
+--     BadAnew, ShowsBadAnew      what refuses that; what a refusal shows
 use Rattle.std.specs.Prelude.{◌≡◌, ◌↔◌, ◌⊎◌, ℕ, true, List, ◌∷◌, ◌++◌, Some}
 use Rattle.zarrs_store.specs.Segments.{key_text}
 use Rattle.zarrs_store.specs.Contents.{Contents}

@@ -1,0 +1,150 @@
+//! The texts of the errors of conversion, and the faults that become such errors.
+
+use crate::conversion::string_of;
+use crate::given::members_of;
+use serde_json::Value;
+use std::alloc::{AllocError, AllocFailed, Global};
+use std::test::Fail;
+use zarrs_convert::{ArrayMetadataV2ToV3Error, DataTypeMetadataV2EndiannessError};
+use zarrs_meta::{DataTypeMetadataV2, FillValueMetadata, Text};
+use tests_support::{check_rows, fields, said};
+
+// ---- errors of conversion
+
+// The kind of an error and the text that it is about, and the text of the error.
+const ERRORS: &str = r#"
+data type | <i1 => unsupported data type
+codec | zlib => unsupported codec zlib
+fill value | int8 => unsupported fill value for data type int8
+two codecs => multiple array to bytes codecs
+other | a reason => a reason
+memory => out of memory
+# Errors of byte orders are errors of conversion too.
+byte order | i2 => invalid endianness
+byte order, memory => out of memory
+"#;
+
+// The error of a kind, about a text.
+fn failed(alloc: Global, given: &str) -> Result<(), ArrayMetadataV2ToV3Error> {
+    let (kind, text) = fields(given);
+    match kind {
+        "data type" => Err(data_type_error(alloc, text)),
+        "codec" => Err(codec_error(alloc, text)),
+        "fill value" => Err(fill_value_error(alloc, text)),
+        "two codecs" => Err(ArrayMetadataV2ToV3Error::MultipleArrayToBytesCodecs),
+        "other" => Err(ArrayMetadataV2ToV3Error::Other(string_of(alloc, text))),
+        "memory" => Err(ArrayMetadataV2ToV3Error::OutOfMemory),
+        "byte order" => Err(byte_order_error(alloc, text)),
+        "byte order, memory" => {
+            Err(ArrayMetadataV2ToV3Error::InvalidEndianness(
+                DataTypeMetadataV2EndiannessError::OutOfMemory,
+            ))
+        }
+        "JSON" => not_json(alloc),
+        "no memory" => Err(ArrayMetadataV2ToV3Error::from(AllocError)),
+        "no memory for a value" => Err(ArrayMetadataV2ToV3Error::from(AllocFailed { value: 1u8 })),
+        _ => Ok(()),
+    }
+}
+
+fn data_type_error(alloc: Global, data_type: &str) -> ArrayMetadataV2ToV3Error {
+    let data_type = DataTypeMetadataV2::Simple(Text::new(string_of(alloc, data_type)));
+    ArrayMetadataV2ToV3Error::UnsupportedDataType(data_type)
+}
+
+fn codec_error(alloc: Global, codec: &str) -> ArrayMetadataV2ToV3Error {
+    let configuration = members_of(alloc, r#"{"n":1}"#);
+    ArrayMetadataV2ToV3Error::UnsupportedCodec(string_of(alloc, codec), configuration)
+}
+
+fn fill_value_error(alloc: Global, data_type: &str) -> ArrayMetadataV2ToV3Error {
+    let fill_value = FillValueMetadata::new(Value::Null);
+    ArrayMetadataV2ToV3Error::UnsupportedFillValue(string_of(alloc, data_type), fill_value)
+}
+
+fn byte_order_error(alloc: Global, data_type: &str) -> ArrayMetadataV2ToV3Error {
+    let error = DataTypeMetadataV2EndiannessError::Invalid(string_of(alloc, data_type));
+    ArrayMetadataV2ToV3Error::InvalidEndianness(error)
+}
+
+// The fault of a text that is no JSON, as an error of conversion.
+fn not_json(alloc: Global) -> Result<(), ArrayMetadataV2ToV3Error> {
+    drop(Value::from_str(alloc, "{")?);
+    Ok(())
+}
+
+fn unit_text(_unit: &(), alloc: Global) -> Result<String, AllocError> {
+    String::from_str(alloc, "no error")
+}
+
+// The text of the error of a kind.
+fn error_text(alloc: Global, given: &str) -> Result<String, AllocError> {
+    said(alloc, failed(alloc, given), unit_text)
+}
+
+#[test]
+fn errors_of_conversion_have_their_texts(rt: HostRuntime) -> Result<(), Fail> {
+    check_rows(rt.alloc(), ERRORS, error_text)
+}
+
+// ---- errors of byte orders
+
+// The kind of an error and the text that it is about, and the text of the error.
+const ORDER_ERRORS: &str = r#"
+invalid | i2 => invalid endianness
+memory => out of memory
+no memory => out of memory
+"#;
+
+// The error of a kind, about a text.
+fn order_failed(alloc: Global, given: &str) -> Result<(), DataTypeMetadataV2EndiannessError> {
+    let (kind, text) = fields(given);
+    match kind {
+        "invalid" => Err(DataTypeMetadataV2EndiannessError::Invalid(string_of(alloc, text))),
+        "memory" => Err(DataTypeMetadataV2EndiannessError::OutOfMemory),
+        "no memory" => Err(DataTypeMetadataV2EndiannessError::from(AllocError)),
+        _ => Ok(()),
+    }
+}
+
+// The text of the error of a kind.
+fn order_error_text(alloc: Global, given: &str) -> Result<String, AllocError> {
+    said(alloc, order_failed(alloc, given), unit_text)
+}
+
+#[test]
+fn errors_of_byte_orders_have_their_texts(rt: HostRuntime) -> Result<(), Fail> {
+    check_rows(rt.alloc(), ORDER_ERRORS, order_error_text)
+}
+
+// ---- faults below
+
+// Faults, and the kind of the error that each becomes with its text.
+const FAULTS: &str = r#"
+JSON => JSON: JSON serialization or deserialization error
+no memory => memory: out of memory
+no memory for a value => memory: out of memory
+"#;
+
+// The kind of an error and its text.
+fn kind_text(alloc: Global, error: &ArrayMetadataV2ToV3Error) -> Result<String, AllocError> {
+    let kind = match error {
+        ArrayMetadataV2ToV3Error::SerdeError(_) => "JSON",
+        ArrayMetadataV2ToV3Error::OutOfMemory => "memory",
+        _ => "other",
+    };
+    format!(in alloc; "{kind}: {error}")
+}
+
+// The kind of the error that a fault becomes, and its text.
+fn kind_of(alloc: Global, given: &str) -> Result<String, AllocError> {
+    match failed(alloc, given) {
+        Ok(()) => String::from_str(alloc, "no error"),
+        Err(error) => kind_text(alloc, &error),
+    }
+}
+
+#[test]
+fn faults_become_errors_of_conversion(rt: HostRuntime) -> Result<(), Fail> {
+    check_rows(rt.alloc(), FAULTS, kind_of)
+}

@@ -1,0 +1,304 @@
+//! The tables of the conversion, line by line: data types, byte orders, fill values and codecs.
+
+use crate::conversion::{named, order_refusal, refusal, told};
+use crate::given::value_of;
+use log::sink::Writer;
+use serde_json::{Map, put};
+use std::alloc::{AllocError, Global};
+use std::test::Fail;
+use zarrs_convert::{
+    codec_metadata_v2_to_v3, data_type_metadata_v2_to_endianness, data_type_metadata_v2_to_v3,
+    fill_value_metadata_v2_to_v3,
+};
+use zarrs_fault::MetadataFault;
+use zarrs_form::{Form, required};
+use zarrs_meta::{ArrayMetadataV2, DataTypeMetadataV2, Endianness, FillValueMetadata, MetadataV3};
+use tests_support::{check_rows, fields, said, with_lines};
+
+// What a text reads as in the form of a type.
+fn read_as<T: Form + Drop>(alloc: Global, text: &str) -> Result<T, MetadataFault> {
+    let mut members = Map::new(alloc);
+    put(&mut members, alloc, "part", value_of(alloc, text))?;
+    required(alloc, &mut members, "part")
+}
+
+// The written form of a part.
+fn written<T: Form>(part: &T, alloc: Global) -> Result<String, AllocError> {
+    let mut text = String::new(alloc);
+    part.write(alloc, &mut text)?;
+    Ok(text)
+}
+
+// ---- data types
+
+// Data types of version 2, and the one of version 3 or the error.
+const DATA_TYPES: &str = r#"
+# Data types have names in version 3.
+"|b1" => "bool"
+"|i1" => "int8"
+"|u1" => "uint8"
+"<i2" => "int16"
+">i2" => "int16"
+"<i4" => "int32"
+">i4" => "int32"
+"<i8" => "int64"
+">i8" => "int64"
+"<u2" => "uint16"
+">u2" => "uint16"
+"<u4" => "uint32"
+">u4" => "uint32"
+"<u8" => "uint64"
+">u8" => "uint64"
+"<f2" => "float16"
+">f2" => "float16"
+"<f4" => "float32"
+">f4" => "float32"
+"<f8" => "float64"
+">f8" => "float64"
+"<c8" => "complex64"
+">c8" => "complex64"
+"<c16" => "complex128"
+">c16" => "complex128"
+"|O" => "string"
+# Raw bits have eight times their bytes.
+"|V8" => "r64"
+"|V008" => "r64"
+"|V0" => "r0"
+"|V2305843009213693951" => "r18446744073709551608"
+"|V2305843009213693952" => unsupported data type: "|V2305843009213693952"
+"|V18446744073709551616" => unsupported data type: "|V18446744073709551616"
+"|V" => unsupported data type: "|V"
+"|V+8" => unsupported data type: "|V+8"
+"|V-8" => unsupported data type: "|V-8"
+"|V8 " => unsupported data type: "|V8 "
+"|V8x" => unsupported data type: "|V8x"
+"<V8" => unsupported data type: "<V8"
+# Other data types are unsupported.
+"|i2" => unsupported data type: "|i2"
+"<i1" => unsupported data type: "<i1"
+"<b1" => unsupported data type: "<b1"
+"<c4" => unsupported data type: "<c4"
+"<f16" => unsupported data type: "<f16"
+"i2" => unsupported data type: "i2"
+"|O8" => unsupported data type: "|O8"
+"<U4" => unsupported data type: "<U4"
+"<M8[ns]" => unsupported data type: "<M8[ns]"
+"float64" => unsupported data type: "float64"
+"" => unsupported data type: ""
+[] => unsupported data type: []
+[["r","|u1"]] => unsupported data type: [["r","|u1"]]
+"#;
+
+fn data_type_says(data_type: &DataTypeMetadataV2, alloc: Global) -> Result<String, AllocError> {
+    let answer = data_type_metadata_v2_to_v3(alloc, data_type);
+    told(alloc, answer, written, refusal)
+}
+
+// What the conversion of a data type answers.
+fn converted_data_type(alloc: Global, data_type: &str) -> Result<String, AllocError> {
+    said(alloc, read_as(alloc, data_type), data_type_says)
+}
+
+#[test]
+fn data_types_have_names_in_version_3_or_are_unsupported(rt: HostRuntime) -> Result<(), Fail> {
+    check_rows(rt.alloc(), DATA_TYPES, converted_data_type)
+}
+
+// ---- byte orders
+
+// Data types of version 2, and the byte order that they begin with or the error.
+const ORDERS: &str = r#"
+"<f8" => little
+"<" => little
+">f8" => big
+"|b1" => none
+[["a","<i2"]] => none
+"float64" => invalid endianness: float64
+"=f8" => invalid endianness: =f8
+" <f8" => invalid endianness:  <f8
+"" => invalid endianness: 
+"#;
+
+fn order_text(order: &Option<Endianness>, alloc: Global) -> Result<String, AllocError> {
+    let text = match order {
+        Some(Endianness::Little) => "little",
+        Some(Endianness::Big) => "big",
+        None => "none",
+    };
+    String::from_str(alloc, text)
+}
+
+fn order_says(data_type: &DataTypeMetadataV2, alloc: Global) -> Result<String, AllocError> {
+    let answer = data_type_metadata_v2_to_endianness(alloc, data_type);
+    told(alloc, answer, order_text, order_refusal)
+}
+
+// What the byte order of a data type is.
+fn order_of_data_type(alloc: Global, data_type: &str) -> Result<String, AllocError> {
+    said(alloc, read_as(alloc, data_type), order_says)
+}
+
+#[test]
+fn data_types_begin_with_their_byte_order(rt: HostRuntime) -> Result<(), Fail> {
+    check_rows(rt.alloc(), ORDERS, order_of_data_type)
+}
+
+// ---- fill values
+
+// Fill values and the data type of version 3 that each is asked for: what it becomes or the error, with the lines that are warned with.
+const FILL_VALUES: &str = r#"
+# Null becomes the default and is warned of.
+null | string => ""\n[WARN  zarrs_convert::fill_value] Fill value of `null` specified for data type string. This is unsupported in Zarr V3; mapping to a default value.\n
+null | bool => false\n[WARN  zarrs_convert::fill_value] Fill value of `null` specified for data type bool. This is unsupported in Zarr V3; mapping to a default value.\n
+null | r16 => [0,0]\n[WARN  zarrs_convert::fill_value] Fill value of `null` specified for data type r16. This is unsupported in Zarr V3; mapping to a default value.\n
+null | r0 => []\n[WARN  zarrs_convert::fill_value] Fill value of `null` specified for data type r0. This is unsupported in Zarr V3; mapping to a default value.\n
+null | r064 => [0,0,0,0,0,0,0,0]\n[WARN  zarrs_convert::fill_value] Fill value of `null` specified for data type r064. This is unsupported in Zarr V3; mapping to a default value.\n
+null | r12 => raw bits should be fixed size\n[WARN  zarrs_convert::fill_value] Fill value of `null` specified for data type r12. This is unsupported in Zarr V3; mapping to a default value.\n
+null | r18446744073709551615 => raw bits should be fixed size\n[WARN  zarrs_convert::fill_value] Fill value of `null` specified for data type r18446744073709551615. This is unsupported in Zarr V3; mapping to a default value.\n
+null | r18446744073709551616 => raw bits should be fixed size\n[WARN  zarrs_convert::fill_value] Fill value of `null` specified for data type r18446744073709551616. This is unsupported in Zarr V3; mapping to a default value.\n
+null | r18446744073709551608 => out of memory\n[WARN  zarrs_convert::fill_value] Fill value of `null` specified for data type r18446744073709551608. This is unsupported in Zarr V3; mapping to a default value.\n
+null | int8 => 0\n[WARN  zarrs_convert::fill_value] Fill value of `null` specified for data type int8. This is unsupported in Zarr V3; mapping to a default value.\n
+null | float64 => 0\n[WARN  zarrs_convert::fill_value] Fill value of `null` specified for data type float64. This is unsupported in Zarr V3; mapping to a default value.\n
+null | r => 0\n[WARN  zarrs_convert::fill_value] Fill value of `null` specified for data type r. This is unsupported in Zarr V3; mapping to a default value.\n
+null | r8x => 0\n[WARN  zarrs_convert::fill_value] Fill value of `null` specified for data type r8x. This is unsupported in Zarr V3; mapping to a default value.\n
+null | R16 => 0\n[WARN  zarrs_convert::fill_value] Fill value of `null` specified for data type R16. This is unsupported in Zarr V3; mapping to a default value.\n
+null | another => 0\n[WARN  zarrs_convert::fill_value] Fill value of `null` specified for data type another. This is unsupported in Zarr V3; mapping to a default value.\n
+# Other fill values are kept but for few.
+0 | string => ""\n[WARN  zarrs_convert::fill_value] Permitting non-conformant `0` fill value for `string` data type (zarr-python compatibility).\n
+0 | bool => false
+1 | bool => true
+2 | bool => 2
+-1 | bool => -1
+true | bool => true
+"0" | bool => "0"
+1 | string => 1
+-1 | string => -1
+false | string => false
+"" | string => ""
+"0" | string => "0"
+0 | int8 => 0
+0 | r16 => 0
+[1,2] | r16 => [1,2]
+"NaN" | float64 => "NaN"
+{"a":[null]} | another => {"a":[null]}
+18446744073709551615 | uint64 => 18446744073709551615
+-9223372036854775808 | int64 => -9223372036854775808
+"#;
+
+// What the conversion of a fill value for a data type answers, and the lines that it warns with.
+fn converted_fill_value(alloc: Global, given: &str) -> Result<String, AllocError> {
+    let (fill_value, data_type) = fields(given);
+    let fill_value = FillValueMetadata::new(value_of(alloc, fill_value));
+    let data_type = named(alloc, data_type);
+    let sink = Writer::new(Vec::new(alloc));
+    let answer = fill_value_metadata_v2_to_v3(&sink, alloc, &fill_value, &data_type);
+    let text = told(alloc, answer, written, refusal);
+    with_lines(alloc, text, "\n", sink.into_inner())
+}
+
+#[test]
+fn fill_values_are_kept_but_for_few_and_null(rt: HostRuntime) -> Result<(), Fail> {
+    check_rows(rt.alloc(), FILL_VALUES, converted_fill_value)
+}
+
+// ---- codecs
+
+// The members of arrays of one dimension, and the codecs that they have in version 3 or the error; the data type in version 3 does not
+// matter.
+const CODECS: &str = r#"
+# Orders and byte orders become codecs.
+"dtype":"<i2","fill_value":0,"order":"C" => [{"configuration":{"endian":"little"},"name":"bytes"}]
+"dtype":">i2","fill_value":0,"order":"C" => [{"configuration":{"endian":"big"},"name":"bytes"}]
+"dtype":"|i1","fill_value":0,"order":"C" => [{"configuration":{"endian":"little"},"name":"bytes"}]
+"dtype":">i2","fill_value":0,"filters":[],"order":"C" => [{"configuration":{"endian":"big"},"name":"bytes"}]
+"dtype":">i2","fill_value":0,"order":"F" => [{"configuration":{"order":[0]},"name":"transpose"},{"configuration":{"endian":"big"},"name":"bytes"}]
+"chunks":[],"dtype":"<i2","fill_value":0,"order":"F","shape":[] => [{"configuration":{"order":[]},"name":"transpose"},{"configuration":{"endian":"little"},"name":"bytes"}]
+"chunks":[1,1,1],"dtype":"<i2","fill_value":0,"order":"F","shape":[4,5,6] => [{"configuration":{"order":[2,1,0]},"name":"transpose"},{"configuration":{"endian":"little"},"name":"bytes"}]
+"chunks":[1,1],"dtype":"|O","fill_value":0,"filters":[{"id":"vlen-utf8"}],"order":"F","shape":[4,5] => [{"configuration":{"order":[1,0]},"name":"transpose"},{"configuration":{},"name":"vlen-utf8"}]
+# Few filters and no compressors become codecs.
+"compressor":null,"dtype":"|O","fill_value":"","filters":[{"id":"vlen-array"}],"order":"C" => [{"configuration":{},"name":"vlen-array"}]
+"compressor":null,"dtype":"|O","fill_value":"","filters":[{"id":"vlen-bytes"}],"order":"C" => [{"configuration":{},"name":"vlen-bytes"}]
+"compressor":null,"dtype":"|O","fill_value":"","filters":[{"id":"vlen-utf8","n":1}],"order":"C" => [{"configuration":{},"name":"vlen-utf8"}]
+"compressor":null,"dtype":"|O","fill_value":"","filters":[{"id":"delta","astype":"<i2","dtype":"<i4"}],"order":"C" => unsupported codec delta: {"astype":"<i2","dtype":"<i4"}
+"compressor":null,"dtype":"|O","fill_value":"","filters":[{"id":"vlen-utf8"},{"id":"vlen-bytes"},{"id":"delta"}],"order":"C" => unsupported codec delta: {}
+"compressor":{"id":"blosc"},"dtype":"|O","fill_value":"","filters":[{"id":"zlib","level":1},{"id":"delta"}],"order":"C" => unsupported codec zlib: {"level":1}
+"compressor":{"id":"zlib"},"dtype":"|O","fill_value":"","filters":[{"id":"vlen-utf8"},{"id":"vlen-bytes"}],"order":"C" => multiple array to bytes codecs
+"compressor":null,"dtype":"|O","fill_value":"","filters":[{"id":"vlen-utf8"},{"id":"vlen-utf8"}],"order":"C" => multiple array to bytes codecs
+"compressor":{"id":"zlib"},"dtype":"|O","fill_value":"","filters":[{"id":"vlen-utf8"}],"order":"C" => unsupported codec zlib: {}
+"compressor":{"id":"zlib","level":1},"dtype":"|O","fill_value":"","filters":null,"order":"C" => unsupported codec zlib: {"level":1}
+"compressor":{"id":"vlen-utf8"},"dtype":"|O","fill_value":"","filters":null,"order":"C" => unsupported codec vlen-utf8: {}
+"compressor":{"id":"pcodec"},"dtype":"|O","fill_value":"","filters":[],"order":"C" => unsupported codec pcodec: {}
+"#;
+
+// The array of one dimension that has these members in addition.
+fn array_of(alloc: Global, members: &str) -> Result<ArrayMetadataV2, MetadataFault> {
+    let document = format!(in alloc;
+        "{{\"chunks\":[1],\"shape\":[1],\"zarr_format\":2,{members}}}"
+    )?;
+    ArrayMetadataV2::from_bytes(alloc, document.as_bytes())
+}
+
+// The codecs as a list.
+fn codecs_text(codecs: &Vec<MetadataV3>, alloc: Global) -> Result<String, AllocError> {
+    let mut text = String::from_str(alloc, "[")?;
+    for codec in codecs {
+        if text.len() > 1 {
+            text.push_str(",")?;
+        }
+        codec.write(alloc, &mut text)?;
+    }
+    text.push_str("]")?;
+    Ok(text)
+}
+
+// The byte order of an array's data type.
+fn order_of(alloc: Global, array: &ArrayMetadataV2) -> Option<Endianness> {
+    match data_type_metadata_v2_to_endianness(alloc, &array.dtype) {
+        Ok(order) => order,
+        Err(_) => None,
+    }
+}
+
+// The codecs of an array, for this data type of version 3.
+fn codecs_for(
+    alloc: Global,
+    array: &ArrayMetadataV2,
+    data_type: &MetadataV3,
+) -> Result<String, AllocError> {
+    let answer = codec_metadata_v2_to_v3(
+        alloc,
+        array.order,
+        array.shape.as_slice().len(),
+        data_type,
+        order_of(alloc, array),
+        &array.filters,
+        &array.compressor,
+    );
+    told(alloc, answer, codecs_text, refusal)
+}
+
+// The codecs of the array of these members, for the data type of version 3 of this name, or the text of the fault.
+fn codecs_of(alloc: Global, members: &str, data_type: &str) -> Result<String, AllocError> {
+    match array_of(alloc, members) {
+        Ok(array) => codecs_for(alloc, &array, &named(alloc, data_type)),
+        Err(fault) => format!(in alloc; "{fault}"),
+    }
+}
+
+fn codecs_of_numbers(alloc: Global, members: &str) -> Result<String, AllocError> {
+    codecs_of(alloc, members, "int16")
+}
+
+fn codecs_of_texts(alloc: Global, members: &str) -> Result<String, AllocError> {
+    codecs_of(alloc, members, "string")
+}
+
+#[test]
+fn arrays_of_numbers_have_codecs_in_version_3(rt: HostRuntime) -> Result<(), Fail> {
+    check_rows(rt.alloc(), CODECS, codecs_of_numbers)
+}
+
+#[test]
+fn arrays_of_texts_have_codecs_in_version_3(rt: HostRuntime) -> Result<(), Fail> {
+    check_rows(rt.alloc(), CODECS, codecs_of_texts)
+}

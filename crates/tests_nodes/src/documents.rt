@@ -1,0 +1,204 @@
+//! What stands at one path of a store: a document, attributes, the block that is used of it, the line that shows it.
+
+use crate::given::store_in;
+use std::alloc::{AllocError, Global};
+use std::test::Fail;
+use zarrs_block::{ConsolidatedMetadata, NodeCreateError};
+use zarrs_meta::{AttributesDocument, GroupMetadataV2};
+use zarrs_node::documents::{attributes_at, document_at};
+use zarrs_node::{NodeLine, consolidated_metadata_at, walk_nodes, zmetadata_at};
+use zarrs_path::NodePath;
+use tests_fixtures::{ANY, key_of, metadata_in, paths_text, policy_of};
+use tests_support::{check_rows, fields, printed, said};
+use zarrs_store::StorageError;
+
+// ---- documents
+
+// The document of a group of version 2 at a key, or `none`.
+fn group_at(alloc: Global, given: &str) -> Result<Option<GroupMetadataV2>, StorageError> {
+    let (key, documents) = fields(given);
+    let store = store_in(alloc, documents)?;
+    document_at(alloc, &store, key_of(alloc, key)?)
+}
+
+fn group_text(group: &Option<GroupMetadataV2>, alloc: Global) -> Result<String, AllocError> {
+    match group {
+        Some(group) => group.to_text(alloc),
+        None => String::from_str(alloc, "none"),
+    }
+}
+
+fn group_said(alloc: Global, given: &str) -> Result<String, AllocError> {
+    said(alloc, group_at(alloc, given), group_text)
+}
+
+// A key and a store; the group of version 2 that stands there, or the error.
+const GROUPS: &str = r#"
+a/.zgroup | a/.zgroup {"attributes":{"k":1},"zarr_format":2} => {"attributes":{"k":1},"zarr_format":2}
+b/.zgroup | a/.zgroup g2 => none
+a | a/.zgroup g2;a nul => error parsing metadata for a: not JSON
+a/.zgroup | a/.zgroup g3 => error parsing metadata for a/.zgroup: wrong zarr_format
+"#;
+
+#[test]
+fn a_document_is_read_at_its_key(rt: HostRuntime) -> Result<(), Fail> {
+    check_rows(rt.alloc(), GROUPS, group_said)
+}
+
+// The attributes beside the documents of a path, or `none`.
+fn attributes_of(alloc: Global, given: &str) -> Result<Option<AttributesDocument>, NodeCreateError> {
+    let (path, documents) = fields(given);
+    let path = NodePath::new(alloc, path)?;
+    let store = store_in(alloc, documents)?;
+    Ok(attributes_at(alloc, &store, &path)?)
+}
+
+fn attributes_text(
+    attributes: &Option<AttributesDocument>,
+    alloc: Global,
+) -> Result<String, AllocError> {
+    match attributes {
+        Some(attributes) => attributes.to_text(alloc),
+        None => String::from_str(alloc, "none"),
+    }
+}
+
+fn attributes_said(alloc: Global, given: &str) -> Result<String, AllocError> {
+    said(alloc, attributes_of(alloc, given), attributes_text)
+}
+
+// A path and a store; the attributes in `.zattrs`, or the error.
+const ATTRIBUTES: &str = r#"
+/a | a/.zattrs {"k":[1,"x"]} => {"k":[1,"x"]}
+/ | .zattrs {} => {}
+/a | .zattrs {};a/.zgroup g2 => none
+/a | a/.zattrs [] => error parsing metadata for a/.zattrs: not an object
+"#;
+
+#[test]
+fn attributes_are_read_beside_a_path(rt: HostRuntime) -> Result<(), Fail> {
+    check_rows(rt.alloc(), ATTRIBUTES, attributes_said)
+}
+
+// ---- blocks
+
+fn block_text(block: &Option<ConsolidatedMetadata>, alloc: Global) -> Result<String, AllocError> {
+    match block {
+        Some(block) => block.to_value(alloc)?.to_string(alloc),
+        None => String::from_str(alloc, "none"),
+    }
+}
+
+// The block that the document `.zmetadata` of a path is.
+fn beside(alloc: Global, given: &str) -> Result<Option<ConsolidatedMetadata>, NodeCreateError> {
+    let (path, documents) = fields(given);
+    let path = NodePath::new(alloc, path)?;
+    let store = store_in(alloc, documents)?;
+    Ok(zmetadata_at(alloc, &store, &path)?)
+}
+
+fn beside_said(alloc: Global, given: &str) -> Result<String, AllocError> {
+    said(alloc, beside(alloc, given), block_text)
+}
+
+// A path and a store; the block that `.zmetadata` of the path is.
+const BESIDE: &str = r#"
+/g | g/.zmetadata {"metadata":{"a/.zgroup":{"zarr_format":2}},"zarr_consolidated_format":1} => {"kind":"inline","metadata":{"a":{"zarr_format":2}},"must_understand":false}
+/g | g/.zmetadata {"metadata":{"a/.zgroup":{}},"zarr_consolidated_format":1} => none
+/g | g/.zmetadata {"metadata":{},"zarr_consolidated_format":2} => none
+/g | g/.zmetadata nul => none
+/g | g/.zgroup g2 => none
+"#;
+
+#[test]
+fn a_block_is_read_beside_a_path(rt: HostRuntime) -> Result<(), Fail> {
+    check_rows(rt.alloc(), BESIDE, beside_said)
+}
+
+// The block that a policy uses of the node at a path.
+fn used(alloc: Global, given: &str) -> Result<Option<ConsolidatedMetadata>, NodeCreateError> {
+    let (policy, rest) = fields(given);
+    let (path, documents) = fields(rest);
+    let policy = policy_of(alloc, policy)?;
+    let store = store_in(alloc, documents)?;
+    let metadata = metadata_in(alloc, &store, path, ANY)?;
+    let path = NodePath::new(alloc, path)?;
+    consolidated_metadata_at(alloc, &store, &path, &metadata, policy)
+}
+
+fn used_said(alloc: Global, given: &str) -> Result<String, AllocError> {
+    said(alloc, used(alloc, given), block_text)
+}
+
+// A policy, a path and a store; the block that is used, or the error.
+const USED: &str = r#"
+# of version 3 the block in the metadata, whatever stands beside them
+auto | / | zarr.json {"consolidated_metadata":{"kind":"inline","metadata":{"a":{"node_type":"group","zarr_format":3}},"must_understand":false},"node_type":"group","zarr_format":3} => {"kind":"inline","metadata":{"a":{"node_type":"group","zarr_format":3}},"must_understand":false}
+auto | / | zarr.json g3;.zmetadata {"metadata":{"a/.zgroup":{"zarr_format":2}},"zarr_consolidated_format":1} => none
+must | / | zarr.json g3 => Metadata is missing for Consolidated metadata required but missing on group /
+
+# of version 2 the block beside them
+auto | / | .zgroup g2;.zmetadata {"metadata":{"a/.zgroup":{"zarr_format":2}},"zarr_consolidated_format":1} => {"kind":"inline","metadata":{"a":{"zarr_format":2}},"must_understand":false}
+never | / | .zgroup g2;.zmetadata {"metadata":{"a/.zgroup":{"zarr_format":2}},"zarr_consolidated_format":1} => none
+must | /g | g/.zgroup g2;.zmetadata {"metadata":{},"zarr_consolidated_format":1} => Metadata is missing for Consolidated metadata required but missing on group /g
+
+# of an array none
+auto | /a | a/.zarray a2;a/.zmetadata {"metadata":{},"zarr_consolidated_format":1} => none
+"#;
+
+#[test]
+fn a_block_is_used_from_where_the_version_has_it(rt: HostRuntime) -> Result<(), Fail> {
+    check_rows(rt.alloc(), USED, used_said)
+}
+
+// ---- lines
+
+// The line that shows the node at a path.
+fn line_of(alloc: Global, given: &str) -> Result<String, NodeCreateError> {
+    let (path, documents) = fields(given);
+    let store = store_in(alloc, documents)?;
+    let metadata = metadata_in(alloc, &store, path, ANY)?;
+    let path = NodePath::new(alloc, path)?;
+    Ok(printed(&NodeLine::at(&path, &metadata), alloc)?)
+}
+
+// A path and a store; the line of its node.
+const LINES: &str = r#"
+/ | zarr.json g3 => \n
+/a/b | a/b/zarr.json g3 => b\n
+/a/c | a/c/zarr.json square => c [10, 10] float32\n
+/d | d/.zarray a2 => d [1] Simple("<f8")\n
+"#;
+
+#[test]
+fn a_node_is_shown_by_its_last_name(rt: HostRuntime) -> Result<(), Fail> {
+    check_rows(rt.alloc(), LINES, line_of)
+}
+
+// ---- the walk
+
+// The paths that a walk below the root hands to a sink, one a line.
+fn told(alloc: Global, documents: &str) -> Result<Vec<NodePath>, NodeCreateError> {
+    let store = store_in(alloc, documents)?;
+    let root = NodePath::root(alloc)?;
+    let mut paths = Vec::<NodePath>::new(alloc);
+    let ignored = walk_nodes(alloc, &store, &root, true, &ANY, &mut paths)?;
+    drop(ignored);
+    Ok(paths)
+}
+
+fn told_said(alloc: Global, given: &str) -> Result<String, AllocError> {
+    said(alloc, told(alloc, given), paths_text)
+}
+
+// A store; the paths of its nodes, as a walk hands them on.
+const TOLD: &str = r#"
+zarr.json g3 =>
+zarr.json g3;a/zarr.json g3;a/x/zarr.json g3;a-b/zarr.json g3;c/y/zarr.json g3 => /a\n/a/x\n/a-b\n
+a/zarr.json nul => error parsing metadata for a/zarr.json: not JSON
+"#;
+
+#[test]
+fn a_walk_hands_each_node_to_a_sink(rt: HostRuntime) -> Result<(), Fail> {
+    check_rows(rt.alloc(), TOLD, told_said)
+}

@@ -1,0 +1,86 @@
+//! What a path means, and whether a node is there.
+
+use crate::given::store_in;
+use std::alloc::{AllocError, Global};
+use std::test::Fail;
+use zarrs_block::NodeCreateError;
+use zarrs_meta::NodeMetadata;
+use zarrs_node::{node_exists, node_exists_listable};
+use zarrs_path::NodePath;
+use tests_fixtures::{metadata_in, version_of};
+use tests_support::{check_rows, fields, said};
+
+// The metadata that a row asks for: the path, the version, and the store.
+fn metadata_given(alloc: Global, given: &str) -> Result<NodeMetadata, NodeCreateError> {
+    let (path, rest) = fields(given);
+    let (version, documents) = fields(rest);
+    let version = version_of(alloc, version)?;
+    let store = store_in(alloc, documents)?;
+    metadata_in(alloc, &store, path, version)
+}
+
+fn metadata_said(alloc: Global, given: &str) -> Result<String, AllocError> {
+    said(alloc, metadata_given(alloc, given), NodeMetadata::to_text)
+}
+
+// Path, version and store; the text of the metadata, or of the error.
+const MEANS: &str = r#"
+# a path without documents is missing
+/ | any | node/array/zarr.json nul => Metadata is missing for /
+/node | any | node/array/zarr.json nul => Metadata is missing for /node
+/node/array | any | node/array/zarr.json nul => error parsing metadata for node/array/zarr.json: not JSON
+node | any | node/array/zarr.json nul => invalid node path node
+
+# an empty store has no metadata
+/ | any | => Metadata is missing for /
+
+# an array stands before a group of version 2
+/p | any | p/.zarray a2;p/.zgroup [] => {"chunks":[1],"compressor":null,"dimension_separator":".","dtype":"<f8","fill_value":"NaN","filters":null,"order":"C","shape":[1],"zarr_format":2}
+
+# a stored array is read
+/node | any | node/zarr.json {"chunk_grid":{"configuration":{"chunk_shape":[1,1,1]},"name":"regular"},"chunk_key_encoding":{"configuration":{"separator":"/"},"name":"default"},"codecs":[{"configuration":{"endian":"little"},"name":"bytes"}],"data_type":"float32","fill_value":0,"node_type":"array","shape":[1,2,3],"zarr_format":3} => {"chunk_grid":{"configuration":{"chunk_shape":[1,1,1]},"name":"regular"},"chunk_key_encoding":{"configuration":{"separator":"/"},"name":"default"},"codecs":[{"configuration":{"endian":"little"},"name":"bytes"}],"data_type":"float32","fill_value":0,"node_type":"array","shape":[1,2,3],"zarr_format":3}
+
+# version 2 at the key of version 3 is a mismatch
+/ | any | zarr.json g2 => Found V2 metadata in V3 key or vice-versa
+/ | v3 | zarr.json g2 => Found V2 metadata in V3 key or vice-versa
+/ | v2 | zarr.json g2 => Metadata is missing for /
+
+# a version limits which keys are read
+/g | any | g/zarr.json g3;g/.zgroup g2 => {"node_type":"group","zarr_format":3}
+/g | v3 | g/zarr.json g3;g/.zgroup g2 => {"node_type":"group","zarr_format":3}
+/g | v2 | g/zarr.json g3;g/.zgroup g2 => {"zarr_format":2}
+
+# attributes beside a document replace its own
+/g | any | g/.zgroup {"attributes":{"own":1},"zarr_format":2};g/.zattrs {"k":1} => {"attributes":{"k":1},"zarr_format":2}
+"#;
+
+#[test]
+fn a_path_means_what_its_documents_say(rt: HostRuntime) -> Result<(), Fail> {
+    check_rows(rt.alloc(), MEANS, metadata_said)
+}
+
+// Whether a node is there, by the keys of its documents and by the keys of its folder: at the path of a row, in its store.
+fn existence(alloc: Global, given: &str) -> Result<String, NodeCreateError> {
+    let (path, documents) = fields(given);
+    let path = NodePath::new(alloc, path)?;
+    let store = store_in(alloc, documents)?;
+    let by_key = node_exists(alloc, &store, &path)?;
+    let by_folder = node_exists_listable(alloc, &store, &path)?;
+    Ok(format!(in alloc; "{by_key} {by_folder}")?)
+}
+
+// Path and store; whether a node is there, by either call.
+const EXISTENCE: &str = r#"
+/a | a/.zattrs {} => false false
+/a | a/.zattrs {};b/zarr.json x;c/.zarray;d/.zgroup;e/zarr.json/x => false false
+/b | a/.zattrs {};b/zarr.json x;c/.zarray;d/.zgroup;e/zarr.json/x => true true
+/c | a/.zattrs {};b/zarr.json x;c/.zarray;d/.zgroup;e/zarr.json/x => true true
+/d | a/.zattrs {};b/zarr.json x;c/.zarray;d/.zgroup;e/zarr.json/x => true true
+/e | a/.zattrs {};b/zarr.json x;c/.zarray;d/.zgroup;e/zarr.json/x => false false
+/ | a/.zattrs {};b/zarr.json x;c/.zarray;d/.zgroup;e/zarr.json/x => false false
+"#;
+
+#[test]
+fn a_node_exists_where_one_of_its_documents_is(rt: HostRuntime) -> Result<(), Fail> {
+    check_rows(rt.alloc(), EXISTENCE, existence)
+}
