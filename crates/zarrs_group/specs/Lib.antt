@@ -6,6 +6,8 @@ pub mod GivesBack
 pub mod Groups
 pub mod Laws
 pub mod Layout
+pub mod Lending
+pub mod StepsOfLending
 pub mod LentAttributes
 pub mod Meaning
 pub mod OpeningGroups

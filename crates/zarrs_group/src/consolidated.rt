@@ -1,5 +1,6 @@
 //! The consolidated block of a group.
 ghost use Rattle.std.specs.Prelude.{◌≡◌, [], ◌∷◌, codes, IfOk, IfErr, OnOk, OnErr};
+ghost use Rattle.std.specs.Borrow.{sem};
 ghost use Rattle.serde_json.specs.Data.{put};
 ghost use Rattle.zarrs_form.specs.Documents.{besides};
 ghost use Rattle.zarrs_form.specs.Fields.{field_data};
@@ -8,6 +9,8 @@ ghost use Rattle.zarrs_block.specs.Block.{block_tree};
 ghost use Rattle.zarrs_block.specs.Policy.{as_block};
 ghost use Rattle.zarrs_group.specs.BlocksBeside.{IsBeside};
 ghost use Rattle.zarrs_group.specs.BlocksOfGroups.{held_by, fields_with, metadata_with, with_block, Fits, RefusesBlock, CanHold};
+ghost use Rattle.zarrs_group.specs.Lending.{Rests};
+ghost use Rattle.zarrs_group.specs.StepsOfLending.{RestsLent, group_lent};
 
 use crate::group::Group;
 use std::alloc::{AllocError, Global};
@@ -45,16 +48,15 @@ impl Group {
     /// - `NodePathError` where a key of the block is not names joined by slashes, also behind one slash.
     /// - `MetadataVersionMismatch` where an entry of the block is of version 3.
     ///
-    /// Of either, `OutOfMemory` when out of memory. After an error nothing is changed, as
-    /// [`Group::replace_consolidated_metadata`] promises.
+    /// Of either, `OutOfMemory` when out of memory. After an error nothing is changed.
     ///
     /// Source: `zarrs::group::Group::set_consolidated_metadata`; zarr-python, consolidated metadata of version 2.
-    #[tactic(auto, using(crate::proofs::BlockFields::held_once_set))]
     pub fn set_consolidated_metadata(
         &mut self,
         alloc: Global,
         consolidated_metadata: Option<ConsolidatedMetadata>,
     ) -> Result<&mut Group, NodeCreateError>
+        ensures* rests { sem 𝓛 (Rests self.entry result) }
         ensures same { IfOk result (λ group. group.ghost_name ≡ self.entry.ghost_name) }
         ensures ok { IfOk result
             (λ group. group.now ≡ with_block self.old (as_block consolidated_metadata)) }
@@ -65,12 +67,27 @@ impl Group {
         ensures err { IfErr result
             (RefusesBlock self.old.metadata (as_block consolidated_metadata)) }
     {
-        self.replace_consolidated_metadata(alloc, consolidated_metadata)?;
-        Ok(self)
+        into_group(self.set_lent(alloc, consolidated_metadata))
     }
 
-    /// Sets or removes the consolidated block, as [`Group::set_consolidated_metadata`] does by this call. It lends nothing, so its contract
-    /// can say what a refusal leaves.
+    // Sets or removes the block, and lends the group on in a struct, where the prover shows by itself what a refusal leaves.
+    fn set_lent(
+        &mut self,
+        alloc: Global,
+        block: Option<ConsolidatedMetadata>,
+    ) -> Result<LentGroup<'_>, NodeCreateError>
+        ensures* rests { sem 𝓛 (RestsLent self.entry result) }
+        ensures same { IfOk result (λ lent. lent.group.ghost_name ≡ self.entry.ghost_name) }
+        ensures ok { IfOk result (λ lent. lent.group.now ≡ with_block self.old (as_block block)) }
+        ensures fits { IfOk result (λ _. Fits self.old.metadata (as_block block)) }
+        ensures err { IfErr result (RefusesBlock self.old.metadata (as_block block)) }
+    {
+        self.replace_consolidated_metadata(alloc, block)?;
+        Ok(LentGroup { group: self })
+    }
+
+    /// Sets or removes the consolidated block, as [`Group::set_consolidated_metadata`] does by this call. It lends nothing, so the proof of a
+    /// caller that goes on after a refusal finds by itself that nothing is changed.
     ///
     /// # Errors
     ///
@@ -92,6 +109,25 @@ impl Group {
                 Ok(())
             }
         }
+    }
+}
+
+// A group that is lent on, in a struct.
+#[derive(Drop)]
+struct LentGroup<'a> {
+    group: &'a mut Group,
+}
+
+// The group that is lent in the struct, or the refusal.
+fn into_group(lent: Result<LentGroup<'_>, NodeCreateError>) -> Result<&mut Group, NodeCreateError>
+    ensures { result ≡ group_lent lent.entry }
+{
+    match lent {
+        Ok(lent) => {
+            let LentGroup { group } = lent;
+            Ok(group)
+        }
+        Err(error) => Err(error),
     }
 }
 
