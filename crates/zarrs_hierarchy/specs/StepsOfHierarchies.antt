@@ -1,5 +1,5 @@
 -- Steps of hierarchies: where a path stands among ascending pairs, and what a private walk takes; no public contract rests on them.
-use Rattle.std.specs.Prelude.{◌≡◌, ℕ, ◌<◌, ◌≤◌, length, ◌-◌, List}
+use Rattle.std.specs.Prelude.{◌≡◌, ℕ, ◌<◌, ◌≤◌, length, List}
 use Rattle.std.specs.declared.cmp.Ordering.TheVariants.{Less, Greater}
 use Rattle.std.specs.List.{AllWithin, HoldsAt, filter}
 use Rattle.zarrs_path.specs.Paths.{Path, path_cmp}

@@ -1,11 +1,9 @@
 -- Steps of loading a store: what private calls find and refuse; no public contract rests on them.
 use Rattle.std.specs.Prelude.{ℕ, List, All, Vec, ⊤, Option, string_bytes}
 use Rattle.std.specs.declared.alloc.Global.{Global}
-use Rattle.std.specs.FinMap as map
 use Rattle.zarrs_store.specs.Segments.{Segments, key_text}
 use Rattle.zarrs_load.specs.Folder.{IsFound}
-use Rattle.serde_json.specs.Data.{Data, object}
-use Rattle.serde_json.specs.Read.{read}
+use Rattle.serde_json.specs.Data.{Data}
 use Rattle.zarrs_load.specs.Reading.{RefusedReading}
 use Rattle.zarrs_load.specs.declared.fault.LoadFault.{LoadFault}
 use Rattle.zarrs_load.specs.declared.fault.LoadFault.TheVariants.{Image, ImageKey, ImageValue, OutOfMemory}

@@ -8,8 +8,6 @@ use Rattle.zarrs_tool.specs.Output.{word_text, IsCommand, WritesOutput, WritesOf
 use Rattle.zarrs_path.specs.Paths.{Path}
 use Rattle.zarrs_block.specs.declared.node_create_error.NodeCreateError.{NodeCreateError}
 use Rattle.zarrs_config.specs.declared.version.UseConsolidatedMetadata.TheVariants.{Auto, Never}
-use Rattle.zarrs_block.specs.Meaning.{node}
-use Rattle.zarrs_load.specs.declared.fault.LoadFault.TheVariants as load
 use Rattle.zarrs_tool.specs.declared.fault.ToolFault.{ToolFault}
 use Rattle.zarrs_tool.specs.declared.fault.ToolFault.TheVariants.{NotAGroup, Node, OutOfMemory}
 use Rattle.zarrs_tool.specs.declared.run.Word.{Word}
