@@ -2,17 +2,14 @@
 use Rattle.std.specs.Prelude.{◌≡◌, Bool, IsTrue, Option, Some, None, false}
 use Rattle.zarrs_store.specs.declared.storage_error.StorageError.{StorageError}
 use Rattle.zarrs_store.specs.declared.storage_error.StorageError.TheVariants.{Fault, InvalidMetadata, Other, OutOfMemory}
-use Rattle.zarrs_config.specs.declared.version.MetadataRetrieveVersion.TheVariants as version
 use Rattle.zarrs_meta.specs.declared.node.GroupMetadata.{GroupMetadata}
 use Rattle.zarrs_meta.specs.declared.node.NodeMetadata.TheVariants.{Group}
 use Rattle.zarrs_block.specs.declared.node_create_error.NodeCreateError.TheVariants as refused
 use Rattle.zarrs_block.specs.Meaning.{Meaning, node, nothing, bad}
-use Rattle.std.specs.FinMap as map
 use Rattle.zarrs_group.specs.declared.edit.Edit.{Edit as RustEdit}
 use Rattle.zarrs_group.specs.declared.edit.Edit.TheVariants.{Set, Erase}
-use Rattle.zarrs_group.specs.Edits.{Edit}
+use Rattle.zarrs_group.specs.Edits.{Edit, set, remove}
 use Rattle.serde_json.specs.Data.{object, Members}
-use Rattle.zarrs_config.specs.declared.version.MetadataEraseVersion.TheVariants as version
 use Rattle.zarrs_form.specs.Documents.{is_empty}
 use Rattle.zarrs_meta.specs.GroupV3.{group_v3_tree}
 use Rattle.zarrs_meta.specs.GroupV2.{group_v2_tree}
