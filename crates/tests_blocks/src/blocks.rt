@@ -1,6 +1,7 @@
 use serde_json::Value;
 use std::alloc::{AllocError, Global};
 use std::test::Fail;
+use tests_support::{check_rows, fields};
 use zarrs_block::{
     ConsolidatedMetadata, ConsolidatedMetadataMetadata, NodeCreateError,
     consolidated_metadata_for_open, consolidated_metadata_of, expand_consolidated_metadata, laws,
@@ -9,7 +10,6 @@ use zarrs_block::{
 use zarrs_config::UseConsolidatedMetadata;
 use zarrs_meta::NodeMetadata;
 use zarrs_path::NodePath;
-use tests_support::{check_rows, fields};
 use zarrs_store::{MetadataFault, StorageError, StoreKey, StorePrefix};
 
 // ---- errors

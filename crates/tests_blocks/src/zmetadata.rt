@@ -1,8 +1,8 @@
 use serde_json::Value;
 use std::alloc::{AllocError, Global};
 use std::test::Fail;
-use zarrs_block::ConsolidatedMetadata;
 use tests_support::check_rows;
+use zarrs_block::ConsolidatedMetadata;
 use zarrs_store::MetadataFault;
 
 // A document as zarr-python 2 writes it.

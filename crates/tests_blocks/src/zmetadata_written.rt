@@ -2,9 +2,9 @@ use crate::blocks::block_of;
 use serde_json::Value;
 use std::alloc::{AllocError, Global};
 use std::test::Fail;
+use tests_support::{check_rows, fields};
 use zarrs_block::NodeCreateError;
 use zarrs_meta::GroupMetadataV2;
-use tests_support::{check_rows, fields};
 use zarrs_store::MetadataFault;
 
 // The document of a group and those of a block at their keys, and the document of both.

@@ -6,6 +6,7 @@ use serde_json::{Map, Value};
 use std::alloc::{AllocError, Global};
 use std::fmt::Display;
 use std::test::Fail;
+use tests_support::{check_rows, said, with_lines};
 use zarrs_convert::{
     ArrayMetadataV2ToV3Error, DataTypeMetadataV2EndiannessError, array_metadata_v2_to_v3,
     group_metadata_v2_to_v3, laws,
@@ -15,7 +16,6 @@ use zarrs_meta::{
     ArrayMetadataV2, ArrayMetadataV3, FillValueMetadata, GroupMetadataV2, GroupMetadataV3, List,
     MetadataV3, Object, Text,
 };
-use tests_support::{check_rows, said, with_lines};
 
 // ---- what the tests share
 

@@ -5,9 +5,9 @@ use crate::given::members_of;
 use serde_json::Value;
 use std::alloc::{AllocError, AllocFailed, Global};
 use std::test::Fail;
+use tests_support::{check_rows, fields, said};
 use zarrs_convert::{ArrayMetadataV2ToV3Error, DataTypeMetadataV2EndiannessError};
 use zarrs_meta::{DataTypeMetadataV2, FillValueMetadata, Text};
-use tests_support::{check_rows, fields, said};
 
 // ---- errors of conversion
 

@@ -6,6 +6,7 @@ use log::sink::Writer;
 use serde_json::{Map, put};
 use std::alloc::{AllocError, Global};
 use std::test::Fail;
+use tests_support::{check_rows, fields, said, with_lines};
 use zarrs_convert::{
     codec_metadata_v2_to_v3, data_type_metadata_v2_to_endianness, data_type_metadata_v2_to_v3,
     fill_value_metadata_v2_to_v3,
@@ -13,7 +14,6 @@ use zarrs_convert::{
 use zarrs_fault::MetadataFault;
 use zarrs_form::{Form, required};
 use zarrs_meta::{ArrayMetadataV2, DataTypeMetadataV2, Endianness, FillValueMetadata, MetadataV3};
-use tests_support::{check_rows, fields, said, with_lines};
 
 // What a text reads as in the form of a type.
 fn read_as<T: Form + Drop>(alloc: Global, text: &str) -> Result<T, MetadataFault> {

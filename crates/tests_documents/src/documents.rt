@@ -4,12 +4,12 @@ use crate::asserts::assert_says;
 use serde_json::Value;
 use std::alloc::{AllocError, Global};
 use std::test::Fail;
+use tests_support::{A3, check_rows, fields, made, said};
 use zarrs_fault::MetadataFault;
 use zarrs_meta::{
     ArrayMetadata, ArrayMetadataV2, ArrayMetadataV3, AttributesDocument, BoxedArray, Document,
     GroupMetadata, GroupMetadataV2, GroupMetadataV3, NodeMetadata, ZarrJson, laws,
 };
-use tests_support::{A3, check_rows, fields, made, said};
 
 // ---- what the document types have in common
 
@@ -238,11 +238,7 @@ pub(crate) fn agreed(
 
 // The text of a document, and of the value that is written of it: one and the same.
 fn written_both<D: Written>(document: &D, alloc: Global) -> Result<String, AllocError> {
-    agreed(
-        alloc,
-        document.text(alloc),
-        written_text(document, alloc),
-    )
+    agreed(alloc, document.text(alloc), written_text(document, alloc))
 }
 
 // The document of the value that a text is.

@@ -5,6 +5,7 @@ use crate::given::{members_of, number_of, value_of};
 use serde_json::{Map, Value};
 use std::alloc::{AllocError, Global};
 use std::test::Fail;
+use tests_support::{check_rows, fields, said};
 use zarrs_fault::MetadataFault;
 use zarrs_form::{
     AdditionalFieldsV3, ArrayMetadataV2Order, ChunkKeySeparator, DataTypeMetadataV2, Duplicate,
@@ -13,7 +14,6 @@ use zarrs_form::{
     members_have_float, open_table, optional, parse, put_member, put_text, put_unless, refuse,
     required, take_member, take_null, write_entry, write_last, write_row, write_unless,
 };
-use tests_support::{check_rows, fields, said};
 
 // ---- what the tests share
 

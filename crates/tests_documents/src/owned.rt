@@ -4,10 +4,10 @@ use crate::given::value_of;
 use serde_json::Value;
 use std::alloc::{AllocError, Global};
 use std::test::Fail;
+use tests_support::{check_rows, fields, said};
 use zarrs_fault::MetadataFault;
 use zarrs_form::document;
 use zarrs_meta::{ArrayMetadataV2, AttributesDocument, GroupMetadataV2, NodeMetadata};
-use tests_support::{check_rows, fields, said};
 
 fn array_of_members(alloc: Global, value: Value) -> Result<ArrayMetadataV2, MetadataFault> {
     ArrayMetadataV2::from_members(alloc, document(value)?)
@@ -51,8 +51,16 @@ fn members_say(alloc: Global, given: &str) -> Result<String, AllocError> {
     let (kind, text) = fields(given);
     let value = value_of(alloc, text);
     match kind {
-        "array" => said(alloc, array_of_members(alloc, value), ArrayMetadataV2::to_text),
-        "group" => said(alloc, group_of_members(alloc, value), GroupMetadataV2::to_text),
+        "array" => said(
+            alloc,
+            array_of_members(alloc, value),
+            ArrayMetadataV2::to_text,
+        ),
+        "group" => said(
+            alloc,
+            group_of_members(alloc, value),
+            GroupMetadataV2::to_text,
+        ),
         "attributes" => {
             let attributes = attributes_of_members(alloc, value);
             said(alloc, attributes, AttributesDocument::to_text)

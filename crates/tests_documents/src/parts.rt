@@ -5,13 +5,13 @@ use crate::given::{number_of, object_of, value_of};
 use serde_json::{Map, Value};
 use std::alloc::{AllocError, Global};
 use std::test::Fail;
+use tests_support::{A2, check_rows, fields, made, printed, said};
 use zarrs_fault::MetadataFault;
 use zarrs_meta::{
     AdditionalFieldV3, AdditionalFieldsV3, ArrayMetadataV2, ArrayMetadataV3, DataTypeMetadataV2,
     Endianness, FillValueMetadata, GroupMetadataV2, GroupMetadataV3, Json, List, MetadataV2,
     MetadataV3, Object, Text,
 };
-use tests_support::{A2, check_rows, fields, made, printed, said};
 
 // ---- small parts: what each says of itself, of its copy, and once it was taken apart and put together
 

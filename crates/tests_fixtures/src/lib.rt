@@ -6,13 +6,13 @@ mod words;
 
 use log::sink::Discard;
 use std::alloc::{AllocError, Global};
+use tests_support::G3;
 pub use words::{no_word, policy_of, version_of};
 use zarrs_block::{ConsolidatedMetadataMetadata, NodeCreateError};
 use zarrs_config::{Config, MetadataRetrieveVersion, UseConsolidatedMetadata};
 use zarrs_meta::NodeMetadata;
 use zarrs_node::{ListedNodes, ListedPaths, Node, get_child_nodes, list_nodes, list_paths};
 use zarrs_path::NodePath;
-use tests_support::G3;
 use zarrs_store::{
     ListableStorageTraits, MemoryStore, ReadableStorageTraits, StorageError, StoreKey,
     StoreKeyError, WritableStorageTraits,

@@ -4,12 +4,12 @@
 #![tactic(auto)]
 
 use std::alloc::{AllocError, Global};
+use tests_fixtures::{A3_SQUARE, both};
+use tests_support::G3;
 use zarrs_block::{ConsolidatedMetadata, ConsolidatedMetadataMetadata, NodeCreateError};
 use zarrs_config::{Config, GroupMetadataOptions, MetadataConvertVersion, MetadataEraseVersion};
 use zarrs_group::{Group, GroupCreateError};
 use zarrs_meta::{GroupMetadata, GroupMetadataV3, NodeMetadata};
-use tests_fixtures::{A3_SQUARE, both};
-use tests_support::G3;
 use zarrs_store::{MetadataFault, StorageError, WritableStorageTraits};
 
 /// The fault of a document as a refusal.
@@ -137,7 +137,8 @@ pub const LEVELS: [(&str, &str); 3] = [
 ];
 
 /// The nodes of that block, with their metadata.
-pub const LEVELS_DATA: &str = r#"/group/array {"chunk_grid":{"configuration":{"chunk_shape":[10,10]},"name":"regular"},"chunk_key_encoding":{"configuration":{"separator":"/"},"name":"default"},"codecs":[{"configuration":{"endian":"little"},"name":"bytes"}],"data_type":"float32","fill_value":0,"node_type":"array","shape":[10,10],"zarr_format":3}
+pub const LEVELS_DATA: &str =
+    r#"/group/array {"chunk_grid":{"configuration":{"chunk_shape":[10,10]},"name":"regular"},"chunk_key_encoding":{"configuration":{"separator":"/"},"name":"default"},"codecs":[{"configuration":{"endian":"little"},"name":"bytes"}],"data_type":"float32","fill_value":0,"node_type":"array","shape":[10,10],"zarr_format":3}
 /group/subgroup {"node_type":"group","zarr_format":3}
 /group/subgroup/mysubarray {"chunk_grid":{"configuration":{"chunk_shape":[10,10]},"name":"regular"},"chunk_key_encoding":{"configuration":{"separator":"/"},"name":"default"},"codecs":[{"configuration":{"endian":"little"},"name":"bytes"}],"data_type":"float32","fill_value":0,"node_type":"array","shape":[10,10],"zarr_format":3}
 "#;

@@ -6,12 +6,6 @@ use crate::rows::{entries, store_in, text_of};
 use log::sink::{Discard, Writer};
 use std::alloc::{AllocError, Global};
 use std::test::Fail;
-use zarrs_block::{ConsolidatedMetadata, ConsolidatedMetadataMetadata, NodeCreateError};
-use zarrs_config::{Config, UseConsolidatedMetadata};
-use zarrs_group::{Group, GroupCreateError};
-use zarrs_meta::{GroupMetadata, GroupMetadataV2, NodeMetadata};
-use zarrs_node::Node;
-use zarrs_path::NodePath;
 use tests_fixtures::{
     A3_SQUARE, THREE_LEVELS, both, config_of, forest_data, forest_text, key_of, no_word, node_at,
     pairs_text, paths_text, policy_of, store_of,
@@ -20,6 +14,12 @@ use tests_group_fixtures::{
     LEVELS, Set, block_of, changed, group_of, groups_text, set, set_in, with_block,
 };
 use tests_support::{A2, G2, G3, check_rows, fields, said};
+use zarrs_block::{ConsolidatedMetadata, ConsolidatedMetadataMetadata, NodeCreateError};
+use zarrs_config::{Config, UseConsolidatedMetadata};
+use zarrs_group::{Group, GroupCreateError};
+use zarrs_meta::{GroupMetadata, GroupMetadataV2, NodeMetadata};
+use zarrs_node::Node;
+use zarrs_path::NodePath;
 use zarrs_store::{
     ListableStorageTraits, MemoryStore, ReadableStorageTraits, StorageError, WritableStorageTraits,
 };

@@ -4,6 +4,9 @@ use crate::rows::store_in;
 use serde_json::{Map, Value};
 use std::alloc::{AllocError, Global};
 use std::test::Fail;
+use tests_fixtures::{config_of as config_by, no_word, policy_of, version_of};
+use tests_group_fixtures::{Step, done};
+use tests_support::{check_rows, fields};
 use zarrs_block::NodeCreateError;
 use zarrs_config::{Config, GroupMetadataOptions, MetadataConvertVersion, MetadataEraseVersion};
 use zarrs_group::{AdditionalFieldUnsupportedError, Group, GroupBuilder, GroupCreateError, laws};
@@ -11,9 +14,6 @@ use zarrs_meta::{
     AdditionalFieldV3, AdditionalFieldsV3, GroupMetadata, GroupMetadataV2, GroupMetadataV3, Object,
 };
 use zarrs_path::{NodePath, NodePathError};
-use tests_fixtures::{config_of as config_by, no_word, policy_of, version_of};
-use tests_group_fixtures::{Step, done};
-use tests_support::{check_rows, fields};
 use zarrs_store::{
     MemoryStore, ReadableStorageTraits, StorageError, StoreKey, StorePrefix, WritableStorageTraits,
 };

@@ -1,9 +1,9 @@
 //! What the rows of the tables name: documents, and stores made from lists of keys and documents.
 
 use std::alloc::{AllocError, Global};
-use zarrs_group::GroupCreateError;
 use tests_fixtures::A3_SQUARE;
 use tests_support::{A2, A3, G2, G3};
+use zarrs_group::GroupCreateError;
 use zarrs_store::MemoryStore;
 
 /// A group with attributes and with other members.

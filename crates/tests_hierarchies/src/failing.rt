@@ -17,6 +17,15 @@ ghost use Rattle.zarrs_group.specs.StoringGroups.{store_edits, erase_edits, Refu
 use log::sink::Discard;
 use std::alloc::{AllocError, Global};
 use std::test::Fail;
+use tests_fixtures::{
+    A3_SQUARE, ANY, THREE_LEVELS, config_of, entries_of, forest_data, forest_text, key_of,
+    keys_text, listed_in, listing_text, metadata_in, pairs_text, paths_listed_in,
+    paths_listing_text, paths_text, store_of, with_block,
+};
+use tests_group_fixtures::{
+    LEVELS, LEVELS_DATA, Step, done, groups_text, levels, refused, with_block as with_block_of,
+};
+use tests_support::{A2, G2, G3, check_rows, fields, said};
 use zarrs_block::{ConsolidatedMetadataMetadata, NodeCreateError};
 use zarrs_config::{
     Config, GroupMetadataOptions, MetadataConvertVersion, MetadataEraseVersion,
@@ -30,15 +39,6 @@ use zarrs_node::{
     node_exists_listable, refresh_block,
 };
 use zarrs_path::NodePath;
-use tests_fixtures::{
-    A3_SQUARE, ANY, THREE_LEVELS, config_of, entries_of, forest_data, forest_text, key_of, keys_text,
-    listed_in, listing_text, metadata_in, pairs_text, paths_listed_in, paths_listing_text, paths_text,
-    store_of, with_block,
-};
-use tests_group_fixtures::{
-    LEVELS, LEVELS_DATA, Step, done, groups_text, levels, refused, with_block as with_block_of,
-};
-use tests_support::{A2, G2, G3, check_rows, fields, said};
 use zarrs_store::{
     FaultAt, FaultStore, ListableStorageTraits, MemoryStore, ReadableStorageTraits, StorageError,
     StorePrefix, StorePrefixError, WritableStorageTraits,

@@ -8,6 +8,8 @@ use log::sink::{Discard, Writer};
 use std::alloc::{AllocError, Global};
 use std::fmt::Display;
 use std::test::Fail;
+use tests_fixtures::{config_of, policy_of, version_of};
+use tests_support::{check_rows, fields, printed, said, with_lines};
 use zarrs_block::NodeCreateError;
 use zarrs_config::{Config, MetadataRetrieveVersion};
 use zarrs_group::{Group, GroupCreateError};
@@ -16,8 +18,6 @@ use zarrs_meta::{
     ArrayMetadata, ArrayMetadataV2, ArrayMetadataV3, GroupMetadata, GroupMetadataV3, NodeMetadata,
 };
 use zarrs_path::NodePath;
-use tests_fixtures::{config_of, policy_of, version_of};
-use tests_support::{check_rows, fields, printed, said, with_lines};
 use zarrs_store::{MemoryStore, MetadataFault, StorageError};
 
 // What is seen of a hierarchy by the word of a row.

@@ -4,9 +4,9 @@ use crate::stores::{seen, store_in};
 use log::sink::Discard;
 use std::alloc::{AllocError, Global};
 use std::test::Fail;
-use zarrs_node::Node;
 use tests_fixtures::{config_of, policy_of};
 use tests_support::{check_rows, fields};
+use zarrs_node::Node;
 use zarrs_store::StorageError;
 
 // What is seen of a node: the text of it and of what is below it, or the metadata of its children.

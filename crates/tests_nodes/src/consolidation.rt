@@ -4,12 +4,12 @@ use crate::given::{document_name, list_of, pairs_in, store_in};
 use log::sink::Discard;
 use std::alloc::{AllocError, Global};
 use std::test::Fail;
+use tests_fixtures::{ANY, metadata_at, no_word, node_at};
+use tests_support::{check_rows, fields, said};
 use zarrs_block::{ConsolidatedMetadataMetadata, NodeCreateError};
 use zarrs_meta::{GroupMetadata, GroupMetadataV3, NodeMetadata};
 use zarrs_node::{Node, consolidate_nodes_of, laws};
 use zarrs_path::NodePath;
-use tests_fixtures::{ANY, metadata_at, no_word, node_at};
-use tests_support::{check_rows, fields, said};
 
 // A line for each key of a block, with the word for its document, or the document; or `no block`.
 fn lines_text(

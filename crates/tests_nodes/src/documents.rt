@@ -3,13 +3,13 @@
 use crate::given::store_in;
 use std::alloc::{AllocError, Global};
 use std::test::Fail;
+use tests_fixtures::{ANY, key_of, metadata_in, paths_text, policy_of};
+use tests_support::{check_rows, fields, printed, said};
 use zarrs_block::{ConsolidatedMetadata, NodeCreateError};
 use zarrs_meta::{AttributesDocument, GroupMetadataV2};
 use zarrs_node::documents::{attributes_at, document_at};
 use zarrs_node::{NodeLine, consolidated_metadata_at, walk_nodes, zmetadata_at};
 use zarrs_path::NodePath;
-use tests_fixtures::{ANY, key_of, metadata_in, paths_text, policy_of};
-use tests_support::{check_rows, fields, printed, said};
 use zarrs_store::StorageError;
 
 // ---- documents
@@ -46,7 +46,10 @@ fn a_document_is_read_at_its_key(rt: HostRuntime) -> Result<(), Fail> {
 }
 
 // The attributes beside the documents of a path, or `none`.
-fn attributes_of(alloc: Global, given: &str) -> Result<Option<AttributesDocument>, NodeCreateError> {
+fn attributes_of(
+    alloc: Global,
+    given: &str,
+) -> Result<Option<AttributesDocument>, NodeCreateError> {
     let (path, documents) = fields(given);
     let path = NodePath::new(alloc, path)?;
     let store = store_in(alloc, documents)?;

@@ -3,12 +3,12 @@
 use crate::given::store_in;
 use std::alloc::{AllocError, Global};
 use std::test::Fail;
+use tests_fixtures::{metadata_in, version_of};
+use tests_support::{check_rows, fields, said};
 use zarrs_block::NodeCreateError;
 use zarrs_meta::NodeMetadata;
 use zarrs_node::{node_exists, node_exists_listable};
 use zarrs_path::NodePath;
-use tests_fixtures::{metadata_in, version_of};
-use tests_support::{check_rows, fields, said};
 
 // The metadata that a row asks for: the path, the version, and the store.
 fn metadata_given(alloc: Global, given: &str) -> Result<NodeMetadata, NodeCreateError> {

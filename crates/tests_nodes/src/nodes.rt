@@ -5,6 +5,8 @@ use log::Log;
 use log::sink::{Discard, Writer};
 use std::alloc::{AllocError, Global};
 use std::test::Fail;
+use tests_fixtures::{ANY, forest_text, pairs_text, paths_text, version_of};
+use tests_support::{G3, check_rows, fields, printed, said, with_lines};
 use zarrs_block::NodeCreateError;
 use zarrs_config::MetadataRetrieveVersion;
 use zarrs_meta::{GroupMetadata, GroupMetadataV3, NodeMetadata};
@@ -13,8 +15,6 @@ use zarrs_node::{
     get_child_paths_opt, laws, walk_child_nodes,
 };
 use zarrs_path::{NodePath, NodePathError, meta_key_v3};
-use tests_fixtures::{ANY, forest_text, pairs_text, paths_text, version_of};
-use tests_support::{G3, check_rows, fields, printed, said, with_lines};
 use zarrs_store::{MemoryStore, WritableStorageTraits};
 
 // The version of `zarr.json` alone.

@@ -4,6 +4,10 @@ use crate::given::{is_all, pairs_in, store_in};
 use log::sink::{Discard, Writer};
 use std::alloc::{AllocError, Global};
 use std::test::Fail;
+use tests_fixtures::{
+    ANY, config_of, forest_text, metadata_at, no_word, policy_of, version_of, with_block,
+};
+use tests_support::{check_rows, fields, said};
 use zarrs_block::{ConsolidatedMetadata, ConsolidatedMetadataMetadata, NodeCreateError};
 use zarrs_config::Config;
 use zarrs_meta::NodeMetadata;
@@ -11,10 +15,6 @@ use zarrs_node::{
     Node, build_node_tree, build_node_tree_counted, direct_children_from_flat, nodes_of_block,
 };
 use zarrs_path::NodePath;
-use tests_fixtures::{
-    ANY, config_of, forest_text, metadata_at, no_word, policy_of, version_of, with_block,
-};
-use tests_support::{check_rows, fields, said};
 use zarrs_store::MemoryStore;
 
 // ---- trees of pairs

@@ -5,12 +5,12 @@ use log::sink::Discard;
 use std::alloc::{AllocError, Global};
 use std::process::Abort;
 use std::test::Fail;
+use tests_fixtures::{ANY, entries_of, key_of, keys_text};
+use tests_support::{A3, G3, check_rows, fields, said};
 use zarrs_block::{ConsolidatedMetadataMetadata, NodeCreateError};
 use zarrs_meta::{GroupMetadata, GroupMetadataV3, NodeMetadata};
 use zarrs_node::{Node, get_child_nodes, laws, refresh_block, refresh_owned_block};
 use zarrs_path::NodePath;
-use tests_fixtures::{ANY, entries_of, key_of, keys_text};
-use tests_support::{A3, G3, check_rows, fields, said};
 use zarrs_store::{
     ListableStorageTraits, MemoryStore, ReadableStorageTraits, StorageError, WritableStorageTraits,
 };

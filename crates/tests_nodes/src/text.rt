@@ -3,12 +3,12 @@
 use crate::given::store_in;
 use std::alloc::{AllocError, Global};
 use std::test::Fail;
+use tests_fixtures::{ANY, listed_in};
+use tests_support::{check_rows, said};
 use zarrs_block::NodeCreateError;
 use zarrs_meta::{GroupMetadata, GroupMetadataV3, NodeMetadata};
 use zarrs_node::{ListedNodes, Node};
 use zarrs_path::NodePath;
-use tests_fixtures::{ANY, listed_in};
-use tests_support::{check_rows, said};
 
 // All that is listed of a store.
 fn all_of(alloc: Global, documents: &str) -> Result<ListedNodes, NodeCreateError> {

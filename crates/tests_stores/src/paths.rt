@@ -3,11 +3,11 @@ use std::alloc::{AllocError, AllocFailed, Global};
 use std::cmp::Ordering;
 use std::hash::{BuildHasher, BuildHasherDefault, FoldHasher};
 use std::test::Fail;
+use tests_support::{check_rows, fields};
 use zarrs_path::{
     NodeName, NodeNameError, NodePath, NodePathError, data_key, laws, meta_key, meta_key_v2_array,
     meta_key_v2_attributes, meta_key_v2_consolidated, meta_key_v2_group, meta_key_v3,
 };
-use tests_support::{check_rows, fields};
 use zarrs_store::{StoreKey, StoreKeyError, StorePrefix, StorePrefixError};
 
 // That a row has no answer.

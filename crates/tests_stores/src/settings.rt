@@ -1,11 +1,11 @@
 // Each configuration and each value of options is read from a word, and answers its settings by their names.
 use std::alloc::{AllocError, Global};
 use std::test::Fail;
+use tests_support::check_rows;
 use zarrs_config::{
     Config, GroupMetadataOptions, MetadataConvertVersion, MetadataEraseVersion,
     UseConsolidatedMetadata,
 };
-use tests_support::check_rows;
 
 fn convert_word(version: MetadataConvertVersion) -> &'static str {
     match version {

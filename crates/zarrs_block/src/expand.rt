@@ -55,7 +55,7 @@ pub(crate) fn pairs_of(
 ) -> Result<(Vec<(NodePath, NodeMetadata)>, bool), NodeCreateError>
     ensures pairs { IfOk result
         (λ made. made.0.items
-            ≡ pairs_at (paths_at path.now block.metadata block.metadata) block.metadata) }
+        ≡ pairs_at (paths_at path.now block.metadata block.metadata) block.metadata) }
     ensures ascend { IfOk result (λ made. IsTrue made.1 → Ascend made.0.items) }
     ensures keys { IfOk result (λ _. HasValidKeys block.metadata) }
     ensures ordered { IfOk result (λ _. IsAscending block.metadata) }
@@ -83,7 +83,7 @@ fn covered_keys(
 ) -> Result<Map<String, ()>, AllocError>
     ensures { IfOk result
         (λ covered. (t : List ℕ) → IsSome (node_at_key block.now t)
-            → is_some (get_by_text covered t) ≡ is_covered block.now t) }
+        → is_some (get_by_text covered t) ≡ is_covered block.now t) }
 {
     let mut covered = Map::new(alloc);
     for key in keys_below(alloc, block, "")? {
@@ -113,9 +113,9 @@ fn path_of(
 ) -> Result<Option<NodePath>, NodePathError>
     ensures path { IfOk result
         (λ path. path
-            ≡ (if is_nil (relative_names key.now) || is_some
-                (get_by_text covered.now key.now) then None else Some
-                (base.now ++ relative_names key.now))) }
+        ≡ (if is_nil (relative_names key.now) || is_some
+        (get_by_text covered.now key.now) then None else Some
+        (base.now ++ relative_names key.now))) }
     ensures valid { IfOk result (λ _. IsValidKey key.now) }
     ensures err { IfErr result (RefusesJoin key.now) }
 {

@@ -106,7 +106,7 @@ pub fn consolidated_metadata_for_open(
         (λ chosen. block_to_use (block_in metadata.now) policy ≡ Some (as_block chosen)) }
     ensures err { IfErr result
         (λ e. RefusesUse path.now (block_to_use (block_in metadata.now) policy) e
-            ⊎ LacksBlockMemory metadata.now policy e) }
+        ⊎ LacksBlockMemory metadata.now policy e) }
 {
     if let UseConsolidatedMetadata::Never = policy {
         return Ok(None);

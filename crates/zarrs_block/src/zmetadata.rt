@@ -50,7 +50,7 @@ impl ConsolidatedMetadata {
         ensures gives { Gives (λ block. block.metadata) result (zmetadata_of (view value.now)) }
         ensures store { IfOk result
             (λ block. (ms : Members) × (zmetadata_members (view value.now) ≡ Ok ms)
-                × HoldsStore ms block.metadata × IsClean ms) }
+            × HoldsStore ms block.metadata × IsClean ms) }
         ensures refused { IfErr result (λ fault. (fault ≡ MetadataFault.OutOfMemory)
             ⊎ IsZmetadataFault (view value.now) fault) }
         ensures ascending { IfOk result (λ block. IsAscending block.metadata) }
@@ -72,7 +72,7 @@ impl ConsolidatedMetadata {
         ensures gives { Gives (λ block. block.metadata) result (zmetadata_of (view value)) }
         ensures store { IfOk result
             (λ block. (ms : Members) × (zmetadata_members (view value) ≡ Ok ms)
-                × HoldsStore ms block.metadata × IsClean ms) }
+            × HoldsStore ms block.metadata × IsClean ms) }
         ensures refused { IfErr result (λ fault. (fault ≡ MetadataFault.OutOfMemory)
             ⊎ IsZmetadataFault (view value) fault) }
         ensures ascending { IfOk result (λ block. IsAscending block.metadata) }
@@ -231,7 +231,7 @@ impl Documents {
 fn runs_of(alloc: Global, documents: Map<String, Value>) -> Result<Vec<Run>, MetadataFault>
     ensures all { IfOk result
         (λ runs. (t : List ℕ) (file : File)
-            → tree_among runs.items t file ≡ member_at (members_view documents.entries) t file) }
+        → tree_among runs.items t file ≡ member_at (members_view documents.entries) t file) }
     ensures named { IfOk result (λ _. IsTrue (are_named (members_view documents.entries))) }
     ensures err { IfErr result (RefusesNames (members_view documents.entries)) }
 {
@@ -261,10 +261,10 @@ fn put_document(
 ) -> Result<Run, AllocError>
     ensures { IfOk result
         (λ next. (t : List ℕ) (other : File)
-            → gathered_at runs.new.items next t other
-            ≡ (if bytes_eq path.now t
-                && is_file file other then Some
-                (view document) else gathered_at runs.old.items run t other)) }
+        → gathered_at runs.new.items next t other
+        ≡ (if bytes_eq path.now t
+        && is_file file other then Some
+        (view document) else gathered_at runs.old.items run t other)) }
 {
     let Run {
         path,
@@ -279,7 +279,7 @@ fn run_of(alloc: Global, runs: &mut Vec<Run>, run: Run, path: &str) -> Result<Ru
     ensures path { IfOk result (λ next. string_bytes next.path ≡ path.now) }
     ensures same { IfOk result
         (λ next. (t : List ℕ) (file : File)
-            → gathered_at runs.new.items next t file ≡ gathered_at runs.old.items run t file) }
+        → gathered_at runs.new.items next t file ≡ gathered_at runs.old.items run t file) }
 {
     if run.path.as_str() == path {
         return Ok(run);
@@ -295,7 +295,7 @@ fn run_of(alloc: Global, runs: &mut Vec<Run>, run: Run, path: &str) -> Result<Ru
 fn sorted(mut runs: Vec<Run>) -> Result<Vec<Run>, AllocError>
     ensures same { IfOk result
         (λ all. (t : List ℕ) (file : File)
-            → tree_among all.items t file ≡ tree_among runs.items t file) }
+        → tree_among all.items t file ≡ tree_among runs.items t file) }
     ensures sorted { IfOk result (λ all. IsSortedBy is_before all.items) }
 {
     runs.sort_by(|a, b| a.path.cmp(&b.path))?;
@@ -307,7 +307,7 @@ fn joined(alloc: Global, runs: Vec<Run>) -> Result<Vec<Run>, AllocError>
     requires { IsSortedBy is_before runs.items }
     ensures same { IfOk result
         (λ all. (t : List ℕ) (file : File)
-            → tree_among all.items t file ≡ tree_among runs.items t file) }
+        → tree_among all.items t file ≡ tree_among runs.items t file) }
     ensures ascend { IfOk result (λ all. RunsAscend all.items) }
 {
     let mut all = Vec::new(alloc);
@@ -417,7 +417,7 @@ fn read_array(
     requires attributes { IfSome (option_map view attributes) (λ d. has_float d ≡ false) }
     ensures { Gives (λ node. node) result
         (read_with array_v2_of (λ m. Array (array_v2 m)) array_with (view value)
-            (option_map view attributes)) }
+        (option_map view attributes)) }
 {
     let mut array = asked_array(alloc, value)?;
     if let Some(value) = attributes {
@@ -437,7 +437,7 @@ fn read_group(
     requires attributes { IfSome (option_map view attributes) (λ d. has_float d ≡ false) }
     ensures { Gives (λ node. node) result
         (read_with group_v2_of (λ m. Group (group_v2 m)) group_with (view value)
-            (option_map view attributes)) }
+        (option_map view attributes)) }
 {
     let mut group = asked_group(alloc, value)?;
     if let Some(value) = attributes {

@@ -94,7 +94,7 @@ fn put_node(
 ) -> Result<(), NodeCreateError>
     ensures ok { OnOk result
         (members_view documents.new.entries
-            ≡ put_documents path.now (node_written node) (members_view documents.old.entries)) }
+        ≡ put_documents path.now (node_written node) (members_view documents.old.entries)) }
     ensures version { OnOk result (IsTrue (is_version_2 node)) }
     ensures err { IfErr result (RefusesWritingNode node) }
 {
@@ -122,8 +122,8 @@ fn put_group(
 ) -> Result<(), AllocError>
     ensures { OnOk result
         (members_view documents.new.entries
-            ≡ put_documents path.now (node_written (Group (group_v2 group)))
-            (members_view documents.old.entries)) }
+        ≡ put_documents path.now (node_written (Group (group_v2 group)))
+        (members_view documents.old.entries)) }
 {
     let attributes = replace(&mut group.attributes, Object::new(alloc));
     put_attributes(documents, alloc, path, attributes)?;
@@ -140,8 +140,8 @@ fn put_array(
 ) -> Result<(), AllocError>
     ensures { OnOk result
         (members_view documents.new.entries
-            ≡ put_documents path.now (node_written (Array (array_v2 array)))
-            (members_view documents.old.entries)) }
+        ≡ put_documents path.now (node_written (Array (array_v2 array)))
+        (members_view documents.old.entries)) }
 {
     let attributes = replace(&mut array.attributes, Object::new(alloc));
     put_attributes(documents, alloc, path, attributes)?;
@@ -158,8 +158,8 @@ fn put_attributes(
 ) -> Result<(), AllocError>
     ensures { OnOk result
         (members_view documents.new.entries
-            ≡ put_documents path.now (attributes_written attributes)
-            (members_view documents.old.entries)) }
+        ≡ put_documents path.now (attributes_written attributes)
+        (members_view documents.old.entries)) }
 {
     if attributes.is_empty() {
         return Ok(());

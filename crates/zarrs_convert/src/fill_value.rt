@@ -80,7 +80,7 @@ fn default_value(alloc: Global, name: &str) -> Result<Value, ArrayMetadataV2ToV3
 fn string_value(alloc: Global, value: &Value) -> Result<Value, AllocError>
     ensures { IfOk result
         (λ made. view made
-            ≡ (if is_fill_number 0 (view value.now) then string [] else view value.now)) }
+        ≡ (if is_fill_number 0 (view value.now) then string [] else view value.now)) }
 {
     if is_number(value, 0) {
         return Ok(Value::String(String::new(alloc)));
@@ -92,8 +92,8 @@ fn string_value(alloc: Global, value: &Value) -> Result<Value, AllocError>
 fn bool_value(value: &Value) -> Result<Value, AllocError>
     ensures { IfOk result
         (λ made. view made
-            ≡ (if is_fill_number 0 (view value.now) then boolean false else
-                (if is_fill_number 1 (view value.now) then boolean true else view value.now))) }
+        ≡ (if is_fill_number 0 (view value.now) then boolean false else
+        (if is_fill_number 1 (view value.now) then boolean true else view value.now))) }
 {
     if is_number(value, 0) {
         return Ok(Value::Bool(false));

@@ -28,7 +28,7 @@ pub(crate) fn number_of(digits: &str) -> Option<u64>
     requires { IsTrue (is_decimal digits.now) }
     ensures { result
         ≡ (if fits_u64 (digits_value 10 digits.now) then Some
-            (digits_value 10 digits.now) else None) }
+        (digits_value 10 digits.now) else None) }
 {
     digits.parse().ok()
 }

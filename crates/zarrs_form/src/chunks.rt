@@ -133,7 +133,7 @@ pub fn chunk_lengths(
 ) -> Result<List<u64>, MetadataFault>
     ensures gives { Gives (λ x. x) result
         (documents.required_member name.now chunk_lengths
-            (object (members_view members.old.entries))) }
+        (object (members_view members.old.entries))) }
     ensures left { members_view members.new.entries
         ≡ besides (name.now ∷ []) (members_view members.old.entries) }
 {

@@ -63,8 +63,8 @@ pub trait Form: Sized {
             → string_bytes out.new ≡ string_bytes out.old ++ compact_text (written self.now)) }
         ensures err { OnErr result
             (IsTrue (fits self.now)
-                → BeginsWith (string_bytes out.old ++ compact_text (written self.now))
-                (string_bytes out.new)) }
+            → BeginsWith (string_bytes out.old ++ compact_text (written self.now))
+            (string_bytes out.new)) }
         ensures kept { BeginsWith (string_bytes out.new) (string_bytes out.old) };
 }
 
@@ -353,7 +353,7 @@ pub fn optional<T: Form + Drop>(
 ) -> Result<T, MetadataFault>
     ensures gives { Gives (λ x. x) result
         (documents.optional_member name.now absent T.form
-            (object (members_view members.old.entries))) }
+        (object (members_view members.old.entries))) }
     ensures left { members_view members.new.entries
         ≡ besides (name.now ∷ []) (members_view members.old.entries) }
 {
@@ -377,7 +377,7 @@ pub fn optional<T: Form + Drop>(
 pub fn attributes(alloc: Global, members: &mut Map<String, Value>) -> Result<Object, MetadataFault>
     ensures gives { Gives (λ x. x) result
         (documents.optional_member (codes "attributes") no_members as_object
-            (object (members_view members.old.entries))) }
+        (object (members_view members.old.entries))) }
     ensures left { members_view members.new.entries
         ≡ besides (codes "attributes" ∷ []) (members_view members.old.entries) }
 {
@@ -397,8 +397,8 @@ pub fn put_member<T: Form>(
 ) -> Result<(), AllocError>
     ensures ok { OnOk result
         (members_view members.new.entries
-            ≡ put_row name.now (option_map (λ x. T.written x.now) value.entry)
-            (members_view members.old.entries)) }
+        ≡ put_row name.now (option_map (λ x. T.written x.now) value.entry)
+        (members_view members.old.entries)) }
     ensures unchanged { OnErr result (members.new.entries ≡ members.old.entries) }
 {
     match value {
@@ -421,8 +421,8 @@ pub fn put_unless<T: Form>(
 ) -> Result<(), AllocError>
     ensures ok { OnOk result
         (members_view members.new.entries
-            ≡ put_row name.now (forms.unless is_empty (T.written value.now))
-            (members_view members.old.entries)) }
+        ≡ put_row name.now (forms.unless is_empty (T.written value.now))
+        (members_view members.old.entries)) }
     ensures unchanged { OnErr result (members.new.entries ≡ members.old.entries) }
 {
     if is_empty {

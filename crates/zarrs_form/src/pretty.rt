@@ -26,8 +26,8 @@ pub fn write_entry(
 ) -> Result<(), AllocError>
     ensures ok { OnOk result
         (has_float (view value.now) ≡ false
-            → string_bytes out.new ≡ string_bytes out.old
-            ++ entry_text later name.now (view value.now)) }
+        → string_bytes out.new ≡ string_bytes out.old
+        ++ entry_text later name.now (view value.now)) }
 {
     write_comma(out, later)?;
     out.push_str("\n    ")?;

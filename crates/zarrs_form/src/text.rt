@@ -89,12 +89,12 @@ pub(crate) fn write_members(
 ) -> Result<(), AllocError>
     ensures ok { OnOk result
         (written.members_have_float (members_view members.now) ≡ false
-            → string_bytes out.new ≡ string_bytes out.old
-            ++ compact_text (object (members_view members.now))) }
+        → string_bytes out.new ≡ string_bytes out.old
+        ++ compact_text (object (members_view members.now))) }
     ensures err { OnErr result
         (written.members_have_float (members_view members.now) ≡ false
-            → BeginsWith (string_bytes out.old ++ compact_text (object (members_view members.now)))
-            (string_bytes out.new)) }
+        → BeginsWith (string_bytes out.old ++ compact_text (object (members_view members.now)))
+        (string_bytes out.new)) }
     ensures kept { BeginsWith (string_bytes out.new) (string_bytes out.old) }
 {
     out.push_str("{")?;
@@ -139,13 +139,13 @@ pub fn write_row<T: Form>(
 ) -> Result<(), AllocError>
     ensures ok { OnOk result
         (IsTrue (none_or T.fits (option_copied value.entry))
-            → string_bytes out.new ≡ string_bytes out.old
-            ++ row_text name.now (option_map T.written (option_copied value.entry))) }
+        → string_bytes out.new ≡ string_bytes out.old
+        ++ row_text name.now (option_map T.written (option_copied value.entry))) }
     ensures err { OnErr result
         (IsTrue (none_or T.fits (option_copied value.entry))
-            → BeginsWith (string_bytes out.old
-                ++ row_text name.now (option_map T.written (option_copied value.entry)))
-            (string_bytes out.new)) }
+        → BeginsWith (string_bytes out.old
+        ++ row_text name.now (option_map T.written (option_copied value.entry)))
+        (string_bytes out.new)) }
     ensures kept { BeginsWith (string_bytes out.new) (string_bytes out.old) }
 {
     let Some(value) = value else {
@@ -172,13 +172,13 @@ pub fn write_unless<T: Form>(
 ) -> Result<(), AllocError>
     ensures ok { OnOk result
         (IsTrue (T.fits value.now)
-            → string_bytes out.new ≡ string_bytes out.old
-            ++ row_text name.now (forms.unless is_empty (T.written value.now))) }
+        → string_bytes out.new ≡ string_bytes out.old
+        ++ row_text name.now (forms.unless is_empty (T.written value.now))) }
     ensures err { OnErr result
         (IsTrue (T.fits value.now)
-            → BeginsWith (string_bytes out.old
-                ++ row_text name.now (forms.unless is_empty (T.written value.now)))
-            (string_bytes out.new)) }
+        → BeginsWith (string_bytes out.old
+        ++ row_text name.now (forms.unless is_empty (T.written value.now)))
+        (string_bytes out.new)) }
     ensures kept { BeginsWith (string_bytes out.new) (string_bytes out.old) }
 {
     if is_empty {
@@ -202,13 +202,13 @@ pub fn write_last<T: Form>(
 ) -> Result<(), AllocError>
     ensures ok { OnOk result
         (IsTrue (T.fits last.now)
-            → string_bytes out.new ≡ string_bytes out.old
-            ++ members_text false (member name.now (T.written last.now) no_members)) }
+        → string_bytes out.new ≡ string_bytes out.old
+        ++ members_text false (member name.now (T.written last.now) no_members)) }
     ensures err { OnErr result
         (IsTrue (T.fits last.now)
-            → BeginsWith (string_bytes out.old
-                ++ members_text false (member name.now (T.written last.now) no_members))
-            (string_bytes out.new)) }
+        → BeginsWith (string_bytes out.old
+        ++ members_text false (member name.now (T.written last.now) no_members))
+        (string_bytes out.new)) }
     ensures kept { BeginsWith (string_bytes out.new) (string_bytes out.old) }
 {
     write_name(alloc, out, name)?;

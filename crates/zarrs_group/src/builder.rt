@@ -93,7 +93,7 @@ impl GroupBuilder {
         ensures block { IfOk result (λ group. group.block ≡ None) }
         ensures choices { IfOk result
             (λ group. (group.convert_version ≡ config.now.convert_version)
-                × (group.erase_version ≡ config.now.erase_version)) }
+            × (group.erase_version ≡ config.now.erase_version)) }
         ensures err { IfErr result (RefusesMaking path.now) }
     {
         let metadata = self.metadata.try_clone(alloc)?;

@@ -51,12 +51,12 @@ impl Group {
     ) -> Result<Vec<Node>, NodeCreateError>
         ensures shows { IfOk result
             (λ nodes. ShowsChildren (S.contents storage.now) self.now config.now recursive
-                (forest nodes.items)) }
+            (forest nodes.items)) }
         ensures clean { IfOk result
             (λ _. IsCleanBelow (S.contents storage.now) self.now config.now recursive) }
         ensures refused { IfErr result
             (RefusesChildren (S.can_fail storage.now)
-                (S.contents storage.now) self.now config.now recursive) }
+            (S.contents storage.now) self.now config.now recursive) }
     {
         match self.used_block(alloc, config)? {
             Some(block) => nodes_of_block(alloc, self.path(), block, recursive),
@@ -86,7 +86,7 @@ impl Group {
             (λ _. IsCleanBelow (S.contents storage.now) self.now config.now true) }
         ensures refused { IfErr result
             (RefusesChildren (S.can_fail storage.now)
-                (S.contents storage.now) self.now config.now true) }
+            (S.contents storage.now) self.now config.now true) }
     {
         match self.used_block(alloc, config)? {
             Some(block) => expand_consolidated_metadata(alloc, self.path(), block),
@@ -116,8 +116,8 @@ impl Group {
     ) -> Result<Vec<Group>, GroupCreateError>
         ensures groups { IfOk result
             (λ groups. (es : List (Path × Metadata))
-                × AreChildren (S.contents storage.now) self.now config.now es
-                × (groups.items ≡ groups_of config.now es)) }
+            × AreChildren (S.contents storage.now) self.now config.now es
+            × (groups.items ≡ groups_of config.now es)) }
         ensures clean { IfOk result
             (λ _. IsCleanBelow (S.contents storage.now) self.now config.now false) }
         ensures refused { IfErr result
@@ -145,13 +145,13 @@ impl Group {
     ) -> Result<Vec<NodePath>, NodeCreateError>
         ensures paths { IfOk result
             (λ paths. (es : List (Path × Metadata))
-                × AreChildren (S.contents storage.now) self.now config.now es
-                × (paths.items ≡ map (λ e. e.0) es)) }
+            × AreChildren (S.contents storage.now) self.now config.now es
+            × (paths.items ≡ map (λ e. e.0) es)) }
         ensures clean { IfOk result
             (λ _. IsCleanBelow (S.contents storage.now) self.now config.now false) }
         ensures refused { IfErr result
             (RefusesChildren (S.can_fail storage.now)
-                (S.contents storage.now) self.now config.now false) }
+            (S.contents storage.now) self.now config.now false) }
     {
         let nodes = self.children(log, alloc, storage, config, false)?;
         Ok(paths_of(alloc, nodes)?)
@@ -173,13 +173,13 @@ impl Group {
     ) -> Result<Vec<NodePath>, NodeCreateError>
         ensures paths { IfOk result
             (λ paths. (es : List (Path × Metadata))
-                × AreChildren (S.contents storage.now) self.now config.now es
-                × (paths.items ≡ map (λ e. e.0) (filter (λ e. is_group e.1) es))) }
+            × AreChildren (S.contents storage.now) self.now config.now es
+            × (paths.items ≡ map (λ e. e.0) (filter (λ e. is_group e.1) es))) }
         ensures clean { IfOk result
             (λ _. IsCleanBelow (S.contents storage.now) self.now config.now false) }
         ensures refused { IfErr result
             (RefusesChildren (S.can_fail storage.now)
-                (S.contents storage.now) self.now config.now false) }
+            (S.contents storage.now) self.now config.now false) }
     {
         let nodes = self.children(log, alloc, storage, config, false)?;
         Ok(group_paths_of(alloc, nodes)?)
@@ -201,13 +201,13 @@ impl Group {
     ) -> Result<Vec<NodePath>, NodeCreateError>
         ensures paths { IfOk result
             (λ paths. (es : List (Path × Metadata))
-                × AreChildren (S.contents storage.now) self.now config.now es
-                × (paths.items ≡ map (λ e. e.0) (filter (λ e. not (is_group e.1)) es))) }
+            × AreChildren (S.contents storage.now) self.now config.now es
+            × (paths.items ≡ map (λ e. e.0) (filter (λ e. not (is_group e.1)) es))) }
         ensures clean { IfOk result
             (λ _. IsCleanBelow (S.contents storage.now) self.now config.now false) }
         ensures refused { IfErr result
             (RefusesChildren (S.can_fail storage.now)
-                (S.contents storage.now) self.now config.now false) }
+            (S.contents storage.now) self.now config.now false) }
     {
         let nodes = self.children(log, alloc, storage, config, false)?;
         Ok(array_paths_of(alloc, nodes)?)
@@ -223,7 +223,7 @@ impl Group {
             (λ block. block_choice self.now config.now ≡ Some (as_block block)) }
         ensures err { IfErr result
             (λ e. RefusesUse self.now.path (block_choice self.now config.now) e
-                ⊎ (e ≡ NodeCreateError.OutOfMemory)) }
+            ⊎ (e ≡ NodeCreateError.OutOfMemory)) }
     {
         let policy = config.use_consolidated_metadata();
         if let UseConsolidatedMetadata::Never = policy {
@@ -238,7 +238,7 @@ impl Group {
 fn groups_among(alloc: Global, nodes: Vec<Node>, config: &Config) -> Result<Vec<Group>, AllocError>
     ensures { IfOk result
         (λ groups. groups.items
-            ≡ groups_of config.now (map (λ n. (path_of n, metadata_of n)) nodes.items)) }
+        ≡ groups_of config.now (map (λ n. (path_of n, metadata_of n)) nodes.items)) }
 {
     let mut groups = Vec::new(alloc);
     for node in nodes {
@@ -294,7 +294,7 @@ fn group_paths_of(alloc: Global, nodes: Vec<Node>) -> Result<Vec<NodePath>, Allo
 fn array_paths_of(alloc: Global, nodes: Vec<Node>) -> Result<Vec<NodePath>, AllocError>
     ensures { IfOk result
         (λ paths. paths.items
-            ≡ map path_of (filter (λ n. not (is_group (metadata_of n))) nodes.items)) }
+        ≡ map path_of (filter (λ n. not (is_group (metadata_of n))) nodes.items)) }
 {
     nodes
         .into_iter()

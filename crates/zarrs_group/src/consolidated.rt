@@ -62,7 +62,7 @@ impl Group {
             (λ group. group.now ≡ with_block self.old (as_block consolidated_metadata)) }
         ensures held { IfOk result
             (λ group. CanHold self.old (as_block consolidated_metadata)
-                → held_by group.now ≡ as_block consolidated_metadata) }
+            → held_by group.now ≡ as_block consolidated_metadata) }
         ensures fits { IfOk result (λ _. Fits self.old.metadata (as_block consolidated_metadata)) }
         ensures err { IfErr result
             (RefusesBlock self.old.metadata (as_block consolidated_metadata)) }

@@ -27,7 +27,7 @@ impl Edit {
         ensures err { IfErr result (IsStoreError (S.can_fail storage.old)) }
         ensures others { OnErr result
             (AgreesExceptAt (edit_key (edit_of self.now)) (S.contents storage.old)
-                (S.contents storage.new)) }
+            (S.contents storage.new)) }
         ensures nature { S.can_fail storage.new ≡ S.can_fail storage.old }
     {
         match self {

@@ -91,7 +91,7 @@ impl Group {
         ensures block { IfOk result (λ group. group.block ≡ None) }
         ensures choices { IfOk result
             (λ group. (group.convert_version ≡ config.now.convert_version)
-                × (group.erase_version ≡ config.now.erase_version)) }
+            × (group.erase_version ≡ config.now.erase_version)) }
         ensures err { IfErr result (RefusesMaking path.now) }
     {
         let path = NodePath::new(alloc, path)?;
@@ -117,14 +117,14 @@ impl Group {
             (λ group. MeansGroup (S.contents storage.now) BothVersions group.path group.metadata) }
         ensures block { IfOk result
             (λ group. group.block
-                ≡ block_beside (S.contents storage.now) group.path group.metadata) }
+            ≡ block_beside (S.contents storage.now) group.path group.metadata) }
         ensures understood { IfOk result (λ group. IsUnsupportedIn group.metadata None) }
         ensures choices { IfOk result
             (λ group. (group.convert_version ≡ config.now.convert_version)
-                × (group.erase_version ≡ config.now.erase_version)) }
+            × (group.erase_version ≡ config.now.erase_version)) }
         ensures err { IfErr result
             (RefusesOpeningGroup (S.can_fail storage.now)
-                (S.contents storage.now) BothVersions path.now) }
+            (S.contents storage.now) BothVersions path.now) }
     {
         Group::open_opt(
             alloc,
@@ -160,14 +160,14 @@ impl Group {
             (λ group. MeansGroup (S.contents storage.now) version.now group.path group.metadata) }
         ensures block { IfOk result
             (λ group. group.block
-                ≡ block_beside (S.contents storage.now) group.path group.metadata) }
+            ≡ block_beside (S.contents storage.now) group.path group.metadata) }
         ensures understood { IfOk result (λ group. IsUnsupportedIn group.metadata None) }
         ensures choices { IfOk result
             (λ group. (group.convert_version ≡ config.now.convert_version)
-                × (group.erase_version ≡ config.now.erase_version)) }
+            × (group.erase_version ≡ config.now.erase_version)) }
         ensures err { IfErr result
             (RefusesOpeningGroup (S.can_fail storage.now)
-                (S.contents storage.now) version.now path.now) }
+            (S.contents storage.now) version.now path.now) }
     {
         let path = NodePath::new(alloc, path)?;
         let Some(found) = find_metadata(alloc, storage, &path, version)? else {
@@ -336,27 +336,27 @@ impl Group {
     ) -> Result<(), StorageError>
         ensures ok { OnOk result
             (S.contents storage.new
-                ≡ after (S.contents storage.old)
-                (store_edits self.now.path
-                    (metadata_by_version self.now.convert_version self.now.metadata)
-                    self.now.block)) }
+            ≡ after (S.contents storage.old)
+            (store_edits self.now.path
+            (metadata_by_version self.now.convert_version self.now.metadata)
+            self.now.block)) }
         ensures means { OnOk result
             (MeansStored (S.contents storage.new) self.now.path
-                (metadata_by_version self.now.convert_version self.now.metadata)) }
+            (metadata_by_version self.now.convert_version self.now.metadata)) }
         ensures plain { OnOk result
             (stored_fault self.now.path
-                (metadata_by_version self.now.convert_version self.now.metadata) self.now.block
-                ≡ None) }
+            (metadata_by_version self.now.convert_version self.now.metadata) self.now.block
+            ≡ None) }
         ensures block_reads { OnOk result
             (IsBlockReadBack
-                (metadata_by_version self.now.convert_version self.now.metadata) self.now.block) }
+            (metadata_by_version self.now.convert_version self.now.metadata) self.now.block) }
         ensures unchanged { stored_fault self.now.path
             (metadata_by_version self.now.convert_version self.now.metadata) self.now.block ≢ None
             → S.contents storage.new ≡ S.contents storage.old }
         ensures err { IfErr result
             (RefusesStoring (S.can_fail storage.old) self.now.path
-                (metadata_by_version self.now.convert_version self.now.metadata) self.now.block
-                (S.contents storage.old) (S.contents storage.new)) }
+            (metadata_by_version self.now.convert_version self.now.metadata) self.now.block
+            (S.contents storage.old) (S.contents storage.new)) }
         ensures nature { S.can_fail storage.new ≡ S.can_fail storage.old }
     {
         self.store_metadata_opt(alloc, storage, &self.options)
@@ -389,15 +389,15 @@ impl Group {
     ) -> Result<(), StorageError>
         ensures ok { OnOk result
             (S.contents storage.new
-                ≡ after (S.contents storage.old)
-                (store_edits self.now.path
-                    (metadata_by_version options.now self.now.metadata) self.now.block)) }
+            ≡ after (S.contents storage.old)
+            (store_edits self.now.path
+            (metadata_by_version options.now self.now.metadata) self.now.block)) }
         ensures means { OnOk result
             (MeansStored (S.contents storage.new) self.now.path
-                (metadata_by_version options.now self.now.metadata)) }
+            (metadata_by_version options.now self.now.metadata)) }
         ensures plain { OnOk result
             (stored_fault self.now.path
-                (metadata_by_version options.now self.now.metadata) self.now.block ≡ None) }
+            (metadata_by_version options.now self.now.metadata) self.now.block ≡ None) }
         ensures block_reads { OnOk result
             (IsBlockReadBack (metadata_by_version options.now self.now.metadata) self.now.block) }
         ensures unchanged { stored_fault self.now.path
@@ -405,8 +405,8 @@ impl Group {
             → S.contents storage.new ≡ S.contents storage.old }
         ensures err { IfErr result
             (RefusesStoring (S.can_fail storage.old) self.now.path
-                (metadata_by_version options.now self.now.metadata) self.now.block
-                (S.contents storage.old) (S.contents storage.new)) }
+            (metadata_by_version options.now self.now.metadata) self.now.block
+            (S.contents storage.old) (S.contents storage.new)) }
         ensures nature { S.can_fail storage.new ≡ S.can_fail storage.old }
     {
         let metadata = self.metadata_opt(alloc, options)?;
@@ -428,13 +428,13 @@ impl Group {
     ) -> Result<(), StorageError>
         ensures ok { OnOk result
             (S.contents storage.new
-                ≡ after (S.contents storage.old)
-                (erase_edits self.now.path self.now.erase_version self.now.metadata)) }
+            ≡ after (S.contents storage.old)
+            (erase_edits self.now.path self.now.erase_version self.now.metadata)) }
         ensures err { IfErr result (IsStoreError (S.can_fail storage.old)) }
         ensures cut { OnErr result
             (IsCutShort (S.contents storage.old)
-                (erase_edits self.now.path self.now.erase_version self.now.metadata)
-                (S.contents storage.new)) }
+            (erase_edits self.now.path self.now.erase_version self.now.metadata)
+            (S.contents storage.new)) }
         ensures nature { S.can_fail storage.new ≡ S.can_fail storage.old }
     {
         self.erase_metadata_opt(alloc, storage, self.erase_version)
@@ -457,8 +457,8 @@ impl Group {
     ) -> Result<(), StorageError>
         ensures ok { OnOk result
             (S.contents storage.new
-                ≡ after (S.contents storage.old)
-                (erase_edits self.now.path version self.now.metadata)) }
+            ≡ after (S.contents storage.old)
+            (erase_edits self.now.path version self.now.metadata)) }
         ensures err { IfErr result (IsStoreError (S.can_fail storage.old)) }
         ensures cut { OnErr result (IsCutShort (S.contents storage.old)
             (erase_edits self.now.path version self.now.metadata) (S.contents storage.new)) }

@@ -16,7 +16,7 @@ pub(crate) fn pretty_bytes(alloc: Global, value: &Value) -> Result<Vec<u8>, Allo
         (λ bytes. has_float (view value.now) ≡ false → bytes.items ≡ pretty_text (view value.now)) }
     ensures reads_back { IfOk result
         (λ bytes. depth (view value.now) ≤ max_depth
-            → json_of bytes.items ≡ Some (view value.now)) }
+        → json_of bytes.items ≡ Some (view value.now)) }
 {
     let bytes = value.to_vec_pretty(alloc)?;
     Ok(bytes)

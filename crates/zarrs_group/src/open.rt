@@ -27,10 +27,10 @@ pub(crate) fn find_metadata<S: ReadableStorageTraits>(
 ) -> Result<Option<GroupMetadata>, StorageError>
     ensures ok { IfOk result
         (λ found. FindsMeaning found
-            (group_meaning (S.contents storage.now) version.now path.now)) }
+        (group_meaning (S.contents storage.now) version.now path.now)) }
     ensures err { IfErr result
         (RefusesMeaning (S.can_fail storage.now)
-            (group_meaning (S.contents storage.now) version.now path.now)) }
+        (group_meaning (S.contents storage.now) version.now path.now)) }
 {
     match version {
         MetadataRetrieveVersion::Default => match find_v3(alloc, storage, path)? {
@@ -73,7 +73,7 @@ fn find_v2<S: ReadableStorageTraits>(
         (λ found. FindsByLine found (zgroup_line in_bytes (S.contents storage.now) path.now)) }
     ensures err { IfErr result
         (RefusesLine (S.can_fail storage.now)
-            (zgroup_line in_bytes (S.contents storage.now) path.now)) }
+        (zgroup_line in_bytes (S.contents storage.now) path.now)) }
 {
     let key = meta_key_v2_group(alloc, path)?;
     let found: Option<GroupMetadataV2> = document_at(alloc, storage, key)?;

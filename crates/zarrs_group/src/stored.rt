@@ -57,7 +57,7 @@ fn edits_to_store_v3(
 ) -> Result<Vec<Edit>, StorageError>
     ensures ok { IfOk result
         (λ edits. (block : Option Block)
-            → map edit_of edits.items ≡ store_edits path.now (V3 group.now) block) }
+        → map edit_of edits.items ≡ store_edits path.now (V3 group.now) block) }
     ensures plain { IfOk result
         (λ _. (block : Option Block) → stored_fault path.now (V3 group.now) block ≡ None) }
     ensures reads { IfOk result (λ _. AreReadBack (V3 group.now)) }
@@ -100,7 +100,7 @@ fn edits_with_block(
     requires { IsBeside (Some block.now.metadata) }
     ensures ok { IfOk result
         (λ edits. map edit_of edits.items
-            ≡ store_edits path.now (V2 group) (Some block.now.metadata)) }
+        ≡ store_edits path.now (V2 group) (Some block.now.metadata)) }
     ensures plain { IfOk result
         (λ _. stored_fault path.now (V2 group) (Some block.now.metadata) ≡ None) }
     ensures reads { IfOk result (λ _. AreReadBack (V2 group)) }

@@ -39,12 +39,12 @@ impl Hierarchy {
     ) -> Result<Hierarchy, HierarchyCreateError>
         ensures opened { IfOk result
             (IsOpened (S.contents storage.now) MetadataRetrieveVersion.Default
-                config.now.use_consolidated path.now) }
+            config.now.use_consolidated path.now) }
         ensures refused { IfErr result
             (λ e. IsExcused (S.can_fail storage.now) e
-                ⊎ RefusesOpening
-                (S.contents storage.now) MetadataRetrieveVersion.Default config.now.use_consolidated
-                path.now e) }
+            ⊎ RefusesOpening
+            (S.contents storage.now) MetadataRetrieveVersion.Default config.now.use_consolidated
+            path.now e) }
     {
         Hierarchy::open_opt(
             log,
@@ -89,8 +89,8 @@ impl Hierarchy {
             (IsOpened (S.contents storage.now) version.now config.now.use_consolidated path.now) }
         ensures refused { IfErr result
             (λ e. IsExcused (S.can_fail storage.now) e
-                ⊎ RefusesOpening
-                (S.contents storage.now) version.now config.now.use_consolidated path.now e) }
+            ⊎ RefusesOpening
+            (S.contents storage.now) version.now config.now.use_consolidated path.now e) }
     {
         let path = NodePath::new(alloc, path)?;
         let metadata = Node::get_metadata(alloc, storage, &path, version)?;
@@ -114,17 +114,17 @@ impl Hierarchy {
     ) -> Result<Hierarchy, HierarchyCreateError>
         ensures pairs { IfOk result
             (λ hierarchy.
-                Holds hierarchy
-                (WithBase group.now.path (group_node group.now.metadata)
-                    (Nodes (S.contents storage.now) MetadataRetrieveVersion.Default true
-                    group.now.path))) }
+            Holds hierarchy
+            (WithBase group.now.path (group_node group.now.metadata)
+            (Nodes (S.contents storage.now) MetadataRetrieveVersion.Default true
+            group.now.path))) }
         ensures clean { IfOk result
             (λ _. Bad (S.contents storage.now) MetadataRetrieveVersion.Default true group.now.path
-                → ⊥) }
+            → ⊥) }
         ensures refused { IfErr result
             (λ e. IsExcused (S.can_fail storage.now) e
-                ⊎ ShowsBad (S.contents storage.now) MetadataRetrieveVersion.Default true
-                group.now.path e) }
+            ⊎ ShowsBad (S.contents storage.now) MetadataRetrieveVersion.Default true
+            group.now.path e) }
     {
         let base = group.path();
         let version = MetadataRetrieveVersion::Default;
@@ -148,16 +148,16 @@ fn nodes_from<L: Log, S: ReadableStorageTraits + ListableStorageTraits>(
 ) -> Result<Vec<(NodePath, NodeMetadata)>, HierarchyCreateError>
     ensures holds { IfOk result
         (λ nodes. Holds nodes.items
-            (WithBase path.now metadata
-                (PairsOf (S.contents storage.now) version.now config.now.use_consolidated path.now
-                metadata))) }
+        (WithBase path.now metadata
+        (PairsOf (S.contents storage.now) version.now config.now.use_consolidated path.now
+        metadata))) }
     ensures clean { IfOk result
         (λ _. IsCleanNode
-            (S.contents storage.now) version.now config.now.use_consolidated path.now metadata) }
+        (S.contents storage.now) version.now config.now.use_consolidated path.now metadata) }
     ensures refused { IfErr result
         (λ e. IsExcused (S.can_fail storage.now) e
-            ⊎ RefusesBelow
-            (S.contents storage.now) version.now config.now.use_consolidated path.now metadata e) }
+        ⊎ RefusesBelow
+        (S.contents storage.now) version.now config.now.use_consolidated path.now metadata e) }
 {
     if !metadata.is_group() {
         return Ok(base_alone(alloc, path, metadata)?);
@@ -182,12 +182,12 @@ pub(crate) fn tell_below<L: Log, S: ReadableStorageTraits + ListableStorageTrait
 ) -> Result<(), HierarchyCreateError>
     ensures takes { OnOk result
         (TakesPairs K.takes sink.old sink.new
-            (PairsBelow (S.contents storage.now) version.now (as_block block) path.now)) }
+        (PairsBelow (S.contents storage.now) version.now (as_block block) path.now)) }
     ensures clean { OnOk result
         (IsGoodBelow (S.contents storage.now) version.now (as_block block) true path.now) }
     ensures refused { IfErr result
         (λ e. IsExcused (S.can_fail storage.now) e
-            ⊎ ShowsBadBelow (S.contents storage.now) version.now (as_block block) true path.now e) }
+        ⊎ ShowsBadBelow (S.contents storage.now) version.now (as_block block) true path.now e) }
 {
     match block {
         Some(block) => {

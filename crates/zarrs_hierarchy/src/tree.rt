@@ -54,7 +54,7 @@ impl Hierarchy {
     fn push_below(&self, text: &mut String, base: &NodePath) -> Result<(), AllocError>
         ensures lines { OnOk result
             (string_bytes text.new ≡ string_bytes text.old
-                ++ lines base.now (pairs_below base.now self.now)) }
+            ++ lines base.now (pairs_below base.now self.now)) }
         ensures ordered { Ascend self.now }
     {
         let above = depth(base);

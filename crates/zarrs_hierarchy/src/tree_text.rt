@@ -40,12 +40,12 @@ pub fn tree_at<L: Log, S: ReadableStorageTraits + ListableStorageTraits>(
 ) -> Result<String, HierarchyCreateError>
     ensures tree { IfOk result
         (λ text. IsOpenedTree
-            (S.contents storage.now) version.now config.now.use_consolidated path.now
-            (string_bytes text)) }
+        (S.contents storage.now) version.now config.now.use_consolidated path.now
+        (string_bytes text)) }
     ensures refused { IfErr result
         (λ e. IsExcused (S.can_fail storage.now) e
-            ⊎ RefusesOpening (S.contents storage.now) version.now config.now.use_consolidated
-            (path_text path.now) e) }
+        ⊎ RefusesOpening (S.contents storage.now) version.now config.now.use_consolidated
+        (path_text path.now) e) }
 {
     let _valid = path.as_str();
     let metadata = Node::get_metadata(alloc, storage, path, version)?;
@@ -73,16 +73,16 @@ fn tell_node<L: Log, S: ReadableStorageTraits + ListableStorageTraits, K: NodeSi
 ) -> Result<(), HierarchyCreateError>
     ensures takes { OnOk result
         (TakesPairs K.takes sink.old sink.new
-            (PairsOf (S.contents storage.now) version.now config.now.use_consolidated path.now
-                metadata.now)) }
+        (PairsOf (S.contents storage.now) version.now config.now.use_consolidated path.now
+        metadata.now)) }
     ensures clean { OnOk result
         (IsCleanNode (S.contents storage.now) version.now config.now.use_consolidated path.now
-            metadata.now) }
+        metadata.now) }
     ensures refused { IfErr result
         (λ e. IsExcused (S.can_fail storage.now) e
-            ⊎ RefusesBelow
-            (S.contents storage.now) version.now config.now.use_consolidated path.now metadata.now
-            e) }
+        ⊎ RefusesBelow
+        (S.contents storage.now) version.now config.now.use_consolidated path.now metadata.now
+        e) }
 {
     if !metadata.is_group() {
         return Ok(());

@@ -83,7 +83,7 @@ fn list<R: Log + Files + AllocGlobal>(
     ensures ok { OnOk result (AreFound walk.old.files.items → AreFound walk.new.files.items) }
     ensures fewer { OnOk result
         (vec_len walk.new.folders + walk.new.entries_left
-            ≤ vec_len walk.old.folders + walk.old.entries_left) }
+        ≤ vec_len walk.old.folders + walk.old.entries_left) }
     ensures err { IfErr result IsFolderFault }
 {
     let entries = match fs::read_dir(&rt, folder.path.as_str()) {
@@ -110,7 +110,7 @@ fn take<R: Log + Files + AllocGlobal>(
     ensures ok { OnOk result (AreFound walk.old.files.items → AreFound walk.new.files.items) }
     ensures fewer { OnOk result
         (vec_len walk.new.folders + walk.new.entries_left
-            ≤ vec_len walk.old.folders + walk.old.entries_left) }
+        ≤ vec_len walk.old.folders + walk.old.entries_left) }
     ensures err { IfErr result IsFolderFault }
 {
     let kind = look_at(rt, path, &mut walk.entries_left)?;
@@ -269,7 +269,7 @@ fn refused<R: Log, D: Display + Drop>(rt: &R, path: &str, why: D) -> LoadFault
 fn store_of(alloc: Global, files: Vec<(StoreKey, Vec<u8>)>) -> Result<MemoryStore, AllocError>
     ensures { IfOk result
         (λ store. AreFound files.items
-            → HoldsDocumentsAlone (map.from_entries {R = key_cmp} store)) }
+        → HoldsDocumentsAlone (map.from_entries {R = key_cmp} store)) }
 {
     let mut sorted = files;
     sorted.sort_unstable();

@@ -74,7 +74,7 @@ fn text_of(value: Value) -> Option<String>
 fn store_of(alloc: Global, members: Map<String, Value>) -> Result<MemoryStore, LoadFault>
     ensures ok { IfOk result
         (λ store. HoldsMembers (member_list (members_view members.entries))
-            (map.from_entries {R = key_cmp} store)) }
+        (map.from_entries {R = key_cmp} store)) }
     ensures err { IfErr result (IsMemberFault (member_list (members_view members.entries))) }
 {
     let mut store = MemoryStore::new(alloc);

@@ -194,8 +194,8 @@ impl ArrayMetadataV2 {
     fn table_text(&self, alloc: Global) -> Result<String, AllocError>
         ensures { IfOk result
             (λ text. IsTrue (is_plain_array_v2 self.now)
-                → string_bytes text
-                ≡ compact_text (object (put_rows (array_v2_rows self.now) no_members))) }
+            → string_bytes text
+            ≡ compact_text (object (put_rows (array_v2_rows self.now) no_members))) }
     {
         let mut out = open_table(alloc)?;
         let empty = self.attributes.is_empty();
@@ -260,7 +260,7 @@ impl RequiredMembers {
             (array_v2_required (members_view members.old.entries)) }
         ensures left { IfOk result
             (λ _. members_view members.new.entries
-                ≡ besides array_v2_required_names (members_view members.old.entries)) }
+            ≡ besides array_v2_required_names (members_view members.old.entries)) }
     {
         Ok(RequiredMembers {
             shape: required(alloc, members, "shape")?,
@@ -318,7 +318,7 @@ impl OptionalMembers {
             (array_v2_optional (members_view members.old.entries)) }
         ensures left { IfOk result
             (λ _. members_view members.new.entries
-                ≡ besides array_v2_optional_names (members_view members.old.entries)) }
+            ≡ besides array_v2_optional_names (members_view members.old.entries)) }
     {
         Ok(OptionalMembers {
             compressor: optional(alloc, members, "compressor", None)?,
@@ -336,7 +336,7 @@ fn dimension_separator(
 ) -> Result<ChunkKeySeparator, MetadataFault>
     ensures gives { Gives (λ x. x) result
         (optional_member (codes "dimension_separator") Dot separator
-            (object (members_view members.old.entries))) }
+        (object (members_view members.old.entries))) }
     ensures left { members_view members.new.entries
         ≡ besides (codes "dimension_separator" ∷ []) (members_view members.old.entries) }
 {

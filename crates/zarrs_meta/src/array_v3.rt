@@ -240,8 +240,8 @@ impl ArrayMetadataV3 {
     fn table_text(&self, alloc: Global) -> Result<String, AllocError>
         ensures { IfOk result
             (λ text. IsTrue (is_plain_array_v3 self.now)
-                → string_bytes text
-                ≡ compact_text (object (put_rows (array_v3_rows self.now) no_members))) }
+            → string_bytes text
+            ≡ compact_text (object (put_rows (array_v3_rows self.now) no_members))) }
     {
         let mut out = open_table(alloc)?;
         let empty = self.attributes.is_empty();
@@ -311,7 +311,7 @@ impl RequiredMembers {
             (array_v3_required (members_view members.old.entries)) }
         ensures left { IfOk result
             (λ _. members_view members.new.entries
-                ≡ besides array_v3_required_names (members_view members.old.entries)) }
+            ≡ besides array_v3_required_names (members_view members.old.entries)) }
     {
         Ok(RequiredMembers {
             shape: required(alloc, members, "shape")?,
@@ -370,7 +370,7 @@ impl OptionalMembers {
             (array_v3_optional (members_view members.old.entries)) }
         ensures left { IfOk result
             (λ _. members_view members.new.entries
-                ≡ besides array_v3_optional_names (members_view members.old.entries)) }
+            ≡ besides array_v3_optional_names (members_view members.old.entries)) }
     {
         Ok(OptionalMembers {
             attributes: attributes(alloc, members)?,
@@ -401,7 +401,7 @@ fn storage_transformers(
 ) -> Result<List<MetadataV3>, MetadataFault>
     ensures gives { Gives (λ x. x) result
         (optional_member (codes "storage_transformers") [] (list_of extension)
-            (object (members_view members.old.entries))) }
+        (object (members_view members.old.entries))) }
     ensures left { members_view members.new.entries
         ≡ besides (codes "storage_transformers" ∷ []) (members_view members.old.entries) }
 {
@@ -420,7 +420,7 @@ fn dimension_names(
 ) -> Result<Option<List<Option<Text>>>, MetadataFault>
     ensures gives { Gives (λ x. x) result
         (optional_member (codes "dimension_names") None (nullable (list_of (nullable as_str)))
-            (object (members_view members.old.entries))) }
+        (object (members_view members.old.entries))) }
     ensures left { members_view members.new.entries
         ≡ besides (codes "dimension_names" ∷ []) (members_view members.old.entries) }
 {

@@ -143,8 +143,8 @@ impl GroupMetadataV3 {
     fn table_text(&self, alloc: Global) -> Result<String, AllocError>
         ensures { IfOk result
             (λ text. IsTrue (is_plain_group_v3 self.now)
-                → string_bytes text
-                ≡ compact_text (object (put_rows (group_v3_rows self.now) no_members))) }
+            → string_bytes text
+            ≡ compact_text (object (put_rows (group_v3_rows self.now) no_members))) }
     {
         let mut out = open_table(alloc)?;
         let empty = self.attributes.is_empty();

@@ -71,10 +71,10 @@ pub fn direct_children_from_flat(
 ) -> Result<Vec<Node>, AllocError>
     ensures children { IfOk result
         (λ nodes. (es : List (Path × NodeMetadata)) × AreChildrenOf path.now pairs.items es
-            × (forest nodes.items ≡ row es)) }
+        × (forest nodes.items ≡ row es)) }
     ensures shows { IfOk result
         (λ nodes. HaveOwnPaths pairs.items
-            → Shows (forest nodes.items) path.now (Kept (Contains pairs.items) false path.now)) }
+        → Shows (forest nodes.items) path.now (Kept (Contains pairs.items) false path.now)) }
 {
     let mut children = children_of(alloc, path, pairs)?;
     children.sort_by(|a, b| a.0.cmp(&b.0))?;
@@ -176,7 +176,7 @@ impl Pass {
     fn close_to(&mut self, path: &NodePath) -> Result<u64, AllocError>
         ensures same { OnOk result
             (whole self.new.roots.items self.new.opened.items
-                ≡ whole self.old.roots.items self.old.opened.items) }
+            ≡ whole self.old.roots.items self.old.opened.items) }
         ensures closed { OnOk result
             (IsClosedTo path.now (heads self.old.opened.items) (heads self.new.opened.items)) }
         ensures count { IfOk result
@@ -203,8 +203,8 @@ impl Pass {
     ) -> Result<(), AllocError>
         ensures { OnOk result
             (IsTaken base.now
-                (path, metadata) self.old.roots.items self.old.opened.items self.new.roots.items
-                self.new.opened.items) }
+            (path, metadata) self.old.roots.items self.old.opened.items self.new.roots.items
+            self.new.opened.items) }
     {
         if !is_child(self.parent(base), &path) {
             return Ok(());
@@ -228,7 +228,7 @@ impl Pass {
     fn close_all(&mut self) -> Result<u64, AllocError>
         ensures same { OnOk result
             (whole self.new.roots.items self.new.opened.items
-                ≡ whole self.old.roots.items self.old.opened.items) }
+            ≡ whole self.old.roots.items self.old.opened.items) }
         ensures closed { OnOk result (self.new.opened.items ≡ []) }
         ensures count { IfOk result (λ n. n ≡ length (heads self.old.opened.items)) }
     {
@@ -254,10 +254,10 @@ impl Pass {
     fn close(&mut self) -> Result<(), AllocError>
         ensures same { OnOk result
             (whole self.new.roots.items self.new.opened.items
-                ≡ whole self.old.roots.items self.old.opened.items) }
+            ≡ whole self.old.roots.items self.old.opened.items) }
         ensures heads { OnOk result
             (heads self.new.opened.items
-                ≡ take (length (heads self.old.opened.items) - 1) (heads self.old.opened.items)) }
+            ≡ take (length (heads self.old.opened.items) - 1) (heads self.old.opened.items)) }
     {
         if let Some(group) = self.opened.pop() {
             let (path, metadata, children) = group.into_parts();
@@ -270,7 +270,7 @@ impl Pass {
     fn add(&mut self, node: Node) -> Result<(), AllocError>
         ensures grows { OnOk result
             (whole self.new.roots.items self.new.opened.items
-                ≡ with_tree self.old.roots.items self.old.opened.items (plant node none)) }
+            ≡ with_tree self.old.roots.items self.old.opened.items (plant node none)) }
         ensures heads { OnOk result (heads self.new.opened.items ≡ heads self.old.opened.items) }
     {
         match self.opened.last_mut() {

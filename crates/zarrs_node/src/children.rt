@@ -38,13 +38,13 @@ pub fn get_child_nodes<L: Log, S: ReadableStorageTraits + ListableStorageTraits>
 ) -> Result<Vec<Node>, NodeCreateError>
     ensures shows { IfOk result
         (λ nodes. Shows (forest nodes.items) path.now
-            (Nodes (S.contents storage.now) MetadataRetrieveVersion.Default recursive path.now)) }
+        (Nodes (S.contents storage.now) MetadataRetrieveVersion.Default recursive path.now)) }
     ensures clean { IfOk result
         (λ _. Bad (S.contents storage.now) MetadataRetrieveVersion.Default recursive path.now → ⊥) }
     ensures refused { IfErr result
         (λ e. IsExcused (S.can_fail storage.now) e
-            ⊎ ShowsBad (S.contents storage.now) MetadataRetrieveVersion.Default recursive path.now
-            e) }
+        ⊎ ShowsBad (S.contents storage.now) MetadataRetrieveVersion.Default recursive path.now
+        e) }
 {
     get_child_nodes_opt(
         log,
@@ -77,12 +77,12 @@ pub fn get_child_nodes_opt<L: Log, S: ReadableStorageTraits + ListableStorageTra
 ) -> Result<Vec<Node>, NodeCreateError>
     ensures shows { IfOk result
         (λ nodes. Shows (forest nodes.items) path.now
-            (Nodes (S.contents storage.now) version.now recursive path.now)) }
+        (Nodes (S.contents storage.now) version.now recursive path.now)) }
     ensures clean { IfOk result
         (λ _. Bad (S.contents storage.now) version.now recursive path.now → ⊥) }
     ensures refused { IfErr result
         (λ e. IsExcused (S.can_fail storage.now) e
-            ⊎ ShowsBad (S.contents storage.now) version.now recursive path.now e) }
+        ⊎ ShowsBad (S.contents storage.now) version.now recursive path.now e) }
 {
     let listed = list_nodes(alloc, storage, path, recursive, version)?;
     warn_ignored(log, &listed.ignored);
@@ -106,13 +106,13 @@ pub fn get_child_paths<L: Log, S: ReadableStorageTraits + ListableStorageTraits>
 ) -> Result<Vec<NodePath>, NodeCreateError>
     ensures shows { IfOk result
         (λ paths. ShowsPaths paths.items path.now
-            (Nodes (S.contents storage.now) MetadataRetrieveVersion.Default recursive path.now)) }
+        (Nodes (S.contents storage.now) MetadataRetrieveVersion.Default recursive path.now)) }
     ensures clean { IfOk result
         (λ _. Bad (S.contents storage.now) MetadataRetrieveVersion.Default recursive path.now → ⊥) }
     ensures refused { IfErr result
         (λ e. IsExcused (S.can_fail storage.now) e
-            ⊎ ShowsBad (S.contents storage.now) MetadataRetrieveVersion.Default recursive path.now
-            e) }
+        ⊎ ShowsBad (S.contents storage.now) MetadataRetrieveVersion.Default recursive path.now
+        e) }
 {
     get_child_paths_opt(
         log,
@@ -143,12 +143,12 @@ pub fn get_child_paths_opt<L: Log, S: ReadableStorageTraits + ListableStorageTra
 ) -> Result<Vec<NodePath>, NodeCreateError>
     ensures shows { IfOk result
         (λ paths. ShowsPaths paths.items path.now
-            (Nodes (S.contents storage.now) version.now recursive path.now)) }
+        (Nodes (S.contents storage.now) version.now recursive path.now)) }
     ensures clean { IfOk result
         (λ _. Bad (S.contents storage.now) version.now recursive path.now → ⊥) }
     ensures refused { IfErr result
         (λ e. IsExcused (S.can_fail storage.now) e
-            ⊎ ShowsBad (S.contents storage.now) version.now recursive path.now e) }
+        ⊎ ShowsBad (S.contents storage.now) version.now recursive path.now e) }
 {
     let mut paths = Vec::new(alloc);
     walk_child_nodes(log, alloc, storage, path, recursive, version, &mut paths)?;
@@ -174,11 +174,11 @@ pub fn walk_child_nodes<L: Log, S: ReadableStorageTraits + ListableStorageTraits
 ) -> Result<(), NodeCreateError>
     ensures takes { OnOk result
         (TakesForest K.takes sink.old sink.new path.now
-            (Nodes (S.contents storage.now) version.now recursive path.now)) }
+        (Nodes (S.contents storage.now) version.now recursive path.now)) }
     ensures clean { OnOk result (Bad (S.contents storage.now) version.now recursive path.now → ⊥) }
     ensures refused { IfErr result
         (λ e. IsExcused (S.can_fail storage.now) e
-            ⊎ ShowsBad (S.contents storage.now) version.now recursive path.now e) }
+        ⊎ ShowsBad (S.contents storage.now) version.now recursive path.now e) }
 {
     let ignored = walk_nodes(alloc, storage, path, recursive, version, sink)?;
     warn_ignored(log, &ignored);
@@ -213,7 +213,7 @@ pub fn get_all_nodes_of<L: Log, S: ReadableStorageTraits + ListableStorageTraits
     ensures clean { IfOk result (λ _. Bad (S.contents storage.now) version.now true path.now → ⊥) }
     ensures refused { IfErr result
         (λ e. IsExcused (S.can_fail storage.now) e
-            ⊎ ShowsBad (S.contents storage.now) version.now true path.now e) }
+        ⊎ ShowsBad (S.contents storage.now) version.now true path.now e) }
 {
     let mut all = Vec::new(alloc);
     walk_child_nodes(log, alloc, storage, path, true, version, &mut all)?;
@@ -242,7 +242,7 @@ pub fn consolidate_nodes_of<L: Log, S: ReadableStorageTraits + ListableStorageTr
     ensures clean { IfOk result (λ _. Bad (S.contents storage.now) version.now true path.now → ⊥) }
     ensures refused { IfErr result
         (λ e. IsExcused (S.can_fail storage.now) e
-            ⊎ ShowsBad (S.contents storage.now) version.now true path.now e) }
+        ⊎ ShowsBad (S.contents storage.now) version.now true path.now e) }
 {
     let all = get_all_nodes_of(log, alloc, storage, path, version)?;
     let mut block = ConsolidatedMetadataMetadata::new(alloc);

@@ -34,11 +34,11 @@ impl Node {
             (λ block. IsSome block ↔ IsTrue (is_group (metadata_of self.now))) }
         ensures latest { IfOk result
             (λ block. IfSome block
-                (λ B. IsBlockOf (IsLatest (pairs (below_of self.now))) (path_of self.now) B)) }
+            (λ B. IsBlockOf (IsLatest (pairs (below_of self.now))) (path_of self.now) B)) }
         ensures exact { IfOk result
             (λ block. IfSome block
-                (λ B. IsPlaced (path_of self.now) (below_of self.now)
-                    → IsBlockOf (Contains (pairs (below_of self.now))) (path_of self.now) B)) }
+            (λ B. IsPlaced (path_of self.now) (below_of self.now)
+            → IsBlockOf (Contains (pairs (below_of self.now))) (path_of self.now) B)) }
         ensures ascending { IfOk result (λ block. IfSome block IsAscending) }
     {
         if let NodeMetadata::Array(_) = self.metadata() {

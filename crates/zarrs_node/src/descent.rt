@@ -45,15 +45,15 @@ pub fn walk_nodes<S: ReadableStorageTraits + ListableStorageTraits, K: NodeSink>
 ) -> Result<Vec<NodePath>, NodeCreateError>
     ensures takes { IfOk result
         (λ _. TakesForest K.takes sink.old sink.new path.now
-            (Nodes (S.contents storage.now) version.now recursive path.now)) }
+        (Nodes (S.contents storage.now) version.now recursive path.now)) }
     ensures ignored { IfOk result
         (λ ignored. Lists
-            (Ignored (S.contents storage.now) version.now recursive path.now) ignored.items) }
+        (Ignored (S.contents storage.now) version.now recursive path.now) ignored.items) }
     ensures clean { IfOk result
         (λ _. Bad (S.contents storage.now) version.now recursive path.now → ⊥) }
     ensures refused { IfErr result
         (λ e. IsExcused (S.can_fail storage.now) e
-            ⊎ ShowsBad (S.contents storage.now) version.now recursive path.now e) }
+        ⊎ ShowsBad (S.contents storage.now) version.now recursive path.now e) }
 {
     let mut last = LastDocuments::new(alloc);
     let walked = walk(alloc, storage, path, recursive, version, &mut last, sink);
@@ -74,15 +74,15 @@ fn walk<S: ReadableStorageTraits + ListableStorageTraits, K: NodeSink>(
 ) -> Result<Vec<NodePath>, NodeCreateError>
     ensures takes { IfOk result
         (λ _. TakesForest K.takes sink.old sink.new path.now
-            (Nodes (S.contents storage.now) version.now recursive path.now)) }
+        (Nodes (S.contents storage.now) version.now recursive path.now)) }
     ensures ignored { IfOk result
         (λ ignored. Lists
-            (Ignored (S.contents storage.now) version.now recursive path.now) ignored.items) }
+        (Ignored (S.contents storage.now) version.now recursive path.now) ignored.items) }
     ensures clean { IfOk result
         (λ _. Bad (S.contents storage.now) version.now recursive path.now → ⊥) }
     ensures refused { IfErr result
         (λ e. IsExcused (S.can_fail storage.now) e
-            ⊎ ShowsBad (S.contents storage.now) version.now recursive path.now e) }
+        ⊎ ShowsBad (S.contents storage.now) version.now recursive path.now e) }
 {
     let base = path.to_prefix(alloc)?;
     let mut pending = Vec::new(alloc);
@@ -155,12 +155,12 @@ fn read_child<S: ReadableStorageTraits>(
     ensures valid { IfOk result (λ _. IsPath prefix.now) }
     ensures found { IfOk result
         (λ found. Finds (S.can_fail storage.now) (Ok found)
-            (meaning (S.contents storage.now) version.now prefix.now)) }
+        (meaning (S.contents storage.now) version.now prefix.now)) }
     ensures refused { IfErr result
         (λ e. IsExcused (S.can_fail storage.now) e
-            ⊎ (IsInvalidPath prefix.now e × (¬ IsPath prefix.now))
-            ⊎ (IsPath prefix.now
-                × (meaning (S.contents storage.now) version.now prefix.now ≡ bad e))) }
+        ⊎ (IsInvalidPath prefix.now e × (¬ IsPath prefix.now))
+        ⊎ (IsPath prefix.now
+        × (meaning (S.contents storage.now) version.now prefix.now ≡ bad e))) }
     ensures segments { IsPrefix prefix.now }
 {
     let _segments = prefix.as_str();

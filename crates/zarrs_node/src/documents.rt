@@ -29,7 +29,7 @@ pub fn document_at<S: ReadableStorageTraits, D: Document + Drop>(
         (λ found. document_at D.reading (S.contents storage.now) key ≡ Ok found) }
     ensures err { IfErr result
         (RefusesReading (S.can_fail storage.now)
-            (document_at D.reading (S.contents storage.now) key)) }
+        (document_at D.reading (S.contents storage.now) key)) }
 {
     let mut last = LastRead::new(alloc);
     let (key, found) = find_document(alloc, storage, key, &mut last)?;
@@ -53,7 +53,7 @@ pub fn attributes_at<S: ReadableStorageTraits>(
     ensures ok { IfOk result (λ found. attributes_at (S.contents storage.now) path.now ≡ Ok found) }
     ensures err { IfErr result
         (RefusesReading (S.can_fail storage.now)
-            (attributes_at (S.contents storage.now) path.now)) }
+        (attributes_at (S.contents storage.now) path.now)) }
 {
     document_at(alloc, storage, meta_key_v2_attributes(alloc, path)?)
 }
@@ -69,7 +69,7 @@ fn find_document<S: ReadableStorageTraits, D: Document + Drop>(
     ensures ok { IfOk result (λ x. document_at D.reading (S.contents storage.now) key ≡ Ok x.1) }
     ensures err { IfErr result
         (RefusesReading (S.can_fail storage.now)
-            (document_at D.reading (S.contents storage.now) key)) }
+        (document_at D.reading (S.contents storage.now) key)) }
 {
     let Some(bytes) = storage.get(alloc, &key)? else {
         return Ok((key, None));
@@ -92,10 +92,10 @@ pub(crate) fn find_below<S: ReadableStorageTraits, D: Document + Drop>(
     requires segment { IsTrue (is_segment name.now) }
     ensures ok { IfOk result
         (λ found. document_at D.reading (S.contents storage.now) (prefix.now ++ name.now ∷ [])
-            ≡ Ok found) }
+        ≡ Ok found) }
     ensures err { IfErr result
         (RefusesReading (S.can_fail storage.now)
-            (document_at D.reading (S.contents storage.now) (prefix.now ++ name.now ∷ []))) }
+        (document_at D.reading (S.contents storage.now) (prefix.now ++ name.now ∷ []))) }
 {
     let room = replace(text, String::new(alloc));
     let key = prefix.key_in(room, name)?;

@@ -46,15 +46,15 @@ pub fn list_nodes<S: ReadableStorageTraits + ListableStorageTraits>(
 ) -> Result<ListedNodes, NodeCreateError>
     ensures shows { IfOk result
         (λ l. Shows (forest l.nodes.items) path.now
-            (Nodes (S.contents storage.now) version.now recursive path.now)) }
+        (Nodes (S.contents storage.now) version.now recursive path.now)) }
     ensures ignored { IfOk result
         (λ l. Lists (Ignored (S.contents storage.now) version.now recursive path.now)
-            l.ignored.items) }
+        l.ignored.items) }
     ensures clean { IfOk result
         (λ _. Bad (S.contents storage.now) version.now recursive path.now → ⊥) }
     ensures refused { IfErr result
         (λ e. IsExcused (S.can_fail storage.now) e
-            ⊎ ShowsBad (S.contents storage.now) version.now recursive path.now e) }
+        ⊎ ShowsBad (S.contents storage.now) version.now recursive path.now e) }
 {
     let mut pairs = Vec::new(alloc);
     let ignored = walk_nodes(alloc, storage, path, recursive, version, &mut pairs)?;

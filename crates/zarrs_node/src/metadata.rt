@@ -40,9 +40,9 @@ impl Node {
             (λ metadata. meaning (S.contents storage.now) version.now path.now ≡ node metadata) }
         ensures refused { IfErr result
             (λ e. IsExcused (S.can_fail storage.now) e
-                ⊎ ((meaning (S.contents storage.now) version.now path.now ≡ nothing)
-                    × IsMissing path.now e)
-                ⊎ (meaning (S.contents storage.now) version.now path.now ≡ bad e)) }
+            ⊎ ((meaning (S.contents storage.now) version.now path.now ≡ nothing)
+            × IsMissing path.now e)
+            ⊎ (meaning (S.contents storage.now) version.now path.now ≡ bad e)) }
     {
         let prefix = path.to_prefix(alloc)?;
         let mut last = LastDocuments::new(alloc);
@@ -112,7 +112,7 @@ fn find_v2<S: ReadableStorageTraits>(
 ) -> Result<Option<NodeMetadata>, NodeCreateError>
     ensures { FollowsLine (S.can_fail storage.now) result
         (λ after. zarray_line in_bytes (S.contents storage.now) prefix.now
-            (zgroup_line in_bytes (S.contents storage.now) prefix.now after)) }
+        (zgroup_line in_bytes (S.contents storage.now) prefix.now after)) }
 {
     match find_array_v2(alloc, storage, prefix, last)? {
         Some(metadata) => Ok(Some(metadata)),
@@ -186,7 +186,7 @@ fn find_attributes<S: ReadableStorageTraits>(
         (λ found. attributes_at (S.contents storage.now) prefix.now ≡ Ok found) }
     ensures err { IfErr result
         (RefusesReading (S.can_fail storage.now)
-            (attributes_at (S.contents storage.now) prefix.now)) }
+        (attributes_at (S.contents storage.now) prefix.now)) }
 {
     find_below(
         alloc,

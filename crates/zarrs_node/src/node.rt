@@ -158,7 +158,7 @@ pub(crate) fn push_node(
 ) -> Result<(), AllocError>
     ensures { OnOk result
         (forest nodes.new.items
-            ≡ graft (forest nodes.old.items) (tree path metadata (forest children.items) none)) }
+        ≡ graft (forest nodes.old.items) (tree path metadata (forest children.items) none)) }
 {
     nodes.push(Node::new_with_metadata(path, metadata, children))?;
     Ok(())

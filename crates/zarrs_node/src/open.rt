@@ -39,21 +39,21 @@ impl Node {
         ensures path { IfOk result (λ made. path_text (path_of made) ≡ path.now) }
         ensures means { IfOk result
             (λ made. meaning (S.contents storage.now) MetadataRetrieveVersion.Default (path_of made)
-                ≡ node (metadata_of made)) }
+            ≡ node (metadata_of made)) }
         ensures shows { IfOk result
             (λ made. ShowsNode
-                (S.contents storage.now) MetadataRetrieveVersion.Default config.now.use_consolidated
-                (path_of made) (metadata_of made) (below_of made)) }
+            (S.contents storage.now) MetadataRetrieveVersion.Default config.now.use_consolidated
+            (path_of made) (metadata_of made) (below_of made)) }
         ensures clean { IfOk result
             (λ made. IsCleanNode
-                (S.contents storage.now) MetadataRetrieveVersion.Default config.now.use_consolidated
-                (path_of made) (metadata_of made)) }
+            (S.contents storage.now) MetadataRetrieveVersion.Default config.now.use_consolidated
+            (path_of made) (metadata_of made)) }
         ensures placed { IfOk result HasPlacedChildren }
         ensures refused { IfErr result
             (λ e. IsExcused (S.can_fail storage.now) e
-                ⊎ RefusesOpening
-                (S.contents storage.now) MetadataRetrieveVersion.Default config.now.use_consolidated
-                path.now e) }
+            ⊎ RefusesOpening
+            (S.contents storage.now) MetadataRetrieveVersion.Default config.now.use_consolidated
+            path.now e) }
     {
         Node::open_opt(
             log,
@@ -97,18 +97,18 @@ impl Node {
         ensures path { IfOk result (λ made. path_text (path_of made) ≡ path.now) }
         ensures means { IfOk result
             (λ made. meaning (S.contents storage.now) version.now (path_of made)
-                ≡ node (metadata_of made)) }
+            ≡ node (metadata_of made)) }
         ensures shows { IfOk result
             (λ made. ShowsNode (S.contents storage.now) version.now config.now.use_consolidated
-                (path_of made) (metadata_of made) (below_of made)) }
+            (path_of made) (metadata_of made) (below_of made)) }
         ensures clean { IfOk result
             (λ made. IsCleanNode (S.contents storage.now) version.now config.now.use_consolidated
-                (path_of made) (metadata_of made)) }
+            (path_of made) (metadata_of made)) }
         ensures placed { IfOk result HasPlacedChildren }
         ensures refused { IfErr result
             (λ e. IsExcused (S.can_fail storage.now) e
-                ⊎ RefusesOpening
-                (S.contents storage.now) version.now config.now.use_consolidated path.now e) }
+            ⊎ RefusesOpening
+            (S.contents storage.now) version.now config.now.use_consolidated path.now e) }
     {
         let path = NodePath::new(alloc, path)?;
         let metadata = Node::get_metadata(alloc, storage, &path, version)?;
@@ -134,17 +134,17 @@ fn nodes_below<L: Log, S: ReadableStorageTraits + ListableStorageTraits>(
 ) -> Result<Vec<Node>, NodeCreateError>
     ensures shows { IfOk result
         (λ nodes. ShowsChosen (S.contents storage.now) version.now
-            (choice (S.contents storage.now) config.now.use_consolidated path.now metadata.now) true
-            path.now (forest nodes.items)) }
+        (choice (S.contents storage.now) config.now.use_consolidated path.now metadata.now) true
+        path.now (forest nodes.items)) }
     ensures clean { IfOk result
         (λ _. IsCleanChosen (S.contents storage.now) version.now
-            (choice (S.contents storage.now) config.now.use_consolidated path.now metadata.now) true
-            path.now) }
+        (choice (S.contents storage.now) config.now.use_consolidated path.now metadata.now) true
+        path.now) }
     ensures refused { IfErr result
         (λ e. IsExcused (S.can_fail storage.now) e
-            ⊎ RefusesChosen (S.contents storage.now) version.now
-            (choice (S.contents storage.now) config.now.use_consolidated path.now metadata.now) true
-            path.now e) }
+        ⊎ RefusesChosen (S.contents storage.now) version.now
+        (choice (S.contents storage.now) config.now.use_consolidated path.now metadata.now) true
+        path.now e) }
 {
     let policy = config.use_consolidated_metadata();
     match consolidated_metadata_at(alloc, storage, path, metadata, policy)? {
@@ -170,7 +170,7 @@ pub fn nodes_of_block(
 ) -> Result<Vec<Node>, NodeCreateError>
     ensures shows { IfOk result
         (λ nodes. Shows (forest nodes.items) path.now
-            (Kept (Entries block.metadata path.now) recursive path.now)) }
+        (Kept (Entries block.metadata path.now) recursive path.now)) }
     ensures keys { IfOk result (λ _. HasValidKeys block.metadata) }
     ensures err { IfErr result (RefusesKeys block.metadata) }
 {

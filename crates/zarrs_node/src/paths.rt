@@ -42,15 +42,15 @@ pub fn list_paths<S: ReadableStorageTraits + ListableStorageTraits>(
 ) -> Result<ListedPaths, NodeCreateError>
     ensures shows { IfOk result
         (λ l. ShowsPaths l.paths.items path.now
-            (Nodes (S.contents storage.now) version.now recursive path.now)) }
+        (Nodes (S.contents storage.now) version.now recursive path.now)) }
     ensures ignored { IfOk result
         (λ l. Lists (Ignored (S.contents storage.now) version.now recursive path.now)
-            l.ignored.items) }
+        l.ignored.items) }
     ensures clean { IfOk result
         (λ _. Bad (S.contents storage.now) version.now recursive path.now → ⊥) }
     ensures refused { IfErr result
         (λ e. IsExcused (S.can_fail storage.now) e
-            ⊎ ShowsBad (S.contents storage.now) version.now recursive path.now e) }
+        ⊎ ShowsBad (S.contents storage.now) version.now recursive path.now e) }
 {
     let mut paths = Vec::new(alloc);
     let ignored = walk_nodes(alloc, storage, path, recursive, version, &mut paths)?;

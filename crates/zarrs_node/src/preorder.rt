@@ -27,8 +27,8 @@ impl<'a> Preorder<'a> {
     pub(crate) fn next(&mut self) -> Result<Option<(usize, &'a Node)>, AllocError>
         ensures { IfOk result
             (λ next. MatchOption next (ahead self.old.pending.items ≡ [])
-                (λ n. ahead self.old.pending.items ≡ stop_of n.0 n.1.now
-                    ∷ ahead self.new.pending.items)) }
+            (λ n. ahead self.old.pending.items ≡ stop_of n.0 n.1.now
+            ∷ ahead self.new.pending.items)) }
     {
         while let Some(nodes) = self.pending.pop() {
             if let Some((node, after)) = nodes.split_first() {

@@ -51,11 +51,11 @@ pub fn refresh_block<S: ReadableStorageTraits + ListableStorageTraits>(
     ensures ascending { IfOk result IsAscending }
     ensures clean { IfOk result
         (λ _. LeadsTo block.now base.now path.now
-            → BadAnew (S.contents storage.now) version.now path.now → ⊥) }
+        → BadAnew (S.contents storage.now) version.now path.now → ⊥) }
     ensures refused { IfErr result
         (λ e. IsExcused (S.can_fail storage.now) e
-            ⊎ (LeadsTo block.now base.now path.now
-                × ShowsBadAnew (S.contents storage.now) version.now path.now e)) }
+        ⊎ (LeadsTo block.now base.now path.now
+        × ShowsBadAnew (S.contents storage.now) version.now path.now e)) }
 {
     let copy = block.try_clone(alloc)?;
     refresh_owned_block(alloc, storage, base, version, copy, path)
@@ -83,11 +83,11 @@ pub fn refresh_owned_block<S: ReadableStorageTraits + ListableStorageTraits>(
     ensures ascending { IfOk result IsAscending }
     ensures clean { IfOk result
         (λ _. LeadsTo block base.now path.now
-            → BadAnew (S.contents storage.now) version.now path.now → ⊥) }
+        → BadAnew (S.contents storage.now) version.now path.now → ⊥) }
     ensures refused { IfErr result
         (λ e. IsExcused (S.can_fail storage.now) e
-            ⊎ (LeadsTo block base.now path.now
-                × ShowsBadAnew (S.contents storage.now) version.now path.now e)) }
+        ⊎ (LeadsTo block base.now path.now
+        × ShowsBadAnew (S.contents storage.now) version.now path.now e)) }
 {
     let renewed = if leads_to(alloc, &block, base, path)? {
         read_anew(alloc, storage, path, version)?
@@ -155,11 +155,11 @@ fn read_anew<S: ReadableStorageTraits + ListableStorageTraits>(
 ) -> Result<Vec<(NodePath, NodeMetadata)>, NodeCreateError>
     ensures renewed { IfOk result
         (λ pairs. Lists
-            (IsNewPair (meaning (S.contents storage.now) version.now) path.now) pairs.items) }
+        (IsNewPair (meaning (S.contents storage.now) version.now) path.now) pairs.items) }
     ensures clean { IfOk result (λ _. BadAnew (S.contents storage.now) version.now path.now → ⊥) }
     ensures refused { IfErr result
         (λ e. IsExcused (S.can_fail storage.now) e
-            ⊎ ShowsBadAnew (S.contents storage.now) version.now path.now e) }
+        ⊎ ShowsBadAnew (S.contents storage.now) version.now path.now e) }
 {
     let prefix = path.to_prefix(alloc)?;
     let mut last = LastDocuments::new(alloc);

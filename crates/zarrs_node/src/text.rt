@@ -46,7 +46,7 @@ fn push_line(
 ) -> Result<(), AllocError>
     ensures { OnOk result
         (string_bytes text.new ≡ string_bytes text.old
-            ++ (replicate (2 * level) 32 ++ named_line name.now metadata.now)) }
+        ++ (replicate (2 * level) 32 ++ named_line name.now metadata.now)) }
 {
     for _step in 0..level {
         text.push_str("  ")?;

@@ -37,12 +37,12 @@ pub fn consolidated_metadata_at<S: ReadableStorageTraits>(
 ) -> Result<Option<ConsolidatedMetadata>, NodeCreateError>
     ensures ok { IfOk result
         (λ chosen. block_to_use (block_at (S.contents storage.now) path.now metadata.now) policy
-            ≡ Some (as_block chosen)) }
+        ≡ Some (as_block chosen)) }
     ensures never { policy ≡ Never → result ≡ Ok None }
     ensures excused { IfErr result
         (λ e. ExcusesBlock (S.can_fail storage.now) metadata.now policy e
-            ⊎ RefusesUse path.now
-            (block_to_use (block_at (S.contents storage.now) path.now metadata.now) policy) e) }
+        ⊎ RefusesUse path.now
+        (block_to_use (block_at (S.contents storage.now) path.now metadata.now) policy) e) }
 {
     match (metadata, policy) {
         (_, UseConsolidatedMetadata::Never) => Ok(None),

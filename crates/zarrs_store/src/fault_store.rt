@@ -240,7 +240,7 @@ impl ListableStorageTraits for FaultStore {
     ) -> Result<Vec<StorePrefix>, StorageError>
         ensures prefixes { IfOk result
             (λ prefixes. Lists
-                (IsChildPrefix (inner_contents self.now) prefix.now) prefixes.items) }
+            (IsChildPrefix (inner_contents self.now) prefix.now) prefixes.items) }
         ensures err { IfErr result (IsStoreError true) }
         ensures place { (result ≡ Err StorageError.Fault)
             ↔ (self.now.place ≡ FaultAt.OnList prefix.now) }

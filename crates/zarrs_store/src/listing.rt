@@ -30,8 +30,8 @@ pub(crate) fn directly_below(
         (λ dir. dir.0.prefixes.items ≡ child_prefixes prefix.now (keys_of entries.now)) }
     ensures comparisons { IfOk result
         (λ dir. dir.1
-            ≤ length dir.0.keys.items + length dir.0.prefixes.items + length dir.0.prefixes.items *
-            (2 * digits (end - first))) }
+        ≤ length dir.0.keys.items + length dir.0.prefixes.items + length dir.0.prefixes.items *
+        (2 * digits (end - first))) }
     ensures few { IfOk result (λ dir. dir.1 ≤ 2 * length entries.now) }
 {
     let mut keys = Vec::new(alloc);

@@ -61,7 +61,7 @@ impl MemoryStore {
     pub fn insert(&mut self, key: StoreKey, bytes: Vec<u8>) -> Result<(), AllocError>
         ensures ok { OnOk result
             (map.from_entries {R = key_cmp} self.new
-                ≡ map.insert (map.from_entries {R = key_cmp} self.old) key bytes.items) }
+            ≡ map.insert (map.from_entries {R = key_cmp} self.old) key bytes.items) }
         ensures unchanged { OnErr result (self.new ≡ self.old) }
     {
         let _valid = key.as_str();
@@ -112,18 +112,18 @@ impl MemoryStore {
     ) -> Result<(StoreKeysPrefixes, u64), StorageError>
         ensures keys { IfOk result
             (λ dir. Lists
-                (IsChildKey (map.from_entries {R = key_cmp} self.now) prefix.now)
-                dir.0.keys.items) }
+            (IsChildKey (map.from_entries {R = key_cmp} self.now) prefix.now)
+            dir.0.keys.items) }
         ensures prefixes { IfOk result
             (λ dir. Lists
-                (IsChildPrefix (map.from_entries {R = key_cmp} self.now) prefix.now)
-                dir.0.prefixes.items) }
+            (IsChildPrefix (map.from_entries {R = key_cmp} self.now) prefix.now)
+            dir.0.prefixes.items) }
         ensures comparisons { IfOk result
             (λ dir. dir.1
-                ≤ length dir.0.keys.items + length dir.0.prefixes.items + length
-                dir.0.prefixes.items *
-                (2 * digits (keys_below prefix.now (keys_of self.now))) + 2 * digits
-                (length self.now)) }
+            ≤ length dir.0.keys.items + length dir.0.prefixes.items + length
+            dir.0.prefixes.items *
+            (2 * digits (keys_below prefix.now (keys_of self.now))) + 2 * digits
+            (length self.now)) }
         ensures err { IfErr result (IsStoreError false) }
     {
         let _valid = prefix.as_str();
@@ -232,7 +232,7 @@ impl WritableStorageTraits for MemoryStore {
     fn set(&mut self, key: &StoreKey, value: &[u8]) -> Result<(), StorageError>
         ensures ok { OnOk result
             (map.from_entries {R = key_cmp} self.new
-                ≡ map.insert (map.from_entries {R = key_cmp} self.old) key.now value.now) }
+            ≡ map.insert (map.from_entries {R = key_cmp} self.old) key.now value.now) }
         ensures err { IfErr result (IsStoreError false) }
         ensures unchanged { OnErr result (self.new ≡ self.old) }
     {
@@ -250,7 +250,7 @@ impl WritableStorageTraits for MemoryStore {
         ensures succeeds { IsOk result }
         ensures ok { OnOk result
             (map.from_entries {R = key_cmp} self.new
-                ≡ map.remove (map.from_entries {R = key_cmp} self.old) key.now) }
+            ≡ map.remove (map.from_entries {R = key_cmp} self.old) key.now) }
         ensures err { IfErr result (IsStoreError false) }
         ensures unchanged { OnErr result (self.new ≡ self.old) }
     {

@@ -172,8 +172,8 @@ fn output<L: Log, S: ReadableStorageTraits + ListableStorageTraits>(
         (λ text. IsOutput (command_words command.now) (S.contents store.now) text.items) }
     ensures err { IfErr result
         (λ fault. (fault ≢ ToolFault.Write) × (fault ≢ ToolFault.Usage)
-            × IsRefusal (S.can_fail store.now) (command_words command.now)
-            (S.contents store.now) fault) }
+        × IsRefusal (S.can_fail store.now) (command_words command.now)
+        (S.contents store.now) fault) }
 {
     let base = parse_path(alloc, command.path)?;
     output_of(log, alloc, command.word, store, &base)
