@@ -1,4 +1,8 @@
 -- Zarr core specification 3.1, "Metadata documents", and the version 2 specification, "Arrays", "Groups" and "Attributes": what a path means in a store, as a function of the look-ups at its keys.
+-- <https://zarr-specs.readthedocs.io/en/latest/v3/core/index.html#metadata>
+-- <https://zarr-specs.readthedocs.io/en/latest/v2/v2.0.html#arrays>
+-- <https://zarr-specs.readthedocs.io/en/latest/v2/v2.0.html#groups>
+-- <https://zarr-specs.readthedocs.io/en/latest/v2/v2.0.html#attributes>
 use Rattle.std.specs.Prelude.{◌≡◌, ℕ, List, [], ◌∷◌, ◌++◌, Option, Some, None, Result, Ok, Err}
 use Rattle.std.specs.FinMap.{FinMap, get}
 use Rattle.serde_json.specs.Data.{Data}

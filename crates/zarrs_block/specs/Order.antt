@@ -1,4 +1,5 @@
 -- Zarr core specification 3.1, section "Paths": the pairs of a hierarchy in the order of their paths.
+-- <https://zarr-specs.readthedocs.io/en/latest/v3/core/index.html#path>
 use Rattle.std.specs.Prelude.{◌≡◌, List, AllPairs}
 use Rattle.std.specs.declared.cmp.Ordering.TheVariants.{Less}
 use Rattle.zarrs_path.specs.Paths.{Path, path_cmp}

@@ -1,4 +1,6 @@
 -- Zarr core specification 3.1, "Node names" and "Metadata": what it means that a node is refused.
+-- <https://zarr-specs.readthedocs.io/en/latest/v3/core/index.html#node-names>
+-- <https://zarr-specs.readthedocs.io/en/latest/v3/core/index.html#metadata>
 use Rattle.std.specs.Prelude.{◌≡◌, Bool, ◌++◌, string_bytes, codes}
 use Rattle.zarrs_store.specs.Faults.{IsStoreError}
 use Rattle.zarrs_store.specs.declared.storage_error.StorageError.TheVariants.{Fault, InvalidMetadata, Other, OutOfMemory as NoStoreMemory}

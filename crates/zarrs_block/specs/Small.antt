@@ -1,4 +1,5 @@
 -- The version 2 convention of consolidated metadata (`.zmetadata`): a small store, which holds JSON trees at its keys in the place of bytes.
+-- <https://zarr.readthedocs.io/en/stable/user-guide/consolidated_metadata/>
 --     counted_members ms      the members that are documents of version 2, each at the segments of its name
 --     small b ms      the small store that they are, behind the names of a base
 --     small_meaning z p      what a path means in a small store

@@ -1,4 +1,5 @@
 -- The version 2 convention of consolidated metadata, the document `.zmetadata` of a group (zarr-python, "Consolidated metadata"): how it is read as a block, and how it is written.
+-- <https://zarr.readthedocs.io/en/stable/user-guide/consolidated_metadata/>
 --     zmetadata_of d      the block that a document is, or its first fault
 --     HoldsStore, IsClean      what that block has and that nothing below the group is bad, as of any store
 --     IsZmetadataFault d fault      what refuses a document

@@ -20,6 +20,7 @@ use zarrs_store::{MemberName, MetadataFault};
 /// The consolidated block of a group.
 ///
 /// Source: `zarrs_metadata_ext::v3::group::ConsolidatedMetadata`; the form is that of zarr-python.
+/// <https://zarr.readthedocs.io/en/stable/user-guide/consolidated_metadata/>
 #[derive(Debug, Drop)]
 pub struct ConsolidatedMetadata {
     /// The metadata of the nodes.
@@ -31,6 +32,7 @@ pub struct ConsolidatedMetadata {
 /// Contracts see the list of the keys with their metadata, in the order of the keys.
 ///
 /// Source: `zarrs_metadata_ext::v3::group::ConsolidatedMetadataMetadata`.
+/// <https://zarr.readthedocs.io/en/stable/user-guide/consolidated_metadata/>
 #[derive(Debug, Drop)]
 pub struct ConsolidatedMetadataMetadata {
     entries: Map<String, NodeMetadata>,

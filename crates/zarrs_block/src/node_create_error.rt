@@ -9,6 +9,7 @@ use zarrs_store::{StorageError, StorePrefixError};
 /// Why a node was not made.
 ///
 /// Source: `zarrs::node::NodeCreateError`.
+/// <https://docs.rs/zarrs/0.23.13/zarrs/node/enum.NodeCreateError.html>
 #[derive(Debug, Drop, Error)]
 pub enum NodeCreateError {
     /// A text is no path.

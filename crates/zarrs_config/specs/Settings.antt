@@ -1,4 +1,5 @@
 -- Zarr core specification 3.1, "Metadata": which documents a call reads, writes and erases is left to the caller, who chooses here.
+-- <https://zarr-specs.readthedocs.io/en/latest/v3/core/index.html#metadata>
 use Rattle.zarrs_config.specs.declared.version.MetadataConvertVersion.{MetadataConvertVersion}
 use Rattle.zarrs_config.specs.declared.version.MetadataConvertVersion.TheVariants.{Default as AsHeld}
 use Rattle.zarrs_config.specs.declared.version.MetadataEraseVersion.{MetadataEraseVersion}

@@ -9,6 +9,7 @@ use std::marker::Model;
 /// The settings that a call goes by.
 ///
 /// Source: `zarrs::config::Config`.
+/// <https://docs.rs/zarrs/0.23.13/zarrs/config/struct.Config.html>
 #[derive(Clone, Copy, Debug)]
 pub struct Config {
     group_metadata_options: GroupMetadataOptions,

@@ -7,6 +7,7 @@ use std::marker::Model;
 /// How the metadata of a group are written: the version that they are converted to.
 ///
 /// Source: `zarrs::group::GroupMetadataOptions`.
+/// <https://docs.rs/zarrs/0.23.13/zarrs/group/struct.GroupMetadataOptions.html>
 #[derive(Clone, Copy, Debug)]
 pub struct GroupMetadataOptions {
     convert_version: MetadataConvertVersion,

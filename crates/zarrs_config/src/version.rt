@@ -3,6 +3,7 @@
 /// Which version of metadata is written.
 ///
 /// Source: `zarrs::config::MetadataConvertVersion`.
+/// <https://docs.rs/zarrs/0.23.13/zarrs/config/enum.MetadataConvertVersion.html>
 #[derive(Clone, Copy, PartialEq, Eq, Debug)]
 pub enum MetadataConvertVersion {
     /// The version that the metadata have.
@@ -14,6 +15,7 @@ pub enum MetadataConvertVersion {
 /// Which metadata are erased.
 ///
 /// Source: `zarrs::config::MetadataEraseVersion`.
+/// <https://docs.rs/zarrs/0.23.13/zarrs/config/enum.MetadataEraseVersion.html>
 #[derive(Clone, Copy, PartialEq, Eq, Debug)]
 pub enum MetadataEraseVersion {
     /// Those of the version that is held.
@@ -29,6 +31,7 @@ pub enum MetadataEraseVersion {
 /// Which metadata are looked for.
 ///
 /// Source: `zarrs::config::MetadataRetrieveVersion`.
+/// <https://docs.rs/zarrs/0.23.13/zarrs/config/enum.MetadataRetrieveVersion.html>
 #[derive(Clone, Copy, PartialEq, Eq, Debug)]
 pub enum MetadataRetrieveVersion {
     /// Version 3, and where there is none version 2.
@@ -42,6 +45,7 @@ pub enum MetadataRetrieveVersion {
 /// Whether a consolidated block of metadata stands in place of a listing of the store.
 ///
 /// Source: `zarrs::config::UseConsolidatedMetadata`.
+/// <https://docs.rs/zarrs/0.23.13/zarrs/config/enum.UseConsolidatedMetadata.html>
 #[derive(Clone, Copy, PartialEq, Eq, Debug)]
 pub enum UseConsolidatedMetadata {
     /// It is used where there is one.

@@ -1,4 +1,5 @@
 -- Zarr core specification 3.1, "Array metadata": a version 2 array as an array of version 3.
+-- <https://zarr-specs.readthedocs.io/en/latest/v3/core/index.html#array-metadata>
 use Rattle.std.specs.Prelude.{ℕ, List, Result, Ok, Err, length, codes}
 use Rattle.zarrs_form.specs.Forms.{list_data, number_data}
 use Rattle.zarrs_form.specs.FormsV2.{separator_data}

@@ -1,4 +1,6 @@
 -- Zarr specification version 2, "Metadata" ("order", "filters", "compressor"), and Zarr core specification 3.1, "Codecs": the codecs in version 3.
+-- <https://zarr-specs.readthedocs.io/en/latest/v2/v2.0.html#metadata>
+-- <https://zarr-specs.readthedocs.io/en/latest/v3/core/index.html#codecs>
 use Rattle.std.specs.Prelude.{ℕ, List, [], ◌∷◌, ◌++◌, Option, Some, None, Result, Ok, Err, codes, if◌then◌else◌, reverse, unwrap_or}
 use Rattle.std.specs.List.{range_with_len}
 use Rattle.serde_json.specs.Data.{string}

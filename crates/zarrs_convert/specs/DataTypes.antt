@@ -1,4 +1,6 @@
 -- Zarr specification version 2, "Data type encoding", and Zarr core specification 3.1, "Data types": byte orders, and the data types of version 2 by their names in version 3.
+-- <https://zarr-specs.readthedocs.io/en/latest/v2/v2.0.html#data-type-encoding>
+-- <https://zarr-specs.readthedocs.io/en/latest/v3/core/index.html#data-types>
 use Rattle.std.specs.Prelude.{ℕ, List, [], ◌∷◌, ◌++◌, ◌*◌, ◌&&◌, if◌then◌else◌, Option, Some, None, Result, Ok, Err, option_map, codes}
 use Rattle.std.specs.Fmt.{decimal}
 use Rattle.zarrs_form.specs.declared.extension.MetadataV3.{MetadataV3}

@@ -1,4 +1,5 @@
 -- Zarr core specification 3.1, "Group metadata": a version 2 group as a group of version 3.
+-- <https://zarr-specs.readthedocs.io/en/latest/v3/core/index.html#group-metadata>
 use Rattle.serde_json.specs.Data.{no_members}
 use Rattle.zarrs_meta.specs.declared.group_v3.GroupMetadataV3.{GroupMetadataV3}
 use Rattle.zarrs_meta.specs.declared.group_v2.GroupMetadataV2.{GroupMetadataV2}

@@ -1,4 +1,6 @@
 -- What holds of every conversion, by the definitions alone.
+-- <https://zarr-specs.readthedocs.io/en/latest/v3/core/index.html#array-metadata>
+-- <https://zarr-specs.readthedocs.io/en/latest/v3/core/index.html#group-metadata>
 use Rattle.std.specs.Prelude.{◌≡◌, IsTrue, Ok}
 use Rattle.zarrs_meta.specs.ArrayV2.{is_plain_array_v2}
 use Rattle.zarrs_meta.specs.ArrayV3.{is_plain_array_v3}

@@ -1,4 +1,5 @@
 -- Zarr core specification 3.1, "Array metadata": why an array of version 2 has no form of version 3.
+-- <https://zarr-specs.readthedocs.io/en/latest/v3/core/index.html#array-metadata>
 use Rattle.std.specs.Prelude.{◌≡◌, ℕ, List, Option, Result, Ok, Err, IsErr, string_bytes}
 use Rattle.serde_json.specs.Data.{Members}
 use Rattle.serde_json.specs.View.{members_view}

@@ -1,4 +1,6 @@
 -- How the tables of the conversion are read, and the words that they share.
+-- <https://zarr-specs.readthedocs.io/en/latest/v2/v2.0.html#metadata>
+-- <https://zarr-specs.readthedocs.io/en/latest/v3/core/index.html#array-metadata>
 use Rattle.std.specs.Prelude.{if◌then◌else◌, ℕ, List, [], ◌∷◌, Bool, true, false, bytes_eq, ◌&&◌, Option, Some, None, drop, length, nat_eq, nat_lt, ◌^◌}
 use Rattle.std.specs.List.{list_any, starts_with}
 use Rattle.std.specs.Str.{all_ascii_digits}

@@ -9,6 +9,7 @@ use zarrs_meta::{DataTypeMetadataV2, FillValueMetadata};
 /// Why a version 2 array was not converted to an array of version 3.
 ///
 /// Source: `zarrs::convert::ArrayMetadataV2ToV3Error`.
+/// <https://docs.rs/zarrs/0.23.13/zarrs/convert/enum.ArrayMetadataV2ToV3Error.html>
 #[derive(Debug, Drop, Error)]
 pub enum ArrayMetadataV2ToV3Error {
     /// A data type has no form of version 3.
@@ -40,6 +41,7 @@ pub enum ArrayMetadataV2ToV3Error {
 /// Why a data type of version 2 has no byte order.
 ///
 /// Source: `zarrs_metadata::v2::DataTypeMetadataV2EndiannessError`.
+/// <https://zarr-specs.readthedocs.io/en/latest/v2/v2.0.html#data-type-encoding>
 #[derive(Debug, Drop, Error)]
 pub enum DataTypeMetadataV2EndiannessError {
     /// The text of the data type does not begin with a byte order.

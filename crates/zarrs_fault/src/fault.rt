@@ -9,6 +9,8 @@ use thiserror::Error;
 /// The name of a member of a metadata document.
 ///
 /// Contracts see it as its text.
+///
+/// <https://www.rfc-editor.org/rfc/rfc8259#section-4>
 #[derive(Debug, Drop)]
 pub struct MemberName {
     text: &'static str,
@@ -50,6 +52,8 @@ impl fmt::Display for MemberName {
 /// Why a metadata document was refused: the first of these that applies.
 ///
 /// Source: Zarr core specification 3.1, "Array metadata" and "Group metadata"; in place of the parser's words of `zarrs`.
+/// <https://zarr-specs.readthedocs.io/en/latest/v3/core/index.html#array-metadata>
+/// <https://zarr-specs.readthedocs.io/en/latest/v3/core/index.html#group-metadata>
 #[derive(Debug, Drop, Error)]
 pub enum MetadataFault {
     /// The bytes are no JSON text.

@@ -1,4 +1,5 @@
 -- How the logic stores JSON data, as a list of steps that build it on a stack. `data_code` and `members_code` are for the models of `src/`; nothing else reads this file.
+-- <https://www.rfc-editor.org/rfc/rfc8259>
 use Rattle.std.specs.Prelude.{◌≡◌, ◌⊎◌, ◌==◌, ℕ, ℤ, true, false, List, [], ◌∷◌, ◌++◌, cond, refl}
 use Rattle.std.specs.Float.{Float}
 use Rattle.std.specs.Coded.{Coded, code_by, coded⊎, coded_ℕ, coded_ℤ, coded_list}

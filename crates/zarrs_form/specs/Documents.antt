@@ -1,4 +1,6 @@
 -- Zarr core specification 3.1, "Metadata documents", and specification version 2, "Metadata": how documents are read, each step answering its value or the first fault.
+-- <https://zarr-specs.readthedocs.io/en/latest/v3/core/index.html#metadata>
+-- <https://zarr-specs.readthedocs.io/en/latest/v2/v2.0.html#metadata>
 use Rattle.std.specs.Prelude.{◌≡◌, ◌≢◌, ◌==◌, ℕ, List, [], ◌∷◌, Bool, true, false, bytes_eq, ◌||◌, if◌then◌else◌, Option, Some, None, Result, Ok, Err, codes, option_and_then, is_some}
 use Rattle.std.specs.List.{list_any}
 use Rattle.std.specs.Str.{is_utf8}

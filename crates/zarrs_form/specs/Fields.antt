@@ -1,4 +1,6 @@
 -- The additional fields of a version 3 document: Zarr core specification 3.1, "Group metadata" and "Array metadata", on names that are in no table.
+-- <https://zarr-specs.readthedocs.io/en/latest/v3/core/index.html#group-metadata>
+-- <https://zarr-specs.readthedocs.io/en/latest/v3/core/index.html#array-metadata>
 use Rattle.std.specs.Prelude.{Bool, true, false, [], ◌∷◌, codes, option_and_then, unwrap_or}
 use Rattle.serde_json.specs.Data.{Data, boolean, object, put}
 use Rattle.serde_json.specs.Find.{get, as_bool}

@@ -1,4 +1,6 @@
 -- Zarr core specification 3.1, "Array metadata" and "Extension definition": the forms of members, each the value that the data stand for, or none where they have another form.
+-- <https://zarr-specs.readthedocs.io/en/latest/v3/core/index.html#array-metadata>
+-- <https://zarr-specs.readthedocs.io/en/latest/v3/core/index.html#extension-definition>
 use Rattle.std.specs.Prelude.{ℕ, List, [], ◌∷◌, Bool, true, false, not, ◌&&◌, if◌then◌else◌, is_none, Option, Some, None, option_map, option_and_then, codes, map}
 use Rattle.serde_json.specs.Data.{Data, null, boolean, number, string, array, object, Items, no_items, item, Members, no_members, unsigned, put}
 use Rattle.serde_json.specs.Written.{has_float}

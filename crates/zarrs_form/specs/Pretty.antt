@@ -1,4 +1,5 @@
 -- RFC 8259: the pretty layout of a value, piece by piece. A level is two spaces.
+-- <https://www.rfc-editor.org/rfc/rfc8259>
 --     pretty_text d, text_at n d      the layout of a value; that of one n levels deep
 --     entry_text      a member of an object that stands one level deep
 use Rattle.std.specs.Prelude.{if◌then◌else◌, ℕ, ◌+◌, List, [], ◌∷◌, ◌++◌, Bool, true, false}

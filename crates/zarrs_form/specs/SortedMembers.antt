@@ -1,4 +1,5 @@
 -- Members that stand in the order of their names, as RFC 8259, "Objects", lets them stand in any: each name once.
+-- <https://www.rfc-editor.org/rfc/rfc8259#section-4>
 --     NamesAscend      that entries stand in the order of their names
 use Rattle.std.specs.Prelude.{List, String, string_cmp}
 use Rattle.std.specs.Global.{Global}

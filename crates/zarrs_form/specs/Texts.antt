@@ -1,4 +1,6 @@
 -- RFC 8259, "Strings" and "Objects": the pieces of the compact text of a document.
+-- <https://www.rfc-editor.org/rfc/rfc8259#section-7>
+-- <https://www.rfc-editor.org/rfc/rfc8259#section-4>
 use Rattle.std.specs.Prelude.{◌≡◌, ℕ, List, [], ◌∷◌, ◌++◌, Option, Some, None}
 use Rattle.json.specs.Print.{quoted}
 use Rattle.serde_json.specs.Data.{Data}

@@ -16,6 +16,7 @@ use zarrs_fault::{MemberName, MetadataFault};
 /// The layout of the items within a chunk.
 ///
 /// Zarr specification version 2, "Arrays", "Metadata", "order".
+/// <https://zarr-specs.readthedocs.io/en/latest/v2/v2.0.html#metadata>
 #[derive(Clone, Copy, Debug, PartialEq, Eq)]
 pub enum ArrayMetadataV2Order {
     /// The last dimension varies fastest.
@@ -27,6 +28,8 @@ pub enum ArrayMetadataV2Order {
 /// What stands between the numbers of a chunk's key.
 ///
 /// Zarr specification version 2, "Arrays", "Metadata", "dimension_separator".
+/// <https://zarr-specs.readthedocs.io/en/latest/v2/v2.0.html#metadata>
+/// <https://zarr-specs.readthedocs.io/en/latest/v3/core/index.html#chunk-key-encoding>
 #[derive(Clone, Copy, Debug, PartialEq, Eq)]
 pub enum ChunkKeySeparator {
     /// A period.

@@ -13,6 +13,7 @@ use std::alloc::{AllocError, Global};
 /// The metadata of a codec of version 2: a compressor or a filter.
 ///
 /// Zarr specification version 2, "Arrays", "Metadata", "compressor" and "filters".
+/// <https://zarr-specs.readthedocs.io/en/latest/v2/v2.0.html#metadata>
 #[derive(Debug, Drop)]
 pub struct MetadataV2 {
     /// The identifier of the codec.

@@ -9,6 +9,8 @@ use crate::shapes::{FillValueMetadata, Json, List, Object, Text};
 use std::alloc::{AllocError, Global};
 
 /// What can be copied, so that lists and options of it can.
+///
+/// <https://doc.rust-lang.org/std/clone/trait.Clone.html>
 pub trait Duplicate: Sized {
     /// A copy that equals its source.
     ///

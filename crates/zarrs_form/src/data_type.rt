@@ -11,6 +11,7 @@ use std::alloc::{AllocError, Global};
 /// The data type of a version 2 array.
 ///
 /// Zarr specification version 2, "Arrays", "Data type encoding".
+/// <https://zarr-specs.readthedocs.io/en/latest/v2/v2.0.html#data-type-encoding>
 #[derive(Debug, Drop)]
 pub enum DataTypeMetadataV2 {
     /// A simple data type, as `<f8`.
@@ -20,6 +21,8 @@ pub enum DataTypeMetadataV2 {
 }
 
 /// The order of the bytes of a number.
+///
+/// <https://zarr-specs.readthedocs.io/en/latest/v2/v2.0.html#data-type-encoding>
 #[derive(Clone, Copy, Debug, PartialEq, Eq)]
 pub enum Endianness {
     /// The least byte first.

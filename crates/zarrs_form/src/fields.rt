@@ -17,6 +17,8 @@ use std::alloc::{AllocError, Global};
 use std::marker::Model;
 
 /// An additional field: any JSON value.
+///
+/// <https://zarr-specs.readthedocs.io/en/latest/v3/core/index.html#extension-points>
 #[derive(Debug, Drop)]
 pub struct AdditionalFieldV3 {
     value: Value,
@@ -87,6 +89,7 @@ impl AdditionalFieldV3 {
 /// no field they take no memory.
 ///
 /// Source: Zarr core specification 3.1, "Group metadata" and "Array metadata".
+/// <https://zarr-specs.readthedocs.io/en/latest/v3/core/index.html#extension-points>
 #[derive(Debug, Drop)]
 pub struct AdditionalFieldsV3 {
     entries: Vec<(String, AdditionalFieldV3)>,

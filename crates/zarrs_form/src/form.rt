@@ -23,6 +23,8 @@ use zarrs_fault::{MemberName, MetadataFault};
 ///
 /// Source: Zarr core specification 3.1, "Array metadata" and "Extension definition"; specification
 /// version 2, "Arrays", "Metadata".
+/// <https://zarr-specs.readthedocs.io/en/latest/v3/core/index.html#array-metadata>
+/// <https://zarr-specs.readthedocs.io/en/latest/v2/v2.0.html#metadata>
 pub trait Form: Sized {
     /// The value that the data stand for, where they have the form.
     ghost form: { Data → Option Self };

@@ -17,6 +17,8 @@ use std::alloc::{AllocError, Global};
 use std::marker::Model;
 
 /// A text; contracts see its bytes.
+///
+/// <https://www.rfc-editor.org/rfc/rfc8259#section-7>
 #[derive(Debug, Drop)]
 pub struct Text {
     string: String,
@@ -68,6 +70,8 @@ impl Text {
 }
 
 /// A list; contracts see its items.
+///
+/// <https://www.rfc-editor.org/rfc/rfc8259#section-5>
 #[derive(Debug, Drop)]
 pub struct List<T> {
     items: Vec<T>,
@@ -119,6 +123,7 @@ impl<T> List<T> {
 /// its members in order. An empty one takes no memory.
 ///
 /// Source: RFC 8259, "Objects".
+/// <https://www.rfc-editor.org/rfc/rfc8259#section-4>
 #[derive(Debug, Drop)]
 pub struct Object {
     entries: Vec<(String, Value)>,
@@ -269,6 +274,8 @@ impl Object {
 }
 
 /// A JSON value, as an item of a list.
+///
+/// <https://www.rfc-editor.org/rfc/rfc8259#section-3>
 #[derive(Debug, Drop)]
 pub struct Json {
     value: Value,
@@ -305,6 +312,8 @@ impl Json {
 /// A fill value: any JSON value.
 ///
 /// Zarr core specification 3.1, "Array metadata", "fill_value"; specification version 2, "Arrays", "Fill value encoding".
+/// <https://zarr-specs.readthedocs.io/en/latest/v3/core/index.html#fill-value>
+/// <https://zarr-specs.readthedocs.io/en/latest/v2/v2.0.html#fill-value-encoding>
 #[derive(Debug, Drop)]
 pub struct FillValueMetadata {
     value: Value,

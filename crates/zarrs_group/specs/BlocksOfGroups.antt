@@ -1,4 +1,6 @@
 -- Zarr core specification 3.1, "Group metadata", the field `consolidated_metadata`, and the document `.zmetadata` of version 2: the block that a group holds, and the group with a block set.
+-- <https://zarr-specs.readthedocs.io/en/latest/v3/core/index.html#group-metadata>
+-- <https://zarr.readthedocs.io/en/stable/user-guide/consolidated_metadata/>
 --     held_by g      the block that a group holds, where there is one
 --     block_beside s p m      the block that a store has beside the metadata of a group
 --     with_block g block      the group with a block or without one, all else as it was

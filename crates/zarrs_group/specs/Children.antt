@@ -1,4 +1,7 @@
 -- Zarr core specification 3.1, "Hierarchy" and "Group metadata", the field `consolidated_metadata`, and the document `.zmetadata` of version 2: what stands below a group, by its block or by a listing.
+-- <https://zarr-specs.readthedocs.io/en/latest/v3/core/index.html#hierarchy>
+-- <https://zarr-specs.readthedocs.io/en/latest/v3/core/index.html#group-metadata>
+-- <https://zarr.readthedocs.io/en/stable/user-guide/consolidated_metadata/>
 --     block_choice g config      the block that is used of a group, or that the store is listed, or nothing where the want of a block is refused
 --     ShowsChildren, ListsNodes, AreChildren      what its trees show; what all its nodes are; what its children are, in order
 --     IsCleanBelow, RefusesChildren      that nothing refuses it; what a refusal is

@@ -1,4 +1,5 @@
 -- Zarr core specification 3.1, "Abstract store interface": changes of a store, one key at a time.
+-- <https://zarr-specs.readthedocs.io/en/latest/v3/core/index.html#abstract-store-interface>
 use Rattle.std.specs.Prelude.{◌≡◌, ℕ, List, [], ◌∷◌, ◌++◌}
 use Rattle.std.specs.FinMap as map
 use Rattle.zarrs_store.specs.Segments.{Segments}

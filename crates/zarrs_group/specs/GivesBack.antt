@@ -1,4 +1,6 @@
 -- Zarr core specification 3.1, "Group metadata", the field `consolidated_metadata`, and the document `.zmetadata` of version 2: a group whose block was made of a forest gives that forest back.
+-- <https://zarr-specs.readthedocs.io/en/latest/v3/core/index.html#group-metadata>
+-- <https://zarr.readthedocs.io/en/stable/user-guide/consolidated_metadata/>
 --     Consolidates g f B      B is the block of the listed forest f below the version 3 group g
 --     ConsolidatesV2 g f B      B is the block of the listed forest f of version 2 nodes below the version 2 group g
 --     GivesBack g f      what the children of g are, whatever the store holds

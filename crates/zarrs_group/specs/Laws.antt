@@ -1,4 +1,5 @@
 -- What holds of groups by the definitions alone.
+-- <https://zarr-specs.readthedocs.io/en/latest/v3/core/index.html#group-metadata>
 use Rattle.std.specs.Prelude.{◌≡◌, ◌≢◌, ◌≤◌, ◌↔◌, List, [], ◌∷◌, ◌++◌, Option, None, IsTrue}
 use Rattle.std.specs.FinMap as map
 use Rattle.serde_json.specs.Data.{depth, object}

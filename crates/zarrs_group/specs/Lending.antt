@@ -1,4 +1,5 @@
 -- What a group ends as, where a call that changes it lends it on.
+-- <https://zarr-specs.readthedocs.io/en/latest/v3/core/index.html#group-metadata>
 use Rattle.std.specs.Prelude.{◌≡◌, Result}
 use Rattle.std.specs.Borrow.{MutBor, Fml, RestsIfErr}
 use Rattle.zarrs_group.specs.contracts.group.Group.{the_row as group_row}

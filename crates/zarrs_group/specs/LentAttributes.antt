@@ -1,4 +1,5 @@
 -- What a group ends as, where its attributes are lent to be written.
+-- <https://zarr-specs.readthedocs.io/en/latest/v3/core/index.html#group-metadata>
 use Rattle.serde_json.specs.Data.{Members}
 use Rattle.std.specs.Borrow.{Lends, MutBor, Fml}
 use Rattle.zarrs_form.specs.contracts.shapes.Object.{the_row as object_row}

@@ -1,5 +1,8 @@
 -- Zarr core specification 3.1, "Group metadata", and the keys of Zarr version 2: what a path means as a group.
 -- The lines are those of the meaning of a node, without the one for arrays of version 2.
+-- <https://zarr-specs.readthedocs.io/en/latest/v3/core/index.html#group-metadata>
+-- <https://zarr-specs.readthedocs.io/en/latest/v2/v2.0.html#groups>
+-- <https://zarr-specs.readthedocs.io/en/latest/v2/v2.0.html#attributes>
 use Rattle.std.specs.Prelude.{◌≡◌, [], ◌∷◌, ◌++◌, Option, Some, None, Result, Ok, Err}
 use Rattle.zarrs_store.specs.Contents.{Contents}
 use Rattle.zarrs_store.specs.declared.storage_error.StorageError.{StorageError}

@@ -1,4 +1,6 @@
 -- Zarr core specification 3.1, "Group metadata" and "Extension points": opening a group, and the additional fields that must be understood.
+-- <https://zarr-specs.readthedocs.io/en/latest/v3/core/index.html#group-metadata>
+-- <https://zarr-specs.readthedocs.io/en/latest/v3/core/index.html#extension-points>
 use Rattle.std.specs.Prelude.{true, false, ◌≢◌, ◌≡◌, ℕ, Bool, IsTrue, List, Option, Some, None}
 use Rattle.std.specs.declared.cmp.Ordering.TheVariants.{Less}
 use Rattle.serde_json.specs.Data.{Data, Members}

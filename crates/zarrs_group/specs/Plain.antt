@@ -1,6 +1,8 @@
 -- Zarr core specification 3.1, "Group metadata", and the document `.zmetadata` of version 2: the fields that a group has by its format, and what cannot stand beside them.
 -- Why the metadata of a group could not have come from a document: a number that does not fit, or else the least name
 -- of an additional field that clashes with a name of the document's own.
+-- <https://zarr-specs.readthedocs.io/en/latest/v3/core/index.html#group-metadata>
+-- <https://zarr.readthedocs.io/en/stable/user-guide/consolidated_metadata/>
 use Rattle.std.specs.Prelude.{ℕ, Bool, ◌||◌, if◌then◌else◌, List, [], Option, Some, None, is_some, option_map, codes}
 use Rattle.std.specs.List.{list_all, list_any}
 use Rattle.serde_json.specs.Data.{Members}

@@ -1,4 +1,8 @@
 -- Zarr core specification 3.1, "Group metadata", the keys of Zarr version 2, and its document `.zmetadata`: what storing and erasing a group does to a store.
+-- <https://zarr-specs.readthedocs.io/en/latest/v3/core/index.html#group-metadata>
+-- <https://zarr-specs.readthedocs.io/en/latest/v2/v2.0.html#groups>
+-- <https://zarr-specs.readthedocs.io/en/latest/v2/v2.0.html#attributes>
+-- <https://zarr.readthedocs.io/en/stable/user-guide/consolidated_metadata/>
 use Rattle.std.specs.Prelude.{if◌then◌else◌, ◌≡◌, ℕ, Bool, IsTrue, List, [], ◌∷◌, ◌++◌, Option, Some, None, option_map, map}
 use Rattle.serde_json.specs.Data.{object, Members}
 use Rattle.zarrs_store.specs.Segments.{Segments}

@@ -1,4 +1,5 @@
 -- Zarr core specification 3.1, "Extension points": an additional field that must be understood.
+-- <https://zarr-specs.readthedocs.io/en/latest/v3/core/index.html#extension-points>
 use Rattle.std.specs.Prelude.{ℕ, List, refl}
 use Rattle.std.specs.Coded.{Coded, code_by, coded×, coded_list, coded_ℕ}
 use Rattle.serde_json.specs.Data.{Data}

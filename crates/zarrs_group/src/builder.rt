@@ -16,6 +16,7 @@ use zarrs_meta::{AdditionalFieldsV3, GroupMetadata, GroupMetadataV3, Object};
 /// Makes groups of version 3.
 ///
 /// Source: `zarrs::group::GroupBuilder`.
+/// <https://docs.rs/zarrs/0.23.13/zarrs/group/struct.GroupBuilder.html>
 #[derive(Debug, Drop)]
 pub struct GroupBuilder {
     metadata: GroupMetadataV3,

@@ -12,6 +12,7 @@ use zarrs_store::{StorageError, StorePrefixError};
 /// Why a group was not made.
 ///
 /// Source: `zarrs::group::GroupCreateError`.
+/// <https://docs.rs/zarrs/0.23.13/zarrs/group/enum.GroupCreateError.html>
 #[derive(Debug, Drop, Error)]
 pub enum GroupCreateError {
     /// A text is no path.

@@ -38,6 +38,8 @@ use zarrs_store::{ReadableStorageTraits, StorageError, WritableStorageTraits};
 /// and erased by.
 ///
 /// Source: `zarrs::group::Group`.
+/// <https://zarr-specs.readthedocs.io/en/latest/v3/core/index.html#group-metadata>
+/// <https://docs.rs/zarrs/0.23.13/zarrs/group/struct.Group.html>
 #[derive(Debug, Drop)]
 pub struct Group {
     path: NodePath,

@@ -12,6 +12,7 @@ use zarrs_meta::{AdditionalFieldsV3, GroupMetadata};
 /// An additional field that must be understood, and is not.
 ///
 /// Source: `zarrs::array::AdditionalFieldUnsupportedError`.
+/// <https://zarr-specs.readthedocs.io/en/latest/v3/core/index.html#extension-points>
 #[derive(Debug, Drop, Error)]
 #[error("unsupported additional field {name}")]
 pub struct AdditionalFieldUnsupportedError {

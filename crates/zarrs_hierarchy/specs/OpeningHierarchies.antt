@@ -1,4 +1,7 @@
 -- Zarr core specification 3.1, "Hierarchy" and "Group metadata", the field `consolidated_metadata`: what an opened hierarchy has.
+-- <https://zarr-specs.readthedocs.io/en/latest/v3/core/index.html#hierarchy>
+-- <https://zarr-specs.readthedocs.io/en/latest/v3/core/index.html#group-metadata>
+-- <https://zarr.readthedocs.io/en/stable/user-guide/consolidated_metadata/>
 use Rattle.std.specs.Prelude.{◌≡◌, ℕ, List, Option, Some, None}
 use Rattle.zarrs_store.specs.Contents.{Contents}
 use Rattle.zarrs_path.specs.Paths.{Path, IsPath, path_text}

@@ -1,4 +1,5 @@
 -- Zarr core specification 3.1, "Hierarchy": the nodes of a hierarchy, each by its path.
+-- <https://zarr-specs.readthedocs.io/en/latest/v3/core/index.html#hierarchy>
 use Rattle.std.specs.Prelude.{◌≡◌, List, Option, ◌⊎◌}
 use Rattle.std.specs.Map.{lookup}
 use Rattle.std.specs.BTreeMap.{is_at}

@@ -1,4 +1,5 @@
 -- Zarr core specification 3.1, "Hierarchy": what a sink took of the nodes below a base.
+-- <https://zarr-specs.readthedocs.io/en/latest/v3/core/index.html#hierarchy>
 --     AppendsNode      how the text of a hierarchy takes a node
 use Rattle.std.specs.Prelude.{◌≡◌, ◌-◌, ◌++◌, length, string_bytes}
 use Rattle.zarrs_path.specs.Paths.{Path}

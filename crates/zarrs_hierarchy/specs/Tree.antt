@@ -1,4 +1,5 @@
 -- Zarr core specification 3.1, "Hierarchy": a hierarchy as text.
+-- <https://zarr-specs.readthedocs.io/en/latest/v3/core/index.html#hierarchy>
 use Rattle.std.specs.Prelude.{◌≡◌, ℕ, Bool, true, false, ◌&&◌, List, [], ◌∷◌, ◌++◌, Contains, bytes_eq}
 use Rattle.std.specs.List.{filter}
 use Rattle.zarrs_path.specs.Paths.{Path, path_text}

@@ -23,6 +23,8 @@ pub type HierarchyCreateError = NodeCreateError;
 /// Contracts see the list of the paths with their metadata, in the order of paths.
 ///
 /// Source: `zarrs::hierarchy::Hierarchy`.
+/// <https://zarr-specs.readthedocs.io/en/latest/v3/core/index.html#hierarchy>
+/// <https://docs.rs/zarrs/0.23.13/zarrs/hierarchy/struct.Hierarchy.html>
 #[derive(Debug, Drop)]
 pub struct Hierarchy {
     pub(crate) nodes: Vec<(NodePath, NodeMetadata)>,

@@ -1,5 +1,7 @@
 -- The store of a folder: a file's key is the names that lead to it, joined by slashes, and documents alone have bytes (Zarr core specification 3.1,
 -- "Storage keys"; the keys of version 2 metadata).
+-- <https://zarr-specs.readthedocs.io/en/latest/v3/core/index.html#storage-keys>
+-- <https://zarr-specs.readthedocs.io/en/latest/v2/v2.0.html#metadata>
 use Rattle.std.specs.Prelude.{◌≡◌, ℕ, List, [], ◌∷◌, ◌++◌, ◌⊎◌, ⊤, Contains, IfSome, codes}
 use Rattle.std.specs.FinMap as map
 use Rattle.zarrs_store.specs.Segments.{Segments, key_text}

@@ -1,5 +1,6 @@
 -- The store of an image: a JSON object from the texts of store keys to the texts of documents, as a finite map from keys to bytes (Zarr core
 -- specification 3.1, "Abstract store interface": keys with values).
+-- <https://zarr-specs.readthedocs.io/en/latest/v3/core/index.html#abstract-store-interface>
 use Rattle.std.specs.Prelude.{◌≡◌, ℕ, List, [], ◌∷◌, ◌++◌, All, Option, Some, IfSome, IsSome, option_and_then, IsUtf8, string_bytes}
 use Rattle.std.specs.FinMap as map
 use Rattle.std.specs.Map.{lookup}

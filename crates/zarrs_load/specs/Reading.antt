@@ -1,4 +1,5 @@
 -- What reading an input to its end does to a reader whose bytes are known.
+-- <https://doc.rust-lang.org/std/io/trait.Read.html>
 use Rattle.std.specs.Prelude.{◌≡◌, ℕ, ◌*◌, ◌≤◌, List, length, ⊤, Option, IfSome}
 use Rattle.std.specs.Io.KnownBytes.{Consumes, IsAtEnd}
 use Rattle.zarrs_load.specs.declared.fault.LoadFault.{LoadFault}

@@ -6,6 +6,8 @@ use std::alloc::{AllocError, AllocFailed};
 use thiserror::Error;
 
 /// Why no store is loaded.
+///
+/// <https://zarr-specs.readthedocs.io/en/latest/v3/core/index.html#abstract-store-interface>
 #[derive(Debug, Drop, Error)]
 pub enum LoadFault {
     /// The reader failed.

@@ -1,4 +1,6 @@
 -- Zarr specification version 2, "Arrays", "Metadata": the document `.zarray`.
+-- <https://zarr-specs.readthedocs.io/en/latest/v2/v2.0.html#arrays>
+-- <https://zarr-specs.readthedocs.io/en/latest/v2/v2.0.html#metadata>
 use Rattle.std.specs.Prelude.{ℕ, List, [], ◌∷◌, Bool, not, ◌&&◌, Option, Some, None, Result, Ok, codes}
 use Rattle.std.specs.List.{list_all}
 use Rattle.serde_json.specs.Data.{Data, object, no_members}

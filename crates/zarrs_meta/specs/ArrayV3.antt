@@ -1,4 +1,5 @@
 -- Zarr core specification 3.1, "Array metadata": the document of a version 3 array.
+-- <https://zarr-specs.readthedocs.io/en/latest/v3/core/index.html#array-metadata>
 use Rattle.std.specs.Prelude.{ℕ, List, [], ◌∷◌, Bool, Option, Some, None, Result, Ok, codes, option_map, not, ◌&&◌}
 use Rattle.std.specs.List.{list_all}
 use Rattle.serde_json.specs.Data.{Data, string, object, no_members}

@@ -1,4 +1,5 @@
 -- Zarr specification version 2, "Attributes": the document `.zattrs`.
+-- <https://zarr-specs.readthedocs.io/en/latest/v2/v2.0.html#attributes>
 use Rattle.std.specs.Prelude.{Bool, Result, Ok}
 use Rattle.serde_json.specs.Data.{Data, object}
 use Rattle.zarrs_form.specs.Documents.{◌>>=◌, document_of}

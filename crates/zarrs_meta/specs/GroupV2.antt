@@ -1,4 +1,5 @@
 -- Zarr specification version 2, "Groups": the document `.zgroup`.
+-- <https://zarr-specs.readthedocs.io/en/latest/v2/v2.0.html#groups>
 use Rattle.std.specs.Prelude.{ℕ, Bool, not, ◌&&◌, List, [], ◌∷◌, Option, Some, Result, Ok, codes}
 use Rattle.serde_json.specs.Data.{Data, object, no_members}
 use Rattle.serde_json.specs.Find.{as_object}

@@ -1,4 +1,5 @@
 -- Zarr core specification 3.1, "Group metadata": the document of a version 3 group.
+-- <https://zarr-specs.readthedocs.io/en/latest/v3/core/index.html#group-metadata>
 use Rattle.std.specs.Prelude.{ℕ, Bool, not, ◌&&◌, if◌then◌else◌, List, [], ◌∷◌, Option, Some, Result, Ok, codes}
 use Rattle.serde_json.specs.Data.{Data, string, object, no_members}
 use Rattle.serde_json.specs.Find.{get, get_member, as_object}

@@ -1,4 +1,5 @@
 -- What holds of every document, by the definitions alone.
+-- <https://zarr-specs.readthedocs.io/en/latest/v3/core/index.html#metadata>
 use Rattle.std.specs.Prelude.{◌≡◌, ℕ, List, IsTrue, Ok}
 use Rattle.serde_json.specs.Data.{Data}
 use Rattle.zarrs_meta.specs.GroupV3.{group_v3_of, is_plain_group_v3}

@@ -1,4 +1,6 @@
 -- Zarr core specification 3.1, "Array metadata" and "Chunk key encoding": the version 3 array that is made of its members.
+-- <https://zarr-specs.readthedocs.io/en/latest/v3/core/index.html#array-metadata>
+-- <https://zarr-specs.readthedocs.io/en/latest/v3/core/index.html#chunk-key-encoding>
 use Rattle.std.specs.Prelude.{ℕ, List, [], Some, None, true, codes}
 use Rattle.serde_json.specs.Data.{Data, string, no_members, member}
 use Rattle.zarrs_form.specs.declared.extension.MetadataV3.{MetadataV3}

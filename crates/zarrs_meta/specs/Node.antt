@@ -1,4 +1,7 @@
 -- Zarr core specification 3.1, "Metadata documents", and specification version 2, "Arrays" and "Groups": a document of either kind and either version.
+-- <https://zarr-specs.readthedocs.io/en/latest/v3/core/index.html#metadata>
+-- <https://zarr-specs.readthedocs.io/en/latest/v2/v2.0.html#arrays>
+-- <https://zarr-specs.readthedocs.io/en/latest/v2/v2.0.html#groups>
 use Rattle.std.specs.Prelude.{ℕ, List, Bool, true, false, if◌then◌else◌, is_some, Result, Ok, Err, codes}
 use Rattle.std.specs.Result.{is_ok}
 use Rattle.serde_json.specs.Data.{Data, no_members}

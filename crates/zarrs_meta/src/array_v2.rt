@@ -23,6 +23,7 @@ use zarrs_form::{
 /// The metadata of a version 2 array.
 ///
 /// Zarr specification version 2, "Arrays", "Metadata"; `zarrs_metadata::v2::ArrayMetadataV2`.
+/// <https://zarr-specs.readthedocs.io/en/latest/v2/v2.0.html#metadata>
 #[derive(Debug, Drop)]
 pub struct ArrayMetadataV2 {
     /// The length of each dimension.

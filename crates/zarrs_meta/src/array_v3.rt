@@ -23,6 +23,7 @@ use zarrs_form::{
 /// The metadata of a version 3 array.
 ///
 /// Zarr core specification 3.1, "Array metadata"; `zarrs_metadata::v3::ArrayMetadataV3`.
+/// <https://zarr-specs.readthedocs.io/en/latest/v3/core/index.html#array-metadata>
 #[derive(Debug, Drop)]
 pub struct ArrayMetadataV3 {
     /// The length of each dimension.

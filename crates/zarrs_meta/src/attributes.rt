@@ -14,6 +14,7 @@ use zarrs_form::{Form, Object, document, document_copy, parse};
 /// The attributes beside a version 2 group or array.
 ///
 /// Zarr specification version 2, "Attributes".
+/// <https://zarr-specs.readthedocs.io/en/latest/v2/v2.0.html#attributes>
 #[derive(Debug, Drop)]
 pub struct AttributesDocument(pub Object);
 

@@ -10,6 +10,7 @@ use std::marker::Model;
 /// An array's metadata are several times as large as a group's. Held so, they leave the nodes of groups small.
 ///
 /// Source: own; `zarrs_metadata::NodeMetadata` holds the metadata in place.
+/// <https://zarr-specs.readthedocs.io/en/latest/v3/core/index.html#array-metadata>
 #[derive(Debug, Drop)]
 pub struct BoxedArray {
     array: Box<ArrayMetadata>,

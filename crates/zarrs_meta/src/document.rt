@@ -17,6 +17,8 @@ use std::alloc::{AllocError, Global};
 use zarrs_fault::MetadataFault;
 
 /// A kind of document that a store holds at a key.
+///
+/// <https://zarr-specs.readthedocs.io/en/latest/v3/core/index.html#metadata>
 pub trait Document: Sized {
     /// What bytes are read as: the document, or the first fault.
     ghost reading: { List ℕ → Result Self MetadataFault };

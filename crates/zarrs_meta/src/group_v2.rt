@@ -19,6 +19,7 @@ use zarrs_form::{
 /// The metadata of a version 2 group.
 ///
 /// Zarr specification version 2, "Groups"; `zarrs_metadata::v2::GroupMetadataV2`.
+/// <https://zarr-specs.readthedocs.io/en/latest/v2/v2.0.html#groups>
 #[derive(Debug, Drop)]
 pub struct GroupMetadataV2 {
     /// The attributes.

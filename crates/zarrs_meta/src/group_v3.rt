@@ -20,6 +20,7 @@ use zarrs_form::{
 /// The metadata of a version 3 group.
 ///
 /// Zarr core specification 3.1, "Group metadata"; `zarrs_metadata::v3::GroupMetadataV3`.
+/// <https://zarr-specs.readthedocs.io/en/latest/v3/core/index.html#group-metadata>
 #[derive(Debug, Drop)]
 pub struct GroupMetadataV3 {
     /// The attributes.

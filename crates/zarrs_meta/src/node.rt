@@ -19,6 +19,9 @@ use zarrs_fault::MetadataFault;
 use zarrs_form::{ask_format, ask_node_type, document, document_copy, member, parse};
 
 /// The metadata of a group of either version.
+///
+/// <https://zarr-specs.readthedocs.io/en/latest/v3/core/index.html#group-metadata>
+/// <https://zarr-specs.readthedocs.io/en/latest/v2/v2.0.html#groups>
 #[derive(Debug, Drop)]
 pub enum GroupMetadata {
     /// Of version 3.
@@ -28,6 +31,9 @@ pub enum GroupMetadata {
 }
 
 /// The metadata of an array of either version.
+///
+/// <https://zarr-specs.readthedocs.io/en/latest/v3/core/index.html#array-metadata>
+/// <https://zarr-specs.readthedocs.io/en/latest/v2/v2.0.html#metadata>
 #[derive(Debug, Drop)]
 pub enum ArrayMetadata {
     /// Of version 3.
@@ -37,6 +43,9 @@ pub enum ArrayMetadata {
 }
 
 /// The metadata of a group or an array.
+///
+/// <https://zarr-specs.readthedocs.io/en/latest/v3/core/index.html#metadata>
+/// <https://zarr-specs.readthedocs.io/en/latest/v2/v2.0.html#metadata>
 #[derive(Debug, Drop)]
 pub enum NodeMetadata {
     /// A group.
@@ -46,6 +55,8 @@ pub enum NodeMetadata {
 }
 
 /// What the document at the key `zarr.json` is read as.
+///
+/// <https://zarr-specs.readthedocs.io/en/latest/v3/core/index.html#metadata>
 #[derive(Debug, Drop)]
 pub enum ZarrJson {
     /// A group or an array.

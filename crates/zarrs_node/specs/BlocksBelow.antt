@@ -1,4 +1,6 @@
 -- Zarr core specification 3.1, "Group metadata", the field `consolidated_metadata`, and the document `.zmetadata` of version 2: what stands below a base, by the block that is used or, where none is used, by a listing.
+-- <https://zarr-specs.readthedocs.io/en/latest/v3/core/index.html#group-metadata>
+-- <https://zarr.readthedocs.io/en/stable/user-guide/consolidated_metadata/>
 --     zmetadata_at s b      the block that the document `.zmetadata` of b is
 --     HoldsZmetadata s b B      B holds the small store that this document is
 --     block_at s b m      the block that stands for the nodes below b, where there is one

@@ -1,4 +1,5 @@
 -- Zarr core specification 3.1, "Metadata": stores that differ by the documents of one path, and the blocks that follow them.
+-- <https://zarr-specs.readthedocs.io/en/latest/v3/core/index.html#metadata>
 --     AgreesOutside p S T      T is S but for the documents of p
 --     AreChanges b S cs, last_of S cs      stores one after another, each with the path below b whose documents changed; the last of them
 --     IsRefreshed v b B cs C      C comes of B by making it current after each of them

@@ -1,4 +1,5 @@
 -- Zarr core specification 3.1, "Hierarchy": trees of nodes side by side, as a list of nodes holds them.
+-- <https://zarr-specs.readthedocs.io/en/latest/v3/core/index.html#hierarchy>
 use Rattle.std.specs.Prelude.{◌≡◌, ℕ, List, [], ◌∷◌, ◌++◌, map}
 use Rattle.std.specs.declared.cmp.Ordering.TheVariants.{Less}
 use Rattle.zarrs_store.specs.Contents.{Lists}

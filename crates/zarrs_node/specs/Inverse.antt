@@ -1,4 +1,6 @@
 -- Zarr core specification 3.1, "Group metadata", the field `consolidated_metadata`: a forest and its block are inverse.
+-- <https://zarr-specs.readthedocs.io/en/latest/v3/core/index.html#group-metadata>
+-- <https://zarr.readthedocs.io/en/stable/user-guide/consolidated_metadata/>
 --     HasNames b es      each path is b and one or more names
 --     ArePlain es      the metadata of each pair could have come from a document
 --     IsInverse b f B      B reads back, its entries are the pairs of f, they are closed, and f is the one forest of the kept entries

@@ -1,4 +1,5 @@
 -- Zarr core specification 3.1, "Hierarchy": pairs of path and metadata in a list, where a path may stand more than once.
+-- <https://zarr-specs.readthedocs.io/en/latest/v3/core/index.html#hierarchy>
 --     IsLatest xs e      of the pairs with its path, e is the last
 --     CountsSteps xs f steps      what building the forest f from the pairs takes
 --     row es      pairs as nodes without children

@@ -1,4 +1,5 @@
 -- Zarr core specification 3.1, section "Hierarchy": what holds of every hierarchy that is listed.
+-- <https://zarr-specs.readthedocs.io/en/latest/v3/core/index.html#hierarchy>
 use Rattle.std.specs.Prelude.{◌≡◌, Bool, true, List, Contains, ◌↔◌, ℕ}
 use Rattle.zarrs_path.specs.Paths.{Path, IsPath, IsBelow}
 use Rattle.zarrs_meta.specs.declared.node.NodeMetadata.{NodeMetadata}

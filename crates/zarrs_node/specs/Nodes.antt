@@ -1,5 +1,7 @@
 -- Zarr core specification 3.1, "Hierarchy" and "Node names": what a listing below a base is to find, and what it is to refuse.
 -- What paths mean is any function; `..In` takes it and, where it matters, which paths have a key below them. Those of a store of bytes stand last.
+-- <https://zarr-specs.readthedocs.io/en/latest/v3/core/index.html#hierarchy>
+-- <https://zarr-specs.readthedocs.io/en/latest/v3/core/index.html#node-names>
 use Rattle.std.specs.Prelude.{◌≡◌, ◌≢◌, ℕ, Bool, List, [], ◌∷◌, ◌++◌, IsTrue, ◌⊎◌}
 use Rattle.zarrs_store.specs.Contents.{Contents, HasBelow}
 use Rattle.zarrs_path.specs.Names.{is_all_periods}

@@ -1,4 +1,6 @@
 -- Zarr core specification 3.1, "Group metadata", the field `consolidated_metadata`: what an opened node shows, and what refuses its opening.
+-- <https://zarr-specs.readthedocs.io/en/latest/v3/core/index.html#group-metadata>
+-- <https://zarr.readthedocs.io/en/stable/user-guide/consolidated_metadata/>
 --     choice s policy b m      which block stands for the nodes below b, or that they are listed, or nothing where the want of a block is refused
 --     ShowsChosen, IsCleanChosen      what a tree below b shows by such a choice; that nothing refuses it
 --     RefusesChosen, RefusesNode, RefusesOpening      what refuses it; what refuses the node itself; the first of all reasons against opening a text

@@ -1,4 +1,5 @@
 -- Zarr core specification 3.1, "Hierarchy": which pairs of path and metadata stand below a base with only groups between, of any pairs N: those that paths mean in a store, or the entries of a block.
+-- <https://zarr-specs.readthedocs.io/en/latest/v3/core/index.html#hierarchy>
 use Rattle.std.specs.Prelude.{◌≡◌, ℕ, Bool, true, List, ◌∷◌, ◌++◌, IsTrue}
 use Rattle.zarrs_path.specs.Paths.{Path, IsPath, IsBelow}
 use Rattle.zarrs_meta.specs.Node.{is_group}

@@ -1,4 +1,5 @@
 -- Zarr core specification 3.1, "Metadata documents": what the calls that read documents answer.
+-- <https://zarr-specs.readthedocs.io/en/latest/v3/core/index.html#metadata>
 use Rattle.std.specs.Prelude.{◌≡◌, Bool, IsTrue, Result, Err}
 use Rattle.zarrs_store.specs.declared.storage_error.StorageError.{StorageError}
 use Rattle.zarrs_store.specs.declared.storage_error.StorageError.TheVariants.{Fault, InvalidMetadata, Other, OutOfMemory}

@@ -1,4 +1,5 @@
 -- Zarr core specification 3.1, "Hierarchy": what a sink took of the nodes that a walk found.
+-- <https://zarr-specs.readthedocs.io/en/latest/v3/core/index.html#hierarchy>
 --     TakesAll R a es z      z came of a by taking es one after another
 --     TakesForest R a z b N      z came of a by taking the nodes N below b in their order
 --     KeepsPath, KeepsPair      how a list of paths, and one of pairs, takes a node

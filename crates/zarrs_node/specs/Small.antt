@@ -1,4 +1,5 @@
 -- The version 2 convention of consolidated metadata (`.zmetadata`): what stands below a base in a small store, which holds JSON trees at its keys in the place of bytes, and what its block shows.
+-- <https://zarr.readthedocs.io/en/stable/user-guide/consolidated_metadata/>
 --     SmallNodes z b, SmallBad z b      the nodes of a small store below a base; that something is bad there
 --     ShowsSmall b z B      a block shows what a listing would find there
 use Rattle.std.specs.Prelude.{◌≡◌, ◌↔◌, true, Ok}

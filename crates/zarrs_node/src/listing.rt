@@ -17,6 +17,7 @@ use zarrs_store::{ListableStorageTraits, ReadableStorageTraits};
 /// What a listing found below a path.
 ///
 /// Source: `zarrs::node::get_child_nodes`, with what it warns of as a list.
+/// <https://zarr-specs.readthedocs.io/en/latest/v3/core/index.html#hierarchy>
 #[derive(Debug, Drop)]
 pub struct ListedNodes {
     /// The nodes directly below the path, siblings ascending, each with those below it.

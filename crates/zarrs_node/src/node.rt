@@ -15,6 +15,8 @@ use zarrs_path::{NodeName, NodePath};
 /// A node of a hierarchy: its path, its metadata and the nodes directly below it, each with those below it.
 ///
 /// Source: `zarrs::node::Node`.
+/// <https://zarr-specs.readthedocs.io/en/latest/v3/core/index.html#hierarchy>
+/// <https://docs.rs/zarrs/0.23.13/zarrs/node/struct.Node.html>
 pub struct Node {
     pub(crate) path: NodePath,
     pub(crate) metadata: NodeMetadata,

@@ -15,6 +15,7 @@ use zarrs_store::{ListableStorageTraits, ReadableStorageTraits};
 /// The paths that a listing found below a path.
 ///
 /// Source: `zarrs::node::get_child_nodes`, its nodes by their paths, with what it warns of as a list.
+/// <https://zarr-specs.readthedocs.io/en/latest/v3/core/index.html#hierarchy>
 #[derive(Debug, Drop)]
 pub struct ListedPaths {
     /// The paths of the nodes below the path, parents before children, siblings ascending.

@@ -11,6 +11,7 @@ use zarrs_path::NodePath;
 /// What takes the nodes of a walk, one after another, each by its path and its metadata.
 ///
 /// Source: own.
+/// <https://zarr-specs.readthedocs.io/en/latest/v3/core/index.html#hierarchy>
 pub trait NodeSink {
     // the first took a node and became the second
     ghost takes: { Self → (Path × NodeMetadata) → Self → Type 0 };

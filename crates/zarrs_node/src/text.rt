@@ -59,6 +59,7 @@ fn push_line(
 /// and a newline.
 ///
 /// Source: the lines of `zarrs::node::Node::hierarchy_tree` and of `zarrs::hierarchy::Hierarchy::tree_of`.
+/// <https://docs.rs/zarrs/0.23.13/zarrs/hierarchy/struct.Hierarchy.html>
 #[derive(Clone, Copy)]
 pub struct NodeLine<'a> {
     /// The name that the node is shown by.

@@ -1,4 +1,7 @@
 -- Zarr core specification 3.1, "Node names", "Paths" and "Storage keys": what holds of all names and paths.
+-- <https://zarr-specs.readthedocs.io/en/latest/v3/core/index.html#node-names>
+-- <https://zarr-specs.readthedocs.io/en/latest/v3/core/index.html#path>
+-- <https://zarr-specs.readthedocs.io/en/latest/v3/core/index.html#storage-keys>
 use Rattle.std.specs.Prelude.{◌≡◌, ◌≢◌, ℕ, List, [], ◌∷◌, ◌++◌, IsTrue, Option, Some, None, ◌↔◌, All}
 use Rattle.std.specs.declared.cmp.Ordering.TheVariants.{Equal, Less}
 use Rattle.std.specs.Cmp.{IsTotalOrder}

@@ -1,4 +1,5 @@
 -- Zarr core specification 3.1, "Node names": what refused names say.
+-- <https://zarr-specs.readthedocs.io/en/latest/v3/core/index.html#node-names>
 use Rattle.std.specs.Prelude.{◌≡◌, ℕ, List, IsFalse, string_bytes}
 use Rattle.zarrs_path.specs.Names.{is_node_name}
 use Rattle.zarrs_path.specs.declared.node_name.NodeNameError.{NodeNameError}

@@ -1,4 +1,5 @@
 -- Zarr core specification 3.1, "Node names": which texts are names of nodes.
+-- <https://zarr-specs.readthedocs.io/en/latest/v3/core/index.html#node-names>
 --     is_name n, IsName n      a text is a name
 --     is_node_name n, IsNodeName n      it is a name, or the empty name of the root
 use Rattle.std.specs.Prelude.{◌≡◌, ℕ, ◌==◌, Bool, not, ◌&&◌, ◌||◌, List, ◌∷◌, IsTrue}

@@ -1,4 +1,5 @@
 -- Zarr core specification 3.1, "Paths": what refused paths say.
+-- <https://zarr-specs.readthedocs.io/en/latest/v3/core/index.html#path>
 use Rattle.std.specs.Prelude.{◌≡◌, ℕ, List, ◌++◌, string_bytes, Some, codes}
 use Rattle.zarrs_path.specs.Paths.{Path, IsPath, path_text, IsPathText, relative_names, first_bad, without_leading_slash}
 use Rattle.zarrs_path.specs.declared.node_path.NodePathError.{NodePathError}

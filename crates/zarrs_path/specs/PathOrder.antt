@@ -1,4 +1,5 @@
 -- Zarr core specification 3.1, "Paths": the laws of the order and the equality of paths, which are those of lists of names.
+-- <https://zarr-specs.readthedocs.io/en/latest/v3/core/index.html#path>
 use Rattle.std.specs.Prelude.{◌≡◌, IsTrue, refl}
 use Rattle.std.specs.Bool.{Decides}
 use Rattle.std.specs.Ordering.{eq_by_cmp, nat_cmp}

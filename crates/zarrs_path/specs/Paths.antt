@@ -1,4 +1,6 @@
 -- Zarr core specification 3.1, "Paths" and "Hierarchy": paths of nodes, as lists of names.
+-- <https://zarr-specs.readthedocs.io/en/latest/v3/core/index.html#path>
+-- <https://zarr-specs.readthedocs.io/en/latest/v3/core/index.html#hierarchy>
 --     Path, IsPath p      a path, and that each of its names is one
 --     path_text p, IsPathText bs      `/`, or each name with a slash before it; and that a text is a path's
 --     path_cmp, path_eq      the order of paths, and their equality

@@ -12,6 +12,8 @@ use std::marker::Model;
 use thiserror::Error;
 
 /// Why a text was not made the name of a node.
+///
+/// <https://zarr-specs.readthedocs.io/en/latest/v3/core/index.html#node-names>
 #[derive(Debug, Drop, Error)]
 pub enum NodeNameError {
     /// The text, which is neither empty nor a name.
@@ -35,6 +37,8 @@ impl From<AllocError> for NodeNameError {
 /// The name of a node. It is empty for the root alone.
 ///
 /// Source: Zarr core specification 3.1, "Node names"; `zarrs::node::NodeName`.
+/// <https://zarr-specs.readthedocs.io/en/latest/v3/core/index.html#node-names>
+/// <https://docs.rs/zarrs/0.23.13/zarrs/node/struct.NodeName.html>
 #[derive(Debug, Drop)]
 pub struct NodeName {
     text: String,

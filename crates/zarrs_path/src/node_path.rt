@@ -14,6 +14,8 @@ use thiserror::Error;
 use zarrs_store::StorePrefix;
 
 /// Why a text was not made a path.
+///
+/// <https://zarr-specs.readthedocs.io/en/latest/v3/core/index.html#path>
 #[derive(Debug, Drop, Error)]
 pub enum NodePathError {
     /// What is wrong: the text that is no path, or the bad part of a joined text.
@@ -37,6 +39,8 @@ impl From<AllocError> for NodePathError {
 /// The path of a node: the names from the root to it.
 ///
 /// Source: Zarr core specification 3.1, "Paths"; `zarrs::node::NodePath`.
+/// <https://zarr-specs.readthedocs.io/en/latest/v3/core/index.html#path>
+/// <https://docs.rs/zarrs/0.23.13/zarrs/node/struct.NodePath.html>
 #[derive(Debug, Drop)]
 pub struct NodePath {
     text: String,

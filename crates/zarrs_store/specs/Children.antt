@@ -1,4 +1,5 @@
 -- Zarr core specification 3.1, "Node names": names that begin with `__` are reserved. The children of a prefix without those.
+-- <https://zarr-specs.readthedocs.io/en/latest/v3/core/index.html#node-names>
 use Rattle.std.specs.Prelude.{◌≡◌, ℕ, false, not, List, [], ◌∷◌, ◌++◌, Contains, All}
 use Rattle.std.specs.List.Sorted.{IsStrictlySortedBy}
 use Rattle.zarrs_store.specs.Segments.{Segments, key_cmp, is_reserved}

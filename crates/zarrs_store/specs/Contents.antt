@@ -1,4 +1,5 @@
 -- Zarr core specification 3.1, "Abstract store interface": a store as a finite map from keys to bytes, and what its calls say of it.
+-- <https://zarr-specs.readthedocs.io/en/latest/v3/core/index.html#abstract-store-interface>
 --     HasKey S key, Lists P xs      the store has the key; xs has exactly the items of which P holds, each once
 --     IsKeyBelow, HasBelow      keys with segments behind a prefix; that there is one
 --     IsChildKey, HasChild, IsChildPrefix      what stands directly below a prefix

@@ -1,4 +1,5 @@
 -- Zarr core specification 3.1, "Abstract store interface", `list_dir`: where a key stands below a prefix, as tests.
+-- <https://zarr-specs.readthedocs.io/en/latest/v3/core/index.html#abstract-store-interface>
 use Rattle.std.specs.Prelude.{Bool, [], ◌∷◌, Option, Some, None, is_some, cond}
 use Rattle.zarrs_store.specs.Segments.{Segments, bytes_eq}
 

@@ -1,4 +1,5 @@
 -- Zarr core specification 3.1, "Abstract store interface": a store in memory that fails at one place.
+-- <https://zarr-specs.readthedocs.io/en/latest/v3/core/index.html#abstract-store-interface>
 use Rattle.std.specs.Prelude.{ℕ, ◌/◌, List, length, take}
 use Rattle.std.specs.FinMap as map
 use Rattle.zarrs_store.specs.Segments.{Segments}

@@ -1,4 +1,5 @@
 -- Zarr core specification 3.1, "Abstract store interface": the errors of stores, of keys and of prefixes.
+-- <https://zarr-specs.readthedocs.io/en/latest/v3/core/index.html#abstract-store-interface>
 use Rattle.std.specs.Prelude.{◌≡◌, ℕ, List, Bool, IsTrue, string_bytes}
 use Rattle.zarrs_store.specs.Segments.{IsKeyText, IsPrefixText}
 use Rattle.zarrs_store.specs.declared.key.StoreKeyError.{StoreKeyError}

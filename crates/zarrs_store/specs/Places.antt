@@ -1,4 +1,5 @@
 -- A store in memory: where keys stand among keys that ascend by the bytes of their texts, and how many comparisons find that out.
+-- <https://zarr-specs.readthedocs.io/en/latest/v3/core/index.html#abstract-store-interface>
 --     text_cmp, AreAscending      the order of keys; that entries stand in it
 --     IsKeyAt, IsKeyGap, IsRange      where a key stands, where it would stand, and where the keys below a prefix stand
 --     keys_below      how many keys begin with a prefix

@@ -1,4 +1,5 @@
 -- Zarr core specification 3.1, "Abstract store interface": keys and prefixes, as lists of segments, and their texts.
+-- <https://zarr-specs.readthedocs.io/en/latest/v3/core/index.html#abstract-store-interface>
 --     segments_of t      the nonempty stretches of a text between its slashes
 --     IsKey, key_text, IsKeyText      one or more segments; joined by slashes; that a text is such a one
 --     IsPrefix, prefix_text, IsPrefixText      any number of segments; each with a slash behind it; that a text is such a one

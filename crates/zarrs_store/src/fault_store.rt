@@ -19,6 +19,7 @@ use std::marker::Model;
 /// The one place at which a `FaultStore` fails.
 ///
 /// Source: own.
+/// <https://zarr-specs.readthedocs.io/en/latest/v3/core/index.html#abstract-store-interface>
 #[derive(Debug, Drop)]
 pub enum FaultAt {
     /// Reading this key.
@@ -109,6 +110,7 @@ fn is_empty(prefix: &StorePrefix) -> bool
 /// Contracts see it as the entries of the store in memory, and the place.
 ///
 /// Source: own.
+/// <https://zarr-specs.readthedocs.io/en/latest/v3/core/index.html#abstract-store-interface>
 #[derive(Debug, Drop)]
 pub struct FaultStore {
     inner: MemoryStore,

@@ -17,6 +17,7 @@ use thiserror::Error;
 /// Contracts see it as the list of its segments. Keys are equal and ordered by the bytes of their texts.
 ///
 /// Source: Zarr core specification 3.1, "Abstract store interface"; `zarrs::storage::StoreKey`.
+/// <https://zarr-specs.readthedocs.io/en/latest/v3/core/index.html#abstract-store-interface>
 #[derive(Debug, Drop)]
 pub struct StoreKey {
     text: String,
@@ -34,6 +35,8 @@ impl Model for StoreKey {
 }
 
 /// Why a key was not made.
+///
+/// <https://zarr-specs.readthedocs.io/en/latest/v3/core/index.html#abstract-store-interface>
 #[derive(Debug, Drop, Error)]
 pub enum StoreKeyError {
     /// The text is not that of a key: it is empty, or a segment of it is.

@@ -22,6 +22,7 @@ use std::marker::Model;
 /// Contracts see it as the list of its entries, of which the store's finite map is made.
 ///
 /// Source: `zarrs::storage::store::MemoryStore`.
+/// <https://zarr-specs.readthedocs.io/en/latest/v3/core/index.html#abstract-store-interface>
 #[derive(Debug, Drop)]
 pub struct MemoryStore {
     entries: Vec<(StoreKey, Vec<u8>)>,

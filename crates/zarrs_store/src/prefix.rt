@@ -23,6 +23,7 @@ use thiserror::Error;
 /// Contracts see it as the list of its segments. Prefixes are equal and ordered by the bytes of their texts.
 ///
 /// Source: Zarr core specification 3.1, "Abstract store interface"; `zarrs::storage::StorePrefix`.
+/// <https://zarr-specs.readthedocs.io/en/latest/v3/core/index.html#abstract-store-interface>
 #[derive(Debug, Drop)]
 pub struct StorePrefix {
     text: String,
@@ -40,6 +41,8 @@ impl Model for StorePrefix {
 }
 
 /// Why a prefix was not made.
+///
+/// <https://zarr-specs.readthedocs.io/en/latest/v3/core/index.html#abstract-store-interface>
 #[derive(Debug, Drop, Error)]
 pub enum StorePrefixError {
     /// The text is not that of a prefix: it does not end in `/`, or a segment of it is empty.

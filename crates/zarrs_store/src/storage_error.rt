@@ -11,6 +11,7 @@ use zarrs_fault::MetadataFault;
 /// A store itself answers only `Fault`, and that only where it can fail, and `OutOfMemory`.
 ///
 /// Source: `zarrs::storage::StorageError`.
+/// <https://zarr-specs.readthedocs.io/en/latest/v3/core/index.html#abstract-store-interface>
 #[derive(Debug, Drop, Error)]
 pub enum StorageError {
     /// The store failed.

@@ -13,6 +13,7 @@ use std::alloc::Global;
 /// A store: a finite map from keys to bytes, and whether its calls can fail.
 ///
 /// Source: Zarr core specification 3.1, "Abstract store interface".
+/// <https://zarr-specs.readthedocs.io/en/latest/v3/core/index.html#abstract-store-interface>
 pub trait Store {
     // what the store holds
     ghost contents: { Self → map.FinMap key_cmp (List ℕ) };
@@ -24,6 +25,7 @@ pub trait Store {
 /// A store whose values can be read.
 ///
 /// Source: Zarr core specification 3.1, "Abstract store interface"; `zarrs::storage::ReadableStorageTraits`.
+/// <https://zarr-specs.readthedocs.io/en/latest/v3/core/index.html#abstract-store-interface>
 pub trait ReadableStorageTraits: Store {
     /// The bytes at the key, or nothing where the store does not have it.
     ///
@@ -38,6 +40,7 @@ pub trait ReadableStorageTraits: Store {
 /// What stands directly below a prefix: keys and child prefixes.
 ///
 /// Source: `zarrs::storage::StoreKeysPrefixes`.
+/// <https://zarr-specs.readthedocs.io/en/latest/v3/core/index.html#abstract-store-interface>
 #[derive(Debug, Drop)]
 pub struct StoreKeysPrefixes {
     /// The keys with exactly one segment behind the prefix.
@@ -49,6 +52,7 @@ pub struct StoreKeysPrefixes {
 /// A store whose keys can be listed.
 ///
 /// Source: Zarr core specification 3.1, "Abstract store interface"; `zarrs::storage::ListableStorageTraits`.
+/// <https://zarr-specs.readthedocs.io/en/latest/v3/core/index.html#abstract-store-interface>
 pub trait ListableStorageTraits: Store {
     /// All keys of the store, each once, in any order.
     ///
@@ -106,6 +110,7 @@ pub trait ListableStorageTraits: Store {
 /// A store whose values can be changed.
 ///
 /// Source: Zarr core specification 3.1, "Abstract store interface"; `zarrs::storage::WritableStorageTraits`.
+/// <https://zarr-specs.readthedocs.io/en/latest/v3/core/index.html#abstract-store-interface>
 pub trait WritableStorageTraits: Store {
     /// Sets the bytes at the key. After an error every other key is as it was; of the key itself nothing is promised.
     ///

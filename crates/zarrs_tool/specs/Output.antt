@@ -1,5 +1,7 @@
 -- What a command writes about a store: the paths of its nodes, as the Zarr core specification 3.1 defines nodes, children and paths in "Hierarchy",
 -- the text of a hierarchy, and the consolidated block of a group in the form of zarr-python.
+-- <https://zarr-specs.readthedocs.io/en/latest/v3/core/index.html#hierarchy>
+-- <https://zarr.readthedocs.io/en/stable/user-guide/consolidated_metadata/>
 --     word_text w, IsCommand words      how a word is written; words that are a command's
 --     IsListing, IsTree, IsBlockText      what the words write of a path
 --     Writes w, IsOutput words      the text that a word writes of a path; the text that a command's words write

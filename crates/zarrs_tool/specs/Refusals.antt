@@ -1,4 +1,5 @@
 -- Why a run is refused.
+-- <https://zarr-specs.readthedocs.io/en/latest/v3/core/index.html#hierarchy>
 use Rattle.std.specs.Prelude.{◌≡◌, ℕ, Bool, true, false, List, [], ◌∷◌, ⊤, Option, Result, Ok, Err, ◌⊎◌}
 use Rattle.std.specs.Io.KnownBytes.{Keeps, IsAtEnd}
 use Rattle.zarrs_store.specs.Contents.{Contents}

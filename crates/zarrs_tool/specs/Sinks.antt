@@ -1,4 +1,5 @@
 -- How a text takes the nodes of a walk.
+-- <https://zarr-specs.readthedocs.io/en/latest/v3/core/index.html#hierarchy>
 use Rattle.std.specs.Prelude.{◌≡◌, [], ◌∷◌, ◌++◌}
 use Rattle.zarrs_path.specs.Paths.{Path, path_text}
 use Rattle.zarrs_meta.specs.declared.node.NodeMetadata.{NodeMetadata}

@@ -8,6 +8,8 @@ use zarrs_block::NodeCreateError;
 use zarrs_load::LoadFault;
 
 /// Why a run of the program is refused.
+///
+/// <https://zarr-specs.readthedocs.io/en/latest/v3/core/index.html#hierarchy>
 #[derive(Debug, Drop, Error)]
 pub enum ToolFault {
     /// The words are no command.
