@@ -3,16 +3,15 @@
 //! A call that reads is a value here, and what it answers a text, so one loop goes over all calls and all places of a store. A store is
 //! lent to such a call for reading alone, so it is left as it was. Each allocation of the tests `memory_fails_in_..` is refused in turn
 //! by `bench/failures`; such a test ends then as usual, or in an error that is out of memory.
-ghost use Rattle.std.specs.Prelude.{◌≡◌, true, ◌⊎◌, IfOk, IfErr, OnOk, OnErr};
+ghost use Rattle.std.specs.Prelude.{◌≡◌, true, IfOk, IfErr, OnOk, OnErr};
 ghost use Rattle.zarrs_store.specs.FailingStores.{inner_contents};
 ghost use Rattle.zarrs_store.specs.Contents.{Lists};
 ghost use Rattle.zarrs_store.specs.Faults.{IsStoreError};
-ghost use Rattle.zarrs_block.specs.Refusals.{IsExcused};
+ghost use Rattle.zarrs_block.specs.Refusals.{IsExcusedOr};
 ghost use Rattle.zarrs_node.specs.Forest.{Shows, forest};
-ghost use Rattle.zarrs_node.specs.Nodes.{Nodes, Ignored, ShowsBad, Bad};
+ghost use Rattle.zarrs_node.specs.Nodes.{Nodes, Ignored, ShowsBad, HasNothingBad};
 ghost use Rattle.zarrs_group.specs.Edits.{after, IsCutShort};
-ghost use Rattle.zarrs_group.specs.Groups.{metadata_by_version};
-ghost use Rattle.zarrs_group.specs.StoringGroups.{store_edits, erase_edits, RefusesStoring};
+ghost use Rattle.zarrs_group.specs.StoringGroups.{edits_of_group, erase_edits, RefusesStoringGroup};
 
 use log::sink::Discard;
 use std::alloc::{AllocError, Global};
@@ -54,10 +53,17 @@ fn listed_over_faults(
     recursive: bool,
     version: &MetadataRetrieveVersion,
 ) -> Result<ListedNodes, NodeCreateError>
-    ensures shows { IfOk result (λ l. Shows (forest l.nodes.items) path.now (Nodes (inner_contents store.now) version.now recursive path.now)) }
-    ensures ignored { IfOk result (λ l. Lists (Ignored (inner_contents store.now) version.now recursive path.now) l.ignored.items) }
-    ensures clean { IfOk result (λ _. Bad (inner_contents store.now) version.now recursive path.now → ⊥) }
-    ensures refused { IfErr result (λ e. IsExcused true e ⊎ ShowsBad (inner_contents store.now) version.now recursive path.now e) }
+    ensures shows { IfOk result
+        (λ l. Shows (forest l.nodes.items) path.now
+        (Nodes (inner_contents store.now) version.now recursive path.now)) }
+    ensures ignored { IfOk result
+        (λ l. Lists (Ignored (inner_contents store.now) version.now recursive path.now)
+        l.ignored.items) }
+    ensures clean { IfOk result
+        (λ _. HasNothingBad (inner_contents store.now) version.now recursive path.now) }
+    ensures refused { IfErr result
+        (IsExcusedOr true
+        (ShowsBad (inner_contents store.now) version.now recursive path.now)) }
 {
     list_nodes(alloc, store, path, recursive, version)
 }
@@ -70,9 +76,14 @@ fn nodes_over_faults(
     recursive: bool,
     version: &MetadataRetrieveVersion,
 ) -> Result<Vec<Node>, NodeCreateError>
-    ensures shows { IfOk result (λ nodes. Shows (forest nodes.items) path.now (Nodes (inner_contents store.now) version.now recursive path.now)) }
-    ensures clean { IfOk result (λ _. Bad (inner_contents store.now) version.now recursive path.now → ⊥) }
-    ensures refused { IfErr result (λ e. IsExcused true e ⊎ ShowsBad (inner_contents store.now) version.now recursive path.now e) }
+    ensures shows { IfOk result
+        (λ nodes. Shows (forest nodes.items) path.now
+        (Nodes (inner_contents store.now) version.now recursive path.now)) }
+    ensures clean { IfOk result
+        (λ _. HasNothingBad (inner_contents store.now) version.now recursive path.now) }
+    ensures refused { IfErr result
+        (IsExcusedOr true
+        (ShowsBad (inner_contents store.now) version.now recursive path.now)) }
 {
     get_child_nodes_opt(&Discard, alloc, store, path, recursive, version)
 }
@@ -84,8 +95,12 @@ fn stored_over_faults(
     store: &mut FaultStore,
     options: &GroupMetadataOptions,
 ) -> Result<(), StorageError>
-    ensures ok { OnOk result (inner_contents store.new ≡ after (inner_contents store.old) (store_edits group.now.path (metadata_by_version options.now group.now.metadata) group.now.block)) }
-    ensures err { IfErr result (RefusesStoring true group.now.path (metadata_by_version options.now group.now.metadata) group.now.block (inner_contents store.old) (inner_contents store.new)) }
+    ensures ok { OnOk result
+        (inner_contents store.new
+        ≡ after (inner_contents store.old) (edits_of_group options.now group.now)) }
+    ensures err { IfErr result
+        (RefusesStoringGroup true options.now group.now
+        (inner_contents store.old) (inner_contents store.new)) }
 {
     group.store_metadata_opt(alloc, store, options)
 }
@@ -97,9 +112,14 @@ fn erased_over_faults(
     store: &mut FaultStore,
     version: MetadataEraseVersion,
 ) -> Result<(), StorageError>
-    ensures ok { OnOk result (inner_contents store.new ≡ after (inner_contents store.old) (erase_edits group.now.path version group.now.metadata)) }
+    ensures ok { OnOk result
+        (inner_contents store.new
+        ≡ after (inner_contents store.old)
+        (erase_edits group.now.path version group.now.metadata)) }
     ensures err { IfErr result (IsStoreError true) }
-    ensures cut { OnErr result (IsCutShort (inner_contents store.old) (erase_edits group.now.path version group.now.metadata) (inner_contents store.new)) }
+    ensures cut { OnErr result
+        (IsCutShort (inner_contents store.old)
+        (erase_edits group.now.path version group.now.metadata) (inner_contents store.new)) }
 {
     group.erase_metadata_opt(alloc, store, version)
 }

@@ -18,13 +18,15 @@ use std::test::Fail;
 /// A blank stands on each side of the arrow. An answer's line ends stand in the table as `\n`; nothing behind the arrow is the empty
 /// answer. Empty lines, and headings, which begin with `# `, are passed over.
 ///
+/// The call is copied for each row: the bound `FnOnce` has the prover look at one function more for each caller, `Fn` at three.
+///
 /// # Errors
 ///
 /// What `complaint` says of the table; out of memory for that.
 pub fn check_rows<E, F>(alloc: Global, table: &str, call: F) -> Result<(), Fail>
 where
     E: Debug + Drop,
-    F: Fn(Global, &str) -> Result<String, E>,
+    F: FnOnce(Global, &str) -> Result<String, E> + Copy,
     requires { F.IsAlwaysCallable call }
 {
     match complaint(alloc, table, call)? {
@@ -42,14 +44,14 @@ where
 pub fn complaint<E, F>(alloc: Global, table: &str, call: F) -> Result<Option<String>, AllocError>
 where
     E: Debug + Drop,
-    F: Fn(Global, &str) -> Result<String, E>,
+    F: FnOnce(Global, &str) -> Result<String, E> + Copy,
     requires { F.IsAlwaysCallable call }
 {
     let mut has_rows = false;
     for row in table.lines() {
         if is_row(row) {
             has_rows = true;
-            let complaint = complaint_of(alloc, row, &call)?;
+            let complaint = complaint_of(alloc, row, call)?;
             if complaint.is_some() {
                 return Ok(complaint);
             }
@@ -68,11 +70,11 @@ fn is_row(line: &str) -> bool {
 }
 
 // What is wrong with a row.
-fn complaint_of<E, F>(alloc: Global, row: &str, call: &F) -> Result<Option<String>, AllocError>
+fn complaint_of<E, F>(alloc: Global, row: &str, call: F) -> Result<Option<String>, AllocError>
 where
     E: Debug + Drop,
-    F: Fn(Global, &str) -> Result<String, E>,
-    requires { F.IsAlwaysCallable call.now }
+    F: FnOnce(Global, &str) -> Result<String, E> + Copy,
+    requires { F.IsAlwaysCallable call }
 {
     let Some((given, wanted)) = row.split_once(" =>") else {
         return Ok(Some(format!(in alloc; "no arrow in {row}")?));

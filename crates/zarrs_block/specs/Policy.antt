@@ -45,8 +45,7 @@ block_to_use None Must = None
 
 -- the want of a block is refused, and the error says so with the text of p; or out of memory for that text
 abbrev pub RefusesUse : Path → Option (Option Block) → NodeCreateError → Type 0
-RefusesUse p choice (MissingMetadata text) =
-    (choice ≡ None) × (string_bytes text ≡ codes "Consolidated metadata required but missing on group " ++ path_text p)
+RefusesUse p choice (MissingMetadata text) = (choice ≡ None) × (string_bytes text ≡ codes "Consolidated metadata required but missing on group " ++ path_text p)
 RefusesUse p choice OutOfMemory = choice ≡ None
 RefusesUse p choice _ = ⊥
 

@@ -1,7 +1,7 @@
 -- Zarr core specification 3.1, "Node names" and "Metadata": what it means that a node is refused.
 -- <https://zarr-specs.readthedocs.io/en/latest/v3/core/index.html#node-names>
 -- <https://zarr-specs.readthedocs.io/en/latest/v3/core/index.html#metadata>
-use Rattle.std.specs.Prelude.{◌≡◌, Bool, ◌++◌, string_bytes, codes}
+use Rattle.std.specs.Prelude.{◌≡◌, ◌⊎◌, Bool, ◌++◌, string_bytes, codes}
 use Rattle.zarrs_store.specs.Faults.{IsStoreError}
 use Rattle.zarrs_store.specs.declared.storage_error.StorageError.TheVariants.{Fault, InvalidMetadata, Other, OutOfMemory as NoStoreMemory}
 use Rattle.zarrs_store.specs.declared.prefix.StorePrefixError.TheVariants.{Invalid as InvalidPrefix, OutOfMemory as NoPrefixMemory}
@@ -26,14 +26,15 @@ LacksMemory OutOfMemory = Unit {0}
 
 -- out of memory, or the error is the fault of a store that can fail
 abbrev pub IsExcused : Bool → NodeCreateError → Type 0
-IsExcused can_fail (NodePathError (InvalidPath text)) = ⊥
 IsExcused can_fail (NodePathError NoPathMemory) = Unit {0}
-IsExcused can_fail (StorePrefixError (InvalidPrefix text)) = ⊥
 IsExcused can_fail (StorePrefixError NoPrefixMemory) = Unit {0}
 IsExcused can_fail (StorageError e) = IsStoreError can_fail e
-IsExcused can_fail MetadataVersionMismatch = ⊥
-IsExcused can_fail (MissingMetadata text) = ⊥
 IsExcused can_fail OutOfMemory = Unit {0}
+IsExcused can_fail _ = ⊥
+
+-- out of memory, or the error is the fault of a store that can fail, or one of which X holds
+abbrev pub IsExcusedOr : Bool → (NodeCreateError → Type 0) → NodeCreateError → Type 0
+IsExcusedOr can_fail X e = IsExcused can_fail e ⊎ X e
 
 -- the error is the text `invalid node path ` and the text of p, as a child has it whose name is made of periods only
 abbrev pub IsInvalidPath : Path → NodeCreateError → Type 0

@@ -61,9 +61,8 @@ documents_below ms = filter (λ e. not (is_nil (before_last e.0))) (counted_memb
 
 -- the path is bad
 abbrev pub is_bad : Meaning → Bool
-is_bad (node m) = false
-is_bad nothing = false
 is_bad (bad e) = true
+is_bad _ = false
 
 -- the segments before the last are names, and their path is not bad
 abbrev pub is_good : (Path → Meaning) → Segments → Bool
@@ -72,8 +71,7 @@ is_good of k = list_all is_name (before_last k) && not (is_bad (of (before_last 
 -- the block with what a path means, where it means a node
 abbrev pub with_node : Path → Meaning → Block → Block
 with_node p (node m) B = put (key_text p) m B
-with_node p nothing B = B
-with_node p (bad e) B = B
+with_node p _ B = B
 
 -- what the paths of these documents mean, each at its names
 abbrev pub block_from : (Path → Meaning) → List (Segments × Data) → Block

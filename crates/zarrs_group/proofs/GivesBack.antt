@@ -42,7 +42,7 @@ use Rattle.zarrs_node.specs.Forest.{Forest, pairs, Shows}
 use Rattle.zarrs_block.specs.Meaning.{Meaning, node, nothing, bad, in_bytes, document_at, document_from, document_or_fault, version_3_line, zarr_json_line, meaning_in, meaning, zarray_line, zgroup_line}
 use Rattle.zarrs_node.specs.Inverse.{HasNames, IsInverse}
 use Rattle.zarrs_node.specs.Reach.{Kept}
-use Rattle.zarrs_node.specs.OpeningNodes.{ShowsChosen, RefusesChosen, ShowsNode, RefusesOpening, RefusesText, RefusesNode}
+use Rattle.zarrs_node.specs.OpeningNodes.{ShowsChosen, RefusesChosen, ShowsBelow, RefusesOpening, RefusesText, RefusesNode}
 use Rattle.zarrs_node.specs.OpeningNodes as opened
 use Rattle.zarrs_node.proofs.Child.{node_same}
 use Rattle.zarrs_node.proofs.Found.{listed_each, lists_from}
@@ -334,10 +334,10 @@ module _ (of : Path → Meaning) (g : GroupState) (f : Forest) (B : Block) (from
 
   -- the forest of what is opened is the group's
   opened_is : (v : MetadataRetrieveVersion) → v ≢ retrieve.V2 → (policy : UseConsolidatedMetadata) → policy ≢ Never → (m : NodeMetadata) (t : Forest)
-      → meaning s v g.path ≡ node m → ShowsNode s v policy g.path m t → t ≡ f
+      → meaning s v g.path ≡ node m → ShowsBelow s v policy g.path m t → t ≡ f
   opened_is v not policy some m t means shows =
       let is : m ≡ Group (with_block g (Some B)).metadata = node_same m (Group (with_block g (Some B)).metadata) (sym means ∙ means_group v not) in
-      let shown = subst (λ x. ShowsNode s v policy g.path x t) is shows in
+      let shown = subst (λ x. ShowsBelow s v policy g.path x t) is shows in
       shown_is of g f B from s v policy some t (subst (λ h. ShowsChosen s v (block_to_use h policy) true g.path t) (held_there s g.path g.metadata (beside_with (Some B) g.metadata g.block) from.version_3) shown)
 
   -- and nothing refuses it

@@ -32,7 +32,7 @@ use Rattle.zarrs_block.proofs.ZmetadataAgain.{written_reads_back}
 use Rattle.zarrs_node.specs.BlocksBelow.{zmetadata_at}
 use Rattle.zarrs_node.specs.Forest.{Forest, Shows, pairs}
 use Rattle.zarrs_node.specs.Reach.{Kept}
-use Rattle.zarrs_node.specs.OpeningNodes.{ShowsChosen, RefusesChosen, ShowsNode}
+use Rattle.zarrs_node.specs.OpeningNodes.{ShowsChosen, RefusesChosen, ShowsBelow}
 use Rattle.zarrs_node.specs.OpeningNodes as opened
 use Rattle.zarrs_group.specs.BlocksBeside.{IsBeside}
 use Rattle.zarrs_group.specs.BlocksOfGroups.{held_in, with_block}
@@ -97,7 +97,7 @@ module _ (of : Path → Meaning) (g : GroupState) (f : Forest) (B : Block) (from
     is_used policy not = ap (λ h. block_to_use h policy) there ∙ used_there C policy not
 
     -- what is shown is the forest
-    shown_again : (v : MetadataRetrieveVersion) (policy : UseConsolidatedMetadata) → policy ≢ Never → (t : Forest) → ShowsNode s v policy g.path (Group (V2 m)) t → t ≡ f
+    shown_again : (v : MetadataRetrieveVersion) (policy : UseConsolidatedMetadata) → policy ≢ Never → (t : Forest) → ShowsBelow s v policy g.path (Group (V2 m)) t → t ≡ f
     shown_again v policy not t shows = one_is of g f B from (Entries C g.path) pairs_again t (subst (λ c. ShowsChosen s v c true g.path t) (is_used policy not) shows)
 
     -- and nothing refuses it

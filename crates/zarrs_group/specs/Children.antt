@@ -4,7 +4,7 @@
 -- <https://zarr.readthedocs.io/en/stable/user-guide/consolidated_metadata/>
 --     block_choice g config      the block that is used of a group, or that the store is listed, or nothing where the want of a block is refused
 --     ShowsChildren, ListsNodes, AreChildren      what its trees show; what all its nodes are; what its children are, in order
---     IsCleanBelow, RefusesChildren      that nothing refuses it; what a refusal is
+--     HasCleanChildren, RefusesChildren      that nothing refuses it; what a refusal is
 --     is_listed choice      whether the store is listed: only there its fault is excused
 use Rattle.std.specs.Prelude.{Bool, true, false, ◌&&◌, List, [], ◌∷◌, Option, Some, None, ◌⊎◌}
 use Rattle.zarrs_store.specs.Contents.{Contents, Lists}
@@ -55,8 +55,8 @@ pub record AreChildren (s : Contents) (g : GroupState) (config : Settings) (es :
   pub children : ListsDirectly s (block_choice g config) g.path es
 
 -- nothing refuses what stands below the group: a listing comes upon nothing bad, or all keys of the block that is used are valid
-abbrev pub IsCleanBelow : Contents → GroupState → Settings → Bool → Type 0
-IsCleanBelow s g config recursive = IsCleanChosen s Default (block_choice g config) recursive g.path
+abbrev pub HasCleanChildren : Contents → GroupState → Settings → Bool → Type 0
+HasCleanChildren s g config recursive = IsCleanChosen s Default (block_choice g config) recursive g.path
 
 -- the store is listed: no block is used, and the want of one is not refused
 abbrev pub is_listed : Option (Option Block) → Bool

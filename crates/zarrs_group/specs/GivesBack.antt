@@ -33,7 +33,7 @@ use Rattle.zarrs_node.specs.Forest.{Forest, pairs, Shows}
 use Rattle.zarrs_block.specs.Meaning.{Meaning, Means, meaning, node}
 use Rattle.zarrs_node.specs.Reach.{Kept}
 use Rattle.zarrs_node.specs.Inverse.{ArePlain}
-use Rattle.zarrs_node.specs.OpeningNodes.{ShowsNode, RefusesOpening}
+use Rattle.zarrs_node.specs.OpeningNodes.{ShowsBelow, RefusesOpening}
 use Rattle.zarrs_group.specs.Groups.{GroupState, group_tree}
 use Rattle.zarrs_group.specs.BlocksOfGroups.{block_beside, with_block, Fits}
 use Rattle.zarrs_group.specs.Children.{ShowsChildren, ListsNodes, RefusesChildren}
@@ -75,7 +75,7 @@ GroupV2GivesBack = (of : Path → Meaning) (g : GroupState) (f : Forest) (B : Bl
 pub record OpensTo (s : Contents) (g : GroupState) (f : Forest) : Type 0 where
   pub means : (v : MetadataRetrieveVersion) → v ≢ retrieve.V2 → meaning s v g.path ≡ node (Group g.metadata)
   pub children : (v : MetadataRetrieveVersion) → v ≢ retrieve.V2 → (policy : UseConsolidatedMetadata) → policy ≢ Never
-      → (m : NodeMetadata) (t : Forest) → meaning s v g.path ≡ node m → ShowsNode s v policy g.path m t → t ≡ f
+      → (m : NodeMetadata) (t : Forest) → meaning s v g.path ≡ node m → ShowsBelow s v policy g.path m t → t ≡ f
   pub opened : (v : MetadataRetrieveVersion) → v ≢ retrieve.V2 → (policy : UseConsolidatedMetadata) → policy ≢ Never
       → (e : NodeCreateError) → RefusesOpening s v policy (path_text g.path) e → ⊥
 
@@ -101,7 +101,7 @@ pub record HasStoredBlock (S s : Contents) (g : GroupState) : Type 0 where
 -- in a store, by each version by which the path of the group means the group, where the policy is not Never: the one forest of a node opened there is f, and the opening is not refused; and a group opened there has beside its metadata a block with the entries of B, and gives the forest back
 pub record OpensToV2 (s : Contents) (g : GroupState) (f : Forest) (B : Block) : Type 0 where
   pub children : (v : MetadataRetrieveVersion) → meaning s v g.path ≡ node (Group g.metadata) → (policy : UseConsolidatedMetadata) → policy ≢ Never
-      → (t : Forest) → ShowsNode s v policy g.path (Group g.metadata) t → t ≡ f
+      → (t : Forest) → ShowsBelow s v policy g.path (Group g.metadata) t → t ≡ f
   pub opened : (v : MetadataRetrieveVersion) → meaning s v g.path ≡ node (Group g.metadata) → (policy : UseConsolidatedMetadata) → policy ≢ Never
       → (e : NodeCreateError) → RefusesOpening s v policy (path_text g.path) e → ⊥
   pub beside : (C : Block) × (block_beside s g.path g.metadata ≡ Some C) × HaveSameEntries B C

@@ -1,9 +1,10 @@
 -- Zarr core specification 3.1, "Group metadata": what a group holds, and its metadata under the options.
 -- <https://zarr-specs.readthedocs.io/en/latest/v3/core/index.html#group-metadata>
-use Rattle.std.specs.Prelude.{ℕ, List, ◌++◌, Option, None, codes}
+use Rattle.std.specs.Prelude.{◌≡◌, ℕ, List, ◌++◌, Option, None, codes}
 use Rattle.serde_json.specs.Data.{Data, Members}
 use Rattle.serde_json.specs.Written.{compact_text}
 use Rattle.zarrs_path.specs.Paths.{Path, path_text}
+use Rattle.zarrs_config.specs.Settings.{Settings}
 use Rattle.zarrs_config.specs.declared.version.MetadataConvertVersion.{MetadataConvertVersion}
 use Rattle.zarrs_config.specs.declared.version.MetadataConvertVersion.TheVariants as convert
 use Rattle.zarrs_config.specs.declared.version.MetadataEraseVersion.{MetadataEraseVersion}
@@ -21,6 +22,10 @@ pub record GroupState : Type 0 where
   pub block : Option Block
   pub convert_version : MetadataConvertVersion
   pub erase_version : MetadataEraseVersion
+
+-- the group is stored and erased by the versions of the configuration
+abbrev pub HasChoicesOf : Settings → GroupState → Type 0
+HasChoicesOf config g = (g.convert_version ≡ config.convert_version) × (g.erase_version ≡ config.erase_version)
 
 -- the attributes of a group of either version
 abbrev pub attributes_of_group : GroupMetadata → Members

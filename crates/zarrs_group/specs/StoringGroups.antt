@@ -12,6 +12,7 @@ use Rattle.zarrs_store.specs.declared.storage_error.StorageError.{StorageError}
 use Rattle.zarrs_store.specs.declared.storage_error.StorageError.TheVariants.{Fault, InvalidMetadata, Other, OutOfMemory}
 use Rattle.zarrs_path.specs.Keys.{zarr_json, zgroup, zattrs, zmetadata}
 use Rattle.zarrs_path.specs.Paths.{Path}
+use Rattle.zarrs_config.specs.declared.version.MetadataConvertVersion.{MetadataConvertVersion}
 use Rattle.zarrs_config.specs.declared.version.MetadataEraseVersion.{MetadataEraseVersion}
 use Rattle.zarrs_config.specs.declared.version.MetadataEraseVersion.TheVariants as version
 use Rattle.zarrs_form.specs.Documents.{is_empty}
@@ -23,6 +24,7 @@ use Rattle.zarrs_meta.specs.declared.node.GroupMetadata.TheVariants.{V3, V2}
 use Rattle.zarrs_meta.specs.declared.group_v2.GroupMetadataV2.{GroupMetadataV2}
 use Rattle.zarrs_block.specs.Block.{Block}
 use Rattle.zarrs_block.specs.Zmetadata.{zmetadata_tree}
+use Rattle.zarrs_group.specs.Groups.{GroupState, metadata_by_version}
 use Rattle.zarrs_group.specs.Layout.{pretty_text, IsReadBack}
 use Rattle.zarrs_group.specs.Plain.{group_fault, beside_fault}
 use Rattle.zarrs_group.specs.Edits.{Edit, set, remove, IsCutShort}
@@ -78,6 +80,18 @@ RefusesStoring can_fail p m block S S' Fault = IsTrue can_fail × (stored_fault 
 RefusesStoring can_fail p m block S S' (InvalidMetadata key fault) = (S' ≡ S) × (stored_fault p m block ≡ Some (key, fault))
 RefusesStoring can_fail p m block S S' (Other text) = ⊥
 RefusesStoring can_fail p m block S S' OutOfMemory = IsCutShort S (store_edits p m block) S'
+
+-- what storing a group by a version does to a store
+abbrev pub edits_of_group : MetadataConvertVersion → GroupState → List Edit
+edits_of_group v g = store_edits g.path (metadata_by_version v g.metadata) g.block
+
+-- why a group is not stored by a version, with the key, or nothing where it is
+abbrev pub fault_of_group : MetadataConvertVersion → GroupState → Option (Segments × MetadataFault)
+fault_of_group v g = stored_fault g.path (metadata_by_version v g.metadata) g.block
+
+-- a refused store of a group by a version
+abbrev pub RefusesStoringGroup : Bool → MetadataConvertVersion → GroupState → Contents → Contents → StorageError → Type 0
+RefusesStoringGroup can_fail v g S S' e = RefusesStoring can_fail g.path (metadata_by_version v g.metadata) g.block S S' e
 
 -- the bytes of the block beside the metadata of version 2 are read as its document `.zmetadata`
 abbrev pub IsBlockReadBack : GroupMetadata → Option Block → Type 0

@@ -4,6 +4,7 @@ ghost use Rattle.serde_json.specs.Data.{no_members};
 ghost use Rattle.serde_json.specs.View.{members_view};
 ghost use Rattle.zarrs_meta.specs.declared.node.GroupMetadata.TheVariants.{V3};
 ghost use Rattle.zarrs_path.specs.Paths.{IsPath, path_text};
+ghost use Rattle.zarrs_group.specs.Groups.{HasChoicesOf};
 ghost use Rattle.zarrs_group.specs.OpeningGroups.{RefusesMaking};
 
 use crate::create_error::GroupCreateError;
@@ -92,9 +93,7 @@ impl GroupBuilder {
             (λ group. IsPath group.path × (path_text group.path ≡ path.now)) }
         ensures metadata { IfOk result (λ group. group.metadata ≡ V3 self.now) }
         ensures block { IfOk result (λ group. group.block ≡ None) }
-        ensures choices { IfOk result
-            (λ group. (group.convert_version ≡ config.now.convert_version)
-            × (group.erase_version ≡ config.now.erase_version)) }
+        ensures choices { IfOk result (HasChoicesOf config.now) }
         ensures err { IfErr result (RefusesMaking path.now) }
     {
         let metadata = self.metadata.try_clone(alloc)?;

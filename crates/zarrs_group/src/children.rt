@@ -8,7 +8,7 @@ ghost use Rattle.zarrs_block.specs.Block.{Entries, HasValidKeys};
 ghost use Rattle.zarrs_block.specs.BlockExpansion.{RefusesKeys};
 ghost use Rattle.zarrs_node.specs.Forest.{Shows, forest, path_of, metadata_of};
 ghost use Rattle.zarrs_node.specs.Reach.{Kept};
-ghost use Rattle.zarrs_group.specs.Children.{block_choice, ShowsChildren, ListsNodes, AreChildren, IsCleanBelow, RefusesChildren, RefusesGroups, groups_of, with_group};
+ghost use Rattle.zarrs_group.specs.Children.{block_choice, ShowsChildren, ListsNodes, AreChildren, HasCleanChildren, RefusesChildren, RefusesGroups, groups_of, with_group};
 
 use crate::create_error::GroupCreateError;
 use crate::group::Group;
@@ -53,7 +53,7 @@ impl Group {
             (λ nodes. ShowsChildren (S.contents storage.now) self.now config.now recursive
             (forest nodes.items)) }
         ensures clean { IfOk result
-            (λ _. IsCleanBelow (S.contents storage.now) self.now config.now recursive) }
+            (λ _. HasCleanChildren (S.contents storage.now) self.now config.now recursive) }
         ensures refused { IfErr result
             (RefusesChildren (S.can_fail storage.now)
             (S.contents storage.now) self.now config.now recursive) }
@@ -83,7 +83,7 @@ impl Group {
         ensures nodes { IfOk result
             (λ all. ListsNodes (S.contents storage.now) self.now config.now all.items) }
         ensures clean { IfOk result
-            (λ _. IsCleanBelow (S.contents storage.now) self.now config.now true) }
+            (λ _. HasCleanChildren (S.contents storage.now) self.now config.now true) }
         ensures refused { IfErr result
             (RefusesChildren (S.can_fail storage.now)
             (S.contents storage.now) self.now config.now true) }
@@ -119,7 +119,7 @@ impl Group {
             × AreChildren (S.contents storage.now) self.now config.now es
             × (groups.items ≡ groups_of config.now es)) }
         ensures clean { IfOk result
-            (λ _. IsCleanBelow (S.contents storage.now) self.now config.now false) }
+            (λ _. HasCleanChildren (S.contents storage.now) self.now config.now false) }
         ensures refused { IfErr result
             (RefusesGroups (S.can_fail storage.now) (S.contents storage.now) self.now config.now) }
     {
@@ -148,7 +148,7 @@ impl Group {
             × AreChildren (S.contents storage.now) self.now config.now es
             × (paths.items ≡ map (λ e. e.0) es)) }
         ensures clean { IfOk result
-            (λ _. IsCleanBelow (S.contents storage.now) self.now config.now false) }
+            (λ _. HasCleanChildren (S.contents storage.now) self.now config.now false) }
         ensures refused { IfErr result
             (RefusesChildren (S.can_fail storage.now)
             (S.contents storage.now) self.now config.now false) }
@@ -176,7 +176,7 @@ impl Group {
             × AreChildren (S.contents storage.now) self.now config.now es
             × (paths.items ≡ map (λ e. e.0) (filter (λ e. is_group e.1) es))) }
         ensures clean { IfOk result
-            (λ _. IsCleanBelow (S.contents storage.now) self.now config.now false) }
+            (λ _. HasCleanChildren (S.contents storage.now) self.now config.now false) }
         ensures refused { IfErr result
             (RefusesChildren (S.can_fail storage.now)
             (S.contents storage.now) self.now config.now false) }
@@ -204,7 +204,7 @@ impl Group {
             × AreChildren (S.contents storage.now) self.now config.now es
             × (paths.items ≡ map (λ e. e.0) (filter (λ e. not (is_group e.1)) es))) }
         ensures clean { IfOk result
-            (λ _. IsCleanBelow (S.contents storage.now) self.now config.now false) }
+            (λ _. HasCleanChildren (S.contents storage.now) self.now config.now false) }
         ensures refused { IfErr result
             (RefusesChildren (S.can_fail storage.now)
             (S.contents storage.now) self.now config.now false) }

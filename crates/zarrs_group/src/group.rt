@@ -4,7 +4,7 @@ ghost use Rattle.serde_json.specs.Written.{compact_text};
 ghost use Rattle.zarrs_store.specs.Faults.{IsStoreError};
 ghost use Rattle.zarrs_path.specs.Paths.{IsPath, path_text};
 ghost use Rattle.zarrs_meta.specs.declared.node.GroupMetadata.TheVariants.{V3, V2};
-ghost use Rattle.zarrs_group.specs.Groups.{attributes_of_group, as_v3, metadata_by_version, group_as_v3, group_text, group_tree};
+ghost use Rattle.zarrs_group.specs.Groups.{HasChoicesOf, attributes_of_group, as_v3, metadata_by_version, group_as_v3, group_text, group_tree};
 ghost use Rattle.zarrs_block.specs.Policy.{as_block};
 ghost use Rattle.zarrs_group.specs.BlocksBeside.{IsBeside};
 ghost use Rattle.zarrs_group.specs.BlocksOfGroups.{block_beside};
@@ -13,7 +13,7 @@ ghost use Rattle.zarrs_group.specs.Edits.{after, IsCutShort};
 ghost use Rattle.zarrs_group.specs.Laws.{MeansStored};
 ghost use Rattle.zarrs_group.specs.Meaning.{MeansGroup};
 ghost use Rattle.zarrs_group.specs.OpeningGroups.{IsUnsupportedIn, RefusesMaking, RefusesOpeningGroup};
-ghost use Rattle.zarrs_group.specs.StoringGroups.{IsBlockReadBack, store_edits, erase_edits, stored_fault, RefusesStoring};
+ghost use Rattle.zarrs_group.specs.StoringGroups.{IsBlockReadBack, edits_of_group, fault_of_group, RefusesStoringGroup, erase_edits};
 ghost use Rattle.zarrs_config.specs.declared.version.MetadataRetrieveVersion.TheVariants.{Default as BothVersions};
 
 use crate::consolidated::copy_of;
@@ -91,9 +91,7 @@ impl Group {
             (λ group. IsPath group.path × (path_text group.path ≡ path.now)) }
         ensures metadata { IfOk result (λ group. group.metadata ≡ metadata) }
         ensures block { IfOk result (λ group. group.block ≡ None) }
-        ensures choices { IfOk result
-            (λ group. (group.convert_version ≡ config.now.convert_version)
-            × (group.erase_version ≡ config.now.erase_version)) }
+        ensures choices { IfOk result (HasChoicesOf config.now) }
         ensures err { IfErr result (RefusesMaking path.now) }
     {
         let path = NodePath::new(alloc, path)?;
@@ -121,9 +119,7 @@ impl Group {
             (λ group. group.block
             ≡ block_beside (S.contents storage.now) group.path group.metadata) }
         ensures understood { IfOk result (λ group. IsUnsupportedIn group.metadata None) }
-        ensures choices { IfOk result
-            (λ group. (group.convert_version ≡ config.now.convert_version)
-            × (group.erase_version ≡ config.now.erase_version)) }
+        ensures choices { IfOk result (HasChoicesOf config.now) }
         ensures err { IfErr result
             (RefusesOpeningGroup (S.can_fail storage.now)
             (S.contents storage.now) BothVersions path.now) }
@@ -164,9 +160,7 @@ impl Group {
             (λ group. group.block
             ≡ block_beside (S.contents storage.now) group.path group.metadata) }
         ensures understood { IfOk result (λ group. IsUnsupportedIn group.metadata None) }
-        ensures choices { IfOk result
-            (λ group. (group.convert_version ≡ config.now.convert_version)
-            × (group.erase_version ≡ config.now.erase_version)) }
+        ensures choices { IfOk result (HasChoicesOf config.now) }
         ensures err { IfErr result
             (RefusesOpeningGroup (S.can_fail storage.now)
             (S.contents storage.now) version.now path.now) }
@@ -338,26 +332,18 @@ impl Group {
     ) -> Result<(), StorageError>
         ensures ok { OnOk result
             (S.contents storage.new
-            ≡ after (S.contents storage.old)
-            (store_edits self.now.path
-            (metadata_by_version self.now.convert_version self.now.metadata)
-            self.now.block)) }
+            ≡ after (S.contents storage.old) (edits_of_group self.now.convert_version self.now)) }
         ensures means { OnOk result
             (MeansStored (S.contents storage.new) self.now.path
             (metadata_by_version self.now.convert_version self.now.metadata)) }
-        ensures plain { OnOk result
-            (stored_fault self.now.path
-            (metadata_by_version self.now.convert_version self.now.metadata) self.now.block
-            ≡ None) }
+        ensures plain { OnOk result (fault_of_group self.now.convert_version self.now ≡ None) }
         ensures block_reads { OnOk result
             (IsBlockReadBack
             (metadata_by_version self.now.convert_version self.now.metadata) self.now.block) }
-        ensures unchanged { stored_fault self.now.path
-            (metadata_by_version self.now.convert_version self.now.metadata) self.now.block ≢ None
+        ensures unchanged { fault_of_group self.now.convert_version self.now ≢ None
             → S.contents storage.new ≡ S.contents storage.old }
         ensures err { IfErr result
-            (RefusesStoring (S.can_fail storage.old) self.now.path
-            (metadata_by_version self.now.convert_version self.now.metadata) self.now.block
+            (RefusesStoringGroup (S.can_fail storage.old) self.now.convert_version self.now
             (S.contents storage.old) (S.contents storage.new)) }
         ensures nature { S.can_fail storage.new ≡ S.can_fail storage.old }
     {
@@ -391,23 +377,17 @@ impl Group {
     ) -> Result<(), StorageError>
         ensures ok { OnOk result
             (S.contents storage.new
-            ≡ after (S.contents storage.old)
-            (store_edits self.now.path
-            (metadata_by_version options.now self.now.metadata) self.now.block)) }
+            ≡ after (S.contents storage.old) (edits_of_group options.now self.now)) }
         ensures means { OnOk result
             (MeansStored (S.contents storage.new) self.now.path
             (metadata_by_version options.now self.now.metadata)) }
-        ensures plain { OnOk result
-            (stored_fault self.now.path
-            (metadata_by_version options.now self.now.metadata) self.now.block ≡ None) }
+        ensures plain { OnOk result (fault_of_group options.now self.now ≡ None) }
         ensures block_reads { OnOk result
             (IsBlockReadBack (metadata_by_version options.now self.now.metadata) self.now.block) }
-        ensures unchanged { stored_fault self.now.path
-            (metadata_by_version options.now self.now.metadata) self.now.block ≢ None
+        ensures unchanged { fault_of_group options.now self.now ≢ None
             → S.contents storage.new ≡ S.contents storage.old }
         ensures err { IfErr result
-            (RefusesStoring (S.can_fail storage.old) self.now.path
-            (metadata_by_version options.now self.now.metadata) self.now.block
+            (RefusesStoringGroup (S.can_fail storage.old) options.now self.now
             (S.contents storage.old) (S.contents storage.new)) }
         ensures nature { S.can_fail storage.new ≡ S.can_fail storage.old }
     {

@@ -14,7 +14,7 @@ use Rattle.zarrs_node.specs.Forest.{Forest, Shows}
 use Rattle.zarrs_node.specs.Order.{Ascend}
 use Rattle.zarrs_node.specs.Lines.{lines, preorder, tree_text}
 use Rattle.zarrs_block.specs.Meaning.{meaning}
-use Rattle.zarrs_node.specs.OpeningNodes.{choice, ShowsNode, ShowsChosen}
+use Rattle.zarrs_node.specs.OpeningNodes.{choice, ShowsBelow, ShowsChosen}
 use Rattle.zarrs_node.proofs.Found.{listed_each}
 use Rattle.zarrs_node.proofs.Kept.{closed_is_kept}
 use Rattle.zarrs_node.proofs.LawProofs.{placed_lines, lines_unique}
@@ -69,7 +69,7 @@ module _ (s : Contents) (v : MetadataRetrieveVersion) where
   }
 
   group_agrees : (policy : UseConsolidatedMetadata) (b : Path) (m : NodeMetadata) (f : Forest) (h : Pairs) (t u : List ℕ)
-      → IsTrue (is_group m) → IsClosedChoice (choice s policy b m) b → ShowsNode s v policy b m f → t ≡ tree_text m f
+      → IsTrue (is_group m) → IsClosedChoice (choice s policy b m) b → ShowsBelow s v policy b m f → t ≡ tree_text m f
       → Holds h (WithBase b m (PairsOf s v policy b m)) → IsTreeOf h b u
       → (below : List ℕ) × (t ≡ codes "/\n" ++ below) × (u ≡ path_text b ++ 10 ∷ below)
   group_agrees policy b (Array a) f h t u group closed shows text holds tree = absurd (true≢false (sym group))

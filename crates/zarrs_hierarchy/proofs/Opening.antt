@@ -19,7 +19,7 @@ use Rattle.zarrs_node.specs.Forest.{pairs}
 use Rattle.zarrs_node.specs.BlocksBelow.{ExcusesBlock, PairsBelow, IsGoodBelow, ShowsBadBelow}
 use Rattle.zarrs_node.specs.Lines.{line, lines}
 use Rattle.zarrs_node.specs.Nodes.{Nodes}
-use Rattle.zarrs_node.specs.OpeningNodes.{choice, IsCleanChosen, IsCleanNode, RefusesBelow, RefusesChosen, RefusesOpening}
+use Rattle.zarrs_node.specs.OpeningNodes.{choice, IsCleanChosen, IsCleanBelow, RefusesBelow, RefusesChosen, RefusesOpening}
 use Rattle.zarrs_node.specs.Order.{Ascend}
 use Rattle.zarrs_node.specs.Sinks.{TakesAll, TakesForest, KeepsPair}
 use Rattle.zarrs_node.proofs.Feeding.{kept_pairs, took_joined}
@@ -154,7 +154,7 @@ told_forest R N b a z t = record {
 
 -- where nothing below a group is refused, the group is clean
 pub clean_by : (s : Contents) (v : MetadataRetrieveVersion) (policy : UseConsolidatedMetadata) (b : Path) (m : NodeMetadata) (c : Option Block) → IsTrue (is_group m) → choice s policy b m ≡ Some c
-    → IsGoodBelow s v c true b → IsCleanNode s v policy b m
+    → IsGoodBelow s v c true b → IsCleanBelow s v policy b m
 clean_by s v policy b (Array a) c group chosen clean = tt
 clean_by s v policy b (Group g) c group chosen clean = subst (λ k. IsCleanChosen s v k true b) (sym chosen) clean
 
@@ -180,7 +180,7 @@ took_lines b a (e ∷ es) z t at =
 
 -- a text with the line of a base that took what stands below it is the tree of the hierarchy that has both
 pub told_tree : (s : Contents) (v : MetadataRetrieveVersion) (policy : UseConsolidatedMetadata) (b : Path) (m : NodeMetadata) (a z : TreeText) → IsPath b → meaning s v b ≡ node m → a.above ≡ length b
-    → string_bytes a.text ≡ path_text b ++ 10 ∷ [] → TakesPairs AppendsNode a z (PairsOf s v policy b m) → IsCleanNode s v policy b m → IsOpenedTree s v policy b (string_bytes z.text)
+    → string_bytes a.text ≡ path_text b ++ 10 ∷ [] → TakesPairs AppendsNode a z (PairsOf s v policy b m) → IsCleanBelow s v policy b m → IsOpenedTree s v policy b (string_bytes z.text)
 told_tree s v policy b m a z valid means at start t clean = (
   (b, m) ∷ t.nodes,
   record {

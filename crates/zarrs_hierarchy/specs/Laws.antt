@@ -11,7 +11,7 @@ use Rattle.zarrs_block.specs.Block.{Block, Entries}
 use Rattle.zarrs_node.specs.Forest.{Forest}
 use Rattle.zarrs_node.specs.Lines.{tree_text}
 use Rattle.zarrs_block.specs.Meaning.{meaning, node}
-use Rattle.zarrs_node.specs.OpeningNodes.{choice, ShowsNode}
+use Rattle.zarrs_node.specs.OpeningNodes.{choice, ShowsBelow}
 use Rattle.zarrs_node.specs.Reach.{Closed}
 use Rattle.zarrs_hierarchy.specs.PairsOfHierarchies.{Pairs}
 use Rattle.zarrs_hierarchy.specs.OpeningHierarchies.{IsOpened}
@@ -29,7 +29,7 @@ IsClosedChoice (Some (Some B)) b = Closed (Entries B b) b
 abbrev pub PrintingAgrees : Type 0
 PrintingAgrees = (s : Contents) (v : MetadataRetrieveVersion) (policy : UseConsolidatedMetadata) (b : Path) (m : NodeMetadata) (f : Forest) (h : Pairs) (t u : List ℕ)
     → IsPath b → meaning s v b ≡ node m → IsTrue (is_group m) → IsClosedChoice (choice s policy b m) b
-    → ShowsNode s v policy b m f → t ≡ tree_text m f
+    → ShowsBelow s v policy b m f → t ≡ tree_text m f
     → IsOpened s v policy (path_text b) h → IsTreeOf h b u
     → (below : List ℕ) × (t ≡ codes "/\n" ++ below) × (u ≡ path_text b ++ 10 ∷ below)
 

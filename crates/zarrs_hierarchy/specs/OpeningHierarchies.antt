@@ -12,7 +12,7 @@ use Rattle.zarrs_config.specs.declared.version.UseConsolidatedMetadata.{UseConso
 use Rattle.zarrs_block.specs.Block.{Block}
 use Rattle.zarrs_block.specs.Meaning.{meaning, node}
 use Rattle.zarrs_node.specs.BlocksBelow.{PairsBelow}
-use Rattle.zarrs_node.specs.OpeningNodes.{choice, IsCleanNode}
+use Rattle.zarrs_node.specs.OpeningNodes.{choice, IsCleanBelow}
 use Rattle.zarrs_hierarchy.specs.PairsOfHierarchies.{Pairs, Holds, WithBase}
 use Rattle.zarrs_hierarchy.specs.Tree.{IsTreeOf}
 
@@ -34,7 +34,7 @@ pub record IsOpened (s : Contents) (v : MetadataRetrieveVersion) (policy : UseCo
   pub metadata : NodeMetadata
   pub means : meaning s v base ≡ node metadata
   pub holds : Holds h (WithBase base metadata (PairsOf s v policy base metadata))
-  pub clean : IsCleanNode s v policy base metadata
+  pub clean : IsCleanBelow s v policy base metadata
 
 -- the text is the tree, from b on, of the hierarchy that opening at b finds
 abbrev pub IsOpenedTree : Contents → MetadataRetrieveVersion → UseConsolidatedMetadata → Path → List ℕ → Type 0

@@ -1,11 +1,11 @@
 //! Hierarchies of what a store has at a path and below it.
-ghost use Rattle.std.specs.Prelude.{◌≡◌, ◌∷◌, [], true, IfOk, IfErr, OnOk, ◌⊎◌};
+ghost use Rattle.std.specs.Prelude.{◌≡◌, ◌∷◌, [], true, IfOk, IfErr, OnOk};
 ghost use Rattle.zarrs_meta.specs.declared.node.NodeMetadata.TheVariants.{Group as group_node};
-ghost use Rattle.zarrs_block.specs.Refusals.{IsExcused};
+ghost use Rattle.zarrs_block.specs.Refusals.{IsExcusedOr};
 ghost use Rattle.zarrs_block.specs.Policy.{as_block};
 ghost use Rattle.zarrs_node.specs.BlocksBelow.{PairsBelow, IsGoodBelow, ShowsBadBelow};
-ghost use Rattle.zarrs_node.specs.Nodes.{Nodes, Bad, ShowsBad};
-ghost use Rattle.zarrs_node.specs.OpeningNodes.{IsCleanNode, RefusesBelow, RefusesOpening};
+ghost use Rattle.zarrs_node.specs.Nodes.{Nodes, ShowsBad, HasNothingBad};
+ghost use Rattle.zarrs_node.specs.OpeningNodes.{IsCleanBelow, RefusesBelow, RefusesOpening};
 ghost use Rattle.zarrs_hierarchy.specs.PairsOfHierarchies.{Holds, WithBase};
 ghost use Rattle.zarrs_node.specs.Sinks.{TakesAll};
 ghost use Rattle.zarrs_hierarchy.specs.OpeningHierarchies.{PairsOf, IsOpened};
@@ -41,10 +41,9 @@ impl Hierarchy {
             (IsOpened (S.contents storage.now) MetadataRetrieveVersion.Default
             config.now.use_consolidated path.now) }
         ensures refused { IfErr result
-            (λ e. IsExcused (S.can_fail storage.now) e
-            ⊎ RefusesOpening
-            (S.contents storage.now) MetadataRetrieveVersion.Default config.now.use_consolidated
-            path.now e) }
+            (IsExcusedOr (S.can_fail storage.now)
+            (RefusesOpening (S.contents storage.now) MetadataRetrieveVersion.Default
+            config.now.use_consolidated path.now)) }
     {
         Hierarchy::open_opt(
             log,
@@ -88,9 +87,9 @@ impl Hierarchy {
         ensures opened { IfOk result
             (IsOpened (S.contents storage.now) version.now config.now.use_consolidated path.now) }
         ensures refused { IfErr result
-            (λ e. IsExcused (S.can_fail storage.now) e
-            ⊎ RefusesOpening
-            (S.contents storage.now) version.now config.now.use_consolidated path.now e) }
+            (IsExcusedOr (S.can_fail storage.now)
+            (RefusesOpening (S.contents storage.now) version.now config.now.use_consolidated
+            path.now)) }
     {
         let path = NodePath::new(alloc, path)?;
         let metadata = Node::get_metadata(alloc, storage, &path, version)?;
@@ -119,12 +118,12 @@ impl Hierarchy {
             (Nodes (S.contents storage.now) MetadataRetrieveVersion.Default true
             group.now.path))) }
         ensures clean { IfOk result
-            (λ _. Bad (S.contents storage.now) MetadataRetrieveVersion.Default true group.now.path
-            → ⊥) }
+            (λ _. HasNothingBad (S.contents storage.now) MetadataRetrieveVersion.Default true
+            group.now.path) }
         ensures refused { IfErr result
-            (λ e. IsExcused (S.can_fail storage.now) e
-            ⊎ ShowsBad (S.contents storage.now) MetadataRetrieveVersion.Default true
-            group.now.path e) }
+            (IsExcusedOr (S.can_fail storage.now)
+            (ShowsBad (S.contents storage.now) MetadataRetrieveVersion.Default true
+            group.now.path)) }
     {
         let base = group.path();
         let version = MetadataRetrieveVersion::Default;
@@ -152,12 +151,12 @@ fn nodes_from<L: Log, S: ReadableStorageTraits + ListableStorageTraits>(
         (PairsOf (S.contents storage.now) version.now config.now.use_consolidated path.now
         metadata))) }
     ensures clean { IfOk result
-        (λ _. IsCleanNode
+        (λ _. IsCleanBelow
         (S.contents storage.now) version.now config.now.use_consolidated path.now metadata) }
     ensures refused { IfErr result
-        (λ e. IsExcused (S.can_fail storage.now) e
-        ⊎ RefusesBelow
-        (S.contents storage.now) version.now config.now.use_consolidated path.now metadata e) }
+        (IsExcusedOr (S.can_fail storage.now)
+        (RefusesBelow (S.contents storage.now) version.now config.now.use_consolidated path.now
+        metadata)) }
 {
     if !metadata.is_group() {
         return Ok(base_alone(alloc, path, metadata)?);
@@ -186,8 +185,8 @@ pub(crate) fn tell_below<L: Log, S: ReadableStorageTraits + ListableStorageTrait
     ensures clean { OnOk result
         (IsGoodBelow (S.contents storage.now) version.now (as_block block) true path.now) }
     ensures refused { IfErr result
-        (λ e. IsExcused (S.can_fail storage.now) e
-        ⊎ ShowsBadBelow (S.contents storage.now) version.now (as_block block) true path.now e) }
+        (IsExcusedOr (S.can_fail storage.now)
+        (ShowsBadBelow (S.contents storage.now) version.now (as_block block) true path.now)) }
 {
     match block {
         Some(block) => {

@@ -1,8 +1,8 @@
 //! The text of what a store has at a path and below it.
-ghost use Rattle.std.specs.Prelude.{◌≡◌, ◌∷◌, [], ◌++◌, IfOk, IfErr, OnOk, ◌⊎◌, string_bytes};
+ghost use Rattle.std.specs.Prelude.{◌≡◌, ◌∷◌, [], ◌++◌, IfOk, IfErr, OnOk, string_bytes};
 ghost use Rattle.zarrs_path.specs.Paths.{path_text};
-ghost use Rattle.zarrs_block.specs.Refusals.{IsExcused};
-ghost use Rattle.zarrs_node.specs.OpeningNodes.{IsCleanNode, RefusesBelow, RefusesOpening};
+ghost use Rattle.zarrs_block.specs.Refusals.{IsExcusedOr};
+ghost use Rattle.zarrs_node.specs.OpeningNodes.{IsCleanBelow, RefusesBelow, RefusesOpening};
 ghost use Rattle.zarrs_hierarchy.specs.OpeningHierarchies.{PairsOf, IsOpenedTree};
 ghost use Rattle.zarrs_hierarchy.specs.Sinks.{AppendsNode};
 ghost use Rattle.zarrs_hierarchy.specs.StepsOfHierarchies.{TakesPairs};
@@ -43,9 +43,9 @@ pub fn tree_at<L: Log, S: ReadableStorageTraits + ListableStorageTraits>(
         (S.contents storage.now) version.now config.now.use_consolidated path.now
         (string_bytes text)) }
     ensures refused { IfErr result
-        (λ e. IsExcused (S.can_fail storage.now) e
-        ⊎ RefusesOpening (S.contents storage.now) version.now config.now.use_consolidated
-        (path_text path.now) e) }
+        (IsExcusedOr (S.can_fail storage.now)
+        (RefusesOpening (S.contents storage.now) version.now config.now.use_consolidated
+        (path_text path.now))) }
 {
     let _valid = path.as_str();
     let metadata = Node::get_metadata(alloc, storage, path, version)?;
@@ -76,13 +76,12 @@ fn tell_node<L: Log, S: ReadableStorageTraits + ListableStorageTraits, K: NodeSi
         (PairsOf (S.contents storage.now) version.now config.now.use_consolidated path.now
         metadata.now)) }
     ensures clean { OnOk result
-        (IsCleanNode (S.contents storage.now) version.now config.now.use_consolidated path.now
+        (IsCleanBelow (S.contents storage.now) version.now config.now.use_consolidated path.now
         metadata.now) }
     ensures refused { IfErr result
-        (λ e. IsExcused (S.can_fail storage.now) e
-        ⊎ RefusesBelow
-        (S.contents storage.now) version.now config.now.use_consolidated path.now metadata.now
-        e) }
+        (IsExcusedOr (S.can_fail storage.now)
+        (RefusesBelow (S.contents storage.now) version.now config.now.use_consolidated path.now
+        metadata.now)) }
 {
     if !metadata.is_group() {
         return Ok(());

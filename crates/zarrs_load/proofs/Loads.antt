@@ -18,8 +18,8 @@ with_members (Some bytes) ms fault object within holds = (within, holds bytes ob
 -- an object's members that make no store are an image's fault
 pub refused_members : (before after : Option (List ℕ)) (ms : Members) (fault : LoadFault) → IsAtEnd after → IfSome before (IsObject ms)
     → IfSome before IsWithinBound → IsMemberFault (member_list ms) fault → RefusedImage before after fault
-refused_members before after ms (ImageKey name) end object within bad = (end, with_members before ms (ImageKey name) object within (λ bytes is. (ms, is, bad)))
-refused_members before after ms (ImageValue name) end object within bad = (end, with_members before ms (ImageValue name) object within (λ bytes is. (ms, is, bad)))
+refused_members before after ms (ImageKey name) end object within bad = (end, with_members before ms (ImageKey name) object within (λ bytes is. (ms, is, bad.0, bad.1, bad.2)))
+refused_members before after ms (ImageValue name) end object within bad = (end, with_members before ms (ImageValue name) object within (λ bytes is. (ms, is, bad.0, bad.1, bad.2, bad.3)))
 refused_members before after ms OutOfMemory end object within bad = tt
 refused_members before after ms Read end object within bad = tt
 refused_members before after ms ReadTooLong end object within bad = absurd bad

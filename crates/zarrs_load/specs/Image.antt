@@ -20,13 +20,9 @@ abbrev pub member_list : Members → List (List ℕ × Data)
 member_list no_members = []
 member_list (member name value rest) = (name, value) ∷ member_list rest
 
--- the bytes are JSON, and this is the value
-abbrev pub IsJsonText : List ℕ → Data → Type 0
-IsJsonText bytes value = IsUtf8 bytes × (read bytes ≡ Some value)
-
 -- the bytes are a JSON object with these members
 abbrev pub IsObject : Members → List ℕ → Type 0
-IsObject members bytes = IsJsonText bytes (object members)
+IsObject members bytes = IsUtf8 bytes × (read bytes ≡ Some (object members))
 
 -- the member's name is a key's text, and its value is a text
 abbrev pub IsEntry : List ℕ × Data → Type 0
@@ -49,14 +45,6 @@ pub record IsFirstBad (members : List (List ℕ × Data)) (name : List ℕ) (val
   pub splits : members ≡ before ++ (name, value) ∷ after
   pub good : All IsEntry before
 
--- the first bad member has this name, which is no key's text
-abbrev pub IsFirstBadKey : List (List ℕ × Data) → List ℕ → Type 0
-IsFirstBadKey members name = (value : Data) × IsFirstBad members name value × (IsKeyText name → ⊥)
-
--- the first bad member has this name, which is a key's text, and its value is no text
-abbrev pub IsFirstBadValue : List (List ℕ × Data) → List ℕ → Type 0
-IsFirstBadValue members name = (value : Data) × IsFirstBad members name value × IsKeyText name × (IsSome (as_str value) → ⊥)
-
 -- the bytes are an image, and this is its store
 abbrev pub IsImage : List ℕ → Contents → Type 0
 IsImage bytes store = (members : Members) × IsObject members bytes × HoldsMembers (member_list members) store
@@ -65,11 +53,12 @@ IsImage bytes store = (members : Members) × IsObject members bytes × HoldsMemb
 abbrev pub IsLoaded : Option (List ℕ) → Contents → Type 0
 IsLoaded before store = IfSome before (λ bytes. IsImage bytes store)
 
--- the bytes are no image, and this is why
+-- the bytes are no image, and this is why: they are no JSON object; or its first bad member has this name, which is no key's text; or it has this
+-- name, which is one, and its value is no text
 abbrev pub IsImageFault : List ℕ → LoadFault → Type 0
 IsImageFault bytes Image = (members : Members) → IsObject members bytes → ⊥
-IsImageFault bytes (ImageKey name) = (members : Members) × IsObject members bytes × IsFirstBadKey (member_list members) (string_bytes name)
-IsImageFault bytes (ImageValue name) = (members : Members) × IsObject members bytes × IsFirstBadValue (member_list members) (string_bytes name)
+IsImageFault bytes (ImageKey name) = (members : Members) × IsObject members bytes × (value : Data) × IsFirstBad (member_list members) (string_bytes name) value × (IsKeyText (string_bytes name) → ⊥)
+IsImageFault bytes (ImageValue name) = (members : Members) × IsObject members bytes × (value : Data) × IsFirstBad (member_list members) (string_bytes name) value × IsKeyText (string_bytes name) × (IsSome (as_str value) → ⊥)
 IsImageFault bytes _ = ⊥
 
 -- the reader was read to its end within the bound, and what it gave is no image

@@ -28,7 +28,7 @@ use Rattle.zarrs_block.specs.Zmetadata.{zmetadata_of, zmetadata_members, HoldsSt
 use Rattle.zarrs_block.specs.BlockExpansion.{NamesBadKey}
 use Rattle.zarrs_block.specs.declared.node_create_error.NodeCreateError.{NodeCreateError}
 use Rattle.zarrs_node.specs.Reach.{Kept}
-use Rattle.zarrs_node.specs.Nodes.{Nodes, Bad, ShowsBad}
+use Rattle.zarrs_node.specs.Nodes.{Nodes, HasNothingBad, ShowsBad}
 
 -- the block that the document `.zmetadata` of b is, where it is there and reads as one
 abbrev pub zmetadata_at : Contents → Path → Option Block
@@ -41,8 +41,7 @@ HoldsZmetadata s b B = (bytes : List ℕ) × (d : Data) × (ms : Members) × (ge
 -- the block that stands for the nodes below b in a store, where b has these metadata: of a version 2 group the one beside its documents, else the one that they hold
 abbrev pub block_at : Contents → Path → NodeMetadata → Option Block
 block_at s b (Group (V2 g)) = zmetadata_at s b
-block_at s b (Group (V3 g)) = block_in (Group (V3 g))
-block_at s b (Array a) = block_in (Array a)
+block_at s b m = block_in m
 
 -- the block was not found out: of a version 2 group, whose document is looked for in the store, for the fault of a store that can fail or out of
 -- memory; of a version 3 group out of memory for its field; of an array never; and never where no block is used
@@ -63,7 +62,7 @@ PairsBelow s v (Some B) b = Entries B b
 
 -- nothing below b is refused: a listing comes upon nothing bad, or each key of the block that is used is valid
 abbrev pub IsGoodBelow : Contents → MetadataRetrieveVersion → Option Block → Bool → Path → Type 0
-IsGoodBelow s v None recursive b = Bad s v recursive b → ⊥
+IsGoodBelow s v None recursive b = HasNothingBad s v recursive b
 IsGoodBelow s v (Some B) recursive b = HasValidKeys B
 
 -- the refusal is what a listing comes upon, or names the first bad part of a key of the block that is used

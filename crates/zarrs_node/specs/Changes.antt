@@ -17,7 +17,7 @@ use Rattle.zarrs_block.specs.Block.{Block, IsAscending, IsBlockOf}
 use Rattle.zarrs_block.specs.Meaning.{meaning}
 use Rattle.zarrs_node.specs.Nodes.{Nodes}
 use Rattle.zarrs_node.specs.Forest.{Forest, pairs, IsPlaced}
-use Rattle.zarrs_node.specs.OpeningNodes.{ShowsNode}
+use Rattle.zarrs_node.specs.OpeningNodes.{ShowsBelow}
 use Rattle.zarrs_node.specs.CurrentBlocks.{IsFresh}
 
 -- the files that hold the documents of a path
@@ -61,7 +61,7 @@ RefreshedIsBlock = (S : Contents) (v : MetadataRetrieveVersion) (b : Path) (cs :
 abbrev pub RefreshedIsOpened : Type 0
 RefreshedIsOpened = (S : Contents) (v : MetadataRetrieveVersion) (b : Path) (cs : List (Contents × Path)) (g h : GroupMetadata) (e f : Forest) (B C D : Block)
     → AreChanges b S cs
-    → ShowsNode S v Never b (Group g) e → (IsPlaced b e → IsBlockOf (Contains (pairs e)) b B)
+    → ShowsBelow S v Never b (Group g) e → (IsPlaced b e → IsBlockOf (Contains (pairs e)) b B)
     → IsRefreshed v b B cs C → IsAscending C
-    → ShowsNode (last_of S cs) v Never b (Group h) f → (IsPlaced b f → IsBlockOf (Contains (pairs f)) b D) → IsAscending D
+    → ShowsBelow (last_of S cs) v Never b (Group h) f → (IsPlaced b f → IsBlockOf (Contains (pairs f)) b D) → IsAscending D
     → C ≡ D

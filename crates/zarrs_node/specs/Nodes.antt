@@ -57,6 +57,10 @@ Ignored s v = IgnoredIn (meaning s v) (HasBelow s)
 abbrev pub Bad : Contents → MetadataRetrieveVersion → Bool → Path → Type 0
 Bad s v = BadIn (meaning s v) (HasBelow s)
 
+-- no reached path means `bad e`, and no child of a listed path has a name of periods only
+abbrev pub HasNothingBad : Contents → MetadataRetrieveVersion → Bool → Path → Type 0
+HasNothingBad s v recursive b = Bad s v recursive b → ⊥
+
 -- the refusal e is what a reached path means, or names the path of a child with a name of periods only
 abbrev pub ShowsBad : Contents → MetadataRetrieveVersion → Bool → Path → NodeCreateError → Type 0
 ShowsBad s v = ShowsBadIn (meaning s v) (HasBelow s)

@@ -3,6 +3,7 @@
 -- <https://zarr.readthedocs.io/en/stable/user-guide/consolidated_metadata/>
 --     choice s policy b m      which block stands for the nodes below b, or that they are listed, or nothing where the want of a block is refused
 --     ShowsChosen, IsCleanChosen      what a tree below b shows by such a choice; that nothing refuses it
+--     ShowsNode, IsCleanNode      the same of a node that was opened
 --     RefusesChosen, RefusesNode, RefusesOpening      what refuses it; what refuses the node itself; the first of all reasons against opening a text
 use Rattle.std.specs.Prelude.{◌≡◌, ℕ, Bool, true, List, Option, Some, None, ◌⊎◌}
 use Rattle.zarrs_store.specs.Contents.{Contents}
@@ -19,7 +20,8 @@ use Rattle.zarrs_block.specs.Refusals.{IsMissing}
 use Rattle.zarrs_block.specs.declared.node_create_error.NodeCreateError.{NodeCreateError}
 use Rattle.zarrs_block.specs.declared.node_create_error.NodeCreateError.TheVariants.{NodePathError}
 use Rattle.zarrs_block.specs.Meaning.{meaning, node, nothing, bad}
-use Rattle.zarrs_node.specs.Forest.{Forest, none, Shows}
+use Rattle.zarrs_node.specs.Forest.{Forest, none, Shows, path_of, metadata_of, below_of}
+use Rattle.zarrs_node.specs.declared.node.Node.{Node}
 use Rattle.zarrs_node.specs.BlocksBelow.{block_at, NodesBelow, IsGoodBelow, ShowsBadBelow}
 
 -- ---- by a choice of a block, or of a listing, or of neither
@@ -46,19 +48,27 @@ abbrev pub choice : Contents → UseConsolidatedMetadata → Path → NodeMetada
 choice s policy b m = block_to_use (block_at s b m) policy
 
 -- below an array there is nothing, and f shows what stands below a group
-abbrev pub ShowsNode : Contents → MetadataRetrieveVersion → UseConsolidatedMetadata → Path → NodeMetadata → Forest → Type 0
-ShowsNode s v policy b (Array a) f = f ≡ none
-ShowsNode s v policy b (Group g) f = ShowsChosen s v (choice s policy b (Group g)) true b f
+abbrev pub ShowsBelow : Contents → MetadataRetrieveVersion → UseConsolidatedMetadata → Path → NodeMetadata → Forest → Type 0
+ShowsBelow s v policy b (Array a) f = f ≡ none
+ShowsBelow s v policy b (Group g) f = ShowsChosen s v (choice s policy b (Group g)) true b f
 
 -- what stands below a group is not refused
-abbrev pub IsCleanNode : Contents → MetadataRetrieveVersion → UseConsolidatedMetadata → Path → NodeMetadata → Type 0
-IsCleanNode s v policy b (Array a) = Unit {0}
-IsCleanNode s v policy b (Group g) = IsCleanChosen s v (choice s policy b (Group g)) true b
+abbrev pub IsCleanBelow : Contents → MetadataRetrieveVersion → UseConsolidatedMetadata → Path → NodeMetadata → Type 0
+IsCleanBelow s v policy b (Array a) = Unit {0}
+IsCleanBelow s v policy b (Group g) = IsCleanChosen s v (choice s policy b (Group g)) true b
 
 -- what stands below a group is refused; below an array nothing is
 abbrev pub RefusesBelow : Contents → MetadataRetrieveVersion → UseConsolidatedMetadata → Path → NodeMetadata → NodeCreateError → Type 0
 RefusesBelow s v policy b (Array a) e = ⊥
 RefusesBelow s v policy b (Group g) e = RefusesChosen s v (choice s policy b (Group g)) true b e
+
+-- the tree of the node shows what stands below it
+abbrev pub ShowsNode : Contents → MetadataRetrieveVersion → UseConsolidatedMetadata → Node → Type 0
+ShowsNode s v policy n = ShowsBelow s v policy (path_of n) (metadata_of n) (below_of n)
+
+-- what stands below the node is not refused
+abbrev pub IsCleanNode : Contents → MetadataRetrieveVersion → UseConsolidatedMetadata → Node → Type 0
+IsCleanNode s v policy n = IsCleanBelow s v policy (path_of n) (metadata_of n)
 
 -- the path b means nothing, and the error names it; or it is bad with that error
 abbrev pub RefusesNode : Contents → MetadataRetrieveVersion → Path → NodeCreateError → Type 0

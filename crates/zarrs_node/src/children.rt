@@ -1,9 +1,9 @@
 //! The nodes below a path, where what is passed over is warned of.
-ghost use Rattle.std.specs.Prelude.{IfOk, IfErr, OnOk, ◌⊎◌, true};
+ghost use Rattle.std.specs.Prelude.{IfOk, IfErr, OnOk, true};
 ghost use Rattle.zarrs_store.specs.Contents.{Lists};
-ghost use Rattle.zarrs_block.specs.Refusals.{IsExcused};
+ghost use Rattle.zarrs_block.specs.Refusals.{IsExcusedOr};
 ghost use Rattle.zarrs_node.specs.Forest.{Shows, ShowsPaths, forest};
-ghost use Rattle.zarrs_node.specs.Nodes.{Nodes, ShowsBad, Bad};
+ghost use Rattle.zarrs_node.specs.Nodes.{Nodes, ShowsBad, HasNothingBad};
 ghost use Rattle.zarrs_block.specs.Block.{IsAscending, IsBlockOf};
 ghost use Rattle.zarrs_node.specs.Order.{Ascend};
 ghost use Rattle.zarrs_node.specs.Sinks.{TakesForest};
@@ -40,11 +40,11 @@ pub fn get_child_nodes<L: Log, S: ReadableStorageTraits + ListableStorageTraits>
         (λ nodes. Shows (forest nodes.items) path.now
         (Nodes (S.contents storage.now) MetadataRetrieveVersion.Default recursive path.now)) }
     ensures clean { IfOk result
-        (λ _. Bad (S.contents storage.now) MetadataRetrieveVersion.Default recursive path.now → ⊥) }
+        (λ _. HasNothingBad (S.contents storage.now) MetadataRetrieveVersion.Default recursive
+        path.now) }
     ensures refused { IfErr result
-        (λ e. IsExcused (S.can_fail storage.now) e
-        ⊎ ShowsBad (S.contents storage.now) MetadataRetrieveVersion.Default recursive path.now
-        e) }
+        (IsExcusedOr (S.can_fail storage.now)
+        (ShowsBad (S.contents storage.now) MetadataRetrieveVersion.Default recursive path.now)) }
 {
     get_child_nodes_opt(
         log,
@@ -79,10 +79,10 @@ pub fn get_child_nodes_opt<L: Log, S: ReadableStorageTraits + ListableStorageTra
         (λ nodes. Shows (forest nodes.items) path.now
         (Nodes (S.contents storage.now) version.now recursive path.now)) }
     ensures clean { IfOk result
-        (λ _. Bad (S.contents storage.now) version.now recursive path.now → ⊥) }
+        (λ _. HasNothingBad (S.contents storage.now) version.now recursive path.now) }
     ensures refused { IfErr result
-        (λ e. IsExcused (S.can_fail storage.now) e
-        ⊎ ShowsBad (S.contents storage.now) version.now recursive path.now e) }
+        (IsExcusedOr (S.can_fail storage.now)
+        (ShowsBad (S.contents storage.now) version.now recursive path.now)) }
 {
     let listed = list_nodes(alloc, storage, path, recursive, version)?;
     warn_ignored(log, &listed.ignored);
@@ -108,11 +108,11 @@ pub fn get_child_paths<L: Log, S: ReadableStorageTraits + ListableStorageTraits>
         (λ paths. ShowsPaths paths.items path.now
         (Nodes (S.contents storage.now) MetadataRetrieveVersion.Default recursive path.now)) }
     ensures clean { IfOk result
-        (λ _. Bad (S.contents storage.now) MetadataRetrieveVersion.Default recursive path.now → ⊥) }
+        (λ _. HasNothingBad (S.contents storage.now) MetadataRetrieveVersion.Default recursive
+        path.now) }
     ensures refused { IfErr result
-        (λ e. IsExcused (S.can_fail storage.now) e
-        ⊎ ShowsBad (S.contents storage.now) MetadataRetrieveVersion.Default recursive path.now
-        e) }
+        (IsExcusedOr (S.can_fail storage.now)
+        (ShowsBad (S.contents storage.now) MetadataRetrieveVersion.Default recursive path.now)) }
 {
     get_child_paths_opt(
         log,
@@ -145,10 +145,10 @@ pub fn get_child_paths_opt<L: Log, S: ReadableStorageTraits + ListableStorageTra
         (λ paths. ShowsPaths paths.items path.now
         (Nodes (S.contents storage.now) version.now recursive path.now)) }
     ensures clean { IfOk result
-        (λ _. Bad (S.contents storage.now) version.now recursive path.now → ⊥) }
+        (λ _. HasNothingBad (S.contents storage.now) version.now recursive path.now) }
     ensures refused { IfErr result
-        (λ e. IsExcused (S.can_fail storage.now) e
-        ⊎ ShowsBad (S.contents storage.now) version.now recursive path.now e) }
+        (IsExcusedOr (S.can_fail storage.now)
+        (ShowsBad (S.contents storage.now) version.now recursive path.now)) }
 {
     let mut paths = Vec::new(alloc);
     walk_child_nodes(log, alloc, storage, path, recursive, version, &mut paths)?;
@@ -175,10 +175,11 @@ pub fn walk_child_nodes<L: Log, S: ReadableStorageTraits + ListableStorageTraits
     ensures takes { OnOk result
         (TakesForest K.takes sink.old sink.new path.now
         (Nodes (S.contents storage.now) version.now recursive path.now)) }
-    ensures clean { OnOk result (Bad (S.contents storage.now) version.now recursive path.now → ⊥) }
+    ensures clean { OnOk result
+        (HasNothingBad (S.contents storage.now) version.now recursive path.now) }
     ensures refused { IfErr result
-        (λ e. IsExcused (S.can_fail storage.now) e
-        ⊎ ShowsBad (S.contents storage.now) version.now recursive path.now e) }
+        (IsExcusedOr (S.can_fail storage.now)
+        (ShowsBad (S.contents storage.now) version.now recursive path.now)) }
 {
     let ignored = walk_nodes(alloc, storage, path, recursive, version, sink)?;
     warn_ignored(log, &ignored);
@@ -210,10 +211,11 @@ pub fn get_all_nodes_of<L: Log, S: ReadableStorageTraits + ListableStorageTraits
     ensures nodes { IfOk result
         (λ all. Lists (Nodes (S.contents storage.now) version.now true path.now) all.items) }
     ensures ascending { IfOk result (λ all. Ascend all.items) }
-    ensures clean { IfOk result (λ _. Bad (S.contents storage.now) version.now true path.now → ⊥) }
+    ensures clean { IfOk result
+        (λ _. HasNothingBad (S.contents storage.now) version.now true path.now) }
     ensures refused { IfErr result
-        (λ e. IsExcused (S.can_fail storage.now) e
-        ⊎ ShowsBad (S.contents storage.now) version.now true path.now e) }
+        (IsExcusedOr (S.can_fail storage.now)
+        (ShowsBad (S.contents storage.now) version.now true path.now)) }
 {
     let mut all = Vec::new(alloc);
     walk_child_nodes(log, alloc, storage, path, true, version, &mut all)?;
@@ -239,10 +241,11 @@ pub fn consolidate_nodes_of<L: Log, S: ReadableStorageTraits + ListableStorageTr
     ensures exact { IfOk result
         (IsBlockOf (Nodes (S.contents storage.now) version.now true path.now) path.now) }
     ensures ascending { IfOk result IsAscending }
-    ensures clean { IfOk result (λ _. Bad (S.contents storage.now) version.now true path.now → ⊥) }
+    ensures clean { IfOk result
+        (λ _. HasNothingBad (S.contents storage.now) version.now true path.now) }
     ensures refused { IfErr result
-        (λ e. IsExcused (S.can_fail storage.now) e
-        ⊎ ShowsBad (S.contents storage.now) version.now true path.now e) }
+        (IsExcusedOr (S.can_fail storage.now)
+        (ShowsBad (S.contents storage.now) version.now true path.now)) }
 {
     let all = get_all_nodes_of(log, alloc, storage, path, version)?;
     let mut block = ConsolidatedMetadataMetadata::new(alloc);

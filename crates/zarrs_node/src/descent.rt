@@ -4,9 +4,9 @@ ghost use Rattle.zarrs_store.specs.Segments.{IsPrefix};
 ghost use Rattle.zarrs_store.specs.Contents.{Lists};
 ghost use Rattle.zarrs_path.specs.Paths.{IsPath};
 ghost use Rattle.zarrs_block.specs.Meaning.{meaning, bad};
-ghost use Rattle.zarrs_block.specs.Refusals.{IsExcused, IsInvalidPath};
+ghost use Rattle.zarrs_block.specs.Refusals.{IsExcused, IsInvalidPath, IsExcusedOr};
 ghost use Rattle.zarrs_node.specs.StepsOfTrees.{own_node, paths_passed, is_group_found};
-ghost use Rattle.zarrs_node.specs.Nodes.{Nodes, Ignored, ShowsBad, Bad};
+ghost use Rattle.zarrs_node.specs.Nodes.{Nodes, Ignored, ShowsBad, HasNothingBad};
 ghost use Rattle.zarrs_node.specs.StepsOfDocuments.{Finds};
 ghost use Rattle.zarrs_node.specs.Sinks.{TakesAll, TakesForest};
 ghost use Rattle.zarrs_node.specs.StepsOfTheWalk.{AreOnTop, IsPathAndOne};
@@ -50,10 +50,10 @@ pub fn walk_nodes<S: ReadableStorageTraits + ListableStorageTraits, K: NodeSink>
         (λ ignored. Lists
         (Ignored (S.contents storage.now) version.now recursive path.now) ignored.items) }
     ensures clean { IfOk result
-        (λ _. Bad (S.contents storage.now) version.now recursive path.now → ⊥) }
+        (λ _. HasNothingBad (S.contents storage.now) version.now recursive path.now) }
     ensures refused { IfErr result
-        (λ e. IsExcused (S.can_fail storage.now) e
-        ⊎ ShowsBad (S.contents storage.now) version.now recursive path.now e) }
+        (IsExcusedOr (S.can_fail storage.now)
+        (ShowsBad (S.contents storage.now) version.now recursive path.now)) }
 {
     let mut last = LastDocuments::new(alloc);
     let walked = walk(alloc, storage, path, recursive, version, &mut last, sink);
@@ -79,10 +79,10 @@ fn walk<S: ReadableStorageTraits + ListableStorageTraits, K: NodeSink>(
         (λ ignored. Lists
         (Ignored (S.contents storage.now) version.now recursive path.now) ignored.items) }
     ensures clean { IfOk result
-        (λ _. Bad (S.contents storage.now) version.now recursive path.now → ⊥) }
+        (λ _. HasNothingBad (S.contents storage.now) version.now recursive path.now) }
     ensures refused { IfErr result
-        (λ e. IsExcused (S.can_fail storage.now) e
-        ⊎ ShowsBad (S.contents storage.now) version.now recursive path.now e) }
+        (IsExcusedOr (S.can_fail storage.now)
+        (ShowsBad (S.contents storage.now) version.now recursive path.now)) }
 {
     let base = path.to_prefix(alloc)?;
     let mut pending = Vec::new(alloc);
@@ -157,10 +157,11 @@ fn read_child<S: ReadableStorageTraits>(
         (λ found. Finds (S.can_fail storage.now) (Ok found)
         (meaning (S.contents storage.now) version.now prefix.now)) }
     ensures refused { IfErr result
-        (λ e. IsExcused (S.can_fail storage.now) e
-        ⊎ (IsInvalidPath prefix.now e × (¬ IsPath prefix.now))
+        (IsExcusedOr (S.can_fail storage.now)
+        (λ e. (IsInvalidPath prefix.now e
+        × (¬ IsPath prefix.now))
         ⊎ (IsPath prefix.now
-        × (meaning (S.contents storage.now) version.now prefix.now ≡ bad e))) }
+        × (meaning (S.contents storage.now) version.now prefix.now ≡ bad e)))) }
     ensures segments { IsPrefix prefix.now }
 {
     let _segments = prefix.as_str();

@@ -1,9 +1,9 @@
 //! The nodes below a path.
-ghost use Rattle.std.specs.Prelude.{IfOk, IfErr, ◌⊎◌};
+ghost use Rattle.std.specs.Prelude.{IfOk, IfErr};
 ghost use Rattle.zarrs_store.specs.Contents.{Lists};
-ghost use Rattle.zarrs_block.specs.Refusals.{IsExcused};
+ghost use Rattle.zarrs_block.specs.Refusals.{IsExcusedOr};
 ghost use Rattle.zarrs_node.specs.Forest.{Shows, forest};
-ghost use Rattle.zarrs_node.specs.Nodes.{Nodes, Ignored, ShowsBad, Bad};
+ghost use Rattle.zarrs_node.specs.Nodes.{Nodes, Ignored, ShowsBad, HasNothingBad};
 
 use crate::build::build_ascending;
 use crate::descent::walk_nodes;
@@ -52,10 +52,10 @@ pub fn list_nodes<S: ReadableStorageTraits + ListableStorageTraits>(
         (λ l. Lists (Ignored (S.contents storage.now) version.now recursive path.now)
         l.ignored.items) }
     ensures clean { IfOk result
-        (λ _. Bad (S.contents storage.now) version.now recursive path.now → ⊥) }
+        (λ _. HasNothingBad (S.contents storage.now) version.now recursive path.now) }
     ensures refused { IfErr result
-        (λ e. IsExcused (S.can_fail storage.now) e
-        ⊎ ShowsBad (S.contents storage.now) version.now recursive path.now e) }
+        (IsExcusedOr (S.can_fail storage.now)
+        (ShowsBad (S.contents storage.now) version.now recursive path.now)) }
 {
     let mut pairs = Vec::new(alloc);
     let ignored = walk_nodes(alloc, storage, path, recursive, version, &mut pairs)?;

@@ -1,9 +1,10 @@
 //! What a path means in a store.
-ghost use Rattle.std.specs.Prelude.{◌≡◌, Ok, IfOk, IfErr, ◌⊎◌};
-ghost use Rattle.zarrs_block.specs.Refusals.{IsExcused, IsMissing};
-ghost use Rattle.zarrs_block.specs.Meaning.{in_bytes, meaning, attributes_at, node, nothing, bad, zarr_json_line, zarray_line, zgroup_line};
+ghost use Rattle.std.specs.Prelude.{◌≡◌, Ok, IfOk, IfErr};
+ghost use Rattle.zarrs_block.specs.Refusals.{IsExcusedOr};
+ghost use Rattle.zarrs_block.specs.Meaning.{in_bytes, meaning, attributes_at, node, zarr_json_line, zarray_line, zgroup_line};
 ghost use Rattle.zarrs_node.specs.Refusals.{RefusesReading};
 ghost use Rattle.zarrs_node.specs.StepsOfDocuments.{FollowsLine, Finds};
+ghost use Rattle.zarrs_node.specs.OpeningNodes.{RefusesNode};
 
 use crate::documents::find_below;
 use crate::last_read::LastDocuments;
@@ -39,10 +40,8 @@ impl Node {
         ensures ok { IfOk result
             (λ metadata. meaning (S.contents storage.now) version.now path.now ≡ node metadata) }
         ensures refused { IfErr result
-            (λ e. IsExcused (S.can_fail storage.now) e
-            ⊎ ((meaning (S.contents storage.now) version.now path.now ≡ nothing)
-            × IsMissing path.now e)
-            ⊎ (meaning (S.contents storage.now) version.now path.now ≡ bad e)) }
+            (IsExcusedOr (S.can_fail storage.now)
+            (RefusesNode (S.contents storage.now) version.now path.now)) }
     {
         let prefix = path.to_prefix(alloc)?;
         let mut last = LastDocuments::new(alloc);

@@ -1,11 +1,11 @@
 //! Opening a node of a store.
-ghost use Rattle.std.specs.Prelude.{◌≡◌, true, IfOk, IfErr, ◌⊎◌};
+ghost use Rattle.std.specs.Prelude.{◌≡◌, true, IfOk, IfErr};
 ghost use Rattle.zarrs_path.specs.Paths.{path_text};
-ghost use Rattle.zarrs_block.specs.Refusals.{IsExcused};
+ghost use Rattle.zarrs_block.specs.Refusals.{IsExcusedOr};
 ghost use Rattle.zarrs_block.specs.Meaning.{meaning, node};
 ghost use Rattle.zarrs_block.specs.Block.{Entries, HasValidKeys};
 ghost use Rattle.zarrs_block.specs.BlockExpansion.{RefusesKeys};
-ghost use Rattle.zarrs_node.specs.Forest.{Shows, forest, path_of, metadata_of, below_of, HasPlacedChildren};
+ghost use Rattle.zarrs_node.specs.Forest.{Shows, forest, path_of, metadata_of, HasPlacedChildren};
 ghost use Rattle.zarrs_node.specs.Reach.{Kept};
 ghost use Rattle.zarrs_node.specs.OpeningNodes.{choice, ShowsChosen, IsCleanChosen, RefusesChosen, ShowsNode, IsCleanNode, RefusesOpening};
 
@@ -41,19 +41,16 @@ impl Node {
             (λ made. meaning (S.contents storage.now) MetadataRetrieveVersion.Default (path_of made)
             ≡ node (metadata_of made)) }
         ensures shows { IfOk result
-            (λ made. ShowsNode
-            (S.contents storage.now) MetadataRetrieveVersion.Default config.now.use_consolidated
-            (path_of made) (metadata_of made) (below_of made)) }
+            (ShowsNode (S.contents storage.now) MetadataRetrieveVersion.Default
+            config.now.use_consolidated) }
         ensures clean { IfOk result
-            (λ made. IsCleanNode
-            (S.contents storage.now) MetadataRetrieveVersion.Default config.now.use_consolidated
-            (path_of made) (metadata_of made)) }
+            (IsCleanNode (S.contents storage.now) MetadataRetrieveVersion.Default
+            config.now.use_consolidated) }
         ensures placed { IfOk result HasPlacedChildren }
         ensures refused { IfErr result
-            (λ e. IsExcused (S.can_fail storage.now) e
-            ⊎ RefusesOpening
-            (S.contents storage.now) MetadataRetrieveVersion.Default config.now.use_consolidated
-            path.now e) }
+            (IsExcusedOr (S.can_fail storage.now)
+            (RefusesOpening (S.contents storage.now) MetadataRetrieveVersion.Default
+            config.now.use_consolidated path.now)) }
     {
         Node::open_opt(
             log,
@@ -99,16 +96,14 @@ impl Node {
             (λ made. meaning (S.contents storage.now) version.now (path_of made)
             ≡ node (metadata_of made)) }
         ensures shows { IfOk result
-            (λ made. ShowsNode (S.contents storage.now) version.now config.now.use_consolidated
-            (path_of made) (metadata_of made) (below_of made)) }
+            (ShowsNode (S.contents storage.now) version.now config.now.use_consolidated) }
         ensures clean { IfOk result
-            (λ made. IsCleanNode (S.contents storage.now) version.now config.now.use_consolidated
-            (path_of made) (metadata_of made)) }
+            (IsCleanNode (S.contents storage.now) version.now config.now.use_consolidated) }
         ensures placed { IfOk result HasPlacedChildren }
         ensures refused { IfErr result
-            (λ e. IsExcused (S.can_fail storage.now) e
-            ⊎ RefusesOpening
-            (S.contents storage.now) version.now config.now.use_consolidated path.now e) }
+            (IsExcusedOr (S.can_fail storage.now)
+            (RefusesOpening (S.contents storage.now) version.now config.now.use_consolidated
+            path.now)) }
     {
         let path = NodePath::new(alloc, path)?;
         let metadata = Node::get_metadata(alloc, storage, &path, version)?;
@@ -141,10 +136,9 @@ fn nodes_below<L: Log, S: ReadableStorageTraits + ListableStorageTraits>(
         (choice (S.contents storage.now) config.now.use_consolidated path.now metadata.now) true
         path.now) }
     ensures refused { IfErr result
-        (λ e. IsExcused (S.can_fail storage.now) e
-        ⊎ RefusesChosen (S.contents storage.now) version.now
-        (choice (S.contents storage.now) config.now.use_consolidated path.now metadata.now) true
-        path.now e) }
+        (IsExcusedOr (S.can_fail storage.now)
+        (RefusesChosen (S.contents storage.now) version.now (choice (S.contents storage.now)
+        config.now.use_consolidated path.now metadata.now) true path.now)) }
 {
     let policy = config.use_consolidated_metadata();
     match consolidated_metadata_at(alloc, storage, path, metadata, policy)? {

@@ -1,9 +1,9 @@
 //! The paths of the nodes below a path.
-ghost use Rattle.std.specs.Prelude.{IfOk, IfErr, ◌⊎◌};
+ghost use Rattle.std.specs.Prelude.{IfOk, IfErr};
 ghost use Rattle.zarrs_store.specs.Contents.{Lists};
-ghost use Rattle.zarrs_block.specs.Refusals.{IsExcused};
+ghost use Rattle.zarrs_block.specs.Refusals.{IsExcusedOr};
 ghost use Rattle.zarrs_node.specs.Forest.{ShowsPaths};
-ghost use Rattle.zarrs_node.specs.Nodes.{Nodes, Ignored, ShowsBad, Bad};
+ghost use Rattle.zarrs_node.specs.Nodes.{Nodes, Ignored, ShowsBad, HasNothingBad};
 
 use crate::descent::walk_nodes;
 use std::alloc::Global;
@@ -48,10 +48,10 @@ pub fn list_paths<S: ReadableStorageTraits + ListableStorageTraits>(
         (λ l. Lists (Ignored (S.contents storage.now) version.now recursive path.now)
         l.ignored.items) }
     ensures clean { IfOk result
-        (λ _. Bad (S.contents storage.now) version.now recursive path.now → ⊥) }
+        (λ _. HasNothingBad (S.contents storage.now) version.now recursive path.now) }
     ensures refused { IfErr result
-        (λ e. IsExcused (S.can_fail storage.now) e
-        ⊎ ShowsBad (S.contents storage.now) version.now recursive path.now e) }
+        (IsExcusedOr (S.can_fail storage.now)
+        (ShowsBad (S.contents storage.now) version.now recursive path.now)) }
 {
     let mut paths = Vec::new(alloc);
     let ignored = walk_nodes(alloc, storage, path, recursive, version, &mut paths)?;

@@ -1,9 +1,9 @@
 //! A block made current where the documents of one path changed.
-ghost use Rattle.std.specs.Prelude.{◌≡◌, ◌↔◌, ◌∷◌, IfOk, IfErr, OnOk, IsTrue, ◌⊎◌, Contains};
+ghost use Rattle.std.specs.Prelude.{◌≡◌, ◌↔◌, ◌∷◌, IfOk, IfErr, OnOk, IsTrue, Contains};
 ghost use Rattle.zarrs_store.specs.Contents.{Lists};
 ghost use Rattle.zarrs_path.specs.Paths.{IsBelow, IsPath, Path, without_leading_slash};
 ghost use Rattle.zarrs_block.specs.Block.{Entries, IsAscending};
-ghost use Rattle.zarrs_block.specs.Refusals.{IsExcused};
+ghost use Rattle.zarrs_block.specs.Refusals.{IsExcusedOr};
 ghost use Rattle.zarrs_block.specs.Meaning.{meaning};
 ghost use Rattle.zarrs_node.specs.Reach.{HasGroup};
 ghost use Rattle.zarrs_node.specs.BlocksOfNodes.{text_beyond};
@@ -53,9 +53,9 @@ pub fn refresh_block<S: ReadableStorageTraits + ListableStorageTraits>(
         (λ _. LeadsTo block.now base.now path.now
         → BadAnew (S.contents storage.now) version.now path.now → ⊥) }
     ensures refused { IfErr result
-        (λ e. IsExcused (S.can_fail storage.now) e
-        ⊎ (LeadsTo block.now base.now path.now
-        × ShowsBadAnew (S.contents storage.now) version.now path.now e)) }
+        (IsExcusedOr (S.can_fail storage.now)
+        (λ e. (LeadsTo block.now base.now path.now
+        × ShowsBadAnew (S.contents storage.now) version.now path.now e))) }
 {
     let copy = block.try_clone(alloc)?;
     refresh_owned_block(alloc, storage, base, version, copy, path)
@@ -85,9 +85,9 @@ pub fn refresh_owned_block<S: ReadableStorageTraits + ListableStorageTraits>(
         (λ _. LeadsTo block base.now path.now
         → BadAnew (S.contents storage.now) version.now path.now → ⊥) }
     ensures refused { IfErr result
-        (λ e. IsExcused (S.can_fail storage.now) e
-        ⊎ (LeadsTo block base.now path.now
-        × ShowsBadAnew (S.contents storage.now) version.now path.now e)) }
+        (IsExcusedOr (S.can_fail storage.now)
+        (λ e. (LeadsTo block base.now path.now
+        × ShowsBadAnew (S.contents storage.now) version.now path.now e))) }
 {
     let renewed = if leads_to(alloc, &block, base, path)? {
         read_anew(alloc, storage, path, version)?
@@ -158,8 +158,8 @@ fn read_anew<S: ReadableStorageTraits + ListableStorageTraits>(
         (IsNewPair (meaning (S.contents storage.now) version.now) path.now) pairs.items) }
     ensures clean { IfOk result (λ _. BadAnew (S.contents storage.now) version.now path.now → ⊥) }
     ensures refused { IfErr result
-        (λ e. IsExcused (S.can_fail storage.now) e
-        ⊎ ShowsBadAnew (S.contents storage.now) version.now path.now e) }
+        (IsExcusedOr (S.can_fail storage.now)
+        (ShowsBadAnew (S.contents storage.now) version.now path.now)) }
 {
     let prefix = path.to_prefix(alloc)?;
     let mut last = LastDocuments::new(alloc);

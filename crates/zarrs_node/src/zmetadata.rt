@@ -3,9 +3,10 @@ ghost use Rattle.std.specs.Prelude.{◌≡◌, Ok, Some, None, IfOk, IfErr, IfSo
 ghost use Rattle.zarrs_store.specs.Faults.{IsStoreError};
 ghost use Rattle.zarrs_form.specs.Documents.{Gives, of_bytes};
 ghost use Rattle.zarrs_config.specs.declared.version.UseConsolidatedMetadata.TheVariants.{Never};
-ghost use Rattle.zarrs_block.specs.Policy.{as_block, block_to_use, RefusesUse};
+ghost use Rattle.zarrs_block.specs.Policy.{as_block, RefusesUse};
 ghost use Rattle.zarrs_block.specs.Zmetadata.{zmetadata_of};
-ghost use Rattle.zarrs_node.specs.BlocksBelow.{block_at, zmetadata_at, ExcusesBlock, HoldsZmetadata};
+ghost use Rattle.zarrs_node.specs.BlocksBelow.{zmetadata_at, ExcusesBlock, HoldsZmetadata};
+ghost use Rattle.zarrs_node.specs.OpeningNodes.{choice};
 
 use std::alloc::Global;
 use zarrs_block::{
@@ -36,13 +37,12 @@ pub fn consolidated_metadata_at<S: ReadableStorageTraits>(
     policy: UseConsolidatedMetadata,
 ) -> Result<Option<ConsolidatedMetadata>, NodeCreateError>
     ensures ok { IfOk result
-        (λ chosen. block_to_use (block_at (S.contents storage.now) path.now metadata.now) policy
+        (λ chosen. choice (S.contents storage.now) policy path.now metadata.now
         ≡ Some (as_block chosen)) }
     ensures never { policy ≡ Never → result ≡ Ok None }
     ensures excused { IfErr result
         (λ e. ExcusesBlock (S.can_fail storage.now) metadata.now policy e
-        ⊎ RefusesUse path.now
-        (block_to_use (block_at (S.contents storage.now) path.now metadata.now) policy) e) }
+        ⊎ RefusesUse path.now (choice (S.contents storage.now) policy path.now metadata.now) e) }
 {
     match (metadata, policy) {
         (_, UseConsolidatedMetadata::Never) => Ok(None),

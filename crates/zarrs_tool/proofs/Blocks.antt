@@ -24,8 +24,7 @@ use Rattle.zarrs_group.specs.Layout.{pretty_text}
 use Rattle.zarrs_tool.specs.Output.{IsBlockText}
 use Rattle.zarrs_tool.specs.declared.fault.ToolFault.{ToolFault}
 use Rattle.zarrs_tool.specs.declared.fault.ToolFault.TheVariants.{Node}
-use Rattle.zarrs_tool.specs.Refusals.{IsArray, RefusesOpen}
-use Rattle.zarrs_tool.specs.StepsOfRuns.{IsBlockFault}
+use Rattle.zarrs_tool.specs.StepsOfRuns.{IsArray, RefusesOpen, IsBlockFault}
 use Rattle.zarrs_tool.proofs.PlainMeanings.{plain_node}
 
 -- what was read as a document has numbers that fit

@@ -6,9 +6,11 @@ use Rattle.zarrs_store.specs.Contents.{Contents}
 use Rattle.zarrs_path.specs.Paths.{Path, IsPath, path_text}
 use Rattle.zarrs_load.specs.Image.{IsLoaded, RefusedImage}
 use Rattle.zarrs_tool.specs.Output.{IsCommand, IsOutput, Writes, WritesOutput, word_text}
-use Rattle.zarrs_tool.specs.StepsOfRuns.{command_words, IsPathFault, IsWordFault}
-use Rattle.zarrs_tool.specs.Refusals.{IsLoadFault, IsRefusal, RefusedRun}
+use Rattle.zarrs_tool.specs.StepsOfRuns.{command_words, IsPathFault, IsWordFault, WantsGroup}
+use Rattle.zarrs_tool.specs.Refusals.{IsLoadFault, IsRefusal, RefusedRun, RefusesArray}
 use Rattle.zarrs_tool.specs.declared.run.Command.{Command}
+use Rattle.zarrs_tool.specs.declared.run.Word.{Word}
+use Rattle.zarrs_tool.specs.declared.run.Word.TheVariants.{Children, List as ListAll, Tree, Consolidate}
 use Rattle.zarrs_tool.specs.declared.fault.ToolFault.{ToolFault}
 use Rattle.zarrs_tool.specs.declared.fault.ToolFault.TheVariants.{Usage, Read, ReadTooLong, Image, ImageKey, ImageValue, Folder, NotAGroup, Node, Write, OutOfMemory}
 
@@ -121,10 +123,17 @@ module _ (can_fail : Bool) (command : Command) (store : Contents) (base : Path) 
   word_output (Ok text) writes = (command.word, base, valid, worded, writes)
   word_output (Err e) writes = tt
 
+  -- of all words `consolidate` alone wants a group
+  array_refused : (word : Word) (words : List (List ℕ)) → words ≡ word_text word ∷ path_text base ∷ [] → WantsGroup word store base → RefusesArray words store
+  array_refused Children words is wants = absurd wants
+  array_refused ListAll words is wants = absurd wants
+  array_refused Tree words is wants = absurd wants
+  array_refused Consolidate words is wants = (base, valid, is, wants.0, wants.1)
+
   -- what refuses the word refuses the command
   word_fault : (fault : ToolFault) → IsWordFault can_fail command.word store base fault → IsOutputFault can_fail (command_words command) store fault
   word_fault (Node e) refused = ((λ (h : Node e ≡ Write). cc h), (λ (h : Node e ≡ Usage). cc h), inr (command.word, base, valid, worded, refused))
-  word_fault NotAGroup refused = ((λ (h : NotAGroup ≡ Write). cc h), (λ (h : NotAGroup ≡ Usage). cc h), (command.word, base, valid, worded, refused))
+  word_fault NotAGroup refused = ((λ (h : NotAGroup ≡ Write). cc h), (λ (h : NotAGroup ≡ Usage). cc h), array_refused command.word (command_words command) worded refused)
   word_fault OutOfMemory refused = ((λ (h : OutOfMemory ≡ Write). cc h), (λ (h : OutOfMemory ≡ Usage). cc h), tt)
   word_fault Usage refused = absurd refused
   word_fault Read refused = absurd refused

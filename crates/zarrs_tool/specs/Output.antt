@@ -3,7 +3,7 @@
 -- <https://zarr-specs.readthedocs.io/en/latest/v3/core/index.html#hierarchy>
 -- <https://zarr.readthedocs.io/en/stable/user-guide/consolidated_metadata/>
 --     word_text w, IsCommand words      how a word is written; words that are a command's
---     IsListing, IsTree, IsBlockText      what the words write of a path
+--     IsListing, IsBlockText      what the words write of a path
 --     Writes w, IsOutput words      the text that a word writes of a path; the text that a command's words write
 --     WritesAnswer words left      what a run writes that ends well
 use Rattle.std.specs.Prelude.{◌≡◌, ℕ, Bool, true, false, List, [], ◌∷◌, ◌++◌, map, codes, Option, String, string_bytes}
@@ -20,7 +20,7 @@ use Rattle.zarrs_config.specs.declared.version.UseConsolidatedMetadata.TheVarian
 use Rattle.zarrs_block.specs.Block.{Block, IsAscending, IsBlockOf, block_tree}
 use Rattle.zarrs_block.specs.Meaning.{meaning, node}
 use Rattle.zarrs_node.specs.Order.{Ascend}
-use Rattle.zarrs_node.specs.Nodes.{Nodes, Bad}
+use Rattle.zarrs_node.specs.Nodes.{Nodes, HasNothingBad}
 use Rattle.zarrs_group.specs.Layout.{pretty_text}
 use Rattle.zarrs_hierarchy.specs.OpeningHierarchies.{IsOpenedTree}
 use Rattle.zarrs_load.specs.Image.{IsLoaded}
@@ -52,11 +52,7 @@ pub record IsListing (store : Contents) (recursive : Bool) (base : Path) (text :
   pub lists : Lists (Nodes store Default recursive base) nodes
   pub ascend : Ascend nodes
   pub is : text ≡ path_lines nodes
-  pub clean : Bad store Default recursive base → ⊥
-
--- the text is the tree, from the base on, of the hierarchy that is opened at the base with a block used where there is one
-abbrev pub IsTree : Contents → Path → List ℕ → Type 0
-IsTree store base text = IsOpenedTree store Default Auto base text
+  pub clean : HasNothingBad store Default recursive base
 
 -- the base means a group, and the text is the pretty layout of the block that holds exactly the nodes that a listing finds below the base, and a
 -- newline; nothing on the way is bad
@@ -67,13 +63,13 @@ pub record IsBlockText (store : Contents) (base : Path) (text : List ℕ) : Type
   pub ascending : IsAscending block
   pub holds : IsBlockOf (Nodes store Default true base) base block
   pub is : text ≡ pretty_text (block_tree block) ++ 10 ∷ []
-  pub clean : Bad store Default true base → ⊥
+  pub clean : HasNothingBad store Default true base
 
--- what a word writes of a path
+-- what a word writes of a path; `tree` that of the hierarchy that is opened there with a block used where there is one
 abbrev pub Writes : Word → Contents → Path → List ℕ → Type 0
 Writes Children store base text = IsListing store false base text
 Writes ListAll store base text = IsListing store true base text
-Writes Tree store base text = IsTree store base text
+Writes Tree store base text = IsOpenedTree store Default Auto base text
 Writes Consolidate store base text = IsBlockText store base text
 
 -- what the words write about a store

@@ -7,10 +7,9 @@ use Rattle.zarrs_path.specs.Paths.{Path, IsPath, path_text}
 use Rattle.zarrs_path.specs.PathErrors.{RefusesPath}
 use Rattle.zarrs_block.specs.declared.node_create_error.NodeCreateError.{NodeCreateError}
 use Rattle.zarrs_block.specs.declared.node_create_error.NodeCreateError.TheVariants.{NodePathError}
-use Rattle.zarrs_block.specs.Refusals.{IsExcused}
+use Rattle.zarrs_block.specs.Refusals.{IsExcusedOr}
 use Rattle.zarrs_config.specs.declared.version.MetadataRetrieveVersion.TheVariants.{Default}
 use Rattle.zarrs_config.specs.declared.version.UseConsolidatedMetadata.TheVariants.{Auto, Never}
-use Rattle.zarrs_config.specs.declared.version.UseConsolidatedMetadata.{UseConsolidatedMetadata}
 use Rattle.zarrs_meta.specs.declared.node.ArrayMetadata.{ArrayMetadata}
 use Rattle.zarrs_meta.specs.declared.node.NodeMetadata.TheVariants.{Array}
 use Rattle.zarrs_block.specs.Meaning.{meaning, node}
@@ -30,31 +29,12 @@ abbrev pub RefusesPathText : List ℕ → NodeCreateError → Type 0
 RefusesPathText text (NodePathError e) = RefusesPath text e
 RefusesPathText text _ = ⊥
 
--- the listing is excused, as out of memory or the fault of a store that can fail, or the refusal shows what is bad
-abbrev pub RefusesListing : Bool → Contents → Bool → Path → NodeCreateError → Type 0
-RefusesListing can_fail store recursive base e = IsExcused can_fail e ⊎ ShowsBad store Default recursive base e
-
--- opening the path is excused, as out of memory or the fault of a store that can fail, or it is refused by the first reason that applies
-abbrev pub RefusesOpen : Bool → Contents → UseConsolidatedMetadata → Path → NodeCreateError → Type 0
-RefusesOpen can_fail store policy base e = IsExcused can_fail e ⊎ RefusesOpening store Default policy (path_text base) e
-
--- the calls of a word refuse the path
+-- the calls of a word refuse the path: a listing shows what is bad, or opening is refused by the first reason that applies
 abbrev pub RefusesWord : Bool → Word → Contents → Path → NodeCreateError → Type 0
-RefusesWord can_fail Children store base e = RefusesListing can_fail store false base e
-RefusesWord can_fail ListAll store base e = RefusesListing can_fail store true base e
-RefusesWord can_fail Tree store base e = RefusesOpen can_fail store Auto base e
-RefusesWord can_fail Consolidate store base e = RefusesOpen can_fail store Never base e
-
--- the path means an array
-abbrev pub IsArray : Contents → Path → Type 0
-IsArray store base = (a : ArrayMetadata) × (meaning store Default base ≡ node (Array a))
-
--- the word wants a group, as `consolidate` alone does, and the path means an array
-abbrev pub WantsGroup : Word → Contents → Path → Type 0
-WantsGroup Children store base = ⊥
-WantsGroup ListAll store base = ⊥
-WantsGroup Tree store base = ⊥
-WantsGroup Consolidate store base = IsArray store base
+RefusesWord can_fail Children store base = IsExcusedOr can_fail (ShowsBad store Default false base)
+RefusesWord can_fail ListAll store base = IsExcusedOr can_fail (ShowsBad store Default true base)
+RefusesWord can_fail Tree store base = IsExcusedOr can_fail (RefusesOpening store Default Auto (path_text base))
+RefusesWord can_fail Consolidate store base = IsExcusedOr can_fail (RefusesOpening store Default Never (path_text base))
 
 -- the words' path is none
 abbrev pub RefusesWords : List (List ℕ) → NodeCreateError → Type 0
@@ -65,9 +45,9 @@ abbrev pub RefusesStore : Bool → List (List ℕ) → Contents → NodeCreateEr
 RefusesStore can_fail words store e =
     (word : Word) × (base : Path) × IsPath base × (words ≡ word_text word ∷ path_text base ∷ []) × RefusesWord can_fail word store base e
 
--- the words' command wants a group, and its path means an array
+-- the words are `consolidate`, which wants a group, and a path that means an array
 abbrev pub RefusesArray : List (List ℕ) → Contents → Type 0
-RefusesArray words store = (word : Word) × (base : Path) × IsPath base × (words ≡ word_text word ∷ path_text base ∷ []) × WantsGroup word store base
+RefusesArray words store = (base : Path) × IsPath base × (words ≡ word_text Consolidate ∷ path_text base ∷ []) × (a : ArrayMetadata) × (meaning store Default base ≡ node (Array a))
 
 -- the words are refused over a store
 abbrev pub IsRefusal : Bool → List (List ℕ) → Contents → ToolFault → Type 0

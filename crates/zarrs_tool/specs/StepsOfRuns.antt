@@ -2,16 +2,24 @@
 use Rattle.std.specs.Prelude.{◌≡◌, ◌⊎◌, ℕ, List, [], ◌∷◌, codes, Option, Bool, false, ⊤}
 use Rattle.zarrs_store.specs.Contents.{Contents}
 use Rattle.zarrs_load.specs.Folder.{HoldsDocumentsAlone, IsFolderFault}
-use Rattle.zarrs_tool.specs.declared.run.Word.TheVariants.{Tree}
+use Rattle.zarrs_tool.specs.declared.run.Word.TheVariants.{Children, List as ListAll, Tree, Consolidate}
 use Rattle.zarrs_tool.specs.declared.run.Command.{Command}
 use Rattle.zarrs_tool.specs.Output.{word_text, IsCommand, WritesOutput, WritesOfImage}
-use Rattle.zarrs_path.specs.Paths.{Path}
+use Rattle.zarrs_path.specs.Paths.{Path, path_text}
+use Rattle.zarrs_meta.specs.declared.node.ArrayMetadata.{ArrayMetadata}
+use Rattle.zarrs_meta.specs.declared.node.NodeMetadata.TheVariants.{Array}
+use Rattle.zarrs_block.specs.Meaning.{meaning, node}
+use Rattle.zarrs_block.specs.Refusals.{IsExcusedOr}
+use Rattle.zarrs_node.specs.Nodes.{ShowsBad}
+use Rattle.zarrs_node.specs.OpeningNodes.{RefusesOpening}
 use Rattle.zarrs_block.specs.declared.node_create_error.NodeCreateError.{NodeCreateError}
+use Rattle.zarrs_config.specs.declared.version.MetadataRetrieveVersion.TheVariants.{Default}
+use Rattle.zarrs_config.specs.declared.version.UseConsolidatedMetadata.{UseConsolidatedMetadata}
 use Rattle.zarrs_config.specs.declared.version.UseConsolidatedMetadata.TheVariants.{Auto, Never}
 use Rattle.zarrs_tool.specs.declared.fault.ToolFault.{ToolFault}
 use Rattle.zarrs_tool.specs.declared.fault.ToolFault.TheVariants.{NotAGroup, Node, OutOfMemory}
 use Rattle.zarrs_tool.specs.declared.run.Word.{Word}
-use Rattle.zarrs_tool.specs.Refusals.{RefusesPathText, RefusesListing, RefusesOpen, RefusesWord, IsArray, WantsGroup, IsRefusal, IsLoadFault}
+use Rattle.zarrs_tool.specs.Refusals.{RefusesPathText, RefusesWord, IsRefusal, IsLoadFault}
 
 -- the words of a command
 abbrev pub command_words : Command → List (List ℕ)
@@ -51,9 +59,24 @@ IsFault refuses no_group NotAGroup = no_group
 IsFault refuses no_group OutOfMemory = ⊤
 IsFault refuses no_group _ = ⊥
 
+-- opening the path is excused, as out of memory or the fault of a store that can fail, or it is refused by the first reason that applies
+abbrev pub RefusesOpen : Bool → Contents → UseConsolidatedMetadata → Path → NodeCreateError → Type 0
+RefusesOpen can_fail store policy base = IsExcusedOr can_fail (RefusesOpening store Default policy (path_text base))
+
+-- the path means an array
+abbrev pub IsArray : Contents → Path → Type 0
+IsArray store base = (a : ArrayMetadata) × (meaning store Default base ≡ node (Array a))
+
+-- the word wants a group, as `consolidate` alone does, and the path means an array
+abbrev pub WantsGroup : Word → Contents → Path → Type 0
+WantsGroup Children store base = ⊥
+WantsGroup ListAll store base = ⊥
+WantsGroup Tree store base = ⊥
+WantsGroup Consolidate store base = IsArray store base
+
 -- a listing is refused, or out of memory
 abbrev pub IsListingFault : Bool → Contents → Bool → Path → ToolFault → Type 0
-IsListingFault can_fail store recursive base = IsFault (RefusesListing can_fail store recursive base) ⊥
+IsListingFault can_fail store recursive base = IsFault (IsExcusedOr can_fail (ShowsBad store Default recursive base)) ⊥
 
 -- opening a hierarchy is refused, or out of memory
 abbrev pub IsTreeFault : Bool → Contents → Path → ToolFault → Type 0

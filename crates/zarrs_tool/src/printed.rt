@@ -3,7 +3,9 @@ ghost use Rattle.std.specs.Prelude.{◌≡◌, ◌++◌, ◌∷◌, [], false, I
 ghost use Rattle.serde_json.specs.Written.{has_float};
 ghost use Rattle.zarrs_block.specs.Block.{block_tree};
 ghost use Rattle.zarrs_group.specs.Layout.{pretty_text};
-ghost use Rattle.zarrs_tool.specs.Output.{IsBlockText, IsTree};
+ghost use Rattle.zarrs_tool.specs.Output.{IsBlockText};
+ghost use Rattle.zarrs_config.specs.declared.version.UseConsolidatedMetadata.TheVariants.{Auto};
+ghost use Rattle.zarrs_hierarchy.specs.OpeningHierarchies.{IsOpenedTree};
 ghost use Rattle.zarrs_tool.specs.StepsOfRuns.{IsBlockFault, IsTreeFault};
 
 use crate::fault::ToolFault;
@@ -26,7 +28,9 @@ pub(crate) fn tree_text<L: Log, S: ReadableStorageTraits + ListableStorageTraits
     store: &S,
     base: &NodePath,
 ) -> Result<Vec<u8>, ToolFault>
-    ensures ok { IfOk result (λ text. IsTree (S.contents store.now) base.now text.items) }
+    ensures ok { IfOk result
+        (λ text. IsOpenedTree (S.contents store.now) MetadataRetrieveVersion.Default
+        Auto base.now text.items) }
     ensures err { IfErr result
         (IsTreeFault (S.can_fail store.now) (S.contents store.now) base.now) }
 {
