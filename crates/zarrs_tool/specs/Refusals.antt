@@ -29,7 +29,8 @@ abbrev pub RefusesPathText : List ℕ → NodeCreateError → Type 0
 RefusesPathText text (NodePathError e) = RefusesPath text e
 RefusesPathText text _ = ⊥
 
--- the calls of a word refuse the path: a listing shows what is bad, or opening is refused by the first reason that applies
+-- the calls of a word refuse the path: it is excused, as out of memory or the fault of a store that can fail, or a listing shows what is bad, or opening
+-- is refused by the first reason that applies
 abbrev pub RefusesWord : Bool → Word → Contents → Path → NodeCreateError → Type 0
 RefusesWord can_fail Children store base = IsExcusedOr can_fail (ShowsBad store Default false base)
 RefusesWord can_fail ListAll store base = IsExcusedOr can_fail (ShowsBad store Default true base)
