@@ -8,7 +8,10 @@ use tests_support::{check_rows, fields, printed, said};
 use zarrs_block::{ConsolidatedMetadata, NodeCreateError};
 use zarrs_meta::{AttributesDocument, GroupMetadataV2};
 use zarrs_node::documents::{attributes_at, document_at};
-use zarrs_node::{NodeLine, consolidated_metadata_at, walk_nodes, zmetadata_at};
+use zarrs_node::{
+    NodeFault, NodeLine, WalkedPast, consolidated_metadata_at, walk_nodes, walk_past_faults,
+    zmetadata_at,
+};
 use zarrs_path::NodePath;
 use zarrs_store::StorageError;
 
@@ -204,4 +207,51 @@ a/zarr.json nul => error parsing metadata for a/zarr.json: not JSON
 #[test]
 fn a_walk_hands_each_node_to_a_sink(rt: HostRuntime) -> Result<(), Fail> {
     check_rows(rt.alloc(), TOLD, told_said)
+}
+
+// ---- the walk past faults
+
+// What a walk below the root that goes on past faults hands to a sink, and what it passes over.
+fn told_past(
+    alloc: Global,
+    documents: &str,
+) -> Result<(Vec<NodePath>, WalkedPast), NodeCreateError> {
+    let store = store_in(alloc, documents)?;
+    let root = NodePath::root(alloc)?;
+    let mut paths = Vec::<NodePath>::new(alloc);
+    let passed = walk_past_faults(alloc, &store, &root, &ANY, &mut paths)?;
+    Ok((paths, passed))
+}
+
+// The paths of the nodes, those that are ignored, and what is bad, each by its names.
+fn past_text(told: &(Vec<NodePath>, WalkedPast), alloc: Global) -> Result<String, AllocError> {
+    let (paths, passed) = told;
+    let mut text = paths_text(paths, alloc)?;
+    for path in &passed.ignored {
+        write!(text, "ignored {path}\n")?;
+    }
+    for (names, fault) in &passed.faults {
+        match fault {
+            NodeFault::Missing => write!(text, "{names} missing\n")?,
+            NodeFault::Name => write!(text, "{names} no name\n")?,
+            NodeFault::Document(error) => write!(text, "{names} {error}\n")?,
+        }
+    }
+    Ok(text)
+}
+
+fn past_said(alloc: Global, given: &str) -> Result<String, AllocError> {
+    said(alloc, told_past(alloc, given), past_text)
+}
+
+// A store; the paths of its nodes, the ignored ones, and what is bad, each in the order of paths.
+const PAST: &str = r#"
+zarr.json g3;a/zarr.json g3;a/x/zarr.json g3 => /a\n/a/x\n
+a/zarr.json nul;a/x/zarr.json g3;b/zarr.json g3 => /b\na/ error parsing metadata for a/zarr.json: not JSON\n
+b/zarr.json g3;b/../zarr.json g3;b/c/zarr.json g2;b/d/zarr.json g3;e/f/x nul => /b\n/b/d\nignored /e\nb/../ no name\nb/c/ Found V2 metadata in V3 key or vice-versa\n
+"#;
+
+#[test]
+fn a_walk_goes_on_past_what_is_bad(rt: HostRuntime) -> Result<(), Fail> {
+    check_rows(rt.alloc(), PAST, past_said)
 }

@@ -13,6 +13,11 @@ use Rattle.zarrs_node.specs.StepsOfDocuments.{Finds}
 use Rattle.zarrs_node.specs.Forest.{Forest, pairs, Shows, ShowsPaths}
 use Rattle.zarrs_node.specs.StepsOfTrees.{own_node, paths_passed, is_group_found}
 use Rattle.zarrs_node.specs.Nodes.{Nodes, Ignored, Bad}
+use Rattle.zarrs_node.specs.Faults.{Faults}
+use Rattle.zarrs_node.specs.StepsOfTheWalk.{IsFaultOf}
+use Rattle.zarrs_node.specs.declared.fault.NodeFault.{NodeFault}
+use Rattle.zarrs_node.proofs.Walked.{PathFault}
+use Rattle.zarrs_store.specs.Segments.{IsPrefix}
 use Rattle.zarrs_node.specs.Order.{Ascend}
 use Rattle.zarrs_node.specs.Reach.{Kept}
 use Rattle.zarrs_node.specs.Sinks.{TakesAll, TakesForest, KeepsPath, KeepsPair}
@@ -20,7 +25,7 @@ use Rattle.zarrs_node.proofs.Counted.{shows_same}
 use Rattle.zarrs_node.proofs.Found.{listed_each}
 use Rattle.zarrs_node.proofs.Kept.{placed_between}
 use Rattle.zarrs_node.proofs.Order.{shown_ascend}
-use Rattle.zarrs_node.proofs.Turns.{HasWalked, has_started, has_shown, has_ignored, has_clean, turn_alone, turn_deeper}
+use Rattle.zarrs_node.proofs.Turns.{HasWalked, has_started, has_shown, has_ignored, has_faults, turn_alone, turn_deeper, turn_fault}
 use Rattle.zarrs_node.proofs.Unique.{Pair}
 
 -- what takes some and then some more takes them all
@@ -44,49 +49,58 @@ joined_same [] = refl
 joined_same (x ∷ xs) = ap (λ ys. x ∷ ys) (joined_same xs)
 
 -- the walk has come so far, and the sink took the nodes that it told
-pub record HasFed {K : Type 0} (R : K → Pair → K → Type 0) (s : Contents) (v : MetadataRetrieveVersion) (r : Bool) (b : Path) (a z : K) (ig ps : List Path) : Type 0 where
+pub record HasFed {K : Type 0} (R : K → Pair → K → Type 0) (s : Contents) (v : MetadataRetrieveVersion) (r : Bool) (b : Path) (a z : K) (ig : List Path) (fs : List PathFault) (ps : List Path) : Type 0 where
   pub nodes : List Pair
   pub took : TakesAll R a nodes z
-  pub walked : HasWalked s v r b nodes ig ps
+  pub walked : HasWalked s v r b nodes ig fs ps
 
 module _ {K : Type 0} (R : K → Pair → K → Type 0) (s : Contents) (v : MetadataRetrieveVersion) (r : Bool) (b : Path) (a : K) where
   -- before the first prefix is read
-  pub fed_start : (cs : List Segments) → AreVisibleChildren s b cs → (ig ps : List Path) → ig ≡ [] → ps ≡ [] ++ reverse cs → HasFed R s v r b a a ig ps
-  fed_start cs h ig ps e f = record { nodes = []; took = refl; walked = has_started s v r b cs h [] ig ps refl e f }
+  pub fed_start : IsPath b → (cs : List Segments) → AreVisibleChildren s b cs → (ig : List Path) (fs : List PathFault) (ps : List Path) → ig ≡ [] → fs ≡ [] → ps ≡ [] ++ reverse cs → HasFed R s v r b a a ig fs ps
+  fed_start valid cs h ig fs ps e k f = record { nodes = []; took = refl; walked = has_started s v r b valid cs h [] ig fs ps refl e k f }
 
-  -- after the last the sink took a forest
-  pub fed_forest : (z : K) (ig ps : List Path) → ps ≡ [] → HasFed R s v r b a z ig ps → TakesForest R a z b (Nodes s v r b)
-  fed_forest z ig ps e h = record {
-    trees = h.walked.trees;
-    shows = has_shown s v r b h.nodes ig ps e h.walked;
-    took = subst (λ xs. TakesAll R a xs z) h.walked.are h.took;
-  }
-
-  -- the list has the ignored paths
-  pub fed_ignored : (z : K) (ig ps : List Path) → ps ≡ [] → HasFed R s v r b a z ig ps → Lists (Ignored s v r b) ig
-  fed_ignored z ig ps e h = has_ignored s v r b h.nodes ig ps e h.walked
-
-  -- and nothing was bad
-  pub fed_clean : (z : K) (ig ps : List Path) → ps ≡ [] → HasFed R s v r b a z ig ps → Bad s v r b → ⊥
-  fed_clean z ig ps e h = has_clean s v r b h.nodes ig ps e h.walked
-
-  module _ (c : Path) (can_fail : Bool) (z : K) (ig ps : List Path) (h : HasFed R s v r b a z ig (ps ++ c ∷ [])) (valid : IsPath c) (o : Option NodeMetadata) (means : Finds can_fail (Ok o) (meaning s v c))
-      (w : K) (jg : List Path) (step : TakesAll R z (own_node c o) w) (more : jg ≡ ig ++ paths_passed c o []) where
-    -- a turn where the walk does not go on below
-    pub fed_alone : (r ≡ true → true ≡ is_group_found o → ⊥) → HasFed R s v r b a w jg ps
-    fed_alone closed = record {
-      nodes = h.nodes ++ own_node c o;
-      took = took_more R a h.nodes z (own_node c o) w h.took step;
-      walked = turn_alone s v r b c can_fail h.nodes ig ps (h.nodes ++ own_node c o) jg h.walked valid o means closed refl more;
+  module _ (z : K) (ig : List Path) (fs : List PathFault) (ps : List Path) (e : ps ≡ []) (h : HasFed R s v r b a z ig fs ps) where
+    -- after the last the sink took a forest
+    pub fed_forest : TakesForest R a z b (Nodes s v r b)
+    fed_forest = record {
+      trees = h.walked.trees;
+      shows = has_shown s v r b h.nodes ig fs ps e h.walked;
+      took = subst (λ xs. TakesAll R a xs z) h.walked.are h.took;
     }
 
-    -- a turn where it does
-    pub fed_deeper : r ≡ true → true ≡ is_group_found o → (cs : List Segments) → AreVisibleChildren s c cs → (qs : List Path) → qs ≡ ps ++ reverse cs → HasFed R s v r b a w jg qs
-    fed_deeper deep group cs children qs g = record {
-      nodes = h.nodes ++ own_node c o;
-      took = took_more R a h.nodes z (own_node c o) w h.took step;
-      walked = turn_deeper s v r b c can_fail h.nodes ig ps (h.nodes ++ own_node c o) jg h.walked valid o means deep group cs children qs g refl more;
+    -- the list has the ignored paths
+    pub fed_ignored : Lists (Ignored s v r b) ig
+    fed_ignored = has_ignored s v r b h.nodes ig fs ps e h.walked
+
+    -- and the other what is bad
+    pub fed_faults : Lists (Faults s v r b) fs
+    fed_faults = has_faults s v r b h.nodes ig fs ps e h.walked
+
+  module _ (c : Path) (can_fail : Bool) (z : K) (ig : List Path) (fs : List PathFault) (ps : List Path) (h : HasFed R s v r b a z ig fs (ps ++ c ∷ [])) where
+    -- a turn at what is bad
+    pub fed_fault : (k : NodeFault) → IsPrefix c → IsFaultOf s v c k → (gs : List PathFault) → gs ≡ fs ++ (c, k) ∷ [] → HasFed R s v r b a z ig gs ps
+    fed_fault k segments is gs e = record {
+      nodes = h.nodes;
+      took = h.took;
+      walked = turn_fault s v r b c can_fail h.nodes ig fs ps h.nodes ig h.walked k segments is gs e;
     }
+
+    module _ (valid : IsPath c) (o : Option NodeMetadata) (means : Finds can_fail (Ok o) (meaning s v c)) (w : K) (jg : List Path) (step : TakesAll R z (own_node c o) w) (more : jg ≡ ig ++ paths_passed c o []) where
+      -- a turn where the walk does not go on below
+      pub fed_alone : (r ≡ true → true ≡ is_group_found o → ⊥) → HasFed R s v r b a w jg fs ps
+      fed_alone closed = record {
+        nodes = h.nodes ++ own_node c o;
+        took = took_more R a h.nodes z (own_node c o) w h.took step;
+        walked = turn_alone s v r b c can_fail h.nodes ig fs ps (h.nodes ++ own_node c o) jg h.walked valid o means closed refl more;
+      }
+
+      -- a turn where it does
+      pub fed_deeper : r ≡ true → true ≡ is_group_found o → (cs : List Segments) → AreVisibleChildren s c cs → (qs : List Path) → qs ≡ ps ++ reverse cs → HasFed R s v r b a w jg fs qs
+      fed_deeper deep group cs children qs g = record {
+        nodes = h.nodes ++ own_node c o;
+        took = took_more R a h.nodes z (own_node c o) w h.took step;
+        walked = turn_deeper s v r b c can_fail h.nodes ig fs ps (h.nodes ++ own_node c o) jg h.walked valid o means deep group cs children qs g refl more;
+      }
 
 -- ---- what the sinks have
 

@@ -1,12 +1,14 @@
 pub mod Meanings
 pub mod Reach
 pub mod Keys
+pub mod BadDocuments
 pub mod Graft
 pub mod Found
 pub mod Child
 pub mod Attach
 pub mod Apart
 pub mod Ahead
+pub mod Telling
 pub mod Walked
 pub mod Turns
 pub mod Trees

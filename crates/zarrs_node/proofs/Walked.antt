@@ -12,10 +12,14 @@ use Rattle.zarrs_store.specs.Children.{IsVisibleChild, AreVisibleChildren}
 use Rattle.zarrs_meta.specs.Node.{is_group}
 use Rattle.zarrs_meta.specs.declared.node.NodeMetadata.{NodeMetadata}
 use Rattle.zarrs_config.specs.declared.version.MetadataRetrieveVersion.{MetadataRetrieveVersion}
-use Rattle.zarrs_block.specs.Meaning.{meaning, node, nothing}
+use Rattle.zarrs_block.specs.Meaning.{Meaning, meaning, node, nothing, bad}
 use Rattle.zarrs_node.specs.Reach.{Reached, Opens}
 use Rattle.zarrs_node.specs.Forest.{Forest, none, pairs, IsPlaced, Shows}
-use Rattle.zarrs_node.specs.Nodes.{MeansNode, Nodes, Ignored, Bad, IsListed}
+use Rattle.zarrs_node.specs.Nodes.{MeansNode, Nodes, Ignored, Bad, IsListed, IsBadName}
+use Rattle.zarrs_node.specs.Faults.{Faults, FaultsAscend, PathsAscend}
+use Rattle.zarrs_node.specs.declared.fault.NodeFault.{NodeFault}
+use Rattle.zarrs_node.specs.declared.fault.NodeFault.TheVariants.{Missing, Name, Document}
+use Rattle.zarrs_block.specs.declared.node_create_error.NodeCreateError.{NodeCreateError}
 use Rattle.zarrs_node.proofs.Keys.{means_or_nothing, below_through}
 use Rattle.zarrs_node.proofs.Reach.{Through, reached_first, reached_through, not_itself}
 use Rattle.zarrs_node.proofs.Leads.{same_or_above}
@@ -41,6 +45,39 @@ reached_deeper N r b g p n h o name e = record {
   between = λ q low up. ⊎_elim (λ same. subst (Opens N r) (sym same) o) (λ above. h.between q low above) (same_or_above g q n up.0 up.1 (sym e ∙ up.2));
 }
 
+-- what is reached from a path is a path
+pub reached_path : (N : Pair → Type 0) (r : Bool) (b p : Path) → IsPath b → Reached N r b p → IsPath p
+reached_path N r b p valid h = subst IsPath (sym h.below.2) (IsPath-append b (h.below.0 ∷ h.below.1) valid h.below.3)
+
+-- and from what it is reached is one
+pub path_above : (N : Pair → Type 0) (r : Bool) (c p : Path) → Reached N r c p → IsPath p → IsPath c
+path_above N r c p h valid = (IsPath-parts c (h.below.0 ∷ h.below.1) (subst IsPath h.below.2 valid)).0
+
+-- a path does not end in a name of periods only
+pub not_bad_name : (p g : Path) (n : List ℕ) → IsPath p → p ≡ g ++ n ∷ [] → IsTrue (is_all_periods n) → ⊥
+not_bad_name p g n valid is periods = true≢false (sym periods ∙ not_periods n (name_of p g n is valid))
+
+-- a path and what is bad there
+abbrev pub PathFault : Type 0
+PathFault = Path × NodeFault
+
+-- the refusal of a meaning that is bad
+abbrev refusal_or : NodeCreateError → Meaning → NodeCreateError
+refusal_or d (node m) = d
+refusal_or d nothing = d
+refusal_or d (bad e) = e
+
+-- one meaning is bad for one reason
+pub bad_same : (d e : NodeCreateError) → bad d ≡ bad e → d ≡ e
+bad_same d e is = ap (refusal_or d) is
+
+-- nothing is bad where no fault is listed
+pub nothing_bad : (s : Contents) (v : MetadataRetrieveVersion) (r : Bool) (b : Path) (fs : List PathFault) → Lists (Faults s v r b) fs → fs ≡ [] → Bad s v r b → ⊥
+nothing_bad s v r b fs lists empty is_bad = elim is_bad as (λ _. ⊥) [
+  | inl (e, (p, reached, means)) ↦ absurd (omega (arith, (subst (λ xs. Contains xs (p, Document e)) empty (lists.complete (p, Document e) (reached, means))).1))
+  | inr (p, h) ↦ absurd (omega (arith, (subst (λ xs. Contains xs (p, Name)) empty (lists.complete (p, Name) h)).1))
+]
+
 module _ (s : Contents) (v : MetadataRetrieveVersion) (r : Bool) (b : Path) where
   -- the walk goes on below g: it is the base, or a group that was told
   abbrev pub IsOpened : Forest → Path → Type 0
@@ -59,22 +96,30 @@ module _ (s : Contents) (v : MetadataRetrieveVersion) (r : Bool) (b : Path) wher
   abbrev pub IsAhead : List Path → Path → Type 0
   IsAhead ps p = (q : Path) × Contains ps q × Through (MeansNode s v) r q p
 
-  -- p was told, or was passed over
-  abbrev pub IsDone : Forest → List Path → Path → Type 0
-  IsDone f ig p = ((m : NodeMetadata) × Contains (pairs f) (p, m)) ⊎ Contains ig p
+  -- p was told, or was passed over, or is bad
+  abbrev pub IsDone : Forest → List Path → List PathFault → Path → Type 0
+  IsDone f ig fs p = ((m : NodeMetadata) × Contains (pairs f) (p, m)) ⊎ Contains ig p ⊎ ((k : NodeFault) × Contains fs (p, k))
 
-  -- the pairs of f were told, ig were passed over, and ps are still to be read, the last of them first
-  pub record Walked (f : Forest) (ig ps : List Path) : Type 0 where
+  -- a prefix that is still to be read is that of g and n, or leads to g, or the name was told
+  abbrev pub IsNamed : List PathFault → List Path → Path → List ℕ → Type 0
+  IsNamed fs ps g n = ((q : Path) × Contains ps q × ((q ≡ g ++ n ∷ []) ⊎ Through (MeansNode s v) r q g)) ⊎ Contains fs (g ++ n ∷ [], Name)
+
+  -- the pairs of f were told, ig were passed over, fs are bad, and ps are still to be read, the last of them first
+  pub record Walked (f : Forest) (ig : List Path) (fs : List PathFault) (ps : List Path) : Type 0 where
+    pub valid : IsPath b
     pub placed : IsPlaced b f
     pub nodes : (e : Pair) → Contains (pairs f) e → Nodes s v r b e
     pub passed : (p : Path) → Contains ig p → Ignored s v r b p
-    pub passed_once : AllPairs (λ x y. x ≢ y) ig
+    pub passed_ascend : PathsAscend ig
+    pub faulted : (d : PathFault) → Contains fs d → Faults s v r b d
+    pub faults_ascend : FaultsAscend fs
     pub pending : (q : Path) → Contains ps q → IsPending f q
     pub order : AllPairs (λ x y. StandsBefore y x) ps
     pub behind : (e : Pair) → Contains (pairs f) e → (q : Path) → Contains ps q → path_cmp e.0 q ≡ Less
     pub passed_behind : (p : Path) → Contains ig p → (q : Path) → Contains ps q → path_cmp p q ≡ Less
-    pub covers : (p : Path) → Reached (MeansNode s v) r b p → HasBelow s p → IsDone f ig p ⊎ IsAhead ps p
-    pub names : (g : Path) (n : List ℕ) → IsListed (meaning s v) r b g → IsTrue (is_all_periods n) → HasBelow s (g ++ n ∷ []) → (q : Path) × Contains ps q × ((q ≡ g ++ n ∷ []) ⊎ Through (MeansNode s v) r q g)
+    pub faults_behind : (d : PathFault) → Contains fs d → (q : Path) → Contains ps q → path_cmp d.0 q ≡ Less
+    pub covers : (p : Path) → Reached (MeansNode s v) r b p → HasBelow s p → IsDone f ig fs p ⊎ IsAhead ps p
+    pub names : (g : Path) (n : List ℕ) → IsListed (meaning s v) r b g → IsTrue (is_all_periods n) → HasBelow s (g ++ n ∷ []) → IsNamed fs ps g n
 
   -- where a key stands below g and one name, one stands below g
   below_shorter : (g : Path) (n : List ℕ) → HasBelow s (g ++ n ∷ []) → HasBelow s g
@@ -115,41 +160,52 @@ module _ (s : Contents) (v : MetadataRetrieveVersion) (r : Bool) (b : Path) wher
         )
 
   -- before the first prefix is read the children of the base are ahead
-  pub walked_start : (cs : List Segments) → AreVisibleChildren s b cs → Walked none [] (reverse cs)
-  walked_start cs h = record {
+  pub walked_start : IsPath b → (cs : List Segments) → AreVisibleChildren s b cs → Walked none [] [] (reverse cs)
+  walked_start valid cs h = record {
+    valid = valid;
     placed = tt;
     nodes = λ e l. absurd (omega (arith, l.1));
     passed = λ p l. absurd (omega (arith, l.1));
-    passed_once = λ i j d l m. absurd (omega (arith, m));
+    passed_ascend = λ i j d l m. absurd (omega (arith, m));
+    faulted = λ d l. absurd (omega (arith, l.1));
+    faults_ascend = λ i j d l m. absurd (omega (arith, m));
     pending = λ q l. (child_pending b cs h none (inl refl) q l).0;
     order = turned_pairs StandsBefore cs (children_stand s b cs h);
     behind = λ e l q m. absurd (omega (arith, l.1));
     passed_behind = λ p l q m. absurd (omega (arith, l.1));
+    faults_behind = λ d l q m. absurd (omega (arith, l.1));
     covers = λ p reached below. inr (child_ahead b cs h p reached below);
-    names = λ g n listed periods below. ⊎_elim
+    names = λ g n listed periods below. inl (⊎_elim
         (λ same. (g ++ n ∷ [], subst (λ x. Contains (reverse cs) (x ++ n ∷ [])) (sym same) (child_there b cs h n (not_reserved n periods) (subst (λ x. HasBelow s (x ++ n ∷ [])) same below)), inl refl))
         (λ deep. let a = child_ahead b cs h g deep.0 (below_shorter g n below) in (a.0, a.1, inr a.2))
-        listed;
+        listed);
   }
 
   -- after the last prefix the forest shows the nodes
-  module _ (f : Forest) (ig : List Path) (w : Walked f ig []) where
-    -- what is reached and has a key below it is told or passed over
-    done : (p : Path) → Reached (MeansNode s v) r b p → (meaning s v p ≡ nothing → ⊥) → (m : NodeMetadata) × Contains (pairs f) (p, m)
+  module _ (f : Forest) (ig : List Path) (fs : List PathFault) (w : Walked f ig fs []) where
+    -- what is reached and has a key below it is told, or passed over, or bad
+    done : (p : Path) → Reached (MeansNode s v) r b p → (meaning s v p ≡ nothing → ⊥) → ((m : NodeMetadata) × Contains (pairs f) (p, m)) ⊎ ((k : NodeFault) × Contains fs (p, k))
     done p reached something = ⊎_elim
-        (⊎_elim (λ t. t) (λ l. absurd (something (w.passed p l).1)))
+        (⊎_elim inl (⊎_elim (λ l. absurd (something (w.passed p l).1)) inr))
         (λ a. absurd (omega (arith, a.1.1)))
         (w.covers p reached (⊎_elim (λ below. below) (λ e. absurd (something e)) (means_or_nothing s v p)))
 
+    -- a reached path that is bad means that
+    fault_means : (p : Path) (k : NodeFault) → Reached (MeansNode s v) r b p → Faults s v r b (p, k) → (e : NodeCreateError) × (meaning s v p ≡ bad e) × (k ≡ Document e)
+    fault_means p Missing reached h = absurd h
+    fault_means p Name reached (g, n, listed, periods, below, is, some) = absurd (not_bad_name p g n (reached_path (MeansNode s v) r b p w.valid reached) is periods)
+    fault_means p (Document e) reached h = (e, h.1, refl)
+
+    -- what means a node is told
+    told_node : (p : Path) (m : NodeMetadata) → Reached (MeansNode s v) r b p → meaning s v p ≡ node m → Contains (pairs f) (p, m)
+    told_node p m reached means = ⊎_elim
+        (λ t. subst (λ x. Contains (pairs f) (p, x)) (node_same t.0 m (sym (w.nodes (p, t.0) t.1).1 ∙ means)) t.1)
+        (λ d. let k = fault_means p d.0 reached (w.faulted (p, d.0) d.1) in absurd (subst IsNode (sym means ∙ k.1) tt))
+        (done p reached (λ n. subst IsNode (sym means ∙ n) tt))
+
     pub walked_shows : Shows f b (Nodes s v r b)
     walked_shows = record {
-      shown = lists_from (pairs f) (λ e. (
-        w.nodes e,
-        λ h.
-            let t = done e.0 h.0 (λ n. subst IsNode (sym h.1 ∙ n) tt) in
-            let same = node_same t.0 e.1 (sym (w.nodes (e.0, t.0) t.1).1 ∙ h.1) in
-            subst (λ m. Contains (pairs f) (e.0, m)) same t.1,
-      ))
+      shown = lists_from (pairs f) (λ e. (w.nodes e, λ h. told_node e.0 e.1 h.0 h.1))
           (λ i j d l m same. lt_irrefl (get_or (pairs f) j d) (subst (λ x. Lt x (get_or (pairs f) j d)) same (pairs_ascend b f w.placed i j d l m)));
       placed = w.placed;
     }
@@ -159,36 +215,56 @@ module _ (s : Contents) (v : MetadataRetrieveVersion) (r : Bool) (b : Path) wher
     walked_ignores = lists_from ig (λ p. (
       w.passed p,
       λ h. ⊎_elim
-          (⊎_elim (λ t. absurd (subst IsNode (sym (w.nodes (p, t.0) t.1).1 ∙ h.1) tt)) (λ l. l))
+          (⊎_elim
+          (λ t. absurd (subst IsNode (sym (w.nodes (p, t.0) t.1).1 ∙ h.1) tt))
+          (⊎_elim (λ l. l) (λ d. let k = fault_means p d.0 h.0 (w.faulted (p, d.0) d.1) in absurd (subst IsBad (sym k.1 ∙ h.1) tt))))
           (λ a. absurd (omega (arith, a.1.1)))
           (w.covers p h.0 h.2),
-    )) w.passed_once
+    ))
+        (λ i j d l m same. names_irrefl (get_or ig j d) (subst (λ x. path_cmp x (get_or ig j d) ≡ Less) same (w.passed_ascend i j d l m)))
 
-    -- nothing was bad
-    pub walked_clean : Bad s v r b → ⊥
-    walked_clean is_bad = elim is_bad as (λ _. ⊥) [
-      | inl (e, (p, reached, means)) ↦
-          let t = done p reached (λ n. subst IsBad (sym means ∙ n) tt) in
-          subst IsBad (sym means ∙ (w.nodes (p, t.0) t.1).1) tt
-      | inr (q, (g, n, listed, periods, below, _, _)) ↦ let a = w.names g n listed periods below in absurd (omega (arith, a.1.1))
-    ]
+    -- what is bad is told
+    told_fault : (p : Path) (k : NodeFault) → Faults s v r b (p, k) → Contains fs (p, k)
+    told_fault p Missing h = absurd h
+    told_fault p Name (g, n, listed, periods, below, is, some) = ⊎_elim
+        (λ a. absurd (omega (arith, a.1.1)))
+        (λ told. subst (λ x. Contains fs (x, Name)) (sym is) told)
+        (w.names g n listed periods below)
+    told_fault p (Document e) (reached, means) = ⊎_elim
+        (λ t. absurd (subst IsBad (sym means ∙ (w.nodes (p, t.0) t.1).1) tt))
+        (λ d. let k = fault_means p d.0 reached (w.faulted (p, d.0) d.1) in
+        subst (λ x. Contains fs (p, x)) (k.2 ∙ ap Document (bad_same k.0 e (sym k.1 ∙ means))) d.1)
+        (done p reached (λ n. subst IsBad (sym means ∙ n) tt))
+
+    -- the list has what is bad
+    pub walked_faults : Lists (Faults s v r b) fs
+    walked_faults = lists_from fs (λ d. (w.faulted d, λ h. told_fault d.0 d.1 h))
+        (λ i j d l m same. names_irrefl (get_or fs j d).0 (subst (λ x. path_cmp x.0 (get_or fs j d).0 ≡ Less) same (w.faults_ascend i j d l m)))
 
   -- the prefix c, which is read next
-  module _ (f : Forest) (ig ps : List Path) (c : Path) (w : Walked f ig (ps ++ c ∷ [])) (valid : IsPath c) where
+  module _ (f : Forest) (ig : List Path) (fs : List PathFault) (ps : List Path) (c : Path) (w : Walked f ig fs (ps ++ c ∷ [])) where
     -- it is pending
     at_hand : IsPending f c
     at_hand = w.pending c (Contains-push ps c)
 
-    -- its name is one
-    named : IsName at_hand.name
-    named = name_of c at_hand.parent at_hand.name at_hand.is valid
+    -- its name is one where it is a path
+    named : IsPath c → IsName at_hand.name
+    named valid = name_of c at_hand.parent at_hand.name at_hand.is valid
 
-    -- it is reached
-    pub walked_reached : Reached (MeansNode s v) r b c
-    walked_reached = ⊎_elim
-        (λ same. reached_through (MeansNode s v) r b c at_hand.name named (inl (at_hand.is ∙ ap (λ x. x ++ at_hand.name ∷ []) same)))
-        (λ o. let e = w.nodes (at_hand.parent, o.1) o.2 in reached_deeper (MeansNode s v) r b at_hand.parent c at_hand.name e.0 (o.0, (o.1, e.1, o.3)) named at_hand.is)
+    -- then it is reached
+    pub walked_reached : IsPath c → Reached (MeansNode s v) r b c
+    walked_reached valid = ⊎_elim
+        (λ same. reached_through (MeansNode s v) r b c at_hand.name (named valid) (inl (at_hand.is ∙ ap (λ x. x ++ at_hand.name ∷ []) same)))
+        (λ o. let e = w.nodes (at_hand.parent, o.1) o.2 in reached_deeper (MeansNode s v) r b at_hand.parent c at_hand.name e.0 (o.0, (o.1, e.1, o.3)) (named valid) at_hand.is)
         at_hand.opened
+
+    -- a listed path from which c leads to it is reached from a path
+    listed_path : (g : Path) → IsListed (meaning s v) r b g → IsPath g
+    listed_path g listed = ⊎_elim (λ same. subst IsPath (sym same) w.valid) (λ h. reached_path (MeansNode s v) r b g w.valid h.0) listed
+
+    -- where c itself is listed, the way goes on below it
+    listed_here : IsListed (meaning s v) r b c → Opens (MeansNode s v) r c
+    listed_here listed = listed_opens c (walked_reached (listed_path c listed)) listed
 
     -- what was told is before it
     told_before : (e : Pair) → Contains (pairs f) e → path_cmp e.0 c ≡ Less
@@ -205,19 +281,23 @@ module _ (s : Contents) (v : MetadataRetrieveVersion) (r : Bool) (b : Path) wher
         (λ o. attach_below b f c m w.placed told_before (at_hand.parent, o.1) o.2 o.3 (at_hand.name, at_hand.is))
         at_hand.opened
 
-    -- a turn: c is told or passed over, and ks are its children where the walk goes on below it
-    module _ (f' : Forest) (ig' ks : List Path)
+    -- a turn: c is told, or passed over, or bad, and ks are its children where the walk goes on below it
+    module _ (f' : Forest) (ig' : List Path) (fs' : List PathFault) (ks : List Path)
         (placed : IsPlaced b f')
         (old : (e : Pair) → Contains (pairs f') e → Contains (pairs f) e ⊎ ((e.0 ≡ c) × Nodes s v r b e))
         (kept : (e : Pair) → Contains (pairs f) e → Contains (pairs f') e)
         (old_passed : (p : Path) → Contains ig' p → Contains ig p ⊎ ((p ≡ c) × Ignored s v r b p))
         (kept_passed : (p : Path) → Contains ig p → Contains ig' p)
-        (once : AllPairs (λ x y. x ≢ y) ig')
-        (now_done : IsDone f' ig' c)
+        (passed_ascend : PathsAscend ig')
+        (old_faults : (d : PathFault) → Contains fs' d → Contains fs d ⊎ ((d.0 ≡ c) × Faults s v r b d))
+        (kept_faults : (d : PathFault) → Contains fs d → Contains fs' d)
+        (faults_ascend : FaultsAscend fs')
+        (now_done : IsPath c → IsDone f' ig' fs' c)
+        (now_named : IsPath c ⊎ Contains fs' (c, Name))
         (children : (q : Path) → Contains ks q → IsPending f' q × ((n : List ℕ) × (q ≡ c ++ n ∷ [])))
         (stand : AllPairs (λ x y. StandsBefore y x) ks)
-        (deeper : Opens (MeansNode s v) r c → (p : Path) → Reached (MeansNode s v) r c p → HasBelow s p → IsAhead ks p)
-        (periods_there : Opens (MeansNode s v) r c → (n : List ℕ) → IsTrue (is_all_periods n) → HasBelow s (c ++ n ∷ []) → Contains ks (c ++ n ∷ [])) where
+        (deeper : IsPath c → Opens (MeansNode s v) r c → (p : Path) → Reached (MeansNode s v) r c p → HasBelow s p → IsAhead ks p)
+        (periods_there : IsPath c → Opens (MeansNode s v) r c → (n : List ℕ) → IsTrue (is_all_periods n) → HasBelow s (c ++ n ∷ []) → Contains ks (c ++ n ∷ [])) where
       -- what was pending still is
       still : (q : Path) → IsPending f q → IsPending f' q
       still q h = record {
@@ -238,57 +318,86 @@ module _ (s : Contents) (v : MetadataRetrieveVersion) (r : Bool) (b : Path) wher
           (Contains-append_cases ps ks q l) in
           ⊎_elim (λ less. names_total.trans x c q less next) (λ same. subst (λ y. path_cmp y q ≡ Less) (sym same) next) at
 
+      -- what leads below c leads to it by a child of c
+      deeper_ahead : (p q : Path) → IsPath p → HasBelow s p → c ≡ q → Opens (MeansNode s v) r q × Reached (MeansNode s v) r q p → IsAhead (ps ++ ks) p
+      deeper_ahead p q path below same d =
+          let reached = subst (λ x. Reached (MeansNode s v) r x p) (sym same) d.1 in
+          let a = deeper (path_above (MeansNode s v) r c p reached path) (subst (Opens (MeansNode s v) r) (sym same) d.0) p reached below in
+          (a.0, Contains-append_right ps ks a.0 a.1, a.2)
+
       -- what was ahead is done or still ahead
-      ahead_still : (p : Path) → HasBelow s p → IsAhead (ps ++ c ∷ []) p → IsDone f' ig' p ⊎ IsAhead (ps ++ ks) p
-      ahead_still p below (q, l, t) = ⊎_elim
+      ahead_still : (p : Path) → IsPath p → HasBelow s p → IsAhead (ps ++ c ∷ []) p → IsDone f' ig' fs' p ⊎ IsAhead (ps ++ ks) p
+      ahead_still p path below (q, l, t) = ⊎_elim
           (λ in'. inr (q, Contains-append_left ps ks q in', t))
           (λ same. ⊎_elim
-          (λ e. inl (subst (IsDone f' ig') (sym (e ∙ sym same)) now_done))
-          (λ d. let a = deeper (subst (Opens (MeansNode s v) r) (sym same) d.0) p (subst (λ x. Reached (MeansNode s v) r x p) (sym same) d.1) below in inr (a.0, Contains-append_right ps ks a.0 a.1, a.2))
+          (λ e. inl (subst (IsDone f' ig' fs') (sym (e ∙ sym same)) (now_done (subst IsPath (e ∙ sym same) path))))
+          (λ d. inr (deeper_ahead p q path below same d))
           t)
           (Contains-push_cases ps c q l)
 
-      -- where a name of periods goes on below g, a prefix still leads to it
-      names_still : (g : Path) (n : List ℕ) → IsListed (meaning s v) r b g → IsTrue (is_all_periods n) → HasBelow s (g ++ n ∷ []) → (q : Path) × Contains (ps ++ ks) q × ((q ≡ g ++ n ∷ []) ⊎ Through (MeansNode s v) r q g)
-      names_still g n listed periods below =
-          let (q, l, at) = w.names g n listed periods below in
-          ⊎_elim
-          (λ in'. (q, Contains-append_left ps ks q in', at))
+      -- where a name of periods goes on below g, a prefix still leads to it, or it was told
+      names_still : (g : Path) (n : List ℕ) → IsListed (meaning s v) r b g → IsTrue (is_all_periods n) → HasBelow s (g ++ n ∷ []) → IsNamed fs' (ps ++ ks) g n
+      names_still g n listed periods below = ⊎_elim
+          (λ x. let (q, l, at) = x in ⊎_elim
+          (λ in'. inl (q, Contains-append_left ps ks q in', at))
           (λ same. ⊎_elim
-          (λ e. absurd (true≢false (sym periods ∙ not_periods n (name_of c g n (same ∙ e) valid))))
+          (λ e. ⊎_elim
+          (λ path. absurd (not_bad_name c g n path (same ∙ e) periods))
+          (λ told. inr (subst (λ x. Contains fs' (x, Name)) (same ∙ e) told))
+          now_named)
           (λ t. ⊎_elim
-          (λ e. let o = subst (Opens (MeansNode s v) r) (e ∙ sym same) (listed_opens g (subst (Reached (MeansNode s v) r b) (same ∙ sym e) walked_reached) listed) in
-          (c ++ n ∷ [], Contains-append_right ps ks (c ++ n ∷ []) (periods_there o n periods (subst (λ x. HasBelow s (x ++ n ∷ [])) (e ∙ sym same) below)), inl (ap (λ x. x ++ n ∷ []) (same ∙ sym e))))
-          (λ d. let a = deeper (subst (Opens (MeansNode s v) r) (sym same) d.0) g (subst (λ x. Reached (MeansNode s v) r x g) (sym same) d.1) (below_shorter g n below) in
-          (a.0, Contains-append_right ps ks a.0 a.1, inr a.2))
+          (λ e. let here = subst (IsListed (meaning s v) r b) (e ∙ sym same) listed in
+          let there = periods_there (listed_path c here) (listed_here here) n periods (subst (λ x. HasBelow s (x ++ n ∷ [])) (e ∙ sym same) below) in
+          inl (c ++ n ∷ [], Contains-append_right ps ks (c ++ n ∷ []) there, inl (ap (λ x. x ++ n ∷ []) (same ∙ sym e))))
+          (λ d. let a = deeper_ahead g q (listed_path g listed) (below_shorter g n below) same d in inl (a.0, a.1, inr a.2))
           t)
           at)
-          (Contains-push_cases ps c q l)
+          (Contains-push_cases ps c q l))
+          (λ told. inr (kept_faults (g ++ n ∷ [], Name) told))
+          (w.names g n listed periods below)
 
-      pub walked_turn : Walked f' ig' (ps ++ ks)
+      pub walked_turn : Walked f' ig' fs' (ps ++ ks)
       walked_turn = record {
+        valid = w.valid;
         placed = placed;
         nodes = λ e l. ⊎_elim (w.nodes e) (λ h. h.1) (old e l);
         passed = λ p l. ⊎_elim (w.passed p) (λ h. h.1) (old_passed p l);
-        passed_once = once;
+        passed_ascend = passed_ascend;
+        faulted = λ d l. ⊎_elim (w.faulted d) (λ h. h.1) (old_faults d l);
+        faults_ascend = faults_ascend;
         pending = λ q l. ⊎_elim (λ in'. still q (w.pending q (Contains-append_left ps (c ∷ []) q in'))) (λ in'. (children q in').0) (Contains-append_cases ps ks q l);
         order = all_pairs_append (λ x y. StandsBefore y x) ps ks (all_pairs_front (λ x y. StandsBefore y x) ps c w.order) stand
             (λ x y hx hy. let k = (children y hy).1 in subst (λ z. StandsBefore z x) (sym k.1) (stands_below c x (k.0 ∷ []) (stands x hx)));
         behind = λ e l q m. ahead_of e.0 (⊎_elim (λ in'. inl (told_before e in')) (λ h. inr h.0) (old e l)) q m;
         passed_behind = λ p l q m. ahead_of p (⊎_elim (λ in'. inl (w.passed_behind p in' c (Contains-push ps c))) (λ h. inr h.0) (old_passed p l)) q m;
+        faults_behind = λ d l q m. ahead_of d.0 (⊎_elim (λ in'. inl (w.faults_behind d in' c (Contains-push ps c))) (λ h. inr h.0) (old_faults d l)) q m;
         covers = λ p reached below. ⊎_elim
-            (λ d. inl (⊎_elim (λ t. inl (t.0, kept (p, t.0) t.1)) (λ l. inr (kept_passed p l)) d))
-            (ahead_still p below)
+            (λ d. inl (⊎_elim (λ t. inl (t.0, kept (p, t.0) t.1)) (⊎_elim (λ l. inr (inl (kept_passed p l))) (λ k. inr (inr (k.0, kept_faults (p, k.0) k.1)))) d))
+            (ahead_still p (reached_path (MeansNode s v) r b p w.valid reached) below)
             (w.covers p reached below);
         names = names_still;
       }
 
+    -- a turn at a fault of c
+    pub walked_fault : (k : NodeFault) → Faults s v r b (c, k) → IsPath c ⊎ (k ≡ Name) → (Opens (MeansNode s v) r c → IsPath c → ⊥) → Walked f ig (fs ++ (c, k) ∷ []) ps
+    walked_fault k is which closed = subst (Walked f ig (fs ++ (c, k) ∷ [])) (append-nil ps)
+        (walked_turn f ig (fs ++ (c, k) ∷ []) [] w.placed (λ e l. inl l) (λ e l. l) (λ p l. inl l) (λ p l. l) w.passed_ascend
+        (λ d l. ⊎_elim inl (λ same. inr (ap (λ (x : PathFault). x.0) (sym same), subst (Faults s v r b) same is)) (Contains-push_cases fs (c, k) d l))
+        (λ d l. Contains-append_left fs ((c, k) ∷ []) d l)
+        (all_pairs_push (λ (x y : PathFault). path_cmp x.0 y.0 ≡ Less) fs (c, k) w.faults_ascend (λ i d lt. w.faults_behind (get_or fs i d) (Contains-get_or fs i d lt) c (Contains-push ps c)))
+        (λ path. inr (inr (k, Contains-push fs (c, k))))
+        (⊎_elim inl (λ name. inr (subst (λ x. Contains (fs ++ (c, k) ∷ []) (c, x)) name (Contains-push fs (c, k)))) which)
+        (λ q l. absurd (omega (arith, l.1)))
+        (λ i j d l m. absurd (omega (arith, m)))
+        (λ path o p reached below. absurd (closed o path))
+        (λ path o n periods below. absurd (closed o path)))
+
     -- what each turn at a node shares: c is told
-    module _ (m : NodeMetadata) (means : meaning s v c ≡ node m) (a : Attached b f c m) where
+    module _ (valid : IsPath c) (m : NodeMetadata) (means : meaning s v c ≡ node m) (a : Attached b f c m) where
       -- what is told is what was, and c
       node_old : (e : Pair) → Contains (pairs a.whole) e → Contains (pairs f) e ⊎ ((e.0 ≡ c) × Nodes s v r b e)
       node_old e l = ⊎_elim inl
-          (λ same. inr (ap (λ (x : Pair). x.0) (sym same), subst (Nodes s v r b) same (walked_reached, means)))
+          (λ same. inr (ap (λ (x : Pair). x.0) (sym same), subst (Nodes s v r b) same (walked_reached valid, means)))
           (Contains-push_cases (pairs f) (c, m) e (subst (λ ys. Contains ys e) a.are l))
 
       -- what was told is
@@ -300,32 +409,36 @@ module _ (s : Contents) (v : MetadataRetrieveVersion) (r : Bool) (b : Path) wher
       node_told = subst (λ ys. Contains ys (c, m)) (sym a.are) (Contains-push (pairs f) (c, m))
 
       -- a turn at a group below which the walk goes on
-      pub walked_open : (cs : List Segments) → AreVisibleChildren s c cs → r ≡ true → true ≡ is_group m → Walked a.whole ig (ps ++ reverse cs)
+      pub walked_open : (cs : List Segments) → AreVisibleChildren s c cs → r ≡ true → true ≡ is_group m → Walked a.whole ig fs (ps ++ reverse cs)
       walked_open cs h deep group =
-          walked_turn a.whole ig (reverse cs) a.placed node_old node_kept (λ p l. inl l) (λ p l. l) w.passed_once (inl (m, node_told))
+          walked_turn a.whole ig fs (reverse cs) a.placed node_old node_kept (λ p l. inl l) (λ p l. l) w.passed_ascend (λ d l. inl l) (λ d l. l) w.faults_ascend (λ path. inl (m, node_told)) (inl valid)
           (child_pending c cs h a.whole (inr (deep, m, node_told, sym group)))
           (turned_pairs StandsBefore cs (children_stand s c cs h))
-          (λ o p reached below. child_ahead c cs h p reached below)
-          (λ o n periods below. child_there c cs h n (not_reserved n periods) below)
+          (λ path o p reached below. child_ahead c cs h p reached below)
+          (λ path o n periods below. child_there c cs h n (not_reserved n periods) below)
 
       -- a turn at a node below which it does not go on
-      pub walked_closed : (Opens (MeansNode s v) r c → ⊥) → Walked a.whole ig ps
-      walked_closed closed = subst (Walked a.whole ig) (append-nil ps)
-          (walked_turn a.whole ig [] a.placed node_old node_kept (λ p l. inl l) (λ p l. l) w.passed_once (inl (m, node_told))
+      pub walked_closed : (Opens (MeansNode s v) r c → ⊥) → Walked a.whole ig fs ps
+      walked_closed closed = subst (Walked a.whole ig fs) (append-nil ps)
+          (walked_turn a.whole ig fs [] a.placed node_old node_kept (λ p l. inl l) (λ p l. l) w.passed_ascend (λ d l. inl l) (λ d l. l) w.faults_ascend (λ path. inl (m, node_told)) (inl valid)
           (λ q l. absurd (omega (arith, l.1)))
           (λ i j d l k. absurd (omega (arith, k)))
-          (λ o p reached below. absurd (closed o))
-          (λ o n periods below. absurd (closed o)))
+          (λ path o p reached below. absurd (closed o))
+          (λ path o n periods below. absurd (closed o)))
 
     -- a turn at what means nothing
-    pub walked_nothing : meaning s v c ≡ nothing → Walked f (ig ++ c ∷ []) ps
-    walked_nothing means = subst (Walked f (ig ++ c ∷ [])) (append-nil ps)
-        (walked_turn f (ig ++ c ∷ []) [] w.placed (λ e l. inl l) (λ e l. l)
-        (λ p l. ⊎_elim inl (λ same. inr (sym same, subst (Ignored s v r b) same (walked_reached, means, at_hand.below))) (Contains-push_cases ig c p l))
+    pub walked_nothing : IsPath c → meaning s v c ≡ nothing → Walked f (ig ++ c ∷ []) fs ps
+    walked_nothing valid means = subst (Walked f (ig ++ c ∷ []) fs) (append-nil ps)
+        (walked_turn f (ig ++ c ∷ []) fs [] w.placed (λ e l. inl l) (λ e l. l)
+        (λ p l. ⊎_elim inl (λ same. inr (sym same, subst (Ignored s v r b) same (walked_reached valid, means, at_hand.below))) (Contains-push_cases ig c p l))
         (λ p l. Contains-append_left ig (c ∷ []) p l)
-        (all_pairs_push (λ x y. x ≢ y) ig c w.passed_once (λ k d lt same. names_irrefl c (subst (λ x. path_cmp x c ≡ Less) same (w.passed_behind (get_or ig k d) (Contains-get_or ig k d lt) c (Contains-push ps c)))))
-        (inr (Contains-push ig c))
+        (all_pairs_push (λ x y. path_cmp x y ≡ Less) ig c w.passed_ascend (λ k d lt. w.passed_behind (get_or ig k d) (Contains-get_or ig k d lt) c (Contains-push ps c)))
+        (λ d l. inl l)
+        (λ d l. l)
+        w.faults_ascend
+        (λ path. inr (inl (Contains-push ig c)))
+        (inl valid)
         (λ q l. absurd (omega (arith, l.1)))
         (λ i j d l k. absurd (omega (arith, k)))
-        (λ o p reached below. absurd (not_open s v r c means o))
-        (λ o n periods below. absurd (not_open s v r c means o)))
+        (λ path o p reached below. absurd (not_open s v r c means o))
+        (λ path o n periods below. absurd (not_open s v r c means o)))

@@ -3,6 +3,7 @@ pub mod BlocksOfNodes
 pub mod Changes
 pub mod CurrentBlocks
 pub mod Exists
+pub mod Faults
 pub mod Forest
 pub mod Inverse
 pub mod LastOfEqualPaths

@@ -1,6 +1,15 @@
--- Zarr core specification 3.1, "Hierarchy": the prefixes that a walk has still to read, as a stack.
-use Rattle.std.specs.Prelude.{◌≡◌, ℕ, List, [], ◌∷◌, ◌++◌, reverse}
+-- Zarr core specification 3.1, "Hierarchy": the prefixes that a walk has still to read, as a stack, and what it reads of one.
+use Rattle.std.specs.Prelude.{◌≡◌, ℕ, Bool, List, [], ◌∷◌, ◌++◌, reverse, Option, Some, None, Result, Ok, Err}
 use Rattle.zarrs_store.specs.Contents.{Contents}
+use Rattle.zarrs_store.specs.declared.storage_error.StorageError.TheVariants.{InvalidMetadata, Other}
+use Rattle.zarrs_meta.specs.declared.node.NodeMetadata.{NodeMetadata}
+use Rattle.zarrs_config.specs.declared.version.MetadataRetrieveVersion.{MetadataRetrieveVersion}
+use Rattle.zarrs_block.specs.Meaning.{meaning, bad}
+use Rattle.zarrs_block.specs.declared.node_create_error.NodeCreateError.{NodeCreateError}
+use Rattle.zarrs_block.specs.declared.node_create_error.NodeCreateError.TheVariants.{StorageError, MetadataVersionMismatch}
+use Rattle.zarrs_node.specs.StepsOfDocuments.{Finds}
+use Rattle.zarrs_node.specs.declared.fault.NodeFault.{NodeFault}
+use Rattle.zarrs_node.specs.declared.fault.NodeFault.TheVariants.{Missing, Name, Document}
 use Rattle.zarrs_store.specs.Segments.{Segments}
 use Rattle.zarrs_store.specs.Children.{AreVisibleChildren}
 use Rattle.zarrs_path.specs.Paths.{Path, IsPath}
@@ -14,3 +23,21 @@ pub record AreOnTop (s : Contents) (p : Path) (before after : List Segments) : T
 -- a path, and one text more, which may be no name
 abbrev pub IsPathAndOne : Path → Type 0
 IsPathAndOne p = (q : Path) × (n : List ℕ) × IsPath q × (p ≡ q ++ n ∷ [])
+
+-- what a refusal of a child says of it, or the refusal itself where it says nothing
+abbrev pub fault_of : NodeCreateError → Result NodeFault NodeCreateError
+fault_of (StorageError (InvalidMetadata key fault)) = Ok (Document (StorageError (InvalidMetadata key fault)))
+fault_of (StorageError (Other text)) = Ok Name
+fault_of MetadataVersionMismatch = Ok (Document MetadataVersionMismatch)
+fault_of e = Err e
+
+-- the fault is the child's own: it is no path, or it means `bad e`
+abbrev pub IsFaultOf : Contents → MetadataRetrieveVersion → Path → NodeFault → Type 0
+IsFaultOf s v c Missing = ⊥
+IsFaultOf s v c Name = ¬ IsPath c
+IsFaultOf s v c (Document e) = IsPath c × (meaning s v c ≡ bad e)
+
+-- what reading a child gave: what it means, or none where it is bad, and then its fault was put behind the others
+abbrev pub IsReadOrTold : Bool → Contents → MetadataRetrieveVersion → Path → Option (Option NodeMetadata) → List (Path × NodeFault) → List (Path × NodeFault) → Type 0
+IsReadOrTold can_fail s v c (Some found) old new = IsPath c × Finds can_fail (Ok found) (meaning s v c) × (new ≡ old)
+IsReadOrTold can_fail s v c None old new = (k : NodeFault) × IsFaultOf s v c k × (new ≡ old ++ (c, k) ∷ [])

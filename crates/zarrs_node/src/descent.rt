@@ -1,5 +1,5 @@
 //! The walk over the nodes below a path.
-ghost use Rattle.std.specs.Prelude.{◌≡◌, [], ◌++◌, Ok, false, IfOk, IfErr, OnOk, ◌⊎◌};
+ghost use Rattle.std.specs.Prelude.{◌≡◌, [], ◌++◌, Ok, None, false, true, IfOk, IfErr, OnOk, ◌⊎◌, IsTrue, IsFalse};
 ghost use Rattle.zarrs_store.specs.Segments.{IsPrefix};
 ghost use Rattle.zarrs_store.specs.Contents.{Lists};
 ghost use Rattle.zarrs_path.specs.Paths.{IsPath};
@@ -7,10 +7,12 @@ ghost use Rattle.zarrs_block.specs.Meaning.{meaning, bad};
 ghost use Rattle.zarrs_block.specs.Refusals.{IsExcused, IsInvalidPath, IsExcusedOr};
 ghost use Rattle.zarrs_node.specs.StepsOfTrees.{own_node, paths_passed, is_group_found};
 ghost use Rattle.zarrs_node.specs.Nodes.{Nodes, Ignored, ShowsBad, HasNothingBad};
+ghost use Rattle.zarrs_node.specs.Faults.{Faults, FaultsAscend, PathsAscend};
 ghost use Rattle.zarrs_node.specs.StepsOfDocuments.{Finds};
 ghost use Rattle.zarrs_node.specs.Sinks.{TakesAll, TakesForest};
-ghost use Rattle.zarrs_node.specs.StepsOfTheWalk.{AreOnTop, IsPathAndOne};
+ghost use Rattle.zarrs_node.specs.StepsOfTheWalk.{AreOnTop, IsPathAndOne, IsReadOrTold};
 
+use crate::fault::NodeFault;
 use crate::last_read::LastDocuments;
 use crate::metadata::find_metadata;
 use crate::sink::NodeSink;
@@ -55,41 +57,126 @@ pub fn walk_nodes<S: ReadableStorageTraits + ListableStorageTraits, K: NodeSink>
         (IsExcusedOr (S.can_fail storage.now)
         (ShowsBad (S.contents storage.now) version.now recursive path.now)) }
 {
-    let mut last = LastDocuments::new(alloc);
-    let walked = walk(alloc, storage, path, recursive, version, &mut last, sink);
-    drop(last);
+    let mut notes = Notes::new(alloc, false);
+    let walked = walk(alloc, storage, path, recursive, version, &mut notes, sink);
+    drop(notes);
     walked
 }
 
-// What `walk_nodes` answers, where some documents were read before. The prefixes that are still to be read stand on a stack, those of one path with the
-// first of them on top.
+/// What a walk that goes on past what is bad passed over.
+///
+/// Source: own.
+/// <https://zarr-specs.readthedocs.io/en/latest/v3/core/index.html#hierarchy>
+#[derive(Debug, Drop)]
+pub struct WalkedPast {
+    /// The paths without documents, in the order of paths, each once.
+    pub ignored: Vec<NodePath>,
+    /// What is bad, by the names of its path, in the order of paths, each path once.
+    pub faults: Vec<(StorePrefix, NodeFault)>,
+}
+
+/// Hands each node below a path to a sink as [`walk_nodes`] does, at all levels, and goes on past what is bad: a document that does not read,
+/// and a child whose name is made of periods only. Each is told with its names, and nothing is looked for below it. The path itself is not
+/// asked for a document. After a refusal the sink has some of the nodes.
+///
+/// # Errors
+///
+/// `StorageError::Fault` of a store that can fail, and `OutOfMemory` when out of memory.
+///
+/// Source: own.
+pub fn walk_past_faults<S: ReadableStorageTraits + ListableStorageTraits, K: NodeSink>(
+    alloc: Global,
+    storage: &S,
+    path: &NodePath,
+    version: &MetadataRetrieveVersion,
+    sink: &mut K,
+) -> Result<WalkedPast, NodeCreateError>
+    ensures takes { IfOk result
+        (λ _. TakesForest K.takes sink.old sink.new path.now
+        (Nodes (S.contents storage.now) version.now true path.now)) }
+    ensures ignored { IfOk result
+        (λ w. Lists (Ignored (S.contents storage.now) version.now true path.now) w.ignored.items) }
+    ensures ignored_ascend { IfOk result (λ w. PathsAscend w.ignored.items) }
+    ensures faults { IfOk result
+        (λ w. Lists (Faults (S.contents storage.now) version.now true path.now) w.faults.items) }
+    ensures faults_ascend { IfOk result (λ w. FaultsAscend w.faults.items) }
+    ensures excused { IfErr result (IsExcused (S.can_fail storage.now)) }
+{
+    let mut notes = Notes::new(alloc, true);
+    let walked = walk(alloc, storage, path, true, version, &mut notes, sink);
+    let faults = notes.into_faults();
+    let ignored = walked?;
+    Ok(WalkedPast { ignored, faults })
+}
+
+// What a walk keeps beside what it tells: the documents that were read last, and what was bad, where it goes on past that.
+#[derive(Drop)]
+struct Notes {
+    last: LastDocuments,
+    goes_on: bool,
+    faults: Vec<(StorePrefix, NodeFault)>,
+}
+
+impl Notes {
+    // Nothing was read yet.
+    fn new(alloc: Global, goes_on: bool) -> Notes
+        ensures none { result.faults.items ≡ [] }
+        ensures goes_on { result.goes_on ≡ goes_on }
+    {
+        Notes {
+            last: LastDocuments::new(alloc),
+            goes_on,
+            faults: Vec::new(alloc),
+        }
+    }
+
+    // What was bad.
+    fn into_faults(self) -> Vec<(StorePrefix, NodeFault)>
+        ensures { result.items ≡ self.faults.items }
+    {
+        let Notes { last, faults, .. } = self;
+        drop(last);
+        faults
+    }
+}
+
+// What `walk_nodes` and `walk_past_faults` answer. The prefixes that are still to be read stand on a stack, those of one path with the first of them on
+// top.
 fn walk<S: ReadableStorageTraits + ListableStorageTraits, K: NodeSink>(
     alloc: Global,
     storage: &S,
     path: &NodePath,
     recursive: bool,
     version: &MetadataRetrieveVersion,
-    last: &mut LastDocuments,
+    notes: &mut Notes,
     sink: &mut K,
 ) -> Result<Vec<NodePath>, NodeCreateError>
+    requires { notes.old.faults.items ≡ [] }
     ensures takes { IfOk result
         (λ _. TakesForest K.takes sink.old sink.new path.now
         (Nodes (S.contents storage.now) version.now recursive path.now)) }
     ensures ignored { IfOk result
         (λ ignored. Lists
         (Ignored (S.contents storage.now) version.now recursive path.now) ignored.items) }
-    ensures clean { IfOk result
-        (λ _. HasNothingBad (S.contents storage.now) version.now recursive path.now) }
+    ensures ignored_ascend { IfOk result (λ ignored. PathsAscend ignored.items) }
+    ensures faults { IfOk result
+        (λ _. Lists (Faults (S.contents storage.now) version.now recursive path.now)
+        notes.new.faults.items) }
+    ensures faults_ascend { IfOk result (λ _. FaultsAscend notes.new.faults.items) }
+    ensures none { IfOk result (λ _. IsFalse notes.old.goes_on → notes.new.faults.items ≡ []) }
     ensures refused { IfErr result
         (IsExcusedOr (S.can_fail storage.now)
-        (ShowsBad (S.contents storage.now) version.now recursive path.now)) }
+        (λ e. IsFalse notes.old.goes_on
+        × ShowsBad (S.contents storage.now) version.now recursive path.now e)) }
 {
     let base = path.to_prefix(alloc)?;
     let mut pending = Vec::new(alloc);
     push_children(alloc, storage, &base, &mut pending)?;
     let mut ignored = Vec::new(alloc);
     while let Some(prefix) = pending.pop() {
-        let found = read_child(alloc, storage, &prefix, version, last)?;
+        let Some(found) = read_or_tell(alloc, storage, &prefix, version, notes)? else {
+            continue;
+        };
         if recursive && is_group(&found) {
             push_children(alloc, storage, &prefix, &mut pending)?;
         }
@@ -140,6 +227,40 @@ fn is_group(found: &Option<NodeMetadata>) -> bool
     match found {
         Some(metadata) => metadata.is_group(),
         None => false,
+    }
+}
+
+// What a path and one name more means, given as a prefix; or none where it is bad and the walk goes on, once that is told.
+fn read_or_tell<S: ReadableStorageTraits>(
+    alloc: Global,
+    storage: &S,
+    prefix: &StorePrefix,
+    version: &MetadataRetrieveVersion,
+    notes: &mut Notes,
+) -> Result<Option<Option<NodeMetadata>>, NodeCreateError>
+    requires { IsPathAndOne prefix.now }
+    ensures read { IfOk result
+        (λ found. IsReadOrTold (S.can_fail storage.now) (S.contents storage.now) version.now prefix.now
+        found notes.old.faults.items notes.new.faults.items) }
+    ensures told { IfOk result (λ found. found ≡ None → IsTrue notes.old.goes_on) }
+    ensures goes_on { notes.new.goes_on ≡ notes.old.goes_on }
+    ensures refused { IfErr result
+        (IsExcusedOr (S.can_fail storage.now)
+        (λ e. IsFalse notes.old.goes_on
+        × ((IsInvalidPath prefix.now e
+        × (¬ IsPath prefix.now))
+        ⊎ (IsPath prefix.now
+        × (meaning (S.contents storage.now) version.now prefix.now ≡ bad e))))) }
+    ensures segments { IsPrefix prefix.now }
+{
+    match read_child(alloc, storage, prefix, version, &mut notes.last) {
+        Ok(found) => Ok(Some(found)),
+        Err(refusal) if notes.goes_on => {
+            let fault = NodeFault::of(refusal)?;
+            notes.faults.push((prefix.try_clone(alloc)?, fault))?;
+            Ok(None)
+        }
+        Err(refusal) => Err(refusal),
     }
 }
 

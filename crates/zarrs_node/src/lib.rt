@@ -8,6 +8,7 @@ mod copies;
 mod descent;
 pub mod documents;
 mod exists;
+mod fault;
 mod last_name;
 mod last_read;
 pub mod laws;
@@ -27,8 +28,9 @@ pub use children::{
     consolidate_nodes_of, get_all_nodes_of, get_child_nodes, get_child_nodes_opt, get_child_paths,
     get_child_paths_opt, walk_child_nodes,
 };
-pub use descent::walk_nodes;
+pub use descent::{WalkedPast, walk_nodes, walk_past_faults};
 pub use exists::{node_exists, node_exists_listable};
+pub use fault::NodeFault;
 pub use listing::{ListedNodes, list_nodes};
 pub use node::Node;
 pub use open::nodes_of_block;
