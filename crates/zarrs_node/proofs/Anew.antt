@@ -1,5 +1,5 @@
 -- What a path means anew, and the block in which it stands.
-use Rattle.std.proofs.Common.{◌≡◌, ◌≢◌, ◌⊎◌, inl, inr, ⊎_elim, ℕ, Bool, true, false, true≢false, cond, List, [], ◌∷◌, ◌++◌, Option, Some, None, IsTrue, refl, sym, ap, subst, ◌∙◌, arith, Contains, AllPairs, is_eq, append_assoc, zero, suc, get_or}
+use Rattle.std.proofs.Common.{◌≡◌, ◌≢◌, ◌⊎◌, inl, inr, ⊎_elim, ℕ, Bool, true, false, cond, List, [], ◌∷◌, ◌++◌, Option, Some, None, IsTrue, refl, sym, ap, subst, ◌∙◌, arith, Contains, AllPairs, is_eq, append_assoc, zero, suc, get_or}
 use Rattle.std.proofs.lemmas.List.{append_cancel_left}
 use Rattle.std.proofs.lemmas.List.Elements.{Contains-get_or}
 use Rattle.zarrs_store.specs.Segments.{bytes_cmp, key_text}
@@ -12,7 +12,7 @@ use Rattle.zarrs_meta.specs.Node.{is_group}
 use Rattle.zarrs_meta.specs.declared.node.NodeMetadata.{NodeMetadata}
 use Rattle.zarrs_block.specs.Block.{Block, IsBlockOf, first_some, node_at_key, put}
 use Rattle.zarrs_block.specs.KeysAboutAPath.{IsAbout, IsWithout}
-use Rattle.zarrs_block.specs.Meaning.{Meaning, node, nothing}
+use Rattle.zarrs_block.specs.Meaning.{Meaning, node}
 use Rattle.zarrs_node.specs.Reach.{Kept, Reached}
 use Rattle.zarrs_node.specs.Nodes.{Means}
 use Rattle.zarrs_node.specs.Forest.{Forest, pairs, Shows}

@@ -12,7 +12,7 @@ use Rattle.zarrs_block.specs.Meaning.{meaning}
 use Rattle.zarrs_node.specs.StepsOfDocuments.{Finds}
 use Rattle.zarrs_node.specs.Forest.{Forest, pairs, Shows, ShowsPaths}
 use Rattle.zarrs_node.specs.StepsOfTrees.{own_node, paths_passed, is_group_found}
-use Rattle.zarrs_node.specs.Nodes.{Nodes, Ignored, Bad}
+use Rattle.zarrs_node.specs.Nodes.{Nodes, Ignored}
 use Rattle.zarrs_node.specs.Faults.{Faults}
 use Rattle.zarrs_node.specs.StepsOfTheWalk.{IsFaultOf}
 use Rattle.zarrs_node.specs.declared.fault.NodeFault.{NodeFault}

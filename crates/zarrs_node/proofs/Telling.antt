@@ -1,5 +1,5 @@
 -- What a refusal of a child says of it, where the walk goes on.
-use Rattle.std.proofs.Common.{◌≡◌, Bool, List, Option, Result, Ok, Err, ◌⊎◌, inl, inr, ⊎_elim, sym, ap, subst}
+use Rattle.std.proofs.Common.{◌≡◌, Bool, Result, Ok, Err, ◌⊎◌, ⊎_elim, sym, ap, subst}
 use Rattle.zarrs_store.specs.Contents.{Contents}
 use Rattle.zarrs_store.specs.declared.storage_error.StorageError.TheVariants.{Fault, InvalidMetadata, Other, OutOfMemory as NoStoreMemory}
 use Rattle.zarrs_path.specs.Paths.{Path, IsPath}
@@ -10,7 +10,6 @@ use Rattle.zarrs_block.specs.declared.node_create_error.NodeCreateError.{NodeCre
 use Rattle.zarrs_block.specs.declared.node_create_error.NodeCreateError.TheVariants.{NodePathError, StorePrefixError, StorageError, MetadataVersionMismatch, MissingMetadata, OutOfMemory}
 use Rattle.zarrs_node.specs.StepsOfTheWalk.{fault_of, IsFaultOf}
 use Rattle.zarrs_node.specs.declared.fault.NodeFault.{NodeFault}
-use Rattle.zarrs_node.specs.declared.fault.NodeFault.TheVariants.{Name, Document}
 use Rattle.zarrs_node.proofs.BadDocuments.{bad_by_document}
 
 -- an answer is given

@@ -19,7 +19,7 @@ use Rattle.zarrs_block.specs.Refusals.{IsInvalidPath}
 use Rattle.zarrs_node.specs.StepsOfDocuments.{Finds}
 use Rattle.zarrs_node.specs.Forest.{Forest, none, pairs, Shows}
 use Rattle.zarrs_node.specs.StepsOfTrees.{own_node, paths_passed, is_group_found}
-use Rattle.zarrs_node.specs.Nodes.{MeansNode, Nodes, Ignored, Bad, ShowsBad, IsListed, IsBadName}
+use Rattle.zarrs_node.specs.Nodes.{MeansNode, Nodes, Ignored, ShowsBad, IsListed, IsBadName}
 use Rattle.zarrs_node.specs.Reach.{Opens}
 use Rattle.zarrs_node.specs.Faults.{Faults}
 use Rattle.zarrs_node.specs.declared.fault.NodeFault.{NodeFault}

@@ -1,5 +1,5 @@
 -- The walk over the nodes below a base, with the prefixes that are still to be read.
-use Rattle.std.proofs.Common.{◌≡◌, ℕ, ◌≢◌, ◌⊎◌, inl, inr, ⊎_elim, Bool, true, List, [], ◌∷◌, ◌++◌, get_or, reverse, refl, sym, ap, subst, ◌∙◌, append_assoc, append-nil, arith, Contains, AllPairs, IsTrue, IsFalse, Less, true≢false}
+use Rattle.std.proofs.Common.{◌≡◌, ℕ, ◌⊎◌, inl, inr, ⊎_elim, Bool, true, List, [], ◌∷◌, ◌++◌, get_or, reverse, refl, sym, ap, subst, ◌∙◌, append_assoc, append-nil, arith, Contains, AllPairs, IsTrue, IsFalse, Less, true≢false}
 use Rattle.std.proofs.lemmas.List.Elements.{Contains-push, Contains-append_left, Contains-append_right, Contains-append_cases, Contains-push_cases, Contains-get_or}
 use Rattle.std.proofs.lemmas.List.Quantifiers.{all_pairs_push}
 use Rattle.zarrs_path.specs.Paths.{Path, IsPath, path_cmp}
@@ -15,7 +15,7 @@ use Rattle.zarrs_config.specs.declared.version.MetadataRetrieveVersion.{Metadata
 use Rattle.zarrs_block.specs.Meaning.{Meaning, meaning, node, nothing, bad}
 use Rattle.zarrs_node.specs.Reach.{Reached, Opens}
 use Rattle.zarrs_node.specs.Forest.{Forest, none, pairs, IsPlaced, Shows}
-use Rattle.zarrs_node.specs.Nodes.{MeansNode, Nodes, Ignored, Bad, IsListed, IsBadName}
+use Rattle.zarrs_node.specs.Nodes.{MeansNode, Nodes, Ignored, Bad, IsListed}
 use Rattle.zarrs_node.specs.Faults.{Faults, FaultsAscend, PathsAscend}
 use Rattle.zarrs_node.specs.declared.fault.NodeFault.{NodeFault}
 use Rattle.zarrs_node.specs.declared.fault.NodeFault.TheVariants.{Missing, Name, Document}

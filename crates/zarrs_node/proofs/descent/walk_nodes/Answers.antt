@@ -1,4 +1,4 @@
-use Rattle.std.proofs.Common.{◌≡◌, sym, ◌∙◌, Bool, [], List, Result, Ok, Err, IfOk, IsFalse}
+use Rattle.std.proofs.Common.{◌≡◌, Bool, [], List, Result, Ok, Err, IfOk, IsFalse}
 use Rattle.zarrs_path.specs.Paths.{Path}
 use Rattle.zarrs_store.specs.Contents.{Contents, Lists}
 use Rattle.zarrs_config.specs.declared.version.MetadataRetrieveVersion.{MetadataRetrieveVersion}
