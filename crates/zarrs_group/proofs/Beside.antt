@@ -11,7 +11,6 @@ use Rattle.zarrs_store.specs.Contents.{Contents}
 use Rattle.zarrs_fault.specs.declared.fault.MetadataFault.{MetadataFault}
 use Rattle.zarrs_store.specs.declared.storage_error.StorageError.{StorageError}
 use Rattle.zarrs_path.specs.Keys.{zarray, zgroup, zmetadata}
-use Rattle.zarrs_path.specs.declared.node_path.NodePathError.TheVariants.{Invalid as InvalidPath, OutOfMemory as NoPathMemory}
 use Rattle.zarrs_path.specs.Names.{is_name}
 use Rattle.zarrs_path.specs.Paths.{Path, IsPath}
 use Rattle.zarrs_form.specs.Documents.{◌>>=◌, json_of, tree_or_fault, of_bytes}
@@ -29,11 +28,8 @@ use Rattle.zarrs_meta.specs.declared.node.NodeMetadata.{NodeMetadata}
 use Rattle.zarrs_meta.specs.declared.node.NodeMetadata.TheVariants.{Group, Array}
 use Rattle.zarrs_block.specs.Block.{Block, IsValidKey, first_some, node_at_key, put}
 use Rattle.zarrs_block.specs.Meaning.{Meaning, node, nothing, bad, attributes_in, document_at, in_trees, version_2_line, meaning_in, zarray_line, zgroup_line}
-use Rattle.zarrs_block.specs.Refusals.{LacksMemory}
-use Rattle.zarrs_block.specs.declared.node_create_error.NodeCreateError.{NodeCreateError}
-use Rattle.zarrs_block.specs.declared.node_create_error.NodeCreateError.TheVariants as made
 use Rattle.zarrs_block.specs.Small.{SmallStore, small, small_meaning}
-use Rattle.zarrs_block.specs.Zmetadata.{RefusesZmetadata, before_last, documents_below, block_from, is_bad, is_good, is_version_2, small_block, with_node, zmetadata_members, zmetadata_of}
+use Rattle.zarrs_block.specs.Zmetadata.{before_last, documents_below, block_from, is_bad, is_good, is_version_2, small_block, with_node, zmetadata_members, zmetadata_of}
 use Rattle.zarrs_block.proofs.Expansion.{same_text}
 use Rattle.zarrs_node.proofs.Child.{node_same}
 use Rattle.zarrs_node.proofs.Puts.{found_put}

@@ -25,7 +25,7 @@ use Rattle.zarrs_meta.proofs.ArrayV3Laws as A3
 use Rattle.zarrs_meta.proofs.GroupV2Laws as G2
 use Rattle.zarrs_meta.proofs.GroupV3Laws as G3
 use Rattle.zarrs_meta.proofs.NodeLaws.{node_no_float}
-use Rattle.zarrs_block.specs.Block.{Block, node_at_key}
+use Rattle.zarrs_block.specs.Block.{Block}
 use Rattle.zarrs_block.specs.BlockExpansion.{is_covered, path_at, paths_at, pairs_at, with_pair}
 use Rattle.zarrs_block.specs.Zmetadata.{attributes_written, node_written, nodes_written, put_documents, zmetadata_tree}
 use Rattle.zarrs_block.proofs.BlockLaws.{shown}

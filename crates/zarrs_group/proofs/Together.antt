@@ -1,27 +1,23 @@
 -- The children of a group as pairs of path and metadata.
-use Rattle.std.proofs.Common.{append-nil, ◌≡◌, ◌≢◌, Result, Ok, Err, IfOk, ℕ, ◌↔◌, ⊎_elim, Bool, true, false, true≢false, List, [], ◌∷◌, ◌++◌, map, filter, cond, length, Option, Some, None, refl, sym, ap, subst, ◌∙◌, append_assoc, arith, Contains}
+use Rattle.std.proofs.Common.{append-nil, ◌≡◌, Result, Ok, Err, IfOk, ℕ, ◌↔◌, Bool, true, false, true≢false, List, [], ◌∷◌, ◌++◌, map, filter, cond, length, Option, Some, None, refl, sym, ap, subst, ◌∙◌, append_assoc, arith, Contains}
 use Rattle.std.proofs.lemmas.List.{append_cancel_left, map-append}
-use Rattle.std.proofs.lemmas.List.Elements.{Contains-append_left, Contains-append_right, Contains-push}
+use Rattle.std.proofs.lemmas.List.Elements.{Contains-append_left, Contains-append_right}
 use Rattle.zarrs_store.specs.Contents.{Contents, Lists}
-use Rattle.zarrs_path.specs.Paths.{Path, path_eq}
-use Rattle.zarrs_path.specs.PathOrder.{path_decides}
+use Rattle.zarrs_path.specs.Paths.{Path}
 use Rattle.zarrs_config.specs.Settings.{Settings}
 use Rattle.zarrs_config.specs.declared.version.MetadataRetrieveVersion.{MetadataRetrieveVersion}
 use Rattle.zarrs_config.specs.declared.version.MetadataRetrieveVersion.TheVariants.{Default}
 use Rattle.zarrs_meta.specs.declared.node.NodeMetadata.{NodeMetadata}
 use Rattle.zarrs_meta.specs.declared.node.NodeMetadata.TheVariants.{Group, Array}
 use Rattle.zarrs_block.specs.Block.{Block, Entries}
-use Rattle.zarrs_block.specs.BlockExpansion.{HaveOwnPaths}
 use Rattle.zarrs_node.specs.Nodes.{MeansNode, Bad}
 use Rattle.zarrs_node.specs.Order.{Ascend}
 use Rattle.zarrs_node.specs.Reach.{Kept}
 use Rattle.zarrs_node.specs.declared.node.Node.{Node}
 use Rattle.zarrs_node.specs.Forest.{Forest, none, tree, pairs, Shows, IsPlaced, forest, path_of, metadata_of, below_of}
-use Rattle.zarrs_node.proofs.Found.{listed_each, lists_from, all_pairs_tail, all_pairs_first}
+use Rattle.zarrs_node.proofs.Found.{listed_each, lists_from}
 use Rattle.zarrs_node.proofs.Graft.{plant_out, Contains-first, Contains-cons}
-use Rattle.zarrs_node.proofs.Order.{pairs_ascend, contains_cases}
-use Rattle.zarrs_node.proofs.Kept.{kept_same}
-use Rattle.zarrs_node.specs.LastOfEqualPaths.{IsLatest}
+use Rattle.zarrs_node.proofs.Order.{pairs_ascend}
 use Rattle.zarrs_node.specs.OpeningNodes.{ShowsChosen, IsCleanChosen}
 use Rattle.zarrs_group.specs.Groups.{GroupState}
 use Rattle.zarrs_group.specs.Children.{block_choice, ListsDirectly, ShowsChildren, AreChildren, groups_of, with_group, group_at}

@@ -240,8 +240,9 @@ fn read_or_tell<S: ReadableStorageTraits>(
 ) -> Result<Option<Option<NodeMetadata>>, NodeCreateError>
     requires { IsPathAndOne prefix.now }
     ensures read { IfOk result
-        (λ found. IsReadOrTold (S.can_fail storage.now) (S.contents storage.now) version.now prefix.now
-        found notes.old.faults.items notes.new.faults.items) }
+        (λ found. IsReadOrTold (S.can_fail storage.now)
+        (S.contents storage.now) version.now prefix.now found notes.old.faults.items
+        notes.new.faults.items) }
     ensures told { IfOk result (λ found. found ≡ None → IsTrue notes.old.goes_on) }
     ensures goes_on { notes.new.goes_on ≡ notes.old.goes_on }
     ensures refused { IfErr result
