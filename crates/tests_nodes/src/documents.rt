@@ -232,7 +232,6 @@ fn past_text(told: &(Vec<NodePath>, WalkedPast), alloc: Global) -> Result<String
     }
     for (names, fault) in &passed.faults {
         match fault {
-            NodeFault::Missing => write!(text, "{names} missing\n")?,
             NodeFault::Name => write!(text, "{names} no name\n")?,
             NodeFault::Document(error) => write!(text, "{names} {error}\n")?,
         }

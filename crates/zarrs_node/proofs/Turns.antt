@@ -23,7 +23,7 @@ use Rattle.zarrs_node.specs.Nodes.{MeansNode, Nodes, Ignored, ShowsBad, IsListed
 use Rattle.zarrs_node.specs.Reach.{Opens}
 use Rattle.zarrs_node.specs.Faults.{Faults}
 use Rattle.zarrs_node.specs.declared.fault.NodeFault.{NodeFault}
-use Rattle.zarrs_node.specs.declared.fault.NodeFault.TheVariants.{Missing, Name, Document}
+use Rattle.zarrs_node.specs.declared.fault.NodeFault.TheVariants.{Name, Document}
 use Rattle.zarrs_node.specs.StepsOfTheWalk.{IsPathAndOne, IsFaultOf}
 use Rattle.zarrs_node.proofs.Child.{IsNode, node_same}
 use Rattle.zarrs_node.proofs.Unique.{Pair}
@@ -138,19 +138,16 @@ module _ (s : Contents) (v : MetadataRetrieveVersion) (r : Bool) (b : Path) wher
 
     -- what is its own fault is one on the way
     own_fault : (k : NodeFault) → IsPrefix c → IsFaultOf s v c k → Faults s v r b (c, k)
-    own_fault Missing segments unnamed = absurd unnamed
     own_fault Name segments unnamed = bad_name h.walk.valid segments unnamed
     own_fault (Document e) segments (path, means) = (walked_reached s v r b h.trees ig fs ps c h.walk path, means)
 
     -- below a fault the walk does not go on
     fault_closed : (k : NodeFault) → IsFaultOf s v c k → Opens (MeansNode s v) r c → IsPath c → ⊥
-    fault_closed Missing unnamed o path = unnamed
     fault_closed Name unnamed o path = unnamed path
     fault_closed (Document e) is o path = subst IsNode (sym o.1.1 ∙ is.1) tt
 
     -- it is a path or its name is bad
     fault_which : (k : NodeFault) → IsFaultOf s v c k → IsPath c ⊎ (k ≡ Name)
-    fault_which Missing unnamed = absurd unnamed
     fault_which Name unnamed = inr refl
     fault_which (Document e) is = inl is.0
 

@@ -18,7 +18,7 @@ use Rattle.zarrs_node.specs.Forest.{Forest, none, pairs, IsPlaced, Shows}
 use Rattle.zarrs_node.specs.Nodes.{MeansNode, Nodes, Ignored, Bad, IsListed}
 use Rattle.zarrs_node.specs.Faults.{Faults, FaultsAscend, PathsAscend}
 use Rattle.zarrs_node.specs.declared.fault.NodeFault.{NodeFault}
-use Rattle.zarrs_node.specs.declared.fault.NodeFault.TheVariants.{Missing, Name, Document}
+use Rattle.zarrs_node.specs.declared.fault.NodeFault.TheVariants.{Name, Document}
 use Rattle.zarrs_block.specs.declared.node_create_error.NodeCreateError.{NodeCreateError}
 use Rattle.zarrs_node.proofs.Keys.{means_or_nothing, below_through}
 use Rattle.zarrs_node.proofs.Reach.{Through, reached_first, reached_through, not_itself}
@@ -192,7 +192,6 @@ module _ (s : Contents) (v : MetadataRetrieveVersion) (r : Bool) (b : Path) wher
 
     -- a reached path that is bad means that
     fault_means : (p : Path) (k : NodeFault) → Reached (MeansNode s v) r b p → Faults s v r b (p, k) → (e : NodeCreateError) × (meaning s v p ≡ bad e) × (k ≡ Document e)
-    fault_means p Missing reached h = absurd h
     fault_means p Name reached (g, n, listed, periods, below, is, some) = absurd (not_bad_name p g n (reached_path (MeansNode s v) r b p w.valid reached) is periods)
     fault_means p (Document e) reached h = (e, h.1, refl)
 
@@ -225,7 +224,6 @@ module _ (s : Contents) (v : MetadataRetrieveVersion) (r : Bool) (b : Path) wher
 
     -- what is bad is told
     told_fault : (p : Path) (k : NodeFault) → Faults s v r b (p, k) → Contains fs (p, k)
-    told_fault p Missing h = absurd h
     told_fault p Name (g, n, listed, periods, below, is, some) = ⊎_elim
         (λ a. absurd (omega (arith, a.1.1)))
         (λ told. subst (λ x. Contains fs (x, Name)) (sym is) told)

@@ -10,11 +10,10 @@ use Rattle.zarrs_block.specs.Meaning.{Meaning, meaning, bad}
 use Rattle.zarrs_node.specs.Reach.{Reached}
 use Rattle.zarrs_node.specs.Nodes.{Means, IsBadName}
 use Rattle.zarrs_node.specs.declared.fault.NodeFault.{NodeFault}
-use Rattle.zarrs_node.specs.declared.fault.NodeFault.TheVariants.{Missing, Name, Document}
+use Rattle.zarrs_node.specs.declared.fault.NodeFault.TheVariants.{Name, Document}
 
--- p is reached and means `bad e`, where the fault is the document's with e; p is a child of a listed path with a name of periods only, where it is the name's; no path below a base is missing
+-- p is reached and means `bad e`, where the fault is the document's with e; p is a child of a listed path with a name of periods only, where it is the name's
 abbrev pub HasFault : (Path → Meaning) → (Path → Type 0) → Bool → Path → Path → NodeFault → Type 0
-HasFault of has recursive b p Missing = ⊥
 HasFault of has recursive b p Name = IsBadName of has recursive b p
 HasFault of has recursive b p (Document e) = Reached (Means of) recursive b p × (of p ≡ bad e)
 

@@ -9,7 +9,7 @@ use Rattle.zarrs_block.specs.declared.node_create_error.NodeCreateError.{NodeCre
 use Rattle.zarrs_block.specs.declared.node_create_error.NodeCreateError.TheVariants.{StorageError, MetadataVersionMismatch}
 use Rattle.zarrs_node.specs.StepsOfDocuments.{Finds}
 use Rattle.zarrs_node.specs.declared.fault.NodeFault.{NodeFault}
-use Rattle.zarrs_node.specs.declared.fault.NodeFault.TheVariants.{Missing, Name, Document}
+use Rattle.zarrs_node.specs.declared.fault.NodeFault.TheVariants.{Name, Document}
 use Rattle.zarrs_store.specs.Segments.{Segments}
 use Rattle.zarrs_store.specs.Children.{AreVisibleChildren}
 use Rattle.zarrs_path.specs.Paths.{Path, IsPath}
@@ -33,7 +33,6 @@ fault_of e = Err e
 
 -- the fault is the child's own: it is no path, or it means `bad e`
 abbrev pub IsFaultOf : Contents → MetadataRetrieveVersion → Path → NodeFault → Type 0
-IsFaultOf s v c Missing = ⊥
 IsFaultOf s v c Name = ¬ IsPath c
 IsFaultOf s v c (Document e) = IsPath c × (meaning s v c ≡ bad e)
 

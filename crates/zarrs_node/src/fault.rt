@@ -11,8 +11,6 @@ use zarrs_store::StorageError;
 /// <https://zarr-specs.readthedocs.io/en/latest/v3/core/index.html#hierarchy>
 #[derive(Debug, Drop)]
 pub enum NodeFault {
-    /// No document stands at the path, which is asked for one: a walk asks none so, since it passes over a path without documents.
-    Missing,
     /// The last name of the path is made of periods only, so that it is no name.
     Name,
     /// A document of the path does not read, or is of the other version.
