@@ -1,13 +1,15 @@
 -- Which pairs of an ordered list stand below a path, and where they end.
-use Rattle.std.proofs.Common.{◌≡◌, ◌≢◌, ◌↔◌, ◌-◌, ℕ, Bool, true, false, ◌&&◌, List, [], ◌∷◌, ◌++◌, length, refl, sym, ap, subst, ◌∙◌, ⊎_elim, arith, length-append, append_assoc, append-nil, Contains, IsTrue, Ordering, Less, Equal, Greater, true≢false}
+use Rattle.std.proofs.Common.{◌≡◌, ◌≢◌, ◌↔◌, ◌⊎◌, inl, inr, ◌-◌, ◌≤◌, ℕ, zero, suc, cond, take, get_or, Bool, true, false, ◌&&◌, List, [], ◌∷◌, ◌++◌, length, refl, sym, ap, subst, ◌∙◌, ⊎_elim, arith, length-append, append_assoc, append-nil, Contains, IsTrue, Ordering, Less, Equal, Greater, true≢false}
 use Rattle.std.specs.Prelude.{bytes_eq}
-use Rattle.std.specs.List.{AllByRecursion}
-use Rattle.std.specs.List.Sorted.{IsStrictlySortedBy}
+use Rattle.std.specs.List.{AllByRecursion, filter}
+use Rattle.std.specs.List.Sorted.{IsStrictlySortedBy, IsPartitionedBy, IsPartitionPoint}
 use Rattle.std.specs.Map.{keys_of}
 use Rattle.std.specs.Ordering.{ordering_then, ordering_reverse, is_lt}
 use Rattle.std.specs.Cmp.{tied_itself}
 use Rattle.std.specs.Cmp.Lexicographic.{nat_list_cmp_total}
 use Rattle.std.proofs.lemmas.Bool.{false_from_ne_true}
+use Rattle.std.proofs.lemmas.Bool.Decides.{eqb_tells}
+use Rattle.std.proofs.lemmas.List.Elements.{Contains-get_or}
 use Rattle.std.proofs.lemmas.List.Kept.{AllPairs-filter}
 use Rattle.std.proofs.lemmas.Map.Lookups.{exact_bytes}
 use Rattle.std.proofs.lemmas.Slice.Eq.{bytes_eq-Decides}
@@ -22,7 +24,7 @@ use Rattle.zarrs_node.proofs.Order.{contains_cases}
 use Rattle.zarrs_node.proofs.LawProofs.{apart}
 use Rattle.zarrs_hierarchy.specs.PairsOfHierarchies.{Pairs}
 use Rattle.zarrs_hierarchy.specs.Tree.{is_path_below, pairs_below}
-use Rattle.zarrs_hierarchy.specs.StepsOfHierarchies.{pairs_behind}
+use Rattle.zarrs_hierarchy.specs.StepsOfHierarchies.{IsBehind, pairs_behind}
 use Rattle.zarrs_hierarchy.proofs.Maps.{sorted}
 
 -- nothing is below the root's own path
@@ -69,6 +71,11 @@ is_below_of (m ∷ b) (n ∷ p) h =
 -- what is not below is told so
 pub not_below_of : (b p : Path) → (IsBelow b p → ⊥) → is_path_below b p ≡ false
 not_below_of b p h = false_from_ne_true (is_path_below b p) (λ t. h (is_below_from b p t))
+
+-- a test that tells what is below is the test
+pub told_below : (b p : Path) (r : Bool) → (IsTrue r ↔ IsBelow b p) → r ≡ is_path_below b p
+told_below b p true h = sym (is_below_of b p (h.0 refl))
+told_below b p false h = sym (not_below_of b p (λ low. true≢false (sym (h.1 low))))
 
 -- ---- where the paths below b end
 
@@ -252,3 +259,48 @@ module _ (p : Path) (m : NodeMetadata) (es left : Pairs) (done whole : List ℕ)
   pub shown_next : p ≢ [] → (done ++ line (length p - 0) p m) ++ lines [] (pairs_below [] es) ≡ whole
   shown_next e =
       append_assoc done (line (length p - 0) p m) (lines [] (pairs_below [] es)) ∙ ap (λ xs. done ++ lines [] xs) (sym (ap (pairs_below []) is ∙ takes_path p m es e)) ∙ h
+
+-- ---- the run of the pairs below b
+
+-- each of the pairs behind b stands behind it
+pub each_behind : (b : Path) (es : Pairs) → IsBehind b (pairs_behind b es)
+each_behind b [] e in' = absurd (omega (arith, in'.1))
+each_behind b (d ∷ es) e in' = by (is_lt (path_cmp b d.0)) refl (each_behind b es e) in'
+  where
+    by : (t : Bool) → is_lt (path_cmp b d.0) ≡ t → (Contains (pairs_behind b es) e → path_cmp b e.0 ≡ Less) → Contains (cond t (d ∷ pairs_behind b es) (pairs_behind b es)) e → path_cmp b e.0 ≡ Less
+    by true s again has = ⊎_elim (λ same. subst (λ x. path_cmp b x.0 ≡ Less) same (lt_from (path_cmp b d.0) s)) again (contains_cases d (pairs_behind b es) e has)
+    by false s again has = again has
+
+-- they ascend
+pub behind_ascend : (b : Path) (es : Pairs) → Ascend es → Ascend (pairs_behind b es)
+behind_ascend b es up = AllPairs-filter (λ d e. path_cmp d.0 e.0 ≡ Less) (λ e. is_lt (path_cmp b e.0)) es up
+
+-- so do the pairs below it
+pub below_ascend : (b : Path) (es : Pairs) → Ascend es → Ascend (pairs_below b es)
+below_ascend b es up = AllPairs-filter (λ d e. path_cmp d.0 e.0 ≡ Less) (λ e. is_path_below b e.0) es up
+
+-- two numbers are the same or not
+number_cases : (m n : ℕ) → ((m ≡ n) × Unit {0}) ⊎ ((m ≡ n → ⊥) × Unit {0})
+number_cases m n = ⊎_elim (λ h. inl (h.1, tt)) (λ h. inr (h.1, tt)) (eqb_tells m n)
+
+-- among pairs behind b no pair below it comes after one that is not
+pub one_run : (b : Path) (es : Pairs) → Ascend es → IsBehind b es → IsPartitionedBy (λ e. is_path_below b e.0) es
+one_run b es up behind i j d le lt low = by (is_path_below b (get_or es i d).0) refl
+  where
+    by : (t : Bool) → is_path_below b (get_or es i d).0 ≡ t → is_path_below b (get_or es i d).0 ≡ true
+    by true s = s
+    by false s = ⊎_elim
+        (λ same. absurd (true≢false (sym low ∙ ap (λ k. is_path_below b (get_or es k d).0) (sym same.0) ∙ s)))
+        (λ other. absurd (beyond b (get_or es i d).0 (get_or es j d).0 (behind (get_or es i d) (Contains-get_or es i d (omega (arith, le, lt))))
+        (λ is. true≢false (sym (is_below_of b (get_or es i d).0 is) ∙ s)) (up i j d (omega (arith, le, other.0)) lt) (is_below_from b (get_or es j d).0 low)))
+        (number_cases i j)
+
+-- what is taken up to the end of a run is what passes the test
+pub run_taken : {A : Type 0} (p : A → Bool) (xs : List A) (i : ℕ) → i ≤ length xs → IsPartitionPoint (λ y. p y ≡ true) (λ y. p y ≡ false) xs i → take i xs ≡ filter p xs
+run_taken p [] zero le h = refl
+run_taken p [] (suc i) le h = absurd (omega (arith, le))
+run_taken p (x ∷ xs) zero le h =
+    rw (h.1 0 x (omega arith) (omega arith)) (run_taken p xs 0 (omega arith) (λ k d a b. absurd (omega (arith, b)), λ k d a b. h.1 (suc k) d (omega arith) (omega (arith, b))))
+run_taken p (x ∷ xs) (suc i) le h =
+    rw (h.0 0 x (omega arith) (omega arith))
+    (ap (λ ys. x ∷ ys) (run_taken p xs i (omega (arith, le)) (λ k d a b. h.0 (suc k) d (omega arith) (omega (arith, b)), λ k d a b. h.1 (suc k) d (omega (arith, a)) (omega (arith, b)))))

@@ -1,5 +1,5 @@
 -- Steps of hierarchies: where a path stands among ascending pairs, and what a private walk takes; no public contract rests on them.
-use Rattle.std.specs.Prelude.{◌≡◌, ℕ, ◌<◌, ◌≤◌, length, List}
+use Rattle.std.specs.Prelude.{◌≡◌, ℕ, ◌<◌, ◌≤◌, length, List, Contains}
 use Rattle.std.specs.declared.cmp.Ordering.TheVariants.{Less, Greater}
 use Rattle.std.specs.List.{AllWithin, HoldsAt, filter}
 use Rattle.zarrs_path.specs.Paths.{Path, path_cmp}
@@ -31,3 +31,7 @@ pub record TakesPairs {S : Type 0} (R : S → Path × NodeMetadata → S → Typ
 -- the pairs behind b in the order of paths, as they stand
 abbrev pub pairs_behind : Path → Pairs → Pairs
 pairs_behind b h = filter (λ e. is_lt (path_cmp b e.0)) h
+
+-- each of the pairs stands behind b in the order of paths
+abbrev pub IsBehind : Path → Pairs → Type 0
+IsBehind b h = (e : Path × NodeMetadata) → Contains h e → path_cmp b e.0 ≡ Less

@@ -1,10 +1,11 @@
 //! A hierarchy: nodes by their paths.
-ghost use Rattle.std.specs.Prelude.{◌≡◌, ◌∷◌, [], length, IfErr, IfOk, option_copied};
+ghost use Rattle.std.specs.Prelude.{◌≡◌, ◌≤◌, ◌∷◌, [], length, take, IfErr, IfOk, option_copied};
 ghost use Rattle.zarrs_form.specs.Forms.{is_nil};
 ghost use Rattle.zarrs_meta.specs.declared.node.NodeMetadata.TheVariants.{Array};
 ghost use Rattle.zarrs_node.specs.Order.{Ascend};
 ghost use Rattle.zarrs_hierarchy.specs.PairsOfHierarchies.{metadata_at};
-ghost use Rattle.zarrs_hierarchy.specs.StepsOfHierarchies.{IsPathAt, IsPathGap, pairs_behind};
+ghost use Rattle.zarrs_hierarchy.specs.StepsOfHierarchies.{IsPathAt, IsPathGap, IsBehind, pairs_behind};
+ghost use Rattle.zarrs_hierarchy.specs.Tree.{pairs_below, is_path_below};
 
 use std::alloc::{AllocError, Global};
 use std::collections::BTreeMap;
@@ -78,6 +79,16 @@ impl Hierarchy {
         Ok(Hierarchy { nodes })
     }
 
+    /// The hierarchy of nodes that stand in the order of paths, as `zarrs_node::get_all_nodes_of` gives them.
+    ///
+    /// Source: own.
+    pub fn from_ascending(nodes: Vec<(NodePath, NodeMetadata)>) -> Hierarchy
+        requires ascending { Ascend nodes.items }
+        ensures { result ≡ nodes.items }
+    {
+        Hierarchy { nodes }
+    }
+
     /// The number of nodes.
     pub fn len(&self) -> usize
         ensures { result ≡ length self.now }
@@ -108,6 +119,18 @@ impl Hierarchy {
         ensures ordered { Ascend self.now }
     {
         &self.nodes
+    }
+
+    /// The nodes below a path, in the order of paths. They stand in one run, whose ends are found by halving.
+    ///
+    /// Source: own.
+    pub fn nodes_below(&self, path: &NodePath) -> &[(NodePath, NodeMetadata)]
+        ensures pairs { result.now ≡ pairs_below path.now self.now }
+        ensures ordered { Ascend result.now }
+    {
+        let behind = self.behind(path);
+        let end = end_below(behind, path);
+        &behind[..end]
     }
 
     /// The paths with their metadata, as a map of copies.
@@ -164,4 +187,21 @@ fn place_of(nodes: &[(NodePath, NodeMetadata)], path: &NodePath) -> Result<usize
     ensures absent { IfErr result (IsPathGap nodes.now path.now) }
 {
     nodes.binary_search_by(|node| node.0.cmp(path))
+}
+
+// Where the nodes below a path end, among nodes that stand behind it.
+fn end_below(nodes: &[(NodePath, NodeMetadata)], path: &NodePath) -> usize
+    requires ascending { Ascend nodes.now }
+    requires behind { IsBehind path.now nodes.now }
+    ensures bound { result ≤ length nodes.now }
+    ensures below { take result nodes.now ≡ pairs_below path.now nodes.now }
+{
+    nodes.partition_point(|node| is_below(&node.0, path))
+}
+
+// Whether a path is below another.
+fn is_below(path: &NodePath, base: &NodePath) -> bool
+    ensures { result ≡ is_path_below base.now path.now }
+{
+    path.is_below(base)
 }

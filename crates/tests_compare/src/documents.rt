@@ -1,0 +1,183 @@
+//! Metadata that were read from documents, and groups that could not have been, compared.
+
+use serde_json::Value;
+use std::alloc::{AllocError, Global};
+use std::test::Fail;
+use tests_support::{check_rows, fields, made, said};
+use zarrs_compare::is_same_metadata;
+use zarrs_meta::{GroupMetadata, GroupMetadataV3, NodeMetadata, Object};
+
+// ---- documents
+
+// Two documents, and whether their metadata are the same.
+const GROUPS: &str = r#"
+# version 3
+{"node_type":"group","zarr_format":3} | {"zarr_format":3,"node_type":"group"} => true
+{"node_type":"group","zarr_format":3} | {"zarr_format":3,"node_type":"group","attributes":{}} => true
+{"node_type":"group","zarr_format":3,"attributes":{"a":[1,"x"],"b":null}} | {"node_type":"group","zarr_format":3,"attributes":{"b":null,"a":[1,"x"]}} => true
+{"node_type":"group","zarr_format":3,"attributes":{"a":1}} | {"node_type":"group","zarr_format":3,"attributes":{"a":2}} => false
+{"node_type":"group","zarr_format":3,"attributes":{"a":1}} | {"node_type":"group","zarr_format":3,"attributes":{"b":1}} => false
+{"node_type":"group","zarr_format":3,"attributes":{"a":1}} | {"node_type":"group","zarr_format":3,"attributes":{"a":1,"b":1}} => false
+{"node_type":"group","zarr_format":3,"attributes":{"a":1,"b":1}} | {"node_type":"group","zarr_format":3,"attributes":{"a":1}} => false
+{"node_type":"group","zarr_format":3,"attributes":{"a":1}} | {"node_type":"group","zarr_format":3} => false
+{"node_type":"group","zarr_format":3,"x":{"must_understand":false}} | {"node_type":"group","zarr_format":3,"x":{"must_understand":false}} => true
+{"node_type":"group","zarr_format":3,"x":{"must_understand":false}} | {"node_type":"group","zarr_format":3,"x":{"must_understand":true}} => false
+{"node_type":"group","zarr_format":3,"x":1} | {"node_type":"group","zarr_format":3} => false
+# values
+{"node_type":"group","zarr_format":3,"attributes":{"a":18446744073709551615}} | {"node_type":"group","zarr_format":3,"attributes":{"a":18446744073709551615}} => true
+{"node_type":"group","zarr_format":3,"attributes":{"a":-9223372036854775808}} | {"node_type":"group","zarr_format":3,"attributes":{"a":-9223372036854775808}} => true
+{"node_type":"group","zarr_format":3,"attributes":{"a":-1}} | {"node_type":"group","zarr_format":3,"attributes":{"a":1}} => false
+{"node_type":"group","zarr_format":3,"attributes":{"a":1}} | {"node_type":"group","zarr_format":3,"attributes":{"a":-1}} => false
+{"node_type":"group","zarr_format":3,"attributes":{"a":1}} | {"node_type":"group","zarr_format":3,"attributes":{"a":"1"}} => false
+{"node_type":"group","zarr_format":3,"attributes":{"a":true}} | {"node_type":"group","zarr_format":3,"attributes":{"a":true}} => true
+{"node_type":"group","zarr_format":3,"attributes":{"a":true}} | {"node_type":"group","zarr_format":3,"attributes":{"a":false}} => false
+{"node_type":"group","zarr_format":3,"attributes":{"a":null}} | {"node_type":"group","zarr_format":3,"attributes":{"a":[]}} => false
+{"node_type":"group","zarr_format":3,"attributes":{"a":[]}} | {"node_type":"group","zarr_format":3,"attributes":{"a":{}}} => false
+{"node_type":"group","zarr_format":3,"attributes":{"a":[1,2]}} | {"node_type":"group","zarr_format":3,"attributes":{"a":[2,1]}} => false
+{"node_type":"group","zarr_format":3,"attributes":{"a":[1]}} | {"node_type":"group","zarr_format":3,"attributes":{"a":[1,1]}} => false
+{"node_type":"group","zarr_format":3,"attributes":{"a":[1,1]}} | {"node_type":"group","zarr_format":3,"attributes":{"a":[1]}} => false
+{"node_type":"group","zarr_format":3,"attributes":{"a":{"b":{"c":"é"}}}} | {"node_type":"group","zarr_format":3,"attributes":{"a":{"b":{"c":"\u00e9"}}}} => true
+{"node_type":"group","zarr_format":3,"attributes":{"a":{"b":{"c":"é"}}}} | {"node_type":"group","zarr_format":3,"attributes":{"a":{"b":{"c":"e"}}}} => false
+# the field `consolidated_metadata`
+{"node_type":"group","zarr_format":3,"consolidated_metadata":{"kind":"inline","must_understand":false,"metadata":{}}} | {"node_type":"group","zarr_format":3} => true
+{"node_type":"group","zarr_format":3} | {"node_type":"group","zarr_format":3,"consolidated_metadata":{"kind":"inline","must_understand":false,"metadata":{}}} => true
+{"node_type":"group","zarr_format":3,"consolidated_metadata":{"metadata":{"a":1}}} | {"node_type":"group","zarr_format":3,"consolidated_metadata":{"metadata":{}}} => true
+{"node_type":"group","zarr_format":3,"consolidated_metadata":1,"a":1,"z":1} | {"node_type":"group","zarr_format":3,"a":1,"z":1} => true
+{"node_type":"group","zarr_format":3,"consolidated_metadata":1,"a":1} | {"node_type":"group","zarr_format":3,"a":1,"z":1} => false
+{"node_type":"group","zarr_format":3,"a":1} | {"node_type":"group","zarr_format":3,"consolidated_metadata":1,"a":1,"z":1} => false
+{"node_type":"group","zarr_format":3,"consolidated_metadata":1,"z":1} | {"node_type":"group","zarr_format":3,"consolidated_metadata":1,"z":2} => false
+{"node_type":"group","zarr_format":3,"attributes":{"consolidated_metadata":1}} | {"node_type":"group","zarr_format":3} => false
+# version 2
+{"zarr_format":2} | {"zarr_format":2} => true
+{"zarr_format":2,"attributes":{"a":1}} | {"zarr_format":2,"attributes":{"a":1}} => true
+{"zarr_format":2,"attributes":{"a":1}} | {"zarr_format":2,"attributes":{"a":2}} => false
+{"zarr_format":2,"x":1} | {"zarr_format":2,"x":1} => true
+{"zarr_format":2,"x":1} | {"zarr_format":2} => false
+{"zarr_format":2,"consolidated_metadata":1} | {"zarr_format":2} => false
+# versions
+{"node_type":"group","zarr_format":3} | {"zarr_format":2} => false
+{"zarr_format":2} | {"node_type":"group","zarr_format":3} => false
+"#;
+
+const ARRAYS: &str = r#"
+# version 3
+{"node_type":"array","zarr_format":3,"shape":[1],"data_type":"float32","chunk_grid":{"name":"regular","configuration":{"chunk_shape":[1]}},"chunk_key_encoding":{"name":"default"},"fill_value":0,"codecs":[{"name":"bytes","configuration":{"endian":"little"}}]} | {"codecs":[{"name":"bytes","configuration":{"endian":"little"}}],"fill_value":0,"chunk_key_encoding":{"name":"default"},"chunk_grid":{"name":"regular","configuration":{"chunk_shape":[1]}},"data_type":"float32","shape":[1],"zarr_format":3,"node_type":"array"} => true
+{"node_type":"array","zarr_format":3,"shape":[1],"data_type":"float32","chunk_grid":{"name":"regular","configuration":{"chunk_shape":[1]}},"chunk_key_encoding":{"name":"default"},"fill_value":0,"codecs":[{"name":"bytes","configuration":{"endian":"little"}}]} | {"node_type":"array","zarr_format":3,"shape":[2],"data_type":"float32","chunk_grid":{"name":"regular","configuration":{"chunk_shape":[1]}},"chunk_key_encoding":{"name":"default"},"fill_value":0,"codecs":[{"name":"bytes","configuration":{"endian":"little"}}]} => false
+{"node_type":"array","zarr_format":3,"shape":[1],"data_type":"float32","chunk_grid":{"name":"regular","configuration":{"chunk_shape":[1]}},"chunk_key_encoding":{"name":"default"},"fill_value":0,"codecs":[{"name":"bytes","configuration":{"endian":"little"}}]} | {"node_type":"array","zarr_format":3,"shape":[1,1],"data_type":"float32","chunk_grid":{"name":"regular","configuration":{"chunk_shape":[1]}},"chunk_key_encoding":{"name":"default"},"fill_value":0,"codecs":[{"name":"bytes","configuration":{"endian":"little"}}]} => false
+{"node_type":"array","zarr_format":3,"shape":[1],"data_type":"float32","chunk_grid":{"name":"regular","configuration":{"chunk_shape":[1]}},"chunk_key_encoding":{"name":"default"},"fill_value":0,"codecs":[{"name":"bytes","configuration":{"endian":"little"}}]} | {"node_type":"array","zarr_format":3,"shape":[1],"data_type":"float64","chunk_grid":{"name":"regular","configuration":{"chunk_shape":[1]}},"chunk_key_encoding":{"name":"default"},"fill_value":0,"codecs":[{"name":"bytes","configuration":{"endian":"little"}}]} => false
+{"node_type":"array","zarr_format":3,"shape":[1],"data_type":"float32","chunk_grid":{"name":"regular","configuration":{"chunk_shape":[1]}},"chunk_key_encoding":{"name":"default"},"fill_value":0,"codecs":[{"name":"bytes","configuration":{"endian":"little"}}]} | {"node_type":"array","zarr_format":3,"shape":[1],"data_type":{"name":"float32"},"chunk_grid":{"name":"regular","configuration":{"chunk_shape":[1]}},"chunk_key_encoding":{"name":"default"},"fill_value":0,"codecs":[{"name":"bytes","configuration":{"endian":"little"}}]} => true
+{"node_type":"array","zarr_format":3,"shape":[1],"data_type":"float32","chunk_grid":{"name":"regular","configuration":{"chunk_shape":[1]}},"chunk_key_encoding":{"name":"default"},"fill_value":0,"codecs":[{"name":"bytes","configuration":{"endian":"little"}}]} | {"node_type":"array","zarr_format":3,"shape":[1],"data_type":"float32","chunk_grid":{"name":"regular","configuration":{"chunk_shape":[2]}},"chunk_key_encoding":{"name":"default"},"fill_value":0,"codecs":[{"name":"bytes","configuration":{"endian":"little"}}]} => false
+{"node_type":"array","zarr_format":3,"shape":[1],"data_type":"float32","chunk_grid":{"name":"regular","configuration":{"chunk_shape":[1]}},"chunk_key_encoding":{"name":"default"},"fill_value":0,"codecs":[{"name":"bytes","configuration":{"endian":"little"}}]} | {"node_type":"array","zarr_format":3,"shape":[1],"data_type":"float32","chunk_grid":{"name":"regular","configuration":{"chunk_shape":[1]}},"chunk_key_encoding":{"name":"v2"},"fill_value":0,"codecs":[{"name":"bytes","configuration":{"endian":"little"}}]} => false
+{"node_type":"array","zarr_format":3,"shape":[1],"data_type":"float32","chunk_grid":{"name":"regular","configuration":{"chunk_shape":[1]}},"chunk_key_encoding":{"name":"default"},"fill_value":0,"codecs":[{"name":"bytes","configuration":{"endian":"little"}}]} | {"node_type":"array","zarr_format":3,"shape":[1],"data_type":"float32","chunk_grid":{"name":"regular","configuration":{"chunk_shape":[1]}},"chunk_key_encoding":{"name":"default","must_understand":false},"fill_value":0,"codecs":[{"name":"bytes","configuration":{"endian":"little"}}]} => false
+{"node_type":"array","zarr_format":3,"shape":[1],"data_type":"float32","chunk_grid":{"name":"regular","configuration":{"chunk_shape":[1]}},"chunk_key_encoding":{"name":"default"},"fill_value":0,"codecs":[{"name":"bytes","configuration":{"endian":"little"}}]} | {"node_type":"array","zarr_format":3,"shape":[1],"data_type":"float32","chunk_grid":{"name":"regular","configuration":{"chunk_shape":[1]}},"chunk_key_encoding":{"name":"default"},"fill_value":1,"codecs":[{"name":"bytes","configuration":{"endian":"little"}}]} => false
+{"node_type":"array","zarr_format":3,"shape":[1],"data_type":"float32","chunk_grid":{"name":"regular","configuration":{"chunk_shape":[1]}},"chunk_key_encoding":{"name":"default"},"fill_value":0,"codecs":[{"name":"bytes","configuration":{"endian":"little"}}]} | {"node_type":"array","zarr_format":3,"shape":[1],"data_type":"float32","chunk_grid":{"name":"regular","configuration":{"chunk_shape":[1]}},"chunk_key_encoding":{"name":"default"},"fill_value":0,"codecs":[{"name":"bytes","configuration":{"endian":"big"}}]} => false
+{"node_type":"array","zarr_format":3,"shape":[1],"data_type":"float32","chunk_grid":{"name":"regular","configuration":{"chunk_shape":[1]}},"chunk_key_encoding":{"name":"default"},"fill_value":0,"codecs":[{"name":"bytes","configuration":{"endian":"little"}}]} | {"node_type":"array","zarr_format":3,"shape":[1],"data_type":"float32","chunk_grid":{"name":"regular","configuration":{"chunk_shape":[1]}},"chunk_key_encoding":{"name":"default"},"fill_value":0,"codecs":["bytes"]} => false
+{"node_type":"array","zarr_format":3,"shape":[1],"data_type":"float32","chunk_grid":{"name":"regular","configuration":{"chunk_shape":[1]}},"chunk_key_encoding":{"name":"default"},"fill_value":0,"codecs":[{"name":"bytes","configuration":{"endian":"little"}}]} | {"node_type":"array","zarr_format":3,"shape":[1],"data_type":"float32","chunk_grid":{"name":"regular","configuration":{"chunk_shape":[1]}},"chunk_key_encoding":{"name":"default"},"fill_value":0,"codecs":[{"name":"bytes","configuration":{"endian":"little"}},"crc32c"]} => false
+{"node_type":"array","zarr_format":3,"shape":[1],"data_type":"float32","chunk_grid":{"name":"regular","configuration":{"chunk_shape":[1]}},"chunk_key_encoding":{"name":"default"},"fill_value":0,"codecs":["bytes"]} | {"node_type":"array","zarr_format":3,"shape":[1],"data_type":"float32","chunk_grid":{"name":"regular","configuration":{"chunk_shape":[1]}},"chunk_key_encoding":{"name":"default"},"fill_value":0,"codecs":[{"name":"bytes","configuration":null}]} => true
+{"node_type":"array","zarr_format":3,"shape":[1],"data_type":"float32","chunk_grid":{"name":"regular","configuration":{"chunk_shape":[1]}},"chunk_key_encoding":{"name":"default"},"fill_value":0,"codecs":[{"name":"bytes","configuration":{"endian":"little"}}]} | {"node_type":"array","zarr_format":3,"shape":[1],"data_type":"float32","chunk_grid":{"name":"regular","configuration":{"chunk_shape":[1]}},"chunk_key_encoding":{"name":"default"},"fill_value":0,"codecs":[{"name":"bytes","configuration":{"endian":"little"}}],"attributes":{"a":1}} => false
+{"node_type":"array","zarr_format":3,"shape":[1],"data_type":"float32","chunk_grid":{"name":"regular","configuration":{"chunk_shape":[1]}},"chunk_key_encoding":{"name":"default"},"fill_value":0,"codecs":[{"name":"bytes","configuration":{"endian":"little"}}],"attributes":{"a":1}} | {"node_type":"array","zarr_format":3,"shape":[1],"data_type":"float32","chunk_grid":{"name":"regular","configuration":{"chunk_shape":[1]}},"chunk_key_encoding":{"name":"default"},"fill_value":0,"codecs":[{"name":"bytes","configuration":{"endian":"little"}}],"attributes":{"a":1}} => true
+{"node_type":"array","zarr_format":3,"shape":[1],"data_type":"float32","chunk_grid":{"name":"regular","configuration":{"chunk_shape":[1]}},"chunk_key_encoding":{"name":"default"},"fill_value":0,"codecs":[{"name":"bytes","configuration":{"endian":"little"}}]} | {"node_type":"array","zarr_format":3,"shape":[1],"data_type":"float32","chunk_grid":{"name":"regular","configuration":{"chunk_shape":[1]}},"chunk_key_encoding":{"name":"default"},"fill_value":0,"codecs":[{"name":"bytes","configuration":{"endian":"little"}}],"storage_transformers":[]} => true
+{"node_type":"array","zarr_format":3,"shape":[1],"data_type":"float32","chunk_grid":{"name":"regular","configuration":{"chunk_shape":[1]}},"chunk_key_encoding":{"name":"default"},"fill_value":0,"codecs":[{"name":"bytes","configuration":{"endian":"little"}}]} | {"node_type":"array","zarr_format":3,"shape":[1],"data_type":"float32","chunk_grid":{"name":"regular","configuration":{"chunk_shape":[1]}},"chunk_key_encoding":{"name":"default"},"fill_value":0,"codecs":[{"name":"bytes","configuration":{"endian":"little"}}],"storage_transformers":["x"]} => false
+{"node_type":"array","zarr_format":3,"shape":[1],"data_type":"float32","chunk_grid":{"name":"regular","configuration":{"chunk_shape":[1]}},"chunk_key_encoding":{"name":"default"},"fill_value":0,"codecs":[{"name":"bytes","configuration":{"endian":"little"}}]} | {"node_type":"array","zarr_format":3,"shape":[1],"data_type":"float32","chunk_grid":{"name":"regular","configuration":{"chunk_shape":[1]}},"chunk_key_encoding":{"name":"default"},"fill_value":0,"codecs":[{"name":"bytes","configuration":{"endian":"little"}}],"dimension_names":null} => true
+{"node_type":"array","zarr_format":3,"shape":[1],"data_type":"float32","chunk_grid":{"name":"regular","configuration":{"chunk_shape":[1]}},"chunk_key_encoding":{"name":"default"},"fill_value":0,"codecs":[{"name":"bytes","configuration":{"endian":"little"}}]} | {"node_type":"array","zarr_format":3,"shape":[1],"data_type":"float32","chunk_grid":{"name":"regular","configuration":{"chunk_shape":[1]}},"chunk_key_encoding":{"name":"default"},"fill_value":0,"codecs":[{"name":"bytes","configuration":{"endian":"little"}}],"dimension_names":["x"]} => false
+{"node_type":"array","zarr_format":3,"shape":[1],"data_type":"float32","chunk_grid":{"name":"regular","configuration":{"chunk_shape":[1]}},"chunk_key_encoding":{"name":"default"},"fill_value":0,"codecs":[{"name":"bytes","configuration":{"endian":"little"}}],"dimension_names":["x"]} | {"node_type":"array","zarr_format":3,"shape":[1],"data_type":"float32","chunk_grid":{"name":"regular","configuration":{"chunk_shape":[1]}},"chunk_key_encoding":{"name":"default"},"fill_value":0,"codecs":[{"name":"bytes","configuration":{"endian":"little"}}],"dimension_names":["x"]} => true
+{"node_type":"array","zarr_format":3,"shape":[1],"data_type":"float32","chunk_grid":{"name":"regular","configuration":{"chunk_shape":[1]}},"chunk_key_encoding":{"name":"default"},"fill_value":0,"codecs":[{"name":"bytes","configuration":{"endian":"little"}}],"dimension_names":["x"]} | {"node_type":"array","zarr_format":3,"shape":[1],"data_type":"float32","chunk_grid":{"name":"regular","configuration":{"chunk_shape":[1]}},"chunk_key_encoding":{"name":"default"},"fill_value":0,"codecs":[{"name":"bytes","configuration":{"endian":"little"}}],"dimension_names":[null]} => false
+{"node_type":"array","zarr_format":3,"shape":[1],"data_type":"float32","chunk_grid":{"name":"regular","configuration":{"chunk_shape":[1]}},"chunk_key_encoding":{"name":"default"},"fill_value":0,"codecs":[{"name":"bytes","configuration":{"endian":"little"}}],"dimension_names":[null]} | {"node_type":"array","zarr_format":3,"shape":[1],"data_type":"float32","chunk_grid":{"name":"regular","configuration":{"chunk_shape":[1]}},"chunk_key_encoding":{"name":"default"},"fill_value":0,"codecs":[{"name":"bytes","configuration":{"endian":"little"}}],"dimension_names":[null]} => true
+{"node_type":"array","zarr_format":3,"shape":[1],"data_type":"float32","chunk_grid":{"name":"regular","configuration":{"chunk_shape":[1]}},"chunk_key_encoding":{"name":"default"},"fill_value":0,"codecs":[{"name":"bytes","configuration":{"endian":"little"}}],"x":1} | {"node_type":"array","zarr_format":3,"shape":[1],"data_type":"float32","chunk_grid":{"name":"regular","configuration":{"chunk_shape":[1]}},"chunk_key_encoding":{"name":"default"},"fill_value":0,"codecs":[{"name":"bytes","configuration":{"endian":"little"}}],"x":1} => true
+{"node_type":"array","zarr_format":3,"shape":[1],"data_type":"float32","chunk_grid":{"name":"regular","configuration":{"chunk_shape":[1]}},"chunk_key_encoding":{"name":"default"},"fill_value":0,"codecs":[{"name":"bytes","configuration":{"endian":"little"}}]} | {"node_type":"array","zarr_format":3,"shape":[1],"data_type":"float32","chunk_grid":{"name":"regular","configuration":{"chunk_shape":[1]}},"chunk_key_encoding":{"name":"default"},"fill_value":0,"codecs":[{"name":"bytes","configuration":{"endian":"little"}}],"x":1} => false
+{"node_type":"array","zarr_format":3,"shape":[1],"data_type":"float32","chunk_grid":{"name":"regular","configuration":{"chunk_shape":[1]}},"chunk_key_encoding":{"name":"default"},"fill_value":0,"codecs":[{"name":"bytes","configuration":{"endian":"little"}}]} | {"node_type":"array","zarr_format":3,"shape":[1],"data_type":"float32","chunk_grid":{"name":"regular","configuration":{"chunk_shape":[1]}},"chunk_key_encoding":{"name":"default"},"fill_value":0,"codecs":[{"name":"bytes","configuration":{"endian":"little"}}],"consolidated_metadata":1} => false
+# version 2
+{"zarr_format":2,"shape":[1],"chunks":[1],"dtype":"<f8","fill_value":"NaN","order":"C","compressor":null,"filters":null} | {"zarr_format":2,"shape":[1],"chunks":[1],"dtype":"<f8","fill_value":"NaN","order":"C","compressor":null,"filters":null} => true
+{"zarr_format":2,"shape":[1],"chunks":[1],"dtype":"<f8","fill_value":"NaN","order":"C","compressor":null,"filters":null} | {"zarr_format":2,"shape":[1],"chunks":[1],"dtype":"<f8","fill_value":"NaN","order":"C"} => true
+{"zarr_format":2,"shape":[1],"chunks":[1],"dtype":"<f8","fill_value":"NaN","order":"C","compressor":null,"filters":null} | {"zarr_format":2,"shape":[1],"chunks":[1],"dtype":"<f8","fill_value":"NaN","order":"C","compressor":null,"filters":null,"dimension_separator":"."} => true
+{"zarr_format":2,"shape":[1],"chunks":[1],"dtype":"<f8","fill_value":"NaN","order":"C","compressor":null,"filters":null} | {"zarr_format":2,"shape":[1],"chunks":[1],"dtype":"<f8","fill_value":"NaN","order":"C","compressor":null,"filters":null,"dimension_separator":"/"} => false
+{"zarr_format":2,"shape":[1],"chunks":[1],"dtype":"<f8","fill_value":"NaN","order":"C","compressor":null,"filters":null} | {"zarr_format":2,"shape":[2],"chunks":[1],"dtype":"<f8","fill_value":"NaN","order":"C","compressor":null,"filters":null} => false
+{"zarr_format":2,"shape":[1],"chunks":[1],"dtype":"<f8","fill_value":"NaN","order":"C","compressor":null,"filters":null} | {"zarr_format":2,"shape":[1],"chunks":[2],"dtype":"<f8","fill_value":"NaN","order":"C","compressor":null,"filters":null} => false
+{"zarr_format":2,"shape":[1],"chunks":[1],"dtype":"<f8","fill_value":"NaN","order":"C","compressor":null,"filters":null} | {"zarr_format":2,"shape":[1],"chunks":[1],"dtype":"<f4","fill_value":"NaN","order":"C","compressor":null,"filters":null} => false
+{"zarr_format":2,"shape":[1],"chunks":[1],"dtype":"<f8","fill_value":"NaN","order":"C","compressor":null,"filters":null} | {"zarr_format":2,"shape":[1],"chunks":[1],"dtype":[["a","<f4"]],"fill_value":"NaN","order":"C","compressor":null,"filters":null} => false
+{"zarr_format":2,"shape":[1],"chunks":[1],"dtype":[["a","<f4"]],"fill_value":"NaN","order":"C","compressor":null,"filters":null} | {"zarr_format":2,"shape":[1],"chunks":[1],"dtype":[["a","<f4"]],"fill_value":"NaN","order":"C","compressor":null,"filters":null} => true
+{"zarr_format":2,"shape":[1],"chunks":[1],"dtype":[["a","<f4"]],"fill_value":"NaN","order":"C","compressor":null,"filters":null} | {"zarr_format":2,"shape":[1],"chunks":[1],"dtype":[["b","<f4"]],"fill_value":"NaN","order":"C","compressor":null,"filters":null} => false
+{"zarr_format":2,"shape":[1],"chunks":[1],"dtype":"<f8","fill_value":"NaN","order":"C","compressor":null,"filters":null} | {"zarr_format":2,"shape":[1],"chunks":[1],"dtype":"<f8","fill_value":null,"order":"C","compressor":null,"filters":null} => false
+{"zarr_format":2,"shape":[1],"chunks":[1],"dtype":"<f8","fill_value":"NaN","order":"C","compressor":null,"filters":null} | {"zarr_format":2,"shape":[1],"chunks":[1],"dtype":"<f8","fill_value":"NaN","order":"F","compressor":null,"filters":null} => false
+{"zarr_format":2,"shape":[1],"chunks":[1],"dtype":"<f8","fill_value":"NaN","order":"F","compressor":null,"filters":null} | {"zarr_format":2,"shape":[1],"chunks":[1],"dtype":"<f8","fill_value":"NaN","order":"F","compressor":null,"filters":null} => true
+{"zarr_format":2,"shape":[1],"chunks":[1],"dtype":"<f8","fill_value":"NaN","order":"C","compressor":null,"filters":null} | {"zarr_format":2,"shape":[1],"chunks":[1],"dtype":"<f8","fill_value":"NaN","order":"C","compressor":{"id":"zlib","level":1},"filters":null} => false
+{"zarr_format":2,"shape":[1],"chunks":[1],"dtype":"<f8","fill_value":"NaN","order":"C","compressor":{"id":"zlib","level":1},"filters":null} | {"zarr_format":2,"shape":[1],"chunks":[1],"dtype":"<f8","fill_value":"NaN","order":"C","compressor":{"level":1,"id":"zlib"},"filters":null} => true
+{"zarr_format":2,"shape":[1],"chunks":[1],"dtype":"<f8","fill_value":"NaN","order":"C","compressor":{"id":"zlib","level":1},"filters":null} | {"zarr_format":2,"shape":[1],"chunks":[1],"dtype":"<f8","fill_value":"NaN","order":"C","compressor":{"id":"zlib","level":2},"filters":null} => false
+{"zarr_format":2,"shape":[1],"chunks":[1],"dtype":"<f8","fill_value":"NaN","order":"C","compressor":{"id":"zlib","level":1},"filters":null} | {"zarr_format":2,"shape":[1],"chunks":[1],"dtype":"<f8","fill_value":"NaN","order":"C","compressor":{"id":"gzip","level":1},"filters":null} => false
+{"zarr_format":2,"shape":[1],"chunks":[1],"dtype":"<f8","fill_value":"NaN","order":"C","compressor":null,"filters":null} | {"zarr_format":2,"shape":[1],"chunks":[1],"dtype":"<f8","fill_value":"NaN","order":"C","compressor":null,"filters":[]} => false
+{"zarr_format":2,"shape":[1],"chunks":[1],"dtype":"<f8","fill_value":"NaN","order":"C","compressor":null,"filters":[{"id":"delta"}]} | {"zarr_format":2,"shape":[1],"chunks":[1],"dtype":"<f8","fill_value":"NaN","order":"C","compressor":null,"filters":[{"id":"delta"}]} => true
+{"zarr_format":2,"shape":[1],"chunks":[1],"dtype":"<f8","fill_value":"NaN","order":"C","compressor":null,"filters":[{"id":"delta"}]} | {"zarr_format":2,"shape":[1],"chunks":[1],"dtype":"<f8","fill_value":"NaN","order":"C","compressor":null,"filters":[{"id":"shuffle"}]} => false
+{"zarr_format":2,"shape":[1],"chunks":[1],"dtype":"<f8","fill_value":"NaN","order":"C","compressor":null,"filters":null} | {"zarr_format":2,"shape":[1],"chunks":[1],"dtype":"<f8","fill_value":"NaN","order":"C","compressor":null,"filters":null,"attributes":{"a":1}} => false
+{"zarr_format":2,"shape":[1],"chunks":[1],"dtype":"<f8","fill_value":"NaN","order":"C","compressor":null,"filters":null} | {"zarr_format":2,"shape":[1],"chunks":[1],"dtype":"<f8","fill_value":"NaN","order":"C","compressor":null,"filters":null,"x":1} => false
+{"zarr_format":2,"shape":[1],"chunks":[1],"dtype":"<f8","fill_value":"NaN","order":"C","compressor":null,"filters":null,"x":1} | {"zarr_format":2,"shape":[1],"chunks":[1],"dtype":"<f8","fill_value":"NaN","order":"C","compressor":null,"filters":null,"x":1} => true
+# versions and kinds
+{"node_type":"array","zarr_format":3,"shape":[1],"data_type":"float32","chunk_grid":{"name":"regular","configuration":{"chunk_shape":[1]}},"chunk_key_encoding":{"name":"default"},"fill_value":0,"codecs":[{"name":"bytes","configuration":{"endian":"little"}}]} | {"zarr_format":2,"shape":[1],"chunks":[1],"dtype":"<f8","fill_value":"NaN","order":"C","compressor":null,"filters":null} => false
+{"zarr_format":2,"shape":[1],"chunks":[1],"dtype":"<f8","fill_value":"NaN","order":"C","compressor":null,"filters":null} | {"node_type":"array","zarr_format":3,"shape":[1],"data_type":"float32","chunk_grid":{"name":"regular","configuration":{"chunk_shape":[1]}},"chunk_key_encoding":{"name":"default"},"fill_value":0,"codecs":[{"name":"bytes","configuration":{"endian":"little"}}]} => false
+{"node_type":"array","zarr_format":3,"shape":[1],"data_type":"float32","chunk_grid":{"name":"regular","configuration":{"chunk_shape":[1]}},"chunk_key_encoding":{"name":"default"},"fill_value":0,"codecs":[{"name":"bytes","configuration":{"endian":"little"}}]} | {"node_type":"group","zarr_format":3} => false
+{"node_type":"group","zarr_format":3} | {"node_type":"array","zarr_format":3,"shape":[1],"data_type":"float32","chunk_grid":{"name":"regular","configuration":{"chunk_shape":[1]}},"chunk_key_encoding":{"name":"default"},"fill_value":0,"codecs":[{"name":"bytes","configuration":{"endian":"little"}}]} => false
+{"zarr_format":2,"shape":[1],"chunks":[1],"dtype":"<f8","fill_value":"NaN","order":"C","compressor":null,"filters":null} | {"zarr_format":2} => false
+{"zarr_format":2} | {"zarr_format":2,"shape":[1],"chunks":[1],"dtype":"<f8","fill_value":"NaN","order":"C","compressor":null,"filters":null} => false
+"#;
+
+// Whether the metadata of two documents are the same.
+fn compared(alloc: Global, given: &str) -> Result<String, AllocError> {
+    let (first, second) = fields(given);
+    let second = second.as_bytes();
+    said(
+        alloc,
+        NodeMetadata::from_bytes(alloc, first.as_bytes()),
+        |first, alloc| {
+            said(
+                alloc,
+                NodeMetadata::from_bytes(alloc, second),
+                |second, alloc| { format!(in alloc; "{}", is_same_metadata(first, second)) },
+            )
+        },
+    )
+}
+
+#[test]
+fn groups_are_compared(rt: HostRuntime) -> Result<(), Fail> {
+    check_rows(rt.alloc(), GROUPS, compared)
+}
+
+#[test]
+fn arrays_are_compared(rt: HostRuntime) -> Result<(), Fail> {
+    check_rows(rt.alloc(), ARRAYS, compared)
+}
+
+// ---- what no document means
+
+// The attributes of a version 3 group, and whether the group is the same as itself.
+const ITSELF: &str = r#"
+{"a":1} => true
+{"a":0.5} => false
+{"a":[{"b":1e300}]} => false
+{"a":18446744073709551616} => false
+"#;
+
+// The object that a text is; the empty one where it is none, or where there is no memory.
+fn object_of(alloc: Global, text: &str) -> Object {
+    match Value::from_str(alloc, text) {
+        Ok(Value::Object(members)) => match Object::from_map(alloc, members) {
+            Ok(object) => object,
+            Err(_) => Object::new(alloc),
+        },
+        _ => Object::new(alloc),
+    }
+}
+
+// Whether a version 3 group with these attributes is the same as itself.
+fn compared_with_itself(alloc: Global, attributes: &str) -> Result<String, AllocError> {
+    let mut group = GroupMetadataV3::new(alloc);
+    group.attributes = object_of(alloc, attributes);
+    let node = NodeMetadata::Group(GroupMetadata::V3(group));
+    said(alloc, made(node), |node, alloc| {
+        format!(in alloc; "{}", is_same_metadata(node, node))
+    })
+}
+
+#[test]
+fn a_float_is_the_same_as_none(rt: HostRuntime) -> Result<(), Fail> {
+    check_rows(rt.alloc(), ITSELF, compared_with_itself)
+}

@@ -1,0 +1,4 @@
+pub mod SameSteps
+pub mod SameData
+pub mod SameParts
+pub mod SameNodes

@@ -1,0 +1,21 @@
+-- Zarr core specification 3.1, "Metadata documents", and specification version 2, "Metadata": when two nodes have the same metadata.
+-- <https://zarr-specs.readthedocs.io/en/latest/v3/core/index.html#metadata>
+-- <https://zarr-specs.readthedocs.io/en/latest/v2/v2.0.html#metadata>
+--     without_block      the metadata of a node, what is said of the nodes below it left out
+--     IsSame             that two nodes have the same metadata
+use Rattle.std.specs.Prelude.{◌≡◌, [], ◌∷◌, IsTrue, codes}
+use Rattle.zarrs_form.specs.Documents.{besides}
+use Rattle.zarrs_meta.specs.Node.{is_plain_node}
+use Rattle.zarrs_meta.specs.declared.node.GroupMetadata.TheVariants.{V3 as group_v3, V2 as group_v2}
+use Rattle.zarrs_meta.specs.declared.node.NodeMetadata.{NodeMetadata}
+use Rattle.zarrs_meta.specs.declared.node.NodeMetadata.TheVariants.{Group, Array}
+
+-- the metadata: of a version 3 group without its additional field `consolidated_metadata`, and all others as they are
+abbrev pub without_block : NodeMetadata → NodeMetadata
+without_block (Group (group_v3 m)) = Group (group_v3 (record m { additional_fields = besides (codes "consolidated_metadata" ∷ []) m.additional_fields }))
+without_block (Group (group_v2 m)) = Group (group_v2 m)
+without_block (Array m) = Array m
+
+-- two metadata are the same: both could have come from a document, and they are equal without that field
+abbrev pub IsSame : NodeMetadata → NodeMetadata → Type 0
+IsSame m n = IsTrue (is_plain_node m) × IsTrue (is_plain_node n) × (without_block m ≡ without_block n)

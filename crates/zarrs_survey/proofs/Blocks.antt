@@ -1,0 +1,198 @@
+-- The findings of a block: those of its keys, and those of its entries beside the nodes.
+use Rattle.std.proofs.Common.{◌≡◌, ◌↔◌, inl, inr, ⊎_elim, ℕ, Bool, true, false, List, [], ◌∷◌, ◌++◌, get_or, refl, sym, ap, subst, ◌∙◌, arith, Contains, AllPairs, Option, Some, None, is_some, true≢false}
+use Rattle.std.specs.List.{list_all}
+use Rattle.std.specs.Prelude.{IsSome}
+use Rattle.std.proofs.lemmas.List.Elements.{Contains-append_left, Contains-append_right, Contains-append_cases, Contains-get_or}
+use Rattle.std.proofs.lemmas.List.Kept.{AllPairs-cons}
+use Rattle.zarrs_store.specs.Contents.{Lists}
+use Rattle.zarrs_store.specs.Segments.{key_text}
+use Rattle.zarrs_path.specs.Names.{is_name}
+use Rattle.zarrs_path.specs.Paths.{Path, IsPath, IsBelow, path_cmp, relative_names}
+use Rattle.zarrs_meta.specs.declared.node.NodeMetadata.{NodeMetadata}
+use Rattle.zarrs_block.specs.Block.{Block, IsAscending, IsValidKey, HasValidKeys, node_at_key, first_some, entry, Entries}
+use Rattle.zarrs_node.specs.Reach.{HasGroup}
+use Rattle.zarrs_node.proofs.Found.{listed_each, all_pairs_first, all_pairs_tail}
+use Rattle.zarrs_node.proofs.Graft.{Contains-first, Contains-cons}
+use Rattle.zarrs_node.proofs.Keeps.{below_later}
+use Rattle.zarrs_node.proofs.Order.{contains_cases}
+use Rattle.zarrs_hierarchy.specs.PairsOfHierarchies.{Pairs}
+use Rattle.zarrs_hierarchy.specs.Tree.{pairs_below}
+use Rattle.zarrs_hierarchy.proofs.Below.{each_below}
+use Rattle.zarrs_survey.specs.Findings.{Pair, HasPath, IsReachable, IsCutOff, IsPathFinding, IsKeyFinding, IsFinding, AreFindings, Precedes}
+use Rattle.zarrs_survey.specs.StepsOfComparing.{ArePathFindings, IsBadAmong, IsRidOf, key_findings}
+use Rattle.zarrs_survey.specs.declared.finding.Finding.{Finding}
+use Rattle.zarrs_survey.specs.declared.finding.FindingKind.{FindingKind}
+use Rattle.zarrs_survey.specs.declared.finding.FindingKind.TheVariants.{BlockFault, BadKey, Shadowed, Unreachable, Stale, Differs, Missing}
+use Rattle.zarrs_survey.proofs.KeyFindings.{names_valid, keys_exact, told_ascend}
+
+-- ---- the block without its bad keys
+
+-- a bad key among findings is that of one of them
+among_in : (fs : List Finding) (t : List ℕ) → IsBadAmong fs t → (f : Finding) × Contains fs f × (f.kind ≡ BadKey t)
+among_in [] t h = absurd h
+among_in (f ∷ fs) t h = ⊎_elim
+    (λ is. (f, Contains-first f fs, is))
+    (λ later. let w = among_in fs t later in (w.0, Contains-cons f fs w.0 w.1, w.2))
+    h
+
+in_among : (fs : List Finding) (f : Finding) (t : List ℕ) → Contains fs f → f.kind ≡ BadKey t → IsBadAmong fs t
+in_among [] f t h is = absurd (omega (arith, h.1))
+in_among (g ∷ fs) f t h is = ⊎_elim
+    (λ same. inl (ap (λ x. x.kind) same ∙ is))
+    (λ later. inr (in_among fs f t later is))
+    (contains_cases g fs f h)
+
+-- what there is to tell of a bad key
+bad_key_of : (B : Block) (g p : Path) (k : FindingKind) (t : List ℕ) → k ≡ BadKey t → IsKeyFinding B g p k → IsValidKey t → ⊥
+bad_key_of B g p k t is h = (subst (IsKeyFinding B g p) is h).1.1
+
+module _ (g : Path) (B C : Block) (up : IsAscending B) (rid : IsRidOf (key_findings g B B) B C) where
+  -- a key that is told as bad is not valid
+  not_valid_among : (t : List ℕ) → IsBadAmong (key_findings g B B) t → IsValidKey t → ⊥
+  not_valid_among t h =
+      let w = among_in (key_findings g B B) t h in
+      bad_key_of B g w.0.path w.0.kind t w.2 ((keys_exact g B up w.0).0 w.1).1
+
+  -- and each that is not valid is told
+  told_bad : (t : List ℕ) → IsSome (node_at_key B t) → (IsValidKey t → ⊥) → IsBadAmong (key_findings g B B) t
+  told_bad t has not_valid =
+      let f : Finding = record { group = g; path = g; kind = BadKey t } in
+      in_among (key_findings g B B) f t ((keys_exact g B up f).1 (refl, (refl, (has, not_valid)))) refl
+
+  -- at a valid key nothing is changed
+  valid_same : (t : List ℕ) → IsValidKey t → node_at_key C t ≡ node_at_key B t
+  valid_same t valid = by (node_at_key B t) refl (node_at_key C t) refl
+    where
+      by : (o : Option NodeMetadata) → node_at_key B t ≡ o → (r : Option NodeMetadata) → node_at_key C t ≡ r → node_at_key C t ≡ node_at_key B t
+      by (Some m) is r has = (rid t m).1 (λ among. not_valid_among t among valid, is) ∙ sym is
+      by None is None has = has ∙ sym is
+      by None is (Some m) has = has ∙ sym ((rid t m).0 has).1
+
+  -- what is left are valid keys
+  pub rid_valid : HasValidKeys C
+  rid_valid t has = by (list_all is_name (relative_names t)) refl (node_at_key C t) refl has
+    where
+      by : (n : Bool) → list_all is_name (relative_names t) ≡ n → (o : Option NodeMetadata) → node_at_key C t ≡ o → IsSome o → IsValidKey t
+      by true n o is some = (names_valid t).1 n
+      by false n None is some = absurd (true≢false (sym some))
+      by false n (Some m) is some =
+          let w = (rid t m).0 is in
+          absurd (w.0 (told_bad t (ap is_some w.1) (λ v. true≢false (sym ((names_valid t).0 v) ∙ n))))
+
+  -- so the entries are the same
+  entry_same : (ns : Path) → IsPath ns → entry C ns ≡ entry B ns
+  entry_same ns h =
+      ap (λ o. first_some o (node_at_key C (47 ∷ key_text ns))) (valid_same (key_text ns) (ns, h, inl refl)) ∙ ap (first_some (node_at_key B (key_text ns))) (valid_same (47 ∷ key_text ns) (ns, h, inr refl))
+
+  pub entries_same : (e : Pair) → Entries C g e ↔ Entries B g e
+  entries_same e = (
+    λ (n, ns, h, is, has). (n, ns, h, is, sym (entry_same (n ∷ ns) h) ∙ has),
+    λ (n, ns, h, is, has). (n, ns, h, is, entry_same (n ∷ ns) h ∙ has),
+  )
+
+-- ---- findings turn on which pairs there are alone
+
+module _ (E E' N N' : Pair → Type 0) (F F' : Path → Type 0) (g : Path) (low : (d : Pair) → E d → IsBelow g d.0)
+    (e : (d : Pair) → E d ↔ E' d) (n : (d : Pair) → IsBelow g d.0 → N d ↔ N' d) (f : (q : Path) → F q ↔ F' q) where
+  same_group : (q : Path) → HasGroup E q ↔ HasGroup E' q
+  same_group q = (λ h. (h.0, (e (q, h.0)).0 h.1, h.2), λ h. (h.0, (e (q, h.0)).1 h.1, h.2))
+
+  same_entry : (p : Path) → HasPath E p → HasPath E' p
+  same_entry p h = (h.0, (e (p, h.0)).0 h.1)
+
+  same_reachable : (p : Path) → IsReachable E g p → IsReachable E' g p
+  same_reachable p r q above below = (same_group q).0 (r q above below)
+
+  same_cut : (p : Path) → IsCutOff E g p → IsCutOff E' g p
+  same_cut p h = (h.0, h.1, h.2, λ group. h.3 ((same_group h.0).1 group))
+
+  pub finding_same : (p : Path) (k : FindingKind) → IsPathFinding E N F g p k → IsPathFinding E' N' F' g p k
+  finding_same p Unreachable h = (same_entry p h.0, same_cut p h.1)
+  finding_same p Stale h =
+      let below = low (p, h.0.0) h.0.1 in
+      (same_entry p h.0, same_reachable p h.1, λ has. h.2 (has.0, (n (p, has.0) below).1 has.1), λ spoilt. h.3 (spoilt.0, (f spoilt.0).1 spoilt.1, spoilt.2))
+  finding_same p Differs h =
+      let below = low (p, h.0) h.2 in
+      (h.0, h.1, (e (p, h.0)).0 h.2, same_reachable p h.3, (n (p, h.1) below).0 h.4, h.5)
+  finding_same p Missing h = ((h.0.0, (n (p, h.0.0) h.1).0 h.0.1), h.1, λ has. h.2 (has.0, (e (p, has.0)).1 has.1))
+  finding_same p (BlockFault fault) h = absurd h
+  finding_same p (BadKey t) h = absurd h
+  finding_same p (Shadowed t) h = absurd h
+
+-- and so do those of keys and paths together
+pub findings_same : (B : Block) (N N' : Pair → Type 0) (F F' : Path → Type 0) (g : Path) → ((d : Pair) → N d ↔ N' d) → ((q : Path) → F q ↔ F' q) → (x : Finding) → IsFinding B N F g x → IsFinding B N' F' g x
+findings_same B N N' F F' g n f x h = (h.0, ⊎_elim inl (λ p. inr (finding_same (Entries B g) (Entries B g) N N' F F' g (λ d is. (is.0, is.1, is.3)) (λ d. (λ y. y, λ y. y)) (λ d below. n d) f x.path x.kind p)) h.1)
+
+-- ---- both lists in a row
+
+-- what ascends in two lists, each of the first before each of the second, ascends in both in a row
+pub all_pairs_append : {A : Type 0} (R : A → A → Type 0) (xs ys : List A) → AllPairs R xs → AllPairs R ys → ((x y : A) → Contains xs x → Contains ys y → R x y) → AllPairs R (xs ++ ys)
+all_pairs_append R [] ys up others across = others
+all_pairs_append R (x ∷ xs) ys up others across = AllPairs-cons R x (xs ++ ys)
+    (λ i d l. ⊎_elim
+    (λ first. all_pairs_first R x xs up (get_or (xs ++ ys) i d) first)
+    (λ second. across x (get_or (xs ++ ys) i d) (Contains-first x xs) second)
+    (Contains-append_cases xs ys (get_or (xs ++ ys) i d) (Contains-get_or (xs ++ ys) i d l)))
+    (all_pairs_append R xs ys (all_pairs_tail R x xs up) others (λ z y h k. across z y (Contains-cons x xs z h) k))
+
+module _ (g : Path) (B C : Block) (h : Pairs) (F : Path → Type 0) (es : List Pair) (others : List Finding) (up : IsAscending B) (rid : IsRidOf (key_findings g B B) B C)
+    (listed : Lists (Entries C g) es) (are : ArePathFindings (Contains es) (Contains (pairs_below g h)) F g others) where
+  -- an entry is one of the block, and below the group
+  each_entry : (d : Pair) → Contains es d ↔ Entries B g d
+  each_entry d = (λ in'. (entries_same g B C up rid d).0 ((listed_each listed d).0 in'), λ is. (listed_each listed d).1 ((entries_same g B C up rid d).1 is))
+
+  -- the findings of paths are those of the block's entries beside all nodes
+  path_exact : (f : Finding) → Contains others f ↔ ((f.group ≡ g) × IsPathFinding (Entries B g) (Contains h) F g f.path f.kind)
+  path_exact f = (
+    λ in'.
+        let w = (are.exact f).0 in' in (
+          w.0,
+          finding_same (Contains es) (Entries B g) (Contains (pairs_below g h)) (Contains h) F F g (λ d in''. let is = (each_entry d).0 in'' in (is.0, is.1, is.3)) each_entry
+              (λ d below. (λ x. ((each_below g h d).0 x).0, λ x. (each_below g h d).1 (x, below))) (λ q. (λ x. x, λ x. x)) f.path f.kind w.1,
+        ),
+    λ w.
+        (are.exact f).1 (
+          w.0,
+          finding_same (Entries B g) (Contains es) (Contains h) (Contains (pairs_below g h)) F F g (λ d is. (is.0, is.1, is.3)) (λ d. ((each_entry d).1, (each_entry d).0))
+              (λ d below. (λ x. (each_below g h d).1 (x, below), λ x. ((each_below g h d).0 x).0)) (λ q. (λ x. x, λ x. x)) f.path f.kind w.1,
+        ),
+  )
+
+  -- a finding of a path is below the group
+  path_below : (p : Path) (k : FindingKind) → IsPathFinding (Entries B g) (Contains h) F g p k → IsBelow g p
+  path_below p Unreachable w = (w.0.1.0, w.0.1.1, w.0.1.3)
+  path_below p Stale w = (w.0.1.0, w.0.1.1, w.0.1.3)
+  path_below p Differs w = (w.2.0, w.2.1, w.2.3)
+  path_below p Missing w = w.1
+  path_below p (BlockFault fault) w = absurd w
+  path_below p (BadKey t) w = absurd w
+  path_below p (Shadowed t) w = absurd w
+
+  -- both lists in a row are the findings of the block
+  pub found_all : (keys whole : List Finding) → keys ≡ key_findings g B B → whole ≡ keys ++ others → AreFindings B (Contains h) F g whole
+  found_all keys whole is all = subst (AreFindings B (Contains h) F g) (sym (all ∙ ap (λ x. x ++ others) is)) (record {
+    exact = λ f. (
+      λ in'. ⊎_elim
+          (λ first. let w = (keys_exact g B up f).0 first in (w.0, inl w.1))
+          (λ second. let w = (path_exact f).0 second in (w.0, inr w.1))
+          (Contains-append_cases (key_findings g B B) others f in'),
+      λ w. ⊎_elim
+          (λ key. Contains-append_left (key_findings g B B) others f ((keys_exact g B up f).1 (w.0, key)))
+          (λ path. Contains-append_right (key_findings g B B) others f ((path_exact f).1 (w.0, path)))
+          w.1,
+    );
+    ascend = all_pairs_append Precedes (key_findings g B B) others (told_ascend g B B up) (λ i j d l m. inl (are.ascend i j d l m))
+        (λ x y first second.
+        let key = (keys_exact g B up x).0 first in
+        let path = (path_exact y).0 second in
+        inl (ap (λ p. path_cmp p y.path) (at_group x.path x.kind key.1) ∙ below_later g y.path (path_below y.path y.kind path.1)));
+  })
+    where
+      at_group : (p : Path) (k : FindingKind) → IsKeyFinding B g p k → p ≡ g
+      at_group p (BadKey t) w = w.0
+      at_group p (Shadowed t) w = w.0
+      at_group p (BlockFault fault) w = absurd w
+      at_group p Unreachable w = absurd w
+      at_group p Stale w = absurd w
+      at_group p Differs w = absurd w
+      at_group p Missing w = absurd w

@@ -1,0 +1,11 @@
+pub mod Above
+pub mod Blocks
+pub mod Checking
+pub mod Comparing
+pub mod Halving
+pub mod KeyFindings
+pub mod LastGroup
+pub mod Merging
+pub mod Reading
+pub mod Ridding
+pub mod Surveying

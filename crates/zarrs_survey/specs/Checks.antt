@@ -1,0 +1,73 @@
+-- Zarr core specification 3.1, "Group metadata", the field `consolidated_metadata`, and the document `.zmetadata` of version 2: what there is to tell of all blocks of a store at a path and below it.
+-- <https://zarr-specs.readthedocs.io/en/latest/v3/core/index.html#group-metadata>
+-- <https://zarr.readthedocs.io/en/stable/user-guide/consolidated_metadata/>
+--     block_read s p m      what is read as the block of a node: nothing, or a block, or its first fault
+--     HasNode s v b e       the base with its metadata, or a node below it
+--     IsBlockFinding s v b f      what there is to tell of the blocks
+--     AreBlockFindings s v b found      the findings are exactly those, each once, in the order of groups, paths and keys
+use Rattle.std.specs.Prelude.{◌≡◌, ◌⊎◌, ◌↔◌, true, List, [], ◌∷◌, ◌++◌, AllPairs, Contains, Option, Some, None, option_map, Result, Ok, Err, codes}
+use Rattle.std.specs.declared.cmp.Ordering.TheVariants.{Less}
+use Rattle.std.specs.FinMap.{get}
+use Rattle.serde_json.specs.Find.{get_member}
+use Rattle.zarrs_fault.specs.declared.fault.MetadataFault.{MetadataFault}
+use Rattle.zarrs_store.specs.Contents.{Contents}
+use Rattle.zarrs_path.specs.Keys.{zmetadata}
+use Rattle.zarrs_path.specs.Paths.{Path, path_cmp}
+use Rattle.zarrs_config.specs.declared.version.MetadataRetrieveVersion.{MetadataRetrieveVersion}
+use Rattle.zarrs_form.specs.Documents.{of_bytes}
+use Rattle.zarrs_meta.specs.declared.node.GroupMetadata.TheVariants.{V2, V3}
+use Rattle.zarrs_meta.specs.declared.node.NodeMetadata.{NodeMetadata}
+use Rattle.zarrs_meta.specs.declared.node.NodeMetadata.TheVariants.{Group, Array}
+use Rattle.zarrs_block.specs.Block.{Block, block_of}
+use Rattle.zarrs_block.specs.declared.consolidated.ConsolidatedMetadata.{ConsolidatedMetadata}
+use Rattle.zarrs_block.specs.Meaning.{meaning, node}
+use Rattle.zarrs_block.specs.Zmetadata.{zmetadata_of}
+use Rattle.zarrs_block.specs.declared.node_create_error.NodeCreateError.{NodeCreateError}
+use Rattle.zarrs_node.specs.Nodes.{Nodes}
+use Rattle.zarrs_survey.specs.Findings.{Pair, IsFinding, Precedes}
+use Rattle.zarrs_survey.specs.Surveys.{BadDocuments}
+use Rattle.zarrs_survey.specs.declared.finding.Finding.{Finding}
+use Rattle.zarrs_survey.specs.declared.finding.FindingKind.TheVariants.{BlockFault}
+
+-- what is read as the block of a node: of a version 3 group its field, of one of version 2 the document beside its own; an array has none
+abbrev pub block_read : Contents → Path → NodeMetadata → Option (Result Block MetadataFault)
+block_read s p (Group (V3 g)) = option_map block_of (get_member (codes "consolidated_metadata") g.additional_fields)
+block_read s p (Group (V2 g)) = option_map (λ bytes. of_bytes zmetadata_of bytes) (get s (p ++ zmetadata ∷ []))
+block_read s p (Array a) = None
+
+-- what was read as a block, as it is seen
+abbrev pub as_read : Option (Result ConsolidatedMetadata MetadataFault) → Option (Result Block MetadataFault)
+as_read None = None
+as_read (Some (Ok block)) = Some (Ok block.metadata)
+as_read (Some (Err fault)) = Some (Err fault)
+
+-- the base with its metadata, or a node that a listing finds below it
+abbrev pub HasNode : Contents → MetadataRetrieveVersion → Path → Pair → Type 0
+HasNode s v b e = ((e.0 ≡ b) × (meaning s v b ≡ node e.1)) ⊎ Nodes s v true b e
+
+-- some reached path has a bad document
+abbrev pub HasBadDocument : Contents → MetadataRetrieveVersion → Path → Path → Type 0
+HasBadDocument s v b q = (e : NodeCreateError) × BadDocuments s v b (q, e)
+
+-- the whole block is at fault
+abbrev pub fault_of_block : Path → MetadataFault → Finding
+fault_of_block g fault = record { group = g; path = g; kind = BlockFault fault }
+
+-- what there is to tell of what was read as the block of g, beside the nodes N and the bad documents F
+abbrev pub IsToldOf : Option (Result Block MetadataFault) → (Pair → Type 0) → (Path → Type 0) → Path → Finding → Type 0
+IsToldOf None N F g f = ⊥
+IsToldOf (Some (Err fault)) N F g f = f ≡ fault_of_block g fault
+IsToldOf (Some (Ok B)) N F g f = IsFinding B N F g f
+
+-- what there is to tell of the blocks of a store at b and below it
+abbrev pub IsBlockFinding : Contents → MetadataRetrieveVersion → Path → Finding → Type 0
+IsBlockFinding s v b f = (m : NodeMetadata) × HasNode s v b (f.group, m) × IsToldOf (block_read s f.group m) (Nodes s v true b) (HasBadDocument s v b) f.group f
+
+-- a finding stands before another: its group does, or of one group it precedes the other
+abbrev pub IsBefore : Finding → Finding → Type 0
+IsBefore f h = (path_cmp f.group h.group ≡ Less) ⊎ ((f.group ≡ h.group) × Precedes f h)
+
+-- the findings are exactly what there is to tell of the blocks at b and below it, each once, in the order of groups, paths and keys
+pub record AreBlockFindings (s : Contents) (v : MetadataRetrieveVersion) (b : Path) (found : List Finding) : Type 0 where
+  pub exact : (f : Finding) → Contains found f ↔ IsBlockFinding s v b f
+  pub ascend : AllPairs IsBefore found

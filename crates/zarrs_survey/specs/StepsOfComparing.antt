@@ -1,0 +1,78 @@
+-- Steps of comparing: what comes first of two ascending lists of pairs, by path, and what is told of keys; no public contract rests on them.
+use Rattle.std.specs.Prelude.{◌≡◌, ◌↔◌, ℕ, Bool, true, false, Option, Some, None, List, [], ◌∷◌, ◌++◌, Contains, AllPairs, ◌⊎◌, if◌then◌else◌}
+use Rattle.std.specs.List.{list_all}
+use Rattle.std.specs.declared.cmp.Ordering.TheVariants.{Less}
+use Rattle.zarrs_path.specs.Names.{is_name}
+use Rattle.zarrs_path.specs.Paths.{Path, path_cmp, IsBelow, relative_names}
+use Rattle.zarrs_meta.specs.declared.node.NodeMetadata.{NodeMetadata}
+use Rattle.zarrs_block.specs.Block.{Block, node_at_key}
+use Rattle.zarrs_block.specs.BlockExpansion.{is_covered}
+use Rattle.zarrs_compare.specs.Same.{IsSame}
+use Rattle.zarrs_survey.specs.Findings.{Pair, IsPathFinding, IsAtOrAbove}
+use Rattle.zarrs_survey.specs.declared.compare.Turn.{Turn}
+use Rattle.zarrs_survey.specs.declared.compare.Turn.TheVariants.{Entry, Node, Both, End}
+use Rattle.zarrs_survey.specs.declared.finding.Finding.{Finding}
+use Rattle.zarrs_survey.specs.declared.finding.FindingKind.{FindingKind}
+use Rattle.zarrs_survey.specs.declared.finding.FindingKind.TheVariants.{BadKey, Shadowed, Unreachable, Stale, Differs}
+
+-- the findings are exactly those of the paths of entries and nodes, all of the group g, each once, in the order of paths
+pub record ArePathFindings (E N : Pair → Type 0) (F : Path → Type 0) (g : Path) (found : List Finding) : Type 0 where
+  pub exact : (f : Finding) → Contains found f ↔ ((f.group ≡ g) × IsPathFinding E N F g f.path f.kind)
+  pub ascend : AllPairs (λ f h. path_cmp f.path h.path ≡ Less) found
+
+-- each pair is below g
+abbrev pub AreBelow : Path → List Pair → Type 0
+AreBelow g es = (e : Pair) → Contains es e → IsBelow g e.0
+
+-- p without its last name is g or above it
+abbrev pub HangsFrom : Path → Path → Type 0
+HangsFrom g p = (r : Path) × (n : List ℕ) × (p ≡ r ++ n ∷ []) × IsAtOrAbove r g
+
+-- p stands before the first of the pairs
+abbrev pub IsBeforeFirst : Path → List Pair → Type 0
+IsBeforeFirst p [] = Unit {0}
+IsBeforeFirst p (e ∷ es) = path_cmp p e.0 ≡ Less
+
+-- what comes first of the entries and the nodes, and what is left of the lists
+abbrev pub IsTurn : List Pair → List Pair → Turn → Type 0
+IsTurn es ns (Entry e rest) = (es ≡ e.now ∷ rest.now) × IsBeforeFirst e.now.0 ns
+IsTurn es ns (Node n rest) = (ns ≡ n.now ∷ rest.now) × IsBeforeFirst n.now.0 es
+IsTurn es ns (Both e rest n others) = (es ≡ e.now ∷ rest.now) × (ns ≡ n.now ∷ others.now) × (e.now.0 ≡ n.now.0)
+IsTurn es ns End = (es ≡ []) × (ns ≡ [])
+
+-- what is to be told of an entry without a node, which is reachable or not, and spoilt or not
+abbrev pub IsLoneKind : Bool → Type 0 → Option FindingKind → Type 0
+IsLoneKind false spoilt kind = kind ≡ Some Unreachable
+IsLoneKind true spoilt None = spoilt
+IsLoneKind true spoilt (Some k) = (k ≡ Stale) × (spoilt → ⊥)
+
+-- what is to be told of an entry with these metadata, which is reachable or not, beside a node with others
+abbrev pub IsPairKind : Bool → NodeMetadata → NodeMetadata → Option FindingKind → Type 0
+IsPairKind false m n kind = kind ≡ Some Unreachable
+IsPairKind true m n None = IsSame m n
+IsPairKind true m n (Some k) = (k ≡ Differs) × (IsSame m n → ⊥)
+
+-- the finding, if there is one
+abbrev pub findings_at : Path → Path → Option FindingKind → List Finding
+findings_at g p None = []
+findings_at g p (Some k) = record { group = g; path = p; kind = k } ∷ []
+
+-- ---- keys
+
+-- what is to be told of a key
+abbrev pub key_kind : Block → List ℕ → Option FindingKind
+key_kind B t = if list_all is_name (relative_names t) then (if is_covered B t then Some (Shadowed t) else None) else Some (BadKey t)
+
+-- what is to be told of the keys of these entries of a block
+abbrev pub key_findings : Path → Block → Block → List Finding
+key_findings g B [] = []
+key_findings g B (e ∷ es) = findings_at g g (key_kind B e.0) ++ key_findings g B es
+
+-- the text is that of a bad key among the findings
+abbrev pub IsBadAmong : List Finding → List ℕ → Type 0
+IsBadAmong [] t = ⊥
+IsBadAmong (f ∷ fs) t = (f.kind ≡ BadKey t) ⊎ IsBadAmong fs t
+
+-- C has what B has at the keys that are not bad among the findings, and nothing else
+abbrev pub IsRidOf : List Finding → Block → Block → Type 0
+IsRidOf fs B C = (t : List ℕ) (m : NodeMetadata) → (node_at_key C t ≡ Some m) ↔ ((IsBadAmong fs t → ⊥) × (node_at_key B t ≡ Some m))

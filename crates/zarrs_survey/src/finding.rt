@@ -1,0 +1,40 @@
+//! What is wrong with the block of a group.
+use zarrs_fault::MetadataFault;
+use zarrs_form::Text;
+use zarrs_path::NodePath;
+
+/// What is wrong with the consolidated block of a group, and where.
+///
+/// Source: own.
+/// <https://zarr.readthedocs.io/en/stable/user-guide/consolidated_metadata/>
+#[derive(Debug, Drop)]
+pub struct Finding {
+    /// The path of the group.
+    pub group: NodePath,
+    /// The path of the entry or of the node that it is of; of a key, or of the whole block, that of the group.
+    pub path: NodePath,
+    /// What is wrong.
+    pub kind: FindingKind,
+}
+
+/// What is wrong with a consolidated block.
+///
+/// Source: own.
+/// <https://zarr.readthedocs.io/en/stable/user-guide/consolidated_metadata/>
+#[derive(Debug, Drop)]
+pub enum FindingKind {
+    /// The field or the document of the block is there and does not read as one: its first fault.
+    BlockFault(MetadataFault),
+    /// A key that is no relative path.
+    BadKey(Text),
+    /// A key that begins with a slash, where the block has the key without it too: it does not count.
+    Shadowed(Text),
+    /// An entry, and some path between it and the group is no group of the block.
+    Unreachable,
+    /// An entry, and the store has no node at its path.
+    Stale,
+    /// An entry, and the store has a node with other metadata at its path.
+    Differs,
+    /// A node of the store, and the block has no entry at its path.
+    Missing,
+}

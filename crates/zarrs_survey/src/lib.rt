@@ -1,0 +1,17 @@
+//! A survey of a store: every node, every path without documents and all that is bad at a path and below it; and what there is to tell of the
+//! consolidated block of a group beside it.
+#![tactic(auto)]
+
+mod bad_documents;
+mod block;
+mod check;
+mod compare;
+mod finding;
+mod keys;
+mod survey;
+
+pub use bad_documents::BadDocuments;
+pub use block::compare_block;
+pub use check::{Check, read_block};
+pub use finding::{Finding, FindingKind};
+pub use survey::Survey;

@@ -1,0 +1,133 @@
+//! A survey of a store.
+ghost use Rattle.std.specs.Prelude.{◌≡◌, IfOk, IfErr};
+ghost use Rattle.zarrs_block.specs.Refusals.{IsExcused};
+ghost use Rattle.zarrs_survey.specs.Surveys.{IsBase, IsSurveyOf};
+ghost use Rattle.zarrs_survey.specs.StepsOfSurveys.{is_of_node, HasPaths, HaveApartDocuments, documents_of, names_of};
+
+use crate::bad_documents::BadDocuments;
+use log::{Log, warn};
+use std::alloc::{AllocError, Global};
+use zarrs_block::NodeCreateError;
+use zarrs_config::MetadataRetrieveVersion;
+use zarrs_hierarchy::Hierarchy;
+use zarrs_meta::NodeMetadata;
+use zarrs_node::{Node, NodeFault, walk_past_faults};
+use zarrs_path::NodePath;
+use zarrs_store::{ListableStorageTraits, ReadableStorageTraits, StorageError, StorePrefix};
+
+/// All that a store has at a path, the base, and below it: its nodes, the paths without documents, and what is bad.
+///
+/// Source: own.
+/// <https://zarr-specs.readthedocs.io/en/latest/v3/core/index.html#hierarchy>
+#[derive(Debug, Drop)]
+pub struct Survey {
+    /// The path of the base.
+    pub path: NodePath,
+    /// The metadata of the base, or why it is no node: it has no document, or a bad one.
+    pub base: Result<NodeMetadata, NodeCreateError>,
+    /// The nodes below the base.
+    pub nodes: Hierarchy,
+    /// The paths without documents that were passed over with all below them, in the order of paths.
+    pub ignored: Vec<NodePath>,
+    /// The paths below the base whose documents are bad, each with its error. Below them nothing was looked at.
+    pub bad_documents: BadDocuments,
+    /// The paths below the base whose last name is made of periods only, in the order of paths. Below them nothing was looked at.
+    pub bad_names: Vec<StorePrefix>,
+}
+
+impl Survey {
+    /// Surveys what a store has at a path and below it, by the documents of a version. It goes on past what is bad, and warns of each path
+    /// without documents that it passes over. Of a base that is no node what is below it is looked at all the same.
+    ///
+    /// # Errors
+    ///
+    /// `StorageError::Fault` of a store that can fail, and `OutOfMemory` when out of memory.
+    ///
+    /// Source: own.
+    pub fn of_store<L: Log, S: ReadableStorageTraits + ListableStorageTraits>(
+        log: &L,
+        alloc: Global,
+        storage: &S,
+        path: &NodePath,
+        version: &MetadataRetrieveVersion,
+    ) -> Result<Survey, NodeCreateError>
+        ensures surveyed { IfOk result
+            (IsSurveyOf (S.contents storage.now) version.now path.now) }
+        ensures excused { IfErr result (IsExcused (S.can_fail storage.now)) }
+    {
+        let _valid = path.as_str();
+        let base = base_of(alloc, storage, path, version)?;
+        let mut nodes = Vec::new(alloc);
+        let walked = walk_past_faults(alloc, storage, path, version, &mut nodes)?;
+        warn_ignored(log, &walked.ignored);
+        let (bad_documents, bad_names) = sort_faults(alloc, walked.faults)?;
+        Ok(Survey {
+            path: path.try_clone(alloc)?,
+            base,
+            nodes: Hierarchy::from_ascending(nodes),
+            ignored: walked.ignored,
+            bad_documents,
+            bad_names,
+        })
+    }
+}
+
+// The metadata of the base, or why it is no node.
+fn base_of<S: ReadableStorageTraits>(
+    alloc: Global,
+    storage: &S,
+    path: &NodePath,
+    version: &MetadataRetrieveVersion,
+) -> Result<Result<NodeMetadata, NodeCreateError>, NodeCreateError>
+    ensures base { IfOk result (IsBase (S.contents storage.now) version.now path.now) }
+    ensures excused { IfErr result (IsExcused (S.can_fail storage.now)) }
+{
+    match Node::get_metadata(alloc, storage, path, version) {
+        Ok(metadata) => Ok(Ok(metadata)),
+        Err(refusal) if is_of_node(&refusal) => Ok(Err(refusal)),
+        Err(refusal) => Err(refusal),
+    }
+}
+
+// Whether a refusal says something of the node: that there is none, or that its document is bad.
+fn is_of_node(refusal: &NodeCreateError) -> bool
+    ensures { result ≡ is_of_node refusal.now }
+{
+    matches!(
+        refusal,
+        NodeCreateError::MissingMetadata(_)
+            | NodeCreateError::MetadataVersionMismatch
+            | NodeCreateError::StorageError(StorageError::InvalidMetadata(_, _))
+    )
+}
+
+// Warns of each path that was passed over.
+fn warn_ignored<L: Log>(log: &L, ignored: &[NodePath]) {
+    for path in ignored {
+        warn!(log; "Object at {path} is not recognized as a component of a Zarr hierarchy. Ignoring.");
+    }
+}
+
+// The bad documents and the bad names, each in their order.
+fn sort_faults(
+    alloc: Global,
+    faults: Vec<(StorePrefix, NodeFault)>,
+) -> Result<(BadDocuments, Vec<StorePrefix>), AllocError>
+    requires paths { HasPaths faults.items }
+    requires apart { HaveApartDocuments faults.items }
+    ensures documents { IfOk result (λ sorted. sorted.0 ≡ documents_of faults.items) }
+    ensures names { IfOk result (λ sorted. sorted.1.items ≡ names_of faults.items) }
+{
+    let mut documents = Vec::new(alloc);
+    let mut names = Vec::new(alloc);
+    for (prefix, fault) in faults {
+        match fault {
+            NodeFault::Name => names.push(prefix)?,
+            NodeFault::Document(error) => {
+                let path = NodePath::from_valid_prefix(prefix)?;
+                documents.push((path, error))?;
+            }
+        }
+    }
+    Ok((BadDocuments::new(documents), names))
+}
