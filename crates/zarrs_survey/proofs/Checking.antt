@@ -17,7 +17,7 @@ use Rattle.zarrs_node.proofs.Graft.{Contains-first}
 use Rattle.zarrs_node.proofs.Keeps.{below_later, all_pairs_across}
 use Rattle.zarrs_node.proofs.Order.{contains_cases}
 use Rattle.zarrs_hierarchy.proofs.Opening.{node_one}
-use Rattle.zarrs_survey.specs.Checks.{block_read, HasNode, HasBadDocument, fault_of_block, IsToldOf, IsBefore, AreBlockFindings}
+use Rattle.zarrs_survey.specs.Checks.{block_read, HasNode, HasBadPath, fault_of_block, IsToldOf, StandsBefore, AreBlockFindings}
 use Rattle.zarrs_survey.specs.Findings.{Pair, AreFindings}
 use Rattle.zarrs_survey.specs.StepsOfChecks.{AreTold, HasBad, HasNodeIn, AreFindingsOf}
 use Rattle.zarrs_survey.specs.StepsOfComparing.{AreBelow}
@@ -72,7 +72,7 @@ of_more s survey P g m found more whole before is told h = subst (AreFindingsOf 
         (λ new. Contains-append_right found more f ((told.exact f).1 (subst (λ (d : Pair). IsToldOf (block_read s d.0 d.1) (Contains survey.nodes) (HasBad survey) d.0 f) new w.2)))
         w.1,
   );
-  ascend = all_pairs_append IsBefore found more h.ascend
+  ascend = all_pairs_append StandsBefore found more h.ascend
       (λ i j d l k. inr (
         of_group (get_or more i d) (Contains-get_or more i d (omega (arith, l, k))) ∙ sym (of_group (get_or more j d) (Contains-get_or more j d k)),
         told.ascend i j d l k,
@@ -165,7 +165,7 @@ module _ (s : Contents) (v : MetadataRetrieveVersion) (b : Path) (survey : Surve
   nodes_same d = listed_each h.nodes.held d
 
   -- so are the bad documents
-  bad_same : (q : Path) → HasBad survey q ↔ HasBadDocument s v b q
+  bad_same : (q : Path) → HasBad survey q ↔ HasBadPath s v b q
   bad_same q = (λ w. (w.0, (listed_each h.bad_documents (q, w.0)).0 w.1), λ w. (w.0, (listed_each h.bad_documents (q, w.0)).1 w.1))
 
   -- the base or a node of the survey is one of the store
@@ -179,11 +179,11 @@ module _ (s : Contents) (v : MetadataRetrieveVersion) (b : Path) (survey : Surve
   pub of_survey : (found : List Finding) → AreFindingsOf s survey (HasNodeIn survey) found → AreBlockFindings s v b found
   of_survey found told = record {
     exact = λ f. (
-      λ in'. let w = (told.exact f).0 in' in (w.0, (has_node (f.group, w.0)).0 w.1, told_same (block_read s f.group w.0) (Contains survey.nodes) (Nodes s v true b) (HasBad survey) (HasBadDocument s v b) f.group nodes_same bad_same f w.2),
+      λ in'. let w = (told.exact f).0 in' in (w.0, (has_node (f.group, w.0)).0 w.1, told_same (block_read s f.group w.0) (Contains survey.nodes) (Nodes s v true b) (HasBad survey) (HasBadPath s v b) f.group nodes_same bad_same f w.2),
       λ w. (told.exact f).1 (
         w.0,
         (has_node (f.group, w.0)).1 w.1,
-        told_same (block_read s f.group w.0) (Nodes s v true b) (Contains survey.nodes) (HasBadDocument s v b) (HasBad survey) f.group (λ d. ((nodes_same d).1, (nodes_same d).0)) (λ q. ((bad_same q).1, (bad_same q).0)) f w.2,
+        told_same (block_read s f.group w.0) (Nodes s v true b) (Contains survey.nodes) (HasBadPath s v b) (HasBad survey) f.group (λ d. ((nodes_same d).1, (nodes_same d).0)) (λ q. ((bad_same q).1, (bad_same q).0)) f w.2,
       ),
     );
     ascend = told.ascend;

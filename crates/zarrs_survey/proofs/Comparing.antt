@@ -14,7 +14,7 @@ use Rattle.zarrs_survey.specs.declared.finding.FindingKind.TheVariants.{BlockFau
 use Rattle.zarrs_survey.specs.Findings.{Pair, HasPath, IsReachable, IsCutOff, IsSpoilt, IsPathFinding}
 use Rattle.zarrs_survey.specs.StepsOfComparing.{ArePathFindings, HangsFrom, IsBeforeFirst, IsLoneKind, IsPairKind, findings_at}
 use Rattle.zarrs_survey.proofs.Merging.{IsLeft, IsRest, IsTold, IsStep, step_entry, step_node, step_both, none_at, only_first, before_all, rest_same, rest_next, rest_all, told_none, told_same, told_more}
-use Rattle.zarrs_survey.proofs.LastGroup.{reached_or_not, IsBefore, IsLastGroup, base_is_last, last_after_group, last_after_other, hanging_reached, reached_hanging}
+use Rattle.zarrs_survey.proofs.LastGroup.{reached_or_not, StandsBefore, IsLastGroup, base_is_last, last_after_group, last_after_other, hanging_reached, reached_hanging}
 
 -- a finding of the group b by its path and kind
 abbrev pub finding : Path → Path → FindingKind → Finding
@@ -51,7 +51,7 @@ holds_none F b es ns up_e up_n = record {
 }
 
 -- a path before the first of ascending pairs is before each
-before : (p : Path) (ns : List Pair) → Ascend ns → IsBeforeFirst p ns → IsBefore ns p
+before : (p : Path) (ns : List Pair) → Ascend ns → IsBeforeFirst p ns → StandsBefore ns p
 before p [] up h l has = absurd (omega (arith, has.1.1))
 before p (n ∷ ns) up h l has = before_all path_cmp path_total p n ns up h l has
 
@@ -142,7 +142,7 @@ module _ (E N : Pair → Type 0) (F : Path → Type 0) (b : Path) where
       only_entry = only_first path_cmp path_total (IsLeft (e ∷ es) ns) E e es h.entries (inl (e.1, Contains-first e es))
 
       -- a pair of E is left, or before those that are
-      left_or_before : (d : Pair) → E d → Contains (e ∷ es) d ⊎ IsBefore (e ∷ es) d.0
+      left_or_before : (d : Pair) → E d → Contains (e ∷ es) d ⊎ StandsBefore (e ∷ es) d.0
       left_or_before d is = ⊎_elim inl (λ past. inr (λ l has. past l (inl has))) (h.entries.complete d is)
 
       -- where it does not hang from the group, it is not reached

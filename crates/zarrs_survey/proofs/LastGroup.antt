@@ -15,14 +15,14 @@ use Rattle.zarrs_survey.proofs.Merging.{not_before, first_before}
 use Rattle.zarrs_survey.proofs.Above.{same_or_not, at_itself, at_or_above, above_up, up_cases, goes_through}
 
 -- p stands before each of the pairs
-abbrev pub IsBefore : List Pair → Path → Type 0
-IsBefore es p = (l : Path) → HasPath (Contains es) l → path_cmp p l ≡ Less
+abbrev pub StandsBefore : List Pair → Path → Type 0
+StandsBefore es p = (l : Path) → HasPath (Contains es) l → path_cmp p l ≡ Less
 
 -- of the entries E below b, with es left: each path from below b to g is a group, and so is no other that was reached and has something below it left
 pub record IsLastGroup (E : Pair → Type 0) (b : Path) (es : List Pair) (g : Path) : Type 0 where
   pub groups : (q : Path) → IsBelow b q → IsAtOrAbove q g → HasGroup E q
   pub base : IsAtOrAbove b g
-  pub waits : (q : Path) → HasGroup E q → IsReachable E b q → IsBefore es q → (d : Path) → HasPath (Contains es) d → IsBelow q d → IsAtOrAbove q g
+  pub waits : (q : Path) → HasGroup E q → IsReachable E b q → StandsBefore es q → (d : Path) → HasPath (Contains es) d → IsBelow q d → IsAtOrAbove q g
 
 -- before the first entry it is the base
 pub base_is_last : (b : Path) (es : List Pair) → IsLastGroup (Contains es) b es b
@@ -64,9 +64,9 @@ module _ (E : Pair → Type 0) (b : Path) where
             (up_cases b r (w.0, refl)),
       )
 
-  module _ (e : Pair) (es : List Pair) (g : Path) (up : Ascend (e ∷ es)) (o : IsLastGroup E b (e ∷ es) g) (all : (d : Pair) → E d → Contains (e ∷ es) d ⊎ IsBefore (e ∷ es) d.0) where
+  module _ (e : Pair) (es : List Pair) (g : Path) (up : Ascend (e ∷ es)) (o : IsLastGroup E b (e ∷ es) g) (all : (d : Pair) → E d → Contains (e ∷ es) d ⊎ StandsBefore (e ∷ es) d.0) where
     -- a group before the entries behind the first is the first, or before it
-    earlier : (q : Path) → HasGroup E q → IsBefore es q → (e.0 ≡ q) ⊎ IsBefore (e ∷ es) q
+    earlier : (q : Path) → HasGroup E q → StandsBefore es q → (e.0 ≡ q) ⊎ StandsBefore (e ∷ es) q
     earlier q group before = ⊎_elim
         (λ in'. ⊎_elim (λ same. inl (ap (λ x. x.0) same)) (λ later. absurd (not_before path_cmp path_total q (before q (group.0, later)))) (contains_cases e es (q, group.0) in'))
         inr

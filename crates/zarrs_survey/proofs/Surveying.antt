@@ -22,7 +22,7 @@ use Rattle.zarrs_node.proofs.Order.{contains_cases}
 use Rattle.zarrs_node.proofs.Unique.{names_irrefl}
 use Rattle.zarrs_node.proofs.Walked.{reached_path}
 use Rattle.zarrs_survey.specs.Surveys.{BadDocuments, BadNames}
-use Rattle.zarrs_survey.specs.StepsOfSurveys.{is_of_node, HasPath, HasPaths, documents_of, names_of, HaveApartDocuments}
+use Rattle.zarrs_survey.specs.StepsOfSurveys.{is_of_node, IsOfPath, HasPaths, documents_of, names_of, HaveApartDocuments}
 
 -- a path with what is bad there
 abbrev PathFault : Type 0
@@ -124,7 +124,7 @@ module _ (s : Contents) (v : MetadataRetrieveVersion) (b : Path) where
     pub have_paths : IsPath b → HasPaths fs
     have_paths valid = λ i d l. by (get_or fs i d).0 (get_or fs i d).1 (h.sound i d l)
       where
-        by : (p : Path) (k : NodeFault) → Faults s v true b (p, k) → HasPath p k
+        by : (p : Path) (k : NodeFault) → Faults s v true b (p, k) → IsOfPath p k
         by p Name f = tt
         by p (Document e) f = reached_path (MeansNode s v) true b p valid f.0
 
@@ -156,7 +156,7 @@ pub name_next : (left rest : List PathFault) (p : Path) (done new whole : List P
 name_next left rest p done new whole is more h = ap (λ x. x ++ names_of rest) more ∙ append_assoc done (p ∷ []) (names_of rest) ∙ ap (λ fs. done ++ names_of fs) (sym is) ∙ h
 
 -- the first of the faults is no matter for the others
-pub paths_first : (left rest : List PathFault) (f : PathFault) → left ≡ f ∷ rest → HasPaths left → HasPath f.0 f.1
+pub paths_first : (left rest : List PathFault) (f : PathFault) → left ≡ f ∷ rest → HasPaths left → IsOfPath f.0 f.1
 paths_first left rest f is h = subst HasPaths is h 0 f (omega arith)
 
 pub paths_rest : (left rest : List PathFault) (f : PathFault) → left ≡ f ∷ rest → HasPaths left → HasPaths rest

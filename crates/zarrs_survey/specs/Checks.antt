@@ -46,8 +46,8 @@ abbrev pub HasNode : Contents → MetadataRetrieveVersion → Path → Pair → 
 HasNode s v b e = ((e.0 ≡ b) × (meaning s v b ≡ node e.1)) ⊎ Nodes s v true b e
 
 -- some reached path has a bad document
-abbrev pub HasBadDocument : Contents → MetadataRetrieveVersion → Path → Path → Type 0
-HasBadDocument s v b q = (e : NodeCreateError) × BadDocuments s v b (q, e)
+abbrev pub HasBadPath : Contents → MetadataRetrieveVersion → Path → Path → Type 0
+HasBadPath s v b q = (e : NodeCreateError) × BadDocuments s v b (q, e)
 
 -- the whole block is at fault
 abbrev pub fault_of_block : Path → MetadataFault → Finding
@@ -61,13 +61,13 @@ IsToldOf (Some (Ok B)) N F g f = IsFinding B N F g f
 
 -- what there is to tell of the blocks of a store at b and below it
 abbrev pub IsBlockFinding : Contents → MetadataRetrieveVersion → Path → Finding → Type 0
-IsBlockFinding s v b f = (m : NodeMetadata) × HasNode s v b (f.group, m) × IsToldOf (block_read s f.group m) (Nodes s v true b) (HasBadDocument s v b) f.group f
+IsBlockFinding s v b f = (m : NodeMetadata) × HasNode s v b (f.group, m) × IsToldOf (block_read s f.group m) (Nodes s v true b) (HasBadPath s v b) f.group f
 
 -- a finding stands before another: its group does, or of one group it precedes the other
-abbrev pub IsBefore : Finding → Finding → Type 0
-IsBefore f h = (path_cmp f.group h.group ≡ Less) ⊎ ((f.group ≡ h.group) × Precedes f h)
+abbrev pub StandsBefore : Finding → Finding → Type 0
+StandsBefore f h = (path_cmp f.group h.group ≡ Less) ⊎ ((f.group ≡ h.group) × Precedes f h)
 
 -- the findings are exactly what there is to tell of the blocks at b and below it, each once, in the order of groups, paths and keys
 pub record AreBlockFindings (s : Contents) (v : MetadataRetrieveVersion) (b : Path) (found : List Finding) : Type 0 where
   pub exact : (f : Finding) → Contains found f ↔ IsBlockFinding s v b f
-  pub ascend : AllPairs IsBefore found
+  pub ascend : AllPairs StandsBefore found

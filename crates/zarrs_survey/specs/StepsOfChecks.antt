@@ -8,7 +8,7 @@ use Rattle.zarrs_meta.specs.declared.node.NodeMetadata.{NodeMetadata}
 use Rattle.zarrs_block.specs.Block.{Block}
 use Rattle.zarrs_block.specs.declared.consolidated.ConsolidatedMetadata.{ConsolidatedMetadata}
 use Rattle.zarrs_block.specs.declared.node_create_error.NodeCreateError.{NodeCreateError}
-use Rattle.zarrs_survey.specs.Checks.{IsToldOf, IsBefore, block_read}
+use Rattle.zarrs_survey.specs.Checks.{IsToldOf, StandsBefore, block_read}
 use Rattle.zarrs_survey.specs.Findings.{Pair, Precedes}
 use Rattle.zarrs_survey.specs.declared.finding.Finding.{Finding}
 use Rattle.zarrs_survey.specs.declared.survey.Survey.{Survey}
@@ -33,7 +33,7 @@ HasNodeIn survey e = ((e.0 ≡ survey.path) × (survey.base ≡ Ok e.1)) ⊎ Con
 -- the findings are exactly what there is to tell of the blocks of these nodes, each once, in the order of groups, paths and keys
 pub record AreFindingsOf (s : Contents) (survey : Survey) (nodes : Pair → Type 0) (found : List Finding) : Type 0 where
   pub exact : (f : Finding) → Contains found f ↔ ((m : NodeMetadata) × nodes (f.group, m) × IsToldOf (block_read s f.group m) (Contains survey.nodes) (HasBad survey) f.group f)
-  pub ascend : AllPairs IsBefore found
+  pub ascend : AllPairs StandsBefore found
 
 -- memory was not wanting as it was read
 abbrev pub IsKnown : Result ConsolidatedMetadata MetadataFault → Type 0

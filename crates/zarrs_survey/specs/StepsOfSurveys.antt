@@ -16,13 +16,13 @@ is_of_node (MissingMetadata text) = true
 is_of_node _ = false
 
 -- a bad document stands at a path
-abbrev pub HasPath : Path → NodeFault → Type 0
-HasPath p Name = Unit {0}
-HasPath p (Document e) = IsPath p
+abbrev pub IsOfPath : Path → NodeFault → Type 0
+IsOfPath p Name = Unit {0}
+IsOfPath p (Document e) = IsPath p
 
 -- each bad document stands at a path
 abbrev pub HasPaths : List (Path × NodeFault) → Type 0
-HasPaths fs = All (λ d. HasPath d.0 d.1) fs
+HasPaths fs = All (λ d. IsOfPath d.0 d.1) fs
 
 -- the path with its bad document, before others, where it is one
 abbrev pub with_document : Path → NodeFault → List (Path × NodeCreateError) → List (Path × NodeCreateError)

@@ -30,6 +30,7 @@ use zarrs_store::{ListableStorageTraits, ReadableStorageTraits, StorageError};
 /// A survey of a store, and what there is to tell of the blocks that it has.
 ///
 /// Source: own.
+/// <https://zarr.readthedocs.io/en/stable/user-guide/consolidated_metadata/>
 #[derive(Debug, Drop)]
 pub struct Check {
     /// What the store has.

@@ -1,0 +1,9 @@
+//! Tests of surveys and of what is told of blocks. The crate has no call of its own.
+#![tactic(auto)]
+
+#[cfg(test)]
+mod findings;
+#[cfg(test)]
+mod given;
+#[cfg(test)]
+mod surveys;
