@@ -5,6 +5,7 @@ pub mod Comparing
 pub mod Halving
 pub mod KeyFindings
 pub mod LastGroup
+pub mod LawProofs
 pub mod Merging
 pub mod Reading
 pub mod Ridding

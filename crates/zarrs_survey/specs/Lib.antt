@@ -5,3 +5,4 @@ pub mod StepsOfComparing
 pub mod StepsOfSurveys
 pub mod Checks
 pub mod StepsOfChecks
+pub mod Laws

@@ -8,6 +8,7 @@ mod check;
 mod compare;
 mod finding;
 mod keys;
+pub mod laws;
 mod survey;
 
 pub use bad_documents::BadDocuments;

@@ -1,0 +1,22 @@
+//! What holds of every survey. A function here is empty; its contract is the law.
+ghost use Rattle.zarrs_survey.specs.Laws.{NothingBadIsTold, RefusalsAreTold, ListingIsSurveyed, GroupsAreSurveyed};
+
+/// A survey has no bad document and no bad name exactly where nothing below its base is bad.
+pub fn nothing_bad_is_told()
+    ensures { NothingBadIsTold }
+{}
+
+/// What refuses a listing below the base stands in the survey.
+pub fn refusals_are_told()
+    ensures { RefusalsAreTold }
+{}
+
+/// A listing below the base shows the nodes of the survey.
+pub fn listing_is_surveyed()
+    ensures { ListingIsSurveyed }
+{}
+
+/// The nodes below a group of the survey are those of the survey that are below it.
+pub fn groups_are_surveyed()
+    ensures { GroupsAreSurveyed }
+{}
