@@ -1,0 +1,51 @@
+-- What the program writes of a store: the report on what it has at a path and below it, as the Zarr core specification 3.1 defines nodes and paths in "Hierarchy".
+-- <https://zarr-specs.readthedocs.io/en/latest/v3/core/index.html#hierarchy>
+--     AreWordsOf words source path, AreWords words      words that name a source and a path; that words name some
+--     WritesReport path s      the report on the store s from the path on was written
+--     WritesAskedReport words left      what a run writes that ends well
+use Rattle.std.specs.Prelude.{◌≡◌, ◌≢◌, ◌⊎◌, ℕ, List, [], ◌∷◌, map, codes, Option, String, string_bytes}
+use Rattle.std.specs.declared.alloc.Global.{Global}
+use Rattle.std.specs.Io.KnownBytes.{Appends}
+use Rattle.zarrs_store.specs.Contents.{Contents}
+use Rattle.zarrs_path.specs.Paths.{Path, IsPath, path_text}
+use Rattle.zarrs_load.specs.Image.{IsLoaded}
+use Rattle.zarrs_load.specs.Folder.{HoldsDocumentsAlone}
+use Rattle.zarrs_check.specs.declared.report.Tally.{Tally}
+use Rattle.zarrs_check.specs.Report.{IsReport}
+
+-- the texts of words
+abbrev pub word_texts : List (String Global) → List (List ℕ)
+word_texts words = map (λ w. string_bytes w) words
+
+-- the words are a source and a path, which is `/` where it is left out
+abbrev pub AreWordsOf : List (List ℕ) → List ℕ → List ℕ → Type 0
+AreWordsOf words source path = ((words ≡ source ∷ []) × (path ≡ codes "/")) ⊎ (words ≡ source ∷ path ∷ [])
+
+-- the words are a command's: a source alone, or a source and a path
+abbrev pub AreWords : List (List ℕ) → Type 0
+AreWords words = (source path : List ℕ) × AreWordsOf words source path
+
+-- the text is that of a path, and this is the report on what the store has there and below
+abbrev pub IsChecked : List ℕ → Contents → Tally → List ℕ → Type 0
+IsChecked path store tally text = (base : Path) × IsPath base × (path_text base ≡ path) × IsReport store base tally text
+
+-- the report on the store was appended to what the writer held
+abbrev pub WritesReport : List ℕ → Contents → Option (List ℕ) → Option (List ℕ) → Tally → Type 0
+WritesReport path store before after tally = (text : List ℕ) × IsChecked path store tally text × Appends before after text
+
+-- that on the store of the image that a reader had left
+abbrev pub WritesImageReport : List ℕ → Option (List ℕ) → Option (List ℕ) → Option (List ℕ) → Tally → Type 0
+WritesImageReport path left before after tally = (store : Contents) × IsLoaded left store × WritesReport path store before after tally
+
+-- that on a store in which no key but a document's has bytes, as a folder's
+abbrev pub WritesFolderReport : List ℕ → Option (List ℕ) → Option (List ℕ) → Tally → Type 0
+WritesFolderReport path before after tally = (store : Contents) × HoldsDocumentsAlone store × WritesReport path store before after tally
+
+-- that on the store which the source names: of `-` that of the image, else that of a folder
+abbrev pub WritesSourceReport : List ℕ → List ℕ → Option (List ℕ) → Option (List ℕ) → Option (List ℕ) → Tally → Type 0
+WritesSourceReport source path left before after tally =
+    ((source ≡ codes "-") × WritesImageReport path left before after tally) ⊎ ((source ≢ codes "-") × WritesFolderReport path before after tally)
+
+-- that on the store and the path which the words name
+abbrev pub WritesAskedReport : List (List ℕ) → Option (List ℕ) → Option (List ℕ) → Option (List ℕ) → Tally → Type 0
+WritesAskedReport words left before after tally = (source path : List ℕ) × AreWordsOf words source path × WritesSourceReport source path left before after tally

@@ -1,0 +1,28 @@
+//! A store from an image, as [`zarrs_load`] loads it, refused with the program's faults.
+ghost use Rattle.std.specs.Prelude.{IfOk, IfErr, IfSome, OnOk};
+ghost use Rattle.std.specs.FinMap as map;
+ghost use Rattle.std.specs.Io.KnownBytes.{IsAtEnd};
+ghost use Rattle.zarrs_store.specs.Segments.{key_cmp};
+ghost use Rattle.zarrs_load.specs.Reading.{IsWithinBound};
+ghost use Rattle.zarrs_load.specs.Image.{IsLoaded, RefusedImage};
+ghost use Rattle.zarrs_check.specs.Refusals.{IsFaultOfLoading};
+
+use crate::fault::CheckFault;
+use std::alloc::Global;
+use std::io::Read;
+use zarrs_store::MemoryStore;
+
+/// The store of an image, which is read to its end: what [`zarrs_load::load_image`] answers.
+///
+/// # Errors
+/// Its refusals, as the variants of the same names.
+pub fn load_image<R: Read>(alloc: Global, reader: &mut R) -> Result<MemoryStore, CheckFault>
+    ensures ok { IfOk result (λ store.
+        IsLoaded (R.remaining reader.old) (map.from_entries {R = key_cmp} store)) }
+    ensures end { OnOk result (IsAtEnd (R.remaining reader.new)) }
+    ensures bound { OnOk result (IfSome (R.remaining reader.old) IsWithinBound) }
+    ensures err { IfErr result
+        (IsFaultOfLoading (RefusedImage (R.remaining reader.old) (R.remaining reader.new))) }
+{
+    Ok(zarrs_load::load_image(alloc, reader)?)
+}

@@ -1,0 +1,216 @@
+//! The report on a store.
+ghost use Rattle.std.specs.Prelude.{◌≡◌, ◌++◌, IfOk, IfErr, OnOk, map, length, string_bytes};
+ghost use Rattle.std.specs.List.{flat_map};
+ghost use Rattle.zarrs_block.specs.Refusals.{IsExcused};
+ghost use Rattle.zarrs_path.specs.Paths.{IsPath};
+ghost use Rattle.zarrs_survey.specs.Findings.{key_of};
+ghost use Rattle.zarrs_check.specs.Report.{IsReport, own_remark, report_text, remark_of};
+ghost use Rattle.zarrs_check.specs.StepsOfReports.{AreSorted, all_remarks, node_count, own_remarks, base_remarks, document_remark, name_remark};
+
+use crate::remark::{Remark, cmp_remarks};
+use crate::texts::{error_text, kind_text, name_text};
+use log::Log;
+use std::alloc::{AllocError, Global};
+use zarrs_block::NodeCreateError;
+use zarrs_config::MetadataRetrieveVersion;
+use zarrs_form::Text;
+use zarrs_meta::NodeMetadata;
+use zarrs_path::NodePath;
+use zarrs_store::{ListableStorageTraits, ReadableStorageTraits, StorePrefix};
+use zarrs_survey::{BadDocuments, Check, Finding, FindingKind, Survey};
+
+/// How much a check looked at and found.
+///
+/// Source: own.
+/// <https://zarr-specs.readthedocs.io/en/latest/v3/core/index.html#hierarchy>
+#[derive(Clone, Copy, Debug, PartialEq, Eq)]
+pub struct Tally {
+    /// The number of nodes: the base, where it is one, and those below it.
+    pub nodes: usize,
+    /// The number of remarks.
+    pub findings: usize,
+}
+
+/// The report on what a store has at a path and below it.
+///
+/// # Errors
+/// `StorageError::Fault` of a store that can fail, and `OutOfMemory`.
+pub fn report<L: Log, S: ReadableStorageTraits + ListableStorageTraits>(
+    log: &L,
+    alloc: Global,
+    store: &S,
+    base: &NodePath,
+) -> Result<(Tally, String), NodeCreateError>
+    ensures ok { IfOk result (λ made.
+        IsReport (S.contents store.now) base.now made.0 (string_bytes made.1)) }
+    ensures excused { IfErr result (IsExcused (S.can_fail store.now)) }
+{
+    let version = MetadataRetrieveVersion::Default;
+    let checked = Check::of_store(log, alloc, store, base, &version)?;
+    let nodes = node_count(&checked.survey);
+    let remarks = remarks_of(alloc, &checked)?;
+    let findings = remarks.len();
+    let text = report_text(alloc, remarks)?;
+    Ok((Tally { nodes, findings }, text))
+}
+
+// The number of the nodes that a survey found, with its base where that is one.
+fn node_count(survey: &Survey) -> usize
+    ensures { result ≡ node_count survey.now }
+{
+    let below = survey.nodes.nodes().len();
+    match survey.base {
+        Ok(_) => below + 1,
+        Err(_) => below,
+    }
+}
+
+// What there is to tell, in its order.
+fn remarks_of(alloc: Global, checked: &Check) -> Result<Vec<Remark>, AllocError>
+    ensures { IfOk result (λ remarks. AreSorted (all_remarks checked.now) remarks.items) }
+{
+    let mut remarks = own_remarks(alloc, &checked.survey)?;
+    add_findings(alloc, &checked.findings, &mut remarks)?;
+    sort_remarks(&mut remarks)?;
+    Ok(remarks)
+}
+
+// The own faults of the paths of a survey.
+fn own_remarks(alloc: Global, survey: &Survey) -> Result<Vec<Remark>, AllocError>
+    ensures { IfOk result (λ remarks. remarks.items ≡ own_remarks survey.now) }
+{
+    let mut remarks = Vec::new(alloc);
+    add_base(alloc, &survey.path, &survey.base, &mut remarks)?;
+    add_documents(alloc, &survey.bad_documents, &mut remarks)?;
+    add_names(alloc, &survey.bad_names, &mut remarks)?;
+    Ok(remarks)
+}
+
+// Puts the fault of the base behind the other remarks, where it has one.
+fn add_base(
+    alloc: Global,
+    path: &NodePath,
+    base: &Result<NodeMetadata, NodeCreateError>,
+    remarks: &mut Vec<Remark>,
+) -> Result<(), AllocError>
+    ensures { OnOk result
+        (remarks.new.items ≡ remarks.old.items ++ base_remarks path.now base.now) }
+{
+    if let Err(error) = base {
+        let text = error_text(alloc, error)?;
+        remarks.push(own_remark(alloc, path.to_prefix(alloc)?, text))?;
+    }
+    Ok(())
+}
+
+// Puts the faults of bad documents behind the other remarks.
+fn add_documents(
+    alloc: Global,
+    documents: &BadDocuments,
+    remarks: &mut Vec<Remark>,
+) -> Result<(), AllocError>
+    ensures { OnOk result
+        (remarks.new.items ≡ remarks.old.items ++ map document_remark documents.now) }
+{
+    for (path, error) in documents.as_slice() {
+        let text = error_text(alloc, error)?;
+        remarks.push(own_remark(alloc, path.to_prefix(alloc)?, text))?;
+    }
+    Ok(())
+}
+
+// Puts the bad names behind the other remarks.
+fn add_names(
+    alloc: Global,
+    names: &[StorePrefix],
+    remarks: &mut Vec<Remark>,
+) -> Result<(), AllocError>
+    ensures { OnOk result
+        (remarks.new.items ≡ remarks.old.items ++ map name_remark names.now) }
+{
+    for name in names {
+        remarks.push(name_remark(alloc, name)?)?;
+    }
+    Ok(())
+}
+
+// The remark on a bad name.
+fn name_remark(alloc: Global, name: &StorePrefix) -> Result<Remark, AllocError>
+    ensures { IfOk result (λ remark. remark ≡ name_remark name.now) }
+{
+    let text = name_text(alloc, name)?;
+    Ok(own_remark(alloc, name.try_clone(alloc)?, text))
+}
+
+// The remark on a path's own fault.
+fn own_remark(alloc: Global, path: StorePrefix, text: String) -> Remark
+    ensures { result ≡ own_remark path (string_bytes text) }
+{
+    Remark {
+        path,
+        group: None,
+        key: Text::new(String::new(alloc)),
+        text: Text::new(text),
+    }
+}
+
+// Puts what there is to tell of blocks behind the other remarks.
+fn add_findings(
+    alloc: Global,
+    findings: &[Finding],
+    remarks: &mut Vec<Remark>,
+) -> Result<(), AllocError>
+    ensures { OnOk result
+        (remarks.new.items ≡ remarks.old.items ++ map remark_of findings.now) }
+{
+    for finding in findings {
+        remarks.push(remark_of(alloc, finding)?)?;
+    }
+    Ok(())
+}
+
+// The remark on a finding.
+fn remark_of(alloc: Global, finding: &Finding) -> Result<Remark, AllocError>
+    ensures { IfOk result (λ remark. remark ≡ remark_of finding.now) }
+{
+    let text = kind_text(alloc, &finding.group, &finding.kind)?;
+    Ok(Remark {
+        path: finding.path.to_prefix(alloc)?,
+        group: Some(finding.group.try_clone(alloc)?),
+        key: Text::from_str(alloc, key_of(&finding.kind))?,
+        text: Text::new(text),
+    })
+}
+
+// The key that a finding is of, and nothing where it is of a path.
+fn key_of(kind: &FindingKind) -> &str
+    ensures { result.now ≡ key_of kind.now }
+{
+    match kind {
+        FindingKind::BadKey(key) => key.as_str(),
+        FindingKind::Shadowed(key) => key.as_str(),
+        _ => "",
+    }
+}
+
+// Puts remarks in their order.
+fn sort_remarks(remarks: &mut Vec<Remark>) -> Result<(), AllocError>
+    ensures { OnOk result (AreSorted remarks.old.items remarks.new.items) }
+{
+    remarks.sort_by(|a, b| cmp_remarks(a, b))
+}
+
+// The lines of remarks.
+fn report_text(alloc: Global, remarks: Vec<Remark>) -> Result<String, AllocError>
+    ensures { IfOk result (λ text. string_bytes text ≡ report_text remarks.items) }
+{
+    let mut text = String::new(alloc);
+    for remark in remarks {
+        let path = NodePath::text_of(remark.path)?;
+        text.push_str(path.as_str())?;
+        text.push_str(": ")?;
+        text.push_str(remark.text.as_str())?;
+        text.push('\n')?;
+    }
+    Ok(text)
+}
