@@ -10,7 +10,7 @@ use zarrs_block::NodeCreateError;
 use zarrs_hierarchy::Hierarchy;
 use zarrs_node::get_all_nodes_of;
 use zarrs_path::NodePath;
-use zarrs_survey::Survey;
+use zarrs_survey::{Survey, laws};
 
 /// The survey of the store with the documents of a list, at a path.
 pub(crate) fn survey_in(
@@ -138,4 +138,12 @@ const BELOW: &str = r#"
 #[test]
 fn the_nodes_below_a_path_stand_in_one_run(rt: HostRuntime) -> Result<(), Fail> {
     check_rows(rt.alloc(), BELOW, below_said)
+}
+
+#[test]
+fn the_laws_of_surveys_are_called() {
+    laws::nothing_bad_is_told();
+    laws::refusals_are_told();
+    laws::listing_is_surveyed();
+    laws::groups_are_surveyed();
 }
