@@ -146,4 +146,5 @@ fn the_laws_of_surveys_are_called() {
     laws::refusals_are_told();
     laws::listing_is_surveyed();
     laws::groups_are_surveyed();
+    laws::good_blocks_agree();
 }

@@ -1,9 +1,8 @@
 -- The findings of a block: those of its keys, and those of its entries beside the nodes.
-use Rattle.std.proofs.Common.{◌≡◌, ◌↔◌, inl, inr, ⊎_elim, ℕ, Bool, true, false, List, [], ◌∷◌, ◌++◌, get_or, refl, sym, ap, subst, ◌∙◌, arith, Contains, AllPairs, Option, Some, None, is_some, true≢false}
+use Rattle.std.proofs.Common.{◌≡◌, ◌↔◌, inl, inr, ⊎_elim, ℕ, Bool, true, false, List, [], ◌∷◌, ◌++◌, refl, sym, ap, subst, ◌∙◌, arith, Contains, Option, Some, None, is_some, true≢false}
 use Rattle.std.specs.List.{list_all}
 use Rattle.std.specs.Prelude.{IsSome}
-use Rattle.std.proofs.lemmas.List.Elements.{Contains-append_left, Contains-append_right, Contains-append_cases, Contains-get_or}
-use Rattle.std.proofs.lemmas.List.Kept.{AllPairs-cons}
+use Rattle.std.proofs.lemmas.List.Elements.{Contains-append_left, Contains-append_right, Contains-append_cases}
 use Rattle.zarrs_store.specs.Contents.{Lists}
 use Rattle.zarrs_store.specs.Segments.{key_text}
 use Rattle.zarrs_path.specs.Names.{is_name}
@@ -11,7 +10,7 @@ use Rattle.zarrs_path.specs.Paths.{Path, IsPath, IsBelow, path_cmp, relative_nam
 use Rattle.zarrs_meta.specs.declared.node.NodeMetadata.{NodeMetadata}
 use Rattle.zarrs_block.specs.Block.{Block, IsAscending, IsValidKey, HasValidKeys, node_at_key, first_some, entry, Entries}
 use Rattle.zarrs_node.specs.Reach.{HasGroup}
-use Rattle.zarrs_node.proofs.Found.{listed_each, all_pairs_first, all_pairs_tail}
+use Rattle.zarrs_node.proofs.Found.{listed_each, all_pairs_append}
 use Rattle.zarrs_node.proofs.Graft.{Contains-first, Contains-cons}
 use Rattle.zarrs_node.proofs.Keeps.{below_later}
 use Rattle.zarrs_node.proofs.Order.{contains_cases}
@@ -124,16 +123,6 @@ pub findings_same : (B : Block) (N N' : Pair → Type 0) (F F' : Path → Type 0
 findings_same B N N' F F' g n f x h = (h.0, ⊎_elim inl (λ p. inr (finding_same (Entries B g) (Entries B g) N N' F F' g (λ d is. (is.0, is.1, is.3)) (λ d. (λ y. y, λ y. y)) (λ d below. n d) f x.path x.kind p)) h.1)
 
 -- ---- both lists in a row
-
--- what ascends in two lists, each of the first before each of the second, ascends in both in a row
-pub all_pairs_append : {A : Type 0} (R : A → A → Type 0) (xs ys : List A) → AllPairs R xs → AllPairs R ys → ((x y : A) → Contains xs x → Contains ys y → R x y) → AllPairs R (xs ++ ys)
-all_pairs_append R [] ys up others across = others
-all_pairs_append R (x ∷ xs) ys up others across = AllPairs-cons R x (xs ++ ys)
-    (λ i d l. ⊎_elim
-    (λ first. all_pairs_first R x xs up (get_or (xs ++ ys) i d) first)
-    (λ second. across x (get_or (xs ++ ys) i d) (Contains-first x xs) second)
-    (Contains-append_cases xs ys (get_or (xs ++ ys) i d) (Contains-get_or (xs ++ ys) i d l)))
-    (all_pairs_append R xs ys (all_pairs_tail R x xs up) others (λ z y h k. across z y (Contains-cons x xs z h) k))
 
 module _ (g : Path) (B C : Block) (h : Pairs) (F : Path → Type 0) (es : List Pair) (others : List Finding) (up : IsAscending B) (rid : IsRidOf (key_findings g B B) B C)
     (listed : Lists (Entries C g) es) (are : ArePathFindings (Contains es) (Contains (pairs_below g h)) F g others) where

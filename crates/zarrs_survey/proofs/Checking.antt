@@ -12,7 +12,7 @@ use Rattle.zarrs_block.specs.Meaning.{Meaning, meaning, node, nothing, bad}
 use Rattle.zarrs_block.specs.declared.node_create_error.NodeCreateError.{NodeCreateError}
 use Rattle.zarrs_node.specs.Nodes.{Nodes}
 use Rattle.zarrs_node.specs.Order.{Ascend}
-use Rattle.zarrs_node.proofs.Found.{listed_each}
+use Rattle.zarrs_node.proofs.Found.{listed_each, all_pairs_append}
 use Rattle.zarrs_node.proofs.Graft.{Contains-first}
 use Rattle.zarrs_node.proofs.Keeps.{below_later, all_pairs_across}
 use Rattle.zarrs_node.proofs.Order.{contains_cases}
@@ -24,7 +24,7 @@ use Rattle.zarrs_survey.specs.StepsOfComparing.{AreBelow}
 use Rattle.zarrs_survey.specs.Surveys.{IsBase, IsSurveyOf}
 use Rattle.zarrs_survey.specs.declared.finding.Finding.{Finding}
 use Rattle.zarrs_survey.specs.declared.survey.Survey.{Survey}
-use Rattle.zarrs_survey.proofs.Blocks.{findings_same, all_pairs_append}
+use Rattle.zarrs_survey.proofs.Blocks.{findings_same}
 
 -- what is told of a block is told of its group
 told_group : (r : Option (Result Block MetadataFault)) (N : Pair → Type 0) (F : Path → Type 0) (g : Path) (f : Finding) → IsToldOf r N F g f → f.group ≡ g
@@ -147,7 +147,7 @@ IsNode (bad e) = ⊥
 
 module _ (s : Contents) (v : MetadataRetrieveVersion) (b : Path) (survey : Survey) (h : IsSurveyOf s v b survey) where
   -- the base that means a node is that node
-  base_means : (m : NodeMetadata) → (survey.base ≡ Ok m) ↔ (meaning s v b ≡ node m)
+  pub base_means : (m : NodeMetadata) → (survey.base ≡ Ok m) ↔ (meaning s v b ≡ node m)
   base_means m = by survey.base refl h.base
     where
       by : (r : Result NodeMetadata NodeCreateError) → survey.base ≡ r → IsBase s v b r → (survey.base ≡ Ok m) ↔ (meaning s v b ≡ node m)

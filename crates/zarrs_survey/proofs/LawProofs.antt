@@ -1,17 +1,13 @@
 -- The laws of surveys.
-use Rattle.std.proofs.Common.{◌≡◌, ◌↔◌, ◌⊎◌, inl, inr, ⊎_elim, ℕ, true, length, List, [], ◌∷◌, ◌++◌, refl, sym, ap, subst, ◌∙◌, arith, append_assoc, Contains, Less}
+use Rattle.std.proofs.Common.{◌≡◌, ◌⊎◌, inl, inr, ⊎_elim, ℕ, true, length, List, [], ◌∷◌, ◌++◌, refl, sym, ap, subst, ◌∙◌, arith, append_assoc, Contains, Less}
 use Rattle.std.proofs.lemmas.List.{append_cancel_left}
-use Rattle.std.specs.Cmp.Lexicographic.{nat_list_cmp_total}
-use Rattle.zarrs_store.specs.Contents.{Contents, Lists}
+use Rattle.zarrs_store.specs.Contents.{Lists}
 use Rattle.zarrs_path.specs.Paths.{Path, IsPath, IsBelow, path_cmp}
 use Rattle.zarrs_path.specs.PathOrder.{path_total}
 use Rattle.zarrs_path.proofs.PathTexts.{IsPath-append, IsPath-parts}
-use Rattle.zarrs_meta.specs.Node.{is_group}
-use Rattle.zarrs_meta.specs.declared.node.NodeMetadata.{NodeMetadata}
-use Rattle.zarrs_config.specs.declared.version.MetadataRetrieveVersion.{MetadataRetrieveVersion}
 use Rattle.zarrs_node.specs.Forest.{pairs}
 use Rattle.zarrs_node.specs.Nodes.{MeansNode}
-use Rattle.zarrs_node.specs.Reach.{HasGroup, Opens, Reached, Kept}
+use Rattle.zarrs_node.specs.Reach.{Kept}
 use Rattle.zarrs_node.proofs.Found.{listed_each}
 use Rattle.zarrs_node.proofs.Graft.{Contains-first}
 use Rattle.zarrs_node.proofs.Keeps.{below_trans}

@@ -1,4 +1,5 @@
 pub mod Above
+pub mod Agreeing
 pub mod Blocks
 pub mod Checking
 pub mod Comparing

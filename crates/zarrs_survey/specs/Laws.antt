@@ -1,17 +1,24 @@
 -- Zarr core specification 3.1, "Hierarchy" and "Node names": what holds of every survey.
 -- <https://zarr-specs.readthedocs.io/en/latest/v3/core/index.html#hierarchy>
 -- <https://zarr-specs.readthedocs.io/en/latest/v3/core/index.html#node-names>
-use Rattle.std.specs.Prelude.{◌≡◌, ◌⊎◌, ◌↔◌, true, [], Contains, IsTrue}
+use Rattle.std.specs.Prelude.{◌≡◌, ◌⊎◌, ◌↔◌, true, [], Contains, IsTrue, Some, Ok}
 use Rattle.zarrs_store.specs.Contents.{Contents}
 use Rattle.zarrs_path.specs.Paths.{Path, IsBelow}
 use Rattle.zarrs_config.specs.declared.version.MetadataRetrieveVersion.{MetadataRetrieveVersion}
+use Rattle.zarrs_config.specs.declared.version.UseConsolidatedMetadata.TheVariants.{Must, Never}
 use Rattle.zarrs_meta.specs.Node.{is_group}
 use Rattle.zarrs_meta.specs.declared.node.NodeMetadata.{NodeMetadata}
+use Rattle.zarrs_block.specs.Block.{Block}
 use Rattle.zarrs_block.specs.Refusals.{IsInvalidPath}
 use Rattle.zarrs_block.specs.declared.node_create_error.NodeCreateError.{NodeCreateError}
-use Rattle.zarrs_node.specs.Forest.{Forest, pairs, Shows}
+use Rattle.zarrs_compare.specs.Same.{IsSame}
+use Rattle.zarrs_node.specs.Forest.{Forest, pairs, paths_of, Shows}
 use Rattle.zarrs_node.specs.Nodes.{Nodes, HasNothingBad, ShowsBad}
+use Rattle.zarrs_node.specs.OpeningNodes.{IsCleanBelow, ShowsBelow}
+use Rattle.zarrs_survey.specs.Checks.{block_read, IsBlockFinding}
+use Rattle.zarrs_survey.specs.Findings.{Pair, HasPath}
 use Rattle.zarrs_survey.specs.Surveys.{IsSurveyOf}
+use Rattle.zarrs_survey.specs.declared.finding.Finding.{Finding}
 use Rattle.zarrs_survey.specs.declared.survey.Survey.{Survey}
 
 -- A survey has no bad document and no bad name exactly where nothing below its base is bad, so that a listing is refused for nothing there.
@@ -34,3 +41,15 @@ abbrev pub GroupsAreSurveyed : Type 0
 GroupsAreSurveyed = (s : Contents) (v : MetadataRetrieveVersion) (b : Path) (survey : Survey) → IsSurveyOf s v b survey
     → (g : Path) (m : NodeMetadata) → Contains survey.nodes (g, m) → IsTrue (is_group m)
     → (e : Path × NodeMetadata) → Nodes s v true g e ↔ (Contains survey.nodes e × IsBelow g e.0)
+
+-- E and N have the same paths, and at each the same metadata, nested blocks apart
+pub record HaveSameNodes (E N : Pair → Type 0) : Type 0 where
+  pub paths : (p : Path) → HasPath E p ↔ HasPath N p
+  pub metadata : (p : Path) (m n : NodeMetadata) → E (p, m) → N (p, n) → IsSame m n
+
+-- Where a survey has nothing bad, and its base has a block of which nothing is to be told, neither opening the base by the block nor by a listing is refused, and what they show below it has the same paths with the same metadata.
+abbrev pub GoodBlocksAgree : Type 0
+GoodBlocksAgree = (s : Contents) (v : MetadataRetrieveVersion) (b : Path) (survey : Survey) → IsSurveyOf s v b survey → survey.bad_documents ≡ [] → survey.bad_names.items ≡ []
+    → (m : NodeMetadata) (B : Block) → survey.base ≡ Ok m → block_read s b m ≡ Some (Ok B) → ((f : Finding) → IsBlockFinding s v b f → f.group ≡ b → ⊥)
+    → IsCleanBelow s v Must b m × IsCleanBelow s v Never b m
+    × ((f g : Forest) → ShowsBelow s v Must b m f → ShowsBelow s v Never b m g → (paths_of f ≡ paths_of g) × HaveSameNodes (Contains (pairs f)) (Contains (pairs g)))

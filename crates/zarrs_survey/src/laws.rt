@@ -1,5 +1,5 @@
 //! What holds of every survey. A function here is empty; its contract is the law.
-ghost use Rattle.zarrs_survey.specs.Laws.{NothingBadIsTold, RefusalsAreTold, ListingIsSurveyed, GroupsAreSurveyed};
+ghost use Rattle.zarrs_survey.specs.Laws.{NothingBadIsTold, RefusalsAreTold, ListingIsSurveyed, GroupsAreSurveyed, GoodBlocksAgree};
 
 /// A survey has no bad document and no bad name exactly where nothing below its base is bad.
 pub fn nothing_bad_is_told()
@@ -19,4 +19,10 @@ pub fn listing_is_surveyed()
 /// The nodes below a group of the survey are those of the survey that are below it.
 pub fn groups_are_surveyed()
     ensures { GroupsAreSurveyed }
+{}
+
+/// Where a survey has nothing bad, and its base has a block of which nothing is to be told, opening the base by the block and by a listing is
+/// refused for nothing, and both show the same paths with the same metadata, nested blocks apart.
+pub fn good_blocks_agree()
+    ensures { GoodBlocksAgree }
 {}
