@@ -45,7 +45,7 @@ as_read (Some (Err fault)) = Some (Err fault)
 abbrev pub HasNode : Contents → MetadataRetrieveVersion → Path → Pair → Type 0
 HasNode s v b e = ((e.0 ≡ b) × (meaning s v b ≡ node e.1)) ⊎ Nodes s v true b e
 
--- some reached path has a bad document
+-- the path is reached and has a bad document
 abbrev pub HasBadPath : Contents → MetadataRetrieveVersion → Path → Path → Type 0
 HasBadPath s v b q = (e : NodeCreateError) × BadDocuments s v b (q, e)
 
