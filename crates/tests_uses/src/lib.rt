@@ -1,0 +1,2 @@
+//! Tests of the three callers on stores as zarr-python writes them. The crate has no call of its own.
+#![tactic(auto)]
