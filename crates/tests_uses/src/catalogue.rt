@@ -21,8 +21,7 @@ const TEMPERATURE: &str =
     r#"{"zarr_format":3,"node_type":"array","shape":[4,6],"data_type":"float32","chunk_grid":{"name":"regular","configuration":{"chunk_shape":[4,6]}},"chunk_key_encoding":{"name":"default","configuration":{"separator":"/"}},"fill_value":0,"codecs":[{"name":"bytes","configuration":{"endian":"little"}},{"name":"zstd","configuration":{"level":0}}],"attributes":{"units":"K"},"storage_transformers":[],"dimension_names":["y",null]}"#;
 
 // A group below the group.
-const OLD: &str =
-    r#"{"zarr_format":3,"node_type":"group","attributes":{}}"#;
+const OLD: &str = r#"{"zarr_format":3,"node_type":"group","attributes":{}}"#;
 
 // An array below that.
 const WAVES: &str =
@@ -127,7 +126,7 @@ fn changed_text(
     changes: &[Change],
 ) -> Result<String, AllocError> {
     if let Err(refused) = catalogue.apply_all(alloc, &mut store, changes) {
-        let keys = keys_text(catalogue.block(), alloc)?;
+        let keys = keys_text(&catalogue.block, alloc)?;
         return format!(in alloc; "{refused}\n{keys}");
     }
     match catalogue.store(alloc, &mut store, &Config::new()) {
@@ -184,7 +183,10 @@ fn deep_said(alloc: Global, levels: &str) -> Result<String, AllocError> {
     let Ok(levels) = levels.parse::<usize>() else {
         return String::from_str(alloc, "no number");
     };
-    let mut item = String::from_str(alloc, r#"/deep {"zarr_format":3,"node_type":"group","attributes":{"k":"#)?;
+    let mut item = String::from_str(
+        alloc,
+        r#"/deep {"zarr_format":3,"node_type":"group","attributes":{"k":"#,
+    )?;
     for _ in 0..levels {
         item.push('[')?;
     }

@@ -1,5 +1,5 @@
 -- A version 3 group that was stored with the block of a listing opens by that block as by a listing.
-use Rattle.std.proofs.Common.{◌≡◌, ◌≢◌, ◌≤◌, ◌⊎◌, inl, inr, ⊎_elim, Bool, true, List, [], ◌∷◌, ◌++◌, length, Option, Some, None, Result, Ok, Err, refl, sym, ap, subst, ◌∙◌, arith, length-append}
+use Rattle.std.proofs.Common.{◌≡◌, ◌≤◌, inl, inr, ⊎_elim, Bool, true, List, [], ◌∷◌, ◌++◌, length, Option, Some, None, Result, Ok, Err, refl, sym, ap, subst, ◌∙◌, arith, length-append}
 use Rattle.serde_json.specs.Data.{depth}
 use Rattle.serde_json.specs.Read.{max_depth}
 use Rattle.zarrs_store.specs.Contents.{Contents, AgreesExceptAt}
@@ -7,7 +7,7 @@ use Rattle.zarrs_store.specs.declared.storage_error.StorageError.{StorageError}
 use Rattle.zarrs_store.specs.declared.storage_error.StorageError.TheVariants as storage
 use Rattle.zarrs_store.proofs.ContentsLemmas.{AgreesExceptAt-insert, AgreesExceptAt-remove}
 use Rattle.zarrs_path.specs.Keys.{zarr_json}
-use Rattle.zarrs_path.specs.Paths.{Path, IsPath, path_text}
+use Rattle.zarrs_path.specs.Paths.{Path, IsPath}
 use Rattle.zarrs_config.specs.declared.version.MetadataConvertVersion.{MetadataConvertVersion}
 use Rattle.zarrs_config.specs.declared.version.MetadataConvertVersion.TheVariants as convert
 use Rattle.zarrs_config.specs.declared.version.MetadataRetrieveVersion.{MetadataRetrieveVersion}
@@ -23,19 +23,20 @@ use Rattle.zarrs_block.specs.Meaning.{meaning, node, nothing}
 use Rattle.zarrs_block.specs.Policy.{block_in_group, block_to_use}
 use Rattle.zarrs_block.specs.declared.node_create_error.NodeCreateError.{NodeCreateError}
 use Rattle.zarrs_node.specs.BlocksBelow.{block_at}
-use Rattle.zarrs_node.specs.Forest.{Forest}
 use Rattle.zarrs_node.specs.Nodes.{ShowsBad}
 use Rattle.zarrs_node.specs.ListedBlocks.{IsListedBlock}
 use Rattle.zarrs_node.specs.OpeningNodes.{choice, RefusesChosen, ShowsBelow, ShowsChosen}
 use Rattle.zarrs_node.specs.OpeningNodes as opened
 use Rattle.zarrs_node.proofs.ListedBlocks.{listed_plain, listed_keys, shown_alike}
-use Rattle.zarrs_group.specs.Edits.{Edit, set, remove, after, after_edit, edit_key, IsCutShort}
-use Rattle.zarrs_group.specs.Groups.{GroupState, group_tree, metadata_by_version}
+use Rattle.zarrs_group.specs.Edits.{Edit, set, remove, after, edit_key, IsCutShort}
+use Rattle.zarrs_group.specs.Groups.{group_tree, metadata_by_version}
 use Rattle.zarrs_group.specs.Meaning.{MeansGroup, group_v3_line, group_line, group_meaning}
 use Rattle.zarrs_group.specs.BlocksOfGroups.{MetadataHold, beside_with, fields_with, held_by, held_in, metadata_with, with_block}
 use Rattle.zarrs_group.specs.Laws.{MeansStored}
+use Rattle.zarrs_meta.specs.GroupV3.{group_v3_tree}
+use Rattle.zarrs_group.specs.Layout.{pretty_text}
 use Rattle.zarrs_group.specs.StoredBlocks.{OpensAlike, EditKeepsOthers, StoringKeepsOthers, MeansVersion3, ListedBlockOpens}
-use Rattle.zarrs_group.specs.StoringGroups.{store_edits, edits_of_group, RefusesStoring, RefusesStoringGroup}
+use Rattle.zarrs_group.specs.StoringGroups.{store_edits, RefusesStoring}
 use Rattle.zarrs_group.proofs.BlockFields.{held_once_set}
 use Rattle.zarrs_group.proofs.GivesBack.{means_node, no_bad_key, opens_clean}
 
@@ -63,7 +64,7 @@ written_as_is convert.V3 m = refl
 module _ (S T : Contents) (p : Path) (m : GroupMetadataV3) (block : Option Block) where
   -- storing a version 3 group changes its document alone
   stored_keeps : AgreesExceptAt (p ++ zarr_json ∷ []) S (after S (store_edits p (V3 m) block))
-  stored_keeps = edit_keeps_others S _
+  stored_keeps = edit_keeps_others S (set (p ++ zarr_json ∷ []) (pretty_text (group_v3_tree m)))
 
   -- also where it is refused
   refused_keeps : (can_fail : Bool) (e : StorageError) → RefusesStoring can_fail p (V3 m) block S T e → AgreesExceptAt (p ++ zarr_json ∷ []) S T
@@ -84,7 +85,7 @@ storing_keeps_others S T v g m is =
 line_is_v3 : (r : Result (Option GroupMetadataV3) StorageError) (m : GroupMetadata) → group_v3_line r nothing ≡ node (Group m) → (k : GroupMetadataV3) × (m ≡ V3 k)
 line_is_v3 (Ok None) m e = cc
 line_is_v3 (Ok (Some k)) m e = (k, cc)
-line_is_v3 (Err fault) m e = cc
+line_is_v3 (Err why) m e = cc
 
 -- what a path means as a group of version 3 is one
 pub means_version_3 : MeansVersion3
@@ -119,11 +120,12 @@ module _ (S : Contents) (v : MetadataRetrieveVersion) (p : Path) (k : GroupMetad
 
 -- so does a group that was stored with the listed block
 pub listed_block_opens : ListedBlockOpens
-listed_block_opens S v g m B not valid is listed stored shallow =
+listed_block_opens S v w g m B not valid is listed stored shallow =
     let k : GroupMetadataV3 = record { attributes = m.attributes; additional_fields = fields_with (Some B) m.additional_fields } in
     let same : metadata_with (Some B) g.metadata ≡ V3 k = ap (metadata_with (Some B)) is in
     let holds : held_by (with_block g (Some B)) ≡ Some B = held_once_set g (Some B) (subst (λ x. MetadataHold x (Some B)) (sym is) (listed_plain S v g.path B listed)) in
     let held : block_at S g.path (Group (V3 k)) ≡ Some B = ap (λ x. held_in x (beside_with (Some B) g.metadata g.block)) (sym same) ∙ holds in
-    let both : depth (group_tree (V3 k)) ≤ max_depth → MeansGroup S retrieve.Default g.path (V3 k) × MeansGroup S retrieve.V3 g.path (V3 k) = subst (MeansStored S g.path) same stored in
+    let both : depth (group_tree (V3 k)) ≤ max_depth → MeansGroup S retrieve.Default g.path (V3 k) × MeansGroup S retrieve.V3 g.path (V3 k) =
+    subst (MeansStored S g.path) (ap (metadata_by_version w) same ∙ written_as_is w k) stored in
     let means : meaning S v g.path ≡ node (Group (V3 k)) = means_node S S g.path k (both (subst (λ x. depth (group_tree x) ≤ max_depth) same shallow)).1 refl v not in
     (ap block_in_group same ∙ held, subst (OpensAlike S v g.path) (sym same) (alike S v g.path k B valid listed means held))

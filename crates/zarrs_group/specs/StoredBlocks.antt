@@ -26,7 +26,7 @@ use Rattle.zarrs_block.specs.declared.node_create_error.NodeCreateError.{NodeCre
 use Rattle.zarrs_node.specs.Forest.{Forest}
 use Rattle.zarrs_node.specs.ListedBlocks.{IsListedBlock}
 use Rattle.zarrs_node.specs.OpeningNodes.{ShowsBelow, RefusesOpening}
-use Rattle.zarrs_group.specs.Groups.{GroupState, group_tree}
+use Rattle.zarrs_group.specs.Groups.{GroupState, group_tree, metadata_by_version}
 use Rattle.zarrs_group.specs.BlocksOfGroups.{with_block}
 use Rattle.zarrs_group.specs.Edits.{Edit, after, after_edit, edit_key}
 use Rattle.zarrs_group.specs.Laws.{MeansStored}
@@ -53,9 +53,9 @@ StoringKeepsOthers = (S T : Contents) (v : MetadataConvertVersion) (g : GroupSta
 abbrev pub MeansVersion3 : Type 0
 MeansVersion3 = (S : Contents) (p : Path) (m : GroupMetadata) → MeansGroup S retrieve.V3 p m → (k : GroupMetadataV3) × (m ≡ V3 k)
 
--- A version 3 group that is stored with the listed block of the store, and does not nest too deep, holds that block, and opens alike by it and by a listing, by default and as version 3.
+-- A version 3 group that is stored with the listed block of the store, by whatever version, and does not nest too deep, holds that block, and opens alike by it and by a listing, by default and as version 3.
 abbrev pub ListedBlockOpens : Type 0
-ListedBlockOpens = (S : Contents) (v : MetadataRetrieveVersion) (g : GroupState) (m : GroupMetadataV3) (B : Block)
+ListedBlockOpens = (S : Contents) (v : MetadataRetrieveVersion) (w : MetadataConvertVersion) (g : GroupState) (m : GroupMetadataV3) (B : Block)
     → v ≢ retrieve.V2 → IsPath g.path → g.metadata ≡ V3 m → IsListedBlock S v g.path B
-    → MeansStored S g.path (with_block g (Some B)).metadata → depth (group_tree (with_block g (Some B)).metadata) ≤ max_depth
+    → MeansStored S g.path (metadata_by_version w (with_block g (Some B)).metadata) → depth (group_tree (with_block g (Some B)).metadata) ≤ max_depth
     → (block_in_group (with_block g (Some B)).metadata ≡ Some B) × OpensAlike S v g.path (with_block g (Some B)).metadata

@@ -1,13 +1,10 @@
 -- The block of what a listing finds, over stores that differ by the documents of one path.
-use Rattle.std.proofs.Common.{◌≡◌, ◌≢◌, ◌↔◌, ◌⊎◌, inl, inr, ⊎_elim, ℕ, true, List, [], ◌∷◌, ◌++◌, length, is_some, refl, sym, ap, subst, ◌∙◌, append_assoc, length-append, arith, IsTrue}
-use Rattle.std.specs.FinMap.{get}
+use Rattle.std.proofs.Common.{◌≡◌, ◌≢◌, ◌↔◌, inl, inr, ⊎_elim, ℕ, true, List, [], ◌∷◌, ◌++◌, is_some, refl, sym, ap, subst, ◌∙◌, append_assoc, IsTrue}
 use Rattle.std.proofs.lemmas.List.{same_from_push}
-use Rattle.zarrs_store.specs.Segments.{Segments}
 use Rattle.zarrs_store.specs.Contents.{Contents, HasBelow}
 use Rattle.zarrs_path.specs.Names.{is_all_periods}
 use Rattle.zarrs_path.specs.Paths.{Path, IsPath, IsBelow}
 use Rattle.zarrs_path.proofs.PathTexts.{IsPath-parts, last_name}
-use Rattle.zarrs_meta.specs.Node.{is_plain_node}
 use Rattle.zarrs_meta.specs.declared.node.NodeMetadata.{NodeMetadata}
 use Rattle.zarrs_config.specs.declared.version.MetadataRetrieveVersion.{MetadataRetrieveVersion}
 use Rattle.zarrs_block.specs.Block.{Block, Entries, HasPlainNodes, HasValidKeys}
@@ -16,7 +13,7 @@ use Rattle.zarrs_block.specs.declared.node_create_error.NodeCreateError.{NodeCre
 use Rattle.zarrs_block.proofs.Expansion.{found_all}
 use Rattle.zarrs_block.proofs.SameBlocks.{one_block}
 use Rattle.zarrs_node.specs.Reach.{HasGroup, Reached, Kept}
-use Rattle.zarrs_node.specs.Nodes.{Means, MeansNode, Nodes, IsListed, IsBadName, Bad}
+use Rattle.zarrs_node.specs.Nodes.{Means, MeansNode, Nodes, IsListed, Bad}
 use Rattle.zarrs_node.specs.Forest.{Forest, Shows}
 use Rattle.zarrs_node.specs.CurrentBlocks.{LeadsTo, IsFresh, BadAnew}
 use Rattle.zarrs_node.specs.Changes.{AgreesOutside, IsDocumentOf}

@@ -5,11 +5,10 @@ ghost use Rattle.zarrs_store.specs.Faults.{IsStoreError};
 ghost use Rattle.zarrs_path.specs.Keys.{zarr_json};
 ghost use Rattle.zarrs_block.specs.Refusals.{IsExcusedOr};
 ghost use Rattle.zarrs_node.specs.Nodes.{ShowsBad};
-ghost use Rattle.zarrs_uses.specs.Catalogues.{IsCurrent, IsRefusedAt, IsStored, RefusesChange, after_change, after_changes, changed_key};
+ghost use Rattle.zarrs_uses.specs.Catalogues.{IsCurrent, IsRefusedAt, IsStored, RefusesChange, RefusesStored, after_change, after_changes, changed_key};
 
 use log::Log;
 use std::alloc::{AllocError, Global};
-use std::marker::Model;
 use thiserror::Error;
 use zarrs_block::{ConsolidatedMetadata, ConsolidatedMetadataMetadata, NodeCreateError};
 use zarrs_config::{Config, MetadataRetrieveVersion};
@@ -94,24 +93,40 @@ pub enum StoringError {
 }
 
 impl From<GroupCreateError> for StoringError {
+    ghost use Rattle.zarrs_uses.specs.declared.catalogue.StoringError.TheVariants.{Group};
+
+    ghost from_gives = { λ error made. made ≡ Group error };
+
     fn from(error: GroupCreateError) -> StoringError {
         StoringError::Group(error)
     }
 }
 
 impl From<NodeCreateError> for StoringError {
+    ghost use Rattle.zarrs_uses.specs.declared.catalogue.StoringError.TheVariants.{Block};
+
+    ghost from_gives = { λ error made. made ≡ Block error };
+
     fn from(error: NodeCreateError) -> StoringError {
         StoringError::Block(error)
     }
 }
 
 impl From<StorageError> for StoringError {
+    ghost use Rattle.zarrs_uses.specs.declared.catalogue.StoringError.TheVariants.{Store};
+
+    ghost from_gives = { λ error made. made ≡ Store error };
+
     fn from(error: StorageError) -> StoringError {
         StoringError::Store(error)
     }
 }
 
 impl From<AllocError> for StoringError {
+    ghost use Rattle.zarrs_uses.specs.declared.catalogue.StoringError.TheVariants.{OutOfMemory};
+
+    ghost from_gives = { λ _ made. made ≡ OutOfMemory };
+
     fn from(_error: AllocError) -> StoringError {
         StoringError::OutOfMemory
     }
@@ -120,21 +135,10 @@ impl From<AllocError> for StoringError {
 /// The path of a version 3 group, and the block of the nodes below it.
 #[derive(Debug, Drop)]
 pub struct Catalogue {
-    path: NodePath,
-    block: ConsolidatedMetadataMetadata,
-}
-
-// Contracts see the record of both.
-impl Model for Catalogue {
-    ghost use Rattle.std.specs.Coded.{codes};
-    ghost use Rattle.zarrs_block.specs.contracts.consolidated.ConsolidatedMetadataMetadata.{the_row as block_row};
-    ghost use Rattle.zarrs_uses.specs.Catalogues.{CatalogueState};
-
-    ghost Value = { CatalogueState };
-
-    ghost coded = { Prim.hlevel (codes, block_row.coded) };
-
-    ghost view = { λ catalogue. record { path = catalogue.path; block = catalogue.block; } };
+    /// The path of the group.
+    pub path: NodePath,
+    /// The metadata of the nodes below the group.
+    pub block: ConsolidatedMetadataMetadata,
 }
 
 impl Catalogue {
@@ -156,23 +160,8 @@ impl Catalogue {
             (IsExcusedOr (S.can_fail storage.now)
             (ShowsBad (S.contents storage.now) MetadataRetrieveVersion.V3 true path)) }
     {
-        let block =
-            consolidate_nodes_of(log, alloc, storage, &path, &MetadataRetrieveVersion::V3)?;
+        let block = consolidate_nodes_of(log, alloc, storage, &path, &MetadataRetrieveVersion::V3)?;
         Ok(Catalogue { path, block })
-    }
-
-    /// The path of the group.
-    pub fn path(&self) -> &NodePath
-        ensures { result.now ≡ self.now.path }
-    {
-        &self.path
-    }
-
-    /// The block of the nodes below the group.
-    pub fn block(&self) -> &ConsolidatedMetadataMetadata
-        ensures { result.now ≡ self.now.block }
-    {
-        &self.block
     }
 
     /// Makes a change of the store, and the block current after it.
@@ -210,14 +199,16 @@ impl Catalogue {
             return Err(ChangeError::NotBelow);
         }
         change.write(alloc, storage)?;
-        self.block = refresh_block(
+        let version = MetadataRetrieveVersion::V3;
+        let block = refresh_block(
             alloc,
             storage,
             &self.path,
-            &MetadataRetrieveVersion::V3,
+            &version,
             &self.block,
             &change.path,
         )?;
+        self.block = block;
         Ok(())
     }
 
@@ -278,8 +269,16 @@ impl Catalogue {
             → IsCurrent (S.contents storage.new) self.now }
         ensures others { AgreesExceptAt (self.now.path ++ zarr_json ∷ [])
             (S.contents storage.old) (S.contents storage.new) }
+        ensures refused { IfErr result
+            (RefusesStored (S.can_fail storage.old) self.now
+            (S.contents storage.old) (S.contents storage.new)) }
         ensures nature { S.can_fail storage.new ≡ S.can_fail storage.old }
     {
+        zarrs_path::laws::texts_differ();
+        zarrs_node::laws::listed_block_stays();
+        zarrs_group::laws::means_version_3();
+        zarrs_group::laws::storing_keeps_others();
+        zarrs_group::laws::listed_block_opens();
         let mut group = Group::open_opt(
             alloc,
             storage,
