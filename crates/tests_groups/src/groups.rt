@@ -685,6 +685,33 @@ fn refusals_have_their_texts(rt: HostRuntime) -> Result<(), Fail> {
     check_rows(rt.alloc(), REFUSED, refused)
 }
 
+// Whether a group of version 3 with an attribute of so many lists in each other is shallow.
+fn shallow_said(alloc: Global, levels: &str) -> Result<String, GroupCreateError> {
+    let levels = levels.parse::<usize>().unwrap_or(0);
+    let mut given = String::from_str(alloc, r#"3 | {"k":"#)?;
+    for _ in 0..levels {
+        given.push('[')?;
+    }
+    for _ in 0..levels {
+        given.push(']')?;
+    }
+    given.push_str("} | {}")?;
+    let group = group_of(alloc, given.as_str(), &Config::new())?;
+    Ok(String::from_str(alloc, if group.is_shallow(alloc)? { "yes" } else { "no" })?)
+}
+
+// The lists in each other, which stand two levels deep in the document; whether it nests at most 127 levels.
+const SHALLOW: &str = r#"
+1 => yes
+125 => yes
+126 => no
+"#;
+
+#[test]
+fn a_group_is_shallow_that_nests_at_most_127_levels(rt: HostRuntime) -> Result<(), Fail> {
+    check_rows(rt.alloc(), SHALLOW, shallow_said)
+}
+
 #[test]
 fn the_laws_are_called(rt: HostRuntime) -> Result<(), Fail> {
     let alloc = rt.alloc();
@@ -699,6 +726,10 @@ fn the_laws_are_called(rt: HostRuntime) -> Result<(), Fail> {
     laws::group_v2_gives_back();
     laws::stored_gives_back();
     laws::stored_v2_gives_back();
+    laws::edit_keeps_others();
+    laws::storing_keeps_others();
+    laws::means_version_3();
+    laws::listed_block_opens();
     let path = NodePath::new(alloc, "/g")?;
     let metadata = metadata_of(alloc, r#"3 | {"k":1} | {}"#)?;
     laws::stored_means(alloc, &path, &metadata)?;

@@ -297,4 +297,7 @@ fn the_laws_of_fresh_blocks_are_called() {
     laws::fresh_is_block();
     laws::refreshed_is_block();
     laws::refreshed_is_opened();
+    laws::one_listed_block();
+    laws::fresh_is_listed();
+    laws::listed_block_stays();
 }

@@ -266,7 +266,7 @@ line_says key m after (Some bytes) e = by_tree (tree_or_fault (json_of bytes)) e
     by_tree (Err fault) e = cc
 
 -- where a path means a version 3 group, it means that node in every store with the same bytes at its key `zarr.json`
-means_node : (S s : Contents) (p : Path) (m : GroupMetadataV3) → MeansGroup S retrieve.V3 p (V3 m) → map.get s (p ++ zarr_json ∷ []) ≡ map.get S (p ++ zarr_json ∷ [])
+pub means_node : (S s : Contents) (p : Path) (m : GroupMetadataV3) → MeansGroup S retrieve.V3 p (V3 m) → map.get s (p ++ zarr_json ∷ []) ≡ map.get S (p ++ zarr_json ∷ [])
     → (v : MetadataRetrieveVersion) → v ≢ retrieve.V2 → meaning s v p ≡ node (Group (V3 m))
 unfolding group_meaning group_line meaning_in zarr_json_line document_at
 means_node S s p m stored same retrieve.Default not =

@@ -11,5 +11,6 @@ pub mod BlockFields
 pub mod Together
 pub mod GivesBack
 pub mod StoredAgain
+pub mod StoredBlocks
 pub mod Beside
 pub mod BlockPlain

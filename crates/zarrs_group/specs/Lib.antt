@@ -13,5 +13,6 @@ pub mod Meaning
 pub mod OpeningGroups
 pub mod Plain
 pub mod StepsOfGroups
+pub mod StoredBlocks
 pub mod StoringGroups
 pub mod UnsupportedFields

@@ -3,6 +3,7 @@
 ghost use Rattle.std.specs.Prelude.{◌≡◌, None, IfErr, OnOk};
 ghost use Rattle.zarrs_group.specs.Laws.{Version3Keeps, Version3Stays, Version3Twice, PlainIsStored, ErasingAllErases, OtherKeysStay, ArraysStay, StoredMeans};
 ghost use Rattle.zarrs_group.specs.GivesBack.{GroupGivesBack, GroupV2GivesBack, StoredGivesBack, StoredV2GivesBack};
+ghost use Rattle.zarrs_group.specs.StoredBlocks.{EditKeepsOthers, StoringKeepsOthers, MeansVersion3, ListedBlockOpens};
 ghost use Rattle.zarrs_group.specs.StoringGroups.{RefusesMetadata};
 
 use crate::stored::edits_to_store;
@@ -102,4 +103,33 @@ pub fn stored_gives_back()
 /// Source: `zarrs::node::Node::open_opt`, `zarrs::group::Group::store_metadata`; zarr-python, consolidated metadata of version 2.
 pub fn stored_v2_gives_back()
     ensures { StoredV2GivesBack }
+{}
+
+/// An edit of a store leaves every other key as it was.
+///
+/// Source: Zarr core specification 3.1, "Abstract store interface".
+pub fn edit_keeps_others()
+    ensures { EditKeepsOthers }
+{}
+
+/// Storing a version 3 group leaves every key but that of its document as it was, also where it is refused.
+///
+/// Source: `zarrs::group::Group::store_metadata`.
+pub fn storing_keeps_others()
+    ensures { StoringKeepsOthers }
+{}
+
+/// What a path means as a group of version 3 is a group of version 3.
+///
+/// Source: Zarr core specification 3.1, "Group metadata".
+pub fn means_version_3()
+    ensures { MeansVersion3 }
+{}
+
+/// A version 3 group that is stored with the listed block of the store, and does not nest too deep, holds that block; a node opened at its path
+/// by the block has below it what one opened by a listing has, by default and as version 3, and neither opening is refused.
+///
+/// Source: `zarrs::node::Node::open_opt`, `zarrs::group::Group::store_metadata`.
+pub fn listed_block_opens()
+    ensures { ListedBlockOpens }
 {}

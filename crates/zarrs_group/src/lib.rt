@@ -10,6 +10,7 @@ mod edit;
 mod group;
 pub mod laws;
 mod layout;
+mod nesting;
 mod open;
 mod plain;
 mod stored;

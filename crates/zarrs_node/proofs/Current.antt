@@ -51,7 +51,7 @@ abbrev pub AtOrBelow : Path → Path → Type 0
 AtOrBelow p q = (q ≡ p) ⊎ IsBelow p q
 
 -- no path is below itself
-not_below_itself : (p : Path) → IsBelow p p → ⊥
+pub not_below_itself : (p : Path) → IsBelow p p → ⊥
 not_below_itself p low =
     let long = ap length low.2 in
     let more = length-append p (low.0 ∷ low.1) in
@@ -141,7 +141,7 @@ module _ (S T : Contents) (q : Path) (same : (file : List ℕ) → Contains docu
   meaning_same V2 = v2_is T q ∙ array_same (zgroup_line in_bytes T q nothing) ∙ ap (zarray_line in_bytes S q) (group_same nothing) ∙ sym (v2_is S q)
 
 -- stores that agree outside the documents of a path mean the same at each other path
-elsewhere_same : (S T : Contents) (v : MetadataRetrieveVersion) (p : Path) → AgreesOutside p S T → (q : Path) → q ≢ p → meaning T v q ≡ meaning S v q
+pub elsewhere_same : (S T : Contents) (v : MetadataRetrieveVersion) (p : Path) → AgreesOutside p S T → (q : Path) → q ≢ p → meaning T v q ≡ meaning S v q
 elsewhere_same S T v p agrees q other = meaning_same S T q (λ file in'. agrees (q ++ file ∷ []) (λ d. other (same_from_push q p file d.0 d.2).0)) v
 
 -- ---- texts about a path
@@ -188,11 +188,11 @@ about_from b p q n ns (x, xs, low) valid is names about = ⊎_elim
 -- what is neither p nor below it is kept alike
 module _ (from to : Path → Meaning) (b p : Path) (same : (q : Path) → q ≢ p → to q ≡ from q) where
   -- a group elsewhere
-  group_elsewhere : (r : Path) → r ≢ p → HasGroup (Means from) r → HasGroup (Means to) r
+  pub group_elsewhere : (r : Path) → r ≢ p → HasGroup (Means from) r → HasGroup (Means to) r
   group_elsewhere r other g = (g.0, same r other ∙ g.1, g.2)
 
   -- what is reached elsewhere
-  reached_elsewhere : (q : Path) → (AtOrBelow p q → ⊥) → Reached (Means from) true b q → Reached (Means to) true b q
+  pub reached_elsewhere : (q : Path) → (AtOrBelow p q → ⊥) → Reached (Means from) true b q → Reached (Means to) true b q
   reached_elsewhere q far h = record {
     below = h.below;
     between = λ r low up. (refl, group_elsewhere r (λ is. far (inr (subst (λ x. IsBelow x q) is up))) (h.between r low up).1);
@@ -242,7 +242,7 @@ module _ (from to : Path → Meaning) (b p : Path) (low : IsBelow b p) (valid : 
   }
 
   -- where p is reached, or something below it, the block leads to p
-  reached_led : (q : Path) → AtOrBelow p q → Reached (Means to) true b q → LeadsTo B b p
+  pub reached_led : (q : Path) → AtOrBelow p q → Reached (Means to) true b q → LeadsTo B b p
   reached_led q at h = record {
     below = (low.0, low.1, low.2, names_beyond b p low.0 low.1 low.2 valid);
     between = λ r in' up.
@@ -253,7 +253,7 @@ module _ (from to : Path → Meaning) (b p : Path) (low : IsBelow b p) (valid : 
   }
 
   -- the names beyond p of a path that is reached
-  deep_names : (q : Path) → Reached (Means to) true b q → (deep : IsBelow p q) → IsPath (deep.0 ∷ deep.1)
+  pub deep_names : (q : Path) → Reached (Means to) true b q → (deep : IsBelow p q) → IsPath (deep.0 ∷ deep.1)
   deep_names q h deep =
       let cut : h.below.0 ∷ h.below.1 ≡ (low.0 ∷ low.1) ++ deep.0 ∷ deep.1 =
       append_cancel_left b (h.below.0 ∷ h.below.1) ((low.0 ∷ low.1) ++ deep.0 ∷ deep.1)

@@ -63,7 +63,7 @@ module _ (N : Path × NodeMetadata → Type 0) (b : Path) (B : Block) (names : (
   ] refl some
 
   -- each node of the block is that of a pair
-  nodes_plain : ((e : Path × NodeMetadata) → N e → IsTrue (is_plain_node e.1)) → (es : Block) → AllByRecursion (λ e. node_at_key B e.0 ≡ Some e.1) es → All (λ e. IsTrue (is_plain_node e.1)) es
+  pub nodes_plain : ((e : Path × NodeMetadata) → N e → IsTrue (is_plain_node e.1)) → (es : Block) → AllByRecursion (λ e. node_at_key B e.0 ≡ Some e.1) es → All (λ e. IsTrue (is_plain_node e.1)) es
   nodes_plain plain [] at = All-nil (λ e. IsTrue (is_plain_node e.1))
   nodes_plain plain (e ∷ es) at =
       let w = (is e.0 e.1).0 at.0 in

@@ -40,6 +40,8 @@ pub mod ListedBlock
 pub mod Leads
 pub mod Anew
 pub mod Current
+pub mod PlainMeanings
+pub mod ListedBlocks
 pub mod Sizes
 pub mod Stops
 pub mod Plugged

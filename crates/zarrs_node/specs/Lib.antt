@@ -9,6 +9,7 @@ pub mod Inverse
 pub mod LastOfEqualPaths
 pub mod Laws
 pub mod Lines
+pub mod ListedBlocks
 pub mod Nodes
 pub mod OpeningNodes
 pub mod Order

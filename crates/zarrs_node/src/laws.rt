@@ -3,6 +3,7 @@ ghost use Rattle.zarrs_node.specs.Laws.{OneForest, OneListing, PairsAscend, Plac
 ghost use Rattle.zarrs_node.specs.Inverse.{BlockGivesBack, ListingGivesBack};
 ghost use Rattle.zarrs_node.specs.Small.{ZmetadataShows};
 ghost use Rattle.zarrs_node.specs.Changes.{FreshIsBlock, RefreshedIsBlock, RefreshedIsOpened};
+ghost use Rattle.zarrs_node.specs.ListedBlocks.{OneListedBlock, FreshIsListed, ListedBlockStays};
 
 /// Two placed forests with the same pairs are one.
 ///
@@ -113,4 +114,26 @@ pub fn refreshed_is_block()
 /// Source: own.
 pub fn refreshed_is_opened()
     ensures { RefreshedIsOpened }
+{}
+
+/// A store has one listed block below a base: two calls of `consolidate_nodes_of` answer the same.
+///
+/// Source: own.
+pub fn one_listed_block()
+    ensures { OneListedBlock }
+{}
+
+/// Where the documents of one path changed, the listed block of the store before, made current at that path, is the listed block of the
+/// store: `refresh_block` answers what `consolidate_nodes_of` would, and a listing comes upon nothing bad where nothing refused it.
+///
+/// Source: own.
+pub fn fresh_is_listed()
+    ensures { FreshIsListed }
+{}
+
+/// Where the documents of the base itself changed, the listed block below it stays.
+///
+/// Source: own.
+pub fn listed_block_stays()
+    ensures { ListedBlockStays }
 {}

@@ -25,7 +25,7 @@ use Rattle.zarrs_tool.specs.Output.{IsBlockText}
 use Rattle.zarrs_tool.specs.declared.fault.ToolFault.{ToolFault}
 use Rattle.zarrs_tool.specs.declared.fault.ToolFault.TheVariants.{Node}
 use Rattle.zarrs_tool.specs.StepsOfRuns.{IsArray, RefusesOpen, IsBlockFault}
-use Rattle.zarrs_tool.proofs.PlainMeanings.{plain_node}
+use Rattle.zarrs_node.proofs.PlainMeanings.{plain_node}
 
 -- what was read as a document has numbers that fit
 fits_first : (b : Bool) (d : Data) (rest : Members → Result Block MetadataFault) (B : Block) → ((if b then Err UnsupportedNumber else object_of d) >>= rest) ≡ Ok B → b ≡ false

@@ -1,7 +1,10 @@
-//! Three callers of this library, each a proved example of what a layer above does: an array layer that opens an array and reads a chunk, a
-//! catalogue that keeps a consolidated block current, and a converter of a hierarchy of version 2. They stand on public contracts alone.
+//! Callers of this library, each a proved example of what a layer above does: a first call; an array layer, which opens an array and reads a
+//! chunk; a catalogue, which keeps a consolidated block current; and a converter of a hierarchy of version 2. They stand on public contracts
+//! alone.
 #![tactic(auto)]
 
+mod catalogue;
 mod first_call;
 
+pub use catalogue::{Catalogue, Change, ChangeError, RefusedStep, StoringError};
 pub use first_call::is_group_at;

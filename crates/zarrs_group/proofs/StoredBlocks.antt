@@ -1,0 +1,131 @@
+-- A version 3 group that was stored with the block of a listing opens by that block as by a listing.
+use Rattle.std.proofs.Common.{◌≡◌, ◌≤◌, inl, inr, ⊎_elim, Bool, true, List, [], ◌∷◌, ◌++◌, length, Option, Some, None, Result, Ok, Err, refl, sym, ap, subst, ◌∙◌, arith, length-append}
+use Rattle.serde_json.specs.Data.{depth}
+use Rattle.serde_json.specs.Read.{max_depth}
+use Rattle.zarrs_store.specs.Contents.{Contents, AgreesExceptAt}
+use Rattle.zarrs_store.specs.declared.storage_error.StorageError.{StorageError}
+use Rattle.zarrs_store.specs.declared.storage_error.StorageError.TheVariants as storage
+use Rattle.zarrs_store.proofs.ContentsLemmas.{AgreesExceptAt-insert, AgreesExceptAt-remove}
+use Rattle.zarrs_path.specs.Keys.{zarr_json}
+use Rattle.zarrs_path.specs.Paths.{Path, IsPath}
+use Rattle.zarrs_config.specs.declared.version.MetadataConvertVersion.{MetadataConvertVersion}
+use Rattle.zarrs_config.specs.declared.version.MetadataConvertVersion.TheVariants as convert
+use Rattle.zarrs_config.specs.declared.version.MetadataRetrieveVersion.{MetadataRetrieveVersion}
+use Rattle.zarrs_config.specs.declared.version.MetadataRetrieveVersion.TheVariants as retrieve
+use Rattle.zarrs_config.specs.declared.version.UseConsolidatedMetadata.{UseConsolidatedMetadata}
+use Rattle.zarrs_config.specs.declared.version.UseConsolidatedMetadata.TheVariants.{Auto, Must, Never}
+use Rattle.zarrs_meta.specs.declared.group_v3.GroupMetadataV3.{GroupMetadataV3}
+use Rattle.zarrs_meta.specs.declared.node.GroupMetadata.{GroupMetadata}
+use Rattle.zarrs_meta.specs.declared.node.GroupMetadata.TheVariants.{V3}
+use Rattle.zarrs_meta.specs.declared.node.NodeMetadata.TheVariants.{Group}
+use Rattle.zarrs_block.specs.Block.{Block}
+use Rattle.zarrs_block.specs.Meaning.{meaning, node, nothing}
+use Rattle.zarrs_block.specs.Policy.{block_in_group, block_to_use}
+use Rattle.zarrs_block.specs.declared.node_create_error.NodeCreateError.{NodeCreateError}
+use Rattle.zarrs_node.specs.BlocksBelow.{block_at}
+use Rattle.zarrs_node.specs.Nodes.{ShowsBad}
+use Rattle.zarrs_node.specs.ListedBlocks.{IsListedBlock}
+use Rattle.zarrs_node.specs.OpeningNodes.{choice, RefusesChosen, ShowsBelow, ShowsChosen}
+use Rattle.zarrs_node.specs.OpeningNodes as opened
+use Rattle.zarrs_node.proofs.ListedBlocks.{listed_plain, listed_keys, shown_alike}
+use Rattle.zarrs_group.specs.Edits.{Edit, set, remove, after, edit_key, IsCutShort}
+use Rattle.zarrs_group.specs.Groups.{group_tree, metadata_by_version}
+use Rattle.zarrs_group.specs.Meaning.{MeansGroup, group_v3_line, group_line, group_meaning}
+use Rattle.zarrs_group.specs.BlocksOfGroups.{MetadataHold, beside_with, fields_with, held_by, held_in, metadata_with, with_block}
+use Rattle.zarrs_group.specs.Laws.{MeansStored}
+use Rattle.zarrs_meta.specs.GroupV3.{group_v3_tree}
+use Rattle.zarrs_group.specs.Layout.{pretty_text}
+use Rattle.zarrs_group.specs.StoredBlocks.{OpensAlike, EditKeepsOthers, StoringKeepsOthers, MeansVersion3, ListedBlockOpens}
+use Rattle.zarrs_group.specs.StoringGroups.{store_edits, RefusesStoring}
+use Rattle.zarrs_group.proofs.BlockFields.{held_once_set}
+use Rattle.zarrs_group.proofs.GivesBack.{means_node, no_bad_key, opens_clean}
+
+-- an edit leaves every other key as it was
+pub edit_keeps_others : EditKeepsOthers
+edit_keeps_others S (set key bytes) = AgreesExceptAt-insert S key bytes
+edit_keeps_others S (remove key) = AgreesExceptAt-remove S key
+
+-- so does a single edit that was cut short
+cut_keeps_others : (S T : Contents) (e : Edit) → IsCutShort S (e ∷ []) T → AgreesExceptAt (edit_key e) S T
+cut_keeps_others S T e cut = by cut.done cut.is cut.others
+  where
+    by : (done : List Edit) → e ∷ [] ≡ done ++ cut.next ∷ cut.rest → AgreesExceptAt (edit_key cut.next) (after S done) T → AgreesExceptAt (edit_key e) S T
+    by [] is others = subst (λ x. AgreesExceptAt (edit_key x) S T) (sym (first is)) others
+      where
+        first : e ∷ [] ≡ cut.next ∷ cut.rest → e ≡ cut.next
+        first is = cc
+    by (d ∷ done) is others = let long = ap length is in let more = length-append done (cut.next ∷ cut.rest) in absurd (omega (arith, long, more))
+
+-- the metadata of version 3 are written as they are, by whatever version
+written_as_is : (v : MetadataConvertVersion) (m : GroupMetadataV3) → metadata_by_version v (V3 m) ≡ V3 m
+written_as_is convert.Default m = refl
+written_as_is convert.V3 m = refl
+
+module _ (S T : Contents) (p : Path) (m : GroupMetadataV3) (block : Option Block) where
+  -- storing a version 3 group changes its document alone
+  stored_keeps : AgreesExceptAt (p ++ zarr_json ∷ []) S (after S (store_edits p (V3 m) block))
+  stored_keeps = edit_keeps_others S (set (p ++ zarr_json ∷ []) (pretty_text (group_v3_tree m)))
+
+  -- also where it is refused
+  refused_keeps : (can_fail : Bool) (e : StorageError) → RefusesStoring can_fail p (V3 m) block S T e → AgreesExceptAt (p ++ zarr_json ∷ []) S T
+  refused_keeps can_fail storage.Fault h = cut_keeps_others S T _ h.2
+  refused_keeps can_fail (storage.InvalidMetadata key fault) h = subst (AgreesExceptAt (p ++ zarr_json ∷ []) S) (sym h.0) (λ other not. refl)
+  refused_keeps can_fail (storage.Other text) h = absurd h
+  refused_keeps can_fail storage.OutOfMemory h = cut_keeps_others S T _ h
+
+-- so does storing a group whose metadata are of version 3
+pub storing_keeps_others : StoringKeepsOthers
+storing_keeps_others S T v g m is =
+    let same : metadata_by_version v g.metadata ≡ V3 m = ap (metadata_by_version v) is ∙ written_as_is v m in (
+      subst (λ x. AgreesExceptAt (g.path ++ zarr_json ∷ []) S (after S (store_edits g.path x g.block))) (sym same) (stored_keeps S T g.path m g.block),
+      λ can_fail e h. refused_keeps S T g.path m g.block can_fail e (subst (λ x. RefusesStoring can_fail g.path x g.block S T e) same h),
+    )
+
+-- what the line of version 3 says is a group of version 3
+line_is_v3 : (r : Result (Option GroupMetadataV3) StorageError) (m : GroupMetadata) → group_v3_line r nothing ≡ node (Group m) → (k : GroupMetadataV3) × (m ≡ V3 k)
+line_is_v3 (Ok None) m e = cc
+line_is_v3 (Ok (Some k)) m e = (k, cc)
+line_is_v3 (Err why) m e = cc
+
+-- what a path means as a group of version 3 is one
+pub means_version_3 : MeansVersion3
+unfolding group_meaning group_line
+means_version_3 S p m e = line_is_v3 _ m e
+
+module _ (S : Contents) (v : MetadataRetrieveVersion) (p : Path) (k : GroupMetadataV3) (B : Block) (valid : IsPath p) (listed : IsListedBlock S v p B)
+    (means : meaning S v p ≡ node (Group (V3 k))) (held : block_at S p (Group (V3 k)) ≡ Some B) where
+  -- under Must the block is used
+  must : choice S Must p (Group (V3 k)) ≡ Some (Some B)
+  must = ap (λ o. block_to_use o Must) held
+
+  -- under Never it is not
+  never : choice S Never p (Group (V3 k)) ≡ Some None
+  never = ap (λ o. block_to_use o Never) held
+
+  -- nothing below the group is refused
+  clean : (policy : UseConsolidatedMetadata) (e : NodeCreateError) → opened.RefusesBelow S v policy p (Group (V3 k)) e → ⊥
+  clean Auto e h = no_bad_key B (listed_keys S v p B listed) e (subst (λ c. RefusesChosen S v c true p e) (ap (λ o. block_to_use o Auto) held) h)
+  clean Must e h = no_bad_key B (listed_keys S v p B listed) e (subst (λ c. RefusesChosen S v c true p e) must h)
+  clean Never e h =
+      let shows : ShowsBad S v true p e = subst (λ c. RefusesChosen S v c true p e) never h in
+      listed.clean (⊎_elim (λ w. inl (e, w)) (λ w. inr (w.0, w.1)) shows)
+
+  -- the group opens alike by the block and by a listing
+  alike : OpensAlike S v p (V3 k)
+  alike = record {
+    means = means;
+    children = λ f g one two. shown_alike S v p B listed f g (subst (λ c. ShowsChosen S v c true p f) must one) (subst (λ c. ShowsChosen S v c true p g) never two);
+    opened = λ policy. opens_clean S v policy p valid (Group (V3 k)) means (clean policy);
+  }
+
+-- so does a group that was stored with the listed block
+pub listed_block_opens : ListedBlockOpens
+listed_block_opens S v w g m B not valid is listed stored shallow =
+    let k : GroupMetadataV3 = record { attributes = m.attributes; additional_fields = fields_with (Some B) m.additional_fields } in
+    let same : metadata_with (Some B) g.metadata ≡ V3 k = ap (metadata_with (Some B)) is in
+    let holds : held_by (with_block g (Some B)) ≡ Some B = held_once_set g (Some B) (subst (λ x. MetadataHold x (Some B)) (sym is) (listed_plain S v g.path B listed)) in
+    let held : block_at S g.path (Group (V3 k)) ≡ Some B = ap (λ x. held_in x (beside_with (Some B) g.metadata g.block)) (sym same) ∙ holds in
+    let both : depth (group_tree (V3 k)) ≤ max_depth → MeansGroup S retrieve.Default g.path (V3 k) × MeansGroup S retrieve.V3 g.path (V3 k) =
+    subst (MeansStored S g.path) (ap (metadata_by_version w) same ∙ written_as_is w k) stored in
+    let means : meaning S v g.path ≡ node (Group (V3 k)) = means_node S S g.path k (both (subst (λ x. depth (group_tree x) ≤ max_depth) same shallow)).1 refl v not in
+    (ap block_in_group same ∙ held, subst (OpensAlike S v g.path) (sym same) (alike S v g.path k B valid listed means held))

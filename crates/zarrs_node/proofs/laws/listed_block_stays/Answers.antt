@@ -1,0 +1,5 @@
+use Rattle.zarrs_node.proofs.ListedBlocks as law
+use Rattle.zarrs_node.proofs.laws.listed_block_stays.Goals as goal
+
+pub returns : goal.returns
+returns c = law.listed_block_stays
