@@ -28,8 +28,8 @@ impl NodeMetadata {
         let bytes = value.to_vec_pretty(alloc)?;
         match parse(alloc, bytes.as_slice()) {
             Ok(_) => Ok(Some(bytes)),
-            Err(MetadataFault::OutOfMemory) => Err(AllocError),
-            Err(_) => Ok(None),
+            Err(MetadataFault::NotJson) => Ok(None),
+            Err(_) => Err(AllocError),
         }
     }
 }

@@ -43,3 +43,8 @@ pub mod Current
 pub mod Sizes
 pub mod Stops
 pub mod Plugged
+pub mod MapsShown
+pub mod InFront
+pub mod Versions
+pub mod DocumentsSet
+pub mod DocumentsErased

@@ -1,5 +1,23 @@
 //! A converter: a hierarchy of version 2 becomes one of version 3 in the same store, beside its old documents; and these are erased
 //! once nothing needs them.
+ghost use Rattle.std.specs.Prelude.{◌≡◌, ◌≢◌, ◌↔◌, ℕ, [], ◌∷◌, ◌++◌, Ok, None, Some, Contains, List, IfOk, IfErr, OnOk, MatchResult};
+ghost use Rattle.std.specs.FinMap.{get};
+ghost use Rattle.std.specs.Global.{Vec as Bytes};
+ghost use Rattle.zarrs_store.specs.Faults.{IsStoreError};
+ghost use Rattle.zarrs_store.specs.Segments.{Segments};
+ghost use Rattle.zarrs_path.specs.Paths.{Path};
+ghost use Rattle.zarrs_meta.specs.NodeDocuments.{ReadsAs};
+ghost use Rattle.zarrs_meta.specs.declared.node.ArrayMetadata.TheVariants as array_metadata;
+ghost use Rattle.zarrs_meta.specs.declared.node.NodeMetadata.{NodeMetadata};
+ghost use Rattle.zarrs_meta.specs.declared.node.NodeMetadata.TheVariants as node_metadata;
+ghost use Rattle.zarrs_block.specs.Meaning.{meaning, node};
+ghost use Rattle.zarrs_block.specs.Refusals.{IsExcusedOr};
+ghost use Rattle.zarrs_convert.specs.Arrays.{array_v3};
+ghost use Rattle.zarrs_node.specs.MapsOfNodes.{AreDocumentsOf, IsBeside, NodesFrom, ShowsMapped, keys_beside, version_2_files, with_documents, without_keys};
+ghost use Rattle.zarrs_node.specs.Nodes.{HasNothingBad};
+ghost use Rattle.zarrs_node.specs.Order.{Ascend};
+ghost use Rattle.zarrs_uses.specs.Conversions.{KeepsOthers, RefusesConverting, RefusesErasing, RefusesFrom, RefusesNodes, as_v3};
+ghost use Rattle.zarrs_uses.specs.StepsOfConversions.{IsConverted, RefusesDocumentAt, RefusesMetadataAt};
 
 use log::Log;
 use std::alloc::{AllocError, AllocFailed, Global};
@@ -12,7 +30,7 @@ use zarrs_convert::{
 use zarrs_meta::{
     ArrayMetadata, ArrayMetadataV2, ArrayMetadataV3, BoxedArray, GroupMetadata, NodeMetadata,
 };
-use zarrs_node::{Node, get_all_nodes_of};
+use zarrs_node::{Node, get_all_nodes_of, laws};
 use zarrs_path::{
     NodePath, meta_key_v2_array, meta_key_v2_attributes, meta_key_v2_consolidated,
     meta_key_v2_group, meta_key_v3,
@@ -44,24 +62,40 @@ pub enum ConvertError {
 }
 
 impl From<NodeCreateError> for ConvertError {
+    ghost use Rattle.zarrs_uses.specs.declared.converter.ConvertError.TheVariants.{Node};
+
+    ghost from_gives = { λ error made. made ≡ Node error };
+
     fn from(error: NodeCreateError) -> ConvertError {
         ConvertError::Node(error)
     }
 }
 
 impl From<StorageError> for ConvertError {
+    ghost use Rattle.zarrs_uses.specs.declared.converter.ConvertError.TheVariants.{Storage};
+
+    ghost from_gives = { λ error made. made ≡ Storage error };
+
     fn from(error: StorageError) -> ConvertError {
         ConvertError::Storage(error)
     }
 }
 
 impl From<AllocError> for ConvertError {
+    ghost use Rattle.zarrs_uses.specs.declared.converter.ConvertError.TheVariants.{OutOfMemory};
+
+    ghost from_gives = { λ _ made. made ≡ OutOfMemory };
+
     fn from(_error: AllocError) -> ConvertError {
         ConvertError::OutOfMemory
     }
 }
 
 impl<T: Drop> From<AllocFailed<T>> for ConvertError {
+    ghost use Rattle.zarrs_uses.specs.declared.converter.ConvertError.TheVariants.{OutOfMemory};
+
+    ghost from_gives = { λ _ made. made ≡ OutOfMemory };
+
     fn from(_error: AllocFailed<T>) -> ConvertError {
         ConvertError::OutOfMemory
     }
@@ -92,7 +126,23 @@ pub fn convert_hierarchy<
     alloc: Global,
     storage: &mut S,
     base: &NodePath,
-) -> Result<(), ConvertError> {
+) -> Result<(), ConvertError>
+    ensures node { OnOk result
+        ((m : NodeMetadata) × meaning (S.contents storage.old) MetadataRetrieveVersion.Default
+        base.now ≡ node m) }
+    ensures version_3 { OnOk result
+        (ShowsMapped as_v3 base.now (S.contents storage.old) MetadataRetrieveVersion.Default
+        (S.contents storage.new) MetadataRetrieveVersion.V3) }
+    ensures default { OnOk result
+        (ShowsMapped as_v3 base.now (S.contents storage.old) MetadataRetrieveVersion.Default
+        (S.contents storage.new) MetadataRetrieveVersion.Default) }
+    ensures others { KeepsOthers base.now (S.contents storage.old) (S.contents storage.new) }
+    ensures refused { IfErr result
+        (RefusesConverting (S.can_fail storage.old) base.now (S.contents storage.old)
+        (S.contents storage.new)) }
+    ensures nature { S.can_fail storage.new ≡ S.can_fail storage.old }
+{
+    laws::documents_are_shown();
     let nodes = nodes_from(log, alloc, storage, base, &MetadataRetrieveVersion::Default)?;
     let documents = documents_of(log, alloc, &nodes)?;
     Ok(set_all(storage, &documents)?)
@@ -116,7 +166,30 @@ pub fn erase_version_2<
     alloc: Global,
     storage: &mut S,
     base: &NodePath,
-) -> Result<(), ConvertError> {
+) -> Result<(), ConvertError>
+    ensures erased { OnOk result
+        ((e : Path × NodeMetadata) (file : List ℕ)
+        → NodesFrom (S.contents storage.old) MetadataRetrieveVersion.V3 base.now e
+        → Contains version_2_files file
+        → get (S.contents storage.new) (e.0 ++ file ∷ []) ≡ None) }
+    ensures shows { OnOk result
+        (HasNothingBad (S.contents storage.old) MetadataRetrieveVersion.Default true base.now
+        → ShowsMapped Some base.now (S.contents storage.old) MetadataRetrieveVersion.Default
+        (S.contents storage.new) MetadataRetrieveVersion.Default) }
+    ensures means { (p : Path)
+        → meaning (S.contents storage.new) MetadataRetrieveVersion.Default p
+        ≡ meaning (S.contents storage.old) MetadataRetrieveVersion.Default p }
+    ensures others { (key : Segments) → (IsBeside (S.contents storage.old) key → ⊥)
+        → get (S.contents storage.new) key ≡ get (S.contents storage.old) key }
+    ensures refused { IfErr result
+        (RefusesErasing (S.can_fail storage.old) MetadataRetrieveVersion.V3 base.now
+        (S.contents storage.old) (S.contents storage.new)) }
+    ensures nature { S.can_fail storage.new ≡ S.can_fail storage.old }
+{
+    laws::keys_stand_beside();
+    laws::erased_are_absent();
+    laws::erased_show_same();
+    laws::beside_means_same();
     let nodes = nodes_from(log, alloc, storage, base, &MetadataRetrieveVersion::V3)?;
     let keys = version_2_keys(alloc, &nodes)?;
     Ok(erase_all(storage, &keys)?)
@@ -129,7 +202,20 @@ fn nodes_from<L: Log, S: ReadableStorageTraits + ListableStorageTraits>(
     storage: &S,
     base: &NodePath,
     version: &MetadataRetrieveVersion,
-) -> Result<Vec<(NodePath, NodeMetadata)>, NodeCreateError> {
+) -> Result<Vec<(NodePath, NodeMetadata)>, NodeCreateError>
+    ensures node { OnOk result
+        ((m : NodeMetadata) × meaning (S.contents storage.now) version.now base.now ≡ node m) }
+    ensures nodes { IfOk result
+        (λ all. (e : Path × NodeMetadata) → Contains all.items e
+        ↔ NodesFrom (S.contents storage.now) version.now base.now e) }
+    ensures ascending { IfOk result (λ all. Ascend all.items) }
+    ensures clean { OnOk result
+        (HasNothingBad (S.contents storage.now) version.now true base.now) }
+    ensures refused { IfErr result
+        (IsExcusedOr (S.can_fail storage.now)
+        (RefusesFrom (S.contents storage.now) version.now base.now)) }
+{
+    laws::base_in_front();
     let metadata = Node::get_metadata(alloc, storage, base, version)?;
     let mut nodes = get_all_nodes_of(log, alloc, storage, base, version)?;
     nodes.insert(0, (base.try_clone(alloc)?, metadata))?;
@@ -141,7 +227,12 @@ fn documents_of<L: Log>(
     log: &L,
     alloc: Global,
     nodes: &[(NodePath, NodeMetadata)],
-) -> Result<Vec<(StoreKey, Vec<u8>)>, ConvertError> {
+) -> Result<Vec<(StoreKey, Vec<u8>)>, ConvertError>
+    requires ascending { Ascend nodes.now }
+    ensures documents { IfOk result (λ ds. AreDocumentsOf as_v3 (Contains nodes.now) ds.items) }
+    ensures refused { IfErr result (RefusesNodes (Contains nodes.now)) }
+{
+    laws::earlier_stands_before();
     let mut documents = Vec::new(alloc);
     for (path, metadata) in nodes {
         if let Some(converted) = converted(log, alloc, path, metadata)? {
@@ -158,7 +249,10 @@ fn converted<L: Log>(
     alloc: Global,
     path: &NodePath,
     metadata: &NodeMetadata,
-) -> Result<Option<NodeMetadata>, ConvertError> {
+) -> Result<Option<NodeMetadata>, ConvertError>
+    ensures ok { IfOk result (IsConverted metadata.now) }
+    ensures refused { IfErr result (RefusesMetadataAt path.now metadata.now) }
+{
     match metadata {
         NodeMetadata::Group(GroupMetadata::V2(group)) => {
             let group = group_metadata_v2_to_v3(alloc, group)?;
@@ -182,7 +276,11 @@ fn converted_array<L: Log>(
     alloc: Global,
     path: &NodePath,
     array: &ArrayMetadataV2,
-) -> Result<ArrayMetadataV3, ConvertError> {
+) -> Result<ArrayMetadataV3, ConvertError>
+    ensures ok { IfOk result (λ converted. array_v3 array.now ≡ Ok converted) }
+    ensures refused { IfErr result
+        (RefusesMetadataAt path.now (node_metadata.Array (array_metadata.V2 array.now))) }
+{
     match array_metadata_v2_to_v3(log, alloc, array) {
         Ok(array) => Ok(array),
         Err(error) => Err(ConvertError::Array(path.try_clone(alloc)?, error)),
@@ -194,7 +292,10 @@ fn document_of(
     alloc: Global,
     path: &NodePath,
     metadata: &NodeMetadata,
-) -> Result<Vec<u8>, ConvertError> {
+) -> Result<Vec<u8>, ConvertError>
+    ensures ok { IfOk result (λ bytes. ReadsAs bytes.items metadata.now) }
+    ensures refused { IfErr result (RefusesDocumentAt path.now metadata.now) }
+{
     match metadata.to_document(alloc)? {
         Some(bytes) => Ok(bytes),
         None => Err(ConvertError::Depth(path.try_clone(alloc)?)),
@@ -205,7 +306,15 @@ fn document_of(
 fn set_all<S: WritableStorageTraits>(
     storage: &mut S,
     documents: &[(StoreKey, Vec<u8>)],
-) -> Result<(), StorageError> {
+) -> Result<(), StorageError>
+    ensures set { OnOk result
+        (S.contents storage.new ≡ with_documents (S.contents storage.old) documents.now) }
+    ensures err { IfErr result (IsStoreError (S.can_fail storage.old)) }
+    ensures others { (key : Segments)
+        → ((d : Segments × Bytes ℕ) → Contains documents.now d → d.0 ≢ key)
+        → get (S.contents storage.new) key ≡ get (S.contents storage.old) key }
+    ensures nature { S.can_fail storage.new ≡ S.can_fail storage.old }
+{
     for (key, bytes) in documents {
         storage.set(key, bytes.as_slice())?;
     }
@@ -216,7 +325,9 @@ fn set_all<S: WritableStorageTraits>(
 fn version_2_keys(
     alloc: Global,
     nodes: &[(NodePath, NodeMetadata)],
-) -> Result<Vec<StoreKey>, AllocError> {
+) -> Result<Vec<StoreKey>, AllocError>
+    ensures { IfOk result (λ keys. keys.items ≡ keys_beside nodes.now) }
+{
     let mut keys = Vec::new(alloc);
     for (path, _metadata) in nodes {
         keys.push(meta_key_v2_array(alloc, path)?)?;
@@ -231,7 +342,14 @@ fn version_2_keys(
 fn erase_all<S: WritableStorageTraits>(
     storage: &mut S,
     keys: &[StoreKey],
-) -> Result<(), StorageError> {
+) -> Result<(), StorageError>
+    ensures erased { OnOk result
+        (S.contents storage.new ≡ without_keys (S.contents storage.old) keys.now) }
+    ensures err { IfErr result (IsStoreError (S.can_fail storage.old)) }
+    ensures others { (key : Segments) → (Contains keys.now key → ⊥)
+        → get (S.contents storage.new) key ≡ get (S.contents storage.old) key }
+    ensures nature { S.can_fail storage.new ≡ S.can_fail storage.old }
+{
     for key in keys {
         storage.erase(key)?;
     }
