@@ -36,7 +36,7 @@ absent_stays S [] key none = none
 absent_stays S (k ∷ ks) key none =
     absent_stays (map.remove S k) ks key (map.get-remove key_cmp_total S k key ∙ ap (cond (eq_by_cmp key_cmp key k) None) none ∙ both (eq_by_cmp key_cmp key k))
   where
-    both : (t : Bool) → cond t None None ≡ None {A = List ℕ}
+    both : (t : Bool) → cond t None None ≡ (let o : Option (List ℕ) = None in o)
     both true = refl
     both false = refl
 

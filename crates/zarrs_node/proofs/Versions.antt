@@ -46,7 +46,7 @@ apart None e = refl
 apart (Some k) e = ap (λ x. x == 2) (eqb-true k 3 e)
 
 -- a step that is taken where a test is true
-ok_if : (t : Bool) → is_ok {A = Unit {0}} {E = MetadataFault} (if t then Ok tt else Err WrongFormat) ≡ t
+ok_if : (t : Bool) → is_ok (let r : Result (Unit {0}) MetadataFault = if t then Ok tt else Err WrongFormat in r) ≡ t
 ok_if true = refl
 ok_if false = refl
 
@@ -58,7 +58,7 @@ three_not_two d e =
     ok_if (is_that 2 o) ∙ apart o (sym (ok_if (is_that 3 o)) ∙ e)
 
 -- what is read as a value is it
-same_ok : {A : Type 0} (x y : A) → Ok {E = MetadataFault} x ≡ Ok y → x ≡ y
+same_ok : {A : Type 0} (x y : A) → (let r : Result A MetadataFault = Ok x in r) ≡ Ok y → x ≡ y
 same_ok x y e = cc
 
 -- a document of version 2 has metadata of version 2
