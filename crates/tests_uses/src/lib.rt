@@ -3,3 +3,5 @@
 
 #[cfg(test)]
 mod catalogue;
+#[cfg(test)]
+mod converter;

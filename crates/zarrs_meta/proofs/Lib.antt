@@ -10,3 +10,4 @@ pub mod PlainGroups
 pub mod PlainArrays
 pub mod PlainNodes
 pub mod MemoryLaws
+pub mod WrittenDocuments

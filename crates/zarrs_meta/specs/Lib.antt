@@ -7,3 +7,4 @@ pub mod Attributes
 pub mod StepsOfReading
 pub mod Node
 pub mod Laws
+pub mod NodeDocuments

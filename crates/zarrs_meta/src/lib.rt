@@ -13,6 +13,7 @@ mod group_v2;
 mod group_v3;
 pub mod laws;
 mod node;
+mod node_document;
 
 pub use array_v2::ArrayMetadataV2;
 pub use array_v3::ArrayMetadataV3;

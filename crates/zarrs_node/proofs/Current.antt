@@ -133,7 +133,7 @@ module _ (S T : Contents) (q : Path) (same : (file : List ℕ) → Contains docu
   group_same after = (λ i. version_2_line (λ m. Group (group_v2 m)) group_with (document_same (of_bytes group_v2_of) zgroup third i) (document_same (of_bytes attributes_of) zattrs fourth i) after)
 
   -- so does the path
-  meaning_same : (v : MetadataRetrieveVersion) → meaning T v q ≡ meaning S v q
+  pub meaning_same : (v : MetadataRetrieveVersion) → meaning T v q ≡ meaning S v q
   meaning_same Default =
       default_is T q ∙ json_same (zarray_line in_bytes T q (zgroup_line in_bytes T q nothing))
       ∙ ap (zarr_json_line in_bytes S q) (array_same (zgroup_line in_bytes T q nothing) ∙ ap (zarray_line in_bytes S q) (group_same nothing)) ∙ sym (default_is S q)

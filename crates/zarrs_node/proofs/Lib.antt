@@ -45,3 +45,8 @@ pub mod ListedBlocks
 pub mod Sizes
 pub mod Stops
 pub mod Plugged
+pub mod MapsShown
+pub mod InFront
+pub mod Versions
+pub mod DocumentsSet
+pub mod DocumentsErased

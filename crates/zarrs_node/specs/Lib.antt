@@ -24,3 +24,4 @@ pub mod StepsOfTheWalk
 pub mod StepsOfTrees
 pub mod StepsOfPreorder
 pub mod StepsOfCounting
+pub mod MapsOfNodes

@@ -4,6 +4,7 @@ ghost use Rattle.zarrs_node.specs.Inverse.{BlockGivesBack, ListingGivesBack};
 ghost use Rattle.zarrs_node.specs.Small.{ZmetadataShows};
 ghost use Rattle.zarrs_node.specs.Changes.{FreshIsBlock, RefreshedIsBlock, RefreshedIsOpened};
 ghost use Rattle.zarrs_node.specs.ListedBlocks.{OneListedBlock, FreshIsListed, ListedBlockStays};
+ghost use Rattle.zarrs_node.specs.MapsOfNodes.{BaseInFront, EarlierStandsBefore, MappedIsShown, DocumentsAreShown, KeysStandBeside, OthersAreKept, ErasedAreAbsent, BesideMeansSame, ErasedShowSame};
 
 /// Two placed forests with the same pairs are one.
 ///
@@ -136,4 +137,69 @@ pub fn fresh_is_listed()
 /// Source: own.
 pub fn listed_block_stays()
     ensures { ListedBlockStays }
+{}
+
+/// A node in front of the nodes below it, as they are listed, is a list of the nodes from it on, in the order of paths.
+///
+/// Source: own; Zarr core specification 3.1, "Hierarchy".
+pub fn base_in_front()
+    ensures { BaseInFront }
+{}
+
+/// In an ascending list a pair whose path is before that of another stands before it.
+///
+/// Source: own; Zarr core specification 3.1, "Path".
+pub fn earlier_stands_before()
+    ensures { EarlierStandsBefore }
+{}
+
+/// Where what the paths of a listing mean goes over by a map of metadata that keeps groups groups, a store shows what the other shows,
+/// under that map.
+///
+/// Source: own; Zarr core specification 3.1, "Hierarchy".
+pub fn mapped_is_shown()
+    ensures { MappedIsShown }
+{}
+
+/// Where documents of version 3 are set beside those of version 2, of a node and of all below it, a listing by version 3, and one by
+/// default, shows the same paths as one by default before, with the metadata as version 3.
+///
+/// Source: own; Zarr core specification 3.1, "Metadata".
+pub fn documents_are_shown()
+    ensures { DocumentsAreShown }
+{}
+
+/// The keys of the documents of version 2 at the paths of nodes of version 3 stand beside a document `zarr.json`.
+///
+/// Source: own; Zarr core specification 3.1, "Metadata".
+pub fn keys_stand_beside()
+    ensures { KeysStandBeside }
+{}
+
+/// At a key that is none of those set, and at one that is none of those erased, stands what stood there.
+///
+/// Source: Zarr core specification 3.1, "Abstract store interface".
+pub fn others_are_kept()
+    ensures { OthersAreKept }
+{}
+
+/// Once the documents of version 2 at the paths of some pairs are erased, none of them is there.
+///
+/// Source: Zarr core specification 3.1, "Abstract store interface".
+pub fn erased_are_absent()
+    ensures { ErasedAreAbsent }
+{}
+
+/// Where a store differs from another by documents of version 2 beside a `zarr.json` alone, each path means by default what it meant.
+///
+/// Source: own; Zarr core specification 3.1, "Metadata".
+pub fn beside_means_same()
+    ensures { BesideMeansSame }
+{}
+
+/// Where only documents of version 2 beside a `zarr.json` are erased, a listing by default shows what it showed.
+///
+/// Source: own; Zarr core specification 3.1, "Metadata".
+pub fn erased_show_same()
+    ensures { ErasedShowSame }
 {}

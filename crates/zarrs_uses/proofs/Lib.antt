@@ -1,1 +1,2 @@
 pub mod Catalogues
+pub mod ConvertedNodes

@@ -4,7 +4,9 @@
 #![tactic(auto)]
 
 mod catalogue;
+mod converter;
 mod first_call;
 
 pub use catalogue::{Catalogue, Change, ChangeError, RefusedStep, StoringError};
+pub use converter::{ConvertError, convert_hierarchy, erase_version_2};
 pub use first_call::is_group_at;

@@ -1,0 +1,230 @@
+//! The converter over a store as zarr-python 2 writes it.
+
+use log::sink::Discard;
+use std::alloc::{AllocError, Global};
+use std::test::Fail;
+use tests_fixtures::{config_of, key_of, no_word, store_of, version_of};
+use tests_support::{check_rows, fields, said};
+use zarrs_block::NodeCreateError;
+use zarrs_config::UseConsolidatedMetadata;
+use zarrs_node::Node;
+use zarrs_path::NodePath;
+use zarrs_store::{ListableStorageTraits, MemoryStore, ReadableStorageTraits, WritableStorageTraits};
+use zarrs_uses::{ConvertError, convert_hierarchy, erase_version_2};
+
+// A group as zarr-python 2 writes it.
+const GROUP: &str = r#"{
+    "zarr_format": 2
+}"#;
+
+// Attributes as zarr-python 2 writes them.
+const ATTRIBUTES: &str = r#"{
+    "source": "buoy"
+}"#;
+
+// An array of whole numbers as zarr-python 2 writes it without a compressor.
+const COUNTS: &str = r#"{
+    "chunks": [
+        10,
+        20
+    ],
+    "compressor": null,
+    "dtype": "<i4",
+    "fill_value": 0,
+    "filters": null,
+    "order": "C",
+    "shape": [
+        100,
+        200
+    ],
+    "zarr_format": 2
+}"#;
+
+// An array of floats as zarr-python 2 writes it without a compressor, in the order of Fortran.
+const HEIGHTS: &str = r#"{
+    "chunks": [
+        24
+    ],
+    "compressor": null,
+    "dtype": ">f8",
+    "fill_value": "NaN",
+    "filters": null,
+    "order": "F",
+    "shape": [
+        8760
+    ],
+    "zarr_format": 2
+}"#;
+
+// An array as zarr-python 2 writes it with its own compressor, of which the tables have no form of version 3.
+const PACKED: &str = r#"{
+    "chunks": [
+        24
+    ],
+    "compressor": {
+        "blocksize": 0,
+        "clevel": 5,
+        "cname": "lz4",
+        "id": "blosc",
+        "shuffle": 1
+    },
+    "dtype": "<i4",
+    "fill_value": 0,
+    "filters": null,
+    "order": "C",
+    "shape": [
+        8760
+    ],
+    "zarr_format": 2
+}"#;
+
+// A hierarchy as zarr-python 2 writes it: a root with attributes, an array, and a group with an array.
+const HIERARCHY: [(&str, &str); 7] = [
+    (".zgroup", GROUP),
+    (".zattrs", ATTRIBUTES),
+    ("counts/.zarray", COUNTS),
+    ("counts/.zattrs", ATTRIBUTES),
+    ("counts/0.0", "chunk"),
+    ("waves/.zgroup", GROUP),
+    ("waves/heights/.zarray", HEIGHTS),
+];
+
+// Does a step to a store: converts or erases from the root on, or puts documents there that do not convert.
+fn step(alloc: Global, store: &mut MemoryStore, word: &str) -> Result<(), ConvertError> {
+    let root = root(alloc)?;
+    match word {
+        "written" => Ok(()),
+        "convert" => convert_hierarchy(&Discard, alloc, store, &root),
+        "erase" => erase_version_2(&Discard, alloc, store, &root),
+        "packed" => put(alloc, store, "waves/packed/.zarray", PACKED),
+        "deep" => put(alloc, store, "waves/.zattrs", deep(alloc)?.as_str()),
+        "bad" => put(alloc, store, "waves/.zattrs", "[]"),
+        word => Err(ConvertError::Storage(no_word(alloc, word))),
+    }
+}
+
+fn root(alloc: Global) -> Result<NodePath, NodeCreateError> {
+    Ok(NodePath::root(alloc)?)
+}
+
+// Sets a document.
+fn put(
+    alloc: Global,
+    store: &mut MemoryStore,
+    key: &str,
+    document: &str,
+) -> Result<(), ConvertError> {
+    let key = key_of(alloc, key)?;
+    Ok(store.set(&key, document.as_bytes())?)
+}
+
+// Attributes that nest as deep as a document that is read.
+fn deep(alloc: Global) -> Result<String, AllocError> {
+    let mut text = String::from_str(alloc, r#"{"k":"#)?;
+    for _ in 0..126 {
+        text.push('[')?;
+    }
+    for _ in 0..126 {
+        text.push(']')?;
+    }
+    text.push('}')?;
+    Ok(text)
+}
+
+// The hierarchy after the steps that some words name.
+fn after(alloc: Global, words: &str) -> Result<MemoryStore, ConvertError> {
+    let mut store = store_of(alloc, &HIERARCHY)?;
+    for word in words.split_whitespace() {
+        step(alloc, &mut store, word)?;
+    }
+    Ok(store)
+}
+
+// What a listing by a version finds from the root on, after some steps.
+fn listed(alloc: Global, given: &str) -> Result<Node, ConvertError> {
+    let (words, version) = fields(given);
+    let store = after(alloc, words)?;
+    let version = version_of(alloc, version)?;
+    let config = config_of(UseConsolidatedMetadata::Never);
+    let node = Node::open_opt(&Discard, alloc, &store, "/", &version, &config)?;
+    Ok(node)
+}
+
+fn listed_said(alloc: Global, given: &str) -> Result<String, AllocError> {
+    said(alloc, listed(alloc, given), Node::hierarchy_tree)
+}
+
+// Steps and a version; what a listing finds then.
+const LISTED: &str = r#"
+written | v2 => /\n  counts [100, 200] Simple("<i4")\n  waves\n    heights [8760] Simple(">f8")\n
+written | v3 => Metadata is missing for /
+# The same paths and shapes stand under version 3, and under the default version.
+convert | v3 => /\n  counts [100, 200] int32\n  waves\n    heights [8760] float64\n
+convert | any => /\n  counts [100, 200] int32\n  waves\n    heights [8760] float64\n
+# The old documents are as they were, until they are erased.
+convert | v2 => /\n  counts [100, 200] Simple("<i4")\n  waves\n    heights [8760] Simple(">f8")\n
+convert erase | v2 => Metadata is missing for /
+convert erase | any => /\n  counts [100, 200] int32\n  waves\n    heights [8760] float64\n
+convert erase | v3 => /\n  counts [100, 200] int32\n  waves\n    heights [8760] float64\n
+# What is converted stays as it is.
+convert convert | v3 => /\n  counts [100, 200] int32\n  waves\n    heights [8760] float64\n
+convert erase convert erase | any => /\n  counts [100, 200] int32\n  waves\n    heights [8760] float64\n
+# What does not convert is not erased either.
+packed convert | any => /waves/packed has no form of version 3: unsupported codec blosc
+erase | any => Metadata is missing for /
+"#;
+
+#[test]
+fn a_listing_shows_the_same_once_it_is_converted(rt: HostRuntime) -> Result<(), Fail> {
+    check_rows(rt.alloc(), LISTED, listed_said)
+}
+
+// The keys of a store, each with its document.
+fn contents(store: &MemoryStore, alloc: Global) -> Result<String, ConvertError> {
+    let mut text = String::new(alloc);
+    for key in store.list(alloc)? {
+        let document = store.get(alloc, &key)?.unwrap_or(Vec::new(alloc));
+        let document = String::from_utf8_lossy(alloc, &document)?;
+        write!(text, "{} {document}\n", key.as_str())?;
+    }
+    Ok(text)
+}
+
+// The error of a converting after some steps, and whether anything was written.
+fn refused(alloc: Global, words: &str) -> Result<String, ConvertError> {
+    let mut store = after(alloc, words)?;
+    let before = contents(&store, alloc)?;
+    let answer = step(alloc, &mut store, "convert");
+    let same = contents(&store, alloc)?.as_str() == before.as_str();
+    let written = if same {
+        "nothing is written"
+    } else {
+        "something is written"
+    };
+    match answer {
+        Ok(()) => Ok(format!(in alloc; "converted, {written}")?),
+        Err(error) => Ok(format!(in alloc; "{error}, {written}")?),
+    }
+}
+
+fn text(text: &String, alloc: Global) -> Result<String, AllocError> {
+    String::from_str(alloc, text.as_str())
+}
+
+fn refused_said(alloc: Global, words: &str) -> Result<String, AllocError> {
+    said(alloc, refused(alloc, words), text)
+}
+
+// Steps; what a converting says then, and whether it wrote anything.
+const REFUSED: &str = r#"
+written => converted, something is written
+convert => converted, nothing is written
+packed => /waves/packed has no form of version 3: unsupported codec blosc, nothing is written
+deep => /waves nests too deep for a document of version 3, nothing is written
+bad => error parsing metadata for waves/.zattrs: not an object, nothing is written
+"#;
+
+#[test]
+fn what_does_not_convert_is_named_and_nothing_is_written(rt: HostRuntime) -> Result<(), Fail> {
+    check_rows(rt.alloc(), REFUSED, refused_said)
+}

@@ -1,0 +1,168 @@
+-- What the version of a node's metadata says of the documents that it comes from.
+use Rattle.std.proofs.Common.{◌≡◌, ◌==◌, ℕ, Bool, true, false, true≢false, if◌then◌else◌, is_some, List, [], ◌∷◌, ◌++◌, Option, Some, None, Result, Ok, Err, refl, sym, ap, subst, ◌∙◌, codes}
+use Rattle.std.specs.Prelude.{option_and_then}
+use Rattle.std.specs.Result.{is_ok}
+use Rattle.std.specs.FinMap.{get}
+use Rattle.std.proofs.lemmas.Bool.{eqb-true}
+use Rattle.serde_json.specs.Data.{Data}
+use Rattle.serde_json.specs.Find as find
+use Rattle.serde_json.specs.Find.{as_number, as_u64}
+use Rattle.zarrs_store.specs.Segments.{Segments}
+use Rattle.zarrs_store.specs.Contents.{Contents, HasKey}
+use Rattle.zarrs_fault.specs.declared.fault.MetadataFault.{MetadataFault}
+use Rattle.zarrs_fault.specs.declared.fault.MetadataFault.TheVariants.{WrongFormat}
+use Rattle.zarrs_store.specs.declared.storage_error.StorageError.{StorageError}
+use Rattle.zarrs_path.specs.Paths.{Path}
+use Rattle.zarrs_path.specs.Keys.{zarr_json}
+use Rattle.zarrs_form.specs.Documents.{◌>>=◌, document_of, format_of, json_of, of_bytes, tree_or_fault}
+use Rattle.zarrs_meta.specs.ArrayV2.{array_v2_of}
+use Rattle.zarrs_meta.specs.GroupV2.{group_v2_of}
+use Rattle.zarrs_meta.specs.Node.{has_format, node_of, node_v2_of, node_v3_of, zarr_json_of, array_with, group_with}
+use Rattle.zarrs_meta.specs.NodeDocuments.{ReadsAs, is_version_3}
+use Rattle.zarrs_meta.specs.declared.array_v2.ArrayMetadataV2.{ArrayMetadataV2}
+use Rattle.zarrs_meta.specs.declared.group_v2.GroupMetadataV2.{GroupMetadataV2}
+use Rattle.zarrs_meta.specs.declared.attributes.AttributesDocument.{AttributesDocument}
+use Rattle.zarrs_meta.specs.declared.node.ArrayMetadata.TheVariants.{V2 as array_v2}
+use Rattle.zarrs_meta.specs.declared.node.GroupMetadata.TheVariants.{V2 as group_v2}
+use Rattle.zarrs_meta.specs.declared.node.NodeMetadata.{NodeMetadata}
+use Rattle.zarrs_meta.specs.declared.node.NodeMetadata.TheVariants.{Group, Array}
+use Rattle.zarrs_meta.specs.declared.node.ZarrJson.{ZarrJson}
+use Rattle.zarrs_meta.specs.declared.node.ZarrJson.TheVariants.{Node as node_json, Version2}
+use Rattle.zarrs_config.specs.declared.version.MetadataRetrieveVersion.TheVariants.{Default, V3}
+use Rattle.zarrs_block.specs.Meaning.{in_bytes, Meaning, meaning, node, nothing, bad, document_or_fault, document_from, document_at, attributes_at, version_3_line, version_2_line, zarr_json_line, zarray_line, zgroup_line}
+use Rattle.zarrs_node.proofs.Meanings.{zarr_json_line_is, zarray_line_is, zgroup_line_is, default_is, v3_is}
+use Rattle.zarrs_node.proofs.MapsShown.{same_node}
+
+-- ---- documents at `zarr.json`
+
+-- there is a number, and it is this one
+abbrev is_that : ℕ → Option ℕ → Bool
+is_that n None = false
+is_that n (Some m) = m == n
+
+-- 3 is not 2
+apart : (o : Option ℕ) → is_that 3 o ≡ true → is_that 2 o ≡ false
+apart None e = refl
+apart (Some k) e = ap (λ x. x == 2) (eqb-true k 3 e)
+
+-- a step that is taken where a test is true
+ok_if : (t : Bool) → is_ok (let r : Result (Unit {0}) MetadataFault = if t then Ok tt else Err WrongFormat in r) ≡ t
+ok_if true = refl
+ok_if false = refl
+
+-- what has format 3 has not format 2
+three_not_two : (d : Data) → has_format 3 d ≡ true → has_format 2 d ≡ false
+unfolding format_of
+three_not_two d e =
+    let o : Option ℕ = option_and_then as_u64 (option_and_then as_number (find.get (codes "zarr_format") d)) in
+    ok_if (is_that 2 o) ∙ apart o (sym (ok_if (is_that 3 o)) ∙ e)
+
+-- what is read as a value is it
+same_ok : {A : Type 0} (x y : A) → (let r : Result A MetadataFault = Ok x in r) ≡ Ok y → x ≡ y
+same_ok x y e = cc
+
+-- a document of version 2 has metadata of version 2
+two_by : (t : Bool) (r : Result ArrayMetadataV2 MetadataFault) (s : Result GroupMetadataV2 MetadataFault) (m : NodeMetadata)
+    → (if t then r >>= (λ x. Ok (Array (array_v2 x))) else s >>= (λ x. Ok (Group (group_v2 x)))) ≡ Ok m → is_version_3 m ≡ false
+two_by true (Ok x) s m e = ap is_version_3 (sym (same_ok (Array (array_v2 x)) m e))
+two_by true (Err x) s m e = cc
+two_by false r (Ok x) m e = ap is_version_3 (sym (same_ok (Group (group_v2 x)) m e))
+two_by false r (Err x) m e = cc
+
+-- metadata of version 3 are read of what has format 3
+three_by : (t u : Bool) (d : Data) (m : NodeMetadata) → (if t then node_v3_of d else (if u then node_v2_of d else Err WrongFormat)) ≡ Ok m → is_version_3 m ≡ true → t ≡ true
+three_by true u d m e v = refl
+three_by false true d m e v = absurd (true≢false (sym v ∙ two_by _ (array_v2_of d) (group_v2_of d) m e))
+three_by false false d m e v = cc
+
+-- a step before another that gives a value
+then_ok : {A B : Type 0} (r : Result A MetadataFault) (s : Result B MetadataFault) (t : Result B MetadataFault) (x : B) → (s ≡ Ok x → t ≡ Ok x) → r >>= (λ _. s) ≡ Ok x → r >>= (λ _. t) ≡ Ok x
+then_ok (Ok a) s t x h e = h e
+then_ok (Err f) s t x h e = cc
+
+-- a step before another gives the value that the other gives
+ok_of : {A B : Type 0} (r : Result A MetadataFault) (s : Result B MetadataFault) (x : B) → r >>= (λ _. s) ≡ Ok x → s ≡ Ok x
+ok_of (Ok a) s x e = e
+ok_of (Err f) s x e = cc
+
+-- and where it gives one, so does the first
+first_ok : {A B : Type 0} (r : Result A MetadataFault) (s : Result B MetadataFault) (x : B) → r >>= (λ _. s) ≡ Ok x → (a : A) × (r ≡ Ok a)
+first_ok (Ok a) s x e = (a, refl)
+first_ok (Err f) s x e = cc
+
+-- metadata of version 3 that are read as a node are read so at `zarr.json`
+at_zarr_json : (d : Data) (m : NodeMetadata) → node_of d ≡ Ok m → is_version_3 m ≡ true → zarr_json_of d ≡ Ok (node_json m)
+unfolding zarr_json_of node_of
+at_zarr_json d m e v =
+    let own = ok_of (document_of d) _ m e in
+    let three : has_format 3 d ≡ true = three_by (has_format 3 d) (has_format 2 d) d m own v in
+    let first = first_ok (document_of d) _ m e in
+    ap (λ r. r >>= (λ _. if has_format 2 d then Ok Version2 else node_of d >>= (λ x. Ok (node_json x)))) first.1
+    ∙ ap (λ t. if t then Ok Version2 else node_of d >>= (λ x. Ok (node_json x))) (three_not_two d three)
+    ∙ ap (λ r. r >>= (λ x. Ok (node_json x))) e
+
+-- so are bytes
+tree_at : (o : Option Data) (m : NodeMetadata) → tree_or_fault o >>= node_of ≡ Ok m → is_version_3 m ≡ true → tree_or_fault o >>= zarr_json_of ≡ Ok (node_json m)
+tree_at None m e v = cc
+tree_at (Some d) m e v = at_zarr_json d m e v
+
+-- ---- meanings
+
+module _ (T : Contents) (p : Path) (bytes : List ℕ) (m : NodeMetadata) (here : get T (p ++ zarr_json ∷ []) ≡ Some bytes) (reads : ReadsAs bytes m) (three : is_version_3 m ≡ true) where
+  -- the document at `zarr.json` is that of the metadata
+  document_is : document_at (of_bytes zarr_json_of) T (p ++ zarr_json ∷ []) ≡ Ok (Some (node_json m))
+  unfolding document_at
+  document_is =
+      ap (document_from (of_bytes zarr_json_of) (p ++ zarr_json ∷ [])) here
+      ∙ ap (document_or_fault (p ++ zarr_json ∷ [])) (tree_at (json_of bytes) m reads three)
+
+  -- so is what the path means
+  pub set_v3 : meaning T V3 p ≡ node m
+  set_v3 = v3_is T p ∙ zarr_json_line_is T p _ refl _ document_is nothing
+
+  -- and by default
+  pub set_default : meaning T Default p ≡ node m
+  set_default = default_is T p ∙ zarr_json_line_is T p _ refl _ document_is _
+
+-- a document of version 2 gives metadata of version 2
+line_2 : {D : Type 0} (kind : D → NodeMetadata) → ((d : D) → is_version_3 (kind d) ≡ false) → (with : AttributesDocument → D → D) (r : Result (Option D) StorageError) (z : Result (Option AttributesDocument) StorageError)
+    (after : Meaning) (m : NodeMetadata) → (after ≡ node m → is_version_3 m ≡ false) → version_2_line kind with r z after ≡ node m → is_version_3 m ≡ false
+line_2 kind two with (Ok None) z after m h e = h e
+line_2 kind two with (Ok (Some d)) (Ok None) after m h e = ap is_version_3 (sym (same_node (kind d) m e)) ∙ two d
+line_2 kind two with (Ok (Some d)) (Ok (Some a)) after m h e = ap is_version_3 (sym (same_node (kind (with a d)) m e)) ∙ two (with a d)
+line_2 kind two with (Ok (Some d)) (Err x) after m h e = cc
+line_2 kind two with (Err x) z after m h e = cc
+
+-- so do all documents of version 2
+lines_2 : (s : Contents) (p : Path) (m : NodeMetadata) → zarray_line in_bytes s p (zgroup_line in_bytes s p nothing) ≡ node m → is_version_3 m ≡ false
+lines_2 s p m e =
+    line_2 (λ x. Array (array_v2 x)) (λ d. refl) array_with _ _ (zgroup_line in_bytes s p nothing) m
+    (λ g. line_2 (λ x. Group (group_v2 x)) (λ d. refl) group_with _ _ nothing m (λ n. cc) (sym (zgroup_line_is s p _ refl _ refl _ refl nothing) ∙ g))
+    (sym (zarray_line_is s p _ refl _ refl _ refl (zgroup_line in_bytes s p nothing)) ∙ e)
+
+-- what `zarr.json` says where the other documents say nothing of version 3
+line_3 : (r : Result (Option ZarrJson) StorageError) (after : Meaning) (m : NodeMetadata) → (after ≡ node m → is_version_3 m ≡ false) → is_version_3 m ≡ true → version_3_line r after ≡ node m → version_3_line r nothing ≡ node m
+line_3 (Ok None) after m h v e = absurd (true≢false (sym v ∙ h e))
+line_3 (Ok (Some (node_json x))) after m h v e = e
+line_3 (Ok (Some Version2)) after m h v e = e
+line_3 (Err x) after m h v e = e
+
+-- where all documents together say nothing, it says nothing
+line_nothing : (r : Result (Option ZarrJson) StorageError) (after : Meaning) → version_3_line r after ≡ nothing → version_3_line r nothing ≡ nothing
+line_nothing (Ok None) after e = refl
+line_nothing (Ok (Some (node_json x))) after e = e
+line_nothing (Ok (Some Version2)) after e = e
+line_nothing (Err x) after e = e
+
+module _ (s : Contents) (p : Path) where
+  -- by default a path means metadata of version 3 by `zarr.json` alone
+  pub three_alone : (m : NodeMetadata) → is_version_3 m ≡ true → meaning s Default p ≡ node m → meaning s V3 p ≡ node m
+  three_alone m v e =
+      v3_is s p ∙ zarr_json_line_is s p _ refl _ refl nothing
+      ∙ line_3 _ (zarray_line in_bytes s p (zgroup_line in_bytes s p nothing)) m (lines_2 s p m) v (sym (zarr_json_line_is s p _ refl _ refl _) ∙ sym (default_is s p) ∙ e)
+
+  -- what means nothing by default means nothing by version 3
+  pub nothing_alone : meaning s Default p ≡ nothing → meaning s V3 p ≡ nothing
+  nothing_alone e =
+      v3_is s p ∙ zarr_json_line_is s p _ refl _ refl nothing
+      ∙ line_nothing _ (zarray_line in_bytes s p (zgroup_line in_bytes s p nothing)) (sym (zarr_json_line_is s p _ refl _ refl _) ∙ sym (default_is s p) ∙ e)

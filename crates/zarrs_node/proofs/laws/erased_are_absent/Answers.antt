@@ -1,0 +1,5 @@
+use Rattle.zarrs_node.proofs.DocumentsErased as law
+use Rattle.zarrs_node.proofs.laws.erased_are_absent.Goals as goal
+
+pub returns : goal.returns
+returns c = law.erased_are_absent

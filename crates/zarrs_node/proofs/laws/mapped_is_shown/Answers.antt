@@ -1,0 +1,5 @@
+use Rattle.zarrs_node.proofs.MapsShown as law
+use Rattle.zarrs_node.proofs.laws.mapped_is_shown.Goals as goal
+
+pub returns : goal.returns
+returns c = law.mapped_is_shown

@@ -1,0 +1,155 @@
+-- Zarr core specification 3.1, "Hierarchy" and "Metadata": stores of which one shows the nodes of the other, each with metadata that a map makes of its own; and how a hierarchy of version 2 becomes such a one of version 3.
+-- <https://zarr-specs.readthedocs.io/en/latest/v3/core/index.html#hierarchy>
+-- <https://zarr-specs.readthedocs.io/en/latest/v3/core/index.html#metadata>
+--     NodesFrom S v b      the node at b and those below it
+--     ShowsMapped f b S v T w      what T shows from b on by the version w is what S shows by v, under the map f; and nothing there is bad
+--     AreDocumentsOf f N ds      ds are documents of version 3 for the nodes of version 2 among N
+--     with_documents S ds, without_keys S ks      the store once these are set; once these are erased
+--     IsBeside S key      the key is that of a document of version 2 beside a `zarr.json`
+use Rattle.std.specs.Prelude.{◌≡◌, ◌≢◌, ◌↔◌, ◌⊎◌, ℕ, Bool, true, false, List, [], ◌∷◌, ◌++◌, Option, Some, None, IsTrue, Contains, map}
+use Rattle.std.specs.FinMap as store
+use Rattle.std.specs.List.{flat_map}
+use Rattle.std.specs.Global.{Vec}
+use Rattle.std.specs.declared.cmp.Ordering.TheVariants.{Less}
+use Rattle.zarrs_store.specs.Segments.{Segments}
+use Rattle.zarrs_store.specs.Contents.{Contents, HasKey, HasBelow, Lists}
+use Rattle.zarrs_path.specs.Keys.{zarr_json, zarray, zgroup, zattrs, zmetadata}
+use Rattle.zarrs_path.specs.Names.{is_all_periods}
+use Rattle.zarrs_path.specs.Paths.{Path, path_cmp}
+use Rattle.zarrs_meta.specs.Node.{is_group}
+use Rattle.zarrs_meta.specs.NodeDocuments.{ReadsAs, is_version_3}
+use Rattle.zarrs_meta.specs.declared.node.NodeMetadata.{NodeMetadata}
+use Rattle.zarrs_config.specs.declared.version.MetadataRetrieveVersion.{MetadataRetrieveVersion}
+use Rattle.zarrs_config.specs.declared.version.MetadataRetrieveVersion.TheVariants.{Default, V3}
+use Rattle.zarrs_block.specs.Meaning.{Meaning, meaning, node, nothing, bad}
+use Rattle.zarrs_node.specs.Reach.{Reached}
+use Rattle.zarrs_node.specs.Nodes.{MeansNode, Nodes, HasNothingBad}
+use Rattle.zarrs_node.specs.Order.{Ascend}
+
+-- ---- a node and those below it
+
+-- p is b, or is reached from it
+abbrev pub StandsFrom : Contents → MetadataRetrieveVersion → Path → Path → Type 0
+StandsFrom s v b p = (p ≡ b) ⊎ Reached (MeansNode s v) true b p
+
+-- b and the reached paths, where they mean nodes, with their metadata
+abbrev pub NodesFrom : Contents → MetadataRetrieveVersion → Path → Path × NodeMetadata → Type 0
+NodesFrom s v b e = StandsFrom s v b e.0 × MeansNode s v e
+
+-- A node in front of the nodes below it, as they are listed, is a list of the nodes from it on, in the order of paths.
+abbrev pub BaseInFront : Type 0
+BaseInFront = (s : Contents) (v : MetadataRetrieveVersion) (b : Path) (m : NodeMetadata) (es : List (Path × NodeMetadata))
+    → meaning s v b ≡ node m → Lists (Nodes s v true b) es → Ascend es
+    → ((e : Path × NodeMetadata) → Contains ((b, m) ∷ es) e ↔ NodesFrom s v b e) × Ascend ((b, m) ∷ es)
+
+-- In an ascending list a pair whose path is before that of another stands before it.
+abbrev pub EarlierStandsBefore : Type 0
+EarlierStandsBefore = (before after : List (Path × NodeMetadata)) (x e : Path × NodeMetadata)
+    → Ascend (before ++ x ∷ after) → Contains (before ++ x ∷ after) e → path_cmp e.0 x.0 ≡ Less → Contains before e
+
+-- ---- maps of metadata
+
+-- the paths of N, each with what f makes of its metadata
+abbrev pub IsMapped : (NodeMetadata → Option NodeMetadata) → (Path × NodeMetadata → Type 0) → Path × NodeMetadata → Type 0
+IsMapped f N e = (m : NodeMetadata) × N (e.0, m) × (f m ≡ Some e.1)
+
+-- f makes groups of groups and arrays of arrays
+abbrev pub KeepsKinds : (NodeMetadata → Option NodeMetadata) → Type 0
+KeepsKinds f = (m c : NodeMetadata) → f m ≡ Some c → is_group c ≡ is_group m
+
+-- what a path means goes over by f: a node into what f makes of it, and nothing into nothing; what is bad may become anything
+abbrev pub GoesOver : (NodeMetadata → Option NodeMetadata) → Meaning → Meaning → Type 0
+GoesOver f (node m) y = (c : NodeMetadata) × (f m ≡ Some c) × (y ≡ node c)
+GoesOver f nothing y = y ≡ nothing
+GoesOver f (bad e) y = Unit {0}
+
+-- by the version w the store T shows from b on what S shows by v, under f: at b itself, and below it exactly those nodes; and nothing there is bad
+pub record ShowsMapped (f : NodeMetadata → Option NodeMetadata) (b : Path) (S : Contents) (v : MetadataRetrieveVersion) (T : Contents) (w : MetadataRetrieveVersion) : Type 0 where
+  pub base : GoesOver f (meaning S v b) (meaning T w b)
+  pub nodes : (e : Path × NodeMetadata) → Nodes T w true b e ↔ IsMapped f (Nodes S v true b) e
+  pub clean : HasNothingBad T w true b
+
+-- Where what b and each reached path means goes over by a map that keeps kinds, and no key comes to stand behind a name of periods, a store shows what the other shows, under that map.
+abbrev pub MappedIsShown : Type 0
+MappedIsShown = (f : NodeMetadata → Option NodeMetadata) → KeepsKinds f
+    → (S T : Contents) (v w : MetadataRetrieveVersion) (b : Path) → HasNothingBad S v true b
+    → ((p : Path) → StandsFrom S v b p → GoesOver f (meaning S v p) (meaning T w p))
+    → ((g : Path) (n : List ℕ) → StandsFrom S v b g → IsTrue (is_all_periods n) → HasBelow T (g ++ n ∷ []) → HasBelow S (g ++ n ∷ []))
+    → ShowsMapped f b S v T w
+
+-- ---- documents of version 3 beside those of version 2
+
+-- f makes metadata of version 3 of the same kind, and leaves those of version 3 as they are
+pub record IsToVersion3 (f : NodeMetadata → Option NodeMetadata) : Type 0 where
+  pub kinds : KeepsKinds f
+  pub version : (m c : NodeMetadata) → f m ≡ Some c → is_version_3 c ≡ true
+  pub stays : (m : NodeMetadata) → is_version_3 m ≡ true → f m ≡ Some m
+
+-- the key and the bytes are those of the document of version 3 that f makes of the pair
+abbrev pub IsDocumentOf : (NodeMetadata → Option NodeMetadata) → Path × NodeMetadata → Segments × Vec ℕ → Type 0
+IsDocumentOf f e d = (c : NodeMetadata) × (f e.1 ≡ Some c) × (d.0 ≡ e.0 ++ zarr_json ∷ []) × ReadsAs d.1.items c
+
+-- each pair of N of version 2 has its document among ds, and each of ds is that of such a pair
+pub record AreDocumentsOf (f : NodeMetadata → Option NodeMetadata) (N : Path × NodeMetadata → Type 0) (ds : List (Segments × Vec ℕ)) : Type 0 where
+  pub each : (e : Path × NodeMetadata) → N e → is_version_3 e.1 ≡ false → (d : Segments × Vec ℕ) × Contains ds d × IsDocumentOf f e d
+  pub only : (d : Segments × Vec ℕ) → Contains ds d → (e : Path × NodeMetadata) × N e × (is_version_3 e.1 ≡ false) × IsDocumentOf f e d
+
+-- the store once the bytes are set at the key of each document, one after another
+abbrev pub with_documents : Contents → List (Segments × Vec ℕ) → Contents
+with_documents S [] = S
+with_documents S (d ∷ ds) = with_documents (store.insert S d.0 d.1.items) ds
+
+-- Where the documents of version 3 of a node of version 2 and of those below it are set, a listing by version 3, and one by default, shows what one by default showed before, as version 3.
+abbrev pub DocumentsAreShown : Type 0
+DocumentsAreShown = (f : NodeMetadata → Option NodeMetadata) → IsToVersion3 f
+    → (S : Contents) (b : Path) (ds : List (Segments × Vec ℕ)) → HasNothingBad S Default true b → AreDocumentsOf f (NodesFrom S Default b) ds
+    → ShowsMapped f b S Default (with_documents S ds) V3 × ShowsMapped f b S Default (with_documents S ds) Default
+
+-- ---- documents of version 2 erased
+
+-- the files of version 2
+abbrev pub version_2_files : List (List ℕ)
+version_2_files = zarray ∷ zgroup ∷ zattrs ∷ zmetadata ∷ []
+
+-- the key is that of a document of version 2 of a path that has a `zarr.json`
+abbrev pub IsBeside : Contents → Segments → Type 0
+IsBeside S key = (p : Path) × (file : List ℕ) × Contains version_2_files file × (key ≡ p ++ file ∷ []) × HasKey S (p ++ zarr_json ∷ [])
+
+-- the store once each key is erased, one after another
+abbrev pub without_keys : Contents → List Segments → Contents
+without_keys S [] = S
+without_keys S (k ∷ ks) = without_keys (store.remove S k) ks
+
+-- the keys of the documents of version 2 at a path
+abbrev pub version_2_keys : Path → List Segments
+version_2_keys p = map (λ file. p ++ file ∷ []) version_2_files
+
+-- those at the paths of some pairs
+abbrev pub keys_beside : List (Path × NodeMetadata) → List Segments
+keys_beside es = flat_map (λ e. version_2_keys e.0) es
+
+-- The keys of the documents of version 2 at the paths of nodes of version 3 stand beside a `zarr.json`.
+abbrev pub KeysStandBeside : Type 0
+KeysStandBeside = (S : Contents) (es : List (Path × NodeMetadata)) → ((e : Path × NodeMetadata) → Contains es e → meaning S V3 e.0 ≡ node e.1)
+    → (key : Segments) → Contains (keys_beside es) key → IsBeside S key
+
+-- At a key that is none of those set, and at one that is none of those erased, stands what stood there.
+abbrev pub OthersAreKept : Type 0
+OthersAreKept = (S : Contents) (key : Segments)
+    → ((ds : List (Segments × Vec ℕ)) → ((d : Segments × Vec ℕ) → Contains ds d → d.0 ≢ key) → store.get (with_documents S ds) key ≡ store.get S key)
+    × ((ks : List Segments) → (Contains ks key → ⊥) → store.get (without_keys S ks) key ≡ store.get S key)
+
+-- Once the documents of version 2 at the paths of some pairs are erased, none of them is there.
+abbrev pub ErasedAreAbsent : Type 0
+ErasedAreAbsent = (S : Contents) (es : List (Path × NodeMetadata)) (e : Path × NodeMetadata) (file : List ℕ)
+    → Contains es e → Contains version_2_files file → store.get (without_keys S (keys_beside es)) (e.0 ++ file ∷ []) ≡ None
+
+-- Where a store differs from another by documents of version 2 beside a `zarr.json` alone, each path means by default what it meant.
+abbrev pub BesideMeansSame : Type 0
+BesideMeansSame = (S T : Contents) → ((key : Segments) → (IsBeside S key → ⊥) → store.get T key ≡ store.get S key)
+    → (p : Path) → meaning T Default p ≡ meaning S Default p
+
+-- Where only such documents are erased, a listing by default shows what it showed.
+abbrev pub ErasedShowSame : Type 0
+ErasedShowSame = (S : Contents) (ks : List Segments) → ((key : Segments) → Contains ks key → IsBeside S key)
+    → (b : Path) → HasNothingBad S Default true b → ShowsMapped Some b S Default (without_keys S ks) Default
