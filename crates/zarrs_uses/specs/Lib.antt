@@ -1,0 +1,2 @@
+pub mod ChunkKeys
+pub mod OpenedArrays

@@ -1,3 +1,9 @@
 //! Three callers of this library, each a proved example of what a layer above does: an array layer that opens an array and reads a chunk, a
 //! catalogue that keeps a consolidated block current, and a converter of a hierarchy of version 2. They stand on public contracts alone.
 #![tactic(auto)]
+
+mod chunk_key;
+mod opened_array;
+
+pub use chunk_key::ChunkKeyEncoding;
+pub use opened_array::{ChunkError, OpenArrayError, OpenedArray};
