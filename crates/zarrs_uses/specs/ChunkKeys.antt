@@ -25,22 +25,22 @@ use Rattle.zarrs_uses.specs.declared.chunk_key.ChunkKeyEncoding.TheVariants.{Def
 
 -- ---- the encoding of an array
 
--- the separator is one of the texts "." and "/"
+-- the separator that a text is: "." or "/"
 abbrev pub separator_text : Data → Option ChunkKeySeparator
 separator_text d = option_and_then separator_named (as_str d)
 
--- the member `separator` of a configuration, and this separator where there is none
+-- what the member `separator` of a configuration says, and this separator where there is no such member
 abbrev pub separator_in : ChunkKeySeparator → Option Members → Option ChunkKeySeparator
 separator_in otherwise None = Some otherwise
 separator_in otherwise (Some ms) = unless_absent otherwise separator_text (get_member (codes "separator") ms)
 
--- the encoding `default`, by slashes where no separator is said, and `v2`, by periods; any other is none of these
+-- the encoding by its name: `default`, with a slash where no separator is said, or `v2`, with a period; another name is no encoding, nor is another separator
 abbrev pub encoding_v3 : MetadataV3 → Option ChunkKeyEncoding
 encoding_v3 m =
     if bytes_eq m.name (codes "default") then option_map Default (separator_in Slash m.configuration)
     else (if bytes_eq m.name (codes "v2") then option_map V2 (separator_in Dot m.configuration) else None)
 
--- an array of version 3 says its encoding, and one of version 2 has `v2` by its separator
+-- an array of version 3 says its encoding, and one of version 2 has the encoding `v2` with its separator
 abbrev pub encoding_of : ArrayMetadata → Option ChunkKeyEncoding
 encoding_of (array.V3 m) = encoding_v3 m.chunk_key_encoding
 encoding_of (array.V2 m) = Some (V2 m.dimension_separator)
@@ -63,17 +63,17 @@ chunk_parts (Default s) indices = codes "c" ∷ map decimal indices
 chunk_parts (V2 s) [] = codes "0" ∷ []
 chunk_parts (V2 s) (i ∷ indices) = decimal i ∷ map decimal indices
 
--- parts with slashes between them are segments, and with periods they are one
-abbrev pub joined_by : ChunkKeySeparator → List (List ℕ) → Segments
-joined_by Slash parts = parts
-joined_by Dot parts = join_with_byte 46 parts ∷ []
+-- parts with slashes between them are segments, and with periods between them they are one segment
+abbrev pub segments_by : ChunkKeySeparator → List (List ℕ) → Segments
+segments_by Slash parts = parts
+segments_by Dot parts = join_with_byte 46 parts ∷ []
 
 -- the key of the chunk with these indices
 abbrev pub chunk_segments : ChunkKeyEncoding → List ℕ → Segments
-chunk_segments e indices = joined_by (separator_of e) (chunk_parts e indices)
+chunk_segments e indices = segments_by (separator_of e) (chunk_parts e indices)
 
 -- ---- beside the keys of documents
 
--- the key is that of no document, whatever path it is asked for: of those of nodes, and of `.zmetadata`
+-- the key is that of no document of any path, neither of those that a node has nor of `.zmetadata`
 abbrev pub IsNoDocument : Segments → Type 0
 IsNoDocument key = (q : Path) (file : List ℕ) → Contains (zmetadata ∷ document_files) file → key ≢ q ++ file ∷ []

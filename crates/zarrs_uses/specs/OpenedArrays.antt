@@ -1,7 +1,7 @@
 -- Zarr core specification 3.1, "Array metadata" and "Storage keys": an array that was opened, its chunks, and what refuses them.
 -- <https://zarr-specs.readthedocs.io/en/latest/v3/core/index.html#array-metadata>
 -- <https://zarr-specs.readthedocs.io/en/latest/v3/core/index.html#storage-keys>
---     RefusesArray      why a path was not opened as an array
+--     RefusesOpeningArray      why a path was not opened as an array
 --     shape_of, data_type_of      what the metadata of either version say
 --     chunk_key_of, chunk_in      the key of a chunk, and what a store has there
 --     RefusesChunkKey, RefusesChunk      why there is no such key, and why no chunk was read
@@ -36,10 +36,10 @@ use Rattle.zarrs_uses.specs.declared.opened_array.ChunkError.TheVariants.{Unsupp
 abbrev pub RefusesNodeAt : Contents → MetadataRetrieveVersion → List ℕ → NodeCreateError → Type 0
 RefusesNodeAt s v text e = RefusesText text e ⊎ ((p : Path) × IsPath p × (path_text p ≡ text) × RefusesNode s v p e)
 
--- the text is refused as that of a node, or excused; or it is that of the path that the error has, and the path means a group
-abbrev pub RefusesArray : Bool → Contents → MetadataRetrieveVersion → List ℕ → OpenArrayError → Type 0
-RefusesArray can_fail s v text (Node e) = IsExcusedOr can_fail (RefusesNodeAt s v text) e
-RefusesArray can_fail s v text (NotAnArray p) = IsPath p × (path_text p ≡ text) × ((g : GroupMetadata) × (meaning s v p ≡ node (Group g)))
+-- no node was opened, and the error is excused or refuses the text; or the text is that of the path that the error has, and the path means a group
+abbrev pub RefusesOpeningArray : Bool → Contents → MetadataRetrieveVersion → List ℕ → OpenArrayError → Type 0
+RefusesOpeningArray can_fail s v text (Node e) = IsExcusedOr can_fail (RefusesNodeAt s v text) e
+RefusesOpeningArray can_fail s v text (NotAnArray p) = IsPath p × (path_text p ≡ text) × ((g : GroupMetadata) × (meaning s v p ≡ node (Group g)))
 
 -- ---- the metadata
 
@@ -48,7 +48,7 @@ abbrev pub shape_of : ArrayMetadata → List ℕ
 shape_of (V3 m) = m.shape
 shape_of (V2 m) = m.shape
 
--- the data type of version 3, which that of version 2 is converted to, or refused
+-- the data type of version 3; that of version 2 is converted, or refused
 abbrev pub data_type_of : ArrayMetadata → Result MetadataV3 Refusal
 data_type_of (V3 m) = Ok m.data_type
 data_type_of (V2 m) = data_type_v3 m.dtype

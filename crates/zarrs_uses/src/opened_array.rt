@@ -5,7 +5,7 @@ ghost use Rattle.zarrs_meta.specs.declared.node.NodeMetadata.TheVariants.{Array}
 ghost use Rattle.zarrs_convert.specs.Refusals.{AnswersAs};
 ghost use Rattle.zarrs_block.specs.Meaning.{meaning, node};
 ghost use Rattle.zarrs_uses.specs.ChunkKeys.{IsNoDocument, encoding_name};
-ghost use Rattle.zarrs_uses.specs.OpenedArrays.{RefusesArray, RefusesChunk, RefusesChunkKey, chunk_in, chunk_key_of, data_type_of, shape_of};
+ghost use Rattle.zarrs_uses.specs.OpenedArrays.{RefusesOpeningArray, RefusesChunk, RefusesChunkKey, chunk_in, chunk_key_of, data_type_of, shape_of};
 
 use crate::chunk_key::ChunkKeyEncoding;
 use std::alloc::{AllocError, Global};
@@ -124,7 +124,8 @@ impl OpenedArray {
             (λ array. meaning (S.contents storage.now) version.now array.path
             ≡ node (Array array.metadata)) }
         ensures refused { IfErr result
-            (RefusesArray (S.can_fail storage.now) (S.contents storage.now) version.now path.now) }
+            (RefusesOpeningArray (S.can_fail storage.now) (S.contents storage.now) version.now
+            path.now) }
     {
         let path = NodePath::new(alloc, path)?;
         match Node::get_metadata(alloc, storage, &path, version)? {
