@@ -58,15 +58,15 @@ decimal_part n =
 
 -- each of several numbers is a part
 decimal_parts : (ns : List ℕ) → All IsPart (map decimal ns)
-decimal_parts ns = All-map IsPart decimal ns (λ k d l. decimal_part _)
+decimal_parts ns = All-map IsPart decimal ns (λ k d l. decimal_part (get_or ns k d))
 
 -- parts joined by periods are a part
 joined_part : (p : List ℕ) (ps : List (List ℕ)) → All IsPart (p ∷ ps) → IsPart (join_with_byte 46 (p ∷ ps))
 joined_part p [] h = All-head IsPart p [] h
 joined_part [] (q ∷ ps) h = absurd ((All-head IsPart [] (q ∷ ps) h).some refl)
 joined_part (b ∷ p) (q ∷ ps) h =
-    let rest = All-cons IsPartByte 46 _ (λ e. cc, λ e. cc) (joined_part q ps (All-tail IsPart (b ∷ p) (q ∷ ps) h)).each in
-    record { some = λ e. cc; each = All-append IsPartByte (b ∷ p) _ (All-head IsPart (b ∷ p) (q ∷ ps) h).each rest }
+    let rest = All-cons IsPartByte 46 (join_with_byte 46 (q ∷ ps)) (omega arith, omega arith) (joined_part q ps (All-tail IsPart (b ∷ p) (q ∷ ps) h)).each in
+    record { some = λ e. cc; each = All-append IsPartByte (b ∷ p) (46 ∷ join_with_byte 46 (q ∷ ps)) (All-head IsPart (b ∷ p) (q ∷ ps) h).each rest }
 
 -- a list of parts with at least one
 record AreParts (ss : Segments) : Type 0 where
@@ -74,13 +74,13 @@ record AreParts (ss : Segments) : Type 0 where
   each : All IsPart ss
 
 -- a list of parts that begins with one
-abbrev begun : (s : List ℕ) (ss : Segments) → IsPart s → All IsPart ss → AreParts (s ∷ ss)
+begun : (s : List ℕ) (ss : Segments) → IsPart s → All IsPart ss → AreParts (s ∷ ss)
 begun s ss h hs = record { some = λ e. cc; each = All-cons IsPart s ss h hs }
 
 -- parts joined by a separator are parts
 joined_parts : (separator : ChunkKeySeparator) (p : List ℕ) (ps : List (List ℕ)) → IsPart p → All IsPart ps → AreParts (segments_by separator (p ∷ ps))
 joined_parts Slash p ps h hs = begun p ps h hs
-joined_parts Dot p ps h hs = begun _ [] (joined_part p ps (All-cons IsPart p ps h hs)) (All-nil IsPart)
+joined_parts Dot p ps h hs = begun (join_with_byte 46 (p ∷ ps)) [] (joined_part p ps (All-cons IsPart p ps h hs)) (All-nil IsPart)
 
 -- a byte alone is a part
 byte_part : (b : ℕ) → IsPartByte b → IsPart (b ∷ [])
@@ -88,18 +88,21 @@ byte_part b h = record { some = λ e. cc; each = All-cons IsPartByte b [] h (All
 
 -- the key of a chunk is made of parts
 chunk_are_parts : (e : ChunkKeyEncoding) (indices : List ℕ) → AreParts (chunk_segments e indices)
-chunk_are_parts (Default s) indices = joined_parts s _ _ (byte_part 99 (λ e. cc, λ e. cc)) (decimal_parts indices)
-chunk_are_parts (V2 s) [] = joined_parts s _ _ (byte_part 48 (λ e. cc, λ e. cc)) (All-nil IsPart)
-chunk_are_parts (V2 s) (i ∷ indices) = joined_parts s _ _ (decimal_part i) (decimal_parts indices)
+chunk_are_parts (Default s) indices = joined_parts s (99 ∷ []) (map decimal indices) (byte_part 99 (omega arith, omega arith)) (decimal_parts indices)
+chunk_are_parts (V2 s) [] = joined_parts s (48 ∷ []) [] (byte_part 48 (omega arith, omega arith)) (All-nil IsPart)
+chunk_are_parts (V2 s) (i ∷ indices) = joined_parts s (decimal i) (map decimal indices) (decimal_part i) (decimal_parts indices)
 
 -- ---- a key by its text
+
+-- a part is a segment
+part_segment : (s : List ℕ) → IsPart s → IsSegment s
+part_segment s h = record { nonempty = h.some; no_slash = All-weaker IsPartByte (λ b. b ≢ 47) (λ b k. k.0) s h.each }
 
 -- the key of a chunk is a key
 chunk_is_key : (e : ChunkKeyEncoding) (indices : List ℕ) → IsKey (chunk_segments e indices)
 chunk_is_key e indices =
     let parts = chunk_are_parts e indices in
-    let segment : (s : List ℕ) → IsPart s → IsSegment s = λ s h. record { nonempty = h.some; no_slash = All-weaker IsPartByte (λ b. b ≢ 47) (λ b k. k.0) s h.each } in
-    record { some = parts.some; each = All-weaker IsPart IsSegment segment (chunk_segments e indices) parts.each }
+    record { some = parts.some; each = All-weaker IsPart IsSegment part_segment (chunk_segments e indices) parts.each }
 
 -- the text of a chunk's key is that of a key
 pub chunk_text_is_key : (e : ChunkKeyEncoding) (indices text : List ℕ) → text ≡ key_text (chunk_segments e indices) → IsKeyText text
@@ -115,19 +118,28 @@ joined_text b first [] = sym (append-nil first)
 joined_text b first (n ∷ ns) = ap (λ t. first ++ b ∷ t) (joined_text b (decimal n) ns)
 
 -- the text of the key of numbers behind a first part
-pub parts_text : (s : ChunkKeySeparator) (between first ns : List ℕ) → string between ≡ separator_data s → first ++ flat_map (λ n. between ++ decimal n) ns ≡ key_text (segments_by s (first ∷ map decimal ns))
+parts_text : (s : ChunkKeySeparator) (between first ns : List ℕ) → string between ≡ separator_data s → first ++ flat_map (λ n. between ++ decimal n) ns ≡ key_text (segments_by s (first ∷ map decimal ns))
 parts_text Dot between first ns e = let is : between ≡ 46 ∷ [] = cc in rw is (sym (joined_text 46 first ns))
 parts_text Slash between first ns e = let is : between ≡ 47 ∷ [] = cc in rw is (sym (joined_text 47 first ns))
+
+-- the text of a key by `default`
+pub default_text : (s : ChunkKeySeparator) (e : ChunkKeyEncoding) (indices between first : List ℕ) → e ≡ Default s → first ≡ 99 ∷ [] → string between ≡ separator_data s → first ++ flat_map (λ n. between ++ decimal n) indices ≡ key_text (chunk_segments e indices)
+default_text s e indices between first is begins told = rw (is, begins) (parts_text s between (99 ∷ []) indices told)
+
+-- the text of a key by `v2` with an index
+pub v2_text : (s : ChunkKeySeparator) (e : ChunkKeyEncoding) (indices between first : List ℕ) (i : ℕ) (rest : List ℕ) → e ≡ V2 s → indices ≡ i ∷ rest → first ≡ decimal i → string between ≡ separator_data s → first ++ flat_map (λ n. between ++ decimal n) rest ≡ key_text (chunk_segments e indices)
+v2_text s e indices between first i rest is split begins told = rw (is, split, begins) (parts_text s between (decimal i) rest told)
 
 -- ---- below the path, and beside its documents
 
 -- a key of parts behind a path is below it
+parts_below : (p : Path) (ss key : Segments) → AreParts ss → key ≡ p ++ ss → IsBelow p key
+parts_below p [] key h is = absurd (h.some refl)
+parts_below p (s ∷ ss) key h is = (s, ss, is)
+
+-- the key of a chunk is below the path
 pub chunk_below : (p : Path) (e : ChunkKeyEncoding) (indices : List ℕ) (key : Segments) → key ≡ p ++ chunk_segments e indices → IsBelow p key
-chunk_below p e indices key is = below (chunk_segments e indices) (chunk_are_parts e indices).some is
-  where
-    below : (ss : Segments) → ss ≢ [] → key ≡ p ++ ss → IsBelow p key
-    below [] some is = absurd (some refl)
-    below (s ∷ ss) some is = (s, ss, is)
+chunk_below p e indices key is = parts_below p (chunk_segments e indices) key (chunk_are_parts e indices) is
 
 -- the last segment is that of the back
 last_behind : (ss : Segments) (s : List ℕ) (ts : Segments) → last_segment (ss ++ s ∷ ts) ≡ last_segment (s ∷ ts)
@@ -156,11 +168,11 @@ z_no_part file k l z h = (h.each k 0 l).1 z
 -- the names of documents are no parts
 files_no_parts : All IsNoPart (zmetadata ∷ document_files)
 files_no_parts =
-    All-cons IsNoPart zmetadata _ (z_no_part zmetadata 1 (lit< tt) refl)
-    (All-cons IsNoPart zarr_json _ (z_no_part zarr_json 0 (lit< tt) refl)
-    (All-cons IsNoPart zarray _ (z_no_part zarray 1 (lit< tt) refl)
-    (All-cons IsNoPart zgroup _ (z_no_part zgroup 1 (lit< tt) refl)
-    (All-cons IsNoPart zattrs _ (z_no_part zattrs 1 (lit< tt) refl) (All-nil IsNoPart)))))
+    let q4 = All-cons IsNoPart zattrs [] (z_no_part zattrs 1 (lit< tt) refl) (All-nil IsNoPart) in
+    let q3 = All-cons IsNoPart zgroup (zattrs ∷ []) (z_no_part zgroup 1 (lit< tt) refl) q4 in
+    let q2 = All-cons IsNoPart zarray (zgroup ∷ zattrs ∷ []) (z_no_part zarray 1 (lit< tt) refl) q3 in
+    let q1 = All-cons IsNoPart zarr_json (zarray ∷ zgroup ∷ zattrs ∷ []) (z_no_part zarr_json 0 (lit< tt) refl) q2 in
+    All-cons IsNoPart zmetadata document_files (z_no_part zmetadata 1 (lit< tt) refl) q1
 
 -- the key of a chunk is no document's
 pub chunk_no_document : (p : Path) (e : ChunkKeyEncoding) (indices : List ℕ) (key : Segments) → key ≡ p ++ chunk_segments e indices → IsNoDocument key
