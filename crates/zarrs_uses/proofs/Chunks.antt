@@ -1,5 +1,5 @@
 -- The keys of chunks: that they are keys, the texts that make them, and that none is a document's.
-use Rattle.std.proofs.Common.{◌≡◌, ◌≢◌, ℕ, zero, suc, ◌+◌, ◌<◌, ◌/◌, ◌%◌, ◌==◌, cond, Bool, true, false, List, [], ◌∷◌, ◌++◌, All, Contains, length, get_or, map, refl, sym, ap, ◌∙◌, subst, lit<, arith}
+use Rattle.std.proofs.Common.{◌≡◌, ◌≢◌, ℕ, zero, suc, ◌<◌, ◌/◌, ◌%◌, ◌==◌, cond, Bool, true, false, List, [], ◌∷◌, ◌++◌, All, length, get_or, map, refl, sym, ap, ◌∙◌, subst, lit<, arith}
 use Rattle.std.proofs.lemmas.List.{append-nil}
 use Rattle.std.specs.Fmt.{decimal, digits, digits_onto, digit_glyph}
 use Rattle.std.specs.List.{flat_map, join_with_byte}
@@ -8,13 +8,13 @@ use Rattle.std.proofs.lemmas.List.Elements.{All-nil, All-cons, All-head, All-tai
 use Rattle.serde_json.specs.Data.{string}
 use Rattle.zarrs_store.specs.Segments.{Segments, IsSegment, IsKey, IsKeyText, key_text, segments_of, last_segment}
 use Rattle.zarrs_store.specs.Laws.{KeysReadBack}
-use Rattle.zarrs_path.specs.Paths.{Path, IsBelow}
+use Rattle.zarrs_path.specs.Paths.{Path}
 use Rattle.zarrs_path.specs.Keys.{zarr_json, zarray, zgroup, zattrs, zmetadata}
 use Rattle.zarrs_form.specs.FormsV2.{separator_data}
 use Rattle.zarrs_form.specs.declared.chunks.ChunkKeySeparator.{ChunkKeySeparator}
 use Rattle.zarrs_form.specs.declared.chunks.ChunkKeySeparator.TheVariants.{Dot, Slash}
 use Rattle.zarrs_node.specs.Changes.{document_files}
-use Rattle.zarrs_uses.specs.ChunkKeys.{separator_of, chunk_parts, segments_by, chunk_segments, IsNoDocument}
+use Rattle.zarrs_uses.specs.ChunkKeys.{segments_by, chunk_segments, IsNoDocument}
 use Rattle.zarrs_uses.specs.declared.chunk_key.ChunkKeyEncoding.{ChunkKeyEncoding}
 use Rattle.zarrs_uses.specs.declared.chunk_key.ChunkKeyEncoding.TheVariants.{Default, V2}
 
@@ -130,16 +130,7 @@ default_text s e indices between first is begins told = rw (is, begins) (parts_t
 pub v2_text : (s : ChunkKeySeparator) (e : ChunkKeyEncoding) (indices between first : List ℕ) (i : ℕ) (rest : List ℕ) → e ≡ V2 s → indices ≡ i ∷ rest → first ≡ decimal i → string between ≡ separator_data s → first ++ flat_map (λ n. between ++ decimal n) rest ≡ key_text (chunk_segments e indices)
 v2_text s e indices between first i rest is split begins told = rw (is, split, begins) (parts_text s between (decimal i) rest told)
 
--- ---- below the path, and beside its documents
-
--- a key of parts behind a path is below it
-parts_below : (p : Path) (ss key : Segments) → AreParts ss → key ≡ p ++ ss → IsBelow p key
-parts_below p [] key h is = absurd (h.some refl)
-parts_below p (s ∷ ss) key h is = (s, ss, is)
-
--- the key of a chunk is below the path
-pub chunk_below : (p : Path) (e : ChunkKeyEncoding) (indices : List ℕ) (key : Segments) → key ≡ p ++ chunk_segments e indices → IsBelow p key
-chunk_below p e indices key is = parts_below p (chunk_segments e indices) key (chunk_are_parts e indices) is
+-- ---- beside the documents of paths
 
 -- the last segment is that of the back
 last_behind : (ss : Segments) (s : List ℕ) (ts : Segments) → last_segment (ss ++ s ∷ ts) ≡ last_segment (s ∷ ts)

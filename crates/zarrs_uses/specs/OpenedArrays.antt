@@ -5,7 +5,7 @@
 --     shape_of, data_type_of      what the metadata of either version say
 --     chunk_key_of, chunk_in      the key of a chunk, and what a store has there
 --     RefusesChunkKey, RefusesChunk      why there is no such key, and why no chunk was read
-use Rattle.std.specs.Prelude.{ℕ, ◌≡◌, ◌≢◌, ◌⊎◌, Bool, List, ◌++◌, length, string_bytes, Option, Some, None, option_map, Result, Ok}
+use Rattle.std.specs.Prelude.{ℕ, ◌≡◌, ◌≢◌, ◌⊎◌, Bool, List, ◌++◌, length, string_bytes, Option, None, option_map, Result, Ok}
 use Rattle.std.specs.FinMap.{get}
 use Rattle.zarrs_store.specs.Segments.{Segments}
 use Rattle.zarrs_store.specs.Contents.{Contents}
