@@ -1,7 +1,9 @@
-//! Tests of the three callers on stores as zarr-python writes them. The crate has no call of its own.
+//! Tests of the callers on stores as zarr-python writes them. The crate has no call of its own.
 #![tactic(auto)]
 
 #[cfg(test)]
 mod catalogue;
 #[cfg(test)]
 mod converter;
+#[cfg(test)]
+mod opened_array;

@@ -3,6 +3,7 @@ pub mod Contents
 pub mod Entries
 pub mod FailingStores
 pub mod Faults
+pub mod Laws
 pub mod Places
 pub mod Segments
 pub mod StepsOfStores

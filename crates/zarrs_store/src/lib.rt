@@ -8,6 +8,7 @@
 mod children;
 mod fault_store;
 mod key;
+pub mod laws;
 mod listing;
 mod memory_store;
 mod places;

@@ -1,2 +1,3 @@
 pub mod Catalogues
 pub mod ConvertedNodes
+pub mod Chunks

@@ -1,3 +1,5 @@
 pub mod Catalogues
 pub mod Conversions
 pub mod StepsOfConversions
+pub mod ChunkKeys
+pub mod OpenedArrays

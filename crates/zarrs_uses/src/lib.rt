@@ -4,9 +4,13 @@
 #![tactic(auto)]
 
 mod catalogue;
+mod chunk_key;
 mod converter;
 mod first_call;
+mod opened_array;
 
 pub use catalogue::{Catalogue, Change, ChangeError, RefusedStep, StoringError};
+pub use chunk_key::ChunkKeyEncoding;
 pub use converter::{ConvertError, convert_hierarchy, erase_version_2};
 pub use first_call::is_group_at;
+pub use opened_array::{ChunkError, OpenArrayError, OpenedArray};

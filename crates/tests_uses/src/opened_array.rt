@@ -1,0 +1,313 @@
+//! Arrays opened in stores as zarr-python writes them, of both versions, and their chunks.
+
+use std::alloc::{AllocError, Global};
+use std::test::Fail;
+use tests_fixtures::{ANY, key_of, no_word, store_of, version_of};
+use tests_support::{check_rows, fields, printed, said};
+use zarrs_meta::{ArrayMetadata, ArrayMetadataV3};
+use zarrs_path::NodePath;
+use zarrs_store::{MemoryStore, MetadataFault, StorageError, WritableStorageTraits, laws};
+use zarrs_uses::{ChunkKeyEncoding, OpenedArray};
+
+// The documents of zarr-python 2.13: a group, in it an array of three rows and five columns, and times.
+const OF_VERSION_2: [(&str, &str); 4] = [
+    (
+        ".zgroup",
+        r#"{
+    "zarr_format": 2
+}"#,
+    ),
+    (
+        "t/.zarray",
+        r#"{
+    "chunks": [
+        2,
+        3
+    ],
+    "compressor": null,
+    "dtype": "<i2",
+    "fill_value": -1,
+    "filters": null,
+    "order": "C",
+    "shape": [
+        3,
+        5
+    ],
+    "zarr_format": 2
+}"#,
+    ),
+    (
+        "t/.zattrs",
+        r#"{
+    "units": "K"
+}"#,
+    ),
+    (
+        "time/.zarray",
+        r#"{
+    "chunks": [
+        3
+    ],
+    "compressor": null,
+    "dimension_separator": "/",
+    "dtype": "<M8[ns]",
+    "fill_value": 0,
+    "filters": null,
+    "order": "C",
+    "shape": [
+        3
+    ],
+    "zarr_format": 2
+}"#,
+    ),
+];
+
+// The documents of zarr-python 3: the same group and the same array.
+const OF_VERSION_3: [(&str, &str); 2] = [
+    (
+        "zarr.json",
+        r#"{
+  "attributes": {},
+  "zarr_format": 3,
+  "node_type": "group"
+}"#,
+    ),
+    (
+        "t/zarr.json",
+        r#"{
+  "shape": [
+    3,
+    5
+  ],
+  "data_type": "int16",
+  "chunk_grid": {
+    "name": "regular",
+    "configuration": {
+      "chunk_shape": [
+        2,
+        3
+      ]
+    }
+  },
+  "chunk_key_encoding": {
+    "name": "default",
+    "configuration": {
+      "separator": "/"
+    }
+  },
+  "fill_value": -1,
+  "codecs": [
+    {
+      "name": "bytes",
+      "configuration": {
+        "endian": "little"
+      }
+    }
+  ],
+  "attributes": {
+    "units": "K"
+  },
+  "zarr_format": 3,
+  "node_type": "array",
+  "storage_transformers": []
+}"#,
+    ),
+];
+
+// The first chunk of the array, whose items are the numbers from 0, in two bytes each: 0, 1, 2 and 5, 6, 7.
+const CHUNK: [u8; 12] = [0, 0, 1, 0, 2, 0, 5, 0, 6, 0, 7, 0];
+
+// The store that a word names, in which the array has its first chunk alone.
+fn store_named(alloc: Global, word: &str) -> Result<MemoryStore, StorageError> {
+    let (documents, chunk): (&[(&str, &str)], &str) = match word {
+        "2.13" => (&OF_VERSION_2, "t/0.0"),
+        "3" => (&OF_VERSION_3, "t/c/0/0"),
+        word => return Err(no_word(alloc, word)),
+    };
+    let mut store = store_of(alloc, documents)?;
+    store.set(&key_of(alloc, chunk)?, &CHUNK)?;
+    Ok(store)
+}
+
+// The path, the shape and the data type of an array.
+fn array_text(array: &OpenedArray, alloc: Global) -> Result<String, AllocError> {
+    let path = &array.path;
+    let shape = array.shape();
+    match array.data_type(alloc) {
+        Ok(data_type) => {
+            let name = data_type.name.as_str();
+            format!(in alloc; "{path} {shape:?} {name}")
+        }
+        Err(error) => format!(in alloc; "{path} {shape:?} {error}"),
+    }
+}
+
+// What the array of a row shows.
+fn opened_said(alloc: Global, given: &str) -> Result<String, StorageError> {
+    let (store, rest) = fields(given);
+    let (version, path) = fields(rest);
+    let store = store_named(alloc, store)?;
+    let version = version_of(alloc, version)?;
+    let array = OpenedArray::open(alloc, &store, path, &version);
+    Ok(said(alloc, array, array_text)?)
+}
+
+// Store, version and path; the path, the shape and the data type.
+const OPENED: &str = r#"
+2.13 | any | /t => /t [3, 5] int16
+2.13 | v2 | /t => /t [3, 5] int16
+2.13 | v3 | /t => Metadata is missing for /t
+2.13 | any | /time => /time [3] unsupported data type
+2.13 | any | / => no array but a group at /
+2.13 | any | /none => Metadata is missing for /none
+2.13 | any | t => invalid node path t
+3 | any | /t => /t [3, 5] int16
+3 | v2 | /t => Metadata is missing for /t
+3 | any | / => no array but a group at /
+3 | any | /t/c => Metadata is missing for /t/c
+"#;
+
+#[test]
+fn an_array_is_opened_by_its_path(rt: HostRuntime) -> Result<(), Fail> {
+    check_rows(rt.alloc(), OPENED, opened_said)
+}
+
+// The indices of a row, with blanks between them.
+fn indices_in(alloc: Global, text: &str) -> Result<Vec<u64>, StorageError> {
+    let mut indices = Vec::new(alloc);
+    for word in text.split(' ') {
+        if !word.is_empty() {
+            match word.parse::<u64>() {
+                Ok(index) => indices.push(index)?,
+                Err(_) => return Err(no_word(alloc, word)),
+            }
+        }
+    }
+    Ok(indices)
+}
+
+// The bytes of a chunk, with blanks between them.
+fn chunk_text(chunk: &Option<Vec<u8>>, alloc: Global) -> Result<String, AllocError> {
+    match chunk {
+        Some(bytes) => format!(in alloc; "{bytes:?}"),
+        None => String::from_str(alloc, "none"),
+    }
+}
+
+// The key of the chunk of a row, and its bytes.
+fn chunk_said(alloc: Global, given: &str) -> Result<String, StorageError> {
+    let (store, rest) = fields(given);
+    let (path, indices) = fields(rest);
+    let store = store_named(alloc, store)?;
+    let indices = indices_in(alloc, indices)?;
+    match OpenedArray::open(alloc, &store, path, &ANY) {
+        Ok(array) => {
+            let key = said(alloc, array.chunk_key(alloc, &indices), printed)?;
+            let chunk = said(alloc, array.chunk(alloc, &store, &indices), chunk_text)?;
+            Ok(format!(in alloc; "{key}: {chunk}")?)
+        }
+        Err(error) => Ok(format!(in alloc; "{error}")?),
+    }
+}
+
+// Store, path and indices; the key of the chunk, and its bytes.
+const CHUNKS: &str = r#"
+2.13 | /t | 0 0 => t/0.0: [0, 0, 1, 0, 2, 0, 5, 0, 6, 0, 7, 0]
+2.13 | /t | 1 1 => t/1.1: none
+2.13 | /time | 0 => time/0: none
+2.13 | /t | 0 => 1 indices of a chunk in 2 dimensions: 1 indices of a chunk in 2 dimensions
+2.13 | /t | 0 0 0 => 3 indices of a chunk in 2 dimensions: 3 indices of a chunk in 2 dimensions
+3 | /t | 0 0 => t/c/0/0: [0, 0, 1, 0, 2, 0, 5, 0, 6, 0, 7, 0]
+3 | /t | 1 1 => t/c/1/1: none
+3 | / | 0 0 => no array but a group at /
+"#;
+
+#[test]
+fn a_chunk_is_the_bytes_of_the_store_at_its_key(rt: HostRuntime) -> Result<(), Fail> {
+    check_rows(rt.alloc(), CHUNKS, chunk_said)
+}
+
+// The metadata of an array of version 3 with this `chunk_key_encoding`.
+fn array_encoded(alloc: Global, encoding: &str) -> Result<ArrayMetadata, MetadataFault> {
+    let mut text = String::from_str(
+        alloc,
+        r#"{"shape":[],"data_type":"int16","chunk_grid":"regular","chunk_key_encoding":"#,
+    )?;
+    text.push_str(encoding)?;
+    text.push_str(r#","fill_value":0,"codecs":["bytes"],"zarr_format":3,"node_type":"array"}"#)?;
+    let array = ArrayMetadataV3::from_bytes(alloc, text.as_bytes())?;
+    Ok(ArrayMetadata::V3(array))
+}
+
+// The key of the chunk of a row at the root.
+fn key_said(alloc: Global, given: &str) -> Result<String, StorageError> {
+    let (encoding, indices) = fields(given);
+    let indices = indices_in(alloc, indices)?;
+    match array_encoded(alloc, encoding) {
+        Ok(metadata) => match ChunkKeyEncoding::of(&metadata) {
+            Some(encoding) => Ok(said(alloc, encoding.chunk_key(alloc, &indices), printed)?),
+            None => Ok(String::from_str(alloc, "unsupported")?),
+        },
+        Err(fault) => Ok(format!(in alloc; "{fault}")?),
+    }
+}
+
+// Encoding and indices; the key. The keys of three indices are the examples of the Zarr core specification 3.1, "Chunk key encoding".
+const KEYS: &str = r#"
+{"name":"default","configuration":{"separator":"/"}} | 1 23 45 => c/1/23/45
+{"name":"default","configuration":{"separator":"."}} | 1 23 45 => c.1.23.45
+{"name":"v2","configuration":{"separator":"/"}} | 1 23 45 => 1/23/45
+{"name":"v2","configuration":{"separator":"."}} | 1 23 45 => 1.23.45
+"default" | 1 23 45 => c/1/23/45
+{"name":"default","configuration":{}} | 0 => c/0
+"default" | => c
+{"name":"default","configuration":{"separator":"."}} | => c
+"v2" | 1 23 45 => 1.23.45
+"v2" | 7 => 7
+"v2" | => 0
+{"name":"v2","configuration":{"separator":"/"}} | => 0
+"v2" | 18446744073709551615 0 => 18446744073709551615.0
+{"name":"default","configuration":{"separator":"-"}} | 0 => unsupported
+{"name":"default","configuration":{"separator":null}} | 0 => unsupported
+"suffix" | 0 => unsupported
+"#;
+
+#[test]
+fn the_key_of_a_chunk_follows_the_encoding(rt: HostRuntime) -> Result<(), Fail> {
+    check_rows(rt.alloc(), KEYS, key_said)
+}
+
+// What is said of the first chunk of a row's array without dimensions, which stands at the path `/a`.
+fn refused_said(alloc: Global, given: &str) -> Result<String, StorageError> {
+    let array = match array_encoded(alloc, given) {
+        Ok(metadata) => metadata,
+        Err(fault) => return Ok(format!(in alloc; "{fault}")?),
+    };
+    let path = match NodePath::new(alloc, "/a") {
+        Ok(path) => path,
+        Err(error) => return Ok(format!(in alloc; "{error}")?),
+    };
+    let array = OpenedArray {
+        path,
+        metadata: array,
+    };
+    Ok(said(alloc, array.chunk_key(alloc, &[]), printed)?)
+}
+
+// Encoding; the key of the chunk, or why there is none.
+const REFUSED: &str = r#"
+"default" => a/c
+"v2" => a/0
+"suffix" => unsupported chunk key encoding suffix
+{"name":"v2","configuration":{"separator":"-"}} => unsupported chunk key encoding v2
+"#;
+
+#[test]
+fn an_encoding_with_another_name_is_refused_by_name(rt: HostRuntime) -> Result<(), Fail> {
+    check_rows(rt.alloc(), REFUSED, refused_said)
+}
+
+#[test]
+fn the_laws_of_keys_are_called() {
+    laws::keys_read_back();
+}
