@@ -4,9 +4,7 @@ use std::alloc::{AllocError, Global};
 use std::test::Fail;
 use tests_fixtures::{ANY, key_of, no_word, store_of, version_of};
 use tests_support::{check_rows, fields, printed, said};
-use zarrs_meta::{ArrayMetadata, ArrayMetadataV3};
-use zarrs_path::NodePath;
-use zarrs_store::{MemoryStore, MetadataFault, StorageError, WritableStorageTraits, laws};
+use zarrs_store::{MemoryStore, StorageError, WritableStorageTraits, laws};
 use zarrs_uses::{ChunkKeyEncoding, OpenedArray};
 
 // The documents of zarr-python 2.13: a group, in it an array of three rows and five columns, and times.
@@ -194,20 +192,29 @@ fn chunk_text(chunk: &Option<Vec<u8>>, alloc: Global) -> Result<String, AllocErr
     }
 }
 
+// The key of a chunk of an array, and its bytes in a store.
+fn chunk_of(
+    array: &OpenedArray,
+    alloc: Global,
+    store: &MemoryStore,
+    indices: &[u64],
+) -> Result<String, AllocError> {
+    let key = said(alloc, array.chunk_key(alloc, indices), printed)?;
+    let chunk = said(alloc, array.chunk(alloc, store, indices), chunk_text)?;
+    format!(in alloc; "{key}: {chunk}")
+}
+
 // The key of the chunk of a row, and its bytes.
 fn chunk_said(alloc: Global, given: &str) -> Result<String, StorageError> {
-    let (store, rest) = fields(given);
+    let (word, rest) = fields(given);
     let (path, indices) = fields(rest);
-    let store = store_named(alloc, store)?;
+    let store = store_named(alloc, word)?;
     let indices = indices_in(alloc, indices)?;
-    match OpenedArray::open(alloc, &store, path, &ANY) {
-        Ok(array) => {
-            let key = said(alloc, array.chunk_key(alloc, &indices), printed)?;
-            let chunk = said(alloc, array.chunk(alloc, &store, &indices), chunk_text)?;
-            Ok(format!(in alloc; "{key}: {chunk}")?)
-        }
-        Err(error) => Ok(format!(in alloc; "{error}")?),
-    }
+    Ok(said(
+        alloc,
+        OpenedArray::open(alloc, &store, path, &ANY),
+        |array, alloc| chunk_of(array, alloc, &store, &indices),
+    )?)
 }
 
 // Store, path and indices; the key of the chunk, and its bytes.
@@ -227,29 +234,36 @@ fn a_chunk_is_the_bytes_of_the_store_at_its_key(rt: HostRuntime) -> Result<(), F
     check_rows(rt.alloc(), CHUNKS, chunk_said)
 }
 
-// The metadata of an array of version 3 with this `chunk_key_encoding`.
-fn array_encoded(alloc: Global, encoding: &str) -> Result<ArrayMetadata, MetadataFault> {
+// The document of an array without dimensions whose `chunk_key_encoding` this is.
+fn encoded(alloc: Global, encoding: &str) -> Result<String, AllocError> {
     let mut text = String::from_str(
         alloc,
         r#"{"shape":[],"data_type":"int16","chunk_grid":"regular","chunk_key_encoding":"#,
     )?;
     text.push_str(encoding)?;
     text.push_str(r#","fill_value":0,"codecs":["bytes"],"zarr_format":3,"node_type":"array"}"#)?;
-    let array = ArrayMetadataV3::from_bytes(alloc, text.as_bytes())?;
-    Ok(ArrayMetadata::V3(array))
+    Ok(text)
 }
 
-// The key of the chunk of a row at the root.
+// The key of a chunk at the root by the encoding of an array, or why the array has no chunk.
+fn key_of_chunk(array: &OpenedArray, alloc: Global, indices: &[u64]) -> Result<String, AllocError> {
+    match ChunkKeyEncoding::of(&array.metadata) {
+        Some(encoding) => said(alloc, encoding.chunk_key(alloc, indices), printed),
+        None => said(alloc, array.chunk_key(alloc, &[]), printed),
+    }
+}
+
+// The key of the chunk of a row.
 fn key_said(alloc: Global, given: &str) -> Result<String, StorageError> {
     let (encoding, indices) = fields(given);
+    let document = encoded(alloc, encoding)?;
+    let store = store_of(alloc, &[("zarr.json", document.as_str())])?;
     let indices = indices_in(alloc, indices)?;
-    match array_encoded(alloc, encoding) {
-        Ok(metadata) => match ChunkKeyEncoding::of(&metadata) {
-            Some(encoding) => Ok(said(alloc, encoding.chunk_key(alloc, &indices), printed)?),
-            None => Ok(String::from_str(alloc, "unsupported")?),
-        },
-        Err(fault) => Ok(format!(in alloc; "{fault}")?),
-    }
+    Ok(said(
+        alloc,
+        OpenedArray::open(alloc, &store, "/", &ANY),
+        |array, alloc| key_of_chunk(array, alloc, &indices),
+    )?)
 }
 
 // Encoding and indices; the key. The keys of three indices are the examples of the Zarr core specification 3.1, "Chunk key encoding".
@@ -267,44 +281,15 @@ const KEYS: &str = r#"
 "v2" | => 0
 {"name":"v2","configuration":{"separator":"/"}} | => 0
 "v2" | 18446744073709551615 0 => 18446744073709551615.0
-{"name":"default","configuration":{"separator":"-"}} | 0 => unsupported
-{"name":"default","configuration":{"separator":null}} | 0 => unsupported
-"suffix" | 0 => unsupported
+{"name":"default","configuration":{"separator":"-"}} | 0 => unsupported chunk key encoding default
+{"name":"default","configuration":{"separator":null}} | 0 => unsupported chunk key encoding default
+{"name":"v2","configuration":{"separator":"-"}} | 0 => unsupported chunk key encoding v2
+"suffix" | 0 => unsupported chunk key encoding suffix
 "#;
 
 #[test]
 fn the_key_of_a_chunk_follows_the_encoding(rt: HostRuntime) -> Result<(), Fail> {
     check_rows(rt.alloc(), KEYS, key_said)
-}
-
-// What is said of the first chunk of a row's array without dimensions, which stands at the path `/a`.
-fn refused_said(alloc: Global, given: &str) -> Result<String, StorageError> {
-    let array = match array_encoded(alloc, given) {
-        Ok(metadata) => metadata,
-        Err(fault) => return Ok(format!(in alloc; "{fault}")?),
-    };
-    let path = match NodePath::new(alloc, "/a") {
-        Ok(path) => path,
-        Err(error) => return Ok(format!(in alloc; "{error}")?),
-    };
-    let array = OpenedArray {
-        path,
-        metadata: array,
-    };
-    Ok(said(alloc, array.chunk_key(alloc, &[]), printed)?)
-}
-
-// Encoding; the key of the chunk, or why there is none.
-const REFUSED: &str = r#"
-"default" => a/c
-"v2" => a/0
-"suffix" => unsupported chunk key encoding suffix
-{"name":"v2","configuration":{"separator":"-"}} => unsupported chunk key encoding v2
-"#;
-
-#[test]
-fn an_encoding_with_another_name_is_refused_by_name(rt: HostRuntime) -> Result<(), Fail> {
-    check_rows(rt.alloc(), REFUSED, refused_said)
 }
 
 #[test]

@@ -47,10 +47,10 @@ pub enum OpenArrayError {
 /// <https://zarr-specs.readthedocs.io/en/latest/v3/core/index.html#chunk-key-encoding>
 #[derive(Debug, Drop, Error)]
 pub enum ChunkError {
-    /// The encoding of chunk keys with this name is neither `default` nor `v2`, or has another separator than these have.
+    /// The encoding of chunk keys with this name is neither `default` nor `v2`, or its separator is neither `.` nor `/`.
     #[error("unsupported chunk key encoding {0}")]
     UnsupportedEncoding(String),
-    /// There are so many indices, and so many dimensions.
+    /// The number of indices, and that of the dimensions, which is another.
     #[error("{0} indices of a chunk in {1} dimensions")]
     WrongIndices(usize, usize),
     /// The store refused.
