@@ -5,7 +5,7 @@ ghost use Rattle.zarrs_store.specs.Faults.{IsStoreError};
 ghost use Rattle.zarrs_path.specs.Keys.{zarr_json};
 ghost use Rattle.zarrs_block.specs.Refusals.{IsExcusedOr};
 ghost use Rattle.zarrs_node.specs.Nodes.{ShowsBad};
-ghost use Rattle.zarrs_uses.specs.Catalogues.{IsCurrent, IsRefusedAt, IsStored, RefusesChange, RefusesStored, after_change, after_changes, changed_key};
+ghost use Rattle.zarrs_uses.specs.Catalogues.{IsCurrent, IsGroupWithBlock, IsRefusedAt, IsStored, RefusesChange, RefusesStored, after_change, after_changes, changed_key};
 
 use log::Log;
 use std::alloc::{AllocError, Global};
@@ -274,25 +274,39 @@ impl Catalogue {
             (S.contents storage.old) (S.contents storage.new)) }
         ensures nature { S.can_fail storage.new ≡ S.can_fail storage.old }
     {
-        zarrs_path::laws::texts_differ();
-        zarrs_node::laws::listed_block_stays();
         zarrs_group::laws::means_version_3();
         zarrs_group::laws::storing_keeps_others();
         zarrs_group::laws::listed_block_opens();
-        let mut group = Group::open_opt(
-            alloc,
-            storage,
-            self.path.as_str(),
-            &MetadataRetrieveVersion::V3,
-            config,
-        )?;
-        let metadata = self.block.try_clone(alloc)?;
-        group.replace_consolidated_metadata(alloc, Some(ConsolidatedMetadata { metadata }))?;
+        zarrs_node::laws::listed_block_stays();
+        let group = self.group_with_block(alloc, storage, config)?;
         if !group.is_shallow(alloc)? {
             return Err(StoringError::TooDeep);
         }
         group.store_metadata(alloc, storage)?;
         Ok(())
+    }
+
+    // The group that the store has at the path, with the block in the place of the one that it held.
+    fn group_with_block<S: ReadableStorageTraits>(
+        &self,
+        alloc: Global,
+        storage: &S,
+        config: &Config,
+    ) -> Result<Group, StoringError>
+        ensures set { IfOk result (IsGroupWithBlock (S.contents storage.now) self.now) }
+        ensures refused { IfErr result
+            (RefusesStored (S.can_fail storage.now) self.now
+            (S.contents storage.now) (S.contents storage.now)) }
+    {
+        zarrs_path::laws::texts_differ();
+        zarrs_group::laws::means_version_3();
+        let path = self.path.as_str();
+        let version = MetadataRetrieveVersion::V3;
+        let mut group = Group::open_opt(alloc, storage, path, &version, config)?;
+        let metadata = self.block.try_clone(alloc)?;
+        let block = ConsolidatedMetadata { metadata };
+        group.replace_consolidated_metadata(alloc, Some(block))?;
+        Ok(group)
     }
 }
 
