@@ -5,6 +5,7 @@
 --     after_change, after_changes      the store after a change, and after a list of them
 --     RefusesChange, IsRefusedAt      why a change is refused; at which step a list of them is
 --     IsStored S c, RefusesStored      the group holds the block of the catalogue, and opens alike by it and by a listing; why that is refused
+--     RefusesUpdate      why a catalogue is not brought up to date
 use Rattle.std.specs.Prelude.{◌≡◌, ◌≤◌, ℕ, Bool, List, [], ◌∷◌, ◌++◌, Option, Some, None, option_map, take, slice_get}
 use Rattle.std.specs.List.{fold}
 use Rattle.serde_json.specs.Data.{depth}
@@ -34,6 +35,8 @@ use Rattle.zarrs_uses.specs.declared.catalogue.ChangeError.{ChangeError}
 use Rattle.zarrs_uses.specs.declared.catalogue.ChangeError.TheVariants.{NotBelow, Store, Refresh}
 use Rattle.zarrs_uses.specs.declared.catalogue.RefusedStep.{RefusedStep}
 use Rattle.zarrs_uses.specs.declared.catalogue.StoringError.{StoringError}
+use Rattle.zarrs_uses.specs.declared.catalogue.UpdateError.{UpdateError}
+use Rattle.zarrs_uses.specs.declared.catalogue.UpdateError.TheVariants.{Step, Storing}
 use Rattle.zarrs_uses.specs.declared.catalogue.StoringError.TheVariants.{Group, Block as SetBlock, TooDeep, Store as StoreGroup, OutOfMemory}
 
 -- the block of the catalogue is the one that a listing of the store below its path makes, as version 3
@@ -97,3 +100,8 @@ RefusesStored can_fail c S T (SetBlock e) = (T ≡ S) × (e ≡ NoMemory)
 RefusesStored can_fail c S T TooDeep = (T ≡ S) × ((h : GroupState) × IsGroupWithBlock S c h × (depth (group_tree h.metadata) ≤ max_depth → ⊥))
 RefusesStored can_fail c S T (StoreGroup e) = (h : GroupState) × IsGroupWithBlock S c h × RefusesStoringGroup can_fail h.convert_version h S T e
 RefusesStored can_fail c S T OutOfMemory = T ≡ S
+
+-- to bring a first catalogue, which became c, up to date by changes over a store S, which became T, is refused: at a step; or all changes were applied, and to store c is refused
+abbrev pub RefusesUpdate : Bool → Catalogue → Catalogue → List Change → Contents → Contents → UpdateError → Type 0
+RefusesUpdate can_fail first c changes S T (Step e) = IsRefusedAt can_fail first c changes S T e
+RefusesUpdate can_fail first c changes S T (Storing e) = (IsCurrent S first → IsCurrent T c) × RefusesStored can_fail c (after_changes S changes) T e

@@ -4,4 +4,4 @@
 
 mod catalogue;
 
-pub use catalogue::{Catalogue, Change, ChangeError, RefusedStep, StoringError};
+pub use catalogue::{Catalogue, Change, ChangeError, RefusedStep, StoringError, UpdateError};
