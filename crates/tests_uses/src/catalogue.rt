@@ -10,7 +10,7 @@ use zarrs_config::{Config, MetadataRetrieveVersion, UseConsolidatedMetadata};
 use zarrs_node::Node;
 use zarrs_path::NodePath;
 use zarrs_store::MemoryStore;
-use zarrs_uses::{Catalogue, Change};
+use zarrs_uses::{Catalogue, Change, UpdateError};
 
 // The group, with the block of the nodes below it.
 const WEATHER: &str =
@@ -118,20 +118,20 @@ fn own_text(text: &String, alloc: Global) -> Result<String, AllocError> {
     String::from_str(alloc, text.as_str())
 }
 
-// Changes the store and stores the catalogue: what the group shows then, or the refusal and the keys of the block.
+// Brings a catalogue up to date: what the group shows then, or the refusal and the keys of the block.
 fn changed_text(
     alloc: Global,
     mut store: MemoryStore,
     mut catalogue: Catalogue,
     changes: &[Change],
 ) -> Result<String, AllocError> {
-    if let Err(refused) = catalogue.apply_all(alloc, &mut store, changes) {
-        let keys = keys_text(&catalogue.block, alloc)?;
-        return format!(in alloc; "{refused}\n{keys}");
-    }
-    match catalogue.store(alloc, &mut store, &Config::new()) {
+    match catalogue.update(alloc, &mut store, changes, &Config::new()) {
         Ok(()) => said(alloc, shown_by_both(alloc, &store), own_text),
-        Err(refused) => format!(in alloc; "{refused}"),
+        Err(UpdateError::Storing(refused)) => format!(in alloc; "{refused}"),
+        Err(UpdateError::Step(refused)) => {
+            let keys = keys_text(&catalogue.block, alloc)?;
+            format!(in alloc; "{refused}\n{keys}")
+        }
     }
 }
 
@@ -176,6 +176,76 @@ const REFUSED: &str = r#"
 #[test]
 fn a_refused_change_is_named_and_leaves_the_block(rt: HostRuntime) -> Result<(), Fail> {
     check_rows(rt.alloc(), REFUSED, changed_said)
+}
+
+// Makes each change alone, goes on after a refused one, and stores the group: the refusals, and what the group shows.
+fn went_on_text(
+    alloc: Global,
+    mut store: MemoryStore,
+    mut catalogue: Catalogue,
+    changes: &[Change],
+) -> Result<String, AllocError> {
+    let mut text = String::new(alloc);
+    for change in changes {
+        if let Err(refused) = catalogue.apply(alloc, &mut store, change) {
+            write!(text, "{refused}\n")?;
+        }
+    }
+    let shown = match catalogue.store(alloc, &mut store, &Config::new()) {
+        Ok(()) => said(alloc, shown_by_both(alloc, &store), own_text)?,
+        Err(refused) => format!(in alloc; "{refused}")?,
+    };
+    write!(text, "{shown}")?;
+    Ok(text)
+}
+
+fn went_on(alloc: Global, given: &str) -> Result<String, NodeCreateError> {
+    let (store, catalogue) = opened(alloc)?;
+    let changes = changes_in(alloc, given)?;
+    Ok(went_on_text(alloc, store, catalogue, changes.as_slice())?)
+}
+
+fn went_on_said(alloc: Global, given: &str) -> Result<String, AllocError> {
+    said(alloc, went_on(alloc, given), own_text)
+}
+
+// Changes of which one is refused, and another that mends it; the refusal, and the keys of what the group shows.
+const MENDED: &str = r#"
+/old [;/old g3 => error parsing metadata for old/zarr.json: not JSON\nold\nold/waves\ntemperature\n
+/new/array [;/new g3;/new/array a3;/new g3 => error parsing metadata for new/array/zarr.json: not JSON\nnew\nnew/array\nold\nold/waves\ntemperature\n
+"#;
+
+#[test]
+fn a_catalogue_goes_on_after_a_refused_change(rt: HostRuntime) -> Result<(), Fail> {
+    check_rows(rt.alloc(), MENDED, went_on_said)
+}
+
+// The same changes as one list, and the group stored by a call of its own.
+fn apart_text(
+    alloc: Global,
+    mut store: MemoryStore,
+    mut catalogue: Catalogue,
+    changes: &[Change],
+) -> Result<String, AllocError> {
+    if let Err(refused) = catalogue.apply_all(alloc, &mut store, changes) {
+        return format!(in alloc; "{refused}");
+    }
+    went_on_text(alloc, store, catalogue, &[])
+}
+
+fn apart(alloc: Global, given: &str) -> Result<String, NodeCreateError> {
+    let (store, catalogue) = opened(alloc)?;
+    let changes = changes_in(alloc, given)?;
+    Ok(apart_text(alloc, store, catalogue, changes.as_slice())?)
+}
+
+fn apart_said(alloc: Global, given: &str) -> Result<String, AllocError> {
+    said(alloc, apart(alloc, given), own_text)
+}
+
+#[test]
+fn the_group_may_be_stored_by_a_call_of_its_own(rt: HostRuntime) -> Result<(), Fail> {
+    check_rows(rt.alloc(), STORED, apart_said)
 }
 
 // A group with an attribute of so many lists in each other is set and stored.

@@ -1,5 +1,5 @@
 -- What a change of a store leaves as it was, and what a stored group opens to.
-use Rattle.std.proofs.Common.{◌≡◌, ◌≤◌, ℕ, Bool, List, [], ◌∷◌, ◌++◌, Option, Some, None, refl, sym, ap, subst, arith}
+use Rattle.std.proofs.Common.{◌≡◌, ◌≤◌, ℕ, Bool, List, [], ◌∷◌, ◌++◌, Option, Some, None, refl, sym, ap, subst, ◌∙◌, arith}
 use Rattle.serde_json.specs.Data.{depth}
 use Rattle.serde_json.specs.Read.{max_depth}
 use Rattle.zarrs_store.specs.Segments.{Segments}
@@ -7,19 +7,23 @@ use Rattle.zarrs_store.specs.Contents.{Contents, AgreesExceptAt}
 use Rattle.zarrs_store.specs.declared.storage_error.StorageError.{StorageError}
 use Rattle.zarrs_path.specs.Paths.{Path, IsPath}
 use Rattle.zarrs_path.specs.Keys.{zarr_json}
-use Rattle.zarrs_config.specs.declared.version.MetadataConvertVersion.{MetadataConvertVersion}
 use Rattle.zarrs_config.specs.declared.version.MetadataRetrieveVersion.TheVariants as retrieve
 use Rattle.zarrs_meta.specs.declared.group_v3.GroupMetadataV3.{GroupMetadataV3}
+use Rattle.zarrs_meta.specs.declared.node.GroupMetadata.{GroupMetadata}
 use Rattle.zarrs_meta.specs.declared.node.GroupMetadata.TheVariants.{V3}
+use Rattle.zarrs_block.specs.Block.{Block}
+use Rattle.zarrs_block.specs.declared.node_create_error.NodeCreateError.{NodeCreateError}
+use Rattle.zarrs_block.specs.declared.node_create_error.NodeCreateError.TheVariants.{OutOfMemory}
 use Rattle.zarrs_node.specs.Changes.{AgreesOutside}
 use Rattle.zarrs_node.specs.ListedBlocks.{IsListedBlock}
-use Rattle.zarrs_group.specs.BlocksOfGroups.{metadata_with, with_block}
+use Rattle.zarrs_group.specs.BlocksOfGroups.{RefusesBlock, metadata_with, with_block}
 use Rattle.zarrs_group.specs.Edits.{after, after_edit, set, remove}
 use Rattle.zarrs_group.specs.Groups.{GroupState, group_tree, metadata_by_version}
 use Rattle.zarrs_group.specs.Laws.{MeansStored}
-use Rattle.zarrs_group.specs.StoredBlocks.{EditKeepsOthers, StoringKeepsOthers, ListedBlockOpens, OpensAlike}
+use Rattle.zarrs_group.specs.Meaning.{MeansGroup}
+use Rattle.zarrs_group.specs.StoredBlocks.{EditKeepsOthers, StoringKeepsOthers, MeansVersion3, ListedBlockOpens, OpensAlike}
 use Rattle.zarrs_group.specs.StoringGroups.{edits_of_group, RefusesStoringGroup}
-use Rattle.zarrs_uses.specs.Catalogues.{IsCurrent, IsStored, edit_at}
+use Rattle.zarrs_uses.specs.Catalogues.{IsCurrent, IsGroupWithBlock, IsStored, edit_at}
 use Rattle.zarrs_uses.specs.declared.catalogue.Catalogue.{Catalogue}
 
 -- the document `zarr.json` of a path is one of its documents
@@ -31,27 +35,42 @@ pub edited : EditKeepsOthers → (S : Contents) (key : Segments) (bytes : Option
 edited keeps S key (Some bytes) = keeps S (set key bytes)
 edited keeps S key None = keeps S (remove key)
 
-module _ (keeps : StoringKeepsOthers) (S T : Contents) (w : MetadataConvertVersion) (c : Catalogue) (g : GroupState) (k : GroupMetadataV3) (at : g.path ≡ c.path) (is : g.metadata ≡ V3 k) where
-  -- storing the group with the block changes its document alone
-  pub others_stored : T ≡ after S (edits_of_group w (with_block g (Some c.block))) → AgreesExceptAt (c.path ++ zarr_json ∷ []) S T
-  others_stored e =
-      subst (λ p. AgreesExceptAt (p ++ zarr_json ∷ []) S T) at
-      (subst (AgreesExceptAt (g.path ++ zarr_json ∷ []) S) (sym e) (keeps S T w (with_block g (Some c.block)) _ (ap (metadata_with (Some c.block)) is)).0)
+-- a group as version 3 refuses a block as out of memory alone
+pub no_memory : MeansVersion3 → (S : Contents) (p : Path) (m : GroupMetadata) (block : Option Block) (e : NodeCreateError) → MeansGroup S retrieve.V3 p m → RefusesBlock m block e → e ≡ OutOfMemory
+no_memory is_v3 S p m block e means refused = let v3 = is_v3 S p m means in subst (λ x. RefusesBlock x block e) v3.1 refused
+
+module _ (is_v3 : MeansVersion3) (S T : Contents) (c : Catalogue) (h : GroupState) (found : IsGroupWithBlock S c h) where
+  -- the group is of version 3
+  v3 : (k : GroupMetadataV3) × (found.group.metadata ≡ V3 k)
+  v3 = is_v3 S c.path found.group.metadata found.means
+
+  -- so is the group with the block, which stands at the path
+  metadata_is : (k : GroupMetadataV3) × (h.metadata ≡ V3 k)
+  metadata_is = (_, ap (λ (x : GroupState). x.metadata) found.set ∙ ap (metadata_with (Some c.block)) v3.1)
+
+  at : h.path ≡ c.path
+  at = ap (λ (x : GroupState). x.path) found.set ∙ found.path
+
+  -- storing it changes its document alone
+  pub others_stored : StoringKeepsOthers → T ≡ after S (edits_of_group h.convert_version h) → AgreesExceptAt (c.path ++ zarr_json ∷ []) S T
+  others_stored keeps e =
+      subst (λ p. AgreesExceptAt (p ++ zarr_json ∷ []) S T) at (subst (AgreesExceptAt (h.path ++ zarr_json ∷ []) S) (sym e) (keeps S T h.convert_version h metadata_is.0 metadata_is.1).0)
 
   -- also where it is refused
-  pub others_refused : (can_fail : Bool) (e : StorageError) → RefusesStoringGroup can_fail w (with_block g (Some c.block)) S T e → AgreesExceptAt (c.path ++ zarr_json ∷ []) S T
-  others_refused can_fail e h =
-      subst (λ p. AgreesExceptAt (p ++ zarr_json ∷ []) S T) at
-      ((keeps S T w (with_block g (Some c.block)) _ (ap (metadata_with (Some c.block)) is)).1 can_fail e h)
+  pub others_refused : StoringKeepsOthers → (can_fail : Bool) (e : StorageError) → RefusesStoringGroup can_fail h.convert_version h S T e → AgreesExceptAt (c.path ++ zarr_json ∷ []) S T
+  others_refused keeps can_fail e refused = subst (λ p. AgreesExceptAt (p ++ zarr_json ∷ []) S T) at ((keeps S T h.convert_version h metadata_is.0 metadata_is.1).1 can_fail e refused)
 
--- where the group with the block was stored, and nests not too deep, the catalogue is stored
-pub is_stored : ListedBlockOpens → (T : Contents) (w : MetadataConvertVersion) (c : Catalogue) (g : GroupState) (k : GroupMetadataV3)
-    → g.path ≡ c.path → IsPath g.path → g.metadata ≡ V3 k → IsCurrent T c
-    → MeansStored T g.path (metadata_by_version w (with_block g (Some c.block)).metadata) → depth (group_tree (with_block g (Some c.block)).metadata) ≤ max_depth → IsStored T c
-is_stored opens T w c g k at valid is current means shallow =
-    let found = opens T retrieve.V3 w g k c.block (λ e. cc) valid is (subst (λ p. IsListedBlock T retrieve.V3 p c.block) (sym at) current) means shallow in
-    record {
-      group = (with_block g (Some c.block)).metadata;
-      holds = found.0;
-      alike = subst (λ p. OpensAlike T retrieve.V3 p (with_block g (Some c.block)).metadata) at found.1;
-    }
+  -- where it was stored, and nests not too deep, the catalogue is stored
+  pub is_stored : ListedBlockOpens → IsCurrent T c → MeansStored T h.path (metadata_by_version h.convert_version h.metadata) → depth (group_tree h.metadata) ≤ max_depth → IsStored T c
+  is_stored opens current means shallow =
+      let g = found.group in
+      let w = h.convert_version in
+      let stored = subst (λ (x : GroupState). MeansStored T x.path (metadata_by_version w x.metadata)) found.set means in
+      let low = subst (λ (x : GroupState). depth (group_tree x.metadata) ≤ max_depth) found.set shallow in
+      let listed = subst (λ p. IsListedBlock T retrieve.V3 p c.block) (sym found.path) current in
+      let both = opens T retrieve.V3 w g v3.0 c.block (λ e. cc) (subst IsPath (sym found.path) found.valid) v3.1 listed stored low in
+      record {
+        group = (with_block g (Some c.block)).metadata;
+        holds = both.0;
+        alike = subst (λ p. OpensAlike T retrieve.V3 p (with_block g (Some c.block)).metadata) found.path both.1;
+      }

@@ -5,6 +5,7 @@
 --     after_change, after_changes      the store after a change, and after a list of them
 --     RefusesChange, IsRefusedAt      why a change is refused; at which step a list of them is
 --     IsStored S c, RefusesStored      the group holds the block of the catalogue, and opens alike by it and by a listing; why that is refused
+--     RefusesUpdate      why a catalogue is not brought up to date
 use Rattle.std.specs.Prelude.{◌≡◌, ◌≤◌, ℕ, Bool, List, [], ◌∷◌, ◌++◌, Option, Some, None, option_map, take, slice_get}
 use Rattle.std.specs.List.{fold}
 use Rattle.serde_json.specs.Data.{depth}
@@ -12,7 +13,7 @@ use Rattle.serde_json.specs.Read.{max_depth}
 use Rattle.zarrs_store.specs.Segments.{Segments}
 use Rattle.zarrs_store.specs.Contents.{Contents, AgreesExceptAt}
 use Rattle.zarrs_store.specs.Faults.{IsStoreError}
-use Rattle.zarrs_path.specs.Paths.{IsBelow, path_text}
+use Rattle.zarrs_path.specs.Paths.{IsBelow, IsPath, path_text}
 use Rattle.zarrs_path.specs.Keys.{zarr_json}
 use Rattle.zarrs_config.specs.declared.version.MetadataRetrieveVersion.TheVariants.{V3}
 use Rattle.zarrs_meta.specs.declared.node.GroupMetadata.{GroupMetadata}
@@ -34,6 +35,8 @@ use Rattle.zarrs_uses.specs.declared.catalogue.ChangeError.{ChangeError}
 use Rattle.zarrs_uses.specs.declared.catalogue.ChangeError.TheVariants.{NotBelow, Store, Refresh}
 use Rattle.zarrs_uses.specs.declared.catalogue.RefusedStep.{RefusedStep}
 use Rattle.zarrs_uses.specs.declared.catalogue.StoringError.{StoringError}
+use Rattle.zarrs_uses.specs.declared.catalogue.UpdateError.{UpdateError}
+use Rattle.zarrs_uses.specs.declared.catalogue.UpdateError.TheVariants.{Step, Storing}
 use Rattle.zarrs_uses.specs.declared.catalogue.StoringError.TheVariants.{Group, Block as SetBlock, TooDeep, Store as StoreGroup, OutOfMemory}
 
 -- the block of the catalogue is the one that a listing of the store below its path makes, as version 3
@@ -82,14 +85,23 @@ pub record IsStored (S : Contents) (c : Catalogue) : Type 0 where
   pub holds : block_in_group group ≡ Some c.block
   pub alike : OpensAlike S V3 c.path group
 
--- the group is the one that the path of the catalogue means, as version 3
-abbrev pub IsGroupOf : Contents → Catalogue → GroupState → Type 0
-IsGroupOf S c g = (g.path ≡ c.path) × MeansGroup S V3 c.path g.metadata
+-- h is the group that the path of the catalogue means, as version 3, with the block of the catalogue set
+pub record IsGroupWithBlock (S : Contents) (c : Catalogue) (h : GroupState) : Type 0 where
+  pub group : GroupState
+  pub path : group.path ≡ c.path
+  pub valid : IsPath c.path
+  pub means : MeansGroup S V3 c.path group.metadata
+  pub set : h ≡ with_block group (Some c.block)
 
 -- to store the catalogue is refused over a store S, which becomes T: the group is not opened; or out of memory; or with the block its document nests too deep, or is not stored
 abbrev pub RefusesStored : Bool → Catalogue → Contents → Contents → StoringError → Type 0
 RefusesStored can_fail c S T (Group e) = (T ≡ S) × RefusesOpeningGroup can_fail S V3 (path_text c.path) e
 RefusesStored can_fail c S T (SetBlock e) = (T ≡ S) × (e ≡ NoMemory)
-RefusesStored can_fail c S T TooDeep = (T ≡ S) × ((g : GroupState) × IsGroupOf S c g × (depth (group_tree (with_block g (Some c.block)).metadata) ≤ max_depth → ⊥))
-RefusesStored can_fail c S T (StoreGroup e) = (g : GroupState) × IsGroupOf S c g × RefusesStoringGroup can_fail g.convert_version (with_block g (Some c.block)) S T e
+RefusesStored can_fail c S T TooDeep = (T ≡ S) × ((h : GroupState) × IsGroupWithBlock S c h × (depth (group_tree h.metadata) ≤ max_depth → ⊥))
+RefusesStored can_fail c S T (StoreGroup e) = (h : GroupState) × IsGroupWithBlock S c h × RefusesStoringGroup can_fail h.convert_version h S T e
 RefusesStored can_fail c S T OutOfMemory = T ≡ S
+
+-- to bring a first catalogue, which became c, up to date by changes over a store S, which became T, is refused: at a step; or all changes were applied, and to store c is refused
+abbrev pub RefusesUpdate : Bool → Catalogue → Catalogue → List Change → Contents → Contents → UpdateError → Type 0
+RefusesUpdate can_fail first c changes S T (Step e) = IsRefusedAt can_fail first c changes S T e
+RefusesUpdate can_fail first c changes S T (Storing e) = (IsCurrent S first → IsCurrent T c) × RefusesStored can_fail c (after_changes S changes) T e

@@ -5,7 +5,7 @@ ghost use Rattle.zarrs_store.specs.Faults.{IsStoreError};
 ghost use Rattle.zarrs_path.specs.Keys.{zarr_json};
 ghost use Rattle.zarrs_block.specs.Refusals.{IsExcusedOr};
 ghost use Rattle.zarrs_node.specs.Nodes.{ShowsBad};
-ghost use Rattle.zarrs_uses.specs.Catalogues.{IsCurrent, IsRefusedAt, IsStored, RefusesChange, RefusesStored, after_change, after_changes, changed_key};
+ghost use Rattle.zarrs_uses.specs.Catalogues.{IsCurrent, IsGroupWithBlock, IsRefusedAt, IsStored, RefusesChange, RefusesStored, RefusesUpdate, after_change, after_changes, changed_key};
 
 use log::Log;
 use std::alloc::{AllocError, Global};
@@ -20,6 +20,9 @@ use zarrs_store::{
 };
 
 /// A change of a store: the document `zarr.json` of a path is set, or erased.
+///
+/// Source: own.
+/// <https://zarr-specs.readthedocs.io/en/latest/v3/core/index.html#metadata>
 #[derive(Debug, Drop)]
 pub struct Change {
     /// The path.
@@ -29,6 +32,9 @@ pub struct Change {
 }
 
 /// Why a change was refused.
+///
+/// Source: own.
+/// <https://zarr-specs.readthedocs.io/en/latest/v3/core/index.html#metadata>
 #[derive(Debug, Drop, Error)]
 pub enum ChangeError {
     /// The path is not below that of the group.
@@ -63,6 +69,9 @@ impl From<NodeCreateError> for ChangeError {
 }
 
 /// Which of a list of changes was refused, and why.
+///
+/// Source: own.
+/// <https://zarr-specs.readthedocs.io/en/latest/v3/core/index.html#metadata>
 #[derive(Debug, Drop, Error)]
 #[error("change {step}: {cause}")]
 pub struct RefusedStep {
@@ -73,6 +82,10 @@ pub struct RefusedStep {
 }
 
 /// Why a catalogue was not stored.
+///
+/// Source: own.
+/// <https://zarr-specs.readthedocs.io/en/latest/v3/core/index.html#group-metadata>
+/// <https://zarr.readthedocs.io/en/stable/user-guide/consolidated_metadata/>
 #[derive(Debug, Drop, Error)]
 pub enum StoringError {
     /// The group was not opened.
@@ -132,7 +145,46 @@ impl From<AllocError> for StoringError {
     }
 }
 
-/// The path of a version 3 group, and the block of the nodes below it.
+/// Why a catalogue was not brought up to date.
+///
+/// Source: own.
+/// <https://zarr-specs.readthedocs.io/en/latest/v3/core/index.html#group-metadata>
+/// <https://zarr.readthedocs.io/en/stable/user-guide/consolidated_metadata/>
+#[derive(Debug, Drop, Error)]
+pub enum UpdateError {
+    /// A change was refused.
+    #[error("{0}")]
+    Step(RefusedStep),
+    /// The changes were made, and the group was not stored.
+    #[error("{0}")]
+    Storing(StoringError),
+}
+
+impl From<RefusedStep> for UpdateError {
+    ghost use Rattle.zarrs_uses.specs.declared.catalogue.UpdateError.TheVariants.{Step};
+
+    ghost from_gives = { λ error made. made ≡ Step error };
+
+    fn from(error: RefusedStep) -> UpdateError {
+        UpdateError::Step(error)
+    }
+}
+
+impl From<StoringError> for UpdateError {
+    ghost use Rattle.zarrs_uses.specs.declared.catalogue.UpdateError.TheVariants.{Storing};
+
+    ghost from_gives = { λ error made. made ≡ Storing error };
+
+    fn from(error: StoringError) -> UpdateError {
+        UpdateError::Storing(error)
+    }
+}
+
+/// A catalogue: the path of a version 3 group, and the block of the nodes below it.
+///
+/// Source: own.
+/// <https://zarr-specs.readthedocs.io/en/latest/v3/core/index.html#group-metadata>
+/// <https://zarr.readthedocs.io/en/stable/user-guide/consolidated_metadata/>
 #[derive(Debug, Drop)]
 pub struct Catalogue {
     /// The path of the group.
@@ -162,6 +214,41 @@ impl Catalogue {
     {
         let block = consolidate_nodes_of(log, alloc, storage, &path, &MetadataRetrieveVersion::V3)?;
         Ok(Catalogue { path, block })
+    }
+
+    /// Makes the changes of a list one after another, and the block current after each, and at the end stores the group with the block.
+    ///
+    /// # Errors
+    ///
+    /// - `Step` with the refusal of [`Catalogue::apply_all`]. The group is not stored.
+    /// - `Storing` with that of [`Catalogue::store`]. All changes are made, and the block is current.
+    pub fn update<S>(
+        &mut self,
+        alloc: Global,
+        storage: &mut S,
+        changes: &[Change],
+        config: &Config,
+    ) -> Result<(), UpdateError>
+    where
+        S: ReadableStorageTraits + ListableStorageTraits + WritableStorageTraits,
+        ensures changed { OnOk result
+            (AgreesExceptAt (self.old.path ++ zarr_json ∷ [])
+            (after_changes (S.contents storage.old) changes.now) (S.contents storage.new)) }
+        ensures current { OnOk result
+            (IsCurrent (S.contents storage.old) self.old
+            → IsCurrent (S.contents storage.new) self.new) }
+        ensures stored { OnOk result
+            (IsCurrent (S.contents storage.old) self.old
+            → IsStored (S.contents storage.new) self.new) }
+        ensures path { self.new.path ≡ self.old.path }
+        ensures refused { IfErr result
+            (RefusesUpdate (S.can_fail storage.old) self.old self.new changes.now
+            (S.contents storage.old) (S.contents storage.new)) }
+        ensures nature { S.can_fail storage.new ≡ S.can_fail storage.old }
+    {
+        self.apply_all(alloc, storage, changes)?;
+        self.store(alloc, storage, config)?;
+        Ok(())
     }
 
     /// Makes a change of the store, and the block current after it.
@@ -274,25 +361,39 @@ impl Catalogue {
             (S.contents storage.old) (S.contents storage.new)) }
         ensures nature { S.can_fail storage.new ≡ S.can_fail storage.old }
     {
-        zarrs_path::laws::texts_differ();
-        zarrs_node::laws::listed_block_stays();
         zarrs_group::laws::means_version_3();
         zarrs_group::laws::storing_keeps_others();
         zarrs_group::laws::listed_block_opens();
-        let mut group = Group::open_opt(
-            alloc,
-            storage,
-            self.path.as_str(),
-            &MetadataRetrieveVersion::V3,
-            config,
-        )?;
-        let metadata = self.block.try_clone(alloc)?;
-        group.replace_consolidated_metadata(alloc, Some(ConsolidatedMetadata { metadata }))?;
+        zarrs_node::laws::listed_block_stays();
+        let group = self.group_with_block(alloc, storage, config)?;
         if !group.is_shallow(alloc)? {
             return Err(StoringError::TooDeep);
         }
         group.store_metadata(alloc, storage)?;
         Ok(())
+    }
+
+    // The group that the store has at the path, with the block in the place of the one that it held.
+    fn group_with_block<S: ReadableStorageTraits>(
+        &self,
+        alloc: Global,
+        storage: &S,
+        config: &Config,
+    ) -> Result<Group, StoringError>
+        ensures set { IfOk result (IsGroupWithBlock (S.contents storage.now) self.now) }
+        ensures refused { IfErr result
+            (RefusesStored (S.can_fail storage.now) self.now
+            (S.contents storage.now) (S.contents storage.now)) }
+    {
+        zarrs_path::laws::texts_differ();
+        zarrs_group::laws::means_version_3();
+        let path = self.path.as_str();
+        let version = MetadataRetrieveVersion::V3;
+        let mut group = Group::open_opt(alloc, storage, path, &version, config)?;
+        let metadata = self.block.try_clone(alloc)?;
+        let block = ConsolidatedMetadata { metadata };
+        group.replace_consolidated_metadata(alloc, Some(block))?;
+        Ok(group)
     }
 }
 

@@ -9,7 +9,7 @@ mod converter;
 mod first_call;
 mod opened_array;
 
-pub use catalogue::{Catalogue, Change, ChangeError, RefusedStep, StoringError};
+pub use catalogue::{Catalogue, Change, ChangeError, RefusedStep, StoringError, UpdateError};
 pub use chunk_key::ChunkKeyEncoding;
 pub use converter::{ConvertError, convert_hierarchy, erase_version_2};
 pub use first_call::is_group_at;
