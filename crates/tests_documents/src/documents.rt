@@ -4,7 +4,7 @@ use crate::asserts::assert_says;
 use serde_json::Value;
 use std::alloc::{AllocError, Global};
 use std::test::Fail;
-use tests_support::{A3, check_rows, fields, made, said};
+use tests_support::{A3, check_rows, fields, made, printed, said};
 use zarrs_fault::MetadataFault;
 use zarrs_meta::{
     ArrayMetadata, ArrayMetadataV2, ArrayMetadataV3, AttributesDocument, BoxedArray, Document,
@@ -721,6 +721,31 @@ unknown field | {"zarr_format":3,"node_type":"group","attributes":{"spam":"ham",
 #[test]
 fn groups_and_arrays_are_made(rt: HostRuntime) -> Result<(), Fail> {
     check_rows(rt.alloc(), VARIANTS, made_says)
+}
+
+// The document of a node, and the compact text of what its bytes read as.
+fn document_says(alloc: Global, text: &str) -> Result<String, MetadataFault> {
+    let node = NodeMetadata::from_bytes(alloc, text.as_bytes())?;
+    match node.to_document(alloc)? {
+        Some(bytes) => Ok(NodeMetadata::from_bytes(alloc, bytes.as_slice())?.to_text(alloc)?),
+        None => Ok(String::from_str(alloc, "none")?),
+    }
+}
+
+fn document_said(alloc: Global, text: &str) -> Result<String, AllocError> {
+    said(alloc, document_says(alloc, text), printed)
+}
+
+// A node, and what its document reads as.
+const DOCUMENTS: &str = r#"
+{"node_type":"group","zarr_format":3} => {"node_type":"group","zarr_format":3}
+{"attributes":{"k":[1,{"a":"é"}]},"node_type":"group","zarr_format":3} => {"attributes":{"k":[1,{"a":"é"}]},"node_type":"group","zarr_format":3}
+{"chunks":[1],"compressor":null,"dimension_separator":".","dtype":"<f8","fill_value":"NaN","filters":null,"order":"C","shape":[1],"zarr_format":2} => {"chunks":[1],"compressor":null,"dimension_separator":".","dtype":"<f8","fill_value":"NaN","filters":null,"order":"C","shape":[1],"zarr_format":2}
+"#;
+
+#[test]
+fn the_document_of_a_node_reads_again(rt: HostRuntime) -> Result<(), Fail> {
+    check_rows(rt.alloc(), DOCUMENTS, document_said)
 }
 
 #[test]

@@ -147,4 +147,5 @@ fn the_laws_of_surveys_are_called() {
     laws::listing_is_surveyed();
     laws::groups_are_surveyed();
     laws::good_blocks_agree();
+    laws::refreshed_blocks_agree();
 }

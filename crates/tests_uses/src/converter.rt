@@ -9,7 +9,9 @@ use zarrs_block::NodeCreateError;
 use zarrs_config::UseConsolidatedMetadata;
 use zarrs_node::Node;
 use zarrs_path::NodePath;
-use zarrs_store::{ListableStorageTraits, MemoryStore, ReadableStorageTraits, WritableStorageTraits};
+use zarrs_store::{
+    ListableStorageTraits, MemoryStore, ReadableStorageTraits, WritableStorageTraits,
+};
 use zarrs_uses::{ConvertError, convert_hierarchy, erase_version_2};
 
 // A group as zarr-python 2 writes it.

@@ -6,4 +6,6 @@ mod catalogue;
 #[cfg(test)]
 mod converter;
 #[cfg(test)]
+mod first_call;
+#[cfg(test)]
 mod opened_array;
