@@ -13,7 +13,7 @@ ghost use Rattle.zarrs_meta.specs.declared.node.NodeMetadata.TheVariants as node
 ghost use Rattle.zarrs_block.specs.Meaning.{meaning, node};
 ghost use Rattle.zarrs_block.specs.Refusals.{IsExcusedOr};
 ghost use Rattle.zarrs_convert.specs.Arrays.{array_v3};
-ghost use Rattle.zarrs_node.specs.MapsOfNodes.{AreDocumentsOf, IsBeside, NodesFrom, ShowsMapped, keys_beside, version_2_files, version_2_keys, with_documents, without_keys};
+ghost use Rattle.zarrs_node.specs.MapsOfNodes.{AreDocumentsOf, HasNoVersion3, IsBeside, NodesFrom, ShowsMapped, keys_beside, version_2_files, version_2_keys, with_documents, without_keys};
 ghost use Rattle.zarrs_node.specs.Nodes.{HasNothingBad};
 ghost use Rattle.zarrs_node.specs.Order.{Ascend};
 ghost use Rattle.zarrs_uses.specs.Conversions.{KeepsOthers, RefusesConverting, RefusesErasing, RefusesFrom, RefusesNodes, as_v3};
@@ -130,12 +130,21 @@ pub fn convert_hierarchy<
     ensures node { OnOk result
         ((m : NodeMetadata) × meaning (S.contents storage.old) MetadataRetrieveVersion.Default
         base.now ≡ node m) }
+    ensures documents { OnOk result
+        ((ds : List (Segments × Bytes ℕ))
+        × AreDocumentsOf as_v3
+        (NodesFrom (S.contents storage.old) MetadataRetrieveVersion.Default base.now) ds
+        × (S.contents storage.new ≡ with_documents (S.contents storage.old) ds)) }
     ensures version_3 { OnOk result
         (ShowsMapped as_v3 base.now (S.contents storage.old) MetadataRetrieveVersion.Default
         (S.contents storage.new) MetadataRetrieveVersion.V3) }
     ensures default { OnOk result
         (ShowsMapped as_v3 base.now (S.contents storage.old) MetadataRetrieveVersion.Default
         (S.contents storage.new) MetadataRetrieveVersion.Default) }
+    ensures version_2 { OnOk result
+        (HasNoVersion3 (S.contents storage.old)
+        → ShowsMapped as_v3 base.now (S.contents storage.old) MetadataRetrieveVersion.V2
+        (S.contents storage.new) MetadataRetrieveVersion.V3) }
     ensures others { KeepsOthers base.now (S.contents storage.old) (S.contents storage.new) }
     ensures refused { IfErr result
         (RefusesConverting (S.can_fail storage.old) base.now (S.contents storage.old)
@@ -143,6 +152,7 @@ pub fn convert_hierarchy<
     ensures nature { S.can_fail storage.new ≡ S.can_fail storage.old }
 {
     laws::documents_are_shown();
+    laws::default_is_version_2();
     let nodes = nodes_from(log, alloc, storage, base, &MetadataRetrieveVersion::Default)?;
     let documents = documents_of(log, alloc, &nodes)?;
     Ok(set_all(storage, &documents)?)
