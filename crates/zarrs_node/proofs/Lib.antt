@@ -50,3 +50,4 @@ pub mod InFront
 pub mod Versions
 pub mod DocumentsSet
 pub mod DocumentsErased
+pub mod DefaultVersion

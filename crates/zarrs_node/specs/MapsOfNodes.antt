@@ -20,7 +20,7 @@ use Rattle.zarrs_meta.specs.Node.{is_group}
 use Rattle.zarrs_meta.specs.NodeDocuments.{ReadsAs, is_version_3}
 use Rattle.zarrs_meta.specs.declared.node.NodeMetadata.{NodeMetadata}
 use Rattle.zarrs_config.specs.declared.version.MetadataRetrieveVersion.{MetadataRetrieveVersion}
-use Rattle.zarrs_config.specs.declared.version.MetadataRetrieveVersion.TheVariants.{Default, V3}
+use Rattle.zarrs_config.specs.declared.version.MetadataRetrieveVersion.TheVariants.{Default, V3, V2}
 use Rattle.zarrs_block.specs.Meaning.{Meaning, meaning, node, nothing, bad}
 use Rattle.zarrs_node.specs.Reach.{Reached}
 use Rattle.zarrs_node.specs.Nodes.{MeansNode, Nodes, HasNothingBad}
@@ -94,6 +94,10 @@ pub record AreDocumentsOf (f : NodeMetadata → Option NodeMetadata) (N : Path �
   pub each : (e : Path × NodeMetadata) → N e → is_version_3 e.1 ≡ false → (d : Segments × Vec ℕ) × Contains ds d × IsDocumentOf f e d
   pub only : (d : Segments × Vec ℕ) → Contains ds d → (e : Path × NodeMetadata) × N e × (is_version_3 e.1 ≡ false) × IsDocumentOf f e d
 
+-- no path has a document `zarr.json`
+abbrev pub HasNoVersion3 : Contents → Type 0
+HasNoVersion3 S = (p : Path) → HasKey S (p ++ zarr_json ∷ []) → ⊥
+
 -- the store once the bytes are set at the key of each document, one after another
 abbrev pub with_documents : Contents → List (Segments × Vec ℕ) → Contents
 with_documents S [] = S
@@ -104,6 +108,11 @@ abbrev pub DocumentsAreShown : Type 0
 DocumentsAreShown = (f : NodeMetadata → Option NodeMetadata) → IsToVersion3 f
     → (S : Contents) (b : Path) (ds : List (Segments × Vec ℕ)) → HasNothingBad S Default true b → AreDocumentsOf f (NodesFrom S Default b) ds
     → ShowsMapped f b S Default (with_documents S ds) V3 × ShowsMapped f b S Default (with_documents S ds) Default
+
+-- What a store shows of another that has no document `zarr.json` by default, it shows of it by version 2.
+abbrev pub DefaultIsVersion2 : Type 0
+DefaultIsVersion2 = (f : NodeMetadata → Option NodeMetadata) (b : Path) (S T : Contents) (w : MetadataRetrieveVersion)
+    → HasNoVersion3 S → ShowsMapped f b S Default T w → ShowsMapped f b S V2 T w
 
 -- ---- documents of version 2 erased
 

@@ -4,7 +4,7 @@ ghost use Rattle.zarrs_node.specs.Inverse.{BlockGivesBack, ListingGivesBack};
 ghost use Rattle.zarrs_node.specs.Small.{ZmetadataShows};
 ghost use Rattle.zarrs_node.specs.Changes.{FreshIsBlock, RefreshedIsBlock, RefreshedIsOpened};
 ghost use Rattle.zarrs_node.specs.ListedBlocks.{OneListedBlock, FreshIsListed, ListedBlockStays};
-ghost use Rattle.zarrs_node.specs.MapsOfNodes.{BaseInFront, EarlierStandsBefore, MappedIsShown, DocumentsAreShown, KeysStandBeside, OthersAreKept, ErasedAreAbsent, BesideMeansSame, ErasedShowSame};
+ghost use Rattle.zarrs_node.specs.MapsOfNodes.{BaseInFront, EarlierStandsBefore, MappedIsShown, DocumentsAreShown, DefaultIsVersion2, KeysStandBeside, OthersAreKept, ErasedAreAbsent, BesideMeansSame, ErasedShowSame};
 
 /// Two placed forests with the same pairs are one.
 ///
@@ -167,6 +167,13 @@ pub fn mapped_is_shown()
 /// Source: own; Zarr core specification 3.1, "Metadata".
 pub fn documents_are_shown()
     ensures { DocumentsAreShown }
+{}
+
+/// What a store shows of another that has no document `zarr.json` by default, it shows of it by version 2.
+///
+/// Source: own; Zarr core specification 3.1, "Metadata".
+pub fn default_is_version_2()
+    ensures { DefaultIsVersion2 }
 {}
 
 /// The keys of the documents of version 2 at the paths of nodes of version 3 stand beside a document `zarr.json`.

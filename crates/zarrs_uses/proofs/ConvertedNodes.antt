@@ -1,12 +1,14 @@
--- A hierarchy that is converted node by node.
-use Rattle.std.proofs.Common.{◌≡◌, ◌≢◌, ◌<◌, ◌+◌, ◌↔◌, ⊎_elim, ℕ, suc, Bool, true, false, true≢false, List, [], ◌∷◌, ◌++◌, length, take, drop, get_or, Option, Some, None, Result, Ok, Err, refl, sym, ap, subst, ◌∙◌, add-one, Contains}
+-- A hierarchy that is converted node by node, and its old documents erased.
+use Rattle.std.proofs.Common.{◌≡◌, ◌≢◌, ◌<◌, ◌+◌, ◌↔◌, ⊎_elim, ℕ, suc, Bool, true, false, true≢false, List, [], ◌∷◌, ◌++◌, length, take, drop, get_or, arith, Option, Some, None, Result, Ok, Err, refl, sym, ap, subst, ◌∙◌, add-one, Contains}
+use Rattle.std.specs.FinMap as map
+use Rattle.std.specs.List.{insert}
 use Rattle.std.specs.Global.{Vec}
 use Rattle.std.specs.declared.cmp.Ordering.TheVariants.{Less}
 use Rattle.std.proofs.Math.Seq.{take-suc, drop-cons}
 use Rattle.std.proofs.lemmas.List.{take-append-drop}
 use Rattle.std.proofs.lemmas.List.Elements.{Contains-append_left, Contains-append_right, Contains-push_cases}
 use Rattle.zarrs_store.specs.Segments.{Segments}
-use Rattle.zarrs_store.specs.Contents.{Contents}
+use Rattle.zarrs_store.specs.Contents.{Contents, Lists}
 use Rattle.zarrs_path.specs.Keys.{zarr_json}
 use Rattle.zarrs_path.specs.Paths.{Path, path_cmp}
 use Rattle.zarrs_meta.specs.NodeDocuments.{is_version_3, IsNotWritten}
@@ -16,13 +18,16 @@ use Rattle.zarrs_meta.specs.declared.node.ArrayMetadata.TheVariants as array
 use Rattle.zarrs_meta.specs.declared.node.GroupMetadata.TheVariants as group
 use Rattle.zarrs_meta.specs.declared.node.NodeMetadata.{NodeMetadata}
 use Rattle.zarrs_meta.specs.declared.node.NodeMetadata.TheVariants as metadata
-use Rattle.zarrs_config.specs.declared.version.MetadataRetrieveVersion.TheVariants.{Default}
+use Rattle.zarrs_config.specs.declared.version.MetadataRetrieveVersion.{MetadataRetrieveVersion}
+use Rattle.zarrs_config.specs.declared.version.MetadataRetrieveVersion.TheVariants.{Default, V3}
+use Rattle.zarrs_block.specs.Meaning.{meaning, node}
 use Rattle.zarrs_convert.specs.Arrays.{array_v3}
 use Rattle.zarrs_convert.specs.Refusals.{Refusal}
-use Rattle.zarrs_node.specs.MapsOfNodes.{AreDocumentsOf, EarlierStandsBefore, IsDocumentOf, IsToVersion3, NodesFrom}
+use Rattle.zarrs_node.specs.MapsOfNodes.{AreDocumentsOf, BaseInFront, DocumentsAreShown, EarlierStandsBefore, ErasedAreAbsent, ErasedShowSame, IsBeside, IsDocumentOf, IsToVersion3, KeysStandBeside, NodesFrom, OthersAreKept, ShowsMapped, keys_beside, version_2_files, with_documents, without_keys}
+use Rattle.zarrs_node.specs.Nodes.{HasNothingBad, Nodes}
 use Rattle.zarrs_node.specs.Order.{Ascend}
 use Rattle.zarrs_uses.specs.Conversions.{as_v3, made_array_of, ConvertBefore, KeepsOthers, RefusesConverting, RefusesNodes}
-use Rattle.zarrs_uses.specs.StepsOfConversions.{RefusesDocumentAt, RefusesMetadataAt}
+use Rattle.zarrs_uses.specs.StepsOfConversions.{HasDocument, RefusesDocumentAt, RefusesMetadataAt}
 use Rattle.zarrs_uses.specs.declared.converter.ConvertError.{ConvertError}
 use Rattle.zarrs_uses.specs.declared.converter.ConvertError.TheVariants.{Node, Array, Depth, Storage, OutOfMemory}
 
@@ -44,6 +49,35 @@ of_first xs i x h = subst (λ l. Contains l x) (take-append-drop i xs) (Contains
 -- the last item is an item
 last : {A : Type 0} (xs : List A) (x : A) → Contains (xs ++ x ∷ []) x
 last xs x = Contains-append_right xs (x ∷ []) x (0, omega arith, refl)
+
+-- ---- documents set and keys erased, one after another
+
+module _ (kept : OthersAreKept) (S T : Contents) (i : ℕ) where
+  module _ (ds : List (Segments × Vec ℕ)) (done : T ≡ with_documents S (take i ds)) where
+    -- the first documents are set, and the next
+    pub set_more : (d : Segments × Vec ℕ) (v : List ℕ) → v ≡ d.1.items → d ≡ get_or ds i d → i < length ds → map.insert T d.0 v ≡ with_documents S (take (i + 1) ds)
+    set_more d v is here within = ap (map.insert T d.0) is ∙ ap (λ s. map.insert s d.0 d.1.items) done ∙ push S (take i ds) ∙ ap (with_documents S) (sym (next ds i d here within))
+      where
+        push : (R : Contents) (es : List (Segments × Vec ℕ)) → map.insert (with_documents R es) d.0 d.1.items ≡ with_documents R (es ++ d ∷ [])
+        push R [] = refl
+        push R (e ∷ es) = push (map.insert R e.0 e.1.items) es
+
+    -- at other keys stands what stood there
+    pub set_others : (key : Segments) → ((d : Segments × Vec ℕ) → Contains ds d → d.0 ≢ key) → map.get T key ≡ map.get S key
+    set_others key far = ap (λ s. map.get s key) done ∙ (kept S key).0 (take i ds) (λ d in'. far d (of_first ds i d in'))
+
+  module _ (ks : List Segments) (done : T ≡ without_keys S (take i ks)) where
+    -- the first keys are erased, and the next
+    pub erase_more : (k : Segments) → k ≡ get_or ks i k → i < length ks → map.remove T k ≡ without_keys S (take (i + 1) ks)
+    erase_more k here within = ap (λ s. map.remove s k) done ∙ push S (take i ks) ∙ ap (without_keys S) (sym (next ks i k here within))
+      where
+        push : (R : Contents) (js : List Segments) → map.remove (without_keys R js) k ≡ without_keys R (js ++ k ∷ [])
+        push R [] = refl
+        push R (j ∷ js) = push (map.remove R j) js
+
+    -- at other keys stands what stood there
+    pub erase_others : (key : Segments) → (Contains ks key → ⊥) → map.get T key ≡ map.get S key
+    erase_others key far = ap (λ s. map.get s key) done ∙ (kept S key).1 (take i ks) (λ in'. far (of_first ks i key in'))
 
 -- ---- metadata as version 3
 
@@ -112,6 +146,27 @@ module _ (xs : List (Path × NodeMetadata)) (x : Path × NodeMetadata) (ds : Lis
       by true three = (e.1, to_version_3.stays e.1 three)
       by false two = let w = are.each e in' two in (w.2.0, w.2.1)
 
+-- at first no node is looked at
+pub none_yet : (ds : List (Segments × Vec ℕ)) → ds ≡ [] → AreDocumentsOf as_v3 (Contains []) ds
+none_yet ds none = record {
+  each = λ e in' two. absurd (omega (arith, in'.1));
+  only = λ d in'. let h = subst (λ l. Contains l d) none in' in absurd (omega (arith, h.1));
+}
+
+-- the documents, and one behind them where there is one
+abbrev pub pushed : List (Segments × Vec ℕ) → Option (Segments × Vec ℕ) → List (Segments × Vec ℕ)
+pushed ds None = ds
+pushed ds (Some d) = ds ++ d ∷ []
+
+-- one node more
+pub one_more : (nodes : List (Path × NodeMetadata)) (i : ℕ) (x : Path × NodeMetadata) → x ≡ get_or nodes i x → i < length nodes
+    → (ds es : List (Segments × Vec ℕ)) → AreDocumentsOf as_v3 (Contains (take i nodes)) ds → (o : Option (Segments × Vec ℕ)) → HasDocument x o → es ≡ pushed ds o → AreDocumentsOf as_v3 (Contains (take (i + 1) nodes)) es
+one_more nodes i x here within ds es are o has is = subst (λ l. AreDocumentsOf as_v3 (Contains l) es) (sym (next nodes i x here within)) (subst (AreDocumentsOf as_v3 (Contains (take i nodes ++ x ∷ []))) (sym is) (by o has))
+  where
+    by : (q : Option (Segments × Vec ℕ)) → HasDocument x q → AreDocumentsOf as_v3 (Contains (take i nodes ++ x ∷ [])) (pushed ds q)
+    by None three = kept_next (take i nodes) x ds are three
+    by (Some d) (two, is') = set_next (take i nodes) x ds are d two is'
+
 -- a pair that does not convert is the first of a list
 pub first_refused : EarlierStandsBefore → (nodes before after : List (Path × NodeMetadata)) (x : Path × NodeMetadata) (ds : List (Segments × Vec ℕ)) (e : ConvertError)
     → Ascend nodes → nodes ≡ before ++ x ∷ after → AreDocumentsOf as_v3 (Contains before) ds → Contains nodes x → RefusesMetadataAt x.0 x.1 e → RefusesNodes (Contains nodes) e
@@ -123,19 +178,29 @@ first_refused earlier nodes before after x ds (Array q e) ascends is are in' h =
   λ d there less. all_convert before x ds are d
       (earlier before after x d (subst Ascend is ascends) (subst (λ l. Contains l d) is there) (subst (λ p. path_cmp d.0 p ≡ Less) h.0 less)),
 )
-first_refused earlier nodes before after x ds (Depth q) ascends is are in' h = absurd h
+first_refused earlier nodes before after x ds (Depth q) ascends is are in' h = (x.1, h.1, subst (λ r. Contains nodes (r, x.1)) (sym h.0) in', h.2, h.3)
 first_refused earlier nodes before after x ds (Storage e) ascends is are in' h = h
 first_refused earlier nodes before after x ds OutOfMemory ascends is are in' h = tt
 
--- nor is one whose document would not be read again
-pub deep_refused : (nodes : List (Path × NodeMetadata)) (p : Path) (m c : NodeMetadata) (e : ConvertError) → Contains nodes (p, m) → as_v3 m ≡ Some c → RefusesDocumentAt p c e → RefusesNodes (Contains nodes) e
-deep_refused nodes p m c (Node e) in' is h = h
-deep_refused nodes p m c (Array q e) in' is h = absurd h
-deep_refused nodes p m c (Depth q) in' is h = (m, c, subst (λ r. Contains nodes (r, m)) (sym h.0) in', is, h.1)
-deep_refused nodes p m c (Storage e) in' is h = h
-deep_refused nodes p m c OutOfMemory in' is h = tt
+-- a document that would not be read again is that of such metadata
+pub deep_refused : (p : Path) (m c : NodeMetadata) (e : ConvertError) → as_v3 m ≡ Some c → RefusesDocumentAt p c e → RefusesMetadataAt p m e
+deep_refused p m c (Node e) is h = h
+deep_refused p m c (Array q e) is h = absurd h
+deep_refused p m c (Depth q) is h = (h.0, c, is, h.1)
+deep_refused p m c (Storage e) is h = h
+deep_refused p m c OutOfMemory is h = tt
 
 -- ---- the whole hierarchy
+
+-- a node in front of those below it
+pub in_front : BaseInFront → (s : Contents) (v : MetadataRetrieveVersion) (b c : Path) (m : NodeMetadata) (es ns : List (Path × NodeMetadata)) → meaning s v b ≡ node m → Lists (Nodes s v true b) es → Ascend es → c ≡ b → ns ≡ insert es 0 (c, m)
+    → ((e : Path × NodeMetadata) → Contains ns e ↔ NodesFrom s v b e) × Ascend ns
+in_front law s v b c m es ns means lists ascends same is =
+    subst (λ l. ((e : Path × NodeMetadata) → Contains l e ↔ NodesFrom s v b e) × Ascend l) (sym (is ∙ ap (λ p. (p, m) ∷ es) same)) (law s v b m es means lists ascends)
+
+-- what a list has, a slice of it has
+pub in_slice : (N : Path × NodeMetadata → Type 0) (listed nodes : List (Path × NodeMetadata)) → nodes ≡ listed → ((e : Path × NodeMetadata) → Contains listed e ↔ N e) → (e : Path × NodeMetadata) → Contains nodes e ↔ N e
+in_slice N listed nodes slice found = subst (λ l. (e : Path × NodeMetadata) → Contains l e ↔ N e) (sym slice) found
 
 module _ (S : Contents) (b : Path) (nodes : List (Path × NodeMetadata)) (same : (e : Path × NodeMetadata) → Contains nodes e ↔ NodesFrom S Default b e) where
   -- documents of the list are documents of the nodes
@@ -153,7 +218,29 @@ module _ (S : Contents) (b : Path) (nodes : List (Path × NodeMetadata)) (same :
   refused_from can_fail (Storage e) h = absurd h
   refused_from can_fail OutOfMemory h = refl
 
-  -- a key that is none of the documents' is that of none of the nodes
-  pub far_from : (ds : List (Segments × Vec ℕ)) (key : Segments) → AreDocumentsOf as_v3 (Contains nodes) ds
-      → ((e : Path × NodeMetadata) → NodesFrom S Default b e → is_version_3 e.1 ≡ false → key ≢ e.0 ++ zarr_json ∷ []) → (d : Segments × Vec ℕ) → Contains ds d → d.0 ≢ key
-  far_from ds key are far d in' at = let w = are.only d in' in far w.0 ((same w.0).0 w.1) w.2 (sym at ∙ w.3.2)
+  module _ (T : Contents) (ds es : List (Segments × Vec ℕ)) (slice : es ≡ ds) (are : AreDocumentsOf as_v3 (Contains nodes) ds) where
+    -- where only keys of the documents are set, only those of the nodes are
+    pub keeps_others : ((key : Segments) → ((d : Segments × Vec ℕ) → Contains es d → d.0 ≢ key) → map.get T key ≡ map.get S key) → KeepsOthers b S T
+    keeps_others others key far = others key (λ d in' at. let w = are.only d (subst (λ l. Contains l d) slice in') in far w.0 ((same w.0).0 w.1) w.2 (sym at ∙ w.3.2))
+
+    -- and once they are set, a listing shows the nodes as version 3
+    pub converted_shows : DocumentsAreShown → HasNothingBad S Default true b → T ≡ with_documents S es → ShowsMapped as_v3 b S Default T V3 × ShowsMapped as_v3 b S Default T Default
+    converted_shows law good set =
+        subst (λ R. ShowsMapped as_v3 b S Default R V3 × ShowsMapped as_v3 b S Default R Default) (sym (set ∙ ap (with_documents S) slice)) (law as_v3 to_version_3 S b ds good (documents_from ds are))
+
+module _ (S T : Contents) (b : Path) (nodes : List (Path × NodeMetadata)) (ks : List Segments) (same : (e : Path × NodeMetadata) → Contains nodes e ↔ NodesFrom S V3 b e) (keys : ks ≡ keys_beside nodes) where
+  -- the keys that are erased stand beside a `zarr.json`
+  pub stand_beside : KeysStandBeside → (key : Segments) → Contains ks key → IsBeside S key
+  stand_beside law key in' = law S nodes (λ e there. ((same e).0 there).1) key (subst (λ l. Contains l key) keys in')
+
+  -- once they are erased none of the old documents is there
+  pub erased_absent : ErasedAreAbsent → T ≡ without_keys S ks → (e : Path × NodeMetadata) (file : List ℕ) → NodesFrom S V3 b e → Contains version_2_files file → map.get T (e.0 ++ file ∷ []) ≡ None
+  erased_absent law done e file from known = ap (λ R. map.get R (e.0 ++ file ∷ [])) (done ∙ ap (without_keys S) keys) ∙ law S nodes e file ((same e).1 from) known
+
+  -- and a listing by default shows what it showed
+  pub erased_shows : KeysStandBeside → ErasedShowSame → T ≡ without_keys S ks → HasNothingBad S Default true b → ShowsMapped Some b S Default T Default
+  erased_shows beside law done good = subst (λ R. ShowsMapped Some b S Default R Default) (sym done) (law S ks (stand_beside beside) b good)
+
+  -- no other key is touched
+  pub others_beside : KeysStandBeside → ((key : Segments) → (Contains ks key → ⊥) → map.get T key ≡ map.get S key) → (key : Segments) → (IsBeside S key → ⊥) → map.get T key ≡ map.get S key
+  others_beside law others key far = others key (λ in'. far (stand_beside law key in'))

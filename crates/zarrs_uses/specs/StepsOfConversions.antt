@@ -1,6 +1,8 @@
 -- Zarr core specification 3.1, "Metadata": the steps of converting a hierarchy, node by node.
 -- <https://zarr-specs.readthedocs.io/en/latest/v3/core/index.html#metadata>
-use Rattle.std.specs.Prelude.{◌≡◌, true, false, Option, Some, None}
+use Rattle.std.specs.Prelude.{◌≡◌, ℕ, true, false, Option, Some, None}
+use Rattle.std.specs.Global.{Vec}
+use Rattle.zarrs_store.specs.Segments.{Segments}
 use Rattle.zarrs_path.specs.Paths.{Path}
 use Rattle.zarrs_meta.specs.NodeDocuments.{is_version_3, IsNotWritten}
 use Rattle.zarrs_meta.specs.declared.array_v2.ArrayMetadataV2.{ArrayMetadataV2}
@@ -9,6 +11,7 @@ use Rattle.zarrs_meta.specs.declared.node.NodeMetadata.{NodeMetadata}
 use Rattle.zarrs_meta.specs.declared.node.NodeMetadata.TheVariants as metadata
 use Rattle.zarrs_convert.specs.Arrays.{array_v3}
 use Rattle.zarrs_convert.specs.Refusals.{ShowsRefusal}
+use Rattle.zarrs_node.specs.MapsOfNodes.{IsDocumentOf}
 use Rattle.zarrs_uses.specs.Conversions.{as_v3}
 use Rattle.zarrs_uses.specs.declared.converter.ConvertError.{ConvertError}
 use Rattle.zarrs_uses.specs.declared.converter.ConvertError.TheVariants.{Node, Array, Depth, Storage, OutOfMemory}
@@ -18,11 +21,16 @@ abbrev pub IsConverted : NodeMetadata → Option NodeMetadata → Type 0
 IsConverted m None = is_version_3 m ≡ true
 IsConverted m (Some c) = (is_version_3 m ≡ false) × (as_v3 m ≡ Some c)
 
--- the metadata at p are of an array that has no form of version 3, and the error names p and why; or it is out of memory
+-- a node of version 2 has this document of version 3, and one of version 3 none more
+abbrev pub HasDocument : Path × NodeMetadata → Option (Segments × Vec ℕ) → Type 0
+HasDocument e None = is_version_3 e.1 ≡ true
+HasDocument e (Some d) = (is_version_3 e.1 ≡ false) × IsDocumentOf as_v3 e d
+
+-- the metadata at p are of an array that has no form of version 3, or their document would not be read again, and the error names p; or it is out of memory
 abbrev pub RefusesMetadataAt : Path → NodeMetadata → ConvertError → Type 0
 RefusesMetadataAt p m (Node e) = ⊥
 RefusesMetadataAt p m (Array q e) = (q ≡ p) × (a : ArrayMetadataV2) × (m ≡ metadata.Array (array.V2 a)) × ShowsRefusal e (array_v3 a)
-RefusesMetadataAt p m (Depth q) = ⊥
+RefusesMetadataAt p m (Depth q) = (q ≡ p) × (c : NodeMetadata) × (as_v3 m ≡ Some c) × IsNotWritten c
 RefusesMetadataAt p m (Storage e) = ⊥
 RefusesMetadataAt p m OutOfMemory = Unit {0}
 

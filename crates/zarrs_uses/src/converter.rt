@@ -1,6 +1,6 @@
 //! A converter: a hierarchy of version 2 becomes one of version 3 in the same store, beside its old documents; and these are erased
 //! once nothing needs them.
-ghost use Rattle.std.specs.Prelude.{◌≡◌, ◌≢◌, ◌↔◌, ℕ, [], ◌∷◌, ◌++◌, Ok, None, Some, Contains, List, IfOk, IfErr, OnOk, MatchResult};
+ghost use Rattle.std.specs.Prelude.{◌≡◌, ◌≢◌, ◌↔◌, ℕ, true, [], ◌∷◌, ◌++◌, Ok, None, Some, Contains, List, IfOk, IfErr, OnOk, MatchResult};
 ghost use Rattle.std.specs.FinMap.{get};
 ghost use Rattle.std.specs.Global.{Vec as Bytes};
 ghost use Rattle.zarrs_store.specs.Faults.{IsStoreError};
@@ -13,11 +13,11 @@ ghost use Rattle.zarrs_meta.specs.declared.node.NodeMetadata.TheVariants as node
 ghost use Rattle.zarrs_block.specs.Meaning.{meaning, node};
 ghost use Rattle.zarrs_block.specs.Refusals.{IsExcusedOr};
 ghost use Rattle.zarrs_convert.specs.Arrays.{array_v3};
-ghost use Rattle.zarrs_node.specs.MapsOfNodes.{AreDocumentsOf, IsBeside, NodesFrom, ShowsMapped, keys_beside, version_2_files, with_documents, without_keys};
+ghost use Rattle.zarrs_node.specs.MapsOfNodes.{AreDocumentsOf, HasNoVersion3, IsBeside, NodesFrom, ShowsMapped, keys_beside, version_2_files, version_2_keys, with_documents, without_keys};
 ghost use Rattle.zarrs_node.specs.Nodes.{HasNothingBad};
 ghost use Rattle.zarrs_node.specs.Order.{Ascend};
 ghost use Rattle.zarrs_uses.specs.Conversions.{KeepsOthers, RefusesConverting, RefusesErasing, RefusesFrom, RefusesNodes, as_v3};
-ghost use Rattle.zarrs_uses.specs.StepsOfConversions.{IsConverted, RefusesDocumentAt, RefusesMetadataAt};
+ghost use Rattle.zarrs_uses.specs.StepsOfConversions.{HasDocument, IsConverted, RefusesDocumentAt, RefusesMetadataAt};
 
 use log::Log;
 use std::alloc::{AllocError, AllocFailed, Global};
@@ -130,12 +130,21 @@ pub fn convert_hierarchy<
     ensures node { OnOk result
         ((m : NodeMetadata) × meaning (S.contents storage.old) MetadataRetrieveVersion.Default
         base.now ≡ node m) }
+    ensures documents { OnOk result
+        ((ds : List (Segments × Bytes ℕ))
+        × AreDocumentsOf as_v3
+        (NodesFrom (S.contents storage.old) MetadataRetrieveVersion.Default base.now) ds
+        × (S.contents storage.new ≡ with_documents (S.contents storage.old) ds)) }
     ensures version_3 { OnOk result
         (ShowsMapped as_v3 base.now (S.contents storage.old) MetadataRetrieveVersion.Default
         (S.contents storage.new) MetadataRetrieveVersion.V3) }
     ensures default { OnOk result
         (ShowsMapped as_v3 base.now (S.contents storage.old) MetadataRetrieveVersion.Default
         (S.contents storage.new) MetadataRetrieveVersion.Default) }
+    ensures version_2 { OnOk result
+        (HasNoVersion3 (S.contents storage.old)
+        → ShowsMapped as_v3 base.now (S.contents storage.old) MetadataRetrieveVersion.V2
+        (S.contents storage.new) MetadataRetrieveVersion.V3) }
     ensures others { KeepsOthers base.now (S.contents storage.old) (S.contents storage.new) }
     ensures refused { IfErr result
         (RefusesConverting (S.can_fail storage.old) base.now (S.contents storage.old)
@@ -143,6 +152,7 @@ pub fn convert_hierarchy<
     ensures nature { S.can_fail storage.new ≡ S.can_fail storage.old }
 {
     laws::documents_are_shown();
+    laws::default_is_version_2();
     let nodes = nodes_from(log, alloc, storage, base, &MetadataRetrieveVersion::Default)?;
     let documents = documents_of(log, alloc, &nodes)?;
     Ok(set_all(storage, &documents)?)
@@ -235,12 +245,28 @@ fn documents_of<L: Log>(
     laws::earlier_stands_before();
     let mut documents = Vec::new(alloc);
     for (path, metadata) in nodes {
-        if let Some(converted) = converted(log, alloc, path, metadata)? {
-            let bytes = document_of(alloc, path, &converted)?;
-            documents.push((meta_key_v3(alloc, path)?, bytes))?;
+        if let Some(document) = document_of(log, alloc, path, metadata)? {
+            documents.push(document)?;
         }
     }
     Ok(documents)
+}
+
+// The document of version 3 of a node of version 2, with its key, or none where the node is of version 3.
+fn document_of<L: Log>(
+    log: &L,
+    alloc: Global,
+    path: &NodePath,
+    metadata: &NodeMetadata,
+) -> Result<Option<(StoreKey, Vec<u8>)>, ConvertError>
+    ensures ok { IfOk result (HasDocument (path.now, metadata.now)) }
+    ensures refused { IfErr result (RefusesMetadataAt path.now metadata.now) }
+{
+    let Some(converted) = converted(log, alloc, path, metadata)? else {
+        return Ok(None);
+    };
+    let bytes = written(alloc, path, &converted)?;
+    Ok(Some((meta_key_v3(alloc, path)?, bytes)))
 }
 
 // The metadata of a node of version 2 as version 3, or none where they are of version 3.
@@ -288,7 +314,7 @@ fn converted_array<L: Log>(
 }
 
 // The bytes of the document of a node; its path is named where there is none.
-fn document_of(
+fn written(
     alloc: Global,
     path: &NodePath,
     metadata: &NodeMetadata,
@@ -315,6 +341,7 @@ fn set_all<S: WritableStorageTraits>(
         → get (S.contents storage.new) key ≡ get (S.contents storage.old) key }
     ensures nature { S.can_fail storage.new ≡ S.can_fail storage.old }
 {
+    laws::others_are_kept();
     for (key, bytes) in documents {
         storage.set(key, bytes.as_slice())?;
     }
@@ -330,12 +357,19 @@ fn version_2_keys(
 {
     let mut keys = Vec::new(alloc);
     for (path, _metadata) in nodes {
-        keys.push(meta_key_v2_array(alloc, path)?)?;
-        keys.push(meta_key_v2_group(alloc, path)?)?;
-        keys.push(meta_key_v2_attributes(alloc, path)?)?;
-        keys.push(meta_key_v2_consolidated(alloc, path)?)?;
+        push_keys(alloc, path, &mut keys)?;
     }
     Ok(keys)
+}
+
+// Appends the keys of the documents of version 2 at a path.
+fn push_keys(alloc: Global, path: &NodePath, keys: &mut Vec<StoreKey>) -> Result<(), AllocError>
+    ensures { OnOk result (keys.new.items ≡ keys.old.items ++ version_2_keys path.now) }
+{
+    keys.push(meta_key_v2_array(alloc, path)?)?;
+    keys.push(meta_key_v2_group(alloc, path)?)?;
+    keys.push(meta_key_v2_attributes(alloc, path)?)?;
+    Ok(keys.push(meta_key_v2_consolidated(alloc, path)?)?)
 }
 
 // Erases each key in turn.
@@ -350,6 +384,7 @@ fn erase_all<S: WritableStorageTraits>(
         → get (S.contents storage.new) key ≡ get (S.contents storage.old) key }
     ensures nature { S.can_fail storage.new ≡ S.can_fail storage.old }
 {
+    laws::others_are_kept();
     for key in keys {
         storage.erase(key)?;
     }
