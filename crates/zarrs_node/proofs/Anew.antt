@@ -125,7 +125,7 @@ about_of b p q n ns (x, xs, low) is at = ⊎_elim
 
 module _ (of : Path → Meaning) (b p : Path) (low : IsBelow b p) (valid : IsPath p) where
   -- what is renewed stands at p or below it
-  renewed_at : (e : Path × NodeMetadata) → IsNewPair of p e → (e.0 ≡ p) ⊎ IsBelow p e.0
+  pub renewed_at : (e : Path × NodeMetadata) → IsNewPair of p e → (e.0 ≡ p) ⊎ IsBelow p e.0
   renewed_at e h = ⊎_elim inl (λ w. inr (w.1.below.0, w.1.below.1, w.1.below.2)) h.1
 
   -- and has names beyond the base

@@ -47,7 +47,7 @@ use Rattle.zarrs_node.proofs.Anew.{about_of}
 -- ---- paths that are, or stand below, another
 
 -- q is p, or stands below it
-abbrev AtOrBelow : Path → Path → Type 0
+abbrev pub AtOrBelow : Path → Path → Type 0
 AtOrBelow p q = (q ≡ p) ⊎ IsBelow p q
 
 -- no path is below itself
@@ -69,7 +69,7 @@ tail_below x y p q h = ⊎_elim
     h
 
 -- of two paths it is told whether one is the other or stands below it
-decided : (p q : Path) → AtOrBelow p q ⊎ (AtOrBelow p q → ⊥)
+pub decided : (p q : Path) → AtOrBelow p q ⊎ (AtOrBelow p q → ⊥)
 decided [] [] = inl (inl refl)
 decided [] (n ∷ q) = inl (inr (n, q, refl))
 decided (m ∷ p) [] = inr (λ h. ⊎_elim (λ same. let long = ap length same in omega (arith, long)) (λ low. let long = ap length low.2 in omega (arith, long)) h)
@@ -147,7 +147,7 @@ elsewhere_same S T v p agrees q other = meaning_same S T q (λ file in'. agrees 
 -- ---- texts about a path
 
 -- a text with a slash is not that of names behind a slash
-bare_text : (ns : Path) (u : List ℕ) → IsPath ns → key_text ns ≡ 47 ∷ u → ⊥
+pub bare_text : (ns : Path) (u : List ℕ) → IsPath ns → key_text ns ≡ 47 ∷ u → ⊥
 bare_text ns u valid e =
     let long = ap length (sym (ap without_leading_slash e) ∙ text_bare ns valid ∙ e) in
     omega (arith, long)
@@ -166,7 +166,7 @@ begins_with xs ns x n rest one two e =
     by (k ∷ ks) some is = (k, ks, is)
 
 -- a path whose text is about p is p or stands below it
-about_from : (b p q : Path) (n : List ℕ) (ns : Path) → IsBelow b p → IsPath p → q ≡ b ++ n ∷ ns → IsPath (n ∷ ns) → IsAbout (text_beyond b p) (key_text (n ∷ ns)) → AtOrBelow p q
+pub about_from : (b p q : Path) (n : List ℕ) (ns : Path) → IsBelow b p → IsPath p → q ≡ b ++ n ∷ ns → IsPath (n ∷ ns) → IsAbout (text_beyond b p) (key_text (n ∷ ns)) → AtOrBelow p q
 about_from b p q n ns (x, xs, low) valid is names about = ⊎_elim
     (λ at. ⊎_elim
     (λ same. inl (is ∙ ap (λ l. b ++ l) (one_text (n ∷ ns) (x ∷ xs) names own (same ∙ text)) ∙ sym low))
@@ -202,7 +202,7 @@ module _ (from to : Path → Meaning) (b p : Path) (same : (q : Path) → q ≢ 
   kept_elsewhere e far h = (reached_elsewhere e.0 far h.0, same e.0 (λ is. far (inl is)) ∙ h.1)
 
 -- what is reached from what is reached is reached
-reached_further : (N : Path × NodeMetadata → Type 0) (b p q : Path) → Reached N true b p → HasGroup N p → Reached N true p q → Reached N true b q
+pub reached_further : (N : Path × NodeMetadata → Type 0) (b p q : Path) → Reached N true b p → HasGroup N p → Reached N true p q → Reached N true b q
 reached_further N b p q one group two = record {
   below = (one.below.0, one.below.1 ++ two.below.0 ∷ two.below.1, is, IsPath-append (one.below.0 ∷ one.below.1) (two.below.0 ∷ two.below.1) one.below.3 two.below.3);
   between = λ r low up. ⊎_elim
@@ -215,7 +215,7 @@ reached_further N b p q one group two = record {
     is = two.below.2 ∙ ap (λ x. x ++ two.below.0 ∷ two.below.1) one.below.2 ∙ append_assoc b (one.below.0 ∷ one.below.1) (two.below.0 ∷ two.below.1)
 
 -- and what is reached beyond a path is reached from it
-reached_from : (N : Path × NodeMetadata → Type 0) (b p q : Path) → Reached N true b q → IsBelow b p → (deep : IsBelow p q) → IsPath (deep.0 ∷ deep.1) → Reached N true p q
+pub reached_from : (N : Path × NodeMetadata → Type 0) (b p q : Path) → Reached N true b q → IsBelow b p → (deep : IsBelow p q) → IsPath (deep.0 ∷ deep.1) → Reached N true p q
 reached_from N b p q h low deep names = record {
   below = (deep.0, deep.1, deep.2, names);
   between = λ r in' up. h.between r (below_below b p r low in') up;

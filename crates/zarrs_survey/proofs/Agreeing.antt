@@ -171,13 +171,13 @@ module _ (s : Contents) (v : MetadataRetrieveVersion) (b : Path) (survey : Surve
       (key_or_not same_or_not survey.nodes p)
 
   -- each kept entry has a node
-  has_node : (p : Path) → HasPath (Kept (Entries B b) true b) p → HasPath (Nodes s v true b) p
+  pub has_node : (p : Path) → HasPath (Kept (Entries B b) true b) p → HasPath (Nodes s v true b) p
   has_node p (k, (reached, is)) = ⊎_elim (λ w. w)
       (λ other. absurd (untold_path p Stale ((k, is), (λ q low above. (reached.between q low above).1), other, λ spoilt. unspoilt spoilt.0 spoilt.1)))
       (node_or_not p)
 
   -- each node has a kept entry
-  has_entry : (p : Path) → HasPath (Nodes s v true b) p → HasPath (Kept (Entries B b) true b) p
+  pub has_entry : (p : Path) → HasPath (Nodes s v true b) p → HasPath (Kept (Entries B b) true b) p
   has_entry p (n, (reached, means)) =
       let low = reached.below in
       let path : p ≡ b ++ low.0 ∷ low.1 = low.2 in
@@ -189,8 +189,15 @@ module _ (s : Contents) (v : MetadataRetrieveVersion) (b : Path) (survey : Surve
       (λ other. absurd (untold_path p Missing ((n, (reached, means)), (low.0, low.1, path), λ w. other (subst (HasPath (Entries B b)) path w))))
       (entry_or_not B b low.0 low.1)
 
+  -- each entry is kept
+  pub entry_kept : (e : Pair) → Entries B b e → Kept (Entries B b) true b e
+  entry_kept (p, k) (n, ns, names, is, has) = ⊎_elim
+      (λ way. (record { below = (n, ns, is, names); between = λ q above below. (refl, way q above (subst (IsBelow q) is below)) }, (n, ns, names, is, has)))
+      (λ cut. absurd (untold_path (b ++ n ∷ ns) Unreachable ((k, (n, ns, names, refl, has)), cut)))
+      (reached_or_not (Entries B b) (group_at B b) b n ns)
+
   -- and the same metadata
-  same_metadata : (p : Path) (k n : NodeMetadata) → Kept (Entries B b) true b (p, k) → Nodes s v true b (p, n) → IsSame k n
+  pub same_metadata : (p : Path) (k n : NodeMetadata) → Kept (Entries B b) true b (p, k) → Nodes s v true b (p, n) → IsSame k n
   same_metadata p k n kept is = ⊎_elim (λ same. same)
       (λ other. absurd (untold_path p Differs (k, n, kept.1, (λ q low above. (kept.0.between q low above).1), is, other)))
       (same_or_other k n)

@@ -9,5 +9,6 @@ pub mod LastGroup
 pub mod LawProofs
 pub mod Merging
 pub mod Reading
+pub mod Refreshing
 pub mod Ridding
 pub mod Surveying

@@ -3,15 +3,17 @@
 -- <https://zarr-specs.readthedocs.io/en/latest/v3/core/index.html#node-names>
 use Rattle.std.specs.Prelude.{◌≡◌, ◌⊎◌, ◌↔◌, true, [], Contains, IsTrue, Some, Ok}
 use Rattle.zarrs_store.specs.Contents.{Contents}
-use Rattle.zarrs_path.specs.Paths.{Path, IsBelow}
+use Rattle.zarrs_path.specs.Paths.{Path, IsPath, IsBelow}
 use Rattle.zarrs_config.specs.declared.version.MetadataRetrieveVersion.{MetadataRetrieveVersion}
 use Rattle.zarrs_config.specs.declared.version.UseConsolidatedMetadata.TheVariants.{Must, Never}
 use Rattle.zarrs_meta.specs.Node.{is_group}
 use Rattle.zarrs_meta.specs.declared.node.NodeMetadata.{NodeMetadata}
-use Rattle.zarrs_block.specs.Block.{Block}
+use Rattle.zarrs_block.specs.Block.{Block, Entries}
+use Rattle.zarrs_block.specs.Meaning.{meaning}
 use Rattle.zarrs_block.specs.Refusals.{IsInvalidPath}
 use Rattle.zarrs_block.specs.declared.node_create_error.NodeCreateError.{NodeCreateError}
 use Rattle.zarrs_compare.specs.Same.{IsSame}
+use Rattle.zarrs_node.specs.CurrentBlocks.{BadAnew, IsFresh, LeadsTo}
 use Rattle.zarrs_node.specs.Forest.{Forest, pairs, paths_of, Shows}
 use Rattle.zarrs_node.specs.Nodes.{Nodes, HasNothingBad, ShowsBad}
 use Rattle.zarrs_node.specs.OpeningNodes.{IsCleanBelow, ShowsBelow}
@@ -53,3 +55,10 @@ GoodBlocksAgree = (s : Contents) (v : MetadataRetrieveVersion) (b : Path) (surve
     → (m : NodeMetadata) (B : Block) → survey.base ≡ Ok m → block_read s b m ≡ Some (Ok B) → ((f : Finding) → IsBlockFinding s v b f → f.group ≡ b → ⊥)
     → IsCleanBelow s v Must b m × IsCleanBelow s v Never b m
     × ((f g : Forest) → ShowsBelow s v Must b m f → ShowsBelow s v Never b m g → (paths_of f ≡ paths_of g) × HaveSameNodes (Contains (pairs f)) (Contains (pairs g)))
+
+-- Under the same conditions making the block current at any path below the base is refused for nothing, and the block then has the same paths as before with the same metadata, nested blocks apart.
+abbrev pub RefreshedBlocksAgree : Type 0
+RefreshedBlocksAgree = (s : Contents) (v : MetadataRetrieveVersion) (b : Path) (survey : Survey) → IsSurveyOf s v b survey → survey.bad_documents ≡ [] → survey.bad_names.items ≡ []
+    → (m : NodeMetadata) (B : Block) → survey.base ≡ Ok m → block_read s b m ≡ Some (Ok B) → ((f : Finding) → IsBlockFinding s v b f → f.group ≡ b → ⊥)
+    → (p : Path) → IsPath p → IsBelow b p
+    → (LeadsTo B b p → BadAnew s v p → ⊥) × ((C : Block) → IsFresh (meaning s v) b B p C → HaveSameNodes (Entries B b) (Entries C b))

@@ -1,5 +1,5 @@
 //! What holds of every survey. A function here is empty; its contract is the law.
-ghost use Rattle.zarrs_survey.specs.Laws.{NothingBadIsTold, RefusalsAreTold, ListingIsSurveyed, GroupsAreSurveyed, GoodBlocksAgree};
+ghost use Rattle.zarrs_survey.specs.Laws.{NothingBadIsTold, RefusalsAreTold, ListingIsSurveyed, GroupsAreSurveyed, GoodBlocksAgree, RefreshedBlocksAgree};
 
 /// A survey has no bad document and no bad name exactly where nothing below its base is bad.
 pub fn nothing_bad_is_told()
@@ -25,4 +25,10 @@ pub fn groups_are_surveyed()
 /// refused for nothing, and both show the same paths with the same metadata, nested blocks apart.
 pub fn good_blocks_agree()
     ensures { GoodBlocksAgree }
+{}
+
+/// Under the same conditions, making the block current at any path below the base, as `refresh_block` of `zarrs_node` does, is refused for nothing, and
+/// the block then has the same paths as before with the same metadata, nested blocks apart.
+pub fn refreshed_blocks_agree()
+    ensures { RefreshedBlocksAgree }
 {}
