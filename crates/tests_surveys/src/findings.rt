@@ -35,8 +35,8 @@ fn kind_text(kind: &FindingKind, alloc: Global) -> Result<String, AllocError> {
     }
 }
 
-// The group, the path and the kind of each finding.
-fn findings_text(findings: &Vec<Finding>, alloc: Global) -> Result<String, AllocError> {
+/// The group, the path and the kind of each finding.
+pub(crate) fn findings_text(findings: &Vec<Finding>, alloc: Global) -> Result<String, AllocError> {
     let mut text = String::new(alloc);
     for finding in findings {
         let kind = kind_text(&finding.kind, alloc)?;

@@ -28,8 +28,8 @@ fn surveyed(alloc: Global, given: &str) -> Result<Survey, NodeCreateError> {
     survey_in(alloc, path, documents)
 }
 
-// The base, the paths of the nodes, those that are ignored, and what is bad.
-fn survey_text(survey: &Survey, alloc: Global) -> Result<String, AllocError> {
+/// The base, the paths of the nodes, those that are ignored, and what is bad.
+pub(crate) fn survey_text(survey: &Survey, alloc: Global) -> Result<String, AllocError> {
     let mut text = String::new(alloc);
     match &survey.base {
         Ok(metadata) if metadata.is_group() => write!(text, "{} group\n", survey.path)?,
