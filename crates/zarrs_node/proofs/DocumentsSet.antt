@@ -22,7 +22,7 @@ use Rattle.zarrs_block.specs.Meaning.{Meaning, meaning, node, nothing, bad}
 use Rattle.zarrs_node.specs.Nodes.{HasNothingBad, MeansNode}
 use Rattle.zarrs_node.specs.Reach.{Reached}
 use Rattle.zarrs_node.specs.Changes.{document_files}
-use Rattle.zarrs_node.specs.MapsOfNodes.{StandsFrom, NodesFrom, GoesOver, IsToVersion3, IsDocumentOf, AreDocumentsOf, with_documents, DocumentsAreShown}
+use Rattle.zarrs_node.specs.MapsOfNodes.{StandsFrom, NodesFrom, GoesOver, IsToVersion3, IsDocumentFor, AreDocumentsOf, with_documents, DocumentsAreShown}
 use Rattle.zarrs_node.proofs.Current.{meaning_same}
 use Rattle.zarrs_node.proofs.Graft.{Contains-first, Contains-cons}
 use Rattle.zarrs_node.proofs.MapsShown.{same_node, same_some, mapped_is_shown}
@@ -53,12 +53,12 @@ get_with S [] key = inr (λ d in'. absurd (omega (arith, in'.1)), refl)
 get_with S (d ∷ ds) key = ⊎_elim
     (λ w. inl (w.0, Contains-cons d ds w.0 w.1, w.2, w.3))
     (λ w. ⊎_elim
-        (λ same. inl (d, Contains-first d ds, same, w.1 ∙ ap (get (map.insert S d.0 d.1.items)) (sym same) ∙ get_inserted S d.0 d.1.items))
-        (λ other. inr (
-          λ x in'. ⊎_elim (λ one. subst (λ y. y.0 ≢ key) one other) (λ rest. w.0 x rest) (contains_cases d ds x in'),
-          w.1 ∙ AgreesExceptAt-insert S d.0 d.1.items key (λ e. other (sym e)),
-        ))
-        (same_or_not d.0 key))
+    (λ same. inl (d, Contains-first d ds, same, w.1 ∙ ap (get (map.insert S d.0 d.1.items)) (sym same) ∙ get_inserted S d.0 d.1.items))
+    (λ other. inr (
+      λ x in'. ⊎_elim (λ one. subst (λ y. y.0 ≢ key) one other) (λ rest. w.0 x rest) (contains_cases d ds x in'),
+      w.1 ∙ AgreesExceptAt-insert S d.0 d.1.items key (λ e. other (sym e)),
+    ))
+    (same_or_not d.0 key))
     (get_with (map.insert S d.0 d.1.items) ds key)
 
 -- a name of a path, with more names behind it in front of a last one
@@ -84,8 +84,7 @@ module _ (f : NodeMetadata → Option NodeMetadata) (to3 : IsToVersion3 f) (S : 
   set_there p (d, in', at, got) =
       let w = are.only d in' in
       let same : w.0.0 ≡ p = (same_from_push w.0.0 p zarr_json zarr_json (sym w.3.2 ∙ at)).0 in
-      let three : is_version_3 w.3.0 ≡ true = to3.version w.0.1 w.3.0 w.3.1 in
-      (
+      let three : is_version_3 w.3.0 ≡ true = to3.version w.0.1 w.3.0 w.3.1 in (
         w.0.1,
         ap (meaning S Default) (sym same) ∙ w.1.1,
         w.2,

@@ -56,7 +56,7 @@ pub earlier_stands_before : EarlierStandsBefore
 earlier_stands_before before after x e ascends in' less = ⊎_elim
     (λ h. h)
     (λ h. ⊎_elim
-        (λ same. not_before_itself x.0 (subst (λ d. path_cmp d.0 x.0 ≡ Less) (sym same) less))
-        (λ later. not_before_itself e.0 (key_cmp_total.trans e.0 x.0 e.0 less (all_pairs_first IsBefore x after (all_pairs_end IsBefore before (x ∷ after) ascends) e later)))
-        (contains_cases x after e h))
+    (λ same. not_before_itself x.0 (subst (λ d. path_cmp d.0 x.0 ≡ Less) (sym same) less))
+    (λ later. not_before_itself e.0 (key_cmp_total.trans e.0 x.0 e.0 less (all_pairs_first IsBefore x after (all_pairs_end IsBefore before (x ∷ after) ascends) e later)))
+    (contains_cases x after e h))
     (Contains-append_cases before (x ∷ after) e in')

@@ -111,14 +111,23 @@ module _ (S T : Contents) (v : MetadataRetrieveVersion) (b p : Path) (B C : Bloc
   no_bad_name x g n from periods has is some = ⊎_elim
       (λ at. ⊎_elim
       (λ base. not_below_itself b (⊎_elim
-        (λ same. subst (IsBelow b) (sym same ∙ base) low)
-        (λ deep. subst (IsBelow b) base (low.0, low.1 ++ deep.0 ∷ deep.1, deep.2 ∙ ap (λ l. l ++ deep.0 ∷ deep.1) low.2 ∙ append_assoc b (low.0 ∷ low.1) (deep.0 ∷ deep.1)))
-        at))
+      (λ same. subst (IsBelow b) (sym same ∙ base) low)
+      (λ deep. subst (IsBelow b) base (low.0, low.1 ++ deep.0 ∷ deep.1, deep.2 ∙ ap (λ l. l ++ deep.0 ∷ deep.1) low.2 ∙ append_assoc b (low.0 ∷ low.1) (deep.0 ∷ deep.1)))
+      at))
       (λ w. let z = listed_from_p g at w.0 w.1.1 in none_anew g at w.0 (inr (z.0, inr (x, (g, n, z.1, periods, has, is, some)))))
       from)
-      (λ far. listed.clean (inr (x, (g, n,
-        ⊎_elim inl (λ w. inr (reached_elsewhere of was b p now_same g far w.0, (refl, group_elsewhere of was b p now_same g (λ same. far (inl same)) w.1.1))) from,
-        periods, bad_name_same S T p g n valid agrees periods has, is, some))))
+      (λ far. listed.clean (inr (
+        x,
+        (
+          g,
+          n,
+          ⊎_elim inl (λ w. inr (reached_elsewhere of was b p now_same g far w.0, (refl, group_elsewhere of was b p now_same g (λ same. far (inl same)) w.1.1))) from,
+          periods,
+          bad_name_same S T p g n valid agrees periods has,
+          is,
+          some,
+        ),
+      )))
       (decided p g)
 
   -- so nothing is bad

@@ -119,7 +119,7 @@ mapped_is_shown f kinds S T v w b good over names = record {
   clean = λ h. ⊎_elim
       (λ d. document_over f kinds (meaning S v) (meaning T w) b clean (λ p r. over p (inr r)) d.0 d.1)
       (λ d. let listed = listed_back f kinds (meaning S v) (meaning T w) b clean (λ p r. over p (inr r)) d.1.0 d.1.2 in
-          good (inr (d.0, (d.1.0, d.1.1, listed, d.1.3, names d.1.0 d.1.1 (stands S v b d.1.0 listed) d.1.3 d.1.4, d.1.5, d.1.6))))
+      good (inr (d.0, (d.1.0, d.1.1, listed, d.1.3, names d.1.0 d.1.1 (stands S v b d.1.0 listed) d.1.3 d.1.4, d.1.5, d.1.6))))
       h;
 }
   where

@@ -13,10 +13,10 @@ ghost use Rattle.zarrs_meta.specs.declared.node.NodeMetadata.TheVariants as node
 ghost use Rattle.zarrs_block.specs.Meaning.{meaning, node};
 ghost use Rattle.zarrs_block.specs.Refusals.{IsExcusedOr};
 ghost use Rattle.zarrs_convert.specs.Arrays.{array_v3};
-ghost use Rattle.zarrs_node.specs.MapsOfNodes.{AreDocumentsOf, HasNoVersion3, IsBeside, NodesFrom, ShowsMapped, keys_beside, version_2_files, version_2_keys, with_documents, without_keys};
+ghost use Rattle.zarrs_node.specs.MapsOfNodes.{AreDocumentsOf, HasNoVersion3, StandsBeside, NodesFrom, ShowsMapped, keys_beside, version_2_files, version_2_keys, with_documents, without_keys};
 ghost use Rattle.zarrs_node.specs.Nodes.{HasNothingBad};
 ghost use Rattle.zarrs_node.specs.Order.{Ascend};
-ghost use Rattle.zarrs_uses.specs.Conversions.{KeepsOthers, RefusesConverting, RefusesErasing, RefusesFrom, RefusesNodes, as_v3};
+ghost use Rattle.zarrs_uses.specs.Conversions.{KeepsOthers, RefusesConverting, RefusesErasing, RefusesFrom, RefusesNodes, as_version_3};
 ghost use Rattle.zarrs_uses.specs.StepsOfConversions.{HasDocument, IsConverted, RefusesDocumentAt, RefusesMetadataAt};
 
 use log::Log;
@@ -24,9 +24,7 @@ use std::alloc::{AllocError, AllocFailed, Global};
 use thiserror::Error;
 use zarrs_block::NodeCreateError;
 use zarrs_config::MetadataRetrieveVersion;
-use zarrs_convert::{
-    ArrayMetadataV2ToV3Error, array_metadata_v2_to_v3, group_metadata_v2_to_v3,
-};
+use zarrs_convert::{ArrayMetadataV2ToV3Error, array_metadata_v2_to_v3, group_metadata_v2_to_v3};
 use zarrs_meta::{
     ArrayMetadata, ArrayMetadataV2, ArrayMetadataV3, BoxedArray, GroupMetadata, NodeMetadata,
 };
@@ -121,29 +119,24 @@ impl<T: Drop> From<AllocFailed<T>> for ConvertError {
 pub fn convert_hierarchy<
     L: Log,
     S: ReadableStorageTraits + ListableStorageTraits + WritableStorageTraits,
->(
-    log: &L,
-    alloc: Global,
-    storage: &mut S,
-    base: &NodePath,
-) -> Result<(), ConvertError>
+>(log: &L, alloc: Global, storage: &mut S, base: &NodePath) -> Result<(), ConvertError>
     ensures node { OnOk result
         ((m : NodeMetadata) × meaning (S.contents storage.old) MetadataRetrieveVersion.Default
         base.now ≡ node m) }
     ensures documents { OnOk result
         ((ds : List (Segments × Bytes ℕ))
-        × AreDocumentsOf as_v3
+        × AreDocumentsOf as_version_3
         (NodesFrom (S.contents storage.old) MetadataRetrieveVersion.Default base.now) ds
         × (S.contents storage.new ≡ with_documents (S.contents storage.old) ds)) }
     ensures version_3 { OnOk result
-        (ShowsMapped as_v3 base.now (S.contents storage.old) MetadataRetrieveVersion.Default
+        (ShowsMapped as_version_3 base.now (S.contents storage.old) MetadataRetrieveVersion.Default
         (S.contents storage.new) MetadataRetrieveVersion.V3) }
     ensures default { OnOk result
-        (ShowsMapped as_v3 base.now (S.contents storage.old) MetadataRetrieveVersion.Default
+        (ShowsMapped as_version_3 base.now (S.contents storage.old) MetadataRetrieveVersion.Default
         (S.contents storage.new) MetadataRetrieveVersion.Default) }
     ensures version_2 { OnOk result
         (HasNoVersion3 (S.contents storage.old)
-        → ShowsMapped as_v3 base.now (S.contents storage.old) MetadataRetrieveVersion.V2
+        → ShowsMapped as_version_3 base.now (S.contents storage.old) MetadataRetrieveVersion.V2
         (S.contents storage.new) MetadataRetrieveVersion.V3) }
     ensures others { KeepsOthers base.now (S.contents storage.old) (S.contents storage.new) }
     ensures refused { IfErr result
@@ -171,12 +164,7 @@ pub fn convert_hierarchy<
 pub fn erase_version_2<
     L: Log,
     S: ReadableStorageTraits + ListableStorageTraits + WritableStorageTraits,
->(
-    log: &L,
-    alloc: Global,
-    storage: &mut S,
-    base: &NodePath,
-) -> Result<(), ConvertError>
+>(log: &L, alloc: Global, storage: &mut S, base: &NodePath) -> Result<(), ConvertError>
     ensures erased { OnOk result
         ((e : Path × NodeMetadata) (file : List ℕ)
         → NodesFrom (S.contents storage.old) MetadataRetrieveVersion.V3 base.now e
@@ -189,7 +177,7 @@ pub fn erase_version_2<
     ensures means { (p : Path)
         → meaning (S.contents storage.new) MetadataRetrieveVersion.Default p
         ≡ meaning (S.contents storage.old) MetadataRetrieveVersion.Default p }
-    ensures others { (key : Segments) → (IsBeside (S.contents storage.old) key → ⊥)
+    ensures others { (key : Segments) → (StandsBeside (S.contents storage.old) key → ⊥)
         → get (S.contents storage.new) key ≡ get (S.contents storage.old) key }
     ensures refused { IfErr result
         (RefusesErasing (S.can_fail storage.old) MetadataRetrieveVersion.V3 base.now
@@ -239,7 +227,7 @@ fn documents_of<L: Log>(
     nodes: &[(NodePath, NodeMetadata)],
 ) -> Result<Vec<(StoreKey, Vec<u8>)>, ConvertError>
     requires ascending { Ascend nodes.now }
-    ensures documents { IfOk result (λ ds. AreDocumentsOf as_v3 (Contains nodes.now) ds.items) }
+    ensures documents { IfOk result (λ ds. AreDocumentsOf as_version_3 (Contains nodes.now) ds.items) }
     ensures refused { IfErr result (RefusesNodes (Contains nodes.now)) }
 {
     laws::earlier_stands_before();
@@ -314,11 +302,7 @@ fn converted_array<L: Log>(
 }
 
 // The bytes of the document of a node; its path is named where there is none.
-fn written(
-    alloc: Global,
-    path: &NodePath,
-    metadata: &NodeMetadata,
-) -> Result<Vec<u8>, ConvertError>
+fn written(alloc: Global, path: &NodePath, metadata: &NodeMetadata) -> Result<Vec<u8>, ConvertError>
     ensures ok { IfOk result (λ bytes. ReadsAs bytes.items metadata.now) }
     ensures refused { IfErr result (RefusesDocumentAt path.now metadata.now) }
 {
