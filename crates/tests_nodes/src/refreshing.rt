@@ -301,3 +301,17 @@ fn the_laws_of_fresh_blocks_are_called() {
     laws::fresh_is_listed();
     laws::listed_block_stays();
 }
+
+#[test]
+fn the_laws_of_maps_between_listings_are_called() {
+    laws::base_in_front();
+    laws::earlier_stands_before();
+    laws::mapped_is_shown();
+    laws::documents_are_shown();
+    laws::default_is_version_2();
+    laws::keys_stand_beside();
+    laws::others_are_kept();
+    laws::erased_are_absent();
+    laws::beside_means_same();
+    laws::erased_show_same();
+}

@@ -227,7 +227,8 @@ fn documents_of<L: Log>(
     nodes: &[(NodePath, NodeMetadata)],
 ) -> Result<Vec<(StoreKey, Vec<u8>)>, ConvertError>
     requires ascending { Ascend nodes.now }
-    ensures documents { IfOk result (λ ds. AreDocumentsOf as_version_3 (Contains nodes.now) ds.items) }
+    ensures documents { IfOk result
+        (λ ds. AreDocumentsOf as_version_3 (Contains nodes.now) ds.items) }
     ensures refused { IfErr result (RefusesNodes (Contains nodes.now)) }
 {
     laws::earlier_stands_before();
