@@ -24,9 +24,7 @@ use std::alloc::{AllocError, AllocFailed, Global};
 use thiserror::Error;
 use zarrs_block::NodeCreateError;
 use zarrs_config::MetadataRetrieveVersion;
-use zarrs_convert::{
-    ArrayMetadataV2ToV3Error, array_metadata_v2_to_v3, group_metadata_v2_to_v3,
-};
+use zarrs_convert::{ArrayMetadataV2ToV3Error, array_metadata_v2_to_v3, group_metadata_v2_to_v3};
 use zarrs_meta::{
     ArrayMetadata, ArrayMetadataV2, ArrayMetadataV3, BoxedArray, GroupMetadata, NodeMetadata,
 };
@@ -121,12 +119,7 @@ impl<T: Drop> From<AllocFailed<T>> for ConvertError {
 pub fn convert_hierarchy<
     L: Log,
     S: ReadableStorageTraits + ListableStorageTraits + WritableStorageTraits,
->(
-    log: &L,
-    alloc: Global,
-    storage: &mut S,
-    base: &NodePath,
-) -> Result<(), ConvertError>
+>(log: &L, alloc: Global, storage: &mut S, base: &NodePath) -> Result<(), ConvertError>
     ensures node { OnOk result
         ((m : NodeMetadata) × meaning (S.contents storage.old) MetadataRetrieveVersion.Default
         base.now ≡ node m) }
@@ -171,12 +164,7 @@ pub fn convert_hierarchy<
 pub fn erase_version_2<
     L: Log,
     S: ReadableStorageTraits + ListableStorageTraits + WritableStorageTraits,
->(
-    log: &L,
-    alloc: Global,
-    storage: &mut S,
-    base: &NodePath,
-) -> Result<(), ConvertError>
+>(log: &L, alloc: Global, storage: &mut S, base: &NodePath) -> Result<(), ConvertError>
     ensures erased { OnOk result
         ((e : Path × NodeMetadata) (file : List ℕ)
         → NodesFrom (S.contents storage.old) MetadataRetrieveVersion.V3 base.now e
@@ -314,11 +302,7 @@ fn converted_array<L: Log>(
 }
 
 // The bytes of the document of a node; its path is named where there is none.
-fn written(
-    alloc: Global,
-    path: &NodePath,
-    metadata: &NodeMetadata,
-) -> Result<Vec<u8>, ConvertError>
+fn written(alloc: Global, path: &NodePath, metadata: &NodeMetadata) -> Result<Vec<u8>, ConvertError>
     ensures ok { IfOk result (λ bytes. ReadsAs bytes.items metadata.now) }
     ensures refused { IfErr result (RefusesDocumentAt path.now metadata.now) }
 {

@@ -46,8 +46,7 @@ returns-clause-version_2 g c none =
 pub returns-clause-documents : goal.returns-clause-documents
 returns-clause-documents g c =
     let S = g.S.Store.contents c.args.storage.now in
-    let same = in_slice (NodesFrom S Default c.args.base.now) c.in_ok-nodes.nodes.items c.deref.result.now c.deref.ensures.value c.in_ok-nodes.ensures.nodes in
-    (
+    let same = in_slice (NodesFrom S Default c.args.base.now) c.in_ok-nodes.nodes.items c.deref.result.now c.deref.ensures.value c.in_ok-nodes.ensures.nodes in (
       c.in_ok-documents.documents.items,
       documents_from S c.args.base.now c.deref.result.now same c.in_ok-documents.documents.items c.in_ok-documents.ensures.documents,
       c.in_ok-set_all.ensures.set ∙ ap (with_documents S) c.deref-2.ensures.value,
