@@ -9,9 +9,8 @@ use Rattle.std.proofs.lemmas.List.{take-append-drop}
 use Rattle.std.proofs.lemmas.List.Elements.{Contains-append_left, Contains-append_right, Contains-push_cases}
 use Rattle.zarrs_store.specs.Segments.{Segments}
 use Rattle.zarrs_store.specs.Contents.{Contents, Lists}
-use Rattle.zarrs_path.specs.Keys.{zarr_json}
 use Rattle.zarrs_path.specs.Paths.{Path, path_cmp}
-use Rattle.zarrs_meta.specs.NodeDocuments.{is_version_3, IsNotWritten}
+use Rattle.zarrs_meta.specs.NodeDocuments.{is_version_3}
 use Rattle.zarrs_meta.specs.Node.{is_group}
 use Rattle.zarrs_meta.specs.declared.array_v3.ArrayMetadataV3.{ArrayMetadataV3}
 use Rattle.zarrs_meta.specs.declared.node.ArrayMetadata.TheVariants as array
@@ -26,7 +25,7 @@ use Rattle.zarrs_convert.specs.Refusals.{Refusal}
 use Rattle.zarrs_node.specs.MapsOfNodes.{AreDocumentsOf, BaseInFront, DocumentsAreShown, EarlierStandsBefore, ErasedAreAbsent, ErasedShowSame, StandsBeside, IsDocumentFor, IsToVersion3, KeysStandBeside, NodesFrom, OthersAreKept, ShowsMapped, keys_beside, version_2_files, with_documents, without_keys}
 use Rattle.zarrs_node.specs.Nodes.{HasNothingBad, Nodes}
 use Rattle.zarrs_node.specs.Order.{Ascend}
-use Rattle.zarrs_uses.specs.Conversions.{as_version_3, made_array_of, ConvertBefore, KeepsOthers, RefusesConverting, RefusesNodes}
+use Rattle.zarrs_uses.specs.Conversions.{as_version_3, made_array_of, KeepsOthers, RefusesConverting, RefusesNodes}
 use Rattle.zarrs_uses.specs.StepsOfConversions.{HasDocument, RefusesDocumentAt, RefusesMetadataAt}
 use Rattle.zarrs_uses.specs.declared.converter.ConvertError.{ConvertError}
 use Rattle.zarrs_uses.specs.declared.converter.ConvertError.TheVariants.{Node, Array, Depth, Storage, OutOfMemory}

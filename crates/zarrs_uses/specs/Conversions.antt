@@ -4,7 +4,7 @@
 --     as_version_3 m      the metadata as version 3, where they have that form
 --     KeepsOthers b S T      only documents `zarr.json` of nodes of version 2 differ
 --     RefusesNodes N e, RefusesConverting can_fail b S T e      why nodes were not converted; what that left of the store
-use Rattle.std.specs.Prelude.{◌≡◌, ◌≢◌, ◌⊎◌, ℕ, Bool, true, false, List, [], ◌∷◌, ◌++◌, Option, Some, None, Result, Ok, Err, Contains}
+use Rattle.std.specs.Prelude.{◌≡◌, ◌≢◌, ◌⊎◌, Bool, true, false, [], ◌∷◌, ◌++◌, Option, Some, None, Result, Ok, Err}
 use Rattle.std.specs.FinMap.{get}
 use Rattle.std.specs.declared.cmp.Ordering.TheVariants.{Less}
 use Rattle.zarrs_store.specs.Segments.{Segments}
