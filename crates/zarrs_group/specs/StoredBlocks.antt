@@ -33,7 +33,7 @@ use Rattle.zarrs_group.specs.Laws.{MeansStored}
 use Rattle.zarrs_group.specs.Meaning.{MeansGroup}
 use Rattle.zarrs_group.specs.StoringGroups.{edits_of_group, RefusesStoringGroup}
 
--- in a store, by a version: p means the group; a node opened there by the group's block, under Must, has the forest below it that one opened by a listing, under Never, has; and under no policy is the opening refused
+-- in a store, by a version: p means the group; a node opened there by the group's block, under Must, has the forest below it that one opened by a listing, under Never, has; and under no policy does anything in the store refuse the opening
 pub record OpensAlike (S : Contents) (v : MetadataRetrieveVersion) (p : Path) (m : GroupMetadata) : Type 0 where
   pub means : meaning S v p ≡ node (Group m)
   pub children : (f g : Forest) → ShowsBelow S v Must p (Group m) f → ShowsBelow S v Never p (Group m) g → f ≡ g

@@ -79,7 +79,7 @@ pub record IsRefusedAt (can_fail : Bool) (first c : Catalogue) (changes : List C
 
 -- ---- the stored group
 
--- the path of the catalogue means a version 3 group that holds its block; a node opened there by the block, under Must, has the forest below it that one opened by a listing, under Never, has; and neither opening is refused
+-- the path of the catalogue means a version 3 group that holds its block; a node opened there by the block, under Must, has the forest below it that one opened by a listing, under Never, has; and nothing in the store refuses either opening
 pub record IsStored (S : Contents) (c : Catalogue) : Type 0 where
   pub group : GroupMetadata
   pub holds : block_in_group group ≡ Some c.block
