@@ -21,7 +21,7 @@ use Rattle.zarrs_meta.specs.declared.node.ZarrJson.TheVariants.{Node as node_jso
 use Rattle.zarrs_config.specs.declared.version.MetadataRetrieveVersion.TheVariants.{Default, V3}
 use Rattle.zarrs_block.specs.Meaning.{in_bytes, Meaning, meaning, node, nothing, bad, document_or_fault, document_from, document_at, version_3_line, zarr_json_line, zarray_line, zgroup_line}
 use Rattle.zarrs_node.specs.Changes.{document_files}
-use Rattle.zarrs_node.specs.MapsOfNodes.{IsBeside, version_2_files, version_2_keys, without_keys, keys_beside, GoesOver, KeysStandBeside, OthersAreKept, ErasedAreAbsent, BesideMeansSame, ErasedShowSame}
+use Rattle.zarrs_node.specs.MapsOfNodes.{StandsBeside, version_2_files, version_2_keys, without_keys, keys_beside, GoesOver, KeysStandBeside, OthersAreKept, ErasedAreAbsent, BesideMeansSame, ErasedShowSame}
 use Rattle.zarrs_node.proofs.Current.{meaning_same}
 use Rattle.zarrs_node.proofs.Meanings.{document_none, zarr_json_line_is, default_is, v3_is}
 use Rattle.zarrs_node.proofs.Counted.{contains_map, contains_mapped}

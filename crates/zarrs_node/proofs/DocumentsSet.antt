@@ -22,7 +22,7 @@ use Rattle.zarrs_block.specs.Meaning.{Meaning, meaning, node, nothing, bad}
 use Rattle.zarrs_node.specs.Nodes.{HasNothingBad, MeansNode}
 use Rattle.zarrs_node.specs.Reach.{Reached}
 use Rattle.zarrs_node.specs.Changes.{document_files}
-use Rattle.zarrs_node.specs.MapsOfNodes.{StandsFrom, NodesFrom, GoesOver, IsToVersion3, IsDocumentOf, AreDocumentsOf, with_documents, DocumentsAreShown}
+use Rattle.zarrs_node.specs.MapsOfNodes.{StandsFrom, NodesFrom, GoesOver, IsToVersion3, IsDocumentFor, AreDocumentsOf, with_documents, DocumentsAreShown}
 use Rattle.zarrs_node.proofs.Current.{meaning_same}
 use Rattle.zarrs_node.proofs.Graft.{Contains-first, Contains-cons}
 use Rattle.zarrs_node.proofs.MapsShown.{same_node, same_some, mapped_is_shown}

@@ -5,7 +5,7 @@
 --     ShowsMapped f b S v T w      what T shows from b on by the version w is what S shows by v, under the map f; and nothing there is bad
 --     AreDocumentsOf f N ds      ds are documents of version 3 for the nodes of version 2 among N
 --     with_documents S ds, without_keys S ks      the store once these are set; once these are erased
---     IsBeside S key      the key is that of a document of version 2 beside a `zarr.json`
+--     StandsBeside S key      the key is that of a document of version 2 beside a `zarr.json`
 use Rattle.std.specs.Prelude.{◌≡◌, ◌≢◌, ◌↔◌, ◌⊎◌, ℕ, Bool, true, false, List, [], ◌∷◌, ◌++◌, Option, Some, None, IsTrue, Contains, map}
 use Rattle.std.specs.FinMap as store
 use Rattle.std.specs.List.{flat_map}
@@ -86,13 +86,13 @@ pub record IsToVersion3 (f : NodeMetadata → Option NodeMetadata) : Type 0 wher
   pub stays : (m : NodeMetadata) → is_version_3 m ≡ true → f m ≡ Some m
 
 -- the key and the bytes are those of the document of version 3 that f makes of the pair
-abbrev pub IsDocumentOf : (NodeMetadata → Option NodeMetadata) → Path × NodeMetadata → Segments × Vec ℕ → Type 0
-IsDocumentOf f e d = (c : NodeMetadata) × (f e.1 ≡ Some c) × (d.0 ≡ e.0 ++ zarr_json ∷ []) × ReadsAs d.1.items c
+abbrev pub IsDocumentFor : (NodeMetadata → Option NodeMetadata) → Path × NodeMetadata → Segments × Vec ℕ → Type 0
+IsDocumentFor f e d = (c : NodeMetadata) × (f e.1 ≡ Some c) × (d.0 ≡ e.0 ++ zarr_json ∷ []) × ReadsAs d.1.items c
 
 -- each pair of N of version 2 has its document among ds, and each of ds is that of such a pair
 pub record AreDocumentsOf (f : NodeMetadata → Option NodeMetadata) (N : Path × NodeMetadata → Type 0) (ds : List (Segments × Vec ℕ)) : Type 0 where
-  pub each : (e : Path × NodeMetadata) → N e → is_version_3 e.1 ≡ false → (d : Segments × Vec ℕ) × Contains ds d × IsDocumentOf f e d
-  pub only : (d : Segments × Vec ℕ) → Contains ds d → (e : Path × NodeMetadata) × N e × (is_version_3 e.1 ≡ false) × IsDocumentOf f e d
+  pub each : (e : Path × NodeMetadata) → N e → is_version_3 e.1 ≡ false → (d : Segments × Vec ℕ) × Contains ds d × IsDocumentFor f e d
+  pub only : (d : Segments × Vec ℕ) → Contains ds d → (e : Path × NodeMetadata) × N e × (is_version_3 e.1 ≡ false) × IsDocumentFor f e d
 
 -- no path has a document `zarr.json`
 abbrev pub HasNoVersion3 : Contents → Type 0
@@ -121,8 +121,8 @@ abbrev pub version_2_files : List (List ℕ)
 version_2_files = zarray ∷ zgroup ∷ zattrs ∷ zmetadata ∷ []
 
 -- the key is that of a document of version 2 of a path that has a `zarr.json`
-abbrev pub IsBeside : Contents → Segments → Type 0
-IsBeside S key = (p : Path) × (file : List ℕ) × Contains version_2_files file × (key ≡ p ++ file ∷ []) × HasKey S (p ++ zarr_json ∷ [])
+abbrev pub StandsBeside : Contents → Segments → Type 0
+StandsBeside S key = (p : Path) × (file : List ℕ) × Contains version_2_files file × (key ≡ p ++ file ∷ []) × HasKey S (p ++ zarr_json ∷ [])
 
 -- the store once each key is erased, one after another
 abbrev pub without_keys : Contents → List Segments → Contents
@@ -140,7 +140,7 @@ keys_beside es = flat_map (λ e. version_2_keys e.0) es
 -- The keys of the documents of version 2 at the paths of nodes of version 3 stand beside a `zarr.json`.
 abbrev pub KeysStandBeside : Type 0
 KeysStandBeside = (S : Contents) (es : List (Path × NodeMetadata)) → ((e : Path × NodeMetadata) → Contains es e → meaning S V3 e.0 ≡ node e.1)
-    → (key : Segments) → Contains (keys_beside es) key → IsBeside S key
+    → (key : Segments) → Contains (keys_beside es) key → StandsBeside S key
 
 -- At a key that is none of those set, and at one that is none of those erased, stands what stood there.
 abbrev pub OthersAreKept : Type 0
@@ -155,10 +155,10 @@ ErasedAreAbsent = (S : Contents) (es : List (Path × NodeMetadata)) (e : Path ×
 
 -- Where a store differs from another by documents of version 2 beside a `zarr.json` alone, each path means by default what it meant.
 abbrev pub BesideMeansSame : Type 0
-BesideMeansSame = (S T : Contents) → ((key : Segments) → (IsBeside S key → ⊥) → store.get T key ≡ store.get S key)
+BesideMeansSame = (S T : Contents) → ((key : Segments) → (StandsBeside S key → ⊥) → store.get T key ≡ store.get S key)
     → (p : Path) → meaning T Default p ≡ meaning S Default p
 
 -- Where only such documents are erased, a listing by default shows what it showed.
 abbrev pub ErasedShowSame : Type 0
-ErasedShowSame = (S : Contents) (ks : List Segments) → ((key : Segments) → Contains ks key → IsBeside S key)
+ErasedShowSame = (S : Contents) (ks : List Segments) → ((key : Segments) → Contains ks key → StandsBeside S key)
     → (b : Path) → HasNothingBad S Default true b → ShowsMapped Some b S Default (without_keys S ks) Default
