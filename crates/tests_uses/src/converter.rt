@@ -7,10 +7,11 @@ use tests_fixtures::{config_of, key_of, no_word, store_of, version_of};
 use tests_support::{check_rows, fields, said};
 use zarrs_block::NodeCreateError;
 use zarrs_config::UseConsolidatedMetadata;
-use zarrs_node::Node;
+use zarrs_meta::NodeMetadata;
+use zarrs_node::{Node, laws};
 use zarrs_path::NodePath;
 use zarrs_store::{
-    ListableStorageTraits, MemoryStore, ReadableStorageTraits, WritableStorageTraits,
+    ListableStorageTraits, MemoryStore, MetadataFault, ReadableStorageTraits, WritableStorageTraits,
 };
 use zarrs_uses::{ConvertError, convert_hierarchy, erase_version_2};
 
@@ -229,4 +230,47 @@ bad => error parsing metadata for waves/.zattrs: not an object, nothing is writt
 #[test]
 fn what_does_not_convert_is_named_and_nothing_is_written(rt: HostRuntime) -> Result<(), Fail> {
     check_rows(rt.alloc(), REFUSED, refused_said)
+}
+
+// ---- the documents that are written
+
+// The document that is written of the node that a text is.
+fn document(alloc: Global, text: &str) -> Result<Vec<u8>, MetadataFault> {
+    let node = NodeMetadata::from_bytes(alloc, text.as_bytes())?;
+    Ok(node.to_document(alloc)?.unwrap_or(Vec::new(alloc)))
+}
+
+fn lossy(bytes: &Vec<u8>, alloc: Global) -> Result<String, AllocError> {
+    String::from_utf8_lossy(alloc, bytes)
+}
+
+fn document_said(alloc: Global, text: &str) -> Result<String, AllocError> {
+    said(alloc, document(alloc, text), lossy)
+}
+
+// The text of a node, and the document that is written of it.
+const DOCUMENTS: &str = r#"
+{"zarr_format":3,"node_type":"group"} => {\n  "node_type": "group",\n  "zarr_format": 3\n}
+{"zarr_format":2,"attributes":{"k":[1]}} => {\n  "attributes": {\n    "k": [\n      1\n    ]\n  },\n  "zarr_format": 2\n}
+"#;
+
+#[test]
+fn a_document_is_written_in_the_pretty_layout(rt: HostRuntime) -> Result<(), Fail> {
+    check_rows(rt.alloc(), DOCUMENTS, document_said)
+}
+
+// ---- laws
+
+#[test]
+fn the_laws_that_the_converter_stands_on_are_called(_rt: HostRuntime) {
+    laws::base_in_front();
+    laws::earlier_stands_before();
+    laws::mapped_is_shown();
+    laws::documents_are_shown();
+    laws::default_is_version_2();
+    laws::keys_stand_beside();
+    laws::others_are_kept();
+    laws::erased_are_absent();
+    laws::beside_means_same();
+    laws::erased_show_same();
 }

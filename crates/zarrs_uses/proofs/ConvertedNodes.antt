@@ -25,7 +25,7 @@ use Rattle.zarrs_convert.specs.Refusals.{Refusal}
 use Rattle.zarrs_node.specs.MapsOfNodes.{AreDocumentsOf, BaseInFront, DocumentsAreShown, EarlierStandsBefore, ErasedAreAbsent, ErasedShowSame, StandsBeside, IsDocumentFor, IsToVersion3, KeysStandBeside, NodesFrom, OthersAreKept, ShowsMapped, keys_beside, version_2_files, with_documents, without_keys}
 use Rattle.zarrs_node.specs.Nodes.{HasNothingBad, Nodes}
 use Rattle.zarrs_node.specs.Order.{Ascend}
-use Rattle.zarrs_uses.specs.Conversions.{as_version_3, made_array_of, KeepsOthers, RefusesConverting, RefusesNodes}
+use Rattle.zarrs_uses.specs.Conversions.{node_v3, made_array_of, KeepsOthers, RefusesConverting, RefusesNodes}
 use Rattle.zarrs_uses.specs.StepsOfConversions.{HasDocument, RefusesDocumentAt, RefusesMetadataAt}
 use Rattle.zarrs_uses.specs.declared.converter.ConvertError.{ConvertError}
 use Rattle.zarrs_uses.specs.declared.converter.ConvertError.TheVariants.{Node, Array, Depth, Storage, OutOfMemory}
@@ -90,22 +90,22 @@ same_found : (m c : NodeMetadata) → Some m ≡ Some c → c ≡ m
 same_found m c e = cc
 
 -- groups become groups and arrays arrays, of version 3, and what is of version 3 stays
-pub to_version_3 : IsToVersion3 as_version_3
+pub to_version_3 : IsToVersion3 node_v3
 to_version_3 = record { kinds = kinds; version = version; stays = stays }
   where
-    kinds : (m c : NodeMetadata) → as_version_3 m ≡ Some c → is_group c ≡ is_group m
+    kinds : (m c : NodeMetadata) → node_v3 m ≡ Some c → is_group c ≡ is_group m
     kinds (metadata.Group (group.V3 m)) c e = ap is_group (same_found _ c e)
     kinds (metadata.Group (group.V2 m)) c e = ap is_group (same_found _ c e)
     kinds (metadata.Array (array.V3 m)) c e = ap is_group (same_found _ c e)
     kinds (metadata.Array (array.V2 m)) c e = (made_array_is (array_v3 m) c e).1
 
-    version : (m c : NodeMetadata) → as_version_3 m ≡ Some c → is_version_3 c ≡ true
+    version : (m c : NodeMetadata) → node_v3 m ≡ Some c → is_version_3 c ≡ true
     version (metadata.Group (group.V3 m)) c e = ap is_version_3 (same_found _ c e)
     version (metadata.Group (group.V2 m)) c e = ap is_version_3 (same_found _ c e)
     version (metadata.Array (array.V3 m)) c e = ap is_version_3 (same_found _ c e)
     version (metadata.Array (array.V2 m)) c e = (made_array_is (array_v3 m) c e).0
 
-    stays : (m : NodeMetadata) → is_version_3 m ≡ true → as_version_3 m ≡ Some m
+    stays : (m : NodeMetadata) → is_version_3 m ≡ true → node_v3 m ≡ Some m
     stays (metadata.Group (group.V3 m)) e = refl
     stays (metadata.Group (group.V2 m)) e = absurd (true≢false (sym e))
     stays (metadata.Array (array.V3 m)) e = refl
@@ -113,9 +113,9 @@ to_version_3 = record { kinds = kinds; version = version; stays = stays }
 
 -- ---- documents of nodes
 
-module _ (xs : List (Path × NodeMetadata)) (x : Path × NodeMetadata) (ds : List (Segments × Vec ℕ)) (are : AreDocumentsOf as_version_3 (Contains xs) ds) where
+module _ (xs : List (Path × NodeMetadata)) (x : Path × NodeMetadata) (ds : List (Segments × Vec ℕ)) (are : AreDocumentsOf node_v3 (Contains xs) ds) where
   -- a node of version 3 has no document more
-  pub kept_next : is_version_3 x.1 ≡ true → AreDocumentsOf as_version_3 (Contains (xs ++ x ∷ [])) ds
+  pub kept_next : is_version_3 x.1 ≡ true → AreDocumentsOf node_v3 (Contains (xs ++ x ∷ [])) ds
   kept_next three = record {
     each = λ e in' two. ⊎_elim
         (λ first. are.each e first two)
@@ -125,28 +125,28 @@ module _ (xs : List (Path × NodeMetadata)) (x : Path × NodeMetadata) (ds : Lis
   }
 
   -- one of version 2 has one more
-  pub set_next : (d : Segments × Vec ℕ) → is_version_3 x.1 ≡ false → IsDocumentFor as_version_3 x d → AreDocumentsOf as_version_3 (Contains (xs ++ x ∷ [])) (ds ++ d ∷ [])
+  pub set_next : (d : Segments × Vec ℕ) → is_version_3 x.1 ≡ false → IsDocumentFor node_v3 x d → AreDocumentsOf node_v3 (Contains (xs ++ x ∷ [])) (ds ++ d ∷ [])
   set_next d two is = record {
     each = λ e in' again. ⊎_elim
         (λ first. let w = are.each e first again in (w.0, Contains-append_left ds (d ∷ []) w.0 w.1, w.2))
-        (λ same. (d, last ds d, subst (λ y. IsDocumentFor as_version_3 y d) same is))
+        (λ same. (d, last ds d, subst (λ y. IsDocumentFor node_v3 y d) same is))
         (Contains-push_cases xs x e in');
     only = λ f in'. ⊎_elim
         (λ first. let w = are.only f first in (w.0, Contains-append_left xs (x ∷ []) w.0 w.1, w.2, w.3))
-        (λ same. (x, last xs x, two, subst (λ g. IsDocumentFor as_version_3 x g) same is))
+        (λ same. (x, last xs x, two, subst (λ g. IsDocumentFor node_v3 x g) same is))
         (Contains-push_cases ds d f in');
   }
 
   -- the pairs that have documents have a form of version 3
-  pub all_convert : (e : Path × NodeMetadata) → Contains xs e → (c : NodeMetadata) × (as_version_3 e.1 ≡ Some c)
+  pub all_convert : (e : Path × NodeMetadata) → Contains xs e → (c : NodeMetadata) × (node_v3 e.1 ≡ Some c)
   all_convert e in' = by (is_version_3 e.1) refl
     where
-      by : (t : Bool) → is_version_3 e.1 ≡ t → (c : NodeMetadata) × (as_version_3 e.1 ≡ Some c)
+      by : (t : Bool) → is_version_3 e.1 ≡ t → (c : NodeMetadata) × (node_v3 e.1 ≡ Some c)
       by true three = (e.1, to_version_3.stays e.1 three)
       by false two = let w = are.each e in' two in (w.2.0, w.2.1)
 
 -- at first no node is looked at
-pub none_yet : (ds : List (Segments × Vec ℕ)) → ds ≡ [] → AreDocumentsOf as_version_3 (Contains []) ds
+pub none_yet : (ds : List (Segments × Vec ℕ)) → ds ≡ [] → AreDocumentsOf node_v3 (Contains []) ds
 none_yet ds none = record {
   each = λ e in' two. absurd (omega (arith, in'.1));
   only = λ d in'. let h = subst (λ l. Contains l d) none in' in absurd (omega (arith, h.1));
@@ -159,16 +159,16 @@ pushed ds (Some d) = ds ++ d ∷ []
 
 -- one node more
 pub one_more : (nodes : List (Path × NodeMetadata)) (i : ℕ) (x : Path × NodeMetadata) → x ≡ get_or nodes i x → i < length nodes
-    → (ds es : List (Segments × Vec ℕ)) → AreDocumentsOf as_version_3 (Contains (take i nodes)) ds → (o : Option (Segments × Vec ℕ)) → HasDocument x o → es ≡ pushed ds o → AreDocumentsOf as_version_3 (Contains (take (i + 1) nodes)) es
-one_more nodes i x here within ds es are o has is = subst (λ l. AreDocumentsOf as_version_3 (Contains l) es) (sym (next nodes i x here within)) (subst (AreDocumentsOf as_version_3 (Contains (take i nodes ++ x ∷ []))) (sym is) (by o has))
+    → (ds es : List (Segments × Vec ℕ)) → AreDocumentsOf node_v3 (Contains (take i nodes)) ds → (o : Option (Segments × Vec ℕ)) → HasDocument x o → es ≡ pushed ds o → AreDocumentsOf node_v3 (Contains (take (i + 1) nodes)) es
+one_more nodes i x here within ds es are o has is = subst (λ l. AreDocumentsOf node_v3 (Contains l) es) (sym (next nodes i x here within)) (subst (AreDocumentsOf node_v3 (Contains (take i nodes ++ x ∷ []))) (sym is) (by o has))
   where
-    by : (q : Option (Segments × Vec ℕ)) → HasDocument x q → AreDocumentsOf as_version_3 (Contains (take i nodes ++ x ∷ [])) (pushed ds q)
+    by : (q : Option (Segments × Vec ℕ)) → HasDocument x q → AreDocumentsOf node_v3 (Contains (take i nodes ++ x ∷ [])) (pushed ds q)
     by None three = kept_next (take i nodes) x ds are three
     by (Some d) (two, is') = set_next (take i nodes) x ds are d two is'
 
 -- a pair that does not convert is the first of a list
 pub first_refused : EarlierStandsBefore → (nodes before after : List (Path × NodeMetadata)) (x : Path × NodeMetadata) (ds : List (Segments × Vec ℕ)) (e : ConvertError)
-    → Ascend nodes → nodes ≡ before ++ x ∷ after → AreDocumentsOf as_version_3 (Contains before) ds → Contains nodes x → RefusesMetadataAt x.0 x.1 e → RefusesNodes (Contains nodes) e
+    → Ascend nodes → nodes ≡ before ++ x ∷ after → AreDocumentsOf node_v3 (Contains before) ds → Contains nodes x → RefusesMetadataAt x.0 x.1 e → RefusesNodes (Contains nodes) e
 first_refused earlier nodes before after x ds (Node e) ascends is are in' h = h
 first_refused earlier nodes before after x ds (Array q e) ascends is are in' h = (
   h.1,
@@ -182,7 +182,7 @@ first_refused earlier nodes before after x ds (Storage e) ascends is are in' h =
 first_refused earlier nodes before after x ds OutOfMemory ascends is are in' h = tt
 
 -- a document that would not be read again is that of such metadata
-pub deep_refused : (p : Path) (m c : NodeMetadata) (e : ConvertError) → as_version_3 m ≡ Some c → RefusesDocumentAt p c e → RefusesMetadataAt p m e
+pub deep_refused : (p : Path) (m c : NodeMetadata) (e : ConvertError) → node_v3 m ≡ Some c → RefusesDocumentAt p c e → RefusesMetadataAt p m e
 deep_refused p m c (Node e) is h = h
 deep_refused p m c (Array q e) is h = absurd h
 deep_refused p m c (Depth q) is h = (h.0, c, is, h.1)
@@ -203,7 +203,7 @@ in_slice N listed nodes slice found = subst (λ l. (e : Path × NodeMetadata) �
 
 module _ (S : Contents) (b : Path) (nodes : List (Path × NodeMetadata)) (same : (e : Path × NodeMetadata) → Contains nodes e ↔ NodesFrom S Default b e) where
   -- documents of the list are documents of the nodes
-  pub documents_from : (ds : List (Segments × Vec ℕ)) → AreDocumentsOf as_version_3 (Contains nodes) ds → AreDocumentsOf as_version_3 (NodesFrom S Default b) ds
+  pub documents_from : (ds : List (Segments × Vec ℕ)) → AreDocumentsOf node_v3 (Contains nodes) ds → AreDocumentsOf node_v3 (NodesFrom S Default b) ds
   documents_from ds are = record {
     each = λ e is two. are.each e ((same e).1 is) two;
     only = λ d in'. let w = are.only d in' in (w.0, (same w.0).0 w.1, w.2, w.3);
@@ -217,15 +217,15 @@ module _ (S : Contents) (b : Path) (nodes : List (Path × NodeMetadata)) (same :
   refused_from can_fail (Storage e) h = absurd h
   refused_from can_fail OutOfMemory h = refl
 
-  module _ (T : Contents) (ds es : List (Segments × Vec ℕ)) (slice : es ≡ ds) (are : AreDocumentsOf as_version_3 (Contains nodes) ds) where
+  module _ (T : Contents) (ds es : List (Segments × Vec ℕ)) (slice : es ≡ ds) (are : AreDocumentsOf node_v3 (Contains nodes) ds) where
     -- where only keys of the documents are set, only those of the nodes are
     pub keeps_others : ((key : Segments) → ((d : Segments × Vec ℕ) → Contains es d → d.0 ≢ key) → map.get T key ≡ map.get S key) → KeepsOthers b S T
     keeps_others others key far = others key (λ d in' at. let w = are.only d (subst (λ l. Contains l d) slice in') in far w.0 ((same w.0).0 w.1) w.2 (sym at ∙ w.3.2))
 
     -- and once they are set, a listing shows the nodes as version 3
-    pub converted_shows : DocumentsAreShown → HasNothingBad S Default true b → T ≡ with_documents S es → ShowsMapped as_version_3 b S Default T V3 × ShowsMapped as_version_3 b S Default T Default
+    pub converted_shows : DocumentsAreShown → HasNothingBad S Default true b → T ≡ with_documents S es → ShowsMapped node_v3 b S Default T V3 × ShowsMapped node_v3 b S Default T Default
     converted_shows law good set =
-        subst (λ R. ShowsMapped as_version_3 b S Default R V3 × ShowsMapped as_version_3 b S Default R Default) (sym (set ∙ ap (with_documents S) slice)) (law as_version_3 to_version_3 S b ds good (documents_from ds are))
+        subst (λ R. ShowsMapped node_v3 b S Default R V3 × ShowsMapped node_v3 b S Default R Default) (sym (set ∙ ap (with_documents S) slice)) (law node_v3 to_version_3 S b ds good (documents_from ds are))
 
 module _ (S T : Contents) (b : Path) (nodes : List (Path × NodeMetadata)) (ks : List Segments) (same : (e : Path × NodeMetadata) → Contains nodes e ↔ NodesFrom S V3 b e) (keys : ks ≡ keys_beside nodes) where
   -- the keys that are erased stand beside a `zarr.json`

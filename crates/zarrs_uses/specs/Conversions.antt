@@ -1,7 +1,7 @@
 -- Zarr core specification 3.1, "Metadata": a hierarchy of version 2 as one of version 3, beside it in the same store.
 -- <https://zarr-specs.readthedocs.io/en/latest/v3/core/index.html#metadata>
 -- <https://zarr-specs.readthedocs.io/en/latest/v2/v2.0.html#metadata>
---     as_version_3 m      the metadata as version 3, where they have that form
+--     node_v3 m      the metadata as version 3, where they have that form
 --     KeepsOthers b S T      only documents `zarr.json` of nodes of version 2 differ
 --     RefusesNodes N e, RefusesConverting can_fail b S T e      why nodes were not converted; what that left of the store
 use Rattle.std.specs.Prelude.{◌≡◌, ◌≢◌, ◌⊎◌, Bool, true, false, [], ◌∷◌, ◌++◌, Option, Some, None, Result, Ok, Err}
@@ -38,11 +38,11 @@ made_array_of (Ok c) = Some (metadata.Array (array.V3 c))
 made_array_of (Err refusal) = None
 
 -- the metadata as version 3: a group as its conversion, an array as its conversion where it has one, and what is of version 3 as it is
-abbrev pub as_version_3 : NodeMetadata → Option NodeMetadata
-as_version_3 (metadata.Group (group.V3 m)) = Some (metadata.Group (group.V3 m))
-as_version_3 (metadata.Group (group.V2 m)) = Some (metadata.Group (group.V3 (group_v2_to_v3 m)))
-as_version_3 (metadata.Array (array.V3 m)) = Some (metadata.Array (array.V3 m))
-as_version_3 (metadata.Array (array.V2 m)) = made_array_of (array_v3 m)
+abbrev pub node_v3 : NodeMetadata → Option NodeMetadata
+node_v3 (metadata.Group (group.V3 m)) = Some (metadata.Group (group.V3 m))
+node_v3 (metadata.Group (group.V2 m)) = Some (metadata.Group (group.V3 (group_v2_to_v3 m)))
+node_v3 (metadata.Array (array.V3 m)) = Some (metadata.Array (array.V3 m))
+node_v3 (metadata.Array (array.V2 m)) = made_array_of (array_v3 m)
 
 -- every key has what it had, but those of the documents `zarr.json` of the nodes of version 2 at b and below it
 abbrev pub KeepsOthers : Path → Contents → Contents → Type 0
@@ -56,13 +56,13 @@ RefusesFrom S v b e = RefusesNode S v b e ⊎ ShowsBad S v true b e
 
 -- each pair of N whose path is before p has a form of version 3
 abbrev pub ConvertBefore : (Path × NodeMetadata → Type 0) → Path → Type 0
-ConvertBefore N p = (e : Path × NodeMetadata) → N e → path_cmp e.0 p ≡ Less → (c : NodeMetadata) × (as_version_3 e.1 ≡ Some c)
+ConvertBefore N p = (e : Path × NodeMetadata) → N e → path_cmp e.0 p ≡ Less → (c : NodeMetadata) × (node_v3 e.1 ≡ Some c)
 
 -- why pairs N were not converted: the error names the first array that has no form of version 3, or a pair whose document would not be read again; or it is out of memory
 abbrev pub RefusesNodes : (Path × NodeMetadata → Type 0) → ConvertError → Type 0
 RefusesNodes N (Node e) = ⊥
 RefusesNodes N (Array p e) = (m : ArrayMetadataV2) × N (p, metadata.Array (array.V2 m)) × ShowsRefusal e (array_v3 m) × ConvertBefore N p
-RefusesNodes N (Depth p) = (m c : NodeMetadata) × N (p, m) × (as_version_3 m ≡ Some c) × IsNotWritten c
+RefusesNodes N (Depth p) = (m c : NodeMetadata) × N (p, m) × (node_v3 m ≡ Some c) × IsNotWritten c
 RefusesNodes N (Storage e) = ⊥
 RefusesNodes N OutOfMemory = Unit {0}
 

@@ -16,7 +16,7 @@ ghost use Rattle.zarrs_convert.specs.Arrays.{array_v3};
 ghost use Rattle.zarrs_node.specs.MapsOfNodes.{AreDocumentsOf, HasNoVersion3, StandsBeside, NodesFrom, ShowsMapped, keys_beside, version_2_files, version_2_keys, with_documents, without_keys};
 ghost use Rattle.zarrs_node.specs.Nodes.{HasNothingBad};
 ghost use Rattle.zarrs_node.specs.Order.{Ascend};
-ghost use Rattle.zarrs_uses.specs.Conversions.{KeepsOthers, RefusesConverting, RefusesErasing, RefusesFrom, RefusesNodes, as_version_3};
+ghost use Rattle.zarrs_uses.specs.Conversions.{KeepsOthers, RefusesConverting, RefusesErasing, RefusesFrom, RefusesNodes, node_v3};
 ghost use Rattle.zarrs_uses.specs.StepsOfConversions.{HasDocument, IsConverted, RefusesDocumentAt, RefusesMetadataAt};
 
 use log::Log;
@@ -125,18 +125,18 @@ pub fn convert_hierarchy<
         base.now ≡ node m) }
     ensures documents { OnOk result
         ((ds : List (Segments × Bytes ℕ))
-        × AreDocumentsOf as_version_3
+        × AreDocumentsOf node_v3
         (NodesFrom (S.contents storage.old) MetadataRetrieveVersion.Default base.now) ds
         × (S.contents storage.new ≡ with_documents (S.contents storage.old) ds)) }
     ensures version_3 { OnOk result
-        (ShowsMapped as_version_3 base.now (S.contents storage.old) MetadataRetrieveVersion.Default
+        (ShowsMapped node_v3 base.now (S.contents storage.old) MetadataRetrieveVersion.Default
         (S.contents storage.new) MetadataRetrieveVersion.V3) }
     ensures default { OnOk result
-        (ShowsMapped as_version_3 base.now (S.contents storage.old) MetadataRetrieveVersion.Default
+        (ShowsMapped node_v3 base.now (S.contents storage.old) MetadataRetrieveVersion.Default
         (S.contents storage.new) MetadataRetrieveVersion.Default) }
     ensures version_2 { OnOk result
         (HasNoVersion3 (S.contents storage.old)
-        → ShowsMapped as_version_3 base.now (S.contents storage.old) MetadataRetrieveVersion.V2
+        → ShowsMapped node_v3 base.now (S.contents storage.old) MetadataRetrieveVersion.V2
         (S.contents storage.new) MetadataRetrieveVersion.V3) }
     ensures others { KeepsOthers base.now (S.contents storage.old) (S.contents storage.new) }
     ensures refused { IfErr result
@@ -227,8 +227,7 @@ fn documents_of<L: Log>(
     nodes: &[(NodePath, NodeMetadata)],
 ) -> Result<Vec<(StoreKey, Vec<u8>)>, ConvertError>
     requires ascending { Ascend nodes.now }
-    ensures documents { IfOk result
-        (λ ds. AreDocumentsOf as_version_3 (Contains nodes.now) ds.items) }
+    ensures documents { IfOk result (λ ds. AreDocumentsOf node_v3 (Contains nodes.now) ds.items) }
     ensures refused { IfErr result (RefusesNodes (Contains nodes.now)) }
 {
     laws::earlier_stands_before();

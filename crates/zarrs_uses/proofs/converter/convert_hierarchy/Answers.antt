@@ -1,7 +1,7 @@
 use Rattle.std.proofs.Common.{rules, ap, ◌∙◌}
 use Rattle.zarrs_config.specs.declared.version.MetadataRetrieveVersion.TheVariants.{Default, V3}
 use Rattle.zarrs_node.specs.MapsOfNodes.{NodesFrom, with_documents}
-use Rattle.zarrs_uses.specs.Conversions.{as_version_3}
+use Rattle.zarrs_uses.specs.Conversions.{node_v3}
 use Rattle.zarrs_uses.proofs.ConvertedNodes.{in_slice, documents_from, refused_from, keeps_others, converted_shows}
 use Rattle.zarrs_uses.proofs.converter.convert_hierarchy.Goals as goal
 
@@ -40,7 +40,7 @@ pub returns-clause-version_2 : goal.returns-clause-version_2
 returns-clause-version_2 g c none =
     let S = g.S.Store.contents c.args.storage.now in
     let same = in_slice (NodesFrom S Default c.args.base.now) c.in_ok-nodes.nodes.items c.deref.result.now c.deref.ensures.value c.in_ok-nodes.ensures.nodes in
-    c.default_is_version_2.ensures as_version_3 c.args.base.now S (g.S.Store.contents c.set_all.new.storage) V3 none
+    c.default_is_version_2.ensures node_v3 c.args.base.now S (g.S.Store.contents c.set_all.new.storage) V3 none
     (converted_shows S c.args.base.now c.deref.result.now same (g.S.Store.contents c.set_all.new.storage) c.in_ok-documents.documents.items c.deref-2.result.now c.deref-2.ensures.value c.in_ok-documents.ensures.documents c.documents_are_shown.ensures c.in_ok-nodes.ensures.clean c.in_ok-set_all.ensures.set).0
 
 pub returns-clause-documents : goal.returns-clause-documents
