@@ -109,7 +109,7 @@ impl<T: Drop> From<AllocFailed<T>> for ConvertError {
 /// Before anything is set:
 ///
 /// - `Node` where the path means no node, or where `get_all_nodes_of` refuses.
-/// - `Array` with the first array, in the order of paths, that has no form of version 3.
+/// - `Array` with the first array, in the order of paths, that has no form of version 3, and why; or that memory ran out over it.
 /// - `Depth` with a node whose document would nest too deep.
 /// - `OutOfMemory` when out of memory.
 ///
