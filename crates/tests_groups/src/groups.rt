@@ -697,7 +697,14 @@ fn shallow_said(alloc: Global, levels: &str) -> Result<String, GroupCreateError>
     }
     given.push_str("} | {}")?;
     let group = group_of(alloc, given.as_str(), &Config::new())?;
-    Ok(String::from_str(alloc, if group.is_shallow(alloc)? { "yes" } else { "no" })?)
+    Ok(String::from_str(
+        alloc,
+        if group.is_shallow(alloc)? {
+            "yes"
+        } else {
+            "no"
+        },
+    )?)
 }
 
 // The lists in each other, which stand two levels deep in the document; whether it nests at most 127 levels.
