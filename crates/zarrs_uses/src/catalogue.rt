@@ -51,6 +51,8 @@ impl Catalogue {
     /// # Errors
     ///
     /// Those of `zarrs_node::consolidate_nodes_of`.
+    ///
+    /// Source: own; zarr-python, consolidated metadata.
     pub fn open<L: Log, S: ReadableStorageTraits + ListableStorageTraits>(
         log: &L,
         alloc: Global,
@@ -76,6 +78,8 @@ impl Catalogue {
     /// - `NotBelow` where the path of the change is not below that of the group. Nothing is changed.
     /// - `Store` with the store's own error. Of the document nothing is promised, and no other is changed.
     /// - `Refresh` with the refusal of `zarrs_node::refresh_block`, such as a document that does not read. The change is made.
+    ///
+    /// Source: own; zarr-python, consolidated metadata.
     pub fn apply<S>(
         &mut self,
         alloc: Global,
@@ -121,6 +125,8 @@ impl Catalogue {
     ///
     /// The first refusal of [`Catalogue::apply`], with the place of its change in the list. The changes before it are made, and the catalogue is
     /// as it was after these.
+    ///
+    /// Source: own; zarr-python, consolidated metadata.
     pub fn apply_all<S>(
         &mut self,
         alloc: Global,
@@ -159,6 +165,8 @@ impl Catalogue {
     /// - `Store` with the refusal of `Group::store_metadata`.
     ///
     /// Besides, `Block` or `OutOfMemory` when out of memory.
+    ///
+    /// Source: own; zarr-python, consolidated metadata.
     pub fn store<S: ReadableStorageTraits + WritableStorageTraits>(
         &self,
         alloc: Global,
@@ -195,6 +203,8 @@ impl Catalogue {
     ///
     /// - `Step` with the refusal of [`Catalogue::apply_all`]. The group is not stored.
     /// - `Storing` with that of [`Catalogue::store`]. All changes are made, and the block is current.
+    ///
+    /// Source: own; zarr-python, consolidated metadata.
     pub fn update<S>(
         &mut self,
         alloc: Global,
