@@ -5,7 +5,7 @@
 
 use crate::findings::findings_text;
 use crate::given::store_in;
-use crate::surveys::survey_text;
+use crate::surveys::{check_text, survey_text};
 use log::sink::Discard;
 use std::alloc::{AllocError, Global};
 use std::test::Fail;
@@ -49,11 +49,11 @@ fn survey_data(survey: &Survey, alloc: Global) -> Result<String, AllocError> {
     Ok(text)
 }
 
-// A check: its survey, and what it tells of blocks.
+// A check: what it has of the store, and what it tells of blocks.
 fn check_data(check: &Check, alloc: Global) -> Result<String, AllocError> {
-    let survey = survey_data(&check.survey, alloc)?;
+    let store = check_text(check, alloc)?;
     let findings = findings_text(&check.findings, alloc)?;
-    format!(in alloc; "{survey}\n{findings}")
+    format!(in alloc; "{store}\n{findings}")
 }
 
 fn survey_of<S: ReadableStorageTraits + ListableStorageTraits>(

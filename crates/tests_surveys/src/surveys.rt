@@ -10,7 +10,8 @@ use zarrs_block::NodeCreateError;
 use zarrs_hierarchy::Hierarchy;
 use zarrs_node::get_all_nodes_of;
 use zarrs_path::NodePath;
-use zarrs_survey::{Survey, laws};
+use zarrs_store::StorePrefix;
+use zarrs_survey::{BadDocuments, Check, Survey, laws};
 
 /// The survey of the store with the documents of a list, at a path.
 pub(crate) fn survey_in(
@@ -39,15 +40,48 @@ pub(crate) fn survey_text(survey: &Survey, alloc: Global) -> Result<String, Allo
     for (path, _metadata) in survey.nodes.nodes() {
         write!(text, "{path}\n")?;
     }
-    for path in &survey.ignored {
+    write_bad(
+        &mut text,
+        &survey.ignored,
+        &survey.bad_documents,
+        &survey.bad_names,
+    )?;
+    Ok(text)
+}
+
+// Writes the ignored paths and what is bad behind a text.
+fn write_bad(
+    text: &mut String,
+    ignored: &[NodePath],
+    documents: &BadDocuments,
+    names: &[StorePrefix],
+) -> Result<(), AllocError> {
+    for path in ignored {
         write!(text, "ignored {path}\n")?;
     }
-    for (path, error) in survey.bad_documents.as_slice() {
+    for (path, error) in documents.as_slice() {
         write!(text, "{path} {error}\n")?;
     }
-    for names in &survey.bad_names {
+    for names in names {
         write!(text, "{names} no name\n")?;
     }
+    Ok(())
+}
+
+/// The base, the number of the nodes, the paths that are ignored, and what is bad.
+pub(crate) fn check_text(check: &Check, alloc: Global) -> Result<String, AllocError> {
+    let mut text = String::new(alloc);
+    match &check.base {
+        Ok(()) => write!(text, "{} node\n", check.path)?,
+        Err(error) => write!(text, "{} {error}\n", check.path)?,
+    }
+    write!(text, "{} nodes\n", check.nodes)?;
+    write_bad(
+        &mut text,
+        &check.ignored,
+        &check.bad_documents,
+        &check.bad_names,
+    )?;
     Ok(text)
 }
 
@@ -70,6 +104,34 @@ const SURVEYS: &str = r#"
 #[test]
 fn a_survey_has_all_that_is_there_and_all_that_is_bad(rt: HostRuntime) -> Result<(), Fail> {
     check_rows(rt.alloc(), SURVEYS, survey_said)
+}
+
+// What a check has of the store with the documents of a list, at a path.
+fn checked(alloc: Global, given: &str) -> Result<Check, NodeCreateError> {
+    let (path, documents) = fields(given);
+    let path = NodePath::new(alloc, path)?;
+    let store = store_in(alloc, documents)?;
+    Check::of_store(&Discard, alloc, &store, &path, &ANY)
+}
+
+fn check_said(alloc: Global, given: &str) -> Result<String, AllocError> {
+    said(alloc, checked(alloc, given), check_text)
+}
+
+// A path and a store; the base, the number of the nodes with it, the ignored paths and what is bad.
+const CHECKS: &str = r#"
+/ | zarr.json g3;a/zarr.json g3;a/x/zarr.json a3 => / node\n3 nodes\n
+/a | zarr.json g3;a/zarr.json g3;a/x/zarr.json a3 => /a node\n2 nodes\n
+/ | zarr.json kb;a/zarr.json kb;a/x/zarr.json a3;b/zarr.json g3 => / node\n4 nodes\n
+/ | a/zarr.json g3;a/x/zarr.json g3 => / Metadata is missing for /\n2 nodes\n
+/ | zarr.json nul;a/zarr.json g3 => / error parsing metadata for zarr.json: not JSON\n1 nodes\n
+/ | zarr.json g3;a/zarr.json nul;a/x/zarr.json g3;b/zarr.json g3;c/d nul => / node\n2 nodes\nignored /c\n/a error parsing metadata for a/zarr.json: not JSON\n
+/ | zarr.json g3;b/zarr.json g3;b/../zarr.json g3;b/c/zarr.json g2;b/d/zarr.json g3 => / node\n3 nodes\n/b/c Found V2 metadata in V3 key or vice-versa\nb/../ no name\n
+"#;
+
+#[test]
+fn a_check_counts_the_nodes_and_has_all_that_is_bad(rt: HostRuntime) -> Result<(), Fail> {
+    check_rows(rt.alloc(), CHECKS, check_said)
 }
 
 // Whether a bad document of a store stands at a path or above it.

@@ -25,16 +25,16 @@ use Rattle.zarrs_node.proofs.Found.{all_pairs_append, all_pairs_first, all_pairs
 use Rattle.zarrs_node.proofs.Graft.{Contains-first, Contains-cons}
 use Rattle.zarrs_node.proofs.Order.{contains_cases}
 use Rattle.zarrs_node.proofs.Unique.{names_irrefl}
-use Rattle.zarrs_survey.specs.Surveys.{IsBase, IsSurveyOf, BadDocuments, BadNames}
-use Rattle.zarrs_survey.specs.Findings.{Pair, key_of}
-use Rattle.zarrs_survey.specs.Checks.{HasNode, StandsBefore, AreBlockFindings}
+use Rattle.zarrs_survey.specs.Surveys.{BadDocuments, BadNames}
+use Rattle.zarrs_survey.specs.Findings.{key_of}
+use Rattle.zarrs_survey.specs.Checks.{IsBaseFault, IsCheckOf, StandsBefore, AreBlockFindings}
 use Rattle.zarrs_survey.specs.declared.finding.Finding.{Finding}
-use Rattle.zarrs_survey.specs.declared.survey.Survey.{Survey}
+use Rattle.zarrs_survey.specs.declared.check.Check.{Check}
 use Rattle.zarrs_check.specs.declared.remark.Remark.{Remark}
 use Rattle.zarrs_check.specs.declared.report.Tally.{Tally}
 use Rattle.zarrs_check.specs.Texts.{error_text}
-use Rattle.zarrs_check.specs.Report.{own_remark, remark_of, report_text, IsOwnRemark, IsRemark, IsCount, IsReport}
-use Rattle.zarrs_check.specs.StepsOfReports.{AreSorted, base_remarks, document_remark, name_remark, own_remarks, count_with_base, node_count}
+use Rattle.zarrs_check.specs.Report.{own_remark, remark_of, report_text, IsOwnRemark, IsRemark, IsReport}
+use Rattle.zarrs_check.specs.StepsOfReports.{AreSorted, base_remarks, document_remark, name_remark, own_remarks}
 use Rattle.zarrs_check.proofs.Order.{sorted_ascend, ascend_once}
 
 -- ---- lists
@@ -103,17 +103,6 @@ bad_same : (e d : NodeCreateError) → bad e ≡ bad d → e ≡ d
 unfolding bad_one
 bad_same e d same = ap (bad_one e) same
 
--- the metadata of a node
-node_one : NodeMetadata → Meaning → NodeMetadata
-node_one d (node m) = m
-node_one d nothing = d
-node_one d (bad e) = d
-
--- what is a node is no other
-node_same : (m n : NodeMetadata) → node m ≡ node n → m ≡ n
-unfolding node_one
-node_same m n same = ap (node_one m) same
-
 -- a finding's order is strict: it sees the path, the group and the key
 not_before : (f h : Finding) → f.path ≡ h.path → f.group ≡ h.group → key_of f.kind ≡ key_of h.kind → StandsBefore f h → ⊥
 not_before f h paths groups keys = ⊎_elim
@@ -134,7 +123,7 @@ HasGroup None = ⊥
 HasGroup (Some g) = Unit {0}
 
 -- what base remarks are of
-base_remark_of : (b : Path) (base : Result NodeMetadata NodeCreateError) (r : Remark) → Contains (base_remarks b base) r → (e : NodeCreateError) × (base ≡ Err e) × (r ≡ own_remark b (error_text e))
+base_remark_of : (b : Path) (base : Result (Unit {0}) NodeCreateError) (r : Remark) → Contains (base_remarks b base) r → (e : NodeCreateError) × (base ≡ Err e) × (r ≡ own_remark b (error_text e))
 base_remark_of b (Ok m) r h = absurd (omega (arith, h.1))
 base_remark_of b (Err e) r h = (e, refl, ⊎_elim (λ same. sym same) (λ none. absurd (omega (arith, none.1))) (contains_cases (own_remark b (error_text e)) [] r h))
 
@@ -172,16 +161,16 @@ module _ (s : Contents) (b : Path) where
   not_refused m e means h = ⊎_elim (λ none. subst IsNode (sym means ∙ none.0) tt) (λ is. subst IsNode (sym means ∙ is) tt) h
 
   -- what refuses the base is told of it
-  base_told : (base : Result NodeMetadata NodeCreateError) (e : NodeCreateError) → IsBase s Default b base → RefusesNode s Default b e → Contains (base_remarks b base) (own_remark b (error_text e))
-  base_told (Ok m) e is h = absurd (not_refused m e is h)
+  base_told : (base : Result (Unit {0}) NodeCreateError) (e : NodeCreateError) → IsBaseFault s Default b base → RefusesNode s Default b e → Contains (base_remarks b base) (own_remark b (error_text e))
+  base_told (Ok u) e is h = absurd (not_refused is.0 e is.1 h)
   base_told (Err d) e is h = subst (λ t. Contains (own_remark b (error_text d) ∷ []) (own_remark b t)) (refused_text d e is h) (Contains-first (own_remark b (error_text d)) [])
 
   -- the error of a base that is none refuses it
-  base_refuses : (base : Result NodeMetadata NodeCreateError) (e : NodeCreateError) → IsBase s Default b base → base ≡ Err e → RefusesNode s Default b e
-  base_refuses base e is same = subst (IsBase s Default b) same is
+  base_refuses : (base : Result (Unit {0}) NodeCreateError) (e : NodeCreateError) → IsBaseFault s Default b base → base ≡ Err e → RefusesNode s Default b e
+  base_refuses base e is same = subst (IsBaseFault s Default b) same is
 
   -- of the base at most one fault is told
-  base_once : (base : Result NodeMetadata NodeCreateError) → AllPairs (λ q r. q ≢ r) (base_remarks b base)
+  base_once : (base : Result (Unit {0}) NodeCreateError) → AllPairs (λ q r. q ≢ r) (base_remarks b base)
   base_once (Ok m) = λ i j d l m. absurd (omega (arith, m))
   base_once (Err e) = λ i j d l m. absurd (omega (arith, l, m))
 
@@ -193,79 +182,79 @@ told_next f xs i x r start old new lt at is more told =
     ap (map f) (take_more xs i x lt) ∙ (map-append f (take i xs) (get_or xs i x ∷ []) ∙ ap (λ y. map f (take i xs) ++ f y ∷ []) (sym at)) in
     more ∙ (ap (λ q. q ++ r ∷ []) told ∙ (append_assoc start (map f (take i xs)) (r ∷ []) ∙ (ap (λ q. start ++ (map f (take i xs) ++ q ∷ [])) is ∙ ap (λ q. start ++ q) (sym front))))
 
-module _ (s : Contents) (b : Path) (survey : Survey) (found : List Finding) (h : IsSurveyOf s Default b survey) (k : AreBlockFindings s Default b found) where
+module _ (s : Contents) (b : Path) (c : Check) (h : IsCheckOf s Default b c) (k : AreBlockFindings s Default b c.findings.items) where
   -- the faults of the base, of bad documents and of bad names, and what there is to tell of blocks
   abbrev bases : List Remark
-  bases = base_remarks survey.path survey.base
+  bases = base_remarks c.path c.base
 
   abbrev documents : List Remark
-  documents = map document_remark survey.bad_documents
+  documents = map document_remark c.bad_documents
 
   abbrev names : List Remark
-  names = map name_remark survey.bad_names.items
+  names = map name_remark c.bad_names.items
 
   abbrev blocks : List Remark
-  blocks = map remark_of found
+  blocks = map remark_of c.findings.items
 
   abbrev all : List Remark
-  all = own_remarks survey ++ blocks
+  all = own_remarks c ++ blocks
 
   -- ---- each is to be told
 
   base_sound : (r : Remark) → Contains bases r → IsOwnRemark s b r
   base_sound r in' =
-      let w = base_remark_of survey.path survey.base r in' in
-      inl (w.0, base_refuses s b survey.base w.0 h.base w.1, w.2 ∙ ap (λ p. own_remark p (error_text w.0)) h.path)
+      let w = base_remark_of c.path c.base r in' in
+      inl (w.0, base_refuses s b c.base w.0 h.base w.1, w.2 ∙ ap (λ p. own_remark p (error_text w.0)) h.path)
 
   document_sound : (r : Remark) → Contains documents r → IsOwnRemark s b r
   document_sound r in' =
-      let w = contains_mapped document_remark survey.bad_documents r in' in
+      let w = contains_mapped document_remark c.bad_documents r in' in
       inr (inl (w.0, (listed_each h.bad_documents w.0).0 w.1, sym w.2))
 
   name_sound : (r : Remark) → Contains names r → IsOwnRemark s b r
   name_sound r in' =
-      let w = contains_mapped name_remark survey.bad_names.items r in' in
+      let w = contains_mapped name_remark c.bad_names.items r in' in
       inr (inr (w.0, (listed_each h.bad_names w.0).0 w.1, sym w.2))
 
-  own_sound : (r : Remark) → Contains (own_remarks survey) r → IsOwnRemark s b r
+  own_sound : (r : Remark) → Contains (own_remarks c) r → IsOwnRemark s b r
   own_sound r in' = ⊎_elim (base_sound r) (λ later. ⊎_elim (document_sound r) (name_sound r) (Contains-append_cases documents names r later)) (Contains-append_cases bases (documents ++ names) r in')
 
   block_sound : (r : Remark) → Contains blocks r → IsRemark s b r
-  block_sound r in' = let w = contains_mapped remark_of found r in' in inr (w.0, (k.exact w.0).0 w.1, sym w.2)
+  block_sound r in' = let w = contains_mapped remark_of c.findings.items r in' in inr (w.0, (k.exact w.0).0 w.1, sym w.2)
 
   sound : (r : Remark) → Contains all r → IsRemark s b r
-  sound r in' = ⊎_elim (λ own. inl (own_sound r own)) (block_sound r) (Contains-append_cases (own_remarks survey) blocks r in')
+  sound r in' = ⊎_elim (λ own. inl (own_sound r own)) (block_sound r) (Contains-append_cases (own_remarks c) blocks r in')
 
   -- ---- what is to be told is
 
-  base_complete : (e : NodeCreateError) → RefusesNode s Default b e → Contains (own_remarks survey) (own_remark b (error_text e))
+  base_complete : (e : NodeCreateError) → RefusesNode s Default b e → Contains (own_remarks c) (own_remark b (error_text e))
   base_complete e refused = Contains-append_left bases (documents ++ names) (own_remark b (error_text e))
-      (subst (λ p. Contains (base_remarks p survey.base) (own_remark b (error_text e))) (sym h.path) (base_told s b survey.base e h.base refused))
+      (subst (λ p. Contains (base_remarks p c.base) (own_remark b (error_text e))) (sym h.path) (base_told s b c.base e h.base refused))
 
-  document_complete : (d : Path × NodeCreateError) → BadDocuments s Default b d → Contains (own_remarks survey) (document_remark d)
+  document_complete : (d : Path × NodeCreateError) → BadDocuments s Default b d → Contains (own_remarks c) (document_remark d)
   document_complete d is = Contains-append_right bases (documents ++ names) (document_remark d)
-      (Contains-append_left documents names (document_remark d) (contains_map document_remark survey.bad_documents d ((listed_each h.bad_documents d).1 is)))
+      (Contains-append_left documents names (document_remark d) (contains_map document_remark c.bad_documents d ((listed_each h.bad_documents d).1 is)))
 
-  name_complete : (p : Path) → BadNames s Default b p → Contains (own_remarks survey) (name_remark p)
+  name_complete : (p : Path) → BadNames s Default b p → Contains (own_remarks c) (name_remark p)
   name_complete p is = Contains-append_right bases (documents ++ names) (name_remark p)
-      (Contains-append_right documents names (name_remark p) (contains_map name_remark survey.bad_names.items p ((listed_each h.bad_names p).1 is)))
+      (Contains-append_right documents names (name_remark p) (contains_map name_remark c.bad_names.items p ((listed_each h.bad_names p).1 is)))
 
-  own_complete : (r : Remark) → IsOwnRemark s b r → Contains (own_remarks survey) r
+  own_complete : (r : Remark) → IsOwnRemark s b r → Contains (own_remarks c) r
   own_complete r = ⊎_elim
-      (λ w. subst (Contains (own_remarks survey)) (sym w.2) (base_complete w.0 w.1))
+      (λ w. subst (Contains (own_remarks c)) (sym w.2) (base_complete w.0 w.1))
       (⊎_elim
-      (λ w. subst (Contains (own_remarks survey)) (sym w.2) (document_complete w.0 w.1))
-      (λ w. subst (Contains (own_remarks survey)) (sym w.2) (name_complete w.0 w.1)))
+      (λ w. subst (Contains (own_remarks c)) (sym w.2) (document_complete w.0 w.1))
+      (λ w. subst (Contains (own_remarks c)) (sym w.2) (name_complete w.0 w.1)))
 
   complete : (r : Remark) → IsRemark s b r → Contains all r
   complete r = ⊎_elim
-      (λ own. Contains-append_left (own_remarks survey) blocks r (own_complete r own))
-      (λ w. Contains-append_right (own_remarks survey) blocks r (subst (Contains blocks) (sym w.2) (contains_map remark_of found w.0 ((k.exact w.0).1 w.1))))
+      (λ own. Contains-append_left (own_remarks c) blocks r (own_complete r own))
+      (λ w. Contains-append_right (own_remarks c) blocks r (subst (Contains blocks) (sym w.2) (contains_map remark_of c.findings.items w.0 ((k.exact w.0).1 w.1))))
 
   -- ---- none is told twice
 
   documents_once : AllPairs (λ q r. q ≢ r) documents
-  documents_once = once_mapped (λ d e. d ≢ e) document_remark survey.bad_documents
+  documents_once = once_mapped (λ d e. d ≢ e) document_remark c.bad_documents
       (λ d e p q apart same.
       let mine = (listed_each h.bad_documents d).0 p in
       let theirs = (listed_each h.bad_documents e).0 q in
@@ -275,27 +264,27 @@ module _ (s : Contents) (b : Path) (survey : Survey) (found : List Finding) (h :
       h.bad_documents.each_once
 
   names_once : AllPairs (λ q r. q ≢ r) names
-  names_once = once_mapped (λ p q. p ≢ q) name_remark survey.bad_names.items (λ p q x y apart same. apart (ap (λ r. r.path) same)) h.bad_names.each_once
+  names_once = once_mapped (λ p q. p ≢ q) name_remark c.bad_names.items (λ p q x y apart same. apart (ap (λ r. r.path) same)) h.bad_names.each_once
 
   blocks_once : AllPairs (λ q r. q ≢ r) blocks
-  blocks_once = once_mapped StandsBefore remark_of found
+  blocks_once = once_mapped StandsBefore remark_of c.findings.items
       (λ f g p q before same. not_before f g (ap (λ r. r.path) same) (ap (λ r. group_or f.group r.group) same) (ap (λ r. r.key) same) before)
       k.ascend
 
   -- a remark on the base, and one on what is below
   base_apart : (q r : Remark) → Contains bases q → Contains (documents ++ names) r → q ≢ r
   base_apart q r in' later same =
-      let w = base_remark_of survey.path survey.base q in' in
+      let w = base_remark_of c.path c.base q in' in
       let at : b ≡ r.path = sym h.path ∙ (ap (λ x. x.path) (sym w.2) ∙ ap (λ x. x.path) same) in
       ⊎_elim
-      (λ d. let v = contains_mapped document_remark survey.bad_documents r d in document_below s b v.0 ((listed_each h.bad_documents v.0).0 v.1) (at ∙ ap (λ x. x.path) (sym v.2)))
-      (λ n. let v = contains_mapped name_remark survey.bad_names.items r n in name_below s b v.0 ((listed_each h.bad_names v.0).0 v.1) (at ∙ ap (λ x. x.path) (sym v.2)))
+      (λ d. let v = contains_mapped document_remark c.bad_documents r d in document_below s b v.0 ((listed_each h.bad_documents v.0).0 v.1) (at ∙ ap (λ x. x.path) (sym v.2)))
+      (λ n. let v = contains_mapped name_remark c.bad_names.items r n in name_below s b v.0 ((listed_each h.bad_names v.0).0 v.1) (at ∙ ap (λ x. x.path) (sym v.2)))
       (Contains-append_cases documents names r later)
 
   later_apart : (q r : Remark) → Contains documents q → Contains names r → q ≢ r
   later_apart q r in' later same =
-      let w = contains_mapped document_remark survey.bad_documents q in' in
-      let v = contains_mapped name_remark survey.bad_names.items r later in
+      let w = contains_mapped document_remark c.bad_documents q in' in
+      let v = contains_mapped name_remark c.bad_names.items r later in
       document_not_name s b w.0 v.0 ((listed_each h.bad_documents w.0).0 w.1) ((listed_each h.bad_names v.0).0 v.1) (ap (λ x. x.path) (w.2 ∙ (same ∙ sym v.2)))
 
   -- a path's own fault is of no group
@@ -304,14 +293,14 @@ module _ (s : Contents) (b : Path) (survey : Survey) (found : List Finding) (h :
       (λ w has. subst (λ x. HasGroup x.group) w.2 has)
       (⊎_elim (λ w has. subst (λ x. HasGroup x.group) w.2 has) (λ w has. subst (λ x. HasGroup x.group) w.2 has))
 
-  own_apart : (q r : Remark) → Contains (own_remarks survey) q → Contains blocks r → q ≢ r
+  own_apart : (q r : Remark) → Contains (own_remarks c) q → Contains blocks r → q ≢ r
   own_apart q r in' later same =
-      let v = contains_mapped remark_of found r later in
+      let v = contains_mapped remark_of c.findings.items r later in
       own_group q (own_sound q in') (subst (λ x. HasGroup x.group) (v.2 ∙ sym same) tt)
 
   all_once : AllPairs (λ q r. q ≢ r) all
-  all_once = all_pairs_append (λ q r. q ≢ r) (own_remarks survey) blocks
-      (all_pairs_append (λ q r. q ≢ r) bases (documents ++ names) (base_once s survey.path survey.base)
+  all_once = all_pairs_append (λ q r. q ≢ r) (own_remarks c) blocks
+      (all_pairs_append (λ q r. q ≢ r) bases (documents ++ names) (base_once s c.path c.base)
       (all_pairs_append (λ q r. q ≢ r) documents names documents_once names_once later_apart) base_apart)
       blocks_once own_apart
 
@@ -325,47 +314,13 @@ module _ (s : Contents) (b : Path) (survey : Survey) (found : List Finding) (h :
     complete = λ r is. Contains-permutation all rs r sorted.moved (complete r is);
   }
 
-  -- the base where it is a node, and the nodes below it
-  counted_nodes : (base : Result NodeMetadata NodeCreateError) → survey.base ≡ base → IsBase s Default b base → IsCount (HasNode s Default b) (count_with_base base (length survey.nodes))
-  counted_nodes (Err e) is refused = (
-    survey.nodes,
-    lists_from survey.nodes
-        (λ d. (
-          λ in'. inr ((listed_each h.nodes.held d).0 in'),
-          ⊎_elim (λ w. absurd (not_refused s b d.1 e w.1 refused)) (λ is. (listed_each h.nodes.held d).1 is),
-        ))
-        h.nodes.held.each_once,
-    refl,
-  )
-  counted_nodes (Ok m) is means = (
-    (b, m) ∷ survey.nodes,
-    lists_from ((b, m) ∷ survey.nodes)
-        (λ d. (
-          λ in'. ⊎_elim
-              (λ same. inl (ap (λ (x : Pair). x.0) (sym same), means ∙ ap (λ (x : Pair). node x.1) same))
-              (λ later. inr ((listed_each h.nodes.held d).0 later))
-              (contains_cases (b, m) survey.nodes d in'),
-          ⊎_elim
-              (λ w.
-              let metadata : m ≡ d.1 = node_same m d.1 (sym means ∙ w.1) in
-              subst (Contains ((b, m) ∷ survey.nodes)) (ap (λ x. (x, m)) (sym w.0) ∙ ap (λ x. (d.0, x)) metadata) (Contains-first (b, m) survey.nodes))
-              (λ is. Contains-cons (b, m) survey.nodes d ((listed_each h.nodes.held d).1 is)),
-        ))
-        (AllPairs-cons (λ (x y : Pair). x ≢ y) (b, m) survey.nodes
-        (λ i d l same.
-        let below = ((listed_each h.nodes.held (get_or survey.nodes i d)).0 (Contains-get_or survey.nodes i d l)).0.below in
-        not_itself b below.0 below.1 (ap (λ (x : Pair). x.0) same ∙ below.2))
-        h.nodes.held.each_once),
-    omega arith,
-  )
-
   -- the lines of the sorted remarks are the report
-  pub report_is : (rs : List Remark) (tally : Tally) (text : List ℕ) → AreSorted all rs → tally.nodes ≡ node_count survey → tally.findings ≡ length rs → text ≡ report_text rs → IsReport s b tally text
+  pub report_is : (rs : List Remark) (tally : Tally) (text : List ℕ) → AreSorted all rs → tally.nodes ≡ c.nodes → tally.findings ≡ length rs → text ≡ report_text rs → IsReport s b tally text
   report_is rs tally text sorted nodes findings is = record {
     remarks = rs;
     lists = sorted_lists rs sorted;
     ascend = sorted_ascend all rs all_once sorted.moved sorted.ordered;
     is = is;
     findings = findings;
-    nodes = subst (IsCount (HasNode s Default b)) (sym nodes) (counted_nodes survey.base refl h.base);
+    nodes = subst (IsCount (HasNode s Default b)) (sym nodes) h.nodes;
   }

@@ -19,8 +19,8 @@ use Rattle.zarrs_config.specs.declared.version.MetadataRetrieveVersion.TheVarian
 use Rattle.zarrs_block.specs.declared.node_create_error.NodeCreateError.{NodeCreateError}
 use Rattle.zarrs_node.specs.OpeningNodes.{RefusesNode}
 use Rattle.zarrs_survey.specs.Surveys.{BadDocuments, BadNames}
-use Rattle.zarrs_survey.specs.Findings.{Pair, key_of}
-use Rattle.zarrs_survey.specs.Checks.{HasNode, IsBlockFinding}
+use Rattle.zarrs_survey.specs.Findings.{key_of}
+use Rattle.zarrs_survey.specs.Checks.{HasNode, IsBlockFinding, IsCount}
 use Rattle.zarrs_survey.specs.declared.finding.Finding.{Finding}
 use Rattle.zarrs_check.specs.declared.remark.Remark.{Remark}
 use Rattle.zarrs_check.specs.declared.report.Tally.{Tally}
@@ -64,10 +64,6 @@ line_of r = path_text r.path ++ (codes ": " ++ (r.text ++ 10 ∷ []))
 -- the lines of remarks
 abbrev pub report_text : List Remark → List ℕ
 report_text rs = flat_map line_of rs
-
--- n pairs have P
-abbrev pub IsCount : (Pair → Type 0) → ℕ → Type 0
-IsCount P n = (es : List Pair) × Lists P es × (n ≡ length es)
 
 -- the text is the lines of exactly the remarks on what the store has at b and below it, each once, in their order; the tally is their number, and that of the
 -- nodes at b and below it

@@ -5,7 +5,7 @@ ghost use Rattle.zarrs_block.specs.Refusals.{IsExcused};
 ghost use Rattle.zarrs_path.specs.Paths.{IsPath};
 ghost use Rattle.zarrs_survey.specs.Findings.{key_of};
 ghost use Rattle.zarrs_check.specs.Report.{IsReport, own_remark, report_text, remark_of};
-ghost use Rattle.zarrs_check.specs.StepsOfReports.{AreSorted, all_remarks, node_count, own_remarks, base_remarks, document_remark, name_remark};
+ghost use Rattle.zarrs_check.specs.StepsOfReports.{AreSorted, all_remarks, own_remarks, base_remarks, document_remark, name_remark};
 
 use crate::remark::{Remark, cmp_remarks};
 use crate::texts::{error_text, kind_text, name_text};
@@ -14,10 +14,9 @@ use std::alloc::{AllocError, Global};
 use zarrs_block::NodeCreateError;
 use zarrs_config::MetadataRetrieveVersion;
 use zarrs_form::Text;
-use zarrs_meta::NodeMetadata;
 use zarrs_path::NodePath;
 use zarrs_store::{ListableStorageTraits, ReadableStorageTraits, StorePrefix};
-use zarrs_survey::{BadDocuments, Check, Finding, FindingKind, Survey};
+use zarrs_survey::{BadDocuments, Check, Finding, FindingKind};
 
 /// How much a check looked at and found.
 ///
@@ -47,42 +46,31 @@ pub fn report<L: Log, S: ReadableStorageTraits + ListableStorageTraits>(
 {
     let version = MetadataRetrieveVersion::Default;
     let checked = Check::of_store(log, alloc, store, base, &version)?;
-    let nodes = node_count(&checked.survey);
     let remarks = remarks_of(alloc, &checked)?;
+    let nodes = checked.nodes;
     let findings = remarks.len();
     let text = report_text(alloc, remarks)?;
     Ok((Tally { nodes, findings }, text))
-}
-
-// The number of the nodes that a survey found, with its base where that is one.
-fn node_count(survey: &Survey) -> usize
-    ensures { result ≡ node_count survey.now }
-{
-    let below = survey.nodes.nodes().len();
-    match survey.base {
-        Ok(_) => below + 1,
-        Err(_) => below,
-    }
 }
 
 // What there is to tell, in its order.
 fn remarks_of(alloc: Global, checked: &Check) -> Result<Vec<Remark>, AllocError>
     ensures { IfOk result (λ remarks. AreSorted (all_remarks checked.now) remarks.items) }
 {
-    let mut remarks = own_remarks(alloc, &checked.survey)?;
+    let mut remarks = own_remarks(alloc, checked)?;
     add_findings(alloc, &checked.findings, &mut remarks)?;
     sort_remarks(&mut remarks)?;
     Ok(remarks)
 }
 
-// The own faults of the paths of a survey.
-fn own_remarks(alloc: Global, survey: &Survey) -> Result<Vec<Remark>, AllocError>
-    ensures { IfOk result (λ remarks. remarks.items ≡ own_remarks survey.now) }
+// The own faults of paths.
+fn own_remarks(alloc: Global, checked: &Check) -> Result<Vec<Remark>, AllocError>
+    ensures { IfOk result (λ remarks. remarks.items ≡ own_remarks checked.now) }
 {
     let mut remarks = Vec::new(alloc);
-    add_base(alloc, &survey.path, &survey.base, &mut remarks)?;
-    add_documents(alloc, &survey.bad_documents, &mut remarks)?;
-    add_names(alloc, &survey.bad_names, &mut remarks)?;
+    add_base(alloc, &checked.path, &checked.base, &mut remarks)?;
+    add_documents(alloc, &checked.bad_documents, &mut remarks)?;
+    add_names(alloc, &checked.bad_names, &mut remarks)?;
     Ok(remarks)
 }
 
@@ -90,7 +78,7 @@ fn own_remarks(alloc: Global, survey: &Survey) -> Result<Vec<Remark>, AllocError
 fn add_base(
     alloc: Global,
     path: &NodePath,
-    base: &Result<NodeMetadata, NodeCreateError>,
+    base: &Result<(), NodeCreateError>,
     remarks: &mut Vec<Remark>,
 ) -> Result<(), AllocError>
     ensures { OnOk result

@@ -83,6 +83,14 @@ impl AdditionalFieldV3 {
     {
         &self.value
     }
+
+    /// The value, taken out.
+    pub fn into_value(self) -> Value
+        ensures { view result ≡ self }
+    {
+        let AdditionalFieldV3 { value } = self;
+        value
+    }
 }
 
 /// The additional fields of a version 3 document, in the order of their names in a vector of their number. With

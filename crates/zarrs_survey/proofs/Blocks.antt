@@ -118,9 +118,9 @@ module _ (E E' N N' : Pair → Type 0) (F F' : Path → Type 0) (g : Path) (low 
   finding_same p (BadKey t) h = absurd h
   finding_same p (Shadowed t) h = absurd h
 
--- and so do those of keys and paths together
-pub findings_same : (B : Block) (N N' : Pair → Type 0) (F F' : Path → Type 0) (g : Path) → ((d : Pair) → N d ↔ N' d) → ((q : Path) → F q ↔ F' q) → (x : Finding) → IsFinding B N F g x → IsFinding B N' F' g x
-findings_same B N N' F F' g n f x h = (h.0, ⊎_elim inl (λ p. inr (finding_same (Entries B g) (Entries B g) N N' F F' g (λ d is. (is.0, is.1, is.3)) (λ d. (λ y. y, λ y. y)) (λ d below. n d) f x.path x.kind p)) h.1)
+-- and so do those of keys and paths together: on the nodes below the group
+pub findings_same : (B : Block) (N N' : Pair → Type 0) (F F' : Path → Type 0) (g : Path) → ((d : Pair) → IsBelow g d.0 → N d ↔ N' d) → ((q : Path) → F q ↔ F' q) → (x : Finding) → IsFinding B N F g x → IsFinding B N' F' g x
+findings_same B N N' F F' g n f x h = (h.0, ⊎_elim inl (λ p. inr (finding_same (Entries B g) (Entries B g) N N' F F' g (λ d is. (is.0, is.1, is.3)) (λ d. (λ y. y, λ y. y)) n f x.path x.kind p)) h.1)
 
 -- ---- both lists in a row
 

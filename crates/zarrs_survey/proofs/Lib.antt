@@ -4,6 +4,7 @@ pub mod Blocks
 pub mod Checking
 pub mod Comparing
 pub mod Halving
+pub mod Keeping
 pub mod KeyFindings
 pub mod LastGroup
 pub mod LawProofs

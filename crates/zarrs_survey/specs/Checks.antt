@@ -5,12 +5,13 @@
 --     HasNode s v b e       the base with its metadata, or a node below it
 --     IsBlockFinding s v b f      what there is to tell of the blocks
 --     AreBlockFindings s v b found      the findings are exactly those, each once, in the order of groups, paths and keys
-use Rattle.std.specs.Prelude.{◌≡◌, ◌⊎◌, ◌↔◌, true, List, [], ◌∷◌, ◌++◌, AllPairs, Contains, Option, Some, None, option_map, Result, Ok, Err, codes}
+--     IsCheckOf s v b c      the check has exactly what is bad at b and below it, and the number of the nodes
+use Rattle.std.specs.Prelude.{◌≡◌, ◌⊎◌, ◌↔◌, true, ℕ, length, List, [], ◌∷◌, ◌++◌, AllPairs, Contains, Option, Some, None, option_map, Result, Ok, Err, codes}
 use Rattle.std.specs.declared.cmp.Ordering.TheVariants.{Less}
 use Rattle.std.specs.FinMap.{get}
 use Rattle.serde_json.specs.Find.{get_member}
 use Rattle.zarrs_fault.specs.declared.fault.MetadataFault.{MetadataFault}
-use Rattle.zarrs_store.specs.Contents.{Contents}
+use Rattle.zarrs_store.specs.Contents.{Contents, Lists}
 use Rattle.zarrs_path.specs.Keys.{zmetadata}
 use Rattle.zarrs_path.specs.Paths.{Path, path_cmp}
 use Rattle.zarrs_config.specs.declared.version.MetadataRetrieveVersion.{MetadataRetrieveVersion}
@@ -23,9 +24,12 @@ use Rattle.zarrs_block.specs.declared.consolidated.ConsolidatedMetadata.{Consoli
 use Rattle.zarrs_block.specs.Meaning.{meaning, node}
 use Rattle.zarrs_block.specs.Zmetadata.{zmetadata_of}
 use Rattle.zarrs_block.specs.declared.node_create_error.NodeCreateError.{NodeCreateError}
-use Rattle.zarrs_node.specs.Nodes.{Nodes}
+use Rattle.zarrs_node.specs.Faults.{PathsAscend}
+use Rattle.zarrs_node.specs.Nodes.{Nodes, Ignored}
+use Rattle.zarrs_node.specs.OpeningNodes.{RefusesNode}
 use Rattle.zarrs_survey.specs.Findings.{Pair, IsFinding, Precedes}
-use Rattle.zarrs_survey.specs.Surveys.{BadDocuments}
+use Rattle.zarrs_survey.specs.Surveys.{BadDocuments, BadNames}
+use Rattle.zarrs_survey.specs.declared.check.Check.{Check}
 use Rattle.zarrs_survey.specs.declared.finding.Finding.{Finding}
 use Rattle.zarrs_survey.specs.declared.finding.FindingKind.TheVariants.{BlockFault}
 
@@ -71,3 +75,25 @@ StandsBefore f h = (path_cmp f.group h.group ≡ Less) ⊎ ((f.group ≡ h.group
 pub record AreBlockFindings (s : Contents) (v : MetadataRetrieveVersion) (b : Path) (found : List Finding) : Type 0 where
   pub exact : (f : Finding) → Contains found f ↔ IsBlockFinding s v b f
   pub ascend : AllPairs StandsBefore found
+
+-- ---- all that a check has
+
+-- the base means a node, or it is refused with this error: it means nothing, or is bad
+abbrev pub IsBaseFault : Contents → MetadataRetrieveVersion → Path → Result (Unit {0}) NodeCreateError → Type 0
+IsBaseFault s v b (Ok u) = (m : NodeMetadata) × (meaning s v b ≡ node m)
+IsBaseFault s v b (Err e) = RefusesNode s v b e
+
+-- n pairs have P
+abbrev pub IsCount : (Pair → Type 0) → ℕ → Type 0
+IsCount P n = (es : List Pair) × Lists P es × (n ≡ length es)
+
+-- the check has exactly what is bad at b and below it: the fault of the base, the ignored paths, the bad documents and the bad names; and the number of the nodes
+pub record IsCheckOf (s : Contents) (v : MetadataRetrieveVersion) (b : Path) (c : Check) : Type 0 where
+  pub path : c.path ≡ b
+  pub base : IsBaseFault s v b c.base
+  pub nodes : IsCount (HasNode s v b) c.nodes
+  pub ignored : Lists (Ignored s v true b) c.ignored.items
+  pub ignored_ascend : PathsAscend c.ignored.items
+  pub bad_documents : Lists (BadDocuments s v b) c.bad_documents
+  pub bad_names : Lists (BadNames s v b) c.bad_names.items
+  pub bad_names_ascend : PathsAscend c.bad_names.items

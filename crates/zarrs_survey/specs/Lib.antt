@@ -5,4 +5,5 @@ pub mod StepsOfComparing
 pub mod StepsOfSurveys
 pub mod Checks
 pub mod StepsOfChecks
+pub mod StepsOfKeeping
 pub mod Laws

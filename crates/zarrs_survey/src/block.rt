@@ -6,6 +6,7 @@ ghost use Rattle.zarrs_block.specs.declared.node_create_error.NodeCreateError.{N
 ghost use Rattle.zarrs_node.specs.Order.{Ascend};
 ghost use Rattle.zarrs_survey.specs.Findings.{AreFindings};
 
+use crate::bad_documents::BadDocuments;
 use crate::compare::compare_entries;
 use crate::finding::Finding;
 use crate::keys::{key_findings, without_bad_keys};
@@ -15,6 +16,7 @@ use zarrs_block::{
     ConsolidatedMetadata, ConsolidatedMetadataMetadata, NodeCreateError,
     expand_consolidated_metadata,
 };
+use zarrs_hierarchy::Hierarchy;
 use zarrs_meta::NodeMetadata;
 use zarrs_path::{NodePath, NodePathError};
 
@@ -41,12 +43,27 @@ pub fn compare_block(
         (λ q. (e : NodeCreateError) × Contains survey.now.bad_documents (q, e)) group.now
         found.items) }
 {
+    compare_nodes(alloc, &survey.nodes, &survey.bad_documents, group, block)
+}
+
+// What there is to tell of the block of a group beside nodes and bad documents, as [`compare_block`] answers it.
+pub(crate) fn compare_nodes(
+    alloc: Global,
+    nodes: &Hierarchy,
+    bad: &BadDocuments,
+    group: &NodePath,
+    block: ConsolidatedMetadata,
+) -> Result<Vec<Finding>, AllocError>
+    ensures { IfOk result
+        (λ found. AreFindings block.metadata (Contains nodes.now)
+        (λ q. (e : NodeCreateError) × Contains bad.now (q, e)) group.now found.items) }
+{
     let ConsolidatedMetadata { metadata } = block;
     let mut found = key_findings(alloc, group, &metadata)?;
     let metadata = without_bad_keys(metadata, &found);
     let entries = entries_of(alloc, group, metadata)?;
-    let nodes = survey.nodes.nodes_below(group);
-    let mut others = compare_entries(alloc, group, &entries, nodes, &survey.bad_documents)?;
+    let nodes = nodes.nodes_below(group);
+    let mut others = compare_entries(alloc, group, &entries, nodes, bad)?;
     found.append(&mut others)?;
     Ok(found)
 }

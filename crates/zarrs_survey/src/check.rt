@@ -8,40 +8,52 @@ ghost use Rattle.zarrs_block.specs.Refusals.{IsExcused};
 ghost use Rattle.zarrs_block.specs.Block.{block_of};
 ghost use Rattle.zarrs_block.specs.Zmetadata.{zmetadata_of};
 ghost use Rattle.zarrs_path.specs.Keys.{zmetadata};
-ghost use Rattle.zarrs_node.specs.Order.{Ascend};
-ghost use Rattle.zarrs_survey.specs.Surveys.{IsSurveyOf};
-ghost use Rattle.zarrs_survey.specs.Checks.{AreBlockFindings, as_read, block_read};
-ghost use Rattle.zarrs_survey.specs.StepsOfChecks.{AreToldOf, AreFindingsOf, HasNodeIn, IsKnownOf};
-ghost use Rattle.zarrs_survey.specs.StepsOfComparing.{AreBelow};
+ghost use Rattle.zarrs_survey.specs.Checks.{AreBlockFindings, IsCheckOf, as_read, block_read};
+ghost use Rattle.zarrs_survey.specs.StepsOfChecks.{AreToldOf, AreFindingsOf, GroupsAscend, IsKnownOf, shown_block, shown_blocks};
 
-use crate::block::compare_block;
+use crate::bad_documents::BadDocuments;
+use crate::block::compare_nodes;
 use crate::finding::{Finding, FindingKind};
-use crate::survey::Survey;
+use crate::kept::KeptNodes;
+use crate::survey::{base_of, sort_faults, warn_ignored};
 use log::Log;
-use std::alloc::Global;
+use std::alloc::{AllocError, Global};
 use zarrs_block::{ConsolidatedMetadata, NodeCreateError};
 use zarrs_config::MetadataRetrieveVersion;
 use zarrs_fault::MetadataFault;
 use zarrs_form::parse;
+use zarrs_hierarchy::Hierarchy;
 use zarrs_meta::{AdditionalFieldsV3, GroupMetadata, NodeMetadata};
+use zarrs_node::walk_past_faults;
 use zarrs_path::{NodePath, meta_key_v2_consolidated};
-use zarrs_store::{ListableStorageTraits, ReadableStorageTraits, StorageError};
+use zarrs_store::{ListableStorageTraits, ReadableStorageTraits, StorageError, StorePrefix};
 
-/// A survey of a store, and what there is to tell of the blocks that it has.
+/// What there is to tell of a store at a path, the base, and below it: what is bad, and what is wrong with the blocks of its groups. It holds no metadata.
 ///
 /// Source: own.
 /// <https://zarr.readthedocs.io/en/stable/user-guide/consolidated_metadata/>
 #[derive(Debug, Drop)]
 pub struct Check {
-    /// What the store has.
-    pub survey: Survey,
+    /// The path of the base.
+    pub path: NodePath,
+    /// Whether the base is a node, or why it is none: it has no document, or a bad one.
+    pub base: Result<(), NodeCreateError>,
+    /// The number of nodes: the base, where it is one, and those below it.
+    pub nodes: usize,
+    /// The paths without documents that were passed over with all below them, in the order of paths.
+    pub ignored: Vec<NodePath>,
+    /// The paths below the base whose documents are bad, each with its error. Below them nothing was looked at.
+    pub bad_documents: BadDocuments,
+    /// The paths below the base whose last name is made of periods only, in the order of paths. Below them nothing was looked at.
+    pub bad_names: Vec<StorePrefix>,
     /// What is wrong with the blocks of its groups, in the order of groups, paths and keys.
     pub findings: Vec<Finding>,
 }
 
 impl Check {
-    /// Checks what a store has at a path and below it, by the documents of a version: surveys it, and compares the block of each group with it. A
-    /// version 3 group has its block in the field `consolidated_metadata`, one of version 2 in the document `.zmetadata` beside its own.
+    /// Checks what a store has at a path and below it, by the documents of a version: looks at it as [`Survey::of_store`] does, and compares the
+    /// block of each group with the nodes below it. A version 3 group has its block in the field `consolidated_metadata`, one of version 2 in the
+    /// document `.zmetadata` beside its own. Metadata are held below a group with a block alone, and until the end of the check.
     ///
     /// # Errors
     ///
@@ -57,61 +69,75 @@ impl Check {
         version: &MetadataRetrieveVersion,
     ) -> Result<Check, NodeCreateError>
         ensures surveyed { IfOk result
-            (λ c. IsSurveyOf (S.contents storage.now) version.now path.now c.survey) }
+            (IsCheckOf (S.contents storage.now) version.now path.now) }
         ensures findings { IfOk result
             (λ c. AreBlockFindings (S.contents storage.now) version.now path.now
             c.findings.items) }
         ensures excused { IfErr result (IsExcused (S.can_fail storage.now)) }
     {
-        let survey = Survey::of_store(log, alloc, storage, path, version)?;
-        let findings = compare_blocks(alloc, storage, &survey)?;
-        Ok(Check { survey, findings })
+        let _valid = path.as_str();
+        let base = base_of(alloc, storage, path, version)?;
+        let mut kept = KeptNodes::new(alloc, storage);
+        let base = kept.take_base(path.try_clone(alloc)?, base)?;
+        let walked = walk_past_faults(alloc, storage, path, version, &mut kept)?;
+        let KeptNodes {
+            count,
+            blocks,
+            nodes,
+            outcome,
+            ..
+        } = kept;
+        outcome?;
+        warn_ignored(log, &walked.ignored);
+        let (bad_documents, bad_names) = sort_faults(alloc, walked.faults)?;
+        let nodes = Hierarchy::from_ascending(nodes);
+        let findings = compare_blocks(alloc, blocks, &nodes, &bad_documents)?;
+        Ok(Check {
+            path: path.try_clone(alloc)?,
+            base,
+            nodes: count,
+            ignored: walked.ignored,
+            bad_documents,
+            bad_names,
+            findings,
+        })
     }
 }
 
-// What there is to tell of the blocks of the groups that a survey found, in the order of groups, paths and keys.
-fn compare_blocks<S: ReadableStorageTraits>(
+// What there is to tell of blocks, each of the group at a path, beside nodes, in the order of groups, paths and keys.
+fn compare_blocks(
     alloc: Global,
-    storage: &S,
-    survey: &Survey,
-) -> Result<Vec<Finding>, StorageError>
-    requires below { AreBelow survey.now.path survey.now.nodes }
-    requires nodes { Ascend survey.now.nodes }
-    ensures findings { IfOk result
-        (λ found. AreFindingsOf (S.contents storage.now) survey.now (HasNodeIn survey.now)
-        found.items) }
-    ensures err { IfErr result (IsStoreError (S.can_fail storage.now)) }
+    blocks: Vec<(NodePath, Result<ConsolidatedMetadata, MetadataFault>)>,
+    nodes: &Hierarchy,
+    bad: &BadDocuments,
+) -> Result<Vec<Finding>, AllocError>
+    requires { GroupsAscend (shown_blocks blocks.items) }
+    ensures { IfOk result
+        (λ found. AreFindingsOf (shown_blocks blocks.items) nodes.now bad.now found.items) }
 {
     let mut found = Vec::new(alloc);
-    if let Ok(metadata) = &survey.base {
-        tell_block(alloc, storage, survey, &survey.path, metadata, &mut found)?;
-    }
-    for (path, metadata) in survey.nodes.nodes() {
-        tell_block(alloc, storage, survey, path, metadata, &mut found)?;
+    for (group, block) in blocks {
+        tell_block(alloc, group, block, nodes, bad, &mut found)?;
     }
     Ok(found)
 }
 
-// Puts what there is to tell of the block of a node behind the other findings.
-fn tell_block<S: ReadableStorageTraits>(
+// Puts what there is to tell of a block behind the other findings.
+fn tell_block(
     alloc: Global,
-    storage: &S,
-    survey: &Survey,
-    path: &NodePath,
-    metadata: &NodeMetadata,
+    group: NodePath,
+    block: Result<ConsolidatedMetadata, MetadataFault>,
+    nodes: &Hierarchy,
+    bad: &BadDocuments,
     found: &mut Vec<Finding>,
-) -> Result<(), StorageError>
-    ensures told { OnOk result
-        (AreToldOf (S.contents storage.now) survey.now path.now metadata.now found.old.items
-        found.new.items) }
-    ensures err { IfErr result (IsStoreError (S.can_fail storage.now)) }
+) -> Result<(), AllocError>
+    ensures { OnOk result
+        (AreToldOf group (shown_block block) nodes.now bad.now found.old.items found.new.items) }
 {
-    match read_block(alloc, storage, path, metadata)? {
-        None => {}
-        Some(Ok(block)) => found.append(&mut compare_block(alloc, survey, path, block)?)?,
-        Some(Err(fault)) => {
-            let group = path.try_clone(alloc)?;
-            let path = path.try_clone(alloc)?;
+    match block {
+        Ok(block) => found.append(&mut compare_nodes(alloc, nodes, bad, &group, block)?)?,
+        Err(fault) => {
+            let path = group.try_clone(alloc)?;
             let kind = FindingKind::BlockFault(fault);
             found.push(Finding { group, path, kind })?;
         }
@@ -145,6 +171,42 @@ pub fn read_block<S: ReadableStorageTraits>(
         NodeMetadata::Group(GroupMetadata::V2(_)) => document_block(alloc, storage, path),
         NodeMetadata::Array(_) => Ok(None),
     }
+}
+
+// What [`read_block`] reads, of metadata that are taken over.
+pub(crate) fn take_block<S: ReadableStorageTraits>(
+    alloc: Global,
+    storage: &S,
+    path: &NodePath,
+    metadata: NodeMetadata,
+) -> Result<Option<Result<ConsolidatedMetadata, MetadataFault>>, StorageError>
+    ensures ok { IfOk result
+        (λ read. as_read read ≡ block_read (S.contents storage.now) path.now metadata) }
+    ensures err { IfErr result (IsStoreError (S.can_fail storage.now)) }
+{
+    match metadata {
+        NodeMetadata::Group(GroupMetadata::V3(group)) => {
+            taken_field_block(alloc, group.additional_fields)
+        }
+        NodeMetadata::Group(GroupMetadata::V2(_)) => document_block(alloc, storage, path),
+        NodeMetadata::Array(_) => Ok(None),
+    }
+}
+
+// What [`field_block`] reads, of fields that are taken over.
+fn taken_field_block(
+    alloc: Global,
+    mut fields: AdditionalFieldsV3,
+) -> Result<Option<Result<ConsolidatedMetadata, MetadataFault>>, StorageError>
+    ensures ok { IfOk result
+        (λ read. as_read read
+        ≡ option_map block_of (get_member (codes "consolidated_metadata") fields)) }
+    ensures err { IfErr result (λ e. e ≡ StorageError.OutOfMemory) }
+{
+    let Some(field) = fields.remove("consolidated_metadata") else {
+        return Ok(None);
+    };
+    known(ConsolidatedMetadata::from_owned_value(alloc, field.into_value()))
 }
 
 // What is read as the block in the fields of a version 3 group.

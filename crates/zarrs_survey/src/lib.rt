@@ -7,6 +7,7 @@ mod block;
 mod check;
 mod compare;
 mod finding;
+mod kept;
 mod keys;
 pub mod laws;
 mod survey;

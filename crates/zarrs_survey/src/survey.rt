@@ -73,7 +73,7 @@ impl Survey {
 }
 
 // The metadata of the base, or why it is no node.
-fn base_of<S: ReadableStorageTraits>(
+pub(crate) fn base_of<S: ReadableStorageTraits>(
     alloc: Global,
     storage: &S,
     path: &NodePath,
@@ -102,14 +102,14 @@ fn is_of_node(refusal: &NodeCreateError) -> bool
 }
 
 // Warns of each path that was passed over.
-fn warn_ignored<L: Log>(log: &L, ignored: &[NodePath]) {
+pub(crate) fn warn_ignored<L: Log>(log: &L, ignored: &[NodePath]) {
     for path in ignored {
         warn!(log; "Object at {path} is not recognized as a component of a Zarr hierarchy. Ignoring.");
     }
 }
 
 // The bad documents and the bad names, each in their order.
-fn sort_faults(
+pub(crate) fn sort_faults(
     alloc: Global,
     faults: Vec<(StorePrefix, NodeFault)>,
 ) -> Result<(BadDocuments, Vec<StorePrefix>), AllocError>

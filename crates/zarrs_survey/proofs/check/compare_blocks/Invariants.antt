@@ -1,8 +1,8 @@
-use Rattle.std.proofs.Common.{take}
-use Rattle.zarrs_survey.specs.StepsOfChecks.{AreFindingsOf}
-use Rattle.zarrs_survey.proofs.Checking.{IsDone}
+use Rattle.std.proofs.Common.{◌≡◌, ◌++◌}
+use Rattle.std.specs.Vec.Iter.{into_iter_items}
+use Rattle.zarrs_survey.specs.StepsOfChecks.{AreFindingsOf, shown_blocks}
 use Rattle.zarrs_survey.proofs.check.compare_blocks.Given as goal
 
--- what is told is told of the base and of the first nodes
-abbrev pub invariant-loop-path : goal.invariant-loop-path
-invariant-loop-path g l = AreFindingsOf (g.S.Store.contents l.storage) l.survey (IsDone l.survey (take l.path-index l.path-items)) l.found.items
+-- the blocks of before and those that are left are all, and what is told is told of those of before
+abbrev pub invariant-loop-group : goal.invariant-loop-group
+invariant-loop-group l = (l.yielded ++ into_iter_items l.group-iterator ≡ l.fn.blocks.items) × AreFindingsOf (shown_blocks l.yielded) l.nodes l.bad l.found.items

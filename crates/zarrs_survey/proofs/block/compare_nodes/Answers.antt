@@ -7,7 +7,7 @@ use Rattle.zarrs_node.proofs.Found.{listed_each}
 use Rattle.zarrs_survey.specs.Findings.{Pair}
 use Rattle.zarrs_survey.specs.StepsOfComparing.{ArePathFindings, IsRidOf}
 use Rattle.zarrs_survey.proofs.Blocks.{rid_valid, found_all}
-use Rattle.zarrs_survey.proofs.block.compare_block.Goals as goal
+use Rattle.zarrs_survey.proofs.block.compare_nodes.Goals as goal
 
 pub entries_of-requires : goal.entries_of-requires
 entries_of-requires c =
@@ -23,18 +23,18 @@ compare_entries-requires-clause-below c =
 
 pub compare_entries-requires-clause-nodes_below : goal.compare_entries-requires-clause-nodes_below
 compare_entries-requires-clause-nodes_below c =
-    λ e in'. ((each_below c.args.group.now c.args.survey.now.nodes e).0 (subst (λ (xs : List Pair). Contains xs e) c.nodes_below-nodes.ensures.pairs in')).1
+    λ e in'. ((each_below c.args.group.now c.args.nodes.now e).0 (subst (λ (xs : List Pair). Contains xs e) c.nodes_below-nodes.ensures.pairs in')).1
 
 pub returns : goal.returns
 returns c =
     let g = c.args.group.now in
     let B = c.args.block.metadata in
     let C = c.without_bad_keys-metadata.result in
-    let survey = c.args.survey.now in
-    let F : Path → Type 0 = λ q. (x : NodeCreateError) × Contains survey.bad_documents (q, x) in
+    let all = c.args.nodes.now in
+    let F : Path → Type 0 = λ q. (x : NodeCreateError) × Contains c.args.bad.now (q, x) in
     let rid : IsRidOf _ B C = subst (λ fs. IsRidOf fs B C) (c.deref.ensures.value ∙ c.in_ok-found.ensures.findings) c.without_bad_keys-metadata.ensures in
     let es = c.in_ok-entries.entries.items in
-    let told : ArePathFindings (Contains es) (Contains (pairs_below g survey.nodes)) F g c.in_ok-others.others.items =
+    let told : ArePathFindings (Contains es) (Contains (pairs_below g all)) F g c.in_ok-others.others.items =
     subst (λ (ns : List Pair). ArePathFindings (Contains es) (Contains ns) F g c.in_ok-others.others.items) c.nodes_below-nodes.ensures.pairs
     (subst (λ (xs : List Pair). ArePathFindings (Contains xs) (Contains c.nodes_below-nodes.result.now) F g c.in_ok-others.others.items) c.deref-2.ensures.value c.in_ok-others.ensures) in
-    found_all g B C survey.nodes F es c.in_ok-others.others.items c.in_ok-found.ensures.ascending rid c.in_ok-entries.ensures.entries told c.in_ok-found.found.items c.append.new.self.items c.in_ok-found.ensures.findings c.in_ok-append.ensures.items
+    found_all g B C all F es c.in_ok-others.others.items c.in_ok-found.ensures.ascending rid c.in_ok-entries.ensures.entries told c.in_ok-found.found.items c.append.new.self.items c.in_ok-found.ensures.findings c.in_ok-append.ensures.items
