@@ -104,16 +104,25 @@ const BLOCKS: &str = r#"
 {"kind":"inline"} => missing member metadata
 {"kind":"inline","metadata":[]} => bad member metadata
 {"kind":"inline","metadata":{"a":{"zarr_format":3}}} => bad member metadata
+{"kind":"inline","metadata":{"a":{"zarr_format":2},"b":{"zarr_format":4}}} => bad member metadata
 {"kind":"inline","metadata":{"a":{"attributes":1,"node_type":"group","zarr_format":3}}} => bad member metadata
 {"kind":"inline","metadata":{"a":{"attributes":{"n":1.5},"node_type":"group","zarr_format":3}}} => unsupported number
 {"kind":"inline","metadata":{},"more":1} => {"kind":"inline","metadata":{},"must_understand":false}
 {"kind":"inline","metadata":{"b":{"zarr_format":2},"a":{"node_type":"group","zarr_format":3}},"must_understand":false} => {"kind":"inline","metadata":{"a":{"node_type":"group","zarr_format":3},"b":{"zarr_format":2}},"must_understand":false}
 "#;
 
-// The text of the block that a JSON text is, or of the fault.
+// The text of the block that a JSON text is by reference, or of the fault.
 fn read_block(alloc: Global, text: &str) -> Result<String, AllocError> {
     match Value::from_slice(alloc, text.as_bytes()) {
         Ok(value) => block_or_fault(alloc, ConsolidatedMetadata::from_value(alloc, &value)),
+        Err(_) => String::from_str(alloc, "not JSON"),
+    }
+}
+
+// The text of the block that a JSON text is by value, or of the fault.
+fn read_owned_block(alloc: Global, text: &str) -> Result<String, AllocError> {
+    match Value::from_slice(alloc, text.as_bytes()) {
+        Ok(value) => block_or_fault(alloc, ConsolidatedMetadata::from_owned_value(alloc, value)),
         Err(_) => String::from_str(alloc, "not JSON"),
     }
 }
@@ -137,6 +146,11 @@ fn written(alloc: Global, block: &ConsolidatedMetadata) -> Result<String, AllocE
 #[test]
 fn blocks_are_read_or_refused_by_the_first_fault(rt: HostRuntime) -> Result<(), Fail> {
     check_rows(rt.alloc(), BLOCKS, read_block)
+}
+
+#[test]
+fn blocks_are_read_by_value_or_refused_by_the_first_fault(rt: HostRuntime) -> Result<(), Fail> {
+    check_rows(rt.alloc(), BLOCKS, read_owned_block)
 }
 
 // Texts of blocks, and the pretty layout of each.

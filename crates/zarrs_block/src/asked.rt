@@ -55,6 +55,15 @@ fn members_of(value: Value) -> Result<Map<String, Value>, MetadataFault>
     }
 }
 
+// The group or array that a whole node document is.
+#[tactic(auto, unfolding(zarrs_meta::specs::Node::node_of))]
+pub(crate) fn asked_owned_node(alloc: Global, value: Value) -> Result<NodeMetadata, MetadataFault>
+    requires { has_float (view value) ≡ false }
+    ensures { Gives (λ m. m) result (node_of (view value)) }
+{
+    NodeMetadata::from_members(alloc, members_of(value)?)
+}
+
 // The group or array that a whole node document is, whose members are copied.
 #[tactic(auto, unfolding(zarrs_meta::specs::Node::node_of))]
 pub(crate) fn asked_node(alloc: Global, value: &Value) -> Result<NodeMetadata, MetadataFault>

@@ -1,7 +1,8 @@
 //! The consolidated block of a group: the metadata of the nodes below it.
-ghost use Rattle.std.specs.Prelude.{◌≡◌, ◌≢◌, ℕ, List, false, None, [], length, IfOk, OnOk, OnErr, string_bytes, codes, map, option_copied};
+ghost use Rattle.std.specs.Prelude.{◌≡◌, ◌≢◌, ℕ, List, false, Ok, None, [], length, IfOk, OnOk, OnErr, Result, string_bytes, codes, map, option_copied};
 ghost use Rattle.std.specs.Result.{result_ok};
 ghost use Rattle.serde_json.specs.Data.{object};
+ghost use Rattle.serde_json.specs.Find.{as_object};
 ghost use Rattle.serde_json.specs.View.{view, members_view};
 ghost use Rattle.serde_json.specs.Written.{has_float, members_have_float};
 ghost use Rattle.zarrs_form.specs.Documents.{Gives, document_of, form_or_fault, required_member, optional_member};
@@ -9,11 +10,11 @@ ghost use Rattle.zarrs_form.specs.Forms.{is_nil};
 ghost use Rattle.zarrs_meta.specs.Node.{node_of};
 ghost use Rattle.zarrs_block.specs.Block.{IsAscending, node_at_key, put as put_node, inline, untrue, nodes_of, nodes, block_of, documents, block_tree};
 
-use crate::asked::asked_node;
+use crate::asked::{asked_node, asked_owned_node};
 use serde_json::{Map, Value, put};
 use std::alloc::{AllocError, Global};
 use std::marker::Model;
-use zarrs_form::{document_copy, member, members_have_float, put_text};
+use zarrs_form::{document, document_copy, member, members_have_float, put_text, take_member};
 use zarrs_meta::NodeMetadata;
 use zarrs_store::{MemberName, MetadataFault};
 
@@ -174,6 +175,27 @@ impl ConsolidatedMetadata {
         Ok(ConsolidatedMetadata { metadata })
     }
 
+    /// The block that a JSON value is, whose parts it takes over.
+    ///
+    /// # Errors
+    ///
+    /// As [`ConsolidatedMetadata::from_value`].
+    ///
+    /// Source: zarr-python, consolidated metadata of kind `inline`.
+    #[tactic(auto, unfolding(crate::specs::Block::block_of))]
+    pub fn from_owned_value(
+        alloc: Global,
+        value: Value,
+    ) -> Result<ConsolidatedMetadata, MetadataFault>
+        ensures { Gives (λ block. block.metadata) result (block_of (view value)) }
+    {
+        let members = document(value)?;
+        ask_kind(&members)?;
+        ask_not_understood(&members)?;
+        let metadata = owned_metadata_of(alloc, members)?;
+        Ok(ConsolidatedMetadata { metadata })
+    }
+
     /// The written form of the block: `kind`, `metadata`, and `must_understand` false.
     ///
     /// # Errors
@@ -289,13 +311,77 @@ fn nodes_of(
     Ok(all)
 }
 
+// The nodes of the member `metadata`, of members that are given away.
+fn owned_metadata_of(
+    alloc: Global,
+    mut members: Map<String, Value>,
+) -> Result<ConsolidatedMetadataMetadata, MetadataFault>
+    requires { document_of (object (members_view members.entries))
+        ≡ Ok (members_view members.entries) }
+    ensures { Gives (λ all. all) result
+        (required_member (codes "metadata") nodes (object (members_view members.entries))) }
+{
+    let documents = take_documents(&mut members)?;
+    owned_nodes_of(alloc, documents)
+}
+
+// Takes the member `metadata`, which has to be an object, out of the members.
+pub(crate) fn take_documents(
+    members: &mut Map<String, Value>,
+) -> Result<Map<String, Value>, MetadataFault>
+    ensures { Gives (λ documents. members_view documents.entries) result
+        (required_member (codes "metadata") as_object (object (members_view members.old.entries))) }
+{
+    let Some(value) = take_member(members, "metadata") else {
+        return Err(MetadataFault::MissingMember(MemberName::new("metadata")));
+    };
+    match value {
+        Value::Object(documents) => Ok(documents),
+        _ => Err(MetadataFault::BadMember(MemberName::new("metadata"))),
+    }
+}
+
+// The nodes that whole node documents are, at the same keys, both taken over.
+fn owned_nodes_of(
+    alloc: Global,
+    documents: Map<String, Value>,
+) -> Result<ConsolidatedMetadataMetadata, MetadataFault>
+    requires { members_have_float (members_view documents.entries) ≡ false }
+    ensures { Gives (λ all. all) result
+        (form_or_fault (codes "metadata") (nodes_of (members_view documents.entries))) }
+{
+    let mut all = ConsolidatedMetadataMetadata::new(alloc);
+    for (key, document) in documents {
+        all.insert(key, owned_node_of(alloc, document)?)?;
+    }
+    Ok(all)
+}
+
 // The node that a whole node document is.
 fn node_of(alloc: Global, document: &Value) -> Result<NodeMetadata, MetadataFault>
     requires { has_float (view document.now) ≡ false }
     ensures { Gives (λ m. m) result
         (form_or_fault (codes "metadata") (result_ok (node_of (view document.now)))) }
 {
-    match asked_node(alloc, document) {
+    as_entry(asked_node(alloc, document))
+}
+
+// The node that a whole node document is, which it takes over.
+fn owned_node_of(alloc: Global, document: Value) -> Result<NodeMetadata, MetadataFault>
+    requires { has_float (view document) ≡ false }
+    ensures { Gives (λ m. m) result
+        (form_or_fault (codes "metadata") (result_ok (node_of (view document)))) }
+{
+    as_entry(asked_owned_node(alloc, document))
+}
+
+// The node that an entry was read as, or the fault of the member `metadata` in the place of the entry's own.
+fn as_entry(read: Result<NodeMetadata, MetadataFault>) -> Result<NodeMetadata, MetadataFault>
+    ensures { (entry : Result NodeMetadata MetadataFault)
+        → Gives (λ m. m) read entry
+        → Gives (λ m. m) result (form_or_fault (codes "metadata") (result_ok entry)) }
+{
+    match read {
         Ok(node) => Ok(node),
         Err(MetadataFault::OutOfMemory) => Err(MetadataFault::OutOfMemory),
         Err(_) => Err(MetadataFault::BadMember(MemberName::new("metadata"))),

@@ -4,7 +4,6 @@ ghost use Rattle.std.specs.Result.{result_ok};
 ghost use Rattle.std.specs.List.{list_all};
 ghost use Rattle.std.specs.List.Sorted.{IsSortedBy};
 ghost use Rattle.serde_json.specs.Data.{object, Members};
-ghost use Rattle.serde_json.specs.Find.{as_object};
 ghost use Rattle.serde_json.specs.View.{view, members_view};
 ghost use Rattle.serde_json.specs.Written.{has_float, members_have_float};
 ghost use Rattle.zarrs_path.specs.Names.{is_name};
@@ -22,10 +21,10 @@ ghost use Rattle.zarrs_block.specs.declared.zmetadata.File.{File};
 ghost use Rattle.zarrs_block.specs.StepsOfZmetadata.{is_file, is_before, member_at, first_tree, tree_in, tree_among, gathered_at, read_with, read_files, IsFile, IsPlace, are_named, RefusesNames, HaveNoFloat, HoldsNodes, IsJoined, RunsAscend, RefusesTrees, zmetadata_taken};
 
 use crate::asked::{asked_array, asked_attributes, asked_group};
-use crate::consolidated::{ConsolidatedMetadata, ConsolidatedMetadataMetadata};
+use crate::consolidated::{ConsolidatedMetadata, ConsolidatedMetadataMetadata, take_documents};
 use serde_json::{Map, Value};
 use std::alloc::{AllocError, Global};
-use zarrs_form::{document, document_copy, member, take_member};
+use zarrs_form::{document, document_copy, member};
 use zarrs_meta::{ArrayMetadata, BoxedArray, GroupMetadata, NodeMetadata};
 use zarrs_path::NodeName;
 use zarrs_store::{MemberName, MetadataFault};
@@ -109,20 +108,6 @@ fn ask_consolidated_format(members: &Map<String, Value>) -> Result<(), MetadataF
     match format.as_u64() {
         Some(number) if number == 1 => Ok(()),
         _ => Err(MetadataFault::BadMember(MemberName::new("zarr_consolidated_format"))),
-    }
-}
-
-// Takes the member `metadata` out of the members.
-fn take_documents(members: &mut Map<String, Value>) -> Result<Map<String, Value>, MetadataFault>
-    ensures { Gives (λ documents. members_view documents.entries) result
-        (required_member (codes "metadata") as_object (object (members_view members.old.entries))) }
-{
-    let Some(value) = take_member(members, "metadata") else {
-        return Err(MetadataFault::MissingMember(MemberName::new("metadata")));
-    };
-    match value {
-        Value::Object(documents) => Ok(documents),
-        _ => Err(MetadataFault::BadMember(MemberName::new("metadata"))),
     }
 }
 
