@@ -21,13 +21,13 @@ use Rattle.zarrs_block.specs.declared.node_create_error.NodeCreateError.{NodeCre
 use Rattle.zarrs_block.specs.declared.node_create_error.NodeCreateError.TheVariants.{NodePathError, StorePrefixError, StorageError, MetadataVersionMismatch, MissingMetadata, OutOfMemory}
 use Rattle.zarrs_node.specs.OpeningNodes.{RefusesNode}
 use Rattle.zarrs_node.proofs.Counted.{contains_map, contains_mapped}
-use Rattle.zarrs_node.proofs.Found.{all_pairs_append, all_pairs_first, all_pairs_tail, listed_each, lists_from}
+use Rattle.zarrs_node.proofs.Found.{all_pairs_append, all_pairs_first, all_pairs_tail, listed_each}
 use Rattle.zarrs_node.proofs.Graft.{Contains-first, Contains-cons}
 use Rattle.zarrs_node.proofs.Order.{contains_cases}
 use Rattle.zarrs_node.proofs.Unique.{names_irrefl}
 use Rattle.zarrs_survey.specs.Surveys.{BadDocuments, BadNames}
 use Rattle.zarrs_survey.specs.Findings.{key_of}
-use Rattle.zarrs_survey.specs.Checks.{IsBaseFault, IsCheckOf, StandsBefore, AreBlockFindings}
+use Rattle.zarrs_survey.specs.Checks.{HasNode, IsBaseFault, IsCheckOf, IsCount, StandsBefore, AreBlockFindings}
 use Rattle.zarrs_survey.specs.declared.finding.Finding.{Finding}
 use Rattle.zarrs_survey.specs.declared.check.Check.{Check}
 use Rattle.zarrs_check.specs.declared.remark.Remark.{Remark}

@@ -1,5 +1,5 @@
 -- What is told of blocks, one after another, is what there is to tell of all blocks.
-use Rattle.std.proofs.Common.{◌≡◌, ◌↔◌, ◌⊎◌, inl, inr, ⊎_elim, ℕ, ◌+◌, ◌<◌, true, List, [], ◌∷◌, ◌++◌, get_or, length, map, refl, sym, ap, subst, ◌∙◌, arith, Contains, AllPairs, Less, Option, Some, None, Result, Ok, Err}
+use Rattle.std.proofs.Common.{◌≡◌, ◌↔◌, inl, inr, ⊎_elim, true, List, [], ◌∷◌, ◌++◌, get_or, refl, sym, ap, subst, ◌∙◌, arith, Contains, Less, Option, Some, None, Result, Ok, Err}
 use Rattle.std.proofs.lemmas.List.{map-append}
 use Rattle.std.proofs.lemmas.List.Elements.{Contains-append_left, Contains-append_right, Contains-append_cases, Contains-push, Contains-push_cases, Contains-get_or}
 use Rattle.zarrs_fault.specs.declared.fault.MetadataFault.{MetadataFault}
@@ -19,7 +19,7 @@ use Rattle.zarrs_node.proofs.Keeps.{below_later, all_pairs_across}
 use Rattle.zarrs_node.proofs.Order.{contains_cases}
 use Rattle.zarrs_node.proofs.Unique.{names_irrefl}
 use Rattle.zarrs_hierarchy.proofs.Opening.{node_one}
-use Rattle.zarrs_survey.specs.Checks.{block_read, HasNode, HasBadPath, fault_of_block, IsToldOf, StandsBefore, IsBlockFinding, AreBlockFindings}
+use Rattle.zarrs_survey.specs.Checks.{block_read, HasNode, HasBadPath, fault_of_block, IsToldOf, StandsBefore, AreBlockFindings}
 use Rattle.zarrs_survey.specs.Findings.{Pair, AreFindings}
 use Rattle.zarrs_survey.specs.StepsOfChecks.{ReadBlock, GroupsAscend, shown_block, shown_blocks, AreTold, HasBad, AreFindingsOf}
 use Rattle.zarrs_survey.specs.Surveys.{IsBase, BadDocuments, IsSurveyOf}
@@ -187,21 +187,20 @@ module _ {S : Type 0} (s : Contents) (v : MetadataRetrieveVersion) (b : Path) (a
   of_kept blocks nodes found are same told = record {
     exact = λ f. (
       λ in'.
-      let w = (told.exact f).0 in' in
-      let has : HasBlock s all (f.group, w.0) = (each_block s all (f.group, w.0)).0 (subst (λ (xs : List ReadBlock). Contains xs (f.group, w.0)) (are ∙ kept.shown) w.1) in
-      (
-        has.0,
-        (each (f.group, has.0)).0 has.1,
-        (told_each f.group has.0 w.0 has.1 has.2 f).0 (subst (λ (xs : List Pair). IsToldOf (Some w.0) (Contains xs) (HasBad bad) f.group f) same w.2),
-      ),
+          let w = (told.exact f).0 in' in
+          let has : HasBlock s all (f.group, w.0) = (each_block s all (f.group, w.0)).0 (subst (λ (xs : List ReadBlock). Contains xs (f.group, w.0)) (are ∙ kept.shown) w.1) in (
+            has.0,
+            (each (f.group, has.0)).0 has.1,
+            (told_each f.group has.0 w.0 has.1 has.2 f).0 (subst (λ (xs : List Pair). IsToldOf (Some w.0) (Contains xs) (HasBad bad) f.group f) same w.2),
+          ),
       λ w.
-      let r = read_some (block_read s f.group w.0) (Nodes s v true b) (HasBadPath s v b) f.group f w.2 in
-      let in' = (each (f.group, w.0)).1 w.1 in
-      (told.exact f).1 (
-        r.0,
-        subst (λ (xs : List ReadBlock). Contains xs (f.group, r.0)) (sym (are ∙ kept.shown)) ((each_block s all (f.group, r.0)).1 (w.0, in', r.1)),
-        subst (λ (xs : List Pair). IsToldOf (Some r.0) (Contains xs) (HasBad bad) f.group f) (sym same) ((told_each f.group w.0 r.0 in' r.1 f).1 w.2),
-      ),
+          let r = read_some (block_read s f.group w.0) (Nodes s v true b) (HasBadPath s v b) f.group f w.2 in
+          let in' = (each (f.group, w.0)).1 w.1 in
+          (told.exact f).1 (
+            r.0,
+            subst (λ (xs : List ReadBlock). Contains xs (f.group, r.0)) (sym (are ∙ kept.shown)) ((each_block s all (f.group, r.0)).1 (w.0, in', r.1)),
+            subst (λ (xs : List Pair). IsToldOf (Some r.0) (Contains xs) (HasBad bad) f.group f) (sym same) ((told_each f.group w.0 r.0 in' r.1 f).1 w.2),
+          ),
     );
     ascend = told.ascend;
   }

@@ -1,12 +1,11 @@
 -- What a check keeps of nodes in the order of their paths: the blocks of all, and each node below a group with a block that reads.
-use Rattle.std.proofs.Common.{◌≡◌, ◌≢◌, ◌↔◌, ◌⊎◌, inl, inr, ⊎_elim, ℕ, ◌+◌, ◌<◌, Bool, true, List, [], ◌∷◌, ◌++◌, get_or, length, map, refl, sym, ap, subst, ◌∙◌, arith, append-nil, append_assoc, Contains, AllPairs, Less, Option, Some, None, Result, Ok, Err}
+use Rattle.std.proofs.Common.{◌≡◌, ◌≢◌, ◌↔◌, ◌⊎◌, inl, inr, ⊎_elim, Bool, true, List, [], ◌∷◌, ◌++◌, get_or, length, refl, sym, ap, subst, ◌∙◌, arith, append-nil, append_assoc, Contains, AllPairs, Less, Option, Some, None, Result, Ok, Err}
 use Rattle.std.specs.Prelude.{IfErr}
 use Rattle.std.proofs.lemmas.List.{length_push}
 use Rattle.std.proofs.lemmas.List.Elements.{Contains-append_left, Contains-append_right, Contains-append_cases, Contains-push, Contains-push_cases, Contains-get_or}
-use Rattle.std.proofs.lemmas.List.Kept.{AllPairs-cons}
 use Rattle.std.proofs.lemmas.List.Quantifiers.{all_pairs_push}
 use Rattle.zarrs_fault.specs.declared.fault.MetadataFault.{MetadataFault}
-use Rattle.zarrs_store.specs.Contents.{Contents, Lists}
+use Rattle.zarrs_store.specs.Contents.{Contents}
 use Rattle.zarrs_store.specs.Faults.{IsStoreError}
 use Rattle.zarrs_store.specs.declared.storage_error.StorageError.{StorageError}
 use Rattle.zarrs_path.specs.Paths.{Path, path_cmp, IsBelow}

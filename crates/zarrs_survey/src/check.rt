@@ -188,8 +188,7 @@ pub(crate) fn take_block<S: ReadableStorageTraits>(
         NodeMetadata::Group(GroupMetadata::V3(group)) => {
             taken_field_block(alloc, group.additional_fields)
         }
-        NodeMetadata::Group(GroupMetadata::V2(_)) => document_block(alloc, storage, path),
-        NodeMetadata::Array(_) => Ok(None),
+        other => read_block(alloc, storage, path, &other),
     }
 }
 

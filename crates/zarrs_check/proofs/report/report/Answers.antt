@@ -1,4 +1,4 @@
-use Rattle.std.proofs.Common.{◌∙◌}
+use Rattle.std.proofs.Common.{refl, ◌∙◌}
 use Rattle.zarrs_check.proofs.Telling.{report_is}
 use Rattle.zarrs_check.proofs.report.report.Goals as goal
 

@@ -22,8 +22,8 @@ loop-group-preserved c =
     let told = c.in_ok-tell_block.ensures in (
       append_assoc l.yielded (x ∷ []) rest ∙ whole,
       subst (λ (bs : List ReadBlock). AreFindingsOf bs nodes bad c.tell_block.new.found.items) (sym (shown_more l.yielded x))
-      (of_more nodes bad (shown_blocks l.yielded) (x.0, shown_block x.1) l.found.items told.0 c.tell_block.new.found.items
-      (shown_before l.yielded rest x (subst (λ xs. GroupsAscend (shown_blocks xs)) (sym whole) c.requires)) told.1 told.2 l.invariant.1),
+          (of_more nodes bad (shown_blocks l.yielded) (x.0, shown_block x.1) l.found.items told.0 c.tell_block.new.found.items
+          (shown_before l.yielded rest x (subst (λ xs. GroupsAscend (shown_blocks xs)) (sym whole) c.requires)) told.1 told.2 l.invariant.1),
     )
 
 pub returns : goal.returns

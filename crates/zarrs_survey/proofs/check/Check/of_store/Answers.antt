@@ -1,14 +1,14 @@
-use Rattle.std.proofs.Common.{◌≡◌, refl, ap, sym, subst, ◌∙◌, Ok, Err}
+use Rattle.std.proofs.Common.{refl, ap, sym, subst}
 use Rattle.std.specs.Prelude.{IfErr}
 use Rattle.std.proofs.lemmas.Result.{err_from_is_err_and}
-use Rattle.zarrs_store.specs.Contents.{Contents, Lists}
+use Rattle.zarrs_store.specs.Contents.{Lists}
 use Rattle.zarrs_store.specs.Faults.{IsStoreError}
 use Rattle.zarrs_node.specs.Faults.{PathsAscend}
 use Rattle.zarrs_survey.specs.Checks.{IsBaseFault}
 use Rattle.zarrs_survey.specs.StepsOfChecks.{GroupsAscend, shown_blocks}
 use Rattle.zarrs_survey.specs.Surveys.{BadDocuments, BadNames}
 use Rattle.zarrs_survey.proofs.Checking.{of_kept}
-use Rattle.zarrs_survey.proofs.Keeping.{HasAll, has_all, blocks_ascend, nodes_counted, refused_so, base_faulted, store_excused}
+use Rattle.zarrs_survey.proofs.Keeping.{has_all, blocks_ascend, nodes_counted, refused_so, base_faulted}
 use Rattle.zarrs_survey.proofs.Surveying.{have_paths, have_apart, lists_documents, lists_names, names_ascend}
 use Rattle.zarrs_survey.proofs.check.Check.of_store.Goals as goal
 

@@ -1,4 +1,4 @@
-use Rattle.std.proofs.Common.{refl, sym, ap, subst}
+use Rattle.std.proofs.Common.{refl, sym, subst}
 use Rattle.zarrs_node.specs.Sinks.{TakesAll}
 use Rattle.zarrs_survey.specs.StepsOfKeeping.{Keeps, base_nodes}
 use Rattle.zarrs_survey.proofs.kept.KeptNodes.take_base.Goals as goal

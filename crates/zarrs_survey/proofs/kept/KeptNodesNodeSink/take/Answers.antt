@@ -1,4 +1,4 @@
-use Rattle.std.proofs.Common.{ap, sym, subst, ◌∙◌}
+use Rattle.std.proofs.Common.{sym, subst, ◌∙◌}
 use Rattle.std.specs.Prelude.{IfErr}
 use Rattle.zarrs_store.specs.Faults.{IsStoreError}
 use Rattle.zarrs_survey.proofs.kept.KeptNodesNodeSink.take.Goals as goal
