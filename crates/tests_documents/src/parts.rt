@@ -205,6 +205,12 @@ fn field_text(field: &AdditionalFieldV3, alloc: Global) -> Result<String, AllocE
     format!(in alloc; "{text} {}", field.must_understand())
 }
 
+// The same, of a copy whose value is taken out.
+fn field_taken(field: &AdditionalFieldV3, alloc: Global) -> Result<String, AllocError> {
+    let text = field.clone()?.into_value().to_string(alloc)?;
+    format!(in alloc; "{text} {}", field.must_understand())
+}
+
 fn field_copy(field: &AdditionalFieldV3, alloc: Global) -> Result<String, AllocError> {
     said(alloc, field.try_clone(alloc), field_text)
 }
@@ -213,12 +219,14 @@ fn field_clone(field: &AdditionalFieldV3, alloc: Global) -> Result<String, Alloc
     said(alloc, field.clone(), field_text)
 }
 
-// What a new field holds, by its copy and by its clone.
+// What a new field holds, by its copy, by its clone and by its value that is taken out.
 fn new_field_says(alloc: Global, given: &str, understood: bool) -> Result<String, AllocError> {
     let field = AdditionalFieldV3::new(alloc, value_of(alloc, given), understood);
     let copy = said(alloc, field, field_copy);
     let field = AdditionalFieldV3::new(alloc, value_of(alloc, given), understood);
-    agreed(alloc, copy, said(alloc, field, field_clone))
+    let clone = agreed(alloc, copy, said(alloc, field, field_clone));
+    let field = AdditionalFieldV3::new(alloc, value_of(alloc, given), understood);
+    agreed(alloc, clone, said(alloc, field, field_taken))
 }
 
 // One field, of this name and value.

@@ -27,7 +27,7 @@ use Rattle.zarrs_node.proofs.Order.{contains_cases}
 use Rattle.zarrs_node.proofs.Unique.{names_irrefl}
 use Rattle.zarrs_survey.specs.Surveys.{BadDocuments, BadNames}
 use Rattle.zarrs_survey.specs.Findings.{key_of}
-use Rattle.zarrs_survey.specs.Checks.{HasNode, IsBaseFault, IsCheckOf, IsCount, StandsBefore, AreBlockFindings}
+use Rattle.zarrs_survey.specs.Checks.{HasNode, IsBaseOutcome, IsCheckOf, IsCount, StandsBefore, AreBlockFindings}
 use Rattle.zarrs_survey.specs.declared.finding.Finding.{Finding}
 use Rattle.zarrs_survey.specs.declared.check.Check.{Check}
 use Rattle.zarrs_check.specs.declared.remark.Remark.{Remark}
@@ -161,13 +161,13 @@ module _ (s : Contents) (b : Path) where
   not_refused m e means h = ⊎_elim (λ none. subst IsNode (sym means ∙ none.0) tt) (λ is. subst IsNode (sym means ∙ is) tt) h
 
   -- what refuses the base is told of it
-  base_told : (base : Result (Unit {0}) NodeCreateError) (e : NodeCreateError) → IsBaseFault s Default b base → RefusesNode s Default b e → Contains (base_remarks b base) (own_remark b (error_text e))
+  base_told : (base : Result (Unit {0}) NodeCreateError) (e : NodeCreateError) → IsBaseOutcome s Default b base → RefusesNode s Default b e → Contains (base_remarks b base) (own_remark b (error_text e))
   base_told (Ok u) e is h = absurd (not_refused is.0 e is.1 h)
   base_told (Err d) e is h = subst (λ t. Contains (own_remark b (error_text d) ∷ []) (own_remark b t)) (refused_text d e is h) (Contains-first (own_remark b (error_text d)) [])
 
   -- the error of a base that is none refuses it
-  base_refuses : (base : Result (Unit {0}) NodeCreateError) (e : NodeCreateError) → IsBaseFault s Default b base → base ≡ Err e → RefusesNode s Default b e
-  base_refuses base e is same = subst (IsBaseFault s Default b) same is
+  base_refuses : (base : Result (Unit {0}) NodeCreateError) (e : NodeCreateError) → IsBaseOutcome s Default b base → base ≡ Err e → RefusesNode s Default b e
+  base_refuses base e is same = subst (IsBaseOutcome s Default b) same is
 
   -- of the base at most one fault is told
   base_once : (base : Result (Unit {0}) NodeCreateError) → AllPairs (λ q r. q ≢ r) (base_remarks b base)

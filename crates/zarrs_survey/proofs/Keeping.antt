@@ -28,10 +28,10 @@ use Rattle.zarrs_node.proofs.Keeps.{all_pairs_across, below_later, below_trans, 
 use Rattle.zarrs_node.proofs.Order.{contains_cases, shown_ascend}
 use Rattle.zarrs_node.proofs.Unique.{names_irrefl}
 use Rattle.zarrs_hierarchy.proofs.Opening.{node_one}
-use Rattle.zarrs_survey.specs.Checks.{block_read, HasNode, IsBaseFault, IsCount}
+use Rattle.zarrs_survey.specs.Checks.{block_read, HasNode, IsBaseOutcome, IsCount}
 use Rattle.zarrs_survey.specs.Findings.{Pair, HasPath}
 use Rattle.zarrs_survey.specs.StepsOfChecks.{ReadBlock, shown_blocks, GroupsAscend}
-use Rattle.zarrs_survey.specs.StepsOfKeeping.{IsNew, IsUnder, Keeps, KeepsNode, block_at, blocks_of, top_after, base_nodes, base_fault}
+use Rattle.zarrs_survey.specs.StepsOfKeeping.{IsNew, IsUnder, Keeps, KeepsNode, named_block, blocks_of, top_after, base_nodes, base_fault}
 use Rattle.zarrs_survey.specs.Surveys.{IsBase}
 use Rattle.zarrs_survey.specs.declared.kept.KeptNodes.{KeptNodes}
 
@@ -42,15 +42,15 @@ abbrev pub HasBlock : Contents → List Pair → ReadBlock → Type 0
 HasBlock s es b = (m : NodeMetadata) × Contains es (b.0, m) × (block_read s b.0 m ≡ Some b.1)
 
 -- what was read of one node stands with its path
-at_path : (p : Path) (o : Option (Result Block MetadataFault)) (b : ReadBlock) → Contains (block_at p o) b → (p ≡ b.0) × (o ≡ Some b.1)
+at_path : (p : Path) (o : Option (Result Block MetadataFault)) (b : ReadBlock) → Contains (named_block p o) b → (p ≡ b.0) × (o ≡ Some b.1)
 at_path p None b h = absurd (omega (arith, h.1))
 at_path p (Some r) b h = ⊎_elim
     (λ same. (ap (λ x. x.0) same, ap (λ x. Some x.1) same))
     (λ none. absurd (omega (arith, none.1)))
     (contains_cases (p, r) [] b h)
 
-path_at : (p : Path) (o : Option (Result Block MetadataFault)) (r : Result Block MetadataFault) → o ≡ Some r → Contains (block_at p o) (p, r)
-path_at p o r is = subst (λ x. Contains (block_at p x) (p, r)) (sym is) (Contains-first (p, r) [])
+path_at : (p : Path) (o : Option (Result Block MetadataFault)) (r : Result Block MetadataFault) → o ≡ Some r → Contains (named_block p o) (p, r)
+path_at p o r is = subst (λ x. Contains (named_block p x) (p, r)) (sym is) (Contains-first (p, r) [])
 
 -- the blocks of nodes are those that their nodes have
 block_in : (s : Contents) (es : List Pair) (b : ReadBlock) → Contains (blocks_of s es) b → HasBlock s es b
@@ -60,7 +60,7 @@ block_in s (e ∷ es) b h = ⊎_elim
     let w = at_path e.0 (block_read s e.0 e.1) b here in
     (e.1, subst (λ p. Contains (e ∷ es) (p, e.1)) w.0 (Contains-first e es), subst (λ p. block_read s p e.1 ≡ Some b.1) w.0 w.1))
     (λ later. let w = block_in s es b later in (w.0, Contains-cons e es (b.0, w.0) w.1, w.2))
-    (Contains-append_cases (block_at e.0 (block_read s e.0 e.1)) (blocks_of s es) b h)
+    (Contains-append_cases (named_block e.0 (block_read s e.0 e.1)) (blocks_of s es) b h)
 
 in_blocks : (s : Contents) (es : List Pair) (b : ReadBlock) → HasBlock s es b → Contains (blocks_of s es) b
 in_blocks s [] b h = absurd (omega (arith, h.1.1))
@@ -68,22 +68,22 @@ in_blocks s (e ∷ es) b h = ⊎_elim
     (λ same.
     let at : e.0 ≡ b.0 = ap (λ (x : Pair). x.0) same in
     let is : block_read s e.0 e.1 ≡ Some b.1 = ap (λ (x : Pair). block_read s x.0 x.1) same ∙ h.2 in
-    Contains-append_left (block_at e.0 (block_read s e.0 e.1)) (blocks_of s es) b (subst (λ p. Contains (block_at e.0 (block_read s e.0 e.1)) (p, b.1)) at (path_at e.0 (block_read s e.0 e.1) b.1 is)))
-    (λ later. Contains-append_right (block_at e.0 (block_read s e.0 e.1)) (blocks_of s es) b (in_blocks s es b (h.0, later, h.2)))
+    Contains-append_left (named_block e.0 (block_read s e.0 e.1)) (blocks_of s es) b (subst (λ p. Contains (named_block e.0 (block_read s e.0 e.1)) (p, b.1)) at (path_at e.0 (block_read s e.0 e.1) b.1 is)))
+    (λ later. Contains-append_right (named_block e.0 (block_read s e.0 e.1)) (blocks_of s es) b (in_blocks s es b (h.0, later, h.2)))
     (contains_cases e es (b.0, h.0) h.1)
 
 pub each_block : (s : Contents) (es : List Pair) (b : ReadBlock) → Contains (blocks_of s es) b ↔ HasBlock s es b
 each_block s es b = (block_in s es b, in_blocks s es b)
 
 -- of one node at most one
-one_block : (p : Path) (o : Option (Result Block MetadataFault)) → GroupsAscend (block_at p o)
+one_block : (p : Path) (o : Option (Result Block MetadataFault)) → GroupsAscend (named_block p o)
 one_block p None = λ i j d l m. absurd (omega (arith, m))
 one_block p (Some r) = λ i j d l m. absurd (omega (arith, l, m))
 
 -- they ascend as the nodes do
 pub blocks_ascend : (s : Contents) (es : List Pair) → Ascend es → GroupsAscend (blocks_of s es)
 blocks_ascend s [] up = λ i j d l m. absurd (omega (arith, m))
-blocks_ascend s (e ∷ es) up = all_pairs_append (λ (b c : ReadBlock). path_cmp b.0 c.0 ≡ Less) (block_at e.0 (block_read s e.0 e.1)) (blocks_of s es)
+blocks_ascend s (e ∷ es) up = all_pairs_append (λ (b c : ReadBlock). path_cmp b.0 c.0 ≡ Less) (named_block e.0 (block_read s e.0 e.1)) (blocks_of s es)
     (one_block e.0 (block_read s e.0 e.1))
     (blocks_ascend s es (all_pairs_tail (λ (d x : Pair). path_cmp d.0 x.0 ≡ Less) e es up))
     (λ b c first second.
@@ -92,11 +92,11 @@ blocks_ascend s (e ∷ es) up = all_pairs_append (λ (b c : ReadBlock). path_cmp
     subst (λ p. path_cmp p c.0 ≡ Less) at (all_pairs_first (λ (d x : Pair). path_cmp d.0 x.0 ≡ Less) e es up (c.0, w.0) w.1))
 
 -- those of one node more come last
-blocks_more : (s : Contents) (es : List Pair) (e : Pair) → blocks_of s (es ++ e ∷ []) ≡ blocks_of s es ++ block_at e.0 (block_read s e.0 e.1)
-blocks_more s [] e = append-nil (block_at e.0 (block_read s e.0 e.1))
+blocks_more : (s : Contents) (es : List Pair) (e : Pair) → blocks_of s (es ++ e ∷ []) ≡ blocks_of s es ++ named_block e.0 (block_read s e.0 e.1)
+blocks_more s [] e = append-nil (named_block e.0 (block_read s e.0 e.1))
 blocks_more s (d ∷ es) e =
-    ap (λ x. block_at d.0 (block_read s d.0 d.1) ++ x) (blocks_more s es e)
-    ∙ sym (append_assoc (block_at d.0 (block_read s d.0 d.1)) (blocks_of s es) (block_at e.0 (block_read s e.0 e.1)))
+    ap (λ x. named_block d.0 (block_read s d.0 d.1) ++ x) (blocks_more s es e)
+    ∙ sym (append_assoc (named_block d.0 (block_read s d.0 d.1)) (blocks_of s es) (named_block e.0 (block_read s e.0 e.1)))
 
 -- ---- one node after another
 
@@ -175,7 +175,7 @@ module _ {S : Type 0} (s : Contents) where
       kept_under : HasKept (done ++ e ∷ []) z
       kept_under = record {
         count = let long = length_push done e in omega (arith, long, step.count, h.count);
-        shown = step.blocks ∙ (ap (λ x. x ++ block_at e.0 (block_read s e.0 e.1)) h.shown ∙ sym (blocks_more s done e));
+        shown = step.blocks ∙ (ap (λ x. x ++ named_block e.0 (block_read s e.0 e.1)) h.shown ∙ sym (blocks_more s done e));
         ascend = subst Ascend (sym more) (all_pairs_push (λ (d x : Pair). path_cmp d.0 x.0 ≡ Less) k.nodes.items e h.ascend
             (λ i d lt. behind (get_or k.nodes.items i d) (h.sound (get_or k.nodes.items i d) (Contains-get_or k.nodes.items i d lt))));
         sound = λ d in'. ⊎_elim
@@ -216,7 +216,7 @@ module _ {S : Type 0} (s : Contents) where
       kept_beside : HasKept (done ++ e ∷ []) z
       kept_beside = record {
         count = let long = length_push done e in omega (arith, long, step.count, h.count);
-        shown = step.blocks ∙ (ap (λ x. x ++ block_at e.0 (block_read s e.0 e.1)) h.shown ∙ sym (blocks_more s done e));
+        shown = step.blocks ∙ (ap (λ x. x ++ named_block e.0 (block_read s e.0 e.1)) h.shown ∙ sym (blocks_more s done e));
         ascend = subst Ascend (sym same) h.ascend;
         sound = λ d in'. Contains-append_left done (e ∷ []) d (h.sound d (subst (λ (xs : List Pair). Contains xs d) same in'));
         top = λ t is. top_next (block_read s e.0 e.1) t (sym next ∙ is);
@@ -360,6 +360,6 @@ module _ {S : Type 0} (contents : S → Contents) (can_fail : S → Bool) where
     refused_so new = failed_so k all_nodes z took_all (subst (λ o. IfErr o (IsStoreError (can_fail k.storage.now))) (sym new.outcome) tt)
 
 -- why the base is none
-pub base_faulted : (s : Contents) (v : MetadataRetrieveVersion) (b : Path) (r : Result NodeMetadata NodeCreateError) → IsBase s v b r → IsBaseFault s v b (base_fault r)
+pub base_faulted : (s : Contents) (v : MetadataRetrieveVersion) (b : Path) (r : Result NodeMetadata NodeCreateError) → IsBase s v b r → IsBaseOutcome s v b (base_fault r)
 base_faulted s v b (Ok n) means = (n, means)
 base_faulted s v b (Err e) refused = refused

@@ -79,9 +79,9 @@ pub record AreBlockFindings (s : Contents) (v : MetadataRetrieveVersion) (b : Pa
 -- ---- all that a check has
 
 -- the base means a node, or it is refused with this error: it means nothing, or is bad
-abbrev pub IsBaseFault : Contents → MetadataRetrieveVersion → Path → Result (Unit {0}) NodeCreateError → Type 0
-IsBaseFault s v b (Ok u) = (m : NodeMetadata) × (meaning s v b ≡ node m)
-IsBaseFault s v b (Err e) = RefusesNode s v b e
+abbrev pub IsBaseOutcome : Contents → MetadataRetrieveVersion → Path → Result (Unit {0}) NodeCreateError → Type 0
+IsBaseOutcome s v b (Ok u) = (m : NodeMetadata) × (meaning s v b ≡ node m)
+IsBaseOutcome s v b (Err e) = RefusesNode s v b e
 
 -- n pairs have P
 abbrev pub IsCount : (Pair → Type 0) → ℕ → Type 0
@@ -90,7 +90,7 @@ IsCount P n = (es : List Pair) × Lists P es × (n ≡ length es)
 -- the check has exactly what is bad at b and below it: the fault of the base, the ignored paths, the bad documents and the bad names; and the number of the nodes
 pub record IsCheckOf (s : Contents) (v : MetadataRetrieveVersion) (b : Path) (c : Check) : Type 0 where
   pub path : c.path ≡ b
-  pub base : IsBaseFault s v b c.base
+  pub base : IsBaseOutcome s v b c.base
   pub nodes : IsCount (HasNode s v b) c.nodes
   pub ignored : Lists (Ignored s v true b) c.ignored.items
   pub ignored_ascend : PathsAscend c.ignored.items

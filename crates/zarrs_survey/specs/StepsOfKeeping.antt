@@ -23,14 +23,14 @@ base_fault (Ok m) = Ok tt
 base_fault (Err e) = Err e
 
 -- what was read as the block of a node, if it has one, with the path
-abbrev pub block_at : Path → Option (Result Block MetadataFault) → List ReadBlock
-block_at p None = []
-block_at p (Some r) = (p, r) ∷ []
+abbrev pub named_block : Path → Option (Result Block MetadataFault) → List ReadBlock
+named_block p None = []
+named_block p (Some r) = (p, r) ∷ []
 
 -- what was read as the blocks of nodes, in their order
 abbrev pub blocks_of : Contents → List Pair → List ReadBlock
 blocks_of s [] = []
-blocks_of s (e ∷ es) = block_at e.0 (block_read s e.0 e.1) ++ blocks_of s es
+blocks_of s (e ∷ es) = named_block e.0 (block_read s e.0 e.1) ++ blocks_of s es
 
 -- p is below the path, where there is one
 abbrev pub IsUnder : Option Path → Path → Type 0
@@ -62,21 +62,21 @@ module _ {S : Type 0} where
   -- the block of a node was put behind the others, and the node behind the other nodes
   pub record KeepsUnder (s : Contents) (old : KeptNodes S) (e : Pair) (new : KeptNodes S) : Type 0 where
     pub count : new.count ≡ old.count
-    pub blocks : shown_blocks new.blocks.items ≡ shown_blocks old.blocks.items ++ block_at e.0 (block_read s e.0 e.1)
+    pub blocks : shown_blocks new.blocks.items ≡ shown_blocks old.blocks.items ++ named_block e.0 (block_read s e.0 e.1)
     pub top : new.top ≡ old.top
     pub nodes : new.nodes.items ≡ old.nodes.items ++ e ∷ []
 
   -- the block of a node was put behind the others, and where it reads the node is the last group whose nodes are kept
   pub record KeepsBeside (s : Contents) (old : KeptNodes S) (e : Pair) (new : KeptNodes S) : Type 0 where
     pub count : new.count ≡ old.count
-    pub blocks : shown_blocks new.blocks.items ≡ shown_blocks old.blocks.items ++ block_at e.0 (block_read s e.0 e.1)
+    pub blocks : shown_blocks new.blocks.items ≡ shown_blocks old.blocks.items ++ named_block e.0 (block_read s e.0 e.1)
     pub top : new.top ≡ top_after old.top e.0 (block_read s e.0 e.1)
     pub nodes : new.nodes.items ≡ old.nodes.items
 
   -- a node below the last group whose nodes are kept is kept, and of any other its block alone
   pub record KeepsNode (s : Contents) (old : KeptNodes S) (e : Pair) (new : KeptNodes S) : Type 0 where
     pub count : new.count ≡ old.count + 1
-    pub blocks : shown_blocks new.blocks.items ≡ shown_blocks old.blocks.items ++ block_at e.0 (block_read s e.0 e.1)
+    pub blocks : shown_blocks new.blocks.items ≡ shown_blocks old.blocks.items ++ named_block e.0 (block_read s e.0 e.1)
     pub nodes : (IsUnder old.top e.0 × (new.top ≡ old.top) × (new.nodes.items ≡ old.nodes.items ++ e ∷ []))
         ⊎ ((IsUnder old.top e.0 → ⊥) × (new.top ≡ top_after old.top e.0 (block_read s e.0 e.1)) × (new.nodes.items ≡ old.nodes.items))
 

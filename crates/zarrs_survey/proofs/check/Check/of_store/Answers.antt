@@ -4,7 +4,7 @@ use Rattle.std.proofs.lemmas.Result.{err_from_is_err_and}
 use Rattle.zarrs_store.specs.Contents.{Lists}
 use Rattle.zarrs_store.specs.Faults.{IsStoreError}
 use Rattle.zarrs_node.specs.Faults.{PathsAscend}
-use Rattle.zarrs_survey.specs.Checks.{IsBaseFault}
+use Rattle.zarrs_survey.specs.Checks.{IsBaseOutcome}
 use Rattle.zarrs_survey.specs.StepsOfChecks.{GroupsAscend, shown_blocks}
 use Rattle.zarrs_survey.specs.Surveys.{BadDocuments, BadNames}
 use Rattle.zarrs_survey.proofs.Checking.{of_kept}
@@ -53,7 +53,7 @@ returns-clause-surveyed g c =
     c.in_ok-outcome.was c.in_ok-base.ensures.base in
     record {
       path = c.in_ok-try_clone-2.ensures.ok;
-      base = subst (IsBaseFault s v b) (sym c.in_ok-base-2.ensures.fault) (base_faulted s v b c.in_ok-base.base c.in_ok-base.ensures.base);
+      base = subst (IsBaseOutcome s v b) (sym c.in_ok-base-2.ensures.fault) (base_faulted s v b c.in_ok-base.base c.in_ok-base.ensures.base);
       nodes = nodes_counted s v b c.walk_past_faults.new.sink h;
       ignored = w.ignored;
       ignored_ascend = w.ignored_ascend;
