@@ -31,7 +31,7 @@ use Rattle.zarrs_meta.specs.declared.node.NodeMetadata.{NodeMetadata}
 use Rattle.zarrs_block.specs.Block.{Block, IsAscending, node_at_key, put}
 use Rattle.zarrs_block.specs.Small.{is_document_v2, stretches, counted_members}
 use Rattle.zarrs_block.specs.Zmetadata.{one, before_last, documents_below, small_block, zmetadata_members, zmetadata_of, HoldsStore, IsClean, IsZmetadataFault}
-use Rattle.zarrs_block.specs.StepsOfZmetadata.{file_name, is_file, member_at, first_tree, paths, run_tree, tree_among, RunsAscend, read_files, tree_in, is_below_group, IsPlace, are_named, RefusesNames, HaveNoFloat, HoldsNodes, RefusesTrees, zmetadata_taken}
+use Rattle.zarrs_block.specs.StepsOfZmetadata.{file_name, is_file, member_at, first_tree, paths, run_tree, tree_among, RunsAscend, read_files, tree_in, is_below_group, are_named, RefusesNames, HaveNoFloat, HoldsNodes, RefusesTrees, zmetadata_taken}
 use Rattle.zarrs_block.specs.declared.consolidated.ConsolidatedMetadata.{ConsolidatedMetadata}
 use Rattle.zarrs_block.specs.declared.zmetadata.Documents.{Documents}
 use Rattle.zarrs_block.specs.declared.zmetadata.Run.{Run}

@@ -44,7 +44,6 @@ use Rattle.zarrs_block.specs.declared.zmetadata.Run.{Run}
 use Rattle.zarrs_block.specs.declared.zmetadata.File.TheVariants.{Array as array_file, Group as group_file, Attributes as attributes_file}
 use Rattle.zarrs_block.specs.declared.node_create_error.NodeCreateError.{NodeCreateError}
 use Rattle.zarrs_block.specs.declared.node_create_error.NodeCreateError.TheVariants.{MetadataVersionMismatch, OutOfMemory}
-use Rattle.zarrs_block.specs.Meaning.{node}
 
 -- ---- the documents of one path
 

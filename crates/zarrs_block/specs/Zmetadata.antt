@@ -33,7 +33,7 @@ use Rattle.zarrs_block.specs.Block.{Block, IsAscending, IsBlockOf, put, entry, E
 use Rattle.zarrs_block.specs.BlockExpansion.{RefusesKeys, pairs_at, paths_at}
 use Rattle.zarrs_block.specs.declared.node_create_error.NodeCreateError.{NodeCreateError}
 use Rattle.zarrs_block.specs.declared.node_create_error.NodeCreateError.TheVariants.{MetadataVersionMismatch}
-use Rattle.zarrs_block.specs.Meaning.{Meaning, Means, node, nothing, bad}
+use Rattle.zarrs_block.specs.Meaning.{Meaning, Means, node, bad}
 use Rattle.zarrs_block.specs.Small.{is_document_v2, counted_members, small, small_meaning}
 
 -- ---- reading

@@ -1,8 +1,7 @@
 -- What is left of entries that one was taken out of.
-use Rattle.std.proofs.Common.{◌≡◌, ℕ, List, [], ◌∷◌, Bool, true, false, if◌then◌else◌, String, Global, Option, Some, None, string_bytes, nat_cmp, bytes_eq, cond, refl, ap, sym, ◌∙◌}
+use Rattle.std.proofs.Common.{◌≡◌, ℕ, List, [], ◌∷◌, Bool, true, false, if◌then◌else◌, String, Global, Option, Some, None, string_bytes, bytes_eq, cond, refl, ap, sym, ◌∙◌}
 use Rattle.std.proofs.Math.Bool.{or-false}
 use Rattle.std.specs.Map.{lookup, remove_entry}
-use Rattle.std.specs.Cmp.Lexicographic.{slice_cmp}
 use Rattle.std.proofs.lemmas.Map.Text.{is_eq-slice_cmp}
 use Rattle.serde_json.specs.Data.{Data, member}
 use Rattle.serde_json.specs.View.{view, members_view}

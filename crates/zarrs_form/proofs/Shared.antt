@@ -1,5 +1,5 @@
 -- Lemmas on lists of members.
-use Rattle.std.proofs.Common.{◌≡◌, ℕ, zero, suc, ◌+◌, ◌<◌, List, [], ◌∷◌, ◌++◌, get_or, take, OnOk, OnErr, Bool, true, false, map, ◌||◌, if◌then◌else◌, String, Global, string_bytes, string_cmp, nat_cmp, Less, Equal, Greater, Ordering, Option, Some, None, Err, Result, Ok, IfOk, IsTrue, true≢false, length, arith, cond, is_eq, refl, ap, sym, ◌∙◌}
+use Rattle.std.proofs.Common.{◌≡◌, ℕ, zero, suc, ◌+◌, ◌<◌, List, [], ◌∷◌, ◌++◌, get_or, take, OnOk, OnErr, Bool, true, false, map, ◌||◌, if◌then◌else◌, String, Global, string_bytes, string_cmp, nat_cmp, Less, Equal, Greater, Ordering, Option, Some, None, Err, Result, Ok, IfOk, length, arith, cond, is_eq, refl, ap, sym, ◌∙◌}
 use Rattle.std.specs.List.{list_any, AllByRecursion, AllZip}
 use Rattle.std.specs.List.Sorted.{IsStrictlySortedBy}
 use Rattle.std.specs.Map.{keys_of, lookup}
@@ -11,7 +11,7 @@ use Rattle.std.proofs.lemmas.Cmp.{nat_list_cmp_total}
 use Rattle.serde_json.specs.Data.{Data, Members, member, put}
 use Rattle.serde_json.specs.View.{view, members_of, members_view}
 use Rattle.serde_json.proofs.Views.{Entry}
-use Rattle.zarrs_form.specs.Documents.{is_own, besides, is_empty, tree_or_fault, json_of}
+use Rattle.zarrs_form.specs.Documents.{tree_or_fault, json_of}
 use Rattle.zarrs_fault.specs.declared.fault.MetadataFault.TheVariants.{NotJson}
 use Rattle.serde_json.specs.Read.{read}
 use Rattle.std.specs.Str.{IsUtf8, is_utf8}

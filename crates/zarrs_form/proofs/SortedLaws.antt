@@ -1,5 +1,5 @@
 -- Entries in the order of their names: what a search finds, and what a change leaves.
-use Rattle.std.proofs.Common.{◌≡◌, ◌==◌, ℕ, zero, suc, ◌+◌, ◌<◌, ◌≤◌, Bool, true, false, ◌||◌, List, [], ◌∷◌, ◌++◌, length, get_or, set, String, Global, string_bytes, string_cmp, nat_cmp, Less, Equal, Greater, Ordering, Option, Some, None, Result, Ok, Err, IfOk, IfErr, is_eq, cond, if◌then◌else◌, bytes_eq, refl, sym, ap, subst, ◌∙◌, arith}
+use Rattle.std.proofs.Common.{◌≡◌, ◌==◌, ℕ, zero, suc, ◌+◌, ◌<◌, Bool, true, false, ◌||◌, List, [], ◌∷◌, ◌++◌, length, get_or, set, String, Global, string_bytes, string_cmp, nat_cmp, Less, Equal, Greater, Ordering, Some, None, Result, Ok, Err, IfOk, IfErr, is_eq, cond, if◌then◌else◌, refl, sym, ap, subst, ◌∙◌, arith}
 use Rattle.std.proofs.lemmas.Bool.Decides.{nat_tests}
 use Rattle.std.proofs.lemmas.Cmp.{nat_list_cmp_total, tied_itself}
 use Rattle.std.proofs.lemmas.List.{get_or-map}

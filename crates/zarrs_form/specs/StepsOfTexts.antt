@@ -1,6 +1,5 @@
 -- Steps of texts that are put together piece by piece; no public contract rests on them.
-use Rattle.std.specs.Prelude.{if◌then◌else◌, ℕ, ◌==◌, ◌||◌, nat_lt, Bool, ◌+◌, List, [], ◌∷◌, ◌++◌, true, flat_map}
-use Rattle.json.specs.Layout.{line}
+use Rattle.std.specs.Prelude.{if◌then◌else◌, ℕ, ◌==◌, ◌||◌, nat_lt, Bool, List, [], ◌∷◌, ◌++◌, true, flat_map}
 use Rattle.serde_json.specs.Data.{Members, no_members, member}
 use Rattle.zarrs_form.specs.Pretty.{entry_text}
 

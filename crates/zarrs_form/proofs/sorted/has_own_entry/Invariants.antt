@@ -1,4 +1,4 @@
-use Rattle.std.proofs.Common.{◌≡◌, drop, map, Bool, String, Global, string_bytes}
+use Rattle.std.proofs.Common.{◌≡◌, drop, map, String, Global, string_bytes}
 use Rattle.std.specs.List.{list_any}
 use Rattle.std.specs.Map.{keys_of}
 use Rattle.zarrs_form.specs.Documents.{is_own}

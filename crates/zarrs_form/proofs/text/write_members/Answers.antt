@@ -5,7 +5,7 @@ use Rattle.json.specs.Print.{quoted}
 use Rattle.serde_json.specs.View.{view, members_view}
 use Rattle.serde_json.specs.Written.{comma_if, has_float, members_have_float, members_text}
 use Rattle.serde_json.proofs.Views.{Entry}
-use Rattle.zarrs_form.proofs.TextLaws.{begins_after, begins_appended, begins_done, begins_pushed, begins_same, begins_self, begins_whole, member_cut_at_value, member_cut_in_name, member_pushed, on_err_begins_where, on_err_pushed_where, on_ok_pushed_where}
+use Rattle.zarrs_form.proofs.TextLaws.{begins_after, begins_appended, begins_pushed, begins_self, begins_whole, member_cut_at_value, member_cut_in_name, member_pushed, on_err_begins_where, on_err_pushed_where, on_ok_pushed_where}
 use Rattle.zarrs_form.proofs.text.write_members.Goals as goal
 
 pub loop-member-init : goal.loop-member-init

@@ -1,4 +1,4 @@
-use Rattle.std.proofs.Common.{◌++◌, IsTrue, string_bytes, ap, sym, ◌∙◌}
+use Rattle.std.proofs.Common.{◌++◌, IsTrue, string_bytes, ap, ◌∙◌}
 use Rattle.std.proofs.lemmas.Result.{on_ok_weaker}
 use Rattle.serde_json.specs.Written.{has_float, compact_text}
 use Rattle.zarrs_form.specs.FormsV2.{codec_data, codec_fits}

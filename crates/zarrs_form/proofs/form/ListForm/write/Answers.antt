@@ -4,7 +4,7 @@ use Rattle.std.specs.List.{list_all}
 use Rattle.serde_json.specs.View.{items_of}
 use Rattle.serde_json.specs.Written.{comma_if, items_text}
 use Rattle.zarrs_form.proofs.RowLaws.{both}
-use Rattle.zarrs_form.proofs.TextLaws.{begins_after, begins_appended, begins_done, begins_pushed, begins_same, begins_self, begins_whole, item_cut, item_pushed, on_err_begins_where, on_err_pushed_where, on_ok_pushed_where}
+use Rattle.zarrs_form.proofs.TextLaws.{begins_after, begins_appended, begins_pushed, begins_self, begins_whole, item_cut, item_pushed, on_err_begins_where, on_err_pushed_where, on_ok_pushed_where}
 use Rattle.zarrs_form.proofs.form.ListForm.write.Goals as goal
 
 pub loop-item-init : goal.loop-item-init
