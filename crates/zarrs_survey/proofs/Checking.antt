@@ -9,7 +9,7 @@ use Rattle.zarrs_path.specs.PathOrder.{path_total}
 use Rattle.zarrs_meta.specs.declared.node.NodeMetadata.{NodeMetadata}
 use Rattle.zarrs_config.specs.declared.version.MetadataRetrieveVersion.{MetadataRetrieveVersion}
 use Rattle.zarrs_block.specs.Block.{Block}
-use Rattle.zarrs_block.specs.Meaning.{Meaning, meaning, node, nothing, bad}
+use Rattle.zarrs_block.specs.Meaning.{meaning, node}
 use Rattle.zarrs_block.specs.declared.consolidated.ConsolidatedMetadata.{ConsolidatedMetadata}
 use Rattle.zarrs_block.specs.declared.node_create_error.NodeCreateError.{NodeCreateError}
 use Rattle.zarrs_node.specs.Nodes.{Nodes}
@@ -27,7 +27,7 @@ use Rattle.zarrs_survey.specs.declared.finding.Finding.{Finding}
 use Rattle.zarrs_survey.specs.declared.kept.KeptNodes.{KeptNodes}
 use Rattle.zarrs_survey.specs.declared.survey.Survey.{Survey}
 use Rattle.zarrs_survey.proofs.Blocks.{findings_same}
-use Rattle.zarrs_survey.proofs.Keeping.{HasBlock, HasKept, each_block}
+use Rattle.zarrs_survey.proofs.Keeping.{HasBlock, HasKept, IsNode, each_block, given_or}
 
 -- ---- of one block
 
@@ -109,21 +109,10 @@ module _ (nodes : List Pair) (bad : List (Path × NodeCreateError)) where
 
 -- ---- by what a survey is
 
--- the node that an answer gives
-abbrev given_or : NodeMetadata → Result NodeMetadata NodeCreateError → NodeMetadata
-given_or d (Ok x) = x
-given_or d (Err e) = d
-
 -- an answer gives a node
 abbrev IsGiven : Result NodeMetadata NodeCreateError → Type 0
 IsGiven (Ok x) = Unit {0}
 IsGiven (Err e) = ⊥
-
--- what a meaning is, a node
-abbrev IsNode : Meaning → Type 0
-IsNode (node m) = Unit {0}
-IsNode nothing = ⊥
-IsNode (bad e) = ⊥
 
 -- the base of a survey that means a node is that node
 pub base_means : (s : Contents) (v : MetadataRetrieveVersion) (b : Path) (survey : Survey) → IsSurveyOf s v b survey → (m : NodeMetadata) → (survey.base ≡ Ok m) ↔ (meaning s v b ≡ node m)

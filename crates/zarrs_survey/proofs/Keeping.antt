@@ -246,12 +246,12 @@ apart_once : (es : List Pair) → Ascend es → AllPairs (λ x y. x ≢ y) es
 apart_once es up = λ i j d l m same. names_irrefl (get_or es j d).0 (subst (λ (x : Pair). path_cmp x.0 (get_or es j d).0 ≡ Less) same (up i j d l m))
 
 -- the node that an answer gives
-abbrev given_or : NodeMetadata → Result NodeMetadata NodeCreateError → NodeMetadata
+abbrev pub given_or : NodeMetadata → Result NodeMetadata NodeCreateError → NodeMetadata
 given_or d (Ok x) = x
 given_or d (Err e) = d
 
 -- what a meaning is, a node
-abbrev IsNode : Meaning → Type 0
+abbrev pub IsNode : Meaning → Type 0
 IsNode (node m) = Unit {0}
 IsNode nothing = ⊥
 IsNode (bad e) = ⊥

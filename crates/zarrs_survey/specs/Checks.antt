@@ -26,9 +26,8 @@ use Rattle.zarrs_block.specs.Zmetadata.{zmetadata_of}
 use Rattle.zarrs_block.specs.declared.node_create_error.NodeCreateError.{NodeCreateError}
 use Rattle.zarrs_node.specs.Faults.{PathsAscend}
 use Rattle.zarrs_node.specs.Nodes.{Nodes, Ignored}
-use Rattle.zarrs_node.specs.OpeningNodes.{RefusesNode}
 use Rattle.zarrs_survey.specs.Findings.{Pair, IsFinding, Precedes}
-use Rattle.zarrs_survey.specs.Surveys.{BadDocuments, BadNames}
+use Rattle.zarrs_survey.specs.Surveys.{IsBase, BadDocuments, BadNames}
 use Rattle.zarrs_survey.specs.declared.check.Check.{Check}
 use Rattle.zarrs_survey.specs.declared.finding.Finding.{Finding}
 use Rattle.zarrs_survey.specs.declared.finding.FindingKind.TheVariants.{BlockFault}
@@ -78,10 +77,10 @@ pub record AreBlockFindings (s : Contents) (v : MetadataRetrieveVersion) (b : Pa
 
 -- ---- all that a check has
 
--- the base means a node, or it is refused with this error: it means nothing, or is bad
+-- the base is a node, with some metadata, or it is refused with this error
 abbrev pub IsBaseOutcome : Contents → MetadataRetrieveVersion → Path → Result (Unit {0}) NodeCreateError → Type 0
-IsBaseOutcome s v b (Ok u) = (m : NodeMetadata) × (meaning s v b ≡ node m)
-IsBaseOutcome s v b (Err e) = RefusesNode s v b e
+IsBaseOutcome s v b (Ok u) = (m : NodeMetadata) × IsBase s v b (Ok m)
+IsBaseOutcome s v b (Err e) = IsBase s v b (Err e)
 
 -- n pairs have P
 abbrev pub IsCount : (Pair → Type 0) → ℕ → Type 0
