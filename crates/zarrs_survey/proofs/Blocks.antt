@@ -83,11 +83,15 @@ module _ (g : Path) (B C : Block) (up : IsAscending B) (rid : IsRidOf (key_findi
   entry_same ns h =
       ap (λ o. first_some o (node_at_key C (47 ∷ key_text ns))) (valid_same (key_text ns) (ns, h, inl refl)) ∙ ap (first_some (node_at_key B (key_text ns))) (valid_same (47 ∷ key_text ns) (ns, h, inr refl))
 
-  pub entries_same : (e : Pair) → Entries C g e ↔ Entries B g e
+  entries_same : (e : Pair) → Entries C g e ↔ Entries B g e
   entries_same e = (
     λ (n, ns, h, is, has). (n, ns, h, is, sym (entry_same (n ∷ ns) h) ∙ has),
     λ (n, ns, h, is, has). (n, ns, h, is, entry_same (n ∷ ns) h ∙ has),
   )
+
+  -- and what lists them lists those of the block
+  pub listed_same : (es : List Pair) → Lists (Entries C g) es → (e : Pair) → Contains es e ↔ Entries B g e
+  listed_same es listed e = (λ in'. (entries_same e).0 ((listed_each listed e).0 in'), λ is. (listed_each listed e).1 ((entries_same e).1 is))
 
 -- ---- findings turn on which pairs there are alone
 
@@ -124,25 +128,21 @@ findings_same B N N' F F' g n f x h = (h.0, ⊎_elim inl (λ p. inr (finding_sam
 
 -- ---- both lists in a row
 
-module _ (g : Path) (B C : Block) (h : Pairs) (F : Path → Type 0) (es : List Pair) (others : List Finding) (up : IsAscending B) (rid : IsRidOf (key_findings g B B) B C)
-    (listed : Lists (Entries C g) es) (are : ArePathFindings (Contains es) (Contains (pairs_below g h)) F g others) where
-  -- an entry is one of the block, and below the group
-  each_entry : (d : Pair) → Contains es d ↔ Entries B g d
-  each_entry d = (λ in'. (entries_same g B C up rid d).0 ((listed_each listed d).0 in'), λ is. (listed_each listed d).1 ((entries_same g B C up rid d).1 is))
-
+module _ (g : Path) (B : Block) (h : Pairs) (F : Path → Type 0) (es : List Pair) (others : List Finding) (up : IsAscending B) (each : (d : Pair) → Contains es d ↔ Entries B g d)
+    (are : ArePathFindings (Contains es) (Contains (pairs_below g h)) F g others) where
   -- the findings of paths are those of the block's entries beside all nodes
   path_exact : (f : Finding) → Contains others f ↔ ((f.group ≡ g) × IsPathFinding (Entries B g) (Contains h) F g f.path f.kind)
   path_exact f = (
     λ in'.
         let w = (are.exact f).0 in' in (
           w.0,
-          finding_same (Contains es) (Entries B g) (Contains (pairs_below g h)) (Contains h) F F g (λ d in''. let is = (each_entry d).0 in'' in (is.0, is.1, is.3)) each_entry
+          finding_same (Contains es) (Entries B g) (Contains (pairs_below g h)) (Contains h) F F g (λ d in''. let is = (each d).0 in'' in (is.0, is.1, is.3)) each
               (λ d below. (λ x. ((each_below g h d).0 x).0, λ x. (each_below g h d).1 (x, below))) (λ q. (λ x. x, λ x. x)) f.path f.kind w.1,
         ),
     λ w.
         (are.exact f).1 (
           w.0,
-          finding_same (Entries B g) (Contains es) (Contains h) (Contains (pairs_below g h)) F F g (λ d is. (is.0, is.1, is.3)) (λ d. ((each_entry d).1, (each_entry d).0))
+          finding_same (Entries B g) (Contains es) (Contains h) (Contains (pairs_below g h)) F F g (λ d is. (is.0, is.1, is.3)) (λ d. ((each d).1, (each d).0))
               (λ d below. (λ x. (each_below g h d).1 (x, below), λ x. ((each_below g h d).0 x).0)) (λ q. (λ x. x, λ x. x)) f.path f.kind w.1,
         ),
   )

@@ -1,7 +1,7 @@
 -- What is told of blocks, one after another, is what there is to tell of all blocks.
-use Rattle.std.proofs.Common.{◌≡◌, ◌↔◌, inl, inr, ⊎_elim, true, List, [], ◌∷◌, ◌++◌, get_or, refl, sym, ap, subst, ◌∙◌, arith, Contains, Less, Option, Some, None, Result, Ok, Err}
-use Rattle.std.proofs.lemmas.List.{map-append}
-use Rattle.std.proofs.lemmas.List.Elements.{Contains-append_left, Contains-append_right, Contains-append_cases, Contains-push, Contains-push_cases, Contains-get_or}
+use Rattle.std.proofs.Common.{◌≡◌, ◌↔◌, ◌<◌, ℕ, suc, length, append-nil, append_assoc, inl, inr, ⊎_elim, true, List, [], ◌∷◌, ◌++◌, get_or, refl, sym, ap, subst, ◌∙◌, arith, Contains, Less, Option, Some, None, Result, Ok, Err}
+use Rattle.std.proofs.lemmas.List.Elements.{Contains-append_left, Contains-append_right, Contains-append_cases, Contains-get_or}
+use Rattle.std.proofs.lemmas.List.Kept.{AllPairs-filter}
 use Rattle.zarrs_fault.specs.declared.fault.MetadataFault.{MetadataFault}
 use Rattle.zarrs_store.specs.Contents.{Contents, Lists}
 use Rattle.zarrs_path.specs.Paths.{Path, IsBelow, path_cmp}
@@ -10,24 +10,32 @@ use Rattle.zarrs_meta.specs.declared.node.NodeMetadata.{NodeMetadata}
 use Rattle.zarrs_config.specs.declared.version.MetadataRetrieveVersion.{MetadataRetrieveVersion}
 use Rattle.zarrs_block.specs.Block.{Block}
 use Rattle.zarrs_block.specs.Meaning.{meaning, node}
-use Rattle.zarrs_block.specs.declared.consolidated.ConsolidatedMetadata.{ConsolidatedMetadata}
 use Rattle.zarrs_block.specs.declared.node_create_error.NodeCreateError.{NodeCreateError}
 use Rattle.zarrs_node.specs.Nodes.{Nodes}
-use Rattle.zarrs_node.proofs.Found.{listed_each, all_pairs_append}
-use Rattle.zarrs_node.proofs.Graft.{Contains-first}
-use Rattle.zarrs_node.proofs.Keeps.{below_later, all_pairs_across}
+use Rattle.zarrs_node.specs.Order.{Ascend}
+use Rattle.zarrs_node.proofs.Found.{listed_each, all_pairs_append, all_pairs_first, all_pairs_tail}
+use Rattle.zarrs_node.proofs.Graft.{Contains-first, Contains-cons}
+use Rattle.zarrs_node.proofs.Keeps.{below_later}
 use Rattle.zarrs_node.proofs.Order.{contains_cases}
 use Rattle.zarrs_node.proofs.Unique.{names_irrefl}
+use Rattle.zarrs_hierarchy.specs.Tree.{is_path_below, pairs_below}
 use Rattle.zarrs_hierarchy.proofs.Opening.{node_one}
 use Rattle.zarrs_survey.specs.Checks.{block_read, HasNode, HasBadPath, fault_of_block, IsToldOf, StandsBefore, AreBlockFindings}
-use Rattle.zarrs_survey.specs.Findings.{Pair, AreFindings}
-use Rattle.zarrs_survey.specs.StepsOfChecks.{ReadBlock, GroupsAscend, shown_block, shown_blocks, AreTold, HasBad, AreFindingsOf}
+use Rattle.zarrs_survey.specs.Findings.{Pair, AreFindings, IsPathFinding}
+use Rattle.zarrs_survey.specs.StepsOfChecks.{ReadBlock, GroupsAscend, AreTold, HasBad, AreFindingsOf}
+use Rattle.zarrs_survey.specs.StepsOfComparing.{ArePathFindings}
+use Rattle.zarrs_survey.specs.StepsOfMerging.{Holds}
+use Rattle.zarrs_survey.specs.StepsOfComparisons.{NoneBad, IsUnderWay, IsOnly, IsEnd}
+use Rattle.zarrs_survey.specs.StepsOfTaking.{AreEnds, blocks_of}
 use Rattle.zarrs_survey.specs.Surveys.{IsBase, BadDocuments, IsSurveyOf}
 use Rattle.zarrs_survey.specs.declared.finding.Finding.{Finding}
-use Rattle.zarrs_survey.specs.declared.kept.KeptNodes.{KeptNodes}
+use Rattle.zarrs_survey.specs.declared.finding.FindingKind.{FindingKind}
+use Rattle.zarrs_survey.specs.declared.finding.FindingKind.TheVariants.{BlockFault, BadKey, Shadowed, Unreachable, Stale, Differs, Missing}
+use Rattle.zarrs_survey.specs.declared.comparison.Comparison.{Comparison}
 use Rattle.zarrs_survey.specs.declared.survey.Survey.{Survey}
-use Rattle.zarrs_survey.proofs.Blocks.{findings_same}
-use Rattle.zarrs_survey.proofs.Keeping.{HasBlock, HasKept, IsNode, each_block, given_or}
+use Rattle.zarrs_survey.proofs.Blocks.{findings_same, found_all}
+use Rattle.zarrs_survey.proofs.Comparing.{holds_none}
+use Rattle.zarrs_survey.proofs.Taking.{HasBlock, IsAt, IsNode, each_block, given_or}
 
 -- ---- of one block
 
@@ -57,55 +65,107 @@ module _ (N : Pair → Type 0) (F : Path → Type 0) (g : Path) where
     ascend = λ i j d l m. absurd (omega (arith, l, m));
   })
 
+-- ---- of one comparison
+
+-- a comparison with nothing to compare is under way
+only_under_way : (f : Finding) (c : Comparison) → IsOnly f c → IsUnderWay [] [] c.entries.items [] c
+only_under_way f c is = record {
+  low = λ d in'. absurd (omega (arith, in'.1));
+  under = λ d in'. absurd (omega (arith, in'.1));
+  holds = subst (λ es. Holds (Contains []) (Contains []) NoneBad c.group es [] c.last c.found.items) (sym is.entries)
+      (subst (λ p. Holds (Contains []) (Contains []) NoneBad c.group [] [] p c.found.items) (is.group ∙ sym is.last)
+      (subst (Holds (Contains []) (Contains []) NoneBad c.group [] [] c.group) (sym is.found) (holds_none NoneBad c.group [] [] none none)));
+}
+  where
+    none : Ascend []
+    none i j d l m = absurd (omega (arith, m))
+
+-- of no entries and no nodes nothing is told
+none_told : (F : Path → Type 0) (g : Path) (told : List Finding) → ArePathFindings (Contains []) (Contains []) F g told → told ≡ []
+none_told F g [] are = refl
+none_told F g (f ∷ fs) are = absurd (nothing_there f.path f.kind ((are.exact f).0 (Contains-first f fs)).1)
+  where
+    nothing_there : (p : Path) (k : FindingKind) → IsPathFinding (Contains []) (Contains []) F g p k → ⊥
+    nothing_there p Unreachable h = omega (arith, h.0.1.1)
+    nothing_there p Stale h = omega (arith, h.0.1.1)
+    nothing_there p Differs h = omega (arith, h.2.1)
+    nothing_there p Missing h = omega (arith, h.0.1.1)
+    nothing_there p (BlockFault fault) h = h
+    nothing_there p (BadKey t) h = h
+    nothing_there p (Shadowed t) h = h
+
+-- what is told at the end of a comparison with the nodes `done` is what there is to tell of its block
+module _ (done : List Pair) (up : Ascend done) (bad : List (Path × NodeCreateError)) (g : Path) (c : Comparison) (found : List Finding) (end : IsEnd c bad found) where
+  told_end : (r : Result Block MetadataFault) → IsAt done (g, r) c → AreTold (Some r) (Contains done) (HasBad bad) g found
+  told_end (Err fault) is =
+      let w = end [] [] (only_under_way (fault_of_block g fault) c is) in
+      let whole : found ≡ fault_of_block g fault ∷ [] = w.1 ∙ (ap (λ xs. xs ++ w.0) is.of_block ∙ ap (λ xs. fault_of_block g fault ∷ xs) (none_told (HasBad bad) c.group w.0 w.2)) in
+      subst (AreTold (Some (Err fault)) (Contains done) (HasBad bad) g) (sym whole) (told_fault (Contains done) (HasBad bad) g (Err fault) fault (fault_of_block g fault) refl refl)
+  told_end (Ok B) is =
+      let nodes : List Pair = pairs_below g done ++ [] in
+      let same : nodes ≡ pairs_below g done = append-nil (pairs_below g done) in
+      let w = end is.all nodes (is.told [] (subst Ascend (sym same) (AllPairs-filter (λ (d e : Pair). path_cmp d.0 e.0 ≡ Less) (λ (d : Pair). is_path_below g d.0) done up)) (λ d in'. absurd (omega (arith, in'.1)))) in
+      let told : ArePathFindings (Contains is.all) (Contains (pairs_below g done)) (HasBad bad) g w.0 =
+      subst (λ (ns : List Pair). ArePathFindings (Contains is.all) (Contains ns) (HasBad bad) g w.0) same (subst (λ p. ArePathFindings (Contains is.all) (Contains nodes) (HasBad bad) p w.0) is.group w.2) in
+      told_found (Contains done) (HasBad bad) g (Ok B) B found refl
+      (found_all g B done (HasBad bad) is.all w.0 is.ascending is.entries told c.of_block.items found is.of_block w.1)
+
 -- ---- one block after another
-
--- what is shown of blocks and one more
-pub shown_more : (bs : List (Path × Result ConsolidatedMetadata MetadataFault)) (b : Path × Result ConsolidatedMetadata MetadataFault) → shown_blocks (bs ++ b ∷ []) ≡ shown_blocks bs ++ (b.0, shown_block b.1) ∷ []
-shown_more bs b = map-append (λ (c : Path × Result ConsolidatedMetadata MetadataFault). (c.0, shown_block c.1)) bs (b ∷ [])
-
--- what is shown of the blocks before one stands before it
-pub shown_before : (bs cs : List (Path × Result ConsolidatedMetadata MetadataFault)) (b : Path × Result ConsolidatedMetadata MetadataFault) → GroupsAscend (shown_blocks (bs ++ b ∷ cs)) → (c : ReadBlock) → Contains (shown_blocks bs) c → path_cmp c.0 b.0 ≡ Less
-shown_before bs cs b up c in' =
-    all_pairs_across (λ (d e : ReadBlock). path_cmp d.0 e.0 ≡ Less) (shown_blocks bs) (shown_blocks (b ∷ cs))
-    (subst GroupsAscend (map-append (λ (d : Path × Result ConsolidatedMetadata MetadataFault). (d.0, shown_block d.1)) bs (b ∷ cs)) up) c (b.0, shown_block b.1) in' (Contains-first (b.0, shown_block b.1) (shown_blocks cs))
 
 module _ (nodes : List Pair) (bad : List (Path × NodeCreateError)) where
   -- the findings of no blocks are none
-  pub of_none : (found : List Finding) → found ≡ [] → AreFindingsOf [] nodes bad found
+  of_none : (found : List Finding) → found ≡ [] → AreFindingsOf [] nodes bad found
   of_none found is = subst (AreFindingsOf [] nodes bad) (sym is) (record {
     exact = λ f. (λ in'. absurd (omega (arith, in'.1)), λ h. absurd (omega (arith, h.1.1)));
     ascend = λ i j d l m. absurd (omega (arith, m));
   })
 
-  -- with one block more, behind all others, what is told of it comes last
-  pub of_more : (bs : List ReadBlock) (b : ReadBlock) (found more whole : List Finding) → ((c : ReadBlock) → Contains bs c → path_cmp c.0 b.0 ≡ Less)
-      → whole ≡ found ++ more → AreTold (Some b.1) (Contains nodes) (HasBad bad) b.0 more → AreFindingsOf bs nodes bad found → AreFindingsOf (bs ++ b ∷ []) nodes bad whole
-  of_more bs b found more whole before is told h = subst (AreFindingsOf (bs ++ b ∷ []) nodes bad) (sym is) (record {
+  -- with one block more, before all others, what is told of it comes first
+  of_first : (b : ReadBlock) (bs : List ReadBlock) (found rest whole : List Finding) → ((c : ReadBlock) → Contains bs c → path_cmp b.0 c.0 ≡ Less)
+      → whole ≡ found ++ rest → AreTold (Some b.1) (Contains nodes) (HasBad bad) b.0 found → AreFindingsOf bs nodes bad rest → AreFindingsOf (b ∷ bs) nodes bad whole
+  of_first b bs found rest whole before is told h = subst (AreFindingsOf (b ∷ bs) nodes bad) (sym is) (record {
     exact = λ f. (
       λ in'. ⊎_elim
-          (λ first. let w = (h.exact f).0 first in (w.0, Contains-append_left bs (b ∷ []) (f.group, w.0) w.1, w.2))
-          (λ second.
-          let w = (told.exact f).0 second in
-          let at = of_group f second in
-          (b.1, subst (λ x. Contains (bs ++ b ∷ []) (x, b.1)) (sym at) (Contains-push bs b), subst (λ x. IsToldOf (Some b.1) (Contains nodes) (HasBad bad) x f) (sym at) w))
-          (Contains-append_cases found more f in'),
+          (λ first.
+          let w = (told.exact f).0 first in
+          let at = of_group f first in
+          (b.1, subst (λ x. Contains (b ∷ bs) (x, b.1)) (sym at) (Contains-first b bs), subst (λ x. IsToldOf (Some b.1) (Contains nodes) (HasBad bad) x f) (sym at) w))
+          (λ second. let w = (h.exact f).0 second in (w.0, Contains-cons b bs (f.group, w.0) w.1, w.2))
+          (Contains-append_cases found rest f in'),
       λ w. ⊎_elim
-          (λ old. Contains-append_left found more f ((h.exact f).1 (w.0, old, w.2)))
-          (λ new. Contains-append_right found more f ((told.exact f).1 (subst (λ (d : ReadBlock). IsToldOf (Some d.1) (Contains nodes) (HasBad bad) d.0 f) (sym new) w.2)))
-          (Contains-push_cases bs b (f.group, w.0) w.1),
+          (λ new. Contains-append_left found rest f ((told.exact f).1 (subst (λ (d : ReadBlock). IsToldOf (Some d.1) (Contains nodes) (HasBad bad) d.0 f) (sym new) w.2)))
+          (λ old. Contains-append_right found rest f ((h.exact f).1 (w.0, old, w.2)))
+          (contains_cases b bs (f.group, w.0) w.1),
     );
-    ascend = all_pairs_append StandsBefore found more h.ascend
+    ascend = all_pairs_append StandsBefore found rest
         (λ i j d l k. inr (
-          of_group (get_or more i d) (Contains-get_or more i d (omega (arith, l, k))) ∙ sym (of_group (get_or more j d) (Contains-get_or more j d k)),
+          of_group (get_or found i d) (Contains-get_or found i d (omega (arith, l, k))) ∙ sym (of_group (get_or found j d) (Contains-get_or found j d k)),
           told.ascend i j d l k,
         ))
+        h.ascend
         (λ x y first second.
-        let w = (h.exact x).0 first in
-        inl (ap (path_cmp x.group) (of_group y second) ∙ before (x.group, w.0) w.1));
+        let w = (h.exact y).0 second in
+        inl (ap (λ p. path_cmp p y.group) (of_group x first) ∙ before (y.group, w.0) w.1));
   })
     where
-      of_group : (f : Finding) → Contains more f → f.group ≡ b.0
+      of_group : (f : Finding) → Contains found f → f.group ≡ b.0
       of_group f in' = told_group (Some b.1) (Contains nodes) (HasBad bad) b.0 f ((told.exact f).0 in')
+
+  -- the ends of comparisons with blocks, one after another
+  pub of_ends : Ascend nodes → (cs : List Comparison) (bs : List ReadBlock) (whole : List Finding) → length cs ≡ length bs
+      → ((j : ℕ) (c : Comparison) (b : ReadBlock) → j < length cs → IsAt nodes (get_or bs j b) (get_or cs j c)) → GroupsAscend bs → AreEnds cs bad whole → AreFindingsOf bs nodes bad whole
+  of_ends up [] [] whole size each ascend is = of_none whole is
+  of_ends up [] (b ∷ bs) whole size each ascend is = absurd (omega (arith, size))
+  of_ends up (c ∷ cs) [] whole size each ascend is = absurd (omega (arith, size))
+  of_ends up (c ∷ cs) (b ∷ bs) whole size each ascend is =
+      of_first b bs is.0 is.1 whole (all_pairs_first (λ (d e : ReadBlock). path_cmp d.0 e.0 ≡ Less) b bs ascend) is.2
+      (told_end nodes up bad b.0 c is.0 is.3 b.1 (each 0 c b (omega (arith))))
+      (of_ends up cs bs is.1 (omega (arith, size)) (λ j d e lt. each (suc j) d e (omega (arith, lt))) (all_pairs_tail (λ (d e : ReadBlock). path_cmp d.0 e.0 ≡ Less) b bs ascend) is.4)
+
+-- one end more comes last
+pub ends_more : (cs : List Comparison) (c : Comparison) (bad : List (Path × NodeCreateError)) (told found whole : List Finding) → whole ≡ told ++ found → AreEnds cs bad told → IsEnd c bad found → AreEnds (cs ++ c ∷ []) bad whole
+ends_more [] c bad told found whole is are end = (found, [], is ∙ (ap (λ xs. xs ++ found) are ∙ sym (append-nil found)), end, refl)
+ends_more (d ∷ cs) c bad told found whole is are end = (are.0, are.1 ++ found, is ∙ (ap (λ xs. xs ++ found) are.2 ∙ append_assoc are.0 are.1 found), are.3, ends_more cs c bad are.1 found (are.1 ++ found) refl are.4 end)
 
 -- ---- by what a survey is
 
@@ -128,10 +188,9 @@ base_means s v b survey h m = by survey.base refl h.base
       λ means. absurd (⊎_elim (λ w. subst IsNode (sym means ∙ w.0) tt) (λ w. subst IsNode (sym means ∙ w) tt) refused),
     )
 
--- ---- by what a check kept
+-- ---- by what a check has taken
 
-module _ {S : Type 0} (s : Contents) (v : MetadataRetrieveVersion) (b : Path) (all : List Pair) (k : KeptNodes S) (kept : HasKept s all k)
-    (each : (d : Pair) → Contains all d ↔ HasNode s v b d) (bad : List (Path × NodeCreateError)) (listed : Lists (BadDocuments s v b) bad) where
+module _ (s : Contents) (v : MetadataRetrieveVersion) (b : Path) (all : List Pair) (each : (d : Pair) → Contains all d ↔ HasNode s v b d) (bad : List (Path × NodeCreateError)) (listed : Lists (BadDocuments s v b) bad) where
   -- no group is above the base
   not_above : (d : Pair) → HasNode s v b d → IsBelow d.0 b → ⊥
   not_above d has low = ⊎_elim
@@ -141,14 +200,14 @@ module _ {S : Type 0} (s : Contents) (v : MetadataRetrieveVersion) (b : Path) (a
       names_irrefl b (path_total.trans b d.0 b (below_later b d.0 (under.0, under.1, under.2)) (below_later d.0 b low)))
       has
 
-  -- below a group with a block those that are kept are the nodes
-  kept_below : (g : Path) (m : NodeMetadata) (B : Block) → Contains all (g, m) → block_read s g m ≡ Some (Ok B) → (d : Pair) → IsBelow g d.0 → Contains k.nodes.items d ↔ Nodes s v true b d
-  kept_below g m B in' is d low = (
+  -- below a node those that were taken are the nodes
+  taken_below : (g : Path) (m : NodeMetadata) → Contains all (g, m) → (d : Pair) → IsBelow g d.0 → Contains all d ↔ Nodes s v true b d
+  taken_below g m in' d low = (
     λ x. ⊎_elim
         (λ w. absurd (not_above (g, m) ((each (g, m)).0 in') (subst (IsBelow g) w.0 low)))
         (λ w. w)
-        ((each d).0 (kept.sound d x)),
-    λ x. kept.complete g (B, (m, in', is)) d ((each d).1 (inr x)) low,
+        ((each d).0 x),
+    λ x. (each d).1 (inr x),
   )
 
   -- the bad documents are those that the store has
@@ -157,12 +216,12 @@ module _ {S : Type 0} (s : Contents) (v : MetadataRetrieveVersion) (b : Path) (a
 
   -- what is told of one block is what there is to tell of it
   told_each : (g : Path) (m : NodeMetadata) (r : Result Block MetadataFault) → Contains all (g, m) → block_read s g m ≡ Some r → (f : Finding)
-      → IsToldOf (Some r) (Contains k.nodes.items) (HasBad bad) g f ↔ IsToldOf (block_read s g m) (Nodes s v true b) (HasBadPath s v b) g f
+      → IsToldOf (Some r) (Contains all) (HasBad bad) g f ↔ IsToldOf (block_read s g m) (Nodes s v true b) (HasBadPath s v b) g f
   told_each g m r in' is f = (
     λ h. subst (λ o. IsToldOf o (Nodes s v true b) (HasBadPath s v b) g f) (sym is)
-        (told_same r (Contains k.nodes.items) (Nodes s v true b) (HasBad bad) (HasBadPath s v b) g (λ B e d low. kept_below g m B in' (is ∙ ap (λ x. Some x) e) d low) bad_same f h),
-    λ h. told_same r (Nodes s v true b) (Contains k.nodes.items) (HasBadPath s v b) (HasBad bad) g
-        (λ B e d low. let w = kept_below g m B in' (is ∙ ap (λ x. Some x) e) d low in (w.1, w.0)) (λ q. ((bad_same q).1, (bad_same q).0)) f
+        (told_same r (Contains all) (Nodes s v true b) (HasBad bad) (HasBadPath s v b) g (λ B e d low. taken_below g m in' d low) bad_same f h),
+    λ h. told_same r (Nodes s v true b) (Contains all) (HasBadPath s v b) (HasBad bad) g
+        (λ B e d low. let w = taken_below g m in' d low in (w.1, w.0)) (λ q. ((bad_same q).1, (bad_same q).0)) f
         (subst (λ o. IsToldOf o (Nodes s v true b) (HasBadPath s v b) g f) is h),
   )
 
@@ -171,25 +230,18 @@ module _ {S : Type 0} (s : Contents) (v : MetadataRetrieveVersion) (b : Path) (a
   read_some None N F g f h = absurd h
   read_some (Some r) N F g f h = (r, refl)
 
-  -- what is told of all blocks that were kept is what there is to tell of all blocks
-  pub of_kept : (blocks : List ReadBlock) (nodes : List Pair) (found : List Finding) → blocks ≡ shown_blocks k.blocks.items → nodes ≡ k.nodes.items → AreFindingsOf blocks nodes bad found → AreBlockFindings s v b found
-  of_kept blocks nodes found are same told = record {
+  -- what is told of the blocks of all nodes is what there is to tell of all blocks
+  pub of_taken : (found : List Finding) → AreFindingsOf (blocks_of s all) all bad found → AreBlockFindings s v b found
+  of_taken found told = record {
     exact = λ f. (
       λ in'.
           let w = (told.exact f).0 in' in
-          let has : HasBlock s all (f.group, w.0) = (each_block s all (f.group, w.0)).0 (subst (λ (xs : List ReadBlock). Contains xs (f.group, w.0)) (are ∙ kept.shown) w.1) in (
-            has.0,
-            (each (f.group, has.0)).0 has.1,
-            (told_each f.group has.0 w.0 has.1 has.2 f).0 (subst (λ (xs : List Pair). IsToldOf (Some w.0) (Contains xs) (HasBad bad) f.group f) same w.2),
-          ),
+          let has : HasBlock s all (f.group, w.0) = (each_block s all (f.group, w.0)).0 w.1 in
+          (has.0, (each (f.group, has.0)).0 has.1, (told_each f.group has.0 w.0 has.1 has.2 f).0 w.2),
       λ w.
           let r = read_some (block_read s f.group w.0) (Nodes s v true b) (HasBadPath s v b) f.group f w.2 in
           let in' = (each (f.group, w.0)).1 w.1 in
-          (told.exact f).1 (
-            r.0,
-            subst (λ (xs : List ReadBlock). Contains xs (f.group, r.0)) (sym (are ∙ kept.shown)) ((each_block s all (f.group, r.0)).1 (w.0, in', r.1)),
-            subst (λ (xs : List Pair). IsToldOf (Some r.0) (Contains xs) (HasBad bad) f.group f) (sym same) ((told_each f.group w.0 r.0 in' r.1 f).1 w.2),
-          ),
+          (told.exact f).1 (r.0, (each_block s all (f.group, r.0)).1 (w.0, in', r.1), (told_each f.group w.0 r.0 in' r.1 f).1 w.2),
     );
     ascend = told.ascend;
   }

@@ -12,24 +12,14 @@ use Rattle.zarrs_survey.specs.declared.finding.Finding.{Finding}
 use Rattle.zarrs_survey.specs.declared.finding.FindingKind.{FindingKind}
 use Rattle.zarrs_survey.specs.declared.finding.FindingKind.TheVariants.{BlockFault, BadKey, Shadowed, Unreachable, Stale, Differs, Missing}
 use Rattle.zarrs_survey.specs.Findings.{Pair, HasPath, IsReachable, IsCutOff, IsSpoilt, IsPathFinding}
-use Rattle.zarrs_survey.specs.StepsOfComparing.{ArePathFindings, HangsFrom, IsBeforeFirst, IsLoneKind, IsPairKind, findings_at}
-use Rattle.zarrs_survey.proofs.Merging.{IsLeft, IsRest, IsTold, IsStep, step_entry, step_node, step_both, none_at, only_first, before_all, rest_same, rest_next, rest_all, told_none, told_same, told_more}
-use Rattle.zarrs_survey.proofs.LastGroup.{reached_or_not, StandsBefore, IsLastGroup, base_is_last, last_after_group, last_after_other, hanging_reached, reached_hanging}
+use Rattle.zarrs_survey.specs.StepsOfComparing.{ArePathFindings, HangsFrom, IsBeforeFirst, IsPairKind, findings_at}
+use Rattle.zarrs_survey.specs.StepsOfMerging.{IsLeft, IsTold, StandsBefore, IsLastGroup, IsToTell, Holds}
+use Rattle.zarrs_survey.proofs.Merging.{IsStep, step_entry, step_node, step_both, none_at, only_first, before_all, rest_same, rest_next, rest_all, told_none, told_same, told_more}
+use Rattle.zarrs_survey.proofs.LastGroup.{reached_or_not, base_is_last, last_after_group, last_after_other, hanging_reached, reached_hanging}
 
 -- a finding of the group b by its path and kind
 abbrev pub finding : Path → Path → FindingKind → Finding
 finding b p k = record { group = b; path = p; kind = k }
-
--- a finding is there to tell
-abbrev pub IsToTell : (Pair → Type 0) → (Pair → Type 0) → (Path → Type 0) → Path → Finding → Type 0
-IsToTell E N F b f = (f.group ≡ b) × IsPathFinding E N F b f.path f.kind
-
--- the findings of the paths before those that are left, es of E and ns of N, were told, and g is the last group that was reached
-pub record Holds (E N : Pair → Type 0) (F : Path → Type 0) (b : Path) (es ns : List Pair) (g : Path) (found : List Finding) : Type 0 where
-  pub entries : IsRest path_cmp (IsLeft es ns) E es
-  pub nodes : IsRest path_cmp (IsLeft es ns) N ns
-  pub last : IsLastGroup E b es g
-  pub told : IsTold path_cmp (λ f. f.path) (IsLeft es ns) (IsToTell E N F b) found
 
 -- a path has a finding only where it is one of an entry or a node
 is_somewhere : (E N : Pair → Type 0) (F : Path → Type 0) (b p : Path) (k : FindingKind) → IsPathFinding E N F b p k → HasPath E p ⊎ HasPath N p
@@ -113,19 +103,6 @@ module _ (E N : Pair → Type 0) (F : Path → Type 0) (b : Path) where
       other (BadKey t) h is = h
       other (Shadowed t) h is = h
 
-  -- of a reachable entry without a node, at or below a bad document, there is none
-  none_spoilt : (p : Path) → HasPath E p → IsReachable E b p → (HasPath N p → ⊥) → IsSpoilt F p → (k : FindingKind) → IsPathFinding E N F b p k → ⊥
-  none_spoilt p e r no_n spoilt k h = other k h (only_stale p k e r no_n h)
-    where
-      other : (k : FindingKind) → IsPathFinding E N F b p k → k ≡ Stale → ⊥
-      other Stale h is = h.3 spoilt
-      other Differs h is = cc
-      other Unreachable h is = cc
-      other Missing h is = cc
-      other (BlockFault fault) h is = h
-      other (BadKey t) h is = h
-      other (Shadowed t) h is = h
-
   -- the pairs of E are below b, and whether it has a group at a path is known
   module _ (low : (e : Pair) → E e → IsBelow b e.0) (decide : (q : Path) → HasGroup E q ⊎ (HasGroup E q → ⊥)) where
     module _ (e : Pair) (es ns : List Pair) (g g' : Path) (found : List Finding) (h : Holds E N F b (e ∷ es) ns g found) where
@@ -189,16 +166,13 @@ module _ (E N : Pair → Type 0) (F : Path → Type 0) (b : Path) where
             let cut = not_reached other in
             tells Unreachable ((e.1, has_entry), cut_off cut) (λ j. only_unreachable e.0 j (e.1, has_entry) cut)
 
-        -- an entry without a node
-        tells_alone : (HasPath N e.0 → ⊥) → (reached : Bool) → (IsTrue reached ↔ HangsFrom g e.0) → (kind : Option FindingKind) → IsLoneKind reached (IsSpoilt F e.0) kind → IsToldNow (found ++ findings_at b e.0 kind)
-        tells_alone no_node false says kind is = subst (λ k. IsToldNow (found ++ findings_at b e.0 k)) (sym is) (tells_cut_off (λ hangs. true≢false (sym (says.1 hangs))))
-        tells_alone no_node true says None is =
+        -- an entry without a node, and not spoilt
+        tells_alone : (HasPath N e.0 → ⊥) → (IsSpoilt F e.0 → ⊥) → (reached : Bool) → (IsTrue reached ↔ HangsFrom g e.0) → (kind : FindingKind) → kind ≡ (if reached then Stale else Unreachable) → IsToldNow (found ++ finding b e.0 kind ∷ [])
+        tells_alone no_node clean false says kind is = subst (λ k. IsToldNow (found ++ finding b e.0 k ∷ [])) (sym is) (tells_cut_off (λ hangs. true≢false (sym (says.1 hangs))))
+        tells_alone no_node clean true says kind is =
             let r = hanging_reached E b (e ∷ es) g e.0 h.last (says.0 refl) in
-            tells_none (none_spoilt e.0 (e.1, has_entry) r no_node is)
-        tells_alone no_node true says (Some k) is =
-            let r = hanging_reached E b (e ∷ es) g e.0 h.last (says.0 refl) in
-            subst (λ k. IsToldNow (found ++ finding b e.0 k ∷ [])) (sym is.0)
-            (tells Stale ((e.1, has_entry), r, no_node, is.1) (λ j. only_stale e.0 j (e.1, has_entry) r no_node))
+            subst (λ k. IsToldNow (found ++ finding b e.0 k ∷ [])) (sym is)
+            (tells Stale ((e.1, has_entry), r, no_node, clean) (λ j. only_stale e.0 j (e.1, has_entry) r no_node))
 
         -- an entry with a node
         tells_both : (n : NodeMetadata) → N (e.0, n) → ((m : NodeMetadata) → N (e.0, m) → n ≡ m) → (reached : Bool) → (IsTrue reached ↔ HangsFrom g e.0) → (kind : Option FindingKind) → IsPairKind reached e.1 n kind → IsToldNow (found ++ findings_at b e.0 kind)
@@ -211,10 +185,10 @@ module _ (E N : Pair → Type 0) (F : Path → Type 0) (b : Path) where
             subst (λ k. IsToldNow (found ++ finding b e.0 k ∷ [])) (sym is.0)
             (tells Differs (e.1, n, has_entry, r, has, is.1) (λ j. only_differs e.0 j (e.1, has_entry) r (n, has)))
 
-    -- an entry comes first
-    entry_turn : (e : Pair) (es ns : List Pair) (g g' : Path) (found : List Finding) → Holds E N F b (e ∷ es) ns g found → IsBeforeFirst e.0 ns
-        → (reached : Bool) → (IsTrue reached ↔ HangsFrom g e.0) → (kind : Option FindingKind) → IsLoneKind reached (IsSpoilt F e.0) kind → g' ≡ (if reached && is_group e.1 then e.0 else g) → Holds E N F b es ns g' (found ++ findings_at b e.0 kind)
-    entry_turn e es ns g g' found h first reached says kind is turns =
+    -- an entry comes first, where no bad document is at or above it
+    pub entry_turn : (e : Pair) (es ns : List Pair) (g g' : Path) (found : List Finding) → Holds E N F b (e ∷ es) ns g found → IsBeforeFirst e.0 ns → (IsSpoilt F e.0 → ⊥)
+        → (reached : Bool) → (IsTrue reached ↔ HangsFrom g e.0) → (kind : FindingKind) → kind ≡ (if reached then Stale else Unreachable) → g' ≡ (if reached && is_group e.1 then e.0 else g) → Holds E N F b es ns g' (found ++ finding b e.0 kind ∷ [])
+    entry_turn e es ns g g' found h first clean reached says kind is turns =
         let before_ns = before e.0 ns h.nodes.ascend first in
         let s = step_entry path_cmp path_total e es ns h.entries.ascend before_ns in
         let no_node = none_at path_cmp path_total (IsLeft (e ∷ es) ns) N ns e.0 h.nodes s.was before_ns in
@@ -222,11 +196,11 @@ module _ (E N : Pair → Type 0) (F : Path → Type 0) (b : Path) where
           entries = rest_next path_cmp path_total (IsLeft (e ∷ es) ns) (IsLeft es ns) E e es s h.entries;
           nodes = rest_same path_cmp path_total (IsLeft (e ∷ es) ns) (IsLeft es ns) N ns e.0 s h.nodes;
           last = last_turn e es ns g g' found h reached says turns;
-          told = tells_alone e es ns g g' found h ns s no_node reached says kind is;
+          told = tells_alone e es ns g g' found h ns s no_node clean reached says kind is;
         }
 
     -- a node comes first
-    node_turn : ((n : Pair) → N n → IsBelow b n.0) → (n : Pair) (es ns : List Pair) (g : Path) (found : List Finding) → Holds E N F b es (n ∷ ns) g found → IsBeforeFirst n.0 es → Holds E N F b es ns g (found ++ finding b n.0 Missing ∷ [])
+    pub node_turn : ((n : Pair) → N n → IsBelow b n.0) → (n : Pair) (es ns : List Pair) (g : Path) (found : List Finding) → Holds E N F b es (n ∷ ns) g found → IsBeforeFirst n.0 es → Holds E N F b es ns g (found ++ finding b n.0 Missing ∷ [])
     node_turn low_n n es ns g found h first =
         let before_es = before n.0 es h.entries.ascend first in
         let s = step_node path_cmp path_total n es ns h.nodes.ascend before_es in
@@ -242,7 +216,7 @@ module _ (E N : Pair → Type 0) (F : Path → Type 0) (b : Path) where
         }
 
     -- an entry and a node of one path come first
-    both_turn : (e n : Pair) (es ns : List Pair) (g g' : Path) (found : List Finding) → Holds E N F b (e ∷ es) (n ∷ ns) g found → e.0 ≡ n.0
+    pub both_turn : (e n : Pair) (es ns : List Pair) (g g' : Path) (found : List Finding) → Holds E N F b (e ∷ es) (n ∷ ns) g found → e.0 ≡ n.0
         → (reached : Bool) → (IsTrue reached ↔ HangsFrom g e.0) → (kind : Option FindingKind) → IsPairKind reached e.1 n.1 kind → g' ≡ (if reached && is_group e.1 then e.0 else g) → Holds E N F b es ns g' (found ++ findings_at b e.0 kind)
     both_turn e n es ns g g' found h at reached says kind is turns =
         let s = step_both path_cmp path_total e n es ns h.entries.ascend h.nodes.ascend at in
@@ -258,26 +232,9 @@ module _ (E N : Pair → Type 0) (F : Path → Type 0) (b : Path) where
               reached says kind is;
         }
 
-    -- the turns, by what `next_turn`, `lone_kind`, `pair_kind`, `tell` and `group_after` answer
-    pub by_entry : (all : List Pair) (e : Pair) (es ns : List Pair) (g g' : Path) (found told : List Finding) (reached : Bool) (kind : Option FindingKind)
-        → Holds E N F b all ns g found → (all ≡ e ∷ es) × IsBeforeFirst e.0 ns → (IsTrue reached ↔ HangsFrom g e.0) → IsLoneKind reached (IsSpoilt F e.0) kind → told ≡ found ++ findings_at b e.0 kind → g' ≡ (if reached && is_group e.1 then e.0 else g) → Holds E N F b es ns g' told
-    by_entry all e es ns g g' found told reached kind h t says is tells turns =
-        subst (Holds E N F b es ns g') (sym tells) (entry_turn e es ns g g' found (subst (λ x. Holds E N F b x ns g found) t.0 h) t.1 reached says kind is turns)
-
-    pub by_node : ((n : Pair) → N n → IsBelow b n.0) → (all : List Pair) (n : Pair) (es ns : List Pair) (g : Path) (found told : List Finding)
-        → Holds E N F b es all g found → (all ≡ n ∷ ns) × IsBeforeFirst n.0 es → told ≡ found ++ finding b n.0 Missing ∷ [] → Holds E N F b es ns g told
-    by_node low_n all n es ns g found told h t tells = subst (Holds E N F b es ns g) (sym tells) (node_turn low_n n es ns g found (subst (λ x. Holds E N F b es x g found) t.0 h) t.1)
-
-    pub by_both : (all_e all_n : List Pair) (e n : Pair) (es ns : List Pair) (g g' : Path) (found told : List Finding) (reached : Bool) (kind : Option FindingKind)
-        → Holds E N F b all_e all_n g found → (all_e ≡ e ∷ es) × (all_n ≡ n ∷ ns) × (e.0 ≡ n.0) → (IsTrue reached ↔ HangsFrom g e.0) → IsPairKind reached e.1 n.1 kind → told ≡ found ++ findings_at b e.0 kind → g' ≡ (if reached && is_group e.1 then e.0 else g) → Holds E N F b es ns g' told
-    by_both all_e all_n e n es ns g g' found told reached kind h t says is tells turns =
-        subst (Holds E N F b es ns g') (sym tells) (both_turn e n es ns g g' found (subst (λ x. Holds E N F b x (n ∷ ns) g found) t.0 (subst (λ x. Holds E N F b all_e x g found) t.1 h)) t.2 reached says kind is turns)
-
   -- when nothing is left all was told
-  pub by_end : (es ns : List Pair) (g : Path) (found : List Finding) → Holds E N F b es ns g found → (es ≡ []) × (ns ≡ []) → ArePathFindings E N F b found
-  by_end es ns g found h t =
-      let h' : Holds E N F b [] [] g found = subst (λ x. Holds E N F b x [] g found) t.0 (subst (λ x. Holds E N F b es x g found) t.1 h) in
-      record {
-        exact = λ f. (h'.told.sound f, λ is. ⊎_elim (λ in'. in') (λ left. absurd (⊎_elim (λ has. omega (arith, has.1.1)) (λ has. omega (arith, has.1.1)) left)) (h'.told.complete f is));
-        ascend = h'.told.ascend;
-      }
+  pub by_end : (g : Path) (found : List Finding) → Holds E N F b [] [] g found → ArePathFindings E N F b found
+  by_end g found h = record {
+    exact = λ f. (h.told.sound f, λ is. ⊎_elim (λ in'. in') (λ left. absurd (⊎_elim (λ has. omega (arith, has.1.1)) (λ has. omega (arith, has.1.1)) left)) (h.told.complete f is));
+    ascend = h.told.ascend;
+  }

@@ -9,20 +9,11 @@ use Rattle.zarrs_node.specs.Reach.{HasGroup}
 use Rattle.zarrs_node.proofs.Graft.{Contains-first, Contains-cons}
 use Rattle.zarrs_node.proofs.Order.{contains_cases}
 use Rattle.zarrs_node.proofs.Keeps.{below_later, below_trans, not_below_itself, above_child, none_between, between_below}
-use Rattle.zarrs_survey.specs.Findings.{Pair, HasPath, IsAtOrAbove, IsReachable}
+use Rattle.zarrs_survey.specs.Findings.{Pair, IsAtOrAbove, IsReachable}
 use Rattle.zarrs_survey.specs.StepsOfComparing.{HangsFrom}
+use Rattle.zarrs_survey.specs.StepsOfMerging.{StandsBefore, IsLastGroup}
 use Rattle.zarrs_survey.proofs.Merging.{not_before, first_before}
 use Rattle.zarrs_survey.proofs.Above.{same_or_not, at_itself, at_or_above, above_up, up_cases, goes_through}
-
--- p stands before each of the pairs
-abbrev pub StandsBefore : List Pair → Path → Type 0
-StandsBefore es p = (l : Path) → HasPath (Contains es) l → path_cmp p l ≡ Less
-
--- of the entries E below b, with es left: each path from below b to g is a group, and so is no other that was reached and has something below it left
-pub record IsLastGroup (E : Pair → Type 0) (b : Path) (es : List Pair) (g : Path) : Type 0 where
-  pub groups : (q : Path) → IsBelow b q → IsAtOrAbove q g → HasGroup E q
-  pub base : IsAtOrAbove b g
-  pub waits : (q : Path) → HasGroup E q → IsReachable E b q → StandsBefore es q → (d : Path) → HasPath (Contains es) d → IsBelow q d → IsAtOrAbove q g
 
 -- before the first entry it is the base
 pub base_is_last : (b : Path) (es : List Pair) → IsLastGroup (Contains es) b es b

@@ -4,12 +4,14 @@ pub mod Blocks
 pub mod Checking
 pub mod Comparing
 pub mod Halving
-pub mod Keeping
 pub mod KeyFindings
 pub mod LastGroup
 pub mod LawProofs
 pub mod Merging
+pub mod Places
 pub mod Reading
 pub mod Refreshing
 pub mod Ridding
 pub mod Surveying
+pub mod Taking
+pub mod UnderWay

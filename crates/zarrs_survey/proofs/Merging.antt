@@ -6,33 +6,7 @@ use Rattle.std.specs.Cmp.{IsTotalOrder, tied_itself}
 use Rattle.zarrs_node.proofs.Found.{all_pairs_first, all_pairs_tail}
 use Rattle.zarrs_node.proofs.Graft.{Contains-first, Contains-cons}
 use Rattle.zarrs_node.proofs.Order.{contains_cases}
-
--- ---- what is left
-
--- some pair has the key
-abbrev pub HasKey : {K M : Type 0} → (K × M → Type 0) → K → Type 0
-HasKey {K} {M} N k = (m : M) × N (k, m)
-
--- some pair of one of the lists has the key
-abbrev pub IsLeft : {K M : Type 0} → List (K × M) → List (K × M) → K → Type 0
-IsLeft es ns k = HasKey (Contains es) k ⊎ HasKey (Contains ns) k
-
--- k stands before all that is left
-abbrev pub IsPast : {K : Type 0} → (K → K → Ordering) → (K → Type 0) → K → Type 0
-IsPast {K} cmp Left k = (l : K) → Left l → cmp k l ≡ Less
-
--- es are the pairs of E that are left
-pub record IsRest {K M : Type 0} (cmp : K → K → Ordering) (Left : K → Type 0) (E : K × M → Type 0) (es : List (K × M)) : Type 0 where
-  pub ascend : AllPairs (λ d e. cmp d.0 e.0 ≡ Less) es
-  pub sound : (e : K × M) → Contains es e → E e
-  pub complete : (e : K × M) → E e → Contains es e ⊎ IsPast cmp Left e.0
-
--- what was told is what there is to tell of keys that are past, in order
-pub record IsTold {K A : Type 0} (cmp : K → K → Ordering) (key : A → K) (Left : K → Type 0) (F : A → Type 0) (told : List A) : Type 0 where
-  pub ascend : AllPairs (λ d e. cmp (key d) (key e) ≡ Less) told
-  pub sound : (f : A) → Contains told f → F f
-  pub past : (f : A) → Contains told f → IsPast cmp Left (key f)
-  pub complete : (f : A) → F f → Contains told f ⊎ Left (key f)
+use Rattle.zarrs_survey.specs.StepsOfMerging.{HasKey, IsLeft, IsPast, IsRest, IsTold}
 
 -- k is the first that was left, and is not any more
 pub record IsStep {K : Type 0} (cmp : K → K → Ordering) (Left Left' : K → Type 0) (k : K) : Type 0 where

@@ -2,8 +2,10 @@ pub mod Apart
 pub mod Surveys
 pub mod Findings
 pub mod StepsOfComparing
+pub mod StepsOfMerging
+pub mod StepsOfComparisons
 pub mod StepsOfSurveys
 pub mod Checks
 pub mod StepsOfChecks
-pub mod StepsOfKeeping
+pub mod StepsOfTaking
 pub mod Laws

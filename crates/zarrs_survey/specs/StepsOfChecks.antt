@@ -1,5 +1,5 @@
 -- Steps of a check: what is told of blocks, one after another; no public contract rests on them.
-use Rattle.std.specs.Prelude.{◌≡◌, ◌↔◌, List, ◌++◌, AllPairs, Contains, map, Option, Some, Result, Ok, Err}
+use Rattle.std.specs.Prelude.{◌≡◌, ◌↔◌, List, AllPairs, Contains, Option, Some, Result, Ok, Err}
 use Rattle.std.specs.declared.cmp.Ordering.TheVariants.{Less}
 use Rattle.zarrs_fault.specs.declared.fault.MetadataFault.{MetadataFault}
 use Rattle.zarrs_fault.specs.declared.fault.MetadataFault.TheVariants.{OutOfMemory}
@@ -25,10 +25,6 @@ shown_block (Err fault) = Err fault
 abbrev pub ReadBlock : Type 0
 ReadBlock = Path × Result Block MetadataFault
 
--- what was read as blocks, as it is seen
-abbrev pub shown_blocks : List (Path × Result ConsolidatedMetadata MetadataFault) → List ReadBlock
-shown_blocks bs = map (λ b. (b.0, shown_block b.1)) bs
-
 -- the paths ascend
 abbrev pub GroupsAscend : List ReadBlock → Type 0
 GroupsAscend bs = AllPairs (λ b c. path_cmp b.0 c.0 ≡ Less) bs
@@ -36,10 +32,6 @@ GroupsAscend bs = AllPairs (λ b c. path_cmp b.0 c.0 ≡ Less) bs
 -- a bad document stands at the path
 abbrev pub HasBad : List (Path × NodeCreateError) → Path → Type 0
 HasBad bad q = (e : NodeCreateError) × Contains bad (q, e)
-
--- what there is to tell of what was read as the block of g, beside nodes and bad documents, was put behind the other findings
-abbrev pub AreToldOf : Path → Result Block MetadataFault → List Pair → List (Path × NodeCreateError) → List Finding → List Finding → Type 0
-AreToldOf g read nodes bad old new = (found : List Finding) × (new ≡ old ++ found) × AreTold (Some read) (Contains nodes) (HasBad bad) g found
 
 -- the findings are exactly what there is to tell of these blocks, each once, in the order of groups, paths and keys
 pub record AreFindingsOf (blocks : List ReadBlock) (nodes : List Pair) (bad : List (Path × NodeCreateError)) (found : List Finding) : Type 0 where

@@ -1,4 +1,4 @@
--- Steps of comparing: what comes first of two ascending lists of pairs, by path, and what is told of keys; no public contract rests on them.
+-- Steps of comparing: what is told of entries beside nodes, and of keys; no public contract rests on them.
 use Rattle.std.specs.Prelude.{◌≡◌, ◌↔◌, ℕ, Bool, true, false, Option, Some, None, List, [], ◌∷◌, ◌++◌, Contains, AllPairs, ◌⊎◌, if◌then◌else◌}
 use Rattle.std.specs.List.{list_all}
 use Rattle.std.specs.declared.cmp.Ordering.TheVariants.{Less}
@@ -9,11 +9,9 @@ use Rattle.zarrs_block.specs.Block.{Block, node_at_key}
 use Rattle.zarrs_block.specs.BlockExpansion.{is_covered}
 use Rattle.zarrs_compare.specs.Same.{IsSame}
 use Rattle.zarrs_survey.specs.Findings.{Pair, IsPathFinding, IsAtOrAbove}
-use Rattle.zarrs_survey.specs.declared.compare.Turn.{Turn}
-use Rattle.zarrs_survey.specs.declared.compare.Turn.TheVariants.{Entry, Node, Both, End}
 use Rattle.zarrs_survey.specs.declared.finding.Finding.{Finding}
 use Rattle.zarrs_survey.specs.declared.finding.FindingKind.{FindingKind}
-use Rattle.zarrs_survey.specs.declared.finding.FindingKind.TheVariants.{BadKey, Shadowed, Unreachable, Stale, Differs}
+use Rattle.zarrs_survey.specs.declared.finding.FindingKind.TheVariants.{BadKey, Shadowed, Unreachable, Differs}
 
 -- the findings are exactly those of the paths of entries and nodes, all of the group g, each once, in the order of paths
 pub record ArePathFindings (E N : Pair → Type 0) (F : Path → Type 0) (g : Path) (found : List Finding) : Type 0 where
@@ -32,19 +30,6 @@ HangsFrom g p = (r : Path) × (n : List ℕ) × (p ≡ r ++ n ∷ []) × IsAtOrA
 abbrev pub IsBeforeFirst : Path → List Pair → Type 0
 IsBeforeFirst p [] = Unit {0}
 IsBeforeFirst p (e ∷ es) = path_cmp p e.0 ≡ Less
-
--- what comes first of the entries and the nodes, and what is left of the lists
-abbrev pub IsTurn : List Pair → List Pair → Turn → Type 0
-IsTurn es ns (Entry e rest) = (es ≡ e.now ∷ rest.now) × IsBeforeFirst e.now.0 ns
-IsTurn es ns (Node n rest) = (ns ≡ n.now ∷ rest.now) × IsBeforeFirst n.now.0 es
-IsTurn es ns (Both e rest n others) = (es ≡ e.now ∷ rest.now) × (ns ≡ n.now ∷ others.now) × (e.now.0 ≡ n.now.0)
-IsTurn es ns End = (es ≡ []) × (ns ≡ [])
-
--- what is to be told of an entry without a node, which is reachable or not, and spoilt or not
-abbrev pub IsLoneKind : Bool → Type 0 → Option FindingKind → Type 0
-IsLoneKind false spoilt kind = kind ≡ Some Unreachable
-IsLoneKind true spoilt None = spoilt
-IsLoneKind true spoilt (Some k) = (k ≡ Stale) × (spoilt → ⊥)
 
 -- what is to be told of an entry with these metadata, which is reachable or not, beside a node with others
 abbrev pub IsPairKind : Bool → NodeMetadata → NodeMetadata → Option FindingKind → Type 0

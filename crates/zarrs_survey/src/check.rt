@@ -1,5 +1,5 @@
 //! All that is wrong with a store at a path and below it.
-ghost use Rattle.std.specs.Prelude.{◌≡◌, ◌++◌, ◌∷◌, [], IfOk, IfErr, OnOk, option_map, codes};
+ghost use Rattle.std.specs.Prelude.{◌≡◌, ◌++◌, ◌∷◌, [], IfOk, IfErr, option_map, codes};
 ghost use Rattle.std.specs.FinMap.{get};
 ghost use Rattle.serde_json.specs.Find.{get_member};
 ghost use Rattle.zarrs_store.specs.Faults.{IsStoreError};
@@ -9,12 +9,13 @@ ghost use Rattle.zarrs_block.specs.Block.{block_of};
 ghost use Rattle.zarrs_block.specs.Zmetadata.{zmetadata_of};
 ghost use Rattle.zarrs_path.specs.Keys.{zmetadata};
 ghost use Rattle.zarrs_survey.specs.Checks.{AreBlockFindings, IsCheckOf, as_read, block_read};
-ghost use Rattle.zarrs_survey.specs.StepsOfChecks.{AreToldOf, AreFindingsOf, GroupsAscend, IsKnownOf, shown_block, shown_blocks};
+ghost use Rattle.zarrs_survey.specs.StepsOfChecks.{IsKnownOf};
+ghost use Rattle.zarrs_survey.specs.StepsOfTaking.{AreEnds};
 
 use crate::bad_documents::BadDocuments;
-use crate::block::compare_nodes;
-use crate::finding::{Finding, FindingKind};
-use crate::kept::KeptNodes;
+use crate::comparison::Comparison;
+use crate::comparisons::Comparisons;
+use crate::finding::Finding;
 use crate::survey::{base_of, sort_faults, warn_ignored};
 use log::Log;
 use std::alloc::{AllocError, Global};
@@ -22,7 +23,6 @@ use zarrs_block::{ConsolidatedMetadata, NodeCreateError};
 use zarrs_config::MetadataRetrieveVersion;
 use zarrs_fault::MetadataFault;
 use zarrs_form::parse;
-use zarrs_hierarchy::Hierarchy;
 use zarrs_meta::{AdditionalFieldsV3, GroupMetadata, NodeMetadata};
 use zarrs_node::walk_past_faults;
 use zarrs_path::{NodePath, meta_key_v2_consolidated};
@@ -53,7 +53,7 @@ pub struct Check {
 impl Check {
     /// Checks what a store has at a path and below it, by the documents of a version: looks at it as [`Survey::of_store`] does, and compares the
     /// block of each group with the nodes below it. A version 3 group has its block in the field `consolidated_metadata`, one of version 2 in the
-    /// document `.zmetadata` beside its own. Metadata are held below a group with a block alone, and until the end of the check.
+    /// document `.zmetadata` beside its own. Each node is compared as it comes, and not kept; of a block its entries are held until their turn.
     ///
     /// # Errors
     ///
@@ -77,21 +77,19 @@ impl Check {
     {
         let _valid = path.as_str();
         let base = base_of(alloc, storage, path, version)?;
-        let mut kept = KeptNodes::new(alloc, storage);
-        let base = kept.take_base(path.try_clone(alloc)?, base)?;
-        let walked = walk_past_faults(alloc, storage, path, version, &mut kept)?;
-        let KeptNodes {
+        let mut taken = Comparisons::new(alloc, storage);
+        let base = taken.take_base(path.try_clone(alloc)?, base)?;
+        let walked = walk_past_faults(alloc, storage, path, version, &mut taken)?;
+        let Comparisons {
             count,
             blocks,
-            nodes,
             outcome,
             ..
-        } = kept;
+        } = taken;
         outcome?;
         warn_ignored(log, &walked.ignored);
         let (bad_documents, bad_names) = sort_faults(alloc, walked.faults)?;
-        let nodes = Hierarchy::from_ascending(nodes);
-        let findings = compare_blocks(alloc, blocks, &nodes, &bad_documents)?;
+        let findings = finish(alloc, blocks, &bad_documents)?;
         Ok(Check {
             path: path.try_clone(alloc)?,
             base,
@@ -104,45 +102,19 @@ impl Check {
     }
 }
 
-// What there is to tell of blocks, each of the group at a path, beside nodes, in the order of groups, paths and keys.
-fn compare_blocks(
+// All that there is to tell of blocks, where there are no more nodes.
+fn finish(
     alloc: Global,
-    blocks: Vec<(NodePath, Result<ConsolidatedMetadata, MetadataFault>)>,
-    nodes: &Hierarchy,
+    blocks: Vec<Comparison>,
     bad: &BadDocuments,
 ) -> Result<Vec<Finding>, AllocError>
-    requires { GroupsAscend (shown_blocks blocks.items) }
-    ensures { IfOk result
-        (λ found. AreFindingsOf (shown_blocks blocks.items) nodes.now bad.now found.items) }
+    ensures { IfOk result (λ found. AreEnds blocks.items bad.now found.items) }
 {
     let mut found = Vec::new(alloc);
-    for (group, block) in blocks {
-        tell_block(alloc, group, block, nodes, bad, &mut found)?;
+    for block in blocks {
+        found.append(&mut block.finish(alloc, bad)?)?;
     }
     Ok(found)
-}
-
-// Puts what there is to tell of a block behind the other findings.
-fn tell_block(
-    alloc: Global,
-    group: NodePath,
-    block: Result<ConsolidatedMetadata, MetadataFault>,
-    nodes: &Hierarchy,
-    bad: &BadDocuments,
-    found: &mut Vec<Finding>,
-) -> Result<(), AllocError>
-    ensures { OnOk result
-        (AreToldOf group (shown_block block) nodes.now bad.now found.old.items found.new.items) }
-{
-    match block {
-        Ok(block) => found.append(&mut compare_nodes(alloc, nodes, bad, &group, block)?)?,
-        Err(fault) => {
-            let path = group.try_clone(alloc)?;
-            let kind = FindingKind::BlockFault(fault);
-            found.push(Finding { group, path, kind })?;
-        }
-    }
-    Ok(())
 }
 
 /// What is read as the block of a node at a path: of a version 3 group its field `consolidated_metadata`, of one of version 2 the document

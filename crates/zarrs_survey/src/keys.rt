@@ -7,7 +7,7 @@ ghost use Rattle.zarrs_block.specs.Block.{IsAscending};
 ghost use Rattle.zarrs_block.specs.BlockExpansion.{is_covered};
 ghost use Rattle.zarrs_survey.specs.StepsOfComparing.{key_kind, key_findings, IsRidOf};
 
-use crate::compare::tell;
+use crate::comparison::tell;
 use crate::finding::{Finding, FindingKind};
 use std::alloc::{AllocError, Global};
 use zarrs_block::ConsolidatedMetadataMetadata;

@@ -5,9 +5,9 @@
 mod bad_documents;
 mod block;
 mod check;
-mod compare;
+mod comparison;
+mod comparisons;
 mod finding;
-mod kept;
 mod keys;
 pub mod laws;
 mod survey;

@@ -1,0 +1,11 @@
+use Rattle.std.proofs.Common.{◌∙◌}
+use Rattle.zarrs_survey.proofs.UnderWay.{pair_passed}
+use Rattle.zarrs_survey.proofs.comparison.Comparison.tell_pair.Goals as goal
+
+pub returns : goal.returns
+returns c = record {
+  one = record { group = c.pass.ensures.one.group; of_block = c.pass.ensures.one.of_block };
+  entries = c.pass.ensures.entries;
+  told = λ all nodes ns u. pair_passed all nodes c.args.self.now c.pass.new.self c.pass.ensures.one.group c.args.entry c.args.metadata.now _ ns c.in_ok-reached.reached c.pair_kind-kind.result u
+      c.in_ok-reached.ensures c.pair_kind-kind.ensures (c.pass.ensures.found ∙ c.in_ok-tell.ensures) c.pass.ensures.last;
+}
