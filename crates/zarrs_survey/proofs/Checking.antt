@@ -24,7 +24,7 @@ use Rattle.zarrs_survey.specs.Checks.{block_read, HasNode, HasBadPath, fault_of_
 use Rattle.zarrs_survey.specs.Findings.{Pair, AreFindings, IsPathFinding}
 use Rattle.zarrs_survey.specs.StepsOfChecks.{ReadBlock, GroupsAscend, AreTold, HasBad, AreFindingsOf}
 use Rattle.zarrs_survey.specs.StepsOfComparing.{ArePathFindings}
-use Rattle.zarrs_survey.specs.StepsOfMerging.{Holds}
+use Rattle.zarrs_survey.specs.StepsOfMerging.{HoldsUpTo}
 use Rattle.zarrs_survey.specs.StepsOfComparisons.{NoneBad, IsUnderWay, IsOnly, IsEnd}
 use Rattle.zarrs_survey.specs.StepsOfTaking.{AreEnds, blocks_of}
 use Rattle.zarrs_survey.specs.Surveys.{IsBase, BadDocuments, IsSurveyOf}
@@ -72,9 +72,9 @@ only_under_way : (f : Finding) (c : Comparison) → IsOnly f c → IsUnderWay []
 only_under_way f c is = record {
   low = λ d in'. absurd (omega (arith, in'.1));
   under = λ d in'. absurd (omega (arith, in'.1));
-  holds = subst (λ es. Holds (Contains []) (Contains []) NoneBad c.group es [] c.last c.found.items) (sym is.entries)
-      (subst (λ p. Holds (Contains []) (Contains []) NoneBad c.group [] [] p c.found.items) (is.group ∙ sym is.last)
-      (subst (Holds (Contains []) (Contains []) NoneBad c.group [] [] c.group) (sym is.found) (holds_none NoneBad c.group [] [] none none)));
+  holds = subst (λ es. HoldsUpTo (Contains []) (Contains []) NoneBad c.group es [] c.last c.found.items) (sym is.entries)
+      (subst (λ p. HoldsUpTo (Contains []) (Contains []) NoneBad c.group [] [] p c.found.items) (is.group ∙ sym is.last)
+      (subst (HoldsUpTo (Contains []) (Contains []) NoneBad c.group [] [] c.group) (sym is.found) (holds_none NoneBad c.group [] [] none none)));
 }
   where
     none : Ascend []

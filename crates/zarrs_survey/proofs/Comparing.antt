@@ -13,7 +13,7 @@ use Rattle.zarrs_survey.specs.declared.finding.FindingKind.{FindingKind}
 use Rattle.zarrs_survey.specs.declared.finding.FindingKind.TheVariants.{BlockFault, BadKey, Shadowed, Unreachable, Stale, Differs, Missing}
 use Rattle.zarrs_survey.specs.Findings.{Pair, HasPath, IsReachable, IsCutOff, IsSpoilt, IsPathFinding}
 use Rattle.zarrs_survey.specs.StepsOfComparing.{ArePathFindings, HangsFrom, IsBeforeFirst, IsPairKind, findings_at}
-use Rattle.zarrs_survey.specs.StepsOfMerging.{IsLeft, IsTold, StandsBefore, IsLastGroup, IsToTell, Holds}
+use Rattle.zarrs_survey.specs.StepsOfMerging.{IsLeft, IsToldUpTo, IsBeforeAll, IsLastGroup, IsToTell, HoldsUpTo}
 use Rattle.zarrs_survey.proofs.Merging.{IsStep, step_entry, step_node, step_both, none_at, only_first, before_all, rest_same, rest_next, rest_all, told_none, told_same, told_more}
 use Rattle.zarrs_survey.proofs.LastGroup.{reached_or_not, base_is_last, last_after_group, last_after_other, hanging_reached, reached_hanging}
 
@@ -32,7 +32,7 @@ is_somewhere E N F b p (BadKey t) h = absurd h
 is_somewhere E N F b p (Shadowed t) h = absurd h
 
 -- before the first turn it holds
-pub holds_none : (F : Path → Type 0) (b : Path) (es ns : List Pair) → Ascend es → Ascend ns → Holds (Contains es) (Contains ns) F b es ns b []
+pub holds_none : (F : Path → Type 0) (b : Path) (es ns : List Pair) → Ascend es → Ascend ns → HoldsUpTo (Contains es) (Contains ns) F b es ns b []
 holds_none F b es ns up_e up_n = record {
   entries = rest_all path_cmp (IsLeft es ns) es up_e;
   nodes = rest_all path_cmp (IsLeft es ns) ns up_n;
@@ -41,7 +41,7 @@ holds_none F b es ns up_e up_n = record {
 }
 
 -- a path before the first of ascending pairs is before each
-before : (p : Path) (ns : List Pair) → Ascend ns → IsBeforeFirst p ns → StandsBefore ns p
+before : (p : Path) (ns : List Pair) → Ascend ns → IsBeforeFirst p ns → IsBeforeAll ns p
 before p [] up h l has = absurd (omega (arith, has.1.1))
 before p (n ∷ ns) up h l has = before_all path_cmp path_total p n ns up h l has
 
@@ -105,7 +105,7 @@ module _ (E N : Pair → Type 0) (F : Path → Type 0) (b : Path) where
 
   -- the pairs of E are below b, and whether it has a group at a path is known
   module _ (low : (e : Pair) → E e → IsBelow b e.0) (decide : (q : Path) → HasGroup E q ⊎ (HasGroup E q → ⊥)) where
-    module _ (e : Pair) (es ns : List Pair) (g g' : Path) (found : List Finding) (h : Holds E N F b (e ∷ es) ns g found) where
+    module _ (e : Pair) (es ns : List Pair) (g g' : Path) (found : List Finding) (h : HoldsUpTo E N F b (e ∷ es) ns g found) where
       -- E has the first entry
       has_entry : E (e.0, e.1)
       has_entry = h.entries.sound e (Contains-first e es)
@@ -119,7 +119,7 @@ module _ (E N : Pair → Type 0) (F : Path → Type 0) (b : Path) where
       only_entry = only_first path_cmp path_total (IsLeft (e ∷ es) ns) E e es h.entries (inl (e.1, Contains-first e es))
 
       -- a pair of E is left, or before those that are
-      left_or_before : (d : Pair) → E d → Contains (e ∷ es) d ⊎ StandsBefore (e ∷ es) d.0
+      left_or_before : (d : Pair) → E d → Contains (e ∷ es) d ⊎ IsBeforeAll (e ∷ es) d.0
       left_or_before d is = ⊎_elim inl (λ past. inr (λ l has. past l (inl has))) (h.entries.complete d is)
 
       -- where it does not hang from the group, it is not reached
@@ -147,7 +147,7 @@ module _ (E N : Pair → Type 0) (F : Path → Type 0) (b : Path) where
       module _ (ns' : List Pair) (s : IsStep path_cmp (IsLeft (e ∷ es) ns) (IsLeft es ns') e.0) where
         -- these are told
         abbrev IsToldNow : List Finding → Type 0
-        IsToldNow told = IsTold path_cmp (λ f. f.path) (IsLeft es ns') (IsToTell E N F b) told
+        IsToldNow told = IsToldUpTo path_cmp (λ f. f.path) (IsLeft es ns') (IsToTell E N F b) told
 
         -- a finding, where it is the only one at the path
         tells : (k : FindingKind) → IsPathFinding E N F b e.0 k → ((j : FindingKind) → IsPathFinding E N F b e.0 j → j ≡ k) → IsToldNow (found ++ finding b e.0 k ∷ [])
@@ -186,8 +186,8 @@ module _ (E N : Pair → Type 0) (F : Path → Type 0) (b : Path) where
             (tells Differs (e.1, n, has_entry, r, has, is.1) (λ j. only_differs e.0 j (e.1, has_entry) r (n, has)))
 
     -- an entry comes first, where no bad document is at or above it
-    pub entry_turn : (e : Pair) (es ns : List Pair) (g g' : Path) (found : List Finding) → Holds E N F b (e ∷ es) ns g found → IsBeforeFirst e.0 ns → (IsSpoilt F e.0 → ⊥)
-        → (reached : Bool) → (IsTrue reached ↔ HangsFrom g e.0) → (kind : FindingKind) → kind ≡ (if reached then Stale else Unreachable) → g' ≡ (if reached && is_group e.1 then e.0 else g) → Holds E N F b es ns g' (found ++ finding b e.0 kind ∷ [])
+    pub entry_turn : (e : Pair) (es ns : List Pair) (g g' : Path) (found : List Finding) → HoldsUpTo E N F b (e ∷ es) ns g found → IsBeforeFirst e.0 ns → (IsSpoilt F e.0 → ⊥)
+        → (reached : Bool) → (IsTrue reached ↔ HangsFrom g e.0) → (kind : FindingKind) → kind ≡ (if reached then Stale else Unreachable) → g' ≡ (if reached && is_group e.1 then e.0 else g) → HoldsUpTo E N F b es ns g' (found ++ finding b e.0 kind ∷ [])
     entry_turn e es ns g g' found h first clean reached says kind is turns =
         let before_ns = before e.0 ns h.nodes.ascend first in
         let s = step_entry path_cmp path_total e es ns h.entries.ascend before_ns in
@@ -200,7 +200,7 @@ module _ (E N : Pair → Type 0) (F : Path → Type 0) (b : Path) where
         }
 
     -- a node comes first
-    pub node_turn : ((n : Pair) → N n → IsBelow b n.0) → (n : Pair) (es ns : List Pair) (g : Path) (found : List Finding) → Holds E N F b es (n ∷ ns) g found → IsBeforeFirst n.0 es → Holds E N F b es ns g (found ++ finding b n.0 Missing ∷ [])
+    pub node_turn : ((n : Pair) → N n → IsBelow b n.0) → (n : Pair) (es ns : List Pair) (g : Path) (found : List Finding) → HoldsUpTo E N F b es (n ∷ ns) g found → IsBeforeFirst n.0 es → HoldsUpTo E N F b es ns g (found ++ finding b n.0 Missing ∷ [])
     node_turn low_n n es ns g found h first =
         let before_es = before n.0 es h.entries.ascend first in
         let s = step_node path_cmp path_total n es ns h.nodes.ascend before_es in
@@ -216,8 +216,8 @@ module _ (E N : Pair → Type 0) (F : Path → Type 0) (b : Path) where
         }
 
     -- an entry and a node of one path come first
-    pub both_turn : (e n : Pair) (es ns : List Pair) (g g' : Path) (found : List Finding) → Holds E N F b (e ∷ es) (n ∷ ns) g found → e.0 ≡ n.0
-        → (reached : Bool) → (IsTrue reached ↔ HangsFrom g e.0) → (kind : Option FindingKind) → IsPairKind reached e.1 n.1 kind → g' ≡ (if reached && is_group e.1 then e.0 else g) → Holds E N F b es ns g' (found ++ findings_at b e.0 kind)
+    pub both_turn : (e n : Pair) (es ns : List Pair) (g g' : Path) (found : List Finding) → HoldsUpTo E N F b (e ∷ es) (n ∷ ns) g found → e.0 ≡ n.0
+        → (reached : Bool) → (IsTrue reached ↔ HangsFrom g e.0) → (kind : Option FindingKind) → IsPairKind reached e.1 n.1 kind → g' ≡ (if reached && is_group e.1 then e.0 else g) → HoldsUpTo E N F b es ns g' (found ++ findings_at b e.0 kind)
     both_turn e n es ns g g' found h at reached says kind is turns =
         let s = step_both path_cmp path_total e n es ns h.entries.ascend h.nodes.ascend at in
         let s_node = subst (IsStep path_cmp (IsLeft (e ∷ es) (n ∷ ns)) (IsLeft es ns)) at s in
@@ -233,7 +233,7 @@ module _ (E N : Pair → Type 0) (F : Path → Type 0) (b : Path) where
         }
 
   -- when nothing is left all was told
-  pub by_end : (g : Path) (found : List Finding) → Holds E N F b [] [] g found → ArePathFindings E N F b found
+  pub by_end : (g : Path) (found : List Finding) → HoldsUpTo E N F b [] [] g found → ArePathFindings E N F b found
   by_end g found h = record {
     exact = λ f. (h.told.sound f, λ is. ⊎_elim (λ in'. in') (λ left. absurd (⊎_elim (λ has. omega (arith, has.1.1)) (λ has. omega (arith, has.1.1)) left)) (h.told.complete f is));
     ascend = h.told.ascend;

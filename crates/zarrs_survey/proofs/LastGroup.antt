@@ -11,7 +11,7 @@ use Rattle.zarrs_node.proofs.Order.{contains_cases}
 use Rattle.zarrs_node.proofs.Keeps.{below_later, below_trans, not_below_itself, above_child, none_between, between_below}
 use Rattle.zarrs_survey.specs.Findings.{Pair, IsAtOrAbove, IsReachable}
 use Rattle.zarrs_survey.specs.StepsOfComparing.{HangsFrom}
-use Rattle.zarrs_survey.specs.StepsOfMerging.{StandsBefore, IsLastGroup}
+use Rattle.zarrs_survey.specs.StepsOfMerging.{IsBeforeAll, IsLastGroup}
 use Rattle.zarrs_survey.proofs.Merging.{not_before, first_before}
 use Rattle.zarrs_survey.proofs.Above.{same_or_not, at_itself, at_or_above, above_up, up_cases, goes_through}
 
@@ -55,9 +55,9 @@ module _ (E : Pair → Type 0) (b : Path) where
             (up_cases b r (w.0, refl)),
       )
 
-  module _ (e : Pair) (es : List Pair) (g : Path) (up : Ascend (e ∷ es)) (o : IsLastGroup E b (e ∷ es) g) (all : (d : Pair) → E d → Contains (e ∷ es) d ⊎ StandsBefore (e ∷ es) d.0) where
+  module _ (e : Pair) (es : List Pair) (g : Path) (up : Ascend (e ∷ es)) (o : IsLastGroup E b (e ∷ es) g) (all : (d : Pair) → E d → Contains (e ∷ es) d ⊎ IsBeforeAll (e ∷ es) d.0) where
     -- a group before the entries behind the first is the first, or before it
-    earlier : (q : Path) → HasGroup E q → StandsBefore es q → (e.0 ≡ q) ⊎ StandsBefore (e ∷ es) q
+    earlier : (q : Path) → HasGroup E q → IsBeforeAll es q → (e.0 ≡ q) ⊎ IsBeforeAll (e ∷ es) q
     earlier q group before = ⊎_elim
         (λ in'. ⊎_elim (λ same. inl (ap (λ x. x.0) same)) (λ later. absurd (not_before path_cmp path_total q (before q (group.0, later)))) (contains_cases e es (q, group.0) in'))
         inr

@@ -6,7 +6,7 @@ use Rattle.std.specs.Cmp.{IsTotalOrder, tied_itself}
 use Rattle.zarrs_node.proofs.Found.{all_pairs_first, all_pairs_tail}
 use Rattle.zarrs_node.proofs.Graft.{Contains-first, Contains-cons}
 use Rattle.zarrs_node.proofs.Order.{contains_cases}
-use Rattle.zarrs_survey.specs.StepsOfMerging.{HasKey, IsLeft, IsPast, IsRest, IsTold}
+use Rattle.zarrs_survey.specs.StepsOfMerging.{HasPairAt, IsLeft, IsPast, IsRest, IsToldUpTo}
 
 -- k is the first that was left, and is not any more
 pub record IsStep {K : Type 0} (cmp : K → K → Ordering) (Left Left' : K → Type 0) (k : K) : Type 0 where
@@ -22,18 +22,18 @@ module _ {K : Type 0} (cmp : K → K → Ordering) (total : IsTotalOrder cmp) wh
 
   module _ {M : Type 0} where
     -- the key of a first pair is before those of the others
-    pub first_before : (e : K × M) (es : List (K × M)) → AllPairs (λ d e. cmp d.0 e.0 ≡ Less) (e ∷ es) → (l : K) → HasKey (Contains es) l → cmp e.0 l ≡ Less
+    pub first_before : (e : K × M) (es : List (K × M)) → AllPairs (λ d e. cmp d.0 e.0 ≡ Less) (e ∷ es) → (l : K) → HasPairAt (Contains es) l → cmp e.0 l ≡ Less
     first_before e es up l (m, in') = all_pairs_first (λ d e. cmp d.0 e.0 ≡ Less) e es up (l, m) in'
 
     -- what is before a first key is before all
-    pub before_all : (k : K) (e : K × M) (es : List (K × M)) → AllPairs (λ d e. cmp d.0 e.0 ≡ Less) (e ∷ es) → cmp k e.0 ≡ Less → (l : K) → HasKey (Contains (e ∷ es)) l → cmp k l ≡ Less
+    pub before_all : (k : K) (e : K × M) (es : List (K × M)) → AllPairs (λ d e. cmp d.0 e.0 ≡ Less) (e ∷ es) → cmp k e.0 ≡ Less → (l : K) → HasPairAt (Contains (e ∷ es)) l → cmp k l ≡ Less
     before_all k e es up less l (m, in') = ⊎_elim
         (λ same. subst (λ x. cmp k x.0 ≡ Less) same less)
         (λ later. total.trans k e.0 l less (first_before e es up l (m, later)))
         (contains_cases e es (l, m) in')
 
     -- at a key that is before all that is left, there is nothing
-    pub none_at : (Left : K → Type 0) (E : K × M → Type 0) (es : List (K × M)) (k : K) → IsRest cmp Left E es → Left k → ((l : K) → HasKey (Contains es) l → cmp k l ≡ Less) → HasKey E k → ⊥
+    pub none_at : (Left : K → Type 0) (E : K × M → Type 0) (es : List (K × M)) (k : K) → IsRest cmp Left E es → Left k → ((l : K) → HasPairAt (Contains es) l → cmp k l ≡ Less) → HasPairAt E k → ⊥
     none_at Left E es k r left before (m, has) = ⊎_elim
         (λ in'. not_before k (before k (m, in')))
         (λ past. not_before k (past k left))
@@ -69,7 +69,7 @@ module _ {K : Type 0} (cmp : K → K → Ordering) (total : IsTotalOrder cmp) wh
     }
 
     -- the first of the pairs on the left is the first
-    pub step_entry : (e : K × M) (es ns : List (K × M)) → AllPairs (λ d e. cmp d.0 e.0 ≡ Less) (e ∷ es) → ((l : K) → HasKey (Contains ns) l → cmp e.0 l ≡ Less) → IsStep cmp (IsLeft (e ∷ es) ns) (IsLeft es ns) e.0
+    pub step_entry : (e : K × M) (es ns : List (K × M)) → AllPairs (λ d e. cmp d.0 e.0 ≡ Less) (e ∷ es) → ((l : K) → HasPairAt (Contains ns) l → cmp e.0 l ≡ Less) → IsStep cmp (IsLeft (e ∷ es) ns) (IsLeft es ns) e.0
     step_entry e es ns up before = record {
       was = inl (e.1, Contains-first e es);
       fewer = λ l. ⊎_elim (λ h. inl (h.0, Contains-cons e es (l, h.0) h.1)) inr;
@@ -78,7 +78,7 @@ module _ {K : Type 0} (cmp : K → K → Ordering) (total : IsTotalOrder cmp) wh
     }
 
     -- the first of the pairs on the right is the first
-    pub step_node : (n : K × M) (es ns : List (K × M)) → AllPairs (λ d e. cmp d.0 e.0 ≡ Less) (n ∷ ns) → ((l : K) → HasKey (Contains es) l → cmp n.0 l ≡ Less) → IsStep cmp (IsLeft es (n ∷ ns)) (IsLeft es ns) n.0
+    pub step_node : (n : K × M) (es ns : List (K × M)) → AllPairs (λ d e. cmp d.0 e.0 ≡ Less) (n ∷ ns) → ((l : K) → HasPairAt (Contains es) l → cmp n.0 l ≡ Less) → IsStep cmp (IsLeft es (n ∷ ns)) (IsLeft es ns) n.0
     step_node n es ns up before = record {
       was = inr (n.1, Contains-first n ns);
       fewer = λ l. ⊎_elim inl (λ h. inr (h.0, Contains-cons n ns (l, h.0) h.1));
@@ -97,9 +97,9 @@ module _ {K : Type 0} (cmp : K → K → Ordering) (total : IsTotalOrder cmp) wh
       least = λ l. ⊎_elim (first_before e es up_e l) (λ h. subst (λ x. cmp x l ≡ Less) (sym at) (first_before n ns up_n l h));
     }
 
-  module _ {A : Type 0} (key : A → K) (Left Left' : K → Type 0) (F : A → Type 0) (told : List A) (k : K) (s : IsStep cmp Left Left' k) (t : IsTold cmp key Left F told) where
+  module _ {A : Type 0} (key : A → K) (Left Left' : K → Type 0) (F : A → Type 0) (told : List A) (k : K) (s : IsStep cmp Left Left' k) (t : IsToldUpTo cmp key Left F told) where
     -- at the key there is nothing to tell
-    pub told_same : ((f : A) → F f → key f ≡ k → ⊥) → IsTold cmp key Left' F told
+    pub told_same : ((f : A) → F f → key f ≡ k → ⊥) → IsToldUpTo cmp key Left' F told
     told_same none = record {
       ascend = t.ascend;
       sound = t.sound;
@@ -108,7 +108,7 @@ module _ {K : Type 0} (cmp : K → K → Ordering) (total : IsTotalOrder cmp) wh
     }
 
     -- at the key there is this alone to tell
-    pub told_more : (g : A) → key g ≡ k → F g → ((f : A) → F f → key f ≡ k → f ≡ g) → IsTold cmp key Left' F (told ++ g ∷ [])
+    pub told_more : (g : A) → key g ≡ k → F g → ((f : A) → F f → key f ≡ k → f ≡ g) → IsToldUpTo cmp key Left' F (told ++ g ∷ [])
     told_more g at is_g only = record {
       ascend = all_pairs_push (λ d e. cmp (key d) (key e) ≡ Less) told g t.ascend
           (λ i d lt. subst (λ x. cmp (key (get_or told i d)) x ≡ Less) (sym at) (t.past (get_or told i d) (Contains-get_or told i d lt) k s.was));
@@ -124,7 +124,7 @@ module _ {K : Type 0} (cmp : K → K → Ordering) (total : IsTotalOrder cmp) wh
     }
 
 -- before the first step nothing is told, and all is left
-pub told_none : {K A : Type 0} (cmp : K → K → Ordering) (key : A → K) (Left : K → Type 0) (F : A → Type 0) → ((f : A) → F f → Left (key f)) → IsTold cmp key Left F []
+pub told_none : {K A : Type 0} (cmp : K → K → Ordering) (key : A → K) (Left : K → Type 0) (F : A → Type 0) → ((f : A) → F f → Left (key f)) → IsToldUpTo cmp key Left F []
 told_none cmp key Left F all = record {
   ascend = λ i j d l m. absurd (omega (arith, m));
   sound = λ f in'. absurd (omega (arith, in'.1));
@@ -165,7 +165,7 @@ module _ {A : Type 0} (R : A → A → Type 0) (not : (x : A) → R x x → ⊥)
       ap (λ w. w ∷ xs) e ∙ ap (λ l. y ∷ l) rest
 
 -- whether some pair has the key
-pub key_or_not : {K M : Type 0} → ((k l : K) → (k ≡ l) ⊎ (k ≡ l → ⊥)) → (es : List (K × M)) (k : K) → HasKey (Contains es) k ⊎ (HasKey (Contains es) k → ⊥)
+pub key_or_not : {K M : Type 0} → ((k l : K) → (k ≡ l) ⊎ (k ≡ l → ⊥)) → (es : List (K × M)) (k : K) → HasPairAt (Contains es) k ⊎ (HasPairAt (Contains es) k → ⊥)
 key_or_not same [] k = inr (λ h. omega (arith, h.1.1))
 key_or_not same (e ∷ es) k = ⊎_elim
     (λ is. inl (e.1, subst (λ l. Contains (e ∷ es) (l, e.1)) is (Contains-first e es)))

@@ -35,7 +35,7 @@ use Rattle.zarrs_survey.specs.Checks.{block_read, fault_of_block, HasNode, IsBas
 use Rattle.zarrs_survey.specs.Findings.{Pair}
 use Rattle.zarrs_survey.specs.StepsOfChecks.{ReadBlock, GroupsAscend}
 use Rattle.zarrs_survey.specs.StepsOfComparing.{AreBelow, key_findings}
-use Rattle.zarrs_survey.specs.StepsOfMerging.{Holds}
+use Rattle.zarrs_survey.specs.StepsOfMerging.{HoldsUpTo}
 use Rattle.zarrs_survey.specs.StepsOfComparisons.{NoneBad, IsUnderWay, IsStart, IsOnly, IsNext, IsNextBelow}
 use Rattle.zarrs_survey.specs.StepsOfTaking.{AreCompared, IsAboveAt, IsBegun, IsNew, MayPutBlock, PlacesAscend, Takes, TakesNode, named_block, blocks_of, places_after, base_nodes, base_fault}
 use Rattle.zarrs_survey.specs.Surveys.{IsBase}
@@ -196,9 +196,9 @@ compared_first done p B c none start = record {
       (λ up under. record {
         low = λ d in'. let is = (start.entries d).0 in' in subst (λ q. IsBelow q d.0) (sym start.group) (is.0, is.1, is.3);
         under = λ d in'. subst (λ q. IsBelow q d.0) (sym start.group) (under d in');
-        holds = subst (λ q. Holds (Contains c.entries.items) (Contains rest) NoneBad q c.entries.items rest c.last c.found.items) (sym start.group)
-            (subst (λ q. Holds (Contains c.entries.items) (Contains rest) NoneBad p c.entries.items rest q c.found.items) (sym start.last)
-            (subst (Holds (Contains c.entries.items) (Contains rest) NoneBad p c.entries.items rest p) (sym start.found) (holds_none NoneBad p c.entries.items rest start.ascend up)));
+        holds = subst (λ q. HoldsUpTo (Contains c.entries.items) (Contains rest) NoneBad q c.entries.items rest c.last c.found.items) (sym start.group)
+            (subst (λ q. HoldsUpTo (Contains c.entries.items) (Contains rest) NoneBad p c.entries.items rest q c.found.items) (sym start.last)
+            (subst (HoldsUpTo (Contains c.entries.items) (Contains rest) NoneBad p c.entries.items rest p) (sym start.found) (holds_none NoneBad p c.entries.items rest start.ascend up)));
       });
 }
 

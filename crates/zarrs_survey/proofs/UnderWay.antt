@@ -20,7 +20,7 @@ use Rattle.zarrs_survey.specs.Findings.{Pair, IsSpoilt, IsPathFinding, AreFindin
 use Rattle.zarrs_survey.specs.StepsOfChecks.{HasBad}
 use Rattle.zarrs_survey.specs.StepsOfComparing.{ArePathFindings, AreBelow, HangsFrom, IsBeforeFirst, IsPairKind, findings_at}
 use Rattle.zarrs_survey.specs.StepsOfComparisons.{IsEnd, IsExcusedBy, IsKeptOf, IsNext, IsOneBlock, IsStart, IsUnderWay, IsUnmoved, NoneBad, PassesLone, PassesPair, PutsKept}
-use Rattle.zarrs_survey.specs.StepsOfMerging.{Holds}
+use Rattle.zarrs_survey.specs.StepsOfMerging.{HoldsUpTo}
 use Rattle.zarrs_survey.specs.declared.comparison.Comparison.{Comparison}
 use Rattle.zarrs_survey.specs.declared.finding.Finding.{Finding}
 use Rattle.zarrs_survey.specs.declared.finding.FindingKind.{FindingKind}
@@ -56,11 +56,11 @@ not_spoilt : (p : Path) → IsSpoilt NoneBad p → ⊥
 not_spoilt p h = h.1
 
 -- what holds of a comparison holds of one with the same group, last group and findings
-under_way_as : (all nodes es ns : List Pair) (c d : Comparison) → d.group ≡ c.group → Holds (Contains all) (Contains nodes) NoneBad c.group es ns d.last d.found.items → AreBelow c.group all → AreBelow c.group nodes → IsUnderWay all nodes es ns d
+under_way_as : (all nodes es ns : List Pair) (c d : Comparison) → d.group ≡ c.group → HoldsUpTo (Contains all) (Contains nodes) NoneBad c.group es ns d.last d.found.items → AreBelow c.group all → AreBelow c.group nodes → IsUnderWay all nodes es ns d
 under_way_as all nodes es ns c d of h low under = record {
   low = λ e in'. subst (λ b. IsBelow b e.0) (sym of) (low e in');
   under = λ n in'. subst (λ b. IsBelow b n.0) (sym of) (under n in');
-  holds = subst (λ b. Holds (Contains all) (Contains nodes) NoneBad b es ns d.last d.found.items) (sym of) h;
+  holds = subst (λ b. HoldsUpTo (Contains all) (Contains nodes) NoneBad b es ns d.last d.found.items) (sym of) h;
 }
 
 module _ (all nodes : List Pair) (c d : Comparison) (of : d.group ≡ c.group) where
@@ -70,7 +70,7 @@ module _ (all nodes : List Pair) (c d : Comparison) (of : d.group ≡ c.group) w
 
   -- after a turn
   abbrev now_holds : List Pair → List Pair → List Finding → Type 0
-  now_holds es ns fs = Holds (Contains all) (Contains nodes) NoneBad c.group es ns d.last fs
+  now_holds es ns fs = HoldsUpTo (Contains all) (Contains nodes) NoneBad c.group es ns d.last fs
 
   -- an entry without a node is told and passed
   pub lone_passed : (e : Pair) (es ns : List Pair) (reached : Bool) (kind : FindingKind) → IsBeforeFirst e.0 ns → IsUnderWay all nodes (e ∷ es) ns c
@@ -89,8 +89,8 @@ module _ (all nodes : List Pair) (c d : Comparison) (of : d.group ≡ c.group) w
   -- a node without an entry is told
   missing_told : (n : Pair) (es ns : List Pair) → IsBeforeFirst n.0 es → IsUnderWay all nodes es (n ∷ ns) c → tells (finding c.group n.0 Missing ∷ []) → d.last ≡ c.last → IsUnderWay all nodes es ns d
   missing_told n es ns first u told same = under_way_as all nodes es ns c d of
-      (subst (λ g. Holds (Contains all) (Contains nodes) NoneBad c.group es ns g d.found.items) (sym same)
-      (subst (Holds (Contains all) (Contains nodes) NoneBad c.group es ns c.last) (sym told)
+      (subst (λ g. HoldsUpTo (Contains all) (Contains nodes) NoneBad c.group es ns g d.found.items) (sym same)
+      (subst (HoldsUpTo (Contains all) (Contains nodes) NoneBad c.group es ns c.last) (sym told)
       (node_turn (Contains all) (Contains nodes) NoneBad c.group u.low (group_or_not all) u.under n es ns c.last c.found.items u.holds first)))
       u.low u.under
 
@@ -116,8 +116,8 @@ module _ (start was mid now : Comparison) (m : IsUnmoved was mid) where
     at_turn all nodes es ns left u =
         let h = subst (λ xs. IsUnderWay all nodes xs (Left ns) was) left (o.told all nodes ns u) in
         under_way_as all nodes es (Left ns) was mid m.one.group
-        (subst (λ g. Holds (Contains all) (Contains nodes) NoneBad was.group es (Left ns) g mid.found.items) (sym m.last)
-        (subst (λ fs. Holds (Contains all) (Contains nodes) NoneBad was.group es (Left ns) was.last fs) (sym m.found) h.holds))
+        (subst (λ g. HoldsUpTo (Contains all) (Contains nodes) NoneBad was.group es (Left ns) g mid.found.items) (sym m.last)
+        (subst (λ fs. HoldsUpTo (Contains all) (Contains nodes) NoneBad was.group es (Left ns) was.last fs) (sym m.found) h.holds))
         h.low h.under
 
     -- an entry before the nodes is passed
@@ -270,8 +270,8 @@ pub under_way_first : (B : Block) (g : Path) (h : Pairs) (c : Comparison) (nodes
 under_way_first B g h c nodes s is up = record {
   low = λ e in'. let w = (s.entries e).0 in' in subst (λ b. IsBelow b e.0) (sym s.group) (w.0, w.1, w.3);
   under = λ n in'. subst (λ b. IsBelow b n.0) (sym s.group) ((each_below g h n).0 (subst (λ ns. Contains ns n) is in')).1;
-  holds = subst (Holds (Contains c.entries.items) (Contains nodes) NoneBad c.group c.entries.items nodes c.last) (sym s.found)
-      (subst (λ q. Holds (Contains c.entries.items) (Contains nodes) NoneBad c.group c.entries.items nodes q []) (s.group ∙ sym s.last)
+  holds = subst (HoldsUpTo (Contains c.entries.items) (Contains nodes) NoneBad c.group c.entries.items nodes c.last) (sym s.found)
+      (subst (λ q. HoldsUpTo (Contains c.entries.items) (Contains nodes) NoneBad c.group c.entries.items nodes q []) (s.group ∙ sym s.last)
       (holds_none NoneBad c.group c.entries.items nodes s.ascend up));
 }
 

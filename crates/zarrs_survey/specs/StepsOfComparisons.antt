@@ -10,7 +10,7 @@ use Rattle.zarrs_node.specs.Order.{Ascend}
 use Rattle.zarrs_survey.specs.Findings.{Pair, IsSpoilt}
 use Rattle.zarrs_survey.specs.StepsOfChecks.{HasBad}
 use Rattle.zarrs_survey.specs.StepsOfComparing.{ArePathFindings, AreBelow, IsBeforeFirst, key_findings}
-use Rattle.zarrs_survey.specs.StepsOfMerging.{Holds}
+use Rattle.zarrs_survey.specs.StepsOfMerging.{HoldsUpTo}
 use Rattle.zarrs_survey.specs.declared.comparison.Comparison.{Comparison}
 use Rattle.zarrs_survey.specs.declared.comparison.Turn.{Turn}
 use Rattle.zarrs_survey.specs.declared.comparison.Turn.TheVariants.{Before, At, Behind}
@@ -25,7 +25,7 @@ NoneBad q = ⊥
 pub record IsUnderWay (all nodes es ns : List Pair) (c : Comparison) : Type 0 where
   pub low : AreBelow c.group all
   pub under : AreBelow c.group nodes
-  pub holds : Holds (Contains all) (Contains nodes) NoneBad c.group es ns c.last c.found.items
+  pub holds : HoldsUpTo (Contains all) (Contains nodes) NoneBad c.group es ns c.last c.found.items
 
 -- nothing of the block B of g was compared yet
 pub record IsStart (B : Block) (g : Path) (c : Comparison) : Type 0 where

@@ -8,12 +8,12 @@ use Rattle.zarrs_survey.specs.Findings.{Pair, HasPath, IsAtOrAbove, IsReachable,
 use Rattle.zarrs_survey.specs.declared.finding.Finding.{Finding}
 
 -- some pair has the key
-abbrev pub HasKey : {K M : Type 0} → (K × M → Type 0) → K → Type 0
-HasKey {K} {M} N k = (m : M) × N (k, m)
+abbrev pub HasPairAt : {K M : Type 0} → (K × M → Type 0) → K → Type 0
+HasPairAt {K} {M} N k = (m : M) × N (k, m)
 
 -- some pair of one of the lists has the key
 abbrev pub IsLeft : {K M : Type 0} → List (K × M) → List (K × M) → K → Type 0
-IsLeft es ns k = HasKey (Contains es) k ⊎ HasKey (Contains ns) k
+IsLeft es ns k = HasPairAt (Contains es) k ⊎ HasPairAt (Contains ns) k
 
 -- k stands before all that is left
 abbrev pub IsPast : {K : Type 0} → (K → K → Ordering) → (K → Type 0) → K → Type 0
@@ -26,29 +26,29 @@ pub record IsRest {K M : Type 0} (cmp : K → K → Ordering) (Left : K → Type
   pub complete : (e : K × M) → E e → Contains es e ⊎ IsPast cmp Left e.0
 
 -- what was told is what there is to tell of keys that are past, in order
-pub record IsTold {K A : Type 0} (cmp : K → K → Ordering) (key : A → K) (Left : K → Type 0) (F : A → Type 0) (told : List A) : Type 0 where
+pub record IsToldUpTo {K A : Type 0} (cmp : K → K → Ordering) (key : A → K) (Left : K → Type 0) (F : A → Type 0) (told : List A) : Type 0 where
   pub ascend : AllPairs (λ d e. cmp (key d) (key e) ≡ Less) told
   pub sound : (f : A) → Contains told f → F f
   pub past : (f : A) → Contains told f → IsPast cmp Left (key f)
   pub complete : (f : A) → F f → Contains told f ⊎ Left (key f)
 
 -- p stands before each of the pairs
-abbrev pub StandsBefore : List Pair → Path → Type 0
-StandsBefore es p = (l : Path) → HasPath (Contains es) l → path_cmp p l ≡ Less
+abbrev pub IsBeforeAll : List Pair → Path → Type 0
+IsBeforeAll es p = (l : Path) → HasPath (Contains es) l → path_cmp p l ≡ Less
 
 -- of the entries E below b, with es left: each path from below b to g is a group, and so is no other that was reached and has something below it left
 pub record IsLastGroup (E : Pair → Type 0) (b : Path) (es : List Pair) (g : Path) : Type 0 where
   pub groups : (q : Path) → IsBelow b q → IsAtOrAbove q g → HasGroup E q
   pub base : IsAtOrAbove b g
-  pub waits : (q : Path) → HasGroup E q → IsReachable E b q → StandsBefore es q → (d : Path) → HasPath (Contains es) d → IsBelow q d → IsAtOrAbove q g
+  pub waits : (q : Path) → HasGroup E q → IsReachable E b q → IsBeforeAll es q → (d : Path) → HasPath (Contains es) d → IsBelow q d → IsAtOrAbove q g
 
 -- a finding is there to tell
 abbrev pub IsToTell : (Pair → Type 0) → (Pair → Type 0) → (Path → Type 0) → Path → Finding → Type 0
 IsToTell E N F b f = (f.group ≡ b) × IsPathFinding E N F b f.path f.kind
 
 -- the findings of the paths before those that are left, es of E and ns of N, were told, and g is the last group that was reached
-pub record Holds (E N : Pair → Type 0) (F : Path → Type 0) (b : Path) (es ns : List Pair) (g : Path) (found : List Finding) : Type 0 where
+pub record HoldsUpTo (E N : Pair → Type 0) (F : Path → Type 0) (b : Path) (es ns : List Pair) (g : Path) (found : List Finding) : Type 0 where
   pub entries : IsRest path_cmp (IsLeft es ns) E es
   pub nodes : IsRest path_cmp (IsLeft es ns) N ns
   pub last : IsLastGroup E b es g
-  pub told : IsTold path_cmp (λ f. f.path) (IsLeft es ns) (IsToTell E N F b) found
+  pub told : IsToldUpTo path_cmp (λ f. f.path) (IsLeft es ns) (IsToTell E N F b) found
