@@ -155,10 +155,7 @@ pub name_next : (left rest : List PathFault) (p : Path) (done new whole : List P
     → done ++ names_of left ≡ whole → new ++ names_of rest ≡ whole
 name_next left rest p done new whole is more h = ap (λ x. x ++ names_of rest) more ∙ append_assoc done (p ∷ []) (names_of rest) ∙ ap (λ fs. done ++ names_of fs) (sym is) ∙ h
 
--- the first of the faults is no matter for the others
-pub paths_first : (left rest : List PathFault) (f : PathFault) → left ≡ f ∷ rest → HasPaths left → IsOfPath f.0 f.1
-paths_first left rest f is h = subst HasPaths is h 0 f (omega arith)
-
+-- what holds of the faults holds of those behind the first
 pub paths_rest : (left rest : List PathFault) (f : PathFault) → left ≡ f ∷ rest → HasPaths left → HasPaths rest
 paths_rest left rest f is h = λ i d l. subst HasPaths is h (suc i) d (omega (arith, l))
 

@@ -8,16 +8,13 @@ use Rattle.std.proofs.lemmas.List.Quantifiers.{all_pairs_push}
 use Rattle.zarrs_fault.specs.declared.fault.MetadataFault.{MetadataFault}
 use Rattle.zarrs_store.specs.Contents.{Contents}
 use Rattle.zarrs_store.specs.Faults.{IsStoreError}
-use Rattle.zarrs_store.specs.declared.storage_error.StorageError.{StorageError}
 use Rattle.zarrs_path.specs.Paths.{Path, path_cmp, IsBelow}
 use Rattle.zarrs_path.specs.PathOrder.{path_total}
 use Rattle.zarrs_meta.specs.declared.node.NodeMetadata.{NodeMetadata}
 use Rattle.zarrs_config.specs.declared.version.MetadataRetrieveVersion.{MetadataRetrieveVersion}
 use Rattle.zarrs_block.specs.Block.{Block, Entries, IsAscending}
 use Rattle.zarrs_block.specs.Meaning.{Meaning, meaning, node, nothing, bad}
-use Rattle.zarrs_block.specs.Refusals.{IsExcused}
 use Rattle.zarrs_block.specs.declared.node_create_error.NodeCreateError.{NodeCreateError}
-use Rattle.zarrs_block.specs.declared.node_create_error.NodeCreateError.TheVariants.{StorageError as node_error}
 use Rattle.zarrs_node.specs.Forest.{pairs}
 use Rattle.zarrs_node.specs.Nodes.{Nodes}
 use Rattle.zarrs_node.specs.Order.{Ascend}
@@ -445,10 +442,6 @@ pub record HasAll {S : Type 0} (s : Contents) (v : MetadataRetrieveVersion) (b :
 -- so many were counted
 pub nodes_counted : {S : Type 0} (s : Contents) (v : MetadataRetrieveVersion) (b : Path) (z : Comparisons S) → HasAll s v b z → IsCount (HasNode s v b) z.count
 nodes_counted s v b z h = (h.all, lists_from h.all h.each (apart_once h.all h.ascend), h.taken.count)
-
--- what a store may refuse is excused
-pub store_excused : (can_fail : Bool) (e : StorageError) (made : NodeCreateError) → made ≡ node_error e → IsStoreError can_fail e → IsExcused can_fail made
-store_excused can_fail e made is h = subst (IsExcused can_fail) (sym is) h
 
 module _ {S : Type 0} (contents : S → Contents) (can_fail : S → Bool) where
   -- where nothing failed at last, nothing had failed
