@@ -3,7 +3,7 @@ use Rattle.std.specs.Option.{option_to_list}
 use Rattle.std.proofs.Common.{Option, Some, append_assoc, ◌-◌, ◌≡◌, ◌⊎◌, inl, inr, ⊎_elim, ◌+◌, ◌<◌, ◌≤◌, ℕ, List, [], ◌∷◌, ◌++◌, get_or, set, length, refl, sym, ap, subst, ◌∙◌, arith, Contains}
 use Rattle.std.proofs.lemmas.Bool.Decides.{eqb_tells}
 use Rattle.std.proofs.lemmas.Grind.{get_or_default_zero}
-use Rattle.std.proofs.lemmas.List.{get_or-set_same, get_or-set_other, length-set}
+use Rattle.std.proofs.lemmas.List.{get_or-set_same, get_or-set_other, get_or_push, length-set, length_push}
 use Rattle.zarrs_node.proofs.Graft.{Contains-first, Contains-cons}
 use Rattle.zarrs_node.proofs.Order.{contains_cases}
 use Rattle.zarrs_survey.specs.Findings.{Pair}
@@ -93,3 +93,10 @@ more_gone all xs ys gone x is at = is ∙ (ap (λ zs. zs ++ gone) at ∙ append_
 -- the last place is what was taken off
 pub last_popped : (xs : List ℕ) (n : ℕ) (r : Option ℕ) (x : ℕ) → n ≡ length xs → 0 < n → ((d : ℕ) → 0 < n → r ≡ Some (get_or xs (n - 1) d)) → x ≡ get_or xs (length xs - 1) x → r ≡ Some x
 last_popped xs n r x size some value at = value x some ∙ ap (λ y. Some y) (ap (λ m. get_or xs (m - 1) x) size ∙ sym at)
+
+-- what is read as the last place is the last
+pub last_is : (xs is : List ℕ) (j x : ℕ) → xs ≡ is ++ j ∷ [] → x ≡ get_or xs (length xs - 1) x → j ≡ x
+last_is xs is j x whole at =
+    let long = length_push is j in
+    let size = ap length whole in
+    sym (at ∙ (ap (λ ys. get_or ys (length xs - 1) x) whole ∙ get_or_push is j x (length xs - 1) (omega (arith, long, size))))

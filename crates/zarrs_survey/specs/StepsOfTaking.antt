@@ -55,6 +55,10 @@ PlacesAscend js = AllPairs (λ i j. i < j) js
 abbrev pub IsAboveAt : List Comparison → ℕ → Path → Type 0
 IsAboveAt cs j p = (d : Comparison) × (j < length cs) × IsBelow (get_or cs j d).group p
 
+-- the block at the last of these places is above p, if there is one
+abbrev pub IsLastAbove : List ℕ → List Comparison → Path → Type 0
+IsLastAbove js cs p = (is : List ℕ) (j : ℕ) → js ≡ is ++ j ∷ [] → IsAboveAt cs j p
+
 -- with the blocks at these places the node was compared, and the others are as they were
 pub record AreCompared (js : List ℕ) (e : Pair) (old new : List Comparison) : Type 0 where
   pub size : length new ≡ length old

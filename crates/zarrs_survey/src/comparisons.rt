@@ -4,7 +4,7 @@ ghost use Rattle.zarrs_store.specs.Faults.{IsStoreError};
 ghost use Rattle.zarrs_block.specs.declared.node_create_error.NodeCreateError.{NodeCreateError};
 ghost use Rattle.zarrs_node.specs.Sinks.{TakesAll};
 ghost use Rattle.zarrs_survey.specs.StepsOfChecks.{shown_block};
-ghost use Rattle.zarrs_survey.specs.StepsOfTaking.{AreCompared, Closes, IsAboveAt, IsNew, PlacesAscend, PutsBlock, Takes, TakesNode, base_nodes, base_fault};
+ghost use Rattle.zarrs_survey.specs.StepsOfTaking.{AreCompared, Closes, IsAboveAt, IsLastAbove, IsNew, PlacesAscend, PutsBlock, Takes, TakesNode, base_nodes, base_fault};
 
 use crate::check::take_block;
 use crate::comparison::Comparison;
@@ -90,6 +90,8 @@ impl<'a, S: ReadableStorageTraits> Comparisons<'a, S> {
     // Forgets the places of the last blocks that are not above a path.
     fn close(&mut self, path: &NodePath)
         ensures closed { Closes self.old path.now self.new }
+        ensures last { IsLastAbove self.new.above.items self.old.blocks.items path.now }
+        ensures count { self.new.count ≡ self.old.count }
         ensures outcome { self.new.outcome ≡ self.old.outcome }
         ensures storage { self.new.storage.now ≡ self.old.storage.now }
     {
@@ -120,6 +122,7 @@ impl<'a, S: ReadableStorageTraits> Comparisons<'a, S> {
         ensures put { OnOk result
             (PutsBlock self.old.blocks.items self.old.above.items path (shown_block block)
             self.new.blocks.items self.new.above.items) }
+        ensures count { self.new.count ≡ self.old.count }
         ensures outcome { self.new.outcome ≡ self.old.outcome }
         ensures storage { self.new.storage.now ≡ self.old.storage.now }
     {

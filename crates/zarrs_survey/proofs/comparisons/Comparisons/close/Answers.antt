@@ -1,20 +1,31 @@
 use Rattle.std.proofs.Common.{◌≡◌, ◌∷◌, [], ◌++◌, ◌-◌, length, get_or, ap, refl, sym, subst, ◌∙◌, append-nil, arith, true≢false, ⊎_elim}
+use Rattle.std.proofs.lemmas.List.{length_push}
 use Rattle.zarrs_node.proofs.Order.{contains_cases}
 use Rattle.zarrs_survey.specs.StepsOfTaking.{IsAboveAt}
-use Rattle.zarrs_survey.proofs.Places.{popped, last_popped, more_gone}
+use Rattle.zarrs_survey.proofs.Places.{popped, last_popped, last_is, more_gone}
 use Rattle.zarrs_survey.proofs.comparisons.Comparisons.close.Goals as goal
 
 pub loop-place-init : goal.loop-place-init
-loop-place-init g c = (record { blocks = refl; gone = _; above = sym (append-nil _); not_above = λ j in'. absurd (omega (arith, in'.1)) }, refl, refl)
+loop-place-init g c = (record { blocks = refl; gone = _; above = sym (append-nil _); not_above = λ j in'. absurd (omega (arith, in'.1)) }, refl, refl, refl)
 
 pub returns-then-is_above-clause-closed : goal.returns-then-is_above-clause-closed
 returns-then-is_above-clause-closed g c = c.loop-place.invariant.0
 
+pub returns-then-is_above-clause-last : goal.returns-then-is_above-clause-last
+returns-then-is_above-clause-last g c = λ is j whole.
+    let last : j ≡ c.in-Some.place.now = last_is c.loop-place.self.above.items is j c.in-Some.place.now whole
+    (subst (λ xs. c.in-Some.place.now ≡ get_or xs (length xs - 1) c.in-Some.place.now) c.deref.ensures.value c.in-Some.ensures.item.1) in
+    subst (λ x. IsAboveAt c.args.self.now.blocks.items x c.args.path.now) (sym last)
+    (subst (λ bs. IsAboveAt bs c.in-Some.place.now c.args.path.now) c.loop-place.invariant.0.blocks (c.is_above.ensures.0 c.if-is_above.true))
+
+pub returns-then-is_above-clause-count : goal.returns-then-is_above-clause-count
+returns-then-is_above-clause-count g c = c.loop-place.invariant.1
+
 pub returns-then-is_above-clause-outcome : goal.returns-then-is_above-clause-outcome
-returns-then-is_above-clause-outcome g c = c.loop-place.invariant.1
+returns-then-is_above-clause-outcome g c = c.loop-place.invariant.2
 
 pub returns-then-is_above-clause-storage : goal.returns-then-is_above-clause-storage
-returns-then-is_above-clause-storage g c = c.loop-place.invariant.2
+returns-then-is_above-clause-storage g c = c.loop-place.invariant.3
 
 pub loop-place-preserved : goal.loop-place-preserved
 loop-place-preserved g c =
@@ -32,13 +43,21 @@ loop-place-preserved g c =
       },
       c.loop-place.invariant.1,
       c.loop-place.invariant.2,
+      c.loop-place.invariant.3,
     )
 
 pub returns-clause-closed : goal.returns-clause-closed
 returns-clause-closed g c = c.loop-place.invariant.0
 
+pub returns-clause-last : goal.returns-clause-last
+returns-clause-last g c = λ is j whole. absurd
+    (let none = c.in_default.ensures.item.3 in let same = ap length c.deref.ensures.value in let size = ap length whole in let long = length_push is j in omega (arith, none, same, size, long))
+
+pub returns-clause-count : goal.returns-clause-count
+returns-clause-count g c = c.loop-place.invariant.1
+
 pub returns-clause-outcome : goal.returns-clause-outcome
-returns-clause-outcome g c = c.loop-place.invariant.1
+returns-clause-outcome g c = c.loop-place.invariant.2
 
 pub returns-clause-storage : goal.returns-clause-storage
-returns-clause-storage g c = c.loop-place.invariant.2
+returns-clause-storage g c = c.loop-place.invariant.3
