@@ -4,7 +4,7 @@
 //! test drops metadata or nodes itself, which is proved variant by variant and field by field.
 
 use std::alloc::{AllocError, Global};
-use std::fmt::Display;
+use std::fmt::{Debug, Display};
 
 /// A group of version 3.
 pub const G3: &str = r#"{"node_type":"group","zarr_format":3}"#;
@@ -20,18 +20,63 @@ pub const A2: &str =
 pub const A3: &str =
     r#"{"chunk_grid":{"configuration":{"chunk_shape":[1]},"name":"regular"},"chunk_key_encoding":{"configuration":{"separator":"/"},"name":"default"},"codecs":[{"configuration":{"endian":"little"},"name":"bytes"}],"data_type":"float32","fill_value":0,"node_type":"array","shape":[1],"zarr_format":3}"#;
 
-/// The text of what a call answers: what `look` makes of the value, or the text of the error.
+/// The text of what a call answers: what `look` makes of the value, or the refusal that the error is.
 pub fn said<T, E, F>(alloc: Global, answer: Result<T, E>, look: F) -> Result<String, AllocError>
 where
     T: Drop,
-    E: Display + Drop,
+    E: Debug + Display + Drop,
     F: FnOnce(&T, Global) -> Result<String, AllocError>,
     requires { F.IsAlwaysCallable look }
 {
     match answer {
         Ok(value) => look(&value, alloc),
-        Err(error) => format!(in alloc; "{error}"),
+        Err(error) => refusal(alloc, &error),
     }
+}
+
+/// An error as a text: the name of its variant, a colon, and its words. Where the variant holds an error or another enum value
+/// before all else, that one's variant stands behind it in parentheses: `StorageError(InvalidMetadata): error parsing ..`.
+pub fn refusal<E: Debug + Display>(alloc: Global, error: &E) -> Result<String, AllocError> {
+    let shown = format!(in alloc; "{error:?}")?;
+    let mut text = variants(alloc, shown.as_str())?;
+    write!(text, ": {error}")?;
+    Ok(text)
+}
+
+/// The names of variants with which what `{:?}` writes of a value begins, each but the first in parentheses behind the one before.
+///
+/// A name within another begins with a capital, and no brace is behind it: what has one is a struct.
+pub(crate) fn variants(alloc: Global, shown: &str) -> Result<String, AllocError> {
+    let mut text = String::new(alloc);
+    let mut ends = String::new(alloc);
+    for (place, part) in shown.split('(').enumerate() {
+        let name = name_of(part);
+        if place > 0 {
+            if !is_variant(name, part) {
+                break;
+            }
+            text.push_str("(")?;
+            ends.push_str(")")?;
+        }
+        text.push_str(name)?;
+        if name.len() < part.len() {
+            break;
+        }
+    }
+    text.push_str(ends.as_str())?;
+    Ok(text)
+}
+
+// The letters, digits and low lines with which a text begins.
+fn name_of(text: &str) -> &str {
+    let rest = text.trim_start_matches(|c: char| c.is_alphanumeric() || c == '_');
+    text.strip_suffix(rest).unwrap_or(text)
+}
+
+// Whether the name with which a text begins is that of a variant.
+fn is_variant(name: &str, text: &str) -> bool {
+    let rest = text.strip_prefix(name).unwrap_or(text);
+    name.starts_with(|c: char| c.is_ascii_uppercase()) && !rest.starts_with(" {")
 }
 
 /// The printed form of a value.

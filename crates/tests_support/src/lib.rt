@@ -8,15 +8,15 @@ mod answers;
 #[cfg(test)]
 mod tests;
 
-pub use answers::{A2, A3, G2, G3, made, printed, said, with_lines};
+pub use answers::{A2, A3, G2, G3, made, printed, refusal, said, with_lines};
 use std::alloc::{AllocError, Global};
 use std::fmt::Debug;
 use std::test::Fail;
 
 /// Compares what a call answers, given what stands before the arrow of each row, with the text behind it.
 ///
-/// A blank stands on each side of the arrow. An answer's line ends stand in the table as `\n`; nothing behind the arrow is the empty
-/// answer. Empty lines, and headings, which begin with `# `, are passed over.
+/// A blank stands on each side of the arrow. An answer's line ends stand in the table as `\n`, and each of its backslashes as two;
+/// nothing behind the arrow is the empty answer. Empty lines, and headings, which begin with `# `, are passed over.
 ///
 /// The call is copied for each row: the bound `FnOnce` has the prover look at one function more for each caller, `Fn` at three.
 ///
@@ -86,7 +86,7 @@ where
     }
 }
 
-// What is wrong with a text, its line ends as `\n`, beside the one that a row wants.
+// What is wrong with a text, as one line, beside the one that a row wants.
 fn line_complaint(
     alloc: Global,
     said: &str,
@@ -101,8 +101,9 @@ fn line_complaint(
     }
 }
 
-// A text with its line ends as `\n`.
+// A text with its line ends as `\n` and its backslashes as two, so that no two texts have one line.
 fn one_line(alloc: Global, text: &str) -> Result<String, AllocError> {
+    let text = text.replace(alloc, '\\', "\\\\")?;
     text.replace(alloc, '\n', "\\n")
 }
 

@@ -1,7 +1,9 @@
 //! That a table fails of which one row is not answered as it wants, since every other test stands on that.
 
-use crate::{check_rows, complaint, fields};
+use crate::answers::variants;
+use crate::{check_rows, complaint, fields, printed, said};
 use std::alloc::{AllocError, Global};
+use std::fmt;
 use std::test::Fail;
 
 // What is given, with each `/` as the end of a line; no answer to `none`.
@@ -19,6 +21,8 @@ a => a
 two words => two words
 
 a/b => a\nb
+a\nb => a\\nb
+\ => \\
  =>
 "#;
 
@@ -47,6 +51,9 @@ a> b|b> b => a in place of a => b
 a> a b => a in place of a => a b
 a> => a in place of a =>
 none> a => AllocError in place of none => a
+a/b> a\nb => nothing
+a/b> a\\nb => a\\nb in place of a/b => a\\\\nb
+a\nb> a\nb => a\\\\nb in place of a\\nb => a\\nb
 a => no arrow in a
 a> a|no arrow in b => no arrow in no arrow in b
 # a> a => no rows
@@ -76,4 +83,105 @@ a|b | c => c, then .
 #[test]
 fn fields_are_parted_by_bars(rt: HostRuntime) -> Result<(), Fail> {
     check_rows(rt.alloc(), FIELDS, behind_the_first)
+}
+
+// ---- refusals
+
+// An error that another holds.
+#[derive(Debug, Drop)]
+enum Held {
+    Left,
+    Right(u8),
+}
+
+// Errors with the same words.
+#[derive(Debug, Drop)]
+enum SampleError {
+    Alone,
+    Other(String),
+    Over(Held),
+    Under(Held),
+}
+
+impl fmt::Display for SampleError {
+    fn fmt<W: fmt::Write>(&self, f: &mut fmt::Formatter<W>) -> fmt::Result {
+        f.write_str("the same words")
+    }
+}
+
+// The error of a word, or the word as a value.
+fn refused(alloc: Global, word: &str) -> Result<String, SampleError> {
+    match word {
+        "alone" => Err(SampleError::Alone),
+        "over left" => Err(SampleError::Over(Held::Left)),
+        "over right" => Err(SampleError::Over(Held::Right(1))),
+        "under left" => Err(SampleError::Under(Held::Left)),
+        word => match String::from_str(alloc, word) {
+            Ok(text) if word.starts_with("Other") => Err(SampleError::Other(text)),
+            Ok(text) => Ok(text),
+            Err(_) => Err(SampleError::Alone),
+        },
+    }
+}
+
+fn refused_said(alloc: Global, word: &str) -> Result<String, AllocError> {
+    said(alloc, refused(alloc, word), printed)
+}
+
+const REFUSALS: &str = r#"
+alone => Alone: the same words
+over left => Over(Left): the same words
+over right => Over(Right): the same words
+under left => Under(Left): the same words
+Other(Fault) => Other: the same words
+the same words => the same words
+ =>
+"#;
+
+#[test]
+fn a_refusal_shows_its_variants_before_its_words(rt: HostRuntime) -> Result<(), Fail> {
+    check_rows(rt.alloc(), REFUSALS, refused_said)
+}
+
+// The same rows are not answered where a variant or a value stands in another's place.
+fn wrong_refusal(alloc: Global, row: &str) -> Result<String, AllocError> {
+    let table = row.replace(alloc, '>', " =>")?;
+    match complaint(alloc, table.as_str(), refused_said)? {
+        Some(complaint) => Ok(complaint),
+        None => String::from_str(alloc, "nothing"),
+    }
+}
+
+const WRONG: &str = r#"
+alone> Alone: the same words => nothing
+over left> Over(Right): the same words => Over(Left): the same words in place of over left => Over(Right): the same words
+over left> Under(Left): the same words => Over(Left): the same words in place of over left => Under(Left): the same words
+alone> Other: the same words => Alone: the same words in place of alone => Other: the same words
+alone> the same words => Alone: the same words in place of alone => the same words
+the same words> Alone: the same words => the same words in place of the same words => Alone: the same words
+"#;
+
+#[test]
+fn a_row_fails_that_has_the_right_words_of_another_variant(rt: HostRuntime) -> Result<(), Fail> {
+    check_rows(rt.alloc(), WRONG, wrong_refusal)
+}
+
+// What `{:?}` writes of values, and the variants that they are.
+const SHOWN: &str = r#"
+Fault => Fault
+StorageError(InvalidMetadata(StoreKey { text: "a(B)" }, NotAnObject)) => StorageError(InvalidMetadata)
+A(B(C)) => A(B(C))
+A(B_2(7)) => A(B_2)
+Other("Fault(A)") => Other
+Two(Left, Right) => Two(Left)
+Member { name: A(B) } => Member
+Over(Member { name: A(B) }) => Over
+Some(5) => Some
+Some(([])) => Some
+ =>
+"#;
+
+#[test]
+fn variants_are_names_before_parentheses(rt: HostRuntime) -> Result<(), Fail> {
+    check_rows(rt.alloc(), SHOWN, variants)
 }
