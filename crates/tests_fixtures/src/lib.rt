@@ -2,12 +2,17 @@
 //! path of such a store, as a value and as a text.
 #![tactic(auto)]
 
+mod texts;
 mod words;
 
 use log::sink::Discard;
 use std::alloc::{AllocError, Global};
 use tests_support::G3;
-pub use words::{no_word, policy_of, version_of};
+pub use texts::{
+    A2_WRITTEN, document_text, entries_text, forest_data, forest_text, keys_text, listing_text,
+    named, node_text, pairs_text, paths_listing_text, paths_text,
+};
+pub use words::{document_of, no_word, policy_of, version_of};
 use zarrs_block::{ConsolidatedMetadataMetadata, NodeCreateError};
 use zarrs_config::{Config, MetadataRetrieveVersion, UseConsolidatedMetadata};
 use zarrs_meta::NodeMetadata;
@@ -186,111 +191,4 @@ pub fn paths_listed(
 ) -> Result<ListedPaths, NodeCreateError> {
     let store = store_of(alloc, documents)?;
     paths_listed_in(alloc, &store, base, recursive, version)
-}
-
-/// The paths, one a line.
-pub fn paths_text(paths: &Vec<NodePath>, alloc: Global) -> Result<String, AllocError> {
-    let mut text = String::new(alloc);
-    for path in paths {
-        write!(text, "{path}\n")?;
-    }
-    Ok(text)
-}
-
-/// The paths of a listing, one a line, and a line for each path that was passed over.
-pub fn paths_listing_text(listed: &ListedPaths, alloc: Global) -> Result<String, AllocError> {
-    let mut text = String::new(alloc);
-    for path in &listed.paths {
-        write!(text, "{path}\n")?;
-    }
-    for path in &listed.ignored {
-        write!(text, "ignored {path}\n")?;
-    }
-    Ok(text)
-}
-
-/// The trees of nodes: a line for each node, with its path, and indented lines for those below it.
-pub fn forest_text(nodes: &Vec<Node>, alloc: Global) -> Result<String, AllocError> {
-    let mut text = String::new(alloc);
-    for node in nodes {
-        let tree = node.hierarchy_tree(alloc)?;
-        let rest = tree.as_str().strip_prefix("/").unwrap_or("");
-        write!(text, "{}{rest}", node.path())?;
-    }
-    Ok(text)
-}
-
-/// The nodes of trees as data: for each the path and the text of the metadata, a line a node. Behind each of the trees' first nodes
-/// stands what is below it, in the order of its block.
-pub fn forest_data(nodes: &Vec<Node>, alloc: Global) -> Result<String, AllocError> {
-    let mut text = String::new(alloc);
-    for node in nodes {
-        let metadata = node.metadata().to_text(alloc)?;
-        write!(text, "{} {metadata}\n", node.path())?;
-        push_below(&mut text, alloc, node)?;
-    }
-    Ok(text)
-}
-
-// Appends the lines of the nodes below one, by its block, which has each at its names beyond the node's.
-fn push_below(text: &mut String, alloc: Global, node: &Node) -> Result<(), AllocError> {
-    if !node.has_placed_children() {
-        return write!(text, "not placed\n");
-    }
-    match node.consolidate_metadata(alloc)? {
-        Some(block) => push_entries(text, alloc, node.path(), &block),
-        None => Ok(()),
-    }
-}
-
-// Appends the lines of the entries of a block below a path.
-fn push_entries(
-    text: &mut String,
-    alloc: Global,
-    base: &NodePath,
-    block: &ConsolidatedMetadataMetadata,
-) -> Result<(), AllocError> {
-    for (key, metadata) in block.as_map().iter() {
-        let metadata = metadata.to_text(alloc)?;
-        write!(text, "{base}/{key} {metadata}\n")?;
-    }
-    Ok(())
-}
-
-/// The trees of the nodes of a listing, and a line for each path that was passed over.
-pub fn listing_text(listed: &ListedNodes, alloc: Global) -> Result<String, AllocError> {
-    let mut text = forest_text(&listed.nodes, alloc)?;
-    for path in &listed.ignored {
-        write!(text, "ignored {path}\n")?;
-    }
-    Ok(text)
-}
-
-/// The paths and kinds of pairs, one a line.
-pub fn pairs_text(
-    pairs: &Vec<(NodePath, NodeMetadata)>,
-    alloc: Global,
-) -> Result<String, AllocError> {
-    let mut text = String::new(alloc);
-    for (path, metadata) in pairs {
-        let kind = if metadata.is_group() {
-            "group"
-        } else {
-            "array"
-        };
-        write!(text, "{path} {kind}\n")?;
-    }
-    Ok(text)
-}
-
-/// The keys of a block, one a line.
-pub fn keys_text(
-    block: &ConsolidatedMetadataMetadata,
-    alloc: Global,
-) -> Result<String, AllocError> {
-    let mut text = String::new(alloc);
-    for (key, _metadata) in block.as_map().iter() {
-        write!(text, "{key}\n")?;
-    }
-    Ok(text)
 }

@@ -1,6 +1,9 @@
-//! The words that name enum values in the rows of tables. A word that names none is refused, so that a row can't ask for something else.
+//! The words that name documents and enum values in the rows of tables. A word that names none is refused, so that a row can't ask for
+//! something else.
 
+use crate::A3_SQUARE;
 use std::alloc::Global;
+use tests_support::{A2, A3, G2, G3};
 use zarrs_config::{MetadataRetrieveVersion, UseConsolidatedMetadata};
 use zarrs_store::StorageError;
 
@@ -29,5 +32,19 @@ pub fn no_word(alloc: Global, word: &str) -> StorageError {
     match format!(in alloc; "no such word: {word}") {
         Ok(text) => StorageError::Other(text),
         Err(_) => StorageError::OutOfMemory,
+    }
+}
+
+/// The document that a word names, or the text that begins as JSON does, or is empty; `NUL` is a byte that no JSON has.
+pub fn document_of<'a>(alloc: Global, word: &'a str) -> Result<&'a str, StorageError> {
+    match word {
+        "G2" => Ok(G2),
+        "G3" => Ok(G3),
+        "A2" => Ok(A2),
+        "A3" => Ok(A3),
+        "A3_SQUARE" => Ok(A3_SQUARE),
+        "NUL" => Ok("\0"),
+        text if text.is_empty() || text.starts_with('{') || text.starts_with('[') => Ok(text),
+        word => Err(no_word(alloc, word)),
     }
 }
