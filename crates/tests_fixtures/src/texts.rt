@@ -21,21 +21,14 @@ const NAMED: [(&str, &str); 5] = [
     (A3_SQUARE, "A3_SQUARE"),
 ];
 
-/// The name of a document that has one, or else the document. A document begins with a brace and no name does, so that no two documents
-/// are written alike.
-pub fn named(document: &str) -> &str {
-    for (known, name) in NAMED {
-        if document == known {
-            return name;
-        }
-    }
-    document
-}
-
-/// The document of metadata, or its name.
+/// The document of metadata, with the name of each document that has one in place of it, within a block too. A name stands where JSON
+/// has no word, so that no two documents are written alike.
 pub fn document_text(metadata: &NodeMetadata, alloc: Global) -> Result<String, AllocError> {
-    let document = metadata.to_text(alloc)?;
-    String::from_str(alloc, named(document.as_str()))
+    let mut text = metadata.to_text(alloc)?;
+    for (document, name) in NAMED {
+        text = text.replace(alloc, document, name)?;
+    }
+    Ok(text)
 }
 
 // Appends the line of a node: two blanks for each level above it, its path and its document.
