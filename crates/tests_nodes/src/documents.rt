@@ -3,14 +3,14 @@
 use crate::given::store_in;
 use std::alloc::{AllocError, Global};
 use std::test::Fail;
-use tests_fixtures::{ANY, key_of, metadata_in, paths_text, policy_of};
-use tests_support::{check_rows, fields, printed, said};
+use tests_fixtures::{ANY, key_of, metadata_in, paths_listing_text, paths_text, policy_of};
+use tests_support::{check_rows, fields, printed, refusal, said};
 use zarrs_block::{ConsolidatedMetadata, NodeCreateError};
 use zarrs_meta::{AttributesDocument, GroupMetadataV2};
 use zarrs_node::documents::{attributes_at, document_at};
 use zarrs_node::{
-    NodeFault, NodeLine, WalkedPast, consolidated_metadata_at, walk_nodes, walk_past_faults,
-    zmetadata_at,
+    ListedPaths, NodeFault, NodeLine, WalkedPast, consolidated_metadata_at, walk_nodes,
+    walk_past_faults, zmetadata_at,
 };
 use zarrs_path::NodePath;
 use zarrs_store::StorageError;
@@ -38,9 +38,9 @@ fn group_said(alloc: Global, given: &str) -> Result<String, AllocError> {
 // A key and a store; the group of version 2 that stands there, or the error.
 const GROUPS: &str = r#"
 a/.zgroup | a/.zgroup {"attributes":{"k":1},"zarr_format":2} => {"attributes":{"k":1},"zarr_format":2}
-b/.zgroup | a/.zgroup g2 => none
-a | a/.zgroup g2;a nul => error parsing metadata for a: not JSON
-a/.zgroup | a/.zgroup g3 => error parsing metadata for a/.zgroup: wrong zarr_format
+b/.zgroup | a/.zgroup G2 => none
+a | a/.zgroup G2;a NUL => InvalidMetadata: error parsing metadata for a: not JSON
+a/.zgroup | a/.zgroup G3 => InvalidMetadata: error parsing metadata for a/.zgroup: wrong zarr_format
 "#;
 
 #[test]
@@ -77,8 +77,8 @@ fn attributes_said(alloc: Global, given: &str) -> Result<String, AllocError> {
 const ATTRIBUTES: &str = r#"
 /a | a/.zattrs {"k":[1,"x"]} => {"k":[1,"x"]}
 / | .zattrs {} => {}
-/a | .zattrs {};a/.zgroup g2 => none
-/a | a/.zattrs [] => error parsing metadata for a/.zattrs: not an object
+/a | .zattrs {};a/.zgroup G2 => none
+/a | a/.zattrs [] => StorageError(InvalidMetadata): error parsing metadata for a/.zattrs: not an object
 "#;
 
 #[test]
@@ -112,8 +112,8 @@ const BESIDE: &str = r#"
 /g | g/.zmetadata {"metadata":{"a/.zgroup":{"zarr_format":2}},"zarr_consolidated_format":1} => {"kind":"inline","metadata":{"a":{"zarr_format":2}},"must_understand":false}
 /g | g/.zmetadata {"metadata":{"a/.zgroup":{}},"zarr_consolidated_format":1} => none
 /g | g/.zmetadata {"metadata":{},"zarr_consolidated_format":2} => none
-/g | g/.zmetadata nul => none
-/g | g/.zgroup g2 => none
+/g | g/.zmetadata NUL => none
+/g | g/.zgroup G2 => none
 "#;
 
 #[test]
@@ -140,16 +140,16 @@ fn used_said(alloc: Global, given: &str) -> Result<String, AllocError> {
 const USED: &str = r#"
 # of version 3 the block in the metadata, whatever stands beside them
 auto | / | zarr.json {"consolidated_metadata":{"kind":"inline","metadata":{"a":{"node_type":"group","zarr_format":3}},"must_understand":false},"node_type":"group","zarr_format":3} => {"kind":"inline","metadata":{"a":{"node_type":"group","zarr_format":3}},"must_understand":false}
-auto | / | zarr.json g3;.zmetadata {"metadata":{"a/.zgroup":{"zarr_format":2}},"zarr_consolidated_format":1} => none
-must | / | zarr.json g3 => Metadata is missing for Consolidated metadata required but missing on group /
+auto | / | zarr.json G3;.zmetadata {"metadata":{"a/.zgroup":{"zarr_format":2}},"zarr_consolidated_format":1} => none
+must | / | zarr.json G3 => MissingMetadata: Metadata is missing for Consolidated metadata required but missing on group /
 
 # of version 2 the block beside them
-auto | / | .zgroup g2;.zmetadata {"metadata":{"a/.zgroup":{"zarr_format":2}},"zarr_consolidated_format":1} => {"kind":"inline","metadata":{"a":{"zarr_format":2}},"must_understand":false}
-never | / | .zgroup g2;.zmetadata {"metadata":{"a/.zgroup":{"zarr_format":2}},"zarr_consolidated_format":1} => none
-must | /g | g/.zgroup g2;.zmetadata {"metadata":{},"zarr_consolidated_format":1} => Metadata is missing for Consolidated metadata required but missing on group /g
+auto | / | .zgroup G2;.zmetadata {"metadata":{"a/.zgroup":{"zarr_format":2}},"zarr_consolidated_format":1} => {"kind":"inline","metadata":{"a":{"zarr_format":2}},"must_understand":false}
+never | / | .zgroup G2;.zmetadata {"metadata":{"a/.zgroup":{"zarr_format":2}},"zarr_consolidated_format":1} => none
+must | /g | g/.zgroup G2;.zmetadata {"metadata":{},"zarr_consolidated_format":1} => MissingMetadata: Metadata is missing for Consolidated metadata required but missing on group /g
 
 # of an array none
-auto | /a | a/.zarray a2;a/.zmetadata {"metadata":{},"zarr_consolidated_format":1} => none
+auto | /a | a/.zarray A2;a/.zmetadata {"metadata":{},"zarr_consolidated_format":1} => none
 "#;
 
 #[test]
@@ -170,10 +170,10 @@ fn line_of(alloc: Global, given: &str) -> Result<String, NodeCreateError> {
 
 // A path and a store; the line of its node.
 const LINES: &str = r#"
-/ | zarr.json g3 => \n
-/a/b | a/b/zarr.json g3 => b\n
-/a/c | a/c/zarr.json square => c [10, 10] float32\n
-/d | d/.zarray a2 => d [1] Simple("<f8")\n
+/ | zarr.json G3 => \n
+/a/b | a/b/zarr.json G3 => b\n
+/a/c | a/c/zarr.json A3_SQUARE => c [10, 10] float32\n
+/d | d/.zarray A2 => d [1] Simple("<f8")\n
 "#;
 
 #[test]
@@ -183,25 +183,24 @@ fn a_node_is_shown_by_its_last_name(rt: HostRuntime) -> Result<(), Fail> {
 
 // ---- the walk
 
-// The paths that a walk below the root hands to a sink, one a line.
-fn told(alloc: Global, documents: &str) -> Result<Vec<NodePath>, NodeCreateError> {
+// The paths that a walk below the root hands to a sink, and those that it ignores.
+fn told(alloc: Global, documents: &str) -> Result<ListedPaths, NodeCreateError> {
     let store = store_in(alloc, documents)?;
     let root = NodePath::root(alloc)?;
     let mut paths = Vec::<NodePath>::new(alloc);
     let ignored = walk_nodes(alloc, &store, &root, true, &ANY, &mut paths)?;
-    drop(ignored);
-    Ok(paths)
+    Ok(ListedPaths { paths, ignored })
 }
 
 fn told_said(alloc: Global, given: &str) -> Result<String, AllocError> {
-    said(alloc, told(alloc, given), paths_text)
+    said(alloc, told(alloc, given), paths_listing_text)
 }
 
-// A store; the paths of its nodes, as a walk hands them on.
+// A store; the paths of its nodes, as a walk hands them on, and the ignored ones.
 const TOLD: &str = r#"
-zarr.json g3 =>
-zarr.json g3;a/zarr.json g3;a/x/zarr.json g3;a-b/zarr.json g3;c/y/zarr.json g3 => /a\n/a/x\n/a-b\n
-a/zarr.json nul => error parsing metadata for a/zarr.json: not JSON
+zarr.json G3 =>
+zarr.json G3;a/zarr.json G3;a/x/zarr.json G3;a-b/zarr.json G3;c/y/zarr.json G3 => /a\n/a/x\n/a-b\nignored /c\n
+a/zarr.json NUL => StorageError(InvalidMetadata): error parsing metadata for a/zarr.json: not JSON
 "#;
 
 #[test]
@@ -233,7 +232,9 @@ fn past_text(told: &(Vec<NodePath>, WalkedPast), alloc: Global) -> Result<String
     for (names, fault) in &passed.faults {
         match fault {
             NodeFault::Name => write!(text, "{names} no name\n")?,
-            NodeFault::Document(error) => write!(text, "{names} {error}\n")?,
+            NodeFault::Document(error) => {
+                write!(text, "{names} {}\n", refusal(alloc, error)?)?;
+            }
         }
     }
     Ok(text)
@@ -245,9 +246,9 @@ fn past_said(alloc: Global, given: &str) -> Result<String, AllocError> {
 
 // A store; the paths of its nodes, the ignored ones, and what is bad, each in the order of paths.
 const PAST: &str = r#"
-zarr.json g3;a/zarr.json g3;a/x/zarr.json g3 => /a\n/a/x\n
-a/zarr.json nul;a/x/zarr.json g3;b/zarr.json g3 => /b\na/ error parsing metadata for a/zarr.json: not JSON\n
-b/zarr.json g3;b/../zarr.json g3;b/c/zarr.json g2;b/d/zarr.json g3;e/f/x nul => /b\n/b/d\nignored /e\nb/../ no name\nb/c/ Found V2 metadata in V3 key or vice-versa\n
+zarr.json G3;a/zarr.json G3;a/x/zarr.json G3 => /a\n/a/x\n
+a/zarr.json NUL;a/x/zarr.json G3;b/zarr.json G3 => /b\na/ StorageError(InvalidMetadata): error parsing metadata for a/zarr.json: not JSON\n
+b/zarr.json G3;b/../zarr.json G3;b/c/zarr.json G2;b/d/zarr.json G3;e/f/x NUL => /b\n/b/d\nignored /e\nb/../ no name\nb/c/ MetadataVersionMismatch: Found V2 metadata in V3 key or vice-versa\n
 "#;
 
 #[test]

@@ -1,62 +1,39 @@
-//! What the rows of tables give: stores and blocks as lists, documents and enum values as words.
+//! What the rows of tables give: stores, blocks and nodes as lists of pairs.
 
-use std::alloc::{AllocError, Global};
-use tests_fixtures::{A3_SQUARE, no_word, store_of};
-use tests_support::{A2, A3, G2, G3};
-use zarrs_store::{MemoryStore, StorageError};
+use std::alloc::Global;
+use tests_fixtures::{ANY, document_of, key_of, metadata_at, no_word};
+use zarrs_block::NodeCreateError;
+use zarrs_node::Node;
+use zarrs_path::NodePath;
+use zarrs_store::{MemoryStore, StorageError, WritableStorageTraits};
 
 // Groups and arrays of version 3 in three levels.
 const THREE_LEVELS: &str =
-    "zarr.json g3;group/zarr.json g3;group/subgroup/zarr.json g3;array/zarr.json square;group/array/zarr.json square;group/subgroup/mysubarray/zarr.json square";
+    "zarr.json G3;group/zarr.json G3;group/subgroup/zarr.json G3;array/zarr.json A3_SQUARE;group/array/zarr.json A3_SQUARE;group/subgroup/mysubarray/zarr.json A3_SQUARE";
 
 // The three levels without the documents of `/array` and `/group/subgroup`.
 const TWO_ERASED: &str =
-    "zarr.json g3;group/zarr.json g3;group/array/zarr.json square;group/subgroup/mysubarray/zarr.json square";
+    "zarr.json G3;group/zarr.json G3;group/array/zarr.json A3_SQUARE;group/subgroup/mysubarray/zarr.json A3_SQUARE";
 
 // The same once `/group/subgroup` was set.
 const ONE_SET_AGAIN: &str =
-    "zarr.json g3;group/zarr.json g3;group/array/zarr.json square;group/subgroup/mysubarray/zarr.json square;group/subgroup/zarr.json g3";
+    "zarr.json G3;group/zarr.json G3;group/array/zarr.json A3_SQUARE;group/subgroup/mysubarray/zarr.json A3_SQUARE;group/subgroup/zarr.json G3";
 
 // Groups and arrays of both versions, with a chunk.
 const BOTH_VERSIONS: &str =
-    "zarr.json g3;group/zarr.json g3;group/subgroup/zarr.json g3;array/zarr.json square;array/c/0/0;group/array/zarr.json square;group/subgroup/mysubarray/zarr.json square;groupv2/.zgroup g2;groupv2/arrayv2/.zarray a2";
+    "zarr.json G3;group/zarr.json G3;group/subgroup/zarr.json G3;array/zarr.json A3_SQUARE;array/c/0/0;group/array/zarr.json A3_SQUARE;group/subgroup/mysubarray/zarr.json A3_SQUARE;groupv2/.zgroup G2;groupv2/arrayv2/.zarray A2";
 
-// The document that a word names, or the text as it is.
-fn document(word: &str) -> &str {
-    match word {
-        "g2" => G2,
-        "g3" => G3,
-        "a2" => A2,
-        "a3" => A3,
-        "square" => A3_SQUARE,
-        "nul" => "\0",
-        text => text,
-    }
-}
-
-/// The word that names a document of a group or an array of version 3, or the text as it is.
-pub(crate) fn document_name(document: &str) -> &str {
-    if document == G3 {
-        "g3"
-    } else if document == A3 {
-        "a3"
-    } else if document == A3_SQUARE {
-        "square"
-    } else {
-        document
-    }
-}
-
-/// The pairs of a list: a key, a blank and a document each, with semicolons between them. A key alone has the empty document.
+/// The pairs of a list: a key, a blank and a document or its name each, with semicolons between them. A key alone has the empty
+/// document.
 pub(crate) fn pairs_in<'a>(
     alloc: Global,
     list: &'a str,
-) -> Result<Vec<(&'a str, &'a str)>, AllocError> {
+) -> Result<Vec<(&'a str, &'a str)>, StorageError> {
     let mut pairs = Vec::new(alloc);
     for item in list.split(';') {
         if !item.is_empty() {
             let (key, word) = item.split_once(' ').unwrap_or((item, ""));
-            pairs.push((key, document(word)))?;
+            pairs.push((key, document_of(alloc, word)?))?;
         }
     }
     Ok(pairs)
@@ -75,8 +52,46 @@ pub(crate) fn list_of(name: &str) -> &str {
 
 /// The store with the documents of a list, or of the list that a name stands for.
 pub(crate) fn store_in(alloc: Global, list: &str) -> Result<MemoryStore, StorageError> {
-    let pairs = pairs_in(alloc, list_of(list))?;
-    store_of(alloc, pairs.as_slice())
+    let mut store = MemoryStore::new(alloc);
+    set_in(alloc, &mut store, list)?;
+    Ok(store)
+}
+
+/// Sets the documents of a list, or of the list that a name stands for, in a store.
+pub(crate) fn set_in(
+    alloc: Global,
+    store: &mut MemoryStore,
+    list: &str,
+) -> Result<(), StorageError> {
+    for (key, document) in pairs_in(alloc, list_of(list))? {
+        store.set(&key_of(alloc, key)?, document.as_bytes())?;
+    }
+    Ok(())
+}
+
+/// The node at a path, of a document, over some children.
+fn node_over(
+    alloc: Global,
+    path: &str,
+    document: &str,
+    children: Vec<Node>,
+) -> Result<Node, NodeCreateError> {
+    let path = NodePath::new(alloc, path)?;
+    let metadata = metadata_at(alloc, &[("zarr.json", document)], "/", ANY)?;
+    Ok(Node::new_with_metadata(path, metadata, children))
+}
+
+/// The node that the first pair of a list is, over the nodes that the others are, which have no children.
+pub(crate) fn node_in(alloc: Global, list: &str) -> Result<Node, NodeCreateError> {
+    let pairs = pairs_in(alloc, list)?;
+    let mut children = Vec::new(alloc);
+    for (path, document) in pairs.as_slice().iter().skip(1) {
+        children.push(node_over(alloc, path, document, Vec::new(alloc))?)?;
+    }
+    match pairs.first() {
+        Some((path, document)) => node_over(alloc, path, document, children),
+        None => Err(NodeCreateError::from(no_word(alloc, list))),
+    }
 }
 
 /// Whether a word names all below a path, and not its children alone.

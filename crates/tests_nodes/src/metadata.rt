@@ -26,29 +26,29 @@ fn metadata_said(alloc: Global, given: &str) -> Result<String, AllocError> {
 // Path, version and store; the text of the metadata, or of the error.
 const MEANS: &str = r#"
 # a path without documents is missing
-/ | any | node/array/zarr.json nul => Metadata is missing for /
-/node | any | node/array/zarr.json nul => Metadata is missing for /node
-/node/array | any | node/array/zarr.json nul => error parsing metadata for node/array/zarr.json: not JSON
-node | any | node/array/zarr.json nul => invalid node path node
+/ | any | node/array/zarr.json NUL => MissingMetadata: Metadata is missing for /
+/node | any | node/array/zarr.json NUL => MissingMetadata: Metadata is missing for /node
+/node/array | any | node/array/zarr.json NUL => StorageError(InvalidMetadata): error parsing metadata for node/array/zarr.json: not JSON
+node | any | node/array/zarr.json NUL => NodePathError(Invalid): invalid node path node
 
 # an empty store has no metadata
-/ | any | => Metadata is missing for /
+/ | any | => MissingMetadata: Metadata is missing for /
 
 # an array stands before a group of version 2
-/p | any | p/.zarray a2;p/.zgroup [] => {"chunks":[1],"compressor":null,"dimension_separator":".","dtype":"<f8","fill_value":"NaN","filters":null,"order":"C","shape":[1],"zarr_format":2}
+/p | any | p/.zarray A2;p/.zgroup [] => {"chunks":[1],"compressor":null,"dimension_separator":".","dtype":"<f8","fill_value":"NaN","filters":null,"order":"C","shape":[1],"zarr_format":2}
 
 # a stored array is read
 /node | any | node/zarr.json {"chunk_grid":{"configuration":{"chunk_shape":[1,1,1]},"name":"regular"},"chunk_key_encoding":{"configuration":{"separator":"/"},"name":"default"},"codecs":[{"configuration":{"endian":"little"},"name":"bytes"}],"data_type":"float32","fill_value":0,"node_type":"array","shape":[1,2,3],"zarr_format":3} => {"chunk_grid":{"configuration":{"chunk_shape":[1,1,1]},"name":"regular"},"chunk_key_encoding":{"configuration":{"separator":"/"},"name":"default"},"codecs":[{"configuration":{"endian":"little"},"name":"bytes"}],"data_type":"float32","fill_value":0,"node_type":"array","shape":[1,2,3],"zarr_format":3}
 
 # version 2 at the key of version 3 is a mismatch
-/ | any | zarr.json g2 => Found V2 metadata in V3 key or vice-versa
-/ | v3 | zarr.json g2 => Found V2 metadata in V3 key or vice-versa
-/ | v2 | zarr.json g2 => Metadata is missing for /
+/ | any | zarr.json G2 => MetadataVersionMismatch: Found V2 metadata in V3 key or vice-versa
+/ | v3 | zarr.json G2 => MetadataVersionMismatch: Found V2 metadata in V3 key or vice-versa
+/ | v2 | zarr.json G2 => MissingMetadata: Metadata is missing for /
 
 # a version limits which keys are read
-/g | any | g/zarr.json g3;g/.zgroup g2 => {"node_type":"group","zarr_format":3}
-/g | v3 | g/zarr.json g3;g/.zgroup g2 => {"node_type":"group","zarr_format":3}
-/g | v2 | g/zarr.json g3;g/.zgroup g2 => {"zarr_format":2}
+/g | any | g/zarr.json G3;g/.zgroup G2 => {"node_type":"group","zarr_format":3}
+/g | v3 | g/zarr.json G3;g/.zgroup G2 => {"node_type":"group","zarr_format":3}
+/g | v2 | g/zarr.json G3;g/.zgroup G2 => {"zarr_format":2}
 
 # attributes beside a document replace its own
 /g | any | g/.zgroup {"attributes":{"own":1},"zarr_format":2};g/.zattrs {"k":1} => {"attributes":{"k":1},"zarr_format":2}
@@ -72,12 +72,12 @@ fn existence(alloc: Global, given: &str) -> Result<String, NodeCreateError> {
 // Path and store; whether a node is there, by either call.
 const EXISTENCE: &str = r#"
 /a | a/.zattrs {} => false false
-/a | a/.zattrs {};b/zarr.json x;c/.zarray;d/.zgroup;e/zarr.json/x => false false
-/b | a/.zattrs {};b/zarr.json x;c/.zarray;d/.zgroup;e/zarr.json/x => true true
-/c | a/.zattrs {};b/zarr.json x;c/.zarray;d/.zgroup;e/zarr.json/x => true true
-/d | a/.zattrs {};b/zarr.json x;c/.zarray;d/.zgroup;e/zarr.json/x => true true
-/e | a/.zattrs {};b/zarr.json x;c/.zarray;d/.zgroup;e/zarr.json/x => false false
-/ | a/.zattrs {};b/zarr.json x;c/.zarray;d/.zgroup;e/zarr.json/x => false false
+/a | a/.zattrs {};b/zarr.json NUL;c/.zarray;d/.zgroup;e/zarr.json/x => false false
+/b | a/.zattrs {};b/zarr.json NUL;c/.zarray;d/.zgroup;e/zarr.json/x => true true
+/c | a/.zattrs {};b/zarr.json NUL;c/.zarray;d/.zgroup;e/zarr.json/x => true true
+/d | a/.zattrs {};b/zarr.json NUL;c/.zarray;d/.zgroup;e/zarr.json/x => true true
+/e | a/.zattrs {};b/zarr.json NUL;c/.zarray;d/.zgroup;e/zarr.json/x => false false
+/ | a/.zattrs {};b/zarr.json NUL;c/.zarray;d/.zgroup;e/zarr.json/x => false false
 "#;
 
 #[test]

@@ -1,20 +1,22 @@
 //! Nodes, the calls that warn, and the pairs of a listing.
 
-use crate::given::{is_all, store_in};
+use crate::given::{is_all, node_in, set_in, store_in};
 use log::Log;
 use log::sink::{Discard, Writer};
 use std::alloc::{AllocError, Global};
 use std::test::Fail;
-use tests_fixtures::{ANY, forest_text, pairs_text, paths_text, version_of};
+use tests_fixtures::{
+    ANY, document_text, forest_text, node_text, pairs_text, paths_text, version_of,
+};
 use tests_support::{G3, check_rows, fields, printed, said, with_lines};
 use zarrs_block::NodeCreateError;
 use zarrs_config::MetadataRetrieveVersion;
-use zarrs_meta::{GroupMetadata, GroupMetadataV3, NodeMetadata};
+use zarrs_meta::NodeMetadata;
 use zarrs_node::{
     Node, get_all_nodes_of, get_child_nodes, get_child_nodes_opt, get_child_paths,
     get_child_paths_opt, laws, walk_child_nodes,
 };
-use zarrs_path::{NodePath, NodePathError, meta_key_v3};
+use zarrs_path::{NodePath, meta_key_v3};
 use zarrs_store::{MemoryStore, WritableStorageTraits};
 
 // The version of `zarr.json` alone.
@@ -66,32 +68,51 @@ fn listed_by<L: Log>(
     }
 }
 
-// What a call lists below the base of a row in its store, and what is warned of.
-fn warnings(alloc: Global, given: &str) -> Result<String, NodeCreateError> {
-    let (call, rest) = fields(given);
-    let (base, documents) = fields(rest);
+// What a call lists below a base in a store, once the documents of a list are set in it.
+fn listed_after<L: Log>(
+    alloc: Global,
+    log: &L,
+    call: &str,
+    store: &mut MemoryStore,
+    given: &str,
+) -> Result<String, NodeCreateError> {
+    let (base, documents) = fields(given);
     let base = NodePath::new(alloc, base)?;
-    let store = store_in(alloc, documents)?;
-    let sink = Writer::new(Vec::new(alloc));
-    let text = listed_by(alloc, &sink, call, &store, &base);
-    Ok(with_lines(alloc, text, "warned: ", sink.into_inner())?)
+    set_in(alloc, store, documents)?;
+    Ok(listed_by(alloc, log, call, &*store, &base)?)
 }
 
-// Call, base and store; what is listed, and the log.
+// What a call lists in one store by each step of a row, and what all of them warn of.
+fn warnings(alloc: Global, given: &str) -> Result<String, NodeCreateError> {
+    let (call, steps) = fields(given);
+    let mut store = MemoryStore::new(alloc);
+    let sink = Writer::new(Vec::new(alloc));
+    let mut text = String::new(alloc);
+    for step in steps.split(" THEN ") {
+        let answer = listed_after(alloc, &sink, call, &mut store, step)?;
+        write!(text, "{answer}")?;
+    }
+    Ok(with_lines(alloc, Ok(text), "warned: ", sink.into_inner())?)
+}
+
+// Call, base and store, or steps with more documents set in the same store; what is listed, and the log.
 const WARNED: &str = r#"
 # what is passed over is warned of
-nodes | /root | root/zarr.json g3;root/fakenode/content/zarr.json nul => warned: [WARN  zarrs_node::children] Object at /root/fakenode is not recognized as a component of a Zarr hierarchy. Ignoring.\n
+nodes | /root | root/zarr.json G3;root/fakenode/content/zarr.json NUL => warned: [WARN  zarrs_node::children] Object at /root/fakenode is not recognized as a component of a Zarr hierarchy. Ignoring.\n
 
 # a refusal warns of nothing
-nodes | /root/fakenode | root/zarr.json g3;root/fakenode/content/zarr.json nul;root/fakenode/zarr.json nul => error parsing metadata for root/fakenode/content/zarr.json: not JSON
+nodes | /root/fakenode | root/zarr.json G3;root/fakenode/content/zarr.json NUL;root/fakenode/zarr.json NUL => StorageError(InvalidMetadata): error parsing metadata for root/fakenode/content/zarr.json: not JSON
+
+# what was passed over is refused below, once it has a document that is bad
+nodes | /root | root/zarr.json {"attributes":{"info":"The store for this group contains a fake node, which is not part of the dataset."},"node_type":"group","zarr_format":3};root/fakenode/content/zarr.json NUL THEN /root/fakenode | root/fakenode/zarr.json NUL => StorageError(InvalidMetadata): error parsing metadata for root/fakenode/content/zarr.json: not JSONwarned: [WARN  zarrs_node::children] Object at /root/fakenode is not recognized as a component of a Zarr hierarchy. Ignoring.\n
 
 # all nodes are listed with warnings
-pairs | / | g/zarr.json g3;g/x/content nul;y/c nul => /g group\nwarned: [WARN  zarrs_node::children] Object at /g/x is not recognized as a component of a Zarr hierarchy. Ignoring.\n[WARN  zarrs_node::children] Object at /y is not recognized as a component of a Zarr hierarchy. Ignoring.\n
+pairs | / | g/zarr.json G3;g/x/content NUL;y/c NUL => /g G3\nwarned: [WARN  zarrs_node::children] Object at /g/x is not recognized as a component of a Zarr hierarchy. Ignoring.\n[WARN  zarrs_node::children] Object at /y is not recognized as a component of a Zarr hierarchy. Ignoring.\n
 
 # paths are listed with the same warnings
-paths of version 3 | / | g/zarr.json g3;y/.zgroup g2 => /g\nwarned: [WARN  zarrs_node::children] Object at /y is not recognized as a component of a Zarr hierarchy. Ignoring.\n
-walked | / | g/zarr.json g3;g/a/zarr.json a3;y/c nul => /g\n/g/a\nwarned: [WARN  zarrs_node::children] Object at /y is not recognized as a component of a Zarr hierarchy. Ignoring.\n
-paths | / | g/zarr.json g3;g/x/content nul;y/c nul => /g\nwarned: [WARN  zarrs_node::children] Object at /g/x is not recognized as a component of a Zarr hierarchy. Ignoring.\n[WARN  zarrs_node::children] Object at /y is not recognized as a component of a Zarr hierarchy. Ignoring.\n
+paths of version 3 | / | g/zarr.json G3;y/.zgroup G2 => /g\nwarned: [WARN  zarrs_node::children] Object at /y is not recognized as a component of a Zarr hierarchy. Ignoring.\n
+walked | / | g/zarr.json G3;g/a/zarr.json A3;y/c NUL => /g\n/g/a\nwarned: [WARN  zarrs_node::children] Object at /y is not recognized as a component of a Zarr hierarchy. Ignoring.\n
+paths | / | g/zarr.json G3;g/x/content NUL;y/c NUL => /g\nwarned: [WARN  zarrs_node::children] Object at /g/x is not recognized as a component of a Zarr hierarchy. Ignoring.\n[WARN  zarrs_node::children] Object at /y is not recognized as a component of a Zarr hierarchy. Ignoring.\n
 "#;
 
 #[test]
@@ -116,9 +137,9 @@ fn children_said(alloc: Global, given: &str) -> Result<String, AllocError> {
 
 // Depth, version and store; the nodes below the root.
 const CHILDREN: &str = r#"
-children | any | g/zarr.json g3;g/a/zarr.json g3;old/.zgroup g2 => /g\n/old\n
-children | v3 | g/zarr.json g3;g/a/zarr.json g3;old/.zgroup g2 => /g\n
-children | v2 | g/zarr.json g3;g/a/zarr.json g3;old/.zgroup g2 => /old\n
+children | any | g/zarr.json G3;g/a/zarr.json G3;old/.zgroup G2 => /g G3\n/old G2\n
+children | v3 | g/zarr.json G3;g/a/zarr.json G3;old/.zgroup G2 => /g G3\n
+children | v2 | g/zarr.json G3;g/a/zarr.json G3;old/.zgroup G2 => /old G2\n
 "#;
 
 #[test]
@@ -141,13 +162,14 @@ fn pairs_said(alloc: Global, given: &str) -> Result<String, NodeCreateError> {
     Ok(said(alloc, all_pairs(alloc, &store), pairs_text)?)
 }
 
-// A store, and the paths and kinds of all pairs below its root.
+// A store, and the paths and documents of all pairs below its root.
 const PAIRS: &str = r#"
 # all nodes stand once with their metadata
-g/zarr.json g3;g/a/zarr.json a3;old/.zgroup g2;old/b/.zarray a2 => /g group\n/g/a array\n/old group\n/old/b array\n
+g/zarr.json G3;g/a/zarr.json A3;old/.zgroup G2;old/b/.zarray A2 => /g G3\n/g/a A3\n/old G2\n/old/b A2\n
+g/zarr.json {"attributes":{"k":1},"node_type":"group","zarr_format":3};old/.zgroup G2;old/.zattrs {"k":2} => /g {"attributes":{"k":1},"node_type":"group","zarr_format":3}\n/old {"attributes":{"k":2},"zarr_format":2}\n
 
 # their paths are those that are listed: the table of paths has the same
-both versions => /array array\n/group group\n/group/array array\n/group/subgroup group\n/group/subgroup/mysubarray array\n/groupv2 group\n/groupv2/arrayv2 array\n
+both versions => /array A3_SQUARE\n/group G3\n/group/array A3_SQUARE\n/group/subgroup G3\n/group/subgroup/mysubarray A3_SQUARE\n/groupv2 G2\n/groupv2/arrayv2 A2\n
 "#;
 
 #[test]
@@ -182,31 +204,13 @@ fn a_long_chain_of_groups_is_listed(rt: HostRuntime) -> Result<(), Fail> {
 
 // ---- nodes that are made
 
-// The group at a path with these children.
-fn group_over(alloc: Global, path: &str, children: Vec<Node>) -> Result<Node, NodePathError> {
-    let path = NodePath::new(alloc, path)?;
-    let metadata = NodeMetadata::Group(GroupMetadata::V3(GroupMetadataV3::new(alloc)));
-    Ok(Node::new_with_metadata(path, metadata, children))
-}
-
-// The group at a path with one child; with none where the child's path is empty.
-fn node_with(alloc: Global, path: &str, child: &str) -> Result<Node, NodeCreateError> {
-    let mut children = Vec::new(alloc);
-    if !child.is_empty() {
-        children.push(group_over(alloc, child, Vec::new(alloc))?)?;
-    }
-    Ok(group_over(alloc, path, children)?)
-}
-
-// What a node says of itself.
-fn node_text(node: &Node, alloc: Global) -> Result<String, AllocError> {
+// What a node says of itself, and the node with what is below it.
+fn own_text(node: &Node, alloc: Global) -> Result<String, AllocError> {
     let name = node.name(alloc)?;
+    let all = node_text(node, alloc)?;
     format!(in alloc;
-        "path {} name {name} root {} group {} children {} placed {}",
-        node.path(),
+        "name '{name}', root {}, placed {}\n{all}",
         node.is_root(),
-        node.metadata().is_group(),
-        node.children().len(),
         node.has_placed_children()
     )
 }
@@ -214,44 +218,40 @@ fn node_text(node: &Node, alloc: Global) -> Result<String, AllocError> {
 // What a look at a node shows.
 fn looked(alloc: Global, node: Node, look: &str) -> Result<String, AllocError> {
     match look {
-        "node" => node_text(&node, alloc),
-        "copy" => said(alloc, node.try_clone(alloc), node_text),
-        "tree of copy" => said(alloc, node.try_clone(alloc), Node::hierarchy_tree),
+        "node" => own_text(&node, alloc),
+        "copy" => said(alloc, node.try_clone(alloc), own_text),
         "path" => printed(&NodePath::from(node), alloc),
-        "metadata" => NodeMetadata::from(node).to_text(alloc),
-        "placed" => printed(&node.has_placed_children(), alloc),
+        "metadata" => document_text(&NodeMetadata::from(node), alloc),
         look => format!(in alloc; "no such word: {look}"),
     }
 }
 
-// What the look of a row shows at the node of a path with a child of another.
+// What the look of a row shows at a node and those below it.
 fn node_said(alloc: Global, given: &str) -> Result<String, NodeCreateError> {
-    let (look, rest) = fields(given);
-    let (path, child) = fields(rest);
-    let node = node_with(alloc, path, child)?;
-    Ok(looked(alloc, node, look)?)
+    let (look, list) = fields(given);
+    Ok(looked(alloc, node_in(alloc, list)?, look)?)
 }
 
-// Look, path and the path of the child; what is seen.
+// Look, and the node with its children; what is seen.
 const NODES: &str = r#"
 # a node holds what it was made of
-node | /a | /a/x => path /a name a root false group true children 1 placed true
-copy | /a | /a/x => path /a name a root false group true children 1 placed true
-tree of copy | /a | /a/x => /\n  x\n
+node | /a {"attributes":{"k":[1,"x"]},"node_type":"group","zarr_format":3};/a/x G3;/a/y A3 => name 'a', root false, placed true\n/a {"attributes":{"k":[1,"x"]},"node_type":"group","zarr_format":3}\n  /a/x G3\n  /a/y A3\n
+copy | /a {"attributes":{"k":[1,"x"]},"node_type":"group","zarr_format":3};/a/x G3;/a/y A3 => name 'a', root false, placed true\n/a {"attributes":{"k":[1,"x"]},"node_type":"group","zarr_format":3}\n  /a/x G3\n  /a/y A3\n
+copy | /b/a A3_SQUARE;/a G3;/a G3;/ A3 => name 'a', root false, placed false\n/b/a A3_SQUARE\n  /a G3\n  /a G3\n  / A3\n
 
 # a node gives its parts
-path | /a | /a/x => /a
-metadata | /a | /a/x => {"node_type":"group","zarr_format":3}
+path | /a G3;/a/x G3 => /a
+metadata | /a {"attributes":{"k":1},"node_type":"group","zarr_format":3};/a/x G3 => {"attributes":{"k":1},"node_type":"group","zarr_format":3}
 
 # the root has the empty name
-node | / | => path / name  root true group true children 0 placed true
+node | / G3 => name '', root true, placed true\n/ G3\n
 
 # placed children are one name below
-placed | / | /a => true
-placed | /g | /g/a => true
-placed | /g | /gx/a => false
-placed | /g | /g/a/b => false
-placed | /g | /g => false
+node | / G3;/a G3 => name '', root true, placed true\n/ G3\n  /a G3\n
+node | /g G3;/g/a G3 => name 'g', root false, placed true\n/g G3\n  /g/a G3\n
+node | /g G3;/gx/a G3 => name 'g', root false, placed false\n/g G3\n  /gx/a G3\n
+node | /g G3;/g/a/b G3 => name 'g', root false, placed false\n/g G3\n  /g/a/b G3\n
+node | /g G3;/g G3 => name 'g', root false, placed false\n/g G3\n  /g G3\n
 "#;
 
 #[test]

@@ -5,7 +5,7 @@ use log::sink::Discard;
 use std::alloc::{AllocError, Global};
 use std::process::Abort;
 use std::test::Fail;
-use tests_fixtures::{ANY, entries_of, key_of, keys_text};
+use tests_fixtures::{ANY, entries_of, entries_text, key_of};
 use tests_support::{A3, G3, check_rows, fields, said};
 use zarrs_block::{ConsolidatedMetadataMetadata, NodeCreateError};
 use zarrs_meta::{GroupMetadata, GroupMetadataV3, NodeMetadata};
@@ -51,30 +51,6 @@ fn refreshed<S: ReadableStorageTraits + ListableStorageTraits>(
     refresh_block(alloc, store, &base, &ANY, block, &path)
 }
 
-// A line for each key of a block, with its kind.
-fn kinds_text(block: &Block, alloc: Global) -> Result<String, AllocError> {
-    let mut text = String::new(alloc);
-    for (key, metadata) in block.as_map().iter() {
-        let kind = if metadata.is_group() {
-            "group"
-        } else {
-            "array"
-        };
-        write!(text, "{key} {kind}\n")?;
-    }
-    Ok(text)
-}
-
-// A line for each key of a block, with its document.
-fn lines_text(block: &Block, alloc: Global) -> Result<String, AllocError> {
-    let mut text = String::new(alloc);
-    for (key, metadata) in block.as_map().iter() {
-        let document = metadata.to_text(alloc)?;
-        write!(text, "{key} {document}\n")?;
-    }
-    Ok(text)
-}
-
 // ---- one change after another
 
 // The block of the first store of a row, made current at the row's path in each store behind it, one after another.
@@ -89,14 +65,14 @@ fn changed(alloc: Global, given: &str) -> Result<Block, NodeCreateError> {
 }
 
 fn changed_said(alloc: Global, given: &str) -> Result<String, AllocError> {
-    said(alloc, changed(alloc, given), keys_text)
+    said(alloc, changed(alloc, given), entries_text)
 }
 
-// Path and stores; the keys of the last block.
+// Path and stores; the last block.
 const CHANGED: &str = r#"
 # only the path and what is below it is made anew
-/group/subgroup | three levels | two erased => array\ngroup\ngroup/array\n
-/group/subgroup | three levels | two erased | one set again => array\ngroup\ngroup/array\ngroup/subgroup\ngroup/subgroup/mysubarray\n
+/group/subgroup | three levels | two erased => array A3_SQUARE\ngroup G3\ngroup/array A3_SQUARE\n
+/group/subgroup | three levels | two erased | one set again => array A3_SQUARE\ngroup G3\ngroup/array A3_SQUARE\ngroup/subgroup G3\ngroup/subgroup/mysubarray A3_SQUARE\n
 "#;
 
 #[test]
@@ -122,12 +98,8 @@ fn refreshed_given(alloc: Global, given: &str) -> Result<Block, NodeCreateError>
     refreshed(alloc, &store, base, &block, path)
 }
 
-fn keys_said(alloc: Global, given: &str) -> Result<String, AllocError> {
-    said(alloc, refreshed_given(alloc, given), keys_text)
-}
-
-fn kinds_said(alloc: Global, given: &str) -> Result<String, AllocError> {
-    said(alloc, refreshed_given(alloc, given), kinds_text)
+fn entries_said(alloc: Global, given: &str) -> Result<String, AllocError> {
+    said(alloc, refreshed_given(alloc, given), entries_text)
 }
 
 // The block of a row made current in its place: the base, the path, the nodes of the block, and the store.
@@ -145,64 +117,47 @@ fn owned_given(alloc: Global, given: &str) -> Result<Block, NodeCreateError> {
     refresh_owned_block(alloc, &store, &base, &ANY, block, &path)
 }
 
-fn owned_keys_said(alloc: Global, given: &str) -> Result<String, AllocError> {
-    said(alloc, owned_given(alloc, given), keys_text)
+fn owned_said(alloc: Global, given: &str) -> Result<String, AllocError> {
+    said(alloc, owned_given(alloc, given), entries_text)
 }
 
-fn owned_kinds_said(alloc: Global, given: &str) -> Result<String, AllocError> {
-    said(alloc, owned_given(alloc, given), kinds_text)
-}
-
-// Base, path, the nodes of the block, and the store; the keys of the block that is made current, or the refusal.
-const KEYS: &str = r#"
+// Base, path, the nodes of the block, and the store; the block that is made current, or the refusal.
+const CURRENT: &str = r#"
 # siblings and keys that are no paths stay
-/ | /a | a g3;/a g3;a/x a3;/a/x a3;a-b a3;a0 a3;ab g3;//a a3;__x g3; g3;/ g3;b/../c a3 | => \n/\n//a\n__x\na-b\na0\nab\nb/../c\n
-/ | /a | a g3;/a g3;a/x a3;/a/x a3;a-b a3;a0 a3;ab g3;//a a3;__x g3; g3;/ g3;b/../c a3 | a/zarr.json a3 => \n/\n//a\n__x\na\na-b\na0\nab\nb/../c\n
+/ | /a | a G3;/a G3;a/x A3;/a/x A3;a-b A3;a0 A3;ab G3;//a A3;__x G3; G3;/ G3;b/../c A3 | =>  G3\n/ G3\n//a A3\n__x G3\na-b A3\na0 A3\nab G3\nb/../c A3\n
+/ | /a | a G3;/a G3;a/x A3;/a/x A3;a-b A3;a0 A3;ab G3;//a A3;__x G3; G3;/ G3;b/../c A3 | a/zarr.json A3_SQUARE =>  G3\n/ G3\n//a A3\n__x G3\na A3_SQUARE\na-b A3\na0 A3\nab G3\nb/../c A3\n
 
 # what is bad at the path or below it refuses
-/ | /g | g g3;h a3 | g/zarr.json {};g/a/zarr.json g3 => error parsing metadata for g/zarr.json: wrong zarr_format
-/ | /g | g g3;h a3 | g/zarr.json g3;g/a/zarr.json [ => error parsing metadata for g/a/zarr.json: not JSON
-/ | /g | g g3;h a3 | g/zarr.json g2;g/a/zarr.json g3 => Found V2 metadata in V3 key or vice-versa
-/ | /g | g g3;h a3 | g/zarr.json g3;g/../x => invalid node path /g/..
+/ | /g | g G3;h A3 | g/zarr.json {};g/a/zarr.json G3 => StorageError(InvalidMetadata): error parsing metadata for g/zarr.json: wrong zarr_format
+/ | /g | g G3;h A3 | g/zarr.json G3;g/a/zarr.json [ => StorageError(InvalidMetadata): error parsing metadata for g/a/zarr.json: not JSON
+/ | /g | g G3;h A3 | g/zarr.json G2;g/a/zarr.json G3 => MetadataVersionMismatch: Found V2 metadata in V3 key or vice-versa
+/ | /g | g G3;h A3 | g/zarr.json G3;g/../x => StorageError(Other): invalid node path /g/..
 
 # what is bad elsewhere or below no group is not asked
-/ | /x | g g3;h a3 | g/zarr.json {};x/zarr.json a3 => g\nh\nx\n
-/ | /h/a | g g3;h a3 | h/a/zarr.json {};x/zarr.json a3 => g\nh\n
-"#;
+/ | /x | g G3;h A3 | g/zarr.json {};x/zarr.json A3 => g G3\nh A3\nx A3\n
+/ | /h/a | g G3;h A3 | h/a/zarr.json {};x/zarr.json A3 => g G3\nh A3\n
 
-#[test]
-fn a_block_made_current_has_these_keys(rt: HostRuntime) -> Result<(), Fail> {
-    check_rows(rt.alloc(), KEYS, keys_said)
-}
-
-// The same; the keys of the block that is made current, and their kinds.
-const KINDS: &str = r#"
 # a group that became an array has nothing below it
-/ | /g | g g3;g/a a3;g/a/b a3;h g3 | g/zarr.json a3;g/a/zarr.json a3 => g array\nh group\n
+/ | /g | g G3;g/a A3;g/a/b A3;h G3 | g/zarr.json A3;g/a/zarr.json A3 => g A3\nh G3\n
 
 # an array that became a group has all below it
-/b | /b/x/g | x/g a3;x g3 | b/x/g/.zgroup g2;b/x/g/a/zarr.json a3;b/x/g/h/zarr.json g3;b/x/g/h/i/zarr.json g3;b/x/g/n/c/0;b/y/zarr.json a3 => x group\nx/g group\nx/g/a array\nx/g/h group\nx/g/h/i group\n
+/b | /b/x/g | x/g A3;x G3 | b/x/g/.zgroup G2;b/x/g/a/zarr.json A3;b/x/g/h/zarr.json G3;b/x/g/h/i/zarr.json G3;b/x/g/n/c/0;b/y/zarr.json A3 => x G3\nx/g G2\nx/g/a A3\nx/g/h G3\nx/g/h/i G3\n
 
 # below a path that is no group of the block nothing is added
-/ | /g/a | g a3;g/a g3 | g/a/zarr.json a3;g/zarr.json g3 => g array\n
-/ | /g/a | h g3;g/a/b g3 | g/a/zarr.json a3;g/zarr.json g3 => h group\n
-/ | /g/a | /g g3;x a3 | g/a/zarr.json a3;g/zarr.json g3 => /g group\ng/a array\nx array\n
-/ | /g/a | /g g3;g a3 | g/a/zarr.json a3;g/zarr.json g3 => /g group\ng array\n
+/ | /g/a | g A3;g/a G3 | g/a/zarr.json A3;g/zarr.json G3 => g A3\n
+/ | /g/a | h G3;g/a/b G3 | g/a/zarr.json A3;g/zarr.json G3 => h G3\n
+/ | /g/a | /g G3;x A3 | g/a/zarr.json A3;g/zarr.json G3 => /g G3\ng/a A3\nx A3\n
+/ | /g/a | /g G3;g A3 | g/a/zarr.json A3;g/zarr.json G3 => /g G3\ng A3\n
 "#;
 
 #[test]
-fn a_block_made_current_has_these_kinds(rt: HostRuntime) -> Result<(), Fail> {
-    check_rows(rt.alloc(), KINDS, kinds_said)
+fn a_block_made_current_has_these_entries(rt: HostRuntime) -> Result<(), Fail> {
+    check_rows(rt.alloc(), CURRENT, entries_said)
 }
 
 #[test]
-fn a_block_changed_in_its_place_has_the_same_keys(rt: HostRuntime) -> Result<(), Fail> {
-    check_rows(rt.alloc(), KEYS, owned_keys_said)
-}
-
-#[test]
-fn a_block_changed_in_its_place_has_the_same_kinds(rt: HostRuntime) -> Result<(), Fail> {
-    check_rows(rt.alloc(), KINDS, owned_kinds_said)
+fn a_block_changed_in_its_place_has_the_same_entries(rt: HostRuntime) -> Result<(), Fail> {
+    check_rows(rt.alloc(), CURRENT, owned_said)
 }
 
 // ---- every store of three paths, and every change of one
@@ -242,7 +197,7 @@ fn old_and_new(
     let block = block_of(alloc, &before, "/")?;
     let fresh = refreshed(alloc, &after, "/", &block, path)?;
     let new = block_of(alloc, &after, "/")?;
-    Ok((lines_text(&fresh, alloc)?, lines_text(&new, alloc)?))
+    Ok((entries_text(&fresh, alloc)?, entries_text(&new, alloc)?))
 }
 
 // Asserts that both blocks are one.
@@ -281,16 +236,13 @@ fn the_block_follows_every_change_of_every_small_store(rt: HostRuntime) {
 
 #[test]
 fn a_fresh_block_is_whole_or_memory_is_wanting(rt: HostRuntime) -> Result<(), Fail> {
-    let alloc = rt.alloc();
-    let given = "/group/subgroup | three levels | two erased | one set again";
-    let found = changed_said(alloc, given)?;
-    let whole = "array\ngroup\ngroup/array\ngroup/subgroup\ngroup/subgroup/mysubarray\n";
-    match found.as_str() {
-        "out of memory" => Err(Fail::from(AllocError)),
-        text if text == whole => Ok(()),
-        text => Err(Fail::new(format_args!("found {text}"))),
-    }
+    check_rows(rt.alloc(), CHANGED_TWICE, changed_said)
 }
+
+// With none refused it is whole.
+const CHANGED_TWICE: &str = r#"
+/group/subgroup | three levels | two erased | one set again => array A3_SQUARE\ngroup G3\ngroup/array A3_SQUARE\ngroup/subgroup G3\ngroup/subgroup/mysubarray A3_SQUARE\n
+"#;
 
 #[test]
 fn the_laws_of_fresh_blocks_are_called() {

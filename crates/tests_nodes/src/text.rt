@@ -40,13 +40,13 @@ fn tree_said(alloc: Global, given: &str) -> Result<String, AllocError> {
 // A store, and the printed tree of its root.
 const TREES: &str = r#"
 # siblings are printed in the order of names
-zarr.json g3;a/zarr.json g3;a/x/zarr.json g3;a-b/zarr.json g3 => /\n  a\n    x\n  a-b\n
+zarr.json G3;a/zarr.json G3;a/x/zarr.json G3;a-b/zarr.json G3 => /\n  a\n    x\n  a-b\n
 
 # arrays are printed with shape and type
 three levels => /\n  array [10, 10] float32\n  group\n    array [10, 10] float32\n    subgroup\n      mysubarray [10, 10] float32\n
 
 # a type of version 2 is printed as its text stands
-groupv2/.zgroup g2;groupv2/arrayv2/.zarray a2 => /\n  groupv2\n    arrayv2 [1] Simple("<f8")\n
+groupv2/.zgroup G2;groupv2/arrayv2/.zarray A2 => /\n  groupv2\n    arrayv2 [1] Simple("<f8")\n
 
 # a configuration is printed as two periods
 z/zarr.json {"chunk_grid":"regular","chunk_key_encoding":"default","codecs":[],"data_type":{"configuration":{"n":1},"name":"t"},"fill_value":0,"node_type":"array","shape":[],"zarr_format":3};w/.zarray {"chunks":[],"compressor":null,"dtype":[["f","<f8"]],"fill_value":0,"filters":null,"order":"C","shape":[],"zarr_format":2} => /\n  w [] Structured(..)\n  z [] t(..)\n
