@@ -1,9 +1,8 @@
 use serde_json::Value;
 use std::alloc::{AllocError, Global};
 use std::test::Fail;
-use tests_support::check_rows;
+use tests_support::{check_rows, said};
 use zarrs_block::ConsolidatedMetadata;
-use zarrs_store::MetadataFault;
 
 // A document as zarr-python 2 writes it.
 const WRITTEN: &str = "{
@@ -98,14 +97,14 @@ fn document(given: &str) -> &str {
 // Documents or the names of theirs, and what each is read as.
 const DOCUMENTS: &str = r#"
 # A document is refused by its first fault.
-[1.5] => unsupported number
-{"other":1.5} => unsupported number
-[] => not an object
-{} => missing member zarr_consolidated_format
-{"zarr_consolidated_format":2,"metadata":{}} => bad member zarr_consolidated_format
-{"zarr_consolidated_format":"1"} => bad member zarr_consolidated_format
-{"zarr_consolidated_format":1} => missing member metadata
-{"zarr_consolidated_format":1,"metadata":[]} => bad member metadata
+[1.5] => UnsupportedNumber: unsupported number
+{"other":1.5} => UnsupportedNumber: unsupported number
+[] => NotAnObject: not an object
+{} => MissingMember: missing member zarr_consolidated_format
+{"zarr_consolidated_format":2,"metadata":{}} => BadMember: bad member zarr_consolidated_format
+{"zarr_consolidated_format":"1"} => BadMember: bad member zarr_consolidated_format
+{"zarr_consolidated_format":1} => MissingMember: missing member metadata
+{"zarr_consolidated_format":1,"metadata":[]} => BadMember: bad member metadata
 {"zarr_consolidated_format":1,"metadata":{}} =>
 # Documents without a node are passed over.
 {"zarr_consolidated_format":1,"metadata":{"a/.zattrs":{}}} =>
@@ -114,17 +113,17 @@ const DOCUMENTS: &str = r#"
 {"zarr_consolidated_format":1,"metadata":{".zgroup":{},".zattrs":[],".zarray":1}} =>
 {"zarr_consolidated_format":1,"metadata":{"..":1,"a/b":{},"a/.zgroup/c":1,"__a":{"zarr_format":2}}} =>
 # A bad name or document refuses the whole.
-{"zarr_consolidated_format":1,"metadata":{"../.zgroup":{"zarr_format":2}}} => bad member metadata
-{"zarr_consolidated_format":1,"metadata":{"/a/.zgroup":{"zarr_format":2}}} => bad member metadata
-{"zarr_consolidated_format":1,"metadata":{"a//.zgroup":{"zarr_format":2}}} => bad member metadata
-{"zarr_consolidated_format":1,"metadata":{"/.zgroup":{"zarr_format":2}}} => bad member metadata
-{"zarr_consolidated_format":1,"metadata":{"__a/.zgroup":{"zarr_format":2}}} => bad member metadata
-{"zarr_consolidated_format":1,"metadata":{"a/../.zattrs":{}}} => bad member metadata
-{"zarr_consolidated_format":1,"metadata":{"a/.zarray":{}}} => bad member metadata
-{"zarr_consolidated_format":1,"metadata":{"a/.zgroup":{"zarr_format":3}}} => bad member metadata
-{"zarr_consolidated_format":1,"metadata":{"a/.zgroup":{"zarr_format":2},"a/.zattrs":[]}} => bad member metadata
-{"zarr_consolidated_format":1,"metadata":{"a/.zarray":{},"a/.zgroup":{"zarr_format":2}}} => bad member metadata
-{"zarr_consolidated_format":1,"metadata":{"a/.zgroup":{"zarr_format":2},"b/.zgroup":{}}} => bad member metadata
+{"zarr_consolidated_format":1,"metadata":{"../.zgroup":{"zarr_format":2}}} => BadMember: bad member metadata
+{"zarr_consolidated_format":1,"metadata":{"/a/.zgroup":{"zarr_format":2}}} => BadMember: bad member metadata
+{"zarr_consolidated_format":1,"metadata":{"a//.zgroup":{"zarr_format":2}}} => BadMember: bad member metadata
+{"zarr_consolidated_format":1,"metadata":{"/.zgroup":{"zarr_format":2}}} => BadMember: bad member metadata
+{"zarr_consolidated_format":1,"metadata":{"__a/.zgroup":{"zarr_format":2}}} => BadMember: bad member metadata
+{"zarr_consolidated_format":1,"metadata":{"a/../.zattrs":{}}} => BadMember: bad member metadata
+{"zarr_consolidated_format":1,"metadata":{"a/.zarray":{}}} => BadMember: bad member metadata
+{"zarr_consolidated_format":1,"metadata":{"a/.zgroup":{"zarr_format":3}}} => BadMember: bad member metadata
+{"zarr_consolidated_format":1,"metadata":{"a/.zgroup":{"zarr_format":2},"a/.zattrs":[]}} => BadMember: bad member metadata
+{"zarr_consolidated_format":1,"metadata":{"a/.zarray":{},"a/.zgroup":{"zarr_format":2}}} => BadMember: bad member metadata
+{"zarr_consolidated_format":1,"metadata":{"a/.zgroup":{"zarr_format":2},"b/.zgroup":{}}} => BadMember: bad member metadata
 # Groups have the attributes beside them.
 {"zarr_consolidated_format":1,"metadata":{"x/y/.zgroup":{"zarr_format":2}}} => x/y {"zarr_format":2};
 {"zarr_consolidated_format":1,"metadata":{"a/.zattrs":{"k":1},"a/.zgroup":{"zarr_format":2}}} => a {"attributes":{"k":1},"zarr_format":2};
@@ -141,19 +140,8 @@ GDAL => sub {"zarr_format":2};sub/band {"attributes":{"_ARRAY_DIMENSIONS":["y","
 netCDF-C => t {"attributes":{"_nczarr_array":{"dimension_references":["/t"],"storage":"chunked"},"_nczarr_attr":{"types":{"units":"<S1"}},"units":"s"},"chunks":[4],"compressor":{"id":"zlib","level":1},"dimension_separator":".","dtype":"<i4","fill_value":-2147483647,"filters":[{"elementsize":4,"id":"shuffle"}],"order":"C","shape":[4],"zarr_format":2};
 "#;
 
-// What is read of a document: the keys of the block, each with the text of its metadata and a semicolon, or the text of the fault.
-fn said(
-    alloc: Global,
-    read: Result<ConsolidatedMetadata, MetadataFault>,
-) -> Result<String, AllocError> {
-    match read {
-        Ok(block) => nodes_text(alloc, &block),
-        Err(fault) => format!(in alloc; "{fault}"),
-    }
-}
-
 // The keys of a block, each with the text of its metadata and a semicolon.
-fn nodes_text(alloc: Global, block: &ConsolidatedMetadata) -> Result<String, AllocError> {
+fn nodes_text(block: &ConsolidatedMetadata, alloc: Global) -> Result<String, AllocError> {
     let mut text = String::new(alloc);
     for (key, node) in block.metadata.as_map().iter() {
         let node = node.to_text(alloc)?;
@@ -165,7 +153,11 @@ fn nodes_text(alloc: Global, block: &ConsolidatedMetadata) -> Result<String, All
 // What a document is read as by reference.
 fn read(alloc: Global, given: &str) -> Result<String, AllocError> {
     match Value::from_slice(alloc, document(given).as_bytes()) {
-        Ok(value) => said(alloc, ConsolidatedMetadata::from_zmetadata(alloc, &value)),
+        Ok(value) => said(
+            alloc,
+            ConsolidatedMetadata::from_zmetadata(alloc, &value),
+            nodes_text,
+        ),
         Err(_) => String::from_str(alloc, "not JSON"),
     }
 }
@@ -177,6 +169,7 @@ fn read_owned(alloc: Global, given: &str) -> Result<String, AllocError> {
             said(
                 alloc,
                 ConsolidatedMetadata::from_owned_zmetadata(alloc, value),
+                nodes_text,
             )
         }
         Err(_) => String::from_str(alloc, "not JSON"),

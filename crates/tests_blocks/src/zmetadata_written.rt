@@ -1,9 +1,8 @@
 use crate::blocks::block_of;
 use serde_json::Value;
-use std::alloc::{AllocError, Global};
+use std::alloc::Global;
 use std::test::Fail;
-use tests_support::{check_rows, fields};
-use zarrs_block::NodeCreateError;
+use tests_support::{check_rows, fields, said};
 use zarrs_meta::GroupMetadataV2;
 use zarrs_store::MetadataFault;
 
@@ -20,24 +19,16 @@ const WRITTEN: &str = r#"
 {"zarr_format":2} | /foo={"attributes":{"k":1},"zarr_format":2} => {"metadata":{".zgroup":{"zarr_format":2},"foo/.zattrs":{"k":1},"foo/.zgroup":{"zarr_format":2}},"zarr_consolidated_format":1}
 {"zarr_format":2} | ={"attributes":{"k":1},"zarr_format":2};/={"node_type":"group","zarr_format":3} => {"metadata":{".zgroup":{"zarr_format":2}},"zarr_consolidated_format":1}
 # Bad keys are refused before version 3.
-{"zarr_format":2} | a={"node_type":"group","zarr_format":3};b={"chunks":[1],"compressor":null,"dtype":"<f8","fill_value":"NaN","filters":null,"order":"C","shape":[1],"zarr_format":2} => Found V2 metadata in V3 key or vice-versa
-{"zarr_format":2} | a={"node_type":"group","zarr_format":3};a/../b={"chunks":[1],"compressor":null,"dtype":"<f8","fill_value":"NaN","filters":null,"order":"C","shape":[1],"zarr_format":2} => invalid node path invalid node name `..` in 'a/../b'
+{"zarr_format":2} | a={"node_type":"group","zarr_format":3};b={"chunks":[1],"compressor":null,"dtype":"<f8","fill_value":"NaN","filters":null,"order":"C","shape":[1],"zarr_format":2} => MetadataVersionMismatch: Found V2 metadata in V3 key or vice-versa
+{"zarr_format":2} | a={"node_type":"group","zarr_format":3};a/../b={"chunks":[1],"compressor":null,"dtype":"<f8","fill_value":"NaN","filters":null,"order":"C","shape":[1],"zarr_format":2} => NodePathError(Invalid): invalid node path invalid node name `..` in 'a/../b'
 "#;
 
-// The text of the document of a group and the block with these documents at these keys, or that of the error.
+// The text of the document of a group and the block with these documents at these keys, or the refusal.
 fn written(alloc: Global, given: &str) -> Result<String, MetadataFault> {
     let (group, documents) = fields(given);
     let block = block_of(alloc, documents)?;
     let group = GroupMetadataV2::from_bytes(alloc, group.as_bytes())?;
-    Ok(said(alloc, block.to_zmetadata(alloc, &group))?)
-}
-
-// The text of a document, or that of the error.
-fn said(alloc: Global, answer: Result<Value, NodeCreateError>) -> Result<String, AllocError> {
-    match answer {
-        Ok(document) => document.to_string(alloc),
-        Err(error) => format!(in alloc; "{error}"),
-    }
+    Ok(said(alloc, block.to_zmetadata(alloc, &group), Value::to_string)?)
 }
 
 #[test]
