@@ -3,7 +3,7 @@ use std::alloc::{AllocError, AllocFailed, Global};
 use std::cmp::Ordering;
 use std::hash::{BuildHasher, BuildHasherDefault, FoldHasher};
 use std::test::Fail;
-use tests_support::{check_rows, fields};
+use tests_support::{check_rows, fields, refusal};
 use zarrs_path::{
     NodeName, NodeNameError, NodePath, NodePathError, data_key, laws, meta_key, meta_key_v2_array,
     meta_key_v2_attributes, meta_key_v2_consolidated, meta_key_v2_group, meta_key_v3,
@@ -73,7 +73,7 @@ fn name_said(alloc: Global, text: &str) -> Result<String, NoAnswer> {
     let valid = NodeName::validate(text);
     match NodeName::new(alloc, text) {
         Ok(name) => Ok(format!(in alloc; "{valid}: '{name}' '{}'", name.as_str())?),
-        Err(error) => Ok(format!(in alloc; "{valid}: {error}")?),
+        Err(error) => Ok(format!(in alloc; "{valid}: {}", refusal(alloc, &error)?)?),
     }
 }
 
@@ -90,17 +90,17 @@ a__ => true: 'a__' 'a__'
 a. => true: 'a.' 'a.'
 é => true: 'é' 'é'
 # what is no name is refused, and named
-. => false: invalid node name .
-.. => false: invalid node name ..
-... => false: invalid node name ...
-__ => false: invalid node name __
-__a => false: invalid node name __a
-/ => false: invalid node name /
-a/b => false: invalid node name a/b
-a/ => false: invalid node name a/
-/a => false: invalid node name /a
-.... => false: invalid node name ....
-___ => false: invalid node name ___
+. => false: Invalid: invalid node name .
+.. => false: Invalid: invalid node name ..
+... => false: Invalid: invalid node name ...
+__ => false: Invalid: invalid node name __
+__a => false: Invalid: invalid node name __a
+/ => false: Invalid: invalid node name /
+a/b => false: Invalid: invalid node name a/b
+a/ => false: Invalid: invalid node name a/
+/a => false: Invalid: invalid node name /a
+.... => false: Invalid: invalid node name ....
+___ => false: Invalid: invalid node name ___
 "#;
 
 #[test]
@@ -132,6 +132,8 @@ new_unchecked | ab => 'ab', root false, equal true
 new_unchecked | a => 'ab', root false, equal false
 # the root's name is the empty name
 root |  => '', root true, equal true
+ | root => '', root true, equal true
+a | root => 'a', root false, equal false
 "#;
 
 #[test]
@@ -161,7 +163,7 @@ fn path_of(alloc: Global, text: &str) -> Result<NodePath, NoAnswer> {
 fn said(alloc: Global, answer: Result<NodePath, NodePathError>) -> Result<String, NoAnswer> {
     match answer {
         Ok(path) => Ok(path.to_string(alloc)?),
-        Err(error) => Ok(error.to_string(alloc)?),
+        Err(error) => Ok(refusal(alloc, &error)?),
     }
 }
 
@@ -181,7 +183,7 @@ fn path_said(alloc: Global, text: &str) -> Result<String, NoAnswer> {
     let valid = NodePath::validate(text);
     match NodePath::new(alloc, text) {
         Ok(path) => Ok(path_texts(alloc, valid, &path)?),
-        Err(error) => Ok(format!(in alloc; "{valid}: {error}.")?),
+        Err(error) => Ok(format!(in alloc; "{valid}: {}.", refusal(alloc, &error)?)?),
     }
 }
 
@@ -197,23 +199,23 @@ const PATHS: &str = r#"
 /a/b => true: '/a/b' '/a/b' '/a/b', root false
 /é => true: '/é' '/é' '/é', root false
 # what is no path is refused, and named
- => false: invalid node path .
-/a/b/ => false: invalid node path /a/b/.
-//// => false: invalid node path ////.
-/... => false: invalid node path /....
-/foo/__bar => false: invalid node path /foo/__bar.
-/foo/__bar/baz => false: invalid node path /foo/__bar/baz.
-/foo/../bar => false: invalid node path /foo/../bar.
-/__foo => false: invalid node path /__foo.
-x => false: invalid node path x.
-/.. => false: invalid node path /...
-/a//b => false: invalid node path /a//b.
-a => false: invalid node path a.
-a/b => false: invalid node path a/b.
-// => false: invalid node path //.
-/a/ => false: invalid node path /a/.
-/. => false: invalid node path /..
-/__a => false: invalid node path /__a.
+ => false: Invalid: invalid node path .
+/a/b/ => false: Invalid: invalid node path /a/b/.
+//// => false: Invalid: invalid node path ////.
+/... => false: Invalid: invalid node path /....
+/foo/__bar => false: Invalid: invalid node path /foo/__bar.
+/foo/__bar/baz => false: Invalid: invalid node path /foo/__bar/baz.
+/foo/../bar => false: Invalid: invalid node path /foo/../bar.
+/__foo => false: Invalid: invalid node path /__foo.
+x => false: Invalid: invalid node path x.
+/.. => false: Invalid: invalid node path /...
+/a//b => false: Invalid: invalid node path /a//b.
+a => false: Invalid: invalid node path a.
+a/b => false: Invalid: invalid node path a/b.
+// => false: Invalid: invalid node path //.
+/a/ => false: Invalid: invalid node path /a/.
+/. => false: Invalid: invalid node path /..
+/__a => false: Invalid: invalid node path /__a.
 "#;
 
 #[test]
@@ -221,13 +223,14 @@ fn paths_are_valid_by_their_names(rt: HostRuntime) -> Result<(), Fail> {
     check_rows(rt.alloc(), PATHS, path_said)
 }
 
-// What an error says where memory ran out, or whether a law says that a text is accepted as a path.
+// What an error says where memory ran out, whether a law says that a text is accepted as a path, or whether a path is the root.
 fn word_said(alloc: Global, given: &str) -> Result<String, NoAnswer> {
     let (word, text) = fields(given);
     match word {
         "NodeNameError" => Ok(NodeNameError::OutOfMemory.to_string(alloc)?),
         "NodePathError" => Ok(NodePathError::OutOfMemory.to_string(alloc)?),
         "accepted_texts" => Ok(laws::accepted_texts(alloc, text)?.to_string(alloc)?),
+        "is_root" => Ok(path_of(alloc, text)?.is_root().to_string(alloc)?),
         _ => Err(NoAnswer::Unknown),
     }
 }
@@ -239,10 +242,17 @@ NodePathError => out of memory
 # a law accepts the texts of paths
 accepted_texts | /a => true
 accepted_texts | a => false
+# the root has no names
+is_root | root => true
+is_root | / => true
+is_root | /foo => false
+is_root | /a/b/c => false
 "#;
 
 #[test]
-fn errors_say_that_memory_ran_out_and_a_law_accepts_texts(rt: HostRuntime) -> Result<(), Fail> {
+fn memory_ran_out_texts_are_accepted_and_the_root_has_no_names(
+    rt: HostRuntime,
+) -> Result<(), Fail> {
     check_rows(rt.alloc(), WORDS, word_said)
 }
 
@@ -263,6 +273,7 @@ root | foo => /foo
 root | /foo => /foo
 root | sub/leaf => /sub/leaf
 /group | sub => /group/sub
+root |  => /
 # names that look forbidden and are not
 root | foo__bar => /foo__bar
 root | foo__bar/baz => /foo__bar/baz
@@ -270,19 +281,21 @@ root | foo. => /foo.
 root | ..foo => /..foo
 root | foo.. => /foo..
 # the first bad part is refused
-/foo | ./bar => invalid node path invalid node name `.` in './bar'
-root | ./bar => invalid node path invalid node name `.` in './bar'
-root | ../bar => invalid node path invalid node name `..` in '../bar'
-root | ../other => invalid node path invalid node name `..` in '../other'
-root | sub/../other => invalid node path invalid node name `..` in 'sub/../other'
-root | .../bar => invalid node path invalid node name `...` in '.../bar'
-root | foo//bar => invalid node path invalid node name `` in 'foo//bar'
-root | foo/__bar => invalid node path invalid node name `__bar` in 'foo/__bar'
-root | __bar => invalid node path invalid node name `__bar` in '__bar'
-root | foo/ => invalid node path invalid node name `` in 'foo/'
-root | a/../b/__c => invalid node path invalid node name `..` in 'a/../b/__c'
-root | //foo => invalid node path invalid node name `` in '/foo'
-root | __c => invalid node path invalid node name `__c` in '__c'
+/foo | ./bar => Invalid: invalid node path invalid node name `.` in './bar'
+root | ./bar => Invalid: invalid node path invalid node name `.` in './bar'
+root | ../bar => Invalid: invalid node path invalid node name `..` in '../bar'
+root | ../other => Invalid: invalid node path invalid node name `..` in '../other'
+root | sub/../other => Invalid: invalid node path invalid node name `..` in 'sub/../other'
+/group | ../other => Invalid: invalid node path invalid node name `..` in '../other'
+/group | sub/../other => Invalid: invalid node path invalid node name `..` in 'sub/../other'
+root | .../bar => Invalid: invalid node path invalid node name `...` in '.../bar'
+root | foo//bar => Invalid: invalid node path invalid node name `` in 'foo//bar'
+root | foo/__bar => Invalid: invalid node path invalid node name `__bar` in 'foo/__bar'
+root | __bar => Invalid: invalid node path invalid node name `__bar` in '__bar'
+root | foo/ => Invalid: invalid node path invalid node name `` in 'foo/'
+root | a/../b/__c => Invalid: invalid node path invalid node name `..` in 'a/../b/__c'
+root | //foo => Invalid: invalid node path invalid node name `` in '/foo'
+root | __c => Invalid: invalid node path invalid node name `__c` in '__c'
 "#;
 
 #[test]
@@ -524,7 +537,7 @@ path_and_back |  => ''
 path_and_back | a/ => 'a/'
 path_and_back | a/b/ => 'a/b/'
 # a prefix with what is no name is refused
-from_prefix | a/__x/ => invalid node path /a/__x
+from_prefix | a/__x/ => Invalid: invalid node path /a/__x
 "#;
 
 #[test]

@@ -2,7 +2,7 @@
 // gives the store's keys, each with the byte `x`, and the steps that are taken in it.
 use std::alloc::{AllocError, Global};
 use std::test::Fail;
-use tests_support::{check_rows, fields};
+use tests_support::{check_rows, fields, refusal};
 use zarrs_store::{
     FaultAt, FaultStore, ListableStorageTraits, MemberName, MemoryStore, MetadataFault,
     ReadableStorageTraits, StorageError, StoreKey, StoreKeyError, StoreKeysPrefixes, StorePrefix,
@@ -82,7 +82,7 @@ fn key_said(alloc: Global, text: &str) -> Result<String, AllocError> {
     let valid = StoreKey::validate(text);
     match StoreKey::new(alloc, text) {
         Ok(key) => key_texts(alloc, valid, &key),
-        Err(error) => format!(in alloc; "{valid}: {error}."),
+        Err(error) => format!(in alloc; "{valid}: {}.", refusal(alloc, &error)?),
     }
 }
 
@@ -93,13 +93,13 @@ a/b => true: 'a/b' 'a/b' 'a/b'
 ../a => true: '../a' '../a' '../a'
 a/zarr.json => true: 'a/zarr.json' 'a/zarr.json' 'a/zarr.json'
 # other texts are refused, and named
- => false: invalid store key .
-/ => false: invalid store key /.
-a/ => false: invalid store key a/.
-a//b => false: invalid store key a//b.
-/a => false: invalid store key /a.
-a/b/ => false: invalid store key a/b/.
-a// => false: invalid store key a//.
+ => false: Invalid: invalid store key .
+/ => false: Invalid: invalid store key /.
+a/ => false: Invalid: invalid store key a/.
+a//b => false: Invalid: invalid store key a//b.
+/a => false: Invalid: invalid store key /a.
+a/b/ => false: Invalid: invalid store key a/b/.
+a// => false: Invalid: invalid store key a//.
 "#;
 
 #[test]
@@ -122,7 +122,7 @@ fn prefix_said(alloc: Global, text: &str) -> Result<String, AllocError> {
     let valid = StorePrefix::validate(text);
     match StorePrefix::new(alloc, text) {
         Ok(prefix) => prefix_texts(alloc, valid, &prefix),
-        Err(error) => format!(in alloc; "{valid}: {error}."),
+        Err(error) => format!(in alloc; "{valid}: {}.", refusal(alloc, &error)?),
     }
 }
 
@@ -132,13 +132,13 @@ const PREFIXES: &str = r#"
 a/ => true: 'a/' 'a/' 'a/'
 a/b/ => true: 'a/b/' 'a/b/' 'a/b/'
 # other texts are refused, and named
-/ => false: invalid store prefix /.
-a => false: invalid store prefix a.
-a/b => false: invalid store prefix a/b.
-a//b => false: invalid store prefix a//b.
-/a => false: invalid store prefix /a.
-a// => false: invalid store prefix a//.
-../a => false: invalid store prefix ../a.
+/ => false: Invalid: invalid store prefix /.
+a => false: Invalid: invalid store prefix a.
+a/b => false: Invalid: invalid store prefix a/b.
+a//b => false: Invalid: invalid store prefix a//b.
+/a => false: Invalid: invalid store prefix /a.
+a// => false: Invalid: invalid store prefix a//.
+../a => false: Invalid: invalid store prefix ../a.
 "#;
 
 #[test]
@@ -152,6 +152,23 @@ fn order_said<T: Ord>(alloc: Global, a: &T, b: &T) -> Result<String, StorageErro
     let is_equal = *a == *b;
     let is_other = *a != *b;
     Ok(format!(in alloc; "less {is_less}, equal {is_equal}, other {is_other}")?)
+}
+
+// The key or the prefix of a text that is known to be one, as it is shown, and how it stands to another.
+fn unchecked(alloc: Global, kind: &str, other: &str) -> Result<String, StorageError> {
+    match kind {
+        "unchecked key" => {
+            let made = StoreKey::new_unchecked(String::from_str(alloc, "a/b")?);
+            let order = order_said(alloc, &made, &key(alloc, other)?)?;
+            Ok(format!(in alloc; "'{made}' '{}', {order}", made.as_str())?)
+        }
+        "unchecked prefix" => {
+            let made = StorePrefix::new_unchecked(String::from_str(alloc, "a/b/")?);
+            let order = order_said(alloc, &made, &prefix(alloc, other)?)?;
+            Ok(format!(in alloc; "'{made}' '{}', {order}", made.as_str())?)
+        }
+        _ => unknown(alloc, kind),
+    }
 }
 
 // How two keys or two prefixes stand to each other, or the text that is taken out of a prefix.
@@ -168,7 +185,7 @@ fn compared(alloc: Global, given: &str) -> Result<String, StorageError> {
             let room = String::from_str(alloc, "what is gone")?;
             Ok(prefix(alloc, a)?.key_in(room, "zarr.json")?.into_string())
         }
-        _ => unknown(alloc, kind),
+        _ => unchecked(alloc, kind, a),
     }
 }
 
@@ -182,6 +199,11 @@ prefixes |  | a-b/ => less true, equal false, other true
 prefixes | a-b/ | a/ => less true, equal false, other true
 prefixes | a/ | a/ => less false, equal true, other false
 prefixes | a/ | b/ => less true, equal false, other true
+# a text that is known to be that of a key or of a prefix is not looked at
+unchecked key | a/b => 'a/b' 'a/b', less false, equal true, other false
+unchecked key | a/c => 'a/b' 'a/b', less true, equal false, other true
+unchecked prefix | a/b/ => 'a/b/' 'a/b/', less false, equal true, other false
+unchecked prefix | b/ => 'a/b/' 'a/b/', less true, equal false, other true
 # a prefix, and a key, is made its text
 into_string | a/b/ => a/b/
 key_into_string | a/zarr.json => a/zarr.json
@@ -201,21 +223,22 @@ fn keys_and_prefixes_are_ordered_by_the_bytes_of_their_texts(rt: HostRuntime) ->
 
 // ---- errors
 
-// The fault with a name; that memory ran out for any other word.
-fn fault_of(name: &str) -> MetadataFault {
+// The fault with a name.
+fn fault_of(alloc: Global, name: &str) -> Result<MetadataFault, StorageError> {
     match name {
-        "NotJson" => MetadataFault::NotJson,
-        "UnsupportedNumber" => MetadataFault::UnsupportedNumber,
-        "NotAnObject" => MetadataFault::NotAnObject,
-        "WrongFormat" => MetadataFault::WrongFormat,
-        "WrongNodeType" => MetadataFault::WrongNodeType,
-        "MissingMember" => MetadataFault::MissingMember(MemberName::new("shape")),
-        "BadMember" => MetadataFault::BadMember(MemberName::new("shape")),
-        _ => MetadataFault::OutOfMemory,
+        "NotJson" => Ok(MetadataFault::NotJson),
+        "UnsupportedNumber" => Ok(MetadataFault::UnsupportedNumber),
+        "NotAnObject" => Ok(MetadataFault::NotAnObject),
+        "WrongFormat" => Ok(MetadataFault::WrongFormat),
+        "WrongNodeType" => Ok(MetadataFault::WrongNodeType),
+        "MissingMember" => Ok(MetadataFault::MissingMember(MemberName::new("shape"))),
+        "BadMember" => Ok(MetadataFault::BadMember(MemberName::new("shape"))),
+        "OutOfMemory" => Ok(MetadataFault::OutOfMemory),
+        _ => unknown(alloc, name),
     }
 }
 
-// The error of a store with a name; that memory ran out for any other word.
+// The error of a store with a name.
 fn error_of(alloc: Global, name: &str) -> Result<StorageError, StorageError> {
     match name {
         "Fault" => Ok(StorageError::Fault),
@@ -227,7 +250,8 @@ fn error_of(alloc: Global, name: &str) -> Result<StorageError, StorageError> {
             let other = String::from_str(alloc, "invalid node path /..")?;
             Ok(StorageError::Other(other))
         }
-        _ => Ok(StorageError::OutOfMemory),
+        "OutOfMemory" => Ok(StorageError::OutOfMemory),
+        _ => unknown(alloc, name),
     }
 }
 
@@ -235,11 +259,11 @@ fn error_of(alloc: Global, name: &str) -> Result<StorageError, StorageError> {
 fn error_said(alloc: Global, given: &str) -> Result<String, StorageError> {
     let (kind, name) = fields(given);
     match kind {
-        "fault" => Ok(fault_of(name).to_string(alloc)?),
+        "fault" => Ok(fault_of(alloc, name)?.to_string(alloc)?),
         "store" => Ok(error_of(alloc, name)?.to_string(alloc)?),
-        "key" => Ok(StoreKeyError::OutOfMemory.to_string(alloc)?),
-        "prefix" => Ok(StorePrefixError::OutOfMemory.to_string(alloc)?),
-        "member" => Ok(String::from_str(alloc, MemberName::new("shape").as_str())?),
+        "key, no memory" => Ok(StoreKeyError::OutOfMemory.to_string(alloc)?),
+        "prefix, no memory" => Ok(StorePrefixError::OutOfMemory.to_string(alloc)?),
+        "member shape" => Ok(String::from_str(alloc, MemberName::new("shape").as_str())?),
         _ => unknown(alloc, kind),
     }
 }
@@ -258,12 +282,12 @@ store | Fault => store fault
 store | InvalidMetadata => error parsing metadata for a/zarr.json: not JSON
 store | Other => invalid node path /..
 # every error says that memory ran out
-key | OutOfMemory => out of memory
-prefix | OutOfMemory => out of memory
+key, no memory => out of memory
+prefix, no memory => out of memory
 fault | OutOfMemory => out of memory
 store | OutOfMemory => out of memory
 # the name of a member shows its text
-member | shape => shape
+member shape => shape
 "#;
 
 #[test]
@@ -273,11 +297,11 @@ fn errors_have_their_texts(rt: HostRuntime) -> Result<(), Fail> {
 
 // ---- steps in a store
 
-// The word for a fault of a store, or another error in words.
-fn refusal(alloc: Global, error: &StorageError) -> Result<String, AllocError> {
+// The word for a fault of a store, or another refusal.
+fn refused(alloc: Global, error: &StorageError) -> Result<String, AllocError> {
     match error {
         StorageError::Fault => String::from_str(alloc, "Fault"),
-        other => format!(in alloc; "no fault: {other}"),
+        other => refusal(alloc, other),
     }
 }
 
@@ -285,7 +309,7 @@ fn refusal(alloc: Global, error: &StorageError) -> Result<String, AllocError> {
 fn done(alloc: Global, answer: Result<(), StorageError>) -> Result<String, AllocError> {
     match answer {
         Ok(()) => String::from_str(alloc, "done"),
-        Err(error) => refusal(alloc, &error),
+        Err(error) => refused(alloc, &error),
     }
 }
 
@@ -300,7 +324,7 @@ fn bytes_said(
             format!(in alloc; "bytes '{text}'")
         }
         Ok(None) => String::from_str(alloc, "nothing"),
-        Err(error) => refusal(alloc, &error),
+        Err(error) => refused(alloc, &error),
     }
 }
 
@@ -331,7 +355,7 @@ fn keys_said(
 ) -> Result<String, StorageError> {
     match answer {
         Ok(keys) => texts_of_keys(alloc, keys.as_slice()),
-        Err(error) => Ok(refusal(alloc, &error)?),
+        Err(error) => Ok(refused(alloc, &error)?),
     }
 }
 
@@ -342,7 +366,7 @@ fn children_said(
 ) -> Result<String, StorageError> {
     match answer {
         Ok(dir) => children_texts(alloc, &dir),
-        Err(error) => Ok(refusal(alloc, &error)?),
+        Err(error) => Ok(refused(alloc, &error)?),
     }
 }
 
@@ -353,7 +377,7 @@ fn prefixes_said(
 ) -> Result<String, StorageError> {
     match answer {
         Ok(prefixes) => texts_of_prefixes(alloc, prefixes.as_slice()),
-        Err(error) => Ok(refusal(alloc, &error)?),
+        Err(error) => Ok(refused(alloc, &error)?),
     }
 }
 
