@@ -45,7 +45,7 @@ pub fn refusal<E: Debug + Display>(alloc: Global, error: &E) -> Result<String, A
 
 /// The names of variants with which what `{:?}` writes of a value begins, each but the first in parentheses behind the one before.
 ///
-/// A name within another begins with a capital, and no brace is behind it: what has one is a struct.
+/// A name within another begins with a capital, and a parenthesis, a comma or nothing is behind it: what has a brace is a struct.
 pub(crate) fn variants(alloc: Global, shown: &str) -> Result<String, AllocError> {
     let mut text = String::new(alloc);
     let mut ends = String::new(alloc);
@@ -76,7 +76,8 @@ fn name_of(text: &str) -> &str {
 // Whether the name with which a text begins is that of a variant.
 fn is_variant(name: &str, text: &str) -> bool {
     let rest = text.strip_prefix(name).unwrap_or(text);
-    name.starts_with(|c: char| c.is_ascii_uppercase()) && !rest.starts_with(" {")
+    let ends = rest.is_empty() || rest.starts_with(')') || rest.starts_with(',');
+    name.starts_with(|c: char| c.is_ascii_uppercase()) && ends
 }
 
 /// The printed form of a value.

@@ -177,6 +177,7 @@ Two(Left, Right) => Two(Left)
 Member { name: A(B) } => Member
 Over(Member { name: A(B) }) => Over
 Some(5) => Some
+SerdeError(Error(EOF while a value is read, line: 1)) => SerdeError(Error)
 Some(([])) => Some
  =>
 "#;
