@@ -1,7 +1,7 @@
 //! Assertions on what a call answers.
 
 use std::alloc::{AllocError, Global};
-use std::fmt::Display;
+use std::fmt::{Debug, Display};
 use std::process::Abort;
 use tests_support::said;
 
@@ -17,7 +17,7 @@ pub(crate) fn assert_says<R, T, E, F>(
 where
     R: Abort,
     T: Drop,
-    E: Display + Drop,
+    E: Debug + Display + Drop,
     F: FnOnce(&T, Global) -> Result<String, AllocError>,
     requires { F.IsAlwaysCallable look }
 {

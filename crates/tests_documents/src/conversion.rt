@@ -2,15 +2,15 @@
 
 use crate::given::object_of;
 use log::sink::Writer;
-use serde_json::{Map, Value};
+use serde_json::Value;
 use std::alloc::{AllocError, Global};
-use std::fmt::Display;
 use std::test::Fail;
-use tests_support::{check_rows, said, with_lines};
+use tests_support::{check_rows, refusal, said, with_lines};
 use zarrs_convert::{
     ArrayMetadataV2ToV3Error, DataTypeMetadataV2EndiannessError, array_metadata_v2_to_v3,
     group_metadata_v2_to_v3, laws,
 };
+use zarrs_fault::MetadataFault;
 use zarrs_form::Form;
 use zarrs_meta::{
     ArrayMetadataV2, ArrayMetadataV3, FillValueMetadata, GroupMetadataV2, GroupMetadataV3, List,
@@ -59,53 +59,55 @@ where
     }
 }
 
-/// The text of an error, and what it carries.
-pub(crate) fn refusal(
+/// A refusal and, behind a colon, what the error carries.
+pub(crate) fn carried(
     error: &ArrayMetadataV2ToV3Error,
     alloc: Global,
 ) -> Result<String, AllocError> {
+    let text = refusal(alloc, error)?;
     match error {
         ArrayMetadataV2ToV3Error::UnsupportedDataType(data_type) => {
-            with_part(alloc, error, data_type)
+            with_part(alloc, text, data_type)
         }
-        ArrayMetadataV2ToV3Error::InvalidEndianness(invalid) => order_refusal(invalid, alloc),
+        ArrayMetadataV2ToV3Error::InvalidEndianness(invalid) => with_order(alloc, text, invalid),
         ArrayMetadataV2ToV3Error::UnsupportedCodec(_, configuration) => {
-            with_members(alloc, error, configuration)
+            with_part(
+                alloc,
+                text,
+                &Object::from_map(alloc, configuration.clone()?)?,
+            )
         }
-        _ => format!(in alloc; "{error}"),
+        _ => Ok(text),
     }
 }
 
-/// The text of an error about a byte order, and the data type that it carries.
-pub(crate) fn order_refusal(
+/// The refusal of a byte order and, behind a colon, the data type that the error carries.
+pub(crate) fn order_carried(
     error: &DataTypeMetadataV2EndiannessError,
     alloc: Global,
 ) -> Result<String, AllocError> {
+    with_order(alloc, refusal(alloc, error)?, error)
+}
+
+// A text and the data type that an error of a byte order carries.
+fn with_order(
+    alloc: Global,
+    text: String,
+    error: &DataTypeMetadataV2EndiannessError,
+) -> Result<String, AllocError> {
     match error {
-        DataTypeMetadataV2EndiannessError::Invalid(text) => format!(in alloc; "{error}: {text}"),
-        DataTypeMetadataV2EndiannessError::OutOfMemory => format!(in alloc; "{error}"),
+        DataTypeMetadataV2EndiannessError::Invalid(data_type) => format!(in alloc;
+            "{text}: {data_type}"
+        ),
+        DataTypeMetadataV2EndiannessError::OutOfMemory => Ok(text),
     }
 }
 
-// The text of an error and the written form of a part.
-fn with_part<E: Display, T: Form>(
-    alloc: Global,
-    error: &E,
-    part: &T,
-) -> Result<String, AllocError> {
-    let mut text = format!(in alloc; "{error}: ")?;
+// A text and the written form of a part.
+fn with_part<T: Form>(alloc: Global, text: String, part: &T) -> Result<String, AllocError> {
+    let mut text = format!(in alloc; "{text}: ")?;
     part.write(alloc, &mut text)?;
     Ok(text)
-}
-
-// The text of an error and the object that has these members.
-fn with_members<E: Display>(
-    alloc: Global,
-    error: &E,
-    members: &Map<String, Value>,
-) -> Result<String, AllocError> {
-    let object = Object::from_map(alloc, members.clone()?)?;
-    with_part(alloc, error, &object)
 }
 
 // ---- groups
@@ -146,19 +148,20 @@ const ARRAYS: &str = r#"
 {"chunks":[1000,1000],"compressor":null,"dtype":"<f8","fill_value":"NaN","filters":null,"order":"F","shape":[10000,10000],"zarr_format":2} => {"chunk_grid":{"configuration":{"chunk_shape":[1000,1000]},"name":"regular"},"chunk_key_encoding":{"configuration":{"separator":"."},"name":"v2"},"codecs":[{"configuration":{"order":[1,0]},"name":"transpose"},{"configuration":{"endian":"little"},"name":"bytes"}],"data_type":"float64","fill_value":"NaN","node_type":"array","shape":[10000,10000],"zarr_format":3}
 {"chunks":[],"compressor":null,"dtype":"<f8","fill_value":"NaN","filters":null,"order":"F","shape":[],"zarr_format":2} => {"chunk_grid":{"configuration":{"chunk_shape":[]},"name":"regular"},"chunk_key_encoding":{"configuration":{"separator":"."},"name":"v2"},"codecs":[{"configuration":{"order":[]},"name":"transpose"},{"configuration":{"endian":"little"},"name":"bytes"}],"data_type":"float64","fill_value":"NaN","node_type":"array","shape":[],"zarr_format":3}
 {"attributes":{"k":1},"chunks":[2],"compressor":null,"dimension_separator":"/","dtype":">c16","fill_value":0,"filters":null,"order":"C","other":5,"shape":[7],"zarr_format":2} => {"attributes":{"k":1},"chunk_grid":{"configuration":{"chunk_shape":[2]},"name":"regular"},"chunk_key_encoding":{"configuration":{"separator":"/"},"name":"v2"},"codecs":[{"configuration":{"endian":"big"},"name":"bytes"}],"data_type":"complex128","fill_value":0,"node_type":"array","shape":[7],"zarr_format":3}
+{"chunks":[1],"compressor":null,"dtype":">c16","fill_value":0,"filters":null,"order":"C","shape":[1],"zarr_format":2} => {"chunk_grid":{"configuration":{"chunk_shape":[1]},"name":"regular"},"chunk_key_encoding":{"configuration":{"separator":"."},"name":"v2"},"codecs":[{"configuration":{"endian":"big"},"name":"bytes"}],"data_type":"complex128","fill_value":0,"node_type":"array","shape":[1],"zarr_format":3}
 # It is warned of where its fill value changes.
 {"chunks":[2],"compressor":null,"dtype":"|V2","fill_value":null,"filters":[],"order":"C","shape":[7],"zarr_format":2} => {"chunk_grid":{"configuration":{"chunk_shape":[2]},"name":"regular"},"chunk_key_encoding":{"configuration":{"separator":"."},"name":"v2"},"codecs":[{"configuration":{"endian":"little"},"name":"bytes"}],"data_type":"r16","fill_value":[0,0],"node_type":"array","shape":[7],"zarr_format":3}\n[WARN  zarrs_convert::fill_value] Fill value of `null` specified for data type r16. This is unsupported in Zarr V3; mapping to a default value.\n
 {"chunks":[2],"compressor":null,"dtype":"|O","fill_value":0,"filters":[{"id":"vlen-utf8"}],"order":"C","shape":[7],"zarr_format":2} => {"chunk_grid":{"configuration":{"chunk_shape":[2]},"name":"regular"},"chunk_key_encoding":{"configuration":{"separator":"."},"name":"v2"},"codecs":[{"configuration":{},"name":"vlen-utf8"}],"data_type":"string","fill_value":"","node_type":"array","shape":[7],"zarr_format":3}\n[WARN  zarrs_convert::fill_value] Permitting non-conformant `0` fill value for `string` data type (zarr-python compatibility).\n
 # It is refused by its first fault.
-{"chunks":[1],"shape":[1],"zarr_format":2,"dtype":"float64","fill_value":0,"order":"C"} => invalid endianness: float64
-{"chunks":[1],"shape":[1],"zarr_format":2,"dtype":"","fill_value":0,"order":"C"} => invalid endianness: 
-{"chunks":[1],"shape":[1],"zarr_format":2,"dtype":"|i2","fill_value":0,"order":"C"} => unsupported data type: "|i2"
-{"chunks":[1],"shape":[1],"zarr_format":2,"dtype":[["r","|u1"],["g","|u1"]],"fill_value":0,"order":"C"} => unsupported data type: [["r","|u1"],["g","|u1"]]
-{"chunks":[1],"shape":[1],"zarr_format":2,"compressor":{"id":"zlib"},"dtype":"=i2","fill_value":null,"filters":[{"id":"delta"}],"order":"F"} => invalid endianness: =i2
-{"chunks":[1],"shape":[1],"zarr_format":2,"compressor":{"id":"zlib"},"dtype":"<i1","fill_value":null,"filters":[{"id":"delta"}],"order":"F"} => unsupported data type: "<i1"
-{"chunks":[1],"shape":[1],"zarr_format":2,"compressor":{"id":"zlib"},"dtype":"|V8","fill_value":null,"filters":[{"id":"delta","n":1}],"order":"F"} => unsupported codec delta: {"n":1}\n[WARN  zarrs_convert::fill_value] Fill value of `null` specified for data type r64. This is unsupported in Zarr V3; mapping to a default value.\n
-{"chunks":[1],"shape":[1],"zarr_format":2,"compressor":{"id":"zlib"},"dtype":"|O","fill_value":"","filters":[{"id":"vlen-utf8"},{"id":"vlen-bytes"}],"order":"C"} => multiple array to bytes codecs
-{"chunks":[1],"shape":[1],"zarr_format":2,"compressor":{"id":"blosc","cname":"lz4","clevel":5,"shuffle":1},"dtype":"<f8","fill_value":"NaN","order":"F"} => unsupported codec blosc: {"clevel":5,"cname":"lz4","shuffle":1}
+{"chunks":[1],"shape":[1],"zarr_format":2,"dtype":"float64","fill_value":0,"order":"C"} => InvalidEndianness(Invalid): invalid endianness: float64
+{"chunks":[1],"shape":[1],"zarr_format":2,"dtype":"","fill_value":0,"order":"C"} => InvalidEndianness(Invalid): invalid endianness: 
+{"chunks":[1],"shape":[1],"zarr_format":2,"dtype":"|i2","fill_value":0,"order":"C"} => UnsupportedDataType(Simple): unsupported data type: "|i2"
+{"chunks":[1],"shape":[1],"zarr_format":2,"dtype":[["r","|u1"],["g","|u1"]],"fill_value":0,"order":"C"} => UnsupportedDataType(Structured): unsupported data type: [["r","|u1"],["g","|u1"]]
+{"chunks":[1],"shape":[1],"zarr_format":2,"compressor":{"id":"zlib"},"dtype":"=i2","fill_value":null,"filters":[{"id":"delta"}],"order":"F"} => InvalidEndianness(Invalid): invalid endianness: =i2
+{"chunks":[1],"shape":[1],"zarr_format":2,"compressor":{"id":"zlib"},"dtype":"<i1","fill_value":null,"filters":[{"id":"delta"}],"order":"F"} => UnsupportedDataType(Simple): unsupported data type: "<i1"
+{"chunks":[1],"shape":[1],"zarr_format":2,"compressor":{"id":"zlib"},"dtype":"|V8","fill_value":null,"filters":[{"id":"delta","n":1}],"order":"F"} => UnsupportedCodec: unsupported codec delta: {"n":1}\n[WARN  zarrs_convert::fill_value] Fill value of `null` specified for data type r64. This is unsupported in Zarr V3; mapping to a default value.\n
+{"chunks":[1],"shape":[1],"zarr_format":2,"compressor":{"id":"zlib"},"dtype":"|O","fill_value":"","filters":[{"id":"vlen-utf8"},{"id":"vlen-bytes"}],"order":"C"} => MultipleArrayToBytesCodecs: multiple array to bytes codecs
+{"chunks":[1],"shape":[1],"zarr_format":2,"compressor":{"id":"blosc","cname":"lz4","clevel":5,"shuffle":1},"dtype":"<f8","fill_value":"NaN","order":"F"} => UnsupportedCodec: unsupported codec blosc: {"clevel":5,"cname":"lz4","shuffle":1}
 "#;
 
 fn array_text(array: &ArrayMetadataV3, alloc: Global) -> Result<String, AllocError> {
@@ -169,7 +172,7 @@ fn array_text(array: &ArrayMetadataV3, alloc: Global) -> Result<String, AllocErr
 fn array_says(array: &ArrayMetadataV2, alloc: Global) -> Result<String, AllocError> {
     let sink = Writer::new(Vec::new(alloc));
     let answer = array_metadata_v2_to_v3(&sink, alloc, array);
-    let text = told(alloc, answer, array_text, refusal);
+    let text = told(alloc, answer, array_text, carried);
     with_lines(alloc, text, "\n", sink.into_inner())
 }
 
@@ -190,12 +193,12 @@ fn arrays_of_version_2_become_arrays_of_version_3(rt: HostRuntime) -> Result<(),
 // ---- arrays of version 3 that are made of their parts
 
 // The extension of this name with a configuration.
-fn configured(alloc: Global, name: &str, configuration: &str) -> MetadataV3 {
-    MetadataV3 {
+fn configured(alloc: Global, name: &str, configuration: &str) -> Result<MetadataV3, MetadataFault> {
+    Ok(MetadataV3 {
         name: Text::new(string_of(alloc, name)),
-        configuration: Some(object_of(alloc, configuration)),
+        configuration: Some(object_of(alloc, configuration)?),
         must_understand: true,
-    }
+    })
 }
 
 // The list of one item.
@@ -205,27 +208,28 @@ fn list_of<T: Drop>(alloc: Global, item: T) -> List<T> {
     List::new(items)
 }
 
-fn new_array(alloc: Global) -> Result<ArrayMetadataV3, AllocError> {
-    ArrayMetadataV3::new(
+fn new_array(alloc: Global) -> Result<ArrayMetadataV3, MetadataFault> {
+    let chunk_grid = configured(alloc, "regular", r#"{"chunk_shape":[2]}"#)?;
+    let array = ArrayMetadataV3::new(
         alloc,
         list_of(alloc, 5),
-        configured(alloc, "regular", r#"{"chunk_shape":[2]}"#),
+        chunk_grid,
         named(alloc, "int8"),
         FillValueMetadata::new(Value::from(7u64)),
         list_of(alloc, named(alloc, "crc32c")),
-    )
+    )?;
+    Ok(array)
 }
 
 // The same with attributes and another encoding of keys.
-fn changed_array(alloc: Global) -> Result<ArrayMetadataV3, AllocError> {
-    match new_array(alloc) {
-        Ok(array) => Ok(
-            array
-                .with_attributes(object_of(alloc, r#"{"k":1}"#))
-                .with_chunk_key_encoding(named(alloc, "other")),
-        ),
-        Err(error) => Err(error),
-    }
+fn changed_array(alloc: Global) -> Result<ArrayMetadataV3, MetadataFault> {
+    let attributes = object_of(alloc, r#"{"k":1}"#)?;
+    let array = new_array(alloc)?;
+    Ok(
+        array
+            .with_attributes(attributes)
+            .with_chunk_key_encoding(named(alloc, "other")),
+    )
 }
 
 // The arrays above, and what each is.
@@ -237,8 +241,9 @@ changed => {"attributes":{"k":1},"chunk_grid":{"configuration":{"chunk_shape":[2
 // The text of the new array or of the changed one.
 fn made_array(alloc: Global, given: &str) -> Result<String, AllocError> {
     match given {
+        "new" => said(alloc, new_array(alloc), array_text),
         "changed" => said(alloc, changed_array(alloc), array_text),
-        _ => said(alloc, new_array(alloc), array_text),
+        _ => String::from_str(alloc, "no such array"),
     }
 }
 

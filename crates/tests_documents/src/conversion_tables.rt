@@ -1,12 +1,12 @@
 //! The tables of the conversion, line by line: data types, byte orders, fill values and codecs.
 
-use crate::conversion::{named, order_refusal, refusal, told};
+use crate::conversion::{carried, named, order_carried, told};
 use crate::given::value_of;
 use log::sink::Writer;
 use serde_json::{Map, put};
 use std::alloc::{AllocError, Global};
 use std::test::Fail;
-use tests_support::{check_rows, fields, said, with_lines};
+use tests_support::{check_rows, fields, refusal, said, with_lines};
 use zarrs_convert::{
     codec_metadata_v2_to_v3, data_type_metadata_v2_to_endianness, data_type_metadata_v2_to_v3,
     fill_value_metadata_v2_to_v3,
@@ -18,7 +18,7 @@ use zarrs_meta::{ArrayMetadataV2, DataTypeMetadataV2, Endianness, FillValueMetad
 // What a text reads as in the form of a type.
 fn read_as<T: Form + Drop>(alloc: Global, text: &str) -> Result<T, MetadataFault> {
     let mut members = Map::new(alloc);
-    put(&mut members, alloc, "part", value_of(alloc, text))?;
+    put(&mut members, alloc, "part", value_of(alloc, text)?)?;
     required(alloc, &mut members, "part")
 }
 
@@ -65,33 +65,33 @@ const DATA_TYPES: &str = r#"
 "|V008" => "r64"
 "|V0" => "r0"
 "|V2305843009213693951" => "r18446744073709551608"
-"|V2305843009213693952" => unsupported data type: "|V2305843009213693952"
-"|V18446744073709551616" => unsupported data type: "|V18446744073709551616"
-"|V" => unsupported data type: "|V"
-"|V+8" => unsupported data type: "|V+8"
-"|V-8" => unsupported data type: "|V-8"
-"|V8 " => unsupported data type: "|V8 "
-"|V8x" => unsupported data type: "|V8x"
-"<V8" => unsupported data type: "<V8"
+"|V2305843009213693952" => UnsupportedDataType(Simple): unsupported data type: "|V2305843009213693952"
+"|V18446744073709551616" => UnsupportedDataType(Simple): unsupported data type: "|V18446744073709551616"
+"|V" => UnsupportedDataType(Simple): unsupported data type: "|V"
+"|V+8" => UnsupportedDataType(Simple): unsupported data type: "|V+8"
+"|V-8" => UnsupportedDataType(Simple): unsupported data type: "|V-8"
+"|V8 " => UnsupportedDataType(Simple): unsupported data type: "|V8 "
+"|V8x" => UnsupportedDataType(Simple): unsupported data type: "|V8x"
+"<V8" => UnsupportedDataType(Simple): unsupported data type: "<V8"
 # Other data types are unsupported.
-"|i2" => unsupported data type: "|i2"
-"<i1" => unsupported data type: "<i1"
-"<b1" => unsupported data type: "<b1"
-"<c4" => unsupported data type: "<c4"
-"<f16" => unsupported data type: "<f16"
-"i2" => unsupported data type: "i2"
-"|O8" => unsupported data type: "|O8"
-"<U4" => unsupported data type: "<U4"
-"<M8[ns]" => unsupported data type: "<M8[ns]"
-"float64" => unsupported data type: "float64"
-"" => unsupported data type: ""
-[] => unsupported data type: []
-[["r","|u1"]] => unsupported data type: [["r","|u1"]]
+"|i2" => UnsupportedDataType(Simple): unsupported data type: "|i2"
+"<i1" => UnsupportedDataType(Simple): unsupported data type: "<i1"
+"<b1" => UnsupportedDataType(Simple): unsupported data type: "<b1"
+"<c4" => UnsupportedDataType(Simple): unsupported data type: "<c4"
+"<f16" => UnsupportedDataType(Simple): unsupported data type: "<f16"
+"i2" => UnsupportedDataType(Simple): unsupported data type: "i2"
+"|O8" => UnsupportedDataType(Simple): unsupported data type: "|O8"
+"<U4" => UnsupportedDataType(Simple): unsupported data type: "<U4"
+"<M8[ns]" => UnsupportedDataType(Simple): unsupported data type: "<M8[ns]"
+"float64" => UnsupportedDataType(Simple): unsupported data type: "float64"
+"" => UnsupportedDataType(Simple): unsupported data type: ""
+[] => UnsupportedDataType(Structured): unsupported data type: []
+[["r","|u1"]] => UnsupportedDataType(Structured): unsupported data type: [["r","|u1"]]
 "#;
 
 fn data_type_says(data_type: &DataTypeMetadataV2, alloc: Global) -> Result<String, AllocError> {
     let answer = data_type_metadata_v2_to_v3(alloc, data_type);
-    told(alloc, answer, written, refusal)
+    told(alloc, answer, written, carried)
 }
 
 // What the conversion of a data type answers.
@@ -113,10 +113,10 @@ const ORDERS: &str = r#"
 ">f8" => big
 "|b1" => none
 [["a","<i2"]] => none
-"float64" => invalid endianness: float64
-"=f8" => invalid endianness: =f8
-" <f8" => invalid endianness:  <f8
-"" => invalid endianness: 
+"float64" => Invalid: invalid endianness: float64
+"=f8" => Invalid: invalid endianness: =f8
+" <f8" => Invalid: invalid endianness:  <f8
+"" => Invalid: invalid endianness: 
 "#;
 
 fn order_text(order: &Option<Endianness>, alloc: Global) -> Result<String, AllocError> {
@@ -130,7 +130,7 @@ fn order_text(order: &Option<Endianness>, alloc: Global) -> Result<String, Alloc
 
 fn order_says(data_type: &DataTypeMetadataV2, alloc: Global) -> Result<String, AllocError> {
     let answer = data_type_metadata_v2_to_endianness(alloc, data_type);
-    told(alloc, answer, order_text, order_refusal)
+    told(alloc, answer, order_text, order_carried)
 }
 
 // What the byte order of a data type is.
@@ -153,10 +153,10 @@ null | bool => false\n[WARN  zarrs_convert::fill_value] Fill value of `null` spe
 null | r16 => [0,0]\n[WARN  zarrs_convert::fill_value] Fill value of `null` specified for data type r16. This is unsupported in Zarr V3; mapping to a default value.\n
 null | r0 => []\n[WARN  zarrs_convert::fill_value] Fill value of `null` specified for data type r0. This is unsupported in Zarr V3; mapping to a default value.\n
 null | r064 => [0,0,0,0,0,0,0,0]\n[WARN  zarrs_convert::fill_value] Fill value of `null` specified for data type r064. This is unsupported in Zarr V3; mapping to a default value.\n
-null | r12 => raw bits should be fixed size\n[WARN  zarrs_convert::fill_value] Fill value of `null` specified for data type r12. This is unsupported in Zarr V3; mapping to a default value.\n
-null | r18446744073709551615 => raw bits should be fixed size\n[WARN  zarrs_convert::fill_value] Fill value of `null` specified for data type r18446744073709551615. This is unsupported in Zarr V3; mapping to a default value.\n
-null | r18446744073709551616 => raw bits should be fixed size\n[WARN  zarrs_convert::fill_value] Fill value of `null` specified for data type r18446744073709551616. This is unsupported in Zarr V3; mapping to a default value.\n
-null | r18446744073709551608 => out of memory\n[WARN  zarrs_convert::fill_value] Fill value of `null` specified for data type r18446744073709551608. This is unsupported in Zarr V3; mapping to a default value.\n
+null | r12 => Other: raw bits should be fixed size\n[WARN  zarrs_convert::fill_value] Fill value of `null` specified for data type r12. This is unsupported in Zarr V3; mapping to a default value.\n
+null | r18446744073709551615 => Other: raw bits should be fixed size\n[WARN  zarrs_convert::fill_value] Fill value of `null` specified for data type r18446744073709551615. This is unsupported in Zarr V3; mapping to a default value.\n
+null | r18446744073709551616 => Other: raw bits should be fixed size\n[WARN  zarrs_convert::fill_value] Fill value of `null` specified for data type r18446744073709551616. This is unsupported in Zarr V3; mapping to a default value.\n
+null | r18446744073709551608 => OutOfMemory: out of memory\n[WARN  zarrs_convert::fill_value] Fill value of `null` specified for data type r18446744073709551608. This is unsupported in Zarr V3; mapping to a default value.\n
 null | int8 => 0\n[WARN  zarrs_convert::fill_value] Fill value of `null` specified for data type int8. This is unsupported in Zarr V3; mapping to a default value.\n
 null | float64 => 0\n[WARN  zarrs_convert::fill_value] Fill value of `null` specified for data type float64. This is unsupported in Zarr V3; mapping to a default value.\n
 null | r => 0\n[WARN  zarrs_convert::fill_value] Fill value of `null` specified for data type r. This is unsupported in Zarr V3; mapping to a default value.\n
@@ -186,14 +186,14 @@ false | string => false
 "#;
 
 // What the conversion of a fill value for a data type answers, and the lines that it warns with.
-fn converted_fill_value(alloc: Global, given: &str) -> Result<String, AllocError> {
+fn converted_fill_value(alloc: Global, given: &str) -> Result<String, MetadataFault> {
     let (fill_value, data_type) = fields(given);
-    let fill_value = FillValueMetadata::new(value_of(alloc, fill_value));
+    let fill_value = FillValueMetadata::new(value_of(alloc, fill_value)?);
     let data_type = named(alloc, data_type);
     let sink = Writer::new(Vec::new(alloc));
     let answer = fill_value_metadata_v2_to_v3(&sink, alloc, &fill_value, &data_type);
-    let text = told(alloc, answer, written, refusal);
-    with_lines(alloc, text, "\n", sink.into_inner())
+    let text = told(alloc, answer, written, carried);
+    Ok(with_lines(alloc, text, "\n", sink.into_inner())?)
 }
 
 #[test]
@@ -219,15 +219,15 @@ const CODECS: &str = r#"
 "compressor":null,"dtype":"|O","fill_value":"","filters":[{"id":"vlen-array"}],"order":"C" => [{"configuration":{},"name":"vlen-array"}]
 "compressor":null,"dtype":"|O","fill_value":"","filters":[{"id":"vlen-bytes"}],"order":"C" => [{"configuration":{},"name":"vlen-bytes"}]
 "compressor":null,"dtype":"|O","fill_value":"","filters":[{"id":"vlen-utf8","n":1}],"order":"C" => [{"configuration":{},"name":"vlen-utf8"}]
-"compressor":null,"dtype":"|O","fill_value":"","filters":[{"id":"delta","astype":"<i2","dtype":"<i4"}],"order":"C" => unsupported codec delta: {"astype":"<i2","dtype":"<i4"}
-"compressor":null,"dtype":"|O","fill_value":"","filters":[{"id":"vlen-utf8"},{"id":"vlen-bytes"},{"id":"delta"}],"order":"C" => unsupported codec delta: {}
-"compressor":{"id":"blosc"},"dtype":"|O","fill_value":"","filters":[{"id":"zlib","level":1},{"id":"delta"}],"order":"C" => unsupported codec zlib: {"level":1}
-"compressor":{"id":"zlib"},"dtype":"|O","fill_value":"","filters":[{"id":"vlen-utf8"},{"id":"vlen-bytes"}],"order":"C" => multiple array to bytes codecs
-"compressor":null,"dtype":"|O","fill_value":"","filters":[{"id":"vlen-utf8"},{"id":"vlen-utf8"}],"order":"C" => multiple array to bytes codecs
-"compressor":{"id":"zlib"},"dtype":"|O","fill_value":"","filters":[{"id":"vlen-utf8"}],"order":"C" => unsupported codec zlib: {}
-"compressor":{"id":"zlib","level":1},"dtype":"|O","fill_value":"","filters":null,"order":"C" => unsupported codec zlib: {"level":1}
-"compressor":{"id":"vlen-utf8"},"dtype":"|O","fill_value":"","filters":null,"order":"C" => unsupported codec vlen-utf8: {}
-"compressor":{"id":"pcodec"},"dtype":"|O","fill_value":"","filters":[],"order":"C" => unsupported codec pcodec: {}
+"compressor":null,"dtype":"|O","fill_value":"","filters":[{"id":"delta","astype":"<i2","dtype":"<i4"}],"order":"C" => UnsupportedCodec: unsupported codec delta: {"astype":"<i2","dtype":"<i4"}
+"compressor":null,"dtype":"|O","fill_value":"","filters":[{"id":"vlen-utf8"},{"id":"vlen-bytes"},{"id":"delta"}],"order":"C" => UnsupportedCodec: unsupported codec delta: {}
+"compressor":{"id":"blosc"},"dtype":"|O","fill_value":"","filters":[{"id":"zlib","level":1},{"id":"delta"}],"order":"C" => UnsupportedCodec: unsupported codec zlib: {"level":1}
+"compressor":{"id":"zlib"},"dtype":"|O","fill_value":"","filters":[{"id":"vlen-utf8"},{"id":"vlen-bytes"}],"order":"C" => MultipleArrayToBytesCodecs: multiple array to bytes codecs
+"compressor":null,"dtype":"|O","fill_value":"","filters":[{"id":"vlen-utf8"},{"id":"vlen-utf8"}],"order":"C" => MultipleArrayToBytesCodecs: multiple array to bytes codecs
+"compressor":{"id":"zlib"},"dtype":"|O","fill_value":"","filters":[{"id":"vlen-utf8"}],"order":"C" => UnsupportedCodec: unsupported codec zlib: {}
+"compressor":{"id":"zlib","level":1},"dtype":"|O","fill_value":"","filters":null,"order":"C" => UnsupportedCodec: unsupported codec zlib: {"level":1}
+"compressor":{"id":"vlen-utf8"},"dtype":"|O","fill_value":"","filters":null,"order":"C" => UnsupportedCodec: unsupported codec vlen-utf8: {}
+"compressor":{"id":"pcodec"},"dtype":"|O","fill_value":"","filters":[],"order":"C" => UnsupportedCodec: unsupported codec pcodec: {}
 "#;
 
 // The array of one dimension that has these members in addition.
@@ -251,37 +251,38 @@ fn codecs_text(codecs: &Vec<MetadataV3>, alloc: Global) -> Result<String, AllocE
     Ok(text)
 }
 
-// The byte order of an array's data type.
-fn order_of(alloc: Global, array: &ArrayMetadataV2) -> Option<Endianness> {
-    match data_type_metadata_v2_to_endianness(alloc, &array.dtype) {
-        Ok(order) => order,
-        Err(_) => None,
-    }
-}
-
-// The codecs of an array, for this data type of version 3.
+// The codecs of an array, for this data type of version 3 and this byte order.
 fn codecs_for(
     alloc: Global,
     array: &ArrayMetadataV2,
     data_type: &MetadataV3,
+    order: Option<Endianness>,
 ) -> Result<String, AllocError> {
     let answer = codec_metadata_v2_to_v3(
         alloc,
         array.order,
         array.shape.as_slice().len(),
         data_type,
-        order_of(alloc, array),
+        order,
         &array.filters,
         &array.compressor,
     );
-    told(alloc, answer, codecs_text, refusal)
+    told(alloc, answer, codecs_text, carried)
 }
 
-// The codecs of the array of these members, for the data type of version 3 of this name, or the text of the fault.
+// The codecs of an array, for the data type of version 3 of this name, or the refusal of its byte order.
+fn codecs_in(alloc: Global, array: &ArrayMetadataV2, name: &str) -> Result<String, AllocError> {
+    match data_type_metadata_v2_to_endianness(alloc, &array.dtype) {
+        Ok(order) => codecs_for(alloc, array, &named(alloc, name), order),
+        Err(error) => order_carried(&error, alloc),
+    }
+}
+
+// The codecs of the array of these members, for the data type of version 3 of this name, or the refusal.
 fn codecs_of(alloc: Global, members: &str, data_type: &str) -> Result<String, AllocError> {
     match array_of(alloc, members) {
-        Ok(array) => codecs_for(alloc, &array, &named(alloc, data_type)),
-        Err(fault) => format!(in alloc; "{fault}"),
+        Ok(array) => codecs_in(alloc, &array, data_type),
+        Err(fault) => refusal(alloc, &fault),
     }
 }
 

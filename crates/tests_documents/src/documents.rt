@@ -223,13 +223,7 @@ fn written_text<D: Written>(document: &D, alloc: Global) -> Result<String, Alloc
 }
 
 // What two ways answer: one text, or that there are two.
-pub(crate) fn agreed(
-    alloc: Global,
-    one: Result<String, AllocError>,
-    other: Result<String, AllocError>,
-) -> Result<String, AllocError> {
-    let one = one?;
-    let other = other?;
+pub(crate) fn agreed(alloc: Global, one: String, other: String) -> Result<String, AllocError> {
     if one.as_str() == other.as_str() {
         return Ok(one);
     }
@@ -238,7 +232,7 @@ pub(crate) fn agreed(
 
 // The text of a document, and of the value that is written of it: one and the same.
 fn written_both<D: Written>(document: &D, alloc: Global) -> Result<String, AllocError> {
-    agreed(alloc, document.text(alloc), written_text(document, alloc))
+    agreed(alloc, document.text(alloc)?, written_text(document, alloc)?)
 }
 
 // The document of the value that a text is.
@@ -251,8 +245,8 @@ fn of_value_of<D: Written>(alloc: Global, text: &str) -> Result<D, MetadataFault
 
 // What the bytes of a text, and the value that they are, read as, or are refused with.
 fn read_both<D: Written + Drop>(alloc: Global, text: &str) -> Result<String, AllocError> {
-    let of_bytes = said(alloc, D::of_bytes(alloc, text.as_bytes()), written_both);
-    let of_value = said(alloc, of_value_of::<D>(alloc, text), copied_text);
+    let of_bytes = said(alloc, D::of_bytes(alloc, text.as_bytes()), written_both)?;
+    let of_value = said(alloc, of_value_of::<D>(alloc, text), copied_text)?;
     agreed(alloc, of_bytes, of_value)
 }
 
@@ -267,20 +261,20 @@ fn read_text<D: Written + Drop>(alloc: Global, given: &str) -> Result<String, Al
 // Groups of version 3.
 const GROUPS_V3: &str = r#"
 # numbers have 64 bits
-{"attributes":{"n":1.5},"node_type":"group","zarr_format":3} => unsupported number
+{"attributes":{"n":1.5},"node_type":"group","zarr_format":3} => UnsupportedNumber: unsupported number
 {"attributes":{"n":18446744073709551615},"node_type":"group","zarr_format":3} => {"attributes":{"n":18446744073709551615},"node_type":"group","zarr_format":3}
 {"attributes":{"n":-9223372036854775808},"node_type":"group","zarr_format":3} => {"attributes":{"n":-9223372036854775808},"node_type":"group","zarr_format":3}
 # a document is followed by blanks alone
-{"node_type":"group","zarr_format":3}x => not JSON
+{"node_type":"group","zarr_format":3}x => NotJson: not JSON
 {"node_type":"group","zarr_format":3}¶ => {"node_type":"group","zarr_format":3}
 # lists in lists are read to a depth
 {"attributes":{"k":[[[[[[[[[[[[[[[[[[[[[[[[[[[[[[[[[[[[[[[[[[[[[[[[[[[[[[[[[[[[[[[[[[[[[[[[[[[[[[[[[[[[[[[[[[[[[[[[[[[[]]]]]]]]]]]]]]]]]]]]]]]]]]]]]]]]]]]]]]]]]]]]]]]]]]]]]]]]]]]]]]]]]]]]]]]]]]]]]]]]]]]]]]]]]]]]]]]]]]]]},"node_type":"group","zarr_format":3} => {"attributes":{"k":[[[[[[[[[[[[[[[[[[[[[[[[[[[[[[[[[[[[[[[[[[[[[[[[[[[[[[[[[[[[[[[[[[[[[[[[[[[[[[[[[[[[[[[[[[[[[[[[[[[[]]]]]]]]]]]]]]]]]]]]]]]]]]]]]]]]]]]]]]]]]]]]]]]]]]]]]]]]]]]]]]]]]]]]]]]]]]]]]]]]]]]]]]]]]]]]]]]]]]]]},"node_type":"group","zarr_format":3}
-{"attributes":{"k":[[[[[[[[[[[[[[[[[[[[[[[[[[[[[[[[[[[[[[[[[[[[[[[[[[[[[[[[[[[[[[[[[[[[[[[[[[[[[[[[[[[[[[[[[[[[[[[[[[[[[[[[[[[[[[[[[[[[[[[[[[[[[[[[[[[[[[[[[[[[[[[[[[[[[[[[[[[[[[[[[[[[[[[[[[[[[[[[[[[[[[[[[[[[[[[[[[[[[[[[]]]]]]]]]]]]]]]]]]]]]]]]]]]]]]]]]]]]]]]]]]]]]]]]]]]]]]]]]]]]]]]]]]]]]]]]]]]]]]]]]]]]]]]]]]]]]]]]]]]]]]]]]]]]]]]]]]]]]]]]]]]]]]]]]]]]]]]]]]]]]]]]]]]]]]]]]]]]]]]]]]]]]]]]]]]]]]]]]]]]]]]]]]]]]]]]]]]]]]]]},"node_type":"group","zarr_format":3} => not JSON
+{"attributes":{"k":[[[[[[[[[[[[[[[[[[[[[[[[[[[[[[[[[[[[[[[[[[[[[[[[[[[[[[[[[[[[[[[[[[[[[[[[[[[[[[[[[[[[[[[[[[[[[[[[[[[[[[[[[[[[[[[[[[[[[[[[[[[[[[[[[[[[[[[[[[[[[[[[[[[[[[[[[[[[[[[[[[[[[[[[[[[[[[[[[[[[[[[[[[[[[[[[[[[[[[[[]]]]]]]]]]]]]]]]]]]]]]]]]]]]]]]]]]]]]]]]]]]]]]]]]]]]]]]]]]]]]]]]]]]]]]]]]]]]]]]]]]]]]]]]]]]]]]]]]]]]]]]]]]]]]]]]]]]]]]]]]]]]]]]]]]]]]]]]]]]]]]]]]]]]]]]]]]]]]]]]]]]]]]]]]]]]]]]]]]]]]]]]]]]]]]]]]]]]]]]]},"node_type":"group","zarr_format":3} => NotJson: not JSON
 # members, own and additional
-{"zarr_format":3,"node_type":"group","attributes":{"spam":"ham","eggs":42}} => {"attributes":{"eggs":42,"spam":"ham"},"node_type":"group","zarr_format":3}
-{"zarr_format":3,"node_type":"group","attributes":{"spam":"ham","eggs":42},"unknown":{"must_understand":false}} => {"attributes":{"eggs":42,"spam":"ham"},"node_type":"group","unknown":{"must_understand":false},"zarr_format":3}
-{"zarr_format":2,"node_type":"group","attributes":{"spam":"ham","eggs":42}} => wrong zarr_format
-{"zarr_format":3,"node_type":"array","attributes":{"spam":"ham","eggs":42}} => wrong node_type
+{¶    "zarr_format": 3,¶    "node_type": "group",¶    "attributes": {¶        "spam": "ham",¶        "eggs": 42¶    }¶} => {"attributes":{"eggs":42,"spam":"ham"},"node_type":"group","zarr_format":3}
+{¶            "zarr_format": 3,¶            "node_type": "group",¶            "attributes": {¶                "spam": "ham",¶                "eggs": 42¶            },¶            "unknown": {¶                "must_understand": false¶            }¶        } => {"attributes":{"eggs":42,"spam":"ham"},"node_type":"group","unknown":{"must_understand":false},"zarr_format":3}
+{"zarr_format":2,"node_type":"group","attributes":{"spam":"ham","eggs":42}} => WrongFormat: wrong zarr_format
+{"zarr_format":3,"node_type":"array","attributes":{"spam":"ham","eggs":42}} => WrongNodeType: wrong node_type
 {"consolidated_metadata":null,"node_type":"group","zarr_format":3} => {"node_type":"group","zarr_format":3}
 {"consolidated_metadata":1,"node_type":"group","zarr_format":3} => {"consolidated_metadata":1,"node_type":"group","zarr_format":3}
 {"zarr_format":3,"node_type":"group","attributes":{"spam":"ham","eggs":42},"unknown":"unsupported"} => {"attributes":{"eggs":42,"spam":"ham"},"node_type":"group","unknown":"unsupported","zarr_format":3}
@@ -294,7 +288,7 @@ fn groups_of_version_3(rt: HostRuntime) -> Result<(), Fail> {
 // Groups of version 2.
 const GROUPS_V2: &str = r#"
 # a group has no shape
-{"zarr_format":2,"shape":[1]} => bad member shape
+{"zarr_format":2,"shape":[1]} => BadMember: bad member shape
 # members, own and additional
 {"attributes":{"k":1},"other":[],"zarr_format":2} => {"attributes":{"k":1},"other":[],"zarr_format":2}
 "#;
@@ -318,11 +312,11 @@ const ARRAYS_V3: &str = r#"
 {"chunk_grid":{"configuration":{"chunk_shape":[1]},"name":"regular"},"chunk_key_encoding":{"configuration":{"separator":"/"},"name":"default"},"codecs":[{"configuration":{"endian":"little"},"name":"bytes"}],"data_type":"float32","dimension_names":["x",null],"fill_value":0,"node_type":"array","shape":[1],"zarr_format":3} => {"chunk_grid":{"configuration":{"chunk_shape":[1]},"name":"regular"},"chunk_key_encoding":{"configuration":{"separator":"/"},"name":"default"},"codecs":[{"configuration":{"endian":"little"},"name":"bytes"}],"data_type":"float32","dimension_names":["x",null],"fill_value":0,"node_type":"array","shape":[1],"zarr_format":3}
 {"chunk_grid":{"configuration":{"chunk_shape":[1]},"name":"regular"},"chunk_key_encoding":{"configuration":{"separator":"/"},"name":"default"},"codecs":[{"configuration":{"endian":"little"},"name":"bytes"}],"data_type":"float32","dimension_names":null,"fill_value":0,"node_type":"array","shape":[1],"zarr_format":3} => {"chunk_grid":{"configuration":{"chunk_shape":[1]},"name":"regular"},"chunk_key_encoding":{"configuration":{"separator":"/"},"name":"default"},"codecs":[{"configuration":{"endian":"little"},"name":"bytes"}],"data_type":"float32","fill_value":0,"node_type":"array","shape":[1],"zarr_format":3}
 # members have their forms
-{"chunk_grid":{"configuration":{"chunk_shape":[1]},"name":"regular"},"chunk_key_encoding":{"configuration":{"separator":"/"},"name":"default"},"codecs":[{"configuration":{"endian":"little"},"name":"bytes"}],"data_type":"float32","fill_value":0,"node_type":"array","shape":[-1],"zarr_format":3} => bad member shape
-{"chunk_grid":{"configuration":{"chunk_shape":[1]},"name":"regular"},"chunk_key_encoding":{"configuration":{"separator":"/"},"name":"default"},"codecs":[1],"data_type":"float32","fill_value":0,"node_type":"array","shape":[1],"zarr_format":3} => bad member codecs
-{"chunk_grid":{"configuration":{"chunk_shape":[1]},"name":"regular"},"chunk_key_encoding":{"configuration":{"separator":"/"},"name":"default"},"codecs":[{"configuration":{"endian":"little"},"name":"bytes"}],"data_type":"float32","dimension_names":[1],"fill_value":0,"node_type":"array","shape":[1],"zarr_format":3} => bad member dimension_names
-{"chunk_grid":{"configuration":{"chunk_shape":[1]},"name":"regular"},"chunk_key_encoding":{"configuration":{"separator":"/"},"name":"default"},"codecs":[{"configuration":{"endian":"little"},"name":"bytes"}],"data_type":"float32","storage_transformers":1,"fill_value":0,"node_type":"array","shape":[1],"zarr_format":3} => bad member storage_transformers
-{"chunk_grid":{"configuration":{"chunk_shape":[1]},"name":"regular"},"chunk_key_encoding":{"configuration":{"separator":"/"},"name":"default"},"codecs":1,"data_type":"float32","storage_transformers":1,"fill_value":0,"node_type":"array","shape":1,"zarr_format":3} => bad member shape
+{"chunk_grid":{"configuration":{"chunk_shape":[1]},"name":"regular"},"chunk_key_encoding":{"configuration":{"separator":"/"},"name":"default"},"codecs":[{"configuration":{"endian":"little"},"name":"bytes"}],"data_type":"float32","fill_value":0,"node_type":"array","shape":[-1],"zarr_format":3} => BadMember: bad member shape
+{"chunk_grid":{"configuration":{"chunk_shape":[1]},"name":"regular"},"chunk_key_encoding":{"configuration":{"separator":"/"},"name":"default"},"codecs":[1],"data_type":"float32","fill_value":0,"node_type":"array","shape":[1],"zarr_format":3} => BadMember: bad member codecs
+{"chunk_grid":{"configuration":{"chunk_shape":[1]},"name":"regular"},"chunk_key_encoding":{"configuration":{"separator":"/"},"name":"default"},"codecs":[{"configuration":{"endian":"little"},"name":"bytes"}],"data_type":"float32","dimension_names":[1],"fill_value":0,"node_type":"array","shape":[1],"zarr_format":3} => BadMember: bad member dimension_names
+{"chunk_grid":{"configuration":{"chunk_shape":[1]},"name":"regular"},"chunk_key_encoding":{"configuration":{"separator":"/"},"name":"default"},"codecs":[{"configuration":{"endian":"little"},"name":"bytes"}],"data_type":"float32","storage_transformers":1,"fill_value":0,"node_type":"array","shape":[1],"zarr_format":3} => BadMember: bad member storage_transformers
+{"chunk_grid":{"configuration":{"chunk_shape":[1]},"name":"regular"},"chunk_key_encoding":{"configuration":{"separator":"/"},"name":"default"},"codecs":1,"data_type":"float32","storage_transformers":1,"fill_value":0,"node_type":"array","shape":1,"zarr_format":3} => BadMember: bad member shape
 "#;
 
 #[test]
@@ -339,11 +333,11 @@ const ARRAYS_V2: &str = r#"
 {"chunks":[1],"compressor":null,"dimension_separator":null,"dtype":"<f8","fill_value":0,"order":"F","shape":[1],"zarr_format":2} => {"chunks":[1],"compressor":null,"dimension_separator":".","dtype":"<f8","fill_value":0,"filters":null,"order":"F","shape":[1],"zarr_format":2}
 {"chunks":[1],"compressor":{"id":"zlib","level":1},"dimension_separator":"/","dtype":"<f8","fill_value":0,"order":"C","shape":[1],"zarr_format":2} => {"chunks":[1],"compressor":{"id":"zlib","level":1},"dimension_separator":"/","dtype":"<f8","fill_value":0,"filters":null,"order":"C","shape":[1],"zarr_format":2}
 # members have their forms
-{"chunks":[0],"compressor":null,"dtype":"<f8","fill_value":"NaN","filters":null,"order":"C","shape":[1],"zarr_format":2} => bad member chunks
-{"chunks":[1],"compressor":{"id":1},"dtype":"<f8","fill_value":"NaN","filters":null,"order":"C","shape":[1],"zarr_format":2} => bad member compressor
-{"chunks":[1],"compressor":null,"dtype":"<f8","fill_value":"NaN","filters":null,"order":"A","shape":[1],"zarr_format":2} => bad member order
-{"chunks":[1],"compressor":null,"dimension_separator":"-","dtype":"<f8","fill_value":"NaN","filters":null,"order":"C","shape":[1],"zarr_format":2} => bad member dimension_separator
-{"chunks":[1],"compressor":null,"dtype":"<f8","fill_value":"NaN","filters":[1],"order":"C","shape":[1],"zarr_format":2} => bad member filters
+{"chunks":[0],"compressor":null,"dtype":"<f8","fill_value":"NaN","filters":null,"order":"C","shape":[1],"zarr_format":2} => BadMember: bad member chunks
+{"chunks":[1],"compressor":{"id":1},"dtype":"<f8","fill_value":"NaN","filters":null,"order":"C","shape":[1],"zarr_format":2} => BadMember: bad member compressor
+{"chunks":[1],"compressor":null,"dtype":"<f8","fill_value":"NaN","filters":null,"order":"A","shape":[1],"zarr_format":2} => BadMember: bad member order
+{"chunks":[1],"compressor":null,"dimension_separator":"-","dtype":"<f8","fill_value":"NaN","filters":null,"order":"C","shape":[1],"zarr_format":2} => BadMember: bad member dimension_separator
+{"chunks":[1],"compressor":null,"dtype":"<f8","fill_value":"NaN","filters":[1],"order":"C","shape":[1],"zarr_format":2} => BadMember: bad member filters
 "#;
 
 #[test]
@@ -354,9 +348,9 @@ fn arrays_of_version_2(rt: HostRuntime) -> Result<(), Fail> {
 // Documents of attributes, which have no members of their own.
 const ATTRIBUTES: &str = r#"
 {"k":1,"zarr_format":7} => {"k":1,"zarr_format":7}
-1 => not an object
-1.5 => unsupported number
-{ => not JSON
+1 => NotAnObject: not an object
+1.5 => UnsupportedNumber: unsupported number
+{ => NotJson: not JSON
 "#;
 
 #[test]
@@ -367,19 +361,19 @@ fn attributes_have_no_table(rt: HostRuntime) -> Result<(), Fail> {
 // Documents of any group or array.
 const NODES: &str = r#"
 # faults come in order
-{"zarr_format":3 => not JSON
-[] => not an object
-[1.5] => unsupported number
-{} => wrong zarr_format
-{"zarr_format":3} => wrong node_type
-{"zarr_format":3,"node_type":"array"} => missing member shape
-{"zarr_format":3,"node_type":"group","attributes":1} => bad member attributes
+{"zarr_format":3 => NotJson: not JSON
+[] => NotAnObject: not an object
+[1.5] => UnsupportedNumber: unsupported number
+{} => WrongFormat: wrong zarr_format
+{"zarr_format":3} => WrongNodeType: wrong node_type
+{"zarr_format":3,"node_type":"array"} => MissingMember: missing member shape
+{"zarr_format":3,"node_type":"group","attributes":1} => BadMember: bad member attributes
 {"zarr_format":3,"node_type":"group","attributes":{"spam":"ham","eggs":42}} => {"attributes":{"eggs":42,"spam":"ham"},"node_type":"group","zarr_format":3}
-{"node_type":"group","zarr_format":3}x => not JSON
+{"node_type":"group","zarr_format":3}x => NotJson: not JSON
 {"node_type":"group","zarr_format":3}¶ => {"node_type":"group","zarr_format":3}
 {"attributes":{"k":[[[[[[[[[[[[[[[[[[[[[[[[[[[[[[[[[[[[[[[[[[[[[[[[[[[[[[[[[[[[[[[[[[[[[[[[[[[[[[[[[[[[[[[[[[[[[[[[[[[[]]]]]]]]]]]]]]]]]]]]]]]]]]]]]]]]]]]]]]]]]]]]]]]]]]]]]]]]]]]]]]]]]]]]]]]]]]]]]]]]]]]]]]]]]]]]]]]]]]]]},"node_type":"group","zarr_format":3} => {"attributes":{"k":[[[[[[[[[[[[[[[[[[[[[[[[[[[[[[[[[[[[[[[[[[[[[[[[[[[[[[[[[[[[[[[[[[[[[[[[[[[[[[[[[[[[[[[[[[[[[[[[[[[[]]]]]]]]]]]]]]]]]]]]]]]]]]]]]]]]]]]]]]]]]]]]]]]]]]]]]]]]]]]]]]]]]]]]]]]]]]]]]]]]]]]]]]]]]]]]]]]]]]]]},"node_type":"group","zarr_format":3}
-{"attributes":{"k":[[[[[[[[[[[[[[[[[[[[[[[[[[[[[[[[[[[[[[[[[[[[[[[[[[[[[[[[[[[[[[[[[[[[[[[[[[[[[[[[[[[[[[[[[[[[[[[[[[[[[[[[[[[[[[[[[[[[[[[[[[[[[[[[[[[[[[[[[[[[[[[[[[[[[[[[[[[[[[[[[[[[[[[[[[[[[[[[[[[[[[[[[[[[[[[[[[[[[[[[]]]]]]]]]]]]]]]]]]]]]]]]]]]]]]]]]]]]]]]]]]]]]]]]]]]]]]]]]]]]]]]]]]]]]]]]]]]]]]]]]]]]]]]]]]]]]]]]]]]]]]]]]]]]]]]]]]]]]]]]]]]]]]]]]]]]]]]]]]]]]]]]]]]]]]]]]]]]]]]]]]]]]]]]]]]]]]]]]]]]]]]]]]]]]]]]]]]]]]]]},"node_type":"group","zarr_format":3} => not JSON
-{"zarr_format":3,"node_type":"group"}x => not JSON
+{"attributes":{"k":[[[[[[[[[[[[[[[[[[[[[[[[[[[[[[[[[[[[[[[[[[[[[[[[[[[[[[[[[[[[[[[[[[[[[[[[[[[[[[[[[[[[[[[[[[[[[[[[[[[[[[[[[[[[[[[[[[[[[[[[[[[[[[[[[[[[[[[[[[[[[[[[[[[[[[[[[[[[[[[[[[[[[[[[[[[[[[[[[[[[[[[[[[[[[[[[[[[[[[[[]]]]]]]]]]]]]]]]]]]]]]]]]]]]]]]]]]]]]]]]]]]]]]]]]]]]]]]]]]]]]]]]]]]]]]]]]]]]]]]]]]]]]]]]]]]]]]]]]]]]]]]]]]]]]]]]]]]]]]]]]]]]]]]]]]]]]]]]]]]]]]]]]]]]]]]]]]]]]]]]]]]]]]]]]]]]]]]]]]]]]]]]]]]]]]]]]]]]]]]]},"node_type":"group","zarr_format":3} => NotJson: not JSON
+{"zarr_format":3,"node_type":"group"}x => NotJson: not JSON
 {"zarr_format":3,"node_type":"group"}¶ => {"node_type":"group","zarr_format":3}
 {"node_type":"group","zarr_format":3} => {"node_type":"group","zarr_format":3}
 {"zarr_format":2} => {"zarr_format":2}
@@ -387,7 +381,6 @@ const NODES: &str = r#"
 # groups of version 2
 {"attributes":{"k":1},"other":[],"zarr_format":2} => {"attributes":{"k":1},"other":[],"zarr_format":2}
 # arrays of version 2
-{"chunks":[1],"compressor":null,"dtype":"<f8","fill_value":"NaN","filters":null,"order":"C","shape":[1],"zarr_format":2} => {"chunks":[1],"compressor":null,"dimension_separator":".","dtype":"<f8","fill_value":"NaN","filters":null,"order":"C","shape":[1],"zarr_format":2}
 {"chunks":[1000,1000],"compressor":{"id":"blosc","cname":"lz4","clevel":5,"shuffle":1},"dtype":"<f8","fill_value":"NaN","filters":null,"order":"F","shape":[10000,10000],"zarr_format":2} => {"chunks":[1000,1000],"compressor":{"clevel":5,"cname":"lz4","id":"blosc","shuffle":1},"dimension_separator":".","dtype":"<f8","fill_value":"NaN","filters":null,"order":"F","shape":[10000,10000],"zarr_format":2}
 {"chunks":[1],"compressor":null,"dimension_separator":"/","dtype":[["r","|u1"],["g","|u1"]],"fill_value":null,"filters":[{"id":"delta"}],"order":"C","shape":[1],"zarr_format":2} => {"chunks":[1],"compressor":null,"dimension_separator":"/","dtype":[["r","|u1"],["g","|u1"]],"fill_value":null,"filters":[{"id":"delta"}],"order":"C","shape":[1],"zarr_format":2}
 {"chunks":[1],"compressor":null,"dimension_separator":null,"dtype":"<f8","fill_value":0,"order":"F","shape":[1],"zarr_format":2} => {"chunks":[1],"compressor":null,"dimension_separator":".","dtype":"<f8","fill_value":0,"filters":null,"order":"F","shape":[1],"zarr_format":2}
@@ -395,8 +388,6 @@ const NODES: &str = r#"
 # arrays of version 3
 {"chunk_grid":{"configuration":{"chunk_shape":[1]},"name":"regular"},"chunk_key_encoding":{"configuration":{"separator":"/"},"name":"default"},"codecs":[{"configuration":{"endian":"little"},"name":"bytes"}],"data_type":"float32","fill_value":0,"node_type":"array","shape":[1],"zarr_format":3} => {"chunk_grid":{"configuration":{"chunk_shape":[1]},"name":"regular"},"chunk_key_encoding":{"configuration":{"separator":"/"},"name":"default"},"codecs":[{"configuration":{"endian":"little"},"name":"bytes"}],"data_type":"float32","fill_value":0,"node_type":"array","shape":[1],"zarr_format":3}
 {"attributes":{"bar":"apples","baz":[1,2,3,4],"foo":42},"chunk_grid":{"configuration":{"chunk_shape":[1000,100]},"name":"regular"},"chunk_key_encoding":{"configuration":{"separator":"/"},"name":"default"},"codecs":[{"configuration":{"endian":"little"},"name":"bytes"},{"configuration":{"level":1},"name":"gzip"}],"data_type":"float64","dimension_names":["rows","columns"],"fill_value":"NaN","node_type":"array","shape":[10000,1000],"zarr_format":3} => {"attributes":{"bar":"apples","baz":[1,2,3,4],"foo":42},"chunk_grid":{"configuration":{"chunk_shape":[1000,100]},"name":"regular"},"chunk_key_encoding":{"configuration":{"separator":"/"},"name":"default"},"codecs":[{"configuration":{"endian":"little"},"name":"bytes"},{"configuration":{"level":1},"name":"gzip"}],"data_type":"float64","dimension_names":["rows","columns"],"fill_value":"NaN","node_type":"array","shape":[10000,1000],"zarr_format":3}
-# a whole document is JSON
-{"chunk_grid":{"configuration":{"chunk_shape":[1]},"name":"regular"},"chunk_key_encoding":{"configuration":{"separator":"/"},"name":"default"},"codecs":[{"configuration":{"endian":"little"},"name":"bytes"}],"data_type":"float32","fill_value":0,"node_type":"array","shape":[1],"zarr_format":3} => {"chunk_grid":{"configuration":{"chunk_shape":[1]},"name":"regular"},"chunk_key_encoding":{"configuration":{"separator":"/"},"name":"default"},"codecs":[{"configuration":{"endian":"little"},"name":"bytes"}],"data_type":"float32","fill_value":0,"node_type":"array","shape":[1],"zarr_format":3}
 "#;
 
 #[test]
@@ -433,7 +424,7 @@ fn no_proper_beginning_is_json(rt: HostRuntime) {
             "beginning",
             read,
             NodeMetadata::to_text,
-            "not JSON",
+            "NotJson: not JSON",
         );
     }
 }
@@ -449,7 +440,7 @@ fn bytes_that_are_not_utf_8_are_not_json(rt: HostRuntime) {
         "not UTF-8",
         read,
         GroupMetadataV3::to_text,
-        "not JSON",
+        "NotJson: not JSON",
     );
     let read = NodeMetadata::from_bytes(alloc, not_utf8);
     assert_says(
@@ -458,7 +449,7 @@ fn bytes_that_are_not_utf_8_are_not_json(rt: HostRuntime) {
         "not UTF-8",
         read,
         NodeMetadata::to_text,
-        "not JSON",
+        "NotJson: not JSON",
     );
 }
 
@@ -482,17 +473,17 @@ fn zarr_json_of_value(alloc: Global, text: &str) -> Result<ZarrJson, MetadataFau
 
 // What a document at `zarr.json` reads as, by its value and by its bytes.
 fn zarr_json_says(alloc: Global, text: &str) -> Result<String, AllocError> {
-    let of_value = said(alloc, zarr_json_of_value(alloc, text), zarr_json_text);
+    let of_value = said(alloc, zarr_json_of_value(alloc, text), zarr_json_text)?;
     let read = ZarrJson::from_bytes(alloc, text.as_bytes());
-    agreed(alloc, of_value, said(alloc, read, zarr_json_text))
+    agreed(alloc, of_value, said(alloc, read, zarr_json_text)?)
 }
 
 // Documents at `zarr.json`; one of version 2 is not read on.
 const AT_ZARR_JSON: &str = r#"
 {"zarr_format":2,"node_type":1} => version 2
 {"node_type":"group","zarr_format":3} => {"node_type":"group","zarr_format":3}
-[] => not an object
-{} => wrong zarr_format
+[] => NotAnObject: not an object
+{} => WrongFormat: wrong zarr_format
 "#;
 
 #[test]

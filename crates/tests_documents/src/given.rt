@@ -1,34 +1,33 @@
-//! What the texts of rows are: values, numbers, members and objects.
+//! What the texts of rows are: values, numbers, members and objects. A text that is none of the kind is refused, so that its row fails.
 
 use serde_json::{Map, Value};
 use std::alloc::Global;
+use zarrs_fault::MetadataFault;
+use zarrs_form::parse;
 use zarrs_meta::Object;
 
-/// The value that a text is; null where it is none.
-pub(crate) fn value_of(alloc: Global, text: &str) -> Value {
-    match Value::from_str(alloc, text) {
-        Ok(value) => value,
-        Err(_) => Value::Null,
+/// The value that a text is.
+pub(crate) fn value_of(alloc: Global, text: &str) -> Result<Value, MetadataFault> {
+    parse(alloc, text.as_bytes())
+}
+
+/// The number that a text is.
+pub(crate) fn number_of(alloc: Global, text: &str) -> Result<u64, MetadataFault> {
+    match value_of(alloc, text)?.as_u64() {
+        Some(number) => Ok(number),
+        None => Err(MetadataFault::UnsupportedNumber),
     }
 }
 
-/// The number that a text is; 0 where it is none.
-pub(crate) fn number_of(alloc: Global, text: &str) -> u64 {
-    value_of(alloc, text).as_u64().unwrap_or(0)
-}
-
-/// The members of the object that a text is; none where it is no object.
-pub(crate) fn members_of(alloc: Global, text: &str) -> Map<String, Value> {
-    match value_of(alloc, text) {
-        Value::Object(members) => members,
-        _other => Map::new(alloc),
+/// The members of the object that a text is.
+pub(crate) fn members_of(alloc: Global, text: &str) -> Result<Map<String, Value>, MetadataFault> {
+    match value_of(alloc, text)? {
+        Value::Object(members) => Ok(members),
+        _other => Err(MetadataFault::NotAnObject),
     }
 }
 
-/// The object that a text is; the empty one where it is none, or where there is no memory.
-pub(crate) fn object_of(alloc: Global, text: &str) -> Object {
-    match Object::from_map(alloc, members_of(alloc, text)) {
-        Ok(object) => object,
-        Err(_) => Object::new(alloc),
-    }
+/// The object that a text is.
+pub(crate) fn object_of(alloc: Global, text: &str) -> Result<Object, MetadataFault> {
+    Ok(Object::from_map(alloc, members_of(alloc, text)?)?)
 }

@@ -2,7 +2,7 @@
 
 use crate::given::value_of;
 use serde_json::Value;
-use std::alloc::{AllocError, Global};
+use std::alloc::Global;
 use std::test::Fail;
 use tests_support::{check_rows, fields, said};
 use zarrs_fault::MetadataFault;
@@ -26,10 +26,10 @@ fn node_of_members(alloc: Global, value: Value) -> Result<NodeMetadata, Metadata
 }
 
 // What a document of version 2 reads as from the value that a text is.
-fn value_says(alloc: Global, given: &str) -> Result<String, AllocError> {
+fn value_says(alloc: Global, given: &str) -> Result<String, MetadataFault> {
     let (kind, text) = fields(given);
-    let value = value_of(alloc, text);
-    match kind {
+    let value = value_of(alloc, text)?;
+    let answer = match kind {
         "array" => {
             let array = ArrayMetadataV2::from_owned_value(alloc, value);
             said(alloc, array, ArrayMetadataV2::to_text)
@@ -43,14 +43,15 @@ fn value_says(alloc: Global, given: &str) -> Result<String, AllocError> {
             said(alloc, attributes, AttributesDocument::to_text)
         }
         _ => String::from_str(alloc, "no such document"),
-    }
+    };
+    Ok(answer?)
 }
 
 // What it reads as from the members of that value.
-fn members_say(alloc: Global, given: &str) -> Result<String, AllocError> {
+fn members_say(alloc: Global, given: &str) -> Result<String, MetadataFault> {
     let (kind, text) = fields(given);
-    let value = value_of(alloc, text);
-    match kind {
+    let value = value_of(alloc, text)?;
+    let answer = match kind {
         "array" => said(
             alloc,
             array_of_members(alloc, value),
@@ -66,22 +67,23 @@ fn members_say(alloc: Global, given: &str) -> Result<String, AllocError> {
             said(alloc, attributes, AttributesDocument::to_text)
         }
         _ => String::from_str(alloc, "no such document"),
-    }
+    };
+    Ok(answer?)
 }
 
 // Documents of version 2, as they read.
 const OWNED: &str = r#"
 array | {"chunks":[1],"compressor":null,"dtype":"<f8","fill_value":"NaN","filters":null,"more":[1],"order":"C","shape":[1],"zarr_format":2} => {"chunks":[1],"compressor":null,"dimension_separator":".","dtype":"<f8","fill_value":"NaN","filters":null,"more":[1],"order":"C","shape":[1],"zarr_format":2}
-array | {"chunks":[1],"zarr_format":3} => wrong zarr_format
-array | {"chunks":[1.5]} => unsupported number
-array | [] => not an object
+array | {"chunks":[1],"zarr_format":3} => WrongFormat: wrong zarr_format
+array | {"chunks":[1.5]} => UnsupportedNumber: unsupported number
+array | [] => NotAnObject: not an object
 group | {"attributes":{"k":1},"more":1,"zarr_format":2} => {"attributes":{"k":1},"more":1,"zarr_format":2}
-group | {"shape":[1],"zarr_format":2} => bad member shape
-group | {"zarr_format":1} => wrong zarr_format
-group | 1 => not an object
+group | {"shape":[1],"zarr_format":2} => BadMember: bad member shape
+group | {"zarr_format":1} => WrongFormat: wrong zarr_format
+group | 1 => NotAnObject: not an object
 attributes | {"b":1,"a":{"c":[]}} => {"a":{"c":[]},"b":1}
-attributes | {"b":1.5} => unsupported number
-attributes | [] => not an object
+attributes | {"b":1.5} => UnsupportedNumber: unsupported number
+attributes | [] => NotAnObject: not an object
 "#;
 
 #[test]
@@ -94,18 +96,18 @@ fn members_of_a_document_are_read(rt: HostRuntime) -> Result<(), Fail> {
     check_rows(rt.alloc(), OWNED, members_say)
 }
 
-fn node_says(alloc: Global, text: &str) -> Result<String, AllocError> {
-    let node = node_of_members(alloc, value_of(alloc, text));
-    said(alloc, node, NodeMetadata::to_text)
+fn node_says(alloc: Global, text: &str) -> Result<String, MetadataFault> {
+    let node = node_of_members(alloc, value_of(alloc, text)?);
+    Ok(said(alloc, node, NodeMetadata::to_text)?)
 }
 
 // Documents of either version, as their members read.
 const NODES: &str = r#"
 {"node_type":"group","zarr_format":3} => {"node_type":"group","zarr_format":3}
 {"attributes":{"k":1},"zarr_format":2} => {"attributes":{"k":1},"zarr_format":2}
-{"node_type":"node","zarr_format":3} => wrong node_type
-{"zarr_format":4} => wrong zarr_format
-{"zarr_format":1.5} => unsupported number
+{"node_type":"node","zarr_format":3} => WrongNodeType: wrong node_type
+{"zarr_format":4} => WrongFormat: wrong zarr_format
+{"zarr_format":1.5} => UnsupportedNumber: unsupported number
 "#;
 
 #[test]
