@@ -1,33 +1,64 @@
-//! Groups with blocks, and the calls on groups that change a store, for tests.
+//! Groups with blocks, the calls on groups that change a store, and what a store holds, for tests.
 //!
 //! Generic helpers hold the groups and the blocks, so that no test drops them itself.
 #![tactic(auto)]
 
+mod rows;
+
+use log::sink::Discard;
+pub use rows::{entries_in, store_in};
 use std::alloc::{AllocError, Global};
-use tests_fixtures::{A3_SQUARE, both};
-use tests_support::G3;
+use tests_fixtures::{both, config_of};
 use zarrs_block::{ConsolidatedMetadata, ConsolidatedMetadataMetadata, NodeCreateError};
-use zarrs_config::{Config, GroupMetadataOptions, MetadataConvertVersion, MetadataEraseVersion};
-use zarrs_group::{Group, GroupCreateError};
-use zarrs_meta::{GroupMetadata, GroupMetadataV3, NodeMetadata};
-use zarrs_store::{MetadataFault, StorageError, WritableStorageTraits};
+use zarrs_config::{
+    Config, GroupMetadataOptions, MetadataConvertVersion, MetadataEraseVersion,
+    UseConsolidatedMetadata,
+};
+use zarrs_group::{Group, GroupBuilder, GroupCreateError};
+use zarrs_meta::NodeMetadata;
+use zarrs_node::Node;
+use zarrs_store::{
+    ListableStorageTraits, MemoryStore, MetadataFault, ReadableStorageTraits, StorageError,
+    WritableStorageTraits,
+};
 
 /// The fault of a document as a refusal.
 pub fn refused(alloc: Global, fault: MetadataFault) -> GroupCreateError {
-    match format!(in alloc; "{fault}") {
-        Ok(text) => GroupCreateError::StorageError(StorageError::Other(text)),
-        Err(_) => GroupCreateError::OutOfMemory,
+    match fault {
+        MetadataFault::OutOfMemory => GroupCreateError::OutOfMemory,
+        fault => match format!(in alloc; "{fault}") {
+            Ok(text) => GroupCreateError::StorageError(StorageError::Other(text)),
+            Err(_) => GroupCreateError::OutOfMemory,
+        },
     }
 }
 
-/// The version 3 group that a document is, at a path.
+/// Whether the refusal that a text ends with is out of memory, by its variant.
+pub fn is_out_of_memory(text: &str) -> bool {
+    text.ends_with("OutOfMemory: out of memory") || text.ends_with("OutOfMemory): out of memory")
+}
+
+/// The group that a document is, at a path. That of an array is refused as none.
 pub fn group_of(alloc: Global, path: &str, document: &str) -> Result<Group, GroupCreateError> {
-    match GroupMetadataV3::from_bytes(alloc, document.as_bytes()) {
-        Ok(metadata) => {
-            Group::new_with_metadata(alloc, path, GroupMetadata::V3(metadata), &Config::new())
+    match NodeMetadata::from_bytes(alloc, document.as_bytes()) {
+        Ok(NodeMetadata::Group(metadata)) => {
+            Group::new_with_metadata(alloc, path, metadata, &Config::new())
         }
+        Ok(NodeMetadata::Array(_)) => Err(GroupCreateError::MissingMetadata),
         Err(fault) => Err(refused(alloc, fault)),
     }
+}
+
+/// The store with the groups that a builder of nothing makes at these paths, with a blank between, each stored.
+pub fn built_in(alloc: Global, paths: &str) -> Result<MemoryStore, GroupCreateError> {
+    let builder = GroupBuilder::new(alloc);
+    let mut store = MemoryStore::new(alloc);
+    for path in paths.split(' ') {
+        builder
+            .build(alloc, path, &Config::new())?
+            .store_metadata(alloc, &mut store)?;
+    }
+    Ok(store)
 }
 
 // A value once it was given each of these rows.
@@ -110,42 +141,66 @@ pub fn with_block(
     changed(alloc, set_in(alloc, group, block))
 }
 
-/// The group without attributes at a path, with a block set.
-pub fn group_with(
+// The block that the node at a path makes of all that is listed below it.
+fn block_at(
     alloc: Global,
+    store: &MemoryStore,
     path: &str,
-    block: &[(&str, &str)],
-) -> Result<Group, GroupCreateError> {
-    with_block(alloc, group_of(alloc, path, G3), block)
+) -> Result<Option<ConsolidatedMetadata>, NodeCreateError> {
+    let config = config_of(UseConsolidatedMetadata::Never);
+    let node = Node::open(&Discard, alloc, store, path, &config)?;
+    let block = node.consolidate_metadata(alloc)?;
+    Ok(block.map(|metadata| ConsolidatedMetadata { metadata }))
 }
 
-/// The groups, one a line.
+/// The group at a path of a store, with the block of all that is listed below it set.
+pub fn consolidated(
+    alloc: Global,
+    store: &MemoryStore,
+    path: &str,
+) -> Result<Group, GroupCreateError> {
+    let group = Group::open(alloc, store, path, &Config::new());
+    let block = block_at(alloc, store, path).map_err(|error| GroupCreateError::from_node_error(
+        alloc, error,
+    ));
+    changed(
+        alloc,
+        both(group, block, |group, block| set(group, alloc, block)),
+    )
+}
+
+/// A group in words, and the block that it holds, where it holds one.
+pub fn group_text(group: &Group, alloc: Global) -> Result<String, AllocError> {
+    let text = group.to_text(alloc)?;
+    match group.consolidated_metadata(alloc)? {
+        Some(block) => {
+            let block = block.to_value(alloc)?.to_string(alloc)?;
+            format!(in alloc; "{text} and the block {block}")
+        }
+        None => Ok(text),
+    }
+}
+
+/// The groups with their blocks, one a line.
 pub fn groups_text(groups: &Vec<Group>, alloc: Global) -> Result<String, AllocError> {
     let mut text = String::new(alloc);
     for group in groups {
-        let line = group.to_text(alloc)?;
+        let line = group_text(group, alloc)?;
         write!(text, "{line}\n")?;
     }
     Ok(text)
 }
 
-/// The block of a group of three levels.
-pub const LEVELS: [(&str, &str); 3] = [
-    ("array", A3_SQUARE),
-    ("subgroup", G3),
-    ("subgroup/mysubarray", A3_SQUARE),
-];
-
-/// The nodes of that block, with their metadata.
-pub const LEVELS_DATA: &str =
-    r#"/group/array {"chunk_grid":{"configuration":{"chunk_shape":[10,10]},"name":"regular"},"chunk_key_encoding":{"configuration":{"separator":"/"},"name":"default"},"codecs":[{"configuration":{"endian":"little"},"name":"bytes"}],"data_type":"float32","fill_value":0,"node_type":"array","shape":[10,10],"zarr_format":3}
-/group/subgroup {"node_type":"group","zarr_format":3}
-/group/subgroup/mysubarray {"chunk_grid":{"configuration":{"chunk_shape":[10,10]},"name":"regular"},"chunk_key_encoding":{"configuration":{"separator":"/"},"name":"default"},"codecs":[{"configuration":{"endian":"little"},"name":"bytes"}],"data_type":"float32","fill_value":0,"node_type":"array","shape":[10,10],"zarr_format":3}
-"#;
-
-/// The group of three levels with its block.
-pub fn levels(alloc: Global) -> Result<Group, GroupCreateError> {
-    group_with(alloc, "/group", &LEVELS)
+/// The keys of a store, each with its bytes, one a line.
+pub fn held_text(alloc: Global, store: &MemoryStore) -> Result<String, StorageError> {
+    let mut text = String::new(alloc);
+    let keys = store.list(alloc)?;
+    for key in &keys {
+        let bytes = store.get(alloc, key)?.unwrap_or(Vec::new(alloc));
+        let bytes = String::from_utf8_lossy(alloc, bytes.as_slice())?;
+        write!(text, "{key} {bytes}\n")?;
+    }
+    Ok(text)
 }
 
 /// A call on a group that changes a store.
