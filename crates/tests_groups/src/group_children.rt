@@ -2,79 +2,39 @@
 //!
 //! The tests compare texts.
 
-use crate::rows::{entries, store_in, text_of};
 use log::sink::{Discard, Writer};
 use std::alloc::{AllocError, Global};
 use std::test::Fail;
 use tests_fixtures::{
-    A3_SQUARE, THREE_LEVELS, both, config_of, forest_data, forest_text, key_of, no_word, node_at,
-    pairs_text, paths_text, policy_of, store_of,
+    A3_SQUARE, both, config_of, document_of, forest_text, no_word, node_text, pairs_text,
+    paths_text, policy_of,
 };
 use tests_group_fixtures::{
-    LEVELS, Set, block_of, changed, group_of, groups_text, set, set_in, with_block,
+    Set, block_of, changed, consolidated, entries_in, group_of, group_text, groups_text, held_text,
+    is_out_of_memory, set, set_in, store_in,
 };
-use tests_support::{A2, G2, G3, check_rows, fields, said};
-use zarrs_block::{ConsolidatedMetadata, ConsolidatedMetadataMetadata, NodeCreateError};
+use tests_support::{G3, check_rows, fields, printed, refusal, said, with_lines};
+use zarrs_block::ConsolidatedMetadata;
 use zarrs_config::{Config, UseConsolidatedMetadata};
 use zarrs_group::{Group, GroupCreateError};
-use zarrs_meta::{GroupMetadata, GroupMetadataV2, NodeMetadata};
 use zarrs_node::Node;
-use zarrs_path::NodePath;
 use zarrs_store::{
-    ListableStorageTraits, MemoryStore, ReadableStorageTraits, StorageError, WritableStorageTraits,
+    ListableStorageTraits, MemoryStore, StorageError, StoreKey, WritableStorageTraits,
 };
 
 // ---- groups with blocks
 
-// The version 2 group at a path.
-fn old_group(alloc: Global, path: &str) -> Result<Group, GroupCreateError> {
-    let metadata = GroupMetadata::V2(GroupMetadataV2::new(alloc));
-    Group::new_with_metadata(alloc, path, metadata, &Config::new())
-}
-
-// A group with its block removed.
-fn without_block(
+// The group at a path without a block: of a document, `OPENED` in the store, or `LISTED` with the block of all that is listed below it.
+fn plain_group(
     alloc: Global,
-    group: Result<Group, GroupCreateError>,
-) -> Result<Group, GroupCreateError> {
-    changed(alloc, group.map(|group| set(group, alloc, None)))
-}
-
-// A group of version 2, and an array below it.
-const OLD_LEVELS: [(&str, &str); 2] = [("g/.zgroup", G2), ("g/a/.zarray", A2)];
-
-// The block of a node at a path of the store with these documents, made of all nodes below it, which a listing places.
-fn block_at(
-    alloc: Global,
-    documents: &[(&str, &str)],
+    store: &MemoryStore,
     path: &str,
-) -> Result<Option<ConsolidatedMetadata>, NodeCreateError> {
-    let node = node_at(alloc, documents, path)?;
-    if !node.has_placed_children() {
-        return Ok(None);
-    }
-    let block = node.consolidate_metadata(alloc)?;
-    Ok(block.map(|metadata| ConsolidatedMetadata { metadata }))
-}
-
-// The version 2 group at `/g` with the block of all below it set.
-fn old_levels(alloc: Global) -> Result<Group, GroupCreateError> {
-    let block = block_at(alloc, &OLD_LEVELS, "/g").map_err(
-        |error| GroupCreateError::from_node_error(alloc, error),
-    );
-    let group = old_group(alloc, "/g");
-    changed(
-        alloc,
-        both(group, block, |group, block| set(group, alloc, block)),
-    )
-}
-
-// The group without a block that a document, or a name, is at a path.
-fn plain_group(alloc: Global, path: &str, document: &str) -> Result<Group, GroupCreateError> {
+    document: &str,
+) -> Result<Group, GroupCreateError> {
     match document {
-        "OLD" => old_group(alloc, path),
-        "OLD_LEVELS" => old_levels(alloc),
-        document => group_of(alloc, path, text_of(document)),
+        "OPENED" => Group::open(alloc, store, path, &Config::new()),
+        "LISTED" => consolidated(alloc, store, path),
+        document => group_of(alloc, path, document_of(alloc, document)?),
     }
 }
 
@@ -84,93 +44,24 @@ fn set_of(
     group: Result<Group, GroupCreateError>,
     list: &str,
 ) -> Result<Set, GroupCreateError> {
-    match entries(alloc, list) {
+    match entries_in(alloc, list) {
         Ok(entries) => set_in(alloc, group, entries.as_slice()),
-        Err(_) => Err(GroupCreateError::OutOfMemory),
+        Err(error) => Err(GroupCreateError::from(error)),
     }
 }
 
-// The group that three fields are: a path, a document, and the list of the block that is set; `-` where none is.
-fn group_in(alloc: Global, given: &str) -> Result<Group, GroupCreateError> {
+// The group that three fields are: a path, a document as in `plain_group`, and the list of the block that is set; `none` where none is.
+fn group_in(alloc: Global, store: &MemoryStore, given: &str) -> Result<Group, GroupCreateError> {
     let (path, rest) = fields(given);
     let (document, list) = fields(rest);
-    let group = plain_group(alloc, path, document);
+    let group = plain_group(alloc, store, path, document);
     match list {
-        "-" => group,
+        "none" => group,
         list => changed(alloc, set_of(alloc, group, list)),
     }
 }
 
-// ---- answers as texts
-
-// The documents of the metadata of pairs, one after another.
-fn documents_text(
-    pairs: &Vec<(NodePath, NodeMetadata)>,
-    alloc: Global,
-) -> Result<String, AllocError> {
-    let mut text = String::new(alloc);
-    for (_path, metadata) in pairs {
-        let document = metadata.to_text(alloc)?;
-        write!(text, "{document}")?;
-    }
-    Ok(text)
-}
-
-// What stands below a group by a policy, over a store: its trees, or its children alone.
-fn children_text(
-    group: &Group,
-    alloc: Global,
-    store: &MemoryStore,
-    policy: UseConsolidatedMetadata,
-    recursive: bool,
-) -> Result<String, AllocError> {
-    let nodes = group.children(&Discard, alloc, store, &config_of(policy), recursive);
-    said(alloc, nodes, forest_text)
-}
-
-// All that stands below a group by a policy, over a store.
-fn traversed_text(
-    group: &Group,
-    alloc: Global,
-    store: &MemoryStore,
-    policy: UseConsolidatedMetadata,
-) -> Result<String, AllocError> {
-    let pairs = group.traverse(&Discard, alloc, store, &config_of(policy));
-    said(alloc, pairs, pairs_text)
-}
-
-// The trees below a group by a policy, over a store, and all that stands below it.
-fn below_text(
-    group: &Group,
-    alloc: Global,
-    store: &MemoryStore,
-    policy: UseConsolidatedMetadata,
-) -> Result<String, AllocError> {
-    let trees = children_text(group, alloc, store, policy, true)?;
-    let all = traversed_text(group, alloc, store, policy)?;
-    below(alloc, (trees.as_str(), all.as_str()))
-}
-
-// Trees, and all that stands below a group, as one text.
-fn below(alloc: Global, parts: (&str, &str)) -> Result<String, AllocError> {
-    let (trees, all) = parts;
-    format!(in alloc; "trees:\n{trees}all:\n{all}")
-}
-
 // ---- what a group holds
-
-// The written form of a block, or `none`.
-fn block_text(block: &Option<ConsolidatedMetadata>, alloc: Global) -> Result<String, AllocError> {
-    match block {
-        Some(block) => block.to_value(alloc)?.to_string(alloc),
-        None => String::from_str(alloc, "none"),
-    }
-}
-
-// The written form of the block that a group holds, or `none`.
-fn held_text(group: &Group, alloc: Global) -> Result<String, AllocError> {
-    said(alloc, group.consolidated_metadata(alloc), block_text)
-}
 
 // A group after its block was replaced, and what that call answers.
 fn replaced(mut group: Group, alloc: Global, block: Option<ConsolidatedMetadata>) -> Set {
@@ -178,46 +69,53 @@ fn replaced(mut group: Group, alloc: Global, block: Option<ConsolidatedMetadata>
     (group, answer)
 }
 
-// The group of a path and a document once its block was replaced by that of one group.
-fn replaced_in(alloc: Global, given: &str) -> Result<Group, GroupCreateError> {
-    let (path, rest) = fields(given);
-    let group = plain_group(alloc, path, fields(rest).0);
-    let block = block_of(alloc, &[("a", G3)]);
-    let made = both(
-        group,
-        block,
-        |group, block| replaced(group, alloc, Some(block)),
-    );
-    changed(alloc, made)
-}
-
-// A group after its block was replaced by none.
-fn replaced_by_none(
+// A copy of a group.
+fn copied(
     alloc: Global,
     group: Result<Group, GroupCreateError>,
 ) -> Result<Group, GroupCreateError> {
-    changed(alloc, group.map(|group| replaced(group, alloc, None)))
+    Ok(group?.try_clone(alloc)?)
 }
 
-// A group with the block of one group set, once more where it has it.
-fn set_again(
-    alloc: Global,
-    group: Result<Group, GroupCreateError>,
-) -> Result<Group, GroupCreateError> {
-    with_block(alloc, group, &[("a", G3)])
-}
-
-// The group of three fields after a change.
-fn changed_in(alloc: Global, change: &str, given: &str) -> Result<Group, GroupCreateError> {
+// The group of three fields after a change, and what the call answers that changes it.
+fn changed_in(alloc: Global, change: &str, given: &str) -> Result<Set, GroupCreateError> {
+    let group = group_in(alloc, &MemoryStore::new(alloc), given);
     match change {
-        "set again" => set_again(alloc, group_in(alloc, given)),
-        "set again and removed" => without_block(alloc, set_again(alloc, group_in(alloc, given))),
-        "removed" => without_block(alloc, group_in(alloc, given)),
-        "replaced" => replaced_in(alloc, given),
-        "replaced by none" => replaced_by_none(alloc, group_in(alloc, given)),
-        "as version 3" => group_in(alloc, given).map(|group| group.to_v3(alloc)),
-        "-" => group_in(alloc, given),
+        "-" => group.map(|group| (group, Ok(()))),
+        "set" => set_in(alloc, group, &[("a", G3)]),
+        "set and removed" => changed(alloc, set_in(alloc, group, &[("a", G3)])).map(|group| set(
+            group, alloc, None,
+        )),
+        "removed" => group.map(|group| set(group, alloc, None)),
+        "replaced" => both(
+            group,
+            block_of(alloc, &[("a", G3)]),
+            |group, block| replaced(group, alloc, Some(block)),
+        ),
+        "replaced by none" => group.map(|group| replaced(group, alloc, None)),
+        "copied" => copied(alloc, group).map(|group| (group, Ok(()))),
+        "as version 3" => group.map(|group| (group.to_v3(alloc), Ok(()))),
         word => Err(GroupCreateError::from(no_word(alloc, word))),
+    }
+}
+
+// What the call answers that sets the block of three fields, and the group.
+fn set_list(alloc: Global, given: &str) -> Result<Set, GroupCreateError> {
+    let (path, rest) = fields(given);
+    let (document, list) = fields(rest);
+    let group = plain_group(alloc, &MemoryStore::new(alloc), path, document);
+    set_of(alloc, group, list)
+}
+
+// A group with its block after a call; where that was refused, the refusal before it.
+fn set_text(set: &Set, alloc: Global) -> Result<String, AllocError> {
+    let group = group_text(&set.0, alloc)?;
+    match &set.1 {
+        Ok(()) => Ok(group),
+        Err(error) => {
+            let error = refusal(alloc, error)?;
+            format!(in alloc; "{error}: {group}")
+        }
     }
 }
 
@@ -227,8 +125,8 @@ type Lent = (Group, Result<String, AllocError>);
 // A group after a block was set, and the text of the group that the call lends.
 fn lent(mut group: Group, alloc: Global, block: ConsolidatedMetadata) -> Lent {
     let answer = match group.set_consolidated_metadata(alloc, Some(block)) {
-        Ok(group) => group.to_text(alloc),
-        Err(error) => format!(in alloc; "{error}"),
+        Ok(group) => group_text(group, alloc),
+        Err(error) => refusal(alloc, &error),
     };
     (group, answer)
 }
@@ -236,83 +134,66 @@ fn lent(mut group: Group, alloc: Global, block: ConsolidatedMetadata) -> Lent {
 fn lent_text(lent: &Lent, alloc: Global) -> Result<String, AllocError> {
     match &lent.1 {
         Ok(text) => text.clone(),
-        Err(error) => format!(in alloc; "{error}"),
+        Err(error) => refusal(alloc, error),
     }
 }
 
-// The group of a path and a document after the block of one group was set, and the text that this lends.
+// The group of three fields after the block of one group was set, and the text that this lends.
 fn lent_in(alloc: Global, given: &str) -> Result<Lent, GroupCreateError> {
-    let (path, rest) = fields(given);
-    let group = plain_group(alloc, path, fields(rest).0);
+    let group = group_in(alloc, &MemoryStore::new(alloc), given);
     let block = block_of(alloc, &[("a", G3)]);
     both(group, block, |group, block| lent(group, alloc, block))
 }
 
-// What a call that set a block answers, and the block that the group then holds.
-fn set_and_held(set: &Set, alloc: Global) -> Result<String, AllocError> {
-    let held = held_text(&set.0, alloc)?;
-    match &set.1 {
-        Ok(()) => Ok(held),
-        Err(error) => format!(in alloc; "{error}: {held}"),
-    }
-}
-
-// What the call answers that sets the block of three fields, and the block that the group then holds.
-fn setting_text(alloc: Global, given: &str) -> Result<String, AllocError> {
-    let (path, rest) = fields(given);
-    let (document, list) = fields(rest);
-    let set = set_of(alloc, plain_group(alloc, path, document), list);
-    said(alloc, set, set_and_held)
-}
-
-// What a group says of itself after a change: its text, or its block.
+// What a group says of itself after a change, with its block. `CHANGE | PATH | DOCUMENT | LIST`.
 fn asked(alloc: Global, given: &str) -> Result<String, AllocError> {
-    let (ask, rest) = fields(given);
-    match (ask, fields(rest)) {
-        ("text", ("lent", group)) => said(alloc, lent_in(alloc, group), lent_text),
-        ("text", (change, group)) => {
-            said(alloc, changed_in(alloc, change, group), Group::to_text)
-        }
-        ("block", (change, group)) => said(alloc, changed_in(alloc, change, group), held_text),
-        (_, (_, group)) => setting_text(alloc, group),
+    let (change, group) = fields(given);
+    match change {
+        "lent" => said(alloc, lent_in(alloc, group), lent_text),
+        "set list" => said(alloc, set_list(alloc, group), set_text),
+        change => said(alloc, changed_in(alloc, change, group), set_text),
     }
 }
 
-// What is asked, a change, and a group with the block that is set; and the answer.
+// A change, and a group with the block that is set; and the group then, with the block that it holds.
 const ASKED: &str = r#"
 # The field is held where it reads as a block.
-block | - | /g | {"consolidated_metadata":{"kind":"inline","metadata":{"a":{"node_type":"group","zarr_format":3}}},"node_type":"group","zarr_format":3} | - => {"kind":"inline","metadata":{"a":{"node_type":"group","zarr_format":3}},"must_understand":false}
-block | - | /g | {"consolidated_metadata":{"kind":"outline","metadata":{}},"node_type":"group","zarr_format":3} | - => none
-block | - | /g | {"consolidated_metadata":{"kind":"inline"},"node_type":"group","zarr_format":3} | - => none
-block | - | /g | {"consolidated_metadata":{"kind":"inline","metadata":{},"must_understand":true},"node_type":"group","zarr_format":3} | - => none
-block | - | /g | {"consolidated_metadata":{"kind":"inline","metadata":{"a":{}}},"node_type":"group","zarr_format":3} | - => none
-block | - | /g | {"consolidated_metadata":{"kind":"inline","metadata":{"a":{"attributes":1,"node_type":"group","zarr_format":3}},"must_understand":false},"node_type":"group","zarr_format":3} | - => none
-block | - | /g | {"consolidated_metadata":null,"node_type":"group","zarr_format":3} | - => none
-block | - | /g | G3 | - => none
-block | - | /g | OLD | - => none
+- | /g | {"consolidated_metadata":{"kind":"inline","metadata":{"a":{"node_type":"group","zarr_format":3}}},"node_type":"group","zarr_format":3} | none => group at /g with metadata {"consolidated_metadata":{"kind":"inline","metadata":{"a":{"node_type":"group","zarr_format":3}}},"node_type":"group","zarr_format":3} and the block {"kind":"inline","metadata":{"a":{"node_type":"group","zarr_format":3}},"must_understand":false}
+- | /g | {"consolidated_metadata":{"kind":"outline","metadata":{}},"node_type":"group","zarr_format":3} | none => group at /g with metadata {"consolidated_metadata":{"kind":"outline","metadata":{}},"node_type":"group","zarr_format":3}
+- | /g | {"consolidated_metadata":{"kind":"inline"},"node_type":"group","zarr_format":3} | none => group at /g with metadata {"consolidated_metadata":{"kind":"inline"},"node_type":"group","zarr_format":3}
+- | /g | {"consolidated_metadata":{"kind":"inline","metadata":{},"must_understand":true},"node_type":"group","zarr_format":3} | none => group at /g with metadata {"consolidated_metadata":{"kind":"inline","metadata":{},"must_understand":true},"node_type":"group","zarr_format":3}
+- | /g | {"consolidated_metadata":{"kind":"inline","metadata":{"a":{}}},"node_type":"group","zarr_format":3} | none => group at /g with metadata {"consolidated_metadata":{"kind":"inline","metadata":{"a":{}}},"node_type":"group","zarr_format":3}
+- | /g | {"consolidated_metadata":{"kind":"inline","metadata":{"a":{"attributes":1,"node_type":"group","zarr_format":3}},"must_understand":false},"node_type":"group","zarr_format":3} | none => group at /g with metadata {"consolidated_metadata":{"kind":"inline","metadata":{"a":{"attributes":1,"node_type":"group","zarr_format":3}},"must_understand":false},"node_type":"group","zarr_format":3}
+- | /g | {"consolidated_metadata":null,"node_type":"group","zarr_format":3} | none => group at /g with metadata {"node_type":"group","zarr_format":3}
+- | /g | G3 | none => group at /g with metadata {"node_type":"group","zarr_format":3}
+- | /g | G2 | none => group at /g with metadata {"zarr_format":2}
 
 # A block is set and removed, and all else stays.
-text | - | /g | OTHERS | - => group at /g with metadata {"attributes":{"k":1},"b":{"must_understand":false},"node_type":"group","z":1,"zarr_format":3}
-text | - | /g | OTHERS | a=G3 => group at /g with metadata {"attributes":{"k":1},"b":{"must_understand":false},"consolidated_metadata":{"kind":"inline","metadata":{"a":{"node_type":"group","zarr_format":3}},"must_understand":false},"node_type":"group","z":1,"zarr_format":3}
-text | set again | /g | OTHERS | a=G3 => group at /g with metadata {"attributes":{"k":1},"b":{"must_understand":false},"consolidated_metadata":{"kind":"inline","metadata":{"a":{"node_type":"group","zarr_format":3}},"must_understand":false},"node_type":"group","z":1,"zarr_format":3}
-text | set again and removed | /g | OTHERS | a=G3 => group at /g with metadata {"attributes":{"k":1},"b":{"must_understand":false},"node_type":"group","z":1,"zarr_format":3}
+- | /g | {"attributes":{"k":1},"b":{"must_understand":false},"node_type":"group","z":1,"zarr_format":3} | none => group at /g with metadata {"attributes":{"k":1},"b":{"must_understand":false},"node_type":"group","z":1,"zarr_format":3}
+- | /g | {"attributes":{"k":1},"b":{"must_understand":false},"node_type":"group","z":1,"zarr_format":3} | a=G3 => group at /g with metadata {"attributes":{"k":1},"b":{"must_understand":false},"consolidated_metadata":{"kind":"inline","metadata":{"a":{"node_type":"group","zarr_format":3}},"must_understand":false},"node_type":"group","z":1,"zarr_format":3} and the block {"kind":"inline","metadata":{"a":{"node_type":"group","zarr_format":3}},"must_understand":false}
+set | /g | {"attributes":{"k":1},"b":{"must_understand":false},"node_type":"group","z":1,"zarr_format":3} | none => group at /g with metadata {"attributes":{"k":1},"b":{"must_understand":false},"consolidated_metadata":{"kind":"inline","metadata":{"a":{"node_type":"group","zarr_format":3}},"must_understand":false},"node_type":"group","z":1,"zarr_format":3} and the block {"kind":"inline","metadata":{"a":{"node_type":"group","zarr_format":3}},"must_understand":false}
+set | /g | {"attributes":{"k":1},"b":{"must_understand":false},"node_type":"group","z":1,"zarr_format":3} | a=G3 => group at /g with metadata {"attributes":{"k":1},"b":{"must_understand":false},"consolidated_metadata":{"kind":"inline","metadata":{"a":{"node_type":"group","zarr_format":3}},"must_understand":false},"node_type":"group","z":1,"zarr_format":3} and the block {"kind":"inline","metadata":{"a":{"node_type":"group","zarr_format":3}},"must_understand":false}
+set and removed | /g | {"attributes":{"k":1},"b":{"must_understand":false},"node_type":"group","z":1,"zarr_format":3} | a=G3 => group at /g with metadata {"attributes":{"k":1},"b":{"must_understand":false},"node_type":"group","z":1,"zarr_format":3}
+removed | /g | {"attributes":{"k":1},"b":{"must_understand":false},"node_type":"group","z":1,"zarr_format":3} | a=G3 => group at /g with metadata {"attributes":{"k":1},"b":{"must_understand":false},"node_type":"group","z":1,"zarr_format":3}
+- | /g | G3 | - => group at /g with metadata {"consolidated_metadata":{"kind":"inline","metadata":{},"must_understand":false},"node_type":"group","zarr_format":3} and the block {"kind":"inline","metadata":{},"must_understand":false}
 
 # A block is replaced as it is set.
-text | replaced | /g | OTHERS | a=G3 => group at /g with metadata {"attributes":{"k":1},"b":{"must_understand":false},"consolidated_metadata":{"kind":"inline","metadata":{"a":{"node_type":"group","zarr_format":3}},"must_understand":false},"node_type":"group","z":1,"zarr_format":3}
-text | replaced by none | /g | OTHERS | a=G3 => group at /g with metadata {"attributes":{"k":1},"b":{"must_understand":false},"node_type":"group","z":1,"zarr_format":3}
+replaced | /g | {"attributes":{"k":1},"b":{"must_understand":false},"node_type":"group","z":1,"zarr_format":3} | none => group at /g with metadata {"attributes":{"k":1},"b":{"must_understand":false},"consolidated_metadata":{"kind":"inline","metadata":{"a":{"node_type":"group","zarr_format":3}},"must_understand":false},"node_type":"group","z":1,"zarr_format":3} and the block {"kind":"inline","metadata":{"a":{"node_type":"group","zarr_format":3}},"must_understand":false}
+replaced by none | /g | {"attributes":{"k":1},"b":{"must_understand":false},"node_type":"group","z":1,"zarr_format":3} | a=G3 => group at /g with metadata {"attributes":{"k":1},"b":{"must_understand":false},"node_type":"group","z":1,"zarr_format":3}
 
 # The group is lent once a block was set.
-text | lent | /g | OTHERS | a=G3 => group at /g with metadata {"attributes":{"k":1},"b":{"must_understand":false},"consolidated_metadata":{"kind":"inline","metadata":{"a":{"node_type":"group","zarr_format":3}},"must_understand":false},"node_type":"group","z":1,"zarr_format":3}
+lent | /g | {"attributes":{"k":1},"b":{"must_understand":false},"node_type":"group","z":1,"zarr_format":3} | none => group at /g with metadata {"attributes":{"k":1},"b":{"must_understand":false},"consolidated_metadata":{"kind":"inline","metadata":{"a":{"node_type":"group","zarr_format":3}},"must_understand":false},"node_type":"group","z":1,"zarr_format":3} and the block {"kind":"inline","metadata":{"a":{"node_type":"group","zarr_format":3}},"must_understand":false}
 
 # A version 2 group has its block beside its metadata.
-text | - | /g | OLD | a=G2 => group at /g with metadata {"zarr_format":2}
-block | - | /g | OLD | a=G2 => {"kind":"inline","metadata":{"a":{"zarr_format":2}},"must_understand":false}
-block | as version 3 | /g | OLD | a=G2 => none
-block | removed | /g | OLD | a=G2 => none
+- | /g | G2 | a=G2 => group at /g with metadata {"zarr_format":2} and the block {"kind":"inline","metadata":{"a":{"zarr_format":2}},"must_understand":false}
+copied | /g | G2 | a=G2 => group at /g with metadata {"zarr_format":2} and the block {"kind":"inline","metadata":{"a":{"zarr_format":2}},"must_understand":false}
+as version 3 | /g | G2 | a=G2 => group at /g with metadata {"node_type":"group","zarr_format":3}
+removed | /g | G2 | a=G2 => group at /g with metadata {"zarr_format":2}
 
-# A version 2 group takes no block that cannot be written.
-set | - | /g | OLD | a=G3 => Found V2 metadata in V3 key or vice-versa: none
-set | - | /g | OLD | a/=G2 => invalid node path invalid node name `` in 'a/': none
+# A version 2 group takes no block that cannot be written, and stays as it was.
+set list | /g | G2 | a=G3 => MetadataVersionMismatch: Found V2 metadata in V3 key or vice-versa: group at /g with metadata {"zarr_format":2}
+set list | /g | G2 | a/=G2 => NodePathError(Invalid): invalid node path invalid node name `` in 'a/': group at /g with metadata {"zarr_format":2}
+set | /g | G2 | a=G2 => MetadataVersionMismatch: Found V2 metadata in V3 key or vice-versa: group at /g with metadata {"zarr_format":2} and the block {"kind":"inline","metadata":{"a":{"zarr_format":2}},"must_understand":false}
 "#;
 
 #[test]
@@ -320,176 +201,22 @@ fn groups_hold_blocks(rt: HostRuntime) -> Result<(), Fail> {
     check_rows(rt.alloc(), ASKED, asked)
 }
 
-// ---- a block that was made of a store which is then emptied
-
-// The group of a store at `/group`, with the block of all nodes below it set.
-fn group_with_its_block(alloc: Global, store: &MemoryStore) -> Result<Group, GroupCreateError> {
-    let group = Group::open(alloc, store, "/group", &Config::new());
-    let block = block_at(alloc, &THREE_LEVELS, "/group").map_err(
-        |error| GroupCreateError::from_node_error(alloc, error),
-    );
-    changed(
-        alloc,
-        both(group, block, |group, block| set(group, alloc, block)),
-    )
-}
-
-// The store without its keys.
-fn emptied(alloc: Global, mut store: MemoryStore) -> Result<MemoryStore, StorageError> {
-    for key in store.list(alloc)? {
-        store.erase(&key)?;
-    }
-    Ok(store)
-}
-
-// The nodes below the group of three levels by a policy, as data, once its block was set and the store emptied.
-fn children_of_none(alloc: Global, policy: &str) -> Result<Vec<Node>, NodeCreateError> {
-    let policy = policy_of(alloc, policy)?;
-    let store = store_of(alloc, &THREE_LEVELS)?;
-    let group = group_with_its_block(alloc, &store);
-    let store = emptied(alloc, store)?;
-    below_by(alloc, group, &store, policy)
-}
-
-// The nodes below a group by a policy, over a store.
-fn below_by(
-    alloc: Global,
-    group: Result<Group, GroupCreateError>,
-    store: &MemoryStore,
-    policy: UseConsolidatedMetadata,
-) -> Result<Vec<Node>, NodeCreateError> {
-    match group {
-        Ok(group) => group.children(&Discard, alloc, store, &config_of(policy), true),
-        Err(_) => Err(NodeCreateError::MetadataVersionMismatch),
-    }
-}
-
-fn children_of_none_said(alloc: Global, policy: &str) -> Result<String, AllocError> {
-    said(alloc, children_of_none(alloc, policy), forest_data)
-}
-
-// A policy; all nodes below the group, with their metadata.
-const EMPTIED: &str = r#"
-auto => /group/array {"chunk_grid":{"configuration":{"chunk_shape":[10,10]},"name":"regular"},"chunk_key_encoding":{"configuration":{"separator":"/"},"name":"default"},"codecs":[{"configuration":{"endian":"little"},"name":"bytes"}],"data_type":"float32","fill_value":0,"node_type":"array","shape":[10,10],"zarr_format":3}\n/group/subgroup {"node_type":"group","zarr_format":3}\n/group/subgroup/mysubarray {"chunk_grid":{"configuration":{"chunk_shape":[10,10]},"name":"regular"},"chunk_key_encoding":{"configuration":{"separator":"/"},"name":"default"},"codecs":[{"configuration":{"endian":"little"},"name":"bytes"}],"data_type":"float32","fill_value":0,"node_type":"array","shape":[10,10],"zarr_format":3}\n
-must => /group/array {"chunk_grid":{"configuration":{"chunk_shape":[10,10]},"name":"regular"},"chunk_key_encoding":{"configuration":{"separator":"/"},"name":"default"},"codecs":[{"configuration":{"endian":"little"},"name":"bytes"}],"data_type":"float32","fill_value":0,"node_type":"array","shape":[10,10],"zarr_format":3}\n/group/subgroup {"node_type":"group","zarr_format":3}\n/group/subgroup/mysubarray {"chunk_grid":{"configuration":{"chunk_shape":[10,10]},"name":"regular"},"chunk_key_encoding":{"configuration":{"separator":"/"},"name":"default"},"codecs":[{"configuration":{"endian":"little"},"name":"bytes"}],"data_type":"float32","fill_value":0,"node_type":"array","shape":[10,10],"zarr_format":3}\n
-never =>
-"#;
-
-#[test]
-fn a_block_stands_for_a_store_that_was_emptied(rt: HostRuntime) -> Result<(), Fail> {
-    check_rows(rt.alloc(), EMPTIED, children_of_none_said)
-}
-
-// ---- stored blocks
-
-// What a store holds at a key, or `none`.
-fn text_at(alloc: Global, store: &MemoryStore, key: &str) -> Result<String, AllocError> {
-    let Ok(key) = key_of(alloc, key) else {
-        return String::from_str(alloc, "no key");
-    };
-    match store.get(alloc, &key) {
-        Ok(Some(bytes)) => String::from_utf8_lossy(alloc, bytes.as_slice()),
-        Ok(None) => String::from_str(alloc, "none"),
-        Err(error) => format!(in alloc; "{error}"),
-    }
-}
-
-// What opening a path says over a store: the text of the group, or its trees by a policy.
-fn opened_text(
-    alloc: Global,
-    look: &str,
-    store: &MemoryStore,
-    path: &str,
-) -> Result<String, StorageError> {
-    if let Some(policy) = look.strip_prefix("node ") {
-        let config = config_of(policy_of(alloc, policy)?);
-        let node = Node::open(&Discard, alloc, store, path, &config);
-        return Ok(said(alloc, node, Node::hierarchy_tree)?);
-    }
-    let opened = Group::open(alloc, store, path, &Config::new());
-    let text = match look {
-        "text" => said(alloc, opened, Group::to_text)?,
-        policy => trees_text(alloc, opened, store, policy_of(alloc, policy)?)?,
-    };
-    Ok(text)
-}
-
-// The trees below a group by a policy, over a store, or the text of the refusal to open it.
-fn trees_text(
-    alloc: Global,
-    opened: Result<Group, GroupCreateError>,
-    store: &MemoryStore,
-    policy: UseConsolidatedMetadata,
-) -> Result<String, AllocError> {
-    match opened {
-        Ok(group) => children_text(&group, alloc, store, policy, true),
-        Err(error) => format!(in alloc; "{error}"),
-    }
-}
-
-// The store that holds a group and nothing else.
-fn store_with(alloc: Global, given: &str) -> Result<MemoryStore, GroupCreateError> {
-    let group = group_in(alloc, given)?;
-    let mut store = MemoryStore::new(alloc);
-    group.store_metadata(alloc, &mut store)?;
-    Ok(store)
-}
-
-// What a store says that holds a group and nothing else: what stands at `.zmetadata`, or what opening the group says.
-fn stored(alloc: Global, given: &str) -> Result<String, GroupCreateError> {
-    let (look, group) = fields(given);
-    let store = store_with(alloc, group)?;
-    match look {
-        "zmetadata" => Ok(text_at(alloc, &store, "g/.zmetadata")?),
-        look => Ok(opened_text(alloc, look, &store, fields(group).0)?),
-    }
-}
-
-// What is asked, and the group that is stored with the block that is set; and the answer.
-const STORED: &str = r#"
-# The block of a version 2 group is stored as `.zmetadata`.
-zmetadata | /g | OLD_LEVELS | - => {\n  "metadata": {\n    ".zgroup": {\n      "zarr_format": 2\n    },\n    "a/.zarray": {\n      "chunks": [\n        1\n      ],\n      "compressor": null,\n      "dimension_separator": ".",\n      "dtype": "<f8",\n      "fill_value": "NaN",\n      "filters": null,\n      "order": "C",\n      "shape": [\n        1\n      ],\n      "zarr_format": 2\n    }\n  },\n  "zarr_consolidated_format": 1\n}
-zmetadata | /g | OLD | - => none
-
-# A block that was set need not be understood.
-text | / | G3 | {} => group at / with metadata {"consolidated_metadata":{"kind":"inline","metadata":{},"must_understand":false},"node_type":"group","zarr_format":3}
-
-# A stored group is opened with its block.
-auto | /group | G3 | LEVELS => /group/array [10, 10] float32\n/group/subgroup\n  mysubarray [10, 10] float32\n
-must | /group | G3 | LEVELS => /group/array [10, 10] float32\n/group/subgroup\n  mysubarray [10, 10] float32\n
-never | /group | G3 | LEVELS =>
-
-# So is the node at its path, where nothing else is stored.
-node auto | /group | G3 | LEVELS => /\n  array [10, 10] float32\n  subgroup\n    mysubarray [10, 10] float32\n
-node must | /group | G3 | LEVELS => /\n  array [10, 10] float32\n  subgroup\n    mysubarray [10, 10] float32\n
-node never | /group | G3 | LEVELS => /\n
-node auto | /g | OLD_LEVELS | - => /\n  a [1] Simple("<f8")\n
-node must | /g | OLD_LEVELS | - => /\n  a [1] Simple("<f8")\n
-node never | /g | OLD_LEVELS | - => /\n
-"#;
-
-#[test]
-fn blocks_are_stored(rt: HostRuntime) -> Result<(), Fail> {
-    check_rows(rt.alloc(), STORED, stored)
-}
-
 // ---- what stands below a group
 
-// The documents of all that stands below a group.
-fn traversed_documents(
+// What stands below a group by a policy, over a store: its trees, its children alone, and all of it.
+fn below_text(
     group: &Group,
     alloc: Global,
     store: &MemoryStore,
+    config: &Config,
 ) -> Result<String, AllocError> {
-    let auto = UseConsolidatedMetadata::Auto;
-    let pairs = group.traverse(&Discard, alloc, store, &config_of(auto));
-    said(alloc, pairs, documents_text)
-}
-
-// A text, and the lines of a log.
-fn with_lines(alloc: Global, text: &str, lines: &[u8]) -> Result<String, AllocError> {
-    let lines = String::from_utf8_lossy(alloc, lines)?;
-    format!(in alloc; "{text}warned: {lines}")
+    let trees = group.children(&Discard, alloc, store, config, true);
+    let trees = said(alloc, trees, forest_text)?;
+    let children = group.children(&Discard, alloc, store, config, false);
+    let children = said(alloc, children, forest_text)?;
+    let all = group.traverse(&Discard, alloc, store, config);
+    let all = said(alloc, all, pairs_text)?;
+    format!(in alloc; "trees:\n{trees}children:\n{children}all:\n{all}")
 }
 
 // The trees below a group, and what is warned of.
@@ -500,8 +227,12 @@ fn children_warned(
 ) -> Result<String, AllocError> {
     let sink = Writer::new(Vec::new(alloc));
     let nodes = group.children(&sink, alloc, store, &Config::new(), true);
-    let text = said(alloc, nodes, forest_text)?;
-    with_lines(alloc, text.as_str(), &sink.into_inner())
+    with_lines(
+        alloc,
+        said(alloc, nodes, forest_text),
+        "warned: ",
+        sink.into_inner(),
+    )
 }
 
 // All that stands below a group, and what is warned of.
@@ -512,8 +243,12 @@ fn traversal_warned(
 ) -> Result<String, AllocError> {
     let sink = Writer::new(Vec::new(alloc));
     let pairs = group.traverse(&sink, alloc, store, &Config::new());
-    let text = said(alloc, pairs, pairs_text)?;
-    with_lines(alloc, text.as_str(), &sink.into_inner())
+    with_lines(
+        alloc,
+        said(alloc, pairs, pairs_text),
+        "warned: ",
+        sink.into_inner(),
+    )
 }
 
 // The paths of the children of a group, of the groups and of the arrays among them.
@@ -528,137 +263,123 @@ fn kinds_text(group: &Group, alloc: Global, store: &MemoryStore) -> Result<Strin
     format!(in alloc; "all:\n{all}groups:\n{groups}arrays:\n{arrays}")
 }
 
-// The groups among the children of a group, or the text of the refusal and whether it is told by its text.
-fn child_groups_text(
-    group: &Group,
-    alloc: Global,
-    store: &MemoryStore,
-) -> Result<String, AllocError> {
-    let groups = group.child_groups(&Discard, alloc, store, &Config::new());
-    let kind = if is_other(&groups) { "other: " } else { "" };
-    let text = said(alloc, groups, groups_text)?;
-    format!(in alloc; "{kind}{text}")
-}
-
-// Whether the refusal is told by its text.
-fn is_other(answer: &Result<Vec<Group>, GroupCreateError>) -> bool {
-    matches!(
-        answer,
-        Err(GroupCreateError::StorageError(StorageError::Other(_)))
-    )
-}
-
-// What stands below a group over a store, by what is asked; trees and all of it by a policy.
+// What stands below a group over a store, by what is asked; all of it by a policy.
 fn looked_at(
     alloc: Global,
     look: &str,
     group: &Group,
     store: &MemoryStore,
 ) -> Result<String, StorageError> {
-    let auto = UseConsolidatedMetadata::Auto;
     let text = match look {
-        "trees" => children_text(group, alloc, store, auto, true)?,
-        "children" => children_text(group, alloc, store, auto, false)?,
-        "documents" => traversed_documents(group, alloc, store)?,
         "children warned" => children_warned(group, alloc, store)?,
         "traversal warned" => traversal_warned(group, alloc, store)?,
         "kinds" => kinds_text(group, alloc, store)?,
-        "groups" => child_groups_text(group, alloc, store)?,
-        policy => below_text(group, alloc, store, policy_of(alloc, policy)?)?,
+        "groups" => {
+            let groups = group.child_groups(&Discard, alloc, store, &Config::new());
+            said(alloc, groups, groups_text)?
+        }
+        policy => below_text(group, alloc, store, &config_of(policy_of(alloc, policy)?))?,
     };
     Ok(text)
 }
 
-// What stands below the group of a row over the store with the documents of a list.
-fn looked(alloc: Global, given: &str) -> Result<String, GroupCreateError> {
+// What stands below the group of a row over a store. `LOOK | LIST | PATH | DOCUMENT | LIST`.
+fn looked(alloc: Global, given: &str) -> Result<String, StorageError> {
     let (look, rest) = fields(given);
     let (list, group) = fields(rest);
     let store = store_in(alloc, list)?;
-    let group = group_in(alloc, group)?;
-    Ok(looked_at(alloc, look, &group, &store)?)
+    match group_in(alloc, &store, group) {
+        Ok(group) => looked_at(alloc, look, &group, &store),
+        Err(error) => Ok(refusal(alloc, &error)?),
+    }
 }
 
 // What is asked, the documents of a store, and a group with the block that is set; and the answer.
 const LOOKED: &str = r#"
 # The block of a version 2 group stands for the store.
-never | - | /g | OLD_LEVELS | - => trees:\nall:\n
-must | - | /g | OLD_LEVELS | - => trees:\n/g/a [1] Simple("<f8")\nall:\n/g/a array\n
+never | - | /g | LISTED | none => MissingMetadata: group metadata is missing
+never | g/.zgroup=G2 | /g | G2 | a=A2 => trees:\nchildren:\nall:\n
+must | g/.zgroup=G2 | /g | G2 | a=A2 => trees:\n/g/a A2\nchildren:\n/g/a A2\nall:\n/g/a A2\n
+must | g/.zgroup=G2 g/a/.zarray=A2 | /g | LISTED | none => trees:\n/g/a A2\nchildren:\n/g/a A2\nall:\n/g/a A2\n
 
 # A block stands for the store.
-auto | - | /group | G3 | LEVELS => trees:\n/group/array [10, 10] float32\n/group/subgroup\n  mysubarray [10, 10] float32\nall:\n/group/array array\n/group/subgroup group\n/group/subgroup/mysubarray array\n
-auto | group/x/zarr.json=x | /group | G3 | LEVELS => trees:\n/group/array [10, 10] float32\n/group/subgroup\n  mysubarray [10, 10] float32\nall:\n/group/array array\n/group/subgroup group\n/group/subgroup/mysubarray array\n
-must | - | /group | G3 | LEVELS => trees:\n/group/array [10, 10] float32\n/group/subgroup\n  mysubarray [10, 10] float32\nall:\n/group/array array\n/group/subgroup group\n/group/subgroup/mysubarray array\n
-must | group/x/zarr.json=x | /group | G3 | LEVELS => trees:\n/group/array [10, 10] float32\n/group/subgroup\n  mysubarray [10, 10] float32\nall:\n/group/array array\n/group/subgroup group\n/group/subgroup/mysubarray array\n
-never | - | /group | G3 | LEVELS => trees:\nall:\n
-never | group/other/zarr.json=G3 | /group | G3 | LEVELS => trees:\n/group/other\nall:\n/group/other group\n
+auto | - | /group | G3 | LEVELS => trees:\n/group/array A3_SQUARE\n/group/subgroup G3\n  /group/subgroup/mysubarray A3_SQUARE\nchildren:\n/group/array A3_SQUARE\n/group/subgroup G3\nall:\n/group/array A3_SQUARE\n/group/subgroup G3\n/group/subgroup/mysubarray A3_SQUARE\n
+auto | group/x/zarr.json=NUL | /group | G3 | LEVELS => trees:\n/group/array A3_SQUARE\n/group/subgroup G3\n  /group/subgroup/mysubarray A3_SQUARE\nchildren:\n/group/array A3_SQUARE\n/group/subgroup G3\nall:\n/group/array A3_SQUARE\n/group/subgroup G3\n/group/subgroup/mysubarray A3_SQUARE\n
+must | - | /group | G3 | LEVELS => trees:\n/group/array A3_SQUARE\n/group/subgroup G3\n  /group/subgroup/mysubarray A3_SQUARE\nchildren:\n/group/array A3_SQUARE\n/group/subgroup G3\nall:\n/group/array A3_SQUARE\n/group/subgroup G3\n/group/subgroup/mysubarray A3_SQUARE\n
+must | group/x/zarr.json=NUL | /group | G3 | LEVELS => trees:\n/group/array A3_SQUARE\n/group/subgroup G3\n  /group/subgroup/mysubarray A3_SQUARE\nchildren:\n/group/array A3_SQUARE\n/group/subgroup G3\nall:\n/group/array A3_SQUARE\n/group/subgroup G3\n/group/subgroup/mysubarray A3_SQUARE\n
+never | - | /group | G3 | LEVELS => trees:\nchildren:\nall:\n
+never | group/other/zarr.json=G3 | /group | G3 | LEVELS => trees:\n/group/other G3\nchildren:\n/group/other G3\nall:\n/group/other G3\n
 
 # Keys are paths below the group; the base's own keys, and one that stands below no group.
-auto | - | /group | G3 | =G3 /=G3 foo=A3 sub/leaf=G3 => trees:\n/group/foo [1] float32\nall:\n/group/foo array\n/group/sub/leaf group\n
+auto | - | /group | G3 | =G3 /=G3 foo=A3 sub/leaf=G3 => trees:\n/group/foo A3\nchildren:\n/group/foo A3\nall:\n/group/foo A3\n/group/sub/leaf G3\n
 
 # A key that is no path refuses.
-auto | - | /group | G3 | foo=A3 foo/=G3 => trees:\ninvalid node path invalid node name `` in 'foo/'all:\ninvalid node path invalid node name `` in 'foo/'
-must | - | /group | G3 | foo=A3 foo/=G3 => trees:\ninvalid node path invalid node name `` in 'foo/'all:\ninvalid node path invalid node name `` in 'foo/'
-never | - | /group | G3 | foo=A3 foo/=G3 => trees:\nall:\n
-auto | - | /group | G3 | foo=A3 //foo=G3 => trees:\ninvalid node path invalid node name `` in '/foo'all:\ninvalid node path invalid node name `` in '/foo'
-must | - | /group | G3 | foo=A3 //foo=G3 => trees:\ninvalid node path invalid node name `` in '/foo'all:\ninvalid node path invalid node name `` in '/foo'
-never | - | /group | G3 | foo=A3 //foo=G3 => trees:\nall:\n
-auto | - | /group | G3 | foo=A3 __x=G3 => trees:\ninvalid node path invalid node name `__x` in '__x'all:\ninvalid node path invalid node name `__x` in '__x'
-must | - | /group | G3 | foo=A3 __x=G3 => trees:\ninvalid node path invalid node name `__x` in '__x'all:\ninvalid node path invalid node name `__x` in '__x'
-never | - | /group | G3 | foo=A3 __x=G3 => trees:\nall:\n
-auto | - | /group | G3 | foo=A3 a/..=G3 => trees:\ninvalid node path invalid node name `..` in 'a/..'all:\ninvalid node path invalid node name `..` in 'a/..'
-must | - | /group | G3 | foo=A3 a/..=G3 => trees:\ninvalid node path invalid node name `..` in 'a/..'all:\ninvalid node path invalid node name `..` in 'a/..'
-never | - | /group | G3 | foo=A3 a/..=G3 => trees:\nall:\n
+auto | - | /group | G3 | foo=A3 foo/=G3 => trees:\nNodePathError(Invalid): invalid node path invalid node name `` in 'foo/'children:\nNodePathError(Invalid): invalid node path invalid node name `` in 'foo/'all:\nNodePathError(Invalid): invalid node path invalid node name `` in 'foo/'
+must | - | /group | G3 | foo=A3 foo/=G3 => trees:\nNodePathError(Invalid): invalid node path invalid node name `` in 'foo/'children:\nNodePathError(Invalid): invalid node path invalid node name `` in 'foo/'all:\nNodePathError(Invalid): invalid node path invalid node name `` in 'foo/'
+never | - | /group | G3 | foo=A3 foo/=G3 => trees:\nchildren:\nall:\n
+auto | - | /group | G3 | foo=A3 //foo=G3 => trees:\nNodePathError(Invalid): invalid node path invalid node name `` in '/foo'children:\nNodePathError(Invalid): invalid node path invalid node name `` in '/foo'all:\nNodePathError(Invalid): invalid node path invalid node name `` in '/foo'
+must | - | /group | G3 | foo=A3 //foo=G3 => trees:\nNodePathError(Invalid): invalid node path invalid node name `` in '/foo'children:\nNodePathError(Invalid): invalid node path invalid node name `` in '/foo'all:\nNodePathError(Invalid): invalid node path invalid node name `` in '/foo'
+never | - | /group | G3 | foo=A3 //foo=G3 => trees:\nchildren:\nall:\n
+auto | - | /group | G3 | foo=A3 __x=G3 => trees:\nNodePathError(Invalid): invalid node path invalid node name `__x` in '__x'children:\nNodePathError(Invalid): invalid node path invalid node name `__x` in '__x'all:\nNodePathError(Invalid): invalid node path invalid node name `__x` in '__x'
+must | - | /group | G3 | foo=A3 __x=G3 => trees:\nNodePathError(Invalid): invalid node path invalid node name `__x` in '__x'children:\nNodePathError(Invalid): invalid node path invalid node name `__x` in '__x'all:\nNodePathError(Invalid): invalid node path invalid node name `__x` in '__x'
+never | - | /group | G3 | foo=A3 __x=G3 => trees:\nchildren:\nall:\n
+auto | - | /group | G3 | foo=A3 a/..=G3 => trees:\nNodePathError(Invalid): invalid node path invalid node name `..` in 'a/..'children:\nNodePathError(Invalid): invalid node path invalid node name `..` in 'a/..'all:\nNodePathError(Invalid): invalid node path invalid node name `..` in 'a/..'
+must | - | /group | G3 | foo=A3 a/..=G3 => trees:\nNodePathError(Invalid): invalid node path invalid node name `..` in 'a/..'children:\nNodePathError(Invalid): invalid node path invalid node name `..` in 'a/..'all:\nNodePathError(Invalid): invalid node path invalid node name `..` in 'a/..'
+never | - | /group | G3 | foo=A3 a/..=G3 => trees:\nchildren:\nall:\n
 
 # A key that is no path refuses also beside one that is, and the store is listed where no block is used.
-auto | group/other/zarr.json=G3 | /group | G3 | foo=A3 /foo=A3 //foo=G3 => trees:\ninvalid node path invalid node name `` in '/foo'all:\ninvalid node path invalid node name `` in '/foo'
-must | group/other/zarr.json=G3 | /group | G3 | foo=A3 /foo=A3 //foo=G3 => trees:\ninvalid node path invalid node name `` in '/foo'all:\ninvalid node path invalid node name `` in '/foo'
-never | group/other/zarr.json=G3 | /group | G3 | foo=A3 /foo=A3 //foo=G3 => trees:\n/group/other\nall:\n/group/other group\n
-auto | group/other/zarr.json=G3 | /group | G3 | __x=G3 => trees:\ninvalid node path invalid node name `__x` in '__x'all:\ninvalid node path invalid node name `__x` in '__x'
-must | group/other/zarr.json=G3 | /group | G3 | __x=G3 => trees:\ninvalid node path invalid node name `__x` in '__x'all:\ninvalid node path invalid node name `__x` in '__x'
-never | group/other/zarr.json=G3 | /group | G3 | __x=G3 => trees:\n/group/other\nall:\n/group/other group\n
-auto | group/other/zarr.json=G3 | /group | G3 | a/..=G3 => trees:\ninvalid node path invalid node name `..` in 'a/..'all:\ninvalid node path invalid node name `..` in 'a/..'
-must | group/other/zarr.json=G3 | /group | G3 | a/..=G3 => trees:\ninvalid node path invalid node name `..` in 'a/..'all:\ninvalid node path invalid node name `..` in 'a/..'
-never | group/other/zarr.json=G3 | /group | G3 | a/..=G3 => trees:\n/group/other\nall:\n/group/other group\n
+auto | group/other/zarr.json=G3 | /group | G3 | foo=A3 /foo=A3 //foo=G3 => trees:\nNodePathError(Invalid): invalid node path invalid node name `` in '/foo'children:\nNodePathError(Invalid): invalid node path invalid node name `` in '/foo'all:\nNodePathError(Invalid): invalid node path invalid node name `` in '/foo'
+must | group/other/zarr.json=G3 | /group | G3 | foo=A3 /foo=A3 //foo=G3 => trees:\nNodePathError(Invalid): invalid node path invalid node name `` in '/foo'children:\nNodePathError(Invalid): invalid node path invalid node name `` in '/foo'all:\nNodePathError(Invalid): invalid node path invalid node name `` in '/foo'
+never | group/other/zarr.json=G3 | /group | G3 | foo=A3 /foo=A3 //foo=G3 => trees:\n/group/other G3\nchildren:\n/group/other G3\nall:\n/group/other G3\n
+auto | group/other/zarr.json=G3 | /group | G3 | __x=G3 => trees:\nNodePathError(Invalid): invalid node path invalid node name `__x` in '__x'children:\nNodePathError(Invalid): invalid node path invalid node name `__x` in '__x'all:\nNodePathError(Invalid): invalid node path invalid node name `__x` in '__x'
+must | group/other/zarr.json=G3 | /group | G3 | __x=G3 => trees:\nNodePathError(Invalid): invalid node path invalid node name `__x` in '__x'children:\nNodePathError(Invalid): invalid node path invalid node name `__x` in '__x'all:\nNodePathError(Invalid): invalid node path invalid node name `__x` in '__x'
+never | group/other/zarr.json=G3 | /group | G3 | __x=G3 => trees:\n/group/other G3\nchildren:\n/group/other G3\nall:\n/group/other G3\n
+auto | group/other/zarr.json=G3 | /group | G3 | a/..=G3 => trees:\nNodePathError(Invalid): invalid node path invalid node name `..` in 'a/..'children:\nNodePathError(Invalid): invalid node path invalid node name `..` in 'a/..'all:\nNodePathError(Invalid): invalid node path invalid node name `..` in 'a/..'
+must | group/other/zarr.json=G3 | /group | G3 | a/..=G3 => trees:\nNodePathError(Invalid): invalid node path invalid node name `..` in 'a/..'children:\nNodePathError(Invalid): invalid node path invalid node name `..` in 'a/..'all:\nNodePathError(Invalid): invalid node path invalid node name `..` in 'a/..'
+never | group/other/zarr.json=G3 | /group | G3 | a/..=G3 => trees:\n/group/other G3\nchildren:\n/group/other G3\nall:\n/group/other G3\n
 
-# The key without a slash counts.
-trees | - | / | G3 | -x=A3 /-x=SQUARE => /-x [1] float32\n
-children | - | / | G3 | -x=A3 /-x=SQUARE => /-x [1] float32\n
-trees | - | / | G3 | -x=A3 /-x={"chunk_grid":{"configuration":{"chunk_shape":[2]},"name":"regular"},"chunk_key_encoding":{"configuration":{"separator":"/"},"name":"default"},"codecs":[{"configuration":{"endian":"little"},"name":"bytes"}],"data_type":"float32","fill_value":0,"node_type":"array","shape":[2],"zarr_format":3} => /-x [1] float32\n
-children | - | / | G3 | -x=A3 /-x={"chunk_grid":{"configuration":{"chunk_shape":[2]},"name":"regular"},"chunk_key_encoding":{"configuration":{"separator":"/"},"name":"default"},"codecs":[{"configuration":{"endian":"little"},"name":"bytes"}],"data_type":"float32","fill_value":0,"node_type":"array","shape":[2],"zarr_format":3} => /-x [1] float32\n
-documents | - | / | G3 | -x=A3 /-x={"chunk_grid":{"configuration":{"chunk_shape":[2]},"name":"regular"},"chunk_key_encoding":{"configuration":{"separator":"/"},"name":"default"},"codecs":[{"configuration":{"endian":"little"},"name":"bytes"}],"data_type":"float32","fill_value":0,"node_type":"array","shape":[2],"zarr_format":3} => {"chunk_grid":{"configuration":{"chunk_shape":[1]},"name":"regular"},"chunk_key_encoding":{"configuration":{"separator":"/"},"name":"default"},"codecs":[{"configuration":{"endian":"little"},"name":"bytes"}],"data_type":"float32","fill_value":0,"node_type":"array","shape":[1],"zarr_format":3}
-documents | - | / | G3 | -x=A3 /-x=SQUARE => {"chunk_grid":{"configuration":{"chunk_shape":[1]},"name":"regular"},"chunk_key_encoding":{"configuration":{"separator":"/"},"name":"default"},"codecs":[{"configuration":{"endian":"little"},"name":"bytes"}],"data_type":"float32","fill_value":0,"node_type":"array","shape":[1],"zarr_format":3}
+# Of two spellings the one without the slash counts.
+auto | - | / | G3 | -x=A3 /-x=A3_SQUARE => trees:\n/-x A3\nchildren:\n/-x A3\nall:\n/-x A3\n
+auto | - | / | G3 | -x=A3 /-x={"chunk_grid":{"configuration":{"chunk_shape":[2]},"name":"regular"},"chunk_key_encoding":{"configuration":{"separator":"/"},"name":"default"},"codecs":[{"configuration":{"endian":"little"},"name":"bytes"}],"data_type":"float32","fill_value":0,"node_type":"array","shape":[2],"zarr_format":3} => trees:\n/-x A3\nchildren:\n/-x A3\nall:\n/-x A3\n
 
 # Entries below no group are traversed and are no children.
-auto | - | / | G3 | a=A3 a/y=G3 q/r=G3 => trees:\n/a [1] float32\nall:\n/a array\n/a/y group\n/q/r group\n
+auto | - | / | G3 | a=A3 a/y=G3 q/r=G3 => trees:\n/a A3\nchildren:\n/a A3\nall:\n/a A3\n/a/y G3\n/q/r G3\n
+must | - | /g | G2 | x/y=G2 => trees:\nchildren:\nall:\n/g/x/y G2\n
 
-must | - | /g | OLD | x/y=G2 => trees:\nall:\n/g/x/y group\n
+# So it is in the block beside a version 2 group that is opened, where attributes and chunks alone are no nodes.
+auto | g/.zgroup=G2 g/.zmetadata={"metadata":{"x/y/.zgroup":{"zarr_format":2}},"zarr_consolidated_format":1} | /g | OPENED | none => trees:\nchildren:\nall:\n/g/x/y G2\n
+must | g/.zgroup=G2 g/.zmetadata={"metadata":{"x/y/.zgroup":{"zarr_format":2}},"zarr_consolidated_format":1} | /g | OPENED | none => trees:\nchildren:\nall:\n/g/x/y G2\n
+must | g/.zgroup=G2 g/.zmetadata={"metadata":{"a/.zattrs":{}},"zarr_consolidated_format":1} | /g | OPENED | none => trees:\nchildren:\nall:\n
+must | g/.zgroup=G2 g/.zmetadata={"metadata":{"a/0.0":{}},"zarr_consolidated_format":1} | /g | OPENED | none => trees:\nchildren:\nall:\n
+must | g/.zgroup=G2 g/.zmetadata={"metadata":{"a/.zgroup":{"zarr_format":2},"a/.zattrs":{"k":1}},"zarr_consolidated_format":1} | /g | OPENED | none => trees:\n/g/a {"attributes":{"k":1},"zarr_format":2}\nchildren:\n/g/a {"attributes":{"k":1},"zarr_format":2}\nall:\n/g/a {"attributes":{"k":1},"zarr_format":2}\n
+never | g/.zgroup=G2 g/.zmetadata={"metadata":{"x/y/.zgroup":{"zarr_format":2}},"zarr_consolidated_format":1} | /g | OPENED | none => trees:\nchildren:\nall:\n
 
 # Without a block the store is listed.
-auto | THREE_LEVELS | /group | G3 | - => trees:\n/group/array [10, 10] float32\n/group/subgroup\n  mysubarray [10, 10] float32\nall:\n/group/array array\n/group/subgroup group\n/group/subgroup/mysubarray array\n
-never | THREE_LEVELS | /group | G3 | - => trees:\n/group/array [10, 10] float32\n/group/subgroup\n  mysubarray [10, 10] float32\nall:\n/group/array array\n/group/subgroup group\n/group/subgroup/mysubarray array\n
-auto | group/zarr.json=G3 group/a/zarr.json=x | /group | G3 | - => trees:\nerror parsing metadata for group/a/zarr.json: not JSONall:\nerror parsing metadata for group/a/zarr.json: not JSON
+auto | THREE_LEVELS | /group | G3 | none => trees:\n/group/array A3_SQUARE\n/group/subgroup G3\n  /group/subgroup/mysubarray A3_SQUARE\nchildren:\n/group/array A3_SQUARE\n/group/subgroup G3\nall:\n/group/array A3_SQUARE\n/group/subgroup G3\n/group/subgroup/mysubarray A3_SQUARE\n
+never | THREE_LEVELS | /group | G3 | none => trees:\n/group/array A3_SQUARE\n/group/subgroup G3\n  /group/subgroup/mysubarray A3_SQUARE\nchildren:\n/group/array A3_SQUARE\n/group/subgroup G3\nall:\n/group/array A3_SQUARE\n/group/subgroup G3\n/group/subgroup/mysubarray A3_SQUARE\n
+auto | group/zarr.json=G3 group/a/zarr.json=NUL | /group | G3 | none => trees:\nStorageError(InvalidMetadata): error parsing metadata for group/a/zarr.json: not JSONchildren:\nStorageError(InvalidMetadata): error parsing metadata for group/a/zarr.json: not JSONall:\nStorageError(InvalidMetadata): error parsing metadata for group/a/zarr.json: not JSON
 
 # A block that has to be used and is not there refuses.
-must | THREE_LEVELS | / | OLD | - => trees:\nMetadata is missing for Consolidated metadata required but missing on group /all:\nMetadata is missing for Consolidated metadata required but missing on group /
-must | THREE_LEVELS | / | G3 | - => trees:\nMetadata is missing for Consolidated metadata required but missing on group /all:\nMetadata is missing for Consolidated metadata required but missing on group /
+must | THREE_LEVELS | / | G2 | none => trees:\nMissingMetadata: Metadata is missing for Consolidated metadata required but missing on group /children:\nMissingMetadata: Metadata is missing for Consolidated metadata required but missing on group /all:\nMissingMetadata: Metadata is missing for Consolidated metadata required but missing on group /
+must | THREE_LEVELS | / | G3 | none => trees:\nMissingMetadata: Metadata is missing for Consolidated metadata required but missing on group /children:\nMissingMetadata: Metadata is missing for Consolidated metadata required but missing on group /all:\nMissingMetadata: Metadata is missing for Consolidated metadata required but missing on group /
 
 # A listing warns and a block does not.
-children warned | root/fakenode/content/zarr.json=NUL | /root | G3 | - => warned: [WARN  zarrs_node::children] Object at /root/fakenode is not recognized as a component of a Zarr hierarchy. Ignoring.\n
-traversal warned | root/fakenode/content/zarr.json=NUL | /root | G3 | - => warned: [WARN  zarrs_node::children] Object at /root/fakenode is not recognized as a component of a Zarr hierarchy. Ignoring.\n
-children warned | root/fakenode/content/zarr.json=NUL | /root | G3 | a=G3 => /root/a\nwarned: 
-traversal warned | root/fakenode/content/zarr.json=NUL | /root | G3 | a=G3 => /root/a group\nwarned: 
+children warned | root/fakenode/content/zarr.json=NUL | /root | G3 | none => warned: [WARN  zarrs_node::children] Object at /root/fakenode is not recognized as a component of a Zarr hierarchy. Ignoring.\n
+traversal warned | root/fakenode/content/zarr.json=NUL | /root | G3 | none => warned: [WARN  zarrs_node::children] Object at /root/fakenode is not recognized as a component of a Zarr hierarchy. Ignoring.\n
+children warned | root/fakenode/content/zarr.json=NUL | /root | G3 | a=G3 => /root/a G3\n
+traversal warned | root/fakenode/content/zarr.json=NUL | /root | G3 | a=G3 => /root/a G3\n
 
 # Children by their kinds.
 kinds | - | /group | G3 | =G3 /=G3 foo=A3 sub/leaf=G3 => all:\n/group/foo\ngroups:\narrays:\n/group/foo\n
-kinds | THREE_LEVELS | / | G3 | - => all:\n/array\n/group\ngroups:\n/group\narrays:\n/array\n
+kinds | THREE_LEVELS | / | G3 | none => all:\n/array\n/group\ngroups:\n/group\narrays:\n/array\n
 kinds | - | /group | G3 | LEVELS => all:\n/group/array\n/group/subgroup\ngroups:\n/group/subgroup\narrays:\n/group/array\n
 
-# A refusal of the children is handed on.
-kinds | - | /group | G3 | foo/=G3 => all:\ninvalid node path invalid node name `` in 'foo/'groups:\ninvalid node path invalid node name `` in 'foo/'arrays:\ninvalid node path invalid node name `` in 'foo/'
-groups | - | /group | G3 | foo/=G3 => other: invalid node path invalid node name `` in 'foo/'
+# A refusal of the children is handed on; as that of a group with the text of it.
+kinds | - | /group | G3 | foo/=G3 => all:\nNodePathError(Invalid): invalid node path invalid node name `` in 'foo/'groups:\nNodePathError(Invalid): invalid node path invalid node name `` in 'foo/'arrays:\nNodePathError(Invalid): invalid node path invalid node name `` in 'foo/'
+groups | - | /group | G3 | foo/=G3 => StorageError(Other): invalid node path invalid node name `` in 'foo/'
 
-# The groups among the children.
-groups | zarr.json=G3 b/zarr.json=OTHERS a/.zgroup=G2 c/zarr.json=A3 b/x/zarr.json=G3 | / | G3 | - => group at /a with metadata {"zarr_format":2}\ngroup at /b with metadata {"attributes":{"k":1},"b":{"must_understand":false},"node_type":"group","z":1,"zarr_format":3}\n
+# The groups among the children hold no block.
+groups | zarr.json=G3 b/zarr.json={"attributes":{"k":1},"b":{"must_understand":false},"node_type":"group","z":1,"zarr_format":3} a/.zgroup=G2 a/.zmetadata={"metadata":{"c/.zgroup":{"zarr_format":2}},"zarr_consolidated_format":1} c/zarr.json=A3 b/x/zarr.json=G3 | / | G3 | none => group at /a with metadata {"zarr_format":2}\ngroup at /b with metadata {"attributes":{"k":1},"b":{"must_understand":false},"node_type":"group","z":1,"zarr_format":3}\n
 "#;
 
 #[test]
@@ -666,45 +387,160 @@ fn groups_say_what_stands_below(rt: HostRuntime) -> Result<(), Fail> {
     check_rows(rt.alloc(), LOOKED, looked)
 }
 
-// ---- with each allocation refused in turn a block is set, or the call is out of memory and the group stays
+// ---- stored blocks
 
-// A group after a block was set; where that was refused, the refusal and the group.
-fn set_text(set: &Set, alloc: Global) -> Result<String, AllocError> {
-    let group = set.0.to_text(alloc)?;
-    match &set.1 {
-        Ok(()) => Ok(group),
-        Err(error) => format!(in alloc; "{error}: {group}"),
+// Whether a key is in a list of them.
+fn has_key(keys: &str, key: &StoreKey) -> bool {
+    for kept in keys.split(' ') {
+        if kept == key.as_str() {
+            return true;
+        }
+    }
+    false
+}
+
+// The store with only these of its keys; with all of them for `all`.
+fn keep(alloc: Global, store: &mut MemoryStore, keys: &str) -> Result<(), StorageError> {
+    for key in store.list(alloc)? {
+        if keys != "all" && !has_key(keys, &key) {
+            store.erase(&key)?;
+        }
+    }
+    Ok(())
+}
+
+// The group of a row over a store, which is then stored there; of the store's keys only these are kept.
+fn kept_in(
+    alloc: Global,
+    store: &mut MemoryStore,
+    keys: &str,
+    given: &str,
+) -> Result<Group, GroupCreateError> {
+    let group = group_in(alloc, store, given)?;
+    group.store_metadata(alloc, store)?;
+    keep(alloc, store, keys)?;
+    Ok(group)
+}
+
+// What is seen by a policy of a group, of what is opened at its path, or of the store.
+fn kept_text(
+    group: &Group,
+    alloc: Global,
+    store: &MemoryStore,
+    look: &str,
+    policy: UseConsolidatedMetadata,
+) -> Result<String, AllocError> {
+    let config = config_of(policy);
+    let path = group.path().as_str();
+    match look {
+        "held" => said(alloc, held_text(alloc, store), printed),
+        "children" => {
+            let nodes = group.children(&Discard, alloc, store, &config, true);
+            said(alloc, nodes, forest_text)
+        }
+        "node" => {
+            let node = Node::open(&Discard, alloc, store, path, &config);
+            said(alloc, node, node_text)
+        }
+        "tree" => {
+            let node = Node::open(&Discard, alloc, store, path, &config);
+            said(alloc, node, Node::hierarchy_tree)
+        }
+        "opened" => said(alloc, Group::open(alloc, store, path, &config), group_text),
+        "opened children" => said(
+            alloc,
+            Group::open(alloc, store, path, &config),
+            |group: &Group, alloc| kept_text(group, alloc, store, "children", policy),
+        ),
+        word => format!(in alloc; "no such word: {word}"),
     }
 }
 
+// What is seen of a group that is stored, and of its store of which some keys are kept.
+// `LIST | KEYS | LOOK | POLICY | PATH | DOCUMENT | LIST`.
+fn kept(alloc: Global, given: &str) -> Result<String, StorageError> {
+    let (list, rest) = fields(given);
+    let (keys, rest) = fields(rest);
+    let (look, rest) = fields(rest);
+    let (policy, group) = fields(rest);
+    let policy = policy_of(alloc, policy)?;
+    let mut store = store_in(alloc, list)?;
+    match kept_in(alloc, &mut store, keys, group) {
+        Ok(group) => Ok(kept_text(&group, alloc, &store, look, policy)?),
+        Err(error) => Ok(refusal(alloc, &error)?),
+    }
+}
+
+// The documents of a store, the keys that are kept once the group of a row is stored there, what is seen then, and by which policy.
+const KEPT: &str = r#"
+# The block of a listed group stands for a store that was emptied.
+THREE_LEVELS | nothing | children | auto | /group | LISTED | none => /group/array A3_SQUARE\n/group/subgroup G3\n  /group/subgroup/mysubarray A3_SQUARE\n
+THREE_LEVELS | nothing | children | must | /group | LISTED | none => /group/array A3_SQUARE\n/group/subgroup G3\n  /group/subgroup/mysubarray A3_SQUARE\n
+THREE_LEVELS | nothing | children | never | /group | LISTED | none =>
+
+# It stands for a store of which only the group's own document is left.
+THREE_LEVELS | group/zarr.json | node | auto | /group | LISTED | none => /group {"consolidated_metadata":{"kind":"inline","metadata":{"array":{"chunk_grid":{"configuration":{"chunk_shape":[10,10]},"name":"regular"},"chunk_key_encoding":{"configuration":{"separator":"/"},"name":"default"},"codecs":[{"configuration":{"endian":"little"},"name":"bytes"}],"data_type":"float32","fill_value":0,"node_type":"array","shape":[10,10],"zarr_format":3},"subgroup":{"node_type":"group","zarr_format":3},"subgroup/mysubarray":{"chunk_grid":{"configuration":{"chunk_shape":[10,10]},"name":"regular"},"chunk_key_encoding":{"configuration":{"separator":"/"},"name":"default"},"codecs":[{"configuration":{"endian":"little"},"name":"bytes"}],"data_type":"float32","fill_value":0,"node_type":"array","shape":[10,10],"zarr_format":3}},"must_understand":false},"node_type":"group","zarr_format":3}\n  /group/array A3_SQUARE\n  /group/subgroup G3\n    /group/subgroup/mysubarray A3_SQUARE\n
+THREE_LEVELS | group/zarr.json | node | must | /group | LISTED | none => /group {"consolidated_metadata":{"kind":"inline","metadata":{"array":{"chunk_grid":{"configuration":{"chunk_shape":[10,10]},"name":"regular"},"chunk_key_encoding":{"configuration":{"separator":"/"},"name":"default"},"codecs":[{"configuration":{"endian":"little"},"name":"bytes"}],"data_type":"float32","fill_value":0,"node_type":"array","shape":[10,10],"zarr_format":3},"subgroup":{"node_type":"group","zarr_format":3},"subgroup/mysubarray":{"chunk_grid":{"configuration":{"chunk_shape":[10,10]},"name":"regular"},"chunk_key_encoding":{"configuration":{"separator":"/"},"name":"default"},"codecs":[{"configuration":{"endian":"little"},"name":"bytes"}],"data_type":"float32","fill_value":0,"node_type":"array","shape":[10,10],"zarr_format":3}},"must_understand":false},"node_type":"group","zarr_format":3}\n  /group/array A3_SQUARE\n  /group/subgroup G3\n    /group/subgroup/mysubarray A3_SQUARE\n
+THREE_LEVELS | group/zarr.json | node | never | /group | LISTED | none => /group {"consolidated_metadata":{"kind":"inline","metadata":{"array":{"chunk_grid":{"configuration":{"chunk_shape":[10,10]},"name":"regular"},"chunk_key_encoding":{"configuration":{"separator":"/"},"name":"default"},"codecs":[{"configuration":{"endian":"little"},"name":"bytes"}],"data_type":"float32","fill_value":0,"node_type":"array","shape":[10,10],"zarr_format":3},"subgroup":{"node_type":"group","zarr_format":3},"subgroup/mysubarray":{"chunk_grid":{"configuration":{"chunk_shape":[10,10]},"name":"regular"},"chunk_key_encoding":{"configuration":{"separator":"/"},"name":"default"},"codecs":[{"configuration":{"endian":"little"},"name":"bytes"}],"data_type":"float32","fill_value":0,"node_type":"array","shape":[10,10],"zarr_format":3}},"must_understand":false},"node_type":"group","zarr_format":3}\n
+
+# The block of a listed version 2 group is stored as `.zmetadata`.
+g/.zgroup=G2 g/a/.zarray=A2 | all | held | auto | /g | LISTED | none => g/.zgroup {\n  "zarr_format": 2\n}\ng/.zmetadata {\n  "metadata": {\n    ".zgroup": {\n      "zarr_format": 2\n    },\n    "a/.zarray": {\n      "chunks": [\n        1\n      ],\n      "compressor": null,\n      "dimension_separator": ".",\n      "dtype": "<f8",\n      "fill_value": "NaN",\n      "filters": null,\n      "order": "C",\n      "shape": [\n        1\n      ],\n      "zarr_format": 2\n    }\n  },\n  "zarr_consolidated_format": 1\n}\ng/a/.zarray {"chunks":[1],"compressor":null,"dtype":"<f8","fill_value":"NaN","filters":null,"order":"C","shape":[1],"zarr_format":2}\n
+g/.zgroup=G2 g/a/.zarray=A2 | all | held | auto | /g | G2 | none => g/.zgroup {\n  "zarr_format": 2\n}\ng/a/.zarray {"chunks":[1],"compressor":null,"dtype":"<f8","fill_value":"NaN","filters":null,"order":"C","shape":[1],"zarr_format":2}\n
+- | all | held | auto | /g | G2 | none => g/.zgroup {\n  "zarr_format": 2\n}\n
+
+# It stands for the array that was erased.
+g/.zgroup=G2 g/a/.zarray=A2 | g/.zgroup g/.zmetadata | tree | auto | /g | LISTED | none => /\n  a [1] Simple("<f8")\n
+g/.zgroup=G2 g/a/.zarray=A2 | g/.zgroup g/.zmetadata | tree | must | /g | LISTED | none => /\n  a [1] Simple("<f8")\n
+g/.zgroup=G2 g/a/.zarray=A2 | g/.zgroup g/.zmetadata | tree | never | /g | LISTED | none => /\n
+g/.zgroup=G2 g/a/.zarray=A2 | g/.zgroup g/.zmetadata | node | must | /g | LISTED | none => /g G2\n  /g/a A2\n
+g/.zgroup=G2 g/a/.zarray=A2 | g/.zgroup g/.zmetadata | opened | auto | /g | LISTED | none => group at /g with metadata {"zarr_format":2} and the block {"kind":"inline","metadata":{"a":{"chunks":[1],"compressor":null,"dimension_separator":".","dtype":"<f8","fill_value":"NaN","filters":null,"order":"C","shape":[1],"zarr_format":2}},"must_understand":false}
+
+# A block that was set need not be understood.
+- | all | opened | auto | / | G3 | - => group at / with metadata {"consolidated_metadata":{"kind":"inline","metadata":{},"must_understand":false},"node_type":"group","zarr_format":3} and the block {"kind":"inline","metadata":{},"must_understand":false}
+
+# A stored group is opened with its block.
+- | all | opened children | auto | /group | G3 | LEVELS => /group/array A3_SQUARE\n/group/subgroup G3\n  /group/subgroup/mysubarray A3_SQUARE\n
+- | all | opened children | must | /group | G3 | LEVELS => /group/array A3_SQUARE\n/group/subgroup G3\n  /group/subgroup/mysubarray A3_SQUARE\n
+- | all | opened children | never | /group | G3 | LEVELS =>
+
+# So is the node at its path, where nothing else is stored.
+- | all | node | auto | /group | G3 | LEVELS => /group {"consolidated_metadata":{"kind":"inline","metadata":{"array":{"chunk_grid":{"configuration":{"chunk_shape":[10,10]},"name":"regular"},"chunk_key_encoding":{"configuration":{"separator":"/"},"name":"default"},"codecs":[{"configuration":{"endian":"little"},"name":"bytes"}],"data_type":"float32","fill_value":0,"node_type":"array","shape":[10,10],"zarr_format":3},"subgroup":{"node_type":"group","zarr_format":3},"subgroup/mysubarray":{"chunk_grid":{"configuration":{"chunk_shape":[10,10]},"name":"regular"},"chunk_key_encoding":{"configuration":{"separator":"/"},"name":"default"},"codecs":[{"configuration":{"endian":"little"},"name":"bytes"}],"data_type":"float32","fill_value":0,"node_type":"array","shape":[10,10],"zarr_format":3}},"must_understand":false},"node_type":"group","zarr_format":3}\n  /group/array A3_SQUARE\n  /group/subgroup G3\n    /group/subgroup/mysubarray A3_SQUARE\n
+- | all | node | must | /group | G3 | LEVELS => /group {"consolidated_metadata":{"kind":"inline","metadata":{"array":{"chunk_grid":{"configuration":{"chunk_shape":[10,10]},"name":"regular"},"chunk_key_encoding":{"configuration":{"separator":"/"},"name":"default"},"codecs":[{"configuration":{"endian":"little"},"name":"bytes"}],"data_type":"float32","fill_value":0,"node_type":"array","shape":[10,10],"zarr_format":3},"subgroup":{"node_type":"group","zarr_format":3},"subgroup/mysubarray":{"chunk_grid":{"configuration":{"chunk_shape":[10,10]},"name":"regular"},"chunk_key_encoding":{"configuration":{"separator":"/"},"name":"default"},"codecs":[{"configuration":{"endian":"little"},"name":"bytes"}],"data_type":"float32","fill_value":0,"node_type":"array","shape":[10,10],"zarr_format":3}},"must_understand":false},"node_type":"group","zarr_format":3}\n  /group/array A3_SQUARE\n  /group/subgroup G3\n    /group/subgroup/mysubarray A3_SQUARE\n
+- | all | node | never | /group | G3 | LEVELS => /group {"consolidated_metadata":{"kind":"inline","metadata":{"array":{"chunk_grid":{"configuration":{"chunk_shape":[10,10]},"name":"regular"},"chunk_key_encoding":{"configuration":{"separator":"/"},"name":"default"},"codecs":[{"configuration":{"endian":"little"},"name":"bytes"}],"data_type":"float32","fill_value":0,"node_type":"array","shape":[10,10],"zarr_format":3},"subgroup":{"node_type":"group","zarr_format":3},"subgroup/mysubarray":{"chunk_grid":{"configuration":{"chunk_shape":[10,10]},"name":"regular"},"chunk_key_encoding":{"configuration":{"separator":"/"},"name":"default"},"codecs":[{"configuration":{"endian":"little"},"name":"bytes"}],"data_type":"float32","fill_value":0,"node_type":"array","shape":[10,10],"zarr_format":3}},"must_understand":false},"node_type":"group","zarr_format":3}\n
+"#;
+
+#[test]
+fn stored_blocks_stand_for_what_was_erased(rt: HostRuntime) -> Result<(), Fail> {
+    check_rows(rt.alloc(), KEPT, kept)
+}
+
+// ---- with each allocation refused in turn a block is set, or the call is out of memory and the group stays
+
 // The text of the group of three levels with its block.
 fn levels_text(alloc: Global) -> Result<String, AllocError> {
+    let block = format!(in alloc;
+        r#"{{"kind":"inline","metadata":{{"array":{A3_SQUARE},"subgroup":{G3},"subgroup/mysubarray":{A3_SQUARE}}},"must_understand":false}}"#
+    )?;
     format!(in alloc;
-        r#"group at /group with metadata {{"consolidated_metadata":{{"kind":"inline","metadata":{{"array":{A3_SQUARE},"subgroup":{G3},"subgroup/mysubarray":{A3_SQUARE}}},"must_understand":false}},"node_type":"group","zarr_format":3}}"#
+        r#"group at /group with metadata {{"consolidated_metadata":{block},"node_type":"group","zarr_format":3}} and the block {block}"#
     )
 }
 
 // The text of that group where its block was refused, which leaves it as it was.
 const NOT_SET: &str =
-    r#"out of memory: group at /group with metadata {"node_type":"group","zarr_format":3}"#;
-
-fn is_same(found: &str, wanted: &str) -> Result<(), Fail> {
-    if found == wanted {
-        Ok(())
-    } else {
-        Err(Fail::new(format_args!("found {found} in place of {wanted}")))
-    }
-}
+    r#"OutOfMemory: out of memory: group at /group with metadata {"node_type":"group","zarr_format":3}"#;
 
 #[test]
 fn memory_fails_in_setting_a_block(rt: HostRuntime) -> Result<(), Fail> {
     let alloc = rt.alloc();
     let wanted = levels_text(alloc)?;
-    let set = set_in(alloc, group_of(alloc, "/group", G3), &LEVELS);
+    let set = set_of(alloc, group_of(alloc, "/group", G3), "LEVELS");
     let found = said(alloc, set, set_text)?;
-    if found.as_str() == NOT_SET || found.as_str() == "out of memory" {
+    if found.as_str() == wanted.as_str() {
+        Ok(())
+    } else if found.as_str() == NOT_SET || is_out_of_memory(found.as_str()) {
         Err(Fail::from(AllocError))
     } else {
-        is_same(found.as_str(), wanted.as_str())
+        Err(Fail::new(format_args!("found {found} in place of {wanted}")))
     }
 }

@@ -1,137 +1,38 @@
 //! Groups that are made, opened, stored and erased. Each helper holds a group and answers a text; the tests are tables of texts.
 
-use crate::rows::store_in;
+use log::sink::Discard;
 use serde_json::{Map, Value};
 use std::alloc::{AllocError, Global};
 use std::test::Fail;
-use tests_fixtures::{config_of as config_by, no_word, policy_of, version_of};
-use tests_group_fixtures::{Step, done};
-use tests_support::{check_rows, fields};
-use zarrs_block::NodeCreateError;
-use zarrs_config::{Config, GroupMetadataOptions, MetadataConvertVersion, MetadataEraseVersion};
+use tests_fixtures::{
+    config_of as config_by, document_of, no_word, node_text, pairs_text, policy_of, version_of,
+};
+use tests_group_fixtures::{Step, built_in, done, group_text, held_text, refused, store_in};
+use tests_support::{check_rows, fields, printed, refusal, said};
+use zarrs_block::{NodeCreateError, resolve_consolidated_policy};
+use zarrs_config::{
+    Config, GroupMetadataOptions, MetadataConvertVersion, MetadataEraseVersion,
+    UseConsolidatedMetadata,
+};
 use zarrs_group::{AdditionalFieldUnsupportedError, Group, GroupBuilder, GroupCreateError, laws};
 use zarrs_meta::{
     AdditionalFieldV3, AdditionalFieldsV3, GroupMetadata, GroupMetadataV2, GroupMetadataV3, Object,
 };
+use zarrs_node::Node;
 use zarrs_path::{NodePath, NodePathError};
-use zarrs_store::{
-    MemoryStore, ReadableStorageTraits, StorageError, StoreKey, StorePrefix, WritableStorageTraits,
-};
-
-const TWO: &str = r#"{
-  "zarr_format": 2
-}"#;
-
-const THREE: &str = r#"{
-  "node_type": "group",
-  "zarr_format": 3
-}"#;
-
-const K_STORED: &str = r#"{
-  "k": 1
-}"#;
-
-const THREE_K: &str = r#"{
-  "attributes": {
-    "k": 1
-  },
-  "node_type": "group",
-  "zarr_format": 3
-}"#;
-
-// The name of a stored document, or the text as it is.
-fn name_of(text: &str) -> &str {
-    if text == TWO {
-        "two"
-    } else if text == THREE {
-        "three"
-    } else if text == K_STORED {
-        "k"
-    } else if text == THREE_K {
-        "three k"
-    } else {
-        text
-    }
-}
-
-// The stored document that a name is of, or the text as it is; no text for `-`.
-fn text_named(name: &str) -> &str {
-    match name {
-        "two" => TWO,
-        "three" => THREE,
-        "k" => K_STORED,
-        "three k" => THREE_K,
-        "-" => "",
-        text => text,
-    }
-}
-
-// ---- stores
-
-const KEYS: [&str; 5] = [
-    "g/zarr.json",
-    "g/.zgroup",
-    "g/.zattrs",
-    "g/.zarray",
-    "g/.zmetadata",
-];
-
-// The store with the texts that these names, each with a period, are of at the keys; nothing where memory was refused.
-fn filled(alloc: Global, names: &str) -> Option<MemoryStore> {
-    let mut store = MemoryStore::new(alloc);
-    for (key, name) in KEYS.iter().zip(names.split('.')) {
-        let text = text_named(name);
-        if !text.is_empty() {
-            let key = StoreKey::new(alloc, key).ok()?;
-            store.set(&key, text.as_bytes()).ok()?;
-        }
-    }
-    Some(store)
-}
-
-fn store_of(alloc: Global, names: &str) -> Result<MemoryStore, GroupCreateError> {
-    match filled(alloc, names) {
-        Some(store) => Ok(store),
-        None => Err(GroupCreateError::OutOfMemory),
-    }
-}
-
-// What the store holds at a key, by the name of a stored document, and `-` where it holds nothing.
-fn push_seen(alloc: Global, store: &MemoryStore, key: &str, all: &mut String) -> Option<()> {
-    let key = StoreKey::new(alloc, key).ok()?;
-    match store.get(alloc, &key).ok()? {
-        Some(bytes) => all
-            .push_str(name_of(String::from_utf8(bytes).ok()?.as_str()))
-            .ok(),
-        None => all.push_str("-").ok(),
-    }
-}
-
-// What the store holds at the keys, each with a period; nothing where memory was refused for the look.
-fn seen(alloc: Global, store: &MemoryStore) -> Option<String> {
-    let mut all = String::new(alloc);
-    for key in KEYS {
-        push_seen(alloc, store, key, &mut all)?;
-        all.push_str(".").ok()?;
-    }
-    Some(all)
-}
-
-fn held(alloc: Global, store: &MemoryStore) -> Result<String, GroupCreateError> {
-    match seen(alloc, store) {
-        Some(all) => Ok(all),
-        None => Err(GroupCreateError::OutOfMemory),
-    }
-}
+use zarrs_store::{MemoryStore, StorageError, StorePrefix};
 
 // ---- groups
 
 fn members(alloc: Global, text: &str) -> Result<Map<String, Value>, GroupCreateError> {
     match Value::from_str(alloc, text) {
         Ok(Value::Object(members)) => Ok(members),
-        Ok(_) => Ok(Map::new(alloc)),
-        Err(_) => Err(GroupCreateError::OutOfMemory),
+        _ => Err(GroupCreateError::from(no_word(alloc, text))),
     }
+}
+
+fn object_of(alloc: Global, text: &str) -> Result<Object, GroupCreateError> {
+    Ok(Object::from_map(alloc, members(alloc, text)?)?)
 }
 
 fn other_fields(alloc: Global, text: &str) -> Result<AdditionalFieldsV3, GroupCreateError> {
@@ -146,8 +47,8 @@ fn other_fields(alloc: Global, text: &str) -> Result<AdditionalFieldsV3, GroupCr
 
 // Metadata of version 2 with these attributes and these other fields.
 fn two(alloc: Global, attributes: &str, others: &str) -> Result<GroupMetadata, GroupCreateError> {
-    let attributes = Object::from_map(alloc, members(alloc, attributes)?)?;
-    let additional_fields = Object::from_map(alloc, members(alloc, others)?)?;
+    let attributes = object_of(alloc, attributes)?;
+    let additional_fields = object_of(alloc, others)?;
     Ok(GroupMetadata::V2(GroupMetadataV2 {
         attributes,
         additional_fields,
@@ -156,7 +57,7 @@ fn two(alloc: Global, attributes: &str, others: &str) -> Result<GroupMetadata, G
 
 // Metadata of version 3 with these attributes and these other fields.
 fn three(alloc: Global, attributes: &str, others: &str) -> Result<GroupMetadata, GroupCreateError> {
-    let attributes = Object::from_map(alloc, members(alloc, attributes)?)?;
+    let attributes = object_of(alloc, attributes)?;
     let additional_fields = other_fields(alloc, others)?;
     Ok(GroupMetadata::V3(GroupMetadataV3 {
         attributes,
@@ -168,59 +69,68 @@ fn three(alloc: Global, attributes: &str, others: &str) -> Result<GroupMetadata,
 fn metadata_of(alloc: Global, given: &str) -> Result<GroupMetadata, GroupCreateError> {
     let (version, rest) = fields(given);
     let (attributes, others) = fields(rest);
-    if version == "2" {
-        two(alloc, attributes, others)
-    } else {
-        three(alloc, attributes, others)
+    match version {
+        "2" => two(alloc, attributes, others),
+        "3" => three(alloc, attributes, others),
+        word => Err(GroupCreateError::from(no_word(alloc, word))),
     }
 }
 
 fn group_of(alloc: Global, given: &str, config: &Config) -> Result<Group, GroupCreateError> {
     let metadata = metadata_of(alloc, given)?;
-    Ok(Group::new_with_metadata(alloc, "/g", metadata, config)?)
+    Group::new_with_metadata(alloc, "/g", metadata, config)
 }
 
-fn group_text(alloc: Global, group: &Group) -> Result<String, GroupCreateError> {
-    Ok(group.to_text(alloc)?)
+// The refusal of a group; of a field that must be understood with its name and its value.
+fn refusal_text(alloc: Global, error: &GroupCreateError) -> Result<String, AllocError> {
+    let text = refusal(alloc, error)?;
+    match error {
+        GroupCreateError::AdditionalFieldUnsupportedError(field) => {
+            let value = field.value().to_string(alloc)?;
+            let name = field.name();
+            format!(in alloc; "{text}, {name} {value}")
+        }
+        _ => Ok(text),
+    }
 }
 
-fn error_text(alloc: Global, error: &GroupCreateError) -> Result<String, GroupCreateError> {
-    Ok(format!(in alloc; "{error}")?)
-}
-
-// The group in words, or the text of the refusal.
-fn said(
+// The group in words with its block, or the refusal.
+fn group_said(
     alloc: Global,
     answer: Result<Group, GroupCreateError>,
-) -> Result<String, GroupCreateError> {
+) -> Result<String, AllocError> {
     match answer {
-        Ok(group) => group_text(alloc, &group),
-        Err(error) => error_text(alloc, &error),
+        Ok(group) => group_text(&group, alloc),
+        Err(error) => refusal_text(alloc, &error),
     }
 }
 
 // ---- opening
 
-// What opening a path says by a version, by a policy of blocks, or by default for `-`, over the store with the documents of a list.
-fn opened(alloc: Global, given: &str) -> Result<String, GroupCreateError> {
-    let (path, rest) = fields(given);
-    let (version, list) = fields(rest);
-    let store = store_in(alloc, list)?;
+// The group at a path of a store, by a version, by a policy of blocks, or by default for `-`.
+fn opened_by(
+    alloc: Global,
+    store: &MemoryStore,
+    path: &str,
+    word: &str,
+) -> Result<Group, GroupCreateError> {
     let config = Config::new();
-    match version {
-        "-" => said(alloc, Group::open(alloc, &store, path, &config)),
-        "auto" | "must" | "never" => {
-            let config = config_by(policy_of(alloc, version)?);
-            said(alloc, Group::open(alloc, &store, path, &config))
-        }
-        word => {
+    match word {
+        "-" => Group::open(alloc, store, path, &config),
+        "any" | "v2" | "v3" => {
             let version = version_of(alloc, word)?;
-            said(
-                alloc,
-                Group::open_opt(alloc, &store, path, &version, &config),
-            )
+            Group::open_opt(alloc, store, path, &version, &config)
         }
+        word => Group::open(alloc, store, path, &config_by(policy_of(alloc, word)?)),
     }
+}
+
+// What opening a path says over the store with the documents of a list. `PATH | WORD | LIST`.
+fn opened(alloc: Global, given: &str) -> Result<String, StorageError> {
+    let (path, rest) = fields(given);
+    let (word, list) = fields(rest);
+    let store = store_in(alloc, list)?;
+    Ok(group_said(alloc, opened_by(alloc, &store, path, word))?)
 }
 
 // Paths, versions and documents, and what opening says.
@@ -229,44 +139,61 @@ const OPENED: &str = r#"
 /g | - | g/zarr.json=G3 g/.zgroup=[] g/.zattrs=[] => group at /g with metadata {"node_type":"group","zarr_format":3}
 /g | - | g/.zgroup=G2 g/.zarray={} => group at /g with metadata {"zarr_format":2}
 /g | - | g/.zgroup=G2 g/.zattrs={"k":1} => group at /g with metadata {"attributes":{"k":1},"zarr_format":2}
-/g | - | g/.zattrs={"k":1} g/.zarray={} => group metadata is missing
-/g | - | g/.zgroup=[] g/.zarray={} => error parsing metadata for g/.zgroup: not an object
-/g | - | g/.zgroup=G2 g/.zattrs=[] => error parsing metadata for g/.zattrs: not an object
+/g | - | g/.zattrs={"k":1} g/.zarray={} => MissingMetadata: group metadata is missing
+/g | - | g/.zgroup=[] g/.zarray={} => StorageError(InvalidMetadata): error parsing metadata for g/.zgroup: not an object
+/g | - | g/.zgroup=G2 g/.zattrs=[] => StorageError(InvalidMetadata): error parsing metadata for g/.zattrs: not an object
 
 # The root is opened.
-/ | - | zarr.json=NUL => error parsing metadata for zarr.json: not JSON
-/ | - | zarr.json=G2 => error parsing metadata for zarr.json: wrong zarr_format
-/ | - | zarr.json={"node_type":"array","zarr_format":3} => error parsing metadata for zarr.json: wrong node_type
-abc | - | zarr.json=G3 => invalid node path abc
-/group | - | zarr.json=G3 => group metadata is missing
+/ | - | zarr.json=NUL => StorageError(InvalidMetadata): error parsing metadata for zarr.json: not JSON
+/ | - | zarr.json=G2 => StorageError(InvalidMetadata): error parsing metadata for zarr.json: wrong zarr_format
+/ | - | zarr.json={"node_type":"array","zarr_format":3} => StorageError(InvalidMetadata): error parsing metadata for zarr.json: wrong node_type
+abc | - | zarr.json=G3 => NodePathError(Invalid): invalid node path abc
+/group | - | zarr.json=G3 => MissingMetadata: group metadata is missing
 / | - | zarr.json=G3 => group at / with metadata {"node_type":"group","zarr_format":3}
 
+# Nothing is opened in an empty store.
+abc | - | - => NodePathError(Invalid): invalid node path abc
+/group | - | - => MissingMetadata: group metadata is missing
+
 # An array beside a group is not looked at.
-/p | - | p/.zarray=A2 p/.zgroup=[] => error parsing metadata for p/.zgroup: not an object
+/p | - | p/.zarray=A2 p/.zgroup=[] => StorageError(InvalidMetadata): error parsing metadata for p/.zgroup: not an object
 /p | - | p/.zarray=A2 p/.zgroup=G2 => group at /p with metadata {"zarr_format":2}
 
 # The version limits what is looked at.
 /g | any | g/zarr.json=G3 g/.zgroup=G2 => group at /g with metadata {"node_type":"group","zarr_format":3}
 /g | v3 | g/zarr.json=G3 g/.zgroup=G2 => group at /g with metadata {"node_type":"group","zarr_format":3}
 /g | v2 | g/zarr.json=G3 g/.zgroup=G2 => group at /g with metadata {"zarr_format":2}
-/g | v3 | g/.zgroup=G2 => group metadata is missing
+/g | v3 | g/.zgroup=G2 => MissingMetadata: group metadata is missing
 
 # Fields and attributes are opened.
 /g | - | g/zarr.json={"attributes":{"eggs":42,"spam":"ham"},"node_type":"group","zarr_format":3} => group at /g with metadata {"attributes":{"eggs":42,"spam":"ham"},"node_type":"group","zarr_format":3}
 /g | - | g/zarr.json={"a":{"must_understand":false},"node_type":"group","zarr_format":3} => group at /g with metadata {"a":{"must_understand":false},"node_type":"group","zarr_format":3}
-/g | - | g/zarr.json={"attributes":{"n":1.5},"node_type":"group","zarr_format":3} => error parsing metadata for g/zarr.json: unsupported number
-/g | - | g/zarr.json={"consolidated_metadata":{"kind":"inline","metadata":{"a":{"attributes":{"n":1.5},"node_type":"group","zarr_format":3}}},"node_type":"group","zarr_format":3} => error parsing metadata for g/zarr.json: unsupported number
-/ | auto | zarr.json={"consolidated_metadata":{"kind":"inline","metadata":{"a":{"attributes":{"n":1.5},"node_type":"group","zarr_format":3}}},"node_type":"group","zarr_format":3} => error parsing metadata for zarr.json: unsupported number
-/ | must | zarr.json={"consolidated_metadata":{"kind":"inline","metadata":{"a":{"attributes":{"n":1.5},"node_type":"group","zarr_format":3}}},"node_type":"group","zarr_format":3} => error parsing metadata for zarr.json: unsupported number
-/ | never | zarr.json={"consolidated_metadata":{"kind":"inline","metadata":{"a":{"attributes":{"n":1.5},"node_type":"group","zarr_format":3}}},"node_type":"group","zarr_format":3} => error parsing metadata for zarr.json: unsupported number
+/g | - | g/zarr.json={"attributes":{"n":1.5},"node_type":"group","zarr_format":3} => StorageError(InvalidMetadata): error parsing metadata for g/zarr.json: unsupported number
+/g | - | g/zarr.json={"consolidated_metadata":{"kind":"inline","metadata":{"a":{"attributes":{"n":1.5},"node_type":"group","zarr_format":3}}},"node_type":"group","zarr_format":3} => StorageError(InvalidMetadata): error parsing metadata for g/zarr.json: unsupported number
+/ | auto | zarr.json={"consolidated_metadata":{"kind":"inline","metadata":{"a":{"attributes":{"n":1.5},"node_type":"group","zarr_format":3}}},"node_type":"group","zarr_format":3} => StorageError(InvalidMetadata): error parsing metadata for zarr.json: unsupported number
+/ | must | zarr.json={"consolidated_metadata":{"kind":"inline","metadata":{"a":{"attributes":{"n":1.5},"node_type":"group","zarr_format":3}}},"node_type":"group","zarr_format":3} => StorageError(InvalidMetadata): error parsing metadata for zarr.json: unsupported number
+/ | never | zarr.json={"consolidated_metadata":{"kind":"inline","metadata":{"a":{"attributes":{"n":1.5},"node_type":"group","zarr_format":3}}},"node_type":"group","zarr_format":3} => StorageError(InvalidMetadata): error parsing metadata for zarr.json: unsupported number
 /g | - | g/zarr.json={"consolidated_metadata":null,"node_type":"group","zarr_format":3} => group at /g with metadata {"node_type":"group","zarr_format":3}
-/g | - | g/zarr.json={"consolidated_metadata":{"kind":"inline","metadata":{}},"node_type":"group","zarr_format":3} => unsupported additional field consolidated_metadata
-/g | - | g/zarr.json={"unknown":"unsupported","node_type":"group","zarr_format":3} => unsupported additional field unknown
+/g | - | g/zarr.json={"consolidated_metadata":{"kind":"inline","metadata":{}},"node_type":"group","zarr_format":3} => AdditionalFieldUnsupportedError: unsupported additional field consolidated_metadata, consolidated_metadata {"kind":"inline","metadata":{}}
+/g | - | g/zarr.json={"unknown":"unsupported","node_type":"group","zarr_format":3} => AdditionalFieldUnsupportedError: unsupported additional field unknown, unknown "unsupported"
 
-# A block need not be understood where it is null alone.
-/ | - | zarr.json={"consolidated_metadata":{"kind":"inline","metadata":{}},"node_type":"group","zarr_format":3} => unsupported additional field consolidated_metadata
+# A block need not be understood only where it is null.
+/ | - | zarr.json={"consolidated_metadata":{"kind":"inline","metadata":{}},"node_type":"group","zarr_format":3} => AdditionalFieldUnsupportedError: unsupported additional field consolidated_metadata, consolidated_metadata {"kind":"inline","metadata":{}}
 / | - | zarr.json={"consolidated_metadata":null,"node_type":"group","zarr_format":3} => group at / with metadata {"node_type":"group","zarr_format":3}
-/ | - | zarr.json={"node_type":"group","unknown":"unsupported","zarr_format":3} => unsupported additional field unknown
+/ | - | zarr.json={"node_type":"group","unknown":"unsupported","zarr_format":3} => AdditionalFieldUnsupportedError: unsupported additional field unknown, unknown "unsupported"
+
+# The least field that must be understood is named, with its value.
+/g | - | g/zarr.json={"b":1,"a":1,"node_type":"group","zarr_format":3} => AdditionalFieldUnsupportedError: unsupported additional field a, a 1
+/g | - | g/zarr.json={"b":[2],"a":{"must_understand":false},"node_type":"group","zarr_format":3} => AdditionalFieldUnsupportedError: unsupported additional field b, b [2]
+
+# The block beside a version 2 group is held, where it reads as one; under every policy and by both versions that read it.
+/g | - | g/.zgroup=G2 g/.zmetadata={"metadata":{"a/.zgroup":{"zarr_format":2},"a/.zattrs":{"k":1}},"zarr_consolidated_format":1} => group at /g with metadata {"zarr_format":2} and the block {"kind":"inline","metadata":{"a":{"attributes":{"k":1},"zarr_format":2}},"must_understand":false}
+/g | never | g/.zgroup=G2 g/.zmetadata={"metadata":{"x/y/.zgroup":{"zarr_format":2}},"zarr_consolidated_format":1} => group at /g with metadata {"zarr_format":2} and the block {"kind":"inline","metadata":{"x/y":{"zarr_format":2}},"must_understand":false}
+/g | any | g/.zgroup=G2 g/.zattrs={"k":1} g/.zmetadata={"metadata":{"a/.zattrs":{}},"zarr_consolidated_format":1} => group at /g with metadata {"attributes":{"k":1},"zarr_format":2} and the block {"kind":"inline","metadata":{},"must_understand":false}
+/g | v2 | g/zarr.json=G3 g/.zgroup=G2 g/.zmetadata={"metadata":{"a/0.0":{}},"zarr_consolidated_format":1} => group at /g with metadata {"zarr_format":2} and the block {"kind":"inline","metadata":{},"must_understand":false}
+/g | - | g/.zgroup=G2 g/.zmetadata={"metadata":{},"zarr_consolidated_format":2} => group at /g with metadata {"zarr_format":2}
+/g | - | g/.zgroup=G2 g/.zmetadata=NUL => group at /g with metadata {"zarr_format":2}
+/g | - | g/zarr.json=G3 g/.zmetadata={"metadata":{"a/.zgroup":{"zarr_format":2}},"zarr_consolidated_format":1} => group at /g with metadata {"node_type":"group","zarr_format":3}
 "#;
 
 #[test]
@@ -274,55 +201,7 @@ fn groups_are_opened(rt: HostRuntime) -> Result<(), Fail> {
     check_rows(rt.alloc(), OPENED, opened)
 }
 
-// The name and the value of a field.
-fn field_text(
-    alloc: Global,
-    field: &AdditionalFieldUnsupportedError,
-) -> Result<String, GroupCreateError> {
-    let value = field.value().to_string(alloc)?;
-    let name = field.name();
-    Ok(format!(in alloc; "{name} {value}")?)
-}
-
-// The field that opening `/g` refuses over the store with the documents of a list, or `none` where it names none.
-fn field_said(alloc: Global, list: &str) -> Result<String, GroupCreateError> {
-    let store = store_in(alloc, list)?;
-    match Group::open(alloc, &store, "/g", &Config::new()) {
-        Err(GroupCreateError::AdditionalFieldUnsupportedError(field)) => field_text(alloc, &field),
-        _ => Ok(String::from_str(alloc, "none")?),
-    }
-}
-
-// Documents, and the field that is named.
-const FIELDS: &str = r#"
-g/zarr.json={"b":1,"a":1,"node_type":"group","zarr_format":3} => a 1
-g/zarr.json={"b":[2],"a":{"must_understand":false},"node_type":"group","zarr_format":3} => b [2]
-g/zarr.json={"a":{"must_understand":false},"node_type":"group","zarr_format":3} => none
-"#;
-
-#[test]
-fn the_least_field_that_must_be_understood_is_named(rt: HostRuntime) -> Result<(), Fail> {
-    check_rows(rt.alloc(), FIELDS, field_said)
-}
-
 // ---- storing and erasing
-
-// The text of a refusal and a comma, or no text.
-fn refusal(alloc: Global, answer: Result<(), StorageError>) -> Result<String, GroupCreateError> {
-    match answer {
-        Ok(()) => Ok(String::new(alloc)),
-        Err(error) => Ok(format!(in alloc; "{error}, ")?),
-    }
-}
-
-// The version that a word is of by which metadata are written.
-fn converted(alloc: Global, word: &str) -> Result<MetadataConvertVersion, StorageError> {
-    match word {
-        "default" => Ok(MetadataConvertVersion::Default),
-        "v3" => Ok(MetadataConvertVersion::V3),
-        word => Err(no_word(alloc, word)),
-    }
-}
 
 // The call that a word is of.
 fn step_of(alloc: Global, word: &str) -> Result<Step, StorageError> {
@@ -356,7 +235,7 @@ fn config_of(alloc: Global, word: &str) -> Result<Config, StorageError> {
     }
 }
 
-// What a step on a group says over a store, where it is refused; the step, then the group.
+// What a step on a group says over a store, where it is refused, and what the store then holds; the step, then the group.
 fn stepped(
     alloc: Global,
     store: &mut MemoryStore,
@@ -366,50 +245,60 @@ fn stepped(
     let (step, given) = fields(given);
     let step = step_of(alloc, step)?;
     let group = group_of(alloc, given, config)?;
-    refusal(alloc, done(alloc, &group, store, step))
+    let answer = done(alloc, &group, store, step);
+    let held = held_text(alloc, store)?;
+    match answer {
+        Ok(()) => Ok(held),
+        Err(error) => {
+            let text = refusal(alloc, &error)?;
+            Ok(format!(in alloc; "{text}\n{held}")?)
+        }
+    }
 }
 
-// What a step on a group under a configuration says, where it is refused, and then what the store holds.
+// What each of the steps on groups under a configuration says, one after another over one store. `LIST | CONFIGURATION | STEP; STEP ..`.
 fn after(alloc: Global, given: &str) -> Result<String, GroupCreateError> {
-    let (names, rest) = fields(given);
-    let (config, step) = fields(rest);
+    let (list, rest) = fields(given);
+    let (config, steps) = fields(rest);
     let config = config_of(alloc, config)?;
-    let mut store = store_of(alloc, names)?;
-    let said = stepped(alloc, &mut store, &config, step)?;
-    let held = held(alloc, &store)?;
-    Ok(format!(in alloc; "{said}{held}")?)
+    let mut store = store_in(alloc, list)?;
+    let mut text = String::new(alloc);
+    for step in steps.split("; ") {
+        let said = stepped(alloc, &mut store, &config, step)?;
+        write!(text, "{said}then\n")?;
+    }
+    Ok(text)
 }
 
-// What a store holds, a configuration, a step and a group, and what the store then holds.
+// What a store holds, a configuration, and steps on groups; after each step the refusal, and all that the store holds.
 const STORED: &str = r#"
-# Version 2 is stored and erased key by key, each step over what the one before left.
--.-.-.x.m. | - | store | 2 | {"k":1} | {} => -.two.k.x.-.
--.two.k.x.-. | - | store | 2 | {} | {} => -.two.-.x.-.
--.two.-.x.-. | - | store v3 | 2 | {} | {} => three.two.-.x.-.
-three.two.-.x.-. | - | erase default | 2 | {} | {} => three.-.-.x.-.
-three.-.-.x.-. | - | store default | 2 | {"k":1} | {} => three.two.k.x.-.
-three.two.k.x.-. | - | erase all | 2 | {"k":1} | {} => -.-.-.x.-.
+# Version 2 is stored and erased key by key, in one store: with attributes, without, as version 3; erased; with attributes, and all erased.
+g/.zarray=A2 | - | store | 2 | {"k":1} | {}; store | 2 | {} | {}; store v3 | 2 | {} | {}; erase default | 2 | {} | {}; store default | 2 | {"k":1} | {}; erase all | 2 | {"k":1} | {} => g/.zarray {"chunks":[1],"compressor":null,"dtype":"<f8","fill_value":"NaN","filters":null,"order":"C","shape":[1],"zarr_format":2}\ng/.zattrs {\n  "k": 1\n}\ng/.zgroup {\n  "zarr_format": 2\n}\nthen\ng/.zarray {"chunks":[1],"compressor":null,"dtype":"<f8","fill_value":"NaN","filters":null,"order":"C","shape":[1],"zarr_format":2}\ng/.zgroup {\n  "zarr_format": 2\n}\nthen\ng/.zarray {"chunks":[1],"compressor":null,"dtype":"<f8","fill_value":"NaN","filters":null,"order":"C","shape":[1],"zarr_format":2}\ng/.zgroup {\n  "zarr_format": 2\n}\ng/zarr.json {\n  "node_type": "group",\n  "zarr_format": 3\n}\nthen\ng/.zarray {"chunks":[1],"compressor":null,"dtype":"<f8","fill_value":"NaN","filters":null,"order":"C","shape":[1],"zarr_format":2}\ng/zarr.json {\n  "node_type": "group",\n  "zarr_format": 3\n}\nthen\ng/.zarray {"chunks":[1],"compressor":null,"dtype":"<f8","fill_value":"NaN","filters":null,"order":"C","shape":[1],"zarr_format":2}\ng/.zattrs {\n  "k": 1\n}\ng/.zgroup {\n  "zarr_format": 2\n}\ng/zarr.json {\n  "node_type": "group",\n  "zarr_format": 3\n}\nthen\ng/.zarray {"chunks":[1],"compressor":null,"dtype":"<f8","fill_value":"NaN","filters":null,"order":"C","shape":[1],"zarr_format":2}\nthen\n
+
+# Storing version 2 without a block erases an older one.
+g/.zarray=[x] g/.zmetadata=[m] | - | store | 2 | {"k":1} | {} => g/.zarray [x]\ng/.zattrs {\n  "k": 1\n}\ng/.zgroup {\n  "zarr_format": 2\n}\nthen\n
 
 # Each version erases its own keys.
-j.g.a.x.m. | - | erase default | 2 | {} | {} => j.-.-.x.-.
-j.g.a.x.m. | - | erase v3 | 2 | {} | {} => -.g.a.x.m.
-j.g.a.x.m. | - | erase v2 | 2 | {} | {} => j.-.-.x.-.
-j.g.a.x.m. | - | erase all | 2 | {} | {} => -.-.-.x.-.
-j.g.a.x.m. | - | erase default | 3 | {} | {} => -.g.a.x.m.
-j.g.a.x.m. | - | erase v3 | 3 | {} | {} => -.g.a.x.m.
-j.g.a.x.m. | - | erase v2 | 3 | {} | {} => j.-.-.x.-.
-j.g.a.x.m. | - | erase all | 3 | {} | {} => -.-.-.x.-.
+g/zarr.json=[j] g/.zgroup=[g] g/.zattrs=[a] g/.zarray=[x] g/.zmetadata=[m] | - | erase default | 2 | {} | {} => g/.zarray [x]\ng/zarr.json [j]\nthen\n
+g/zarr.json=[j] g/.zgroup=[g] g/.zattrs=[a] g/.zarray=[x] g/.zmetadata=[m] | - | erase v3 | 2 | {} | {} => g/.zarray [x]\ng/.zattrs [a]\ng/.zgroup [g]\ng/.zmetadata [m]\nthen\n
+g/zarr.json=[j] g/.zgroup=[g] g/.zattrs=[a] g/.zarray=[x] g/.zmetadata=[m] | - | erase v2 | 2 | {} | {} => g/.zarray [x]\ng/zarr.json [j]\nthen\n
+g/zarr.json=[j] g/.zgroup=[g] g/.zattrs=[a] g/.zarray=[x] g/.zmetadata=[m] | - | erase all | 2 | {} | {} => g/.zarray [x]\nthen\n
+g/zarr.json=[j] g/.zgroup=[g] g/.zattrs=[a] g/.zarray=[x] g/.zmetadata=[m] | - | erase default | 3 | {} | {} => g/.zarray [x]\ng/.zattrs [a]\ng/.zgroup [g]\ng/.zmetadata [m]\nthen\n
+g/zarr.json=[j] g/.zgroup=[g] g/.zattrs=[a] g/.zarray=[x] g/.zmetadata=[m] | - | erase v3 | 3 | {} | {} => g/.zarray [x]\ng/.zattrs [a]\ng/.zgroup [g]\ng/.zmetadata [m]\nthen\n
+g/zarr.json=[j] g/.zgroup=[g] g/.zattrs=[a] g/.zarray=[x] g/.zmetadata=[m] | - | erase v2 | 3 | {} | {} => g/.zarray [x]\ng/zarr.json [j]\nthen\n
+g/zarr.json=[j] g/.zgroup=[g] g/.zattrs=[a] g/.zarray=[x] g/.zmetadata=[m] | - | erase all | 3 | {} | {} => g/.zarray [x]\nthen\n
 
 # A configuration gives the options.
--.g.a.x.m. | v3 and all | store | 2 | {"k":1} | {} => three k.g.a.x.m.
-three k.g.a.x.m. | v3 and all | erase | 2 | {"k":1} | {} => -.-.-.x.-.
+g/.zgroup=[g] g/.zattrs=[a] g/.zarray=[x] g/.zmetadata=[m] | v3 and all | store | 2 | {"k":1} | {}; erase | 2 | {"k":1} | {} => g/.zarray [x]\ng/.zattrs [a]\ng/.zgroup [g]\ng/.zmetadata [m]\ng/zarr.json {\n  "attributes": {\n    "k": 1\n  },\n  "node_type": "group",\n  "zarr_format": 3\n}\nthen\ng/.zarray [x]\nthen\n
 
 # What is not plain is refused before any write.
-j.g.a.-.-. | - | store | 3 | {} | {"node_type":1,"attributes":1} => error parsing metadata for g/zarr.json: bad member attributes, j.g.a.-.-.
-j.g.a.-.-. | - | store | 3 | {} | {"node_type":1,"consolidated_metadata":null} => error parsing metadata for g/zarr.json: bad member consolidated_metadata, j.g.a.-.-.
-j.g.a.-.-. | - | store | 3 | {"n":1.5} | {"attributes":1} => error parsing metadata for g/zarr.json: unsupported number, j.g.a.-.-.
-j.g.a.-.-. | - | store | 2 | {} | {"shape":[1]} => error parsing metadata for g/.zgroup: bad member shape, j.g.a.-.-.
-j.g.a.-.-. | - | store | 2 | {} | {"shape":[1.5]} => error parsing metadata for g/.zgroup: unsupported number, j.g.a.-.-.
+g/zarr.json=[j] g/.zgroup=[g] g/.zattrs=[a] | - | store | 3 | {} | {"node_type":1,"attributes":1} => InvalidMetadata: error parsing metadata for g/zarr.json: bad member attributes\ng/.zattrs [a]\ng/.zgroup [g]\ng/zarr.json [j]\nthen\n
+g/zarr.json=[j] g/.zgroup=[g] g/.zattrs=[a] | - | store | 3 | {} | {"node_type":1,"consolidated_metadata":null} => InvalidMetadata: error parsing metadata for g/zarr.json: bad member consolidated_metadata\ng/.zattrs [a]\ng/.zgroup [g]\ng/zarr.json [j]\nthen\n
+g/zarr.json=[j] g/.zgroup=[g] g/.zattrs=[a] | - | store | 3 | {"n":1.5} | {"attributes":1} => InvalidMetadata: error parsing metadata for g/zarr.json: unsupported number\ng/.zattrs [a]\ng/.zgroup [g]\ng/zarr.json [j]\nthen\n
+g/zarr.json=[j] g/.zgroup=[g] g/.zattrs=[a] | - | store | 2 | {} | {"shape":[1.5]} => InvalidMetadata: error parsing metadata for g/.zgroup: unsupported number\ng/.zattrs [a]\ng/.zgroup [g]\ng/zarr.json [j]\nthen\n
+
+# A version 2 group with the field `shape` is refused, and is stored as version 3.
+g/zarr.json=[j] g/.zgroup=[g] g/.zattrs=[a] | - | store | 2 | {} | {"shape":[1]}; store v3 | 2 | {} | {"shape":[1]} => InvalidMetadata: error parsing metadata for g/.zgroup: bad member shape\ng/.zattrs [a]\ng/.zgroup [g]\ng/zarr.json [j]\nthen\ng/.zattrs [a]\ng/.zgroup [g]\ng/zarr.json {\n  "node_type": "group",\n  "zarr_format": 3\n}\nthen\n
 "#;
 
 #[test]
@@ -417,184 +306,212 @@ fn groups_are_stored_and_erased(rt: HostRuntime) -> Result<(), Fail> {
     check_rows(rt.alloc(), STORED, after)
 }
 
-// The store that holds a group by a version and nothing else.
-fn store_with(alloc: Global, given: &str) -> Result<MemoryStore, GroupCreateError> {
-    let (version, given) = fields(given);
-    let version = converted(alloc, version)?;
-    let group = group_of(alloc, given, &Config::new())?;
-    let mut store = MemoryStore::new(alloc);
-    done(alloc, &group, &mut store, Step::StoreAs(version))?;
-    Ok(store)
+// The paths of groups that a builder of nothing makes and stores one after another; what the group at the root then traverses.
+fn traversed(alloc: Global, paths: &str) -> Result<String, GroupCreateError> {
+    let store = built_in(alloc, paths)?;
+    let config = Config::new();
+    let root = GroupBuilder::new(alloc).build(alloc, "/", &config)?;
+    Ok(said(
+        alloc,
+        root.traverse(&Discard, alloc, &store, &config),
+        pairs_text,
+    )?)
 }
 
-// What storing over nothing and opening again says.
-fn again(alloc: Global, given: &str) -> Result<String, GroupCreateError> {
-    let store = store_with(alloc, given)?;
-    said(alloc, Group::open(alloc, &store, "/g", &Config::new()))
-}
-
-// Versions and groups, and what opening says.
-const AGAIN: &str = r#"
-default | 3 | {} | {} => group at /g with metadata {"node_type":"group","zarr_format":3}
-v3 | 2 | {} | {"shape":[1]} => group at /g with metadata {"node_type":"group","zarr_format":3}
-default | 3 | {} | {"unknown":"unsupported"} => unsupported additional field unknown
-default | 2 | {} | {"f":2} => group at /g with metadata {"f":2,"zarr_format":2}
-default | 2 | {"k":1} | {} => group at /g with metadata {"attributes":{"k":1},"zarr_format":2}
+const TRAVERSED: &str = r#"
+/ /group /group/subgroup /group/subgroup/leafgroup => /group G3\n/group/subgroup G3\n/group/subgroup/leafgroup G3\n
+/ =>
 "#;
 
 #[test]
-fn a_stored_group_is_opened_again(rt: HostRuntime) -> Result<(), Fail> {
-    check_rows(rt.alloc(), AGAIN, again)
+fn groups_of_a_builder_are_traversed(rt: HostRuntime) -> Result<(), Fail> {
+    check_rows(rt.alloc(), TRAVERSED, traversed)
 }
 
-// ---- making
+// ---- making, and parts of a group
 
-// What `new_with_metadata` says at a path.
-fn made_at(alloc: Global, path: &str, given: &str) -> Result<String, GroupCreateError> {
-    let metadata = metadata_of(alloc, given)?;
-    said(
-        alloc,
-        Group::new_with_metadata(alloc, path, metadata, &Config::new()),
-    )
-}
-
-// What a builder of these parts makes at a path.
-fn built(alloc: Global, path: &str, parts: &str) -> Result<String, GroupCreateError> {
+// The group that a builder of these attributes and additional fields makes at a path.
+fn built(alloc: Global, path: &str, parts: &str) -> Result<Group, GroupCreateError> {
     let (attributes, others) = fields(parts);
-    let attributes = Object::from_map(alloc, members(alloc, attributes)?)?;
+    let attributes = object_of(alloc, attributes)?;
     let others = other_fields(alloc, others)?;
     let mut builder = GroupBuilder::new(alloc);
     builder.attributes(attributes);
     builder.additional_fields(others);
-    said(alloc, builder.build(alloc, path, &Config::new()))
+    builder.build(alloc, path, &Config::new())
 }
 
-fn built_of_nothing(alloc: Global, path: &str) -> Result<String, GroupCreateError> {
-    let builder = GroupBuilder::new(alloc);
-    said(alloc, builder.build(alloc, path, &Config::new()))
+// The version 3 group that a document is, at a path.
+fn read(alloc: Global, path: &str, document: &str) -> Result<Group, GroupCreateError> {
+    let document = document_of(alloc, document)?;
+    match GroupMetadataV3::from_bytes(alloc, document.as_bytes()) {
+        Ok(metadata) => {
+            let metadata = GroupMetadata::V3(metadata);
+            Group::new_with_metadata(alloc, path, metadata, &Config::new())
+        }
+        Err(fault) => Err(refused(alloc, fault)),
+    }
 }
 
-// What a builder of nothing or of parts, or `new_with_metadata`, makes at a path.
-fn made(alloc: Global, given: &str) -> Result<String, GroupCreateError> {
+// The group that a builder of nothing or of parts, or `new_with_metadata` of a document or of parts, makes at a path.
+fn made(alloc: Global, given: &str) -> Result<Group, GroupCreateError> {
     let (by, rest) = fields(given);
     let (path, parts) = fields(rest);
+    let config = Config::new();
     match by {
-        "nothing" => built_of_nothing(alloc, path),
-        "parts" => built(alloc, path, fields(parts).1),
-        _ => made_at(alloc, path, parts),
+        "nothing" => GroupBuilder::new(alloc).build(alloc, path, &config),
+        "builder" => built(alloc, path, parts),
+        "document" => read(alloc, path, parts),
+        "metadata" => { Group::new_with_metadata(alloc, path, metadata_of(alloc, parts)?, &config) }
+        word => Err(GroupCreateError::from(no_word(alloc, word))),
     }
 }
 
-// What a group is made of, its path and parts, and what that says.
-const MADE: &str = r#"
-nothing | /group | 3 | {} | {} => group at /group with metadata {"node_type":"group","zarr_format":3}
-nothing | abc | 3 | {} | {} => invalid node path abc
-parts | /g | 3 | {"k":1} | {"key":{}} => group at /g with metadata {"attributes":{"k":1},"key":{},"node_type":"group","zarr_format":3}
-metadata | /g | 3 | {"k":1} | {"key":{}} => group at /g with metadata {"attributes":{"k":1},"key":{},"node_type":"group","zarr_format":3}
-parts | abc | 3 | {"k":1} | {"key":{}} => invalid node path abc
-metadata | abc | 3 | {"k":1} | {"key":{}} => invalid node path abc
-"#;
-
-#[test]
-fn a_group_is_made_at_a_path(rt: HostRuntime) -> Result<(), Fail> {
-    check_rows(rt.alloc(), MADE, made)
+// Appends the members of an object, each behind a blank.
+fn push_members(text: &mut String, alloc: Global, members: &Object) -> Result<(), AllocError> {
+    for (name, value) in members.as_slice() {
+        let value = value.to_string(alloc)?;
+        write!(text, " {name}={value}")?;
+    }
+    Ok(())
 }
 
-// ---- parts of a group
-
-// The path, the number of attributes and the version that the accessors show.
-fn parts_of(alloc: Global, group: &Group) -> Result<String, GroupCreateError> {
-    let path = group.path().as_str();
-    let count = group.attributes().len();
-    let version = match group.metadata() {
-        GroupMetadata::V3(_) => 3,
-        GroupMetadata::V2(_) => 2,
-    };
-    Ok(format!(in alloc; "{path} {count} {version}")?)
-}
-
-fn shown(alloc: Global, given: &str) -> Result<String, GroupCreateError> {
-    let group = group_of(alloc, given, &Config::new())?;
-    parts_of(alloc, &group)
-}
-
-// The group after its attributes were written.
-fn written(alloc: Global, given: &str) -> Result<String, GroupCreateError> {
-    let attributes = Object::from_map(alloc, members(alloc, r#"{"n":1}"#)?)?;
-    let mut group = group_of(alloc, given, &Config::new())?;
-    *group.attributes_mut() = attributes;
-    group_text(alloc, &group)
-}
-
-fn copy_of(alloc: Global, given: &str) -> Result<Group, GroupCreateError> {
-    let group = group_of(alloc, given, &Config::new())?;
-    Ok(group.try_clone(alloc)?)
-}
-
-// A copy of the group.
-fn copied(alloc: Global, given: &str) -> Result<String, GroupCreateError> {
-    let copy = copy_of(alloc, given)?;
-    group_text(alloc, &copy)
-}
-
-// The group as version 3.
-fn as_version_3(alloc: Global, given: &str) -> Result<String, GroupCreateError> {
-    let group = group_of(alloc, given, &Config::new())?.to_v3(alloc);
-    group_text(alloc, &group)
-}
-
-// The metadata as the options have them written.
-fn optioned(
+// Appends the additional fields of metadata, each behind a blank, with those marked that must be understood.
+fn push_fields(
+    text: &mut String,
     alloc: Global,
-    given: &str,
-    version: MetadataConvertVersion,
-) -> Result<GroupMetadata, GroupCreateError> {
-    let group = group_of(alloc, given, &Config::new())?;
-    let options = GroupMetadataOptions::default().with_metadata_convert_version(version);
-    Ok(group.metadata_opt(alloc, &options)?)
+    metadata: &GroupMetadata,
+) -> Result<(), AllocError> {
+    match metadata {
+        GroupMetadata::V2(group) => push_members(text, alloc, &group.additional_fields),
+        GroupMetadata::V3(group) => {
+            for (name, field) in group.additional_fields.as_slice() {
+                let mark = if field.must_understand() { "!" } else { "" };
+                let value = field.as_value().to_string(alloc)?;
+                write!(text, " {name}{mark}={value}")?;
+            }
+            Ok(())
+        }
+    }
 }
 
-// The group of these metadata.
+// The path, the attributes, the version with the attributes in it and the additional fields that the accessors show.
+fn parts_text(group: &Group, alloc: Global) -> Result<String, AllocError> {
+    let mut text = String::new(alloc);
+    write!(text, "{}; attributes", group.path())?;
+    push_members(&mut text, alloc, group.attributes())?;
+    let (version, attributes) = match group.metadata() {
+        GroupMetadata::V2(group) => (2, &group.attributes),
+        GroupMetadata::V3(group) => (3, &group.attributes),
+    };
+    write!(text, "; version {version}")?;
+    push_members(&mut text, alloc, attributes)?;
+    text.push_str("; fields")?;
+    push_fields(&mut text, alloc, group.metadata())?;
+    Ok(text)
+}
+
+// The attributes that a group lends, and the group after others were written in their place.
+fn written(alloc: Global, mut group: Group) -> Result<String, GroupCreateError> {
+    let others = object_of(alloc, r#"{"n":1}"#)?;
+    let mut text = String::from_str(alloc, "lent")?;
+    push_members(&mut text, alloc, group.attributes_mut())?;
+    *group.attributes_mut() = others;
+    let after = group_text(&group, alloc)?;
+    write!(text, "; {after}")?;
+    Ok(text)
+}
+
+// The group of the metadata as the options have them written.
 fn under(
     alloc: Global,
-    given: &str,
+    group: &Group,
     version: MetadataConvertVersion,
-) -> Result<String, GroupCreateError> {
-    let metadata = optioned(alloc, given, version)?;
-    said(
-        alloc,
-        Group::new_with_metadata(alloc, "/g", metadata, &Config::new()),
-    )
+) -> Result<Group, GroupCreateError> {
+    let options = GroupMetadataOptions::default().with_metadata_convert_version(version);
+    let metadata = group.metadata_opt(alloc, &options)?;
+    Group::new_with_metadata(alloc, group.path().as_str(), metadata, &Config::new())
 }
 
-// What a call on a group answers of it.
+// What opening the path of a group says, as a group and as a node, once the group was stored over nothing.
+fn again(alloc: Global, group: &Group) -> Result<String, GroupCreateError> {
+    let mut store = MemoryStore::new(alloc);
+    group.store_metadata(alloc, &mut store)?;
+    let config = Config::new();
+    let path = group.path().as_str();
+    let opened = group_said(alloc, Group::open(alloc, &store, path, &config))?;
+    let node = Node::open(&Discard, alloc, &store, path, &config);
+    let node = said(alloc, node, node_text)?;
+    Ok(format!(in alloc; "{opened}\n{node}")?)
+}
+
+// What is seen of a group by a word.
+fn looked_at(alloc: Global, look: &str, group: Group) -> Result<String, GroupCreateError> {
+    let group = match look {
+        "parts" => return Ok(parts_text(&group, alloc)?),
+        "written" => return written(alloc, group),
+        "again" => return again(alloc, &group),
+        "text" => Ok(group),
+        "copied" => Ok(group.try_clone(alloc)?),
+        "as version 3" => Ok(group.to_v3(alloc)),
+        "under v3" => under(alloc, &group, MetadataConvertVersion::V3),
+        "under default" => under(alloc, &group, MetadataConvertVersion::Default),
+        word => Err(GroupCreateError::from(no_word(alloc, word))),
+    };
+    Ok(group_said(alloc, group)?)
+}
+
+// What is seen of the group that is made, or the refusal. `LOOK | BY | PATH | PARTS`.
 fn looked(alloc: Global, row: &str) -> Result<String, GroupCreateError> {
     let (look, given) = fields(row);
-    match look {
-        "shown" => shown(alloc, given),
-        "written" => written(alloc, given),
-        "copied" => copied(alloc, given),
-        "as version 3" => as_version_3(alloc, given),
-        "under v3" => under(alloc, given, MetadataConvertVersion::V3),
-        _ => under(alloc, given, MetadataConvertVersion::Default),
+    match made(alloc, given) {
+        Ok(group) => looked_at(alloc, look, group),
+        Err(error) => Ok(refusal_text(alloc, &error)?),
     }
 }
 
-// A call, and the version, attributes and other fields of a group, and what the call answers.
-const LOOKED: &str = r#"
-shown | 2 | {"k":1} | {"f":2} => /g 1 2
-written | 2 | {"k":1} | {"f":2} => group at /g with metadata {"attributes":{"n":1},"f":2,"zarr_format":2}
-copied | 2 | {"k":1} | {"f":2} => group at /g with metadata {"attributes":{"k":1},"f":2,"zarr_format":2}
-as version 3 | 2 | {"k":1} | {"f":2} => group at /g with metadata {"attributes":{"k":1},"node_type":"group","zarr_format":3}
-under default | 2 | {"k":1} | {"f":2} => group at /g with metadata {"attributes":{"k":1},"f":2,"zarr_format":2}
-under v3 | 2 | {"k":1} | {"f":2} => group at /g with metadata {"attributes":{"k":1},"node_type":"group","zarr_format":3}
-shown | 3 | {"k":1} | {} => /g 1 3
-as version 3 | 3 | {"k":1} | {} => group at /g with metadata {"attributes":{"k":1},"node_type":"group","zarr_format":3}
+// What is seen of a group, what it is made of, its path and its parts; and the answer.
+const MADE: &str = r#"
+# A group is made at a path.
+text | nothing | /group => group at /group with metadata {"node_type":"group","zarr_format":3}
+text | nothing | abc => NodePathError(Invalid): invalid node path abc
+text | builder | /g | {"k":1} | {"key":{}} => group at /g with metadata {"attributes":{"k":1},"key":{},"node_type":"group","zarr_format":3}
+text | metadata | /g | 3 | {"k":1} | {"key":{}} => group at /g with metadata {"attributes":{"k":1},"key":{},"node_type":"group","zarr_format":3}
+text | builder | abc | {"k":1} | {"key":{}} => NodePathError(Invalid): invalid node path abc
+text | metadata | abc | 3 | {"k":1} | {"key":{}} => NodePathError(Invalid): invalid node path abc
+
+# A builder has its parts shown, and lends its attributes.
+parts | builder | / | {"key":"value"} | {"key":{}} => /; attributes key="value"; version 3 key="value"; fields key!={}
+written | builder | / | {"key":"value"} | {"key":{}} => lent key="value"; group at / with metadata {"attributes":{"n":1},"key":{},"node_type":"group","zarr_format":3}
+
+# A document makes a group.
+parts | document | / | {"zarr_format":3,"node_type":"group","attributes":{"spam":"ham","eggs":42}} => /; attributes eggs=42 spam="ham"; version 3 eggs=42 spam="ham"; fields
+parts | document | / | {"zarr_format":3,"node_type":"group","attributes":{"spam":"ham","eggs":42},"unknown":{"must_understand":false}} => /; attributes eggs=42 spam="ham"; version 3 eggs=42 spam="ham"; fields unknown={"must_understand":false}
+parts | document | / | {"zarr_format":3,"node_type":"group","attributes":{"spam":"ham","eggs":42},"unknown":"unsupported"} => /; attributes eggs=42 spam="ham"; version 3 eggs=42 spam="ham"; fields unknown!="unsupported"
+text | document | abc | {"zarr_format":3,"node_type":"group","attributes":{"spam":"ham","eggs":42}} => NodePathError(Invalid): invalid node path abc
+
+# A stored group is opened again, as a group and as a node.
+again | nothing | /group => group at /group with metadata {"node_type":"group","zarr_format":3}\n/group G3\n
+again | document | / | {"zarr_format":3,"node_type":"group","attributes":{"spam":"ham","eggs":42},"unknown":"unsupported"} => AdditionalFieldUnsupportedError: unsupported additional field unknown, unknown "unsupported"\n/ {"attributes":{"eggs":42,"spam":"ham"},"node_type":"group","unknown":"unsupported","zarr_format":3}\n
+again | document | / | {"node_type":"group","unknown":"unsupported","zarr_format":3} => AdditionalFieldUnsupportedError: unsupported additional field unknown, unknown "unsupported"\n/ {"node_type":"group","unknown":"unsupported","zarr_format":3}\n
+again | metadata | /g | 3 | {} | {} => group at /g with metadata {"node_type":"group","zarr_format":3}\n/g G3\n
+again | metadata | /g | 2 | {} | {"f":2} => group at /g with metadata {"f":2,"zarr_format":2}\n/g {"f":2,"zarr_format":2}\n
+again | metadata | /g | 2 | {"k":1} | {} => group at /g with metadata {"attributes":{"k":1},"zarr_format":2}\n/g {"attributes":{"k":1},"zarr_format":2}\n
+
+# A group shows and keeps its parts.
+parts | metadata | /g | 2 | {"k":1} | {"f":2} => /g; attributes k=1; version 2 k=1; fields f=2
+parts | metadata | /g | 3 | {"k":1} | {} => /g; attributes k=1; version 3 k=1; fields
+written | metadata | /g | 2 | {"k":1} | {"f":2} => lent k=1; group at /g with metadata {"attributes":{"n":1},"f":2,"zarr_format":2}
+copied | metadata | /g | 2 | {"k":1} | {"f":2} => group at /g with metadata {"attributes":{"k":1},"f":2,"zarr_format":2}
+as version 3 | metadata | /g | 2 | {"k":1} | {"f":2} => group at /g with metadata {"attributes":{"k":1},"node_type":"group","zarr_format":3}
+as version 3 | metadata | /g | 3 | {"k":1} | {} => group at /g with metadata {"attributes":{"k":1},"node_type":"group","zarr_format":3}
+under default | metadata | /g | 2 | {"k":1} | {"f":2} => group at /g with metadata {"attributes":{"k":1},"f":2,"zarr_format":2}
+under v3 | metadata | /g | 2 | {"k":1} | {"f":2} => group at /g with metadata {"attributes":{"k":1},"node_type":"group","zarr_format":3}
 "#;
 
 #[test]
-fn a_group_shows_and_keeps_its_parts(rt: HostRuntime) -> Result<(), Fail> {
-    check_rows(rt.alloc(), LOOKED, looked)
+fn a_group_shows_and_keeps_what_it_is_made_of(rt: HostRuntime) -> Result<(), Fail> {
+    check_rows(rt.alloc(), MADE, looked)
 }
 
 // ---- refusals
@@ -606,9 +523,11 @@ fn node_error(alloc: Global, name: &str) -> Result<NodeCreateError, GroupCreateE
         "mismatch" => Ok(NodeCreateError::MetadataVersionMismatch),
         "missing" => Ok(NodeCreateError::MissingMetadata(String::from_str(alloc, "/a")?)),
         "path memory" => Ok(NodeCreateError::NodePathError(NodePathError::OutOfMemory)),
+        "memory" => Ok(NodeCreateError::OutOfMemory),
         "path" => path_error(alloc),
         "prefix" => prefix_error(alloc),
-        _ => Ok(NodeCreateError::OutOfMemory),
+        "block" => block_error(alloc),
+        word => Err(GroupCreateError::from(no_word(alloc, word))),
     }
 }
 
@@ -626,14 +545,13 @@ fn prefix_error(alloc: Global) -> Result<NodeCreateError, GroupCreateError> {
     }
 }
 
-// The kind of a refusal and its text.
-fn kind_and_text(alloc: Global, error: &GroupCreateError) -> Result<String, GroupCreateError> {
-    let kind = match error {
-        GroupCreateError::StorageError(_) => "storage",
-        GroupCreateError::OutOfMemory => "memory",
-        _ => "other",
-    };
-    Ok(format!(in alloc; "{kind}: {error}")?)
+// The refusal of the root, which has no block, where one is demanded.
+fn block_error(alloc: Global) -> Result<NodeCreateError, GroupCreateError> {
+    let root = NodePath::root(alloc)?;
+    match resolve_consolidated_policy(alloc, &root, None, UseConsolidatedMetadata::Must) {
+        Err(error) => Ok(error),
+        Ok(_) => Err(GroupCreateError::MissingMetadata),
+    }
 }
 
 // The refusal of a group by its name.
@@ -647,71 +565,73 @@ fn group_error(alloc: Global, name: &str) -> Result<GroupCreateError, GroupCreat
         "missing" => Ok(GroupCreateError::MissingMetadata),
         "memory" => Ok(GroupCreateError::from(AllocError)),
         "storage" => Ok(GroupCreateError::from(StorageError::Fault)),
-        _ => Ok(GroupCreateError::from(NodePathError::OutOfMemory)),
+        "path memory" => Ok(GroupCreateError::from(NodePathError::OutOfMemory)),
+        word => Err(GroupCreateError::from(no_word(alloc, word))),
     }
 }
 
-// The kind and the text of the refusal of a group, or of what that of a node becomes.
-fn refused(alloc: Global, given: &str) -> Result<String, GroupCreateError> {
+// The refusal of a group, that of a node, or what that of a node becomes as that of a group.
+fn error_text(alloc: Global, given: &str) -> Result<String, GroupCreateError> {
     let (of, name) = fields(given);
     let error = match of {
-        "node" => GroupCreateError::from_node_error(alloc, node_error(alloc, name)?),
-        _ => group_error(alloc, name)?,
+        "node" => return Ok(refusal(alloc, &node_error(alloc, name)?)?),
+        "of a node" => GroupCreateError::from_node_error(alloc, node_error(alloc, name)?),
+        "group" => group_error(alloc, name)?,
+        word => GroupCreateError::from(no_word(alloc, word)),
     };
-    kind_and_text(alloc, &error)
+    Ok(refusal_text(alloc, &error)?)
 }
 
-// Refusals, and their kinds and texts.
+// Refusals, with their variants and texts.
 const REFUSED: &str = r#"
 # The refusal of a node becomes that of a group.
-node | fault => storage: store fault
-node | mismatch => storage: Found V2 metadata in V3 key or vice-versa
-node | missing => storage: Metadata is missing for /a
-node | path memory => memory: out of memory
-node | path => storage: invalid node path x
-node | prefix => storage: invalid store prefix /
-node | memory => memory: out of memory
+of a node | fault => StorageError(Fault): store fault
+of a node | mismatch => StorageError(Other): Found V2 metadata in V3 key or vice-versa
+of a node | missing => StorageError(Other): Metadata is missing for /a
+of a node | path memory => OutOfMemory: out of memory
+of a node | path => StorageError(Other): invalid node path x
+of a node | prefix => StorageError(Other): invalid store prefix /
+of a node | memory => OutOfMemory: out of memory
+
+# So does the want of a block that is demanded.
+node | block => MissingMetadata: Metadata is missing for Consolidated metadata required but missing on group /
+of a node | block => StorageError(Other): Metadata is missing for Consolidated metadata required but missing on group /
 
 # Refusals have their texts.
-group | field => other: unsupported additional field a
-group | missing => other: group metadata is missing
-group | memory => memory: out of memory
-group | storage => storage: store fault
-group | path memory => other: out of memory
+group | field => AdditionalFieldUnsupportedError: unsupported additional field a, a 1
+group | missing => MissingMetadata: group metadata is missing
+group | memory => OutOfMemory: out of memory
+group | storage => StorageError(Fault): store fault
+group | path memory => NodePathError(OutOfMemory): out of memory
 "#;
 
 #[test]
-fn refusals_have_their_texts(rt: HostRuntime) -> Result<(), Fail> {
-    check_rows(rt.alloc(), REFUSED, refused)
+fn refusals_have_their_variants_and_texts(rt: HostRuntime) -> Result<(), Fail> {
+    check_rows(rt.alloc(), REFUSED, error_text)
 }
 
 // Whether a group of version 3 with an attribute of so many lists in each other is shallow.
 fn shallow_said(alloc: Global, levels: &str) -> Result<String, GroupCreateError> {
-    let levels = levels.parse::<usize>().unwrap_or(0);
+    let Ok(count) = levels.parse::<usize>() else {
+        return Err(GroupCreateError::from(no_word(alloc, levels)));
+    };
     let mut given = String::from_str(alloc, r#"3 | {"k":"#)?;
-    for _ in 0..levels {
+    for _ in 0..count {
         given.push('[')?;
     }
-    for _ in 0..levels {
+    for _ in 0..count {
         given.push(']')?;
     }
     given.push_str("} | {}")?;
     let group = group_of(alloc, given.as_str(), &Config::new())?;
-    Ok(String::from_str(
-        alloc,
-        if group.is_shallow(alloc)? {
-            "yes"
-        } else {
-            "no"
-        },
-    )?)
+    Ok(printed(&group.is_shallow(alloc)?, alloc)?)
 }
 
 // The lists in each other, which stand two levels deep in the document; whether it nests at most 127 levels.
 const SHALLOW: &str = r#"
-1 => yes
-125 => yes
-126 => no
+1 => true
+125 => true
+126 => false
 "#;
 
 #[test]

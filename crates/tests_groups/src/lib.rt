@@ -6,5 +6,3 @@
 mod group_children;
 #[cfg(test)]
 mod groups;
-#[cfg(test)]
-mod rows;
