@@ -156,25 +156,22 @@ const ITSELF: &str = r#"
 {"a":18446744073709551616} => false
 "#;
 
-// The object that a text is; the empty one where it is none, or where there is no memory.
-fn object_of(alloc: Global, text: &str) -> Object {
-    match Value::from_str(alloc, text) {
-        Ok(Value::Object(members)) => match Object::from_map(alloc, members) {
-            Ok(object) => object,
-            Err(_) => Object::new(alloc),
-        },
-        _ => Object::new(alloc),
-    }
-}
-
 // Whether a version 3 group with these attributes is the same as itself.
-fn compared_with_itself(alloc: Global, attributes: &str) -> Result<String, AllocError> {
+fn is_same_as_itself(alloc: Global, attributes: Object) -> Result<String, AllocError> {
     let mut group = GroupMetadataV3::new(alloc);
-    group.attributes = object_of(alloc, attributes);
+    group.attributes = attributes;
     let node = NodeMetadata::Group(GroupMetadata::V3(group));
     said(alloc, made(node), |node, alloc| {
         format!(in alloc; "{}", is_same_metadata(node, node))
     })
+}
+
+// That of the object that a text is.
+fn compared_with_itself(alloc: Global, text: &str) -> Result<String, AllocError> {
+    match Value::from_str(alloc, text) {
+        Ok(Value::Object(members)) => is_same_as_itself(alloc, Object::from_map(alloc, members)?),
+        _ => format!(in alloc; "no object: {text}"),
+    }
 }
 
 #[test]
