@@ -1,7 +1,7 @@
 //! Stores that fail, and memory that is refused: what opening, listing, printing, storing and erasing answer then, and what they leave.
 //!
-//! A call that reads is a value here, and what it answers a text, so one loop goes over all calls and all places of a store. A store is
-//! lent to such a call for reading alone, so it is left as it was. Each allocation of the tests `memory_fails_in_..` is refused in turn
+//! A call that reads is a word here, and what it answers a text, so one loop goes over all calls and all places of a store. A store is
+//! lent to such a call only for reading, so it is left as it was. Each allocation of the tests `memory_fails_in_..` is refused in turn
 //! by `bench/failures`; such a test ends then as usual, or in an error that is out of memory.
 ghost use Rattle.std.specs.Prelude.{◌≡◌, true, IfOk, IfErr, OnOk, OnErr};
 ghost use Rattle.zarrs_store.specs.FailingStores.{inner_contents};
@@ -13,18 +13,20 @@ ghost use Rattle.zarrs_node.specs.Nodes.{Nodes, Ignored, ShowsBad, HasNothingBad
 ghost use Rattle.zarrs_group.specs.Edits.{after, IsCutShort};
 ghost use Rattle.zarrs_group.specs.StoringGroups.{edits_of_group, erase_edits, RefusesStoringGroup};
 
+use crate::hierarchies::nodes_text;
 use log::sink::Discard;
 use std::alloc::{AllocError, Global};
 use std::test::Fail;
 use tests_fixtures::{
-    A3_SQUARE, ANY, THREE_LEVELS, config_of, entries_of, forest_data, forest_text, key_of,
-    keys_text, listed_in, listing_text, metadata_in, pairs_text, paths_listed_in,
-    paths_listing_text, paths_text, store_of, with_block,
+    A3_SQUARE, ANY, config_of, document_text, entries_of, entries_text, forest_text, key_of,
+    listed_in, listing_text, metadata_in, no_word, node_text, pairs_text, paths_listed_in,
+    paths_listing_text, paths_text, policy_of, version_of,
 };
 use tests_group_fixtures::{
-    LEVELS, LEVELS_DATA, Step, done, groups_text, levels, refused, with_block as with_block_of,
+    Step, consolidated, done, group_of as group_of_document, group_text, groups_text, held_text,
+    is_out_of_memory, store_in, with_block as with_block_of,
 };
-use tests_support::{A2, G2, G3, check_rows, fields, said};
+use tests_support::{A2, G2, G3, check_rows, fields, refusal, said};
 use zarrs_block::{ConsolidatedMetadataMetadata, NodeCreateError};
 use zarrs_config::{
     Config, GroupMetadataOptions, MetadataConvertVersion, MetadataEraseVersion,
@@ -32,15 +34,15 @@ use zarrs_config::{
 };
 use zarrs_group::{Group, GroupCreateError};
 use zarrs_hierarchy::Hierarchy;
-use zarrs_meta::{GroupMetadata, GroupMetadataV2, NodeMetadata};
+use zarrs_meta::NodeMetadata;
 use zarrs_node::{
     ListedNodes, Node, get_all_nodes_of, get_child_nodes_opt, list_nodes, node_exists,
     node_exists_listable, refresh_block,
 };
 use zarrs_path::NodePath;
 use zarrs_store::{
-    FaultAt, FaultStore, ListableStorageTraits, MemoryStore, ReadableStorageTraits, StorageError,
-    StorePrefix, StorePrefixError, WritableStorageTraits,
+    FaultAt, FaultStore, MemoryStore, StorageError, StorePrefix, StorePrefixError,
+    WritableStorageTraits,
 };
 
 // ---- what is promised over a store that fails: the contracts of the calls over any store, at this one
@@ -126,14 +128,8 @@ fn erased_over_faults(
 
 // ---- places
 
-// A place at which a store fails, by the text of its key or prefix.
-#[derive(Clone, Copy, Drop)]
-enum Place<'a> {
-    Get(&'a str),
-    List(&'a str),
-    Set(&'a str),
-    Erase(&'a str),
-}
+// A place at which a store fails: `get`, `list`, `set` or `erase`, and the text of its key or prefix.
+type Place<'a> = (&'a str, &'a str);
 
 fn prefix_of(alloc: Global, text: &str) -> Result<StorePrefix, StorageError> {
     match StorePrefix::new(alloc, text) {
@@ -144,23 +140,24 @@ fn prefix_of(alloc: Global, text: &str) -> Result<StorePrefix, StorageError> {
 }
 
 fn fault_at(alloc: Global, place: Place) -> Result<FaultAt, StorageError> {
-    match place {
-        Place::Get(key) => Ok(FaultAt::OnGet(key_of(alloc, key)?)),
-        Place::List(prefix) => Ok(FaultAt::OnList(prefix_of(alloc, prefix)?)),
-        Place::Set(key) => Ok(FaultAt::OnSet(key_of(alloc, key)?)),
-        Place::Erase(key) => Ok(FaultAt::OnErase(key_of(alloc, key)?)),
+    let (call, text) = place;
+    match call {
+        "get" => Ok(FaultAt::OnGet(key_of(alloc, text)?)),
+        "list" => Ok(FaultAt::OnList(prefix_of(alloc, text)?)),
+        "set" => Ok(FaultAt::OnSet(key_of(alloc, text)?)),
+        "erase" => Ok(FaultAt::OnErase(key_of(alloc, text)?)),
+        word => Err(no_word(alloc, word)),
     }
 }
 
-// The store with these documents that fails at a place.
-fn failing(
-    alloc: Global,
-    documents: &[(&str, &str)],
-    place: Place,
-) -> Result<FaultStore, StorageError> {
-    let store = store_of(alloc, documents)?;
+// The store with the documents of a list that fails at a place.
+fn failing(alloc: Global, list: &str, place: Place) -> Result<FaultStore, StorageError> {
+    let store = store_in(alloc, list)?;
     Ok(FaultStore::new(store, fault_at(alloc, place)?))
 }
+
+// A place to which no call comes that reads.
+const NOWHERE: Place<'static> = ("erase", "nowhere");
 
 // All places at these keys and these prefixes.
 fn places_of<'a>(
@@ -170,53 +167,35 @@ fn places_of<'a>(
 ) -> Result<Vec<Place<'a>>, AllocError> {
     let mut places = Vec::new(alloc);
     for key in keys {
-        places.push(Place::Get(*key))?;
-        places.push(Place::Set(*key))?;
-        places.push(Place::Erase(*key))?;
+        for call in ["get", "set", "erase"] {
+            places.push((call, *key))?;
+        }
     }
     for prefix in prefixes {
-        places.push(Place::List(*prefix))?;
+        places.push(("list", *prefix))?;
     }
     Ok(places)
 }
 
 // ---- calls that read, and what they answer
 
-// A call that reads a store, and prints what it found.
-#[derive(Clone, Copy, Drop)]
-enum Call {
-    Metadata,
-    Exists,
-    Listed(bool),
-    Paths(bool),
-    All,
-    Opened,
-    Hierarchy,
-    Group,
-    Children(bool),
-    Traversed,
-    Kinds,
-    FromGroup,
-    Refreshed,
-}
-
-const CALLS: [Call; 16] = [
-    Call::Metadata,
-    Call::Exists,
-    Call::Listed(true),
-    Call::Listed(false),
-    Call::Paths(true),
-    Call::Paths(false),
-    Call::All,
-    Call::Opened,
-    Call::Hierarchy,
-    Call::Group,
-    Call::Children(true),
-    Call::Children(false),
-    Call::Traversed,
-    Call::Kinds,
-    Call::FromGroup,
-    Call::Refreshed,
+const CALLS: [&str; 16] = [
+    "metadata",
+    "exists",
+    "listed",
+    "listed one",
+    "paths",
+    "paths one",
+    "all",
+    "refreshed",
+    "node",
+    "hierarchy",
+    "group",
+    "children",
+    "children one",
+    "traversed",
+    "kinds",
+    "from group",
 ];
 
 // What a call is asked: a path, the version of the documents, and the policy of blocks.
@@ -227,18 +206,18 @@ struct Asked<'a> {
     policy: UseConsolidatedMetadata,
 }
 
-// This path, by default.
-fn by_default(path: &str) -> Asked<'_> {
+// This path, by a version, with the policy auto.
+fn by_version(path: &str, version: MetadataRetrieveVersion) -> Asked<'_> {
     Asked {
         path,
-        version: ANY,
+        version,
         policy: UseConsolidatedMetadata::Auto,
     }
 }
 
-fn exists_in<S: ReadableStorageTraits + ListableStorageTraits>(
+fn exists_in(
     alloc: Global,
-    store: &S,
+    store: &FaultStore,
     path: &str,
 ) -> Result<(bool, bool), NodeCreateError> {
     let path = NodePath::new(alloc, path)?;
@@ -247,9 +226,9 @@ fn exists_in<S: ReadableStorageTraits + ListableStorageTraits>(
     Ok((read, listed))
 }
 
-fn all_in<S: ReadableStorageTraits + ListableStorageTraits>(
+fn all_in(
     alloc: Global,
-    store: &S,
+    store: &FaultStore,
     asked: Asked,
 ) -> Result<Vec<(NodePath, NodeMetadata)>, NodeCreateError> {
     let path = NodePath::new(alloc, asked.path)?;
@@ -257,9 +236,9 @@ fn all_in<S: ReadableStorageTraits + ListableStorageTraits>(
 }
 
 // A block of two nodes at the root, made current at a path; at the root itself it stays.
-fn refreshed_at<S: ReadableStorageTraits + ListableStorageTraits>(
+fn refreshed_at(
     alloc: Global,
-    store: &S,
+    store: &FaultStore,
     asked: Asked,
 ) -> Result<ConsolidatedMetadataMetadata, NodeCreateError> {
     let block = entries_of(alloc, &[("group", G3), ("group/old", A3_SQUARE)])?;
@@ -275,98 +254,116 @@ fn exists_text(exists: &(bool, bool), alloc: Global) -> Result<String, AllocErro
     format!(in alloc; "{} {}", exists.0, exists.1)
 }
 
-fn tree(hierarchy: &Hierarchy, alloc: Global) -> Result<String, AllocError> {
-    hierarchy.tree(alloc)
+// The nodes of a hierarchy, and its text.
+fn hierarchy_text(hierarchy: &Hierarchy, alloc: Global) -> Result<String, AllocError> {
+    let mut text = nodes_text(hierarchy, alloc)?;
+    text.push_str(hierarchy.tree(alloc)?.as_str())?;
+    Ok(text)
+}
+
+// A node with all below it, and its text.
+fn tree_text(node: &Node, alloc: Global) -> Result<String, AllocError> {
+    let mut text = node_text(node, alloc)?;
+    text.push_str(node.hierarchy_tree(alloc)?.as_str())?;
+    Ok(text)
 }
 
 // What a call answers of a path of a store, and of what stands below it.
-fn answered<S: ReadableStorageTraits + ListableStorageTraits>(
+fn answered(
     alloc: Global,
-    store: &S,
-    call: Call,
+    store: &FaultStore,
+    call: &str,
     asked: Asked,
 ) -> Result<String, AllocError> {
     let Asked { path, version, .. } = asked;
+    let recursive = !call.ends_with(" one");
     match call {
-        Call::Metadata => {
+        "metadata" => {
             let metadata = metadata_in(alloc, store, path, version);
-            said(alloc, metadata, NodeMetadata::to_text)
+            said(alloc, metadata, document_text)
         }
-        Call::Exists => said(alloc, exists_in(alloc, store, path), exists_text),
-        Call::Listed(recursive) => {
+        "exists" => said(alloc, exists_in(alloc, store, path), exists_text),
+        "listed" | "listed one" => {
             let listed = listed_in(alloc, store, path, recursive, version);
             said(alloc, listed, listing_text)
         }
-        Call::Paths(recursive) => {
+        "paths" | "paths one" => {
             let listed = paths_listed_in(alloc, store, path, recursive, version);
             said(alloc, listed, paths_listing_text)
         }
-        Call::All => said(alloc, all_in(alloc, store, asked), pairs_text),
-        Call::Refreshed => said(alloc, refreshed_at(alloc, store, asked), keys_text),
-        _ => opened_text(alloc, store, call, asked),
+        "all" => said(alloc, all_in(alloc, store, asked), pairs_text),
+        "refreshed" => said(alloc, refreshed_at(alloc, store, asked), entries_text),
+        call => opened_text(alloc, store, call, asked),
     }
 }
 
 // What a call answers that opens a path first.
-fn opened_text<S: ReadableStorageTraits + ListableStorageTraits>(
+fn opened_text(
     alloc: Global,
-    store: &S,
-    call: Call,
+    store: &FaultStore,
+    call: &str,
     asked: Asked,
 ) -> Result<String, AllocError> {
     let Asked { path, version, .. } = asked;
     let config = config_of(asked.policy);
     match call {
-        Call::Opened => {
+        "node" => {
             let node = Node::open_opt(&Discard, alloc, store, path, &version, &config);
-            said(alloc, node, Node::hierarchy_tree)
+            said(alloc, node, tree_text)
         }
-        Call::Hierarchy => {
+        "hierarchy" => {
             let hierarchy = Hierarchy::open_opt(&Discard, alloc, store, path, &version, &config);
-            said(alloc, hierarchy, tree)
+            said(alloc, hierarchy, hierarchy_text)
         }
-        _ => {
+        call => {
             let group = Group::open_opt(alloc, store, path, &version, &config);
             said(
                 alloc,
                 group,
-                |group: &Group, alloc| group_text(group, alloc, store, call, &config),
+                |group: &Group, alloc| call_text(group, alloc, store, call, &config),
             )
         }
     }
 }
 
 // What a call on a group answers.
-fn group_text<S: ReadableStorageTraits + ListableStorageTraits>(
+fn call_text(
     group: &Group,
     alloc: Global,
-    store: &S,
-    call: Call,
+    store: &FaultStore,
+    call: &str,
     config: &Config,
 ) -> Result<String, AllocError> {
     match call {
-        Call::Children(recursive) => {
+        "group" => group_text(group, alloc),
+        "children" | "children one" => {
+            let recursive = call == "children";
             let nodes = group.children(&Discard, alloc, store, config, recursive);
             said(alloc, nodes, forest_text)
         }
-        Call::Traversed => {
+        "traversed" => {
             let pairs = group.traverse(&Discard, alloc, store, config);
             said(alloc, pairs, pairs_text)
         }
-        Call::Kinds => kinds_text(group, alloc, store, config),
-        Call::FromGroup => {
+        "kinds" => kinds_text(group, alloc, store, config),
+        "from group" => {
             let hierarchy = Hierarchy::try_from_group(&Discard, alloc, group, store);
-            said(alloc, hierarchy, tree)
+            said(alloc, hierarchy, hierarchy_text)
         }
-        _ => group.to_text(alloc),
+        word => format!(in alloc; "no such word: {word}"),
     }
 }
 
+// Whether a text is the fault of the store, or out of memory.
+fn is_excused(text: &str) -> bool {
+    text == FAULT || is_out_of_memory(text)
+}
+
 // The groups among the children of a group, the paths of all, of those groups and of the arrays; or the first refusal.
-fn kinds_text<S: ReadableStorageTraits + ListableStorageTraits>(
+fn kinds_text(
     group: &Group,
     alloc: Global,
-    store: &S,
+    store: &FaultStore,
     config: &Config,
 ) -> Result<String, AllocError> {
     let groups = group.child_groups(&Discard, alloc, store, config);
@@ -376,11 +373,11 @@ fn kinds_text<S: ReadableStorageTraits + ListableStorageTraits>(
         group.child_group_paths(&Discard, alloc, store, config),
         group.child_array_paths(&Discard, alloc, store, config),
     ] {
-        if text.as_str() == FAULT || text.as_str() == NO_MEMORY {
+        if is_excused(text.as_str()) {
             return Ok(text);
         }
         let more = said(alloc, paths, paths_text)?;
-        text = if more.as_str() == FAULT || more.as_str() == NO_MEMORY {
+        text = if is_excused(more.as_str()) {
             more
         } else {
             format!(in alloc; "{text}:\n{more}")?
@@ -389,11 +386,8 @@ fn kinds_text<S: ReadableStorageTraits + ListableStorageTraits>(
     Ok(text)
 }
 
-// The text of a fault of the store.
-const FAULT: &str = "store fault";
-
-// The text of out of memory.
-const NO_MEMORY: &str = "out of memory";
+// The fault of a store, as the refusal of a node or of a group.
+const FAULT: &str = "StorageError(Fault): store fault";
 
 fn is_same(found: &str, wanted: &str) -> Result<(), Fail> {
     if found == wanted {
@@ -405,62 +399,31 @@ fn is_same(found: &str, wanted: &str) -> Result<(), Fail> {
 
 // ---- single faults
 
-// What a call answers as a text, with the fault of the store, and no other error, as `the fault`.
-fn fault_or<T, F>(
-    alloc: Global,
-    answer: Result<T, NodeCreateError>,
-    look: F,
-) -> Result<String, AllocError>
-where
-    T: Drop,
-    F: FnOnce(&T, Global) -> Result<String, AllocError>,
-    requires { F.IsAlwaysCallable look }
-{
-    match answer {
-        Err(NodeCreateError::StorageError(StorageError::Fault)) => {
-            String::from_str(alloc, "the fault")
-        }
-        answer => said(alloc, answer, look),
-    }
-}
-
-// What is listed below the root, as such a store promises it.
-fn listed_below(
-    alloc: Global,
-    store: &FaultStore,
-    recursive: bool,
-) -> Result<ListedNodes, NodeCreateError> {
+// What a call answers of three levels, whose store fails where it gets a key: what is listed, or the nodes, of all levels or of one.
+// `CALL | KEY`.
+fn below_a_key(alloc: Global, given: &str) -> Result<String, NodeCreateError> {
+    let (call, key) = fields(given);
+    let store = failing(alloc, "THREE_LEVELS", ("get", key))?;
     let root = NodePath::root(alloc)?;
-    listed_over_faults(alloc, store, &root, recursive, &ANY)
-}
-
-fn nodes_below(
-    alloc: Global,
-    store: &FaultStore,
-    recursive: bool,
-) -> Result<Vec<Node>, NodeCreateError> {
-    let root = NodePath::root(alloc)?;
-    nodes_over_faults(alloc, store, &root, recursive, &ANY)
-}
-
-// What a call answers of three levels, whose store fails where it gets a key: what is listed, or the nodes, of `all` levels or of one.
-// `CALL | LEVELS | KEY`.
-fn below_a_key(alloc: Global, given: &str) -> Result<String, StorageError> {
-    let (call, rest) = fields(given);
-    let (levels, key) = fields(rest);
-    let recursive = levels == "all";
-    let store = failing(alloc, &THREE_LEVELS, Place::Get(key))?;
+    let recursive = !call.ends_with(" one");
     match call {
-        "listed" => Ok(fault_or(alloc, listed_below(alloc, &store, recursive), listing_text)?),
-        _ => Ok(fault_or(alloc, nodes_below(alloc, &store, recursive), forest_text)?),
+        "listed" | "listed one" => {
+            let listed = listed_over_faults(alloc, &store, &root, recursive, &ANY);
+            Ok(said(alloc, listed, listing_text)?)
+        }
+        "nodes" | "nodes one" => {
+            let nodes = nodes_over_faults(alloc, &store, &root, recursive, &ANY);
+            Ok(said(alloc, nodes, forest_text)?)
+        }
+        word => Err(NodeCreateError::from(no_word(alloc, word))),
     }
 }
 
 const BELOW_A_KEY: &str = r#"
-listed | all | group/subgroup/zarr.json => the fault
-nodes | all | group/subgroup/zarr.json => the fault
-listed | one | group/subgroup/zarr.json => /array [10, 10] float32\n/group\n
-nodes | one | group/subgroup/zarr.json => /array [10, 10] float32\n/group\n
+listed | group/subgroup/zarr.json => StorageError(Fault): store fault
+nodes | group/subgroup/zarr.json => StorageError(Fault): store fault
+listed one | group/subgroup/zarr.json => /array A3_SQUARE\n/group G3\n
+nodes one | group/subgroup/zarr.json => /array A3_SQUARE\n/group G3\n
 "#;
 
 #[test]
@@ -468,44 +431,47 @@ fn a_listing_fails_where_it_comes_to_the_key(rt: HostRuntime) -> Result<(), Fail
     check_rows(rt.alloc(), BELOW_A_KEY, below_a_key)
 }
 
-// What a call that opens the root of three levels answers, where the store fails as it lists a prefix. `CALL | PREFIX`.
-fn over_a_prefix(alloc: Global, given: &str) -> Result<String, StorageError> {
+// What a call answers of three levels, whose store fails as it lists a prefix: `node` and `hierarchy` open the root, `traversed` is asked of
+// the group there, and `children` of the group `/group` with the block of all below it, over a store without documents. `CALL | PREFIX`.
+fn over_a_prefix(alloc: Global, given: &str) -> Result<String, GroupCreateError> {
     let (call, prefix) = fields(given);
-    let store = failing(alloc, &THREE_LEVELS, Place::List(prefix))?;
-    let config = Config::new();
-    let text = match call {
-        "node" => {
-            let node = Node::open(&Discard, alloc, &store, "/", &config);
-            fault_or(alloc, node, Node::hierarchy_tree)
-        }
-        "hierarchy" => {
-            let hierarchy = Hierarchy::open(&Discard, alloc, &store, "/", &config);
-            fault_or(alloc, hierarchy, tree)
-        }
-        _ => answered(alloc, &store, Call::Traversed, by_default("/")),
+    let list = if call == "children" {
+        "-"
+    } else {
+        "THREE_LEVELS"
     };
+    let store = failing(alloc, list, ("list", prefix))?;
+    let whole = store_in(alloc, "THREE_LEVELS")?;
+    let config = Config::new();
+    let group = match call {
+        "node" | "hierarchy" => {
+            let asked = by_version("/", ANY);
+            return Ok(opened_text(alloc, &store, call, asked)?);
+        }
+        "traversed" => Group::open(alloc, &whole, "/", &config),
+        "children" => consolidated(alloc, &whole, "/group"),
+        word => Err(GroupCreateError::from(no_word(alloc, word))),
+    };
+    let text = said(
+        alloc,
+        group,
+        |group: &Group, alloc| call_text(group, alloc, &store, call, &config),
+    );
     Ok(text?)
 }
 
 const OVER_A_PREFIX: &str = r#"
-node | group/ => the fault
-hierarchy | group/ => the fault
-traversed | group/ => store fault
+# the call that comes to the prefix fails
+node | group/ => StorageError(Fault): store fault
+hierarchy | group/ => StorageError(Fault): store fault
+traversed | group/ => StorageError(Fault): store fault
+# a block stands for a store that fails
+children | group/ => /group/array A3_SQUARE\n/group/subgroup G3\n  /group/subgroup/mysubarray A3_SQUARE\n
 "#;
 
 #[test]
 fn opening_fails_where_it_lists_the_prefix(rt: HostRuntime) -> Result<(), Fail> {
     check_rows(rt.alloc(), OVER_A_PREFIX, over_a_prefix)
-}
-
-#[test]
-fn a_block_stands_for_a_store_that_fails(rt: HostRuntime) -> Result<(), Fail> {
-    let alloc = rt.alloc();
-    let store = failing(alloc, &[], Place::List("group/"))?;
-    let group = levels(alloc)?;
-    let nodes = group.children(&Discard, alloc, &store, &Config::new(), true);
-    let found = said(alloc, nodes, forest_data)?;
-    is_same(found.as_str(), LEVELS_DATA)
 }
 
 // ---- storing and erasing
@@ -514,37 +480,15 @@ const OLD: &str = r#"{"zarr_format":2}"#;
 
 const OLD_K: &str = r#"{"attributes":{"k":1},"zarr_format":2}"#;
 
-// The version 2 group that a document is, at `/g`.
-fn old_group(alloc: Global, document: &str) -> Result<Group, GroupCreateError> {
-    match GroupMetadataV2::from_bytes(alloc, document.as_bytes()) {
-        Ok(metadata) => {
-            Group::new_with_metadata(alloc, "/g", GroupMetadata::V2(metadata), &Config::new())
-        }
-        Err(fault) => Err(refused(alloc, fault)),
-    }
-}
-
 // The group of a step.
 fn group_of(alloc: Global, held: Held) -> Result<Group, GroupCreateError> {
     let (document, has_block) = held;
-    let group = old_group(alloc, document);
+    let group = group_of_document(alloc, "/g", document);
     if has_block {
         with_block_of(alloc, group, &[("b", G2)])
     } else {
         group
     }
-}
-
-// The keys of a store, each with its bytes.
-fn held_text(alloc: Global, store: &MemoryStore) -> Result<String, StorageError> {
-    let mut text = String::new(alloc);
-    let keys = store.list(alloc)?;
-    for key in &keys {
-        let bytes = store.get(alloc, key)?.unwrap_or(Vec::new(alloc));
-        let bytes = String::from_utf8_lossy(alloc, bytes.as_slice())?;
-        write!(text, "{key} {bytes}\n")?;
-    }
-    Ok(text)
 }
 
 // What a change answers, and what the store then holds.
@@ -556,13 +500,16 @@ fn left_text(
     let held = held_text(alloc, store)?;
     match answer {
         Ok(()) => Ok(held),
-        Err(error) => Ok(format!(in alloc; "{error}: {held}")?),
+        Err(error) => {
+            let error = refusal(alloc, &error)?;
+            Ok(format!(in alloc; "{error}: {held}")?)
+        }
     }
 }
 
 // What storing the group with an attribute answers, and what the store then holds.
 fn stored_text(group: &Group, alloc: Global, place: Place) -> Result<String, StorageError> {
-    let mut store = failing(alloc, &[], place)?;
+    let mut store = failing(alloc, "-", place)?;
     let options = GroupMetadataOptions::default();
     let answer = stored_over_faults(alloc, group, &mut store, &options);
     left_text(alloc, answer, store.inner())
@@ -570,8 +517,8 @@ fn stored_text(group: &Group, alloc: Global, place: Place) -> Result<String, Sto
 
 // What erasing the documents of both versions then answers, and what the store then holds.
 fn erased_text(group: &Group, alloc: Global, place: Place) -> Result<String, StorageError> {
-    let documents = [("g/.zattrs", "a"), ("g/.zgroup", "g"), ("g/zarr.json", "j")];
-    let mut store = failing(alloc, &documents, place)?;
+    let list = "g/.zattrs=[a] g/.zgroup=[g] g/zarr.json=[j]";
+    let mut store = failing(alloc, list, place)?;
     let answer = erased_over_faults(alloc, group, &mut store, MetadataEraseVersion::All);
     left_text(alloc, answer, store.inner())
 }
@@ -580,20 +527,21 @@ fn erased_text(group: &Group, alloc: Global, place: Place) -> Result<String, Sto
 // `CALL | KEY`.
 fn left_at(alloc: Global, given: &str) -> Result<String, GroupCreateError> {
     let (call, key) = fields(given);
-    let group = old_group(alloc, OLD_K)?;
+    let group = group_of(alloc, (OLD_K, false))?;
     let text = match call {
-        "store" => stored_text(&group, alloc, Place::Set(key)),
-        _ => erased_text(&group, alloc, Place::Erase(key)),
+        "set" => stored_text(&group, alloc, (call, key)),
+        "erase" => erased_text(&group, alloc, (call, key)),
+        word => Err(no_word(alloc, word)),
     };
     Ok(text?)
 }
 
 const LEFT: &str = r#"
 # a failing write leaves half of its document
-store | g/.zattrs => store fault: g/.zattrs {\n  "k\n
-store | g/.zgroup => store fault: g/.zattrs {\n  "k": 1\n}\ng/.zgroup {\n  "zarr_f\n
+set | g/.zattrs => Fault: store fault: g/.zattrs {\n  "k\n
+set | g/.zgroup => Fault: store fault: g/.zattrs {\n  "k": 1\n}\ng/.zgroup {\n  "zarr_f\n
 # a failing erasure leaves its document
-erase | g/.zgroup => store fault: g/.zattrs a\ng/.zgroup g\n
+erase | g/.zgroup => Fault: store fault: g/.zattrs [a]\ng/.zgroup [g]\n
 "#;
 
 #[test]
@@ -720,7 +668,7 @@ fn change<S: WritableStorageTraits>(
 
 // The store before the step of this number: an array's document, and what the steps before left.
 fn before(alloc: Global, number: usize) -> Result<MemoryStore, StorageError> {
-    let mut store = store_of(alloc, &[("g/.zarray", A2)])?;
+    let mut store = store_in(alloc, "g/.zarray=A2")?;
     for (_, _, changes) in STEPS.iter().take(number) {
         change(alloc, &mut store, changes, 4)?;
     }
@@ -765,7 +713,7 @@ fn a_step_does_its_changes_up_to_the_one_that_fails(rt: HostRuntime) -> Result<(
             let wanted = changed_text(alloc, number, changes, *place)?;
             is_same(found.as_str(), wanted.as_str())?;
             runs = runs.saturating_add(1);
-            if found.as_str().starts_with(FAULT) {
+            if found.as_str().starts_with("Fault: ") {
                 faults = faults.saturating_add(1);
             }
         }
@@ -784,19 +732,14 @@ struct Runs {
     faults: u32,
 }
 
-// Runs all reading calls over these documents, with a fault at each of these places. The answer has to be the usual one, or the fault.
-fn run_all(
-    alloc: Global,
-    documents: &[(&str, &str)],
-    places: &[Place],
-    asked: Asked,
-) -> Result<Runs, Fail> {
-    let usual_store = store_of(alloc, documents)?;
+// Runs all reading calls over the documents of a list, with a fault at each of these places. The answer has to be the usual one, or the fault.
+fn run_all(alloc: Global, list: &str, places: &[Place], asked: Asked) -> Result<Runs, Fail> {
+    let usual_store = failing(alloc, list, NOWHERE)?;
     let mut runs = Runs { runs: 0, faults: 0 };
     for call in CALLS {
         let usual = answered(alloc, &usual_store, call, asked)?;
         for place in places {
-            let store = failing(alloc, documents, *place)?;
+            let store = failing(alloc, list, *place)?;
             let found = answered(alloc, &store, call, asked)?;
             runs.runs = runs.runs.saturating_add(1);
             if found.as_str() == FAULT {
@@ -810,15 +753,8 @@ fn run_all(
 }
 
 // The groups and arrays of three levels, and a group beside them.
-const LEVELS_AND_ONE: [(&str, &str); 7] = [
-    ("zarr.json", G3),
-    ("group/zarr.json", G3),
-    ("group/subgroup/zarr.json", G3),
-    ("group2/zarr.json", G3),
-    ("array/zarr.json", A3_SQUARE),
-    ("group/array/zarr.json", A3_SQUARE),
-    ("group/subgroup/mysubarray/zarr.json", A3_SQUARE),
-];
+const LEVELS_AND_ONE: &str =
+    "zarr.json=G3 group/zarr.json=G3 group/subgroup/zarr.json=G3 group2/zarr.json=G3 array/zarr.json=A3_SQUARE group/array/zarr.json=A3_SQUARE group/subgroup/mysubarray/zarr.json=A3_SQUARE";
 
 const LEVELS_KEYS: [&str; 7] = [
     "zarr.json",
@@ -843,7 +779,12 @@ const LEVELS_PREFIXES: [&str; 7] = [
 // Runs all reading calls at a path of three levels, and asks how many runs the fault refuses.
 fn reads_levels(alloc: Global, path: &str, wanted: u32) -> Result<(), Fail> {
     let places = places_of(alloc, &LEVELS_KEYS, &LEVELS_PREFIXES)?;
-    let runs = run_all(alloc, &LEVELS_AND_ONE, places.as_slice(), by_default(path))?;
+    let runs = run_all(
+        alloc,
+        LEVELS_AND_ONE,
+        places.as_slice(),
+        by_version(path, ANY),
+    )?;
     if runs.runs == 448 && runs.faults == wanted {
         return Ok(());
     }
@@ -853,17 +794,13 @@ fn reads_levels(alloc: Global, path: &str, wanted: u32) -> Result<(), Fail> {
 
 #[test]
 fn reading_three_levels_answers_as_usual_or_the_fault(rt: HostRuntime) -> Result<(), Fail> {
-    reads_levels(rt.alloc(), "/", 107)
-}
-
-#[test]
-fn reading_below_the_root_answers_as_usual_or_the_fault(rt: HostRuntime) -> Result<(), Fail> {
+    reads_levels(rt.alloc(), "/", 107)?;
     reads_levels(rt.alloc(), "/group", 69)?;
     reads_levels(rt.alloc(), "/array", 17)
 }
 
 // The documents of a group of version 2 and of one of version 3 at one path, beside an array's.
-const BOTH_VERSIONS: [(&str, &str); 4] = [("g/.zarray", A2), SET_K, SET_OLD, SET_NEW];
+const BOTH_VERSIONS: &str = r#"g/.zarray=A2 g/.zattrs={"k":1} g/.zgroup=G2 g/zarr.json=G3"#;
 
 #[test]
 fn reading_both_versions_answers_as_usual_or_the_fault(rt: HostRuntime) -> Result<(), Fail> {
@@ -875,12 +812,8 @@ fn reading_both_versions_answers_as_usual_or_the_fault(rt: HostRuntime) -> Resul
         ("/g", MetadataRetrieveVersion::V3, 25),
         ("/g", MetadataRetrieveVersion::V2, 38),
     ] {
-        let asked = Asked {
-            path,
-            version,
-            policy: UseConsolidatedMetadata::Auto,
-        };
-        let runs = run_all(alloc, &BOTH_VERSIONS, places.as_slice(), asked)?;
+        let asked = by_version(path, version);
+        let runs = run_all(alloc, BOTH_VERSIONS, places.as_slice(), asked)?;
         assert_eq!(rt; runs.runs, 272, "{path}");
         assert_eq!(rt; runs.faults, wanted, "{path}");
     }
@@ -889,84 +822,189 @@ fn reading_both_versions_answers_as_usual_or_the_fault(rt: HostRuntime) -> Resul
 
 // ---- reading, storing and erasing, with each allocation refused in turn
 
-// Hands out of memory on as such.
-fn unless_memory_failed(answer: &str) -> Result<(), Fail> {
-    if answer == NO_MEMORY {
-        Err(Fail::from(AllocError))
-    } else {
-        Ok(())
+// The documents of a store of the rows below.
+fn documents_of(alloc: Global, name: &str) -> Result<&str, StorageError> {
+    match name {
+        "LEVELS_AND_ONE" => Ok(LEVELS_AND_ONE),
+        "BLOCK" => Ok(BLOCK),
+        "BOTH_VERSIONS" => Ok(BOTH_VERSIONS),
+        "BESIDE" => Ok(BESIDE),
+        word => Err(no_word(alloc, word)),
     }
 }
 
-// Asks whether all reading calls answer twice the same over these documents. Of one refused allocation only one of the two can tell.
-fn answer_alike(alloc: Global, documents: &[(&str, &str)], asked: Asked) -> Result<(), Fail> {
-    let store = store_of(alloc, documents)?;
-    for call in CALLS {
-        let once = answered(alloc, &store, call, asked)?;
-        unless_memory_failed(once.as_str())?;
-        let again = answered(alloc, &store, call, asked)?;
-        unless_memory_failed(again.as_str())?;
-        is_same(again.as_str(), once.as_str())?;
-    }
-    Ok(())
+// What a call answers of a path of a store, by a version and a policy. `CALL | PATH | VERSION | POLICY | STORE`.
+fn read(alloc: Global, given: &str) -> Result<String, StorageError> {
+    let (call, rest) = fields(given);
+    let (path, rest) = fields(rest);
+    let (version, rest) = fields(rest);
+    let (policy, name) = fields(rest);
+    let asked = Asked {
+        path,
+        version: version_of(alloc, version)?,
+        policy: policy_of(alloc, policy)?,
+    };
+    let store = failing(alloc, documents_of(alloc, name)?, NOWHERE)?;
+    Ok(answered(alloc, &store, call, asked)?)
 }
+
+const LEVELS_READ: &str = r#"
+# three levels and a group beside them
+metadata | / | any | auto | LEVELS_AND_ONE => G3
+exists | / | any | auto | LEVELS_AND_ONE => true true
+listed | / | any | auto | LEVELS_AND_ONE => /array A3_SQUARE\n/group G3\n  /group/array A3_SQUARE\n  /group/subgroup G3\n    /group/subgroup/mysubarray A3_SQUARE\n/group2 G3\n
+listed one | / | any | auto | LEVELS_AND_ONE => /array A3_SQUARE\n/group G3\n/group2 G3\n
+paths | / | any | auto | LEVELS_AND_ONE => /array\n/group\n/group/array\n/group/subgroup\n/group/subgroup/mysubarray\n/group2\n
+paths one | / | any | auto | LEVELS_AND_ONE => /array\n/group\n/group2\n
+all | / | any | auto | LEVELS_AND_ONE => /array A3_SQUARE\n/group G3\n/group/array A3_SQUARE\n/group/subgroup G3\n/group/subgroup/mysubarray A3_SQUARE\n/group2 G3\n
+refreshed | / | any | auto | LEVELS_AND_ONE => group G3\ngroup/old A3_SQUARE\n
+node | / | any | auto | LEVELS_AND_ONE => / G3\n  /array A3_SQUARE\n  /group G3\n    /group/array A3_SQUARE\n    /group/subgroup G3\n      /group/subgroup/mysubarray A3_SQUARE\n  /group2 G3\n/\n  array [10, 10] float32\n  group\n    array [10, 10] float32\n    subgroup\n      mysubarray [10, 10] float32\n  group2\n
+hierarchy | / | any | auto | LEVELS_AND_ONE => / G3\n/array A3_SQUARE\n/group G3\n/group/array A3_SQUARE\n/group/subgroup G3\n/group/subgroup/mysubarray A3_SQUARE\n/group2 G3\n/\n  array [10, 10] float32\n  group\n    array [10, 10] float32\n    subgroup\n      mysubarray [10, 10] float32\n  group2\n
+group | / | any | auto | LEVELS_AND_ONE => group at / with metadata {"node_type":"group","zarr_format":3}
+children | / | any | auto | LEVELS_AND_ONE => /array A3_SQUARE\n/group G3\n  /group/array A3_SQUARE\n  /group/subgroup G3\n    /group/subgroup/mysubarray A3_SQUARE\n/group2 G3\n
+children one | / | any | auto | LEVELS_AND_ONE => /array A3_SQUARE\n/group G3\n/group2 G3\n
+traversed | / | any | auto | LEVELS_AND_ONE => /array A3_SQUARE\n/group G3\n/group/array A3_SQUARE\n/group/subgroup G3\n/group/subgroup/mysubarray A3_SQUARE\n/group2 G3\n
+kinds | / | any | auto | LEVELS_AND_ONE => group at /group with metadata {"node_type":"group","zarr_format":3}\ngroup at /group2 with metadata {"node_type":"group","zarr_format":3}\n:\n/array\n/group\n/group2\n:\n/group\n/group2\n:\n/array\n
+from group | / | any | auto | LEVELS_AND_ONE => / G3\n/array A3_SQUARE\n/group G3\n/group/array A3_SQUARE\n/group/subgroup G3\n/group/subgroup/mysubarray A3_SQUARE\n/group2 G3\n/\n  array [10, 10] float32\n  group\n    array [10, 10] float32\n    subgroup\n      mysubarray [10, 10] float32\n  group2\n
+"#;
 
 #[test]
 fn memory_fails_in_reading_three_levels(rt: HostRuntime) -> Result<(), Fail> {
-    answer_alike(rt.alloc(), &LEVELS_AND_ONE, by_default("/"))
+    check_rows(rt.alloc(), LEVELS_READ, read)
 }
+
+// A group with the block of an array, and of a group with an array, and none of them in the store.
+const BLOCK: &str =
+    r#"group/zarr.json={"consolidated_metadata":{"kind":"inline","metadata":{"array":{"chunk_grid":{"configuration":{"chunk_shape":[10,10]},"name":"regular"},"chunk_key_encoding":{"configuration":{"separator":"/"},"name":"default"},"codecs":[{"configuration":{"endian":"little"},"name":"bytes"}],"data_type":"float32","fill_value":0,"node_type":"array","shape":[10,10],"zarr_format":3},"subgroup":{"node_type":"group","zarr_format":3},"subgroup/mysubarray":{"chunk_grid":{"configuration":{"chunk_shape":[10,10]},"name":"regular"},"chunk_key_encoding":{"configuration":{"separator":"/"},"name":"default"},"codecs":[{"configuration":{"endian":"little"},"name":"bytes"}],"data_type":"float32","fill_value":0,"node_type":"array","shape":[10,10],"zarr_format":3}},"must_understand":false},"node_type":"group","zarr_format":3}"#;
+
+const BLOCK_READ: &str = r#"
+# by the block of three levels, under must
+metadata | /group | any | must | BLOCK => {"consolidated_metadata":{"kind":"inline","metadata":{"array":{"chunk_grid":{"configuration":{"chunk_shape":[10,10]},"name":"regular"},"chunk_key_encoding":{"configuration":{"separator":"/"},"name":"default"},"codecs":[{"configuration":{"endian":"little"},"name":"bytes"}],"data_type":"float32","fill_value":0,"node_type":"array","shape":[10,10],"zarr_format":3},"subgroup":{"node_type":"group","zarr_format":3},"subgroup/mysubarray":{"chunk_grid":{"configuration":{"chunk_shape":[10,10]},"name":"regular"},"chunk_key_encoding":{"configuration":{"separator":"/"},"name":"default"},"codecs":[{"configuration":{"endian":"little"},"name":"bytes"}],"data_type":"float32","fill_value":0,"node_type":"array","shape":[10,10],"zarr_format":3}},"must_understand":false},"node_type":"group","zarr_format":3}
+exists | /group | any | must | BLOCK => true true
+listed | /group | any | must | BLOCK =>
+listed one | /group | any | must | BLOCK =>
+paths | /group | any | must | BLOCK =>
+paths one | /group | any | must | BLOCK =>
+all | /group | any | must | BLOCK =>
+refreshed | /group | any | must | BLOCK => group {"consolidated_metadata":{"kind":"inline","metadata":{"array":{"chunk_grid":{"configuration":{"chunk_shape":[10,10]},"name":"regular"},"chunk_key_encoding":{"configuration":{"separator":"/"},"name":"default"},"codecs":[{"configuration":{"endian":"little"},"name":"bytes"}],"data_type":"float32","fill_value":0,"node_type":"array","shape":[10,10],"zarr_format":3},"subgroup":{"node_type":"group","zarr_format":3},"subgroup/mysubarray":{"chunk_grid":{"configuration":{"chunk_shape":[10,10]},"name":"regular"},"chunk_key_encoding":{"configuration":{"separator":"/"},"name":"default"},"codecs":[{"configuration":{"endian":"little"},"name":"bytes"}],"data_type":"float32","fill_value":0,"node_type":"array","shape":[10,10],"zarr_format":3}},"must_understand":false},"node_type":"group","zarr_format":3}\n
+node | /group | any | must | BLOCK => /group {"consolidated_metadata":{"kind":"inline","metadata":{"array":{"chunk_grid":{"configuration":{"chunk_shape":[10,10]},"name":"regular"},"chunk_key_encoding":{"configuration":{"separator":"/"},"name":"default"},"codecs":[{"configuration":{"endian":"little"},"name":"bytes"}],"data_type":"float32","fill_value":0,"node_type":"array","shape":[10,10],"zarr_format":3},"subgroup":{"node_type":"group","zarr_format":3},"subgroup/mysubarray":{"chunk_grid":{"configuration":{"chunk_shape":[10,10]},"name":"regular"},"chunk_key_encoding":{"configuration":{"separator":"/"},"name":"default"},"codecs":[{"configuration":{"endian":"little"},"name":"bytes"}],"data_type":"float32","fill_value":0,"node_type":"array","shape":[10,10],"zarr_format":3}},"must_understand":false},"node_type":"group","zarr_format":3}\n  /group/array A3_SQUARE\n  /group/subgroup G3\n    /group/subgroup/mysubarray A3_SQUARE\n/\n  array [10, 10] float32\n  subgroup\n    mysubarray [10, 10] float32\n
+hierarchy | /group | any | must | BLOCK => /group {"consolidated_metadata":{"kind":"inline","metadata":{"array":{"chunk_grid":{"configuration":{"chunk_shape":[10,10]},"name":"regular"},"chunk_key_encoding":{"configuration":{"separator":"/"},"name":"default"},"codecs":[{"configuration":{"endian":"little"},"name":"bytes"}],"data_type":"float32","fill_value":0,"node_type":"array","shape":[10,10],"zarr_format":3},"subgroup":{"node_type":"group","zarr_format":3},"subgroup/mysubarray":{"chunk_grid":{"configuration":{"chunk_shape":[10,10]},"name":"regular"},"chunk_key_encoding":{"configuration":{"separator":"/"},"name":"default"},"codecs":[{"configuration":{"endian":"little"},"name":"bytes"}],"data_type":"float32","fill_value":0,"node_type":"array","shape":[10,10],"zarr_format":3}},"must_understand":false},"node_type":"group","zarr_format":3}\n/group/array A3_SQUARE\n/group/subgroup G3\n/group/subgroup/mysubarray A3_SQUARE\n/\n  group\n    array [10, 10] float32\n    subgroup\n      mysubarray [10, 10] float32\n
+group | /group | any | must | BLOCK => group at /group with metadata {"consolidated_metadata":{"kind":"inline","metadata":{"array":{"chunk_grid":{"configuration":{"chunk_shape":[10,10]},"name":"regular"},"chunk_key_encoding":{"configuration":{"separator":"/"},"name":"default"},"codecs":[{"configuration":{"endian":"little"},"name":"bytes"}],"data_type":"float32","fill_value":0,"node_type":"array","shape":[10,10],"zarr_format":3},"subgroup":{"node_type":"group","zarr_format":3},"subgroup/mysubarray":{"chunk_grid":{"configuration":{"chunk_shape":[10,10]},"name":"regular"},"chunk_key_encoding":{"configuration":{"separator":"/"},"name":"default"},"codecs":[{"configuration":{"endian":"little"},"name":"bytes"}],"data_type":"float32","fill_value":0,"node_type":"array","shape":[10,10],"zarr_format":3}},"must_understand":false},"node_type":"group","zarr_format":3} and the block {"kind":"inline","metadata":{"array":{"chunk_grid":{"configuration":{"chunk_shape":[10,10]},"name":"regular"},"chunk_key_encoding":{"configuration":{"separator":"/"},"name":"default"},"codecs":[{"configuration":{"endian":"little"},"name":"bytes"}],"data_type":"float32","fill_value":0,"node_type":"array","shape":[10,10],"zarr_format":3},"subgroup":{"node_type":"group","zarr_format":3},"subgroup/mysubarray":{"chunk_grid":{"configuration":{"chunk_shape":[10,10]},"name":"regular"},"chunk_key_encoding":{"configuration":{"separator":"/"},"name":"default"},"codecs":[{"configuration":{"endian":"little"},"name":"bytes"}],"data_type":"float32","fill_value":0,"node_type":"array","shape":[10,10],"zarr_format":3}},"must_understand":false}
+children | /group | any | must | BLOCK => /group/array A3_SQUARE\n/group/subgroup G3\n  /group/subgroup/mysubarray A3_SQUARE\n
+children one | /group | any | must | BLOCK => /group/array A3_SQUARE\n/group/subgroup G3\n
+traversed | /group | any | must | BLOCK => /group/array A3_SQUARE\n/group/subgroup G3\n/group/subgroup/mysubarray A3_SQUARE\n
+kinds | /group | any | must | BLOCK => group at /group/subgroup with metadata {"node_type":"group","zarr_format":3}\n:\n/group/array\n/group/subgroup\n:\n/group/subgroup\n:\n/group/array\n
+from group | /group | any | must | BLOCK => /group {"consolidated_metadata":{"kind":"inline","metadata":{"array":{"chunk_grid":{"configuration":{"chunk_shape":[10,10]},"name":"regular"},"chunk_key_encoding":{"configuration":{"separator":"/"},"name":"default"},"codecs":[{"configuration":{"endian":"little"},"name":"bytes"}],"data_type":"float32","fill_value":0,"node_type":"array","shape":[10,10],"zarr_format":3},"subgroup":{"node_type":"group","zarr_format":3},"subgroup/mysubarray":{"chunk_grid":{"configuration":{"chunk_shape":[10,10]},"name":"regular"},"chunk_key_encoding":{"configuration":{"separator":"/"},"name":"default"},"codecs":[{"configuration":{"endian":"little"},"name":"bytes"}],"data_type":"float32","fill_value":0,"node_type":"array","shape":[10,10],"zarr_format":3}},"must_understand":false},"node_type":"group","zarr_format":3}\n/\n  group\n
+# by the block of three levels, under auto
+metadata | /group | any | auto | BLOCK => {"consolidated_metadata":{"kind":"inline","metadata":{"array":{"chunk_grid":{"configuration":{"chunk_shape":[10,10]},"name":"regular"},"chunk_key_encoding":{"configuration":{"separator":"/"},"name":"default"},"codecs":[{"configuration":{"endian":"little"},"name":"bytes"}],"data_type":"float32","fill_value":0,"node_type":"array","shape":[10,10],"zarr_format":3},"subgroup":{"node_type":"group","zarr_format":3},"subgroup/mysubarray":{"chunk_grid":{"configuration":{"chunk_shape":[10,10]},"name":"regular"},"chunk_key_encoding":{"configuration":{"separator":"/"},"name":"default"},"codecs":[{"configuration":{"endian":"little"},"name":"bytes"}],"data_type":"float32","fill_value":0,"node_type":"array","shape":[10,10],"zarr_format":3}},"must_understand":false},"node_type":"group","zarr_format":3}
+exists | /group | any | auto | BLOCK => true true
+listed | /group | any | auto | BLOCK =>
+listed one | /group | any | auto | BLOCK =>
+paths | /group | any | auto | BLOCK =>
+paths one | /group | any | auto | BLOCK =>
+all | /group | any | auto | BLOCK =>
+refreshed | /group | any | auto | BLOCK => group {"consolidated_metadata":{"kind":"inline","metadata":{"array":{"chunk_grid":{"configuration":{"chunk_shape":[10,10]},"name":"regular"},"chunk_key_encoding":{"configuration":{"separator":"/"},"name":"default"},"codecs":[{"configuration":{"endian":"little"},"name":"bytes"}],"data_type":"float32","fill_value":0,"node_type":"array","shape":[10,10],"zarr_format":3},"subgroup":{"node_type":"group","zarr_format":3},"subgroup/mysubarray":{"chunk_grid":{"configuration":{"chunk_shape":[10,10]},"name":"regular"},"chunk_key_encoding":{"configuration":{"separator":"/"},"name":"default"},"codecs":[{"configuration":{"endian":"little"},"name":"bytes"}],"data_type":"float32","fill_value":0,"node_type":"array","shape":[10,10],"zarr_format":3}},"must_understand":false},"node_type":"group","zarr_format":3}\n
+node | /group | any | auto | BLOCK => /group {"consolidated_metadata":{"kind":"inline","metadata":{"array":{"chunk_grid":{"configuration":{"chunk_shape":[10,10]},"name":"regular"},"chunk_key_encoding":{"configuration":{"separator":"/"},"name":"default"},"codecs":[{"configuration":{"endian":"little"},"name":"bytes"}],"data_type":"float32","fill_value":0,"node_type":"array","shape":[10,10],"zarr_format":3},"subgroup":{"node_type":"group","zarr_format":3},"subgroup/mysubarray":{"chunk_grid":{"configuration":{"chunk_shape":[10,10]},"name":"regular"},"chunk_key_encoding":{"configuration":{"separator":"/"},"name":"default"},"codecs":[{"configuration":{"endian":"little"},"name":"bytes"}],"data_type":"float32","fill_value":0,"node_type":"array","shape":[10,10],"zarr_format":3}},"must_understand":false},"node_type":"group","zarr_format":3}\n  /group/array A3_SQUARE\n  /group/subgroup G3\n    /group/subgroup/mysubarray A3_SQUARE\n/\n  array [10, 10] float32\n  subgroup\n    mysubarray [10, 10] float32\n
+hierarchy | /group | any | auto | BLOCK => /group {"consolidated_metadata":{"kind":"inline","metadata":{"array":{"chunk_grid":{"configuration":{"chunk_shape":[10,10]},"name":"regular"},"chunk_key_encoding":{"configuration":{"separator":"/"},"name":"default"},"codecs":[{"configuration":{"endian":"little"},"name":"bytes"}],"data_type":"float32","fill_value":0,"node_type":"array","shape":[10,10],"zarr_format":3},"subgroup":{"node_type":"group","zarr_format":3},"subgroup/mysubarray":{"chunk_grid":{"configuration":{"chunk_shape":[10,10]},"name":"regular"},"chunk_key_encoding":{"configuration":{"separator":"/"},"name":"default"},"codecs":[{"configuration":{"endian":"little"},"name":"bytes"}],"data_type":"float32","fill_value":0,"node_type":"array","shape":[10,10],"zarr_format":3}},"must_understand":false},"node_type":"group","zarr_format":3}\n/group/array A3_SQUARE\n/group/subgroup G3\n/group/subgroup/mysubarray A3_SQUARE\n/\n  group\n    array [10, 10] float32\n    subgroup\n      mysubarray [10, 10] float32\n
+group | /group | any | auto | BLOCK => group at /group with metadata {"consolidated_metadata":{"kind":"inline","metadata":{"array":{"chunk_grid":{"configuration":{"chunk_shape":[10,10]},"name":"regular"},"chunk_key_encoding":{"configuration":{"separator":"/"},"name":"default"},"codecs":[{"configuration":{"endian":"little"},"name":"bytes"}],"data_type":"float32","fill_value":0,"node_type":"array","shape":[10,10],"zarr_format":3},"subgroup":{"node_type":"group","zarr_format":3},"subgroup/mysubarray":{"chunk_grid":{"configuration":{"chunk_shape":[10,10]},"name":"regular"},"chunk_key_encoding":{"configuration":{"separator":"/"},"name":"default"},"codecs":[{"configuration":{"endian":"little"},"name":"bytes"}],"data_type":"float32","fill_value":0,"node_type":"array","shape":[10,10],"zarr_format":3}},"must_understand":false},"node_type":"group","zarr_format":3} and the block {"kind":"inline","metadata":{"array":{"chunk_grid":{"configuration":{"chunk_shape":[10,10]},"name":"regular"},"chunk_key_encoding":{"configuration":{"separator":"/"},"name":"default"},"codecs":[{"configuration":{"endian":"little"},"name":"bytes"}],"data_type":"float32","fill_value":0,"node_type":"array","shape":[10,10],"zarr_format":3},"subgroup":{"node_type":"group","zarr_format":3},"subgroup/mysubarray":{"chunk_grid":{"configuration":{"chunk_shape":[10,10]},"name":"regular"},"chunk_key_encoding":{"configuration":{"separator":"/"},"name":"default"},"codecs":[{"configuration":{"endian":"little"},"name":"bytes"}],"data_type":"float32","fill_value":0,"node_type":"array","shape":[10,10],"zarr_format":3}},"must_understand":false}
+children | /group | any | auto | BLOCK => /group/array A3_SQUARE\n/group/subgroup G3\n  /group/subgroup/mysubarray A3_SQUARE\n
+children one | /group | any | auto | BLOCK => /group/array A3_SQUARE\n/group/subgroup G3\n
+traversed | /group | any | auto | BLOCK => /group/array A3_SQUARE\n/group/subgroup G3\n/group/subgroup/mysubarray A3_SQUARE\n
+kinds | /group | any | auto | BLOCK => group at /group/subgroup with metadata {"node_type":"group","zarr_format":3}\n:\n/group/array\n/group/subgroup\n:\n/group/subgroup\n:\n/group/array\n
+from group | /group | any | auto | BLOCK => /group {"consolidated_metadata":{"kind":"inline","metadata":{"array":{"chunk_grid":{"configuration":{"chunk_shape":[10,10]},"name":"regular"},"chunk_key_encoding":{"configuration":{"separator":"/"},"name":"default"},"codecs":[{"configuration":{"endian":"little"},"name":"bytes"}],"data_type":"float32","fill_value":0,"node_type":"array","shape":[10,10],"zarr_format":3},"subgroup":{"node_type":"group","zarr_format":3},"subgroup/mysubarray":{"chunk_grid":{"configuration":{"chunk_shape":[10,10]},"name":"regular"},"chunk_key_encoding":{"configuration":{"separator":"/"},"name":"default"},"codecs":[{"configuration":{"endian":"little"},"name":"bytes"}],"data_type":"float32","fill_value":0,"node_type":"array","shape":[10,10],"zarr_format":3}},"must_understand":false},"node_type":"group","zarr_format":3}\n/\n  group\n
+"#;
 
 #[test]
 fn memory_fails_in_reading_a_block(rt: HostRuntime) -> Result<(), Fail> {
-    let alloc = rt.alloc();
-    let document = with_block(alloc, &LEVELS)?;
-    let documents = [("group/zarr.json", document.as_str())];
-    for policy in [UseConsolidatedMetadata::Must, UseConsolidatedMetadata::Auto] {
-        let asked = Asked {
-            path: "/group",
-            version: ANY,
-            policy,
-        };
-        answer_alike(alloc, &documents, asked)?;
-    }
-    Ok(())
+    check_rows(rt.alloc(), BLOCK_READ, read)
 }
+
+const VERSIONS_READ: &str = r#"
+# both versions, by version 3
+metadata | /g | v3 | auto | BOTH_VERSIONS => G3
+exists | /g | v3 | auto | BOTH_VERSIONS => true true
+listed | /g | v3 | auto | BOTH_VERSIONS =>
+listed one | /g | v3 | auto | BOTH_VERSIONS =>
+paths | /g | v3 | auto | BOTH_VERSIONS =>
+paths one | /g | v3 | auto | BOTH_VERSIONS =>
+all | /g | v3 | auto | BOTH_VERSIONS =>
+refreshed | /g | v3 | auto | BOTH_VERSIONS => g G3\ngroup G3\ngroup/old A3_SQUARE\n
+node | /g | v3 | auto | BOTH_VERSIONS => /g G3\n/\n
+hierarchy | /g | v3 | auto | BOTH_VERSIONS => /g G3\n/\n  g\n
+group | /g | v3 | auto | BOTH_VERSIONS => group at /g with metadata {"node_type":"group","zarr_format":3}
+children | /g | v3 | auto | BOTH_VERSIONS =>
+children one | /g | v3 | auto | BOTH_VERSIONS =>
+traversed | /g | v3 | auto | BOTH_VERSIONS =>
+kinds | /g | v3 | auto | BOTH_VERSIONS => :\n:\n:\n
+from group | /g | v3 | auto | BOTH_VERSIONS => /g G3\n/\n  g\n
+# both versions, by version 2: the array stands there for nodes, and the group for groups
+metadata | /g | v2 | auto | BOTH_VERSIONS => {"attributes":{"k":1},"chunks":[1],"compressor":null,"dimension_separator":".","dtype":"<f8","fill_value":"NaN","filters":null,"order":"C","shape":[1],"zarr_format":2}
+exists | /g | v2 | auto | BOTH_VERSIONS => true true
+listed | /g | v2 | auto | BOTH_VERSIONS =>
+listed one | /g | v2 | auto | BOTH_VERSIONS =>
+paths | /g | v2 | auto | BOTH_VERSIONS =>
+paths one | /g | v2 | auto | BOTH_VERSIONS =>
+all | /g | v2 | auto | BOTH_VERSIONS =>
+refreshed | /g | v2 | auto | BOTH_VERSIONS => g {"attributes":{"k":1},"chunks":[1],"compressor":null,"dimension_separator":".","dtype":"<f8","fill_value":"NaN","filters":null,"order":"C","shape":[1],"zarr_format":2}\ngroup G3\ngroup/old A3_SQUARE\n
+node | /g | v2 | auto | BOTH_VERSIONS => /g {"attributes":{"k":1},"chunks":[1],"compressor":null,"dimension_separator":".","dtype":"<f8","fill_value":"NaN","filters":null,"order":"C","shape":[1],"zarr_format":2}\n/ [1] Simple("<f8")\n
+hierarchy | /g | v2 | auto | BOTH_VERSIONS => /g {"attributes":{"k":1},"chunks":[1],"compressor":null,"dimension_separator":".","dtype":"<f8","fill_value":"NaN","filters":null,"order":"C","shape":[1],"zarr_format":2}\n/\n  g [1] Simple("<f8")\n
+group | /g | v2 | auto | BOTH_VERSIONS => group at /g with metadata {"attributes":{"k":1},"zarr_format":2}
+children | /g | v2 | auto | BOTH_VERSIONS =>
+children one | /g | v2 | auto | BOTH_VERSIONS =>
+traversed | /g | v2 | auto | BOTH_VERSIONS =>
+kinds | /g | v2 | auto | BOTH_VERSIONS => :\n:\n:\n
+from group | /g | v2 | auto | BOTH_VERSIONS => /g {"attributes":{"k":1},"zarr_format":2}\n/\n  g\n
+"#;
 
 #[test]
 fn memory_fails_in_reading_both_versions(rt: HostRuntime) -> Result<(), Fail> {
-    let alloc = rt.alloc();
-    for version in [MetadataRetrieveVersion::V3, MetadataRetrieveVersion::V2] {
-        let asked = Asked {
-            path: "/g",
-            version,
-            policy: UseConsolidatedMetadata::Auto,
-        };
-        answer_alike(alloc, &BOTH_VERSIONS, asked)?;
-    }
-    Ok(())
+    check_rows(rt.alloc(), VERSIONS_READ, read)
 }
 
 // A version 2 group with the block of an array and of a group beside it, and neither of them in the store.
-const BESIDE: [(&str, &str); 2] = [
-    ("g/.zgroup", G2),
-    (
-        "g/.zmetadata",
-        r#"{"metadata":{"a/.zarray":{"chunks":[1],"compressor":null,"dtype":"<f8","fill_value":"NaN","filters":null,"order":"C","shape":[1],"zarr_format":2},"a/.zattrs":{"k":1},"b/.zgroup":{"zarr_format":2}},"zarr_consolidated_format":1}"#,
-    ),
-];
+const BESIDE: &str =
+    r#"g/.zgroup=G2 g/.zmetadata={"metadata":{"a/.zarray":{"chunks":[1],"compressor":null,"dtype":"<f8","fill_value":"NaN","filters":null,"order":"C","shape":[1],"zarr_format":2},"a/.zattrs":{"k":1},"b/.zgroup":{"zarr_format":2}},"zarr_consolidated_format":1}"#;
+
+const BESIDE_READ: &str = r#"
+# by the block beside a version 2 group, under must
+metadata | /g | any | must | BESIDE => G2
+exists | /g | any | must | BESIDE => true true
+listed | /g | any | must | BESIDE =>
+listed one | /g | any | must | BESIDE =>
+paths | /g | any | must | BESIDE =>
+paths one | /g | any | must | BESIDE =>
+all | /g | any | must | BESIDE =>
+refreshed | /g | any | must | BESIDE => g G2\ngroup G3\ngroup/old A3_SQUARE\n
+node | /g | any | must | BESIDE => /g G2\n  /g/a {"attributes":{"k":1},"chunks":[1],"compressor":null,"dimension_separator":".","dtype":"<f8","fill_value":"NaN","filters":null,"order":"C","shape":[1],"zarr_format":2}\n  /g/b G2\n/\n  a [1] Simple("<f8")\n  b\n
+hierarchy | /g | any | must | BESIDE => /g G2\n/g/a {"attributes":{"k":1},"chunks":[1],"compressor":null,"dimension_separator":".","dtype":"<f8","fill_value":"NaN","filters":null,"order":"C","shape":[1],"zarr_format":2}\n/g/b G2\n/\n  g\n    a [1] Simple("<f8")\n    b\n
+group | /g | any | must | BESIDE => group at /g with metadata {"zarr_format":2} and the block {"kind":"inline","metadata":{"a":{"attributes":{"k":1},"chunks":[1],"compressor":null,"dimension_separator":".","dtype":"<f8","fill_value":"NaN","filters":null,"order":"C","shape":[1],"zarr_format":2},"b":{"zarr_format":2}},"must_understand":false}
+children | /g | any | must | BESIDE => /g/a {"attributes":{"k":1},"chunks":[1],"compressor":null,"dimension_separator":".","dtype":"<f8","fill_value":"NaN","filters":null,"order":"C","shape":[1],"zarr_format":2}\n/g/b G2\n
+children one | /g | any | must | BESIDE => /g/a {"attributes":{"k":1},"chunks":[1],"compressor":null,"dimension_separator":".","dtype":"<f8","fill_value":"NaN","filters":null,"order":"C","shape":[1],"zarr_format":2}\n/g/b G2\n
+traversed | /g | any | must | BESIDE => /g/a {"attributes":{"k":1},"chunks":[1],"compressor":null,"dimension_separator":".","dtype":"<f8","fill_value":"NaN","filters":null,"order":"C","shape":[1],"zarr_format":2}\n/g/b G2\n
+kinds | /g | any | must | BESIDE => group at /g/b with metadata {"zarr_format":2}\n:\n/g/a\n/g/b\n:\n/g/b\n:\n/g/a\n
+from group | /g | any | must | BESIDE => /g G2\n/\n  g\n
+# by the block beside a version 2 group, under auto
+metadata | /g | any | auto | BESIDE => G2
+exists | /g | any | auto | BESIDE => true true
+listed | /g | any | auto | BESIDE =>
+listed one | /g | any | auto | BESIDE =>
+paths | /g | any | auto | BESIDE =>
+paths one | /g | any | auto | BESIDE =>
+all | /g | any | auto | BESIDE =>
+refreshed | /g | any | auto | BESIDE => g G2\ngroup G3\ngroup/old A3_SQUARE\n
+node | /g | any | auto | BESIDE => /g G2\n  /g/a {"attributes":{"k":1},"chunks":[1],"compressor":null,"dimension_separator":".","dtype":"<f8","fill_value":"NaN","filters":null,"order":"C","shape":[1],"zarr_format":2}\n  /g/b G2\n/\n  a [1] Simple("<f8")\n  b\n
+hierarchy | /g | any | auto | BESIDE => /g G2\n/g/a {"attributes":{"k":1},"chunks":[1],"compressor":null,"dimension_separator":".","dtype":"<f8","fill_value":"NaN","filters":null,"order":"C","shape":[1],"zarr_format":2}\n/g/b G2\n/\n  g\n    a [1] Simple("<f8")\n    b\n
+group | /g | any | auto | BESIDE => group at /g with metadata {"zarr_format":2} and the block {"kind":"inline","metadata":{"a":{"attributes":{"k":1},"chunks":[1],"compressor":null,"dimension_separator":".","dtype":"<f8","fill_value":"NaN","filters":null,"order":"C","shape":[1],"zarr_format":2},"b":{"zarr_format":2}},"must_understand":false}
+children | /g | any | auto | BESIDE => /g/a {"attributes":{"k":1},"chunks":[1],"compressor":null,"dimension_separator":".","dtype":"<f8","fill_value":"NaN","filters":null,"order":"C","shape":[1],"zarr_format":2}\n/g/b G2\n
+children one | /g | any | auto | BESIDE => /g/a {"attributes":{"k":1},"chunks":[1],"compressor":null,"dimension_separator":".","dtype":"<f8","fill_value":"NaN","filters":null,"order":"C","shape":[1],"zarr_format":2}\n/g/b G2\n
+traversed | /g | any | auto | BESIDE => /g/a {"attributes":{"k":1},"chunks":[1],"compressor":null,"dimension_separator":".","dtype":"<f8","fill_value":"NaN","filters":null,"order":"C","shape":[1],"zarr_format":2}\n/g/b G2\n
+kinds | /g | any | auto | BESIDE => group at /g/b with metadata {"zarr_format":2}\n:\n/g/a\n/g/b\n:\n/g/b\n:\n/g/a\n
+from group | /g | any | auto | BESIDE => /g G2\n/\n  g\n
+"#;
 
 #[test]
 fn memory_fails_in_reading_a_block_of_version_2(rt: HostRuntime) -> Result<(), Fail> {
-    let alloc = rt.alloc();
-    for policy in [UseConsolidatedMetadata::Must, UseConsolidatedMetadata::Auto] {
-        let asked = Asked {
-            path: "/g",
-            version: ANY,
-            policy,
-        };
-        answer_alike(alloc, &BESIDE, asked)?;
-    }
-    Ok(())
+    check_rows(rt.alloc(), BESIDE_READ, read)
 }
 
 // Whether a store holds what the first changes of a step leave, for some number of them below `count`.

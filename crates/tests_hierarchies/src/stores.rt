@@ -1,59 +1,32 @@
-//! The stores and documents that rows name by words.
+//! The data set that a builder stores, beside the stores that are lists of documents.
 
-use std::alloc::{AllocError, Global};
-use std::fmt::Display;
-use tests_fixtures::{A3_SQUARE, THREE_LEVELS, key_of, store_of};
-use tests_support::{A2, A3, G2, G3};
-use zarrs_store::{MemoryStore, StorageError, WritableStorageTraits};
+use std::alloc::Global;
+use tests_fixtures::key_of;
+use tests_group_fixtures::{built_in, store_in as store_of_list};
+use zarrs_group::GroupCreateError;
+use zarrs_store::{MemoryStore, WritableStorageTraits};
 
-// The store of a row: the one with this name, or the one with these keys, each with its document behind a blank; `; ` parts them.
-pub(crate) fn store_in(alloc: Global, text: &str) -> Result<MemoryStore, StorageError> {
-    match text {
-        "nothing" => Ok(MemoryStore::new(alloc)),
-        "THREE_LEVELS" => store_of(alloc, &THREE_LEVELS),
-        _ => store_with(alloc, text),
-    }
-}
+// An array of version 3 with the shape `[10,10]` in chunks of `[5,5]`.
+const TILED: &str =
+    r#"{"chunk_grid":{"configuration":{"chunk_shape":[5,5]},"name":"regular"},"chunk_key_encoding":{"configuration":{"separator":"/"},"name":"default"},"codecs":[{"configuration":{"endian":"little"},"name":"bytes"}],"data_type":"float32","fill_value":0,"node_type":"array","shape":[10,10],"zarr_format":3}"#;
 
-// The store with these keys and documents.
-fn store_with(alloc: Global, text: &str) -> Result<MemoryStore, StorageError> {
-    let mut store = MemoryStore::new(alloc);
-    for pair in text.split("; ") {
-        let (key, document) = pair.split_once(' ').unwrap_or((pair, ""));
-        let key = key_of(alloc, key)?;
-        store.set(&key, document_of(document).as_bytes())?;
+// Groups in three levels that a builder of nothing makes and that are stored, and arrays in each.
+fn dataset(alloc: Global) -> Result<MemoryStore, GroupCreateError> {
+    let mut store = built_in(alloc, "/ /group /group/subgroup")?;
+    for key in [
+        "array/zarr.json",
+        "group/array/zarr.json",
+        "group/subgroup/mysubarray/zarr.json",
+    ] {
+        store.set(&key_of(alloc, key)?, TILED.as_bytes())?;
     }
     Ok(store)
 }
 
-// The document with this name, or the one that the text is.
-pub(crate) fn document_of(text: &str) -> &str {
-    match text {
-        "A2" => A2,
-        "A3" => A3,
-        "G2" => G2,
-        "G3" => G3,
-        "SQUARE" => A3_SQUARE,
-        "NUL" => "\0",
-        _ => text,
-    }
-}
-
-// What a call answers as a text: what `look` sees of the value by a word, or the text of the error.
-pub(crate) fn seen<T, E, F>(
-    alloc: Global,
-    answer: Result<T, E>,
-    word: &str,
-    look: F,
-) -> Result<String, AllocError>
-where
-    T: Drop,
-    E: Display + Drop,
-    F: FnOnce(&T, Global, &str) -> Result<String, AllocError>,
-    requires { F.IsAlwaysCallable look }
-{
-    match answer {
-        Ok(value) => look(&value, alloc, word),
-        Err(error) => format!(in alloc; "{error}"),
+/// The store of a row: `DATASET`, or the one of a list.
+pub(crate) fn store_in(alloc: Global, list: &str) -> Result<MemoryStore, GroupCreateError> {
+    match list {
+        "DATASET" => dataset(alloc),
+        list => Ok(store_of_list(alloc, list)?),
     }
 }
