@@ -203,6 +203,17 @@ fn groups_hold_blocks(rt: HostRuntime) -> Result<(), Fail> {
 
 // ---- what stands below a group
 
+// The trees below a group.
+fn trees_text(
+    group: &Group,
+    alloc: Global,
+    store: &MemoryStore,
+    config: &Config,
+) -> Result<String, AllocError> {
+    let nodes = group.children(&Discard, alloc, store, config, true);
+    said(alloc, nodes, forest_text)
+}
+
 // What stands below a group by a policy, over a store: its trees, its children alone, and all of it.
 fn below_text(
     group: &Group,
@@ -210,8 +221,7 @@ fn below_text(
     store: &MemoryStore,
     config: &Config,
 ) -> Result<String, AllocError> {
-    let trees = group.children(&Discard, alloc, store, config, true);
-    let trees = said(alloc, trees, forest_text)?;
+    let trees = trees_text(group, alloc, store, config)?;
     let children = group.children(&Discard, alloc, store, config, false);
     let children = said(alloc, children, forest_text)?;
     let all = group.traverse(&Discard, alloc, store, config);
@@ -434,10 +444,7 @@ fn kept_text(
     let path = group.path().as_str();
     match look {
         "held" => said(alloc, held_text(alloc, store), printed),
-        "children" => {
-            let nodes = group.children(&Discard, alloc, store, &config, true);
-            said(alloc, nodes, forest_text)
-        }
+        "children" => trees_text(group, alloc, store, &config),
         "node" => {
             let node = Node::open(&Discard, alloc, store, path, &config);
             said(alloc, node, node_text)
@@ -450,7 +457,7 @@ fn kept_text(
         "opened children" => said(
             alloc,
             Group::open(alloc, store, path, &config),
-            |group: &Group, alloc| kept_text(group, alloc, store, "children", policy),
+            |group: &Group, alloc| trees_text(group, alloc, store, &config),
         ),
         word => format!(in alloc; "no such word: {word}"),
     }
