@@ -81,8 +81,8 @@ some_text : (o : Option (List ℕ)) (text : List ℕ) → o ≡ Some text → Is
 some_text o text is = rw is
 
 -- no text was taken where none is
-pub no_text : (taken : Option (String Global)) (o : Option (List ℕ)) → taken ≡ None → option_map string_bytes taken ≡ o → IsSome o → ⊥
-no_text taken o none is some = let gone : None ≡ o = rw none at is in let no : IsSome {T = List ℕ} None = subst IsSome (sym gone) some in cc no
+pub no_text : {T : Type 0} (text : T → List ℕ) (taken : Option T) (o : Option (List ℕ)) → taken ≡ None → option_map text taken ≡ o → IsSome o → ⊥
+no_text text taken o none is some = let gone : None ≡ o = rw none at is in let no : IsSome {T = List ℕ} None = subst IsSome (sym gone) some in cc no
 
 -- before the first member
 pub holds_none : (all : List Entry) (store : Contents) → store ≡ map.empty → HoldsSoFar all all store
@@ -97,13 +97,17 @@ module _ {all rest : List Entry} {store : Contents} (so_far : HoldsSoFar all res
   splits_here = so_far.splits ∙ ap (λ (r : List Entry). so_far.done ++ r) first
 
   -- the member at hand is the first that may be bad
-  pub first_bad : IsFirstBad (seen all) (string_bytes e.0) (view e.1)
+  first_bad : IsFirstBad (seen all) (string_bytes e.0) (view e.1)
   first_bad = record {
     before = seen so_far.done;
     after = seen next;
     splits = ap seen splits_here ∙ seen-append so_far.done (e ∷ next);
     good = so_far.holds.entries;
   }
+
+  -- the member at hand is the first that may be bad, also by a copy of its name
+  pub first_bad_copy : (name : List ℕ) → name ≡ string_bytes e.0 → IsFirstBad (seen all) name (view e.1)
+  first_bad_copy name same = subst (λ n. IsFirstBad (seen all) n (view e.1)) (sym same) first_bad
 
   -- a good member, stored, leaves the members after it
   pub holds_more : IsStrictlySortedBy string_cmp (keys_of all) → IsKeyText (string_bytes e.0) → (text : List ℕ) → as_str (view e.1) ≡ Some text

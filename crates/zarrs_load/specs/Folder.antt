@@ -27,7 +27,7 @@ IsRead name bytes = (bytes ≡ []) ⊎ (Contains document_names name × IsWithin
 abbrev pub IsFound : List ℕ → List ℕ → Type 0
 IsFound text bytes = (front name : List ℕ) × (text ≡ joined_names front name) × IsRead name bytes
 
--- and those that the store has at any key: no bytes but of documents
+-- where the store has bytes at a key, they are those that a file has whose names are the key's text
 abbrev pub HoldsDocumentsAlone : Contents → Type 0
 HoldsDocumentsAlone store = (key : Segments) → IfSome (map.get store key) (IsFound (key_text key))
 

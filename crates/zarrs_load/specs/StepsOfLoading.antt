@@ -10,7 +10,7 @@ use Rattle.zarrs_load.specs.declared.fault.LoadFault.{LoadFault}
 use Rattle.zarrs_load.specs.declared.fault.LoadFault.TheVariants.{Image, ImageKey, ImageValue, OutOfMemory}
 use Rattle.zarrs_load.specs.Image.{IsFirstBad, IsReadFault}
 
--- so are the bytes of each file, at the text of its key
+-- the bytes of each file are those that a file has whose names are the text of its key
 abbrev pub AreFound : List (Segments × Vec ℕ Global) → Type 0
 AreFound files = All (λ f. IsFound (key_text f.0) f.1.items) files
 

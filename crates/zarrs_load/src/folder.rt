@@ -6,7 +6,7 @@ ghost use Rattle.zarrs_load.specs.Folder.{HoldsDocumentsAlone, IsFolderFault, Is
 ghost use Rattle.zarrs_load.specs.StepsOfLoading.{AreFound};
 
 use crate::fault::LoadFault;
-use crate::read::read_whole;
+use crate::read::ReadBuffer;
 use log::{Log, warn};
 use std::alloc::{AllocError, Global};
 use std::fmt::Display;
@@ -22,14 +22,14 @@ pub const MOST_ENTRIES: u32 = 1_000_000;
 /// The most folders that lie one in the other below the first.
 pub const MOST_DEPTH: u32 = 100;
 
-/// The store of the files below a folder. At its names joined by slashes a document, which is a file
-/// named `zarr.json`, `.zarray`, `.zgroup`, `.zattrs` or `.zmetadata`, stands with its bytes; every
-/// other file stands with none, and is not opened. What is neither a file nor a folder is passed
-/// over, links among them.
+/// The store of the files below a folder. Each file becomes a key, its path below the folder.
+/// Documents, which are the files named `zarr.json`, `.zarray`, `.zgroup`, `.zattrs` and
+/// `.zmetadata`, are read; every other file gets no bytes and is not opened. What is neither a file
+/// nor a folder is passed over, links among them.
 ///
 /// # Errors
 /// `Folder` where a folder or a file is not read, a name is not UTF-8, or a bound is passed: those
-/// on entries and depth, and that of [`read_whole`]. A warning names the folder or the file.
+/// on entries and depth, and that of [`crate::read_whole`]. A warning names the folder or the file.
 /// `OutOfMemory`.
 pub fn load_folder<R: Log + Files + AllocGlobal>(
     rt: &R,
@@ -48,6 +48,7 @@ pub fn load_folder<R: Log + Files + AllocGlobal>(
         files: Vec::new(alloc),
         folders: Vec::new(alloc),
         entries_left: MOST_ENTRIES,
+        buffer: ReadBuffer::new(alloc)?,
     };
     walk.folders.push(first)?;
     while let Some(folder) = walk.folders.pop() {
@@ -65,13 +66,14 @@ struct Folder {
     deeper: u32,
 }
 
-// The files that were found, the folders that are still to be listed, and how many more entries may
-// be looked at.
+// The files that were found, the folders that are still to be listed, how many more entries may be
+// looked at, and the buffer that documents are read with.
 #[derive(Drop)]
 struct Walk {
     files: Vec<(StoreKey, Vec<u8>)>,
     folders: Vec<Folder>,
     entries_left: u32,
+    buffer: ReadBuffer,
 }
 
 // Finds the files and the folders that lie in a folder.
@@ -119,7 +121,7 @@ fn take<R: Log + Files + AllocGlobal>(
         return Ok(());
     }
     if kind.is_file() {
-        return put(rt, path, folder.key.as_str(), name, &mut walk.files);
+        return put(rt, path, folder.key.as_str(), name, walk);
     }
     Ok(())
 }
@@ -168,14 +170,16 @@ fn put<R: Log + Files + AllocGlobal>(
     path: &str,
     front: &str,
     name: &str,
-    files: &mut Vec<(StoreKey, Vec<u8>)>,
+    walk: &mut Walk,
 ) -> Result<(), LoadFault>
-    ensures ok { OnOk result (AreFound files.old.items → AreFound files.new.items) }
+    ensures ok { OnOk result (AreFound walk.old.files.items → AreFound walk.new.files.items) }
+    ensures folders { OnOk result (vec_len walk.new.folders ≡ vec_len walk.old.folders) }
+    ensures left { OnOk result (walk.new.entries_left ≡ walk.old.entries_left) }
     ensures err { IfErr result IsFolderFault }
 {
     let key = key_of(rt, path, joined(rt.alloc(), front, name)?)?;
-    let bytes = bytes_of(rt, path, name)?;
-    files.push((key, bytes))?;
+    let bytes = bytes_of(rt, path, name, &mut walk.buffer)?;
+    walk.files.push((key, bytes))?;
     Ok(())
 }
 
@@ -194,6 +198,7 @@ fn bytes_of<R: Log + Files + AllocGlobal>(
     rt: &R,
     path: &str,
     name: &str,
+    buffer: &mut ReadBuffer,
 ) -> Result<Vec<u8>, LoadFault>
     ensures ok { IfOk result (λ bytes. IsRead name.now bytes.items) }
     ensures err { IfErr result IsFolderFault }
@@ -205,7 +210,7 @@ fn bytes_of<R: Log + Files + AllocGlobal>(
         Ok(file) => file,
         Err(e) => return Err(unread(rt, path, &e)),
     };
-    match read_whole(rt.alloc(), &mut file) {
+    match buffer.read_whole(rt.alloc(), &mut file) {
         Ok(bytes) => Ok(bytes),
         Err(LoadFault::OutOfMemory) => Err(LoadFault::OutOfMemory),
         Err(fault) => Err(refused(rt, path, fault)),

@@ -1,9 +1,9 @@
 //! A store from an image, a JSON object from keys to texts.
-ghost use Rattle.std.specs.Prelude.{◌≡◌, IfOk, IfErr, IfSome, OnOk, option_map, string_bytes};
+ghost use Rattle.std.specs.Prelude.{◌≡◌, IfOk, IfErr, IfSome, OnOk, option_map};
 ghost use Rattle.std.specs.FinMap as map;
 ghost use Rattle.std.specs.Io.KnownBytes.{IsAtEnd};
 ghost use Rattle.serde_json.specs.View.{members_view, view};
-ghost use Rattle.serde_json.specs.Find.{as_object, as_str};
+ghost use Rattle.serde_json.specs.Find.{as_object};
 ghost use Rattle.zarrs_store.specs.Segments.{key_cmp};
 ghost use Rattle.zarrs_load.specs.Reading.{IsWithinBound};
 ghost use Rattle.zarrs_load.specs.Image.{HoldsMembers, IsLoaded, IsObject, RefusedImage, member_list};
@@ -30,7 +30,7 @@ pub fn load_image<R: Read>(alloc: Global, reader: &mut R) -> Result<MemoryStore,
     ensures err { IfErr result (RefusedImage (R.remaining reader.old) (R.remaining reader.new)) }
 {
     let members = read_object(alloc, reader)?;
-    store_of(alloc, members)
+    store_of(alloc, &members)
 }
 
 // The members of the JSON object that a reader gives.
@@ -60,32 +60,26 @@ fn members_of(value: Value) -> Option<Map<String, Value>>
     }
 }
 
-// The text of a text.
-fn text_of(value: Value) -> Option<String>
-    ensures { option_map string_bytes result ≡ as_str (view value) }
-{
-    match value {
-        Value::String(text) => Some(text),
-        _ => None,
-    }
-}
-
-// The store of an object's members, whose names and texts it takes over.
-fn store_of(alloc: Global, members: Map<String, Value>) -> Result<MemoryStore, LoadFault>
+// The store of an object's members. Names and texts are copied out of members that are lent, which
+// are then dropped whole and leave one free piece of memory. Members that are taken apart leave a
+// hole for each few of them, and whatever is read later lies scattered over those holes.
+fn store_of(alloc: Global, members: &Map<String, Value>) -> Result<MemoryStore, LoadFault>
     ensures ok { IfOk result
-        (λ store. HoldsMembers (member_list (members_view members.entries))
+        (λ store. HoldsMembers (member_list (members_view members.now.entries))
         (map.from_entries {R = key_cmp} store)) }
-    ensures err { IfErr result (IsMemberFault (member_list (members_view members.entries))) }
+    ensures err { IfErr result (IsMemberFault (member_list (members_view members.now.entries))) }
 {
     let mut store = MemoryStore::new(alloc);
-    for (name, value) in members {
+    for (name, value) in members.iter() {
+        let name = String::from_str(alloc, name.as_str())?;
         if !StoreKey::validate(name.as_str()) {
             return Err(LoadFault::ImageKey(name));
         }
-        let Some(text) = text_of(value) else {
+        let Some(text) = value.as_str() else {
             return Err(LoadFault::ImageValue(name));
         };
-        store.insert(StoreKey::new_unchecked(name), text.into_bytes())?;
+        let bytes = Vec::from_slice(alloc, text.as_bytes())?;
+        store.insert(StoreKey::new_unchecked(name), bytes)?;
     }
     Ok(store)
 }

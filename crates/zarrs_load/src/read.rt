@@ -5,6 +5,7 @@ ghost use Rattle.zarrs_load.specs.Reading.{IsReadWhole, IsWithinBound, RefusedRe
 use crate::fault::LoadFault;
 use std::alloc::{AllocError, Global};
 use std::io::Read;
+use std::marker::Model;
 
 /// The most reads of one input.
 pub const MOST_READS: u32 = 1_000_000;
@@ -24,18 +25,58 @@ pub fn read_whole<R: Read>(alloc: Global, reader: &mut R) -> Result<Vec<u8>, Loa
     ensures bound { IfOk result (λ bytes. IsWithinBound bytes.items) }
     ensures err { IfErr result (RefusedReading (R.remaining reader.old) (R.remaining reader.new)) }
 {
-    let mut buffer = zeros(alloc, READ_SIZE)?;
-    let mut bytes = Vec::new(alloc);
-    for _turn in 0..MOST_READS {
-        let Ok(count) = reader.read(&mut buffer) else {
-            return Err(LoadFault::Read);
-        };
-        if count == 0 {
-            return Ok(bytes);
-        }
-        bytes.extend_from_slice(&buffer[..count])?;
+    let mut buffer = ReadBuffer::new(alloc)?;
+    buffer.read_whole(alloc, reader)
+}
+
+// The bytes of one read, at most. Inputs that are read one after the other share it, since it takes
+// longer to make than a document to read.
+#[derive(Drop)]
+pub(crate) struct ReadBuffer {
+    bytes: Vec<u8>,
+}
+
+impl Model for ReadBuffer {
+    ghost use Rattle.std.specs.Prelude.{◌≡◌, List, ℕ, length};
+
+    ghost Value = { List ℕ };
+
+    ghost view = { λ a. a.bytes.items };
+
+    ghost invariant = { λ a. length a.bytes.items ≡ 65536 };
+}
+
+impl ReadBuffer {
+    // A buffer with room for [`READ_SIZE`] bytes.
+    pub(crate) fn new(alloc: Global) -> Result<ReadBuffer, AllocError> {
+        let bytes = zeros(alloc, READ_SIZE)?;
+        Ok(ReadBuffer { bytes })
     }
-    Err(LoadFault::ReadTooLong)
+
+    // What [`read_whole`] answers.
+    pub(crate) fn read_whole<R: Read>(
+        &mut self,
+        alloc: Global,
+        reader: &mut R,
+    ) -> Result<Vec<u8>, LoadFault>
+        ensures ok { IfOk result (λ bytes.
+            IsReadWhole (R.remaining reader.old) (R.remaining reader.new) bytes.items) }
+        ensures bound { IfOk result (λ bytes. IsWithinBound bytes.items) }
+        ensures err { IfErr result
+            (RefusedReading (R.remaining reader.old) (R.remaining reader.new)) }
+    {
+        let mut bytes = Vec::new(alloc);
+        for _turn in 0..MOST_READS {
+            let Ok(count) = reader.read(&mut self.bytes) else {
+                return Err(LoadFault::Read);
+            };
+            if count == 0 {
+                return Ok(bytes);
+            }
+            bytes.extend_from_slice(&self.bytes[..count])?;
+        }
+        Err(LoadFault::ReadTooLong)
+    }
 }
 
 // A buffer of a size that is a parameter, so that no proof sees its bytes.

@@ -4,4 +4,4 @@ use Rattle.zarrs_load.proofs.Members.{HoldsSoFar}
 use Rattle.zarrs_load.proofs.image.store_of.Given as goal
 
 abbrev pub invariant-loop-name : goal.invariant-loop-name
-invariant-loop-name l = HoldsSoFar l.fn.members.entries l.name-iterator (map.from_entries {R = key_cmp} l.store)
+invariant-loop-name l = HoldsSoFar l.members.entries l.name-iterator (map.from_entries {R = key_cmp} l.store)

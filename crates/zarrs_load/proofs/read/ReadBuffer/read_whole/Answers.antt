@@ -1,6 +1,6 @@
 use Rattle.std.proofs.Common.{arith}
 use Rattle.zarrs_load.proofs.WholeInput.{whole_at_nothing}
-use Rattle.zarrs_load.proofs.read.read_whole.Goals as goal
+use Rattle.zarrs_load.proofs.read.ReadBuffer.read_whole.Goals as goal
 
 pub returns-then-count-eq0-clause-ok : goal.returns-then-count-eq0-clause-ok
 returns-then-count-eq0-clause-ok g c =
