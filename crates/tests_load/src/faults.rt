@@ -1,4 +1,5 @@
 //! The texts of faults.
+use crate::answers::refused;
 use crate::asserts::assert_text;
 use zarrs_load::LoadFault;
 
@@ -8,16 +9,22 @@ fn faults_have_their_texts(rt: HostRuntime) {
     let key = String::from_str(alloc, "a//b").expect(&rt, "memory");
     let value = String::from_str(alloc, "a").expect(&rt, "memory");
     let table = [
-        (LoadFault::Read, "read fault"),
-        (LoadFault::ReadTooLong, "input too long"),
-        (LoadFault::Image, "image is not a JSON object"),
-        (LoadFault::ImageKey(key), "bad store key in image: a//b"),
-        (LoadFault::ImageValue(value), "no text in image at a"),
-        (LoadFault::Folder, "folder fault"),
-        (LoadFault::OutOfMemory, "out of memory"),
+        (LoadFault::Read, "Read: read fault"),
+        (LoadFault::ReadTooLong, "ReadTooLong: input too long"),
+        (LoadFault::Image, "Image: image is not a JSON object"),
+        (
+            LoadFault::ImageKey(key),
+            r#"ImageKey("a//b"): bad store key in image: a//b"#,
+        ),
+        (
+            LoadFault::ImageValue(value),
+            r#"ImageValue("a"): no text in image at a"#,
+        ),
+        (LoadFault::Folder, "Folder: folder fault"),
+        (LoadFault::OutOfMemory, "OutOfMemory: out of memory"),
     ];
     for (fault, text) in table {
-        let shown = format!(in alloc; "{fault}").expect(&rt, "memory");
+        let shown = refused(alloc, &fault).expect(&rt, "memory");
         assert_text(&rt, text, shown.as_str(), text);
     }
 }

@@ -1,8 +1,9 @@
 //! What reading an input and loading an image answer, over readers of bytes and one of a byte a read.
+use crate::answers::loaded;
+use crate::asserts::assert_text;
 use std::io;
 use std::io::Read;
-use zarrs_load::{LoadFault, load_image, read_whole};
-use zarrs_store::{ListableStorageTraits, ReadableStorageTraits, StoreKey};
+use zarrs_load::{load_image, read_whole};
 
 // A reader of one byte a read.
 #[derive(Drop)]
@@ -24,19 +25,13 @@ impl Read for OneByOne<'_> {
 #[test]
 fn reads_a_million_times_at_most(rt: HostRuntime) {
     let alloc = rt.alloc();
-    for (blanks, loads) in [(999_997, true), (999_998, false)] {
+    for (blanks, answer) in [(999_997, ""), (999_998, "ReadTooLong: input too long")] {
         let mut image = vec![in alloc; b' '; 2 + blanks].expect(&rt, "memory");
         image[0] = b'{';
         image[1] = b'}';
         let mut reader = OneByOne { rest: &image };
-        match load_image(alloc, &mut reader) {
-            Ok(store) => {
-                assert!(rt; loads);
-                let keys = store.list(alloc).expect(&rt, "memory");
-                assert!(rt; keys.is_empty());
-            }
-            Err(fault) => assert!(rt; !loads && matches!(fault, LoadFault::ReadTooLong)),
-        }
+        let said = loaded(alloc, &load_image(alloc, &mut reader)).expect(&rt, "memory");
+        assert_text(&rt, answer, said.as_str(), answer);
     }
 }
 
@@ -51,13 +46,33 @@ fn reads_whole_inputs(rt: HostRuntime) {
 #[test]
 fn loads_the_texts_of_an_image(rt: HostRuntime) {
     let alloc = rt.alloc();
-    let mut reader = r#"{"b/c":"two","a":"one"}"#.as_bytes();
-    let store = load_image(alloc, &mut reader).expect(&rt, "an image");
-    assert!(rt; reader.is_empty());
-    for (text, bytes) in [("a", b"one".as_slice()), ("b/c", b"two".as_slice())] {
-        let key = StoreKey::new(alloc, text).expect(&rt, "a key");
-        let found = store.get(alloc, &key).expect(&rt, "memory");
-        assert!(rt; found.is_some_and(|found| found.as_slice() == bytes));
+    let table = [
+        (r#"{"b/c":"two","a":"one"}"#, "a one\nb/c two\n"),
+        ("{}", ""),
+        ("[]", "Image: image is not a JSON object"),
+        ("", "Image: image is not a JSON object"),
+        (
+            r#"{"a//b":1}"#,
+            r#"ImageKey("a//b"): bad store key in image: a//b"#,
+        ),
+        (r#"{"a":1}"#, r#"ImageValue("a"): no text in image at a"#),
+        (
+            r#"{"b":1,"a//b":1,"a":1}"#,
+            r#"ImageValue("a"): no text in image at a"#,
+        ),
+        (
+            r#"{"b":1,"a//b":"x"}"#,
+            r#"ImageKey("a//b"): bad store key in image: a//b"#,
+        ),
+        (
+            r#"{"a":1,"a":"x","b":2}"#,
+            r#"ImageValue("b"): no text in image at b"#,
+        ),
+    ];
+    for (image, answer) in table {
+        let mut reader = image.as_bytes();
+        let said = loaded(alloc, &load_image(alloc, &mut reader)).expect(&rt, "memory");
+        assert_text(&rt, image, said.as_str(), answer);
+        assert!(rt; reader.is_empty());
     }
-    assert_eq!(rt; store.list(alloc).expect(&rt, "memory").len(), 2);
 }
