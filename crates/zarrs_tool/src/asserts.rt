@@ -1,6 +1,9 @@
 //! Assertions on what a run writes. An assertion that stands in a test is proved there with the text that it would print, so the tests
 //! call these.
 
+use crate::answers::refused;
+use crate::fault::ToolFault;
+use std::alloc::Global;
 use std::process::Abort;
 
 /// Asserts that a text is the wanted one. The case is named where the assertion fails.
@@ -20,4 +23,20 @@ pub(crate) fn assert_ran<R: Abort>(
     assert_text(rt, case, ran.0.as_str(), output);
     assert_text(rt, case, ran.1.as_str(), errors);
     assert_eq!(rt; ran.2, status, "{case}");
+}
+
+/// Asserts the variant and the text of what refuses a run, or that nothing does where they are empty.
+pub(crate) fn assert_outcome<R: Abort>(
+    rt: &R,
+    alloc: Global,
+    outcome: &Result<(), ToolFault>,
+    wanted: &str,
+) {
+    match outcome {
+        Ok(()) => assert_text(rt, "no refusal", "", wanted),
+        Err(fault) => {
+            let said = refused(alloc, fault).expect(rt, "memory");
+            assert_text(rt, "a refusal", said.as_str(), wanted);
+        }
+    }
 }

@@ -1,14 +1,14 @@
 //! What a folder gives: folders that a test makes.
 use crate::answer;
+use crate::answers::loaded;
 use crate::asserts::{assert_ran, assert_text};
 use crate::folder::load_folder;
 use crate::tests::{GROUP, USAGE, words};
 use log::sink::Writer;
-use log::{Level, Log, Logged};
-use std::alloc::{AllocError, Global};
+use log::{Level, Logged};
+use std::alloc::AllocError;
 use std::rt::Files;
 use std::{fs, io};
-use zarrs_store::{ListableStorageTraits, MemoryStore, ReadableStorageTraits};
 
 // Makes a folder with files at paths below it.
 fn make_folder(rt: &HostRuntime, folder: &str, files: &[(&str, &str)]) -> io::Result<()> {
@@ -48,31 +48,13 @@ fn run(rt: &HostRuntime, texts: &[&str]) -> Result<(String, String, u8), AllocEr
     ))
 }
 
-// Each key of a store, the number of bytes there, and a newline.
-fn shown(alloc: Global, store: &MemoryStore) -> Option<String> {
-    let mut text = String::new(alloc);
-    for key in store.list(alloc).ok()? {
-        let bytes = store.get(alloc, &key).ok()??;
-        let line = format!(in alloc; "{key} {}\n", bytes.len()).ok()?;
-        text.push_str(line.as_str()).ok()?;
-    }
-    Some(text)
-}
-
-// The keys of a folder's store with their numbers of bytes, or why there is none.
-fn keys_of<R: Log + Files + AllocGlobal>(rt: &R, folder: &str) -> Option<String> {
-    match load_folder(rt, folder) {
-        Ok(store) => shown(rt.alloc(), &store),
-        Err(fault) => format!(in rt.alloc(); "{fault}").ok(),
-    }
-}
-
-// Those keys, and the warnings.
+// What loading a folder answers, and the warnings.
 fn load<R: Files + AllocGlobal>(rt: &R, folder: &str) -> Option<(String, String)> {
     let sink = Writer::new(Vec::new(rt.alloc()));
-    let keys = keys_of(&Logged::new(rt, Level::Warn, &sink), folder)?;
+    let answer = load_folder(&Logged::new(rt, Level::Warn, &sink), folder);
+    let said = loaded(rt.alloc(), &answer)?;
     let warnings = String::from_utf8_lossy(rt.alloc(), &sink.into_inner()).ok()?;
-    Some((keys, warnings))
+    Some((said, warnings))
 }
 
 // The folder of a test.
@@ -118,7 +100,15 @@ fn prints_the_tree_of_a_folder(rt: HostRuntime) {
 fn what_is_no_folder_or_too_deep_is_refused(rt: HostRuntime) {
     let alloc = rt.alloc();
     let folder = "what_is_no_folder_or_too_deep_is_refused";
-    make_folder(&rt, folder, &[("zarr.json", GROUP), ("x/y", "")]).expect(&rt, "a folder");
+    let files = [
+        ("zarr.json", GROUP),
+        ("x/.zarray", "an array"),
+        ("x/.zattrs", "its attributes"),
+        ("x/.zgroup", "a group"),
+        ("x/.zmetadata", "its block"),
+        ("x/y", "5byte"),
+    ];
+    make_folder(&rt, folder, &files).expect(&rt, "a folder");
     let table = [
         ("", " was not read: No such file or directory (os error 2)"),
         (
@@ -135,12 +125,12 @@ fn what_is_no_folder_or_too_deep_is_refused(rt: HostRuntime) {
         ),
     ];
     for (path, why) in table {
-        let loaded = load(&rt, path).expect(&rt, "memory");
-        assert_text(&rt, path, loaded.0.as_str(), "folder fault");
+        let said = load(&rt, path).expect(&rt, "memory");
+        assert_text(&rt, path, said.0.as_str(), "Folder: folder fault");
         let warning = format!(in alloc; "[WARN  zarrs_tool::folder] {path}{why}\n").expect(
             &rt, "memory",
         );
-        assert_text(&rt, path, loaded.1.as_str(), warning.as_str());
+        assert_text(&rt, path, said.1.as_str(), warning.as_str());
     }
     let mut deep = String::from_str(alloc, folder).expect(&rt, "memory");
     for _ in 0..100 {
@@ -149,21 +139,21 @@ fn what_is_no_folder_or_too_deep_is_refused(rt: HostRuntime) {
     fs::create_dir_all(&rt, deep.as_str()).expect(&rt, "folders");
     let file = format!(in alloc; "{deep}/zarr.json").expect(&rt, "memory");
     fs::write(&rt, file.as_str(), GROUP).expect(&rt, "a file");
-    let loaded = load(&rt, folder).expect(&rt, "memory");
-    assert!(rt;
-        loaded
-            .0
-            .as_str()
-            .ends_with("/d/zarr.json 37\nx/y 0\nzarr.json 37\n")
-    );
+    let said = load(&rt, folder).expect(&rt, "memory");
+    let names = "d/".repeat(alloc, 100).expect(&rt, "memory");
+    let keys = format!(in alloc;
+        "{names}zarr.json {GROUP}\nx/.zarray an array\nx/.zattrs its attributes\nx/.zgroup a group\nx/.zmetadata its block\nx/y \nzarr.json {GROUP}\n"
+    ).expect(&rt, "memory");
+    assert_text(&rt, "deep", said.0.as_str(), keys.as_str());
+    assert_text(&rt, "deep", said.1.as_str(), "");
     deep.push_str("/e").expect(&rt, "memory");
     fs::create_dir_all(&rt, deep.as_str()).expect(&rt, "folders");
-    let loaded = load(&rt, folder).expect(&rt, "memory");
-    assert_text(&rt, "too deep", loaded.0.as_str(), "folder fault");
+    let said = load(&rt, folder).expect(&rt, "memory");
+    assert_text(&rt, "too deep", said.0.as_str(), "Folder: folder fault");
     let warning = format!(in alloc;
         "[WARN  zarrs_tool::folder] {deep} was not read: it lies too deep\n"
     ).expect(&rt, "memory");
-    assert_text(&rt, "too deep", loaded.1.as_str(), warning.as_str());
+    assert_text(&rt, "too deep", said.1.as_str(), warning.as_str());
     let ran = run(&rt, &["folder", folder, "tree", "x"]).expect(&rt, "memory");
     assert_text(&rt, "too deep", ran.0.as_str(), "");
     assert!(rt; ran.1.as_str().ends_with("\nzarrs_tool: folder fault\n"));

@@ -7,6 +7,8 @@ ghost use Rattle.zarrs_tool.specs.Output.{IsCommand, WritesOfImage, texts};
 ghost use Rattle.zarrs_tool.specs.StepsOfRuns.{IsFolderCommand, IsFolderWords, IsNoCommand, WritesAnswer, WritesOfFolder, RefusedFolder};
 
 #[cfg(test)]
+mod answers;
+#[cfg(test)]
 mod asserts;
 mod fault;
 mod folder;

@@ -1,5 +1,6 @@
 //! What the program answers, row by row, and readers and writers that fail.
-use crate::asserts::{assert_ran, assert_text};
+use crate::answers::{loaded, refused, variant};
+use crate::asserts::{assert_outcome, assert_ran, assert_text};
 use crate::fault::ToolFault;
 use crate::image::load_image;
 use crate::run::{finish, run_image, run_store};
@@ -7,6 +8,8 @@ use log::sink::{Discard, Writer};
 use std::alloc::{AllocError, Global};
 use std::io;
 use std::io::{Error, ErrorKind, Read, Write};
+use zarrs_block::NodeCreateError;
+use zarrs_load::LoadFault;
 
 const TWO_GROUPS: &str =
     r#"{"zarr.json":"{\"node_type\":\"group\",\"zarr_format\":3}","a/zarr.json":"{\"node_type\":\"group\",\"zarr_format\":3}"}"#;
@@ -90,19 +93,21 @@ pub(crate) fn words(alloc: Global, texts: &[&str]) -> Result<Vec<String>, AllocE
     Ok(words)
 }
 
-// What goes to the standard output and the standard error, and the status.
-fn run(alloc: Global, image: &str, texts: &[&str]) -> Result<(String, String, u8), AllocError> {
+// What goes to the standard output and the standard error, and the status; and the variant of the refusal.
+fn run(
+    alloc: Global,
+    image: &str,
+    texts: &[&str],
+) -> Result<((String, String, u8), String), AllocError> {
     let words = words(alloc, texts)?;
     let mut output = Vec::new(alloc);
     let mut errors = Vec::new(alloc);
     let mut reader = image.as_bytes();
     let outcome = run_image(&Discard, alloc, &words, &mut reader, &mut output);
     let status = finish(&outcome, &mut errors);
-    Ok((
-        String::from_utf8_lossy(alloc, &output)?,
-        String::from_utf8_lossy(alloc, &errors)?,
-        status,
-    ))
+    let output = String::from_utf8_lossy(alloc, &output)?;
+    let errors = String::from_utf8_lossy(alloc, &errors)?;
+    Ok(((output, errors, status), variant(alloc, &outcome)?))
 }
 
 // An image of documents at these keys.
@@ -144,17 +149,18 @@ fn groups_at(alloc: Global, keys: &[&str]) -> Result<String, AllocError> {
 
 #[test]
 fn answers_or_says_why_not(rt: HostRuntime) {
-    let table: [(&str, &[&str], &str, &str, u8); 16] = [
-        (TWO_GROUPS, &["children", "/"], "/a\n", "", 0),
-        (TWO_GROUPS, &["list", "/"], "/a\n", "", 0),
-        (TWO_GROUPS, &["tree", "/"], "/\n  a\n", "", 0),
-        (TWO_GROUPS, &["consolidate", "/"], BLOCK_OF_A, "", 0),
-        ("{}", &["children", "/"], "", "", 0),
-        ("{}", &["list", "/"], "", "", 0),
+    let table: [(&str, &[&str], &str, &str, &str, u8); 16] = [
+        (TWO_GROUPS, &["children", "/"], "/a\n", "", "", 0),
+        (TWO_GROUPS, &["list", "/"], "/a\n", "", "", 0),
+        (TWO_GROUPS, &["tree", "/"], "/\n  a\n", "", "", 0),
+        (TWO_GROUPS, &["consolidate", "/"], BLOCK_OF_A, "", "", 0),
+        ("{}", &["children", "/"], "", "", "", 0),
+        ("{}", &["list", "/"], "", "", "", 0),
         (
             r#"{"a/zarr.json":"x"}"#,
             &["children", "/"],
             "",
+            r#"Node(StorageError(InvalidMetadata(StoreKey { text: "a/zarr.json" }, NotJson)))"#,
             "zarrs_tool: error parsing metadata for a/zarr.json: not JSON\n",
             1,
         ),
@@ -162,6 +168,7 @@ fn answers_or_says_why_not(rt: HostRuntime) {
             "[]",
             &["children", "/"],
             "",
+            "Image",
             "zarrs_tool: image is not a JSON object\n",
             1,
         ),
@@ -169,6 +176,7 @@ fn answers_or_says_why_not(rt: HostRuntime) {
             r#"{"a//b":1}"#,
             &["children", "/"],
             "",
+            r#"ImageKey("a//b")"#,
             "zarrs_tool: bad store key in image: a//b\n",
             1,
         ),
@@ -176,6 +184,7 @@ fn answers_or_says_why_not(rt: HostRuntime) {
             r#"{"a":1}"#,
             &["children", "/"],
             "",
+            r#"ImageValue("a")"#,
             "zarrs_tool: no text in image at a\n",
             1,
         ),
@@ -183,30 +192,40 @@ fn answers_or_says_why_not(rt: HostRuntime) {
             TWO_GROUPS,
             &["children", "x"],
             "",
+            r#"Node(NodePathError(Invalid("x")))"#,
             "zarrs_tool: invalid node path x\n",
             1,
         ),
-        (TWO_GROUPS, &["children"], "", USAGE, 2),
+        (TWO_GROUPS, &["children"], "", "Usage", USAGE, 2),
         (
             TWO_GROUPS,
             &["tree", "x"],
             "",
+            r#"Node(NodePathError(Invalid("x")))"#,
             "zarrs_tool: invalid node path x\n",
             1,
         ),
-        (TWO_GROUPS, &["tree"], "", USAGE, 2),
-        (TWO_GROUPS, &["folder", ".", "tree", "/"], "", USAGE, 2),
-        ("", &[], "", USAGE, 2),
+        (TWO_GROUPS, &["tree"], "", "Usage", USAGE, 2),
+        (
+            TWO_GROUPS,
+            &["folder", ".", "tree", "/"],
+            "",
+            "Usage",
+            USAGE,
+            2,
+        ),
+        ("", &[], "", "Usage", USAGE, 2),
     ];
-    for (image, texts, output, errors, status) in table {
-        let ran = run(rt.alloc(), image, texts).expect(&rt, "memory");
+    for (image, texts, output, refusal, errors, status) in table {
+        let (ran, refused) = run(rt.alloc(), image, texts).expect(&rt, "memory");
         assert_ran(&rt, image, &ran, output, errors, status);
+        assert_text(&rt, image, refused.as_str(), refusal);
     }
 }
 
 #[test]
 fn lists_groups_in_path_order(rt: HostRuntime) {
-    let table: [(&[&str], &[&str], &str, &str, u8); 7] = [
+    let table: [(&[&str], &[&str], &str, &str, &str, u8); 7] = [
         (
             &[
                 "a-b/zarr.json",
@@ -217,12 +236,14 @@ fn lists_groups_in_path_order(rt: HostRuntime) {
             &["children", "/"],
             "/a\n/a-b\n",
             "",
+            "",
             0,
         ),
         (
             &["../zarr.json"],
             &["children", "/"],
             "",
+            r#"Node(StorageError(Other("invalid node path /..")))"#,
             "zarrs_tool: invalid node path /..\n",
             1,
         ),
@@ -231,12 +252,14 @@ fn lists_groups_in_path_order(rt: HostRuntime) {
             &["list", "/"],
             "/a\n/a/x\n/a-b\n",
             "",
+            "",
             0,
         ),
         (
             &["zarr.json", "a/zarr.json", "a/x/zarr.json", "a-b/zarr.json"],
             &["children", "/"],
             "/a\n/a-b\n",
+            "",
             "",
             0,
         ),
@@ -245,12 +268,14 @@ fn lists_groups_in_path_order(rt: HostRuntime) {
             &["list", "/a"],
             "/a/x\n",
             "",
+            "",
             0,
         ),
         (
             &["zarr.json/zarr.json", ".zarray/zarr.json", "..a/zarr.json"],
             &["children", "/"],
             "/..a\n/.zarray\n/zarr.json\n",
+            "",
             "",
             0,
         ),
@@ -259,13 +284,15 @@ fn lists_groups_in_path_order(rt: HostRuntime) {
             &["children", "/"],
             "/z\n/\u{e9}\n",
             "",
+            "",
             0,
         ),
     ];
-    for (keys, texts, output, errors, status) in table {
+    for (keys, texts, output, refusal, errors, status) in table {
         let image = groups_at(rt.alloc(), keys).expect(&rt, "memory");
-        let ran = run(rt.alloc(), image.as_str(), texts).expect(&rt, "memory");
+        let (ran, refused) = run(rt.alloc(), image.as_str(), texts).expect(&rt, "memory");
         assert_ran(&rt, image.as_str(), &ran, output, errors, status);
+        assert_text(&rt, image.as_str(), refused.as_str(), refusal);
     }
 }
 
@@ -297,7 +324,7 @@ fn prints_the_tree_of_groups_and_arrays(rt: HostRuntime) {
     ];
     let image = image_of(rt.alloc(), &documents).expect(&rt, "memory");
     for (path, output) in table {
-        let ran = run(rt.alloc(), image.as_str(), &["tree", path]).expect(&rt, "memory");
+        let (ran, _) = run(rt.alloc(), image.as_str(), &["tree", path]).expect(&rt, "memory");
         assert_ran(&rt, path, &ran, output, "", 0);
     }
 }
@@ -308,7 +335,7 @@ fn a_block_is_printed_and_not_consolidated(rt: HostRuntime) {
     let image = image_of(rt.alloc(), &documents).expect(&rt, "memory");
     let table = [("tree", "/\n    r\n"), ("consolidate", EMPTY_BLOCK)];
     for (word, output) in table {
-        let ran = run(rt.alloc(), image.as_str(), &[word, "/"]).expect(&rt, "memory");
+        let (ran, _) = run(rt.alloc(), image.as_str(), &[word, "/"]).expect(&rt, "memory");
         assert_ran(&rt, word, &ran, output, "", 0);
     }
 }
@@ -321,32 +348,42 @@ fn what_is_not_opened_is_not_printed(rt: HostRuntime) {
         ("bad/a/zarr.json", "x"),
     ];
     let image = image_of(rt.alloc(), &documents).expect(&rt, "memory");
-    let table: [(&[&str], &str); 6] = [
-        (&["consolidate", "/array"], "zarrs_tool: not a group\n"),
+    let table: [(&[&str], &str, &str); 6] = [
+        (
+            &["consolidate", "/array"],
+            "NotAGroup",
+            "zarrs_tool: not a group\n",
+        ),
         (
             &["consolidate", "/nowhere"],
+            r#"Node(MissingMetadata("/nowhere"))"#,
             "zarrs_tool: Metadata is missing for /nowhere\n",
         ),
         (
             &["tree", "/nowhere"],
+            r#"Node(MissingMetadata("/nowhere"))"#,
             "zarrs_tool: Metadata is missing for /nowhere\n",
         ),
         (
             &["consolidate", "/bad"],
+            r#"Node(StorageError(InvalidMetadata(StoreKey { text: "bad/a/zarr.json" }, NotJson)))"#,
             "zarrs_tool: error parsing metadata for bad/a/zarr.json: not JSON\n",
         ),
         (
             &["tree", "/bad"],
+            r#"Node(StorageError(InvalidMetadata(StoreKey { text: "bad/a/zarr.json" }, NotJson)))"#,
             "zarrs_tool: error parsing metadata for bad/a/zarr.json: not JSON\n",
         ),
         (
             &["consolidate", "array"],
+            r#"Node(NodePathError(Invalid("array")))"#,
             "zarrs_tool: invalid node path array\n",
         ),
     ];
-    for (texts, errors) in table {
-        let ran = run(rt.alloc(), image.as_str(), texts).expect(&rt, "memory");
+    for (texts, refusal, errors) in table {
+        let (ran, refused) = run(rt.alloc(), image.as_str(), texts).expect(&rt, "memory");
         assert_ran(&rt, errors, &ran, "", errors, 1);
+        assert_text(&rt, errors, refused.as_str(), refusal);
     }
 }
 
@@ -355,44 +392,70 @@ fn keys_that_are_no_documents(rt: HostRuntime) {
     let bare_key = r#"{"a":"","a/zarr.json":"{\"node_type\":\"group\",\"zarr_format\":3}"}"#;
     let periods =
         r#"{"a/.../x":"any","a/zarr.json":"{\"node_type\":\"group\",\"zarr_format\":3}"}"#;
-    let table: [(&str, &[&str], &str, &str, u8); 4] = [
-        (bare_key, &["children", "/"], "/a\n", "", 0),
-        (bare_key, &["children", "/a"], "", "", 0),
-        (periods, &["children", "/"], "/a\n", "", 0),
+    let table: [(&str, &[&str], &str, &str, &str, u8); 4] = [
+        (bare_key, &["children", "/"], "/a\n", "", "", 0),
+        (bare_key, &["children", "/a"], "", "", "", 0),
+        (periods, &["children", "/"], "/a\n", "", "", 0),
         (
             periods,
             &["list", "/"],
             "",
+            r#"Node(StorageError(Other("invalid node path /a/...")))"#,
             "zarrs_tool: invalid node path /a/...\n",
             1,
         ),
     ];
-    for (image, texts, output, errors, status) in table {
-        let ran = run(rt.alloc(), image, texts).expect(&rt, "memory");
+    for (image, texts, output, refusal, errors, status) in table {
+        let (ran, refused) = run(rt.alloc(), image, texts).expect(&rt, "memory");
         assert_ran(&rt, image, &ran, output, errors, status);
+        assert_text(&rt, image, refused.as_str(), refusal);
     }
 }
 
 #[test]
 fn the_first_bad_member_is_named(rt: HostRuntime) {
-    let table: [(&str, &str); 4] = [
+    let table = [
         (
             r#"{"b":1,"a//b":1,"a":1}"#,
+            r#"ImageValue("a")"#,
             "zarrs_tool: no text in image at a\n",
         ),
         (
             r#"{"b":1,"a//b":"x"}"#,
+            r#"ImageKey("a//b")"#,
             "zarrs_tool: bad store key in image: a//b\n",
         ),
-        (r#"{"":1}"#, "zarrs_tool: bad store key in image: \n"),
+        (
+            r#"{"":1}"#,
+            r#"ImageKey("")"#,
+            "zarrs_tool: bad store key in image: \n",
+        ),
         (
             r#"{"a":1,"a":"x","b":2}"#,
+            r#"ImageValue("b")"#,
             "zarrs_tool: no text in image at b\n",
         ),
     ];
-    for (image, errors) in table {
-        let ran = run(rt.alloc(), image, &["children", "/"]).expect(&rt, "memory");
+    for (image, refusal, errors) in table {
+        let (ran, refused) = run(rt.alloc(), image, &["children", "/"]).expect(&rt, "memory");
         assert_ran(&rt, image, &ran, "", errors, 1);
+        assert_text(&rt, image, refused.as_str(), refusal);
+    }
+}
+
+#[test]
+fn reads_a_million_times_at_most(rt: HostRuntime) {
+    let alloc = rt.alloc();
+    for (blanks, answer) in [(999_997, ""), (999_998, "ReadTooLong: input too long")] {
+        let mut image = vec![in alloc; b' '; 2 + blanks].expect(&rt, "memory");
+        image[0] = b'{';
+        image[1] = b'}';
+        let mut reader = OneByOne {
+            rest: &image,
+            reads_before_fault: None,
+        };
+        let said = loaded(alloc, &load_image(alloc, &mut reader)).expect(&rt, "memory");
+        assert_text(&rt, "a million reads", said.as_str(), answer);
     }
 }
 
@@ -404,11 +467,12 @@ fn runs_over_a_store(rt: HostRuntime) {
     let asked = words(alloc, &["children", "/"]).expect(&rt, "memory");
     let mut output = Vec::new(alloc);
     let outcome = run_store(&Discard, alloc, &asked, &store, &mut output);
-    assert!(rt; outcome.is_ok());
+    assert_outcome(&rt, alloc, &outcome, "");
     assert_eq!(rt; output.as_slice(), b"/a\n".as_slice());
     let folder = words(alloc, &["folder", ".", "tree", "/"]).expect(&rt, "memory");
     let outcome = run_store(&Discard, alloc, &folder, &store, &mut output);
-    assert!(rt; matches!(outcome, Err(ToolFault::Usage)));
+    let refused = variant(alloc, &outcome).expect(&rt, "memory");
+    assert_text(&rt, "a folder", refused.as_str(), "Usage");
     assert_eq!(rt; output.as_slice(), b"/a\n".as_slice());
 }
 
@@ -422,14 +486,14 @@ fn a_reader_and_a_writer_fail(rt: HostRuntime) {
     };
     let mut output = Vec::new(alloc);
     let outcome = run_image(&Discard, alloc, &words, &mut reader, &mut output);
-    assert!(rt; matches!(outcome, Err(ToolFault::Read)));
+    assert_outcome(&rt, alloc, &outcome, "Read: read fault");
     assert!(rt; output.is_empty());
     let mut reader = OneByOne {
         rest: TWO_GROUPS.as_bytes(),
         reads_before_fault: None,
     };
     let outcome = run_image(&Discard, alloc, &words, &mut reader, &mut Full);
-    assert!(rt; matches!(outcome, Err(ToolFault::Write)));
+    assert_outcome(&rt, alloc, &outcome, "Write: write fault");
 }
 
 #[test]
@@ -438,7 +502,7 @@ fn a_writer_whose_flush_alone_fails_is_told(rt: HostRuntime) {
     let words = words(alloc, &["children", "/"]).expect(&rt, "memory");
     let mut reader = TWO_GROUPS.as_bytes();
     let outcome = run_image(&Discard, alloc, &words, &mut reader, &mut Unflushed);
-    assert!(rt; matches!(outcome, Err(ToolFault::Write)));
+    assert_outcome(&rt, alloc, &outcome, "Write: write fault");
     let mut errors = Vec::new(alloc);
     assert_eq!(rt; finish(&outcome, &mut errors), 1);
     assert_eq!(rt; errors.as_slice(), b"zarrs_tool: write fault\n".as_slice());
@@ -451,28 +515,55 @@ fn warns_of_what_is_passed_over(rt: HostRuntime) {
     let sink = Writer::new(Vec::new(alloc));
     let mut reader = r#"{"fakenode/content":""}"#.as_bytes();
     let outcome = run_image(&sink, alloc, &words, &mut reader, &mut io::sink());
-    assert!(rt; outcome.is_ok());
+    assert_outcome(&rt, alloc, &outcome, "");
     let warnings = String::from_utf8_lossy(alloc, &sink.into_inner()).expect(&rt, "memory");
-    assert!(rt;
-        warnings.as_str().contains(
-            "Object at /fakenode is not recognized as a component of a Zarr hierarchy. Ignoring.\n"
-        )
+    assert_text(
+        &rt,
+        "a warning",
+        warnings.as_str(),
+        "[WARN  zarrs_node::children] Object at /fakenode is not recognized as a component of a Zarr hierarchy. Ignoring.\n",
     );
 }
 
 #[test]
 fn faults_have_their_texts(rt: HostRuntime) {
     let alloc = rt.alloc();
+    let key = String::from_str(alloc, "a//b").expect(&rt, "memory");
+    let value = String::from_str(alloc, "a").expect(&rt, "memory");
+    let usage = format!(in alloc; "Usage: {}", USAGE.trim_end()).expect(&rt, "memory");
     let table = [
-        (ToolFault::Folder, "folder fault"),
-        (ToolFault::NotAGroup, "not a group"),
-        (ToolFault::Read, "read fault"),
-        (ToolFault::ReadTooLong, "input too long"),
-        (ToolFault::Write, "write fault"),
-        (ToolFault::OutOfMemory, "out of memory"),
+        (ToolFault::Usage, usage.as_str()),
+        (ToolFault::from(LoadFault::Read), "Read: read fault"),
+        (
+            ToolFault::from(LoadFault::ReadTooLong),
+            "ReadTooLong: input too long",
+        ),
+        (
+            ToolFault::from(LoadFault::Image),
+            "Image: image is not a JSON object",
+        ),
+        (
+            ToolFault::from(LoadFault::ImageKey(key)),
+            r#"ImageKey("a//b"): bad store key in image: a//b"#,
+        ),
+        (
+            ToolFault::from(LoadFault::ImageValue(value)),
+            r#"ImageValue("a"): no text in image at a"#,
+        ),
+        (ToolFault::from(LoadFault::Folder), "Folder: folder fault"),
+        (
+            ToolFault::from(LoadFault::OutOfMemory),
+            "OutOfMemory: out of memory",
+        ),
+        (ToolFault::NotAGroup, "NotAGroup: not a group"),
+        (
+            ToolFault::from(NodeCreateError::MetadataVersionMismatch),
+            "Node(MetadataVersionMismatch): Found V2 metadata in V3 key or vice-versa",
+        ),
+        (ToolFault::Write, "Write: write fault"),
     ];
     for (fault, text) in table {
-        let shown = format!(in alloc; "{fault}").expect(&rt, "memory");
+        let shown = refused(alloc, &fault).expect(&rt, "memory");
         assert_text(&rt, text, shown.as_str(), text);
     }
 }
