@@ -62,7 +62,7 @@ pub node_refused : (can_fail : Bool) (store : Contents) (base : Path) (e : NodeC
     → IsExcused can_fail e ⊎ ((meaning store Default base ≡ nothing) × IsMissing base e) ⊎ (meaning store Default base ≡ bad e) → RefusesOpen can_fail store Never base e
 node_refused can_fail store base e valid h = ⊎_elim inl (λ why. inr (inr (base, valid, refl, inl why))) h
 
--- and so is one of what is below a group
+-- an error of what is below a group refuses opening
 pub listing_refused : (can_fail : Bool) (store : Contents) (base : Path) (m : NodeMetadata) (e : NodeCreateError) → IsPath base → meaning store Default base ≡ node m → IsTrue (is_group m)
     → IsExcused can_fail e ⊎ ShowsBad store Default true base e → RefusesOpen can_fail store Never base e
 listing_refused can_fail store base (Array a) e valid means group h = let no : false ≡ true = group in cc no

@@ -1,13 +1,13 @@
 -- From a folder's refusal, and from that of a run over its store, to the run's; the words of a folder's command.
 use Rattle.std.proofs.Common.{◌≡◌, ℕ, ◌-◌, ◌<◌, ◌≤◌, Bool, true, false, not, true≢false, List, [], ◌∷◌, length, get_or, take, drop, Option, String, Global, string_bytes, codes, inl, inr, ⊎_elim, sym, subst, ap, refl, ◌∙◌, arith}
-use Rattle.std.specs.Prelude.{Result, Ok, Err, IfErr, OnOk}
+use Rattle.std.specs.Prelude.{◌≢◌, Result, Ok, Err, IfErr, OnOk}
 use Rattle.std.specs.Str.{bytes_eq}
 use Rattle.std.proofs.lemmas.Slice.Eq.{bytes_eq-Decides}
 use Rattle.zarrs_store.specs.Contents.{Contents}
 use Rattle.zarrs_load.specs.Folder.{HoldsDocumentsAlone, IsFolderFault}
 use Rattle.zarrs_tool.specs.Output.{IsCommand, WritesOfImage, WritesOutput, texts}
-use Rattle.zarrs_tool.specs.StepsOfRuns.{IsFolderWords, WritesAnswer, WritesOfFolder, RefusedFolder}
-use Rattle.zarrs_tool.specs.Refusals.{IsLoadFault, IsRefusal}
+use Rattle.zarrs_tool.specs.StepsOfRuns.{IsFolderCommand, IsFolderWords, WritesAnswer, WritesOfFolder, RefusedAnswer, RefusedFolder}
+use Rattle.zarrs_tool.specs.Refusals.{IsLoadFault, IsRefusal, RefusedRun}
 use Rattle.zarrs_tool.specs.declared.fault.ToolFault.{ToolFault}
 use Rattle.zarrs_tool.specs.declared.fault.ToolFault.TheVariants.{Usage}
 
@@ -16,9 +16,9 @@ pub folder_fault_result : {T : Type 0} (words : List (List ℕ)) (r : Result T T
 folder_fault_result words r fault is refused = subst (λ x. IfErr x (RefusedFolder words)) (sym is) (inl refused)
 
 -- what refuses the words over the folder's store refuses the run
-pub store_fault_result : {T : Type 0} (words : List (List ℕ)) (store : Contents) (r : Result T ToolFault) → IfErr r (IsRefusal false words store) → IfErr r (RefusedFolder words)
-store_fault_result words store (Ok x) refused = tt
-store_fault_result words store (Err fault) refused = inr (store, refused)
+pub store_fault_result : {T : Type 0} (words : List (List ℕ)) (store : Contents) (r : Result T ToolFault) → HoldsDocumentsAlone store → IfErr r (IsRefusal false words store) → IfErr r (RefusedFolder words)
+store_fault_result words store (Ok x) holds refused = tt
+store_fault_result words store (Err fault) holds refused = inr (store, holds, refused)
 
 -- what the words wrote about the folder's store, the run wrote
 pub written_folder : {E : Type 0} (words : List (List ℕ)) (store : Contents) (old new : Option (List ℕ)) (r : Result (Unit {0}) E)
@@ -31,14 +31,24 @@ pub folder_answered : (words : List (List ℕ)) (left before after : Option (Lis
     → WritesOfFolder tree before after → WritesAnswer words left before after
 folder_answered words left before after folder tree is writes = inr (folder, tree, is, writes)
 
--- so does a run over an image
+-- a run over an image answers
 pub image_answered : (words : List (List ℕ)) (left before after : Option (List ℕ)) → WritesOfImage words left before after → WritesAnswer words left before after
 image_answered words left before after writes = inl writes
+
+-- a refused run over a folder refuses
+pub folder_refused : (words : List (List ℕ)) (before after : Option (List ℕ)) (folder : List ℕ) (tree : List (List ℕ)) (Q : ToolFault → Type 0) → IsFolderWords words folder tree
+    → (fault : ToolFault) × (fault ≢ Usage) × RefusedFolder tree fault × Q fault → (fault : ToolFault) × (fault ≢ Usage) × RefusedAnswer words before after fault × Q fault
+folder_refused words before after folder tree Q is (fault, known, refused, keeps) = (fault, known, inr (folder, tree, is, refused), keeps)
+
+-- a refused run over an image refuses
+pub image_refused : (words : List (List ℕ)) (before after : Option (List ℕ)) (Q : ToolFault → Type 0) → (IsFolderCommand words → ⊥)
+    → (fault : ToolFault) × (fault ≢ Usage) × RefusedRun words before after fault × Q fault → (fault : ToolFault) × (fault ≢ Usage) × RefusedAnswer words before after fault × Q fault
+image_refused words before after Q none (fault, known, refused, keeps) = (fault, known, inl (none, refused), keeps)
 
 -- a run that is refused for its words has none that are a command
 pub not_words : {T : Type 0} (words : List (List ℕ)) (r : Result T ToolFault) → r ≡ Err Usage → IfErr r (RefusedFolder words) → IsCommand words → ⊥
 not_words words r is refused =
-    let said : RefusedFolder words Usage = subst (λ x. IfErr x (RefusedFolder words)) is refused in ⊎_elim (λ no. absurd no) (λ found. found.1) said
+    let said : RefusedFolder words Usage = subst (λ x. IfErr x (RefusedFolder words)) is refused in ⊎_elim (λ no. absurd no) (λ found. found.2) said
 
 -- texts that are not told to differ are one
 truth : (b : Bool) → false ≡ not b → b ≡ true

@@ -1,6 +1,6 @@
 -- What an exit status says of a run.
-use Rattle.std.proofs.Common.{◌≡◌, ◌∙◌, ap, ℕ, refl, arith}
-use Rattle.std.specs.Prelude.{Result, Ok, Err, OnOk, IsOk}
+use Rattle.std.proofs.Common.{◌≡◌, ◌∙◌, ◌⊎◌, ap, ℕ, inl, inr, refl, arith}
+use Rattle.std.specs.Prelude.{◌≢◌, Result, Ok, Err, IfErr, OnOk, IsOk}
 use Rattle.zarrs_tool.specs.Refusals.{status_of}
 use Rattle.zarrs_tool.specs.declared.fault.ToolFault.{ToolFault}
 use Rattle.zarrs_tool.specs.declared.fault.ToolFault.TheVariants.{Usage, Read, ReadTooLong, Image, ImageKey, ImageValue, Folder, NotAGroup, Node, Write, OutOfMemory}
@@ -64,3 +64,28 @@ two_usage (Err OutOfMemory) n e z = absurd (one_or_two n e z)
 
 pub usage_two : (outcome : Result (Unit {0}) ToolFault) (n : ℕ) → n ≡ status_of outcome → outcome ≡ Err Usage → n ≡ 2
 usage_two outcome n e is = e ∙ ap status_of is
+
+-- the status is 0, 1 or 2
+pub any_status : (outcome : Result (Unit {0}) ToolFault) (n : ℕ) → n ≡ status_of outcome → (n ≡ 0) ⊎ (n ≡ 1) ⊎ (n ≡ 2)
+any_status (Ok done) n e = inl e
+any_status (Err Usage) n e = inr (inr e)
+any_status (Err Read) n e = inr (inl e)
+any_status (Err ReadTooLong) n e = inr (inl e)
+any_status (Err Image) n e = inr (inl e)
+any_status (Err (ImageKey name)) n e = inr (inl e)
+any_status (Err (ImageValue name)) n e = inr (inl e)
+any_status (Err Folder) n e = inr (inl e)
+any_status (Err NotAGroup) n e = inr (inl e)
+any_status (Err (Node error)) n e = inr (inl e)
+any_status (Err Write) n e = inr (inl e)
+any_status (Err OutOfMemory) n e = inr (inl e)
+
+zero_or_one : (n : ℕ) → n ≡ 0 → n ≡ 1 → ⊥
+zero_or_one n e z = omega arith
+
+-- the status 1 is that of a run that is refused, not for its words
+pub one_refused : (outcome : Result (Unit {0}) ToolFault) (P Q : ToolFault → Type 0) (n : ℕ) → n ≡ status_of outcome → n ≡ 1 → IfErr outcome P → IfErr outcome Q
+    → (fault : ToolFault) × (fault ≢ Usage) × P fault × Q fault
+one_refused (Ok done) P Q n e one p q = absurd (zero_or_one n e one)
+one_refused (Err fault) P Q n e one p q =
+    (fault, (λ (usage : fault ≡ Usage). one_or_two n one (e ∙ ap (λ f. status_of (Err f)) usage)), p, q)

@@ -24,7 +24,7 @@ use Rattle.zarrs_tool.specs.declared.fault.ToolFault.TheVariants.{Usage, Read, R
 use Rattle.zarrs_tool.specs.declared.run.Word.{Word}
 use Rattle.zarrs_tool.specs.declared.run.Word.TheVariants.{Children, List as ListAll, Tree, Consolidate}
 
--- the text is no path, and the error holds it; or out of memory
+-- the error is of a path: the text is none, and the error holds it; or memory ran out when the path was made
 abbrev pub RefusesPathText : List ℕ → NodeCreateError → Type 0
 RefusesPathText text (NodePathError e) = RefusesPath text e
 RefusesPathText text _ = ⊥
@@ -74,7 +74,8 @@ IsLoadFault P Folder = P load.Folder
 IsLoadFault P OutOfMemory = P load.OutOfMemory
 IsLoadFault P _ = ⊥
 
--- the words are refused over what a reader gives, and it stands here
+-- the run over an image ends with this fault: for wrong words the reader was left as it was; for a path, a node, an array or the writer the words are
+-- refused over the store of the image, once the reader was read to its end; for any other fault no image was loaded
 abbrev pub RefusedRun : List (List ℕ) → Option (List ℕ) → Option (List ℕ) → ToolFault → Type 0
 RefusedRun words before after Usage = Keeps before after
 RefusedRun words before after (Node e) = RefusedAfterLoad words before after (Node e)

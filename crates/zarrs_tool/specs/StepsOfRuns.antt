@@ -19,7 +19,7 @@ use Rattle.zarrs_config.specs.declared.version.UseConsolidatedMetadata.TheVarian
 use Rattle.zarrs_tool.specs.declared.fault.ToolFault.{ToolFault}
 use Rattle.zarrs_tool.specs.declared.fault.ToolFault.TheVariants.{NotAGroup, Node, OutOfMemory}
 use Rattle.zarrs_tool.specs.declared.run.Word.{Word}
-use Rattle.zarrs_tool.specs.Refusals.{RefusesPathText, RefusesWord, IsRefusal, IsLoadFault}
+use Rattle.zarrs_tool.specs.Refusals.{RefusesPathText, RefusesWord, IsRefusal, IsLoadFault, RefusedRun}
 
 -- the words of a command
 abbrev pub command_words : Command → List (List ℕ)
@@ -47,7 +47,7 @@ WritesAnswer words left before after =
     WritesOfImage words left before after
     ⊎ ((folder : List ℕ) × (tree : List (List ℕ)) × IsFolderWords words folder tree × WritesOfFolder tree before after)
 
--- the text is no path, or out of memory
+-- the fault is that of a text that is no path; or memory ran out when the path was made
 abbrev pub IsPathFault : List ℕ → ToolFault → Type 0
 IsPathFault text (Node e) = RefusesPathText text e
 IsPathFault text _ = ⊥
@@ -90,6 +90,13 @@ IsBlockFault can_fail store base = IsFault (RefusesOpen can_fail store Never bas
 abbrev pub IsWordFault : Bool → Word → Contents → Path → ToolFault → Type 0
 IsWordFault can_fail word store base = IsFault (RefusesWord can_fail word store base) (WantsGroup word store base)
 
--- the folder makes no store, or out of memory, or the words are refused over a store
+-- the folder makes no store, or out of memory; or the words are refused over a store in which no key but a document's has bytes, as a folder's
 abbrev pub RefusedFolder : List (List ℕ) → ToolFault → Type 0
-RefusedFolder words fault = IsLoadFault IsFolderFault fault ⊎ ((store : Contents) × IsRefusal false words store fault)
+RefusedFolder words fault = IsLoadFault IsFolderFault fault ⊎ ((store : Contents) × HoldsDocumentsAlone store × IsRefusal false words store fault)
+
+-- why a run ends with the status 1: the words are not `folder DIR tree PATH`, and the run over the image is refused; or they are, and the run of `tree PATH`
+-- over the folder is refused
+abbrev pub RefusedAnswer : List (List ℕ) → Option (List ℕ) → Option (List ℕ) → ToolFault → Type 0
+RefusedAnswer words before after fault =
+    ((IsFolderCommand words → ⊥) × RefusedRun words before after fault)
+    ⊎ ((folder : List ℕ) × (tree : List (List ℕ)) × IsFolderWords words folder tree × RefusedFolder tree fault)

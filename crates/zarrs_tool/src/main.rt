@@ -1,10 +1,11 @@
 //! Reads a store from an image on standard input or from a folder, and writes what a command asks of it.
 #![tactic(auto)]
 
-ghost use Rattle.std.specs.Prelude.{◌≡◌, ◌≢◌, ◌↔◌, IfErr, OnOk, IfSome, IfNone};
+ghost use Rattle.std.specs.Prelude.{◌≡◌, ◌≢◌, ◌⊎◌, ◌↔◌, IfErr, OnOk, IfSome, IfNone};
 ghost use Rattle.std.specs.Io.KnownBytes.{Keeps};
 ghost use Rattle.zarrs_tool.specs.Output.{IsCommand, WritesOfImage, texts};
-ghost use Rattle.zarrs_tool.specs.StepsOfRuns.{IsFolderCommand, IsFolderWords, IsNoCommand, WritesAnswer, WritesOfFolder, RefusedFolder};
+ghost use Rattle.zarrs_tool.specs.StepsOfRuns.{IsFolderCommand, IsFolderWords, IsNoCommand, RefusedAnswer, RefusedFolder, WritesAnswer, WritesOfFolder};
+ghost use Rattle.zarrs_tool.specs.Refusals.{RefusedRun};
 
 #[cfg(test)]
 mod answers;
@@ -48,7 +49,8 @@ fn main(rt: HostRuntime) -> ExitCode {
     ExitCode::from(status)
 }
 
-// Runs a command over a folder or over an image, and gives the exit status.
+// Runs a command over a folder or over an image, and gives the exit status: 0 where the output was
+// written, 1 where the run was refused, and 2 where the words are no command.
 #[tactic(auto, using(crate::proofs::Folders::folder_answered, crate::proofs::Folders::image_answered))]
 fn answer<R: Log + Files + AllocGlobal, I: Read, W: Write, E: Write>(
     rt: &R,
@@ -59,7 +61,11 @@ fn answer<R: Log + Files + AllocGlobal, I: Read, W: Write, E: Write>(
 ) -> u8
     ensures ok { result ≡ 0 → WritesAnswer (texts words.now) (I.remaining reader.old)
         (W.contents output.old) (W.contents output.new) }
+    ensures refused { result ≡ 1 → (fault : ToolFault) × (fault ≢ ToolFault.Usage)
+        × RefusedAnswer (texts words.now) (I.remaining reader.old) (I.remaining reader.new) fault
+        × (fault ≢ ToolFault.Write → Keeps (W.contents output.old) (W.contents output.new)) }
     ensures usage { (result ≡ 2) ↔ IsNoCommand (texts words.now) }
+    ensures status { (result ≡ 0) ⊎ (result ≡ 1) ⊎ (result ≡ 2) }
     ensures silent { result ≡ 0 → Keeps (E.contents errors.old) (E.contents errors.new) }
 {
     match folder_words(words) {
@@ -86,7 +92,8 @@ fn folder_words(words: &[String]) -> Option<(&str, &[String])>
     Some((folder.as_str(), &words[2..]))
 }
 
-// Runs a command over the store of a folder, and gives the exit status. No fault leaves it.
+// Runs a command over the store of a folder, and gives the exit status. It handles every fault
+// itself.
 fn respond_folder<R: Log + Files + AllocGlobal, W: Write, E: Write>(
     rt: &R,
     folder: &str,
@@ -96,6 +103,10 @@ fn respond_folder<R: Log + Files + AllocGlobal, W: Write, E: Write>(
 ) -> u8
     ensures ok { result ≡ 0
         → WritesOfFolder (texts words.now) (W.contents output.old) (W.contents output.new) }
+    ensures refused { result ≡ 1 → (fault : ToolFault) × (fault ≢ ToolFault.Usage)
+        × RefusedFolder (texts words.now) fault
+        × (fault ≢ ToolFault.Write → Keeps (W.contents output.old) (W.contents output.new)) }
+    ensures status { (result ≡ 0) ⊎ (result ≡ 1) ⊎ (result ≡ 2) }
     ensures usage { result ≡ 2 → IsCommand (texts words.now) → ⊥ }
     ensures silent { result ≡ 0 → Keeps (E.contents errors.old) (E.contents errors.new) }
 {
@@ -120,7 +131,7 @@ fn run_folder<R: Log + Files + AllocGlobal, W: Write>(
     run_store(rt, rt.alloc(), words, &store, output)
 }
 
-// Runs a command, and gives the exit status. No fault leaves it, so that `main` holds none.
+// Runs a command, and gives the exit status. It handles every fault itself.
 fn respond<L: Log, R: Read, W: Write, E: Write>(
     log: &L,
     alloc: Global,
@@ -131,7 +142,11 @@ fn respond<L: Log, R: Read, W: Write, E: Write>(
 ) -> u8
     ensures ok { result ≡ 0 → WritesOfImage (texts words.now) (R.remaining reader.old)
         (W.contents output.old) (W.contents output.new) }
+    ensures refused { result ≡ 1 → (fault : ToolFault) × (fault ≢ ToolFault.Usage)
+        × RefusedRun (texts words.now) (R.remaining reader.old) (R.remaining reader.new) fault
+        × (fault ≢ ToolFault.Write → Keeps (W.contents output.old) (W.contents output.new)) }
     ensures usage { (result ≡ 2) ↔ (IsCommand (texts words.now) → ⊥) }
+    ensures status { (result ≡ 0) ⊎ (result ≡ 1) ⊎ (result ≡ 2) }
     ensures silent { result ≡ 0 → Keeps (E.contents errors.old) (E.contents errors.new) }
 {
     let outcome = run_image(log, alloc, words, reader, output);
