@@ -1,6 +1,9 @@
 //! Assertions on what a run writes. An assertion that stands in a test is proved there with the text that it would print, so the tests
 //! call these.
 
+use crate::fault::CheckFault;
+use crate::report::Tally;
+use std::alloc::Global;
 use std::process::Abort;
 
 /// Asserts that a text is the wanted one. The case is named where the assertion fails.
@@ -20,4 +23,20 @@ pub(crate) fn assert_ran<R: Abort>(
     assert_text(rt, case, ran.0.as_str(), output);
     assert_text(rt, case, ran.1.as_str(), errors);
     assert_eq!(rt; ran.2, status, "{case}");
+}
+
+/// Asserts the variant and the text of what refuses a check.
+pub(crate) fn assert_refused<R: Abort>(
+    rt: &R,
+    alloc: Global,
+    outcome: &Result<Tally, CheckFault>,
+    wanted: &str,
+) {
+    match outcome {
+        Ok(_tally) => assert_text(rt, "a refusal", "none", wanted),
+        Err(fault) => {
+            let said = format!(in alloc; "{fault:?}: {fault}").expect(rt, "memory");
+            assert_text(rt, "a refusal", said.as_str(), wanted);
+        }
+    }
 }

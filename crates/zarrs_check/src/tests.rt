@@ -1,5 +1,5 @@
 //! What the program answers, row by row, and readers and writers that fail.
-use crate::asserts::{assert_ran, assert_text};
+use crate::asserts::{assert_ran, assert_refused, assert_text};
 use crate::fault::CheckFault;
 use crate::image::load_image;
 use crate::run::{finish, run_check, run_store};
@@ -8,6 +8,7 @@ use std::alloc::{AllocError, Global};
 use std::io;
 use std::io::{Error, ErrorKind, Read, Write};
 use std::process::Abort;
+use zarrs_load::LoadFault;
 
 pub(crate) const GROUP: &str = r#"{"node_type":"group","zarr_format":3}"#;
 
@@ -431,19 +432,44 @@ fn blocks_of_version_2_are_compared_with_attributes(rt: HostRuntime) {
 
 #[test]
 fn what_is_no_image_or_no_path_is_refused(rt: HostRuntime) {
+    let alloc = rt.alloc();
     let table = [
-        ("[]", "/", "zarrs_check: image is not a JSON object\n"),
+        (
+            "[]",
+            "/",
+            "Image: image is not a JSON object",
+            "zarrs_check: image is not a JSON object\n",
+        ),
         (
             r#"{"a//b":1}"#,
             "/",
+            r#"ImageKey("a//b"): bad store key in image: a//b"#,
             "zarrs_check: bad store key in image: a//b\n",
         ),
-        (r#"{"a":1}"#, "/", "zarrs_check: no text in image at a\n"),
-        ("{}", "x", "zarrs_check: invalid node path x\n"),
-        ("{}", "/..", "zarrs_check: invalid node path /..\n"),
+        (
+            r#"{"a":1}"#,
+            "/",
+            r#"ImageValue("a"): no text in image at a"#,
+            "zarrs_check: no text in image at a\n",
+        ),
+        (
+            "{}",
+            "x",
+            r#"Node(NodePathError(Invalid("x"))): invalid node path x"#,
+            "zarrs_check: invalid node path x\n",
+        ),
+        (
+            "{}",
+            "/..",
+            r#"Node(NodePathError(Invalid("/.."))): invalid node path /.."#,
+            "zarrs_check: invalid node path /..\n",
+        ),
     ];
-    for (image, path, errors) in table {
-        let ran = run(rt.alloc(), image, path).expect(&rt, "memory");
+    for (image, path, refusal, errors) in table {
+        let mut reader = image.as_bytes();
+        let outcome = run_check(&Discard, alloc, path, &mut reader, &mut io::sink());
+        assert_refused(&rt, alloc, &outcome, refusal);
+        let ran = run(alloc, image, path).expect(&rt, "memory");
         assert_ran(&rt, image, &ran, "", errors, 2);
     }
 }
@@ -477,14 +503,14 @@ fn a_reader_and_a_writer_fail(rt: HostRuntime) {
     };
     let mut output = Vec::new(alloc);
     let outcome = run_check(&Discard, alloc, "/", &mut reader, &mut output);
-    assert!(rt; matches!(outcome, Err(CheckFault::Read)));
+    assert_refused(&rt, alloc, &outcome, "Read: read fault");
     assert!(rt; output.is_empty());
     let mut reader = OneByOne {
         rest: image.as_bytes(),
         reads_before_fault: None,
     };
     let outcome = run_check(&Discard, alloc, "/", &mut reader, &mut Full);
-    assert!(rt; matches!(outcome, Err(CheckFault::Write)));
+    assert_refused(&rt, alloc, &outcome, "Write: write fault");
 }
 
 #[test]
@@ -492,7 +518,7 @@ fn a_writer_whose_flush_alone_fails_is_told(rt: HostRuntime) {
     let alloc = rt.alloc();
     let mut reader = b"{}".as_slice();
     let outcome = run_check(&Discard, alloc, "/", &mut reader, &mut Unflushed);
-    assert!(rt; matches!(outcome, Err(CheckFault::Write)));
+    assert_refused(&rt, alloc, &outcome, "Write: write fault");
     let mut errors = Vec::new(alloc);
     assert_eq!(rt; finish(&outcome, &mut errors), 2);
     assert_eq!(rt; errors.as_slice(), b"zarrs_check: write fault\n".as_slice());
@@ -506,25 +532,49 @@ fn warns_of_what_is_passed_over(rt: HostRuntime) {
     let outcome = run_check(&sink, alloc, "/", &mut reader, &mut io::sink());
     assert!(rt; outcome.is_ok());
     let warnings = String::from_utf8_lossy(alloc, &sink.into_inner()).expect(&rt, "memory");
-    assert!(rt;
-        warnings.as_str().contains(
-            "Object at /fakenode is not recognized as a component of a Zarr hierarchy. Ignoring.\n"
-        )
+    assert_text(
+        &rt,
+        "a warning",
+        warnings.as_str(),
+        "[WARN  zarrs_survey::survey] Object at /fakenode is not recognized as a component of a Zarr hierarchy. Ignoring.\n",
     );
 }
 
 #[test]
 fn faults_have_their_texts(rt: HostRuntime) {
     let alloc = rt.alloc();
+    let key = String::from_str(alloc, "a//b").expect(&rt, "memory");
+    let value = String::from_str(alloc, "a").expect(&rt, "memory");
     let table = [
-        (CheckFault::Folder, "folder fault"),
-        (CheckFault::Read, "read fault"),
-        (CheckFault::ReadTooLong, "input too long"),
-        (CheckFault::Write, "write fault"),
-        (CheckFault::OutOfMemory, "out of memory"),
+        (
+            CheckFault::Usage,
+            "Usage: usage: zarrs_check (DIR|-) [PATH]",
+        ),
+        (CheckFault::from(LoadFault::Read), "Read: read fault"),
+        (
+            CheckFault::from(LoadFault::ReadTooLong),
+            "ReadTooLong: input too long",
+        ),
+        (
+            CheckFault::from(LoadFault::Image),
+            "Image: image is not a JSON object",
+        ),
+        (
+            CheckFault::from(LoadFault::ImageKey(key)),
+            r#"ImageKey("a//b"): bad store key in image: a//b"#,
+        ),
+        (
+            CheckFault::from(LoadFault::ImageValue(value)),
+            r#"ImageValue("a"): no text in image at a"#,
+        ),
+        (CheckFault::from(LoadFault::Folder), "Folder: folder fault"),
+        (
+            CheckFault::from(LoadFault::OutOfMemory),
+            "OutOfMemory: out of memory",
+        ),
+        (CheckFault::Write, "Write: write fault"),
     ];
     for (fault, text) in table {
-        let shown = format!(in alloc; "{fault}").expect(&rt, "memory");
-        assert_text(&rt, text, shown.as_str(), text);
+        assert_refused(&rt, alloc, &Err(fault), text);
     }
 }
