@@ -66,7 +66,7 @@ module _ (words : List (List ℕ)) (source path : List ℕ) (are : AreWordsOf wo
   other : bytes_eq source (codes "-") ≡ false → source ≢ codes "-"
   other differs same = true≢false (sym ((bytes_eq-Decides source (codes "-")).1 same) ∙ differs)
 
-  -- and a folder is what else is named
+  -- a folder is what any other source names
   pub folder_answered : (left old new : Option (List ℕ)) (r : Result Tally CheckFault) → bytes_eq source (codes "-") ≡ false → IfOk r (WritesFolderReport path old new) → IfOk r (WritesAskedReport words left old new)
   folder_answered left old new (Ok tally) differs writes = (source, path, are, inr (other differs, writes))
   folder_answered left old new (Err e) differs writes = tt
@@ -86,7 +86,7 @@ well : (b : Bool) (n : ℕ) → n ≡ cond b 0 1 → n ≡ 2 → ⊥
 well true n e z = omega (arith, e, z)
 well false n e z = omega (arith, e, z)
 
--- it is 0 where nothing was found
+-- the status is 0 where nothing was found
 none_found : (b : Bool) (n : ℕ) → n ≡ cond b 0 1 → n ≡ 0 → b ≡ true
 none_found true n e z = refl
 none_found false n e z = absurd (not_both n e z)
@@ -110,3 +110,13 @@ refused_status (Err fault) P Q n e two p q = (fault, p, q)
 pub status_refused : (outcome : Result Tally CheckFault) (P : Tally → Type 0) (n : ℕ) → n ≡ report_status outcome → IfOk outcome P → ((tally : Tally) → P tally → ⊥) → n ≡ 2
 status_refused (Ok tally) P n e p none = absurd (none tally p)
 status_refused (Err fault) P n e p none = e
+
+-- a count that is 0 or 1 is 0, 1 or 2
+well_status : (b : Bool) (n : ℕ) → n ≡ cond b 0 1 → (n ≡ 0) ⊎ (n ≡ 1) ⊎ (n ≡ 2)
+well_status true n e = inl e
+well_status false n e = inr (inl e)
+
+-- the status is 0, 1 or 2
+pub any_status : (outcome : Result Tally CheckFault) (n : ℕ) → n ≡ report_status outcome → (n ≡ 0) ⊎ (n ≡ 1) ⊎ (n ≡ 2)
+any_status (Ok tally) n e = well_status (tally.findings == 0) n e
+any_status (Err fault) n e = inr (inr e)

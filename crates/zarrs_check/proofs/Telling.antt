@@ -71,7 +71,7 @@ module _ (s : Contents) (b : Path) where
   document_below : (d : Path × NodeCreateError) → BadDocuments s Default b d → b ≢ d.0
   document_below d h same = let w = h.0.below in not_itself b w.0 w.1 (same ∙ w.2)
 
-  -- so does a bad name
+  -- a bad name stands below the base
   name_below : (p : Path) → BadNames s Default b p → b ≢ p
   name_below p (g, n, listed, periods, has, is, some) same = ⊎_elim
       (λ base. not_itself b n [] (same ∙ (is ∙ ap (λ q. q ++ n ∷ []) base)))

@@ -1,6 +1,6 @@
 -- What the program writes of a store: the report on what it has at a path and below it, as the Zarr core specification 3.1 defines nodes and paths in "Hierarchy".
 -- <https://zarr-specs.readthedocs.io/en/latest/v3/core/index.html#hierarchy>
---     AreWordsOf words source path, AreWords words      words that name a source and a path; that words name some
+--     AreWordsOf words source path, AreWords words      the words name this source and path; the words name some
 --     WritesReport path s      the report on the store s from the path on was written
 --     WritesAskedReport words left      what a run writes that ends well
 use Rattle.std.specs.Prelude.{◌≡◌, ◌≢◌, ◌⊎◌, ℕ, List, [], ◌∷◌, map, codes, Option, String, string_bytes}
@@ -21,7 +21,7 @@ word_texts words = map (λ w. string_bytes w) words
 abbrev pub AreWordsOf : List (List ℕ) → List ℕ → List ℕ → Type 0
 AreWordsOf words source path = ((words ≡ source ∷ []) × (path ≡ codes "/")) ⊎ (words ≡ source ∷ path ∷ [])
 
--- the words are a command's: a source alone, or a source and a path
+-- the words are a command's: a source only, or a source and a path
 abbrev pub AreWords : List (List ℕ) → Type 0
 AreWords words = (source path : List ℕ) × AreWordsOf words source path
 
@@ -33,19 +33,19 @@ IsChecked path store tally text = (base : Path) × IsPath base × (path_text bas
 abbrev pub WritesReport : List ℕ → Contents → Option (List ℕ) → Option (List ℕ) → Tally → Type 0
 WritesReport path store before after tally = (text : List ℕ) × IsChecked path store tally text × Appends before after text
 
--- that on the store of the image that a reader had left
+-- the report on the store of the image that a reader had left was appended
 abbrev pub WritesImageReport : List ℕ → Option (List ℕ) → Option (List ℕ) → Option (List ℕ) → Tally → Type 0
 WritesImageReport path left before after tally = (store : Contents) × IsLoaded left store × WritesReport path store before after tally
 
--- that on a store in which no key but a document's has bytes, as a folder's
+-- the report on a store in which only documents have bytes, as in a folder's, was appended
 abbrev pub WritesFolderReport : List ℕ → Option (List ℕ) → Option (List ℕ) → Tally → Type 0
 WritesFolderReport path before after tally = (store : Contents) × HoldsDocumentsAlone store × WritesReport path store before after tally
 
--- that on the store which the source names: of `-` that of the image, else that of a folder
+-- the report on the store that the source names was appended: the image's where the source is `-`, else a folder's
 abbrev pub WritesSourceReport : List ℕ → List ℕ → Option (List ℕ) → Option (List ℕ) → Option (List ℕ) → Tally → Type 0
 WritesSourceReport source path left before after tally =
     ((source ≡ codes "-") × WritesImageReport path left before after tally) ⊎ ((source ≢ codes "-") × WritesFolderReport path before after tally)
 
--- that on the store and the path which the words name
+-- the report on the store and the path that the words name was appended
 abbrev pub WritesAskedReport : List (List ℕ) → Option (List ℕ) → Option (List ℕ) → Option (List ℕ) → Tally → Type 0
 WritesAskedReport words left before after tally = (source path : List ℕ) × AreWordsOf words source path × WritesSourceReport source path left before after tally

@@ -16,7 +16,7 @@ use Rattle.zarrs_check.specs.declared.report.Tally.{Tally}
 use Rattle.zarrs_check.specs.declared.fault.CheckFault.{CheckFault}
 use Rattle.zarrs_check.specs.declared.fault.CheckFault.TheVariants.{Usage, Read, ReadTooLong, Image, ImageKey, ImageValue, Folder, Node, Write, OutOfMemory}
 
--- the text is no path, and the error holds it; or out of memory
+-- the error is of a path: the text is none, and the error holds it; or memory ran out when the path was made
 abbrev pub RefusesBase : List ℕ → NodeCreateError → Type 0
 RefusesBase text (NodePathError e) = RefusesPath text e
 RefusesBase text _ = ⊥

@@ -4,7 +4,7 @@ use Rattle.zarrs_check.specs.declared.fault.CheckFault.{CheckFault}
 use Rattle.zarrs_check.specs.declared.fault.CheckFault.TheVariants.{Node}
 use Rattle.zarrs_check.specs.Refusals.{RefusesBase}
 
--- the text is no path, or out of memory
+-- the fault is that of a text that is no path; or memory ran out when the path was made
 abbrev pub IsBaseFault : List ℕ → CheckFault → Type 0
 IsBaseFault text (Node e) = RefusesBase text e
 IsBaseFault text _ = ⊥

@@ -3,7 +3,7 @@
 -- <https://zarr-specs.readthedocs.io/en/latest/v3/core/index.html#metadata>
 -- <https://zarr.readthedocs.io/en/stable/user-guide/consolidated_metadata/>
 --     fault_text, error_text      why a document is refused; why a node is
---     name_text p      that the last name of p is none
+--     name_text p      the text which says that the last name of p is none
 --     kind_text g kind      what there is to tell of the block of the group g
 use Rattle.std.specs.Prelude.{ℕ, List, ◌++◌, codes, string_bytes}
 use Rattle.zarrs_fault.specs.declared.fault.MetadataFault.{MetadataFault}
@@ -58,15 +58,15 @@ error_text error.MetadataVersionMismatch = codes "Found V2 metadata in V3 key or
 error_text (error.MissingMetadata text) = codes "Metadata is missing for " ++ string_bytes text
 error_text error.OutOfMemory = codes "out of memory"
 
--- that the last name of a path is none
+-- the text which says that the last name of a path is none
 abbrev pub name_text : Path → List ℕ
 name_text p = codes "invalid node path " ++ path_text p
 
--- that a key is no relative path
+-- the text which says that a key is no relative path
 abbrev pub bad_key_text : Path → List ℕ → List ℕ
 bad_key_text g key = codes "bad key: the block of " ++ (path_text g ++ (codes " has the key `" ++ (key ++ codes "`")))
 
--- that a key begins with a slash, and the block has it without the slash too
+-- the text which says that a key begins with a slash, and that the block has it without the slash too
 abbrev pub shadowed_text : Path → List ℕ → List ℕ
 shadowed_text g key = codes "shadowed: the block of " ++ (path_text g ++ (codes " has the key `" ++ (key ++ (codes "` beside `" ++ (without_leading_slash key ++ codes "`")))))
 

@@ -1,7 +1,7 @@
 //! Checks the store of a folder or of an image on standard input: writes what is bad in it, and what its consolidated blocks say otherwise than it.
 #![tactic(auto)]
 
-ghost use Rattle.std.specs.Prelude.{◌≡◌, ◌≢◌, ◌↔◌, IfOk, IfErr};
+ghost use Rattle.std.specs.Prelude.{◌≡◌, ◌≢◌, ◌⊎◌, ◌↔◌, IfOk, IfErr};
 ghost use Rattle.std.specs.Io.KnownBytes.{Keeps};
 ghost use Rattle.zarrs_check.specs.Output.{AreWords, AreWordsOf, WritesAskedReport, WritesFolderReport, word_texts};
 ghost use Rattle.zarrs_check.specs.Refusals.{RefusedAskedReport, RefusedFolderReport};
@@ -50,8 +50,8 @@ fn main(rt: HostRuntime) -> ExitCode {
     ExitCode::from(status)
 }
 
-/// Checks what the words name: writes the report, and how much was looked at and found, or why the run is refused, and gives the exit status.
-/// No fault leaves it, so that `main` holds none.
+/// Checks what the words name: writes the report, and how much was looked at and found, or why the run is refused. It handles every error itself and
+/// returns only the exit status: 0 where nothing was found, 1 where something was, and 2 where the run is refused.
 pub fn answer<R: Log + Files + AllocGlobal, I: Read, W: Write, E: Write>(
     rt: &R,
     words: &[String],
@@ -70,6 +70,7 @@ pub fn answer<R: Log + Files + AllocGlobal, I: Read, W: Write, E: Write>(
         (I.remaining reader.old) (I.remaining reader.new) fault
         × (fault ≢ CheckFault.Write → Keeps (W.contents output.old) (W.contents output.new)) }
     ensures usage { (AreWords (word_texts words.now) → ⊥) → result ≡ 2 }
+    ensures status { (result ≡ 0) ⊎ (result ≡ 1) ⊎ (result ≡ 2) }
 {
     let outcome = run_words(rt, words, reader, output);
     finish(&outcome, errors)

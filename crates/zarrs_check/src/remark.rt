@@ -19,11 +19,11 @@ use zarrs_store::StorePrefix;
 /// <https://zarr-specs.readthedocs.io/en/latest/v3/core/index.html#hierarchy>
 #[derive(Debug, Drop)]
 pub struct Remark {
-    /// The path, of which the last name may be none.
+    /// The path. Its last part may be an invalid name.
     pub path: StorePrefix,
-    /// The group whose block is wrong; of a path's own fault none.
+    /// The group whose block is wrong; `None` if the fault is the path's own.
     pub group: Option<NodePath>,
-    /// The key of the block that is wrong, where it is one, else nothing.
+    /// The wrong key of the block, or the empty text if no key is wrong.
     pub key: Text,
     /// What there is to tell.
     pub text: Text,

@@ -24,7 +24,7 @@ use zarrs_survey::{BadDocuments, Check, Finding, FindingKind};
 /// <https://zarr-specs.readthedocs.io/en/latest/v3/core/index.html#hierarchy>
 #[derive(Clone, Copy, Debug, PartialEq, Eq)]
 pub struct Tally {
-    /// The number of nodes: the base, where it is one, and those below it.
+    /// The number of nodes, including the base if it is a node.
     pub nodes: usize,
     /// The number of remarks.
     pub findings: usize,
