@@ -6,7 +6,7 @@ use Rattle.std.specs.Ordering.{eq_by_cmp}
 use Rattle.std.proofs.lemmas.List.{same_from_push}
 use Rattle.std.proofs.lemmas.List.Elements.{Contains-append_cases, Contains-append_left, Contains-append_right}
 use Rattle.zarrs_store.specs.Segments.{Segments, key_cmp}
-use Rattle.zarrs_store.specs.Contents.{Contents, HasKey}
+use Rattle.zarrs_store.specs.Contents.{Contents, HasBelow, HasKey}
 use Rattle.zarrs_store.proofs.ChildLemmas.{key_cmp_total}
 use Rattle.zarrs_store.proofs.ContentsLemmas.{get_removed, AgreesExceptAt-remove}
 use Rattle.zarrs_fault.specs.declared.fault.MetadataFault.{MetadataFault}
@@ -14,20 +14,20 @@ use Rattle.zarrs_store.specs.declared.storage_error.StorageError.{StorageError}
 use Rattle.zarrs_path.specs.Keys.{zarr_json, zarray, zgroup, zattrs, zmetadata}
 use Rattle.zarrs_path.specs.Paths.{Path}
 use Rattle.zarrs_form.specs.Documents.{of_bytes}
-use Rattle.zarrs_meta.specs.Node.{zarr_json_of, is_group}
+use Rattle.zarrs_meta.specs.Node.{zarr_json_of}
 use Rattle.zarrs_meta.specs.declared.node.NodeMetadata.{NodeMetadata}
 use Rattle.zarrs_meta.specs.declared.node.ZarrJson.{ZarrJson}
 use Rattle.zarrs_meta.specs.declared.node.ZarrJson.TheVariants.{Node as node_json, Version2}
 use Rattle.zarrs_config.specs.declared.version.MetadataRetrieveVersion.TheVariants.{Default, V3}
-use Rattle.zarrs_block.specs.Meaning.{in_bytes, Meaning, meaning, node, nothing, bad, document_or_fault, document_from, document_at, version_3_line, zarr_json_line, zarray_line, zgroup_line}
+use Rattle.zarrs_block.specs.Meaning.{in_bytes, Meaning, meaning, node, nothing, document_or_fault, document_from, document_at, version_3_line, zarr_json_line, zarray_line, zgroup_line}
 use Rattle.zarrs_node.specs.Changes.{document_files}
-use Rattle.zarrs_node.specs.MapsOfNodes.{StandsBeside, version_2_files, version_2_keys, without_keys, keys_beside, GoesOver, KeysStandBeside, OthersAreKept, ErasedAreAbsent, BesideMeansSame, ErasedShowSame}
+use Rattle.zarrs_node.specs.MapsOfNodes.{StandsBeside, version_2_files, version_2_keys, without_keys, keys_beside, KeysStandBeside, OthersAreKept, ErasedAreAbsent, BesideMeansSame, ErasedShowSame}
 use Rattle.zarrs_node.proofs.Current.{meaning_same}
 use Rattle.zarrs_node.proofs.Meanings.{document_none, zarr_json_line_is, default_is, v3_is}
 use Rattle.zarrs_node.proofs.Counted.{contains_map, contains_mapped}
 use Rattle.zarrs_node.proofs.DocumentsSet.{get_with}
 use Rattle.zarrs_node.proofs.Graft.{Contains-first, Contains-cons}
-use Rattle.zarrs_node.proofs.MapsShown.{same_some, mapped_is_shown}
+use Rattle.zarrs_node.proofs.MapsShown.{some_keeps, unchanged, mapped_is_shown}
 use Rattle.zarrs_node.proofs.Order.{contains_cases}
 
 -- a key that is absent stays so where others are erased
@@ -148,16 +148,10 @@ was_there S ks key there = by (get S key) refl
     by (Some bytes) e = ap is_some e
     by None e = absurd (true≢false (sym there ∙ ap is_some (absent_stays S ks key e)))
 
--- what a path means goes over unchanged
-unchanged : (x y : Meaning) → y ≡ x → GoesOver Some x y
-unchanged (node m) y e = (m, refl, e)
-unchanged nothing y e = e
-unchanged (bad x) y e = tt
-
 -- a listing by default shows what it showed
 pub erased_show_same : ErasedShowSame
 erased_show_same S ks beside b good =
     let same = beside_means_same S (without_keys S ks) (λ key far. others_stay S ks key (λ in'. far (beside key in'))) in
-    mapped_is_shown Some (λ m c e. ap is_group (sym (same_some m c e))) S (without_keys S ks) Default Default b good
+    mapped_is_shown Some some_keeps S (without_keys S ks) Default Default b good
     (λ p _. unchanged (meaning S Default p) (meaning (without_keys S ks) Default p) (same p))
-    (λ g n _ _ there. (there.0, there.1, was_there S ks ((g ++ n ∷ []) ++ there.0 ∷ there.1) there.2))
+    (λ p d. let there = subst (HasBelow (without_keys S ks)) (sym d.5) d.4 in (there.0, there.1, was_there S ks (p ++ there.0 ∷ there.1) there.2))

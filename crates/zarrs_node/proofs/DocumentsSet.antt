@@ -19,16 +19,17 @@ use Rattle.zarrs_meta.specs.declared.node.NodeMetadata.{NodeMetadata}
 use Rattle.zarrs_config.specs.declared.version.MetadataRetrieveVersion.{MetadataRetrieveVersion}
 use Rattle.zarrs_config.specs.declared.version.MetadataRetrieveVersion.TheVariants.{Default, V3}
 use Rattle.zarrs_block.specs.Meaning.{Meaning, meaning, node, nothing, bad}
-use Rattle.zarrs_node.specs.Nodes.{HasNothingBad, MeansNode}
+use Rattle.zarrs_block.specs.declared.node_create_error.NodeCreateError.{NodeCreateError}
+use Rattle.zarrs_node.specs.Nodes.{HasNothingBad, IsBadName, MeansNode}
 use Rattle.zarrs_node.specs.Reach.{Reached}
 use Rattle.zarrs_node.specs.Changes.{document_files}
 use Rattle.zarrs_node.specs.MapsOfNodes.{StandsFrom, NodesFrom, GoesOver, IsToVersion3, IsDocumentFor, AreDocumentsOf, with_documents, DocumentsAreShown}
 use Rattle.zarrs_node.proofs.Current.{meaning_same}
 use Rattle.zarrs_node.proofs.Graft.{Contains-first, Contains-cons}
-use Rattle.zarrs_node.proofs.MapsShown.{same_node, same_some, mapped_is_shown}
+use Rattle.zarrs_node.proofs.MapsShown.{same_node, same_some, stands, mapped_is_shown}
 use Rattle.zarrs_node.proofs.Order.{contains_cases}
 use Rattle.zarrs_node.proofs.Reach.{head_same, rest_same}
-use Rattle.zarrs_node.proofs.Versions.{set_v3, set_default, three_alone, nothing_alone}
+use Rattle.zarrs_node.proofs.Versions.{set_v3, set_default, three_alone, nothing_alone, bad_alone}
 
 -- of two keys it is told whether they are one
 pub same_or_not : (q k : Segments) → (q ≡ k) ⊎ (q ≢ k)
@@ -123,6 +124,13 @@ module _ (f : NodeMetadata → Option NodeMetadata) (to3 : IsToVersion3 f) (S : 
       (λ w. (means_same p w.1 V3 ∙ nothing_alone S p is, means_same p w.1 Default ∙ is))
       (get_with S ds (p ++ zarr_json ∷ []))
 
+  -- a path that is bad stays so, or means nothing by version 3
+  bad_over : (p : Path) (e : NodeCreateError) → meaning S Default p ≡ bad e → ((meaning T V3 p ≡ bad e) ⊎ (meaning T V3 p ≡ nothing)) × (meaning T Default p ≡ bad e)
+  bad_over p e is = ⊎_elim
+      (λ there. let w = set_there p there in let none : bad e ≡ node w.0 = sym is ∙ w.1 in cc)
+      (λ w. (subst (λ x. (x ≡ bad e) ⊎ (x ≡ nothing)) (sym (means_same p w.1 V3)) (bad_alone S p e is), means_same p w.1 Default ∙ is))
+      (get_with S ds (p ++ zarr_json ∷ []))
+
   -- by version 3
   over_v3 : (p : Path) → StandsFrom S Default b p → GoesOver f (meaning S Default p) (meaning T V3 p)
   over_v3 p stands = by (meaning S Default p) refl
@@ -130,7 +138,7 @@ module _ (f : NodeMetadata → Option NodeMetadata) (to3 : IsToVersion3 f) (S : 
       by : (x : Meaning) → meaning S Default p ≡ x → GoesOver f x (meaning T V3 p)
       by (node m) is = let w = node_over p m stands is in (w.0, w.1, w.2)
       by nothing is = (nothing_over p is).0
-      by (bad e) is = tt
+      by (bad e) is = (bad_over p e is).0
 
   -- and by default
   over_default : (p : Path) → StandsFrom S Default b p → GoesOver f (meaning S Default p) (meaning T Default p)
@@ -139,7 +147,7 @@ module _ (f : NodeMetadata → Option NodeMetadata) (to3 : IsToVersion3 f) (S : 
       by : (x : Meaning) → meaning S Default p ≡ x → GoesOver f x (meaning T Default p)
       by (node m) is = let w = node_over p m stands is in (w.0, w.1, w.3)
       by nothing is = (nothing_over p is).1
-      by (bad e) is = tt
+      by (bad e) is = inl (bad_over p e is).1
 
   -- names that a path has beyond b, where it stands from b on
   beyond : (g : Path) → StandsFrom S Default b g → (gs : Path) × (g ≡ b ++ gs) × IsPath gs
@@ -162,9 +170,13 @@ module _ (f : NodeMetadata → Option NodeMetadata) (to3 : IsToVersion3 f) (S : 
       (λ w. (first, rest, subst IsTrue (ap is_some w.1) held))
       (get_with S ds ((g ++ n ∷ []) ++ first ∷ rest))
 
+  -- a name of periods that has a key below it had one before
+  names_over : (p : Path) → IsBadName (meaning S Default) (HasBelow T) true b p → HasBelow S p
+  names_over p (g, n, listed, periods, below, is, more) = subst (HasBelow S) (sym is) (no_periods g n (stands S Default b g listed) periods below)
+
 -- a listing shows what one by default showed, as version 3
 pub documents_are_shown : DocumentsAreShown
 documents_are_shown f to3 S b ds clean are = (
-  mapped_is_shown f to3.kinds S (with_documents S ds) Default V3 b clean (over_v3 f to3 S b ds are) (no_periods f to3 S b ds are),
-  mapped_is_shown f to3.kinds S (with_documents S ds) Default Default b clean (over_default f to3 S b ds are) (no_periods f to3 S b ds are),
+  mapped_is_shown f to3.kinds S (with_documents S ds) Default V3 b clean (over_v3 f to3 S b ds are) (names_over f to3 S b ds are),
+  mapped_is_shown f to3.kinds S (with_documents S ds) Default Default b clean (over_default f to3 S b ds are) (names_over f to3 S b ds are),
 )

@@ -1,7 +1,6 @@
 -- Of two stores one shows the nodes of the other under a map, where what the reached paths mean goes over by it.
 use Rattle.std.proofs.Common.{◌≡◌, ◌≤◌, ◌↔◌, ◌⊎◌, inl, inr, ⊎_elim, ℕ, zero, suc, Bool, true, List, [], ◌∷◌, ◌++◌, length, Option, Some, IsTrue, refl, sym, ap, subst, ◌∙◌, arith, length-append}
 use Rattle.zarrs_store.specs.Contents.{Contents, HasBelow}
-use Rattle.zarrs_path.specs.Names.{is_all_periods}
 use Rattle.zarrs_path.specs.Paths.{Path, IsBelow}
 use Rattle.zarrs_meta.specs.Node.{is_group}
 use Rattle.zarrs_meta.specs.declared.node.NodeMetadata.{NodeMetadata}
@@ -42,8 +41,24 @@ some_name b p low short =
     let more = length-append b (low.0 ∷ low.1) in
     absurd (omega (arith, long, more, short))
 
+-- what is bad goes over into no node
+bad_is_no_node : {A : Type 0} (f : NodeMetadata → Option NodeMetadata) (e : NodeCreateError) (y : Meaning) (m : NodeMetadata) → GoesOver f (bad e) y → y ≡ node m → A
+bad_is_no_node f e y m w is = ⊎_elim
+    (λ same. let no : node m ≡ bad e = sym is ∙ same in cc)
+    (λ none. let no : node m ≡ nothing = sym is ∙ none in cc)
+    w
+
+-- what a path means goes over by the map that changes nothing, where it stays
+pub unchanged : (x y : Meaning) → y ≡ x → GoesOver Some x y
+unchanged (node m) y e = (m, refl, e)
+unchanged nothing y e = e
+unchanged (bad x) y e = inl e
+
+-- the map that changes nothing keeps kinds
+pub some_keeps : KeepsKinds Some
+some_keeps m c e = ap is_group (sym (same_some m c e))
+
 module _ (f : NodeMetadata → Option NodeMetadata) (kinds : KeepsKinds f) (of to : Path → Meaning) (b : Path)
-    (clean : (p : Path) (e : NodeCreateError) → Reached (Means of) true b p → of p ≡ bad e → ⊥)
     (over : (p : Path) → Reached (Means of) true b p → GoesOver f (of p) (to p)) where
   -- a group goes over into a group
   group_over : (q : Path) → Reached (Means of) true b q → HasGroup (Means of) q → HasGroup (Means to) q
@@ -58,7 +73,7 @@ module _ (f : NodeMetadata → Option NodeMetadata) (kinds : KeepsKinds f) (of t
       by : (x : Meaning) → of q ≡ x → GoesOver f x (to q) → HasGroup (Means of) q
       by (node m) e w = (m, e, subst IsTrue (kinds m w.0 w.1) (subst (λ d. IsTrue (is_group d)) (same_node c w.0 (sym is ∙ w.2)) group))
       by nothing e w = let none : node c ≡ nothing = sym is ∙ w in cc
-      by (bad x) e w = absurd (clean q x h e)
+      by (bad x) e w = bad_is_no_node f x (to q) c w is
 
   -- what is reached is reached then
   reached_over : (p : Path) → Reached (Means of) true b p → Reached (Means to) true b p
@@ -92,11 +107,11 @@ module _ (f : NodeMetadata → Option NodeMetadata) (kinds : KeepsKinds f) (of t
       back : (x : Meaning) → of e.0 ≡ x → Reached (Means of) true b e.0 → to e.0 ≡ node e.1 → GoesOver f x (to e.0) → IsMapped f (Kept (Means of) true b) e
       back (node m) is r there w = (m, (r, is), w.1 ∙ ap Some (same_node w.0 e.1 (sym w.2 ∙ there)))
       back nothing is r there w = let none : node e.1 ≡ nothing = sym there ∙ w in cc
-      back (bad x) is r there w = absurd (clean e.0 x r is)
+      back (bad x) is r there w = bad_is_no_node f x (to e.0) e.1 w there
 
-  -- no document is bad
-  pub document_over : (e : NodeCreateError) → HasBadDocument to true b e → ⊥
-  document_over e (p, h, is) = let r = reached_back p h in by (of p) refl r (over p r)
+  -- no document is bad where none was
+  pub document_over : ((p : Path) (e : NodeCreateError) → Reached (Means of) true b p → of p ≡ bad e → ⊥) → (e : NodeCreateError) → HasBadDocument to true b e → ⊥
+  document_over clean e (p, h, is) = let r = reached_back p h in by (of p) refl r (over p r)
     where
       by : (x : Meaning) → of p ≡ x → Reached (Means of) true b p → GoesOver f x (to p) → ⊥
       by (node m) at r w = let none : node w.0 ≡ bad e = sym w.2 ∙ is in cc
@@ -108,18 +123,20 @@ module _ (f : NodeMetadata → Option NodeMetadata) (kinds : KeepsKinds f) (of t
   listed_back g h = ⊎_elim inl (λ w. let r = reached_back g w.0 in inr (r, (w.1.0, group_back g r w.1.1))) h
 
 -- a listed path stands from the base on
-stands : (S : Contents) (v : MetadataRetrieveVersion) (b g : Path) → IsListed (meaning S v) true b g → StandsFrom S v b g
+pub stands : (S : Contents) (v : MetadataRetrieveVersion) (b g : Path) → IsListed (meaning S v) true b g → StandsFrom S v b g
 stands S v b g h = ⊎_elim inl (λ w. inr w.0) h
 
 -- a store shows what the other shows, under a map by which what b and the reached paths mean goes over
 pub mapped_is_shown : MappedIsShown
 mapped_is_shown f kinds S T v w b good over names = record {
   base = over b (inl refl);
-  nodes = nodes_over f kinds (meaning S v) (meaning T w) b clean (λ p h. over p (inr h));
+  nodes = nodes_over f kinds (meaning S v) (meaning T w) b (λ p h. over p (inr h));
   clean = λ h. ⊎_elim
-      (λ d. document_over f kinds (meaning S v) (meaning T w) b clean (λ p r. over p (inr r)) d.0 d.1)
-      (λ d. let listed = listed_back f kinds (meaning S v) (meaning T w) b clean (λ p r. over p (inr r)) d.1.0 d.1.2 in
-      good (inr (d.0, (d.1.0, d.1.1, listed, d.1.3, names d.1.0 d.1.1 (stands S v b d.1.0 listed) d.1.3 d.1.4, d.1.5, d.1.6))))
+      (λ d. document_over f kinds (meaning S v) (meaning T w) b (λ p r. over p (inr r)) clean d.0 d.1)
+      (λ d.
+      let listed = listed_back f kinds (meaning S v) (meaning T w) b (λ p r. over p (inr r)) d.1.0 d.1.2 in
+      let below = names d.0 (d.1.0, d.1.1, listed, d.1.3, d.1.4, d.1.5, d.1.6) in
+      good (inr (d.0, (d.1.0, d.1.1, listed, d.1.3, subst (HasBelow S) d.1.5 below, d.1.5, d.1.6))))
       h;
 }
   where

@@ -1,5 +1,5 @@
 -- What the version of a node's metadata says of the documents that it comes from.
-use Rattle.std.proofs.Common.{◌≡◌, ◌==◌, ℕ, Bool, true, false, true≢false, if◌then◌else◌, is_some, List, [], ◌∷◌, ◌++◌, Option, Some, None, Result, Ok, Err, refl, sym, ap, subst, ◌∙◌, codes}
+use Rattle.std.proofs.Common.{◌≡◌, ◌⊎◌, inl, inr, ◌==◌, ℕ, Bool, true, false, true≢false, if◌then◌else◌, is_some, List, [], ◌∷◌, ◌++◌, Option, Some, None, Result, Ok, Err, refl, sym, ap, subst, ◌∙◌, codes}
 use Rattle.std.specs.Prelude.{option_and_then}
 use Rattle.std.specs.Result.{is_ok}
 use Rattle.std.specs.FinMap.{get}
@@ -29,6 +29,7 @@ use Rattle.zarrs_meta.specs.declared.node.NodeMetadata.TheVariants.{Group, Array
 use Rattle.zarrs_meta.specs.declared.node.ZarrJson.{ZarrJson}
 use Rattle.zarrs_meta.specs.declared.node.ZarrJson.TheVariants.{Node as node_json, Version2}
 use Rattle.zarrs_config.specs.declared.version.MetadataRetrieveVersion.TheVariants.{Default, V3}
+use Rattle.zarrs_block.specs.declared.node_create_error.NodeCreateError.{NodeCreateError}
 use Rattle.zarrs_block.specs.Meaning.{in_bytes, Meaning, meaning, node, nothing, bad, document_or_fault, document_from, document_at, attributes_at, version_3_line, version_2_line, zarr_json_line, zarray_line, zgroup_line}
 use Rattle.zarrs_node.proofs.Meanings.{zarr_json_line_is, zarray_line_is, zgroup_line_is, default_is, v3_is}
 use Rattle.zarrs_node.proofs.MapsShown.{same_node}
@@ -154,6 +155,13 @@ line_nothing (Ok (Some (node_json x))) after e = e
 line_nothing (Ok (Some Version2)) after e = e
 line_nothing (Err x) after e = e
 
+-- where all documents together are bad, it is bad with the same refusal or says nothing
+line_bad : (r : Result (Option ZarrJson) StorageError) (after : Meaning) (x : NodeCreateError) → version_3_line r after ≡ bad x → (version_3_line r nothing ≡ bad x) ⊎ (version_3_line r nothing ≡ nothing)
+line_bad (Ok None) after x e = inr refl
+line_bad (Ok (Some (node_json m))) after x e = inl e
+line_bad (Ok (Some Version2)) after x e = inl e
+line_bad (Err y) after x e = inl e
+
 module _ (s : Contents) (p : Path) where
   -- by default a path means metadata of version 3 by `zarr.json` alone
   pub three_alone : (m : NodeMetadata) → is_version_3 m ≡ true → meaning s Default p ≡ node m → meaning s V3 p ≡ node m
@@ -166,3 +174,8 @@ module _ (s : Contents) (p : Path) where
   nothing_alone e =
       v3_is s p ∙ zarr_json_line_is s p _ refl _ refl nothing
       ∙ line_nothing _ (zarray_line in_bytes s p (zgroup_line in_bytes s p nothing)) (sym (zarr_json_line_is s p _ refl _ refl _) ∙ sym (default_is s p) ∙ e)
+
+  -- what is bad by default is bad by version 3 with the same refusal, or means nothing
+  pub bad_alone : (x : NodeCreateError) → meaning s Default p ≡ bad x → (meaning s V3 p ≡ bad x) ⊎ (meaning s V3 p ≡ nothing)
+  bad_alone x e = subst (λ y. (y ≡ bad x) ⊎ (y ≡ nothing)) (sym (v3_is s p ∙ zarr_json_line_is s p _ refl _ refl nothing))
+      (line_bad _ (zarray_line in_bytes s p (zgroup_line in_bytes s p nothing)) x (sym (zarr_json_line_is s p _ refl _ refl _) ∙ sym (default_is s p) ∙ e))

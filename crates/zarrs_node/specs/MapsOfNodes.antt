@@ -1,12 +1,15 @@
--- Zarr core specification 3.1, "Hierarchy" and "Metadata": stores of which one shows the nodes of the other, each with metadata that a map makes of its own; and how a hierarchy of version 2 becomes such a one of version 3.
+-- Zarr core specification 3.1, "Hierarchy" and "Metadata": stores of which one shows the nodes of the other, each with metadata that a map makes of its own.
+-- A hierarchy of version 2 becomes one of version 3 in this way.
 -- <https://zarr-specs.readthedocs.io/en/latest/v3/core/index.html#hierarchy>
 -- <https://zarr-specs.readthedocs.io/en/latest/v3/core/index.html#metadata>
 --     NodesFrom S v b      the node at b and those below it
---     ShowsMapped f b S v T w      what T shows from b on by the version w is what S shows by v, under the map f; and nothing there is bad
+--     GoesOver f x y      y is what the map f makes of the meaning x
+--     ShowsMapped f b S v T w      what T shows from b on by the version w is what S shows by v, under the map f; and nothing below b is bad
 --     AreDocumentsOf f N ds      ds are documents of version 3 for the nodes of version 2 among N
+--     HasNoVersion3From S b      no path from b on has a `zarr.json`
 --     with_documents S ds, without_keys S ks      the store once these are set; once these are erased
 --     StandsBeside S key      the key is that of a document of version 2 beside a `zarr.json`
-use Rattle.std.specs.Prelude.{◌≡◌, ◌≢◌, ◌↔◌, ◌⊎◌, ℕ, Bool, true, false, List, [], ◌∷◌, ◌++◌, Option, Some, None, IsTrue, Contains, map}
+use Rattle.std.specs.Prelude.{◌≡◌, ◌≢◌, ◌↔◌, ◌⊎◌, ℕ, Bool, true, false, List, [], ◌∷◌, ◌++◌, Option, Some, None, Contains, map}
 use Rattle.std.specs.FinMap as store
 use Rattle.std.specs.List.{flat_map}
 use Rattle.std.specs.Global.{Vec}
@@ -14,7 +17,6 @@ use Rattle.std.specs.declared.cmp.Ordering.TheVariants.{Less}
 use Rattle.zarrs_store.specs.Segments.{Segments}
 use Rattle.zarrs_store.specs.Contents.{Contents, HasKey, HasBelow, Lists}
 use Rattle.zarrs_path.specs.Keys.{zarr_json, zarray, zgroup, zattrs, zmetadata}
-use Rattle.zarrs_path.specs.Names.{is_all_periods}
 use Rattle.zarrs_path.specs.Paths.{Path, path_cmp}
 use Rattle.zarrs_meta.specs.Node.{is_group}
 use Rattle.zarrs_meta.specs.NodeDocuments.{ReadsAs, is_version_3}
@@ -23,7 +25,7 @@ use Rattle.zarrs_config.specs.declared.version.MetadataRetrieveVersion.{Metadata
 use Rattle.zarrs_config.specs.declared.version.MetadataRetrieveVersion.TheVariants.{Default, V3, V2}
 use Rattle.zarrs_block.specs.Meaning.{Meaning, meaning, node, nothing, bad}
 use Rattle.zarrs_node.specs.Reach.{Reached}
-use Rattle.zarrs_node.specs.Nodes.{MeansNode, Nodes, HasNothingBad}
+use Rattle.zarrs_node.specs.Nodes.{MeansNode, Nodes, HasNothingBad, IsBadName}
 use Rattle.zarrs_node.specs.Order.{Ascend}
 
 -- ---- a node and those below it
@@ -57,24 +59,25 @@ IsMapped f N e = (m : NodeMetadata) × N (e.0, m) × (f m ≡ Some e.1)
 abbrev pub KeepsKinds : (NodeMetadata → Option NodeMetadata) → Type 0
 KeepsKinds f = (m c : NodeMetadata) → f m ≡ Some c → is_group c ≡ is_group m
 
--- what a path means goes over by f: a node into what f makes of it, and nothing into nothing; what is bad may become anything
+-- what a path means goes over by f: a node into what f makes of it, nothing into nothing, and what is bad into the same refusal or into nothing
 abbrev pub GoesOver : (NodeMetadata → Option NodeMetadata) → Meaning → Meaning → Type 0
 GoesOver f (node m) y = (c : NodeMetadata) × (f m ≡ Some c) × (y ≡ node c)
 GoesOver f nothing y = y ≡ nothing
-GoesOver f (bad e) y = Unit {0}
+GoesOver f (bad e) y = (y ≡ bad e) ⊎ (y ≡ nothing)
 
--- by the version w the store T shows from b on what S shows by v, under f: at b itself, and below it exactly those nodes; and nothing there is bad
+-- by the version w the store T shows from b on what S shows by v, under f: what b means goes over, the nodes below b are what f makes of those of S, and nothing below b is bad
 pub record ShowsMapped (f : NodeMetadata → Option NodeMetadata) (b : Path) (S : Contents) (v : MetadataRetrieveVersion) (T : Contents) (w : MetadataRetrieveVersion) : Type 0 where
   pub base : GoesOver f (meaning S v b) (meaning T w b)
   pub nodes : (e : Path × NodeMetadata) → Nodes T w true b e ↔ IsMapped f (Nodes S v true b) e
   pub clean : HasNothingBad T w true b
 
--- Where what b and each reached path means goes over by a map that keeps kinds, and no key comes to stand behind a name of periods, a store shows what the other shows, under that map.
+-- T shows from b on what S shows, under a map that keeps kinds, where nothing below b is bad in S, what b and each reached path means goes over,
+-- and S has a key below each child of b or of a reached group, with a name of periods only, below which T has one.
 abbrev pub MappedIsShown : Type 0
 MappedIsShown = (f : NodeMetadata → Option NodeMetadata) → KeepsKinds f
     → (S T : Contents) (v w : MetadataRetrieveVersion) (b : Path) → HasNothingBad S v true b
     → ((p : Path) → StandsFrom S v b p → GoesOver f (meaning S v p) (meaning T w p))
-    → ((g : Path) (n : List ℕ) → StandsFrom S v b g → IsTrue (is_all_periods n) → HasBelow T (g ++ n ∷ []) → HasBelow S (g ++ n ∷ []))
+    → ((p : Path) → IsBadName (meaning S v) (HasBelow T) true b p → HasBelow S p)
     → ShowsMapped f b S v T w
 
 -- ---- documents of version 3 beside those of version 2
@@ -94,25 +97,26 @@ pub record AreDocumentsOf (f : NodeMetadata → Option NodeMetadata) (N : Path �
   pub each : (e : Path × NodeMetadata) → N e → is_version_3 e.1 ≡ false → (d : Segments × Vec ℕ) × Contains ds d × IsDocumentFor f e d
   pub only : (d : Segments × Vec ℕ) → Contains ds d → (e : Path × NodeMetadata) × N e × (is_version_3 e.1 ≡ false) × IsDocumentFor f e d
 
--- no path has a document `zarr.json`
-abbrev pub HasNoVersion3 : Contents → Type 0
-HasNoVersion3 S = (p : Path) → HasKey S (p ++ zarr_json ∷ []) → ⊥
+-- neither b nor a path that is reached from it by default has a document `zarr.json`
+abbrev pub HasNoVersion3From : Contents → Path → Type 0
+HasNoVersion3From S b = (p : Path) → StandsFrom S Default b p → HasKey S (p ++ zarr_json ∷ []) → ⊥
 
 -- the store once the bytes are set at the key of each document, one after another
 abbrev pub with_documents : Contents → List (Segments × Vec ℕ) → Contents
 with_documents S [] = S
 with_documents S (d ∷ ds) = with_documents (store.insert S d.0 d.1.items) ds
 
--- Where the documents of version 3 of a node of version 2 and of those below it are set, a listing by version 3, and one by default, shows what one by default showed before, as version 3.
+-- Where nothing below b is bad, and the documents of version 3 are set for the nodes of version 2 from b on,
+-- a listing by version 3 and one by default show, as version 3, what one by default showed before.
 abbrev pub DocumentsAreShown : Type 0
 DocumentsAreShown = (f : NodeMetadata → Option NodeMetadata) → IsToVersion3 f
     → (S : Contents) (b : Path) (ds : List (Segments × Vec ℕ)) → HasNothingBad S Default true b → AreDocumentsOf f (NodesFrom S Default b) ds
     → ShowsMapped f b S Default (with_documents S ds) V3 × ShowsMapped f b S Default (with_documents S ds) Default
 
--- What a store shows of another that has no document `zarr.json` by default, it shows of it by version 2.
+-- Where S has no document `zarr.json` from b on, a store that shows what S shows by default shows what S shows by version 2.
 abbrev pub DefaultIsVersion2 : Type 0
 DefaultIsVersion2 = (f : NodeMetadata → Option NodeMetadata) (b : Path) (S T : Contents) (w : MetadataRetrieveVersion)
-    → HasNoVersion3 S → ShowsMapped f b S Default T w → ShowsMapped f b S V2 T w
+    → HasNoVersion3From S b → ShowsMapped f b S Default T w → ShowsMapped f b S V2 T w
 
 -- ---- documents of version 2 erased
 
@@ -133,7 +137,7 @@ without_keys S (k ∷ ks) = without_keys (store.remove S k) ks
 abbrev pub version_2_keys : Path → List Segments
 version_2_keys p = map (λ file. p ++ file ∷ []) version_2_files
 
--- those at the paths of some pairs
+-- the keys of the documents of version 2 at the paths of some pairs
 abbrev pub keys_beside : List (Path × NodeMetadata) → List Segments
 keys_beside es = flat_map (λ e. version_2_keys e.0) es
 
@@ -142,23 +146,23 @@ abbrev pub KeysStandBeside : Type 0
 KeysStandBeside = (S : Contents) (es : List (Path × NodeMetadata)) → ((e : Path × NodeMetadata) → Contains es e → meaning S V3 e.0 ≡ node e.1)
     → (key : Segments) → Contains (keys_beside es) key → StandsBeside S key
 
--- At a key that is none of those set, and at one that is none of those erased, stands what stood there.
+-- A key that is not among those set has what it had, and so has one that is not among those erased.
 abbrev pub OthersAreKept : Type 0
 OthersAreKept = (S : Contents) (key : Segments)
     → ((ds : List (Segments × Vec ℕ)) → ((d : Segments × Vec ℕ) → Contains ds d → d.0 ≢ key) → store.get (with_documents S ds) key ≡ store.get S key)
     × ((ks : List Segments) → (Contains ks key → ⊥) → store.get (without_keys S ks) key ≡ store.get S key)
 
--- Once the documents of version 2 at the paths of some pairs are erased, none of them is there.
+-- Once the documents of version 2 at the paths of some pairs are erased, no such key is there.
 abbrev pub ErasedAreAbsent : Type 0
 ErasedAreAbsent = (S : Contents) (es : List (Path × NodeMetadata)) (e : Path × NodeMetadata) (file : List ℕ)
     → Contains es e → Contains version_2_files file → store.get (without_keys S (keys_beside es)) (e.0 ++ file ∷ []) ≡ None
 
--- Where a store differs from another by documents of version 2 beside a `zarr.json` alone, each path means by default what it meant.
+-- Where a store differs from another only by documents of version 2 beside a `zarr.json`, each path means by default what it meant.
 abbrev pub BesideMeansSame : Type 0
 BesideMeansSame = (S T : Contents) → ((key : Segments) → (StandsBeside S key → ⊥) → store.get T key ≡ store.get S key)
     → (p : Path) → meaning T Default p ≡ meaning S Default p
 
--- Where only such documents are erased, a listing by default shows what it showed.
+-- Where nothing below b is bad, and only documents of version 2 beside a `zarr.json` are erased, a listing by default shows what it showed.
 abbrev pub ErasedShowSame : Type 0
 ErasedShowSame = (S : Contents) (ks : List Segments) → ((key : Segments) → Contains ks key → StandsBeside S key)
     → (b : Path) → HasNothingBad S Default true b → ShowsMapped Some b S Default (without_keys S ks) Default

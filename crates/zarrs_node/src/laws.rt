@@ -81,7 +81,7 @@ pub fn block_gives_back()
     ensures { BlockGivesBack }
 {}
 
-/// So does a block that holds exactly the nodes of a meaning, as a listing finds them in a store.
+/// A block that holds exactly the nodes of a meaning, as a listing finds them in a store, gives back the forest that shows them.
 ///
 /// Source: Zarr core specification 3.1, "Group metadata"; the block is that of zarr-python.
 pub fn listing_gives_back()
@@ -153,8 +153,8 @@ pub fn earlier_stands_before()
     ensures { EarlierStandsBefore }
 {}
 
-/// Where what the paths of a listing mean goes over by a map of metadata that keeps groups groups, a store shows what the other shows,
-/// under that map.
+/// Where what the paths of a listing mean goes over by a map of metadata that keeps groups groups, and no key comes to stand behind a
+/// name of periods below the base or a group, a store shows what the other shows, under that map.
 ///
 /// Source: own; Zarr core specification 3.1, "Hierarchy".
 pub fn mapped_is_shown()
@@ -169,7 +169,8 @@ pub fn documents_are_shown()
     ensures { DocumentsAreShown }
 {}
 
-/// What a store shows of another that has no document `zarr.json` by default, it shows of it by version 2.
+/// Where a store has no document `zarr.json` at a path or at one that is reached from it, another that shows what it shows by default
+/// shows what it shows by version 2.
 ///
 /// Source: own; Zarr core specification 3.1, "Metadata".
 pub fn default_is_version_2()
@@ -183,21 +184,21 @@ pub fn keys_stand_beside()
     ensures { KeysStandBeside }
 {}
 
-/// At a key that is none of those set, and at one that is none of those erased, stands what stood there.
+/// A key that is not among those set has what it had, and so has one that is not among those erased.
 ///
 /// Source: Zarr core specification 3.1, "Abstract store interface".
 pub fn others_are_kept()
     ensures { OthersAreKept }
 {}
 
-/// Once the documents of version 2 at the paths of some pairs are erased, none of them is there.
+/// Once the documents of version 2 at the paths of some pairs are erased, no such key is there.
 ///
 /// Source: Zarr core specification 3.1, "Abstract store interface".
 pub fn erased_are_absent()
     ensures { ErasedAreAbsent }
 {}
 
-/// Where a store differs from another by documents of version 2 beside a `zarr.json` alone, each path means by default what it meant.
+/// Where a store differs from another only by documents of version 2 beside a `zarr.json`, each path means by default what it meant.
 ///
 /// Source: own; Zarr core specification 3.1, "Metadata".
 pub fn beside_means_same()

@@ -13,7 +13,7 @@ ghost use Rattle.zarrs_meta.specs.declared.node.NodeMetadata.TheVariants as node
 ghost use Rattle.zarrs_block.specs.Meaning.{meaning, node};
 ghost use Rattle.zarrs_block.specs.Refusals.{IsExcusedOr};
 ghost use Rattle.zarrs_convert.specs.Arrays.{array_v3};
-ghost use Rattle.zarrs_node.specs.MapsOfNodes.{AreDocumentsOf, HasNoVersion3, StandsBeside, NodesFrom, ShowsMapped, keys_beside, version_2_files, version_2_keys, with_documents, without_keys};
+ghost use Rattle.zarrs_node.specs.MapsOfNodes.{AreDocumentsOf, HasNoVersion3From, StandsBeside, NodesFrom, ShowsMapped, keys_beside, version_2_files, version_2_keys, with_documents, without_keys};
 ghost use Rattle.zarrs_node.specs.Nodes.{HasNothingBad};
 ghost use Rattle.zarrs_node.specs.Order.{Ascend};
 ghost use Rattle.zarrs_uses.specs.Conversions.{KeepsOthers, RefusesConverting, RefusesErasing, RefusesFrom, RefusesNodes, node_v3};
@@ -135,7 +135,7 @@ pub fn convert_hierarchy<
         (ShowsMapped node_v3 base.now (S.contents storage.old) MetadataRetrieveVersion.Default
         (S.contents storage.new) MetadataRetrieveVersion.Default) }
     ensures version_2 { OnOk result
-        (HasNoVersion3 (S.contents storage.old)
+        (HasNoVersion3From (S.contents storage.old) base.now
         → ShowsMapped node_v3 base.now (S.contents storage.old) MetadataRetrieveVersion.V2
         (S.contents storage.new) MetadataRetrieveVersion.V3) }
     ensures others { KeepsOthers base.now (S.contents storage.old) (S.contents storage.new) }
