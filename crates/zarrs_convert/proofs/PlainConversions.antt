@@ -29,7 +29,7 @@ use Rattle.zarrs_convert.specs.Tables.{with_configuration, first_row, fits_u64, 
 use Rattle.zarrs_convert.specs.DataTypes.{byte_order, data_type_name, data_type_v3, data_type_of_name}
 use Rattle.zarrs_convert.specs.FillValues.{fill_lines, fill_value_v3, zero_bytes, zero_value}
 use Rattle.zarrs_convert.specs.Codecs.{array_to_bytes, codecs_v3, filter_v3, filters_v3, transposition, no_codec, vlen_names, without_compressor}
-use Rattle.zarrs_convert.specs.Arrays.{array_v3, byte_order_refusal, v2_encoding}
+use Rattle.zarrs_convert.specs.Arrays.{array_v3, byte_order_refusal, regular_grid, v2_encoding}
 
 -- ---- steps that give a value or a refusal
 
@@ -38,7 +38,7 @@ then_ok : {A B : Type 0} (P : A → Type 0) (Q : B → Type 0) (r : Result A Ref
 then_ok P Q (Ok x) f h g = g x h
 then_ok P Q (Err e) f h g = tt
 
--- the same, where nothing is known of the first step's value
+-- a step of whose value nothing is known, and then one whose value has Q
 next_ok : {A B : Type 0} (Q : B → Type 0) (r : Result A Refusal) (f : A → Result B Refusal) → ((x : A) → IfOk (f x) Q) → IfOk (r >>= f) Q
 next_ok Q (Ok x) f g = g x
 next_ok Q (Err e) f g = tt
@@ -54,7 +54,7 @@ of_ok P (Err y) x h e = cc
 abbrev ExtensionFits : MetadataV3 → Type 0
 ExtensionFits m = extension_fits m ≡ true
 
--- those of all extensions do
+-- the numbers of all these extensions fit
 abbrev CodecsFit : List MetadataV3 → Type 0
 CodecsFit ms = list_all extension_fits ms ≡ true
 
@@ -184,7 +184,9 @@ converted_array_is_plain m converted plain e = of_ok Plain (array_v3 m) converte
 
 -- what an array that is converted keeps
 abbrev Keeps : ArrayMetadataV2 → ArrayMetadataV3 → Type 0
-Keeps m converted = (converted.shape ≡ m.shape) × (converted.attributes ≡ m.attributes) × (converted.chunk_key_encoding ≡ v2_encoding m.dimension_separator)
+Keeps m converted =
+    (converted.shape ≡ m.shape) × (converted.attributes ≡ m.attributes)
+    × (converted.chunk_grid ≡ regular_grid m.chunks) × (converted.chunk_key_encoding ≡ v2_encoding m.dimension_separator)
 
 array_keeps : (m : ArrayMetadataV2) → IfOk (array_v3 m) (Keeps m)
 unfolding array_v3
@@ -192,8 +194,8 @@ array_keeps m =
     next_ok (Keeps m) (byte_order_refusal (byte_order m.dtype)) _ (λ endianness.
     next_ok (Keeps m) (data_type_v3 m.dtype) _ (λ data_type.
     next_ok (Keeps m) (fill_value_v3 m.fill_value data_type.name) _ (λ fill_value.
-    next_ok (Keeps m) (codecs_v3 m.order (length m.shape) endianness m.filters m.compressor) _ (λ codecs. (refl, refl, refl)))))
+    next_ok (Keeps m) (codecs_v3 m.order (length m.shape) endianness m.filters m.compressor) _ (λ codecs. (refl, refl, refl, refl)))))
 
--- an array that is converted keeps its shape, its attributes and its dimension separator
+-- an array that is converted keeps its shape, its attributes, its chunk shape and its dimension separator
 pub converted_array_keeps : (m : ArrayMetadataV2) (converted : ArrayMetadataV3) → array_v3 m ≡ Ok converted → Keeps m converted
 converted_array_keeps m converted e = of_ok (Keeps m) (array_v3 m) converted (array_keeps m) e

@@ -9,7 +9,7 @@ use Rattle.zarrs_meta.specs.GroupV3.{is_plain_group_v3}
 use Rattle.zarrs_meta.specs.declared.array_v2.ArrayMetadataV2.{ArrayMetadataV2}
 use Rattle.zarrs_meta.specs.declared.array_v3.ArrayMetadataV3.{ArrayMetadataV3}
 use Rattle.zarrs_meta.specs.declared.group_v2.GroupMetadataV2.{GroupMetadataV2}
-use Rattle.zarrs_convert.specs.Arrays.{array_v3, v2_encoding}
+use Rattle.zarrs_convert.specs.Arrays.{array_v3, regular_grid, v2_encoding}
 use Rattle.zarrs_convert.specs.Groups.{group_v2_to_v3}
 
 -- a plain version 2 group is converted to a plain version 3 group
@@ -20,7 +20,8 @@ ConvertedGroupIsPlain = (m : GroupMetadataV2) → IsTrue (is_plain_group_v2 m) �
 abbrev pub ConvertedArrayIsPlain : Type 0
 ConvertedArrayIsPlain = (m : ArrayMetadataV2) (converted : ArrayMetadataV3) → IsTrue (is_plain_array_v2 m) → array_v3 m ≡ Ok converted → IsTrue (is_plain_array_v3 converted)
 
--- an array that is converted keeps its shape, its attributes and its dimension separator
+-- an array that is converted keeps its shape, its attributes, its chunk shape as a regular grid, and its dimension separator
 abbrev pub ConvertedArrayKeeps : Type 0
 ConvertedArrayKeeps = (m : ArrayMetadataV2) (converted : ArrayMetadataV3) → array_v3 m ≡ Ok converted →
-    (converted.shape ≡ m.shape) × (converted.attributes ≡ m.attributes) × (converted.chunk_key_encoding ≡ v2_encoding m.dimension_separator)
+    (converted.shape ≡ m.shape) × (converted.attributes ≡ m.attributes)
+    × (converted.chunk_grid ≡ regular_grid m.chunks) × (converted.chunk_key_encoding ≡ v2_encoding m.dimension_separator)

@@ -11,7 +11,7 @@ pub fn converted_array_is_plain()
     ensures { ConvertedArrayIsPlain }
 {}
 
-/// An array that is converted keeps its shape, its attributes and its dimension separator.
+/// An array that is converted keeps its shape, its attributes, its chunk shape as a regular grid, and its dimension separator.
 pub fn converted_array_keeps()
     ensures { ConvertedArrayKeeps }
 {}
