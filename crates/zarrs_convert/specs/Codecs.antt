@@ -27,7 +27,7 @@ vlen_names = codes "vlen-array" ∷ codes "vlen-bytes" ∷ codes "vlen-utf8" ∷
 abbrev pub no_codec : {A : Type 0} → MetadataV2 → Result A Refusal
 no_codec codec = Err (unsupported_codec codec.id codec.configuration)
 
--- such a filter keeps its name, with an empty configuration
+-- a filter that has a form of version 3 keeps its name, with an empty configuration; any other is refused
 abbrev pub filter_v3 : MetadataV2 → Result MetadataV3 Refusal
 filter_v3 filter = if is_among vlen_names filter.id then Ok (with_no_configuration filter.id) else no_codec filter
 

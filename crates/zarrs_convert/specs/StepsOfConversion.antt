@@ -19,6 +19,6 @@ NamesDataType data_type (UnsupportedDataType named) = named ≡ data_type
 NamesDataType data_type OutOfMemory = Unit {0}
 NamesDataType data_type _ = ⊥
 
--- the digits behind a beginning, where the text is so
+-- the digits behind a beginning, where the text is the beginning and one or more digits
 abbrev pub digits_behind : List ℕ → List ℕ → Option (List ℕ)
 digits_behind start text = if is_numbered start text then Some (drop (length start) text) else None

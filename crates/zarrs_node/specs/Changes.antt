@@ -52,7 +52,7 @@ abbrev pub FreshIsBlock : Type 0
 FreshIsBlock = (S T : Contents) (v : MetadataRetrieveVersion) (b p : Path) (B C : Block)
     → IsPath p → IsBelow b p → AgreesOutside p S T → IsBlockOf (Nodes S v true b) b B → IsFresh (meaning T v) b B p C → IsBlockOf (Nodes T v true b) b C
 
--- So is the block of the first store, made current after each of any number of changes, that of the last.
+-- The block of the first store, made current after each of any number of changes, is the block of the last store.
 abbrev pub RefreshedIsBlock : Type 0
 RefreshedIsBlock = (S : Contents) (v : MetadataRetrieveVersion) (b : Path) (cs : List (Contents × Path)) (B C : Block)
     → AreChanges b S cs → IsBlockOf (Nodes S v true b) b B → IsRefreshed v b B cs C → IsBlockOf (Nodes (last_of S cs) v true b) b C

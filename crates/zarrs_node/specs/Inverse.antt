@@ -36,7 +36,7 @@ abbrev pub BlockGivesBack : Type 0
 BlockGivesBack = (b : Path) (f : Forest) (B : Block)
     → IsPlaced b f → HasNames b (pairs f) → ArePlain (pairs f) → IsAscending B → IsBlockOf (Contains (pairs f)) b B → IsInverse b f B
 
--- So does a block that holds exactly the nodes of a meaning that a forest shows: those that a listing finds in a store, whatever the store.
+-- A block that holds exactly the nodes that a listing finds, whatever the store, has in it the forest that shows them, where the metadata are plain.
 abbrev pub ListingGivesBack : Type 0
 ListingGivesBack = (of : Path → Meaning) (b : Path) (f : Forest) (B : Block)
     → Shows f b (Kept (Means of) true b) → ArePlain (pairs f) → IsAscending B → IsBlockOf (Kept (Means of) true b) b B → IsInverse b f B

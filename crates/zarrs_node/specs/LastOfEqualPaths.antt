@@ -35,7 +35,7 @@ pub record StandBelow (b : Path) (xs es : List (Path × NodeMetadata)) : Type 0 
   pub children : (e : Path × NodeMetadata) → Contains es e → IsPath e.0 × IsChildOf b e.0
   pub as_often : (p : Path) → IsChildOf b p → filter (λ d. path_eq d.0 p) es ≡ filter (λ d. path_eq d.0 p) xs
 
--- they are, and no path stands after a later one
+-- es are the pairs of xs whose path is b and one name, as often as they stand, and no path stands after a later one
 pub record AreChildrenOf (b : Path) (xs es : List (Path × NodeMetadata)) : Type 0 where
   pub stand : StandBelow b xs es
   pub ascending : AllPairs (λ d e. path_cmp d.0 e.0 ≢ Greater) es

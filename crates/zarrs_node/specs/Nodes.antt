@@ -27,7 +27,7 @@ HasBadDocument of recursive b e = (p : Path) × Reached (Means of) recursive b p
 abbrev pub IsListed : (Path → Meaning) → Bool → Path → Path → Type 0
 IsListed of recursive b g = (g ≡ b) ⊎ (Reached (Means of) recursive b g × Opens (Means of) recursive g)
 
--- p is a listed path and a segment of periods only, at least one, and some key goes on behind it
+-- p is a listed path with one segment behind it, of one or more periods and nothing else, and p is one of those that have a key below them
 abbrev pub IsBadName : (Path → Meaning) → (Path → Type 0) → Bool → Path → Path → Type 0
 IsBadName of has recursive b p = (g : Path) × (n : List ℕ) × IsListed of recursive b g × IsTrue (is_all_periods n) × has (g ++ n ∷ []) × (p ≡ g ++ n ∷ []) × (n ≢ [])
 

@@ -3,7 +3,7 @@
 -- <https://zarr.readthedocs.io/en/stable/user-guide/consolidated_metadata/>
 --     choice s policy b m      which block stands for the nodes below b, or that they are listed, or nothing where the want of a block is refused
 --     ShowsChosen, IsCleanChosen      what a tree below b shows by such a choice; that nothing refuses it
---     ShowsNode, IsCleanNode      the same of a node that was opened
+--     ShowsNode, IsCleanNode      what the tree of an opened node shows; that nothing refuses it
 --     RefusesChosen, RefusesNode, RefusesOpening      what refuses it; what refuses the node itself; the first of all reasons against opening a text
 use Rattle.std.specs.Prelude.{◌≡◌, ℕ, Bool, true, List, Option, Some, None, ◌⊎◌}
 use Rattle.zarrs_store.specs.Contents.{Contents}
@@ -57,7 +57,7 @@ abbrev pub IsCleanBelow : Contents → MetadataRetrieveVersion → UseConsolidat
 IsCleanBelow s v policy b (Array a) = Unit {0}
 IsCleanBelow s v policy b (Group g) = IsCleanChosen s v (choice s policy b (Group g)) true b
 
--- what stands below a group is refused; below an array nothing is
+-- what stands below a group is refused with e; below an array nothing is refused
 abbrev pub RefusesBelow : Contents → MetadataRetrieveVersion → UseConsolidatedMetadata → Path → NodeMetadata → NodeCreateError → Type 0
 RefusesBelow s v policy b (Array a) e = ⊥
 RefusesBelow s v policy b (Group g) e = RefusesChosen s v (choice s policy b (Group g)) true b e

@@ -46,7 +46,7 @@ stem_of n = record { path = (out-Node n).path; metadata = (out-Node n).metadata;
 abbrev pub whole : List Node → List Node → Forest
 whole roots opened = grow (forest roots) (map stem_of opened) none
 
--- that forest with t behind the children of the last open group
+-- the forest of the roots and the open groups, with t behind the children of the last open group
 abbrev pub with_tree : List Node → List Node → Forest → Forest
 with_tree roots opened t = grow (forest roots) (map stem_of opened) t
 

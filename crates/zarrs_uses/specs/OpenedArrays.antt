@@ -4,7 +4,7 @@
 --     RefusesOpeningArray      why a path was not opened as an array
 --     shape_of, data_type_of      what the metadata of either version say
 --     chunk_key_of, chunk_in      the key of a chunk, and what a store has there
---     RefusesChunkKey, RefusesChunk      why there is no such key, and why no chunk was read
+--     RefusesChunkKey, RefusesChunk      why a chunk has no key, and why no chunk was read
 use Rattle.std.specs.Prelude.{ℕ, ◌≡◌, ◌≢◌, ◌⊎◌, Bool, List, ◌++◌, length, string_bytes, Option, None, option_map, Result, Ok}
 use Rattle.std.specs.FinMap.{get}
 use Rattle.zarrs_store.specs.Segments.{Segments}
@@ -70,7 +70,7 @@ RefusesChunkKey m indices (WrongIndices given dimensions) = (given ≡ length in
 RefusesChunkKey m indices (Store e) = ⊥
 RefusesChunkKey m indices OutOfMemory = Unit {0}
 
--- there is no such key; or the error is the fault of a store that can fail, or out of memory
+-- the key of the chunk is refused; or the error is the fault of a store that can fail, or out of memory
 abbrev pub RefusesChunk : Bool → ArrayMetadata → List ℕ → ChunkError → Type 0
 RefusesChunk can_fail m indices (Store e) = IsStoreError can_fail e
 RefusesChunk can_fail m indices e = RefusesChunkKey m indices e
