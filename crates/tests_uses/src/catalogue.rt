@@ -4,7 +4,7 @@ use log::sink::Discard;
 use std::alloc::{AllocError, Global};
 use std::test::Fail;
 use tests_fixtures::{config_of, keys_text, store_of};
-use tests_support::{A3, G3, check_rows, said};
+use tests_support::{A3, G3, check_rows, refusal, said};
 use zarrs_block::NodeCreateError;
 use zarrs_config::{Config, MetadataRetrieveVersion, UseConsolidatedMetadata};
 use zarrs_node::Node;
@@ -127,11 +127,12 @@ fn changed_text(
 ) -> Result<String, AllocError> {
     match catalogue.update(alloc, &mut store, changes, &Config::new()) {
         Ok(()) => said(alloc, shown_by_both(alloc, &store), own_text),
-        Err(UpdateError::Storing(refused)) => format!(in alloc; "{refused}"),
         Err(UpdateError::Step(refused)) => {
+            let cause = refusal(alloc, &refused.cause)?;
             let keys = keys_text(&catalogue.block, alloc)?;
-            format!(in alloc; "{refused}\n{keys}")
+            format!(in alloc; "{refused}\n{} {cause}\n{keys}", refused.step)
         }
+        Err(refused) => refusal(alloc, &refused),
     }
 }
 
@@ -166,11 +167,11 @@ fn the_stored_group_shows_by_its_block_what_a_listing_shows(rt: HostRuntime) -> 
     check_rows(rt.alloc(), STORED, changed_said)
 }
 
-// Changes of which one is refused; which one and why, and the keys of the block, which is that of the changes before.
+// Changes of which one is refused; the refusal, which change it is of and why, and the keys of the block, which is that of the changes before.
 const REFUSED: &str = r#"
-/old/waves;/new g3;/new/array {};/more g3 => change 2: error parsing metadata for new/array/zarr.json: wrong zarr_format\nnew\nold\ntemperature\n
-/new g3;/ g3;/more g3 => change 1: the path is not below that of the group\nnew\nold\nold/waves\ntemperature\n
-/old [ => change 0: error parsing metadata for old/zarr.json: not JSON\nold\nold/waves\ntemperature\n
+/old/waves;/new g3;/new/array {};/more g3 => change 2: error parsing metadata for new/array/zarr.json: wrong zarr_format\n2 Refresh(StorageError(InvalidMetadata)): error parsing metadata for new/array/zarr.json: wrong zarr_format\nnew\nold\ntemperature\n
+/new g3;/ g3;/more g3 => change 1: the path is not below that of the group\n1 NotBelow: the path is not below that of the group\nnew\nold\nold/waves\ntemperature\n
+/old [ => change 0: error parsing metadata for old/zarr.json: not JSON\n0 Refresh(StorageError(InvalidMetadata)): error parsing metadata for old/zarr.json: not JSON\nold\nold/waves\ntemperature\n
 "#;
 
 #[test]
@@ -188,12 +189,13 @@ fn went_on_text(
     let mut text = String::new(alloc);
     for change in changes {
         if let Err(refused) = catalogue.apply(alloc, &mut store, change) {
+            let refused = refusal(alloc, &refused)?;
             write!(text, "{refused}\n")?;
         }
     }
     let shown = match catalogue.store(alloc, &mut store, &Config::new()) {
         Ok(()) => said(alloc, shown_by_both(alloc, &store), own_text)?,
-        Err(refused) => format!(in alloc; "{refused}")?,
+        Err(refused) => refusal(alloc, &refused)?,
     };
     write!(text, "{shown}")?;
     Ok(text)
@@ -211,8 +213,8 @@ fn went_on_said(alloc: Global, given: &str) -> Result<String, AllocError> {
 
 // Changes of which one is refused, and another that mends it; the refusal, and the keys of what the group shows.
 const MENDED: &str = r#"
-/old [;/old g3 => error parsing metadata for old/zarr.json: not JSON\nold\nold/waves\ntemperature\n
-/new/array [;/new g3;/new/array a3;/new g3 => error parsing metadata for new/array/zarr.json: not JSON\nnew\nnew/array\nold\nold/waves\ntemperature\n
+/old [;/old g3 => Refresh(StorageError(InvalidMetadata)): error parsing metadata for old/zarr.json: not JSON\nold\nold/waves\ntemperature\n
+/new/array [;/new g3;/new/array a3;/new g3 => Refresh(StorageError(InvalidMetadata)): error parsing metadata for new/array/zarr.json: not JSON\nnew\nnew/array\nold\nold/waves\ntemperature\n
 "#;
 
 #[test]
@@ -228,7 +230,7 @@ fn apart_text(
     changes: &[Change],
 ) -> Result<String, AllocError> {
     if let Err(refused) = catalogue.apply_all(alloc, &mut store, changes) {
-        return format!(in alloc; "{refused}");
+        return refusal(alloc, &refused);
     }
     went_on_text(alloc, store, catalogue, &[])
 }
@@ -270,7 +272,7 @@ fn deep_said(alloc: Global, levels: &str) -> Result<String, AllocError> {
 // The levels of an attribute; what is stored, or the refusal: in the block each document nests three levels deeper.
 const DEEP: &str = r#"
 122 => deep\nold\nold/waves\ntemperature\n
-123 => the document of the group would nest too deep
+123 => Storing(TooDeep): the document of the group would nest too deep
 "#;
 
 #[test]

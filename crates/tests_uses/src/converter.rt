@@ -3,8 +3,8 @@
 use log::sink::Discard;
 use std::alloc::{AllocError, Global};
 use std::test::Fail;
-use tests_fixtures::{config_of, key_of, no_word, store_of, version_of};
-use tests_support::{check_rows, fields, said};
+use tests_fixtures::{config_of, key_of, no_word, node_text, store_of, version_of};
+use tests_support::{A3, G3, check_rows, fields, refusal, said};
 use zarrs_block::NodeCreateError;
 use zarrs_config::UseConsolidatedMetadata;
 use zarrs_meta::NodeMetadata;
@@ -92,22 +92,31 @@ const HIERARCHY: [(&str, &str); 7] = [
     ("waves/heights/.zarray", HEIGHTS),
 ];
 
-// Does a step to a store: converts or erases from the root on, or puts documents there that do not convert.
+// Does a step to a store: converts or erases from the root or from `/waves` on, or puts documents there.
 fn step(alloc: Global, store: &mut MemoryStore, word: &str) -> Result<(), ConvertError> {
-    let root = root(alloc)?;
+    let base = base_of(alloc, word)?;
     match word {
         "written" => Ok(()),
-        "convert" => convert_hierarchy(&Discard, alloc, store, &root),
-        "erase" => erase_version_2(&Discard, alloc, store, &root),
+        "convert" | "convert-waves" => convert_hierarchy(&Discard, alloc, store, &base),
+        "erase" | "erase-waves" => erase_version_2(&Discard, alloc, store, &base),
+        "new" => put(alloc, store, "new/zarr.json", G3),
+        "new-counts" => put(alloc, store, "new/counts/zarr.json", A3),
         "packed" => put(alloc, store, "waves/packed/.zarray", PACKED),
         "deep" => put(alloc, store, "waves/.zattrs", deep(alloc)?.as_str()),
         "bad" => put(alloc, store, "waves/.zattrs", "[]"),
+        "bad-root" => put(alloc, store, ".zattrs", "[]"),
         word => Err(ConvertError::Storage(no_word(alloc, word))),
     }
 }
 
-fn root(alloc: Global) -> Result<NodePath, NodeCreateError> {
-    Ok(NodePath::root(alloc)?)
+// The path from which a step goes on.
+fn base_of(alloc: Global, word: &str) -> Result<NodePath, NodeCreateError> {
+    let text = if word.ends_with("-waves") {
+        "/waves"
+    } else {
+        "/"
+    };
+    Ok(NodePath::new(alloc, text)?)
 }
 
 // Sets a document.
@@ -143,13 +152,15 @@ fn after(alloc: Global, words: &str) -> Result<MemoryStore, ConvertError> {
     Ok(store)
 }
 
-// What a listing by a version finds from the root on, after some steps.
+// What a listing by a version finds after some steps, from a path on: the root where none is given.
 fn listed(alloc: Global, given: &str) -> Result<Node, ConvertError> {
-    let (words, version) = fields(given);
+    let (words, rest) = fields(given);
+    let (version, path) = fields(rest);
     let store = after(alloc, words)?;
     let version = version_of(alloc, version)?;
+    let path = if path.is_empty() { "/" } else { path };
     let config = config_of(UseConsolidatedMetadata::Never);
-    let node = Node::open_opt(&Discard, alloc, &store, "/", &version, &config)?;
+    let node = Node::open_opt(&Discard, alloc, &store, path, &version, &config)?;
     Ok(node)
 }
 
@@ -157,29 +168,54 @@ fn listed_said(alloc: Global, given: &str) -> Result<String, AllocError> {
     said(alloc, listed(alloc, given), Node::hierarchy_tree)
 }
 
-// Steps and a version; what a listing finds then.
+// Steps, a version and a path; what a listing finds then.
 const LISTED: &str = r#"
 written | v2 => /\n  counts [100, 200] Simple("<i4")\n  waves\n    heights [8760] Simple(">f8")\n
-written | v3 => Metadata is missing for /
+written | v3 => Node(MissingMetadata): Metadata is missing for /
 # The same paths and shapes stand under version 3, and under the default version.
 convert | v3 => /\n  counts [100, 200] int32\n  waves\n    heights [8760] float64\n
 convert | any => /\n  counts [100, 200] int32\n  waves\n    heights [8760] float64\n
 # The old documents are as they were, until they are erased.
 convert | v2 => /\n  counts [100, 200] Simple("<i4")\n  waves\n    heights [8760] Simple(">f8")\n
-convert erase | v2 => Metadata is missing for /
+convert erase | v2 => Node(MissingMetadata): Metadata is missing for /
 convert erase | any => /\n  counts [100, 200] int32\n  waves\n    heights [8760] float64\n
 convert erase | v3 => /\n  counts [100, 200] int32\n  waves\n    heights [8760] float64\n
 # What is converted stays as it is.
 convert convert | v3 => /\n  counts [100, 200] int32\n  waves\n    heights [8760] float64\n
 convert erase convert erase | any => /\n  counts [100, 200] int32\n  waves\n    heights [8760] float64\n
+# A hierarchy of version 2 converts from its own path on, beside one of version 3 in the same store; the rest stays.
+new new-counts | v2 | /waves => /\n  heights [8760] Simple(">f8")\n
+new new-counts convert-waves | v2 | /waves => /\n  heights [8760] Simple(">f8")\n
+new new-counts convert-waves | v3 | /waves => /\n  heights [8760] float64\n
+new new-counts convert-waves | v3 | /new => /\n  counts [1] float32\n
+new new-counts convert-waves | v3 => Node(MissingMetadata): Metadata is missing for /
+new new-counts convert-waves | v2 => /\n  counts [100, 200] Simple("<i4")\n  waves\n    heights [8760] Simple(">f8")\n
+new new-counts convert-waves | any => /\n  counts [100, 200] Simple("<i4")\n  new\n    counts [1] float32\n  waves\n    heights [8760] float64\n
+new new-counts convert-waves erase-waves | v2 | /waves => Node(MissingMetadata): Metadata is missing for /waves
+new new-counts convert-waves erase-waves | any | /waves => /\n  heights [8760] float64\n
 # What does not convert is not erased either.
-packed convert | any => /waves/packed has no form of version 3: unsupported codec blosc
-erase | any => Metadata is missing for /
+packed convert | any => Array: /waves/packed has no form of version 3: unsupported codec blosc
+erase | any => Node(MissingMetadata): Metadata is missing for /
 "#;
 
 #[test]
 fn a_listing_shows_the_same_once_it_is_converted(rt: HostRuntime) -> Result<(), Fail> {
     check_rows(rt.alloc(), LISTED, listed_said)
+}
+
+fn listed_whole(alloc: Global, given: &str) -> Result<String, AllocError> {
+    said(alloc, listed(alloc, given), node_text)
+}
+
+// Steps, a version and a path; what a listing finds then, by paths and documents.
+const CONVERTED: &str = r#"
+convert | v3 => / {"attributes":{"source":"buoy"},"node_type":"group","zarr_format":3}\n  /counts {"attributes":{"source":"buoy"},"chunk_grid":{"configuration":{"chunk_shape":[10,20]},"name":"regular"},"chunk_key_encoding":{"configuration":{"separator":"."},"name":"v2"},"codecs":[{"configuration":{"endian":"little"},"name":"bytes"}],"data_type":"int32","fill_value":0,"node_type":"array","shape":[100,200],"zarr_format":3}\n  /waves G3\n    /waves/heights {"chunk_grid":{"configuration":{"chunk_shape":[24]},"name":"regular"},"chunk_key_encoding":{"configuration":{"separator":"."},"name":"v2"},"codecs":[{"configuration":{"order":[0]},"name":"transpose"},{"configuration":{"endian":"big"},"name":"bytes"}],"data_type":"float64","fill_value":"NaN","node_type":"array","shape":[8760],"zarr_format":3}\n
+new new-counts convert-waves | v3 | /new => /new G3\n  /new/counts A3\n
+"#;
+
+#[test]
+fn each_node_is_converted_with_all_that_it_has(rt: HostRuntime) -> Result<(), Fail> {
+    check_rows(rt.alloc(), CONVERTED, listed_whole)
 }
 
 // The keys of a store, each with its document.
@@ -206,7 +242,14 @@ fn refused(alloc: Global, words: &str) -> Result<String, ConvertError> {
     };
     match answer {
         Ok(()) => Ok(format!(in alloc; "converted, {written}")?),
-        Err(error) => Ok(format!(in alloc; "{error}, {written}")?),
+        Err(ConvertError::Array(path, error)) => {
+            let error = refusal(alloc, &error)?;
+            Ok(format!(in alloc; "Array {path} {error}, {written}")?)
+        }
+        Err(error) => {
+            let error = refusal(alloc, &error)?;
+            Ok(format!(in alloc; "{error}, {written}")?)
+        }
     }
 }
 
@@ -222,9 +265,10 @@ fn refused_said(alloc: Global, words: &str) -> Result<String, AllocError> {
 const REFUSED: &str = r#"
 written => converted, something is written
 convert => converted, nothing is written
-packed => /waves/packed has no form of version 3: unsupported codec blosc, nothing is written
-deep => /waves nests too deep for a document of version 3, nothing is written
-bad => error parsing metadata for waves/.zattrs: not an object, nothing is written
+packed => Array /waves/packed UnsupportedCodec: unsupported codec blosc, nothing is written
+deep => Depth: /waves nests too deep for a document of version 3, nothing is written
+bad => Node(StorageError(InvalidMetadata)): error parsing metadata for waves/.zattrs: not an object, nothing is written
+bad-root => Node(StorageError(InvalidMetadata)): error parsing metadata for .zattrs: not an object, nothing is written
 "#;
 
 #[test]

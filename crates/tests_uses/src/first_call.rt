@@ -22,7 +22,7 @@ fn group_said(alloc: Global, path: &str) -> Result<String, AllocError> {
 const GROUPS: &str = r#"
 / => true
 /a => false
-/b => Metadata is missing for /b
+/b => MissingMetadata: Metadata is missing for /b
 "#;
 
 #[test]

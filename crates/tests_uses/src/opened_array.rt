@@ -3,7 +3,7 @@
 use std::alloc::{AllocError, Global};
 use std::test::Fail;
 use tests_fixtures::{ANY, key_of, no_word, store_of, version_of};
-use tests_support::{check_rows, fields, printed, said};
+use tests_support::{check_rows, fields, printed, refusal, said};
 use zarrs_store::{MemoryStore, StorageError, WritableStorageTraits, laws};
 use zarrs_uses::{ChunkKeyEncoding, OpenedArray};
 
@@ -136,7 +136,10 @@ fn array_text(array: &OpenedArray, alloc: Global) -> Result<String, AllocError> 
             let name = data_type.name.as_str();
             format!(in alloc; "{path} {shape:?} {name}")
         }
-        Err(error) => format!(in alloc; "{path} {shape:?} {error}"),
+        Err(error) => {
+            let error = refusal(alloc, &error)?;
+            format!(in alloc; "{path} {shape:?} {error}")
+        }
     }
 }
 
@@ -154,15 +157,15 @@ fn opened_said(alloc: Global, given: &str) -> Result<String, StorageError> {
 const OPENED: &str = r#"
 2.13 | any | /t => /t [3, 5] int16
 2.13 | v2 | /t => /t [3, 5] int16
-2.13 | v3 | /t => Metadata is missing for /t
-2.13 | any | /time => /time [3] unsupported data type
-2.13 | any | / => no array but a group at /
-2.13 | any | /none => Metadata is missing for /none
-2.13 | any | t => invalid node path t
+2.13 | v3 | /t => Node(MissingMetadata): Metadata is missing for /t
+2.13 | any | /time => /time [3] UnsupportedDataType(Simple): unsupported data type
+2.13 | any | / => NotAnArray: no array but a group at /
+2.13 | any | /none => Node(MissingMetadata): Metadata is missing for /none
+2.13 | any | t => Node(NodePathError(Invalid)): invalid node path t
 3 | any | /t => /t [3, 5] int16
-3 | v2 | /t => Metadata is missing for /t
-3 | any | / => no array but a group at /
-3 | any | /t/c => Metadata is missing for /t/c
+3 | v2 | /t => Node(MissingMetadata): Metadata is missing for /t
+3 | any | / => NotAnArray: no array but a group at /
+3 | any | /t/c => Node(MissingMetadata): Metadata is missing for /t/c
 "#;
 
 #[test]
@@ -222,11 +225,11 @@ const CHUNKS: &str = r#"
 2.13 | /t | 0 0 => t/0.0: [0, 0, 1, 0, 2, 0, 5, 0, 6, 0, 7, 0]
 2.13 | /t | 1 1 => t/1.1: none
 2.13 | /time | 0 => time/0: none
-2.13 | /t | 0 => 1 indices of a chunk in 2 dimensions: 1 indices of a chunk in 2 dimensions
-2.13 | /t | 0 0 0 => 3 indices of a chunk in 2 dimensions: 3 indices of a chunk in 2 dimensions
+2.13 | /t | 0 => WrongIndices: 1 indices of a chunk in 2 dimensions: WrongIndices: 1 indices of a chunk in 2 dimensions
+2.13 | /t | 0 0 0 => WrongIndices: 3 indices of a chunk in 2 dimensions: WrongIndices: 3 indices of a chunk in 2 dimensions
 3 | /t | 0 0 => t/c/0/0: [0, 0, 1, 0, 2, 0, 5, 0, 6, 0, 7, 0]
 3 | /t | 1 1 => t/c/1/1: none
-3 | / | 0 0 => no array but a group at /
+3 | / | 0 0 => NotAnArray: no array but a group at /
 "#;
 
 #[test]
@@ -281,10 +284,10 @@ const KEYS: &str = r#"
 "v2" | => 0
 {"name":"v2","configuration":{"separator":"/"}} | => 0
 "v2" | 18446744073709551615 0 => 18446744073709551615.0
-{"name":"default","configuration":{"separator":"-"}} | 0 => unsupported chunk key encoding default
-{"name":"default","configuration":{"separator":null}} | 0 => unsupported chunk key encoding default
-{"name":"v2","configuration":{"separator":"-"}} | 0 => unsupported chunk key encoding v2
-"suffix" | 0 => unsupported chunk key encoding suffix
+{"name":"default","configuration":{"separator":"-"}} | 0 => UnsupportedEncoding: unsupported chunk key encoding default
+{"name":"default","configuration":{"separator":null}} | 0 => UnsupportedEncoding: unsupported chunk key encoding default
+{"name":"v2","configuration":{"separator":"-"}} | 0 => UnsupportedEncoding: unsupported chunk key encoding v2
+"suffix" | 0 => UnsupportedEncoding: unsupported chunk key encoding suffix
 "#;
 
 #[test]
