@@ -6,7 +6,7 @@
 --     g         the path of the group
 --     IsPathFinding E N F g p kind      what is to be told of the entry or the node at p
 --     IsFinding B N F g f      what is to be told of a block
---     AreFindings B N F g found      the findings are exactly those, each once, in their order
+--     AreFindings B N F g found      the findings are exactly what is to be told of a block, each once, in the order of paths and of keys
 use Rattle.std.specs.Prelude.{◌≡◌, ◌⊎◌, ◌↔◌, ℕ, List, [], ◌∷◌, ◌++◌, AllPairs, Contains, IsSome}
 use Rattle.std.specs.declared.cmp.Ordering.TheVariants.{Less}
 use Rattle.zarrs_store.specs.Segments.{bytes_cmp}
@@ -53,7 +53,7 @@ IsPathFinding E N F g p Stale = HasPath E p × IsReachable E g p × (HasPath N p
 IsPathFinding E N F g p Differs = (m n : NodeMetadata) × E (p, m) × IsReachable E g p × N (p, n) × (IsSame m n → ⊥)
 -- a node below the group, and no entry
 IsPathFinding E N F g p Missing = HasPath N p × IsBelow g p × (HasPath E p → ⊥)
--- the others are of the block
+-- a fault or a key is told of the block, and of no path
 IsPathFinding E N F g p (BlockFault fault) = ⊥
 IsPathFinding E N F g p (BadKey t) = ⊥
 IsPathFinding E N F g p (Shadowed t) = ⊥
@@ -86,7 +86,7 @@ key_of _ = []
 abbrev pub Precedes : Finding → Finding → Type 0
 Precedes f h = (path_cmp f.path h.path ≡ Less) ⊎ ((f.path ≡ h.path) × (bytes_cmp (key_of f.kind) (key_of h.kind) ≡ Less))
 
--- the findings are exactly those that are to be told, each once, in the order of paths and of keys
+-- the findings are exactly what is to be told of the block B of g, each once, in the order of paths and of keys
 pub record AreFindings (B : Block) (N : Pair → Type 0) (F : Path → Type 0) (g : Path) (found : List Finding) : Type 0 where
   pub exact : (f : Finding) → Contains found f ↔ IsFinding B N F g f
   pub ascend : AllPairs Precedes found

@@ -36,7 +36,7 @@ pub record IsToldUpTo {K A : Type 0} (cmp : K → K → Ordering) (key : A → K
 abbrev pub IsBeforeAll : List Pair → Path → Type 0
 IsBeforeAll es p = (l : Path) → HasPath (Contains es) l → path_cmp p l ≡ Less
 
--- of the entries E below b, with es left: each path from below b to g is a group, and so is no other that was reached and has something below it left
+-- of the entries E below b, with es left: g and each path between b and g is a group, and a reached group with something below it left is g or above it
 pub record IsLastGroup (E : Pair → Type 0) (b : Path) (es : List Pair) (g : Path) : Type 0 where
   pub groups : (q : Path) → IsBelow b q → IsAtOrAbove q g → HasGroup E q
   pub base : IsAtOrAbove b g

@@ -20,7 +20,7 @@ abbrev pub base_nodes : Path → Result NodeMetadata NodeCreateError → List Pa
 base_nodes p (Ok m) = (p, m) ∷ []
 base_nodes p (Err e) = []
 
--- why the base is none
+-- what becomes of the base: it is a node, or why it is none
 abbrev pub base_fault : Result NodeMetadata NodeCreateError → Result (Unit {0}) NodeCreateError
 base_fault (Ok m) = Ok tt
 base_fault (Err e) = Err e
@@ -42,7 +42,7 @@ abbrev pub IsBegun : Path → Result Block MetadataFault → Comparison → Type
 IsBegun p (Ok B) c = IsStart B p c
 IsBegun p (Err fault) c = IsOnly (fault_of_block p fault) c
 
--- the places of blocks, and behind them that of a block that reads
+-- the places of blocks, and behind them the place n, if the block there reads
 abbrev pub places_after : List ℕ → ℕ → Result Block MetadataFault → List ℕ
 places_after js n (Ok B) = js ++ n ∷ []
 places_after js n (Err fault) = js
@@ -72,7 +72,7 @@ pub record PutsBlock (blocks : List Comparison) (above : List ℕ) (p : Path) (r
   pub items : more ≡ blocks ++ block ∷ []
   pub places_are : places ≡ places_after above (length blocks) read
 
--- if something was read
+-- if something was read as the block of p, it was put behind other blocks, and else nothing was
 abbrev pub MayPutBlock : List Comparison → List ℕ → Path → Option (Result Block MetadataFault) → List Comparison → List ℕ → Type 0
 MayPutBlock blocks above p None more places = (more ≡ blocks) × (places ≡ above)
 MayPutBlock blocks above p (Some read) more places = PutsBlock blocks above p read more places
