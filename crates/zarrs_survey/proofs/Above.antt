@@ -1,5 +1,6 @@
 -- What stands at or above a path.
-use Rattle.std.proofs.Common.{◌≡◌, ℕ, ◌⊎◌, inl, inr, true, false, true≢false, List, [], ◌∷◌, ◌++◌, get_or, refl, sym, ap, ◌∙◌, append_assoc, append-nil, Less, Greater}
+use Rattle.std.proofs.Common.{◌≡◌, ℕ, ◌⊎◌, inl, inr, ⊎_elim, true, false, true≢false, List, [], ◌∷◌, ◌++◌, drop, get_or, length, length-append, refl, sym, ap, ◌∙◌, arith, append_assoc, append-nil, Less, Greater}
+use Rattle.std.proofs.Math.Seq.{drop-append_seam}
 use Rattle.std.proofs.lemmas.List.{append_cancel_left}
 use Rattle.std.specs.Ordering.{ordering_reverse}
 use Rattle.zarrs_path.specs.Paths.{Path, path_cmp, path_eq, IsBelow}
@@ -42,3 +43,18 @@ same_or_not p q = elim (path_eq p q) as (λ t. path_eq p q ≡ t → (p ≡ q) �
 -- where one path is after another, that is before it
 pub earlier_after : (p q : Path) → path_cmp p q ≡ Greater → path_cmp q p ≡ Less
 earlier_after p q h = path_total.antisymm q p ∙ ap ordering_reverse h
+
+-- whether a path is below another: it goes on behind its length as it does
+pub below_or_not : (b p : Path) → IsBelow b p ⊎ (IsBelow b p → ⊥)
+below_or_not b p = ⊎_elim (λ same. behind (drop (length b) p) same) (λ other. inr (λ low. other (low.2 ∙ ap (λ x. b ++ x) (sym (rest_of low))))) (same_or_not p (b ++ drop (length b) p))
+  where
+    rest_of : (low : IsBelow b p) → drop (length b) p ≡ low.0 ∷ low.1
+    rest_of low = ap (drop (length b)) low.2 ∙ drop-append_seam b (low.0 ∷ low.1)
+
+    behind : (rest : Path) → p ≡ b ++ rest → IsBelow b p ⊎ (IsBelow b p → ⊥)
+    behind (n ∷ ns) same = inl (n, ns, same)
+    behind [] same = inr (λ low. absurd (
+        let long = ap length (sym same ∙ low.2) in
+        let less = length-append b (low.0 ∷ low.1) in
+        let more = length-append b [] in
+        omega (arith, long, less, more)))

@@ -23,8 +23,6 @@ use Rattle.zarrs_block.specs.Policy.{block_to_use}
 use Rattle.zarrs_compare.specs.Same.{IsSame, without_block}
 use Rattle.zarrs_compare.specs.StepsOfSame.{same_node}
 use Rattle.zarrs_compare.proofs.SameNodes.{same_from_test, test_from_same}
-use Rattle.zarrs_hierarchy.specs.Tree.{is_path_below}
-use Rattle.zarrs_hierarchy.proofs.Below.{is_below_from, is_below_of}
 use Rattle.zarrs_node.specs.BlocksBelow.{block_at}
 use Rattle.zarrs_node.specs.Forest.{Forest, pairs, paths_of, Shows}
 use Rattle.zarrs_node.specs.Nodes.{Nodes}
@@ -43,7 +41,7 @@ use Rattle.zarrs_survey.specs.declared.finding.Finding.{Finding}
 use Rattle.zarrs_survey.specs.declared.finding.FindingKind.{FindingKind}
 use Rattle.zarrs_survey.specs.declared.finding.FindingKind.TheVariants.{BadKey, Unreachable, Stale, Differs, Missing}
 use Rattle.zarrs_survey.specs.declared.survey.Survey.{Survey}
-use Rattle.zarrs_survey.proofs.Above.{same_or_not}
+use Rattle.zarrs_survey.proofs.Above.{below_or_not, same_or_not}
 use Rattle.zarrs_survey.proofs.Checking.{base_means}
 use Rattle.zarrs_survey.proofs.KeyFindings.{names_valid}
 use Rattle.zarrs_survey.proofs.LastGroup.{reached_or_not}
@@ -99,18 +97,16 @@ module _ (B : Block) (b : Path) where
 
   -- a path has a group entry or not
   group_at : (q : Path) → HasGroup (Entries B b) q ⊎ (HasGroup (Entries B b) q → ⊥)
-  group_at q = by (is_path_below b q) refl
+  group_at q = ⊎_elim
+      (λ low.
+      subst (λ p. HasGroup (Entries B b) p ⊎ (HasGroup (Entries B b) p → ⊥)) (sym low.2)
+      (⊎_elim (λ h. kind low.0 low.1 h.0 h.1 (is_group h.0) refl) (λ no'. inr (λ g. no' (g.0, g.1))) (entry_or_not low.0 low.1)))
+      (λ out. inr (λ g. out (g.1.0, g.1.1, g.1.3)))
+      (below_or_not b q)
     where
       kind : (n : List ℕ) (ns : Path) (m : NodeMetadata) → Entries B b (b ++ n ∷ ns, m) → (t : Bool) → is_group m ≡ t → HasGroup (Entries B b) (b ++ n ∷ ns) ⊎ (HasGroup (Entries B b) (b ++ n ∷ ns) → ⊥)
       kind n ns m has true is = inl (m, has, is)
       kind n ns m has false is = inr (λ g. true≢false (sym g.2 ∙ ap (λ o. is_group (given_or o g.0)) (sym (entry_is n ns g.0 g.1).1 ∙ (entry_is n ns m has).1) ∙ is))
-
-      by : (t : Bool) → is_path_below b q ≡ t → HasGroup (Entries B b) q ⊎ (HasGroup (Entries B b) q → ⊥)
-      by false is = inr (λ g. true≢false (sym (is_below_of b q (g.1.0, g.1.1, g.1.3)) ∙ is))
-      by true is =
-          let low = is_below_from b q is in
-          subst (λ p. HasGroup (Entries B b) p ⊎ (HasGroup (Entries B b) p → ⊥)) (sym low.2)
-          (⊎_elim (λ h. kind low.0 low.1 h.0 h.1 (is_group h.0) refl) (λ no'. inr (λ g. no' (g.0, g.1))) (entry_or_not low.0 low.1))
 
 -- ---- the block that is read is the one that is chosen
 
@@ -166,9 +162,9 @@ module _ (s : Contents) (v : MetadataRetrieveVersion) (b : Path) (survey : Surve
   -- a path means a node or not
   node_or_not : (p : Path) → HasPath (Nodes s v true b) p ⊎ (HasPath (Nodes s v true b) p → ⊥)
   node_or_not p = ⊎_elim
-      (λ w. inl (w.0, (listed_each h.nodes.held (p, w.0)).0 w.1))
-      (λ other. inr (λ w. other (w.0, (listed_each h.nodes.held (p, w.0)).1 w.1)))
-      (key_or_not same_or_not survey.nodes p)
+      (λ w. inl (w.0, (listed_each h.nodes (p, w.0)).0 w.1))
+      (λ other. inr (λ w. other (w.0, (listed_each h.nodes (p, w.0)).1 w.1)))
+      (key_or_not same_or_not survey.nodes.items p)
 
   -- each kept entry has a node
   pub has_node : (p : Path) → HasPath (Kept (Entries B b) true b) p → HasPath (Nodes s v true b) p

@@ -14,9 +14,6 @@ use Rattle.zarrs_node.proofs.Found.{listed_each, all_pairs_append}
 use Rattle.zarrs_node.proofs.Graft.{Contains-first, Contains-cons}
 use Rattle.zarrs_node.proofs.Keeps.{below_later}
 use Rattle.zarrs_node.proofs.Order.{contains_cases}
-use Rattle.zarrs_hierarchy.specs.PairsOfHierarchies.{Pairs}
-use Rattle.zarrs_hierarchy.specs.Tree.{pairs_below}
-use Rattle.zarrs_hierarchy.proofs.Below.{each_below}
 use Rattle.zarrs_survey.specs.Findings.{Pair, HasPath, IsReachable, IsCutOff, IsPathFinding, IsKeyFinding, IsFinding, AreFindings, Precedes}
 use Rattle.zarrs_survey.specs.StepsOfComparing.{ArePathFindings, IsBadAmong, IsRidOf, key_findings}
 use Rattle.zarrs_survey.specs.declared.finding.Finding.{Finding}
@@ -128,22 +125,22 @@ findings_same B N N' F F' g n f x h = (h.0, ⊎_elim inl (λ p. inr (finding_sam
 
 -- ---- both lists in a row
 
-module _ (g : Path) (B : Block) (h : Pairs) (F : Path → Type 0) (es : List Pair) (others : List Finding) (up : IsAscending B) (each : (d : Pair) → Contains es d ↔ Entries B g d)
-    (are : ArePathFindings (Contains es) (Contains (pairs_below g h)) F g others) where
+module _ (g : Path) (B : Block) (h under : List Pair) (each_below : (d : Pair) → Contains under d ↔ (Contains h d × IsBelow g d.0)) (F : Path → Type 0) (es : List Pair) (others : List Finding) (up : IsAscending B) (each : (d : Pair) → Contains es d ↔ Entries B g d)
+    (are : ArePathFindings (Contains es) (Contains under) F g others) where
   -- the findings of paths are those of the block's entries beside all nodes
   path_exact : (f : Finding) → Contains others f ↔ ((f.group ≡ g) × IsPathFinding (Entries B g) (Contains h) F g f.path f.kind)
   path_exact f = (
     λ in'.
         let w = (are.exact f).0 in' in (
           w.0,
-          finding_same (Contains es) (Entries B g) (Contains (pairs_below g h)) (Contains h) F F g (λ d in''. let is = (each d).0 in'' in (is.0, is.1, is.3)) each
-              (λ d below. (λ x. ((each_below g h d).0 x).0, λ x. (each_below g h d).1 (x, below))) (λ q. (λ x. x, λ x. x)) f.path f.kind w.1,
+          finding_same (Contains es) (Entries B g) (Contains under) (Contains h) F F g (λ d in''. let is = (each d).0 in'' in (is.0, is.1, is.3)) each
+              (λ d below. (λ x. ((each_below d).0 x).0, λ x. (each_below d).1 (x, below))) (λ q. (λ x. x, λ x. x)) f.path f.kind w.1,
         ),
     λ w.
         (are.exact f).1 (
           w.0,
-          finding_same (Entries B g) (Contains es) (Contains h) (Contains (pairs_below g h)) F F g (λ d is. (is.0, is.1, is.3)) (λ d. ((each d).1, (each d).0))
-              (λ d below. (λ x. (each_below g h d).1 (x, below), λ x. ((each_below g h d).0 x).0)) (λ q. (λ x. x, λ x. x)) f.path f.kind w.1,
+          finding_same (Entries B g) (Contains es) (Contains h) (Contains under) F F g (λ d is. (is.0, is.1, is.3)) (λ d. ((each d).1, (each d).0))
+              (λ d below. (λ x. (each_below d).1 (x, below), λ x. ((each_below d).0 x).0)) (λ q. (λ x. x, λ x. x)) f.path f.kind w.1,
         ),
   )
 

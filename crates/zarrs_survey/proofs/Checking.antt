@@ -1,7 +1,6 @@
 -- What is told of blocks, one after another, is what there is to tell of all blocks.
 use Rattle.std.proofs.Common.{◌≡◌, ◌↔◌, ◌<◌, ℕ, suc, length, append-nil, append_assoc, inl, inr, ⊎_elim, true, List, [], ◌∷◌, ◌++◌, get_or, refl, sym, ap, subst, ◌∙◌, arith, Contains, Less, Option, Some, None, Result, Ok, Err}
 use Rattle.std.proofs.lemmas.List.Elements.{Contains-append_left, Contains-append_right, Contains-append_cases, Contains-get_or}
-use Rattle.std.proofs.lemmas.List.Kept.{AllPairs-filter}
 use Rattle.zarrs_fault.specs.declared.fault.MetadataFault.{MetadataFault}
 use Rattle.zarrs_store.specs.Contents.{Contents, Lists}
 use Rattle.zarrs_path.specs.Paths.{Path, IsBelow, path_cmp}
@@ -18,8 +17,7 @@ use Rattle.zarrs_node.proofs.Graft.{Contains-first, Contains-cons}
 use Rattle.zarrs_node.proofs.Keeps.{below_later}
 use Rattle.zarrs_node.proofs.Order.{contains_cases}
 use Rattle.zarrs_node.proofs.Unique.{names_irrefl}
-use Rattle.zarrs_hierarchy.specs.Tree.{is_path_below, pairs_below}
-use Rattle.zarrs_hierarchy.proofs.Opening.{node_one}
+use Rattle.zarrs_node.proofs.Child.{node_same}
 use Rattle.zarrs_survey.specs.Checks.{block_read, HasNode, HasBadPath, fault_of_block, IsToldOf, StandsBefore, AreBlockFindings}
 use Rattle.zarrs_survey.specs.Findings.{Pair, AreFindings, IsPathFinding}
 use Rattle.zarrs_survey.specs.StepsOfChecks.{ReadBlock, GroupsAscend, AreTold, HasBad, AreFindingsOf}
@@ -96,19 +94,19 @@ none_told F g (f ∷ fs) are = absurd (nothing_there f.path f.kind ((are.exact f
 
 -- what is told at the end of a comparison with the nodes `done` is what there is to tell of its block
 module _ (done : List Pair) (up : Ascend done) (bad : List (Path × NodeCreateError)) (g : Path) (c : Comparison) (found : List Finding) (end : IsEnd c bad found) where
-  told_end : (r : Result Block MetadataFault) → IsAt done (g, r) c → AreTold (Some r) (Contains done) (HasBad bad) g found
+  pub told_end : (r : Result Block MetadataFault) → IsAt done (g, r) c → AreTold (Some r) (Contains done) (HasBad bad) g found
   told_end (Err fault) is =
       let w = end [] [] (only_under_way (fault_of_block g fault) c is) in
       let whole : found ≡ fault_of_block g fault ∷ [] = w.1 ∙ (ap (λ xs. xs ++ w.0) is.of_block ∙ ap (λ xs. fault_of_block g fault ∷ xs) (none_told (HasBad bad) c.group w.0 w.2)) in
       subst (AreTold (Some (Err fault)) (Contains done) (HasBad bad) g) (sym whole) (told_fault (Contains done) (HasBad bad) g (Err fault) fault (fault_of_block g fault) refl refl)
   told_end (Ok B) is =
-      let nodes : List Pair = pairs_below g done ++ [] in
-      let same : nodes ≡ pairs_below g done = append-nil (pairs_below g done) in
-      let w = end is.all nodes (is.told [] (subst Ascend (sym same) (AllPairs-filter (λ (d e : Pair). path_cmp d.0 e.0 ≡ Less) (λ (d : Pair). is_path_below g d.0) done up)) (λ d in'. absurd (omega (arith, in'.1)))) in
-      let told : ArePathFindings (Contains is.all) (Contains (pairs_below g done)) (HasBad bad) g w.0 =
+      let nodes : List Pair = is.under ++ [] in
+      let same : nodes ≡ is.under = append-nil is.under in
+      let w = end is.all nodes (is.told [] (subst Ascend (sym same) (is.under_ascend up)) (λ d in'. absurd (omega (arith, in'.1)))) in
+      let told : ArePathFindings (Contains is.all) (Contains is.under) (HasBad bad) g w.0 =
       subst (λ (ns : List Pair). ArePathFindings (Contains is.all) (Contains ns) (HasBad bad) g w.0) same (subst (λ p. ArePathFindings (Contains is.all) (Contains nodes) (HasBad bad) p w.0) is.group w.2) in
       told_found (Contains done) (HasBad bad) g (Ok B) B found refl
-      (found_all g B done (HasBad bad) is.all w.0 is.ascending is.entries told c.of_block.items found is.of_block w.1)
+      (found_all g B done is.under is.each_under (HasBad bad) is.all w.0 is.ascending is.entries told c.of_block.items found is.of_block w.1)
 
 -- ---- one block after another
 
@@ -181,7 +179,7 @@ base_means s v b survey h m = by survey.base refl h.base
     by : (r : Result NodeMetadata NodeCreateError) → survey.base ≡ r → IsBase s v b r → (survey.base ≡ Ok m) ↔ (meaning s v b ≡ node m)
     by (Ok k) is means = (
       λ e. subst (λ x. meaning s v b ≡ node x) (ap (given_or k) (sym is ∙ e)) means,
-      λ e. is ∙ ap (λ x. Ok x) (node_one k m (sym means ∙ e)),
+      λ e. is ∙ ap (λ x. Ok x) (node_same k m (sym means ∙ e)),
     )
     by (Err e) is refused = (
       λ g. absurd (subst IsGiven (sym g ∙ is) tt),

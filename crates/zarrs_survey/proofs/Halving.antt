@@ -1,5 +1,5 @@
 -- Paths of which none is below another, in their order: what a search by halving tells of those at or above a path.
-use Rattle.std.proofs.Common.{◌≡◌, ◌↔◌, ℕ, suc, ◌<◌, ◌≤◌, ◌+◌, ◌-◌, ⊎_elim, List, [], ◌∷◌, length, get_or, sym, ap, subst, ◌∙◌, arith, Contains, Less, Equal, Greater, Err}
+use Rattle.std.proofs.Common.{◌≡◌, ◌↔◌, ℕ, suc, ◌<◌, ◌≤◌, ◌+◌, ◌-◌, ⊎_elim, List, [], ◌∷◌, length, get_or, sym, ap, subst, ◌∙◌, arith, AllPairs, Contains, Less, Equal, Greater, Err}
 use Rattle.std.proofs.Math.Nat.{eq-or-lt_of_le}
 use Rattle.std.proofs.lemmas.Bool.{cases_lt}
 use Rattle.std.proofs.lemmas.List.{get_or_default, get_or_read}
@@ -25,10 +25,21 @@ Bad = List (Path × NodeCreateError)
 abbrev pub IsBadAt : Bad → Path → Type 0
 IsBadAt ds q = (e : NodeCreateError) × Contains ds (q, e)
 
--- compared with one path, the paths rise, as halving asks
-rises : (ds : Bad) → AreApart ds → (p : Path) → IsNonDecreasingBy (λ d. ordering_index (path_cmp d.0 p)) ds
-rises ds apart p = searchable_from_sorted path_total (λ (d : Path × NodeCreateError). d.0) ds p
-    (λ k d a b. let up = (apart k (k + 1) d (omega arith) b).0 in ap is_lt (path_total.antisymm (get_or ds (k + 1) d).0 (get_or ds k d).0 ∙ ap ordering_reverse up))
+module _ {A : Type 0} where
+  -- compared with one path, paths in their order rise, as halving asks
+  rises : (ds : List (Path × A)) → AllPairs (λ d e. path_cmp d.0 e.0 ≡ Less) ds → (p : Path) → IsNonDecreasingBy (λ d. ordering_index (path_cmp d.0 p)) ds
+  rises ds ascend p = searchable_from_sorted path_total (λ (d : Path × A). d.0) ds p
+      (λ k d a b. let up = ascend k (k + 1) d (omega arith) b in ap is_lt (path_total.antisymm (get_or ds (k + 1) d).0 (get_or ds k d).0 ∙ ap ordering_reverse up))
+
+  -- p would stand at the gap: each path before it is smaller, and each from there on is greater
+  pub record IsGap (ds : List (Path × A)) (p : Path) (gap : ℕ) : Type 0 where
+    pub inside : gap ≤ length ds
+    pub smaller : AllWithin (λ d. path_cmp d.0 p ≡ Less) ds 0 gap
+    pub greater : AllWithin (λ d. path_cmp d.0 p ≡ Greater) ds gap (length ds)
+
+  -- where halving ends without the path there is such a gap
+  pub gap_of : (ds : List (Path × A)) → AllPairs (λ d e. path_cmp d.0 e.0 ≡ Less) ds → (p : Path) (gap : ℕ) → gap ≤ length ds → IsBinarySearchResult (λ d. path_cmp d.0 p) ds (Err gap) → IsGap ds p gap
+  gap_of ds ascend p gap inside parted = let h = parted (rises ds ascend p) in record { inside = inside; smaller = h.0; greater = h.1 }
 
 -- some item of a list that has one
 some_item : (ds : Bad) (i : ℕ) → i < length ds → Path × NodeCreateError
@@ -48,17 +59,11 @@ spoilt_below ds p i inside low =
     let d = get_or ds i (some_item ds i inside) in
     (d.0, (d.1, Contains-get_or ds i (some_item ds i inside) inside), at_or_above d.0 p (low (some_item ds i inside)))
 
--- p would stand at the gap: each path before it is smaller, and each from there on is greater
-pub record IsGap (ds : Bad) (p : Path) (gap : ℕ) : Type 0 where
-  pub inside : gap ≤ length ds
-  pub smaller : AllWithin (λ d. path_cmp d.0 p ≡ Less) ds 0 gap
-  pub greater : AllWithin (λ d. path_cmp d.0 p ≡ Greater) ds gap (length ds)
-
--- where halving ends without the path there is such a gap
+-- and so it is among paths of which none is below another
 pub gap_missed : (xs ds : Bad) → xs ≡ ds → AreApart ds → (p : Path) (gap : ℕ) → gap ≤ length xs → IsBinarySearchResult (λ d. path_cmp d.0 p) xs (Err gap) → IsGap ds p gap
 gap_missed xs ds same apart p gap inside parted =
-    let h = parted (rises xs (subst AreApart (sym same) apart) p) in
-    subst (λ l. IsGap l p gap) same (record { inside = inside; smaller = h.0; greater = h.1 })
+    let apart' = subst AreApart (sym same) apart in
+    subst (λ l. IsGap l p gap) same (gap_of xs (λ i j d l m. (apart' i j d l m).0) p gap inside parted)
 
 module _ (ds : Bad) (apart : AreApart ds) (p : Path) (gap : ℕ) (at : IsGap ds p gap) where
   -- a path of the list that is not after p stands before the gap

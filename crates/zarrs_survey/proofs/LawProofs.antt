@@ -49,8 +49,8 @@ refusals_are_told s v b survey h e shows = ⊎_elim
 pub listing_is_surveyed : ListingIsSurveyed
 listing_is_surveyed s v b survey h f shows =
     same_list (λ (d e : Pair). path_cmp d.0 e.0 ≡ Less) (λ d less. names_irrefl d.0 less) (λ d e g less more. path_total.trans d.0 e.0 g.0 less more)
-    (pairs f) survey.nodes (shown_ascend b _ f shows) h.nodes.ordered
-    (λ d. (λ in'. (listed_each h.nodes.held d).1 ((listed_each shows.shown d).0 in'), λ in'. (listed_each shows.shown d).1 ((listed_each h.nodes.held d).0 in')))
+    (pairs f) survey.nodes.items (shown_ascend b _ f shows) h.nodes_ascend
+    (λ d. (λ in'. (listed_each h.nodes d).1 ((listed_each shows.shown d).0 in'), λ in'. (listed_each shows.shown d).1 ((listed_each h.nodes d).0 in')))
 
 -- the first name of a path, and the others
 abbrev head_or : List ℕ → Path → List ℕ
@@ -79,15 +79,15 @@ two_above (y ∷ q) (x ∷ g) (z ∷ p) h k =
 -- the nodes of a group are those below it
 pub groups_are_surveyed : GroupsAreSurveyed
 groups_are_surveyed s v b survey h g m in' group e = (
-  λ kept. let whole = outer kept in ((listed_each h.nodes.held e).1 whole, (kept.0.below.0, kept.0.below.1, kept.0.below.2)),
-  λ both. inner ((listed_each h.nodes.held e).0 both.0) both.1,
+  λ kept. let whole = outer kept in ((listed_each h.nodes e).1 whole, (kept.0.below.0, kept.0.below.1, kept.0.below.2)),
+  λ both. inner ((listed_each h.nodes e).0 both.0) both.1,
 )
   where
     N : Pair → Type 0
     N = MeansNode s v
 
     at : Kept N true b (g, m)
-    at = (listed_each h.nodes.held (g, m)).0 in'
+    at = (listed_each h.nodes (g, m)).0 in'
 
     -- what is kept below the group is kept below the base
     outer : Kept N true g e → Kept N true b e

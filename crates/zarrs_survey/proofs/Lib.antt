@@ -8,6 +8,7 @@ pub mod KeyFindings
 pub mod LastGroup
 pub mod LawProofs
 pub mod Merging
+pub mod NodeRuns
 pub mod Places
 pub mod Reading
 pub mod Refreshing

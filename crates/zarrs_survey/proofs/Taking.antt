@@ -19,21 +19,20 @@ use Rattle.zarrs_node.specs.Forest.{pairs}
 use Rattle.zarrs_node.specs.Nodes.{Nodes}
 use Rattle.zarrs_node.specs.Order.{Ascend}
 use Rattle.zarrs_node.specs.Sinks.{TakesAll, TakesForest}
+use Rattle.zarrs_node.proofs.Apart.{all_pairs_front}
+use Rattle.zarrs_node.proofs.Child.{node_same}
 use Rattle.zarrs_node.proofs.Feeding.{took_more}
 use Rattle.zarrs_node.proofs.Found.{all_pairs_append, all_pairs_first, all_pairs_tail, listed_each, lists_from}
 use Rattle.zarrs_node.proofs.Graft.{Contains-first, Contains-cons}
-use Rattle.zarrs_node.proofs.Keeps.{all_pairs_across, below_later, not_below_itself}
+use Rattle.zarrs_node.proofs.Keeps.{all_pairs_across, below_later, between_below, not_below_itself}
 use Rattle.zarrs_node.proofs.Order.{contains_cases, shown_ascend}
 use Rattle.zarrs_node.proofs.Unique.{names_irrefl}
-use Rattle.zarrs_hierarchy.specs.Tree.{is_path_below, pairs_below}
-use Rattle.zarrs_hierarchy.proofs.Below.{beyond, goes_on, not_below_of}
-use Rattle.zarrs_hierarchy.proofs.Opening.{node_one}
 use Rattle.zarrs_survey.specs.Checks.{block_read, fault_of_block, HasNode, IsBaseOutcome, IsCount}
 use Rattle.zarrs_survey.specs.Findings.{Pair}
 use Rattle.zarrs_survey.specs.StepsOfChecks.{ReadBlock, GroupsAscend}
 use Rattle.zarrs_survey.specs.StepsOfComparing.{AreBelow, key_findings}
 use Rattle.zarrs_survey.specs.StepsOfMerging.{HoldsUpTo}
-use Rattle.zarrs_survey.specs.StepsOfComparisons.{NoneBad, IsUnderWay, IsStart, IsOnly, IsNext, IsNextBelow}
+use Rattle.zarrs_survey.specs.StepsOfComparisons.{NoneBad, IsUnderWay, IsStart, IsOnly, IsNext, IsNextBelow, IsNextOf}
 use Rattle.zarrs_survey.specs.StepsOfTaking.{AreCompared, IsAboveAt, IsBegun, IsNew, MayPutBlock, PlacesAscend, Takes, TakesNode, named_block, blocks_of, places_after, base_nodes, base_fault}
 use Rattle.zarrs_survey.specs.Surveys.{IsBase}
 use Rattle.zarrs_survey.specs.declared.comparison.Comparison.{Comparison}
@@ -122,7 +121,10 @@ pub record HasCompared (done : List Pair) (g : Path) (B : Block) (c : Comparison
   pub ascending : IsAscending B
   pub all : List Pair
   pub entries : (d : Pair) → Contains all d ↔ Entries B g d
-  pub told : (rest : List Pair) → Ascend (pairs_below g done ++ rest) → AreBelow g rest → IsUnderWay all (pairs_below g done ++ rest) c.entries.items rest c
+  pub under : List Pair
+  pub each_under : (d : Pair) → Contains under d ↔ (Contains done d × IsBelow g d.0)
+  pub under_ascend : Ascend done → Ascend under
+  pub told : (rest : List Pair) → Ascend (under ++ rest) → AreBelow g rest → IsUnderWay all (under ++ rest) c.entries.items rest c
 
 -- and so was what was read as a block; of one that does not read there is its fault alone to tell
 abbrev pub IsAt : List Pair → ReadBlock → Comparison → Type 0
@@ -135,14 +137,6 @@ reads_of done (g, Ok B) c reads at = (B, refl, at)
 reads_of done (g, Err fault) c reads at = absurd reads
 
 module _ (done : List Pair) (e : Pair) (g : Path) where
-  -- a node below the group is one more of those below it
-  more_below : IsBelow g e.0 → pairs_below g (done ++ e ∷ []) ≡ pairs_below g done ++ e ∷ []
-  more_below low = filter-append (λ (d : Pair). is_path_below g d.0) done (e ∷ []) ∙ ap (λ xs. pairs_below g done ++ xs) (goes_on g e.0 e.1 [] low)
-
-  -- another is not
-  same_below : (IsBelow g e.0 → ⊥) → pairs_below g (done ++ e ∷ []) ≡ pairs_below g done
-  same_below out = filter-append (λ (d : Pair). is_path_below g d.0) done (e ∷ []) ∙ (ap (λ xs. pairs_below g done ++ xs) (rw (not_below_of g e.0 out) refl) ∙ append-nil (pairs_below g done))
-
   module _ (B : Block) (c : Comparison) (h : HasCompared done g B c) where
     -- after a node below the group it was compared with that too
     compared_next : (c' : Comparison) → IsBelow g e.0 → IsNext c e c' → HasCompared (done ++ e ∷ []) g B c'
@@ -152,10 +146,25 @@ module _ (done : List Pair) (e : Pair) (g : Path) where
       ascending = h.ascending;
       all = h.all;
       entries = h.entries;
+      under = h.under ++ e ∷ [];
+      each_under = λ d. (
+        λ in'. ⊎_elim
+            (λ old. let w = (h.each_under d).0 old in (Contains-append_left done (e ∷ []) d w.0, w.1))
+            (λ same. (subst (Contains (done ++ e ∷ [])) same (Contains-push done e), subst (λ (x : Pair). IsBelow g x.0) same low))
+            (Contains-push_cases h.under e d in'),
+        λ both. ⊎_elim
+            (λ old. Contains-append_left h.under (e ∷ []) d ((h.each_under d).1 (old, both.1)))
+            (λ same. subst (Contains (h.under ++ e ∷ [])) same (Contains-push h.under e))
+            (Contains-push_cases done e d both.0),
+      );
+      under_ascend = λ up.
+          all_pairs_push (λ (d x : Pair). path_cmp d.0 x.0 ≡ Less) h.under e (h.under_ascend (all_pairs_front (λ (d x : Pair). path_cmp d.0 x.0 ≡ Less) done e up))
+          (λ k d lt. all_pairs_across (λ (d x : Pair). path_cmp d.0 x.0 ≡ Less) done (e ∷ []) up (get_or h.under k d) e
+          ((h.each_under (get_or h.under k d)).0 (Contains-get_or h.under k d lt)).0 (Contains-first e []));
       told = λ rest up under.
-          let is : pairs_below g (done ++ e ∷ []) ++ rest ≡ pairs_below g done ++ e ∷ rest = ap (λ xs. xs ++ rest) (more_below low) ∙ append_assoc (pairs_below g done) (e ∷ []) rest in
+          let is : (h.under ++ e ∷ []) ++ rest ≡ h.under ++ e ∷ rest = append_assoc h.under (e ∷ []) rest in
           subst (λ xs. IsUnderWay h.all xs c'.entries.items rest c') (sym is)
-          (next.told h.all (pairs_below g done ++ e ∷ rest) rest
+          (next.told h.all (h.under ++ e ∷ rest) rest
           (h.told (e ∷ rest) (subst Ascend is up) (λ d in'. ⊎_elim (λ same. subst (λ (x : Pair). IsBelow g x.0) same low) (under d) (contains_cases e rest d in'))));
     }
 
@@ -167,7 +176,16 @@ module _ (done : List Pair) (e : Pair) (g : Path) where
       ascending = h.ascending;
       all = h.all;
       entries = h.entries;
-      told = λ rest. subst (λ xs. Ascend (xs ++ rest) → AreBelow g rest → IsUnderWay h.all (xs ++ rest) c.entries.items rest c) (sym (same_below out)) (h.told rest);
+      under = h.under;
+      each_under = λ d. (
+        λ in'. let w = (h.each_under d).0 in' in (Contains-append_left done (e ∷ []) d w.0, w.1),
+        λ both. ⊎_elim
+            (λ old. (h.each_under d).1 (old, both.1))
+            (λ same. absurd (out (subst (λ (x : Pair). IsBelow g x.0) (sym same) both.1)))
+            (Contains-push_cases done e d both.0),
+      );
+      under_ascend = λ up. h.under_ascend (all_pairs_front (λ (d x : Pair). path_cmp d.0 x.0 ≡ Less) done e up);
+      told = h.told;
     }
 
     -- both
@@ -176,27 +194,31 @@ module _ (done : List Pair) (e : Pair) (g : Path) where
         (λ w. compared_next c' (subst (λ p. IsBelow p e.0) h.group w.0) w.1)
         (λ w. subst (HasCompared (done ++ e ∷ []) g B) (sym w.1) (compared_same (λ low. w.0 (subst (λ p. IsBelow p e.0) (sym h.group) low))))
 
--- nothing stands below the last node
-none_under : (done : List Pair) (p : Path) → ((d : Pair) → Contains done d → IsBelow p d.0 → ⊥) → pairs_below p done ≡ []
-none_under [] p none = refl
-none_under (d ∷ done) p none = rw (not_below_of p d.0 (none d (Contains-first d done))) (none_under done p (λ x in'. none x (Contains-cons d done x in')))
+-- nodes one after another
+pub compared_all : (done rest : List Pair) (g : Path) (B : Block) (c c' : Comparison) → HasCompared done g B c → IsNextOf c rest c' → HasCompared (done ++ rest) g B c'
+compared_all done [] g B c c' h next = subst (λ xs. HasCompared xs g B c') (sym (append-nil done)) (subst (HasCompared done g B) (sym next) h)
+compared_all done (e ∷ rest) g B c c' h next =
+    subst (λ xs. HasCompared xs g B c') (append_assoc done (e ∷ []) rest)
+    (compared_all (done ++ e ∷ []) rest g B next.0 c' (compared_more done e g B c h next.0 next.1) next.2)
 
--- the block of the last node begins
-compared_first : (done : List Pair) (p : Path) (B : Block) (c : Comparison) → ((d : Pair) → Contains done d → IsBelow p d.0 → ⊥) → IsStart B p c → HasCompared done p B c
+-- where no node is below its path a block begins
+pub compared_first : (done : List Pair) (p : Path) (B : Block) (c : Comparison) → ((d : Pair) → Contains done d → IsBelow p d.0 → ⊥) → IsStart B p c → HasCompared done p B c
 compared_first done p B c none start = record {
   group = start.group;
   of_block = start.of_block;
   ascending = start.ascending;
   all = c.entries.items;
   entries = start.entries;
-  told = λ rest. subst (λ xs. Ascend (xs ++ rest) → AreBelow p rest → IsUnderWay c.entries.items (xs ++ rest) c.entries.items rest c) (sym (none_under done p none))
-      (λ up under. record {
-        low = λ d in'. let is = (start.entries d).0 in' in subst (λ q. IsBelow q d.0) (sym start.group) (is.0, is.1, is.3);
-        under = λ d in'. subst (λ q. IsBelow q d.0) (sym start.group) (under d in');
-        holds = subst (λ q. HoldsUpTo (Contains c.entries.items) (Contains rest) NoneBad q c.entries.items rest c.last c.found.items) (sym start.group)
-            (subst (λ q. HoldsUpTo (Contains c.entries.items) (Contains rest) NoneBad p c.entries.items rest q c.found.items) (sym start.last)
-            (subst (HoldsUpTo (Contains c.entries.items) (Contains rest) NoneBad p c.entries.items rest p) (sym start.found) (holds_none NoneBad p c.entries.items rest start.ascend up)));
-      });
+  under = [];
+  each_under = λ d. (λ in'. absurd (omega (arith, in'.1)), λ both. absurd (none d both.0 both.1));
+  under_ascend = λ up i j d l m. absurd (omega (arith, m));
+  told = λ rest up under. record {
+    low = λ d in'. let is = (start.entries d).0 in' in subst (λ q. IsBelow q d.0) (sym start.group) (is.0, is.1, is.3);
+    under = λ d in'. subst (λ q. IsBelow q d.0) (sym start.group) (under d in');
+    holds = subst (λ q. HoldsUpTo (Contains c.entries.items) (Contains rest) NoneBad q c.entries.items rest c.last c.found.items) (sym start.group)
+        (subst (λ q. HoldsUpTo (Contains c.entries.items) (Contains rest) NoneBad p c.entries.items rest q c.found.items) (sym start.last)
+        (subst (HoldsUpTo (Contains c.entries.items) (Contains rest) NoneBad p c.entries.items rest p) (sym start.found) (holds_none NoneBad p c.entries.items rest start.ascend up)));
+  };
 }
 
 -- and so does what was read as its block
@@ -282,7 +304,7 @@ module _ (done : List Pair) (reads : List ReadBlock) (cs : List Comparison) (js 
         cover = λ j b lt good x low late.
             let lt' : j < length cs = omega (arith, lt, size) in
             is_left j b lt' good x low (λ d in'. late d (Contains-append_left done (e ∷ []) d in'))
-            (λ out. beyond (get_or reads j b).0 e.0 x (of_nodes j b lt') out (late e (Contains-push done e)) low);
+            (λ out. out (between_below (get_or reads j b).0 e.0 x (of_nodes j b lt') (late e (Contains-push done e)) low));
       }
 
 -- a block behind the others, of a node that has nothing below it yet
@@ -429,7 +451,7 @@ module _ (s : Contents) (v : MetadataRetrieveVersion) (b : Path) where
 
   -- and the base that means a node is taken
   base_in : (r : Result NodeMetadata NodeCreateError) → IsBase s v b r → (d : Pair) → (d.0 ≡ b) × (meaning s v b ≡ node d.1) → Contains (base_nodes b r) d
-  base_in (Ok n) means d w = subst (λ (x : Pair). Contains ((b, n) ∷ []) x) (ap (λ p. (p, n)) (sym w.0) ∙ ap (λ m. (d.0, m)) (node_one n d.1 (sym means ∙ w.1))) (Contains-first (b, n) [])
+  base_in (Ok n) means d w = subst (λ (x : Pair). Contains ((b, n) ∷ []) x) (ap (λ p. (p, n)) (sym w.0) ∙ ap (λ m. (d.0, m)) (node_same n d.1 (sym means ∙ w.1))) (Contains-first (b, n) [])
   base_in (Err e) refused d w = absurd (⊎_elim (λ h. subst IsNode (sym w.1 ∙ h.0) tt) (λ h. subst IsNode (sym w.1 ∙ h) tt) refused)
 
 -- of the base, where it is a node, and the nodes below it a check has what it needs

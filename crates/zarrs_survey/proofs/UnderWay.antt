@@ -1,5 +1,5 @@
 -- A comparison under way: what a turn keeps true, and what is told in the end.
-use Rattle.std.proofs.Common.{Bool, true, false, true≢false, not, ◌≡◌, ◌↔◌, ⊎_elim, ◌&&◌, if◌then◌else◌, List, [], ◌∷◌, ◌++◌, length, get_or, Option, Ordering, Less, Equal, Greater, refl, sym, ap, subst, ◌∙◌, arith, Contains, IsTrue}
+use Rattle.std.proofs.Common.{Bool, true, false, true≢false, not, ◌≡◌, ◌↔◌, inr, ⊎_elim, ◌&&◌, if◌then◌else◌, List, [], ◌∷◌, ◌++◌, length, get_or, Option, Ordering, Less, Equal, Greater, refl, sym, ap, subst, ◌∙◌, arith, append_assoc, append-nil, Contains, IsTrue}
 use Rattle.std.specs.Bool.{◌==◌}
 use Rattle.std.specs.List.{items_where_true}
 use Rattle.std.specs.List.Retain.{ReturnsInTurn, IsFiltered}
@@ -13,13 +13,10 @@ use Rattle.zarrs_node.specs.Order.{Ascend}
 use Rattle.zarrs_node.proofs.Found.{all_pairs_first, all_pairs_tail, all_pairs_append}
 use Rattle.zarrs_node.proofs.Graft.{Contains-first, Contains-cons}
 use Rattle.zarrs_node.proofs.Order.{contains_cases}
-use Rattle.zarrs_hierarchy.specs.PairsOfHierarchies.{Pairs}
-use Rattle.zarrs_hierarchy.specs.Tree.{pairs_below}
-use Rattle.zarrs_hierarchy.proofs.Below.{each_below}
 use Rattle.zarrs_survey.specs.Findings.{Pair, IsSpoilt, IsPathFinding, AreFindings}
 use Rattle.zarrs_survey.specs.StepsOfChecks.{HasBad}
 use Rattle.zarrs_survey.specs.StepsOfComparing.{ArePathFindings, AreBelow, HangsFrom, IsBeforeFirst, IsPairKind, findings_at}
-use Rattle.zarrs_survey.specs.StepsOfComparisons.{IsEnd, IsExcusedBy, IsKeptOf, IsNext, IsOneBlock, IsStart, IsUnderWay, IsUnmoved, NoneBad, PassesLone, PassesPair, PutsKept}
+use Rattle.zarrs_survey.specs.StepsOfComparisons.{IsEnd, IsExcusedBy, IsKeptOf, IsNext, IsNextBelow, IsNextOf, IsOneBlock, IsStart, IsUnderWay, IsUnmoved, NoneBad, PassesLone, PassesPair, PutsKept}
 use Rattle.zarrs_survey.specs.StepsOfMerging.{HoldsUpTo}
 use Rattle.zarrs_survey.specs.declared.comparison.Comparison.{Comparison}
 use Rattle.zarrs_survey.specs.declared.finding.Finding.{Finding}
@@ -263,25 +260,15 @@ ended start now bad whole o none kept all nodes u =
           (kept_findings (Contains all) (Contains nodes) (HasBad bad) now.group now.found.items kept.0 are kept.2),
     )
 
--- ---- all nodes in a row
+-- ---- nodes in a row
 
--- before the first turn the whole of the block and all nodes are left
-pub under_way_first : (B : Block) (g : Path) (h : Pairs) (c : Comparison) (nodes : List Pair) → IsStart B g c → nodes ≡ pairs_below g h → Ascend nodes → IsUnderWay c.entries.items nodes c.entries.items nodes c
-under_way_first B g h c nodes s is up = record {
-  low = λ e in'. let w = (s.entries e).0 in' in subst (λ b. IsBelow b e.0) (sym s.group) (w.0, w.1, w.3);
-  under = λ n in'. subst (λ b. IsBelow b n.0) (sym s.group) ((each_below g h n).0 (subst (λ ns. Contains ns n) is in')).1;
-  holds = subst (HoldsUpTo (Contains c.entries.items) (Contains nodes) NoneBad c.group c.entries.items nodes c.last) (sym s.found)
-      (subst (λ q. HoldsUpTo (Contains c.entries.items) (Contains nodes) NoneBad c.group c.entries.items nodes q []) (s.group ∙ sym s.last)
-      (holds_none NoneBad c.group c.entries.items nodes s.ascend up));
-}
+-- after nodes one more was compared
+pub next_more : (a : Comparison) (es : List Pair) (b : Comparison) (e : Pair) (c : Comparison) → IsNextOf a es b → IsNextBelow b e c → IsNextOf a (es ++ e ∷ []) c
+next_more a [] b e c h next = (c, subst (λ x. IsNextBelow x e c) h next, refl)
+next_more a (d ∷ es) b e c h next = (h.0, h.1, next_more h.0 es b e c h.2 next)
 
--- with the last all is told that there is to tell of the block
-pub block_told : (B : Block) (g : Path) (h : Pairs) (bad : List (Path × NodeCreateError)) (start now : Comparison) (nodes : List Pair) (whole : List Finding) → IsStart B g start → nodes ≡ pairs_below g h → IsOneBlock start now
-    → IsUnderWay start.entries.items nodes now.entries.items [] now → IsEnd now bad whole → AreFindings B (Contains h) (HasBad bad) g whole
-block_told B g h bad start now nodes whole s is one u end =
-    let w = end start.entries.items nodes u in
-    let es = start.entries.items in
-    let told : ArePathFindings (Contains es) (Contains (pairs_below g h)) (HasBad bad) g w.0 =
-    subst (λ ns. ArePathFindings (Contains es) (Contains ns) (HasBad bad) g w.0) is
-    (subst (λ b. ArePathFindings (Contains es) (Contains nodes) (HasBad bad) b w.0) (one.group ∙ s.group) w.2) in
-    found_all g B h (HasBad bad) es w.0 s.ascending s.entries told now.of_block.items whole (one.of_block ∙ s.of_block) w.1
+-- and others that are not below the group
+pub next_rest : (a : Comparison) (es : List Pair) (b : Comparison) (rest : List Pair) → IsNextOf a es b → ((e : Pair) → Contains rest e → IsBelow b.group e.0 → ⊥) → IsNextOf a (es ++ rest) b
+next_rest a es b [] h none = subst (λ xs. IsNextOf a xs b) (sym (append-nil es)) h
+next_rest a es b (e ∷ rest) h none = subst (λ xs. IsNextOf a xs b) (append_assoc es (e ∷ []) rest)
+    (next_rest a (es ++ e ∷ []) b rest (next_more a es b e b h (inr (none e (Contains-first e rest), refl))) (λ d in'. none d (Contains-cons e rest d in')))

@@ -4,8 +4,8 @@
 --     block_read s p m      what is read as the block of a node: nothing, or a block, or its first fault
 --     HasNode s v b e       the base with its metadata, or a node below it
 --     IsBlockFinding s v b f      what there is to tell of the blocks
---     AreBlockFindings s v b found      the findings are exactly those, each once, in the order of groups, paths and keys
---     IsCheckOf s v b c      the check has exactly what is bad at b and below it, and the number of the nodes
+--     AreBlockFindings s v b found      the findings are exactly what there is to tell of the blocks, each once, in the order of groups, paths and keys
+--     IsCheckOf s v b c      the check has the outcome of the base, the number of the nodes, what was passed over and what is bad
 use Rattle.std.specs.Prelude.{◌≡◌, ◌⊎◌, ◌↔◌, true, ℕ, length, List, [], ◌∷◌, ◌++◌, AllPairs, Contains, Option, Some, None, option_map, Result, Ok, Err, codes}
 use Rattle.std.specs.declared.cmp.Ordering.TheVariants.{Less}
 use Rattle.std.specs.FinMap.{get}
@@ -86,7 +86,8 @@ IsBaseOutcome s v b (Err e) = IsBase s v b (Err e)
 abbrev pub IsCount : (Pair → Type 0) → ℕ → Type 0
 IsCount P n = (es : List Pair) × Lists P es × (n ≡ length es)
 
--- the check has exactly what is bad at b and below it: the fault of the base, the ignored paths, the bad documents and the bad names; and the number of the nodes
+-- Of the store at b and below it the check has exactly these: whether the base is a node or why it is none, the number of the nodes,
+-- the ignored paths, the bad documents and the bad names. What it tells of blocks is said by `AreBlockFindings`.
 pub record IsCheckOf (s : Contents) (v : MetadataRetrieveVersion) (b : Path) (c : Check) : Type 0 where
   pub path : c.path ≡ b
   pub base : IsBaseOutcome s v b c.base

@@ -36,13 +36,13 @@ RefusalsAreTold = (s : Contents) (v : MetadataRetrieveVersion) (b : Path) (surve
 -- A listing below the base shows the nodes of the survey.
 abbrev pub ListingIsSurveyed : Type 0
 ListingIsSurveyed = (s : Contents) (v : MetadataRetrieveVersion) (b : Path) (survey : Survey) → IsSurveyOf s v b survey
-    → (f : Forest) → Shows f b (Nodes s v true b) → pairs f ≡ survey.nodes
+    → (f : Forest) → Shows f b (Nodes s v true b) → pairs f ≡ survey.nodes.items
 
 -- The nodes below a group of the survey are those of the survey that are below it.
 abbrev pub GroupsAreSurveyed : Type 0
 GroupsAreSurveyed = (s : Contents) (v : MetadataRetrieveVersion) (b : Path) (survey : Survey) → IsSurveyOf s v b survey
-    → (g : Path) (m : NodeMetadata) → Contains survey.nodes (g, m) → IsTrue (is_group m)
-    → (e : Path × NodeMetadata) → Nodes s v true g e ↔ (Contains survey.nodes e × IsBelow g e.0)
+    → (g : Path) (m : NodeMetadata) → Contains survey.nodes.items (g, m) → IsTrue (is_group m)
+    → (e : Path × NodeMetadata) → Nodes s v true g e ↔ (Contains survey.nodes.items e × IsBelow g e.0)
 
 -- E and N have the same paths, and at each the same metadata, nested blocks apart
 pub record HaveSameNodes (E N : Pair → Type 0) : Type 0 where

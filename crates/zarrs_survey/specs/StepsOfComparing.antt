@@ -1,6 +1,6 @@
 -- Steps of comparing: what is told of entries beside nodes, and of keys; no public contract rests on them.
-use Rattle.std.specs.Prelude.{◌≡◌, ◌↔◌, ℕ, Bool, true, false, Option, Some, None, List, [], ◌∷◌, ◌++◌, Contains, AllPairs, ◌⊎◌, if◌then◌else◌}
-use Rattle.std.specs.List.{list_all}
+use Rattle.std.specs.Prelude.{◌≡◌, ◌≤◌, ◌↔◌, ℕ, length, Bool, true, false, Option, Some, None, List, [], ◌∷◌, ◌++◌, Contains, AllPairs, ◌⊎◌, if◌then◌else◌}
+use Rattle.std.specs.List.{AllWithin, list_all}
 use Rattle.std.specs.declared.cmp.Ordering.TheVariants.{Less}
 use Rattle.zarrs_path.specs.Names.{is_name}
 use Rattle.zarrs_path.specs.Paths.{Path, path_cmp, IsBelow, relative_names}
@@ -30,6 +30,16 @@ HangsFrom g p = (r : Path) × (n : List ℕ) × (p ≡ r ++ n ∷ []) × IsAtOrA
 abbrev pub IsBeforeFirst : Path → List Pair → Type 0
 IsBeforeFirst p [] = Unit {0}
 IsBeforeFirst p (e ∷ es) = path_cmp p e.0 ≡ Less
+
+-- each of the pairs stands behind p in the order of paths
+abbrev pub StandBehind : Path → List Pair → Type 0
+StandBehind p es = (e : Pair) → Contains es e → path_cmp p e.0 ≡ Less
+
+-- n is the place behind p among pairs in the order of paths: no pair before it stands behind p, and each from there on does
+pub record IsPlaceBehind (es : List Pair) (p : Path) (n : ℕ) : Type 0 where
+  pub inside : n ≤ length es
+  pub before : AllWithin (λ e. path_cmp p e.0 ≡ Less → ⊥) es 0 n
+  pub behind : AllWithin (λ e. path_cmp p e.0 ≡ Less) es n (length es)
 
 -- what is to be told of an entry with these metadata, which is reachable or not, beside a node with others
 abbrev pub IsPairKind : Bool → NodeMetadata → NodeMetadata → Option FindingKind → Type 0

@@ -88,9 +88,14 @@ pub record IsNext (old : Comparison) (e : Pair) (new : Comparison) : Type 0 wher
   pub one : IsOneBlock old new
   pub told : (all nodes ns : List Pair) → IsUnderWay all nodes old.entries.items (e ∷ ns) old → IsUnderWay all nodes new.entries.items ns new
 
--- and one that is not below the group changes nothing
+-- a node below the group was compared, and one that is not below it changes nothing
 abbrev pub IsNextBelow : Comparison → Pair → Comparison → Type 0
 IsNextBelow old e new = (IsBelow old.group e.0 × IsNext old e new) ⊎ ((IsBelow old.group e.0 → ⊥) × (new ≡ old))
+
+-- nodes were compared one after another, each where it is below the group
+abbrev pub IsNextOf : Comparison → List Pair → Comparison → Type 0
+IsNextOf old [] new = new ≡ old
+IsNextOf old (e ∷ es) new = (mid : Comparison) × IsNextBelow old e mid × IsNextOf mid es new
 
 -- ---- the end
 
@@ -98,12 +103,12 @@ IsNextBelow old e new = (IsBelow old.group e.0 × IsNext old e new) ⊎ ((IsBelo
 abbrev pub IsExcusedBy : (Path → Type 0) → Finding → Type 0
 IsExcusedBy F f = (f.kind ≡ Stale) × IsSpoilt F f.path
 
--- of those found those are kept that are not excused, in their order
+-- kept has the findings that F does not excuse, in the order in which they were found
 pub record IsKeptOf (F : Path → Type 0) (found kept : List Finding) : Type 0 where
   pub exact : (f : Finding) → Contains kept f ↔ (Contains found f × (IsExcusedBy F f → ⊥))
   pub ascend : AllPairs (λ f h. path_cmp f.path h.path ≡ Less) found → AllPairs (λ f h. path_cmp f.path h.path ≡ Less) kept
 
--- those that are not excused were put behind others
+-- the findings that F does not excuse were put behind others
 abbrev pub PutsKept : (Path → Type 0) → List Finding → List Finding → List Finding → Type 0
 PutsKept F told found whole = (kept : List Finding) × (whole ≡ told ++ kept) × IsKeptOf F found kept
 

@@ -1,7 +1,7 @@
--- Zarr core specification 3.1, "Hierarchy", "Node names" and "Metadata documents": what a survey of a store finds that is bad.
+-- Zarr core specification 3.1, "Hierarchy", "Node names" and "Metadata documents": what a survey of a store finds.
 -- <https://zarr-specs.readthedocs.io/en/latest/v3/core/index.html#hierarchy>
 -- <https://zarr-specs.readthedocs.io/en/latest/v3/core/index.html#node-names>
-use Rattle.std.specs.Prelude.{◌≡◌, true, Result, Ok, Err}
+use Rattle.std.specs.Prelude.{◌≡◌, ◌⊎◌, true, Result, Ok, Err, Contains}
 use Rattle.zarrs_store.specs.Contents.{Contents, HasBelow, Lists}
 use Rattle.zarrs_path.specs.Paths.{Path}
 use Rattle.zarrs_config.specs.declared.version.MetadataRetrieveVersion.{MetadataRetrieveVersion}
@@ -11,8 +11,8 @@ use Rattle.zarrs_block.specs.declared.node_create_error.NodeCreateError.{NodeCre
 use Rattle.zarrs_node.specs.Faults.{PathsAscend}
 use Rattle.zarrs_node.specs.Nodes.{MeansNode, IsBadName, Nodes, Ignored}
 use Rattle.zarrs_node.specs.OpeningNodes.{RefusesNode}
-use Rattle.zarrs_node.specs.Reach.{Reached}
-use Rattle.zarrs_hierarchy.specs.PairsOfHierarchies.{Holds}
+use Rattle.zarrs_node.specs.Order.{Ascend}
+use Rattle.zarrs_node.specs.Reach.{HasGroup, Reached}
 use Rattle.zarrs_survey.specs.declared.survey.Survey.{Survey}
 
 -- the base means a node with these metadata, or it is refused with this error: it means nothing, or is bad
@@ -32,9 +32,22 @@ BadNames s v b p = IsBadName (meaning s v) (HasBelow s) true b p
 pub record IsSurveyOf (s : Contents) (v : MetadataRetrieveVersion) (b : Path) (survey : Survey) : Type 0 where
   pub path : survey.path ≡ b
   pub base : IsBase s v b survey.base
-  pub nodes : Holds survey.nodes (Nodes s v true b)
+  pub nodes : Lists (Nodes s v true b) survey.nodes.items
+  pub nodes_ascend : Ascend survey.nodes.items
   pub ignored : Lists (Ignored s v true b) survey.ignored.items
   pub ignored_ascend : PathsAscend survey.ignored.items
   pub bad_documents : Lists (BadDocuments s v b) survey.bad_documents
   pub bad_names : Lists (BadNames s v b) survey.bad_names.items
   pub bad_names_ascend : PathsAscend survey.bad_names.items
+
+-- e is the base of the survey with its metadata
+abbrev pub IsBaseOf : Survey → Path × NodeMetadata → Type 0
+IsBaseOf survey e = (survey.path ≡ e.0) × (survey.base ≡ Ok e.1)
+
+-- e is the base of the survey with its metadata, or one of the nodes below it
+abbrev pub IsNodeOf : Survey → Path × NodeMetadata → Type 0
+IsNodeOf survey e = IsBaseOf survey e ⊎ Contains survey.nodes.items e
+
+-- the survey has a group at g: its base, or one of the nodes below it
+abbrev pub HasGroupAt : Survey → Path → Type 0
+HasGroupAt survey g = HasGroup (IsNodeOf survey) g

@@ -1,20 +1,28 @@
 //! The block of a group beside the nodes of a survey.
-ghost use Rattle.std.specs.Prelude.{IfOk, Contains};
+ghost use Rattle.std.specs.Prelude.{◌≡◌, ◌↔◌, IfOk, IfSome, IsSome, IsTrue, Contains};
 ghost use Rattle.zarrs_block.specs.declared.node_create_error.NodeCreateError.{NodeCreateError};
+ghost use Rattle.zarrs_node.specs.Order.{Ascend};
+ghost use Rattle.zarrs_node.specs.Reach.{HasGroup};
 ghost use Rattle.zarrs_survey.specs.Findings.{AreFindings};
+ghost use Rattle.zarrs_survey.specs.StepsOfComparing.{IsPlaceBehind};
+ghost use Rattle.zarrs_survey.specs.Surveys.{HasGroupAt, IsBaseOf};
 
 use crate::comparison::Comparison;
 use crate::finding::Finding;
 use crate::survey::Survey;
 use std::alloc::{AllocError, Global};
 use zarrs_block::ConsolidatedMetadata;
+use zarrs_meta::NodeMetadata;
 use zarrs_path::NodePath;
 
 /// What there is to tell of the block of a group beside the nodes that a survey found below it: its bad keys and those that are shadowed, in the
 /// order of the keys, and then what is wrong with its entries and what is missing, in the order of paths. Metadata are compared as data, the
 /// field `consolidated_metadata` of version 3 groups left out on both sides.
 ///
-/// Of an entry at or below the path of a bad document it tells only what stands in the block alone, since nothing was looked at there.
+/// `None` where the survey has no group at the path: neither its base nor a node below that is one there. An array is no group, and a path
+/// above the base or below a bad document is no node of the survey.
+///
+/// Entries at or below a bad document are not compared with the store, because nothing was read there: of them it tells only what stands in the block.
 ///
 /// # Errors
 ///
@@ -27,15 +35,58 @@ pub fn compare_block(
     survey: &Survey,
     group: &NodePath,
     block: ConsolidatedMetadata,
-) -> Result<Vec<Finding>, AllocError>
-    ensures { IfOk result
-        (λ found. AreFindings block.metadata (Contains survey.now.nodes)
+) -> Result<Option<Vec<Finding>>, AllocError>
+    ensures group { IfOk result (λ told. IsSome told ↔ HasGroupAt survey.now group.now) }
+    ensures findings { IfOk result (λ told. IfSome told
+        (λ found. AreFindings block.metadata (Contains survey.now.nodes.items)
         (λ q. (e : NodeCreateError) × Contains survey.now.bad_documents (q, e)) group.now
-        found.items) }
+        found.items)) }
 {
-    let mut comparison = Comparison::new(alloc, group.try_clone(alloc)?, block)?;
-    for (path, metadata) in survey.nodes.nodes_below(group) {
-        comparison.take(alloc, path, metadata)?;
+    if !has_group(survey, group) {
+        return Ok(None);
     }
-    comparison.finish(alloc, &survey.bad_documents)
+    let mut comparison = Comparison::new(alloc, group.try_clone(alloc)?, block)?;
+    let start = place_behind(&survey.nodes, group);
+    comparison.take_first(alloc, &survey.nodes[start..])?;
+    let found = comparison.finish(alloc, &survey.bad_documents)?;
+    Ok(Some(found))
+}
+
+// Whether the survey has a group at a path.
+fn has_group(survey: &Survey, path: &NodePath) -> bool
+    ensures { IsTrue result ↔ HasGroupAt survey.now path.now }
+{
+    is_base_group(survey, path) || has_group_among(&survey.nodes, path)
+}
+
+// Whether the base of the survey is a group at a path.
+fn is_base_group(survey: &Survey, path: &NodePath) -> bool
+    ensures { IsTrue result ↔ HasGroup (IsBaseOf survey.now) path.now }
+{
+    match &survey.base {
+        Ok(metadata) => metadata.is_group() && survey.path == *path,
+        Err(_refusal) => false,
+    }
+}
+
+// Whether one of the nodes is a group at a path.
+fn has_group_among(nodes: &[(NodePath, NodeMetadata)], path: &NodePath) -> bool
+    requires ascending { Ascend nodes.now }
+    ensures { IsTrue result ↔ HasGroup (Contains nodes.now) path.now }
+{
+    match nodes.binary_search_by(|node| node.0.cmp(path)) {
+        Ok(place) => nodes[place].1.is_group(),
+        Err(_gap) => false,
+    }
+}
+
+// The place behind a path among nodes in the order of paths.
+fn place_behind(nodes: &[(NodePath, NodeMetadata)], path: &NodePath) -> usize
+    requires ascending { Ascend nodes.now }
+    ensures { IsPlaceBehind nodes.now path.now result }
+{
+    match nodes.binary_search_by(|node| node.0.cmp(path)) {
+        Ok(place) => place + 1,
+        Err(gap) => gap,
+    }
 }

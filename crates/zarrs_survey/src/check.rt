@@ -13,10 +13,11 @@ ghost use Rattle.zarrs_survey.specs.StepsOfChecks.{IsKnownOf};
 ghost use Rattle.zarrs_survey.specs.StepsOfTaking.{AreEnds};
 
 use crate::bad_documents::BadDocuments;
+use crate::base::base_of;
 use crate::comparison::Comparison;
 use crate::comparisons::Comparisons;
 use crate::finding::Finding;
-use crate::survey::{base_of, sort_faults, warn_ignored};
+use crate::survey::{sort_faults, warn_ignored};
 use log::Log;
 use std::alloc::{AllocError, Global};
 use zarrs_block::{ConsolidatedMetadata, NodeCreateError};
@@ -102,7 +103,7 @@ impl Check {
     }
 }
 
-// All that there is to tell of blocks, where there are no more nodes.
+// The findings of all blocks, once every node was compared.
 fn finish(
     alloc: Global,
     blocks: Vec<Comparison>,

@@ -7,8 +7,8 @@ ghost use Rattle.zarrs_node.specs.Order.{Ascend};
 ghost use Rattle.zarrs_survey.specs.Checks.{fault_of_block};
 ghost use Rattle.zarrs_survey.specs.Findings.{IsAtOrAbove};
 ghost use Rattle.zarrs_survey.specs.StepsOfChecks.{HasBad};
-ghost use Rattle.zarrs_survey.specs.StepsOfComparing.{HangsFrom, IsPairKind, findings_at};
-ghost use Rattle.zarrs_survey.specs.StepsOfComparisons.{IsEnd, IsExcusedBy, IsNext, IsNextBelow, IsOnly, IsStart, IsTurnAt, IsUnmoved, Passes, PassesLone, PassesPair, PutsKept};
+ghost use Rattle.zarrs_survey.specs.StepsOfComparing.{HangsFrom, IsPairKind, StandBehind, findings_at};
+ghost use Rattle.zarrs_survey.specs.StepsOfComparisons.{IsEnd, IsExcusedBy, IsNext, IsNextBelow, IsNextOf, IsOnly, IsStart, IsTurnAt, IsUnmoved, Passes, PassesLone, PassesPair, PutsKept};
 ghost use Rattle.zarrs_survey.specs.declared.finding.FindingKind.TheVariants.{Stale, Unreachable};
 
 use crate::bad_documents::BadDocuments;
@@ -111,8 +111,27 @@ impl Comparison {
         Ok(())
     }
 
+    // Compares the nodes below the group, which come first among nodes behind it.
+    pub(crate) fn take_first(
+        &mut self,
+        alloc: Global,
+        nodes: &[(NodePath, NodeMetadata)],
+    ) -> Result<(), AllocError>
+        requires ascending { Ascend nodes.now }
+        requires behind { StandBehind self.now.group nodes.now }
+        ensures { OnOk result (IsNextOf self.old nodes.now self.new) }
+    {
+        for (path, metadata) in nodes {
+            if !self.is_above(path) {
+                return Ok(());
+            }
+            self.take(alloc, path, metadata)?;
+        }
+        Ok(())
+    }
+
     // Compares a node below the group, behind those before.
-    pub(crate) fn take(
+    fn take(
         &mut self,
         alloc: Global,
         path: &NodePath,

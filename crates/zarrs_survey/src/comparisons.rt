@@ -47,7 +47,7 @@ impl<'a, S: ReadableStorageTraits> Comparisons<'a, S> {
         }
     }
 
-    // Takes the base, where it is a node, and answers why it is none.
+    // Takes the base if it is a node, and otherwise returns its error.
     pub(crate) fn take_base(
         &mut self,
         path: NodePath,

@@ -3,6 +3,7 @@
 #![tactic(auto)]
 
 mod bad_documents;
+mod base;
 mod block;
 mod check;
 mod comparison;

@@ -1,19 +1,18 @@
 //! A survey of a store.
-ghost use Rattle.std.specs.Prelude.{◌≡◌, IfOk, IfErr};
-ghost use Rattle.zarrs_block.specs.Refusals.{IsExcused};
-ghost use Rattle.zarrs_survey.specs.Surveys.{IsBase, IsSurveyOf};
-ghost use Rattle.zarrs_survey.specs.StepsOfSurveys.{is_of_node, HasPaths, HaveApartDocuments, documents_of, names_of};
+ghost use Rattle.std.specs.Prelude.{◌≡◌, IfOk};
+ghost use Rattle.zarrs_node.specs.Order.{Ascend};
+ghost use Rattle.zarrs_survey.specs.StepsOfSurveys.{HasPaths, HaveApartDocuments, documents_of, names_of};
 
 use crate::bad_documents::BadDocuments;
+use crate::base::base_of;
 use log::{Log, warn};
 use std::alloc::{AllocError, Global};
 use zarrs_block::NodeCreateError;
 use zarrs_config::MetadataRetrieveVersion;
-use zarrs_hierarchy::Hierarchy;
 use zarrs_meta::NodeMetadata;
-use zarrs_node::{Node, NodeFault, walk_past_faults};
+use zarrs_node::{NodeFault, walk_past_faults};
 use zarrs_path::NodePath;
-use zarrs_store::{ListableStorageTraits, ReadableStorageTraits, StorageError, StorePrefix};
+use zarrs_store::{ListableStorageTraits, ReadableStorageTraits, StorePrefix};
 
 /// All that a store has at a path, the base, and below it: its nodes, the paths without documents, and what is bad.
 ///
@@ -25,17 +24,22 @@ pub struct Survey {
     pub path: NodePath,
     /// The metadata of the base, or why it is no node: it has no document, or a bad one.
     pub base: Result<NodeMetadata, NodeCreateError>,
-    /// The nodes below the base.
-    pub nodes: Hierarchy,
+    /// The nodes below the base, each a path with its metadata, in the order of paths.
+    pub nodes: Vec<(NodePath, NodeMetadata)>,
     /// The paths without documents that were passed over with all below them, in the order of paths.
     pub ignored: Vec<NodePath>,
     /// The paths below the base whose documents are bad, each with its error. Below them nothing was looked at.
     pub bad_documents: BadDocuments,
     /// The paths below the base whose last name is made of periods only, in the order of paths. Below them nothing was looked at.
     pub bad_names: Vec<StorePrefix>,
+    pub ghost nodes_ascend: { Ascend nodes.items },
 }
 
 impl Survey {
+    ghost use Rattle.std.specs.Prelude.{IfErr};
+    ghost use Rattle.zarrs_block.specs.Refusals.{IsExcused};
+    ghost use Rattle.zarrs_survey.specs.Surveys.{IsSurveyOf};
+
     /// Surveys what a store has at a path and below it, by the documents of a version. It goes on past what is bad, and warns of each path
     /// without documents that it passes over. Of a base that is no node what is below it is looked at all the same.
     ///
@@ -64,41 +68,12 @@ impl Survey {
         Ok(Survey {
             path: path.try_clone(alloc)?,
             base,
-            nodes: Hierarchy::from_ascending(nodes),
+            nodes,
             ignored: walked.ignored,
             bad_documents,
             bad_names,
         })
     }
-}
-
-// The metadata of the base, or why it is no node.
-pub(crate) fn base_of<S: ReadableStorageTraits>(
-    alloc: Global,
-    storage: &S,
-    path: &NodePath,
-    version: &MetadataRetrieveVersion,
-) -> Result<Result<NodeMetadata, NodeCreateError>, NodeCreateError>
-    ensures base { IfOk result (IsBase (S.contents storage.now) version.now path.now) }
-    ensures excused { IfErr result (IsExcused (S.can_fail storage.now)) }
-{
-    match Node::get_metadata(alloc, storage, path, version) {
-        Ok(metadata) => Ok(Ok(metadata)),
-        Err(refusal) if is_of_node(&refusal) => Ok(Err(refusal)),
-        Err(refusal) => Err(refusal),
-    }
-}
-
-// Whether a refusal says something of the node: that there is none, or that its document is bad.
-fn is_of_node(refusal: &NodeCreateError) -> bool
-    ensures { result ≡ is_of_node refusal.now }
-{
-    matches!(
-        refusal,
-        NodeCreateError::MissingMetadata(_)
-            | NodeCreateError::MetadataVersionMismatch
-            | NodeCreateError::StorageError(StorageError::InvalidMetadata(_, _))
-    )
 }
 
 // Warns of each path that was passed over.

@@ -1,10 +1,7 @@
-use Rattle.std.proofs.Common.{true, sym, subst}
+use Rattle.std.proofs.Common.{sym, subst}
 use Rattle.zarrs_store.specs.Contents.{Lists}
 use Rattle.zarrs_node.specs.Faults.{PathsAscend}
-use Rattle.zarrs_node.specs.Nodes.{Nodes}
-use Rattle.zarrs_node.specs.Order.{Ascend}
 use Rattle.zarrs_node.proofs.Feeding.{listed_pairs, ascending_pairs}
-use Rattle.zarrs_hierarchy.specs.PairsOfHierarchies.{Pairs}
 use Rattle.zarrs_survey.specs.Surveys.{BadDocuments, BadNames}
 use Rattle.zarrs_survey.proofs.Surveying.{have_paths, have_apart, lists_documents, lists_names, names_ascend}
 use Rattle.zarrs_survey.proofs.survey.Survey.of_store.Goals as goal
@@ -17,8 +14,8 @@ pub sort_faults-requires-clause-apart : goal.sort_faults-requires-clause-apart
 sort_faults-requires-clause-apart g c =
     have_apart (g.S.Store.contents c.args.storage.now) c.args.version.now c.args.path.now _ c.in_ok-walked.ensures.faults c.in_ok-walked.ensures.faults_ascend
 
-pub from_ascending-requires : goal.from_ascending-requires
-from_ascending-requires g c = record { ascending = ascending_pairs _ _ _ _ c.in_ok-walked.ensures.takes c.new-nodes.ensures.items }
+pub invariant_of-result : goal.invariant_of-result
+invariant_of-result g c = record { nodes_ascend = ascending_pairs _ _ _ _ c.in_ok-walked.ensures.takes c.new-nodes.ensures.items }
 
 pub returns-clause-surveyed : goal.returns-clause-surveyed
 returns-clause-surveyed g c =
@@ -29,10 +26,8 @@ returns-clause-surveyed g c =
     record {
       path = c.in_ok-try_clone.ensures.ok;
       base = c.in_ok-base.ensures.base;
-      nodes = record {
-        held = subst (λ (h : Pairs). Lists (Nodes s v true b) h) (sym c.from_ascending.ensures) (listed_pairs _ _ _ _ w.takes c.new-nodes.ensures.items);
-        ordered = subst (λ (h : Pairs). Ascend h) (sym c.from_ascending.ensures) (ascending_pairs _ _ _ _ w.takes c.new-nodes.ensures.items);
-      };
+      nodes = listed_pairs _ _ _ _ w.takes c.new-nodes.ensures.items;
+      nodes_ascend = ascending_pairs _ _ _ _ w.takes c.new-nodes.ensures.items;
       ignored = w.ignored;
       ignored_ascend = w.ignored_ascend;
       bad_documents = subst (Lists (BadDocuments s v b)) (sym c.in_ok-bad_documents.ensures.documents) (lists_documents s v b _ w.faults w.faults_ascend);
