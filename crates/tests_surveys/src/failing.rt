@@ -19,7 +19,7 @@ use zarrs_survey::{Check, Survey};
 // Groups of both versions one in the other, of which three have a block, a bad document, a bad name and a path without a document. There
 // is a finding of each kind.
 const DOCUMENTS: &str =
-    r#"zarr.json {"consolidated_metadata":{"kind":"inline","metadata":{"/a":{"zarr_format":2},"a":{"attributes":{"k":1},"node_type":"group","zarr_format":3},"a//x":{"zarr_format":2},"bad/x":{"zarr_format":2},"old":{"zarr_format":2},"u/x":{"zarr_format":2}},"must_understand":false},"node_type":"group","zarr_format":3};a/zarr.json g3;a/x/zarr.json a3;b/.zgroup g2;b/.zattrs {"k":1};b/.zmetadata {"metadata":{"c/.zgroup":{"zarr_format":2}},"zarr_consolidated_format":1};b/c/.zgroup g2;b/c/.zattrs {"k":2};b/c/x/.zarray a2;b/../zarr.json g3;bad/zarr.json nul;bad/x/zarr.json g3;d/e g3;e/.zgroup g2;e/.zmetadata nul"#;
+    r#"zarr.json {"consolidated_metadata":{"kind":"inline","metadata":{"/a":{"zarr_format":2},"a":{"attributes":{"k":1},"node_type":"group","zarr_format":3},"a//x":{"zarr_format":2},"bad/x":{"zarr_format":2},"old":{"zarr_format":2},"u/x":{"zarr_format":2}},"must_understand":false},"node_type":"group","zarr_format":3};a/zarr.json G3;a/x/zarr.json A3;b/.zgroup G2;b/.zattrs {"k":1};b/.zmetadata {"metadata":{"c/.zgroup":{"zarr_format":2}},"zarr_consolidated_format":1};b/c/.zgroup G2;b/c/.zattrs {"k":2};b/c/x/.zarray A2;b/../zarr.json G3;bad/zarr.json NUL;bad/x/zarr.json G3;d/e G3;e/.zgroup G2;e/.zmetadata NUL"#;
 
 // Its paths, and one at which nothing stands.
 const PATHS: [&str; 11] = [
@@ -34,19 +34,6 @@ const NAMES: [&str; 5] = ["zarr.json", ".zarray", ".zgroup", ".zattrs", ".zmetad
 enum Call {
     Survey,
     Check,
-}
-
-// A survey, with the metadata of its nodes.
-fn survey_data(survey: &Survey, alloc: Global) -> Result<String, AllocError> {
-    let mut text = survey_text(survey, alloc)?;
-    if let Ok(metadata) = &survey.base {
-        text.push_str(metadata.to_text(alloc)?.as_str())?;
-    }
-    for (_path, metadata) in survey.nodes.nodes() {
-        text.push('\n')?;
-        text.push_str(metadata.to_text(alloc)?.as_str())?;
-    }
-    Ok(text)
 }
 
 // A check: what it has of the store, and what it tells of blocks.
@@ -82,16 +69,19 @@ fn answered<S: ReadableStorageTraits + ListableStorageTraits>(
     base: &str,
 ) -> Result<String, AllocError> {
     match call {
-        Call::Survey => said(alloc, survey_of(alloc, store, base), survey_data),
+        Call::Survey => said(alloc, survey_of(alloc, store, base), survey_text),
         Call::Check => said(alloc, check_of(alloc, store, base), check_data),
     }
 }
 
-// The text of a fault of the store.
-const FAULT: &str = "store fault";
+// The refusal of a fault of the store.
+const FAULT: &str = "StorageError(Fault): store fault";
 
-// The text of out of memory.
-const NO_MEMORY: &str = "out of memory";
+// The refusals of out of memory.
+const NO_MEMORY: [&str; 2] = [
+    "OutOfMemory: out of memory",
+    "StorageError(OutOfMemory): out of memory",
+];
 
 fn is_same(found: &str, wanted: &str) -> Result<(), Fail> {
     if found == wanted {
@@ -165,30 +155,75 @@ fn a_check_answers_as_usual_or_the_fault(rt: HostRuntime) -> Result<(), Fail> {
 
 // ---- each allocation refused in turn
 
-// Hands out of memory on as such.
-fn unless_memory_failed(answer: &str) -> Result<(), Fail> {
-    if answer == NO_MEMORY {
-        Err(Fail::from(AllocError))
-    } else {
-        Ok(())
-    }
-}
+// What both calls answer at the root and at the bad document.
+const ANSWERS: [(Call, &str, &str); 4] = [
+    (
+        Call::Survey,
+        "/",
+        r#"/ {"consolidated_metadata":{"kind":"inline","metadata":{"/a":G2,"a":{"attributes":{"k":1},"node_type":"group","zarr_format":3},"a//x":G2,"bad/x":G2,"old":G2,"u/x":G2},"must_understand":false},"node_type":"group","zarr_format":3}
+/a G3
+/a/x A3
+/b {"attributes":{"k":1},"zarr_format":2}
+/b/c {"attributes":{"k":2},"zarr_format":2}
+/b/c/x A2
+/e G2
+ignored /d
+/bad StorageError(InvalidMetadata): error parsing metadata for bad/zarr.json: not JSON
+b/../ no name
+"#,
+    ),
+    (
+        Call::Check,
+        "/",
+        r#"/ node
+7 nodes
+ignored /d
+/bad StorageError(InvalidMetadata): error parsing metadata for bad/zarr.json: not JSON
+b/../ no name
 
-// Asks whether both calls answer twice the same at a base. Of one refused allocation only one of the two can tell.
-fn answer_alike(alloc: Global, base: &str) -> Result<(), Fail> {
-    let store = store_in(alloc, DOCUMENTS)?;
-    for call in [Call::Survey, Call::Check] {
-        let once = answered(alloc, &store, call, base)?;
-        unless_memory_failed(once.as_str())?;
-        let again = answered(alloc, &store, call, base)?;
-        unless_memory_failed(again.as_str())?;
-        is_same(again.as_str(), once.as_str())?;
-    }
-    Ok(())
-}
+/ / Shadowed /a
+/ / BadKey a//x
+/ /a Differs
+/ /a/x Missing
+/ /b Missing
+/ /b/c Missing
+/ /b/c/x Missing
+/ /bad/x Unreachable
+/ /e Missing
+/ /old Stale
+/ /u/x Unreachable
+/b /b/c Differs
+/b /b/c/x Missing
+/e /e BlockFault NotJson: not JSON
+"#,
+    ),
+    (
+        Call::Survey,
+        "/bad",
+        r#"/bad StorageError(InvalidMetadata): error parsing metadata for bad/zarr.json: not JSON
+/bad/x G3
+"#,
+    ),
+    (
+        Call::Check,
+        "/bad",
+        r#"/bad StorageError(InvalidMetadata): error parsing metadata for bad/zarr.json: not JSON
+1 nodes
+
+"#,
+    ),
+];
 
 #[test]
 fn memory_fails_in_checks(rt: HostRuntime) -> Result<(), Fail> {
-    answer_alike(rt.alloc(), "/")?;
-    answer_alike(rt.alloc(), "/bad")
+    let alloc = rt.alloc();
+    let store = store_in(alloc, DOCUMENTS)?;
+    for (call, base, wanted) in ANSWERS {
+        let found = answered(alloc, &store, call, base)?;
+        if NO_MEMORY.contains(&found.as_str()) {
+            return Err(Fail::from(AllocError));
+        }
+        is_same(found.as_str(), wanted)?;
+    }
+    Ok(())
 }

@@ -5,33 +5,37 @@ use crate::surveys::survey_in;
 use log::sink::Discard;
 use std::alloc::{AllocError, Global};
 use std::test::Fail;
-use tests_fixtures::{ANY, entries_of, metadata_in};
-use tests_support::{check_rows, fields, said};
+use tests_fixtures::{ANY, entries_of, entries_text, metadata_in};
+use tests_support::{check_rows, fields, refusal, said};
 use zarrs_block::{ConsolidatedMetadata, NodeCreateError};
 use zarrs_path::NodePath;
 use zarrs_survey::{Check, Finding, FindingKind, compare_block, read_block};
 
-// What there is to tell of a block of a group, beside the store below the root.
-fn compared(alloc: Global, given: &str) -> Result<Vec<Finding>, NodeCreateError> {
-    let (group, rest) = fields(given);
+// What there is to tell of a block of a group, beside the store below a base, which is the root where none is named.
+fn compared(alloc: Global, given: &str) -> Result<Option<Vec<Finding>>, NodeCreateError> {
+    let (paths, rest) = fields(given);
+    let (group, base) = paths.split_once(" from ").unwrap_or((paths, "/"));
     let (documents, entries) = fields(rest);
-    let survey = survey_in(alloc, "/", documents)?;
+    let survey = survey_in(alloc, base, documents)?;
     let group = NodePath::new(alloc, group)?;
     let pairs = pairs_in(alloc, entries)?;
     let metadata = entries_of(alloc, pairs.as_slice())?;
     Ok(compare_block(alloc, &survey, &group, ConsolidatedMetadata { metadata })?)
 }
 
-// The kind of a finding.
+// The kind of a finding, and what it holds.
 fn kind_text(kind: &FindingKind, alloc: Global) -> Result<String, AllocError> {
     match kind {
-        FindingKind::BlockFault(fault) => format!(in alloc; "bad block: {fault}"),
-        FindingKind::BadKey(key) => format!(in alloc; "bad key: {}", key.as_str()),
-        FindingKind::Shadowed(key) => format!(in alloc; "shadowed: {}", key.as_str()),
-        FindingKind::Unreachable => String::from_str(alloc, "unreachable"),
-        FindingKind::Stale => String::from_str(alloc, "stale"),
-        FindingKind::Differs => String::from_str(alloc, "differs"),
-        FindingKind::Missing => String::from_str(alloc, "missing"),
+        FindingKind::BlockFault(fault) => {
+            let fault = refusal(alloc, fault)?;
+            format!(in alloc; "BlockFault {fault}")
+        }
+        FindingKind::BadKey(key) => format!(in alloc; "BadKey {}", key.as_str()),
+        FindingKind::Shadowed(key) => format!(in alloc; "Shadowed {}", key.as_str()),
+        FindingKind::Unreachable => String::from_str(alloc, "Unreachable"),
+        FindingKind::Stale => String::from_str(alloc, "Stale"),
+        FindingKind::Differs => String::from_str(alloc, "Differs"),
+        FindingKind::Missing => String::from_str(alloc, "Missing"),
     }
 }
 
@@ -45,27 +49,48 @@ pub(crate) fn findings_text(findings: &Vec<Finding>, alloc: Global) -> Result<St
     Ok(text)
 }
 
-fn compared_said(alloc: Global, given: &str) -> Result<String, AllocError> {
-    said(alloc, compared(alloc, given), findings_text)
+// The findings, or that the survey has no such group.
+fn compared_text(compared: &Option<Vec<Finding>>, alloc: Global) -> Result<String, AllocError> {
+    match compared {
+        Some(findings) => findings_text(findings, alloc),
+        None => String::from_str(alloc, "no group"),
+    }
 }
 
-// A group, a store and a block; what is wrong with the block.
+fn compared_said(alloc: Global, given: &str) -> Result<String, AllocError> {
+    said(alloc, compared(alloc, given), compared_text)
+}
+
+// A group and the base, a store and a block; what is wrong with the block.
 const COMPARED: &str = r#"
-/ | zarr.json g3;a/zarr.json g3 | a g3 =>
-/ | zarr.json g3;a/zarr.json g3 | /a g3 =>
-/ | zarr.json g3;a/zarr.json kb | a k =>
-/ | zarr.json g3 | a g3 => / /a stale\n
-/ | zarr.json g3;a/zarr.json g3 | => / /a missing\n
-/ | zarr.json g3;a/zarr.json g3 | a k => / /a differs\n
-/ | zarr.json g3;a/zarr.json a3 | a g3 => / /a differs\n
-/ | zarr.json g3;a/zarr.json g3;a/x/zarr.json g3 | a/x g3 => / /a missing\n/ /a/x unreachable\n
-/ | zarr.json g3;a/zarr.json g3 | a g3;/a k => / / shadowed: /a\n
-/ | zarr.json g3;a/zarr.json g3 | a g3;a//b g3;.. g3 => / / bad key: ..\n/ / bad key: a//b\n
-/ | zarr.json g3;a/zarr.json nul | a g3;a/x g3;b g3 => / /b stale\n
-/ | zarr.json g3;a/zarr.json nul | a/x g3 => / /a/x unreachable\n
-/ | zarr.json g3;a/zarr.json g3 | a g3; g3;/ g3 => / / shadowed: /\n
-/b | zarr.json g3;a/zarr.json g3;b/zarr.json g3;b/x/zarr.json a3;c/zarr.json g3 | y g3 => /b /b/x missing\n/b /b/y stale\n
-/ | zarr.json g3;a/zarr.json a3 | a a3;a/x g3 => / /a/x unreachable\n
+/ | zarr.json G3;a/zarr.json G3 | a G3 =>
+/ | zarr.json G3;a/zarr.json G3 | /a G3 =>
+/ | zarr.json G3;a/zarr.json KB | a K =>
+/ | zarr.json G3 | a G3 => / /a Stale\n
+/ | zarr.json G3;a/zarr.json G3 | => / /a Missing\n
+/ | zarr.json G3;a/zarr.json G3 | a K => / /a Differs\n
+/ | zarr.json G3;a/zarr.json A3 | a G3 => / /a Differs\n
+/ | zarr.json G3;a/zarr.json G3;a/x/zarr.json G3 | a/x G3 => / /a Missing\n/ /a/x Unreachable\n
+/ | zarr.json G3;a/zarr.json G3 | a G3;/a K => / / Shadowed /a\n
+/ | zarr.json G3;a/zarr.json G3 | a G3;a//b G3;.. G3 => / / BadKey ..\n/ / BadKey a//b\n
+/ | zarr.json G3;a/zarr.json NUL | a G3;a/x G3;b G3 => / /b Stale\n
+/ | zarr.json G3;a/zarr.json NUL | a/x G3 => / /a/x Unreachable\n
+/ | zarr.json G3;a/zarr.json G3 | a G3; G3;/ G3 => / / Shadowed /\n
+/b | zarr.json G3;a/zarr.json G3;b/zarr.json G3;b/x/zarr.json A3;c/zarr.json G3 | y G3 => /b /b/x Missing\n/b /b/y Stale\n
+/ | zarr.json G3;a/zarr.json A3 | a A3;a/x G3 => / /a/x Unreachable\n
+/a from /a | a/zarr.json G3;a/x/zarr.json G3 | x G3 =>
+/a/x from /a | a/zarr.json G3;a/x/zarr.json G3;a/x/y/zarr.json G3;b/zarr.json G3 | => /a/x /a/x/y Missing\n
+/a | a/zarr.json G3;a/x/zarr.json G3 | => /a /a/x Missing\n
+# the survey has no group there: above its base, beside it, an array, no node, a bad document, and below one
+/ from /a | zarr.json G3;a/zarr.json G3 | a G3 => no group
+/b from /a | zarr.json G3;a/zarr.json G3;b/zarr.json G3 | => no group
+/ | zarr.json A3 | => no group
+/a | zarr.json G3;a/zarr.json A3 | => no group
+/ | a/zarr.json G3 | a G3 => no group
+/b | zarr.json G3;a/zarr.json G3;c/zarr.json G3 | => no group
+/ | zarr.json NUL;a/zarr.json G3 | => no group
+/a | zarr.json G3;a/zarr.json NUL | => no group
+/a/x | zarr.json G3;a/zarr.json NUL;a/x/zarr.json G3 | => no group
 "#;
 
 #[test]
@@ -86,16 +111,16 @@ fn checked_said(alloc: Global, given: &str) -> Result<String, AllocError> {
 
 // A store; what is wrong with its blocks, by group and path.
 const CHECKED: &str = r#"
-zarr.json g3;a/zarr.json g3 =>
-zarr.json kb =>
-zarr.json kb;a/zarr.json kb;a/x/zarr.json g3 => / /a missing\n/ /a/x missing\n/a /a/x missing\n
-zarr.json g3;a/zarr.json kb;a/x/zarr.json g3;a-b/zarr.json g3;b/zarr.json g3;b/c/zarr.json kb;b/c/y/zarr.json a3;b/d/zarr.json a3 => /a /a/x missing\n/b/c /b/c/y missing\n
-zarr.json g3;a/zarr.json kb;a/x/zarr.json kb;a/x/y/zarr.json a3;a/z/zarr.json a3;b/zarr.json g3 => /a /a/x missing\n/a /a/x/y missing\n/a /a/z missing\n/a/x /a/x/y missing\n
-zarr.json {"consolidated_metadata":{"kind":"other"},"node_type":"group","zarr_format":3};a/zarr.json kb;a/x/zarr.json g3 => / / bad block: bad member kind\n/a /a/x missing\n
-zarr.json {"consolidated_metadata":{"kind":"other"},"node_type":"group","zarr_format":3} => / / bad block: bad member kind\n
-.zgroup g2;a/.zgroup g2;.zmetadata nul => / / bad block: not JSON\n
-.zgroup g2;a/.zgroup g2;a/.zattrs {"k":1};.zmetadata {"metadata":{"a/.zgroup":{"zarr_format":2}},"zarr_consolidated_format":1} => / /a differs\n
-.zgroup g2;a/.zgroup g2;a/.zattrs {"k":1};.zmetadata {"metadata":{"a/.zattrs":{"k":1},"a/.zgroup":{"zarr_format":2}},"zarr_consolidated_format":1} =>
+zarr.json G3;a/zarr.json G3 =>
+zarr.json KB =>
+zarr.json KB;a/zarr.json KB;a/x/zarr.json G3 => / /a Missing\n/ /a/x Missing\n/a /a/x Missing\n
+zarr.json G3;a/zarr.json KB;a/x/zarr.json G3;a-b/zarr.json G3;b/zarr.json G3;b/c/zarr.json KB;b/c/y/zarr.json A3;b/d/zarr.json A3 => /a /a/x Missing\n/b/c /b/c/y Missing\n
+zarr.json G3;a/zarr.json KB;a/x/zarr.json KB;a/x/y/zarr.json A3;a/z/zarr.json A3;b/zarr.json G3 => /a /a/x Missing\n/a /a/x/y Missing\n/a /a/z Missing\n/a/x /a/x/y Missing\n
+zarr.json {"consolidated_metadata":{"kind":"other"},"node_type":"group","zarr_format":3};a/zarr.json KB;a/x/zarr.json G3 => / / BlockFault BadMember: bad member kind\n/a /a/x Missing\n
+zarr.json {"consolidated_metadata":{"kind":"other"},"node_type":"group","zarr_format":3} => / / BlockFault BadMember: bad member kind\n
+.zgroup G2;a/.zgroup G2;.zmetadata NUL => / / BlockFault NotJson: not JSON\n
+.zgroup G2;a/.zgroup G2;a/.zattrs {"k":1};.zmetadata {"metadata":{"a/.zgroup":{"zarr_format":2}},"zarr_consolidated_format":1} => / /a Differs\n
+.zgroup G2;a/.zgroup G2;a/.zattrs {"k":1};.zmetadata {"metadata":{"a/.zattrs":{"k":1},"a/.zgroup":{"zarr_format":2}},"zarr_consolidated_format":1} =>
 "#;
 
 #[test]
@@ -111,8 +136,11 @@ fn read_at(alloc: Global, given: &str) -> Result<String, NodeCreateError> {
     let path = NodePath::new(alloc, text)?;
     match read_block(alloc, &store, &path, &metadata)? {
         None => Ok(String::from_str(alloc, "none")?),
-        Some(Ok(block)) => Ok(format!(in alloc; "{} entries", block.metadata.len())?),
-        Some(Err(fault)) => Ok(format!(in alloc; "{fault}")?),
+        Some(Ok(block)) => {
+            let entries = entries_text(&block.metadata, alloc)?;
+            Ok(format!(in alloc; "block\n{entries}")?)
+        }
+        Some(Err(fault)) => Ok(refusal(alloc, &fault)?),
     }
 }
 
@@ -124,14 +152,14 @@ fn read_said(alloc: Global, given: &str) -> Result<String, AllocError> {
     said(alloc, read_at(alloc, given), text_of)
 }
 
-// A path and a store; what is read as its block.
+// A path and a store; what is read as its block, with the keys and their documents.
 const READ: &str = r#"
-/ | zarr.json g3 => none
-/ | zarr.json a3 => none
-/ | zarr.json kb => 0 entries
-/ | .zgroup g2 => none
-/ | .zgroup g2;.zmetadata nul => not JSON
-/a | a/.zgroup g2;a/.zmetadata {"metadata":{"x/.zgroup":{"zarr_format":2}},"zarr_consolidated_format":1} => 1 entries
+/ | zarr.json G3 => none
+/ | zarr.json A3 => none
+/ | zarr.json KB => block\n
+/ | .zgroup G2 => none
+/ | .zgroup G2;.zmetadata NUL => NotJson: not JSON
+/a | a/.zgroup G2;a/.zmetadata {"metadata":{"x/.zgroup":{"zarr_format":2}},"zarr_consolidated_format":1} => block\nx G2\n
 "#;
 
 #[test]

@@ -1,8 +1,7 @@
 //! What the rows of tables give: stores and blocks as lists, documents as words.
 
-use std::alloc::{AllocError, Global};
-use tests_fixtures::store_of;
-use tests_support::{A2, A3, G2, G3};
+use std::alloc::Global;
+use tests_fixtures::{document_of, store_of};
 use zarrs_store::{MemoryStore, StorageError};
 
 // A group of version 3 with the attribute `k`.
@@ -12,17 +11,12 @@ const G3_WITH_K: &str = r#"{"attributes":{"k":1},"node_type":"group","zarr_forma
 const G3_WITH_K_AND_BLOCK: &str =
     r#"{"attributes":{"k":1},"consolidated_metadata":{"kind":"inline","metadata":{},"must_understand":false},"node_type":"group","zarr_format":3}"#;
 
-// The document that a word names, or the text as it is.
-fn document(word: &str) -> &str {
+// The document that a word names, or the text that begins as JSON does. A word that names none is refused.
+fn document<'a>(alloc: Global, word: &'a str) -> Result<&'a str, StorageError> {
     match word {
-        "g2" => G2,
-        "g3" => G3,
-        "k" => G3_WITH_K,
-        "kb" => G3_WITH_K_AND_BLOCK,
-        "a2" => A2,
-        "a3" => A3,
-        "nul" => "\0",
-        text => text,
+        "K" => Ok(G3_WITH_K),
+        "KB" => Ok(G3_WITH_K_AND_BLOCK),
+        word => document_of(alloc, word),
     }
 }
 
@@ -30,12 +24,12 @@ fn document(word: &str) -> &str {
 pub(crate) fn pairs_in<'a>(
     alloc: Global,
     list: &'a str,
-) -> Result<Vec<(&'a str, &'a str)>, AllocError> {
+) -> Result<Vec<(&'a str, &'a str)>, StorageError> {
     let mut pairs = Vec::new(alloc);
     for item in list.split(';') {
         if !item.is_empty() {
             let (key, word) = item.split_once(' ').unwrap_or((item, ""));
-            pairs.push((key, document(word)))?;
+            pairs.push((key, document(alloc, word)?))?;
         }
     }
     Ok(pairs)
