@@ -66,7 +66,7 @@ pub record ConsolidatesV2 (of : Path → Meaning) (g : GroupState) (f : Forest) 
   pub nodes : (e : Path × NodeMetadata) → Contains (pairs f) e → IsTrue (is_version_2 e.1)
   pub block : IsBlockOf (Contains (pairs f)) g.path B
 
--- A version 2 group takes the block of such a forest, and once it was set gives the forest back.
+-- A version 2 group takes the block of a listed forest of version 2 nodes, and once it was set gives the forest back.
 abbrev pub GroupV2GivesBack : Type 0
 GroupV2GivesBack = (of : Path → Meaning) (g : GroupState) (f : Forest) (B : Block) → ConsolidatesV2 of g f B
     → Fits g.metadata (Some B) × GivesBack (with_block g (Some B)) f
@@ -79,7 +79,7 @@ pub record OpensTo (s : Contents) (g : GroupState) (f : Forest) : Type 0 where
   pub opened : (v : MetadataRetrieveVersion) → v ≢ retrieve.V2 → (policy : UseConsolidatedMetadata) → policy ≢ Never
       → (e : NodeCreateError) → RefusesOpening s v policy (path_text g.path) e → ⊥
 
--- So does a node that is opened over any store that has the bytes of the stored group at its key, where these do not nest too deep.
+-- A version 3 group that was stored with the block of a listed forest and does not nest too deep gives the forest back over any store that has the stored bytes at its key: a node that is opened there has that forest below it.
 abbrev pub StoredGivesBack : Type 0
 StoredGivesBack = (of : Path → Meaning) (g : GroupState) (f : Forest) (B : Block) → Consolidates of g f B → IsPath g.path
     → (S : Contents) → MeansStored S g.path (with_block g (Some B)).metadata → depth (group_tree (with_block g (Some B)).metadata) ≤ max_depth
@@ -107,7 +107,7 @@ pub record OpensToV2 (s : Contents) (g : GroupState) (f : Forest) (B : Block) : 
   pub beside : (C : Block) × (block_beside s g.path g.metadata ≡ Some C) × HaveSameEntries B C
   pub group : (h : GroupState) → h.path ≡ g.path → h.metadata ≡ g.metadata → h.block ≡ block_beside s g.path g.metadata → GivesBack h f
 
--- A version 2 group that was stored with the block of such a forest, in the order of its keys, gives the forest back over any store that has its document `.zmetadata`.
+-- A version 2 group that was stored with the block of a listed forest of version 2 nodes, in the order of its keys, gives the forest back over any store that has its document `.zmetadata`.
 abbrev pub StoredV2GivesBack : Type 0
 StoredV2GivesBack = (of : Path → Meaning) (g : GroupState) (f : Forest) (B : Block) → ConsolidatesV2 of g f B → IsAscending B → IsPath g.path
     → (S s : Contents) → HasStoredBlock S s (with_block g (Some B)) → OpensToV2 s (with_block g (Some B)) f B

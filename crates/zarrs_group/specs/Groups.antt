@@ -32,7 +32,7 @@ abbrev pub attributes_of_group : GroupMetadata → Members
 attributes_of_group (V3 m) = m.attributes
 attributes_of_group (V2 m) = m.attributes
 
--- the same metadata with these attributes
+-- the metadata of a group with these attributes in the place of its own, and all else as it was
 abbrev pub with_attributes : GroupMetadata → Members → GroupMetadata
 with_attributes (V3 m) attributes = V3 (record { attributes = attributes; additional_fields = m.additional_fields })
 with_attributes (V2 m) attributes = V2 (record { attributes = attributes; additional_fields = m.additional_fields })

@@ -24,14 +24,14 @@ use Rattle.zarrs_group.specs.Meaning.{MeansGroup}
 use Rattle.zarrs_meta.specs.Node.{group_without_attributes}
 use Rattle.zarrs_group.specs.StoringGroups.{erase_edits, store_edits}
 
--- as version 3 a group keeps its path, its attributes, and the versions that it is stored and erased by
+-- the new group has the path, the attributes, and the versions for storing and erasing that the old one has
 pub record IsKept (old new : GroupState) : Type 0 where
   pub path : new.path ≡ old.path
   pub attributes : attributes_of_group new.metadata ≡ attributes_of_group old.metadata
   pub convert_version : new.convert_version ≡ old.convert_version
   pub erase_version : new.erase_version ≡ old.erase_version
 
--- a group is kept so where it becomes one of version 3
+-- a group that becomes one of version 3 keeps its path, its attributes, and the versions that it is stored and erased by
 abbrev pub Version3Keeps : Type 0
 Version3Keeps = (g : GroupState) → IsKept g (group_as_v3 g)
 
@@ -39,7 +39,7 @@ Version3Keeps = (g : GroupState) → IsKept g (group_as_v3 g)
 abbrev pub Version3Stays : Type 0
 Version3Stays = (g : GroupState) (m : GroupMetadataV3) → g.metadata ≡ V3 m → group_as_v3 g ≡ g
 
--- twice is once
+-- a group that became one of version 3 stays as it is when it becomes one again
 abbrev pub Version3Twice : Type 0
 Version3Twice = (g : GroupState) → group_as_v3 (group_as_v3 g) ≡ group_as_v3 g
 
@@ -51,7 +51,7 @@ PlainIsStored = (m : GroupMetadata) → (group_fault m ≡ None) ↔ IsTrue (is_
 abbrev pub OthersStay : Path → Contents → Contents → Type 0
 OthersStay p old new = (key : Segments) → key ≢ p ++ zarr_json ∷ [] → key ≢ p ++ zgroup ∷ [] → key ≢ p ++ zattrs ∷ [] → key ≢ p ++ zmetadata ∷ [] → map.get new key ≡ map.get old key
 
--- edits leave every other key as it was, also where they were cut short
+-- edits leave every key but the four of a group as it was, also where they were cut short
 abbrev pub OthersStayAfter : Path → List Edit → Type 0
 OthersStayAfter p edits = (S : Contents) → OthersStay p S (after S edits) × ((S' : Contents) → IsCutShort S edits S' → OthersStay p S S')
 

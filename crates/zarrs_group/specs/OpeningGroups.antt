@@ -24,23 +24,23 @@ use Rattle.zarrs_group.specs.UnsupportedFields.{UnsupportedField}
 use Rattle.zarrs_block.specs.Meaning.{Meaning, nothing, bad}
 use Rattle.zarrs_group.specs.Meaning.{MeansGroup, group_meaning}
 
--- of the fields that must be understood, this one has the least name
+-- the field is one of the fields and must be understood, and no field that must be understood has a lesser name
 pub record IsLeastUnsupported (fields : Members) (field : UnsupportedField) : Type 0 where
   pub held : get_member field.name fields ≡ Some field.value
   pub must : must_understand field.value ≡ true
   pub least : (name : List ℕ) (d : Data) → get_member name fields ≡ Some d → must_understand d ≡ true → bytes_cmp name field.name ≢ Less
 
--- no field must be understood, or that one is the least
+-- where nothing was found, no field must be understood; a field that was found has the least name of those that must be understood
 abbrev pub IsUnsupported : Members → Option UnsupportedField → Type 0
 IsUnsupported fields None = (name : List ℕ) (d : Data) → get_member name fields ≡ Some d → must_understand d ≡ false
 IsUnsupported fields (Some field) = IsLeastUnsupported fields field
 
--- the same of a group, where one of version 2 has no such field
+-- of a version 3 group the least additional field was found that must be understood, or nothing where none must be; of a version 2 group nothing was found
 abbrev pub IsUnsupportedIn : GroupMetadata → Option UnsupportedField → Type 0
 IsUnsupportedIn (V3 m) found = IsUnsupported m.additional_fields found
 IsUnsupportedIn (V2 m) found = found ≡ None
 
--- the text is a path's, and the path has this meaning
+-- the text is that of a path, and as a group the path has this meaning
 pub record MeansAt (S : Contents) (v : MetadataRetrieveVersion) (text : List ℕ) (meaning : Meaning) : Type 0 where
   pub path : Path
   pub valid : IsPath path
@@ -56,8 +56,8 @@ pub record HasUnsupported (S : Contents) (v : MetadataRetrieveVersion) (text : L
   pub means : MeansGroup S v path metadata
   pub unsupported : IsUnsupportedIn metadata (Some field)
 
--- opening is refused: the text is no path; the store can fail; a document is bad; there is none; a field must be understood; or out of memory.
--- A path has one meaning, so no two of the others hold at once
+-- opening is refused: the text is no path; as a group its path is bad, or means nothing, or means a group with a field that must be understood; or the store can fail; or out of memory.
+-- A text has one path and a path has one meaning, so no two of the first four hold at once
 abbrev pub RefusesOpeningGroup : Bool → Contents → MetadataRetrieveVersion → List ℕ → GroupCreateError → Type 0
 RefusesOpeningGroup can_fail S v text (error.NodePathError e) = RefusesPath text e
 RefusesOpeningGroup can_fail S v text (error.AdditionalFieldUnsupportedError field) = HasUnsupported S v text field
@@ -78,13 +78,13 @@ RefusesMaking text error.OutOfMemory = Unit {0}
 
 -- ---- from the refusal of a node
 
--- the error holds a text of its own, or out of memory for that text
+-- the error is a storage error that holds some text, whatever it says, or it is `OutOfMemory`
 abbrev pub IsTold : GroupCreateError → Type 0
 IsTold (error.StorageError (storage.Other said)) = Unit {0}
 IsTold error.OutOfMemory = Unit {0}
 IsTold _ = ⊥
 
--- the refusal of a node as that of a group: a storage error is kept, out of memory stays out of memory, and the rest is told by its text
+-- the refusal of a node was made that of a group: a storage error is kept, out of memory stays out of memory, and any other error becomes some text, whatever it says, or out of memory
 abbrev pub IsFromNode : NodeCreateError → GroupCreateError → Type 0
 IsFromNode (node.StorageError e) made = made ≡ error.StorageError e
 IsFromNode (node.NodePathError path.OutOfMemory) made = made ≡ error.OutOfMemory

@@ -46,13 +46,13 @@ clash_v2 ms =
     else if has_member (codes "zarr_format") ms then Some (codes "zarr_format")
     else None
 
--- a number that does not fit, or else the least clash
+-- why the metadata of a version 3 group could not have come from a document: a number that does not fit, or else the least clash; or nothing
 abbrev pub group_v3_fault : GroupMetadataV3 → Option MetadataFault
 group_v3_fault m =
     if members_have_float m.attributes || members_have_float m.additional_fields then Some UnsupportedNumber
     else option_map BadMember (clash_v3 m.additional_fields)
 
--- the same for version 2
+-- why the metadata of a version 2 group could not have come from a document: a number that does not fit, or else the least clash; or nothing
 abbrev pub group_v2_fault : GroupMetadataV2 → Option MetadataFault
 group_v2_fault m =
     if members_have_float m.attributes || members_have_float m.additional_fields then Some UnsupportedNumber
