@@ -2,7 +2,7 @@
 -- <https://zarr-specs.readthedocs.io/en/latest/v3/core/index.html#group-metadata>
 -- <https://zarr.readthedocs.io/en/stable/user-guide/consolidated_metadata/>
 --     IsAtOrBelow r t, IsAbout r t      which keys stand for the path whose text is r, or for one below it
---     IsWithout r B C      C is B without those
+--     IsWithout r B C      C is B without the keys that are about r
 use Rattle.std.specs.Prelude.{◌≡◌, ℕ, List, ◌∷◌, ◌++◌, Some, ◌⊎◌, ◌↔◌}
 use Rattle.zarrs_meta.specs.declared.node.NodeMetadata.{NodeMetadata}
 use Rattle.zarrs_block.specs.Block.{Block, node_at_key}

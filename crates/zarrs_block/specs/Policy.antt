@@ -35,7 +35,7 @@ abbrev pub block_in : NodeMetadata → Option Block
 block_in (Group g) = block_in_group g
 block_in (Array a) = None
 
--- the block that is used or that there is none, or nothing where the want of a block is refused
+-- the choice of a block: under Never none is used, and else the one that there is; where there is none, Auto uses none, and Must makes no choice, since the want of a block is refused
 abbrev pub block_to_use : Option Block → UseConsolidatedMetadata → Option (Option Block)
 block_to_use block Never = Some None
 block_to_use (Some B) Auto = Some (Some B)
@@ -54,12 +54,12 @@ abbrev pub group_field : GroupMetadata → Option Data
 group_field (V3 m) = get_member (codes "consolidated_metadata") m.additional_fields
 group_field (V2 m) = None
 
--- that of a node; an array has none
+-- the field `consolidated_metadata` of a node, whether it reads as a block or not: a group has its own; an array has none
 abbrev pub block_field : NodeMetadata → Option Data
 block_field (Group g) = group_field g
 block_field (Array a) = None
 
--- out of memory, as the field is read: where there is one, and the policy lets it be used
+-- the error is `OutOfMemory`, the policy is not Never, and the node has the field `consolidated_metadata`
 abbrev pub LacksBlockMemory : NodeMetadata → UseConsolidatedMetadata → NodeCreateError → Type 0
 LacksBlockMemory m policy OutOfMemory = (policy ≢ Never) × IsSome (block_field m)
 LacksBlockMemory m policy _ = ⊥

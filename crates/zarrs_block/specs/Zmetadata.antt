@@ -4,8 +4,8 @@
 --     HoldsStore, IsClean      what that block has and that nothing below the group is bad, as of any store
 --     IsZmetadataFault d fault      what refuses a document
 --     zmetadata_tree g B      what is written of a group of version 2 and its block
---     IsWrittenOf g B d      what that has at each key
---     RefusesZmetadata      what refuses that
+--     IsWrittenOf g B d      what the written document has at each key
+--     RefusesZmetadata      what refuses its writing
 --     HoldsDocuments, WrittenHoldsDocuments, WrittenReadsBack      what the written document has, and that it reads back
 use Rattle.std.specs.Prelude.{if◌then◌else◌, ◌≡◌, ◌≢◌, ◌⊎◌, ◌↔◌, ◌==◌, ℕ, Bool, true, false, not, ◌&&◌, List, [], ◌∷◌, ◌++◌, Option, Some, None, option_and_then, IsSome, Result, Ok, Err, All, IsTrue, bytes_eq, codes}
 use Rattle.std.specs.List.{list_all, filter}
@@ -73,7 +73,7 @@ abbrev pub with_node : Path → Meaning → Block → Block
 with_node p (node m) B = put (key_text p) m B
 with_node p _ B = B
 
--- what the paths of these documents mean, each at its names
+-- the block of what the paths of these documents mean, where they mean nodes, each at its names
 abbrev pub block_from : (Path → Meaning) → List (Segments × Data) → Block
 block_from of [] = []
 block_from of (e ∷ es) = with_node (before_last e.0) (of (before_last e.0)) (block_from of es)
@@ -99,7 +99,7 @@ pub record IsClean (ms : Members) : Type 0 where
   pub means : (b : Path) (n : List ℕ) (ns : Path) (e : NodeCreateError) → small_meaning (small b ms) (b ++ n ∷ ns) ≢ bad e
   pub named : All (λ e. IsPath (before_last e.0)) (counted_members ms)
 
--- the fault of a document that is no form of format 1; or its members are no clean store, and the fault is that of the member that has them
+-- the document is none of format 1, and this is its first fault; or it has members that are no clean store, and the fault is `BadMember` of `metadata`, the member that has them
 abbrev pub IsZmetadataFault : Data → MetadataFault → Type 0
 IsZmetadataFault d fault =
     (zmetadata_members d ≡ Err fault)
@@ -184,7 +184,7 @@ pub record IsWrittenOf (g : GroupMetadataV2) (B : Block) (d : Data) : Type 0 whe
 
 -- ---- laws of the written form
 
--- what is written of a group and a block with valid keys holds their documents
+-- What is written of a group and a block with valid keys holds their documents.
 abbrev pub WrittenHoldsDocuments : Type 0
 WrittenHoldsDocuments = (g : GroupMetadataV2) (B : Block) → IsAscending B → HasValidKeys B → HoldsDocuments g B (documents_written g B)
 
@@ -196,7 +196,7 @@ HasPlainEntries B = (e : Path × NodeMetadata) → Entries B [] e → IsTrue (is
 abbrev pub HaveSameEntries : Block → Block → Type 0
 HaveSameEntries B C = (b : Path) (e : Path × NodeMetadata) → Entries C b e ↔ Entries B b e
 
--- what is written of a plain group and a block with valid keys, whose entries are plain and of version 2, reads as a block with the same entries
+-- What is written of a plain group and a block with valid keys, whose entries are plain and of version 2, reads as a block with the same entries.
 abbrev pub WrittenReadsBack : Type 0
 WrittenReadsBack = (g : GroupMetadataV2) (B : Block) → IsTrue (is_plain_group_v2 g) → IsAscending B → HasValidKeys B → HasVersion2 B → HasPlainEntries B
     → (C : Block) × (zmetadata_of (zmetadata_tree g B) ≡ Ok C) × HaveSameEntries B C

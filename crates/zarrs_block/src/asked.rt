@@ -1,4 +1,4 @@
-//! Documents whose numbers were asked before, with the document that has them: none is asked again.
+//! Readers of documents within a larger one, whose numbers were already tested.
 ghost use Rattle.std.specs.Prelude.{◌≡◌, false, IfOk};
 ghost use Rattle.serde_json.specs.Data.{object};
 ghost use Rattle.serde_json.specs.View.{view, members_view};

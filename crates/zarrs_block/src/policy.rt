@@ -11,7 +11,7 @@ use zarrs_meta::{AdditionalFieldsV3, GroupMetadata, NodeMetadata};
 use zarrs_path::NodePath;
 use zarrs_store::MetadataFault;
 
-/// The block that is used of a group at a path, where it has this block or none: under `Never` none, and else the block that there is.
+/// Decides which block of a group is used: under `Never` none, otherwise the block that the group has, if it has one.
 ///
 /// # Errors
 ///

@@ -50,7 +50,7 @@ pub enum MetadataRetrieveVersion {
 pub enum UseConsolidatedMetadata {
     /// It is used where there is one.
     Auto,
-    /// It is used, and its want is refused.
+    /// There must be one, and it is used; without one the call is refused.
     Must,
     /// It is not looked at.
     Never,
