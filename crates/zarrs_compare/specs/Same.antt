@@ -16,6 +16,6 @@ without_block (Group (group_v3 m)) = Group (group_v3 (record m { additional_fiel
 without_block (Group (group_v2 m)) = Group (group_v2 m)
 without_block (Array m) = Array m
 
--- two metadata are the same: both could have come from a document, and they are equal without that field
+-- two metadata are the same: both could have come from a document, and they are equal once the field `consolidated_metadata` of version 3 groups is left out
 abbrev pub IsSame : NodeMetadata → NodeMetadata → Type 0
 IsSame m n = IsTrue (is_plain_node m) × IsTrue (is_plain_node n) × (without_block m ≡ without_block n)

@@ -57,7 +57,7 @@ extension_object d = do
   must_understand ← unless_absent true as_bool (get (codes "must_understand") d)
   Some (record { name = name; configuration = configuration; must_understand = must_understand })
 
--- an extension is a text, which is the name, or such an object
+-- an extension is a text, which is its name, or else an object with the text `name`
 abbrev pub extension : Data → Option MetadataV3
 extension (string s) = Some (record { name = s; configuration = None; must_understand = true })
 extension d = extension_object d

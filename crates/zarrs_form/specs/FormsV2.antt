@@ -39,7 +39,7 @@ abbrev pub data_type : Data → Option DataTypeMetadataV2
 data_type (string s) = Some (Simple s)
 data_type d = option_map Structured (list_of any d)
 
--- a data type is written as that text or that list
+-- a data type is written as its text or its list
 abbrev pub data_type_data : DataTypeMetadataV2 → Data
 data_type_data (Simple s) = string s
 data_type_data (Structured ds) = list_data (λ d. d) ds
@@ -53,7 +53,7 @@ data_type_fits (Structured ds) = list_all fits ds
 abbrev pub order_named : List ℕ → Option ArrayMetadataV2Order
 order_named s = if bytes_eq s (codes "C") then Some C else (if bytes_eq s (codes "F") then Some F else None)
 
--- an order is one of these texts
+-- an order is the text "C" or "F"
 abbrev pub order : Data → Option ArrayMetadataV2Order
 order d = option_and_then order_named (as_str d)
 
@@ -66,7 +66,7 @@ order_data F = string (codes "F")
 abbrev pub separator_named : List ℕ → Option ChunkKeySeparator
 separator_named s = if bytes_eq s (codes ".") then Some Dot else (if bytes_eq s (codes "/") then Some Slash else None)
 
--- a separator is one of these texts, or null, which stands for "."
+-- a separator is the text "." or "/", or null, which stands for "."
 abbrev pub separator : Data → Option ChunkKeySeparator
 separator null = Some Dot
 separator d = option_and_then separator_named (as_str d)

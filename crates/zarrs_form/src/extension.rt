@@ -13,7 +13,7 @@ use std::alloc::{AllocError, Global};
 
 /// The metadata of an extension of version 3: a data type, a codec, a chunk grid and the like.
 ///
-/// Zarr core specification 3.1, "Extension definition"; `zarrs_formdata::v3::MetadataV3`.
+/// Zarr core specification 3.1, "Extension definition"; `zarrs_metadata::v3::MetadataV3`.
 /// <https://zarr-specs.readthedocs.io/en/latest/v3/core/index.html#extension-definition>
 #[derive(Debug, Drop)]
 pub struct MetadataV3 {

@@ -71,7 +71,7 @@ is_plain_node (Array (array_v2 m)) = is_plain_array_v2 m
 
 -- ---- parts
 
--- the same group with these attributes
+-- the version 2 group with the attributes of a document in the place of its own, and all else as it was
 abbrev pub group_with : AttributesDocument → GroupMetadataV2 → GroupMetadataV2
 group_with a m = record { attributes = a.0; additional_fields = m.additional_fields }
 
@@ -79,7 +79,7 @@ group_with a m = record { attributes = a.0; additional_fields = m.additional_fie
 abbrev pub group_without_attributes : GroupMetadataV2 → GroupMetadataV2
 group_without_attributes m = record { attributes = no_members; additional_fields = m.additional_fields }
 
--- the same array with these attributes
+-- the version 2 array with the attributes of a document in the place of its own, and all else as it was
 abbrev pub array_with : AttributesDocument → ArrayMetadataV2 → ArrayMetadataV2
 array_with a m = record {
   shape = m.shape;

@@ -36,7 +36,7 @@ group_v2_taken ms =
 abbrev pub array_v3_required_names : List (List ℕ)
 array_v3_required_names = codes "shape" ∷ codes "data_type" ∷ codes "chunk_grid" ∷ codes "chunk_key_encoding" ∷ codes "fill_value" ∷ codes "codecs" ∷ []
 
--- those that may be absent
+-- the members that a version 3 array may lack
 abbrev pub array_v3_optional_names : List (List ℕ)
 array_v3_optional_names = codes "attributes" ∷ codes "storage_transformers" ∷ codes "dimension_names" ∷ []
 
@@ -63,7 +63,7 @@ array_v3_required ms =
       codecs = codecs;
     })
 
--- those that may be absent, likewise
+-- the members that a version 3 array may lack, each found in what those before it left
 unfoldable pub array_v3_optional : Members → Result OptionalV3 MetadataFault
 array_v3_optional ms =
     optional_member (codes "attributes") no_members as_object (object ms) >>= λ attributes.
@@ -92,11 +92,11 @@ array_v3_with r o fields = record {
   additional_fields = fields;
 }
 
--- of a version 3 array, the members that each has
+-- the members that each version 3 array has, as this array has them
 abbrev pub array_v3_required_of : ArrayMetadataV3 → RequiredV3
 array_v3_required_of m = record { shape = m.shape; data_type = m.data_type; chunk_grid = m.chunk_grid; chunk_key_encoding = m.chunk_key_encoding; fill_value = m.fill_value; codecs = m.codecs }
 
--- of a version 3 array, those that may be absent
+-- the members that a version 3 array may lack, as this array has them
 abbrev pub array_v3_optional_of : ArrayMetadataV3 → OptionalV3
 array_v3_optional_of m = record { attributes = m.attributes; storage_transformers = m.storage_transformers; dimension_names = m.dimension_names }
 
@@ -112,7 +112,7 @@ array_v3_taken ms =
 abbrev pub array_v2_required_names : List (List ℕ)
 array_v2_required_names = codes "shape" ∷ codes "chunks" ∷ codes "dtype" ∷ codes "fill_value" ∷ codes "order" ∷ []
 
--- those that may be absent
+-- the members that a version 2 array may lack
 abbrev pub array_v2_optional_names : List (List ℕ)
 array_v2_optional_names = codes "compressor" ∷ codes "filters" ∷ codes "dimension_separator" ∷ codes "attributes" ∷ []
 
@@ -136,7 +136,7 @@ array_v2_required ms =
       order = array_order;
     })
 
--- those that may be absent, likewise
+-- the members that a version 2 array may lack, each found in what those before it left
 unfoldable pub array_v2_optional : Members → Result OptionalV2 MetadataFault
 array_v2_optional ms =
     optional_member (codes "compressor") None (nullable codec) (object ms) >>= λ compressor.
@@ -168,11 +168,11 @@ array_v2_with r o fields = record {
   additional_fields = fields;
 }
 
--- of a version 2 array, the members that each has
+-- the members that each version 2 array has, as this array has them
 abbrev pub array_v2_required_of : ArrayMetadataV2 → RequiredV2
 array_v2_required_of m = record { shape = m.shape; chunks = m.chunks; dtype = m.dtype; fill_value = m.fill_value; order = m.order }
 
--- of a version 2 array, those that may be absent
+-- the members that a version 2 array may lack, as this array has them
 abbrev pub array_v2_optional_of : ArrayMetadataV2 → OptionalV2
 array_v2_optional_of m = record { compressor = m.compressor; filters = m.filters; dimension_separator = m.dimension_separator; attributes = m.attributes }
 

@@ -20,7 +20,7 @@ use Rattle.zarrs_path.specs.Names.{is_name}
 abbrev pub Path : Type 0
 Path = List (List ℕ)
 
--- each of the names is one
+-- each text of the path is a name
 abbrev pub IsPath : Path → Type 0
 IsPath p = IsTrue (list_all is_name p)
 
@@ -66,7 +66,7 @@ abbrev pub parts : List ℕ → List (List ℕ)
 parts [] = []
 parts (b ∷ bs) = slice_split is_slash (b ∷ bs)
 
--- what a relative text adds to a path, where each is a name: the parts after one leading slash
+-- the parts of a relative text after one leading slash: where each of them is a name, they are what the text adds to a path
 abbrev pub relative_names : List ℕ → List (List ℕ)
 relative_names rel = parts (without_leading_slash rel)
 

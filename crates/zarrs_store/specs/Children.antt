@@ -12,7 +12,7 @@ pub record IsVisibleChild (S : Contents) (prefix child : Segments) : Type 0 wher
   pub has : HasChild S prefix name
   pub visible : is_reserved name ≡ false
 
--- exactly those, strictly ascending by segments, so each once; they differ in their names alone, so this is the order of the names by bytes
+-- the prefixes are exactly the visible children, strictly ascending by segments, so each stands once; they differ in their names only, so this is the order of the names by bytes
 pub record AreVisibleChildren (S : Contents) (prefix : Segments) (children : List Segments) : Type 0 where
   pub ascending : IsStrictlySortedBy key_cmp children
   pub sound : All (IsVisibleChild S prefix) children

@@ -11,7 +11,7 @@ pub record Failing : Type 0 where
   pub inner : List (Segments × List ℕ)
   pub place : FaultAt
 
--- it holds what the store in memory holds
+-- a failing store holds what its store in memory holds
 abbrev pub inner_contents : Failing → Contents
 inner_contents s = map.from_entries s.inner
 

@@ -34,7 +34,7 @@ child_of prefix name = prefix ++ name ∷ []
 abbrev pub child_names : Segments → List Segments → List (List ℕ)
 child_names prefix keys = dedup bytes_eq (filter_map (child_name prefix) keys)
 
--- the children of those names
+-- the children in which these keys stand, one for each stretch of keys that stand in the same
 abbrev pub child_prefixes : Segments → List Segments → List Segments
 child_prefixes prefix keys = map (child_of prefix) (child_names prefix keys)
 
@@ -42,6 +42,6 @@ child_prefixes prefix keys = map (child_of prefix) (child_names prefix keys)
 abbrev pub is_visible : Segments → Bool
 is_visible child = not (is_reserved (last_segment child))
 
--- each of these texts passes that test
+-- each of these texts is a segment
 abbrev pub IsSegments : Segments → Type 0
 IsSegments ss = IsTrue (list_all is_segment ss)
