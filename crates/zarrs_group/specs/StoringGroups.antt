@@ -113,6 +113,6 @@ erased_files version.All m = zarr_json ∷ zgroup ∷ zattrs ∷ zmetadata ∷ [
 erased_files version.V3 m = zarr_json ∷ []
 erased_files version.V2 m = zgroup ∷ zattrs ∷ zmetadata ∷ []
 
--- each document that is erased is removed, in their order
+-- the documents that are erased are removed, in their order
 abbrev pub erase_edits : Path → MetadataEraseVersion → GroupMetadata → List Edit
 erase_edits p v m = map (λ file. remove (p ++ file ∷ [])) (erased_files v m)
