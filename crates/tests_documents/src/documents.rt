@@ -714,11 +714,15 @@ fn groups_and_arrays_are_made(rt: HostRuntime) -> Result<(), Fail> {
     check_rows(rt.alloc(), VARIANTS, made_says)
 }
 
-// The document of a node, and the compact text of what its bytes read as.
+// Whether a node is a group, and the compact text of what the bytes of its document read as.
 fn document_says(alloc: Global, text: &str) -> Result<String, MetadataFault> {
     let node = NodeMetadata::from_bytes(alloc, text.as_bytes())?;
+    let kind = if node.is_group() { "group" } else { "array" };
     match node.to_document(alloc)? {
-        Some(bytes) => Ok(NodeMetadata::from_bytes(alloc, bytes.as_slice())?.to_text(alloc)?),
+        Some(bytes) => {
+            let again = NodeMetadata::from_bytes(alloc, bytes.as_slice())?.to_text(alloc)?;
+            Ok(format!(in alloc; "{kind} {again}")?)
+        }
         None => Ok(String::from_str(alloc, "none")?),
     }
 }
@@ -727,11 +731,11 @@ fn document_said(alloc: Global, text: &str) -> Result<String, AllocError> {
     said(alloc, document_says(alloc, text), printed)
 }
 
-// A node, and what its document reads as.
+// A node, its kind, and what its document reads as.
 const DOCUMENTS: &str = r#"
-{"node_type":"group","zarr_format":3} => {"node_type":"group","zarr_format":3}
-{"attributes":{"k":[1,{"a":"é"}]},"node_type":"group","zarr_format":3} => {"attributes":{"k":[1,{"a":"é"}]},"node_type":"group","zarr_format":3}
-{"chunks":[1],"compressor":null,"dimension_separator":".","dtype":"<f8","fill_value":"NaN","filters":null,"order":"C","shape":[1],"zarr_format":2} => {"chunks":[1],"compressor":null,"dimension_separator":".","dtype":"<f8","fill_value":"NaN","filters":null,"order":"C","shape":[1],"zarr_format":2}
+{"node_type":"group","zarr_format":3} => group {"node_type":"group","zarr_format":3}
+{"attributes":{"k":[1,{"a":"é"}]},"node_type":"group","zarr_format":3} => group {"attributes":{"k":[1,{"a":"é"}]},"node_type":"group","zarr_format":3}
+{"chunks":[1],"compressor":null,"dimension_separator":".","dtype":"<f8","fill_value":"NaN","filters":null,"order":"C","shape":[1],"zarr_format":2} => array {"chunks":[1],"compressor":null,"dimension_separator":".","dtype":"<f8","fill_value":"NaN","filters":null,"order":"C","shape":[1],"zarr_format":2}
 "#;
 
 #[test]

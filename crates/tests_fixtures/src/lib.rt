@@ -9,8 +9,8 @@ use log::sink::Discard;
 use std::alloc::{AllocError, Global};
 use tests_support::G3;
 pub use texts::{
-    A2_WRITTEN, document_text, entries_text, forest_data, forest_text, keys_text, listing_text,
-    node_text, pairs_text, paths_listing_text, paths_text,
+    A2_WRITTEN, document_text, entries_text, forest_text, keys_text, listing_text, node_text,
+    pairs_text, paths_listing_text, paths_text,
 };
 pub use words::{document_of, no_word, policy_of, version_of};
 use zarrs_block::{ConsolidatedMetadataMetadata, NodeCreateError};

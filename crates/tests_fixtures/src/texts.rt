@@ -104,43 +104,6 @@ pub fn paths_listing_text(listed: &ListedPaths, alloc: Global) -> Result<String,
     Ok(text)
 }
 
-/// The nodes of trees as data: for each the path and the text of the metadata, a line a node. Behind each of the trees' first nodes
-/// stands what is below it, in the order of its block.
-pub fn forest_data(nodes: &Vec<Node>, alloc: Global) -> Result<String, AllocError> {
-    let mut text = String::new(alloc);
-    for node in nodes {
-        let metadata = node.metadata().to_text(alloc)?;
-        write!(text, "{} {metadata}\n", node.path())?;
-        push_below(&mut text, alloc, node)?;
-    }
-    Ok(text)
-}
-
-// Appends the lines of the nodes below one, by its block, which has each at its names beyond the node's.
-fn push_below(text: &mut String, alloc: Global, node: &Node) -> Result<(), AllocError> {
-    if !node.has_placed_children() {
-        return write!(text, "not placed\n");
-    }
-    match node.consolidate_metadata(alloc)? {
-        Some(block) => push_entries(text, alloc, node.path(), &block),
-        None => Ok(()),
-    }
-}
-
-// Appends the lines of the entries of a block below a path.
-fn push_entries(
-    text: &mut String,
-    alloc: Global,
-    base: &NodePath,
-    block: &ConsolidatedMetadataMetadata,
-) -> Result<(), AllocError> {
-    for (key, metadata) in block.as_map().iter() {
-        let metadata = metadata.to_text(alloc)?;
-        write!(text, "{base}/{key} {metadata}\n")?;
-    }
-    Ok(())
-}
-
 /// The trees of the nodes of a listing, and a line for each path that was passed over.
 pub fn listing_text(listed: &ListedNodes, alloc: Global) -> Result<String, AllocError> {
     let mut text = forest_text(&listed.nodes, alloc)?;

@@ -502,6 +502,9 @@ g/.zgroup=G2 g/a/.zarray=A2 | g/.zgroup g/.zmetadata | tree | never | /g | LISTE
 g/.zgroup=G2 g/a/.zarray=A2 | g/.zgroup g/.zmetadata | node | must | /g | LISTED | none => /g G2\n  /g/a A2\n
 g/.zgroup=G2 g/a/.zarray=A2 | g/.zgroup g/.zmetadata | opened | auto | /g | LISTED | none => group at /g with metadata {"zarr_format":2} and the block {"kind":"inline","metadata":{"a":{"chunks":[1],"compressor":null,"dimension_separator":".","dtype":"<f8","fill_value":"NaN","filters":null,"order":"C","shape":[1],"zarr_format":2}},"must_understand":false}
 
+# The tree by a block keeps no entry below an array, and none below no entry.
+- | all | tree | auto | / | G3 | a=A3 a/y=G3 q/r=G3 => /\n  a [1] float32\n
+
 # A block that was set need not be understood.
 - | all | opened | auto | / | G3 | - => group at / with metadata {"consolidated_metadata":{"kind":"inline","metadata":{},"must_understand":false},"node_type":"group","zarr_format":3} and the block {"kind":"inline","metadata":{},"must_understand":false}
 

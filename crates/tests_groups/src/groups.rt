@@ -7,7 +7,7 @@ use std::test::Fail;
 use tests_fixtures::{
     config_of as config_by, document_of, no_word, node_text, pairs_text, policy_of, version_of,
 };
-use tests_group_fixtures::{Step, built_in, done, group_text, held_text, refused, store_in};
+use tests_group_fixtures::{Step, done, group_text, held_text, refused, store_in};
 use tests_support::{check_rows, fields, printed, refusal, said};
 use zarrs_block::{NodeCreateError, resolve_consolidated_policy};
 use zarrs_config::{
@@ -306,11 +306,17 @@ fn groups_are_stored_and_erased(rt: HostRuntime) -> Result<(), Fail> {
     check_rows(rt.alloc(), STORED, after)
 }
 
-// The paths of groups that a builder of nothing makes and stores one after another; what the group at the root then traverses.
+// What the group at the root traverses, which a builder of nothing makes and stores first, and those at the paths of a row behind it.
 fn traversed(alloc: Global, paths: &str) -> Result<String, GroupCreateError> {
-    let store = built_in(alloc, paths)?;
     let config = Config::new();
-    let root = GroupBuilder::new(alloc).build(alloc, "/", &config)?;
+    let builder = GroupBuilder::new(alloc);
+    let mut store = MemoryStore::new(alloc);
+    let root = builder.build(alloc, "/", &config)?;
+    root.store_metadata(alloc, &mut store)?;
+    for path in paths.split(' ').filter(|path: &&str| !path.is_empty()) {
+        let group = builder.build(alloc, path, &config)?;
+        group.store_metadata(alloc, &mut store)?;
+    }
     Ok(said(
         alloc,
         root.traverse(&Discard, alloc, &store, &config),
@@ -319,8 +325,8 @@ fn traversed(alloc: Global, paths: &str) -> Result<String, GroupCreateError> {
 }
 
 const TRAVERSED: &str = r#"
-/ /group /group/subgroup /group/subgroup/leafgroup => /group G3\n/group/subgroup G3\n/group/subgroup/leafgroup G3\n
-/ =>
+/group /group/subgroup /group/subgroup/leafgroup => /group G3\n/group/subgroup G3\n/group/subgroup/leafgroup G3\n
+ =>
 "#;
 
 #[test]

@@ -444,9 +444,13 @@ fn over_a_prefix(alloc: Global, given: &str) -> Result<String, GroupCreateError>
     let whole = store_in(alloc, "THREE_LEVELS")?;
     let config = Config::new();
     let group = match call {
-        "node" | "hierarchy" => {
-            let asked = by_version("/", ANY);
-            return Ok(opened_text(alloc, &store, call, asked)?);
+        "node" => {
+            let node = Node::open(&Discard, alloc, &store, "/", &config);
+            return Ok(said(alloc, node, tree_text)?);
+        }
+        "hierarchy" => {
+            let hierarchy = Hierarchy::open(&Discard, alloc, &store, "/", &config);
+            return Ok(said(alloc, hierarchy, hierarchy_text)?);
         }
         "traversed" => Group::open(alloc, &whole, "/", &config),
         "children" => consolidated(alloc, &whole, "/group"),

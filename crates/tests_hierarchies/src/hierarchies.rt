@@ -1,7 +1,7 @@
 //! Hierarchies: made of an array, of a group and of what a store has, and their text.
 //!
 //! A row says what of a hierarchy it looks at: `tree` is its text, `len` its length, `nodes` its nodes with their metadata, `copy` and `map`
-//! those of a copy and of the map, `at` a path what it has there, and a path its text from there on.
+//! those of a copy and of the map, `at` a path what it has there, `below` a path its nodes there, and a path its text from there on.
 
 use crate::stores::store_in;
 use log::sink::{Discard, Writer};
@@ -16,6 +16,7 @@ use zarrs_config::Config;
 use zarrs_group::{Group, GroupBuilder, GroupCreateError};
 use zarrs_hierarchy::{Hierarchy, laws, tree_at};
 use zarrs_meta::{ArrayMetadata, ArrayMetadataV2, ArrayMetadataV3, NodeMetadata};
+use zarrs_node::get_all_nodes_of;
 use zarrs_path::NodePath;
 use zarrs_store::{MemoryStore, MetadataFault};
 
@@ -31,17 +32,23 @@ fn looked(hierarchy: &Hierarchy, alloc: Global, word: &str) -> Result<String, Al
     }
 }
 
-// What a hierarchy has at the path behind `at`, how many nodes it has and whether it is empty; or its text from a path on. A text that is no path is refused.
+// What a hierarchy has at the path behind `at`, how many nodes it has and whether it is empty; its nodes below the path behind `below`; or its
+// text from a path on. A text that is no path is refused.
 fn at_path(hierarchy: &Hierarchy, alloc: Global, word: &str) -> Result<String, AllocError> {
-    let path = word.strip_prefix("at ").unwrap_or(word);
-    match NodePath::new(alloc, path) {
-        Ok(path) if word.starts_with("at ") => {
+    let (look, path) = word.split_once(' ').unwrap_or(("from", word));
+    let path = match NodePath::new(alloc, path) {
+        Ok(path) => path,
+        Err(error) => return refusal(alloc, &error),
+    };
+    match look {
+        "at" => {
             let found = got(hierarchy, alloc, &path)?;
             let (len, empty) = (hierarchy.len(), hierarchy.is_empty());
             format!(in alloc; "{found} of {len}, empty: {empty}")
         }
-        Ok(path) => hierarchy.tree_of(alloc, &path),
-        Err(error) => refusal(alloc, &error),
+        "below" => lines_text(hierarchy.nodes_below(&path), alloc),
+        "from" => hierarchy.tree_of(alloc, &path),
+        look => format!(in alloc; "no such look: {look}"),
     }
 }
 
@@ -64,13 +71,18 @@ fn push_node(
     write!(text, "{path} {document}\n")
 }
 
-/// The path of each node and its document, one a line.
-pub(crate) fn nodes_text(hierarchy: &Hierarchy, alloc: Global) -> Result<String, AllocError> {
+// The path of each node and its document, one a line.
+fn lines_text(nodes: &[(NodePath, NodeMetadata)], alloc: Global) -> Result<String, AllocError> {
     let mut text = String::new(alloc);
-    for (path, metadata) in hierarchy.nodes() {
+    for (path, metadata) in nodes {
         push_node(&mut text, alloc, path, metadata)?;
     }
     Ok(text)
+}
+
+/// The path of each node of a hierarchy and its document, one a line.
+pub(crate) fn nodes_text(hierarchy: &Hierarchy, alloc: Global) -> Result<String, AllocError> {
+    lines_text(hierarchy.nodes(), alloc)
 }
 
 // The same of the map of a hierarchy.
@@ -189,7 +201,21 @@ fn opened_tree(
     tree_at(&Discard, alloc, store, &path, &version, config)
 }
 
-// What is seen of what is opened at a path of a store, by a version and a policy. `LOOK | PATH | VERSION | POLICY | STORE`.
+// The hierarchy of the nodes that are listed below a path of a store.
+fn gathered(
+    alloc: Global,
+    store: &MemoryStore,
+    path: &str,
+    version: &str,
+) -> Result<Hierarchy, NodeCreateError> {
+    let path = NodePath::new(alloc, path)?;
+    let version = version_of(alloc, version)?;
+    let nodes = get_all_nodes_of(&Discard, alloc, store, &path, &version)?;
+    Ok(Hierarchy::from_ascending(nodes))
+}
+
+// What is seen of what is opened at a path of a store, by a version and a policy, or of all nodes that are listed below it for `gathered`.
+// `LOOK | PATH | VERSION | POLICY | STORE`.
 fn opened(alloc: Global, given: &str) -> Result<String, GroupCreateError> {
     let (word, rest) = fields(given);
     let (path, rest) = fields(rest);
@@ -203,6 +229,7 @@ fn opened(alloc: Global, given: &str) -> Result<String, GroupCreateError> {
             opened_tree(alloc, &store, path, version, &config),
             printed,
         ),
+        "gathered" => said(alloc, gathered(alloc, &store, path, version), nodes_text),
         word => seen(
             alloc,
             opened_by(alloc, &store, path, version, &config),
@@ -255,6 +282,11 @@ tree | /g | - | must | g/.zgroup=G2 g/.zmetadata={"metadata":{"a/.zattrs":{}},"z
 tree | / | v3 | auto | zarr.json=G3 g/zarr.json=G3 old/.zgroup=G2 => /\n  g\n
 tree | / | any | auto | zarr.json=G3 g/zarr.json=G3 old/.zgroup=G2 => /\n  g\n  old\n
 tree | / | v2 | auto | zarr.json=G3 g/zarr.json=G3 old/.zgroup=G2 => MissingMetadata: Metadata is missing for /
+# all nodes that are listed are a hierarchy, and its nodes below a path stand in one run, in the order of names
+gathered | / | any | auto | zarr.json=G3 a/zarr.json=G3 a/x/zarr.json=A3 a-b/zarr.json=G3 => /a G3\n/a/x A3\n/a-b G3\n
+gathered | /a | any | auto | zarr.json=G3 a/zarr.json=G3 a/x/zarr.json=A3 a-b/zarr.json=G3 => /a/x A3\n
+below /a | / | any | auto | zarr.json=G3 a/zarr.json=G3 a/x/zarr.json=A3 a-b/zarr.json=G3 => /a/x A3\n
+below /a/x | / | any | auto | zarr.json=G3 a/zarr.json=G3 a/x/zarr.json=A3 a-b/zarr.json=G3 =>
 # the tree alone is that of what is opened: a line for each node below the path, by a listing
 tree at | / | any | auto | THREE_LEVELS => /\n  array [10, 10] float32\n  group\n    array [10, 10] float32\n    subgroup\n      mysubarray [10, 10] float32\n
 tree at | /group/subgroup | any | auto | THREE_LEVELS => /group/subgroup\n  mysubarray [10, 10] float32\n

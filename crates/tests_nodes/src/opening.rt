@@ -217,6 +217,8 @@ x/ | must | => NodePathError(Invalid): invalid node path x/
 # a group opens whatever additional fields it has
 / | auto | zarr.json {"node_type":"group","unknown":"unsupported","zarr_format":3} => / {"node_type":"group","unknown":"unsupported","zarr_format":3}\n
 / | auto | zarr.json {"consolidated_metadata":{"kind":"inline","metadata":{}},"node_type":"group","zarr_format":3};a/zarr.json G3 => / {"consolidated_metadata":{"kind":"inline","metadata":{}},"node_type":"group","zarr_format":3}\n
+/ | auto | zarr.json {"consolidated_metadata":{"kind":"inline","metadata":{}},"node_type":"group","zarr_format":3} => / {"consolidated_metadata":{"kind":"inline","metadata":{}},"node_type":"group","zarr_format":3}\n
+/ | must | zarr.json {"consolidated_metadata":{"kind":"inline","metadata":{}},"node_type":"group","zarr_format":3} => / {"consolidated_metadata":{"kind":"inline","metadata":{}},"node_type":"group","zarr_format":3}\n
 "#;
 
 #[test]
@@ -292,7 +294,8 @@ fn opening_by_a_version_warns_of_what_is_passed_over(rt: HostRuntime) -> Result<
     check_rows(rt.alloc(), WARNED, warnings)
 }
 
-// With each allocation refused in turn opening is out of memory or whole, and never without a block; with none refused it is whole.
+// Here no allocation is refused, and opening is whole. Under `bench/alloc`, which refuses each in turn, it is that or out of memory,
+// and never without a block.
 #[test]
 fn an_opening_without_memory_says_so(rt: HostRuntime) -> Result<(), Fail> {
     check_rows(rt.alloc(), WHOLE, opened_by_block_said)

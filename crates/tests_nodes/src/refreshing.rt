@@ -5,7 +5,7 @@ use log::sink::Discard;
 use std::alloc::{AllocError, Global};
 use std::process::Abort;
 use std::test::Fail;
-use tests_fixtures::{ANY, entries_of, entries_text, key_of};
+use tests_fixtures::{ANY, entries_of, entries_text, key_of, no_word};
 use tests_support::{A3, G3, check_rows, fields, said};
 use zarrs_block::{ConsolidatedMetadataMetadata, NodeCreateError};
 use zarrs_meta::{GroupMetadata, GroupMetadataV3, NodeMetadata};
@@ -46,7 +46,7 @@ fn refreshed<S: ReadableStorageTraits + ListableStorageTraits>(
     let base = NodePath::new(alloc, base)?;
     let path = NodePath::new(alloc, path)?;
     if !path.is_below(&base) {
-        return Err(NodeCreateError::MetadataVersionMismatch);
+        return Err(NodeCreateError::from(no_word(alloc, "a path below the base")));
     }
     refresh_block(alloc, store, &base, &ANY, block, &path)
 }
@@ -112,7 +112,7 @@ fn owned_given(alloc: Global, given: &str) -> Result<Block, NodeCreateError> {
     let base = NodePath::new(alloc, base)?;
     let path = NodePath::new(alloc, path)?;
     if !path.is_below(&base) {
-        return Err(NodeCreateError::MetadataVersionMismatch);
+        return Err(NodeCreateError::from(no_word(alloc, "a path below the base")));
     }
     refresh_owned_block(alloc, &store, &base, &ANY, block, &path)
 }
@@ -239,7 +239,7 @@ fn a_fresh_block_is_whole_or_memory_is_wanting(rt: HostRuntime) -> Result<(), Fa
     check_rows(rt.alloc(), CHANGED_TWICE, changed_said)
 }
 
-// With none refused it is whole.
+// Here no allocation is refused, and the block is whole. Under `bench/alloc` it is that or out of memory.
 const CHANGED_TWICE: &str = r#"
 /group/subgroup | three levels | two erased | one set again => array A3_SQUARE\ngroup G3\ngroup/array A3_SQUARE\ngroup/subgroup G3\ngroup/subgroup/mysubarray A3_SQUARE\n
 "#;

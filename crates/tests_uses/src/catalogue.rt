@@ -3,13 +3,13 @@
 use log::sink::Discard;
 use std::alloc::{AllocError, Global};
 use std::test::Fail;
-use tests_fixtures::{config_of, keys_text, store_of};
+use tests_fixtures::{config_of, document_of, keys_text, store_of};
 use tests_support::{A3, G3, check_rows, refusal, said};
 use zarrs_block::NodeCreateError;
 use zarrs_config::{Config, MetadataRetrieveVersion, UseConsolidatedMetadata};
 use zarrs_node::Node;
 use zarrs_path::NodePath;
-use zarrs_store::MemoryStore;
+use zarrs_store::{MemoryStore, StorageError};
 use zarrs_uses::{Catalogue, Change, UpdateError};
 
 // The group, with the block of the nodes below it.
@@ -41,13 +41,13 @@ fn opened(alloc: Global) -> Result<(MemoryStore, Catalogue), NodeCreateError> {
     Ok((store, catalogue))
 }
 
-// The document that a word names, or the text as it is.
-fn document(word: &str) -> &str {
+// The document that a word names, or the text that begins as JSON does.
+fn document<'a>(alloc: Global, word: &'a str) -> Result<&'a str, StorageError> {
     match word {
-        "g3" => G3,
-        "a3" => A3,
-        "waves" => WAVES,
-        text => text,
+        "g3" => Ok(G3),
+        "a3" => Ok(A3),
+        "waves" => Ok(WAVES),
+        word => document_of(alloc, word),
     }
 }
 
@@ -64,7 +64,7 @@ fn changes_in(alloc: Global, list: &str) -> Result<Vec<Change>, NodeCreateError>
 
 fn change_in(alloc: Global, item: &str) -> Result<Change, NodeCreateError> {
     let (path, document) = match item.split_once(' ') {
-        Some((path, word)) => (path, Some(document(word).as_bytes().to_vec(alloc)?)),
+        Some((path, word)) => (path, Some(document(alloc, word)?.as_bytes().to_vec(alloc)?)),
         None => (item, None),
     };
     let path = NodePath::new(alloc, path)?;
