@@ -69,7 +69,7 @@ pub(crate) fn set_in(
     Ok(())
 }
 
-/// The node at a path, of a document, over some children.
+// The node at a path, of a document, over some children.
 fn node_over(
     alloc: Global,
     path: &str,
