@@ -5,4 +5,4 @@ use Rattle.zarrs_survey.proofs.comparison.Comparison.take_first.Given as goal
 
 -- the nodes before the index were compared, and the group is the same
 abbrev pub invariant-loop-path : goal.invariant-loop-path
-invariant-loop-path l = (l.self.group ≡ l.initial.self.group) × (done : List Pair) × (l.path-items ≡ done ++ drop l.path-index l.path-items) × IsNextOf l.initial.self done l.self
+invariant-loop-path l = (l.self.group ≡ l.fn.self.group) × (done : List Pair) × (l.nodes ≡ done ++ drop l.path-index l.nodes) × IsNextOf l.fn.self done l.self
