@@ -34,10 +34,10 @@ found_path es p i d level = (equal_order (get_or es i d).0 p).0 (level d)
 -- ---- the group at a path
 
 -- where halving finds the path, there is a group exactly if the node is one
-pub found_group : (es : List Pair) (p : Path) (i : ℕ) (x : Pair) → Ascend es → i < length es → HoldsAt (λ e. path_cmp e.0 p ≡ Equal) es i → x ≡ get_or es i x → IsTrue (is_group x.1) ↔ HasGroup (Contains es) p
-found_group es p i x up inside level is =
-    let at : x.0 ≡ p = ap (λ (e : Pair). e.0) is ∙ found_path es p i x level in
-    let in' : Contains es (p, x.1) = subst (λ q. Contains es (q, x.1)) at (subst (Contains es) (sym is) (Contains-get_or es i x inside)) in (
+pub found_group : (es : List Pair) (p : Path) (i : ℕ) (d : Pair) → Ascend es → i < length es → HoldsAt (λ e. path_cmp e.0 p ≡ Equal) es i → IsTrue (is_group (get_or es i d).1) ↔ HasGroup (Contains es) p
+found_group es p i d up inside level =
+    let x : Pair = get_or es i d in
+    let in' : Contains es (p, x.1) = subst (λ q. Contains es (q, x.1)) (found_path es p i d level) (Contains-get_or es i d inside) in (
       λ t. (x.1, in', t),
       λ g. subst (λ m. IsTrue (is_group m)) (only_one path_cmp path_total es up p g.0 x.1 g.1 in') g.2,
     )

@@ -1,8 +1,6 @@
-use Rattle.std.proofs.Common.{◌≡◌, ◌∙◌, ◌++◌, Ok, drop, take, length, sym, ap, subst}
+use Rattle.std.proofs.Common.{◌≡◌, ◌∙◌, ◌++◌, ◌-◌, Ok, drop, take, length, sym, ap, subst}
 use Rattle.std.proofs.lemmas.List.{take_rest, take-append-drop}
 use Rattle.zarrs_node.specs.Order.{Ascend}
-use Rattle.zarrs_survey.specs.Findings.{Pair}
-use Rattle.zarrs_survey.specs.StepsOfChecks.{HasBad}
 use Rattle.zarrs_survey.specs.StepsOfComparing.{IsPlaceBehind, StandBehind}
 use Rattle.zarrs_survey.specs.StepsOfComparisons.{IsStart, IsNextOf}
 use Rattle.zarrs_survey.proofs.Checking.{told_end}
@@ -13,12 +11,37 @@ use Rattle.zarrs_survey.proofs.block.compare_block.Goals as goal
 pub take_first-requires-clause-ascending : goal.take_first-requires-clause-ascending
 take_first-requires-clause-ascending c =
     let es = c.args.survey.now.nodes.items in
+    let g = c.args.group.now in
+    let ys = c.deref-2.result.now in
     let n = c.place_behind-start.result in
-    let at : IsPlaceBehind es c.args.group.now n = subst (λ xs. IsPlaceBehind xs c.args.group.now n) c.deref.ensures.value c.place_behind-start.ensures in
-    subst Ascend (sym (ap (drop n) c.deref-2.ensures.value)) (rest_ascends es c.args.group.now n at c.args.survey.now.nodes_ascend)
+    let at : IsPlaceBehind es g n = subst (λ xs. IsPlaceBehind xs g n) c.deref.ensures.value c.place_behind-start.ensures in
+    subst Ascend (sym (take_rest ys n ∙ ap (drop n) c.deref-2.ensures.value)) (rest_ascends es g n at c.args.survey.now.nodes_ascend)
 
 pub take_first-requires-clause-behind : goal.take_first-requires-clause-behind
-take_first-requires-clause-behind c = ?
+take_first-requires-clause-behind c =
+    let es = c.args.survey.now.nodes.items in
+    let g = c.args.group.now in
+    let ys = c.deref-2.result.now in
+    let n = c.place_behind-start.result in
+    let first = c.in_ok-comparison.comparison in
+    let at : IsPlaceBehind es g n = subst (λ xs. IsPlaceBehind xs g n) c.deref.ensures.value c.place_behind-start.ensures in
+    let start : IsStart c.args.block.metadata g first = subst (λ q. IsStart c.args.block.metadata q first) c.in_ok-try_clone.ensures.ok c.in_ok-comparison.ensures in
+    subst (StandBehind first.group) (sym (take_rest ys n ∙ ap (drop n) c.deref-2.ensures.value)) (subst (λ q. StandBehind q (drop n es)) (sym start.group) (rest_behind es g n at))
 
 pub returns-clause-findings : goal.returns-clause-findings
-returns-clause-findings c = ?
+returns-clause-findings c =
+    let B = c.args.block.metadata in
+    let es = c.args.survey.now.nodes.items in
+    let g = c.args.group.now in
+    let ys = c.deref-2.result.now in
+    let n = c.place_behind-start.result in
+    let first = c.in_ok-comparison.comparison in
+    let now = c.take_first.new.self in
+    let at : IsPlaceBehind es g n = subst (λ xs. IsPlaceBehind xs g n) c.deref.ensures.value c.place_behind-start.ensures in
+    let start : IsStart B g first = subst (λ q. IsStart B q first) c.in_ok-try_clone.ensures.ok c.in_ok-comparison.ensures in
+    let next : IsNextOf first (drop n es) now = subst (λ xs. IsNextOf first xs now) (take_rest ys n ∙ ap (drop n) c.deref-2.ensures.value) c.in_ok-take_first.ensures in
+    let all : HasCompared es g B now =
+    subst (λ xs. HasCompared xs g B now) (take-append-drop n es)
+    (compared_all (take n es) (drop n es) g B first now (compared_first (take n es) g B first (none_before es g n at) start) next) in
+    let told = told_end es c.args.survey.now.nodes_ascend c.args.survey.now.bad_documents g now c.in_ok-found.found.items c.in_ok-found.ensures (Ok B) all in
+    record { exact = told.exact; ascend = told.ascend }

@@ -8,8 +8,8 @@ use Rattle.zarrs_survey.proofs.block.has_group_among.Goals as goal
 pub returns-in-Ok : goal.returns-in-Ok
 returns-in-Ok c =
     let facts = c.in-Ok.ensures in
-    let w = found_group c.args.nodes.now c.args.path.now c.in-Ok.place c.index-nodes-place.result.now c.requires.ascending facts.bound
-    (facts.position (λ e. path_cmp e.0 c.args.path.now) (always_returns_same _ _ _ (λ a r h called. (search rules, search rules)))) c.index-nodes-place.ensures in
+    let w = found_group c.args.nodes.now c.args.path.now c.in-Ok.place c.index-nodes-place.result c.requires.ascending facts.bound
+    (facts.position (λ e. path_cmp e.0 c.args.path.now) (always_returns_same _ _ _ (λ a r h called. (search rules, search rules)))) in
     (λ t. w.0 (sym c.is_group.ensures ∙ t), λ has. c.is_group.ensures ∙ w.1 has)
 
 pub returns-in-Err : goal.returns-in-Err

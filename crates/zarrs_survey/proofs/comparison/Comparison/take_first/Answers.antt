@@ -12,7 +12,7 @@ use Rattle.zarrs_survey.proofs.UnderWay.{next_more, next_rest}
 use Rattle.zarrs_survey.proofs.comparison.Comparison.take_first.Goals as goal
 
 pub loop-path-init : goal.loop-path-init
-loop-path-init c = (refl, ([], refl, refl))
+loop-path-init c = (refl, [], refl, refl)
 
 pub loop-path-preserved : goal.loop-path-preserved
 loop-path-preserved c =
@@ -24,11 +24,9 @@ loop-path-preserved c =
     let next = c.in_ok-take.ensures in
     let here : drop i xs ≡ x ∷ drop (i + 1) xs = left_at i xs x c.loop-path-test.true c.loop-path-item.is in (
       next.one.group ∙ h.0,
-      (
-        h.1 ++ x ∷ [],
-        h.2 ∙ ap (λ ys. h.1 ++ ys) here ∙ sym (append_assoc h.1 (x ∷ []) (drop (i + 1) xs)),
-        next_more c.args.self.now h.1 was x c.take.new.self h.3 (inl (c.is_above.ensures.0 c.if-not-is_above.false, next)),
-      ),
+      h.1 ++ x ∷ [],
+      h.2 ∙ ap (λ ys. h.1 ++ ys) here ∙ sym (append_assoc h.1 (x ∷ []) (drop (i + 1) xs)),
+      next_more c.args.self.now h.1 was x c.take.new.self h.3 (inl (c.is_above.ensures.0 c.if-not-is_above.false, next)),
     )
 
 pub returns-then-not-is_above : goal.returns-then-not-is_above
