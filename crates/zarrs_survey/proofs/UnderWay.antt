@@ -7,24 +7,21 @@ use Rattle.std.specs.Ordering.{ordering_index}
 use Rattle.zarrs_path.specs.Paths.{Path, path_cmp, IsBelow}
 use Rattle.zarrs_meta.specs.Node.{is_group}
 use Rattle.zarrs_meta.specs.declared.node.NodeMetadata.{NodeMetadata}
-use Rattle.zarrs_block.specs.Block.{Block}
 use Rattle.zarrs_block.specs.declared.node_create_error.NodeCreateError.{NodeCreateError}
-use Rattle.zarrs_node.specs.Order.{Ascend}
 use Rattle.zarrs_node.proofs.Found.{all_pairs_first, all_pairs_tail, all_pairs_append}
 use Rattle.zarrs_node.proofs.Graft.{Contains-first, Contains-cons}
 use Rattle.zarrs_node.proofs.Order.{contains_cases}
-use Rattle.zarrs_survey.specs.Findings.{Pair, IsSpoilt, IsPathFinding, AreFindings}
+use Rattle.zarrs_survey.specs.Findings.{Pair, IsSpoilt, IsPathFinding}
 use Rattle.zarrs_survey.specs.StepsOfChecks.{HasBad}
 use Rattle.zarrs_survey.specs.StepsOfComparing.{ArePathFindings, AreBelow, HangsFrom, IsBeforeFirst, IsPairKind, findings_at}
-use Rattle.zarrs_survey.specs.StepsOfComparisons.{IsEnd, IsExcusedBy, IsKeptOf, IsNext, IsNextBelow, IsNextOf, IsOneBlock, IsStart, IsUnderWay, IsUnmoved, NoneBad, PassesLone, PassesPair, PutsKept}
+use Rattle.zarrs_survey.specs.StepsOfComparisons.{IsEnd, IsExcusedBy, IsKeptOf, IsNext, IsNextBelow, IsNextOf, IsOneBlock, IsUnderWay, IsUnmoved, NoneBad, PassesLone, PassesPair, PutsKept}
 use Rattle.zarrs_survey.specs.StepsOfMerging.{HoldsUpTo}
 use Rattle.zarrs_survey.specs.declared.comparison.Comparison.{Comparison}
 use Rattle.zarrs_survey.specs.declared.finding.Finding.{Finding}
 use Rattle.zarrs_survey.specs.declared.finding.FindingKind.{FindingKind}
 use Rattle.zarrs_survey.specs.declared.finding.FindingKind.TheVariants.{BlockFault, BadKey, Shadowed, Unreachable, Stale, Differs, Missing}
 use Rattle.zarrs_survey.proofs.Above.{earlier_after}
-use Rattle.zarrs_survey.proofs.Blocks.{found_all}
-use Rattle.zarrs_survey.proofs.Comparing.{finding, holds_none, entry_turn, node_turn, both_turn, by_end}
+use Rattle.zarrs_survey.proofs.Comparing.{finding, entry_turn, node_turn, both_turn, by_end}
 use Rattle.zarrs_survey.proofs.LastGroup.{group_or_not}
 
 -- ---- what comes first

@@ -1,4 +1,4 @@
-use Rattle.std.proofs.Common.{◌≡◌, ◌∙◌, ◌++◌, ◌-◌, Ok, drop, take, length, sym, ap, subst}
+use Rattle.std.proofs.Common.{◌∙◌, Ok, drop, take, sym, ap, subst}
 use Rattle.std.proofs.lemmas.List.{take_rest, take-append-drop}
 use Rattle.zarrs_node.specs.Order.{Ascend}
 use Rattle.zarrs_survey.specs.StepsOfComparing.{IsPlaceBehind, StandBehind}

@@ -1,11 +1,10 @@
-use Rattle.std.proofs.Common.{◌≡◌, ◌∙◌, ◌+◌, ◌++◌, ◌∷◌, [], drop, inl, refl, sym, ap, subst, arith, append_assoc, append-nil, true≢false, Contains, Less}
+use Rattle.std.proofs.Common.{◌≡◌, ◌∙◌, ◌+◌, ◌++◌, ◌∷◌, [], drop, inl, refl, sym, ap, subst, append_assoc, append-nil, true≢false, Contains, Less}
 use Rattle.std.proofs.lemmas.List.{drop_all}
 use Rattle.zarrs_store.proofs.Ranges.{left_at}
-use Rattle.zarrs_path.specs.Paths.{path_cmp, IsBelow}
+use Rattle.zarrs_path.specs.Paths.{path_cmp}
 use Rattle.zarrs_node.specs.Order.{Ascend}
 use Rattle.zarrs_node.proofs.Graft.{Contains-first}
 use Rattle.std.proofs.lemmas.List.Elements.{Contains-append_right}
-use Rattle.zarrs_survey.specs.Findings.{Pair}
 use Rattle.zarrs_survey.specs.StepsOfComparisons.{IsNextOf}
 use Rattle.zarrs_survey.proofs.NodeRuns.{none_behind, back_ascends}
 use Rattle.zarrs_survey.proofs.UnderWay.{next_more, next_rest}
