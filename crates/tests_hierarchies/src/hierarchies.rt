@@ -287,6 +287,10 @@ gathered | / | any | auto | zarr.json=G3 a/zarr.json=G3 a/x/zarr.json=A3 a-b/zar
 gathered | /a | any | auto | zarr.json=G3 a/zarr.json=G3 a/x/zarr.json=A3 a-b/zarr.json=G3 => /a/x A3\n
 below /a | / | any | auto | zarr.json=G3 a/zarr.json=G3 a/x/zarr.json=A3 a-b/zarr.json=G3 => /a/x A3\n
 below /a/x | / | any | auto | zarr.json=G3 a/zarr.json=G3 a/x/zarr.json=A3 a-b/zarr.json=G3 =>
+below / | / | any | auto | zarr.json=G3 a/zarr.json=G3 a/x/zarr.json=G3 a-b/zarr.json=G3 => /a G3\n/a/x G3\n/a-b G3\n
+below /a | / | any | auto | zarr.json=G3 a/zarr.json=G3 a/x/zarr.json=G3 a/y/zarr.json=G3 a-b/zarr.json=G3 b/zarr.json=G3 => /a/x G3\n/a/y G3\n
+below /0 | / | any | auto | zarr.json=G3 a/zarr.json=G3 =>
+below /b | / | any | auto | zarr.json=G3 a/zarr.json=G3 b/zarr.json=G3 b/x/zarr.json=G3 => /b/x G3\n
 # the tree alone is that of what is opened: a line for each node below the path, by a listing
 tree at | / | any | auto | THREE_LEVELS => /\n  array [10, 10] float32\n  group\n    array [10, 10] float32\n    subgroup\n      mysubarray [10, 10] float32\n
 tree at | /group/subgroup | any | auto | THREE_LEVELS => /group/subgroup\n  mysubarray [10, 10] float32\n
