@@ -5,7 +5,7 @@ use crate::asserts::{assert_ran, assert_text};
 use crate::folder::load_folder;
 use crate::tests::{GROUP, USAGE, words};
 use log::sink::Writer;
-use log::{Level, Logged};
+use log::{Level, Log, Logged};
 use std::alloc::AllocError;
 use std::rt::Files;
 use std::{fs, io};
@@ -48,11 +48,16 @@ fn run(rt: &HostRuntime, texts: &[&str]) -> Result<(String, String, u8), AllocEr
     ))
 }
 
+// What loading a folder answers.
+fn loaded_said<R: Log + Files + AllocGlobal>(rt: &R, folder: &str) -> Option<String> {
+    let answer = load_folder(rt, folder);
+    loaded(rt.alloc(), &answer)
+}
+
 // What loading a folder answers, and the warnings.
 fn load<R: Files + AllocGlobal>(rt: &R, folder: &str) -> Option<(String, String)> {
     let sink = Writer::new(Vec::new(rt.alloc()));
-    let answer = load_folder(&Logged::new(rt, Level::Warn, &sink), folder);
-    let said = loaded(rt.alloc(), &answer)?;
+    let said = loaded_said(&Logged::new(rt, Level::Warn, &sink), folder)?;
     let warnings = String::from_utf8_lossy(rt.alloc(), &sink.into_inner()).ok()?;
     Some((said, warnings))
 }
