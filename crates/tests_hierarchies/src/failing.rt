@@ -431,37 +431,55 @@ fn a_listing_fails_where_it_comes_to_the_key(rt: HostRuntime) -> Result<(), Fail
     check_rows(rt.alloc(), BELOW_A_KEY, below_a_key)
 }
 
-// What a call answers of three levels, whose store fails as it lists a prefix: `node` and `hierarchy` open the root, `traversed` is asked of
-// the group there, and `children` of the group `/group` with the block of all below it, over a store without documents. `CALL | PREFIX`.
-fn over_a_prefix(alloc: Global, given: &str) -> Result<String, GroupCreateError> {
-    let (call, prefix) = fields(given);
-    let list = if call == "children" {
-        "-"
-    } else {
-        "THREE_LEVELS"
-    };
-    let store = failing(alloc, list, ("list", prefix))?;
-    let whole = store_in(alloc, "THREE_LEVELS")?;
+// What opening the root answers by default: as a node for `node`, else as a hierarchy.
+fn opened_at_root(alloc: Global, store: &FaultStore, call: &str) -> Result<String, AllocError> {
     let config = Config::new();
-    let group = match call {
-        "node" => {
-            let node = Node::open(&Discard, alloc, &store, "/", &config);
-            return Ok(said(alloc, node, tree_text)?);
-        }
-        "hierarchy" => {
-            let hierarchy = Hierarchy::open(&Discard, alloc, &store, "/", &config);
-            return Ok(said(alloc, hierarchy, hierarchy_text)?);
-        }
-        "traversed" => Group::open(alloc, &whole, "/", &config),
+    if call == "node" {
+        let node = Node::open(&Discard, alloc, store, "/", &config);
+        return said(alloc, node, tree_text);
+    }
+    let hierarchy = Hierarchy::open(&Discard, alloc, store, "/", &config);
+    said(alloc, hierarchy, hierarchy_text)
+}
+
+// The group that a call is asked of: that at the root for `traversed`, and that at `/group` with the block of all below it for `children`.
+fn group_for(alloc: Global, call: &str) -> Result<Group, GroupCreateError> {
+    let whole = store_in(alloc, "THREE_LEVELS")?;
+    match call {
+        "traversed" => Group::open(alloc, &whole, "/", &Config::new()),
         "children" => consolidated(alloc, &whole, "/group"),
         word => Err(GroupCreateError::from(no_word(alloc, word))),
-    };
-    let text = said(
+    }
+}
+
+// What a call answers of its group over a store.
+fn group_said(alloc: Global, store: &FaultStore, call: &str) -> Result<String, AllocError> {
+    let config = Config::new();
+    let group = group_for(alloc, call);
+    said(
         alloc,
         group,
-        |group: &Group, alloc| call_text(group, alloc, &store, call, &config),
-    );
-    Ok(text?)
+        |group: &Group, alloc| call_text(group, alloc, store, call, &config),
+    )
+}
+
+// The documents of the store over which a call is asked: none for `children`, whose group has a block.
+fn list_for(call: &str) -> &'static str {
+    match call {
+        "children" => "-",
+        _ => "THREE_LEVELS",
+    }
+}
+
+// What a call answers of three levels, whose store fails as it lists a prefix: `node` and `hierarchy` open the root, and the others are
+// asked of a group. `CALL | PREFIX`.
+fn over_a_prefix(alloc: Global, given: &str) -> Result<String, GroupCreateError> {
+    let (call, prefix) = fields(given);
+    let store = failing(alloc, list_for(call), ("list", prefix))?;
+    match call {
+        "node" | "hierarchy" => Ok(opened_at_root(alloc, &store, call)?),
+        call => Ok(group_said(alloc, &store, call)?),
+    }
 }
 
 const OVER_A_PREFIX: &str = r#"
