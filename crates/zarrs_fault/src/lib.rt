@@ -2,5 +2,7 @@
 #![tactic(auto)]
 
 mod fault;
+mod numbers;
 
 pub use fault::{MemberName, MetadataFault};
+pub use numbers::Numbers;
