@@ -7,12 +7,12 @@ use Rattle.std.proofs.lemmas.List.{get_or-map, length-map}
 use Rattle.std.proofs.lemmas.List.Elements.{All-nil, All-cons, All-head, All-tail}
 use Rattle.std.proofs.lemmas.List.Kept.{AllPairs-cons}
 use Rattle.zarrs_store.specs.Segments.{Segments, key_cmp, bytes_cmp, last_segment, is_reserved, IsSegment}
-use Rattle.zarrs_store.specs.Contents.{Contents, HasKey, HasBelow}
+use Rattle.zarrs_store.specs.Contents.{Values, HasKey, HasBelow}
 use Rattle.zarrs_store.specs.Children.{IsVisibleChild, AreVisibleChildren}
 use Rattle.zarrs_store.proofs.ChildLemmas.{last_segment-child, key_cmp-child}
 
 -- either some key stands below p, or p has no document of this name
-pub key_or_none : (s : Contents) (p : Segments) (f : List ℕ) → HasBelow s p ⊎ (None ≡ get s (p ++ f ∷ []))
+pub key_or_none : (s : Values) (p : Segments) (f : List ℕ) → HasBelow s p ⊎ (None ≡ get s (p ++ f ∷ []))
 key_or_none s p f =
     elim (get s (p ++ f ∷ [])) as (λ o. get s (p ++ f ∷ []) ≡ o → HasBelow s p ⊎ (None ≡ get s (p ++ f ∷ []))) [
       | Some bytes ↦ λ e. inl (f, [], ap is_some e)
@@ -25,7 +25,7 @@ last_segment_is [] n h = All-head IsSegment n [] h
 last_segment_is (m ∷ p) n h = last_segment_is p n (All-tail IsSegment m (p ++ n ∷ []) h)
 
 -- the further segments behind p, those that begin with `__` left out, ascending
-pub record IsChildren (s : Contents) (p ns : Segments) : Type 0 where
+pub record IsChildren (s : Values) (p ns : Segments) : Type 0 where
   pub found : (n : List ℕ) → Contains ns n ↔ (IsFalse (is_reserved n) × HasBelow s (p ++ n ∷ []))
   pub ascending : AllPairs (λ m n. bytes_cmp m n ≡ Less) ns
 
@@ -40,7 +40,7 @@ unfolding IsStrictlySortedBy
 strictly_at R [] h = λ i j d l m. absurd (omega (arith, m))
 strictly_at R (k ∷ ks) h = AllPairs-cons (λ x y. R x y ≡ Less) k ks (all_from (λ y. R k y ≡ Less) ks h.0) (strictly_at R ks h.1)
 
-module _ (s : Contents) (b : Segments) where
+module _ (s : Values) (b : Segments) where
   -- a child's last segment is its name
   name_is : (c : Segments) (v : IsVisibleChild s b c) → last_segment c ≡ v.name
   name_is c v = ap last_segment v.is ∙ last_segment-child b v.name
@@ -99,7 +99,7 @@ module _ (s : Contents) (b : Segments) where
     children_are = record { found = λ n. (found_child n, λ h. child_found n h.0 h.1); ascending = ascend }
 
 -- the children that were discovered below the prefix of a path, as a slice
-pub children_of : (s : Contents) (b base : Segments) (cs slice : List Segments) → base ≡ b → slice ≡ cs → AreVisibleChildren s base cs → AreVisibleChildren s b slice
+pub children_of : (s : Values) (b base : Segments) (cs slice : List Segments) → base ≡ b → slice ≡ cs → AreVisibleChildren s base cs → AreVisibleChildren s b slice
 children_of s b base cs slice e f h = subst (AreVisibleChildren s b) (sym f) (subst (λ x. AreVisibleChildren s x cs) e h)
 
 -- past the last child all names were taken

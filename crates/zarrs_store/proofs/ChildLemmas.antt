@@ -12,7 +12,7 @@ use Rattle.std.proofs.lemmas.List.Sorted.{All-permutation, Contains-permutation}
 use Rattle.std.proofs.lemmas.List.Elements.{All-filter, filter_passes}
 use Rattle.std.proofs.lemmas.List.Kept.{AllPairs-filter}
 use Rattle.zarrs_store.specs.Segments.{Segments, bytes_cmp, key_cmp, last_segment, is_reserved}
-use Rattle.zarrs_store.specs.Contents.{Contents, Lists, IsChildPrefix}
+use Rattle.zarrs_store.specs.Contents.{Values, Lists, IsChildPrefix}
 use Rattle.zarrs_store.specs.Children.{IsVisibleChild, AreVisibleChildren}
 use Rattle.zarrs_store.specs.StepsOfStores.{is_visible}
 use Rattle.zarrs_store.proofs.Ascending.{strictly_from_sorted}
@@ -62,7 +62,7 @@ not_true : (b : Bool) → not b ≡ true → b ≡ false
 not_true true e = cc
 not_true false e = refl
 
-module _ (S : Contents) (p : Segments) where
+module _ (S : Values) (p : Segments) where
   name_of : (c : Segments) (name : List ℕ) → c ≡ p ++ name ∷ [] → last_segment c ≡ name
   name_of c name is = ap last_segment is ∙ last_segment-child p name
 

@@ -3,7 +3,7 @@
 use Rattle.std.specs.Prelude.{ℕ, ◌/◌, List, length, take}
 use Rattle.std.specs.FinMap as map
 use Rattle.zarrs_store.specs.Segments.{Segments}
-use Rattle.zarrs_store.specs.Contents.{Contents}
+use Rattle.zarrs_store.specs.Contents.{Values}
 use Rattle.zarrs_store.specs.declared.fault_store.FaultAt.{FaultAt}
 
 -- the entries of the store in memory, and the one place at which it fails
@@ -12,7 +12,7 @@ pub record Failing : Type 0 where
   pub place : FaultAt
 
 -- a failing store holds what its store in memory holds
-abbrev pub inner_contents : Failing → Contents
+abbrev pub inner_contents : Failing → Values
 inner_contents s = map.from_entries s.inner
 
 -- the first half of these bytes: half their number, rounded down

@@ -24,7 +24,8 @@ pub fn discover_children<S: ListableStorageTraits>(
     prefix: &StorePrefix,
 ) -> Result<Vec<StorePrefix>, StorageError>
     ensures ok { IfOk result
-        (λ children. AreVisibleChildren (S.contents storage.now) prefix.now children.items) }
+        (λ children. AreVisibleChildren
+        (S.contents storage.now).values prefix.now children.items) }
     ensures err { IfErr result (IsStoreError (S.can_fail storage.now)) }
 {
     let mut children = storage.list_child_prefixes(alloc, prefix)?;

@@ -2,6 +2,7 @@
 ghost use Rattle.std.specs.Prelude.{◌≡◌, ◌≢◌, ◌↔◌, IsTrue, [], IsOk, IsErr, OnOk, OnErr, IfOk, IfErr, true};
 ghost use Rattle.std.specs.Option.{option_map};
 ghost use Rattle.std.specs.FinMap as map;
+ghost use Rattle.zarrs_fault.specs.declared.numbers.Numbers.TheVariants.{Whole};
 ghost use Rattle.zarrs_store.specs.Contents.{HasKey, Lists, IsKeyBelow, IsChildKey, IsChildPrefix, AgreesExceptAt};
 ghost use Rattle.zarrs_store.specs.FailingStores.{inner_contents, first_half};
 ghost use Rattle.zarrs_store.specs.Faults.{IsStoreError};
@@ -15,6 +16,7 @@ use crate::store::{
 };
 use std::alloc::Global;
 use std::marker::Model;
+use zarrs_fault::Numbers;
 
 /// The one place at which a `FaultStore` fails.
 ///
@@ -147,9 +149,14 @@ impl FaultStore {
 }
 
 impl Store for FaultStore {
-    ghost contents = { inner_contents };
+    ghost contents = { λ s. record { values = inner_contents s; numbers = Whole } };
 
     ghost can_fail = { λ _. true };
+
+    /// Whole numbers only.
+    fn numbers(&self) -> Numbers {
+        Numbers::Whole
+    }
 }
 
 impl ReadableStorageTraits for FaultStore {
@@ -159,7 +166,8 @@ impl ReadableStorageTraits for FaultStore {
     /// `StorageError::Fault` exactly where this is the place. `StorageError::OutOfMemory`.
     fn get(&self, alloc: Global, key: &StoreKey) -> Result<Option<Vec<u8>>, StorageError>
         ensures ok { IfOk result
-            (λ found. option_map (λ v. v.items) found ≡ map.get (inner_contents self.now) key.now) }
+            (λ found. option_map (λ v. v.items) found
+            ≡ map.get (inner_contents self.now) key.now) }
         ensures err { IfErr result (IsStoreError true) }
         ensures place { (result ≡ Err StorageError.Fault)
             ↔ (self.now.place ≡ FaultAt.OnGet key.now) }
@@ -179,7 +187,8 @@ impl ListableStorageTraits for FaultStore {
     fn list(&self, alloc: Global) -> Result<Vec<StoreKey>, StorageError>
         ensures ok { IfOk result (λ keys. Lists (HasKey (inner_contents self.now)) keys.items) }
         ensures err { IfErr result (IsStoreError true) }
-        ensures place { (result ≡ Err StorageError.Fault) ↔ (self.now.place ≡ FaultAt.OnList []) }
+        ensures place { (result ≡ Err StorageError.Fault)
+            ↔ (self.now.place ≡ FaultAt.OnList []) }
     {
         if self.place.is_list_of_all() {
             return Err(StorageError::Fault);
@@ -220,7 +229,8 @@ impl ListableStorageTraits for FaultStore {
         ensures keys { IfOk result
             (λ dir. Lists (IsChildKey (inner_contents self.now) prefix.now) dir.keys.items) }
         ensures prefixes { IfOk result
-            (λ dir. Lists (IsChildPrefix (inner_contents self.now) prefix.now) dir.prefixes.items) }
+            (λ dir. Lists
+            (IsChildPrefix (inner_contents self.now) prefix.now) dir.prefixes.items) }
         ensures err { IfErr result (IsStoreError true) }
         ensures place { (result ≡ Err StorageError.Fault)
             ↔ (self.now.place ≡ FaultAt.OnList prefix.now) }

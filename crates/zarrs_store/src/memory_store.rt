@@ -1,7 +1,7 @@
 ghost use Rattle.std.specs.Prelude.{◌≡◌, ◌≤◌, ◌+◌, ◌*◌, false, [], length, IsOk, OnOk, OnErr, IfOk, IfErr};
 ghost use Rattle.std.specs.Map.{keys_of};
 ghost use Rattle.zarrs_store.specs.Segments.{key_cmp};
-ghost use Rattle.zarrs_store.specs.Contents.{Lists, IsChildKey, IsChildPrefix};
+ghost use Rattle.zarrs_store.specs.Contents.{of_entries, Lists, IsChildKey, IsChildPrefix};
 ghost use Rattle.zarrs_store.specs.Faults.{IsStoreError};
 ghost use Rattle.zarrs_store.specs.Places.{IsKeyAt, IsKeyGap, IsRange, digits, keys_below};
 ghost use Rattle.std.specs.FinMap as map;
@@ -16,6 +16,7 @@ use crate::store::{
 };
 use std::alloc::{AllocError, Global};
 use std::marker::Model;
+use zarrs_fault::Numbers;
 
 /// A store in memory: a vector of keys with their bytes, ascending by the keys' texts. It cannot fail, and a failed write changes nothing.
 ///
@@ -148,9 +149,14 @@ impl MemoryStore {
 }
 
 impl Store for MemoryStore {
-    ghost contents = { λ s. map.from_entries s };
+    ghost contents = { of_entries };
 
     ghost can_fail = { λ _. false };
+
+    /// Whole numbers only.
+    fn numbers(&self) -> Numbers {
+        Numbers::Whole
+    }
 }
 
 impl ReadableStorageTraits for MemoryStore {

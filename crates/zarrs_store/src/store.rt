@@ -1,25 +1,32 @@
-ghost use Rattle.std.specs.Prelude.{◌≡◌, ℕ, List, Bool, IfOk, IfErr, OnOk, OnErr, option_map, Contains};
+ghost use Rattle.std.specs.Prelude.{◌≡◌, Bool, IfOk, IfErr, OnOk, OnErr, option_map};
 ghost use Rattle.std.specs.Option.{option_map};
 ghost use Rattle.std.specs.FinMap as map;
-ghost use Rattle.zarrs_store.specs.Segments.{key_cmp};
-ghost use Rattle.zarrs_store.specs.Contents.{HasKey, Lists, IsKeyBelow, IsChildKey, IsChildPrefix, AgreesExceptAt};
+ghost use Rattle.zarrs_store.specs.Contents.{Contents, HasKey, Lists, IsKeyBelow, IsChildKey, IsChildPrefix, AgreesExceptAt};
 ghost use Rattle.zarrs_store.specs.Faults.{IsStoreError};
 
 use crate::key::StoreKey;
 use crate::prefix::StorePrefix;
 use crate::storage_error::StorageError;
 use std::alloc::Global;
+use zarrs_fault::Numbers;
 
-/// A store: a finite map from keys to bytes, and whether its calls can fail.
+/// A store: a finite map from keys to bytes. It says which numbers its documents may hold, and whether its calls can fail.
 ///
 /// Source: Zarr core specification 3.1, "Abstract store interface".
 /// <https://zarr-specs.readthedocs.io/en/latest/v3/core/index.html#abstract-store-interface>
 pub trait Store {
-    // what the store holds
-    ghost contents: { Self → map.FinMap key_cmp (List ℕ) };
+    // what the store holds, and its numbers
+    ghost contents: { Self → Contents };
 
     // whether a call may answer `Fault`
     ghost can_fail: { Self → Bool };
+
+    /// Which numbers the documents of the store may hold. Who reads the store refuses a document with another.
+    /// It takes no memory.
+    ///
+    /// Source: own.
+    fn numbers(&self) -> Numbers
+        ensures { result ≡ (Self.contents self.now).numbers };
 }
 
 /// A store whose values can be read.
@@ -33,7 +40,8 @@ pub trait ReadableStorageTraits: Store {
     /// `StorageError::Fault`, where the store can fail and did. `StorageError::OutOfMemory`.
     fn get(&self, alloc: Global, key: &StoreKey) -> Result<Option<Vec<u8>>, StorageError>
         ensures ok { IfOk result
-            (λ found. option_map (λ v. v.items) found ≡ map.get (Self.contents self.now) key.now) }
+            (λ found. option_map (λ v. v.items) found
+            ≡ map.get (Self.contents self.now).values key.now) }
         ensures err { IfErr result (IsStoreError (Self.can_fail self.now)) };
 }
 
@@ -59,7 +67,8 @@ pub trait ListableStorageTraits: Store {
     /// # Errors
     /// `StorageError::Fault`, where the store can fail and did. `StorageError::OutOfMemory`.
     fn list(&self, alloc: Global) -> Result<Vec<StoreKey>, StorageError>
-        ensures ok { IfOk result (λ keys. Lists (HasKey (Self.contents self.now)) keys.items) }
+        ensures ok { IfOk result
+            (λ keys. Lists (HasKey (Self.contents self.now).values) keys.items) }
         ensures err { IfErr result (IsStoreError (Self.can_fail self.now)) };
 
     /// The keys that begin with the prefix, each once, in any order.
@@ -72,7 +81,7 @@ pub trait ListableStorageTraits: Store {
         prefix: &StorePrefix,
     ) -> Result<Vec<StoreKey>, StorageError>
         ensures ok { IfOk result
-            (λ keys. Lists (IsKeyBelow (Self.contents self.now) prefix.now) keys.items) }
+            (λ keys. Lists (IsKeyBelow (Self.contents self.now).values prefix.now) keys.items) }
         ensures err { IfErr result (IsStoreError (Self.can_fail self.now)) };
 
     /// The keys and the child prefixes directly below the prefix, each once, in any order.
@@ -85,9 +94,10 @@ pub trait ListableStorageTraits: Store {
         prefix: &StorePrefix,
     ) -> Result<StoreKeysPrefixes, StorageError>
         ensures keys { IfOk result
-            (λ dir. Lists (IsChildKey (Self.contents self.now) prefix.now) dir.keys.items) }
+            (λ dir. Lists (IsChildKey (Self.contents self.now).values prefix.now) dir.keys.items) }
         ensures prefixes { IfOk result
-            (λ dir. Lists (IsChildPrefix (Self.contents self.now) prefix.now) dir.prefixes.items) }
+            (λ dir. Lists
+            (IsChildPrefix (Self.contents self.now).values prefix.now) dir.prefixes.items) }
         ensures err { IfErr result (IsStoreError (Self.can_fail self.now)) };
 
     /// The child prefixes directly below the prefix, each once, in any order: those of `list_dir`, for a caller that wants no keys.
@@ -100,7 +110,8 @@ pub trait ListableStorageTraits: Store {
         prefix: &StorePrefix,
     ) -> Result<Vec<StorePrefix>, StorageError>
         ensures prefixes { IfOk result
-            (λ prefixes. Lists (IsChildPrefix (Self.contents self.now) prefix.now) prefixes.items) }
+            (λ prefixes. Lists
+            (IsChildPrefix (Self.contents self.now).values prefix.now) prefixes.items) }
         ensures err { IfErr result (IsStoreError (Self.can_fail self.now)) }
     {
         Ok(self.list_dir(alloc, prefix)?.prefixes)
@@ -118,11 +129,14 @@ pub trait WritableStorageTraits: Store {
     /// `StorageError::Fault`, where the store can fail and did. `StorageError::OutOfMemory`.
     fn set(&mut self, key: &StoreKey, value: &[u8]) -> Result<(), StorageError>
         ensures ok { OnOk result
-            (Self.contents self.new ≡ map.insert (Self.contents self.old) key.now value.now) }
+            ((Self.contents self.new).values
+            ≡ map.insert (Self.contents self.old).values key.now value.now) }
         ensures err { IfErr result (IsStoreError (Self.can_fail self.old)) }
         ensures others { OnErr result
-            (AgreesExceptAt key.now (Self.contents self.old) (Self.contents self.new)) }
-        ensures nature { Self.can_fail self.new ≡ Self.can_fail self.old };
+            (AgreesExceptAt key.now
+            (Self.contents self.old).values (Self.contents self.new).values) }
+        ensures nature { Self.can_fail self.new ≡ Self.can_fail self.old }
+        ensures numbers { (Self.contents self.new).numbers ≡ (Self.contents self.old).numbers };
 
     /// Removes the key; where the store does not have it, nothing is changed. After an error every other key is as it was; of the key itself nothing is promised.
     ///
@@ -130,9 +144,12 @@ pub trait WritableStorageTraits: Store {
     /// `StorageError::Fault`, where the store can fail and did. `StorageError::OutOfMemory`.
     fn erase(&mut self, key: &StoreKey) -> Result<(), StorageError>
         ensures ok { OnOk result
-            (Self.contents self.new ≡ map.remove (Self.contents self.old) key.now) }
+            ((Self.contents self.new).values
+            ≡ map.remove (Self.contents self.old).values key.now) }
         ensures err { IfErr result (IsStoreError (Self.can_fail self.old)) }
         ensures others { OnErr result
-            (AgreesExceptAt key.now (Self.contents self.old) (Self.contents self.new)) }
-        ensures nature { Self.can_fail self.new ≡ Self.can_fail self.old };
+            (AgreesExceptAt key.now
+            (Self.contents self.old).values (Self.contents self.new).values) }
+        ensures nature { Self.can_fail self.new ≡ Self.can_fail self.old }
+        ensures numbers { (Self.contents self.new).numbers ≡ (Self.contents self.old).numbers };
 }
