@@ -1,5 +1,5 @@
--- What is read of data whose numbers fit: its parts fit too, and so does each value that a form gives.
-use Rattle.std.proofs.Common.{◌≡◌, ℕ, List, ◌∷◌, Bool, true, false, not, ◌&&◌, if◌then◌else◌, Less, Equal, Greater, Ordering, Option, Some, None, Result, Ok, Err, option_map, nat_cmp, refl, ap, ◌∙◌, subst}
+-- What is read of data whose numbers are among some: so are those of its parts, and of each value that a form gives.
+use Rattle.std.proofs.Common.{◌≡◌, ℕ, List, ◌∷◌, Bool, true, false, not, ◌&&◌, ◌||◌, if◌then◌else◌, Less, Equal, Greater, Ordering, Option, Some, None, Result, Ok, Err, option_map, nat_cmp, refl, ap, ◌∙◌, subst}
 use Rattle.std.specs.Prelude.{◌≢◌, IfSome, MatchResult}
 use Rattle.std.specs.Ordering.{match_ordering}
 use Rattle.std.specs.List.{list_all}
@@ -8,12 +8,15 @@ use Rattle.serde_json.specs.Data.{unsigned, negative, float, Data, null, boolean
 use Rattle.serde_json.specs.Find.{get, get_member, as_object}
 use Rattle.serde_json.specs.Written.{has_float, items_have_float, members_have_float}
 use Rattle.zarrs_form.specs.Documents as documents
-use Rattle.zarrs_form.specs.Documents.{NeverLacksMemory, is_own, besides, has_own, document_of, member_or_fault, form_or_fault, required_member, optional_found, optional_member}
+use Rattle.zarrs_form.specs.Documents.{NeverLacksMemory, is_own, besides, has_own, member_or_fault, form_or_fault, required_member, optional_found, optional_member, document_in}
 use Rattle.zarrs_form.specs.Forms as forms
-use Rattle.zarrs_form.specs.Forms.{any, nullable, each, list_of, none_or, fits, unless_absent}
+use Rattle.zarrs_form.specs.Forms.{any, nullable, each, list_of, none_or, fits_in, unless_absent}
 use Rattle.zarrs_fault.specs.declared.fault.MetadataFault.{MetadataFault}
 use Rattle.zarrs_fault.specs.declared.fault.MetadataFault.TheVariants.{NotAnObject, OutOfMemory, UnsupportedNumber}
+use Rattle.zarrs_fault.specs.declared.numbers.Numbers.{Numbers}
+use Rattle.zarrs_fault.specs.declared.numbers.Numbers.TheVariants.{Whole, Any}
 use Rattle.zarrs_form.proofs.MemberLaws.{neither}
+use Rattle.zarrs_form.proofs.AttributeLaws.{not_true}
 
 -- ---- steps that give a value, or none, or a fault
 
@@ -66,27 +69,48 @@ false_not b e = ap not e
 
 -- ---- numbers of parts
 
--- the value of one member fits
-found_fits : (o : Ordering) (d : Data) (rest : Option Data) → has_float d ≡ false → IfSome rest (λ e. has_float e ≡ false) → IfSome (match_ordering o rest (Some d) rest) (λ e. has_float e ≡ false)
-found_fits Less d rest h hs = hs
-found_fits Equal d rest h hs = h
-found_fits Greater d rest h hs = hs
+-- where the first has P, and so has what was found in the others, what is found has it
+found_has : (P : Data → Type 0) (o : Ordering) (d : Data) (rest : Option Data) → P d → IfSome rest P → IfSome (match_ordering o rest (Some d) rest) P
+found_has P Less d rest h hs = hs
+found_has P Equal d rest h hs = h
+found_has P Greater d rest h hs = hs
 
 -- a member of members whose numbers fit
 pub member_fits : (k : List ℕ) (ms : Members) → members_have_float ms ≡ false → IfSome (get_member k ms) (λ e. has_float e ≡ false)
 member_fits k no_members h = tt
 member_fits k (member l d ms) h =
     let parts = neither (has_float d) (members_have_float ms) h in
-    found_fits (slice_cmp nat_cmp k l) d (get_member k ms) parts.0 (member_fits k ms parts.1)
+    found_has (λ e. has_float e ≡ false) (slice_cmp nat_cmp k l) d (get_member k ms) parts.0 (member_fits k ms parts.1)
 
--- a member of data whose numbers fit
-pub get_fits : (k : List ℕ) (d : Data) → has_float d ≡ false → IfSome (get k d) (λ e. has_float e ≡ false)
-get_fits k null h = tt
-get_fits k (boolean b) h = tt
-get_fits k (number n) h = tt
-get_fits k (string s) h = tt
-get_fits k (array ds) h = tt
-get_fits k (object ms) h = member_fits k ms h
+-- the numbers of members are those of the first and of the others
+member_parts : (numbers : Numbers) (k : List ℕ) (d : Data) (ms : Members) → fits_in numbers (object (member k d ms)) ≡ true → (fits_in numbers d ≡ true) × (fits_in numbers (object ms) ≡ true)
+member_parts Whole k d ms h =
+    let parts = neither (has_float d) (members_have_float ms) (not_true (has_float d || members_have_float ms) h) in
+    (false_not (has_float d) parts.0, false_not (members_have_float ms) parts.1)
+member_parts Any k d ms h = (refl, refl)
+
+-- the numbers of items are those of the first and of the others
+item_parts : (numbers : Numbers) (d : Data) (ds : Items) → fits_in numbers (array (item d ds)) ≡ true → (fits_in numbers d ≡ true) × (fits_in numbers (array ds) ≡ true)
+item_parts Whole d ds h =
+    let parts = neither (has_float d) (items_have_float ds) (not_true (has_float d || items_have_float ds) h) in
+    (false_not (has_float d) parts.0, false_not (items_have_float ds) parts.1)
+item_parts Any d ds h = (refl, refl)
+
+-- a member of members whose numbers are among these
+pub member_fits_in : (numbers : Numbers) (k : List ℕ) (ms : Members) → fits_in numbers (object ms) ≡ true → IfSome (get_member k ms) (λ e. fits_in numbers e ≡ true)
+member_fits_in numbers k no_members h = tt
+member_fits_in numbers k (member l d ms) h =
+    let parts = member_parts numbers l d ms h in
+    found_has (λ e. fits_in numbers e ≡ true) (slice_cmp nat_cmp k l) d (get_member k ms) parts.0 (member_fits_in numbers k ms parts.1)
+
+-- a member of data whose numbers are among these
+pub get_fits : (numbers : Numbers) (k : List ℕ) (d : Data) → fits_in numbers d ≡ true → IfSome (get k d) (λ e. fits_in numbers e ≡ true)
+get_fits numbers k null h = tt
+get_fits numbers k (boolean b) h = tt
+get_fits numbers k (number n) h = tt
+get_fits numbers k (string s) h = tt
+get_fits numbers k (array ds) h = tt
+get_fits numbers k (object ms) h = member_fits_in numbers k ms h
 
 -- a member that fits may be kept or left out
 no_float_kept : (b : Bool) (k : List ℕ) (d : Data) (ms : Members) → has_float d ≡ false → members_have_float ms ≡ false → members_have_float (if b then ms else member k d ms) ≡ false
@@ -99,6 +123,16 @@ no_float-besides names no_members h = refl
 no_float-besides names (member k d ms) h =
     let parts = neither (has_float d) (members_have_float ms) h in
     no_float_kept (is_own names k) k d (besides names ms) parts.0 (no_float-besides names ms parts.1)
+
+-- members that are kept of members whose numbers are among these
+pub fits-besides : (numbers : Numbers) (names : List (List ℕ)) (ms : Members) → fits_in numbers (object ms) ≡ true → fits_in numbers (object (besides names ms)) ≡ true
+fits-besides Whole names ms h = false_not (members_have_float (besides names ms)) (no_float-besides names ms (not_true (members_have_float ms) h))
+fits-besides Any names ms h = refl
+
+-- no members have no number
+pub no_members_fit : (numbers : Numbers) → fits_in numbers (object no_members) ≡ true
+no_members_fit Whole = refl
+no_members_fit Any = refl
 
 -- ---- names of members that are kept
 
@@ -118,55 +152,55 @@ no_own-besides names ms = none_own names names (λ k other. other) ms
 
 -- ---- forms
 
--- the form gives values that pass the test, of data whose numbers fit
-abbrev pub Fitting : {A : Type 0} → (Data → Option A) → (A → Bool) → Type 0
-Fitting form test = (d : Data) → has_float d ≡ false → IfSome (form d) (λ x. test x ≡ true)
+-- the form gives values that pass the test, of data whose numbers are among these
+abbrev pub Fitting : {A : Type 0} → Numbers → (Data → Option A) → (A → Bool) → Type 0
+Fitting numbers form test = (d : Data) → fits_in numbers d ≡ true → IfSome (form d) (λ x. test x ≡ true)
 
 -- an object is kept with its numbers
-pub object_fitting : Fitting as_object (λ ms. fits (object ms))
-object_fitting null h = tt
-object_fitting (boolean b) h = tt
-object_fitting (number n) h = tt
-object_fitting (string s) h = tt
-object_fitting (array ds) h = tt
-object_fitting (object ms) h = false_not (members_have_float ms) h
+pub object_fitting : (numbers : Numbers) → Fitting numbers as_object (λ ms. fits_in numbers (object ms))
+object_fitting numbers null h = tt
+object_fitting numbers (boolean b) h = tt
+object_fitting numbers (number n) h = tt
+object_fitting numbers (string s) h = tt
+object_fitting numbers (array ds) h = tt
+object_fitting numbers (object ms) h = h
 
 -- any value is kept with its numbers
-pub any_fitting : Fitting any fits
-any_fitting d h = false_not (has_float d) h
+pub any_fitting : (numbers : Numbers) → Fitting numbers any (λ d. fits_in numbers d)
+any_fitting numbers d h = h
 
 -- null counts as absent
-pub nullable_fitting : {A : Type 0} (form : Data → Option A) (test : A → Bool) → Fitting form test → Fitting (nullable form) (none_or test)
-nullable_fitting form test fitting null h = refl
-nullable_fitting form test fitting (boolean b) h = some_map (λ x. test x ≡ true) (λ o. none_or test o ≡ true) Some (form (boolean b)) (fitting (boolean b) h) (λ x e. e)
-nullable_fitting form test fitting (number n) h = some_map (λ x. test x ≡ true) (λ o. none_or test o ≡ true) Some (form (number n)) (fitting (number n) h) (λ x e. e)
-nullable_fitting form test fitting (string s) h = some_map (λ x. test x ≡ true) (λ o. none_or test o ≡ true) Some (form (string s)) (fitting (string s) h) (λ x e. e)
-nullable_fitting form test fitting (array ds) h = some_map (λ x. test x ≡ true) (λ o. none_or test o ≡ true) Some (form (array ds)) (fitting (array ds) h) (λ x e. e)
-nullable_fitting form test fitting (object ms) h = some_map (λ x. test x ≡ true) (λ o. none_or test o ≡ true) Some (form (object ms)) (fitting (object ms) h) (λ x e. e)
+pub nullable_fitting : {A : Type 0} (numbers : Numbers) (form : Data → Option A) (test : A → Bool) → Fitting numbers form test → Fitting numbers (nullable form) (none_or test)
+nullable_fitting numbers form test fitting null h = refl
+nullable_fitting numbers form test fitting (boolean b) h = some_map (λ x. test x ≡ true) (λ o. none_or test o ≡ true) Some (form (boolean b)) (fitting (boolean b) h) (λ x e. e)
+nullable_fitting numbers form test fitting (number n) h = some_map (λ x. test x ≡ true) (λ o. none_or test o ≡ true) Some (form (number n)) (fitting (number n) h) (λ x e. e)
+nullable_fitting numbers form test fitting (string s) h = some_map (λ x. test x ≡ true) (λ o. none_or test o ≡ true) Some (form (string s)) (fitting (string s) h) (λ x e. e)
+nullable_fitting numbers form test fitting (array ds) h = some_map (λ x. test x ≡ true) (λ o. none_or test o ≡ true) Some (form (array ds)) (fitting (array ds) h) (λ x e. e)
+nullable_fitting numbers form test fitting (object ms) h = some_map (λ x. test x ≡ true) (λ o. none_or test o ≡ true) Some (form (object ms)) (fitting (object ms) h) (λ x e. e)
 
--- each item of items whose numbers fit
-each_fits : {A : Type 0} (form : Data → Option A) (test : A → Bool) → Fitting form test → (ds : Items) → items_have_float ds ≡ false → IfSome (each form ds) (λ xs. list_all test xs ≡ true)
-each_fits form test fitting no_items h = refl
-each_fits form test fitting (item d ds) h =
-    let parts = neither (has_float d) (items_have_float ds) h in
+-- each item of items whose numbers are among these
+each_fits : {A : Type 0} (numbers : Numbers) (form : Data → Option A) (test : A → Bool) → Fitting numbers form test → (ds : Items) → fits_in numbers (array ds) ≡ true → IfSome (each form ds) (λ xs. list_all test xs ≡ true)
+each_fits numbers form test fitting no_items h = refl
+each_fits numbers form test fitting (item d ds) h =
+    let parts = item_parts numbers d ds h in
     some_then (λ x. test x ≡ true) (λ xs. list_all test xs ≡ true) (form d) (λ x. forms.◌>>=◌ (each form ds) (λ xs. Some (x ∷ xs))) (fitting d parts.0) (λ x here.
-    some_then (λ xs. list_all test xs ≡ true) (λ xs. list_all test xs ≡ true) (each form ds) (λ xs. Some (x ∷ xs)) (each_fits form test fitting ds parts.1) (λ xs later.
+    some_then (λ xs. list_all test xs ≡ true) (λ xs. list_all test xs ≡ true) (each form ds) (λ xs. Some (x ∷ xs)) (each_fits numbers form test fitting ds parts.1) (λ xs later.
     both_true (test x) (list_all test xs) here later))
 
 -- a list of values
-pub list_fitting : {A : Type 0} (form : Data → Option A) (test : A → Bool) → Fitting form test → Fitting (list_of form) (list_all test)
-list_fitting form test fitting null h = tt
-list_fitting form test fitting (boolean b) h = tt
-list_fitting form test fitting (number n) h = tt
-list_fitting form test fitting (string s) h = tt
-list_fitting form test fitting (array ds) h = each_fits form test fitting ds h
-list_fitting form test fitting (object ms) h = tt
+pub list_fitting : {A : Type 0} (numbers : Numbers) (form : Data → Option A) (test : A → Bool) → Fitting numbers form test → Fitting numbers (list_of form) (list_all test)
+list_fitting numbers form test fitting null h = tt
+list_fitting numbers form test fitting (boolean b) h = tt
+list_fitting numbers form test fitting (number n) h = tt
+list_fitting numbers form test fitting (string s) h = tt
+list_fitting numbers form test fitting (array ds) h = each_fits numbers form test fitting ds h
+list_fitting numbers form test fitting (object ms) h = tt
 
 -- a member of an object that may be absent
-pub absent_fits : {A : Type 0} (absent : A) (form : Data → Option A) (test : A → Bool) → Fitting form test → test absent ≡ true → (o : Option Data) → IfSome o (λ d. has_float d ≡ false)
+pub absent_fits : {A : Type 0} (numbers : Numbers) (absent : A) (form : Data → Option A) (test : A → Bool) → Fitting numbers form test → test absent ≡ true → (o : Option Data) → IfSome o (λ d. fits_in numbers d ≡ true)
     → IfSome (unless_absent absent form o) (λ x. test x ≡ true)
-absent_fits absent form test fitting base None h = base
-absent_fits absent form test fitting base (Some d) h = fitting d h
+absent_fits numbers absent form test fitting base None h = base
+absent_fits numbers absent form test fitting base (Some d) h = fitting d h
 
 -- ---- members of documents
 
@@ -176,31 +210,32 @@ formed_fits P name None h = λ e. cc
 formed_fits P name (Some x) h = h
 
 -- a member that has to be there, by what was found
-required_from : {A : Type 0} (form : Data → Option A) (test : A → Bool) → Fitting form test → (name : List ℕ) (o : Option Data) → IfSome o (λ d. has_float d ≡ false)
+required_from : {A : Type 0} (numbers : Numbers) (form : Data → Option A) (test : A → Bool) → Fitting numbers form test → (name : List ℕ) (o : Option Data) → IfSome o (λ d. fits_in numbers d ≡ true)
     → Reads (documents.◌>>=◌ (member_or_fault name o) (λ v. form_or_fault name (form v))) (λ x. test x ≡ true)
-required_from form test fitting name None h = λ e. cc
-required_from form test fitting name (Some d) h = formed_fits (λ x. test x ≡ true) name (form d) (fitting d h)
+required_from numbers form test fitting name None h = λ e. cc
+required_from numbers form test fitting name (Some d) h = formed_fits (λ x. test x ≡ true) name (form d) (fitting d h)
 
 -- a member that has to be there
-pub required_fits : {A : Type 0} (form : Data → Option A) (test : A → Bool) → Fitting form test → (name : List ℕ) (d : Data) → has_float d ≡ false → Reads (required_member name form d) (λ x. test x ≡ true)
-required_fits form test fitting name d h = required_from form test fitting name (get name d) (get_fits name d h)
+pub required_fits : {A : Type 0} (numbers : Numbers) (form : Data → Option A) (test : A → Bool) → Fitting numbers form test → (name : List ℕ) (d : Data) → fits_in numbers d ≡ true
+    → Reads (required_member name form d) (λ x. test x ≡ true)
+required_fits numbers form test fitting name d h = required_from numbers form test fitting name (get name d) (get_fits numbers name d h)
 
 -- a member that may be absent, by what was found
-optional_fits_from : {A : Type 0} (absent : A) (form : Data → Option A) (test : A → Bool) → Fitting form test → test absent ≡ true → (name : List ℕ) (o : Option Data) → IfSome o (λ d. has_float d ≡ false)
-    → Reads (optional_found name absent form o) (λ x. test x ≡ true)
-optional_fits_from absent form test fitting base name None h = base
-optional_fits_from absent form test fitting base name (Some d) h = formed_fits (λ x. test x ≡ true) name (form d) (fitting d h)
+optional_from : {A : Type 0} (numbers : Numbers) (absent : A) (form : Data → Option A) (test : A → Bool) → Fitting numbers form test → test absent ≡ true
+    → (name : List ℕ) (o : Option Data) → IfSome o (λ d. fits_in numbers d ≡ true) → Reads (optional_found name absent form o) (λ x. test x ≡ true)
+optional_from numbers absent form test fitting base name None h = base
+optional_from numbers absent form test fitting base name (Some d) h = formed_fits (λ x. test x ≡ true) name (form d) (fitting d h)
 
 -- a member that may be absent
-pub optional_fits : {A : Type 0} (absent : A) (form : Data → Option A) (test : A → Bool) → Fitting form test → test absent ≡ true → (name : List ℕ) (d : Data) → has_float d ≡ false
+pub optional_fits : {A : Type 0} (numbers : Numbers) (absent : A) (form : Data → Option A) (test : A → Bool) → Fitting numbers form test → test absent ≡ true → (name : List ℕ) (d : Data) → fits_in numbers d ≡ true
     → Reads (optional_member name absent form d) (λ x. test x ≡ true)
-optional_fits absent form test fitting base name d h = optional_fits_from absent form test fitting base name (get name d) (get_fits name d h)
+optional_fits numbers absent form test fitting base name d h = optional_from numbers absent form test fitting base name (get name d) (get_fits numbers name d h)
 
 -- ---- documents
 
--- a document is an object whose numbers fit
-abbrev pub IsDocument : Data → Members → Type 0
-IsDocument d ms = (d ≡ object ms) × (members_have_float ms ≡ false)
+-- a document that may hold these numbers is an object whose numbers are among them
+abbrev pub IsDocument : Numbers → Data → Members → Type 0
+IsDocument numbers d ms = (d ≡ object ms) × (fits_in numbers (object ms) ≡ true)
 
 -- what is no object has no members, whatever its numbers
 refused_by : (b : Bool) (P : Members → Type 0) → Reads (if b then Err UnsupportedNumber else Err NotAnObject) P
@@ -208,21 +243,27 @@ refused_by true P = λ e. cc
 refused_by false P = λ e. cc
 
 -- an object has members where its numbers fit
-object_by : (b : Bool) (ms : Members) → members_have_float ms ≡ b → Reads (if b then Err UnsupportedNumber else Ok ms) (IsDocument (object ms))
+object_by : (b : Bool) (ms : Members) → members_have_float ms ≡ b → Reads (if b then Err UnsupportedNumber else Ok ms) (IsDocument Whole (object ms))
 object_by true ms e = λ same. cc
-object_by false ms e = (refl, e)
+object_by false ms e = (refl, false_not (members_have_float ms) e)
 
--- the members of a document are those of an object whose numbers fit
-pub document_fits : (d : Data) → Reads (document_of d) (IsDocument d)
-document_fits null = λ e. cc
-document_fits (boolean b) = λ e. cc
-document_fits (number (unsigned n)) = λ e. cc
-document_fits (number (negative z)) = λ e. cc
-document_fits (number (float x)) = λ e. cc
-document_fits (string s) = λ e. cc
-document_fits (array ds) = refused_by (items_have_float ds) (IsDocument (array ds))
-document_fits (object ms) = object_by (members_have_float ms) ms refl
+-- the members of a document are those of an object whose numbers are among these
+pub document_fits : (numbers : Numbers) (d : Data) → Reads (document_in numbers d) (IsDocument numbers d)
+document_fits Whole null = λ e. cc
+document_fits Whole (boolean b) = λ e. cc
+document_fits Whole (number (unsigned n)) = λ e. cc
+document_fits Whole (number (negative z)) = λ e. cc
+document_fits Whole (number (float x)) = λ e. cc
+document_fits Whole (string s) = λ e. cc
+document_fits Whole (array ds) = refused_by (items_have_float ds) (IsDocument Whole (array ds))
+document_fits Whole (object ms) = object_by (members_have_float ms) ms refl
+document_fits Any null = λ e. cc
+document_fits Any (boolean b) = λ e. cc
+document_fits Any (number n) = λ e. cc
+document_fits Any (string s) = λ e. cc
+document_fits Any (array ds) = λ e. cc
+document_fits Any (object ms) = (refl, refl)
 
--- the numbers of a document fit
-pub document_no_float : (d : Data) (ms : Members) → IsDocument d ms → has_float d ≡ false
-document_no_float d ms h = ap has_float h.0 ∙ h.1
+-- the numbers of a document are among these
+pub document_numbers : (numbers : Numbers) (d : Data) (ms : Members) → IsDocument numbers d ms → fits_in numbers d ≡ true
+document_numbers numbers d ms h = ap (fits_in numbers) h.0 ∙ h.1

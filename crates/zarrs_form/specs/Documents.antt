@@ -9,6 +9,8 @@ use Rattle.serde_json.specs.Data.{Data, object, Members, no_members, member}
 use Rattle.serde_json.specs.Find.{get, get_member, as_null, as_number, as_u64, as_str}
 use Rattle.serde_json.specs.Written.{has_float}
 use Rattle.zarrs_fault.specs.declared.fault.MetadataFault.{MetadataFault}
+use Rattle.zarrs_fault.specs.declared.numbers.Numbers.{Numbers}
+use Rattle.zarrs_fault.specs.declared.numbers.Numbers.TheVariants.{Whole, Any}
 use Rattle.zarrs_fault.specs.declared.fault.MetadataFault.TheVariants.{NotJson, UnsupportedNumber, NotAnObject, WrongFormat, WrongNodeType, MissingMember, BadMember, OutOfMemory}
 
 infixl 10 ◌>>=◌
@@ -45,9 +47,14 @@ abbrev pub object_of : Data → Result Members MetadataFault
 object_of (object ms) = Ok ms
 object_of _ = Err NotAnObject
 
--- the members of a document: its numbers all fit, and it is an object
+-- the members of a document that may hold these numbers: it holds no other, and it is an object
+abbrev pub document_in : Numbers → Data → Result Members MetadataFault
+document_in Whole d = if has_float d then Err UnsupportedNumber else object_of d
+document_in Any d = object_of d
+
+-- the members of a document whose numbers are whole
 abbrev pub document_of : Data → Result Members MetadataFault
-document_of d = if has_float d then Err UnsupportedNumber else object_of d
+document_of d = document_in Whole d
 
 -- there is a number, and it is this one
 abbrev is_number : ℕ → Option ℕ → Bool

@@ -6,6 +6,8 @@ use Rattle.serde_json.specs.Data.{Data, null, boolean, number, string, array, ob
 use Rattle.serde_json.specs.Written.{has_float}
 use Rattle.serde_json.specs.Find.{get, as_number, as_u64, as_str, as_bool, as_object}
 use Rattle.serde_json.specs.View.{items_of}
+use Rattle.zarrs_fault.specs.declared.numbers.Numbers.{Numbers}
+use Rattle.zarrs_fault.specs.declared.numbers.Numbers.TheVariants.{Whole, Any}
 use Rattle.zarrs_form.specs.declared.extension.MetadataV3.{MetadataV3}
 
 infixl 10 ◌>>=◌
@@ -81,6 +83,11 @@ nullable_data written (Some x) = written x
 abbrev pub fits : Data → Bool
 fits d = not (has_float d)
 
+-- each number is one of these
+abbrev pub fits_in : Numbers → Data → Bool
+fits_in Whole d = fits d
+fits_in Any d = true
+
 -- what is there passes the test
 abbrev pub none_or : {A : Type 0} → (A → Bool) → Option A → Bool
 none_or test None = true
@@ -112,6 +119,10 @@ extension_data m =
     else object (put_rows ((codes "name", Some (string m.name)) ∷ (codes "configuration", option_map object m.configuration)
     ∷ (codes "must_understand", unless m.must_understand (boolean false)) ∷ []) no_members)
 
+-- the numbers of the configuration are among these
+abbrev pub extension_fits_in : Numbers → MetadataV3 → Bool
+extension_fits_in numbers m = none_or (λ ms. fits_in numbers (object ms)) m.configuration
+
 -- the numbers of the configuration fit
 abbrev pub extension_fits : MetadataV3 → Bool
-extension_fits m = none_or (λ ms. fits (object ms)) m.configuration
+extension_fits m = extension_fits_in Whole m

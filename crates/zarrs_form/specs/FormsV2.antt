@@ -6,7 +6,9 @@ use Rattle.std.specs.List.{list_all, list_any}
 use Rattle.serde_json.specs.Data.{Data, null, string, object, put}
 use Rattle.serde_json.specs.Find.{get, as_str, as_object}
 use Rattle.zarrs_form.specs.Documents.{besides, has_own}
-use Rattle.zarrs_form.specs.Forms.{◌>>=◌, any, number_u64, list_of, list_data, fits}
+use Rattle.zarrs_fault.specs.declared.numbers.Numbers.{Numbers}
+use Rattle.zarrs_fault.specs.declared.numbers.Numbers.TheVariants.{Whole}
+use Rattle.zarrs_form.specs.Forms.{◌>>=◌, any, number_u64, list_of, list_data, fits_in}
 use Rattle.zarrs_form.specs.declared.codec.MetadataV2.{MetadataV2}
 use Rattle.zarrs_form.specs.declared.data_type.DataTypeMetadataV2.{DataTypeMetadataV2}
 use Rattle.zarrs_form.specs.declared.data_type.DataTypeMetadataV2.TheVariants.{Simple, Structured}
@@ -30,9 +32,13 @@ codec d = do
 abbrev pub codec_data : MetadataV2 → Data
 codec_data m = object (put (codes "id") (string m.id) m.configuration)
 
+-- the numbers of the configuration are among these, and it has no member `id`
+abbrev pub codec_fits_in : Numbers → MetadataV2 → Bool
+codec_fits_in numbers m = fits_in numbers (object m.configuration) && not (has_own codec_names m.configuration)
+
 -- the numbers of the configuration fit, and it has no member `id`
 abbrev pub codec_fits : MetadataV2 → Bool
-codec_fits m = fits (object m.configuration) && not (has_own codec_names m.configuration)
+codec_fits m = codec_fits_in Whole m
 
 -- a data type is a text, or a list that is kept as it stands
 abbrev pub data_type : Data → Option DataTypeMetadataV2
@@ -44,10 +50,14 @@ abbrev pub data_type_data : DataTypeMetadataV2 → Data
 data_type_data (Simple s) = string s
 data_type_data (Structured ds) = list_data (λ d. d) ds
 
+-- the numbers of a structured data type are among these
+abbrev pub data_type_fits_in : Numbers → DataTypeMetadataV2 → Bool
+data_type_fits_in numbers (Simple s) = true
+data_type_fits_in numbers (Structured ds) = list_all (λ d. fits_in numbers d) ds
+
 -- the numbers of a structured data type fit
 abbrev pub data_type_fits : DataTypeMetadataV2 → Bool
-data_type_fits (Simple s) = true
-data_type_fits (Structured ds) = list_all fits ds
+data_type_fits m = data_type_fits_in Whole m
 
 -- the order of the texts "C" and "F"
 abbrev pub order_named : List ℕ → Option ArrayMetadataV2Order

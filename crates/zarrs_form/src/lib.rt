@@ -24,8 +24,8 @@ pub use extension::MetadataV3;
 pub use fields::{AdditionalFieldV3, AdditionalFieldsV3, fields_of};
 pub use form::{Form, attributes, optional, put_member, put_unless, required};
 pub use members::{
-    ask_format, ask_node_type, document, document_copy, member, members_have_float, parse,
-    put_text, refuse, take_member, take_null,
+    ask_format, ask_node_type, document, document_copy, document_copy_in, document_in, member,
+    members_have_float, parse, put_text, refuse, take_member, take_null,
 };
 pub use pretty::write_entry;
 pub use shapes::{FillValueMetadata, Json, List, Object, Text};

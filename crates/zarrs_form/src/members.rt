@@ -4,11 +4,11 @@ ghost use Rattle.serde_json.specs.Data.{object, string, put};
 ghost use Rattle.serde_json.specs.Find.{get_member};
 ghost use Rattle.serde_json.specs.Written as written;
 ghost use Rattle.serde_json.specs.View.{view, items_view, members_view};
-ghost use Rattle.zarrs_form.specs.Documents.{Gives, no_member, besides, besides_null, is_own, object_of, tree_or_fault, json_of, document_of, format_of, node_type_of};
+ghost use Rattle.zarrs_form.specs.Documents.{Gives, no_member, besides, besides_null, is_own, object_of, tree_or_fault, json_of, document_of, document_in, format_of, node_type_of};
 
 use serde_json::{Category, Map, Value};
 use std::alloc::{AllocError, Global};
-use zarrs_fault::{MemberName, MetadataFault};
+use zarrs_fault::{MemberName, MetadataFault, Numbers};
 
 /// Whether the name is one of the names.
 pub(crate) fn is_one_of(name: &str, names: &[&str]) -> bool
@@ -69,10 +69,31 @@ pub fn document(value: Value) -> Result<Map<String, Value>, MetadataFault>
     if has_float(&value) {
         return Err(MetadataFault::UnsupportedNumber);
     }
-    members_of_object(value)
+    members_of(value)
 }
 
-fn members_of_object(value: Value) -> Result<Map<String, Value>, MetadataFault>
+/// The members of the document that a JSON value is, which may hold these numbers: an object, each of whose numbers is
+/// one of them.
+///
+/// # Errors
+///
+/// `UnsupportedNumber` where the numbers are `Whole` and some number is neither `u64` nor `i64`, else `NotAnObject`
+/// where the value is no object.
+///
+/// Source: own; Zarr core specification 3.1, "Metadata documents"; specification version 2, "Metadata".
+pub fn document_in(numbers: Numbers, value: Value) -> Result<Map<String, Value>, MetadataFault>
+    ensures gives { Gives (λ m. members_view m.entries) result
+        (document_in numbers (view value)) }
+    ensures whole { IfOk result (λ m. view value ≡ object (members_view m.entries)) }
+{
+    match numbers {
+        Numbers::Whole => document(value),
+        Numbers::Any => members_of(value),
+    }
+}
+
+/// The members of an object, whatever its numbers are.
+fn members_of(value: Value) -> Result<Map<String, Value>, MetadataFault>
     ensures gives { Gives (λ m. members_view m.entries) result (object_of (view value)) }
     ensures whole { IfOk result (λ m. view value ≡ object (members_view m.entries)) }
 {
@@ -96,6 +117,35 @@ pub fn document_copy(value: &Value) -> Result<Map<String, Value>, MetadataFault>
     if has_float(value) {
         return Err(MetadataFault::UnsupportedNumber);
     }
+    copied_members(value)
+}
+
+/// A copy of the members of the document that a JSON value is, which may hold these numbers.
+///
+/// # Errors
+///
+/// As [`document_in`], and `OutOfMemory` where there is no memory for the copy.
+///
+/// Source: own; Zarr core specification 3.1, "Metadata documents"; specification version 2, "Metadata".
+pub fn document_copy_in(
+    numbers: Numbers,
+    value: &Value,
+) -> Result<Map<String, Value>, MetadataFault>
+    ensures gives { Gives (λ m. members_view m.entries) result
+        (document_in numbers (view value.now)) }
+    ensures whole { IfOk result (λ m. view value.now ≡ object (members_view m.entries)) }
+{
+    match numbers {
+        Numbers::Whole => document_copy(value),
+        Numbers::Any => copied_members(value),
+    }
+}
+
+/// A copy of the members of an object, whatever its numbers are.
+fn copied_members(value: &Value) -> Result<Map<String, Value>, MetadataFault>
+    ensures gives { Gives (λ m. members_view m.entries) result (object_of (view value.now)) }
+    ensures whole { IfOk result (λ m. view value.now ≡ object (members_view m.entries)) }
+{
     match value {
         Value::Object(members) => Ok(copy_of(members)?),
         _ => Err(MetadataFault::NotAnObject),
