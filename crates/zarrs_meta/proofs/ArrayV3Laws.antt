@@ -4,9 +4,11 @@ use Rattle.std.specs.List.{list_all}
 use Rattle.serde_json.specs.Data.{Data, number, string, object, unsigned, Members, no_members}
 use Rattle.serde_json.specs.Find.{get_member, as_object, as_str}
 use Rattle.serde_json.specs.Written.{has_float, members_have_float}
-use Rattle.zarrs_form.specs.Documents.{is_own, besides, has_own, is_empty, optional_found, required_member, optional_member, format_of, node_type_of}
+use Rattle.zarrs_form.specs.Documents.{is_own, besides, document_in, has_own, is_empty, optional_found, required_member, optional_member, format_of, node_type_of}
 use Rattle.zarrs_form.specs.Forms.{number_u64, any, nullable, list_of, extension, number_data, list_data, nullable_data, extension_data, extension_fits, fits, unless, is_nil, put_rows}
-use Rattle.zarrs_meta.specs.ArrayV3.{array_v3_names, array_v3_of, array_v3_rows, array_v3_tree, is_plain_array_v3}
+use Rattle.zarrs_meta.specs.ArrayV3.{array_v3_in, array_v3_names, array_v3_of, array_v3_rows, array_v3_tree, is_plain_array_v3, is_plain_array_v3_in}
+use Rattle.zarrs_fault.specs.declared.numbers.Numbers.{Numbers}
+use Rattle.zarrs_fault.specs.declared.numbers.Numbers.TheVariants.{Whole, Any}
 use Rattle.zarrs_meta.specs.declared.array_v3.ArrayMetadataV3.{ArrayMetadataV3}
 use Rattle.zarrs_form.specs.declared.extension.MetadataV3.{MetadataV3}
 use Rattle.zarrs_form.proofs.MemberLaws.{besides-others, get-others}
@@ -137,10 +139,10 @@ module _ (m : ArrayMetadataV3) (no_own : has_own array_v3_names m.additional_fie
   others : besides array_v3_names whole ≡ m.additional_fields
   others = besides-put_rows array_v3_names rows m.additional_fields refl ∙ besides-others array_v3_names m.additional_fields no_own
 
-  -- an array whose written form has only numbers that fit reads again
-  pub array_v3_again_where : has_float (array_v3_tree m) ≡ false → array_v3_of (array_v3_tree m) ≡ Ok m
-  unfolding array_v3_of format_of node_type_of
-  array_v3_again_where no_float = rw (no_float, has_format, has_kind, shape, data_type, chunk_grid, chunk_key_encoding, fill_value, codecs, attributes, transformers, names, others) refl
+  -- an array whose written form is a document reads again
+  pub array_v3_again_where : (numbers : Numbers) → document_in numbers (array_v3_tree m) ≡ Ok whole → array_v3_in numbers (array_v3_tree m) ≡ Ok m
+  unfolding array_v3_in format_of node_type_of
+  array_v3_again_where numbers is_document = rw (is_document, has_format, has_kind, shape, data_type, chunk_grid, chunk_key_encoding, fill_value, codecs, attributes, transformers, names, others) refl
 
 -- what is plain of a plain array, part by part
 pub plain_parts : (m : ArrayMetadataV3) → IsTrue (is_plain_array_v3 m) → (extension_fits m.data_type ≡ true) × (extension_fits m.chunk_grid ≡ true) × (extension_fits m.chunk_key_encoding ≡ true)
@@ -176,19 +178,27 @@ array_v3_no_float m plain =
     ◂ tt)
     (not_true (members_have_float m.additional_fields) p.7)
 
--- a plain array that was written reads as that array
-pub array_v3_again : (m : ArrayMetadataV3) → IsTrue (is_plain_array_v3 m) → array_v3_of (array_v3_tree m) ≡ Ok m
-array_v3_again m plain =
-    array_v3_again_where m (not_true (has_own array_v3_names m.additional_fields) (both _ (not (has_own array_v3_names m.additional_fields)) plain).1) (array_v3_no_float m plain)
+-- what is written is a document that may hold these numbers
+pub is_document : (numbers : Numbers) (m : ArrayMetadataV3) → IsTrue (is_plain_array_v3_in numbers m) → document_in numbers (array_v3_tree m) ≡ Ok (put_rows (array_v3_rows m) m.additional_fields)
+is_document Whole m plain = rw (array_v3_no_float m plain) refl
+is_document Any m plain = refl
 
 -- no field of a plain array has an own name
-plain_own : (m : ArrayMetadataV3) → IsTrue (is_plain_array_v3 m) → has_own array_v3_names m.additional_fields ≡ false
-plain_own m plain = not_true (has_own array_v3_names m.additional_fields) (both _ (not (has_own array_v3_names m.additional_fields)) plain).1
+plain_own : (numbers : Numbers) (m : ArrayMetadataV3) → IsTrue (is_plain_array_v3_in numbers m) → has_own array_v3_names m.additional_fields ≡ false
+plain_own numbers m plain = not_true (has_own array_v3_names m.additional_fields) (both _ (not (has_own array_v3_names m.additional_fields)) plain).1
+
+-- an array that is plain in these numbers and was written reads as that array in them
+pub array_v3_again_in : (numbers : Numbers) (m : ArrayMetadataV3) → IsTrue (is_plain_array_v3_in numbers m) → array_v3_in numbers (array_v3_tree m) ≡ Ok m
+array_v3_again_in numbers m plain = array_v3_again_where m (plain_own numbers m plain) numbers (is_document numbers m plain)
+
+-- a plain array that was written reads as that array
+pub array_v3_again : (m : ArrayMetadataV3) → IsTrue (is_plain_array_v3 m) → array_v3_of (array_v3_tree m) ≡ Ok m
+array_v3_again m plain = array_v3_again_in Whole m plain
 
 -- a plain array is written with its format
-pub format_again : (m : ArrayMetadataV3) → IsTrue (is_plain_array_v3 m) → get_member (codes "zarr_format") (put_rows (array_v3_rows m) m.additional_fields) ≡ Some (number (unsigned 3))
-format_again m plain = has_format m (plain_own m plain)
+pub format_again : (numbers : Numbers) (m : ArrayMetadataV3) → IsTrue (is_plain_array_v3_in numbers m) → get_member (codes "zarr_format") (put_rows (array_v3_rows m) m.additional_fields) ≡ Some (number (unsigned 3))
+format_again numbers m plain = has_format m (plain_own numbers m plain)
 
 -- a plain array is written with its node type
-pub kind_again : (m : ArrayMetadataV3) → IsTrue (is_plain_array_v3 m) → get_member (codes "node_type") (put_rows (array_v3_rows m) m.additional_fields) ≡ Some (string (codes "array"))
-kind_again m plain = has_kind m (plain_own m plain)
+pub kind_again : (numbers : Numbers) (m : ArrayMetadataV3) → IsTrue (is_plain_array_v3_in numbers m) → get_member (codes "node_type") (put_rows (array_v3_rows m) m.additional_fields) ≡ Some (string (codes "array"))
+kind_again numbers m plain = has_kind m (plain_own numbers m plain)

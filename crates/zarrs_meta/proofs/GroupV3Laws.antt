@@ -3,45 +3,66 @@ use Rattle.std.proofs.Common.{◌≡◌, ℕ, List, true, false, not, Option, So
 use Rattle.serde_json.specs.Data.{Data, number, string, object, unsigned, Members, no_members}
 use Rattle.serde_json.specs.Find.{get_member, as_object}
 use Rattle.serde_json.specs.Written.{has_float, members_have_float}
-use Rattle.zarrs_form.specs.Documents.{besides, has_own, is_null, is_empty, optional_found, optional_member, format_of, node_type_of}
-use Rattle.zarrs_form.specs.Forms.{fits, unless, put_rows}
-use Rattle.zarrs_meta.specs.GroupV3.{group_v3_names, group_v3_of, group_v3_rows, group_v3_tree, is_plain_group_v3}
+use Rattle.zarrs_form.specs.Documents.{besides, document_in, has_own, is_null, is_empty, optional_found, optional_member, format_of, node_type_of}
+use Rattle.zarrs_form.specs.Forms.{fits, fits_in, unless, put_rows}
+use Rattle.zarrs_meta.specs.GroupV3.{group_v3_names, group_v3_in, group_v3_of, group_v3_rows, group_v3_tree, is_plain_group_v3, is_plain_group_v3_in}
+use Rattle.zarrs_fault.specs.declared.numbers.Numbers.{Numbers}
+use Rattle.zarrs_fault.specs.declared.numbers.Numbers.TheVariants.{Whole, Any}
 use Rattle.zarrs_meta.specs.declared.group_v3.GroupMetadataV3.{GroupMetadataV3}
 use Rattle.zarrs_form.proofs.MemberLaws.{besides-others, get-others}
 use Rattle.zarrs_form.proofs.RowLaws.{or_rest, found, get-put_rows, besides-put_rows, no_float-put_rows, both}
 use Rattle.zarrs_form.proofs.AttributeLaws.{not_true, attributes_again, attributes_no_float}
 
--- what a plain group has: its numbers fit, no field has an own name, and no field `consolidated_metadata` is null
+-- what a plain group has: its numbers are among these, no field has an own name, and no field `consolidated_metadata` is null
+abbrev pub PlainGroupV3In : Numbers → GroupMetadataV3 → Type 0
+PlainGroupV3In numbers m =
+    (fits_in numbers (object m.attributes) ≡ true) × (fits_in numbers (object m.additional_fields) ≡ true) × (has_own group_v3_names m.additional_fields ≡ false)
+    × (is_null (get_member (codes "consolidated_metadata") m.additional_fields) ≡ false)
+
+-- the test takes a plain group apart
+pub plain_group_v3_in : (numbers : Numbers) (m : GroupMetadataV3) → IsTrue (is_plain_group_v3_in numbers m) → PlainGroupV3In numbers m
+plain_group_v3_in numbers m plain =
+    let c = both _ (not (is_null (get_member (codes "consolidated_metadata") m.additional_fields))) plain in
+    let b = both _ (not (has_own group_v3_names m.additional_fields)) c.0 in
+    let a = both (fits_in numbers (object m.attributes)) (fits_in numbers (object m.additional_fields)) b.0 in (
+      a.0,
+      a.1,
+      not_true (has_own group_v3_names m.additional_fields) b.1,
+      not_true (is_null (get_member (codes "consolidated_metadata") m.additional_fields)) c.1,
+    )
+
+-- what a group has that is plain in whole numbers
 abbrev pub PlainGroupV3 : GroupMetadataV3 → Type 0
 PlainGroupV3 m =
     (fits (object m.attributes) ≡ true) × (members_have_float m.additional_fields ≡ false) × (has_own group_v3_names m.additional_fields ≡ false)
     × (is_null (get_member (codes "consolidated_metadata") m.additional_fields) ≡ false)
 
--- the test takes a plain group apart
+-- the test takes such a group apart
 pub plain_group_v3 : (m : GroupMetadataV3) → IsTrue (is_plain_group_v3 m) → PlainGroupV3 m
 plain_group_v3 m plain =
-    let c = both _ (not (is_null (get_member (codes "consolidated_metadata") m.additional_fields))) plain in
-    let b = both _ (not (has_own group_v3_names m.additional_fields)) c.0 in
-    let a = both (fits (object m.attributes)) (fits (object m.additional_fields)) b.0 in (
-      a.0,
-      not_true (members_have_float m.additional_fields) a.1,
-      not_true (has_own group_v3_names m.additional_fields) b.1,
-      not_true (is_null (get_member (codes "consolidated_metadata") m.additional_fields)) c.1,
-    )
+    let parts = plain_group_v3_in Whole m plain in
+    (parts.0, not_true (members_have_float m.additional_fields) parts.1, parts.2, parts.3)
 
-module _ (m : GroupMetadataV3) (plain : IsTrue (is_plain_group_v3 m)) where
-  parts : PlainGroupV3 m
-  parts = plain_group_v3 m plain
+-- every number that is written fits
+pub no_float-group_v3_tree : (m : GroupMetadataV3) → IsTrue (is_plain_group_v3 m) → has_float (group_v3_tree m) ≡ false
+no_float-group_v3_tree m plain =
+    let parts = plain_group_v3 m plain in
+    no_float-put_rows (group_v3_rows m) m.additional_fields (refl, (refl, (attributes_no_float m.attributes parts.0, tt))) parts.1
+
+-- what is written is a document whose numbers are among these
+pub is_document : (numbers : Numbers) (m : GroupMetadataV3) → IsTrue (is_plain_group_v3_in numbers m) → document_in numbers (group_v3_tree m) ≡ Ok (put_rows (group_v3_rows m) m.additional_fields)
+is_document Whole m plain = rw (no_float-group_v3_tree m plain) refl
+is_document Any m plain = refl
+
+module _ (numbers : Numbers) (m : GroupMetadataV3) (plain : IsTrue (is_plain_group_v3_in numbers m)) where
+  parts : PlainGroupV3In numbers m
+  parts = plain_group_v3_in numbers m plain
 
   abbrev rows : List (List ℕ × Option Data)
   rows = group_v3_rows m
 
   abbrev whole : Members
   whole = put_rows rows m.additional_fields
-
-  -- every number that is written fits
-  pub no_float-group_v3_tree : has_float (group_v3_tree m) ≡ false
-  no_float-group_v3_tree = no_float-put_rows (group_v3_rows m) m.additional_fields (refl, (refl, (attributes_no_float m.attributes parts.0, tt))) parts.1
 
   at : (k : List ℕ) → get_member k whole ≡ found k rows (get_member k m.additional_fields)
   at k = get-put_rows k rows m.additional_fields
@@ -63,7 +84,11 @@ module _ (m : GroupMetadataV3) (plain : IsTrue (is_plain_group_v3 m)) where
   others : besides group_v3_names whole ≡ m.additional_fields
   others = besides-put_rows group_v3_names rows m.additional_fields refl ∙ besides-others group_v3_names m.additional_fields parts.2
 
-  -- a plain group that was written reads as that group
-  pub group_v3_again : group_v3_of (group_v3_tree m) ≡ Ok m
-  unfolding group_v3_of format_of node_type_of
-  group_v3_again = rw (no_float-group_v3_tree, has_format, has_kind, attributes, no_block, others) refl
+  -- a group that is plain in these numbers and was written reads as that group in them
+  pub group_v3_again_in : group_v3_in numbers (group_v3_tree m) ≡ Ok m
+  unfolding group_v3_in format_of node_type_of
+  group_v3_again_in = rw (is_document numbers m plain, has_format, has_kind, attributes, no_block, others) refl
+
+-- a plain group that was written reads as that group
+pub group_v3_again : (m : GroupMetadataV3) → IsTrue (is_plain_group_v3 m) → group_v3_of (group_v3_tree m) ≡ Ok m
+group_v3_again m plain = group_v3_again_in Whole m plain

@@ -6,8 +6,10 @@ pub mod ArrayV2Laws
 pub mod Steps
 pub mod TakenLaws
 pub mod NodeLaws
+pub mod ZarrJsonLaws
 pub mod PlainGroups
 pub mod PlainArrays
 pub mod PlainNodes
 pub mod MemoryLaws
+pub mod MoreNumbers
 pub mod WrittenDocuments

@@ -2,19 +2,20 @@
 use Rattle.std.proofs.Common.{◌≡◌, ℕ, List, [], ◌∷◌, ◌++◌, Bool, true, false, if◌then◌else◌, codes, Option, None, Result, Ok, Err, refl, ap, sym, ◌∙◌}
 use Rattle.serde_json.specs.Data.{Data, object, Members, no_members}
 use Rattle.serde_json.specs.Find.{get_member, as_object, as_str}
-use Rattle.zarrs_form.specs.Documents.{◌>>=◌, document_of, format_of, node_type_of, required_member, optional_member, no_member, member_or_fault, form_or_fault, optional_found, is_own, is_null, besides}
+use Rattle.zarrs_form.specs.Documents.{◌>>=◌, document_in, format_of, node_type_of, required_member, optional_member, no_member, member_or_fault, form_or_fault, optional_found, is_own, is_null, besides}
 use Rattle.zarrs_form.specs.Forms.{number_u64, any, nullable, list_of, extension}
-use Rattle.zarrs_meta.specs.GroupV3.{group_v3_of}
+use Rattle.zarrs_meta.specs.GroupV3.{group_v3_in}
 use Rattle.zarrs_meta.specs.GroupV2 as group_v2
-use Rattle.zarrs_meta.specs.GroupV2.{group_v2_of}
+use Rattle.zarrs_meta.specs.GroupV2.{group_v2_in}
 use Rattle.zarrs_meta.specs.ArrayV2 as array_v2
-use Rattle.zarrs_meta.specs.ArrayV2.{array_v2_of}
-use Rattle.zarrs_meta.specs.ArrayV3.{array_v3_of}
+use Rattle.zarrs_meta.specs.ArrayV2.{array_v2_in}
+use Rattle.zarrs_meta.specs.ArrayV3.{array_v3_in}
 use Rattle.zarrs_form.specs.FormsV2.{codec, data_type, order, separator, chunk_lengths}
 use Rattle.zarrs_meta.specs.StepsOfReading.{node_names, group_v3_taken, group_v2_taken, array_v3_required_names, array_v3_optional_names, array_v3_required, array_v3_optional, array_v3_with, array_v3_taken, array_v2_required_names, array_v2_optional_names, array_v2_required, array_v2_optional, array_v2_with, array_v2_taken}
 use Rattle.zarrs_form.proofs.MemberLaws.{get_besides}
 use Rattle.zarrs_form.proofs.LeftLaws.{left, get_left, left_besides, besides_both}
 use Rattle.zarrs_fault.specs.declared.fault.MetadataFault.{MetadataFault}
+use Rattle.zarrs_fault.specs.declared.numbers.Numbers.{Numbers}
 use Rattle.zarrs_meta.specs.declared.array_v3.ArrayMetadataV3.{ArrayMetadataV3}
 use Rattle.zarrs_meta.specs.declared.array_v2.ArrayMetadataV2.{ArrayMetadataV2}
 use Rattle.zarrs_form.specs.declared.chunks.ChunkKeySeparator.{ChunkKeySeparator}
@@ -110,10 +111,10 @@ array_v3_joined ms =
     (besides node_names (besides array_v3_optional_names rest))
 
 -- taken one by one it is what the document means
-array_v3_each_is : (ms : Members) → document_of (object ms) ≡ Ok ms → format_of 3 (object ms) ≡ Ok tt → node_type_of (codes "array") (object ms) ≡ Ok tt
-    → array_v3_of (object ms) ≡ array_v3_each ms (besides array_v3_required_names ms)
-unfolding array_v3_of
-array_v3_each_is ms is_document is_3 is_array =
+array_v3_each_is : (numbers : Numbers) (ms : Members) → document_in numbers (object ms) ≡ Ok ms → format_of 3 (object ms) ≡ Ok tt → node_type_of (codes "array") (object ms) ≡ Ok tt
+    → array_v3_in numbers (object ms) ≡ array_v3_each ms (besides array_v3_required_names ms)
+unfolding array_v3_in
+array_v3_each_is numbers ms is_document is_3 is_array =
     let names = array_v3_required_names ++ array_v3_optional_names in
     let rest = besides array_v3_required_names ms in
     let found = λ (names : List (List ℕ)) (name : List ℕ) (other : is_own names name ≡ false). sym (get_left names name ms other) in
@@ -134,8 +135,8 @@ array_v3_each_is ms is_document is_3 is_array =
     (fields i))
 
 -- what is taken out of the members is what the document means
-pub array_v3_taken_is : (ms : Members) → document_of (object ms) ≡ Ok ms → format_of 3 (object ms) ≡ Ok tt → node_type_of (codes "array") (object ms) ≡ Ok tt → array_v3_of (object ms) ≡ array_v3_taken ms
-array_v3_taken_is ms is_document is_3 is_array = array_v3_each_is ms is_document is_3 is_array ∙ sym (array_v3_joined ms)
+pub array_v3_taken_is : (numbers : Numbers) (ms : Members) → document_in numbers (object ms) ≡ Ok ms → format_of 3 (object ms) ≡ Ok tt → node_type_of (codes "array") (object ms) ≡ Ok tt → array_v3_in numbers (object ms) ≡ array_v3_taken ms
+array_v3_taken_is numbers ms is_document is_3 is_array = array_v3_each_is numbers ms is_document is_3 is_array ∙ sym (array_v3_joined ms)
 
 -- ---- the version 2 array
 
@@ -213,10 +214,10 @@ array_v2_joined ms =
     (besides array_v2_optional_names rest)
 
 -- taken one by one it is what the document means
-array_v2_each_is : (ms : Members) → document_of (object ms) ≡ Ok ms → format_of 2 (object ms) ≡ Ok tt
-    → array_v2_of (object ms) ≡ array_v2_each (besides (codes "zarr_format" ∷ []) ms) (besides array_v2_required_names (besides (codes "zarr_format" ∷ []) ms))
-unfolding array_v2_of
-array_v2_each_is ms is_document is_2 =
+array_v2_each_is : (numbers : Numbers) (ms : Members) → document_in numbers (object ms) ≡ Ok ms → format_of 2 (object ms) ≡ Ok tt
+    → array_v2_in numbers (object ms) ≡ array_v2_each (besides (codes "zarr_format" ∷ []) ms) (besides array_v2_required_names (besides (codes "zarr_format" ∷ []) ms))
+unfolding array_v2_in
+array_v2_each_is numbers ms is_document is_2 =
     let others = besides (codes "zarr_format" ∷ []) ms in
     let rest = besides array_v2_required_names others in
     let found = λ (names : List (List ℕ)) (name : List ℕ) (other : is_own names name ≡ false). sym (get_left names name ms other) in
@@ -236,9 +237,9 @@ array_v2_each_is ms is_document is_2 =
     (fields i))
 
 -- what is taken out of the members beside `zarr_format` is what the document means
-pub array_v2_taken_is : (ms : Members) → document_of (object ms) ≡ Ok ms → format_of 2 (object ms) ≡ Ok tt
-    → array_v2_of (object ms) ≡ array_v2_taken (besides (codes "zarr_format" ∷ []) ms)
-array_v2_taken_is ms is_document is_2 = array_v2_each_is ms is_document is_2 ∙ sym (array_v2_joined (besides (codes "zarr_format" ∷ []) ms))
+pub array_v2_taken_is : (numbers : Numbers) (ms : Members) → document_in numbers (object ms) ≡ Ok ms → format_of 2 (object ms) ≡ Ok tt
+    → array_v2_in numbers (object ms) ≡ array_v2_taken (besides (codes "zarr_format" ∷ []) ms)
+array_v2_taken_is numbers ms is_document is_2 = array_v2_each_is numbers ms is_document is_2 ∙ sym (array_v2_joined (besides (codes "zarr_format" ∷ []) ms))
 
 -- ---- the groups
 
@@ -262,18 +263,18 @@ read_besides true ms = sym (besides_both node_names null_names ms) ∙ ap (besid
 read_besides false ms = sym (besides_both node_names other_names ms) ∙ ap (besides node_names) (sym (left_besides other_names ms))
 
 -- what is taken out of the members is what the document means
-pub group_v3_taken_is : (ms : Members) → document_of (object ms) ≡ Ok ms → format_of 3 (object ms) ≡ Ok tt → node_type_of (codes "group") (object ms) ≡ Ok tt → group_v3_of (object ms) ≡ group_v3_taken ms
-unfolding group_v3_of group_v3_taken
-group_v3_taken_is ms is_document is_3 is_group =
+pub group_v3_taken_is : (numbers : Numbers) (ms : Members) → document_in numbers (object ms) ≡ Ok ms → format_of 3 (object ms) ≡ Ok tt → node_type_of (codes "group") (object ms) ≡ Ok tt → group_v3_in numbers (object ms) ≡ group_v3_taken ms
+unfolding group_v3_in group_v3_taken
+group_v3_taken_is numbers ms is_document is_3 is_group =
     let null = sym (get_left other_names (codes "consolidated_metadata") ms refl) in
     let fields = read_besides (is_null (get_member (codes "consolidated_metadata") ms)) ms
     ∙ ap (λ o. besides node_names (if is_null o then left null_names ms else left other_names ms)) null in
     rw (is_document, is_3, is_group) (λ i. group_v3_found (get_member (codes "attributes") ms) (fields i))
 
 -- what is taken out of the members beside `zarr_format` and `shape` is what the document means
-pub group_v2_taken_is : (ms : Members) → document_of (object ms) ≡ Ok ms → format_of 2 (object ms) ≡ Ok tt → no_member (codes "shape") (object ms) ≡ Ok tt
-    → group_v2_of (object ms) ≡ group_v2_taken (besides (codes "shape" ∷ []) (besides (codes "zarr_format" ∷ []) ms))
-unfolding group_v2_of group_v2_taken
-group_v2_taken_is ms is_document is_2 no_shape =
+pub group_v2_taken_is : (numbers : Numbers) (ms : Members) → document_in numbers (object ms) ≡ Ok ms → format_of 2 (object ms) ≡ Ok tt → no_member (codes "shape") (object ms) ≡ Ok tt
+    → group_v2_in numbers (object ms) ≡ group_v2_taken (besides (codes "shape" ∷ []) (besides (codes "zarr_format" ∷ []) ms))
+unfolding group_v2_in group_v2_taken
+group_v2_taken_is numbers ms is_document is_2 no_shape =
     let found = sym (get_left (codes "zarr_format" ∷ codes "shape" ∷ []) (codes "attributes") ms refl) in
     rw (is_document, is_2, no_shape) (λ i. group_v2_found (found i) (sym (left_besides group_v2.group_v2_names ms) i))

@@ -1,6 +1,6 @@
 -- What is written of a node is read as that node, or nests too deep.
 use Rattle.std.proofs.Common.{◌≡◌, ◌≤◌, ◌<◌, ◌⊎◌, inl, inr, ⊎_elim, ℕ, zero, suc, max, List, [], false, Option, Some, None, Ok, Err, IsTrue, option_and_then, refl, sym, ap, ap₂, ◌∙◌, subst, append-nil, arith}
-use Rattle.std.specs.Str.{is_utf8, IsUtf8}
+use Rattle.std.specs.Str.{IsUtf8}
 use Rattle.std.proofs.lemmas.Str.{is_utf8-from_IsUtf8}
 use Rattle.json.specs.Json as json
 use Rattle.json.specs.Lex.{tokens}

@@ -4,9 +4,11 @@ use Rattle.std.specs.Prelude.{ℕ, List, [], ◌∷◌, Bool, Option, Some, None
 use Rattle.std.specs.List.{list_all}
 use Rattle.serde_json.specs.Data.{Data, string, object, no_members}
 use Rattle.serde_json.specs.Find.{as_object, as_str}
-use Rattle.zarrs_form.specs.Documents.{◌>>=◌, document_of, format_of, node_type_of, required_member, optional_member, besides, has_own, is_empty}
-use Rattle.zarrs_form.specs.Forms.{number_u64, any, nullable, list_of, extension, number_data, list_data, nullable_data, extension_data, extension_fits, fits, unless, is_nil, put_rows}
+use Rattle.zarrs_form.specs.Documents.{◌>>=◌, document_in, format_of, node_type_of, required_member, optional_member, besides, has_own, is_empty}
+use Rattle.zarrs_form.specs.Forms.{number_u64, any, nullable, list_of, extension, number_data, list_data, nullable_data, extension_data, extension_fits_in, fits_in, unless, is_nil, put_rows}
 use Rattle.zarrs_fault.specs.declared.fault.MetadataFault.{MetadataFault}
+use Rattle.zarrs_fault.specs.declared.numbers.Numbers.{Numbers}
+use Rattle.zarrs_fault.specs.declared.numbers.Numbers.TheVariants.{Whole}
 use Rattle.zarrs_meta.specs.declared.array_v3.ArrayMetadataV3.{ArrayMetadataV3}
 
 -- `zarr_format`, `node_type` and the members of the table
@@ -15,10 +17,10 @@ array_v3_names =
     codes "zarr_format" ∷ codes "node_type" ∷ codes "shape" ∷ codes "data_type" ∷ codes "chunk_grid" ∷ codes "chunk_key_encoding" ∷ codes "fill_value" ∷ codes "codecs"
     ∷ codes "attributes" ∷ codes "storage_transformers" ∷ codes "dimension_names" ∷ []
 
--- the array that a version 3 document means, or its first fault
-unfoldable pub array_v3_of : Data → Result ArrayMetadataV3 MetadataFault
-array_v3_of d = do
-  ms ← document_of d
+-- the array that a version 3 document means where it may hold these numbers, or its first fault
+unfoldable pub array_v3_in : Numbers → Data → Result ArrayMetadataV3 MetadataFault
+array_v3_in numbers d = do
+  ms ← document_in numbers d
   _ ← format_of 3 d
   _ ← node_type_of (codes "array") d
   shape ← required_member (codes "shape") (list_of number_u64) d
@@ -43,6 +45,10 @@ array_v3_of d = do
     additional_fields = besides array_v3_names ms;
   })
 
+-- the array that a version 3 document means where its numbers have to be whole, or its first fault
+abbrev pub array_v3_of : Data → Result ArrayMetadataV3 MetadataFault
+array_v3_of d = array_v3_in Whole d
+
 -- ---- the written form
 
 -- what is written at each name; empty attributes, empty storage transformers and absent dimension names are not
@@ -63,9 +69,13 @@ array_v3_rows m =
 abbrev pub array_v3_tree : ArrayMetadataV3 → Data
 array_v3_tree m = object (put_rows (array_v3_rows m) m.additional_fields)
 
--- an array could have come from a document where its numbers fit and no field has an own name
+-- an array could have come from a document that may hold these numbers: its own are among them, and no field has an own name
+abbrev pub is_plain_array_v3_in : Numbers → ArrayMetadataV3 → Bool
+is_plain_array_v3_in numbers m =
+    extension_fits_in numbers m.data_type && extension_fits_in numbers m.chunk_grid && extension_fits_in numbers m.chunk_key_encoding && fits_in numbers m.fill_value
+    && list_all (extension_fits_in numbers) m.codecs && fits_in numbers (object m.attributes) && list_all (extension_fits_in numbers) m.storage_transformers
+    && fits_in numbers (object m.additional_fields) && not (has_own array_v3_names m.additional_fields)
+
+-- an array could have come from a document whose numbers are whole
 abbrev pub is_plain_array_v3 : ArrayMetadataV3 → Bool
-is_plain_array_v3 m =
-    extension_fits m.data_type && extension_fits m.chunk_grid && extension_fits m.chunk_key_encoding && fits m.fill_value && list_all extension_fits m.codecs
-    && fits (object m.attributes) && list_all extension_fits m.storage_transformers && fits (object m.additional_fields)
-    && not (has_own array_v3_names m.additional_fields)
+is_plain_array_v3 m = is_plain_array_v3_in Whole m

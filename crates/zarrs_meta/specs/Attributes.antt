@@ -2,21 +2,31 @@
 -- <https://zarr-specs.readthedocs.io/en/latest/v2/v2.0.html#attributes>
 use Rattle.std.specs.Prelude.{Bool, Result, Ok}
 use Rattle.serde_json.specs.Data.{Data, object}
-use Rattle.zarrs_form.specs.Documents.{◌>>=◌, document_of}
-use Rattle.zarrs_form.specs.Forms.{fits}
+use Rattle.zarrs_form.specs.Documents.{◌>>=◌, document_in}
+use Rattle.zarrs_form.specs.Forms.{fits_in}
 use Rattle.zarrs_fault.specs.declared.fault.MetadataFault.{MetadataFault}
+use Rattle.zarrs_fault.specs.declared.numbers.Numbers.{Numbers}
+use Rattle.zarrs_fault.specs.declared.numbers.Numbers.TheVariants.{Whole}
 use Rattle.zarrs_meta.specs.declared.attributes.AttributesDocument.{AttributesDocument}
 
--- the attributes are all the members of the document
-abbrev pub attributes_of : Data → Result AttributesDocument MetadataFault
-attributes_of d = do
-  ms ← document_of d
+-- the attributes are all the members of a document that may hold these numbers
+abbrev pub attributes_document_in : Numbers → Data → Result AttributesDocument MetadataFault
+attributes_document_in numbers d = do
+  ms ← document_in numbers d
   Ok (record { 0 = ms })
+
+-- the attributes are all the members of a document whose numbers are whole
+abbrev pub attributes_of : Data → Result AttributesDocument MetadataFault
+attributes_of d = attributes_document_in Whole d
 
 -- attributes are written as the object that has them
 abbrev pub attributes_tree : AttributesDocument → Data
 attributes_tree a = object a.0
 
--- attributes could have come from a document where their numbers fit
+-- attributes could have come from a document that may hold these numbers where their own are among them
+abbrev pub is_plain_attributes_in : Numbers → AttributesDocument → Bool
+is_plain_attributes_in numbers a = fits_in numbers (object a.0)
+
+-- attributes could have come from a document whose numbers are whole
 abbrev pub is_plain_attributes : AttributesDocument → Bool
-is_plain_attributes a = fits (object a.0)
+is_plain_attributes a = is_plain_attributes_in Whole a

@@ -3,9 +3,11 @@
 use Rattle.std.specs.Prelude.{ℕ, Bool, not, ◌&&◌, if◌then◌else◌, List, [], ◌∷◌, Option, Some, Result, Ok, codes}
 use Rattle.serde_json.specs.Data.{Data, string, object, no_members}
 use Rattle.serde_json.specs.Find.{get, get_member, as_object}
-use Rattle.zarrs_form.specs.Documents.{◌>>=◌, document_of, format_of, node_type_of, optional_member, besides, has_own, is_null, is_empty}
-use Rattle.zarrs_form.specs.Forms.{number_data, fits, unless, put_rows}
+use Rattle.zarrs_form.specs.Documents.{◌>>=◌, document_in, format_of, node_type_of, optional_member, besides, has_own, is_null, is_empty}
+use Rattle.zarrs_form.specs.Forms.{number_data, fits_in, unless, put_rows}
 use Rattle.zarrs_fault.specs.declared.fault.MetadataFault.{MetadataFault}
+use Rattle.zarrs_fault.specs.declared.numbers.Numbers.{Numbers}
+use Rattle.zarrs_fault.specs.declared.numbers.Numbers.TheVariants.{Whole}
 use Rattle.zarrs_meta.specs.declared.group_v3.GroupMetadataV3.{GroupMetadataV3}
 
 -- `zarr_format`, `node_type` and the member of the table
@@ -16,14 +18,18 @@ group_v3_names = codes "zarr_format" ∷ codes "node_type" ∷ codes "attributes
 abbrev pub read_names : Data → List (List ℕ)
 read_names d = if is_null (get (codes "consolidated_metadata") d) then codes "zarr_format" ∷ codes "node_type" ∷ codes "attributes" ∷ codes "consolidated_metadata" ∷ [] else group_v3_names
 
--- the group that a version 3 document means, or its first fault
-unfoldable pub group_v3_of : Data → Result GroupMetadataV3 MetadataFault
-group_v3_of d = do
-  ms ← document_of d
+-- the group that a version 3 document means where it may hold these numbers, or its first fault
+unfoldable pub group_v3_in : Numbers → Data → Result GroupMetadataV3 MetadataFault
+group_v3_in numbers d = do
+  ms ← document_in numbers d
   _ ← format_of 3 d
   _ ← node_type_of (codes "group") d
   attributes ← optional_member (codes "attributes") no_members as_object d
   Ok (record { attributes = attributes; additional_fields = besides (read_names d) ms })
+
+-- the group that a version 3 document means where its numbers have to be whole, or its first fault
+abbrev pub group_v3_of : Data → Result GroupMetadataV3 MetadataFault
+group_v3_of d = group_v3_in Whole d
 
 -- ---- the written form
 
@@ -37,8 +43,12 @@ group_v3_rows m =
 abbrev pub group_v3_tree : GroupMetadataV3 → Data
 group_v3_tree m = object (put_rows (group_v3_rows m) m.additional_fields)
 
--- a group could have come from a document where its numbers fit, no field has an own name, and no field `consolidated_metadata` is null
-abbrev pub is_plain_group_v3 : GroupMetadataV3 → Bool
-is_plain_group_v3 m =
-    fits (object m.attributes) && fits (object m.additional_fields) && not (has_own group_v3_names m.additional_fields)
+-- a group could have come from a document that may hold these numbers: its own are among them, no field has an own name, and no field `consolidated_metadata` is null
+abbrev pub is_plain_group_v3_in : Numbers → GroupMetadataV3 → Bool
+is_plain_group_v3_in numbers m =
+    fits_in numbers (object m.attributes) && fits_in numbers (object m.additional_fields) && not (has_own group_v3_names m.additional_fields)
     && not (is_null (get_member (codes "consolidated_metadata") m.additional_fields))
+
+-- a group could have come from a document whose numbers are whole
+abbrev pub is_plain_group_v3 : GroupMetadataV3 → Bool
+is_plain_group_v3 m = is_plain_group_v3_in Whole m

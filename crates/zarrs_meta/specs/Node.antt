@@ -6,12 +6,14 @@ use Rattle.std.specs.Prelude.{ℕ, List, Bool, true, false, if◌then◌else◌,
 use Rattle.std.specs.Result.{is_ok}
 use Rattle.serde_json.specs.Data.{Data, no_members}
 use Rattle.serde_json.specs.Find.{get}
-use Rattle.zarrs_form.specs.Documents.{◌>>=◌, document_of, format_of, node_type_of}
-use Rattle.zarrs_meta.specs.GroupV3.{group_v3_of, group_v3_tree, is_plain_group_v3}
-use Rattle.zarrs_meta.specs.GroupV2.{group_v2_of, group_v2_tree, is_plain_group_v2}
-use Rattle.zarrs_meta.specs.ArrayV3.{array_v3_of, array_v3_tree, is_plain_array_v3}
-use Rattle.zarrs_meta.specs.ArrayV2.{array_v2_of, array_v2_tree, is_plain_array_v2}
+use Rattle.zarrs_form.specs.Documents.{◌>>=◌, document_in, format_of, node_type_of}
+use Rattle.zarrs_meta.specs.GroupV3.{group_v3_in, group_v3_tree, is_plain_group_v3_in}
+use Rattle.zarrs_meta.specs.GroupV2.{group_v2_in, group_v2_tree, is_plain_group_v2_in}
+use Rattle.zarrs_meta.specs.ArrayV3.{array_v3_in, array_v3_tree, is_plain_array_v3_in}
+use Rattle.zarrs_meta.specs.ArrayV2.{array_v2_in, array_v2_tree, is_plain_array_v2_in}
 use Rattle.zarrs_fault.specs.declared.fault.MetadataFault.{MetadataFault}
+use Rattle.zarrs_fault.specs.declared.numbers.Numbers.{Numbers}
+use Rattle.zarrs_fault.specs.declared.numbers.Numbers.TheVariants.{Whole}
 use Rattle.zarrs_fault.specs.declared.fault.MetadataFault.TheVariants.{WrongFormat, WrongNodeType}
 use Rattle.zarrs_meta.specs.declared.group_v2.GroupMetadataV2.{GroupMetadataV2}
 use Rattle.zarrs_meta.specs.declared.array_v2.ArrayMetadataV2.{ArrayMetadataV2}
@@ -32,26 +34,34 @@ abbrev pub has_type : List ℕ → Data → Bool
 has_type t d = is_ok (node_type_of t d)
 
 -- a document of version 3 is a group or an array by its `node_type`
-abbrev pub node_v3_of : Data → Result NodeMetadata MetadataFault
-node_v3_of d =
-    if has_type (codes "group") d then group_v3_of d >>= (λ m. Ok (Group (group_v3 m)))
-    else (if has_type (codes "array") d then array_v3_of d >>= (λ m. Ok (Array (array_v3 m))) else Err WrongNodeType)
+abbrev pub node_v3_in : Numbers → Data → Result NodeMetadata MetadataFault
+node_v3_in numbers d =
+    if has_type (codes "group") d then group_v3_in numbers d >>= (λ m. Ok (Group (group_v3 m)))
+    else (if has_type (codes "array") d then array_v3_in numbers d >>= (λ m. Ok (Array (array_v3 m))) else Err WrongNodeType)
 
 -- a document of version 2 is an array where it has a `shape`, and else a group
-abbrev pub node_v2_of : Data → Result NodeMetadata MetadataFault
-node_v2_of d =
-    if is_some (get (codes "shape") d) then array_v2_of d >>= (λ m. Ok (Array (array_v2 m)))
-    else group_v2_of d >>= (λ m. Ok (Group (group_v2 m)))
+abbrev pub node_v2_in : Numbers → Data → Result NodeMetadata MetadataFault
+node_v2_in numbers d =
+    if is_some (get (codes "shape") d) then array_v2_in numbers d >>= (λ m. Ok (Array (array_v2 m)))
+    else group_v2_in numbers d >>= (λ m. Ok (Group (group_v2 m)))
 
--- the group or array that a document of either version means, or its first fault
-unfoldable pub node_of : Data → Result NodeMetadata MetadataFault
-node_of d = document_of d >>= λ _.
-    if has_format 3 d then node_v3_of d else (if has_format 2 d then node_v2_of d else Err WrongFormat)
+-- the group or array that a document of either version means where it may hold these numbers, or its first fault
+unfoldable pub node_in : Numbers → Data → Result NodeMetadata MetadataFault
+node_in numbers d = document_in numbers d >>= λ _.
+    if has_format 3 d then node_v3_in numbers d else (if has_format 2 d then node_v2_in numbers d else Err WrongFormat)
 
--- what a document at the key `zarr.json` means: format 2 is told at once, all else is a node document
-unfoldable pub zarr_json_of : Data → Result ZarrJson MetadataFault
-zarr_json_of d = document_of d >>= λ _.
-    if has_format 2 d then Ok Version2 else node_of d >>= (λ m. Ok (Node m))
+-- the group or array that a document of either version means where its numbers have to be whole, or its first fault
+abbrev pub node_of : Data → Result NodeMetadata MetadataFault
+node_of d = node_in Whole d
+
+-- what a document at the key `zarr.json` means where it may hold these numbers: format 2 is told at once, all else is a node document
+unfoldable pub zarr_json_in : Numbers → Data → Result ZarrJson MetadataFault
+zarr_json_in numbers d = document_in numbers d >>= λ _.
+    if has_format 2 d then Ok Version2 else node_in numbers d >>= (λ m. Ok (Node m))
+
+-- what a document at the key `zarr.json` means where its numbers have to be whole
+abbrev pub zarr_json_of : Data → Result ZarrJson MetadataFault
+zarr_json_of d = zarr_json_in Whole d
 
 -- ---- the written form
 
@@ -62,12 +72,16 @@ node_tree (Group (group_v2 m)) = group_v2_tree m
 node_tree (Array (array_v3 m)) = array_v3_tree m
 node_tree (Array (array_v2 m)) = array_v2_tree m
 
--- a node could have come from a document where the group or array could
+-- a node could have come from a document that may hold these numbers where the group or array could
+abbrev pub is_plain_node_in : Numbers → NodeMetadata → Bool
+is_plain_node_in numbers (Group (group_v3 m)) = is_plain_group_v3_in numbers m
+is_plain_node_in numbers (Group (group_v2 m)) = is_plain_group_v2_in numbers m
+is_plain_node_in numbers (Array (array_v3 m)) = is_plain_array_v3_in numbers m
+is_plain_node_in numbers (Array (array_v2 m)) = is_plain_array_v2_in numbers m
+
+-- a node could have come from a document whose numbers are whole
 abbrev pub is_plain_node : NodeMetadata → Bool
-is_plain_node (Group (group_v3 m)) = is_plain_group_v3 m
-is_plain_node (Group (group_v2 m)) = is_plain_group_v2 m
-is_plain_node (Array (array_v3 m)) = is_plain_array_v3 m
-is_plain_node (Array (array_v2 m)) = is_plain_array_v2 m
+is_plain_node m = is_plain_node_in Whole m
 
 -- ---- parts
 

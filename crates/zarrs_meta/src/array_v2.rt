@@ -3,21 +3,21 @@ ghost use Rattle.std.specs.Prelude.{◌≡◌, [], ◌∷◌, Ok, IfOk, IsTrue, 
 ghost use Rattle.serde_json.specs.Data.{object, no_members};
 ghost use Rattle.serde_json.specs.View.{view, members_view};
 ghost use Rattle.serde_json.specs.Written.{compact_text};
-ghost use Rattle.zarrs_form.specs.Documents.{Gives, besides, document_of, of_bytes, optional_member};
+ghost use Rattle.zarrs_form.specs.Documents.{Gives, besides, document_in, document_of, of_bytes, optional_member};
 ghost use Rattle.zarrs_form.specs.Forms.{put_rows};
 ghost use Rattle.zarrs_form.specs.FormsV2.{separator};
 ghost use Rattle.zarrs_form.specs.declared.chunks.ChunkKeySeparator.TheVariants.{Dot};
-ghost use Rattle.zarrs_meta.specs.ArrayV2.{array_v2_of, array_v2_rows, array_v2_tree, is_plain_array_v2};
+ghost use Rattle.zarrs_meta.specs.ArrayV2.{array_v2_in, array_v2_of, array_v2_rows, array_v2_tree, is_plain_array_v2};
 ghost use Rattle.zarrs_meta.specs.StepsOfReading.{array_v2_taken, array_v2_required, array_v2_required_names, array_v2_optional, array_v2_optional_names, array_v2_with};
 
 use serde_json::{Map, Value, put};
 use std::alloc::{AllocError, Global};
-use zarrs_fault::MetadataFault;
+use zarrs_fault::{MetadataFault, Numbers};
 use zarrs_form::{
     ArrayMetadataV2Order, ChunkKeySeparator, DataTypeMetadataV2, FillValueMetadata, Form, List,
-    MetadataV2, Object, ask_format, attributes, chunk_lengths, document, document_copy, has_zero,
-    open_table, optional, parse, put_member, put_unless, required, take_member, write_last,
-    write_row, write_unless,
+    MetadataV2, Object, ask_format, attributes, chunk_lengths, document_copy_in, document_in,
+    has_zero, open_table, optional, parse, put_member, put_unless, required, take_member,
+    write_last, write_row, write_unless,
 };
 
 /// The metadata of a version 2 array.
@@ -73,11 +73,29 @@ impl ArrayMetadataV2 {
     /// memory.
     ///
     /// Source: Zarr specification version 2, "Arrays".
-    #[tactic(auto, unfolding(crate::specs::ArrayV2::array_v2_of))]
     pub fn from_value(alloc: Global, value: &Value) -> Result<ArrayMetadataV2, MetadataFault>
         ensures { Gives (λ m. m) result (array_v2_of (view value.now)) }
     {
-        ArrayMetadataV2::from_members(alloc, document_copy(value)?)
+        ArrayMetadataV2::from_value_in(alloc, Numbers::Whole, value)
+    }
+
+    /// The array that a JSON value is, where it may hold these numbers.
+    ///
+    /// # Errors
+    ///
+    /// As [`ArrayMetadataV2::from_value`], except that `UnsupportedNumber` comes only where the numbers are `Whole`. Where they are
+    /// `Any`, a fraction in the place of a length or a text is the fault of that member.
+    ///
+    /// Source: own; Zarr specification version 2, "Arrays".
+    #[tactic(auto, unfolding(crate::specs::ArrayV2::array_v2_in))]
+    pub fn from_value_in(
+        alloc: Global,
+        numbers: Numbers,
+        value: &Value,
+    ) -> Result<ArrayMetadataV2, MetadataFault>
+        ensures { Gives (λ m. m) result (array_v2_in numbers (view value.now)) }
+    {
+        ArrayMetadataV2::from_members_in(alloc, numbers, document_copy_in(numbers, value)?)
     }
 
     /// The array that the members of a document are, which has been asked for its numbers: none of them is asked again.
@@ -88,14 +106,35 @@ impl ArrayMetadataV2 {
     /// is absent or of another form. `OutOfMemory` where there is no memory.
     ///
     /// Source: Zarr specification version 2, "Arrays".
-    #[tactic(auto, unfolding(crate::specs::ArrayV2::array_v2_of))]
     pub fn from_members(
         alloc: Global,
-        mut members: Map<String, Value>,
+        members: Map<String, Value>,
     ) -> Result<ArrayMetadataV2, MetadataFault>
         requires { document_of (object (members_view members.entries))
             ≡ Ok (members_view members.entries) }
         ensures { Gives (λ m. m) result (array_v2_of (object (members_view members.entries))) }
+    {
+        ArrayMetadataV2::from_members_in(alloc, Numbers::Whole, members)
+    }
+
+    /// The array that the members of a document are, which has been asked whether its numbers are among these: none of
+    /// them is asked again.
+    ///
+    /// # Errors
+    ///
+    /// As [`ArrayMetadataV2::from_members`].
+    ///
+    /// Source: own; Zarr specification version 2, "Arrays".
+    #[tactic(auto, unfolding(crate::specs::ArrayV2::array_v2_in))]
+    pub fn from_members_in(
+        alloc: Global,
+        numbers: Numbers,
+        mut members: Map<String, Value>,
+    ) -> Result<ArrayMetadataV2, MetadataFault>
+        requires { document_in numbers (object (members_view members.entries))
+            ≡ Ok (members_view members.entries) }
+        ensures { Gives (λ m. m) result
+            (array_v2_in numbers (object (members_view members.entries))) }
     {
         ask_format(&members, 2)?;
         drop(take_member(&mut members, "zarr_format"));
@@ -123,11 +162,28 @@ impl ArrayMetadataV2 {
     /// As [`ArrayMetadataV2::from_value`].
     ///
     /// Source: Zarr specification version 2, "Arrays".
-    #[tactic(auto, unfolding(crate::specs::ArrayV2::array_v2_of))]
     pub fn from_owned_value(alloc: Global, value: Value) -> Result<ArrayMetadataV2, MetadataFault>
         ensures { Gives (λ m. m) result (array_v2_of (view value)) }
     {
-        ArrayMetadataV2::from_members(alloc, document(value)?)
+        ArrayMetadataV2::from_owned_value_in(alloc, Numbers::Whole, value)
+    }
+
+    /// The array that a JSON value is, whose parts it takes over, where the value may hold these numbers.
+    ///
+    /// # Errors
+    ///
+    /// As [`ArrayMetadataV2::from_value_in`].
+    ///
+    /// Source: own; Zarr specification version 2, "Arrays".
+    #[tactic(auto, unfolding(crate::specs::ArrayV2::array_v2_in))]
+    pub fn from_owned_value_in(
+        alloc: Global,
+        numbers: Numbers,
+        value: Value,
+    ) -> Result<ArrayMetadataV2, MetadataFault>
+        ensures { Gives (λ m. m) result (array_v2_in numbers (view value)) }
+    {
+        ArrayMetadataV2::from_members_in(alloc, numbers, document_in(numbers, value)?)
     }
 
     /// The array that the bytes of a document are.
@@ -137,11 +193,32 @@ impl ArrayMetadataV2 {
     /// `NotJson` where the bytes are no JSON text, else as [`ArrayMetadataV2::from_value`].
     ///
     /// Source: Zarr specification version 2, "Arrays".
-    #[tactic(auto, unfolding(crate::specs::ArrayV2::array_v2_of))]
     pub fn from_bytes(alloc: Global, bytes: &[u8]) -> Result<ArrayMetadataV2, MetadataFault>
         ensures { Gives (λ m. m) result (of_bytes array_v2_of bytes.now) }
     {
-        ArrayMetadataV2::from_members(alloc, document(parse(alloc, bytes)?)?)
+        ArrayMetadataV2::from_bytes_in(alloc, Numbers::Whole, bytes)
+    }
+
+    /// The array that the bytes of a document are, where it may hold these numbers.
+    ///
+    /// # Errors
+    ///
+    /// `NotJson` where the bytes are no JSON text, else as [`ArrayMetadataV2::from_value_in`].
+    ///
+    /// Source: own; Zarr specification version 2, "Arrays".
+    #[tactic(auto, unfolding(crate::specs::ArrayV2::array_v2_in))]
+    pub fn from_bytes_in(
+        alloc: Global,
+        numbers: Numbers,
+        bytes: &[u8],
+    ) -> Result<ArrayMetadataV2, MetadataFault>
+        ensures { Gives (λ m. m) result (of_bytes (array_v2_in numbers) bytes.now) }
+    {
+        ArrayMetadataV2::from_members_in(
+            alloc,
+            numbers,
+            document_in(numbers, parse(alloc, bytes)?)?,
+        )
     }
 
     /// The written form of the array: the members of the table and the additional fields.

@@ -4,18 +4,18 @@ ghost use Rattle.serde_json.specs.Data.{object, no_members};
 ghost use Rattle.serde_json.specs.Find.{as_str};
 ghost use Rattle.serde_json.specs.View.{view, members_view};
 ghost use Rattle.serde_json.specs.Written.{compact_text};
-ghost use Rattle.zarrs_form.specs.Documents.{Gives, besides, document_of, of_bytes, optional_member};
+ghost use Rattle.zarrs_form.specs.Documents.{Gives, besides, document_in, of_bytes, optional_member};
 ghost use Rattle.zarrs_form.specs.Forms.{extension, list_of, nullable, put_rows};
-ghost use Rattle.zarrs_meta.specs.ArrayV3.{array_v3_of, array_v3_rows, array_v3_tree, is_plain_array_v3};
+ghost use Rattle.zarrs_meta.specs.ArrayV3.{array_v3_in, array_v3_of, array_v3_rows, array_v3_tree, is_plain_array_v3};
 ghost use Rattle.zarrs_meta.specs.MadeArray.{default_encoding, made_array};
 ghost use Rattle.zarrs_meta.specs.StepsOfReading.{array_v3_taken, array_v3_required, array_v3_required_names, array_v3_optional, array_v3_optional_names, array_v3_with};
 
 use serde_json::{Map, Value, put};
 use std::alloc::{AllocError, Global};
-use zarrs_fault::MetadataFault;
+use zarrs_fault::{MetadataFault, Numbers};
 use zarrs_form::{
     AdditionalFieldsV3, ChunkKeySeparator, FillValueMetadata, Form, List, MetadataV3, Object, Text,
-    ask_format, ask_node_type, attributes, document, document_copy, fields_of, open_table,
+    ask_format, ask_node_type, attributes, document_copy_in, document_in, fields_of, open_table,
     optional, parse, put_member, put_text, put_unless, required, write_last, write_row,
     write_unless,
 };
@@ -127,22 +127,42 @@ impl ArrayMetadataV3 {
     /// another form. `OutOfMemory` where there is no memory.
     ///
     /// Source: Zarr core specification 3.1, "Array metadata".
-    #[tactic(auto, unfolding(crate::specs::ArrayV3::array_v3_of))]
     pub fn from_value(alloc: Global, value: &Value) -> Result<ArrayMetadataV3, MetadataFault>
         ensures { Gives (λ m. m) result (array_v3_of (view value.now)) }
     {
-        ArrayMetadataV3::from_members(alloc, document_copy(value)?)
+        ArrayMetadataV3::from_value_in(alloc, Numbers::Whole, value)
     }
 
-    /// The array that the members of a document are.
-    #[tactic(auto, unfolding(crate::specs::ArrayV3::array_v3_of))]
-    pub(crate) fn from_members(
+    /// The array that a JSON value is, where it may hold these numbers.
+    ///
+    /// # Errors
+    ///
+    /// As [`ArrayMetadataV3::from_value`], except that `UnsupportedNumber` comes only where the numbers are `Whole`. Where they are
+    /// `Any`, a fraction in the place of a length, a text or a flag is the fault of that member.
+    ///
+    /// Source: own; Zarr core specification 3.1, "Array metadata".
+    #[tactic(auto, unfolding(crate::specs::ArrayV3::array_v3_in))]
+    pub fn from_value_in(
         alloc: Global,
+        numbers: Numbers,
+        value: &Value,
+    ) -> Result<ArrayMetadataV3, MetadataFault>
+        ensures { Gives (λ m. m) result (array_v3_in numbers (view value.now)) }
+    {
+        ArrayMetadataV3::from_members_in(alloc, numbers, document_copy_in(numbers, value)?)
+    }
+
+    /// The array that the members of a document are, which has been asked for its numbers.
+    #[tactic(auto, unfolding(crate::specs::ArrayV3::array_v3_in))]
+    pub(crate) fn from_members_in(
+        alloc: Global,
+        numbers: Numbers,
         members: Map<String, Value>,
     ) -> Result<ArrayMetadataV3, MetadataFault>
-        requires { document_of (object (members_view members.entries))
+        requires { document_in numbers (object (members_view members.entries))
             ≡ Ok (members_view members.entries) }
-        ensures { Gives (λ m. m) result (array_v3_of (object (members_view members.entries))) }
+        ensures { Gives (λ m. m) result
+            (array_v3_in numbers (object (members_view members.entries))) }
     {
         ask_format(&members, 3)?;
         ask_node_type(&members, "array")?;
@@ -170,11 +190,32 @@ impl ArrayMetadataV3 {
     /// `NotJson` where the bytes are no JSON text, else as [`ArrayMetadataV3::from_value`].
     ///
     /// Source: Zarr core specification 3.1, "Array metadata".
-    #[tactic(auto, unfolding(crate::specs::ArrayV3::array_v3_of))]
     pub fn from_bytes(alloc: Global, bytes: &[u8]) -> Result<ArrayMetadataV3, MetadataFault>
         ensures { Gives (λ m. m) result (of_bytes array_v3_of bytes.now) }
     {
-        ArrayMetadataV3::from_members(alloc, document(parse(alloc, bytes)?)?)
+        ArrayMetadataV3::from_bytes_in(alloc, Numbers::Whole, bytes)
+    }
+
+    /// The array that the bytes of a document are, where it may hold these numbers.
+    ///
+    /// # Errors
+    ///
+    /// `NotJson` where the bytes are no JSON text, else as [`ArrayMetadataV3::from_value_in`].
+    ///
+    /// Source: own; Zarr core specification 3.1, "Array metadata".
+    #[tactic(auto, unfolding(crate::specs::ArrayV3::array_v3_in))]
+    pub fn from_bytes_in(
+        alloc: Global,
+        numbers: Numbers,
+        bytes: &[u8],
+    ) -> Result<ArrayMetadataV3, MetadataFault>
+        ensures { Gives (λ m. m) result (of_bytes (array_v3_in numbers) bytes.now) }
+    {
+        ArrayMetadataV3::from_members_in(
+            alloc,
+            numbers,
+            document_in(numbers, parse(alloc, bytes)?)?,
+        )
     }
 
     /// The written form of the array: the members of the table and the additional fields.

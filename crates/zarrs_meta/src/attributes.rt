@@ -3,13 +3,13 @@ ghost use Rattle.std.specs.Prelude.{◌≡◌, Ok, IfOk, IsTrue, string_bytes};
 ghost use Rattle.serde_json.specs.Data.{object};
 ghost use Rattle.serde_json.specs.View.{view, members_view};
 ghost use Rattle.serde_json.specs.Written.{compact_text};
-ghost use Rattle.zarrs_meta.specs.Attributes.{attributes_of, attributes_tree, is_plain_attributes};
-ghost use Rattle.zarrs_form.specs.Documents.{Gives, document_of, of_bytes};
+ghost use Rattle.zarrs_meta.specs.Attributes.{attributes_document_in, attributes_of, attributes_tree, is_plain_attributes};
+ghost use Rattle.zarrs_form.specs.Documents.{Gives, document_in, document_of, of_bytes};
 
 use serde_json::{Map, Value};
 use std::alloc::{AllocError, Global};
-use zarrs_fault::MetadataFault;
-use zarrs_form::{Form, Object, document, document_copy, parse};
+use zarrs_fault::{MetadataFault, Numbers};
+use zarrs_form::{Form, Object, document_copy_in, document_in, parse};
 
 /// The attributes beside a version 2 group or array.
 ///
@@ -30,7 +30,24 @@ impl AttributesDocument {
     pub fn from_value(alloc: Global, value: &Value) -> Result<AttributesDocument, MetadataFault>
         ensures { Gives (λ a. a) result (attributes_of (view value.now)) }
     {
-        let members = document_copy(value)?;
+        AttributesDocument::from_value_in(alloc, Numbers::Whole, value)
+    }
+
+    /// The attributes that a JSON value is, where it may hold these numbers.
+    ///
+    /// # Errors
+    ///
+    /// As [`AttributesDocument::from_value`], except that `UnsupportedNumber` comes only where the numbers are `Whole`.
+    ///
+    /// Source: own; Zarr specification version 2, "Attributes".
+    pub fn from_value_in(
+        alloc: Global,
+        numbers: Numbers,
+        value: &Value,
+    ) -> Result<AttributesDocument, MetadataFault>
+        ensures { Gives (λ a. a) result (attributes_document_in numbers (view value.now)) }
+    {
+        let members = document_copy_in(numbers, value)?;
         Ok(AttributesDocument(Object::from_map(alloc, members)?))
     }
 
@@ -47,7 +64,24 @@ impl AttributesDocument {
     ) -> Result<AttributesDocument, MetadataFault>
         ensures { Gives (λ a. a) result (attributes_of (view value)) }
     {
-        let members = document(value)?;
+        AttributesDocument::from_owned_value_in(alloc, Numbers::Whole, value)
+    }
+
+    /// The attributes that a JSON value is, whose members they take over, where the value may hold these numbers.
+    ///
+    /// # Errors
+    ///
+    /// As [`AttributesDocument::from_value_in`].
+    ///
+    /// Source: own; Zarr specification version 2, "Attributes".
+    pub fn from_owned_value_in(
+        alloc: Global,
+        numbers: Numbers,
+        value: Value,
+    ) -> Result<AttributesDocument, MetadataFault>
+        ensures { Gives (λ a. a) result (attributes_document_in numbers (view value)) }
+    {
+        let members = document_in(numbers, value)?;
         Ok(AttributesDocument(Object::from_map(alloc, members)?))
     }
 
@@ -66,6 +100,27 @@ impl AttributesDocument {
             ≡ Ok (members_view members.entries) }
         ensures { Gives (λ a. a) result (attributes_of (object (members_view members.entries))) }
     {
+        AttributesDocument::from_members_in(alloc, Numbers::Whole, members)
+    }
+
+    /// The attributes that the members of a document are, which has been asked whether its numbers are among these: none of
+    /// them is asked again.
+    ///
+    /// # Errors
+    ///
+    /// As [`AttributesDocument::from_members`].
+    ///
+    /// Source: own; Zarr specification version 2, "Attributes".
+    pub fn from_members_in(
+        alloc: Global,
+        numbers: Numbers,
+        members: Map<String, Value>,
+    ) -> Result<AttributesDocument, MetadataFault>
+        requires { document_in numbers (object (members_view members.entries))
+            ≡ Ok (members_view members.entries) }
+        ensures { Gives (λ a. a) result
+            (attributes_document_in numbers (object (members_view members.entries))) }
+    {
         let attributes = Object::from_map(alloc, members)?;
         Ok(AttributesDocument(attributes))
     }
@@ -77,11 +132,28 @@ impl AttributesDocument {
     /// `NotJson` where the bytes are no JSON text, else as [`AttributesDocument::from_value`].
     ///
     /// Source: Zarr specification version 2, "Attributes".
-    #[tactic(auto, unfolding(zarrs_form::specs::Documents::of_bytes))]
     pub fn from_bytes(alloc: Global, bytes: &[u8]) -> Result<AttributesDocument, MetadataFault>
         ensures { Gives (λ a. a) result (of_bytes attributes_of bytes.now) }
     {
-        let members = document(parse(alloc, bytes)?)?;
+        AttributesDocument::from_bytes_in(alloc, Numbers::Whole, bytes)
+    }
+
+    /// The attributes that the bytes of `.zattrs` are, where it may hold these numbers.
+    ///
+    /// # Errors
+    ///
+    /// `NotJson` where the bytes are no JSON text, else as [`AttributesDocument::from_value_in`].
+    ///
+    /// Source: own; Zarr specification version 2, "Attributes".
+    #[tactic(auto, unfolding(zarrs_form::specs::Documents::of_bytes))]
+    pub fn from_bytes_in(
+        alloc: Global,
+        numbers: Numbers,
+        bytes: &[u8],
+    ) -> Result<AttributesDocument, MetadataFault>
+        ensures { Gives (λ a. a) result (of_bytes (attributes_document_in numbers) bytes.now) }
+    {
+        let members = document_in(numbers, parse(alloc, bytes)?)?;
         Ok(AttributesDocument(Object::from_map(alloc, members)?))
     }
 

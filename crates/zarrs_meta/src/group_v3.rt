@@ -3,17 +3,17 @@ ghost use Rattle.std.specs.Prelude.{◌≡◌, Ok, IfOk, IsTrue, string_bytes};
 ghost use Rattle.serde_json.specs.Data.{object, no_members};
 ghost use Rattle.serde_json.specs.View.{view, members_view};
 ghost use Rattle.serde_json.specs.Written.{compact_text};
-ghost use Rattle.zarrs_form.specs.Documents.{Gives, document_of, of_bytes};
-ghost use Rattle.zarrs_meta.specs.GroupV3.{group_v3_of, group_v3_rows, group_v3_tree, is_plain_group_v3};
+ghost use Rattle.zarrs_form.specs.Documents.{Gives, document_in, of_bytes};
+ghost use Rattle.zarrs_meta.specs.GroupV3.{group_v3_in, group_v3_of, group_v3_rows, group_v3_tree, is_plain_group_v3};
 ghost use Rattle.zarrs_form.specs.Forms.{put_rows};
 ghost use Rattle.zarrs_meta.specs.StepsOfReading.{group_v3_taken};
 
 use serde_json::{Map, Value, put};
 use std::alloc::{AllocError, Global};
-use zarrs_fault::MetadataFault;
+use zarrs_fault::{MetadataFault, Numbers};
 use zarrs_form::{
-    AdditionalFieldsV3, Object, Text, ask_format, ask_node_type, attributes, document,
-    document_copy, fields_of, open_table, parse, put_text, put_unless, take_null, write_last,
+    AdditionalFieldsV3, Object, Text, ask_format, ask_node_type, attributes, document_copy_in,
+    document_in, fields_of, open_table, parse, put_text, put_unless, take_null, write_last,
     write_row, write_unless,
 };
 
@@ -52,22 +52,42 @@ impl GroupMetadataV3 {
     /// memory.
     ///
     /// Source: Zarr core specification 3.1, "Group metadata".
-    #[tactic(auto, unfolding(crate::specs::GroupV3::group_v3_of))]
     pub fn from_value(alloc: Global, value: &Value) -> Result<GroupMetadataV3, MetadataFault>
         ensures { Gives (λ m. m) result (group_v3_of (view value.now)) }
     {
-        GroupMetadataV3::from_members(alloc, document_copy(value)?)
+        GroupMetadataV3::from_value_in(alloc, Numbers::Whole, value)
     }
 
-    /// The group that the members of a document are.
-    #[tactic(auto, unfolding(crate::specs::GroupV3::group_v3_of))]
-    pub(crate) fn from_members(
+    /// The group that a JSON value is, where it may hold these numbers.
+    ///
+    /// # Errors
+    ///
+    /// As [`GroupMetadataV3::from_value`], except that `UnsupportedNumber` comes only where the numbers are `Whole`. Where they are
+    /// `Any`, a fraction in the place of the format or the node type is the fault of that member.
+    ///
+    /// Source: own; Zarr core specification 3.1, "Group metadata".
+    #[tactic(auto, unfolding(crate::specs::GroupV3::group_v3_in))]
+    pub fn from_value_in(
         alloc: Global,
+        numbers: Numbers,
+        value: &Value,
+    ) -> Result<GroupMetadataV3, MetadataFault>
+        ensures { Gives (λ m. m) result (group_v3_in numbers (view value.now)) }
+    {
+        GroupMetadataV3::from_members_in(alloc, numbers, document_copy_in(numbers, value)?)
+    }
+
+    /// The group that the members of a document are, which has been asked for its numbers.
+    #[tactic(auto, unfolding(crate::specs::GroupV3::group_v3_in))]
+    pub(crate) fn from_members_in(
+        alloc: Global,
+        numbers: Numbers,
         members: Map<String, Value>,
     ) -> Result<GroupMetadataV3, MetadataFault>
-        requires { document_of (object (members_view members.entries))
+        requires { document_in numbers (object (members_view members.entries))
             ≡ Ok (members_view members.entries) }
-        ensures { Gives (λ m. m) result (group_v3_of (object (members_view members.entries))) }
+        ensures { Gives (λ m. m) result
+            (group_v3_in numbers (object (members_view members.entries))) }
     {
         ask_format(&members, 3)?;
         ask_node_type(&members, "group")?;
@@ -98,11 +118,32 @@ impl GroupMetadataV3 {
     /// `NotJson` where the bytes are no JSON text, else as [`GroupMetadataV3::from_value`].
     ///
     /// Source: Zarr core specification 3.1, "Group metadata".
-    #[tactic(auto, unfolding(crate::specs::GroupV3::group_v3_of))]
     pub fn from_bytes(alloc: Global, bytes: &[u8]) -> Result<GroupMetadataV3, MetadataFault>
         ensures { Gives (λ m. m) result (of_bytes group_v3_of bytes.now) }
     {
-        GroupMetadataV3::from_members(alloc, document(parse(alloc, bytes)?)?)
+        GroupMetadataV3::from_bytes_in(alloc, Numbers::Whole, bytes)
+    }
+
+    /// The group that the bytes of a document are, where it may hold these numbers.
+    ///
+    /// # Errors
+    ///
+    /// `NotJson` where the bytes are no JSON text, else as [`GroupMetadataV3::from_value_in`].
+    ///
+    /// Source: own; Zarr core specification 3.1, "Group metadata".
+    #[tactic(auto, unfolding(crate::specs::GroupV3::group_v3_in))]
+    pub fn from_bytes_in(
+        alloc: Global,
+        numbers: Numbers,
+        bytes: &[u8],
+    ) -> Result<GroupMetadataV3, MetadataFault>
+        ensures { Gives (λ m. m) result (of_bytes (group_v3_in numbers) bytes.now) }
+    {
+        GroupMetadataV3::from_members_in(
+            alloc,
+            numbers,
+            document_in(numbers, parse(alloc, bytes)?)?,
+        )
     }
 
     /// The written form of the group: the members of the table and the additional fields.

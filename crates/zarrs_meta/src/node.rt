@@ -3,8 +3,8 @@ ghost use Rattle.std.specs.Prelude.{◌≡◌, Ok, IfOk, IsTrue, string_bytes};
 ghost use Rattle.serde_json.specs.Data.{object};
 ghost use Rattle.serde_json.specs.View.{view, members_view};
 ghost use Rattle.serde_json.specs.Written.{compact_text};
-ghost use Rattle.zarrs_form.specs.Documents.{Gives, document_of, of_bytes};
-ghost use Rattle.zarrs_meta.specs.Node.{node_of, node_v2_of, node_v3_of, node_tree, is_plain_node, zarr_json_of, has_format, has_type, is_group};
+ghost use Rattle.zarrs_form.specs.Documents.{Gives, document_in, document_of, of_bytes};
+ghost use Rattle.zarrs_meta.specs.Node.{node_in, node_of, node_v2_in, node_v3_in, node_tree, is_plain_node, zarr_json_in, zarr_json_of, has_format, has_type, is_group};
 ghost use Rattle.zarrs_meta.specs.declared.node.GroupMetadata.TheVariants.{V3 as group_v3, V2 as group_v2};
 ghost use Rattle.zarrs_meta.specs.declared.node.ArrayMetadata.TheVariants.{V3 as array_v3, V2 as array_v2};
 
@@ -15,8 +15,8 @@ use crate::group_v2::GroupMetadataV2;
 use crate::group_v3::GroupMetadataV3;
 use serde_json::{Map, Value};
 use std::alloc::{AllocError, Global};
-use zarrs_fault::MetadataFault;
-use zarrs_form::{ask_format, ask_node_type, document, document_copy, member, parse};
+use zarrs_fault::{MetadataFault, Numbers};
+use zarrs_form::{ask_format, ask_node_type, document_copy_in, document_in, member, parse};
 
 /// The metadata of a group of either version.
 ///
@@ -109,11 +109,29 @@ impl NodeMetadata {
     /// `OutOfMemory` where there is no memory.
     ///
     /// Source: Zarr core specification 3.1, "Metadata documents".
-    #[tactic(auto, unfolding(crate::specs::Node::node_of))]
     pub fn from_value(alloc: Global, value: &Value) -> Result<NodeMetadata, MetadataFault>
         ensures { Gives (λ m. m) result (node_of (view value.now)) }
     {
-        NodeMetadata::from_members(alloc, document_copy(value)?)
+        NodeMetadata::from_value_in(alloc, Numbers::Whole, value)
+    }
+
+    /// The group or array that a JSON value is, where it may hold these numbers.
+    ///
+    /// # Errors
+    ///
+    /// As [`NodeMetadata::from_value`], except that `UnsupportedNumber` comes only where the numbers are `Whole`. Where they
+    /// are `Any`, a fraction in the place of a length, a text or a flag is the fault of that member.
+    ///
+    /// Source: own; Zarr core specification 3.1, "Metadata documents".
+    #[tactic(auto, unfolding(crate::specs::Node::node_in))]
+    pub fn from_value_in(
+        alloc: Global,
+        numbers: Numbers,
+        value: &Value,
+    ) -> Result<NodeMetadata, MetadataFault>
+        ensures { Gives (λ m. m) result (node_in numbers (view value.now)) }
+    {
+        NodeMetadata::from_members_in(alloc, numbers, document_copy_in(numbers, value)?)
     }
 
     /// The group or array that the members of a document are, which has been asked for its numbers: none of them is asked again.
@@ -125,7 +143,6 @@ impl NodeMetadata {
     /// `OutOfMemory` where there is no memory.
     ///
     /// Source: Zarr core specification 3.1, "Metadata documents".
-    #[tactic(auto, unfolding(crate::specs::Node::node_of))]
     pub fn from_members(
         alloc: Global,
         members: Map<String, Value>,
@@ -134,10 +151,32 @@ impl NodeMetadata {
             ≡ Ok (members_view members.entries) }
         ensures { Gives (λ m. m) result (node_of (object (members_view members.entries))) }
     {
+        NodeMetadata::from_members_in(alloc, Numbers::Whole, members)
+    }
+
+    /// The group or array that the members of a document are, which has been asked whether its numbers are among these: none
+    /// of them is asked again.
+    ///
+    /// # Errors
+    ///
+    /// As [`NodeMetadata::from_members`].
+    ///
+    /// Source: own; Zarr core specification 3.1, "Metadata documents".
+    #[tactic(auto, unfolding(crate::specs::Node::node_in))]
+    pub fn from_members_in(
+        alloc: Global,
+        numbers: Numbers,
+        members: Map<String, Value>,
+    ) -> Result<NodeMetadata, MetadataFault>
+        requires { document_in numbers (object (members_view members.entries))
+            ≡ Ok (members_view members.entries) }
+        ensures { Gives (λ m. m) result
+            (node_in numbers (object (members_view members.entries))) }
+    {
         if has_format(&members, 3) {
-            node_v3(alloc, members)
+            node_v3(alloc, numbers, members)
         } else if has_format(&members, 2) {
-            node_v2(alloc, members)
+            node_v2(alloc, numbers, members)
         } else {
             Err(MetadataFault::WrongFormat)
         }
@@ -150,11 +189,28 @@ impl NodeMetadata {
     /// `NotJson` where the bytes are no JSON text, else as [`NodeMetadata::from_value`].
     ///
     /// Source: Zarr core specification 3.1, "Metadata documents".
-    #[tactic(auto, unfolding(crate::specs::Node::node_of))]
     pub fn from_bytes(alloc: Global, bytes: &[u8]) -> Result<NodeMetadata, MetadataFault>
         ensures { Gives (λ m. m) result (of_bytes node_of bytes.now) }
     {
-        NodeMetadata::from_members(alloc, document(parse(alloc, bytes)?)?)
+        NodeMetadata::from_bytes_in(alloc, Numbers::Whole, bytes)
+    }
+
+    /// The group or array that the bytes of a document are, where it may hold these numbers.
+    ///
+    /// # Errors
+    ///
+    /// `NotJson` where the bytes are no JSON text, else as [`NodeMetadata::from_value_in`].
+    ///
+    /// Source: own; Zarr core specification 3.1, "Metadata documents".
+    #[tactic(auto, unfolding(crate::specs::Node::node_in))]
+    pub fn from_bytes_in(
+        alloc: Global,
+        numbers: Numbers,
+        bytes: &[u8],
+    ) -> Result<NodeMetadata, MetadataFault>
+        ensures { Gives (λ m. m) result (of_bytes (node_in numbers) bytes.now) }
+    {
+        NodeMetadata::from_members_in(alloc, numbers, document_in(numbers, parse(alloc, bytes)?)?)
     }
 
     /// The written form of the group or array.
@@ -228,11 +284,28 @@ impl ZarrJson {
     /// As [`NodeMetadata::from_value`], but that `zarr_format` 2 is no fault here.
     ///
     /// Source: Zarr core specification 3.1, "Metadata documents".
-    #[tactic(auto, unfolding(crate::specs::Node::zarr_json_of))]
     pub fn from_value(alloc: Global, value: &Value) -> Result<ZarrJson, MetadataFault>
         ensures { Gives (λ z. z) result (zarr_json_of (view value.now)) }
     {
-        zarr_json(alloc, document_copy(value)?)
+        ZarrJson::from_value_in(alloc, Numbers::Whole, value)
+    }
+
+    /// What a JSON value at the key `zarr.json` is, where it may hold these numbers.
+    ///
+    /// # Errors
+    ///
+    /// As [`NodeMetadata::from_value_in`], but that `zarr_format` 2 is no fault here.
+    ///
+    /// Source: own; Zarr core specification 3.1, "Metadata documents".
+    #[tactic(auto, unfolding(crate::specs::Node::zarr_json_in))]
+    pub fn from_value_in(
+        alloc: Global,
+        numbers: Numbers,
+        value: &Value,
+    ) -> Result<ZarrJson, MetadataFault>
+        ensures { Gives (λ z. z) result (zarr_json_in numbers (view value.now)) }
+    {
+        zarr_json(alloc, numbers, document_copy_in(numbers, value)?)
     }
 
     /// What the bytes at the key `zarr.json` are.
@@ -242,38 +315,65 @@ impl ZarrJson {
     /// `NotJson` where the bytes are no JSON text, else as [`ZarrJson::from_value`].
     ///
     /// Source: Zarr core specification 3.1, "Metadata documents".
-    #[tactic(auto, unfolding(crate::specs::Node::zarr_json_of))]
     pub fn from_bytes(alloc: Global, bytes: &[u8]) -> Result<ZarrJson, MetadataFault>
         ensures { Gives (λ z. z) result (of_bytes zarr_json_of bytes.now) }
     {
-        zarr_json(alloc, document(parse(alloc, bytes)?)?)
+        ZarrJson::from_bytes_in(alloc, Numbers::Whole, bytes)
+    }
+
+    /// What the bytes at the key `zarr.json` are, where the document may hold these numbers.
+    ///
+    /// # Errors
+    ///
+    /// `NotJson` where the bytes are no JSON text, else as [`ZarrJson::from_value_in`].
+    ///
+    /// Source: own; Zarr core specification 3.1, "Metadata documents".
+    #[tactic(auto, unfolding(crate::specs::Node::zarr_json_in))]
+    pub fn from_bytes_in(
+        alloc: Global,
+        numbers: Numbers,
+        bytes: &[u8],
+    ) -> Result<ZarrJson, MetadataFault>
+        ensures { Gives (λ z. z) result (of_bytes (zarr_json_in numbers) bytes.now) }
+    {
+        zarr_json(alloc, numbers, document_in(numbers, parse(alloc, bytes)?)?)
     }
 }
 
 /// What a document whose members these are is at the key `zarr.json`.
-#[tactic(auto, unfolding(crate::specs::Node::zarr_json_of))]
-fn zarr_json(alloc: Global, members: Map<String, Value>) -> Result<ZarrJson, MetadataFault>
-    requires { document_of (object (members_view members.entries))
+#[tactic(auto, unfolding(crate::specs::Node::zarr_json_in))]
+fn zarr_json(
+    alloc: Global,
+    numbers: Numbers,
+    members: Map<String, Value>,
+) -> Result<ZarrJson, MetadataFault>
+    requires { document_in numbers (object (members_view members.entries))
         ≡ Ok (members_view members.entries) }
-    ensures { Gives (λ z. z) result (zarr_json_of (object (members_view members.entries))) }
+    ensures { Gives (λ z. z) result
+        (zarr_json_in numbers (object (members_view members.entries))) }
 {
     if has_format(&members, 2) {
         return Ok(ZarrJson::Version2);
     }
-    Ok(ZarrJson::Node(NodeMetadata::from_members(alloc, members)?))
+    Ok(ZarrJson::Node(NodeMetadata::from_members_in(alloc, numbers, members)?))
 }
 
 /// A node of version 3: by its node type.
-fn node_v3(alloc: Global, members: Map<String, Value>) -> Result<NodeMetadata, MetadataFault>
-    requires { document_of (object (members_view members.entries))
+fn node_v3(
+    alloc: Global,
+    numbers: Numbers,
+    members: Map<String, Value>,
+) -> Result<NodeMetadata, MetadataFault>
+    requires { document_in numbers (object (members_view members.entries))
         ≡ Ok (members_view members.entries) }
-    ensures { Gives (λ m. m) result (node_v3_of (object (members_view members.entries))) }
+    ensures { Gives (λ m. m) result
+        (node_v3_in numbers (object (members_view members.entries))) }
 {
     if has_type(&members, "group") {
-        let group = GroupMetadataV3::from_members(alloc, members)?;
+        let group = GroupMetadataV3::from_members_in(alloc, numbers, members)?;
         Ok(NodeMetadata::Group(GroupMetadata::V3(group)))
     } else if has_type(&members, "array") {
-        let array = ArrayMetadataV3::from_members(alloc, members)?;
+        let array = ArrayMetadataV3::from_members_in(alloc, numbers, members)?;
         let array = BoxedArray::new(alloc, ArrayMetadata::V3(array))?;
         Ok(NodeMetadata::Array(array))
     } else {
@@ -282,17 +382,22 @@ fn node_v3(alloc: Global, members: Map<String, Value>) -> Result<NodeMetadata, M
 }
 
 /// A node of version 2: an array is known by its shape.
-fn node_v2(alloc: Global, members: Map<String, Value>) -> Result<NodeMetadata, MetadataFault>
-    requires { document_of (object (members_view members.entries))
+fn node_v2(
+    alloc: Global,
+    numbers: Numbers,
+    members: Map<String, Value>,
+) -> Result<NodeMetadata, MetadataFault>
+    requires { document_in numbers (object (members_view members.entries))
         ≡ Ok (members_view members.entries) }
-    ensures { Gives (λ m. m) result (node_v2_of (object (members_view members.entries))) }
+    ensures { Gives (λ m. m) result
+        (node_v2_in numbers (object (members_view members.entries))) }
 {
     if member(&members, "shape").is_some() {
-        let array = ArrayMetadataV2::from_members(alloc, members)?;
+        let array = ArrayMetadataV2::from_members_in(alloc, numbers, members)?;
         let array = BoxedArray::new(alloc, ArrayMetadata::V2(array))?;
         Ok(NodeMetadata::Array(array))
     } else {
-        let group = GroupMetadataV2::from_members(alloc, members)?;
+        let group = GroupMetadataV2::from_members_in(alloc, numbers, members)?;
         Ok(NodeMetadata::Group(GroupMetadata::V2(group)))
     }
 }
