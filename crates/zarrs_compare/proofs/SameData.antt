@@ -1,17 +1,14 @@
--- JSON data that pass the test of being the same are equal, and data without a float are the same as themselves. So it is of lists and of what may be absent.
-use Rattle.std.proofs.Common.{◌≡◌, ℕ, List, [], ◌∷◌, Bool, true, false, ◌&&◌, bytes_eq, Option, Some, None, true≢false, refl, ap, sym}
+-- JSON data that pass the test of being the same are equal, and data are the same as themselves. So it is of lists and of what may be absent.
+use Rattle.std.proofs.Common.{◌≡◌, ◌==◌, ℕ, List, [], ◌∷◌, Bool, true, false, ◌&&◌, bytes_eq, Option, Some, None, true≢false, refl, ap, sym}
 use Rattle.std.specs.Bool.{beq}
-use Rattle.std.specs.List.{list_all}
-use Rattle.std.proofs.lemmas.Bool.{and_parts, eqb-true, eq-eqb, not-true}
+use Rattle.std.specs.Float.{Float, nan, inf, fin}
+use Rattle.std.specs.Ordering.{int_eq}
+use Rattle.std.proofs.lemmas.Bool.{and_parts, eqb-true, eq-eqb}
 use Rattle.std.proofs.lemmas.Bool.Decides.{Decides-int_eq}
 use Rattle.std.proofs.lemmas.Slice.Eq.{bytes_eq-Decides}
 use Rattle.serde_json.specs.Data.{Num, unsigned, negative, float, Data, null, boolean, number, string, array, object, Items, no_items, item, Members, no_members, member}
-use Rattle.serde_json.specs.Find.{is_float}
-use Rattle.serde_json.specs.Written.{has_float, items_have_float, members_have_float}
-use Rattle.zarrs_form.specs.Forms.{fits, none_or}
-use Rattle.zarrs_form.proofs.MemberLaws.{neither}
 use Rattle.zarrs_form.proofs.PlainForms.{both_true}
-use Rattle.zarrs_compare.specs.StepsOfSame.{same_number, same_data, same_items, same_members, same_list, same_option}
+use Rattle.zarrs_compare.specs.StepsOfSame.{same_float, same_number, same_data, same_items, same_members, same_list, same_option}
 
 -- ---- what is the same is equal
 
@@ -26,10 +23,24 @@ truth_is true false e = never e
 truth_is false true e = never e
 truth_is false false e = refl
 
+-- two `f64` that are the same are equal
+float_is : (x y : Float) → same_float x y ≡ true → x ≡ y
+float_is nan nan h = refl
+float_is (inf s) (inf t) h = ap inf (truth_is s t h)
+float_is (fin s m e) (fin t n d) h =
+    let parts = and_parts (beq s t && m == n) (int_eq e d) h in
+    let former = and_parts (beq s t) (m == n) parts.0 in
+    let sign = truth_is s t former.0 in
+    let digits = eqb-true m n former.1 in
+    let power = (Decides-int_eq e d).0 parts.1 in
+    λ i. fin (sign i) (digits i) (power i)
+float_is _ _ h = never h
+
 -- two numbers that are the same are equal
 number_is : (m n : Num) → same_number m n ≡ true → m ≡ n
 number_is (unsigned m) (unsigned n) e = ap unsigned (eqb-true m n e)
 number_is (negative y) (negative z) e = ap negative ((Decides-int_eq y z).0 e)
+number_is (float x) (float y) e = ap float (float_is x y e)
 number_is _ _ e = never e
 
 mutual
@@ -81,7 +92,7 @@ option_is same each None None h = refl
 option_is same each (Some x) (Some y) h = ap Some (each x y h)
 option_is same each _ _ h = never h
 
--- ---- what has no float is the same as itself
+-- ---- what is itself is the same
 
 -- a truth value is the same as itself
 pub truth_itself : (b : Bool) → beq b b ≡ true
@@ -92,62 +103,45 @@ truth_itself false = refl
 pub text_itself : (s : List ℕ) → bytes_eq s s ≡ true
 text_itself s = (bytes_eq-Decides s s).1 refl
 
--- a number that is no float is the same as itself
-number_itself : (n : Num) → is_float n ≡ false → same_number n n ≡ true
-number_itself (unsigned n) h = eq-eqb n n refl
-number_itself (negative z) h = (Decides-int_eq z z).1 refl
-number_itself (float x) h = absurd (true≢false h)
+-- an `f64` is the same as itself
+float_itself : (x : Float) → same_float x x ≡ true
+float_itself nan = refl
+float_itself (inf s) = truth_itself s
+float_itself (fin s m e) = both_true (beq s s && m == m) (int_eq e e) (both_true (beq s s) (m == m) (truth_itself s) (eq-eqb m m refl)) ((Decides-int_eq e e).1 refl)
+
+-- a number is the same as itself
+number_itself : (n : Num) → same_number n n ≡ true
+number_itself (unsigned n) = eq-eqb n n refl
+number_itself (negative z) = (Decides-int_eq z z).1 refl
+number_itself (float x) = float_itself x
 
 mutual
-  -- a value without a float is the same as itself
-  data_itself : (d : Data) → has_float d ≡ false → same_data d d ≡ true
-  data_itself null h = refl
-  data_itself (boolean b) h = truth_itself b
-  data_itself (number n) h = number_itself n h
-  data_itself (string s) h = text_itself s
-  data_itself (array ds) h = items_itself ds h
-  data_itself (object ms) h = members_itself ms h
+  -- a value is the same as itself
+  pub data_itself : (d : Data) → same_data d d ≡ true
+  data_itself null = refl
+  data_itself (boolean b) = truth_itself b
+  data_itself (number n) = number_itself n
+  data_itself (string s) = text_itself s
+  data_itself (array ds) = items_itself ds
+  data_itself (object ms) = members_itself ms
 
-  -- items without a float are the same as themselves
-  items_itself : (ds : Items) → items_have_float ds ≡ false → same_items ds ds ≡ true
-  items_itself no_items h = refl
-  items_itself (item d ds) h =
-      let parts = neither (has_float d) (items_have_float ds) h in
-      both_true (same_data d d) (same_items ds ds) (data_itself d parts.0) (items_itself ds parts.1)
+  -- items are the same as themselves
+  items_itself : (ds : Items) → same_items ds ds ≡ true
+  items_itself no_items = refl
+  items_itself (item d ds) = both_true (same_data d d) (same_items ds ds) (data_itself d) (items_itself ds)
 
-  -- members without a float are the same as themselves
-  members_itself : (ms : Members) → members_have_float ms ≡ false → same_members ms ms ≡ true
-  members_itself no_members h = refl
-  members_itself (member k d ms) h =
-      let parts = neither (has_float d) (members_have_float ms) h in
-      both_true (bytes_eq k k && same_data d d) (same_members ms ms) (both_true (bytes_eq k k) (same_data d d) (text_itself k) (data_itself d parts.0)) (members_itself ms parts.1)
+  -- members are the same as themselves
+  pub members_itself : (ms : Members) → same_members ms ms ≡ true
+  members_itself no_members = refl
+  members_itself (member k d ms) =
+      both_true (bytes_eq k k && same_data d d) (same_members ms ms) (both_true (bytes_eq k k) (same_data d d) (text_itself k) (data_itself d)) (members_itself ms)
 
--- a value whose numbers fit is the same as itself
-pub value_itself : (d : Data) → fits d ≡ true → same_data d d ≡ true
-value_itself d h = data_itself d (not-true (has_float d) h)
-
--- an object whose numbers fit is the same as itself
-pub object_itself : (ms : Members) → fits (object ms) ≡ true → same_members ms ms ≡ true
-object_itself ms h = members_itself ms (not-true (members_have_float ms) h)
-
--- a list is the same as itself where its items are
-pub list_itself : {A : Type 0} (same : A → A → Bool) (test : A → Bool) → ((x : A) → test x ≡ true → same x x ≡ true) → (xs : List A) → list_all test xs ≡ true → same_list same xs xs ≡ true
-list_itself same test each [] h = refl
-list_itself same test each (x ∷ xs) h =
-    let parts = and_parts (test x) (list_all test xs) h in
-    both_true (same x x) (same_list same xs xs) (each x parts.0) (list_itself same test each xs parts.1)
-
--- a list is the same as itself where every value is
-pub any_list_itself : {A : Type 0} (same : A → A → Bool) → ((x : A) → same x x ≡ true) → (xs : List A) → same_list same xs xs ≡ true
-any_list_itself same each [] = refl
-any_list_itself same each (x ∷ xs) = both_true (same x x) (same_list same xs xs) (each x) (any_list_itself same each xs)
-
--- what may be absent is the same as itself where the value is
-pub option_itself : {A : Type 0} (same : A → A → Bool) (test : A → Bool) → ((x : A) → test x ≡ true → same x x ≡ true) → (o : Option A) → none_or test o ≡ true → same_option same o o ≡ true
-option_itself same test each None h = refl
-option_itself same test each (Some x) h = each x h
+-- a list is the same as itself where every item is
+pub list_itself : {A : Type 0} (same : A → A → Bool) → ((x : A) → same x x ≡ true) → (xs : List A) → same_list same xs xs ≡ true
+list_itself same each [] = refl
+list_itself same each (x ∷ xs) = both_true (same x x) (same_list same xs xs) (each x) (list_itself same each xs)
 
 -- what may be absent is the same as itself where every value is
-pub any_option_itself : {A : Type 0} (same : A → A → Bool) → ((x : A) → same x x ≡ true) → (o : Option A) → same_option same o o ≡ true
-any_option_itself same each None = refl
-any_option_itself same each (Some x) = each x
+pub option_itself : {A : Type 0} (same : A → A → Bool) → ((x : A) → same x x ≡ true) → (o : Option A) → same_option same o o ≡ true
+option_itself same each None = refl
+option_itself same each (Some x) = each x

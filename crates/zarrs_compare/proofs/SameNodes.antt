@@ -1,21 +1,8 @@
--- The metadata of two nodes that pass the test of being the same are equal, and plain metadata are the same as themselves.
-use Rattle.std.proofs.Common.{◌≡◌, ◌==◌, ℕ, List, true, not, Option, bytes_eq, refl, ap, subst}
-use Rattle.std.specs.List.{list_all}
-use Rattle.std.proofs.lemmas.Bool.{and_parts, eqb-true, eq-eqb, not-true}
+-- The metadata of two nodes that pass the test of being the same are equal, and metadata are the same as themselves.
+use Rattle.std.proofs.Common.{◌≡◌, ◌==◌, ℕ, List, true, Option, bytes_eq, refl, ap, subst}
+use Rattle.std.proofs.lemmas.Bool.{and_parts, eqb-true, eq-eqb}
 use Rattle.std.proofs.lemmas.Slice.Eq.{bytes_eq-Decides}
-use Rattle.serde_json.specs.Data.{object, Members}
-use Rattle.serde_json.specs.Find.{get_member}
-use Rattle.serde_json.specs.Written.{members_have_float}
-use Rattle.std.specs.Prelude.{codes}
-use Rattle.zarrs_form.specs.Documents.{besides, has_own, is_null}
-use Rattle.zarrs_form.specs.Forms.{extension_fits, fits, none_or}
-use Rattle.zarrs_form.specs.FormsV2.{codec_fits, data_type_fits, has_zero}
-use Rattle.zarrs_form.proofs.PlainForms.{both_true, false_not, no_float-besides}
-use Rattle.zarrs_meta.specs.GroupV3.{group_v3_names, is_plain_group_v3}
-use Rattle.zarrs_meta.specs.GroupV2.{group_v2_names, is_plain_group_v2}
-use Rattle.zarrs_meta.specs.ArrayV3.{array_v3_names, is_plain_array_v3}
-use Rattle.zarrs_meta.specs.ArrayV2.{array_v2_names, is_plain_array_v2}
-use Rattle.zarrs_meta.specs.Node.{is_plain_node}
+use Rattle.zarrs_form.proofs.PlainForms.{both_true}
 use Rattle.zarrs_meta.specs.declared.group_v3.GroupMetadataV3.{GroupMetadataV3}
 use Rattle.zarrs_meta.specs.declared.group_v2.GroupMetadataV2.{GroupMetadataV2}
 use Rattle.zarrs_meta.specs.declared.array_v3.ArrayMetadataV3.{ArrayMetadataV3}
@@ -27,8 +14,8 @@ use Rattle.zarrs_meta.specs.declared.node.ArrayMetadata.TheVariants.{V3 as array
 use Rattle.zarrs_meta.specs.declared.node.NodeMetadata.{NodeMetadata}
 use Rattle.zarrs_meta.specs.declared.node.NodeMetadata.TheVariants.{Group, Array}
 use Rattle.zarrs_compare.specs.Same.{IsSame, without_block}
-use Rattle.zarrs_compare.specs.StepsOfSame.{block_names, same_array, same_array_v2, same_array_v3, same_codec, same_data, same_data_type, same_extension, same_group, same_group_v2, same_group_v3, same_list, same_members, same_node, same_option, same_order, same_separator}
-use Rattle.zarrs_compare.proofs.SameData.{data_is, list_is, members_is, never, option_is, any_list_itself, any_option_itself, list_itself, object_itself, option_itself, text_itself, value_itself}
+use Rattle.zarrs_compare.specs.StepsOfSame.{same_array, same_array_v2, same_array_v3, same_codec, same_data, same_data_type, same_extension, same_group, same_group_v2, same_group_v3, same_list, same_members, same_node, same_option, same_order, same_separator}
+use Rattle.zarrs_compare.proofs.SameData.{data_is, list_is, members_is, never, option_is, data_itself, list_itself, members_itself, option_itself, text_itself}
 use Rattle.zarrs_compare.proofs.SameParts.{codec_is, data_type_is, extension_is, order_is, separator_is, codec_itself, data_type_itself, extension_itself, order_itself, separator_itself}
 
 -- ---- what is the same is equal
@@ -141,42 +128,23 @@ node_is (Group m) (Group n) h = ap Group (group_is m n h)
 node_is (Array m) (Array n) h = ap Array (array_is m n h)
 node_is _ _ h = never h
 
--- ---- what is plain is the same as itself
+-- ---- what is itself is the same
 
--- the additional fields of a plain group without the block are the same as themselves
-besides_itself : (ms : Members) → fits (object ms) ≡ true → same_members (besides block_names ms) (besides block_names ms) ≡ true
-besides_itself ms h = object_itself (besides block_names ms) (false_not _ (no_float-besides block_names ms (not-true (members_have_float ms) h)))
+-- a version 3 group is the same as itself
+group_v3_itself : (m : GroupMetadataV3) → same_group_v3 m m ≡ true
+group_v3_itself m = both_true _ _ (members_itself m.attributes) (members_itself m.additional_fields)
 
--- a plain version 3 group without the block is the same as itself
-group_v3_itself : (m : GroupMetadataV3) → is_plain_group_v3 m ≡ true → same_node (without_block (Group (group_v3 m))) (without_block (Group (group_v3 m))) ≡ true
-group_v3_itself m h =
-    let to3 = and_parts _ (not (is_null (get_member (codes "consolidated_metadata") m.additional_fields))) h in
-    let to2 = and_parts _ (not (has_own group_v3_names m.additional_fields)) to3.0 in
-    let to1 = and_parts (fits (object m.attributes)) (fits (object m.additional_fields)) to2.0 in
-    both_true _ _ (object_itself m.attributes to1.0) (besides_itself m.additional_fields to1.1)
+-- a version 2 group is the same as itself
+group_v2_itself : (m : GroupMetadataV2) → same_group_v2 m m ≡ true
+group_v2_itself m = both_true _ _ (members_itself m.attributes) (members_itself m.additional_fields)
 
--- a plain version 2 group is the same as itself
-group_v2_itself : (m : GroupMetadataV2) → is_plain_group_v2 m ≡ true → same_group_v2 m m ≡ true
-group_v2_itself m h =
-    let to2 = and_parts _ (not (has_own group_v2_names m.additional_fields)) h in
-    let to1 = and_parts (fits (object m.attributes)) (fits (object m.additional_fields)) to2.0 in
-    both_true _ _ (object_itself m.attributes to1.0) (object_itself m.additional_fields to1.1)
-
--- a number is the same as itself
+-- a length is the same as itself
 length_itself : (n : ℕ) → (n == n) ≡ true
 length_itself n = eq-eqb n n refl
 
--- a plain version 3 array is the same as itself
-array_v3_itself : (m : ArrayMetadataV3) → is_plain_array_v3 m ≡ true → same_array_v3 m m ≡ true
-array_v3_itself m h =
-    let to8 = and_parts _ (not (has_own array_v3_names m.additional_fields)) h in
-    let to7 = and_parts _ (fits (object m.additional_fields)) to8.0 in
-    let to6 = and_parts _ (list_all extension_fits m.storage_transformers) to7.0 in
-    let to5 = and_parts _ (fits (object m.attributes)) to6.0 in
-    let to4 = and_parts _ (list_all extension_fits m.codecs) to5.0 in
-    let to3 = and_parts _ (fits m.fill_value) to4.0 in
-    let to2 = and_parts _ (extension_fits m.chunk_key_encoding) to3.0 in
-    let to1 = and_parts (extension_fits m.data_type) (extension_fits m.chunk_grid) to2.0 in
+-- a version 3 array is the same as itself
+array_v3_itself : (m : ArrayMetadataV3) → same_array_v3 m m ≡ true
+array_v3_itself m =
     both_true _ _
     (both_true _ _
     (both_true _ _
@@ -185,26 +153,19 @@ array_v3_itself m h =
     (both_true _ _
     (both_true _ _
     (both_true _ _
-    (both_true _ _ (any_list_itself ◌==◌ length_itself m.shape) (extension_itself m.data_type to1.0))
-    (extension_itself m.chunk_grid to1.1))
-    (extension_itself m.chunk_key_encoding to2.1))
-    (value_itself m.fill_value to3.1))
-    (list_itself same_extension extension_fits extension_itself m.codecs to4.1))
-    (object_itself m.attributes to5.1))
-    (list_itself same_extension extension_fits extension_itself m.storage_transformers to6.1))
-    (any_option_itself (same_list (same_option bytes_eq)) (any_list_itself (same_option bytes_eq) (any_option_itself bytes_eq text_itself)) m.dimension_names))
-    (object_itself m.additional_fields to7.1)
+    (both_true _ _ (list_itself ◌==◌ length_itself m.shape) (extension_itself m.data_type))
+    (extension_itself m.chunk_grid))
+    (extension_itself m.chunk_key_encoding))
+    (data_itself m.fill_value))
+    (list_itself same_extension extension_itself m.codecs))
+    (members_itself m.attributes))
+    (list_itself same_extension extension_itself m.storage_transformers))
+    (option_itself (same_list (same_option bytes_eq)) (list_itself (same_option bytes_eq) (option_itself bytes_eq text_itself)) m.dimension_names))
+    (members_itself m.additional_fields)
 
--- a plain version 2 array is the same as itself
-array_v2_itself : (m : ArrayMetadataV2) → is_plain_array_v2 m ≡ true → same_array_v2 m m ≡ true
-array_v2_itself m h =
-    let to7 = and_parts _ (not (has_own array_v2_names m.additional_fields)) h in
-    let to6 = and_parts _ (fits (object m.additional_fields)) to7.0 in
-    let to5 = and_parts _ (fits (object m.attributes)) to6.0 in
-    let to4 = and_parts _ (none_or (list_all codec_fits) m.filters) to5.0 in
-    let to3 = and_parts _ (none_or codec_fits m.compressor) to4.0 in
-    let to2 = and_parts _ (fits m.fill_value) to3.0 in
-    let to1 = and_parts (not (has_zero m.chunks)) (data_type_fits m.dtype) to2.0 in
+-- a version 2 array is the same as itself
+array_v2_itself : (m : ArrayMetadataV2) → same_array_v2 m m ≡ true
+array_v2_itself m =
     both_true _ _
     (both_true _ _
     (both_true _ _
@@ -213,29 +174,29 @@ array_v2_itself m h =
     (both_true _ _
     (both_true _ _
     (both_true _ _
-    (both_true _ _ (any_list_itself ◌==◌ length_itself m.shape) (any_list_itself ◌==◌ length_itself m.chunks))
-    (data_type_itself m.dtype to1.1))
-    (value_itself m.fill_value to2.1))
+    (both_true _ _ (list_itself ◌==◌ length_itself m.shape) (list_itself ◌==◌ length_itself m.chunks))
+    (data_type_itself m.dtype))
+    (data_itself m.fill_value))
     (order_itself m.order))
-    (option_itself same_codec codec_fits codec_itself m.compressor to3.1))
-    (option_itself (same_list same_codec) (list_all codec_fits) (list_itself same_codec codec_fits codec_itself) m.filters to4.1))
+    (option_itself same_codec codec_itself m.compressor))
+    (option_itself (same_list same_codec) (list_itself same_codec codec_itself) m.filters))
     (separator_itself m.dimension_separator))
-    (object_itself m.attributes to5.1))
-    (object_itself m.additional_fields to6.1)
+    (members_itself m.attributes))
+    (members_itself m.additional_fields)
 
--- a plain node without the block is the same as itself
-node_itself : (m : NodeMetadata) → is_plain_node m ≡ true → same_node (without_block m) (without_block m) ≡ true
-node_itself (Group (group_v3 m)) h = group_v3_itself m h
-node_itself (Group (group_v2 m)) h = group_v2_itself m h
-node_itself (Array (array_v3 m)) h = array_v3_itself m h
-node_itself (Array (array_v2 m)) h = array_v2_itself m h
+-- a node is the same as itself
+node_itself : (m : NodeMetadata) → same_node m m ≡ true
+node_itself (Group (group_v3 m)) = group_v3_itself m
+node_itself (Group (group_v2 m)) = group_v2_itself m
+node_itself (Array (array_v3 m)) = array_v3_itself m
+node_itself (Array (array_v2 m)) = array_v2_itself m
 
 -- ---- the call
 
--- plain metadata that pass the test are the same
-pub same_from_test : (m n : NodeMetadata) → is_plain_node m ≡ true → is_plain_node n ≡ true → same_node (without_block m) (without_block n) ≡ true → IsSame m n
-same_from_test m n plain_m plain_n h = (plain_m, plain_n, node_is (without_block m) (without_block n) h)
+-- metadata that pass the test are the same
+pub same_from_test : (m n : NodeMetadata) → same_node (without_block m) (without_block n) ≡ true → IsSame m n
+same_from_test m n h = node_is (without_block m) (without_block n) h
 
 -- metadata that are the same pass the test
 pub test_from_same : (m n : NodeMetadata) → IsSame m n → same_node (without_block m) (without_block n) ≡ true
-test_from_same m n h = subst (λ (k : NodeMetadata). same_node (without_block m) k ≡ true) h.2 (node_itself m h.0)
+test_from_same m n h = subst (λ (k : NodeMetadata). same_node (without_block m) k ≡ true) h (node_itself (without_block m))

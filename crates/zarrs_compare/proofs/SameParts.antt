@@ -1,12 +1,8 @@
--- Parts of metadata that pass the test of being the same are equal, and parts whose numbers fit are the same as themselves.
-use Rattle.std.proofs.Common.{◌≡◌, true, not, ◌&&◌, bytes_eq, refl, ap}
+-- Parts of metadata that pass the test of being the same are equal, and parts are the same as themselves.
+use Rattle.std.proofs.Common.{◌≡◌, true, ◌&&◌, bytes_eq, refl, ap}
 use Rattle.std.specs.Bool.{beq}
 use Rattle.std.proofs.lemmas.Bool.{and_parts}
 use Rattle.std.proofs.lemmas.Slice.Eq.{bytes_eq-Decides}
-use Rattle.serde_json.specs.Data.{object}
-use Rattle.zarrs_form.specs.Documents.{has_own}
-use Rattle.zarrs_form.specs.Forms.{extension_fits, fits}
-use Rattle.zarrs_form.specs.FormsV2.{codec_fits, codec_names, data_type_fits}
 use Rattle.zarrs_form.specs.declared.extension.MetadataV3.{MetadataV3}
 use Rattle.zarrs_form.specs.declared.codec.MetadataV2.{MetadataV2}
 use Rattle.zarrs_form.specs.declared.data_type.DataTypeMetadataV2.{DataTypeMetadataV2}
@@ -17,7 +13,7 @@ use Rattle.zarrs_form.specs.declared.chunks.ChunkKeySeparator.{ChunkKeySeparator
 use Rattle.zarrs_form.specs.declared.chunks.ChunkKeySeparator.TheVariants.{Dot, Slash}
 use Rattle.zarrs_form.proofs.PlainForms.{both_true}
 use Rattle.zarrs_compare.specs.StepsOfSame.{same_codec, same_data, same_data_type, same_extension, same_members, same_option, same_order, same_separator}
-use Rattle.zarrs_compare.proofs.SameData.{data_is, list_is, members_is, never, option_is, truth_is, list_itself, object_itself, option_itself, text_itself, truth_itself, value_itself}
+use Rattle.zarrs_compare.proofs.SameData.{data_is, list_is, members_is, never, option_is, truth_is, data_itself, list_itself, members_itself, option_itself, text_itself, truth_itself}
 
 -- ---- what is the same is equal
 
@@ -57,26 +53,23 @@ separator_is Dot Dot h = refl
 separator_is Slash Slash h = refl
 separator_is _ _ h = never h
 
--- ---- what fits is the same as itself
+-- ---- what is itself is the same
 
--- an extension that fits is the same as itself
-pub extension_itself : (m : MetadataV3) → extension_fits m ≡ true → same_extension m m ≡ true
-extension_itself m h =
+-- an extension is the same as itself
+pub extension_itself : (m : MetadataV3) → same_extension m m ≡ true
+extension_itself m =
     both_true (bytes_eq m.name m.name && same_option same_members m.configuration m.configuration) (beq m.must_understand m.must_understand)
-    (both_true (bytes_eq m.name m.name) (same_option same_members m.configuration m.configuration)
-    (text_itself m.name) (option_itself same_members (λ ms. fits (object ms)) object_itself m.configuration h))
+    (both_true (bytes_eq m.name m.name) (same_option same_members m.configuration m.configuration) (text_itself m.name) (option_itself same_members members_itself m.configuration))
     (truth_itself m.must_understand)
 
--- a codec that fits is the same as itself
-pub codec_itself : (m : MetadataV2) → codec_fits m ≡ true → same_codec m m ≡ true
-codec_itself m h =
-    let parts = and_parts (fits (object m.configuration)) (not (has_own codec_names m.configuration)) h in
-    both_true (bytes_eq m.id m.id) (same_members m.configuration m.configuration) (text_itself m.id) (object_itself m.configuration parts.0)
+-- a codec is the same as itself
+pub codec_itself : (m : MetadataV2) → same_codec m m ≡ true
+codec_itself m = both_true (bytes_eq m.id m.id) (same_members m.configuration m.configuration) (text_itself m.id) (members_itself m.configuration)
 
--- a data type that fits is the same as itself
-pub data_type_itself : (m : DataTypeMetadataV2) → data_type_fits m ≡ true → same_data_type m m ≡ true
-data_type_itself (Simple s) h = text_itself s
-data_type_itself (Structured ds) h = list_itself same_data fits value_itself ds h
+-- a data type is the same as itself
+pub data_type_itself : (m : DataTypeMetadataV2) → same_data_type m m ≡ true
+data_type_itself (Simple s) = text_itself s
+data_type_itself (Structured ds) = list_itself same_data data_itself ds
 
 -- an order is the same as itself
 pub order_itself : (m : ArrayMetadataV2Order) → same_order m m ≡ true

@@ -3,9 +3,8 @@
 -- <https://zarr-specs.readthedocs.io/en/latest/v2/v2.0.html#metadata>
 --     without_block      the metadata of a node, what is said of the nodes below it left out
 --     IsSame             that two nodes have the same metadata
-use Rattle.std.specs.Prelude.{◌≡◌, [], ◌∷◌, IsTrue, codes}
+use Rattle.std.specs.Prelude.{◌≡◌, [], ◌∷◌, codes}
 use Rattle.zarrs_form.specs.Documents.{besides}
-use Rattle.zarrs_meta.specs.Node.{is_plain_node}
 use Rattle.zarrs_meta.specs.declared.node.GroupMetadata.TheVariants.{V3 as group_v3, V2 as group_v2}
 use Rattle.zarrs_meta.specs.declared.node.NodeMetadata.{NodeMetadata}
 use Rattle.zarrs_meta.specs.declared.node.NodeMetadata.TheVariants.{Group, Array}
@@ -16,6 +15,7 @@ without_block (Group (group_v3 m)) = Group (group_v3 (record m { additional_fiel
 without_block (Group (group_v2 m)) = Group (group_v2 m)
 without_block (Array m) = Array m
 
--- two metadata are the same: both could have come from a document, and they are equal once the field `consolidated_metadata` of version 3 groups is left out
+-- two metadata are the same: they are equal as data once the field `consolidated_metadata` of version 3 groups is left out. Equal are two whole numbers of one value, and two
+-- others of one sign and one value; a whole number, as `1`, is none of the others, as `1.0`
 abbrev pub IsSame : NodeMetadata → NodeMetadata → Type 0
-IsSame m n = IsTrue (is_plain_node m) × IsTrue (is_plain_node n) × (without_block m ≡ without_block n)
+IsSame m n = without_block m ≡ without_block n

@@ -1,9 +1,10 @@
--- Steps of a comparison of two metadata, part by part, as tests that compute; no public contract rests on them. A number that is neither `u64` nor `i64` is the same as none.
+-- Steps of a comparison of two metadata, part by part, as tests that compute; no public contract rests on them.
 use Rattle.std.specs.Prelude.{ℕ, List, [], ◌∷◌, Bool, true, false, ◌&&◌, ◌==◌, bytes_eq, Option, Some, None, String, string_bytes, codes}
 use Rattle.std.specs.Bool.{beq}
+use Rattle.std.specs.Float.{Float, nan, inf, fin}
 use Rattle.std.specs.Global.{Global}
 use Rattle.std.specs.Ordering.{int_eq}
-use Rattle.serde_json.specs.Data.{Num, unsigned, negative, Data, null, boolean, number, string, array, object, Items, no_items, item, Members, no_members, member}
+use Rattle.serde_json.specs.Data.{Num, unsigned, negative, float, Data, null, boolean, number, string, array, object, Items, no_items, item, Members, no_members, member}
 use Rattle.zarrs_form.specs.declared.extension.MetadataV3.{MetadataV3}
 use Rattle.zarrs_form.specs.declared.codec.MetadataV2.{MetadataV2}
 use Rattle.zarrs_form.specs.declared.data_type.DataTypeMetadataV2.{DataTypeMetadataV2}
@@ -25,10 +26,18 @@ use Rattle.zarrs_meta.specs.declared.node.NodeMetadata.TheVariants.{Group, Array
 
 -- ---- JSON data
 
--- two numbers are one whole number
+-- two `f64` are one: both are no number, or one infinity, or one value with one sign, so `0.0` is not `-0.0`
+abbrev pub same_float : Float → Float → Bool
+same_float nan nan = true
+same_float (inf s) (inf t) = beq s t
+same_float (fin s m e) (fin t n d) = (beq s t && m == n) && int_eq e d
+same_float _ _ = false
+
+-- two numbers are one: both are `u64`, both are `i64`, or both are `f64`
 abbrev pub same_number : Num → Num → Bool
 same_number (unsigned m) (unsigned n) = m == n
 same_number (negative y) (negative z) = int_eq y z
+same_number (float x) (float y) = same_float x y
 same_number _ _ = false
 
 abbrev mutual

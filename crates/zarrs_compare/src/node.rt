@@ -1,8 +1,7 @@
 //! The metadata of two nodes of either kind and either version.
-ghost use Rattle.std.specs.Prelude.{◌≡◌, ◌&&◌, ◌↔◌, IsTrue};
+ghost use Rattle.std.specs.Prelude.{◌≡◌, ◌↔◌, IsTrue};
 ghost use Rattle.zarrs_compare.specs.Same.{IsSame, without_block};
 ghost use Rattle.zarrs_compare.specs.StepsOfSame.{same_array, same_array_v2, same_array_v3, same_group_v2, same_node};
-ghost use Rattle.zarrs_meta.specs.Node.{is_plain_node};
 ghost use Rattle.zarrs_meta.specs.declared.node.GroupMetadata.TheVariants.{V3 as group_v3};
 ghost use Rattle.zarrs_meta.specs.declared.node.NodeMetadata.TheVariants.{Group};
 
@@ -14,21 +13,15 @@ use zarrs_meta::{
 };
 
 /// Whether two metadata are the same as data, the field `consolidated_metadata` of version 3 groups left out on both
-/// sides. Metadata that could not have come from a document are the same as none.
+/// sides. Whole numbers are compared by their values, and all others by their 64 bits: `0.0` is not `-0.0`, nor is `1`
+/// `1.0`, and `6.37814e+06` is `6378140.0`.
 ///
 /// Source: own; `zarrs_metadata::NodeMetadata` has `==`.
 /// <https://zarr-specs.readthedocs.io/en/latest/v3/core/index.html#metadata>
 pub fn is_same_metadata(first: &NodeMetadata, second: &NodeMetadata) -> bool
     ensures same { IsTrue result ↔ IsSame first.now second.now }
 {
-    are_plain(first, second) && is_same_node(first, second)
-}
-
-/// Whether both metadata could have come from a document.
-fn are_plain(first: &NodeMetadata, second: &NodeMetadata) -> bool
-    ensures { result ≡ (is_plain_node first.now && is_plain_node second.now) }
-{
-    first.is_plain() && second.is_plain()
+    is_same_node(first, second)
 }
 
 /// Whether two nodes are the same, but for what is said of the nodes below.

@@ -1,12 +1,13 @@
 //! JSON values, compared as data.
-ghost use Rattle.std.specs.Prelude.{◌≡◌, None};
-ghost use Rattle.serde_json.specs.Find.{as_u64};
+ghost use Rattle.std.specs.Prelude.{◌≡◌, ◌↔◌, IsTrue, None, true};
+ghost use Rattle.serde_json.specs.Find.{as_u64, is_float};
 ghost use Rattle.serde_json.specs.View.{items_view, members_view, number_view, view};
 ghost use Rattle.zarrs_compare.specs.StepsOfSame.{same_data, same_items, same_members, same_number};
 
 use serde_json::{Map, Number, Value};
+use std::num::f64_to_bits_with_nan;
 
-/// Whether two JSON values are the same. A number that is neither `u64` nor `i64` is the same as none.
+/// Whether two JSON values are the same.
 #[cycle(is_same_value)]
 pub(crate) fn is_same_value(first: &Value, second: &Value) -> bool
     ensures { result ≡ same_data (view first.now) (view second.now) }
@@ -63,7 +64,7 @@ fn is_same_members(first: &Map<String, Value>, second: &Map<String, Value>) -> b
     others.next().is_none()
 }
 
-/// Whether two numbers are one whole number.
+/// Whether two numbers are one: both `u64`, both `i64`, or both neither and then of the same 64 bits.
 fn is_same_number(first: &Number, second: &Number) -> bool
     ensures { result ≡ same_number (number_view first.now) (number_view second.now) }
 {
@@ -73,7 +74,7 @@ fn is_same_number(first: &Number, second: &Number) -> bool
     }
 }
 
-/// Whether two numbers, neither of them `u64`, are one whole number.
+/// Whether two numbers, neither of them `u64`, are one.
 fn is_same_below_zero(first: &Number, second: &Number) -> bool
     requires first { as_u64 (number_view first.now) ≡ None }
     requires second { as_u64 (number_view second.now) ≡ None }
@@ -81,6 +82,28 @@ fn is_same_below_zero(first: &Number, second: &Number) -> bool
 {
     match first.as_i64() {
         Some(number) => second.as_i64() == Some(number),
+        None => !second.is_i64() && is_same_fraction(first, second),
+    }
+}
+
+/// Whether two numbers, neither of them `u64` or `i64`, are one.
+fn is_same_fraction(first: &Number, second: &Number) -> bool
+    requires first { is_float (number_view first.now) ≡ true }
+    requires second { is_float (number_view second.now) ≡ true }
+    ensures { result ≡ same_number (number_view first.now) (number_view second.now) }
+{
+    match first.as_f64() {
+        Some(number) => match second.as_f64() {
+            Some(other) => has_same_bits(number, other),
+            None => false,
+        },
         None => false,
     }
+}
+
+/// Whether two `f64` have the same bits. By `==` 0 would be -0.
+fn has_same_bits(first: f64, second: f64) -> bool
+    ensures { IsTrue result ↔ (first ≡ second) }
+{
+    f64_to_bits_with_nan(first) == f64_to_bits_with_nan(second)
 }
