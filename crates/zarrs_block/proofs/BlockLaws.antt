@@ -1,5 +1,5 @@
 -- Blocks, entry by entry.
-use Rattle.std.proofs.Common.{◌≡◌, ℕ, false, List, [], ◌∷◌, ◌++◌, map, String, Global, string_bytes, string_cmp, nat_cmp, Ordering, Less, Equal, Greater, Option, Some, None, IfSome, option_map, Ok, codes, cond, refl, ap, sym, subst, append_assoc, ◌∙◌}
+use Rattle.std.proofs.Common.{◌≡◌, ℕ, List, [], ◌∷◌, ◌++◌, map, String, Global, string_bytes, string_cmp, nat_cmp, Ordering, Less, Equal, Greater, Option, Some, None, option_map, Ok, codes, cond, refl, ap, sym, subst, append_assoc, ◌∙◌}
 use Rattle.std.specs.List.{AllByRecursion}
 use Rattle.std.specs.List.Sorted.{IsStrictlySortedBy}
 use Rattle.std.specs.Map.{keys_of, lookup}
@@ -8,20 +8,17 @@ use Rattle.std.specs.Ordering.{is_eq, match_ordering, ordering_reverse}
 use Rattle.std.specs.Cmp.Lexicographic.{slice_cmp}
 use Rattle.std.specs.Result.{result_ok}
 use Rattle.std.proofs.lemmas.Cmp.{nat_list_cmp_total}
-use Rattle.serde_json.specs.Data.{Data, null, boolean, number, string, array, object, Members, member, put as put_member}
-use Rattle.serde_json.specs.Find.{get_member, as_object}
+use Rattle.serde_json.specs.Data.{Data, Members, member, put as put_member}
 use Rattle.serde_json.specs.View.{view, members_view}
-use Rattle.serde_json.specs.Written.{has_float, members_have_float}
 use Rattle.serde_json.proofs.Views.{Entry}
 use Rattle.zarrs_store.specs.Segments.{bytes_cmp}
 use Rattle.zarrs_form.specs.Documents.{form_or_fault}
 use Rattle.zarrs_form.specs.Forms.{◌>>=◌}
-use Rattle.zarrs_form.proofs.MemberLaws.{neither}
-use Rattle.zarrs_form.proofs.PlainForms.{member_fits}
 use Rattle.zarrs_form.proofs.Shared.{members_by, put_last as put_member_last}
-use Rattle.zarrs_meta.specs.Node.{node_of, node_tree}
+use Rattle.zarrs_fault.specs.declared.numbers.Numbers.{Numbers}
+use Rattle.zarrs_meta.specs.Node.{node_in, node_tree}
 use Rattle.zarrs_meta.specs.declared.node.NodeMetadata.{NodeMetadata}
-use Rattle.zarrs_block.specs.Block.{Block, node_at_key, put, nodes_of, documents}
+use Rattle.zarrs_block.specs.Block.{Block, node_at_key, put, nodes_in, documents}
 
 -- the entries of a map, as a block
 abbrev pub shown : List (String Global × NodeMetadata) → Block
@@ -145,17 +142,17 @@ all_written ms B left none h =
 -- ---- reading
 
 -- what was read, with what is read of the further members behind it
-abbrev pub with_rest : Block → List Entry → Option Block
-with_rest B es = option_map (λ C. B ++ C) (nodes_of (members_view es))
+abbrev pub with_rest : Numbers → Block → List Entry → Option Block
+with_rest numbers B es = option_map (λ C. B ++ C) (nodes_in numbers (members_view es))
 
 with_none : (o : Option Block) → option_map (λ C. [] ++ C) o ≡ o
 with_none None = refl
 with_none (Some C) = refl
 
 -- at first nothing is read, and all is left
-pub none_read : (B : Block) (left es : List Entry) → B ≡ [] → left ≡ es → IsStrictlySortedBy string_cmp (keys_of es)
-    → IsStrictlySortedBy bytes_cmp (keys_of B ++ texts left) × (with_rest B left ≡ nodes_of (members_view es))
-none_read B left es none is h = rw (none, is) (texts_ascend es h, with_none (nodes_of (members_view es)))
+pub none_read : (numbers : Numbers) (B : Block) (left es : List Entry) → B ≡ [] → left ≡ es → IsStrictlySortedBy string_cmp (keys_of es)
+    → IsStrictlySortedBy bytes_cmp (keys_of B ++ texts left) × (with_rest numbers B left ≡ nodes_in numbers (members_view es))
+none_read numbers B left es none is h = rw (none, is) (texts_ascend es h, with_none (nodes_in numbers (members_view es)))
 
 formed_ok : {A : Type 0} (name : List ℕ) (o : Option A) → result_ok (form_or_fault name o) ≡ o
 formed_ok name None = refl
@@ -169,33 +166,16 @@ next_by : (B : Block) (x : List ℕ × NodeMetadata) (o : Option Block) → opti
 next_by B x None = refl
 next_by B x (Some C) = ap Some (append_assoc B (x ∷ []) C)
 
-reads_next : (B : Block) (e : Entry) (es : List Entry) (m : NodeMetadata) → result_ok (node_of (view e.1)) ≡ Some m
-    → with_rest (B ++ (string_bytes e.0, m) ∷ []) es ≡ with_rest B (e ∷ es)
-reads_next B e es m is = rw is (next_by B (string_bytes e.0, m) (nodes_of (members_view es)))
+reads_next : (numbers : Numbers) (B : Block) (e : Entry) (es : List Entry) (m : NodeMetadata) → result_ok (node_in numbers (view e.1)) ≡ Some m
+    → with_rest numbers (B ++ (string_bytes e.0, m) ∷ []) es ≡ with_rest numbers B (e ∷ es)
+reads_next numbers B e es m is = rw is (next_by B (string_bytes e.0, m) (nodes_in numbers (members_view es)))
 
 -- one more is read
-pub read_next : (B C : Block) (o : Option Block) (left : List Entry) (e : Entry) (es : List Entry) (t : List ℕ) (m : NodeMetadata)
-    → left ≡ e ∷ es → t ≡ string_bytes e.0 → form_or_fault (codes "metadata") (result_ok (node_of (view e.1))) ≡ Ok m → C ≡ put t m B
-    → IsStrictlySortedBy bytes_cmp (keys_of B ++ texts left) × (with_rest B left ≡ o) → IsStrictlySortedBy bytes_cmp (keys_of C ++ texts es) × (with_rest C es ≡ o)
-read_next B C o left e es t m is key reads new h =
+pub read_next : (numbers : Numbers) (B C : Block) (o : Option Block) (left : List Entry) (e : Entry) (es : List Entry) (t : List ℕ) (m : NodeMetadata)
+    → left ≡ e ∷ es → t ≡ string_bytes e.0 → form_or_fault (codes "metadata") (result_ok (node_in numbers (view e.1))) ≡ Ok m → C ≡ put t m B
+    → IsStrictlySortedBy bytes_cmp (keys_of B ++ texts left) × (with_rest numbers B left ≡ o) → IsStrictlySortedBy bytes_cmp (keys_of C ++ texts es) × (with_rest numbers C es ≡ o)
+read_next numbers B C o left e es t m is key reads new h =
     let step = grown B C left e es t m is key new h.0 in (
       step.1,
-      ap (λ K. with_rest K es) step.0 ∙ reads_next B e es m (formed_some (codes "metadata") (result_ok (node_of (view e.1))) m reads) ∙ ap (with_rest B) (sym is) ∙ h.1,
+      ap (λ K. with_rest numbers K es) step.0 ∙ reads_next numbers B e es m (formed_some (codes "metadata") (result_ok (node_in numbers (view e.1))) m reads) ∙ ap (with_rest numbers B) (sym is) ∙ h.1,
     )
-
--- the first of members that have no float has none, and neither do the others
-pub without_floats : (left : List Entry) (e : Entry) (es : List Entry) → left ≡ e ∷ es → members_have_float (members_view left) ≡ false
-    → (has_float (view e.1) ≡ false) × (members_have_float (members_view es) ≡ false)
-without_floats left e es is none = neither (has_float (view e.1)) (members_have_float (members_view es)) (subst (λ xs. members_have_float (members_view xs) ≡ false) is none)
-
--- nor do the members of an object at a name
-pub without_floats_at : (name : List ℕ) (ms : Members) (d : Data) (ns : Members) → members_have_float ms ≡ false → get_member name ms ≡ Some d → as_object d ≡ Some ns → members_have_float ns ≡ false
-without_floats_at name ms d ns none at is = by d is (subst (λ o. IfSome o (λ e. has_float e ≡ false)) at (member_fits name ms none))
-  where
-    by : (d : Data) → as_object d ≡ Some ns → has_float d ≡ false → members_have_float ns ≡ false
-    by null is none = cc
-    by (boolean b) is none = cc
-    by (number n) is none = cc
-    by (string s) is none = cc
-    by (array ds) is none = cc
-    by (object ms) is none = let same : ms ≡ ns = cc in subst (λ xs. members_have_float xs ≡ false) same none

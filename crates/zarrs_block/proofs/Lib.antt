@@ -6,6 +6,7 @@ pub mod LastSlash
 pub mod Runs
 pub mod ZmetadataSteps
 pub mod BlockLaws
+pub mod NumbersWithin
 pub mod KeyLaws
 pub mod Expansion
 pub mod Covered
@@ -19,3 +20,4 @@ pub mod ZmetadataDocuments
 pub mod BlockFrom
 pub mod ZmetadataAgain
 pub mod PrettyBlock
+pub mod MoreBlocks

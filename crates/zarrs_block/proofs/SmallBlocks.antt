@@ -10,6 +10,7 @@ use Rattle.serde_json.specs.Data.{Data, Members}
 use Rattle.zarrs_store.specs.Segments.{Segments, bytes_cmp, key_cmp, key_text}
 use Rattle.zarrs_fault.specs.declared.fault.MetadataFault.{MetadataFault}
 use Rattle.zarrs_fault.specs.declared.fault.MetadataFault.TheVariants.{BadMember}
+use Rattle.zarrs_fault.specs.declared.numbers.Numbers.{Numbers}
 use Rattle.zarrs_store.proofs.Cuts.{parts-join, parts_some, segments_clean}
 use Rattle.zarrs_path.specs.Names.{is_name}
 use Rattle.zarrs_path.specs.Paths.{Path, IsPath}
@@ -21,8 +22,8 @@ use Rattle.zarrs_meta.specs.declared.node.NodeMetadata.{NodeMetadata}
 use Rattle.zarrs_block.specs.Block.{Block, IsAscending, node_at_key}
 use Rattle.zarrs_block.specs.declared.node_create_error.NodeCreateError.{NodeCreateError}
 use Rattle.zarrs_block.specs.Meaning.{Meaning, node, nothing, bad}
-use Rattle.zarrs_block.specs.Small.{small_meaning, stretches, counted_members, small}
-use Rattle.zarrs_block.specs.Zmetadata.{before_last, documents_below, is_bad, is_good, with_node, block_from, small_block, zmetadata_members, zmetadata_of, HoldsStore, IsClean, IsZmetadataFault}
+use Rattle.zarrs_block.specs.Small.{small_meaning_in, stretches, counted_members, small}
+use Rattle.zarrs_block.specs.Zmetadata.{before_last, documents_below, is_bad, is_good, with_node, block_from, small_block_in, zmetadata_members_in, zmetadata_in, HoldsStoreIn, IsCleanIn, IsZmetadataFaultIn}
 use Rattle.zarrs_block.specs.StepsOfZmetadata.{read_documents, read_files, member_at, are_named}
 use Rattle.zarrs_block.proofs.Expansion.{at_itself, same_text}
 use Rattle.zarrs_block.proofs.Puts.{found_put, put_ascends, none_ascend}
@@ -176,28 +177,28 @@ module _ (of : Path → Meaning) where
 
 -- ---- the documents of a path
 
-module _ (ms : Members) where
+module _ (numbers : Numbers) (ms : Members) where
   -- what a path means behind no base
   abbrev pub meant : Path → Meaning
-  meant = small_meaning (small [] ms)
+  meant = small_meaning_in numbers (small [] ms)
 
   -- a document of the path counts
   abbrev pub HasDocument : Path → Type 0
   HasDocument q = (f : List ℕ) × (d : Data) × (find key_cmp (q ++ f ∷ []) (counted_members ms) ≡ Some d)
 
   -- a document of a path counts, or it means nothing
-  pub document_or_none : (q : Path) → HasDocument q ⊎ (result_ok (looked_up ms q) ≡ Some None)
+  pub document_or_none : (q : Path) → HasDocument q ⊎ (result_ok (looked_up numbers ms q) ≡ Some None)
   document_or_none q = by (find key_cmp (q ++ zarray ∷ []) (counted_members ms)) refl (find key_cmp (q ++ zgroup ∷ []) (counted_members ms)) refl
     where
       by : (a : Option Data) → find key_cmp (q ++ zarray ∷ []) (counted_members ms) ≡ a → (g : Option Data) → find key_cmp (q ++ zgroup ∷ []) (counted_members ms) ≡ g
-          → HasDocument q ⊎ (result_ok (read_documents a g (find key_cmp (q ++ zattrs ∷ []) (counted_members ms))) ≡ Some None)
+          → HasDocument q ⊎ (result_ok (read_documents numbers a g (find key_cmp (q ++ zattrs ∷ []) (counted_members ms))) ≡ Some None)
       by (Some d) is g _ = inl (zarray, d, is)
       by None _ (Some d) is = inl (zgroup, d, is)
       by None _ None _ = inr refl
 
   -- behind any base a path means what it means behind none
-  pub same_read : (b q : Path) → as_read (small_meaning (small b ms) (b ++ q)) ≡ as_read (meant q)
-  same_read b q = based_read b q ms ∙ sym (based_read [] q ms)
+  pub same_read : (b q : Path) → as_read (small_meaning_in numbers (small b ms) (b ++ q)) ≡ as_read (meant q)
+  same_read b q = based_read numbers b q ms ∙ sym (based_read numbers [] q ms)
 
   module _ (good : all_good meant (counted_members ms) ≡ true) where
     -- a path with a document is of names
@@ -213,15 +214,15 @@ module _ (ms : Members) where
         (sound_of_good meant ((n ∷ ns) ++ f ∷ []) (good_found meant (counted_members ms) ((n ∷ ns) ++ f ∷ []) d (ap is_nil (before_last-child (n ∷ ns) f)) good is))
 
     -- no path below the group is bad
-    pub some_read : (n : List ℕ) (ns : Path) → result_ok (looked_up ms (n ∷ ns)) ≢ None
+    pub some_read : (n : List ℕ) (ns : Path) → result_ok (looked_up numbers ms (n ∷ ns)) ≢ None
     some_read n ns none =
-        ⊎_elim (λ has. true≢false (sym (bad_from (meant (n ∷ ns)) (based_read [] (n ∷ ns) ms ∙ none)) ∙ sound_good n ns has))
+        ⊎_elim (λ has. true≢false (sym (bad_from (meant (n ∷ ns)) (based_read numbers [] (n ∷ ns) ms ∙ none)) ∙ sound_good n ns has))
         (λ empty. let both : Some None ≡ None = sym empty ∙ none in cc) (document_or_none (n ∷ ns))
 
     -- a path below the group that means metadata has a document
     pub has_document : (n : List ℕ) (ns : Path) (m : NodeMetadata) → meant (n ∷ ns) ≡ node m → HasDocument (n ∷ ns)
     has_document n ns m is =
-        ⊎_elim (λ has. has) (λ empty. let both : Some (Some m) ≡ Some None = sym (ap as_read is) ∙ based_read [] (n ∷ ns) ms ∙ empty in cc) (document_or_none (n ∷ ns))
+        ⊎_elim (λ has. has) (λ empty. let both : Some (Some m) ≡ Some None = sym (ap as_read is) ∙ based_read numbers [] (n ∷ ns) ms ∙ empty in cc) (document_or_none (n ∷ ns))
 
     -- the block has what the paths below the group mean
     pub meant_held : (n : List ℕ) (ns : Path) (m : NodeMetadata) → meant (n ∷ ns) ≡ node m → node_at_key (block_from meant (documents_below ms)) (key_text (n ∷ ns)) ≡ Some m
@@ -230,55 +231,55 @@ module _ (ms : Members) where
         held_at meant n ns m (path_good n ns has) is has.0 has.1 (counted_members ms) good has.2
 
     -- the block holds the store
-    pub holds_small : HoldsStore ms (block_from meant (documents_below ms))
+    pub holds_small : HoldsStoreIn numbers ms (block_from meant (documents_below ms))
     holds_small b t m = (
-      λ h. let w = meant_from meant t m (counted_members ms) h in (w.0, w.1, w.2, node_from (small_meaning (small b ms) (b ++ w.0 ∷ w.1)) m (same_read b (w.0 ∷ w.1) ∙ ap as_read w.3)),
+      λ h. let w = meant_from meant t m (counted_members ms) h in (w.0, w.1, w.2, node_from (small_meaning_in numbers (small b ms) (b ++ w.0 ∷ w.1)) m (same_read b (w.0 ∷ w.1) ∙ ap as_read w.3)),
       λ w. ap (node_at_key (block_from meant (documents_below ms))) w.2 ∙ meant_held w.0 w.1 m (node_from (meant (w.0 ∷ w.1)) m (sym (same_read b (w.0 ∷ w.1)) ∙ ap as_read w.3)),
     )
 
     -- and it is clean
-    pub clean_small : IsClean ms
+    pub clean_small : IsCleanIn numbers ms
     clean_small = record {
-      means = λ b n ns e is. some_read n ns (sym (based_read b (n ∷ ns) ms) ∙ ap as_read is);
+      means = λ b n ns e is. some_read n ns (sym (based_read numbers b (n ∷ ns) ms) ∙ ap as_read is);
       named = All-from_recursion (λ e. IsPath (before_last e.0)) (counted_members ms) (all_paths meant (counted_members ms) good);
     }
 
 -- ---- what a document that reads is
 
 -- the block of the members, where it is one, holds the store, which is clean, and its keys ascend
-small_law : (ms : Members) (B : Block) → small_block ms ≡ Ok B → (HoldsStore ms B × IsClean ms) × IsAscending B
-small_law ms B h = by (all_good (meant ms) (counted_members ms)) refl h
+small_law : (numbers : Numbers) (ms : Members) (B : Block) → small_block_in numbers ms ≡ Ok B → (HoldsStoreIn numbers ms B × IsCleanIn numbers ms) × IsAscending B
+small_law numbers ms B h = by (all_good (meant numbers ms) (counted_members ms)) refl h
   where
-    by : (x : Bool) → all_good (meant ms) (counted_members ms) ≡ x → (if x then Ok (block_from (meant ms) (documents_below ms)) else Err (BadMember (codes "metadata"))) ≡ Ok B → (HoldsStore ms B × IsClean ms) × IsAscending B
+    by : (x : Bool) → all_good (meant numbers ms) (counted_members ms) ≡ x → (if x then Ok (block_from (meant numbers ms) (documents_below ms)) else Err (BadMember (codes "metadata"))) ≡ Ok B → (HoldsStoreIn numbers ms B × IsCleanIn numbers ms) × IsAscending B
     by true good e =
-        let is : block_from (meant ms) (documents_below ms) ≡ B = ap (λ r. unwrap_or (result_ok r) B) e in
-        ((subst (HoldsStore ms) is (holds_small ms good), clean_small ms good), subst IsAscending is (from_ascends (meant ms) (documents_below ms)))
+        let is : block_from (meant numbers ms) (documents_below ms) ≡ B = ap (λ r. unwrap_or (result_ok r) B) e in
+        ((subst (HoldsStoreIn numbers ms) is (holds_small numbers ms good), clean_small numbers ms good), subst IsAscending is (from_ascends (meant numbers ms) (documents_below ms)))
     by false good e = cc
 
 -- a document that reads is one whose members are a clean store that the block holds
-pub store_law : (d : Data) (B : Block) → zmetadata_of d ≡ Ok B → (ms : Members) × (zmetadata_members d ≡ Ok ms) × HoldsStore ms B × IsClean ms
-unfolding zmetadata_of
-store_law d B h = by (zmetadata_members d) refl h
+pub store_law : (numbers : Numbers) (d : Data) (B : Block) → zmetadata_in numbers d ≡ Ok B → (ms : Members) × (zmetadata_members_in numbers d ≡ Ok ms) × HoldsStoreIn numbers ms B × IsCleanIn numbers ms
+unfolding zmetadata_in
+store_law numbers d B h = by (zmetadata_members_in numbers d) refl h
   where
-    by : (r : Result Members MetadataFault) → zmetadata_members d ≡ r → steps.◌>>=◌ r small_block ≡ Ok B → (ms : Members) × (zmetadata_members d ≡ Ok ms) × HoldsStore ms B × IsClean ms
-    by (Ok ms) is e = let law = small_law ms B e in (ms, is, law.0.0, law.0.1)
+    by : (r : Result Members MetadataFault) → zmetadata_members_in numbers d ≡ r → steps.◌>>=◌ r (small_block_in numbers) ≡ Ok B → (ms : Members) × (zmetadata_members_in numbers d ≡ Ok ms) × HoldsStoreIn numbers ms B × IsCleanIn numbers ms
+    by (Ok ms) is e = let law = small_law numbers ms B e in (ms, is, law.0.0, law.0.1)
     by (Err f) is e = cc
 
 -- and the keys of the block ascend
-pub ascending_law : (d : Data) (B : Block) → zmetadata_of d ≡ Ok B → IsAscending B
-unfolding zmetadata_of
-ascending_law d B h = by (zmetadata_members d) h
+pub ascending_law : (numbers : Numbers) (d : Data) (B : Block) → zmetadata_in numbers d ≡ Ok B → IsAscending B
+unfolding zmetadata_in
+ascending_law numbers d B h = by (zmetadata_members_in numbers d) h
   where
-    by : (r : Result Members MetadataFault) → steps.◌>>=◌ r small_block ≡ Ok B → IsAscending B
-    by (Ok ms) e = (small_law ms B e).1
+    by : (r : Result Members MetadataFault) → steps.◌>>=◌ r (small_block_in numbers) ≡ Ok B → IsAscending B
+    by (Ok ms) e = (small_law numbers ms B e).1
     by (Err f) e = cc
 
 -- ---- what a reader finds, by the texts of paths
 
-module _ (ms : Members) where
+module _ (numbers : Numbers) (ms : Members) where
   -- what a path means behind no base
   abbrev here : Path → Meaning
-  here = meant ms
+  here = meant numbers ms
 
   -- documents below names whose paths are not bad are good
   good_by : (es : List (Segments × Data)) → list_all (λ e. list_all is_name (before_last e.0)) (below_of es) ≡ true
@@ -311,20 +312,20 @@ module _ (ms : Members) where
           and_from (list_all is_name (before_last x.0)) (list_all (λ e. list_all is_name (before_last e.0)) (below_of es)) (names_of_good here x.0 both.0) (again both.1)
 
   -- where some document is not good, the members are refused
-  refused_by : all_good here (counted_members ms) ≡ false → small_block ms ≡ Err (BadMember (codes "metadata"))
+  refused_by : all_good here (counted_members ms) ≡ false → small_block_in numbers ms ≡ Err (BadMember (codes "metadata"))
   refused_by e = ap (λ b. if b then Ok (block_from here (documents_below ms)) else Err (BadMember (codes "metadata"))) e
 
   -- where a name is that of no node, the members are refused
-  pub names_refused : are_named ms ≡ false → small_block ms ≡ Err (BadMember (codes "metadata"))
+  pub names_refused : are_named ms ≡ false → small_block_in numbers ms ≡ Err (BadMember (codes "metadata"))
   names_refused e = refused_by (false_from_ne_true (all_good here (counted_members ms)) (λ good. true≢false (sym (named_by (counted_members ms) good) ∙ e)))
 
   -- where the documents at a text do not read, the members are refused
-  pub trees_refused : (t : List ℕ) → result_ok (read_files (member_at ms t)) ≡ None → small_block ms ≡ Err (BadMember (codes "metadata"))
+  pub trees_refused : (t : List ℕ) → result_ok (read_files numbers (member_at ms t)) ≡ None → small_block_in numbers ms ≡ Err (BadMember (codes "metadata"))
   trees_refused t e = refused_by (false_from_ne_true (all_good here (counted_members ms)) (λ good. by (stretches t) refl (parts_some t) good))
     where
       by : (p : Path) → stretches t ≡ p → stretches t ≢ [] → all_good here (counted_members ms) ≡ true → ⊥
       by [] is some good = some is
-      by (n ∷ ns) is some good = some_read ms good n ns (sym (based_read [] (n ∷ ns) ms) ∙ ap (λ p. as_read (here p)) (sym is) ∙ text_read t ms ∙ e)
+      by (n ∷ ns) is some good = some_read numbers ms good n ns (sym (based_read numbers [] (n ∷ ns) ms) ∙ ap (λ p. as_read (here p)) (sym is) ∙ text_read numbers t ms ∙ e)
 
   -- where no document stands at no names, those below the group stand below names
   all_named : (es : List (Segments × Data)) → All (λ e. IsPath (before_last e.0)) es → list_all (λ e. list_all is_name (before_last e.0)) (below_of es) ≡ true
@@ -337,7 +338,7 @@ module _ (ms : Members) where
       by false own rest = and_from (list_all is_name (before_last x.0)) (list_all (λ e. list_all is_name (before_last e.0)) (below_of es)) own rest
 
   -- the documents of a clean store are good
-  clean_good : IsClean ms → all_good here (counted_members ms) ≡ true
+  clean_good : IsCleanIn numbers ms → all_good here (counted_members ms) ≡ true
   clean_good h = good_by (counted_members ms) (all_named (counted_members ms) h.named) (λ n ns valid. fine (here (n ∷ ns)) (h.means [] n ns))
     where
       fine : (x : Meaning) → ((e : NodeCreateError) → x ≢ bad e) → is_bad x ≡ false
@@ -346,18 +347,18 @@ module _ (ms : Members) where
       fine (bad e) never = absurd (never e refl)
 
   -- members that are refused are no clean store
-  pub small_refused : (f : MetadataFault) → small_block ms ≡ Err f → (IsClean ms → ⊥) × (f ≡ BadMember (codes "metadata"))
+  pub small_refused : (f : MetadataFault) → small_block_in numbers ms ≡ Err f → (IsCleanIn numbers ms → ⊥) × (f ≡ BadMember (codes "metadata"))
   small_refused f h = by (all_good here (counted_members ms)) refl h
     where
       by : (x : Bool) → all_good here (counted_members ms) ≡ x → (if x then Ok (block_from here (documents_below ms)) else Err (BadMember (codes "metadata"))) ≡ Err f
-          → (IsClean ms → ⊥) × (f ≡ BadMember (codes "metadata"))
+          → (IsCleanIn numbers ms → ⊥) × (f ≡ BadMember (codes "metadata"))
       by true good e = cc
       by false some e = let same : BadMember (codes "metadata") ≡ f = cc in (λ clean. true≢false (sym (clean_good clean) ∙ some), sym same)
 
-  module _ (B : Block) (named : are_named ms ≡ true) (up : IsAscending B) (nodes : (t : List ℕ) → result_ok (read_files (member_at ms t)) ≡ Some (node_at_key B t)) where
+  module _ (B : Block) (named : are_named ms ≡ true) (up : IsAscending B) (nodes : (t : List ℕ) → result_ok (read_files numbers (member_at ms t)) ≡ Some (node_at_key B t)) where
     -- each path of names is read
     read_at : (n : List ℕ) (ns : Path) → IsPath (n ∷ ns) → as_read (here (n ∷ ns)) ≡ Some (node_at_key B (key_text (n ∷ ns)))
-    read_at n ns h = ap (λ p. as_read (here p)) (sym (parts_text n ns h)) ∙ text_read (key_text (n ∷ ns)) ms ∙ nodes (key_text (n ∷ ns))
+    read_at n ns h = ap (λ p. as_read (here p)) (sym (parts_text n ns h)) ∙ text_read numbers (key_text (n ∷ ns)) ms ∙ nodes (key_text (n ∷ ns))
 
     -- each document is good
     every_good : all_good here (counted_members ms) ≡ true
@@ -370,28 +371,28 @@ module _ (ms : Members) where
         by : (p : Path) → stretches t ≡ p → stretches t ≢ [] → node_at_key (block_from here (documents_below ms)) t ≡ Some m
         by [] is some = absurd (some is)
         by (n ∷ ns) is some =
-            let means : here (n ∷ ns) ≡ node m = node_from (here (n ∷ ns)) m (ap (λ p. as_read (here p)) (sym is) ∙ text_read t ms ∙ nodes t ∙ ap Some h) in
-            ap (node_at_key (block_from here (documents_below ms))) (sym (join_with_byte-slice_split 47 t) ∙ ap key_text is) ∙ meant_held ms every_good n ns m means
+            let means : here (n ∷ ns) ≡ node m = node_from (here (n ∷ ns)) m (ap (λ p. as_read (here p)) (sym is) ∙ text_read numbers t ms ∙ nodes t ∙ ap Some h) in
+            ap (node_at_key (block_from here (documents_below ms))) (sym (join_with_byte-slice_split 47 t) ∙ ap key_text is) ∙ meant_held numbers ms every_good n ns m means
 
     -- and the other way round
     of_from : (t : List ℕ) (m : NodeMetadata) → node_at_key (block_from here (documents_below ms)) t ≡ Some m → node_at_key B t ≡ Some m
     of_from t m h =
         let w = meant_from here t m (counted_members ms) h in
-        let valid : IsPath (w.0 ∷ w.1) = path_good ms every_good w.0 w.1 (has_document ms every_good w.0 w.1 m w.3) in
+        let valid : IsPath (w.0 ∷ w.1) = path_good numbers ms every_good w.0 w.1 (has_document numbers ms every_good w.0 w.1 m w.3) in
         let same : Some (node_at_key B (key_text (w.0 ∷ w.1))) ≡ Some (Some m) = sym (read_at w.0 w.1 valid) ∙ ap as_read w.3 in
         ap (node_at_key B) w.2 ∙ ap (λ o. unwrap_or o (Some m)) same
 
     -- where the names are those of nodes, and the documents at each text read as what a block has there, it is the block of the members
-    pub block_is : small_block ms ≡ Ok B
+    pub block_is : small_block_in numbers ms ≡ Ok B
     block_is =
         ap (λ b. if b then Ok (block_from here (documents_below ms)) else Err (BadMember (codes "metadata"))) every_good
         ∙ ap Ok (one_block (block_from here (documents_below ms)) B (from_ascends here (documents_below ms)) up (λ t m. (of_from t m, to_from t m)))
 
 -- a document that does not read is refused by its fault
-pub refused_law : (d : Data) (f : MetadataFault) → zmetadata_of d ≡ Err f → IsZmetadataFault d f
-unfolding zmetadata_of
-refused_law d f h = by (zmetadata_members d) refl h
+pub refused_law : (numbers : Numbers) (d : Data) (f : MetadataFault) → zmetadata_in numbers d ≡ Err f → IsZmetadataFaultIn numbers d f
+unfolding zmetadata_in
+refused_law numbers d f h = by (zmetadata_members_in numbers d) refl h
   where
-    by : (r : Result Members MetadataFault) → zmetadata_members d ≡ r → steps.◌>>=◌ r small_block ≡ Err f → IsZmetadataFault d f
-    by (Ok ms) is e = let refused = small_refused ms f e in inr (ms, is, refused.0, refused.1)
+    by : (r : Result Members MetadataFault) → zmetadata_members_in numbers d ≡ r → steps.◌>>=◌ r (small_block_in numbers) ≡ Err f → IsZmetadataFaultIn numbers d f
+    by (Ok ms) is e = let refused = small_refused numbers ms f e in inr (ms, is, refused.0, refused.1)
     by (Err g) is e = let same : g ≡ f = cc in inl (is ∙ ap Err same)

@@ -13,14 +13,15 @@ use Rattle.serde_json.specs.Data.{Data, Members, no_members, member}
 use Rattle.serde_json.specs.Find.{get_member}
 use Rattle.zarrs_store.specs.Segments.{Segments, bytes_cmp, key_cmp, key_text, has_no_slash, last_segment}
 use Rattle.zarrs_fault.specs.declared.fault.MetadataFault.{MetadataFault}
+use Rattle.zarrs_fault.specs.declared.numbers.Numbers.{Numbers}
 use Rattle.zarrs_store.proofs.ChildLemmas.{key_cmp_total, key_cmp-IsAntisymmetric, last_segment-child}
 use Rattle.zarrs_store.proofs.Cuts.{parts-append, parts_one}
 use Rattle.zarrs_path.specs.Paths.{Path}
 use Rattle.zarrs_path.specs.Keys.{zarray, zgroup, zattrs}
 use Rattle.zarrs_form.specs.Documents as steps
-use Rattle.zarrs_meta.specs.ArrayV2.{array_v2_of}
-use Rattle.zarrs_meta.specs.GroupV2.{group_v2_of}
-use Rattle.zarrs_meta.specs.Attributes.{attributes_of}
+use Rattle.zarrs_meta.specs.ArrayV2.{array_v2_in}
+use Rattle.zarrs_meta.specs.GroupV2.{group_v2_in}
+use Rattle.zarrs_meta.specs.Attributes.{attributes_document_in}
 use Rattle.zarrs_meta.specs.Node.{array_with, group_with}
 use Rattle.zarrs_meta.specs.declared.attributes.AttributesDocument.{AttributesDocument}
 use Rattle.zarrs_meta.specs.declared.node.ArrayMetadata.TheVariants.{V2 as array_v2}
@@ -28,7 +29,7 @@ use Rattle.zarrs_meta.specs.declared.node.GroupMetadata.TheVariants.{V2 as group
 use Rattle.zarrs_meta.specs.declared.node.NodeMetadata.{NodeMetadata}
 use Rattle.zarrs_meta.specs.declared.node.NodeMetadata.TheVariants.{Group, Array}
 use Rattle.zarrs_block.specs.Meaning.{Meaning, node, nothing, bad, document_or_fault, document_from, document_at, version_2_line, zarray_line, zgroup_line, meaning_in}
-use Rattle.zarrs_block.specs.Small.{SmallStore, small_meaning, is_document_v2, stretches, counted_members, small}
+use Rattle.zarrs_block.specs.Small.{SmallStore, small_meaning_in, is_document_v2, stretches, counted_members, small}
 use Rattle.zarrs_block.specs.Zmetadata.{before_last}
 use Rattle.zarrs_block.specs.StepsOfZmetadata.{read_with, read_documents, read_files, member_at}
 
@@ -125,7 +126,7 @@ as_read (node m) = Some (Some m)
 as_read nothing = Some None
 as_read (bad e) = None
 
-module _ {D : Type 0} (document : Data → Result D MetadataFault) (kind : D → NodeMetadata) (with' : AttributesDocument → D → D) (k j : Segments) (after : Meaning) where
+module _ {D : Type 0} (numbers : Numbers) (document : Numbers → Data → Result D MetadataFault) (kind : D → NodeMetadata) (with' : AttributesDocument → D → D) (k j : Segments) (after : Meaning) where
   -- without attributes beside it
   bare_line : (r : Result D MetadataFault) → as_read (version_2_line kind with' (document_or_fault k r) (Ok None) after) ≡ result_ok (steps.◌>>=◌ (steps.◌>>=◌ r λ m. Ok (kind m)) λ m. Ok (Some m))
   bare_line (Ok m) = refl
@@ -140,38 +141,39 @@ module _ {D : Type 0} (document : Data → Result D MetadataFault) (kind : D →
   full_line (Err e) (Err f) = refl
 
   -- a document that is there says what it reads as, with the attributes beside it
-  line_read : (d : Data) (o : Option Data) → as_read (version_2_line kind with' (document_from document k (Some d)) (document_from attributes_of j o) after) ≡ result_ok (steps.◌>>=◌ (read_with document kind with' d o) λ m. Ok (Some m))
-  line_read d None = bare_line (document d)
-  line_read d (Some a) = full_line (document d) (attributes_of a)
+  line_read : (d : Data) (o : Option Data) → as_read (version_2_line kind with' (document_from (document numbers) k (Some d)) (document_from (attributes_document_in numbers) j o) after)
+      ≡ result_ok (steps.◌>>=◌ (read_with numbers document kind with' d o) λ m. Ok (Some m))
+  line_read d None = bare_line (document numbers d)
+  line_read d (Some a) = full_line (document numbers d) (attributes_document_in numbers a)
 
-module _ (z : SmallStore) (p : Path) where
+module _ (numbers : Numbers) (z : SmallStore) (p : Path) where
   -- `.zarray` and `.zgroup`, with `.zattrs` beside them
   both_lines : (a g t : Option Data)
-      → as_read (version_2_line (λ m. Array (array_v2 m)) array_with (document_from array_v2_of (p ++ zarray ∷ []) a) (document_from attributes_of (p ++ zattrs ∷ []) t)
-      (version_2_line (λ m. Group (group_v2 m)) group_with (document_from group_v2_of (p ++ zgroup ∷ []) g) (document_from attributes_of (p ++ zattrs ∷ []) t) nothing))
-      ≡ result_ok (read_documents a g t)
+      → as_read (version_2_line (λ m. Array (array_v2 m)) array_with (document_from (array_v2_in numbers) (p ++ zarray ∷ []) a) (document_from (attributes_document_in numbers) (p ++ zattrs ∷ []) t)
+      (version_2_line (λ m. Group (group_v2 m)) group_with (document_from (group_v2_in numbers) (p ++ zgroup ∷ []) g) (document_from (attributes_document_in numbers) (p ++ zattrs ∷ []) t) nothing))
+      ≡ result_ok (read_documents numbers a g t)
   both_lines (Some d) g t =
-      line_read array_v2_of (λ m. Array (array_v2 m)) array_with (p ++ zarray ∷ []) (p ++ zattrs ∷ [])
-      (version_2_line (λ m. Group (group_v2 m)) group_with (document_from group_v2_of (p ++ zgroup ∷ []) g) (document_from attributes_of (p ++ zattrs ∷ []) t) nothing) d t
-  both_lines None (Some d) t = line_read group_v2_of (λ m. Group (group_v2 m)) group_with (p ++ zgroup ∷ []) (p ++ zattrs ∷ []) nothing d t
+      line_read numbers array_v2_in (λ m. Array (array_v2 m)) array_with (p ++ zarray ∷ []) (p ++ zattrs ∷ [])
+      (version_2_line (λ m. Group (group_v2 m)) group_with (document_from (group_v2_in numbers) (p ++ zgroup ∷ []) g) (document_from (attributes_document_in numbers) (p ++ zattrs ∷ []) t) nothing) d t
+  both_lines None (Some d) t = line_read numbers group_v2_in (λ m. Group (group_v2 m)) group_with (p ++ zgroup ∷ []) (p ++ zattrs ∷ []) nothing d t
   both_lines None None t = refl
 
   -- a path means what the documents at its keys are read as
-  pub small_read : as_read (small_meaning z p) ≡ result_ok (read_documents (get z (p ++ zarray ∷ [])) (get z (p ++ zgroup ∷ [])) (get z (p ++ zattrs ∷ [])))
+  pub small_read : as_read (small_meaning_in numbers z p) ≡ result_ok (read_documents numbers (get z (p ++ zarray ∷ [])) (get z (p ++ zgroup ∷ [])) (get z (p ++ zattrs ∷ [])))
   unfolding meaning_in zarray_line zgroup_line document_at
   small_read = both_lines (get z (p ++ zarray ∷ [])) (get z (p ++ zgroup ∷ [])) (get z (p ++ zattrs ∷ []))
 
 -- what the documents of a path among those that count are read as
-abbrev pub looked_up : Members → Path → Result (Option NodeMetadata) MetadataFault
-looked_up ms q = read_documents (find key_cmp (q ++ zarray ∷ []) (counted_members ms)) (find key_cmp (q ++ zgroup ∷ []) (counted_members ms)) (find key_cmp (q ++ zattrs ∷ []) (counted_members ms))
+abbrev pub looked_up : Numbers → Members → Path → Result (Option NodeMetadata) MetadataFault
+looked_up numbers ms q = read_documents numbers (find key_cmp (q ++ zarray ∷ []) (counted_members ms)) (find key_cmp (q ++ zgroup ∷ []) (counted_members ms)) (find key_cmp (q ++ zattrs ∷ []) (counted_members ms))
 
 -- behind any base a path means what its documents are read as
-pub based_read : (b q : Path) (ms : Members) → as_read (small_meaning (small b ms) (b ++ q)) ≡ result_ok (looked_up ms q)
-based_read b q ms = small_read (small b ms) (b ++ q) ∙ (λ i. result_ok (read_documents (at zarray i) (at zgroup i) (at zattrs i)))
+pub based_read : (numbers : Numbers) (b q : Path) (ms : Members) → as_read (small_meaning_in numbers (small b ms) (b ++ q)) ≡ result_ok (looked_up numbers ms q)
+based_read numbers b q ms = small_read numbers (small b ms) (b ++ q) ∙ (λ i. result_ok (read_documents numbers (at zarray i) (at zgroup i) (at zattrs i)))
   where
     at : (f : List ℕ) → get (small b ms) ((b ++ q) ++ f ∷ []) ≡ find key_cmp (q ++ f ∷ []) (counted_members ms)
     at f = ap (get (small b ms)) (append_assoc b q (f ∷ [])) ∙ get_based b (q ++ f ∷ []) ms
 
 -- the parts of a text mean what the members have for it
-pub text_read : (t : List ℕ) (ms : Members) → as_read (small_meaning (small [] ms) (stretches t)) ≡ result_ok (read_files (member_at ms t))
-text_read t ms = based_read [] (stretches t) ms ∙ (λ i. result_ok (read_documents (find_counted t zarray refl refl ms i) (find_counted t zgroup refl refl ms i) (find_counted t zattrs refl refl ms i)))
+pub text_read : (numbers : Numbers) (t : List ℕ) (ms : Members) → as_read (small_meaning_in numbers (small [] ms) (stretches t)) ≡ result_ok (read_files numbers (member_at ms t))
+text_read numbers t ms = based_read numbers [] (stretches t) ms ∙ (λ i. result_ok (read_documents numbers (find_counted t zarray refl refl ms i) (find_counted t zgroup refl refl ms i) (find_counted t zattrs refl refl ms i)))

@@ -27,8 +27,9 @@ use Rattle.zarrs_meta.proofs.ArrayV2Laws as arrays
 use Rattle.zarrs_meta.proofs.PlainNodes.{with_attributes_is_plain}
 use Rattle.zarrs_block.specs.Block.{Block, IsAscending, HasValidKeys, Entries, entry, first_some, node_at_key}
 use Rattle.zarrs_block.specs.Meaning.{Meaning, node, nothing, meaning_in, document_at, document_from, document_or_fault, zarray_line, zgroup_line, version_2_line}
-use Rattle.zarrs_block.specs.Small.{SmallStore, is_document_v2, small, small_meaning}
-use Rattle.zarrs_block.specs.Zmetadata.{before_last, documents_below, is_bad, is_good, block_from, zmetadata_of, zmetadata_tree, attributes_written, node_written, put_documents, nodes_written, documents_written, is_version_2, HasVersion2, HasPlainEntries, HaveSameEntries, node_at, document_written, WrittenReadsBack}
+use Rattle.zarrs_fault.specs.declared.numbers.Numbers.TheVariants.{Whole}
+use Rattle.zarrs_block.specs.Small.{SmallStore, is_document_v2, small, small_meaning_in}
+use Rattle.zarrs_block.specs.Zmetadata.{before_last, documents_below, is_bad, is_good, block_from, zmetadata_of, zmetadata_in, zmetadata_tree, attributes_written, node_written, put_documents, nodes_written, documents_written, is_version_2, HasVersion2, HasPlainEntries, HaveSameEntries, node_at, document_written, WrittenReadsBack}
 use Rattle.zarrs_block.proofs.Expansion.{entries_listed}
 use Rattle.zarrs_block.proofs.BlockFrom.{node_of, none_either, found_block, found_slashed, all_good, below_named, listed_below}
 use Rattle.zarrs_block.proofs.SmallLaws.{get_document}
@@ -98,7 +99,7 @@ read_by p a g t =
     (version_2_line (λ m. Group (group_v2 m)) group_with (document_from group_v2_of (p ++ zgroup ∷ []) g) (document_from attributes_of (p ++ zattrs ∷ []) t) nothing)
 
 -- what a path means in a small store, by its documents
-small_by : (z : SmallStore) (p : Path) → small_meaning z p ≡ read_by p (get z (p ++ zarray ∷ [])) (get z (p ++ zgroup ∷ [])) (get z (p ++ zattrs ∷ []))
+small_by : (z : SmallStore) (p : Path) → small_meaning_in Whole z p ≡ read_by p (get z (p ++ zarray ∷ [])) (get z (p ++ zgroup ∷ [])) (get z (p ++ zattrs ∷ []))
 unfolding meaning_in zarray_line zgroup_line document_at
 small_by z p = refl
 
@@ -159,9 +160,9 @@ module _ (p : Path) where
 -- ---- the whole
 
 -- members with numbers that fit, of which all are good, read as the block of their meanings
-read_members : (ms : Members) → members_have_float ms ≡ false → list_all (λ e. is_good (small_meaning (small [] ms)) e.0) (documents_below ms) ≡ true
-    → zmetadata_of (object (member (codes "metadata") (object ms) (member (codes "zarr_consolidated_format") (number (unsigned 1)) no_members))) ≡ Ok (block_from (small_meaning (small [] ms)) (documents_below ms))
-unfolding zmetadata_of
+read_members : (ms : Members) → members_have_float ms ≡ false → list_all (λ e. is_good (small_meaning_in Whole (small [] ms)) e.0) (documents_below ms) ≡ true
+    → zmetadata_of (object (member (codes "metadata") (object ms) (member (codes "zarr_consolidated_format") (number (unsigned 1)) no_members))) ≡ Ok (block_from (small_meaning_in Whole (small [] ms)) (documents_below ms))
+unfolding zmetadata_in
 read_members ms fits good = rw (fits, good) refl
 
 -- ---- the entries of the block that is read
@@ -186,7 +187,7 @@ module _ (g : GroupMetadataV2) (B : Block) (plain_group : IsTrue (is_plain_group
   ms = documents_written g B
 
   abbrev of : Path → Meaning
-  of p = small_meaning (small [] ms) p
+  of p = small_meaning_in Whole (small [] ms) p
 
   abbrev C : Block
   C = block_from of (documents_below ms)

@@ -13,30 +13,29 @@ use Rattle.std.proofs.lemmas.List.Splits.{join_with_byte-slice_split}
 use Rattle.serde_json.specs.Data.{Data, object, Members, member}
 use Rattle.serde_json.specs.Find.{get_member, as_object}
 use Rattle.serde_json.specs.View.{view, members_view}
-use Rattle.serde_json.specs.Written.{has_float, members_have_float}
 use Rattle.serde_json.proofs.Views.{Entry, member_here, member_later}
 use Rattle.zarrs_store.specs.Segments.{Segments, bytes_cmp, key_text, has_no_slash, last_segment}
 use Rattle.zarrs_fault.specs.declared.fault.MetadataFault.{MetadataFault}
 use Rattle.zarrs_fault.specs.declared.fault.MetadataFault.TheVariants.{NotJson, UnsupportedNumber, NotAnObject, WrongFormat, WrongNodeType, MissingMember, BadMember, OutOfMemory}
+use Rattle.zarrs_fault.specs.declared.numbers.Numbers.{Numbers}
 use Rattle.zarrs_store.proofs.ChildLemmas.{last_segment-child}
 use Rattle.zarrs_store.proofs.Cuts.{parts_one, parts_some, nonempty_is}
 use Rattle.zarrs_path.specs.Names.{is_name, is_node_name}
 use Rattle.zarrs_path.specs.Paths.{IsPath}
-use Rattle.zarrs_form.specs.Documents.{Gives, Refuses, document_of, form_or_fault, member_or_fault, required_member}
+use Rattle.zarrs_form.specs.Documents.{Gives, Refuses, document_in, form_or_fault, required_member}
 use Rattle.zarrs_form.specs.Documents as steps
-use Rattle.zarrs_form.specs.Forms.{is_nil}
-use Rattle.zarrs_form.proofs.PlainForms.{member_fits}
-use Rattle.zarrs_block.proofs.BlockLaws.{formed_some, without_floats_at}
+use Rattle.zarrs_form.specs.Forms.{fits_in, is_nil}
 use Rattle.zarrs_meta.specs.declared.node.NodeMetadata.{NodeMetadata}
 use Rattle.zarrs_block.specs.Block.{Block, IsAscending, node_at_key, put}
 use Rattle.zarrs_block.specs.Small.{is_document_v2, stretches, counted_members}
-use Rattle.zarrs_block.specs.Zmetadata.{one, before_last, documents_below, small_block, zmetadata_members, zmetadata_of, HoldsStore, IsClean, IsZmetadataFault}
-use Rattle.zarrs_block.specs.StepsOfZmetadata.{file_name, is_file, member_at, first_tree, paths, run_tree, tree_among, RunsAscend, read_files, tree_in, is_below_group, are_named, RefusesNames, HaveNoFloat, HoldsNodes, RefusesTrees, zmetadata_taken}
+use Rattle.zarrs_block.specs.Zmetadata.{one, before_last, documents_below, small_block_in, zmetadata_members_in, zmetadata_in, HoldsStoreIn, IsCleanIn, IsZmetadataFaultIn}
+use Rattle.zarrs_block.specs.StepsOfZmetadata.{file_name, is_file, member_at, first_tree, paths, run_tree, tree_among, RunsAscend, read_files, tree_in, is_below_group, are_named, RefusesNames, AllFit, HoldsNodes, RefusesTrees, zmetadata_taken}
 use Rattle.zarrs_block.specs.declared.consolidated.ConsolidatedMetadata.{ConsolidatedMetadata}
 use Rattle.zarrs_block.specs.declared.zmetadata.Documents.{Documents}
 use Rattle.zarrs_block.specs.declared.zmetadata.Run.{Run}
 use Rattle.zarrs_block.specs.declared.zmetadata.File.{File}
 use Rattle.zarrs_block.specs.declared.zmetadata.File.TheVariants.{Array as array_file, Group as group_file, Attributes as attributes_file}
+use Rattle.zarrs_form.proofs.PlainForms.{member_fits_in}
 use Rattle.zarrs_block.proofs.Expansion.{at_itself, same_text}
 use Rattle.zarrs_block.proofs.LastSlash.{IsCutText}
 use Rattle.zarrs_block.proofs.Runs.{first_none}
@@ -199,9 +198,9 @@ all_gathered ms got left is h =
 -- ---- the nodes
 
 -- what the block has at a text, or what the documents there that are left are read as
-abbrev pub now_at : Option NodeMetadata → Option Documents → Option (Option NodeMetadata)
-now_at o None = Some o
-now_at o (Some here) = result_ok (read_files (tree_in here))
+abbrev pub now_at : Numbers → Option NodeMetadata → Option Documents → Option (Option NodeMetadata)
+now_at numbers o None = Some o
+now_at numbers o (Some here) = result_ok (read_files numbers (tree_in here))
 
 -- whether a text is the path of a run
 abbrev is_of : List ℕ → Run → Bool
@@ -213,12 +212,12 @@ left_at [] t = None
 left_at (run ∷ left) t = cond (is_of t run) (Some run.documents) (left_at left t)
 
 -- the block has what was read, and nothing where documents are left, whose numbers fit
-pub record IsRead (at : List ℕ → File → Option Data) (B : Block) (left : List Run) : Type 0 where
+pub record IsRead (numbers : Numbers) (at : List ℕ → File → Option Data) (B : Block) (left : List Run) : Type 0 where
   pub up : RunsAscend left
   pub ascending : IsAscending B
   pub apart : (t : List ℕ) → IsSome (left_at left t) → node_at_key B t ≡ None
-  pub here : (t : List ℕ) → result_ok (read_files (at t)) ≡ now_at (node_at_key B t) (left_at left t)
-  pub fit : AllByRecursion (λ run. HaveNoFloat (tree_in run.documents)) left
+  pub here : (t : List ℕ) → result_ok (read_files numbers (at t)) ≡ now_at numbers (node_at_key B t) (left_at left t)
+  pub fit : AllByRecursion (λ run. AllFit numbers (tree_in run.documents)) left
 
 -- nothing is left where the first documents were
 none_left : (k : List ℕ) (runs : List Run) → AllByRecursion (λ y. bytes_cmp k y ≡ Less) (paths runs) → left_at runs k ≡ None
@@ -244,16 +243,16 @@ among_left (run ∷ runs) up t file =
         other true e = absurd (true≢false (sym (ap (λ u. is_eq (bytes_cmp t u)) ((bytes_eq-Decides (string_bytes run.path) t).0 e) ∙ at_itself t) ∙ at))
 
 -- the first of two fits where the first that is there does
-first_fits : (a b : Option Data) → IfSome (first_tree a b) (λ d. has_float d ≡ false) → IfSome a (λ d. has_float d ≡ false)
-first_fits None b h = tt
-first_fits (Some d) b h = h
+first_fits : (numbers : Numbers) (a b : Option Data) → IfSome (first_tree a b) (λ d. IsTrue (fits_in numbers d)) → IfSome a (λ d. IsTrue (fits_in numbers d))
+first_fits numbers None b h = tt
+first_fits numbers (Some d) b h = h
 
 -- the documents of each of ascending runs fit where what they have for each text does
-runs_fit : (runs : List Run) → RunsAscend runs → ((t : List ℕ) → HaveNoFloat (tree_among runs t)) → AllByRecursion (λ run. HaveNoFloat (tree_in run.documents)) runs
-runs_fit [] up fit = tt
-runs_fit (run ∷ runs) up fit = (
-  λ file. subst (λ o. IfSome o (λ d. has_float d ≡ false)) (own file) (fit (string_bytes run.path) file),
-  runs_fit runs later (λ t file. first_fits (tree_among runs t file) (run_tree run t file) (fit t file)),
+runs_fit : (numbers : Numbers) (runs : List Run) → RunsAscend runs → ((t : List ℕ) → AllFit numbers (tree_among runs t)) → AllByRecursion (λ run. AllFit numbers (tree_in run.documents)) runs
+runs_fit numbers [] up fit = tt
+runs_fit numbers (run ∷ runs) up fit = (
+  λ file. subst (λ o. IfSome o (λ d. IsTrue (fits_in numbers d))) (own file) (fit (string_bytes run.path) file),
+  runs_fit numbers runs later (λ t file. first_fits numbers (tree_among runs t file) (run_tree run t file) (fit t file)),
 )
   where
     later : RunsAscend runs
@@ -266,16 +265,17 @@ runs_fit (run ∷ runs) up fit = (
         ∙ ap (λ b. cond b (tree_in run.documents file) None) ((bytes_eq-Decides (string_bytes run.path) (string_bytes run.path)).1 refl)
 
 -- at first all documents are left
-pub none_read_yet : (runs : List Run) (B : Block) (left : List Run) → B ≡ [] → left ≡ runs → RunsAscend runs → ((t : List ℕ) → HaveNoFloat (tree_among runs t)) → IsRead (tree_among runs) B left
-none_read_yet runs B left none is up fit = subst (λ C. IsRead (tree_among runs) C left) (sym none) (subst (IsRead (tree_among runs) []) (sym is) (record {
+pub none_read_yet : (numbers : Numbers) (runs : List Run) (B : Block) (left : List Run) → B ≡ [] → left ≡ runs → RunsAscend runs → ((t : List ℕ) → AllFit numbers (tree_among runs t))
+    → IsRead numbers (tree_among runs) B left
+none_read_yet numbers runs B left none is up fit = subst (λ C. IsRead numbers (tree_among runs) C left) (sym none) (subst (IsRead numbers (tree_among runs) []) (sym is) (record {
   up = up;
   ascending = none_ascend;
   apart = λ t some. refl;
-  here = λ t. ap (λ (f : File → Option Data). result_ok (read_files f)) (λ i file. among_left runs up t file i) ∙ by (left_at runs t);
-  fit = runs_fit runs up fit;
+  here = λ t. ap (λ (f : File → Option Data). result_ok (read_files numbers f)) (λ i file. among_left runs up t file i) ∙ by (left_at runs t);
+  fit = runs_fit numbers runs up fit;
 }))
   where
-    by : (o : Option Documents) → result_ok (read_files (λ file. option_and_then (λ (h : Documents). tree_in h file) o)) ≡ now_at None o
+    by : (o : Option Documents) → result_ok (read_files numbers (λ file. option_and_then (λ (h : Documents). tree_in h file) o)) ≡ now_at numbers None o
     by None = refl
     by (Some x) = refl
 
@@ -284,22 +284,22 @@ some_left : (b : Bool) (x : Documents) (o : Option Documents) → IsSome o → I
 some_left true x o h = refl
 some_left false x o h = h
 
-module _ (at : List ℕ → File → Option Data) (B : Block) (left : List Run) (run : Run) (runs : List Run) (is : left ≡ run ∷ runs) (h : IsRead at B left) where
+module _ (numbers : Numbers) (at : List ℕ → File → Option Data) (B : Block) (left : List Run) (run : Run) (runs : List Run) (is : left ≡ run ∷ runs) (h : IsRead numbers at B left) where
   -- what was read before these documents
-  then_read : IsRead at B (run ∷ runs)
-  then_read = subst (IsRead at B) is h
+  then_read : IsRead numbers at B (run ∷ runs)
+  then_read = subst (IsRead numbers at B) is h
 
   -- nothing is left behind them at their text
   none_more : (t : List ℕ) → is_of t run ≡ true → left_at runs t ≡ None
   none_more t here = ap (left_at runs) (same_text t (string_bytes run.path) here) ∙ none_left (string_bytes run.path) runs (sorted_head bytes_cmp (string_bytes run.path) (paths runs) then_read.up)
 
-  module _ (C : Block) (o : Option NodeMetadata) (reads : result_ok (read_files (tree_in run.documents)) ≡ Some o) (fresh : (t : List ℕ) → node_at_key C t ≡ cond (is_of t run) o (node_at_key B t)) where
+  module _ (C : Block) (o : Option NodeMetadata) (reads : result_ok (read_files numbers (tree_in run.documents)) ≡ Some o) (fresh : (t : List ℕ) → node_at_key C t ≡ cond (is_of t run) o (node_at_key B t)) where
     -- what is read at each text is in the block, or left
-    here_next : (t : List ℕ) (b : Bool) → is_of t run ≡ b → result_ok (read_files (at t)) ≡ now_at (cond b o (node_at_key B t)) (left_at runs t)
+    here_next : (t : List ℕ) (b : Bool) → is_of t run ≡ b → result_ok (read_files numbers (at t)) ≡ now_at numbers (cond b o (node_at_key B t)) (left_at runs t)
     here_next t true at =
-        then_read.here t ∙ ap (λ b. now_at (node_at_key B t) (cond b (Some run.documents) (left_at runs t))) at ∙ reads
-        ∙ ap (now_at o) (sym (none_more t at))
-    here_next t false at = then_read.here t ∙ ap (λ b. now_at (node_at_key B t) (cond b (Some run.documents) (left_at runs t))) at
+        then_read.here t ∙ ap (λ b. now_at numbers (node_at_key B t) (cond b (Some run.documents) (left_at runs t))) at ∙ reads
+        ∙ ap (now_at numbers o) (sym (none_more t at))
+    here_next t false at = then_read.here t ∙ ap (λ b. now_at numbers (node_at_key B t) (cond b (Some run.documents) (left_at runs t))) at
 
     -- and the block has nothing where documents are left
     apart_next : (t : List ℕ) → IsSome (left_at runs t) → (b : Bool) → is_of t run ≡ b → cond b o (node_at_key B t) ≡ None
@@ -307,17 +307,17 @@ module _ (at : List ℕ → File → Option Data) (B : Block) (left : List Run) 
     apart_next t some false at = then_read.apart t (some_left (is_of t run) run.documents (left_at runs t) some)
 
     -- so the reading goes on
-    read_on : IsAscending C → IsRead at C runs
+    read_on : IsAscending C → IsRead numbers at C runs
     read_on up = record {
       up = sorted_tail bytes_cmp (string_bytes run.path) (paths runs) then_read.up;
       ascending = up;
       apart = λ t some. fresh t ∙ apart_next t some (is_of t run) refl;
-      here = λ t. here_next t (is_of t run) refl ∙ ap (λ x. now_at x (left_at runs t)) (sym (fresh t));
+      here = λ t. here_next t (is_of t run) refl ∙ ap (λ x. now_at numbers x (left_at runs t)) (sym (fresh t));
       fit = then_read.fit.1;
     }
 
   -- documents that are no node leave the block as it is
-  pub read_none : result_ok (read_files (tree_in run.documents)) ≡ Some None → IsRead at B runs
+  pub read_none : result_ok (read_files numbers (tree_in run.documents)) ≡ Some None → IsRead numbers at B runs
   read_none reads = read_on B None reads (λ t. sym (by t (is_of t run) refl)) then_read.ascending
     where
       by : (t : List ℕ) (b : Bool) → is_of t run ≡ b → cond b None (node_at_key B t) ≡ node_at_key B t
@@ -325,20 +325,20 @@ module _ (at : List ℕ → File → Option Data) (B : Block) (left : List Run) 
       by t false at = refl
 
   -- the node that they are is put at their text
-  pub read_some : (C : Block) (m : NodeMetadata) → result_ok (read_files (tree_in run.documents)) ≡ Some (Some m) → C ≡ put (string_bytes run.path) m B → IsRead at C runs
+  pub read_some : (C : Block) (m : NodeMetadata) → result_ok (read_files numbers (tree_in run.documents)) ≡ Some (Some m) → C ≡ put (string_bytes run.path) m B → IsRead numbers at C runs
   read_some C m reads new =
       read_on C (Some m) reads (λ t. ap (λ D. node_at_key D t) new ∙ found_put t (string_bytes run.path) m B)
       (subst IsAscending (sym new) (put_ascends (string_bytes run.path) m B then_read.ascending))
 
   -- where they do not read, the documents at some text do not
-  not_read : result_ok (read_files (tree_in run.documents)) ≡ None → (t : List ℕ) × (result_ok (read_files (at t)) ≡ None)
-  not_read none = (string_bytes run.path, then_read.here (string_bytes run.path) ∙ ap (λ b. now_at (node_at_key B (string_bytes run.path)) (cond b (Some run.documents) (left_at runs (string_bytes run.path)))) (at_itself (string_bytes run.path)) ∙ none)
+  not_read : result_ok (read_files numbers (tree_in run.documents)) ≡ None → (t : List ℕ) × (result_ok (read_files numbers (at t)) ≡ None)
+  not_read none = (string_bytes run.path, then_read.here (string_bytes run.path) ∙ ap (λ b. now_at numbers (node_at_key B (string_bytes run.path)) (cond b (Some run.documents) (left_at runs (string_bytes run.path)))) (at_itself (string_bytes run.path)) ∙ none)
 
   -- the refusal of a reading is one of the documents
-  pub refused_node : (fault : MetadataFault) → Refuses fault (form_or_fault (codes "metadata") (result_ok (read_files (tree_in run.documents)))) → RefusesTrees at fault
-  refused_node fault refused = by (result_ok (read_files (tree_in run.documents))) refl fault refused
+  pub refused_node : (fault : MetadataFault) → Refuses fault (form_or_fault (codes "metadata") (result_ok (read_files numbers (tree_in run.documents)))) → RefusesTrees numbers at fault
+  refused_node fault refused = by (result_ok (read_files numbers (tree_in run.documents))) refl fault refused
     where
-      by : (o : Option (Option NodeMetadata)) → result_ok (read_files (tree_in run.documents)) ≡ o → (fault : MetadataFault) → Refuses fault (form_or_fault (codes "metadata") o) → RefusesTrees at fault
+      by : (o : Option (Option NodeMetadata)) → result_ok (read_files numbers (tree_in run.documents)) ≡ o → (fault : MetadataFault) → Refuses fault (form_or_fault (codes "metadata") o) → RefusesTrees numbers at fault
       by (Some x) none NotJson refused = cc
       by (Some x) none UnsupportedNumber refused = cc
       by (Some x) none NotAnObject refused = cc
@@ -357,8 +357,8 @@ module _ (at : List ℕ → File → Option Data) (B : Block) (left : List Run) 
       by None none OutOfMemory refused = tt
 
 -- where none is left, all are read
-pub all_nodes : (at : List ℕ → File → Option Data) (B : Block) (left : List Run) → left ≡ [] → IsRead at B left → HoldsNodes at (node_at_key B)
-all_nodes at B left is h = let done : IsRead at B [] = subst (IsRead at B) is h in λ t. done.here t
+pub all_nodes : (numbers : Numbers) (at : List ℕ → File → Option Data) (B : Block) (left : List Run) → left ≡ [] → IsRead numbers at B left → HoldsNodes numbers at (node_at_key B)
+all_nodes numbers at B left is h = let done : IsRead numbers at B [] = subst (IsRead numbers at B) is h in λ t. done.here t
 
 -- ---- refusals
 
@@ -385,113 +385,99 @@ refuses_too OutOfMemory r q step h = tt
 
 -- ---- both passes
 
-module _ (ms : Members) where
+module _ (numbers : Numbers) (ms : Members) where
   -- a refusal of the names is that of the members
-  pub gives_names : (fault : MetadataFault) → RefusesNames ms fault → Refuses fault (small_block ms)
+  pub gives_names : (fault : MetadataFault) → RefusesNames ms fault → Refuses fault (small_block_in numbers ms)
   gives_names NotJson refused = absurd refused
   gives_names UnsupportedNumber refused = absurd refused
   gives_names NotAnObject refused = absurd refused
   gives_names WrongFormat refused = absurd refused
   gives_names WrongNodeType refused = absurd refused
   gives_names (MissingMember name) refused = absurd refused
-  gives_names (BadMember name) refused = names_refused ms refused.1 ∙ ap (λ n. Err (BadMember n)) (sym refused.0)
+  gives_names (BadMember name) refused = names_refused numbers ms refused.1 ∙ ap (λ n. Err (BadMember n)) (sym refused.0)
   gives_names OutOfMemory refused = tt
 
   module _ (at : List ℕ → File → Option Data) (whole : (t : List ℕ) (file : File) → at t file ≡ member_at ms t file) (named : are_named ms ≡ true) where
     -- what stands at a text reads as what the members have for it
-    same_files : (t : List ℕ) → result_ok (read_files (member_at ms t)) ≡ result_ok (read_files (at t))
-    same_files t = ap (λ (f : File → Option Data). result_ok (read_files f)) (λ i file. sym (whole t file) i)
+    same_files : (t : List ℕ) → result_ok (read_files numbers (member_at ms t)) ≡ result_ok (read_files numbers (at t))
+    same_files t = ap (λ (f : File → Option Data). result_ok (read_files numbers f)) (λ i file. sym (whole t file) i)
 
     -- the block that was read is that of the members, and a refusal is theirs
-    pub gives_nodes : (r : Result Block MetadataFault) → IfOk r (λ B. HoldsNodes at (node_at_key B)) → IfOk r IsAscending → IfErr r (RefusesTrees at) → Gives (λ B. B) r (small_block ms)
-    gives_nodes (Ok B) nodes up refused = block_is ms B named up (λ t. same_files t ∙ nodes t)
+    pub gives_nodes : (r : Result Block MetadataFault) → IfOk r (λ B. HoldsNodes numbers at (node_at_key B)) → IfOk r IsAscending → IfErr r (RefusesTrees numbers at)
+        → Gives (λ B. B) r (small_block_in numbers ms)
+    gives_nodes (Ok B) nodes up refused = block_is numbers ms B named up (λ t. same_files t ∙ nodes t)
     gives_nodes (Err NotJson) nodes up refused = absurd refused
     gives_nodes (Err UnsupportedNumber) nodes up refused = absurd refused
     gives_nodes (Err NotAnObject) nodes up refused = absurd refused
     gives_nodes (Err WrongFormat) nodes up refused = absurd refused
     gives_nodes (Err WrongNodeType) nodes up refused = absurd refused
     gives_nodes (Err (MissingMember name)) nodes up refused = absurd refused
-    gives_nodes (Err (BadMember name)) nodes up refused = trees_refused ms refused.1.0 (same_files refused.1.0 ∙ refused.1.1) ∙ ap (λ n. Err (BadMember n)) (sym refused.0)
+    gives_nodes (Err (BadMember name)) nodes up refused = trees_refused numbers ms refused.1.0 (same_files refused.1.0 ∙ refused.1.1) ∙ ap (λ n. Err (BadMember n)) (sym refused.0)
     gives_nodes (Err OutOfMemory) nodes up refused = tt
 
 -- ---- the document
 
 -- once its members are told, the rest of a document is read of them
-taken_by : (d : Data) (r : Result Members MetadataFault) (ms : Members) → r ≡ Ok ms
-    → steps.◌>>=◌ (steps.◌>>=◌ r λ _. steps.◌>>=◌ (required_member (codes "zarr_consolidated_format") one d) λ _. required_member (codes "metadata") as_object d) small_block ≡ zmetadata_taken d
-taken_by d (Ok ns) ms is = by (required_member (codes "zarr_consolidated_format") one d)
+taken_by : (numbers : Numbers) (d : Data) (r : Result Members MetadataFault) (ms : Members) → r ≡ Ok ms
+    → steps.◌>>=◌ (steps.◌>>=◌ r λ _. steps.◌>>=◌ (required_member (codes "zarr_consolidated_format") one d) λ _. required_member (codes "metadata") as_object d) (small_block_in numbers)
+    ≡ zmetadata_taken numbers d
+taken_by numbers d (Ok ns) ms is = by (required_member (codes "zarr_consolidated_format") one d)
   where
-    by : (q : Result (Unit {0}) MetadataFault) → steps.◌>>=◌ (steps.◌>>=◌ q λ _. required_member (codes "metadata") as_object d) small_block
-        ≡ (steps.◌>>=◌ q λ _. steps.◌>>=◌ (required_member (codes "metadata") as_object d) small_block)
+    by : (q : Result (Unit {0}) MetadataFault) → steps.◌>>=◌ (steps.◌>>=◌ q λ _. required_member (codes "metadata") as_object d) (small_block_in numbers)
+        ≡ (steps.◌>>=◌ q λ _. steps.◌>>=◌ (required_member (codes "metadata") as_object d) (small_block_in numbers))
     by (Ok x) = refl
     by (Err e) = refl
-taken_by d (Err e) ms is = cc
+taken_by numbers d (Err e) ms is = cc
 
--- the members of a document have no float
-no_float_of : (ms : Members) → document_of (object ms) ≡ Ok ms → members_have_float ms ≡ false
-no_float_of ms reads = by (members_have_float ms) refl
-  where
-    by : (b : Bool) → members_have_float ms ≡ b → members_have_float ms ≡ false
-    by false none = none
-    by true some = let bad : Err UnsupportedNumber ≡ Ok ms = sym (ap (λ b. if b then Err UnsupportedNumber else Ok ms) some) ∙ reads in cc
-
--- nor have the members that a document has to have
-pub no_float_in : (ms ns : Members) → document_of (object ms) ≡ Ok ms → required_member (codes "metadata") as_object (object ms) ≡ Ok ns → members_have_float ns ≡ false
-no_float_in ms ns reads is = by (get_member (codes "metadata") ms) refl is
-  where
-    by : (o : Option Data) → get_member (codes "metadata") ms ≡ o → steps.◌>>=◌ (member_or_fault (codes "metadata") o) (λ d. form_or_fault (codes "metadata") (as_object d)) ≡ Ok ns → members_have_float ns ≡ false
-    by None at e = cc
-    by (Some d) at e = without_floats_at (codes "metadata") ms d ns (no_float_of ms reads) at (formed_some (codes "metadata") (as_object d) ns e)
-
--- what members that have no float have for a text fits
-pub members_fit : (ms : Members) → members_have_float ms ≡ false → (document : List ℕ → File → Option Data) → ((t : List ℕ) (file : File) → document t file ≡ member_at ms t file) → (t : List ℕ) → HaveNoFloat (document t)
-members_fit ms none document is t file = subst (λ o. IfSome o (λ d. has_float d ≡ false)) (sym (is t file)) (member_fits (t ++ 47 ∷ file_name file) ms none)
+-- what members whose numbers are among these have for a text fits
+pub members_fit : (numbers : Numbers) (ms : Members) → IsTrue (fits_in numbers (object ms)) → (document : List ℕ → File → Option Data) → ((t : List ℕ) (file : File) → document t file ≡ member_at ms t file) → (t : List ℕ) → AllFit numbers (document t)
+members_fit numbers ms fits document is t file = subst (λ o. IfSome o (λ d. IsTrue (fits_in numbers d))) (sym (is t file)) (member_fits_in numbers (t ++ 47 ∷ file_name file) ms fits)
 
 -- what a document means is what its members mean
-taken_is : (d : Data) (ms : Members) → document_of d ≡ Ok ms → zmetadata_of d ≡ zmetadata_taken d
-unfolding zmetadata_of
-taken_is d ms is = taken_by d (document_of d) ms is
+taken_is : (numbers : Numbers) (d : Data) (ms : Members) → document_in numbers d ≡ Ok ms → zmetadata_in numbers d ≡ zmetadata_taken numbers d
+unfolding zmetadata_in
+taken_is numbers d ms is = taken_by numbers d (document_in numbers d) ms is
 
 -- a fault of the members is the first of the document
-document_faults : (d : Data) (f : MetadataFault) → document_of d ≡ Err f → zmetadata_of d ≡ Err f
-unfolding zmetadata_of
-document_faults d f e =
-    ap (λ (r : Result Members MetadataFault). steps.◌>>=◌ (steps.◌>>=◌ r λ _. steps.◌>>=◌ (required_member (codes "zarr_consolidated_format") one d) λ _. required_member (codes "metadata") as_object d) small_block) e
+document_faults : (numbers : Numbers) (d : Data) (f : MetadataFault) → document_in numbers d ≡ Err f → zmetadata_in numbers d ≡ Err f
+unfolding zmetadata_in
+document_faults numbers d f e =
+    ap (λ (r : Result Members MetadataFault). steps.◌>>=◌ (steps.◌>>=◌ r λ _. steps.◌>>=◌ (required_member (codes "zarr_consolidated_format") one d) λ _. required_member (codes "metadata") as_object d) (small_block_in numbers)) e
 
-module _ (d : Data) where
+module _ (numbers : Numbers) (d : Data) where
   -- what refuses the members refuses the document
-  pub refused_document : (fault : MetadataFault) → Refuses fault (document_of d) → Refuses fault (zmetadata_of d)
-  refused_document fault refused = refuses_too fault (document_of d) (zmetadata_of d) (document_faults d) refused
+  pub refused_document : (fault : MetadataFault) → Refuses fault (document_in numbers d) → Refuses fault (zmetadata_in numbers d)
+  refused_document fault refused = refuses_too fault (document_in numbers d) (zmetadata_in numbers d) (document_faults numbers d) refused
 
   -- what was read of the members was read of the document
-  pub gives_document : (ms : Members) (r : Result ConsolidatedMetadata MetadataFault) → document_of d ≡ Ok ms → d ≡ object ms
-      → Gives (λ block. block.metadata) r (zmetadata_taken (object ms)) → Gives (λ block. block.metadata) r (zmetadata_of d)
-  gives_document ms r reads whole gives = subst (λ q. Gives (λ block. block.metadata) r q) (ap zmetadata_taken (sym whole) ∙ sym (taken_is d ms reads)) gives
+  pub gives_document : (ms : Members) (r : Result ConsolidatedMetadata MetadataFault) → document_in numbers d ≡ Ok ms → d ≡ object ms
+      → Gives (λ block. block.metadata) r (zmetadata_taken numbers (object ms)) → Gives (λ block. block.metadata) r (zmetadata_in numbers d)
+  gives_document ms r reads whole gives = subst (λ q. Gives (λ block. block.metadata) r q) (ap (zmetadata_taken numbers) (sym whole) ∙ sym (taken_is numbers d ms reads)) gives
 
   -- the block that was read holds the store that the members are
-  pub gives_store : (r : Result ConsolidatedMetadata MetadataFault) → Gives (λ block. block.metadata) r (zmetadata_of d)
-      → IfOk r (λ block. (ms : Members) × (zmetadata_members d ≡ Ok ms) × HoldsStore ms block.metadata × IsClean ms)
-  gives_store (Ok block) gives = store_law d block.metadata gives
+  pub gives_store : (r : Result ConsolidatedMetadata MetadataFault) → Gives (λ block. block.metadata) r (zmetadata_in numbers d)
+      → IfOk r (λ block. (ms : Members) × (zmetadata_members_in numbers d ≡ Ok ms) × HoldsStoreIn numbers ms block.metadata × IsCleanIn numbers ms)
+  gives_store (Ok block) gives = store_law numbers d block.metadata gives
   gives_store (Err fault) gives = tt
 
   -- a fault is that of the document
-  fault_shown : (fault : MetadataFault) → Refuses fault (zmetadata_of d) → (fault ≡ OutOfMemory) ⊎ IsZmetadataFault d fault
+  fault_shown : (fault : MetadataFault) → Refuses fault (zmetadata_in numbers d) → (fault ≡ OutOfMemory) ⊎ IsZmetadataFaultIn numbers d fault
   fault_shown OutOfMemory h = inl refl
-  fault_shown NotJson h = inr (refused_law d NotJson h)
-  fault_shown UnsupportedNumber h = inr (refused_law d UnsupportedNumber h)
-  fault_shown NotAnObject h = inr (refused_law d NotAnObject h)
-  fault_shown WrongFormat h = inr (refused_law d WrongFormat h)
-  fault_shown WrongNodeType h = inr (refused_law d WrongNodeType h)
-  fault_shown (MissingMember name) h = inr (refused_law d (MissingMember name) h)
-  fault_shown (BadMember name) h = inr (refused_law d (BadMember name) h)
+  fault_shown NotJson h = inr (refused_law numbers d NotJson h)
+  fault_shown UnsupportedNumber h = inr (refused_law numbers d UnsupportedNumber h)
+  fault_shown NotAnObject h = inr (refused_law numbers d NotAnObject h)
+  fault_shown WrongFormat h = inr (refused_law numbers d WrongFormat h)
+  fault_shown WrongNodeType h = inr (refused_law numbers d WrongNodeType h)
+  fault_shown (MissingMember name) h = inr (refused_law numbers d (MissingMember name) h)
+  fault_shown (BadMember name) h = inr (refused_law numbers d (BadMember name) h)
 
   -- so is what refused the reading
-  pub gives_fault : (r : Result ConsolidatedMetadata MetadataFault) → Gives (λ block. block.metadata) r (zmetadata_of d)
-      → IfErr r (λ fault. (fault ≡ OutOfMemory) ⊎ IsZmetadataFault d fault)
+  pub gives_fault : (r : Result ConsolidatedMetadata MetadataFault) → Gives (λ block. block.metadata) r (zmetadata_in numbers d)
+      → IfErr r (λ fault. (fault ≡ OutOfMemory) ⊎ IsZmetadataFaultIn numbers d fault)
   gives_fault (Ok block) gives = tt
   gives_fault (Err fault) gives = fault_shown fault gives
 
   -- and its keys ascend
-  pub gives_ascending : (r : Result ConsolidatedMetadata MetadataFault) → Gives (λ block. block.metadata) r (zmetadata_of d) → IfOk r (λ block. IsAscending block.metadata)
-  gives_ascending (Ok block) gives = ascending_law d block.metadata gives
+  pub gives_ascending : (r : Result ConsolidatedMetadata MetadataFault) → Gives (λ block. block.metadata) r (zmetadata_in numbers d) → IfOk r (λ block. IsAscending block.metadata)
+  gives_ascending (Ok block) gives = ascending_law numbers d block.metadata gives
   gives_ascending (Err fault) gives = tt

@@ -5,7 +5,8 @@
 --     IsValidKey t, HasValidKeys B      what a block may have as a key; that each key is such
 --     entry B ns, Entries B b      what a block has for the path that is ns beyond the base; all pairs below b that it has
 --     IsBlockOf N b B      B holds exactly the pairs of N, each at its names beyond b
---     block_of d, block_tree B      the block that a JSON value is, or the first fault; what is written of a block
+--     block_of_in numbers d, block_of d      the block that a JSON value is where it may hold these numbers, or the first fault; where they have to be whole
+--     block_tree B      what is written of a block
 use Rattle.std.specs.Prelude.{◌≡◌, ℕ, false, if◌then◌else◌, List, [], ◌∷◌, ◌++◌, Option, Some, None, Result, All, IsTrue, IsSome, ◌⊎◌, ◌↔◌, option_and_then, bytes_eq, codes}
 use Rattle.std.specs.Result.{result_ok}
 use Rattle.std.specs.Map.{lookup, keys_of}
@@ -15,11 +16,13 @@ use Rattle.serde_json.specs.Find.{as_object}
 use Rattle.std.specs.List.Sorted.{IsStrictlySortedBy}
 use Rattle.zarrs_store.specs.Segments.{bytes_cmp, key_text}
 use Rattle.zarrs_fault.specs.declared.fault.MetadataFault.{MetadataFault}
+use Rattle.zarrs_fault.specs.declared.numbers.Numbers.{Numbers}
+use Rattle.zarrs_fault.specs.declared.numbers.Numbers.TheVariants.{Whole}
 use Rattle.zarrs_path.specs.Paths.{Path, IsPath}
-use Rattle.zarrs_form.specs.Documents.{document_of, required_member, optional_member}
+use Rattle.zarrs_form.specs.Documents.{document_in, required_member, optional_member}
 use Rattle.zarrs_form.specs.Documents as steps
 use Rattle.zarrs_form.specs.Forms.{◌>>=◌}
-use Rattle.zarrs_meta.specs.Node.{node_of, node_tree, is_plain_node}
+use Rattle.zarrs_meta.specs.Node.{node_in, node_tree, is_plain_node}
 use Rattle.zarrs_meta.specs.declared.node.NodeMetadata.{NodeMetadata}
 
 -- texts, the keys, with the metadata at each, in the order of the keys
@@ -77,25 +80,29 @@ abbrev pub untrue : Data → Option (Unit {0})
 untrue (boolean false) = Some tt
 untrue _ = None
 
--- all members as whole node documents, each at its name, or nothing where one does not read
-abbrev pub nodes_of : Members → Option Block
-nodes_of no_members = Some []
-nodes_of (member t d ms) = do
-  m ← result_ok (node_of d)
-  B ← nodes_of ms
+-- all members as whole node documents that may hold these numbers, each at its name, or nothing where one does not read
+abbrev pub nodes_in : Numbers → Members → Option Block
+nodes_in numbers no_members = Some []
+nodes_in numbers (member t d ms) = do
+  m ← result_ok (node_in numbers d)
+  B ← nodes_in numbers ms
   Some ((t, m) ∷ B)
 
--- an object of whole node documents
-abbrev pub nodes : Data → Option Block
-nodes d = option_and_then nodes_of (as_object d)
+-- an object of whole node documents that may hold these numbers
+abbrev pub nodes : Numbers → Data → Option Block
+nodes numbers d = option_and_then (nodes_in numbers) (as_object d)
 
--- the block that a JSON value is, or its first fault
-unfoldable pub block_of : Data → Result Block MetadataFault
-block_of d =
-    steps.◌>>=◌ (document_of d) λ _.
+-- the block that a JSON value is where it may hold these numbers, or its first fault
+unfoldable pub block_of_in : Numbers → Data → Result Block MetadataFault
+block_of_in numbers d =
+    steps.◌>>=◌ (document_in numbers d) λ _.
     steps.◌>>=◌ (required_member (codes "kind") inline d) λ _.
     steps.◌>>=◌ (optional_member (codes "must_understand") tt untrue d) λ _.
-    required_member (codes "metadata") nodes d
+    required_member (codes "metadata") (nodes numbers) d
+
+-- the block that a JSON value is where its numbers have to be whole, or its first fault
+abbrev pub block_of : Data → Result Block MetadataFault
+block_of d = block_of_in Whole d
 
 -- ---- the written form
 

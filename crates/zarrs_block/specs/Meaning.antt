@@ -9,15 +9,16 @@ use Rattle.serde_json.specs.Data.{Data}
 use Rattle.zarrs_store.specs.Segments.{Segments, key_cmp}
 use Rattle.zarrs_store.specs.Contents.{Contents}
 use Rattle.zarrs_fault.specs.declared.fault.MetadataFault.{MetadataFault}
+use Rattle.zarrs_fault.specs.declared.numbers.Numbers.{Numbers}
 use Rattle.zarrs_store.specs.declared.storage_error.StorageError.{StorageError}
 use Rattle.zarrs_store.specs.declared.storage_error.StorageError.TheVariants.{InvalidMetadata}
 use Rattle.zarrs_path.specs.Paths.{Path}
 use Rattle.zarrs_path.specs.Keys.{zarr_json, zarray, zgroup, zattrs}
 use Rattle.zarrs_form.specs.Documents.{of_bytes}
-use Rattle.zarrs_meta.specs.ArrayV2.{array_v2_of}
-use Rattle.zarrs_meta.specs.GroupV2.{group_v2_of}
-use Rattle.zarrs_meta.specs.Attributes.{attributes_of}
-use Rattle.zarrs_meta.specs.Node.{zarr_json_of, array_with, group_with}
+use Rattle.zarrs_meta.specs.ArrayV2.{array_v2_in}
+use Rattle.zarrs_meta.specs.GroupV2.{group_v2_in}
+use Rattle.zarrs_meta.specs.Attributes.{attributes_document_in}
+use Rattle.zarrs_meta.specs.Node.{zarr_json_in, array_with, group_with}
 use Rattle.zarrs_meta.specs.declared.array_v2.ArrayMetadataV2.{ArrayMetadataV2}
 use Rattle.zarrs_meta.specs.declared.group_v2.GroupMetadataV2.{GroupMetadataV2}
 use Rattle.zarrs_meta.specs.declared.attributes.AttributesDocument.{AttributesDocument}
@@ -43,17 +44,17 @@ abbrev pub document_or_fault : {D : Type 0} → Segments → Result D MetadataFa
 document_or_fault key (Ok d) = Ok (Some d)
 document_or_fault key (Err fault) = Err (InvalidMetadata key fault)
 
--- how what stands at the keys of a store reads as a document
+-- how what stands at the keys of a store reads as a document of a kind, which is given for any numbers
 abbrev pub Reading : Type 0 → Type 1
-Reading V = (D : Type 0) → (Data → Result D MetadataFault) → V → Result D MetadataFault
+Reading V = (D : Type 0) → (Numbers → Data → Result D MetadataFault) → V → Result D MetadataFault
 
--- bytes read as the document that their tree is
-abbrev pub in_bytes : Reading (List ℕ)
-in_bytes D = of_bytes {A = D}
+-- bytes read as the document that their tree is, which may hold these numbers
+abbrev pub in_bytes : Numbers → Reading (List ℕ)
+in_bytes numbers D document = of_bytes {A = D} (document numbers)
 
--- a tree reads as the document that it is
-abbrev pub in_trees : Reading Data
-in_trees D document = document
+-- a tree reads as the document that it is, which may hold these numbers
+abbrev pub in_trees : Numbers → Reading Data
+in_trees numbers D document = document numbers
 
 -- the document of what stands at a key, or none where nothing stands there
 abbrev pub document_from : {V D : Type 0} → (V → Result D MetadataFault) → Segments → Option V → Result (Option D) StorageError
@@ -81,19 +82,19 @@ version_2_line kind with (Err e) attributes after = bad (InStore e)
 
 -- the attributes at the key `.zattrs` of a path
 abbrev pub attributes_in : {V : Type 0} → Reading V → FinMap key_cmp V → Path → Result (Option AttributesDocument) StorageError
-attributes_in reading s p = document_at (reading AttributesDocument attributes_of) s (p ++ zattrs ∷ [])
+attributes_in reading s p = document_at (reading AttributesDocument attributes_document_in) s (p ++ zattrs ∷ [])
 
 -- what `zarr.json` says, before the other documents
 unfoldable pub zarr_json_line : {V : Type 0} → Reading V → FinMap key_cmp V → Path → Meaning → Meaning
-zarr_json_line reading s p after = version_3_line (document_at (reading ZarrJson zarr_json_of) s (p ++ zarr_json ∷ [])) after
+zarr_json_line reading s p after = version_3_line (document_at (reading ZarrJson zarr_json_in) s (p ++ zarr_json ∷ [])) after
 
 -- what `.zarray` says, before the other documents
 unfoldable pub zarray_line : {V : Type 0} → Reading V → FinMap key_cmp V → Path → Meaning → Meaning
-zarray_line reading s p after = version_2_line (λ m. Array (array_v2 m)) array_with (document_at (reading ArrayMetadataV2 array_v2_of) s (p ++ zarray ∷ [])) (attributes_in reading s p) after
+zarray_line reading s p after = version_2_line (λ m. Array (array_v2 m)) array_with (document_at (reading ArrayMetadataV2 array_v2_in) s (p ++ zarray ∷ [])) (attributes_in reading s p) after
 
 -- what `.zgroup` says, before the other documents
 unfoldable pub zgroup_line : {V : Type 0} → Reading V → FinMap key_cmp V → Path → Meaning → Meaning
-zgroup_line reading s p after = version_2_line (λ m. Group (group_v2 m)) group_with (document_at (reading GroupMetadataV2 group_v2_of) s (p ++ zgroup ∷ [])) (attributes_in reading s p) after
+zgroup_line reading s p after = version_2_line (λ m. Group (group_v2 m)) group_with (document_at (reading GroupMetadataV2 group_v2_in) s (p ++ zgroup ∷ [])) (attributes_in reading s p) after
 
 -- the version Default asks `zarr.json`, `.zarray` and `.zgroup` in this order, V3 the first alone, and V2 the last two
 abbrev pub by_lines : {V : Type 0} → Reading V → FinMap key_cmp V → MetadataRetrieveVersion → Path → Meaning
@@ -107,11 +108,11 @@ meaning_in reading s v p = by_lines reading s v p
 
 -- the attributes at the key `.zattrs` of a path, in a store of bytes
 abbrev pub attributes_at : Contents → Path → Result (Option AttributesDocument) StorageError
-attributes_at s p = attributes_in in_bytes s p
+attributes_at s p = attributes_in (in_bytes s.numbers) s.values p
 
 -- what a path means in a store of bytes, by the documents that a version admits
 abbrev pub meaning : Contents → MetadataRetrieveVersion → Path → Meaning
-meaning s v p = meaning_in in_bytes s v p
+meaning s v p = meaning_in (in_bytes s.numbers) s.values v p
 
 -- the paths that mean nodes, with their metadata
 abbrev pub Means : (Path → Meaning) → Path × NodeMetadata → Type 0

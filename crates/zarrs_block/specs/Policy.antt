@@ -5,6 +5,8 @@ use Rattle.std.specs.Prelude.{◌≡◌, ◌≢◌, ◌++◌, Option, Some, None
 use Rattle.std.specs.Result.{result_ok}
 use Rattle.serde_json.specs.Data.{Data, Members}
 use Rattle.serde_json.specs.Find.{get_member}
+use Rattle.zarrs_fault.specs.declared.numbers.Numbers.{Numbers}
+use Rattle.zarrs_fault.specs.declared.numbers.Numbers.TheVariants.{Whole}
 use Rattle.zarrs_path.specs.Paths.{Path, path_text}
 use Rattle.zarrs_config.specs.declared.version.UseConsolidatedMetadata.{UseConsolidatedMetadata}
 use Rattle.zarrs_config.specs.declared.version.UseConsolidatedMetadata.TheVariants.{Auto, Must, Never}
@@ -12,7 +14,7 @@ use Rattle.zarrs_meta.specs.declared.node.GroupMetadata.{GroupMetadata}
 use Rattle.zarrs_meta.specs.declared.node.GroupMetadata.TheVariants.{V3, V2}
 use Rattle.zarrs_meta.specs.declared.node.NodeMetadata.{NodeMetadata}
 use Rattle.zarrs_meta.specs.declared.node.NodeMetadata.TheVariants.{Group, Array}
-use Rattle.zarrs_block.specs.Block.{Block, block_of}
+use Rattle.zarrs_block.specs.Block.{Block, block_of_in}
 use Rattle.zarrs_block.specs.declared.consolidated.ConsolidatedMetadata.{ConsolidatedMetadata}
 use Rattle.zarrs_block.specs.declared.node_create_error.NodeCreateError.{NodeCreateError}
 use Rattle.zarrs_block.specs.declared.node_create_error.NodeCreateError.TheVariants.{MissingMetadata, OutOfMemory}
@@ -21,19 +23,27 @@ use Rattle.zarrs_block.specs.declared.node_create_error.NodeCreateError.TheVaria
 abbrev pub as_block : Option ConsolidatedMetadata → Option Block
 as_block block = option_map (λ c. c.metadata) block
 
--- the field `consolidated_metadata`, where it reads as a block
-abbrev pub block_in_fields : Members → Option Block
-block_in_fields ms = option_and_then (λ d. result_ok (block_of d)) (get_member (codes "consolidated_metadata") ms)
+-- the field `consolidated_metadata`, where it reads as a block that may hold these numbers
+abbrev pub fields_block : Numbers → Members → Option Block
+fields_block numbers ms = option_and_then (λ d. result_ok (block_of_in numbers d)) (get_member (codes "consolidated_metadata") ms)
 
--- the block that a version 3 group holds in its additional fields; a version 2 group has none
+-- the block, which may hold these numbers, that a version 3 group holds in its additional fields; a version 2 group has none
+abbrev pub group_block : Numbers → GroupMetadata → Option Block
+group_block numbers (V3 m) = fields_block numbers m.additional_fields
+group_block numbers (V2 m) = None
+
+-- the block, which may hold these numbers, that metadata hold; an array has none
+abbrev pub node_block : Numbers → NodeMetadata → Option Block
+node_block numbers (Group g) = group_block numbers g
+node_block numbers (Array a) = None
+
+-- the block, whose numbers have to be whole, that a version 3 group holds in its additional fields; a version 2 group has none
 abbrev pub block_in_group : GroupMetadata → Option Block
-block_in_group (V3 m) = block_in_fields m.additional_fields
-block_in_group (V2 m) = None
+block_in_group g = group_block Whole g
 
--- the block that metadata hold; an array has none
+-- the block, whose numbers have to be whole, that metadata hold; an array has none
 abbrev pub block_in : NodeMetadata → Option Block
-block_in (Group g) = block_in_group g
-block_in (Array a) = None
+block_in m = node_block Whole m
 
 -- the choice of a block: under Never none is used, and else the one that there is; where there is none, Auto uses none, and Must makes no choice, since the want of a block is refused
 abbrev pub block_to_use : Option Block → UseConsolidatedMetadata → Option (Option Block)

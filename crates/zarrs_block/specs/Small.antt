@@ -2,7 +2,7 @@
 -- <https://zarr.readthedocs.io/en/stable/user-guide/consolidated_metadata/>
 --     counted_members ms      the members that are documents of version 2, each at the segments of its name
 --     small b ms      the small store that they are, behind the names of a base
---     small_meaning z p      what a path means in a small store
+--     small_meaning_in numbers z p      what a path means in a small store whose documents may hold these numbers
 use Rattle.std.specs.Prelude.{ℕ, ◌||◌, Bool, if◌then◌else◌, List, [], ◌∷◌, ◌++◌, bytes_eq, map}
 use Rattle.std.specs.List.{slice_split}
 use Rattle.std.specs.FinMap.{FinMap, from_entries}
@@ -10,6 +10,7 @@ use Rattle.serde_json.specs.Data.{Data, Members, no_members, member}
 use Rattle.zarrs_store.specs.Segments.{Segments, key_cmp, is_slash, last_segment}
 use Rattle.zarrs_path.specs.Keys.{zarray, zgroup, zattrs}
 use Rattle.zarrs_path.specs.Paths.{Path}
+use Rattle.zarrs_fault.specs.declared.numbers.Numbers.{Numbers}
 use Rattle.zarrs_config.specs.declared.version.MetadataRetrieveVersion.TheVariants.{V2}
 use Rattle.zarrs_block.specs.Meaning.{Meaning, in_trees, meaning_in}
 
@@ -17,9 +18,9 @@ use Rattle.zarrs_block.specs.Meaning.{Meaning, in_trees, meaning_in}
 abbrev pub SmallStore : Type 0
 SmallStore = FinMap key_cmp Data
 
--- what a path means in a small store, by the documents of version 2
-abbrev pub small_meaning : SmallStore → Path → Meaning
-small_meaning z = meaning_in in_trees z V2
+-- what a path means in a small store whose documents may hold these numbers, by the documents of version 2
+abbrev pub small_meaning_in : Numbers → SmallStore → Path → Meaning
+small_meaning_in numbers z = meaning_in (in_trees numbers) z V2
 
 -- `.zarray`, `.zgroup` and `.zattrs` name the documents of version 2
 abbrev pub is_document_v2 : List ℕ → Bool

@@ -1,7 +1,7 @@
 -- The version 2 convention of consolidated metadata, the document `.zmetadata` of a group: the parts of its reader, by look-ups.
 --     member_at ms t file      a document of version 2 that members have for the text of a path
---     HaveNoFloat document      each number of the documents of a path fits
---     read_files document      the node that the documents of a path are, or nothing, or the first fault
+--     AllFit numbers document      each number of the documents of a path is one of these
+--     read_files numbers document      the node that the documents of a path are where they may hold these numbers, or nothing, or the first fault
 --     tree_among runs t file      a document that runs have for a text
 --     gathered_at runs run t file      a document that a run has for a text, or that the runs before it have
 --     RunsAscend runs      the paths of the runs ascend
@@ -16,19 +16,19 @@ use denote.Ref.{Bor}
 use Rattle.serde_json.specs.Data.{Data, Members}
 use Rattle.serde_json.specs.Find.{get_member, as_object}
 use Rattle.serde_json.specs.View.{view}
-use Rattle.serde_json.specs.Written.{has_float}
 use Rattle.zarrs_store.specs.Segments.{bytes_cmp, last_segment}
 use Rattle.zarrs_fault.specs.declared.fault.MetadataFault.{MetadataFault}
 use Rattle.zarrs_fault.specs.declared.fault.MetadataFault.TheVariants.{BadMember, OutOfMemory}
+use Rattle.zarrs_fault.specs.declared.numbers.Numbers.{Numbers}
 use Rattle.zarrs_path.specs.Keys.{zarray, zgroup, zattrs}
 use Rattle.zarrs_path.specs.Names.{is_name}
 use Rattle.zarrs_path.specs.Paths.{IsPath, Path}
 use Rattle.zarrs_form.specs.Documents as steps
 use Rattle.zarrs_form.specs.Documents.{required_member}
-use Rattle.zarrs_form.specs.Forms.{is_nil}
-use Rattle.zarrs_meta.specs.ArrayV2.{array_v2_of}
-use Rattle.zarrs_meta.specs.GroupV2.{group_v2_of}
-use Rattle.zarrs_meta.specs.Attributes.{attributes_of}
+use Rattle.zarrs_form.specs.Forms.{fits_in, is_nil}
+use Rattle.zarrs_meta.specs.ArrayV2.{array_v2_in}
+use Rattle.zarrs_meta.specs.GroupV2.{group_v2_in}
+use Rattle.zarrs_meta.specs.Attributes.{attributes_document_in}
 use Rattle.zarrs_meta.specs.Node.{array_with, group_with}
 use Rattle.zarrs_meta.specs.declared.attributes.AttributesDocument.{AttributesDocument}
 use Rattle.zarrs_meta.specs.declared.node.ArrayMetadata.TheVariants.{V2 as array_v2}
@@ -37,7 +37,7 @@ use Rattle.zarrs_meta.specs.declared.node.NodeMetadata.{NodeMetadata}
 use Rattle.zarrs_meta.specs.declared.node.NodeMetadata.TheVariants.{Group, Array}
 use Rattle.zarrs_block.specs.Block.{Block}
 use Rattle.zarrs_block.specs.Small.{is_document_v2, stretches}
-use Rattle.zarrs_block.specs.Zmetadata.{one, before_last, documents_below, small_block, is_version_2}
+use Rattle.zarrs_block.specs.Zmetadata.{one, before_last, documents_below, small_block_in, is_version_2}
 use Rattle.zarrs_block.specs.declared.zmetadata.Documents.{Documents}
 use Rattle.zarrs_block.specs.declared.zmetadata.File.{File}
 use Rattle.zarrs_block.specs.declared.zmetadata.Run.{Run}
@@ -61,24 +61,24 @@ is_file file other = bytes_eq (file_name file) (file_name other)
 abbrev pub member_at : Members → List ℕ → File → Option Data
 member_at ms t file = get_member (t ++ 47 ∷ file_name file) ms
 
--- a document with the attributes beside it, where there are any, or the first fault
-abbrev pub read_with : {D : Type 0} → (Data → Result D MetadataFault) → (D → NodeMetadata) → (AttributesDocument → D → D) → Data → Option Data → Result NodeMetadata MetadataFault
-read_with document kind with d None = steps.◌>>=◌ (document d) λ m. Ok (kind m)
-read_with document kind with d (Some a) = steps.◌>>=◌ (document d) λ m. steps.◌>>=◌ (attributes_of a) λ x. Ok (kind (with x m))
+-- a document with the attributes beside it, where there are any, both of which may hold these numbers, or the first fault
+abbrev pub read_with : {D : Type 0} → Numbers → (Numbers → Data → Result D MetadataFault) → (D → NodeMetadata) → (AttributesDocument → D → D) → Data → Option Data → Result NodeMetadata MetadataFault
+read_with numbers document kind with d None = steps.◌>>=◌ (document numbers d) λ m. Ok (kind m)
+read_with numbers document kind with d (Some a) = steps.◌>>=◌ (document numbers d) λ m. steps.◌>>=◌ (attributes_document_in numbers a) λ x. Ok (kind (with x m))
 
 -- the array of the first, or else the group of the second, or else nothing, or the first fault
-abbrev pub read_documents : Option Data → Option Data → Option Data → Result (Option NodeMetadata) MetadataFault
-read_documents (Some d) group attributes = steps.◌>>=◌ (read_with array_v2_of (λ m. Array (array_v2 m)) array_with d attributes) λ m. Ok (Some m)
-read_documents None (Some d) attributes = steps.◌>>=◌ (read_with group_v2_of (λ m. Group (group_v2 m)) group_with d attributes) λ m. Ok (Some m)
-read_documents None None attributes = Ok None
+abbrev pub read_documents : Numbers → Option Data → Option Data → Option Data → Result (Option NodeMetadata) MetadataFault
+read_documents numbers (Some d) group attributes = steps.◌>>=◌ (read_with numbers array_v2_in (λ m. Array (array_v2 m)) array_with d attributes) λ m. Ok (Some m)
+read_documents numbers None (Some d) attributes = steps.◌>>=◌ (read_with numbers group_v2_in (λ m. Group (group_v2 m)) group_with d attributes) λ m. Ok (Some m)
+read_documents numbers None None attributes = Ok None
 
--- the node that the documents of the three files are, or nothing, or the first fault
-abbrev pub read_files : (File → Option Data) → Result (Option NodeMetadata) MetadataFault
-read_files document = read_documents (document array_file) (document group_file) (document attributes_file)
+-- the node that the documents of the three files are where they may hold these numbers, or nothing, or the first fault
+abbrev pub read_files : Numbers → (File → Option Data) → Result (Option NodeMetadata) MetadataFault
+read_files numbers document = read_documents numbers (document array_file) (document group_file) (document attributes_file)
 
--- each number of the documents of the three files fits
-abbrev pub HaveNoFloat : (File → Option Data) → Type 0
-HaveNoFloat document = (file : File) → IfSome (document file) (λ d. has_float d ≡ false)
+-- each number of the documents of the three files is one of these
+abbrev pub AllFit : Numbers → (File → Option Data) → Type 0
+AllFit numbers document = (file : File) → IfSome (document file) (λ d. IsTrue (fits_in numbers d))
 
 -- ---- the documents of all paths
 
@@ -156,20 +156,20 @@ RefusesNames ms _ = ⊥
 -- ---- the nodes
 
 -- what the block has at each text is what the documents at it are read as
-abbrev pub HoldsNodes : (List ℕ → File → Option Data) → (List ℕ → Option NodeMetadata) → Type 0
-HoldsNodes document at = (t : List ℕ) → result_ok (read_files (document t)) ≡ Some (at t)
+abbrev pub HoldsNodes : Numbers → (List ℕ → File → Option Data) → (List ℕ → Option NodeMetadata) → Type 0
+HoldsNodes numbers document at = (t : List ℕ) → result_ok (read_files numbers (document t)) ≡ Some (at t)
 
 -- the documents at some text do not read; or out of memory
-abbrev pub RefusesTrees : (List ℕ → File → Option Data) → MetadataFault → Type 0
-RefusesTrees document (BadMember name) = (name ≡ codes "metadata") × ((t : List ℕ) × (result_ok (read_files (document t)) ≡ None))
-RefusesTrees document OutOfMemory = Unit {0}
-RefusesTrees document _ = ⊥
+abbrev pub RefusesTrees : Numbers → (List ℕ → File → Option Data) → MetadataFault → Type 0
+RefusesTrees numbers document (BadMember name) = (name ≡ codes "metadata") × ((t : List ℕ) × (result_ok (read_files numbers (document t)) ≡ None))
+RefusesTrees numbers document OutOfMemory = Unit {0}
+RefusesTrees numbers document _ = ⊥
 
--- the block of the members of a document, or the first fault
-abbrev pub zmetadata_taken : Data → Result Block MetadataFault
-zmetadata_taken d =
+-- the block of the members of a document that may hold these numbers, or the first fault
+abbrev pub zmetadata_taken : Numbers → Data → Result Block MetadataFault
+zmetadata_taken numbers d =
     steps.◌>>=◌ (required_member (codes "zarr_consolidated_format") one d) λ _.
-    steps.◌>>=◌ (required_member (codes "metadata") as_object d) small_block
+    steps.◌>>=◌ (required_member (codes "metadata") as_object d) (small_block_in numbers)
 
 -- the node is of version 3, or out of memory
 abbrev pub RefusesWritingNode : NodeMetadata → NodeCreateError → Type 0

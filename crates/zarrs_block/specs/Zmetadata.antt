@@ -1,8 +1,9 @@
 -- The version 2 convention of consolidated metadata, the document `.zmetadata` of a group (zarr-python, "Consolidated metadata"): how it is read as a block, and how it is written.
 -- <https://zarr.readthedocs.io/en/stable/user-guide/consolidated_metadata/>
---     zmetadata_of d      the block that a document is, or its first fault
---     HoldsStore, IsClean      what that block has and that nothing below the group is bad, as of any store
---     IsZmetadataFault d fault      what refuses a document
+--     zmetadata_in numbers d, zmetadata_of d      the block that a document is where it may hold these numbers, or its first fault; where they have to be whole
+--     HoldsStoreIn, IsCleanIn      what that block has and that nothing below the group is bad, as of any store
+--     IsZmetadataFaultIn      what refuses a document
+--     HoldsStore, IsClean, IsZmetadataFault      the same, where numbers have to be whole
 --     zmetadata_tree g B      what is written of a group of version 2 and its block
 --     IsWrittenOf g B d      what the written document has at each key
 --     RefusesZmetadata      what refuses its writing
@@ -15,10 +16,12 @@ use Rattle.serde_json.specs.Find.{as_object, get_member}
 use Rattle.zarrs_store.specs.Segments.{Segments, key_text}
 use Rattle.zarrs_fault.specs.declared.fault.MetadataFault.{MetadataFault}
 use Rattle.zarrs_fault.specs.declared.fault.MetadataFault.TheVariants.{BadMember}
+use Rattle.zarrs_fault.specs.declared.numbers.Numbers.{Numbers}
+use Rattle.zarrs_fault.specs.declared.numbers.Numbers.TheVariants.{Whole}
 use Rattle.zarrs_path.specs.Keys.{zarray, zgroup, zattrs}
 use Rattle.zarrs_path.specs.Names.{is_name}
 use Rattle.zarrs_path.specs.Paths.{Path, IsPath}
-use Rattle.zarrs_form.specs.Documents.{document_of, required_member, is_empty}
+use Rattle.zarrs_form.specs.Documents.{document_in, required_member, is_empty}
 use Rattle.zarrs_form.specs.Documents as steps
 use Rattle.zarrs_form.specs.Forms.{number_u64, is_nil}
 use Rattle.zarrs_meta.specs.ArrayV2.{array_v2_tree}
@@ -34,7 +37,7 @@ use Rattle.zarrs_block.specs.BlockExpansion.{RefusesKeys, pairs_at, paths_at}
 use Rattle.zarrs_block.specs.declared.node_create_error.NodeCreateError.{NodeCreateError}
 use Rattle.zarrs_block.specs.declared.node_create_error.NodeCreateError.TheVariants.{MetadataVersionMismatch}
 use Rattle.zarrs_block.specs.Meaning.{Meaning, Means, node, bad}
-use Rattle.zarrs_block.specs.Small.{is_document_v2, counted_members, small, small_meaning}
+use Rattle.zarrs_block.specs.Small.{is_document_v2, counted_members, small, small_meaning_in}
 
 -- ---- reading
 
@@ -42,12 +45,16 @@ use Rattle.zarrs_block.specs.Small.{is_document_v2, counted_members, small, smal
 abbrev pub one : Data → Option (Unit {0})
 one d = option_and_then (λ n. if n == 1 then Some tt else None) (number_u64 d)
 
--- the members of the document of format 1, or the first fault
-abbrev pub zmetadata_members : Data → Result Members MetadataFault
-zmetadata_members d =
-    steps.◌>>=◌ (document_of d) λ _.
+-- the members of the document of format 1 where it may hold these numbers, or the first fault
+abbrev pub zmetadata_members_in : Numbers → Data → Result Members MetadataFault
+zmetadata_members_in numbers d =
+    steps.◌>>=◌ (document_in numbers d) λ _.
     steps.◌>>=◌ (required_member (codes "zarr_consolidated_format") one d) λ _.
     required_member (codes "metadata") as_object d
+
+-- the members of the document of format 1 where its numbers have to be whole, or the first fault
+abbrev pub zmetadata_members : Data → Result Members MetadataFault
+zmetadata_members d = zmetadata_members_in Whole d
 
 -- all segments but the last
 abbrev pub before_last : Segments → Segments
@@ -78,36 +85,59 @@ abbrev pub block_from : (Path → Meaning) → List (Segments × Data) → Block
 block_from of [] = []
 block_from of (e ∷ es) = with_node (before_last e.0) (of (before_last e.0)) (block_from of es)
 
--- the block of the nodes below the group, where none is bad
-abbrev pub small_block : Members → Result Block MetadataFault
-small_block ms =
-    if list_all (λ e. is_good (small_meaning (small [] ms)) e.0) (documents_below ms) then Ok (block_from (small_meaning (small [] ms)) (documents_below ms))
-    else Err (BadMember (codes "metadata"))
+-- the block of what the paths below the group mean, where each document there is good
+abbrev pub block_where_good : (Path → Meaning) → List (Segments × Data) → Result Block MetadataFault
+block_where_good of es = if list_all (λ e. is_good of e.0) es then Ok (block_from of es) else Err (BadMember (codes "metadata"))
 
--- the block that a document `.zmetadata` is, or its first fault
-unfoldable pub zmetadata_of : Data → Result Block MetadataFault
-zmetadata_of d = steps.◌>>=◌ (zmetadata_members d) small_block
+-- the block of the nodes below the group, whose documents may hold these numbers, where none is bad
+abbrev pub small_block_in : Numbers → Members → Result Block MetadataFault
+small_block_in numbers ms = block_where_good (small_meaning_in numbers (small [] ms)) (documents_below ms)
+
+-- the block that a document `.zmetadata` is where it may hold these numbers, or its first fault
+unfoldable pub zmetadata_in : Numbers → Data → Result Block MetadataFault
+zmetadata_in numbers d = steps.◌>>=◌ (zmetadata_members_in numbers d) (small_block_in numbers)
+
+-- the block that a document `.zmetadata` is where its numbers have to be whole, or its first fault
+abbrev pub zmetadata_of : Data → Result Block MetadataFault
+zmetadata_of d = zmetadata_in Whole d
 
 -- ---- what was read, as what a store is
 
--- the block has exactly the paths below any base that mean nodes in the small store behind it, with their metadata
-abbrev pub HoldsStore : Members → Block → Type 0
-HoldsStore ms B = (b : Path) → IsBlockOf (Means (small_meaning (small b ms))) b B
+-- the block has exactly the paths below any base that mean nodes in the small store behind it, whose documents may hold these numbers, with their metadata
+abbrev pub HoldsStoreIn : Numbers → Members → Block → Type 0
+HoldsStoreIn numbers ms B = (b : Path) → IsBlockOf (Means (small_meaning_in numbers (small b ms))) b B
 
--- below no base a path is bad in the small store behind it, and each document that counts stands below names
-pub record IsClean (ms : Members) : Type 0 where
-  pub means : (b : Path) (n : List ℕ) (ns : Path) (e : NodeCreateError) → small_meaning (small b ms) (b ++ n ∷ ns) ≢ bad e
+-- the same, where numbers have to be whole
+abbrev pub HoldsStore : Members → Block → Type 0
+HoldsStore ms B = HoldsStoreIn Whole ms B
+
+-- below no base a path is bad in the small store behind it, whose documents may hold these numbers, and each document that counts stands below names
+pub record IsCleanIn (numbers : Numbers) (ms : Members) : Type 0 where
+  pub means : (b : Path) (n : List ℕ) (ns : Path) (e : NodeCreateError) → small_meaning_in numbers (small b ms) (b ++ n ∷ ns) ≢ bad e
   pub named : All (λ e. IsPath (before_last e.0)) (counted_members ms)
 
--- the document is none of format 1, and this is its first fault; or it has members that are no clean store, and the fault is `BadMember` of `metadata`, the member that has them
-abbrev pub IsZmetadataFault : Data → MetadataFault → Type 0
-IsZmetadataFault d fault =
-    (zmetadata_members d ≡ Err fault)
-    ⊎ ((ms : Members) × (zmetadata_members d ≡ Ok ms) × (IsClean ms → ⊥) × (fault ≡ BadMember (codes "metadata")))
+-- the same, where numbers have to be whole
+abbrev pub IsClean : Members → Type 0
+IsClean ms = IsCleanIn Whole ms
 
--- A document that reads as a block has members; the block holds the store that they are, in which nothing is bad, and the keys of the block ascend.
+-- the document, which may hold these numbers, is none of format 1, and this is its first fault; or it has members that are no clean store, and the fault is `BadMember` of `metadata`, the member that has them
+abbrev pub IsZmetadataFaultIn : Numbers → Data → MetadataFault → Type 0
+IsZmetadataFaultIn numbers d fault =
+    (zmetadata_members_in numbers d ≡ Err fault)
+    ⊎ ((ms : Members) × (zmetadata_members_in numbers d ≡ Ok ms) × (IsCleanIn numbers ms → ⊥) × (fault ≡ BadMember (codes "metadata")))
+
+-- the same, where numbers have to be whole
+abbrev pub IsZmetadataFault : Data → MetadataFault → Type 0
+IsZmetadataFault d fault = IsZmetadataFaultIn Whole d fault
+
+-- A document that reads as a block where it may hold these numbers has members; the block holds the store that they are, in which nothing is bad, and the keys of the block ascend.
+abbrev pub ZmetadataHoldsIn : Numbers → Type 0
+ZmetadataHoldsIn numbers = (d : Data) (B : Block) → zmetadata_in numbers d ≡ Ok B
+    → ((ms : Members) × (zmetadata_members_in numbers d ≡ Ok ms) × HoldsStoreIn numbers ms B × IsCleanIn numbers ms) × IsAscending B
+
+-- The same, where numbers have to be whole.
 abbrev pub ZmetadataHolds : Type 0
-ZmetadataHolds = (d : Data) (B : Block) → zmetadata_of d ≡ Ok B → ((ms : Members) × (zmetadata_members d ≡ Ok ms) × HoldsStore ms B × IsClean ms) × IsAscending B
+ZmetadataHolds = ZmetadataHoldsIn Whole
 
 -- ---- the written form
 

@@ -1,22 +1,22 @@
 //! The consolidated block of a group: the metadata of the nodes below it.
-ghost use Rattle.std.specs.Prelude.{◌≡◌, ◌≢◌, ℕ, List, false, Ok, None, [], length, IfOk, OnOk, OnErr, Result, string_bytes, codes, map, option_copied};
+ghost use Rattle.std.specs.Prelude.{◌≡◌, ◌≢◌, ℕ, List, false, Ok, None, [], length, IfOk, IsTrue, OnOk, OnErr, Result, string_bytes, codes, map, option_copied};
 ghost use Rattle.std.specs.Result.{result_ok};
 ghost use Rattle.serde_json.specs.Data.{object};
 ghost use Rattle.serde_json.specs.Find.{as_object};
 ghost use Rattle.serde_json.specs.View.{view, members_view};
-ghost use Rattle.serde_json.specs.Written.{has_float, members_have_float};
-ghost use Rattle.zarrs_form.specs.Documents.{Gives, document_of, form_or_fault, required_member, optional_member};
-ghost use Rattle.zarrs_form.specs.Forms.{is_nil};
-ghost use Rattle.zarrs_meta.specs.Node.{node_of};
-ghost use Rattle.zarrs_block.specs.Block.{IsAscending, node_at_key, put as put_node, inline, untrue, nodes_of, nodes, block_of, documents, block_tree};
+ghost use Rattle.serde_json.specs.Written.{members_have_float};
+ghost use Rattle.zarrs_form.specs.Documents.{Gives, document_in, document_of, form_or_fault, object_of, required_member, optional_member};
+ghost use Rattle.zarrs_form.specs.Forms.{fits_in, is_nil};
+ghost use Rattle.zarrs_meta.specs.Node.{node_in};
+ghost use Rattle.zarrs_block.specs.Block.{IsAscending, node_at_key, put as put_node, inline, untrue, nodes_in, nodes, block_of, block_of_in, documents, block_tree};
 
 use crate::asked::{asked_node, asked_owned_node};
 use serde_json::{Map, Value, put};
 use std::alloc::{AllocError, Global};
 use std::marker::Model;
-use zarrs_form::{document, document_copy, member, members_have_float, put_text, take_member};
+use zarrs_form::{document_copy, document_in, member, members_have_float, put_text, take_member};
 use zarrs_meta::NodeMetadata;
-use zarrs_store::{MemberName, MetadataFault};
+use zarrs_store::{MemberName, MetadataFault, Numbers};
 
 /// The consolidated block of a group.
 ///
@@ -164,14 +164,31 @@ impl ConsolidatedMetadata {
     /// no memory.
     ///
     /// Source: zarr-python, consolidated metadata of kind `inline`.
-    #[tactic(auto, unfolding(crate::specs::Block::block_of))]
     pub fn from_value(alloc: Global, value: &Value) -> Result<ConsolidatedMetadata, MetadataFault>
         ensures { Gives (λ block. block.metadata) result (block_of (view value.now)) }
     {
-        let members = members_of(value)?;
+        ConsolidatedMetadata::from_value_in(alloc, Numbers::Whole, value)
+    }
+
+    /// The block that a JSON value is, where it may hold these numbers.
+    ///
+    /// # Errors
+    ///
+    /// As [`ConsolidatedMetadata::from_value`], except that `UnsupportedNumber` comes only where the numbers are `Whole`.
+    ///
+    /// Source: own; zarr-python, consolidated metadata of kind `inline`.
+    #[tactic(auto, unfolding(crate::specs::Block::block_of_in))]
+    pub fn from_value_in(
+        alloc: Global,
+        numbers: Numbers,
+        value: &Value,
+    ) -> Result<ConsolidatedMetadata, MetadataFault>
+        ensures { Gives (λ block. block.metadata) result (block_of_in numbers (view value.now)) }
+    {
+        let members = members_of(numbers, value)?;
         ask_kind(members)?;
         ask_not_understood(members)?;
-        let metadata = metadata_of(alloc, members)?;
+        let metadata = metadata_of(alloc, numbers, members)?;
         Ok(ConsolidatedMetadata { metadata })
     }
 
@@ -182,17 +199,34 @@ impl ConsolidatedMetadata {
     /// As [`ConsolidatedMetadata::from_value`].
     ///
     /// Source: zarr-python, consolidated metadata of kind `inline`.
-    #[tactic(auto, unfolding(crate::specs::Block::block_of))]
     pub fn from_owned_value(
         alloc: Global,
         value: Value,
     ) -> Result<ConsolidatedMetadata, MetadataFault>
         ensures { Gives (λ block. block.metadata) result (block_of (view value)) }
     {
-        let members = document(value)?;
+        ConsolidatedMetadata::from_owned_value_in(alloc, Numbers::Whole, value)
+    }
+
+    /// The block that a JSON value is, where it may hold these numbers; its parts are taken over.
+    ///
+    /// # Errors
+    ///
+    /// As [`ConsolidatedMetadata::from_value_in`].
+    ///
+    /// Source: own; zarr-python, consolidated metadata of kind `inline`.
+    #[tactic(auto, unfolding(crate::specs::Block::block_of_in))]
+    pub fn from_owned_value_in(
+        alloc: Global,
+        numbers: Numbers,
+        value: Value,
+    ) -> Result<ConsolidatedMetadata, MetadataFault>
+        ensures { Gives (λ block. block.metadata) result (block_of_in numbers (view value)) }
+    {
+        let members = document_in(numbers, value)?;
         ask_kind(&members)?;
         ask_not_understood(&members)?;
-        let metadata = owned_metadata_of(alloc, members)?;
+        let metadata = owned_metadata_of(alloc, numbers, members)?;
         Ok(ConsolidatedMetadata { metadata })
     }
 
@@ -230,8 +264,33 @@ impl ConsolidatedMetadata {
     }
 }
 
-// The members of the document that a JSON value is, refused as `document_copy` refuses it, and not copied.
-fn members_of(value: &Value) -> Result<&Map<String, Value>, MetadataFault>
+// The members of the document that a JSON value is, which may hold these numbers; they are not copied.
+fn members_of(numbers: Numbers, value: &Value) -> Result<&Map<String, Value>, MetadataFault>
+    ensures gives { Gives (λ m. members_view m.now.entries) result
+        (document_in numbers (view value.now)) }
+    ensures whole { IfOk result (λ m. view value.now ≡ object (members_view m.now.entries)) }
+    ensures fits { IfOk result
+        (λ m. IsTrue (fits_in numbers (object (members_view m.now.entries)))) }
+{
+    match numbers {
+        Numbers::Whole => whole_members_of(value),
+        Numbers::Any => any_members_of(value),
+    }
+}
+
+// The members of the object that a JSON value is.
+fn any_members_of(value: &Value) -> Result<&Map<String, Value>, MetadataFault>
+    ensures gives { Gives (λ m. members_view m.now.entries) result (object_of (view value.now)) }
+    ensures whole { IfOk result (λ m. view value.now ≡ object (members_view m.now.entries)) }
+{
+    match value {
+        Value::Object(members) => Ok(members),
+        _ => Err(MetadataFault::NotAnObject),
+    }
+}
+
+// The members of the document that a JSON value is, whose numbers are whole, refused as `document_copy` refuses it, and not copied.
+fn whole_members_of(value: &Value) -> Result<&Map<String, Value>, MetadataFault>
     ensures gives { Gives (λ m. members_view m.now.entries) result (document_of (view value.now)) }
     ensures whole { IfOk result (λ m. view value.now ≡ object (members_view m.now.entries)) }
     ensures fits { IfOk result (λ m. members_have_float (members_view m.now.entries) ≡ false) }
@@ -276,20 +335,22 @@ fn ask_not_understood(members: &Map<String, Value>) -> Result<(), MetadataFault>
     }
 }
 
-// The nodes of the member `metadata`.
+// The nodes of the member `metadata`, which may hold these numbers.
 fn metadata_of(
     alloc: Global,
+    numbers: Numbers,
     members: &Map<String, Value>,
 ) -> Result<ConsolidatedMetadataMetadata, MetadataFault>
-    requires { members_have_float (members_view members.now.entries) ≡ false }
+    requires { IsTrue (fits_in numbers (object (members_view members.now.entries))) }
     ensures { Gives (λ all. all) result
-        (required_member (codes "metadata") nodes (object (members_view members.now.entries))) }
+        (required_member (codes "metadata") (nodes numbers)
+        (object (members_view members.now.entries))) }
 {
     let Some(value) = member(members, "metadata") else {
         return Err(MetadataFault::MissingMember(MemberName::new("metadata")));
     };
     match value.as_object() {
-        Some(documents) => nodes_of(alloc, documents),
+        Some(documents) => nodes_of(alloc, numbers, documents),
         None => Err(MetadataFault::BadMember(MemberName::new("metadata"))),
     }
 }
@@ -297,16 +358,17 @@ fn metadata_of(
 // The nodes that whole node documents are, at the same keys.
 fn nodes_of(
     alloc: Global,
+    numbers: Numbers,
     documents: &Map<String, Value>,
 ) -> Result<ConsolidatedMetadataMetadata, MetadataFault>
-    requires { members_have_float (members_view documents.now.entries) ≡ false }
+    requires { IsTrue (fits_in numbers (object (members_view documents.now.entries))) }
     ensures { Gives (λ all. all) result
-        (form_or_fault (codes "metadata") (nodes_of (members_view documents.now.entries))) }
+        (form_or_fault (codes "metadata") (nodes_in numbers (members_view documents.now.entries))) }
 {
     let mut all = ConsolidatedMetadataMetadata::new(alloc);
     for (key, document) in documents.iter() {
         let key = key.clone()?;
-        all.insert(key, node_of(alloc, document)?)?;
+        all.insert(key, node_of(alloc, numbers, document)?)?;
     }
     Ok(all)
 }
@@ -314,15 +376,17 @@ fn nodes_of(
 // The nodes of the member `metadata`, of members that are given away.
 fn owned_metadata_of(
     alloc: Global,
+    numbers: Numbers,
     mut members: Map<String, Value>,
 ) -> Result<ConsolidatedMetadataMetadata, MetadataFault>
-    requires { document_of (object (members_view members.entries))
+    requires { document_in numbers (object (members_view members.entries))
         ≡ Ok (members_view members.entries) }
     ensures { Gives (λ all. all) result
-        (required_member (codes "metadata") nodes (object (members_view members.entries))) }
+        (required_member (codes "metadata") (nodes numbers)
+        (object (members_view members.entries))) }
 {
     let documents = take_documents(&mut members)?;
-    owned_nodes_of(alloc, documents)
+    owned_nodes_of(alloc, numbers, documents)
 }
 
 // Takes the member `metadata`, which has to be an object, out of the members.
@@ -344,35 +408,40 @@ pub(crate) fn take_documents(
 // The nodes that whole node documents are, at the same keys, both taken over.
 fn owned_nodes_of(
     alloc: Global,
+    numbers: Numbers,
     documents: Map<String, Value>,
 ) -> Result<ConsolidatedMetadataMetadata, MetadataFault>
-    requires { members_have_float (members_view documents.entries) ≡ false }
+    requires { IsTrue (fits_in numbers (object (members_view documents.entries))) }
     ensures { Gives (λ all. all) result
-        (form_or_fault (codes "metadata") (nodes_of (members_view documents.entries))) }
+        (form_or_fault (codes "metadata") (nodes_in numbers (members_view documents.entries))) }
 {
     let mut all = ConsolidatedMetadataMetadata::new(alloc);
     for (key, document) in documents {
-        all.insert(key, owned_node_of(alloc, document)?)?;
+        all.insert(key, owned_node_of(alloc, numbers, document)?)?;
     }
     Ok(all)
 }
 
 // The node that a whole node document is.
-fn node_of(alloc: Global, document: &Value) -> Result<NodeMetadata, MetadataFault>
-    requires { has_float (view document.now) ≡ false }
+fn node_of(alloc: Global, numbers: Numbers, document: &Value) -> Result<NodeMetadata, MetadataFault>
+    requires { IsTrue (fits_in numbers (view document.now)) }
     ensures { Gives (λ m. m) result
-        (form_or_fault (codes "metadata") (result_ok (node_of (view document.now)))) }
+        (form_or_fault (codes "metadata") (result_ok (node_in numbers (view document.now)))) }
 {
-    as_entry(asked_node(alloc, document))
+    as_entry(asked_node(alloc, numbers, document))
 }
 
 // The node that a whole node document is, which it takes over.
-fn owned_node_of(alloc: Global, document: Value) -> Result<NodeMetadata, MetadataFault>
-    requires { has_float (view document) ≡ false }
+fn owned_node_of(
+    alloc: Global,
+    numbers: Numbers,
+    document: Value,
+) -> Result<NodeMetadata, MetadataFault>
+    requires { IsTrue (fits_in numbers (view document)) }
     ensures { Gives (λ m. m) result
-        (form_or_fault (codes "metadata") (result_ok (node_of (view document)))) }
+        (form_or_fault (codes "metadata") (result_ok (node_in numbers (view document)))) }
 {
-    as_entry(asked_owned_node(alloc, document))
+    as_entry(asked_owned_node(alloc, numbers, document))
 }
 
 // The node that an entry was read as, or the fault of the member `metadata` in the place of the entry's own.

@@ -1,9 +1,11 @@
 //! What holds of every block. A function with an empty body does nothing, and its contract is the law.
 ghost use Rattle.std.specs.Prelude.{◌≡◌, Ok};
 ghost use Rattle.zarrs_block.specs.Block.{HasPlainNodes, block_of, block_tree};
-ghost use Rattle.zarrs_block.specs.Zmetadata.{ZmetadataHolds, WrittenHoldsDocuments, WrittenReadsBack};
+ghost use Rattle.zarrs_block.specs.Laws.{WholeBlocksReadTheSame, WholePathsMeanTheSame};
+ghost use Rattle.zarrs_block.specs.Zmetadata.{ZmetadataHolds, ZmetadataHoldsIn, WrittenHoldsDocuments, WrittenReadsBack};
 
 use crate::consolidated::ConsolidatedMetadata;
+use zarrs_store::Numbers;
 
 /// What is written of a block of plain nodes reads as that block.
 #[tactic(auto, using(crate::proofs::BlockReads::block_again))]
@@ -20,6 +22,13 @@ pub fn zmetadata_holds_store()
     ensures { ZmetadataHolds }
 {}
 
+/// So it is where the document may hold these numbers: the block holds what its members are read as where they may hold them.
+///
+/// Source: zarr-python, consolidated metadata of version 2.
+pub fn zmetadata_holds_store_in(numbers: Numbers)
+    ensures { ZmetadataHoldsIn numbers }
+{}
+
 /// What is written of a version 2 group and its block has the documents of each node behind its names, and no others.
 #[tactic(auto, using(crate::proofs::ZmetadataDocuments::written_holds_documents))]
 pub fn written_holds_documents()
@@ -30,4 +39,15 @@ pub fn written_holds_documents()
 #[tactic(auto, using(crate::proofs::ZmetadataAgain::written_reads_back))]
 pub fn written_reads_back()
     ensures { WrittenReadsBack }
+{}
+
+/// A block, or a document `.zmetadata`, that is read where numbers have to be whole is read the same whatever numbers may stand.
+pub fn whole_blocks_read_the_same()
+    ensures { WholeBlocksReadTheSame }
+{}
+
+/// A path that is not bad in a store whose numbers have to be whole means the same where any number may stand.
+#[tactic(auto, using(crate::proofs::MoreBlocks::whole_paths_mean_the_same))]
+pub fn whole_paths_mean_the_same()
+    ensures { WholePathsMeanTheSame }
 {}

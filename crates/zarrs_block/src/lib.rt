@@ -17,5 +17,6 @@ pub use consolidated::{ConsolidatedMetadata, ConsolidatedMetadataMetadata};
 pub use expand::expand_consolidated_metadata;
 pub use node_create_error::NodeCreateError;
 pub use policy::{
-    consolidated_metadata_for_open, consolidated_metadata_of, resolve_consolidated_policy,
+    consolidated_metadata_for_open, consolidated_metadata_for_open_in, consolidated_metadata_of,
+    consolidated_metadata_of_in, resolve_consolidated_policy,
 };

@@ -1,33 +1,33 @@
 //! The version 2 document of consolidated metadata, `.zmetadata`, read as a block.
-ghost use Rattle.std.specs.Prelude.{◌≡◌, ◌⊎◌, ℕ, List, [], false, IfOk, IfErr, IfSome, Ok, Some, None, ◌&&◌, if◌then◌else◌, codes, bytes_eq, string_bytes, IsTrue, option_map};
+ghost use Rattle.std.specs.Prelude.{◌≡◌, ◌⊎◌, ℕ, List, [], IfOk, IfErr, IfSome, Ok, Some, None, ◌&&◌, if◌then◌else◌, codes, bytes_eq, string_bytes, IsTrue, option_map};
 ghost use Rattle.std.specs.Result.{result_ok};
 ghost use Rattle.std.specs.List.{list_all};
 ghost use Rattle.std.specs.List.Sorted.{IsSortedBy};
 ghost use Rattle.serde_json.specs.Data.{object, Members};
 ghost use Rattle.serde_json.specs.View.{view, members_view};
-ghost use Rattle.serde_json.specs.Written.{has_float, members_have_float};
 ghost use Rattle.zarrs_path.specs.Names.{is_name};
-ghost use Rattle.zarrs_form.specs.Documents.{Gives, document_of, form_or_fault, required_member};
-ghost use Rattle.zarrs_meta.specs.ArrayV2.{array_v2_of};
-ghost use Rattle.zarrs_meta.specs.GroupV2.{group_v2_of};
+ghost use Rattle.zarrs_form.specs.Documents.{Gives, document_in, form_or_fault, required_member};
+ghost use Rattle.zarrs_form.specs.Forms.{fits_in};
+ghost use Rattle.zarrs_meta.specs.ArrayV2.{array_v2_in};
+ghost use Rattle.zarrs_meta.specs.GroupV2.{group_v2_in};
 ghost use Rattle.zarrs_meta.specs.Node.{array_with, group_with};
 ghost use Rattle.zarrs_meta.specs.declared.node.ArrayMetadata.TheVariants.{V2 as array_v2};
 ghost use Rattle.zarrs_meta.specs.declared.node.GroupMetadata.TheVariants.{V2 as group_v2};
 ghost use Rattle.zarrs_meta.specs.declared.node.NodeMetadata.TheVariants.{Group, Array};
 ghost use Rattle.zarrs_block.specs.Block.{IsAscending, node_at_key};
 ghost use Rattle.zarrs_block.specs.Small.{stretches};
-ghost use Rattle.zarrs_block.specs.Zmetadata.{one, small_block, zmetadata_members, zmetadata_of, HoldsStore, IsClean, IsZmetadataFault};
+ghost use Rattle.zarrs_block.specs.Zmetadata.{one, small_block_in, zmetadata_members, zmetadata_members_in, zmetadata_of, zmetadata_in, HoldsStore, HoldsStoreIn, IsClean, IsCleanIn, IsZmetadataFault, IsZmetadataFaultIn};
 ghost use Rattle.zarrs_block.specs.declared.zmetadata.File.{File};
-ghost use Rattle.zarrs_block.specs.StepsOfZmetadata.{is_file, is_before, member_at, first_tree, tree_in, tree_among, gathered_at, read_with, read_files, IsFile, IsPlace, are_named, RefusesNames, HaveNoFloat, HoldsNodes, IsJoined, RunsAscend, RefusesTrees, zmetadata_taken};
+ghost use Rattle.zarrs_block.specs.StepsOfZmetadata.{is_file, is_before, member_at, first_tree, tree_in, tree_among, gathered_at, read_with, read_files, IsFile, IsPlace, are_named, RefusesNames, AllFit, HoldsNodes, IsJoined, RunsAscend, RefusesTrees, zmetadata_taken};
 
 use crate::asked::{asked_array, asked_attributes, asked_group};
 use crate::consolidated::{ConsolidatedMetadata, ConsolidatedMetadataMetadata, take_documents};
 use serde_json::{Map, Value};
 use std::alloc::{AllocError, Global};
-use zarrs_form::{document, document_copy, member};
+use zarrs_form::{document_copy_in, document_in, member};
 use zarrs_meta::{ArrayMetadata, BoxedArray, GroupMetadata, NodeMetadata};
 use zarrs_path::NodeName;
-use zarrs_store::{MemberName, MetadataFault};
+use zarrs_store::{MemberName, MetadataFault, Numbers};
 
 impl ConsolidatedMetadata {
     /// The block that a document `.zmetadata` is: the nodes of version 2 below the group, each with the attributes beside it, at its
@@ -54,7 +54,31 @@ impl ConsolidatedMetadata {
             ⊎ IsZmetadataFault (view value.now) fault) }
         ensures ascending { IfOk result (λ block. IsAscending block.metadata) }
     {
-        block_of(alloc, document_copy(value)?)
+        ConsolidatedMetadata::from_zmetadata_in(alloc, Numbers::Whole, value)
+    }
+
+    /// The block that a document `.zmetadata` is, where it may hold these numbers.
+    ///
+    /// # Errors
+    ///
+    /// As [`ConsolidatedMetadata::from_zmetadata`], except that `UnsupportedNumber` comes only where the numbers are `Whole`.
+    ///
+    /// Source: own; zarr-python, consolidated metadata of version 2.
+    pub fn from_zmetadata_in(
+        alloc: Global,
+        numbers: Numbers,
+        value: &Value,
+    ) -> Result<ConsolidatedMetadata, MetadataFault>
+        ensures gives { Gives (λ block. block.metadata) result
+            (zmetadata_in numbers (view value.now)) }
+        ensures store { IfOk result
+            (λ block. (ms : Members) × (zmetadata_members_in numbers (view value.now) ≡ Ok ms)
+            × HoldsStoreIn numbers ms block.metadata × IsCleanIn numbers ms) }
+        ensures refused { IfErr result (λ fault. (fault ≡ MetadataFault.OutOfMemory)
+            ⊎ IsZmetadataFaultIn numbers (view value.now) fault) }
+        ensures ascending { IfOk result (λ block. IsAscending block.metadata) }
+    {
+        block_of(alloc, numbers, document_copy_in(numbers, value)?)
     }
 
     /// The block that a document `.zmetadata` is, whose parts it takes over.
@@ -76,23 +100,48 @@ impl ConsolidatedMetadata {
             ⊎ IsZmetadataFault (view value) fault) }
         ensures ascending { IfOk result (λ block. IsAscending block.metadata) }
     {
-        block_of(alloc, document(value)?)
+        ConsolidatedMetadata::from_owned_zmetadata_in(alloc, Numbers::Whole, value)
+    }
+
+    /// The block that a document `.zmetadata` is, where it may hold these numbers; its parts are taken over.
+    ///
+    /// # Errors
+    ///
+    /// As [`ConsolidatedMetadata::from_zmetadata_in`].
+    ///
+    /// Source: own; zarr-python, consolidated metadata of version 2.
+    pub fn from_owned_zmetadata_in(
+        alloc: Global,
+        numbers: Numbers,
+        value: Value,
+    ) -> Result<ConsolidatedMetadata, MetadataFault>
+        ensures gives { Gives (λ block. block.metadata) result
+            (zmetadata_in numbers (view value)) }
+        ensures store { IfOk result
+            (λ block. (ms : Members) × (zmetadata_members_in numbers (view value) ≡ Ok ms)
+            × HoldsStoreIn numbers ms block.metadata × IsCleanIn numbers ms) }
+        ensures refused { IfErr result (λ fault. (fault ≡ MetadataFault.OutOfMemory)
+            ⊎ IsZmetadataFaultIn numbers (view value) fault) }
+        ensures ascending { IfOk result (λ block. IsAscending block.metadata) }
+    {
+        block_of(alloc, numbers, document_in(numbers, value)?)
     }
 }
 
-// The block of the members of a document.
+// The block of the members of a document, which may hold these numbers.
 fn block_of(
     alloc: Global,
+    numbers: Numbers,
     mut members: Map<String, Value>,
 ) -> Result<ConsolidatedMetadata, MetadataFault>
-    requires { document_of (object (members_view members.entries))
+    requires { document_in numbers (object (members_view members.entries))
         ≡ Ok (members_view members.entries) }
     ensures { Gives (λ block. block.metadata) result
-        (zmetadata_taken (object (members_view members.entries))) }
+        (zmetadata_taken numbers (object (members_view members.entries))) }
 {
     ask_consolidated_format(&members)?;
     let documents = take_documents(&mut members)?;
-    let metadata = small_block(alloc, documents)?;
+    let metadata = small_block(alloc, numbers, documents)?;
     Ok(ConsolidatedMetadata { metadata })
 }
 
@@ -114,13 +163,15 @@ fn ask_consolidated_format(members: &Map<String, Value>) -> Result<(), MetadataF
 // The nodes below the group that the documents are.
 fn small_block(
     alloc: Global,
+    numbers: Numbers,
     documents: Map<String, Value>,
 ) -> Result<ConsolidatedMetadataMetadata, MetadataFault>
-    requires { members_have_float (members_view documents.entries) ≡ false }
-    ensures { Gives (λ all. all) result (small_block (members_view documents.entries)) }
+    requires { IsTrue (fits_in numbers (object (members_view documents.entries))) }
+    ensures { Gives (λ all. all) result
+        (small_block_in numbers (members_view documents.entries)) }
 {
     let runs = runs_of(alloc, documents)?;
-    nodes_of(alloc, joined(alloc, sorted(runs)?)?)
+    nodes_of(alloc, numbers, joined(alloc, sorted(runs)?)?)
 }
 
 // The documents of version 2 of one path.
@@ -342,17 +393,22 @@ fn are_names(text: &str) -> bool
 }
 
 // The nodes that the documents are, at their paths.
-fn nodes_of(alloc: Global, runs: Vec<Run>) -> Result<ConsolidatedMetadataMetadata, MetadataFault>
+fn nodes_of(
+    alloc: Global,
+    numbers: Numbers,
+    runs: Vec<Run>,
+) -> Result<ConsolidatedMetadataMetadata, MetadataFault>
     requires ascend { RunsAscend runs.items }
-    requires fit { (t : List ℕ) → HaveNoFloat (tree_among runs.items t) }
-    ensures nodes { IfOk result (λ block. HoldsNodes (tree_among runs.items) (node_at_key block)) }
+    requires fit { (t : List ℕ) → AllFit numbers (tree_among runs.items t) }
+    ensures nodes { IfOk result
+        (λ block. HoldsNodes numbers (tree_among runs.items) (node_at_key block)) }
     ensures ascending { IfOk result IsAscending }
-    ensures err { IfErr result (RefusesTrees (tree_among runs.items)) }
+    ensures err { IfErr result (RefusesTrees numbers (tree_among runs.items)) }
 {
     let mut block = ConsolidatedMetadataMetadata::new(alloc);
     for run in runs {
         let Run { path, documents } = run;
-        match node_of(alloc, documents)? {
+        match node_of(alloc, numbers, documents)? {
             Some(node) => block.insert(path, node)?,
             None => drop(path),
         }
@@ -361,12 +417,16 @@ fn nodes_of(alloc: Global, runs: Vec<Run>) -> Result<ConsolidatedMetadataMetadat
 }
 
 // The node that the documents of a path are, if they are one.
-fn node_of(alloc: Global, documents: Documents) -> Result<Option<NodeMetadata>, MetadataFault>
-    requires { HaveNoFloat (tree_in documents) }
+fn node_of(
+    alloc: Global,
+    numbers: Numbers,
+    documents: Documents,
+) -> Result<Option<NodeMetadata>, MetadataFault>
+    requires { AllFit numbers (tree_in documents) }
     ensures { Gives (λ node. node) result
-        (form_or_fault (codes "metadata") (result_ok (read_files (tree_in documents)))) }
+        (form_or_fault (codes "metadata") (result_ok (read_files numbers (tree_in documents)))) }
 {
-    match read_node(alloc, documents) {
+    match read_node(alloc, numbers, documents) {
         Ok(node) => Ok(node),
         Err(MetadataFault::OutOfMemory) => Err(MetadataFault::OutOfMemory),
         Err(_) => Err(MetadataFault::BadMember(MemberName::new("metadata"))),
@@ -374,9 +434,13 @@ fn node_of(alloc: Global, documents: Documents) -> Result<Option<NodeMetadata>, 
 }
 
 // The node that the documents of a path are: the array, or else the group, with the attributes beside it.
-fn read_node(alloc: Global, documents: Documents) -> Result<Option<NodeMetadata>, MetadataFault>
-    requires { HaveNoFloat (tree_in documents) }
-    ensures { Gives (λ node. node) result (read_files (tree_in documents)) }
+fn read_node(
+    alloc: Global,
+    numbers: Numbers,
+    documents: Documents,
+) -> Result<Option<NodeMetadata>, MetadataFault>
+    requires { AllFit numbers (tree_in documents) }
+    ensures { Gives (λ node. node) result (read_files numbers (tree_in documents)) }
 {
     let Documents {
         array,
@@ -384,10 +448,10 @@ fn read_node(alloc: Global, documents: Documents) -> Result<Option<NodeMetadata>
         attributes,
     } = documents;
     if let Some(value) = array {
-        return Ok(Some(read_array(alloc, value, attributes)?));
+        return Ok(Some(read_array(alloc, numbers, value, attributes)?));
     }
     match group {
-        Some(value) => Ok(Some(read_group(alloc, value, attributes)?)),
+        Some(value) => Ok(Some(read_group(alloc, numbers, value, attributes)?)),
         None => Ok(None),
     }
 }
@@ -395,18 +459,19 @@ fn read_node(alloc: Global, documents: Documents) -> Result<Option<NodeMetadata>
 // The array that a document is, with the attributes beside it.
 fn read_array(
     alloc: Global,
+    numbers: Numbers,
     value: Value,
     attributes: Option<Value>,
 ) -> Result<NodeMetadata, MetadataFault>
-    requires document { has_float (view value) ≡ false }
-    requires attributes { IfSome (option_map view attributes) (λ d. has_float d ≡ false) }
+    requires document { IsTrue (fits_in numbers (view value)) }
+    requires attributes { IfSome (option_map view attributes) (λ d. IsTrue (fits_in numbers d)) }
     ensures { Gives (λ node. node) result
-        (read_with array_v2_of (λ m. Array (array_v2 m)) array_with (view value)
+        (read_with numbers array_v2_in (λ m. Array (array_v2 m)) array_with (view value)
         (option_map view attributes)) }
 {
-    let mut array = asked_array(alloc, value)?;
+    let mut array = asked_array(alloc, numbers, value)?;
     if let Some(value) = attributes {
-        array.attributes = asked_attributes(alloc, value)?.0;
+        array.attributes = asked_attributes(alloc, numbers, value)?.0;
     }
     let boxed = BoxedArray::new(alloc, ArrayMetadata::V2(array))?;
     Ok(NodeMetadata::Array(boxed))
@@ -415,18 +480,19 @@ fn read_array(
 // The group that a document is, with the attributes beside it.
 fn read_group(
     alloc: Global,
+    numbers: Numbers,
     value: Value,
     attributes: Option<Value>,
 ) -> Result<NodeMetadata, MetadataFault>
-    requires document { has_float (view value) ≡ false }
-    requires attributes { IfSome (option_map view attributes) (λ d. has_float d ≡ false) }
+    requires document { IsTrue (fits_in numbers (view value)) }
+    requires attributes { IfSome (option_map view attributes) (λ d. IsTrue (fits_in numbers d)) }
     ensures { Gives (λ node. node) result
-        (read_with group_v2_of (λ m. Group (group_v2 m)) group_with (view value)
+        (read_with numbers group_v2_in (λ m. Group (group_v2 m)) group_with (view value)
         (option_map view attributes)) }
 {
-    let mut group = asked_group(alloc, value)?;
+    let mut group = asked_group(alloc, numbers, value)?;
     if let Some(value) = attributes {
-        group.attributes = asked_attributes(alloc, value)?.0;
+        group.attributes = asked_attributes(alloc, numbers, value)?.0;
     }
     Ok(NodeMetadata::Group(GroupMetadata::V2(group)))
 }

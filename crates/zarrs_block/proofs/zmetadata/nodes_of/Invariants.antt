@@ -8,5 +8,5 @@ abbrev pub invariant-loop-run : goal.invariant-loop-run
 invariant-loop-run l = record {
   can_next : (goal.iterator-loop-run).can_next l.run-iterator;
   is_finite : (goal.iterator-loop-run).is_finite l.run-iterator;
-  read : IsRead (tree_among l.fn.runs.items) l.block (into_iter_items l.run-iterator);
+  read : IsRead l.fn.numbers (tree_among l.fn.runs.items) l.block (into_iter_items l.run-iterator);
 }
