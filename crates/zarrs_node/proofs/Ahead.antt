@@ -31,7 +31,7 @@ ahead_of ps x = list_any (λ q. not (is_lt (path_cmp x q))) ps
 
 -- how many beginnings of keys are not before some of the paths
 unfoldable pub ahead : Contents → List Path → ℕ
-ahead s ps = count_by (ahead_of ps) (all_begins (keys s))
+ahead s ps = count_by (ahead_of ps) (all_begins (keys s.values))
 
 -- ---- beginnings of keys
 
@@ -58,8 +58,8 @@ begins_some p n ns (k ∷ ks) h = ⊎_elim
     (or_cases (eq_by_cmp key_cmp (p ++ n ∷ ns) k) (list_any (eq_by_cmp key_cmp (p ++ n ∷ ns)) ks) h)
 
 -- what has a key below it is a beginning of a key
-is_beginning : (s : Contents) (p : Path) → HasBelow s p → Contains (all_begins (keys s)) p
-is_beginning s p (n, ns, there) = begins_some p n ns (keys s) (sym (contains_key-keys s (p ++ n ∷ ns)) ∙ there)
+is_beginning : (s : Contents) (p : Path) → HasBelow s.values p → Contains (all_begins (keys s.values)) p
+is_beginning s p (n, ns, there) = begins_some p n ns (keys s.values) (sym (contains_key-keys s.values (p ++ n ∷ ns)) ∙ there)
 
 -- ---- counting
 
@@ -120,12 +120,12 @@ less_not : (o : Ordering) → not (is_lt o) ≡ true → o ≡ Less → ⊥
 less_not o h e = true≢false (sym h ∙ ap (λ x. not (is_lt x)) e)
 
 -- where only paths after c are left, and c was among them, fewer beginnings are ahead
-pub ahead_less : (s : Contents) (ps qs : List Path) (c : Path) → Contains ps c → HasBelow s c → ((q : Path) → Contains qs q → path_cmp c q ≡ Less) → ahead s qs < ahead s ps
+pub ahead_less : (s : Contents) (ps qs : List Path) (c : Path) → Contains ps c → HasBelow s.values c → ((q : Path) → Contains qs q → path_cmp c q ≡ Less) → ahead s qs < ahead s ps
 unfolding ahead
 ahead_less s ps qs c in' below after = count_less (ahead_of qs) (ahead_of ps)
     (λ x h. let (q, l, t) = any_in (λ y. not (is_lt (path_cmp x y))) qs h in
     in_any (λ y. not (is_lt (path_cmp x y))) ps c in' (not_less (path_cmp x c) (λ less. less_not (path_cmp x q) t (names_total.trans x c q less (after q l)))))
-    (all_begins (keys s)) c (is_beginning s c below)
+    (all_begins (keys s.values)) c (is_beginning s c below)
     (in_any (λ y. not (is_lt (path_cmp c y))) ps c in' (not_less (path_cmp c c) (names_irrefl c)))
     (not_any (λ y. not (is_lt (path_cmp c y))) qs (λ q l t. less_not (path_cmp c q) t (after q l)))
   where

@@ -82,20 +82,20 @@ module _ {A : Type 0} (R : A → A → Type 0) where
       (λ u w hu hw. ⊎_elim (λ same. subst (λ k. R k w) same (all_pairs_first R z (xs ++ y ∷ []) h w (Contains-append_left xs (y ∷ []) w hw))) (λ l. absurd (omega (arith, l.1))) (contains_cases z [] u hu))
 
 -- the discovered children of g stand one before the other
-pub children_stand : (s : Contents) (g : Path) (cs : List Segments) → AreVisibleChildren s g cs → AllPairs StandsBefore cs
+pub children_stand : (s : Contents) (g : Path) (cs : List Segments) → AreVisibleChildren s.values g cs → AllPairs StandsBefore cs
 children_stand s g cs h i j d l m =
     let before : i < length cs = omega (arith, l, m) in
     let x = get_or cs i d in
     let y = get_or cs j d in
     let long = length-map cs last_segment in
     let inside : j < length (map last_segment cs) = omega (arith, m, long) in
-    let up : bytes_cmp (get_or (map last_segment cs) i (last_segment d)) (get_or (map last_segment cs) j (last_segment d)) ≡ Less = (children_are s g cs h).ascending i j (last_segment d) l inside in record {
+    let up : bytes_cmp (get_or (map last_segment cs) i (last_segment d)) (get_or (map last_segment cs) j (last_segment d)) ≡ Less = (children_are s.values g cs h).ascending i j (last_segment d) l inside in record {
       base = g;
       name = last_segment x;
       later = last_segment y;
       rest = [];
       more = [];
-      first = child_is s g x (h.sound i d before);
-      second = child_is s g y (h.sound j d m);
+      first = child_is s.values g x (h.sound i d before);
+      second = child_is s.values g y (h.sound j d m);
       less = ap (λ z. bytes_cmp z (last_segment y)) (sym (get_or-map last_segment cs i d (last_segment d) before)) ∙ ap (bytes_cmp (get_or (map last_segment cs) i (last_segment d))) (sym (get_or-map last_segment cs j d (last_segment d) m)) ∙ up;
     }

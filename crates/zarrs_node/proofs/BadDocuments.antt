@@ -9,10 +9,10 @@ use Rattle.zarrs_store.specs.declared.storage_error.StorageError.TheVariants.{In
 use Rattle.zarrs_path.specs.Paths.{Path}
 use Rattle.zarrs_path.specs.Keys.{zarr_json, zarray, zgroup, zattrs}
 use Rattle.zarrs_form.specs.Documents.{of_bytes}
-use Rattle.zarrs_meta.specs.ArrayV2.{array_v2_of}
-use Rattle.zarrs_meta.specs.GroupV2.{group_v2_of}
-use Rattle.zarrs_meta.specs.Attributes.{attributes_of}
-use Rattle.zarrs_meta.specs.Node.{zarr_json_of, array_with, group_with}
+use Rattle.zarrs_meta.specs.ArrayV2.{array_v2_in}
+use Rattle.zarrs_meta.specs.GroupV2.{group_v2_in}
+use Rattle.zarrs_meta.specs.Attributes.{attributes_document_in}
+use Rattle.zarrs_meta.specs.Node.{zarr_json_in, array_with, group_with}
 use Rattle.zarrs_meta.specs.declared.attributes.AttributesDocument.{AttributesDocument}
 use Rattle.zarrs_meta.specs.declared.node.ArrayMetadata.TheVariants.{V2 as array_v2}
 use Rattle.zarrs_meta.specs.declared.node.GroupMetadata.TheVariants.{V2 as group_v2}
@@ -60,9 +60,9 @@ from_invalid reading k None = tt
 from_invalid reading k (Some x) = or_invalid k (reading x)
 
 -- and of the document at a key
-at_invalid : {D : Type 0} (reading : List ℕ → Result D MetadataFault) (s : Contents) (k : Segments) → RefusesInvalid (document_at reading s k)
+at_invalid : {D : Type 0} (reading : List ℕ → Result D MetadataFault) (s : Contents) (k : Segments) → RefusesInvalid (document_at reading s.values k)
 unfolding document_at
-at_invalid reading s k = from_invalid reading k (get s k)
+at_invalid reading s k = from_invalid reading k (get s.values k)
 
 -- `zarr.json` is bad by a document, where what the others say is
 line_3 : (r : Result (Option ZarrJson) StorageError) (after : Meaning) → RefusesInvalid r → IsBadByDocument after → IsBadByDocument (version_3_line r after)
@@ -83,19 +83,19 @@ line_2 kind with (Err e) z after h i rest = h
 module _ (s : Contents) (p : Path) where
   -- the attributes beside a document
   beside : RefusesInvalid (attributes_at s p)
-  beside = at_invalid (of_bytes attributes_of) s (p ++ zattrs ∷ [])
+  beside = at_invalid (of_bytes (attributes_document_in s.numbers)) s (p ++ zattrs ∷ [])
 
   -- what `zarr.json` says
-  by_zarr_json : (after : Meaning) → IsBadByDocument after → IsBadByDocument (zarr_json_line in_bytes s p after)
-  by_zarr_json after rest = subst IsBadByDocument (sym (zarr_json_line_is s p _ refl _ refl after)) (line_3 _ after (at_invalid (of_bytes zarr_json_of) s (p ++ zarr_json ∷ [])) rest)
+  by_zarr_json : (after : Meaning) → IsBadByDocument after → IsBadByDocument (zarr_json_line (in_bytes s.numbers) s.values p after)
+  by_zarr_json after rest = subst IsBadByDocument (sym (zarr_json_line_is s p _ refl _ refl after)) (line_3 _ after (at_invalid (of_bytes (zarr_json_in s.numbers)) s (p ++ zarr_json ∷ [])) rest)
 
   -- what `.zarray` says
-  by_zarray : (after : Meaning) → IsBadByDocument after → IsBadByDocument (zarray_line in_bytes s p after)
-  by_zarray after rest = subst IsBadByDocument (sym (zarray_line_is s p _ refl _ refl _ refl after)) (line_2 (λ m. Array (array_v2 m)) array_with _ _ after (at_invalid (of_bytes array_v2_of) s (p ++ zarray ∷ [])) beside rest)
+  by_zarray : (after : Meaning) → IsBadByDocument after → IsBadByDocument (zarray_line (in_bytes s.numbers) s.values p after)
+  by_zarray after rest = subst IsBadByDocument (sym (zarray_line_is s p _ refl _ refl _ refl after)) (line_2 (λ m. Array (array_v2 m)) array_with _ _ after (at_invalid (of_bytes (array_v2_in s.numbers)) s (p ++ zarray ∷ [])) beside rest)
 
   -- what `.zgroup` says
-  by_zgroup : (after : Meaning) → IsBadByDocument after → IsBadByDocument (zgroup_line in_bytes s p after)
-  by_zgroup after rest = subst IsBadByDocument (sym (zgroup_line_is s p _ refl _ refl _ refl after)) (line_2 (λ m. Group (group_v2 m)) group_with _ _ after (at_invalid (of_bytes group_v2_of) s (p ++ zgroup ∷ [])) beside rest)
+  by_zgroup : (after : Meaning) → IsBadByDocument after → IsBadByDocument (zgroup_line (in_bytes s.numbers) s.values p after)
+  by_zgroup after rest = subst IsBadByDocument (sym (zgroup_line_is s p _ refl _ refl _ refl after)) (line_2 (λ m. Group (group_v2 m)) group_with _ _ after (at_invalid (of_bytes (group_v2_in s.numbers)) s (p ++ zgroup ∷ [])) beside rest)
 
 -- a path is bad by a document alone
 by_document : (s : Contents) (v : MetadataRetrieveVersion) (p : Path) → IsBadByDocument (meaning s v p)

@@ -18,10 +18,10 @@ use Rattle.zarrs_meta.specs.declared.node.ArrayMetadata.TheVariants.{V2 as array
 use Rattle.zarrs_meta.specs.declared.node.GroupMetadata.TheVariants.{V2 as group_v2}
 use Rattle.zarrs_config.specs.declared.version.MetadataRetrieveVersion.{MetadataRetrieveVersion}
 use Rattle.zarrs_config.specs.declared.version.MetadataRetrieveVersion.TheVariants.{Default, V3, V2}
-use Rattle.zarrs_meta.specs.ArrayV2.{array_v2_of}
-use Rattle.zarrs_meta.specs.GroupV2.{group_v2_of}
-use Rattle.zarrs_meta.specs.Attributes.{attributes_of}
-use Rattle.zarrs_meta.specs.Node.{zarr_json_of, array_with, group_with}
+use Rattle.zarrs_meta.specs.ArrayV2.{array_v2_in}
+use Rattle.zarrs_meta.specs.GroupV2.{group_v2_in}
+use Rattle.zarrs_meta.specs.Attributes.{attributes_document_in}
+use Rattle.zarrs_meta.specs.Node.{zarr_json_in, array_with, group_with}
 use Rattle.zarrs_form.specs.Documents.{of_bytes}
 use Rattle.zarrs_block.specs.Block.{Block, Entries, IsBlockOf}
 use Rattle.zarrs_block.specs.KeysAboutAPath.{IsAbout}
@@ -100,9 +100,9 @@ beginnings (y ∷ p) (x ∷ r) (z ∷ q) low up =
 
 -- ---- what two stores mean alike
 
-module _ (S T : Contents) (q : Path) (same : (file : List ℕ) → Contains document_files file → get T (q ++ file ∷ []) ≡ get S (q ++ file ∷ [])) where
+module _ (S T : Contents) (q : Path) (alike : T.numbers ≡ S.numbers) (same : (file : List ℕ) → Contains document_files file → get T.values (q ++ file ∷ []) ≡ get S.values (q ++ file ∷ [])) where
   -- a document that is the same in both
-  document_same : {D : Type 0} (reading : List ℕ → Result D MetadataFault) (file : List ℕ) → Contains document_files file → document_at reading T (q ++ file ∷ []) ≡ document_at reading S (q ++ file ∷ [])
+  document_same : {D : Type 0} (reading : List ℕ → Result D MetadataFault) (file : List ℕ) → Contains document_files file → document_at reading T.values (q ++ file ∷ []) ≡ document_at reading S.values (q ++ file ∷ [])
   unfolding document_at
   document_same reading file in' = ap (document_from reading (q ++ file ∷ [])) (same file in')
 
@@ -120,29 +120,29 @@ module _ (S T : Contents) (q : Path) (same : (file : List ℕ) → Contains docu
       (Contains-cons zarray (zgroup ∷ zattrs ∷ []) zattrs (Contains-cons zgroup (zattrs ∷ []) zattrs (Contains-first zattrs [])))
 
   -- the lines say the same
-  json_same : (after : Meaning) → zarr_json_line in_bytes T q after ≡ zarr_json_line in_bytes S q after
+  json_same : (after : Meaning) → zarr_json_line (in_bytes T.numbers) T.values q after ≡ zarr_json_line (in_bytes S.numbers) S.values q after
   unfolding zarr_json_line
-  json_same after = ap (λ r. version_3_line r after) (document_same (of_bytes zarr_json_of) zarr_json first)
+  json_same after = λ i. version_3_line (document_same (of_bytes (zarr_json_in (alike i))) zarr_json first i) after
 
-  array_same : (after : Meaning) → zarray_line in_bytes T q after ≡ zarray_line in_bytes S q after
+  array_same : (after : Meaning) → zarray_line (in_bytes T.numbers) T.values q after ≡ zarray_line (in_bytes S.numbers) S.values q after
   unfolding zarray_line
-  array_same after = (λ i. version_2_line (λ m. Array (array_v2 m)) array_with (document_same (of_bytes array_v2_of) zarray second i) (document_same (of_bytes attributes_of) zattrs fourth i) after)
+  array_same after = (λ i. version_2_line (λ m. Array (array_v2 m)) array_with (document_same (of_bytes (array_v2_in (alike i))) zarray second i) (document_same (of_bytes (attributes_document_in (alike i))) zattrs fourth i) after)
 
-  group_same : (after : Meaning) → zgroup_line in_bytes T q after ≡ zgroup_line in_bytes S q after
+  group_same : (after : Meaning) → zgroup_line (in_bytes T.numbers) T.values q after ≡ zgroup_line (in_bytes S.numbers) S.values q after
   unfolding zgroup_line
-  group_same after = (λ i. version_2_line (λ m. Group (group_v2 m)) group_with (document_same (of_bytes group_v2_of) zgroup third i) (document_same (of_bytes attributes_of) zattrs fourth i) after)
+  group_same after = (λ i. version_2_line (λ m. Group (group_v2 m)) group_with (document_same (of_bytes (group_v2_in (alike i))) zgroup third i) (document_same (of_bytes (attributes_document_in (alike i))) zattrs fourth i) after)
 
   -- so does the path
   pub meaning_same : (v : MetadataRetrieveVersion) → meaning T v q ≡ meaning S v q
   meaning_same Default =
-      default_is T q ∙ json_same (zarray_line in_bytes T q (zgroup_line in_bytes T q nothing))
-      ∙ ap (zarr_json_line in_bytes S q) (array_same (zgroup_line in_bytes T q nothing) ∙ ap (zarray_line in_bytes S q) (group_same nothing)) ∙ sym (default_is S q)
+      default_is T q ∙ json_same (zarray_line (in_bytes T.numbers) T.values q (zgroup_line (in_bytes T.numbers) T.values q nothing))
+      ∙ ap (zarr_json_line (in_bytes S.numbers) S.values q) (array_same (zgroup_line (in_bytes T.numbers) T.values q nothing) ∙ ap (zarray_line (in_bytes S.numbers) S.values q) (group_same nothing)) ∙ sym (default_is S q)
   meaning_same V3 = v3_is T q ∙ json_same nothing ∙ sym (v3_is S q)
-  meaning_same V2 = v2_is T q ∙ array_same (zgroup_line in_bytes T q nothing) ∙ ap (zarray_line in_bytes S q) (group_same nothing) ∙ sym (v2_is S q)
+  meaning_same V2 = v2_is T q ∙ array_same (zgroup_line (in_bytes T.numbers) T.values q nothing) ∙ ap (zarray_line (in_bytes S.numbers) S.values q) (group_same nothing) ∙ sym (v2_is S q)
 
 -- stores that agree outside the documents of a path mean the same at each other path
 pub elsewhere_same : (S T : Contents) (v : MetadataRetrieveVersion) (p : Path) → AgreesOutside p S T → (q : Path) → q ≢ p → meaning T v q ≡ meaning S v q
-elsewhere_same S T v p agrees q other = meaning_same S T q (λ file in'. agrees (q ++ file ∷ []) (λ d. other (same_from_push q p file d.0 d.2).0)) v
+elsewhere_same S T v p agrees q other = meaning_same S T q agrees.0 (λ file in'. agrees.1 (q ++ file ∷ []) (λ d. other (same_from_push q p file d.0 d.2).0)) v
 
 -- ---- texts about a path
 

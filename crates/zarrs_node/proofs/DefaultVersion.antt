@@ -15,9 +15,9 @@ use Rattle.zarrs_node.proofs.Meanings.{document_none, zarr_json_line_is, default
 module _ (S : Contents) (b : Path) (none : HasNoVersion3From S b) where
   -- from b on a path means by default what it means by version 2
   alike : (p : Path) → StandsFrom S Default b p → meaning S Default p ≡ meaning S V2 p
-  alike p from = by (get S (p ++ zarr_json ∷ [])) refl
+  alike p from = by (get S.values (p ++ zarr_json ∷ [])) refl
     where
-      by : (o : Option (List ℕ)) → get S (p ++ zarr_json ∷ []) ≡ o → meaning S Default p ≡ meaning S V2 p
+      by : (o : Option (List ℕ)) → get S.values (p ++ zarr_json ∷ []) ≡ o → meaning S Default p ≡ meaning S V2 p
       by (Some bytes) e = absurd (none p from (ap is_some e))
       by None e = default_is S p ∙ zarr_json_line_is S p _ refl (Ok None) (document_none _ S _ (sym e)) _ ∙ sym (v2_is S p)
 

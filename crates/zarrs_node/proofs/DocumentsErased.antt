@@ -1,27 +1,25 @@
 -- Documents of version 2 that are erased beside those of version 3.
-use Rattle.std.proofs.Common.{◌≡◌, ◌⊎◌, inl, inr, ⊎_elim, ℕ, Bool, true, false, cond, List, [], ◌∷◌, ◌++◌, Option, Some, None, Result, Ok, Err, is_some, true≢false, refl, sym, ap, subst, ◌∙◌, arith, Contains}
+use Rattle.std.proofs.Common.{◌≡◌, ⊎_elim, ℕ, Bool, true, false, cond, List, [], ◌∷◌, ◌++◌, Option, Some, None, Result, Ok, Err, is_some, true≢false, refl, sym, ap, subst, ◌∙◌, arith, Contains}
 use Rattle.std.specs.FinMap as map
 use Rattle.std.specs.FinMap.{get}
 use Rattle.std.specs.Ordering.{eq_by_cmp}
 use Rattle.std.proofs.lemmas.List.{same_from_push}
 use Rattle.std.proofs.lemmas.List.Elements.{Contains-append_cases, Contains-append_left, Contains-append_right}
 use Rattle.zarrs_store.specs.Segments.{Segments, key_cmp}
-use Rattle.zarrs_store.specs.Contents.{Contents, HasBelow, HasKey}
+use Rattle.zarrs_store.specs.Contents.{Contents, without_key, HasBelow, HasKey}
 use Rattle.zarrs_store.proofs.ChildLemmas.{key_cmp_total}
 use Rattle.zarrs_store.proofs.ContentsLemmas.{get_removed, AgreesExceptAt-remove}
 use Rattle.zarrs_fault.specs.declared.fault.MetadataFault.{MetadataFault}
-use Rattle.zarrs_store.specs.declared.storage_error.StorageError.{StorageError}
 use Rattle.zarrs_path.specs.Keys.{zarr_json, zarray, zgroup, zattrs, zmetadata}
 use Rattle.zarrs_path.specs.Paths.{Path}
 use Rattle.zarrs_form.specs.Documents.{of_bytes}
-use Rattle.zarrs_meta.specs.Node.{zarr_json_of}
+use Rattle.zarrs_meta.specs.Node.{zarr_json_in}
 use Rattle.zarrs_meta.specs.declared.node.NodeMetadata.{NodeMetadata}
 use Rattle.zarrs_meta.specs.declared.node.ZarrJson.{ZarrJson}
 use Rattle.zarrs_meta.specs.declared.node.ZarrJson.TheVariants.{Node as node_json, Version2}
 use Rattle.zarrs_config.specs.declared.version.MetadataRetrieveVersion.TheVariants.{Default, V3}
 use Rattle.zarrs_block.specs.Meaning.{in_bytes, Meaning, meaning, node, nothing, document_or_fault, document_from, document_at, version_3_line, zarr_json_line, zarray_line, zgroup_line}
-use Rattle.zarrs_node.specs.Changes.{document_files}
-use Rattle.zarrs_node.specs.MapsOfNodes.{StandsBeside, version_2_files, version_2_keys, without_keys, keys_beside, KeysStandBeside, OthersAreKept, ErasedAreAbsent, BesideMeansSame, ErasedShowSame}
+use Rattle.zarrs_node.specs.MapsOfNodes.{version_2_files, version_2_keys, without_keys, keys_beside, KeysStandBeside, OthersAreKept, ErasedAreAbsent, BesideMeansSame, ErasedShowSame}
 use Rattle.zarrs_node.proofs.Current.{meaning_same}
 use Rattle.zarrs_node.proofs.Meanings.{document_none, zarr_json_line_is, default_is, v3_is}
 use Rattle.zarrs_node.proofs.Counted.{contains_map, contains_mapped}
@@ -31,28 +29,28 @@ use Rattle.zarrs_node.proofs.MapsShown.{some_keeps, unchanged, mapped_is_shown}
 use Rattle.zarrs_node.proofs.Order.{contains_cases}
 
 -- a key that is absent stays so where others are erased
-absent_stays : (S : Contents) (ks : List Segments) (key : Segments) → get S key ≡ None → get (without_keys S ks) key ≡ None
+absent_stays : (S : Contents) (ks : List Segments) (key : Segments) → get S.values key ≡ None → get (without_keys S ks).values key ≡ None
 absent_stays S [] key none = none
 absent_stays S (k ∷ ks) key none =
-    absent_stays (map.remove S k) ks key (map.get-remove key_cmp_total S k key ∙ ap (cond (eq_by_cmp key_cmp key k) None) none ∙ both (eq_by_cmp key_cmp key k))
+    absent_stays (without_key S k) ks key (map.get-remove key_cmp_total S.values k key ∙ ap (cond (eq_by_cmp key_cmp key k) None) none ∙ both (eq_by_cmp key_cmp key k))
   where
     both : (t : Bool) → cond t None None ≡ (let o : Option (List ℕ) = None in o)
     both true = refl
     both false = refl
 
 -- a key that was erased is absent
-erased_is_absent : (S : Contents) (ks : List Segments) (key : Segments) → Contains ks key → get (without_keys S ks) key ≡ None
+erased_is_absent : (S : Contents) (ks : List Segments) (key : Segments) → Contains ks key → get (without_keys S ks).values key ≡ None
 erased_is_absent S [] key in' = absurd (omega (arith, in'.1))
 erased_is_absent S (k ∷ ks) key in' = ⊎_elim
-    (λ same. absent_stays (map.remove S k) ks key (ap (get (map.remove S k)) (sym same) ∙ get_removed S k))
-    (λ rest. erased_is_absent (map.remove S k) ks key rest)
+    (λ same. absent_stays (without_key S k) ks key (ap (get (map.remove S.values k)) (sym same) ∙ get_removed S.values k))
+    (λ rest. erased_is_absent (without_key S k) ks key rest)
     (contains_cases k ks key in')
 
 -- a path that means a node by version 3 has a `zarr.json`
-version_3_has_key : (S : Contents) (p : Path) (m : NodeMetadata) → meaning S V3 p ≡ node m → HasKey S (p ++ zarr_json ∷ [])
-version_3_has_key S p m is = by (get S (p ++ zarr_json ∷ [])) refl
+version_3_has_key : (S : Contents) (p : Path) (m : NodeMetadata) → meaning S V3 p ≡ node m → HasKey S.values (p ++ zarr_json ∷ [])
+version_3_has_key S p m is = by (get S.values (p ++ zarr_json ∷ [])) refl
   where
-    by : (o : Option (List ℕ)) → get S (p ++ zarr_json ∷ []) ≡ o → HasKey S (p ++ zarr_json ∷ [])
+    by : (o : Option (List ℕ)) → get S.values (p ++ zarr_json ∷ []) ≡ o → HasKey S.values (p ++ zarr_json ∷ [])
     by (Some bytes) e = ap is_some e
     by None e =
         let none : nothing ≡ node m = sym (v3_is S p ∙ zarr_json_line_is S p _ refl (Ok None) (document_none _ S _ (sym e)) nothing) ∙ is in
@@ -80,24 +78,31 @@ decided k (Ok (node_json m)) after other = refl
 decided k (Ok Version2) after other = refl
 decided k (Err x) after other = refl
 
+-- what the documents of version 2 say
+abbrev version_2_says : Contents → Path → Meaning
+version_2_says s p = zarray_line (in_bytes s.numbers) s.values p (zgroup_line (in_bytes s.numbers) s.values p nothing)
+
 -- the line of `zarr.json` where it is there
-line_there : (s : Contents) (p : Path) (bytes : List ℕ) → get s (p ++ zarr_json ∷ []) ≡ Some bytes → (after : Meaning)
-    → zarr_json_line in_bytes s p after ≡ version_3_line (document_or_fault (p ++ zarr_json ∷ []) (of_bytes zarr_json_of bytes)) after
+line_there : (s : Contents) (p : Path) (bytes : List ℕ) → get s.values (p ++ zarr_json ∷ []) ≡ Some bytes → (after : Meaning)
+    → zarr_json_line (in_bytes s.numbers) s.values p after ≡ version_3_line (document_or_fault (p ++ zarr_json ∷ []) (of_bytes (zarr_json_in s.numbers) bytes)) after
 unfolding document_at
-line_there s p bytes here after = zarr_json_line_is s p _ refl _ (ap (document_from (of_bytes zarr_json_of) (p ++ zarr_json ∷ [])) here) after
+line_there s p bytes here after = zarr_json_line_is s p _ refl _ (ap (document_from (of_bytes (zarr_json_in s.numbers)) (p ++ zarr_json ∷ [])) here) after
 
 -- each path means by default what it meant
 pub beside_means_same : BesideMeansSame
-beside_means_same S T others p = by (get S (p ++ zarr_json ∷ [])) refl
+beside_means_same S T alike others p = by (get S.values (p ++ zarr_json ∷ [])) refl
   where
-    own : get T (p ++ zarr_json ∷ []) ≡ get S (p ++ zarr_json ∷ [])
+    own : get T.values (p ++ zarr_json ∷ []) ≡ get S.values (p ++ zarr_json ∷ [])
     own = others (p ++ zarr_json ∷ []) (λ w. other_file w.1 w.2 (sym (same_from_push p w.0 zarr_json w.1 w.3).1))
 
-    by : (o : Option (List ℕ)) → get S (p ++ zarr_json ∷ []) ≡ o → meaning T Default p ≡ meaning S Default p
+    by : (o : Option (List ℕ)) → get S.values (p ++ zarr_json ∷ []) ≡ o → meaning T Default p ≡ meaning S Default p
     by (Some bytes) e =
-        default_is T p ∙ line_there T p bytes (own ∙ e) _ ∙ decided (p ++ zarr_json ∷ []) (of_bytes zarr_json_of bytes) _ _ ∙ sym (line_there S p bytes e _) ∙ sym (default_is S p)
-    by None e = meaning_same S T p (λ file in'. others (p ++ file ∷ []) (λ w.
-        let there : HasKey S (p ++ zarr_json ∷ []) = subst (λ q. HasKey S (q ++ zarr_json ∷ [])) (sym (same_from_push p w.0 file w.1 w.3).0) w.4 in
+        default_is T p ∙ line_there T p bytes (own ∙ e) (version_2_says T p)
+        ∙ ap (λ n. version_3_line (document_or_fault (p ++ zarr_json ∷ []) (of_bytes (zarr_json_in n) bytes)) (version_2_says T p)) alike
+        ∙ decided (p ++ zarr_json ∷ []) (of_bytes (zarr_json_in S.numbers) bytes) (version_2_says T p) (version_2_says S p)
+        ∙ sym (line_there S p bytes e (version_2_says S p)) ∙ sym (default_is S p)
+    by None e = meaning_same S T p alike (λ file in'. others (p ++ file ∷ []) (λ w.
+        let there : HasKey S.values (p ++ zarr_json ∷ []) = subst (λ q. HasKey S.values (q ++ zarr_json ∷ [])) (sym (same_from_push p w.0 file w.1 w.3).0) w.4 in
         true≢false (sym there ∙ ap is_some e))) Default
 
 -- ---- the documents of version 2 at some paths
@@ -127,11 +132,11 @@ erased_are_absent S es e file in' known = erased_is_absent S (keys_beside es) (e
 -- ---- a listing once they are erased
 
 -- at a key that is not erased stands what was there
-others_stay : (S : Contents) (ks : List Segments) (key : Segments) → (Contains ks key → ⊥) → get (without_keys S ks) key ≡ get S key
+others_stay : (S : Contents) (ks : List Segments) (key : Segments) → (Contains ks key → ⊥) → get (without_keys S ks).values key ≡ get S.values key
 others_stay S [] key far = refl
 others_stay S (k ∷ ks) key far =
-    others_stay (map.remove S k) ks key (λ in'. far (Contains-cons k ks key in'))
-    ∙ AgreesExceptAt-remove S k key (λ same. far (subst (λ x. Contains (k ∷ ks) x) (sym same) (Contains-first k ks)))
+    others_stay (without_key S k) ks key (λ in'. far (Contains-cons k ks key in'))
+    ∙ AgreesExceptAt-remove S.values k key (λ same. far (subst (λ x. Contains (k ∷ ks) x) (sym same) (Contains-first k ks)))
 
 -- so it is of what is set, and of what is erased
 pub others_are_kept : OthersAreKept
@@ -140,18 +145,23 @@ others_are_kept S key = (
   λ ks far. others_stay S ks key far,
 )
 
+-- the documents may hold what they might
+pub numbers_stay : (S : Contents) (ks : List Segments) → (without_keys S ks).numbers ≡ S.numbers
+numbers_stay S [] = refl
+numbers_stay S (k ∷ ks) = numbers_stay (without_key S k) ks
+
 -- what is there was there
-was_there : (S : Contents) (ks : List Segments) (key : Segments) → HasKey (without_keys S ks) key → HasKey S key
-was_there S ks key there = by (get S key) refl
+was_there : (S : Contents) (ks : List Segments) (key : Segments) → HasKey (without_keys S ks).values key → HasKey S.values key
+was_there S ks key there = by (get S.values key) refl
   where
-    by : (o : Option (List ℕ)) → get S key ≡ o → HasKey S key
+    by : (o : Option (List ℕ)) → get S.values key ≡ o → HasKey S.values key
     by (Some bytes) e = ap is_some e
     by None e = absurd (true≢false (sym there ∙ ap is_some (absent_stays S ks key e)))
 
 -- a listing by default shows what it showed
 pub erased_show_same : ErasedShowSame
 erased_show_same S ks beside b good =
-    let same = beside_means_same S (without_keys S ks) (λ key far. others_stay S ks key (λ in'. far (beside key in'))) in
+    let same = beside_means_same S (without_keys S ks) (numbers_stay S ks) (λ key far. others_stay S ks key (λ in'. far (beside key in'))) in
     mapped_is_shown Some some_keeps S (without_keys S ks) Default Default b good
     (λ p _. unchanged (meaning S Default p) (meaning (without_keys S ks) Default p) (same p))
-    (λ p d. let there = subst (HasBelow (without_keys S ks)) (sym d.5) d.4 in (there.0, there.1, was_there S ks (p ++ there.0 ∷ there.1) there.2))
+    (λ p d. let there = subst (HasBelow (without_keys S ks).values) (sym d.5) d.4 in (there.0, there.1, was_there S ks (p ++ there.0 ∷ there.1) there.2))

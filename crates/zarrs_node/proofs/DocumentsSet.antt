@@ -6,11 +6,11 @@ use Rattle.std.specs.Global.{Vec}
 use Rattle.std.specs.Ordering.{eq_by_cmp}
 use Rattle.std.proofs.lemmas.List.{append_cancel_left, same_from_push}
 use Rattle.zarrs_store.specs.Segments.{Segments, key_cmp}
-use Rattle.zarrs_store.specs.Contents.{Contents, HasKey, HasBelow}
+use Rattle.zarrs_store.specs.Contents.{Contents, with_key, HasBelow}
 use Rattle.zarrs_store.proofs.ChildLemmas.{key_cmp-IsAntisymmetric}
 use Rattle.zarrs_store.proofs.ContentsLemmas.{tied, get_inserted, AgreesExceptAt-insert}
 use Rattle.zarrs_store.proofs.EntryLemmas.{equal_of}
-use Rattle.zarrs_path.specs.Keys.{zarr_json, zarray, zgroup, zattrs}
+use Rattle.zarrs_path.specs.Keys.{zarr_json}
 use Rattle.zarrs_path.specs.Names.{is_all_periods, IsName}
 use Rattle.zarrs_path.specs.Paths.{Path, IsPath}
 use Rattle.zarrs_path.proofs.NameLemmas.{name_head, name_tail, not_periods}
@@ -20,13 +20,12 @@ use Rattle.zarrs_config.specs.declared.version.MetadataRetrieveVersion.{Metadata
 use Rattle.zarrs_config.specs.declared.version.MetadataRetrieveVersion.TheVariants.{Default, V3}
 use Rattle.zarrs_block.specs.Meaning.{Meaning, meaning, node, nothing, bad}
 use Rattle.zarrs_block.specs.declared.node_create_error.NodeCreateError.{NodeCreateError}
-use Rattle.zarrs_node.specs.Nodes.{HasNothingBad, IsBadName, MeansNode}
-use Rattle.zarrs_node.specs.Reach.{Reached}
+use Rattle.zarrs_node.specs.Nodes.{IsBadName, MeansNode}
 use Rattle.zarrs_node.specs.Changes.{document_files}
-use Rattle.zarrs_node.specs.MapsOfNodes.{StandsFrom, NodesFrom, GoesOver, IsToVersion3, IsDocumentFor, AreDocumentsOf, with_documents, DocumentsAreShown}
+use Rattle.zarrs_node.specs.MapsOfNodes.{StandsFrom, NodesFrom, GoesOver, IsToVersion3, AreDocumentsOf, with_documents, DocumentsAreShown}
 use Rattle.zarrs_node.proofs.Current.{meaning_same}
 use Rattle.zarrs_node.proofs.Graft.{Contains-first, Contains-cons}
-use Rattle.zarrs_node.proofs.MapsShown.{same_node, same_some, stands, mapped_is_shown}
+use Rattle.zarrs_node.proofs.MapsShown.{same_node, stands, mapped_is_shown}
 use Rattle.zarrs_node.proofs.Order.{contains_cases}
 use Rattle.zarrs_node.proofs.Reach.{head_same, rest_same}
 use Rattle.zarrs_node.proofs.Versions.{set_v3, set_default, three_alone, nothing_alone, bad_alone}
@@ -41,7 +40,7 @@ same_or_not q k =
 
 -- at a key stands what one of the documents has
 abbrev pub StandsThere : Contents → List (Segments × Vec ℕ) → Segments → Type 0
-StandsThere T ds key = (d : Segments × Vec ℕ) × Contains ds d × (d.0 ≡ key) × (get T key ≡ Some d.1.items)
+StandsThere T ds key = (d : Segments × Vec ℕ) × Contains ds d × (d.0 ≡ key) × (get T.values key ≡ Some d.1.items)
 
 -- none of the documents has the key
 abbrev pub StandsNot : List (Segments × Vec ℕ) → Segments → Type 0
@@ -49,18 +48,23 @@ StandsNot ds key = (d : Segments × Vec ℕ) → Contains ds d → d.0 ≢ key
 
 -- once documents are set, a key has one of them, or what it had
 pub get_with : (S : Contents) (ds : List (Segments × Vec ℕ)) (key : Segments)
-    → StandsThere (with_documents S ds) ds key ⊎ (StandsNot ds key × (get (with_documents S ds) key ≡ get S key))
+    → StandsThere (with_documents S ds) ds key ⊎ (StandsNot ds key × (get (with_documents S ds).values key ≡ get S.values key))
 get_with S [] key = inr (λ d in'. absurd (omega (arith, in'.1)), refl)
 get_with S (d ∷ ds) key = ⊎_elim
     (λ w. inl (w.0, Contains-cons d ds w.0 w.1, w.2, w.3))
     (λ w. ⊎_elim
-    (λ same. inl (d, Contains-first d ds, same, w.1 ∙ ap (get (map.insert S d.0 d.1.items)) (sym same) ∙ get_inserted S d.0 d.1.items))
+    (λ same. inl (d, Contains-first d ds, same, w.1 ∙ ap (get (map.insert S.values d.0 d.1.items)) (sym same) ∙ get_inserted S.values d.0 d.1.items))
     (λ other. inr (
       λ x in'. ⊎_elim (λ one. subst (λ y. y.0 ≢ key) one other) (λ rest. w.0 x rest) (contains_cases d ds x in'),
-      w.1 ∙ AgreesExceptAt-insert S d.0 d.1.items key (λ e. other (sym e)),
+      w.1 ∙ AgreesExceptAt-insert S.values d.0 d.1.items key (λ e. other (sym e)),
     ))
     (same_or_not d.0 key))
-    (get_with (map.insert S d.0 d.1.items) ds key)
+    (get_with (with_key S d.0 d.1.items) ds key)
+
+-- the documents may hold what they might
+pub numbers_stay : (S : Contents) (ds : List (Segments × Vec ℕ)) → (with_documents S ds).numbers ≡ S.numbers
+numbers_stay S [] = refl
+numbers_stay S (d ∷ ds) = numbers_stay (with_key S d.0 d.1.items) ds
 
 -- a name of a path, with more names behind it in front of a last one
 names_in : (xs gs rest : Path) (n first z : List ℕ) → IsPath xs → gs ++ n ∷ first ∷ rest ≡ xs ++ z ∷ [] → IsName n
@@ -93,18 +97,18 @@ module _ (f : NodeMetadata → Option NodeMetadata) (to3 : IsToVersion3 f) (S : 
       )
 
   -- of a path whose `zarr.json` is not set every document is as it was
-  files_same : (p : Path) → get T (p ++ zarr_json ∷ []) ≡ get S (p ++ zarr_json ∷ []) → (file : List ℕ) → Contains document_files file → get T (p ++ file ∷ []) ≡ get S (p ++ file ∷ [])
+  files_same : (p : Path) → get T.values (p ++ zarr_json ∷ []) ≡ get S.values (p ++ zarr_json ∷ []) → (file : List ℕ) → Contains document_files file → get T.values (p ++ file ∷ []) ≡ get S.values (p ++ file ∷ [])
   files_same p same file in' = ⊎_elim
       (λ there.
       let w = are.only there.0 there.1 in
       let one : zarr_json ≡ file = (same_from_push w.0.0 p zarr_json file (sym w.3.2 ∙ there.2)).1 in
-      ap (λ x. get T (p ++ x ∷ [])) (sym one) ∙ same ∙ ap (λ x. get S (p ++ x ∷ [])) one)
+      ap (λ x. get T.values (p ++ x ∷ [])) (sym one) ∙ same ∙ ap (λ x. get S.values (p ++ x ∷ [])) one)
       (λ w. w.1)
       (get_with S ds (p ++ file ∷ []))
 
   -- so it means the same
-  means_same : (p : Path) → get T (p ++ zarr_json ∷ []) ≡ get S (p ++ zarr_json ∷ []) → (v : MetadataRetrieveVersion) → meaning T v p ≡ meaning S v p
-  means_same p same = meaning_same S T p (files_same p same)
+  means_same : (p : Path) → get T.values (p ++ zarr_json ∷ []) ≡ get S.values (p ++ zarr_json ∷ []) → (v : MetadataRetrieveVersion) → meaning T v p ≡ meaning S v p
+  means_same p same = meaning_same S T p (numbers_stay S ds) (files_same p same)
 
   -- what a node from b on means goes over
   node_over : (p : Path) (m : NodeMetadata) → StandsFrom S Default b p → meaning S Default p ≡ node m → MeansBoth p m
@@ -113,7 +117,7 @@ module _ (f : NodeMetadata → Option NodeMetadata) (to3 : IsToVersion3 f) (S : 
       (λ w. by (is_version_3 m) refl w)
       (get_with S ds (p ++ zarr_json ∷ []))
     where
-      by : (t : Bool) → is_version_3 m ≡ t → StandsNot ds (p ++ zarr_json ∷ []) × (get T (p ++ zarr_json ∷ []) ≡ get S (p ++ zarr_json ∷ [])) → MeansBoth p m
+      by : (t : Bool) → is_version_3 m ≡ t → StandsNot ds (p ++ zarr_json ∷ []) × (get T.values (p ++ zarr_json ∷ []) ≡ get S.values (p ++ zarr_json ∷ [])) → MeansBoth p m
       by true three w = (m, to3.stays m three, means_same p w.1 V3 ∙ three_alone S p m three is, means_same p w.1 Default ∙ is)
       by false two w = let v = are.each (p, m) (stands, is) two in absurd (w.0 v.0 v.1 v.2.2)
 
@@ -157,7 +161,7 @@ module _ (f : NodeMetadata → Option NodeMetadata) (to3 : IsToVersion3 f) (S : 
       stands
 
   -- no document stands behind a name of periods
-  no_periods : (g : Path) (n : List ℕ) → StandsFrom S Default b g → IsTrue (is_all_periods n) → HasBelow T (g ++ n ∷ []) → HasBelow S (g ++ n ∷ [])
+  no_periods : (g : Path) (n : List ℕ) → StandsFrom S Default b g → IsTrue (is_all_periods n) → HasBelow T.values (g ++ n ∷ []) → HasBelow S.values (g ++ n ∷ [])
   no_periods g n stands periods (first, rest, held) = ⊎_elim
       (λ there.
       let w = are.only there.0 there.1 in
@@ -171,8 +175,8 @@ module _ (f : NodeMetadata → Option NodeMetadata) (to3 : IsToVersion3 f) (S : 
       (get_with S ds ((g ++ n ∷ []) ++ first ∷ rest))
 
   -- a name of periods that has a key below it had one before
-  names_over : (p : Path) → IsBadName (meaning S Default) (HasBelow T) true b p → HasBelow S p
-  names_over p (g, n, listed, periods, below, is, more) = subst (HasBelow S) (sym is) (no_periods g n (stands S Default b g listed) periods below)
+  names_over : (p : Path) → IsBadName (meaning S Default) (HasBelow T.values) true b p → HasBelow S.values p
+  names_over p (g, n, listed, periods, below, is, more) = subst (HasBelow S.values) (sym is) (no_periods g n (stands S Default b g listed) periods below)
 
 -- a listing shows what one by default showed, as version 3
 pub documents_are_shown : DocumentsAreShown

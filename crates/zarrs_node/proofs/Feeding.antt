@@ -56,7 +56,7 @@ pub record HasFed {K : Type 0} (R : K → Pair → K → Type 0) (s : Contents) 
 
 module _ {K : Type 0} (R : K → Pair → K → Type 0) (s : Contents) (v : MetadataRetrieveVersion) (r : Bool) (b : Path) (a : K) where
   -- before the first prefix is read
-  pub fed_start : IsPath b → (cs : List Segments) → AreVisibleChildren s b cs → (ig : List Path) (fs : List PathFault) (ps : List Path) → ig ≡ [] → fs ≡ [] → ps ≡ [] ++ reverse cs → HasFed R s v r b a a ig fs ps
+  pub fed_start : IsPath b → (cs : List Segments) → AreVisibleChildren s.values b cs → (ig : List Path) (fs : List PathFault) (ps : List Path) → ig ≡ [] → fs ≡ [] → ps ≡ [] ++ reverse cs → HasFed R s v r b a a ig fs ps
   fed_start valid cs h ig fs ps e k f = record { nodes = []; took = refl; walked = has_started s v r b valid cs h [] ig fs ps refl e k f }
 
   module _ (z : K) (ig : List Path) (fs : List PathFault) (ps : List Path) (e : ps ≡ []) (h : HasFed R s v r b a z ig fs ps) where
@@ -95,7 +95,7 @@ module _ {K : Type 0} (R : K → Pair → K → Type 0) (s : Contents) (v : Meta
       }
 
       -- a turn where it does
-      pub fed_deeper : r ≡ true → true ≡ is_group_found o → (cs : List Segments) → AreVisibleChildren s c cs → (qs : List Path) → qs ≡ ps ++ reverse cs → HasFed R s v r b a w jg fs qs
+      pub fed_deeper : r ≡ true → true ≡ is_group_found o → (cs : List Segments) → AreVisibleChildren s.values c cs → (qs : List Path) → qs ≡ ps ++ reverse cs → HasFed R s v r b a w jg fs qs
       fed_deeper deep group cs children qs g = record {
         nodes = h.nodes ++ own_node c o;
         took = took_more R a h.nodes z (own_node c o) w h.took step;

@@ -1,15 +1,11 @@
 -- A node in front of those below it, and the order of paths in ascending lists.
-use Rattle.std.proofs.Common.{◌≡◌, ◌↔◌, ◌⊎◌, inl, inr, ⊎_elim, ℕ, true, List, [], ◌∷◌, ◌++◌, refl, sym, ap, ap₂, subst, ◌∙◌, arith, Contains, AllPairs, Ordering, Less, Equal, Greater}
+use Rattle.std.proofs.Common.{◌≡◌, inl, inr, ⊎_elim, List, [], ◌∷◌, ◌++◌, refl, sym, ap, subst, ◌∙◌, arith, Contains, AllPairs, Less, Equal}
 use Rattle.std.proofs.lemmas.List.Elements.{Contains-append_cases}
 use Rattle.std.specs.Cmp.{tied_itself}
 use Rattle.zarrs_store.proofs.ChildLemmas.{key_cmp_total}
-use Rattle.zarrs_store.specs.Contents.{Contents, Lists}
 use Rattle.zarrs_path.specs.Paths.{Path, path_cmp}
 use Rattle.zarrs_meta.specs.declared.node.NodeMetadata.{NodeMetadata}
-use Rattle.zarrs_config.specs.declared.version.MetadataRetrieveVersion.{MetadataRetrieveVersion}
 use Rattle.zarrs_block.specs.Meaning.{meaning, node}
-use Rattle.zarrs_node.specs.Nodes.{Nodes}
-use Rattle.zarrs_node.specs.Order.{Ascend}
 use Rattle.zarrs_node.specs.MapsOfNodes.{NodesFrom, BaseInFront, EarlierStandsBefore}
 use Rattle.zarrs_node.proofs.Found.{listed_each, all_pairs_tail, all_pairs_first, all_pairs_append}
 use Rattle.zarrs_node.proofs.Graft.{Contains-first, Contains-cons}

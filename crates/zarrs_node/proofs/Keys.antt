@@ -13,33 +13,33 @@ use Rattle.zarrs_node.proofs.Reach.{Through}
 
 -- a line says nothing of a path with no key below it
 abbrev Skips : Contents → Path → (Meaning → Meaning) → Type 0
-Skips s p line = HasBelow s p ⊎ ((after : Meaning) → line after ≡ after)
+Skips s p line = HasBelow s.values p ⊎ ((after : Meaning) → line after ≡ after)
 
 -- `zarr.json` says nothing of a path with no key below it
-skips_1 : (s : Contents) (p : Path) → Skips s p (zarr_json_line in_bytes s p)
-skips_1 s p = ⊎_elim inl (λ none. inr (zarr_json_line_is s p _ refl (Ok None) (document_none _ s _ none))) (key_or_none s p zarr_json)
+skips_1 : (s : Contents) (p : Path) → Skips s p (zarr_json_line (in_bytes s.numbers) s.values p)
+skips_1 s p = ⊎_elim inl (λ none. inr (zarr_json_line_is s p _ refl (Ok None) (document_none _ s _ none))) (key_or_none s.values p zarr_json)
 
 -- `.zarray` says nothing of a path with no key below it
-skips_2 : (s : Contents) (p : Path) → Skips s p (zarray_line in_bytes s p)
-skips_2 s p = ⊎_elim inl (λ none. inr (zarray_line_is s p _ refl (Ok None) (document_none _ s _ none) (attributes_at s p) refl)) (key_or_none s p zarray)
+skips_2 : (s : Contents) (p : Path) → Skips s p (zarray_line (in_bytes s.numbers) s.values p)
+skips_2 s p = ⊎_elim inl (λ none. inr (zarray_line_is s p _ refl (Ok None) (document_none _ s _ none) (attributes_at s p) refl)) (key_or_none s.values p zarray)
 
 -- `.zgroup` says nothing of a path with no key below it
-skips_3 : (s : Contents) (p : Path) → Skips s p (zgroup_line in_bytes s p)
-skips_3 s p = ⊎_elim inl (λ none. inr (zgroup_line_is s p _ refl (Ok None) (document_none _ s _ none) (attributes_at s p) refl)) (key_or_none s p zgroup)
+skips_3 : (s : Contents) (p : Path) → Skips s p (zgroup_line (in_bytes s.numbers) s.values p)
+skips_3 s p = ⊎_elim inl (λ none. inr (zgroup_line_is s p _ refl (Ok None) (document_none _ s _ none) (attributes_at s p) refl)) (key_or_none s.values p zgroup)
 
 -- the version 2 documents say nothing of a path with no key below it
-skips_23 : (s : Contents) (p : Path) → HasBelow s p ⊎ (zarray_line in_bytes s p (zgroup_line in_bytes s p nothing) ≡ nothing)
+skips_23 : (s : Contents) (p : Path) → HasBelow s.values p ⊎ (zarray_line (in_bytes s.numbers) s.values p (zgroup_line (in_bytes s.numbers) s.values p nothing) ≡ nothing)
 skips_23 s p = ⊎_elim inl (λ two. ⊎_elim inl (λ three. inr (two _ ∙ three nothing)) (skips_3 s p)) (skips_2 s p)
 
 -- a path with no key below it means nothing
-pub means_or_nothing : (s : Contents) (v : MetadataRetrieveVersion) (p : Path) → HasBelow s p ⊎ (meaning s v p ≡ nothing)
+pub means_or_nothing : (s : Contents) (v : MetadataRetrieveVersion) (p : Path) → HasBelow s.values p ⊎ (meaning s v p ≡ nothing)
 means_or_nothing s Default p = ⊎_elim inl (λ one. ⊎_elim inl (λ rest. inr (default_is s p ∙ one _ ∙ rest)) (skips_23 s p)) (skips_1 s p)
 means_or_nothing s V3 p = ⊎_elim inl (λ one. inr (v3_is s p ∙ one nothing)) (skips_1 s p)
 means_or_nothing s V2 p = ⊎_elim inl (λ rest. inr (v2_is s p ∙ rest)) (skips_23 s p)
 
 -- a key below p is below c too
-pub below_through : (s : Contents) (v : MetadataRetrieveVersion) (r : Bool) (c p : Path) → Through (MeansNode s v) r c p → HasBelow s p → HasBelow s c
-below_through s v r c p t (n, ns, there) = elim t as (λ _. HasBelow s c) [
-  | inl e ↦ (n, ns, subst (λ x. HasKey s (x ++ n ∷ ns)) e there)
-  | inr (open', h) ↦ (h.below.0, h.below.1 ++ n ∷ ns, subst (λ k. HasKey s k) (ap (λ x. x ++ n ∷ ns) h.below.2 ∙ append_assoc c (h.below.0 ∷ h.below.1) (n ∷ ns)) there)
+pub below_through : (s : Contents) (v : MetadataRetrieveVersion) (r : Bool) (c p : Path) → Through (MeansNode s v) r c p → HasBelow s.values p → HasBelow s.values c
+below_through s v r c p t (n, ns, there) = elim t as (λ _. HasBelow s.values c) [
+  | inl e ↦ (n, ns, subst (λ x. HasKey s.values (x ++ n ∷ ns)) e there)
+  | inr (open', h) ↦ (h.below.0, h.below.1 ++ n ∷ ns, subst (λ k. HasKey s.values k) (ap (λ x. x ++ n ∷ ns) h.below.2 ∙ append_assoc c (h.below.0 ∷ h.below.1) (n ∷ ns)) there)
 ]

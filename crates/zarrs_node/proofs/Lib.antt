@@ -51,3 +51,4 @@ pub mod Versions
 pub mod DocumentsSet
 pub mod DocumentsErased
 pub mod DefaultVersion
+pub mod MoreNumbers

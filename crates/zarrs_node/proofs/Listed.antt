@@ -22,10 +22,10 @@ pub there : (keys : List Segments) (key held : Segments) (i : ℕ) → i < lengt
 there keys key held i lt is same = (i, lt, subst (λ k. get_or keys i k ≡ k) same (sym is))
 
 -- a document is in the store where its key is among the keys directly below the path
-document_is : (s : Contents) (p base : Path) (keys : List Segments) (f : List ℕ) (k : Segments) (r : Bool) → base ≡ p → Lists (IsChildKey s base) keys → k ≡ p ++ f ∷ [] → IsTrue r ↔ Contains keys k → IsTrue r ↔ HasKey s (p ++ f ∷ [])
+document_is : (s : Contents) (p base : Path) (keys : List Segments) (f : List ℕ) (k : Segments) (r : Bool) → base ≡ p → Lists (IsChildKey s.values base) keys → k ≡ p ++ f ∷ [] → IsTrue r ↔ Contains keys k → IsTrue r ↔ HasKey s.values (p ++ f ∷ [])
 document_is s p base keys f k r same l is h = (
-  λ t. let c = h.0 t in subst (HasKey s) is (subst (IsChildKey s base) c.2 (l.sound c.0 k c.1)).held,
-  λ has. h.1 (l.complete k (record { name = f; is = is ∙ ap (λ q. q ++ f ∷ []) (sym same); held = subst (HasKey s) (sym is) has })),
+  λ t. let c = h.0 t in subst (HasKey s.values) is (subst (IsChildKey s.values base) c.2 (l.sound c.0 k c.1)).held,
+  λ has. h.1 (l.complete k (record { name = f; is = is ∙ ap (λ q. q ++ f ∷ []) (sym same); held = subst (HasKey s.values) (sym is) has })),
 )
 
 -- of three tests of which one passes, the first, the second or the third passes
@@ -41,7 +41,7 @@ or_from false true c h f g k = refl
 or_from false false c h f g k = ⊎_elim (λ x. absurd (true≢false (sym (f x)))) (⊎_elim (λ x. absurd (true≢false (sym (g x)))) k) h
 
 -- a node has a document where one of its three keys is among the keys directly below its path
-pub exists_by : (s : Contents) (p base : Path) (keys : List Segments) → base ≡ p → Lists (IsChildKey s base) keys → (k l m : Segments) → k ≡ p ++ zarr_json ∷ [] → l ≡ p ++ zarray ∷ [] → m ≡ p ++ zgroup ∷ []
+pub exists_by : (s : Contents) (p base : Path) (keys : List Segments) → base ≡ p → Lists (IsChildKey s.values base) keys → (k l m : Segments) → k ≡ p ++ zarr_json ∷ [] → l ≡ p ++ zarray ∷ [] → m ≡ p ++ zgroup ∷ []
     → (a b c : Bool) → IsTrue a ↔ Contains keys k → IsTrue b ↔ Contains keys l → IsTrue c ↔ Contains keys m → (r : Bool) → r ≡ (a || (b || c)) → IsTrue r ↔ HasNodeKey s p
 exists_by s p base keys same listed k l m ks ls ms a b c ha hb hc r e =
     let v3 = document_is s p base keys zarr_json k a same listed ks ha in

@@ -2,6 +2,7 @@
 use Rattle.std.proofs.Common.{◌≡◌, ◌≢◌, ◌↔◌, inl, inr, ⊎_elim, ℕ, true, List, [], ◌∷◌, ◌++◌, is_some, refl, sym, ap, subst, ◌∙◌, append_assoc, IsTrue}
 use Rattle.std.proofs.lemmas.List.{same_from_push}
 use Rattle.zarrs_store.specs.Contents.{Contents, HasBelow}
+use Rattle.zarrs_fault.specs.declared.numbers.Numbers.TheVariants.{Whole}
 use Rattle.zarrs_path.specs.Names.{is_all_periods}
 use Rattle.zarrs_path.specs.Paths.{Path, IsPath, IsBelow}
 use Rattle.zarrs_path.proofs.PathTexts.{IsPath-parts, last_name}
@@ -35,8 +36,8 @@ document_below p g n first file rest e =
     (w.0, sym (same_from_push ((g ++ n ∷ []) ++ w.0) p w.1 file (append_assoc (g ++ n ∷ []) w.0 (w.1 ∷ []) ∙ ap (λ l. (g ++ n ∷ []) ++ l) (sym w.2) ∙ e)).0)
 
 -- stores that agree outside the documents of a path have alike what stands further below a name of periods only
-bad_name_same : (S T : Contents) (p g : Path) (n : List ℕ) → IsPath p → AgreesOutside p S T → IsTrue (is_all_periods n) → HasBelow T (g ++ n ∷ []) → HasBelow S (g ++ n ∷ [])
-bad_name_same S T p g n valid agrees periods (first, rest, here) = (first, rest, ap is_some (sym (agrees ((g ++ n ∷ []) ++ first ∷ rest) other)) ∙ here)
+bad_name_same : (S T : Contents) (p g : Path) (n : List ℕ) → IsPath p → AgreesOutside p S T → IsTrue (is_all_periods n) → HasBelow T.values (g ++ n ∷ []) → HasBelow S.values (g ++ n ∷ [])
+bad_name_same S T p g n valid agrees periods (first, rest, here) = (first, rest, ap is_some (sym (agrees.1 ((g ++ n ∷ []) ++ first ∷ rest) other)) ∙ here)
   where
     other : IsDocumentOf p ((g ++ n ∷ []) ++ first ∷ rest) → ⊥
     other d =
@@ -44,8 +45,8 @@ bad_name_same S T p g n valid agrees periods (first, rest, here) = (first, rest,
         not_bad_name (g ++ n ∷ []) g n (IsPath-parts (g ++ n ∷ []) w.0 (subst IsPath w.1 valid)).0 refl periods
 
 -- so they have alike what stands further below a child of b, where p is b
-own_below_same : (S T : Contents) (b g : Path) (n : List ℕ) → AtOrBelow b g → AgreesOutside b S T → HasBelow T (g ++ n ∷ []) → HasBelow S (g ++ n ∷ [])
-own_below_same S T b g n at agrees (first, rest, here) = (first, rest, ap is_some (sym (agrees ((g ++ n ∷ []) ++ first ∷ rest) other)) ∙ here)
+own_below_same : (S T : Contents) (b g : Path) (n : List ℕ) → AtOrBelow b g → AgreesOutside b S T → HasBelow T.values (g ++ n ∷ []) → HasBelow S.values (g ++ n ∷ [])
+own_below_same S T b g n at agrees (first, rest, here) = (first, rest, ap is_some (sym (agrees.1 ((g ++ n ∷ []) ++ first ∷ rest) other)) ∙ here)
   where
     deeper : AtOrBelow b g → (more : Path) → b ≡ (g ++ n ∷ []) ++ more → ⊥
     deeper at more e =
@@ -107,7 +108,7 @@ module _ (S T : Contents) (v : MetadataRetrieveVersion) (b p : Path) (B C : Bloc
       at
 
   -- no child of what is listed has a name of periods only
-  no_bad_name : (x g : Path) (n : List ℕ) → IsListed of true b g → IsTrue (is_all_periods n) → HasBelow T (g ++ n ∷ []) → x ≡ g ++ n ∷ [] → n ≢ [] → ⊥
+  no_bad_name : (x g : Path) (n : List ℕ) → IsListed of true b g → IsTrue (is_all_periods n) → HasBelow T.values (g ++ n ∷ []) → x ≡ g ++ n ∷ [] → n ≢ [] → ⊥
   no_bad_name x g n from periods has is some = ⊎_elim
       (λ at. ⊎_elim
       (λ base. not_below_itself b (⊎_elim
@@ -187,9 +188,9 @@ listed_block_stays S T v b B agrees listed = record {
 -- ---- the block in the place of a listing
 
 module _ (S : Contents) (v : MetadataRetrieveVersion) (b : Path) (B : Block) (listed : IsListedBlock S v b B) where
-  -- its metadata could have come from documents
-  pub listed_plain : HasPlainNodes B
-  listed_plain = nodes_plain (Nodes S v true b) b B (λ e k. k.0.below) listed.exact (λ e k. plain_node S e.0 v e.1 k.1) B (found_all B listed.ascending)
+  -- where the numbers of the store are whole, its metadata could have come from documents
+  pub listed_plain : S.numbers ≡ Whole → HasPlainNodes B
+  listed_plain whole = nodes_plain (Nodes S v true b) b B (λ e k. k.0.below) listed.exact (λ e k. plain_node S e.0 whole v e.1 k.1) B (found_all B listed.ascending)
 
   -- its keys are valid
   pub listed_keys : HasValidKeys B

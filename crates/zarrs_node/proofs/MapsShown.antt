@@ -1,5 +1,5 @@
 -- Of two stores one shows the nodes of the other under a map, where what the reached paths mean goes over by it.
-use Rattle.std.proofs.Common.{◌≡◌, ◌≤◌, ◌↔◌, ◌⊎◌, inl, inr, ⊎_elim, ℕ, zero, suc, Bool, true, List, [], ◌∷◌, ◌++◌, length, Option, Some, IsTrue, refl, sym, ap, subst, ◌∙◌, arith, length-append}
+use Rattle.std.proofs.Common.{◌≡◌, ◌≤◌, ◌↔◌, inl, inr, ⊎_elim, ℕ, zero, suc, true, ◌∷◌, length, Option, Some, IsTrue, refl, sym, ap, subst, ◌∙◌, arith, length-append}
 use Rattle.zarrs_store.specs.Contents.{Contents, HasBelow}
 use Rattle.zarrs_path.specs.Paths.{Path, IsBelow}
 use Rattle.zarrs_meta.specs.Node.{is_group}
@@ -7,8 +7,8 @@ use Rattle.zarrs_meta.specs.declared.node.NodeMetadata.{NodeMetadata}
 use Rattle.zarrs_config.specs.declared.version.MetadataRetrieveVersion.{MetadataRetrieveVersion}
 use Rattle.zarrs_block.specs.declared.node_create_error.NodeCreateError.{NodeCreateError}
 use Rattle.zarrs_block.specs.Meaning.{Meaning, meaning, node, nothing, bad}
-use Rattle.zarrs_node.specs.Reach.{HasGroup, Reached, Opens, Kept}
-use Rattle.zarrs_node.specs.Nodes.{Means, MeansNode, Nodes, Bad, HasNothingBad, HasBadDocument, IsBadName, IsListed}
+use Rattle.zarrs_node.specs.Reach.{HasGroup, Reached, Kept}
+use Rattle.zarrs_node.specs.Nodes.{Means, MeansNode, HasBadDocument, IsListed}
 use Rattle.zarrs_node.specs.MapsOfNodes.{StandsFrom, IsMapped, KeepsKinds, GoesOver, MappedIsShown}
 use Rattle.zarrs_node.proofs.Kept.{reached_between}
 
@@ -136,7 +136,7 @@ mapped_is_shown f kinds S T v w b good over names = record {
       (λ d.
       let listed = listed_back f kinds (meaning S v) (meaning T w) b (λ p r. over p (inr r)) d.1.0 d.1.2 in
       let below = names d.0 (d.1.0, d.1.1, listed, d.1.3, d.1.4, d.1.5, d.1.6) in
-      good (inr (d.0, (d.1.0, d.1.1, listed, d.1.3, subst (HasBelow S) d.1.5 below, d.1.5, d.1.6))))
+      good (inr (d.0, (d.1.0, d.1.1, listed, d.1.3, subst (HasBelow S.values) d.1.5 below, d.1.5, d.1.6))))
       h;
 }
   where

@@ -9,9 +9,9 @@ use Rattle.zarrs_store.specs.declared.storage_error.StorageError.TheVariants.{Fa
 use Rattle.zarrs_path.specs.Paths.{Path}
 use Rattle.zarrs_path.specs.Keys.{zarr_json, zarray, zgroup}
 use Rattle.zarrs_form.specs.Documents.{of_bytes}
-use Rattle.zarrs_meta.specs.ArrayV2.{array_v2_of}
-use Rattle.zarrs_meta.specs.GroupV2.{group_v2_of}
-use Rattle.zarrs_meta.specs.Node.{zarr_json_of, array_with, group_with}
+use Rattle.zarrs_meta.specs.ArrayV2.{array_v2_in}
+use Rattle.zarrs_meta.specs.GroupV2.{group_v2_in}
+use Rattle.zarrs_meta.specs.Node.{zarr_json_in, array_with, group_with}
 use Rattle.zarrs_meta.specs.declared.array_v2.ArrayMetadataV2.{ArrayMetadataV2}
 use Rattle.zarrs_meta.specs.declared.group_v2.GroupMetadataV2.{GroupMetadataV2}
 use Rattle.zarrs_meta.specs.declared.attributes.AttributesDocument.{AttributesDocument}
@@ -35,7 +35,7 @@ none_of (Some x) h = absurd (h x refl)
 
 module _ {D : Type 0} (reading : List ℕ → Result D MetadataFault) (s : Contents) (k : Segments) where
   -- an absent key has no document
-  pub document_none : None ≡ get s k → document_at reading s k ≡ Ok None
+  pub document_none : None ≡ get s.values k → document_at reading s.values k ≡ Ok None
   unfolding document_at
   document_none absent = ap (document_from reading k) (sym absent)
 
@@ -48,38 +48,38 @@ reading_refused can_fail reading OutOfMemory refused = inl tt
 
 module _ (s : Contents) (p : Path) (k : Segments) where
   -- what `zarr.json` says, by the document at its key
-  pub zarr_json_line_is : k ≡ p ++ zarr_json ∷ [] → (r : Result (Option ZarrJson) StorageError) → document_at (of_bytes zarr_json_of) s k ≡ r → (after : Meaning) → zarr_json_line in_bytes s p after ≡ version_3_line r after
+  pub zarr_json_line_is : k ≡ p ++ zarr_json ∷ [] → (r : Result (Option ZarrJson) StorageError) → document_at (of_bytes (zarr_json_in s.numbers)) s.values k ≡ r → (after : Meaning) → zarr_json_line (in_bytes s.numbers) s.values p after ≡ version_3_line r after
   unfolding zarr_json_line
-  zarr_json_line_is is r e after = ap (λ x. version_3_line x after) (ap (document_at (of_bytes zarr_json_of) s) (sym is) ∙ e)
+  zarr_json_line_is is r e after = ap (λ x. version_3_line x after) (ap (document_at (of_bytes (zarr_json_in s.numbers)) s.values) (sym is) ∙ e)
 
   -- what `.zarray` says, by the documents at its key and at that of the attributes
-  pub zarray_line_is : k ≡ p ++ zarray ∷ [] → (r : Result (Option ArrayMetadataV2) StorageError) → document_at (of_bytes array_v2_of) s k ≡ r
-      → (z : Result (Option AttributesDocument) StorageError) → attributes_at s p ≡ z → (after : Meaning) → zarray_line in_bytes s p after ≡ version_2_line (λ m. Array (array_v2 m)) array_with r z after
+  pub zarray_line_is : k ≡ p ++ zarray ∷ [] → (r : Result (Option ArrayMetadataV2) StorageError) → document_at (of_bytes (array_v2_in s.numbers)) s.values k ≡ r
+      → (z : Result (Option AttributesDocument) StorageError) → attributes_at s p ≡ z → (after : Meaning) → zarray_line (in_bytes s.numbers) s.values p after ≡ version_2_line (λ m. Array (array_v2 m)) array_with r z after
   unfolding zarray_line
   zarray_line_is is r e z f after =
-      ap (λ x. version_2_line (λ m. Array (array_v2 m)) array_with x (attributes_at s p) after) (ap (document_at (of_bytes array_v2_of) s) (sym is) ∙ e)
+      ap (λ x. version_2_line (λ m. Array (array_v2 m)) array_with x (attributes_at s p) after) (ap (document_at (of_bytes (array_v2_in s.numbers)) s.values) (sym is) ∙ e)
       ∙ ap (λ x. version_2_line (λ m. Array (array_v2 m)) array_with r x after) f
 
   -- what `.zgroup` says, by the documents at its key and at that of the attributes
-  pub zgroup_line_is : k ≡ p ++ zgroup ∷ [] → (r : Result (Option GroupMetadataV2) StorageError) → document_at (of_bytes group_v2_of) s k ≡ r
-      → (z : Result (Option AttributesDocument) StorageError) → attributes_at s p ≡ z → (after : Meaning) → zgroup_line in_bytes s p after ≡ version_2_line (λ m. Group (group_v2 m)) group_with r z after
+  pub zgroup_line_is : k ≡ p ++ zgroup ∷ [] → (r : Result (Option GroupMetadataV2) StorageError) → document_at (of_bytes (group_v2_in s.numbers)) s.values k ≡ r
+      → (z : Result (Option AttributesDocument) StorageError) → attributes_at s p ≡ z → (after : Meaning) → zgroup_line (in_bytes s.numbers) s.values p after ≡ version_2_line (λ m. Group (group_v2 m)) group_with r z after
   unfolding zgroup_line
   zgroup_line_is is r e z f after =
-      ap (λ x. version_2_line (λ m. Group (group_v2 m)) group_with x (attributes_at s p) after) (ap (document_at (of_bytes group_v2_of) s) (sym is) ∙ e)
+      ap (λ x. version_2_line (λ m. Group (group_v2 m)) group_with x (attributes_at s p) after) (ap (document_at (of_bytes (group_v2_in s.numbers)) s.values) (sym is) ∙ e)
       ∙ ap (λ x. version_2_line (λ m. Group (group_v2 m)) group_with r x after) f
 
 -- the version Default asks all documents
-pub default_is : (s : Contents) (p : Path) → meaning s Default p ≡ zarr_json_line in_bytes s p (zarray_line in_bytes s p (zgroup_line in_bytes s p nothing))
+pub default_is : (s : Contents) (p : Path) → meaning s Default p ≡ zarr_json_line (in_bytes s.numbers) s.values p (zarray_line (in_bytes s.numbers) s.values p (zgroup_line (in_bytes s.numbers) s.values p nothing))
 unfolding meaning_in
 default_is s p = refl
 
 -- the version V3 asks `zarr.json` alone
-pub v3_is : (s : Contents) (p : Path) → meaning s V3 p ≡ zarr_json_line in_bytes s p nothing
+pub v3_is : (s : Contents) (p : Path) → meaning s V3 p ≡ zarr_json_line (in_bytes s.numbers) s.values p nothing
 unfolding meaning_in
 v3_is s p = refl
 
 -- the version V2 asks `.zarray` and `.zgroup`
-pub v2_is : (s : Contents) (p : Path) → meaning s V2 p ≡ zarray_line in_bytes s p (zgroup_line in_bytes s p nothing)
+pub v2_is : (s : Contents) (p : Path) → meaning s V2 p ≡ zarray_line (in_bytes s.numbers) s.values p (zgroup_line (in_bytes s.numbers) s.values p nothing)
 unfolding meaning_in
 v2_is s p = refl
 

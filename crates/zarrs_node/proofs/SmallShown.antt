@@ -8,14 +8,15 @@ use Rattle.std.proofs.lemmas.List.Folds.{list_all-append}
 use Rattle.serde_json.specs.Data.{Data, Members}
 use Rattle.zarrs_store.specs.Segments.{Segments, key_cmp, is_nonempty, has_no_slash, is_reserved}
 use Rattle.zarrs_store.specs.Contents.{HasBelow}
+use Rattle.zarrs_fault.specs.declared.numbers.Numbers.{Numbers}
 use Rattle.zarrs_path.specs.Names.{is_name, is_all_periods}
 use Rattle.zarrs_path.specs.Paths.{Path, IsPath, IsBelow}
 use Rattle.zarrs_path.proofs.NameLemmas.{name_head}
 use Rattle.zarrs_meta.specs.declared.node.NodeMetadata.{NodeMetadata}
 use Rattle.zarrs_block.specs.Block.{Block, Entries, IsBlockOf}
 use Rattle.zarrs_block.specs.Meaning.{Means, node, bad}
-use Rattle.zarrs_block.specs.Small.{small_meaning, small, counted_members}
-use Rattle.zarrs_block.specs.Zmetadata.{HoldsStore, IsClean, before_last}
+use Rattle.zarrs_block.specs.Small.{small_meaning_in, small, counted_members}
+use Rattle.zarrs_block.specs.Zmetadata.{HoldsStoreIn, IsCleanIn, before_last}
 use Rattle.zarrs_block.proofs.SmallStores.{as_read, before_last-child, same_key, get_based, based_read}
 use Rattle.zarrs_block.proofs.SmallBlocks.{document_or_none, store_law}
 use Rattle.zarrs_node.specs.Small.{SmallBad, ShowsSmall, ZmetadataShows}
@@ -56,14 +57,14 @@ middle_name gs n first rest path =
 
 -- ---- below a base
 
-module _ (b : Path) (ms : Members) (clean : IsClean ms) where
+module _ (numbers : Numbers) (b : Path) (ms : Members) (clean : IsCleanIn numbers ms) where
   -- a path below the base that means a node is of names
-  small_path : (n : List ℕ) (ns : Path) (m : NodeMetadata) → small_meaning (small b ms) (b ++ n ∷ ns) ≡ node m → IsPath (n ∷ ns)
+  small_path : (n : List ℕ) (ns : Path) (m : NodeMetadata) → small_meaning_in numbers (small b ms) (b ++ n ∷ ns) ≡ node m → IsPath (n ∷ ns)
   small_path n ns m is =
       ⊎_elim
       (λ has. subst IsPath (before_last-child (n ∷ ns) has.0) (found_named (counted_members ms) ((n ∷ ns) ++ has.0 ∷ []) has.1 clean.named has.2))
-      (λ empty. let both : Some (Some m) ≡ Some None = sym (ap as_read is) ∙ based_read b (n ∷ ns) ms ∙ empty in cc)
-      (document_or_none ms (n ∷ ns))
+      (λ empty. let both : Some (Some m) ≡ Some None = sym (ap as_read is) ∙ based_read numbers b (n ∷ ns) ms ∙ empty in cc)
+      (document_or_none numbers ms (n ∷ ns))
 
   -- a key behind the base and other segments has a name among them, where two follow
   key_named : (gs : Segments) (n first : List ℕ) (rest : Segments) → IsTrue (is_some (find key_cmp (gs ++ n ∷ first ∷ rest) (counted_members ms))) → IsTrue (is_name n)
@@ -83,10 +84,10 @@ module _ (b : Path) (ms : Members) (clean : IsClean ms) where
       not_periods n (key_named gs n h.0 h.1 found) periods
 
   -- nothing below the base is bad
-  small_clean : SmallBad (small b ms) b → ⊥
+  small_clean : SmallBad numbers (small b ms) b → ⊥
   small_clean (inl h) =
       let low = h.1.1.below in
-      clean.means b low.0 low.1 h.0 (subst (λ q. small_meaning (small b ms) q ≡ bad h.0) low.2 h.1.2)
+      clean.means b low.0 low.1 h.0 (subst (λ q. small_meaning_in numbers (small b ms) q ≡ bad h.0) low.2 h.1.2)
   small_clean (inr h) =
       let name = h.1 in
       ⊎_elim
@@ -96,14 +97,14 @@ module _ (b : Path) (ms : Members) (clean : IsClean ms) where
       no_periods (low.0 ∷ low.1) name.1 name.3 (subst (λ q. HasBelow (small b ms) (q ++ name.1 ∷ [])) low.2 name.4))
       name.2
 
-  module _ (B : Block) (holds : HoldsStore ms B) where
+  module _ (B : Block) (holds : HoldsStoreIn numbers ms B) where
     -- the pairs below the base that the small store means
     abbrev BelowBase : Path × NodeMetadata → Type 0
-    BelowBase e = Means (small_meaning (small b ms)) e × IsBelow b e.0
+    BelowBase e = Means (small_meaning_in numbers (small b ms)) e × IsBelow b e.0
 
     -- each is the base and names
     below_named : (e : Path × NodeMetadata) → BelowBase e → (n : List ℕ) × (ns : Path) × (e.0 ≡ b ++ n ∷ ns) × IsPath (n ∷ ns)
-    below_named e h = (h.1.0, h.1.1, h.1.2, small_path h.1.0 h.1.1 e.1 (subst (λ p. small_meaning (small b ms) p ≡ node e.1) h.1.2 h.0))
+    below_named e h = (h.1.0, h.1.1, h.1.2, small_path h.1.0 h.1.1 e.1 (subst (λ p. small_meaning_in numbers (small b ms) p ≡ node e.1) h.1.2 h.0))
 
     -- the block holds exactly these
     holds_below : IsBlockOf BelowBase b B
@@ -113,11 +114,11 @@ module _ (b : Path) (ms : Members) (clean : IsClean ms) where
     )
 
     -- so it shows them
-    shows_small : ShowsSmall b (small b ms) B
+    shows_small : ShowsSmall numbers b (small b ms) B
     shows_small = record {
       clean = small_clean;
       valid = keys_valid BelowBase b B below_named holds_below;
-      kept = kept_same (Entries B b) (Means (small_meaning (small b ms))) true b (λ e low. (
+      kept = kept_same (Entries B b) (Means (small_meaning_in numbers (small b ms))) true b (λ e low. (
         λ h. ((entries_are BelowBase b B below_named holds_below e).0 h).0,
         λ h. (entries_are BelowBase b B below_named holds_below e).1 (h, low),
       ));
@@ -125,4 +126,4 @@ module _ (b : Path) (ms : Members) (clean : IsClean ms) where
 
 -- the block that a document is shows what a listing would find in its small store
 pub zmetadata_shows : ZmetadataShows
-zmetadata_shows d B is = let law = store_law d B is in (law.0, law.1, λ b. shows_small b law.0 law.3 B law.2)
+zmetadata_shows numbers d B is = let law = store_law numbers d B is in (law.0, law.1, λ b. shows_small numbers b law.0 law.3 B law.2)

@@ -51,7 +51,7 @@ left_none len ps qs e f g = e ∙ append-nil qs ∙ f ∙ ap (λ n. take (n - 1)
 
 module _ (s : Contents) (v : MetadataRetrieveVersion) (r : Bool) (b : Path) where
   -- before the first prefix is read
-  pub has_started : IsPath b → (cs : List Segments) → AreVisibleChildren s b cs → (xs : List Pair) (ig : List Path) (fs : List PathFault) (ps : List Path) → xs ≡ [] → ig ≡ [] → fs ≡ [] → ps ≡ [] ++ reverse cs → HasWalked s v r b xs ig fs ps
+  pub has_started : IsPath b → (cs : List Segments) → AreVisibleChildren s.values b cs → (xs : List Pair) (ig : List Path) (fs : List PathFault) (ps : List Path) → xs ≡ [] → ig ≡ [] → fs ≡ [] → ps ≡ [] ++ reverse cs → HasWalked s v r b xs ig fs ps
   has_started valid cs h xs ig fs ps e f k g = rw (f, k, g) (record { trees = none; walk = walked_start s v r b valid cs h; are = e })
 
   module _ (xs : List Pair) (ig : List Path) (fs : List PathFault) (ps : List Path) (e : ps ≡ []) (h : HasWalked s v r b xs ig fs ps) where
@@ -92,7 +92,7 @@ module _ (s : Contents) (v : MetadataRetrieveVersion) (r : Bool) (b : Path) wher
         })
 
     -- a turn at a group below which it goes on
-    pub turn_deeper : IsPath c → (o : Option NodeMetadata) → Finds can_fail (Ok o) (meaning s v c) → r ≡ true → true ≡ is_group_found o → (cs : List Segments) → AreVisibleChildren s c cs → (qs : List Path) → qs ≡ ps ++ reverse cs
+    pub turn_deeper : IsPath c → (o : Option NodeMetadata) → Finds can_fail (Ok o) (meaning s v c) → r ≡ true → true ≡ is_group_found o → (cs : List Segments) → AreVisibleChildren s.values c cs → (qs : List Path) → qs ≡ ps ++ reverse cs
         → ys ≡ xs ++ own_node c o → jg ≡ ig ++ paths_passed c o [] → HasWalked s v r b ys jg fs qs
     turn_deeper valid None means deep group cs children qs g e f = absurd (true≢false group)
     turn_deeper valid (Some m) means deep group cs children qs g e f =
@@ -121,14 +121,14 @@ module _ (s : Contents) (v : MetadataRetrieveVersion) (r : Bool) (b : Path) wher
     listed_above = ⊎_elim inl (λ o. let n = h.walk.nodes (next.parent, o.1) o.2 in inr (n.0, (o.0, (o.1, n.1, o.3)))) next.opened
 
     -- where it is no path its last name is made of periods
-    bad_name : IsPath b → IsPrefix c → (IsPath c → ⊥) → IsBadName (meaning s v) (HasBelow s) r b c
+    bad_name : IsPath b → IsPrefix c → (IsPath c → ⊥) → IsBadName (meaning s v) (HasBelow s.values) r b c
     bad_name valid segments unnamed = (
       next.parent,
       next.name,
       listed_above,
       periods_from next.name segment next.visible
           (λ is_name. unnamed (subst IsPath (sym next.is) (IsPath-append next.parent (next.name ∷ []) (above_valid valid) (name_one next.name is_name)))),
-      subst (HasBelow s) next.is next.below,
+      subst (HasBelow s.values) next.is next.below,
       next.is,
       segment.nonempty,
     )
@@ -171,7 +171,7 @@ module _ (s : Contents) (v : MetadataRetrieveVersion) (r : Bool) (b : Path) wher
     behind q l = stands_less c q (all_pairs_last (λ x y. StandsBefore y x) ps c h.walk.order q l)
 
     -- a key stands below a prefix
-    below : HasBelow s c
+    below : HasBelow s.values c
     below = next.below
 
     -- a turn without children leaves fewer beginnings of keys ahead
@@ -179,11 +179,11 @@ module _ (s : Contents) (v : MetadataRetrieveVersion) (r : Bool) (b : Path) wher
     falls_alone old qs e f = subst (λ x. ahead s qs < ahead s x) (sym e) (subst (λ x. ahead s x < ahead s (ps ++ c ∷ [])) (sym f) (ahead_less s (ps ++ c ∷ []) ps c (Contains-push ps c) below behind))
 
     -- and so does a turn with children
-    pub falls_deeper : (cs : List Segments) → AreVisibleChildren s c cs → (old qs : List Path) → old ≡ ps ++ c ∷ [] → qs ≡ ps ++ reverse cs → ahead s qs < ahead s old
+    pub falls_deeper : (cs : List Segments) → AreVisibleChildren s.values c cs → (old qs : List Path) → old ≡ ps ++ c ∷ [] → qs ≡ ps ++ reverse cs → ahead s qs < ahead s old
     falls_deeper cs children old qs e f = subst (λ x. ahead s qs < ahead s x) (sym e) (subst (λ x. ahead s x < ahead s (ps ++ c ∷ [])) (sym f)
         (ahead_less s (ps ++ c ∷ []) (ps ++ reverse cs) c (Contains-push ps c) below
         (λ q l. ⊎_elim (behind q)
         (λ in'. let at = turned_in cs q in' in
-        let child = subst (IsVisibleChild s c) at.2 (children.sound at.0 q at.1) in
+        let child = subst (IsVisibleChild s.values c) at.2 (children.sound at.0 q at.1) in
         subst (λ x. path_cmp c x ≡ Less) (sym child.is) (name_less c child.name))
         (Contains-append_cases ps (reverse cs) q l))))

@@ -1,5 +1,5 @@
 -- What the version of a node's metadata says of the documents that it comes from.
-use Rattle.std.proofs.Common.{◌≡◌, ◌⊎◌, inl, inr, ◌==◌, ℕ, Bool, true, false, true≢false, if◌then◌else◌, is_some, List, [], ◌∷◌, ◌++◌, Option, Some, None, Result, Ok, Err, refl, sym, ap, subst, ◌∙◌, codes}
+use Rattle.std.proofs.Common.{◌≡◌, ◌⊎◌, inl, inr, ◌==◌, ℕ, Bool, true, false, true≢false, if◌then◌else◌, List, [], ◌∷◌, ◌++◌, Option, Some, None, Result, Ok, Err, refl, sym, ap, subst, ◌∙◌, codes}
 use Rattle.std.specs.Prelude.{option_and_then}
 use Rattle.std.specs.Result.{is_ok}
 use Rattle.std.specs.FinMap.{get}
@@ -7,17 +7,19 @@ use Rattle.std.proofs.lemmas.Bool.{eqb-true}
 use Rattle.serde_json.specs.Data.{Data}
 use Rattle.serde_json.specs.Find as find
 use Rattle.serde_json.specs.Find.{as_number, as_u64}
-use Rattle.zarrs_store.specs.Segments.{Segments}
-use Rattle.zarrs_store.specs.Contents.{Contents, HasKey}
+use Rattle.zarrs_store.specs.Contents.{Contents}
 use Rattle.zarrs_fault.specs.declared.fault.MetadataFault.{MetadataFault}
 use Rattle.zarrs_fault.specs.declared.fault.MetadataFault.TheVariants.{WrongFormat}
 use Rattle.zarrs_store.specs.declared.storage_error.StorageError.{StorageError}
 use Rattle.zarrs_path.specs.Paths.{Path}
 use Rattle.zarrs_path.specs.Keys.{zarr_json}
 use Rattle.zarrs_form.specs.Documents.{◌>>=◌, document_of, format_of, json_of, of_bytes, tree_or_fault}
+use Rattle.zarrs_fault.specs.declared.numbers.Numbers.{Numbers}
+use Rattle.zarrs_fault.specs.declared.numbers.Numbers.TheVariants.{Whole}
+use Rattle.zarrs_meta.proofs.MoreNumbers.{zarr_json_too}
 use Rattle.zarrs_meta.specs.ArrayV2.{array_v2_of}
 use Rattle.zarrs_meta.specs.GroupV2.{group_v2_of}
-use Rattle.zarrs_meta.specs.Node.{has_format, node_of, node_v2_of, node_v3_of, zarr_json_of, array_with, group_with}
+use Rattle.zarrs_meta.specs.Node.{node_in, zarr_json_in, has_format, node_of, node_v2_in, node_v3_in, zarr_json_of, array_with, group_with}
 use Rattle.zarrs_meta.specs.NodeDocuments.{ReadsAs, is_version_3}
 use Rattle.zarrs_meta.specs.declared.array_v2.ArrayMetadataV2.{ArrayMetadataV2}
 use Rattle.zarrs_meta.specs.declared.group_v2.GroupMetadataV2.{GroupMetadataV2}
@@ -30,7 +32,7 @@ use Rattle.zarrs_meta.specs.declared.node.ZarrJson.{ZarrJson}
 use Rattle.zarrs_meta.specs.declared.node.ZarrJson.TheVariants.{Node as node_json, Version2}
 use Rattle.zarrs_config.specs.declared.version.MetadataRetrieveVersion.TheVariants.{Default, V3}
 use Rattle.zarrs_block.specs.declared.node_create_error.NodeCreateError.{NodeCreateError}
-use Rattle.zarrs_block.specs.Meaning.{in_bytes, Meaning, meaning, node, nothing, bad, document_or_fault, document_from, document_at, attributes_at, version_3_line, version_2_line, zarr_json_line, zarray_line, zgroup_line}
+use Rattle.zarrs_block.specs.Meaning.{in_bytes, Meaning, meaning, node, nothing, bad, document_or_fault, document_from, document_at, version_3_line, version_2_line, zarray_line, zgroup_line}
 use Rattle.zarrs_node.proofs.Meanings.{zarr_json_line_is, zarray_line_is, zgroup_line_is, default_is, v3_is}
 use Rattle.zarrs_node.proofs.MapsShown.{same_node}
 
@@ -71,7 +73,7 @@ two_by false r (Ok x) m e = ap is_version_3 (sym (same_ok (Group (group_v2 x)) m
 two_by false r (Err x) m e = cc
 
 -- metadata of version 3 are read of what has format 3
-three_by : (t u : Bool) (d : Data) (m : NodeMetadata) → (if t then node_v3_of d else (if u then node_v2_of d else Err WrongFormat)) ≡ Ok m → is_version_3 m ≡ true → t ≡ true
+three_by : (t u : Bool) (d : Data) (m : NodeMetadata) → (if t then node_v3_in Whole d else (if u then node_v2_in Whole d else Err WrongFormat)) ≡ Ok m → is_version_3 m ≡ true → t ≡ true
 three_by true u d m e v = refl
 three_by false true d m e v = absurd (true≢false (sym v ∙ two_by _ (array_v2_of d) (group_v2_of d) m e))
 three_by false false d m e v = cc
@@ -93,7 +95,7 @@ first_ok (Err f) s x e = cc
 
 -- metadata of version 3 that are read as a node are read so at `zarr.json`
 at_zarr_json : (d : Data) (m : NodeMetadata) → node_of d ≡ Ok m → is_version_3 m ≡ true → zarr_json_of d ≡ Ok (node_json m)
-unfolding zarr_json_of node_of
+unfolding zarr_json_in node_in
 at_zarr_json d m e v =
     let own = ok_of (document_of d) _ m e in
     let three : has_format 3 d ≡ true = three_by (has_format 3 d) (has_format 2 d) d m own v in
@@ -103,19 +105,19 @@ at_zarr_json d m e v =
     ∙ ap (λ r. r >>= (λ x. Ok (node_json x))) e
 
 -- so are bytes
-tree_at : (o : Option Data) (m : NodeMetadata) → tree_or_fault o >>= node_of ≡ Ok m → is_version_3 m ≡ true → tree_or_fault o >>= zarr_json_of ≡ Ok (node_json m)
-tree_at None m e v = cc
-tree_at (Some d) m e v = at_zarr_json d m e v
+tree_at : (numbers : Numbers) (o : Option Data) (m : NodeMetadata) → tree_or_fault o >>= node_of ≡ Ok m → is_version_3 m ≡ true → tree_or_fault o >>= zarr_json_in numbers ≡ Ok (node_json m)
+tree_at numbers None m e v = cc
+tree_at numbers (Some d) m e v = zarr_json_too numbers d (node_json m) (at_zarr_json d m e v)
 
 -- ---- meanings
 
-module _ (T : Contents) (p : Path) (bytes : List ℕ) (m : NodeMetadata) (here : get T (p ++ zarr_json ∷ []) ≡ Some bytes) (reads : ReadsAs bytes m) (three : is_version_3 m ≡ true) where
+module _ (T : Contents) (p : Path) (bytes : List ℕ) (m : NodeMetadata) (here : get T.values (p ++ zarr_json ∷ []) ≡ Some bytes) (reads : ReadsAs bytes m) (three : is_version_3 m ≡ true) where
   -- the document at `zarr.json` is that of the metadata
-  document_is : document_at (of_bytes zarr_json_of) T (p ++ zarr_json ∷ []) ≡ Ok (Some (node_json m))
+  document_is : document_at (of_bytes (zarr_json_in T.numbers)) T.values (p ++ zarr_json ∷ []) ≡ Ok (Some (node_json m))
   unfolding document_at
   document_is =
-      ap (document_from (of_bytes zarr_json_of) (p ++ zarr_json ∷ [])) here
-      ∙ ap (document_or_fault (p ++ zarr_json ∷ [])) (tree_at (json_of bytes) m reads three)
+      ap (document_from (of_bytes (zarr_json_in T.numbers)) (p ++ zarr_json ∷ [])) here
+      ∙ ap (document_or_fault (p ++ zarr_json ∷ [])) (tree_at T.numbers (json_of bytes) m reads three)
 
   -- so is what the path means
   pub set_v3 : meaning T V3 p ≡ node m
@@ -135,11 +137,11 @@ line_2 kind two with (Ok (Some d)) (Err x) after m h e = cc
 line_2 kind two with (Err x) z after m h e = cc
 
 -- so do all documents of version 2
-lines_2 : (s : Contents) (p : Path) (m : NodeMetadata) → zarray_line in_bytes s p (zgroup_line in_bytes s p nothing) ≡ node m → is_version_3 m ≡ false
+lines_2 : (s : Contents) (p : Path) (m : NodeMetadata) → zarray_line (in_bytes s.numbers) s.values p (zgroup_line (in_bytes s.numbers) s.values p nothing) ≡ node m → is_version_3 m ≡ false
 lines_2 s p m e =
-    line_2 (λ x. Array (array_v2 x)) (λ d. refl) array_with _ _ (zgroup_line in_bytes s p nothing) m
+    line_2 (λ x. Array (array_v2 x)) (λ d. refl) array_with _ _ (zgroup_line (in_bytes s.numbers) s.values p nothing) m
     (λ g. line_2 (λ x. Group (group_v2 x)) (λ d. refl) group_with _ _ nothing m (λ n. cc) (sym (zgroup_line_is s p _ refl _ refl _ refl nothing) ∙ g))
-    (sym (zarray_line_is s p _ refl _ refl _ refl (zgroup_line in_bytes s p nothing)) ∙ e)
+    (sym (zarray_line_is s p _ refl _ refl _ refl (zgroup_line (in_bytes s.numbers) s.values p nothing)) ∙ e)
 
 -- what `zarr.json` says where the other documents say nothing of version 3
 line_3 : (r : Result (Option ZarrJson) StorageError) (after : Meaning) (m : NodeMetadata) → (after ≡ node m → is_version_3 m ≡ false) → is_version_3 m ≡ true → version_3_line r after ≡ node m → version_3_line r nothing ≡ node m
@@ -167,15 +169,15 @@ module _ (s : Contents) (p : Path) where
   pub three_alone : (m : NodeMetadata) → is_version_3 m ≡ true → meaning s Default p ≡ node m → meaning s V3 p ≡ node m
   three_alone m v e =
       v3_is s p ∙ zarr_json_line_is s p _ refl _ refl nothing
-      ∙ line_3 _ (zarray_line in_bytes s p (zgroup_line in_bytes s p nothing)) m (lines_2 s p m) v (sym (zarr_json_line_is s p _ refl _ refl _) ∙ sym (default_is s p) ∙ e)
+      ∙ line_3 _ (zarray_line (in_bytes s.numbers) s.values p (zgroup_line (in_bytes s.numbers) s.values p nothing)) m (lines_2 s p m) v (sym (zarr_json_line_is s p _ refl _ refl _) ∙ sym (default_is s p) ∙ e)
 
   -- what means nothing by default means nothing by version 3
   pub nothing_alone : meaning s Default p ≡ nothing → meaning s V3 p ≡ nothing
   nothing_alone e =
       v3_is s p ∙ zarr_json_line_is s p _ refl _ refl nothing
-      ∙ line_nothing _ (zarray_line in_bytes s p (zgroup_line in_bytes s p nothing)) (sym (zarr_json_line_is s p _ refl _ refl _) ∙ sym (default_is s p) ∙ e)
+      ∙ line_nothing _ (zarray_line (in_bytes s.numbers) s.values p (zgroup_line (in_bytes s.numbers) s.values p nothing)) (sym (zarr_json_line_is s p _ refl _ refl _) ∙ sym (default_is s p) ∙ e)
 
   -- what is bad by default is bad by version 3 with the same refusal, or means nothing
   pub bad_alone : (x : NodeCreateError) → meaning s Default p ≡ bad x → (meaning s V3 p ≡ bad x) ⊎ (meaning s V3 p ≡ nothing)
   bad_alone x e = subst (λ y. (y ≡ bad x) ⊎ (y ≡ nothing)) (sym (v3_is s p ∙ zarr_json_line_is s p _ refl _ refl nothing))
-      (line_bad _ (zarray_line in_bytes s p (zgroup_line in_bytes s p nothing)) x (sym (zarr_json_line_is s p _ refl _ refl _) ∙ sym (default_is s p) ∙ e))
+      (line_bad _ (zarray_line (in_bytes s.numbers) s.values p (zgroup_line (in_bytes s.numbers) s.values p nothing)) x (sym (zarr_json_line_is s p _ refl _ refl _) ∙ sym (default_is s p) ∙ e))

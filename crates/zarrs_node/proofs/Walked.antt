@@ -90,7 +90,7 @@ module _ (s : Contents) (v : MetadataRetrieveVersion) (r : Bool) (b : Path) wher
     pub is : q ≡ parent ++ name ∷ []
     pub opened : IsOpened f parent
     pub visible : IsFalse (is_reserved name)
-    pub below : HasBelow s q
+    pub below : HasBelow s.values q
 
   -- p is what a prefix that is still to be read leads to
   abbrev pub IsAhead : List Path → Path → Type 0
@@ -118,12 +118,12 @@ module _ (s : Contents) (v : MetadataRetrieveVersion) (r : Bool) (b : Path) wher
     pub behind : (e : Pair) → Contains (pairs f) e → (q : Path) → Contains ps q → path_cmp e.0 q ≡ Less
     pub passed_behind : (p : Path) → Contains ig p → (q : Path) → Contains ps q → path_cmp p q ≡ Less
     pub faults_behind : (d : PathFault) → Contains fs d → (q : Path) → Contains ps q → path_cmp d.0 q ≡ Less
-    pub covers : (p : Path) → Reached (MeansNode s v) r b p → HasBelow s p → IsDone f ig fs p ⊎ IsAhead ps p
-    pub names : (g : Path) (n : List ℕ) → IsListed (meaning s v) r b g → IsTrue (is_all_periods n) → HasBelow s (g ++ n ∷ []) → IsNamed fs ps g n
+    pub covers : (p : Path) → Reached (MeansNode s v) r b p → HasBelow s.values p → IsDone f ig fs p ⊎ IsAhead ps p
+    pub names : (g : Path) (n : List ℕ) → IsListed (meaning s v) r b g → IsTrue (is_all_periods n) → HasBelow s.values (g ++ n ∷ []) → IsNamed fs ps g n
 
   -- where a key stands below g and one name, one stands below g
-  below_shorter : (g : Path) (n : List ℕ) → HasBelow s (g ++ n ∷ []) → HasBelow s g
-  below_shorter g n (m, ms, there) = (n, m ∷ ms, subst (HasKey s) (append_assoc g (n ∷ []) (m ∷ ms)) there)
+  below_shorter : (g : Path) (n : List ℕ) → HasBelow s.values (g ++ n ∷ []) → HasBelow s.values g
+  below_shorter g n (m, ms, there) = (n, m ∷ ms, subst (HasKey s.values) (append_assoc g (n ∷ []) (m ∷ ms)) there)
 
   -- a reached path that is listed is one below which the listing goes on
   listed_opens : (g : Path) → Reached (MeansNode s v) r b g → IsListed (meaning s v) r b g → Opens (MeansNode s v) r g
@@ -131,14 +131,14 @@ module _ (s : Contents) (v : MetadataRetrieveVersion) (r : Bool) (b : Path) wher
 
   -- ---- the children of one prefix
 
-  module _ (g : Path) (cs : List Segments) (h : AreVisibleChildren s g cs) where
+  module _ (g : Path) (cs : List Segments) (h : AreVisibleChildren s.values g cs) where
     -- a name below g that is visible and has a key below it is discovered
-    child_there : (n : List ℕ) → IsFalse (is_reserved n) → HasBelow s (g ++ n ∷ []) → Contains (reverse cs) (g ++ n ∷ [])
+    child_there : (n : List ℕ) → IsFalse (is_reserved n) → HasBelow s.values (g ++ n ∷ []) → Contains (reverse cs) (g ++ n ∷ [])
     child_there n visible (next, rest, held) =
-        in_turned cs (g ++ n ∷ []) (h.complete (g ++ n ∷ []) (record { name = n; is = refl; has = record { next = next; rest = rest; held = subst (HasKey s) (append_assoc g (n ∷ []) (next ∷ rest)) held }; visible = visible }))
+        in_turned cs (g ++ n ∷ []) (h.complete (g ++ n ∷ []) (record { name = n; is = refl; has = record { next = next; rest = rest; held = subst (HasKey s.values) (append_assoc g (n ∷ []) (next ∷ rest)) held }; visible = visible }))
 
     -- what is reached below g and has a key below it is ahead of a child
-    child_ahead : (p : Path) → Reached (MeansNode s v) r g p → HasBelow s p → IsAhead (reverse cs) p
+    child_ahead : (p : Path) → Reached (MeansNode s v) r g p → HasBelow s.values p → IsAhead (reverse cs) p
     child_ahead p reached below =
         let (n, name, t) = reached_first (MeansNode s v) r g p reached in
         (g ++ n ∷ [], child_there n (name_not_reserved n name) (below_through s v r (g ++ n ∷ []) p t below), t)
@@ -147,20 +147,20 @@ module _ (s : Contents) (v : MetadataRetrieveVersion) (r : Bool) (b : Path) wher
     child_pending : (f : Forest) → IsOpened f g → (q : Path) → Contains (reverse cs) q → IsPending f q × ((n : List ℕ) × (q ≡ g ++ n ∷ []))
     child_pending f opened q in' =
         let at = turned_in cs q in' in
-        let c = subst (IsVisibleChild s g) at.2 (h.sound at.0 q at.1) in (
+        let c = subst (IsVisibleChild s.values g) at.2 (h.sound at.0 q at.1) in (
           record {
             parent = g;
             name = c.name;
             is = c.is;
             opened = opened;
             visible = c.visible;
-            below = (c.has.next, c.has.rest, subst (HasKey s) (sym (append_assoc g (c.name ∷ []) (c.has.next ∷ c.has.rest)) ∙ ap (λ x. x ++ c.has.next ∷ c.has.rest) (sym c.is)) c.has.held);
+            below = (c.has.next, c.has.rest, subst (HasKey s.values) (sym (append_assoc g (c.name ∷ []) (c.has.next ∷ c.has.rest)) ∙ ap (λ x. x ++ c.has.next ∷ c.has.rest) (sym c.is)) c.has.held);
           },
           (c.name, c.is),
         )
 
   -- before the first prefix is read the children of the base are ahead
-  pub walked_start : IsPath b → (cs : List Segments) → AreVisibleChildren s b cs → Walked none [] [] (reverse cs)
+  pub walked_start : IsPath b → (cs : List Segments) → AreVisibleChildren s.values b cs → Walked none [] [] (reverse cs)
   walked_start valid cs h = record {
     valid = valid;
     placed = tt;
@@ -176,7 +176,7 @@ module _ (s : Contents) (v : MetadataRetrieveVersion) (r : Bool) (b : Path) wher
     faults_behind = λ d l q m. absurd (omega (arith, l.1));
     covers = λ p reached below. inr (child_ahead b cs h p reached below);
     names = λ g n listed periods below. inl (⊎_elim
-        (λ same. (g ++ n ∷ [], subst (λ x. Contains (reverse cs) (x ++ n ∷ [])) (sym same) (child_there b cs h n (not_reserved n periods) (subst (λ x. HasBelow s (x ++ n ∷ [])) same below)), inl refl))
+        (λ same. (g ++ n ∷ [], subst (λ x. Contains (reverse cs) (x ++ n ∷ [])) (sym same) (child_there b cs h n (not_reserved n periods) (subst (λ x. HasBelow s.values (x ++ n ∷ [])) same below)), inl refl))
         (λ deep. let a = child_ahead b cs h g deep.0 (below_shorter g n below) in (a.0, a.1, inr a.2))
         listed);
   }
@@ -294,8 +294,8 @@ module _ (s : Contents) (v : MetadataRetrieveVersion) (r : Bool) (b : Path) wher
         (now_named : IsPath c ⊎ Contains fs' (c, Name))
         (children : (q : Path) → Contains ks q → IsPending f' q × ((n : List ℕ) × (q ≡ c ++ n ∷ [])))
         (stand : AllPairs (λ x y. StandsBefore y x) ks)
-        (deeper : IsPath c → Opens (MeansNode s v) r c → (p : Path) → Reached (MeansNode s v) r c p → HasBelow s p → IsAhead ks p)
-        (periods_there : IsPath c → Opens (MeansNode s v) r c → (n : List ℕ) → IsTrue (is_all_periods n) → HasBelow s (c ++ n ∷ []) → Contains ks (c ++ n ∷ [])) where
+        (deeper : IsPath c → Opens (MeansNode s v) r c → (p : Path) → Reached (MeansNode s v) r c p → HasBelow s.values p → IsAhead ks p)
+        (periods_there : IsPath c → Opens (MeansNode s v) r c → (n : List ℕ) → IsTrue (is_all_periods n) → HasBelow s.values (c ++ n ∷ []) → Contains ks (c ++ n ∷ [])) where
       -- what was pending still is
       still : (q : Path) → IsPending f q → IsPending f' q
       still q h = record {
@@ -317,14 +317,14 @@ module _ (s : Contents) (v : MetadataRetrieveVersion) (r : Bool) (b : Path) wher
           ⊎_elim (λ less. names_total.trans x c q less next) (λ same. subst (λ y. path_cmp y q ≡ Less) (sym same) next) at
 
       -- what leads below c leads to it by a child of c
-      deeper_ahead : (p q : Path) → IsPath p → HasBelow s p → c ≡ q → Opens (MeansNode s v) r q × Reached (MeansNode s v) r q p → IsAhead (ps ++ ks) p
+      deeper_ahead : (p q : Path) → IsPath p → HasBelow s.values p → c ≡ q → Opens (MeansNode s v) r q × Reached (MeansNode s v) r q p → IsAhead (ps ++ ks) p
       deeper_ahead p q path below same d =
           let reached = subst (λ x. Reached (MeansNode s v) r x p) (sym same) d.1 in
           let a = deeper (path_above (MeansNode s v) r c p reached path) (subst (Opens (MeansNode s v) r) (sym same) d.0) p reached below in
           (a.0, Contains-append_right ps ks a.0 a.1, a.2)
 
       -- what was ahead is done or still ahead
-      ahead_still : (p : Path) → IsPath p → HasBelow s p → IsAhead (ps ++ c ∷ []) p → IsDone f' ig' fs' p ⊎ IsAhead (ps ++ ks) p
+      ahead_still : (p : Path) → IsPath p → HasBelow s.values p → IsAhead (ps ++ c ∷ []) p → IsDone f' ig' fs' p ⊎ IsAhead (ps ++ ks) p
       ahead_still p path below (q, l, t) = ⊎_elim
           (λ in'. inr (q, Contains-append_left ps ks q in', t))
           (λ same. ⊎_elim
@@ -334,7 +334,7 @@ module _ (s : Contents) (v : MetadataRetrieveVersion) (r : Bool) (b : Path) wher
           (Contains-push_cases ps c q l)
 
       -- where a name of periods goes on below g, a prefix still leads to it, or it was told
-      names_still : (g : Path) (n : List ℕ) → IsListed (meaning s v) r b g → IsTrue (is_all_periods n) → HasBelow s (g ++ n ∷ []) → IsNamed fs' (ps ++ ks) g n
+      names_still : (g : Path) (n : List ℕ) → IsListed (meaning s v) r b g → IsTrue (is_all_periods n) → HasBelow s.values (g ++ n ∷ []) → IsNamed fs' (ps ++ ks) g n
       names_still g n listed periods below = ⊎_elim
           (λ x. let (q, l, at) = x in ⊎_elim
           (λ in'. inl (q, Contains-append_left ps ks q in', at))
@@ -345,7 +345,7 @@ module _ (s : Contents) (v : MetadataRetrieveVersion) (r : Bool) (b : Path) wher
           now_named)
           (λ t. ⊎_elim
           (λ e. let here = subst (IsListed (meaning s v) r b) (e ∙ sym same) listed in
-          let there = periods_there (listed_path c here) (listed_here here) n periods (subst (λ x. HasBelow s (x ++ n ∷ [])) (e ∙ sym same) below) in
+          let there = periods_there (listed_path c here) (listed_here here) n periods (subst (λ x. HasBelow s.values (x ++ n ∷ [])) (e ∙ sym same) below) in
           inl (c ++ n ∷ [], Contains-append_right ps ks (c ++ n ∷ []) there, inl (ap (λ x. x ++ n ∷ []) (same ∙ sym e))))
           (λ d. let a = deeper_ahead g q (listed_path g listed) (below_shorter g n below) same d in inl (a.0, a.1, inr a.2))
           t)
@@ -407,7 +407,7 @@ module _ (s : Contents) (v : MetadataRetrieveVersion) (r : Bool) (b : Path) wher
       node_told = subst (λ ys. Contains ys (c, m)) (sym a.are) (Contains-push (pairs f) (c, m))
 
       -- a turn at a group below which the walk goes on
-      pub walked_open : (cs : List Segments) → AreVisibleChildren s c cs → r ≡ true → true ≡ is_group m → Walked a.whole ig fs (ps ++ reverse cs)
+      pub walked_open : (cs : List Segments) → AreVisibleChildren s.values c cs → r ≡ true → true ≡ is_group m → Walked a.whole ig fs (ps ++ reverse cs)
       walked_open cs h deep group =
           walked_turn a.whole ig fs (reverse cs) a.placed node_old node_kept (λ p l. inl l) (λ p l. l) w.passed_ascend (λ d l. inl l) (λ d l. l) w.faults_ascend (λ path. inl (m, node_told)) (inl valid)
           (child_pending c cs h a.whole (inr (deep, m, node_told, sym group)))

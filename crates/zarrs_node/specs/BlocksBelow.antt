@@ -1,7 +1,7 @@
 -- Zarr core specification 3.1, "Group metadata", the field `consolidated_metadata`, and the document `.zmetadata` of version 2: what stands below a base, by the block that is used or, where none is used, by a listing.
 -- <https://zarr-specs.readthedocs.io/en/latest/v3/core/index.html#group-metadata>
 -- <https://zarr.readthedocs.io/en/stable/user-guide/consolidated_metadata/>
---     zmetadata_at s b      the block that the document `.zmetadata` of b is
+--     zmetadata_at s b      the block that the document `.zmetadata` of b is, whose numbers may be those of s
 --     HoldsZmetadata s b B      B holds the small store that this document is
 --     block_at s b m      the block that stands for the nodes below b, where there is one
 --     ExcusesBlock can_fail m policy e      why it was not found out
@@ -22,26 +22,26 @@ use Rattle.zarrs_config.specs.declared.version.MetadataRetrieveVersion.{Metadata
 use Rattle.zarrs_block.specs.Block.{Block, Entries, HasValidKeys}
 use Rattle.zarrs_config.specs.declared.version.UseConsolidatedMetadata.{UseConsolidatedMetadata}
 use Rattle.zarrs_config.specs.declared.version.UseConsolidatedMetadata.TheVariants.{Never}
-use Rattle.zarrs_block.specs.Policy.{block_in, LacksBlockMemory}
+use Rattle.zarrs_block.specs.Policy.{node_block, LacksBlockMemory}
 use Rattle.zarrs_block.specs.Refusals.{IsExcused}
-use Rattle.zarrs_block.specs.Zmetadata.{zmetadata_of, zmetadata_members, HoldsStore, IsClean}
+use Rattle.zarrs_block.specs.Zmetadata.{zmetadata_in, zmetadata_members_in, HoldsStoreIn, IsCleanIn}
 use Rattle.zarrs_block.specs.BlockExpansion.{NamesBadKey}
 use Rattle.zarrs_block.specs.declared.node_create_error.NodeCreateError.{NodeCreateError}
 use Rattle.zarrs_node.specs.Reach.{Kept}
 use Rattle.zarrs_node.specs.Nodes.{Nodes, HasNothingBad, ShowsBad}
 
--- the block that the document `.zmetadata` of b is, where it is there and reads as one
+-- the block that the document `.zmetadata` of b is, where it is there and reads as one in the numbers of the store
 abbrev pub zmetadata_at : Contents → Path → Option Block
-zmetadata_at s b = option_and_then (λ bytes. result_ok (of_bytes zmetadata_of bytes)) (get s (b ++ zmetadata ∷ []))
+zmetadata_at s b = option_and_then (λ bytes. result_ok (of_bytes (zmetadata_in s.numbers) bytes)) (get s.values (b ++ zmetadata ∷ []))
 
--- the document `.zmetadata` of b has members, and the block has exactly the paths that mean nodes in the small store that these are, in which nothing below b is bad
+-- the document `.zmetadata` of b has members, in the numbers of the store, and the block has exactly the paths that mean nodes in the small store that these are, in which nothing below b is bad
 abbrev pub HoldsZmetadata : Contents → Path → Block → Type 0
-HoldsZmetadata s b B = (bytes : List ℕ) × (d : Data) × (ms : Members) × (get s (b ++ zmetadata ∷ []) ≡ Some bytes) × (json_of bytes ≡ Some d) × (zmetadata_members d ≡ Ok ms) × HoldsStore ms B × IsClean ms
+HoldsZmetadata s b B = (bytes : List ℕ) × (d : Data) × (ms : Members) × (get s.values (b ++ zmetadata ∷ []) ≡ Some bytes) × (json_of bytes ≡ Some d) × (zmetadata_members_in s.numbers d ≡ Ok ms) × HoldsStoreIn s.numbers ms B × IsCleanIn s.numbers ms
 
--- the block that stands for the nodes below b in a store, where b has these metadata: of a version 2 group the one beside its documents, else the one that they hold
+-- the block that stands for the nodes below b in a store, where b has these metadata: of a version 2 group the one beside its documents, else the one that they hold, in the numbers of the store
 abbrev pub block_at : Contents → Path → NodeMetadata → Option Block
 block_at s b (Group (V2 g)) = zmetadata_at s b
-block_at s b m = block_in m
+block_at s b m = node_block s.numbers m
 
 -- the block was not found out: of a version 2 group, whose document is looked for in the store, for the fault of a store that can fail or out of
 -- memory; of a version 3 group out of memory for its field; of an array never; and never where no block is used

@@ -28,9 +28,9 @@ document_files = zarr_json ∷ zarray ∷ zgroup ∷ zattrs ∷ []
 abbrev pub IsDocumentOf : Path → Segments → Type 0
 IsDocumentOf p key = (file : List ℕ) × Contains document_files file × (key ≡ p ++ file ∷ [])
 
--- T has what S has at each key that is not that of a document of p
+-- T has what S has at each key that is not that of a document of p, and its documents may hold the numbers that those of S may
 abbrev pub AgreesOutside : Path → Contents → Contents → Type 0
-AgreesOutside p S T = (key : Segments) → (IsDocumentOf p key → ⊥) → get T key ≡ get S key
+AgreesOutside p S T = (T.numbers ≡ S.numbers) × ((key : Segments) → (IsDocumentOf p key → ⊥) → get T.values key ≡ get S.values key)
 
 -- each store agrees with the one before it, the first with S, outside the documents of its path, which is below b
 abbrev pub AreChanges : Path → Contents → List (Contents × Path) → Type 0

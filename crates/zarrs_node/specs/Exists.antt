@@ -8,4 +8,4 @@ use Rattle.zarrs_path.specs.Keys.{zarr_json, zarray, zgroup}
 
 -- the store has the key `zarr.json`, `.zarray` or `.zgroup` of p
 abbrev pub HasNodeKey : Contents → Path → Type 0
-HasNodeKey s p = HasKey s (p ++ zarr_json ∷ []) ⊎ HasKey s (p ++ zarray ∷ []) ⊎ HasKey s (p ++ zgroup ∷ [])
+HasNodeKey s p = HasKey s.values (p ++ zarr_json ∷ []) ⊎ HasKey s.values (p ++ zarray ∷ []) ⊎ HasKey s.values (p ++ zgroup ∷ [])

@@ -19,7 +19,7 @@ HasFault of has recursive b p (Document e) = Reached (Means of) recursive b p ×
 
 -- what is bad in a store on the way of a listing, each with its path
 abbrev pub Faults : Contents → MetadataRetrieveVersion → Bool → Path → Path × NodeFault → Type 0
-Faults s v recursive b d = HasFault (meaning s v) (HasBelow s) recursive b d.0 d.1
+Faults s v recursive b d = HasFault (meaning s v) (HasBelow s.values) recursive b d.0 d.1
 
 -- each path stands before all later paths
 abbrev pub PathsAscend : List Path → Type 0

@@ -9,13 +9,14 @@
 --     HasNoVersion3From S b      no path from b on has a `zarr.json`
 --     with_documents S ds, without_keys S ks      the store once these are set; once these are erased
 --     StandsBeside S key      the key is that of a document of version 2 beside a `zarr.json`
-use Rattle.std.specs.Prelude.{◌≡◌, ◌≢◌, ◌↔◌, ◌⊎◌, ℕ, Bool, true, false, List, [], ◌∷◌, ◌++◌, Option, Some, None, Contains, map}
+use Rattle.std.specs.Prelude.{◌≡◌, ◌≢◌, ◌↔◌, ◌⊎◌, ℕ, true, false, List, [], ◌∷◌, ◌++◌, Option, Some, None, Contains, map}
 use Rattle.std.specs.FinMap as store
 use Rattle.std.specs.List.{flat_map}
 use Rattle.std.specs.Global.{Vec}
 use Rattle.std.specs.declared.cmp.Ordering.TheVariants.{Less}
+use Rattle.zarrs_fault.specs.declared.numbers.Numbers.TheVariants.{Whole}
 use Rattle.zarrs_store.specs.Segments.{Segments}
-use Rattle.zarrs_store.specs.Contents.{Contents, HasKey, HasBelow, Lists}
+use Rattle.zarrs_store.specs.Contents.{Contents, with_key, without_key, HasKey, HasBelow, Lists}
 use Rattle.zarrs_path.specs.Keys.{zarr_json, zarray, zgroup, zattrs, zmetadata}
 use Rattle.zarrs_path.specs.Paths.{Path, path_cmp}
 use Rattle.zarrs_meta.specs.Node.{is_group}
@@ -24,6 +25,7 @@ use Rattle.zarrs_meta.specs.declared.node.NodeMetadata.{NodeMetadata}
 use Rattle.zarrs_config.specs.declared.version.MetadataRetrieveVersion.{MetadataRetrieveVersion}
 use Rattle.zarrs_config.specs.declared.version.MetadataRetrieveVersion.TheVariants.{Default, V3, V2}
 use Rattle.zarrs_block.specs.Meaning.{Meaning, meaning, node, nothing, bad}
+use Rattle.zarrs_block.specs.declared.node_create_error.NodeCreateError.{NodeCreateError}
 use Rattle.zarrs_node.specs.Reach.{Reached}
 use Rattle.zarrs_node.specs.Nodes.{MeansNode, Nodes, HasNothingBad, IsBadName}
 use Rattle.zarrs_node.specs.Order.{Ascend}
@@ -77,8 +79,13 @@ abbrev pub MappedIsShown : Type 0
 MappedIsShown = (f : NodeMetadata → Option NodeMetadata) → KeepsKinds f
     → (S T : Contents) (v w : MetadataRetrieveVersion) (b : Path) → HasNothingBad S v true b
     → ((p : Path) → StandsFrom S v b p → GoesOver f (meaning S v p) (meaning T w p))
-    → ((p : Path) → IsBadName (meaning S v) (HasBelow T) true b p → HasBelow S p)
+    → ((p : Path) → IsBadName (meaning S v) (HasBelow T.values) true b p → HasBelow S.values p)
     → ShowsMapped f b S v T w
+
+-- Where the numbers of S are whole, and neither b nor anything below it is bad, a store that holds what S holds shows what S shows, whichever numbers its documents may hold.
+abbrev pub WholeShowsTheSame : Type 0
+WholeShowsTheSame = (S T : Contents) (v : MetadataRetrieveVersion) (b : Path) → S.numbers ≡ Whole → T.values ≡ S.values
+    → ((e : NodeCreateError) → meaning S v b ≢ bad e) → HasNothingBad S v true b → ShowsMapped Some b S v T v
 
 -- ---- documents of version 3 beside those of version 2
 
@@ -99,12 +106,12 @@ pub record AreDocumentsOf (f : NodeMetadata → Option NodeMetadata) (N : Path �
 
 -- neither b nor a path that is reached from it by default has a document `zarr.json`
 abbrev pub HasNoVersion3From : Contents → Path → Type 0
-HasNoVersion3From S b = (p : Path) → StandsFrom S Default b p → HasKey S (p ++ zarr_json ∷ []) → ⊥
+HasNoVersion3From S b = (p : Path) → StandsFrom S Default b p → HasKey S.values (p ++ zarr_json ∷ []) → ⊥
 
 -- the store once the bytes are set at the key of each document, one after another
 abbrev pub with_documents : Contents → List (Segments × Vec ℕ) → Contents
 with_documents S [] = S
-with_documents S (d ∷ ds) = with_documents (store.insert S d.0 d.1.items) ds
+with_documents S (d ∷ ds) = with_documents (with_key S d.0 d.1.items) ds
 
 -- Where nothing below b is bad, and the documents of version 3 are set for the nodes of version 2 from b on,
 -- a listing by version 3 and one by default show, as version 3, what one by default showed before.
@@ -126,12 +133,12 @@ version_2_files = zarray ∷ zgroup ∷ zattrs ∷ zmetadata ∷ []
 
 -- the key is that of a document of version 2 of a path that has a `zarr.json`
 abbrev pub StandsBeside : Contents → Segments → Type 0
-StandsBeside S key = (p : Path) × (file : List ℕ) × Contains version_2_files file × (key ≡ p ++ file ∷ []) × HasKey S (p ++ zarr_json ∷ [])
+StandsBeside S key = (p : Path) × (file : List ℕ) × Contains version_2_files file × (key ≡ p ++ file ∷ []) × HasKey S.values (p ++ zarr_json ∷ [])
 
 -- the store once each key is erased, one after another
 abbrev pub without_keys : Contents → List Segments → Contents
 without_keys S [] = S
-without_keys S (k ∷ ks) = without_keys (store.remove S k) ks
+without_keys S (k ∷ ks) = without_keys (without_key S k) ks
 
 -- the keys of the documents of version 2 at a path
 abbrev pub version_2_keys : Path → List Segments
@@ -149,17 +156,17 @@ KeysStandBeside = (S : Contents) (es : List (Path × NodeMetadata)) → ((e : Pa
 -- A key that is not among those set has what it had, and so has one that is not among those erased.
 abbrev pub OthersAreKept : Type 0
 OthersAreKept = (S : Contents) (key : Segments)
-    → ((ds : List (Segments × Vec ℕ)) → ((d : Segments × Vec ℕ) → Contains ds d → d.0 ≢ key) → store.get (with_documents S ds) key ≡ store.get S key)
-    × ((ks : List Segments) → (Contains ks key → ⊥) → store.get (without_keys S ks) key ≡ store.get S key)
+    → ((ds : List (Segments × Vec ℕ)) → ((d : Segments × Vec ℕ) → Contains ds d → d.0 ≢ key) → store.get (with_documents S ds).values key ≡ store.get S.values key)
+    × ((ks : List Segments) → (Contains ks key → ⊥) → store.get (without_keys S ks).values key ≡ store.get S.values key)
 
 -- Once the documents of version 2 at the paths of some pairs are erased, no such key is there.
 abbrev pub ErasedAreAbsent : Type 0
 ErasedAreAbsent = (S : Contents) (es : List (Path × NodeMetadata)) (e : Path × NodeMetadata) (file : List ℕ)
-    → Contains es e → Contains version_2_files file → store.get (without_keys S (keys_beside es)) (e.0 ++ file ∷ []) ≡ None
+    → Contains es e → Contains version_2_files file → store.get (without_keys S (keys_beside es)).values (e.0 ++ file ∷ []) ≡ None
 
 -- Where a store differs from another only by documents of version 2 beside a `zarr.json`, each path means by default what it meant.
 abbrev pub BesideMeansSame : Type 0
-BesideMeansSame = (S T : Contents) → ((key : Segments) → (StandsBeside S key → ⊥) → store.get T key ≡ store.get S key)
+BesideMeansSame = (S T : Contents) → T.numbers ≡ S.numbers → ((key : Segments) → (StandsBeside S key → ⊥) → store.get T.values key ≡ store.get S.values key)
     → (p : Path) → meaning T Default p ≡ meaning S Default p
 
 -- Where nothing below b is bad, and only documents of version 2 beside a `zarr.json` are erased, a listing by default shows what it showed.

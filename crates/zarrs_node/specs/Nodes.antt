@@ -51,11 +51,11 @@ Nodes s v = Kept (MeansNode s v)
 
 -- the reached paths that mean nothing and are a beginning of some key with at least one segment more
 abbrev pub Ignored : Contents → MetadataRetrieveVersion → Bool → Path → Path → Type 0
-Ignored s v = IgnoredIn (meaning s v) (HasBelow s)
+Ignored s v = IgnoredIn (meaning s v) (HasBelow s.values)
 
 -- some reached path means `bad e`, or some child of a listed path has a name of periods only
 abbrev pub Bad : Contents → MetadataRetrieveVersion → Bool → Path → Type 0
-Bad s v = BadIn (meaning s v) (HasBelow s)
+Bad s v = BadIn (meaning s v) (HasBelow s.values)
 
 -- no reached path means `bad e`, and no child of a listed path has a name of periods only
 abbrev pub HasNothingBad : Contents → MetadataRetrieveVersion → Bool → Path → Type 0
@@ -63,4 +63,4 @@ HasNothingBad s v recursive b = Bad s v recursive b → ⊥
 
 -- the refusal e is what a reached path means, or names the path of a child with a name of periods only
 abbrev pub ShowsBad : Contents → MetadataRetrieveVersion → Bool → Path → NodeCreateError → Type 0
-ShowsBad s v = ShowsBadIn (meaning s v) (HasBelow s)
+ShowsBad s v = ShowsBadIn (meaning s v) (HasBelow s.values)

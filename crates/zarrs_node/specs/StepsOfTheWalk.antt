@@ -17,7 +17,7 @@ use Rattle.zarrs_path.specs.Paths.{Path, IsPath}
 -- the child prefixes of p were put on the stack, whose top is its end, the first of them on top
 pub record AreOnTop (s : Contents) (p : Path) (before after : List Segments) : Type 0 where
   pub children : List Segments
-  pub discovered : AreVisibleChildren s p children
+  pub discovered : AreVisibleChildren s.values p children
   pub stacked : after ≡ before ++ reverse children
 
 -- a path, and one text more, which may be no name

@@ -1,8 +1,8 @@
 //! The documents of a store, as they are read.
 ghost use Rattle.std.specs.Prelude.{◌≡◌, [], ◌∷◌, ◌++◌, Ok, IfOk, IfErr, IsTrue};
 ghost use Rattle.zarrs_store.specs.Segments.{is_segment};
-ghost use Rattle.zarrs_block.specs.Meaning.{attributes_at, document_at};
-ghost use Rattle.zarrs_node.specs.Refusals.{RefusesReading};
+ghost use Rattle.zarrs_block.specs.Meaning.{attributes_at};
+ghost use Rattle.zarrs_node.specs.Refusals.{RefusesReading, stored_document};
 ghost use Rattle.zarrs_node.specs.StepsOfDocuments.{refusal_at};
 
 use crate::last_read::LastRead;
@@ -12,7 +12,7 @@ use zarrs_meta::{AttributesDocument, Document};
 use zarrs_path::{NodePath, meta_key_v2_attributes};
 use zarrs_store::{MetadataFault, ReadableStorageTraits, StorageError, StoreKey, StorePrefix};
 
-/// The document at a key, or none where the key is absent.
+/// The document at a key, read in the numbers of the store, or none where the key is absent.
 ///
 /// # Errors
 ///
@@ -26,10 +26,10 @@ pub fn document_at<S: ReadableStorageTraits, D: Document + Drop>(
     key: StoreKey,
 ) -> Result<Option<D>, StorageError>
     ensures ok { IfOk result
-        (λ found. document_at D.reading (S.contents storage.now) key ≡ Ok found) }
+        (λ found. stored_document D.reading (S.contents storage.now) key ≡ Ok found) }
     ensures err { IfErr result
         (RefusesReading (S.can_fail storage.now)
-        (document_at D.reading (S.contents storage.now) key)) }
+        (stored_document D.reading (S.contents storage.now) key)) }
 {
     let mut last = LastRead::new(alloc);
     let (key, found) = find_document(alloc, storage, key, &mut last)?;
@@ -37,7 +37,7 @@ pub fn document_at<S: ReadableStorageTraits, D: Document + Drop>(
     Ok(found)
 }
 
-/// The attributes that `.zattrs` of a path has, or none where it is absent.
+/// The attributes that `.zattrs` of a path has, read in the numbers of the store, or none where it is absent.
 ///
 /// # Errors
 ///
@@ -66,15 +66,16 @@ fn find_document<S: ReadableStorageTraits, D: Document + Drop>(
     key: StoreKey,
     last: &mut LastRead<D>,
 ) -> Result<(StoreKey, Option<D>), StorageError>
-    ensures ok { IfOk result (λ x. document_at D.reading (S.contents storage.now) key ≡ Ok x.1) }
+    ensures ok { IfOk result
+        (λ x. stored_document D.reading (S.contents storage.now) key ≡ Ok x.1) }
     ensures err { IfErr result
         (RefusesReading (S.can_fail storage.now)
-        (document_at D.reading (S.contents storage.now) key)) }
+        (stored_document D.reading (S.contents storage.now) key)) }
 {
     let Some(bytes) = storage.get(alloc, &key)? else {
         return Ok((key, None));
     };
-    match last.read(alloc, bytes) {
+    match last.read(alloc, storage.numbers(), bytes) {
         Ok(document) => Ok((key, Some(document))),
         Err(fault) => Err(invalid(key, fault)),
     }
@@ -91,11 +92,11 @@ pub(crate) fn find_below<S: ReadableStorageTraits, D: Document + Drop>(
 ) -> Result<Option<D>, StorageError>
     requires segment { IsTrue (is_segment name.now) }
     ensures ok { IfOk result
-        (λ found. document_at D.reading (S.contents storage.now) (prefix.now ++ name.now ∷ [])
+        (λ found. stored_document D.reading (S.contents storage.now) (prefix.now ++ name.now ∷ [])
         ≡ Ok found) }
     ensures err { IfErr result
         (RefusesReading (S.can_fail storage.now)
-        (document_at D.reading (S.contents storage.now) (prefix.now ++ name.now ∷ []))) }
+        (stored_document D.reading (S.contents storage.now) (prefix.now ++ name.now ∷ []))) }
 {
     let room = replace(text, String::new(alloc));
     let key = prefix.key_in(room, name)?;

@@ -37,7 +37,7 @@ fn has_key<S: ReadableStorageTraits>(
     storage: &S,
     key: &StoreKey,
 ) -> Result<bool, StorageError>
-    ensures ok { IfOk result (λ has. IsTrue has ↔ HasKey (S.contents storage.now) key.now) }
+    ensures ok { IfOk result (λ has. IsTrue has ↔ HasKey (S.contents storage.now).values key.now) }
     ensures refused { IfErr result (IsStoreError (S.can_fail storage.now)) }
 {
     Ok(storage.get(alloc, key)?.is_some())

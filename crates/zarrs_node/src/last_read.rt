@@ -5,12 +5,13 @@ ghost use Rattle.zarrs_form.specs.Documents.{Gives};
 use std::alloc::Global;
 use std::marker::Model;
 use zarrs_meta::{ArrayMetadataV2, AttributesDocument, Document, GroupMetadataV2, ZarrJson};
-use zarrs_store::MetadataFault;
+use zarrs_store::{MetadataFault, Numbers};
 
 /// The last document that was read. Nodes side by side often have equal documents: once the same bytes have come twice in a row, what they are read as is kept, and
 /// from the third time on it is copied and not read again.
 #[derive(Drop)]
 pub(crate) struct LastRead<D: Document> {
+    numbers: Numbers,
     bytes: Vec<u8>,
     document: Option<D>,
 }
@@ -22,24 +23,31 @@ impl<D: Document> Model for LastRead<D> {
 
     ghost view = { λ _. tt };
 
-    ghost invariant = { λ a. IfSome a.document (λ d. D.reading a.bytes.items ≡ Ok d) };
+    ghost invariant = { λ a. IfSome a.document (λ d. D.reading a.numbers a.bytes.items ≡ Ok d) };
 }
 
 impl<D: Document + Drop> LastRead<D> {
     /// Nothing was read yet.
     pub(crate) fn new(alloc: Global) -> LastRead<D> {
         LastRead {
+            numbers: Numbers::Whole,
             bytes: Vec::new(alloc),
             document: None,
         }
     }
 
     /// The document that the bytes are.
-    pub(crate) fn read(&mut self, alloc: Global, bytes: Vec<u8>) -> Result<D, MetadataFault>
-        ensures { Gives (λ d. d) result (D.reading bytes.items) }
+    pub(crate) fn read(
+        &mut self,
+        alloc: Global,
+        numbers: Numbers,
+        bytes: Vec<u8>,
+    ) -> Result<D, MetadataFault>
+        ensures { Gives (λ d. d) result (D.reading numbers bytes.items) }
     {
-        if bytes.as_slice() != self.bytes.as_slice() {
-            let document = D::read(alloc, &bytes)?;
+        if numbers != self.numbers || bytes.as_slice() != self.bytes.as_slice() {
+            let document = D::read_in(alloc, numbers, &bytes)?;
+            self.numbers = numbers;
             self.bytes = bytes;
             self.document = None;
             return Ok(document);
@@ -47,7 +55,7 @@ impl<D: Document + Drop> LastRead<D> {
         if let Some(document) = &self.document {
             return Ok(document.try_clone(alloc)?);
         }
-        let document = D::read(alloc, &bytes)?;
+        let document = D::read_in(alloc, numbers, &bytes)?;
         self.document = Some(document.try_clone(alloc)?);
         Ok(document)
     }

@@ -4,7 +4,7 @@ ghost use Rattle.zarrs_node.specs.Inverse.{BlockGivesBack, ListingGivesBack};
 ghost use Rattle.zarrs_node.specs.Small.{ZmetadataShows};
 ghost use Rattle.zarrs_node.specs.Changes.{FreshIsBlock, RefreshedIsBlock, RefreshedIsOpened};
 ghost use Rattle.zarrs_node.specs.ListedBlocks.{OneListedBlock, FreshIsListed, ListedBlockStays};
-ghost use Rattle.zarrs_node.specs.MapsOfNodes.{BaseInFront, EarlierStandsBefore, MappedIsShown, DocumentsAreShown, DefaultIsVersion2, KeysStandBeside, OthersAreKept, ErasedAreAbsent, BesideMeansSame, ErasedShowSame};
+ghost use Rattle.zarrs_node.specs.MapsOfNodes.{BaseInFront, EarlierStandsBefore, MappedIsShown, WholeShowsTheSame, DocumentsAreShown, DefaultIsVersion2, KeysStandBeside, OthersAreKept, ErasedAreAbsent, BesideMeansSame, ErasedShowSame};
 
 /// Two placed forests with the same pairs are one.
 ///
@@ -159,6 +159,14 @@ pub fn earlier_stands_before()
 /// Source: own; Zarr core specification 3.1, "Hierarchy".
 pub fn mapped_is_shown()
     ensures { MappedIsShown }
+{}
+
+/// Where the numbers of a store are whole, and neither a path nor anything below it is bad, a store that holds the same shows the same,
+/// whichever numbers its documents may hold: `AnyNumbers` changes no listing that is not refused.
+///
+/// Source: own; Zarr core specification 3.1, "Hierarchy".
+pub fn whole_shows_the_same()
+    ensures { WholeShowsTheSame }
 {}
 
 /// Where documents of version 3 are set beside those of version 2, of a node and of all below it, a listing by version 3, and one by

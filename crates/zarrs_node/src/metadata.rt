@@ -86,7 +86,8 @@ fn find_v3<S: ReadableStorageTraits>(
     last: &mut LastDocuments,
 ) -> Result<Option<NodeMetadata>, NodeCreateError>
     ensures { FollowsLine (S.can_fail storage.now) result
-        (zarr_json_line in_bytes (S.contents storage.now) prefix.now) }
+        (zarr_json_line (in_bytes (S.contents storage.now).numbers)
+        (S.contents storage.now).values prefix.now) }
 {
     match find_below(
         alloc,
@@ -110,8 +111,10 @@ fn find_v2<S: ReadableStorageTraits>(
     last: &mut LastDocuments,
 ) -> Result<Option<NodeMetadata>, NodeCreateError>
     ensures { FollowsLine (S.can_fail storage.now) result
-        (λ after. zarray_line in_bytes (S.contents storage.now) prefix.now
-        (zgroup_line in_bytes (S.contents storage.now) prefix.now after)) }
+        (λ after. zarray_line (in_bytes (S.contents storage.now).numbers)
+        (S.contents storage.now).values prefix.now
+        (zgroup_line (in_bytes (S.contents storage.now).numbers)
+        (S.contents storage.now).values prefix.now after)) }
 {
     match find_array_v2(alloc, storage, prefix, last)? {
         Some(metadata) => Ok(Some(metadata)),
@@ -127,7 +130,8 @@ fn find_array_v2<S: ReadableStorageTraits>(
     last: &mut LastDocuments,
 ) -> Result<Option<NodeMetadata>, NodeCreateError>
     ensures { FollowsLine (S.can_fail storage.now) result
-        (zarray_line in_bytes (S.contents storage.now) prefix.now) }
+        (zarray_line (in_bytes (S.contents storage.now).numbers)
+        (S.contents storage.now).values prefix.now) }
 {
     let found: Option<ArrayMetadataV2> = find_below(
         alloc,
@@ -155,7 +159,8 @@ fn find_group_v2<S: ReadableStorageTraits>(
     last: &mut LastDocuments,
 ) -> Result<Option<NodeMetadata>, NodeCreateError>
     ensures { FollowsLine (S.can_fail storage.now) result
-        (zgroup_line in_bytes (S.contents storage.now) prefix.now) }
+        (zgroup_line (in_bytes (S.contents storage.now).numbers)
+        (S.contents storage.now).values prefix.now) }
 {
     let found: Option<GroupMetadataV2> = find_below(
         alloc,

@@ -4,23 +4,24 @@ ghost use Rattle.zarrs_store.specs.Faults.{IsStoreError};
 ghost use Rattle.zarrs_form.specs.Documents.{Gives, of_bytes};
 ghost use Rattle.zarrs_config.specs.declared.version.UseConsolidatedMetadata.TheVariants.{Never};
 ghost use Rattle.zarrs_block.specs.Policy.{as_block, RefusesUse};
-ghost use Rattle.zarrs_block.specs.Zmetadata.{zmetadata_of};
+ghost use Rattle.zarrs_block.specs.Zmetadata.{zmetadata_in};
 ghost use Rattle.zarrs_node.specs.BlocksBelow.{zmetadata_at, ExcusesBlock, HoldsZmetadata};
 ghost use Rattle.zarrs_node.specs.OpeningNodes.{choice};
 
 use std::alloc::Global;
 use zarrs_block::{
-    ConsolidatedMetadata, NodeCreateError, consolidated_metadata_for_open,
+    ConsolidatedMetadata, NodeCreateError, consolidated_metadata_for_open_in,
     resolve_consolidated_policy,
 };
 use zarrs_config::UseConsolidatedMetadata;
 use zarrs_form::parse;
 use zarrs_meta::{GroupMetadata, NodeMetadata};
 use zarrs_path::{NodePath, meta_key_v2_consolidated};
-use zarrs_store::{MetadataFault, ReadableStorageTraits, StorageError};
+use zarrs_store::{MetadataFault, Numbers, ReadableStorageTraits, StorageError};
 
 /// The block that is used of a node at a path of a store. A version 2 group has it in the document `.zmetadata` beside its own, and any
-/// other node in its metadata, as [`consolidated_metadata_for_open`] says. Under `Never` nothing is read.
+/// other node in its metadata, as [`consolidated_metadata_for_open_in`] says. It is read in the numbers of the store. Under `Never`
+/// nothing is read.
 ///
 /// # Errors
 ///
@@ -50,12 +51,15 @@ pub fn consolidated_metadata_at<S: ReadableStorageTraits>(
             let block = zmetadata_at(alloc, storage, path)?;
             resolve_consolidated_policy(alloc, path, block, policy)
         }
-        _ => consolidated_metadata_for_open(alloc, path, metadata, policy),
+        _ => {
+            let numbers = storage.numbers();
+            consolidated_metadata_for_open_in(alloc, numbers, path, metadata, policy)
+        }
     }
 }
 
 /// The block that the document `.zmetadata` of a path is. There is none where the document is absent, is no JSON text or is refused by
-/// [`ConsolidatedMetadata::from_zmetadata`].
+/// [`ConsolidatedMetadata::from_zmetadata_in`] in the numbers of the store.
 ///
 /// # Errors
 ///
@@ -77,16 +81,21 @@ pub fn zmetadata_at<S: ReadableStorageTraits>(
     let Some(bytes) = storage.get(alloc, &key)? else {
         return Ok(None);
     };
-    match block_of_bytes(alloc, &bytes) {
+    match block_of_bytes(alloc, storage.numbers(), &bytes) {
         Ok(block) => Ok(Some(block)),
         Err(MetadataFault::OutOfMemory) => Err(StorageError::OutOfMemory),
         Err(_) => Ok(None),
     }
 }
 
-// The block that the bytes of a document `.zmetadata` are.
-fn block_of_bytes(alloc: Global, bytes: &[u8]) -> Result<ConsolidatedMetadata, MetadataFault>
-    ensures { Gives (λ block. block.metadata) result (of_bytes zmetadata_of bytes.now) }
+// The block that the bytes of a document `.zmetadata` are, whose numbers may be these.
+fn block_of_bytes(
+    alloc: Global,
+    numbers: Numbers,
+    bytes: &[u8],
+) -> Result<ConsolidatedMetadata, MetadataFault>
+    ensures { Gives (λ block. block.metadata) result
+        (of_bytes (zmetadata_in numbers) bytes.now) }
 {
-    ConsolidatedMetadata::from_owned_zmetadata(alloc, parse(alloc, bytes)?)
+    ConsolidatedMetadata::from_owned_zmetadata_in(alloc, numbers, parse(alloc, bytes)?)
 }

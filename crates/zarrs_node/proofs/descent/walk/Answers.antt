@@ -14,7 +14,7 @@ pub loop-prefix-init : goal.loop-prefix-init
 loop-prefix-init g c =
     let p = c.in_ok-push_children.ensures.ok in (
       fed_start g.K.NodeSink.takes (g.S.Store.contents c.args.storage.now) c.args.version.now c.args.recursive c.args.path.now c.args.sink.now c.in_ok-base.ensures.valid p.children
-          (subst (λ q. AreVisibleChildren (g.S.Store.contents c.args.storage.now) q p.children) c.in_ok-base.ensures.ok p.discovered) _ _ _ c.new-ignored.ensures.items c.requires (p.stacked ∙ ap (λ x. x ++ reverse p.children) c.new-pending.ensures.items),
+          (subst (λ q. AreVisibleChildren (g.S.Store.contents c.args.storage.now).values q p.children) c.in_ok-base.ensures.ok p.discovered) _ _ _ c.new-ignored.ensures.items c.requires (p.stacked ∙ ap (λ x. x ++ reverse p.children) c.new-pending.ensures.items),
       refl,
       λ _. c.requires,
     )
