@@ -9,6 +9,7 @@ use Rattle.serde_json.specs.Data.{Data, Members}
 use Rattle.zarrs_store.specs.Segments.{Segments, bytes_cmp, key_text}
 use Rattle.zarrs_store.specs.Contents.{Contents}
 use Rattle.zarrs_fault.specs.declared.fault.MetadataFault.{MetadataFault}
+use Rattle.zarrs_fault.specs.declared.numbers.Numbers.{Numbers}
 use Rattle.zarrs_store.specs.declared.storage_error.StorageError.{StorageError}
 use Rattle.zarrs_path.specs.Keys.{zarray, zgroup, zmetadata}
 use Rattle.zarrs_path.specs.Names.{is_name}
@@ -17,19 +18,17 @@ use Rattle.zarrs_form.specs.Documents.{◌>>=◌, json_of, tree_or_fault, of_byt
 use Rattle.zarrs_meta.specs.declared.attributes.AttributesDocument.{AttributesDocument}
 use Rattle.zarrs_meta.specs.declared.node.GroupMetadata.{GroupMetadata}
 use Rattle.zarrs_meta.specs.declared.node.GroupMetadata.TheVariants.{V3, V2}
-use Rattle.zarrs_meta.specs.ArrayV2.{array_v2_of}
-use Rattle.zarrs_meta.specs.GroupV2.{group_v2_of}
+use Rattle.zarrs_meta.specs.ArrayV2.{array_v2_in}
+use Rattle.zarrs_meta.specs.GroupV2.{group_v2_in}
 use Rattle.zarrs_meta.specs.Node.{array_with, group_with}
-use Rattle.zarrs_meta.specs.declared.array_v2.ArrayMetadataV2.{ArrayMetadataV2}
-use Rattle.zarrs_meta.specs.declared.group_v2.GroupMetadataV2.{GroupMetadataV2}
 use Rattle.zarrs_meta.specs.declared.node.ArrayMetadata.TheVariants.{V2 as array_v2}
 use Rattle.zarrs_meta.specs.declared.node.GroupMetadata.TheVariants.{V2 as group_v2}
 use Rattle.zarrs_meta.specs.declared.node.NodeMetadata.{NodeMetadata}
 use Rattle.zarrs_meta.specs.declared.node.NodeMetadata.TheVariants.{Group, Array}
 use Rattle.zarrs_block.specs.Block.{Block, IsValidKey, first_some, node_at_key, put}
 use Rattle.zarrs_block.specs.Meaning.{Meaning, node, nothing, bad, attributes_in, document_at, in_trees, version_2_line, meaning_in, zarray_line, zgroup_line}
-use Rattle.zarrs_block.specs.Small.{SmallStore, small, small_meaning}
-use Rattle.zarrs_block.specs.Zmetadata.{before_last, documents_below, block_from, is_bad, is_good, is_version_2, small_block, with_node, zmetadata_members, zmetadata_of}
+use Rattle.zarrs_block.specs.Small.{SmallStore, small, small_meaning_in}
+use Rattle.zarrs_block.specs.Zmetadata.{before_last, documents_below, block_from, is_bad, is_good, is_version_2, small_block_in, with_node, zmetadata_members_in, zmetadata_in}
 use Rattle.zarrs_block.proofs.Expansion.{same_text}
 use Rattle.zarrs_node.proofs.Child.{node_same}
 use Rattle.zarrs_node.proofs.Puts.{found_put}
@@ -48,17 +47,17 @@ line_v2 kind with' (Ok (Some d)) (Err wrong) after m all rest e = cc
 line_v2 kind with' (Err wrong) a after m all rest e = cc
 
 -- the line of `.zgroup` means a group of version 2
-group_line_v2 : (z : SmallStore) (p : Path) (m : NodeMetadata) → zgroup_line in_trees z p nothing ≡ node m → IsTrue (is_version_2 m)
+group_line_v2 : (numbers : Numbers) (z : SmallStore) (p : Path) (m : NodeMetadata) → zgroup_line (in_trees numbers) z p nothing ≡ node m → IsTrue (is_version_2 m)
 unfolding zgroup_line
-group_line_v2 z p m e =
-    line_v2 (λ g. Group (group_v2 g)) group_with (document_at (in_trees GroupMetadataV2 group_v2_of) z (p ++ zgroup ∷ [])) (attributes_in in_trees z p) nothing m (λ d. refl) (λ none. cc) e
+group_line_v2 numbers z p m e =
+    line_v2 (λ g. Group (group_v2 g)) group_with (document_at (group_v2_in numbers) z (p ++ zgroup ∷ [])) (attributes_in (in_trees numbers) z p) nothing m (λ d. refl) (λ none. cc) e
 
 -- what a path means in a small store is of version 2
-means_v2 : (z : SmallStore) (p : Path) (m : NodeMetadata) → small_meaning z p ≡ node m → IsTrue (is_version_2 m)
+means_v2 : (numbers : Numbers) (z : SmallStore) (p : Path) (m : NodeMetadata) → small_meaning_in numbers z p ≡ node m → IsTrue (is_version_2 m)
 unfolding meaning_in zarray_line
-means_v2 z p m e =
-    line_v2 (λ a. Array (array_v2 a)) array_with (document_at (in_trees ArrayMetadataV2 array_v2_of) z (p ++ zarray ∷ [])) (attributes_in in_trees z p) (zgroup_line in_trees z p nothing) m
-    (λ d. refl) (group_line_v2 z p m) e
+means_v2 numbers z p m e =
+    line_v2 (λ a. Array (array_v2 a)) array_with (document_at (array_v2_in numbers) z (p ++ zarray ∷ [])) (attributes_in (in_trees numbers) z p) (zgroup_line (in_trees numbers) z p nothing) m
+    (λ d. refl) (group_line_v2 numbers z p m) e
 
 -- ---- what is put into the block
 
@@ -110,38 +109,38 @@ fits_beside B fits = (
 )
 
 -- by whether all documents are good
-small_at : (b : Bool) (ms : Members) → list_all (λ e. is_good (small_meaning (small [] ms)) e.0) (documents_below ms) ≡ b → (fault : MetadataFault)
-    → IsBeside (result_ok (if b then Ok (block_from (small_meaning (small [] ms)) (documents_below ms)) else Err fault))
-small_at true ms good fault = fits_beside _ (from_fits (small_meaning (small [] ms)) (documents_below ms) (means_v2 (small [] ms)) good)
-small_at false ms good fault = tt
+small_at : (numbers : Numbers) (b : Bool) (ms : Members) → list_all (λ e. is_good (small_meaning_in numbers (small [] ms)) e.0) (documents_below ms) ≡ b → (fault : MetadataFault)
+    → IsBeside (result_ok (if b then Ok (block_from (small_meaning_in numbers (small [] ms)) (documents_below ms)) else Err fault))
+small_at numbers true ms good fault = fits_beside _ (from_fits (small_meaning_in numbers (small [] ms)) (documents_below ms) (means_v2 numbers (small [] ms)) good)
+small_at numbers false ms good fault = tt
 
 -- the block of some members can be written
-members_beside : (ms : Members) → IsBeside (result_ok (small_block ms))
-members_beside ms = small_at (list_all (λ e. is_good (small_meaning (small [] ms)) e.0) (documents_below ms)) ms refl _
+members_beside : (numbers : Numbers) (ms : Members) → IsBeside (result_ok (small_block_in numbers ms))
+members_beside numbers ms = small_at numbers (list_all (λ e. is_good (small_meaning_in numbers (small [] ms)) e.0) (documents_below ms)) ms refl _
 
 -- so can the block of a tree
-tree_beside : (d : Data) → IsBeside (result_ok (zmetadata_of d))
-unfolding zmetadata_of
-tree_beside d = at (zmetadata_members d)
+tree_beside : (numbers : Numbers) (d : Data) → IsBeside (result_ok (zmetadata_in numbers d))
+unfolding zmetadata_in
+tree_beside numbers d = at (zmetadata_members_in numbers d)
   where
-    at : (r : Result Members MetadataFault) → IsBeside (result_ok (r >>= small_block))
-    at (Ok ms) = members_beside ms
+    at : (r : Result Members MetadataFault) → IsBeside (result_ok (r >>= small_block_in numbers))
+    at (Ok ms) = members_beside numbers ms
     at (Err fault) = tt
 
 -- and that of the document beside the metadata of a group
 pub beside_read : (s : Contents) (p : Path) (m : GroupMetadata) → IsBeside (block_beside s p m)
 beside_read s p m = at m
   where
-    by_tree : (r : Result Data MetadataFault) → IsBeside (result_ok (r >>= zmetadata_of))
-    by_tree (Ok d) = tree_beside d
+    by_tree : (r : Result Data MetadataFault) → IsBeside (result_ok (r >>= zmetadata_in s.numbers))
+    by_tree (Ok d) = tree_beside s.numbers d
     by_tree (Err fault) = tt
 
-    by_bytes : (o : Option (List ℕ)) → IsBeside (option_and_then (λ bytes. result_ok (of_bytes zmetadata_of bytes)) o)
+    by_bytes : (o : Option (List ℕ)) → IsBeside (option_and_then (λ bytes. result_ok (of_bytes (zmetadata_in s.numbers) bytes)) o)
     by_bytes None = tt
     by_bytes (Some bytes) = by_tree (tree_or_fault (json_of bytes))
 
     at : (m : GroupMetadata) → IsBeside (block_beside s p m)
     at (V3 g) = tt
-    at (V2 g) = by_bytes (get s (p ++ zmetadata ∷ []))
+    at (V2 g) = by_bytes (get s.values (p ++ zmetadata ∷ []))
 
 -- ---- what refuses to write it

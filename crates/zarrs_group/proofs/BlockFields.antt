@@ -1,18 +1,20 @@
 -- The field of the block among the additional fields: set, removed, and read again.
-use Rattle.std.proofs.Common.{◌≡◌, ℕ, List, [], ◌∷◌, Bool, true, false, if◌then◌else◌, Option, Some, None, option_and_then, codes, refl, ap, ◌∙◌}
+use Rattle.std.proofs.Common.{◌≡◌, ℕ, List, [], ◌∷◌, Bool, true, false, if◌then◌else◌, Option, Some, None, option_and_then, Ok, codes, refl, ap, ◌∙◌}
 use Rattle.std.specs.Result.{result_ok}
 use Rattle.serde_json.specs.Data.{Data, Members, no_members, member}
 use Rattle.serde_json.proofs.Views.{get_member-put}
+use Rattle.zarrs_fault.specs.declared.numbers.Numbers.{Numbers}
 use Rattle.zarrs_form.specs.Documents.{is_own, besides, has_own}
 use Rattle.zarrs_form.proofs.MemberLaws.{get-others}
 use Rattle.zarrs_meta.specs.declared.group_v3.GroupMetadataV3.{GroupMetadataV3}
 use Rattle.zarrs_meta.specs.declared.node.GroupMetadata.{GroupMetadata}
 use Rattle.zarrs_meta.specs.declared.node.GroupMetadata.TheVariants.{V3, V2}
-use Rattle.zarrs_block.specs.Block.{Block, block_of}
-use Rattle.zarrs_block.specs.Policy.{block_in_fields}
+use Rattle.zarrs_block.specs.Block.{Block, block_of_in, block_tree}
+use Rattle.zarrs_block.specs.Policy.{fields_block}
 use Rattle.zarrs_block.proofs.BlockReads.{block_again}
+use Rattle.zarrs_block.proofs.MoreBlocks.{block_too}
 use Rattle.zarrs_group.specs.Groups.{GroupState}
-use Rattle.zarrs_group.specs.BlocksOfGroups.{fields_with, metadata_with, beside_with, with_block, held_in, held_by, CanHold, MetadataHold}
+use Rattle.zarrs_group.specs.BlocksOfGroups.{fields_with, metadata_with, beside_with, with_block, held_in, held_by_in, CanHold, MetadataHold}
 
 -- ---- the block that is held once it was set
 
@@ -30,20 +32,23 @@ none_own names (member l e ms) = none_own_at names l e (besides names ms) (is_ow
 its_own : is_own (codes "consolidated_metadata" ∷ []) (codes "consolidated_metadata") ≡ true
 its_own = refl
 
--- the fields hold the block that was set, or none where it was removed
-fields_hold : (block : Option Block) (ms : Members) (m : GroupMetadataV3) → MetadataHold (V3 m) block → block_in_fields (fields_with block ms) ≡ block
-fields_hold None ms m can =
-    ap (option_and_then (λ d. result_ok (block_of d)))
+-- fields hold the block that was set, in numbers in which it reads back
+pub set_reads : (numbers : Numbers) (B : Block) (ms : Members) → block_of_in numbers (block_tree B) ≡ Ok B → fields_block numbers (fields_with (Some B) ms) ≡ Some B
+set_reads numbers B ms again = ap (option_and_then (λ d. result_ok (block_of_in numbers d))) (get_member-put (codes "consolidated_metadata") _ ms) ∙ ap result_ok again
+
+-- the fields hold the block that was set, in whatever numbers it is read, or none where it was removed
+fields_hold : (numbers : Numbers) (block : Option Block) (ms : Members) (m : GroupMetadataV3) → MetadataHold (V3 m) block → fields_block numbers (fields_with block ms) ≡ block
+fields_hold numbers None ms m can =
+    ap (option_and_then (λ d. result_ok (block_of_in numbers d)))
     (get-others (codes "consolidated_metadata" ∷ []) (codes "consolidated_metadata") (besides (codes "consolidated_metadata" ∷ []) ms) its_own
     (none_own (codes "consolidated_metadata" ∷ []) ms))
-fields_hold (Some B) ms m plain =
-    ap (option_and_then (λ d. result_ok (block_of d))) (get_member-put (codes "consolidated_metadata") _ ms) ∙ ap result_ok (block_again B plain)
+fields_hold numbers (Some B) ms m plain = set_reads numbers B ms (block_too numbers (block_tree B) B (block_again B plain))
 
 -- metadata that can hold a block hold it once it was set, or it stands beside them
-metadata_hold : (m : GroupMetadata) (block old : Option Block) → MetadataHold m block → held_in (metadata_with block m) (beside_with block m old) ≡ block
-metadata_hold (V3 m) block old can = fields_hold block m.additional_fields m can
-metadata_hold (V2 m) block old can = refl
+metadata_hold : (numbers : Numbers) (m : GroupMetadata) (block old : Option Block) → MetadataHold m block → held_in numbers (metadata_with block m) (beside_with block m old) ≡ block
+metadata_hold numbers (V3 m) block old can = fields_hold numbers block m.additional_fields m can
+metadata_hold numbers (V2 m) block old can = refl
 
--- a group that can hold a block holds it once it was set
-pub held_once_set : (g : GroupState) (block : Option Block) → CanHold g block → held_by (with_block g block) ≡ block
-held_once_set g block can = metadata_hold g.metadata block g.block can
+-- a group that can hold a block holds it once it was set, in whatever numbers it is read
+pub held_once_set : (numbers : Numbers) (g : GroupState) (block : Option Block) → CanHold g block → held_by_in numbers (with_block g block) ≡ block
+held_once_set numbers g block can = metadata_hold numbers g.metadata block g.block can

@@ -2,8 +2,8 @@
 use Rattle.std.proofs.Math.Seq.{take-suc, drop-cons}
 use Rattle.std.proofs.lemmas.List.{take-append-drop, map-append}
 use Rattle.std.proofs.Common.{get_or, add-one, suc, ◌≡◌, ℕ, ◌+◌, ◌<◌, List, [], ◌∷◌, ◌++◌, refl, sym, ap, ◌∙◌, subst, map, take, drop, length}
-use Rattle.zarrs_store.specs.Contents.{Contents, AgreesExceptAt}
-use Rattle.zarrs_group.specs.Edits.{Edit, after_edit, after, edit_key, IsCutShort}
+use Rattle.zarrs_store.specs.Contents.{Contents}
+use Rattle.zarrs_group.specs.Edits.{AgreesOutsideKey, Edit, after_edit, after, edit_key, IsCutShort}
 
 -- an edit after a list of edits is the last
 pub after-push : (S : Contents) (es : List Edit) (e : Edit) → after S (es ++ e ∷ []) ≡ after_edit (after S es) e
@@ -27,11 +27,11 @@ module _ {X : Type 0} (f : X → Edit) (S : Contents) (xs : List X) (i : ℕ) (x
       ∙ ap (after S) (sym (map-append f (take i xs) (x ∷ []))) ∙ ap (λ ys. after S (map f ys)) (sym at)
 
   -- where the edit at i is refused, the list was cut short there
-  pub cut-next : (T T' : Contents) → T ≡ after S (map f (take i xs)) → AgreesExceptAt (edit_key (f x)) T T' → IsCutShort S (map f xs) T'
+  pub cut-next : (T T' : Contents) → T ≡ after S (map f (take i xs)) → AgreesOutsideKey (edit_key (f x)) T T' → IsCutShort S (map f xs) T'
   cut-next T T' is others = record {
     done = map f (take i xs);
     next = f x;
     rest = map f (drop (suc i) xs);
     is = ap (map f) split ∙ map-append f (take i xs) (x ∷ drop (suc i) xs);
-    others = subst (λ t. AgreesExceptAt (edit_key (f x)) t T') is others;
+    others = subst (λ t. AgreesOutsideKey (edit_key (f x)) t T') is others;
   }

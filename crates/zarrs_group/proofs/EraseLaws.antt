@@ -2,7 +2,7 @@
 use Rattle.std.proofs.Common.{◌≡◌, ◌≢◌, ℕ, List, [], ◌∷◌, ◌++◌, None, refl, ◌∙◌}
 use Rattle.std.specs.FinMap as map
 use Rattle.zarrs_store.specs.Segments.{Segments}
-use Rattle.zarrs_store.specs.Contents.{Contents}
+use Rattle.zarrs_store.specs.Contents.{Contents, Values}
 use Rattle.zarrs_store.proofs.ContentsLemmas.{get_removed, AgreesExceptAt-remove}
 use Rattle.zarrs_path.specs.Keys.{zarr_json, zgroup, zattrs, zmetadata}
 use Rattle.zarrs_path.specs.Paths.{Path}
@@ -19,17 +19,17 @@ pub keys_differ : (p : Path) (f g : List ℕ) → f ≢ g → p ++ f ∷ [] ≢ 
 keys_differ p f g apart e = apart (same_fronts p p f g e).1
 
 -- four different keys erased in turn
-module _ (S : Contents) (a b c d : Segments) (a_b : a ≢ b) (a_c : a ≢ c) (a_d : a ≢ d) (b_c : b ≢ c) (b_d : b ≢ d) (c_d : c ≢ d) where
+module _ (S : Values) (a b c d : Segments) (a_b : a ≢ b) (a_c : a ≢ c) (a_d : a ≢ d) (b_c : b ≢ c) (b_d : b ≢ d) (c_d : c ≢ d) where
   -- the store without the first two keys
-  abbrev two : Contents
+  abbrev two : Values
   two = map.remove (map.remove S a) b
 
   -- the store without the first three keys
-  abbrev three : Contents
+  abbrev three : Values
   three = map.remove two c
 
   -- the store without the four keys
-  abbrev erased : Contents
+  abbrev erased : Values
   erased = map.remove three d
 
   -- the first key is gone
@@ -78,7 +78,7 @@ pub attrs_metadata : zattrs ≢ zmetadata
 attrs_metadata = differ zattrs zmetadata refl
 
 -- erasing with All leaves none of the four keys, and every other key as it was
-pub erasing_all : (S : Contents) (p : Path) (m : GroupMetadata) → IsErased p S (after S (erase_edits p erase.All m))
+pub erasing_all : (S : Contents) (p : Path) (m : GroupMetadata) → IsErased p S.values (after S (erase_edits p erase.All m)).values
 erasing_all S p m =
     let a : Segments = p ++ zarr_json ∷ [] in
     let b : Segments = p ++ zgroup ∷ [] in
@@ -91,9 +91,9 @@ erasing_all S p m =
     let b_d : b ≢ d = keys_differ p zgroup zmetadata group_metadata in
     let c_d : c ≢ d = keys_differ p zattrs zmetadata attrs_metadata in
     record {
-      no_zarr_json = first_gone S a b c d a_b a_c a_d b_c b_d c_d;
-      no_zgroup = second_gone S a b c d a_b a_c a_d b_c b_d c_d;
-      no_zattrs = third_gone S a b c d a_b a_c a_d b_c b_d c_d;
-      no_zmetadata = fourth_gone S a b c d a_b a_c a_d b_c b_d c_d;
-      others = others_stay S a b c d a_b a_c a_d b_c b_d c_d;
+      no_zarr_json = first_gone S.values a b c d a_b a_c a_d b_c b_d c_d;
+      no_zgroup = second_gone S.values a b c d a_b a_c a_d b_c b_d c_d;
+      no_zattrs = third_gone S.values a b c d a_b a_c a_d b_c b_d c_d;
+      no_zmetadata = fourth_gone S.values a b c d a_b a_c a_d b_c b_d c_d;
+      others = others_stay S.values a b c d a_b a_c a_d b_c b_d c_d;
     }

@@ -1,5 +1,5 @@
 -- A group whose block was made of a forest gives that forest back.
-use Rattle.std.proofs.Common.{◌≡◌, ◌≢◌, ◌≤◌, ◌==◌, ◌&&◌, ℕ, ◌⊎◌, inl, inr, ⊎_elim, ◌↔◌, Bool, true, false, if◌then◌else◌, List, [], ◌∷◌, ◌++◌, Option, Some, None, option_and_then, Result, Ok, Err, IsSome, true≢false, codes, refl, sym, ap, subst, ◌∙◌, Contains}
+use Rattle.std.proofs.Common.{◌≡◌, ◌≢◌, ◌≤◌, ◌==◌, ◌&&◌, ℕ, ◌⊎◌, inl, inr, ⊎_elim, ◌↔◌, Bool, true, false, if◌then◌else◌, List, [], ◌∷◌, ◌++◌, Option, Some, None, option_and_then, Result, Ok, Err, IsSome, true≢false, codes, refl, sym, ap, ap₂, subst, ◌∙◌, Contains}
 use Rattle.std.specs.FinMap as map
 use Rattle.std.proofs.lemmas.Bool.{eqb-true}
 use Rattle.std.proofs.lemmas.List.{append_cancel_left}
@@ -12,6 +12,7 @@ use Rattle.zarrs_store.specs.declared.storage_error.StorageError.TheVariants.{Fa
 use Rattle.zarrs_store.specs.declared.prefix.StorePrefixError.TheVariants.{Invalid as InvalidPrefix, OutOfMemory as NoPrefixMemory}
 use Rattle.zarrs_fault.specs.declared.fault.MetadataFault.{MetadataFault}
 use Rattle.zarrs_fault.specs.declared.fault.MetadataFault.TheVariants.{WrongFormat}
+use Rattle.zarrs_fault.specs.declared.numbers.Numbers.{Numbers}
 use Rattle.zarrs_path.specs.Keys.{zarr_json}
 use Rattle.zarrs_path.specs.Paths.{Path, IsPath, path_text}
 use Rattle.zarrs_path.specs.declared.node_path.NodePathError.TheVariants.{Invalid as InvalidPath, OutOfMemory as NoPathMemory}
@@ -20,9 +21,9 @@ use Rattle.zarrs_config.specs.declared.version.MetadataRetrieveVersion.{Metadata
 use Rattle.zarrs_config.specs.declared.version.MetadataRetrieveVersion.TheVariants as retrieve
 use Rattle.zarrs_config.specs.declared.version.UseConsolidatedMetadata.{UseConsolidatedMetadata}
 use Rattle.zarrs_config.specs.declared.version.UseConsolidatedMetadata.TheVariants.{Auto, Must, Never}
-use Rattle.zarrs_form.specs.Documents.{◌>>=◌, json_of, tree_or_fault, of_bytes, document_of, format_of, node_type_of}
-use Rattle.zarrs_meta.specs.GroupV3.{group_v3_of}
-use Rattle.zarrs_meta.specs.Node.{node_of, zarr_json_of}
+use Rattle.zarrs_form.specs.Documents.{◌>>=◌, json_of, tree_or_fault, of_bytes, document_in, format_of, node_type_of}
+use Rattle.zarrs_meta.specs.GroupV3.{group_v3_in}
+use Rattle.zarrs_meta.specs.Node.{node_in, zarr_json_in}
 use Rattle.zarrs_meta.specs.declared.group_v2.GroupMetadataV2.{GroupMetadataV2}
 use Rattle.zarrs_meta.specs.declared.group_v3.GroupMetadataV3.{GroupMetadataV3}
 use Rattle.zarrs_meta.specs.declared.node.GroupMetadata.{GroupMetadata}
@@ -51,7 +52,7 @@ use Rattle.zarrs_node.proofs.Kept.{kept_same, placed_between}
 use Rattle.zarrs_node.proofs.Unique.{one_forest}
 use Rattle.zarrs_group.specs.Groups.{GroupState, group_tree}
 use Rattle.zarrs_group.specs.Meaning.{MeansGroup, group_v3_line, group_line, group_meaning}
-use Rattle.zarrs_group.specs.BlocksOfGroups.{held_in, held_by, with_block, beside_with, metadata_with, Fits, MetadataHold}
+use Rattle.zarrs_group.specs.BlocksOfGroups.{held_in, held_by_in, with_block, beside_with, metadata_with, Fits, MetadataHold}
 use Rattle.zarrs_group.specs.Children.{is_listed, ListsChosen}
 use Rattle.zarrs_group.specs.Laws.{MeansStored}
 use Rattle.zarrs_group.specs.GivesBack.{Consolidates, ConsolidatesV2, GivesBack, GroupGivesBack, GroupV2GivesBack, OpensTo, StoredGivesBack}
@@ -88,37 +89,37 @@ no_bad_key B valid (made.MissingMetadata text) h = h
 no_bad_key B valid made.OutOfMemory h = h
 
 -- a group that holds the block of a forest: its block is the one that is used
-module _ (g : GroupState) (f : Forest) (B : Block) (holds : held_by g ≡ Some B) (valid : HasValidKeys B)
+module _ (g : GroupState) (f : Forest) (B : Block) (holds : (numbers : Numbers) → held_by_in numbers g ≡ Some B) (valid : HasValidKeys B)
     (entries : (e : Path × NodeMetadata) → Entries B g.path e ↔ Contains (pairs f) e) (one : (t : Forest) → Shows t g.path (Kept (Entries B g.path) true g.path) → t ≡ f) where
   -- it is the block that is used
-  is_chosen : (policy : UseConsolidatedMetadata) → policy ≢ Never → block_to_use (held_by g) policy ≡ Some (Some B)
-  is_chosen policy not = ap (λ h. block_to_use h policy) holds ∙ used_there B policy not
+  is_chosen : (numbers : Numbers) (policy : UseConsolidatedMetadata) → policy ≢ Never → block_to_use (held_by_in numbers g) policy ≡ Some (Some B)
+  is_chosen numbers policy not = ap (λ h. block_to_use h policy) (holds numbers) ∙ used_there B policy not
 
   -- what such a choice shows is the forest
   chosen_shows : (s : Contents) (v : MetadataRetrieveVersion) (policy : UseConsolidatedMetadata) → policy ≢ Never → (t : Forest)
-      → ShowsChosen s v (block_to_use (held_by g) policy) true g.path t → t ≡ f
-  chosen_shows s v policy not t shows = one t (subst (λ c. ShowsChosen s v c true g.path t) (is_chosen policy not) shows)
+      → ShowsChosen s v (block_to_use (held_by_in s.numbers g) policy) true g.path t → t ≡ f
+  chosen_shows s v policy not t shows = one t (subst (λ c. ShowsChosen s v c true g.path t) (is_chosen s.numbers policy not) shows)
 
   -- and nothing refuses it
   chosen_clean : (s : Contents) (v : MetadataRetrieveVersion) (policy : UseConsolidatedMetadata) → policy ≢ Never → (e : NodeCreateError)
-      → RefusesChosen s v (block_to_use (held_by g) policy) true g.path e → ⊥
-  chosen_clean s v policy not e h = no_bad_key B valid e (subst (λ c. RefusesChosen s v c true g.path e) (is_chosen policy not) h)
+      → RefusesChosen s v (block_to_use (held_by_in s.numbers g) policy) true g.path e → ⊥
+  chosen_clean s v policy not e h = no_bad_key B valid e (subst (λ c. RefusesChosen s v c true g.path e) (is_chosen s.numbers policy not) h)
 
   -- the entries of the block are the pairs
   pairs_are : (es : List (Path × NodeMetadata)) → Lists (Entries B g.path) es → Lists (Contains (pairs f)) es
   pairs_are es l = lists_from es (λ e. (λ h. (entries e).0 ((listed_each l e).0 h), λ h. (listed_each l e).1 ((entries e).1 h))) l.each_once
 
   -- what is listed by such a choice are the entries
-  listed_by : (s : Contents) (policy : UseConsolidatedMetadata) → block_to_use (held_by g) policy ≡ Some (Some B)
-      → (es : List (Path × NodeMetadata)) → ListsChosen s (block_to_use (held_by g) policy) g.path es → Lists (Entries B g.path) es
+  listed_by : (s : Contents) (policy : UseConsolidatedMetadata) → block_to_use (held_by_in s.numbers g) policy ≡ Some (Some B)
+      → (es : List (Path × NodeMetadata)) → ListsChosen s (block_to_use (held_by_in s.numbers g) policy) g.path es → Lists (Entries B g.path) es
   listed_by s policy is es l = subst (λ c. ListsChosen s c g.path es) is l
 
   -- so the group gives the forest back
   pub gives_back : GivesBack g f
   gives_back = record {
     children = λ s config not t shows. chosen_shows s retrieve.Default config.use_consolidated not t shows;
-    traversed = λ s config not es lists. pairs_are es (listed_by s config.use_consolidated (is_chosen config.use_consolidated not) es lists);
-    excused = λ s config not can_fail e h. ⊎_elim (λ k. lacks_memory e (subst (λ c. IsExcused (is_listed c && can_fail) e) (is_chosen config.use_consolidated not) k)) (λ k. absurd (chosen_clean s retrieve.Default config.use_consolidated not e k)) h;
+    traversed = λ s config not es lists. pairs_are es (listed_by s config.use_consolidated (is_chosen s.numbers config.use_consolidated not) es lists);
+    excused = λ s config not can_fail e h. ⊎_elim (λ k. lacks_memory e (subst (λ c. IsExcused (is_listed c && can_fail) e) (is_chosen s.numbers config.use_consolidated not) k)) (λ k. absurd (chosen_clean s retrieve.Default config.use_consolidated not e k)) h;
   }
 
 module _ (of : Path → Meaning) (g : GroupState) (f : Forest) (B : Block) (from : Consolidates of g f B) where
@@ -131,16 +132,16 @@ module _ (of : Path → Meaning) (g : GroupState) (f : Forest) (B : Block) (from
   can_hold : (m : GroupMetadata) → (k : GroupMetadataV3) × (m ≡ V3 k) → MetadataHold m (Some B)
   can_hold m (k, is) = subst (λ x. MetadataHold x (Some B)) (sym is) inverse.plain
 
-  -- and holds it
-  holds : held_by (with_block g (Some B)) ≡ Some B
-  holds = held_once_set g (Some B) (can_hold g.metadata from.version_3)
+  -- and holds it, in whatever numbers it is read
+  holds : (numbers : Numbers) → held_by_in numbers (with_block g (Some B)) ≡ Some B
+  holds numbers = held_once_set numbers g (Some B) (can_hold g.metadata from.version_3)
 
   -- what a choice shows is the forest
-  shown_is : (s : Contents) (v : MetadataRetrieveVersion) (policy : UseConsolidatedMetadata) → policy ≢ Never → (t : Forest) → ShowsChosen s v (block_to_use (held_by (with_block g (Some B))) policy) true g.path t → t ≡ f
+  shown_is : (s : Contents) (v : MetadataRetrieveVersion) (policy : UseConsolidatedMetadata) → policy ≢ Never → (t : Forest) → ShowsChosen s v (block_to_use (held_by_in s.numbers (with_block g (Some B))) policy) true g.path t → t ≡ f
   shown_is = chosen_shows (with_block g (Some B)) f B holds inverse.valid inverse.entries inverse.one_forest
 
   -- and nothing refuses it
-  none_refused : (s : Contents) (v : MetadataRetrieveVersion) (policy : UseConsolidatedMetadata) → policy ≢ Never → (e : NodeCreateError) → RefusesChosen s v (block_to_use (held_by (with_block g (Some B))) policy) true g.path e → ⊥
+  none_refused : (s : Contents) (v : MetadataRetrieveVersion) (policy : UseConsolidatedMetadata) → policy ≢ Never → (e : NodeCreateError) → RefusesChosen s v (block_to_use (held_by_in s.numbers (with_block g (Some B))) policy) true g.path e → ⊥
   none_refused = chosen_clean (with_block g (Some B)) f B holds inverse.valid inverse.entries inverse.one_forest
 
 -- a version 3 group with the block of a listed forest gives the forest back
@@ -200,7 +201,7 @@ module _ (of : Path → Meaning) (g : GroupState) (f : Forest) (B : Block) (from
 pub group_v2_gives_back : GroupV2GivesBack
 group_v2_gives_back of g f B from = (
   takes of g f B from g.metadata from.version_2,
-  gives_back (with_block g (Some B)) f B (held_once_set g (Some B) (can_hold_v2 of g f B from g.metadata from.version_2)) (keys_valid of g f B from) (same_pairs of g f B from) (one_is of g f B from (Entries B g.path) (same_pairs of g f B from)),
+  gives_back (with_block g (Some B)) f B (λ numbers. held_once_set numbers g (Some B) (can_hold_v2 of g f B from g.metadata from.version_2)) (keys_valid of g f B from) (same_pairs of g f B from) (one_is of g f B from (Entries B g.path) (same_pairs of g f B from)),
 )
 
 -- ---- the stored group as the document of a node
@@ -233,48 +234,52 @@ step_of (Ok x) next y e = (x, refl, e)
 step_of (Err fault) next y e = cc
 
 -- what reads as a version 3 group is a document of that format and type
-read_parts : (d : Data) (m : GroupMetadataV3) → group_v3_of d ≡ Ok m → (ms : Members) × (document_of d ≡ Ok ms) × (format_of 3 d ≡ Ok tt) × (node_type_of (codes "group") d ≡ Ok tt)
-unfolding group_v3_of
-read_parts d m e =
-    let one = step_of (document_of d) _ m e in
+read_parts : (numbers : Numbers) (d : Data) (m : GroupMetadataV3) → group_v3_in numbers d ≡ Ok m
+    → (ms : Members) × (document_in numbers d ≡ Ok ms) × (format_of 3 d ≡ Ok tt) × (node_type_of (codes "group") d ≡ Ok tt)
+unfolding group_v3_in
+read_parts numbers d m e =
+    let one = step_of (document_in numbers d) _ m e in
     let two = step_of (format_of 3 d) _ m one.2 in
     let three = step_of (node_type_of (codes "group") d) _ m two.2 in
     (one.0, one.1, two.1, three.1)
 
 -- such a document that reads as a group reads as that group at the key `zarr.json`
-node_from : (d : Data) (m : GroupMetadataV3) (ms : Members) → document_of d ≡ Ok ms → format_of 3 d ≡ Ok tt → format_of 2 d ≡ Err WrongFormat → node_type_of (codes "group") d ≡ Ok tt
-    → group_v3_of d ≡ Ok m → zarr_json_of d ≡ Ok (Node (Group (V3 m)))
-unfolding node_of zarr_json_of
-node_from d m ms document three other kind group = rw (document, other, three, kind, group) refl
+node_from : (numbers : Numbers) (d : Data) (m : GroupMetadataV3) (ms : Members) → document_in numbers d ≡ Ok ms → format_of 3 d ≡ Ok tt → format_of 2 d ≡ Err WrongFormat
+    → node_type_of (codes "group") d ≡ Ok tt → group_v3_in numbers d ≡ Ok m → zarr_json_in numbers d ≡ Ok (Node (Group (V3 m)))
+unfolding node_in zarr_json_in
+node_from numbers d m ms document three other kind group = rw (document, other, three, kind, group) refl
 
 -- a document that reads as a version 3 group reads as that group at the key `zarr.json`
-group_is_node : (d : Data) (m : GroupMetadataV3) → group_v3_of d ≡ Ok m → zarr_json_of d ≡ Ok (Node (Group (V3 m)))
-group_is_node d m e = let p = read_parts d m e in node_from d m p.0 p.1 p.2 (other_format d p.2) p.3 e
+group_is_node : (numbers : Numbers) (d : Data) (m : GroupMetadataV3) → group_v3_in numbers d ≡ Ok m → zarr_json_in numbers d ≡ Ok (Node (Group (V3 m)))
+group_is_node numbers d m e = let p = read_parts numbers d m e in node_from numbers d m p.0 p.1 p.2 (other_format d p.2) p.3 e
 
 -- what stands at a key means the group by the line of groups, so it does by the line of nodes, whatever the lines after
-line_says : (key : Segments) (m : GroupMetadataV3) (after : Meaning) (o : Option (List ℕ)) → group_v3_line (document_from (of_bytes group_v3_of) key o) nothing ≡ node (Group (V3 m))
-    → version_3_line (document_from (of_bytes zarr_json_of) key o) after ≡ node (Group (V3 m))
-line_says key m after None e = cc
-line_says key m after (Some bytes) e = by_tree (tree_or_fault (json_of bytes)) e
+line_says : (numbers : Numbers) (key : Segments) (m : GroupMetadataV3) (after : Meaning) (o : Option (List ℕ)) → group_v3_line (document_from (of_bytes (group_v3_in numbers)) key o) nothing ≡ node (Group (V3 m))
+    → version_3_line (document_from (of_bytes (zarr_json_in numbers)) key o) after ≡ node (Group (V3 m))
+line_says numbers key m after None e = cc
+line_says numbers key m after (Some bytes) e = by_tree (tree_or_fault (json_of bytes)) e
   where
-    by_group : (d : Data) (r : Result GroupMetadataV3 MetadataFault) → group_v3_of d ≡ r → group_v3_line (document_or_fault key r) nothing ≡ node (Group (V3 m)) → version_3_line (document_or_fault key (zarr_json_of d)) after ≡ node (Group (V3 m))
-    by_group d (Ok k) is e = ap (λ r. version_3_line (document_or_fault key r) after) (group_is_node d k is) ∙ e
+    by_group : (d : Data) (r : Result GroupMetadataV3 MetadataFault) → group_v3_in numbers d ≡ r → group_v3_line (document_or_fault key r) nothing ≡ node (Group (V3 m))
+        → version_3_line (document_or_fault key (zarr_json_in numbers d)) after ≡ node (Group (V3 m))
+    by_group d (Ok k) is e = ap (λ r. version_3_line (document_or_fault key r) after) (group_is_node numbers d k is) ∙ e
     by_group d (Err fault) is e = cc
 
-    by_tree : (r : Result Data MetadataFault) → group_v3_line (document_or_fault key (r >>= group_v3_of)) nothing ≡ node (Group (V3 m)) → version_3_line (document_or_fault key (r >>= zarr_json_of)) after ≡ node (Group (V3 m))
-    by_tree (Ok d) e = by_group d (group_v3_of d) refl e
+    by_tree : (r : Result Data MetadataFault) → group_v3_line (document_or_fault key (r >>= group_v3_in numbers)) nothing ≡ node (Group (V3 m))
+        → version_3_line (document_or_fault key (r >>= zarr_json_in numbers)) after ≡ node (Group (V3 m))
+    by_tree (Ok d) e = by_group d (group_v3_in numbers d) refl e
     by_tree (Err fault) e = cc
 
--- where a path means a version 3 group, it means that node in every store with the same bytes at its key `zarr.json`
-pub means_node : (S s : Contents) (p : Path) (m : GroupMetadataV3) → MeansGroup S retrieve.V3 p (V3 m) → map.get s (p ++ zarr_json ∷ []) ≡ map.get S (p ++ zarr_json ∷ [])
-    → (v : MetadataRetrieveVersion) → v ≢ retrieve.V2 → meaning s v p ≡ node (Group (V3 m))
+-- where a path means a version 3 group, it means that node in every store with the same numbers and the same bytes at its key `zarr.json`
+pub means_node : (S s : Contents) (p : Path) (m : GroupMetadataV3) → s.numbers ≡ S.numbers → MeansGroup S retrieve.V3 p (V3 m)
+    → map.get s.values (p ++ zarr_json ∷ []) ≡ map.get S.values (p ++ zarr_json ∷ []) → (v : MetadataRetrieveVersion) → v ≢ retrieve.V2 → meaning s v p ≡ node (Group (V3 m))
 unfolding group_meaning group_line meaning_in zarr_json_line document_at
-means_node S s p m stored same retrieve.Default not =
-    line_says (p ++ zarr_json ∷ []) m (zarray_line in_bytes s p (zgroup_line in_bytes s p nothing)) (map.get s (p ++ zarr_json ∷ []))
-    (ap (λ o. group_v3_line (document_from (of_bytes group_v3_of) (p ++ zarr_json ∷ []) o) nothing) same ∙ stored)
-means_node S s p m stored same retrieve.V3 not =
-    line_says (p ++ zarr_json ∷ []) m nothing (map.get s (p ++ zarr_json ∷ [])) (ap (λ o. group_v3_line (document_from (of_bytes group_v3_of) (p ++ zarr_json ∷ []) o) nothing) same ∙ stored)
-means_node S s p m stored same retrieve.V2 not = absurd (not refl)
+means_node S s p m alike stored same retrieve.Default not =
+    line_says s.numbers (p ++ zarr_json ∷ []) m (zarray_line (in_bytes s.numbers) s.values p (zgroup_line (in_bytes s.numbers) s.values p nothing)) (map.get s.values (p ++ zarr_json ∷ []))
+    (ap₂ (λ n o. group_v3_line (document_from (of_bytes (group_v3_in n)) (p ++ zarr_json ∷ []) o) nothing) alike same ∙ stored)
+means_node S s p m alike stored same retrieve.V3 not =
+    line_says s.numbers (p ++ zarr_json ∷ []) m nothing (map.get s.values (p ++ zarr_json ∷ []))
+    (ap₂ (λ n o. group_v3_line (document_from (of_bytes (group_v3_in n)) (p ++ zarr_json ∷ []) o) nothing) alike same ∙ stored)
+means_node S s p m alike stored same retrieve.V2 not = absurd (not refl)
 
 -- paths with one text are one
 pub one_path : (p q : Path) → IsPath p → IsPath q → path_text p ≡ path_text q → p ≡ q
@@ -313,19 +318,19 @@ module _ (s : Contents) (v : MetadataRetrieveVersion) (policy : UseConsolidatedM
 
 module _ (of : Path → Meaning) (g : GroupState) (f : Forest) (B : Block) (from : Consolidates of g f B) (named' : IsPath g.path) (S : Contents)
     (stored : MeansStored S g.path (with_block g (Some B)).metadata) (shallow : depth (group_tree (with_block g (Some B)).metadata) ≤ max_depth)
-    (s : Contents) (same : map.get s (g.path ++ zarr_json ∷ []) ≡ map.get S (g.path ++ zarr_json ∷ [])) where
+    (s : Contents) (numbers_same : s.numbers ≡ S.numbers) (same : map.get s.values (g.path ++ zarr_json ∷ []) ≡ map.get S.values (g.path ++ zarr_json ∷ [])) where
   -- what is opened is the group
   opens_group : (m k : GroupMetadata) → (x : GroupMetadataV3) × (k ≡ V3 x) → m ≡ metadata_with (Some B) k → MeansStored S g.path m → depth (group_tree m) ≤ max_depth
       → (v : MetadataRetrieveVersion) → v ≢ retrieve.V2 → meaning s v g.path ≡ node (Group m)
   opens_group m k (x, is) with' means shallow v not = go m (with' ∙ ap (metadata_with (Some B)) is) means shallow
     where
       go : (m : GroupMetadata) → m ≡ metadata_with (Some B) (V3 x) → MeansStored S g.path m → depth (group_tree m) ≤ max_depth → meaning s v g.path ≡ node (Group m)
-      go (V3 y) e means shallow = means_node S s g.path y (means shallow).1 same v not
+      go (V3 y) e means shallow = means_node S s g.path y numbers_same (means shallow).1 same v not
       go (V2 y) e means shallow = cc
 
   -- the block that stands for the nodes below a version 3 group is the one that the group holds
   held_there : (s : Contents) (p : Path) (m : GroupMetadata) (old : Option Block) → (k : GroupMetadataV3) × (m ≡ V3 k)
-      → block_at s p (Group (metadata_with (Some B) m)) ≡ held_in (metadata_with (Some B) m) old
+      → block_at s p (Group (metadata_with (Some B) m)) ≡ held_in s.numbers (metadata_with (Some B) m) old
   held_there s p (V3 m) old is = refl
   held_there s p (V2 m) old (k, is) = cc
 
@@ -356,4 +361,4 @@ module _ (of : Path → Meaning) (g : GroupState) (f : Forest) (B : Block) (from
 
 -- a node opened over the stored group gives the forest back
 pub stored_gives_back : StoredGivesBack
-stored_gives_back of g f B from valid S stored shallow s same = opens_to of g f B from valid S stored shallow s same
+stored_gives_back of g f B from valid S stored shallow s numbers_same same = opens_to of g f B from valid S stored shallow s numbers_same same

@@ -11,6 +11,7 @@ pub mod BlockFields
 pub mod Together
 pub mod GivesBack
 pub mod StoredAgain
+pub mod ListedReads
 pub mod StoredBlocks
 pub mod Beside
 pub mod BlockPlain

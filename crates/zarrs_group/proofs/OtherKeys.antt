@@ -1,9 +1,9 @@
--- Storing and erasing change no key but the four of the group.
+-- Storing and erasing change no key but the four of the group, and not the numbers.
 use Rattle.std.proofs.Common.{◌≡◌, ◌≢◌, false, true, Bool, List, [], ◌∷◌, ◌++◌, Option, Some, None, refl, ◌∙◌, subst}
 use Rattle.std.specs.FinMap as map
 use Rattle.serde_json.specs.Data.{Members}
 use Rattle.zarrs_store.specs.Segments.{Segments}
-use Rattle.zarrs_store.specs.Contents.{Contents, AgreesExceptAt}
+use Rattle.zarrs_store.specs.Contents.{Contents}
 use Rattle.zarrs_store.proofs.ContentsLemmas.{AgreesExceptAt-insert, AgreesExceptAt-remove}
 use Rattle.zarrs_path.specs.Keys.{zarr_json, zarray, zgroup, zattrs, zmetadata}
 use Rattle.zarrs_path.specs.Paths.{Path}
@@ -14,15 +14,20 @@ use Rattle.zarrs_meta.specs.declared.node.GroupMetadata.TheVariants.{V3, V2}
 use Rattle.zarrs_config.specs.declared.version.MetadataEraseVersion.{MetadataEraseVersion}
 use Rattle.zarrs_config.specs.declared.version.MetadataEraseVersion.TheVariants as erase
 use Rattle.zarrs_block.specs.Block.{Block}
-use Rattle.zarrs_group.specs.Edits.{Edit, set, remove, after_edit, after, edit_key, IsCutShort}
+use Rattle.zarrs_group.specs.Edits.{AgreesOutsideKey, Edit, set, remove, after_edit, after, edit_key, IsCutShort}
 use Rattle.zarrs_group.specs.StoringGroups.{attributes_edit, store_edits, erase_edits}
 use Rattle.zarrs_group.specs.Laws.{OthersStayAfter, OtherKeysStay, ArraysStay}
 use Rattle.zarrs_group.proofs.EraseLaws.{keys_differ}
 
--- an edit changes no key but its own
-edited_elsewhere : (S : Contents) (e : Edit) → AgreesExceptAt (edit_key e) S (after_edit S e)
-edited_elsewhere S (set key bytes) = AgreesExceptAt-insert S key bytes
-edited_elsewhere S (remove key) = AgreesExceptAt-remove S key
+-- an edit changes no key but its own, and not the numbers
+pub edited_elsewhere : (S : Contents) (e : Edit) → AgreesOutsideKey (edit_key e) S (after_edit S e)
+edited_elsewhere S (set key bytes) = (refl, AgreesExceptAt-insert S.values key bytes)
+edited_elsewhere S (remove key) = (refl, AgreesExceptAt-remove S.values key)
+
+-- edits do not change the numbers
+numbers_after : (S : Contents) (es : List Edit) → (after S es).numbers ≡ S.numbers
+numbers_after S [] = refl
+numbers_after S (e ∷ es) = numbers_after (after_edit S e) es ∙ (edited_elsewhere S e).0
 
 -- the edit is at another key
 abbrev Elsewhere : Segments → Edit → Type 0
@@ -34,9 +39,9 @@ EachElsewhere key [] = Unit {0}
 EachElsewhere key (e ∷ es) = Elsewhere key e × EachElsewhere key es
 
 -- edits at other keys leave a key as it was
-after_elsewhere : (key : Segments) (S : Contents) (es : List Edit) → EachElsewhere key es → map.get (after S es) key ≡ map.get S key
+after_elsewhere : (key : Segments) (S : Contents) (es : List Edit) → EachElsewhere key es → map.get (after S es).values key ≡ map.get S.values key
 after_elsewhere key S [] all = refl
-after_elsewhere key S (e ∷ es) all = after_elsewhere key (after_edit S e) es all.1 ∙ edited_elsewhere S e key all.0
+after_elsewhere key S (e ∷ es) all = after_elsewhere key (after_edit S e) es all.1 ∙ (edited_elsewhere S e).1 key all.0
 
 -- of edits at other keys, those that were done are at other keys, and so is the next
 front_elsewhere : (key : Segments) (done rest : List Edit) (e : Edit) → EachElsewhere key (done ++ e ∷ rest) → EachElsewhere key done × Elsewhere key e
@@ -44,10 +49,10 @@ front_elsewhere key [] rest e all = (tt, all.0)
 front_elsewhere key (d ∷ done) rest e all = let more = front_elsewhere key done rest e all.1 in ((all.0, more.0), more.1)
 
 -- edits at other keys leave a key as it was also where they are cut short
-cut_elsewhere : (key : Segments) (S S' : Contents) (es : List Edit) → EachElsewhere key es → IsCutShort S es S' → map.get S' key ≡ map.get S key
+cut_elsewhere : (key : Segments) (S S' : Contents) (es : List Edit) → EachElsewhere key es → IsCutShort S es S' → map.get S'.values key ≡ map.get S.values key
 cut_elsewhere key S S' es all cut =
     let parts = front_elsewhere key cut.done cut.rest cut.next (subst (λ ds. EachElsewhere key ds) cut.is all) in
-    cut.others key parts.1 ∙ after_elsewhere key S cut.done parts.0
+    cut.others.1 key parts.1 ∙ after_elsewhere key S cut.done parts.0
 
 -- the key is none of the four of the group
 abbrev IsOther : Path → Segments → Type 0
@@ -55,7 +60,10 @@ IsOther p key = (key ≢ p ++ zarr_json ∷ []) × (key ≢ p ++ zgroup ∷ []) 
 
 -- edits that are at other keys than every other key leave those as they were
 others_after : (p : Path) (es : List Edit) → ((key : Segments) → IsOther p key → EachElsewhere key es) → OthersStayAfter p es
-others_after p es all S = (λ key a b c d. after_elsewhere key S es (all key (a, b, c, d)), λ S' cut key a b c d. cut_elsewhere key S S' es (all key (a, b, c, d)) cut)
+others_after p es all S = (
+  (numbers_after S es, λ key a b c d. after_elsewhere key S es (all key (a, b, c, d))),
+  λ S' cut. (cut.others.0 ∙ numbers_after S cut.done, λ key a b c d. cut_elsewhere key S S' es (all key (a, b, c, d)) cut),
+)
 
 -- the edit of the attributes is at `.zattrs`
 attributes_elsewhere : (p : Path) (key : Segments) (a : Members) (b : Bool) → is_empty a ≡ b → key ≢ p ++ zattrs ∷ [] → Elsewhere key (attributes_edit p a)

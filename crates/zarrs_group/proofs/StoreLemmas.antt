@@ -17,7 +17,7 @@ use Rattle.zarrs_group.specs.StoringGroups.{metadata_key, store_edits, erase_edi
 
 -- where nothing was done, the first edit is the next
 none_done : (S : Contents) (e : Edit) (es : List Edit) → IsCutShort S (e ∷ es) S
-none_done S e es = record { done = []; next = e; rest = es; is = refl; others = λ q n. refl }
+none_done S e es = record { done = []; next = e; rest = es; is = refl; others = (refl, λ q n. refl) }
 
 -- where nothing was done of storing, it was cut short at its first edit
 pub none_stored : (S : Contents) (p : Path) (m : GroupMetadata) (block : Option Block) → IsCutShort S (store_edits p m block) S

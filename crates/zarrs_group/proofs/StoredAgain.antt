@@ -25,9 +25,10 @@ use Rattle.zarrs_meta.specs.declared.node.NodeMetadata.TheVariants.{Group}
 use Rattle.zarrs_block.specs.Block.{Block, Entries, HasValidKeys, IsAscending}
 use Rattle.zarrs_block.specs.Meaning.{Meaning}
 use Rattle.zarrs_block.specs.Policy.{block_to_use}
-use Rattle.zarrs_block.specs.Zmetadata.{zmetadata_of, zmetadata_tree, HasPlainEntries, HaveSameEntries}
+use Rattle.zarrs_block.specs.Zmetadata.{zmetadata_in, zmetadata_tree, HasPlainEntries, HaveSameEntries}
 use Rattle.zarrs_block.specs.declared.node_create_error.NodeCreateError.{NodeCreateError}
 use Rattle.zarrs_block.proofs.Expansion.{entries_listed}
+use Rattle.zarrs_block.proofs.MoreBlocks.{zmetadata_too}
 use Rattle.zarrs_block.proofs.ZmetadataAgain.{written_reads_back}
 use Rattle.zarrs_node.specs.BlocksBelow.{zmetadata_at}
 use Rattle.zarrs_node.specs.Forest.{Forest, Shows, pairs}
@@ -51,11 +52,11 @@ use Rattle.zarrs_group.proofs.StoreLemmas.{own_plain, beside_is}
 -- ---- the document that is stored
 
 -- the key of `.zmetadata` has what is written of the block
-block_stored : (S : Contents) (p : Path) (m : GroupMetadataV2) (B : Block) → map.get (after S (store_edits p (V2 m) (Some B))) (p ++ zmetadata ∷ []) ≡ Some (pretty_text (zmetadata_tree m B))
-block_stored S p m B = get_inserted (after S (own_edits p m)) (p ++ zmetadata ∷ []) (pretty_text (zmetadata_tree m B))
+block_stored : (S : Contents) (p : Path) (m : GroupMetadataV2) (B : Block) → map.get (after S (store_edits p (V2 m) (Some B))).values (p ++ zmetadata ∷ []) ≡ Some (pretty_text (zmetadata_tree m B))
+block_stored S p m B = get_inserted (after S (own_edits p m)).values (p ++ zmetadata ∷ []) (pretty_text (zmetadata_tree m B))
 
 -- bytes that are read as the document of a block are that block
-block_read : (s : Contents) (p : Path) (bytes : List ℕ) (d : Data) (C : Block) → map.get s (p ++ zmetadata ∷ []) ≡ Some bytes → json_of bytes ≡ Some d → zmetadata_of d ≡ Ok C → zmetadata_at s p ≡ Some C
+block_read : (s : Contents) (p : Path) (bytes : List ℕ) (d : Data) (C : Block) → map.get s.values (p ++ zmetadata ∷ []) ≡ Some bytes → json_of bytes ≡ Some d → zmetadata_in s.numbers d ≡ Ok C → zmetadata_at s p ≡ Some C
 block_read s p bytes d C here read is = rw (here, read, is) refl
 
 -- where no fault is told there is none
@@ -107,7 +108,7 @@ module _ (of : Path → Meaning) (g : GroupState) (f : Forest) (B : Block) (from
     -- a group that is opened there holds it, and gives the forest back
     group_again : (h : GroupState) → h.path ≡ g.path → h.metadata ≡ V2 m → h.block ≡ zmetadata_at s g.path → GivesBack h f
     group_again h path metadata beside =
-        gives_back h f C (ap (λ k. held_in k h.block) metadata ∙ beside ∙ there) valid_again
+        gives_back h f C (λ numbers. ap (λ k. held_in numbers k h.block) metadata ∙ beside ∙ there) valid_again
         (subst (λ p. (e : Path × NodeMetadata) → Entries C p e ↔ Contains (pairs f) e) (sym path) pairs_again)
         (subst (λ p. (t : Forest) → Shows t p (Kept (Entries C p) true p) → t ≡ f) (sym path) (λ t shows. one_is of g f B from (Entries C g.path) pairs_again t shows))
 
@@ -127,7 +128,7 @@ module _ (of : Path → Meaning) (g : GroupState) (f : Forest) (B : Block) (from
       let plain : HasPlainEntries B = entries_plain B up valid (no_block_fault g.path m B stored.plain) in
       let again = written_reads_back m B (plain_v2 m (own_plain g.path (V2 m) (Some B) stored.plain)) up valid (entries_v2 of g f B from) plain in
       opens_again s m again.0
-      (block_read s g.path (pretty_text (zmetadata_tree m B)) (zmetadata_tree m B) again.0 (stored.same ∙ block_stored S g.path m B) (stored.reads stored.shallow) again.1) again.2
+      (block_read s g.path (pretty_text (zmetadata_tree m B)) (zmetadata_tree m B) again.0 (stored.same ∙ block_stored S g.path m B) (stored.reads stored.shallow) (zmetadata_too s.numbers (zmetadata_tree m B) again.0 again.1)) again.2
 
 -- a node opened over the document of a stored version 2 group gives the forest back
 pub stored_v2_gives_back : StoredV2GivesBack

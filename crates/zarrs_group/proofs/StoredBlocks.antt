@@ -2,10 +2,9 @@
 use Rattle.std.proofs.Common.{◌≡◌, ◌≤◌, inl, inr, ⊎_elim, Bool, true, List, [], ◌∷◌, ◌++◌, length, Option, Some, None, Result, Ok, Err, refl, sym, ap, subst, ◌∙◌, arith, length-append}
 use Rattle.serde_json.specs.Data.{depth}
 use Rattle.serde_json.specs.Read.{max_depth}
-use Rattle.zarrs_store.specs.Contents.{Contents, AgreesExceptAt}
+use Rattle.zarrs_store.specs.Contents.{Contents}
 use Rattle.zarrs_store.specs.declared.storage_error.StorageError.{StorageError}
 use Rattle.zarrs_store.specs.declared.storage_error.StorageError.TheVariants as storage
-use Rattle.zarrs_store.proofs.ContentsLemmas.{AgreesExceptAt-insert, AgreesExceptAt-remove}
 use Rattle.zarrs_path.specs.Keys.{zarr_json}
 use Rattle.zarrs_path.specs.Paths.{Path, IsPath}
 use Rattle.zarrs_config.specs.declared.version.MetadataConvertVersion.{MetadataConvertVersion}
@@ -20,37 +19,38 @@ use Rattle.zarrs_meta.specs.declared.node.GroupMetadata.TheVariants.{V3}
 use Rattle.zarrs_meta.specs.declared.node.NodeMetadata.TheVariants.{Group}
 use Rattle.zarrs_block.specs.Block.{Block}
 use Rattle.zarrs_block.specs.Meaning.{meaning, node, nothing}
-use Rattle.zarrs_block.specs.Policy.{block_in_group, block_to_use}
+use Rattle.zarrs_block.specs.Policy.{group_block, block_to_use}
 use Rattle.zarrs_block.specs.declared.node_create_error.NodeCreateError.{NodeCreateError}
 use Rattle.zarrs_node.specs.BlocksBelow.{block_at}
 use Rattle.zarrs_node.specs.Nodes.{ShowsBad}
 use Rattle.zarrs_node.specs.ListedBlocks.{IsListedBlock}
 use Rattle.zarrs_node.specs.OpeningNodes.{choice, RefusesChosen, ShowsBelow, ShowsChosen}
 use Rattle.zarrs_node.specs.OpeningNodes as opened
-use Rattle.zarrs_node.proofs.ListedBlocks.{listed_plain, listed_keys, shown_alike}
-use Rattle.zarrs_group.specs.Edits.{Edit, set, remove, after, edit_key, IsCutShort}
+use Rattle.zarrs_node.proofs.ListedBlocks.{listed_keys, shown_alike}
+use Rattle.zarrs_group.specs.Edits.{AgreesOutsideKey, Edit, set, after, edit_key, IsCutShort}
 use Rattle.zarrs_group.specs.Groups.{group_tree, metadata_by_version}
 use Rattle.zarrs_group.specs.Meaning.{MeansGroup, group_v3_line, group_line, group_meaning}
-use Rattle.zarrs_group.specs.BlocksOfGroups.{MetadataHold, beside_with, fields_with, held_by, held_in, metadata_with, with_block}
+use Rattle.zarrs_group.specs.BlocksOfGroups.{fields_with, metadata_with}
 use Rattle.zarrs_group.specs.Laws.{MeansStored}
 use Rattle.zarrs_meta.specs.GroupV3.{group_v3_tree}
 use Rattle.zarrs_group.specs.Layout.{pretty_text}
 use Rattle.zarrs_group.specs.StoredBlocks.{OpensAlike, EditKeepsOthers, StoringKeepsOthers, MeansVersion3, ListedBlockOpens}
 use Rattle.zarrs_group.specs.StoringGroups.{store_edits, RefusesStoring}
-use Rattle.zarrs_group.proofs.BlockFields.{held_once_set}
+use Rattle.zarrs_group.proofs.BlockFields.{set_reads}
 use Rattle.zarrs_group.proofs.GivesBack.{means_node, no_bad_key, opens_clean}
+use Rattle.zarrs_group.proofs.ListedReads.{listed_reads}
+use Rattle.zarrs_group.proofs.OtherKeys.{edited_elsewhere}
 
--- an edit leaves every other key as it was
+-- an edit leaves every other key as it was, and the numbers
 pub edit_keeps_others : EditKeepsOthers
-edit_keeps_others S (set key bytes) = AgreesExceptAt-insert S key bytes
-edit_keeps_others S (remove key) = AgreesExceptAt-remove S key
+edit_keeps_others S e = edited_elsewhere S e
 
 -- so does a single edit that was cut short
-cut_keeps_others : (S T : Contents) (e : Edit) → IsCutShort S (e ∷ []) T → AgreesExceptAt (edit_key e) S T
+cut_keeps_others : (S T : Contents) (e : Edit) → IsCutShort S (e ∷ []) T → AgreesOutsideKey (edit_key e) S T
 cut_keeps_others S T e cut = by cut.done cut.is cut.others
   where
-    by : (done : List Edit) → e ∷ [] ≡ done ++ cut.next ∷ cut.rest → AgreesExceptAt (edit_key cut.next) (after S done) T → AgreesExceptAt (edit_key e) S T
-    by [] is others = subst (λ x. AgreesExceptAt (edit_key x) S T) (sym (first is)) others
+    by : (done : List Edit) → e ∷ [] ≡ done ++ cut.next ∷ cut.rest → AgreesOutsideKey (edit_key cut.next) (after S done) T → AgreesOutsideKey (edit_key e) S T
+    by [] is others = subst (λ x. AgreesOutsideKey (edit_key x) S T) (sym (first is)) others
       where
         first : e ∷ [] ≡ cut.next ∷ cut.rest → e ≡ cut.next
         first is = cc
@@ -63,13 +63,13 @@ written_as_is convert.V3 m = refl
 
 module _ (S T : Contents) (p : Path) (m : GroupMetadataV3) (block : Option Block) where
   -- storing a version 3 group changes its document alone
-  stored_keeps : AgreesExceptAt (p ++ zarr_json ∷ []) S (after S (store_edits p (V3 m) block))
+  stored_keeps : AgreesOutsideKey (p ++ zarr_json ∷ []) S (after S (store_edits p (V3 m) block))
   stored_keeps = edit_keeps_others S (set (p ++ zarr_json ∷ []) (pretty_text (group_v3_tree m)))
 
   -- also where it is refused
-  refused_keeps : (can_fail : Bool) (e : StorageError) → RefusesStoring can_fail p (V3 m) block S T e → AgreesExceptAt (p ++ zarr_json ∷ []) S T
+  refused_keeps : (can_fail : Bool) (e : StorageError) → RefusesStoring can_fail p (V3 m) block S T e → AgreesOutsideKey (p ++ zarr_json ∷ []) S T
   refused_keeps can_fail storage.Fault h = cut_keeps_others S T _ h.2
-  refused_keeps can_fail (storage.InvalidMetadata key fault) h = subst (AgreesExceptAt (p ++ zarr_json ∷ []) S) (sym h.0) (λ other not. refl)
+  refused_keeps can_fail (storage.InvalidMetadata key fault) h = subst (AgreesOutsideKey (p ++ zarr_json ∷ []) S) (sym h.0) (refl, λ other not. refl)
   refused_keeps can_fail (storage.Other text) h = absurd h
   refused_keeps can_fail storage.OutOfMemory h = cut_keeps_others S T _ h
 
@@ -77,7 +77,7 @@ module _ (S T : Contents) (p : Path) (m : GroupMetadataV3) (block : Option Block
 pub storing_keeps_others : StoringKeepsOthers
 storing_keeps_others S T v g m is =
     let same : metadata_by_version v g.metadata ≡ V3 m = ap (metadata_by_version v) is ∙ written_as_is v m in (
-      subst (λ x. AgreesExceptAt (g.path ++ zarr_json ∷ []) S (after S (store_edits g.path x g.block))) (sym same) (stored_keeps S T g.path m g.block),
+      subst (λ x. AgreesOutsideKey (g.path ++ zarr_json ∷ []) S (after S (store_edits g.path x g.block))) (sym same) (stored_keeps S T g.path m g.block),
       λ can_fail e h. refused_keeps S T g.path m g.block can_fail e (subst (λ x. RefusesStoring can_fail g.path x g.block S T e) same h),
     )
 
@@ -123,9 +123,8 @@ pub listed_block_opens : ListedBlockOpens
 listed_block_opens S v w g m B not valid is listed stored shallow =
     let k : GroupMetadataV3 = record { attributes = m.attributes; additional_fields = fields_with (Some B) m.additional_fields } in
     let same : metadata_with (Some B) g.metadata ≡ V3 k = ap (metadata_with (Some B)) is in
-    let holds : held_by (with_block g (Some B)) ≡ Some B = held_once_set g (Some B) (subst (λ x. MetadataHold x (Some B)) (sym is) (listed_plain S v g.path B listed)) in
-    let held : block_at S g.path (Group (V3 k)) ≡ Some B = ap (λ x. held_in x (beside_with (Some B) g.metadata g.block)) (sym same) ∙ holds in
+    let held : block_at S g.path (Group (V3 k)) ≡ Some B = set_reads S.numbers B m.additional_fields (listed_reads S v g.path B listed) in
     let both : depth (group_tree (V3 k)) ≤ max_depth → MeansGroup S retrieve.Default g.path (V3 k) × MeansGroup S retrieve.V3 g.path (V3 k) =
     subst (MeansStored S g.path) (ap (metadata_by_version w) same ∙ written_as_is w k) stored in
-    let means : meaning S v g.path ≡ node (Group (V3 k)) = means_node S S g.path k (both (subst (λ x. depth (group_tree x) ≤ max_depth) same shallow)).1 refl v not in
-    (ap block_in_group same ∙ held, subst (OpensAlike S v g.path) (sym same) (alike S v g.path k B valid listed means held))
+    let means : meaning S v g.path ≡ node (Group (V3 k)) = means_node S S g.path k refl (both (subst (λ x. depth (group_tree x) ≤ max_depth) same shallow)).1 refl v not in
+    (ap (group_block S.numbers) same ∙ held, subst (OpensAlike S v g.path) (sym same) (alike S v g.path k B valid listed means held))

@@ -80,7 +80,7 @@ chosen_pairs s (Some (Some B)) b ns h = kept_pairs (Entries B b) b ns h
 
 -- the pairs of the nodes that show the children of a group are its children
 pub are_children : (s : Contents) (g : GroupState) (config : Settings) (ns : List Node) → ShowsChildren s g config false (forest ns) → AreChildren s g config (map pair_of ns)
-are_children s g config ns h = let both = chosen_pairs s (block_choice g config) g.path ns h in record { ascend = both.0; children = both.1 }
+are_children s g config ns h = let both = chosen_pairs s (block_choice s.numbers g config) g.path ns h in record { ascend = both.0; children = both.1 }
 
 -- the paths of the pairs of nodes are those of the nodes
 pub paths_of_pairs : (ns : List Node) → map (λ e. e.0) (map pair_of ns) ≡ map path_of ns

@@ -1,13 +1,15 @@
 -- Zarr core specification 3.1, "Group metadata", the field `consolidated_metadata`, and the document `.zmetadata` of version 2: the block that a group holds, and the group with a block set.
 -- <https://zarr-specs.readthedocs.io/en/latest/v3/core/index.html#group-metadata>
 -- <https://zarr.readthedocs.io/en/stable/user-guide/consolidated_metadata/>
---     held_by g      the block that a group holds, where there is one
+--     held_by_in numbers g, held_by g      the block that a group holds in these numbers, or in whole ones, where there is one
 --     block_beside s p m      the block that a store has beside the metadata of a group
 --     with_block g block      the group with a block or without one, all else as it was
 --     Fits m block, RefusesBlock m block e      that a group of these metadata takes a block; what refuses it
 --     CanHold g block      a block that the group holds once it is set
 use Rattle.std.specs.Prelude.{◌≡◌, false, [], ◌∷◌, Option, Some, None, codes}
 use Rattle.serde_json.specs.Data.{Members, put}
+use Rattle.zarrs_fault.specs.declared.numbers.Numbers.{Numbers}
+use Rattle.zarrs_fault.specs.declared.numbers.Numbers.TheVariants.{Whole}
 use Rattle.zarrs_store.specs.Contents.{Contents}
 use Rattle.zarrs_path.specs.Paths.{Path}
 use Rattle.zarrs_form.specs.Documents.{besides}
@@ -15,7 +17,7 @@ use Rattle.zarrs_form.specs.Fields.{field_data}
 use Rattle.zarrs_meta.specs.declared.node.GroupMetadata.{GroupMetadata}
 use Rattle.zarrs_meta.specs.declared.node.GroupMetadata.TheVariants.{V3, V2}
 use Rattle.zarrs_block.specs.Block.{Block, block_tree, HasPlainNodes}
-use Rattle.zarrs_block.specs.Policy.{block_in_group}
+use Rattle.zarrs_block.specs.Policy.{group_block}
 use Rattle.zarrs_block.specs.Zmetadata.{RefusesZmetadata}
 use Rattle.zarrs_block.specs.declared.node_create_error.NodeCreateError.{NodeCreateError}
 use Rattle.zarrs_block.specs.declared.node_create_error.NodeCreateError.TheVariants.{OutOfMemory}
@@ -23,14 +25,18 @@ use Rattle.zarrs_node.specs.BlocksBelow.{zmetadata_at}
 use Rattle.zarrs_group.specs.BlocksBeside.{IsBeside}
 use Rattle.zarrs_group.specs.Groups.{GroupState}
 
--- the block of a group with these metadata and this block beside them: the one in the metadata of version 3, the one beside those of version 2
-abbrev pub held_in : GroupMetadata → Option Block → Option Block
-held_in (V3 m) block = block_in_group (V3 m)
-held_in (V2 m) block = block
+-- the block of a group with these metadata and this block beside them: the one in the metadata of version 3, read in these numbers; the one beside those of version 2
+abbrev pub held_in : Numbers → GroupMetadata → Option Block → Option Block
+held_in numbers (V3 m) block = group_block numbers (V3 m)
+held_in numbers (V2 m) block = block
 
--- the block that a group holds, where there is one
+-- the block that a group holds, read in these numbers, where there is one
+abbrev pub held_by_in : Numbers → GroupState → Option Block
+held_by_in numbers g = held_in numbers g.metadata g.block
+
+-- the same, of a block whose numbers are whole
 abbrev pub held_by : GroupState → Option Block
-held_by g = held_in g.metadata g.block
+held_by g = held_by_in Whole g
 
 -- the block that a store has beside the metadata of a group: of a version 2 group the one that the document `.zmetadata` is, of a version 3 group none
 abbrev pub block_beside : Contents → Path → GroupMetadata → Option Block

@@ -2,11 +2,12 @@
 -- <https://zarr-specs.readthedocs.io/en/latest/v3/core/index.html#hierarchy>
 -- <https://zarr-specs.readthedocs.io/en/latest/v3/core/index.html#group-metadata>
 -- <https://zarr.readthedocs.io/en/stable/user-guide/consolidated_metadata/>
---     block_choice g config      the block that is used of a group, or that the store is listed, or nothing where the want of a block is refused
+--     block_choice numbers g config      the block that is used of a group, or that the store is listed, or nothing where the want of a block is refused
 --     ShowsChildren, ListsNodes, AreChildren      what its trees show; what all its nodes are; what its children are, in order
 --     HasCleanChildren, RefusesChildren      that nothing refuses it; what a refusal is
 --     is_listed choice      whether the store is listed: only there its fault is excused
 use Rattle.std.specs.Prelude.{Bool, true, false, ◌&&◌, List, [], ◌∷◌, Option, Some, None, ◌⊎◌}
+use Rattle.zarrs_fault.specs.declared.numbers.Numbers.{Numbers}
 use Rattle.zarrs_store.specs.Contents.{Contents, Lists}
 use Rattle.zarrs_path.specs.Paths.{Path}
 use Rattle.zarrs_config.specs.Settings.{Settings}
@@ -24,16 +25,16 @@ use Rattle.zarrs_node.specs.OpeningNodes.{ShowsChosen, IsCleanChosen, RefusesCho
 use Rattle.zarrs_node.specs.Order.{Ascend}
 use Rattle.zarrs_group.specs.declared.create_error.GroupCreateError.{GroupCreateError}
 use Rattle.zarrs_group.specs.Groups.{GroupState}
-use Rattle.zarrs_group.specs.BlocksOfGroups.{held_by}
+use Rattle.zarrs_group.specs.BlocksOfGroups.{held_by_in}
 use Rattle.zarrs_group.specs.OpeningGroups.{IsFromNode}
 
--- the block that is used of a group, or that there is none, or nothing where the want of a block is refused
-abbrev pub block_choice : GroupState → Settings → Option (Option Block)
-block_choice g config = block_to_use (held_by g) config.use_consolidated
+-- the block that is used of a group, read in these numbers, or that there is none, or nothing where the want of a block is refused
+abbrev pub block_choice : Numbers → GroupState → Settings → Option (Option Block)
+block_choice numbers g config = block_to_use (held_by_in numbers g) config.use_consolidated
 
 -- the forest shows the nodes below the group, by the block that is used or by the documents of either version; or its children alone
 abbrev pub ShowsChildren : Contents → GroupState → Settings → Bool → Forest → Type 0
-ShowsChildren s g config recursive f = ShowsChosen s Default (block_choice g config) recursive g.path f
+ShowsChildren s g config recursive f = ShowsChosen s Default (block_choice s.numbers g config) recursive g.path f
 
 -- the pairs are all that stands below b, each once, in any order: by the block that is chosen, or by a listing
 abbrev pub ListsChosen : Contents → Option (Option Block) → Path → List (Path × NodeMetadata) → Type 0
@@ -42,7 +43,7 @@ ListsChosen s (Some c) b es = Lists (PairsBelow s Default c b) es
 
 -- the pairs are all that stands below the group
 abbrev pub ListsNodes : Contents → GroupState → Settings → List (Path × NodeMetadata) → Type 0
-ListsNodes s g config es = ListsChosen s (block_choice g config) g.path es
+ListsNodes s g config es = ListsChosen s (block_choice s.numbers g config) g.path es
 
 -- the pairs are the nodes directly below b, each once: by the block that is chosen, or by a listing
 abbrev pub ListsDirectly : Contents → Option (Option Block) → Path → List (Path × NodeMetadata) → Type 0
@@ -52,11 +53,11 @@ ListsDirectly s (Some c) b es = Lists (NodesBelow s Default c false b) es
 -- the pairs are the children of the group, each once, in the order of their paths
 pub record AreChildren (s : Contents) (g : GroupState) (config : Settings) (es : List (Path × NodeMetadata)) : Type 0 where
   pub ascend : Ascend es
-  pub children : ListsDirectly s (block_choice g config) g.path es
+  pub children : ListsDirectly s (block_choice s.numbers g config) g.path es
 
 -- nothing refuses what stands below the group: a listing comes upon nothing bad, or all keys of the block that is used are valid
 abbrev pub HasCleanChildren : Contents → GroupState → Settings → Bool → Type 0
-HasCleanChildren s g config recursive = IsCleanChosen s Default (block_choice g config) recursive g.path
+HasCleanChildren s g config recursive = IsCleanChosen s Default (block_choice s.numbers g config) recursive g.path
 
 -- the store is listed: no block is used, and the want of one is not refused
 abbrev pub is_listed : Option (Option Block) → Bool
@@ -66,7 +67,7 @@ is_listed (Some (Some B)) = false
 
 -- out of memory, or the error is the fault of a store that is listed and can fail; or the want of a block is refused; or, by the block that is used or by a listing, what stands below the group is
 abbrev pub RefusesChildren : Bool → Contents → GroupState → Settings → Bool → NodeCreateError → Type 0
-RefusesChildren can_fail s g config recursive e = IsExcused (is_listed (block_choice g config) && can_fail) e ⊎ RefusesChosen s Default (block_choice g config) recursive g.path e
+RefusesChildren can_fail s g config recursive e = IsExcused (is_listed (block_choice s.numbers g config) && can_fail) e ⊎ RefusesChosen s Default (block_choice s.numbers g config) recursive g.path e
 
 -- ---- groups among the children
 

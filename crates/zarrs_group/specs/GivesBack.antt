@@ -79,11 +79,11 @@ pub record OpensTo (s : Contents) (g : GroupState) (f : Forest) : Type 0 where
   pub opened : (v : MetadataRetrieveVersion) → v ≢ retrieve.V2 → (policy : UseConsolidatedMetadata) → policy ≢ Never
       → (e : NodeCreateError) → RefusesOpening s v policy (path_text g.path) e → ⊥
 
--- A version 3 group that was stored with the block of a listed forest and does not nest too deep gives the forest back over any store that has the stored bytes at its key: a node that is opened there has that forest below it.
+-- A version 3 group that was stored with the block of a listed forest and does not nest too deep gives the forest back over any store that has the stored bytes at its key, and the numbers: a node that is opened there has that forest below it.
 abbrev pub StoredGivesBack : Type 0
 StoredGivesBack = (of : Path → Meaning) (g : GroupState) (f : Forest) (B : Block) → Consolidates of g f B → IsPath g.path
     → (S : Contents) → MeansStored S g.path (with_block g (Some B)).metadata → depth (group_tree (with_block g (Some B)).metadata) ≤ max_depth
-    → (s : Contents) → map.get s (g.path ++ zarr_json ∷ []) ≡ map.get S (g.path ++ zarr_json ∷ []) → OpensTo s (with_block g (Some B)) f
+    → (s : Contents) → s.numbers ≡ S.numbers → map.get s.values (g.path ++ zarr_json ∷ []) ≡ map.get S.values (g.path ++ zarr_json ∷ []) → OpensTo s (with_block g (Some B)) f
 
 -- the document `.zmetadata` of the block beside the metadata of version 2 does not nest too deep
 abbrev pub IsBlockShallow : GroupMetadata → Option Block → Type 0
@@ -96,7 +96,7 @@ pub record HasStoredBlock (S s : Contents) (g : GroupState) : Type 0 where
   pub plain : stored_fault g.path g.metadata g.block ≡ None
   pub reads : IsBlockReadBack g.metadata g.block
   pub shallow : IsBlockShallow g.metadata g.block
-  pub same : map.get s (g.path ++ zmetadata ∷ []) ≡ map.get (after S (store_edits g.path g.metadata g.block)) (g.path ++ zmetadata ∷ [])
+  pub same : map.get s.values (g.path ++ zmetadata ∷ []) ≡ map.get (after S (store_edits g.path g.metadata g.block)).values (g.path ++ zmetadata ∷ [])
 
 -- in a store, by each version by which the path of the group means the group, where the policy is not Never: the one forest of a node opened there is f, and the opening is not refused; and a group opened there has beside its metadata a block with the entries of B, and gives the forest back
 pub record OpensToV2 (s : Contents) (g : GroupState) (f : Forest) (B : Block) : Type 0 where

@@ -5,7 +5,7 @@ use Rattle.std.specs.FinMap as map
 use Rattle.serde_json.specs.Data.{depth, object}
 use Rattle.serde_json.specs.Read.{max_depth}
 use Rattle.zarrs_store.specs.Segments.{Segments}
-use Rattle.zarrs_store.specs.Contents.{Contents}
+use Rattle.zarrs_store.specs.Contents.{Contents, Values}
 use Rattle.zarrs_path.specs.Keys.{zarr_json, zarray, zgroup, zattrs, zmetadata}
 use Rattle.zarrs_path.specs.Paths.{Path}
 use Rattle.zarrs_config.specs.declared.version.MetadataEraseVersion.{MetadataEraseVersion}
@@ -48,12 +48,16 @@ abbrev pub PlainIsStored : Type 0
 PlainIsStored = (m : GroupMetadata) → (group_fault m ≡ None) ↔ IsTrue (is_plain_group m)
 
 -- every key but the four of a group has what it had
-abbrev pub OthersStay : Path → Contents → Contents → Type 0
+abbrev pub OthersStay : Path → Values → Values → Type 0
 OthersStay p old new = (key : Segments) → key ≢ p ++ zarr_json ∷ [] → key ≢ p ++ zgroup ∷ [] → key ≢ p ++ zattrs ∷ [] → key ≢ p ++ zmetadata ∷ [] → map.get new key ≡ map.get old key
 
--- edits leave every key but the four of a group as it was, also where they were cut short
+-- T differs from S at the four keys of a group alone, and its documents may hold the numbers that those of S may
+abbrev pub DiffersAtGroup : Path → Contents → Contents → Type 0
+DiffersAtGroup p S T = (T.numbers ≡ S.numbers) × OthersStay p S.values T.values
+
+-- edits leave every key but the four of a group as it was, and the numbers, also where they were cut short
 abbrev pub OthersStayAfter : Path → List Edit → Type 0
-OthersStayAfter p edits = (S : Contents) → OthersStay p S (after S edits) × ((S' : Contents) → IsCutShort S edits S' → OthersStay p S S')
+OthersStayAfter p edits = (S : Contents) → DiffersAtGroup p S (after S edits) × ((S' : Contents) → IsCutShort S edits S' → DiffersAtGroup p S S')
 
 -- storing and erasing leave every key but the four of the group as it was, also where they are refused
 abbrev pub OtherKeysStay : Type 0
@@ -61,10 +65,10 @@ OtherKeysStay = (p : Path) (m : GroupMetadata) → ((block : Option Block) → O
 
 -- `.zarray` is at none of the four keys, so storing and erasing never touch it
 abbrev pub ArraysStay : Type 0
-ArraysStay = (p : Path) (S S' : Contents) → OthersStay p S S' → map.get S' (p ++ zarray ∷ []) ≡ map.get S (p ++ zarray ∷ [])
+ArraysStay = (p : Path) (S S' : Values) → OthersStay p S S' → map.get S' (p ++ zarray ∷ []) ≡ map.get S (p ++ zarray ∷ [])
 
 -- none of the four keys of a group is there, and every other key has what it had
-pub record IsErased (p : Path) (old new : Contents) : Type 0 where
+pub record IsErased (p : Path) (old new : Values) : Type 0 where
   pub no_zarr_json : map.get new (p ++ zarr_json ∷ []) ≡ None
   pub no_zgroup : map.get new (p ++ zgroup ∷ []) ≡ None
   pub no_zattrs : map.get new (p ++ zattrs ∷ []) ≡ None
@@ -73,7 +77,7 @@ pub record IsErased (p : Path) (old new : Contents) : Type 0 where
 
 -- erasing with All leaves none of the four keys, and every other key as it was
 abbrev pub ErasingAllErases : Type 0
-ErasingAllErases = (S : Contents) (p : Path) (m : GroupMetadata) → IsErased p S (after S (erase_edits p erase.All m))
+ErasingAllErases = (S : Contents) (p : Path) (m : GroupMetadata) → IsErased p S.values (after S (erase_edits p erase.All m)).values
 
 -- where its documents do not nest too deep, the path means this group: one of version 3 by default and as version 3, one of version 2 as version 2
 abbrev pub MeansStored : Contents → Path → GroupMetadata → Type 0

@@ -11,7 +11,7 @@ use Rattle.zarrs_path.specs.Keys.{zarr_json}
 use Rattle.zarrs_config.specs.declared.version.MetadataRetrieveVersion.{MetadataRetrieveVersion}
 use Rattle.zarrs_config.specs.declared.version.MetadataRetrieveVersion.TheVariants as version
 use Rattle.zarrs_form.specs.Documents.{of_bytes}
-use Rattle.zarrs_meta.specs.GroupV3.{group_v3_of}
+use Rattle.zarrs_meta.specs.GroupV3.{group_v3_in}
 use Rattle.zarrs_meta.specs.declared.group_v3.GroupMetadataV3.{GroupMetadataV3}
 use Rattle.zarrs_meta.specs.declared.node.GroupMetadata.{GroupMetadata}
 use Rattle.zarrs_meta.specs.declared.node.GroupMetadata.TheVariants.{V3}
@@ -25,15 +25,15 @@ group_v3_line (Ok None) after = after
 group_v3_line (Ok (Some m)) after = node (Group (V3 m))
 group_v3_line (Err e) after = bad (refused.StorageError e)
 
--- the line of `zarr.json`, read as a version 3 group alone
+-- the line of `zarr.json`, read as a version 3 group alone, in the numbers of the store
 unfoldable pub group_line : Contents → Path → Meaning → Meaning
-group_line s p after = group_v3_line (document_at (of_bytes group_v3_of) s (p ++ zarr_json ∷ [])) after
+group_line s p after = group_v3_line (document_at (of_bytes (group_v3_in s.numbers)) s.values (p ++ zarr_json ∷ [])) after
 
 -- by default `zarr.json`, then `.zgroup` with `.zattrs`; as version 3 the first alone, as version 2 the second alone
 unfoldable pub group_meaning : Contents → MetadataRetrieveVersion → Path → Meaning
-group_meaning s version.Default p = group_line s p (zgroup_line in_bytes s p nothing)
+group_meaning s version.Default p = group_line s p (zgroup_line (in_bytes s.numbers) s.values p nothing)
 group_meaning s version.V3 p = group_line s p nothing
-group_meaning s version.V2 p = zgroup_line in_bytes s p nothing
+group_meaning s version.V2 p = zgroup_line (in_bytes s.numbers) s.values p nothing
 
 -- p means the group with these metadata
 abbrev pub MeansGroup : Contents → MetadataRetrieveVersion → Path → GroupMetadata → Type 0

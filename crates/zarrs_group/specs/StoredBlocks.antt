@@ -6,7 +6,7 @@
 use Rattle.std.specs.Prelude.{◌≡◌, ◌≢◌, ◌≤◌, Bool, [], ◌∷◌, ◌++◌, Some}
 use Rattle.serde_json.specs.Data.{depth}
 use Rattle.serde_json.specs.Read.{max_depth}
-use Rattle.zarrs_store.specs.Contents.{Contents, AgreesExceptAt}
+use Rattle.zarrs_store.specs.Contents.{Contents}
 use Rattle.zarrs_store.specs.declared.storage_error.StorageError.{StorageError}
 use Rattle.zarrs_path.specs.Keys.{zarr_json}
 use Rattle.zarrs_path.specs.Paths.{Path, IsPath, path_text}
@@ -21,14 +21,14 @@ use Rattle.zarrs_meta.specs.declared.node.GroupMetadata.TheVariants.{V3}
 use Rattle.zarrs_meta.specs.declared.node.NodeMetadata.TheVariants.{Group}
 use Rattle.zarrs_block.specs.Block.{Block}
 use Rattle.zarrs_block.specs.Meaning.{meaning, node}
-use Rattle.zarrs_block.specs.Policy.{block_in_group}
+use Rattle.zarrs_block.specs.Policy.{group_block}
 use Rattle.zarrs_block.specs.declared.node_create_error.NodeCreateError.{NodeCreateError}
 use Rattle.zarrs_node.specs.Forest.{Forest}
 use Rattle.zarrs_node.specs.ListedBlocks.{IsListedBlock}
 use Rattle.zarrs_node.specs.OpeningNodes.{ShowsBelow, RefusesOpening}
 use Rattle.zarrs_group.specs.Groups.{GroupState, group_tree, metadata_by_version}
 use Rattle.zarrs_group.specs.BlocksOfGroups.{with_block}
-use Rattle.zarrs_group.specs.Edits.{Edit, after, after_edit, edit_key}
+use Rattle.zarrs_group.specs.Edits.{AgreesOutsideKey, Edit, after, after_edit, edit_key}
 use Rattle.zarrs_group.specs.Laws.{MeansStored}
 use Rattle.zarrs_group.specs.Meaning.{MeansGroup}
 use Rattle.zarrs_group.specs.StoringGroups.{edits_of_group, RefusesStoringGroup}
@@ -39,23 +39,23 @@ pub record OpensAlike (S : Contents) (v : MetadataRetrieveVersion) (p : Path) (m
   pub children : (f g : Forest) → ShowsBelow S v Must p (Group m) f → ShowsBelow S v Never p (Group m) g → f ≡ g
   pub opened : (policy : UseConsolidatedMetadata) (e : NodeCreateError) → RefusesOpening S v policy (path_text p) e → ⊥
 
--- An edit leaves every other key as it was.
+-- An edit leaves every other key as it was, and the numbers.
 abbrev pub EditKeepsOthers : Type 0
-EditKeepsOthers = (S : Contents) (e : Edit) → AgreesExceptAt (edit_key e) S (after_edit S e)
+EditKeepsOthers = (S : Contents) (e : Edit) → AgreesOutsideKey (edit_key e) S (after_edit S e)
 
--- Storing a version 3 group, by whatever version, leaves every key but that of its document as it was, also where it is refused.
+-- Storing a version 3 group, by whatever version, leaves every key but that of its document as it was, and the numbers, also where it is refused.
 abbrev pub StoringKeepsOthers : Type 0
 StoringKeepsOthers = (S T : Contents) (v : MetadataConvertVersion) (g : GroupState) (m : GroupMetadataV3) → g.metadata ≡ V3 m
-    → AgreesExceptAt (g.path ++ zarr_json ∷ []) S (after S (edits_of_group v g))
-    × ((can_fail : Bool) (e : StorageError) → RefusesStoringGroup can_fail v g S T e → AgreesExceptAt (g.path ++ zarr_json ∷ []) S T)
+    → AgreesOutsideKey (g.path ++ zarr_json ∷ []) S (after S (edits_of_group v g))
+    × ((can_fail : Bool) (e : StorageError) → RefusesStoringGroup can_fail v g S T e → AgreesOutsideKey (g.path ++ zarr_json ∷ []) S T)
 
 -- What a path means as a group of version 3 is a group of version 3.
 abbrev pub MeansVersion3 : Type 0
 MeansVersion3 = (S : Contents) (p : Path) (m : GroupMetadata) → MeansGroup S retrieve.V3 p m → (k : GroupMetadataV3) × (m ≡ V3 k)
 
--- A version 3 group that is stored with the listed block of the store, by whatever version, and does not nest too deep, holds that block, and opens alike by it and by a listing, by default and as version 3.
+-- A version 3 group that is stored with the listed block of the store, by whatever version, and does not nest too deep, holds that block in the numbers of the store, and opens alike by it and by a listing, by default and as version 3.
 abbrev pub ListedBlockOpens : Type 0
 ListedBlockOpens = (S : Contents) (v : MetadataRetrieveVersion) (w : MetadataConvertVersion) (g : GroupState) (m : GroupMetadataV3) (B : Block)
     → v ≢ retrieve.V2 → IsPath g.path → g.metadata ≡ V3 m → IsListedBlock S v g.path B
     → MeansStored S g.path (metadata_by_version w (with_block g (Some B)).metadata) → depth (group_tree (with_block g (Some B)).metadata) ≤ max_depth
-    → (block_in_group (with_block g (Some B)).metadata ≡ Some B) × OpensAlike S v g.path (with_block g (Some B)).metadata
+    → (group_block S.numbers (with_block g (Some B)).metadata ≡ Some B) × OpensAlike S v g.path (with_block g (Some B)).metadata

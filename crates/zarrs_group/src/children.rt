@@ -22,12 +22,13 @@ use zarrs_config::{Config, MetadataRetrieveVersion, UseConsolidatedMetadata};
 use zarrs_meta::NodeMetadata;
 use zarrs_node::{Node, get_all_nodes_of, get_child_nodes, nodes_of_block};
 use zarrs_path::NodePath;
-use zarrs_store::{ListableStorageTraits, ReadableStorageTraits};
+use zarrs_store::{ListableStorageTraits, Numbers, ReadableStorageTraits};
 
 impl Group {
     /// The nodes below the group, siblings ascending: by its consolidated block where the configuration has it used, and else by a listing of
     /// the store, which warns of each path without documents that it passes over. Where it is not recursive, the nodes directly below the
-    /// group, without children. Where a block is used, the store is not looked at.
+    /// group, without children. Where a block is used, no key of the store is looked at. The block of a version 3 group is read in the numbers
+    /// of the store, so that over `AnyNumbers` it may be one where [`Group::consolidated_metadata`] has none.
     ///
     /// # Errors
     ///
@@ -58,7 +59,7 @@ impl Group {
             (RefusesChildren (S.can_fail storage.now)
             (S.contents storage.now) self.now config.now recursive) }
     {
-        match self.used_block(alloc, config)? {
+        match self.used_block(alloc, storage.numbers(), config)? {
             Some(block) => nodes_of_block(alloc, self.path(), block, recursive),
             None => get_child_nodes(log, alloc, storage, self.path(), recursive),
         }
@@ -88,7 +89,7 @@ impl Group {
             (RefusesChildren (S.can_fail storage.now)
             (S.contents storage.now) self.now config.now true) }
     {
-        match self.used_block(alloc, config)? {
+        match self.used_block(alloc, storage.numbers(), config)? {
             Some(block) => expand_consolidated_metadata(alloc, self.path(), block),
             None => get_all_nodes_of(
                 log,
@@ -213,23 +214,24 @@ impl Group {
         Ok(array_paths_of(alloc, nodes)?)
     }
 
-    // The block that is used of the group. Under `Never` its metadata are not looked at.
+    // The block that is used of the group, read in these numbers. Under `Never` its metadata are not looked at.
     fn used_block(
         &self,
         alloc: Global,
+        numbers: Numbers,
         config: &Config,
     ) -> Result<Option<ConsolidatedMetadata>, NodeCreateError>
         ensures ok { IfOk result
-            (λ block. block_choice self.now config.now ≡ Some (as_block block)) }
+            (λ block. block_choice numbers self.now config.now ≡ Some (as_block block)) }
         ensures err { IfErr result
-            (λ e. RefusesUse self.now.path (block_choice self.now config.now) e
+            (λ e. RefusesUse self.now.path (block_choice numbers self.now config.now) e
             ⊎ (e ≡ NodeCreateError.OutOfMemory)) }
     {
         let policy = config.use_consolidated_metadata();
         if let UseConsolidatedMetadata::Never = policy {
             return Ok(None);
         }
-        let block = self.consolidated_metadata(alloc)?;
+        let block = self.consolidated_metadata_in(alloc, numbers)?;
         resolve_consolidated_policy(alloc, self.path(), block, policy)
     }
 }

@@ -8,18 +8,22 @@ ghost use Rattle.zarrs_meta.specs.declared.node.GroupMetadata.TheVariants.{V2};
 ghost use Rattle.zarrs_block.specs.Block.{block_tree};
 ghost use Rattle.zarrs_block.specs.Policy.{as_block};
 ghost use Rattle.zarrs_group.specs.BlocksBeside.{IsBeside};
-ghost use Rattle.zarrs_group.specs.BlocksOfGroups.{held_by, fields_with, metadata_with, with_block, Fits, RefusesBlock, CanHold};
+ghost use Rattle.zarrs_group.specs.BlocksOfGroups.{held_by, held_by_in, fields_with, metadata_with, with_block, Fits, RefusesBlock, CanHold};
 ghost use Rattle.zarrs_group.specs.Lending.{Rests};
 ghost use Rattle.zarrs_group.specs.StepsOfLending.{RestsLent, group_lent};
 
 use crate::group::Group;
 use std::alloc::{AllocError, Global};
-use zarrs_block::{ConsolidatedMetadata, NodeCreateError, consolidated_metadata_of};
+use zarrs_block::{ConsolidatedMetadata, NodeCreateError, consolidated_metadata_of_in};
 use zarrs_meta::{AdditionalFieldV3, AdditionalFieldsV3, GroupMetadata, GroupMetadataV2};
+use zarrs_store::Numbers;
 
 impl Group {
     /// The consolidated block that the group holds: of version 3 the field `consolidated_metadata`, where it reads as one; of version 2 a copy
     /// of the block beside its metadata.
+    ///
+    /// It knows no store, so the field is read in whole numbers: one with a fraction is no block. [`Group::children`] and [`Group::traverse`]
+    /// read it in the numbers of their store.
     ///
     /// # Errors
     ///
@@ -32,8 +36,27 @@ impl Group {
     ) -> Result<Option<ConsolidatedMetadata>, AllocError>
         ensures { IfOk result (λ block. as_block block ≡ held_by self.now) }
     {
+        self.consolidated_metadata_in(alloc, Numbers::Whole)
+    }
+
+    /// The consolidated block that the group holds, as [`Group::consolidated_metadata`] says, where the field of a version 3 group is read in
+    /// these numbers: that of [`Group::children`] over a store with them. The block of a version 2 group was read in those of its store.
+    ///
+    /// # Errors
+    ///
+    /// `AllocError` where there is no memory for the block.
+    ///
+    /// Source: own; RFC 8259, "Numbers".
+    /// <https://www.rfc-editor.org/rfc/rfc8259#section-6>
+    pub fn consolidated_metadata_in(
+        &self,
+        alloc: Global,
+        numbers: Numbers,
+    ) -> Result<Option<ConsolidatedMetadata>, AllocError>
+        ensures { IfOk result (λ block. as_block block ≡ held_by_in numbers self.now) }
+    {
         match &self.metadata {
-            GroupMetadata::V3(_) => consolidated_metadata_of(alloc, &self.metadata),
+            GroupMetadata::V3(_) => consolidated_metadata_of_in(alloc, numbers, &self.metadata),
             GroupMetadata::V2(_) => copy_of(alloc, &self.block),
         }
     }

@@ -1,8 +1,7 @@
 //! Changes of a store, made ready before the first is done.
 ghost use Rattle.std.specs.Prelude.{◌≡◌, map, OnOk, OnErr, IfErr};
-ghost use Rattle.zarrs_store.specs.Contents.{AgreesExceptAt};
 ghost use Rattle.zarrs_store.specs.Faults.{IsStoreError};
-ghost use Rattle.zarrs_group.specs.Edits.{after, after_edit, edit_key, IsCutShort};
+ghost use Rattle.zarrs_group.specs.Edits.{AgreesOutsideKey, after, after_edit, edit_key, IsCutShort};
 ghost use Rattle.zarrs_group.specs.StepsOfGroups.{edit_of};
 
 use zarrs_store::{StorageError, StoreKey, WritableStorageTraits};
@@ -26,7 +25,7 @@ impl Edit {
             (S.contents storage.new ≡ after_edit (S.contents storage.old) (edit_of self.now)) }
         ensures err { IfErr result (IsStoreError (S.can_fail storage.old)) }
         ensures others { OnErr result
-            (AgreesExceptAt (edit_key (edit_of self.now)) (S.contents storage.old)
+            (AgreesOutsideKey (edit_key (edit_of self.now)) (S.contents storage.old)
             (S.contents storage.new)) }
         ensures nature { S.can_fail storage.new ≡ S.can_fail storage.old }
     {

@@ -134,8 +134,8 @@ impl Group {
     }
 
     /// The group that the store has at this path, looked for in this version: `zarr.json` as a version 3 group, then
-    /// `.zgroup` with the attributes of `.zattrs`, and then the block that `.zmetadata` is, where it reads as one. It has the options and the
-    /// erase version of the configuration.
+    /// `.zgroup` with the attributes of `.zattrs`, and then the block that `.zmetadata` is, where it reads as one. Each document is read in the
+    /// numbers of the store. The group has the options and the erase version of the configuration.
     ///
     /// # Errors
     ///
@@ -282,7 +282,7 @@ impl Group {
         }
     }
 
-    /// `group at `, the path, ` with metadata ` and the metadata in the compact layout.
+    /// `group at `, the path, ` with metadata ` and the metadata in the compact layout. Of metadata with a fraction no text is promised.
     ///
     /// # Errors
     ///
@@ -360,8 +360,8 @@ impl Group {
     /// The first that applies, with the store unchanged:
     ///
     /// - `InvalidMetadata` with the key of the group's document where the metadata could not have come from a document:
-    ///   `UnsupportedNumber` for a number that is neither `u64` nor `i64`, else `BadMember` with the least additional
-    ///   field that clashes with a name of the document's own.
+    ///   `UnsupportedNumber` for a number that is neither `u64` nor `i64`, whatever the numbers of the store, else `BadMember` with the least
+    ///   additional field that clashes with a name of the document's own.
     /// - `InvalidMetadata` with the key of `.zmetadata` where the metadata of an entry of the block could not have come
     ///   from a document: `UnsupportedNumber` for a number of any entry, else `BadMember` with `metadata`.
     ///

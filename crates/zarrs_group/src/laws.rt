@@ -41,7 +41,7 @@ pub fn erasing_all_erases()
     ensures { ErasingAllErases }
 {}
 
-/// Storing and erasing leave every key but the four of the group as it was, also where they are refused.
+/// Storing and erasing leave every key but the four of the group as it was, and the numbers, also where they are refused.
 pub fn other_keys_stay()
     ensures { OtherKeysStay }
 {}
@@ -88,8 +88,8 @@ pub fn group_v2_gives_back()
     ensures { GroupV2GivesBack }
 {}
 
-/// As the group of version 3 does, so does a node opened at its path over any store that has the bytes of the stored group at its key, by default and as version 3, where the
-/// group's document does not nest too deep.
+/// As the group of version 3 does, so does a node opened at its path over any store that has the bytes of the stored group at its key, and the numbers of the store that it was
+/// stored in, by default and as version 3, where the group's document does not nest too deep.
 ///
 /// Source: `zarrs::node::Node::open_opt`, `zarrs::group::Group::store_metadata`.
 pub fn stored_gives_back()
@@ -105,14 +105,14 @@ pub fn stored_v2_gives_back()
     ensures { StoredV2GivesBack }
 {}
 
-/// An edit of a store leaves every other key as it was.
+/// An edit of a store leaves every other key as it was, and the numbers.
 ///
 /// Source: Zarr core specification 3.1, "Abstract store interface".
 pub fn edit_keeps_others()
     ensures { EditKeepsOthers }
 {}
 
-/// Storing a version 3 group leaves every key but that of its document as it was, also where it is refused.
+/// Storing a version 3 group leaves every key but that of its document as it was, and the numbers, also where it is refused.
 ///
 /// Source: `zarrs::group::Group::store_metadata`.
 pub fn storing_keeps_others()
@@ -126,8 +126,9 @@ pub fn means_version_3()
     ensures { MeansVersion3 }
 {}
 
-/// A version 3 group that is stored with the listed block of the store, and does not nest too deep, holds that block; a node opened at its path
-/// by the block has below it what one opened by a listing has, by default and as version 3, and neither opening is refused.
+/// A version 3 group that is stored with the listed block of the store, and does not nest too deep, holds that block in the numbers of the store;
+/// a node opened at its path by the block has below it what one opened by a listing has, by default and as version 3, and neither opening is
+/// refused.
 ///
 /// Source: `zarrs::node::Node::open_opt`, `zarrs::group::Group::store_metadata`.
 pub fn listed_block_opens()

@@ -17,7 +17,7 @@ use zarrs_node::zmetadata_at;
 use zarrs_path::{NodePath, meta_key_v2_group, meta_key_v3};
 use zarrs_store::{ReadableStorageTraits, StorageError};
 
-/// The metadata of a path that means a group, or none where it means nothing.
+/// The metadata of a path that means a group, read in the numbers of the store, or none where it means nothing.
 #[tactic(auto, unfolding(crate::specs::Meaning::group_meaning))]
 pub(crate) fn find_metadata<S: ReadableStorageTraits>(
     alloc: Global,
@@ -70,10 +70,13 @@ fn find_v2<S: ReadableStorageTraits>(
     path: &NodePath,
 ) -> Result<Option<GroupMetadata>, StorageError>
     ensures ok { IfOk result
-        (λ found. FindsByLine found (zgroup_line in_bytes (S.contents storage.now) path.now)) }
+        (λ found. FindsByLine found
+        (zgroup_line (in_bytes (S.contents storage.now).numbers)
+        (S.contents storage.now).values path.now)) }
     ensures err { IfErr result
         (RefusesLine (S.can_fail storage.now)
-        (zgroup_line in_bytes (S.contents storage.now) path.now)) }
+        (zgroup_line (in_bytes (S.contents storage.now).numbers)
+        (S.contents storage.now).values path.now)) }
 {
     let key = meta_key_v2_group(alloc, path)?;
     let found: Option<GroupMetadataV2> = document_at(alloc, storage, key)?;
@@ -89,7 +92,8 @@ fn find_v2<S: ReadableStorageTraits>(
     }
 }
 
-/// The block that a store has beside the metadata of a group: of a version 2 group the one that the document `.zmetadata` is.
+/// The block that a store has beside the metadata of a group: of a version 2 group the one that the document `.zmetadata` is, read in the
+/// numbers of the store.
 pub(crate) fn find_block<S: ReadableStorageTraits>(
     alloc: Global,
     storage: &S,

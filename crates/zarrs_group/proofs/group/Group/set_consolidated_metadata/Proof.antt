@@ -55,6 +55,7 @@ use Rattle.zarrs_group.specs.contracts.group.Group.{the_row as R}
 use Rattle.zarrs_group.specs.contracts.consolidated.LentGroup.{the_row as lent_row}
 use Rattle.zarrs_group.proofs.group.Group.TheLaws.{the_row_laws as group_laws}
 use Rattle.zarrs_group.proofs.consolidated.LentGroup.TheLaws.{the_row_laws as lent_laws}
+use Rattle.zarrs_fault.specs.declared.numbers.Numbers.TheVariants.{Whole}
 use Rattle.zarrs_group.proofs.BlockFields.{held_once_set}
 use Rattle.zarrs_group.specs.contracts.group.Group.set_lent as g
 use Rattle.zarrs_group.proofs.group.Group.set_lent.Met as g-met
@@ -113,7 +114,7 @@ if_err P (Err x) r e p = subst (λ (y : Answer). IfErr y P) (sym e) p
 
 -- a group with a block set that it can hold holds it
 holds : (old : GroupState) (block : Option Block) (r : Answer) → IfOk r (λ group. group.now ≡ with_block old block) → IfOk r (λ group. CanHold old block → held_by group.now ≡ block)
-holds old block (Ok group) set = λ can. ap held_by set ∙ held_once_set old block can
+holds old block (Ok group) set = λ can. ap held_by set ∙ held_once_set Whole old block can
 holds old block (Err e) set = tt
 
 -- the laws of a `&mut` to a group

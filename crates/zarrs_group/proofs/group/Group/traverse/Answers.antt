@@ -6,5 +6,5 @@ use Rattle.zarrs_group.proofs.group.Group.traverse.Goals as goal
 
 pub returns-in-None-clause-clean : goal.returns-in-None-clause-clean
 returns-in-None-clause-clean g c =
-    clean_listed (g.S.Store.contents c.args.storage.now) (block_choice c.args.self.now c.args.config.now) c.args.self.now.path true c.get_all_nodes_of.result _ _ c.get_all_nodes_of.ensures.clean
+    clean_listed (g.S.Store.contents c.args.storage.now) (block_choice (g.S.Store.contents c.args.storage.now).numbers c.args.self.now c.args.config.now) c.args.self.now.path true c.get_all_nodes_of.result _ _ c.get_all_nodes_of.ensures.clean
     (first_of (search rules, cc, grind (arith, common_steps))) (first_of (search rules, cc, grind (arith, common_steps))) (first_of (search rules, cc, grind (arith, common_steps)))
