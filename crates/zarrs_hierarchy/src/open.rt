@@ -57,7 +57,8 @@ impl Hierarchy {
 
     /// The hierarchy at a path, by the documents of a version: the node at the path, and for a group all entries of the consolidated
     /// block that its metadata hold, where the configuration has it used, and else the nodes that a listing finds, which warns of each
-    /// path without documents that it passes over. Where a block is used, nothing below the path is looked at.
+    /// path without documents that it passes over. Where a block is used, nothing below the path is looked at. Documents and the block are
+    /// read in the numbers of the store.
     ///
     /// # Errors
     ///

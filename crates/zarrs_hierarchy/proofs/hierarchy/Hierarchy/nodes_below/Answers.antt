@@ -1,4 +1,4 @@
-use Rattle.std.proofs.Common.{◌≡◌, sym, ap, subst, ◌∙◌}
+use Rattle.std.proofs.Common.{sym, ap, subst, ◌∙◌}
 use Rattle.zarrs_node.specs.Order.{Ascend}
 use Rattle.zarrs_hierarchy.specs.StepsOfHierarchies.{IsBehind}
 use Rattle.zarrs_hierarchy.specs.Tree.{pairs_below}
