@@ -5,7 +5,7 @@ use Rattle.std.specs.Ordering.{eq_by_cmp}
 use Rattle.std.proofs.lemmas.List.Elements.{All-head, All-nil, All-push, All-rest}
 use Rattle.std.proofs.lemmas.List.Sorted.{All-permutation}
 use Rattle.zarrs_store.specs.Segments.{Segments, key_cmp, key_text}
-use Rattle.zarrs_store.specs.Contents.{Contents}
+use Rattle.zarrs_store.specs.Contents.{Values}
 use Rattle.zarrs_store.proofs.ChildLemmas.{key_cmp_total, key_cmp-IsAntisymmetric}
 use Rattle.zarrs_store.proofs.EntryLemmas.{equal_of}
 use Rattle.zarrs_store.proofs.ContentsLemmas.{get_inserted}
@@ -39,12 +39,12 @@ pub rest_found : (items left : List File) (f : File) → items ≡ f ∷ left �
 rest_found items left f is all = All-rest Found f left items is all
 
 -- the empty store
-pub holds_none : (S : Contents) → S ≡ map.empty → HoldsDocumentsAlone S
+pub holds_none : (S : Values) → S ≡ map.empty → HoldsDocumentsAlone S
 holds_none S is key =
     subst (λ s. IfSome (map.get s key) (IsFound (key_text key))) (sym is) (subst (λ r. IfSome r (IsFound (key_text key))) (sym (map.get-empty key_cmp key)) tt)
 
 -- a store with one file more
-pub holds_more : (S after : Contents) (f : File) → after ≡ map.insert S f.0 f.1.items → Found f → HoldsDocumentsAlone S → HoldsDocumentsAlone after
+pub holds_more : (S after : Values) (f : File) → after ≡ map.insert S f.0 f.1.items → Found f → HoldsDocumentsAlone S → HoldsDocumentsAlone after
 holds_more S after f is found held other =
     subst (λ s. IfSome (map.get s other) (IsFound (key_text other))) (sym is) (
     elim (eq_by_cmp key_cmp other f.0) as (λ b. eq_by_cmp key_cmp other f.0 ≡ b → IfSome (map.get (map.insert S f.0 f.1.items) other) (IsFound (key_text other))) [

@@ -15,7 +15,7 @@ use Rattle.serde_json.specs.Find.{as_str}
 use Rattle.serde_json.specs.View.{view, members_view}
 use Rattle.serde_json.specs.declared.value.Value.{Value}
 use Rattle.zarrs_store.specs.Segments.{Segments, key_cmp, IsKey, IsKeyText, key_text}
-use Rattle.zarrs_store.specs.Contents.{Contents, HasKey}
+use Rattle.zarrs_store.specs.Contents.{Values, HasKey}
 use Rattle.zarrs_load.specs.Image.{IsEntry, member_text, member_list, HoldsMembers, IsFirstBad}
 use Rattle.zarrs_load.proofs.StoreSteps.{at_key, keys_more}
 
@@ -31,7 +31,7 @@ seen-append [] ys = refl
 seen-append (x ∷ xs) ys = ap (λ (l : List (List ℕ × Data)). (string_bytes x.0, view x.1) ∷ l) (seen-append xs ys)
 
 -- the store after the members before the rest
-pub record HoldsSoFar (all rest : List Entry) (store : Contents) : Type 0 where
+pub record HoldsSoFar (all rest : List Entry) (store : Values) : Type 0 where
   pub done : List Entry
   pub splits : all ≡ done ++ rest
   pub holds : HoldsMembers (seen done) store
@@ -85,14 +85,14 @@ pub no_text : {T : Type 0} (text : T → List ℕ) (taken : Option T) (o : Optio
 no_text text taken o none is some = let gone : None ≡ o = rw none at is in let no : IsSome {T = List ℕ} None = subst IsSome (sym gone) some in cc no
 
 -- before the first member
-pub holds_none : (all : List Entry) (store : Contents) → store ≡ map.empty → HoldsSoFar all all store
+pub holds_none : (all : List Entry) (store : Values) → store ≡ map.empty → HoldsSoFar all all store
 holds_none all store is = rw is (record {
   done = [];
   splits = refl;
   holds = record { entries = All-nil IsEntry; same = λ key h. map.get-empty key_cmp key; keys = λ key has. let none : is_some (map.get (map.empty {X = List ℕ} {R = key_cmp}) key) ≡ false = ap is_some (map.get-empty key_cmp key) in let no : IsTrue false = subst (λ b. IsTrue b) none has in cc no };
 })
 
-module _ {all rest : List Entry} {store : Contents} (so_far : HoldsSoFar all rest store) (next : List Entry) (e : Entry) (first : rest ≡ e ∷ next) where
+module _ {all rest : List Entry} {store : Values} (so_far : HoldsSoFar all rest store) (next : List Entry) (e : Entry) (first : rest ≡ e ∷ next) where
   splits_here : all ≡ so_far.done ++ e ∷ next
   splits_here = so_far.splits ∙ ap (λ (r : List Entry). so_far.done ++ r) first
 
@@ -111,7 +111,7 @@ module _ {all rest : List Entry} {store : Contents} (so_far : HoldsSoFar all res
 
   -- a good member, stored, leaves the members after it
   pub holds_more : IsStrictlySortedBy string_cmp (keys_of all) → IsKeyText (string_bytes e.0) → (text : List ℕ) → as_str (view e.1) ≡ Some text
-      → (key : Segments) → IsKey key → key_text key ≡ string_bytes e.0 → (new : Contents) → new ≡ map.insert store key text
+      → (key : Segments) → IsKey key → key_text key ≡ string_bytes e.0 → (new : Values) → new ≡ map.insert store key text
       → HoldsSoFar all next new
   holds_more sorted named text is key valid key_is new sets =
       let sorted' : IsStrictlySortedBy string_cmp (keys_of (so_far.done ++ e ∷ next)) = rw splits_here at sorted in
@@ -134,6 +134,6 @@ module _ {all rest : List Entry} {store : Contents} (so_far : HoldsSoFar all res
       }
 
 -- after the last member
-pub holds_all : (all rest : List Entry) (store : Contents) → HoldsSoFar all rest store → rest ≡ [] → HoldsMembers (seen all) store
+pub holds_all : (all rest : List Entry) (store : Values) → HoldsSoFar all rest store → rest ≡ [] → HoldsMembers (seen all) store
 holds_all all rest store so_far none =
     subst (λ es. HoldsMembers (seen es) store) (sym (append-nil so_far.done) ∙ ap (λ r. so_far.done ++ r) (sym none) ∙ sym so_far.splits) so_far.holds

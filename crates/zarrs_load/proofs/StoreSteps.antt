@@ -6,14 +6,14 @@ use Rattle.std.specs.Ordering.{eq_by_cmp}
 use Rattle.std.specs.Str.{bytes_eq}
 use Rattle.std.proofs.lemmas.Slice.Eq.{bytes_eq-Decides}
 use Rattle.zarrs_store.specs.Segments.{Segments, key_cmp, key_text, IsKey}
-use Rattle.zarrs_store.specs.Contents.{Contents, HasKey}
+use Rattle.zarrs_store.specs.Contents.{Values, HasKey}
 use Rattle.zarrs_store.proofs.ChildLemmas.{key_cmp_total, key_cmp-IsAntisymmetric}
 use Rattle.zarrs_store.proofs.EntryLemmas.{equal_of}
 use Rattle.zarrs_store.proofs.Cuts.{key_text-injective}
 use Rattle.zarrs_store.proofs.ContentsLemmas.{get_inserted, AgreesExceptAt-insert}
 
 -- a key that was set has the value, and every other key what it had
-pub at_key : (S : Contents) (key other : Segments) (v : List ℕ) → IsKey key → IsKey other
+pub at_key : (S : Values) (key other : Segments) (v : List ℕ) → IsKey key → IsKey other
     → map.get (map.insert S key v) other ≡ cond (bytes_eq (key_text other) (key_text key)) (Some v) (map.get S other)
 at_key S key other v hk ho =
     elim (bytes_eq (key_text other) (key_text key)) as (λ b. bytes_eq (key_text other) (key_text key) ≡ b → map.get (map.insert S key v) other ≡ cond b (Some v) (map.get S other)) [
@@ -22,7 +22,7 @@ at_key S key other v hk ho =
     ] refl
 
 -- what the store has beside that key, it had before
-pub keys_more : (S : Contents) (key : Segments) (v : List ℕ) → IsKey key → ((other : Segments) → HasKey S other → IsKey other)
+pub keys_more : (S : Values) (key : Segments) (v : List ℕ) → IsKey key → ((other : Segments) → HasKey S other → IsKey other)
     → (other : Segments) → HasKey (map.insert S key v) other → IsKey other
 keys_more S key v hk held other has =
     elim (eq_by_cmp key_cmp other key) as (λ b. eq_by_cmp key_cmp other key ≡ b → IsKey other) [

@@ -5,7 +5,7 @@
 use Rattle.std.specs.Prelude.{◌≡◌, ℕ, List, [], ◌∷◌, ◌++◌, ◌⊎◌, ⊤, Contains, IfSome, codes}
 use Rattle.std.specs.FinMap as map
 use Rattle.zarrs_store.specs.Segments.{Segments, key_text}
-use Rattle.zarrs_store.specs.Contents.{Contents}
+use Rattle.zarrs_store.specs.Contents.{Values}
 use Rattle.zarrs_load.specs.Reading.{IsWithinBound}
 use Rattle.zarrs_load.specs.declared.fault.LoadFault.{LoadFault}
 use Rattle.zarrs_load.specs.declared.fault.LoadFault.TheVariants.{Folder, OutOfMemory}
@@ -28,7 +28,7 @@ abbrev pub IsFound : List ℕ → List ℕ → Type 0
 IsFound text bytes = (front name : List ℕ) × (text ≡ joined_names front name) × IsRead name bytes
 
 -- where the store has bytes at a key, they are those that a file has whose names are the key's text
-abbrev pub HoldsDocumentsAlone : Contents → Type 0
+abbrev pub HoldsDocumentsAlone : Values → Type 0
 HoldsDocumentsAlone store = (key : Segments) → IfSome (map.get store key) (IsFound (key_text key))
 
 -- a folder or a file was not read, or out of memory

@@ -10,7 +10,7 @@ use Rattle.serde_json.specs.Data.{Data, object, Members, no_members, member}
 use Rattle.serde_json.specs.Find.{as_str}
 use Rattle.serde_json.specs.Read.{read}
 use Rattle.zarrs_store.specs.Segments.{Segments, IsKey, IsKeyText, key_text}
-use Rattle.zarrs_store.specs.Contents.{Contents, HasKey}
+use Rattle.zarrs_store.specs.Contents.{Values, HasKey}
 use Rattle.zarrs_load.specs.Reading.{IsWithinBound, RefusedReading}
 use Rattle.zarrs_load.specs.declared.fault.LoadFault.{LoadFault}
 use Rattle.zarrs_load.specs.declared.fault.LoadFault.TheVariants.{Image, ImageKey, ImageValue}
@@ -33,7 +33,7 @@ abbrev pub member_text : List ℕ → List (List ℕ × Data) → Option (List �
 member_text name members = option_and_then as_str (lookup (bytes_eq name) members)
 
 -- each member is a key with a text, and the store has at each key the text of the member with the key's text, and nothing else
-pub record HoldsMembers (members : List (List ℕ × Data)) (store : Contents) : Type 0 where
+pub record HoldsMembers (members : List (List ℕ × Data)) (store : Values) : Type 0 where
   pub entries : All IsEntry members
   pub same : (key : Segments) → IsKey key → map.get store key ≡ member_text (key_text key) members
   pub keys : (key : Segments) → HasKey store key → IsKey key
@@ -46,11 +46,11 @@ pub record IsFirstBad (members : List (List ℕ × Data)) (name : List ℕ) (val
   pub good : All IsEntry before
 
 -- the bytes are an image, and this is its store
-abbrev pub IsImage : List ℕ → Contents → Type 0
+abbrev pub IsImage : List ℕ → Values → Type 0
 IsImage bytes store = (members : Members) × IsObject members bytes × HoldsMembers (member_list members) store
 
 -- the store is that of the image that the reader had left, where its bytes are known
-abbrev pub IsLoaded : Option (List ℕ) → Contents → Type 0
+abbrev pub IsLoaded : Option (List ℕ) → Values → Type 0
 IsLoaded before store = IfSome before (λ bytes. IsImage bytes store)
 
 -- the bytes are no image, and this is why: they are no JSON object; or its first bad member has this name, which is no key's text; or it has this

@@ -13,7 +13,7 @@ use Rattle.zarrs_form.specs.Documents.{◌>>=◌, object_of}
 use Rattle.zarrs_meta.specs.Node.{is_group}
 use Rattle.zarrs_meta.specs.declared.node.NodeMetadata.{NodeMetadata}
 use Rattle.zarrs_meta.specs.declared.node.NodeMetadata.TheVariants.{Group, Array}
-use Rattle.zarrs_block.specs.Block.{Block, IsAscending, IsBlockOf, block_of, block_tree}
+use Rattle.zarrs_block.specs.Block.{Block, IsAscending, IsBlockOf, block_of, block_of_in, block_tree}
 use Rattle.zarrs_block.specs.Meaning.{Means, meaning, node, nothing, bad}
 use Rattle.zarrs_block.specs.Refusals.{IsExcused, IsMissing}
 use Rattle.zarrs_block.specs.declared.node_create_error.NodeCreateError.{NodeCreateError}
@@ -34,7 +34,7 @@ fits_first false d rest B e = refl
 
 -- a tree that reads as a block has numbers that fit
 read_no_float : (d : Data) (B : Block) → block_of d ≡ Ok B → has_float d ≡ false
-unfolding block_of
+unfolding block_of_in
 read_no_float d B e = fits_first (has_float d) d _ B e
 
 -- the layout of the block of the nodes below a group is what is to be written
@@ -48,7 +48,11 @@ block_written store base (Group g) B text means group up holds clean layout = re
   block = B;
   ascending = up;
   holds = holds;
-  is = layout (read_no_float (block_tree B) B (kept_reads_back (Means (meaning store Default)) base B (λ e k. plain_node store e.0 Default e.1 k.1) up holds));
+  is = λ whole.
+      layout (⊎_elim
+      (λ all. read_no_float (block_tree B) B (kept_reads_back (Means (meaning store Default)) base B (λ e k. plain_node store e.0 all Default e.1 k.1) up holds))
+      (λ none. none)
+      whole);
   clean = clean;
 }
 

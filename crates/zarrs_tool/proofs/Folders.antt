@@ -3,9 +3,9 @@ use Rattle.std.proofs.Common.{◌≡◌, ℕ, ◌-◌, ◌<◌, ◌≤◌, Bool,
 use Rattle.std.specs.Prelude.{◌≢◌, Result, Ok, Err, IfErr, OnOk}
 use Rattle.std.specs.Str.{bytes_eq}
 use Rattle.std.proofs.lemmas.Slice.Eq.{bytes_eq-Decides}
-use Rattle.zarrs_store.specs.Contents.{Contents}
+use Rattle.zarrs_store.specs.Contents.{Values}
 use Rattle.zarrs_load.specs.Folder.{HoldsDocumentsAlone, IsFolderFault}
-use Rattle.zarrs_tool.specs.Output.{IsCommand, WritesOfImage, WritesOutput, texts}
+use Rattle.zarrs_tool.specs.Output.{IsCommand, WritesOfImage, WritesOutput, in_whole_numbers, texts}
 use Rattle.zarrs_tool.specs.StepsOfRuns.{IsFolderCommand, IsFolderWords, WritesAnswer, WritesOfFolder, RefusedAnswer, RefusedFolder}
 use Rattle.zarrs_tool.specs.Refusals.{IsLoadFault, IsRefusal, RefusedRun}
 use Rattle.zarrs_tool.specs.declared.fault.ToolFault.{ToolFault}
@@ -16,15 +16,15 @@ pub folder_fault_result : {T : Type 0} (words : List (List ℕ)) (r : Result T T
 folder_fault_result words r fault is refused = subst (λ x. IfErr x (RefusedFolder words)) (sym is) (inl refused)
 
 -- what refuses the words over the folder's store refuses the run
-pub store_fault_result : {T : Type 0} (words : List (List ℕ)) (store : Contents) (r : Result T ToolFault) → HoldsDocumentsAlone store → IfErr r (IsRefusal false words store) → IfErr r (RefusedFolder words)
-store_fault_result words store (Ok x) holds refused = tt
-store_fault_result words store (Err fault) holds refused = inr (store, holds, refused)
+pub store_fault_result : {T : Type 0} (words : List (List ℕ)) (values : Values) (r : Result T ToolFault) → HoldsDocumentsAlone values → IfErr r (IsRefusal false words (in_whole_numbers values)) → IfErr r (RefusedFolder words)
+store_fault_result words values (Ok x) holds refused = tt
+store_fault_result words values (Err fault) holds refused = inr (values, holds, refused)
 
 -- what the words wrote about the folder's store, the run wrote
-pub written_folder : {E : Type 0} (words : List (List ℕ)) (store : Contents) (old new : Option (List ℕ)) (r : Result (Unit {0}) E)
-    → HoldsDocumentsAlone store → OnOk r (WritesOutput words store old new) → OnOk r (WritesOfFolder words old new)
-written_folder words store old new (Ok done) holds writes = (store, holds, writes)
-written_folder words store old new (Err e) holds writes = tt
+pub written_folder : {E : Type 0} (words : List (List ℕ)) (values : Values) (old new : Option (List ℕ)) (r : Result (Unit {0}) E)
+    → HoldsDocumentsAlone values → OnOk r (WritesOutput words (in_whole_numbers values) old new) → OnOk r (WritesOfFolder words old new)
+written_folder words values old new (Ok done) holds writes = (values, holds, writes)
+written_folder words values old new (Err e) holds writes = tt
 
 -- a run over a folder answers
 pub folder_answered : (words : List (List ℕ)) (left before after : Option (List ℕ)) (folder : List ℕ) (tree : List (List ℕ)) → IsFolderWords words folder tree

@@ -2,10 +2,10 @@
 use Rattle.std.proofs.Common.{◌≡◌, ℕ, List, ◌∷◌, [], Option, Bool, false, sym, subst, ap, refl, inl, inr, Vec, Global}
 use Rattle.std.specs.Prelude.{◌≢◌, Result, Ok, Err, IfOk, IfErr, OnOk}
 use Rattle.std.specs.Io.KnownBytes.{Appends, IsAtEnd}
-use Rattle.zarrs_store.specs.Contents.{Contents}
+use Rattle.zarrs_store.specs.Contents.{Contents, Values}
 use Rattle.zarrs_path.specs.Paths.{Path, IsPath, path_text}
 use Rattle.zarrs_load.specs.Image.{IsLoaded, RefusedImage}
-use Rattle.zarrs_tool.specs.Output.{IsCommand, IsOutput, Writes, WritesOutput, word_text}
+use Rattle.zarrs_tool.specs.Output.{IsCommand, IsOutput, Writes, WritesOutput, in_whole_numbers, word_text}
 use Rattle.zarrs_tool.specs.StepsOfRuns.{command_words, IsPathFault, IsWordFault, WantsGroup}
 use Rattle.zarrs_tool.specs.Refusals.{IsLoadFault, IsRefusal, RefusedRun, RefusesArray}
 use Rattle.zarrs_tool.specs.declared.run.Command.{Command}
@@ -24,25 +24,25 @@ pub usage_of_none : {T : Type 0} (command : Command) (words : List (List ℕ)) (
 usage_of_none command words r same known = ((λ (usage : r ≡ Err Usage) is. known usage), (λ none. absurd (none (is_command command words same))))
 
 -- a refusal over the store of the image refuses the run
-pub refused_run : (words : List (List ℕ)) (before after : Option (List ℕ)) (store : Contents) (fault : ToolFault) → IsCommand words
-    → IsAtEnd after → IsLoaded before store → IsRefusal false words store fault → RefusedRun words before after fault
-refused_run words before after store Usage command end loaded refused = absurd (refused command)
-refused_run words before after store OutOfMemory command end loaded refused = tt
-refused_run words before after store (Node e) command end loaded refused = (end, (store, loaded, refused))
-refused_run words before after store Write command end loaded refused = (end, (store, loaded, refused))
-refused_run words before after store Read command end loaded refused = tt
-refused_run words before after store ReadTooLong command end loaded refused = absurd refused
-refused_run words before after store Image command end loaded refused = absurd refused
-refused_run words before after store (ImageKey name) command end loaded refused = absurd refused
-refused_run words before after store (ImageValue name) command end loaded refused = absurd refused
-refused_run words before after store Folder command end loaded refused = absurd refused
-refused_run words before after store NotAGroup command end loaded refused = (end, (store, loaded, refused))
+pub refused_run : (words : List (List ℕ)) (before after : Option (List ℕ)) (values : Values) (fault : ToolFault) → IsCommand words
+    → IsAtEnd after → IsLoaded before values → IsRefusal false words (in_whole_numbers values) fault → RefusedRun words before after fault
+refused_run words before after values Usage command end loaded refused = absurd (refused command)
+refused_run words before after values OutOfMemory command end loaded refused = tt
+refused_run words before after values (Node e) command end loaded refused = (end, (values, loaded, refused))
+refused_run words before after values Write command end loaded refused = (end, (values, loaded, refused))
+refused_run words before after values Read command end loaded refused = tt
+refused_run words before after values ReadTooLong command end loaded refused = absurd refused
+refused_run words before after values Image command end loaded refused = absurd refused
+refused_run words before after values (ImageKey name) command end loaded refused = absurd refused
+refused_run words before after values (ImageValue name) command end loaded refused = absurd refused
+refused_run words before after values Folder command end loaded refused = absurd refused
+refused_run words before after values NotAGroup command end loaded refused = (end, (values, loaded, refused))
 
-pub refused_result : {T : Type 0} (command : Command) (words : List (List ℕ)) (before after : Option (List ℕ)) (store : Contents) (r : Result T ToolFault) → command_words command ≡ words
-    → IsAtEnd after → IsLoaded before store → IfErr r (IsRefusal false (command_words command) store) → IfErr r (RefusedRun words before after)
-refused_result command words before after store (Ok x) same end loaded refused = tt
-refused_result command words before after store (Err fault) same end loaded refused =
-    refused_run words before after store fault (is_command command words same) end loaded (subst (λ w. IsRefusal false w store fault) same refused)
+pub refused_result : {T : Type 0} (command : Command) (words : List (List ℕ)) (before after : Option (List ℕ)) (values : Values) (r : Result T ToolFault) → command_words command ≡ words
+    → IsAtEnd after → IsLoaded before values → IfErr r (IsRefusal false (command_words command) (in_whole_numbers values)) → IfErr r (RefusedRun words before after)
+refused_result command words before after values (Ok x) same end loaded refused = tt
+refused_result command words before after values (Err fault) same end loaded refused =
+    refused_run words before after values fault (is_command command words same) end loaded (subst (λ w. IsRefusal false w (in_whole_numbers values) fault) same refused)
 
 -- a refused image refuses the run
 pub refused_load : (words : List (List ℕ)) (before after : Option (List ℕ)) (fault : ToolFault) → IsLoadFault (RefusedImage before after) fault → RefusedRun words before after fault
@@ -69,10 +69,10 @@ pub refused_load_result : {T : Type 0} (words : List (List ℕ)) (before after :
 refused_load_result words before after r fault is refused = subst (λ x. IfErr x (RefusedRun words before after)) (sym is) (refused_load words before after fault refused)
 
 -- what a command wrote about the store of the image, the words wrote about the image
-pub written_result : {E : Type 0} (command : Command) (words : List (List ℕ)) (before : Option (List ℕ)) (store : Contents) (old new : Option (List ℕ)) (r : Result (Unit {0}) E) → command_words command ≡ words → IsLoaded before store
-    → OnOk r (WritesOutput (command_words command) store old new) → OnOk r ((s : Contents) × IsLoaded before s × WritesOutput words s old new)
-written_result command words before store old new (Ok done) same loaded writes = (store, loaded, subst (λ w. WritesOutput w store old new) same writes)
-written_result command words before store old new (Err e) same loaded writes = tt
+pub written_result : {E : Type 0} (command : Command) (words : List (List ℕ)) (before : Option (List ℕ)) (values : Values) (old new : Option (List ℕ)) (r : Result (Unit {0}) E) → command_words command ≡ words → IsLoaded before values
+    → OnOk r (WritesOutput (command_words command) (in_whole_numbers values) old new) → OnOk r ((v : Values) × IsLoaded before v × WritesOutput words (in_whole_numbers v) old new)
+written_result command words before values old new (Ok done) same loaded writes = (values, loaded, subst (λ w. WritesOutput w (in_whole_numbers values) old new) same writes)
+written_result command words before values old new (Err e) same loaded writes = tt
 
 -- what a command writes, its words write
 pub worded_output : {E : Type 0} (command : Command) (words : List (List ℕ)) (store : Contents) (old new : Option (List ℕ)) (r : Result (Unit {0}) E) → command_words command ≡ words

@@ -4,13 +4,16 @@
 -- <https://zarr.readthedocs.io/en/stable/user-guide/consolidated_metadata/>
 --     word_text w, IsCommand words      how a word is written; words that are a command's
 --     IsListing, IsBlockText      what the words write of a path
+--     in_whole_numbers values      the store that holds this, as the program reads it
 --     Writes w, IsOutput words      the text that a word writes of a path; the text that a command's words write
 --     WritesAnswer words left      what a run writes that ends well
-use Rattle.std.specs.Prelude.{◌≡◌, ℕ, Bool, true, false, List, [], ◌∷◌, ◌++◌, map, codes, Option, String, string_bytes}
+use Rattle.std.specs.Prelude.{◌≡◌, ◌⊎◌, ℕ, Bool, true, false, List, [], ◌∷◌, ◌++◌, map, codes, Option, String, string_bytes}
 use Rattle.std.specs.declared.alloc.Global.{Global}
 use Rattle.std.specs.List.{flat_map}
 use Rattle.std.specs.Io.KnownBytes.{Appends}
-use Rattle.zarrs_store.specs.Contents.{Contents, Lists}
+use Rattle.serde_json.specs.Written.{has_float}
+use Rattle.zarrs_fault.specs.declared.numbers.Numbers.TheVariants.{Whole}
+use Rattle.zarrs_store.specs.Contents.{Contents, Lists, Values}
 use Rattle.zarrs_path.specs.Paths.{Path, IsPath, path_text}
 use Rattle.zarrs_meta.specs.declared.node.GroupMetadata.{GroupMetadata}
 use Rattle.zarrs_meta.specs.declared.node.NodeMetadata.{NodeMetadata}
@@ -54,15 +57,19 @@ pub record IsListing (store : Contents) (recursive : Bool) (base : Path) (text :
   pub is : text ≡ path_lines nodes
   pub clean : HasNothingBad store Default recursive base
 
+-- the documents of the store may hold whole numbers only, or no number of the block has a fraction
+abbrev pub HasWholeNumbers : Contents → Block → Type 0
+HasWholeNumbers store block = (store.numbers ≡ Whole) ⊎ (has_float (block_tree block) ≡ false)
+
 -- the base means a group, and the text is the pretty layout of the block that holds exactly the nodes that a listing finds below the base, and a
--- newline; nothing on the way is bad
+-- newline, where the store or the block has whole numbers only; nothing on the way is bad
 pub record IsBlockText (store : Contents) (base : Path) (text : List ℕ) : Type 0 where
   pub group : GroupMetadata
   pub means : meaning store Default base ≡ node (Group group)
   pub block : Block
   pub ascending : IsAscending block
   pub holds : IsBlockOf (Nodes store Default true base) base block
-  pub is : text ≡ pretty_text (block_tree block) ++ 10 ∷ []
+  pub is : HasWholeNumbers store block → text ≡ pretty_text (block_tree block) ++ 10 ∷ []
   pub clean : HasNothingBad store Default true base
 
 -- what a word writes of a path; `tree` that of the hierarchy that is opened there with a block used where there is one
@@ -82,6 +89,10 @@ WritesOutput words store before after = (text : List ℕ) × IsOutput words stor
 
 -- ---- of a run
 
--- the words' output over the store of the image that a reader had left
+-- the store that holds this, and whose documents may hold whole numbers only: as the program reads images and folders
+abbrev pub in_whole_numbers : Values → Contents
+in_whole_numbers values = record { values = values; numbers = Whole }
+
+-- the words' output over the store of the image that a reader had left, in whole numbers
 abbrev pub WritesOfImage : List (List ℕ) → Option (List ℕ) → Option (List ℕ) → Option (List ℕ) → Type 0
-WritesOfImage words left before after = (store : Contents) × IsLoaded left store × WritesOutput words store before after
+WritesOfImage words left before after = (values : Values) × IsLoaded left values × WritesOutput words (in_whole_numbers values) before after

@@ -2,7 +2,7 @@
 -- <https://zarr-specs.readthedocs.io/en/latest/v3/core/index.html#hierarchy>
 use Rattle.std.specs.Prelude.{◌≡◌, ℕ, Bool, true, false, List, [], ◌∷◌, ⊤, Option, Result, Ok, Err, ◌⊎◌}
 use Rattle.std.specs.Io.KnownBytes.{Keeps, IsAtEnd}
-use Rattle.zarrs_store.specs.Contents.{Contents}
+use Rattle.zarrs_store.specs.Contents.{Contents, Values}
 use Rattle.zarrs_path.specs.Paths.{Path, IsPath, path_text}
 use Rattle.zarrs_path.specs.PathErrors.{RefusesPath}
 use Rattle.zarrs_block.specs.declared.node_create_error.NodeCreateError.{NodeCreateError}
@@ -18,7 +18,7 @@ use Rattle.zarrs_node.specs.OpeningNodes.{RefusesOpening}
 use Rattle.zarrs_load.specs.Image.{IsLoaded, RefusedImage}
 use Rattle.zarrs_load.specs.declared.fault.LoadFault.{LoadFault}
 use Rattle.zarrs_load.specs.declared.fault.LoadFault.TheVariants as load
-use Rattle.zarrs_tool.specs.Output.{IsCommand, IsOutput, word_text}
+use Rattle.zarrs_tool.specs.Output.{IsCommand, IsOutput, in_whole_numbers, word_text}
 use Rattle.zarrs_tool.specs.declared.fault.ToolFault.{ToolFault}
 use Rattle.zarrs_tool.specs.declared.fault.ToolFault.TheVariants.{Usage, Read, ReadTooLong, Image, ImageKey, ImageValue, Folder, NotAGroup, Node, Write, OutOfMemory}
 use Rattle.zarrs_tool.specs.declared.run.Word.{Word}
@@ -61,7 +61,7 @@ IsRefusal can_fail words store _ = ⊥
 
 -- the reader was read to its end, and the words are refused over the store of its image
 abbrev pub RefusedAfterLoad : List (List ℕ) → Option (List ℕ) → Option (List ℕ) → ToolFault → Type 0
-RefusedAfterLoad words before after fault = IsAtEnd after × ((store : Contents) × IsLoaded before store × IsRefusal false words store fault)
+RefusedAfterLoad words before after fault = IsAtEnd after × ((values : Values) × IsLoaded before values × IsRefusal false words (in_whole_numbers values) fault)
 
 -- the fault is one of loading, of which P holds
 abbrev pub IsLoadFault : (LoadFault → Type 0) → ToolFault → Type 0

@@ -1,10 +1,10 @@
 -- Steps of a run of the program: words and folders, and what its private calls write and refuse; no public contract rests on them.
 use Rattle.std.specs.Prelude.{◌≡◌, ◌⊎◌, ℕ, List, [], ◌∷◌, codes, Option, Bool, false, ⊤}
-use Rattle.zarrs_store.specs.Contents.{Contents}
+use Rattle.zarrs_store.specs.Contents.{Contents, Values}
 use Rattle.zarrs_load.specs.Folder.{HoldsDocumentsAlone, IsFolderFault}
 use Rattle.zarrs_tool.specs.declared.run.Word.TheVariants.{Children, List as ListAll, Tree, Consolidate}
 use Rattle.zarrs_tool.specs.declared.run.Command.{Command}
-use Rattle.zarrs_tool.specs.Output.{word_text, IsCommand, WritesOutput, WritesOfImage}
+use Rattle.zarrs_tool.specs.Output.{in_whole_numbers, word_text, IsCommand, WritesOutput, WritesOfImage}
 use Rattle.zarrs_path.specs.Paths.{Path, path_text}
 use Rattle.zarrs_meta.specs.declared.node.ArrayMetadata.{ArrayMetadata}
 use Rattle.zarrs_meta.specs.declared.node.NodeMetadata.TheVariants.{Array}
@@ -39,7 +39,7 @@ IsNoCommand words = (IsCommand words → ⊥) × (IsFolderCommand words → ⊥)
 
 -- the words' output over a store in which no key but a document's has bytes, as a folder's
 abbrev pub WritesOfFolder : List (List ℕ) → Option (List ℕ) → Option (List ℕ) → Type 0
-WritesOfFolder words before after = (store : Contents) × HoldsDocumentsAlone store × WritesOutput words store before after
+WritesOfFolder words before after = (values : Values) × HoldsDocumentsAlone values × WritesOutput words (in_whole_numbers values) before after
 
 -- the output of a run that ends well: that over the image, or where the words are `folder DIR tree PATH` that of `tree PATH` over the folder's store
 abbrev pub WritesAnswer : List (List ℕ) → Option (List ℕ) → Option (List ℕ) → Option (List ℕ) → Type 0
@@ -92,7 +92,7 @@ IsWordFault can_fail word store base = IsFault (RefusesWord can_fail word store 
 
 -- the folder makes no store, or out of memory; or the words are refused over a store in which no key but a document's has bytes, as a folder's
 abbrev pub RefusedFolder : List (List ℕ) → ToolFault → Type 0
-RefusedFolder words fault = IsLoadFault IsFolderFault fault ⊎ ((store : Contents) × HoldsDocumentsAlone store × IsRefusal false words store fault)
+RefusedFolder words fault = IsLoadFault IsFolderFault fault ⊎ ((values : Values) × HoldsDocumentsAlone values × IsRefusal false words (in_whole_numbers values) fault)
 
 -- why a run ends with the status 1: the words are not `folder DIR tree PATH`, and the run over the image is refused; or they are, and the run of `tree PATH`
 -- over the folder is refused

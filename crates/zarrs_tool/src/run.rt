@@ -25,7 +25,7 @@ use zarrs_store::{ListableStorageTraits, ReadableStorageTraits};
 /// `children PATH` the path of each child, for `list PATH` those of all nodes below, one a line;
 /// for `tree PATH` the text of the hierarchy at the path; for `consolidate PATH` the block of the
 /// nodes that a listing finds below the group, in the pretty layout, and a newline.
-/// The output is made whole before it is written.
+/// A document with a fraction is refused. The output is made whole before it is written.
 ///
 /// # Errors
 /// `Usage` where the words are no command, before anything is read; what [`load_image`] refuses;
@@ -53,7 +53,8 @@ pub fn run_image<L: Log, R: Read, W: Write>(
     run_command(log, alloc, &command, &store, writer)
 }
 
-/// Writes what the words ask of a store, as [`run_image`] does once the image is loaded.
+/// Writes what the words ask of a store, as [`run_image`] does once the image is loaded, in the
+/// numbers of the store. Of a block with a fraction no text is promised.
 ///
 /// # Errors
 /// `Usage` where the words are no command; `Node` where the path is none, or listing or opening is

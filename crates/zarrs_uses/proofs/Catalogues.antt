@@ -3,7 +3,7 @@ use Rattle.std.proofs.Common.{◌≡◌, ◌≤◌, ℕ, Bool, List, [], ◌∷�
 use Rattle.serde_json.specs.Data.{depth}
 use Rattle.serde_json.specs.Read.{max_depth}
 use Rattle.zarrs_store.specs.Segments.{Segments}
-use Rattle.zarrs_store.specs.Contents.{Contents, AgreesExceptAt}
+use Rattle.zarrs_store.specs.Contents.{Contents}
 use Rattle.zarrs_store.specs.declared.storage_error.StorageError.{StorageError}
 use Rattle.zarrs_path.specs.Paths.{Path, IsPath}
 use Rattle.zarrs_path.specs.Keys.{zarr_json}
@@ -17,7 +17,7 @@ use Rattle.zarrs_block.specs.declared.node_create_error.NodeCreateError.TheVaria
 use Rattle.zarrs_node.specs.Changes.{AgreesOutside}
 use Rattle.zarrs_node.specs.ListedBlocks.{IsListedBlock}
 use Rattle.zarrs_group.specs.BlocksOfGroups.{RefusesBlock, metadata_with, with_block}
-use Rattle.zarrs_group.specs.Edits.{after, after_edit, set, remove}
+use Rattle.zarrs_group.specs.Edits.{AgreesOutsideKey, after, after_edit, set, remove}
 use Rattle.zarrs_group.specs.Groups.{GroupState, group_tree, metadata_by_version}
 use Rattle.zarrs_group.specs.Laws.{MeansStored}
 use Rattle.zarrs_group.specs.Meaning.{MeansGroup}
@@ -27,11 +27,11 @@ use Rattle.zarrs_uses.specs.Catalogues.{IsCurrent, IsGroupWithBlock, IsStored, e
 use Rattle.zarrs_uses.specs.declared.catalogue.Catalogue.{Catalogue}
 
 -- the document `zarr.json` of a path is one of its documents
-pub outside : (S T : Contents) (p : Path) → AgreesExceptAt (p ++ zarr_json ∷ []) S T → AgreesOutside p S T
-outside S T p others key not = others key (λ is. not (zarr_json, (0, omega arith, refl), is))
+pub outside : (S T : Contents) (p : Path) → AgreesOutsideKey (p ++ zarr_json ∷ []) S T → AgreesOutside p S T
+outside S T p others = (others.0, λ key not. others.1 key (λ is. not (zarr_json, (0, omega arith, refl), is)))
 
 -- an edit at a key leaves every other as it was
-pub edited : EditKeepsOthers → (S : Contents) (key : Segments) (bytes : Option (List ℕ)) → AgreesExceptAt key S (after_edit S (edit_at key bytes))
+pub edited : EditKeepsOthers → (S : Contents) (key : Segments) (bytes : Option (List ℕ)) → AgreesOutsideKey key S (after_edit S (edit_at key bytes))
 edited keeps S key (Some bytes) = keeps S (set key bytes)
 edited keeps S key None = keeps S (remove key)
 
@@ -52,13 +52,13 @@ module _ (is_v3 : MeansVersion3) (S T : Contents) (c : Catalogue) (h : GroupStat
   at = ap (λ (x : GroupState). x.path) found.set ∙ found.path
 
   -- storing it changes its document alone
-  pub others_stored : StoringKeepsOthers → T ≡ after S (edits_of_group h.convert_version h) → AgreesExceptAt (c.path ++ zarr_json ∷ []) S T
+  pub others_stored : StoringKeepsOthers → T ≡ after S (edits_of_group h.convert_version h) → AgreesOutsideKey (c.path ++ zarr_json ∷ []) S T
   others_stored keeps e =
-      subst (λ p. AgreesExceptAt (p ++ zarr_json ∷ []) S T) at (subst (AgreesExceptAt (h.path ++ zarr_json ∷ []) S) (sym e) (keeps S T h.convert_version h metadata_is.0 metadata_is.1).0)
+      subst (λ p. AgreesOutsideKey (p ++ zarr_json ∷ []) S T) at (subst (AgreesOutsideKey (h.path ++ zarr_json ∷ []) S) (sym e) (keeps S T h.convert_version h metadata_is.0 metadata_is.1).0)
 
   -- also where it is refused
-  pub others_refused : StoringKeepsOthers → (can_fail : Bool) (e : StorageError) → RefusesStoringGroup can_fail h.convert_version h S T e → AgreesExceptAt (c.path ++ zarr_json ∷ []) S T
-  others_refused keeps can_fail e refused = subst (λ p. AgreesExceptAt (p ++ zarr_json ∷ []) S T) at ((keeps S T h.convert_version h metadata_is.0 metadata_is.1).1 can_fail e refused)
+  pub others_refused : StoringKeepsOthers → (can_fail : Bool) (e : StorageError) → RefusesStoringGroup can_fail h.convert_version h S T e → AgreesOutsideKey (c.path ++ zarr_json ∷ []) S T
+  others_refused keeps can_fail e refused = subst (λ p. AgreesOutsideKey (p ++ zarr_json ∷ []) S T) at ((keeps S T h.convert_version h metadata_is.0 metadata_is.1).1 can_fail e refused)
 
   -- where it was stored, and nests not too deep, the catalogue is stored
   pub is_stored : ListedBlockOpens → IsCurrent T c → MeansStored T h.path (metadata_by_version h.convert_version h.metadata) → depth (group_tree h.metadata) ≤ max_depth → IsStored T c

@@ -8,7 +8,7 @@ use Rattle.std.proofs.Math.Seq.{take-suc, drop-cons}
 use Rattle.std.proofs.lemmas.List.{take-append-drop}
 use Rattle.std.proofs.lemmas.List.Elements.{Contains-append_left, Contains-append_right, Contains-push_cases}
 use Rattle.zarrs_store.specs.Segments.{Segments}
-use Rattle.zarrs_store.specs.Contents.{Contents, Lists}
+use Rattle.zarrs_store.specs.Contents.{Contents, Lists, with_key, without_key}
 use Rattle.zarrs_path.specs.Paths.{Path, path_cmp}
 use Rattle.zarrs_meta.specs.NodeDocuments.{is_version_3}
 use Rattle.zarrs_meta.specs.Node.{is_group}
@@ -51,32 +51,58 @@ last xs x = Contains-append_right xs (x ∷ []) x (0, omega arith, refl)
 
 -- ---- documents set and keys erased, one after another
 
+-- a store that has what another has with these bytes at a key, and the numbers of it, is that store with these bytes
+pub inserted_is : (S T : Contents) (key : Segments) (bytes : List ℕ) → T.values ≡ map.insert S.values key bytes → T.numbers ≡ S.numbers → T ≡ with_key S key bytes
+inserted_is S T key bytes values numbers = λ i. record { values = values i; numbers = numbers i }
+
+-- a store that has what another has without a key, and the numbers of it, is that store without the key
+pub removed_is : (S T : Contents) (key : Segments) → T.values ≡ map.remove S.values key → T.numbers ≡ S.numbers → T ≡ without_key S key
+removed_is S T key values numbers = λ i. record { values = values i; numbers = numbers i }
+
+-- setting documents does not change the numbers
+numbers_set : (S : Contents) (ds : List (Segments × Vec ℕ)) → (with_documents S ds).numbers ≡ S.numbers
+numbers_set S [] = refl
+numbers_set S (d ∷ ds) = numbers_set (with_key S d.0 d.1.items) ds
+
+-- nor does erasing keys
+numbers_erased : (S : Contents) (ks : List Segments) → (without_keys S ks).numbers ≡ S.numbers
+numbers_erased S [] = refl
+numbers_erased S (k ∷ ks) = numbers_erased (without_key S k) ks
+
 module _ (kept : OthersAreKept) (S T : Contents) (i : ℕ) where
   module _ (ds : List (Segments × Vec ℕ)) (done : T ≡ with_documents S (take i ds)) where
     -- the first documents are set, and the next
-    pub set_more : (d : Segments × Vec ℕ) (v : List ℕ) → v ≡ d.1.items → d ≡ get_or ds i d → i < length ds → map.insert T d.0 v ≡ with_documents S (take (i + 1) ds)
-    set_more d v is here within = ap (map.insert T d.0) is ∙ ap (λ s. map.insert s d.0 d.1.items) done ∙ push S (take i ds) ∙ ap (with_documents S) (sym (next ds i d here within))
+    pub set_more : (d : Segments × Vec ℕ) (v : List ℕ) → v ≡ d.1.items → d ≡ get_or ds i d → i < length ds → with_key T d.0 v ≡ with_documents S (take (i + 1) ds)
+    set_more d v is here within = ap (with_key T d.0) is ∙ ap (λ s. with_key s d.0 d.1.items) done ∙ push S (take i ds) ∙ ap (with_documents S) (sym (next ds i d here within))
       where
-        push : (R : Contents) (es : List (Segments × Vec ℕ)) → map.insert (with_documents R es) d.0 d.1.items ≡ with_documents R (es ++ d ∷ [])
+        push : (R : Contents) (es : List (Segments × Vec ℕ)) → with_key (with_documents R es) d.0 d.1.items ≡ with_documents R (es ++ d ∷ [])
         push R [] = refl
-        push R (e ∷ es) = push (map.insert R e.0 e.1.items) es
+        push R (e ∷ es) = push (with_key R e.0 e.1.items) es
 
     -- at other keys stands what stood there
-    pub set_others : (key : Segments) → ((d : Segments × Vec ℕ) → Contains ds d → d.0 ≢ key) → map.get T key ≡ map.get S key
-    set_others key far = ap (λ s. map.get s key) done ∙ (kept S key).0 (take i ds) (λ d in'. far d (of_first ds i d in'))
+    pub set_others : (key : Segments) → ((d : Segments × Vec ℕ) → Contains ds d → d.0 ≢ key) → map.get T.values key ≡ map.get S.values key
+    set_others key far = ap (λ (s : Contents). map.get s.values key) done ∙ (kept S key).0 (take i ds) (λ d in'. far d (of_first ds i d in'))
+
+    -- the numbers are as they were
+    pub set_numbers : T.numbers ≡ S.numbers
+    set_numbers = ap (λ (s : Contents). s.numbers) done ∙ numbers_set S (take i ds)
 
   module _ (ks : List Segments) (done : T ≡ without_keys S (take i ks)) where
     -- the first keys are erased, and the next
-    pub erase_more : (k : Segments) → k ≡ get_or ks i k → i < length ks → map.remove T k ≡ without_keys S (take (i + 1) ks)
-    erase_more k here within = ap (λ s. map.remove s k) done ∙ push S (take i ks) ∙ ap (without_keys S) (sym (next ks i k here within))
+    pub erase_more : (k : Segments) → k ≡ get_or ks i k → i < length ks → without_key T k ≡ without_keys S (take (i + 1) ks)
+    erase_more k here within = ap (λ s. without_key s k) done ∙ push S (take i ks) ∙ ap (without_keys S) (sym (next ks i k here within))
       where
-        push : (R : Contents) (js : List Segments) → map.remove (without_keys R js) k ≡ without_keys R (js ++ k ∷ [])
+        push : (R : Contents) (js : List Segments) → without_key (without_keys R js) k ≡ without_keys R (js ++ k ∷ [])
         push R [] = refl
-        push R (j ∷ js) = push (map.remove R j) js
+        push R (j ∷ js) = push (without_key R j) js
 
     -- at other keys stands what stood there
-    pub erase_others : (key : Segments) → (Contains ks key → ⊥) → map.get T key ≡ map.get S key
-    erase_others key far = ap (λ s. map.get s key) done ∙ (kept S key).1 (take i ks) (λ in'. far (of_first ks i key in'))
+    pub erase_others : (key : Segments) → (Contains ks key → ⊥) → map.get T.values key ≡ map.get S.values key
+    erase_others key far = ap (λ (s : Contents). map.get s.values key) done ∙ (kept S key).1 (take i ks) (λ in'. far (of_first ks i key in'))
+
+    -- the numbers are as they were
+    pub erase_numbers : T.numbers ≡ S.numbers
+    erase_numbers = ap (λ (s : Contents). s.numbers) done ∙ numbers_erased S (take i ks)
 
 -- ---- metadata as version 3
 
@@ -219,8 +245,9 @@ module _ (S : Contents) (b : Path) (nodes : List (Path × NodeMetadata)) (same :
 
   module _ (T : Contents) (ds es : List (Segments × Vec ℕ)) (slice : es ≡ ds) (are : AreDocumentsOf node_v3 (Contains nodes) ds) where
     -- where only keys of the documents are set, only those of the nodes are
-    pub keeps_others : ((key : Segments) → ((d : Segments × Vec ℕ) → Contains es d → d.0 ≢ key) → map.get T key ≡ map.get S key) → KeepsOthers b S T
-    keeps_others others key far = others key (λ d in' at. let w = are.only d (subst (λ l. Contains l d) slice in') in far w.0 ((same w.0).0 w.1) w.2 (sym at ∙ w.3.2))
+    pub keeps_others : T.numbers ≡ S.numbers → ((key : Segments) → ((d : Segments × Vec ℕ) → Contains es d → d.0 ≢ key) → map.get T.values key ≡ map.get S.values key) → KeepsOthers b S T
+    keeps_others numbers others =
+        (numbers, λ key far. others key (λ d in' at. let w = are.only d (subst (λ l. Contains l d) slice in') in far w.0 ((same w.0).0 w.1) w.2 (sym at ∙ w.3.2)))
 
     -- and once they are set, a listing shows the nodes as version 3
     pub converted_shows : DocumentsAreShown → HasNothingBad S Default true b → T ≡ with_documents S es → ShowsMapped node_v3 b S Default T V3 × ShowsMapped node_v3 b S Default T Default
@@ -233,13 +260,13 @@ module _ (S T : Contents) (b : Path) (nodes : List (Path × NodeMetadata)) (ks :
   stand_beside law key in' = law S nodes (λ e there. ((same e).0 there).1) key (subst (λ l. Contains l key) keys in')
 
   -- once they are erased none of the old documents is there
-  pub erased_absent : ErasedAreAbsent → T ≡ without_keys S ks → (e : Path × NodeMetadata) (file : List ℕ) → NodesFrom S V3 b e → Contains version_2_files file → map.get T (e.0 ++ file ∷ []) ≡ None
-  erased_absent law done e file from known = ap (λ R. map.get R (e.0 ++ file ∷ [])) (done ∙ ap (without_keys S) keys) ∙ law S nodes e file ((same e).1 from) known
+  pub erased_absent : ErasedAreAbsent → T ≡ without_keys S ks → (e : Path × NodeMetadata) (file : List ℕ) → NodesFrom S V3 b e → Contains version_2_files file → map.get T.values (e.0 ++ file ∷ []) ≡ None
+  erased_absent law done e file from known = ap (λ (R : Contents). map.get R.values (e.0 ++ file ∷ [])) (done ∙ ap (without_keys S) keys) ∙ law S nodes e file ((same e).1 from) known
 
   -- and a listing by default shows what it showed
   pub erased_shows : KeysStandBeside → ErasedShowSame → T ≡ without_keys S ks → HasNothingBad S Default true b → ShowsMapped Some b S Default T Default
   erased_shows beside law done good = subst (λ R. ShowsMapped Some b S Default R Default) (sym done) (law S ks (stand_beside beside) b good)
 
   -- no other key is touched
-  pub others_beside : KeysStandBeside → ((key : Segments) → (Contains ks key → ⊥) → map.get T key ≡ map.get S key) → (key : Segments) → (StandsBeside S key → ⊥) → map.get T key ≡ map.get S key
+  pub others_beside : KeysStandBeside → ((key : Segments) → (Contains ks key → ⊥) → map.get T.values key ≡ map.get S.values key) → (key : Segments) → (StandsBeside S key → ⊥) → map.get T.values key ≡ map.get S.values key
   others_beside law others key far = others key (λ in'. far (stand_beside law key in'))

@@ -11,19 +11,19 @@ use Rattle.std.specs.List.{fold}
 use Rattle.serde_json.specs.Data.{depth}
 use Rattle.serde_json.specs.Read.{max_depth}
 use Rattle.zarrs_store.specs.Segments.{Segments}
-use Rattle.zarrs_store.specs.Contents.{Contents, AgreesExceptAt}
+use Rattle.zarrs_store.specs.Contents.{Contents}
 use Rattle.zarrs_store.specs.Faults.{IsStoreError}
 use Rattle.zarrs_path.specs.Paths.{IsBelow, IsPath, path_text}
 use Rattle.zarrs_path.specs.Keys.{zarr_json}
 use Rattle.zarrs_config.specs.declared.version.MetadataRetrieveVersion.TheVariants.{V3}
 use Rattle.zarrs_meta.specs.declared.node.GroupMetadata.{GroupMetadata}
-use Rattle.zarrs_block.specs.Policy.{block_in_group}
+use Rattle.zarrs_block.specs.Policy.{group_block}
 use Rattle.zarrs_block.specs.Refusals.{IsExcusedOr}
 use Rattle.zarrs_block.specs.declared.node_create_error.NodeCreateError.TheVariants.{OutOfMemory as NoMemory}
 use Rattle.zarrs_node.specs.CurrentBlocks.{LeadsTo, ShowsBadAnew}
 use Rattle.zarrs_node.specs.ListedBlocks.{IsListedBlock}
 use Rattle.zarrs_group.specs.BlocksOfGroups.{with_block}
-use Rattle.zarrs_group.specs.Edits.{Edit, set, remove, after_edit}
+use Rattle.zarrs_group.specs.Edits.{AgreesOutsideKey, Edit, set, remove, after_edit}
 use Rattle.zarrs_group.specs.Groups.{GroupState, group_tree}
 use Rattle.zarrs_group.specs.Meaning.{MeansGroup}
 use Rattle.zarrs_group.specs.OpeningGroups.{RefusesOpeningGroup}
@@ -67,7 +67,7 @@ after_changes S cs = fold after_change S cs
 -- a change is refused over a store S, which becomes T: its path is not below that of the catalogue, and nothing is changed; or the store refused, and no other key is changed; or the document is changed, and what the block would need of it is bad
 abbrev pub RefusesChange : Bool → Catalogue → Change → Contents → Contents → ChangeError → Type 0
 RefusesChange can_fail c change S T NotBelow = (IsBelow c.path change.path → ⊥) × (T ≡ S)
-RefusesChange can_fail c change S T (Store e) = IsStoreError can_fail e × AgreesExceptAt (changed_key change) S T
+RefusesChange can_fail c change S T (Store e) = IsStoreError can_fail e × AgreesOutsideKey (changed_key change) S T
 RefusesChange can_fail c change S T (Refresh e) = (T ≡ after_change S change) × IsExcusedOr can_fail (λ e. LeadsTo c.block c.path change.path × ShowsBadAnew T V3 change.path e) e
 
 -- of a list of changes over a store S the one at the step was refused, by a catalogue that became c of a first one: c is current in the store after the changes before the step where the first was current in S, and the change is refused over that store
@@ -79,10 +79,10 @@ pub record IsRefusedAt (can_fail : Bool) (first c : Catalogue) (changes : List C
 
 -- ---- the stored group
 
--- the path of the catalogue means a version 3 group that holds its block; a node opened there by the block, under Must, has the forest below it that one opened by a listing, under Never, has; and nothing in the store refuses either opening
+-- the path of the catalogue means a version 3 group that holds its block, in the numbers of the store; a node opened there by the block, under Must, has the forest below it that one opened by a listing, under Never, has; and nothing in the store refuses either opening
 pub record IsStored (S : Contents) (c : Catalogue) : Type 0 where
   pub group : GroupMetadata
-  pub holds : block_in_group group ≡ Some c.block
+  pub holds : group_block S.numbers group ≡ Some c.block
   pub alike : OpensAlike S V3 c.path group
 
 -- h is the group that the path of the catalogue means, as version 3, with the block of the catalogue set

@@ -44,9 +44,11 @@ node_v3 (metadata.Group (group.V2 m)) = Some (metadata.Group (group.V3 (group_v2
 node_v3 (metadata.Array (array.V3 m)) = Some (metadata.Array (array.V3 m))
 node_v3 (metadata.Array (array.V2 m)) = made_array_of (array_v3 m)
 
--- every key has what it had, but those of the documents `zarr.json` of the nodes of version 2 at b and below it
+-- every key has what it had, but those of the documents `zarr.json` of the nodes of version 2 at b and below it; and the numbers are as they were
 abbrev pub KeepsOthers : Path → Contents → Contents → Type 0
-KeepsOthers b S T = (key : Segments) → ((e : Path × NodeMetadata) → NodesFrom S Default b e → is_version_3 e.1 ≡ false → key ≢ e.0 ++ zarr_json ∷ []) → get T key ≡ get S key
+KeepsOthers b S T =
+    (T.numbers ≡ S.numbers)
+    × ((key : Segments) → ((e : Path × NodeMetadata) → NodesFrom S Default b e → is_version_3 e.1 ≡ false → key ≢ e.0 ++ zarr_json ∷ []) → get T.values key ≡ get S.values key)
 
 -- ---- refusals
 

@@ -61,7 +61,7 @@ chunk_key_of a indices = option_map (λ e. a.path ++ chunk_segments e indices) (
 
 -- the bytes that the store has at the key of the chunk, or none
 abbrev pub chunk_in : Contents → OpenedArray → List ℕ → Option (Option (List ℕ))
-chunk_in s a indices = option_map (get s) (chunk_key_of a indices)
+chunk_in s a indices = option_map (get s.values) (chunk_key_of a indices)
 
 -- the array's encoding is not supported, and the error has its name; or the indices are not as many as the dimensions, and the error has both numbers; or out of memory
 abbrev pub RefusesChunkKey : ArrayMetadata → List ℕ → ChunkError → Type 0

@@ -1,9 +1,9 @@
 //! A catalogue: it keeps the consolidated block of a version 3 group current while the documents below the group change.
 ghost use Rattle.std.specs.Prelude.{◌≡◌, [], ◌∷◌, ◌++◌, true, IfOk, IfErr, OnOk, OnErr};
-ghost use Rattle.zarrs_store.specs.Contents.{AgreesExceptAt};
 ghost use Rattle.zarrs_store.specs.Faults.{IsStoreError};
 ghost use Rattle.zarrs_path.specs.Keys.{zarr_json};
 ghost use Rattle.zarrs_block.specs.Refusals.{IsExcusedOr};
+ghost use Rattle.zarrs_group.specs.Edits.{AgreesOutsideKey};
 ghost use Rattle.zarrs_node.specs.Nodes.{ShowsBad};
 ghost use Rattle.zarrs_uses.specs.Catalogues.{IsCurrent, IsGroupWithBlock, IsRefusedAt, IsStored, RefusesChange, RefusesStored, RefusesUpdate, after_change, after_changes, changed_key};
 
@@ -45,8 +45,8 @@ pub struct Change {
 }
 
 impl Catalogue {
-    /// The catalogue of the group at a path: its block has the nodes that a listing finds below the path, as version 3. A path without a document
-    /// is passed over with all below it, and warned of.
+    /// The catalogue of the group at a path: its block has the nodes that a listing finds below the path, as version 3, in the numbers of the
+    /// store. A path without a document is passed over with all below it, and warned of.
     ///
     /// # Errors
     ///
@@ -154,7 +154,8 @@ impl Catalogue {
         Ok(())
     }
 
-    /// Stores the group with the block: its document as the store has it, with the block in the place of the one that it held.
+    /// Stores the group with the block: its document as the store has it, with the block in the place of the one that it held. A document with
+    /// a fraction is not stored, over `AnyNumbers` neither.
     ///
     /// # Errors
     ///
@@ -178,7 +179,7 @@ impl Catalogue {
             → IsStored (S.contents storage.new) self.now) }
         ensures current { IsCurrent (S.contents storage.old) self.now
             → IsCurrent (S.contents storage.new) self.now }
-        ensures others { AgreesExceptAt (self.now.path ++ zarr_json ∷ [])
+        ensures others { AgreesOutsideKey (self.now.path ++ zarr_json ∷ [])
             (S.contents storage.old) (S.contents storage.new) }
         ensures refused { IfErr result
             (RefusesStored (S.can_fail storage.old) self.now
@@ -215,7 +216,7 @@ impl Catalogue {
     where
         S: ReadableStorageTraits + ListableStorageTraits + WritableStorageTraits,
         ensures changed { OnOk result
-            (AgreesExceptAt (self.old.path ++ zarr_json ∷ [])
+            (AgreesOutsideKey (self.old.path ++ zarr_json ∷ [])
             (after_changes (S.contents storage.old) changes.now) (S.contents storage.new)) }
         ensures current { OnOk result
             (IsCurrent (S.contents storage.old) self.old
@@ -269,7 +270,7 @@ impl Change {
             (S.contents storage.new ≡ after_change (S.contents storage.old) self.now) }
         ensures err { IfErr result (IsStoreError (S.can_fail storage.old)) }
         ensures others { OnErr result
-            (AgreesExceptAt (changed_key self.now)
+            (AgreesOutsideKey (changed_key self.now)
             (S.contents storage.old) (S.contents storage.new)) }
         ensures nature { S.can_fail storage.new ≡ S.can_fail storage.old }
     {

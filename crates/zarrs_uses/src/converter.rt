@@ -169,7 +169,7 @@ pub fn erase_version_2<
         ((e : Path × NodeMetadata) (file : List ℕ)
         → NodesFrom (S.contents storage.old) MetadataRetrieveVersion.V3 base.now e
         → Contains version_2_files file
-        → get (S.contents storage.new) (e.0 ++ file ∷ []) ≡ None) }
+        → get (S.contents storage.new).values (e.0 ++ file ∷ []) ≡ None) }
     ensures shows { OnOk result
         (HasNothingBad (S.contents storage.old) MetadataRetrieveVersion.Default true base.now
         → ShowsMapped Some base.now (S.contents storage.old) MetadataRetrieveVersion.Default
@@ -178,7 +178,8 @@ pub fn erase_version_2<
         → meaning (S.contents storage.new) MetadataRetrieveVersion.Default p
         ≡ meaning (S.contents storage.old) MetadataRetrieveVersion.Default p }
     ensures others { (key : Segments) → (StandsBeside (S.contents storage.old) key → ⊥)
-        → get (S.contents storage.new) key ≡ get (S.contents storage.old) key }
+        → get (S.contents storage.new).values key ≡ get (S.contents storage.old).values key }
+    ensures numbers { (S.contents storage.new).numbers ≡ (S.contents storage.old).numbers }
     ensures refused { IfErr result
         (RefusesErasing (S.can_fail storage.old) MetadataRetrieveVersion.V3 base.now
         (S.contents storage.old) (S.contents storage.new)) }
@@ -322,7 +323,8 @@ fn set_all<S: WritableStorageTraits>(
     ensures err { IfErr result (IsStoreError (S.can_fail storage.old)) }
     ensures others { (key : Segments)
         → ((d : Segments × Bytes ℕ) → Contains documents.now d → d.0 ≢ key)
-        → get (S.contents storage.new) key ≡ get (S.contents storage.old) key }
+        → get (S.contents storage.new).values key ≡ get (S.contents storage.old).values key }
+    ensures numbers { (S.contents storage.new).numbers ≡ (S.contents storage.old).numbers }
     ensures nature { S.can_fail storage.new ≡ S.can_fail storage.old }
 {
     laws::others_are_kept();
@@ -365,7 +367,8 @@ fn erase_all<S: WritableStorageTraits>(
         (S.contents storage.new ≡ without_keys (S.contents storage.old) keys.now) }
     ensures err { IfErr result (IsStoreError (S.can_fail storage.old)) }
     ensures others { (key : Segments) → (Contains keys.now key → ⊥)
-        → get (S.contents storage.new) key ≡ get (S.contents storage.old) key }
+        → get (S.contents storage.new).values key ≡ get (S.contents storage.old).values key }
+    ensures numbers { (S.contents storage.new).numbers ≡ (S.contents storage.old).numbers }
     ensures nature { S.can_fail storage.new ≡ S.can_fail storage.old }
 {
     laws::others_are_kept();

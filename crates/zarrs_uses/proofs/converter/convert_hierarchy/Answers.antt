@@ -16,13 +16,13 @@ pub returns-in_err-set_all-clause-others : goal.returns-in_err-set_all-clause-ot
 returns-in_err-set_all-clause-others g c =
     let S = g.S.Store.contents c.args.storage.now in
     let same = in_slice (NodesFrom S Default c.args.base.now) c.in_ok-nodes.nodes.items c.deref.result.now c.deref.ensures.value c.in_ok-nodes.ensures.nodes in
-    keeps_others S c.args.base.now c.deref.result.now same (g.S.Store.contents c.set_all.new.storage) c.in_ok-documents.documents.items c.deref-2.result.now c.deref-2.ensures.value c.in_ok-documents.ensures.documents c.set_all.ensures.others
+    keeps_others S c.args.base.now c.deref.result.now same (g.S.Store.contents c.set_all.new.storage) c.in_ok-documents.documents.items c.deref-2.result.now c.deref-2.ensures.value c.in_ok-documents.ensures.documents c.set_all.ensures.numbers c.set_all.ensures.others
 
 pub returns-clause-others : goal.returns-clause-others
 returns-clause-others g c =
     let S = g.S.Store.contents c.args.storage.now in
     let same = in_slice (NodesFrom S Default c.args.base.now) c.in_ok-nodes.nodes.items c.deref.result.now c.deref.ensures.value c.in_ok-nodes.ensures.nodes in
-    keeps_others S c.args.base.now c.deref.result.now same (g.S.Store.contents c.set_all.new.storage) c.in_ok-documents.documents.items c.deref-2.result.now c.deref-2.ensures.value c.in_ok-documents.ensures.documents c.set_all.ensures.others
+    keeps_others S c.args.base.now c.deref.result.now same (g.S.Store.contents c.set_all.new.storage) c.in_ok-documents.documents.items c.deref-2.result.now c.deref-2.ensures.value c.in_ok-documents.ensures.documents c.set_all.ensures.numbers c.set_all.ensures.others
 
 pub returns-clause-version_3 : goal.returns-clause-version_3
 returns-clause-version_3 g c =

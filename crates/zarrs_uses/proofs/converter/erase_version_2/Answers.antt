@@ -8,7 +8,7 @@ pub returns-in_err-erase_all-clause-means : goal.returns-in_err-erase_all-clause
 returns-in_err-erase_all-clause-means g c =
     let S = g.S.Store.contents c.args.storage.now in
     let same = in_slice (NodesFrom S V3 c.args.base.now) c.in_ok-nodes.nodes.items c.deref.result.now c.deref.ensures.value c.in_ok-nodes.ensures.nodes in
-    c.beside_means_same.ensures S (g.S.Store.contents c.erase_all.new.storage) (others_beside S (g.S.Store.contents c.erase_all.new.storage) c.args.base.now c.deref.result.now c.deref-2.result.now same (c.deref-2.ensures.value ∙ c.in_ok-keys.ensures) c.keys_stand_beside.ensures c.erase_all.ensures.others)
+    c.beside_means_same.ensures S (g.S.Store.contents c.erase_all.new.storage) c.erase_all.ensures.numbers (others_beside S (g.S.Store.contents c.erase_all.new.storage) c.args.base.now c.deref.result.now c.deref-2.result.now same (c.deref-2.ensures.value ∙ c.in_ok-keys.ensures) c.keys_stand_beside.ensures c.erase_all.ensures.others)
 
 pub returns-in_err-erase_all-clause-others : goal.returns-in_err-erase_all-clause-others
 returns-in_err-erase_all-clause-others g c =
@@ -20,7 +20,7 @@ pub returns-clause-means : goal.returns-clause-means
 returns-clause-means g c =
     let S = g.S.Store.contents c.args.storage.now in
     let same = in_slice (NodesFrom S V3 c.args.base.now) c.in_ok-nodes.nodes.items c.deref.result.now c.deref.ensures.value c.in_ok-nodes.ensures.nodes in
-    c.beside_means_same.ensures S (g.S.Store.contents c.erase_all.new.storage) (others_beside S (g.S.Store.contents c.erase_all.new.storage) c.args.base.now c.deref.result.now c.deref-2.result.now same (c.deref-2.ensures.value ∙ c.in_ok-keys.ensures) c.keys_stand_beside.ensures c.erase_all.ensures.others)
+    c.beside_means_same.ensures S (g.S.Store.contents c.erase_all.new.storage) c.erase_all.ensures.numbers (others_beside S (g.S.Store.contents c.erase_all.new.storage) c.args.base.now c.deref.result.now c.deref-2.result.now same (c.deref-2.ensures.value ∙ c.in_ok-keys.ensures) c.keys_stand_beside.ensures c.erase_all.ensures.others)
 
 pub returns-clause-others : goal.returns-clause-others
 returns-clause-others g c =
