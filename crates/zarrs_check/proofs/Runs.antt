@@ -5,37 +5,37 @@ use Rattle.std.specs.Str.{bytes_eq}
 use Rattle.std.specs.Io.KnownBytes.{IsAtEnd}
 use Rattle.std.proofs.lemmas.Bool.{eqb-true}
 use Rattle.std.proofs.lemmas.Slice.Eq.{bytes_eq-Decides}
-use Rattle.zarrs_store.specs.Contents.{Contents}
+use Rattle.zarrs_store.specs.Contents.{Values}
 use Rattle.zarrs_load.specs.Image.{IsLoaded}
 use Rattle.zarrs_load.specs.Folder.{HoldsDocumentsAlone}
-use Rattle.zarrs_check.specs.Output.{AreWordsOf, WritesReport, WritesImageReport, WritesFolderReport, WritesAskedReport}
+use Rattle.zarrs_check.specs.Output.{AreWordsOf, WritesReport, WritesImageReport, WritesFolderReport, WritesAskedReport, in_any_numbers}
 use Rattle.zarrs_check.specs.Refusals.{RefusesReport, RefusedImageReport, RefusedFolderReport, RefusedSourceReport, RefusedAskedReport, report_status}
 use Rattle.zarrs_check.specs.declared.report.Tally.{Tally}
 use Rattle.zarrs_check.specs.declared.fault.CheckFault.{CheckFault}
 use Rattle.zarrs_check.specs.declared.fault.CheckFault.TheVariants.{Usage, Read, ReadTooLong, Image, ImageKey, ImageValue, Folder, Node, Write, OutOfMemory}
 
 -- the report on the store of the image is that on the image
-pub written_image : (path : List ℕ) (left old new : Option (List ℕ)) (store : Contents) (r : Result Tally CheckFault) → IsLoaded left store
-    → IfOk r (WritesReport path store old new) → IfOk r (WritesImageReport path left old new)
-written_image path left old new store (Ok tally) loaded writes = (store, loaded, writes)
-written_image path left old new store (Err e) loaded writes = tt
+pub written_image : (path : List ℕ) (left old new : Option (List ℕ)) (values : Values) (r : Result Tally CheckFault) → IsLoaded left values
+    → IfOk r (WritesReport path (in_any_numbers values) old new) → IfOk r (WritesImageReport path left old new)
+written_image path left old new values (Ok tally) loaded writes = (values, loaded, writes)
+written_image path left old new values (Err e) loaded writes = tt
 
 -- what refuses the check of that store refuses the run
-pub refused_image : (path : List ℕ) (before after : Option (List ℕ)) (store : Contents) (r : Result Tally CheckFault) → IsAtEnd after → IsLoaded before store
-    → IfErr r (RefusesReport false path store) → IfErr r (RefusedImageReport path before after)
-refused_image path before after store (Ok tally) end loaded refused = tt
-refused_image path before after store (Err fault) end loaded refused = inr (end, (store, loaded, refused))
+pub refused_image : (path : List ℕ) (before after : Option (List ℕ)) (values : Values) (r : Result Tally CheckFault) → IsAtEnd after → IsLoaded before values
+    → IfErr r (RefusesReport false path (in_any_numbers values)) → IfErr r (RefusedImageReport path before after)
+refused_image path before after values (Ok tally) end loaded refused = tt
+refused_image path before after values (Err fault) end loaded refused = inr (end, (values, loaded, refused))
 
 -- the report on the store of a folder is that on the folder
-pub written_folder : (path : List ℕ) (old new : Option (List ℕ)) (store : Contents) (r : Result Tally CheckFault) → HoldsDocumentsAlone store
-    → IfOk r (WritesReport path store old new) → IfOk r (WritesFolderReport path old new)
-written_folder path old new store (Ok tally) holds writes = (store, holds, writes)
-written_folder path old new store (Err e) holds writes = tt
+pub written_folder : (path : List ℕ) (old new : Option (List ℕ)) (values : Values) (r : Result Tally CheckFault) → HoldsDocumentsAlone values
+    → IfOk r (WritesReport path (in_any_numbers values) old new) → IfOk r (WritesFolderReport path old new)
+written_folder path old new values (Ok tally) holds writes = (values, holds, writes)
+written_folder path old new values (Err e) holds writes = tt
 
 -- what refuses the check of that store refuses the run
-pub refused_folder : (path : List ℕ) (store : Contents) (r : Result Tally CheckFault) → HoldsDocumentsAlone store → IfErr r (RefusesReport false path store) → IfErr r (RefusedFolderReport path)
-refused_folder path store (Ok tally) holds refused = tt
-refused_folder path store (Err fault) holds refused = inr (store, holds, refused)
+pub refused_folder : (path : List ℕ) (values : Values) (r : Result Tally CheckFault) → HoldsDocumentsAlone values → IfErr r (RefusesReport false path (in_any_numbers values)) → IfErr r (RefusedFolderReport path)
+refused_folder path values (Ok tally) holds refused = tt
+refused_folder path values (Err fault) holds refused = inr (values, holds, refused)
 
 -- ---- by the words
 

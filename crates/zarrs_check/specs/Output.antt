@@ -2,11 +2,13 @@
 -- <https://zarr-specs.readthedocs.io/en/latest/v3/core/index.html#hierarchy>
 --     AreWordsOf words source path, AreWords words      the words name this source and path; the words name some
 --     WritesReport path s      the report on the store s from the path on was written
+--     in_any_numbers values      the store that holds this, as the program reads it
 --     WritesAskedReport words left      what a run writes that ends well
 use Rattle.std.specs.Prelude.{◌≡◌, ◌≢◌, ◌⊎◌, ℕ, List, [], ◌∷◌, map, codes, Option, String, string_bytes}
 use Rattle.std.specs.declared.alloc.Global.{Global}
 use Rattle.std.specs.Io.KnownBytes.{Appends}
-use Rattle.zarrs_store.specs.Contents.{Contents}
+use Rattle.zarrs_fault.specs.declared.numbers.Numbers.TheVariants.{Any}
+use Rattle.zarrs_store.specs.Contents.{Contents, Values}
 use Rattle.zarrs_path.specs.Paths.{Path, IsPath, path_text}
 use Rattle.zarrs_load.specs.Image.{IsLoaded}
 use Rattle.zarrs_load.specs.Folder.{HoldsDocumentsAlone}
@@ -33,13 +35,17 @@ IsChecked path store tally text = (base : Path) × IsPath base × (path_text bas
 abbrev pub WritesReport : List ℕ → Contents → Option (List ℕ) → Option (List ℕ) → Tally → Type 0
 WritesReport path store before after tally = (text : List ℕ) × IsChecked path store tally text × Appends before after text
 
--- the report on the store of the image that a reader had left was appended
-abbrev pub WritesImageReport : List ℕ → Option (List ℕ) → Option (List ℕ) → Option (List ℕ) → Tally → Type 0
-WritesImageReport path left before after tally = (store : Contents) × IsLoaded left store × WritesReport path store before after tally
+-- the store that holds this, and whose documents may hold any number: as the program reads images and folders
+abbrev pub in_any_numbers : Values → Contents
+in_any_numbers values = record { values = values; numbers = Any }
 
--- the report on a store in which only documents have bytes, as in a folder's, was appended
+-- the report on the store of the image that a reader had left was appended, with any numbers
+abbrev pub WritesImageReport : List ℕ → Option (List ℕ) → Option (List ℕ) → Option (List ℕ) → Tally → Type 0
+WritesImageReport path left before after tally = (values : Values) × IsLoaded left values × WritesReport path (in_any_numbers values) before after tally
+
+-- the report on a store in which only documents have bytes, as in a folder's, was appended, with any numbers
 abbrev pub WritesFolderReport : List ℕ → Option (List ℕ) → Option (List ℕ) → Tally → Type 0
-WritesFolderReport path before after tally = (store : Contents) × HoldsDocumentsAlone store × WritesReport path store before after tally
+WritesFolderReport path before after tally = (values : Values) × HoldsDocumentsAlone values × WritesReport path (in_any_numbers values) before after tally
 
 -- the report on the store that the source names was appended: the image's where the source is `-`, else a folder's
 abbrev pub WritesSourceReport : List ℕ → List ℕ → Option (List ℕ) → Option (List ℕ) → Option (List ℕ) → Tally → Type 0

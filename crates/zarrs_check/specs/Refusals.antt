@@ -2,7 +2,7 @@
 -- <https://zarr-specs.readthedocs.io/en/latest/v3/core/index.html#hierarchy>
 use Rattle.std.specs.Prelude.{◌≡◌, ◌≢◌, ℕ, Bool, false, List, ⊤, Option, Result, Ok, Err, ◌⊎◌, cond, codes, ◌==◌}
 use Rattle.std.specs.Io.KnownBytes.{IsAtEnd}
-use Rattle.zarrs_store.specs.Contents.{Contents}
+use Rattle.zarrs_store.specs.Contents.{Contents, Values}
 use Rattle.zarrs_path.specs.PathErrors.{RefusesPath}
 use Rattle.zarrs_block.specs.declared.node_create_error.NodeCreateError.{NodeCreateError}
 use Rattle.zarrs_block.specs.declared.node_create_error.NodeCreateError.TheVariants.{NodePathError}
@@ -11,7 +11,7 @@ use Rattle.zarrs_load.specs.Image.{IsLoaded, RefusedImage}
 use Rattle.zarrs_load.specs.Folder.{HoldsDocumentsAlone, IsFolderFault}
 use Rattle.zarrs_load.specs.declared.fault.LoadFault.{LoadFault}
 use Rattle.zarrs_load.specs.declared.fault.LoadFault.TheVariants as load
-use Rattle.zarrs_check.specs.Output.{IsChecked, AreWords, AreWordsOf}
+use Rattle.zarrs_check.specs.Output.{IsChecked, AreWords, AreWordsOf, in_any_numbers}
 use Rattle.zarrs_check.specs.declared.report.Tally.{Tally}
 use Rattle.zarrs_check.specs.declared.fault.CheckFault.{CheckFault}
 use Rattle.zarrs_check.specs.declared.fault.CheckFault.TheVariants.{Usage, Read, ReadTooLong, Image, ImageKey, ImageValue, Folder, Node, Write, OutOfMemory}
@@ -42,11 +42,11 @@ IsFaultOfLoading P _ = ⊥
 
 -- a reader gives no image; or it was read to its end, and the check of the store of its image is refused
 abbrev pub RefusedImageReport : List ℕ → Option (List ℕ) → Option (List ℕ) → CheckFault → Type 0
-RefusedImageReport path before after fault = IsFaultOfLoading (RefusedImage before after) fault ⊎ (IsAtEnd after × ((store : Contents) × IsLoaded before store × RefusesReport false path store fault))
+RefusedImageReport path before after fault = IsFaultOfLoading (RefusedImage before after) fault ⊎ (IsAtEnd after × ((values : Values) × IsLoaded before values × RefusesReport false path (in_any_numbers values) fault))
 
 -- the folder makes no store, or out of memory; or the check of its store is refused
 abbrev pub RefusedFolderReport : List ℕ → CheckFault → Type 0
-RefusedFolderReport path fault = IsFaultOfLoading IsFolderFault fault ⊎ ((store : Contents) × HoldsDocumentsAlone store × RefusesReport false path store fault)
+RefusedFolderReport path fault = IsFaultOfLoading IsFolderFault fault ⊎ ((values : Values) × HoldsDocumentsAlone values × RefusesReport false path (in_any_numbers values) fault)
 
 -- the check of the store which the source names is refused: of `-` that of the image, else that of a folder
 abbrev pub RefusedSourceReport : List ℕ → List ℕ → Option (List ℕ) → Option (List ℕ) → CheckFault → Type 0

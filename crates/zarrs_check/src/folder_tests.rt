@@ -20,7 +20,11 @@ const IMAGE: &str =
 const REPORT: &str = "/a/b: stale: the block of /a has it, and the store has not\n";
 
 // Makes a folder with files at paths below it.
-fn make_folder(rt: &HostRuntime, folder: &str, files: &[(&str, &str)]) -> io::Result<()> {
+pub(crate) fn make_folder(
+    rt: &HostRuntime,
+    folder: &str,
+    files: &[(&str, &str)],
+) -> io::Result<()> {
     let _ = fs::remove_dir_all(rt, folder);
     fs::create_dir_all(rt, folder)?;
     for (path, bytes) in files {
@@ -42,7 +46,7 @@ fn words(alloc: Global, texts: &[&str]) -> Result<Vec<String>, AllocError> {
 }
 
 // What goes to the standard output, what to the standard error, warnings first, and the status.
-fn run(rt: &HostRuntime, texts: &[&str]) -> Result<(String, String, u8), AllocError> {
+pub(crate) fn run(rt: &HostRuntime, texts: &[&str]) -> Result<(String, String, u8), AllocError> {
     let alloc = rt.alloc();
     let words = words(alloc, texts)?;
     let sink = Writer::new(Vec::new(alloc));

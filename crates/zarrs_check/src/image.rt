@@ -1,4 +1,4 @@
-//! A store from an image, as [`zarrs_load`] loads it, refused with the program's faults.
+//! A store from an image, as [`zarrs_load`] loads it, whose documents may hold any number; refused with the program's faults.
 ghost use Rattle.std.specs.Prelude.{IfOk, IfErr, IfSome, OnOk};
 ghost use Rattle.std.specs.FinMap as map;
 ghost use Rattle.std.specs.Io.KnownBytes.{IsAtEnd};
@@ -10,19 +10,23 @@ ghost use Rattle.zarrs_check.specs.Refusals.{IsFaultOfLoading};
 use crate::fault::CheckFault;
 use std::alloc::Global;
 use std::io::Read;
-use zarrs_store::MemoryStore;
+use zarrs_store::{AnyNumbers, MemoryStore};
 
-/// The store of an image, which is read to its end: what [`zarrs_load::load_image`] answers.
+/// The store of an image, which is read to its end: what [`zarrs_load::load_image`] answers, whose documents may hold any number.
 ///
 /// # Errors
 /// Its refusals, as the variants of the same names.
-pub fn load_image<R: Read>(alloc: Global, reader: &mut R) -> Result<MemoryStore, CheckFault>
+pub fn load_image<R: Read>(
+    alloc: Global,
+    reader: &mut R,
+) -> Result<AnyNumbers<MemoryStore>, CheckFault>
     ensures ok { IfOk result (λ store.
-        IsLoaded (R.remaining reader.old) (map.from_entries {R = key_cmp} store)) }
+        IsLoaded (R.remaining reader.old) (map.from_entries {R = key_cmp} store.inner)) }
     ensures end { OnOk result (IsAtEnd (R.remaining reader.new)) }
     ensures bound { OnOk result (IfSome (R.remaining reader.old) IsWithinBound) }
     ensures err { IfErr result
         (IsFaultOfLoading (RefusedImage (R.remaining reader.old) (R.remaining reader.new))) }
 {
-    Ok(zarrs_load::load_image(alloc, reader)?)
+    let inner = zarrs_load::load_image(alloc, reader)?;
+    Ok(AnyNumbers { inner })
 }

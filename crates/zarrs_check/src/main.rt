@@ -12,6 +12,8 @@ mod fault;
 mod folder;
 #[cfg(test)]
 mod folder_tests;
+#[cfg(test)]
+mod fractions_tests;
 mod image;
 mod remark;
 mod report;
@@ -111,7 +113,7 @@ fn parse(words: &[String]) -> Result<(&str, &str), CheckFault>
     }
 }
 
-// Loads the store of a folder, and writes the report on what it has at a path and below it.
+// Loads the store of a folder, and writes the report on what it has at a path and below it. Its documents may hold any number.
 fn run_folder<R: Log + Files + AllocGlobal, W: Write>(
     rt: &R,
     folder: &str,

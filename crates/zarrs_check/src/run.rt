@@ -18,7 +18,7 @@ use zarrs_path::NodePath;
 use zarrs_store::{ListableStorageTraits, ReadableStorageTraits};
 
 /// Loads the image that a reader gives, and writes the report on what its store has at a path and below it: a line for each remark, in their
-/// order. The report is made whole before it is written. Answers how much was looked at and found.
+/// order. Its documents may hold any number. The report is made whole before it is written. Answers how much was looked at and found.
 ///
 /// # Errors
 /// What [`load_image`] refuses; `Node` where the path is none; `Write` where the writer fails; `OutOfMemory`.
@@ -42,7 +42,7 @@ pub fn run_check<L: Log, R: Read, W: Write>(
     run_store(log, alloc, path, &store, writer)
 }
 
-/// Writes the report on what a store has at a path and below it, as [`run_check`] does once the image is loaded.
+/// Writes the report on what a store has at a path and below it, as [`run_check`] does once the image is loaded, in the numbers of the store.
 ///
 /// # Errors
 /// `Node` where the path is none, or a store that can fail did; `Write` where the writer fails; `OutOfMemory`.

@@ -159,7 +159,7 @@ fn image_of(
 }
 
 // Asserts what the program answers of a path in an image of these documents and of groups with blocks of these entries.
-fn assert_answer<R: Abort + AllocGlobal>(
+pub(crate) fn assert_answer<R: Abort + AllocGlobal>(
     rt: &R,
     documents: &[(&str, &str)],
     blocks: &[(&str, &str)],

@@ -13,7 +13,7 @@ use Rattle.zarrs_path.specs.Paths.{Path, IsPath, IsBelow, path_cmp, relative_nam
 use Rattle.zarrs_path.specs.PathOrder.{path_total}
 use Rattle.zarrs_config.specs.declared.version.MetadataRetrieveVersion.{MetadataRetrieveVersion}
 use Rattle.zarrs_config.specs.declared.version.UseConsolidatedMetadata.TheVariants.{Must, Never}
-use Rattle.zarrs_meta.specs.Node.{is_group, is_plain_node}
+use Rattle.zarrs_meta.specs.Node.{is_group}
 use Rattle.zarrs_meta.specs.declared.node.GroupMetadata.{GroupMetadata}
 use Rattle.zarrs_meta.specs.declared.node.GroupMetadata.TheVariants.{V2, V3}
 use Rattle.zarrs_meta.specs.declared.node.NodeMetadata.{NodeMetadata}
@@ -52,13 +52,11 @@ use Rattle.zarrs_survey.proofs.Merging.{key_or_not, same_list}
 
 -- two metadata are the same or not
 same_or_other : (m n : NodeMetadata) → IsSame m n ⊎ (IsSame m n → ⊥)
-same_or_other m n = by (is_plain_node m) refl (is_plain_node n) refl (same_node (without_block m) (without_block n)) refl
+same_or_other m n = by (same_node (without_block m) (without_block n)) refl
   where
-    by : (a : Bool) → is_plain_node m ≡ a → (c : Bool) → is_plain_node n ≡ c → (t : Bool) → same_node (without_block m) (without_block n) ≡ t → IsSame m n ⊎ (IsSame m n → ⊥)
-    by true a true c true t = inl (same_from_test m n a c t)
-    by false a c d t e = inr (λ h. true≢false (sym h.0 ∙ a))
-    by true a false c t e = inr (λ h. true≢false (sym h.1 ∙ c))
-    by true a true c false t = inr (λ h. true≢false (sym (test_from_same m n h) ∙ t))
+    by : (t : Bool) → same_node (without_block m) (without_block n) ≡ t → IsSame m n ⊎ (IsSame m n → ⊥)
+    by true t = inl (same_from_test m n t)
+    by false t = inr (λ h. true≢false (sym (test_from_same m n h) ∙ t))
 
 -- an entry is there or not
 some_or_none : (o : Option NodeMetadata) → ((m : NodeMetadata) × (o ≡ Some m)) ⊎ (o ≡ None)

@@ -39,7 +39,7 @@ kind_kept (Array a) = refl
 
 -- of two metadata that are the same both are groups or neither is
 same_kind : (m n : NodeMetadata) → IsSame m n → is_group m ≡ is_group n
-same_kind m n same = sym (kind_kept m) ∙ ap is_group same.2 ∙ kind_kept n
+same_kind m n same = sym (kind_kept m) ∙ ap is_group same ∙ kind_kept n
 
 -- what has the same metadata, or none, is the same
 same_some : (o p : Option NodeMetadata) → ((m : NodeMetadata) → (o ≡ Some m) ↔ (p ≡ Some m)) → o ≡ p
@@ -239,7 +239,7 @@ module _ (s : Contents) (v : MetadataRetrieveVersion) (b : Path) (B : Block)
               let n = to_node q (k, one) in
               let x = same q k n.0 one n.1 in
               let y = same q c n.0 two n.1 in
-              (x.0, y.0, x.2 ∙ sym y.2)
+              x ∙ sym y
 
 -- ---- the law
 

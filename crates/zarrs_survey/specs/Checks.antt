@@ -19,10 +19,10 @@ use Rattle.zarrs_form.specs.Documents.{of_bytes}
 use Rattle.zarrs_meta.specs.declared.node.GroupMetadata.TheVariants.{V2, V3}
 use Rattle.zarrs_meta.specs.declared.node.NodeMetadata.{NodeMetadata}
 use Rattle.zarrs_meta.specs.declared.node.NodeMetadata.TheVariants.{Group, Array}
-use Rattle.zarrs_block.specs.Block.{Block, block_of}
+use Rattle.zarrs_block.specs.Block.{Block, block_of_in}
 use Rattle.zarrs_block.specs.declared.consolidated.ConsolidatedMetadata.{ConsolidatedMetadata}
 use Rattle.zarrs_block.specs.Meaning.{meaning, node}
-use Rattle.zarrs_block.specs.Zmetadata.{zmetadata_of}
+use Rattle.zarrs_block.specs.Zmetadata.{zmetadata_in}
 use Rattle.zarrs_block.specs.declared.node_create_error.NodeCreateError.{NodeCreateError}
 use Rattle.zarrs_node.specs.Faults.{PathsAscend}
 use Rattle.zarrs_node.specs.Nodes.{Nodes, Ignored}
@@ -32,10 +32,10 @@ use Rattle.zarrs_survey.specs.declared.check.Check.{Check}
 use Rattle.zarrs_survey.specs.declared.finding.Finding.{Finding}
 use Rattle.zarrs_survey.specs.declared.finding.FindingKind.TheVariants.{BlockFault}
 
--- what is read as the block of a node: of a version 3 group its field, of one of version 2 the document beside its own; an array has none
+-- what is read as the block of a node, in the numbers of the store: of a version 3 group its field, of one of version 2 the document beside its own; an array has none
 abbrev pub block_read : Contents → Path → NodeMetadata → Option (Result Block MetadataFault)
-block_read s p (Group (V3 g)) = option_map block_of (get_member (codes "consolidated_metadata") g.additional_fields)
-block_read s p (Group (V2 g)) = option_map (λ bytes. of_bytes zmetadata_of bytes) (get s (p ++ zmetadata ∷ []))
+block_read s p (Group (V3 g)) = option_map (block_of_in s.numbers) (get_member (codes "consolidated_metadata") g.additional_fields)
+block_read s p (Group (V2 g)) = option_map (λ bytes. of_bytes (zmetadata_in s.numbers) bytes) (get s.values (p ++ zmetadata ∷ []))
 block_read s p (Array a) = None
 
 -- what was read as a block, as it is seen

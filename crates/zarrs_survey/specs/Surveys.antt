@@ -26,7 +26,7 @@ BadDocuments s v b d = Reached (MeansNode s v) true b d.0 × (meaning s v d.0 �
 
 -- a child of a listed path has a name of periods only
 abbrev pub BadNames : Contents → MetadataRetrieveVersion → Path → Path → Type 0
-BadNames s v b p = IsBadName (meaning s v) (HasBelow s) true b p
+BadNames s v b p = IsBadName (meaning s v) (HasBelow s.values) true b p
 
 -- the survey has exactly what the store has at b and below it: the base, the nodes in the order of paths, the ignored paths, the bad documents and the bad names
 pub record IsSurveyOf (s : Contents) (v : MetadataRetrieveVersion) (b : Path) (survey : Survey) : Type 0 where

@@ -5,8 +5,8 @@ ghost use Rattle.serde_json.specs.Find.{get_member};
 ghost use Rattle.zarrs_store.specs.Faults.{IsStoreError};
 ghost use Rattle.zarrs_form.specs.Documents.{Gives, of_bytes};
 ghost use Rattle.zarrs_block.specs.Refusals.{IsExcused};
-ghost use Rattle.zarrs_block.specs.Block.{block_of};
-ghost use Rattle.zarrs_block.specs.Zmetadata.{zmetadata_of};
+ghost use Rattle.zarrs_block.specs.Block.{block_of_in};
+ghost use Rattle.zarrs_block.specs.Zmetadata.{zmetadata_in};
 ghost use Rattle.zarrs_path.specs.Keys.{zmetadata};
 ghost use Rattle.zarrs_survey.specs.Checks.{AreBlockFindings, IsCheckOf, as_read, block_read};
 ghost use Rattle.zarrs_survey.specs.StepsOfChecks.{IsKnownOf};
@@ -22,7 +22,7 @@ use log::Log;
 use std::alloc::{AllocError, Global};
 use zarrs_block::{ConsolidatedMetadata, NodeCreateError};
 use zarrs_config::MetadataRetrieveVersion;
-use zarrs_fault::MetadataFault;
+use zarrs_fault::{MetadataFault, Numbers};
 use zarrs_form::parse;
 use zarrs_meta::{AdditionalFieldsV3, GroupMetadata, NodeMetadata};
 use zarrs_node::walk_past_faults;
@@ -139,7 +139,7 @@ pub fn read_block<S: ReadableStorageTraits>(
 {
     match metadata {
         NodeMetadata::Group(GroupMetadata::V3(group)) => {
-            field_block(alloc, &group.additional_fields)
+            field_block(alloc, storage.numbers(), &group.additional_fields)
         }
         NodeMetadata::Group(GroupMetadata::V2(_)) => document_block(alloc, storage, path),
         NodeMetadata::Array(_) => Ok(None),
@@ -159,7 +159,7 @@ pub(crate) fn take_block<S: ReadableStorageTraits>(
 {
     match metadata {
         NodeMetadata::Group(GroupMetadata::V3(group)) => {
-            taken_field_block(alloc, group.additional_fields)
+            taken_field_block(alloc, storage.numbers(), group.additional_fields)
         }
         other => read_block(alloc, storage, path, &other),
     }
@@ -168,33 +168,37 @@ pub(crate) fn take_block<S: ReadableStorageTraits>(
 // What [`field_block`] reads, of fields that are taken over.
 fn taken_field_block(
     alloc: Global,
+    numbers: Numbers,
     mut fields: AdditionalFieldsV3,
 ) -> Result<Option<Result<ConsolidatedMetadata, MetadataFault>>, StorageError>
     ensures ok { IfOk result
         (λ read. as_read read
-        ≡ option_map block_of (get_member (codes "consolidated_metadata") fields)) }
+        ≡ option_map (block_of_in numbers)
+        (get_member (codes "consolidated_metadata") fields)) }
     ensures err { IfErr result (λ e. e ≡ StorageError.OutOfMemory) }
 {
     let Some(field) = fields.remove("consolidated_metadata") else {
         return Ok(None);
     };
-    known(ConsolidatedMetadata::from_owned_value(alloc, field.into_value()))
+    known(ConsolidatedMetadata::from_owned_value_in(alloc, numbers, field.into_value()))
 }
 
 // What is read as the block in the fields of a version 3 group.
 fn field_block(
     alloc: Global,
+    numbers: Numbers,
     fields: &AdditionalFieldsV3,
 ) -> Result<Option<Result<ConsolidatedMetadata, MetadataFault>>, StorageError>
     ensures ok { IfOk result
         (λ read. as_read read
-        ≡ option_map block_of (get_member (codes "consolidated_metadata") fields.now)) }
+        ≡ option_map (block_of_in numbers)
+        (get_member (codes "consolidated_metadata") fields.now)) }
     ensures err { IfErr result (λ e. e ≡ StorageError.OutOfMemory) }
 {
     let Some(field) = fields.get("consolidated_metadata") else {
         return Ok(None);
     };
-    known(ConsolidatedMetadata::from_value(alloc, field.as_value()))
+    known(ConsolidatedMetadata::from_value_in(alloc, numbers, field.as_value()))
 }
 
 // What is read as the block in the document beside a version 2 group.
@@ -205,22 +209,27 @@ fn document_block<S: ReadableStorageTraits>(
 ) -> Result<Option<Result<ConsolidatedMetadata, MetadataFault>>, StorageError>
     ensures ok { IfOk result
         (λ read. as_read read
-        ≡ option_map (λ bytes. of_bytes zmetadata_of bytes)
-        (get (S.contents storage.now) (path.now ++ zmetadata ∷ []))) }
+        ≡ option_map (λ bytes. of_bytes (zmetadata_in (S.contents storage.now).numbers) bytes)
+        (get (S.contents storage.now).values (path.now ++ zmetadata ∷ []))) }
     ensures err { IfErr result (IsStoreError (S.can_fail storage.now)) }
 {
     let key = meta_key_v2_consolidated(alloc, path)?;
     let Some(bytes) = storage.get(alloc, &key)? else {
         return Ok(None);
     };
-    known(block_of_bytes(alloc, &bytes))
+    known(block_of_bytes(alloc, storage.numbers(), &bytes))
 }
 
 // The block that the bytes of a document `.zmetadata` are.
-fn block_of_bytes(alloc: Global, bytes: &[u8]) -> Result<ConsolidatedMetadata, MetadataFault>
-    ensures { Gives (λ block. block.metadata) result (of_bytes zmetadata_of bytes.now) }
+fn block_of_bytes(
+    alloc: Global,
+    numbers: Numbers,
+    bytes: &[u8],
+) -> Result<ConsolidatedMetadata, MetadataFault>
+    ensures { Gives (λ block. block.metadata) result
+        (of_bytes (zmetadata_in numbers) bytes.now) }
 {
-    ConsolidatedMetadata::from_owned_zmetadata(alloc, parse(alloc, bytes)?)
+    ConsolidatedMetadata::from_owned_zmetadata_in(alloc, numbers, parse(alloc, bytes)?)
 }
 
 // What was read, or its fault, but for out of memory.

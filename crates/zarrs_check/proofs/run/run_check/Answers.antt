@@ -4,7 +4,7 @@ use Rattle.zarrs_check.proofs.Runs.{written_image, refused_image}
 use Rattle.zarrs_check.proofs.run.run_check.Goals as goal
 
 pub returns-clause-ok : goal.returns-clause-ok
-returns-clause-ok g c = written_image _ _ _ _ (map.from_entries {R = key_cmp} c.in_ok-store.store) c.run_store.result c.in_ok-store.ensures.ok c.run_store.ensures.ok
+returns-clause-ok g c = written_image _ _ _ _ (map.from_entries {R = key_cmp} c.in_ok-store.store.inner) c.run_store.result c.in_ok-store.ensures.ok c.run_store.ensures.ok
 
 pub returns-clause-refused : goal.returns-clause-refused
-returns-clause-refused g c = refused_image _ _ _ (map.from_entries {R = key_cmp} c.in_ok-store.store) c.run_store.result c.in_ok-store.ensures.end c.in_ok-store.ensures.ok c.run_store.ensures.refused
+returns-clause-refused g c = refused_image _ _ _ (map.from_entries {R = key_cmp} c.in_ok-store.store.inner) c.run_store.result c.in_ok-store.ensures.end c.in_ok-store.ensures.ok c.run_store.ensures.refused
