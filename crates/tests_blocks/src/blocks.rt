@@ -137,7 +137,7 @@ fn read_owned_block(alloc: Global, text: &str) -> Result<String, AllocError> {
 }
 
 // The text of the written form of a block.
-fn written(block: &ConsolidatedMetadata, alloc: Global) -> Result<String, AllocError> {
+pub(crate) fn written(block: &ConsolidatedMetadata, alloc: Global) -> Result<String, AllocError> {
     block.to_value(alloc)?.to_string(alloc)
 }
 
@@ -295,7 +295,7 @@ fn resolved(alloc: Global, given: &str) -> Result<String, NodeCreateError> {
 }
 
 // The refusal of a word that names nothing.
-fn no_word(alloc: Global, word: &str) -> NodeCreateError {
+pub(crate) fn no_word(alloc: Global, word: &str) -> NodeCreateError {
     match String::from_str(alloc, word) {
         Ok(word) => NodeCreateError::StorageError(StorageError::Other(word)),
         Err(_) => NodeCreateError::OutOfMemory,
@@ -303,7 +303,10 @@ fn no_word(alloc: Global, word: &str) -> NodeCreateError {
 }
 
 // The policy of a name.
-fn policy_of(alloc: Global, name: &str) -> Result<UseConsolidatedMetadata, NodeCreateError> {
+pub(crate) fn policy_of(
+    alloc: Global,
+    name: &str,
+) -> Result<UseConsolidatedMetadata, NodeCreateError> {
     match name {
         "Auto" => Ok(UseConsolidatedMetadata::Auto),
         "Must" => Ok(UseConsolidatedMetadata::Must),
@@ -324,7 +327,10 @@ fn empty_block(alloc: Global, word: &str) -> Result<Option<ConsolidatedMetadata>
 }
 
 // The text of the block, or `none`.
-fn chosen(block: &Option<ConsolidatedMetadata>, alloc: Global) -> Result<String, AllocError> {
+pub(crate) fn chosen(
+    block: &Option<ConsolidatedMetadata>,
+    alloc: Global,
+) -> Result<String, AllocError> {
     match block {
         Some(block) => written(block, alloc),
         None => String::from_str(alloc, "none"),

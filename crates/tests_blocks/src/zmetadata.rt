@@ -141,7 +141,10 @@ netCDF-C => t {"attributes":{"_nczarr_array":{"dimension_references":["/t"],"sto
 "#;
 
 // The keys of a block, each with the text of its metadata and a semicolon.
-fn nodes_text(block: &ConsolidatedMetadata, alloc: Global) -> Result<String, AllocError> {
+pub(crate) fn nodes_text(
+    block: &ConsolidatedMetadata,
+    alloc: Global,
+) -> Result<String, AllocError> {
     let mut text = String::new(alloc);
     for (key, node) in block.metadata.as_map().iter() {
         let node = node.to_text(alloc)?;

@@ -1,10 +1,11 @@
-//! Metadata that were read from documents, and groups that could not have been, compared.
+//! Metadata that were read from documents, in whole numbers and in any, and groups that were made by hand, compared.
 
 use serde_json::Value;
 use std::alloc::{AllocError, Global};
 use std::test::Fail;
 use tests_support::{check_rows, fields, made, said};
 use zarrs_compare::is_same_metadata;
+use zarrs_fault::Numbers;
 use zarrs_meta::{GroupMetadata, GroupMetadataV3, NodeMetadata, Object};
 
 // ---- documents
@@ -146,14 +147,100 @@ fn arrays_are_compared(rt: HostRuntime) -> Result<(), Fail> {
     check_rows(rt.alloc(), ARRAYS, compared)
 }
 
-// ---- what no document means
+// ---- documents in any numbers
+
+// Two documents whose numbers may be any, and whether their metadata are the same.
+const FRACTIONS: &str = r#"
+# fractions are the same by their bits
+{"node_type":"group","zarr_format":3,"attributes":{"a":0.5}} | {"node_type":"group","zarr_format":3,"attributes":{"a":0.5}} => true
+{"node_type":"group","zarr_format":3,"attributes":{"a":0.5}} | {"node_type":"group","zarr_format":3,"attributes":{"a":0.25}} => false
+{"node_type":"group","zarr_format":3,"attributes":{"a":0.5}} | {"node_type":"group","zarr_format":3,"attributes":{"a":-0.5}} => false
+{"node_type":"group","zarr_format":3,"attributes":{"a":1.50}} | {"node_type":"group","zarr_format":3,"attributes":{"a":1.5}} => true
+{"node_type":"group","zarr_format":3,"attributes":{"a":6.37814e+06}} | {"node_type":"group","zarr_format":3,"attributes":{"a":6378140.0}} => true
+{"node_type":"group","zarr_format":3,"attributes":{"a":1e2}} | {"node_type":"group","zarr_format":3,"attributes":{"a":100.0}} => true
+{"node_type":"group","zarr_format":3,"attributes":{"a":0.1}} | {"node_type":"group","zarr_format":3,"attributes":{"a":0.1000000000000000055511151231257827}} => true
+{"node_type":"group","zarr_format":3,"attributes":{"a":0.1}} | {"node_type":"group","zarr_format":3,"attributes":{"a":0.10000000000000002}} => false
+{"node_type":"group","zarr_format":3,"attributes":{"a":1e300}} | {"node_type":"group","zarr_format":3,"attributes":{"a":1e300}} => true
+{"node_type":"group","zarr_format":3,"attributes":{"a":5e-324}} | {"node_type":"group","zarr_format":3,"attributes":{"a":5e-324}} => true
+{"node_type":"group","zarr_format":3,"attributes":{"a":5e-324}} | {"node_type":"group","zarr_format":3,"attributes":{"a":0.0}} => false
+{"node_type":"group","zarr_format":3,"attributes":{"a":1e-400}} | {"node_type":"group","zarr_format":3,"attributes":{"a":0.0}} => true
+# 0 and -0 have other bits
+{"node_type":"group","zarr_format":3,"attributes":{"a":0.0}} | {"node_type":"group","zarr_format":3,"attributes":{"a":0.0}} => true
+{"node_type":"group","zarr_format":3,"attributes":{"a":-0.0}} | {"node_type":"group","zarr_format":3,"attributes":{"a":-0.0}} => true
+{"node_type":"group","zarr_format":3,"attributes":{"a":0.0}} | {"node_type":"group","zarr_format":3,"attributes":{"a":-0.0}} => false
+{"node_type":"group","zarr_format":3,"attributes":{"a":-0.0}} | {"node_type":"group","zarr_format":3,"attributes":{"a":0.0}} => false
+{"node_type":"group","zarr_format":3,"attributes":{"a":-0}} | {"node_type":"group","zarr_format":3,"attributes":{"a":-0.0}} => true
+# a whole number is none with a fraction or an exponent
+{"node_type":"group","zarr_format":3,"attributes":{"a":1}} | {"node_type":"group","zarr_format":3,"attributes":{"a":1.0}} => false
+{"node_type":"group","zarr_format":3,"attributes":{"a":1.0}} | {"node_type":"group","zarr_format":3,"attributes":{"a":1}} => false
+{"node_type":"group","zarr_format":3,"attributes":{"a":-1}} | {"node_type":"group","zarr_format":3,"attributes":{"a":-1.0}} => false
+{"node_type":"group","zarr_format":3,"attributes":{"a":-1.0}} | {"node_type":"group","zarr_format":3,"attributes":{"a":-1}} => false
+{"node_type":"group","zarr_format":3,"attributes":{"a":0}} | {"node_type":"group","zarr_format":3,"attributes":{"a":0.0}} => false
+{"node_type":"group","zarr_format":3,"attributes":{"a":0}} | {"node_type":"group","zarr_format":3,"attributes":{"a":-0}} => false
+{"node_type":"group","zarr_format":3,"attributes":{"a":100}} | {"node_type":"group","zarr_format":3,"attributes":{"a":1e2}} => false
+# beyond 64 bits it is the nearest `f64`
+{"node_type":"group","zarr_format":3,"attributes":{"a":18446744073709551616}} | {"node_type":"group","zarr_format":3,"attributes":{"a":18446744073709551616.0}} => true
+{"node_type":"group","zarr_format":3,"attributes":{"a":18446744073709551616}} | {"node_type":"group","zarr_format":3,"attributes":{"a":18446744073709551617}} => true
+{"node_type":"group","zarr_format":3,"attributes":{"a":18446744073709551615}} | {"node_type":"group","zarr_format":3,"attributes":{"a":18446744073709551616}} => false
+{"node_type":"group","zarr_format":3,"attributes":{"a":-9223372036854775808}} | {"node_type":"group","zarr_format":3,"attributes":{"a":-9223372036854775809}} => false
+# a fraction is no other value
+{"node_type":"group","zarr_format":3,"attributes":{"a":0.5}} | {"node_type":"group","zarr_format":3,"attributes":{"a":"0.5"}} => false
+{"node_type":"group","zarr_format":3,"attributes":{"a":0.5}} | {"node_type":"group","zarr_format":3,"attributes":{"a":null}} => false
+{"node_type":"group","zarr_format":3,"attributes":{"a":[0.5]}} | {"node_type":"group","zarr_format":3,"attributes":{"a":0.5}} => false
+{"node_type":"group","zarr_format":3,"attributes":{"a":[{"b":0.5}]}} | {"node_type":"group","zarr_format":3,"attributes":{"a":[{"b":0.5}]}} => true
+{"node_type":"group","zarr_format":3,"attributes":{"a":[{"b":0.5}]}} | {"node_type":"group","zarr_format":3,"attributes":{"a":[{"b":0.25}]}} => false
+# wherever a document may have one
+{"node_type":"array","zarr_format":3,"shape":[1],"data_type":"float32","chunk_grid":{"name":"regular","configuration":{"chunk_shape":[1]}},"chunk_key_encoding":{"name":"default"},"fill_value":0.0,"codecs":[{"name":"bytes"}]} | {"node_type":"array","zarr_format":3,"shape":[1],"data_type":"float32","chunk_grid":{"name":"regular","configuration":{"chunk_shape":[1]}},"chunk_key_encoding":{"name":"default"},"fill_value":0.0,"codecs":[{"name":"bytes"}]} => true
+{"node_type":"array","zarr_format":3,"shape":[1],"data_type":"float32","chunk_grid":{"name":"regular","configuration":{"chunk_shape":[1]}},"chunk_key_encoding":{"name":"default"},"fill_value":0.0,"codecs":[{"name":"bytes"}]} | {"node_type":"array","zarr_format":3,"shape":[1],"data_type":"float32","chunk_grid":{"name":"regular","configuration":{"chunk_shape":[1]}},"chunk_key_encoding":{"name":"default"},"fill_value":-0.0,"codecs":[{"name":"bytes"}]} => false
+{"node_type":"array","zarr_format":3,"shape":[1],"data_type":"float32","chunk_grid":{"name":"regular","configuration":{"chunk_shape":[1]}},"chunk_key_encoding":{"name":"default"},"fill_value":0.0,"codecs":[{"name":"bytes"}]} | {"node_type":"array","zarr_format":3,"shape":[1],"data_type":"float32","chunk_grid":{"name":"regular","configuration":{"chunk_shape":[1]}},"chunk_key_encoding":{"name":"default"},"fill_value":0,"codecs":[{"name":"bytes"}]} => false
+{"node_type":"array","zarr_format":3,"shape":[1],"data_type":"float32","chunk_grid":{"name":"regular","configuration":{"chunk_shape":[1]}},"chunk_key_encoding":{"name":"default"},"fill_value":0,"codecs":[{"name":"bytes","configuration":{"a":0.5}}]} | {"node_type":"array","zarr_format":3,"shape":[1],"data_type":"float32","chunk_grid":{"name":"regular","configuration":{"chunk_shape":[1]}},"chunk_key_encoding":{"name":"default"},"fill_value":0,"codecs":[{"name":"bytes","configuration":{"a":0.5}}]} => true
+{"node_type":"array","zarr_format":3,"shape":[1],"data_type":"float32","chunk_grid":{"name":"regular","configuration":{"chunk_shape":[1]}},"chunk_key_encoding":{"name":"default"},"fill_value":0,"codecs":[{"name":"bytes","configuration":{"a":0.5}}]} | {"node_type":"array","zarr_format":3,"shape":[1],"data_type":"float32","chunk_grid":{"name":"regular","configuration":{"chunk_shape":[1]}},"chunk_key_encoding":{"name":"default"},"fill_value":0,"codecs":[{"name":"bytes","configuration":{"a":0.25}}]} => false
+{"node_type":"array","zarr_format":3,"shape":[1],"data_type":"float32","chunk_grid":{"name":"regular","configuration":{"chunk_shape":[1]}},"chunk_key_encoding":{"name":"default"},"fill_value":0,"codecs":[{"name":"bytes"}],"x":0.5} | {"node_type":"array","zarr_format":3,"shape":[1],"data_type":"float32","chunk_grid":{"name":"regular","configuration":{"chunk_shape":[1]}},"chunk_key_encoding":{"name":"default"},"fill_value":0,"codecs":[{"name":"bytes"}],"x":0.5} => true
+{"node_type":"array","zarr_format":3,"shape":[1],"data_type":"float32","chunk_grid":{"name":"regular","configuration":{"chunk_shape":[1]}},"chunk_key_encoding":{"name":"default"},"fill_value":0,"codecs":[{"name":"bytes"}],"x":0.5} | {"node_type":"array","zarr_format":3,"shape":[1],"data_type":"float32","chunk_grid":{"name":"regular","configuration":{"chunk_shape":[1]}},"chunk_key_encoding":{"name":"default"},"fill_value":0,"codecs":[{"name":"bytes"}],"x":0.25} => false
+{"zarr_format":2,"shape":[1],"chunks":[1],"dtype":"<f8","fill_value":0.0,"order":"C","compressor":null,"filters":null} | {"zarr_format":2,"shape":[1],"chunks":[1],"dtype":"<f8","fill_value":0.0,"order":"C","compressor":null,"filters":null} => true
+{"zarr_format":2,"shape":[1],"chunks":[1],"dtype":"<f8","fill_value":0.0,"order":"C","compressor":null,"filters":null} | {"zarr_format":2,"shape":[1],"chunks":[1],"dtype":"<f8","fill_value":-0.0,"order":"C","compressor":null,"filters":null} => false
+{"zarr_format":2,"shape":[1],"chunks":[1],"dtype":"<f8","fill_value":0,"order":"C","compressor":{"id":"a","b":0.5},"filters":null} | {"zarr_format":2,"shape":[1],"chunks":[1],"dtype":"<f8","fill_value":0,"order":"C","compressor":{"id":"a","b":0.5},"filters":null} => true
+{"zarr_format":2,"shape":[1],"chunks":[1],"dtype":"<f8","fill_value":0,"order":"C","compressor":{"id":"a","b":0.5},"filters":null} | {"zarr_format":2,"shape":[1],"chunks":[1],"dtype":"<f8","fill_value":0,"order":"C","compressor":{"id":"a","b":0.25},"filters":null} => false
+{"zarr_format":2,"shape":[1],"chunks":[1],"dtype":"<f8","fill_value":0,"order":"C","compressor":null,"filters":[{"id":"a","b":0.5}]} | {"zarr_format":2,"shape":[1],"chunks":[1],"dtype":"<f8","fill_value":0,"order":"C","compressor":null,"filters":[{"id":"a","b":0.25}]} => false
+{"zarr_format":2,"attributes":{"a":0.5}} | {"zarr_format":2,"attributes":{"a":0.5}} => true
+{"zarr_format":2,"attributes":{"a":0.5}} | {"zarr_format":2,"attributes":{"a":0.25}} => false
+{"node_type":"group","zarr_format":3,"x":0.5} | {"node_type":"group","zarr_format":3,"x":0.5} => true
+{"node_type":"group","zarr_format":3,"x":0.5} | {"node_type":"group","zarr_format":3,"x":0.25} => false
+# but in the field `consolidated_metadata`
+{"node_type":"group","zarr_format":3,"consolidated_metadata":{"metadata":{"a":0.5}}} | {"node_type":"group","zarr_format":3} => true
+"#;
+
+// Whether the metadata of two documents, whose numbers may be any, are the same.
+fn compared_in_any(alloc: Global, given: &str) -> Result<String, AllocError> {
+    let (first, second) = fields(given);
+    let second = second.as_bytes();
+    said(
+        alloc,
+        NodeMetadata::from_bytes_in(alloc, Numbers::Any, first.as_bytes()),
+        |first, alloc| {
+            said(
+                alloc,
+                NodeMetadata::from_bytes_in(alloc, Numbers::Any, second),
+                |second, alloc| { format!(in alloc; "{}", is_same_metadata(first, second)) },
+            )
+        },
+    )
+}
+
+#[test]
+fn fractions_are_compared_by_their_bits(rt: HostRuntime) -> Result<(), Fail> {
+    check_rows(rt.alloc(), FRACTIONS, compared_in_any)
+}
+
+// ---- groups made by hand
 
 // The attributes of a version 3 group, and whether the group is the same as itself.
 const ITSELF: &str = r#"
 {"a":1} => true
-{"a":0.5} => false
-{"a":[{"b":1e300}]} => false
-{"a":18446744073709551616} => false
+{"a":0.5} => true
+{"a":-0.0} => true
+{"a":[{"b":1e300}]} => true
+{"a":18446744073709551616} => true
 "#;
 
 // Whether a version 3 group with these attributes is the same as itself.
@@ -175,6 +262,6 @@ fn compared_with_itself(alloc: Global, text: &str) -> Result<String, AllocError>
 }
 
 #[test]
-fn a_float_is_the_same_as_none(rt: HostRuntime) -> Result<(), Fail> {
+fn a_group_made_by_hand_is_the_same_as_itself(rt: HostRuntime) -> Result<(), Fail> {
     check_rows(rt.alloc(), ITSELF, compared_with_itself)
 }

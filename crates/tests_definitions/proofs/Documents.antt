@@ -2,6 +2,7 @@
 use Rattle.std.proofs.Common.{◌≡◌, ℕ, List, [], ◌∷◌, ◌++◌, true, codes, refl, Option, Some, None, negsuc, map, if◌then◌else◌, Result, Ok, Err}
 use Rattle.serde_json.specs.Data.{Data, null, number, unsigned, string, object, array, no_items, item, Members, no_members, member, boolean, negative}
 use Rattle.zarrs_fault.specs.declared.fault.MetadataFault.TheVariants.{BadMember}
+use Rattle.zarrs_fault.specs.declared.numbers.Numbers.TheVariants.{Whole}
 use Rattle.zarrs_form.specs.Documents.{of_bytes, json_of, ◌>>=◌}
 use Rattle.zarrs_form.specs.declared.extension.MetadataV3.{MetadataV3}
 use Rattle.zarrs_meta.specs.ArrayV3.{array_v3_of}
@@ -18,8 +19,8 @@ use Rattle.zarrs_config.specs.declared.version.MetadataRetrieveVersion.TheVarian
 use Rattle.zarrs_convert.specs.Arrays.{array_v3}
 use Rattle.zarrs_block.specs.Meaning.{Meaning, in_trees}
 use Rattle.zarrs_block.specs.Small.{counted_members}
-use Rattle.zarrs_block.specs.Block.{Block, block_of}
-use Rattle.zarrs_block.specs.Zmetadata.{zmetadata_of, zmetadata_members, documents_below, is_good, block_from}
+use Rattle.zarrs_block.specs.Block.{Block, block_of, block_of_in}
+use Rattle.zarrs_block.specs.Zmetadata.{zmetadata_of, zmetadata_in, zmetadata_members, documents_below, is_good, block_from}
 use Rattle.tests_definitions.proofs.Stores.{listed_in, looked_up, quoted, texts_compute, documents_compute}
 use Rattle.tests_definitions.proofs.Meanings.{plain_group, small_array}
 
@@ -42,12 +43,12 @@ block_text =
     (codes "{'kind':'inline','must_understand':false,'metadata':{'a':{'zarr_format':3,'node_type':'group'},'a/x':{'zarr_format':2,'shape':[4,3],'chunks':[2,3],'dtype':'<f8','fill_value':null,'order':'C'}}}")
 
 block_reads : of_bytes block_of block_text ≡ Ok ((codes "a", plain_group) ∷ (codes "a/x", small_array) ∷ [])
-unfolding documents_compute block_of
+unfolding documents_compute block_of_in
 block_reads = refl
 
 -- a block that must be understood is none
 must_is_bad : of_bytes block_of (quoted (codes "{'kind':'inline','must_understand':true,'metadata':{}}")) ≡ Err (BadMember (codes "must_understand"))
-unfolding documents_compute block_of
+unfolding documents_compute block_of_in
 must_is_bad = refl
 
 -- the block of a document `.zmetadata`, by look-ups in the list of its documents
@@ -55,12 +56,12 @@ abbrev block_by : (Path → Meaning) → Members → Result Block MetadataFault
 block_by of ms = if list_all (λ e. is_good of e.0) (documents_below ms) then Ok (block_from of (documents_below ms)) else Err (BadMember (codes "metadata"))
 
 abbrev small_listed : Members → Path → Meaning
-small_listed ms p = looked_up in_trees (λ k. find key_cmp k (map (λ e. ([] ++ e.0, e.1)) (counted_members ms))) V2 p
+small_listed ms p = looked_up (in_trees Whole) (λ k. find key_cmp k (map (λ e. ([] ++ e.0, e.1)) (counted_members ms))) V2 p
 
 block_listed : (text : List ℕ) → of_bytes zmetadata_of text ≡ of_bytes (λ d. zmetadata_members d >>= λ ms. block_by (small_listed ms) ms) text
-unfolding zmetadata_of
+unfolding zmetadata_in
 block_listed text =
-    λ i. of_bytes (λ d. zmetadata_members d >>= λ ms. block_by (λ p. listed_in in_trees (map (λ e. ([] ++ e.0, e.1)) (counted_members ms)) V2 p i) ms) text
+    λ i. of_bytes (λ d. zmetadata_members d >>= λ ms. block_by (λ p. listed_in (in_trees Whole) (map (λ e. ([] ++ e.0, e.1)) (counted_members ms)) V2 p i) ms) text
 
 abbrev zmetadata_text : List ℕ
 zmetadata_text =
@@ -70,7 +71,7 @@ zmetadata_text =
 zmetadata_reads : of_bytes zmetadata_of
     zmetadata_text
     ≡ Ok ((codes "x", small_array) ∷ [])
-unfolding documents_compute zmetadata_of
+unfolding documents_compute zmetadata_in
 zmetadata_reads = block_listed zmetadata_text
 
 -- an array of version 3, with configurations, two codecs, attributes and a dimension without a name

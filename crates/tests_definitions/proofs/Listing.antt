@@ -1,9 +1,10 @@
 -- Zarr core specification 3.1, "Hierarchy": all that a listing finds in a small store, and its text.
 use Rattle.std.proofs.Common.{◌≡◌, ◌≢◌, ℕ, Bool, true, false, cond, List, [], ◌∷◌, ◌++◌, Contains, Some, IsTrue, codes, refl, sym, ap, subst, ◌∙◌, arith, is_some, is_eq, ⊎_elim}
-use Rattle.std.specs.FinMap.{find, from_entries}
+use Rattle.std.specs.FinMap.{find}
 use Rattle.std.proofs.lemmas.List.Elements.{All-from_recursion}
 use Rattle.std.proofs.lemmas.List.Kept.{AllPairs-cons}
 use Rattle.zarrs_store.specs.Segments.{Segments, key_cmp}
+use Rattle.zarrs_store.specs.Contents.{of_entries}
 use Rattle.zarrs_path.specs.Paths.{Path}
 use Rattle.zarrs_meta.specs.declared.node.NodeMetadata.{NodeMetadata}
 use Rattle.zarrs_config.specs.declared.version.MetadataRetrieveVersion.{MetadataRetrieveVersion}
@@ -34,12 +35,12 @@ of_key P (e ∷ es) k h some = by (is_eq (key_cmp k e.0)) refl (of_key P es k h.
     by false at again s = again s
 
 -- so of each path that means a node
-pub meant : (P : Path → Type 0) (es : Entries (List ℕ)) (v : MetadataRetrieveVersion) (p : Path) (m : NodeMetadata) → Each P es → meaning (from_entries es) v p ≡ node m → P p
+pub meant : (P : Path → Type 0) (es : Entries (List ℕ)) (v : MetadataRetrieveVersion) (p : Path) (m : NodeMetadata) → Each P es → meaning (of_entries es) v p ≡ node m → P p
 meant P es v p m h is =
     ⊎_elim
     (λ low. beginning P (p ++ low.0 ∷ low.1) p (of_key P es (p ++ low.0 ∷ low.1) h (key_is_had es (p ++ low.0 ∷ low.1) low.2)) (low.0, low.1, refl))
     (λ none. let never : node m ≡ nothing = sym is ∙ none in cc)
-    (means_or_nothing (from_entries es) v p)
+    (means_or_nothing (of_entries es) v p)
 
 -- ---- the store of `/`, `/a`, `/a/x` and `/u/y`
 

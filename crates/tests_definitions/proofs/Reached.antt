@@ -1,7 +1,6 @@
 -- Zarr core specification 3.1, "Hierarchy": which nodes a listing reaches in a small store, what it passes over, and what it refuses.
 use Rattle.std.proofs.Common.{◌≡◌, ℕ, Bool, true, false, List, [], ◌∷◌, ◌++◌, IsTrue, codes, refl, sym, subst, ◌∙◌, inl, inr}
-use Rattle.std.specs.FinMap.{from_entries}
-use Rattle.zarrs_store.specs.Contents.{Contents}
+use Rattle.zarrs_store.specs.Contents.{Contents, of_entries}
 use Rattle.zarrs_path.specs.Paths.{Path, IsPath, IsBelow}
 use Rattle.zarrs_path.specs.Keys.{zarr_json, zarray}
 use Rattle.zarrs_meta.specs.Node.{is_group}
@@ -62,7 +61,7 @@ abbrev pub store : Entries (List ℕ)
 store = (zarr_json ∷ [], group_text) ∷ (a ++ zarr_json ∷ [], group_text) ∷ (x ++ zarr_json ∷ [], group_text) ∷ (y ++ zarr_json ∷ [], group_text) ∷ []
 
 abbrev pub held : Contents
-held = from_entries store
+held = of_entries store
 
 pub a_means : meaning held Default a ≡ node plain_group
 unfolding documents_compute
@@ -105,12 +104,12 @@ u_is_ignored = (reached _ true (codes "u") [] refl tt, u_means, (codes "y", zarr
 abbrev below_array : Entries (List ℕ)
 below_array = (zarr_json ∷ [], group_text) ∷ (a ++ zarray ∷ [], array_text) ∷ (x ++ zarr_json ∷ [], group_text) ∷ []
 
-array_means : meaning (from_entries below_array) Default a ≡ node small_array
+array_means : meaning (of_entries below_array) Default a ≡ node small_array
 unfolding documents_compute
 array_means = listed below_array Default a
 
 -- nothing is a node below an array, whatever it means
-below_a_none : (n : List ℕ) (ns : Path) (m : NodeMetadata) → Nodes (from_entries below_array) Default true [] (codes "a" ∷ n ∷ ns, m) → ⊥
+below_a_none : (n : List ℕ) (ns : Path) (m : NodeMetadata) → Nodes (of_entries below_array) Default true [] (codes "a" ∷ n ∷ ns, m) → ⊥
 below_a_none n ns m h =
     let way = h.0.between a (codes "a", [], refl) (n, ns, refl) in
     let is : node small_array ≡ node way.1.0 = sym array_means ∙ way.1.1 in
@@ -124,19 +123,19 @@ below_a_none n ns m h =
 abbrev odd_names : Entries (List ℕ)
 odd_names = (codes "__a" ∷ zarr_json ∷ [], group_text) ∷ (codes ".." ∷ zarr_json ∷ [], group_text) ∷ []
 
-reserved_means : meaning (from_entries odd_names) Default (codes "__a" ∷ []) ≡ node plain_group
+reserved_means : meaning (of_entries odd_names) Default (codes "__a" ∷ []) ≡ node plain_group
 unfolding documents_compute
 reserved_means = listed odd_names Default (codes "__a" ∷ [])
 
 -- `/__a` has a document, and yet no listing finds it
-reserved_is_none : (m : NodeMetadata) → Nodes (from_entries odd_names) Default true [] (codes "__a" ∷ [], m) → ⊥
+reserved_is_none : (m : NodeMetadata) → Nodes (of_entries odd_names) Default true [] (codes "__a" ∷ [], m) → ⊥
 reserved_is_none m h =
     let is : codes "__a" ∷ [] ≡ h.0.below.0 ∷ h.0.below.1 = h.0.below.2 in
     let valid : IsPath (codes "__a" ∷ []) = subst IsPath (sym is) h.0.below.3 in
     let never : false ≡ true = valid in cc
 
 -- `/..` makes the listing refuse
-periods_are_bad : Bad (from_entries odd_names) Default true []
+periods_are_bad : Bad (of_entries odd_names) Default true []
 periods_are_bad =
     inr (codes ".." ∷ [], ([], codes "..", inl refl, refl, (zarr_json, [], has_key odd_names (codes ".." ∷ zarr_json ∷ []) refl), refl, some))
   where
@@ -147,9 +146,9 @@ periods_are_bad =
 abbrev cut_off : Entries (List ℕ)
 cut_off = (zarr_json ∷ [], group_text) ∷ (a ++ zarr_json ∷ [], codes "{") ∷ []
 
-cut_off_means : meaning (from_entries cut_off) Default a ≡ bad (InStore (InvalidMetadata (a ++ zarr_json ∷ []) NotJson))
+cut_off_means : meaning (of_entries cut_off) Default a ≡ bad (InStore (InvalidMetadata (a ++ zarr_json ∷ []) NotJson))
 unfolding documents_compute
 cut_off_means = listed cut_off Default a
 
-cut_off_is_bad : Bad (from_entries cut_off) Default true []
+cut_off_is_bad : Bad (of_entries cut_off) Default true []
 cut_off_is_bad = inl (_, (a, reached _ true (codes "a") [] refl tt, cut_off_means))

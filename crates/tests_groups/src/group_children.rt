@@ -19,7 +19,8 @@ use zarrs_config::{Config, UseConsolidatedMetadata};
 use zarrs_group::{Group, GroupCreateError};
 use zarrs_node::Node;
 use zarrs_store::{
-    ListableStorageTraits, MemoryStore, StorageError, StoreKey, WritableStorageTraits,
+    ListableStorageTraits, MemoryStore, ReadableStorageTraits, StorageError, StoreKey,
+    WritableStorageTraits,
 };
 
 // ---- groups with blocks
@@ -204,21 +205,21 @@ fn groups_hold_blocks(rt: HostRuntime) -> Result<(), Fail> {
 // ---- what stands below a group
 
 // The trees below a group.
-fn trees_text(
+fn trees_text<S: ReadableStorageTraits + ListableStorageTraits>(
     group: &Group,
     alloc: Global,
-    store: &MemoryStore,
+    store: &S,
     config: &Config,
 ) -> Result<String, AllocError> {
     let nodes = group.children(&Discard, alloc, store, config, true);
     said(alloc, nodes, forest_text)
 }
 
-// What stands below a group by a policy, over a store: its trees, its children alone, and all of it.
-fn below_text(
+/// What stands below a group by a policy, over a store: its trees, its children alone, and all of it.
+pub(crate) fn below_text<S: ReadableStorageTraits + ListableStorageTraits>(
     group: &Group,
     alloc: Global,
-    store: &MemoryStore,
+    store: &S,
     config: &Config,
 ) -> Result<String, AllocError> {
     let trees = trees_text(group, alloc, store, config)?;

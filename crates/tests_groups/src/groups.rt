@@ -203,8 +203,8 @@ fn groups_are_opened(rt: HostRuntime) -> Result<(), Fail> {
 
 // ---- storing and erasing
 
-// The call that a word is of.
-fn step_of(alloc: Global, word: &str) -> Result<Step, StorageError> {
+/// The call that a word is of.
+pub(crate) fn step_of(alloc: Global, word: &str) -> Result<Step, StorageError> {
     match word {
         "store" => Ok(Step::Store),
         "store v3" => Ok(Step::StoreAs(MetadataConvertVersion::V3)),

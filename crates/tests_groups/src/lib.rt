@@ -3,6 +3,8 @@
 #![tactic(auto)]
 
 #[cfg(test)]
+mod any_numbers;
+#[cfg(test)]
 mod group_children;
 #[cfg(test)]
 mod groups;

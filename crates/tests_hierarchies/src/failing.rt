@@ -4,8 +4,7 @@
 //! lent to such a call only for reading, so it is left as it was. Each allocation of the tests `memory_fails_in_..` is refused in turn
 //! by `bench/failures`; such a test ends then as usual, or in an error that is out of memory.
 ghost use Rattle.std.specs.Prelude.{◌≡◌, true, IfOk, IfErr, OnOk, OnErr};
-ghost use Rattle.zarrs_store.specs.FailingStores.{inner_contents};
-ghost use Rattle.zarrs_store.specs.Contents.{Lists};
+ghost use Rattle.zarrs_store.specs.Contents.{Lists, of_entries};
 ghost use Rattle.zarrs_store.specs.Faults.{IsStoreError};
 ghost use Rattle.zarrs_block.specs.Refusals.{IsExcusedOr};
 ghost use Rattle.zarrs_node.specs.Forest.{Shows, forest};
@@ -57,15 +56,15 @@ fn listed_over_faults(
 ) -> Result<ListedNodes, NodeCreateError>
     ensures shows { IfOk result
         (λ l. Shows (forest l.nodes.items) path.now
-        (Nodes (inner_contents store.now) version.now recursive path.now)) }
+        (Nodes (of_entries store.now.inner) version.now recursive path.now)) }
     ensures ignored { IfOk result
-        (λ l. Lists (Ignored (inner_contents store.now) version.now recursive path.now)
+        (λ l. Lists (Ignored (of_entries store.now.inner) version.now recursive path.now)
         l.ignored.items) }
     ensures clean { IfOk result
-        (λ _. HasNothingBad (inner_contents store.now) version.now recursive path.now) }
+        (λ _. HasNothingBad (of_entries store.now.inner) version.now recursive path.now) }
     ensures refused { IfErr result
         (IsExcusedOr true
-        (ShowsBad (inner_contents store.now) version.now recursive path.now)) }
+        (ShowsBad (of_entries store.now.inner) version.now recursive path.now)) }
 {
     list_nodes(alloc, store, path, recursive, version)
 }
@@ -80,12 +79,12 @@ fn nodes_over_faults(
 ) -> Result<Vec<Node>, NodeCreateError>
     ensures shows { IfOk result
         (λ nodes. Shows (forest nodes.items) path.now
-        (Nodes (inner_contents store.now) version.now recursive path.now)) }
+        (Nodes (of_entries store.now.inner) version.now recursive path.now)) }
     ensures clean { IfOk result
-        (λ _. HasNothingBad (inner_contents store.now) version.now recursive path.now) }
+        (λ _. HasNothingBad (of_entries store.now.inner) version.now recursive path.now) }
     ensures refused { IfErr result
         (IsExcusedOr true
-        (ShowsBad (inner_contents store.now) version.now recursive path.now)) }
+        (ShowsBad (of_entries store.now.inner) version.now recursive path.now)) }
 {
     get_child_nodes_opt(&Discard, alloc, store, path, recursive, version)
 }
@@ -98,11 +97,11 @@ fn stored_over_faults(
     options: &GroupMetadataOptions,
 ) -> Result<(), StorageError>
     ensures ok { OnOk result
-        (inner_contents store.new
-        ≡ after (inner_contents store.old) (edits_of_group options.now group.now)) }
+        (of_entries store.new.inner
+        ≡ after (of_entries store.old.inner) (edits_of_group options.now group.now)) }
     ensures err { IfErr result
         (RefusesStoringGroup true options.now group.now
-        (inner_contents store.old) (inner_contents store.new)) }
+        (of_entries store.old.inner) (of_entries store.new.inner)) }
 {
     group.store_metadata_opt(alloc, store, options)
 }
@@ -115,13 +114,13 @@ fn erased_over_faults(
     version: MetadataEraseVersion,
 ) -> Result<(), StorageError>
     ensures ok { OnOk result
-        (inner_contents store.new
-        ≡ after (inner_contents store.old)
+        (of_entries store.new.inner
+        ≡ after (of_entries store.old.inner)
         (erase_edits group.now.path version group.now.metadata)) }
     ensures err { IfErr result (IsStoreError true) }
     ensures cut { OnErr result
-        (IsCutShort (inner_contents store.old)
-        (erase_edits group.now.path version group.now.metadata) (inner_contents store.new)) }
+        (IsCutShort (of_entries store.old.inner)
+        (erase_edits group.now.path version group.now.metadata) (of_entries store.new.inner)) }
 {
     group.erase_metadata_opt(alloc, store, version)
 }

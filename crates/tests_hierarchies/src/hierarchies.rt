@@ -94,8 +94,8 @@ fn map_text(hierarchy: &Hierarchy, alloc: Global) -> Result<String, AllocError> 
     Ok(text)
 }
 
-// What is seen by a word of a hierarchy, or the refusal of it.
-fn seen<E: Debug + Display + Drop>(
+/// What is seen by a word of a hierarchy, or the refusal of it.
+pub(crate) fn seen<E: Debug + Display + Drop>(
     alloc: Global,
     hierarchy: Result<Hierarchy, E>,
     word: &str,

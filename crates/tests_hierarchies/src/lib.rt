@@ -3,6 +3,8 @@
 #![tactic(auto)]
 
 #[cfg(test)]
+mod any_numbers;
+#[cfg(test)]
 mod failing;
 #[cfg(test)]
 mod hierarchies;

@@ -17,6 +17,8 @@ mod metadata;
 #[cfg(test)]
 mod nodes;
 #[cfg(test)]
+mod numbers;
+#[cfg(test)]
 mod opening;
 #[cfg(test)]
 mod refreshing;

@@ -266,4 +266,5 @@ fn the_laws_of_maps_between_listings_are_called() {
     laws::erased_are_absent();
     laws::beside_means_same();
     laws::erased_show_same();
+    laws::whole_shows_the_same();
 }

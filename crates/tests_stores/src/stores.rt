@@ -4,9 +4,9 @@ use std::alloc::{AllocError, Global};
 use std::test::Fail;
 use tests_support::{check_rows, fields, refusal};
 use zarrs_store::{
-    FaultAt, FaultStore, ListableStorageTraits, MemberName, MemoryStore, MetadataFault,
-    ReadableStorageTraits, StorageError, StoreKey, StoreKeyError, StoreKeysPrefixes, StorePrefix,
-    StorePrefixError, WritableStorageTraits, discover_children,
+    AnyNumbers, FaultAt, FaultStore, ListableStorageTraits, MemberName, MemoryStore, MetadataFault,
+    Numbers, ReadableStorageTraits, StorageError, Store, StoreKey, StoreKeyError,
+    StoreKeysPrefixes, StorePrefix, StorePrefixError, WritableStorageTraits, discover_children,
 };
 
 // ---- keys, prefixes and stores of texts
@@ -408,6 +408,14 @@ fn listing<S: ListableStorageTraits>(
     }
 }
 
+// The word for the numbers that the documents of a store may hold.
+fn numbers_said<S: Store>(store: &S) -> &'static str {
+    match store.numbers() {
+        Numbers::Whole => "Whole",
+        Numbers::Any => "Any",
+    }
+}
+
 // What a store answers to a call that reads.
 fn reading<S: ReadableStorageTraits + ListableStorageTraits>(
     alloc: Global,
@@ -420,6 +428,7 @@ fn reading<S: ReadableStorageTraits + ListableStorageTraits>(
             let key = key(alloc, at)?;
             Ok(bytes_said(alloc, store.get(alloc, &key))?)
         }
+        "numbers" => Ok(String::from_str(alloc, numbers_said(store))?),
         _ => listing(alloc, store, call, at),
     }
 }
@@ -583,6 +592,8 @@ const CHANGES: &str = r#"
 a b | set a yz; erase b; erase c; get a; get b; list => done; done; done; bytes 'yz'; nothing; keys a
 # a key and its bytes are taken over
 a | insert a yz; get a => done; bytes 'yz'
+# its documents hold whole numbers
+a | numbers; set a 1.5; numbers; erase a; numbers => Whole; done; Whole; done; Whole
 # keys ascend in whatever order they are set
 b d a c b | list; erase a; erase d; insert e; list => keys a b c d; done; done; done; keys b c e
 "#;
@@ -768,6 +779,8 @@ fn failing_said(alloc: Global, given: &str) -> Result<String, StorageError> {
 const FAILING: &str = r#"
 # a store fails as often as its key is read
 get a | a a/b | get a; get a; get a/b; get b; inner get a; list => Fault; Fault; bytes 'x'; nothing; bytes 'x'; keys a a/b
+# its documents hold whole numbers
+get a | a | numbers; inner numbers; set b 1.5; numbers => Whole; Whole; done; Whole
 # a store fails where its prefix is listed
 list | a a/b/c a/d | list => Fault
 list | a a/b/c a/d | list_prefix => Fault
@@ -802,4 +815,97 @@ erase a | a b | erase a; get a; erase b; erase c; list => Fault; bytes 'x'; done
 #[test]
 fn a_failing_store_fails_at_one_place(rt: HostRuntime) -> Result<(), Fail> {
     check_rows(rt.alloc(), FAILING, failing_said)
+}
+
+// ---- the store whose documents may hold any number
+
+// What a store that takes any number, or for the word `inner` the store in it, answers to a step.
+fn any_step<S: ReadableStorageTraits + ListableStorageTraits + WritableStorageTraits + Drop>(
+    alloc: Global,
+    store: &mut AnyNumbers<S>,
+    step: &str,
+) -> Result<String, StorageError> {
+    let (word, rest) = parts(step);
+    match word {
+        "inner" => stepped(alloc, &mut store.inner, rest),
+        _ => stepped(alloc, store, step),
+    }
+}
+
+// What such a store answers to steps.
+fn any_steps<S: ReadableStorageTraits + ListableStorageTraits + WritableStorageTraits + Drop>(
+    alloc: Global,
+    store: &mut AnyNumbers<S>,
+    steps: &str,
+) -> Result<String, StorageError> {
+    let mut answers = String::new(alloc);
+    for step in steps.split(';') {
+        let step = step.strip_prefix(' ').unwrap_or(step);
+        let answer = any_step(alloc, store, step)?;
+        push_answer(&mut answers, answer.as_str())?;
+    }
+    Ok(answers)
+}
+
+// What such a store over one in memory with some keys answers to steps.
+fn any_said(alloc: Global, given: &str) -> Result<String, StorageError> {
+    let (keys, steps) = fields(given);
+    let mut store = AnyNumbers {
+        inner: store_of(alloc, keys)?,
+    };
+    any_steps(alloc, &mut store, steps)
+}
+
+const ANY_NUMBERS: &str = r#"
+# its documents may hold any number, and those of the store in it whole numbers
+a | numbers; inner numbers => Any; Whole
+ | numbers; inner numbers => Any; Whole
+# it has what the store in it has
+a a/b/c a/d | get a; get a/b/c; get b => bytes 'x'; bytes 'x'; nothing
+# it lists what the store in it lists
+a a-b/c a/b a/c/d a0 | list; inner list => keys a a-b/c a/b a/c/d a0; keys a a-b/c a/b a/c/d a0
+a a-b/c a/b a/c/d a0 | list_prefix; list_prefix a/; list_prefix b/ => keys a a-b/c a/b a/c/d a0; keys a/b a/c/d; keys
+a a-b/c a/b a/c/d a0 | list_dir; list_dir a/ => keys a a0, prefixes a-b/ a/; keys a/b, prefixes a/c/
+a a-b/c a/b a/c/d a0 | list_child_prefixes; list_child_prefixes a/ => prefixes a-b/ a/; prefixes a/c/
+a-b/z a/z b/c/z __x/z | discover => prefixes a/ a-b/ b/
+ | list; list_prefix; list_dir; list_child_prefixes => keys; keys; keys, prefixes; prefixes
+# a change is one of the store in it, one key's, and numbers stay
+a b | set a 1.5; get a; inner get a; numbers; inner numbers => done; bytes '1.5'; bytes '1.5'; Any; Whole
+a b | set c 1.5; inner list; get a => done; keys a b c; bytes 'x'
+a b | erase a; get a; inner get a; inner list; numbers; inner numbers => done; nothing; nothing; keys b; Any; Whole
+a b | erase c; list => done; keys a b
+a b | inner set a yz; get a; inner erase b; list => done; bytes 'yz'; done; keys a
+"#;
+
+#[test]
+fn a_store_of_any_numbers_is_the_store_in_it(rt: HostRuntime) -> Result<(), Fail> {
+    check_rows(rt.alloc(), ANY_NUMBERS, any_said)
+}
+
+// What such a store over one with some keys that fails at a place answers to steps.
+fn any_failing_said(alloc: Global, given: &str) -> Result<String, StorageError> {
+    let (place, rest) = fields(given);
+    let (keys, steps) = fields(rest);
+    let mut store = AnyNumbers {
+        inner: failing(alloc, place, keys)?,
+    };
+    any_steps(alloc, &mut store, steps)
+}
+
+const ANY_NUMBERS_FAILING: &str = r#"
+# its documents may hold any number
+get a | a | numbers; inner numbers; get a; numbers => Any; Whole; Fault; Any
+# a fault of the store in it comes through, as often as it comes
+get a | a a/b | get a; get a; get a/b; list => Fault; Fault; bytes 'x'; keys a a/b
+list | a a/b/c a/d | list; list_prefix; list_dir; list_child_prefixes => Fault; Fault; Fault; Fault
+list | a a/b/c a/d | list_prefix a/; list_dir a/; list_child_prefixes a/ => keys a/b/c a/d; keys a/d, prefixes a/b/; prefixes a/b/
+list a/ | a a/b/c a/d | list_prefix a/; list_dir a/; list_child_prefixes a/ => Fault; Fault; Fault
+list a/ | a a/b/c a/d | list; list_dir; list_child_prefixes => keys a a/b/c a/d; keys a, prefixes a/; prefixes a/
+set a | a b | set a 12345; get a; numbers; set b yz; inner get b => Fault; bytes '12'; Any; done; bytes 'yz'
+erase a | a b | erase a; get a; numbers; erase b; list => Fault; bytes 'x'; Any; done; keys a
+"#;
+
+#[test]
+fn a_fault_comes_through_a_store_of_any_numbers(rt: HostRuntime) -> Result<(), Fail> {
+    check_rows(rt.alloc(), ANY_NUMBERS_FAILING, any_failing_said)
 }

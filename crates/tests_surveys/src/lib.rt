@@ -6,6 +6,8 @@ mod failing;
 #[cfg(test)]
 mod findings;
 #[cfg(test)]
+mod fractions;
+#[cfg(test)]
 mod given;
 #[cfg(test)]
 mod surveys;
