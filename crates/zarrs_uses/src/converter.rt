@@ -48,7 +48,7 @@ pub enum ConvertError {
     /// The first array, by its path, that has no form of version 3, and why.
     #[error("{0} has no form of version 3: {1}")]
     Array(NodePath, ArrayMetadataV2ToV3Error),
-    /// A node, by its path, whose document of version 3 would not be read again, since it nests too deep.
+    /// A node, by its path, whose document of version 3 would not be read again in whole numbers, since it nests too deep or has a fraction.
     #[error("{0} nests too deep for a document of version 3")]
     Depth(NodePath),
     /// The store refused.
@@ -110,7 +110,7 @@ impl<T: Drop> From<AllocFailed<T>> for ConvertError {
 ///
 /// - `Node` where the path means no node, or where `get_all_nodes_of` refuses.
 /// - `Array` with the first array, in the order of paths, that has no form of version 3, and why; or that memory ran out over it.
-/// - `Depth` with a node whose document would nest too deep.
+/// - `Depth` with a node whose document would nest too deep, or, over a store of any numbers, has a fraction.
 /// - `OutOfMemory` when out of memory.
 ///
 /// And `Storage` where the store refused a document; those before it are set.
