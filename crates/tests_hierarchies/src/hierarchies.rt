@@ -14,7 +14,7 @@ use tests_support::{G2, check_rows, fields, printed, refusal, said, with_lines};
 use zarrs_block::NodeCreateError;
 use zarrs_config::Config;
 use zarrs_group::{Group, GroupBuilder, GroupCreateError};
-use zarrs_hierarchy::{Hierarchy, laws, tree_at};
+use zarrs_hierarchy::{Hierarchy, depth, laws, tree_at};
 use zarrs_meta::{ArrayMetadata, ArrayMetadataV2, ArrayMetadataV3, NodeMetadata};
 use zarrs_node::get_all_nodes_of;
 use zarrs_path::NodePath;
@@ -399,4 +399,12 @@ fn a_group_has_what_is_listed_below_it(rt: HostRuntime) -> Result<(), Fail> {
 fn the_laws_of_hierarchies_are_called() {
     laws::printing_agrees();
     laws::shown_is_tree();
+}
+
+#[test]
+fn a_path_lies_as_deep_as_it_has_names(rt: HostRuntime) {
+    for (text, names) in [("/", 0), ("/a", 1), ("/a/b.c/d", 3)] {
+        let path = NodePath::new(rt.alloc(), text).expect(&rt, "a path");
+        assert_eq!(rt; depth(&path), names, "{text}");
+    }
 }

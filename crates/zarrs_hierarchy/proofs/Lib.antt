@@ -1,6 +1,6 @@
 pub mod Maps
 pub mod Places
 pub mod Below
-pub mod Depth
+pub mod Depths
 pub mod Opening
 pub mod LawProofs

@@ -114,8 +114,10 @@ impl<'a> fmt::Display for TreeLine<'a> {
     }
 }
 
-// The number of a path's names.
-pub(crate) fn depth(path: &NodePath) -> usize
+/// The number of a path's names: how many levels the path lies below the root.
+///
+/// Source: own.
+pub fn depth(path: &NodePath) -> usize
     ensures { result ≡ length path.now }
 {
     if path.is_root() {

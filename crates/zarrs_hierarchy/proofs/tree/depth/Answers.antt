@@ -1,5 +1,5 @@
 use Rattle.std.proofs.Common.{◌∙◌, sym, true≢false}
-use Rattle.zarrs_hierarchy.proofs.Depth.{depth_of}
+use Rattle.zarrs_hierarchy.proofs.Depths.{depth_of}
 use Rattle.zarrs_hierarchy.proofs.tree.depth.Goals as goal
 
 pub returns : goal.returns
