@@ -11,7 +11,8 @@ use zarrs_meta::NodeMetadata;
 use zarrs_node::{Node, laws};
 use zarrs_path::NodePath;
 use zarrs_store::{
-    ListableStorageTraits, MemoryStore, MetadataFault, ReadableStorageTraits, WritableStorageTraits,
+    AnyNumbers, ListableStorageTraits, MemoryStore, MetadataFault, ReadableStorageTraits,
+    WritableStorageTraits,
 };
 use zarrs_uses::{ConvertError, convert_hierarchy, erase_version_2};
 
@@ -81,6 +82,27 @@ const PACKED: &str = r#"{
     "zarr_format": 2
 }"#;
 
+// An array with a fraction as its fill value, as zarr-python 2 writes it.
+const HALVES: &str = r#"{
+    "chunks": [
+        24
+    ],
+    "compressor": null,
+    "dtype": "<f8",
+    "fill_value": 0.5,
+    "filters": null,
+    "order": "C",
+    "shape": [
+        8760
+    ],
+    "zarr_format": 2
+}"#;
+
+// Attributes with a fraction, and a group of version 3 with such.
+const SCALE: &str = r#"{"scale_factor":0.01}"#;
+
+const SCALED: &str = r#"{"attributes":{"scale_factor":0.01},"node_type":"group","zarr_format":3}"#;
+
 // A hierarchy as zarr-python 2 writes it: a root with attributes, an array, and a group with an array.
 const HIERARCHY: [(&str, &str); 7] = [
     (".zgroup", GROUP),
@@ -103,6 +125,10 @@ fn step(alloc: Global, store: &mut MemoryStore, word: &str) -> Result<(), Conver
         "new-counts" => put(alloc, store, "new/counts/zarr.json", A3),
         "packed" => put(alloc, store, "waves/packed/.zarray", PACKED),
         "deep" => put(alloc, store, "waves/.zattrs", deep(alloc)?.as_str()),
+        "halves" => put(alloc, store, "waves/halves/.zarray", HALVES),
+        "scale" => put(alloc, store, "waves/.zattrs", SCALE),
+        "scale-root" => put(alloc, store, ".zattrs", SCALE),
+        "new-scaled" => put(alloc, store, "new/zarr.json", SCALED),
         "bad" => put(alloc, store, "waves/.zattrs", "[]"),
         "bad-root" => put(alloc, store, ".zattrs", "[]"),
         word => Err(ConvertError::Storage(no_word(alloc, word))),
@@ -235,6 +261,27 @@ fn refused(alloc: Global, words: &str) -> Result<String, ConvertError> {
     let before = contents(&store, alloc)?;
     let answer = step(alloc, &mut store, "convert");
     let same = contents(&store, alloc)?.as_str() == before.as_str();
+    answer_text(alloc, answer, same)
+}
+
+// The same over a store of any numbers.
+fn refused_any(alloc: Global, words: &str) -> Result<String, ConvertError> {
+    let mut store = AnyNumbers {
+        inner: after(alloc, words)?,
+    };
+    let before = contents(&store.inner, alloc)?;
+    let root = base_of(alloc, "convert")?;
+    let answer = convert_hierarchy(&Discard, alloc, &mut store, &root);
+    let same = contents(&store.inner, alloc)?.as_str() == before.as_str();
+    answer_text(alloc, answer, same)
+}
+
+// An answer of a converting that left the store as it was, or did not.
+fn answer_text(
+    alloc: Global,
+    answer: Result<(), ConvertError>,
+    same: bool,
+) -> Result<String, ConvertError> {
     let written = if same {
         "nothing is written"
     } else {
@@ -261,6 +308,10 @@ fn refused_said(alloc: Global, words: &str) -> Result<String, AllocError> {
     said(alloc, refused(alloc, words), text)
 }
 
+fn refused_any_said(alloc: Global, words: &str) -> Result<String, AllocError> {
+    said(alloc, refused_any(alloc, words), text)
+}
+
 // Steps; what a converting says then, and whether it wrote anything.
 const REFUSED: &str = r#"
 written => converted, something is written
@@ -269,11 +320,36 @@ packed => Array /waves/packed UnsupportedCodec: unsupported codec blosc, nothing
 deep => Depth: /waves nests too deep for a document of version 3, nothing is written
 bad => Node(StorageError(InvalidMetadata)): error parsing metadata for waves/.zattrs: not an object, nothing is written
 bad-root => Node(StorageError(InvalidMetadata)): error parsing metadata for .zattrs: not an object, nothing is written
+# a fraction is refused as the document that has it
+scale => Node(StorageError(InvalidMetadata)): error parsing metadata for waves/.zattrs: unsupported number, nothing is written
+halves => Node(StorageError(InvalidMetadata)): error parsing metadata for waves/halves/.zarray: unsupported number, nothing is written
+"#;
+
+// Steps; what a converting over a store of any numbers says then, and whether it wrote anything.
+const REFUSED_ANY: &str = r#"
+# whole numbers are written, and a node of version 3 stays with its fraction
+written => converted, something is written
+new-scaled => converted, something is written
+convert new-scaled => converted, nothing is written
+# a fraction is not written: in attributes, in a fill value, in the attributes of the root
+scale => Fraction: /waves has an unsupported number, one with a fraction, nothing is written
+halves => Fraction: /waves/halves has an unsupported number, one with a fraction, nothing is written
+scale-root => Fraction: / has an unsupported number, one with a fraction, nothing is written
+# the first in the order of paths is named
+halves scale => Fraction: /waves has an unsupported number, one with a fraction, nothing is written
+# depth and form are refused as they are over whole numbers
+deep => Depth: /waves nests too deep for a document of version 3, nothing is written
+packed => Array /waves/packed UnsupportedCodec: unsupported codec blosc, nothing is written
 "#;
 
 #[test]
 fn what_does_not_convert_is_named_and_nothing_is_written(rt: HostRuntime) -> Result<(), Fail> {
     check_rows(rt.alloc(), REFUSED, refused_said)
+}
+
+#[test]
+fn what_has_a_fraction_is_not_converted_and_is_named(rt: HostRuntime) -> Result<(), Fail> {
+    check_rows(rt.alloc(), REFUSED_ANY, refused_any_said)
 }
 
 // ---- the documents that are written

@@ -10,8 +10,8 @@ use Rattle.std.proofs.lemmas.List.Elements.{Contains-append_left, Contains-appen
 use Rattle.zarrs_store.specs.Segments.{Segments}
 use Rattle.zarrs_store.specs.Contents.{Contents, Lists, with_key, without_key}
 use Rattle.zarrs_path.specs.Paths.{Path, path_cmp}
-use Rattle.zarrs_meta.specs.NodeDocuments.{is_version_3}
-use Rattle.zarrs_meta.specs.Node.{is_group}
+use Rattle.zarrs_meta.specs.NodeDocuments.{is_version_3, IsNotWritten}
+use Rattle.zarrs_meta.specs.Node.{is_group, is_plain_node}
 use Rattle.zarrs_meta.specs.declared.array_v3.ArrayMetadataV3.{ArrayMetadataV3}
 use Rattle.zarrs_meta.specs.declared.node.ArrayMetadata.TheVariants as array
 use Rattle.zarrs_meta.specs.declared.node.GroupMetadata.TheVariants as group
@@ -25,10 +25,10 @@ use Rattle.zarrs_convert.specs.Refusals.{Refusal}
 use Rattle.zarrs_node.specs.MapsOfNodes.{AreDocumentsOf, BaseInFront, DocumentsAreShown, EarlierStandsBefore, ErasedAreAbsent, ErasedShowSame, StandsBeside, IsDocumentFor, IsToVersion3, KeysStandBeside, NodesFrom, OthersAreKept, ShowsMapped, keys_beside, version_2_files, with_documents, without_keys}
 use Rattle.zarrs_node.specs.Nodes.{HasNothingBad, Nodes}
 use Rattle.zarrs_node.specs.Order.{Ascend}
-use Rattle.zarrs_uses.specs.Conversions.{node_v3, made_array_of, KeepsOthers, RefusesConverting, RefusesNodes}
+use Rattle.zarrs_uses.specs.Conversions.{node_v3, made_array_of, KeepsOthers, NestsTooDeep, RefusesConverting, RefusesNodes}
 use Rattle.zarrs_uses.specs.StepsOfConversions.{HasDocument, RefusesDocumentAt, RefusesMetadataAt}
 use Rattle.zarrs_uses.specs.declared.converter.ConvertError.{ConvertError}
-use Rattle.zarrs_uses.specs.declared.converter.ConvertError.TheVariants.{Node, Array, Depth, Storage, OutOfMemory}
+use Rattle.zarrs_uses.specs.declared.converter.ConvertError.TheVariants.{Node, Array, Depth, Fraction, Storage, OutOfMemory}
 
 -- ---- lists, item by item
 
@@ -204,14 +204,20 @@ first_refused earlier nodes before after x ds (Array q e) ascends is are in' h =
       (earlier before after x d (subst Ascend is ascends) (subst (λ l. Contains l d) is there) (subst (λ p. path_cmp d.0 p ≡ Less) h.0 less)),
 )
 first_refused earlier nodes before after x ds (Depth q) ascends is are in' h = (x.1, h.1, subst (λ r. Contains nodes (r, x.1)) (sym h.0) in', h.2, h.3)
+first_refused earlier nodes before after x ds (Fraction q) ascends is are in' h = (x.1, h.1, subst (λ r. Contains nodes (r, x.1)) (sym h.0) in', h.2, h.3)
 first_refused earlier nodes before after x ds (Storage e) ascends is are in' h = h
 first_refused earlier nodes before after x ds OutOfMemory ascends is are in' h = tt
+
+-- plain metadata that are not written nest too deep
+pub too_deep : (m : NodeMetadata) → true ≡ is_plain_node m → IsNotWritten m → NestsTooDeep m
+too_deep m plain none = ⊎_elim (λ not_plain. absurd (true≢false (plain ∙ not_plain))) (λ deep. deep) none
 
 -- a document that would not be read again is that of such metadata
 pub deep_refused : (p : Path) (m c : NodeMetadata) (e : ConvertError) → node_v3 m ≡ Some c → RefusesDocumentAt p c e → RefusesMetadataAt p m e
 deep_refused p m c (Node e) is h = h
 deep_refused p m c (Array q e) is h = absurd h
 deep_refused p m c (Depth q) is h = (h.0, c, is, h.1)
+deep_refused p m c (Fraction q) is h = (h.0, c, is, h.1)
 deep_refused p m c (Storage e) is h = h
 deep_refused p m c OutOfMemory is h = tt
 
@@ -240,6 +246,7 @@ module _ (S : Contents) (b : Path) (nodes : List (Path × NodeMetadata)) (same :
   refused_from can_fail (Node e) h = absurd h
   refused_from can_fail (Array p e) h = (refl, (h.0, (same _).0 h.1, h.2, λ d is less. h.3 d ((same d).1 is) less))
   refused_from can_fail (Depth p) h = (refl, (h.0, h.1, (same _).0 h.2, h.3, h.4))
+  refused_from can_fail (Fraction p) h = (refl, (h.0, h.1, (same _).0 h.2, h.3, h.4))
   refused_from can_fail (Storage e) h = absurd h
   refused_from can_fail OutOfMemory h = refl
 

@@ -4,15 +4,18 @@
 --     node_v3 m      the metadata as version 3, where they have that form
 --     KeepsOthers b S T      only documents `zarr.json` of nodes of version 2 differ
 --     RefusesNodes N e, RefusesConverting can_fail b S T e      why nodes were not converted; what that left of the store
-use Rattle.std.specs.Prelude.{◌≡◌, ◌≢◌, ◌⊎◌, Bool, true, false, [], ◌∷◌, ◌++◌, Option, Some, None, Result, Ok, Err}
+use Rattle.std.specs.Prelude.{◌≡◌, ◌≢◌, ◌⊎◌, ◌<◌, Bool, true, false, [], ◌∷◌, ◌++◌, Option, Some, None, Result, Ok, Err}
 use Rattle.std.specs.FinMap.{get}
 use Rattle.std.specs.declared.cmp.Ordering.TheVariants.{Less}
+use Rattle.serde_json.specs.Data.{depth}
+use Rattle.serde_json.specs.Read.{max_depth}
 use Rattle.zarrs_store.specs.Segments.{Segments}
 use Rattle.zarrs_store.specs.Contents.{Contents}
 use Rattle.zarrs_store.specs.Faults.{IsStoreError}
 use Rattle.zarrs_path.specs.Keys.{zarr_json}
 use Rattle.zarrs_path.specs.Paths.{Path, path_cmp}
-use Rattle.zarrs_meta.specs.NodeDocuments.{is_version_3, IsNotWritten}
+use Rattle.zarrs_meta.specs.Node.{is_plain_node, node_tree}
+use Rattle.zarrs_meta.specs.NodeDocuments.{is_version_3}
 use Rattle.zarrs_meta.specs.declared.array_v2.ArrayMetadataV2.{ArrayMetadataV2}
 use Rattle.zarrs_meta.specs.declared.array_v3.ArrayMetadataV3.{ArrayMetadataV3}
 use Rattle.zarrs_meta.specs.declared.node.ArrayMetadata.TheVariants as array
@@ -30,7 +33,7 @@ use Rattle.zarrs_node.specs.MapsOfNodes.{NodesFrom}
 use Rattle.zarrs_node.specs.Nodes.{ShowsBad}
 use Rattle.zarrs_node.specs.OpeningNodes.{RefusesNode}
 use Rattle.zarrs_uses.specs.declared.converter.ConvertError.{ConvertError}
-use Rattle.zarrs_uses.specs.declared.converter.ConvertError.TheVariants.{Node, Array, Depth, Storage, OutOfMemory}
+use Rattle.zarrs_uses.specs.declared.converter.ConvertError.TheVariants.{Node, Array, Depth, Fraction, Storage, OutOfMemory}
 
 -- the array that was made, if there is one
 abbrev pub made_array_of : Result ArrayMetadataV3 Refusal → Option NodeMetadata
@@ -60,11 +63,21 @@ RefusesFrom S v b e = RefusesNode S v b e ⊎ ShowsBad S v true b e
 abbrev pub ConvertBefore : (Path × NodeMetadata → Type 0) → Path → Type 0
 ConvertBefore N p = (e : Path × NodeMetadata) → N e → path_cmp e.0 p ≡ Less → (c : NodeMetadata) × (node_v3 e.1 ≡ Some c)
 
--- why pairs N were not converted: the error names the first array that has no form of version 3, or a pair whose document would not be read again; or it is out of memory
+-- the document of the metadata would nest deeper than a document that is read
+abbrev pub NestsTooDeep : NodeMetadata → Type 0
+NestsTooDeep m = max_depth < depth (node_tree m)
+
+-- the metadata could not have come from a document whose numbers are whole, as those with a fraction
+abbrev pub HasFraction : NodeMetadata → Type 0
+HasFraction m = is_plain_node m ≡ false
+
+-- why pairs N were not converted: the error names the first array that has no form of version 3, or a pair whose form nests too deep or has a fraction; or
+-- it is out of memory
 abbrev pub RefusesNodes : (Path × NodeMetadata → Type 0) → ConvertError → Type 0
 RefusesNodes N (Node e) = ⊥
 RefusesNodes N (Array p e) = (m : ArrayMetadataV2) × N (p, metadata.Array (array.V2 m)) × ShowsRefusal e (array_v3 m) × ConvertBefore N p
-RefusesNodes N (Depth p) = (m c : NodeMetadata) × N (p, m) × (node_v3 m ≡ Some c) × IsNotWritten c
+RefusesNodes N (Depth p) = (m c : NodeMetadata) × N (p, m) × (node_v3 m ≡ Some c) × NestsTooDeep c
+RefusesNodes N (Fraction p) = (m c : NodeMetadata) × N (p, m) × (node_v3 m ≡ Some c) × HasFraction c
 RefusesNodes N (Storage e) = ⊥
 RefusesNodes N OutOfMemory = Unit {0}
 
@@ -73,6 +86,7 @@ abbrev pub RefusesConverting : Bool → Path → Contents → Contents → Conve
 RefusesConverting can_fail b S T (Node e) = (T ≡ S) × IsExcusedOr can_fail (RefusesFrom S Default b) e
 RefusesConverting can_fail b S T (Array p e) = (T ≡ S) × RefusesNodes (NodesFrom S Default b) (Array p e)
 RefusesConverting can_fail b S T (Depth p) = (T ≡ S) × RefusesNodes (NodesFrom S Default b) (Depth p)
+RefusesConverting can_fail b S T (Fraction p) = (T ≡ S) × RefusesNodes (NodesFrom S Default b) (Fraction p)
 RefusesConverting can_fail b S T (Storage e) = IsStoreError can_fail e
 RefusesConverting can_fail b S T OutOfMemory = T ≡ S
 
@@ -81,5 +95,6 @@ abbrev pub RefusesErasing : Bool → MetadataRetrieveVersion → Path → Conten
 RefusesErasing can_fail v b S T (Node e) = (T ≡ S) × IsExcusedOr can_fail (RefusesFrom S v b) e
 RefusesErasing can_fail v b S T (Array p e) = ⊥
 RefusesErasing can_fail v b S T (Depth p) = ⊥
+RefusesErasing can_fail v b S T (Fraction p) = ⊥
 RefusesErasing can_fail v b S T (Storage e) = IsStoreError can_fail e
 RefusesErasing can_fail v b S T OutOfMemory = T ≡ S

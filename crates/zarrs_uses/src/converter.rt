@@ -48,9 +48,12 @@ pub enum ConvertError {
     /// The first array, by its path, that has no form of version 3, and why.
     #[error("{0} has no form of version 3: {1}")]
     Array(NodePath, ArrayMetadataV2ToV3Error),
-    /// A node, by its path, whose document of version 3 would not be read again in whole numbers, since it nests too deep or has a fraction.
+    /// A node, by its path, whose document of version 3 would not be read again, since it nests too deep.
     #[error("{0} nests too deep for a document of version 3")]
     Depth(NodePath),
+    /// A node, by its path, that has a number with a fraction, and documents are written in whole numbers.
+    #[error("{0} has an unsupported number, one with a fraction")]
+    Fraction(NodePath),
     /// The store refused.
     #[error("{0}")]
     Storage(StorageError),
@@ -110,7 +113,8 @@ impl<T: Drop> From<AllocFailed<T>> for ConvertError {
 ///
 /// - `Node` where the path means no node, or where `get_all_nodes_of` refuses.
 /// - `Array` with the first array, in the order of paths, that has no form of version 3, and why; or that memory ran out over it.
-/// - `Depth` with a node whose document would nest too deep, or, over a store of any numbers, has a fraction.
+/// - `Depth` with a node whose document would nest too deep.
+/// - `Fraction` with a node that has a number with a fraction, as one of a store of any numbers may.
 /// - `OutOfMemory` when out of memory.
 ///
 /// And `Storage` where the store refused a document; those before it are set.
@@ -303,10 +307,14 @@ fn converted_array<L: Log>(
 }
 
 // The bytes of the document of a node; its path is named where there is none.
+#[tactic(auto, using(crate::proofs::ConvertedNodes::too_deep))]
 fn written(alloc: Global, path: &NodePath, metadata: &NodeMetadata) -> Result<Vec<u8>, ConvertError>
     ensures ok { IfOk result (λ bytes. ReadsAs bytes.items metadata.now) }
     ensures refused { IfErr result (RefusesDocumentAt path.now metadata.now) }
 {
+    if !metadata.is_plain() {
+        return Err(ConvertError::Fraction(path.try_clone(alloc)?));
+    }
     match metadata.to_document(alloc)? {
         Some(bytes) => Ok(bytes),
         None => Err(ConvertError::Depth(path.try_clone(alloc)?)),
