@@ -1,0 +1,3 @@
+pub mod FaultTexts
+pub mod Lines
+pub mod Words
