@@ -1,9 +1,11 @@
 -- The block of the nodes that a listing finds.
-use Rattle.std.proofs.Common.{◌≡◌, ◌⊎◌, inl, inr, ⊎_elim, ℕ, Bool, true, false, List, [], ◌∷◌, ◌++◌, Result, Ok, Err, IfErr, IsTrue, if◌then◌else◌, refl, sym, subst}
+use Rattle.std.proofs.Common.{◌≡◌, ◌⊎◌, inl, inr, ⊎_elim, ℕ, Bool, true, false, List, [], ◌∷◌, ◌++◌, Result, Ok, Err, IfErr, IsTrue, if◌then◌else◌, refl, sym, subst, ◌∙◌}
 use Rattle.std.specs.Result.{IsErrAnd}
 use Rattle.serde_json.specs.Data.{Data, Members}
 use Rattle.serde_json.specs.Written.{has_float}
 use Rattle.zarrs_store.specs.Contents.{Contents}
+use Rattle.zarrs_fault.specs.declared.numbers.Numbers.{Numbers}
+use Rattle.zarrs_fault.specs.declared.numbers.Numbers.TheVariants.{Whole}
 use Rattle.zarrs_fault.specs.declared.fault.MetadataFault.{MetadataFault}
 use Rattle.zarrs_fault.specs.declared.fault.MetadataFault.TheVariants.{UnsupportedNumber}
 use Rattle.zarrs_path.specs.Paths.{Path, IsPath, path_text}
@@ -13,11 +15,12 @@ use Rattle.zarrs_form.specs.Documents.{◌>>=◌, object_of}
 use Rattle.zarrs_meta.specs.Node.{is_group}
 use Rattle.zarrs_meta.specs.declared.node.NodeMetadata.{NodeMetadata}
 use Rattle.zarrs_meta.specs.declared.node.NodeMetadata.TheVariants.{Group, Array}
-use Rattle.zarrs_block.specs.Block.{Block, IsAscending, IsBlockOf, block_of, block_of_in, block_tree}
+use Rattle.zarrs_block.specs.Block.{Block, HasPlainNodes, IsAscending, IsBlockOf, block_of, block_of_in, block_tree}
 use Rattle.zarrs_block.specs.Meaning.{Means, meaning, node, nothing, bad}
 use Rattle.zarrs_block.specs.Refusals.{IsExcused, IsMissing}
 use Rattle.zarrs_block.specs.declared.node_create_error.NodeCreateError.{NodeCreateError}
 use Rattle.zarrs_node.specs.Nodes.{Nodes, Bad, ShowsBad}
+use Rattle.zarrs_block.proofs.BlockReads.{block_again}
 use Rattle.zarrs_node.proofs.Inverse.{kept_reads_back}
 use Rattle.zarrs_hierarchy.proofs.Opening.{below_refused}
 use Rattle.zarrs_group.specs.Layout.{pretty_text}
@@ -37,22 +40,27 @@ read_no_float : (d : Data) (B : Block) → block_of d ≡ Ok B → has_float d �
 unfolding block_of_in
 read_no_float d B e = fits_first (has_float d) d _ B e
 
+-- a block of the nodes of a store of whole numbers reads back, and so does one of plain nodes
+block_read : (store : Contents) (base : Path) (B : Block) (numbers : Numbers) → numbers ≡ store.numbers → (numbers ≡ Whole) ⊎ HasPlainNodes B → IsAscending B → IsBlockOf (Nodes store Default true base) base B
+    → block_of (block_tree B) ≡ Ok B
+block_read store base B numbers are whole up holds =
+    ⊎_elim
+    (λ all. kept_reads_back (Means (meaning store Default)) base B (λ e k. plain_node store e.0 (sym are ∙ all) Default e.1 k.1) up holds)
+    (λ plain. block_again B plain)
+    whole
+
 -- the layout of the block of the nodes below a group is what is to be written
-pub block_written : (store : Contents) (base : Path) (m : NodeMetadata) (B : Block) (text : List ℕ)
+pub block_written : (store : Contents) (base : Path) (m : NodeMetadata) (B : Block) (text : List ℕ) (numbers : Numbers)
     → meaning store Default base ≡ node m → IsTrue (is_group m) → IsAscending B → IsBlockOf (Nodes store Default true base) base B → (Bad store Default true base → ⊥)
-    → (has_float (block_tree B) ≡ false → text ≡ pretty_text (block_tree B) ++ 10 ∷ []) → IsBlockText store base text
-block_written store base (Array a) B text means group up holds clean layout = let no : false ≡ true = group in cc no
-block_written store base (Group g) B text means group up holds clean layout = record {
+    → numbers ≡ store.numbers → (numbers ≡ Whole) ⊎ HasPlainNodes B → (has_float (block_tree B) ≡ false → text ≡ pretty_text (block_tree B) ++ 10 ∷ []) → IsBlockText store base text
+block_written store base (Array a) B text numbers means group up holds clean are whole layout = let no : false ≡ true = group in cc no
+block_written store base (Group g) B text numbers means group up holds clean are whole layout = record {
   group = g;
   means = means;
   block = B;
   ascending = up;
   holds = holds;
-  is = λ whole.
-      layout (⊎_elim
-      (λ all. read_no_float (block_tree B) B (kept_reads_back (Means (meaning store Default)) base B (λ e k. plain_node store e.0 all Default e.1 k.1) up holds))
-      (λ none. none)
-      whole);
+  is = layout (read_no_float (block_tree B) B (block_read store base B numbers are whole up holds));
   clean = clean;
 }
 

@@ -1,5 +1,6 @@
 pub mod Blocks
 pub mod Folders
+pub mod Fractions
 pub mod Lines
 pub mod LoadFaults
 pub mod Runs

@@ -5,7 +5,7 @@ use Rattle.std.specs.Result.{IsErrAnd}
 use Rattle.zarrs_load.specs.declared.fault.LoadFault.{LoadFault}
 use Rattle.zarrs_tool.specs.Refusals.{IsLoadFault}
 use Rattle.zarrs_tool.specs.declared.fault.ToolFault.{ToolFault}
-use Rattle.zarrs_tool.specs.declared.fault.ToolFault.TheVariants.{Usage, Read, ReadTooLong, Image, ImageKey, ImageValue, Folder, NotAGroup, Node, Write, OutOfMemory}
+use Rattle.zarrs_tool.specs.declared.fault.ToolFault.TheVariants.{Usage, Read, ReadTooLong, Image, ImageKey, ImageValue, Folder, NotAGroup, Fraction, Node, Write, OutOfMemory}
 
 module _ (P : LoadFault → Type 0) (error : LoadFault) (holds : P error) where
   -- what holds of the fault of loading holds of the program's that was made of it
@@ -19,6 +19,7 @@ module _ (P : LoadFault → Type 0) (error : LoadFault) (holds : P error) where
   made_fault OutOfMemory made = subst P (sym made) holds
   made_fault Usage made = absurd made
   made_fault NotAGroup made = absurd made
+  made_fault (Fraction p) made = absurd made
   made_fault (Node e) made = absurd made
   made_fault Write made = absurd made
 

@@ -4,15 +4,18 @@ use Rattle.std.specs.Prelude.{◌≢◌, Result, Ok, Err, IfOk, IfErr, OnOk}
 use Rattle.std.specs.Io.KnownBytes.{Appends, IsAtEnd}
 use Rattle.zarrs_store.specs.Contents.{Contents, Values}
 use Rattle.zarrs_path.specs.Paths.{Path, IsPath, path_text}
+use Rattle.zarrs_block.specs.declared.node_create_error.NodeCreateError.{NodeCreateError}
 use Rattle.zarrs_load.specs.Image.{IsLoaded, RefusedImage}
+use Rattle.zarrs_program.specs.Words.{RefusesPathText}
 use Rattle.zarrs_tool.specs.Output.{IsCommand, IsOutput, Writes, WritesOutput, in_whole_numbers, word_text}
-use Rattle.zarrs_tool.specs.StepsOfRuns.{command_words, IsPathFault, IsWordFault, WantsGroup}
-use Rattle.zarrs_tool.specs.Refusals.{IsLoadFault, IsRefusal, RefusedRun, RefusesArray}
+use Rattle.zarrs_tool.specs.StepsOfRuns.{command_words, IsWordFault, WantsGroup, WantsWhole}
+use Rattle.zarrs_tool.specs.Refusals.{IsLoadFault, IsRefusal, RefusedRun, RefusesArray, RefusesFraction}
+use Rattle.zarrs_tool.proofs.Fractions.{no_fraction}
 use Rattle.zarrs_tool.specs.declared.run.Command.{Command}
 use Rattle.zarrs_tool.specs.declared.run.Word.{Word}
 use Rattle.zarrs_tool.specs.declared.run.Word.TheVariants.{Children, List as ListAll, Tree, Consolidate}
 use Rattle.zarrs_tool.specs.declared.fault.ToolFault.{ToolFault}
-use Rattle.zarrs_tool.specs.declared.fault.ToolFault.TheVariants.{Usage, Read, ReadTooLong, Image, ImageKey, ImageValue, Folder, NotAGroup, Node, Write, OutOfMemory}
+use Rattle.zarrs_tool.specs.declared.fault.ToolFault.TheVariants.{Usage, Read, ReadTooLong, Image, ImageKey, ImageValue, Folder, NotAGroup, Fraction, Node, Write, OutOfMemory}
 
 -- the words of a command are one
 pub is_command : (command : Command) (words : List (List ℕ)) → command_words command ≡ words → IsCommand words
@@ -37,6 +40,7 @@ refused_run words before after values (ImageKey name) command end loaded refused
 refused_run words before after values (ImageValue name) command end loaded refused = absurd refused
 refused_run words before after values Folder command end loaded refused = absurd refused
 refused_run words before after values NotAGroup command end loaded refused = (end, (values, loaded, refused))
+refused_run words before after values (Fraction p) command end loaded refused = absurd (no_fraction values refused.0 p refused.3)
 
 pub refused_result : {T : Type 0} (command : Command) (words : List (List ℕ)) (before after : Option (List ℕ)) (values : Values) (r : Result T ToolFault) → command_words command ≡ words
     → IsAtEnd after → IsLoaded before values → IfErr r (IsRefusal false (command_words command) (in_whole_numbers values)) → IfErr r (RefusedRun words before after)
@@ -56,6 +60,7 @@ refused_load words before after (ImageKey name) refused = refused
 refused_load words before after (ImageValue name) refused = refused
 refused_load words before after Folder refused = refused
 refused_load words before after NotAGroup refused = absurd refused
+refused_load words before after (Fraction p) refused = absurd refused
 refused_load words before after OutOfMemory refused = refused
 
 -- the words of a command are refused by no image
@@ -80,39 +85,25 @@ pub worded_output : {E : Type 0} (command : Command) (words : List (List ℕ)) (
 worded_output command words store old new r same writes = subst (λ w. OnOk r (WritesOutput w store old new)) same writes
 
 -- the output that was appended was written
-pub wrote_result : {E : Type 0} (words : List (List ℕ)) (store : Contents) (old new : Option (List ℕ)) (text said : List ℕ) (r : Result (Unit {0}) E) → IsOutput words store text → said ≡ text
-    → OnOk r (Appends old new said) → OnOk r (WritesOutput words store old new)
-wrote_result words store old new text said (Ok done) is same appends = (text, is, subst (Appends old new) same appends)
-wrote_result words store old new text said (Err e) is same appends = tt
+pub written_whole : (words : List (List ℕ)) (store : Contents) (old new : Option (List ℕ)) (text said : List ℕ) → IsOutput words store text → said ≡ text → Appends old new said → WritesOutput words store old new
+written_whole words store old new text said is same appends = (text, is, subst (Appends old new) same appends)
 
 -- where the writer fails there was an output
 pub unwritten_result : {T : Type 0} (can_fail : Bool) (words : List (List ℕ)) (store : Contents) (text : List ℕ) (r : Result T ToolFault) → IsOutput words store text
-    → IfErr r (λ fault. fault ≡ Write) → IfErr r (IsRefusal can_fail words store)
-unwritten_result can_fail words store text (Ok x) is failed = tt
-unwritten_result can_fail words store text (Err fault) is failed = subst (IsRefusal can_fail words store) (sym failed) (text, is)
+    → r ≡ Err Write → IfErr r (IsRefusal can_fail words store)
+unwritten_result can_fail words store text r is failed = subst (λ x. IfErr x (IsRefusal can_fail words store)) (sym failed) (text, is)
 
 -- a refusal of the words' path or listing, which is neither of the writer nor of the words
 abbrev pub IsOutputFault : Bool → List (List ℕ) → Contents → ToolFault → Type 0
 IsOutputFault can_fail words store fault = (fault ≢ Write) × (fault ≢ Usage) × IsRefusal can_fail words store fault
 
 -- a path that is none refuses the command
-path_fault : (can_fail : Bool) (command : Command) (store : Contents) (fault : ToolFault) → IsPathFault command.path.now fault
-    → IsOutputFault can_fail (command_words command) store fault
-path_fault can_fail command store (Node e) refused = ((λ (h : Node e ≡ Write). cc h), (λ (h : Node e ≡ Usage). cc h), inl (command.word, command.path.now, refl, refused))
-path_fault can_fail command store Usage refused = absurd refused
-path_fault can_fail command store Read refused = absurd refused
-path_fault can_fail command store ReadTooLong refused = absurd refused
-path_fault can_fail command store Image refused = absurd refused
-path_fault can_fail command store (ImageKey name) refused = absurd refused
-path_fault can_fail command store (ImageValue name) refused = absurd refused
-path_fault can_fail command store Folder refused = absurd refused
-path_fault can_fail command store NotAGroup refused = absurd refused
-path_fault can_fail command store Write refused = absurd refused
-path_fault can_fail command store OutOfMemory refused = absurd refused
+path_fault : (can_fail : Bool) (command : Command) (store : Contents) (e : NodeCreateError) → RefusesPathText command.path.now e → IsOutputFault can_fail (command_words command) store (Node e)
+path_fault can_fail command store e refused = ((λ (h : Node e ≡ Write). cc h), (λ (h : Node e ≡ Usage). cc h), inl (command.word, command.path.now, refl, refused))
 
-pub path_fault_result : {T : Type 0} (can_fail : Bool) (command : Command) (store : Contents) (r : Result T ToolFault) (fault : ToolFault) → r ≡ Err fault → IsPathFault command.path.now fault
+pub path_fault_result : {T : Type 0} (can_fail : Bool) (command : Command) (store : Contents) (r : Result T ToolFault) (e : NodeCreateError) → r ≡ Err (Node e) → RefusesPathText command.path.now e
     → IfErr r (λ f. (f ≢ Write) × (f ≢ Usage) × IsRefusal can_fail (command_words command) store f)
-path_fault_result can_fail command store r fault is refused = subst (λ x. IfErr x (λ f. (f ≢ Write) × (f ≢ Usage) × IsRefusal can_fail (command_words command) store f)) (sym is) (path_fault can_fail command store fault refused)
+path_fault_result can_fail command store r e is refused = subst (λ x. IfErr x (λ f. (f ≢ Write) × (f ≢ Usage) × IsRefusal can_fail (command_words command) store f)) (sym is) (path_fault can_fail command store e refused)
 
 module _ (can_fail : Bool) (command : Command) (store : Contents) (base : Path) (valid : IsPath base) (same : path_text base ≡ command.path.now) where
   worded : command_words command ≡ word_text command.word ∷ path_text base ∷ []
@@ -130,10 +121,18 @@ module _ (can_fail : Bool) (command : Command) (store : Contents) (base : Path) 
   array_refused Tree words is wants = absurd wants
   array_refused Consolidate words is wants = (base, valid, is, wants.0, wants.1)
 
+  -- of all words `consolidate` alone writes whole numbers only
+  fraction_refused : (word : Word) (words : List (List ℕ)) (p : Path) → words ≡ word_text word ∷ path_text base ∷ [] → WantsWhole word store base p → RefusesFraction words store p
+  fraction_refused Children words p is wants = absurd wants
+  fraction_refused ListAll words p is wants = absurd wants
+  fraction_refused Tree words p is wants = absurd wants
+  fraction_refused Consolidate words p is wants = (base, valid, is, wants)
+
   -- what refuses the word refuses the command
   word_fault : (fault : ToolFault) → IsWordFault can_fail command.word store base fault → IsOutputFault can_fail (command_words command) store fault
   word_fault (Node e) refused = ((λ (h : Node e ≡ Write). cc h), (λ (h : Node e ≡ Usage). cc h), inr (command.word, base, valid, worded, refused))
   word_fault NotAGroup refused = ((λ (h : NotAGroup ≡ Write). cc h), (λ (h : NotAGroup ≡ Usage). cc h), array_refused command.word (command_words command) worded refused)
+  word_fault (Fraction p) refused = ((λ (h : Fraction p ≡ Write). cc h), (λ (h : Fraction p ≡ Usage). cc h), fraction_refused command.word (command_words command) p worded refused)
   word_fault OutOfMemory refused = ((λ (h : OutOfMemory ≡ Write). cc h), (λ (h : OutOfMemory ≡ Usage). cc h), tt)
   word_fault Usage refused = absurd refused
   word_fault Read refused = absurd refused

@@ -3,7 +3,7 @@ use Rattle.std.proofs.Common.{◌≡◌, ◌∙◌, ◌⊎◌, ap, ℕ, inl, inr
 use Rattle.std.specs.Prelude.{◌≢◌, Result, Ok, Err, IfErr, OnOk, IsOk}
 use Rattle.zarrs_tool.specs.Refusals.{status_of}
 use Rattle.zarrs_tool.specs.declared.fault.ToolFault.{ToolFault}
-use Rattle.zarrs_tool.specs.declared.fault.ToolFault.TheVariants.{Usage, Read, ReadTooLong, Image, ImageKey, ImageValue, Folder, NotAGroup, Node, Write, OutOfMemory}
+use Rattle.zarrs_tool.specs.declared.fault.ToolFault.TheVariants.{Usage, Read, ReadTooLong, Image, ImageKey, ImageValue, Folder, NotAGroup, Fraction, Node, Write, OutOfMemory}
 
 not_one : (n : ℕ) → n ≡ 1 → n ≡ 0 → ⊥
 not_one n e z = omega arith
@@ -28,6 +28,7 @@ zero_ok (Err (ImageKey name)) n e z = absurd (not_one n e z)
 zero_ok (Err (ImageValue name)) n e z = absurd (not_one n e z)
 zero_ok (Err Folder) n e z = absurd (not_one n e z)
 zero_ok (Err NotAGroup) n e z = absurd (not_one n e z)
+zero_ok (Err (Fraction q)) n e z = absurd (not_one n e z)
 zero_ok (Err (Node error)) n e z = absurd (not_one n e z)
 zero_ok (Err Write) n e z = absurd (not_one n e z)
 zero_ok (Err OutOfMemory) n e z = absurd (not_one n e z)
@@ -43,6 +44,7 @@ zero_gives (Err (ImageKey name)) n e z p = absurd (not_one n e z)
 zero_gives (Err (ImageValue name)) n e z p = absurd (not_one n e z)
 zero_gives (Err Folder) n e z p = absurd (not_one n e z)
 zero_gives (Err NotAGroup) n e z p = absurd (not_one n e z)
+zero_gives (Err (Fraction q)) n e z p = absurd (not_one n e z)
 zero_gives (Err (Node error)) n e z p = absurd (not_one n e z)
 zero_gives (Err Write) n e z p = absurd (not_one n e z)
 zero_gives (Err OutOfMemory) n e z p = absurd (not_one n e z)
@@ -58,6 +60,7 @@ two_usage (Err (ImageKey name)) n e z = absurd (one_or_two n e z)
 two_usage (Err (ImageValue name)) n e z = absurd (one_or_two n e z)
 two_usage (Err Folder) n e z = absurd (one_or_two n e z)
 two_usage (Err NotAGroup) n e z = absurd (one_or_two n e z)
+two_usage (Err (Fraction q)) n e z = absurd (one_or_two n e z)
 two_usage (Err (Node error)) n e z = absurd (one_or_two n e z)
 two_usage (Err Write) n e z = absurd (one_or_two n e z)
 two_usage (Err OutOfMemory) n e z = absurd (one_or_two n e z)
@@ -76,6 +79,7 @@ any_status (Err (ImageKey name)) n e = inr (inl e)
 any_status (Err (ImageValue name)) n e = inr (inl e)
 any_status (Err Folder) n e = inr (inl e)
 any_status (Err NotAGroup) n e = inr (inl e)
+any_status (Err (Fraction q)) n e = inr (inl e)
 any_status (Err (Node error)) n e = inr (inl e)
 any_status (Err Write) n e = inr (inl e)
 any_status (Err OutOfMemory) n e = inr (inl e)

@@ -7,11 +7,9 @@
 --     in_whole_numbers values      the store that holds this, as the program reads it
 --     Writes w, IsOutput words      the text that a word writes of a path; the text that a command's words write
 --     WritesAnswer words left      what a run writes that ends well
-use Rattle.std.specs.Prelude.{◌≡◌, ◌⊎◌, ℕ, Bool, true, false, List, [], ◌∷◌, ◌++◌, map, codes, Option, String, string_bytes}
-use Rattle.std.specs.declared.alloc.Global.{Global}
+use Rattle.std.specs.Prelude.{◌≡◌, ℕ, Bool, true, false, List, [], ◌∷◌, ◌++◌, codes, Option}
 use Rattle.std.specs.List.{flat_map}
 use Rattle.std.specs.Io.KnownBytes.{Appends}
-use Rattle.serde_json.specs.Written.{has_float}
 use Rattle.zarrs_fault.specs.declared.numbers.Numbers.TheVariants.{Whole}
 use Rattle.zarrs_store.specs.Contents.{Contents, Lists, Values}
 use Rattle.zarrs_path.specs.Paths.{Path, IsPath, path_text}
@@ -27,12 +25,10 @@ use Rattle.zarrs_node.specs.Nodes.{Nodes, HasNothingBad}
 use Rattle.zarrs_group.specs.Layout.{pretty_text}
 use Rattle.zarrs_hierarchy.specs.OpeningHierarchies.{IsOpenedTree}
 use Rattle.zarrs_load.specs.Image.{IsLoaded}
+-- the texts of words
+pub use Rattle.zarrs_program.specs.Words.{texts}
 use Rattle.zarrs_tool.specs.declared.run.Word.{Word}
 use Rattle.zarrs_tool.specs.declared.run.Word.TheVariants.{Children, List as ListAll, Tree, Consolidate}
-
--- the texts of words
-abbrev pub texts : List (String Global) → List (List ℕ)
-texts words = map (λ w. string_bytes w) words
 
 -- how a command's first word is written
 abbrev pub word_text : Word → List ℕ
@@ -57,19 +53,15 @@ pub record IsListing (store : Contents) (recursive : Bool) (base : Path) (text :
   pub is : text ≡ path_lines nodes
   pub clean : HasNothingBad store Default recursive base
 
--- the documents of the store may hold whole numbers only, or no number of the block has a fraction
-abbrev pub HasWholeNumbers : Contents → Block → Type 0
-HasWholeNumbers store block = (store.numbers ≡ Whole) ⊎ (has_float (block_tree block) ≡ false)
-
 -- the base means a group, and the text is the pretty layout of the block that holds exactly the nodes that a listing finds below the base, and a
--- newline, where the store or the block has whole numbers only; nothing on the way is bad
+-- newline; nothing on the way is bad
 pub record IsBlockText (store : Contents) (base : Path) (text : List ℕ) : Type 0 where
   pub group : GroupMetadata
   pub means : meaning store Default base ≡ node (Group group)
   pub block : Block
   pub ascending : IsAscending block
   pub holds : IsBlockOf (Nodes store Default true base) base block
-  pub is : HasWholeNumbers store block → text ≡ pretty_text (block_tree block) ++ 10 ∷ []
+  pub is : text ≡ pretty_text (block_tree block) ++ 10 ∷ []
   pub clean : HasNothingBad store Default true base
 
 -- what a word writes of a path; `tree` that of the hierarchy that is opened there with a block used where there is one

@@ -4,30 +4,26 @@ use Rattle.std.specs.Prelude.{◌≡◌, ℕ, Bool, true, false, List, [], ◌�
 use Rattle.std.specs.Io.KnownBytes.{Keeps, IsAtEnd}
 use Rattle.zarrs_store.specs.Contents.{Contents, Values}
 use Rattle.zarrs_path.specs.Paths.{Path, IsPath, path_text}
-use Rattle.zarrs_path.specs.PathErrors.{RefusesPath}
 use Rattle.zarrs_block.specs.declared.node_create_error.NodeCreateError.{NodeCreateError}
-use Rattle.zarrs_block.specs.declared.node_create_error.NodeCreateError.TheVariants.{NodePathError}
 use Rattle.zarrs_block.specs.Refusals.{IsExcusedOr}
 use Rattle.zarrs_config.specs.declared.version.MetadataRetrieveVersion.TheVariants.{Default}
 use Rattle.zarrs_config.specs.declared.version.UseConsolidatedMetadata.TheVariants.{Auto, Never}
+use Rattle.zarrs_meta.specs.Node.{is_plain_node}
 use Rattle.zarrs_meta.specs.declared.node.ArrayMetadata.{ArrayMetadata}
+use Rattle.zarrs_meta.specs.declared.node.NodeMetadata.{NodeMetadata}
 use Rattle.zarrs_meta.specs.declared.node.NodeMetadata.TheVariants.{Array}
 use Rattle.zarrs_block.specs.Meaning.{meaning, node}
-use Rattle.zarrs_node.specs.Nodes.{ShowsBad}
+use Rattle.zarrs_node.specs.Nodes.{Nodes, ShowsBad}
 use Rattle.zarrs_node.specs.OpeningNodes.{RefusesOpening}
 use Rattle.zarrs_load.specs.Image.{IsLoaded, RefusedImage}
 use Rattle.zarrs_load.specs.declared.fault.LoadFault.{LoadFault}
 use Rattle.zarrs_load.specs.declared.fault.LoadFault.TheVariants as load
+use Rattle.zarrs_program.specs.Words.{RefusesPathText}
 use Rattle.zarrs_tool.specs.Output.{IsCommand, IsOutput, in_whole_numbers, word_text}
 use Rattle.zarrs_tool.specs.declared.fault.ToolFault.{ToolFault}
-use Rattle.zarrs_tool.specs.declared.fault.ToolFault.TheVariants.{Usage, Read, ReadTooLong, Image, ImageKey, ImageValue, Folder, NotAGroup, Node, Write, OutOfMemory}
+use Rattle.zarrs_tool.specs.declared.fault.ToolFault.TheVariants.{Usage, Read, ReadTooLong, Image, ImageKey, ImageValue, Folder, NotAGroup, Fraction, Node, Write, OutOfMemory}
 use Rattle.zarrs_tool.specs.declared.run.Word.{Word}
 use Rattle.zarrs_tool.specs.declared.run.Word.TheVariants.{Children, List as ListAll, Tree, Consolidate}
-
--- the error is of a path: the text is none, and the error holds it; or memory ran out when the path was made
-abbrev pub RefusesPathText : List ℕ → NodeCreateError → Type 0
-RefusesPathText text (NodePathError e) = RefusesPath text e
-RefusesPathText text _ = ⊥
 
 -- the calls of a word refuse the path: it is excused, as out of memory or the fault of a store that can fail, or a listing shows what is bad, or opening
 -- is refused by the first reason that applies
@@ -50,11 +46,20 @@ RefusesStore can_fail words store e =
 abbrev pub RefusesArray : List (List ℕ) → Contents → Type 0
 RefusesArray words store = (base : Path) × IsPath base × (words ≡ word_text Consolidate ∷ path_text base ∷ []) × (a : ArrayMetadata) × (meaning store Default base ≡ node (Array a))
 
+-- a listing finds p below the base, with metadata that could not have come from a document whose numbers are whole: one of them has a fraction
+abbrev pub ShowsFraction : Contents → Path → Path → Type 0
+ShowsFraction store base p = (m : NodeMetadata) × Nodes store Default true base (p, m) × (is_plain_node m ≡ false)
+
+-- the words are `consolidate`, which writes whole numbers only, and a path below which p has a fraction
+abbrev pub RefusesFraction : List (List ℕ) → Contents → Path → Type 0
+RefusesFraction words store p = (base : Path) × IsPath base × (words ≡ word_text Consolidate ∷ path_text base ∷ []) × ShowsFraction store base p
+
 -- the words are refused over a store
 abbrev pub IsRefusal : Bool → List (List ℕ) → Contents → ToolFault → Type 0
 IsRefusal can_fail words store Usage = IsCommand words → ⊥
 IsRefusal can_fail words store (Node e) = RefusesWords words e ⊎ RefusesStore can_fail words store e
 IsRefusal can_fail words store NotAGroup = RefusesArray words store
+IsRefusal can_fail words store (Fraction p) = RefusesFraction words store p
 IsRefusal can_fail words store Write = (text : List ℕ) × IsOutput words store text
 IsRefusal can_fail words store OutOfMemory = ⊤
 IsRefusal can_fail words store _ = ⊥
@@ -75,7 +80,8 @@ IsLoadFault P OutOfMemory = P load.OutOfMemory
 IsLoadFault P _ = ⊥
 
 -- the run over an image ends with this fault: for wrong words the reader was left as it was; for a path, a node, an array or the writer the words are
--- refused over the store of the image, once the reader was read to its end; for any other fault no image was loaded
+-- refused over the store of the image, once the reader was read to its end; for any other fault no image was loaded. None is a fraction, since the
+-- store of an image has whole numbers
 abbrev pub RefusedRun : List (List ℕ) → Option (List ℕ) → Option (List ℕ) → ToolFault → Type 0
 RefusedRun words before after Usage = Keeps before after
 RefusedRun words before after (Node e) = RefusedAfterLoad words before after (Node e)

@@ -1,13 +1,16 @@
 -- Steps of a run of the program: words and folders, and what its private calls write and refuse; no public contract rests on them.
-use Rattle.std.specs.Prelude.{◌≡◌, ◌⊎◌, ℕ, List, [], ◌∷◌, codes, Option, Bool, false, ⊤}
+use Rattle.std.specs.Prelude.{◌≡◌, ◌⊎◌, ℕ, Some, List, [], ◌∷◌, ◌++◌, codes, Option, Bool, false, ⊤}
 use Rattle.zarrs_store.specs.Contents.{Contents, Values}
 use Rattle.zarrs_load.specs.Folder.{HoldsDocumentsAlone, IsFolderFault}
 use Rattle.zarrs_tool.specs.declared.run.Word.TheVariants.{Children, List as ListAll, Tree, Consolidate}
 use Rattle.zarrs_tool.specs.declared.run.Command.{Command}
 use Rattle.zarrs_tool.specs.Output.{in_whole_numbers, word_text, IsCommand, WritesOutput, WritesOfImage}
-use Rattle.zarrs_path.specs.Paths.{Path, path_text}
+use Rattle.zarrs_path.specs.Paths.{Path, path_text, relative_names}
+use Rattle.zarrs_meta.specs.Node.{is_plain_node}
 use Rattle.zarrs_meta.specs.declared.node.ArrayMetadata.{ArrayMetadata}
+use Rattle.zarrs_meta.specs.declared.node.NodeMetadata.{NodeMetadata}
 use Rattle.zarrs_meta.specs.declared.node.NodeMetadata.TheVariants.{Array}
+use Rattle.zarrs_block.specs.Block.{Block, IsAscending, node_at_key}
 use Rattle.zarrs_block.specs.Meaning.{meaning, node}
 use Rattle.zarrs_block.specs.Refusals.{IsExcusedOr}
 use Rattle.zarrs_node.specs.Nodes.{ShowsBad}
@@ -17,9 +20,9 @@ use Rattle.zarrs_config.specs.declared.version.MetadataRetrieveVersion.TheVarian
 use Rattle.zarrs_config.specs.declared.version.UseConsolidatedMetadata.{UseConsolidatedMetadata}
 use Rattle.zarrs_config.specs.declared.version.UseConsolidatedMetadata.TheVariants.{Auto, Never}
 use Rattle.zarrs_tool.specs.declared.fault.ToolFault.{ToolFault}
-use Rattle.zarrs_tool.specs.declared.fault.ToolFault.TheVariants.{NotAGroup, Node, OutOfMemory}
+use Rattle.zarrs_tool.specs.declared.fault.ToolFault.TheVariants.{NotAGroup, Fraction, Node, OutOfMemory}
 use Rattle.zarrs_tool.specs.declared.run.Word.{Word}
-use Rattle.zarrs_tool.specs.Refusals.{RefusesPathText, RefusesWord, IsRefusal, IsLoadFault, RefusedRun}
+use Rattle.zarrs_tool.specs.Refusals.{RefusesWord, ShowsFraction, IsRefusal, IsLoadFault, RefusedRun}
 
 -- the words of a command
 abbrev pub command_words : Command → List (List ℕ)
@@ -47,17 +50,13 @@ WritesAnswer words left before after =
     WritesOfImage words left before after
     ⊎ ((folder : List ℕ) × (tree : List (List ℕ)) × IsFolderWords words folder tree × WritesOfFolder tree before after)
 
--- the fault is that of a text that is no path; or memory ran out when the path was made
-abbrev pub IsPathFault : List ℕ → ToolFault → Type 0
-IsPathFault text (Node e) = RefusesPathText text e
-IsPathFault text _ = ⊥
-
--- the fault holds an error that refuses; or says that there is no group, where that may be said; or out of memory
-abbrev pub IsFault : (NodeCreateError → Type 0) → Type 0 → ToolFault → Type 0
-IsFault refuses no_group (Node e) = refuses e
-IsFault refuses no_group NotAGroup = no_group
-IsFault refuses no_group OutOfMemory = ⊤
-IsFault refuses no_group _ = ⊥
+-- the fault holds an error that refuses; or says that there is no group, or names a path with a fraction, where that may be said; or out of memory
+abbrev pub IsFault : (NodeCreateError → Type 0) → Type 0 → (Path → Type 0) → ToolFault → Type 0
+IsFault refuses no_group fraction (Node e) = refuses e
+IsFault refuses no_group fraction NotAGroup = no_group
+IsFault refuses no_group fraction (Fraction p) = fraction p
+IsFault refuses no_group fraction OutOfMemory = ⊤
+IsFault refuses no_group fraction _ = ⊥
 
 -- opening the path is excused, as out of memory or the fault of a store that can fail, or it is refused by the first reason that applies
 abbrev pub RefusesOpen : Bool → Contents → UseConsolidatedMetadata → Path → NodeCreateError → Type 0
@@ -74,21 +73,38 @@ WantsGroup ListAll store base = ⊥
 WantsGroup Tree store base = ⊥
 WantsGroup Consolidate store base = IsArray store base
 
+-- the word writes whole numbers only, as `consolidate` alone does, and a listing below the base finds p with a fraction
+abbrev pub WantsWhole : Word → Contents → Path → Path → Type 0
+WantsWhole Children store base p = ⊥
+WantsWhole ListAll store base p = ⊥
+WantsWhole Tree store base p = ⊥
+WantsWhole Consolidate store base p = ShowsFraction store base p
+
 -- a listing is refused, or out of memory
 abbrev pub IsListingFault : Bool → Contents → Bool → Path → ToolFault → Type 0
-IsListingFault can_fail store recursive base = IsFault (IsExcusedOr can_fail (ShowsBad store Default recursive base)) ⊥
+IsListingFault can_fail store recursive base = IsFault (IsExcusedOr can_fail (ShowsBad store Default recursive base)) ⊥ (λ _. ⊥)
 
 -- opening a hierarchy is refused, or out of memory
 abbrev pub IsTreeFault : Bool → Contents → Path → ToolFault → Type 0
-IsTreeFault can_fail store base = IsFault (RefusesOpen can_fail store Auto base) ⊥
+IsTreeFault can_fail store base = IsFault (RefusesOpen can_fail store Auto base) ⊥ (λ _. ⊥)
 
--- opening a node is refused, or it is an array, or out of memory
+-- opening a node is refused, or it is an array, or a node below it has a fraction, or out of memory
 abbrev pub IsBlockFault : Bool → Contents → Path → ToolFault → Type 0
-IsBlockFault can_fail store base = IsFault (RefusesOpen can_fail store Never base) (IsArray store base)
+IsBlockFault can_fail store base = IsFault (RefusesOpen can_fail store Never base) (IsArray store base) (ShowsFraction store base)
 
 -- a word is refused of a path
 abbrev pub IsWordFault : Bool → Word → Contents → Path → ToolFault → Type 0
-IsWordFault can_fail word store base = IsFault (RefusesWord can_fail word store base) (WantsGroup word store base)
+IsWordFault can_fail word store base = IsFault (RefusesWord can_fail word store base) (WantsGroup word store base) (WantsWhole word store base)
+
+-- where the keys of the block ascend, it has metadata at the key that could not have come from a document whose numbers are whole
+abbrev pub HasFractionAt : Block → List ℕ → Type 0
+HasFractionAt B key = IsAscending B → (m : NodeMetadata) × (node_at_key B key ≡ Some m) × (is_plain_node m ≡ false)
+
+-- the fault names the path of a node of the block that has a fraction; or out of memory
+abbrev pub IsFractionFault : Path → Block → ToolFault → Type 0
+IsFractionFault base B (Fraction p) = (key : List ℕ) × (p ≡ base ++ relative_names key) × HasFractionAt B key
+IsFractionFault base B OutOfMemory = ⊤
+IsFractionFault base B _ = ⊥
 
 -- the folder makes no store, or out of memory; or the words are refused over a store in which no key but a document's has bytes, as a folder's
 abbrev pub RefusedFolder : List (List ℕ) → ToolFault → Type 0

@@ -1,11 +1,13 @@
 //! Why the program refuses.
 ghost use Rattle.std.specs.Prelude.{◌≡◌};
-ghost use Rattle.zarrs_tool.specs.declared.fault.ToolFault.TheVariants.{Node, OutOfMemory};
+ghost use Rattle.zarrs_tool.specs.declared.fault.ToolFault.TheVariants.{Node, OutOfMemory, Write};
 
 use std::alloc::{AllocError, AllocFailed};
 use thiserror::Error;
 use zarrs_block::NodeCreateError;
 use zarrs_load::LoadFault;
+use zarrs_path::NodePath;
+use zarrs_program::{WordsFault, WriteFault};
 
 /// Why a run of the program is refused.
 ///
@@ -36,6 +38,9 @@ pub enum ToolFault {
     /// The path is an array, and the command wants a group.
     #[error("not a group")]
     NotAGroup,
+    /// A node of a block, by its path, has a number with a fraction, and blocks are written in whole numbers.
+    #[error("{0} has an unsupported number, one with a fraction")]
+    Fraction(NodePath),
     /// The path is none, or its nodes were not listed.
     #[error("{0}")]
     Node(NodeCreateError),
@@ -69,6 +74,24 @@ impl From<NodeCreateError> for ToolFault {
 
     fn from(error: NodeCreateError) -> ToolFault {
         ToolFault::Node(error)
+    }
+}
+
+impl From<WriteFault> for ToolFault {
+    ghost from_gives = { λ _ fault. fault ≡ Write };
+
+    fn from(_error: WriteFault) -> ToolFault {
+        ToolFault::Write
+    }
+}
+
+// Words that are not text are no command.
+impl From<WordsFault> for ToolFault {
+    fn from(error: WordsFault) -> ToolFault {
+        match error {
+            WordsFault::NotText => ToolFault::Usage,
+            WordsFault::OutOfMemory => ToolFault::OutOfMemory,
+        }
     }
 }
 

@@ -15,6 +15,8 @@ mod fault;
 mod folder;
 #[cfg(test)]
 mod folder_tests;
+#[cfg(test)]
+mod fractions_tests;
 mod image;
 mod printed;
 mod run;
@@ -27,11 +29,11 @@ use crate::run::{finish, run_image, run_store};
 use log::sink::Console;
 use log::{Level, Log, Logged};
 use std::alloc::Global;
-use std::env::Env;
-use std::io::{ErrorKind, Read, Write};
+use std::io;
+use std::io::{Read, Write};
 use std::process::ExitCode;
 use std::rt::Files;
-use std::{env, io};
+use zarrs_program::words;
 
 fn main(rt: HostRuntime) -> ExitCode {
     let log = Logged::new(&rt, Level::Warn, Console(&rt));
@@ -44,7 +46,7 @@ fn main(rt: HostRuntime) -> ExitCode {
             &mut io::writer(&rt),
             &mut errors,
         ),
-        Err(fault) => finish(&Err(fault), &mut errors),
+        Err(fault) => finish(&Err(ToolFault::from(fault)), &mut errors),
     };
     ExitCode::from(status)
 }
@@ -151,13 +153,4 @@ fn respond<L: Log, R: Read, W: Write, E: Write>(
 {
     let outcome = run_image(log, alloc, words, reader, output);
     finish(&outcome, errors)
-}
-
-// The words after the program's name.
-fn words<R: Env + AllocGlobal>(rt: &R) -> Result<Vec<String>, ToolFault> {
-    match env::args(rt) {
-        Ok(words) => Ok(words.skip(1).collect(rt.alloc())?),
-        Err(e) if e.kind() == ErrorKind::OutOfMemory => Err(ToolFault::OutOfMemory),
-        Err(_) => Err(ToolFault::Usage),
-    }
 }

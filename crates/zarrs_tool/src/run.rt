@@ -1,11 +1,10 @@
 //! The commands, over an image or a store.
 ghost use Rattle.std.specs.Prelude.{◌≡◌, ◌≢◌, ◌↔◌, IfOk, IfErr, IfSome, OnOk, IsOk, Err, option_map};
 ghost use Rattle.std.specs.FinMap as map;
-ghost use Rattle.std.specs.Io.KnownBytes.{Appends, Keeps, IsAtEnd};
-ghost use Rattle.zarrs_path.specs.Paths.{IsPath, path_text};
+ghost use Rattle.std.specs.Io.KnownBytes.{Keeps, IsAtEnd};
 ghost use Rattle.zarrs_tool.specs.Sinks.{AppendsLine};
 ghost use Rattle.zarrs_tool.specs.Output.{IsCommand, IsListing, IsOutput, Writes, WritesOfImage, WritesOutput, texts, word_text};
-ghost use Rattle.zarrs_tool.specs.StepsOfRuns.{command_words, IsListingFault, IsPathFault, IsWordFault};
+ghost use Rattle.zarrs_tool.specs.StepsOfRuns.{command_words, IsListingFault, IsWordFault};
 ghost use Rattle.zarrs_tool.specs.Refusals.{IsRefusal, RefusedRun, status_of};
 
 use crate::fault::ToolFault;
@@ -14,11 +13,11 @@ use crate::printed::{block_text, tree_text};
 use log::Log;
 use std::alloc::{AllocError, Global};
 use std::io::{Read, Write};
-use zarrs_block::NodeCreateError;
 use zarrs_config::MetadataRetrieveVersion;
 use zarrs_meta::NodeMetadata;
 use zarrs_node::{NodeSink, walk_child_nodes};
 use zarrs_path::NodePath;
+use zarrs_program::{path_of, tell, tell_line, write_whole};
 use zarrs_store::{ListableStorageTraits, ReadableStorageTraits};
 
 /// Loads the image that a reader gives, and writes what the words ask of its store: for
@@ -54,12 +53,13 @@ pub fn run_image<L: Log, R: Read, W: Write>(
 }
 
 /// Writes what the words ask of a store, as [`run_image`] does once the image is loaded, in the
-/// numbers of the store. Of a block with a fraction no text is promised.
+/// numbers of the store; a block is written in whole numbers.
 ///
 /// # Errors
 /// `Usage` where the words are no command; `Node` where the path is none, or listing or opening is
-/// refused; `NotAGroup` where `consolidate` is asked of an array; `Write` where the writer fails;
-/// `OutOfMemory`. Save after `Write`, nothing was written.
+/// refused; `NotAGroup` where `consolidate` is asked of an array; `Fraction` where a node below its
+/// group has a number with a fraction, which a store of whole numbers never has; `Write` where the
+/// writer fails; `OutOfMemory`. Save after `Write`, nothing was written.
 pub fn run_store<L: Log, S: ReadableStorageTraits + ListableStorageTraits, W: Write>(
     log: &L,
     alloc: Global,
@@ -87,11 +87,11 @@ pub fn finish<W: Write>(outcome: &Result<(), ToolFault>, writer: &mut W) -> u8
     match outcome {
         Ok(()) => 0,
         Err(ToolFault::Usage) => {
-            let _ = writeln!(writer, "{}", ToolFault::Usage);
+            let _ = tell_line(&ToolFault::Usage, writer);
             2
         }
         Err(fault) => {
-            let _ = writeln!(writer, "zarrs_tool: {fault}");
+            let _ = tell("zarrs_tool", fault, writer);
             1
         }
     }
@@ -159,7 +159,7 @@ fn run_command<L: Log, S: ReadableStorageTraits + ListableStorageTraits, W: Writ
         → Keeps (W.contents writer.old) (W.contents writer.new)) }
 {
     let text = output(log, alloc, command, store)?;
-    write_text(&text, writer)
+    Ok(write_whole(&text, writer)?)
 }
 
 // What a command writes.
@@ -176,18 +176,8 @@ fn output<L: Log, S: ReadableStorageTraits + ListableStorageTraits>(
         × IsRefusal (S.can_fail store.now) (command_words command.now)
         (S.contents store.now) fault) }
 {
-    let base = parse_path(alloc, command.path)?;
+    let base = path_of(alloc, command.path)?;
     output_of(log, alloc, command.word, store, &base)
-}
-
-fn parse_path(alloc: Global, text: &str) -> Result<NodePath, ToolFault>
-    ensures ok { IfOk result (λ path. IsPath path × (path_text path ≡ text.now)) }
-    ensures err { IfErr result (IsPathFault text.now) }
-{
-    match NodePath::new(alloc, text) {
-        Ok(path) => Ok(path),
-        Err(e) => Err(ToolFault::Node(NodeCreateError::NodePathError(e))),
-    }
 }
 
 // What a word writes of a path.
@@ -247,14 +237,4 @@ impl NodeSink for PathLines {
         self.text.extend_from_slice(path.as_str().as_bytes())?;
         Ok(self.text.push(b'\n')?)
     }
-}
-
-fn write_text<W: Write>(text: &[u8], writer: &mut W) -> Result<(), ToolFault>
-    ensures ok { OnOk result (Appends (W.contents writer.old) (W.contents writer.new) text.now) }
-    ensures err { IfErr result (λ fault. fault ≡ ToolFault.Write) }
-{
-    if writer.write_all(text).is_err() || writer.flush().is_err() {
-        return Err(ToolFault::Write);
-    }
-    Ok(())
 }

@@ -10,16 +10,17 @@ use std::io;
 use std::io::{Error, ErrorKind, Read, Write};
 use zarrs_block::NodeCreateError;
 use zarrs_load::LoadFault;
+use zarrs_path::NodePath;
 
 const TWO_GROUPS: &str =
     r#"{"zarr.json":"{\"node_type\":\"group\",\"zarr_format\":3}","a/zarr.json":"{\"node_type\":\"group\",\"zarr_format\":3}"}"#;
 
 // The block of the group that stands beside the root in `TWO_GROUPS`.
-const BLOCK_OF_A: &str =
+pub(crate) const BLOCK_OF_A: &str =
     "{\n  \"kind\": \"inline\",\n  \"metadata\": {\n    \"a\": {\n      \"node_type\": \"group\",\n      \"zarr_format\": 3\n    }\n  },\n  \"must_understand\": false\n}\n";
 
 // The block of no nodes.
-const EMPTY_BLOCK: &str =
+pub(crate) const EMPTY_BLOCK: &str =
     "{\n  \"kind\": \"inline\",\n  \"metadata\": {},\n  \"must_understand\": false\n}\n";
 
 pub(crate) const GROUP: &str = r#"{"node_type":"group","zarr_format":3}"#;
@@ -111,7 +112,7 @@ fn run(
 }
 
 // An image of documents at these keys.
-fn image_of(alloc: Global, documents: &[(&str, &str)]) -> Result<String, AllocError> {
+pub(crate) fn image_of(alloc: Global, documents: &[(&str, &str)]) -> Result<String, AllocError> {
     let mut image = String::from_str(alloc, "{")?;
     for (key, document) in documents {
         if image.len() > 1 {
@@ -388,6 +389,21 @@ fn what_is_not_opened_is_not_printed(rt: HostRuntime) {
 }
 
 #[test]
+fn a_fraction_in_an_image_is_refused_by_name(rt: HostRuntime) {
+    let half = r#"{"attributes":{"k":0.5},"node_type":"group","zarr_format":3}"#;
+    let documents = [("zarr.json", GROUP), ("a/zarr.json", half)];
+    let image = image_of(rt.alloc(), &documents).expect(&rt, "memory");
+    for word in ["children", "list", "tree", "consolidate"] {
+        let (ran, refused) = run(rt.alloc(), image.as_str(), &[word, "/"]).expect(&rt, "memory");
+        let errors = "zarrs_tool: error parsing metadata for a/zarr.json: unsupported number\n";
+        assert_ran(&rt, word, &ran, "", errors, 1);
+        let refusal =
+            r#"Node(StorageError(InvalidMetadata(StoreKey { text: "a/zarr.json" }, UnsupportedNumber)))"#;
+        assert_text(&rt, word, refused.as_str(), refusal);
+    }
+}
+
+#[test]
 fn keys_that_are_no_documents(rt: HostRuntime) {
     let bare_key = r#"{"a":"","a/zarr.json":"{\"node_type\":\"group\",\"zarr_format\":3}"}"#;
     let periods =
@@ -530,6 +546,7 @@ fn faults_have_their_texts(rt: HostRuntime) {
     let alloc = rt.alloc();
     let key = String::from_str(alloc, "a//b").expect(&rt, "memory");
     let value = String::from_str(alloc, "a").expect(&rt, "memory");
+    let path = NodePath::new(alloc, "/a").expect(&rt, "memory");
     let usage = format!(in alloc; "Usage: {}", USAGE.trim_end()).expect(&rt, "memory");
     let table = [
         (ToolFault::Usage, usage.as_str()),
@@ -556,6 +573,10 @@ fn faults_have_their_texts(rt: HostRuntime) {
             "OutOfMemory: out of memory",
         ),
         (ToolFault::NotAGroup, "NotAGroup: not a group"),
+        (
+            ToolFault::Fraction(path),
+            r#"Fraction(NodePath { text: "/a" }): /a has an unsupported number, one with a fraction"#,
+        ),
         (
             ToolFault::from(NodeCreateError::MetadataVersionMismatch),
             "Node(MetadataVersionMismatch): Found V2 metadata in V3 key or vice-versa",
