@@ -1,0 +1,123 @@
+//! A folder of the system: its documents, links, and what is not read. Scripts beside the gate try more.
+
+use log::sink::Writer;
+use log::{Level, Log, Logged};
+use std::alloc::{AllocError, Global};
+use std::io::Eprint;
+use std::os::unix::fs::symlink;
+use std::rt::Files;
+use std::test::Fail;
+use std::time::Clock;
+use std::{fs, io};
+use tests_support::{A3, G3, printed};
+use zarrs_folder::{Disk, FolderFault, Progress, load_nodes};
+use zarrs_path::NodePath;
+use zarrs_store::{AnyNumbers, ListableStorageTraits, MemoryStore};
+
+// Makes a folder with files at paths below it, and links.
+fn make_folder(
+    rt: &HostRuntime,
+    folder: &str,
+    files: &[(&str, &str)],
+    links: &[(&str, &str)],
+) -> io::Result<()> {
+    let _ = fs::remove_dir_all(rt, folder);
+    for (path, bytes) in files {
+        let path = format!(in rt.alloc(); "{folder}/{path}")?;
+        if let Some((parent, _)) = path.as_str().rsplit_once('/') {
+            fs::create_dir_all(rt, parent)?;
+        }
+        fs::write(rt, path.as_str(), *bytes)?;
+    }
+    for (to, path) in links {
+        let path = format!(in rt.alloc(); "{folder}/{path}")?;
+        symlink(rt, *to, path.as_str())?;
+    }
+    Ok(())
+}
+
+fn load<R: Log + Files + Clock + Eprint + AllocGlobal>(
+    rt: &R,
+    folder: &str,
+) -> Result<AnyNumbers<MemoryStore>, FolderFault> {
+    let disk = Disk::open(rt, folder)?;
+    let mut folder = Progress::new(rt, disk, false);
+    let Ok(root) = NodePath::root(rt.alloc()) else {
+        return Err(FolderFault::OutOfMemory);
+    };
+    load_nodes(rt.alloc(), &mut folder, &root)
+}
+
+// The keys of a store, with a blank behind each.
+fn keys_said(alloc: Global, store: &AnyNumbers<MemoryStore>) -> Result<String, AllocError> {
+    let mut text = String::new(alloc);
+    let Ok(keys) = store.list(alloc) else {
+        return Err(AllocError);
+    };
+    for key in keys {
+        text.push_str(key.as_str())?;
+        text.push(' ')?;
+    }
+    Ok(text)
+}
+
+// The keys that are loaded of a folder or why none are, and the warnings.
+fn said(rt: &HostRuntime, folder: &str) -> Result<String, AllocError> {
+    let sink = Writer::new(Vec::new(rt.alloc()));
+    let answer = load(&Logged::new(rt, Level::Warn, &sink), folder);
+    let mut text = match answer {
+        Ok(store) => keys_said(rt.alloc(), &store)?,
+        Err(fault) => printed(&fault, rt.alloc())?,
+    };
+    let warnings = String::from_utf8_lossy(rt.alloc(), &sink.into_inner())?;
+    text.push_str(warnings.as_str())?;
+    Ok(text)
+}
+
+#[test]
+fn links_are_followed_and_one_on_its_own_way_is_named(rt: HostRuntime) -> Result<(), Fail> {
+    let files = [
+        ("s/zarr.json", G3),
+        ("s/a/zarr.json", A3),
+        ("s/a/c/0/zarr.json", G3),
+        ("s/u/v/w", ""),
+        ("t/x/zarr.json", A3),
+        ("t/zarr.json", G3),
+    ];
+    let links = [
+        ("../t", "s/g"),
+        (".", "s/up"),
+        ("nowhere", "s/gone"),
+        ("s", "link"),
+    ];
+    make_folder(&rt, "disks", &files, &links)?;
+    let keys = said(&rt, "disks/link")?;
+    let (keys, warnings) = keys.as_str().split_once('[').unwrap_or((keys.as_str(), ""));
+    assert_eq!(rt;
+        keys,
+        "a/zarr.json g/x/zarr.json g/zarr.json u/v/w zarr.json "
+    );
+    assert!(rt;
+        warnings.ends_with(
+            "disks/link/up was passed over: it is a link to a folder on its own way\n"
+        )
+    );
+    fs::remove_dir_all(&rt, "disks")?;
+    Ok(())
+}
+
+#[test]
+fn what_is_not_read_is_named_with_the_systems_words(rt: HostRuntime) -> Result<(), Fail> {
+    make_folder(&rt, "unread", &[("file", "")], &[])?;
+    assert_eq!(rt;
+        said(&rt, "unread/nope")?.as_str(),
+        "unread/nope: No such file or directory"
+    );
+    assert_eq!(rt;
+        said(&rt, "unread/file")?.as_str(),
+        "unread/file is a file, and a store is a folder"
+    );
+    assert_eq!(rt; said(&rt, "unread")?.as_str(), "");
+    fs::remove_dir_all(&rt, "unread")?;
+    Ok(())
+}

@@ -1,0 +1,5 @@
+use Rattle.zarrs_folder.proofs.Shown.{pruned_shows_same}
+use Rattle.zarrs_folder.proofs.laws.pruned_shows_same.Goals as goal
+
+pub returns : goal.returns
+returns c = pruned_shows_same

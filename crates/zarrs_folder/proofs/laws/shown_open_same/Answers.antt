@@ -1,0 +1,5 @@
+use Rattle.zarrs_folder.proofs.Openings as law
+use Rattle.zarrs_folder.proofs.laws.shown_open_same.Goals as goal
+
+pub returns : goal.returns
+returns c = law.shown_open_same

@@ -1,0 +1,28 @@
+-- Steps of loading: how far a walk is; no public contract rests on them.
+use Rattle.std.specs.Prelude.{◌≡◌, ◌⊎◌, ℕ, true, List, [], ◌∷◌, ◌++◌, Contains}
+use Rattle.std.specs.FinMap as map
+use Rattle.zarrs_store.specs.Segments.{Segments}
+use Rattle.zarrs_store.specs.Contents.{Values, HasKey, HasBelow}
+use Rattle.zarrs_path.specs.Paths.{Path, IsBelow}
+use Rattle.zarrs_config.specs.declared.version.MetadataRetrieveVersion.TheVariants.{Default}
+use Rattle.zarrs_block.specs.Meaning.{meaning}
+use Rattle.zarrs_node.specs.Nodes.{IsListed}
+use Rattle.zarrs_node.specs.MapsOfNodes.{StandsFrom}
+use Rattle.zarrs_folder.specs.Folders.{in_any}
+use Rattle.zarrs_folder.specs.PrunedStores.{HasNoOtherKeys, HasSameFile, node_files}
+
+-- what is loaded grows from L to M as V has it: no key is another than those of V, every key stays, and so does what is as in V
+pub record Grows (V L M : Values) : Type 0 where
+  pub keys : HasNoOtherKeys V L → HasNoOtherKeys V M
+  pub keeps : (key : Segments) → HasKey L key → HasKey M key
+  pub same : (key : Segments) → map.get L key ≡ map.get V key → map.get M key ≡ map.get V key
+
+-- x is one of the prefixes that are below b, or begins with one
+abbrev pub IsAhead : Path → List Segments → Segments → Type 0
+IsAhead b qs x = (q : Segments) × Contains qs q × IsBelow b q × ((rest : Segments) × (x ≡ q ++ rest))
+
+-- what is not loaded yet lies at or below a prefix that is still ahead
+pub record IsLoadedButAhead (V : Values) (b : Path) (L : Values) (qs : List Segments) : Type 0 where
+  pub keys : HasNoOtherKeys V L
+  pub documents : (p : Path) → StandsFrom (in_any V) Default b p → (file : List ℕ) → Contains node_files file → HasSameFile V L p file ⊎ IsAhead b qs p
+  pub children : (g : Path) (n : List ℕ) → IsListed (meaning (in_any V) Default) true b g → HasBelow V (g ++ n ∷ []) → HasBelow L (g ++ n ∷ []) ⊎ IsAhead b qs (g ++ n ∷ [])

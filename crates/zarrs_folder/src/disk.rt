@@ -1,0 +1,299 @@
+//! A folder of the system.
+ghost use Rattle.std.specs.Prelude.{◌≡◌, true, IfOk, IfErr};
+ghost use Rattle.zarrs_folder.specs.Folders.{IsFaultOfFolder};
+
+use crate::fault::FolderFault;
+use crate::folder::Folder;
+use log::{Log, warn};
+use std::alloc::{AllocError, Global};
+use std::fs::{File, Metadata};
+use std::io::{ErrorKind, Read};
+use std::os::unix::fs::MetadataExt;
+use std::rt::Files;
+use std::{fs, io};
+use zarrs_store::{StoreKey, StorePrefix};
+
+/// A folder of the system, by its path. Links are followed, its own and those below it. A link that leads to a folder on its own way is passed
+/// over, and a warning names it. What is neither a file nor a folder is passed over too.
+///
+/// Source: Zarr core specification 3.1, "Storage keys".
+/// <https://zarr-specs.readthedocs.io/en/latest/v3/core/index.html#storage-keys>
+#[derive(Drop)]
+pub struct Disk<'a, R> {
+    rt: &'a R,
+    folder: &'a str,
+}
+
+// What stands at a path, once links are followed.
+#[derive(Clone, Copy)]
+enum Kind {
+    File,
+    Folder,
+    Neither,
+}
+
+impl<'a, R: Log + Files + AllocGlobal> Disk<'a, R> {
+    /// The folder with this path.
+    ///
+    /// # Errors
+    /// `Unread` where nothing stands there or it is not looked at, `NoFolder` where something else does. `OutOfMemory`.
+    ///
+    /// Source: own.
+    pub fn open(rt: &'a R, folder: &'a str) -> Result<Disk<'a, R>, FolderFault> {
+        match fs::metadata(rt, folder) {
+            Ok(metadata) if metadata.is_dir() => Ok(Disk { rt, folder }),
+            Ok(_) => Err(FolderFault::NoFolder(String::from_str(rt.alloc(), folder)?)),
+            Err(e) => Err(unread(rt.alloc(), folder, &e)?),
+        }
+    }
+
+    // The path of what has this text as its key or its prefix. It has no slash behind it.
+    fn path(&self, alloc: Global, text: &str) -> Result<String, AllocError> {
+        let mut path = String::from_str(alloc, self.folder)?;
+        let names = text.strip_suffix('/').unwrap_or(text);
+        if names.is_empty() {
+            return Ok(path);
+        }
+        if !self.folder.ends_with('/') {
+            path.push('/')?;
+        }
+        path.push_str(names)?;
+        Ok(path)
+    }
+
+    // The names in a folder, each behind the text of the folder's prefix. A folder that is absent has none.
+    fn names(&self, alloc: Global, prefix: &str) -> Result<Vec<String>, FolderFault>
+        ensures err { IfErr result (IsFaultOfFolder true) }
+    {
+        let path = self.path(alloc, prefix)?;
+        let mut names = Vec::new(alloc);
+        let entries = match fs::read_dir(&self.rt, path.as_str()) {
+            Ok(entries) => entries,
+            Err(e) if is_absent(&e) => return Ok(names),
+            Err(e) => return Err(unread(alloc, path.as_str(), &e)?),
+        };
+        for entry in entries {
+            match entry {
+                Ok(entry) => names.push(joined(alloc, prefix, entry.file_name())?)?,
+                Err(e) => return Err(unlisted(alloc, path.as_str(), &e)?),
+            }
+        }
+        Ok(names)
+    }
+
+    // What stands behind these names.
+    fn kind(&self, alloc: Global, names: &str) -> Result<Kind, FolderFault>
+        ensures err { IfErr result (IsFaultOfFolder true) }
+    {
+        let path = self.path(alloc, names)?;
+        match fs::symlink_metadata(self.rt, path.as_str()) {
+            Ok(metadata) if metadata.is_symlink() => self.led_to(alloc, names, path.as_str()),
+            Ok(metadata) => Ok(kind_of(&metadata)),
+            Err(e) if is_absent(&e) => Ok(Kind::Neither),
+            Err(e) => Err(unread(alloc, path.as_str(), &e)?),
+        }
+    }
+
+    // What a link leads to.
+    fn led_to(&self, alloc: Global, names: &str, path: &str) -> Result<Kind, FolderFault>
+        ensures err { IfErr result (IsFaultOfFolder true) }
+    {
+        match fs::metadata(self.rt, path) {
+            Ok(metadata) if metadata.is_dir() => {
+                if self.is_on_way(alloc, names, &metadata)? {
+                    warn!(self.rt; "{path} was passed over: it is a link to a folder on its own way");
+                    return Ok(Kind::Neither);
+                }
+                Ok(Kind::Folder)
+            }
+            Ok(metadata) => Ok(kind_of(&metadata)),
+            Err(e) if is_absent(&e) => Ok(Kind::Neither),
+            Err(e) if e.kind() == ErrorKind::FilesystemLoop => {
+                warn!(self.rt; "{path} was passed over: it is a link that leads to itself");
+                Ok(Kind::Neither)
+            }
+            Err(e) => Err(unread(alloc, path, &e)?),
+        }
+    }
+
+    // Whether a folder is one of those that the names lead through.
+    fn is_on_way(&self, alloc: Global, names: &str, folder: &Metadata) -> Result<bool, FolderFault>
+        ensures err { IfErr result (IsFaultOfFolder true) }
+    {
+        let mut way = String::new(alloc);
+        for name in names.split('/') {
+            let path = self.path(alloc, way.as_str())?;
+            match fs::metadata(self.rt, path.as_str()) {
+                Ok(above) if is_same(&above, folder) => return Ok(true),
+                Ok(_) => {}
+                Err(e) => return Err(unread(alloc, path.as_str(), &e)?),
+            }
+            way.push_str(name)?;
+            way.push('/')?;
+        }
+        Ok(false)
+    }
+}
+
+impl<R: Log + Files + AllocGlobal> Folder for Disk<'_, R> {
+    ghost agrees = { λ _ _. ⊥ };
+
+    ghost can_fail = { λ _. true };
+
+    /// The bytes of the file, which is read to its end. What is no file has none.
+    ///
+    /// # Errors
+    /// `Unread` where the file is not looked at or not read. `OutOfMemory`.
+    fn document(&mut self, alloc: Global, key: &StoreKey) -> Result<Option<Vec<u8>>, FolderFault> {
+        let path = self.path(alloc, key.as_str())?;
+        match fs::metadata(self.rt, path.as_str()) {
+            Ok(metadata) if metadata.is_file() => {}
+            Ok(_) => return Ok(None),
+            Err(e) if is_absent(&e) => return Ok(None),
+            Err(e) => return Err(unread(alloc, path.as_str(), &e)?),
+        }
+        match bytes_of(alloc, self.rt, path.as_str()) {
+            Ok(bytes) => Ok(Some(bytes)),
+            Err(e) => Err(unread(alloc, path.as_str(), &e)?),
+        }
+    }
+
+    /// The folders in the folder, in descending order of their names.
+    ///
+    /// # Errors
+    /// `Unread` where the folder is not listed, a name in it is not UTF-8, or what stands there is not looked at. `OutOfMemory`.
+    fn children(
+        &mut self,
+        alloc: Global,
+        prefix: &StorePrefix,
+    ) -> Result<Vec<StorePrefix>, FolderFault> {
+        let mut children = Vec::new(alloc);
+        for mut names in self.names(alloc, prefix.as_str())? {
+            if let Kind::Folder = self.kind(alloc, names.as_str())? {
+                names.push('/')?;
+                children.push(prefix_of(alloc, names)?)?;
+            }
+        }
+        children.sort_unstable();
+        children.reverse();
+        Ok(children)
+    }
+
+    /// The key of the first file that a search comes upon. No file is opened.
+    ///
+    /// # Errors
+    /// `Unread` where a folder on the way of the search is not listed, a name in it is not UTF-8, or what stands there is not looked at.
+    /// `OutOfMemory`.
+    fn any_below(
+        &mut self,
+        alloc: Global,
+        prefix: &StorePrefix,
+    ) -> Result<Option<StoreKey>, FolderFault> {
+        let mut ahead = self.names(alloc, prefix.as_str())?;
+        for _turn in 0..u64::MAX {
+            let Some(mut names) = ahead.pop() else {
+                return Ok(None);
+            };
+            match self.kind(alloc, names.as_str())? {
+                Kind::File => return Ok(Some(key_of(alloc, names)?)),
+                Kind::Folder => {
+                    names.push('/')?;
+                    let mut below = self.names(alloc, names.as_str())?;
+                    ahead.append(&mut below)?;
+                }
+                Kind::Neither => {}
+            }
+        }
+        Err(FolderFault::OutOfMemory)
+    }
+}
+
+// All bytes of a file.
+fn bytes_of<R: Files>(alloc: Global, rt: &R, path: &str) -> io::Result<Vec<u8>> {
+    let mut file = File::open(rt, path)?;
+    let mut bytes = Vec::new(alloc);
+    file.read_to_end(&mut bytes)?;
+    Ok(bytes)
+}
+
+// What stands where there is no link.
+fn kind_of(metadata: &Metadata) -> Kind {
+    if metadata.is_dir() {
+        return Kind::Folder;
+    }
+    if metadata.is_file() {
+        return Kind::File;
+    }
+    Kind::Neither
+}
+
+// Whether both are of one folder.
+fn is_same(one: &Metadata, other: &Metadata) -> bool {
+    one.dev() == other.dev() && one.ino() == other.ino()
+}
+
+// A name behind the text of a prefix.
+fn joined(alloc: Global, prefix: &str, name: &str) -> Result<String, AllocError> {
+    let mut names = String::from_str(alloc, prefix)?;
+    names.push_str(name)?;
+    Ok(names)
+}
+
+// The prefix with this text. A system whose names make none is refused.
+fn prefix_of(alloc: Global, text: String) -> Result<StorePrefix, FolderFault>
+    ensures err { IfErr result (IsFaultOfFolder true) }
+{
+    if !StorePrefix::validate(text.as_str()) {
+        return Err(refused(alloc, text.as_str(), "its names are no store prefix")?);
+    }
+    Ok(StorePrefix::new_unchecked(text))
+}
+
+// The key with this text. A system whose names make none is refused.
+fn key_of(alloc: Global, text: String) -> Result<StoreKey, FolderFault>
+    ensures err { IfErr result (IsFaultOfFolder true) }
+{
+    if !StoreKey::validate(text.as_str()) {
+        return Err(refused(alloc, text.as_str(), "its names are no store key")?);
+    }
+    Ok(StoreKey::new_unchecked(text))
+}
+
+// Whether nothing stands at a path.
+fn is_absent(error: &io::Error) -> bool {
+    error.kind() == ErrorKind::NotFound || error.kind() == ErrorKind::NotADirectory
+}
+
+// Why the names in a folder are not read. A name that is not UTF-8 is told by a kind without the system's number.
+fn unlisted(alloc: Global, path: &str, error: &io::Error) -> Result<FolderFault, AllocError>
+    ensures { IfOk result (IsFaultOfFolder true) }
+{
+    if error.kind() == ErrorKind::InvalidFilename && error.raw_os_error().is_none() {
+        return refused(alloc, path, "a name in it is not UTF-8");
+    }
+    unread(alloc, path, error)
+}
+
+// Why a folder or a file is not read, in the system's words.
+fn unread(alloc: Global, path: &str, error: &io::Error) -> Result<FolderFault, AllocError>
+    ensures { IfOk result (IsFaultOfFolder true) }
+{
+    if error.kind() == ErrorKind::OutOfMemory {
+        return Ok(FolderFault::OutOfMemory);
+    }
+    let text = format!(in alloc; "{error}")?;
+    match text.as_str().split_once(" (os error ") {
+        Some((words, _)) => refused(alloc, path, words),
+        None => refused(alloc, path, text.as_str()),
+    }
+}
+
+// Names the folder or the file that is not read, and why.
+fn refused(alloc: Global, path: &str, why: &str) -> Result<FolderFault, AllocError>
+    ensures { IfOk result (IsFaultOfFolder true) }
+{
+    Ok(FolderFault::Unread {
+        path: String::from_str(alloc, path)?,
+        why: String::from_str(alloc, why)?,
+    })
+}

@@ -1,0 +1,17 @@
+//! The store of a folder, as far as its nodes need it: the documents of each node, and one key of what lies beside nodes. No chunk is looked at.
+//! What it shows is what the whole folder would show, by a law.
+#![tactic(auto)]
+
+mod disk;
+mod fault;
+mod folder;
+pub mod laws;
+mod memory;
+mod nodes;
+mod progress;
+
+pub use disk::Disk;
+pub use fault::FolderFault;
+pub use folder::Folder;
+pub use nodes::{load_base, load_below, load_nodes};
+pub use progress::Progress;

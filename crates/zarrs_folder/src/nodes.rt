@@ -1,0 +1,317 @@
+//! The part of a folder's store that its nodes need.
+ghost use Rattle.std.specs.Prelude.{◌≡◌, ◌++◌, ◌∷◌, [], false, None, IsTrue, IsSome, IfOk, IfErr, IfSome, OnOk};
+ghost use Rattle.zarrs_store.specs.Segments.{is_segment};
+ghost use Rattle.zarrs_store.specs.Contents.{Values, HasBelow};
+ghost use Rattle.zarrs_meta.specs.Node.{is_group};
+ghost use Rattle.zarrs_config.specs.declared.version.MetadataRetrieveVersion.TheVariants.{Default};
+ghost use Rattle.zarrs_block.specs.Meaning.{meaning, node};
+ghost use Rattle.zarrs_folder.specs.Folders.{in_any, values_of, IsFaultOfFolder};
+ghost use Rattle.zarrs_folder.specs.PrunedStores.{HasBaseOf, HasNoOtherKeys, HasSameFile, HasSameFiles, IsLoadedFrom};
+ghost use Rattle.zarrs_folder.specs.StepsOfLoadingNodes.{Grows, IsLoadedButAhead};
+
+use crate::fault::FolderFault;
+use crate::folder::Folder;
+use std::alloc::{AllocError, Global};
+use zarrs_block::NodeCreateError;
+use zarrs_config::MetadataRetrieveVersion;
+use zarrs_meta::NodeMetadata;
+use zarrs_node::Node;
+use zarrs_path::{NodePath, NodePathError};
+use zarrs_store::{AnyNumbers, MemoryStore, ReadableStorageTraits, StorageError, StorePrefix};
+
+/// The store of the files below a folder, as far as a walk from a path on looks at it: the five documents of the path and of each folder that
+/// is reached from it through groups, and one key below each folder without documents that holds a file. Only groups are listed, and the path
+/// itself where it is no array. Nothing below an array or a bad document is looked at, nor below what is no path. Keys beside documents have
+/// no bytes.
+///
+/// # Errors
+/// `Unread`, of a folder that can fail, where a folder or a file is not read that the walk comes to. `OutOfMemory`.
+///
+/// Source: own; Zarr core specification 3.1, "Hierarchy".
+pub fn load_nodes<F: Folder>(
+    alloc: Global,
+    folder: &mut F,
+    base: &NodePath,
+) -> Result<AnyNumbers<MemoryStore>, FolderFault>
+    ensures ok { IfOk result (λ store. (V : Values) → F.agrees folder.new V
+        → IsLoadedFrom (in_any V) (in_any (values_of store.inner)) base.now) }
+    ensures before { (V : Values) → F.agrees folder.new V → F.agrees folder.old V }
+    ensures err { IfErr result (IsFaultOfFolder (F.can_fail folder.new)) }
+{
+    let store = load_base(alloc, folder, base)?;
+    load_below(alloc, folder, base, store)
+}
+
+/// The five documents of a path, without anything else: all that is needed where the path has a block that is used.
+///
+/// # Errors
+/// `Unread`, of a folder that can fail, where a document is not read. `OutOfMemory`.
+///
+/// Source: own; Zarr core specification 3.1, "Metadata".
+pub fn load_base<F: Folder>(
+    alloc: Global,
+    folder: &mut F,
+    base: &NodePath,
+) -> Result<AnyNumbers<MemoryStore>, FolderFault>
+    ensures ok { IfOk result (λ store. (V : Values) → F.agrees folder.new V
+        → HasBaseOf (in_any V) (in_any (values_of store.inner)) base.now) }
+    ensures before { (V : Values) → F.agrees folder.new V → F.agrees folder.old V }
+    ensures err { IfErr result (IsFaultOfFolder (F.can_fail folder.new)) }
+{
+    let mut store = AnyNumbers {
+        inner: MemoryStore::new(alloc),
+    };
+    let prefix = base.to_prefix(alloc)?;
+    read_documents(alloc, folder, &prefix, &mut store)?;
+    Ok(store)
+}
+
+/// What [`load_nodes`] answers, by a store that has the documents of the path already.
+///
+/// # Errors
+/// `Unread`, of a folder that can fail, where a folder or a file is not read that the walk comes to. `OutOfMemory`.
+///
+/// Source: own; Zarr core specification 3.1, "Hierarchy".
+pub fn load_below<F: Folder>(
+    alloc: Global,
+    folder: &mut F,
+    base: &NodePath,
+    store: AnyNumbers<MemoryStore>,
+) -> Result<AnyNumbers<MemoryStore>, FolderFault>
+    ensures ok { IfOk result (λ loaded. (V : Values) → F.agrees folder.new V
+        → HasBaseOf (in_any V) (in_any (values_of store.inner)) base.now
+        → IsLoadedFrom (in_any V) (in_any (values_of loaded.inner)) base.now) }
+    ensures before { (V : Values) → F.agrees folder.new V → F.agrees folder.old V }
+    ensures err { IfErr result (IsFaultOfFolder (F.can_fail folder.new)) }
+{
+    let mut loaded = store;
+    if is_array(&find(alloc, &loaded, base)?) {
+        return Ok(loaded);
+    }
+    let prefix = base.to_prefix(alloc)?;
+    let mut ahead = folder.children(alloc, &prefix)?;
+    walk(alloc, folder, base, &mut ahead, &mut loaded)?;
+    Ok(loaded)
+}
+
+// Loads what lies ahead, until nothing does. There is no bound: memory does not hold as many prefixes as there are turns.
+fn walk<F: Folder>(
+    alloc: Global,
+    folder: &mut F,
+    base: &NodePath,
+    ahead: &mut Vec<StorePrefix>,
+    loaded: &mut AnyNumbers<MemoryStore>,
+) -> Result<(), FolderFault>
+    ensures ok { OnOk result ((V : Values) → F.agrees folder.new V
+        → IsLoadedButAhead V base.now (values_of loaded.old.inner) ahead.old.items
+        → IsLoadedButAhead V base.now (values_of loaded.new.inner) []) }
+    ensures before { (V : Values) → F.agrees folder.new V → F.agrees folder.old V }
+    ensures err { IfErr result (IsFaultOfFolder (F.can_fail folder.new)) }
+{
+    for _turn in 0..u64::MAX {
+        let Some(next) = ahead.pop() else {
+            return Ok(());
+        };
+        look(alloc, folder, base, next, ahead, loaded)?;
+    }
+    Err(FolderFault::OutOfMemory)
+}
+
+// Loads what a prefix holds, and puts what is then to be looked at on the stack.
+fn look<F: Folder>(
+    alloc: Global,
+    folder: &mut F,
+    base: &NodePath,
+    prefix: StorePrefix,
+    ahead: &mut Vec<StorePrefix>,
+    loaded: &mut AnyNumbers<MemoryStore>,
+) -> Result<(), FolderFault>
+    ensures ok { OnOk result ((V : Values) → F.agrees folder.new V
+        → IsLoadedButAhead V base.now (values_of loaded.old.inner) (ahead.old.items ++ prefix ∷ [])
+        → IsLoadedButAhead V base.now (values_of loaded.new.inner) ahead.new.items) }
+    ensures before { (V : Values) → F.agrees folder.new V → F.agrees folder.old V }
+    ensures err { IfErr result (IsFaultOfFolder (F.can_fail folder.new)) }
+{
+    let _valid = base.as_str();
+    match NodePath::from_prefix(alloc, &prefix) {
+        Ok(path) => look_at(alloc, folder, base, &path, &prefix, ahead, loaded),
+        Err(NodePathError::Invalid(_)) => keep_one(alloc, folder, &prefix, loaded),
+        Err(NodePathError::OutOfMemory) => Err(FolderFault::OutOfMemory),
+    }
+}
+
+// The same, of the prefix of a path. One that is not below the base is passed over.
+fn look_at<F: Folder>(
+    alloc: Global,
+    folder: &mut F,
+    base: &NodePath,
+    path: &NodePath,
+    prefix: &StorePrefix,
+    ahead: &mut Vec<StorePrefix>,
+    loaded: &mut AnyNumbers<MemoryStore>,
+) -> Result<(), FolderFault>
+    requires { path.now ≡ prefix.now }
+    ensures ok { OnOk result ((V : Values) → F.agrees folder.new V
+        → IsLoadedButAhead V base.now
+        (values_of loaded.old.inner) (ahead.old.items ++ prefix.now ∷ [])
+        → IsLoadedButAhead V base.now (values_of loaded.new.inner) ahead.new.items) }
+    ensures before { (V : Values) → F.agrees folder.new V → F.agrees folder.old V }
+    ensures err { IfErr result (IsFaultOfFolder (F.can_fail folder.new)) }
+{
+    if !path.is_below(base) {
+        return Ok(());
+    }
+    load_at(alloc, folder, prefix, loaded)?;
+    if !is_group(&find(alloc, loaded, path)?) {
+        return Ok(());
+    }
+    let mut children = folder.children(alloc, prefix)?;
+    ahead.append(&mut children)?;
+    Ok(())
+}
+
+// Loads the documents at a prefix, or where there is none some key below it.
+fn load_at<F: Folder>(
+    alloc: Global,
+    folder: &mut F,
+    prefix: &StorePrefix,
+    loaded: &mut AnyNumbers<MemoryStore>,
+) -> Result<(), FolderFault>
+    ensures grows { OnOk result ((V : Values) → F.agrees folder.new V
+        → Grows V (values_of loaded.old.inner) (values_of loaded.new.inner)) }
+    ensures got { OnOk result ((V : Values) → F.agrees folder.new V
+        → HasNoOtherKeys V (values_of loaded.old.inner)
+        → HasSameFiles V (values_of loaded.new.inner) prefix.now) }
+    ensures below { OnOk result ((V : Values) → F.agrees folder.new V
+        → HasBelow V prefix.now → HasBelow (values_of loaded.new.inner) prefix.now) }
+    ensures before { (V : Values) → F.agrees folder.new V → F.agrees folder.old V }
+    ensures err { IfErr result (IsFaultOfFolder (F.can_fail folder.new)) }
+{
+    if read_documents(alloc, folder, prefix, loaded)? {
+        return Ok(());
+    }
+    keep_one(alloc, folder, prefix, loaded)
+}
+
+// What a path means in what is loaded, where it is a node.
+fn find(
+    alloc: Global,
+    loaded: &AnyNumbers<MemoryStore>,
+    path: &NodePath,
+) -> Result<Option<NodeMetadata>, AllocError>
+    ensures some { IfOk result (λ found. IfSome found
+        (λ m. meaning (in_any (values_of loaded.now.inner)) Default path.now ≡ node m)) }
+    ensures none { IfOk result (λ found. found ≡ None → (m : NodeMetadata)
+        → meaning (in_any (values_of loaded.now.inner)) Default path.now ≡ node m → ⊥) }
+{
+    match Node::get_metadata(alloc, loaded, path, &MetadataRetrieveVersion::Default) {
+        Ok(metadata) => Ok(Some(metadata)),
+        Err(NodeCreateError::MissingMetadata(_)) => Ok(None),
+        Err(NodeCreateError::MetadataVersionMismatch) => Ok(None),
+        Err(NodeCreateError::StorageError(StorageError::InvalidMetadata(_, _))) => Ok(None),
+        Err(_) => Err(AllocError),
+    }
+}
+
+// Whether a group was found.
+fn is_group(found: &Option<NodeMetadata>) -> bool
+    ensures { result ≡ false → IfSome found.now (λ m. is_group m ≡ false) }
+{
+    match found {
+        Some(metadata) => metadata.is_group(),
+        None => false,
+    }
+}
+
+// Whether an array was found.
+fn is_array(found: &Option<NodeMetadata>) -> bool
+    ensures some { IsTrue result → IsSome found.now }
+    ensures kind { IsTrue result → IfSome found.now (λ m. is_group m ≡ false) }
+{
+    match found {
+        Some(metadata) => !metadata.is_group(),
+        None => false,
+    }
+}
+
+// Loads the documents at a prefix, and tells whether there is any.
+fn read_documents<F: Folder>(
+    alloc: Global,
+    folder: &mut F,
+    prefix: &StorePrefix,
+    loaded: &mut AnyNumbers<MemoryStore>,
+) -> Result<bool, FolderFault>
+    ensures grows { OnOk result ((V : Values) → F.agrees folder.new V
+        → Grows V (values_of loaded.old.inner) (values_of loaded.new.inner)) }
+    ensures got { OnOk result ((V : Values) → F.agrees folder.new V
+        → HasNoOtherKeys V (values_of loaded.old.inner)
+        → HasSameFiles V (values_of loaded.new.inner) prefix.now) }
+    ensures any { IfOk result
+        (λ any. IsTrue any → HasBelow (values_of loaded.new.inner) prefix.now) }
+    ensures before { (V : Values) → F.agrees folder.new V → F.agrees folder.old V }
+    ensures err { IfErr result (IsFaultOfFolder (F.can_fail folder.new)) }
+{
+    let any = read_document(alloc, folder, prefix, "zarr.json", false, loaded)?;
+    let any = read_document(alloc, folder, prefix, ".zarray", any, loaded)?;
+    let any = read_document(alloc, folder, prefix, ".zgroup", any, loaded)?;
+    let any = read_document(alloc, folder, prefix, ".zattrs", any, loaded)?;
+    read_document(alloc, folder, prefix, ".zmetadata", any, loaded)
+}
+
+// Loads the document with a name, and tells whether it, or any before it, is there.
+fn read_document<F: Folder>(
+    alloc: Global,
+    folder: &mut F,
+    prefix: &StorePrefix,
+    file: &str,
+    any: bool,
+    loaded: &mut AnyNumbers<MemoryStore>,
+) -> Result<bool, FolderFault>
+    requires { IsTrue (is_segment file.now) }
+    ensures grows { OnOk result ((V : Values) → F.agrees folder.new V
+        → Grows V (values_of loaded.old.inner) (values_of loaded.new.inner)) }
+    ensures got { OnOk result ((V : Values) → F.agrees folder.new V
+        → HasNoOtherKeys V (values_of loaded.old.inner)
+        → HasSameFile V (values_of loaded.new.inner) prefix.now file.now) }
+    ensures any { IfOk result (λ found.
+        (IsTrue any → HasBelow (values_of loaded.old.inner) prefix.now)
+        → IsTrue found → HasBelow (values_of loaded.new.inner) prefix.now) }
+    ensures before { (V : Values) → F.agrees folder.new V → F.agrees folder.old V }
+    ensures err { IfErr result (IsFaultOfFolder (F.can_fail folder.new)) }
+{
+    let key = prefix.key_in(String::new(alloc), file)?;
+    match folder.document(alloc, &key)? {
+        Some(bytes) => {
+            loaded.inner.insert(key, bytes)?;
+            Ok(true)
+        }
+        None => Ok(any),
+    }
+}
+
+// Loads some key below a prefix, where there is one. It gets no bytes, and where it is loaded already it keeps those it has.
+fn keep_one<F: Folder>(
+    alloc: Global,
+    folder: &mut F,
+    prefix: &StorePrefix,
+    loaded: &mut AnyNumbers<MemoryStore>,
+) -> Result<(), FolderFault>
+    ensures grows { OnOk result ((V : Values) → F.agrees folder.new V
+        → Grows V (values_of loaded.old.inner) (values_of loaded.new.inner)) }
+    ensures below { OnOk result ((V : Values) → F.agrees folder.new V
+        → HasBelow V prefix.now → HasBelow (values_of loaded.new.inner) prefix.now) }
+    ensures before { (V : Values) → F.agrees folder.new V → F.agrees folder.old V }
+    ensures err { IfErr result (IsFaultOfFolder (F.can_fail folder.new)) }
+{
+    let Some(key) = folder.any_below(alloc, prefix)? else {
+        return Ok(());
+    };
+    match loaded.inner.get(alloc, &key) {
+        Ok(Some(_)) => Ok(()),
+        Ok(None) => {
+            loaded.inner.insert(key, Vec::new(alloc))?;
+            Ok(())
+        }
+        Err(_) => Err(FolderFault::OutOfMemory),
+    }
+}
