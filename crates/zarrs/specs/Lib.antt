@@ -1,0 +1,9 @@
+pub mod Escapes
+pub mod Words
+pub mod Texts
+pub mod NodeLines
+pub mod Report
+pub mod Output
+pub mod Refusals
+pub mod StepsOfReports
+pub mod StepsOfRuns

@@ -1,0 +1,50 @@
+-- Steps of a run of the program: what private calls ask and refuse; no public contract rests on them.
+use Rattle.std.specs.Prelude.{◌⊎◌, Bool, false, ⊤, Option, String, string_bytes}
+use Rattle.std.specs.declared.alloc.Global.{Global}
+use Rattle.zarrs_store.specs.Contents.{Contents, Values}
+use Rattle.zarrs_path.specs.Paths.{Path}
+use Rattle.zarrs_block.specs.declared.node_create_error.NodeCreateError.{NodeCreateError}
+use Rattle.zarrs_config.specs.declared.version.UseConsolidatedMetadata.TheVariants.{Auto, Never}
+use Rattle.zarrs_folder.specs.Folders.{in_any}
+use Rattle.zarrs_folder.specs.Openings.{OpenSame}
+use Rattle.zarrs_folder.specs.PrunedStores.{IsLoadedFrom}
+use Rattle.zarrs.specs.declared.words.Word.{Word}
+use Rattle.zarrs.specs.declared.words.Word.TheVariants.{Tree, StoreTree, List as ListAll, Check}
+use Rattle.zarrs.specs.declared.fault.ZarrsFault.{ZarrsFault}
+use Rattle.zarrs.specs.declared.fault.ZarrsFault.TheVariants.{Node, OutOfMemory}
+use Rattle.zarrs.specs.declared.report.Tally.{Tally}
+use Rattle.zarrs.specs.Output.{IsWordText}
+use Rattle.zarrs.specs.Refusals.{RefusesFolder, RefusesAnswer}
+
+-- the fault holds an error that refuses; or out of memory
+abbrev pub HoldsRefusal : (NodeCreateError → Type 0) → ZarrsFault → Type 0
+HoldsRefusal refuses (Node e) = refuses e
+HoldsRefusal refuses OutOfMemory = ⊤
+HoldsRefusal refuses _ = ⊥
+
+-- the calls of a word refuse the path, or out of memory
+abbrev pub IsAnswerFault : Bool → Word → Contents → Path → ZarrsFault → Type 0
+IsAnswerFault can_fail word store base = HoldsRefusal (RefusesAnswer can_fail word store base)
+
+-- L has enough of S for what the word asks from b on: it opens there as S does, or it is loaded from S
+abbrev pub IsEnough : Word → Contents → Contents → Path → Type 0
+IsEnough Tree S L b = OpenSame S L Auto b
+IsEnough StoreTree S L b = OpenSame S L Never b
+IsEnough ListAll S L b = OpenSame S L Never b
+IsEnough Check S L b = IsLoadedFrom S L b
+
+-- what was made for a word of some store
+abbrev pub IsWrittenOfSome : Word → Path → Option Tally × String Global → Type 0
+IsWrittenOfSome word b made = (values : Values) × IsWordText word (in_any values) b made.0 (string_bytes made.1)
+
+-- what was made for a word of each store that holds what P says
+abbrev pub IsWrittenOfEach : Word → Path → (Values → Type 0) → Option Tally × String Global → Type 0
+IsWrittenOfEach word b P made = (values : Values) → P values → IsWordText word (in_any values) b made.0 (string_bytes made.1)
+
+-- the folder was not read; or the calls of a word refuse the path in some store
+abbrev pub IsFaultOfSome : Word → Path → ZarrsFault → Type 0
+IsFaultOfSome word b fault = RefusesFolder fault ⊎ ((values : Values) × IsAnswerFault false word (in_any values) b fault)
+
+-- the folder was not read; or the calls of a word refuse the path in each store that holds what P says
+abbrev pub IsFaultOfEach : Word → Path → (Values → Type 0) → ZarrsFault → Type 0
+IsFaultOfEach word b P fault = RefusesFolder fault ⊎ ((values : Values) → P values → IsAnswerFault false word (in_any values) b fault)

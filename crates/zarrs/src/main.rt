@@ -1,0 +1,197 @@
+//! Shows what a store has, in a folder or in an image on standard input: its tree, the paths of its nodes, and what is bad in it or in its blocks.
+#![tactic(auto)]
+
+ghost use Rattle.std.specs.Prelude.{◌≡◌, ◌≢◌, ◌⊎◌, Option, None, IfOk, IfErr};
+ghost use Rattle.std.specs.Io.KnownBytes.{Appends, Keeps};
+ghost use Rattle.zarrs_program.specs.Words.{texts};
+ghost use Rattle.zarrs.specs.Words.{AreWords};
+ghost use Rattle.zarrs.specs.Output.{WritesAsked, WritesOverSome, WritesOverSource};
+ghost use Rattle.zarrs.specs.Refusals.{RefusesAsked, RefusesOverSome, RefusesOverSource, tally_status};
+
+#[cfg(test)]
+mod asserts;
+mod escapes;
+#[cfg(test)]
+mod escapes_tests;
+mod fault;
+mod finish;
+mod folder;
+#[cfg(test)]
+mod folder_tests;
+#[cfg(test)]
+mod fractions_tests;
+mod image;
+mod nowhere;
+mod remark;
+mod report;
+mod run;
+mod shown;
+#[cfg(test)]
+mod shown_tests;
+#[cfg(test)]
+mod tests;
+mod texts;
+#[cfg(test)]
+mod texts_tests;
+mod usage;
+mod warnings;
+mod words;
+#[cfg(test)]
+mod words_tests;
+
+use crate::fault::ZarrsFault;
+use crate::finish::finish;
+use crate::folder::run_of_folder;
+use crate::nowhere::{nowhere_in_folder, nowhere_in_image};
+use crate::report::Tally;
+use crate::run::run_of_image;
+use crate::usage::{USAGE, VERSION};
+use crate::warnings::Warnings;
+use crate::words::{Asked, Command, Word, parse};
+use log::{Level, Log, Logged};
+use std::io;
+use std::io::{Read, Write};
+use std::process::ExitCode;
+use std::rt::Files;
+use zarrs_block::NodeCreateError;
+use zarrs_folder::Disk;
+use zarrs_program::{words, write_whole};
+
+fn main(rt: HostRuntime) -> ExitCode {
+    let log = Logged::new(&rt, Level::Warn, Warnings(&rt));
+    let mut errors = rt.stderr();
+    let status = match words(&rt) {
+        Ok(words) => answer(
+            &log,
+            &words,
+            &mut rt.reader(),
+            &mut io::writer(&rt),
+            &mut errors,
+        ),
+        Err(fault) => finish(
+            rt.alloc(),
+            &Err(ZarrsFault::from(fault)),
+            &None,
+            &mut errors,
+        ),
+    };
+    ExitCode::from(status)
+}
+
+/// Writes what the words ask, and on standard error how much a check looked at and found, or why the run is refused. It handles every error itself and returns
+/// only the exit status: 0 where all is done, 1 where a check has findings, and 2 where the run is refused.
+pub fn answer<R: Log + Files + AllocGlobal, I: Read, W: Write, E: Write>(
+    rt: &R,
+    words: &[String],
+    reader: &mut I,
+    output: &mut W,
+    errors: &mut E,
+) -> u8
+    ensures done { result ≡ 0 → (tally : Option Tally) × (tally_status tally ≡ 0)
+        × WritesAsked (texts words.now) (I.remaining reader.old)
+        (W.contents output.old) (W.contents output.new) tally }
+    ensures found { result ≡ 1 → (tally : Option Tally) × (tally_status tally ≡ 1)
+        × WritesAsked (texts words.now) (I.remaining reader.old)
+        (W.contents output.old) (W.contents output.new) tally }
+    ensures refused { result ≡ 2 → (fault : ZarrsFault)
+        × RefusesAsked (texts words.now)
+        (I.remaining reader.old) (I.remaining reader.new) fault
+        × (fault ≢ ZarrsFault.Write → Keeps (W.contents output.old) (W.contents output.new)) }
+    ensures usage { (AreWords (texts words.now) → ⊥) → result ≡ 2 }
+    ensures status { (result ≡ 0) ⊎ (result ≡ 1) ⊎ (result ≡ 2) }
+{
+    let outcome = run_words(rt, words, reader, output);
+    let no_node = no_node(rt, words, &outcome);
+    finish(rt.alloc(), &outcome, &no_node, errors)
+}
+
+// Writes what the words ask.
+fn run_words<R: Log + Files + AllocGlobal, I: Read, W: Write>(
+    rt: &R,
+    words: &[String],
+    reader: &mut I,
+    output: &mut W,
+) -> Result<Option<Tally>, ZarrsFault>
+    ensures ok { IfOk result (WritesAsked (texts words.now) (I.remaining reader.old)
+        (W.contents output.old) (W.contents output.new)) }
+    ensures refused { IfErr result (RefusesAsked (texts words.now)
+        (I.remaining reader.old) (I.remaining reader.new)) }
+    ensures silent { IfErr result (λ fault. fault ≢ ZarrsFault.Write
+        → Keeps (W.contents output.old) (W.contents output.new)) }
+{
+    match parse(words)? {
+        Asked::Help => write_alone(USAGE, output),
+        Asked::Version => write_alone(VERSION, output),
+        Asked::Store(command) => run_command(rt, &command, reader, output),
+    }
+}
+
+// Writes a text that is about no store.
+fn write_alone<W: Write>(text: &str, output: &mut W) -> Result<Option<Tally>, ZarrsFault>
+    ensures none { IfOk result (λ tally. tally ≡ None) }
+    ensures ok { IfOk result
+        (λ _. Appends (W.contents output.old) (W.contents output.new) text.now) }
+    ensures err { IfErr result (λ fault. fault ≡ ZarrsFault.Write) }
+{
+    write_whole(text.as_bytes(), output)?;
+    Ok(None)
+}
+
+// Writes what a word asks of the store that a source names.
+fn run_command<R: Log + Files + AllocGlobal, I: Read, W: Write>(
+    rt: &R,
+    command: &Command<'_>,
+    reader: &mut I,
+    output: &mut W,
+) -> Result<Option<Tally>, ZarrsFault>
+    ensures ok { IfOk result (WritesOverSource
+        command.now.word command.now.source.now command.now.path.now
+        (I.remaining reader.old) (W.contents output.old) (W.contents output.new)) }
+    ensures refused { IfErr result (RefusesOverSource
+        command.now.word command.now.source.now command.now.path.now
+        (I.remaining reader.old) (I.remaining reader.new)) }
+    ensures silent { IfErr result (λ fault. fault ≢ ZarrsFault.Write
+        → Keeps (W.contents output.old) (W.contents output.new)) }
+{
+    if command.source == "-" {
+        return run_of_image(rt, rt.alloc(), command.word, command.path, reader, output);
+    }
+    run_disk(rt, command.word, command.source, command.path, output)
+}
+
+// Writes what a word asks of a folder of the system.
+fn run_disk<R: Log + Files + AllocGlobal, W: Write>(
+    rt: &R,
+    word: Word,
+    source: &str,
+    path: &str,
+    output: &mut W,
+) -> Result<Option<Tally>, ZarrsFault>
+    ensures ok { IfOk result
+        (WritesOverSome word path.now (W.contents output.old) (W.contents output.new)) }
+    ensures refused { IfErr result (RefusesOverSome word path.now) }
+    ensures silent { IfErr result (λ fault. fault ≢ ZarrsFault.Write
+        → Keeps (W.contents output.old) (W.contents output.new)) }
+{
+    let mut disk = Disk::open(rt, source)?;
+    run_of_folder(rt, rt.alloc(), word, path, &mut disk, output)
+}
+
+// What is said where there is no node at the path that the words name.
+fn no_node<R: Log + Files + AllocGlobal>(
+    rt: &R,
+    words: &[String],
+    outcome: &Result<Option<Tally>, ZarrsFault>,
+) -> Option<String> {
+    let Err(ZarrsFault::Node(NodeCreateError::MissingMetadata(_))) = outcome else {
+        return None;
+    };
+    let Ok(Asked::Store(command)) = parse(words) else {
+        return None;
+    };
+    if command.source == "-" {
+        return nowhere_in_image(rt.alloc(), command.path).ok();
+    }
+    let mut disk = Disk::open(rt, command.source).ok()?;
+    nowhere_in_folder(rt.alloc(), command.source, &mut disk, command.path).ok()
+}

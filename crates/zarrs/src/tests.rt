@@ -1,0 +1,603 @@
+//! What the program answers, row by row, and readers and writers that fail.
+use crate::asserts::{assert_ran, assert_refused, assert_text};
+use crate::fault::ZarrsFault;
+use crate::finish::finish;
+use crate::image::load_image;
+use crate::run::{run_of_image, run_store};
+use crate::words::Word;
+use log::sink::{Discard, Writer};
+use std::alloc::{AllocError, Global};
+use std::io;
+use std::io::{Error, ErrorKind, Read, Write};
+use std::process::Abort;
+use zarrs_folder::FolderFault;
+use zarrs_load::LoadFault;
+
+pub(crate) const GROUP: &str = r#"{"node_type":"group","zarr_format":3}"#;
+
+pub(crate) const ARRAY: &str =
+    r#"{"chunk_grid":{"configuration":{"chunk_shape":[10,10]},"name":"regular"},"chunk_key_encoding":{"configuration":{"separator":"/"},"name":"default"},"codecs":[{"configuration":{"endian":"little"},"name":"bytes"}],"data_type":"float32","fill_value":0,"node_type":"array","shape":[10,10],"zarr_format":3}"#;
+
+// An array of which nothing else is said.
+const NO_SHAPE: &str = r#"{"node_type":"array","zarr_format":3}"#;
+
+// Groups of version 2, without and with attributes.
+const GROUP_V2: &str = r#"{"zarr_format":2}"#;
+
+const ONE: &str = r#"{"k":1}"#;
+
+const TWO: &str = r#"{"k":2}"#;
+
+// Of version 2, the block of a group that has a group with the attributes `ONE`.
+const BLOCK_V2: &str =
+    r#"{"metadata":{".zgroup":{"zarr_format":2},"a/.zattrs":{"k":1},"a/.zgroup":{"zarr_format":2}},"zarr_consolidated_format":1}"#;
+
+// The entries of blocks: an array, or groups.
+const EMPTY: &str = "";
+
+const A: &str = r#""a":{"node_type":"group","zarr_format":3}"#;
+
+const A_AND_X: &str =
+    r#""a":{"node_type":"group","zarr_format":3},"a/x":{"node_type":"group","zarr_format":3}"#;
+
+const X: &str = r#""x":{"node_type":"group","zarr_format":3}"#;
+
+const X_Y: &str = r#""x/y":{"node_type":"group","zarr_format":3}"#;
+
+const BAD_KEY: &str = r#""a//b":{"node_type":"group","zarr_format":3}"#;
+
+const SHADOWED: &str =
+    r#""/a":{"node_type":"group","zarr_format":3},"a":{"node_type":"group","zarr_format":3}"#;
+
+// Entries of which each is wrong in another way, where there are an array `d` and a group `c`.
+const ALL: &str =
+    r#""/b":{"node_type":"group","zarr_format":3},"a//b":{"node_type":"group","zarr_format":3},"b":{"node_type":"group","zarr_format":3},"d":{"node_type":"group","zarr_format":3},"e/f":{"node_type":"group","zarr_format":3}"#;
+
+const BAD_BLOCK: &str =
+    r#"{"consolidated_metadata":{"kind":1,"metadata":{},"must_understand":false},"node_type":"group","zarr_format":3}"#;
+
+// A reader of one byte a read, which fails at one of them.
+#[derive(Drop)]
+struct OneByOne<'a> {
+    rest: &'a [u8],
+    reads_before_fault: Option<u32>,
+}
+
+impl Read for OneByOne<'_> {
+    fn read(&mut self, buf: &mut [u8]) -> io::Result<usize> {
+        match self.reads_before_fault {
+            Some(0) => return Err(Error::from(ErrorKind::Other)),
+            Some(n) => self.reads_before_fault = Some(n - 1),
+            None => {}
+        }
+        let ([first, rest @ ..], [slot, ..]) = (self.rest, buf) else {
+            return Ok(0);
+        };
+        *slot = *first;
+        self.rest = rest;
+        Ok(1)
+    }
+}
+
+// A writer that takes nothing.
+#[derive(Drop)]
+struct Full;
+
+impl Write for Full {
+    fn write(&mut self, _buf: &[u8]) -> io::Result<usize> {
+        Err(Error::from(ErrorKind::Other))
+    }
+
+    fn flush(&mut self) -> io::Result<()> {
+        Ok(())
+    }
+}
+
+// A writer that takes all bytes, and cannot hand them on.
+#[derive(Drop)]
+struct Unflushed;
+
+impl Write for Unflushed {
+    fn write(&mut self, buf: &[u8]) -> io::Result<usize> {
+        Ok(buf.len())
+    }
+
+    fn flush(&mut self) -> io::Result<()> {
+        Err(Error::from(ErrorKind::Other))
+    }
+}
+
+// What goes to the standard output and the standard error, and the status.
+pub(crate) fn run(
+    alloc: Global,
+    word: Word,
+    image: &str,
+    path: &str,
+) -> Result<(String, String, u8), AllocError> {
+    let mut output = Vec::new(alloc);
+    let mut errors = Vec::new(alloc);
+    let mut reader = image.as_bytes();
+    let outcome = run_of_image(&Discard, alloc, word, path, &mut reader, &mut output);
+    let status = finish(alloc, &outcome, &None, &mut errors);
+    Ok((
+        String::from_utf8_lossy(alloc, &output)?,
+        String::from_utf8_lossy(alloc, &errors)?,
+        status,
+    ))
+}
+
+// Appends a member with a document as its text.
+fn add_document(image: &mut String, key: &str, document: &str) -> Result<(), AllocError> {
+    if image.len() > 1 {
+        image.push(',')?;
+    }
+    image.push('"')?;
+    image.push_str(key)?;
+    image.push_str(r#"":""#)?;
+    for letter in document.chars() {
+        if letter == '"' {
+            image.push('\\')?;
+        }
+        image.push(letter)?;
+    }
+    image.push('"')
+}
+
+// An image of documents at these keys, and of a group with a block of these entries at each of these.
+pub(crate) fn image_of(
+    alloc: Global,
+    documents: &[(&str, &str)],
+    blocks: &[(&str, &str)],
+) -> Result<String, AllocError> {
+    let mut image = String::from_str(alloc, "{")?;
+    for (key, document) in documents {
+        add_document(&mut image, key, document)?;
+    }
+    for (key, entries) in blocks {
+        let mut group = String::from_str(
+            alloc,
+            r#"{"consolidated_metadata":{"kind":"inline","metadata":{"#,
+        )?;
+        group.push_str(entries)?;
+        group.push_str(r#"},"must_understand":false},"node_type":"group","zarr_format":3}"#)?;
+        add_document(&mut image, key, group.as_str())?;
+    }
+    image.push('}')?;
+    Ok(image)
+}
+
+// Asserts what the program answers of a path in an image of these documents and of groups with blocks of these entries.
+pub(crate) fn assert_answer<R: Abort + AllocGlobal>(
+    rt: &R,
+    documents: &[(&str, &str)],
+    blocks: &[(&str, &str)],
+    path: &str,
+    output: &str,
+    errors: &str,
+    status: u8,
+) {
+    let image = image_of(rt.alloc(), documents, blocks).expect(rt, "memory");
+    let ran = run(rt.alloc(), Word::Check, image.as_str(), path).expect(rt, "memory");
+    assert_ran(rt, output, &ran, output, errors, status);
+}
+
+#[test]
+fn the_fault_of_a_path_is_told(rt: HostRuntime) {
+    let root = ("zarr.json", GROUP);
+    assert_answer(
+        &rt,
+        &[root, ("a/zarr.json", GROUP)],
+        &[],
+        "/",
+        "",
+        "zarrs: 2 nodes, 0 findings\n",
+        0,
+    );
+    assert_answer(
+        &rt,
+        &[root, ("a/zarr.json", NO_SHAPE)],
+        &[],
+        "/",
+        "/a: error parsing metadata for a/zarr.json: missing member shape\n",
+        "zarrs: 1 node, 1 finding\n",
+        1,
+    );
+    assert_answer(
+        &rt,
+        &[root, ("a/zarr.json", GROUP), ("a/../x", "")],
+        &[],
+        "/",
+        "/a/..: invalid node path /a/..\n",
+        "zarrs: 2 nodes, 1 finding\n",
+        1,
+    );
+    assert_answer(
+        &rt,
+        &[root],
+        &[],
+        "/x",
+        "/x: Metadata is missing for /x\n",
+        "zarrs: 0 nodes, 1 finding\n",
+        1,
+    );
+    assert_answer(
+        &rt,
+        &[("a/zarr.json", GROUP)],
+        &[],
+        "/",
+        "/: Metadata is missing for /\n",
+        "zarrs: 1 node, 1 finding\n",
+        1,
+    );
+    assert_answer(
+        &rt,
+        &[
+            ("zarr.json", "x"),
+            ("a/zarr.json", "y"),
+            ("a-b/zarr.json", "z"),
+        ],
+        &[],
+        "/",
+        "/: error parsing metadata for zarr.json: not JSON\n/a: error parsing metadata for a/zarr.json: not JSON\n/a-b: error parsing metadata for a-b/zarr.json: not JSON\n",
+        "zarrs: 0 nodes, 3 findings\n",
+        1,
+    );
+    assert_answer(
+        &rt,
+        &[
+            ("zarr.json", ARRAY),
+            ("a/zarr.json", GROUP),
+            ("a/b/zarr.json", ARRAY),
+            ("a/b/c/zarr.json", "x"),
+        ],
+        &[],
+        "/",
+        "",
+        "zarrs: 1 node, 0 findings\n",
+        0,
+    );
+}
+
+#[test]
+fn each_kind_of_finding_is_told(rt: HostRuntime) {
+    let one = "zarrs: 1 node, 1 finding\n";
+    let two = "zarrs: 2 nodes, 1 finding\n";
+    let a = ("a/zarr.json", GROUP);
+    assert_answer(
+        &rt,
+        &[a],
+        &[("zarr.json", A)],
+        "/",
+        "",
+        "zarrs: 2 nodes, 0 findings\n",
+        0,
+    );
+    assert_answer(
+        &rt,
+        &[],
+        &[("zarr.json", A)],
+        "/",
+        "/a: stale: the block of / has it, and the store has not\n",
+        one,
+        1,
+    );
+    assert_answer(
+        &rt,
+        &[a],
+        &[("zarr.json", EMPTY)],
+        "/",
+        "/a: missing: the block of / has no entry of it\n",
+        two,
+        1,
+    );
+    assert_answer(
+        &rt,
+        &[("a/zarr.json", ARRAY)],
+        &[("zarr.json", A)],
+        "/",
+        "/a: differs: the block of / has other metadata than the store\n",
+        two,
+        1,
+    );
+    assert_answer(
+        &rt,
+        &[],
+        &[("zarr.json", X_Y)],
+        "/",
+        "/x/y: unreachable: the block of / has no group above it\n",
+        one,
+        1,
+    );
+    assert_answer(
+        &rt,
+        &[a],
+        &[("zarr.json", SHADOWED)],
+        "/",
+        "/: shadowed: the block of / has the key `/a` beside `a`\n",
+        two,
+        1,
+    );
+    assert_answer(
+        &rt,
+        &[],
+        &[("zarr.json", BAD_KEY)],
+        "/",
+        "/: bad key: the block of / has the key `a//b`\n",
+        one,
+        1,
+    );
+    assert_answer(
+        &rt,
+        &[("zarr.json", BAD_BLOCK)],
+        &[],
+        "/",
+        "/: bad block: the block of / has the fault `bad member kind`\n",
+        one,
+        1,
+    );
+}
+
+#[test]
+fn what_is_told_stands_in_order(rt: HostRuntime) {
+    let two = "zarrs: 2 nodes, 2 findings\n";
+    assert_answer(
+        &rt,
+        &[("c/zarr.json", GROUP), ("d/zarr.json", ARRAY)],
+        &[("zarr.json", ALL)],
+        "/",
+        "/: shadowed: the block of / has the key `/b` beside `b`\n/: bad key: the block of / has the key `a//b`\n/b: stale: the block of / has it, and the store has not\n/c: missing: the block of / has no entry of it\n/d: differs: the block of / has other metadata than the store\n/e/f: unreachable: the block of / has no group above it\n",
+        "zarrs: 3 nodes, 6 findings\n",
+        1,
+    );
+    assert_answer(
+        &rt,
+        &[],
+        &[("a/zarr.json", X), ("zarr.json", A_AND_X)],
+        "/",
+        "/a/x: stale: the block of / has it, and the store has not\n/a/x: stale: the block of /a has it, and the store has not\n",
+        two,
+        1,
+    );
+    assert_answer(
+        &rt,
+        &[],
+        &[("a/zarr.json", X), ("zarr.json", A_AND_X)],
+        "/a",
+        "/a/x: stale: the block of /a has it, and the store has not\n",
+        "zarrs: 1 node, 1 finding\n",
+        1,
+    );
+    assert_answer(
+        &rt,
+        &[("x/zarr.json", GROUP), ("x/y/zarr.json", "x")],
+        &[("zarr.json", X_Y)],
+        "/",
+        "/x: missing: the block of / has no entry of it\n/x/y: error parsing metadata for x/y/zarr.json: not JSON\n/x/y: unreachable: the block of / has no group above it\n",
+        "zarrs: 2 nodes, 3 findings\n",
+        1,
+    );
+    assert_answer(
+        &rt,
+        &[("a/zarr.json", "x")],
+        &[("zarr.json", A_AND_X)],
+        "/",
+        "/a: error parsing metadata for a/zarr.json: not JSON\n",
+        "zarrs: 1 node, 1 finding\n",
+        1,
+    );
+    assert_answer(
+        &rt,
+        &[("a/../x", ""), ("a-b/zarr.json", GROUP), ("a/.../x", "")],
+        &[("zarr.json", EMPTY), ("a/zarr.json", EMPTY)],
+        "/",
+        "/a: missing: the block of / has no entry of it\n/a/..: invalid node path /a/..\n/a/...: invalid node path /a/...\n/a-b: missing: the block of / has no entry of it\n",
+        "zarrs: 3 nodes, 4 findings\n",
+        1,
+    );
+}
+
+#[test]
+fn blocks_of_version_2_are_compared_with_attributes(rt: HostRuntime) {
+    let (root, block) = ((".zgroup", GROUP_V2), (".zmetadata", BLOCK_V2));
+    let a = ("a/.zgroup", GROUP_V2);
+    assert_answer(
+        &rt,
+        &[root, block, a, ("a/.zattrs", ONE)],
+        &[],
+        "/",
+        "",
+        "zarrs: 2 nodes, 0 findings\n",
+        0,
+    );
+    assert_answer(
+        &rt,
+        &[root, block, a, ("a/.zattrs", TWO)],
+        &[],
+        "/",
+        "/a: differs: the block of / has other metadata than the store\n",
+        "zarrs: 2 nodes, 1 finding\n",
+        1,
+    );
+    assert_answer(
+        &rt,
+        &[root, (".zmetadata", "{}"), a],
+        &[],
+        "/",
+        "/: bad block: the block of / has the fault `missing member zarr_consolidated_format`\n",
+        "zarrs: 2 nodes, 1 finding\n",
+        1,
+    );
+    assert_answer(
+        &rt,
+        &[("zarr.json", GROUP_V2)],
+        &[],
+        "/",
+        "/: Found V2 metadata in V3 key or vice-versa\n",
+        "zarrs: 0 nodes, 1 finding\n",
+        1,
+    );
+}
+
+#[test]
+fn what_is_no_image_or_no_path_is_refused(rt: HostRuntime) {
+    let alloc = rt.alloc();
+    let table = [
+        (
+            "[]",
+            "/",
+            "Load(Image): image is not a JSON object",
+            "zarrs: image is not a JSON object\n",
+        ),
+        (
+            r#"{"a//b":1}"#,
+            "/",
+            r#"Load(ImageKey("a//b")): bad store key in image: a//b"#,
+            "zarrs: bad store key in image: a//b\n",
+        ),
+        (
+            r#"{"a":1}"#,
+            "/",
+            r#"Load(ImageValue("a")): no text in image at a"#,
+            "zarrs: no text in image at a\n",
+        ),
+        (
+            "{}",
+            "x",
+            r#"Node(NodePathError(Invalid("x"))): invalid node path x"#,
+            "zarrs: invalid node path x\n",
+        ),
+        (
+            "{}",
+            "/..",
+            r#"Node(NodePathError(Invalid("/.."))): invalid node path /.."#,
+            "zarrs: invalid node path /..\n",
+        ),
+    ];
+    for (image, path, refusal, errors) in table {
+        let mut reader = image.as_bytes();
+        let outcome = run_of_image(
+            &Discard,
+            alloc,
+            Word::Check,
+            path,
+            &mut reader,
+            &mut io::sink(),
+        );
+        assert_refused(&rt, alloc, &outcome, refusal);
+        let ran = run(alloc, Word::Check, image, path).expect(&rt, "memory");
+        assert_ran(&rt, image, &ran, "", errors, 2);
+    }
+}
+
+#[test]
+fn runs_over_a_store(rt: HostRuntime) {
+    let alloc = rt.alloc();
+    let image = image_of(alloc, &[], &[("zarr.json", A)]).expect(&rt, "memory");
+    let mut reader = image.as_bytes();
+    let store = load_image(alloc, &mut reader).expect(&rt, "an image");
+    let mut output = Vec::new(alloc);
+    let outcome = run_store(&Discard, alloc, Word::Check, "/", &store, &mut output);
+    let tally = outcome.expect(&rt, "a report").expect(&rt, "a tally");
+    assert_eq!(rt; (tally.nodes, tally.findings), (1, 1));
+    let text = String::from_utf8_lossy(alloc, &output).expect(&rt, "memory");
+    assert_text(
+        &rt,
+        "a store",
+        text.as_str(),
+        "/a: stale: the block of / has it, and the store has not\n",
+    );
+}
+
+#[test]
+fn a_reader_and_a_writer_fail(rt: HostRuntime) {
+    let alloc = rt.alloc();
+    let image = image_of(alloc, &[], &[("zarr.json", A)]).expect(&rt, "memory");
+    let mut reader = OneByOne {
+        rest: image.as_bytes(),
+        reads_before_fault: Some(2),
+    };
+    let mut output = Vec::new(alloc);
+    let outcome = run_of_image(&Discard, alloc, Word::Check, "/", &mut reader, &mut output);
+    assert_refused(&rt, alloc, &outcome, "Load(Read): read fault");
+    assert!(rt; output.is_empty());
+    let mut reader = OneByOne {
+        rest: image.as_bytes(),
+        reads_before_fault: None,
+    };
+    let outcome = run_of_image(&Discard, alloc, Word::Check, "/", &mut reader, &mut Full);
+    assert_refused(&rt, alloc, &outcome, "Write: write fault");
+}
+
+#[test]
+fn a_writer_whose_flush_alone_fails_is_told(rt: HostRuntime) {
+    let alloc = rt.alloc();
+    let mut reader = b"{}".as_slice();
+    let outcome = run_of_image(
+        &Discard,
+        alloc,
+        Word::Check,
+        "/",
+        &mut reader,
+        &mut Unflushed,
+    );
+    assert_refused(&rt, alloc, &outcome, "Write: write fault");
+    let mut errors = Vec::new(alloc);
+    assert_eq!(rt; finish(alloc, &outcome, &None, &mut errors), 2);
+    assert_eq!(rt; errors.as_slice(), b"zarrs: write fault\n".as_slice());
+}
+
+#[test]
+fn warns_of_what_is_passed_over(rt: HostRuntime) {
+    let alloc = rt.alloc();
+    let sink = Writer::new(Vec::new(alloc));
+    let mut reader = r#"{"fakenode/content":""}"#.as_bytes();
+    let outcome = run_of_image(&sink, alloc, Word::Check, "/", &mut reader, &mut io::sink());
+    assert!(rt; outcome.is_ok());
+    let warnings = String::from_utf8_lossy(alloc, &sink.into_inner()).expect(&rt, "memory");
+    assert_text(
+        &rt,
+        "a warning",
+        warnings.as_str(),
+        "[WARN  zarrs_survey::survey] Object at /fakenode is not recognized as a component of a Zarr hierarchy. Ignoring.\n",
+    );
+}
+
+#[test]
+fn faults_have_their_texts(rt: HostRuntime) {
+    let alloc = rt.alloc();
+    let key = String::from_str(alloc, "a//b").expect(&rt, "memory");
+    let value = String::from_str(alloc, "a").expect(&rt, "memory");
+    let table = [
+        (ZarrsFault::Usage, "Usage: wrong words"),
+        (ZarrsFault::from(LoadFault::Read), "Load(Read): read fault"),
+        (
+            ZarrsFault::from(LoadFault::ReadTooLong),
+            "Load(ReadTooLong): input too long",
+        ),
+        (
+            ZarrsFault::from(LoadFault::Image),
+            "Load(Image): image is not a JSON object",
+        ),
+        (
+            ZarrsFault::from(LoadFault::ImageKey(key)),
+            r#"Load(ImageKey("a//b")): bad store key in image: a//b"#,
+        ),
+        (
+            ZarrsFault::from(LoadFault::ImageValue(value)),
+            r#"Load(ImageValue("a")): no text in image at a"#,
+        ),
+        (
+            ZarrsFault::from(LoadFault::OutOfMemory),
+            "Load(OutOfMemory): out of memory",
+        ),
+        (
+            ZarrsFault::from(FolderFault::OutOfMemory),
+            "Folder(OutOfMemory): out of memory",
+        ),
+        (ZarrsFault::OutOfMemory, "OutOfMemory: out of memory"),
+        (ZarrsFault::Write, "Write: write fault"),
+    ];
+    for (fault, text) in table {
+        assert_refused(&rt, alloc, &Err(fault), text);
+    }
+}

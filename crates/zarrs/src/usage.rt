@@ -1,0 +1,15 @@
+//! What the program says of itself.
+
+/// How the program is called.
+pub const USAGE: &str = "\
+usage: zarrs tree DIR [PATH]          the tree, by the block of the group at PATH where it has one
+       zarrs tree --store DIR [PATH]  the tree, by the store
+       zarrs list DIR [PATH]          the path of each node at and below PATH, one a line
+       zarrs check DIR [PATH]         what is bad in the store, and where its blocks say something else
+       zarrs --help | --version
+DIR is the folder of a store, or - for an image on standard input. PATH is / where it is left out.
+Status 0: done. 1: check has findings. 2: wrong words, refused, unreadable, out of memory, or not written.
+";
+
+/// The release of the Rust crate `zarrs` whose names and behaviour the library has.
+pub const VERSION: &str = "zarrs 0.23.13\n";

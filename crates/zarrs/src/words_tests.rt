@@ -1,0 +1,65 @@
+//! What each kind of words asks.
+use crate::asserts::assert_text;
+use crate::words::{Asked, parse};
+use std::alloc::{AllocError, Global};
+
+/// The words with these texts.
+pub(crate) fn words_of(alloc: Global, texts: &[&str]) -> Result<Vec<String>, AllocError> {
+    let mut words = Vec::new(alloc);
+    for text in texts {
+        words.push(String::from_str(alloc, text)?)?;
+    }
+    Ok(words)
+}
+
+// What the words with these texts ask, as a text.
+fn asked(alloc: Global, texts: &[&str]) -> Result<String, AllocError> {
+    let words = words_of(alloc, texts)?;
+    match parse(&words) {
+        Ok(Asked::Help) => String::from_str(alloc, "help"),
+        Ok(Asked::Version) => String::from_str(alloc, "version"),
+        Ok(Asked::Store(command)) => {
+            let word = command.word;
+            let source = command.source;
+            let path = command.path;
+            format!(in alloc; "{word:?} {source} {path}")
+        }
+        Err(fault) => format!(in alloc; "{fault:?}"),
+    }
+}
+
+#[test]
+fn words_name_a_word_a_source_and_a_path(rt: HostRuntime) {
+    let table: [(&[&str], &str); 26] = [
+        (&["--help"], "help"),
+        (&["--version"], "version"),
+        (&["tree", "x"], "Tree x /"),
+        (&["tree", "x", "/a"], "Tree x /a"),
+        (&["tree", "x", "a"], "Tree x a"),
+        (&["tree", "x", "--store"], "Tree x --store"),
+        (&["tree", "-"], "Tree - /"),
+        (&["tree", ""], "Tree  /"),
+        (&["tree", "--store", "x"], "StoreTree x /"),
+        (&["tree", "--store", "--store"], "StoreTree --store /"),
+        (&["tree", "--store", "-", "/a"], "StoreTree - /a"),
+        (&["list", "x"], "List x /"),
+        (&["list", "x", "/a"], "List x /a"),
+        (&["list", "--store", "x"], "List --store x"),
+        (&["check", "x"], "Check x /"),
+        (&["check", "-", "/a"], "Check - /a"),
+        (&["check", "--store"], "Check --store /"),
+        (&[], "Usage"),
+        (&["tree"], "Usage"),
+        (&["tree", "--store"], "Usage"),
+        (&["tree", "--store", "x", "/", "/"], "Usage"),
+        (&["list", "--store", "x", "/"], "Usage"),
+        (&["check", "x", "/", "/"], "Usage"),
+        (&["x", "tree"], "Usage"),
+        (&["--help", "tree"], "Usage"),
+        (&["help"], "Usage"),
+    ];
+    for (texts, wanted) in table {
+        let found = asked(rt.alloc(), texts).expect(&rt, "memory");
+        assert_text(&rt, wanted, found.as_str(), wanted);
+    }
+}

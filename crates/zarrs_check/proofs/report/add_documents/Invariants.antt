@@ -1,6 +1,0 @@
-use Rattle.std.proofs.Common.{◌≡◌, ◌++◌, map, take}
-use Rattle.zarrs_check.specs.StepsOfReports.{document_remark}
-use Rattle.zarrs_check.proofs.report.add_documents.Given as goal
-
-abbrev pub invariant-loop-path : goal.invariant-loop-path
-invariant-loop-path l = l.remarks.items ≡ l.initial.remarks.items ++ map document_remark (take l.path-index l.documents)
