@@ -1,8 +1,10 @@
 //! Why a node was not made.
-ghost use Rattle.std.specs.Prelude.{◌≡◌};
+ghost use Rattle.std.specs.Prelude.{◌≡◌, Some};
+ghost use Rattle.zarrs_block.specs.ErrorTexts.{error_text};
 
 use std::alloc::{AllocError, AllocFailed};
-use thiserror::Error;
+use std::error::Error;
+use std::fmt;
 use zarrs_path::NodePathError;
 use zarrs_store::{StorageError, StorePrefixError};
 
@@ -10,27 +12,41 @@ use zarrs_store::{StorageError, StorePrefixError};
 ///
 /// Source: `zarrs::node::NodeCreateError`.
 /// <https://docs.rs/zarrs/0.23.13/zarrs/node/enum.NodeCreateError.html>
-#[derive(Debug, Drop, Error)]
+#[derive(Debug, Drop)]
 pub enum NodeCreateError {
     /// A text is no path.
-    #[error("{0}")]
     NodePathError(NodePathError),
     /// A text is no prefix.
-    #[error("{0}")]
     StorePrefixError(StorePrefixError),
     /// The store refused, a document does not read, or a child's name is none.
-    #[error("{0}")]
     StorageError(StorageError),
     /// A document of version 2 stands where one of version 3 belongs.
-    #[error("Found V2 metadata in V3 key or vice-versa")]
     MetadataVersionMismatch,
     /// No document stands at a path, whose text this holds.
-    #[error("Metadata is missing for {0}")]
     MissingMetadata(String),
     /// Out of memory.
-    #[error("out of memory")]
     OutOfMemory,
 }
+
+impl fmt::Display for NodeCreateError {
+    ghost output = { λ error. Some (error_text error) };
+
+    /// Writes the error's text.
+    fn fmt<W: fmt::Write>(&self, f: &mut fmt::Formatter<W>) -> fmt::Result {
+        match self {
+            NodeCreateError::NodePathError(error) => write!(f, "{error}"),
+            NodeCreateError::StorePrefixError(error) => write!(f, "{error}"),
+            NodeCreateError::StorageError(error) => write!(f, "{error}"),
+            NodeCreateError::MetadataVersionMismatch => {
+                f.write_str("Found V2 metadata in V3 key or vice-versa")
+            }
+            NodeCreateError::MissingMetadata(path) => write!(f, "Metadata is missing for {path}"),
+            NodeCreateError::OutOfMemory => f.write_str("out of memory"),
+        }
+    }
+}
+
+impl Error for NodeCreateError {}
 
 impl From<NodePathError> for NodeCreateError {
     ghost use Rattle.zarrs_block.specs.declared.node_create_error.NodeCreateError.TheVariants.{NodePathError};

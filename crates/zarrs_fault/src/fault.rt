@@ -1,10 +1,11 @@
 ghost use Rattle.std.specs.Prelude.{◌≡◌, Some};
+ghost use Rattle.zarrs_fault.specs.FaultTexts.{fault_text};
 ghost use Rattle.zarrs_fault.specs.declared.fault.MetadataFault.TheVariants.{OutOfMemory};
 
 use std::alloc::{AllocError, AllocFailed};
+use std::error::Error;
 use std::fmt;
 use std::marker::Model;
-use thiserror::Error;
 
 /// The name of a member of a metadata document.
 ///
@@ -54,33 +55,45 @@ impl fmt::Display for MemberName {
 /// Source: Zarr core specification 3.1, "Array metadata" and "Group metadata"; in place of the parser's words of `zarrs`.
 /// <https://zarr-specs.readthedocs.io/en/latest/v3/core/index.html#array-metadata>
 /// <https://zarr-specs.readthedocs.io/en/latest/v3/core/index.html#group-metadata>
-#[derive(Debug, Drop, Error)]
+#[derive(Debug, Drop)]
 pub enum MetadataFault {
     /// The bytes are no JSON text.
-    #[error("not JSON")]
     NotJson,
     /// A number in it is neither `u64` nor `i64`.
-    #[error("unsupported number")]
     UnsupportedNumber,
     /// It is JSON, but no object.
-    #[error("not an object")]
     NotAnObject,
     /// The member `zarr_format` is absent or another number.
-    #[error("wrong zarr_format")]
     WrongFormat,
     /// The member `node_type` is absent or another text.
-    #[error("wrong node_type")]
     WrongNodeType,
     /// This member has to be there, and is absent.
-    #[error("missing member {0}")]
     MissingMember(MemberName),
     /// This member is there, and is not of its form.
-    #[error("bad member {0}")]
     BadMember(MemberName),
     /// Memory was asked for and refused.
-    #[error("out of memory")]
     OutOfMemory,
 }
+
+impl fmt::Display for MetadataFault {
+    ghost output = { λ fault. Some (fault_text fault) };
+
+    /// Writes the fault's text.
+    fn fmt<W: fmt::Write>(&self, f: &mut fmt::Formatter<W>) -> fmt::Result {
+        match self {
+            MetadataFault::NotJson => f.write_str("not JSON"),
+            MetadataFault::UnsupportedNumber => f.write_str("unsupported number"),
+            MetadataFault::NotAnObject => f.write_str("not an object"),
+            MetadataFault::WrongFormat => f.write_str("wrong zarr_format"),
+            MetadataFault::WrongNodeType => f.write_str("wrong node_type"),
+            MetadataFault::MissingMember(name) => write!(f, "missing member {name}"),
+            MetadataFault::BadMember(name) => write!(f, "bad member {name}"),
+            MetadataFault::OutOfMemory => f.write_str("out of memory"),
+        }
+    }
+}
+
+impl Error for MetadataFault {}
 
 impl From<AllocError> for MetadataFault {
     ghost from_gives = { λ _ fault. fault ≡ OutOfMemory };

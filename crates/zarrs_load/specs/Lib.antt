@@ -1,3 +1,4 @@
+pub mod FaultTexts
 pub mod Folder
 pub mod Image
 pub mod Reading

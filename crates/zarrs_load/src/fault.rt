@@ -1,37 +1,51 @@
 //! Why no store is loaded.
-ghost use Rattle.std.specs.Prelude.{◌≡◌};
+ghost use Rattle.std.specs.Prelude.{◌≡◌, Some};
+ghost use Rattle.zarrs_load.specs.FaultTexts.{load_fault_text};
 ghost use Rattle.zarrs_load.specs.declared.fault.LoadFault.TheVariants.{OutOfMemory};
 
 use std::alloc::{AllocError, AllocFailed};
-use thiserror::Error;
+use std::error::Error;
+use std::fmt;
 
 /// Why no store is loaded.
 ///
 /// <https://zarr-specs.readthedocs.io/en/latest/v3/core/index.html#abstract-store-interface>
-#[derive(Debug, Drop, Error)]
+#[derive(Debug, Drop)]
 pub enum LoadFault {
     /// The reader failed.
-    #[error("read fault")]
     Read,
     /// The input did not end within the bound on reads.
-    #[error("input too long")]
     ReadTooLong,
     /// The image is no JSON object.
-    #[error("image is not a JSON object")]
     Image,
     /// A member's name is no store key.
-    #[error("bad store key in image: {0}")]
     ImageKey(String),
     /// The member with this name is no text.
-    #[error("no text in image at {0}")]
     ImageValue(String),
     /// A folder was not read.
-    #[error("folder fault")]
     Folder,
     /// Memory was wanting.
-    #[error("out of memory")]
     OutOfMemory,
 }
+
+impl fmt::Display for LoadFault {
+    ghost output = { λ fault. Some (load_fault_text fault) };
+
+    /// Writes the fault's text.
+    fn fmt<W: fmt::Write>(&self, f: &mut fmt::Formatter<W>) -> fmt::Result {
+        match self {
+            LoadFault::Read => f.write_str("read fault"),
+            LoadFault::ReadTooLong => f.write_str("input too long"),
+            LoadFault::Image => f.write_str("image is not a JSON object"),
+            LoadFault::ImageKey(name) => write!(f, "bad store key in image: {name}"),
+            LoadFault::ImageValue(name) => write!(f, "no text in image at {name}"),
+            LoadFault::Folder => f.write_str("folder fault"),
+            LoadFault::OutOfMemory => f.write_str("out of memory"),
+        }
+    }
+}
+
+impl Error for LoadFault {}
 
 // By hand, since a clause names the variant.
 impl From<AllocError> for LoadFault {

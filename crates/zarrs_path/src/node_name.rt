@@ -5,24 +5,37 @@ ghost use Rattle.std.specs.Cmp.Lexicographic.{nat_list_eq_equiv};
 ghost use Rattle.zarrs_store.specs.Segments.{has_no_slash};
 ghost use Rattle.zarrs_path.specs.Names.{is_name, is_node_name, IsNodeName, is_all_periods, is_reserved};
 ghost use Rattle.zarrs_path.specs.NameErrors.{RefusesName};
+ghost use Rattle.zarrs_path.specs.ErrorTexts.{name_error_text};
 
 use std::alloc::{AllocError, Global};
+use std::error::Error;
 use std::fmt;
 use std::marker::Model;
-use thiserror::Error;
 
 /// Why a text was not made the name of a node.
 ///
 /// <https://zarr-specs.readthedocs.io/en/latest/v3/core/index.html#node-names>
-#[derive(Debug, Drop, Error)]
+#[derive(Debug, Drop)]
 pub enum NodeNameError {
     /// The text, which is neither empty nor a name.
-    #[error("invalid node name {0}")]
     Invalid(String),
     /// Out of memory for the text.
-    #[error("out of memory")]
     OutOfMemory,
 }
+
+impl fmt::Display for NodeNameError {
+    ghost output = { λ error. Some (name_error_text error) };
+
+    /// Writes the error's text.
+    fn fmt<W: fmt::Write>(&self, f: &mut fmt::Formatter<W>) -> fmt::Result {
+        match self {
+            NodeNameError::Invalid(text) => write!(f, "invalid node name {text}"),
+            NodeNameError::OutOfMemory => f.write_str("out of memory"),
+        }
+    }
+}
+
+impl Error for NodeNameError {}
 
 impl From<AllocError> for NodeNameError {
     ghost use Rattle.zarrs_path.specs.declared.node_name.NodeNameError.TheVariants.{OutOfMemory};

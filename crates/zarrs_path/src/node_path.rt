@@ -1,30 +1,44 @@
 //! Paths of nodes. Zarr core specification 3.1, "Paths".
-ghost use Rattle.std.specs.Prelude.{◌≡◌, ◌↔◌, [], ◌++◌, IsTrue, IfOk, IfErr, IfSome, string_bytes, option_copied, IsOkUnless};
+ghost use Rattle.std.specs.Prelude.{◌≡◌, ◌↔◌, [], ◌++◌, IsTrue, IfOk, IfErr, IfSome, string_bytes, option_copied, IsOkUnless, Some};
 ghost use Rattle.std.specs.List.{slice_split};
 ghost use Rattle.zarrs_store.specs.Segments.{is_slash, last_segment, IsPrefix};
 ghost use Rattle.zarrs_path.specs.Names.{IsName};
 ghost use Rattle.zarrs_path.specs.Paths.{IsPath, IsPathText, path_text, IsBelow, IsParent, names_text, relative_names, without_leading_slash, first_bad};
 ghost use Rattle.zarrs_path.specs.PathErrors.{RefusesPath, RefusesJoin, RefusesSegments};
+ghost use Rattle.zarrs_path.specs.ErrorTexts.{path_error_text};
 
 use crate::node_name::is_name;
 use crate::text::joined;
 use std::alloc::{AllocError, Global};
+use std::error::Error;
+use std::fmt;
 use std::marker::Model;
-use thiserror::Error;
 use zarrs_store::StorePrefix;
 
 /// Why a text was not made a path.
 ///
 /// <https://zarr-specs.readthedocs.io/en/latest/v3/core/index.html#path>
-#[derive(Debug, Drop, Error)]
+#[derive(Debug, Drop)]
 pub enum NodePathError {
     /// What is wrong: the text that is no path, or the bad part of a joined text.
-    #[error("invalid node path {0}")]
     Invalid(String),
     /// Out of memory for the path, or for the text of this error.
-    #[error("out of memory")]
     OutOfMemory,
 }
+
+impl fmt::Display for NodePathError {
+    ghost output = { λ error. Some (path_error_text error) };
+
+    /// Writes the error's text.
+    fn fmt<W: fmt::Write>(&self, f: &mut fmt::Formatter<W>) -> fmt::Result {
+        match self {
+            NodePathError::Invalid(text) => write!(f, "invalid node path {text}"),
+            NodePathError::OutOfMemory => f.write_str("out of memory"),
+        }
+    }
+}
+
+impl Error for NodePathError {}
 
 impl From<AllocError> for NodePathError {
     ghost use Rattle.zarrs_path.specs.declared.node_path.NodePathError.TheVariants.{OutOfMemory};

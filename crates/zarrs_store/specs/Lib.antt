@@ -1,6 +1,7 @@
 pub mod Children
 pub mod Contents
 pub mod Entries
+pub mod ErrorTexts
 pub mod FailingStores
 pub mod Faults
 pub mod Laws

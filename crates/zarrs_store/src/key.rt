@@ -5,12 +5,13 @@ ghost use Rattle.std.specs.Cmp.Rules.{comparing};
 ghost use Rattle.std.specs.Ordering.{on, as_partial_cmp};
 ghost use Rattle.zarrs_store.specs.Segments.{segments_of, key_text, bytes_cmp, bytes_eq, IsKey, IsKeyText};
 ghost use Rattle.zarrs_store.specs.Faults.{RefusesKey};
+ghost use Rattle.zarrs_store.specs.ErrorTexts.{key_error_text};
 
 use std::alloc::{AllocError, Global};
 use std::cmp::Ordering;
+use std::error::Error;
 use std::fmt;
 use std::marker::Model;
-use thiserror::Error;
 
 /// The key of a value in a store: one or more nonempty segments, joined by `/`.
 ///
@@ -37,15 +38,27 @@ impl Model for StoreKey {
 /// Why a key was not made.
 ///
 /// <https://zarr-specs.readthedocs.io/en/latest/v3/core/index.html#abstract-store-interface>
-#[derive(Debug, Drop, Error)]
+#[derive(Debug, Drop)]
 pub enum StoreKeyError {
     /// The text is not that of a key: it is empty, or a segment of it is.
-    #[error("invalid store key {0}")]
     Invalid(String),
     /// Memory was asked for and refused.
-    #[error("out of memory")]
     OutOfMemory,
 }
+
+impl fmt::Display for StoreKeyError {
+    ghost output = { λ error. Some (key_error_text error) };
+
+    /// Writes the error's text.
+    fn fmt<W: fmt::Write>(&self, f: &mut fmt::Formatter<W>) -> fmt::Result {
+        match self {
+            StoreKeyError::Invalid(text) => write!(f, "invalid store key {text}"),
+            StoreKeyError::OutOfMemory => f.write_str("out of memory"),
+        }
+    }
+}
+
+impl Error for StoreKeyError {}
 
 impl From<AllocError> for StoreKeyError {
     ghost use Rattle.zarrs_store.specs.declared.key.StoreKeyError.TheVariants.{OutOfMemory};

@@ -5,6 +5,7 @@ ghost use Rattle.std.specs.Cmp.Rules.{comparing};
 ghost use Rattle.std.specs.Ordering.{on, as_partial_cmp};
 ghost use Rattle.zarrs_store.specs.Segments.{segments_of, key_text, prefix_text, last_segment, is_segment, bytes_cmp, bytes_eq, IsPrefix, IsPrefixText};
 ghost use Rattle.zarrs_store.specs.Faults.{RefusesPrefix};
+ghost use Rattle.zarrs_store.specs.ErrorTexts.{prefix_error_text};
 ghost use Rattle.std.specs.Prelude.{[], ◌∷◌, ◌++◌};
 ghost use Rattle.std.specs.Option.{option_map};
 ghost use Rattle.zarrs_store.specs.Segments.{IsSegment};
@@ -14,9 +15,9 @@ ghost use Rattle.zarrs_store.specs.StepsOfStores.{child_name};
 use crate::key::StoreKey;
 use std::alloc::{AllocError, Global};
 use std::cmp::Ordering;
+use std::error::Error;
 use std::fmt;
 use std::marker::Model;
-use thiserror::Error;
 
 /// The beginning of keys: nothing, or nonempty segments with `/` behind each.
 ///
@@ -43,15 +44,27 @@ impl Model for StorePrefix {
 /// Why a prefix was not made.
 ///
 /// <https://zarr-specs.readthedocs.io/en/latest/v3/core/index.html#abstract-store-interface>
-#[derive(Debug, Drop, Error)]
+#[derive(Debug, Drop)]
 pub enum StorePrefixError {
     /// The text is not that of a prefix: it does not end in `/`, or a segment of it is empty.
-    #[error("invalid store prefix {0}")]
     Invalid(String),
     /// Memory was asked for and refused.
-    #[error("out of memory")]
     OutOfMemory,
 }
+
+impl fmt::Display for StorePrefixError {
+    ghost output = { λ error. Some (prefix_error_text error) };
+
+    /// Writes the error's text.
+    fn fmt<W: fmt::Write>(&self, f: &mut fmt::Formatter<W>) -> fmt::Result {
+        match self {
+            StorePrefixError::Invalid(text) => write!(f, "invalid store prefix {text}"),
+            StorePrefixError::OutOfMemory => f.write_str("out of memory"),
+        }
+    }
+}
+
+impl Error for StorePrefixError {}
 
 impl From<AllocError> for StorePrefixError {
     ghost use Rattle.zarrs_store.specs.declared.prefix.StorePrefixError.TheVariants.{OutOfMemory};
