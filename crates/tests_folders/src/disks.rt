@@ -1,5 +1,6 @@
 //! A folder of the system: its documents, links, and what is not read. Scripts beside the gate try more.
 
+use crate::ticking::Ticking;
 use log::sink::Writer;
 use log::{Level, Log, Logged};
 use std::alloc::{AllocError, Global};
@@ -10,7 +11,7 @@ use std::test::Fail;
 use std::time::Clock;
 use std::{fs, io};
 use tests_support::{A3, G3, printed};
-use zarrs_folder::{Disk, FolderFault, Progress, load_nodes};
+use zarrs_folder::{Disk, FolderFault, load_nodes};
 use zarrs_path::NodePath;
 use zarrs_store::{AnyNumbers, ListableStorageTraits, MemoryStore};
 
@@ -39,9 +40,9 @@ fn make_folder(
 fn load<R: Log + Files + Clock + Eprint + AllocGlobal>(
     rt: &R,
     folder: &str,
+    is_watched: bool,
 ) -> Result<AnyNumbers<MemoryStore>, FolderFault> {
-    let disk = Disk::open(rt, folder)?;
-    let mut folder = Progress::new(rt, disk, false);
+    let mut folder = Disk::open(rt, folder)?.telling(is_watched);
     let Ok(root) = NodePath::root(rt.alloc()) else {
         return Err(FolderFault::OutOfMemory);
     };
@@ -64,7 +65,7 @@ fn keys_said(alloc: Global, store: &AnyNumbers<MemoryStore>) -> Result<String, A
 // The keys that are loaded of a folder or why none are, and the warnings.
 fn said(rt: &HostRuntime, folder: &str) -> Result<String, AllocError> {
     let sink = Writer::new(Vec::new(rt.alloc()));
-    let answer = load(&Logged::new(rt, Level::Warn, &sink), folder);
+    let answer = load(&Logged::new(rt, Level::Warn, &sink), folder, false);
     let mut text = match answer {
         Ok(store) => keys_said(rt.alloc(), &store)?,
         Err(fault) => printed(&fault, rt.alloc())?,
@@ -119,5 +120,40 @@ fn what_is_not_read_is_named_with_the_systems_words(rt: HostRuntime) -> Result<(
     );
     assert_eq!(rt; said(&rt, "unread")?.as_str(), "");
     fs::remove_dir_all(&rt, "unread")?;
+    Ok(())
+}
+
+// What is told of the nodes that were read, by a clock that goes on a second for each.
+fn told(rt: &HostRuntime, folder: &str, is_watched: bool) -> Result<String, AllocError> {
+    let sink = Writer::new(Vec::new(rt.alloc()));
+    let ticking = Ticking::new(rt);
+    let log = Logged::new(&ticking, Level::Warn, &sink);
+    let mut text = match load(&log, folder, is_watched) {
+        Ok(store) => keys_said(rt.alloc(), &store)?,
+        Err(fault) => printed(&fault, rt.alloc())?,
+    };
+    let said = String::from_utf8_lossy(rt.alloc(), &ticking.into_said())?;
+    text.push_str(said.as_str())?;
+    Ok(text)
+}
+
+#[test]
+fn each_two_seconds_a_line_says_how_many_nodes_were_read(rt: HostRuntime) -> Result<(), Fail> {
+    let files = [
+        (".zgroup", "{\"zarr_format\":2}"),
+        (".zattrs", "{}"),
+        ("a/zarr.json", A3),
+        ("b/zarr.json", A3),
+        ("c/zarr.json", A3),
+        ("d/zarr.json", A3),
+        ("scratch/file", ""),
+    ];
+    make_folder(&rt, "told", &files, &[])?;
+    let keys = ".zattrs .zgroup a/zarr.json b/zarr.json c/zarr.json d/zarr.json scratch/file ";
+    assert_eq!(rt; told(&rt, "told", false)?.as_str(), keys);
+    let mut text = String::from_str(rt.alloc(), keys)?;
+    text.push_str("2 nodes read so far\n4 nodes read so far\n")?;
+    assert_eq!(rt; told(&rt, "told", true)?.as_str(), text.as_str());
+    fs::remove_dir_all(&rt, "told")?;
     Ok(())
 }

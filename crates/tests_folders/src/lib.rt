@@ -8,3 +8,7 @@ mod disks;
 mod faults;
 #[cfg(test)]
 mod loads;
+#[cfg(test)]
+mod passed;
+#[cfg(test)]
+mod ticking;

@@ -13,7 +13,7 @@ use zarrs_store::{
 };
 
 // The store with the documents of a list: a key, a blank and a document each, with semicolons between them. A key alone has the empty document.
-fn store_in(alloc: Global, list: &str) -> Result<AnyNumbers<MemoryStore>, StorageError> {
+pub(crate) fn store_in(alloc: Global, list: &str) -> Result<AnyNumbers<MemoryStore>, StorageError> {
     let mut pairs = Vec::new(alloc);
     for item in list.split(';') {
         if !item.is_empty() {
@@ -40,7 +40,7 @@ fn key_said(
 }
 
 // The keys of a loaded store, with a blank behind each.
-fn keys_said(
+pub(crate) fn keys_said(
     alloc: Global,
     whole: &AnyNumbers<MemoryStore>,
     loaded: &AnyNumbers<MemoryStore>,
@@ -87,7 +87,7 @@ fn compared(
 type Loaded = (AnyNumbers<MemoryStore>, AnyNumbers<MemoryStore>);
 
 // A folder that is a store in memory is only ever out of memory.
-fn of_store(
+pub(crate) fn of_store(
     loaded: Result<AnyNumbers<MemoryStore>, FolderFault>,
 ) -> Result<AnyNumbers<MemoryStore>, NodeCreateError> {
     match loaded {

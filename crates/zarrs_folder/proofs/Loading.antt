@@ -179,14 +179,14 @@ below_more : (b q : Path) (m : List ℕ) → IsBelow b q → IsBelow b (q ++ m �
 below_more b q m (n, ns, is) = (n, ns ++ m ∷ [], ap (λ x. x ++ m ∷ []) is ∙ append_assoc b (n ∷ ns) (m ∷ []))
 
 -- nothing is below itself
-not_below : (b : Path) → IsBelow b b → ⊥
+pub not_below : (b : Path) → IsBelow b b → ⊥
 not_below b low =
     let long = ap length low.2 in
     let more = length-append b (low.0 ∷ low.1) in
     omega (arith, long, more)
 
 -- and no two are below one another
-no_loop : (b q : Path) → IsBelow b q → IsBelow q b → ⊥
+pub no_loop : (b q : Path) → IsBelow b q → IsBelow q b → ⊥
 no_loop b q low up =
     let long = ap length low.2 in
     let more = length-append b (low.0 ∷ low.1) in
@@ -195,7 +195,7 @@ no_loop b q low up =
     omega (arith, long, more, long', more')
 
 -- what has something below it, behind a prefix, makes a child of that prefix
-child_of : (V : Values) (q : Segments) (m : List ℕ) (ms x : Segments) → x ≡ q ++ m ∷ ms → HasBelow V x → IsChildPrefix V q (q ++ m ∷ [])
+pub child_of : (V : Values) (q : Segments) (m : List ℕ) (ms x : Segments) → x ≡ q ++ m ∷ ms → HasBelow V x → IsChildPrefix V q (q ++ m ∷ [])
 child_of V q m [] x is (n, ns, has) = record {
   name = m;
   is = refl;
@@ -214,7 +214,7 @@ child_ahead V b q cs low complete m ms x is has =
     (q ++ m ∷ [], complete (q ++ m ∷ []) (child_of V q m ms x is has), low m, (ms, is ∙ sym (append_assoc q (m ∷ []) ms)))
 
 -- a document is as in the whole, or the whole has it
-file_cases : {X : Type 0} (V M : Values) (p : Path) (file : List ℕ) → HasNoOtherKeys V M → (HasBelow V p → X) → HasSameFile V M p file ⊎ X
+pub file_cases : {X : Type 0} (V M : Values) (p : Path) (file : List ℕ) → HasNoOtherKeys V M → (HasBelow V p → X) → HasSameFile V M p file ⊎ X
 file_cases {X = X} V M p file none then = by (map.get V (p ++ file ∷ [])) refl
   where
     by : (o : Option (List ℕ)) → map.get V (p ++ file ∷ []) ≡ o → HasSameFile V M p file ⊎ X

@@ -3,7 +3,8 @@
 --     values_of es, in_any V      what a store in memory with these entries holds; a store that holds V and whose documents may hold any number
 --     NoneIsBelow V prefix found      where no key was found, V has none below the prefix
 --     IsFaultOfFolder can_fail e      what a folder may refuse
-use Rattle.std.specs.Prelude.{ℕ, Bool, List, Option, Some, None, IsTrue, ⊤}
+--     IsFaultAt path e      the fault names this path
+use Rattle.std.specs.Prelude.{◌≡◌, ℕ, Bool, List, Option, Some, None, IsTrue, ⊤, string_bytes}
 use Rattle.std.specs.FinMap as map
 use Rattle.zarrs_fault.specs.declared.numbers.Numbers.TheVariants.{Any}
 use Rattle.zarrs_store.specs.Segments.{Segments, key_cmp}
@@ -29,3 +30,9 @@ abbrev pub IsFaultOfFolder : Bool → FolderFault → Type 0
 IsFaultOfFolder can_fail (Unread path why) = IsTrue can_fail
 IsFaultOfFolder can_fail (NoFolder path) = IsTrue can_fail
 IsFaultOfFolder can_fail OutOfMemory = ⊤
+
+-- the path that was not read, or where no folder stands, is this one; or out of memory
+abbrev pub IsFaultAt : List ℕ → FolderFault → Type 0
+IsFaultAt text (Unread path why) = string_bytes path ≡ text
+IsFaultAt text (NoFolder path) = string_bytes path ≡ text
+IsFaultAt text OutOfMemory = ⊤

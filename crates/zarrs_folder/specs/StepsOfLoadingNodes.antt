@@ -10,6 +10,7 @@ use Rattle.zarrs_node.specs.Nodes.{IsListed}
 use Rattle.zarrs_node.specs.MapsOfNodes.{StandsFrom}
 use Rattle.zarrs_folder.specs.Folders.{in_any}
 use Rattle.zarrs_folder.specs.PrunedStores.{HasNoOtherKeys, HasSameFile, node_files}
+use Rattle.zarrs_folder.specs.PassedPaths.{node_documents}
 
 -- what is loaded grows from L to M as V has it: no key is another than those of V, every key stays, and so does what is as in V
 pub record Grows (V L M : Values) : Type 0 where
@@ -26,3 +27,12 @@ pub record IsLoadedButAhead (V : Values) (b : Path) (L : Values) (qs : List Segm
   pub keys : HasNoOtherKeys V L
   pub documents : (p : Path) → StandsFrom (in_any V) Default b p → (file : List ℕ) → Contains node_files file → HasSameFile V L p file ⊎ IsAhead b qs p
   pub children : (g : Path) (n : List ℕ) → IsListed (meaning (in_any V) Default) true b g → HasBelow V (g ++ n ∷ []) → HasBelow L (g ++ n ∷ []) ⊎ IsAhead b qs (g ++ n ∷ [])
+
+-- x is one of these prefixes, or begins with one
+abbrev pub LiesAhead : List Segments → Segments → Type 0
+LiesAhead qs x = (q : Segments) × Contains qs q × ((rest : Segments) × (x ≡ q ++ rest))
+
+-- what L has not yet of the documents below p lies at or below a prefix that is still ahead
+pub record HoldsButAhead (V : Values) (p : Path) (L : Values) (qs : List Segments) : Type 0 where
+  pub keys : HasNoOtherKeys V L
+  pub documents : (q : Path) → IsBelow p q → (file : List ℕ) → Contains node_documents file → HasSameFile V L q file ⊎ LiesAhead qs q

@@ -1,20 +1,28 @@
 //! A folder of the system.
-ghost use Rattle.std.specs.Prelude.{◌≡◌, true, IfOk, IfErr};
-ghost use Rattle.zarrs_folder.specs.Folders.{IsFaultOfFolder};
+ghost use Rattle.std.specs.Prelude.{◌≡◌, [], true, IfOk, IfErr};
+ghost use Rattle.zarrs_store.specs.Contents.{Values};
+ghost use Rattle.zarrs_folder.specs.Answers.{HasAnswers};
+ghost use Rattle.zarrs_folder.specs.Folders.{IsFaultAt, IsFaultOfFolder};
 
 use crate::fault::FolderFault;
 use crate::folder::Folder;
+use crate::progress::Progress;
+use crate::record::Record;
 use log::{Log, warn};
 use std::alloc::{AllocError, Global};
 use std::fs::{File, Metadata};
-use std::io::{ErrorKind, Read};
+use std::io::{Eprint, ErrorKind, Read};
 use std::os::unix::fs::MetadataExt;
 use std::rt::Files;
+use std::time::Clock;
 use std::{fs, io};
 use zarrs_store::{StoreKey, StorePrefix};
 
 /// A folder of the system, by its path. Links are followed, its own and those below it. A link that leads to a folder on its own way is passed
 /// over, and a warning names it. What is neither a file nor a folder is passed over too.
+///
+/// Its answers are noted, for contracts only: it agrees with each store that has all answers so far. So it promises nothing where the files
+/// change meanwhile in such a way that no store has them all.
 ///
 /// Source: Zarr core specification 3.1, "Storage keys".
 /// <https://zarr-specs.readthedocs.io/en/latest/v3/core/index.html#storage-keys>
@@ -22,6 +30,10 @@ use zarrs_store::{StoreKey, StorePrefix};
 pub struct Disk<'a, R> {
     rt: &'a R,
     folder: &'a str,
+    progress: Progress,
+    documents: Record<StoreKey, Option<Vec<u8>>>,
+    listings: Record<StorePrefix, Vec<StorePrefix>>,
+    searches: Record<StorePrefix, Option<StoreKey>>,
 }
 
 // What stands at a path, once links are followed.
@@ -32,19 +44,38 @@ enum Kind {
     Neither,
 }
 
-impl<'a, R: Log + Files + AllocGlobal> Disk<'a, R> {
-    /// The folder with this path.
+impl<'a, R: Log + Files + Clock + Eprint + AllocGlobal> Disk<'a, R> {
+    /// The folder with this path. It has given no answer, so it agrees with each store.
     ///
     /// # Errors
-    /// `Unread` where nothing stands there or it is not looked at, `NoFolder` where something else does. `OutOfMemory`.
+    /// `Unread` where nothing stands there or it is not looked at, `NoFolder` where something else does: both with this path. `OutOfMemory`.
     ///
     /// Source: own.
-    pub fn open(rt: &'a R, folder: &'a str) -> Result<Disk<'a, R>, FolderFault> {
+    pub fn open(rt: &'a R, folder: &'a str) -> Result<Disk<'a, R>, FolderFault>
+        ensures ok { IfOk result (λ disk. (V : Values) → ⟦<Disk<'a, R> as Folder>⟧.agrees disk V) }
+        ensures err { IfErr result (IsFaultOfFolder true) }
+        ensures named { IfErr result (IsFaultAt folder.now) }
+    {
         match fs::metadata(rt, folder) {
-            Ok(metadata) if metadata.is_dir() => Ok(Disk { rt, folder }),
+            Ok(metadata) if metadata.is_dir() => Ok(unasked(rt, folder)),
             Ok(_) => Err(FolderFault::NoFolder(String::from_str(rt.alloc(), folder)?)),
             Err(e) => Err(unread(rt.alloc(), folder, &e)?),
         }
+    }
+
+    /// The folder, which tells how far reading is where that is wanted, as where standard error is a terminal: each two seconds a line there says
+    /// how many nodes were read so far. Where the clock is not read, no line is written.
+    ///
+    /// Source: own.
+    pub fn telling(self, is_wanted: bool) -> Disk<'a, R>
+        ensures before { (V : Values) → ⟦<Disk<'a, R> as Folder>⟧.agrees result V
+            → ⟦<Disk<'a, R> as Folder>⟧.agrees self.entry V }
+        ensures after { (V : Values) → ⟦<Disk<'a, R> as Folder>⟧.agrees self.entry V
+            → ⟦<Disk<'a, R> as Folder>⟧.agrees result V }
+    {
+        let mut disk = self;
+        disk.progress = Progress::new(disk.rt, is_wanted);
+        disk
     }
 
     // The path of what has this text as its key or its prefix. It has no slash behind it.
@@ -59,6 +90,61 @@ impl<'a, R: Log + Files + AllocGlobal> Disk<'a, R> {
         }
         path.push_str(names)?;
         Ok(path)
+    }
+
+    // The bytes of the file with this key. What is no file has none.
+    fn read(&self, alloc: Global, key: &str) -> Result<Option<Vec<u8>>, FolderFault>
+        ensures err { IfErr result (IsFaultOfFolder true) }
+    {
+        let path = self.path(alloc, key)?;
+        match fs::metadata(self.rt, path.as_str()) {
+            Ok(metadata) if metadata.is_file() => {}
+            Ok(_) => return Ok(None),
+            Err(e) if is_absent(&e) => return Ok(None),
+            Err(e) => return Err(unread(alloc, path.as_str(), &e)?),
+        }
+        match bytes_of(alloc, self.rt, path.as_str()) {
+            Ok(bytes) => Ok(Some(bytes)),
+            Err(e) => Err(unread(alloc, path.as_str(), &e)?),
+        }
+    }
+
+    // The folders in a folder, in descending order of their names.
+    fn list(&self, alloc: Global, prefix: &str) -> Result<Vec<StorePrefix>, FolderFault>
+        ensures err { IfErr result (IsFaultOfFolder true) }
+    {
+        let mut children = Vec::new(alloc);
+        for mut names in self.names(alloc, prefix)? {
+            if let Kind::Folder = self.kind(alloc, names.as_str())? {
+                names.push('/')?;
+                children.push(prefix_of(alloc, names)?)?;
+            }
+        }
+        children.sort_unstable();
+        children.reverse();
+        Ok(children)
+    }
+
+    // The key of the first file that a search below a prefix comes upon.
+    fn search(&self, alloc: Global, prefix: &str) -> Result<Option<StoreKey>, FolderFault>
+        ensures err { IfErr result (IsFaultOfFolder true) }
+    {
+        let mut ahead = self.names(alloc, prefix)?;
+        for _turn in 0..u64::MAX {
+            let Some(mut names) = ahead.pop() else {
+                return Ok(None);
+            };
+            match self.kind(alloc, names.as_str())? {
+                Kind::File => return Ok(Some(key_of(alloc, names)?)),
+                Kind::Folder => {
+                    names.push('/')?;
+                    let mut below = self.names(alloc, names.as_str())?;
+                    ahead.append(&mut below)?;
+                }
+                Kind::Neither => {}
+            }
+        }
+        Err(FolderFault::OutOfMemory)
     }
 
     // The names in a folder, each behind the text of the folder's prefix. A folder that is absent has none.
@@ -135,27 +221,22 @@ impl<'a, R: Log + Files + AllocGlobal> Disk<'a, R> {
     }
 }
 
-impl<R: Log + Files + AllocGlobal> Folder for Disk<'_, R> {
-    ghost agrees = { λ _ _. ⊥ };
+impl<R: Log + Files + Clock + Eprint + AllocGlobal> Folder for Disk<'_, R> {
+    ghost agrees = { λ disk V. HasAnswers disk.documents.answers disk.listings.answers disk.searches.answers V };
 
     ghost can_fail = { λ _. true };
 
-    /// The bytes of the file, which is read to its end. What is no file has none.
+    /// The bytes of the file, which is read to its end. What is no file has none. A document that is no `.zattrs` and no `.zmetadata` counts as
+    /// a node that was read.
     ///
     /// # Errors
     /// `Unread` where the file is not looked at or not read. `OutOfMemory`.
     fn document(&mut self, alloc: Global, key: &StoreKey) -> Result<Option<Vec<u8>>, FolderFault> {
-        let path = self.path(alloc, key.as_str())?;
-        match fs::metadata(self.rt, path.as_str()) {
-            Ok(metadata) if metadata.is_file() => {}
-            Ok(_) => return Ok(None),
-            Err(e) if is_absent(&e) => return Ok(None),
-            Err(e) => return Err(unread(alloc, path.as_str(), &e)?),
-        }
-        match bytes_of(alloc, self.rt, path.as_str()) {
-            Ok(bytes) => Ok(Some(bytes)),
-            Err(e) => Err(unread(alloc, path.as_str(), &e)?),
-        }
+        let found = self.read(alloc, key.as_str())?;
+        let is_node = found.is_some() && is_of_node(key.as_str());
+        self.progress.count(self.rt, is_node);
+        self.documents = self.documents.with(key, &found);
+        Ok(found)
     }
 
     /// The folders in the folder, in descending order of their names.
@@ -167,15 +248,8 @@ impl<R: Log + Files + AllocGlobal> Folder for Disk<'_, R> {
         alloc: Global,
         prefix: &StorePrefix,
     ) -> Result<Vec<StorePrefix>, FolderFault> {
-        let mut children = Vec::new(alloc);
-        for mut names in self.names(alloc, prefix.as_str())? {
-            if let Kind::Folder = self.kind(alloc, names.as_str())? {
-                names.push('/')?;
-                children.push(prefix_of(alloc, names)?)?;
-            }
-        }
-        children.sort_unstable();
-        children.reverse();
+        let children = self.list(alloc, prefix.as_str())?;
+        self.listings = self.listings.with(prefix, &children);
         Ok(children)
     }
 
@@ -189,23 +263,31 @@ impl<R: Log + Files + AllocGlobal> Folder for Disk<'_, R> {
         alloc: Global,
         prefix: &StorePrefix,
     ) -> Result<Option<StoreKey>, FolderFault> {
-        let mut ahead = self.names(alloc, prefix.as_str())?;
-        for _turn in 0..u64::MAX {
-            let Some(mut names) = ahead.pop() else {
-                return Ok(None);
-            };
-            match self.kind(alloc, names.as_str())? {
-                Kind::File => return Ok(Some(key_of(alloc, names)?)),
-                Kind::Folder => {
-                    names.push('/')?;
-                    let mut below = self.names(alloc, names.as_str())?;
-                    ahead.append(&mut below)?;
-                }
-                Kind::Neither => {}
-            }
-        }
-        Err(FolderFault::OutOfMemory)
+        let found = self.search(alloc, prefix.as_str())?;
+        self.searches = self.searches.with(prefix, &found);
+        Ok(found)
     }
+}
+
+// A folder that was asked nothing.
+fn unasked<'a, R: Clock>(rt: &'a R, folder: &'a str) -> Disk<'a, R>
+    ensures documents { result.documents.answers ≡ [] }
+    ensures listings { result.listings.answers ≡ [] }
+    ensures searches { result.searches.answers ≡ [] }
+{
+    Disk {
+        rt,
+        folder,
+        progress: Progress::new(rt, false),
+        documents: Record::new(),
+        listings: Record::new(),
+        searches: Record::new(),
+    }
+}
+
+// Whether a node stands where there is a document with this key.
+fn is_of_node(key: &str) -> bool {
+    !key.ends_with(".zattrs") && !key.ends_with(".zmetadata")
 }
 
 // All bytes of a file.
@@ -276,7 +358,8 @@ fn unlisted(alloc: Global, path: &str, error: &io::Error) -> Result<FolderFault,
 
 // Why a folder or a file is not read, in the system's words.
 fn unread(alloc: Global, path: &str, error: &io::Error) -> Result<FolderFault, AllocError>
-    ensures { IfOk result (IsFaultOfFolder true) }
+    ensures err { IfOk result (IsFaultOfFolder true) }
+    ensures named { IfOk result (IsFaultAt path.now) }
 {
     if error.kind() == ErrorKind::OutOfMemory {
         return Ok(FolderFault::OutOfMemory);
@@ -290,7 +373,8 @@ fn unread(alloc: Global, path: &str, error: &io::Error) -> Result<FolderFault, A
 
 // Names the folder or the file that is not read, and why.
 fn refused(alloc: Global, path: &str, why: &str) -> Result<FolderFault, AllocError>
-    ensures { IfOk result (IsFaultOfFolder true) }
+    ensures err { IfOk result (IsFaultOfFolder true) }
+    ensures named { IfOk result (IsFaultAt path.now) }
 {
     Ok(FolderFault::Unread {
         path: String::from_str(alloc, path)?,

@@ -1,6 +1,7 @@
 //! What holds of every loaded store. Each function does nothing, and its contract is the law.
 ghost use Rattle.zarrs_folder.specs.Laws.{PrunedShowsSame, BaseShowsSame};
 ghost use Rattle.zarrs_folder.specs.Openings.{ShownListSame, ListedBlockIsSame, ShownOpenSame, LoadedOpensSame, BaseOpensSame, BlockOpensSame, OpenedAnswerSame};
+ghost use Rattle.zarrs_folder.specs.PassedPaths.{PassedHoldSame};
 
 /// A store shows what the store shows that it is pruned from: from the path on the same meanings, nodes, paths that are passed over, bad
 /// documents and names, and refusals.
@@ -65,4 +66,12 @@ pub fn block_opens_same()
 /// Source: own; Zarr core specification 3.1, "Hierarchy".
 pub fn opened_answer_same()
     ensures { OpenedAnswerSame }
+{}
+
+/// A store that is pruned from another, and has the documents below each path at which a listing goes no further, has the same documents as the other
+/// at each path that is below no array. What stands below an array is not needed for them.
+///
+/// Source: own; Zarr core specification 3.1, "Hierarchy".
+pub fn passed_hold_same()
+    ensures { PassedHoldSame }
 {}

@@ -8,10 +8,14 @@ mod folder;
 pub mod laws;
 mod memory;
 mod nodes;
+mod passed;
+mod paths;
 mod progress;
+mod record;
 
 pub use disk::Disk;
 pub use fault::FolderFault;
 pub use folder::Folder;
 pub use nodes::{load_base, load_below, load_nodes};
-pub use progress::Progress;
+pub use passed::load_passed;
+pub use paths::load_paths;

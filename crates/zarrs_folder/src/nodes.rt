@@ -235,7 +235,7 @@ fn is_array(found: &Option<NodeMetadata>) -> bool
 }
 
 // Loads the documents at a prefix, and tells whether there is any.
-fn read_documents<F: Folder>(
+pub(crate) fn read_documents<F: Folder>(
     alloc: Global,
     folder: &mut F,
     prefix: &StorePrefix,
@@ -259,7 +259,7 @@ fn read_documents<F: Folder>(
 }
 
 // Loads the document with a name, and tells whether it, or any before it, is there.
-fn read_document<F: Folder>(
+pub(crate) fn read_document<F: Folder>(
     alloc: Global,
     folder: &mut F,
     prefix: &StorePrefix,

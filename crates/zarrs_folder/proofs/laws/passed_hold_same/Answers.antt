@@ -1,0 +1,5 @@
+use Rattle.zarrs_folder.proofs.PassedLoading.{passed_hold_same}
+use Rattle.zarrs_folder.proofs.laws.passed_hold_same.Goals as goal
+
+pub returns : goal.returns
+returns c = passed_hold_same

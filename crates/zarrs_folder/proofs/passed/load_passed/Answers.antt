@@ -1,0 +1,32 @@
+use Rattle.std.proofs.Common.{arith, ◌∙◌, ◌∷◌, ◌++◌, [], ap, subst, sym, take, take_all}
+use Rattle.zarrs_form.proofs.Shared.{take_next}
+use Rattle.zarrs_path.specs.Paths.{Path}
+use Rattle.zarrs_folder.specs.Folders.{values_of}
+use Rattle.zarrs_folder.specs.PassedPaths.{HoldsBelow}
+use Rattle.zarrs_folder.proofs.Loading.{grows_further}
+use Rattle.zarrs_folder.proofs.PassedLoading.{below_another, below_grows, loaded_grows}
+use Rattle.zarrs_folder.proofs.passed.load_passed.Goals as goal
+
+pub loop-path-preserved : goal.loop-path-preserved
+loop-path-preserved g c =
+    let l = c.loop-path in
+    let made = c.in_ok-load_documents.ensures in
+    let p = c.path-item.result in
+    record {
+      before = λ V agrees. l.invariant.before V (c.load_documents.ensures.before V agrees);
+      grows = λ V agrees. grows_further V (values_of c.args.store.inner) (values_of l.loaded.inner) (values_of c.load_documents.new.loaded.inner) (l.invariant.grows V (c.load_documents.ensures.before V agrees)) (made.grows V agrees);
+      below = λ V agrees none.
+          let before = c.load_documents.ensures.before V agrees in
+          let grown = l.invariant.grows V before in
+          let done = take l.path-index c.args.passed.now in
+          let more = below_another V (values_of c.load_documents.new.loaded.inner) done p
+          (below_grows V (values_of l.loaded.inner) (values_of c.load_documents.new.loaded.inner) done (made.grows V agrees) (l.invariant.below V before none))
+          (made.below V agrees (grown.keys none)) in
+          subst (HoldsBelow V (values_of c.load_documents.new.loaded.inner)) (ap (λ x. done ++ x ∷ []) c.path-item.is ∙ take_next c.args.passed.now l.path-index p (omega arith)) more;
+    }
+
+pub returns-clause-ok : goal.returns-clause-ok
+returns-clause-ok g c V agrees loaded = loaded_grows V (values_of c.args.store.inner) (values_of c.loop-path.loaded.inner) c.args.base.now (c.loop-path.invariant.grows V agrees) loaded
+
+pub returns-clause-below : goal.returns-clause-below
+returns-clause-below g c V agrees none = subst (HoldsBelow V (values_of c.loop-path.loaded.inner)) (take_all _ c.args.passed.now (omega arith)) (c.loop-path.invariant.below V agrees none)
