@@ -1,0 +1,87 @@
+//! Stores that fail, which shows what is asked of a store, and memory that is refused.
+//!
+//! Each allocation of the test `memory_fails_in_notes` is refused in turn by `bench/failures`; it ends then as usual, or in out of memory.
+
+use crate::told::{store_in, told_text};
+use std::alloc::{AllocError, Global};
+use std::test::Fail;
+use tests_fixtures::{ANY, key_of, metadata_in};
+use tests_support::{check_rows, fields, said};
+use zarrs_block::NodeCreateError;
+use zarrs_notes::node_findings;
+use zarrs_path::NodePath;
+use zarrs_store::{FaultAt, FaultStore};
+
+// The names of the documents of a path.
+const NAMES: [&str; 5] = ["zarr.json", ".zarray", ".zgroup", ".zattrs", ".zmetadata"];
+
+// What is told of the node at a path over a store that fails where this document of the path is read.
+fn told_past(
+    alloc: Global,
+    path: &str,
+    documents: &str,
+    name: &str,
+) -> Result<String, NodeCreateError> {
+    let inner = store_in(alloc, documents)?;
+    let metadata = metadata_in(alloc, &inner, path, ANY)?;
+    let path = NodePath::new(alloc, path)?;
+    let prefix = path.to_prefix(alloc)?;
+    let key = key_of(alloc, format!(in alloc; "{prefix}{name}")?.as_str())?;
+    let store = FaultStore::new(inner, FaultAt::OnGet(key));
+    let found = node_findings(alloc, &store, &path, &metadata);
+    Ok(said(alloc, found, told_text)?)
+}
+
+// The documents of a path of which telling is refused, where reading one is a fault of the store.
+fn asked(alloc: Global, given: &str) -> Result<String, NodeCreateError> {
+    let (path, documents) = fields(given);
+    let mut text = String::new(alloc);
+    for name in NAMES {
+        let found = told_past(alloc, path, documents, name)?;
+        if found.as_str() == "Fault: store fault" {
+            write!(text, "{name}.")?;
+        }
+    }
+    Ok(text)
+}
+
+// A path and a store; the documents of the path that are asked for, each with a period behind it.
+const ASKED: &str = r#"
+/ | zarr.json G3 => .zarray..zgroup..zattrs..zmetadata.
+/a | zarr.json G3;a/zarr.json A3 => .zarray..zgroup..zattrs..zmetadata.
+/ | .zarray A2 => .zgroup..zmetadata.
+/a/b | a/b/.zarray A2;a/b/.zattrs {} => .zgroup..zmetadata.
+/ | .zgroup G2;.zmetadata {} =>
+"#;
+
+#[test]
+fn no_more_is_asked_than_what_can_be_told(rt: HostRuntime) -> Result<(), Fail> {
+    check_rows(rt.alloc(), ASKED, asked)
+}
+
+// ---- each allocation refused in turn
+
+// A group, of which a field, its block and a document beside are told.
+const GROUP: &str =
+    r#"a/zarr.json {"consolidated_metadata":1,"node_type":"group","x":1,"zarr_format":3};a/.zgroup G2"#;
+
+// What is told of it.
+const WANTED: &str =
+    "not opened: the block of /a has no must_understand false\nnot opened: the field x must be understood\nnote: beside: .zgroup is not read, since zarr.json stands there too\n";
+
+#[test]
+fn memory_fails_in_notes(rt: HostRuntime) -> Result<(), Fail> {
+    let alloc = rt.alloc();
+    let found = match told_past(alloc, "/a", GROUP, ".none") {
+        Ok(found) => found,
+        Err(error) => return Err(Fail::new(format_args!("{error}"))),
+    };
+    if found.as_str() == "OutOfMemory: out of memory" {
+        return Err(Fail::from(AllocError));
+    }
+    if found.as_str() == WANTED {
+        Ok(())
+    } else {
+        Err(Fail::new(format_args!("found {found}")))
+    }
+}

@@ -1,0 +1,57 @@
+-- All that is told of a node is all that there is to tell of it.
+use Rattle.std.proofs.Common.{◌≡◌, ◌↔◌, ◌⊎◌, inl, inr, ⊎_elim, List, [], ◌++◌, sym, subst, append_assoc, lit≤}
+use Rattle.zarrs_store.specs.Contents.{Contents}
+use Rattle.zarrs_path.specs.Paths.{Path}
+use Rattle.zarrs_meta.specs.declared.node.NodeMetadata.{NodeMetadata}
+use Rattle.zarrs_notes.specs.BesideDocuments.{main_document, passed_over}
+use Rattle.zarrs_notes.specs.Demands.{fields_of}
+use Rattle.zarrs_notes.specs.NodeFindings.{AreNodeFindings, IsBesideFinding, IsFieldFinding, IsGridFinding, IsMisplacedFinding, IsNameFinding, IsNodeFinding, IsZeroFinding}
+use Rattle.zarrs_notes.specs.StepsOfFindings.{FieldsAscend, beside_findings, field_findings, is_misplaced, shape_findings, told_if}
+use Rattle.zarrs_notes.specs.declared.finding.NodeFinding.{NodeFinding}
+use Rattle.zarrs_notes.specs.declared.finding.NodeFinding.TheVariants.{MisplacedBlock}
+use Rattle.zarrs_notes.proofs.BesideParts.{beside_part, misplaced_part}
+use Rattle.zarrs_notes.proofs.FieldParts.{field_part}
+use Rattle.zarrs_notes.proofs.Parts.{IsPart, joined, said}
+use Rattle.zarrs_notes.proofs.ShapeParts.{shape_part}
+
+module _ (s : Contents) (p : Path) (m : NodeMetadata) where
+  -- of the dimensions
+  abbrev OfShape : NodeFinding → Type 0
+  OfShape f = (IsGridFinding m f ⊎ IsZeroFinding m f) ⊎ IsNameFinding m f
+
+  -- of documents
+  abbrev OfDocuments : NodeFinding → Type 0
+  OfDocuments f = IsMisplacedFinding s p m f ⊎ IsBesideFinding s p m f
+
+  -- of all but the dimensions
+  abbrev OfRest : NodeFinding → Type 0
+  OfRest f = IsFieldFinding p m f ⊎ OfDocuments f
+
+  -- the parts say what there is to tell
+  parts_say : (f : NodeFinding) → (OfShape f ⊎ OfRest f) ↔ IsNodeFinding s p m f
+  parts_say f = (
+    ⊎_elim (⊎_elim (⊎_elim inl (λ z. inr (inl z))) (λ n. inr (inr (inl n)))) (λ rest. inr (inr (inr rest))),
+    ⊎_elim (λ g. inl (inl (inl g))) (⊎_elim (λ z. inl (inl (inr z))) (⊎_elim (λ n. inl (inr n)) inr)),
+  )
+
+  -- all parts in a row are what there is to tell
+  pub all_told : FieldsAscend (fields_of m)
+      → AreNodeFindings s p m (shape_findings m ++ (field_findings p (fields_of m) ++ (told_if (is_misplaced s p m) MisplacedBlock ++ beside_findings s p (main_document m) (passed_over m))))
+  all_told up =
+      let documents : IsPart 4 10 OfDocuments (told_if (is_misplaced s p m) MisplacedBlock ++ beside_findings s p (main_document m) (passed_over m)) =
+      joined 4 5 10 (IsMisplacedFinding s p m) (IsBesideFinding s p m) _ _ (lit≤ tt) (lit≤ tt) (misplaced_part s p m) (beside_part s p m) in
+      let rest : IsPart 3 10 OfRest (field_findings p (fields_of m) ++ (told_if (is_misplaced s p m) MisplacedBlock ++ beside_findings s p (main_document m) (passed_over m))) =
+      joined 3 4 10 (IsFieldFinding p m) OfDocuments _ _ (lit≤ tt) (lit≤ tt) (field_part p m up) documents in
+      let all = said 0 10 (λ f. OfShape f ⊎ OfRest f) (IsNodeFinding s p m) _ parts_say (joined 0 3 10 OfShape OfRest _ _ (lit≤ tt) (lit≤ tt) (shape_part m) rest) in
+      record { exact = all.exact; ascend = all.ascend }
+
+  -- parts that were put behind one another are what there is to tell
+  pub told_in_turn : FieldsAscend (fields_of m) → (none one two three four : List NodeFinding) → none ≡ [] → one ≡ none ++ shape_findings m → two ≡ one ++ field_findings p (fields_of m)
+      → three ≡ two ++ told_if (is_misplaced s p m) MisplacedBlock → four ≡ three ++ beside_findings s p (main_document m) (passed_over m) → AreNodeFindings s p m four
+  told_in_turn up none one two three four a b c d e =
+      let X = shape_findings m in
+      let Y = field_findings p (fields_of m) in
+      let Z = told_if (is_misplaced s p m) MisplacedBlock in
+      let W = beside_findings s p (main_document m) (passed_over m) in
+      let whole : four ≡ X ++ (Y ++ (Z ++ W)) = rw (e, d, c, b, a) (simp append_assoc) in
+      subst (AreNodeFindings s p m) (sym whole) (all_told up)

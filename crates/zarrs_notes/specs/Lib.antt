@@ -1,0 +1,7 @@
+pub mod BesideDocuments
+pub mod Demands
+pub mod FindingTexts
+pub mod Laws
+pub mod NodeFindings
+pub mod Shapes
+pub mod StepsOfFindings

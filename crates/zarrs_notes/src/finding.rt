@@ -1,0 +1,104 @@
+//! What there is to tell of a node.
+ghost use Rattle.std.specs.Prelude.{◌≡◌, Some};
+ghost use Rattle.zarrs_notes.specs.FindingTexts.{node_finding_text};
+ghost use Rattle.zarrs_notes.specs.NodeFindings.{is_note};
+
+use crate::file::NodeFile;
+use std::fmt;
+use zarrs_form::Text;
+use zarrs_path::NodePath;
+
+/// What there is to tell of a node by its own documents. It is a finding, which makes a reader refuse the node, or a note, which is worth
+/// knowing. It prints itself as what stands behind the path of the node.
+///
+/// Source: own.
+/// <https://zarr-specs.readthedocs.io/en/latest/v3/core/index.html#array-metadata>
+/// <https://zarr-specs.readthedocs.io/en/latest/v3/core/index.html#group-metadata>
+#[derive(Debug, Drop)]
+pub enum NodeFinding {
+    /// A finding: the chunk grid has another number of lengths than the shape.
+    GridRank {
+        /// The number of lengths of a chunk.
+        lengths: usize,
+        /// The number of lengths of the shape.
+        shape: usize,
+    },
+    /// A finding: a chunk has the length 0.
+    ZeroLength,
+    /// A finding: there is another number of dimension names than the shape has lengths.
+    NameCount {
+        /// The number of dimension names.
+        names: usize,
+        /// The number of lengths of the shape.
+        shape: usize,
+    },
+    /// A finding: the additional field of a group with this name must be understood, so opening the group is refused.
+    UnknownField(Text),
+    /// A finding: the block of the group at this path must be understood, so opening the group is refused.
+    DemandingBlock(NodePath),
+    /// A note: an array has a block, which is not read.
+    MisplacedBlock,
+    /// A note: a document stands beside the one that makes the node, and is not read.
+    Beside {
+        /// The document that is not read.
+        file: NodeFile,
+        /// The document that makes the node.
+        document: NodeFile,
+    },
+}
+
+impl NodeFinding {
+    /// Whether it is a note: worth knowing, and most often meant so.
+    ///
+    /// Source: own.
+    pub fn is_note(&self) -> bool
+        ensures { result ≡ is_note self.now }
+    {
+        matches!(
+            self,
+            NodeFinding::MisplacedBlock | NodeFinding::Beside { .. }
+        )
+    }
+}
+
+impl fmt::Display for NodeFinding {
+    ghost output = { λ finding. Some (node_finding_text finding) };
+
+    /// Writes what stands behind the path of the node.
+    fn fmt<W: fmt::Write>(&self, f: &mut fmt::Formatter<W>) -> fmt::Result {
+        match self {
+            NodeFinding::GridRank { lengths, shape } => {
+                write!(
+                    f,
+                    "bad shape: the chunk grid has {lengths} lengths, and the shape has {shape}"
+                )
+            }
+            NodeFinding::ZeroLength => f.write_str("bad shape: a chunk has the length 0"),
+            NodeFinding::NameCount { names, shape } => {
+                write!(
+                    f,
+                    "bad shape: there are {names} dimension names, and the shape has {shape}"
+                )
+            }
+            NodeFinding::UnknownField(name) => {
+                let name = name.as_str();
+                write!(f, "not opened: the field {name} must be understood")
+            }
+            NodeFinding::DemandingBlock(group) => {
+                write!(
+                    f,
+                    "not opened: the block of {group} has no must_understand false"
+                )
+            }
+            NodeFinding::MisplacedBlock => {
+                f.write_str("misplaced: an array has a block, which is not read")
+            }
+            NodeFinding::Beside { file, document } => {
+                write!(
+                    f,
+                    "beside: {file} is not read, since {document} stands there too"
+                )
+            }
+        }
+    }
+}

@@ -1,0 +1,15 @@
+//! What there is to tell of one node by its own documents: what a reader refuses though the documents read, and what stands beside them and
+//! is not read. The nodes below it are no part of it.
+#![tactic(auto)]
+
+mod beside;
+mod fields;
+mod file;
+mod finding;
+pub mod laws;
+mod node;
+mod shapes;
+
+pub use file::NodeFile;
+pub use finding::NodeFinding;
+pub use node::node_findings;
