@@ -135,11 +135,11 @@ fn faults_in(alloc: Global, call: Call, base: &str) -> Result<u32, Fail> {
 // A call and its base; at how many of 66 places a fault refuses it.
 const FAULTS: [(Call, &str, u32); 8] = [
     (Call::Survey, "/", 27),
-    (Call::Check, "/", 30),
+    (Call::Check, "/", 44),
     (Call::Survey, "/b", 13),
-    (Call::Check, "/b", 15),
+    (Call::Check, "/b", 17),
     (Call::Survey, "/bad", 4),
-    (Call::Check, "/bad", 4),
+    (Call::Check, "/bad", 8),
     (Call::Survey, "/nothing", 4),
     (Call::Check, "/nothing", 4),
 ];
@@ -192,6 +192,7 @@ b/../ no name
 / /e Missing
 / /old Stale
 / /u/x Unreachable
+/ /u/x Stale
 /b /b/c Differs
 /b /b/c/x Missing
 /e /e BlockFault NotJson: not JSON

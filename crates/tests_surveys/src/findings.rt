@@ -16,11 +16,18 @@ fn compared(alloc: Global, given: &str) -> Result<Option<Vec<Finding>>, NodeCrea
     let (paths, rest) = fields(given);
     let (group, base) = paths.split_once(" from ").unwrap_or((paths, "/"));
     let (documents, entries) = fields(rest);
+    let store = store_in(alloc, documents)?;
     let survey = survey_in(alloc, base, documents)?;
     let group = NodePath::new(alloc, group)?;
     let pairs = pairs_in(alloc, entries)?;
     let metadata = entries_of(alloc, pairs.as_slice())?;
-    Ok(compare_block(alloc, &survey, &group, ConsolidatedMetadata { metadata })?)
+    Ok(compare_block(
+        alloc,
+        &store,
+        &survey,
+        &group,
+        ConsolidatedMetadata { metadata },
+    )?)
 }
 
 // The kind of a finding, and what it holds.
@@ -32,8 +39,10 @@ fn kind_text(kind: &FindingKind, alloc: Global) -> Result<String, AllocError> {
         }
         FindingKind::BadKey(key) => format!(in alloc; "BadKey {}", key.as_str()),
         FindingKind::Shadowed(key) => format!(in alloc; "Shadowed {}", key.as_str()),
+        FindingKind::OwnKey(key) => format!(in alloc; "OwnKey {}", key.as_str()),
         FindingKind::Unreachable => String::from_str(alloc, "Unreachable"),
         FindingKind::Stale => String::from_str(alloc, "Stale"),
+        FindingKind::Unreached => String::from_str(alloc, "Unreached"),
         FindingKind::Differs => String::from_str(alloc, "Differs"),
         FindingKind::Missing => String::from_str(alloc, "Missing"),
     }
@@ -75,9 +84,22 @@ const COMPARED: &str = r#"
 / | zarr.json G3;a/zarr.json G3 | a G3;a//b G3;.. G3 => / / BadKey ..\n/ / BadKey a//b\n
 / | zarr.json G3;a/zarr.json NUL | a G3;a/x G3;b G3 => / /b Stale\n
 / | zarr.json G3;a/zarr.json NUL | a/x G3 => / /a/x Unreachable\n
-/ | zarr.json G3;a/zarr.json G3 | a G3; G3;/ G3 => / / Shadowed /\n
+/ | zarr.json G3;a/zarr.json G3 | a G3; G3;/ G3 => / / OwnKey \n/ / OwnKey /\n
+/ | zarr.json G3;a/zarr.json G3 | a G3; K => / / OwnKey \n
+/ | zarr.json G3;a/zarr.json G3 | a G3;/ G3 => / / OwnKey /\n
+/ | zarr.json G3;a/zarr.json G3 | a G3; G3;/ G3;.. G3;/a K => / / OwnKey \n/ / BadKey ..\n/ / OwnKey /\n/ / Shadowed /a\n
 /b | zarr.json G3;a/zarr.json G3;b/zarr.json G3;b/x/zarr.json A3;c/zarr.json G3 | y G3 => /b /b/x Missing\n/b /b/y Stale\n
-/ | zarr.json G3;a/zarr.json A3 | a A3;a/x G3 => / /a/x Unreachable\n
+/ | zarr.json G3;a/zarr.json A3 | a A3;a/x G3 => / /a/x Unreachable\n/ /a/x Stale\n
+# cut off, and different, gone or missing too
+/ | zarr.json G3;a/zarr.json G3;a/x/zarr.json G3 | a A3;a/x K => / /a Differs\n/ /a/x Unreachable\n/ /a/x Differs\n
+/ | zarr.json G3;a/zarr.json G3;a/x/zarr.json G3;a/z/zarr.json G3 | a/x K;a/y G3 => / /a Missing\n/ /a/x Unreachable\n/ /a/x Differs\n/ /a/y Unreachable\n/ /a/y Stale\n/ /a/z Missing\n
+/ | zarr.json G3;a/x/zarr.json G3 | a/x G3 => / /a/x Unreachable\n/ /a/x Unreached\n
+# a document stands where no listing comes: below no document, and below an array
+/ | zarr.json G3;a/x/zarr.json G3 | a G3;a/x G3 => / /a Stale\n/ /a/x Unreached\n
+/ | zarr.json G3;a/x/.zarray NUL;a/y/.zgroup NUL;a/z/.zattrs NUL;a/z/zarr.jso NUL | a G3;a/x K;a/y G3;a/z G3 => / /a Stale\n/ /a/x Unreached\n/ /a/y Unreached\n/ /a/z Stale\n
+/ | zarr.json G3;a/zarr.json A3;a/x/zarr.json NUL | a A3;a/x G3 => / /a/x Unreachable\n/ /a/x Unreached\n
+/ | zarr.json G3;a/zarr.json NUL;a/x/zarr.json G3 | a G3;a/x G3 =>
+/b | zarr.json G3;b/zarr.json G3;b/a/x/zarr.json G3;a/x/zarr.json G3 | a G3;a/x G3 => /b /b/a Stale\n/b /b/a/x Unreached\n
 /a from /a | a/zarr.json G3;a/x/zarr.json G3 | x G3 =>
 /a/x from /a | a/zarr.json G3;a/x/zarr.json G3;a/x/y/zarr.json G3;b/zarr.json G3 | => /a/x /a/x/y Missing\n
 /a | a/zarr.json G3;a/x/zarr.json G3 | => /a /a/x Missing\n

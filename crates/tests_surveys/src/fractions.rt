@@ -304,7 +304,7 @@ fn survey_data(
     let Some(Ok(block)) = read_block(alloc, store, &root, &metadata)? else {
         return Ok(text);
     };
-    if let Some(found) = compare_block(alloc, survey, &root, block)? {
+    if let Some(found) = compare_block(alloc, store, survey, &root, block)? {
         text.push_str(findings_text(&found, alloc)?.as_str())?;
     }
     Ok(text)

@@ -11,3 +11,5 @@ mod fractions;
 mod given;
 #[cfg(test)]
 mod surveys;
+#[cfg(test)]
+mod told;

@@ -34,12 +34,13 @@ use Rattle.zarrs_node.proofs.Found.{listed_each, all_pairs_first, all_pairs_tail
 use Rattle.zarrs_node.proofs.Order.{shown_ascend}
 use Rattle.zarrs_node.proofs.Unique.{names_irrefl}
 use Rattle.zarrs_survey.specs.Checks.{block_read, HasBadPath, IsBlockFinding, IsToldOf}
-use Rattle.zarrs_survey.specs.Findings.{Pair, HasPath, IsPathFinding, IsFinding}
+use Rattle.zarrs_node.specs.Exists.{HasNodeKey}
+use Rattle.zarrs_survey.specs.Findings.{Pair, HasPath, IsSpoilt, IsPathFinding, IsFinding}
 use Rattle.zarrs_survey.specs.Laws.{HaveSameNodes, GoodBlocksAgree}
 use Rattle.zarrs_survey.specs.Surveys.{IsSurveyOf}
 use Rattle.zarrs_survey.specs.declared.finding.Finding.{Finding}
 use Rattle.zarrs_survey.specs.declared.finding.FindingKind.{FindingKind}
-use Rattle.zarrs_survey.specs.declared.finding.FindingKind.TheVariants.{BadKey, Unreachable, Stale, Differs, Missing}
+use Rattle.zarrs_survey.specs.declared.finding.FindingKind.TheVariants.{BadKey, Unreachable, Stale, Unreached, Differs, Missing}
 use Rattle.zarrs_survey.specs.declared.survey.Survey.{Survey}
 use Rattle.zarrs_survey.proofs.Above.{below_or_not, same_or_not}
 use Rattle.zarrs_survey.proofs.Checking.{base_means}
@@ -138,11 +139,11 @@ path_out es p h = contains_map (λ (e : Pair). e.0) es (p, h.0) h.1
 module _ (s : Contents) (v : MetadataRetrieveVersion) (b : Path) (survey : Survey) (h : IsSurveyOf s v b survey) (sound : survey.bad_documents ≡ []) (m : NodeMetadata) (B : Block)
     (base : survey.base ≡ Ok m) (read : block_read s b m ≡ Some (Ok B)) (none : (f : Finding) → IsBlockFinding s v b f → f.group ≡ b → ⊥) where
   -- so nothing of the block is
-  untold : (p : Path) (k : FindingKind) → IsFinding B (Nodes s v true b) (HasBadPath s v b) b (record { group = b; path = p; kind = k }) → ⊥
+  untold : (p : Path) (k : FindingKind) → IsFinding B (Nodes s v true b) (HasBadPath s v b) (HasNodeKey s) b (record { group = b; path = p; kind = k }) → ⊥
   untold p k is = none (record { group = b; path = p; kind = k })
-      (m, inl (refl, (base_means s v b survey h m).0 base), subst (λ r. IsToldOf r (Nodes s v true b) (HasBadPath s v b) b (record { group = b; path = p; kind = k })) (sym read) is) refl
+      (m, inl (refl, (base_means s v b survey h m).0 base), subst (λ r. IsToldOf r (Nodes s v true b) (HasBadPath s v b) (HasNodeKey s) b (record { group = b; path = p; kind = k })) (sym read) is) refl
 
-  untold_path : (p : Path) (k : FindingKind) → IsPathFinding (Entries B b) (Nodes s v true b) (HasBadPath s v b) b p k → ⊥
+  untold_path : (p : Path) (k : FindingKind) → IsPathFinding (Entries B b) (Nodes s v true b) (HasBadPath s v b) (HasNodeKey s) b p k → ⊥
   untold_path p k is = untold p k (refl, inr is)
 
   -- each key is valid
@@ -167,7 +168,9 @@ module _ (s : Contents) (v : MetadataRetrieveVersion) (b : Path) (survey : Surve
   -- each kept entry has a node
   pub has_node : (p : Path) → HasPath (Kept (Entries B b) true b) p → HasPath (Nodes s v true b) p
   has_node p (k, (reached, is)) = ⊎_elim (λ w. w)
-      (λ other. absurd (untold_path p Stale ((k, is), (λ q low above. (reached.between q low above).1), other, λ spoilt. unspoilt spoilt.0 spoilt.1)))
+      (λ other.
+      let clean : IsSpoilt (HasBadPath s v b) p → ⊥ = λ spoilt. unspoilt spoilt.0 spoilt.1 in
+      absurd (untold_path p Stale ((k, is), other, clean, λ there. untold_path p Unreached ((k, is), other, clean, there))))
       (node_or_not p)
 
   -- each node has a kept entry
@@ -193,7 +196,7 @@ module _ (s : Contents) (v : MetadataRetrieveVersion) (b : Path) (survey : Surve
   -- and the same metadata
   pub same_metadata : (p : Path) (k n : NodeMetadata) → Kept (Entries B b) true b (p, k) → Nodes s v true b (p, n) → IsSame k n
   same_metadata p k n kept is = ⊎_elim (λ same. same)
-      (λ other. absurd (untold_path p Differs (k, n, kept.1, (λ q low above. (kept.0.between q low above).1), is, other)))
+      (λ other. absurd (untold_path p Differs (k, n, kept.1, is, other)))
       (same_or_other k n)
 
   -- so two forests that show them have the same

@@ -14,11 +14,11 @@ use Rattle.zarrs_node.proofs.Found.{listed_each, all_pairs_append}
 use Rattle.zarrs_node.proofs.Graft.{Contains-first, Contains-cons}
 use Rattle.zarrs_node.proofs.Keeps.{below_later}
 use Rattle.zarrs_node.proofs.Order.{contains_cases}
-use Rattle.zarrs_survey.specs.Findings.{Pair, HasPath, IsReachable, IsCutOff, IsPathFinding, IsKeyFinding, IsFinding, AreFindings, Precedes}
+use Rattle.zarrs_survey.specs.Findings.{Pair, HasPath, IsCutOff, IsSpoilt, IsPathFinding, IsKeyFinding, IsFinding, AreFindings, Precedes}
 use Rattle.zarrs_survey.specs.StepsOfComparing.{ArePathFindings, IsBadAmong, IsRidOf, key_findings}
 use Rattle.zarrs_survey.specs.declared.finding.Finding.{Finding}
 use Rattle.zarrs_survey.specs.declared.finding.FindingKind.{FindingKind}
-use Rattle.zarrs_survey.specs.declared.finding.FindingKind.TheVariants.{BlockFault, BadKey, Shadowed, Unreachable, Stale, Differs, Missing}
+use Rattle.zarrs_survey.specs.declared.finding.FindingKind.TheVariants.{BlockFault, BadKey, Shadowed, OwnKey, Unreachable, Stale, Unreached, Differs, Missing}
 use Rattle.zarrs_survey.proofs.KeyFindings.{names_valid, keys_exact, told_ascend}
 
 -- ---- the block without its bad keys
@@ -92,7 +92,7 @@ module _ (g : Path) (B C : Block) (up : IsAscending B) (rid : IsRidOf (key_findi
 
 -- ---- findings turn on which pairs there are alone
 
-module _ (E E' N N' : Pair → Type 0) (F F' : Path → Type 0) (g : Path) (low : (d : Pair) → E d → IsBelow g d.0)
+module _ (E E' N N' : Pair → Type 0) (F F' D : Path → Type 0) (g : Path) (low : (d : Pair) → E d → IsBelow g d.0)
     (e : (d : Pair) → E d ↔ E' d) (n : (d : Pair) → IsBelow g d.0 → N d ↔ N' d) (f : (q : Path) → F q ↔ F' q) where
   same_group : (q : Path) → HasGroup E q ↔ HasGroup E' q
   same_group q = (λ h. (h.0, (e (q, h.0)).0 h.1, h.2), λ h. (h.0, (e (q, h.0)).1 h.1, h.2))
@@ -100,63 +100,67 @@ module _ (E E' N N' : Pair → Type 0) (F F' : Path → Type 0) (g : Path) (low 
   same_entry : (p : Path) → HasPath E p → HasPath E' p
   same_entry p h = (h.0, (e (p, h.0)).0 h.1)
 
-  same_reachable : (p : Path) → IsReachable E g p → IsReachable E' g p
-  same_reachable p r q above below = (same_group q).0 (r q above below)
-
   same_cut : (p : Path) → IsCutOff E g p → IsCutOff E' g p
   same_cut p h = (h.0, h.1, h.2, λ group. h.3 ((same_group h.0).1 group))
 
-  pub finding_same : (p : Path) (k : FindingKind) → IsPathFinding E N F g p k → IsPathFinding E' N' F' g p k
+  -- where the one has no node or is not spoilt, the other has none and is not
+  none_same : (p : Path) → HasPath E p → (HasPath N p → ⊥) → HasPath N' p → ⊥
+  none_same p entry none has = none (has.0, (n (p, has.0) (low (p, entry.0) entry.1)).1 has.1)
+
+  clean_same : (p : Path) → (IsSpoilt F p → ⊥) → IsSpoilt F' p → ⊥
+  clean_same p clean spoilt = clean (spoilt.0, (f spoilt.0).1 spoilt.1, spoilt.2)
+
+  pub finding_same : (p : Path) (k : FindingKind) → IsPathFinding E N F D g p k → IsPathFinding E' N' F' D g p k
   finding_same p Unreachable h = (same_entry p h.0, same_cut p h.1)
-  finding_same p Stale h =
-      let below = low (p, h.0.0) h.0.1 in
-      (same_entry p h.0, same_reachable p h.1, λ has. h.2 (has.0, (n (p, has.0) below).1 has.1), λ spoilt. h.3 (spoilt.0, (f spoilt.0).1 spoilt.1, spoilt.2))
-  finding_same p Differs h =
-      let below = low (p, h.0) h.2 in
-      (h.0, h.1, (e (p, h.0)).0 h.2, same_reachable p h.3, (n (p, h.1) below).0 h.4, h.5)
+  finding_same p Stale h = (same_entry p h.0, none_same p h.0 h.1, clean_same p h.2, h.3)
+  finding_same p Unreached h = (same_entry p h.0, none_same p h.0 h.1, clean_same p h.2, h.3)
+  finding_same p Differs h = (h.0, h.1, (e (p, h.0)).0 h.2, (n (p, h.1) (low (p, h.0) h.2)).0 h.3, h.4)
   finding_same p Missing h = ((h.0.0, (n (p, h.0.0) h.1).0 h.0.1), h.1, λ has. h.2 (has.0, (e (p, has.0)).1 has.1))
   finding_same p (BlockFault fault) h = absurd h
   finding_same p (BadKey t) h = absurd h
   finding_same p (Shadowed t) h = absurd h
+  finding_same p (OwnKey t) h = absurd h
 
 -- and so do those of keys and paths together: on the nodes below the group
-pub findings_same : (B : Block) (N N' : Pair → Type 0) (F F' : Path → Type 0) (g : Path) → ((d : Pair) → IsBelow g d.0 → N d ↔ N' d) → ((q : Path) → F q ↔ F' q) → (x : Finding) → IsFinding B N F g x → IsFinding B N' F' g x
-findings_same B N N' F F' g n f x h = (h.0, ⊎_elim inl (λ p. inr (finding_same (Entries B g) (Entries B g) N N' F F' g (λ d is. (is.0, is.1, is.3)) (λ d. (λ y. y, λ y. y)) n f x.path x.kind p)) h.1)
+pub findings_same : (B : Block) (N N' : Pair → Type 0) (F F' D : Path → Type 0) (g : Path) → ((d : Pair) → IsBelow g d.0 → N d ↔ N' d) → ((q : Path) → F q ↔ F' q) → (x : Finding) → IsFinding B N F D g x → IsFinding B N' F' D g x
+findings_same B N N' F F' D g n f x h = (h.0, ⊎_elim inl (λ p. inr (finding_same (Entries B g) (Entries B g) N N' F F' D g (λ d is. (is.0, is.1, is.3)) (λ d. (λ y. y, λ y. y)) n f x.path x.kind p)) h.1)
 
 -- ---- both lists in a row
 
-module _ (g : Path) (B : Block) (h under : List Pair) (each_below : (d : Pair) → Contains under d ↔ (Contains h d × IsBelow g d.0)) (F : Path → Type 0) (es : List Pair) (others : List Finding) (up : IsAscending B) (each : (d : Pair) → Contains es d ↔ Entries B g d)
-    (are : ArePathFindings (Contains es) (Contains under) F g others) where
+module _ (g : Path) (B : Block) (h under : List Pair) (each_below : (d : Pair) → Contains under d ↔ (Contains h d × IsBelow g d.0)) (F D : Path → Type 0) (es : List Pair) (others : List Finding) (up : IsAscending B) (each : (d : Pair) → Contains es d ↔ Entries B g d)
+    (are : ArePathFindings (Contains es) (Contains under) F D g others) where
   -- the findings of paths are those of the block's entries beside all nodes
-  path_exact : (f : Finding) → Contains others f ↔ ((f.group ≡ g) × IsPathFinding (Entries B g) (Contains h) F g f.path f.kind)
+  path_exact : (f : Finding) → Contains others f ↔ ((f.group ≡ g) × IsPathFinding (Entries B g) (Contains h) F D g f.path f.kind)
   path_exact f = (
     λ in'.
         let w = (are.exact f).0 in' in (
           w.0,
-          finding_same (Contains es) (Entries B g) (Contains under) (Contains h) F F g (λ d in''. let is = (each d).0 in'' in (is.0, is.1, is.3)) each
+          finding_same (Contains es) (Entries B g) (Contains under) (Contains h) F F D g (λ d in''. let is = (each d).0 in'' in (is.0, is.1, is.3)) each
               (λ d below. (λ x. ((each_below d).0 x).0, λ x. (each_below d).1 (x, below))) (λ q. (λ x. x, λ x. x)) f.path f.kind w.1,
         ),
     λ w.
         (are.exact f).1 (
           w.0,
-          finding_same (Entries B g) (Contains es) (Contains h) (Contains under) F F g (λ d is. (is.0, is.1, is.3)) (λ d. ((each d).1, (each d).0))
+          finding_same (Entries B g) (Contains es) (Contains h) (Contains under) F F D g (λ d is. (is.0, is.1, is.3)) (λ d. ((each d).1, (each d).0))
               (λ d below. (λ x. (each_below d).1 (x, below), λ x. ((each_below d).0 x).0)) (λ q. (λ x. x, λ x. x)) f.path f.kind w.1,
         ),
   )
 
   -- a finding of a path is below the group
-  path_below : (p : Path) (k : FindingKind) → IsPathFinding (Entries B g) (Contains h) F g p k → IsBelow g p
+  path_below : (p : Path) (k : FindingKind) → IsPathFinding (Entries B g) (Contains h) F D g p k → IsBelow g p
   path_below p Unreachable w = (w.0.1.0, w.0.1.1, w.0.1.3)
   path_below p Stale w = (w.0.1.0, w.0.1.1, w.0.1.3)
+  path_below p Unreached w = (w.0.1.0, w.0.1.1, w.0.1.3)
   path_below p Differs w = (w.2.0, w.2.1, w.2.3)
   path_below p Missing w = w.1
   path_below p (BlockFault fault) w = absurd w
   path_below p (BadKey t) w = absurd w
   path_below p (Shadowed t) w = absurd w
+  path_below p (OwnKey t) w = absurd w
 
   -- both lists in a row are the findings of the block
-  pub found_all : (keys whole : List Finding) → keys ≡ key_findings g B B → whole ≡ keys ++ others → AreFindings B (Contains h) F g whole
-  found_all keys whole is all = subst (AreFindings B (Contains h) F g) (sym (all ∙ ap (λ x. x ++ others) is)) (record {
+  pub found_all : (keys whole : List Finding) → keys ≡ key_findings g B B → whole ≡ keys ++ others → AreFindings B (Contains h) F D g whole
+  found_all keys whole is all = subst (AreFindings B (Contains h) F D g) (sym (all ∙ ap (λ x. x ++ others) is)) (record {
     exact = λ f. (
       λ in'. ⊎_elim
           (λ first. let w = (keys_exact g B up f).0 first in (w.0, inl w.1))
@@ -167,7 +171,7 @@ module _ (g : Path) (B : Block) (h under : List Pair) (each_below : (d : Pair) �
           (λ path. Contains-append_right (key_findings g B B) others f ((path_exact f).1 (w.0, path)))
           w.1,
     );
-    ascend = all_pairs_append Precedes (key_findings g B B) others (told_ascend g B B up) (λ i j d l m. inl (are.ascend i j d l m))
+    ascend = all_pairs_append Precedes (key_findings g B B) others (told_ascend g B B up) are.ascend
         (λ x y first second.
         let key = (keys_exact g B up x).0 first in
         let path = (path_exact y).0 second in
@@ -177,8 +181,10 @@ module _ (g : Path) (B : Block) (h under : List Pair) (each_below : (d : Pair) �
       at_group : (p : Path) (k : FindingKind) → IsKeyFinding B g p k → p ≡ g
       at_group p (BadKey t) w = w.0
       at_group p (Shadowed t) w = w.0
+      at_group p (OwnKey t) w = w.0
       at_group p (BlockFault fault) w = absurd w
       at_group p Unreachable w = absurd w
       at_group p Stale w = absurd w
+      at_group p Unreached w = absurd w
       at_group p Differs w = absurd w
       at_group p Missing w = absurd w

@@ -19,16 +19,17 @@ use Rattle.zarrs_node.proofs.Order.{contains_cases}
 use Rattle.zarrs_node.proofs.Unique.{names_irrefl}
 use Rattle.zarrs_node.proofs.Child.{node_same}
 use Rattle.zarrs_survey.specs.Checks.{block_read, HasNode, HasBadPath, fault_of_block, IsToldOf, StandsBefore, AreBlockFindings}
+use Rattle.zarrs_node.specs.Exists.{HasNodeKey}
 use Rattle.zarrs_survey.specs.Findings.{Pair, AreFindings, IsPathFinding}
 use Rattle.zarrs_survey.specs.StepsOfChecks.{ReadBlock, GroupsAscend, AreTold, HasBad, AreFindingsOf}
 use Rattle.zarrs_survey.specs.StepsOfComparing.{ArePathFindings}
 use Rattle.zarrs_survey.specs.StepsOfMerging.{HoldsUpTo}
-use Rattle.zarrs_survey.specs.StepsOfComparisons.{NoneBad, IsUnderWay, IsOnly, IsEnd}
+use Rattle.zarrs_survey.specs.StepsOfComparisons.{NoneBad, NoDocument, IsUnderWay, IsOnly, IsEnd}
 use Rattle.zarrs_survey.specs.StepsOfTaking.{AreEnds, blocks_of}
 use Rattle.zarrs_survey.specs.Surveys.{IsBase, BadDocuments, IsSurveyOf}
 use Rattle.zarrs_survey.specs.declared.finding.Finding.{Finding}
 use Rattle.zarrs_survey.specs.declared.finding.FindingKind.{FindingKind}
-use Rattle.zarrs_survey.specs.declared.finding.FindingKind.TheVariants.{BlockFault, BadKey, Shadowed, Unreachable, Stale, Differs, Missing}
+use Rattle.zarrs_survey.specs.declared.finding.FindingKind.TheVariants.{BlockFault, BadKey, Shadowed, OwnKey, Unreachable, Stale, Unreached, Differs, Missing}
 use Rattle.zarrs_survey.specs.declared.comparison.Comparison.{Comparison}
 use Rattle.zarrs_survey.specs.declared.survey.Survey.{Survey}
 use Rattle.zarrs_survey.proofs.Blocks.{findings_same, found_all}
@@ -38,24 +39,24 @@ use Rattle.zarrs_survey.proofs.Taking.{HasBlock, IsAt, IsNode, each_block, given
 -- ---- of one block
 
 -- what is told of a block is told of its group
-told_group : (r : Option (Result Block MetadataFault)) (N : Pair → Type 0) (F : Path → Type 0) (g : Path) (f : Finding) → IsToldOf r N F g f → f.group ≡ g
-told_group None N F g f h = absurd h
-told_group (Some (Err fault)) N F g f h = ap (λ x. x.group) h
-told_group (Some (Ok B)) N F g f h = h.0
+told_group : (r : Option (Result Block MetadataFault)) (N : Pair → Type 0) (F D : Path → Type 0) (g : Path) (f : Finding) → IsToldOf r N F D g f → f.group ≡ g
+told_group None N F D g f h = absurd h
+told_group (Some (Err fault)) N F D g f h = ap (λ x. x.group) h
+told_group (Some (Ok B)) N F D g f h = h.0
 
 -- it turns on which nodes there are below the group, and which bad documents, alone
-told_same : (r : Result Block MetadataFault) (N N' : Pair → Type 0) (F F' : Path → Type 0) (g : Path) → ((B : Block) → r ≡ Ok B → (d : Pair) → IsBelow g d.0 → N d ↔ N' d) → ((q : Path) → F q ↔ F' q) → (f : Finding) → IsToldOf (Some r) N F g f → IsToldOf (Some r) N' F' g f
-told_same (Err fault) N N' F F' g n q f h = h
-told_same (Ok B) N N' F F' g n q f h = findings_same B N N' F F' g (n B refl) q f h
+told_same : (r : Result Block MetadataFault) (N N' : Pair → Type 0) (F F' D : Path → Type 0) (g : Path) → ((B : Block) → r ≡ Ok B → (d : Pair) → IsBelow g d.0 → N d ↔ N' d) → ((q : Path) → F q ↔ F' q) → (f : Finding) → IsToldOf (Some r) N F D g f → IsToldOf (Some r) N' F' D g f
+told_same (Err fault) N N' F F' D g n q f h = h
+told_same (Ok B) N N' F F' D g n q f h = findings_same B N N' F F' D g (n B refl) q f h
 
-module _ (N : Pair → Type 0) (F : Path → Type 0) (g : Path) where
+module _ (N : Pair → Type 0) (F D : Path → Type 0) (g : Path) where
   -- of a block its findings are told
-  pub told_found : (r : Result Block MetadataFault) (B : Block) (found : List Finding) → r ≡ Ok B → AreFindings B N F g found → AreTold (Some r) N F g found
-  told_found r B found is h = subst (λ x. AreTold (Some x) N F g found) (sym is) (record { exact = h.exact; ascend = h.ascend })
+  pub told_found : (r : Result Block MetadataFault) (B : Block) (found : List Finding) → r ≡ Ok B → AreFindings B N F D g found → AreTold (Some r) N F D g found
+  told_found r B found is h = subst (λ x. AreTold (Some x) N F D g found) (sym is) (record { exact = h.exact; ascend = h.ascend })
 
   -- and of a block that does not read its fault
-  pub told_fault : (r : Result Block MetadataFault) (fault : MetadataFault) (x : Finding) → r ≡ Err fault → x ≡ fault_of_block g fault → AreTold (Some r) N F g (x ∷ [])
-  told_fault r fault x is at = subst (λ y. AreTold (Some y) N F g (x ∷ [])) (sym is) (record {
+  pub told_fault : (r : Result Block MetadataFault) (fault : MetadataFault) (x : Finding) → r ≡ Err fault → x ≡ fault_of_block g fault → AreTold (Some r) N F D g (x ∷ [])
+  told_fault r fault x is at = subst (λ y. AreTold (Some y) N F D g (x ∷ [])) (sym is) (record {
     exact = λ f. (
       λ in'. ⊎_elim (λ same. sym same ∙ at) (λ none. absurd (omega (arith, none.1))) (contains_cases x [] f in'),
       λ h. subst (Contains (x ∷ [])) (at ∙ sym h) (Contains-first x []),
@@ -70,68 +71,70 @@ only_under_way : (f : Finding) (c : Comparison) → IsOnly f c → IsUnderWay []
 only_under_way f c is = record {
   low = λ d in'. absurd (omega (arith, in'.1));
   under = λ d in'. absurd (omega (arith, in'.1));
-  holds = subst (λ es. HoldsUpTo (Contains []) (Contains []) NoneBad c.group es [] c.last c.found.items) (sym is.entries)
-      (subst (λ p. HoldsUpTo (Contains []) (Contains []) NoneBad c.group [] [] p c.found.items) (is.group ∙ sym is.last)
-      (subst (HoldsUpTo (Contains []) (Contains []) NoneBad c.group [] [] c.group) (sym is.found) (holds_none NoneBad c.group [] [] none none)));
+  holds = subst (λ es. HoldsUpTo (Contains []) (Contains []) NoneBad NoDocument c.group es [] c.last c.found.items) (sym is.entries)
+      (subst (λ p. HoldsUpTo (Contains []) (Contains []) NoneBad NoDocument c.group [] [] p c.found.items) (is.group ∙ sym is.last)
+      (subst (HoldsUpTo (Contains []) (Contains []) NoneBad NoDocument c.group [] [] c.group) (sym is.found) (holds_none c.group [] [] none none)));
 }
   where
     none : Ascend []
     none i j d l m = absurd (omega (arith, m))
 
 -- of no entries and no nodes nothing is told
-none_told : (F : Path → Type 0) (g : Path) (told : List Finding) → ArePathFindings (Contains []) (Contains []) F g told → told ≡ []
-none_told F g [] are = refl
-none_told F g (f ∷ fs) are = absurd (nothing_there f.path f.kind ((are.exact f).0 (Contains-first f fs)).1)
+none_told : (F D : Path → Type 0) (g : Path) (told : List Finding) → ArePathFindings (Contains []) (Contains []) F D g told → told ≡ []
+none_told F D g [] are = refl
+none_told F D g (f ∷ fs) are = absurd (nothing_there f.path f.kind ((are.exact f).0 (Contains-first f fs)).1)
   where
-    nothing_there : (p : Path) (k : FindingKind) → IsPathFinding (Contains []) (Contains []) F g p k → ⊥
+    nothing_there : (p : Path) (k : FindingKind) → IsPathFinding (Contains []) (Contains []) F D g p k → ⊥
     nothing_there p Unreachable h = omega (arith, h.0.1.1)
     nothing_there p Stale h = omega (arith, h.0.1.1)
+    nothing_there p Unreached h = omega (arith, h.0.1.1)
     nothing_there p Differs h = omega (arith, h.2.1)
     nothing_there p Missing h = omega (arith, h.0.1.1)
     nothing_there p (BlockFault fault) h = h
     nothing_there p (BadKey t) h = h
     nothing_there p (Shadowed t) h = h
+    nothing_there p (OwnKey t) h = h
 
 -- what is told at the end of a comparison with the nodes `done` is what there is to tell of its block
-module _ (done : List Pair) (up : Ascend done) (bad : List (Path × NodeCreateError)) (g : Path) (c : Comparison) (found : List Finding) (end : IsEnd c bad found) where
-  pub told_end : (r : Result Block MetadataFault) → IsAt done (g, r) c → AreTold (Some r) (Contains done) (HasBad bad) g found
+module _ (done : List Pair) (up : Ascend done) (bad : List (Path × NodeCreateError)) (D : Path → Type 0) (g : Path) (c : Comparison) (found : List Finding) (end : IsEnd D c bad found) where
+  pub told_end : (r : Result Block MetadataFault) → IsAt done (g, r) c → AreTold (Some r) (Contains done) (HasBad bad) D g found
   told_end (Err fault) is =
       let w = end [] [] (only_under_way (fault_of_block g fault) c is) in
-      let whole : found ≡ fault_of_block g fault ∷ [] = w.1 ∙ (ap (λ xs. xs ++ w.0) is.of_block ∙ ap (λ xs. fault_of_block g fault ∷ xs) (none_told (HasBad bad) c.group w.0 w.2)) in
-      subst (AreTold (Some (Err fault)) (Contains done) (HasBad bad) g) (sym whole) (told_fault (Contains done) (HasBad bad) g (Err fault) fault (fault_of_block g fault) refl refl)
+      let whole : found ≡ fault_of_block g fault ∷ [] = w.1 ∙ (ap (λ xs. xs ++ w.0) is.of_block ∙ ap (λ xs. fault_of_block g fault ∷ xs) (none_told (HasBad bad) D c.group w.0 w.2)) in
+      subst (AreTold (Some (Err fault)) (Contains done) (HasBad bad) D g) (sym whole) (told_fault (Contains done) (HasBad bad) D g (Err fault) fault (fault_of_block g fault) refl refl)
   told_end (Ok B) is =
       let nodes : List Pair = is.under ++ [] in
       let same : nodes ≡ is.under = append-nil is.under in
       let w = end is.all nodes (is.told [] (subst Ascend (sym same) (is.under_ascend up)) (λ d in'. absurd (omega (arith, in'.1)))) in
-      let told : ArePathFindings (Contains is.all) (Contains is.under) (HasBad bad) g w.0 =
-      subst (λ (ns : List Pair). ArePathFindings (Contains is.all) (Contains ns) (HasBad bad) g w.0) same (subst (λ p. ArePathFindings (Contains is.all) (Contains nodes) (HasBad bad) p w.0) is.group w.2) in
-      told_found (Contains done) (HasBad bad) g (Ok B) B found refl
-      (found_all g B done is.under is.each_under (HasBad bad) is.all w.0 is.ascending is.entries told c.of_block.items found is.of_block w.1)
+      let told : ArePathFindings (Contains is.all) (Contains is.under) (HasBad bad) D g w.0 =
+      subst (λ (ns : List Pair). ArePathFindings (Contains is.all) (Contains ns) (HasBad bad) D g w.0) same (subst (λ p. ArePathFindings (Contains is.all) (Contains nodes) (HasBad bad) D p w.0) is.group w.2) in
+      told_found (Contains done) (HasBad bad) D g (Ok B) B found refl
+      (found_all g B done is.under is.each_under (HasBad bad) D is.all w.0 is.ascending is.entries told c.of_block.items found is.of_block w.1)
 
 -- ---- one block after another
 
-module _ (nodes : List Pair) (bad : List (Path × NodeCreateError)) where
+module _ (nodes : List Pair) (bad : List (Path × NodeCreateError)) (D : Path → Type 0) where
   -- the findings of no blocks are none
-  of_none : (found : List Finding) → found ≡ [] → AreFindingsOf [] nodes bad found
-  of_none found is = subst (AreFindingsOf [] nodes bad) (sym is) (record {
+  of_none : (found : List Finding) → found ≡ [] → AreFindingsOf [] nodes bad D found
+  of_none found is = subst (AreFindingsOf [] nodes bad D) (sym is) (record {
     exact = λ f. (λ in'. absurd (omega (arith, in'.1)), λ h. absurd (omega (arith, h.1.1)));
     ascend = λ i j d l m. absurd (omega (arith, m));
   })
 
   -- with one block more, before all others, what is told of it comes first
   of_first : (b : ReadBlock) (bs : List ReadBlock) (found rest whole : List Finding) → ((c : ReadBlock) → Contains bs c → path_cmp b.0 c.0 ≡ Less)
-      → whole ≡ found ++ rest → AreTold (Some b.1) (Contains nodes) (HasBad bad) b.0 found → AreFindingsOf bs nodes bad rest → AreFindingsOf (b ∷ bs) nodes bad whole
-  of_first b bs found rest whole before is told h = subst (AreFindingsOf (b ∷ bs) nodes bad) (sym is) (record {
+      → whole ≡ found ++ rest → AreTold (Some b.1) (Contains nodes) (HasBad bad) D b.0 found → AreFindingsOf bs nodes bad D rest → AreFindingsOf (b ∷ bs) nodes bad D whole
+  of_first b bs found rest whole before is told h = subst (AreFindingsOf (b ∷ bs) nodes bad D) (sym is) (record {
     exact = λ f. (
       λ in'. ⊎_elim
           (λ first.
           let w = (told.exact f).0 first in
           let at = of_group f first in
-          (b.1, subst (λ x. Contains (b ∷ bs) (x, b.1)) (sym at) (Contains-first b bs), subst (λ x. IsToldOf (Some b.1) (Contains nodes) (HasBad bad) x f) (sym at) w))
+          (b.1, subst (λ x. Contains (b ∷ bs) (x, b.1)) (sym at) (Contains-first b bs), subst (λ x. IsToldOf (Some b.1) (Contains nodes) (HasBad bad) D x f) (sym at) w))
           (λ second. let w = (h.exact f).0 second in (w.0, Contains-cons b bs (f.group, w.0) w.1, w.2))
           (Contains-append_cases found rest f in'),
       λ w. ⊎_elim
-          (λ new. Contains-append_left found rest f ((told.exact f).1 (subst (λ (d : ReadBlock). IsToldOf (Some d.1) (Contains nodes) (HasBad bad) d.0 f) (sym new) w.2)))
+          (λ new. Contains-append_left found rest f ((told.exact f).1 (subst (λ (d : ReadBlock). IsToldOf (Some d.1) (Contains nodes) (HasBad bad) D d.0 f) (sym new) w.2)))
           (λ old. Contains-append_right found rest f ((h.exact f).1 (w.0, old, w.2)))
           (contains_cases b bs (f.group, w.0) w.1),
     );
@@ -147,23 +150,23 @@ module _ (nodes : List Pair) (bad : List (Path × NodeCreateError)) where
   })
     where
       of_group : (f : Finding) → Contains found f → f.group ≡ b.0
-      of_group f in' = told_group (Some b.1) (Contains nodes) (HasBad bad) b.0 f ((told.exact f).0 in')
+      of_group f in' = told_group (Some b.1) (Contains nodes) (HasBad bad) D b.0 f ((told.exact f).0 in')
 
   -- the ends of comparisons with blocks, one after another
   pub of_ends : Ascend nodes → (cs : List Comparison) (bs : List ReadBlock) (whole : List Finding) → length cs ≡ length bs
-      → ((j : ℕ) (c : Comparison) (b : ReadBlock) → j < length cs → IsAt nodes (get_or bs j b) (get_or cs j c)) → GroupsAscend bs → AreEnds cs bad whole → AreFindingsOf bs nodes bad whole
+      → ((j : ℕ) (c : Comparison) (b : ReadBlock) → j < length cs → IsAt nodes (get_or bs j b) (get_or cs j c)) → GroupsAscend bs → AreEnds D cs bad whole → AreFindingsOf bs nodes bad D whole
   of_ends up [] [] whole size each ascend is = of_none whole is
   of_ends up [] (b ∷ bs) whole size each ascend is = absurd (omega (arith, size))
   of_ends up (c ∷ cs) [] whole size each ascend is = absurd (omega (arith, size))
   of_ends up (c ∷ cs) (b ∷ bs) whole size each ascend is =
       of_first b bs is.0 is.1 whole (all_pairs_first (λ (d e : ReadBlock). path_cmp d.0 e.0 ≡ Less) b bs ascend) is.2
-      (told_end nodes up bad b.0 c is.0 is.3 b.1 (each 0 c b (omega (arith))))
+      (told_end nodes up bad D b.0 c is.0 is.3 b.1 (each 0 c b (omega (arith))))
       (of_ends up cs bs is.1 (omega (arith, size)) (λ j d e lt. each (suc j) d e (omega (arith, lt))) (all_pairs_tail (λ (d e : ReadBlock). path_cmp d.0 e.0 ≡ Less) b bs ascend) is.4)
 
 -- one end more comes last
-pub ends_more : (cs : List Comparison) (c : Comparison) (bad : List (Path × NodeCreateError)) (told found whole : List Finding) → whole ≡ told ++ found → AreEnds cs bad told → IsEnd c bad found → AreEnds (cs ++ c ∷ []) bad whole
-ends_more [] c bad told found whole is are end = (found, [], is ∙ (ap (λ xs. xs ++ found) are ∙ sym (append-nil found)), end, refl)
-ends_more (d ∷ cs) c bad told found whole is are end = (are.0, are.1 ++ found, is ∙ (ap (λ xs. xs ++ found) are.2 ∙ append_assoc are.0 are.1 found), are.3, ends_more cs c bad are.1 found (are.1 ++ found) refl are.4 end)
+pub ends_more : (D : Path → Type 0) (cs : List Comparison) (c : Comparison) (bad : List (Path × NodeCreateError)) (told found whole : List Finding) → whole ≡ told ++ found → AreEnds D cs bad told → IsEnd D c bad found → AreEnds D (cs ++ c ∷ []) bad whole
+ends_more D [] c bad told found whole is are end = (found, [], is ∙ (ap (λ xs. xs ++ found) are ∙ sym (append-nil found)), end, refl)
+ends_more D (d ∷ cs) c bad told found whole is are end = (are.0, are.1 ++ found, is ∙ (ap (λ xs. xs ++ found) are.2 ∙ append_assoc are.0 are.1 found), are.3, ends_more D cs c bad are.1 found (are.1 ++ found) refl are.4 end)
 
 -- ---- by what a survey is
 
@@ -214,22 +217,22 @@ module _ (s : Contents) (v : MetadataRetrieveVersion) (b : Path) (all : List Pai
 
   -- what is told of one block is what there is to tell of it
   told_each : (g : Path) (m : NodeMetadata) (r : Result Block MetadataFault) → Contains all (g, m) → block_read s g m ≡ Some r → (f : Finding)
-      → IsToldOf (Some r) (Contains all) (HasBad bad) g f ↔ IsToldOf (block_read s g m) (Nodes s v true b) (HasBadPath s v b) g f
+      → IsToldOf (Some r) (Contains all) (HasBad bad) (HasNodeKey s) g f ↔ IsToldOf (block_read s g m) (Nodes s v true b) (HasBadPath s v b) (HasNodeKey s) g f
   told_each g m r in' is f = (
-    λ h. subst (λ o. IsToldOf o (Nodes s v true b) (HasBadPath s v b) g f) (sym is)
-        (told_same r (Contains all) (Nodes s v true b) (HasBad bad) (HasBadPath s v b) g (λ B e d low. taken_below g m in' d low) bad_same f h),
-    λ h. told_same r (Nodes s v true b) (Contains all) (HasBadPath s v b) (HasBad bad) g
+    λ h. subst (λ o. IsToldOf o (Nodes s v true b) (HasBadPath s v b) (HasNodeKey s) g f) (sym is)
+        (told_same r (Contains all) (Nodes s v true b) (HasBad bad) (HasBadPath s v b) (HasNodeKey s) g (λ B e d low. taken_below g m in' d low) bad_same f h),
+    λ h. told_same r (Nodes s v true b) (Contains all) (HasBadPath s v b) (HasBad bad) (HasNodeKey s) g
         (λ B e d low. let w = taken_below g m in' d low in (w.1, w.0)) (λ q. ((bad_same q).1, (bad_same q).0)) f
-        (subst (λ o. IsToldOf o (Nodes s v true b) (HasBadPath s v b) g f) is h),
+        (subst (λ o. IsToldOf o (Nodes s v true b) (HasBadPath s v b) (HasNodeKey s) g f) is h),
   )
 
   -- what was read, where something is told of it
-  read_some : (o : Option (Result Block MetadataFault)) (N : Pair → Type 0) (F : Path → Type 0) (g : Path) (f : Finding) → IsToldOf o N F g f → (r : Result Block MetadataFault) × (o ≡ Some r)
-  read_some None N F g f h = absurd h
-  read_some (Some r) N F g f h = (r, refl)
+  read_some : (o : Option (Result Block MetadataFault)) (N : Pair → Type 0) (F D : Path → Type 0) (g : Path) (f : Finding) → IsToldOf o N F D g f → (r : Result Block MetadataFault) × (o ≡ Some r)
+  read_some None N F D g f h = absurd h
+  read_some (Some r) N F D g f h = (r, refl)
 
   -- what is told of the blocks of all nodes is what there is to tell of all blocks
-  pub of_taken : (found : List Finding) → AreFindingsOf (blocks_of s all) all bad found → AreBlockFindings s v b found
+  pub of_taken : (found : List Finding) → AreFindingsOf (blocks_of s all) all bad (HasNodeKey s) found → AreBlockFindings s v b found
   of_taken found told = record {
     exact = λ f. (
       λ in'.
@@ -237,7 +240,7 @@ module _ (s : Contents) (v : MetadataRetrieveVersion) (b : Path) (all : List Pai
           let has : HasBlock s all (f.group, w.0) = (each_block s all (f.group, w.0)).0 w.1 in
           (has.0, (each (f.group, has.0)).0 has.1, (told_each f.group has.0 w.0 has.1 has.2 f).0 w.2),
       λ w.
-          let r = read_some (block_read s f.group w.0) (Nodes s v true b) (HasBadPath s v b) f.group f w.2 in
+          let r = read_some (block_read s f.group w.0) (Nodes s v true b) (HasBadPath s v b) (HasNodeKey s) f.group f w.2 in
           let in' = (each (f.group, w.0)).1 w.1 in
           (told.exact f).1 (r.0, (each_block s all (f.group, r.0)).1 (w.0, in', r.1), (told_each f.group w.0 r.0 in' r.1 f).1 w.2),
     );

@@ -1,5 +1,7 @@
 -- What a comparison of entries and nodes keeps true.
-use Rattle.std.proofs.Common.{Option, Some, None, append-nil, true≢false, ◌≡◌, ◌↔◌, ◌⊎◌, inl, inr, ⊎_elim, Bool, true, false, ◌&&◌, if◌then◌else◌, List, [], ◌∷◌, ◌++◌, refl, sym, ap, subst, ◌∙◌, arith, Contains, IsTrue}
+use Rattle.std.proofs.Common.{Option, Some, None, true≢false, ◌≡◌, ◌↔◌, ◌⊎◌, inl, inr, ⊎_elim, Bool, true, false, ◌&&◌, if◌then◌else◌, List, [], ◌∷◌, ◌++◌, refl, sym, ap, subst, ◌∙◌, arith, Contains, AllPairs, IsTrue}
+use Rattle.std.specs.Prelude.{unwrap_or}
+use Rattle.std.proofs.lemmas.List.Elements.{Contains-append_left, Contains-append_right, Contains-append_cases}
 use Rattle.zarrs_path.specs.Paths.{Path, path_cmp, IsBelow}
 use Rattle.zarrs_path.specs.PathOrder.{path_total}
 use Rattle.zarrs_meta.specs.Node.{is_group}
@@ -7,37 +9,50 @@ use Rattle.zarrs_meta.specs.declared.node.NodeMetadata.{NodeMetadata}
 use Rattle.zarrs_compare.specs.Same.{IsSame}
 use Rattle.zarrs_node.specs.Order.{Ascend}
 use Rattle.zarrs_node.specs.Reach.{HasGroup}
+use Rattle.zarrs_node.proofs.Found.{all_pairs_append}
 use Rattle.zarrs_node.proofs.Graft.{Contains-first}
+use Rattle.zarrs_node.proofs.Order.{contains_cases}
 use Rattle.zarrs_survey.specs.declared.finding.Finding.{Finding}
 use Rattle.zarrs_survey.specs.declared.finding.FindingKind.{FindingKind}
-use Rattle.zarrs_survey.specs.declared.finding.FindingKind.TheVariants.{BlockFault, BadKey, Shadowed, Unreachable, Stale, Differs, Missing}
-use Rattle.zarrs_survey.specs.Findings.{Pair, HasPath, IsReachable, IsCutOff, IsSpoilt, IsPathFinding}
-use Rattle.zarrs_survey.specs.StepsOfComparing.{ArePathFindings, HangsFrom, IsBeforeFirst, IsPairKind, findings_at}
-use Rattle.zarrs_survey.specs.StepsOfMerging.{IsLeft, IsToldUpTo, IsBeforeAll, IsLastGroup, IsToTell, HoldsUpTo}
-use Rattle.zarrs_survey.proofs.Merging.{IsStep, step_entry, step_node, step_both, none_at, only_first, before_all, rest_same, rest_next, rest_all, told_none, told_same, told_more}
+use Rattle.zarrs_survey.specs.declared.finding.FindingKind.TheVariants.{BlockFault, BadKey, Shadowed, OwnKey, Unreachable, Stale, Unreached, Differs, Missing}
+use Rattle.zarrs_survey.specs.Findings.{Pair, HasPath, IsCutOff, IsPathFinding, Precedes, rank_of}
+use Rattle.zarrs_survey.specs.StepsOfComparing.{ArePathFindings, HangsFrom, IsBeforeFirst, IsPairKind, cut_kind, findings_at}
+use Rattle.zarrs_survey.specs.StepsOfMerging.{IsLeft, IsToldUpTo, IsBeforeAll, IsLastGroup, IsReachable, IsToTell, HoldsUpTo}
+use Rattle.zarrs_survey.specs.StepsOfComparisons.{NoneBad, NoDocument}
+use Rattle.zarrs_survey.proofs.Merging.{IsStep, step_entry, step_node, step_both, none_at, only_first, before_all, rest_same, rest_next, rest_all, told_none, told_these}
 use Rattle.zarrs_survey.proofs.LastGroup.{reached_or_not, base_is_last, last_after_group, last_after_other, hanging_reached, reached_hanging}
 
 -- a finding of the group b by its path and kind
 abbrev pub finding : Path → Path → FindingKind → Finding
 finding b p k = record { group = b; path = p; kind = k }
 
+-- what is told of a path, before the bad documents and others are known
+abbrev pub IsPlain : (Pair → Type 0) → (Pair → Type 0) → Path → Path → FindingKind → Type 0
+IsPlain E N b p k = IsPathFinding E N NoneBad NoDocument b p k
+
 -- a path has a finding only where it is one of an entry or a node
-is_somewhere : (E N : Pair → Type 0) (F : Path → Type 0) (b p : Path) (k : FindingKind) → IsPathFinding E N F b p k → HasPath E p ⊎ HasPath N p
-is_somewhere E N F b p Unreachable h = inl h.0
-is_somewhere E N F b p Stale h = inl h.0
-is_somewhere E N F b p Differs h = inl (h.0, h.2)
-is_somewhere E N F b p Missing h = inr h.0
-is_somewhere E N F b p (BlockFault fault) h = absurd h
-is_somewhere E N F b p (BadKey t) h = absurd h
-is_somewhere E N F b p (Shadowed t) h = absurd h
+is_somewhere : (E N : Pair → Type 0) (b p : Path) (k : FindingKind) → IsPlain E N b p k → HasPath E p ⊎ HasPath N p
+is_somewhere E N b p Unreachable h = inl h.0
+is_somewhere E N b p Stale h = inl h.0
+is_somewhere E N b p Unreached h = inl h.0
+is_somewhere E N b p Differs h = inl (h.0, h.2)
+is_somewhere E N b p Missing h = inr h.0
+is_somewhere E N b p (BlockFault fault) h = absurd h
+is_somewhere E N b p (BadKey t) h = absurd h
+is_somewhere E N b p (Shadowed t) h = absurd h
+is_somewhere E N b p (OwnKey t) h = absurd h
+
+-- findings of one group, up to those that are left
+abbrev pub IsToldTo : (Pair → Type 0) → (Pair → Type 0) → Path → List Pair → List Pair → List Finding → Type 0
+IsToldTo E N b es ns told = IsToldUpTo path_cmp (λ f. f.path) Precedes (IsLeft es ns) (IsToTell E N NoneBad NoDocument b) told
 
 -- before the first turn it holds
-pub holds_none : (F : Path → Type 0) (b : Path) (es ns : List Pair) → Ascend es → Ascend ns → HoldsUpTo (Contains es) (Contains ns) F b es ns b []
-holds_none F b es ns up_e up_n = record {
+pub holds_none : (b : Path) (es ns : List Pair) → Ascend es → Ascend ns → HoldsUpTo (Contains es) (Contains ns) NoneBad NoDocument b es ns b []
+holds_none b es ns up_e up_n = record {
   entries = rest_all path_cmp (IsLeft es ns) es up_e;
   nodes = rest_all path_cmp (IsLeft es ns) ns up_n;
   last = base_is_last b es;
-  told = told_none path_cmp (λ f. f.path) (IsLeft es ns) (IsToTell (Contains es) (Contains ns) F b) (λ f is. is_somewhere (Contains es) (Contains ns) F b f.path f.kind is.1);
+  told = told_none path_cmp (λ f. f.path) Precedes (IsLeft es ns) (IsToTell (Contains es) (Contains ns) NoneBad NoDocument b) (λ f is. is_somewhere (Contains es) (Contains ns) b f.path f.kind is.1);
 }
 
 -- a path before the first of ascending pairs is before each
@@ -49,63 +64,95 @@ before p (n ∷ ns) up h l has = before_all path_cmp path_total p n ns up h l ha
 same_finding : (f : Finding) (b p : Path) (k : FindingKind) → f.group ≡ b → f.path ≡ p → f.kind ≡ k → f ≡ finding b p k
 same_finding f b p k of at is = λ i. record { group = of i; path = at i; kind = is i }
 
-module _ (E N : Pair → Type 0) (F : Path → Type 0) (b : Path) where
-  -- the kind at the path of an entry that is cut off
-  only_unreachable : (p : Path) (k : FindingKind) → HasPath E p → (IsReachable E b p → ⊥) → IsPathFinding E N F b p k → k ≡ Unreachable
-  only_unreachable p Unreachable e cut h = refl
-  only_unreachable p Stale e cut h = absurd (cut h.1)
-  only_unreachable p Differs e cut h = absurd (cut h.3)
-  only_unreachable p Missing e cut h = absurd (h.2 e)
-  only_unreachable p (BlockFault fault) e cut h = absurd h
-  only_unreachable p (BadKey t) e cut h = absurd h
-  only_unreachable p (Shadowed t) e cut h = absurd h
+-- ---- the findings of one path
 
-  -- of a reachable entry without a node
-  only_stale : (p : Path) (k : FindingKind) → HasPath E p → IsReachable E b p → (HasPath N p → ⊥) → IsPathFinding E N F b p k → k ≡ Stale
-  only_stale p Stale e r no_n h = refl
-  only_stale p Unreachable e r no_n h = absurd (h.1.3 (r h.1.0 h.1.1 h.1.2))
-  only_stale p Differs e r no_n h = absurd (no_n (h.1, h.4))
-  only_stale p Missing e r no_n h = absurd (no_n h.0)
-  only_stale p (BlockFault fault) e r no_n h = absurd h
-  only_stale p (BadKey t) e r no_n h = absurd h
-  only_stale p (Shadowed t) e r no_n h = absurd h
+-- the finding, if there is one, is that
+at_in : (b p : Path) (o : Option FindingKind) (f : Finding) → Contains (findings_at b p o) f → (k : FindingKind) × (o ≡ Some k) × (f ≡ finding b p k)
+at_in b p None f h = absurd (omega (arith, h.1))
+at_in b p (Some k) f h = ⊎_elim (λ same. (k, refl, sym same)) (λ none. absurd (omega (arith, none.1))) (contains_cases (finding b p k) [] f h)
+
+at_out : (b p : Path) (o : Option FindingKind) (k : FindingKind) → o ≡ Some k → Contains (findings_at b p o) (finding b p k)
+at_out b p o k is = subst (λ x. Contains (findings_at b p x) (finding b p k)) (sym is) (Contains-first (finding b p k) [])
+
+-- of at most one there are no two
+at_alone : (R : Finding → Finding → Type 0) (b p : Path) (o : Option FindingKind) → AllPairs R (findings_at b p o)
+at_alone R b p None = λ i j d l m. absurd (omega (arith, m))
+at_alone R b p (Some k) = λ i j d l m. absurd (omega (arith, l, m))
+
+-- an entry is told as cut off where it is not reached
+cut_is : (reached : Bool) (k : FindingKind) → cut_kind reached ≡ Some k → (reached ≡ false) × (k ≡ Unreachable)
+cut_is false k e = (refl, sym (ap (λ o. unwrap_or o k) e))
+cut_is true k e = cc
+
+module _ (E N : Pair → Type 0) (b : Path) where
+  -- the other kind of the path, which stands behind that, if there is one
+  pub record IsOther (p : Path) (other : Option FindingKind) : Type 0 where
+    pub sound : (k : FindingKind) → other ≡ Some k → IsPlain E N b p k × (rank_of k ≡ 2)
+    pub complete : (k : FindingKind) → IsPlain E N b p k → (k ≡ Unreachable) ⊎ (other ≡ Some k)
+
+  -- of an entry without a node
+  other_stale : (p : Path) → HasPath E p → (HasPath N p → ⊥) → IsOther p (Some Stale)
+  other_stale p e no_n = record {
+    sound = λ k is. subst (λ x. IsPlain E N b p x × (rank_of x ≡ 2)) (ap (λ o. unwrap_or o k) is) ((e, no_n, λ h. h.1, λ h. h), refl);
+    complete = all;
+  }
+    where
+      all : (k : FindingKind) → IsPlain E N b p k → (k ≡ Unreachable) ⊎ (Some Stale ≡ Some k)
+      all Unreachable h = inl refl
+      all Stale h = inr refl
+      all Unreached h = absurd h.3
+      all Differs h = absurd (no_n (h.1, h.3))
+      all Missing h = absurd (no_n h.0)
+      all (BlockFault fault) h = absurd h
+      all (BadKey t) h = absurd h
+      all (Shadowed t) h = absurd h
+      all (OwnKey t) h = absurd h
+
+  -- of an entry and a node, each with one value
+  other_pair : (p : Path) (m n : NodeMetadata) → E (p, m) → N (p, n) → ((l : NodeMetadata) → E (p, l) → m ≡ l) → ((l : NodeMetadata) → N (p, l) → n ≡ l) → (kind : Option FindingKind) → IsPairKind m n kind → IsOther p kind
+  other_pair p m n e has only_e only_n None same = record { sound = λ k is. cc; complete = all }
+    where
+      all : (k : FindingKind) → IsPlain E N b p k → (k ≡ Unreachable) ⊎ (None ≡ Some k)
+      all Unreachable h = inl refl
+      all Differs h = absurd (h.4 (subst (λ x. IsSame x h.1) (only_e h.0 h.2) (subst (IsSame m) (only_n h.1 h.3) same)))
+      all Stale h = absurd (h.1 (n, has))
+      all Unreached h = absurd h.3
+      all Missing h = absurd (h.2 (m, e))
+      all (BlockFault fault) h = absurd h
+      all (BadKey t) h = absurd h
+      all (Shadowed t) h = absurd h
+      all (OwnKey t) h = absurd h
+  other_pair p m n e has only_e only_n (Some j) is = record {
+    sound = λ k same. subst (λ x. IsPlain E N b p x × (rank_of x ≡ 2)) (sym is.0 ∙ ap (λ o. unwrap_or o k) same) ((m, n, e, has, is.1), refl);
+    complete = λ k h. ⊎_elim inl (λ differs. inr (ap (λ x. Some x) (is.0 ∙ sym differs))) (all k h);
+  }
+    where
+      all : (k : FindingKind) → IsPlain E N b p k → (k ≡ Unreachable) ⊎ (k ≡ Differs)
+      all Unreachable h = inl refl
+      all Differs h = inr refl
+      all Stale h = absurd (h.1 (n, has))
+      all Unreached h = absurd h.3
+      all Missing h = absurd (h.2 (m, e))
+      all (BlockFault fault) h = absurd h
+      all (BadKey t) h = absurd h
+      all (Shadowed t) h = absurd h
+      all (OwnKey t) h = absurd h
 
   -- of a node without an entry
-  only_missing : (p : Path) (k : FindingKind) → (HasPath E p → ⊥) → IsPathFinding E N F b p k → k ≡ Missing
+  only_missing : (p : Path) (k : FindingKind) → (HasPath E p → ⊥) → IsPlain E N b p k → k ≡ Missing
   only_missing p Missing no_e h = refl
   only_missing p Unreachable no_e h = absurd (no_e h.0)
   only_missing p Stale no_e h = absurd (no_e h.0)
+  only_missing p Unreached no_e h = absurd (no_e h.0)
   only_missing p Differs no_e h = absurd (no_e (h.0, h.2))
   only_missing p (BlockFault fault) no_e h = absurd h
   only_missing p (BadKey t) no_e h = absurd h
   only_missing p (Shadowed t) no_e h = absurd h
-
-  -- of a reachable entry and a node
-  only_differs : (p : Path) (k : FindingKind) → HasPath E p → IsReachable E b p → HasPath N p → IsPathFinding E N F b p k → k ≡ Differs
-  only_differs p Differs e r n h = refl
-  only_differs p Unreachable e r n h = absurd (h.1.3 (r h.1.0 h.1.1 h.1.2))
-  only_differs p Missing e r n h = absurd (h.2 e)
-  only_differs p Stale e r n h = absurd (h.2 n)
-  only_differs p (BlockFault fault) e r n h = absurd h
-  only_differs p (BadKey t) e r n h = absurd h
-  only_differs p (Shadowed t) e r n h = absurd h
-
-  -- of a reachable entry and a node with the same metadata there is none
-  none_same : (p : Path) (m n : NodeMetadata) → E (p, m) → IsReachable E b p → N (p, n) → IsSame m n → ((l : NodeMetadata) → E (p, l) → m ≡ l) → ((l : NodeMetadata) → N (p, l) → n ≡ l) → (k : FindingKind) → IsPathFinding E N F b p k → ⊥
-  none_same p m n e r has same only_e only_n k h = other k h (only_differs p k (m, e) r (n, has) h)
-    where
-      other : (k : FindingKind) → IsPathFinding E N F b p k → k ≡ Differs → ⊥
-      other Differs h is = h.5 (subst (λ x. IsSame x h.1) (only_e h.0 h.2) (subst (IsSame m) (only_n h.1 h.4) same))
-      other Unreachable h is = cc
-      other Stale h is = cc
-      other Missing h is = cc
-      other (BlockFault fault) h is = h
-      other (BadKey t) h is = h
-      other (Shadowed t) h is = h
+  only_missing p (OwnKey t) no_e h = absurd h
 
   -- the pairs of E are below b, and whether it has a group at a path is known
   module _ (low : (e : Pair) → E e → IsBelow b e.0) (decide : (q : Path) → HasGroup E q ⊎ (HasGroup E q → ⊥)) where
-    module _ (e : Pair) (es ns : List Pair) (g g' : Path) (found : List Finding) (h : HoldsUpTo E N F b (e ∷ es) ns g found) where
+    module _ (e : Pair) (es ns : List Pair) (g g' : Path) (found : List Finding) (h : HoldsUpTo E N NoneBad NoDocument b (e ∷ es) ns g found) where
       -- E has the first entry
       has_entry : E (e.0, e.1)
       has_entry = h.entries.sound e (Contains-first e es)
@@ -143,52 +190,51 @@ module _ (E N : Pair → Type 0) (F : Path → Type 0) (b : Path) where
           (λ w. (w.0, w.1, subst (IsBelow w.0) (sym is_low.2) w.2, w.3))
           (reached_or_not E decide b is_low.0 is_low.1)
 
-      -- what is told at a step over it, whatever else is left
-      module _ (ns' : List Pair) (s : IsStep path_cmp (IsLeft (e ∷ es) ns) (IsLeft es ns') e.0) where
-        -- these are told
-        abbrev IsToldNow : List Finding → Type 0
-        IsToldNow told = IsToldUpTo path_cmp (λ f. f.path) (IsLeft es ns') (IsToTell E N F b) told
+      -- what is told at a step over it, whatever else is left: whether it is cut off, and the other kind
+      pub tells : (ns' : List Pair) → IsStep path_cmp (IsLeft (e ∷ es) ns) (IsLeft es ns') e.0 → (reached : Bool) → (IsTrue reached ↔ HangsFrom g e.0) → (other : Option FindingKind) → IsOther e.0 other
+          → IsToldTo E N b es ns' (found ++ (findings_at b e.0 (cut_kind reached) ++ findings_at b e.0 other))
+      tells ns' s reached says other is = told_these path_cmp path_total (λ f. f.path) Precedes (λ d x less. inl less) (IsLeft (e ∷ es) ns) (IsLeft es ns') (IsToTell E N NoneBad NoDocument b) found e.0 s h.told
+          (findings_at b e.0 (cut_kind reached) ++ findings_at b e.0 other)
+          (all_pairs_append Precedes (findings_at b e.0 (cut_kind reached)) (findings_at b e.0 other) (at_alone Precedes b e.0 (cut_kind reached)) (at_alone Precedes b e.0 other)
+          (λ x y first second.
+          let u = at_in b e.0 (cut_kind reached) x first in
+          let w = at_in b e.0 other y second in
+          let rank_x : rank_of u.0 ≡ 1 = ap rank_of (cut_is reached u.0 u.1).1 in
+          let rank_y : rank_of w.0 ≡ 2 = (is.sound w.0 w.1).1 in
+          subst (λ z. Precedes z y) (sym u.2) (subst (Precedes (finding b e.0 u.0)) (sym w.2) (inr (refl, inl (omega (arith, rank_x, rank_y)))))))
+          (λ f in'. ⊎_elim
+          (λ first.
+          let u = at_in b e.0 (cut_kind reached) f first in
+          let cut = cut_is reached u.0 u.1 in
+          let unreached = not_reached (λ hangs. true≢false (sym (says.1 hangs) ∙ cut.0)) in
+          subst (λ x. IsToTell E N NoneBad NoDocument b x × (x.path ≡ e.0)) (sym (u.2 ∙ ap (finding b e.0) cut.1)) ((refl, ((e.1, has_entry), cut_off unreached)), refl))
+          (λ second.
+          let w = at_in b e.0 other f second in
+          subst (λ x. IsToTell E N NoneBad NoDocument b x × (x.path ≡ e.0)) (sym w.2) ((refl, (is.sound w.0 w.1).0), refl))
+          (Contains-append_cases (findings_at b e.0 (cut_kind reached)) (findings_at b e.0 other) f in'))
+          (λ f to_tell at.
+          let here : IsPlain E N b e.0 f.kind = subst (λ p. IsPlain E N b p f.kind) at to_tell.1 in
+          let whole : f ≡ finding b e.0 f.kind = same_finding f b e.0 f.kind to_tell.0 at refl in
+          ⊎_elim
+          (λ cut.
+          let off : IsPlain E N b e.0 Unreachable = subst (IsPlain E N b e.0) cut here in
+          Contains-append_left (findings_at b e.0 (cut_kind reached)) (findings_at b e.0 other) f
+          (subst (Contains (findings_at b e.0 (cut_kind reached))) (sym (whole ∙ ap (finding b e.0) cut))
+          (at_out b e.0 (cut_kind reached) Unreachable (unreached_cut reached says off.1))))
+          (λ same. Contains-append_right (findings_at b e.0 (cut_kind reached)) (findings_at b e.0 other) f
+          (subst (Contains (findings_at b e.0 other)) (sym whole) (at_out b e.0 other f.kind same)))
+          (is.complete f.kind here))
+        where
+          -- one that is cut off is not reached
+          unreached_cut : (reached : Bool) → (IsTrue reached ↔ HangsFrom g e.0) → IsCutOff E b e.0 → cut_kind reached ≡ Some Unreachable
+          unreached_cut false says cut = refl
+          unreached_cut true says cut = absurd (cut.3 (hanging_reached E b (e ∷ es) g e.0 h.last (says.0 refl) cut.0 cut.1 cut.2))
 
-        -- a finding, where it is the only one at the path
-        tells : (k : FindingKind) → IsPathFinding E N F b e.0 k → ((j : FindingKind) → IsPathFinding E N F b e.0 j → j ≡ k) → IsToldNow (found ++ finding b e.0 k ∷ [])
-        tells k is only = told_more path_cmp path_total (λ f. f.path) (IsLeft (e ∷ es) ns) (IsLeft es ns') (IsToTell E N F b) found e.0 s h.told
-            (finding b e.0 k) refl (refl, is) (λ f is' at. same_finding f b e.0 k is'.0 at (only f.kind (subst (λ p. IsPathFinding E N F b p f.kind) at is'.1)))
-
-        -- nothing, where there is none
-        tells_none : ((j : FindingKind) → IsPathFinding E N F b e.0 j → ⊥) → IsToldNow (found ++ [])
-        tells_none none_there = subst IsToldNow (sym (append-nil found))
-            (told_same path_cmp path_total (λ f. f.path) (IsLeft (e ∷ es) ns) (IsLeft es ns') (IsToTell E N F b) found e.0 s h.told
-            (λ f is at. none_there f.kind (subst (λ p. IsPathFinding E N F b p f.kind) at is.1)))
-
-        -- an entry that is cut off
-        tells_cut_off : (HangsFrom g e.0 → ⊥) → IsToldNow (found ++ finding b e.0 Unreachable ∷ [])
-        tells_cut_off other =
-            let cut = not_reached other in
-            tells Unreachable ((e.1, has_entry), cut_off cut) (λ j. only_unreachable e.0 j (e.1, has_entry) cut)
-
-        -- an entry without a node, and not spoilt
-        tells_alone : (HasPath N e.0 → ⊥) → (IsSpoilt F e.0 → ⊥) → (reached : Bool) → (IsTrue reached ↔ HangsFrom g e.0) → (kind : FindingKind) → kind ≡ (if reached then Stale else Unreachable) → IsToldNow (found ++ finding b e.0 kind ∷ [])
-        tells_alone no_node clean false says kind is = subst (λ k. IsToldNow (found ++ finding b e.0 k ∷ [])) (sym is) (tells_cut_off (λ hangs. true≢false (sym (says.1 hangs))))
-        tells_alone no_node clean true says kind is =
-            let r = hanging_reached E b (e ∷ es) g e.0 h.last (says.0 refl) in
-            subst (λ k. IsToldNow (found ++ finding b e.0 k ∷ [])) (sym is)
-            (tells Stale ((e.1, has_entry), r, no_node, clean) (λ j. only_stale e.0 j (e.1, has_entry) r no_node))
-
-        -- an entry with a node
-        tells_both : (n : NodeMetadata) → N (e.0, n) → ((m : NodeMetadata) → N (e.0, m) → n ≡ m) → (reached : Bool) → (IsTrue reached ↔ HangsFrom g e.0) → (kind : Option FindingKind) → IsPairKind reached e.1 n kind → IsToldNow (found ++ findings_at b e.0 kind)
-        tells_both n has only false says kind is = subst (λ k. IsToldNow (found ++ findings_at b e.0 k)) (sym is) (tells_cut_off (λ hangs. true≢false (sym (says.1 hangs))))
-        tells_both n has only true says None is =
-            let r = hanging_reached E b (e ∷ es) g e.0 h.last (says.0 refl) in
-            tells_none (none_same e.0 e.1 n has_entry r has is only_entry only)
-        tells_both n has only true says (Some k) is =
-            let r = hanging_reached E b (e ∷ es) g e.0 h.last (says.0 refl) in
-            subst (λ k. IsToldNow (found ++ finding b e.0 k ∷ [])) (sym is.0)
-            (tells Differs (e.1, n, has_entry, r, has, is.1) (λ j. only_differs e.0 j (e.1, has_entry) r (n, has)))
-
-    -- an entry comes first, where no bad document is at or above it
-    pub entry_turn : (e : Pair) (es ns : List Pair) (g g' : Path) (found : List Finding) → HoldsUpTo E N F b (e ∷ es) ns g found → IsBeforeFirst e.0 ns → (IsSpoilt F e.0 → ⊥)
-        → (reached : Bool) → (IsTrue reached ↔ HangsFrom g e.0) → (kind : FindingKind) → kind ≡ (if reached then Stale else Unreachable) → g' ≡ (if reached && is_group e.1 then e.0 else g) → HoldsUpTo E N F b es ns g' (found ++ finding b e.0 kind ∷ [])
-    entry_turn e es ns g g' found h first clean reached says kind is turns =
+    -- an entry comes first
+    pub entry_turn : (e : Pair) (es ns : List Pair) (g g' : Path) (found : List Finding) → HoldsUpTo E N NoneBad NoDocument b (e ∷ es) ns g found → IsBeforeFirst e.0 ns
+        → (reached : Bool) → (IsTrue reached ↔ HangsFrom g e.0) → g' ≡ (if reached && is_group e.1 then e.0 else g)
+        → HoldsUpTo E N NoneBad NoDocument b es ns g' (found ++ (findings_at b e.0 (cut_kind reached) ++ findings_at b e.0 (Some Stale)))
+    entry_turn e es ns g g' found h first reached says turns =
         let before_ns = before e.0 ns h.nodes.ascend first in
         let s = step_entry path_cmp path_total e es ns h.entries.ascend before_ns in
         let no_node = none_at path_cmp path_total (IsLeft (e ∷ es) ns) N ns e.0 h.nodes s.was before_ns in
@@ -196,11 +242,11 @@ module _ (E N : Pair → Type 0) (F : Path → Type 0) (b : Path) where
           entries = rest_next path_cmp path_total (IsLeft (e ∷ es) ns) (IsLeft es ns) E e es s h.entries;
           nodes = rest_same path_cmp path_total (IsLeft (e ∷ es) ns) (IsLeft es ns) N ns e.0 s h.nodes;
           last = last_turn e es ns g g' found h reached says turns;
-          told = tells_alone e es ns g g' found h ns s no_node clean reached says kind is;
+          told = tells e es ns g g' found h ns s reached says (Some Stale) (other_stale e.0 (e.1, has_entry e es ns g g' found h) no_node);
         }
 
     -- a node comes first
-    pub node_turn : ((n : Pair) → N n → IsBelow b n.0) → (n : Pair) (es ns : List Pair) (g : Path) (found : List Finding) → HoldsUpTo E N F b es (n ∷ ns) g found → IsBeforeFirst n.0 es → HoldsUpTo E N F b es ns g (found ++ finding b n.0 Missing ∷ [])
+    pub node_turn : ((n : Pair) → N n → IsBelow b n.0) → (n : Pair) (es ns : List Pair) (g : Path) (found : List Finding) → HoldsUpTo E N NoneBad NoDocument b es (n ∷ ns) g found → IsBeforeFirst n.0 es → HoldsUpTo E N NoneBad NoDocument b es ns g (found ++ findings_at b n.0 (Some Missing))
     node_turn low_n n es ns g found h first =
         let before_es = before n.0 es h.entries.ascend first in
         let s = step_node path_cmp path_total n es ns h.nodes.ascend before_es in
@@ -210,14 +256,19 @@ module _ (E N : Pair → Type 0) (F : Path → Type 0) (b : Path) where
           entries = rest_same path_cmp path_total (IsLeft es (n ∷ ns)) (IsLeft es ns) E es n.0 s h.entries;
           nodes = rest_next path_cmp path_total (IsLeft es (n ∷ ns)) (IsLeft es ns) N n ns s h.nodes;
           last = h.last;
-          told = told_more path_cmp path_total (λ f. f.path) (IsLeft es (n ∷ ns)) (IsLeft es ns) (IsToTell E N F b) found n.0 s h.told
-              (finding b n.0 Missing) refl (refl, ((n.1, has), low_n n has, no_entry))
-              (λ f is at. same_finding f b n.0 Missing is.0 at (only_missing n.0 f.kind no_entry (subst (λ p. IsPathFinding E N F b p f.kind) at is.1)));
+          told = told_these path_cmp path_total (λ f. f.path) Precedes (λ d x less. inl less) (IsLeft es (n ∷ ns)) (IsLeft es ns) (IsToTell E N NoneBad NoDocument b) found n.0 s h.told
+              (findings_at b n.0 (Some Missing)) (at_alone Precedes b n.0 (Some Missing))
+              (λ f in'. let w = at_in b n.0 (Some Missing) f in' in
+              subst (λ x. IsToTell E N NoneBad NoDocument b x × (x.path ≡ n.0)) (sym (w.2 ∙ ap (finding b n.0) (sym (ap (λ o. unwrap_or o Missing) w.1)))) ((refl, ((n.1, has), low_n n has, no_entry)), refl))
+              (λ f is at.
+              let kind = only_missing n.0 f.kind no_entry (subst (λ p. IsPlain E N b p f.kind) at is.1) in
+              subst (Contains (findings_at b n.0 (Some Missing))) (sym (same_finding f b n.0 Missing is.0 at kind)) (at_out b n.0 (Some Missing) Missing refl));
         }
 
     -- an entry and a node of one path come first
-    pub both_turn : (e n : Pair) (es ns : List Pair) (g g' : Path) (found : List Finding) → HoldsUpTo E N F b (e ∷ es) (n ∷ ns) g found → e.0 ≡ n.0
-        → (reached : Bool) → (IsTrue reached ↔ HangsFrom g e.0) → (kind : Option FindingKind) → IsPairKind reached e.1 n.1 kind → g' ≡ (if reached && is_group e.1 then e.0 else g) → HoldsUpTo E N F b es ns g' (found ++ findings_at b e.0 kind)
+    pub both_turn : (e n : Pair) (es ns : List Pair) (g g' : Path) (found : List Finding) → HoldsUpTo E N NoneBad NoDocument b (e ∷ es) (n ∷ ns) g found → e.0 ≡ n.0
+        → (reached : Bool) → (IsTrue reached ↔ HangsFrom g e.0) → (kind : Option FindingKind) → IsPairKind e.1 n.1 kind → g' ≡ (if reached && is_group e.1 then e.0 else g)
+        → HoldsUpTo E N NoneBad NoDocument b es ns g' (found ++ (findings_at b e.0 (cut_kind reached) ++ findings_at b e.0 kind))
     both_turn e n es ns g g' found h at reached says kind is turns =
         let s = step_both path_cmp path_total e n es ns h.entries.ascend h.nodes.ascend at in
         let s_node = subst (IsStep path_cmp (IsLeft (e ∷ es) (n ∷ ns)) (IsLeft es ns)) at s in
@@ -226,14 +277,16 @@ module _ (E N : Pair → Type 0) (F : Path → Type 0) (b : Path) where
           entries = rest_next path_cmp path_total (IsLeft (e ∷ es) (n ∷ ns)) (IsLeft es ns) E e es s h.entries;
           nodes = rest_next path_cmp path_total (IsLeft (e ∷ es) (n ∷ ns)) (IsLeft es ns) N n ns s_node h.nodes;
           last = last_turn e es (n ∷ ns) g g' found h reached says turns;
-          told = tells_both e es (n ∷ ns) g g' found h ns s n.1
+          told = tells e es (n ∷ ns) g g' found h ns s reached says kind
+              (other_pair e.0 e.1 n.1 (has_entry e es (n ∷ ns) g g' found h)
               (subst (λ p. N (p, n.1)) (sym at) (h.nodes.sound n (Contains-first n ns)))
+              (only_entry e es (n ∷ ns) g g' found h)
               (λ m has. only m (subst (λ p. N (p, m)) at has))
-              reached says kind is;
+              kind is);
         }
 
   -- when nothing is left all was told
-  pub by_end : (g : Path) (found : List Finding) → HoldsUpTo E N F b [] [] g found → ArePathFindings E N F b found
+  pub by_end : (g : Path) (found : List Finding) → HoldsUpTo E N NoneBad NoDocument b [] [] g found → ArePathFindings E N NoneBad NoDocument b found
   by_end g found h = record {
     exact = λ f. (h.told.sound f, λ is. ⊎_elim (λ in'. in') (λ left. absurd (⊎_elim (λ has. omega (arith, has.1.1)) (λ has. omega (arith, has.1.1)) left)) (h.told.complete f is));
     ascend = h.told.ascend;

@@ -1,5 +1,5 @@
 -- What is told of the keys of a block.
-use Rattle.std.proofs.Common.{◌≡◌, ◌↔◌, inr, ⊎_elim, ℕ, Bool, true, false, if◌then◌else◌, cond, List, [], ◌∷◌, ◌++◌, get_or, length, refl, sym, ap, subst, ◌∙◌, arith, append_assoc, Contains, AllPairs, Less, Option, Some, None, is_some, true≢false, Ordering, Equal, Greater, is_eq}
+use Rattle.std.proofs.Common.{◌≡◌, ◌≢◌, ◌↔◌, ◌⊎◌, inl, inr, ⊎_elim, ℕ, Bool, true, false, if◌then◌else◌, cond, List, [], ◌∷◌, ◌++◌, get_or, length, refl, sym, ap, subst, ◌∙◌, arith, append_assoc, Contains, AllPairs, Less, Option, Some, None, is_some, true≢false, Ordering, Equal, Greater, is_eq}
 use Rattle.std.specs.List.{AllByRecursion, list_all, slice_split}
 use Rattle.std.specs.List.Sorted.{IsStrictlySortedBy}
 use Rattle.std.specs.Map.{keys_of}
@@ -10,7 +10,8 @@ use Rattle.std.proofs.lemmas.Map.Lookups.{exact_bytes}
 use Rattle.std.proofs.lemmas.List.Kept.{AllPairs-cons}
 use Rattle.zarrs_store.specs.Segments.{bytes_cmp, is_slash}
 use Rattle.zarrs_path.specs.Names.{is_name}
-use Rattle.zarrs_path.specs.Paths.{Path, IsPath, relative_names, parts}
+use Rattle.zarrs_path.specs.Paths.{Path, IsPath, relative_names, parts, without_leading_slash}
+use Rattle.zarrs_form.specs.Forms.{is_nil}
 use Rattle.zarrs_meta.specs.declared.node.NodeMetadata.{NodeMetadata}
 use Rattle.zarrs_block.specs.Block.{Block, IsAscending, IsValidKey, node_at_key}
 use Rattle.zarrs_block.specs.BlockExpansion.{is_covered}
@@ -18,11 +19,11 @@ use Rattle.zarrs_block.proofs.Expansion.{found_all}
 use Rattle.zarrs_block.proofs.KeyLaws.{names_of_key, valid_of_names}
 use Rattle.zarrs_node.proofs.Graft.{Contains-first, Contains-cons}
 use Rattle.zarrs_node.proofs.Order.{contains_cases}
-use Rattle.zarrs_survey.specs.Findings.{IsKeyFinding, key_of, Precedes}
+use Rattle.zarrs_survey.specs.Findings.{IsKeyFinding, key_of, rank_of, Precedes}
 use Rattle.zarrs_survey.specs.StepsOfComparing.{findings_at, key_kind, key_findings}
 use Rattle.zarrs_survey.specs.declared.finding.Finding.{Finding}
 use Rattle.zarrs_survey.specs.declared.finding.FindingKind.{FindingKind}
-use Rattle.zarrs_survey.specs.declared.finding.FindingKind.TheVariants.{BlockFault, BadKey, Shadowed, Unreachable, Stale, Differs, Missing}
+use Rattle.zarrs_survey.specs.declared.finding.FindingKind.TheVariants.{BlockFault, BadKey, Shadowed, OwnKey, Unreachable, Stale, Unreached, Differs, Missing}
 
 -- a key is valid where its relative names are names
 pub names_valid : (t : List ℕ) → IsValidKey t ↔ IsPath (relative_names t)
@@ -36,40 +37,79 @@ covered_from B (c ∷ t) e = let h = and_parts (is_slash c) (is_some (node_at_ke
 covered_of : (B : Block) (t u : List ℕ) → t ≡ 47 ∷ u → IsSome (node_at_key B u) → is_covered B t ≡ true
 covered_of B t u is has = ap (is_covered B) is ∙ has
 
+-- the key of the group itself is empty, or one slash
+own_from : (t : List ℕ) → is_nil (without_leading_slash t) ≡ true → (t ≡ []) ⊎ (t ≡ 47 ∷ [])
+own_from [] e = inl refl
+own_from (c ∷ t) e = by (is_slash c) refl e
+  where
+    rest : (u : List ℕ) → is_nil u ≡ true → u ≡ []
+    rest [] e = refl
+    rest (x ∷ u) e = absurd (true≢false (sym e))
+
+    by : (b : Bool) → is_slash c ≡ b → is_nil (cond b t (c ∷ t)) ≡ true → (c ∷ t ≡ []) ⊎ (c ∷ t ≡ 47 ∷ [])
+    by true is e = inr (ap (λ d. d ∷ t) (eqb-true c 47 is) ∙ ap (λ u. 47 ∷ u) (rest t e))
+    by false is e = absurd (true≢false (sym e))
+
+own_of : (t : List ℕ) → (t ≡ []) ⊎ (t ≡ 47 ∷ []) → is_nil (without_leading_slash t) ≡ true
+own_of t = ⊎_elim (ap (λ u. is_nil (without_leading_slash u))) (ap (λ u. is_nil (without_leading_slash u)))
+
+-- another key is not
+other_key : (t u : List ℕ) → t ≡ 47 ∷ u → u ≢ [] → is_nil (without_leading_slash t) ≡ false
+other_key t [] is some = absurd (some refl)
+other_key t (x ∷ u) is some = ap (λ w. is_nil (without_leading_slash w)) is
+
 -- what is told of a key is what there is to tell of it
 module _ (g : Path) (B : Block) where
+  -- the kind of a key by what it is
+  abbrev kind_by : List ℕ → Bool → Bool → Bool → Option FindingKind
+  kind_by t own n c = if own then Some (OwnKey t) else if n then (if c then Some (Shadowed t) else None) else Some (BadKey t)
+
   -- the kind of a key is its finding's
   pub kind_finding : (t : List ℕ) (k : FindingKind) → IsSome (node_at_key B t) → key_kind B t ≡ Some k → IsKeyFinding B g g k × (key_of k ≡ t)
-  kind_finding t k has is = by (list_all is_name (relative_names t)) refl (is_covered B t) refl is
+  kind_finding t k has is = by (is_nil (without_leading_slash t)) refl (list_all is_name (relative_names t)) refl (is_covered B t) refl is
     where
-      by : (n : Bool) → list_all is_name (relative_names t) ≡ n → (c : Bool) → is_covered B t ≡ c → (if n then (if c then Some (Shadowed t) else None) else Some (BadKey t)) ≡ Some k → IsKeyFinding B g g k × (key_of k ≡ t)
-      by true n true c e =
+      by : (o : Bool) → is_nil (without_leading_slash t) ≡ o → (n : Bool) → list_all is_name (relative_names t) ≡ n → (c : Bool) → is_covered B t ≡ c → kind_by t o n c ≡ Some k → IsKeyFinding B g g k × (key_of k ≡ t)
+      by true own n named c cov e =
+          let same : OwnKey t ≡ k = ap (λ o. unwrap_or o k) e in
+          subst (λ x. IsKeyFinding B g g x × (key_of x ≡ t)) same ((refl, (own_from t own, has)), refl)
+      by false own true named true c e =
           let same : Shadowed t ≡ k = ap (λ o. unwrap_or o k) e in
           let w = covered_from B t c in
-          subst (λ x. IsKeyFinding B g g x × (key_of x ≡ t)) same ((refl, (w.0, w.1, (names_valid t).1 n, has, w.2)), refl)
-      by true n false c e = cc
-      by false n cov c e =
+          let some : w.0 ≢ [] = λ empty. true≢false (sym (own_of t (inr (w.1 ∙ ap (λ u. 47 ∷ u) empty))) ∙ own) in
+          subst (λ x. IsKeyFinding B g g x × (key_of x ≡ t)) same ((refl, (w.0, w.1, some, (names_valid t).1 named, has, w.2)), refl)
+      by false own true named false c e = cc
+      by false own false named cov c e =
           let same : BadKey t ≡ k = ap (λ o. unwrap_or o k) e in
-          subst (λ x. IsKeyFinding B g g x × (key_of x ≡ t)) same ((refl, (has, λ v. true≢false (sym ((names_valid t).0 v) ∙ n))), refl)
+          subst (λ x. IsKeyFinding B g g x × (key_of x ≡ t)) same ((refl, (has, λ v. true≢false (sym ((names_valid t).0 v) ∙ named))), refl)
+
+  -- a bad key is not the group's own, which is valid
+  not_own : (t : List ℕ) → (IsValidKey t → ⊥) → is_nil (without_leading_slash t) ≡ false
+  not_own t bad = false_from_ne_true (is_nil (without_leading_slash t)) (λ own. bad ([], refl, ⊎_elim inl inr (own_from t own)))
 
   -- and what there is to tell of a key is its kind
   pub finding_kind : (p : Path) (k : FindingKind) → IsKeyFinding B g p k → (p ≡ g) × IsSome (node_at_key B (key_of k)) × (key_kind B (key_of k) ≡ Some k)
-  finding_kind p (BadKey t) h = (h.0, h.1.0, rw (false_from_ne_true (list_all is_name (relative_names t)) (λ is. h.1.1 ((names_valid t).1 is))) refl)
-  finding_kind p (Shadowed t) h = (h.0, h.1.3, rw ((names_valid t).0 h.1.2, covered_of B t h.1.0 h.1.1 h.1.4) refl)
+  finding_kind p (BadKey t) h = (h.0, h.1.0, rw (not_own t h.1.1, false_from_ne_true (list_all is_name (relative_names t)) (λ is. h.1.1 ((names_valid t).1 is))) refl)
+  finding_kind p (Shadowed t) h = (h.0, h.1.4, rw (other_key t h.1.0 h.1.1 h.1.2, (names_valid t).0 h.1.3, covered_of B t h.1.0 h.1.1 h.1.5) refl)
+  finding_kind p (OwnKey t) h = (h.0, h.1.1, rw (own_of t h.1.0) refl)
   finding_kind p (BlockFault fault) h = absurd h
   finding_kind p Unreachable h = absurd h
   finding_kind p Stale h = absurd h
+  finding_kind p Unreached h = absurd h
   finding_kind p Differs h = absurd h
   finding_kind p Missing h = absurd h
 
-  -- the kind of a key is of that key
-  pub kind_key : (t : List ℕ) (k : FindingKind) → key_kind B t ≡ Some k → key_of k ≡ t
-  kind_key t k is = by (list_all is_name (relative_names t)) (is_covered B t) is
+  -- the kind of a key is of that key, and comes first
+  pub kind_key : (t : List ℕ) (k : FindingKind) → key_kind B t ≡ Some k → (key_of k ≡ t) × (rank_of k ≡ 0)
+  kind_key t k is = by (is_nil (without_leading_slash t)) (list_all is_name (relative_names t)) (is_covered B t) is
     where
-      by : (n c : Bool) → (if n then (if c then Some (Shadowed t) else None) else Some (BadKey t)) ≡ Some k → key_of k ≡ t
-      by true true e = ap (λ o. key_of (unwrap_or o k)) (sym e)
-      by true false e = cc
-      by false c e = ap (λ o. key_of (unwrap_or o k)) (sym e)
+      of_kind : (j : FindingKind) → Some j ≡ Some k → (key_of j ≡ t) × (rank_of j ≡ 0) → (key_of k ≡ t) × (rank_of k ≡ 0)
+      of_kind j e h = subst (λ x. (key_of x ≡ t) × (rank_of x ≡ 0)) (ap (λ o. unwrap_or o k) e) h
+
+      by : (o n c : Bool) → kind_by t o n c ≡ Some k → (key_of k ≡ t) × (rank_of k ≡ 0)
+      by true n c e = of_kind (OwnKey t) e (refl, refl)
+      by false true true e = of_kind (Shadowed t) e (refl, refl)
+      by false true false e = cc
+      by false false c e = of_kind (BadKey t) e (refl, refl)
 
   -- a finding of a key of the group
   abbrev pub of_key : FindingKind → Finding
@@ -109,9 +149,11 @@ module _ (g : Path) (B : Block) where
       by (Some k) is rest = AllPairs-cons Precedes (of_key k) (key_findings g B es)
           (λ i d l.
           let w = told_in es (get_or (key_findings g B es) i d) (Contains-get_or (key_findings g B es) i d l) in
+          let x = kind_key e.0 k is in
+          let y = kind_key w.0.0 w.1 w.3 in
           subst (Precedes (of_key k)) (sym w.4) (inr (
             refl,
-            ap (λ t. bytes_cmp t (key_of w.1)) (kind_key e.0 k is) ∙ ap (bytes_cmp e.0) (kind_key w.0.0 w.1 w.3) ∙ key_before e.0 es w.0 up.0 w.2,
+            inr (x.1 ∙ sym y.1, ap (λ t. bytes_cmp t (key_of w.1)) x.0 ∙ ap (bytes_cmp e.0) y.0 ∙ key_before e.0 es w.0 up.0 w.2),
           )))
           rest
 

@@ -9,9 +9,9 @@ use Rattle.zarrs_node.specs.Reach.{HasGroup}
 use Rattle.zarrs_node.proofs.Graft.{Contains-first, Contains-cons}
 use Rattle.zarrs_node.proofs.Order.{contains_cases}
 use Rattle.zarrs_node.proofs.Keeps.{below_later, below_trans, not_below_itself, above_child, none_between, between_below}
-use Rattle.zarrs_survey.specs.Findings.{Pair, IsAtOrAbove, IsReachable}
+use Rattle.zarrs_survey.specs.Findings.{Pair, IsAtOrAbove}
 use Rattle.zarrs_survey.specs.StepsOfComparing.{HangsFrom}
-use Rattle.zarrs_survey.specs.StepsOfMerging.{IsBeforeAll, IsLastGroup}
+use Rattle.zarrs_survey.specs.StepsOfMerging.{IsBeforeAll, IsLastGroup, IsReachable}
 use Rattle.zarrs_survey.proofs.Merging.{not_before, first_before}
 use Rattle.zarrs_survey.proofs.Above.{same_or_not, at_itself, at_or_above, above_up, up_cases, goes_through}
 

@@ -16,3 +16,4 @@ pub mod Ridding
 pub mod Surveying
 pub mod Taking
 pub mod UnderWay
+pub mod Visiting

@@ -1,9 +1,8 @@
 -- Two lists of pairs that ascend by their keys, gone over from the front: what is left of them, and what was told of the keys before.
-use Rattle.std.proofs.Common.{◌↔◌, ◌≡◌, ◌⊎◌, inl, inr, ⊎_elim, List, [], ◌∷◌, ◌++◌, get_or, refl, sym, ap, subst, ◌∙◌, arith, Contains, AllPairs, Ordering, Less}
-use Rattle.std.proofs.lemmas.List.Elements.{Contains-append_left, Contains-push, Contains-push_cases, Contains-get_or}
-use Rattle.std.proofs.lemmas.List.Quantifiers.{all_pairs_push}
+use Rattle.std.proofs.Common.{◌↔◌, ◌≡◌, ◌⊎◌, inl, inr, ⊎_elim, List, [], ◌∷◌, ◌++◌, refl, sym, ap, subst, ◌∙◌, arith, Contains, AllPairs, Ordering, Less}
+use Rattle.std.proofs.lemmas.List.Elements.{Contains-append_left, Contains-append_right, Contains-append_cases}
 use Rattle.std.specs.Cmp.{IsTotalOrder, tied_itself}
-use Rattle.zarrs_node.proofs.Found.{all_pairs_first, all_pairs_tail}
+use Rattle.zarrs_node.proofs.Found.{all_pairs_append, all_pairs_first, all_pairs_tail}
 use Rattle.zarrs_node.proofs.Graft.{Contains-first, Contains-cons}
 use Rattle.zarrs_node.proofs.Order.{contains_cases}
 use Rattle.zarrs_survey.specs.StepsOfMerging.{HasPairAt, IsLeft, IsPast, IsRest, IsToldUpTo}
@@ -97,35 +96,26 @@ module _ {K : Type 0} (cmp : K → K → Ordering) (total : IsTotalOrder cmp) wh
       least = λ l. ⊎_elim (first_before e es up_e l) (λ h. subst (λ x. cmp x l ≡ Less) (sym at) (first_before n ns up_n l h));
     }
 
-  module _ {A : Type 0} (key : A → K) (Left Left' : K → Type 0) (F : A → Type 0) (told : List A) (k : K) (s : IsStep cmp Left Left' k) (t : IsToldUpTo cmp key Left F told) where
-    -- at the key there is nothing to tell
-    pub told_same : ((f : A) → F f → key f ≡ k → ⊥) → IsToldUpTo cmp key Left' F told
-    told_same none = record {
-      ascend = t.ascend;
-      sound = t.sound;
-      past = λ f in' l left. t.past f in' l (s.fewer l left);
-      complete = λ f is. ⊎_elim inl (λ left. ⊎_elim (λ same. absurd (none f is (sym same))) inr (s.cases (key f) left)) (t.complete f is);
-    }
-
-    -- at the key there is this alone to tell
-    pub told_more : (g : A) → key g ≡ k → F g → ((f : A) → F f → key f ≡ k → f ≡ g) → IsToldUpTo cmp key Left' F (told ++ g ∷ [])
-    told_more g at is_g only = record {
-      ascend = all_pairs_push (λ d e. cmp (key d) (key e) ≡ Less) told g t.ascend
-          (λ i d lt. subst (λ x. cmp (key (get_or told i d)) x ≡ Less) (sym at) (t.past (get_or told i d) (Contains-get_or told i d lt) k s.was));
-      sound = λ f in'. ⊎_elim (t.sound f) (λ same. subst F same is_g) (Contains-push_cases told g f in');
+  -- what was told up to a key, in an order R in which what is told of an earlier key stands before what is told of a later one
+  module _ {A : Type 0} (key : A → K) (R : A → A → Type 0) (earlier : (d e : A) → cmp (key d) (key e) ≡ Less → R d e) (Left Left' : K → Type 0) (F : A → Type 0) (told : List A) (k : K) (s : IsStep cmp Left Left' k) (t : IsToldUpTo cmp key R Left F told) where
+    -- at the key there are exactly these to tell
+    pub told_these : (gs : List A) → AllPairs R gs → ((g : A) → Contains gs g → F g × (key g ≡ k)) → ((f : A) → F f → key f ≡ k → Contains gs f) → IsToldUpTo cmp key R Left' F (told ++ gs)
+    told_these gs up are only = record {
+      ascend = all_pairs_append R told gs t.ascend up (λ d g before new. earlier d g (subst (λ x. cmp (key d) x ≡ Less) (sym (are g new).1) (t.past d before k s.was)));
+      sound = λ f in'. ⊎_elim (t.sound f) (λ new. (are f new).0) (Contains-append_cases told gs f in');
       past = λ f in' l left. ⊎_elim
           (λ old. t.past f old l (s.fewer l left))
-          (λ same. subst (λ x. cmp x l ≡ Less) (sym at ∙ ap key same) (s.least l left))
-          (Contains-push_cases told g f in');
+          (λ new. subst (λ x. cmp x l ≡ Less) (sym (are f new).1) (s.least l left))
+          (Contains-append_cases told gs f in');
       complete = λ f is. ⊎_elim
-          (λ old. inl (Contains-append_left told (g ∷ []) f old))
-          (λ left. ⊎_elim (λ same. inl (subst (Contains (told ++ g ∷ [])) (sym (only f is (sym same))) (Contains-push told g))) inr (s.cases (key f) left))
+          (λ old. inl (Contains-append_left told gs f old))
+          (λ left. ⊎_elim (λ same. inl (Contains-append_right told gs f (only f is (sym same)))) inr (s.cases (key f) left))
           (t.complete f is);
     }
 
 -- before the first step nothing is told, and all is left
-pub told_none : {K A : Type 0} (cmp : K → K → Ordering) (key : A → K) (Left : K → Type 0) (F : A → Type 0) → ((f : A) → F f → Left (key f)) → IsToldUpTo cmp key Left F []
-told_none cmp key Left F all = record {
+pub told_none : {K A : Type 0} (cmp : K → K → Ordering) (key : A → K) (R : A → A → Type 0) (Left : K → Type 0) (F : A → Type 0) → ((f : A) → F f → Left (key f)) → IsToldUpTo cmp key R Left F []
+told_none cmp key R Left F all = record {
   ascend = λ i j d l m. absurd (omega (arith, m));
   sound = λ f in'. absurd (omega (arith, in'.1));
   past = λ f in'. absurd (omega (arith, in'.1));

@@ -32,7 +32,7 @@ use Rattle.zarrs_survey.specs.Findings.{Pair}
 use Rattle.zarrs_survey.specs.StepsOfChecks.{ReadBlock, GroupsAscend}
 use Rattle.zarrs_survey.specs.StepsOfComparing.{AreBelow, key_findings}
 use Rattle.zarrs_survey.specs.StepsOfMerging.{HoldsUpTo}
-use Rattle.zarrs_survey.specs.StepsOfComparisons.{NoneBad, IsUnderWay, IsStart, IsOnly, IsNext, IsNextBelow, IsNextOf}
+use Rattle.zarrs_survey.specs.StepsOfComparisons.{NoneBad, NoDocument, IsUnderWay, IsStart, IsOnly, IsNext, IsNextBelow, IsNextOf}
 use Rattle.zarrs_survey.specs.StepsOfTaking.{AreCompared, IsAboveAt, IsBegun, IsNew, MayPutBlock, PlacesAscend, Takes, TakesNode, named_block, blocks_of, places_after, base_nodes, base_fault}
 use Rattle.zarrs_survey.specs.Surveys.{IsBase}
 use Rattle.zarrs_survey.specs.declared.comparison.Comparison.{Comparison}
@@ -215,9 +215,9 @@ compared_first done p B c none start = record {
   told = λ rest up under. record {
     low = λ d in'. let is = (start.entries d).0 in' in subst (λ q. IsBelow q d.0) (sym start.group) (is.0, is.1, is.3);
     under = λ d in'. subst (λ q. IsBelow q d.0) (sym start.group) (under d in');
-    holds = subst (λ q. HoldsUpTo (Contains c.entries.items) (Contains rest) NoneBad q c.entries.items rest c.last c.found.items) (sym start.group)
-        (subst (λ q. HoldsUpTo (Contains c.entries.items) (Contains rest) NoneBad p c.entries.items rest q c.found.items) (sym start.last)
-        (subst (HoldsUpTo (Contains c.entries.items) (Contains rest) NoneBad p c.entries.items rest p) (sym start.found) (holds_none NoneBad p c.entries.items rest start.ascend up)));
+    holds = subst (λ q. HoldsUpTo (Contains c.entries.items) (Contains rest) NoneBad NoDocument q c.entries.items rest c.last c.found.items) (sym start.group)
+        (subst (λ q. HoldsUpTo (Contains c.entries.items) (Contains rest) NoneBad NoDocument p c.entries.items rest q c.found.items) (sym start.last)
+        (subst (HoldsUpTo (Contains c.entries.items) (Contains rest) NoneBad NoDocument p c.entries.items rest p) (sym start.found) (holds_none p c.entries.items rest start.ascend up)));
   };
 }
 
@@ -493,7 +493,7 @@ module _ {S : Type 0} (contents : S → Contents) (can_fail : S → Bool) where
   module _ (k m z : Comparisons S) (s : Contents) (v : MetadataRetrieveVersion) (b p : Path) (base : Result NodeMetadata NodeCreateError) (at : p ≡ b) (same : contents k.storage.now ≡ s)
       (first : TakesAll (Takes contents can_fail) k (base_nodes p base) m) (walk : TakesForest (Takes contents can_fail) m z b (Nodes s v true b)) where
     -- the base and the nodes
-    abbrev all_nodes : List Pair
+    abbrev pub all_nodes : List Pair
     all_nodes = base_nodes b base ++ pairs walk.trees
 
     took_all : TakesAll (Takes contents can_fail) k all_nodes z
@@ -503,12 +503,12 @@ module _ {S : Type 0} (contents : S → Contents) (can_fail : S → Bool) where
     node_below d in' = let w = ((listed_each walk.shows.shown d).0 in').0.below in (w.0, w.1, w.2)
 
     -- they ascend
-    all_ascend : Ascend all_nodes
+    pub all_ascend : Ascend all_nodes
     all_ascend = all_pairs_append (λ (d x : Pair). path_cmp d.0 x.0 ≡ Less) (base_nodes b base) (pairs walk.trees) (one_base b base) (shown_ascend b (Nodes s v true b) walk.trees walk.shows)
         (λ x y one other. subst (λ q. path_cmp q y.0 ≡ Less) (base_path b base x one).0 (below_later b y.0 (node_below y other)))
 
     -- they are the base, where it is a node, and the nodes below it
-    each_node : IsBase s v b base → (d : Pair) → Contains all_nodes d ↔ HasNode s v b d
+    pub each_node : IsBase s v b base → (d : Pair) → Contains all_nodes d ↔ HasNode s v b d
     each_node is d = (
       λ in'. ⊎_elim
           (λ one. inl (base_out s v b base is d one))

@@ -1,9 +1,10 @@
 -- A comparison under way: what a turn keeps true, and what is told in the end.
-use Rattle.std.proofs.Common.{Bool, true, false, true≢false, not, ◌≡◌, ◌↔◌, inr, ⊎_elim, ◌&&◌, if◌then◌else◌, List, [], ◌∷◌, ◌++◌, length, get_or, Option, Ordering, Less, Equal, Greater, refl, sym, ap, subst, ◌∙◌, arith, append_assoc, append-nil, Contains, IsTrue}
+use Rattle.std.proofs.Common.{Bool, true, false, true≢false, ◌≡◌, ◌↔◌, ◌⊎◌, inl, inr, ⊎_elim, ◌&&◌, if◌then◌else◌, List, [], ◌∷◌, ◌++◌, get_or, Option, Some, None, Ordering, Less, Equal, Greater, refl, sym, ap, subst, ◌∙◌, arith, append_assoc, append-nil, AllPairs, Contains, IsTrue}
 use Rattle.std.specs.Bool.{◌==◌}
-use Rattle.std.specs.List.{items_where_true}
-use Rattle.std.specs.List.Retain.{ReturnsInTurn, IsFiltered}
 use Rattle.std.specs.Ordering.{ordering_index}
+use Rattle.std.specs.Prelude.{unwrap_or}
+use Rattle.std.proofs.lemmas.List.Elements.{Contains-append_left, Contains-append_right, Contains-append_cases}
+use Rattle.zarrs_store.specs.Segments.{bytes_cmp}
 use Rattle.zarrs_path.specs.Paths.{Path, path_cmp, IsBelow}
 use Rattle.zarrs_meta.specs.Node.{is_group}
 use Rattle.zarrs_meta.specs.declared.node.NodeMetadata.{NodeMetadata}
@@ -11,15 +12,15 @@ use Rattle.zarrs_block.specs.declared.node_create_error.NodeCreateError.{NodeCre
 use Rattle.zarrs_node.proofs.Found.{all_pairs_first, all_pairs_tail, all_pairs_append}
 use Rattle.zarrs_node.proofs.Graft.{Contains-first, Contains-cons}
 use Rattle.zarrs_node.proofs.Order.{contains_cases}
-use Rattle.zarrs_survey.specs.Findings.{Pair, IsSpoilt, IsPathFinding}
+use Rattle.zarrs_survey.specs.Findings.{Pair, IsSpoilt, IsPathFinding, Precedes, key_of, rank_of}
 use Rattle.zarrs_survey.specs.StepsOfChecks.{HasBad}
-use Rattle.zarrs_survey.specs.StepsOfComparing.{ArePathFindings, AreBelow, HangsFrom, IsBeforeFirst, IsPairKind, findings_at}
-use Rattle.zarrs_survey.specs.StepsOfComparisons.{IsEnd, IsExcusedBy, IsKeptOf, IsNext, IsNextBelow, IsNextOf, IsOneBlock, IsUnderWay, IsUnmoved, NoneBad, PassesLone, PassesPair, PutsKept}
+use Rattle.zarrs_survey.specs.StepsOfComparing.{ArePathFindings, AreBelow, HangsFrom, IsBeforeFirst, IsPairKind, cut_kind, findings_at}
+use Rattle.zarrs_survey.specs.StepsOfComparisons.{AreSettled, IsEnd, IsNext, IsNextBelow, IsNextOf, IsOneBlock, IsSettled, IsUnderWay, IsUnmoved, NoDocument, NoneBad, PassesLone, PassesPair, PutsSettled, if_some}
 use Rattle.zarrs_survey.specs.StepsOfMerging.{HoldsUpTo}
 use Rattle.zarrs_survey.specs.declared.comparison.Comparison.{Comparison}
 use Rattle.zarrs_survey.specs.declared.finding.Finding.{Finding}
 use Rattle.zarrs_survey.specs.declared.finding.FindingKind.{FindingKind}
-use Rattle.zarrs_survey.specs.declared.finding.FindingKind.TheVariants.{BlockFault, BadKey, Shadowed, Unreachable, Stale, Differs, Missing}
+use Rattle.zarrs_survey.specs.declared.finding.FindingKind.TheVariants.{BlockFault, BadKey, Shadowed, OwnKey, Unreachable, Stale, Unreached, Differs, Missing}
 use Rattle.zarrs_survey.proofs.Above.{earlier_after}
 use Rattle.zarrs_survey.proofs.Comparing.{finding, entry_turn, node_turn, both_turn, by_end}
 use Rattle.zarrs_survey.proofs.LastGroup.{group_or_not}
@@ -45,16 +46,12 @@ is_equal Greater h g = absurd (true≢false (sym h))
 
 -- ---- turns
 
--- where no document is bad no path is spoilt
-not_spoilt : (p : Path) → IsSpoilt NoneBad p → ⊥
-not_spoilt p h = h.1
-
 -- what holds of a comparison holds of one with the same group, last group and findings
-under_way_as : (all nodes es ns : List Pair) (c d : Comparison) → d.group ≡ c.group → HoldsUpTo (Contains all) (Contains nodes) NoneBad c.group es ns d.last d.found.items → AreBelow c.group all → AreBelow c.group nodes → IsUnderWay all nodes es ns d
+under_way_as : (all nodes es ns : List Pair) (c d : Comparison) → d.group ≡ c.group → HoldsUpTo (Contains all) (Contains nodes) NoneBad NoDocument c.group es ns d.last d.found.items → AreBelow c.group all → AreBelow c.group nodes → IsUnderWay all nodes es ns d
 under_way_as all nodes es ns c d of h low under = record {
   low = λ e in'. subst (λ b. IsBelow b e.0) (sym of) (low e in');
   under = λ n in'. subst (λ b. IsBelow b n.0) (sym of) (under n in');
-  holds = subst (λ b. HoldsUpTo (Contains all) (Contains nodes) NoneBad b es ns d.last d.found.items) (sym of) h;
+  holds = subst (λ b. HoldsUpTo (Contains all) (Contains nodes) NoneBad NoDocument b es ns d.last d.found.items) (sym of) h;
 }
 
 module _ (all nodes : List Pair) (c d : Comparison) (of : d.group ≡ c.group) where
@@ -64,28 +61,28 @@ module _ (all nodes : List Pair) (c d : Comparison) (of : d.group ≡ c.group) w
 
   -- after a turn
   abbrev now_holds : List Pair → List Pair → List Finding → Type 0
-  now_holds es ns fs = HoldsUpTo (Contains all) (Contains nodes) NoneBad c.group es ns d.last fs
+  now_holds es ns fs = HoldsUpTo (Contains all) (Contains nodes) NoneBad NoDocument c.group es ns d.last fs
 
   -- an entry without a node is told and passed
-  pub lone_passed : (e : Pair) (es ns : List Pair) (reached : Bool) (kind : FindingKind) → IsBeforeFirst e.0 ns → IsUnderWay all nodes (e ∷ es) ns c
-      → (IsTrue reached ↔ HangsFrom c.last e.0) → kind ≡ (if reached then Stale else Unreachable) → tells (finding c.group e.0 kind ∷ []) → d.last ≡ (if reached && is_group e.1 then e.0 else c.last) → IsUnderWay all nodes es ns d
-  lone_passed e es ns reached kind first u says is told turns = under_way_as all nodes es ns c d of
-      (subst (now_holds es ns) (sym told) (entry_turn (Contains all) (Contains nodes) NoneBad c.group u.low (group_or_not all) e es ns c.last d.last c.found.items u.holds first (not_spoilt e.0) reached says kind is turns))
+  pub lone_passed : (e : Pair) (es ns : List Pair) (reached : Bool) → IsBeforeFirst e.0 ns → IsUnderWay all nodes (e ∷ es) ns c
+      → (IsTrue reached ↔ HangsFrom c.last e.0) → tells (findings_at c.group e.0 (cut_kind reached) ++ findings_at c.group e.0 (Some Stale)) → d.last ≡ (if reached && is_group e.1 then e.0 else c.last) → IsUnderWay all nodes es ns d
+  lone_passed e es ns reached first u says told turns = under_way_as all nodes es ns c d of
+      (subst (now_holds es ns) (sym told) (entry_turn (Contains all) (Contains nodes) c.group u.low (group_or_not all) e es ns c.last d.last c.found.items u.holds first reached says turns))
       u.low u.under
 
   -- an entry beside a node is told and passed
   pub pair_passed : (e : Pair) (n : NodeMetadata) (es ns : List Pair) (reached : Bool) (kind : Option FindingKind) → IsUnderWay all nodes (e ∷ es) ((e.0, n) ∷ ns) c
-      → (IsTrue reached ↔ HangsFrom c.last e.0) → IsPairKind reached e.1 n kind → tells (findings_at c.group e.0 kind) → d.last ≡ (if reached && is_group e.1 then e.0 else c.last) → IsUnderWay all nodes es ns d
+      → (IsTrue reached ↔ HangsFrom c.last e.0) → IsPairKind e.1 n kind → tells (findings_at c.group e.0 (cut_kind reached) ++ findings_at c.group e.0 kind) → d.last ≡ (if reached && is_group e.1 then e.0 else c.last) → IsUnderWay all nodes es ns d
   pair_passed e n es ns reached kind u says is told turns = under_way_as all nodes es ns c d of
-      (subst (now_holds es ns) (sym told) (both_turn (Contains all) (Contains nodes) NoneBad c.group u.low (group_or_not all) e (e.0, n) es ns c.last d.last c.found.items u.holds refl reached says kind is turns))
+      (subst (now_holds es ns) (sym told) (both_turn (Contains all) (Contains nodes) c.group u.low (group_or_not all) e (e.0, n) es ns c.last d.last c.found.items u.holds refl reached says kind is turns))
       u.low u.under
 
   -- a node without an entry is told
   missing_told : (n : Pair) (es ns : List Pair) → IsBeforeFirst n.0 es → IsUnderWay all nodes es (n ∷ ns) c → tells (finding c.group n.0 Missing ∷ []) → d.last ≡ c.last → IsUnderWay all nodes es ns d
   missing_told n es ns first u told same = under_way_as all nodes es ns c d of
-      (subst (λ g. HoldsUpTo (Contains all) (Contains nodes) NoneBad c.group es ns g d.found.items) (sym same)
-      (subst (HoldsUpTo (Contains all) (Contains nodes) NoneBad c.group es ns c.last) (sym told)
-      (node_turn (Contains all) (Contains nodes) NoneBad c.group u.low (group_or_not all) u.under n es ns c.last c.found.items u.holds first)))
+      (subst (λ g. HoldsUpTo (Contains all) (Contains nodes) NoneBad NoDocument c.group es ns g d.found.items) (sym same)
+      (subst (HoldsUpTo (Contains all) (Contains nodes) NoneBad NoDocument c.group es ns c.last) (sym told)
+      (node_turn (Contains all) (Contains nodes) c.group u.low (group_or_not all) u.under n es ns c.last c.found.items u.holds first)))
       u.low u.under
 
 -- ---- the way to a node, and to the end
@@ -110,8 +107,8 @@ module _ (start was mid now : Comparison) (m : IsUnmoved was mid) where
     at_turn all nodes es ns left u =
         let h = subst (λ xs. IsUnderWay all nodes xs (Left ns) was) left (o.told all nodes ns u) in
         under_way_as all nodes es (Left ns) was mid m.one.group
-        (subst (λ g. HoldsUpTo (Contains all) (Contains nodes) NoneBad was.group es (Left ns) g mid.found.items) (sym m.last)
-        (subst (λ fs. HoldsUpTo (Contains all) (Contains nodes) NoneBad was.group es (Left ns) was.last fs) (sym m.found) h.holds))
+        (subst (λ g. HoldsUpTo (Contains all) (Contains nodes) NoneBad NoDocument was.group es (Left ns) g mid.found.items) (sym m.last)
+        (subst (λ fs. HoldsUpTo (Contains all) (Contains nodes) NoneBad NoDocument was.group es (Left ns) was.last fs) (sym m.found) h.holds))
         h.low h.under
 
     -- an entry before the nodes is passed
@@ -139,122 +136,168 @@ module _ (start was mid now : Comparison) (m : IsUnmoved was mid) where
           (missing_told all nodes mid now one.group e was.entries.items ns t.1 (at_turn (λ ns. e ∷ ns) o all nodes _ ns refl u) told last);
     }
 
--- ---- bad documents
+-- ---- bad documents, and others
 
--- the item of a list of one
-only_item : (f g : Finding) → Contains (f ∷ []) g → f ≡ g
-only_item f g in' = ⊎_elim (λ same. same) (λ later. absurd (omega (arith, later.1))) (contains_cases f [] g in')
+module _ (F D : Path → Type 0) where
+  -- what becomes of a finding is of its group and path, and of its rank and key
+  settled_same : (f : Finding) (o : Option Finding) (h : Finding) → o ≡ Some h → IsSettled F D f o → (h.path ≡ f.path) × (rank_of h.kind ≡ rank_of f.kind) × (key_of h.kind ≡ key_of f.kind)
+  settled_same f None h is w = cc
+  settled_same f (Some k) h is w =
+      let same : k ≡ h = ap (λ o. unwrap_or o h) is in
+      subst (λ x. (x.path ≡ f.path) × (rank_of x.kind ≡ rank_of f.kind) × (key_of x.kind ≡ key_of f.kind)) same (⊎_elim
+      (λ kept. subst (λ x. (x.path ≡ f.path) × (rank_of x.kind ≡ rank_of f.kind) × (key_of x.kind ≡ key_of f.kind)) (sym kept.1) (refl, refl, refl))
+      (λ kept.
+      let there_or_not : (rank_of k.kind ≡ rank_of f.kind) × (key_of k.kind ≡ key_of f.kind) = ⊎_elim
+      (λ there. (ap rank_of there.1 ∙ sym (ap rank_of kept.0), ap key_of there.1 ∙ sym (ap key_of kept.0)))
+      (λ gone. (ap rank_of gone.1 ∙ sym (ap rank_of kept.0), ap key_of gone.1 ∙ sym (ap key_of kept.0)))
+      kept.4 in
+      (kept.3, there_or_not.0, there_or_not.1))
+      w)
 
--- what holds where its denial does not
-not_false : (t : Bool) → false ≡ not t → IsTrue t
-not_false true h = refl
-not_false false h = absurd (true≢false (sym h))
+  -- so it stands among others as the finding did
+  precedes_same : (f g h k : Finding) → (h.path ≡ f.path) × (rank_of h.kind ≡ rank_of f.kind) × (key_of h.kind ≡ key_of f.kind) → (k.path ≡ g.path) × (rank_of k.kind ≡ rank_of g.kind) × (key_of k.kind ≡ key_of g.kind) → Precedes f g → Precedes h k
+  precedes_same f g h k x y = ⊎_elim
+      (λ less. inl (ap (λ p. path_cmp p k.path) x.0 ∙ ap (path_cmp f.path) y.0 ∙ less))
+      (λ same. inr (
+        x.0 ∙ same.0 ∙ sym y.0,
+        ⊎_elim
+            (λ rank. let rank_x = x.1 in let rank_y = y.1 in inl (omega (arith, rank, rank_x, rank_y)))
+            (λ both. inr (x.1 ∙ both.0 ∙ sym y.1, ap (λ t. bytes_cmp t (key_of k.kind)) x.2 ∙ ap (bytes_cmp (key_of f.kind)) y.2 ∙ both.1))
+            same.1,
+      ))
 
-module _ (F : Path → Type 0) where
-  -- of none none are kept
-  kept_none : IsKeptOf F [] []
-  kept_none = record { exact = λ f. (λ in'. (in', absurd (omega (arith, in'.1))), λ h. h.0); ascend = λ up. up }
+  -- what is there at all is there as one of them
+  some_in : (o : Option Finding) (h : Finding) → Contains (if_some o) h → o ≡ Some h
+  some_in None h in' = absurd (omega (arith, in'.1))
+  some_in (Some k) h in' = ⊎_elim (λ same. ap (λ x. Some x) same) (λ none. absurd (omega (arith, none.1))) (contains_cases k [] h in')
 
-  -- one that is not excused is kept
-  kept_first : (f : Finding) (found kept : List Finding) → (IsExcusedBy F f → ⊥) → IsKeptOf F found kept → IsKeptOf F (f ∷ found) (f ∷ kept)
-  kept_first f found kept not is = record {
-    exact = λ h. (
-      λ in'. ⊎_elim
-          (λ same. (subst (Contains (f ∷ found)) same (Contains-first f found), λ x. not (subst (IsExcusedBy F) (sym same) x)))
-          (λ later. let w = (is.exact h).0 later in (Contains-cons f found h w.0, w.1))
-          (contains_cases f kept h in'),
-      λ w. ⊎_elim
-          (λ same. subst (Contains (f ∷ kept)) same (Contains-first f kept))
-          (λ later. Contains-cons f kept h ((is.exact h).1 (later, w.1)))
-          (contains_cases f found h w.0),
-    );
-    ascend = λ up. all_pairs_append StandsBefore (f ∷ []) kept
-        (λ i j d l m. absurd (omega (arith, l, m)))
-        (is.ascend (all_pairs_tail StandsBefore f found up))
-        (λ x y first later. subst (λ z. StandsBefore z y) (only_item f x first) (all_pairs_first StandsBefore f found up y ((is.exact y).0 later).0));
-  }
+  some_out : (o : Option Finding) (h : Finding) → o ≡ Some h → Contains (if_some o) h
+  some_out o h is = subst (λ x. Contains (if_some x) h) (sym is) (Contains-first h [])
+
+  -- what is left is what became of some finding
+  pub settled_in : (found left : List Finding) → AreSettled F D found left → (h : Finding) → Contains left h → (f : Finding) × Contains found f × IsSettled F D f (Some h)
+  settled_in [] left is h in' = let none : Contains [] h = subst (λ xs. Contains xs h) is in' in absurd (omega (arith, none.1))
+  settled_in (f ∷ found) left is h in' = ⊎_elim
+      (λ first. (f, Contains-first f found, subst (IsSettled F D f) (some_in is.0 h first) is.3))
+      (λ later. let w = settled_in found is.1 is.4 h later in (w.0, Contains-cons f found w.0 w.1, w.2))
+      (Contains-append_cases (if_some is.0) is.1 h (subst (λ xs. Contains xs h) is.2 in'))
+
+  -- and of each finding something is left, unless it is spoilt
+  pub settled_out : (found left : List Finding) → AreSettled F D found left → (f : Finding) → Contains found f → (o : Option Finding) × IsSettled F D f o × ((h : Finding) → o ≡ Some h → Contains left h)
+  settled_out [] left is f in' = absurd (omega (arith, in'.1))
+  settled_out (g ∷ found) left is f in' = ⊎_elim
+      (λ same. (is.0, subst (λ x. IsSettled F D x is.0) same is.3, λ h some. subst (λ xs. Contains xs h) (sym is.2) (Contains-append_left (if_some is.0) is.1 h (some_out is.0 h some))))
+      (λ later. let w = settled_out found is.1 is.4 f later in (w.0, w.1, λ h some. subst (λ xs. Contains xs h) (sym is.2) (Contains-append_right (if_some is.0) is.1 h (w.2 h some))))
+      (contains_cases g found f in')
+
+  -- it stands in the order in which the findings do
+  pub settled_ascend : (found left : List Finding) → AreSettled F D found left → AllPairs Precedes found → AllPairs Precedes left
+  settled_ascend [] left is up = subst (AllPairs Precedes) (sym is) up
+  settled_ascend (f ∷ found) left is up = subst (AllPairs Precedes) (sym is.2) (all_pairs_append Precedes (if_some is.0) is.1 (alone is.0)
+      (settled_ascend found is.1 is.4 (all_pairs_tail Precedes f found up))
+      (λ x y first later.
+      let w = settled_in found is.1 is.4 y later in
+      precedes_same f w.0 x y (settled_same f is.0 x (some_in is.0 x first) is.3) (settled_same w.0 (Some y) y refl w.2) (all_pairs_first Precedes f found up w.0 w.1)))
     where
-      StandsBefore : Finding → Finding → Type 0
-      StandsBefore g h = path_cmp g.path h.path ≡ Less
+      alone : (o : Option Finding) → AllPairs Precedes (if_some o)
+      alone None = λ i j d l m. absurd (omega (arith, m))
+      alone (Some h) = λ i j d l m. absurd (omega (arith, l, m))
 
-  -- one that is excused is not
-  kept_other : (f : Finding) (found kept : List Finding) → IsExcusedBy F f → IsKeptOf F found kept → IsKeptOf F (f ∷ found) kept
-  kept_other f found kept excused is = record {
-    exact = λ h. (
-      λ in'. let w = (is.exact h).0 in' in (Contains-cons f found h w.0, w.1),
-      λ w. ⊎_elim
-          (λ same. absurd (w.1 (subst (IsExcusedBy F) same excused)))
-          (λ later. (is.exact h).1 (later, w.1))
-          (contains_cases f found h w.0),
-    );
-    ascend = λ up. is.ascend (all_pairs_tail (λ g h. path_cmp g.path h.path ≡ Less) f found up);
-  }
+  -- one finding more comes last
+  pub settled_more : (found : List Finding) (f : Finding) (o : Option Finding) (left whole : List Finding) → whole ≡ left ++ if_some o → AreSettled F D found left → IsSettled F D f o → AreSettled F D (found ++ f ∷ []) whole
+  settled_more [] f o left whole is are one = (o, [], is ∙ ap (λ xs. xs ++ if_some o) are ∙ sym (append-nil (if_some o)), one, refl)
+  settled_more (g ∷ found) f o left whole is are one = (
+    are.0,
+    are.1 ++ if_some o,
+    is ∙ ap (λ xs. xs ++ if_some o) are.2 ∙ append_assoc (if_some are.0) are.1 (if_some o),
+    are.3,
+    settled_more found f o are.1 (are.1 ++ if_some o) refl are.4 one,
+  )
 
-  -- a test tells which are not excused
-  module _ {P : Type 0} (R : P → Finding → Bool → P → Type 0) (p : P) (says : (f : Finding) (b : Bool) (q : P) → R p f b q → ((t : Bool) × (b ≡ not t) × (IsTrue t ↔ IsExcusedBy F f)) × (q ≡ p)) where
-    -- what it answers of each in turn keeps those
-    kept_in_turn : (bs : List Bool) (found : List Finding) (q : P) → length bs ≡ length found → ReturnsInTurn R p bs found q → IsKeptOf F found (items_where_true bs found)
-    kept_in_turn [] [] q long h = kept_none
-    kept_in_turn [] (f ∷ found) q long h = absurd (omega (arith, long))
-    kept_in_turn (b ∷ bs) [] q long h = absurd h
-    kept_in_turn (true ∷ bs) (f ∷ found) q long h =
-        let w = says f true h.0 h.1 in
-        kept_first f found (items_where_true bs found) (λ excused. true≢false (w.0.1 ∙ ap not (w.0.2.1 excused))) (kept_in_turn bs found q (omega (arith, long)) (subst (λ o. ReturnsInTurn R o bs found q) w.1 h.2))
-    kept_in_turn (false ∷ bs) (f ∷ found) q long h =
-        let w = says f false h.0 h.1 in
-        kept_other f found (items_where_true bs found) (w.0.2.0 (not_false w.0.0 w.0.1)) (kept_in_turn bs found q (omega (arith, long)) (subst (λ o. ReturnsInTurn R o bs found q) w.1 h.2))
+  -- what is left of the findings of paths, before any document was known, is what there is to tell of them
+  module _ (E N : Pair → Type 0) (g : Path) (found left : List Finding) (are : ArePathFindings E N NoneBad NoDocument g found) (is : AreSettled F D found left) where
+    -- what there was to tell of a path, where it is not that an entry has no node
+    other_before : (p : Path) (k : FindingKind) → (k ≡ Stale → ⊥) → IsPathFinding E N NoneBad NoDocument g p k → IsPathFinding E N F D g p k
+    other_before p Unreachable not h = h
+    other_before p Stale not h = absurd (not refl)
+    other_before p Unreached not h = absurd h.3
+    other_before p Differs not h = h
+    other_before p Missing not h = h
+    other_before p (BlockFault fault) not h = absurd h
+    other_before p (BadKey t) not h = absurd h
+    other_before p (Shadowed t) not h = absurd h
+    other_before p (OwnKey t) not h = absurd h
 
-    -- and so does what takes those of which it says so
-    pub kept_by : (found kept : List Finding) → IsFiltered R p found kept → IsKeptOf F found kept
-    kept_by found kept h = subst (IsKeptOf F found) (sym h.4) (kept_in_turn h.0 found h.1 h.2 h.3)
+    -- what is left is there to tell
+    left_sound : (h : Finding) → Contains left h → (h.group ≡ g) × IsPathFinding E N F D g h.path h.kind
+    left_sound h in' =
+        let w = settled_in found left is h in' in
+        let before = (are.exact w.0).0 w.1 in
+        ⊎_elim
+        (λ kept. subst (λ x. (x.group ≡ g) × IsPathFinding E N F D g x.path x.kind) (sym kept.1) (before.0, other_before w.0.path w.0.kind kept.0 before.1))
+        (λ kept.
+        let lone : IsPathFinding E N NoneBad NoDocument g w.0.path Stale = subst (IsPathFinding E N NoneBad NoDocument g w.0.path) kept.0 before.1 in (
+          kept.2 ∙ before.0,
+          subst (λ p. IsPathFinding E N F D g p h.kind) (sym kept.3) (⊎_elim
+              (λ there. subst (IsPathFinding E N F D g w.0.path) (sym there.1) (lone.0, lone.1, kept.1, there.0))
+              (λ gone. subst (IsPathFinding E N F D g w.0.path) (sym gone.1) (lone.0, lone.1, kept.1, gone.0))
+              kept.4),
+        ))
+        w.2
 
-module _ (E N : Pair → Type 0) (F : Path → Type 0) (g : Path) where
-  -- what there is to tell where documents are bad, there is to tell where none is, and it is not excused
-  less_told : (p : Path) (k : FindingKind) → IsPathFinding E N F g p k → IsPathFinding E N NoneBad g p k × ((k ≡ Stale) × IsSpoilt F p → ⊥)
-  less_told p Stale h = ((h.0, h.1, h.2, not_spoilt p), λ x. h.3 x.1)
-  less_told p Unreachable h = (h, λ x. cc)
-  less_told p Differs h = (h, λ x. cc)
-  less_told p Missing h = (h, λ x. cc)
-  less_told p (BlockFault fault) h = absurd h
-  less_told p (BadKey t) h = absurd h
-  less_told p (Shadowed t) h = absurd h
+    -- a finding by its group, path and kind
+    abbrev of_group : Finding → FindingKind → Finding
+    of_group h k = record { group = h.group; path = h.path; kind = k }
 
-  -- and the other way round
-  more_told : (p : Path) (k : FindingKind) → IsPathFinding E N NoneBad g p k → ((k ≡ Stale) × IsSpoilt F p → ⊥) → IsPathFinding E N F g p k
-  more_told p Stale h not = (h.0, h.1, h.2, λ spoilt. not (refl, spoilt))
-  more_told p Unreachable h not = h
-  more_told p Differs h not = h
-  more_told p Missing h not = h
-  more_told p (BlockFault fault) h not = absurd h
-  more_told p (BadKey t) h not = absurd h
-  more_told p (Shadowed t) h not = absurd h
+    -- where it is found and settles as this, it is left
+    left_one : (f h : Finding) → Contains found f → ((o : Option Finding) → IsSettled F D f o → o ≡ Some h) → Contains left h
+    left_one f h in' settles = let w = settled_out found left is f in' in w.2 h (settles w.0 w.1)
 
-  -- so what is kept of all findings are those where documents are bad
-  kept_findings : (found kept : List Finding) → ArePathFindings E N NoneBad g found → IsKeptOf F found kept → ArePathFindings E N F g kept
-  kept_findings found kept are is = record {
-    exact = λ f. (
-      λ in'.
-          let w = (is.exact f).0 in' in
-          let of = (are.exact f).0 w.0 in
-          (of.0, more_told f.path f.kind of.1 w.1),
-      λ h.
-          let w = less_told f.path f.kind h.1 in
-          (is.exact f).1 ((are.exact f).1 (h.0, w.0), w.1),
-    );
-    ascend = is.ascend are.ascend;
-  }
+    -- another kind settles as it is
+    other_settles : (h : Finding) → (h.kind ≡ Stale → ⊥) → (o : Option Finding) → IsSettled F D h o → o ≡ Some h
+    other_settles h not None w = absurd (not w.0)
+    other_settles h not (Some x) w = ⊎_elim (λ kept. ap (λ y. Some y) kept.1) (λ kept. absurd (not kept.0)) w
 
--- ---- the end
+    -- one without a node settles by what is known
+    lone_settles : (h : Finding) → (IsSpoilt F h.path → ⊥) → ((h.kind ≡ Stale) × (D h.path → ⊥)) ⊎ ((h.kind ≡ Unreached) × D h.path) → (o : Option Finding) → IsSettled F D (of_group h Stale) o → o ≡ Some h
+    lone_settles h clean kinds None w = absurd (clean w.1)
+    lone_settles h clean kinds (Some x) w = ap (λ y. Some y) (⊎_elim
+        (λ kept. absurd (kept.0 refl))
+        (λ kept.
+        let kind : x.kind ≡ h.kind = ⊎_elim
+        (λ there. ⊎_elim (λ stale. absurd (stale.1 there.0)) (λ unreached. there.1 ∙ sym unreached.0) kinds)
+        (λ gone. ⊎_elim (λ stale. gone.1 ∙ sym stale.0) (λ unreached. absurd (gone.0 unreached.1)) kinds)
+        kept.4 in
+        λ i. record { group = kept.2 i; path = kept.3 i; kind = kind i })
+        w)
 
--- where nothing is left all is told, and what no bad document excuses is kept
-pub ended : (start now : Comparison) (bad : List (Path × NodeCreateError)) (whole : List Finding) → IsOnTheWay start (λ ns. []) now → now.entries.items ≡ [] → PutsKept (HasBad bad) now.of_block.items now.found.items whole → IsEnd start bad whole
-ended start now bad whole o none kept all nodes u =
+    -- and what is there to tell is left
+    left_complete : (h : Finding) → h.group ≡ g → (k : FindingKind) → h.kind ≡ k → IsPathFinding E N F D g h.path k → Contains left h
+    left_complete h of Unreachable is' w = left_one h h ((are.exact h).1 (of, subst (IsPathFinding E N NoneBad NoDocument g h.path) (sym is') w)) (other_settles h (λ e. cc))
+    left_complete h of Differs is' w = left_one h h ((are.exact h).1 (of, subst (IsPathFinding E N NoneBad NoDocument g h.path) (sym is') w)) (other_settles h (λ e. cc))
+    left_complete h of Missing is' w = left_one h h ((are.exact h).1 (of, subst (IsPathFinding E N NoneBad NoDocument g h.path) (sym is') w)) (other_settles h (λ e. cc))
+    left_complete h of Stale is' w = left_one (of_group h Stale) h ((are.exact (of_group h Stale)).1 (of, (w.0, w.1, λ x. x.1, λ x. x))) (lone_settles h w.2 (inl (is', w.3)))
+    left_complete h of Unreached is' w = left_one (of_group h Stale) h ((are.exact (of_group h Stale)).1 (of, (w.0, w.1, λ x. x.1, λ x. x))) (lone_settles h w.2 (inr (is', w.3)))
+    left_complete h of (BlockFault fault) is' w = absurd w
+    left_complete h of (BadKey t) is' w = absurd w
+    left_complete h of (Shadowed t) is' w = absurd w
+    left_complete h of (OwnKey t) is' w = absurd w
+
+    pub settled_findings : ArePathFindings E N F D g left
+    settled_findings = record {
+      exact = λ h. (left_sound h, λ w. left_complete h w.0 h.kind refl w.1);
+      ascend = settled_ascend found left is are.ascend;
+    }
+
+-- all is told at the end
+pub ended : (D : Path → Type 0) (start now : Comparison) (bad : List (Path × NodeCreateError)) (whole : List Finding) → IsOnTheWay start (λ ns. []) now → now.entries.items ≡ [] → PutsSettled (HasBad bad) D now.of_block.items now.found.items whole → IsEnd D start bad whole
+ended D start now bad whole o none put all nodes u =
     let h = (subst (λ es. IsUnderWay all nodes es [] now) none (o.told all nodes [] u)).holds in
-    let are = by_end (Contains all) (Contains nodes) NoneBad now.group now.last now.found.items h in (
-      kept.0,
-      kept.1 ∙ ap (λ fs. fs ++ kept.0) o.one.of_block,
-      subst (λ g. ArePathFindings (Contains all) (Contains nodes) (HasBad bad) g kept.0) o.one.group
-          (kept_findings (Contains all) (Contains nodes) (HasBad bad) now.group now.found.items kept.0 are kept.2),
+    let are = by_end (Contains all) (Contains nodes) now.group now.last now.found.items h in (
+      put.0,
+      put.1 ∙ ap (λ fs. fs ++ put.0) o.one.of_block,
+      subst (λ g. ArePathFindings (Contains all) (Contains nodes) (HasBad bad) D g put.0) o.one.group
+          (settled_findings (HasBad bad) D (Contains all) (Contains nodes) now.group now.found.items put.0 are put.2),
     )
 
 -- ---- nodes in a row

@@ -4,7 +4,8 @@
 --     block_read s p m      what is read as the block of a node: nothing, or a block, or its first fault
 --     HasNode s v b e       the base with its metadata, or a node below it
 --     IsBlockFinding s v b f      what there is to tell of the blocks
---     AreBlockFindings s v b found      the findings are exactly what there is to tell of the blocks, each once, in the order of groups, paths and keys
+--     AreBlockFindings s v b found      the findings are exactly what there is to tell of the blocks, each once, in the order of groups, paths, kinds and keys
+--     IsNodeTold s v b t      what there is to tell of nodes by their own documents
 --     IsCheckOf s v b c      the check has the outcome of the base, the number of the nodes, what was passed over and what is bad
 use Rattle.std.specs.Prelude.{◌≡◌, ◌⊎◌, ◌↔◌, true, ℕ, length, List, [], ◌∷◌, ◌++◌, AllPairs, Contains, Option, Some, None, option_map, Result, Ok, Err, codes}
 use Rattle.std.specs.declared.cmp.Ordering.TheVariants.{Less}
@@ -26,6 +27,9 @@ use Rattle.zarrs_block.specs.Zmetadata.{zmetadata_in}
 use Rattle.zarrs_block.specs.declared.node_create_error.NodeCreateError.{NodeCreateError}
 use Rattle.zarrs_node.specs.Faults.{PathsAscend}
 use Rattle.zarrs_node.specs.Nodes.{Nodes, Ignored}
+use Rattle.zarrs_node.specs.Exists.{HasNodeKey}
+use Rattle.zarrs_notes.specs.NodeFindings.{ComesBefore, IsNodeFinding}
+use Rattle.zarrs_notes.specs.declared.finding.NodeFinding.{NodeFinding}
 use Rattle.zarrs_survey.specs.Findings.{Pair, IsFinding, Precedes}
 use Rattle.zarrs_survey.specs.Surveys.{IsBase, BadDocuments, BadNames}
 use Rattle.zarrs_survey.specs.declared.check.Check.{Check}
@@ -56,24 +60,34 @@ HasBadPath s v b q = (e : NodeCreateError) × BadDocuments s v b (q, e)
 abbrev pub fault_of_block : Path → MetadataFault → Finding
 fault_of_block g fault = record { group = g; path = g; kind = BlockFault fault }
 
--- what there is to tell of what was read as the block of g, beside the nodes N and the bad documents F
-abbrev pub IsToldOf : Option (Result Block MetadataFault) → (Pair → Type 0) → (Path → Type 0) → Path → Finding → Type 0
-IsToldOf None N F g f = ⊥
-IsToldOf (Some (Err fault)) N F g f = f ≡ fault_of_block g fault
-IsToldOf (Some (Ok B)) N F g f = IsFinding B N F g f
+-- what there is to tell of what was read as the block of g, beside the nodes N, the bad documents F and all documents D
+abbrev pub IsToldOf : Option (Result Block MetadataFault) → (Pair → Type 0) → (Path → Type 0) → (Path → Type 0) → Path → Finding → Type 0
+IsToldOf None N F D g f = ⊥
+IsToldOf (Some (Err fault)) N F D g f = f ≡ fault_of_block g fault
+IsToldOf (Some (Ok B)) N F D g f = IsFinding B N F D g f
 
 -- what there is to tell of the blocks of a store at b and below it
 abbrev pub IsBlockFinding : Contents → MetadataRetrieveVersion → Path → Finding → Type 0
-IsBlockFinding s v b f = (m : NodeMetadata) × HasNode s v b (f.group, m) × IsToldOf (block_read s f.group m) (Nodes s v true b) (HasBadPath s v b) f.group f
+IsBlockFinding s v b f = (m : NodeMetadata) × HasNode s v b (f.group, m) × IsToldOf (block_read s f.group m) (Nodes s v true b) (HasBadPath s v b) (HasNodeKey s) f.group f
 
 -- a finding stands before another: its group does, or of one group it precedes the other
 abbrev pub StandsBefore : Finding → Finding → Type 0
 StandsBefore f h = (path_cmp f.group h.group ≡ Less) ⊎ ((f.group ≡ h.group) × Precedes f h)
 
--- the findings are exactly what there is to tell of the blocks at b and below it, each once, in the order of groups, paths and keys
+-- the findings are exactly what there is to tell of the blocks at b and below it, each once, in the order of groups, paths, kinds and keys
 pub record AreBlockFindings (s : Contents) (v : MetadataRetrieveVersion) (b : Path) (found : List Finding) : Type 0 where
   pub exact : (f : Finding) → Contains found f ↔ IsBlockFinding s v b f
   pub ascend : AllPairs StandsBefore found
+
+-- ---- nodes by their own documents
+
+-- what there is to tell of the base, where it is a node, and of the nodes below it, each with the path of the node
+abbrev pub IsNodeTold : Contents → MetadataRetrieveVersion → Path → Path × NodeFinding → Type 0
+IsNodeTold s v b t = (m : NodeMetadata) × HasNode s v b (t.0, m) × IsNodeFinding s t.0 m t.1
+
+-- what is told of a node stands before: its path does, or of one path the finding comes before the other
+abbrev pub IsToldBefore : Path × NodeFinding → Path × NodeFinding → Type 0
+IsToldBefore t u = (path_cmp t.0 u.0 ≡ Less) ⊎ ((t.0 ≡ u.0) × ComesBefore t.1 u.1)
 
 -- ---- all that a check has
 
@@ -87,7 +101,7 @@ abbrev pub IsCount : (Pair → Type 0) → ℕ → Type 0
 IsCount P n = (es : List Pair) × Lists P es × (n ≡ length es)
 
 -- Of the store at b and below it the check has exactly these: whether the base is a node or why it is none, the number of the nodes,
--- the ignored paths, the bad documents and the bad names. What it tells of blocks is said by `AreBlockFindings`.
+-- the ignored paths, the bad documents, the bad names, and what there is to tell of nodes by their own documents. What it tells of blocks is said by `AreBlockFindings`.
 pub record IsCheckOf (s : Contents) (v : MetadataRetrieveVersion) (b : Path) (c : Check) : Type 0 where
   pub path : c.path ≡ b
   pub base : IsBaseOutcome s v b c.base
@@ -97,3 +111,5 @@ pub record IsCheckOf (s : Contents) (v : MetadataRetrieveVersion) (b : Path) (c 
   pub bad_documents : Lists (BadDocuments s v b) c.bad_documents
   pub bad_names : Lists (BadNames s v b) c.bad_names.items
   pub bad_names_ascend : PathsAscend c.bad_names.items
+  pub told : Lists (IsNodeTold s v b) c.told.items
+  pub told_ascend : AllPairs IsToldBefore c.told.items

@@ -3,11 +3,12 @@
 -- <https://zarr.readthedocs.io/en/stable/user-guide/consolidated_metadata/>
 --     E, N      the entries of a block below its group, and the nodes of a survey, each any pairs of path and metadata
 --     F         the paths of the survey whose documents are bad
+--     D         the paths at which the store has a document of a node, reached or not
 --     g         the path of the group
---     IsPathFinding E N F g p kind      what is to be told of the entry or the node at p
---     IsFinding B N F g f      what is to be told of a block
---     AreFindings B N F g found      the findings are exactly what is to be told of a block, each once, in the order of paths and of keys
-use Rattle.std.specs.Prelude.{◌≡◌, ◌⊎◌, ◌↔◌, ℕ, List, [], ◌∷◌, ◌++◌, AllPairs, Contains, IsSome}
+--     IsPathFinding E N F D g p kind      what is to be told of the entry or the node at p
+--     IsFinding B N F D g f      what is to be told of a block
+--     AreFindings B N F D g found      the findings are exactly what is to be told of a block, each once, in the order of paths, kinds and keys
+use Rattle.std.specs.Prelude.{◌≡◌, ◌<◌, ◌≢◌, ◌⊎◌, ◌↔◌, ℕ, List, [], ◌∷◌, ◌++◌, AllPairs, Contains, IsSome}
 use Rattle.std.specs.declared.cmp.Ordering.TheVariants.{Less}
 use Rattle.zarrs_store.specs.Segments.{bytes_cmp}
 use Rattle.zarrs_path.specs.Paths.{Path, path_cmp, IsBelow}
@@ -17,7 +18,7 @@ use Rattle.zarrs_compare.specs.Same.{IsSame}
 use Rattle.zarrs_node.specs.Reach.{HasGroup}
 use Rattle.zarrs_survey.specs.declared.finding.Finding.{Finding}
 use Rattle.zarrs_survey.specs.declared.finding.FindingKind.{FindingKind}
-use Rattle.zarrs_survey.specs.declared.finding.FindingKind.TheVariants.{BlockFault, BadKey, Shadowed, Unreachable, Stale, Differs, Missing}
+use Rattle.zarrs_survey.specs.declared.finding.FindingKind.TheVariants.{BlockFault, BadKey, Shadowed, OwnKey, Unreachable, Stale, Unreached, Differs, Missing}
 
 -- a path with metadata
 abbrev pub Pair : Type 0
@@ -31,10 +32,6 @@ HasPath N p = (m : NodeMetadata) × N (p, m)
 abbrev pub IsAtOrAbove : Path → Path → Type 0
 IsAtOrAbove q p = (ns : Path) × (p ≡ q ++ ns)
 
--- each path strictly between g and p is a group of E
-abbrev pub IsReachable : (Pair → Type 0) → Path → Path → Type 0
-IsReachable E g p = (q : Path) → IsBelow g q → IsBelow q p → HasGroup E q
-
 -- some path strictly between g and p is no group of E
 abbrev pub IsCutOff : (Pair → Type 0) → Path → Path → Type 0
 IsCutOff E g p = (q : Path) × IsBelow g q × IsBelow q p × (HasGroup E q → ⊥)
@@ -44,49 +41,71 @@ abbrev pub IsSpoilt : (Path → Type 0) → Path → Type 0
 IsSpoilt F p = (q : Path) × F q × IsAtOrAbove q p
 
 -- what is to be told of the entry or of the node at p
-abbrev pub IsPathFinding : (Pair → Type 0) → (Pair → Type 0) → (Path → Type 0) → Path → Path → FindingKind → Type 0
+abbrev pub IsPathFinding : (Pair → Type 0) → (Pair → Type 0) → (Path → Type 0) → (Path → Type 0) → Path → Path → FindingKind → Type 0
 -- an entry, and some path strictly between is no group entry
-IsPathFinding E N F g p Unreachable = HasPath E p × IsCutOff E g p
--- a reachable entry, and no node; where a document at or above it is bad nothing is known of it
-IsPathFinding E N F g p Stale = HasPath E p × IsReachable E g p × (HasPath N p → ⊥) × (IsSpoilt F p → ⊥)
--- a reachable entry, and a node with other metadata
-IsPathFinding E N F g p Differs = (m n : NodeMetadata) × E (p, m) × IsReachable E g p × N (p, n) × (IsSame m n → ⊥)
+IsPathFinding E N F D g p Unreachable = HasPath E p × IsCutOff E g p
+-- an entry, and neither a node nor a document; where a document at or above it is bad nothing is known of it
+IsPathFinding E N F D g p Stale = HasPath E p × (HasPath N p → ⊥) × (IsSpoilt F p → ⊥) × (D p → ⊥)
+-- an entry, and no node, but a document, to which no listing comes
+IsPathFinding E N F D g p Unreached = HasPath E p × (HasPath N p → ⊥) × (IsSpoilt F p → ⊥) × D p
+-- an entry, and a node with other metadata
+IsPathFinding E N F D g p Differs = (m n : NodeMetadata) × E (p, m) × N (p, n) × (IsSame m n → ⊥)
 -- a node below the group, and no entry
-IsPathFinding E N F g p Missing = HasPath N p × IsBelow g p × (HasPath E p → ⊥)
+IsPathFinding E N F D g p Missing = HasPath N p × IsBelow g p × (HasPath E p → ⊥)
 -- a fault or a key is told of the block, and of no path
-IsPathFinding E N F g p (BlockFault fault) = ⊥
-IsPathFinding E N F g p (BadKey t) = ⊥
-IsPathFinding E N F g p (Shadowed t) = ⊥
+IsPathFinding E N F D g p (BlockFault fault) = ⊥
+IsPathFinding E N F D g p (BadKey t) = ⊥
+IsPathFinding E N F D g p (Shadowed t) = ⊥
+IsPathFinding E N F D g p (OwnKey t) = ⊥
 
 -- a key of the block is no relative path
 abbrev pub IsBadKey : Block → List ℕ → Type 0
 IsBadKey B t = IsSome (node_at_key B t) × (IsValidKey t → ⊥)
 
--- a key of the block begins with a slash, and the block has what stands behind that: it does not count
+-- a key of the block begins with a slash, and the block has what stands behind that, which is some path: it does not count
 abbrev pub IsShadowed : Block → List ℕ → Type 0
-IsShadowed B t = (u : List ℕ) × (t ≡ 47 ∷ u) × IsValidKey t × IsSome (node_at_key B t) × IsSome (node_at_key B u)
+IsShadowed B t = (u : List ℕ) × (t ≡ 47 ∷ u) × (u ≢ []) × IsValidKey t × IsSome (node_at_key B t) × IsSome (node_at_key B u)
+
+-- a key of the block is empty or one slash, which is the group itself
+abbrev pub IsOwnKey : Block → List ℕ → Type 0
+IsOwnKey B t = ((t ≡ []) ⊎ (t ≡ 47 ∷ [])) × IsSome (node_at_key B t)
 
 -- what is to be told of the keys of a block; its path is the group's
 abbrev pub IsKeyFinding : Block → Path → Path → FindingKind → Type 0
 IsKeyFinding B g p (BadKey t) = (p ≡ g) × IsBadKey B t
 IsKeyFinding B g p (Shadowed t) = (p ≡ g) × IsShadowed B t
+IsKeyFinding B g p (OwnKey t) = (p ≡ g) × IsOwnKey B t
 IsKeyFinding B g p _ = ⊥
 
 -- what is to be told of a block that reads
-abbrev pub IsFinding : Block → (Pair → Type 0) → (Path → Type 0) → Path → Finding → Type 0
-IsFinding B N F g f = (f.group ≡ g) × (IsKeyFinding B g f.path f.kind ⊎ IsPathFinding (Entries B g) N F g f.path f.kind)
+abbrev pub IsFinding : Block → (Pair → Type 0) → (Path → Type 0) → (Path → Type 0) → Path → Finding → Type 0
+IsFinding B N F D g f = (f.group ≡ g) × (IsKeyFinding B g f.path f.kind ⊎ IsPathFinding (Entries B g) N F D g f.path f.kind)
 
 -- the key that a finding is of, and nothing where it is of a path
 abbrev pub key_of : FindingKind → List ℕ
 key_of (BadKey t) = t
 key_of (Shadowed t) = t
+key_of (OwnKey t) = t
 key_of _ = []
 
--- a finding stands before another: its path does, or of one path its key does
-abbrev pub Precedes : Finding → Finding → Type 0
-Precedes f h = (path_cmp f.path h.path ≡ Less) ⊎ ((f.path ≡ h.path) × (bytes_cmp (key_of f.kind) (key_of h.kind) ≡ Less))
+-- the rank of a kind among those of one path: first what is told of a whole block or of a key, then whether an entry is cut off, and then what the store has there
+abbrev pub rank_of : FindingKind → ℕ
+rank_of Unreachable = 1
+rank_of Stale = 2
+rank_of Unreached = 2
+rank_of Differs = 2
+rank_of Missing = 2
+rank_of _ = 0
 
--- the findings are exactly what is to be told of the block B of g, each once, in the order of paths and of keys
-pub record AreFindings (B : Block) (N : Pair → Type 0) (F : Path → Type 0) (g : Path) (found : List Finding) : Type 0 where
-  pub exact : (f : Finding) → Contains found f ↔ IsFinding B N F g f
+-- a kind stands before another of one path: its rank does, or of one rank its key does
+abbrev pub KindPrecedes : FindingKind → FindingKind → Type 0
+KindPrecedes j k = (rank_of j < rank_of k) ⊎ ((rank_of j ≡ rank_of k) × (bytes_cmp (key_of j) (key_of k) ≡ Less))
+
+-- a finding stands before another: its path does, or of one path its kind does
+abbrev pub Precedes : Finding → Finding → Type 0
+Precedes f h = (path_cmp f.path h.path ≡ Less) ⊎ ((f.path ≡ h.path) × KindPrecedes f.kind h.kind)
+
+-- the findings are exactly what is to be told of the block B of g, each once, in the order of paths, kinds and keys
+pub record AreFindings (B : Block) (N : Pair → Type 0) (F D : Path → Type 0) (g : Path) (found : List Finding) : Type 0 where
+  pub exact : (f : Finding) → Contains found f ↔ IsFinding B N F D g f
   pub ascend : AllPairs Precedes found

@@ -8,4 +8,5 @@ pub mod StepsOfSurveys
 pub mod Checks
 pub mod StepsOfChecks
 pub mod StepsOfTaking
+pub mod StepsOfVisits
 pub mod Laws

@@ -12,8 +12,8 @@ use Rattle.zarrs_survey.specs.Findings.{Pair, Precedes}
 use Rattle.zarrs_survey.specs.declared.finding.Finding.{Finding}
 
 -- the findings are exactly what there is to tell of what was read as the block of g, each once, in their order
-pub record AreTold (read : Option (Result Block MetadataFault)) (N : Pair → Type 0) (F : Path → Type 0) (g : Path) (found : List Finding) : Type 0 where
-  pub exact : (f : Finding) → Contains found f ↔ IsToldOf read N F g f
+pub record AreTold (read : Option (Result Block MetadataFault)) (N : Pair → Type 0) (F D : Path → Type 0) (g : Path) (found : List Finding) : Type 0 where
+  pub exact : (f : Finding) → Contains found f ↔ IsToldOf read N F D g f
   pub ascend : AllPairs Precedes found
 
 -- what was read as a block, as it is seen
@@ -33,9 +33,9 @@ GroupsAscend bs = AllPairs (λ b c. path_cmp b.0 c.0 ≡ Less) bs
 abbrev pub HasBad : List (Path × NodeCreateError) → Path → Type 0
 HasBad bad q = (e : NodeCreateError) × Contains bad (q, e)
 
--- the findings are exactly what there is to tell of these blocks, each once, in the order of groups, paths and keys
-pub record AreFindingsOf (blocks : List ReadBlock) (nodes : List Pair) (bad : List (Path × NodeCreateError)) (found : List Finding) : Type 0 where
-  pub exact : (f : Finding) → Contains found f ↔ ((r : Result Block MetadataFault) × Contains blocks (f.group, r) × IsToldOf (Some r) (Contains nodes) (HasBad bad) f.group f)
+-- the findings are exactly what there is to tell of these blocks, each once, in the order of groups, paths, kinds and keys
+pub record AreFindingsOf (blocks : List ReadBlock) (nodes : List Pair) (bad : List (Path × NodeCreateError)) (D : Path → Type 0) (found : List Finding) : Type 0 where
+  pub exact : (f : Finding) → Contains found f ↔ ((r : Result Block MetadataFault) × Contains blocks (f.group, r) × IsToldOf (Some r) (Contains nodes) (HasBad bad) D f.group f)
   pub ascend : AllPairs StandsBefore found
 
 -- memory was not wanting as it was read

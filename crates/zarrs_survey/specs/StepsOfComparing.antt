@@ -3,20 +3,21 @@ use Rattle.std.specs.Prelude.{◌≡◌, ◌≤◌, ◌↔◌, ℕ, length, Bool
 use Rattle.std.specs.List.{AllWithin, list_all}
 use Rattle.std.specs.declared.cmp.Ordering.TheVariants.{Less}
 use Rattle.zarrs_path.specs.Names.{is_name}
-use Rattle.zarrs_path.specs.Paths.{Path, path_cmp, IsBelow, relative_names}
+use Rattle.zarrs_path.specs.Paths.{Path, path_cmp, IsBelow, relative_names, without_leading_slash}
+use Rattle.zarrs_form.specs.Forms.{is_nil}
 use Rattle.zarrs_meta.specs.declared.node.NodeMetadata.{NodeMetadata}
 use Rattle.zarrs_block.specs.Block.{Block, node_at_key}
 use Rattle.zarrs_block.specs.BlockExpansion.{is_covered}
 use Rattle.zarrs_compare.specs.Same.{IsSame}
-use Rattle.zarrs_survey.specs.Findings.{Pair, IsPathFinding, IsAtOrAbove}
+use Rattle.zarrs_survey.specs.Findings.{Pair, IsPathFinding, IsAtOrAbove, Precedes}
 use Rattle.zarrs_survey.specs.declared.finding.Finding.{Finding}
 use Rattle.zarrs_survey.specs.declared.finding.FindingKind.{FindingKind}
-use Rattle.zarrs_survey.specs.declared.finding.FindingKind.TheVariants.{BadKey, Shadowed, Unreachable, Differs}
+use Rattle.zarrs_survey.specs.declared.finding.FindingKind.TheVariants.{BadKey, Shadowed, OwnKey, Unreachable, Differs}
 
--- the findings are exactly those of the paths of entries and nodes, all of the group g, each once, in the order of paths
-pub record ArePathFindings (E N : Pair → Type 0) (F : Path → Type 0) (g : Path) (found : List Finding) : Type 0 where
-  pub exact : (f : Finding) → Contains found f ↔ ((f.group ≡ g) × IsPathFinding E N F g f.path f.kind)
-  pub ascend : AllPairs (λ f h. path_cmp f.path h.path ≡ Less) found
+-- the findings are exactly those of the paths of entries and nodes, all of the group g, each once, in the order of paths and kinds
+pub record ArePathFindings (E N : Pair → Type 0) (F D : Path → Type 0) (g : Path) (found : List Finding) : Type 0 where
+  pub exact : (f : Finding) → Contains found f ↔ ((f.group ≡ g) × IsPathFinding E N F D g f.path f.kind)
+  pub ascend : AllPairs Precedes found
 
 -- each pair is below g
 abbrev pub AreBelow : Path → List Pair → Type 0
@@ -41,11 +42,15 @@ pub record IsPlaceBehind (es : List Pair) (p : Path) (n : ℕ) : Type 0 where
   pub before : AllWithin (λ e. path_cmp p e.0 ≡ Less → ⊥) es 0 n
   pub behind : AllWithin (λ e. path_cmp p e.0 ≡ Less) es n (length es)
 
--- what is to be told of an entry with these metadata, which is reachable or not, beside a node with others
-abbrev pub IsPairKind : Bool → NodeMetadata → NodeMetadata → Option FindingKind → Type 0
-IsPairKind false m n kind = kind ≡ Some Unreachable
-IsPairKind true m n None = IsSame m n
-IsPairKind true m n (Some k) = (k ≡ Differs) × (IsSame m n → ⊥)
+-- what is to be told of an entry that is reachable or not
+abbrev pub cut_kind : Bool → Option FindingKind
+cut_kind false = Some Unreachable
+cut_kind true = None
+
+-- what is to be told of an entry with these metadata beside a node with others
+abbrev pub IsPairKind : NodeMetadata → NodeMetadata → Option FindingKind → Type 0
+IsPairKind m n None = IsSame m n
+IsPairKind m n (Some k) = (k ≡ Differs) × (IsSame m n → ⊥)
 
 -- the finding, if there is one
 abbrev pub findings_at : Path → Path → Option FindingKind → List Finding
@@ -56,7 +61,9 @@ findings_at g p (Some k) = record { group = g; path = p; kind = k } ∷ []
 
 -- what is to be told of a key
 abbrev pub key_kind : Block → List ℕ → Option FindingKind
-key_kind B t = if list_all is_name (relative_names t) then (if is_covered B t then Some (Shadowed t) else None) else Some (BadKey t)
+key_kind B t =
+    if is_nil (without_leading_slash t) then Some (OwnKey t) else
+    if list_all is_name (relative_names t) then (if is_covered B t then Some (Shadowed t) else None) else Some (BadKey t)
 
 -- what is to be told of the keys of these entries of a block
 abbrev pub key_findings : Path → Block → Block → List Finding

@@ -1,5 +1,5 @@
 -- Steps of a comparison of the block of a group with the nodes below it, one after another; no public contract rests on them.
-use Rattle.std.specs.Prelude.{◌≡◌, ◌⊎◌, ◌↔◌, ◌∷◌, [], ◌++◌, List, Contains, AllPairs, Bool, if◌then◌else◌, ◌&&◌}
+use Rattle.std.specs.Prelude.{◌≡◌, ◌⊎◌, ◌↔◌, ◌∷◌, [], ◌++◌, List, Contains, Option, Some, None, Bool, if◌then◌else◌, ◌&&◌}
 use Rattle.std.specs.declared.cmp.Ordering.TheVariants.{Less}
 use Rattle.zarrs_path.specs.Paths.{Path, path_cmp, IsBelow}
 use Rattle.zarrs_meta.specs.Node.{is_group}
@@ -15,17 +15,21 @@ use Rattle.zarrs_survey.specs.declared.comparison.Comparison.{Comparison}
 use Rattle.zarrs_survey.specs.declared.comparison.Turn.{Turn}
 use Rattle.zarrs_survey.specs.declared.comparison.Turn.TheVariants.{Before, At, Behind}
 use Rattle.zarrs_survey.specs.declared.finding.Finding.{Finding}
-use Rattle.zarrs_survey.specs.declared.finding.FindingKind.TheVariants.{Stale}
+use Rattle.zarrs_survey.specs.declared.finding.FindingKind.TheVariants.{Stale, Unreached}
 
 -- no document is bad
 abbrev pub NoneBad : Path → Type 0
 NoneBad q = ⊥
 
+-- the store has no document
+abbrev pub NoDocument : Path → Type 0
+NoDocument q = ⊥
+
 -- what was told of the entries `all` beside `nodes`, of which es and ns are left, is what there is to tell up to there
 pub record IsUnderWay (all nodes es ns : List Pair) (c : Comparison) : Type 0 where
   pub low : AreBelow c.group all
   pub under : AreBelow c.group nodes
-  pub holds : HoldsUpTo (Contains all) (Contains nodes) NoneBad c.group es ns c.last c.found.items
+  pub holds : HoldsUpTo (Contains all) (Contains nodes) NoneBad NoDocument c.group es ns c.last c.found.items
 
 -- nothing of the block B of g was compared yet
 pub record IsStart (B : Block) (g : Path) (c : Comparison) : Type 0 where
@@ -99,19 +103,28 @@ IsNextOf old (e ∷ es) new = (mid : Comparison) × IsNextBelow old e mid × IsN
 
 -- ---- the end
 
--- an entry without a node, at or below a path of F: nothing is known of it
-abbrev pub IsExcusedBy : (Path → Type 0) → Finding → Type 0
-IsExcusedBy F f = (f.kind ≡ Stale) × IsSpoilt F f.path
+-- What becomes of a finding, once the bad documents F and all documents D are known: of an entry without a node nothing where F spoils it, and else it is
+-- unreached where D has it. Others stay as they are.
+abbrev pub IsSettled : (Path → Type 0) → (Path → Type 0) → Finding → Option Finding → Type 0
+IsSettled F D f None = (f.kind ≡ Stale) × IsSpoilt F f.path
+IsSettled F D f (Some h) =
+    ((f.kind ≡ Stale → ⊥) × (h ≡ f))
+    ⊎ ((f.kind ≡ Stale) × (IsSpoilt F f.path → ⊥) × (h.group ≡ f.group) × (h.path ≡ f.path) × (((D f.path) × (h.kind ≡ Unreached)) ⊎ ((D f.path → ⊥) × (h.kind ≡ Stale))))
 
--- kept has the findings that F does not excuse, in the order in which they were found
-pub record IsKeptOf (F : Path → Type 0) (found kept : List Finding) : Type 0 where
-  pub exact : (f : Finding) → Contains kept f ↔ (Contains found f × (IsExcusedBy F f → ⊥))
-  pub ascend : AllPairs (λ f h. path_cmp f.path h.path ≡ Less) found → AllPairs (λ f h. path_cmp f.path h.path ≡ Less) kept
+-- the finding, if there is one
+abbrev pub if_some : Option Finding → List Finding
+if_some None = []
+if_some (Some h) = h ∷ []
 
--- the findings that F does not excuse were put behind others
-abbrev pub PutsKept : (Path → Type 0) → List Finding → List Finding → List Finding → Type 0
-PutsKept F told found whole = (kept : List Finding) × (whole ≡ told ++ kept) × IsKeptOf F found kept
+-- what becomes of findings, one after another
+abbrev pub AreSettled : (Path → Type 0) → (Path → Type 0) → List Finding → List Finding → Type 0
+AreSettled F D [] settled = settled ≡ []
+AreSettled F D (f ∷ found) settled = (o : Option Finding) × (rest : List Finding) × (settled ≡ if_some o ++ rest) × IsSettled F D f o × AreSettled F D found rest
+
+-- what becomes of the findings was put behind others
+abbrev pub PutsSettled : (Path → Type 0) → (Path → Type 0) → List Finding → List Finding → List Finding → Type 0
+PutsSettled F D told found whole = (settled : List Finding) × (whole ≡ told ++ settled) × AreSettled F D found settled
 
 -- all that is told where no nodes are left
-abbrev pub IsEnd : Comparison → List (Path × NodeCreateError) → List Finding → Type 0
-IsEnd c bad whole = (all nodes : List Pair) → IsUnderWay all nodes c.entries.items [] c → (told : List Finding) × (whole ≡ c.of_block.items ++ told) × ArePathFindings (Contains all) (Contains nodes) (HasBad bad) c.group told
+abbrev pub IsEnd : (Path → Type 0) → Comparison → List (Path × NodeCreateError) → List Finding → Type 0
+IsEnd D c bad whole = (all nodes : List Pair) → IsUnderWay all nodes c.entries.items [] c → (told : List Finding) × (whole ≡ c.of_block.items ++ told) × ArePathFindings (Contains all) (Contains nodes) (HasBad bad) D c.group told

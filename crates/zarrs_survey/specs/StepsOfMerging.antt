@@ -4,7 +4,7 @@ use Rattle.std.specs.declared.cmp.Ordering.{Ordering}
 use Rattle.std.specs.declared.cmp.Ordering.TheVariants.{Less}
 use Rattle.zarrs_path.specs.Paths.{Path, path_cmp, IsBelow}
 use Rattle.zarrs_node.specs.Reach.{HasGroup}
-use Rattle.zarrs_survey.specs.Findings.{Pair, HasPath, IsAtOrAbove, IsReachable, IsPathFinding}
+use Rattle.zarrs_survey.specs.Findings.{Pair, HasPath, IsAtOrAbove, IsPathFinding, Precedes}
 use Rattle.zarrs_survey.specs.declared.finding.Finding.{Finding}
 
 -- some pair has the key
@@ -25,9 +25,9 @@ pub record IsRest {K M : Type 0} (cmp : K → K → Ordering) (Left : K → Type
   pub sound : (e : K × M) → Contains es e → E e
   pub complete : (e : K × M) → E e → Contains es e ⊎ IsPast cmp Left e.0
 
--- what was told is what there is to tell of keys that are past, in order
-pub record IsToldUpTo {K A : Type 0} (cmp : K → K → Ordering) (key : A → K) (Left : K → Type 0) (F : A → Type 0) (told : List A) : Type 0 where
-  pub ascend : AllPairs (λ d e. cmp (key d) (key e) ≡ Less) told
+-- what was told is what there is to tell of keys that are past, in the order R
+pub record IsToldUpTo {K A : Type 0} (cmp : K → K → Ordering) (key : A → K) (R : A → A → Type 0) (Left : K → Type 0) (F : A → Type 0) (told : List A) : Type 0 where
+  pub ascend : AllPairs R told
   pub sound : (f : A) → Contains told f → F f
   pub past : (f : A) → Contains told f → IsPast cmp Left (key f)
   pub complete : (f : A) → F f → Contains told f ⊎ Left (key f)
@@ -36,6 +36,10 @@ pub record IsToldUpTo {K A : Type 0} (cmp : K → K → Ordering) (key : A → K
 abbrev pub IsBeforeAll : List Pair → Path → Type 0
 IsBeforeAll es p = (l : Path) → HasPath (Contains es) l → path_cmp p l ≡ Less
 
+-- each path strictly between g and p is a group of E
+abbrev pub IsReachable : (Pair → Type 0) → Path → Path → Type 0
+IsReachable E g p = (q : Path) → IsBelow g q → IsBelow q p → HasGroup E q
+
 -- of the entries E below b, with es left: g and each path between b and g is a group, and a reached group with something below it left is g or above it
 pub record IsLastGroup (E : Pair → Type 0) (b : Path) (es : List Pair) (g : Path) : Type 0 where
   pub groups : (q : Path) → IsBelow b q → IsAtOrAbove q g → HasGroup E q
@@ -43,12 +47,12 @@ pub record IsLastGroup (E : Pair → Type 0) (b : Path) (es : List Pair) (g : Pa
   pub waits : (q : Path) → HasGroup E q → IsReachable E b q → IsBeforeAll es q → (d : Path) → HasPath (Contains es) d → IsBelow q d → IsAtOrAbove q g
 
 -- a finding is there to tell
-abbrev pub IsToTell : (Pair → Type 0) → (Pair → Type 0) → (Path → Type 0) → Path → Finding → Type 0
-IsToTell E N F b f = (f.group ≡ b) × IsPathFinding E N F b f.path f.kind
+abbrev pub IsToTell : (Pair → Type 0) → (Pair → Type 0) → (Path → Type 0) → (Path → Type 0) → Path → Finding → Type 0
+IsToTell E N F D b f = (f.group ≡ b) × IsPathFinding E N F D b f.path f.kind
 
 -- the findings of the paths before those that are left, es of E and ns of N, were told, and g is the last group that was reached
-pub record HoldsUpTo (E N : Pair → Type 0) (F : Path → Type 0) (b : Path) (es ns : List Pair) (g : Path) (found : List Finding) : Type 0 where
+pub record HoldsUpTo (E N : Pair → Type 0) (F D : Path → Type 0) (b : Path) (es ns : List Pair) (g : Path) (found : List Finding) : Type 0 where
   pub entries : IsRest path_cmp (IsLeft es ns) E es
   pub nodes : IsRest path_cmp (IsLeft es ns) N ns
   pub last : IsLastGroup E b es g
-  pub told : IsToldUpTo path_cmp (λ f. f.path) (IsLeft es ns) (IsToTell E N F b) found
+  pub told : IsToldUpTo path_cmp (λ f. f.path) Precedes (IsLeft es ns) (IsToTell E N F D b) found

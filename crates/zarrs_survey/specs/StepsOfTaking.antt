@@ -78,9 +78,9 @@ MayPutBlock blocks above p None more places = (more ≡ blocks) × (places ≡ a
 MayPutBlock blocks above p (Some read) more places = PutsBlock blocks above p read more places
 
 -- all that is told at the ends of comparisons, one after another
-abbrev pub AreEnds : List Comparison → List (Path × NodeCreateError) → List Finding → Type 0
-AreEnds [] bad whole = whole ≡ []
-AreEnds (c ∷ cs) bad whole = (found : List Finding) × (rest : List Finding) × (whole ≡ found ++ rest) × IsEnd c bad found × AreEnds cs bad rest
+abbrev pub AreEnds : (Path → Type 0) → List Comparison → List (Path × NodeCreateError) → List Finding → Type 0
+AreEnds D [] bad whole = whole ≡ []
+AreEnds D (c ∷ cs) bad whole = (found : List Finding) × (rest : List Finding) × (whole ≡ found ++ rest) × IsEnd D c bad found × AreEnds D cs bad rest
 
 module _ {S : Type 0} where
   -- no nodes were taken

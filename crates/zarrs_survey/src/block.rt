@@ -1,8 +1,10 @@
 //! The block of a group beside the nodes of a survey.
-ghost use Rattle.std.specs.Prelude.{◌≡◌, ◌↔◌, IfOk, IfSome, IsSome, IsTrue, Contains};
+ghost use Rattle.std.specs.Prelude.{◌≡◌, ◌↔◌, IfOk, IfErr, IfSome, IsSome, IsTrue, Contains};
+ghost use Rattle.zarrs_store.specs.Faults.{IsStoreError};
 ghost use Rattle.zarrs_block.specs.declared.node_create_error.NodeCreateError.{NodeCreateError};
 ghost use Rattle.zarrs_node.specs.Order.{Ascend};
 ghost use Rattle.zarrs_node.specs.Reach.{HasGroup};
+ghost use Rattle.zarrs_node.specs.Exists.{HasNodeKey};
 ghost use Rattle.zarrs_survey.specs.Findings.{AreFindings};
 ghost use Rattle.zarrs_survey.specs.StepsOfComparing.{IsPlaceBehind};
 ghost use Rattle.zarrs_survey.specs.Surveys.{HasGroupAt, IsBaseOf};
@@ -10,10 +12,11 @@ ghost use Rattle.zarrs_survey.specs.Surveys.{HasGroupAt, IsBaseOf};
 use crate::comparison::Comparison;
 use crate::finding::Finding;
 use crate::survey::Survey;
-use std::alloc::{AllocError, Global};
+use std::alloc::Global;
 use zarrs_block::ConsolidatedMetadata;
 use zarrs_meta::NodeMetadata;
 use zarrs_path::NodePath;
+use zarrs_store::{ReadableStorageTraits, StorageError};
 
 /// What there is to tell of the block of a group beside the nodes that a survey found below it: its bad keys and those that are shadowed, in the
 /// order of the keys, and then what is wrong with its entries and what is missing, in the order of paths. Metadata are compared as data, the
@@ -23,24 +26,27 @@ use zarrs_path::NodePath;
 /// above the base or below a bad document is no node of the survey.
 ///
 /// Entries at or below a bad document are not compared with the store, because nothing was read there: of them it tells only what stands in the block.
+/// Of other entries without a node it asks the store for a document at their paths.
 ///
 /// # Errors
 ///
-/// `AllocError` where there is no memory for the entries or for what is told.
+/// `StorageError::Fault` of a store that can fail, and `OutOfMemory` where there is no memory for the entries or for what is told.
 ///
 /// Source: own.
 /// <https://zarr.readthedocs.io/en/stable/user-guide/consolidated_metadata/>
-pub fn compare_block(
+pub fn compare_block<S: ReadableStorageTraits>(
     alloc: Global,
+    storage: &S,
     survey: &Survey,
     group: &NodePath,
     block: ConsolidatedMetadata,
-) -> Result<Option<Vec<Finding>>, AllocError>
+) -> Result<Option<Vec<Finding>>, StorageError>
     ensures group { IfOk result (λ told. IsSome told ↔ HasGroupAt survey.now group.now) }
     ensures findings { IfOk result (λ told. IfSome told
         (λ found. AreFindings block.metadata (Contains survey.now.nodes.items)
-        (λ q. (e : NodeCreateError) × Contains survey.now.bad_documents (q, e)) group.now
-        found.items)) }
+        (λ q. (e : NodeCreateError) × Contains survey.now.bad_documents (q, e))
+        (HasNodeKey (S.contents storage.now)) group.now found.items)) }
+    ensures err { IfErr result (IsStoreError (S.can_fail storage.now)) }
 {
     if !has_group(survey, group) {
         return Ok(None);
@@ -48,7 +54,7 @@ pub fn compare_block(
     let mut comparison = Comparison::new(alloc, group.try_clone(alloc)?, block)?;
     let start = place_behind(&survey.nodes, group);
     comparison.take_first(alloc, &survey.nodes[start..])?;
-    let found = comparison.finish(alloc, &survey.bad_documents)?;
+    let found = comparison.finish(alloc, storage, &survey.bad_documents)?;
     Ok(Some(found))
 }
 

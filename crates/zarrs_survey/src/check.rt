@@ -9,6 +9,7 @@ ghost use Rattle.zarrs_block.specs.Block.{block_of_in};
 ghost use Rattle.zarrs_block.specs.Zmetadata.{zmetadata_in};
 ghost use Rattle.zarrs_path.specs.Keys.{zmetadata};
 ghost use Rattle.zarrs_survey.specs.Checks.{AreBlockFindings, IsCheckOf, as_read, block_read};
+ghost use Rattle.zarrs_node.specs.Exists.{HasNodeKey};
 ghost use Rattle.zarrs_survey.specs.StepsOfChecks.{IsKnownOf};
 ghost use Rattle.zarrs_survey.specs.StepsOfTaking.{AreEnds};
 
@@ -18,14 +19,16 @@ use crate::comparison::Comparison;
 use crate::comparisons::Comparisons;
 use crate::finding::Finding;
 use crate::survey::{sort_faults, warn_ignored};
+use crate::visits::Visits;
 use log::Log;
-use std::alloc::{AllocError, Global};
+use std::alloc::Global;
 use zarrs_block::{ConsolidatedMetadata, NodeCreateError};
 use zarrs_config::MetadataRetrieveVersion;
 use zarrs_fault::{MetadataFault, Numbers};
 use zarrs_form::parse;
 use zarrs_meta::{AdditionalFieldsV3, GroupMetadata, NodeMetadata};
 use zarrs_node::walk_past_faults;
+use zarrs_notes::NodeFinding;
 use zarrs_path::{NodePath, meta_key_v2_consolidated};
 use zarrs_store::{ListableStorageTraits, ReadableStorageTraits, StorageError, StorePrefix};
 
@@ -47,8 +50,10 @@ pub struct Check {
     pub bad_documents: BadDocuments,
     /// The paths below the base whose last name is made of periods only, in the order of paths. Below them nothing was looked at.
     pub bad_names: Vec<StorePrefix>,
-    /// What is wrong with the blocks of its groups, in the order of groups, paths and keys.
+    /// What is wrong with the blocks of its groups, in the order of groups, paths, kinds and keys.
     pub findings: Vec<Finding>,
+    /// What there is to tell of its nodes by their own documents, each with the path of the node, in the order of paths.
+    pub told: Vec<(NodePath, NodeFinding)>,
 }
 
 impl Check {
@@ -78,19 +83,20 @@ impl Check {
     {
         let _valid = path.as_str();
         let base = base_of(alloc, storage, path, version)?;
-        let mut taken = Comparisons::new(alloc, storage);
+        let mut taken = Visits::new(alloc, storage);
         let base = taken.take_base(path.try_clone(alloc)?, base)?;
         let walked = walk_past_faults(alloc, storage, path, version, &mut taken)?;
+        let Visits { comparisons, told } = taken;
         let Comparisons {
             count,
             blocks,
             outcome,
             ..
-        } = taken;
+        } = comparisons;
         outcome?;
         warn_ignored(log, &walked.ignored);
         let (bad_documents, bad_names) = sort_faults(alloc, walked.faults)?;
-        let findings = finish(alloc, blocks, &bad_documents)?;
+        let findings = finish(alloc, storage, blocks, &bad_documents)?;
         Ok(Check {
             path: path.try_clone(alloc)?,
             base,
@@ -99,21 +105,26 @@ impl Check {
             bad_documents,
             bad_names,
             findings,
+            told,
         })
     }
 }
 
 // The findings of all blocks, once every node was compared.
-fn finish(
+fn finish<S: ReadableStorageTraits>(
     alloc: Global,
+    storage: &S,
     blocks: Vec<Comparison>,
     bad: &BadDocuments,
-) -> Result<Vec<Finding>, AllocError>
-    ensures { IfOk result (λ found. AreEnds blocks.items bad.now found.items) }
+) -> Result<Vec<Finding>, StorageError>
+    ensures ok { IfOk result
+        (λ found. AreEnds (HasNodeKey (S.contents storage.now)) blocks.items bad.now
+        found.items) }
+    ensures err { IfErr result (IsStoreError (S.can_fail storage.now)) }
 {
     let mut found = Vec::new(alloc);
     for block in blocks {
-        found.append(&mut block.finish(alloc, bad)?)?;
+        found.append(&mut block.finish(alloc, storage, bad)?)?;
     }
     Ok(found)
 }

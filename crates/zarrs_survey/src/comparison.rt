@@ -1,15 +1,16 @@
 //! The block of a group beside the nodes below it, one after another.
-ghost use Rattle.std.specs.Prelude.{◌≡◌, ◌↔◌, ◌++◌, IsTrue, IfOk, OnOk, if◌then◌else◌};
+ghost use Rattle.std.specs.Prelude.{◌≡◌, ◌↔◌, ◌++◌, IsTrue, IfOk, IfErr, OnOk};
 ghost use Rattle.zarrs_store.specs.Contents.{Lists};
+ghost use Rattle.zarrs_store.specs.Faults.{IsStoreError};
 ghost use Rattle.zarrs_path.specs.Paths.{IsBelow};
 ghost use Rattle.zarrs_block.specs.Block.{Entries, HasValidKeys};
 ghost use Rattle.zarrs_node.specs.Order.{Ascend};
 ghost use Rattle.zarrs_survey.specs.Checks.{fault_of_block};
+ghost use Rattle.zarrs_node.specs.Exists.{HasNodeKey};
 ghost use Rattle.zarrs_survey.specs.Findings.{IsAtOrAbove};
 ghost use Rattle.zarrs_survey.specs.StepsOfChecks.{HasBad};
-ghost use Rattle.zarrs_survey.specs.StepsOfComparing.{HangsFrom, IsPairKind, StandBehind, findings_at};
-ghost use Rattle.zarrs_survey.specs.StepsOfComparisons.{IsEnd, IsExcusedBy, IsNext, IsNextBelow, IsNextOf, IsOnly, IsStart, IsTurnAt, IsUnmoved, Passes, PassesLone, PassesPair, PutsKept};
-ghost use Rattle.zarrs_survey.specs.declared.finding.FindingKind.TheVariants.{Stale, Unreachable};
+ghost use Rattle.zarrs_survey.specs.StepsOfComparing.{HangsFrom, IsPairKind, StandBehind, cut_kind, findings_at};
+ghost use Rattle.zarrs_survey.specs.StepsOfComparisons.{IsEnd, IsNext, IsNextBelow, IsNextOf, IsOnly, IsStart, IsTurnAt, IsUnmoved, Passes, PassesLone, PassesPair, PutsSettled, IsSettled};
 
 use crate::bad_documents::BadDocuments;
 use crate::finding::{Finding, FindingKind};
@@ -24,7 +25,9 @@ use zarrs_block::{
 use zarrs_compare::is_same_metadata;
 use zarrs_fault::MetadataFault;
 use zarrs_meta::NodeMetadata;
+use zarrs_node::node_exists;
 use zarrs_path::{NodePath, NodePathError};
+use zarrs_store::{ReadableStorageTraits, StorageError};
 
 // The block of a group beside the nodes below it, which come in the order of their paths.
 #[derive(Drop)]
@@ -36,7 +39,7 @@ pub(crate) struct Comparison {
     entries: VecDeque<(NodePath, NodeMetadata)>,
     // The last group that was reached. Each path above it and below the group is a group too.
     last: NodePath,
-    // What was told of entries and nodes. An entry without a node is told even where a bad document excuses it.
+    // What was told of entries and nodes. An entry without a node is told as stale, until bad documents and others are asked.
     found: Vec<Finding>,
 }
 
@@ -179,7 +182,14 @@ impl Comparison {
         ensures { OnOk result (PassesLone self.old entry self.new) }
     {
         let reached = hangs_from(alloc, &entry.0, &self.last)?;
-        let kind = Some(lone_kind(reached));
+        tell(
+            &mut self.found,
+            alloc,
+            &self.group,
+            &entry.0,
+            cut_kind(reached),
+        )?;
+        let kind = Some(FindingKind::Stale);
         tell(&mut self.found, alloc, &self.group, &entry.0, kind)?;
         self.pass(reached, entry);
         Ok(())
@@ -195,7 +205,14 @@ impl Comparison {
         ensures { OnOk result (PassesPair self.old entry metadata.now self.new) }
     {
         let reached = hangs_from(alloc, &entry.0, &self.last)?;
-        let kind = pair_kind(reached, &entry.1, metadata);
+        tell(
+            &mut self.found,
+            alloc,
+            &self.group,
+            &entry.0,
+            cut_kind(reached),
+        )?;
+        let kind = pair_kind(&entry.1, metadata);
         tell(&mut self.found, alloc, &self.group, &entry.0, kind)?;
         self.pass(reached, entry);
         Ok(())
@@ -211,41 +228,69 @@ impl Comparison {
     }
 
     // All that there is to tell, where there are no more nodes.
-    pub(crate) fn finish(
+    pub(crate) fn finish<S: ReadableStorageTraits>(
         mut self,
         alloc: Global,
+        storage: &S,
         bad: &BadDocuments,
-    ) -> Result<Vec<Finding>, AllocError>
-        ensures { IfOk result (λ found. IsEnd self bad.now found.items) }
+    ) -> Result<Vec<Finding>, StorageError>
+        ensures ok { IfOk result
+            (λ found. IsEnd (HasNodeKey (S.contents storage.now)) self bad.now found.items) }
+        ensures err { IfErr result (IsStoreError (S.can_fail storage.now)) }
     {
         while let Some(entry) = self.entries.pop_front() {
             self.tell_lone(alloc, entry)?;
         }
-        put_kept(self.of_block, self.found, bad)
+        put_settled(alloc, storage, self.of_block, self.found, bad)
     }
 }
 
-// Puts the findings that no bad document excuses behind others.
-fn put_kept(
+// Puts what becomes of findings behind others, once the bad documents are known.
+fn put_settled<S: ReadableStorageTraits>(
+    alloc: Global,
+    storage: &S,
     mut told: Vec<Finding>,
-    mut found: Vec<Finding>,
+    found: Vec<Finding>,
     bad: &BadDocuments,
-) -> Result<Vec<Finding>, AllocError>
-    ensures { IfOk result
-        (λ whole. PutsKept (HasBad bad.now) told.items found.items whole.items) }
+) -> Result<Vec<Finding>, StorageError>
+    ensures ok { IfOk result
+        (λ whole. PutsSettled (HasBad bad.now) (HasNodeKey (S.contents storage.now))
+        told.items found.items whole.items) }
+    ensures err { IfErr result (IsStoreError (S.can_fail storage.now)) }
 {
-    found.retain(|finding| !is_excused(finding, bad));
-    told.append(&mut found)?;
+    for finding in found {
+        if let Some(left) = settled(alloc, storage, finding, bad)? {
+            told.push(left)?;
+        }
+    }
     Ok(told)
 }
 
-// Whether a finding is of an entry without a node, at or below a bad document.
-fn is_excused(finding: &Finding, bad: &BadDocuments) -> bool
-    ensures { IsTrue result ↔ IsExcusedBy (HasBad bad.now) finding.now }
+// What becomes of a finding: of an entry without a node nothing, where it is at or below a bad document, and else it may be unreached.
+fn settled<S: ReadableStorageTraits>(
+    alloc: Global,
+    storage: &S,
+    finding: Finding,
+    bad: &BadDocuments,
+) -> Result<Option<Finding>, StorageError>
+    ensures ok { IfOk result
+        (IsSettled (HasBad bad.now) (HasNodeKey (S.contents storage.now)) finding) }
+    ensures err { IfErr result (IsStoreError (S.can_fail storage.now)) }
 {
-    match &finding.kind {
-        FindingKind::Stale => bad.spoils(&finding.path),
-        _ => false,
+    let Finding { group, path, kind } = finding;
+    match kind {
+        FindingKind::Stale => {
+            if bad.spoils(&path) {
+                return Ok(None);
+            }
+            let kind = if node_exists(alloc, storage, &path)? {
+                FindingKind::Unreached
+            } else {
+                FindingKind::Stale
+            };
+            Ok(Some(Finding { group, path, kind }))
+        }
+        kind => Ok(Some(Finding { group, path, kind })),
     }
 }
 
@@ -284,24 +329,21 @@ fn is_at_or_above(path: &NodePath, other: &NodePath) -> bool
     *other == *path || other.is_below(path)
 }
 
-// What is wrong with an entry without a node.
-fn lone_kind(reached: bool) -> FindingKind
-    ensures { result ≡ (if reached then Stale else Unreachable) }
+// What is wrong with an entry that is reachable or not.
+fn cut_kind(reached: bool) -> Option<FindingKind>
+    ensures { result ≡ cut_kind reached }
 {
     if reached {
-        FindingKind::Stale
+        None
     } else {
-        FindingKind::Unreachable
+        Some(FindingKind::Unreachable)
     }
 }
 
 // What is wrong with an entry beside a node.
-fn pair_kind(reached: bool, metadata: &NodeMetadata, other: &NodeMetadata) -> Option<FindingKind>
-    ensures { IsPairKind reached metadata.now other.now result }
+fn pair_kind(metadata: &NodeMetadata, other: &NodeMetadata) -> Option<FindingKind>
+    ensures { IsPairKind metadata.now other.now result }
 {
-    if !reached {
-        return Some(FindingKind::Unreachable);
-    }
     if is_same_metadata(metadata, other) {
         None
     } else {

@@ -1,15 +1,13 @@
 //! The blocks of groups beside the nodes that a walk finds.
 ghost use Rattle.std.specs.Prelude.{◌≡◌, ◌↔◌, IsTrue, IfOk, IfErr, OnOk};
 ghost use Rattle.zarrs_store.specs.Faults.{IsStoreError};
-ghost use Rattle.zarrs_block.specs.declared.node_create_error.NodeCreateError.{NodeCreateError};
-ghost use Rattle.zarrs_node.specs.Sinks.{TakesAll};
 ghost use Rattle.zarrs_survey.specs.StepsOfChecks.{shown_block};
-ghost use Rattle.zarrs_survey.specs.StepsOfTaking.{AreCompared, Closes, IsAboveAt, IsLastAbove, IsNew, PlacesAscend, PutsBlock, Takes, TakesNode, base_nodes, base_fault};
+ghost use Rattle.zarrs_survey.specs.StepsOfTaking.{AreCompared, Closes, IsAboveAt, IsLastAbove, IsNew, PlacesAscend, PutsBlock, Takes, TakesNode};
 
 use crate::check::take_block;
 use crate::comparison::Comparison;
 use std::alloc::{AllocError, Global};
-use zarrs_block::{ConsolidatedMetadata, NodeCreateError};
+use zarrs_block::ConsolidatedMetadata;
 use zarrs_fault::MetadataFault;
 use zarrs_meta::NodeMetadata;
 use zarrs_node::NodeSink;
@@ -19,8 +17,8 @@ use zarrs_store::{ReadableStorageTraits, StorageError};
 // Takes nodes in the order of their paths, counts them, and compares each with the blocks of the groups above it, as it comes; it keeps none of them.
 #[derive(Drop)]
 pub(crate) struct Comparisons<'a, S> {
-    alloc: Global,
-    storage: &'a S,
+    pub(crate) alloc: Global,
+    pub(crate) storage: &'a S,
     // The number of nodes.
     pub(crate) count: usize,
     // What was read as blocks, beside the nodes that were taken, in the order of their groups.
@@ -44,26 +42,6 @@ impl<'a, S: ReadableStorageTraits> Comparisons<'a, S> {
             blocks: Vec::new(alloc),
             above: Vec::new(alloc),
             outcome: Ok(()),
-        }
-    }
-
-    // Takes the base if it is a node, and otherwise returns its error.
-    pub(crate) fn take_base(
-        &mut self,
-        path: NodePath,
-        base: Result<NodeMetadata, NodeCreateError>,
-    ) -> Result<Result<(), NodeCreateError>, AllocError>
-        ensures fault { IfOk result (λ fault. fault ≡ base_fault base) }
-        ensures taken { IfOk result
-            (λ _. TakesAll (Takes S.contents S.can_fail) self.old (base_nodes path base)
-            self.new) }
-    {
-        match base {
-            Ok(metadata) => {
-                self.take(path, metadata)?;
-                Ok(Ok(()))
-            }
-            Err(fault) => Ok(Err(fault)),
         }
     }
 

@@ -27,12 +27,16 @@ pub enum FindingKind {
     BlockFault(MetadataFault),
     /// A key that is no relative path.
     BadKey(Text),
-    /// A key that begins with a slash, where the block has the key without it too: it does not count.
+    /// A key that begins with a slash, where the block has the key without it too, which is that of an entry: it does not count.
     Shadowed(Text),
+    /// A key that is empty or one slash, and stands for the group itself.
+    OwnKey(Text),
     /// An entry, and some path between it and the group is no group of the block.
     Unreachable,
-    /// An entry, and the store has no node at its path.
+    /// An entry, and the store has no document of a node at its path.
     Stale,
+    /// An entry, and the store has a document of a node at its path, to which no listing comes.
+    Unreached,
     /// An entry, and the store has a node with other metadata at its path.
     Differs,
     /// A node of the store, and the block has no entry at its path.

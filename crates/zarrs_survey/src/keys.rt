@@ -40,6 +40,9 @@ fn key_kind(
 ) -> Result<Option<FindingKind>, AllocError>
     ensures { IfOk result (λ kind. kind ≡ key_kind block.now key.now) }
 {
+    if without_leading_slash(key).is_empty() {
+        return Ok(Some(FindingKind::OwnKey(Text::from_str(alloc, key)?)));
+    }
     if !are_names(key) {
         return Ok(Some(FindingKind::BadKey(Text::from_str(alloc, key)?)));
     }

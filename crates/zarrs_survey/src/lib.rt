@@ -12,6 +12,7 @@ mod finding;
 mod keys;
 pub mod laws;
 mod survey;
+mod visits;
 
 pub use bad_documents::BadDocuments;
 pub use block::compare_block;

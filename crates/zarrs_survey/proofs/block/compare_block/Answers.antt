@@ -1,6 +1,7 @@
 use Rattle.std.proofs.Common.{◌∙◌, Ok, drop, take, sym, ap, subst}
 use Rattle.std.proofs.lemmas.List.{take_rest, take-append-drop}
 use Rattle.zarrs_node.specs.Order.{Ascend}
+use Rattle.zarrs_node.specs.Exists.{HasNodeKey}
 use Rattle.zarrs_survey.specs.StepsOfComparing.{IsPlaceBehind, StandBehind}
 use Rattle.zarrs_survey.specs.StepsOfComparisons.{IsStart, IsNextOf}
 use Rattle.zarrs_survey.proofs.Checking.{told_end}
@@ -9,7 +10,7 @@ use Rattle.zarrs_survey.proofs.Taking.{HasCompared, compared_all, compared_first
 use Rattle.zarrs_survey.proofs.block.compare_block.Goals as goal
 
 pub take_first-requires-clause-ascending : goal.take_first-requires-clause-ascending
-take_first-requires-clause-ascending c =
+take_first-requires-clause-ascending store c =
     let es = c.args.survey.now.nodes.items in
     let g = c.args.group.now in
     let ys = c.deref-2.result.now in
@@ -18,7 +19,7 @@ take_first-requires-clause-ascending c =
     subst Ascend (sym (take_rest ys n ∙ ap (drop n) c.deref-2.ensures.value)) (rest_ascends es g n at c.args.survey.now.nodes_ascend)
 
 pub take_first-requires-clause-behind : goal.take_first-requires-clause-behind
-take_first-requires-clause-behind c =
+take_first-requires-clause-behind store c =
     let es = c.args.survey.now.nodes.items in
     let g = c.args.group.now in
     let ys = c.deref-2.result.now in
@@ -29,7 +30,7 @@ take_first-requires-clause-behind c =
     subst (StandBehind first.group) (sym (take_rest ys n ∙ ap (drop n) c.deref-2.ensures.value)) (subst (λ q. StandBehind q (drop n es)) (sym start.group) (rest_behind es g n at))
 
 pub returns-clause-findings : goal.returns-clause-findings
-returns-clause-findings c =
+returns-clause-findings store c =
     let B = c.args.block.metadata in
     let es = c.args.survey.now.nodes.items in
     let g = c.args.group.now in
@@ -43,5 +44,5 @@ returns-clause-findings c =
     let all : HasCompared es g B now =
     subst (λ xs. HasCompared xs g B now) (take-append-drop n es)
     (compared_all (take n es) (drop n es) g B first now (compared_first (take n es) g B first (none_before es g n at) start) next) in
-    let told = told_end es c.args.survey.now.nodes_ascend c.args.survey.now.bad_documents g now c.in_ok-found.found.items c.in_ok-found.ensures (Ok B) all in
+    let told = told_end es c.args.survey.now.nodes_ascend c.args.survey.now.bad_documents (HasNodeKey (store.S.Store.contents c.args.storage.now)) g now c.in_ok-found.found.items c.in_ok-found.ensures.ok (Ok B) all in
     record { exact = told.exact; ascend = told.ascend }

@@ -1,9 +1,0 @@
-use Rattle.std.proofs.Common.{refl, sym, subst}
-use Rattle.zarrs_node.specs.Sinks.{TakesAll}
-use Rattle.zarrs_survey.specs.StepsOfTaking.{Takes, base_nodes}
-use Rattle.zarrs_survey.proofs.comparisons.Comparisons.take_base.Goals as goal
-
-pub returns-in_ok-take-in-Ok-clause-taken : goal.returns-in_ok-take-in-Ok-clause-taken
-returns-in_ok-take-in-Ok-clause-taken g c =
-    subst (λ r. TakesAll (Takes g.S.Store.contents g.S.Store.can_fail) c.args.self.now (base_nodes c.args.path r) c.take.new.self) (sym c.in-Ok.is)
-    (c.take.new.self, c.in_ok-take-in-Ok.ensures, refl)
