@@ -1,3 +1,5 @@
+pub mod FolderNames
+pub mod Json
 pub mod Lines
 pub mod LoadedAnswers
 pub mod LoadedChecks

@@ -8,14 +8,14 @@ use Rattle.zarrs_config.specs.declared.version.UseConsolidatedMetadata.{UseConso
 use Rattle.zarrs_config.specs.declared.version.UseConsolidatedMetadata.TheVariants.{Auto, Never}
 use Rattle.zarrs_block.specs.declared.node_create_error.NodeCreateError.{NodeCreateError}
 use Rattle.zarrs_folder.specs.Openings.{OpenSame}
-use Rattle.zarrs_folder.specs.PrunedStores.{IsLoadedFrom}
-use Rattle.zarrs_folder.proofs.Openings.{loaded_opens_same}
 use Rattle.zarrs.specs.declared.fault.ZarrsFault.{ZarrsFault}
 use Rattle.zarrs.specs.declared.fault.ZarrsFault.TheVariants.{Usage, Load, Folder, Node, Write, OutOfMemory}
 use Rattle.zarrs.specs.declared.report.Tally.{Tally}
+use Rattle.zarrs.specs.declared.words.CheckOptions.{CheckOptions}
 use Rattle.zarrs.specs.declared.words.Word.{Word}
 use Rattle.zarrs.specs.declared.words.Word.TheVariants.{Tree, StoreTree, List as ListAll, Check}
 use Rattle.zarrs.specs.Output.{IsReported, IsWordText, IsAnswer}
+use Rattle.zarrs.specs.StepsOfRuns.{IsCheckable}
 use Rattle.zarrs.specs.Refusals.{RefusesAnswer, RefusesPathOf, RefusesRun}
 use Rattle.zarrs.specs.NodeLines.{IsShown, tree_line, list_line}
 use Rattle.zarrs.proofs.LoadedOpenings.{opened_over, refused_over}
@@ -26,37 +26,30 @@ abbrev pub IsSameFor : Word → Contents → Contents → Path → Type 0
 IsSameFor Tree S L b = OpenSame S L Auto b
 IsSameFor StoreTree S L b = OpenSame S L Never b
 IsSameFor ListAll S L b = OpenSame S L Never b
-IsSameFor Check S L b = IsLoadedFrom S L b
-
--- a store that is loaded from another has it for each word
-pub loaded_is_same : (w : Word) (S L : Contents) (b : Path) → IsLoadedFrom S L b → IsSameFor w S L b
-loaded_is_same Tree S L b loaded = loaded_opens_same S L b loaded Auto
-loaded_is_same StoreTree S L b loaded = loaded_opens_same S L b loaded Never
-loaded_is_same ListAll S L b loaded = loaded_opens_same S L b loaded Never
-loaded_is_same Check S L b loaded = loaded
+IsSameFor (Check options) S L b = IsCheckable S L b
 
 -- what is shown as lines is the same
 shown_over : (S L : Contents) (policy : UseConsolidatedMetadata) (b : Path) (line_of : Path × NodeMetadata → List ℕ) (text : List ℕ) → IsPath b → OpenSame S L policy b → IsShown L policy b line_of text → IsShown S policy b line_of text
 shown_over S L policy b line_of text valid same (h, opened, is) = (h, opened_over S L policy b same valid h opened, is)
 
 -- so is what is reported
-reported_over : (S L : Contents) (b : Path) (tally : Option Tally) (text : List ℕ) → IsLoadedFrom S L b → IsReported L b tally text → IsReported S b tally text
-reported_over S L b None text same h = h
-reported_over S L b (Some tally) text loaded h = report_from_over S L b loaded tally text h
+reported_over : (options : CheckOptions) (S L : Contents) (b : Path) (tally : Option Tally) (text : List ℕ) → IsCheckable S L b → IsReported options L b tally text → IsReported options S b tally text
+reported_over options S L b None text same h = h
+reported_over options S L b (Some tally) text loaded h = report_from_over S L b loaded options tally text h
 
 -- what a word writes
 pub writes_over : (w : Word) (S L : Contents) (b : Path) (tally : Option Tally) (text : List ℕ) → IsPath b → IsSameFor w S L b → IsWordText w L b tally text → IsWordText w S b tally text
 writes_over Tree S L b tally text valid same h = (h.0, shown_over S L Auto b (tree_line b) text valid same h.1)
 writes_over StoreTree S L b tally text valid same h = (h.0, shown_over S L Never b (tree_line b) text valid same h.1)
 writes_over ListAll S L b tally text valid same h = (h.0, shown_over S L Never b list_line text valid same h.1)
-writes_over Check S L b tally text valid same h = reported_over S L b tally text same h
+writes_over (Check options) S L b tally text valid same h = reported_over options S L b tally text same h
 
 -- and what it refuses
 pub refuses_over : (can_fail : Bool) (w : Word) (S L : Contents) (b : Path) (e : NodeCreateError) → IsPath b → IsSameFor w S L b → RefusesAnswer can_fail w L b e → RefusesAnswer can_fail w S b e
 refuses_over can_fail Tree S L b e valid same h = ⊎_elim inl (λ r. inr (refused_over S L Auto b same valid e r)) h
 refuses_over can_fail StoreTree S L b e valid same h = ⊎_elim inl (λ r. inr (refused_over S L Never b same valid e r)) h
 refuses_over can_fail ListAll S L b e valid same h = ⊎_elim inl (λ r. inr (refused_over S L Never b same valid e r)) h
-refuses_over can_fail Check S L b e valid same h = h
+refuses_over can_fail (Check options) S L b e valid same h = h
 
 module _ (w : Word) (S L : Contents) (b : Path) (path : List ℕ) (valid : IsPath b) (text_of : path_text b ≡ path) (same : IsSameFor w S L b) where
   -- the path of the text is b

@@ -1,9 +1,10 @@
 -- The order of remarks.
-use Rattle.std.proofs.Common.{◌≡◌, ◌≢◌, ℕ, true, false, true≢false, List, [], ◌∷◌, ◌++◌, get_or, AllPairs, Option, Some, None, Ordering, Less, Equal, Greater, IsTrue, is_eq, Result, Ok, Err, OnOk, refl, sym, ap, subst, ◌∙◌}
-use Rattle.std.specs.List.{slice_split, list_all}
+use Rattle.std.proofs.Common.{◌≡◌, ◌≢◌, ℕ, Bool, cond, codes, true, false, true≢false, List, [], ◌∷◌, ◌++◌, get_or, AllPairs, Option, Some, None, Ordering, Less, Equal, Greater, IsTrue, is_eq, Result, Ok, Err, OnOk, refl, sym, ap, subst, ◌∙◌}
+use Rattle.std.specs.List.{filter, slice_split, list_all}
 use Rattle.std.specs.List.Sorted.{IsPermutation, IsSorted, IsSortedByClosure}
 use Rattle.std.specs.Fn.{Called, ComparesAs}
 use Rattle.std.specs.Option.{option_cmp}
+use Rattle.std.specs.Str.{bytes_eq}
 use Rattle.std.specs.Ordering.{nat_cmp, ordering_then, is_lt}
 use Rattle.std.specs.Cmp.{IsTotalOrder}
 use Rattle.std.specs.Cmp.Lexicographic.{slice_cmp, texts_ties, options_total}
@@ -19,8 +20,11 @@ use Rattle.zarrs_store.proofs.Ascending.{strictly_from_sorted}
 use Rattle.zarrs_store.proofs.Cuts.{parts-append, parts_one, prefix_text-cons, segments_test, segments_nonempty, segments_clean}
 use Rattle.zarrs_path.specs.Paths.{Path, path_cmp}
 use Rattle.zarrs_path.specs.PathOrder.{path_decides, path_ties, path_total}
+use Rattle.zarrs.specs.declared.kind.RemarkKind.{RemarkKind}
+use Rattle.zarrs.specs.declared.kind.RemarkKind.TheVariants.{BadDocument, BadName, NoNode, BadBlock, BadKey, Shadowed, OwnKey, Differs, Unreachable, Stale, Unreached, Missing, Misplaced, Beside}
 use Rattle.zarrs.specs.declared.remark.Remark.{Remark}
-use Rattle.zarrs.specs.Report.{remark_cmp, RemarksAscend}
+use Rattle.zarrs.specs.Kinds.{kind_word}
+use Rattle.zarrs.specs.Report.{is_asked, remark_cmp, RemarksAscend}
 use Rattle.zarrs.specs.StepsOfReports.{AreSorted}
 
 -- the text of a prefix is cut into its segments and an empty part
@@ -54,8 +58,12 @@ cmp_prefixes p q s t e f h k =
 -- the order of remarks is total
 pub remark_total : IsTotalOrder remark_cmp
 remark_total =
-    then_total (then_total (then_total (on_total (λ (r : Remark). r.path) path_total) (on_total (λ (r : Remark). r.group) (options_total path_total)))
-    (on_total (λ (r : Remark). r.key) nat_list_cmp_total)) (on_total (λ (r : Remark). r.text) nat_list_cmp_total)
+    then_total
+    (then_total
+    (then_total (then_total (on_total (λ (r : Remark). r.path) path_total) (on_total (λ (r : Remark). r.group) (options_total path_total)))
+    (on_total (λ (r : Remark). r.key) (options_total nat_list_cmp_total)))
+    (on_total (λ (r : Remark). r.text) nat_list_cmp_total))
+    (on_total (λ (r : Remark). kind_word r.kind) nat_list_cmp_total)
 
 -- what is level in a row is level each
 both_level : (o p : Ordering) → ordering_then o p ≡ Equal → (o ≡ Equal) × (p ≡ Equal)
@@ -66,6 +74,40 @@ both_level Greater p e = let no : Greater ≡ Equal = e in cc no
 -- paths that are level are one
 level_paths : (p q : Path) → path_cmp p q ≡ Equal → p ≡ q
 level_paths p q e = (path_decides p q).0 (path_ties p q ∙ ap is_eq e)
+
+-- the kind that a word names
+kind_named : List ℕ → RemarkKind
+kind_named word =
+    cond (bytes_eq word (codes "bad-document")) BadDocument
+    (cond (bytes_eq word (codes "bad-name")) BadName
+    (cond (bytes_eq word (codes "no-node")) NoNode
+    (cond (bytes_eq word (codes "bad-block")) BadBlock
+    (cond (bytes_eq word (codes "bad-key")) BadKey
+    (cond (bytes_eq word (codes "shadowed")) Shadowed
+    (cond (bytes_eq word (codes "own-key")) OwnKey
+    (cond (bytes_eq word (codes "unreached")) Unreached
+    (cond (bytes_eq word (codes "differs")) Differs
+    (cond (bytes_eq word (codes "unreachable")) Unreachable
+    (cond (bytes_eq word (codes "stale")) Stale
+    (cond (bytes_eq word (codes "missing")) Missing (cond (bytes_eq word (codes "misplaced")) Misplaced Beside))))))))))))
+
+-- the word for a kind names it
+kind_named_back : (kind : RemarkKind) → kind_named (kind_word kind) ≡ kind
+unfolding kind_named
+kind_named_back BadDocument = refl
+kind_named_back BadName = refl
+kind_named_back NoNode = refl
+kind_named_back BadBlock = refl
+kind_named_back BadKey = refl
+kind_named_back Shadowed = refl
+kind_named_back OwnKey = refl
+kind_named_back Unreached = refl
+kind_named_back Differs = refl
+kind_named_back Unreachable = refl
+kind_named_back Stale = refl
+kind_named_back Missing = refl
+kind_named_back Misplaced = refl
+kind_named_back Beside = refl
 
 -- groups that are level are one
 level_groups : (g h : Option Path) → option_cmp path_cmp g h ≡ Equal → g ≡ h
@@ -78,20 +120,40 @@ level_groups (Some g) (Some h) e = ap (λ p. Some p) (level_paths g h e)
 level_texts : (s t : List ℕ) → bytes_cmp s t ≡ Equal → s ≡ t
 level_texts s t e = (bytes_eq-Decides s t).0 (texts_ties s t ∙ ap is_eq e)
 
+-- keys that are level are one
+level_keys : (j k : Option (List ℕ)) → option_cmp bytes_cmp j k ≡ Equal → j ≡ k
+level_keys None None e = refl
+level_keys None (Some k) e = let no : Less ≡ Equal = e in cc no
+level_keys (Some j) None e = let no : Greater ≡ Equal = e in cc no
+level_keys (Some j) (Some k) e = ap (λ t. Some t) (level_texts j k e)
+
+-- kinds whose words are level are one
+level_kinds : (j k : RemarkKind) → bytes_cmp (kind_word j) (kind_word k) ≡ Equal → j ≡ k
+level_kinds j k e = sym (kind_named_back j) ∙ (ap kind_named (level_texts (kind_word j) (kind_word k) e) ∙ kind_named_back k)
+
 -- a remark of its parts
-made : Path → Option Path → List ℕ → List ℕ → Remark
-made p g k t = record { path = p; group = g; key = k; text = t }
+made : Path → RemarkKind → Option Path → Option (List ℕ) → List ℕ → Remark
+made p m g k t = record { path = p; kind = m; group = g; key = k; text = t }
+
+-- the order of paths and groups, and of keys too
+abbrev groups_cmp : Remark → Remark → Ordering
+groups_cmp q r = ordering_then (path_cmp q.path r.path) (option_cmp path_cmp q.group r.group)
+
+abbrev keys_cmp : Remark → Remark → Ordering
+keys_cmp q r = ordering_then (groups_cmp q r) (option_cmp bytes_cmp q.key r.key)
 
 -- remarks that are level are one
 pub level_remarks : (q r : Remark) → remark_cmp q r ≡ Equal → q ≡ r
 unfolding made
 level_remarks q r e =
-    let texts = both_level (ordering_then (ordering_then (path_cmp q.path r.path) (option_cmp path_cmp q.group r.group)) (bytes_cmp q.key r.key)) (bytes_cmp q.text r.text) e in
-    let keys = both_level (ordering_then (path_cmp q.path r.path) (option_cmp path_cmp q.group r.group)) (bytes_cmp q.key r.key) texts.0 in
+    let kinds = both_level (ordering_then (keys_cmp q r) (bytes_cmp q.text r.text)) (bytes_cmp (kind_word q.kind) (kind_word r.kind)) e in
+    let texts = both_level (keys_cmp q r) (bytes_cmp q.text r.text) kinds.0 in
+    let keys = both_level (groups_cmp q r) (option_cmp bytes_cmp q.key r.key) texts.0 in
     let groups = both_level (path_cmp q.path r.path) (option_cmp path_cmp q.group r.group) keys.0 in
-    ap (λ p. made p q.group q.key q.text) (level_paths q.path r.path groups.0)
-    ∙ (ap (λ g. made r.path g q.key q.text) (level_groups q.group r.group groups.1)
-    ∙ (ap (λ k. made r.path r.group k q.text) (level_texts q.key r.key keys.1) ∙ ap (made r.path r.group r.key) (level_texts q.text r.text texts.1)))
+    ap (λ p. made p q.kind q.group q.key q.text) (level_paths q.path r.path groups.0)
+    ∙ (ap (λ m. made r.path m q.group q.key q.text) (level_kinds q.kind r.kind kinds.1)
+    ∙ (ap (λ g. made r.path r.kind g q.key q.text) (level_groups q.group r.group groups.1)
+    ∙ (ap (λ k. made r.path r.kind r.group k q.text) (level_keys q.key r.key keys.1) ∙ ap (made r.path r.kind r.group r.key) (level_texts q.text r.text texts.1))))
 
 -- remarks that differ and were sorted ascend
 pub sorted_ascend : (qs rs : List Remark) → AllPairs (λ q r. q ≢ r) qs → IsPermutation qs rs → IsSorted remark_cmp rs → RemarksAscend rs
@@ -117,3 +179,15 @@ module _ {F : Type 0} {g : Mut F (Bor Remark × (Bor Remark × Unit {0})) Orderi
 pub sorted_result : {E : Type 0} (r : Result (Unit {0}) E) (qs rs : List Remark) → IsPermutation qs rs → OnOk r (IsSorted remark_cmp rs) → OnOk r (AreSorted qs rs)
 sorted_result (Ok done) qs rs moved up = record { moved = moved; ordered = up }
 sorted_result (Err e) qs rs moved up = tt
+
+-- ---- what a report has
+
+-- where notes are asked for it has all remarks
+pub all_asked : (notes : Bool) (rs : List Remark) → notes ≡ true → rs ≡ filter (is_asked notes) rs
+all_asked true [] is = refl
+all_asked true (r ∷ rs) is = ap (λ qs. r ∷ qs) (all_asked true rs is)
+all_asked false rs is = absurd (true≢false (sym is))
+
+-- and else the findings
+pub findings_asked : (notes : Bool) (rs qs : List Remark) → notes ≡ false → qs ≡ filter (is_asked false) rs → qs ≡ filter (is_asked notes) rs
+findings_asked notes rs qs is kept = kept ∙ ap (λ n. filter (is_asked n) rs) (sym is)

@@ -1,6 +1,6 @@
 -- From what a word writes of a store to the answer of a run, and from its refusal to that of the run.
 use Rattle.std.proofs.Common.{◌≡◌, ◌≢◌, ℕ, ◌==◌, Bool, true, false, true≢false, cond, List, [], Option, Some, None, codes, inl, inr, ⊎_elim, sym, subst, ◌∙◌, arith, string_bytes, String, Global}
-use Rattle.std.specs.Prelude.{Result, Ok, Err, IfOk, IfErr}
+use Rattle.std.specs.Prelude.{Result, Ok, Err, IfOk, IfErr, OnOk}
 use Rattle.std.specs.Str.{bytes_eq}
 use Rattle.std.specs.Io.KnownBytes.{Appends, IsAtEnd}
 use Rattle.std.proofs.lemmas.Slice.Eq.{bytes_eq-Decides}
@@ -9,8 +9,10 @@ use Rattle.zarrs_path.specs.Paths.{Path, IsPath, path_text}
 use Rattle.zarrs_folder.specs.Folders.{in_any, values_of}
 use Rattle.zarrs_block.specs.declared.node_create_error.NodeCreateError.{NodeCreateError}
 use Rattle.zarrs_program.specs.Words.{RefusesPathText}
+use Rattle.zarrs_program.specs.declared.output.WriteFault.{WriteFault}
 use Rattle.zarrs_load.specs.Image.{IsLoaded}
 use Rattle.zarrs.specs.Output.{IsAnswer, IsWordText, WritesWord, WritesOverImage, WritesOverSome, WritesOverEach, WritesOverSource, WritesAsked, usage_text, version_text}
+use Rattle.zarrs.specs.RefusalLines.{IsHint, SaysReason, SaysRefusal}
 use Rattle.zarrs.specs.Refusals.{RefusesFolder, RefusesRun, RefusesOverImage, RefusesOverSome, RefusesOverEach, RefusesOverSource, RefusesAsked, run_status, tally_status}
 use Rattle.zarrs.specs.StepsOfRuns.{IsEnough, IsFaultOfEach, IsFaultOfSome, IsAnswerFault, IsWrittenOfEach, IsWrittenOfSome}
 use Rattle.zarrs.specs.Words.{AreWords, AskFor}
@@ -82,7 +84,7 @@ enough_same : (word : Word) (S L : Contents) (b : Path) → IsEnough word S L b 
 enough_same Tree S L b same = same
 enough_same StoreTree S L b same = same
 enough_same ListAll S L b same = same
-enough_same Check S L b loaded = loaded
+enough_same (Check options) S L b loaded = loaded
 
 -- what refuses a word of a store that has enough of another refuses it of the other
 fault_over : (word : Word) (S L : Contents) (b : Path) (fault : ZarrsFault) → IsPath b → IsEnough word S L b → IsAnswerFault false word L b fault → IsAnswerFault false word S b fault
@@ -226,7 +228,25 @@ tally_not_two : (tally : Option Tally) (n : ℕ) → n ≡ tally_status tally �
 tally_not_two None n e two = omega (arith, e, two)
 tally_not_two (Some tally) n e two = not_two (tally.findings == 0) n e two
 
--- the status 2 is that of a run that is refused
-pub refused_run : (outcome : Result (Option Tally) ZarrsFault) (P Q : ZarrsFault → Type 0) (n : ℕ) → n ≡ run_status outcome → n ≡ 2 → IfErr outcome P → IfErr outcome Q → (fault : ZarrsFault) × P fault × Q fault
-refused_run (Ok tally) P Q n e two p q = absurd (tally_not_two tally n e two)
-refused_run (Err fault) P Q n e two p q = (fault, p, q)
+-- what is said of the fault is said of the words, where the hint is theirs
+said_of_words : (words : List (List ℕ)) (fault : ZarrsFault) (hint : Option (List ℕ)) (said : Result (Unit {0}) WriteFault) (before after : Option (List ℕ)) → IsHint words fault hint
+    → OnOk said (SaysReason hint fault before after) → OnOk said (SaysRefusal words fault before after)
+said_of_words words fault hint (Ok u) before after is says = (hint, is, says)
+said_of_words words fault hint (Err e) before after is says = tt
+
+-- the status 2 is that of a run that is refused, and why is said
+pub refused_run : (words : List (List ℕ)) (outcome : Result (Option Tally) ZarrsFault) (P Q : ZarrsFault → Type 0) (n : ℕ) (hint : Option (List ℕ)) (said : Result (Unit {0}) WriteFault)
+    (before after : Option (List ℕ)) → n ≡ run_status outcome → n ≡ 2 → IfErr outcome P → IfErr outcome Q → IfErr outcome (λ fault. IsHint words fault hint)
+    → OnOk said (IfErr outcome (λ fault. SaysReason hint fault before after)) → (fault : ZarrsFault) × P fault × Q fault × OnOk said (SaysRefusal words fault before after)
+refused_run words (Ok tally) P Q n hint said before after e two p q is says = absurd (tally_not_two tally n e two)
+refused_run words (Err fault) P Q n hint said before after e two p q is says = (fault, p, q, said_of_words words fault hint said before after is says)
+
+-- what was asked was written of words of a call
+written_words : (words : List (List ℕ)) (left before after : Option (List ℕ)) (tally : Option Tally) → WritesAsked words left before after tally → AreWords words
+written_words words left before after tally h = ⊎_elim (λ w. inl w.0) (λ r. ⊎_elim (λ w. inr (inl w.0)) (λ w. inr (inr (w.0, w.1, w.2, w.3))) r) h
+
+-- wrong words end with the status of a refusal
+pub usage_run : (words : List (List ℕ)) (left before after : Option (List ℕ)) (outcome : Result (Option Tally) ZarrsFault) (n : ℕ)
+    → n ≡ run_status outcome → IfOk outcome (WritesAsked words left before after) → (AreWords words → ⊥) → n ≡ 2
+usage_run words left before after (Ok tally) n e ok none = absurd (none (written_words words left before after tally ok))
+usage_run words left before after (Err fault) n e ok none = e

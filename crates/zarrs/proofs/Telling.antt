@@ -1,11 +1,12 @@
 -- The remarks on a survey and on the findings beside it are exactly what there is to tell, each once.
 use Rattle.std.proofs.Common.{◌≡◌, ◌≢◌, inl, inr, ⊎_elim, ℕ, ◌+◌, true, true≢false, List, [], ◌∷◌, ◌++◌, get_or, length, map, AllPairs, Option, Some, None, Less, is_eq, Result, Ok, Err, refl, sym, ap, subst, ◌∙◌, arith, ◌<◌, Contains, append_assoc, codes, take}
-use Rattle.std.specs.List.{list_all}
+use Rattle.std.specs.List.{filter, list_all}
+use Rattle.std.specs.Option.{unwrap_or}
 use Rattle.std.proofs.lemmas.Bool.{and_parts}
 use Rattle.std.proofs.lemmas.Cmp.{tied_itself, nat_list_cmp_total}
 use Rattle.std.proofs.lemmas.List.{take_more, map-append}
 use Rattle.std.proofs.lemmas.List.Elements.{Contains-append_left, Contains-append_right, Contains-append_cases, Contains-get_or}
-use Rattle.std.proofs.lemmas.List.Kept.{AllPairs-cons}
+use Rattle.std.proofs.lemmas.List.Kept.{AllPairs-cons, AllPairs-filter}
 use Rattle.std.proofs.lemmas.List.Sorted.{All-permutation, Contains-permutation}
 use Rattle.zarrs_store.specs.Segments.{last_segment, bytes_cmp}
 use Rattle.zarrs_store.specs.Contents.{Contents, Lists}
@@ -16,24 +17,32 @@ use Rattle.zarrs_path.proofs.NameLemmas.{not_periods}
 use Rattle.zarrs_meta.specs.declared.node.NodeMetadata.{NodeMetadata}
 use Rattle.zarrs_config.specs.declared.version.MetadataRetrieveVersion.TheVariants.{Default}
 use Rattle.zarrs_block.specs.Meaning.{Meaning, meaning, node, nothing, bad}
+use Rattle.zarrs_block.specs.ErrorTexts.{error_text}
 use Rattle.zarrs_block.specs.Refusals.{IsMissing}
 use Rattle.zarrs_block.specs.declared.node_create_error.NodeCreateError.{NodeCreateError}
 use Rattle.zarrs_block.specs.declared.node_create_error.NodeCreateError.TheVariants.{NodePathError, StorePrefixError, StorageError, MetadataVersionMismatch, MissingMetadata, OutOfMemory}
 use Rattle.zarrs_node.specs.OpeningNodes.{RefusesNode}
-use Rattle.zarrs_node.proofs.Counted.{contains_map, contains_mapped}
+use Rattle.zarrs_node.proofs.Counted.{contains_map, contains_mapped, filter_holds, filter_keeps}
 use Rattle.zarrs_node.proofs.Found.{all_pairs_append, all_pairs_first, all_pairs_tail, listed_each}
 use Rattle.zarrs_node.proofs.Graft.{Contains-first, Contains-cons}
+use Rattle.zarrs_node.proofs.Lasts.{contains_filtered}
 use Rattle.zarrs_node.proofs.Order.{contains_cases}
 use Rattle.zarrs_node.proofs.Unique.{names_irrefl}
 use Rattle.zarrs_survey.specs.Surveys.{BadDocuments, BadNames}
-use Rattle.zarrs_survey.specs.Findings.{key_of}
+use Rattle.zarrs_survey.specs.Findings.{key_of, rank_of}
 use Rattle.zarrs_survey.specs.Checks.{HasNode, IsBaseOutcome, IsCheckOf, IsCount, StandsBefore, AreBlockFindings}
 use Rattle.zarrs_survey.specs.declared.finding.Finding.{Finding}
+use Rattle.zarrs_survey.specs.declared.finding.FindingKind.{FindingKind}
+use Rattle.zarrs_survey.specs.declared.finding.FindingKind.TheVariants.{BlockFault, BadKey, Shadowed, OwnKey, Unreachable, Stale, Unreached, Differs, Missing}
 use Rattle.zarrs_survey.specs.declared.check.Check.{Check}
 use Rattle.zarrs.specs.declared.remark.Remark.{Remark}
 use Rattle.zarrs.specs.declared.report.Tally.{Tally}
-use Rattle.zarrs.specs.Texts.{error_text}
-use Rattle.zarrs.specs.Report.{own_remark, remark_of, report_text, IsOwnRemark, IsRemark, IsReport}
+use Rattle.zarrs.specs.declared.kind.RemarkKind.{RemarkKind}
+use Rattle.zarrs.specs.declared.kind.RemarkKind.TheVariants as remark
+use Rattle.zarrs.specs.declared.kind.RemarkKind.TheVariants.{NoNode}
+use Rattle.zarrs.specs.declared.words.CheckOptions.{CheckOptions}
+use Rattle.zarrs.specs.Kinds.{finding_kind, wrong_key}
+use Rattle.zarrs.specs.Report.{own_remark, error_remark, remark_of, remarks_text, tally_of, is_asked, IsOwnRemark, IsRemark, IsAskedFor, IsReport}
 use Rattle.zarrs.specs.StepsOfReports.{AreSorted, base_remarks, document_remark, name_remark, own_remarks}
 use Rattle.zarrs.proofs.Order.{sorted_ascend, ascend_once}
 
@@ -103,13 +112,16 @@ bad_same : (e d : NodeCreateError) → bad e ≡ bad d → e ≡ d
 unfolding bad_one
 bad_same e d same = ap (bad_one e) same
 
--- a finding's order is strict: it sees the path, the group and the key
-not_before : (f h : Finding) → f.path ≡ h.path → f.group ≡ h.group → key_of f.kind ≡ key_of h.kind → StandsBefore f h → ⊥
-not_before f h paths groups keys = ⊎_elim
+-- a finding's order is strict: it sees the path, the group, the rank and the key
+not_before : (f h : Finding) → f.path ≡ h.path → f.group ≡ h.group → rank_of f.kind ≡ rank_of h.kind → key_of f.kind ≡ key_of h.kind → StandsBefore f h → ⊥
+not_before f h paths groups ranks keys = ⊎_elim
     (λ less. names_irrefl h.group (subst (λ g. path_cmp g h.group ≡ Less) groups less))
     (λ later. ⊎_elim
     (λ less. names_irrefl h.path (subst (λ p. path_cmp p h.path ≡ Less) paths less))
-    (λ k. true≢false (sym (ap is_eq (tied_itself nat_list_cmp_total (key_of h.kind))) ∙ ap is_eq (subst (λ t. bytes_cmp t (key_of h.kind) ≡ Less) keys k.1)))
+    (λ k. ⊎_elim
+    (λ less. omega (arith, ranks, less))
+    (λ same. true≢false (sym (ap is_eq (tied_itself nat_list_cmp_total (key_of h.kind))) ∙ ap is_eq (subst (λ t. bytes_cmp t (key_of h.kind) ≡ Less) keys same.1)))
+    k.1)
     later.1)
 
 -- a group or another
@@ -117,29 +129,71 @@ abbrev group_or : Path → Option Path → Path
 group_or d None = d
 group_or d (Some g) = g
 
+-- the key of a finding is the one that its remark has
+key_from : (kind : FindingKind) → key_of kind ≡ unwrap_or (wrong_key kind) []
+key_from (BlockFault fault) = refl
+key_from (BadKey key) = refl
+key_from (Shadowed key) = refl
+key_from (OwnKey key) = refl
+key_from Unreachable = refl
+key_from Stale = refl
+key_from Unreached = refl
+key_from Differs = refl
+key_from Missing = refl
+
+-- the rank of a remark's kind among those of blocks
+rank_by : RemarkKind → ℕ
+rank_by remark.Unreachable = 1
+rank_by remark.Stale = 2
+rank_by remark.Unreached = 2
+rank_by remark.Differs = 2
+rank_by remark.Missing = 2
+rank_by _ = 0
+
+-- is that of the finding
+rank_from : (kind : FindingKind) → rank_of kind ≡ rank_by (finding_kind kind)
+unfolding rank_by
+rank_from (BlockFault fault) = refl
+rank_from (BadKey key) = refl
+rank_from (Shadowed key) = refl
+rank_from (OwnKey key) = refl
+rank_from Unreachable = refl
+rank_from Stale = refl
+rank_from Unreached = refl
+rank_from Differs = refl
+rank_from Missing = refl
+
+-- findings whose remarks have the same kind have the same rank
+ranks_same : (j k : FindingKind) → finding_kind j ≡ finding_kind k → rank_of j ≡ rank_of k
+ranks_same j k same = rank_from j ∙ (ap rank_by same ∙ sym (rank_from k))
+
+-- findings whose remarks have the same key have it
+keys_same : (j k : FindingKind) → wrong_key j ≡ wrong_key k → key_of j ≡ key_of k
+keys_same j k same = key_from j ∙ (ap (λ key. unwrap_or key []) same ∙ sym (key_from k))
+
 -- a group is there
 abbrev HasGroup : Option Path → Type 0
 HasGroup None = ⊥
 HasGroup (Some g) = Unit {0}
 
 -- what base remarks are of
-base_remark_of : (b : Path) (base : Result (Unit {0}) NodeCreateError) (r : Remark) → Contains (base_remarks b base) r → (e : NodeCreateError) × (base ≡ Err e) × (r ≡ own_remark b (error_text e))
+base_remark_of : (b : Path) (base : Result (Unit {0}) NodeCreateError) (r : Remark) → Contains (base_remarks b base) r → (e : NodeCreateError) × (base ≡ Err e) × (r ≡ error_remark b e)
 base_remark_of b (Ok m) r h = absurd (omega (arith, h.1))
-base_remark_of b (Err e) r h = (e, refl, ⊎_elim (λ same. sym same) (λ none. absurd (omega (arith, none.1))) (contains_cases (own_remark b (error_text e)) [] r h))
+base_remark_of b (Err e) r h = (e, refl, ⊎_elim (λ same. sym same) (λ none. absurd (omega (arith, none.1))) (contains_cases (error_remark b e) [] r h))
 
--- the texts of errors that say that there are no metadata at a path are one
-missing_text : (b : Path) (e d : NodeCreateError) → IsMissing b e → IsMissing b d → error_text e ≡ error_text d
-missing_text b (MissingMetadata t) (MissingMetadata u) h k = ap (λ x. codes "Metadata is missing for " ++ x) (h ∙ sym k)
-missing_text b (MissingMetadata t) (NodePathError d) h k = absurd k
-missing_text b (MissingMetadata t) (StorePrefixError d) h k = absurd k
-missing_text b (MissingMetadata t) (StorageError d) h k = absurd k
-missing_text b (MissingMetadata t) MetadataVersionMismatch h k = absurd k
-missing_text b (MissingMetadata t) OutOfMemory h k = absurd k
-missing_text b (NodePathError e) d h k = absurd h
-missing_text b (StorePrefixError e) d h k = absurd h
-missing_text b (StorageError e) d h k = absurd h
-missing_text b MetadataVersionMismatch d h k = absurd h
-missing_text b OutOfMemory d h k = absurd h
+-- what is told by errors that say that there are no metadata at a path is one
+missing_same : (b : Path) (e d : NodeCreateError) → IsMissing b e → IsMissing b d → error_remark b e ≡ error_remark b d
+missing_same b (MissingMetadata t) (MissingMetadata u) h k = ap (λ x. own_remark b NoNode (codes "Metadata is missing for " ++ x)) (h ∙ sym k)
+missing_same b (MissingMetadata t) (NodePathError d) h k = absurd k
+missing_same b (MissingMetadata t) (StorePrefixError d) h k = absurd k
+missing_same b (MissingMetadata t) (StorageError d) h k = absurd k
+missing_same b (MissingMetadata t) MetadataVersionMismatch h k = absurd k
+missing_same b (MissingMetadata t) OutOfMemory h k = absurd k
+missing_same b (NodePathError e) d h k = absurd h
+missing_same b (StorePrefixError e) d h k = absurd h
+missing_same b (StorageError e) d h k = absurd h
+missing_same b MetadataVersionMismatch d h k = absurd h
+missing_same b OutOfMemory d h k = absurd h
 
 -- nothing is not what is bad
 abbrev IsNothing : Meaning → Type 0
@@ -148,12 +202,12 @@ IsNothing (node m) = ⊥
 IsNothing (bad e) = ⊥
 
 module _ (s : Contents) (b : Path) where
-  -- the errors that refuse a base have one text
-  refused_text : (e d : NodeCreateError) → RefusesNode s Default b e → RefusesNode s Default b d → error_text e ≡ error_text d
+  -- what is told by the errors that refuse a base is one
+  refused_same : (e d : NodeCreateError) → RefusesNode s Default b e → RefusesNode s Default b d → error_remark b e ≡ error_remark b d
   unfolding bad_one
-  refused_text e d h k = ⊎_elim
-      (λ none. ⊎_elim (λ none'. missing_text b e d none.1 none'.1) (λ is. absurd (subst IsNothing (sym none.0 ∙ is) tt)) k)
-      (λ is. ⊎_elim (λ none. absurd (subst IsNothing (sym none.0 ∙ is) tt)) (λ is'. ap error_text (ap (bad_one e) (sym is ∙ is'))) k)
+  refused_same e d h k = ⊎_elim
+      (λ none. ⊎_elim (λ none'. missing_same b e d none.1 none'.1) (λ is. absurd (subst IsNothing (sym none.0 ∙ is) tt)) k)
+      (λ is. ⊎_elim (λ none. absurd (subst IsNothing (sym none.0 ∙ is) tt)) (λ is'. ap (error_remark b) (ap (bad_one e) (sym is ∙ is'))) k)
       h
 
   -- a base that is a node is not refused
@@ -161,9 +215,9 @@ module _ (s : Contents) (b : Path) where
   not_refused m e means h = ⊎_elim (λ none. subst IsNode (sym means ∙ none.0) tt) (λ is. subst IsNode (sym means ∙ is) tt) h
 
   -- what refuses the base is told of it
-  base_told : (base : Result (Unit {0}) NodeCreateError) (e : NodeCreateError) → IsBaseOutcome s Default b base → RefusesNode s Default b e → Contains (base_remarks b base) (own_remark b (error_text e))
+  base_told : (base : Result (Unit {0}) NodeCreateError) (e : NodeCreateError) → IsBaseOutcome s Default b base → RefusesNode s Default b e → Contains (base_remarks b base) (error_remark b e)
   base_told (Ok u) e is h = absurd (not_refused is.0 e is.1 h)
-  base_told (Err d) e is h = subst (λ t. Contains (own_remark b (error_text d) ∷ []) (own_remark b t)) (refused_text d e is h) (Contains-first (own_remark b (error_text d)) [])
+  base_told (Err d) e is h = subst (Contains (error_remark b d ∷ [])) (refused_same d e is h) (Contains-first (error_remark b d) [])
 
   -- the error of a base that is none refuses it
   base_refuses : (base : Result (Unit {0}) NodeCreateError) (e : NodeCreateError) → IsBaseOutcome s Default b base → base ≡ Err e → RefusesNode s Default b e
@@ -204,7 +258,7 @@ module _ (s : Contents) (b : Path) (c : Check) (h : IsCheckOf s Default b c) (k 
   base_sound : (r : Remark) → Contains bases r → IsOwnRemark s b r
   base_sound r in' =
       let w = base_remark_of c.path c.base r in' in
-      inl (w.0, base_refuses s b c.base w.0 h.base w.1, w.2 ∙ ap (λ p. own_remark p (error_text w.0)) h.path)
+      inl (w.0, base_refuses s b c.base w.0 h.base w.1, w.2 ∙ ap (λ p. error_remark p w.0) h.path)
 
   document_sound : (r : Remark) → Contains documents r → IsOwnRemark s b r
   document_sound r in' =
@@ -227,9 +281,9 @@ module _ (s : Contents) (b : Path) (c : Check) (h : IsCheckOf s Default b c) (k 
 
   -- ---- what is to be told is
 
-  base_complete : (e : NodeCreateError) → RefusesNode s Default b e → Contains (own_remarks c) (own_remark b (error_text e))
-  base_complete e refused = Contains-append_left bases (documents ++ names) (own_remark b (error_text e))
-      (subst (λ p. Contains (base_remarks p c.base) (own_remark b (error_text e))) (sym h.path) (base_told s b c.base e h.base refused))
+  base_complete : (e : NodeCreateError) → RefusesNode s Default b e → Contains (own_remarks c) (error_remark b e)
+  base_complete e refused = Contains-append_left bases (documents ++ names) (error_remark b e)
+      (subst (λ p. Contains (base_remarks p c.base) (error_remark b e)) (sym h.path) (base_told s b c.base e h.base refused))
 
   document_complete : (d : Path × NodeCreateError) → BadDocuments s Default b d → Contains (own_remarks c) (document_remark d)
   document_complete d is = Contains-append_right bases (documents ++ names) (document_remark d)
@@ -268,7 +322,8 @@ module _ (s : Contents) (b : Path) (c : Check) (h : IsCheckOf s Default b c) (k 
 
   blocks_once : AllPairs (λ q r. q ≢ r) blocks
   blocks_once = once_mapped StandsBefore remark_of c.findings.items
-      (λ f g p q before same. not_before f g (ap (λ r. r.path) same) (ap (λ r. group_or f.group r.group) same) (ap (λ r. r.key) same) before)
+      (λ f g p q before same. not_before f g (ap (λ r. r.path) same) (ap (λ r. group_or f.group r.group) same)
+      (ranks_same f.kind g.kind (ap (λ r. r.kind) same)) (keys_same f.kind g.kind (ap (λ r. r.key) same)) before)
       k.ascend
 
   -- a remark on the base, and one on what is below
@@ -306,21 +361,36 @@ module _ (s : Contents) (b : Path) (c : Check) (h : IsCheckOf s Default b c) (k 
 
   -- ---- the whole
 
-  -- in their order they are exactly those that are to be told
-  sorted_lists : (rs : List Remark) → AreSorted all rs → Lists (IsRemark s b) rs
-  sorted_lists rs sorted = record {
-    each_once = ascend_once rs (sorted_ascend all rs all_once sorted.moved sorted.ordered);
-    sound = All-permutation (IsRemark s b) all rs sorted.moved (λ i d l. sound (get_or all i d) (Contains-get_or all i d l));
-    complete = λ r is. Contains-permutation all rs r sorted.moved (complete r is);
-  }
+  module _ (options : CheckOptions) where
+    -- those that a report has
+    abbrev asked : List Remark
+    asked = filter (is_asked options.notes) all
 
-  -- the lines of the sorted remarks are the report
-  pub report_is : (rs : List Remark) (tally : Tally) (text : List ℕ) → AreSorted all rs → tally.nodes ≡ c.nodes → tally.findings ≡ length rs → text ≡ report_text rs → IsReport s b tally text
-  report_is rs tally text sorted nodes findings is = record {
-    remarks = rs;
-    lists = sorted_lists rs sorted;
-    ascend = sorted_ascend all rs all_once sorted.moved sorted.ordered;
-    is = is;
-    findings = findings;
-    nodes = subst (IsCount (HasNode s Default b)) (sym nodes) h.nodes;
-  }
+    asked_once : AllPairs (λ q r. q ≢ r) asked
+    asked_once = AllPairs-filter (λ q r. q ≢ r) (is_asked options.notes) all all_once
+
+    asked_sound : (r : Remark) → Contains asked r → IsAskedFor options s b r
+    asked_sound r in' = (sound r (contains_filtered (is_asked options.notes) all r in'), filter_holds (is_asked options.notes) all r in')
+
+    asked_complete : (r : Remark) → IsAskedFor options s b r → Contains asked r
+    asked_complete r is = filter_keeps (is_asked options.notes) all r is.1 (complete r is.0)
+
+    -- in their order they are exactly those that are to be told
+    sorted_lists : (rs : List Remark) → AreSorted asked rs → Lists (IsAskedFor options s b) rs
+    sorted_lists rs sorted = record {
+      each_once = ascend_once rs (sorted_ascend asked rs asked_once sorted.moved sorted.ordered);
+      sound = All-permutation (IsAskedFor options s b) asked rs sorted.moved (λ i d l. asked_sound (get_or asked i d) (Contains-get_or asked i d l));
+      complete = λ r is. Contains-permutation asked rs r sorted.moved (asked_complete r is);
+    }
+
+    -- the text of the sorted remarks is the report
+    pub report_is : (rs : List Remark) (tally : Tally) (text : List ℕ) → AreSorted asked rs → tally ≡ tally_of options c.nodes rs → text ≡ remarks_text options rs → IsReport s b options tally text
+    report_is rs tally text sorted numbers is = record {
+      remarks = rs;
+      lists = sorted_lists rs sorted;
+      ascend = sorted_ascend asked rs asked_once sorted.moved sorted.ordered;
+      is = is;
+      nodes = c.nodes;
+      counted = h.nodes;
+      numbers = numbers;
+    }

@@ -1,9 +1,13 @@
 pub mod Escapes
 pub mod Words
 pub mod Texts
+pub mod FaultTexts
 pub mod NodeLines
+pub mod Kinds
+pub mod Json
 pub mod Report
 pub mod Output
 pub mod Refusals
+pub mod RefusalLines
 pub mod StepsOfReports
 pub mod StepsOfRuns

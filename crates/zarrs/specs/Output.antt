@@ -13,6 +13,7 @@ use Rattle.zarrs_path.specs.Paths.{Path, IsPath, path_text}
 use Rattle.zarrs_config.specs.declared.version.UseConsolidatedMetadata.TheVariants.{Auto, Never}
 use Rattle.zarrs_load.specs.Image.{IsLoaded}
 use Rattle.zarrs.specs.declared.report.Tally.{Tally}
+use Rattle.zarrs.specs.declared.words.CheckOptions.{CheckOptions}
 use Rattle.zarrs.specs.declared.words.Word.{Word}
 use Rattle.zarrs.specs.declared.words.Word.TheVariants.{Tree, StoreTree, List as ListAll, Check}
 use Rattle.zarrs.specs.Report.{IsReportFrom}
@@ -20,9 +21,9 @@ use Rattle.zarrs.specs.NodeLines.{IsShown, tree_line, list_line}
 use Rattle.zarrs.specs.Words.{AskHelp, AskVersion, AreWordsOf}
 
 -- the text is the report, and this is how much was looked at and found
-abbrev pub IsReported : Contents → Path → Option Tally → List ℕ → Type 0
-IsReported s b None text = ⊥
-IsReported s b (Some tally) text = IsReportFrom s b tally text
+abbrev pub IsReported : CheckOptions → Contents → Path → Option Tally → List ℕ → Type 0
+IsReported options s b None text = ⊥
+IsReported options s b (Some tally) text = IsReportFrom s b options tally text
 
 -- what a word writes of the store from b on: `tree` the tree by the block of b where it has one, `tree --store` the tree by the store, `list` the paths, and
 -- `check` the report, which alone says how much was looked at and found
@@ -30,7 +31,7 @@ abbrev pub IsWordText : Word → Contents → Path → Option Tally → List ℕ
 IsWordText Tree s b tally text = (tally ≡ None) × IsShown s Auto b (tree_line b) text
 IsWordText StoreTree s b tally text = (tally ≡ None) × IsShown s Never b (tree_line b) text
 IsWordText ListAll s b tally text = (tally ≡ None) × IsShown s Never b list_line text
-IsWordText Check s b tally text = IsReported s b tally text
+IsWordText (Check options) s b tally text = IsReported options s b tally text
 
 -- the text is that of a path, and this is what the word writes from that path on
 abbrev pub IsAnswer : Word → List ℕ → Contents → Option Tally → List ℕ → Type 0
@@ -66,6 +67,8 @@ usage_text = flat_map (λ l. l ++ 10 ∷ []) (
     ∷ codes "       zarrs tree --store DIR [PATH]  the tree, by the store"
     ∷ codes "       zarrs list DIR [PATH]          the path of each node at and below PATH, one a line"
     ∷ codes "       zarrs check DIR [PATH]         what is bad in the store, and where its blocks say something else"
+    ∷ codes "       zarrs check [--notes] [--json] DIR [PATH]"
+    ∷ codes "                                      the same, with what is worth knowing too, and as JSON"
     ∷ codes "       zarrs --help | --version"
     ∷ codes "DIR is the folder of a store, or - for an image on standard input. PATH is / where it is left out."
     ∷ codes "Status 0: done. 1: check has findings. 2: wrong words, refused, unreadable, out of memory, or not written."

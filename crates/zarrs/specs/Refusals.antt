@@ -16,6 +16,8 @@ use Rattle.zarrs_node.specs.OpeningNodes.{RefusesOpening}
 use Rattle.zarrs_folder.specs.Folders.{in_any}
 use Rattle.zarrs_load.specs.Image.{IsLoaded, RefusedImage}
 use Rattle.zarrs_program.specs.Words.{RefusesPathText}
+use Rattle.zarrs_program.specs.declared.arguments.WordsFault.{WordsFault}
+use Rattle.zarrs_program.specs.declared.arguments.WordsFault.TheVariants as unread
 use Rattle.zarrs.specs.Output.{IsAnswer}
 use Rattle.zarrs.specs.Words.{AreWords, AreWordsOf}
 use Rattle.zarrs.specs.declared.report.Tally.{Tally}
@@ -30,7 +32,7 @@ abbrev pub RefusesAnswer : Bool → Word → Contents → Path → NodeCreateErr
 RefusesAnswer can_fail Tree store base = IsExcusedOr can_fail (RefusesOpening store Default Auto (path_text base))
 RefusesAnswer can_fail StoreTree store base = IsExcusedOr can_fail (RefusesOpening store Default Never (path_text base))
 RefusesAnswer can_fail ListAll store base = IsExcusedOr can_fail (RefusesOpening store Default Never (path_text base))
-RefusesAnswer can_fail Check store base = IsExcused can_fail
+RefusesAnswer can_fail (Check options) store base = IsExcused can_fail
 
 -- the text is that of a path, which the calls of the word refuse
 abbrev pub RefusesPathOf : Bool → Word → List ℕ → Contents → NodeCreateError → Type 0
@@ -48,6 +50,11 @@ abbrev pub RefusesImage : Option (List ℕ) → Option (List ℕ) → ZarrsFault
 RefusesImage before after (Load fault) = RefusedImage before after fault
 RefusesImage before after OutOfMemory = ⊤
 RefusesImage before after _ = ⊥
+
+-- words that are not UTF-8 are no call's; or out of memory
+abbrev pub IsWordsFault : WordsFault → ZarrsFault → Type 0
+IsWordsFault unread.NotText fault = fault ≡ Usage
+IsWordsFault unread.OutOfMemory fault = fault ≡ OutOfMemory
 
 -- a folder was not read, or out of memory
 abbrev pub RefusesFolder : ZarrsFault → Type 0

@@ -4,11 +4,12 @@
 -- <https://zarr-specs.readthedocs.io/en/latest/v3/core/index.html#group-metadata>
 -- <https://zarr.readthedocs.io/en/stable/user-guide/consolidated_metadata/>
 --     IsRemark s b r      what there is to tell: a path's own fault, or what is wrong with the block of a group
+--     IsAskedFor options s b r      what a report tells of that: each finding, and each note where notes are asked for
 --     remark_cmp      the order of remarks
---     IsReport s b tally text      the text is that of all remarks, each once, in their order
---     IsReportFrom s b tally text      the same of what is no array; an array is one node, of which there is nothing to tell
-use Rattle.std.specs.Prelude.{◌≡◌, ◌⊎◌, ℕ, List, [], ◌++◌, AllPairs, length, Some, None, codes}
-use Rattle.std.specs.List.{flat_map}
+--     IsReport s b options tally text      the text is that of all that is told, each once, in their order
+--     IsReportFrom s b options tally text      the same of what is no array; an array is one node, of which there is nothing to tell
+use Rattle.std.specs.Prelude.{◌≡◌, ◌⊎◌, ℕ, Bool, ◌||◌, not, IsTrue, cond, if◌then◌else◌, List, [], ◌++◌, AllPairs, length, Option, Some, None, codes}
+use Rattle.std.specs.List.{filter, flat_map}
 use Rattle.std.specs.Option.{option_cmp}
 use Rattle.std.specs.Ordering.{ordering_then}
 use Rattle.std.specs.declared.cmp.Ordering.{Ordering}
@@ -17,42 +18,63 @@ use Rattle.zarrs_store.specs.Segments.{bytes_cmp}
 use Rattle.zarrs_store.specs.Contents.{Contents, Lists}
 use Rattle.zarrs_path.specs.Paths.{Path, path_cmp, path_text}
 use Rattle.zarrs_config.specs.declared.version.MetadataRetrieveVersion.TheVariants.{Default}
+use Rattle.zarrs_block.specs.ErrorTexts.{error_text}
 use Rattle.zarrs_block.specs.declared.node_create_error.NodeCreateError.{NodeCreateError}
 use Rattle.zarrs_node.specs.OpeningNodes.{RefusesNode}
 use Rattle.zarrs_survey.specs.Surveys.{BadDocuments, BadNames}
-use Rattle.zarrs_survey.specs.Findings.{key_of}
 use Rattle.zarrs_survey.specs.Checks.{HasNode, IsBlockFinding, IsCount}
 use Rattle.zarrs_survey.specs.declared.finding.Finding.{Finding}
 use Rattle.zarrs_folder.specs.PrunedStores.{IsArrayAt}
 use Rattle.zarrs.specs.Escapes.{escaped_line}
+use Rattle.zarrs.specs.Json.{json_text}
+use Rattle.zarrs.specs.Kinds.{kind_word, is_note_kind, error_kind, finding_kind, wrong_key}
+use Rattle.zarrs.specs.declared.kind.RemarkKind.{RemarkKind}
+use Rattle.zarrs.specs.declared.kind.RemarkKind.TheVariants.{BadName}
 use Rattle.zarrs.specs.declared.remark.Remark.{Remark}
 use Rattle.zarrs.specs.declared.report.Tally.{Tally}
-use Rattle.zarrs.specs.Texts.{error_text, kind_text, name_text}
+use Rattle.zarrs.specs.declared.words.CheckOptions.{CheckOptions}
+use Rattle.zarrs.specs.Texts.{kind_text, name_text}
 
--- a path's own fault
-abbrev pub own_remark : Path → List ℕ → Remark
-own_remark p text = record { path = p; group = None; key = []; text = text }
+-- what there is to tell of a path itself
+abbrev pub own_remark : Path → RemarkKind → List ℕ → Remark
+own_remark p kind text = record { path = p; kind = kind; group = None; key = None; text = text }
+
+-- why a path is no node
+abbrev pub error_remark : Path → NodeCreateError → Remark
+error_remark p e = own_remark p (error_kind e) (error_text e)
 
 -- what is wrong with the block of a group
 abbrev pub remark_of : Finding → Remark
-remark_of f = record { path = f.path; group = Some f.group; key = key_of f.kind; text = kind_text f.group f.kind }
+remark_of f = record { path = f.path; kind = finding_kind f.kind; group = Some f.group; key = wrong_key f.kind; text = kind_text f.group f.kind }
 
 -- the base is no node; or a reached path has a bad document; or a child of a listed path has a name of periods only
 abbrev pub IsOwnRemark : Contents → Path → Remark → Type 0
 IsOwnRemark s b r =
-    ((e : NodeCreateError) × RefusesNode s Default b e × (r ≡ own_remark b (error_text e)))
-    ⊎ ((d : Path × NodeCreateError) × BadDocuments s Default b d × (r ≡ own_remark d.0 (error_text d.1)))
-    ⊎ ((p : Path) × BadNames s Default b p × (r ≡ own_remark p (name_text p)))
+    ((e : NodeCreateError) × RefusesNode s Default b e × (r ≡ error_remark b e))
+    ⊎ ((d : Path × NodeCreateError) × BadDocuments s Default b d × (r ≡ error_remark d.0 d.1))
+    ⊎ ((p : Path) × BadNames s Default b p × (r ≡ own_remark p BadName (name_text p)))
 
 -- what there is to tell of what a store has at b and below it: a path's own fault, or what is wrong with a block
 abbrev pub IsRemark : Contents → Path → Remark → Type 0
 IsRemark s b r = IsOwnRemark s b r ⊎ ((f : Finding) × IsBlockFinding s Default b f × (r ≡ remark_of f))
 
+-- a report has the remark: it is a finding, or notes are asked for
+abbrev pub is_asked : Bool → Remark → Bool
+is_asked notes r = notes || not (is_note_kind r.kind)
+
+-- what a report tells of what a store has at b and below it: each finding, and each note where notes are asked for
+abbrev pub IsAskedFor : CheckOptions → Contents → Path → Remark → Type 0
+IsAskedFor options s b r = IsRemark s b r × IsTrue (is_asked options.notes r)
+
 -- ---- the order
 
--- by path, of one path those of no group first and then by group, of one group by key, and of one key by text
+-- by path, of one path those of no group first and then by group, of one group those of no key first and then by key, of one key by text, and of one text by
+-- the word for the kind
 abbrev pub remark_cmp : Remark → Remark → Ordering
-remark_cmp q r = ordering_then (ordering_then (ordering_then (path_cmp q.path r.path) (option_cmp path_cmp q.group r.group)) (bytes_cmp q.key r.key)) (bytes_cmp q.text r.text)
+remark_cmp q r =
+    ordering_then
+    (ordering_then (ordering_then (ordering_then (path_cmp q.path r.path) (option_cmp path_cmp q.group r.group)) (option_cmp bytes_cmp q.key r.key)) (bytes_cmp q.text r.text))
+    (bytes_cmp (kind_word q.kind) (kind_word r.kind))
 
 -- each remark stands before all later ones
 abbrev pub RemarksAscend : List Remark → Type 0
@@ -68,19 +90,38 @@ line_of r = path_text r.path ++ (codes ": " ++ r.text)
 abbrev pub report_text : List Remark → List ℕ
 report_text rs = flat_map (λ r. escaped_line (line_of r)) rs
 
--- the text is the lines of exactly the remarks on what the store has at b and below it, each once, in their order; the tally is their number, and that of the
--- nodes at b and below it
-pub record IsReport (s : Contents) (b : Path) (tally : Tally) (text : List ℕ) : Type 0 where
+-- the lines of remarks, or where it is asked for their JSON
+abbrev pub remarks_text : CheckOptions → List Remark → List ℕ
+remarks_text options rs = if options.json then json_text rs else report_text rs
+
+-- ---- the numbers
+
+-- how many remarks are findings
+abbrev pub findings_among : List Remark → ℕ
+findings_among rs = length (filter (λ r. not (is_note_kind r.kind)) rs)
+
+-- how many are notes
+abbrev pub notes_among : List Remark → ℕ
+notes_among rs = length (filter (λ r. is_note_kind r.kind) rs)
+
+-- of so many nodes these remarks were told
+abbrev pub tally_of : CheckOptions → ℕ → List Remark → Tally
+tally_of options nodes rs = record { nodes = nodes; findings = findings_among rs; notes = cond options.notes (Some (notes_among rs)) None }
+
+-- the text is that of exactly what a report tells of what the store has at b and below it, each once, in their order; the tally has their numbers, and that of
+-- the nodes at b and below it
+pub record IsReport (s : Contents) (b : Path) (options : CheckOptions) (tally : Tally) (text : List ℕ) : Type 0 where
   pub remarks : List Remark
-  pub lists : Lists (IsRemark s b) remarks
+  pub lists : Lists (IsAskedFor options s b) remarks
   pub ascend : RemarksAscend remarks
-  pub is : text ≡ report_text remarks
-  pub findings : tally.findings ≡ length remarks
-  pub nodes : IsCount (HasNode s Default b) tally.nodes
+  pub is : text ≡ remarks_text options remarks
+  pub nodes : ℕ
+  pub counted : IsCount (HasNode s Default b) nodes
+  pub numbers : tally ≡ tally_of options nodes remarks
 
 -- the report from b on: an array is one node, of which there is nothing to tell, since nothing below an array is looked at; of all else it is the report on what the
 -- store has at b and below it
-abbrev pub IsReportFrom : Contents → Path → Tally → List ℕ → Type 0
-IsReportFrom s b tally text =
-    (IsArrayAt s b × (tally ≡ record { nodes = 1; findings = 0 }) × (text ≡ []))
-    ⊎ ((IsArrayAt s b → ⊥) × IsReport s b tally text)
+abbrev pub IsReportFrom : Contents → Path → CheckOptions → Tally → List ℕ → Type 0
+IsReportFrom s b options tally text =
+    (IsArrayAt s b × (tally ≡ tally_of options 1 []) × (text ≡ remarks_text options []))
+    ⊎ ((IsArrayAt s b → ⊥) × IsReport s b options tally text)

@@ -1,13 +1,20 @@
 -- Steps of a run of the program: what private calls ask and refuse; no public contract rests on them.
-use Rattle.std.specs.Prelude.{◌⊎◌, Bool, false, ⊤, Option, String, string_bytes}
+use Rattle.std.specs.Prelude.{◌≡◌, ◌⊎◌, Bool, true, false, ⊤, List, map, Option, String, string_bytes}
+use Rattle.std.specs.List.{filter}
 use Rattle.std.specs.declared.alloc.Global.{Global}
 use Rattle.zarrs_store.specs.Contents.{Contents, Values}
 use Rattle.zarrs_path.specs.Paths.{Path}
 use Rattle.zarrs_block.specs.declared.node_create_error.NodeCreateError.{NodeCreateError}
+use Rattle.zarrs_config.specs.declared.version.MetadataRetrieveVersion.TheVariants.{Default}
 use Rattle.zarrs_config.specs.declared.version.UseConsolidatedMetadata.TheVariants.{Auto, Never}
+use Rattle.zarrs_node.specs.Exists.{HasNodeKey}
+use Rattle.zarrs_survey.specs.Checks.{IsBlockFinding}
+use Rattle.zarrs_survey.specs.declared.finding.Finding.{Finding}
+use Rattle.zarrs_survey.specs.declared.finding.FindingKind.{FindingKind}
+use Rattle.zarrs_survey.specs.declared.finding.FindingKind.TheVariants.{Stale}
 use Rattle.zarrs_folder.specs.Folders.{in_any}
 use Rattle.zarrs_folder.specs.Openings.{OpenSame}
-use Rattle.zarrs_folder.specs.PrunedStores.{IsLoadedFrom}
+use Rattle.zarrs_folder.specs.PrunedStores.{IsArrayAt, IsLoadedFrom}
 use Rattle.zarrs.specs.declared.words.Word.{Word}
 use Rattle.zarrs.specs.declared.words.Word.TheVariants.{Tree, StoreTree, List as ListAll, Check}
 use Rattle.zarrs.specs.declared.fault.ZarrsFault.{ZarrsFault}
@@ -26,12 +33,29 @@ HoldsRefusal refuses _ = ⊥
 abbrev pub IsAnswerFault : Bool → Word → Contents → Path → ZarrsFault → Type 0
 IsAnswerFault can_fail word store base = HoldsRefusal (RefusesAnswer can_fail word store base)
 
--- L has enough of S for what the word asks from b on: it opens there as S does, or it is loaded from S
+-- an entry is stale
+abbrev pub is_stale : FindingKind → Bool
+is_stale Stale = true
+is_stale _ = false
+
+-- each entry that is stale beside L is so beside S: S has no document there either
+abbrev pub IsSettledOver : Contents → Contents → Path → Type 0
+IsSettledOver S L b = (f : Finding) → IsBlockFinding L Default b f → f.kind ≡ Stale → HasNodeKey S f.path → ⊥
+
+-- L has enough of S for a check from b on: it is loaded from S, and its stale entries are settled where b means no array
+abbrev pub IsCheckable : Contents → Contents → Path → Type 0
+IsCheckable S L b = IsLoadedFrom S L b × ((IsArrayAt S b → ⊥) → IsSettledOver S L b)
+
+-- the paths of stale entries
+abbrev pub stale_paths : List Finding → List Path
+stale_paths fs = map (λ f. f.path) (filter (λ f. is_stale f.kind) fs)
+
+-- L has enough of S for what the word asks from b on: it opens there as S does, or is enough for a check
 abbrev pub IsEnough : Word → Contents → Contents → Path → Type 0
 IsEnough Tree S L b = OpenSame S L Auto b
 IsEnough StoreTree S L b = OpenSame S L Never b
 IsEnough ListAll S L b = OpenSame S L Never b
-IsEnough Check S L b = IsLoadedFrom S L b
+IsEnough (Check options) S L b = IsCheckable S L b
 
 -- what was made for a word of some store
 abbrev pub IsWrittenOfSome : Word → Path → Option Tally × String Global → Type 0

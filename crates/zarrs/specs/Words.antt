@@ -3,22 +3,32 @@
 --     spelling w      how a word is written
 --     AreWordsOf words w source path, AreWords words      the words name this word, source and path; the words are a call's
 --     AskFor words asked      the words ask this
-use Rattle.std.specs.Prelude.{◌≡◌, ◌≢◌, ◌⊎◌, ⊤, ℕ, List, [], ◌∷◌, ◌++◌, codes}
+use Rattle.std.specs.Prelude.{◌≡◌, ◌≢◌, ◌⊎◌, ⊤, ℕ, cond, List, [], ◌∷◌, ◌++◌, codes}
 use Rattle.zarrs.specs.declared.words.Asked.{Asked}
 use Rattle.zarrs.specs.declared.words.Asked.TheVariants.{Help, Version, Store}
+use Rattle.zarrs.specs.declared.words.CheckOptions.{CheckOptions}
 use Rattle.zarrs.specs.declared.words.Word.{Word}
 use Rattle.zarrs.specs.declared.words.Word.TheVariants.{Tree, StoreTree, List as ListAll, Check}
 
--- how a word is written; the tree by the store in two
+-- how the options of a check are written
+abbrev pub option_words : CheckOptions → List (List ℕ)
+option_words options = cond options.notes (codes "--notes" ∷ []) [] ++ cond options.json (codes "--json" ∷ []) []
+
+-- how a word is written, with its options behind it
 abbrev pub spelling : Word → List (List ℕ)
 spelling Tree = codes "tree" ∷ []
 spelling StoreTree = codes "tree" ∷ codes "--store" ∷ []
 spelling ListAll = codes "list" ∷ []
-spelling Check = codes "check" ∷ []
+spelling (Check options) = codes "check" ∷ option_words options
 
--- the text may name a store behind the word: behind `tree` all but `--store`, which is a part of another word
+-- the text may name a store behind `check`: it is no option
+abbrev pub IsCheckSource : List ℕ → Type 0
+IsCheckSource source = (source ≢ codes "--notes") × (source ≢ codes "--json")
+
+-- the text may name a store behind the word: behind `tree` all but `--store`, which is a part of another word, and behind `check` all but its options
 abbrev pub IsSource : Word → List ℕ → Type 0
 IsSource Tree source = source ≢ codes "--store"
+IsSource (Check options) source = IsCheckSource source
 IsSource _ source = ⊤
 
 -- the words are a word, a source, and a path, which is `/` where it is left out

@@ -1,7 +1,7 @@
 //! How each kind of character is written, in texts and in lines of each word.
 use crate::asserts::{assert_ran, assert_text};
 use crate::escapes::{escaped, push_line};
-use crate::tests::run;
+use crate::tests::{CHECK, run};
 use crate::words::Word;
 
 #[test]
@@ -59,7 +59,7 @@ fn no_word_writes_a_control_character(rt: HostRuntime) {
             0,
         ),
         (
-            Word::Check,
+            CHECK,
             "/",
             "/: bad key: the block of / has the key `b//\\u0085\\\\`\n/a\\u001b[31m\\n: differs: the block of / has other metadata than the store\n",
             "zarrs: 2 nodes, 2 findings\n",

@@ -1,9 +1,11 @@
 //! Why the program refuses.
-ghost use Rattle.std.specs.Prelude.{◌≡◌};
+ghost use Rattle.std.specs.Prelude.{◌≡◌, Some};
+ghost use Rattle.zarrs.specs.FaultTexts.{zarrs_fault_text};
 ghost use Rattle.zarrs.specs.declared.fault.ZarrsFault.TheVariants.{Folder, Load, Node, OutOfMemory, Write};
 
 use std::alloc::{AllocError, AllocFailed};
-use thiserror::Error;
+use std::error::Error;
+use std::fmt;
 use zarrs_block::NodeCreateError;
 use zarrs_folder::FolderFault;
 use zarrs_load::LoadFault;
@@ -12,27 +14,39 @@ use zarrs_program::{WordsFault, WriteFault};
 /// Why a run of the program is refused.
 ///
 /// <https://zarr-specs.readthedocs.io/en/latest/v3/core/index.html#hierarchy>
-#[derive(Debug, Drop, Error)]
+#[derive(Debug, Drop)]
 pub enum ZarrsFault {
     /// The words are no call's.
-    #[error("wrong words")]
     Usage,
     /// The image was not loaded.
-    #[error("{0}")]
     Load(LoadFault),
     /// A folder or a file was not read.
-    #[error("{0}")]
     Folder(FolderFault),
     /// The path is none, or its nodes are refused, or the store failed.
-    #[error("{0}")]
     Node(NodeCreateError),
     /// The writer failed.
-    #[error("write fault")]
     Write,
     /// Out of memory.
-    #[error("out of memory")]
     OutOfMemory,
 }
+
+impl fmt::Display for ZarrsFault {
+    ghost output = { λ fault. Some (zarrs_fault_text fault) };
+
+    /// Writes the fault's text.
+    fn fmt<W: fmt::Write>(&self, f: &mut fmt::Formatter<W>) -> fmt::Result {
+        match self {
+            ZarrsFault::Usage => f.write_str("wrong words"),
+            ZarrsFault::Load(fault) => write!(f, "{fault}"),
+            ZarrsFault::Folder(fault) => write!(f, "{fault}"),
+            ZarrsFault::Node(error) => write!(f, "{error}"),
+            ZarrsFault::Write => f.write_str("write fault"),
+            ZarrsFault::OutOfMemory => f.write_str("out of memory"),
+        }
+    }
+}
+
+impl Error for ZarrsFault {}
 
 // By hand, since a clause names the variant.
 impl From<AllocError> for ZarrsFault {
@@ -85,6 +99,10 @@ impl From<WriteFault> for ZarrsFault {
 
 // Words that are not text are no call's.
 impl From<WordsFault> for ZarrsFault {
+    ghost use Rattle.zarrs.specs.Refusals.{IsWordsFault};
+
+    ghost from_gives = { IsWordsFault };
+
     fn from(error: WordsFault) -> ZarrsFault {
         match error {
             WordsFault::NotText => ZarrsFault::Usage,

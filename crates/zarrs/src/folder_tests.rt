@@ -4,7 +4,7 @@ use crate::asserts::{assert_ran, assert_text};
 use crate::folder::run_of_folder;
 use crate::image::load_image;
 use crate::run::run_store;
-use crate::tests::{ARRAY, GROUP, image_of};
+use crate::tests::{ARRAY, CHECK, GROUP, image_of};
 use crate::usage::USAGE;
 use crate::words::Word;
 use crate::words_tests::words_of;
@@ -24,6 +24,9 @@ const IMAGE: &str =
     r#"{"a/zarr.json":"{\"consolidated_metadata\":{\"kind\":\"inline\",\"metadata\":{\"b\":{\"node_type\":\"group\",\"zarr_format\":3}},\"must_understand\":false},\"node_type\":\"group\",\"zarr_format\":3}","zarr.json":"{\"node_type\":\"group\",\"zarr_format\":3}"}"#;
 
 const REPORT: &str = "/a/b: stale: the block of /a has it, and the store has not\n";
+
+const REPORT_JSON: &str =
+    "[{\"block\":\"/a\",\"key\":null,\"kind\":\"stale\",\"path\":\"/a/b\",\"text\":\"stale: the block of /a has it, and the store has not\"}]\n";
 
 // Makes a folder with files at paths below it.
 pub(crate) fn make_folder(
@@ -51,9 +54,10 @@ pub(crate) fn run(rt: &HostRuntime, texts: &[&str]) -> Result<(String, String, u
     let mut output = Vec::new(alloc);
     let mut errors = Vec::new(alloc);
     let mut reader = IMAGE.as_bytes();
-    let status = answer(
+    let ending = answer(
         &Logged::new(rt, Level::Warn, &sink),
         &words,
+        false,
         &mut reader,
         &mut output,
         &mut errors,
@@ -63,7 +67,7 @@ pub(crate) fn run(rt: &HostRuntime, texts: &[&str]) -> Result<(String, String, u
     Ok((
         String::from_utf8_lossy(alloc, &output)?,
         String::from_utf8_lossy(alloc, &said)?,
-        status,
+        ending.status,
     ))
 }
 
@@ -166,7 +170,7 @@ fn answers_of_a_folder(rt: HostRuntime) {
 
 #[test]
 fn answers_of_an_image_and_of_wrong_words(rt: HostRuntime) {
-    let rows: [(&[&str], &str, &str, u8); 18] = [
+    let rows: [(&[&str], &str, &str, u8); 21] = [
         (&["tree", "-"], "/\n  a\n", "", 0),
         (&["tree", "-", "/a"], "/a\n  b\n", "", 0),
         (&["tree", "--store", "-", "/a"], "/a\n", "", 0),
@@ -178,6 +182,19 @@ fn answers_of_an_image_and_of_wrong_words(rt: HostRuntime) {
             "zarrs: 1 node, 1 finding\n",
             1,
         ),
+        (
+            &["check", "--notes", "-"],
+            REPORT,
+            "zarrs: 2 nodes, 1 finding, 0 notes\n",
+            1,
+        ),
+        (
+            &["check", "--json", "-", "/a"],
+            REPORT_JSON,
+            "zarrs: 1 node, 1 finding\n",
+            1,
+        ),
+        (&["check", "--json", "--notes", "-"], "", USAGE, 2),
         (
             &["list", "-", "/x"],
             "",
@@ -271,7 +288,7 @@ fn of_folder(alloc: Global, image: &str, word: Word, path: &str) -> Option<Strin
 
 // Asserts that each word says the same of a store and of it as a folder, from a path on.
 fn assert_same<R: Abort + AllocGlobal>(rt: &R, image: &str, path: &str) {
-    for word in [Word::Tree, Word::StoreTree, Word::List, Word::Check] {
+    for word in [Word::Tree, Word::StoreTree, Word::List, CHECK] {
         let whole = of_store(rt.alloc(), image, word, path).expect(rt, "an answer");
         let asked = of_folder(rt.alloc(), image, word, path).expect(rt, "an answer");
         assert_text(rt, path, asked.as_str(), whole.as_str());

@@ -1,12 +1,14 @@
 //! Shows what a store has, in a folder or in an image on standard input: its tree, the paths of its nodes, and what is bad in it or in its blocks.
 #![tactic(auto)]
 
-ghost use Rattle.std.specs.Prelude.{◌≡◌, ◌≢◌, ◌⊎◌, Option, None, IfOk, IfErr};
+ghost use Rattle.std.specs.Prelude.{◌≡◌, ◌≢◌, ◌⊎◌, Option, None, IfOk, IfErr, OnOk, string_bytes};
+ghost use Rattle.std.specs.Option.{option_map};
 ghost use Rattle.std.specs.Io.KnownBytes.{Appends, Keeps};
 ghost use Rattle.zarrs_program.specs.Words.{texts};
 ghost use Rattle.zarrs.specs.Words.{AreWords};
-ghost use Rattle.zarrs.specs.Output.{WritesAsked, WritesOverSome, WritesOverSource};
-ghost use Rattle.zarrs.specs.Refusals.{RefusesAsked, RefusesOverSome, RefusesOverSource, tally_status};
+ghost use Rattle.zarrs.specs.Output.{WritesAsked, WritesOverEach, WritesOverSome, WritesOverSource};
+ghost use Rattle.zarrs.specs.RefusalLines.{IsHint, SaysRefusal};
+ghost use Rattle.zarrs.specs.Refusals.{RefusesAsked, RefusesOverEach, RefusesOverSome, RefusesOverSource, tally_status};
 
 #[cfg(test)]
 mod asserts;
@@ -21,8 +23,10 @@ mod folder_tests;
 #[cfg(test)]
 mod fractions_tests;
 mod image;
+mod kind;
 mod nowhere;
 mod remark;
+mod remarks_json;
 mod report;
 mod run;
 mod shown;
@@ -31,8 +35,6 @@ mod shown_tests;
 #[cfg(test)]
 mod tests;
 mod texts;
-#[cfg(test)]
-mod texts_tests;
 mod usage;
 mod warnings;
 mod words;
@@ -40,7 +42,7 @@ mod words;
 mod words_tests;
 
 use crate::fault::ZarrsFault;
-use crate::finish::finish;
+use crate::finish::{Ending, finish};
 use crate::folder::run_of_folder;
 use crate::nowhere::{nowhere_in_folder, nowhere_in_image};
 use crate::report::Tally;
@@ -50,20 +52,23 @@ use crate::warnings::Warnings;
 use crate::words::{Asked, Command, Word, parse};
 use log::{Level, Log, Logged};
 use std::io;
-use std::io::{Read, Write};
+use std::io::{Eprint, IsTerminal, Read, Write};
 use std::process::ExitCode;
 use std::rt::Files;
+use std::time::Clock;
 use zarrs_block::NodeCreateError;
-use zarrs_folder::Disk;
+use zarrs_folder::{Disk, Folder};
 use zarrs_program::{words, write_whole};
 
 fn main(rt: HostRuntime) -> ExitCode {
     let log = Logged::new(&rt, Level::Warn, Warnings(&rt));
     let mut errors = rt.stderr();
-    let status = match words(&rt) {
+    let is_watched = errors.is_terminal();
+    let ending = match words(&rt) {
         Ok(words) => answer(
             &log,
             &words,
+            is_watched,
             &mut rt.reader(),
             &mut io::writer(&rt),
             &mut errors,
@@ -75,40 +80,45 @@ fn main(rt: HostRuntime) -> ExitCode {
             &mut errors,
         ),
     };
-    ExitCode::from(status)
+    ExitCode::from(ending.status)
 }
 
-/// Writes what the words ask, and on standard error how much a check looked at and found, or why the run is refused. It handles every error itself and returns
-/// only the exit status: 0 where all is done, 1 where a check has findings, and 2 where the run is refused.
-pub fn answer<R: Log + Files + AllocGlobal, I: Read, W: Write, E: Write>(
+/// Writes what the words ask, and on standard error how much a check looked at and found, or why the run is refused. Where standard error is watched and a
+/// folder takes long, lines there say how many nodes were read so far. It handles every error itself and returns only how the run ended. The exit status is 0
+/// where all is done, 1 where a check has findings, and 2 where the run is refused.
+pub fn answer<R: Log + Files + Clock + Eprint + AllocGlobal, I: Read, W: Write, E: Write>(
     rt: &R,
     words: &[String],
+    is_watched: bool,
     reader: &mut I,
     output: &mut W,
     errors: &mut E,
-) -> u8
-    ensures done { result ≡ 0 → (tally : Option Tally) × (tally_status tally ≡ 0)
+) -> Ending
+    ensures done { result.status ≡ 0 → (tally : Option Tally) × (tally_status tally ≡ 0)
         × WritesAsked (texts words.now) (I.remaining reader.old)
         (W.contents output.old) (W.contents output.new) tally }
-    ensures found { result ≡ 1 → (tally : Option Tally) × (tally_status tally ≡ 1)
+    ensures found { result.status ≡ 1 → (tally : Option Tally) × (tally_status tally ≡ 1)
         × WritesAsked (texts words.now) (I.remaining reader.old)
         (W.contents output.old) (W.contents output.new) tally }
-    ensures refused { result ≡ 2 → (fault : ZarrsFault)
+    ensures refused { result.status ≡ 2 → (fault : ZarrsFault)
         × RefusesAsked (texts words.now)
         (I.remaining reader.old) (I.remaining reader.new) fault
-        × (fault ≢ ZarrsFault.Write → Keeps (W.contents output.old) (W.contents output.new)) }
-    ensures usage { (AreWords (texts words.now) → ⊥) → result ≡ 2 }
-    ensures status { (result ≡ 0) ⊎ (result ≡ 1) ⊎ (result ≡ 2) }
+        × (fault ≢ ZarrsFault.Write → Keeps (W.contents output.old) (W.contents output.new))
+        × OnOk result.said (SaysRefusal (texts words.now) fault
+        (E.contents errors.old) (E.contents errors.new)) }
+    ensures usage { (AreWords (texts words.now) → ⊥) → result.status ≡ 2 }
+    ensures status { (result.status ≡ 0) ⊎ (result.status ≡ 1) ⊎ (result.status ≡ 2) }
 {
-    let outcome = run_words(rt, words, reader, output);
+    let outcome = run_words(rt, words, is_watched, reader, output);
     let no_node = no_node(rt, words, &outcome);
     finish(rt.alloc(), &outcome, &no_node, errors)
 }
 
 // Writes what the words ask.
-fn run_words<R: Log + Files + AllocGlobal, I: Read, W: Write>(
+fn run_words<R: Log + Files + Clock + Eprint + AllocGlobal, I: Read, W: Write>(
     rt: &R,
     words: &[String],
+    is_watched: bool,
     reader: &mut I,
     output: &mut W,
 ) -> Result<Option<Tally>, ZarrsFault>
@@ -122,7 +132,7 @@ fn run_words<R: Log + Files + AllocGlobal, I: Read, W: Write>(
     match parse(words)? {
         Asked::Help => write_alone(USAGE, output),
         Asked::Version => write_alone(VERSION, output),
-        Asked::Store(command) => run_command(rt, &command, reader, output),
+        Asked::Store(command) => run_command(rt, &command, is_watched, reader, output),
     }
 }
 
@@ -138,9 +148,10 @@ fn write_alone<W: Write>(text: &str, output: &mut W) -> Result<Option<Tally>, Za
 }
 
 // Writes what a word asks of the store that a source names.
-fn run_command<R: Log + Files + AllocGlobal, I: Read, W: Write>(
+fn run_command<R: Log + Files + Clock + Eprint + AllocGlobal, I: Read, W: Write>(
     rt: &R,
     command: &Command<'_>,
+    is_watched: bool,
     reader: &mut I,
     output: &mut W,
 ) -> Result<Option<Tally>, ZarrsFault>
@@ -156,15 +167,23 @@ fn run_command<R: Log + Files + AllocGlobal, I: Read, W: Write>(
     if command.source == "-" {
         return run_of_image(rt, rt.alloc(), command.word, command.path, reader, output);
     }
-    run_disk(rt, command.word, command.source, command.path, output)
+    run_disk(
+        rt,
+        command.word,
+        command.source,
+        command.path,
+        is_watched,
+        output,
+    )
 }
 
 // Writes what a word asks of a folder of the system.
-fn run_disk<R: Log + Files + AllocGlobal, W: Write>(
+fn run_disk<R: Log + Files + Clock + Eprint + AllocGlobal, W: Write>(
     rt: &R,
     word: Word,
     source: &str,
     path: &str,
+    is_watched: bool,
     output: &mut W,
 ) -> Result<Option<Tally>, ZarrsFault>
     ensures ok { IfOk result
@@ -173,16 +192,41 @@ fn run_disk<R: Log + Files + AllocGlobal, W: Write>(
     ensures silent { IfErr result (λ fault. fault ≢ ZarrsFault.Write
         → Keeps (W.contents output.old) (W.contents output.new)) }
 {
-    let mut disk = Disk::open(rt, source)?;
-    run_of_folder(rt, rt.alloc(), word, path, &mut disk, output)
+    let mut disk = Disk::open(rt, source)?.telling(is_watched);
+    run_opened(rt, word, path, &mut disk, output)
+}
+
+// The same once the folder is opened: of each store that has all answers of the folder, and of some store in any case.
+fn run_opened<'a, R: Log + Files + Clock + Eprint + AllocGlobal, W: Write>(
+    rt: &R,
+    word: Word,
+    path: &str,
+    disk: &mut Disk<'a, R>,
+    output: &mut W,
+) -> Result<Option<Tally>, ZarrsFault>
+    ensures ok { IfOk result
+        (WritesOverSome word path.now (W.contents output.old) (W.contents output.new)) }
+    ensures whole { IfOk result (WritesOverEach word path.now
+        (⟦<Disk<'a, R> as Folder>⟧.agrees disk.new)
+        (W.contents output.old) (W.contents output.new)) }
+    ensures refused { IfErr result (RefusesOverSome word path.now) }
+    ensures whole_refused { IfErr result (RefusesOverEach word path.now
+        (⟦<Disk<'a, R> as Folder>⟧.agrees disk.new)) }
+    ensures silent { IfErr result (λ fault. fault ≢ ZarrsFault.Write
+        → Keeps (W.contents output.old) (W.contents output.new)) }
+{
+    run_of_folder(rt, rt.alloc(), word, path, disk, output)
 }
 
 // What is said where there is no node at the path that the words name.
-fn no_node<R: Log + Files + AllocGlobal>(
+fn no_node<R: Log + Files + Clock + Eprint + AllocGlobal>(
     rt: &R,
     words: &[String],
     outcome: &Result<Option<Tally>, ZarrsFault>,
-) -> Option<String> {
+) -> Option<String>
+    ensures { IfErr outcome.now (λ fault.
+        IsHint (texts words.now) fault (option_map string_bytes result)) }
+{
     let Err(ZarrsFault::Node(NodeCreateError::MissingMetadata(_))) = outcome else {
         return None;
     };

@@ -1,17 +1,20 @@
 //! The report on a store.
-ghost use Rattle.std.specs.Prelude.{◌≡◌, ◌++◌, false, IfOk, IfErr, IsTrue, OnOk, map, length, string_bytes};
-ghost use Rattle.std.specs.List.{flat_map};
+ghost use Rattle.std.specs.Prelude.{◌≡◌, ◌++◌, false, Some, IfOk, IfErr, IsTrue, OnOk, filter, map, string_bytes};
 ghost use Rattle.zarrs_block.specs.Refusals.{IsExcused};
 ghost use Rattle.zarrs_path.specs.Paths.{IsPath};
-ghost use Rattle.zarrs_survey.specs.Findings.{key_of};
 ghost use Rattle.zarrs_survey.specs.StepsOfSurveys.{is_of_node};
 ghost use Rattle.zarrs_folder.specs.PrunedStores.{IsArrayAt};
-ghost use Rattle.zarrs.specs.Report.{IsReport, IsReportFrom, own_remark, report_text, remark_of};
-ghost use Rattle.zarrs.specs.StepsOfReports.{AreSorted, all_remarks, own_remarks, base_remarks, document_remark, name_remark};
+ghost use Rattle.zarrs.specs.Kinds.{error_kind, finding_kind, wrong_key};
+ghost use Rattle.zarrs.specs.Report.{IsReport, IsReportFrom, error_remark, findings_among, is_asked, notes_among, own_remark, remark_of, remarks_text, report_text, tally_of};
+ghost use Rattle.zarrs.specs.StepsOfReports.{AreSorted, all_remarks, asked_remarks, base_remarks, document_remark, name_remark, own_remarks};
+ghost use Rattle.zarrs.specs.Texts.{tally_text};
 
 use crate::escapes::push_line;
+use crate::kind::RemarkKind;
 use crate::remark::{Remark, cmp_remarks};
-use crate::texts::{error_text, kind_text, name_text};
+use crate::remarks_json::json_text;
+use crate::texts::{kind_text, name_text};
+use crate::words::CheckOptions;
 use log::Log;
 use std::alloc::{AllocError, Global};
 use std::fmt;
@@ -31,18 +34,27 @@ use zarrs_survey::{BadDocuments, Check, Finding, FindingKind};
 pub struct Tally {
     /// The number of nodes, including the base if it is a node.
     pub nodes: usize,
-    /// The number of remarks.
+    /// The number of findings.
     pub findings: usize,
+    /// The number of notes; `None` if they are not asked for.
+    pub notes: Option<usize>,
 }
 
 impl fmt::Display for Tally {
+    ghost output = { λ tally. Some (tally_text tally) };
+
     /// Writes the numbers, each with what it counts.
     fn fmt<W: fmt::Write>(&self, f: &mut fmt::Formatter<W>) -> fmt::Result {
         let nodes = self.nodes;
         let findings = self.findings;
         let node = if nodes == 1 { "node" } else { "nodes" };
         let finding = if findings == 1 { "finding" } else { "findings" };
-        write!(f, "{nodes} {node}, {findings} {finding}")
+        write!(f, "{nodes} {node}, {findings} {finding}")?;
+        let Some(notes) = self.notes else {
+            return Ok(());
+        };
+        let note = if notes == 1 { "note" } else { "notes" };
+        write!(f, ", {notes} {note}")
     }
 }
 
@@ -55,19 +67,19 @@ impl fmt::Display for Tally {
 pub fn report<L: Log, S: ReadableStorageTraits + ListableStorageTraits>(
     log: &L,
     alloc: Global,
+    options: CheckOptions,
     store: &S,
     base: &NodePath,
 ) -> Result<(Tally, String), NodeCreateError>
     ensures ok { IfOk result (λ made.
-        IsReportFrom (S.contents store.now) base.now made.0 (string_bytes made.1)) }
+        IsReportFrom (S.contents store.now) base.now options made.0 (string_bytes made.1)) }
     ensures excused { IfErr result (IsExcused (S.can_fail store.now)) }
 {
     if is_array(alloc, store, base)? {
-        let nodes = 1;
-        let findings = 0;
-        return Ok((Tally { nodes, findings }, String::new(alloc)));
+        let made = made_of(alloc, options, 1, Vec::new(alloc))?;
+        return Ok(made);
     }
-    report_from(log, alloc, store, base)
+    report_from(log, alloc, options, store, base)
 }
 
 // Whether a path means an array.
@@ -105,30 +117,95 @@ fn is_of_node(refusal: &NodeCreateError) -> bool
 fn report_from<L: Log, S: ReadableStorageTraits + ListableStorageTraits>(
     log: &L,
     alloc: Global,
+    options: CheckOptions,
     store: &S,
     base: &NodePath,
 ) -> Result<(Tally, String), NodeCreateError>
     ensures ok { IfOk result (λ made.
-        IsReport (S.contents store.now) base.now made.0 (string_bytes made.1)) }
+        IsReport (S.contents store.now) base.now options made.0 (string_bytes made.1)) }
     ensures excused { IfErr result (IsExcused (S.can_fail store.now)) }
 {
     let version = MetadataRetrieveVersion::Default;
     let checked = Check::of_store(log, alloc, store, base, &version)?;
-    let remarks = remarks_of(alloc, &checked)?;
-    let nodes = checked.nodes;
-    let findings = remarks.len();
-    let text = report_text(alloc, remarks)?;
-    Ok((Tally { nodes, findings }, text))
+    let remarks = remarks_of(alloc, options, &checked)?;
+    let made = made_of(alloc, options, checked.nodes, remarks)?;
+    Ok(made)
 }
 
-// What there is to tell, in its order.
-fn remarks_of(alloc: Global, checked: &Check) -> Result<Vec<Remark>, AllocError>
-    ensures { IfOk result (λ remarks. AreSorted (all_remarks checked.now) remarks.items) }
+// The numbers and the text of what was told of so many nodes.
+fn made_of(
+    alloc: Global,
+    options: CheckOptions,
+    nodes: usize,
+    remarks: Vec<Remark>,
+) -> Result<(Tally, String), AllocError>
+    ensures tally { IfOk result (λ made. made.0 ≡ tally_of options nodes remarks.items) }
+    ensures text { IfOk result (λ made. string_bytes made.1 ≡ remarks_text options remarks.items) }
+{
+    let tally = tally_of(options, nodes, &remarks);
+    let text = remarks_text(alloc, options, remarks)?;
+    Ok((tally, text))
+}
+
+// How much was told of so many nodes.
+fn tally_of(options: CheckOptions, nodes: usize, remarks: &[Remark]) -> Tally
+    ensures { result ≡ tally_of options nodes remarks.now }
+{
+    Tally {
+        nodes,
+        findings: findings_among(remarks),
+        notes: if options.notes {
+            Some(notes_among(remarks))
+        } else {
+            None
+        },
+    }
+}
+
+// The number of findings among remarks.
+fn findings_among(remarks: &[Remark]) -> usize
+    ensures { result ≡ findings_among remarks.now }
+{
+    remarks
+        .iter()
+        .filter(|remark| !remark.kind.is_note())
+        .count()
+}
+
+// The number of notes among remarks.
+fn notes_among(remarks: &[Remark]) -> usize
+    ensures { result ≡ notes_among remarks.now }
+{
+    remarks
+        .iter()
+        .filter(|remark| remark.kind.is_note())
+        .count()
+}
+
+// What is told, in its order.
+fn remarks_of(
+    alloc: Global,
+    options: CheckOptions,
+    checked: &Check,
+) -> Result<Vec<Remark>, AllocError>
+    ensures { IfOk result
+        (λ remarks. AreSorted (asked_remarks options checked.now) remarks.items) }
 {
     let mut remarks = own_remarks(alloc, checked)?;
     add_findings(alloc, &checked.findings, &mut remarks)?;
+    keep_asked(options.notes, &mut remarks);
     sort_remarks(&mut remarks)?;
     Ok(remarks)
+}
+
+// Leaves the notes out, where they are not asked for.
+fn keep_asked(notes: bool, remarks: &mut Vec<Remark>)
+    ensures { remarks.new.items ≡ filter (is_asked notes) remarks.old.items }
+{
+    if notes {
+        return;
+    }
+    remarks.retain(|remark| !remark.kind.is_note());
 }
 
 // The own faults of paths.
@@ -153,10 +230,31 @@ fn add_base(
         (remarks.new.items ≡ remarks.old.items ++ base_remarks path.now base.now) }
 {
     if let Err(error) = base {
-        let text = error_text(alloc, error)?;
-        remarks.push(own_remark(alloc, path.to_prefix(alloc)?, text))?;
+        remarks.push(error_remark(alloc, path, error)?)?;
     }
     Ok(())
+}
+
+// The remark on why a path is no node.
+fn error_remark(
+    alloc: Global,
+    path: &NodePath,
+    error: &NodeCreateError,
+) -> Result<Remark, AllocError>
+    ensures { IfOk result (λ remark. remark ≡ error_remark path.now error.now) }
+{
+    let text = format!(in alloc; "{error}")?;
+    Ok(own_remark(path.to_prefix(alloc)?, error_kind(error), text))
+}
+
+// The kind of why a path is no node.
+fn error_kind(error: &NodeCreateError) -> RemarkKind
+    ensures { result ≡ error_kind error.now }
+{
+    match error {
+        NodeCreateError::MissingMetadata(_) => RemarkKind::NoNode,
+        _ => RemarkKind::BadDocument,
+    }
 }
 
 // Puts the faults of bad documents behind the other remarks.
@@ -169,8 +267,7 @@ fn add_documents(
         (remarks.new.items ≡ remarks.old.items ++ map document_remark documents.now) }
 {
     for (path, error) in documents.as_slice() {
-        let text = error_text(alloc, error)?;
-        remarks.push(own_remark(alloc, path.to_prefix(alloc)?, text))?;
+        remarks.push(error_remark(alloc, path, error)?)?;
     }
     Ok(())
 }
@@ -195,17 +292,18 @@ fn name_remark(alloc: Global, name: &StorePrefix) -> Result<Remark, AllocError>
     ensures { IfOk result (λ remark. remark ≡ name_remark name.now) }
 {
     let text = name_text(alloc, name)?;
-    Ok(own_remark(alloc, name.try_clone(alloc)?, text))
+    Ok(own_remark(name.try_clone(alloc)?, RemarkKind::BadName, text))
 }
 
-// The remark on a path's own fault.
-fn own_remark(alloc: Global, path: StorePrefix, text: String) -> Remark
-    ensures { result ≡ own_remark path (string_bytes text) }
+// What there is to tell of a path itself.
+fn own_remark(path: StorePrefix, kind: RemarkKind, text: String) -> Remark
+    ensures { result ≡ own_remark path kind (string_bytes text) }
 {
     Remark {
         path,
+        kind,
         group: None,
-        key: Text::new(String::new(alloc)),
+        key: None,
         text: Text::new(text),
     }
 }
@@ -232,20 +330,39 @@ fn remark_of(alloc: Global, finding: &Finding) -> Result<Remark, AllocError>
     let text = kind_text(alloc, &finding.group, &finding.kind)?;
     Ok(Remark {
         path: finding.path.to_prefix(alloc)?,
+        kind: finding_kind(&finding.kind),
         group: Some(finding.group.try_clone(alloc)?),
-        key: Text::from_str(alloc, key_of(&finding.kind))?,
+        key: wrong_key(alloc, &finding.kind)?,
         text: Text::new(text),
     })
 }
 
-// The key that a finding is of, and nothing where it is of a path.
-fn key_of(kind: &FindingKind) -> &str
-    ensures { result.now ≡ key_of kind.now }
+// The kind of what is wrong with a block.
+fn finding_kind(kind: &FindingKind) -> RemarkKind
+    ensures { result ≡ finding_kind kind.now }
 {
     match kind {
-        FindingKind::BadKey(key) => key.as_str(),
-        FindingKind::Shadowed(key) => key.as_str(),
-        _ => "",
+        FindingKind::BlockFault(_) => RemarkKind::BadBlock,
+        FindingKind::BadKey(_) => RemarkKind::BadKey,
+        FindingKind::Shadowed(_) => RemarkKind::Shadowed,
+        FindingKind::OwnKey(_) => RemarkKind::OwnKey,
+        FindingKind::Unreachable => RemarkKind::Unreachable,
+        FindingKind::Stale => RemarkKind::Stale,
+        FindingKind::Unreached => RemarkKind::Unreached,
+        FindingKind::Differs => RemarkKind::Differs,
+        FindingKind::Missing => RemarkKind::Missing,
+    }
+}
+
+// The key of the block that is wrong, if it is one.
+fn wrong_key(alloc: Global, kind: &FindingKind) -> Result<Option<Text>, AllocError>
+    ensures { IfOk result (λ key. key ≡ wrong_key kind.now) }
+{
+    match kind {
+        FindingKind::BadKey(key) => Ok(Some(Text::from_str(alloc, key.as_str())?)),
+        FindingKind::Shadowed(key) => Ok(Some(Text::from_str(alloc, key.as_str())?)),
+        FindingKind::OwnKey(key) => Ok(Some(Text::from_str(alloc, key.as_str())?)),
+        _ => Ok(None),
     }
 }
 
@@ -254,6 +371,20 @@ fn sort_remarks(remarks: &mut Vec<Remark>) -> Result<(), AllocError>
     ensures { OnOk result (AreSorted remarks.old.items remarks.new.items) }
 {
     remarks.sort_by(|a, b| cmp_remarks(a, b))
+}
+
+// The lines of remarks, or where it is asked for their JSON.
+fn remarks_text(
+    alloc: Global,
+    options: CheckOptions,
+    remarks: Vec<Remark>,
+) -> Result<String, AllocError>
+    ensures { IfOk result (λ text. string_bytes text ≡ remarks_text options remarks.items) }
+{
+    if options.json {
+        return json_text(alloc, remarks);
+    }
+    report_text(alloc, remarks)
 }
 
 // The lines of remarks.

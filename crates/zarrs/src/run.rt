@@ -94,8 +94,8 @@ pub(crate) fn output_of<L: Log, S: ReadableStorageTraits + ListableStorageTraits
             let text = list_text(log, alloc, store, base)?;
             Ok((None, text))
         }
-        Word::Check => {
-            let made = report(log, alloc, store, base)?;
+        Word::Check(options) => {
+            let made = report(log, alloc, options, store, base)?;
             Ok((Some(made.0), made.1))
         }
     }

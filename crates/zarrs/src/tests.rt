@@ -4,7 +4,7 @@ use crate::fault::ZarrsFault;
 use crate::finish::finish;
 use crate::image::load_image;
 use crate::run::{run_of_image, run_store};
-use crate::words::Word;
+use crate::words::{CheckOptions, Word};
 use log::sink::{Discard, Writer};
 use std::alloc::{AllocError, Global};
 use std::io;
@@ -12,6 +12,12 @@ use std::io::{Error, ErrorKind, Read, Write};
 use std::process::Abort;
 use zarrs_folder::FolderFault;
 use zarrs_load::LoadFault;
+
+// The word `check` without options.
+pub(crate) const CHECK: Word = Word::Check(CheckOptions {
+    notes: false,
+    json: false,
+});
 
 pub(crate) const GROUP: &str = r#"{"node_type":"group","zarr_format":3}"#;
 
@@ -43,6 +49,11 @@ const A_AND_X: &str =
 const X: &str = r#""x":{"node_type":"group","zarr_format":3}"#;
 
 const X_Y: &str = r#""x/y":{"node_type":"group","zarr_format":3}"#;
+
+const OWN: &str = r#""":{"node_type":"group","zarr_format":3}"#;
+
+const A_AND_B: &str =
+    r#""a":{"node_type":"group","zarr_format":3},"a/b":{"node_type":"group","zarr_format":3}"#;
 
 const BAD_KEY: &str = r#""a//b":{"node_type":"group","zarr_format":3}"#;
 
@@ -118,11 +129,11 @@ pub(crate) fn run(
     let mut errors = Vec::new(alloc);
     let mut reader = image.as_bytes();
     let outcome = run_of_image(&Discard, alloc, word, path, &mut reader, &mut output);
-    let status = finish(alloc, &outcome, &None, &mut errors);
+    let ending = finish(alloc, &outcome, &None, &mut errors);
     Ok((
         String::from_utf8_lossy(alloc, &output)?,
         String::from_utf8_lossy(alloc, &errors)?,
-        status,
+        ending.status,
     ))
 }
 
@@ -177,7 +188,7 @@ pub(crate) fn assert_answer<R: Abort + AllocGlobal>(
     status: u8,
 ) {
     let image = image_of(rt.alloc(), documents, blocks).expect(rt, "memory");
-    let ran = run(rt.alloc(), Word::Check, image.as_str(), path).expect(rt, "memory");
+    let ran = run(rt.alloc(), CHECK, image.as_str(), path).expect(rt, "memory");
     assert_ran(rt, output, &ran, output, errors, status);
 }
 
@@ -304,8 +315,26 @@ fn each_kind_of_finding_is_told(rt: HostRuntime) {
         &[],
         &[("zarr.json", X_Y)],
         "/",
-        "/x/y: unreachable: the block of / has no group above it\n",
+        "/x/y: stale: the block of / has it, and the store has not\n/x/y: unreachable: the block of / has no group above it\n",
+        "zarrs: 1 node, 2 findings\n",
+        1,
+    );
+    assert_answer(
+        &rt,
+        &[],
+        &[("zarr.json", OWN)],
+        "/",
+        "/: own key: the block of / has the key ``, which is / itself\n",
         one,
+        1,
+    );
+    assert_answer(
+        &rt,
+        &[("a/b/zarr.json", GROUP)],
+        &[("zarr.json", A_AND_B)],
+        "/",
+        "/a: stale: the block of / has it, and the store has not\n/a/b: unreached: the block of / has it, and a listing does not reach it\n",
+        "zarrs: 1 node, 2 findings\n",
         1,
     );
     assert_answer(
@@ -337,6 +366,47 @@ fn each_kind_of_finding_is_told(rt: HostRuntime) {
     );
 }
 
+// What there is to tell of these entries, where there are neither, as JSON.
+const ALL_JSON: &str =
+    "[{\"block\":\"/\",\"key\":\"/b\",\"kind\":\"shadowed\",\"path\":\"/\",\"text\":\"shadowed: the block of / has the key `/b` beside `b`\"},{\"block\":\"/\",\"key\":\"a//b\",\"kind\":\"bad-key\",\"path\":\"/\",\"text\":\"bad key: the block of / has the key `a//b`\"},{\"block\":\"/\",\"key\":null,\"kind\":\"stale\",\"path\":\"/b\",\"text\":\"stale: the block of / has it, and the store has not\"},{\"block\":null,\"key\":null,\"kind\":\"bad-document\",\"path\":\"/c\\u001b\",\"text\":\"error parsing metadata for c\\u001b/zarr.json: not JSON\"},{\"block\":\"/\",\"key\":null,\"kind\":\"stale\",\"path\":\"/d\",\"text\":\"stale: the block of / has it, and the store has not\"},{\"block\":\"/\",\"key\":null,\"kind\":\"stale\",\"path\":\"/e/f\",\"text\":\"stale: the block of / has it, and the store has not\"},{\"block\":\"/\",\"key\":null,\"kind\":\"unreachable\",\"path\":\"/e/f\",\"text\":\"unreachable: the block of / has no group above it\"}]\n";
+
+// The word `check` whose report is JSON.
+const CHECK_JSON: Word = Word::Check(CheckOptions {
+    notes: false,
+    json: true,
+});
+
+#[test]
+fn what_is_told_is_json_too(rt: HostRuntime) {
+    let alloc = rt.alloc();
+    let documents = [("c\\u001b/zarr.json", "x")];
+    let blocks = [("zarr.json", ALL)];
+    let image = image_of(alloc, &documents, &blocks).expect(&rt, "memory");
+    let ran = run(alloc, CHECK_JSON, image.as_str(), "/").expect(&rt, "memory");
+    assert_ran(
+        &rt,
+        "findings",
+        &ran,
+        ALL_JSON,
+        "zarrs: 1 node, 7 findings\n",
+        1,
+    );
+    let ran = run(alloc, CHECK_JSON, r#"{"a/0":""}"#, "/").expect(&rt, "memory");
+    let output =
+        "[{\"block\":null,\"key\":null,\"kind\":\"no-node\",\"path\":\"/\",\"text\":\"Metadata is missing for /\"}]\n";
+    assert_ran(&rt, "none", &ran, output, "zarrs: 0 nodes, 1 finding\n", 1);
+    let image = image_of(alloc, &[("zarr.json", ARRAY)], &[]).expect(&rt, "memory");
+    let ran = run(alloc, CHECK_JSON, image.as_str(), "/").expect(&rt, "memory");
+    assert_ran(
+        &rt,
+        "an array",
+        &ran,
+        "[]\n",
+        "zarrs: 1 node, 0 findings\n",
+        0,
+    );
+}
+
 #[test]
 fn what_is_told_stands_in_order(rt: HostRuntime) {
     let two = "zarrs: 2 nodes, 2 findings\n";
@@ -345,8 +415,8 @@ fn what_is_told_stands_in_order(rt: HostRuntime) {
         &[("c/zarr.json", GROUP), ("d/zarr.json", ARRAY)],
         &[("zarr.json", ALL)],
         "/",
-        "/: shadowed: the block of / has the key `/b` beside `b`\n/: bad key: the block of / has the key `a//b`\n/b: stale: the block of / has it, and the store has not\n/c: missing: the block of / has no entry of it\n/d: differs: the block of / has other metadata than the store\n/e/f: unreachable: the block of / has no group above it\n",
-        "zarrs: 3 nodes, 6 findings\n",
+        "/: shadowed: the block of / has the key `/b` beside `b`\n/: bad key: the block of / has the key `a//b`\n/b: stale: the block of / has it, and the store has not\n/c: missing: the block of / has no entry of it\n/d: differs: the block of / has other metadata than the store\n/e/f: stale: the block of / has it, and the store has not\n/e/f: unreachable: the block of / has no group above it\n",
+        "zarrs: 3 nodes, 7 findings\n",
         1,
     );
     assert_answer(
@@ -475,16 +545,9 @@ fn what_is_no_image_or_no_path_is_refused(rt: HostRuntime) {
     ];
     for (image, path, refusal, errors) in table {
         let mut reader = image.as_bytes();
-        let outcome = run_of_image(
-            &Discard,
-            alloc,
-            Word::Check,
-            path,
-            &mut reader,
-            &mut io::sink(),
-        );
+        let outcome = run_of_image(&Discard, alloc, CHECK, path, &mut reader, &mut io::sink());
         assert_refused(&rt, alloc, &outcome, refusal);
-        let ran = run(alloc, Word::Check, image, path).expect(&rt, "memory");
+        let ran = run(alloc, CHECK, image, path).expect(&rt, "memory");
         assert_ran(&rt, image, &ran, "", errors, 2);
     }
 }
@@ -496,9 +559,9 @@ fn runs_over_a_store(rt: HostRuntime) {
     let mut reader = image.as_bytes();
     let store = load_image(alloc, &mut reader).expect(&rt, "an image");
     let mut output = Vec::new(alloc);
-    let outcome = run_store(&Discard, alloc, Word::Check, "/", &store, &mut output);
+    let outcome = run_store(&Discard, alloc, CHECK, "/", &store, &mut output);
     let tally = outcome.expect(&rt, "a report").expect(&rt, "a tally");
-    assert_eq!(rt; (tally.nodes, tally.findings), (1, 1));
+    assert_eq!(rt; (tally.nodes, tally.findings, tally.notes), (1, 1, None));
     let text = String::from_utf8_lossy(alloc, &output).expect(&rt, "memory");
     assert_text(
         &rt,
@@ -517,14 +580,14 @@ fn a_reader_and_a_writer_fail(rt: HostRuntime) {
         reads_before_fault: Some(2),
     };
     let mut output = Vec::new(alloc);
-    let outcome = run_of_image(&Discard, alloc, Word::Check, "/", &mut reader, &mut output);
+    let outcome = run_of_image(&Discard, alloc, CHECK, "/", &mut reader, &mut output);
     assert_refused(&rt, alloc, &outcome, "Load(Read): read fault");
     assert!(rt; output.is_empty());
     let mut reader = OneByOne {
         rest: image.as_bytes(),
         reads_before_fault: None,
     };
-    let outcome = run_of_image(&Discard, alloc, Word::Check, "/", &mut reader, &mut Full);
+    let outcome = run_of_image(&Discard, alloc, CHECK, "/", &mut reader, &mut Full);
     assert_refused(&rt, alloc, &outcome, "Write: write fault");
 }
 
@@ -532,17 +595,10 @@ fn a_reader_and_a_writer_fail(rt: HostRuntime) {
 fn a_writer_whose_flush_alone_fails_is_told(rt: HostRuntime) {
     let alloc = rt.alloc();
     let mut reader = b"{}".as_slice();
-    let outcome = run_of_image(
-        &Discard,
-        alloc,
-        Word::Check,
-        "/",
-        &mut reader,
-        &mut Unflushed,
-    );
+    let outcome = run_of_image(&Discard, alloc, CHECK, "/", &mut reader, &mut Unflushed);
     assert_refused(&rt, alloc, &outcome, "Write: write fault");
     let mut errors = Vec::new(alloc);
-    assert_eq!(rt; finish(alloc, &outcome, &None, &mut errors), 2);
+    assert_eq!(rt; finish(alloc, &outcome, &None, &mut errors).status, 2);
     assert_eq!(rt; errors.as_slice(), b"zarrs: write fault\n".as_slice());
 }
 
@@ -551,7 +607,7 @@ fn warns_of_what_is_passed_over(rt: HostRuntime) {
     let alloc = rt.alloc();
     let sink = Writer::new(Vec::new(alloc));
     let mut reader = r#"{"fakenode/content":""}"#.as_bytes();
-    let outcome = run_of_image(&sink, alloc, Word::Check, "/", &mut reader, &mut io::sink());
+    let outcome = run_of_image(&sink, alloc, CHECK, "/", &mut reader, &mut io::sink());
     assert!(rt; outcome.is_ok());
     let warnings = String::from_utf8_lossy(alloc, &sink.into_inner()).expect(&rt, "memory");
     assert_text(

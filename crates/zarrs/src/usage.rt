@@ -6,6 +6,8 @@ usage: zarrs tree DIR [PATH]          the tree, by the block of the group at PAT
        zarrs tree --store DIR [PATH]  the tree, by the store
        zarrs list DIR [PATH]          the path of each node at and below PATH, one a line
        zarrs check DIR [PATH]         what is bad in the store, and where its blocks say something else
+       zarrs check [--notes] [--json] DIR [PATH]
+                                      the same, with what is worth knowing too, and as JSON
        zarrs --help | --version
 DIR is the folder of a store, or - for an image on standard input. PATH is / where it is left out.
 Status 0: done. 1: check has findings. 2: wrong words, refused, unreadable, out of memory, or not written.

@@ -1,7 +1,7 @@
 //! What the words of a call ask.
-ghost use Rattle.std.specs.Prelude.{◌≡◌, ◌≢◌, [], ◌∷◌, false, IfOk, IfErr, IsTrue, codes};
+ghost use Rattle.std.specs.Prelude.{◌≡◌, ◌≢◌, [], ◌∷◌, IfOk, IfErr, codes};
 ghost use Rattle.zarrs_program.specs.Words.{texts};
-ghost use Rattle.zarrs.specs.Words.{AreWords, AskFor, IsSource, spelling};
+ghost use Rattle.zarrs.specs.Words.{AreWords, AskFor, IsCheckSource, IsSource, spelling};
 
 use crate::fault::ZarrsFault;
 
@@ -18,7 +18,19 @@ pub enum Word {
     /// The paths of the nodes, by the store.
     List,
     /// The report on what is bad.
-    Check,
+    Check(CheckOptions),
+}
+
+/// What the report of a check has, and how it is written.
+///
+/// Source: own.
+/// <https://zarr-specs.readthedocs.io/en/latest/v3/core/index.html#hierarchy>
+#[derive(Clone, Copy, Debug, PartialEq, Eq)]
+pub struct CheckOptions {
+    /// Whether it has notes beside the findings.
+    pub notes: bool,
+    /// Whether it is JSON, and not lines.
+    pub json: bool,
 }
 
 /// A word, where the store is, and the path that is asked about.
@@ -64,9 +76,16 @@ pub fn parse(words: &[String]) -> Result<Asked<'_>, ZarrsFault>
         [option] => asked_alone(option.as_str()),
         [word, source] => asked_of(word.as_str(), source.as_str()),
         [word, second, third] => asked_at(word.as_str(), second.as_str(), third.as_str()),
-        [word, option, source, path] => asked_by_store(
+        [word, second, third, fourth] => asked_by_option(
             word.as_str(),
-            option.as_str(),
+            second.as_str(),
+            third.as_str(),
+            fourth.as_str(),
+        ),
+        [word, first, second, source, path] => asked_by_options(
+            word.as_str(),
+            first.as_str(),
+            second.as_str(),
             source.as_str(),
             path.as_str(),
         ),
@@ -98,16 +117,16 @@ fn asked_of<'a>(word: &str, source: &'a str) -> Result<Asked<'a>, ZarrsFault>
     Ok(Asked::Store(Command { word, source, path }))
 }
 
-// What three words ask: a word, a source and a path, or the tree by the store of a source.
+// What three words ask: a word, a source and a path, or a word with an option, and a source.
 fn asked_at<'a>(word: &str, second: &'a str, third: &'a str) -> Result<Asked<'a>, ZarrsFault>
     ensures ok { IfOk result (AskFor (word.now ∷ second.now ∷ third.now ∷ [])) }
     ensures err { IfErr result
         (λ fault. (fault ≡ ZarrsFault.Usage)
         × (AreWords (word.now ∷ second.now ∷ third.now ∷ []) → ⊥)) }
 {
-    if asks_store_tree(word, second) {
+    if let Ok(word) = word_by(word, second, third) {
         return Ok(Asked::Store(Command {
-            word: Word::StoreTree,
+            word,
             source: third,
             path: "/",
         }));
@@ -120,31 +139,50 @@ fn asked_at<'a>(word: &str, second: &'a str, third: &'a str) -> Result<Asked<'a>
     }))
 }
 
-// What four words ask: the tree by the store of a source, from a path on.
-fn asked_by_store<'a>(
+// What four words ask: a word with an option, a source and a path, or a word with two options, and a source.
+fn asked_by_option<'a>(
     word: &str,
-    option: &str,
+    second: &str,
+    third: &'a str,
+    fourth: &'a str,
+) -> Result<Asked<'a>, ZarrsFault>
+    ensures ok { IfOk result
+        (AskFor (word.now ∷ second.now ∷ third.now ∷ fourth.now ∷ [])) }
+    ensures err { IfErr result
+        (λ fault. (fault ≡ ZarrsFault.Usage)
+        × (AreWords (word.now ∷ second.now ∷ third.now ∷ fourth.now ∷ []) → ⊥)) }
+{
+    if let Ok(word) = word_by_two(word, second, third, fourth) {
+        return Ok(Asked::Store(Command {
+            word,
+            source: fourth,
+            path: "/",
+        }));
+    }
+    let word = word_by(word, second, third)?;
+    Ok(Asked::Store(Command {
+        word,
+        source: third,
+        path: fourth,
+    }))
+}
+
+// What five words ask: a word with two options, a source and a path.
+fn asked_by_options<'a>(
+    word: &str,
+    first: &str,
+    second: &str,
     source: &'a str,
     path: &'a str,
 ) -> Result<Asked<'a>, ZarrsFault>
-    ensures ok { IfOk result (AskFor (word.now ∷ option.now ∷ source.now ∷ path.now ∷ [])) }
+    ensures ok { IfOk result
+        (AskFor (word.now ∷ first.now ∷ second.now ∷ source.now ∷ path.now ∷ [])) }
     ensures err { IfErr result
         (λ fault. (fault ≡ ZarrsFault.Usage)
-        × (AreWords (word.now ∷ option.now ∷ source.now ∷ path.now ∷ []) → ⊥)) }
+        × (AreWords (word.now ∷ first.now ∷ second.now ∷ source.now ∷ path.now ∷ []) → ⊥)) }
 {
-    if !asks_store_tree(word, option) {
-        return Err(ZarrsFault::Usage);
-    }
-    let word = Word::StoreTree;
+    let word = word_by_two(word, first, second, source)?;
     Ok(Asked::Store(Command { word, source, path }))
-}
-
-// Whether two words are those of the tree by the store.
-fn asks_store_tree(word: &str, option: &str) -> bool
-    ensures yes { IsTrue result → (word.now ≡ codes "tree") × (option.now ≡ codes "--store") }
-    ensures no { result ≡ false → word.now ≡ codes "tree" → option.now ≡ codes "--store" → ⊥ }
-{
-    word == "tree" && option == "--store"
 }
 
 // The word before a source.
@@ -157,19 +195,92 @@ fn word_of(word: &str, source: &str) -> Result<Word, ZarrsFault>
     match word {
         "tree" => tree_of(source),
         "list" => Ok(Word::List),
-        "check" => Ok(Word::Check),
+        "check" => check_of(false, false, source),
         _ => Err(ZarrsFault::Usage),
     }
 }
 
+// The word with an option before a source.
+fn word_by(word: &str, option: &str, source: &str) -> Result<Word, ZarrsFault>
+    ensures ok { IfOk result
+        (λ found. (spelling found ≡ word.now ∷ option.now ∷ []) × IsSource found source.now) }
+    ensures err { IfErr result (λ fault. (fault ≡ ZarrsFault.Usage)
+        × ((found : Word) → (spelling found ≡ word.now ∷ option.now ∷ [])
+        × IsSource found source.now → ⊥)) }
+{
+    match word {
+        "tree" => store_tree_by(option),
+        "check" => check_by(option, source),
+        _ => Err(ZarrsFault::Usage),
+    }
+}
+
+// The word with two options before a source.
+fn word_by_two(word: &str, first: &str, second: &str, source: &str) -> Result<Word, ZarrsFault>
+    ensures ok { IfOk result
+        (λ found. (spelling found ≡ word.now ∷ first.now ∷ second.now ∷ [])
+        × IsSource found source.now) }
+    ensures err { IfErr result (λ fault. (fault ≡ ZarrsFault.Usage)
+        × ((found : Word) → (spelling found ≡ word.now ∷ first.now ∷ second.now ∷ [])
+        × IsSource found source.now → ⊥)) }
+{
+    if word == "check" && first == "--notes" && second == "--json" {
+        return check_of(true, true, source);
+    }
+    Err(ZarrsFault::Usage)
+}
+
 // The word `tree` before a source.
 fn tree_of(source: &str) -> Result<Word, ZarrsFault>
-    ensures ok { IfOk result (λ found. (found ≡ Word.Tree) × (source.now ≢ codes "--store")) }
+    ensures ok { IfOk result (λ found. (found ≡ Word.Tree) × IsSource Word.Tree source.now) }
     ensures err { IfErr result
-        (λ fault. (fault ≡ ZarrsFault.Usage) × (source.now ≡ codes "--store")) }
+        (λ fault. (fault ≡ ZarrsFault.Usage) × (IsSource Word.Tree source.now → ⊥)) }
 {
     if source == "--store" {
         return Err(ZarrsFault::Usage);
     }
     Ok(Word::Tree)
+}
+
+// The word `tree` with an option.
+fn store_tree_by(option: &str) -> Result<Word, ZarrsFault>
+    ensures ok { IfOk result
+        (λ found. (found ≡ Word.StoreTree) × (option.now ≡ codes "--store")) }
+    ensures err { IfErr result
+        (λ fault. (fault ≡ ZarrsFault.Usage) × (option.now ≢ codes "--store")) }
+{
+    if option == "--store" {
+        return Ok(Word::StoreTree);
+    }
+    Err(ZarrsFault::Usage)
+}
+
+// The word `check` with an option before a source.
+fn check_by(option: &str, source: &str) -> Result<Word, ZarrsFault>
+    ensures ok { IfOk result
+        (λ found. (spelling found ≡ codes "check" ∷ option.now ∷ [])
+        × IsSource found source.now) }
+    ensures err { IfErr result (λ fault. (fault ≡ ZarrsFault.Usage)
+        × ((found : Word) → (spelling found ≡ codes "check" ∷ option.now ∷ [])
+        × IsSource found source.now → ⊥)) }
+{
+    match option {
+        "--notes" => check_of(true, false, source),
+        "--json" => check_of(false, true, source),
+        _ => Err(ZarrsFault::Usage),
+    }
+}
+
+// The word `check` with its options before a source.
+fn check_of(notes: bool, json: bool, source: &str) -> Result<Word, ZarrsFault>
+    ensures ok { IfOk result
+        (λ found. (found ≡ Word.Check (record { notes = notes; json = json }))
+        × IsCheckSource source.now) }
+    ensures err { IfErr result
+        (λ fault. (fault ≡ ZarrsFault.Usage) × (IsCheckSource source.now → ⊥)) }
+{
+    if source == "--notes" || source == "--json" {
+        return Err(ZarrsFault::Usage);
+    }
+    Ok(Word::Check(CheckOptions { notes, json }))
 }

@@ -1,6 +1,6 @@
 //! What each kind of words asks.
 use crate::asserts::assert_text;
-use crate::words::{Asked, parse};
+use crate::words::{Asked, Word, parse};
 use std::alloc::{AllocError, Global};
 
 /// The words with these texts.
@@ -12,6 +12,21 @@ pub(crate) fn words_of(alloc: Global, texts: &[&str]) -> Result<Vec<String>, All
     Ok(words)
 }
 
+// A word, with its options behind it.
+fn name_of(alloc: Global, word: Word) -> Result<String, AllocError> {
+    let Word::Check(options) = word else {
+        return format!(in alloc; "{word:?}");
+    };
+    let mut name = String::from_str(alloc, "Check")?;
+    if options.notes {
+        name.push_str("+notes")?;
+    }
+    if options.json {
+        name.push_str("+json")?;
+    }
+    Ok(name)
+}
+
 // What the words with these texts ask, as a text.
 fn asked(alloc: Global, texts: &[&str]) -> Result<String, AllocError> {
     let words = words_of(alloc, texts)?;
@@ -19,10 +34,10 @@ fn asked(alloc: Global, texts: &[&str]) -> Result<String, AllocError> {
         Ok(Asked::Help) => String::from_str(alloc, "help"),
         Ok(Asked::Version) => String::from_str(alloc, "version"),
         Ok(Asked::Store(command)) => {
-            let word = command.word;
+            let word = name_of(alloc, command.word)?;
             let source = command.source;
             let path = command.path;
-            format!(in alloc; "{word:?} {source} {path}")
+            format!(in alloc; "{word} {source} {path}")
         }
         Err(fault) => format!(in alloc; "{fault:?}"),
     }
@@ -30,7 +45,7 @@ fn asked(alloc: Global, texts: &[&str]) -> Result<String, AllocError> {
 
 #[test]
 fn words_name_a_word_a_source_and_a_path(rt: HostRuntime) {
-    let table: [(&[&str], &str); 26] = [
+    let table: [(&[&str], &str); 40] = [
         (&["--help"], "help"),
         (&["--version"], "version"),
         (&["tree", "x"], "Tree x /"),
@@ -48,6 +63,23 @@ fn words_name_a_word_a_source_and_a_path(rt: HostRuntime) {
         (&["check", "x"], "Check x /"),
         (&["check", "-", "/a"], "Check - /a"),
         (&["check", "--store"], "Check --store /"),
+        (&["check", "--notes", "x"], "Check+notes x /"),
+        (&["check", "--notes", "x", "/a"], "Check+notes x /a"),
+        (&["check", "--json", "x"], "Check+json x /"),
+        (&["check", "--json", "-", "/a"], "Check+json - /a"),
+        (&["check", "--notes", "--json", "x"], "Check+notes+json x /"),
+        (
+            &["check", "--notes", "--json", "-", "/a"],
+            "Check+notes+json - /a",
+        ),
+        (&["check", "x", "--notes"], "Check x --notes"),
+        (&["list", "--notes", "x"], "List --notes x"),
+        (&["check", "--notes"], "Usage"),
+        (&["check", "--notes", "--json"], "Usage"),
+        (&["check", "--json", "--notes", "x"], "Usage"),
+        (&["check", "--notes", "--notes", "x"], "Usage"),
+        (&["check", "--notes", "--json", "x", "/", "/"], "Usage"),
+        (&["tree", "--notes", "x", "/"], "Usage"),
         (&[], "Usage"),
         (&["tree"], "Usage"),
         (&["tree", "--store"], "Usage"),

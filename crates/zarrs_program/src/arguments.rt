@@ -1,6 +1,7 @@
 //! The words of a run of a program.
-ghost use Rattle.std.specs.Prelude.{Some};
+ghost use Rattle.std.specs.Prelude.{◌≡◌, Some};
 ghost use Rattle.zarrs_program.specs.FaultTexts.{words_fault_text};
+ghost use Rattle.zarrs_program.specs.declared.arguments.WordsFault.TheVariants.{OutOfMemory};
 
 use std::alloc::{AllocError, AllocFailed};
 use std::env::Env;
@@ -33,13 +34,18 @@ impl fmt::Display for WordsFault {
 
 impl Error for WordsFault {}
 
+// By hand, with the variant that it gives.
 impl From<AllocError> for WordsFault {
+    ghost from_gives = { λ _ fault. fault ≡ OutOfMemory };
+
     fn from(_error: AllocError) -> WordsFault {
         WordsFault::OutOfMemory
     }
 }
 
 impl<T: Drop> From<AllocFailed<T>> for WordsFault {
+    ghost from_gives = { λ _ fault. fault ≡ OutOfMemory };
+
     fn from(_error: AllocFailed<T>) -> WordsFault {
         WordsFault::OutOfMemory
     }

@@ -1,3 +1,4 @@
+pub mod FaultTexts
 pub mod Output
 pub mod Refusals
 pub mod Sinks

@@ -1,56 +1,76 @@
 //! Why the program refuses.
-ghost use Rattle.std.specs.Prelude.{◌≡◌};
+ghost use Rattle.std.specs.Prelude.{◌≡◌, Some};
+ghost use Rattle.zarrs_tool.specs.FaultTexts.{tool_fault_text};
 ghost use Rattle.zarrs_tool.specs.declared.fault.ToolFault.TheVariants.{Node, OutOfMemory, Write};
 
 use std::alloc::{AllocError, AllocFailed};
-use thiserror::Error;
+use std::error::Error;
+use std::fmt;
 use zarrs_block::NodeCreateError;
 use zarrs_load::LoadFault;
 use zarrs_path::NodePath;
 use zarrs_program::{WordsFault, WriteFault};
 
+// How the program is called.
+const USAGE: &str =
+    "usage: zarrs_tool (children|list|tree|consolidate) PATH | folder DIR tree PATH";
+
 /// Why a run of the program is refused.
 ///
 /// <https://zarr-specs.readthedocs.io/en/latest/v3/core/index.html#hierarchy>
-#[derive(Debug, Drop, Error)]
+#[derive(Debug, Drop)]
 pub enum ToolFault {
     /// The words are no command.
-    #[error("usage: zarrs_tool (children|list|tree|consolidate) PATH | folder DIR tree PATH")]
     Usage,
     /// The reader failed.
-    #[error("read fault")]
     Read,
     /// The input did not end within the bound on reads.
-    #[error("input too long")]
     ReadTooLong,
     /// The image is no JSON object.
-    #[error("image is not a JSON object")]
     Image,
     /// A member's name is no store key.
-    #[error("bad store key in image: {0}")]
     ImageKey(String),
     /// The member with this name is no text.
-    #[error("no text in image at {0}")]
     ImageValue(String),
     /// A folder was not read.
-    #[error("folder fault")]
     Folder,
     /// The path is an array, and the command wants a group.
-    #[error("not a group")]
     NotAGroup,
     /// A node of a block, by its path, has a number with a fraction, and blocks are written in whole numbers.
-    #[error("{0} has an unsupported number, one with a fraction")]
     Fraction(NodePath),
     /// The path is none, or its nodes were not listed.
-    #[error("{0}")]
     Node(NodeCreateError),
     /// The writer failed.
-    #[error("write fault")]
     Write,
     /// Out of memory.
-    #[error("out of memory")]
     OutOfMemory,
 }
+
+impl fmt::Display for ToolFault {
+    ghost output = { λ fault. Some (tool_fault_text fault) };
+
+    /// Writes the fault's text.
+    fn fmt<W: fmt::Write>(&self, f: &mut fmt::Formatter<W>) -> fmt::Result {
+        match self {
+            ToolFault::Usage => f.write_str(USAGE),
+            ToolFault::Read => f.write_str("read fault"),
+            ToolFault::ReadTooLong => f.write_str("input too long"),
+            ToolFault::Image => f.write_str("image is not a JSON object"),
+            ToolFault::ImageKey(name) => write!(f, "bad store key in image: {name}"),
+            ToolFault::ImageValue(name) => write!(f, "no text in image at {name}"),
+            ToolFault::Folder => f.write_str("folder fault"),
+            ToolFault::NotAGroup => f.write_str("not a group"),
+            ToolFault::Fraction(path) => {
+                write!(f, "{path} has an unsupported number, one with a fraction")
+            }
+            ToolFault::Node(error) => write!(f, "{error}"),
+            ToolFault::Write => f.write_str("write fault"),
+            ToolFault::OutOfMemory => f.write_str("out of memory"),
+        }
+    }
+}
+
+impl Error for ToolFault {}
 
 // By hand, since a clause names the variant.
 impl From<AllocError> for ToolFault {
