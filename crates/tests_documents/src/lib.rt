@@ -1,9 +1,11 @@
-//! Tests that cross crates: the documents of groups and arrays, the forms of their members and the conversion of version 2 to 3, by
-//! public calls alone. The crate has no call of its own.
+//! Tests that cross crates: the documents of groups and arrays, with fractions too, the forms of their members, the conversion of version 2 to
+//! 3, and the comparison of two nodes' metadata, by public calls alone. The crate has no call of its own.
 #![tactic(auto)]
 
 #[cfg(test)]
 mod asserts;
+#[cfg(test)]
+mod compared;
 #[cfg(test)]
 mod conversion;
 #[cfg(test)]
@@ -14,6 +16,10 @@ mod conversion_tables;
 mod documents;
 #[cfg(test)]
 mod forms;
+#[cfg(test)]
+mod fraction_kinds;
+#[cfg(test)]
+mod fractions;
 #[cfg(test)]
 mod given;
 #[cfg(test)]

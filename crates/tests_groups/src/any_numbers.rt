@@ -1,11 +1,12 @@
 //! Groups over a store whose documents may hold any number: they are opened and looked at with fractions, and not stored with them.
 
+use crate::fixture_rows::store_in;
+use crate::fixtures::{done, held_text};
 use crate::group_children::below_text;
 use crate::groups::step_of;
 use std::alloc::{AllocError, Global};
 use std::test::Fail;
 use tests_fixtures::{config_of, no_word, policy_of};
-use tests_group_fixtures::{done, held_text, store_in};
 use tests_support::{check_rows, fields, refusal, said};
 use zarrs_block::ConsolidatedMetadata;
 use zarrs_config::Config;

@@ -2,16 +2,17 @@
 //!
 //! The tests compare texts.
 
+use crate::fixture_rows::{entries_in, store_in};
+use crate::fixtures::{
+    Set, block_of, changed, consolidated, group_of, group_text, groups_text, held_text,
+    is_out_of_memory, set, set_in,
+};
 use log::sink::{Discard, Writer};
 use std::alloc::{AllocError, Global};
 use std::test::Fail;
 use tests_fixtures::{
     A3_SQUARE, both, config_of, document_of, forest_text, no_word, node_text, pairs_text,
     paths_text, policy_of,
-};
-use tests_group_fixtures::{
-    Set, block_of, changed, consolidated, entries_in, group_of, group_text, groups_text, held_text,
-    is_out_of_memory, set, set_in, store_in,
 };
 use tests_support::{G3, check_rows, fields, printed, refusal, said, with_lines};
 use zarrs_block::ConsolidatedMetadata;

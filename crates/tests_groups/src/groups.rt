@@ -1,5 +1,7 @@
 //! Groups that are made, opened, stored and erased. Each helper holds a group and answers a text; the tests are tables of texts.
 
+use crate::fixture_rows::store_in;
+use crate::fixtures::{Step, done, group_text, held_text, refused};
 use log::sink::Discard;
 use serde_json::{Map, Value};
 use std::alloc::{AllocError, Global};
@@ -7,7 +9,6 @@ use std::test::Fail;
 use tests_fixtures::{
     config_of as config_by, document_of, no_word, node_text, pairs_text, policy_of, version_of,
 };
-use tests_group_fixtures::{Step, done, group_text, held_text, refused, store_in};
 use tests_support::{check_rows, fields, printed, refusal, said};
 use zarrs_block::{NodeCreateError, resolve_consolidated_policy};
 use zarrs_config::{
