@@ -30,6 +30,8 @@ pub fn load_passed<F: Folder>(
     ensures ok { IfOk result (λ more. (V : Values) → F.agrees folder.new V
         → IsLoadedFrom (in_any V) (in_any (values_of store.inner)) base.now
         → IsLoadedFrom (in_any V) (in_any (values_of more.inner)) base.now) }
+    ensures keeps { IfOk result (λ more. (V : Values) → F.agrees folder.new V
+        → HasNoOtherKeys (values_of more.inner) (values_of store.inner)) }
     ensures below { IfOk result (λ more. (V : Values) → F.agrees folder.new V
         → HasNoOtherKeys V (values_of store.inner)
         → HoldsBelow V (values_of more.inner) passed.now) }

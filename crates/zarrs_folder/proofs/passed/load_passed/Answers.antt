@@ -28,5 +28,8 @@ loop-path-preserved g c =
 pub returns-clause-ok : goal.returns-clause-ok
 returns-clause-ok g c V agrees loaded = loaded_grows V (values_of c.args.store.inner) (values_of c.loop-path.loaded.inner) c.args.base.now (c.loop-path.invariant.grows V agrees) loaded
 
+pub returns-clause-keeps : goal.returns-clause-keeps
+returns-clause-keeps g c V agrees = (c.loop-path.invariant.grows V agrees).keeps
+
 pub returns-clause-below : goal.returns-clause-below
 returns-clause-below g c V agrees none = subst (HoldsBelow V (values_of c.loop-path.loaded.inner)) (take_all _ c.args.passed.now (omega arith)) (c.loop-path.invariant.below V agrees none)
