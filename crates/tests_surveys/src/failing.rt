@@ -5,6 +5,7 @@
 
 use crate::findings::findings_text;
 use crate::given::store_in;
+use crate::orphans::lost_text;
 use crate::surveys::{check_text, survey_text};
 use log::sink::Discard;
 use std::alloc::{AllocError, Global};
@@ -16,10 +17,10 @@ use zarrs_path::NodePath;
 use zarrs_store::{FaultAt, FaultStore, ListableStorageTraits, ReadableStorageTraits};
 use zarrs_survey::{Check, Survey};
 
-// Groups of both versions one in the other, of which three have a block, a bad document, a bad name and a path without a document. There
-// is a finding of each kind.
+// Groups of both versions one in the other, of which three have a block, a bad name, and a bad document and a path without a document, each
+// with a node below it. There is a finding of each kind.
 const DOCUMENTS: &str =
-    r#"zarr.json {"consolidated_metadata":{"kind":"inline","metadata":{"/a":{"zarr_format":2},"a":{"attributes":{"k":1},"node_type":"group","zarr_format":3},"a//x":{"zarr_format":2},"bad/x":{"zarr_format":2},"old":{"zarr_format":2},"u/x":{"zarr_format":2}},"must_understand":false},"node_type":"group","zarr_format":3};a/zarr.json G3;a/x/zarr.json A3;b/.zgroup G2;b/.zattrs {"k":1};b/.zmetadata {"metadata":{"c/.zgroup":{"zarr_format":2}},"zarr_consolidated_format":1};b/c/.zgroup G2;b/c/.zattrs {"k":2};b/c/x/.zarray A2;b/../zarr.json G3;bad/zarr.json NUL;bad/x/zarr.json G3;d/e G3;e/.zgroup G2;e/.zmetadata NUL"#;
+    r#"zarr.json {"consolidated_metadata":{"kind":"inline","metadata":{"/a":{"zarr_format":2},"a":{"attributes":{"k":1},"node_type":"group","zarr_format":3},"a//x":{"zarr_format":2},"bad/x":{"zarr_format":2},"old":{"zarr_format":2},"u/x":{"zarr_format":2}},"must_understand":false},"node_type":"group","zarr_format":3};a/zarr.json G3;a/x/zarr.json A3;b/.zgroup G2;b/.zattrs {"k":1};b/.zmetadata {"metadata":{".zattrs":{"k":3},".zgroup":{"zarr_format":2},"c/.zgroup":{"zarr_format":2}},"zarr_consolidated_format":1};b/c/.zgroup G2;b/c/.zattrs {"k":2};b/c/x/.zarray A2;b/../zarr.json G3;bad/zarr.json NUL;bad/x/zarr.json G3;d/e G3;d/f/zarr.json G3;e/.zgroup G2;e/.zmetadata NUL"#;
 
 // Its paths, and one at which nothing stands.
 const PATHS: [&str; 11] = [
@@ -36,11 +37,12 @@ enum Call {
     Check,
 }
 
-// A check: what it has of the store, and what it tells of blocks.
+// A check: what it has of the store, what is lost, and what it tells of blocks.
 fn check_data(check: &Check, alloc: Global) -> Result<String, AllocError> {
     let store = check_text(check, alloc)?;
+    let lost = lost_text(check, alloc)?;
     let findings = findings_text(&check.findings, alloc)?;
-    format!(in alloc; "{store}\n{findings}")
+    format!(in alloc; "{store}{lost}\n{findings}")
 }
 
 fn survey_of<S: ReadableStorageTraits + ListableStorageTraits>(
@@ -135,7 +137,7 @@ fn faults_in(alloc: Global, call: Call, base: &str) -> Result<u32, Fail> {
 // A call and its base; at how many of 66 places a fault refuses it.
 const FAULTS: [(Call, &str, u32); 8] = [
     (Call::Survey, "/", 27),
-    (Call::Check, "/", 44),
+    (Call::Check, "/", 46),
     (Call::Survey, "/b", 13),
     (Call::Check, "/b", 17),
     (Call::Survey, "/bad", 4),
@@ -180,6 +182,8 @@ b/../ no name
 ignored /d
 /bad StorageError(InvalidMetadata): error parsing metadata for bad/zarr.json: not JSON
 b/../ no name
+orphan /d 1
+hidden 1
 
 / / Shadowed /a
 / / BadKey a//x
@@ -193,6 +197,7 @@ b/../ no name
 / /old Stale
 / /u/x Unreachable
 / /u/x Stale
+/b /b OwnAttributes
 /b /b/c Differs
 /b /b/c/x Missing
 /e /e BlockFault NotJson: not JSON

@@ -40,6 +40,7 @@ fn kind_text(kind: &FindingKind, alloc: Global) -> Result<String, AllocError> {
         FindingKind::BadKey(key) => format!(in alloc; "BadKey {}", key.as_str()),
         FindingKind::Shadowed(key) => format!(in alloc; "Shadowed {}", key.as_str()),
         FindingKind::OwnKey(key) => format!(in alloc; "OwnKey {}", key.as_str()),
+        FindingKind::OwnAttributes => String::from_str(alloc, "OwnAttributes"),
         FindingKind::Unreachable => String::from_str(alloc, "Unreachable"),
         FindingKind::Stale => String::from_str(alloc, "Stale"),
         FindingKind::Unreached => String::from_str(alloc, "Unreached"),
@@ -148,6 +149,84 @@ zarr.json {"consolidated_metadata":{"kind":"other"},"node_type":"group","zarr_fo
 #[test]
 fn all_blocks_of_a_store_are_checked(rt: HostRuntime) -> Result<(), Fail> {
     check_rows(rt.alloc(), CHECKED, checked_said)
+}
+
+// A store of version 2; what is wrong with its blocks, whose documents have attributes of their own groups.
+const OWN_ATTRIBUTES: &str = r#"
+# the same, in another order of members too
+.zgroup G2;.zmetadata {"metadata":{".zgroup":{"zarr_format":2}},"zarr_consolidated_format":1} =>
+.zgroup G2;.zattrs {"k":1,"l":{"m":[1,2],"n":null}};.zmetadata {"metadata":{".zattrs":{"l":{"n":null,"m":[1,2]},"k":1},".zgroup":{"zarr_format":2}},"zarr_consolidated_format":1} =>
+# another value, another name, one more, one less, none on one side
+.zgroup G2;.zattrs {"k":1};.zmetadata {"metadata":{".zattrs":{"k":2},".zgroup":{"zarr_format":2}},"zarr_consolidated_format":1} => / / OwnAttributes\n
+.zgroup G2;.zattrs {"k":1};.zmetadata {"metadata":{".zattrs":{"l":1},".zgroup":{"zarr_format":2}},"zarr_consolidated_format":1} => / / OwnAttributes\n
+.zgroup G2;.zattrs {"k":1};.zmetadata {"metadata":{".zattrs":{"k":1,"l":1},".zgroup":{"zarr_format":2}},"zarr_consolidated_format":1} => / / OwnAttributes\n
+.zgroup G2;.zattrs {"k":1,"l":1};.zmetadata {"metadata":{".zattrs":{"k":1},".zgroup":{"zarr_format":2}},"zarr_consolidated_format":1} => / / OwnAttributes\n
+.zgroup G2;.zattrs {"k":[1,2]};.zmetadata {"metadata":{".zattrs":{"k":[2,1]},".zgroup":{"zarr_format":2}},"zarr_consolidated_format":1} => / / OwnAttributes\n
+.zgroup G2;.zattrs {"k":1};.zmetadata {"metadata":{".zgroup":{"zarr_format":2}},"zarr_consolidated_format":1} => / / OwnAttributes\n
+.zgroup G2;.zmetadata {"metadata":{".zattrs":{"k":1},".zgroup":{"zarr_format":2}},"zarr_consolidated_format":1} => / / OwnAttributes\n
+# no attributes are the empty ones
+.zgroup G2;.zattrs {};.zmetadata {"metadata":{".zgroup":{"zarr_format":2}},"zarr_consolidated_format":1} =>
+.zgroup G2;.zmetadata {"metadata":{".zattrs":{},".zgroup":{"zarr_format":2}},"zarr_consolidated_format":1} =>
+# within the document of the group, and beside it; other members of that count no more than its own
+.zgroup {"attributes":{"k":1},"zarr_format":2};.zmetadata {"metadata":{".zattrs":{"k":1},".zgroup":{"zarr_format":2}},"zarr_consolidated_format":1} =>
+.zgroup G2;.zattrs {"k":1};.zmetadata {"metadata":{".zattrs":{"k":1},".zgroup":{"attributes":{"k":2},"x":0,"zarr_format":2}},"zarr_consolidated_format":1} =>
+.zgroup G2;.zattrs {"k":1};.zmetadata {"metadata":{".zgroup":{"attributes":{"k":2},"zarr_format":2}},"zarr_consolidated_format":1} => / / OwnAttributes\n
+# the document has no group of its own, or a bad one
+.zgroup G2;.zattrs {"k":1};.zmetadata {"metadata":{},"zarr_consolidated_format":1} =>
+.zgroup G2;.zattrs {"k":1};.zmetadata {"metadata":{".zattrs":{"k":2}},"zarr_consolidated_format":1} =>
+.zgroup G2;.zattrs {"k":1};.zmetadata {"metadata":{".zattrs":{"k":2},".zgroup":5},"zarr_consolidated_format":1} =>
+.zgroup G2;.zattrs {"k":1};.zmetadata {"metadata":{".zattrs":{"k":2},".zgroup":{"zarr_format":3}},"zarr_consolidated_format":1} =>
+.zgroup G2;.zattrs {"k":1};.zmetadata {"metadata":{".zattrs":[],".zgroup":{"zarr_format":2}},"zarr_consolidated_format":1} =>
+.zgroup G2;.zattrs {"k":1};.zmetadata {"metadata":{".zarray":{},".zattrs":{"k":2},".zgroup":{"zarr_format":2}},"zarr_consolidated_format":1} =>
+# it has an array in the place of the group
+.zgroup G2;.zattrs {"k":1};.zmetadata {"metadata":{".zarray":{"chunks":[1],"dtype":"<f8","fill_value":0,"order":"C","shape":[1],"zarr_format":2},".zattrs":{"k":2}},"zarr_consolidated_format":1} => / / OwnAttributes\n
+.zgroup G2;.zattrs {"k":1};.zmetadata {"metadata":{".zarray":{"chunks":[1],"dtype":"<f8","fill_value":0,"order":"C","shape":[1],"zarr_format":2},".zattrs":{"k":1}},"zarr_consolidated_format":1} =>
+# a name with a slash before it is none of the group's own
+.zgroup G2;.zattrs {"k":1};.zmetadata {"metadata":{"a/.zattrs":{"k":2},"a/.zgroup":{"zarr_format":2}},"zarr_consolidated_format":1};a/.zgroup G2;a/.zattrs {"k":2} =>
+# where the block does not read its fault alone is told
+.zgroup G2;.zattrs {"k":1};.zmetadata {"metadata":{".zattrs":{"k":2},".zgroup":{"zarr_format":2}},"zarr_consolidated_format":2} => / / BlockFault BadMember: bad member zarr_consolidated_format\n
+.zgroup G2;.zattrs {"k":1};.zmetadata {"metadata":{".zattrs":{"k":2},".zgroup":{"zarr_format":2},"a/.zgroup":5},"zarr_consolidated_format":1} => / / BlockFault BadMember: bad member metadata\n
+# nested: each block with its own group
+.zgroup G2;.zattrs {"k":1};.zmetadata {"metadata":{".zattrs":{"k":1},".zgroup":{"zarr_format":2},"a/.zattrs":{"k":3},"a/.zgroup":{"zarr_format":2}},"zarr_consolidated_format":1};a/.zgroup G2;a/.zattrs {"k":3};a/.zmetadata {"metadata":{".zattrs":{"k":1},".zgroup":{"zarr_format":2}},"zarr_consolidated_format":1} => /a /a OwnAttributes\n
+.zgroup G2;.zattrs {"k":1};.zmetadata {"metadata":{".zattrs":{"k":3},".zgroup":{"zarr_format":2},"a/.zattrs":{"k":1},"a/.zgroup":{"zarr_format":2}},"zarr_consolidated_format":1};a/.zgroup G2;a/.zattrs {"k":3};a/.zmetadata {"metadata":{".zattrs":{"k":1},".zgroup":{"zarr_format":2}},"zarr_consolidated_format":1} => / / OwnAttributes\n/ /a Differs\n/a /a OwnAttributes\n
+# before entries and nodes, at a base that is not the root too
+.zgroup G2;.zmetadata {"metadata":{".zattrs":{"k":1},".zgroup":{"zarr_format":2},"a/.zgroup":{"zarr_format":2},"b/x/.zgroup":{"zarr_format":2}},"zarr_consolidated_format":1};b/.zgroup G2;b/x/.zgroup G2 => / / OwnAttributes\n/ /a Stale\n/ /b Missing\n/ /b/x Unreachable\n
+.zgroup G2;.zmetadata {"metadata":{"a/.zgroup":{"zarr_format":2}},"zarr_consolidated_format":1};a/.zgroup G2;a/.zmetadata {"metadata":{".zattrs":{"k":1},".zgroup":{"zarr_format":2},"x/.zgroup":{"zarr_format":2}},"zarr_consolidated_format":1} => /a /a OwnAttributes\n/a /a/x Stale\n
+# a group of version 3 is beside no document, and an array has no block
+zarr.json G3;.zgroup G2;.zmetadata {"metadata":{".zattrs":{"k":1},".zgroup":{"zarr_format":2}},"zarr_consolidated_format":1} =>
+zarr.json KB;.zmetadata {"metadata":{".zattrs":{"k":2},".zgroup":{"zarr_format":2}},"zarr_consolidated_format":1} =>
+zarr.json A3;.zmetadata {"metadata":{".zattrs":{"k":2},".zgroup":{"zarr_format":2}},"zarr_consolidated_format":1} =>
+"#;
+
+#[test]
+fn own_attributes_are_those_of_the_group(rt: HostRuntime) -> Result<(), Fail> {
+    check_rows(rt.alloc(), OWN_ATTRIBUTES, checked_said)
+}
+
+// A version 2 group whose block is compared by itself; its document has other attributes, and nothing is told of them.
+fn compared_alone(alloc: Global, documents: &str) -> Result<Option<Vec<Finding>>, NodeCreateError> {
+    let store = store_in(alloc, documents)?;
+    let survey = survey_in(alloc, "/", documents)?;
+    let metadata = metadata_in(alloc, &store, "/", ANY)?;
+    let root = NodePath::root(alloc)?;
+    match read_block(alloc, &store, &root, &metadata)? {
+        Some(Ok(block)) => Ok(compare_block(alloc, &store, &survey, &root, block)?),
+        _ => Ok(None),
+    }
+}
+
+fn compared_alone_said(alloc: Global, given: &str) -> Result<String, AllocError> {
+    said(alloc, compared_alone(alloc, given), compared_text)
+}
+
+// A store; what is wrong with the block of the root, compared by itself.
+const COMPARED_ALONE: &str = r#"
+.zgroup G2;.zattrs {"k":1};.zmetadata {"metadata":{".zattrs":{"k":2},".zgroup":{"zarr_format":2},"a/.zgroup":{"zarr_format":2}},"zarr_consolidated_format":1} => / /a Stale\n
+"#;
+
+#[test]
+fn a_block_alone_has_no_own_attributes(rt: HostRuntime) -> Result<(), Fail> {
+    check_rows(rt.alloc(), COMPARED_ALONE, compared_alone_said)
 }
 
 // What is read as the block of a node.

@@ -76,6 +76,11 @@ any | zarr.json {"attributes":{"k":NaN},"node_type":"group","zarr_format":3} => 
 any | a/.zgroup G2;a/.zattrs {"k":-Infinity} => / MissingMetadata: Metadata is missing for /\n0 nodes\n/a StorageError(InvalidMetadata): error parsing metadata for a/.zattrs: not JSON\n
 any | zarr.json {"attributes":{"k":1e400},"node_type":"group","zarr_format":3} => / StorageError(InvalidMetadata): error parsing metadata for zarr.json: not JSON\n0 nodes\n
 any | zarr.json {"attributes":{"k":.5},"node_type":"group","zarr_format":3} => / StorageError(InvalidMetadata): error parsing metadata for zarr.json: not JSON\n0 nodes\n
+# own attributes of a block: fractions by their bits, and whole numbers apart from them
+any | .zgroup G2;.zattrs {"k":6378140.0};.zmetadata {"metadata":{".zattrs":{"k":6.37814e+06},".zgroup":{"zarr_format":2}},"zarr_consolidated_format":1} => / node\n1 nodes\n
+any | .zgroup G2;.zattrs {"k":0.0};.zmetadata {"metadata":{".zattrs":{"k":-0.0},".zgroup":{"zarr_format":2}},"zarr_consolidated_format":1} => / node\n1 nodes\n/ / OwnAttributes\n
+any | .zgroup G2;.zattrs {"k":1};.zmetadata {"metadata":{".zattrs":{"k":1.0},".zgroup":{"zarr_format":2}},"zarr_consolidated_format":1} => / node\n1 nodes\n/ / OwnAttributes\n
+whole | .zgroup G2;.zattrs {"k":1};.zmetadata {"metadata":{".zattrs":{"k":1.0},".zgroup":{"zarr_format":2}},"zarr_consolidated_format":1} => / node\n1 nodes\n/ / BlockFault UnsupportedNumber: unsupported number\n
 # blocks: one fraction in an entry, beside it in a group, and in what is no entry
 whole | zarr.json {"consolidated_metadata":{"kind":"inline","metadata":{"a":{"attributes":{"k":0.5},"node_type":"group","zarr_format":3}},"must_understand":false},"node_type":"group","zarr_format":3};a/zarr.json {"attributes":{"k":0.5},"node_type":"group","zarr_format":3} => / StorageError(InvalidMetadata): error parsing metadata for zarr.json: unsupported number\n0 nodes\n/a StorageError(InvalidMetadata): error parsing metadata for a/zarr.json: unsupported number\n
 any | zarr.json {"consolidated_metadata":{"kind":"inline","metadata":{"a":{"attributes":{"k":0.5},"node_type":"group","zarr_format":3}},"must_understand":false},"node_type":"group","zarr_format":3};a/zarr.json {"attributes":{"k":0.5},"node_type":"group","zarr_format":3} => / node\n2 nodes\n

@@ -10,6 +10,8 @@ mod fractions;
 #[cfg(test)]
 mod given;
 #[cfg(test)]
+mod orphans;
+#[cfg(test)]
 mod surveys;
 #[cfg(test)]
 mod told;

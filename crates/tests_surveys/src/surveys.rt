@@ -170,4 +170,5 @@ fn the_laws_of_surveys_are_called() {
     laws::groups_are_surveyed();
     laws::good_blocks_agree();
     laws::refreshed_blocks_agree();
+    laws::nothing_is_lost();
 }

@@ -33,14 +33,14 @@ use Rattle.zarrs_node.proofs.Counted.{contains_map, contains_mapped}
 use Rattle.zarrs_node.proofs.Found.{listed_each, all_pairs_first, all_pairs_tail}
 use Rattle.zarrs_node.proofs.Order.{shown_ascend}
 use Rattle.zarrs_node.proofs.Unique.{names_irrefl}
-use Rattle.zarrs_survey.specs.Checks.{block_read, HasBadPath, IsBlockFinding, IsToldOf}
+use Rattle.zarrs_survey.specs.Checks.{block_read, HasBadPath, HasOtherAttributes, IsBlockFinding, IsToldOf}
 use Rattle.zarrs_node.specs.Exists.{HasNodeKey}
-use Rattle.zarrs_survey.specs.Findings.{Pair, HasPath, IsSpoilt, IsPathFinding, IsFinding}
+use Rattle.zarrs_survey.specs.Findings.{Pair, HasPath, IsSpoilt, IsKeyFinding, IsPathFinding, IsFinding}
 use Rattle.zarrs_survey.specs.Laws.{HaveSameNodes, GoodBlocksAgree}
 use Rattle.zarrs_survey.specs.Surveys.{IsSurveyOf}
 use Rattle.zarrs_survey.specs.declared.finding.Finding.{Finding}
 use Rattle.zarrs_survey.specs.declared.finding.FindingKind.{FindingKind}
-use Rattle.zarrs_survey.specs.declared.finding.FindingKind.TheVariants.{BadKey, Unreachable, Stale, Unreached, Differs, Missing}
+use Rattle.zarrs_survey.specs.declared.finding.FindingKind.TheVariants.{BadKey, OwnAttributes, Unreachable, Stale, Unreached, Differs, Missing}
 use Rattle.zarrs_survey.specs.declared.survey.Survey.{Survey}
 use Rattle.zarrs_survey.proofs.Above.{below_or_not, same_or_not}
 use Rattle.zarrs_survey.proofs.Checking.{base_means}
@@ -137,11 +137,13 @@ path_out es p h = contains_map (λ (e : Pair). e.0) es (p, h.0) h.1
 -- ---- nothing is to be told
 
 module _ (s : Contents) (v : MetadataRetrieveVersion) (b : Path) (survey : Survey) (h : IsSurveyOf s v b survey) (sound : survey.bad_documents ≡ []) (m : NodeMetadata) (B : Block)
-    (base : survey.base ≡ Ok m) (read : block_read s b m ≡ Some (Ok B)) (none : (f : Finding) → IsBlockFinding s v b f → f.group ≡ b → ⊥) where
+    (base : survey.base ≡ Ok m) (read : block_read s b m ≡ Some (Ok B)) (none : (f : Finding) → IsBlockFinding s v b f → f.group ≡ b → f.kind ≡ OwnAttributes) where
   -- so nothing of the block is
   untold : (p : Path) (k : FindingKind) → IsFinding B (Nodes s v true b) (HasBadPath s v b) (HasNodeKey s) b (record { group = b; path = p; kind = k }) → ⊥
-  untold p k is = none (record { group = b; path = p; kind = k })
-      (m, inl (refl, (base_means s v b survey h m).0 base), subst (λ r. IsToldOf r (Nodes s v true b) (HasBadPath s v b) (HasNodeKey s) b (record { group = b; path = p; kind = k })) (sym read) is) refl
+  untold p k is =
+      let own = none (record { group = b; path = p; kind = k })
+      (m, inl (refl, (base_means s v b survey h m).0 base), subst (λ r. IsToldOf r (HasOtherAttributes s b m) (Nodes s v true b) (HasBadPath s v b) (HasNodeKey s) b (record { group = b; path = p; kind = k })) (sym read) (inl is)) refl in
+      ⊎_elim (λ key. subst (IsKeyFinding B b p) own key) (λ path. subst (IsPathFinding (Entries B b) (Nodes s v true b) (HasBadPath s v b) (HasNodeKey s) b p) own path) is.1
 
   untold_path : (p : Path) (k : FindingKind) → IsPathFinding (Entries B b) (Nodes s v true b) (HasBadPath s v b) (HasNodeKey s) b p k → ⊥
   untold_path p k is = untold p k (refl, inr is)

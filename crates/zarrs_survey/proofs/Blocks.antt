@@ -1,5 +1,5 @@
--- The findings of a block: those of its keys, and those of its entries beside the nodes.
-use Rattle.std.proofs.Common.{◌≡◌, ◌↔◌, inl, inr, ⊎_elim, ℕ, Bool, true, false, List, [], ◌∷◌, ◌++◌, refl, sym, ap, subst, ◌∙◌, arith, Contains, Option, Some, None, is_some, true≢false}
+-- The findings of a block: those of its keys, that of its own attributes, and those of its entries beside the nodes.
+use Rattle.std.proofs.Common.{◌≡◌, ◌↔◌, inl, inr, ⊎_elim, ℕ, Bool, true, false, List, [], ◌∷◌, ◌++◌, refl, sym, ap, subst, ◌∙◌, arith, AllPairs, Contains, IsTrue, Option, Some, None, Ok, is_some, true≢false}
 use Rattle.std.specs.List.{list_all}
 use Rattle.std.specs.Prelude.{IsSome}
 use Rattle.std.proofs.lemmas.List.Elements.{Contains-append_left, Contains-append_right, Contains-append_cases}
@@ -14,11 +14,13 @@ use Rattle.zarrs_node.proofs.Found.{listed_each, all_pairs_append}
 use Rattle.zarrs_node.proofs.Graft.{Contains-first, Contains-cons}
 use Rattle.zarrs_node.proofs.Keeps.{below_later}
 use Rattle.zarrs_node.proofs.Order.{contains_cases}
-use Rattle.zarrs_survey.specs.Findings.{Pair, HasPath, IsCutOff, IsSpoilt, IsPathFinding, IsKeyFinding, IsFinding, AreFindings, Precedes}
-use Rattle.zarrs_survey.specs.StepsOfComparing.{ArePathFindings, IsBadAmong, IsRidOf, key_findings}
+use Rattle.zarrs_survey.specs.Checks.{own_finding}
+use Rattle.zarrs_survey.specs.Findings.{Pair, HasPath, IsCutOff, IsSpoilt, IsPathFinding, IsKeyFinding, IsFinding, Precedes, rank_of}
+use Rattle.zarrs_survey.specs.StepsOfChecks.{AreTold}
+use Rattle.zarrs_survey.specs.StepsOfComparing.{ArePathFindings, IsBadAmong, IsRidOf, findings_at, key_findings, own_findings, own_kind}
 use Rattle.zarrs_survey.specs.declared.finding.Finding.{Finding}
 use Rattle.zarrs_survey.specs.declared.finding.FindingKind.{FindingKind}
-use Rattle.zarrs_survey.specs.declared.finding.FindingKind.TheVariants.{BlockFault, BadKey, Shadowed, OwnKey, Unreachable, Stale, Unreached, Differs, Missing}
+use Rattle.zarrs_survey.specs.declared.finding.FindingKind.TheVariants.{BlockFault, BadKey, Shadowed, OwnKey, OwnAttributes, Unreachable, Stale, Unreached, Differs, Missing}
 use Rattle.zarrs_survey.proofs.KeyFindings.{names_valid, keys_exact, told_ascend}
 
 -- ---- the block without its bad keys
@@ -120,12 +122,30 @@ module _ (E E' N N' : Pair → Type 0) (F F' D : Path → Type 0) (g : Path) (lo
   finding_same p (BadKey t) h = absurd h
   finding_same p (Shadowed t) h = absurd h
   finding_same p (OwnKey t) h = absurd h
+  finding_same p OwnAttributes h = absurd h
 
 -- and so do those of keys and paths together: on the nodes below the group
 pub findings_same : (B : Block) (N N' : Pair → Type 0) (F F' D : Path → Type 0) (g : Path) → ((d : Pair) → IsBelow g d.0 → N d ↔ N' d) → ((q : Path) → F q ↔ F' q) → (x : Finding) → IsFinding B N F D g x → IsFinding B N' F' D g x
 findings_same B N N' F F' D g n f x h = (h.0, ⊎_elim inl (λ p. inr (finding_same (Entries B g) (Entries B g) N N' F F' D g (λ d is. (is.0, is.1, is.3)) (λ d. (λ y. y, λ y. y)) n f x.path x.kind p)) h.1)
 
--- ---- both lists in a row
+-- ---- own attributes
+
+module _ (g : Path) where
+  -- they are told where the document has others
+  own_in : (other : Bool) (f : Finding) → Contains (findings_at g g (own_kind other)) f → IsTrue other × (f ≡ own_finding g)
+  own_in false f in' = absurd (omega (arith, in'.1))
+  own_in true f in' = ⊎_elim (λ same. (refl, sym same)) (λ none. absurd (omega (arith, none.1))) (contains_cases (own_finding g) [] f in')
+
+  own_out : (other : Bool) (f : Finding) → IsTrue other × (f ≡ own_finding g) → Contains (findings_at g g (own_kind other)) f
+  own_out false f w = absurd (true≢false (sym w.0))
+  own_out true f w = subst (Contains (own_finding g ∷ [])) (sym w.1) (Contains-first (own_finding g) [])
+
+  -- and once
+  own_alone : (other : Bool) → AllPairs Precedes (findings_at g g (own_kind other))
+  own_alone false = λ i j d l m. absurd (omega (arith, m))
+  own_alone true = λ i j d l m. absurd (omega (arith, l, m))
+
+-- ---- all lists in a row
 
 module _ (g : Path) (B : Block) (h under : List Pair) (each_below : (d : Pair) → Contains under d ↔ (Contains h d × IsBelow g d.0)) (F D : Path → Type 0) (es : List Pair) (others : List Finding) (up : IsAscending B) (each : (d : Pair) → Contains es d ↔ Entries B g d)
     (are : ArePathFindings (Contains es) (Contains under) F D g others) where
@@ -157,34 +177,55 @@ module _ (g : Path) (B : Block) (h under : List Pair) (each_below : (d : Pair) �
   path_below p (BadKey t) w = absurd w
   path_below p (Shadowed t) w = absurd w
   path_below p (OwnKey t) w = absurd w
+  path_below p OwnAttributes w = absurd w
 
-  -- both lists in a row are the findings of the block
-  pub found_all : (keys whole : List Finding) → keys ≡ key_findings g B B → whole ≡ keys ++ others → AreFindings B (Contains h) F D g whole
-  found_all keys whole is all = subst (AreFindings B (Contains h) F D g) (sym (all ∙ ap (λ x. x ++ others) is)) (record {
-    exact = λ f. (
-      λ in'. ⊎_elim
-          (λ first. let w = (keys_exact g B up f).0 first in (w.0, inl w.1))
-          (λ second. let w = (path_exact f).0 second in (w.0, inr w.1))
-          (Contains-append_cases (key_findings g B B) others f in'),
-      λ w. ⊎_elim
-          (λ key. Contains-append_left (key_findings g B B) others f ((keys_exact g B up f).1 (w.0, key)))
-          (λ path. Contains-append_right (key_findings g B B) others f ((path_exact f).1 (w.0, path)))
-          w.1,
-    );
-    ascend = all_pairs_append Precedes (key_findings g B B) others (told_ascend g B B up) are.ascend
-        (λ x y first second.
-        let key = (keys_exact g B up x).0 first in
-        let path = (path_exact y).0 second in
-        inl (ap (λ p. path_cmp p y.path) (at_group x.path x.kind key.1) ∙ below_later g y.path (path_below y.path y.kind path.1)));
-  })
-    where
-      at_group : (p : Path) (k : FindingKind) → IsKeyFinding B g p k → p ≡ g
-      at_group p (BadKey t) w = w.0
-      at_group p (Shadowed t) w = w.0
-      at_group p (OwnKey t) w = w.0
-      at_group p (BlockFault fault) w = absurd w
-      at_group p Unreachable w = absurd w
-      at_group p Stale w = absurd w
-      at_group p Unreached w = absurd w
-      at_group p Differs w = absurd w
-      at_group p Missing w = absurd w
+  -- a finding of a key is told of the group, before all others
+  at_group : (p : Path) (k : FindingKind) → IsKeyFinding B g p k → (p ≡ g) × (rank_of k ≡ 0)
+  at_group p (BadKey t) w = (w.0, refl)
+  at_group p (Shadowed t) w = (w.0, refl)
+  at_group p (OwnKey t) w = (w.0, refl)
+  at_group p (BlockFault fault) w = absurd w
+  at_group p OwnAttributes w = absurd w
+  at_group p Unreachable w = absurd w
+  at_group p Stale w = absurd w
+  at_group p Unreached w = absurd w
+  at_group p Differs w = absurd w
+  at_group p Missing w = absurd w
+
+  module _ (other : Bool) where
+    -- both lists of what is told of the block itself are told of the group
+    of_group : (f : Finding) → Contains (own_findings g B other) f → f.path ≡ g
+    of_group f in' = ⊎_elim
+        (λ key. (at_group f.path f.kind ((keys_exact g B up f).0 key).1).0)
+        (λ own. ap (λ x. x.path) (own_in g other f own).1)
+        (Contains-append_cases (key_findings g B B) (findings_at g g (own_kind other)) f in')
+
+    -- what is told of keys, of own attributes and of paths in a row is what there is to tell of the block
+    pub found_all : (of_block whole : List Finding) → of_block ≡ own_findings g B other → whole ≡ of_block ++ others → AreTold (Ok (B, other)) (Contains h) F D g whole
+    found_all of_block whole is all = subst (AreTold (Ok (B, other)) (Contains h) F D g) (sym (all ∙ ap (λ x. x ++ others) is)) (record {
+      exact = λ f. (
+        λ in'. ⊎_elim
+            (λ first. ⊎_elim
+            (λ key. let w = (keys_exact g B up f).0 key in inl (w.0, inl w.1))
+            (λ own. inr (own_in g other f own))
+            (Contains-append_cases (key_findings g B B) (findings_at g g (own_kind other)) f first))
+            (λ second. let w = (path_exact f).0 second in inl (w.0, inr w.1))
+            (Contains-append_cases (own_findings g B other) others f in'),
+        ⊎_elim
+            (λ w. ⊎_elim
+            (λ key. Contains-append_left (own_findings g B other) others f (Contains-append_left (key_findings g B B) (findings_at g g (own_kind other)) f ((keys_exact g B up f).1 (w.0, key))))
+            (λ path. Contains-append_right (own_findings g B other) others f ((path_exact f).1 (w.0, path)))
+            w.1)
+            (λ own. Contains-append_left (own_findings g B other) others f (Contains-append_right (key_findings g B B) (findings_at g g (own_kind other)) f (own_out g other f own))),
+      );
+      ascend = all_pairs_append Precedes (own_findings g B other) others
+          (all_pairs_append Precedes (key_findings g B B) (findings_at g g (own_kind other)) (told_ascend g B B up) (own_alone g other)
+          (λ x y key own.
+          let w = at_group x.path x.kind ((keys_exact g B up x).0 key).1 in
+          let rank = w.1 in
+          subst (Precedes x) (sym (own_in g other y own).1) (inr (w.0, inl (omega (arith, rank))))))
+          are.ascend
+          (λ x y first second.
+          let path = (path_exact y).0 second in
+          inl (ap (λ p. path_cmp p y.path) (of_group x first) ∙ below_later g y.path (path_below y.path y.kind path.1)));
+    })

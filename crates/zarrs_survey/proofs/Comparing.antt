@@ -14,7 +14,7 @@ use Rattle.zarrs_node.proofs.Graft.{Contains-first}
 use Rattle.zarrs_node.proofs.Order.{contains_cases}
 use Rattle.zarrs_survey.specs.declared.finding.Finding.{Finding}
 use Rattle.zarrs_survey.specs.declared.finding.FindingKind.{FindingKind}
-use Rattle.zarrs_survey.specs.declared.finding.FindingKind.TheVariants.{BlockFault, BadKey, Shadowed, OwnKey, Unreachable, Stale, Unreached, Differs, Missing}
+use Rattle.zarrs_survey.specs.declared.finding.FindingKind.TheVariants.{BlockFault, BadKey, Shadowed, OwnKey, OwnAttributes, Unreachable, Stale, Unreached, Differs, Missing}
 use Rattle.zarrs_survey.specs.Findings.{Pair, HasPath, IsCutOff, IsPathFinding, Precedes, rank_of}
 use Rattle.zarrs_survey.specs.StepsOfComparing.{ArePathFindings, HangsFrom, IsBeforeFirst, IsPairKind, cut_kind, findings_at}
 use Rattle.zarrs_survey.specs.StepsOfMerging.{IsLeft, IsToldUpTo, IsBeforeAll, IsLastGroup, IsReachable, IsToTell, HoldsUpTo}
@@ -41,6 +41,7 @@ is_somewhere E N b p (BlockFault fault) h = absurd h
 is_somewhere E N b p (BadKey t) h = absurd h
 is_somewhere E N b p (Shadowed t) h = absurd h
 is_somewhere E N b p (OwnKey t) h = absurd h
+is_somewhere E N b p OwnAttributes h = absurd h
 
 -- findings of one group, up to those that are left
 abbrev pub IsToldTo : (Pair → Type 0) → (Pair → Type 0) → Path → List Pair → List Pair → List Finding → Type 0
@@ -87,13 +88,13 @@ cut_is true k e = cc
 module _ (E N : Pair → Type 0) (b : Path) where
   -- the other kind of the path, which stands behind that, if there is one
   pub record IsOther (p : Path) (other : Option FindingKind) : Type 0 where
-    pub sound : (k : FindingKind) → other ≡ Some k → IsPlain E N b p k × (rank_of k ≡ 2)
+    pub sound : (k : FindingKind) → other ≡ Some k → IsPlain E N b p k × (rank_of k ≡ 3)
     pub complete : (k : FindingKind) → IsPlain E N b p k → (k ≡ Unreachable) ⊎ (other ≡ Some k)
 
   -- of an entry without a node
   other_stale : (p : Path) → HasPath E p → (HasPath N p → ⊥) → IsOther p (Some Stale)
   other_stale p e no_n = record {
-    sound = λ k is. subst (λ x. IsPlain E N b p x × (rank_of x ≡ 2)) (ap (λ o. unwrap_or o k) is) ((e, no_n, λ h. h.1, λ h. h), refl);
+    sound = λ k is. subst (λ x. IsPlain E N b p x × (rank_of x ≡ 3)) (ap (λ o. unwrap_or o k) is) ((e, no_n, λ h. h.1, λ h. h), refl);
     complete = all;
   }
     where
@@ -107,6 +108,7 @@ module _ (E N : Pair → Type 0) (b : Path) where
       all (BadKey t) h = absurd h
       all (Shadowed t) h = absurd h
       all (OwnKey t) h = absurd h
+      all OwnAttributes h = absurd h
 
   -- of an entry and a node, each with one value
   other_pair : (p : Path) (m n : NodeMetadata) → E (p, m) → N (p, n) → ((l : NodeMetadata) → E (p, l) → m ≡ l) → ((l : NodeMetadata) → N (p, l) → n ≡ l) → (kind : Option FindingKind) → IsPairKind m n kind → IsOther p kind
@@ -122,8 +124,9 @@ module _ (E N : Pair → Type 0) (b : Path) where
       all (BadKey t) h = absurd h
       all (Shadowed t) h = absurd h
       all (OwnKey t) h = absurd h
+      all OwnAttributes h = absurd h
   other_pair p m n e has only_e only_n (Some j) is = record {
-    sound = λ k same. subst (λ x. IsPlain E N b p x × (rank_of x ≡ 2)) (sym is.0 ∙ ap (λ o. unwrap_or o k) same) ((m, n, e, has, is.1), refl);
+    sound = λ k same. subst (λ x. IsPlain E N b p x × (rank_of x ≡ 3)) (sym is.0 ∙ ap (λ o. unwrap_or o k) same) ((m, n, e, has, is.1), refl);
     complete = λ k h. ⊎_elim inl (λ differs. inr (ap (λ x. Some x) (is.0 ∙ sym differs))) (all k h);
   }
     where
@@ -137,6 +140,7 @@ module _ (E N : Pair → Type 0) (b : Path) where
       all (BadKey t) h = absurd h
       all (Shadowed t) h = absurd h
       all (OwnKey t) h = absurd h
+      all OwnAttributes h = absurd h
 
   -- of a node without an entry
   only_missing : (p : Path) (k : FindingKind) → (HasPath E p → ⊥) → IsPlain E N b p k → k ≡ Missing
@@ -149,6 +153,7 @@ module _ (E N : Pair → Type 0) (b : Path) where
   only_missing p (BadKey t) no_e h = absurd h
   only_missing p (Shadowed t) no_e h = absurd h
   only_missing p (OwnKey t) no_e h = absurd h
+  only_missing p OwnAttributes no_e h = absurd h
 
   -- the pairs of E are below b, and whether it has a group at a path is known
   module _ (low : (e : Pair) → E e → IsBelow b e.0) (decide : (q : Path) → HasGroup E q ⊎ (HasGroup E q → ⊥)) where
@@ -199,8 +204,8 @@ module _ (E N : Pair → Type 0) (b : Path) where
           (λ x y first second.
           let u = at_in b e.0 (cut_kind reached) x first in
           let w = at_in b e.0 other y second in
-          let rank_x : rank_of u.0 ≡ 1 = ap rank_of (cut_is reached u.0 u.1).1 in
-          let rank_y : rank_of w.0 ≡ 2 = (is.sound w.0 w.1).1 in
+          let rank_x : rank_of u.0 ≡ 2 = ap rank_of (cut_is reached u.0 u.1).1 in
+          let rank_y : rank_of w.0 ≡ 3 = (is.sound w.0 w.1).1 in
           subst (λ z. Precedes z y) (sym u.2) (subst (Precedes (finding b e.0 u.0)) (sym w.2) (inr (refl, inl (omega (arith, rank_x, rank_y)))))))
           (λ f in'. ⊎_elim
           (λ first.

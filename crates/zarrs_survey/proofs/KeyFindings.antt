@@ -23,7 +23,7 @@ use Rattle.zarrs_survey.specs.Findings.{IsKeyFinding, key_of, rank_of, Precedes}
 use Rattle.zarrs_survey.specs.StepsOfComparing.{findings_at, key_kind, key_findings}
 use Rattle.zarrs_survey.specs.declared.finding.Finding.{Finding}
 use Rattle.zarrs_survey.specs.declared.finding.FindingKind.{FindingKind}
-use Rattle.zarrs_survey.specs.declared.finding.FindingKind.TheVariants.{BlockFault, BadKey, Shadowed, OwnKey, Unreachable, Stale, Unreached, Differs, Missing}
+use Rattle.zarrs_survey.specs.declared.finding.FindingKind.TheVariants.{BlockFault, BadKey, Shadowed, OwnKey, OwnAttributes, Unreachable, Stale, Unreached, Differs, Missing}
 
 -- a key is valid where its relative names are names
 pub names_valid : (t : List ℕ) → IsValidKey t ↔ IsPath (relative_names t)
@@ -92,6 +92,7 @@ module _ (g : Path) (B : Block) where
   finding_kind p (Shadowed t) h = (h.0, h.1.4, rw (other_key t h.1.0 h.1.1 h.1.2, (names_valid t).0 h.1.3, covered_of B t h.1.0 h.1.1 h.1.5) refl)
   finding_kind p (OwnKey t) h = (h.0, h.1.1, rw (own_of t h.1.0) refl)
   finding_kind p (BlockFault fault) h = absurd h
+  finding_kind p OwnAttributes h = absurd h
   finding_kind p Unreachable h = absurd h
   finding_kind p Stale h = absurd h
   finding_kind p Unreached h = absurd h

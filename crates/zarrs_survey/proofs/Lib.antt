@@ -2,6 +2,9 @@ pub mod Above
 pub mod Agreeing
 pub mod Blocks
 pub mod Checking
+pub mod Counting
+pub mod SomeCount
+pub mod NothingLost
 pub mod Comparing
 pub mod Halving
 pub mod KeyFindings
@@ -9,6 +12,7 @@ pub mod LastGroup
 pub mod LawProofs
 pub mod Merging
 pub mod NodeRuns
+pub mod OwnAttributes
 pub mod Places
 pub mod Reading
 pub mod Refreshing

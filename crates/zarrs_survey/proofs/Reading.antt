@@ -1,12 +1,12 @@
 -- What is read as the block of a node.
-use Rattle.std.proofs.Common.{◌≡◌, Option, Some, Result, Ok, Err, refl, sym, ap, ◌∙◌}
+use Rattle.std.proofs.Common.{◌≡◌, Option, Some, Result, Ok, Err, sym, ap, ◌∙◌}
 use Rattle.zarrs_fault.specs.declared.fault.MetadataFault.{MetadataFault}
 use Rattle.zarrs_fault.specs.declared.fault.MetadataFault.TheVariants.{NotJson, UnsupportedNumber, NotAnObject, WrongFormat, WrongNodeType, MissingMember, BadMember, OutOfMemory}
 use Rattle.zarrs_form.specs.Documents.{Gives}
 use Rattle.zarrs_block.specs.Block.{Block}
 use Rattle.zarrs_block.specs.declared.consolidated.ConsolidatedMetadata.{ConsolidatedMetadata}
 use Rattle.zarrs_survey.specs.Checks.{as_read}
-use Rattle.zarrs_survey.specs.StepsOfChecks.{IsKnownOf, shown_block}
+use Rattle.zarrs_survey.specs.StepsOfChecks.{IsKnownOf}
 
 -- what is read and known is what the reading gives
 pub known_read : (r : Result ConsolidatedMetadata MetadataFault) (k : Option (Result ConsolidatedMetadata MetadataFault)) (reading : Result Block MetadataFault) → IsKnownOf r k → Gives (λ b. b.metadata) r reading → as_read k ≡ Some reading
@@ -19,8 +19,3 @@ known_read (Err WrongNodeType) k reading h g = ap as_read h.0 ∙ ap (λ x. Some
 known_read (Err (MissingMember name)) k reading h g = ap as_read h.0 ∙ ap (λ x. Some x) (sym g)
 known_read (Err (BadMember name)) k reading h g = ap as_read h.0 ∙ ap (λ x. Some x) (sym g)
 known_read (Err OutOfMemory) k reading h g = absurd h.1
-
--- what was read is seen as it is shown
-pub read_shown : (r : Result ConsolidatedMetadata MetadataFault) → as_read (Some r) ≡ Some (shown_block r)
-read_shown (Ok block) = refl
-read_shown (Err fault) = refl

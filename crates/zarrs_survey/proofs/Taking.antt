@@ -5,7 +5,6 @@ use Rattle.std.proofs.lemmas.Bool.Decides.{eqb_tells}
 use Rattle.std.proofs.lemmas.List.{length_push, length-append, get_or_push, get_or_append_left}
 use Rattle.std.proofs.lemmas.List.Elements.{Contains-append_left, Contains-append_right, Contains-append_cases, Contains-push, Contains-push_cases, Contains-get_or}
 use Rattle.std.proofs.lemmas.List.Quantifiers.{all_pairs_push}
-use Rattle.zarrs_fault.specs.declared.fault.MetadataFault.{MetadataFault}
 use Rattle.zarrs_store.specs.Contents.{Contents}
 use Rattle.zarrs_store.specs.Faults.{IsStoreError}
 use Rattle.zarrs_path.specs.Paths.{Path, path_cmp, IsBelow}
@@ -27,10 +26,10 @@ use Rattle.zarrs_node.proofs.Graft.{Contains-first, Contains-cons}
 use Rattle.zarrs_node.proofs.Keeps.{all_pairs_across, below_later, between_below, not_below_itself}
 use Rattle.zarrs_node.proofs.Order.{contains_cases, shown_ascend}
 use Rattle.zarrs_node.proofs.Unique.{names_irrefl}
-use Rattle.zarrs_survey.specs.Checks.{block_read, fault_of_block, HasNode, IsBaseOutcome, IsCount}
+use Rattle.zarrs_survey.specs.Checks.{fault_of_block, HasNode, IsBaseOutcome, IsCount}
 use Rattle.zarrs_survey.specs.Findings.{Pair}
-use Rattle.zarrs_survey.specs.StepsOfChecks.{ReadBlock, GroupsAscend}
-use Rattle.zarrs_survey.specs.StepsOfComparing.{AreBelow, key_findings}
+use Rattle.zarrs_survey.specs.StepsOfChecks.{BlockOrFault, ReadBlock, GroupsAscend, block_with_own}
+use Rattle.zarrs_survey.specs.StepsOfComparing.{AreBelow, own_findings}
 use Rattle.zarrs_survey.specs.StepsOfMerging.{HoldsUpTo}
 use Rattle.zarrs_survey.specs.StepsOfComparisons.{NoneBad, NoDocument, IsUnderWay, IsStart, IsOnly, IsNext, IsNextBelow, IsNextOf}
 use Rattle.zarrs_survey.specs.StepsOfTaking.{AreCompared, IsAboveAt, IsBegun, IsNew, MayPutBlock, PlacesAscend, Takes, TakesNode, named_block, blocks_of, places_after, base_nodes, base_fault}
@@ -44,17 +43,17 @@ use Rattle.zarrs_survey.proofs.Places.{in_or_not}
 
 -- the node at a path has what was read as its block
 abbrev pub HasBlock : Contents → List Pair → ReadBlock → Type 0
-HasBlock s es b = (m : NodeMetadata) × Contains es (b.0, m) × (block_read s b.0 m ≡ Some b.1)
+HasBlock s es b = (m : NodeMetadata) × Contains es (b.0, m) × (block_with_own s b.0 m ≡ Some b.1)
 
 -- what was read of one node stands with its path
-at_path : (p : Path) (o : Option (Result Block MetadataFault)) (b : ReadBlock) → Contains (named_block p o) b → (p ≡ b.0) × (o ≡ Some b.1)
+at_path : (p : Path) (o : Option BlockOrFault) (b : ReadBlock) → Contains (named_block p o) b → (p ≡ b.0) × (o ≡ Some b.1)
 at_path p None b h = absurd (omega (arith, h.1))
 at_path p (Some r) b h = ⊎_elim
     (λ same. (ap (λ x. x.0) same, ap (λ x. Some x.1) same))
     (λ none. absurd (omega (arith, none.1)))
     (contains_cases (p, r) [] b h)
 
-path_at : (p : Path) (o : Option (Result Block MetadataFault)) (r : Result Block MetadataFault) → o ≡ Some r → Contains (named_block p o) (p, r)
+path_at : (p : Path) (o : Option BlockOrFault) (r : BlockOrFault) → o ≡ Some r → Contains (named_block p o) (p, r)
 path_at p o r is = subst (λ x. Contains (named_block p x) (p, r)) (sym is) (Contains-first (p, r) [])
 
 -- the blocks of nodes are those that their nodes have
@@ -62,46 +61,46 @@ block_in : (s : Contents) (es : List Pair) (b : ReadBlock) → Contains (blocks_
 block_in s [] b h = absurd (omega (arith, h.1))
 block_in s (e ∷ es) b h = ⊎_elim
     (λ here.
-    let w = at_path e.0 (block_read s e.0 e.1) b here in
-    (e.1, subst (λ p. Contains (e ∷ es) (p, e.1)) w.0 (Contains-first e es), subst (λ p. block_read s p e.1 ≡ Some b.1) w.0 w.1))
+    let w = at_path e.0 (block_with_own s e.0 e.1) b here in
+    (e.1, subst (λ p. Contains (e ∷ es) (p, e.1)) w.0 (Contains-first e es), subst (λ p. block_with_own s p e.1 ≡ Some b.1) w.0 w.1))
     (λ later. let w = block_in s es b later in (w.0, Contains-cons e es (b.0, w.0) w.1, w.2))
-    (Contains-append_cases (named_block e.0 (block_read s e.0 e.1)) (blocks_of s es) b h)
+    (Contains-append_cases (named_block e.0 (block_with_own s e.0 e.1)) (blocks_of s es) b h)
 
 in_blocks : (s : Contents) (es : List Pair) (b : ReadBlock) → HasBlock s es b → Contains (blocks_of s es) b
 in_blocks s [] b h = absurd (omega (arith, h.1.1))
 in_blocks s (e ∷ es) b h = ⊎_elim
     (λ same.
     let at : e.0 ≡ b.0 = ap (λ (x : Pair). x.0) same in
-    let is : block_read s e.0 e.1 ≡ Some b.1 = ap (λ (x : Pair). block_read s x.0 x.1) same ∙ h.2 in
-    Contains-append_left (named_block e.0 (block_read s e.0 e.1)) (blocks_of s es) b (subst (λ p. Contains (named_block e.0 (block_read s e.0 e.1)) (p, b.1)) at (path_at e.0 (block_read s e.0 e.1) b.1 is)))
-    (λ later. Contains-append_right (named_block e.0 (block_read s e.0 e.1)) (blocks_of s es) b (in_blocks s es b (h.0, later, h.2)))
+    let is : block_with_own s e.0 e.1 ≡ Some b.1 = ap (λ (x : Pair). block_with_own s x.0 x.1) same ∙ h.2 in
+    Contains-append_left (named_block e.0 (block_with_own s e.0 e.1)) (blocks_of s es) b (subst (λ p. Contains (named_block e.0 (block_with_own s e.0 e.1)) (p, b.1)) at (path_at e.0 (block_with_own s e.0 e.1) b.1 is)))
+    (λ later. Contains-append_right (named_block e.0 (block_with_own s e.0 e.1)) (blocks_of s es) b (in_blocks s es b (h.0, later, h.2)))
     (contains_cases e es (b.0, h.0) h.1)
 
 pub each_block : (s : Contents) (es : List Pair) (b : ReadBlock) → Contains (blocks_of s es) b ↔ HasBlock s es b
 each_block s es b = (block_in s es b, in_blocks s es b)
 
 -- of one node at most one
-one_block : (p : Path) (o : Option (Result Block MetadataFault)) → GroupsAscend (named_block p o)
+one_block : (p : Path) (o : Option BlockOrFault) → GroupsAscend (named_block p o)
 one_block p None = λ i j d l m. absurd (omega (arith, m))
 one_block p (Some r) = λ i j d l m. absurd (omega (arith, l, m))
 
 -- they ascend as the nodes do
 pub blocks_ascend : (s : Contents) (es : List Pair) → Ascend es → GroupsAscend (blocks_of s es)
 blocks_ascend s [] up = λ i j d l m. absurd (omega (arith, m))
-blocks_ascend s (e ∷ es) up = all_pairs_append (λ (b c : ReadBlock). path_cmp b.0 c.0 ≡ Less) (named_block e.0 (block_read s e.0 e.1)) (blocks_of s es)
-    (one_block e.0 (block_read s e.0 e.1))
+blocks_ascend s (e ∷ es) up = all_pairs_append (λ (b c : ReadBlock). path_cmp b.0 c.0 ≡ Less) (named_block e.0 (block_with_own s e.0 e.1)) (blocks_of s es)
+    (one_block e.0 (block_with_own s e.0 e.1))
     (blocks_ascend s es (all_pairs_tail (λ (d x : Pair). path_cmp d.0 x.0 ≡ Less) e es up))
     (λ b c first second.
-    let at = (at_path e.0 (block_read s e.0 e.1) b first).0 in
+    let at = (at_path e.0 (block_with_own s e.0 e.1) b first).0 in
     let w = block_in s es c second in
     subst (λ p. path_cmp p c.0 ≡ Less) at (all_pairs_first (λ (d x : Pair). path_cmp d.0 x.0 ≡ Less) e es up (c.0, w.0) w.1))
 
 -- those of one node more come last
-blocks_more : (s : Contents) (es : List Pair) (e : Pair) → blocks_of s (es ++ e ∷ []) ≡ blocks_of s es ++ named_block e.0 (block_read s e.0 e.1)
-blocks_more s [] e = append-nil (named_block e.0 (block_read s e.0 e.1))
+blocks_more : (s : Contents) (es : List Pair) (e : Pair) → blocks_of s (es ++ e ∷ []) ≡ blocks_of s es ++ named_block e.0 (block_with_own s e.0 e.1)
+blocks_more s [] e = append-nil (named_block e.0 (block_with_own s e.0 e.1))
 blocks_more s (d ∷ es) e =
-    ap (λ x. named_block d.0 (block_read s d.0 d.1) ++ x) (blocks_more s es e)
-    ∙ sym (append_assoc (named_block d.0 (block_read s d.0 d.1)) (blocks_of s es) (named_block e.0 (block_read s e.0 e.1)))
+    ap (λ x. named_block d.0 (block_with_own s d.0 d.1) ++ x) (blocks_more s es e)
+    ∙ sym (append_assoc (named_block d.0 (block_with_own s d.0 d.1)) (blocks_of s es) (named_block e.0 (block_with_own s e.0 e.1)))
 
 -- ---- one node after another
 
@@ -110,14 +109,14 @@ abbrev IsBehind : List Pair → Path → Type 0
 IsBehind es x = (d : Pair) → Contains es d → path_cmp d.0 x ≡ Less
 
 -- a block reads
-abbrev Reads : Result Block MetadataFault → Type 0
-Reads (Ok B) = Unit {0}
+abbrev Reads : BlockOrFault → Type 0
+Reads (Ok w) = Unit {0}
 Reads (Err fault) = ⊥
 
--- the block B of g was compared with those of the nodes that are below it
-pub record HasCompared (done : List Pair) (g : Path) (B : Block) (c : Comparison) : Type 0 where
+-- the block B of g, whose document has other attributes of g or has not, was compared with those of the nodes that are below it
+pub record HasCompared (done : List Pair) (g : Path) (B : Block) (other : Bool) (c : Comparison) : Type 0 where
   pub group : c.group ≡ g
-  pub of_block : c.of_block.items ≡ key_findings g B B
+  pub of_block : c.of_block.items ≡ own_findings g B other
   pub ascending : IsAscending B
   pub all : List Pair
   pub entries : (d : Pair) → Contains all d ↔ Entries B g d
@@ -128,18 +127,18 @@ pub record HasCompared (done : List Pair) (g : Path) (B : Block) (c : Comparison
 
 -- and so was what was read as a block; of one that does not read there is its fault alone to tell
 abbrev pub IsAt : List Pair → ReadBlock → Comparison → Type 0
-IsAt done (g, Ok B) c = HasCompared done g B c
+IsAt done (g, Ok w) c = HasCompared done g w.0 w.1 c
 IsAt done (g, Err fault) c = IsOnly (fault_of_block g fault) c
 
 -- what hangs on a block that reads
-reads_of : (done : List Pair) (b : ReadBlock) (c : Comparison) → Reads b.1 → IsAt done b c → (B : Block) × (b.1 ≡ Ok B) × HasCompared done b.0 B c
-reads_of done (g, Ok B) c reads at = (B, refl, at)
+reads_of : (done : List Pair) (b : ReadBlock) (c : Comparison) → Reads b.1 → IsAt done b c → (w : Block × Bool) × (b.1 ≡ Ok w) × HasCompared done b.0 w.0 w.1 c
+reads_of done (g, Ok w) c reads at = (w, refl, at)
 reads_of done (g, Err fault) c reads at = absurd reads
 
 module _ (done : List Pair) (e : Pair) (g : Path) where
-  module _ (B : Block) (c : Comparison) (h : HasCompared done g B c) where
+  module _ (B : Block) (other : Bool) (c : Comparison) (h : HasCompared done g B other c) where
     -- after a node below the group it was compared with that too
-    compared_next : (c' : Comparison) → IsBelow g e.0 → IsNext c e c' → HasCompared (done ++ e ∷ []) g B c'
+    compared_next : (c' : Comparison) → IsBelow g e.0 → IsNext c e c' → HasCompared (done ++ e ∷ []) g B other c'
     compared_next c' low next = record {
       group = next.one.group ∙ h.group;
       of_block = next.one.of_block ∙ h.of_block;
@@ -169,7 +168,7 @@ module _ (done : List Pair) (e : Pair) (g : Path) where
     }
 
     -- another node changes nothing
-    compared_same : (IsBelow g e.0 → ⊥) → HasCompared (done ++ e ∷ []) g B c
+    compared_same : (IsBelow g e.0 → ⊥) → HasCompared (done ++ e ∷ []) g B other c
     compared_same out = record {
       group = h.group;
       of_block = h.of_block;
@@ -189,21 +188,21 @@ module _ (done : List Pair) (e : Pair) (g : Path) where
     }
 
     -- both
-    compared_more : (c' : Comparison) → IsNextBelow c e c' → HasCompared (done ++ e ∷ []) g B c'
+    compared_more : (c' : Comparison) → IsNextBelow c e c' → HasCompared (done ++ e ∷ []) g B other c'
     compared_more c' = ⊎_elim
         (λ w. compared_next c' (subst (λ p. IsBelow p e.0) h.group w.0) w.1)
-        (λ w. subst (HasCompared (done ++ e ∷ []) g B) (sym w.1) (compared_same (λ low. w.0 (subst (λ p. IsBelow p e.0) (sym h.group) low))))
+        (λ w. subst (HasCompared (done ++ e ∷ []) g B other) (sym w.1) (compared_same (λ low. w.0 (subst (λ p. IsBelow p e.0) (sym h.group) low))))
 
 -- nodes one after another
-pub compared_all : (done rest : List Pair) (g : Path) (B : Block) (c c' : Comparison) → HasCompared done g B c → IsNextOf c rest c' → HasCompared (done ++ rest) g B c'
-compared_all done [] g B c c' h next = subst (λ xs. HasCompared xs g B c') (sym (append-nil done)) (subst (HasCompared done g B) (sym next) h)
-compared_all done (e ∷ rest) g B c c' h next =
-    subst (λ xs. HasCompared xs g B c') (append_assoc done (e ∷ []) rest)
-    (compared_all (done ++ e ∷ []) rest g B next.0 c' (compared_more done e g B c h next.0 next.1) next.2)
+pub compared_all : (done rest : List Pair) (g : Path) (B : Block) (other : Bool) (c c' : Comparison) → HasCompared done g B other c → IsNextOf c rest c' → HasCompared (done ++ rest) g B other c'
+compared_all done [] g B other c c' h next = subst (λ xs. HasCompared xs g B other c') (sym (append-nil done)) (subst (HasCompared done g B other) (sym next) h)
+compared_all done (e ∷ rest) g B other c c' h next =
+    subst (λ xs. HasCompared xs g B other c') (append_assoc done (e ∷ []) rest)
+    (compared_all (done ++ e ∷ []) rest g B other next.0 c' (compared_more done e g B other c h next.0 next.1) next.2)
 
 -- where no node is below its path a block begins
-pub compared_first : (done : List Pair) (p : Path) (B : Block) (c : Comparison) → ((d : Pair) → Contains done d → IsBelow p d.0 → ⊥) → IsStart B p c → HasCompared done p B c
-compared_first done p B c none start = record {
+pub compared_first : (done : List Pair) (p : Path) (B : Block) (other : Bool) (c : Comparison) → ((d : Pair) → Contains done d → IsBelow p d.0 → ⊥) → IsStart B other p c → HasCompared done p B other c
+compared_first done p B other c none start = record {
   group = start.group;
   of_block = start.of_block;
   ascending = start.ascending;
@@ -222,8 +221,8 @@ compared_first done p B c none start = record {
 }
 
 -- and so does what was read as its block
-begun_at : (done : List Pair) (p : Path) (read : Result Block MetadataFault) (c : Comparison) → ((d : Pair) → Contains done d → IsBelow p d.0 → ⊥) → IsBegun p read c → IsAt done (p, read) c
-begun_at done p (Ok B) c none begun = compared_first done p B c none begun
+begun_at : (done : List Pair) (p : Path) (read : BlockOrFault) (c : Comparison) → ((d : Pair) → Contains done d → IsBelow p d.0 → ⊥) → IsBegun p read c → IsAt done (p, read) c
+begun_at done p (Ok w) c none begun = compared_first done p w.0 w.1 c none begun
 begun_at done p (Err fault) c none begun = begun
 
 -- places before one that went on keep ascending
@@ -284,10 +283,10 @@ module _ (done : List Pair) (reads : List ReadBlock) (cs : List Comparison) (js 
   -- each block was compared with the node
   each_next : (j : ℕ) (c : Comparison) (b b' : ReadBlock) → j < length cs → get_or reads j b ≡ b' → IsAt done b' (get_or cs j c) → IsAt (done ++ e ∷ []) b' (get_or news j c)
   each_next j c b (g, Err fault) lt is at = subst (IsOnly (fault_of_block g fault)) (sym (compared.others j c (λ in'. subst (λ (x : ReadBlock). Reads x.1) is (h.good j b (was_place j in'))))) at
-  each_next j c b (g, Ok B) lt is at = ⊎_elim
-      (λ in'. compared_more done e g B (get_or cs j c) at (get_or news j c) (compared.at_places j c in' lt))
-      (λ none. subst (HasCompared (done ++ e ∷ []) g B) (sym (compared.others j c none))
-      (compared_same done e g B (get_or cs j c) at (λ low.
+  each_next j c b (g, Ok w) lt is at = ⊎_elim
+      (λ in'. compared_more done e g w.0 w.1 (get_or cs j c) at (get_or news j c) (compared.at_places j c in' lt))
+      (λ none. subst (HasCompared (done ++ e ∷ []) g w.0 w.1) (sym (compared.others j c none))
+      (compared_same done e g w.0 w.1 (get_or cs j c) at (λ low.
       let low' : IsBelow (get_or reads j b).0 e.0 = subst (λ (x : ReadBlock). IsBelow x.0 e.0) (sym is) low in
       none (is_left j b lt (subst (λ (x : ReadBlock). Reads x.1) (sym is) tt) e.0 low' behind (λ out. out low')))))
       (in_or_not left j)
@@ -310,7 +309,7 @@ module _ (done : List Pair) (reads : List ReadBlock) (cs : List Comparison) (js 
 -- a block behind the others, of a node that has nothing below it yet
 module _ (done : List Pair) (reads : List ReadBlock) (cs : List Comparison) (js : List ℕ) (h : AreTaken done reads cs js) (p : Path) (none : (d : Pair) → Contains done d → IsBelow p d.0 → ⊥) (c0 : Comparison) where
   -- what stands at a place, when there is one block more
-  each_put : (read : Result Block MetadataFault) → IsBegun p read c0 → (j : ℕ) (c : Comparison) (b : ReadBlock) → j < length (cs ++ c0 ∷ []) → IsAt done (get_or (reads ++ (p, read) ∷ []) j b) (get_or (cs ++ c0 ∷ []) j c)
+  each_put : (read : BlockOrFault) → IsBegun p read c0 → (j : ℕ) (c : Comparison) (b : ReadBlock) → j < length (cs ++ c0 ∷ []) → IsAt done (get_or (reads ++ (p, read) ∷ []) j b) (get_or (cs ++ c0 ∷ []) j c)
   each_put read begun j c b lt =
       let size = h.size in
       let long = length_push cs c0 in
@@ -327,19 +326,19 @@ module _ (done : List Pair) (reads : List ReadBlock) (cs : List Comparison) (js 
       (eqb_tells j (length cs))
 
   -- what was read at a place before
-  read_before : (read : Result Block MetadataFault) (j : ℕ) (b : ReadBlock) → j < length cs → get_or (reads ++ (p, read) ∷ []) j b ≡ get_or reads j b
+  read_before : (read : BlockOrFault) (j : ℕ) (b : ReadBlock) → j < length cs → get_or (reads ++ (p, read) ∷ []) j b ≡ get_or reads j b
   read_before read j b lt = let size = h.size in get_or_append_left reads ((p, read) ∷ []) b j (omega (arith, lt, size))
 
-  put_size : (read : Result Block MetadataFault) → length (cs ++ c0 ∷ []) ≡ length (reads ++ (p, read) ∷ [])
+  put_size : (read : BlockOrFault) → length (cs ++ c0 ∷ []) ≡ length (reads ++ (p, read) ∷ [])
   put_size read = length_push cs c0 ∙ (ap (λ n. n + 1) h.size ∙ sym (length_push reads (p, read)))
 
   -- the places of before still cover those before
-  cover_before : (read : Result Block MetadataFault) (j : ℕ) (b : ReadBlock) → j < length cs → Reads (get_or (reads ++ (p, read) ∷ []) j b).1 → (x : Path) → IsBelow (get_or (reads ++ (p, read) ∷ []) j b).0 x → IsBehind done x → Contains js j
+  cover_before : (read : BlockOrFault) (j : ℕ) (b : ReadBlock) → j < length cs → Reads (get_or (reads ++ (p, read) ∷ []) j b).1 → (x : Path) → IsBelow (get_or (reads ++ (p, read) ∷ []) j b).0 x → IsBehind done x → Contains js j
   cover_before read j b lt good x low late =
       let is = read_before read j b lt in
       h.cover j b lt (subst (λ (y : ReadBlock). Reads y.1) is good) x (subst (λ (y : ReadBlock). IsBelow y.0 x) is low) late
 
-  are_taken_put : (read : Result Block MetadataFault) → IsBegun p read c0 → AreTaken done (reads ++ (p, read) ∷ []) (cs ++ c0 ∷ []) (places_after js (length cs) read)
+  are_taken_put : (read : BlockOrFault) → IsBegun p read c0 → AreTaken done (reads ++ (p, read) ∷ []) (cs ++ c0 ∷ []) (places_after js (length cs) read)
   are_taken_put (Err fault) begun =
       let long = length_push cs c0 in
       record {
@@ -353,21 +352,21 @@ module _ (done : List Pair) (reads : List ReadBlock) (cs : List Comparison) (js 
             (λ other. let not = other.1 in cover_before (Err fault) j b (omega (arith, lt, long, not)) good x low late)
             (eqb_tells j (length cs));
       }
-  are_taken_put (Ok B) begun =
+  are_taken_put (Ok w) begun =
       let long = length_push cs c0 in
       let size = h.size in
       record {
-        size = put_size (Ok B);
-        each = each_put (Ok B) begun;
+        size = put_size (Ok w);
+        each = each_put (Ok w) begun;
         ascend = all_pairs_push (λ (i j : ℕ). i < j) js (length cs) h.ascend (λ i d lt. h.inside (get_or js i d) (Contains-get_or js i d lt));
         inside = λ j in'. ⊎_elim (λ old. let lt = h.inside j old in omega (arith, lt, long)) (λ same. omega (arith, same, long)) (Contains-push_cases js (length cs) j in');
         good = λ j b in'. ⊎_elim
-            (λ old. subst (λ (y : ReadBlock). Reads y.1) (sym (read_before (Ok B) j b (h.inside j old))) (h.good j b old))
-            (λ same. subst (λ (y : ReadBlock). Reads y.1) (sym (get_or_push reads (p, Ok B) b j (omega (arith, same, size)))) tt)
+            (λ old. subst (λ (y : ReadBlock). Reads y.1) (sym (read_before (Ok w) j b (h.inside j old))) (h.good j b old))
+            (λ same. subst (λ (y : ReadBlock). Reads y.1) (sym (get_or_push reads (p, Ok w) b j (omega (arith, same, size)))) tt)
             (Contains-push_cases js (length cs) j in');
         cover = λ j b lt good x low late. ⊎_elim
             (λ same. subst (Contains (js ++ length cs ∷ [])) (sym same.1) (Contains-push js (length cs)))
-            (λ other. let not = other.1 in Contains-append_left js (length cs ∷ []) j (cover_before (Ok B) j b (omega (arith, lt, long, not)) good x low late))
+            (λ other. let not = other.1 in Contains-append_left js (length cs ∷ []) j (cover_before (Ok w) j b (omega (arith, lt, long, not)) good x low late))
             (eqb_tells j (length cs));
       }
 
@@ -402,7 +401,7 @@ module _ {S : Type 0} (s : Contents) where
         (Contains-push_cases done e d in')
 
     -- and with its own block
-    with_own : (o : Option (Result Block MetadataFault)) → MayPutBlock step.blocks step.above e.0 o z.blocks.items z.above.items → AreTaken (done ++ e ∷ []) (blocks_of s done ++ named_block e.0 o) z.blocks.items z.above.items
+    with_own : (o : Option BlockOrFault) → MayPutBlock step.blocks step.above e.0 o z.blocks.items z.above.items → AreTaken (done ++ e ∷ []) (blocks_of s done ++ named_block e.0 o) z.blocks.items z.above.items
     with_own None puts = subst (λ bs. AreTaken (done ++ e ∷ []) bs z.blocks.items z.above.items) (sym (append-nil (blocks_of s done)))
         (subst (λ cs. AreTaken (done ++ e ∷ []) (blocks_of s done) cs z.above.items) (sym puts.0) (subst (AreTaken (done ++ e ∷ []) (blocks_of s done) step.blocks) (sym puts.1) next))
     with_own (Some read) puts =
@@ -413,7 +412,7 @@ module _ {S : Type 0} (s : Contents) where
     pub taken_more : HasTaken (done ++ e ∷ []) z
     taken_more = record {
       count = let long = length_push done e in let one = step.count in let old = h.count in omega (arith, long, one, old);
-      taken = subst (λ bs. AreTaken (done ++ e ∷ []) bs z.blocks.items z.above.items) (sym (blocks_more s done e)) (with_own (block_read s e.0 e.1) step.puts);
+      taken = subst (λ bs. AreTaken (done ++ e ∷ []) bs z.blocks.items z.above.items) (sym (blocks_more s done e)) (with_own (block_with_own s e.0 e.1) step.puts);
     }
 
 -- ---- all of them

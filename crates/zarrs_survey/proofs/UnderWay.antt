@@ -20,7 +20,7 @@ use Rattle.zarrs_survey.specs.StepsOfMerging.{HoldsUpTo}
 use Rattle.zarrs_survey.specs.declared.comparison.Comparison.{Comparison}
 use Rattle.zarrs_survey.specs.declared.finding.Finding.{Finding}
 use Rattle.zarrs_survey.specs.declared.finding.FindingKind.{FindingKind}
-use Rattle.zarrs_survey.specs.declared.finding.FindingKind.TheVariants.{BlockFault, BadKey, Shadowed, OwnKey, Unreachable, Stale, Unreached, Differs, Missing}
+use Rattle.zarrs_survey.specs.declared.finding.FindingKind.TheVariants.{BlockFault, BadKey, Shadowed, OwnKey, OwnAttributes, Unreachable, Stale, Unreached, Differs, Missing}
 use Rattle.zarrs_survey.proofs.Above.{earlier_after}
 use Rattle.zarrs_survey.proofs.Comparing.{finding, entry_turn, node_turn, both_turn, by_end}
 use Rattle.zarrs_survey.proofs.LastGroup.{group_or_not}
@@ -227,6 +227,7 @@ module _ (F D : Path → Type 0) where
     other_before p (BadKey t) not h = absurd h
     other_before p (Shadowed t) not h = absurd h
     other_before p (OwnKey t) not h = absurd h
+    other_before p OwnAttributes not h = absurd h
 
     -- what is left is there to tell
     left_sound : (h : Finding) → Contains left h → (h.group ≡ g) × IsPathFinding E N F D g h.path h.kind
@@ -282,6 +283,7 @@ module _ (F D : Path → Type 0) where
     left_complete h of (BadKey t) is' w = absurd w
     left_complete h of (Shadowed t) is' w = absurd w
     left_complete h of (OwnKey t) is' w = absurd w
+    left_complete h of OwnAttributes is' w = absurd w
 
     pub settled_findings : ArePathFindings E N F D g left
     settled_findings = record {

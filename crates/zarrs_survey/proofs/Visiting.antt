@@ -1,5 +1,5 @@
 -- What a check tells of nodes in the order of their paths is what there is to tell of them, each once.
-use Rattle.std.proofs.Common.{◌≡◌, ◌≢◌, ◌↔◌, ◌⊎◌, inl, inr, ⊎_elim, ℕ, Bool, List, [], ◌∷◌, ◌++◌, map, get_or, refl, sym, ap, subst, ◌∙◌, arith, append-nil, append_assoc, Contains, AllPairs, Less, Result, Ok, Err, true}
+use Rattle.std.proofs.Common.{◌≡◌, ◌≢◌, ◌↔◌, inl, inr, ⊎_elim, Bool, List, [], ◌∷◌, ◌++◌, get_or, refl, sym, ap, subst, ◌∙◌, arith, append-nil, append_assoc, Contains, AllPairs, Less, Result, Ok, true}
 use Rattle.std.proofs.lemmas.List.Elements.{Contains-append_cases, Contains-append_left, Contains-append_right, Contains-get_or}
 use Rattle.std.proofs.lemmas.List.Kept.{AllPairs-cons}
 use Rattle.zarrs_store.specs.Contents.{Contents, Lists}
@@ -22,10 +22,10 @@ use Rattle.zarrs_notes.proofs.Parts.{not_before_itself}
 use Rattle.zarrs_survey.specs.Checks.{HasNode, IsNodeTold, IsToldBefore}
 use Rattle.zarrs_survey.specs.Findings.{Pair}
 use Rattle.zarrs_survey.specs.StepsOfTaking.{Takes, base_nodes}
-use Rattle.zarrs_survey.specs.StepsOfVisits.{TakesVisit, TellsNode, named_findings}
+use Rattle.zarrs_survey.specs.StepsOfVisits.{TakesVisit, named_findings}
 use Rattle.zarrs_survey.specs.Surveys.{IsBase}
 use Rattle.zarrs_survey.specs.declared.visits.Visits.{Visits}
-use Rattle.zarrs_survey.proofs.Taking.{all_ascend, all_nodes, each_node}
+use Rattle.zarrs_survey.proofs.Taking.{all_ascend, each_node}
 
 -- what is told of a node, with its path
 abbrev Told : Type 0

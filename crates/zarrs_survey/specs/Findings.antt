@@ -18,7 +18,7 @@ use Rattle.zarrs_compare.specs.Same.{IsSame}
 use Rattle.zarrs_node.specs.Reach.{HasGroup}
 use Rattle.zarrs_survey.specs.declared.finding.Finding.{Finding}
 use Rattle.zarrs_survey.specs.declared.finding.FindingKind.{FindingKind}
-use Rattle.zarrs_survey.specs.declared.finding.FindingKind.TheVariants.{BlockFault, BadKey, Shadowed, OwnKey, Unreachable, Stale, Unreached, Differs, Missing}
+use Rattle.zarrs_survey.specs.declared.finding.FindingKind.TheVariants.{BlockFault, BadKey, Shadowed, OwnKey, OwnAttributes, Unreachable, Stale, Unreached, Differs, Missing}
 
 -- a path with metadata
 abbrev pub Pair : Type 0
@@ -52,11 +52,12 @@ IsPathFinding E N F D g p Unreached = HasPath E p × (HasPath N p → ⊥) × (I
 IsPathFinding E N F D g p Differs = (m n : NodeMetadata) × E (p, m) × N (p, n) × (IsSame m n → ⊥)
 -- a node below the group, and no entry
 IsPathFinding E N F D g p Missing = HasPath N p × IsBelow g p × (HasPath E p → ⊥)
--- a fault or a key is told of the block, and of no path
+-- a fault, a key or the own attributes are told of the block, and of no path
 IsPathFinding E N F D g p (BlockFault fault) = ⊥
 IsPathFinding E N F D g p (BadKey t) = ⊥
 IsPathFinding E N F D g p (Shadowed t) = ⊥
 IsPathFinding E N F D g p (OwnKey t) = ⊥
+IsPathFinding E N F D g p OwnAttributes = ⊥
 
 -- a key of the block is no relative path
 abbrev pub IsBadKey : Block → List ℕ → Type 0
@@ -88,13 +89,14 @@ key_of (Shadowed t) = t
 key_of (OwnKey t) = t
 key_of _ = []
 
--- the rank of a kind among those of one path: first what is told of a whole block or of a key, then whether an entry is cut off, and then what the store has there
+-- the rank of a kind among those of one path: first what is told of a whole block or of a key, then the own attributes, then whether an entry is cut off, and then what the store has there
 abbrev pub rank_of : FindingKind → ℕ
-rank_of Unreachable = 1
-rank_of Stale = 2
-rank_of Unreached = 2
-rank_of Differs = 2
-rank_of Missing = 2
+rank_of OwnAttributes = 1
+rank_of Unreachable = 2
+rank_of Stale = 3
+rank_of Unreached = 3
+rank_of Differs = 3
+rank_of Missing = 3
 rank_of _ = 0
 
 -- a kind stands before another of one path: its rank does, or of one rank its key does

@@ -5,7 +5,10 @@ pub mod StepsOfComparing
 pub mod StepsOfMerging
 pub mod StepsOfComparisons
 pub mod StepsOfSurveys
+pub mod Orphans
+pub mod StepsOfOrphans
 pub mod Checks
+pub mod StepsOfOwnAttributes
 pub mod StepsOfChecks
 pub mod StepsOfTaking
 pub mod StepsOfVisits

@@ -12,7 +12,7 @@ use Rattle.zarrs_compare.specs.Same.{IsSame}
 use Rattle.zarrs_survey.specs.Findings.{Pair, IsPathFinding, IsAtOrAbove, Precedes}
 use Rattle.zarrs_survey.specs.declared.finding.Finding.{Finding}
 use Rattle.zarrs_survey.specs.declared.finding.FindingKind.{FindingKind}
-use Rattle.zarrs_survey.specs.declared.finding.FindingKind.TheVariants.{BadKey, Shadowed, OwnKey, Unreachable, Differs}
+use Rattle.zarrs_survey.specs.declared.finding.FindingKind.TheVariants.{BadKey, Shadowed, OwnKey, OwnAttributes, Unreachable, Differs}
 
 -- the findings are exactly those of the paths of entries and nodes, all of the group g, each once, in the order of paths and kinds
 pub record ArePathFindings (E N : Pair → Type 0) (F D : Path → Type 0) (g : Path) (found : List Finding) : Type 0 where
@@ -52,6 +52,11 @@ abbrev pub IsPairKind : NodeMetadata → NodeMetadata → Option FindingKind →
 IsPairKind m n None = IsSame m n
 IsPairKind m n (Some k) = (k ≡ Differs) × (IsSame m n → ⊥)
 
+-- what is to be told of a block whose document has other attributes of its group or has not
+abbrev pub own_kind : Bool → Option FindingKind
+own_kind false = None
+own_kind true = Some OwnAttributes
+
 -- the finding, if there is one
 abbrev pub findings_at : Path → Path → Option FindingKind → List Finding
 findings_at g p None = []
@@ -69,6 +74,10 @@ key_kind B t =
 abbrev pub key_findings : Path → Block → Block → List Finding
 key_findings g B [] = []
 key_findings g B (e ∷ es) = findings_at g g (key_kind B e.0) ++ key_findings g B es
+
+-- what is to be told of the block B of g itself: of its keys, and behind that of its own attributes, where its document has others
+abbrev pub own_findings : Path → Block → Bool → List Finding
+own_findings g B other = key_findings g B B ++ findings_at g g (own_kind other)
 
 -- the text is that of a bad key among the findings
 abbrev pub IsBadAmong : List Finding → List ℕ → Type 0

@@ -9,7 +9,7 @@ use Rattle.zarrs_block.specs.declared.node_create_error.NodeCreateError.{NodeCre
 use Rattle.zarrs_node.specs.Order.{Ascend}
 use Rattle.zarrs_survey.specs.Findings.{Pair, IsSpoilt}
 use Rattle.zarrs_survey.specs.StepsOfChecks.{HasBad}
-use Rattle.zarrs_survey.specs.StepsOfComparing.{ArePathFindings, AreBelow, IsBeforeFirst, key_findings}
+use Rattle.zarrs_survey.specs.StepsOfComparing.{ArePathFindings, AreBelow, IsBeforeFirst, own_findings}
 use Rattle.zarrs_survey.specs.StepsOfMerging.{HoldsUpTo}
 use Rattle.zarrs_survey.specs.declared.comparison.Comparison.{Comparison}
 use Rattle.zarrs_survey.specs.declared.comparison.Turn.{Turn}
@@ -31,11 +31,11 @@ pub record IsUnderWay (all nodes es ns : List Pair) (c : Comparison) : Type 0 wh
   pub under : AreBelow c.group nodes
   pub holds : HoldsUpTo (Contains all) (Contains nodes) NoneBad NoDocument c.group es ns c.last c.found.items
 
--- nothing of the block B of g was compared yet
-pub record IsStart (B : Block) (g : Path) (c : Comparison) : Type 0 where
+-- nothing of the block B of g was compared yet, whose document has other attributes of g or has not
+pub record IsStart (B : Block) (other : Bool) (g : Path) (c : Comparison) : Type 0 where
   pub group : c.group ≡ g
   pub last : c.last ≡ g
-  pub of_block : c.of_block.items ≡ key_findings g B B
+  pub of_block : c.of_block.items ≡ own_findings g B other
   pub found : c.found.items ≡ []
   pub ascending : IsAscending B
   pub entries : (d : Pair) → Contains c.entries.items d ↔ Entries B g d

@@ -1,15 +1,13 @@
 -- Steps of taking nodes and comparing them with the blocks above them, one after another; no public contract rests on them.
 use Rattle.std.specs.Prelude.{◌≡◌, ◌+◌, ◌<◌, ℕ, Bool, IfErr, List, [], ◌∷◌, ◌++◌, get_or, length, AllPairs, Contains, Option, Some, None, Result, Ok, Err}
-use Rattle.zarrs_fault.specs.declared.fault.MetadataFault.{MetadataFault}
 use Rattle.zarrs_store.specs.Contents.{Contents}
 use Rattle.zarrs_store.specs.Faults.{IsStoreError}
 use Rattle.zarrs_path.specs.Paths.{Path, IsBelow}
 use Rattle.zarrs_meta.specs.declared.node.NodeMetadata.{NodeMetadata}
-use Rattle.zarrs_block.specs.Block.{Block}
 use Rattle.zarrs_block.specs.declared.node_create_error.NodeCreateError.{NodeCreateError}
-use Rattle.zarrs_survey.specs.Checks.{block_read, fault_of_block}
+use Rattle.zarrs_survey.specs.Checks.{fault_of_block}
 use Rattle.zarrs_survey.specs.Findings.{Pair}
-use Rattle.zarrs_survey.specs.StepsOfChecks.{ReadBlock}
+use Rattle.zarrs_survey.specs.StepsOfChecks.{BlockOrFault, ReadBlock, block_with_own}
 use Rattle.zarrs_survey.specs.StepsOfComparisons.{IsEnd, IsNextBelow, IsOnly, IsStart}
 use Rattle.zarrs_survey.specs.declared.comparison.Comparison.{Comparison}
 use Rattle.zarrs_survey.specs.declared.comparisons.Comparisons.{Comparisons}
@@ -26,25 +24,25 @@ base_fault (Ok m) = Ok tt
 base_fault (Err e) = Err e
 
 -- what was read as the block of a node, if it has one, with the path
-abbrev pub named_block : Path → Option (Result Block MetadataFault) → List ReadBlock
+abbrev pub named_block : Path → Option BlockOrFault → List ReadBlock
 named_block p None = []
 named_block p (Some r) = (p, r) ∷ []
 
 -- what was read as the blocks of nodes, in their order
 abbrev pub blocks_of : Contents → List Pair → List ReadBlock
 blocks_of s [] = []
-blocks_of s (e ∷ es) = named_block e.0 (block_read s e.0 e.1) ++ blocks_of s es
+blocks_of s (e ∷ es) = named_block e.0 (block_with_own s e.0 e.1) ++ blocks_of s es
 
 -- ---- blocks beside nodes
 
 -- nothing was compared yet with what was read as the block of p
-abbrev pub IsBegun : Path → Result Block MetadataFault → Comparison → Type 0
-IsBegun p (Ok B) c = IsStart B p c
+abbrev pub IsBegun : Path → BlockOrFault → Comparison → Type 0
+IsBegun p (Ok w) c = IsStart w.0 w.1 p c
 IsBegun p (Err fault) c = IsOnly (fault_of_block p fault) c
 
 -- the places of blocks, and behind them the place n, if the block there reads
-abbrev pub places_after : List ℕ → ℕ → Result Block MetadataFault → List ℕ
-places_after js n (Ok B) = js ++ n ∷ []
+abbrev pub places_after : List ℕ → ℕ → BlockOrFault → List ℕ
+places_after js n (Ok w) = js ++ n ∷ []
 places_after js n (Err fault) = js
 
 -- places ascend
@@ -66,14 +64,14 @@ pub record AreCompared (js : List ℕ) (e : Pair) (old new : List Comparison) : 
   pub others : (j : ℕ) (d : Comparison) → (Contains js j → ⊥) → get_or new j d ≡ get_or old j d
 
 -- what was read as the block of p was put behind other blocks
-pub record PutsBlock (blocks : List Comparison) (above : List ℕ) (p : Path) (read : Result Block MetadataFault) (more : List Comparison) (places : List ℕ) : Type 0 where
+pub record PutsBlock (blocks : List Comparison) (above : List ℕ) (p : Path) (read : BlockOrFault) (more : List Comparison) (places : List ℕ) : Type 0 where
   pub block : Comparison
   pub begun : IsBegun p read block
   pub items : more ≡ blocks ++ block ∷ []
   pub places_are : places ≡ places_after above (length blocks) read
 
 -- if something was read as the block of p, it was put behind other blocks, and else nothing was
-abbrev pub MayPutBlock : List Comparison → List ℕ → Path → Option (Result Block MetadataFault) → List Comparison → List ℕ → Type 0
+abbrev pub MayPutBlock : List Comparison → List ℕ → Path → Option BlockOrFault → List Comparison → List ℕ → Type 0
 MayPutBlock blocks above p None more places = (more ≡ blocks) × (places ≡ above)
 MayPutBlock blocks above p (Some read) more places = PutsBlock blocks above p read more places
 
@@ -106,7 +104,7 @@ module _ {S : Type 0} where
     pub not_above : (j : ℕ) → Contains gone j → IsAboveAt old.blocks.items j e.0 → ⊥
     pub blocks : List Comparison
     pub compared : PlacesAscend above → AreCompared above e old.blocks.items blocks
-    pub puts : MayPutBlock blocks above e.0 (block_read s e.0 e.1) new.blocks.items new.above.items
+    pub puts : MayPutBlock blocks above e.0 (block_with_own s e.0 e.1) new.blocks.items new.above.items
 
   -- a node was taken, or the store had failed or did
   pub record Takes (contents : S → Contents) (can_fail : S → Bool) (old : Comparisons S) (e : Pair) (new : Comparisons S) : Type 0 where

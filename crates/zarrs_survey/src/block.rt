@@ -51,7 +51,7 @@ pub fn compare_block<S: ReadableStorageTraits>(
     if !has_group(survey, group) {
         return Ok(None);
     }
-    let mut comparison = Comparison::new(alloc, group.try_clone(alloc)?, block)?;
+    let mut comparison = Comparison::new(alloc, group.try_clone(alloc)?, block, false)?;
     let start = place_behind(&survey.nodes, group);
     comparison.take_first(alloc, &survey.nodes[start..])?;
     let found = comparison.finish(alloc, storage, &survey.bad_documents)?;

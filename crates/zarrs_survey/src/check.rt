@@ -1,7 +1,8 @@
 //! All that is wrong with a store at a path and below it.
-ghost use Rattle.std.specs.Prelude.{◌≡◌, ◌++◌, ◌∷◌, [], IfOk, IfErr, option_map, codes};
+ghost use Rattle.std.specs.Prelude.{◌≡◌, ◌++◌, ◌∷◌, [], false, IfOk, IfErr, option_map, codes};
 ghost use Rattle.std.specs.FinMap.{get};
 ghost use Rattle.serde_json.specs.Find.{get_member};
+ghost use Rattle.serde_json.specs.View.{view};
 ghost use Rattle.zarrs_store.specs.Faults.{IsStoreError};
 ghost use Rattle.zarrs_form.specs.Documents.{Gives, of_bytes};
 ghost use Rattle.zarrs_block.specs.Refusals.{IsExcused};
@@ -10,7 +11,7 @@ ghost use Rattle.zarrs_block.specs.Zmetadata.{zmetadata_in};
 ghost use Rattle.zarrs_path.specs.Keys.{zmetadata};
 ghost use Rattle.zarrs_survey.specs.Checks.{AreBlockFindings, IsCheckOf, as_read, block_read};
 ghost use Rattle.zarrs_node.specs.Exists.{HasNodeKey};
-ghost use Rattle.zarrs_survey.specs.StepsOfChecks.{IsKnownOf};
+ghost use Rattle.zarrs_survey.specs.StepsOfChecks.{IsKnownOf, as_known, block_with, block_with_own, compared_bytes, shown_pair};
 ghost use Rattle.zarrs_survey.specs.StepsOfTaking.{AreEnds};
 
 use crate::bad_documents::BadDocuments;
@@ -18,14 +19,17 @@ use crate::base::base_of;
 use crate::comparison::Comparison;
 use crate::comparisons::Comparisons;
 use crate::finding::Finding;
+use crate::orphans::{hidden_below, orphans_of};
+use crate::own::has_other_attributes;
 use crate::survey::{sort_faults, warn_ignored};
 use crate::visits::Visits;
 use log::Log;
+use serde_json::Value;
 use std::alloc::Global;
 use zarrs_block::{ConsolidatedMetadata, NodeCreateError};
 use zarrs_config::MetadataRetrieveVersion;
 use zarrs_fault::{MetadataFault, Numbers};
-use zarrs_form::parse;
+use zarrs_form::{Object, parse};
 use zarrs_meta::{AdditionalFieldsV3, GroupMetadata, NodeMetadata};
 use zarrs_node::walk_past_faults;
 use zarrs_notes::NodeFinding;
@@ -46,8 +50,12 @@ pub struct Check {
     pub nodes: usize,
     /// The paths without documents that were passed over with all below them, in the order of paths.
     pub ignored: Vec<NodePath>,
+    /// Those of the ignored paths below which documents of nodes stand, each with the number of paths below it that have one, in the order of paths.
+    pub orphans: Vec<(NodePath, usize)>,
     /// The paths below the base whose documents are bad, each with its error. Below them nothing was looked at.
     pub bad_documents: BadDocuments,
+    /// For each of the bad documents, in their order, the number of paths below it that have a document of a node. Nothing of them was looked at.
+    pub hidden: Vec<usize>,
     /// The paths below the base whose last name is made of periods only, in the order of paths. Below them nothing was looked at.
     pub bad_names: Vec<StorePrefix>,
     /// What is wrong with the blocks of its groups, in the order of groups, paths, kinds and keys.
@@ -96,13 +104,17 @@ impl Check {
         outcome?;
         warn_ignored(log, &walked.ignored);
         let (bad_documents, bad_names) = sort_faults(alloc, walked.faults)?;
+        let orphans = orphans_of(alloc, storage, &walked.ignored)?;
+        let hidden = hidden_below(alloc, storage, &bad_documents)?;
         let findings = finish(alloc, storage, blocks, &bad_documents)?;
         Ok(Check {
             path: path.try_clone(alloc)?,
             base,
             nodes: count,
             ignored: walked.ignored,
+            orphans,
             bad_documents,
+            hidden,
             bad_names,
             findings,
             told,
@@ -157,41 +169,91 @@ pub fn read_block<S: ReadableStorageTraits>(
     }
 }
 
-// What [`read_block`] reads, of metadata that are taken over.
+// What [`read_block`] reads, of metadata that are taken over, and whether the document of the block has other attributes of its group.
 pub(crate) fn take_block<S: ReadableStorageTraits>(
     alloc: Global,
     storage: &S,
     path: &NodePath,
     metadata: NodeMetadata,
-) -> Result<Option<Result<ConsolidatedMetadata, MetadataFault>>, StorageError>
+) -> Result<Option<Result<(ConsolidatedMetadata, bool), MetadataFault>>, StorageError>
     ensures ok { IfOk result
-        (λ read. as_read read ≡ block_read (S.contents storage.now) path.now metadata) }
+        (λ read. as_known read ≡ block_with_own (S.contents storage.now) path.now metadata) }
     ensures err { IfErr result (IsStoreError (S.can_fail storage.now)) }
 {
     match metadata {
         NodeMetadata::Group(GroupMetadata::V3(group)) => {
             taken_field_block(alloc, storage.numbers(), group.additional_fields)
         }
-        other => read_block(alloc, storage, path, &other),
+        NodeMetadata::Group(GroupMetadata::V2(group)) => {
+            compared_document_block(alloc, storage, path, group.attributes)
+        }
+        NodeMetadata::Array(_array) => Ok(None),
     }
 }
 
-// What [`field_block`] reads, of fields that are taken over.
+// What [`field_block`] reads, of fields that are taken over. They are no document, and have no attributes of the group beside its own.
 fn taken_field_block(
     alloc: Global,
     numbers: Numbers,
     mut fields: AdditionalFieldsV3,
-) -> Result<Option<Result<ConsolidatedMetadata, MetadataFault>>, StorageError>
+) -> Result<Option<Result<(ConsolidatedMetadata, bool), MetadataFault>>, StorageError>
     ensures ok { IfOk result
-        (λ read. as_read read
-        ≡ option_map (block_of_in numbers)
+        (λ read. as_known read
+        ≡ option_map (λ field. block_with false (block_of_in numbers field))
         (get_member (codes "consolidated_metadata") fields)) }
     ensures err { IfErr result (λ e. e ≡ StorageError.OutOfMemory) }
 {
     let Some(field) = fields.remove("consolidated_metadata") else {
         return Ok(None);
     };
-    known(ConsolidatedMetadata::from_owned_value_in(alloc, numbers, field.into_value()))
+    known(block_of_field(alloc, numbers, field.into_value()))
+}
+
+// The block that a field is.
+fn block_of_field(
+    alloc: Global,
+    numbers: Numbers,
+    field: Value,
+) -> Result<(ConsolidatedMetadata, bool), MetadataFault>
+    ensures { Gives shown_pair result (block_with false (block_of_in numbers (view field))) }
+{
+    let block = ConsolidatedMetadata::from_owned_value_in(alloc, numbers, field)?;
+    Ok((block, false))
+}
+
+// What [`document_block`] reads, and whether that document has other attributes of its group than these.
+fn compared_document_block<S: ReadableStorageTraits>(
+    alloc: Global,
+    storage: &S,
+    path: &NodePath,
+    attributes: Object,
+) -> Result<Option<Result<(ConsolidatedMetadata, bool), MetadataFault>>, StorageError>
+    ensures ok { IfOk result
+        (λ read. as_known read
+        ≡ option_map (compared_bytes (S.contents storage.now).numbers attributes)
+        (get (S.contents storage.now).values (path.now ++ zmetadata ∷ []))) }
+    ensures err { IfErr result (IsStoreError (S.can_fail storage.now)) }
+{
+    let key = meta_key_v2_consolidated(alloc, path)?;
+    let Some(bytes) = storage.get(alloc, &key)? else {
+        return Ok(None);
+    };
+    known(compared_block_of_bytes(alloc, storage.numbers(), &bytes, attributes))
+}
+
+// The block that the bytes of a document `.zmetadata` are, and whether the document has other attributes of its group than these.
+fn compared_block_of_bytes(
+    alloc: Global,
+    numbers: Numbers,
+    bytes: &[u8],
+    attributes: Object,
+) -> Result<(ConsolidatedMetadata, bool), MetadataFault>
+    ensures { Gives shown_pair result (compared_bytes numbers attributes bytes.now) }
+{
+    let document = parse(alloc, bytes)?;
+    let other = has_other_attributes(alloc, numbers, &document, attributes)?;
+    let block = ConsolidatedMetadata::from_owned_zmetadata_in(alloc, numbers, document)?;
+    Ok((block, other))
 }
 
 // What is read as the block in the fields of a version 3 group.
@@ -244,9 +306,9 @@ fn block_of_bytes(
 }
 
 // What was read, or its fault, but for out of memory.
-fn known(
-    read: Result<ConsolidatedMetadata, MetadataFault>,
-) -> Result<Option<Result<ConsolidatedMetadata, MetadataFault>>, StorageError>
+fn known<T: Drop>(
+    read: Result<T, MetadataFault>,
+) -> Result<Option<Result<T, MetadataFault>>, StorageError>
     ensures ok { IfOk result (IsKnownOf read) }
     ensures err { IfErr result (λ e. e ≡ StorageError.OutOfMemory) }
 {

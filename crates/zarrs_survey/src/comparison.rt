@@ -9,7 +9,7 @@ ghost use Rattle.zarrs_survey.specs.Checks.{fault_of_block};
 ghost use Rattle.zarrs_node.specs.Exists.{HasNodeKey};
 ghost use Rattle.zarrs_survey.specs.Findings.{IsAtOrAbove};
 ghost use Rattle.zarrs_survey.specs.StepsOfChecks.{HasBad};
-ghost use Rattle.zarrs_survey.specs.StepsOfComparing.{HangsFrom, IsPairKind, StandBehind, cut_kind, findings_at};
+ghost use Rattle.zarrs_survey.specs.StepsOfComparing.{HangsFrom, IsPairKind, StandBehind, cut_kind, findings_at, own_kind};
 ghost use Rattle.zarrs_survey.specs.StepsOfComparisons.{IsEnd, IsNext, IsNextBelow, IsNextOf, IsOnly, IsStart, IsTurnAt, IsUnmoved, Passes, PassesLone, PassesPair, PutsSettled, IsSettled};
 
 use crate::bad_documents::BadDocuments;
@@ -33,7 +33,7 @@ use zarrs_store::{ReadableStorageTraits, StorageError};
 #[derive(Drop)]
 pub(crate) struct Comparison {
     group: NodePath,
-    // What there is to tell of the block itself: its fault, or what is wrong with its keys.
+    // What there is to tell of the block itself: its fault, or what is wrong with its keys and its own attributes.
     of_block: Vec<Finding>,
     // The entries that are left, in the order of their paths.
     entries: VecDeque<(NodePath, NodeMetadata)>,
@@ -51,18 +51,20 @@ enum Turn {
 }
 
 impl Comparison {
-    // Nothing of the block was compared yet.
+    // Nothing of the block was compared yet, whose document has other attributes of its group or has not.
     pub(crate) fn new(
         alloc: Global,
         group: NodePath,
         block: ConsolidatedMetadata,
+        other: bool,
     ) -> Result<Comparison, AllocError>
-        ensures { IfOk result (IsStart block.metadata group) }
+        ensures { IfOk result (IsStart block.metadata other group) }
     {
         let ConsolidatedMetadata { metadata } = block;
-        let of_block = key_findings(alloc, &group, &metadata)?;
+        let mut of_block = key_findings(alloc, &group, &metadata)?;
         let metadata = without_bad_keys(metadata, &of_block);
         let entries = entries_of(alloc, &group, metadata)?;
+        tell(&mut of_block, alloc, &group, &group, own_kind(other))?;
         Ok(Comparison {
             last: group.try_clone(alloc)?,
             group,
@@ -337,6 +339,17 @@ fn cut_kind(reached: bool) -> Option<FindingKind>
         None
     } else {
         Some(FindingKind::Unreachable)
+    }
+}
+
+// What is wrong with a block whose document has other attributes of its group or has not.
+fn own_kind(other: bool) -> Option<FindingKind>
+    ensures { result ≡ own_kind other }
+{
+    if other {
+        Some(FindingKind::OwnAttributes)
+    } else {
+        None
     }
 }
 

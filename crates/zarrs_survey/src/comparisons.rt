@@ -95,7 +95,7 @@ impl<'a, S: ReadableStorageTraits> Comparisons<'a, S> {
     fn put_block(
         &mut self,
         path: NodePath,
-        block: Result<ConsolidatedMetadata, MetadataFault>,
+        block: Result<(ConsolidatedMetadata, bool), MetadataFault>,
     ) -> Result<(), AllocError>
         ensures put { OnOk result
             (PutsBlock self.old.blocks.items self.old.above.items path (shown_block block)
@@ -105,9 +105,9 @@ impl<'a, S: ReadableStorageTraits> Comparisons<'a, S> {
         ensures storage { self.new.storage.now ≡ self.old.storage.now }
     {
         let block = match block {
-            Ok(block) => {
+            Ok((block, other)) => {
                 self.above.push(self.blocks.len())?;
-                Comparison::new(self.alloc, path, block)?
+                Comparison::new(self.alloc, path, block, other)?
             }
             Err(fault) => Comparison::of_fault(self.alloc, path, fault)?,
         };

@@ -11,7 +11,7 @@ use zarrs_path::NodePath;
 pub struct Finding {
     /// The path of the group.
     pub group: NodePath,
-    /// The path of the entry or of the node that it is of; of a key, or of the whole block, that of the group.
+    /// The path of the entry or of the node that it is of; of a key, of the whole block or of its own attributes, that of the group.
     pub path: NodePath,
     /// What is wrong.
     pub kind: FindingKind,
@@ -31,6 +31,8 @@ pub enum FindingKind {
     Shadowed(Text),
     /// A key that is empty or one slash, and stands for the group itself.
     OwnKey(Text),
+    /// The document of the block has other attributes of its group than the store.
+    OwnAttributes,
     /// An entry, and some path between it and the group is no group of the block.
     Unreachable,
     /// An entry, and the store has no document of a node at its path.

@@ -1,5 +1,6 @@
-//! What holds of every survey. A function here is empty; its contract is the law.
+//! What holds of every survey and of every check. A function here is empty; its contract is the law.
 ghost use Rattle.zarrs_survey.specs.Laws.{NothingBadIsTold, RefusalsAreTold, ListingIsSurveyed, GroupsAreSurveyed, GoodBlocksAgree, RefreshedBlocksAgree};
+ghost use Rattle.zarrs_survey.specs.Laws.{NothingIsLost};
 
 /// A survey has no bad document and no bad name exactly where nothing below its base is bad.
 pub fn nothing_bad_is_told()
@@ -21,8 +22,8 @@ pub fn groups_are_surveyed()
     ensures { GroupsAreSurveyed }
 {}
 
-/// Where a survey has nothing bad, and its base has a block of which nothing is to be told, opening the base by the block and by a listing is
-/// refused for nothing, and both show the same paths with the same metadata, nested blocks apart.
+/// Where a survey has nothing bad, and its base has a block of which nothing is to be told, other attributes of the base itself apart, opening the
+/// base by the block and by a listing is refused for nothing, and both show the same paths with the same metadata, nested blocks apart.
 pub fn good_blocks_agree()
     ensures { GoodBlocksAgree }
 {}
@@ -31,4 +32,10 @@ pub fn good_blocks_agree()
 /// the block then has the same paths as before with the same metadata, nested blocks apart.
 pub fn refreshed_blocks_agree()
     ensures { RefreshedBlocksAgree }
+{}
+
+/// Where a check has no orphans, and nothing is hidden below its bad documents, each path below its base that has a document of a node is found, unless
+/// it is below an array: it is a node, or among the bad documents, or ignored since the version does not ask for its documents.
+pub fn nothing_is_lost()
+    ensures { NothingIsLost }
 {}

@@ -11,6 +11,8 @@ mod comparisons;
 mod finding;
 mod keys;
 pub mod laws;
+mod orphans;
+mod own;
 mod survey;
 mod visits;
 

@@ -6,10 +6,12 @@ use Rattle.zarrs_store.specs.Faults.{IsStoreError}
 use Rattle.zarrs_node.specs.Faults.{PathsAscend}
 use Rattle.zarrs_node.specs.Nodes.{Nodes}
 use Rattle.zarrs_survey.specs.Checks.{IsBaseOutcome}
+use Rattle.zarrs_survey.specs.StepsOfOrphans.{AreOrphansAmong}
 use Rattle.zarrs_survey.specs.StepsOfTaking.{base_nodes, blocks_of}
 use Rattle.zarrs_node.specs.Exists.{HasNodeKey}
 use Rattle.zarrs_survey.specs.Surveys.{BadDocuments, BadNames}
 use Rattle.zarrs_survey.proofs.Checking.{of_ends, of_taken}
+use Rattle.zarrs_survey.proofs.Counting.{orphans_listed}
 use Rattle.zarrs_survey.proofs.Taking.{has_all, blocks_ascend, nodes_counted, refused_so, base_faulted}
 use Rattle.zarrs_survey.proofs.Surveying.{have_paths, have_apart, lists_documents, lists_names, names_ascend}
 use Rattle.zarrs_survey.proofs.Visiting.{compared_all, lists_told, walk_of}
@@ -42,6 +44,8 @@ returns-clause-surveyed g c =
     c.in_ok-try_clone.field-0 c.in_ok-base.base c.in_ok-try_clone.ensures.ok (ap g.S.Store.contents c.new-taken.ensures.storage) (compared_all g.S.Store.contents g.S.Store.can_fail c.new-taken.result (base_nodes c.in_ok-try_clone.field-0 c.in_ok-base.base) c.take_base.new.self c.in_ok-base-2.ensures.taken)
     (walk_of g.S.Store.contents g.S.Store.can_fail c.take_base.new.self c.walk_past_faults.new.sink c.args.path.now (Nodes (g.S.Store.contents c.args.storage.now) c.args.version.now true c.args.path.now) c.in_ok-walked.ensures.takes) c.new-taken.ensures.new
     c.in_ok-outcome.was c.in_ok-base.ensures.base in
+    let orphans = orphans_listed s v b c.in_ok-walked.walked.ignored.items c.in_ok-orphans.orphans.items w.ignored w.ignored_ascend
+    (subst (λ ps. AreOrphansAmong s ps c.in_ok-orphans.orphans.items) c.deref-2.ensures.value c.in_ok-orphans.ensures.ok) in
     let told = lists_told g.S.Store.contents g.S.Store.can_fail c.new-taken.result c.take_base.new.self c.walk_past_faults.new.sink s v b
     c.in_ok-try_clone.field-0 c.in_ok-base.base c.in_ok-try_clone.ensures.ok (ap g.S.Store.contents c.new-taken.ensures.storage) c.in_ok-base-2.ensures.taken c.in_ok-walked.ensures.takes c.new-taken.ensures.none
     c.in_ok-outcome.was c.in_ok-base.ensures.base in
@@ -51,7 +55,10 @@ returns-clause-surveyed g c =
       nodes = nodes_counted s v b c.walk_past_faults.new.sink.comparisons h;
       ignored = w.ignored;
       ignored_ascend = w.ignored_ascend;
+      orphans = orphans.0;
+      orphans_ascend = orphans.1;
       bad_documents = subst (Lists (BadDocuments s v b)) (sym c.in_ok-bad_documents.ensures.documents) (lists_documents s v b _ w.faults w.faults_ascend);
+      hidden = c.in_ok-hidden.ensures.ok;
       bad_names = subst (Lists (BadNames s v b)) (sym c.in_ok-bad_documents.ensures.names) (lists_names s v b _ w.faults w.faults_ascend);
       bad_names_ascend = subst PathsAscend (sym c.in_ok-bad_documents.ensures.names) (names_ascend _ w.faults_ascend);
       told = told.0;

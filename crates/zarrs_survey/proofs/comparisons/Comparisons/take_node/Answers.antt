@@ -1,9 +1,7 @@
 use Rattle.std.proofs.Common.{Some, sym, ap, subst, ◌∙◌}
-use Rattle.zarrs_survey.specs.Checks.{as_read, block_read}
 use Rattle.zarrs_survey.specs.Findings.{Pair}
-use Rattle.zarrs_survey.specs.StepsOfChecks.{shown_block}
+use Rattle.zarrs_survey.specs.StepsOfChecks.{as_known, block_with_own, shown_block}
 use Rattle.zarrs_survey.specs.StepsOfTaking.{AreCompared, MayPutBlock, PlacesAscend}
-use Rattle.zarrs_survey.proofs.Reading.{read_shown}
 use Rattle.zarrs_survey.proofs.comparisons.Comparisons.take_node.Goals.{in-Some-2+in_ok-put_block, in_default-2}
 use Rattle.zarrs_survey.proofs.comparisons.Comparisons.take_node.Goals as goal
 
@@ -13,7 +11,7 @@ returns-clause-ok g c =
     let e : Pair = (c.args.path, c.args.metadata) in
     let mid = c.close.new.self.above.items in
     let blocks = c.compare_all.new.blocks.items in
-    let read = c.in_ok-block.ensures.ok ∙ ap (λ x. block_read (g.S.Store.contents x) c.args.path c.args.metadata) c.close.ensures.storage in
+    let read = c.in_ok-block.ensures.ok ∙ ap (λ x. block_with_own (g.S.Store.contents x) c.args.path c.args.metadata) c.close.ensures.storage in
     record {
       count = c.in-Some.ensures.1;
       «above» = mid;
@@ -25,10 +23,10 @@ returns-clause-ok g c =
           (subst (λ bs. PlacesAscend c.deref.result.now → AreCompared c.deref.result.now e bs blocks) closed.blocks c.in_ok-compare_all.ensures);
       puts = elim c.match-branch-3.branch [
         | in-Some-2+in_ok-put_block w ↦
-            subst (λ o. MayPutBlock blocks mid c.args.path o c.match-branch-3.self.blocks.items c.match-branch-3.self.above.items) (sym (read_shown w.in-Some-2.block) ∙ sym (ap as_read w.in-Some-2.is) ∙ read)
+            subst (λ o. MayPutBlock blocks mid c.args.path o c.match-branch-3.self.blocks.items c.match-branch-3.self.above.items) (sym (ap as_known w.in-Some-2.is) ∙ read)
             (subst (λ x. MayPutBlock blocks mid c.args.path (Some (shown_block w.in-Some-2.block)) x.blocks.items x.above.items) (sym w.self-is) w.in_ok-put_block.ensures.put)
         | in_default-2 w ↦
-            subst (λ o. MayPutBlock blocks mid c.args.path o c.match-branch-3.self.blocks.items c.match-branch-3.self.above.items) (sym (ap as_read w.in_default-2.is) ∙ read)
+            subst (λ o. MayPutBlock blocks mid c.args.path o c.match-branch-3.self.blocks.items c.match-branch-3.self.above.items) (sym (ap as_known w.in_default-2.is) ∙ read)
             (ap (λ x. x.blocks.items) w.self-is, ap (λ x. x.above.items) w.self-is)
       ];
     }
