@@ -1,3 +1,4 @@
+pub mod Counts
 pub mod FolderNames
 pub mod Json
 pub mod Lines
@@ -8,3 +9,4 @@ pub mod LoadedReports
 pub mod Order
 pub mod Runs
 pub mod Telling
+pub mod ToldTexts

@@ -21,7 +21,7 @@ use Rattle.zarrs_store.proofs.Cuts.{parts-append, parts_one, prefix_text-cons, s
 use Rattle.zarrs_path.specs.Paths.{Path, path_cmp}
 use Rattle.zarrs_path.specs.PathOrder.{path_decides, path_ties, path_total}
 use Rattle.zarrs.specs.declared.kind.RemarkKind.{RemarkKind}
-use Rattle.zarrs.specs.declared.kind.RemarkKind.TheVariants.{BadDocument, BadName, NoNode, BadBlock, BadKey, Shadowed, OwnKey, Differs, Unreachable, Stale, Unreached, Missing, Misplaced, Beside}
+use Rattle.zarrs.specs.declared.kind.RemarkKind.TheVariants.{BadDocument, BadName, NoNode, Orphaned, BadShape, NotOpened, BadBlock, BadKey, Shadowed, OwnKey, OwnAttributes, Differs, Unreachable, Stale, Unreached, Missing, Misplaced, Beside}
 use Rattle.zarrs.specs.declared.remark.Remark.{Remark}
 use Rattle.zarrs.specs.Kinds.{kind_word}
 use Rattle.zarrs.specs.Report.{is_asked, remark_cmp, RemarksAscend}
@@ -81,15 +81,19 @@ kind_named word =
     cond (bytes_eq word (codes "bad-document")) BadDocument
     (cond (bytes_eq word (codes "bad-name")) BadName
     (cond (bytes_eq word (codes "no-node")) NoNode
+    (cond (bytes_eq word (codes "orphaned")) Orphaned
+    (cond (bytes_eq word (codes "bad-shape")) BadShape
+    (cond (bytes_eq word (codes "not-opened")) NotOpened
     (cond (bytes_eq word (codes "bad-block")) BadBlock
     (cond (bytes_eq word (codes "bad-key")) BadKey
     (cond (bytes_eq word (codes "shadowed")) Shadowed
     (cond (bytes_eq word (codes "own-key")) OwnKey
+    (cond (bytes_eq word (codes "own-attributes")) OwnAttributes
     (cond (bytes_eq word (codes "unreached")) Unreached
     (cond (bytes_eq word (codes "differs")) Differs
     (cond (bytes_eq word (codes "unreachable")) Unreachable
     (cond (bytes_eq word (codes "stale")) Stale
-    (cond (bytes_eq word (codes "missing")) Missing (cond (bytes_eq word (codes "misplaced")) Misplaced Beside))))))))))))
+    (cond (bytes_eq word (codes "missing")) Missing (cond (bytes_eq word (codes "misplaced")) Misplaced Beside))))))))))))))))
 
 -- the word for a kind names it
 kind_named_back : (kind : RemarkKind) → kind_named (kind_word kind) ≡ kind
@@ -97,10 +101,14 @@ unfolding kind_named
 kind_named_back BadDocument = refl
 kind_named_back BadName = refl
 kind_named_back NoNode = refl
+kind_named_back Orphaned = refl
+kind_named_back BadShape = refl
+kind_named_back NotOpened = refl
 kind_named_back BadBlock = refl
 kind_named_back BadKey = refl
 kind_named_back Shadowed = refl
 kind_named_back OwnKey = refl
+kind_named_back OwnAttributes = refl
 kind_named_back Unreached = refl
 kind_named_back Differs = refl
 kind_named_back Unreachable = refl

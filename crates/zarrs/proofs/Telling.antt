@@ -1,6 +1,7 @@
 -- The remarks on a survey and on the findings beside it are exactly what there is to tell, each once.
-use Rattle.std.proofs.Common.{◌≡◌, ◌≢◌, inl, inr, ⊎_elim, ℕ, ◌+◌, true, true≢false, List, [], ◌∷◌, ◌++◌, get_or, length, map, AllPairs, Option, Some, None, Less, is_eq, Result, Ok, Err, refl, sym, ap, subst, ◌∙◌, arith, ◌<◌, Contains, append_assoc, codes, take}
+use Rattle.std.proofs.Common.{◌≡◌, ◌≢◌, inl, inr, ⊎_elim, ℕ, ◌+◌, true, true≢false, List, [], ◌∷◌, ◌++◌, get_or, length, map, zip, AllPairs, Option, Some, None, Less, is_eq, Result, Ok, Err, IfOk, String, string_bytes, refl, sym, ap, subst, ◌∙◌, arith, ◌<◌, Contains, append_assoc, codes, take}
 use Rattle.std.specs.List.{filter, list_all}
+use Rattle.std.specs.declared.alloc.Global.{Global}
 use Rattle.std.specs.Option.{unwrap_or}
 use Rattle.std.proofs.lemmas.Bool.{and_parts}
 use Rattle.std.proofs.lemmas.Cmp.{tied_itself, nat_list_cmp_total}
@@ -30,10 +31,15 @@ use Rattle.zarrs_node.proofs.Order.{contains_cases}
 use Rattle.zarrs_node.proofs.Unique.{names_irrefl}
 use Rattle.zarrs_survey.specs.Surveys.{BadDocuments, BadNames}
 use Rattle.zarrs_survey.specs.Findings.{key_of, rank_of}
-use Rattle.zarrs_survey.specs.Checks.{HasNode, IsBaseOutcome, IsCheckOf, IsCount, StandsBefore, AreBlockFindings}
+use Rattle.zarrs_notes.specs.FindingTexts.{node_finding_text}
+use Rattle.zarrs_notes.specs.NodeFindings.{IsNodeFinding, AreNodeFindings, ComesBefore, place_of, field_of}
+use Rattle.zarrs_notes.specs.declared.finding.NodeFinding.{NodeFinding}
+use Rattle.zarrs_notes.specs.declared.finding.NodeFinding.TheVariants as told
+use Rattle.zarrs_survey.specs.Checks.{HasNode, IsBaseOutcome, IsCheckOf, IsCount, IsNodeTold, IsToldBefore, StandsBefore, AreBlockFindings}
 use Rattle.zarrs_survey.specs.declared.finding.Finding.{Finding}
 use Rattle.zarrs_survey.specs.declared.finding.FindingKind.{FindingKind}
-use Rattle.zarrs_survey.specs.declared.finding.FindingKind.TheVariants.{BlockFault, BadKey, Shadowed, OwnKey, Unreachable, Stale, Unreached, Differs, Missing}
+use Rattle.zarrs_survey.specs.declared.finding.FindingKind.TheVariants.{BlockFault, BadKey, Shadowed, OwnKey, OwnAttributes, Unreachable, Stale, Unreached, Differs, Missing}
+use Rattle.zarrs_survey.specs.Orphans.{IsCountBelow, IsOrphan}
 use Rattle.zarrs_survey.specs.declared.check.Check.{Check}
 use Rattle.zarrs.specs.declared.remark.Remark.{Remark}
 use Rattle.zarrs.specs.declared.report.Tally.{Tally}
@@ -41,10 +47,12 @@ use Rattle.zarrs.specs.declared.kind.RemarkKind.{RemarkKind}
 use Rattle.zarrs.specs.declared.kind.RemarkKind.TheVariants as remark
 use Rattle.zarrs.specs.declared.kind.RemarkKind.TheVariants.{NoNode}
 use Rattle.zarrs.specs.declared.words.CheckOptions.{CheckOptions}
-use Rattle.zarrs.specs.Kinds.{finding_kind, wrong_key}
-use Rattle.zarrs.specs.Report.{own_remark, error_remark, remark_of, remarks_text, tally_of, is_asked, IsOwnRemark, IsRemark, IsAskedFor, IsReport}
-use Rattle.zarrs.specs.StepsOfReports.{AreSorted, base_remarks, document_remark, name_remark, own_remarks}
+use Rattle.zarrs.specs.Kinds.{error_kind, finding_kind, told_kind, wrong_key}
+use Rattle.zarrs.specs.Report.{own_remark, error_remark, document_remark, orphan_remark, remark_of, told_remark, remarks_text, tally_of, is_asked, IsOwnRemark, IsRemark, IsNodeRemark, IsAskedFor, IsArrayOf, IsReport, IsReportFrom, IsWholeReport}
+use Rattle.zarrs.specs.StepsOfReports.{AreSorted, asked_of, base_remarks, document_remarks, name_remark, node_remarks, own_remarks}
+use Rattle.zarrs.proofs.Counts.{count_once, pair_complete, pair_sound, pairs_apart}
 use Rattle.zarrs.proofs.Order.{sorted_ascend, ascend_once}
+use Rattle.zarrs.proofs.ToldTexts.{places_same, fields_same}
 
 -- ---- lists
 
@@ -135,6 +143,7 @@ key_from (BlockFault fault) = refl
 key_from (BadKey key) = refl
 key_from (Shadowed key) = refl
 key_from (OwnKey key) = refl
+key_from OwnAttributes = refl
 key_from Unreachable = refl
 key_from Stale = refl
 key_from Unreached = refl
@@ -143,11 +152,12 @@ key_from Missing = refl
 
 -- the rank of a remark's kind among those of blocks
 rank_by : RemarkKind → ℕ
-rank_by remark.Unreachable = 1
-rank_by remark.Stale = 2
-rank_by remark.Unreached = 2
-rank_by remark.Differs = 2
-rank_by remark.Missing = 2
+rank_by remark.OwnAttributes = 1
+rank_by remark.Unreachable = 2
+rank_by remark.Stale = 3
+rank_by remark.Unreached = 3
+rank_by remark.Differs = 3
+rank_by remark.Missing = 3
 rank_by _ = 0
 
 -- is that of the finding
@@ -157,6 +167,7 @@ rank_from (BlockFault fault) = refl
 rank_from (BadKey key) = refl
 rank_from (Shadowed key) = refl
 rank_from (OwnKey key) = refl
+rank_from OwnAttributes = refl
 rank_from Unreachable = refl
 rank_from Stale = refl
 rank_from Unreached = refl
@@ -175,6 +186,61 @@ keys_same j k same = key_from j ∙ (ap (λ key. unwrap_or key []) same ∙ sym 
 abbrev HasGroup : Option Path → Type 0
 HasGroup None = ⊥
 HasGroup (Some g) = Unit {0}
+
+-- ---- what the documents of nodes tell
+
+-- the kind is of what the documents of a node tell
+abbrev IsTold : RemarkKind → Type 0
+IsTold remark.BadShape = Unit {0}
+IsTold remark.NotOpened = Unit {0}
+IsTold remark.Misplaced = Unit {0}
+IsTold remark.Beside = Unit {0}
+IsTold _ = ⊥
+
+-- it is of each of these
+told_is : (f : NodeFinding) → IsTold (told_kind f)
+told_is (told.GridRank lengths shape) = tt
+told_is told.ZeroLength = tt
+told_is (told.NameCount names shape) = tt
+told_is (told.UnknownField name) = tt
+told_is (told.DemandingBlock group) = tt
+told_is told.MisplacedBlock = tt
+told_is (told.Beside file document) = tt
+
+-- and of no error
+error_is_not : (e : NodeCreateError) → IsTold (error_kind e) → ⊥
+error_is_not (MissingMetadata t) h = h
+error_is_not (NodePathError e) h = h
+error_is_not (StorePrefixError e) h = h
+error_is_not (StorageError e) h = h
+error_is_not MetadataVersionMismatch h = h
+error_is_not OutOfMemory h = h
+
+-- the kind is of what is lost below a path without a document
+abbrev IsLost : RemarkKind → Type 0
+IsLost remark.Orphaned = Unit {0}
+IsLost _ = ⊥
+
+-- it is of no error
+error_is_kept : (e : NodeCreateError) → IsLost (error_kind e) → ⊥
+error_is_kept (MissingMetadata t) h = h
+error_is_kept (NodePathError e) h = h
+error_is_kept (StorePrefixError e) h = h
+error_is_kept (StorageError e) h = h
+error_is_kept MetadataVersionMismatch h = h
+error_is_kept OutOfMemory h = h
+
+-- the remark on a bad document and its number
+abbrev paired : (Path × NodeCreateError) × ℕ → Remark
+paired x = document_remark x.0 x.1
+
+-- the order of what is told of a node is strict: it sees the place and the field, which the text tells
+not_before_told : (f h : NodeFinding) → node_finding_text f ≡ node_finding_text h → ComesBefore f h → ⊥
+not_before_told f h same = ⊎_elim
+    (λ less. omega (arith, places_same f h same, less))
+    (λ level.
+    true≢false
+    (sym (ap is_eq (tied_itself nat_list_cmp_total (field_of h))) ∙ ap is_eq (subst (λ t. bytes_cmp t (field_of h) ≡ Less) (fields_same f h same) level.1)))
 
 -- what base remarks are of
 base_remark_of : (b : Path) (base : Result (Unit {0}) NodeCreateError) (r : Remark) → Contains (base_remarks b base) r → (e : NodeCreateError) × (base ≡ Err e) × (r ≡ error_remark b e)
@@ -236,16 +302,56 @@ told_next f xs i x r start old new lt at is more told =
     ap (map f) (take_more xs i x lt) ∙ (map-append f (take i xs) (get_or xs i x ∷ []) ∙ ap (λ y. map f (take i xs) ++ f y ∷ []) (sym at)) in
     more ∙ (ap (λ q. q ++ r ∷ []) told ∙ (append_assoc start (map f (take i xs)) (r ∷ []) ∙ (ap (λ q. start ++ (map f (take i xs) ++ q ∷ [])) is ∙ ap (λ q. start ++ q) (sym front))))
 
+-- ---- what is told, in its order
+
+module _ (told : Remark → Type 0) (all : List Remark) (sound : (r : Remark) → Contains all r → told r) (complete : (r : Remark) → told r → Contains all r) (once : AllPairs (λ q r. q ≢ r) all) (options : CheckOptions) where
+  -- those that a report has
+  abbrev asked : List Remark
+  asked = asked_of options all
+
+  asked_once : AllPairs (λ q r. q ≢ r) asked
+  asked_once = AllPairs-filter (λ q r. q ≢ r) (is_asked options.notes) all once
+
+  asked_sound : (r : Remark) → Contains asked r → IsAskedFor options told r
+  asked_sound r in' = (sound r (contains_filtered (is_asked options.notes) all r in'), filter_holds (is_asked options.notes) all r in')
+
+  asked_complete : (r : Remark) → IsAskedFor options told r → Contains asked r
+  asked_complete r is = filter_keeps (is_asked options.notes) all r is.1 (complete r is.0)
+
+  -- in their order they are exactly those that are to be told
+  sorted_lists : (rs : List Remark) → AreSorted asked rs → Lists (IsAskedFor options told) rs
+  sorted_lists rs sorted = record {
+    each_once = ascend_once rs (sorted_ascend asked rs asked_once sorted.moved sorted.ordered);
+    sound = All-permutation (IsAskedFor options told) asked rs sorted.moved (λ i d l. asked_sound (get_or asked i d) (Contains-get_or asked i d l));
+    complete = λ r is. Contains-permutation asked rs r sorted.moved (asked_complete r is);
+  }
+
+  -- the text of the sorted remarks is the report
+  reported : (nodes : ℕ) (rs : List Remark) (tally : Tally) (text : List ℕ) → AreSorted asked rs → tally ≡ tally_of options nodes rs → text ≡ remarks_text options rs → IsReport told options nodes tally text
+  reported nodes rs tally text sorted numbers is = record {
+    remarks = rs;
+    lists = sorted_lists rs sorted;
+    ascend = sorted_ascend asked rs asked_once sorted.moved sorted.ordered;
+    is = is;
+    numbers = numbers;
+  }
+
 module _ (s : Contents) (b : Path) (c : Check) (h : IsCheckOf s Default b c) (k : AreBlockFindings s Default b c.findings.items) where
-  -- the faults of the base, of bad documents and of bad names, and what there is to tell of blocks
+  -- the faults of the base, of bad documents and of bad names, what is lost below paths without documents, what the documents of nodes tell, and what there is to tell of blocks
   abbrev bases : List Remark
   bases = base_remarks c.path c.base
 
   abbrev documents : List Remark
-  documents = map document_remark c.bad_documents
+  documents = document_remarks c.bad_documents c.hidden.items
 
   abbrev names : List Remark
   names = map name_remark c.bad_names.items
+
+  abbrev orphans : List Remark
+  orphans = map orphan_remark c.orphans.items
+
+  abbrev tolds : List Remark
+  tolds = map told_remark c.told.items
 
   abbrev blocks : List Remark
   blocks = map remark_of c.findings.items
@@ -262,16 +368,36 @@ module _ (s : Contents) (b : Path) (c : Check) (h : IsCheckOf s Default b c) (k 
 
   document_sound : (r : Remark) → Contains documents r → IsOwnRemark s b r
   document_sound r in' =
-      let w = contains_mapped document_remark c.bad_documents r in' in
-      inr (inl (w.0, (listed_each h.bad_documents w.0).0 w.1, sym w.2))
+      let w = contains_mapped paired (zip c.bad_documents c.hidden.items) r in' in
+      let v = pair_sound s c.bad_documents c.hidden.items h.hidden w.0 w.1 in
+      inr (inl (w.0.0, w.0.1, (listed_each h.bad_documents w.0.0).0 v.0, v.1, sym w.2))
 
   name_sound : (r : Remark) → Contains names r → IsOwnRemark s b r
   name_sound r in' =
       let w = contains_mapped name_remark c.bad_names.items r in' in
-      inr (inr (w.0, (listed_each h.bad_names w.0).0 w.1, sym w.2))
+      inr (inr (inl (w.0, (listed_each h.bad_names w.0).0 w.1, sym w.2)))
+
+  told_sound : (r : Remark) → Contains tolds r → IsOwnRemark s b r
+  told_sound r in' =
+      let w = contains_mapped told_remark c.told.items r in' in
+      inr (inr (inr (inr (w.0, (listed_each h.told w.0).0 w.1, sym w.2))))
+
+  orphan_sound : (r : Remark) → Contains orphans r → IsOwnRemark s b r
+  orphan_sound r in' =
+      let w = contains_mapped orphan_remark c.orphans.items r in' in
+      inr (inr (inr (inl (w.0, (listed_each h.orphans w.0).0 w.1, sym w.2))))
 
   own_sound : (r : Remark) → Contains (own_remarks c) r → IsOwnRemark s b r
-  own_sound r in' = ⊎_elim (base_sound r) (λ later. ⊎_elim (document_sound r) (name_sound r) (Contains-append_cases documents names r later)) (Contains-append_cases bases (documents ++ names) r in')
+  own_sound r in' = ⊎_elim
+      (base_sound r)
+      (λ later. ⊎_elim
+      (document_sound r)
+      (λ more. ⊎_elim
+      (name_sound r)
+      (λ last. ⊎_elim (orphan_sound r) (told_sound r) (Contains-append_cases orphans tolds r last))
+      (Contains-append_cases names (orphans ++ tolds) r more))
+      (Contains-append_cases documents (names ++ (orphans ++ tolds)) r later))
+      (Contains-append_cases bases (documents ++ (names ++ (orphans ++ tolds))) r in')
 
   block_sound : (r : Remark) → Contains blocks r → IsRemark s b r
   block_sound r in' = let w = contains_mapped remark_of c.findings.items r in' in inr (w.0, (k.exact w.0).0 w.1, sym w.2)
@@ -282,23 +408,45 @@ module _ (s : Contents) (b : Path) (c : Check) (h : IsCheckOf s Default b c) (k 
   -- ---- what is to be told is
 
   base_complete : (e : NodeCreateError) → RefusesNode s Default b e → Contains (own_remarks c) (error_remark b e)
-  base_complete e refused = Contains-append_left bases (documents ++ names) (error_remark b e)
+  base_complete e refused = Contains-append_left bases (documents ++ (names ++ (orphans ++ tolds))) (error_remark b e)
       (subst (λ p. Contains (base_remarks p c.base) (error_remark b e)) (sym h.path) (base_told s b c.base e h.base refused))
 
-  document_complete : (d : Path × NodeCreateError) → BadDocuments s Default b d → Contains (own_remarks c) (document_remark d)
-  document_complete d is = Contains-append_right bases (documents ++ names) (document_remark d)
-      (Contains-append_left documents names (document_remark d) (contains_map document_remark c.bad_documents d ((listed_each h.bad_documents d).1 is)))
+  document_complete : (d : Path × NodeCreateError) (n : ℕ) → BadDocuments s Default b d → IsCountBelow s d.0 n → Contains (own_remarks c) (document_remark d n)
+  document_complete d n is count =
+      let w = pair_complete s c.bad_documents c.hidden.items h.hidden d ((listed_each h.bad_documents d).1 is) in
+      let v = pair_sound s c.bad_documents c.hidden.items h.hidden (d, w.0) w.1 in
+      subst (λ k. Contains (own_remarks c) (document_remark d k)) (count_once s d.0 w.0 n v.1 count)
+      (Contains-append_right bases (documents ++ (names ++ (orphans ++ tolds))) (document_remark d w.0)
+      (Contains-append_left documents (names ++ (orphans ++ tolds)) (document_remark d w.0) (contains_map paired (zip c.bad_documents c.hidden.items) (d, w.0) w.1)))
+
+  later_complete : (r : Remark) → Contains (names ++ (orphans ++ tolds)) r → Contains (own_remarks c) r
+  later_complete r in' = Contains-append_right bases (documents ++ (names ++ (orphans ++ tolds))) r (Contains-append_right documents (names ++ (orphans ++ tolds)) r in')
 
   name_complete : (p : Path) → BadNames s Default b p → Contains (own_remarks c) (name_remark p)
-  name_complete p is = Contains-append_right bases (documents ++ names) (name_remark p)
-      (Contains-append_right documents names (name_remark p) (contains_map name_remark c.bad_names.items p ((listed_each h.bad_names p).1 is)))
+  name_complete p is = later_complete (name_remark p)
+      (Contains-append_left names (orphans ++ tolds) (name_remark p) (contains_map name_remark c.bad_names.items p ((listed_each h.bad_names p).1 is)))
+
+  last_complete : (r : Remark) → Contains (orphans ++ tolds) r → Contains (own_remarks c) r
+  last_complete r in' = later_complete r (Contains-append_right names (orphans ++ tolds) r in')
+
+  orphan_complete : (o : Path × ℕ) → IsOrphan s Default b o → Contains (own_remarks c) (orphan_remark o)
+  orphan_complete o is = last_complete (orphan_remark o)
+      (Contains-append_left orphans tolds (orphan_remark o) (contains_map orphan_remark c.orphans.items o ((listed_each h.orphans o).1 is)))
+
+  told_complete : (t : Path × NodeFinding) → IsNodeTold s Default b t → Contains (own_remarks c) (told_remark t)
+  told_complete t is = last_complete (told_remark t)
+      (Contains-append_right orphans tolds (told_remark t) (contains_map told_remark c.told.items t ((listed_each h.told t).1 is)))
 
   own_complete : (r : Remark) → IsOwnRemark s b r → Contains (own_remarks c) r
   own_complete r = ⊎_elim
       (λ w. subst (Contains (own_remarks c)) (sym w.2) (base_complete w.0 w.1))
       (⊎_elim
-      (λ w. subst (Contains (own_remarks c)) (sym w.2) (document_complete w.0 w.1))
-      (λ w. subst (Contains (own_remarks c)) (sym w.2) (name_complete w.0 w.1)))
+      (λ w. subst (Contains (own_remarks c)) (sym w.4) (document_complete w.0 w.1 w.2 w.3))
+      (⊎_elim
+      (λ w. subst (Contains (own_remarks c)) (sym w.2) (name_complete w.0 w.1))
+      (⊎_elim
+      (λ w. subst (Contains (own_remarks c)) (sym w.2) (orphan_complete w.0 w.1))
+      (λ w. subst (Contains (own_remarks c)) (sym w.2) (told_complete w.0 w.1)))))
 
   complete : (r : Remark) → IsRemark s b r → Contains all r
   complete r = ⊎_elim
@@ -308,17 +456,30 @@ module _ (s : Contents) (b : Path) (c : Check) (h : IsCheckOf s Default b c) (k 
   -- ---- none is told twice
 
   documents_once : AllPairs (λ q r. q ≢ r) documents
-  documents_once = once_mapped (λ d e. d ≢ e) document_remark c.bad_documents
-      (λ d e p q apart same.
-      let mine = (listed_each h.bad_documents d).0 p in
-      let theirs = (listed_each h.bad_documents e).0 q in
-      let paths : d.0 ≡ e.0 = ap (λ r. r.path) same in
-      let errors : d.1 ≡ e.1 = bad_same d.1 e.1 (sym mine.1 ∙ (ap (meaning s Default) paths ∙ theirs.1)) in
-      apart (ap (λ x. (x, d.1)) paths ∙ ap (λ x. (e.0, x)) errors))
-      h.bad_documents.each_once
+  documents_once = once_mapped (λ x y. x.0 ≢ y.0) paired (zip c.bad_documents c.hidden.items)
+      (λ x y p q apart same.
+      let mine = (listed_each h.bad_documents x.0).0 (pair_sound s c.bad_documents c.hidden.items h.hidden x p).0 in
+      let theirs = (listed_each h.bad_documents y.0).0 (pair_sound s c.bad_documents c.hidden.items h.hidden y q).0 in
+      let paths : x.0.0 ≡ y.0.0 = ap (λ r. r.path) same in
+      let errors : x.0.1 ≡ y.0.1 = bad_same x.0.1 y.0.1 (sym mine.1 ∙ (ap (meaning s Default) paths ∙ theirs.1)) in
+      apart (ap (λ p. (p, x.0.1)) paths ∙ ap (λ e. (y.0.0, e)) errors))
+      (pairs_apart c.bad_documents c.hidden.items h.bad_documents.each_once)
 
   names_once : AllPairs (λ q r. q ≢ r) names
   names_once = once_mapped (λ p q. p ≢ q) name_remark c.bad_names.items (λ p q x y apart same. apart (ap (λ r. r.path) same)) h.bad_names.each_once
+
+  orphans_once : AllPairs (λ q r. q ≢ r) orphans
+  orphans_once = once_mapped (λ o q. path_cmp o.0 q.0 ≡ Less) orphan_remark c.orphans.items
+      (λ o q x y less same. names_irrefl q.0 (subst (λ p. path_cmp p q.0 ≡ Less) (ap (λ r. r.path) same) less))
+      h.orphans_ascend
+
+  tolds_once : AllPairs (λ q r. q ≢ r) tolds
+  tolds_once = once_mapped IsToldBefore told_remark c.told.items
+      (λ t u p q before same. ⊎_elim
+      (λ less. names_irrefl u.0 (subst (λ x. path_cmp x u.0 ≡ Less) (ap (λ r. r.path) same) less))
+      (λ level. not_before_told t.1 u.1 (ap (λ r. r.text) same) level.1)
+      before)
+      h.told_ascend
 
   blocks_once : AllPairs (λ q r. q ≢ r) blocks
   blocks_once = once_mapped StandsBefore remark_of c.findings.items
@@ -332,65 +493,109 @@ module _ (s : Contents) (b : Path) (c : Check) (h : IsCheckOf s Default b c) (k 
       let w = base_remark_of c.path c.base q in' in
       let at : b ≡ r.path = sym h.path ∙ (ap (λ x. x.path) (sym w.2) ∙ ap (λ x. x.path) same) in
       ⊎_elim
-      (λ d. let v = contains_mapped document_remark c.bad_documents r d in document_below s b v.0 ((listed_each h.bad_documents v.0).0 v.1) (at ∙ ap (λ x. x.path) (sym v.2)))
+      (λ d.
+      let v = contains_mapped paired (zip c.bad_documents c.hidden.items) r d in
+      document_below s b v.0.0 ((listed_each h.bad_documents v.0.0).0 (pair_sound s c.bad_documents c.hidden.items h.hidden v.0 v.1).0) (at ∙ ap (λ x. x.path) (sym v.2)))
       (λ n. let v = contains_mapped name_remark c.bad_names.items r n in name_below s b v.0 ((listed_each h.bad_names v.0).0 v.1) (at ∙ ap (λ x. x.path) (sym v.2)))
       (Contains-append_cases documents names r later)
 
+  -- what the documents of nodes tell is of other kinds than the faults of paths
+  base_other : (q : Remark) → Contains bases q → IsTold q.kind → ⊥
+  base_other q in' is = let w = base_remark_of c.path c.base q in' in error_is_not w.0 (subst (λ x. IsTold x.kind) w.2 is)
+
+  document_other : (q : Remark) → Contains documents q → IsTold q.kind → ⊥
+  document_other q in' is = let w = contains_mapped paired (zip c.bad_documents c.hidden.items) q in' in error_is_not w.0.0.1 (subst (λ x. IsTold x.kind) (sym w.2) is)
+
+  name_other : (q : Remark) → Contains names q → IsTold q.kind → ⊥
+  name_other q in' is = let w = contains_mapped name_remark c.bad_names.items q in' in subst (λ x. IsTold x.kind) (sym w.2) is
+
+  told_apart : (q r : Remark) → (IsTold q.kind → ⊥) → Contains tolds r → q ≢ r
+  told_apart q r other in' same =
+      let w = contains_mapped told_remark c.told.items r in' in
+      other (subst (λ x. IsTold x.kind) (w.2 ∙ sym same) (told_is w.0.1))
+
+  -- what is lost below paths without documents is of a kind of its own
+  orphan_apart : (q r : Remark) → (IsLost q.kind → ⊥) → Contains orphans r → q ≢ r
+  orphan_apart q r other in' same = let w = contains_mapped orphan_remark c.orphans.items r in' in other (subst (λ x. IsLost x.kind) (w.2 ∙ sym same) tt)
+
+  base_kept : (q : Remark) → Contains bases q → IsLost q.kind → ⊥
+  base_kept q in' is = let w = base_remark_of c.path c.base q in' in error_is_kept w.0 (subst (λ x. IsLost x.kind) w.2 is)
+
+  document_kept : (q : Remark) → Contains documents q → IsLost q.kind → ⊥
+  document_kept q in' is = let w = contains_mapped paired (zip c.bad_documents c.hidden.items) q in' in error_is_kept w.0.0.1 (subst (λ x. IsLost x.kind) (sym w.2) is)
+
+  name_kept : (q : Remark) → Contains names q → IsLost q.kind → ⊥
+  name_kept q in' is = let w = contains_mapped name_remark c.bad_names.items q in' in subst (λ x. IsLost x.kind) (sym w.2) is
+
+  orphan_other : (q : Remark) → Contains orphans q → IsTold q.kind → ⊥
+  orphan_other q in' is = let w = contains_mapped orphan_remark c.orphans.items q in' in subst (λ x. IsTold x.kind) (sym w.2) is
+
+  -- what is of neither is no remark of these
+  last_apart : (q r : Remark) → (IsLost q.kind → ⊥) → (IsTold q.kind → ⊥) → Contains (orphans ++ tolds) r → q ≢ r
+  last_apart q r kept other in' = ⊎_elim (orphan_apart q r kept) (told_apart q r other) (Contains-append_cases orphans tolds r in')
+
   later_apart : (q r : Remark) → Contains documents q → Contains names r → q ≢ r
   later_apart q r in' later same =
-      let w = contains_mapped document_remark c.bad_documents q in' in
+      let w = contains_mapped paired (zip c.bad_documents c.hidden.items) q in' in
       let v = contains_mapped name_remark c.bad_names.items r later in
-      document_not_name s b w.0 v.0 ((listed_each h.bad_documents w.0).0 w.1) ((listed_each h.bad_names v.0).0 v.1) (ap (λ x. x.path) (w.2 ∙ (same ∙ sym v.2)))
+      document_not_name s b w.0.0 v.0 ((listed_each h.bad_documents w.0.0).0 (pair_sound s c.bad_documents c.hidden.items h.hidden w.0 w.1).0) ((listed_each h.bad_names v.0).0 v.1) (ap (λ x. x.path) (w.2 ∙ (same ∙ sym v.2)))
 
   -- a path's own fault is of no group
   own_group : (r : Remark) → IsOwnRemark s b r → HasGroup r.group → ⊥
   own_group r = ⊎_elim
       (λ w has. subst (λ x. HasGroup x.group) w.2 has)
-      (⊎_elim (λ w has. subst (λ x. HasGroup x.group) w.2 has) (λ w has. subst (λ x. HasGroup x.group) w.2 has))
+      (⊎_elim
+      (λ w has. subst (λ x. HasGroup x.group) w.4 has)
+      (⊎_elim
+      (λ w has. subst (λ x. HasGroup x.group) w.2 has)
+      (⊎_elim (λ w has. subst (λ x. HasGroup x.group) w.2 has) (λ w has. subst (λ x. HasGroup x.group) w.2 has))))
 
   own_apart : (q r : Remark) → Contains (own_remarks c) q → Contains blocks r → q ≢ r
   own_apart q r in' later same =
       let v = contains_mapped remark_of c.findings.items r later in
       own_group q (own_sound q in') (subst (λ x. HasGroup x.group) (v.2 ∙ sym same) tt)
 
+  named_once : AllPairs (λ q r. q ≢ r) (names ++ (orphans ++ tolds))
+  named_once = all_pairs_append (λ q r. q ≢ r) names (orphans ++ tolds) names_once
+      (all_pairs_append (λ q r. q ≢ r) orphans tolds orphans_once tolds_once (λ q r in' later. told_apart q r (orphan_other q in') later))
+      (λ q r in' later. last_apart q r (name_kept q in') (name_other q in') later)
+
+  below_once : AllPairs (λ q r. q ≢ r) (documents ++ (names ++ (orphans ++ tolds)))
+  below_once = all_pairs_append (λ q r. q ≢ r) documents (names ++ (orphans ++ tolds)) documents_once named_once
+      (λ q r in' later. ⊎_elim (later_apart q r in') (last_apart q r (document_kept q in') (document_other q in')) (Contains-append_cases names (orphans ++ tolds) r later))
+
+  own_once : AllPairs (λ q r. q ≢ r) (own_remarks c)
+  own_once = all_pairs_append (λ q r. q ≢ r) bases (documents ++ (names ++ (orphans ++ tolds))) (base_once s c.path c.base) below_once
+      (λ q r in' later. ⊎_elim
+      (λ d. base_apart q r in' (Contains-append_left documents names r d))
+      (λ more. ⊎_elim
+      (λ n. base_apart q r in' (Contains-append_right documents names r n))
+      (last_apart q r (base_kept q in') (base_other q in'))
+      (Contains-append_cases names (orphans ++ tolds) r more))
+      (Contains-append_cases documents (names ++ (orphans ++ tolds)) r later))
+
   all_once : AllPairs (λ q r. q ≢ r) all
-  all_once = all_pairs_append (λ q r. q ≢ r) (own_remarks c) blocks
-      (all_pairs_append (λ q r. q ≢ r) bases (documents ++ names) (base_once s c.path c.base)
-      (all_pairs_append (λ q r. q ≢ r) documents names documents_once names_once later_apart) base_apart)
-      blocks_once own_apart
+  all_once = all_pairs_append (λ q r. q ≢ r) (own_remarks c) blocks own_once blocks_once own_apart
 
-  -- ---- the whole
+  -- the report on all of them
+  pub report_is : (options : CheckOptions) (rs : List Remark) (tally : Tally) (text : List ℕ) → AreSorted (asked_of options all) rs → tally ≡ tally_of options c.nodes rs → text ≡ remarks_text options rs
+      → IsWholeReport s b options tally text
+  report_is options rs tally text sorted numbers is = (c.nodes, h.nodes, reported (IsRemark s b) all sound complete all_once options c.nodes rs tally text sorted numbers is)
 
-  module _ (options : CheckOptions) where
-    -- those that a report has
-    abbrev asked : List Remark
-    asked = filter (is_asked options.notes) all
+-- ---- one node
 
-    asked_once : AllPairs (λ q r. q ≢ r) asked
-    asked_once = AllPairs-filter (λ q r. q ≢ r) (is_asked options.notes) all all_once
+-- what the documents of one node tell is reported
+pub node_report_is : (s : Contents) (p : Path) (m : NodeMetadata) (found : List NodeFinding) → AreNodeFindings s p m found → (options : CheckOptions) (rs : List Remark) (tally : Tally) (text : List ℕ)
+    → AreSorted (asked_of options (node_remarks p found)) rs → tally ≡ tally_of options 1 rs → text ≡ remarks_text options rs → IsReport (IsNodeRemark s p m) options 1 tally text
+node_report_is s p m found are options rs tally text sorted numbers is =
+    reported (IsNodeRemark s p m) (node_remarks p found)
+    (λ r in'. let w = contains_mapped (λ f. told_remark (p, f)) found r in' in (w.0, (are.exact w.0).0 w.1, sym w.2))
+    (λ r w. subst (Contains (node_remarks p found)) (sym w.2) (contains_map (λ f. told_remark (p, f)) found w.0 ((are.exact w.0).1 w.1)))
+    (once_mapped ComesBefore (λ f. told_remark (p, f)) found (λ f g x y before same. not_before_told f g (ap (λ r. r.text) same) before) are.ascend)
+    options 1 rs tally text sorted numbers is
 
-    asked_sound : (r : Remark) → Contains asked r → IsAskedFor options s b r
-    asked_sound r in' = (sound r (contains_filtered (is_asked options.notes) all r in'), filter_holds (is_asked options.notes) all r in')
-
-    asked_complete : (r : Remark) → IsAskedFor options s b r → Contains asked r
-    asked_complete r is = filter_keeps (is_asked options.notes) all r is.1 (complete r is.0)
-
-    -- in their order they are exactly those that are to be told
-    sorted_lists : (rs : List Remark) → AreSorted asked rs → Lists (IsAskedFor options s b) rs
-    sorted_lists rs sorted = record {
-      each_once = ascend_once rs (sorted_ascend asked rs asked_once sorted.moved sorted.ordered);
-      sound = All-permutation (IsAskedFor options s b) asked rs sorted.moved (λ i d l. asked_sound (get_or asked i d) (Contains-get_or asked i d l));
-      complete = λ r is. Contains-permutation asked rs r sorted.moved (asked_complete r is);
-    }
-
-    -- the text of the sorted remarks is the report
-    pub report_is : (rs : List Remark) (tally : Tally) (text : List ℕ) → AreSorted asked rs → tally ≡ tally_of options c.nodes rs → text ≡ remarks_text options rs → IsReport s b options tally text
-    report_is rs tally text sorted numbers is = record {
-      remarks = rs;
-      lists = sorted_lists rs sorted;
-      ascend = sorted_ascend asked rs asked_once sorted.moved sorted.ordered;
-      is = is;
-      nodes = c.nodes;
-      counted = h.nodes;
-      numbers = numbers;
-    }
+-- the report on an array is the report from there on
+pub array_reported : {E : Type 0} (s : Contents) (b : Path) (options : CheckOptions) (m : NodeMetadata) (r : Result (Tally × String Global) E) → IsArrayOf s b m
+    → IfOk r (λ made. IsReport (IsNodeRemark s b m) options 1 made.0 (string_bytes made.1)) → IfOk r (λ made. IsReportFrom s b options made.0 (string_bytes made.1))
+array_reported s b options m (Ok made) is h = inl (m, is, h)
+array_reported s b options m (Err e) is h = tt

@@ -3,12 +3,13 @@
 -- <https://zarr-specs.readthedocs.io/en/latest/v3/core/index.html#hierarchy>
 -- <https://zarr-specs.readthedocs.io/en/latest/v3/core/index.html#group-metadata>
 -- <https://zarr.readthedocs.io/en/stable/user-guide/consolidated_metadata/>
---     IsRemark s b r      what there is to tell: a path's own fault, or what is wrong with the block of a group
---     IsAskedFor options s b r      what a report tells of that: each finding, and each note where notes are asked for
+--     IsRemark s b r      what there is to tell: a path's own fault, what the documents of a node tell, or what is wrong with the block of a group
+--     IsNodeRemark s p m r      what the documents of one node tell
+--     IsAskedFor options told r      what a report tells of what there is to tell: each finding, and each note where notes are asked for
 --     remark_cmp      the order of remarks
---     IsReport s b options tally text      the text is that of all that is told, each once, in their order
---     IsReportFrom s b options tally text      the same of what is no array; an array is one node, of which there is nothing to tell
-use Rattle.std.specs.Prelude.{◌≡◌, ◌⊎◌, ℕ, Bool, ◌||◌, not, IsTrue, cond, if◌then◌else◌, List, [], ◌++◌, AllPairs, length, Option, Some, None, codes}
+--     IsReport told options n tally text      the text is that of all that is told, each once, in their order
+--     IsReportFrom s b options tally text      the report on what a store has from b on; nothing below an array is looked at
+use Rattle.std.specs.Prelude.{◌≡◌, ◌⊎◌, ℕ, Bool, false, ◌||◌, not, IsTrue, cond, if◌then◌else◌, List, [], ◌++◌, AllPairs, length, Option, Some, None, codes}
 use Rattle.std.specs.List.{filter, flat_map}
 use Rattle.std.specs.Option.{option_cmp}
 use Rattle.std.specs.Ordering.{ordering_then}
@@ -20,20 +21,27 @@ use Rattle.zarrs_path.specs.Paths.{Path, path_cmp, path_text}
 use Rattle.zarrs_config.specs.declared.version.MetadataRetrieveVersion.TheVariants.{Default}
 use Rattle.zarrs_block.specs.ErrorTexts.{error_text}
 use Rattle.zarrs_block.specs.declared.node_create_error.NodeCreateError.{NodeCreateError}
+use Rattle.zarrs_block.specs.Meaning.{meaning, node}
+use Rattle.zarrs_meta.specs.Node.{is_group}
+use Rattle.zarrs_meta.specs.declared.node.NodeMetadata.{NodeMetadata}
 use Rattle.zarrs_node.specs.OpeningNodes.{RefusesNode}
 use Rattle.zarrs_survey.specs.Surveys.{BadDocuments, BadNames}
-use Rattle.zarrs_survey.specs.Checks.{HasNode, IsBlockFinding, IsCount}
+use Rattle.zarrs_notes.specs.FindingTexts.{node_finding_text}
+use Rattle.zarrs_notes.specs.NodeFindings.{IsNodeFinding}
+use Rattle.zarrs_notes.specs.declared.finding.NodeFinding.{NodeFinding}
+use Rattle.zarrs_survey.specs.Checks.{HasNode, IsBlockFinding, IsCount, IsNodeTold}
+use Rattle.zarrs_survey.specs.Orphans.{IsCountBelow, IsOrphan}
 use Rattle.zarrs_survey.specs.declared.finding.Finding.{Finding}
 use Rattle.zarrs_folder.specs.PrunedStores.{IsArrayAt}
 use Rattle.zarrs.specs.Escapes.{escaped_line}
 use Rattle.zarrs.specs.Json.{json_text}
-use Rattle.zarrs.specs.Kinds.{kind_word, is_note_kind, error_kind, finding_kind, wrong_key}
+use Rattle.zarrs.specs.Kinds.{kind_word, is_note_kind, error_kind, told_kind, finding_kind, wrong_key}
 use Rattle.zarrs.specs.declared.kind.RemarkKind.{RemarkKind}
-use Rattle.zarrs.specs.declared.kind.RemarkKind.TheVariants.{BadName}
+use Rattle.zarrs.specs.declared.kind.RemarkKind.TheVariants.{BadName, Orphaned}
 use Rattle.zarrs.specs.declared.remark.Remark.{Remark}
 use Rattle.zarrs.specs.declared.report.Tally.{Tally}
 use Rattle.zarrs.specs.declared.words.CheckOptions.{CheckOptions}
-use Rattle.zarrs.specs.Texts.{kind_text, name_text}
+use Rattle.zarrs.specs.Texts.{document_text, kind_text, name_text, orphan_text}
 
 -- what there is to tell of a path itself
 abbrev pub own_remark : Path → RemarkKind → List ℕ → Remark
@@ -43,28 +51,47 @@ own_remark p kind text = record { path = p; kind = kind; group = None; key = Non
 abbrev pub error_remark : Path → NodeCreateError → Remark
 error_remark p e = own_remark p (error_kind e) (error_text e)
 
+-- a bad document, with the number of paths below its own that have a document of a node
+abbrev pub document_remark : Path × NodeCreateError → ℕ → Remark
+document_remark d n = own_remark d.0 (error_kind d.1) (document_text d.1 n)
+
+-- a path without a document, below which so many have one
+abbrev pub orphan_remark : Path × ℕ → Remark
+orphan_remark o = own_remark o.0 Orphaned (orphan_text o.1)
+
+-- what the documents of a node at a path tell
+abbrev pub told_remark : Path × NodeFinding → Remark
+told_remark t = own_remark t.0 (told_kind t.1) (node_finding_text t.1)
+
 -- what is wrong with the block of a group
 abbrev pub remark_of : Finding → Remark
 remark_of f = record { path = f.path; kind = finding_kind f.kind; group = Some f.group; key = wrong_key f.kind; text = kind_text f.group f.kind }
 
--- the base is no node; or a reached path has a bad document; or a child of a listed path has a name of periods only
+-- the base is no node; or a reached path has a bad document; or a child of a listed path has a name of periods only; or nodes stand below a path that is passed over; or a node's
+-- documents tell something
 abbrev pub IsOwnRemark : Contents → Path → Remark → Type 0
 IsOwnRemark s b r =
     ((e : NodeCreateError) × RefusesNode s Default b e × (r ≡ error_remark b e))
-    ⊎ ((d : Path × NodeCreateError) × BadDocuments s Default b d × (r ≡ error_remark d.0 d.1))
+    ⊎ ((d : Path × NodeCreateError) × (n : ℕ) × BadDocuments s Default b d × IsCountBelow s d.0 n × (r ≡ document_remark d n))
     ⊎ ((p : Path) × BadNames s Default b p × (r ≡ own_remark p BadName (name_text p)))
+    ⊎ ((o : Path × ℕ) × IsOrphan s Default b o × (r ≡ orphan_remark o))
+    ⊎ ((t : Path × NodeFinding) × IsNodeTold s Default b t × (r ≡ told_remark t))
 
--- what there is to tell of what a store has at b and below it: a path's own fault, or what is wrong with a block
+-- what there is to tell of what a store has at b and below it: of a path itself, or what is wrong with a block
 abbrev pub IsRemark : Contents → Path → Remark → Type 0
 IsRemark s b r = IsOwnRemark s b r ⊎ ((f : Finding) × IsBlockFinding s Default b f × (r ≡ remark_of f))
+
+-- what there is to tell of the node at p alone, which has the metadata m
+abbrev pub IsNodeRemark : Contents → Path → NodeMetadata → Remark → Type 0
+IsNodeRemark s p m r = (f : NodeFinding) × IsNodeFinding s p m f × (r ≡ told_remark (p, f))
 
 -- a report has the remark: it is a finding, or notes are asked for
 abbrev pub is_asked : Bool → Remark → Bool
 is_asked notes r = notes || not (is_note_kind r.kind)
 
--- what a report tells of what a store has at b and below it: each finding, and each note where notes are asked for
-abbrev pub IsAskedFor : CheckOptions → Contents → Path → Remark → Type 0
-IsAskedFor options s b r = IsRemark s b r × IsTrue (is_asked options.notes r)
+-- what a report tells of what there is to tell: each finding, and each note where notes are asked for
+abbrev pub IsAskedFor : CheckOptions → (Remark → Type 0) → Remark → Type 0
+IsAskedFor options told r = told r × IsTrue (is_asked options.notes r)
 
 -- ---- the order
 
@@ -82,9 +109,13 @@ RemarksAscend rs = AllPairs (λ q r. remark_cmp q r ≡ Less) rs
 
 -- ---- the text
 
--- what the line of a remark says: the path, a colon and what there is to tell
+-- what the line of a note begins with
+abbrev pub note_mark : RemarkKind → List ℕ
+note_mark kind = if is_note_kind kind then codes "note: " else []
+
+-- what the line of a remark says: that it is a note, where it is one, the path, a colon and what there is to tell
 abbrev pub line_of : Remark → List ℕ
-line_of r = path_text r.path ++ (codes ": " ++ r.text)
+line_of r = note_mark r.kind ++ (path_text r.path ++ (codes ": " ++ r.text))
 
 -- the lines of remarks
 abbrev pub report_text : List Remark → List ℕ
@@ -108,20 +139,26 @@ notes_among rs = length (filter (λ r. is_note_kind r.kind) rs)
 abbrev pub tally_of : CheckOptions → ℕ → List Remark → Tally
 tally_of options nodes rs = record { nodes = nodes; findings = findings_among rs; notes = cond options.notes (Some (notes_among rs)) None }
 
--- the text is that of exactly what a report tells of what the store has at b and below it, each once, in their order; the tally has their numbers, and that of
--- the nodes at b and below it
-pub record IsReport (s : Contents) (b : Path) (options : CheckOptions) (tally : Tally) (text : List ℕ) : Type 0 where
+-- the text is that of exactly what a report tells of what there is to tell, each once, in their order; the tally has their numbers, and that of the nodes
+pub record IsReport (told : Remark → Type 0) (options : CheckOptions) (nodes : ℕ) (tally : Tally) (text : List ℕ) : Type 0 where
   pub remarks : List Remark
-  pub lists : Lists (IsAskedFor options s b) remarks
+  pub lists : Lists (IsAskedFor options told) remarks
   pub ascend : RemarksAscend remarks
   pub is : text ≡ remarks_text options remarks
-  pub nodes : ℕ
-  pub counted : IsCount (HasNode s Default b) nodes
   pub numbers : tally ≡ tally_of options nodes remarks
 
--- the report from b on: an array is one node, of which there is nothing to tell, since nothing below an array is looked at; of all else it is the report on what the
--- store has at b and below it
+-- b means an array with these metadata
+abbrev pub IsArrayOf : Contents → Path → NodeMetadata → Type 0
+IsArrayOf s b m = (meaning s Default b ≡ node m) × (is_group m ≡ false)
+
+-- the report on the array at b: it is one node, and nothing below it is looked at
+abbrev pub IsArrayReport : Contents → Path → CheckOptions → Tally → List ℕ → Type 0
+IsArrayReport s b options tally text = (m : NodeMetadata) × IsArrayOf s b m × IsReport (IsNodeRemark s b m) options 1 tally text
+
+-- the report on all that a store has at b and below it
+abbrev pub IsWholeReport : Contents → Path → CheckOptions → Tally → List ℕ → Type 0
+IsWholeReport s b options tally text = (nodes : ℕ) × IsCount (HasNode s Default b) nodes × IsReport (IsRemark s b) options nodes tally text
+
+-- the report from b on: that on the array at b, or on all that is at b and below it
 abbrev pub IsReportFrom : Contents → Path → CheckOptions → Tally → List ℕ → Type 0
-IsReportFrom s b options tally text =
-    (IsArrayAt s b × (tally ≡ tally_of options 1 []) × (text ≡ remarks_text options []))
-    ⊎ ((IsArrayAt s b → ⊥) × IsReport s b options tally text)
+IsReportFrom s b options tally text = IsArrayReport s b options tally text ⊎ ((IsArrayAt s b → ⊥) × IsWholeReport s b options tally text)

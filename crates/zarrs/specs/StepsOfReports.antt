@@ -1,15 +1,16 @@
 -- Steps of a report: the remarks of a check, before they are put in order; no public contract rests on them.
-use Rattle.std.specs.Prelude.{List, [], ◌∷◌, ◌++◌, map, Result, Ok, Err}
+use Rattle.std.specs.Prelude.{ℕ, List, [], ◌∷◌, ◌++◌, map, zip, Result, Ok, Err}
 use Rattle.std.specs.List.{filter}
 use Rattle.std.specs.List.Sorted.{IsPermutation, IsSorted}
 use Rattle.zarrs_path.specs.Paths.{Path}
 use Rattle.zarrs_block.specs.ErrorTexts.{error_text}
 use Rattle.zarrs_block.specs.declared.node_create_error.NodeCreateError.{NodeCreateError}
+use Rattle.zarrs_notes.specs.declared.finding.NodeFinding.{NodeFinding}
 use Rattle.zarrs_survey.specs.declared.check.Check.{Check}
 use Rattle.zarrs.specs.declared.remark.Remark.{Remark}
 use Rattle.zarrs.specs.declared.kind.RemarkKind.TheVariants.{BadName}
 use Rattle.zarrs.specs.declared.words.CheckOptions.{CheckOptions}
-use Rattle.zarrs.specs.Report.{own_remark, error_remark, is_asked, remark_cmp, remark_of}
+use Rattle.zarrs.specs.Report.{own_remark, error_remark, document_remark, is_asked, orphan_remark, remark_cmp, remark_of, told_remark}
 use Rattle.zarrs.specs.Texts.{name_text}
 
 -- the fault of the base, where it has one
@@ -17,25 +18,32 @@ abbrev pub base_remarks : Path → Result (Unit {0}) NodeCreateError → List Re
 base_remarks b (Ok u) = []
 base_remarks b (Err e) = error_remark b e ∷ []
 
--- the fault of a bad document
-abbrev pub document_remark : Path × NodeCreateError → Remark
-document_remark d = error_remark d.0 d.1
+-- the faults of bad documents, each with the number of paths below it that have a document
+abbrev pub document_remarks : List (Path × NodeCreateError) → List ℕ → List Remark
+document_remarks ds ns = map (λ e. document_remark e.0 e.1) (zip ds ns)
 
 -- the fault of a bad name
 abbrev pub name_remark : Path → Remark
 name_remark p = own_remark p BadName (name_text p)
 
--- the own faults of paths
+-- the own faults of paths, what is lost below those without documents, and what the documents of nodes tell
 abbrev pub own_remarks : Check → List Remark
-own_remarks c = base_remarks c.path c.base ++ (map document_remark c.bad_documents ++ map name_remark c.bad_names.items)
+own_remarks c =
+    base_remarks c.path c.base
+    ++ (document_remarks c.bad_documents c.hidden.items
+    ++ (map name_remark c.bad_names.items ++ (map orphan_remark c.orphans.items ++ map told_remark c.told.items)))
+
+-- what the documents of one node tell
+abbrev pub node_remarks : Path → List NodeFinding → List Remark
+node_remarks p found = map (λ f. told_remark (p, f)) found
 
 -- the own faults of paths, and what there is to tell of blocks
 abbrev pub all_remarks : Check → List Remark
 all_remarks c = own_remarks c ++ map remark_of c.findings.items
 
 -- those that a report has
-abbrev pub asked_remarks : CheckOptions → Check → List Remark
-asked_remarks options c = filter (is_asked options.notes) (all_remarks c)
+abbrev pub asked_of : CheckOptions → List Remark → List Remark
+asked_of options rs = filter (is_asked options.notes) rs
 
 -- the remarks are the others in their order
 pub record AreSorted (qs rs : List Remark) : Type 0 where

@@ -3,18 +3,33 @@
 -- <https://zarr-specs.readthedocs.io/en/latest/v3/core/index.html#node-names>
 -- <https://zarr.readthedocs.io/en/stable/user-guide/consolidated_metadata/>
 --     name_text p      the text which says that the last name of p is none
+--     document_text e n, orphan_text n      what there is to tell of a bad document, and of a path without one, where n paths below it have a document
 --     kind_text g kind      what there is to tell of the block of the group g
 --     tally_text tally      how much a check looked at and found
 use Rattle.std.specs.Prelude.{ℕ, ◌==◌, List, [], ◌++◌, Option, Some, None, if◌then◌else◌, codes, decimal}
 use Rattle.zarrs_fault.specs.FaultTexts.{fault_text}
 use Rattle.zarrs_path.specs.Paths.{Path, path_text, without_leading_slash}
+use Rattle.zarrs_block.specs.ErrorTexts.{error_text}
+use Rattle.zarrs_block.specs.declared.node_create_error.NodeCreateError.{NodeCreateError}
 use Rattle.zarrs_survey.specs.declared.finding.FindingKind.{FindingKind}
-use Rattle.zarrs_survey.specs.declared.finding.FindingKind.TheVariants.{BlockFault, BadKey, Shadowed, OwnKey, Unreachable, Stale, Unreached, Differs, Missing}
+use Rattle.zarrs_survey.specs.declared.finding.FindingKind.TheVariants.{BlockFault, BadKey, Shadowed, OwnKey, OwnAttributes, Unreachable, Stale, Unreached, Differs, Missing}
 use Rattle.zarrs.specs.declared.report.Tally.{Tally}
 
 -- the text which says that the last name of a path is none
 abbrev pub name_text : Path → List ℕ
 name_text p = codes "invalid node path " ++ path_text p
+
+-- that so many documents below a bad one were not looked at, where there are any
+abbrev pub hidden_text : ℕ → List ℕ
+hidden_text n = if n == 0 then [] else codes "; " ++ (decimal n ++ codes " documents below it were not looked at")
+
+-- why a document is bad, and how many below it were not looked at
+abbrev pub document_text : NodeCreateError → ℕ → List ℕ
+document_text e n = error_text e ++ hidden_text n
+
+-- the text which says that a path has no document, and how many nodes below it are not reached
+abbrev pub orphan_text : ℕ → List ℕ
+orphan_text n = codes "orphaned: it has no document, and " ++ (decimal n ++ codes " nodes below it are not reached")
 
 -- the text which says that a key is no relative path
 abbrev pub bad_key_text : Path → List ℕ → List ℕ
@@ -34,6 +49,7 @@ kind_text g (BlockFault fault) = codes "bad block: the block of " ++ (path_text 
 kind_text g (BadKey key) = bad_key_text g key
 kind_text g (Shadowed key) = shadowed_text g key
 kind_text g (OwnKey key) = own_key_text g key
+kind_text g OwnAttributes = codes "differs: the block of " ++ (path_text g ++ codes " has other attributes of it than the store")
 kind_text g Unreachable = codes "unreachable: the block of " ++ (path_text g ++ codes " has no group above it")
 kind_text g Stale = codes "stale: the block of " ++ (path_text g ++ codes " has it, and the store has not")
 kind_text g Unreached = codes "unreached: the block of " ++ (path_text g ++ codes " has it, and a listing does not reach it")

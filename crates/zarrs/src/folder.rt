@@ -1,5 +1,5 @@
 //! A word over a folder: what it asks of the folder, and no more, is loaded first.
-ghost use Rattle.std.specs.Prelude.{◌≡◌, ◌≢◌, false, None, Some, IfOk, IfErr, Contains, map};
+ghost use Rattle.std.specs.Prelude.{◌≡◌, ◌≢◌, false, None, Some, IfOk, IfErr, map, string_bytes};
 ghost use Rattle.std.specs.Io.KnownBytes.{Keeps};
 ghost use Rattle.zarrs_store.specs.Contents.{Values};
 ghost use Rattle.zarrs_path.specs.Paths.{IsPath};
@@ -10,15 +10,14 @@ ghost use Rattle.zarrs_block.specs.Meaning.{meaning, node};
 ghost use Rattle.zarrs_node.specs.OpeningNodes.{choice};
 ghost use Rattle.zarrs_folder.specs.Folders.{in_any, values_of};
 ghost use Rattle.zarrs_folder.specs.Openings.{OpenSame};
-ghost use Rattle.zarrs.specs.Output.{WritesOverEach, WritesOverSome};
+ghost use Rattle.zarrs_folder.specs.PrunedStores.{IsArrayAt, IsLoadedFrom};
+ghost use Rattle.zarrs.specs.Output.{IsWordText, WritesOverEach, WritesOverSome};
 ghost use Rattle.zarrs.specs.Refusals.{RefusesFolder, RefusesOverEach, RefusesOverSome};
-ghost use Rattle.zarrs_survey.specs.declared.finding.FindingKind.TheVariants.{Stale};
-ghost use Rattle.zarrs_survey.specs.Checks.{IsBlockFinding};
-ghost use Rattle.zarrs_survey.specs.declared.finding.Finding.{Finding};
-ghost use Rattle.zarrs.specs.StepsOfRuns.{IsCheckable, IsEnough, IsFaultOfEach, IsFaultOfSome, IsWrittenOfEach, IsWrittenOfSome, is_stale, stale_paths};
+ghost use Rattle.zarrs_survey.specs.declared.check.Check.{Check};
+ghost use Rattle.zarrs.specs.StepsOfRuns.{IsAnswerFault, IsCheckFrom, IsCheckable, IsChecked, IsEnough, IsFaultOfEach, IsFaultOfSome, IsWrittenOfEach, IsWrittenOfSome, has_more, is_stale, loaded_store, passed_paths, stale_among, stale_paths};
 
 use crate::fault::ZarrsFault;
-use crate::report::Tally;
+use crate::report::{Tally, array_at, report_of_check};
 use crate::run::output_of;
 use crate::words::Word;
 use log::Log;
@@ -27,7 +26,7 @@ use std::alloc::{AllocError, Global};
 use std::io::Write;
 use zarrs_block::NodeCreateError;
 use zarrs_config::{MetadataRetrieveVersion, UseConsolidatedMetadata};
-use zarrs_folder::{Folder, load_base, load_below, load_nodes, load_paths};
+use zarrs_folder::{Folder, load_base, load_below, load_nodes, load_passed, load_paths};
 use zarrs_meta::NodeMetadata;
 use zarrs_node::{Node, consolidated_metadata_at};
 use zarrs_path::NodePath;
@@ -35,7 +34,7 @@ use zarrs_program::{path_of, write_whole};
 use zarrs_store::{
     AnyNumbers, ListableStorageTraits, MemoryStore, ReadableStorageTraits, StorageError,
 };
-use zarrs_survey::{Check, Finding, FindingKind};
+use zarrs_survey::{BadDocuments, Check, Finding, FindingKind};
 
 /// Loads what a word asks of a folder from a path on, and writes its answer, as [`run_store`] does: of a group whose block is used, and of an array, the documents
 /// at the path only; else what a walk from the path on asks. Documents may hold any number.
@@ -69,6 +68,13 @@ pub fn run_of_folder<L: Log, F: Folder, W: Write>(
     Ok(made.0)
 }
 
+// What was loaded of a folder for a word; and its check, where that is the check of the whole folder.
+#[derive(Drop)]
+struct Loaded {
+    store: AnyNumbers<MemoryStore>,
+    checked: Option<Check>,
+}
+
 // What a word writes of a folder from a path on.
 fn output_of_folder<L: Log, F: Folder>(
     log: &L,
@@ -84,8 +90,30 @@ fn output_of_folder<L: Log, F: Folder>(
     ensures whole_err { IfErr result (IsFaultOfEach word base.now (F.agrees folder.new)) }
 {
     let _valid = base.as_str();
-    let store = load_for(alloc, word, folder, base)?;
-    output_of(log, alloc, word, &store, base)
+    let loaded = load_for(alloc, word, folder, base)?;
+    output_of_loaded(log, alloc, word, &loaded, base)
+}
+
+// What a word writes of what was loaded for it.
+fn output_of_loaded<L: Log>(
+    log: &L,
+    alloc: Global,
+    word: Word,
+    loaded: &Loaded,
+    base: &NodePath,
+) -> Result<(Option<Tally>, String), ZarrsFault>
+    requires checked { IsChecked loaded.now base.now }
+    ensures ok { IfOk result (λ made.
+        IsWordText word (loaded_store loaded.now) base.now made.0 (string_bytes made.1)) }
+    ensures err { IfErr result (IsAnswerFault false word (loaded_store loaded.now) base.now) }
+{
+    match (word, &loaded.checked) {
+        (Word::Check(options), Some(checked)) => {
+            let made = report_of_check(alloc, options, checked)?;
+            Ok((Some(made.0), made.1))
+        }
+        _ => output_of(log, alloc, word, &loaded.store, base),
+    }
 }
 
 // The part of a folder that a word asks for from a path on.
@@ -94,51 +122,134 @@ fn load_for<F: Folder>(
     word: Word,
     folder: &mut F,
     base: &NodePath,
-) -> Result<AnyNumbers<MemoryStore>, ZarrsFault>
+) -> Result<Loaded, ZarrsFault>
     ensures ok { IfOk result (λ loaded. (V : Values) → F.agrees folder.new V
-        → IsEnough word (in_any V) (in_any (values_of loaded.inner)) base.now) }
+        → IsEnough word (in_any V) (loaded_store loaded) base.now) }
+    ensures checked { IfOk result (λ loaded. IsChecked loaded base.now) }
     ensures err { IfErr result RefusesFolder }
 {
-    match word {
-        Word::Tree => load_shown(alloc, UseConsolidatedMetadata::Auto, folder, base),
-        Word::StoreTree => load_shown(alloc, UseConsolidatedMetadata::Never, folder, base),
-        Word::List => load_shown(alloc, UseConsolidatedMetadata::Never, folder, base),
-        Word::Check(_) => load_checked(alloc, folder, base),
-    }
+    let store = match word {
+        Word::Tree => load_shown(alloc, UseConsolidatedMetadata::Auto, folder, base)?,
+        Word::StoreTree => load_shown(alloc, UseConsolidatedMetadata::Never, folder, base)?,
+        Word::List => load_shown(alloc, UseConsolidatedMetadata::Never, folder, base)?,
+        Word::Check(_) => return load_checked(alloc, folder, base),
+    };
+    Ok(Loaded {
+        store,
+        checked: None,
+    })
 }
 
-// What a check looks at: what a walk asks, and the documents at the entries of blocks to which it does not come.
+// What a check looks at: what a walk asks; the documents below the paths at which it goes no further; and those at the entries of blocks to which it
+// does not come. Where there are no such paths and entries, the check of what a walk asks is that of the folder.
 fn load_checked<F: Folder>(
     alloc: Global,
     folder: &mut F,
     base: &NodePath,
-) -> Result<AnyNumbers<MemoryStore>, ZarrsFault>
+) -> Result<Loaded, ZarrsFault>
     ensures ok { IfOk result (λ loaded. (V : Values) → F.agrees folder.new V
-        → IsCheckable (in_any V) (in_any (values_of loaded.inner)) base.now) }
+        → IsCheckable (in_any V) (loaded_store loaded) base.now) }
+    ensures checked { IfOk result (λ loaded. IsChecked loaded base.now) }
     ensures err { IfErr result RefusesFolder }
 {
     let store = load_nodes(alloc, folder, base)?;
-    let stale = stale_paths(alloc, &store, base)?;
-    let store = load_paths(alloc, folder, base, stale.as_slice(), store)?;
-    Ok(store)
+    let Some(checked) = first_check(alloc, &store, base)? else {
+        return Ok(Loaded {
+            store,
+            checked: None,
+        });
+    };
+    if !has_more(&checked) {
+        return Ok(Loaded {
+            store,
+            checked: Some(checked),
+        });
+    }
+    let store = load_more(alloc, folder, base, checked, store)?;
+    Ok(Loaded {
+        store,
+        checked: None,
+    })
 }
 
-// The paths of the entries that are stale.
-fn stale_paths<S: ReadableStorageTraits + ListableStorageTraits>(
+// The check of a store from a path on; none where the path means an array.
+fn first_check<S: ReadableStorageTraits + ListableStorageTraits>(
     alloc: Global,
     store: &S,
     base: &NodePath,
-) -> Result<Vec<NodePath>, ZarrsFault>
-    ensures ok { IfOk result (λ paths. (f : Finding)
-        → IsBlockFinding (S.contents store.now) Default base.now f
-        → f.kind ≡ Stale → Contains paths.items f.path) }
+) -> Result<Option<Check>, ZarrsFault>
+    ensures none { IfOk result
+        (λ checked. checked ≡ None → IsArrayAt (S.contents store.now) base.now) }
+    ensures some { IfOk result (λ checked. (c : Check) → checked ≡ Some c
+        → IsCheckFrom (S.contents store.now) base.now c) }
     ensures err { IfErr result (λ fault. fault ≡ ZarrsFault.OutOfMemory) }
 {
     let version = MetadataRetrieveVersion::Default;
-    let Ok(checked) = Check::of_store(&Discard, alloc, store, base, &version) else {
-        return Err(ZarrsFault::OutOfMemory);
-    };
-    let paths = paths_of_stale(alloc, checked.findings)?;
+    match array_at(alloc, store, base) {
+        Ok(None) => {}
+        Ok(Some(_)) => return Ok(None),
+        Err(_) => return Err(ZarrsFault::OutOfMemory),
+    }
+    match Check::of_store(&Discard, alloc, store, base, &version) {
+        Ok(checked) => Ok(Some(checked)),
+        Err(_) => Err(ZarrsFault::OutOfMemory),
+    }
+}
+
+// Whether more of a folder has to be looked at than what was checked.
+fn has_more(checked: &Check) -> bool
+    ensures { result ≡ has_more checked.now }
+{
+    !checked.ignored.is_empty()
+        || !checked.bad_documents.as_slice().is_empty()
+        || stale_among(&checked.findings) > 0
+}
+
+// The number of stale entries among findings.
+fn stale_among(findings: &[Finding]) -> usize
+    ensures { result ≡ stale_among findings.now }
+{
+    findings
+        .iter()
+        .filter(|finding| is_stale(&finding.kind))
+        .count()
+}
+
+// A store that was loaded, and more of it: the documents below the paths at which a walk goes no further, and those at stale entries.
+fn load_more<F: Folder>(
+    alloc: Global,
+    folder: &mut F,
+    base: &NodePath,
+    checked: Check,
+    store: AnyNumbers<MemoryStore>,
+) -> Result<AnyNumbers<MemoryStore>, ZarrsFault>
+    ensures ok { IfOk result (λ more. (V : Values) → F.agrees folder.new V
+        → IsLoadedFrom (in_any V) (in_any (values_of store.inner)) base.now
+        → IsCheckFrom (in_any (values_of store.inner)) base.now checked
+        → IsCheckable (in_any V) (in_any (values_of more.inner)) base.now) }
+    ensures before { (V : Values) → F.agrees folder.new V → F.agrees folder.old V }
+    ensures err { IfErr result RefusesFolder }
+{
+    let passed = passed_paths(alloc, checked.ignored, &checked.bad_documents)?;
+    let stale = paths_of_stale(alloc, checked.findings)?;
+    let store = load_passed(alloc, folder, base, &passed, store)?;
+    let store = load_paths(alloc, folder, base, &stale, store)?;
+    Ok(store)
+}
+
+// The paths at which a walk goes no further: those without documents, and those whose documents are bad.
+fn passed_paths(
+    alloc: Global,
+    ignored: Vec<NodePath>,
+    bad_documents: &BadDocuments,
+) -> Result<Vec<NodePath>, AllocError>
+    ensures { IfOk result (λ paths.
+        paths.items ≡ passed_paths ignored.items bad_documents.now) }
+{
+    let mut paths = ignored;
+    for (path, _error) in bad_documents.as_slice() {
+        paths.push(path.try_clone(alloc)?)?;
+    }
     Ok(paths)
 }
 

@@ -15,6 +15,12 @@ pub enum RemarkKind {
     BadName,
     /// The path that was asked has no document.
     NoNode,
+    /// A path has no document, and nodes below it are not reached.
+    Orphaned,
+    /// The dimensions of an array do not fit.
+    BadShape,
+    /// A field of a group must be understood, so readers refuse to open it.
+    NotOpened,
     /// The block does not read.
     BadBlock,
     /// A key of the block is no path.
@@ -23,6 +29,8 @@ pub enum RemarkKind {
     Shadowed,
     /// A key of the block stands for the group itself.
     OwnKey,
+    /// The block has other attributes of its group than the store.
+    OwnAttributes,
     /// An entry is not what the store has.
     Differs,
     /// An entry hangs from no group of the block.
@@ -50,10 +58,14 @@ impl RemarkKind {
             RemarkKind::BadDocument => "bad-document",
             RemarkKind::BadName => "bad-name",
             RemarkKind::NoNode => "no-node",
+            RemarkKind::Orphaned => "orphaned",
+            RemarkKind::BadShape => "bad-shape",
+            RemarkKind::NotOpened => "not-opened",
             RemarkKind::BadBlock => "bad-block",
             RemarkKind::BadKey => "bad-key",
             RemarkKind::Shadowed => "shadowed",
             RemarkKind::OwnKey => "own-key",
+            RemarkKind::OwnAttributes => "own-attributes",
             RemarkKind::Differs => "differs",
             RemarkKind::Unreachable => "unreachable",
             RemarkKind::Stale => "stale",

@@ -35,6 +35,8 @@ mod shown_tests;
 #[cfg(test)]
 mod tests;
 mod texts;
+#[cfg(test)]
+mod told_tests;
 mod usage;
 mod warnings;
 mod words;

@@ -1,19 +1,23 @@
 //! The report on a store.
-ghost use Rattle.std.specs.Prelude.{◌≡◌, ◌++◌, false, Some, IfOk, IfErr, IsTrue, OnOk, filter, map, string_bytes};
+ghost use Rattle.std.specs.Prelude.{◌≡◌, ◌++◌, None, Some, IfOk, IfErr, OnOk, filter, map, string_bytes};
 ghost use Rattle.zarrs_block.specs.Refusals.{IsExcused};
-ghost use Rattle.zarrs_path.specs.Paths.{IsPath};
+ghost use Rattle.zarrs_store.specs.Contents.{Contents};
+ghost use Rattle.zarrs_path.specs.Paths.{IsPath, Path};
+ghost use Rattle.zarrs_config.specs.declared.version.MetadataRetrieveVersion.TheVariants.{Default};
+ghost use Rattle.zarrs_meta.specs.declared.node.NodeMetadata.{NodeMetadata};
+ghost use Rattle.zarrs_survey.specs.Checks.{AreBlockFindings, IsCheckOf};
 ghost use Rattle.zarrs_survey.specs.StepsOfSurveys.{is_of_node};
 ghost use Rattle.zarrs_folder.specs.PrunedStores.{IsArrayAt};
-ghost use Rattle.zarrs.specs.Kinds.{error_kind, finding_kind, wrong_key};
-ghost use Rattle.zarrs.specs.Report.{IsReport, IsReportFrom, error_remark, findings_among, is_asked, notes_among, own_remark, remark_of, remarks_text, report_text, tally_of};
-ghost use Rattle.zarrs.specs.StepsOfReports.{AreSorted, all_remarks, asked_remarks, base_remarks, document_remark, name_remark, own_remarks};
+ghost use Rattle.zarrs.specs.Kinds.{error_kind, finding_kind, told_kind, wrong_key};
+ghost use Rattle.zarrs.specs.Report.{IsArrayOf, IsNodeRemark, IsReport, IsReportFrom, IsWholeReport, error_remark, findings_among, is_asked, document_remark, line_of, notes_among, orphan_remark, own_remark, remark_of, remarks_text, report_text, tally_of, told_remark};
+ghost use Rattle.zarrs.specs.StepsOfReports.{AreSorted, all_remarks, asked_of, base_remarks, document_remarks, name_remark, node_remarks, own_remarks};
 ghost use Rattle.zarrs.specs.Texts.{tally_text};
 
 use crate::escapes::push_line;
 use crate::kind::RemarkKind;
 use crate::remark::{Remark, cmp_remarks};
 use crate::remarks_json::json_text;
-use crate::texts::{kind_text, name_text};
+use crate::texts::{document_text, kind_text, name_text, orphan_text};
 use crate::words::CheckOptions;
 use log::Log;
 use std::alloc::{AllocError, Global};
@@ -21,10 +25,12 @@ use std::fmt;
 use zarrs_block::NodeCreateError;
 use zarrs_config::MetadataRetrieveVersion;
 use zarrs_form::Text;
+use zarrs_meta::NodeMetadata;
 use zarrs_node::Node;
+use zarrs_notes::{NodeFinding, node_findings};
 use zarrs_path::NodePath;
 use zarrs_store::{ListableStorageTraits, ReadableStorageTraits, StorageError, StorePrefix};
-use zarrs_survey::{BadDocuments, Check, Finding, FindingKind};
+use zarrs_survey::{Check, Finding, FindingKind};
 
 /// How much a check looked at and found.
 ///
@@ -58,7 +64,7 @@ impl fmt::Display for Tally {
     }
 }
 
-/// The report on what a store has at a path and below it. Nothing below an array is looked at: it is one node, of which there is nothing to tell.
+/// The report on what a store has at a path and below it. Nothing below an array is looked at: it is one node.
 ///
 /// # Errors
 /// `StorageError::Fault` of a store that can fail, and `OutOfMemory`.
@@ -75,28 +81,28 @@ pub fn report<L: Log, S: ReadableStorageTraits + ListableStorageTraits>(
         IsReportFrom (S.contents store.now) base.now options made.0 (string_bytes made.1)) }
     ensures excused { IfErr result (IsExcused (S.can_fail store.now)) }
 {
-    if is_array(alloc, store, base)? {
-        let made = made_of(alloc, options, 1, Vec::new(alloc))?;
-        return Ok(made);
+    match array_at(alloc, store, base)? {
+        Some(metadata) => report_of_node(alloc, options, store, base, &metadata),
+        None => report_from(log, alloc, options, store, base),
     }
-    report_from(log, alloc, options, store, base)
 }
 
-// Whether a path means an array.
-fn is_array<S: ReadableStorageTraits>(
+/// The metadata of the array that a path means, if it means one.
+pub(crate) fn array_at<S: ReadableStorageTraits>(
     alloc: Global,
     store: &S,
     base: &NodePath,
-) -> Result<bool, NodeCreateError>
-    ensures yes { IfOk result
-        (λ found. IsTrue found → IsArrayAt (S.contents store.now) base.now) }
+) -> Result<Option<NodeMetadata>, NodeCreateError>
+    ensures yes { IfOk result (λ found. (m : NodeMetadata) → found ≡ Some m
+        → IsArrayOf (S.contents store.now) base.now m) }
     ensures no { IfOk result
-        (λ found. found ≡ false → IsArrayAt (S.contents store.now) base.now → ⊥) }
+        (λ found. found ≡ None → IsArrayAt (S.contents store.now) base.now → ⊥) }
     ensures excused { IfErr result (IsExcused (S.can_fail store.now)) }
 {
     match Node::get_metadata(alloc, store, base, &MetadataRetrieveVersion::Default) {
-        Ok(metadata) => Ok(!metadata.is_group()),
-        Err(refusal) if is_of_node(&refusal) => Ok(false),
+        Ok(metadata) if metadata.is_group() => Ok(None),
+        Ok(metadata) => Ok(Some(metadata)),
+        Err(refusal) if is_of_node(&refusal) => Ok(None),
         Err(refusal) => Err(refusal),
     }
 }
@@ -113,6 +119,41 @@ fn is_of_node(refusal: &NodeCreateError) -> bool
     )
 }
 
+// The report on one node by its own documents.
+fn report_of_node<S: ReadableStorageTraits>(
+    alloc: Global,
+    options: CheckOptions,
+    store: &S,
+    path: &NodePath,
+    metadata: &NodeMetadata,
+) -> Result<(Tally, String), NodeCreateError>
+    ensures ok { IfOk result (λ made.
+        IsReport (IsNodeRemark (S.contents store.now) path.now metadata.now)
+        options 1 made.0 (string_bytes made.1)) }
+    ensures excused { IfErr result (IsExcused (S.can_fail store.now)) }
+{
+    let found = node_findings(alloc, store, path, metadata)?;
+    let mut remarks = node_remarks(alloc, path, &found)?;
+    arrange(options, &mut remarks)?;
+    let made = made_of(alloc, options, 1, remarks)?;
+    Ok(made)
+}
+
+// What the documents of one node tell.
+fn node_remarks(
+    alloc: Global,
+    path: &NodePath,
+    found: &[NodeFinding],
+) -> Result<Vec<Remark>, AllocError>
+    ensures { IfOk result (λ remarks. remarks.items ≡ node_remarks path.now found.now) }
+{
+    let mut remarks = Vec::new(alloc);
+    for finding in found {
+        remarks.push(told_remark(alloc, path, finding)?)?;
+    }
+    Ok(remarks)
+}
+
 // The report on what a store has at a path and below it.
 fn report_from<L: Log, S: ReadableStorageTraits + ListableStorageTraits>(
     log: &L,
@@ -122,12 +163,28 @@ fn report_from<L: Log, S: ReadableStorageTraits + ListableStorageTraits>(
     base: &NodePath,
 ) -> Result<(Tally, String), NodeCreateError>
     ensures ok { IfOk result (λ made.
-        IsReport (S.contents store.now) base.now options made.0 (string_bytes made.1)) }
+        IsWholeReport (S.contents store.now) base.now options made.0 (string_bytes made.1)) }
     ensures excused { IfErr result (IsExcused (S.can_fail store.now)) }
 {
     let version = MetadataRetrieveVersion::Default;
     let checked = Check::of_store(log, alloc, store, base, &version)?;
-    let remarks = remarks_of(alloc, options, &checked)?;
+    let made = report_of_check(alloc, options, &checked)?;
+    Ok(made)
+}
+
+/// The report on what was checked.
+pub(crate) fn report_of_check(
+    alloc: Global,
+    options: CheckOptions,
+    checked: &Check,
+) -> Result<(Tally, String), AllocError>
+    ensures { IfOk result (λ made. (s : Contents) (b : Path)
+        → IsCheckOf s Default b checked.now
+        → AreBlockFindings s Default b checked.now.findings.items
+        → IsWholeReport s b options made.0 (string_bytes made.1)) }
+{
+    let mut remarks = all_remarks(alloc, checked)?;
+    arrange(options, &mut remarks)?;
     let made = made_of(alloc, options, checked.nodes, remarks)?;
     Ok(made)
 }
@@ -182,19 +239,20 @@ fn notes_among(remarks: &[Remark]) -> usize
         .count()
 }
 
-// What is told, in its order.
-fn remarks_of(
-    alloc: Global,
-    options: CheckOptions,
-    checked: &Check,
-) -> Result<Vec<Remark>, AllocError>
-    ensures { IfOk result
-        (λ remarks. AreSorted (asked_remarks options checked.now) remarks.items) }
+// Leaves those remarks that are asked for, in their order.
+fn arrange(options: CheckOptions, remarks: &mut Vec<Remark>) -> Result<(), AllocError>
+    ensures { OnOk result (AreSorted (asked_of options remarks.old.items) remarks.new.items) }
+{
+    keep_asked(options.notes, remarks);
+    sort_remarks(remarks)
+}
+
+// All that there is to tell.
+fn all_remarks(alloc: Global, checked: &Check) -> Result<Vec<Remark>, AllocError>
+    ensures { IfOk result (λ remarks. remarks.items ≡ all_remarks checked.now) }
 {
     let mut remarks = own_remarks(alloc, checked)?;
     add_findings(alloc, &checked.findings, &mut remarks)?;
-    keep_asked(options.notes, &mut remarks);
-    sort_remarks(&mut remarks)?;
     Ok(remarks)
 }
 
@@ -208,14 +266,16 @@ fn keep_asked(notes: bool, remarks: &mut Vec<Remark>)
     remarks.retain(|remark| !remark.kind.is_note());
 }
 
-// The own faults of paths.
+// The own faults of paths, what is lost below those without documents, and what the documents of nodes tell.
 fn own_remarks(alloc: Global, checked: &Check) -> Result<Vec<Remark>, AllocError>
     ensures { IfOk result (λ remarks. remarks.items ≡ own_remarks checked.now) }
 {
     let mut remarks = Vec::new(alloc);
     add_base(alloc, &checked.path, &checked.base, &mut remarks)?;
-    add_documents(alloc, &checked.bad_documents, &mut remarks)?;
+    add_documents(alloc, checked, &mut remarks)?;
     add_names(alloc, &checked.bad_names, &mut remarks)?;
+    add_orphans(alloc, &checked.orphans, &mut remarks)?;
+    add_told(alloc, &checked.told, &mut remarks)?;
     Ok(remarks)
 }
 
@@ -260,16 +320,35 @@ fn error_kind(error: &NodeCreateError) -> RemarkKind
 // Puts the faults of bad documents behind the other remarks.
 fn add_documents(
     alloc: Global,
-    documents: &BadDocuments,
+    checked: &Check,
     remarks: &mut Vec<Remark>,
 ) -> Result<(), AllocError>
-    ensures { OnOk result
-        (remarks.new.items ≡ remarks.old.items ++ map document_remark documents.now) }
+    ensures { OnOk result (remarks.new.items ≡ remarks.old.items
+        ++ document_remarks checked.now.bad_documents checked.now.hidden.items) }
 {
-    for (path, error) in documents.as_slice() {
-        remarks.push(error_remark(alloc, path, error)?)?;
+    let mut counts = checked.hidden.as_slice();
+    for (path, error) in checked.bad_documents.as_slice() {
+        let [hidden, rest @ ..] = counts else {
+            return Ok(());
+        };
+        remarks.push(document_remark(alloc, path, error, *hidden)?)?;
+        counts = rest;
     }
     Ok(())
+}
+
+// The remark on a bad document, below which so many paths have one.
+fn document_remark(
+    alloc: Global,
+    path: &NodePath,
+    error: &NodeCreateError,
+    hidden: usize,
+) -> Result<Remark, AllocError>
+    ensures { IfOk result
+        (λ remark. remark ≡ document_remark (path.now, error.now) hidden) }
+{
+    let text = document_text(alloc, error, hidden)?;
+    Ok(own_remark(path.to_prefix(alloc)?, error_kind(error), text))
 }
 
 // Puts the bad names behind the other remarks.
@@ -293,6 +372,71 @@ fn name_remark(alloc: Global, name: &StorePrefix) -> Result<Remark, AllocError>
 {
     let text = name_text(alloc, name)?;
     Ok(own_remark(name.try_clone(alloc)?, RemarkKind::BadName, text))
+}
+
+// Puts what is lost below paths without documents behind the other remarks.
+fn add_orphans(
+    alloc: Global,
+    orphans: &[(NodePath, usize)],
+    remarks: &mut Vec<Remark>,
+) -> Result<(), AllocError>
+    ensures { OnOk result
+        (remarks.new.items ≡ remarks.old.items ++ map orphan_remark orphans.now) }
+{
+    for (path, nodes) in orphans {
+        remarks.push(orphan_remark(alloc, path, *nodes)?)?;
+    }
+    Ok(())
+}
+
+// The remark on a path without a document, below which so many have one.
+fn orphan_remark(alloc: Global, path: &NodePath, nodes: usize) -> Result<Remark, AllocError>
+    ensures { IfOk result (λ remark. remark ≡ orphan_remark (path.now, nodes)) }
+{
+    let text = orphan_text(alloc, nodes)?;
+    Ok(own_remark(path.to_prefix(alloc)?, RemarkKind::Orphaned, text))
+}
+
+// Puts what the documents of nodes tell behind the other remarks.
+fn add_told(
+    alloc: Global,
+    told: &[(NodePath, NodeFinding)],
+    remarks: &mut Vec<Remark>,
+) -> Result<(), AllocError>
+    ensures { OnOk result
+        (remarks.new.items ≡ remarks.old.items ++ map told_remark told.now) }
+{
+    for (path, finding) in told {
+        remarks.push(told_remark(alloc, path, finding)?)?;
+    }
+    Ok(())
+}
+
+// The remark on what the documents of a node tell.
+fn told_remark(
+    alloc: Global,
+    path: &NodePath,
+    finding: &NodeFinding,
+) -> Result<Remark, AllocError>
+    ensures { IfOk result (λ remark. remark ≡ told_remark (path.now, finding.now)) }
+{
+    let text = format!(in alloc; "{finding}")?;
+    Ok(own_remark(path.to_prefix(alloc)?, told_kind(finding), text))
+}
+
+// The kind of what the documents of a node tell.
+fn told_kind(finding: &NodeFinding) -> RemarkKind
+    ensures { result ≡ told_kind finding.now }
+{
+    match finding {
+        NodeFinding::GridRank { .. } => RemarkKind::BadShape,
+        NodeFinding::ZeroLength => RemarkKind::BadShape,
+        NodeFinding::NameCount { .. } => RemarkKind::BadShape,
+        NodeFinding::UnknownField(_) => RemarkKind::NotOpened,
+        NodeFinding::DemandingBlock(_) => RemarkKind::NotOpened,
+        NodeFinding::MisplacedBlock => RemarkKind::Misplaced,
+        NodeFinding::Beside { .. } => RemarkKind::Beside,
+    }
 }
 
 // What there is to tell of a path itself.
@@ -346,6 +490,7 @@ fn finding_kind(kind: &FindingKind) -> RemarkKind
         FindingKind::BadKey(_) => RemarkKind::BadKey,
         FindingKind::Shadowed(_) => RemarkKind::Shadowed,
         FindingKind::OwnKey(_) => RemarkKind::OwnKey,
+        FindingKind::OwnAttributes => RemarkKind::OwnAttributes,
         FindingKind::Unreachable => RemarkKind::Unreachable,
         FindingKind::Stale => RemarkKind::Stale,
         FindingKind::Unreached => RemarkKind::Unreached,
@@ -393,10 +538,18 @@ fn report_text(alloc: Global, remarks: Vec<Remark>) -> Result<String, AllocError
 {
     let mut text = String::new(alloc);
     for remark in remarks {
-        let mut line = NodePath::text_of(remark.path)?;
-        line.push_str(": ")?;
-        line.push_str(remark.text.as_str())?;
+        let line = line_of(alloc, remark)?;
         push_line(&mut text, line.as_str())?;
     }
     Ok(text)
+}
+
+// What the line of a remark says.
+fn line_of(alloc: Global, remark: Remark) -> Result<String, AllocError>
+    ensures { IfOk result (λ line. string_bytes line ≡ line_of remark) }
+{
+    let mark = if remark.kind.is_note() { "note: " } else { "" };
+    let path = NodePath::text_of(remark.path)?;
+    let text = remark.text.as_str();
+    format!(in alloc; "{mark}{path}: {text}")
 }

@@ -38,6 +38,10 @@ const TWO: &str = r#"{"k":2}"#;
 const BLOCK_V2: &str =
     r#"{"metadata":{".zgroup":{"zarr_format":2},"a/.zattrs":{"k":1},"a/.zgroup":{"zarr_format":2}},"zarr_consolidated_format":1}"#;
 
+// The same, where the group itself has the attributes `ONE`.
+const BLOCK_V2_OF_ONE: &str =
+    r#"{"metadata":{".zattrs":{"k":1},".zgroup":{"zarr_format":2}},"zarr_consolidated_format":1}"#;
+
 // The entries of blocks: an array, or groups.
 const EMPTY: &str = "";
 
@@ -330,11 +334,24 @@ fn each_kind_of_finding_is_told(rt: HostRuntime) {
     );
     assert_answer(
         &rt,
+        &[
+            (".zgroup", GROUP_V2),
+            (".zattrs", TWO),
+            (".zmetadata", BLOCK_V2_OF_ONE),
+        ],
+        &[],
+        "/",
+        "/: differs: the block of / has other attributes of it than the store\n",
+        one,
+        1,
+    );
+    assert_answer(
+        &rt,
         &[("a/b/zarr.json", GROUP)],
         &[("zarr.json", A_AND_B)],
         "/",
-        "/a: stale: the block of / has it, and the store has not\n/a/b: unreached: the block of / has it, and a listing does not reach it\n",
-        "zarrs: 1 node, 2 findings\n",
+        "/a: orphaned: it has no document, and 1 nodes below it are not reached\n/a: stale: the block of / has it, and the store has not\n/a/b: unreached: the block of / has it, and a listing does not reach it\n",
+        "zarrs: 1 node, 3 findings\n",
         1,
     );
     assert_answer(

@@ -1,9 +1,10 @@
-//! The texts of bad names and of findings.
+//! The texts of bad documents and names, of paths without documents, and of findings.
 ghost use Rattle.std.specs.Prelude.{◌≡◌, IfOk, string_bytes};
 ghost use Rattle.zarrs_path.specs.Paths.{without_leading_slash};
 ghost use Rattle.zarrs.specs.Texts as texts;
 
 use std::alloc::{AllocError, Global};
+use zarrs_block::NodeCreateError;
 use zarrs_path::NodePath;
 use zarrs_store::StorePrefix;
 use zarrs_survey::FindingKind;
@@ -14,6 +15,35 @@ pub fn name_text(alloc: Global, path: &StorePrefix) -> Result<String, AllocError
 {
     let path = NodePath::text_of(path.try_clone(alloc)?)?;
     format!(in alloc; "invalid node path {path}")
+}
+
+/// Why a document is bad, and how many paths below its own were not looked at.
+pub fn document_text(
+    alloc: Global,
+    error: &NodeCreateError,
+    hidden: usize,
+) -> Result<String, AllocError>
+    ensures { IfOk result (λ text. string_bytes text ≡ texts.document_text error.now hidden) }
+{
+    let more = hidden_text(alloc, hidden)?;
+    format!(in alloc; "{error}{more}")
+}
+
+// That so many paths were not looked at, if there are any.
+fn hidden_text(alloc: Global, hidden: usize) -> Result<String, AllocError>
+    ensures { IfOk result (λ text. string_bytes text ≡ texts.hidden_text hidden) }
+{
+    if hidden == 0 {
+        return Ok(String::new(alloc));
+    }
+    format!(in alloc; "; {hidden} documents below it were not looked at")
+}
+
+/// That a path has no document, and how many nodes below it are not reached.
+pub fn orphan_text(alloc: Global, nodes: usize) -> Result<String, AllocError>
+    ensures { IfOk result (λ text. string_bytes text ≡ texts.orphan_text nodes) }
+{
+    format!(in alloc; "orphaned: it has no document, and {nodes} nodes below it are not reached")
 }
 
 /// What there is to tell of the block of a group, with the group's path.
@@ -27,6 +57,11 @@ pub fn kind_text(alloc: Global, group: &NodePath, kind: &FindingKind) -> Result<
         FindingKind::BadKey(key) => bad_key_text(alloc, group, key.as_str()),
         FindingKind::Shadowed(key) => shadowed_text(alloc, group, key.as_str()),
         FindingKind::OwnKey(key) => own_key_text(alloc, group, key.as_str()),
+        FindingKind::OwnAttributes => {
+            format!(in alloc;
+                "differs: the block of {group} has other attributes of it than the store"
+            )
+        }
         FindingKind::Unreachable => {
             format!(in alloc; "unreachable: the block of {group} has no group above it")
         }

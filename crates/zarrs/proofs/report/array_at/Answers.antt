@@ -1,7 +1,7 @@
 use Rattle.std.proofs.Common.{sym, ◌∙◌}
 use Rattle.zarrs_config.specs.declared.version.MetadataRetrieveVersion.TheVariants.{Default}
 use Rattle.zarrs_survey.proofs.Surveying.{base_excused}
-use Rattle.zarrs.proofs.report.is_array.Goals as goal
+use Rattle.zarrs.proofs.report.array_at.Goals as goal
 
 pub returns-in-Err-2-clause-excused : goal.returns-in-Err-2-clause-excused
 returns-in-Err-2-clause-excused g c =

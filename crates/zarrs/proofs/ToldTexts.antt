@@ -1,0 +1,66 @@
+-- What the documents of one node tell has different remarks.
+use Rattle.std.proofs.Common.{◌≡◌, ◌+◌, ◌-◌, ℕ, cond, List, [], ◌++◌, length, take, drop, refl, sym, ap, ◌∙◌, arith, codes, bytes_eq, length-append}
+use Rattle.std.proofs.Math.Seq.{take-append_seam}
+use Rattle.zarrs_notes.specs.Demands.{block_name}
+use Rattle.zarrs_notes.specs.FindingTexts.{node_finding_text}
+use Rattle.zarrs_notes.specs.NodeFindings.{place_of, field_of}
+use Rattle.zarrs_notes.specs.declared.file.NodeFile.TheVariants.{ZarrJson, Zarray, Zgroup, Zattrs, Zmetadata}
+use Rattle.zarrs_notes.specs.declared.finding.NodeFinding.{NodeFinding}
+use Rattle.zarrs_notes.specs.declared.finding.NodeFinding.TheVariants.{GridRank, ZeroLength, NameCount, UnknownField, DemandingBlock, MisplacedBlock, Beside}
+
+-- the place that a text tells
+place_in : List ℕ → ℕ
+place_in t =
+    cond (bytes_eq (take 15 t) (codes "bad shape: the ")) 0
+    (cond (bytes_eq (take 15 t) (codes "bad shape: a ch")) 1
+    (cond (bytes_eq (take 15 t) (codes "bad shape: ther")) 2
+    (cond (bytes_eq (take 10 t) (codes "not opened")) 3
+    (cond (bytes_eq (take 9 t) (codes "misplaced")) 4
+    (cond (bytes_eq (take 11 t) (codes "beside: zar")) 5
+    (cond (bytes_eq (take 11 t) (codes "beside: .za")) (cond (bytes_eq (take 12 t) (codes "beside: .zar")) 6 8) (cond (bytes_eq (take 11 t) (codes "beside: .zg")) 7 9)))))))
+
+-- is that of what has the text
+place_back : (f : NodeFinding) → place_in (node_finding_text f) ≡ place_of f
+unfolding place_in
+place_back (GridRank lengths shape) = refl
+place_back ZeroLength = refl
+place_back (NameCount names shape) = refl
+place_back (UnknownField name) = refl
+place_back (DemandingBlock group) = refl
+place_back MisplacedBlock = refl
+place_back (Beside ZarrJson document) = refl
+place_back (Beside Zarray document) = refl
+place_back (Beside Zgroup document) = refl
+place_back (Beside Zattrs document) = refl
+place_back (Beside Zmetadata document) = refl
+
+-- the field that a text tells
+field_in : List ℕ → List ℕ
+field_in t = cond (bytes_eq (take 17 t) (codes "not opened: the f")) (take (length (drop 22 t) - 19) (drop 22 t)) (cond (bytes_eq (take 17 t) (codes "not opened: the b")) block_name [])
+
+-- is that of what has the text
+field_back : (f : NodeFinding) → field_in (node_finding_text f) ≡ field_of f
+unfolding field_in
+field_back (GridRank lengths shape) = refl
+field_back ZeroLength = refl
+field_back (NameCount names shape) = refl
+field_back (UnknownField name) =
+    let rest : List ℕ = codes " must be understood" in
+    let more : length (name ++ rest) ≡ length name + 19 = length-append name rest in
+    let count : length (name ++ rest) - 19 ≡ length name = omega (arith, more) in
+    ap (λ n. take n (name ++ rest)) count ∙ take-append_seam name rest
+field_back (DemandingBlock group) = refl
+field_back MisplacedBlock = refl
+field_back (Beside ZarrJson document) = refl
+field_back (Beside Zarray document) = refl
+field_back (Beside Zgroup document) = refl
+field_back (Beside Zattrs document) = refl
+field_back (Beside Zmetadata document) = refl
+
+-- what has one text has one place
+pub places_same : (f h : NodeFinding) → node_finding_text f ≡ node_finding_text h → place_of f ≡ place_of h
+places_same f h same = sym (place_back f) ∙ (ap place_in same ∙ place_back h)
+
+-- and is of one field
+pub fields_same : (f h : NodeFinding) → node_finding_text f ≡ node_finding_text h → field_of f ≡ field_of h
+fields_same f h same = sym (field_back f) ∙ (ap field_in same ∙ field_back h)
