@@ -15,7 +15,7 @@ use tests_support::said;
 use zarrs_block::NodeCreateError;
 use zarrs_path::NodePath;
 use zarrs_store::{FaultAt, FaultStore, ListableStorageTraits, ReadableStorageTraits};
-use zarrs_survey::{Check, Survey};
+use zarrs_survey::{Check, Finding, Survey, check_above};
 
 // Groups of both versions one in the other, of which three have a block, a bad name, and a bad document and a path without a document, each
 // with a node below it. There is a finding of each kind.
@@ -35,6 +35,7 @@ const NAMES: [&str; 5] = ["zarr.json", ".zarray", ".zgroup", ".zattrs", ".zmetad
 enum Call {
     Survey,
     Check,
+    Above,
 }
 
 // A check: what it has of the store, what is lost, and what it tells of blocks.
@@ -63,6 +64,15 @@ fn check_of<S: ReadableStorageTraits + ListableStorageTraits>(
     Check::of_store(&Discard, alloc, store, &base, &ANY)
 }
 
+fn above_of<S: ReadableStorageTraits + ListableStorageTraits>(
+    alloc: Global,
+    store: &S,
+    base: &str,
+) -> Result<Vec<Finding>, NodeCreateError> {
+    let base = NodePath::new(alloc, base)?;
+    check_above(alloc, store, &base, &ANY)
+}
+
 // What a call answers of a store at a base and below it.
 fn answered<S: ReadableStorageTraits + ListableStorageTraits>(
     alloc: Global,
@@ -73,6 +83,7 @@ fn answered<S: ReadableStorageTraits + ListableStorageTraits>(
     match call {
         Call::Survey => said(alloc, survey_of(alloc, store, base), survey_text),
         Call::Check => said(alloc, check_of(alloc, store, base), check_data),
+        Call::Above => said(alloc, above_of(alloc, store, base), findings_text),
     }
 }
 
@@ -135,7 +146,7 @@ fn faults_in(alloc: Global, call: Call, base: &str) -> Result<u32, Fail> {
 }
 
 // A call and its base; at how many of 66 places a fault refuses it.
-const FAULTS: [(Call, &str, u32); 8] = [
+const FAULTS: [(Call, &str, u32); 12] = [
     (Call::Survey, "/", 27),
     (Call::Check, "/", 46),
     (Call::Survey, "/b", 13),
@@ -144,6 +155,10 @@ const FAULTS: [(Call, &str, u32); 8] = [
     (Call::Check, "/bad", 8),
     (Call::Survey, "/nothing", 4),
     (Call::Check, "/nothing", 4),
+    (Call::Above, "/", 0),
+    (Call::Above, "/b", 14),
+    (Call::Above, "/b/c", 14),
+    (Call::Above, "/bad", 5),
 ];
 
 #[test]
@@ -157,8 +172,8 @@ fn a_check_answers_as_usual_or_the_fault(rt: HostRuntime) -> Result<(), Fail> {
 
 // ---- each allocation refused in turn
 
-// What both calls answer at the root and at the bad document.
-const ANSWERS: [(Call, &str, &str); 4] = [
+// What the calls answer at the root and at the bad document, and of the blocks above a group.
+const ANSWERS: [(Call, &str, &str); 6] = [
     (
         Call::Survey,
         "/",
@@ -216,6 +231,22 @@ hidden 1
         r#"/bad StorageError(InvalidMetadata): error parsing metadata for bad/zarr.json: not JSON
 1 nodes
 
+"#,
+    ),
+    (
+        Call::Above,
+        "/b/c",
+        r#"/ /b/c Missing
+/ /b/c/x Missing
+/b /b/c Differs
+/b /b/c/x Missing
+"#,
+    ),
+    (
+        Call::Above,
+        "/bad",
+        r#"/ /bad/x Unreachable
+/ /bad/x Differs
 "#,
     ),
 ];

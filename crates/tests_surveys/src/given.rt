@@ -11,8 +11,8 @@ const G3_WITH_K: &str = r#"{"attributes":{"k":1},"node_type":"group","zarr_forma
 const G3_WITH_K_AND_BLOCK: &str =
     r#"{"attributes":{"k":1},"consolidated_metadata":{"kind":"inline","metadata":{},"must_understand":false},"node_type":"group","zarr_format":3}"#;
 
-// The document that a word names, or the text that begins as JSON does. A word that names none is refused.
-fn document<'a>(alloc: Global, word: &'a str) -> Result<&'a str, StorageError> {
+/// The document that a word names, or the text that begins as JSON does. A word that names none is refused.
+pub(crate) fn document<'a>(alloc: Global, word: &'a str) -> Result<&'a str, StorageError> {
     match word {
         "K" => Ok(G3_WITH_K),
         "KB" => Ok(G3_WITH_K_AND_BLOCK),

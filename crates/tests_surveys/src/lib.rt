@@ -2,6 +2,8 @@
 #![tactic(auto)]
 
 #[cfg(test)]
+mod above;
+#[cfg(test)]
 mod failing;
 #[cfg(test)]
 mod findings;

@@ -171,4 +171,5 @@ fn the_laws_of_surveys_are_called() {
     laws::good_blocks_agree();
     laws::refreshed_blocks_agree();
     laws::nothing_is_lost();
+    laws::nothing_is_above_root();
 }

@@ -6,6 +6,7 @@ pub mod Counting
 pub mod SomeCount
 pub mod NothingLost
 pub mod Comparing
+pub mod GroupsAbove
 pub mod Halving
 pub mod KeyFindings
 pub mod LastGroup
@@ -13,6 +14,8 @@ pub mod LawProofs
 pub mod Merging
 pub mod NodeRuns
 pub mod OwnAttributes
+pub mod PartFindings
+pub mod PartsOfStores
 pub mod Places
 pub mod Reading
 pub mod Refreshing

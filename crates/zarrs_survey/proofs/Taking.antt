@@ -433,23 +433,23 @@ IsNode nothing = ⊥
 IsNode (bad e) = ⊥
 
 -- the base alone ascends
-one_base : (b : Path) (r : Result NodeMetadata NodeCreateError) → Ascend (base_nodes b r)
+pub one_base : (b : Path) (r : Result NodeMetadata NodeCreateError) → Ascend (base_nodes b r)
 one_base b (Ok n) = λ i j d l m. absurd (omega (arith, l, m))
 one_base b (Err e) = λ i j d l m. absurd (omega (arith, m))
 
 -- what is taken as the base is the base
-base_path : (b : Path) (r : Result NodeMetadata NodeCreateError) (d : Pair) → Contains (base_nodes b r) d → (b ≡ d.0) × (r ≡ Ok d.1)
+pub base_path : (b : Path) (r : Result NodeMetadata NodeCreateError) (d : Pair) → Contains (base_nodes b r) d → (b ≡ d.0) × (r ≡ Ok d.1)
 base_path b (Ok n) d in' = ⊎_elim (λ same. (ap (λ (x : Pair). x.0) same, ap (λ (x : Pair). Ok x.1) same)) (λ none. absurd (omega (arith, none.1))) (contains_cases (b, n) [] d in')
 base_path b (Err e) d in' = absurd (omega (arith, in'.1))
 
 module _ (s : Contents) (v : MetadataRetrieveVersion) (b : Path) where
   -- the base that is taken means a node
-  base_out : (r : Result NodeMetadata NodeCreateError) → IsBase s v b r → (d : Pair) → Contains (base_nodes b r) d → (d.0 ≡ b) × (meaning s v b ≡ node d.1)
+  pub base_out : (r : Result NodeMetadata NodeCreateError) → IsBase s v b r → (d : Pair) → Contains (base_nodes b r) d → (d.0 ≡ b) × (meaning s v b ≡ node d.1)
   base_out (Err e) means d in' = absurd (omega (arith, in'.1))
   base_out (Ok n) means d in' = let w = base_path b (Ok n) d in' in (sym w.0, means ∙ ap (λ x. node (given_or n x)) w.1)
 
   -- and the base that means a node is taken
-  base_in : (r : Result NodeMetadata NodeCreateError) → IsBase s v b r → (d : Pair) → (d.0 ≡ b) × (meaning s v b ≡ node d.1) → Contains (base_nodes b r) d
+  pub base_in : (r : Result NodeMetadata NodeCreateError) → IsBase s v b r → (d : Pair) → (d.0 ≡ b) × (meaning s v b ≡ node d.1) → Contains (base_nodes b r) d
   base_in (Ok n) means d w = subst (λ (x : Pair). Contains ((b, n) ∷ []) x) (ap (λ p. (p, n)) (sym w.0) ∙ ap (λ m. (d.0, m)) (node_same n d.1 (sym means ∙ w.1))) (Contains-first (b, n) [])
   base_in (Err e) refused d w = absurd (⊎_elim (λ h. subst IsNode (sym w.1 ∙ h.0) tt) (λ h. subst IsNode (sym w.1 ∙ h) tt) refused)
 

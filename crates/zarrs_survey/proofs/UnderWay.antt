@@ -12,10 +12,11 @@ use Rattle.zarrs_block.specs.declared.node_create_error.NodeCreateError.{NodeCre
 use Rattle.zarrs_node.proofs.Found.{all_pairs_first, all_pairs_tail, all_pairs_append}
 use Rattle.zarrs_node.proofs.Graft.{Contains-first, Contains-cons}
 use Rattle.zarrs_node.proofs.Order.{contains_cases}
-use Rattle.zarrs_survey.specs.Findings.{Pair, IsSpoilt, IsPathFinding, Precedes, key_of, rank_of}
+use Rattle.zarrs_survey.specs.Findings.{Pair, IsAtOrAbove, IsSpoilt, IsPathFinding, Precedes, key_of, rank_of}
+use Rattle.zarrs_survey.specs.StepsOfBlocksAbove.{ArePartFindings}
 use Rattle.zarrs_survey.specs.StepsOfChecks.{HasBad}
 use Rattle.zarrs_survey.specs.StepsOfComparing.{ArePathFindings, AreBelow, HangsFrom, IsBeforeFirst, IsPairKind, cut_kind, findings_at}
-use Rattle.zarrs_survey.specs.StepsOfComparisons.{AreSettled, IsEnd, IsNext, IsNextBelow, IsNextOf, IsOneBlock, IsSettled, IsUnderWay, IsUnmoved, NoDocument, NoneBad, PassesLone, PassesPair, PutsSettled, if_some}
+use Rattle.zarrs_survey.specs.StepsOfComparisons.{AreSettled, IsAtEnd, IsEnd, IsNext, IsNextBelow, IsNextOf, IsOneBlock, IsSettled, IsUnderWay, IsUnmoved, NoDocument, NoneBad, PassesLone, PassesPair, PutsSettled, if_some}
 use Rattle.zarrs_survey.specs.StepsOfMerging.{HoldsUpTo}
 use Rattle.zarrs_survey.specs.declared.comparison.Comparison.{Comparison}
 use Rattle.zarrs_survey.specs.declared.finding.Finding.{Finding}
@@ -214,8 +215,9 @@ module _ (F D : Path → Type 0) where
     settled_more found f o are.1 (are.1 ++ if_some o) refl are.4 one,
   )
 
-  -- what is left of the findings of paths, before any document was known, is what there is to tell of them
-  module _ (E N : Pair → Type 0) (g : Path) (found left : List Finding) (are : ArePathFindings E N NoneBad NoDocument g found) (is : AreSettled F D found left) where
+  -- of paths of which P holds what is left of their findings, before any document was known, is what there is to tell of them
+  module _ (E N : Pair → Type 0) (g : Path) (P : Path → Type 0) (found left : List Finding)
+      (exact : (f : Finding) → Contains found f ↔ ((f.group ≡ g) × IsPathFinding E N NoneBad NoDocument g f.path f.kind × P f.path)) (is : AreSettled F D found left) where
     -- what there was to tell of a path, where it is not that an entry has no node
     other_before : (p : Path) (k : FindingKind) → (k ≡ Stale → ⊥) → IsPathFinding E N NoneBad NoDocument g p k → IsPathFinding E N F D g p k
     other_before p Unreachable not h = h
@@ -230,12 +232,12 @@ module _ (F D : Path → Type 0) where
     other_before p OwnAttributes not h = absurd h
 
     -- what is left is there to tell
-    left_sound : (h : Finding) → Contains left h → (h.group ≡ g) × IsPathFinding E N F D g h.path h.kind
+    left_sound : (h : Finding) → Contains left h → (h.group ≡ g) × IsPathFinding E N F D g h.path h.kind × P h.path
     left_sound h in' =
         let w = settled_in found left is h in' in
-        let before = (are.exact w.0).0 w.1 in
+        let before = (exact w.0).0 w.1 in
         ⊎_elim
-        (λ kept. subst (λ x. (x.group ≡ g) × IsPathFinding E N F D g x.path x.kind) (sym kept.1) (before.0, other_before w.0.path w.0.kind kept.0 before.1))
+        (λ kept. subst (λ x. (x.group ≡ g) × IsPathFinding E N F D g x.path x.kind × P x.path) (sym kept.1) (before.0, other_before w.0.path w.0.kind kept.0 before.1, before.2))
         (λ kept.
         let lone : IsPathFinding E N NoneBad NoDocument g w.0.path Stale = subst (IsPathFinding E N NoneBad NoDocument g w.0.path) kept.0 before.1 in (
           kept.2 ∙ before.0,
@@ -243,6 +245,7 @@ module _ (F D : Path → Type 0) where
               (λ there. subst (IsPathFinding E N F D g w.0.path) (sym there.1) (lone.0, lone.1, kept.1, there.0))
               (λ gone. subst (IsPathFinding E N F D g w.0.path) (sym gone.1) (lone.0, lone.1, kept.1, gone.0))
               kept.4),
+          subst P (sym kept.3) before.2,
         ))
         w.2
 
@@ -273,28 +276,46 @@ module _ (F D : Path → Type 0) where
         w)
 
     -- and what is there to tell is left
-    left_complete : (h : Finding) → h.group ≡ g → (k : FindingKind) → h.kind ≡ k → IsPathFinding E N F D g h.path k → Contains left h
-    left_complete h of Unreachable is' w = left_one h h ((are.exact h).1 (of, subst (IsPathFinding E N NoneBad NoDocument g h.path) (sym is') w)) (other_settles h (λ e. cc))
-    left_complete h of Differs is' w = left_one h h ((are.exact h).1 (of, subst (IsPathFinding E N NoneBad NoDocument g h.path) (sym is') w)) (other_settles h (λ e. cc))
-    left_complete h of Missing is' w = left_one h h ((are.exact h).1 (of, subst (IsPathFinding E N NoneBad NoDocument g h.path) (sym is') w)) (other_settles h (λ e. cc))
-    left_complete h of Stale is' w = left_one (of_group h Stale) h ((are.exact (of_group h Stale)).1 (of, (w.0, w.1, λ x. x.1, λ x. x))) (lone_settles h w.2 (inl (is', w.3)))
-    left_complete h of Unreached is' w = left_one (of_group h Stale) h ((are.exact (of_group h Stale)).1 (of, (w.0, w.1, λ x. x.1, λ x. x))) (lone_settles h w.2 (inr (is', w.3)))
-    left_complete h of (BlockFault fault) is' w = absurd w
-    left_complete h of (BadKey t) is' w = absurd w
-    left_complete h of (Shadowed t) is' w = absurd w
-    left_complete h of (OwnKey t) is' w = absurd w
-    left_complete h of OwnAttributes is' w = absurd w
+    left_complete : (h : Finding) → h.group ≡ g → P h.path → (k : FindingKind) → h.kind ≡ k → IsPathFinding E N F D g h.path k → Contains left h
+    left_complete h of at Unreachable is' w = left_one h h ((exact h).1 (of, subst (IsPathFinding E N NoneBad NoDocument g h.path) (sym is') w, at)) (other_settles h (λ e. cc))
+    left_complete h of at Differs is' w = left_one h h ((exact h).1 (of, subst (IsPathFinding E N NoneBad NoDocument g h.path) (sym is') w, at)) (other_settles h (λ e. cc))
+    left_complete h of at Missing is' w = left_one h h ((exact h).1 (of, subst (IsPathFinding E N NoneBad NoDocument g h.path) (sym is') w, at)) (other_settles h (λ e. cc))
+    left_complete h of at Stale is' w = left_one (of_group h Stale) h ((exact (of_group h Stale)).1 (of, (w.0, w.1, λ x. x.1, λ x. x), at)) (lone_settles h w.2 (inl (is', w.3)))
+    left_complete h of at Unreached is' w = left_one (of_group h Stale) h ((exact (of_group h Stale)).1 (of, (w.0, w.1, λ x. x.1, λ x. x), at)) (lone_settles h w.2 (inr (is', w.3)))
+    left_complete h of at (BlockFault fault) is' w = absurd w
+    left_complete h of at (BadKey t) is' w = absurd w
+    left_complete h of at (Shadowed t) is' w = absurd w
+    left_complete h of at (OwnKey t) is' w = absurd w
+    left_complete h of at OwnAttributes is' w = absurd w
 
-    pub settled_findings : ArePathFindings E N F D g left
-    settled_findings = record {
-      exact = λ h. (left_sound h, λ w. left_complete h w.0 h.kind refl w.1);
-      ascend = settled_ascend found left is are.ascend;
-    }
+    pub settled_exact : (h : Finding) → Contains left h ↔ ((h.group ≡ g) × IsPathFinding E N F D g h.path h.kind × P h.path)
+    settled_exact h = (left_sound h, λ w. left_complete h w.0 w.2 h.kind refl w.1)
+
+  -- so it is of all paths
+  pub settled_findings : (E N : Pair → Type 0) (g : Path) (found left : List Finding) → ArePathFindings E N NoneBad NoDocument g found → AreSettled F D found left → ArePathFindings E N F D g left
+  settled_findings E N g found left are is = record {
+    exact = λ h. (λ in'. let w = (all h).0 in' in (w.0, w.1), λ w. (all h).1 (w.0, w.1, tt));
+    ascend = settled_ascend found left is are.ascend;
+  }
+    where
+      all : (h : Finding) → Contains left h ↔ ((h.group ≡ g) × IsPathFinding E N F D g h.path h.kind × Unit {0})
+      all = settled_exact E N g (λ p. Unit {0}) found left (λ f. (λ in'. let w = (are.exact f).0 in' in (w.0, w.1, tt), λ w. (are.exact f).1 (w.0, w.1))) is
+
+  -- and of those at or below b
+  pub settled_part : (E N : Pair → Type 0) (g b : Path) (found left : List Finding) → ArePartFindings E N NoneBad NoDocument g b found → AreSettled F D found left → ArePartFindings E N F D g b left
+  settled_part E N g b found left are is = record {
+    exact = settled_exact E N g (IsAtOrAbove b) found left are.exact is;
+    ascend = settled_ascend found left is are.ascend;
+  }
+
+-- where none is left of the entries, the comparison is at its end
+pub at_end : (start was now : Comparison) → IsUnmoved was now → IsOnTheWay start (λ ns. []) was → was.entries.items ≡ [] → IsAtEnd start now
+at_end start was now m o none = record { one = one_block start was now o.one m.one; told = λ all nodes u. at_turn start was now now m (λ ns. []) o all nodes [] [] none u }
 
 -- all is told at the end
-pub ended : (D : Path → Type 0) (start now : Comparison) (bad : List (Path × NodeCreateError)) (whole : List Finding) → IsOnTheWay start (λ ns. []) now → now.entries.items ≡ [] → PutsSettled (HasBad bad) D now.of_block.items now.found.items whole → IsEnd D start bad whole
-ended D start now bad whole o none put all nodes u =
-    let h = (subst (λ es. IsUnderWay all nodes es [] now) none (o.told all nodes [] u)).holds in
+pub ended : (D : Path → Type 0) (start now : Comparison) (bad : List (Path × NodeCreateError)) (whole : List Finding) → IsAtEnd start now → PutsSettled (HasBad bad) D now.of_block.items now.found.items whole → IsEnd D start bad whole
+ended D start now bad whole o put all nodes u =
+    let h = (o.told all nodes u).holds in
     let are = by_end (Contains all) (Contains nodes) now.group now.last now.found.items h in (
       put.0,
       put.1 ∙ ap (λ fs. fs ++ put.0) o.one.of_block,

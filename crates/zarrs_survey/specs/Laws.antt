@@ -19,6 +19,7 @@ use Rattle.zarrs_node.specs.Exists.{HasNodeKey}
 use Rattle.zarrs_node.specs.Forest.{Forest, pairs, paths_of, Shows}
 use Rattle.zarrs_node.specs.Nodes.{Nodes, HasNothingBad, ShowsBad}
 use Rattle.zarrs_node.specs.OpeningNodes.{IsCleanBelow, ShowsBelow}
+use Rattle.zarrs_survey.specs.BlocksAbove.{AreAboveFindings}
 use Rattle.zarrs_survey.specs.Checks.{block_read, IsBlockFinding, IsCheckOf}
 use Rattle.zarrs_survey.specs.Findings.{Pair, HasPath}
 use Rattle.zarrs_survey.specs.Surveys.{IsSurveyOf}
@@ -81,3 +82,7 @@ IsFoundBy s v b c p = ((m : NodeMetadata) × Nodes s v true b (p, m)) ⊎ ((e : 
 abbrev pub NothingIsLost : Type 0
 NothingIsLost = (s : Contents) (v : MetadataRetrieveVersion) (b : Path) (c : Check) → IsCheckOf s v b c → c.orphans.items ≡ [] → All (λ n. n ≡ 0) c.hidden.items
     → (p : Path) → IsPath p → IsBelow b p → HasNodeKey s p → (IsBelowArrayNode s v b p → ⊥) → IsFoundBy s v b c p
+
+-- No group is above the root, so no block above it says anything otherwise.
+abbrev pub NothingIsAboveRoot : Type 0
+NothingIsAboveRoot = (s : Contents) (v : MetadataRetrieveVersion) → AreAboveFindings s v [] []

@@ -12,4 +12,6 @@ pub mod StepsOfOwnAttributes
 pub mod StepsOfChecks
 pub mod StepsOfTaking
 pub mod StepsOfVisits
+pub mod BlocksAbove
+pub mod StepsOfBlocksAbove
 pub mod Laws

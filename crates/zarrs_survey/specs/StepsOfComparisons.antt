@@ -103,6 +103,11 @@ IsNextOf old (e ∷ es) new = (mid : Comparison) × IsNextBelow old e mid × IsN
 
 -- ---- the end
 
+-- the entries that were left were told and passed, where no nodes are left
+pub record IsAtEnd (old new : Comparison) : Type 0 where
+  pub one : IsOneBlock old new
+  pub told : (all nodes : List Pair) → IsUnderWay all nodes old.entries.items [] old → IsUnderWay all nodes [] [] new
+
 -- What becomes of a finding, once the bad documents F and all documents D are known: of an entry without a node nothing where F spoils it, and else it is
 -- unreached where D has it. Others stay as they are.
 abbrev pub IsSettled : (Path → Type 0) → (Path → Type 0) → Finding → Option Finding → Type 0

@@ -10,7 +10,8 @@ ghost use Rattle.zarrs_node.specs.Exists.{HasNodeKey};
 ghost use Rattle.zarrs_survey.specs.Findings.{IsAtOrAbove};
 ghost use Rattle.zarrs_survey.specs.StepsOfChecks.{HasBad};
 ghost use Rattle.zarrs_survey.specs.StepsOfComparing.{HangsFrom, IsPairKind, StandBehind, cut_kind, findings_at, own_kind};
-ghost use Rattle.zarrs_survey.specs.StepsOfComparisons.{IsEnd, IsNext, IsNextBelow, IsNextOf, IsOnly, IsStart, IsTurnAt, IsUnmoved, Passes, PassesLone, PassesPair, PutsSettled, IsSettled};
+ghost use Rattle.zarrs_survey.specs.StepsOfBlocksAbove.{IsEndFrom};
+ghost use Rattle.zarrs_survey.specs.StepsOfComparisons.{IsAtEnd, IsEnd, IsNext, IsNextBelow, IsNextOf, IsOnly, IsStart, IsTurnAt, IsUnmoved, Passes, PassesLone, PassesPair, PutsSettled, IsSettled};
 
 use crate::bad_documents::BadDocuments;
 use crate::finding::{Finding, FindingKind};
@@ -240,10 +241,37 @@ impl Comparison {
             (λ found. IsEnd (HasNodeKey (S.contents storage.now)) self bad.now found.items) }
         ensures err { IfErr result (IsStoreError (S.can_fail storage.now)) }
     {
+        self.tell_rest(alloc)?;
+        put_settled(alloc, storage, self.of_block, self.found, bad)
+    }
+
+    // What there is to tell of a path and of what is below it, and nothing of the block itself, where there are no more nodes.
+    pub(crate) fn finish_from<S: ReadableStorageTraits>(
+        mut self,
+        alloc: Global,
+        storage: &S,
+        path: &NodePath,
+        bad: &BadDocuments,
+    ) -> Result<Vec<Finding>, StorageError>
+        ensures ok { IfOk result
+            (λ found. IsEndFrom path.now (HasNodeKey (S.contents storage.now)) self bad.now
+            found.items) }
+        ensures err { IfErr result (IsStoreError (S.can_fail storage.now)) }
+    {
+        self.tell_rest(alloc)?;
+        let mut found = self.found;
+        found.retain(|finding| is_at_or_above(path, &finding.path));
+        put_settled(alloc, storage, Vec::new(alloc), found, bad)
+    }
+
+    // Tells what is wrong with the entries that are left, where there are no more nodes.
+    fn tell_rest(&mut self, alloc: Global) -> Result<(), AllocError>
+        ensures { OnOk result (IsAtEnd self.old self.new) }
+    {
         while let Some(entry) = self.entries.pop_front() {
             self.tell_lone(alloc, entry)?;
         }
-        put_settled(alloc, storage, self.of_block, self.found, bad)
+        Ok(())
     }
 }
 

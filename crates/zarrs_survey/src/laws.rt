@@ -1,6 +1,6 @@
 //! What holds of every survey and of every check. A function here is empty; its contract is the law.
 ghost use Rattle.zarrs_survey.specs.Laws.{NothingBadIsTold, RefusalsAreTold, ListingIsSurveyed, GroupsAreSurveyed, GoodBlocksAgree, RefreshedBlocksAgree};
-ghost use Rattle.zarrs_survey.specs.Laws.{NothingIsLost};
+ghost use Rattle.zarrs_survey.specs.Laws.{NothingIsAboveRoot, NothingIsLost};
 
 /// A survey has no bad document and no bad name exactly where nothing below its base is bad.
 pub fn nothing_bad_is_told()
@@ -38,4 +38,9 @@ pub fn refreshed_blocks_agree()
 /// it is below an array: it is a node, or among the bad documents, or ignored since the version does not ask for its documents.
 pub fn nothing_is_lost()
     ensures { NothingIsLost }
+{}
+
+/// No group is above the root, so no block above it says anything otherwise than the store.
+pub fn nothing_is_above_root()
+    ensures { NothingIsAboveRoot }
 {}

@@ -5,6 +5,7 @@
 mod bad_documents;
 mod base;
 mod block;
+mod blocks_above;
 mod check;
 mod comparison;
 mod comparisons;
@@ -18,6 +19,7 @@ mod visits;
 
 pub use bad_documents::BadDocuments;
 pub use block::compare_block;
+pub use blocks_above::check_above;
 pub use check::{Check, read_block};
 pub use finding::{Finding, FindingKind};
 pub use survey::Survey;
