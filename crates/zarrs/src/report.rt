@@ -413,11 +413,7 @@ fn add_told(
 }
 
 // The remark on what the documents of a node tell.
-fn told_remark(
-    alloc: Global,
-    path: &NodePath,
-    finding: &NodeFinding,
-) -> Result<Remark, AllocError>
+fn told_remark(alloc: Global, path: &NodePath, finding: &NodeFinding) -> Result<Remark, AllocError>
     ensures { IfOk result (λ remark. remark ≡ told_remark (path.now, finding.now)) }
 {
     let text = format!(in alloc; "{finding}")?;

@@ -108,10 +108,12 @@ fn notes_are_told_where_they_are_asked_for(rt: HostRuntime) {
     ];
     let findings = "zarrs: 3 nodes, 0 findings\n";
     assert_told(&rt, CHECK, &documents, "/", "", findings, 0);
-    let notes = "note: /: beside: .zmetadata is not read, since zarr.json stands there too\nnote: /a: misplaced: an array has a block, which is not read\nnote: /b: beside: .zgroup is not read, since .zarray stands there too\n";
+    let notes =
+        "note: /: beside: .zmetadata is not read, since zarr.json stands there too\nnote: /a: misplaced: an array has a block, which is not read\nnote: /b: beside: .zgroup is not read, since .zarray stands there too\n";
     let counts = "zarrs: 3 nodes, 0 findings, 3 notes\n";
     assert_told(&rt, NOTES, &documents, "/", notes, counts, 0);
-    let json = "[{\"block\":null,\"key\":null,\"kind\":\"misplaced\",\"path\":\"/a\",\"text\":\"misplaced: an array has a block, which is not read\"}]\n";
+    let json =
+        "[{\"block\":null,\"key\":null,\"kind\":\"misplaced\",\"path\":\"/a\",\"text\":\"misplaced: an array has a block, which is not read\"}]\n";
     let counts = "zarrs: 1 node, 0 findings, 1 note\n";
     assert_told(&rt, NOTES_JSON, &documents, "/a", json, counts, 0);
 }
@@ -137,7 +139,8 @@ fn what_no_listing_reaches_is_told(rt: HostRuntime) {
         ("c/zarr.json", "x"),
         ("c/0", ""),
     ];
-    let lines = "/a: error parsing metadata for a/zarr.json: not JSON; 1 documents below it were not looked at\n/c: error parsing metadata for c/zarr.json: not JSON\n";
+    let lines =
+        "/a: error parsing metadata for a/zarr.json: not JSON; 1 documents below it were not looked at\n/c: error parsing metadata for c/zarr.json: not JSON\n";
     let two = "zarrs: 1 node, 2 findings\n";
     assert_told(&rt, CHECK, &hiding, "/", lines, two, 1);
 }

@@ -1,4 +1,4 @@
-use Rattle.std.proofs.Common.{◌≡◌, [], ◌∷◌, ◌++◌, ap, sym, ◌∙◌, append-nil, append_assoc, map}
+use Rattle.std.proofs.Common.{[], ◌∷◌, ◌++◌, ap, sym, ◌∙◌, append-nil, append_assoc, map}
 use Rattle.std.specs.Vec.Iter.{into_iter_items}
 use Rattle.zarrs_survey.proofs.Surveying.{none_left}
 use Rattle.zarrs.proofs.folder.paths_of.Goals as goal
