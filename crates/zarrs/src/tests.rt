@@ -196,191 +196,204 @@ pub(crate) fn assert_answer<R: Abort + AllocGlobal>(
     assert_ran(rt, output, &ran, output, errors, status);
 }
 
-#[test]
-fn the_fault_of_a_path_is_told(rt: HostRuntime) {
-    let root = ("zarr.json", GROUP);
-    assert_answer(
-        &rt,
-        &[root, ("a/zarr.json", GROUP)],
-        &[],
-        "/",
-        "",
-        "zarrs: 2 nodes, 0 findings\n",
-        0,
-    );
-    assert_answer(
-        &rt,
-        &[root, ("a/zarr.json", NO_SHAPE)],
-        &[],
-        "/",
-        "/a: error parsing metadata for a/zarr.json: missing member shape\n",
-        "zarrs: 1 node, 1 finding\n",
-        1,
-    );
-    assert_answer(
-        &rt,
-        &[root, ("a/zarr.json", GROUP), ("a/../x", "")],
-        &[],
-        "/",
-        "/a/..: invalid node path /a/..\n",
-        "zarrs: 2 nodes, 1 finding\n",
-        1,
-    );
-    assert_answer(
-        &rt,
-        &[root],
-        &[],
-        "/x",
-        "/x: Metadata is missing for /x\n",
-        "zarrs: 0 nodes, 1 finding\n",
-        1,
-    );
-    assert_answer(
-        &rt,
-        &[("a/zarr.json", GROUP)],
-        &[],
-        "/",
-        "/: Metadata is missing for /\n",
-        "zarrs: 1 node, 1 finding\n",
-        1,
-    );
-    assert_answer(
-        &rt,
-        &[
+// Documents at their keys, the entries of blocks at theirs, a path, and what the program answers of it.
+struct Row<'a> {
+    documents: &'a [(&'a str, &'a str)],
+    blocks: &'a [(&'a str, &'a str)],
+    path: &'a str,
+    output: &'a str,
+    errors: &'a str,
+    status: u8,
+}
+
+// Asserts what the program answers, row by row.
+fn assert_answers<R: Abort + AllocGlobal>(rt: &R, rows: &[Row<'_>]) {
+    for row in rows {
+        assert_answer(
+            rt,
+            row.documents,
+            row.blocks,
+            row.path,
+            row.output,
+            row.errors,
+            row.status,
+        );
+    }
+}
+
+// Documents and groups with blocks, a path, and what is told of it.
+const FAULTS: &[Row] = &[
+    Row {
+        documents: &[("zarr.json", GROUP), ("a/zarr.json", GROUP)],
+        blocks: &[],
+        path: "/",
+        output: "",
+        errors: "zarrs: 2 nodes, 0 findings\n",
+        status: 0,
+    },
+    Row {
+        documents: &[("zarr.json", GROUP), ("a/zarr.json", NO_SHAPE)],
+        blocks: &[],
+        path: "/",
+        output: "/a: error parsing metadata for a/zarr.json: missing member shape\n",
+        errors: "zarrs: 1 node, 1 finding\n",
+        status: 1,
+    },
+    Row {
+        documents: &[("zarr.json", GROUP), ("a/zarr.json", GROUP), ("a/../x", "")],
+        blocks: &[],
+        path: "/",
+        output: "/a/..: invalid node path /a/..\n",
+        errors: "zarrs: 2 nodes, 1 finding\n",
+        status: 1,
+    },
+    Row {
+        documents: &[("zarr.json", GROUP)],
+        blocks: &[],
+        path: "/x",
+        output: "/x: Metadata is missing for /x\n",
+        errors: "zarrs: 0 nodes, 1 finding\n",
+        status: 1,
+    },
+    Row {
+        documents: &[("a/zarr.json", GROUP)],
+        blocks: &[],
+        path: "/",
+        output: "/: Metadata is missing for /\n",
+        errors: "zarrs: 1 node, 1 finding\n",
+        status: 1,
+    },
+    Row {
+        documents: &[
             ("zarr.json", "x"),
             ("a/zarr.json", "y"),
             ("a-b/zarr.json", "z"),
         ],
-        &[],
-        "/",
-        "/: error parsing metadata for zarr.json: not JSON\n/a: error parsing metadata for a/zarr.json: not JSON\n/a-b: error parsing metadata for a-b/zarr.json: not JSON\n",
-        "zarrs: 0 nodes, 3 findings\n",
-        1,
-    );
-    assert_answer(
-        &rt,
-        &[
+        blocks: &[],
+        path: "/",
+        output: "/: error parsing metadata for zarr.json: not JSON\n/a: error parsing metadata for a/zarr.json: not JSON\n/a-b: error parsing metadata for a-b/zarr.json: not JSON\n",
+        errors: "zarrs: 0 nodes, 3 findings\n",
+        status: 1,
+    },
+    Row {
+        documents: &[
             ("zarr.json", ARRAY),
             ("a/zarr.json", GROUP),
             ("a/b/zarr.json", ARRAY),
             ("a/b/c/zarr.json", "x"),
         ],
-        &[],
-        "/",
-        "",
-        "zarrs: 1 node, 0 findings\n",
-        0,
-    );
-}
+        blocks: &[],
+        path: "/",
+        output: "",
+        errors: "zarrs: 1 node, 0 findings\n",
+        status: 0,
+    },
+];
 
 #[test]
-fn each_kind_of_finding_is_told(rt: HostRuntime) {
-    let one = "zarrs: 1 node, 1 finding\n";
-    let two = "zarrs: 2 nodes, 1 finding\n";
-    let a = ("a/zarr.json", GROUP);
-    assert_answer(
-        &rt,
-        &[a],
-        &[("zarr.json", A)],
-        "/",
-        "",
-        "zarrs: 2 nodes, 0 findings\n",
-        0,
-    );
-    assert_answer(
-        &rt,
-        &[],
-        &[("zarr.json", A)],
-        "/",
-        "/a: stale: the block of / has it, and the store has not\n",
-        one,
-        1,
-    );
-    assert_answer(
-        &rt,
-        &[a],
-        &[("zarr.json", EMPTY)],
-        "/",
-        "/a: missing: the block of / has no entry of it\n",
-        two,
-        1,
-    );
-    assert_answer(
-        &rt,
-        &[("a/zarr.json", ARRAY)],
-        &[("zarr.json", A)],
-        "/",
-        "/a: differs: the block of / has other metadata than the store\n",
-        two,
-        1,
-    );
-    assert_answer(
-        &rt,
-        &[],
-        &[("zarr.json", X_Y)],
-        "/",
-        "/x/y: stale: the block of / has it, and the store has not\n/x/y: unreachable: the block of / has no group above it\n",
-        "zarrs: 1 node, 2 findings\n",
-        1,
-    );
-    assert_answer(
-        &rt,
-        &[],
-        &[("zarr.json", OWN)],
-        "/",
-        "/: own key: the block of / has the key ``, which is / itself\n",
-        one,
-        1,
-    );
-    assert_answer(
-        &rt,
-        &[
+fn the_fault_of_a_path_is_told(rt: HostRuntime) {
+    assert_answers(&rt, FAULTS);
+}
+
+// Blocks, and what is told of each kind.
+const FINDINGS: &[Row] = &[
+    Row {
+        documents: &[("a/zarr.json", GROUP)],
+        blocks: &[("zarr.json", A)],
+        path: "/",
+        output: "",
+        errors: "zarrs: 2 nodes, 0 findings\n",
+        status: 0,
+    },
+    Row {
+        documents: &[],
+        blocks: &[("zarr.json", A)],
+        path: "/",
+        output: "/a: stale: the block of / has it, and the store has not\n",
+        errors: "zarrs: 1 node, 1 finding\n",
+        status: 1,
+    },
+    Row {
+        documents: &[("a/zarr.json", GROUP)],
+        blocks: &[("zarr.json", EMPTY)],
+        path: "/",
+        output: "/a: missing: the block of / has no entry of it\n",
+        errors: "zarrs: 2 nodes, 1 finding\n",
+        status: 1,
+    },
+    Row {
+        documents: &[("a/zarr.json", ARRAY)],
+        blocks: &[("zarr.json", A)],
+        path: "/",
+        output: "/a: differs: the block of / has other metadata than the store\n",
+        errors: "zarrs: 2 nodes, 1 finding\n",
+        status: 1,
+    },
+    Row {
+        documents: &[],
+        blocks: &[("zarr.json", X_Y)],
+        path: "/",
+        output: "/x/y: stale: the block of / has it, and the store has not\n/x/y: unreachable: the block of / has no group above it\n",
+        errors: "zarrs: 1 node, 2 findings\n",
+        status: 1,
+    },
+    Row {
+        documents: &[],
+        blocks: &[("zarr.json", OWN)],
+        path: "/",
+        output: "/: own key: the block of / has the key ``, which is / itself\n",
+        errors: "zarrs: 1 node, 1 finding\n",
+        status: 1,
+    },
+    Row {
+        documents: &[
             (".zgroup", GROUP_V2),
             (".zattrs", TWO),
             (".zmetadata", BLOCK_V2_OF_ONE),
         ],
-        &[],
-        "/",
-        "/: differs: the block of / has other attributes of it than the store\n",
-        one,
-        1,
-    );
-    assert_answer(
-        &rt,
-        &[("a/b/zarr.json", GROUP)],
-        &[("zarr.json", A_AND_B)],
-        "/",
-        "/a: orphaned: it has no document, and 1 nodes below it are not reached\n/a: stale: the block of / has it, and the store has not\n/a/b: unreached: the block of / has it, and a listing does not reach it\n",
-        "zarrs: 1 node, 3 findings\n",
-        1,
-    );
-    assert_answer(
-        &rt,
-        &[a],
-        &[("zarr.json", SHADOWED)],
-        "/",
-        "/: shadowed: the block of / has the key `/a` beside `a`\n",
-        two,
-        1,
-    );
-    assert_answer(
-        &rt,
-        &[],
-        &[("zarr.json", BAD_KEY)],
-        "/",
-        "/: bad key: the block of / has the key `a//b`\n",
-        one,
-        1,
-    );
-    assert_answer(
-        &rt,
-        &[("zarr.json", BAD_BLOCK)],
-        &[],
-        "/",
-        "/: bad block: the block of / has the fault `bad member kind`\n",
-        one,
-        1,
-    );
+        blocks: &[],
+        path: "/",
+        output: "/: differs: the block of / has other attributes of it than the store\n",
+        errors: "zarrs: 1 node, 1 finding\n",
+        status: 1,
+    },
+    Row {
+        documents: &[("a/b/zarr.json", GROUP)],
+        blocks: &[("zarr.json", A_AND_B)],
+        path: "/",
+        output: "/a: orphaned: it has no document, and 1 nodes below it are not reached\n/a: stale: the block of / has it, and the store has not\n/a/b: unreached: the block of / has it, and a listing does not reach it\n",
+        errors: "zarrs: 1 node, 3 findings\n",
+        status: 1,
+    },
+    Row {
+        documents: &[("a/zarr.json", GROUP)],
+        blocks: &[("zarr.json", SHADOWED)],
+        path: "/",
+        output: "/: shadowed: the block of / has the key `/a` beside `a`\n",
+        errors: "zarrs: 2 nodes, 1 finding\n",
+        status: 1,
+    },
+    Row {
+        documents: &[],
+        blocks: &[("zarr.json", BAD_KEY)],
+        path: "/",
+        output: "/: bad key: the block of / has the key `a//b`\n",
+        errors: "zarrs: 1 node, 1 finding\n",
+        status: 1,
+    },
+    Row {
+        documents: &[("zarr.json", BAD_BLOCK)],
+        blocks: &[],
+        path: "/",
+        output: "/: bad block: the block of / has the fault `bad member kind`\n",
+        errors: "zarrs: 1 node, 1 finding\n",
+        status: 1,
+    },
+];
+
+#[test]
+fn each_kind_of_finding_is_told(rt: HostRuntime) {
+    assert_answers(&rt, FINDINGS);
 }
 
 // What there is to tell of these entries, where there are neither, as JSON.
@@ -424,143 +437,156 @@ fn what_is_told_is_json_too(rt: HostRuntime) {
     );
 }
 
+// Blocks with several faults, and what is told of them in order.
+const ORDERS: &[Row] = &[
+    Row {
+        documents: &[("c/zarr.json", GROUP), ("d/zarr.json", ARRAY)],
+        blocks: &[("zarr.json", ALL)],
+        path: "/",
+        output: "/: shadowed: the block of / has the key `/b` beside `b`\n/: bad key: the block of / has the key `a//b`\n/b: stale: the block of / has it, and the store has not\n/c: missing: the block of / has no entry of it\n/d: differs: the block of / has other metadata than the store\n/e/f: stale: the block of / has it, and the store has not\n/e/f: unreachable: the block of / has no group above it\n",
+        errors: "zarrs: 3 nodes, 7 findings\n",
+        status: 1,
+    },
+    Row {
+        documents: &[],
+        blocks: &[("a/zarr.json", X), ("zarr.json", A_AND_X)],
+        path: "/",
+        output: "/a/x: stale: the block of / has it, and the store has not\n/a/x: stale: the block of /a has it, and the store has not\n",
+        errors: "zarrs: 2 nodes, 2 findings\n",
+        status: 1,
+    },
+    Row {
+        documents: &[],
+        blocks: &[("a/zarr.json", X), ("zarr.json", A_AND_X)],
+        path: "/a",
+        output: "/a/x: stale: the block of /a has it, and the store has not\n",
+        errors: "zarrs: 1 node, 1 finding\n",
+        status: 1,
+    },
+    Row {
+        documents: &[("x/zarr.json", GROUP), ("x/y/zarr.json", "x")],
+        blocks: &[("zarr.json", X_Y)],
+        path: "/",
+        output: "/x: missing: the block of / has no entry of it\n/x/y: error parsing metadata for x/y/zarr.json: not JSON\n/x/y: unreachable: the block of / has no group above it\n",
+        errors: "zarrs: 2 nodes, 3 findings\n",
+        status: 1,
+    },
+    Row {
+        documents: &[("a/zarr.json", "x")],
+        blocks: &[("zarr.json", A_AND_X)],
+        path: "/",
+        output: "/a: error parsing metadata for a/zarr.json: not JSON\n",
+        errors: "zarrs: 1 node, 1 finding\n",
+        status: 1,
+    },
+    Row {
+        documents: &[("a/../x", ""), ("a-b/zarr.json", GROUP), ("a/.../x", "")],
+        blocks: &[("zarr.json", EMPTY), ("a/zarr.json", EMPTY)],
+        path: "/",
+        output: "/a: missing: the block of / has no entry of it\n/a/..: invalid node path /a/..\n/a/...: invalid node path /a/...\n/a-b: missing: the block of / has no entry of it\n",
+        errors: "zarrs: 3 nodes, 4 findings\n",
+        status: 1,
+    },
+];
+
 #[test]
 fn what_is_told_stands_in_order(rt: HostRuntime) {
-    let two = "zarrs: 2 nodes, 2 findings\n";
-    assert_answer(
-        &rt,
-        &[("c/zarr.json", GROUP), ("d/zarr.json", ARRAY)],
-        &[("zarr.json", ALL)],
-        "/",
-        "/: shadowed: the block of / has the key `/b` beside `b`\n/: bad key: the block of / has the key `a//b`\n/b: stale: the block of / has it, and the store has not\n/c: missing: the block of / has no entry of it\n/d: differs: the block of / has other metadata than the store\n/e/f: stale: the block of / has it, and the store has not\n/e/f: unreachable: the block of / has no group above it\n",
-        "zarrs: 3 nodes, 7 findings\n",
-        1,
-    );
-    assert_answer(
-        &rt,
-        &[],
-        &[("a/zarr.json", X), ("zarr.json", A_AND_X)],
-        "/",
-        "/a/x: stale: the block of / has it, and the store has not\n/a/x: stale: the block of /a has it, and the store has not\n",
-        two,
-        1,
-    );
-    assert_answer(
-        &rt,
-        &[],
-        &[("a/zarr.json", X), ("zarr.json", A_AND_X)],
-        "/a",
-        "/a/x: stale: the block of /a has it, and the store has not\n",
-        "zarrs: 1 node, 1 finding\n",
-        1,
-    );
-    assert_answer(
-        &rt,
-        &[("x/zarr.json", GROUP), ("x/y/zarr.json", "x")],
-        &[("zarr.json", X_Y)],
-        "/",
-        "/x: missing: the block of / has no entry of it\n/x/y: error parsing metadata for x/y/zarr.json: not JSON\n/x/y: unreachable: the block of / has no group above it\n",
-        "zarrs: 2 nodes, 3 findings\n",
-        1,
-    );
-    assert_answer(
-        &rt,
-        &[("a/zarr.json", "x")],
-        &[("zarr.json", A_AND_X)],
-        "/",
-        "/a: error parsing metadata for a/zarr.json: not JSON\n",
-        "zarrs: 1 node, 1 finding\n",
-        1,
-    );
-    assert_answer(
-        &rt,
-        &[("a/../x", ""), ("a-b/zarr.json", GROUP), ("a/.../x", "")],
-        &[("zarr.json", EMPTY), ("a/zarr.json", EMPTY)],
-        "/",
-        "/a: missing: the block of / has no entry of it\n/a/..: invalid node path /a/..\n/a/...: invalid node path /a/...\n/a-b: missing: the block of / has no entry of it\n",
-        "zarrs: 3 nodes, 4 findings\n",
-        1,
-    );
+    assert_answers(&rt, ORDERS);
 }
+
+// Blocks of version 2, and what is told of them.
+const VERSION_2: &[Row] = &[
+    Row {
+        documents: &[
+            (".zgroup", GROUP_V2),
+            (".zmetadata", BLOCK_V2),
+            ("a/.zgroup", GROUP_V2),
+            ("a/.zattrs", ONE),
+        ],
+        blocks: &[],
+        path: "/",
+        output: "",
+        errors: "zarrs: 2 nodes, 0 findings\n",
+        status: 0,
+    },
+    Row {
+        documents: &[
+            (".zgroup", GROUP_V2),
+            (".zmetadata", BLOCK_V2),
+            ("a/.zgroup", GROUP_V2),
+            ("a/.zattrs", TWO),
+        ],
+        blocks: &[],
+        path: "/",
+        output: "/a: differs: the block of / has other metadata than the store\n",
+        errors: "zarrs: 2 nodes, 1 finding\n",
+        status: 1,
+    },
+    Row {
+        documents: &[
+            (".zgroup", GROUP_V2),
+            (".zmetadata", "{}"),
+            ("a/.zgroup", GROUP_V2),
+        ],
+        blocks: &[],
+        path: "/",
+        output: "/: bad block: the block of / has the fault `missing member zarr_consolidated_format`\n",
+        errors: "zarrs: 2 nodes, 1 finding\n",
+        status: 1,
+    },
+    Row {
+        documents: &[("zarr.json", GROUP_V2)],
+        blocks: &[],
+        path: "/",
+        output: "/: Found V2 metadata in V3 key or vice-versa\n",
+        errors: "zarrs: 0 nodes, 1 finding\n",
+        status: 1,
+    },
+];
 
 #[test]
 fn blocks_of_version_2_are_compared_with_attributes(rt: HostRuntime) {
-    let (root, block) = ((".zgroup", GROUP_V2), (".zmetadata", BLOCK_V2));
-    let a = ("a/.zgroup", GROUP_V2);
-    assert_answer(
-        &rt,
-        &[root, block, a, ("a/.zattrs", ONE)],
-        &[],
-        "/",
-        "",
-        "zarrs: 2 nodes, 0 findings\n",
-        0,
-    );
-    assert_answer(
-        &rt,
-        &[root, block, a, ("a/.zattrs", TWO)],
-        &[],
-        "/",
-        "/a: differs: the block of / has other metadata than the store\n",
-        "zarrs: 2 nodes, 1 finding\n",
-        1,
-    );
-    assert_answer(
-        &rt,
-        &[root, (".zmetadata", "{}"), a],
-        &[],
-        "/",
-        "/: bad block: the block of / has the fault `missing member zarr_consolidated_format`\n",
-        "zarrs: 2 nodes, 1 finding\n",
-        1,
-    );
-    assert_answer(
-        &rt,
-        &[("zarr.json", GROUP_V2)],
-        &[],
-        "/",
-        "/: Found V2 metadata in V3 key or vice-versa\n",
-        "zarrs: 0 nodes, 1 finding\n",
-        1,
-    );
+    assert_answers(&rt, VERSION_2);
 }
+
+// Images and paths, their refusals, and what is written of them.
+const REFUSED: &[(&str, &str, &str, &str)] = &[
+    (
+        "[]",
+        "/",
+        "Load(Image): image is not a JSON object",
+        "zarrs: image is not a JSON object\n",
+    ),
+    (
+        r#"{"a//b":1}"#,
+        "/",
+        r#"Load(ImageKey("a//b")): bad store key in image: a//b"#,
+        "zarrs: bad store key in image: a//b\n",
+    ),
+    (
+        r#"{"a":1}"#,
+        "/",
+        r#"Load(ImageValue("a")): no text in image at a"#,
+        "zarrs: no text in image at a\n",
+    ),
+    (
+        "{}",
+        "x",
+        r#"Node(NodePathError(Invalid("x"))): invalid node path x"#,
+        "zarrs: invalid node path x\n",
+    ),
+    (
+        "{}",
+        "/..",
+        r#"Node(NodePathError(Invalid("/.."))): invalid node path /.."#,
+        "zarrs: invalid node path /..\n",
+    ),
+];
 
 #[test]
 fn what_is_no_image_or_no_path_is_refused(rt: HostRuntime) {
     let alloc = rt.alloc();
-    let table = [
-        (
-            "[]",
-            "/",
-            "Load(Image): image is not a JSON object",
-            "zarrs: image is not a JSON object\n",
-        ),
-        (
-            r#"{"a//b":1}"#,
-            "/",
-            r#"Load(ImageKey("a//b")): bad store key in image: a//b"#,
-            "zarrs: bad store key in image: a//b\n",
-        ),
-        (
-            r#"{"a":1}"#,
-            "/",
-            r#"Load(ImageValue("a")): no text in image at a"#,
-            "zarrs: no text in image at a\n",
-        ),
-        (
-            "{}",
-            "x",
-            r#"Node(NodePathError(Invalid("x"))): invalid node path x"#,
-            "zarrs: invalid node path x\n",
-        ),
-        (
-            "{}",
-            "/..",
-            r#"Node(NodePathError(Invalid("/.."))): invalid node path /.."#,
-            "zarrs: invalid node path /..\n",
-        ),
-    ];
-    for (image, path, refusal, errors) in table {
+    for (image, path, refusal, errors) in REFUSED {
         let mut reader = image.as_bytes();
         let outcome = run_of_image(&Discard, alloc, CHECK, path, &mut reader, &mut io::sink());
         assert_refused(&rt, alloc, &outcome, refusal);
