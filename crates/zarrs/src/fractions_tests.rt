@@ -56,32 +56,36 @@ fn assert_number<R: Abort + AllocGlobal>(
     );
 }
 
-#[test]
-fn a_fraction_is_read_where_any_value_may_stand(rt: HostRuntime) {
-    assert_number(&rt, "a/zarr.json", ARRAY, "0.0", "");
-    assert_number(&rt, "a/zarr.json", GROUP_V3, "[1e300,-0.0]", "");
-    assert_number(&rt, "a/zarr.json", GROUP_V3, "18446744073709551616", "");
-    assert_number(
-        &rt,
+// Keys, their documents, the numbers in them, and what is told.
+const NUMBERS: &[(&str, &str, &str, &str)] = &[
+    ("a/zarr.json", ARRAY, "0.0", ""),
+    ("a/zarr.json", GROUP_V3, "[1e300,-0.0]", ""),
+    ("a/zarr.json", GROUP_V3, "18446744073709551616", ""),
+    (
         "a/.zarray",
         LENGTH,
         "1.5",
         "/a: error parsing metadata for a/.zarray: bad member shape\n",
-    );
-    assert_number(
-        &rt,
+    ),
+    (
         "a/zarr.json",
         ARRAY,
         "NaN",
         "/a: error parsing metadata for a/zarr.json: not JSON\n",
-    );
-    assert_number(
-        &rt,
+    ),
+    (
         "a/zarr.json",
         GROUP_V3,
         "1e400",
         "/a: error parsing metadata for a/zarr.json: not JSON\n",
-    );
+    ),
+];
+
+#[test]
+fn a_fraction_is_read_where_any_value_may_stand(rt: HostRuntime) {
+    for (key, document, number, output) in NUMBERS {
+        assert_number(&rt, key, document, number, output);
+    }
 }
 
 // Asserts whether an entry with one number is the same as its document with another, in a block of either version.
@@ -127,20 +131,22 @@ fn assert_compared<R: Abort + AllocGlobal>(rt: &R, stored: &str, copied: &str, i
     );
 }
 
+// Two numbers, and whether they are the same.
+const PAIRS: &[(&str, &str, bool)] = &[
+    ("0.5", "0.50", true),
+    ("6.37814e+06", "6378140.0", true),
+    ("1e-05", "0.00001", true),
+    ("0.1", "0.10000000000000002", false),
+    ("1e+20", "1.0000000200408773e+20", false),
+    ("0.0", "-0.0", false),
+    ("1", "1.0", false),
+];
+
 #[test]
 fn fractions_are_compared_by_their_bits(rt: HostRuntime) {
-    let table = [
-        ("0.5", "0.50", true),
-        ("6.37814e+06", "6378140.0", true),
-        ("1e-05", "0.00001", true),
-        ("0.1", "0.10000000000000002", false),
-        ("1e+20", "1.0000000200408773e+20", false),
-        ("0.0", "-0.0", false),
-        ("1", "1.0", false),
-    ];
-    for (first, second, is_same) in table {
-        assert_compared(&rt, first, second, is_same);
-        assert_compared(&rt, second, first, is_same);
+    for (first, second, is_same) in PAIRS {
+        assert_compared(&rt, first, second, *is_same);
+        assert_compared(&rt, second, first, *is_same);
     }
 }
 

@@ -33,114 +33,165 @@ const WITH_BLOCK: &str =
 const ARRAY_V2: &str =
     r#"{"chunks":[10],"compressor":null,"dtype":"<i4","fill_value":0,"filters":null,"order":"C","shape":[10],"zarr_format":2}"#;
 
-// Asserts what the program answers of a path in an image of these documents.
-fn assert_told<R: Abort + AllocGlobal>(
-    rt: &R,
+// A word about a path in an image of these documents, and what the program answers.
+struct Told<'a> {
     word: Word,
-    documents: &[(&str, &str)],
-    path: &str,
-    output: &str,
-    errors: &str,
+    documents: &'a [(&'a str, &'a str)],
+    path: &'a str,
+    output: &'a str,
+    errors: &'a str,
     status: u8,
-) {
-    let image = image_of(rt.alloc(), documents, &[]).expect(rt, "memory");
-    let ran = run(rt.alloc(), word, image.as_str(), path).expect(rt, "memory");
-    assert_ran(rt, output, &ran, output, errors, status);
 }
+
+// Asserts what the program answers, row by row.
+fn assert_told<R: Abort + AllocGlobal>(rt: &R, rows: &[Told<'_>]) {
+    for row in rows {
+        let image = image_of(rt.alloc(), row.documents, &[]).expect(rt, "memory");
+        let ran = run(rt.alloc(), row.word, image.as_str(), row.path).expect(rt, "memory");
+        assert_ran(rt, row.output, &ran, row.output, row.errors, row.status);
+    }
+}
+
+// Arrays whose dimensions do not fit, and one whose do.
+const DIMENSIONS: &[Told] = &[
+    Told {
+        word: CHECK,
+        documents: &[("zarr.json", ONE_LENGTH), ("a/zarr.json", "x")],
+        path: "/",
+        output: "/: bad shape: the chunk grid has 1 lengths, and the shape has 2\n",
+        errors: "zarrs: 1 node, 1 finding\n",
+        status: 1,
+    },
+    Told {
+        word: CHECK,
+        documents: &[("zarr.json", GROUP), ("a/zarr.json", ONE_LENGTH)],
+        path: "/a",
+        output: "/a: bad shape: the chunk grid has 1 lengths, and the shape has 2\n",
+        errors: "zarrs: 1 node, 1 finding\n",
+        status: 1,
+    },
+    Told {
+        word: CHECK,
+        documents: &[("zarr.json", GROUP), ("a/zarr.json", ONE_LENGTH)],
+        path: "/",
+        output: "/a: bad shape: the chunk grid has 1 lengths, and the shape has 2\n",
+        errors: "zarrs: 2 nodes, 1 finding\n",
+        status: 1,
+    },
+    Told {
+        word: CHECK,
+        documents: &[("zarr.json", GROUP), ("a/zarr.json", NO_LENGTH_ONE_NAME)],
+        path: "/",
+        output: "/a: bad shape: a chunk has the length 0\n/a: bad shape: there are 1 dimension names, and the shape has 2\n",
+        errors: "zarrs: 2 nodes, 2 findings\n",
+        status: 1,
+    },
+    Told {
+        word: CHECK,
+        documents: &[("zarr.json", GROUP), ("a/zarr.json", ARRAY)],
+        path: "/",
+        output: "",
+        errors: "zarrs: 2 nodes, 0 findings\n",
+        status: 0,
+    },
+];
 
 #[test]
 fn dimensions_that_do_not_fit_are_told(rt: HostRuntime) {
-    let root = ("zarr.json", GROUP);
-    let rank = "bad shape: the chunk grid has 1 lengths, and the shape has 2\n";
-    let one = "zarrs: 1 node, 1 finding\n";
-    let base = [("zarr.json", ONE_LENGTH), ("a/zarr.json", "x")];
-    let mut line = String::from_str(rt.alloc(), "/: ").expect(&rt, "memory");
-    line.push_str(rank).expect(&rt, "memory");
-    assert_told(&rt, CHECK, &base, "/", line.as_str(), one, 1);
-    let mut line = String::from_str(rt.alloc(), "/a: ").expect(&rt, "memory");
-    line.push_str(rank).expect(&rt, "memory");
-    let below = [root, ("a/zarr.json", ONE_LENGTH)];
-    assert_told(&rt, CHECK, &below, "/a", line.as_str(), one, 1);
-    assert_told(
-        &rt,
-        CHECK,
-        &below,
-        "/",
-        line.as_str(),
-        "zarrs: 2 nodes, 1 finding\n",
-        1,
-    );
-    assert_told(
-        &rt,
-        CHECK,
-        &[root, ("a/zarr.json", NO_LENGTH_ONE_NAME)],
-        "/",
-        "/a: bad shape: a chunk has the length 0\n/a: bad shape: there are 1 dimension names, and the shape has 2\n",
-        "zarrs: 2 nodes, 2 findings\n",
-        1,
-    );
-    let good = [root, ("a/zarr.json", ARRAY)];
-    let two = "zarrs: 2 nodes, 0 findings\n";
-    assert_told(&rt, CHECK, &good, "/", "", two, 0);
+    assert_told(&rt, DIMENSIONS);
 }
+
+// A group that no reader opens.
+const FIELDS: &[Told] = &[Told {
+    word: CHECK,
+    documents: &[("zarr.json", GROUP), ("a/zarr.json", DEMANDING)],
+    path: "/",
+    output: "/a: not opened: the block of /a has no must_understand false\n/a: not opened: the field extra must be understood\n",
+    errors: "zarrs: 2 nodes, 2 findings\n",
+    status: 1,
+}];
 
 #[test]
 fn fields_that_must_be_understood_are_told(rt: HostRuntime) {
-    assert_told(
-        &rt,
-        CHECK,
-        &[("zarr.json", GROUP), ("a/zarr.json", DEMANDING)],
-        "/",
-        "/a: not opened: the block of /a has no must_understand false\n/a: not opened: the field extra must be understood\n",
-        "zarrs: 2 nodes, 2 findings\n",
-        1,
-    );
+    assert_told(&rt, FIELDS);
 }
+
+// Documents beside those that are read, and an array with a block.
+const NOTED: &[(&str, &str)] = &[
+    ("zarr.json", GROUP),
+    (".zmetadata", ""),
+    ("a/zarr.json", WITH_BLOCK),
+    ("b/.zarray", ARRAY_V2),
+    ("b/.zgroup", ""),
+];
+
+// The same documents without notes, with notes, and with notes as JSON.
+const NOTES_TOLD: &[Told] = &[
+    Told {
+        word: CHECK,
+        documents: NOTED,
+        path: "/",
+        output: "",
+        errors: "zarrs: 3 nodes, 0 findings\n",
+        status: 0,
+    },
+    Told {
+        word: NOTES,
+        documents: NOTED,
+        path: "/",
+        output: "note: /: beside: .zmetadata is not read, since zarr.json stands there too\nnote: /a: misplaced: an array has a block, which is not read\nnote: /b: beside: .zgroup is not read, since .zarray stands there too\n",
+        errors: "zarrs: 3 nodes, 0 findings, 3 notes\n",
+        status: 0,
+    },
+    Told {
+        word: NOTES_JSON,
+        documents: NOTED,
+        path: "/a",
+        output: "[{\"block\":null,\"key\":null,\"kind\":\"misplaced\",\"path\":\"/a\",\"text\":\"misplaced: an array has a block, which is not read\"}]\n",
+        errors: "zarrs: 1 node, 0 findings, 1 note\n",
+        status: 0,
+    },
+];
 
 #[test]
 fn notes_are_told_where_they_are_asked_for(rt: HostRuntime) {
-    let documents = [
-        ("zarr.json", GROUP),
-        (".zmetadata", ""),
-        ("a/zarr.json", WITH_BLOCK),
-        ("b/.zarray", ARRAY_V2),
-        ("b/.zgroup", ""),
-    ];
-    let findings = "zarrs: 3 nodes, 0 findings\n";
-    assert_told(&rt, CHECK, &documents, "/", "", findings, 0);
-    let notes =
-        "note: /: beside: .zmetadata is not read, since zarr.json stands there too\nnote: /a: misplaced: an array has a block, which is not read\nnote: /b: beside: .zgroup is not read, since .zarray stands there too\n";
-    let counts = "zarrs: 3 nodes, 0 findings, 3 notes\n";
-    assert_told(&rt, NOTES, &documents, "/", notes, counts, 0);
-    let json =
-        "[{\"block\":null,\"key\":null,\"kind\":\"misplaced\",\"path\":\"/a\",\"text\":\"misplaced: an array has a block, which is not read\"}]\n";
-    let counts = "zarrs: 1 node, 0 findings, 1 note\n";
-    assert_told(&rt, NOTES_JSON, &documents, "/a", json, counts, 0);
+    assert_told(&rt, NOTES_TOLD);
 }
+
+// Documents below no document, and below bad ones.
+const UNREACHED: &[Told] = &[
+    Told {
+        word: CHECK,
+        documents: &[
+            ("zarr.json", GROUP),
+            ("a/b/zarr.json", GROUP),
+            ("a/b/c/zarr.json", "x"),
+            ("a/d/.zgroup", ""),
+            ("a/d/.zarray", ""),
+            ("e/0", ""),
+        ],
+        path: "/",
+        output: "/a: orphaned: it has no document, and 3 nodes below it are not reached\n",
+        errors: "zarrs: 1 node, 1 finding\n",
+        status: 1,
+    },
+    Told {
+        word: CHECK,
+        documents: &[
+            ("zarr.json", GROUP),
+            ("a/zarr.json", "x"),
+            ("a/b/zarr.json", GROUP),
+            ("c/zarr.json", "x"),
+            ("c/0", ""),
+        ],
+        path: "/",
+        output: "/a: error parsing metadata for a/zarr.json: not JSON; 1 documents below it were not looked at\n/c: error parsing metadata for c/zarr.json: not JSON\n",
+        errors: "zarrs: 1 node, 2 findings\n",
+        status: 1,
+    },
+];
 
 #[test]
 fn what_no_listing_reaches_is_told(rt: HostRuntime) {
-    let root = ("zarr.json", GROUP);
-    let lost = [
-        root,
-        ("a/b/zarr.json", GROUP),
-        ("a/b/c/zarr.json", "x"),
-        ("a/d/.zgroup", ""),
-        ("a/d/.zarray", ""),
-        ("e/0", ""),
-    ];
-    let line = "/a: orphaned: it has no document, and 3 nodes below it are not reached\n";
-    let one = "zarrs: 1 node, 1 finding\n";
-    assert_told(&rt, CHECK, &lost, "/", line, one, 1);
-    let hiding = [
-        root,
-        ("a/zarr.json", "x"),
-        ("a/b/zarr.json", GROUP),
-        ("c/zarr.json", "x"),
-        ("c/0", ""),
-    ];
-    let lines =
-        "/a: error parsing metadata for a/zarr.json: not JSON; 1 documents below it were not looked at\n/c: error parsing metadata for c/zarr.json: not JSON\n";
-    let two = "zarrs: 1 node, 2 findings\n";
-    assert_told(&rt, CHECK, &hiding, "/", lines, two, 1);
+    assert_told(&rt, UNREACHED);
 }
