@@ -103,121 +103,177 @@ fn make_store(rt: &HostRuntime) -> io::Result<()> {
     make_folder(rt, FOLDER, &files)
 }
 
+// Words about the folder, and what is written and answered.
+const OF_FOLDER: &[(&[&str], &str, &str, u8)] = &[
+    (
+        &["tree", FOLDER],
+        "/\n  a\n  t [10, 10] float32\n",
+        IGNORED,
+        0,
+    ),
+    (
+        &["tree", FOLDER, "/"],
+        "/\n  a\n  t [10, 10] float32\n",
+        IGNORED,
+        0,
+    ),
+    (&["tree", FOLDER, "/a"], "/a\n  b\n", "", 0),
+    (&["tree", "--store", FOLDER, "/a"], "/a\n", IGNORED, 0),
+    (&["tree", FOLDER, "/t"], "/t [10, 10] float32\n", "", 0),
+    (
+        &["tree", "--store", FOLDER, "/t"],
+        "/t [10, 10] float32\n",
+        "",
+        0,
+    ),
+    (
+        &["tree", FOLDER, "/x"],
+        "",
+        "zarrs: there is no node at /x in answers_of_a_folder\n",
+        2,
+    ),
+    (
+        &["tree", "--store", FOLDER, "/x"],
+        "",
+        "zarrs: there is no node at /x in answers_of_a_folder\n",
+        2,
+    ),
+    (&["list", FOLDER], "/\n/a\n/t\n", IGNORED, 0),
+    (&["list", FOLDER, "/a"], "/a\n", IGNORED, 0),
+    (&["list", FOLDER, "/t"], "/t\n", "", 0),
+    (
+        &["list", FOLDER, "/x"],
+        "",
+        "zarrs: there is no node at /x in answers_of_a_folder\n",
+        2,
+    ),
+    (
+        &["list", FOLDER, "x"],
+        "",
+        "zarrs: invalid node path x\n",
+        2,
+    ),
+    (&["check", FOLDER], REPORT, IGNORED_IN_CHECK, 1),
+    (&["check", FOLDER, "/a"], REPORT, IGNORED_BELOW, 1),
+    (
+        &["check", FOLDER, "/a/b"],
+        "/a/b: Metadata is missing for /a/b\n",
+        "zarrs: 0 nodes, 1 finding\n",
+        1,
+    ),
+    (
+        &["check", FOLDER, "a"],
+        "",
+        "zarrs: invalid node path a\n",
+        2,
+    ),
+    (
+        &["list", "answers_of_a_folder/zarr.json"],
+        "",
+        "zarrs: answers_of_a_folder/zarr.json is a file, and a store is a folder\n",
+        2,
+    ),
+    (
+        &["check", "no/folder"],
+        "",
+        "zarrs: no/folder: No such file or directory\n",
+        2,
+    ),
+];
+
 #[test]
 fn answers_of_a_folder(rt: HostRuntime) {
     make_store(&rt).expect(&rt, "a folder");
-    let nowhere = "zarrs: there is no node at /x in answers_of_a_folder\n";
-    let array = "/t [10, 10] float32\n";
-    let rows: [(&[&str], &str, &str, u8); 19] = [
-        (
-            &["tree", FOLDER],
-            "/\n  a\n  t [10, 10] float32\n",
-            IGNORED,
-            0,
-        ),
-        (
-            &["tree", FOLDER, "/"],
-            "/\n  a\n  t [10, 10] float32\n",
-            IGNORED,
-            0,
-        ),
-        (&["tree", FOLDER, "/a"], "/a\n  b\n", "", 0),
-        (&["tree", "--store", FOLDER, "/a"], "/a\n", IGNORED, 0),
-        (&["tree", FOLDER, "/t"], array, "", 0),
-        (&["tree", "--store", FOLDER, "/t"], array, "", 0),
-        (&["tree", FOLDER, "/x"], "", nowhere, 2),
-        (&["tree", "--store", FOLDER, "/x"], "", nowhere, 2),
-        (&["list", FOLDER], "/\n/a\n/t\n", IGNORED, 0),
-        (&["list", FOLDER, "/a"], "/a\n", IGNORED, 0),
-        (&["list", FOLDER, "/t"], "/t\n", "", 0),
-        (&["list", FOLDER, "/x"], "", nowhere, 2),
-        (
-            &["list", FOLDER, "x"],
-            "",
-            "zarrs: invalid node path x\n",
-            2,
-        ),
-        (&["check", FOLDER], REPORT, IGNORED_IN_CHECK, 1),
-        (&["check", FOLDER, "/a"], REPORT, IGNORED_BELOW, 1),
-        (
-            &["check", FOLDER, "/a/b"],
-            "/a/b: Metadata is missing for /a/b\n",
-            "zarrs: 0 nodes, 1 finding\n",
-            1,
-        ),
-        (
-            &["check", FOLDER, "a"],
-            "",
-            "zarrs: invalid node path a\n",
-            2,
-        ),
-        (
-            &["list", "answers_of_a_folder/zarr.json"],
-            "",
-            "zarrs: answers_of_a_folder/zarr.json is a file, and a store is a folder\n",
-            2,
-        ),
-        (
-            &["check", "no/folder"],
-            "",
-            "zarrs: no/folder: No such file or directory\n",
-            2,
-        ),
-    ];
-    assert_calls(&rt, &rt, &rows);
+    assert_calls(&rt, &rt, OF_FOLDER);
     fs::remove_dir_all(&rt, FOLDER).expect(&rt, "a folder");
 }
 
+// Words about the image, or wrong ones, and what is written and answered.
+const OF_IMAGE: &[(&[&str], &str, &str, u8)] = &[
+    (&["tree", "-"], "/\n  a\n", "", 0),
+    (&["tree", "-", "/a"], "/a\n  b\n", "", 0),
+    (&["tree", "--store", "-", "/a"], "/a\n", "", 0),
+    (&["list", "-"], "/\n/a\n", "", 0),
+    (&["check", "-"], REPORT, "zarrs: 2 nodes, 1 finding\n", 1),
+    (
+        &["check", "-", "/a"],
+        REPORT,
+        "zarrs: 1 node, 1 finding\n",
+        1,
+    ),
+    (
+        &["check", "--notes", "-"],
+        REPORT,
+        "zarrs: 2 nodes, 1 finding, 0 notes\n",
+        1,
+    ),
+    (
+        &["check", "--json", "-", "/a"],
+        REPORT_JSON,
+        "zarrs: 1 node, 1 finding\n",
+        1,
+    ),
+    (&["check", "--json", "--notes", "-"], "", USAGE, 2),
+    (
+        &["list", "-", "/x"],
+        "",
+        "zarrs: there is no node at /x in the image\n",
+        2,
+    ),
+    (&["tree", "-", "a"], "", "zarrs: invalid node path a\n", 2),
+    (&["check", "-", "a"], "", "zarrs: invalid node path a\n", 2),
+    (&["--help"], USAGE, "", 0),
+    (&["--version"], "zarrs 0.23.13\n", "", 0),
+    (&[], "", USAGE, 2),
+    (&["tree"], "", USAGE, 2),
+    (&["tree", "--store"], "", USAGE, 2),
+    (&["list", "-", "/", "/"], "", USAGE, 2),
+    (&["shrub", "-"], "", USAGE, 2),
+    (&["--help", "-"], "", USAGE, 2),
+    (&["-"], "", USAGE, 2),
+];
+
 #[test]
 fn answers_of_an_image_and_of_wrong_words(rt: HostRuntime) {
-    let rows: [(&[&str], &str, &str, u8); 21] = [
-        (&["tree", "-"], "/\n  a\n", "", 0),
-        (&["tree", "-", "/a"], "/a\n  b\n", "", 0),
-        (&["tree", "--store", "-", "/a"], "/a\n", "", 0),
-        (&["list", "-"], "/\n/a\n", "", 0),
-        (&["check", "-"], REPORT, "zarrs: 2 nodes, 1 finding\n", 1),
-        (
-            &["check", "-", "/a"],
-            REPORT,
-            "zarrs: 1 node, 1 finding\n",
-            1,
-        ),
-        (
-            &["check", "--notes", "-"],
-            REPORT,
-            "zarrs: 2 nodes, 1 finding, 0 notes\n",
-            1,
-        ),
-        (
-            &["check", "--json", "-", "/a"],
-            REPORT_JSON,
-            "zarrs: 1 node, 1 finding\n",
-            1,
-        ),
-        (&["check", "--json", "--notes", "-"], "", USAGE, 2),
-        (
-            &["list", "-", "/x"],
-            "",
-            "zarrs: there is no node at /x in the image\n",
-            2,
-        ),
-        (&["tree", "-", "a"], "", "zarrs: invalid node path a\n", 2),
-        (&["check", "-", "a"], "", "zarrs: invalid node path a\n", 2),
-        (&["--help"], USAGE, "", 0),
-        (&["--version"], "zarrs 0.23.13\n", "", 0),
-        (&[], "", USAGE, 2),
-        (&["tree"], "", USAGE, 2),
-        (&["tree", "--store"], "", USAGE, 2),
-        (&["list", "-", "/", "/"], "", USAGE, 2),
-        (&["shrub", "-"], "", USAGE, 2),
-        (&["--help", "-"], "", USAGE, 2),
-        (&["-"], "", USAGE, 2),
-    ];
-    assert_calls(&rt, &rt, &rows);
+    assert_calls(&rt, &rt, OF_IMAGE);
 }
 
 // The folder of a test.
 const OUTER: &str = "a_store_a_level_below_is_named";
+
+// Words about that folder, and what is written and answered.
+const OF_OUTER: &[(&[&str], &str, &str, u8)] = &[
+    (
+        &["tree", OUTER],
+        "",
+        "zarrs: there is no node at / in a_store_a_level_below_is_named (a store stands at a_store_a_level_below_is_named/data.zarr)\n",
+        2,
+    ),
+    (
+        &["list", "a_store_a_level_below_is_named/"],
+        "",
+        "zarrs: there is no node at / in a_store_a_level_below_is_named/ (a store stands at a_store_a_level_below_is_named/data.zarr)\n",
+        2,
+    ),
+    (
+        &["list", OUTER, "/deep"],
+        "",
+        "zarrs: there is no node at /deep in a_store_a_level_below_is_named (a store stands at a_store_a_level_below_is_named/deep/inner)\n",
+        2,
+    ),
+    (
+        &["tree", OUTER, "/empty.zarr"],
+        "",
+        "zarrs: there is no node at /empty.zarr in a_store_a_level_below_is_named\n",
+        2,
+    ),
+    (
+        &["tree", OUTER, "/nowhere"],
+        "",
+        "zarrs: there is no node at /nowhere in a_store_a_level_below_is_named\n",
+        2,
+    ),
+];
 
 #[test]
 fn a_store_a_level_below_is_named(rt: HostRuntime) {
@@ -229,39 +285,7 @@ fn a_store_a_level_below_is_named(rt: HostRuntime) {
         ("deep/inner/zarr.json", GROUP),
     ];
     make_folder(&rt, OUTER, &files).expect(&rt, "a folder");
-    let rows: [(&[&str], &str, &str, u8); 5] = [
-        (
-            &["tree", OUTER],
-            "",
-            "zarrs: there is no node at / in a_store_a_level_below_is_named (a store stands at a_store_a_level_below_is_named/data.zarr)\n",
-            2,
-        ),
-        (
-            &["list", "a_store_a_level_below_is_named/"],
-            "",
-            "zarrs: there is no node at / in a_store_a_level_below_is_named/ (a store stands at a_store_a_level_below_is_named/data.zarr)\n",
-            2,
-        ),
-        (
-            &["list", OUTER, "/deep"],
-            "",
-            "zarrs: there is no node at /deep in a_store_a_level_below_is_named (a store stands at a_store_a_level_below_is_named/deep/inner)\n",
-            2,
-        ),
-        (
-            &["tree", OUTER, "/empty.zarr"],
-            "",
-            "zarrs: there is no node at /empty.zarr in a_store_a_level_below_is_named\n",
-            2,
-        ),
-        (
-            &["tree", OUTER, "/nowhere"],
-            "",
-            "zarrs: there is no node at /nowhere in a_store_a_level_below_is_named\n",
-            2,
-        ),
-    ];
-    assert_calls(&rt, &rt, &rows);
+    assert_calls(&rt, &rt, OF_OUTER);
     fs::remove_dir_all(&rt, OUTER).expect(&rt, "a folder");
 }
 

@@ -27,89 +27,126 @@ fn assert_shown<R: Abort + AllocGlobal>(
     }
 }
 
+// Documents at their keys.
+const NODES: &[(&str, &str)] = &[
+    ("zarr.json", GROUP),
+    ("a/zarr.json", GROUP),
+    ("a/b/zarr.json", ARRAY),
+    ("a/b/c/zarr.json", GROUP),
+    ("a-b/zarr.json", GROUP),
+    ("v/.zgroup", GROUP_V2),
+    ("v/w/.zarray", ARRAY_V2),
+];
+
+// Words, paths, and what is written.
+const NODES_SHOWN: &[(Word, &str, &str, &str)] = &[
+    (
+        Word::Tree,
+        "/",
+        "/\n  a\n    b [10, 10] float32\n  a-b\n  v\n    w [4] Simple(\"<f8\")\n",
+        "",
+    ),
+    (Word::List, "/", "/\n/a\n/a/b\n/a-b\n/v\n/v/w\n", ""),
+    (Word::Tree, "/a", "/a\n  b [10, 10] float32\n", ""),
+    (Word::List, "/a", "/a\n/a/b\n", ""),
+    (Word::Tree, "/a/b", "/a/b [10, 10] float32\n", ""),
+    (Word::StoreTree, "/a/b", "/a/b [10, 10] float32\n", ""),
+    (Word::List, "/a/b", "/a/b\n", ""),
+    (Word::Tree, "/a-b", "/a-b\n", ""),
+    (Word::List, "/a-b", "/a-b\n", ""),
+    (Word::Tree, "/v/w", "/v/w [4] Simple(\"<f8\")\n", ""),
+    (Word::Tree, "/x", "", "zarrs: Metadata is missing for /x\n"),
+    (Word::List, "/x", "", "zarrs: Metadata is missing for /x\n"),
+    (Word::Tree, "a", "", "zarrs: invalid node path a\n"),
+    (Word::List, "/a/", "", "zarrs: invalid node path /a/\n"),
+];
+
 #[test]
 fn nodes_at_and_below_a_path_are_shown(rt: HostRuntime) {
-    let documents = [
-        ("zarr.json", GROUP),
-        ("a/zarr.json", GROUP),
-        ("a/b/zarr.json", ARRAY),
-        ("a/b/c/zarr.json", GROUP),
-        ("a-b/zarr.json", GROUP),
-        ("v/.zgroup", GROUP_V2),
-        ("v/w/.zarray", ARRAY_V2),
-    ];
-    let rows = [
-        (
-            Word::Tree,
-            "/",
-            "/\n  a\n    b [10, 10] float32\n  a-b\n  v\n    w [4] Simple(\"<f8\")\n",
-            "",
-        ),
-        (Word::List, "/", "/\n/a\n/a/b\n/a-b\n/v\n/v/w\n", ""),
-        (Word::Tree, "/a", "/a\n  b [10, 10] float32\n", ""),
-        (Word::List, "/a", "/a\n/a/b\n", ""),
-        (Word::Tree, "/a/b", "/a/b [10, 10] float32\n", ""),
-        (Word::StoreTree, "/a/b", "/a/b [10, 10] float32\n", ""),
-        (Word::List, "/a/b", "/a/b\n", ""),
-        (Word::Tree, "/a-b", "/a-b\n", ""),
-        (Word::List, "/a-b", "/a-b\n", ""),
-        (Word::Tree, "/v/w", "/v/w [4] Simple(\"<f8\")\n", ""),
-        (Word::Tree, "/x", "", "zarrs: Metadata is missing for /x\n"),
-        (Word::List, "/x", "", "zarrs: Metadata is missing for /x\n"),
-        (Word::Tree, "a", "", "zarrs: invalid node path a\n"),
-        (Word::List, "/a/", "", "zarrs: invalid node path /a/\n"),
-    ];
-    assert_shown(&rt, &(&documents, &[]), &rows);
+    assert_shown(&rt, &(NODES, &[]), NODES_SHOWN);
 }
+
+// Documents at their keys.
+const BY_BLOCK: &[(&str, &str)] = &[("a/zarr.json", ARRAY), ("g/zarr.json", "x")];
+
+// Words, paths, and what is written.
+const BY_BLOCK_SHOWN: &[(Word, &str, &str, &str)] = &[
+    (Word::Tree, "/", "/\n  g\n    t [7] int8\n    y\n", ""),
+    (
+        Word::StoreTree,
+        "/",
+        "",
+        "zarrs: error parsing metadata for g/zarr.json: not JSON\n",
+    ),
+    (
+        Word::List,
+        "/",
+        "",
+        "zarrs: error parsing metadata for g/zarr.json: not JSON\n",
+    ),
+    (
+        Word::Tree,
+        "/g",
+        "",
+        "zarrs: error parsing metadata for g/zarr.json: not JSON\n",
+    ),
+    (Word::Tree, "/x", "", "zarrs: Metadata is missing for /x\n"),
+    (Word::Tree, "/a", "/a [10, 10] float32\n", ""),
+    (Word::List, "/a", "/a\n", ""),
+];
 
 #[test]
 fn a_tree_is_by_the_block_where_there_is_one(rt: HostRuntime) {
-    let documents = [("a/zarr.json", ARRAY), ("g/zarr.json", "x")];
-    let by_block = "/\n  g\n    t [7] int8\n    y\n";
-    let bad = "zarrs: error parsing metadata for g/zarr.json: not JSON\n";
-    let rows = [
-        (Word::Tree, "/", by_block, ""),
-        (Word::StoreTree, "/", "", bad),
-        (Word::List, "/", "", bad),
-        (Word::Tree, "/g", "", bad),
-        (Word::Tree, "/x", "", "zarrs: Metadata is missing for /x\n"),
-        (Word::Tree, "/a", "/a [10, 10] float32\n", ""),
-        (Word::List, "/a", "/a\n", ""),
-    ];
-    assert_shown(&rt, &(&documents, &[("zarr.json", ENTRIES)]), &rows);
+    assert_shown(&rt, &(BY_BLOCK, &[("zarr.json", ENTRIES)]), BY_BLOCK_SHOWN);
 }
+
+// Documents at their keys.
+const UNREAD: &[(&str, &str)] = &[
+    (".zgroup", GROUP_V2),
+    (".zmetadata", "{}"),
+    ("t/.zarray", ARRAY_V2),
+];
+
+// Words, paths, and what is written.
+const UNREAD_SHOWN: &[(Word, &str, &str, &str)] = &[
+    (Word::Tree, "/", "/\n  t [4] Simple(\"<f8\")\n", ""),
+    (Word::StoreTree, "/", "/\n  t [4] Simple(\"<f8\")\n", ""),
+    (Word::List, "/", "/\n/t\n", ""),
+];
 
 #[test]
 fn a_block_that_does_not_read_is_passed_over(rt: HostRuntime) {
-    let documents = [
-        (".zgroup", GROUP_V2),
-        (".zmetadata", "{}"),
-        ("t/.zarray", ARRAY_V2),
-    ];
-    let rows = [
-        (Word::Tree, "/", "/\n  t [4] Simple(\"<f8\")\n", ""),
-        (Word::StoreTree, "/", "/\n  t [4] Simple(\"<f8\")\n", ""),
-        (Word::List, "/", "/\n/t\n", ""),
-    ];
-    assert_shown(&rt, &(&documents, &[]), &rows);
+    assert_shown(&rt, &(UNREAD, &[]), UNREAD_SHOWN);
 }
+
+// Documents at their keys.
+const BAD: &[(&str, &str)] = &[
+    ("zarr.json", GROUP),
+    ("a/../x", ""),
+    ("a/zarr.json", GROUP),
+    ("b/zarr.json", GROUP_V2),
+];
+
+// Words, paths, and what is written.
+const BAD_SHOWN: &[(Word, &str, &str, &str)] = &[
+    (Word::Tree, "/a", "", "zarrs: invalid node path /a/..\n"),
+    (Word::List, "/a", "", "zarrs: invalid node path /a/..\n"),
+    (
+        Word::Tree,
+        "/b",
+        "",
+        "zarrs: Found V2 metadata in V3 key or vice-versa\n",
+    ),
+    (
+        Word::List,
+        "/b",
+        "",
+        "zarrs: Found V2 metadata in V3 key or vice-versa\n",
+    ),
+    (Word::List, "/", "", "zarrs: invalid node path /a/..\n"),
+];
 
 #[test]
 fn what_is_bad_below_refuses_a_tree_and_a_list(rt: HostRuntime) {
-    let documents = [
-        ("zarr.json", GROUP),
-        ("a/../x", ""),
-        ("a/zarr.json", GROUP),
-        ("b/zarr.json", GROUP_V2),
-    ];
-    let name = "zarrs: invalid node path /a/..\n";
-    let version = "zarrs: Found V2 metadata in V3 key or vice-versa\n";
-    let rows = [
-        (Word::Tree, "/a", "", name),
-        (Word::List, "/a", "", name),
-        (Word::Tree, "/b", "", version),
-        (Word::List, "/b", "", version),
-        (Word::List, "/", "", name),
-    ];
-    assert_shown(&rt, &(&documents, &[]), &rows);
+    assert_shown(&rt, &(BAD, &[]), BAD_SHOWN);
 }
