@@ -1,5 +1,5 @@
 -- The JSON of remarks holds no number.
-use Rattle.std.proofs.Common.{◌≡◌, false, List, [], ◌∷◌, map, Option, Some, None, ◌||◌, refl, ap, ◌∙◌, ℕ, String, Global, string_bytes}
+use Rattle.std.proofs.Common.{◌≡◌, false, List, [], ◌∷◌, map, Option, Some, None, ◌||◌, refl, ap, ◌∙◌, ℕ}
 use Rattle.serde_json.specs.View.{items_of, view}
 use Rattle.serde_json.specs.Written.{has_float, items_have_float, compact_text}
 use Rattle.serde_json.specs.declared.value.Value.{Value}

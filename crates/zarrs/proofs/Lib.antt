@@ -1,9 +1,12 @@
+pub mod AllAbove
 pub mod Counts
 pub mod FolderNames
 pub mod Json
 pub mod Lines
+pub mod LoadedAbove
 pub mod LoadedAnswers
 pub mod LoadedChecks
+pub mod LoadedEnough
 pub mod LoadedOpenings
 pub mod LoadedReports
 pub mod Order

@@ -1,16 +1,13 @@
 -- What is reported of a store that shows from a base on what another shows.
-use Rattle.std.proofs.Common.{◌≡◌, ◌↔◌, ◌⊎◌, inl, inr, ⊎_elim, ℕ, Bool, true, false, true≢false, IsTrue, List, [], ◌∷◌, ◌++◌, Option, Some, None, is_some, Result, Ok, Err, refl, sym, ap, subst, ◌∙◌, Contains, ◌||◌, not, nat_lt, length, arith, lt-ltb}
-use Rattle.std.specs.List.{filter}
+use Rattle.std.proofs.Common.{◌≡◌, ◌↔◌, ◌⊎◌, inl, inr, ⊎_elim, ℕ, true, List, [], ◌∷◌, ◌++◌, Option, Some, None, is_some, Result, Ok, Err, refl, sym, ap, subst, ◌∙◌}
 use Rattle.std.specs.FinMap as map
-use Rattle.std.specs.Prelude.{option_and_then, option_map, codes, map as mapped}
-use Rattle.std.proofs.lemmas.List.Elements.{Contains-append_left, Contains-append_right}
+use Rattle.std.specs.Prelude.{option_and_then, option_map, codes}
 use Rattle.serde_json.specs.Find.{get_member}
 use Rattle.zarrs_fault.specs.declared.fault.MetadataFault.{MetadataFault}
 use Rattle.zarrs_store.specs.Contents.{Contents}
 use Rattle.zarrs_path.specs.Paths.{Path}
 use Rattle.zarrs_path.specs.Keys.{zarr_json, zarray, zgroup, zattrs, zmetadata}
 use Rattle.zarrs_form.specs.Documents.{json_of, of_bytes}
-use Rattle.zarrs_form.specs.Forms.{is_nil}
 use Rattle.zarrs_meta.specs.declared.node.GroupMetadata.TheVariants.{V2, V3}
 use Rattle.zarrs_meta.specs.declared.node.NodeMetadata.{NodeMetadata}
 use Rattle.zarrs_meta.specs.declared.node.NodeMetadata.TheVariants.{Group, Array}
@@ -23,45 +20,42 @@ use Rattle.zarrs_node.specs.Exists.{HasNodeKey}
 use Rattle.zarrs_node.specs.MapsOfNodes.{StandsFrom}
 use Rattle.zarrs_node.specs.Nodes.{Nodes}
 use Rattle.zarrs_node.specs.OpeningNodes.{RefusesNode}
-use Rattle.zarrs_node.proofs.Counted.{contains_map, filter_keeps}
-use Rattle.zarrs_node.proofs.Found.{listed_each}
 use Rattle.zarrs_node.proofs.Graft.{Contains-cons, Contains-first}
-use Rattle.zarrs_notes.specs.BesideDocuments.{name_of_file}
 use Rattle.zarrs_notes.specs.Laws.{HaveSameFiles}
 use Rattle.zarrs_notes.specs.NodeFindings.{IsNodeFinding}
-use Rattle.zarrs_notes.specs.declared.file.NodeFile.{NodeFile}
 use Rattle.zarrs_notes.specs.declared.file.NodeFile.TheVariants as file
 use Rattle.zarrs_notes.specs.declared.finding.NodeFinding.{NodeFinding}
 use Rattle.zarrs_notes.proofs.LawProofs.{notes_same}
-use Rattle.zarrs_survey.specs.Checks.{block_read, own_attributes_in, own_read, HasOtherAttributes, HasNode, HasBadPath, IsToldOf, IsBlockFinding, IsCount, IsNodeTold}
+use Rattle.zarrs_survey.specs.Checks.{block_read, own_attributes_in, own_read, HasOtherAttributes, HasNode, HasNodeAt, HasBadPath, IsToldOf, IsBlockFinding, IsCount, IsNodeTold}
 use Rattle.zarrs_survey.specs.Findings.{Pair, HasPath, IsSpoilt, IsKeyFinding, IsPathFinding}
 use Rattle.zarrs_survey.specs.Surveys.{BadDocuments}
 use Rattle.zarrs_survey.specs.Orphans.{IsCountBelow, IsNodeBelow, IsOrphan}
-use Rattle.zarrs_survey.specs.declared.check.Check.{Check as CheckOf}
 use Rattle.zarrs_survey.specs.declared.finding.Finding.{Finding}
 use Rattle.zarrs_survey.specs.declared.finding.FindingKind.{FindingKind}
 use Rattle.zarrs_survey.specs.declared.finding.FindingKind.TheVariants.{BlockFault, BadKey, Shadowed, OwnKey, OwnAttributes, Unreachable, Stale, Unreached, Differs, Missing}
+use Rattle.zarrs_survey.proofs.AlikeNames.{alike_same}
 use Rattle.zarrs_survey.proofs.Blocks.{findings_same}
+use Rattle.zarrs_survey.proofs.SomeCount.{passes_or_not}
 use Rattle.zarrs_folder.specs.Laws.{ShowSame}
 use Rattle.zarrs_folder.specs.PrunedStores.{HasNoOtherKeys, HasSameFiles, IsArrayAt, IsLoadedFrom}
-use Rattle.zarrs_folder.specs.PassedPaths.{HasSameDocuments, HoldsBelow, HoldsFilesOf, IsPassed}
+use Rattle.zarrs_folder.specs.PassedPaths.{HasSameDocuments, IsPassed}
 use Rattle.zarrs_folder.proofs.Loading.{same_there}
 use Rattle.zarrs_folder.proofs.Openings.{lists_over, opened_answer_same, shown_open_same, turned}
-use Rattle.zarrs_folder.proofs.Shown.{base_shows_same, pruned_shows_same}
+use Rattle.zarrs_folder.proofs.Shown.{pruned_shows_same}
 use Rattle.zarrs.specs.declared.remark.Remark.{Remark}
 use Rattle.zarrs.specs.declared.report.Tally.{Tally}
 use Rattle.zarrs.specs.declared.words.CheckOptions.{CheckOptions}
-use Rattle.zarrs.specs.StepsOfRuns.{HoldsPassed, IsCheckFrom, IsCheckable, IsSettledOver, has_more, is_stale, passed_paths, stale_paths}
-use Rattle.zarrs.specs.Report.{IsOwnRemark, IsRemark, IsNodeRemark, IsAskedFor, IsReport, IsWholeReport}
+use Rattle.zarrs.specs.StepsOfRuns.{HoldsPassed, IsSettledOver}
+use Rattle.zarrs.specs.Report.{IsAboveRemark, IsOwnRemark, IsRemark, IsRemarkFrom, IsNodeRemark, IsAskedFor, IsReport, IsWholeReport}
 
 -- ---- what a document decides
 
 -- an entry without a node, at or below no bad document: whether a document stands there decides what is told of it
-abbrev IsLone : (Pair → Type 0) → (Pair → Type 0) → (Path → Type 0) → Path → Type 0
+abbrev pub IsLone : (Pair → Type 0) → (Pair → Type 0) → (Path → Type 0) → Path → Type 0
 IsLone E N F p = HasPath E p × (HasPath N p → ⊥) × (IsSpoilt F p → ⊥)
 
 -- what is told of a path stays, where the documents at such entries do
-document_over : (E N : Pair → Type 0) (F D D' : Path → Type 0) (g p : Path) (k : FindingKind) → (IsLone E N F p → D p ↔ D' p) → IsPathFinding E N F D g p k → IsPathFinding E N F D' g p k
+pub document_over : (E N : Pair → Type 0) (F D D' : Path → Type 0) (g p : Path) (k : FindingKind) → (IsLone E N F p → D p ↔ D' p) → IsPathFinding E N F D g p k → IsPathFinding E N F D' g p k
 document_over E N F D D' g p Stale same h = (h.0, h.1, h.2, λ d. h.3 ((same (h.0, h.1, h.2)).1 d))
 document_over E N F D D' g p Unreached same h = (h.0, h.1, h.2, (same (h.0, h.1, h.2)).0 h.3)
 document_over E N F D D' g p Unreachable same h = h
@@ -103,7 +97,7 @@ told_over (Some (Ok B)) O P N M F G D g f others nodes spoilt h = ⊎_elim (λ i
 -- ---- documents
 
 -- a store that has the same files of a path has a document there where the other has one
-node_key_over : (V W : Contents) (p : Path) → HasSameFiles V.values W.values p → HasNodeKey V p → HasNodeKey W p
+pub node_key_over : (V W : Contents) (p : Path) → HasSameFiles V.values W.values p → HasNodeKey V p → HasNodeKey W p
 node_key_over V W p same = ⊎_elim
     (λ h. inl (same_there V.values W.values (p ++ zarr_json ∷ []) (same zarr_json (Contains-first zarr_json (zarray ∷ zgroup ∷ zattrs ∷ zmetadata ∷ []))) h))
     (⊎_elim
@@ -114,7 +108,7 @@ node_key_over V W p same = ⊎_elim
     (Contains-cons zarray (zgroup ∷ zattrs ∷ zmetadata ∷ []) zgroup (Contains-first zgroup (zattrs ∷ zmetadata ∷ []))))) h))))
 
 -- a store that has the same documents of a path has one there where the other has one
-documents_over_key : (V W : Contents) (p : Path) → HasSameDocuments V.values W.values p → HasNodeKey V p → HasNodeKey W p
+pub documents_over_key : (V W : Contents) (p : Path) → HasSameDocuments V.values W.values p → HasNodeKey V p → HasNodeKey W p
 documents_over_key V W p same = ⊎_elim
     (λ h. inl (same_there V.values W.values (p ++ zarr_json ∷ []) (same zarr_json (Contains-first zarr_json (zarray ∷ zgroup ∷ []))) h))
     (⊎_elim
@@ -123,26 +117,21 @@ documents_over_key V W p same = ⊎_elim
     (same zgroup (Contains-cons zarr_json (zarray ∷ zgroup ∷ []) zgroup (Contains-cons zarray (zgroup ∷ []) zgroup (Contains-first zgroup [])))) h))))
 
 -- a store without other keys has no other documents
-node_key_back : (V W : Contents) (p : Path) → HasNoOtherKeys V.values W.values → HasNodeKey W p → HasNodeKey V p
+pub node_key_back : (V W : Contents) (p : Path) → HasNoOtherKeys V.values W.values → HasNodeKey W p → HasNodeKey V p
 node_key_back V W p keys = ⊎_elim (λ h. inl (keys (p ++ zarr_json ∷ []) h)) (⊎_elim (λ h. inr (inl (keys (p ++ zarray ∷ []) h))) (λ h. inr (inr (keys (p ++ zgroup ∷ []) h))))
 
--- a test holds or does not
-or_not : (t : Bool) → IsTrue t ⊎ (IsTrue t → ⊥)
-or_not true = inl refl
-or_not false = inr (λ h. true≢false (sym h))
-
 -- a document stands at a path, or none does
-node_key_or : (V : Contents) (p : Path) → HasNodeKey V p ⊎ (HasNodeKey V p → ⊥)
+pub node_key_or : (V : Contents) (p : Path) → HasNodeKey V p ⊎ (HasNodeKey V p → ⊥)
 node_key_or V p = ⊎_elim (λ h. inl (inl h))
     (λ no. ⊎_elim (λ h. inl (inr (inl h)))
-    (λ none. ⊎_elim (λ h. inl (inr (inr h))) (λ last. inr (⊎_elim no (⊎_elim none last))) (or_not (is_some (map.get V.values (p ++ zgroup ∷ [])))))
-    (or_not (is_some (map.get V.values (p ++ zarray ∷ [])))))
-    (or_not (is_some (map.get V.values (p ++ zarr_json ∷ []))))
+    (λ none. ⊎_elim (λ h. inl (inr (inr h))) (λ last. inr (⊎_elim no (⊎_elim none last))) (passes_or_not (is_some (map.get V.values (p ++ zgroup ∷ [])))))
+    (passes_or_not (is_some (map.get V.values (p ++ zarray ∷ [])))))
+    (passes_or_not (is_some (map.get V.values (p ++ zarr_json ∷ []))))
 
 -- ---- what the documents of nodes tell
 
 -- stores that have the same files of a path have the same documents there
-same_documents : (V W : Contents) (p : Path) → HasSameFiles V.values W.values p → HaveSameFiles W V p
+pub same_documents : (V W : Contents) (p : Path) → HasSameFiles V.values W.values p → HaveSameFiles W V p
 same_documents V W p same file.ZarrJson = same zarr_json (Contains-first zarr_json (zarray ∷ zgroup ∷ zattrs ∷ zmetadata ∷ []))
 same_documents V W p same file.Zarray = same zarray (Contains-cons zarr_json (zarray ∷ zgroup ∷ zattrs ∷ zmetadata ∷ []) zarray (Contains-first zarray (zgroup ∷ zattrs ∷ zmetadata ∷ [])))
 same_documents V W p same file.Zgroup = same zgroup
@@ -173,6 +162,10 @@ same_reported P Q same options nodes tally text r = record {
 pub node_remarks_same : (V W : Contents) (p : Path) (m : NodeMetadata) → HasSameFiles V.values W.values p → (r : Remark) → IsNodeRemark W p m r ↔ IsNodeRemark V p m r
 node_remarks_same V W p m same r = (λ (f, is, told). (f, (node_told_same V W p same m f).0 is, told), λ (f, is, told). (f, (node_told_same V W p same m f).1 is, told))
 
+-- one or the other, where each is the same
+pub either_same : {P Q R T : Type 0} → P ↔ Q → R ↔ T → (P ⊎ R) ↔ (Q ⊎ T)
+either_same p r = (⊎_elim (λ h. inl (p.0 h)) (λ h. inr (r.0 h)), ⊎_elim (λ h. inl (p.1 h)) (λ h. inr (r.1 h)))
+
 -- ---- numbers
 
 -- as many of the one as of the other
@@ -187,6 +180,10 @@ module _ (S L : Contents) (b : Path) (same : ShowSame S L b) (keys : HasNoOtherK
     ⊎_elim (λ w. inl (w.0, same.meanings b (inl refl) ∙ w.1)) (λ n. inr ((same.nodes e).1 n)),
   )
 
+  -- and where they stand
+  places_same : (p : Path) → HasNodeAt L Default b p ↔ HasNodeAt S Default b p
+  places_same p = (λ (m, h). (m, (nodes_same (p, m)).0 h), λ (m, h). (m, (nodes_same (p, m)).1 h))
+
   -- each stands from the base on
   node_stands : (e : Pair) → HasNode S Default b e → StandsFrom S Default b e.0
   node_stands e h = ⊎_elim (λ w. inl w.0) (λ n. inr n.0) h
@@ -198,7 +195,7 @@ module _ (S L : Contents) (b : Path) (same : ShowSame S L b) (keys : HasNoOtherK
     λ h. ((same.reached d.0).1 h.0, same.meanings d.0 (inr h.0) ∙ h.1),
   )
 
-  bad_paths_same : (q : Path) → HasBadPath L Default b q ↔ HasBadPath S Default b q
+  pub bad_paths_same : (q : Path) → HasBadPath L Default b q ↔ HasBadPath S Default b q
   bad_paths_same q = (λ h. (h.0, (bad_documents_same (q, h.0)).0 h.1), λ h. (h.0, (bad_documents_same (q, h.0)).1 h.1))
 
   -- what is read as the block of a node
@@ -218,7 +215,7 @@ module _ (S L : Contents) (b : Path) (same : ShowSame S L b) (keys : HasNoOtherK
   others_same p stands m = (λ w. (w.0, sym (own_read_same p stands m) ∙ w.1, w.2), λ w. (w.0, own_read_same p stands m ∙ w.1, w.2))
 
   -- an entry without a node that the one tells as stale is told so in the part that has no document there
-  told_stale : (g p : Path) (m : NodeMetadata) (B : Block) → HasNode S Default b (g, m) → block_read S g m ≡ Some (Ok B)
+  pub told_stale : (g p : Path) (m : NodeMetadata) (B : Block) → HasNode S Default b (g, m) → block_read S g m ≡ Some (Ok B)
       → IsLone (Entries B g) (Nodes S Default true b) (HasBadPath S Default b) p → (HasNodeKey L p → ⊥) → IsBlockFinding L Default b (record { group = g; path = p; kind = Stale })
   told_stale g p m B held read lone none =
       let found : Finding = record { group = g; path = p; kind = Stale } in (
@@ -229,7 +226,7 @@ module _ (S L : Contents) (b : Path) (same : ShowSame S L b) (keys : HasNoOtherK
       )
 
   -- what the part tells as stale is an entry without a node, where it has no document
-  stale_lone : (f : Finding) → IsBlockFinding L Default b f → f.kind ≡ Stale → (m : NodeMetadata) × (B : Block) × HasNode S Default b (f.group, m) × (block_read S f.group m ≡ Some (Ok B))
+  pub stale_lone : (f : Finding) → IsBlockFinding L Default b f → f.kind ≡ Stale → (m : NodeMetadata) × (B : Block) × HasNode S Default b (f.group, m) × (block_read S f.group m ≡ Some (Ok B))
       × IsLone (Entries B f.group) (Nodes S Default true b) (HasBadPath S Default b) f.path × (HasNodeKey L f.path → ⊥)
   stale_lone f (m, has, told) is =
       let held = (nodes_same (f.group, m)).0 has in
@@ -244,7 +241,7 @@ module _ (S L : Contents) (b : Path) (same : ShowSame S L b) (keys : HasNoOtherK
       )
 
   -- a listing of both goes no further at the same paths
-  passed_back : (p : Path) → IsPassed S b p → IsPassed L b p
+  pub passed_back : (p : Path) → IsPassed S b p → IsPassed L b p
   passed_back p = ⊎_elim
       (λ is. inl ((same.ignored p).1 is))
       (λ w. inr ((same.reached p).1 w.0, (w.1.0, same.meanings p (inr w.0) ∙ w.1.1)))
@@ -340,88 +337,24 @@ module _ (S L : Contents) (b : Path) (same : ShowSame S L b) (keys : HasNoOtherK
       ),
     )
 
-    pub remarks_same : (r : Remark) → IsRemark L b r ↔ IsRemark S b r
-    remarks_same r = (
-      ⊎_elim (λ h. inl (own_over held r h)) (λ (f, found, is). inr (f, (block_findings_same f).0 found, is)),
-      ⊎_elim (λ h. inl (own_back held r h)) (λ (f, found, is). inr (f, (block_findings_same f).1 found, is)),
+    pub remarks_from_same : (r : Remark) → IsRemarkFrom L b r ↔ IsRemarkFrom S b r
+    remarks_from_same r = (
+      ⊎_elim (λ h. inl (own_over held r h)) (⊎_elim (λ (t, is, told). inr (inl (t, alike_same (HasNodeAt L Default b) (HasNodeAt S Default b) t places_same is, told)))
+          (λ (f, found, is). inr (inr (f, (block_findings_same f).0 found, is)))),
+      ⊎_elim (λ h. inl (own_back held r h)) (⊎_elim (λ (t, is, told). inr (inl (t, alike_same (HasNodeAt S Default b) (HasNodeAt L Default b) t (λ p. turned (places_same p)) is, told)))
+          (λ (f, found, is). inr (inr (f, (block_findings_same f).1 found, is)))),
     )
 
     -- their number
     pub count_same : (n : ℕ) → IsCount (HasNode L Default b) n → IsCount (HasNode S Default b) n
     count_same n = count_over (HasNode L Default b) (HasNode S Default b) n nodes_same
 
-    -- the report on the one is that on the other
-    pub report_over : (options : CheckOptions) (tally : Tally) (text : List ℕ) → IsWholeReport L b options tally text → IsWholeReport S b options tally text
-    report_over options tally text (n, counted, r) = (n, count_same n counted, same_reported (IsRemark L b) (IsRemark S b) remarks_same options n tally text r)
+    -- the report on the one is that on the other, where the same is told of the blocks above
+    pub report_over : ((r : Remark) → IsAboveRemark L b r ↔ IsAboveRemark S b r) → (options : CheckOptions) (tally : Tally) (text : List ℕ) → IsWholeReport L b options tally text → IsWholeReport S b options tally text
+    report_over uppers options tally text (n, counted, r) =
+        (n, count_same n counted, same_reported (IsRemark L b) (IsRemark S b) (λ x. either_same (remarks_from_same x) (uppers x)) options n tally text r)
 
 -- the report on a loaded store is that on the whole, where the base is no array
-pub loaded_report : (S L : Contents) (b : Path) → IsLoadedFrom S L b → IsSettledOver S L b → HoldsPassed S L b → (IsArrayAt S b → ⊥) → (options : CheckOptions) (tally : Tally) (text : List ℕ) → IsWholeReport L b options tally text
-    → IsWholeReport S b options tally text
+pub loaded_report : (S L : Contents) (b : Path) → IsLoadedFrom S L b → IsSettledOver S L b → HoldsPassed S L b → (IsArrayAt S b → ⊥) → ((r : Remark) → IsAboveRemark L b r ↔ IsAboveRemark S b r)
+    → (options : CheckOptions) (tally : Tally) (text : List ℕ) → IsWholeReport L b options tally text → IsWholeReport S b options tally text
 loaded_report S L b loaded settled held no_array = let below = loaded.below no_array in report_over S L b (pruned_shows_same S L b below) below.keys below.documents settled held
-
--- once the documents below what is passed, and those at the stale entries of a loaded store are loaded too, it has enough
-pub all_settled : (S L K M : Contents) (b : Path) (ps qs : List Path) → IsLoadedFrom S L b → IsLoadedFrom S M b → HasNoOtherKeys K.values L.values → HasNoOtherKeys M.values K.values
-    → HoldsBelow S.values K.values qs → HoldsFilesOf S.values M.values ps → ((p : Path) → IsPassed L b p → Contains qs p)
-    → ((f : Finding) → IsBlockFinding L Default b f → f.kind ≡ Stale → Contains ps f.path) → IsCheckable S M b
-all_settled S L K M b ps qs old new first then below at passed each = (
-  new,
-  λ no_array.
-      let o = old.below no_array in
-      let n = new.below no_array in (
-        λ f told is has.
-            let w = stale_lone S M b (pruned_shows_same S M b n) n.keys n.documents f told is in
-            let none : HasNodeKey L f.path → ⊥ = λ k. w.5 (node_key_back M L f.path (λ key in'. then key (first key in')) k) in
-            let stale = told_stale S L b (pruned_shows_same S L b o) o.keys o.documents f.group f.path w.0 w.1 w.2 w.3 w.4 none in
-            w.5 (node_key_over S M f.path (at f.path (each (record { group = f.group; path = f.path; kind = Stale }) stale refl)) has),
-        λ p q is low has. node_key_back M K q then (documents_over_key S K q (below p q (passed p (passed_back S L b (pruned_shows_same S L b o) o.keys o.documents p is)) low) has),
-      ),
-)
-
--- the path of a stale finding is one of those
-pub stale_listed : (fs : List Finding) (f : Finding) → Contains fs f → f.kind ≡ Stale → Contains (stale_paths fs) f.path
-stale_listed fs f in' is = contains_map (λ x. x.path) (filter (λ x. is_stale x.kind) fs) f (filter_keeps (λ x. is_stale x.kind) fs f (ap is_stale is) in')
-
--- the paths that are passed are those
-pub passed_listed : (s : Contents) (b : Path) (c : CheckOf) → IsCheckFrom s b c → (p : Path) → IsPassed s b p → Contains (passed_paths c.ignored.items c.bad_documents) p
-passed_listed s b c is p = ⊎_elim
-    (λ ignored. Contains-append_left c.ignored.items (mapped (λ d. d.0) c.bad_documents) p ((listed_each is.1.ignored p).1 ignored))
-    (λ w. Contains-append_right c.ignored.items (mapped (λ d. d.0) c.bad_documents) p
-    (contains_map (λ d. d.0) c.bad_documents (p, w.1.0) ((listed_each is.1.bad_documents (p, w.1.0)).1 (w.0, w.1.1))))
-
--- ---- a check of what was loaded first
-
--- nothing is passed over, and no entry is stale
-abbrev pub HasNoMore : CheckOf → Type 0
-HasNoMore c = (c.ignored.items ≡ []) × (c.bad_documents ≡ []) × (filter (λ f. is_stale f.kind) c.findings.items ≡ [])
-
--- that is so where there is no more
-no_more_nil : {A B C : Type 0} (xs : List A) (ys : List B) (zs : List C) → not (is_nil xs) || (not (is_nil ys) || nat_lt 0 (length zs)) ≡ false → (xs ≡ []) × (ys ≡ []) × (zs ≡ [])
-no_more_nil [] [] [] h = (refl, refl, refl)
-no_more_nil [] [] (z ∷ zs) h = let t : nat_lt 0 (length (z ∷ zs)) ≡ true = lt-ltb 0 (length (z ∷ zs)) (omega arith) in absurd (true≢false (sym t ∙ h))
-no_more_nil [] (y ∷ ys) zs h = absurd (true≢false h)
-no_more_nil (x ∷ xs) ys zs h = absurd (true≢false h)
-
-pub no_more : (c : CheckOf) → has_more c ≡ false → HasNoMore c
-no_more c = no_more_nil c.ignored.items c.bad_documents (filter (λ f. is_stale f.kind) c.findings.items)
-
--- nothing is in no list
-none_in : {A : Type 0} (xs : List A) (x : A) → xs ≡ [] → Contains xs x → ⊥
-none_in xs x is h = let l = subst (λ ys. Contains ys x) is h in omega (arith, l.1)
-
--- where a check of a loaded store has no more, the store is enough for it
-pub whole_settled : (S L : Contents) (b : Path) (c : CheckOf) → IsLoadedFrom S L b → IsCheckFrom L b c → HasNoMore c → IsCheckable S L b
-whole_settled S L b c loaded checked none = (
-  loaded,
-  λ no_array.
-      let below = loaded.below no_array in (
-        λ f told is has. none_in (filter (λ f. is_stale f.kind) c.findings.items) f none.2 (filter_keeps (λ x. is_stale x.kind) c.findings.items f (ap is_stale is) ((checked.2.exact f).1 told)),
-        λ p q is low has. absurd (⊎_elim
-            (λ ignored. none_in c.ignored.items p none.0 ((listed_each checked.1.ignored p).1 ignored))
-            (λ w. none_in c.bad_documents (p, w.1.0) none.1 ((listed_each checked.1.bad_documents (p, w.1.0)).1 (w.0, w.1.1)))
-            (passed_back S L b (pruned_shows_same S L b below) below.keys below.documents p is)),
-      ),
-)
-
--- of an array nothing more is needed
-pub array_settled : (S L : Contents) (b : Path) → IsLoadedFrom S L b → IsArrayAt L b → IsCheckable S L b
-array_settled S L b loaded (m, is, kind) = (loaded, λ no_array. absurd (no_array (m, sym ((base_shows_same S L b loaded.base).0 Default) ∙ is, kind)))

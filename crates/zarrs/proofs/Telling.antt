@@ -1,7 +1,6 @@
 -- The remarks on a survey and on the findings beside it are exactly what there is to tell, each once.
-use Rattle.std.proofs.Common.{◌≡◌, ◌≢◌, inl, inr, ⊎_elim, ℕ, ◌+◌, true, true≢false, List, [], ◌∷◌, ◌++◌, get_or, length, map, zip, AllPairs, Option, Some, None, Less, is_eq, Result, Ok, Err, IfOk, String, string_bytes, refl, sym, ap, subst, ◌∙◌, arith, ◌<◌, Contains, append_assoc, codes, take}
-use Rattle.std.specs.List.{filter, list_all}
-use Rattle.std.specs.declared.alloc.Global.{Global}
+use Rattle.std.proofs.Common.{◌≡◌, ◌≢◌, ◌⊎◌, inl, inr, ⊎_elim, ℕ, ◌+◌, true, true≢false, List, [], ◌∷◌, ◌++◌, get_or, length, map, zip, AllPairs, Option, Some, None, Less, is_eq, Result, Ok, Err, refl, sym, ap, subst, ◌∙◌, arith, ◌<◌, Contains, append_assoc, codes, take}
+use Rattle.std.specs.List.{list_all}
 use Rattle.std.specs.Option.{unwrap_or}
 use Rattle.std.proofs.lemmas.Bool.{and_parts}
 use Rattle.std.proofs.lemmas.Cmp.{tied_itself, nat_list_cmp_total}
@@ -13,12 +12,12 @@ use Rattle.zarrs_store.specs.Segments.{last_segment, bytes_cmp}
 use Rattle.zarrs_store.specs.Contents.{Contents, Lists}
 use Rattle.zarrs_store.proofs.ChildLemmas.{last_segment-child}
 use Rattle.zarrs_path.specs.Names.{is_name, IsName}
-use Rattle.zarrs_path.specs.Paths.{Path, IsPath, path_cmp}
+use Rattle.zarrs_path.specs.Paths.{Path, IsBelow, IsPath, path_cmp}
 use Rattle.zarrs_path.proofs.NameLemmas.{not_periods}
 use Rattle.zarrs_meta.specs.declared.node.NodeMetadata.{NodeMetadata}
+use Rattle.zarrs_meta.specs.declared.node.NodeMetadata.TheVariants.{Group, Array}
 use Rattle.zarrs_config.specs.declared.version.MetadataRetrieveVersion.TheVariants.{Default}
 use Rattle.zarrs_block.specs.Meaning.{Meaning, meaning, node, nothing, bad}
-use Rattle.zarrs_block.specs.ErrorTexts.{error_text}
 use Rattle.zarrs_block.specs.Refusals.{IsMissing}
 use Rattle.zarrs_block.specs.declared.node_create_error.NodeCreateError.{NodeCreateError}
 use Rattle.zarrs_block.specs.declared.node_create_error.NodeCreateError.TheVariants.{NodePathError, StorePrefixError, StorageError, MetadataVersionMismatch, MissingMetadata, OutOfMemory}
@@ -26,21 +25,29 @@ use Rattle.zarrs_node.specs.OpeningNodes.{RefusesNode}
 use Rattle.zarrs_node.proofs.Counted.{contains_map, contains_mapped, filter_holds, filter_keeps}
 use Rattle.zarrs_node.proofs.Found.{all_pairs_append, all_pairs_first, all_pairs_tail, listed_each}
 use Rattle.zarrs_node.proofs.Graft.{Contains-first, Contains-cons}
+use Rattle.zarrs_node.proofs.Keeps.{below_trans, not_below_itself}
 use Rattle.zarrs_node.proofs.Lasts.{contains_filtered}
 use Rattle.zarrs_node.proofs.Order.{contains_cases}
 use Rattle.zarrs_node.proofs.Unique.{names_irrefl}
 use Rattle.zarrs_survey.specs.Surveys.{BadDocuments, BadNames}
 use Rattle.zarrs_survey.specs.Findings.{key_of, rank_of}
 use Rattle.zarrs_notes.specs.FindingTexts.{node_finding_text}
-use Rattle.zarrs_notes.specs.NodeFindings.{IsNodeFinding, AreNodeFindings, ComesBefore, place_of, field_of}
+use Rattle.zarrs_notes.specs.NodeFindings.{AreNodeFindings, ComesBefore, field_of}
 use Rattle.zarrs_notes.specs.declared.finding.NodeFinding.{NodeFinding}
 use Rattle.zarrs_notes.specs.declared.finding.NodeFinding.TheVariants as told
-use Rattle.zarrs_survey.specs.Checks.{HasNode, IsBaseOutcome, IsCheckOf, IsCount, IsNodeTold, IsToldBefore, StandsBefore, AreBlockFindings}
+use Rattle.zarrs_survey.specs.BlocksAbove.{AreAboveFindings, MeansNoArray}
+use Rattle.zarrs_survey.specs.PathChecks.{IsCheckedFrom, IsPathCheckOf}
+use Rattle.zarrs_survey.specs.declared.path_check.CheckedFrom.{CheckedFrom}
+use Rattle.zarrs_survey.specs.declared.path_check.CheckedFrom.TheVariants as from
+use Rattle.zarrs_survey.specs.declared.path_check.PathCheck.{PathCheck}
+use Rattle.zarrs_folder.specs.PrunedStores.{IsArrayAt}
+use Rattle.zarrs_survey.specs.Checks.{HasNode, IsBaseOutcome, IsCheckOf, IsNodeTold, IsToldBefore, StandsBefore, AreBlockFindings}
 use Rattle.zarrs_survey.specs.declared.finding.Finding.{Finding}
 use Rattle.zarrs_survey.specs.declared.finding.FindingKind.{FindingKind}
 use Rattle.zarrs_survey.specs.declared.finding.FindingKind.TheVariants.{BlockFault, BadKey, Shadowed, OwnKey, OwnAttributes, Unreachable, Stale, Unreached, Differs, Missing}
 use Rattle.zarrs_survey.specs.Orphans.{IsCountBelow, IsOrphan}
 use Rattle.zarrs_survey.specs.declared.check.Check.{Check}
+use Rattle.zarrs_survey.proofs.Counting.{count_same}
 use Rattle.zarrs.specs.declared.remark.Remark.{Remark}
 use Rattle.zarrs.specs.declared.report.Tally.{Tally}
 use Rattle.zarrs.specs.declared.kind.RemarkKind.{RemarkKind}
@@ -48,9 +55,9 @@ use Rattle.zarrs.specs.declared.kind.RemarkKind.TheVariants as remark
 use Rattle.zarrs.specs.declared.kind.RemarkKind.TheVariants.{NoNode}
 use Rattle.zarrs.specs.declared.words.CheckOptions.{CheckOptions}
 use Rattle.zarrs.specs.Kinds.{error_kind, finding_kind, told_kind, wrong_key}
-use Rattle.zarrs.specs.Report.{own_remark, error_remark, document_remark, orphan_remark, remark_of, told_remark, remarks_text, tally_of, is_asked, IsOwnRemark, IsRemark, IsNodeRemark, IsAskedFor, IsArrayOf, IsReport, IsReportFrom, IsWholeReport}
-use Rattle.zarrs.specs.StepsOfReports.{AreSorted, asked_of, base_remarks, document_remarks, name_remark, node_remarks, own_remarks}
-use Rattle.zarrs.proofs.Counts.{count_once, pair_complete, pair_sound, pairs_apart}
+use Rattle.zarrs.specs.Report.{own_remark, error_remark, document_remark, orphan_remark, remark_of, told_remark, remarks_text, tally_of, is_asked, alike_remark, IsAlikeRemark, IsOwnRemark, IsRemarkFrom, IsAboveRemark, IsNodeRemark, IsAskedFor, IsReport, IsReportFrom}
+use Rattle.zarrs.specs.StepsOfReports.{AreSorted, asked_of, base_remarks, document_remarks, name_remark, node_remarks, nodes_from, own_remarks, path_remarks, remarks_from}
+use Rattle.zarrs.proofs.Counts.{pair_complete, pair_sound, pairs_apart}
 use Rattle.zarrs.proofs.Order.{sorted_ascend, ascend_once}
 use Rattle.zarrs.proofs.ToldTexts.{places_same, fields_same}
 
@@ -182,10 +189,36 @@ ranks_same j k same = rank_from j ∙ (ap rank_by same ∙ sym (rank_from k))
 keys_same : (j k : FindingKind) → wrong_key j ≡ wrong_key k → key_of j ≡ key_of k
 keys_same j k same = key_from j ∙ (ap (λ key. unwrap_or key []) same ∙ sym (key_from k))
 
+-- findings in their order are told once
+findings_once : (fs : List Finding) → AllPairs StandsBefore fs → AllPairs (λ q r. q ≢ r) (map remark_of fs)
+findings_once fs ascend = once_mapped StandsBefore remark_of fs
+    (λ f g p q before same. not_before f g (ap (λ r. r.path) same) (ap (λ r. group_or f.group r.group) same)
+    (ranks_same f.kind g.kind (ap (λ r. r.kind) same)) (keys_same f.kind g.kind (ap (λ r. r.key) same)) before)
+    ascend
+
 -- a group is there
 abbrev HasGroup : Option Path → Type 0
 HasGroup None = ⊥
 HasGroup (Some g) = Unit {0}
+
+-- a remark of a group has one
+group_there : (r : Remark) → ((g : Path) × (r.group ≡ Some g)) → HasGroup r.group
+group_there r (g, is) = subst HasGroup (sym is) tt
+
+-- what is some is one
+some_same : (g h : Path) → Some g ≡ Some h → g ≡ h
+some_same g h same = ap (group_or g) same
+
+-- a remark is of a group above b
+abbrev IsOfAbove : Path → Remark → Type 0
+IsOfAbove b r = (g : Path) × (r.group ≡ Some g) × IsBelow g b
+
+-- no node from b on is above it
+held_not_above : (s : Contents) (b : Path) (e : Path × NodeMetadata) → HasNode s Default b e → IsBelow e.0 b → ⊥
+held_not_above s b e h low = ⊎_elim
+    (λ w. not_below_itself b (subst (λ g. IsBelow g b) w.0 low))
+    (λ n. let w = n.0.below in not_below_itself b (below_trans b e.0 b (w.0, w.1, w.2) low))
+    h
 
 -- ---- what the documents of nodes tell
 
@@ -229,6 +262,29 @@ error_is_kept (StorePrefixError e) h = h
 error_is_kept (StorageError e) h = h
 error_is_kept MetadataVersionMismatch h = h
 error_is_kept OutOfMemory h = h
+
+-- the kind is of names that differ in case alone
+abbrev IsAlikeKind : RemarkKind → Type 0
+IsAlikeKind remark.Alike = Unit {0}
+IsAlikeKind _ = ⊥
+
+-- it is of no error, and of nothing that the documents of a node tell
+error_not_alike : (e : NodeCreateError) → IsAlikeKind (error_kind e) → ⊥
+error_not_alike (MissingMetadata t) h = h
+error_not_alike (NodePathError e) h = h
+error_not_alike (StorePrefixError e) h = h
+error_not_alike (StorageError e) h = h
+error_not_alike MetadataVersionMismatch h = h
+error_not_alike OutOfMemory h = h
+
+told_not_alike : (f : NodeFinding) → IsAlikeKind (told_kind f) → ⊥
+told_not_alike (told.GridRank lengths shape) h = h
+told_not_alike told.ZeroLength h = h
+told_not_alike (told.NameCount names shape) h = h
+told_not_alike (told.UnknownField name) h = h
+told_not_alike (told.DemandingBlock group) h = h
+told_not_alike told.MisplacedBlock h = h
+told_not_alike (told.Beside file document) h = h
 
 -- the remark on a bad document and its number
 abbrev paired : (Path × NodeCreateError) × ℕ → Remark
@@ -356,8 +412,11 @@ module _ (s : Contents) (b : Path) (c : Check) (h : IsCheckOf s Default b c) (k 
   abbrev blocks : List Remark
   blocks = map remark_of c.findings.items
 
+  abbrev alikes : List Remark
+  alikes = map alike_remark c.alike.items
+
   abbrev all : List Remark
-  all = own_remarks c ++ blocks
+  all = (own_remarks c ++ alikes) ++ blocks
 
   -- ---- each is to be told
 
@@ -399,11 +458,17 @@ module _ (s : Contents) (b : Path) (c : Check) (h : IsCheckOf s Default b c) (k 
       (Contains-append_cases documents (names ++ (orphans ++ tolds)) r later))
       (Contains-append_cases bases (documents ++ (names ++ (orphans ++ tolds))) r in')
 
-  block_sound : (r : Remark) → Contains blocks r → IsRemark s b r
-  block_sound r in' = let w = contains_mapped remark_of c.findings.items r in' in inr (w.0, (k.exact w.0).0 w.1, sym w.2)
+  block_sound : (r : Remark) → Contains blocks r → IsRemarkFrom s b r
+  block_sound r in' = let w = contains_mapped remark_of c.findings.items r in' in inr (inr (w.0, (k.exact w.0).0 w.1, sym w.2))
 
-  sound : (r : Remark) → Contains all r → IsRemark s b r
-  sound r in' = ⊎_elim (λ own. inl (own_sound r own)) (block_sound r) (Contains-append_cases (own_remarks c) blocks r in')
+  alike_sound : (r : Remark) → Contains alikes r → IsAlikeRemark s b r
+  alike_sound r in' = let w = contains_mapped alike_remark c.alike.items r in' in (w.0, (h.alike.exact w.0).0 w.1, sym w.2)
+
+  sound : (r : Remark) → Contains all r → IsRemarkFrom s b r
+  sound r in' = ⊎_elim
+      (λ first. ⊎_elim (λ own. inl (own_sound r own)) (λ near. inr (inl (alike_sound r near))) (Contains-append_cases (own_remarks c) alikes r first))
+      (block_sound r)
+      (Contains-append_cases (own_remarks c ++ alikes) blocks r in')
 
   -- ---- what is to be told is
 
@@ -415,7 +480,7 @@ module _ (s : Contents) (b : Path) (c : Check) (h : IsCheckOf s Default b c) (k 
   document_complete d n is count =
       let w = pair_complete s c.bad_documents c.hidden.items h.hidden d ((listed_each h.bad_documents d).1 is) in
       let v = pair_sound s c.bad_documents c.hidden.items h.hidden (d, w.0) w.1 in
-      subst (λ k. Contains (own_remarks c) (document_remark d k)) (count_once s d.0 w.0 n v.1 count)
+      subst (λ k. Contains (own_remarks c) (document_remark d k)) (count_same s d.0 w.0 n v.1 count)
       (Contains-append_right bases (documents ++ (names ++ (orphans ++ tolds))) (document_remark d w.0)
       (Contains-append_left documents (names ++ (orphans ++ tolds)) (document_remark d w.0) (contains_map paired (zip c.bad_documents c.hidden.items) (d, w.0) w.1)))
 
@@ -448,10 +513,13 @@ module _ (s : Contents) (b : Path) (c : Check) (h : IsCheckOf s Default b c) (k 
       (λ w. subst (Contains (own_remarks c)) (sym w.2) (orphan_complete w.0 w.1))
       (λ w. subst (Contains (own_remarks c)) (sym w.2) (told_complete w.0 w.1)))))
 
-  complete : (r : Remark) → IsRemark s b r → Contains all r
+  complete : (r : Remark) → IsRemarkFrom s b r → Contains all r
   complete r = ⊎_elim
-      (λ own. Contains-append_left (own_remarks c) blocks r (own_complete r own))
-      (λ w. Contains-append_right (own_remarks c) blocks r (subst (Contains blocks) (sym w.2) (contains_map remark_of c.findings.items w.0 ((k.exact w.0).1 w.1))))
+      (λ own. Contains-append_left (own_remarks c ++ alikes) blocks r (Contains-append_left (own_remarks c) alikes r (own_complete r own)))
+      (⊎_elim
+      (λ w. Contains-append_left (own_remarks c ++ alikes) blocks r
+      (Contains-append_right (own_remarks c) alikes r (subst (Contains alikes) (sym w.2) (contains_map alike_remark c.alike.items w.0 ((h.alike.exact w.0).1 w.1)))))
+      (λ w. Contains-append_right (own_remarks c ++ alikes) blocks r (subst (Contains blocks) (sym w.2) (contains_map remark_of c.findings.items w.0 ((k.exact w.0).1 w.1)))))
 
   -- ---- none is told twice
 
@@ -481,11 +549,13 @@ module _ (s : Contents) (b : Path) (c : Check) (h : IsCheckOf s Default b c) (k 
       before)
       h.told_ascend
 
+  alikes_once : AllPairs (λ q r. q ≢ r) alikes
+  alikes_once = once_mapped (λ (t u : Path × Path). path_cmp t.0 u.0 ≡ Less) alike_remark c.alike.items
+      (λ t u x y less same. names_irrefl u.0 (subst (λ p. path_cmp p u.0 ≡ Less) (ap (λ r. r.path) same) less))
+      h.alike.ascend
+
   blocks_once : AllPairs (λ q r. q ≢ r) blocks
-  blocks_once = once_mapped StandsBefore remark_of c.findings.items
-      (λ f g p q before same. not_before f g (ap (λ r. r.path) same) (ap (λ r. group_or f.group r.group) same)
-      (ranks_same f.kind g.kind (ap (λ r. r.kind) same)) (keys_same f.kind g.kind (ap (λ r. r.key) same)) before)
-      k.ascend
+  blocks_once = findings_once c.findings.items k.ascend
 
   -- a remark on the base, and one on what is below
   base_apart : (q r : Remark) → Contains bases q → Contains (documents ++ names) r → q ≢ r
@@ -550,10 +620,29 @@ module _ (s : Contents) (b : Path) (c : Check) (h : IsCheckOf s Default b c) (k 
       (λ w has. subst (λ x. HasGroup x.group) w.2 has)
       (⊎_elim (λ w has. subst (λ x. HasGroup x.group) w.2 has) (λ w has. subst (λ x. HasGroup x.group) w.2 has))))
 
-  own_apart : (q r : Remark) → Contains (own_remarks c) q → Contains blocks r → q ≢ r
-  own_apart q r in' later same =
+  -- nor is what is told of names that differ in case alone, whose kind is no other's
+  alike_group : (r : Remark) → Contains alikes r → HasGroup r.group → ⊥
+  alike_group r in' has = let w = alike_sound r in' in subst (λ x. HasGroup x.group) w.2 has
+
+  own_not_alike : (r : Remark) → IsOwnRemark s b r → IsAlikeKind r.kind → ⊥
+  own_not_alike r = ⊎_elim
+      (λ w is. error_not_alike w.0 (subst (λ x. IsAlikeKind x.kind) w.2 is))
+      (⊎_elim
+      (λ w is. error_not_alike w.0.1 (subst (λ x. IsAlikeKind x.kind) w.4 is))
+      (⊎_elim
+      (λ w is. subst (λ x. IsAlikeKind x.kind) w.2 is)
+      (⊎_elim (λ w is. subst (λ x. IsAlikeKind x.kind) w.2 is) (λ w is. told_not_alike w.0.1 (subst (λ x. IsAlikeKind x.kind) w.2 is)))))
+
+  alike_apart : (q r : Remark) → Contains (own_remarks c) q → Contains alikes r → q ≢ r
+  alike_apart q r in' later same = let w = alike_sound r later in own_not_alike q (own_sound q in') (subst (λ x. IsAlikeKind x.kind) (sym w.2 ∙ sym same) tt)
+
+  first_group : (r : Remark) → Contains (own_remarks c ++ alikes) r → HasGroup r.group → ⊥
+  first_group r in' = ⊎_elim (λ own. own_group r (own_sound r own)) (alike_group r) (Contains-append_cases (own_remarks c) alikes r in')
+
+  first_apart : (q r : Remark) → Contains (own_remarks c ++ alikes) q → Contains blocks r → q ≢ r
+  first_apart q r in' later same =
       let v = contains_mapped remark_of c.findings.items r later in
-      own_group q (own_sound q in') (subst (λ x. HasGroup x.group) (v.2 ∙ sym same) tt)
+      first_group q in' (subst (λ x. HasGroup x.group) (v.2 ∙ sym same) tt)
 
   named_once : AllPairs (λ q r. q ≢ r) (names ++ (orphans ++ tolds))
   named_once = all_pairs_append (λ q r. q ≢ r) names (orphans ++ tolds) names_once
@@ -575,27 +664,89 @@ module _ (s : Contents) (b : Path) (c : Check) (h : IsCheckOf s Default b c) (k 
       (Contains-append_cases documents (names ++ (orphans ++ tolds)) r later))
 
   all_once : AllPairs (λ q r. q ≢ r) all
-  all_once = all_pairs_append (λ q r. q ≢ r) (own_remarks c) blocks own_once blocks_once own_apart
+  all_once = all_pairs_append (λ q r. q ≢ r) (own_remarks c ++ alikes) blocks (all_pairs_append (λ q r. q ≢ r) (own_remarks c) alikes own_once alikes_once alike_apart) blocks_once first_apart
 
-  -- the report on all of them
-  pub report_is : (options : CheckOptions) (rs : List Remark) (tally : Tally) (text : List ℕ) → AreSorted (asked_of options all) rs → tally ≡ tally_of options c.nodes rs → text ≡ remarks_text options rs
-      → IsWholeReport s b options tally text
-  report_is options rs tally text sorted numbers is = (c.nodes, h.nodes, reported (IsRemark s b) all sound complete all_once options c.nodes rs tally text sorted numbers is)
+  -- each of them is of no group above b
+  all_not_above : (r : Remark) → Contains all r → IsOfAbove b r → ⊥
+  all_not_above r in' = ⊎_elim
+      (λ first up. first_group r first (group_there r (up.0, up.1)))
+      (λ of' up.
+      let w = contains_mapped remark_of c.findings.items r of' in
+      let is = (k.exact w.0).0 w.1 in
+      let same : w.0.group ≡ up.0 = some_same w.0.group up.0 (ap (λ x. x.group) w.2 ∙ up.1) in
+      held_not_above s b (w.0.group, is.0) is.1 (subst (λ g. IsBelow g b) (sym same) up.2))
+      (Contains-append_cases (own_remarks c ++ alikes) blocks r in')
 
 -- ---- one node
 
--- what the documents of one node tell is reported
-pub node_report_is : (s : Contents) (p : Path) (m : NodeMetadata) (found : List NodeFinding) → AreNodeFindings s p m found → (options : CheckOptions) (rs : List Remark) (tally : Tally) (text : List ℕ)
-    → AreSorted (asked_of options (node_remarks p found)) rs → tally ≡ tally_of options 1 rs → text ≡ remarks_text options rs → IsReport (IsNodeRemark s p m) options 1 tally text
-node_report_is s p m found are options rs tally text sorted numbers is =
-    reported (IsNodeRemark s p m) (node_remarks p found)
-    (λ r in'. let w = contains_mapped (λ f. told_remark (p, f)) found r in' in (w.0, (are.exact w.0).0 w.1, sym w.2))
-    (λ r w. subst (Contains (node_remarks p found)) (sym w.2) (contains_map (λ f. told_remark (p, f)) found w.0 ((are.exact w.0).1 w.1)))
-    (once_mapped ComesBefore (λ f. told_remark (p, f)) found (λ f g x y before same. not_before_told f g (ap (λ r. r.text) same) before) are.ascend)
-    options 1 rs tally text sorted numbers is
+module _ (s : Contents) (p : Path) (m : NodeMetadata) (found : List NodeFinding) (are : AreNodeFindings s p m found) where
+  node_sound : (r : Remark) → Contains (node_remarks p found) r → IsNodeRemark s p m r
+  node_sound r in' = let w = contains_mapped (λ f. told_remark (p, f)) found r in' in (w.0, (are.exact w.0).0 w.1, sym w.2)
 
--- the report on an array is the report from there on
-pub array_reported : {E : Type 0} (s : Contents) (b : Path) (options : CheckOptions) (m : NodeMetadata) (r : Result (Tally × String Global) E) → IsArrayOf s b m
-    → IfOk r (λ made. IsReport (IsNodeRemark s b m) options 1 made.0 (string_bytes made.1)) → IfOk r (λ made. IsReportFrom s b options made.0 (string_bytes made.1))
-array_reported s b options m (Ok made) is h = inl (m, is, h)
-array_reported s b options m (Err e) is h = tt
+  node_complete : (r : Remark) → IsNodeRemark s p m r → Contains (node_remarks p found) r
+  node_complete r w = subst (Contains (node_remarks p found)) (sym w.2) (contains_map (λ f. told_remark (p, f)) found w.0 ((are.exact w.0).1 w.1))
+
+  node_once : AllPairs (λ q r. q ≢ r) (node_remarks p found)
+  node_once = once_mapped ComesBefore (λ f. told_remark (p, f)) found (λ f g x y before same. not_before_told f g (ap (λ r. r.text) same) before) are.ascend
+
+  node_not_above : (b : Path) (r : Remark) → Contains (node_remarks p found) r → IsOfAbove b r → ⊥
+  node_not_above b r in' up = let w = node_sound r in' in subst (λ x. HasGroup x.group) w.2 (group_there r (up.0, up.1))
+
+-- ---- what is told from a path on, and of the blocks above it
+
+module _ (s : Contents) (b : Path) (told : Remark → Type 0) (from : List Remark) (sound : (r : Remark) → Contains from r → told r) (complete : (r : Remark) → told r → Contains from r)
+    (once : AllPairs (λ q r. q ≢ r) from) (beside : (r : Remark) → Contains from r → IsOfAbove b r → ⊥) (found : List Finding) (k : AreAboveFindings s Default b found) where
+  -- what is told of the blocks above
+  abbrev uppers : List Remark
+  uppers = map remark_of found
+
+  upper_sound : (r : Remark) → Contains uppers r → IsAboveRemark s b r
+  upper_sound r in' = let w = contains_mapped remark_of found r in' in (w.0, (k.exact w.0).0 w.1, sym w.2)
+
+  upper_complete : (r : Remark) → IsAboveRemark s b r → Contains uppers r
+  upper_complete r w = subst (Contains uppers) (sym w.2) (contains_map remark_of found w.0 ((k.exact w.0).1 w.1))
+
+  upper_above : (r : Remark) → Contains uppers r → IsOfAbove b r
+  upper_above r in' = let w = upper_sound r in' in (w.0.group, ap (λ x. x.group) w.2, w.1.above)
+
+  whole_sound : (r : Remark) → Contains (from ++ uppers) r → told r ⊎ IsAboveRemark s b r
+  whole_sound r in' = ⊎_elim (λ of'. inl (sound r of')) (λ up. inr (upper_sound r up)) (Contains-append_cases from uppers r in')
+
+  whole_complete : (r : Remark) → told r ⊎ IsAboveRemark s b r → Contains (from ++ uppers) r
+  whole_complete r = ⊎_elim (λ is. Contains-append_left from uppers r (complete r is)) (λ is. Contains-append_right from uppers r (upper_complete r is))
+
+  whole_once : AllPairs (λ q r. q ≢ r) (from ++ uppers)
+  whole_once = all_pairs_append (λ q r. q ≢ r) from uppers once (findings_once found k.ascend) (λ q r in' later same. beside q in' (subst (IsOfAbove b) (sym same) (upper_above r later)))
+
+  -- the report on all of them
+  whole_reported : (options : CheckOptions) (nodes : ℕ) (rs : List Remark) (tally : Tally) (text : List ℕ) → AreSorted (asked_of options (from ++ uppers)) rs → tally ≡ tally_of options nodes rs → text ≡ remarks_text options rs
+      → IsReport (λ r. told r ⊎ IsAboveRemark s b r) options nodes tally text
+  whole_reported options = reported (λ r. told r ⊎ IsAboveRemark s b r) (from ++ uppers) whole_sound whole_complete whole_once options
+
+-- what means no array is none
+pub no_array : (s : Contents) (b : Path) → MeansNoArray s Default b → IsArrayAt s b → ⊥
+no_array s b none (Group g, is, kind) = true≢false kind
+no_array s b none (Array a, is, kind) = none a is
+
+-- the report on what was checked from a path on
+pub report_is : (s : Contents) (b : Path) (c : PathCheck) → IsPathCheckOf s Default b c → (options : CheckOptions) (rs : List Remark) (tally : Tally) (text : List ℕ)
+    → AreSorted (asked_of options (path_remarks b c)) rs → tally ≡ tally_of options (nodes_from c.from) rs → text ≡ remarks_text options rs → IsReportFrom s b options tally text
+report_is s b c h options rs tally text = by c.from h.from
+  where
+    by : (from : CheckedFrom) → IsCheckedFrom s Default b from → AreSorted (asked_of options (remarks_from b from ++ map remark_of c.above.items)) rs → tally ≡ tally_of options (nodes_from from) rs → text ≡ remarks_text options rs
+        → IsReportFrom s b options tally text
+    by (from.Array found) (m, means, kind, are) sorted numbers is = inl (
+      m,
+      (means, kind),
+      whole_reported s b (IsNodeRemark s b m) (node_remarks b found.items) (node_sound s b m found.items are) (node_complete s b m found.items are) (node_once s b m found.items are)
+          (node_not_above s b m found.items are b) c.above.items h.above options 1 rs tally text sorted numbers is,
+    )
+    by (from.Tree check) (none, checked, findings) sorted numbers is = inr (
+      no_array s b none,
+      (
+        check.nodes,
+        checked.nodes,
+        whole_reported s b (IsRemarkFrom s b) (all s b check checked findings) (sound s b check checked findings) (complete s b check checked findings) (all_once s b check checked findings)
+            (all_not_above s b check checked findings) c.above.items h.above options check.nodes rs tally text sorted numbers is,
+      ),
+    )

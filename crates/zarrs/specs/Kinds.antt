@@ -14,7 +14,7 @@ use Rattle.zarrs_notes.specs.declared.finding.NodeFinding.TheVariants as told
 use Rattle.zarrs_survey.specs.declared.finding.FindingKind.{FindingKind}
 use Rattle.zarrs_survey.specs.declared.finding.FindingKind.TheVariants as found
 use Rattle.zarrs.specs.declared.kind.RemarkKind.{RemarkKind}
-use Rattle.zarrs.specs.declared.kind.RemarkKind.TheVariants.{BadDocument, BadName, NoNode, Orphaned, BadShape, NotOpened, BadBlock, BadKey, Shadowed, OwnKey, OwnAttributes, Differs, Unreachable, Stale, Unreached, Missing, Misplaced, Beside}
+use Rattle.zarrs.specs.declared.kind.RemarkKind.TheVariants.{BadDocument, BadName, NoNode, Orphaned, BadShape, NotOpened, BadBlock, BadKey, Shadowed, OwnKey, OwnAttributes, Differs, Unreachable, Stale, Unreached, Missing, Misplaced, Beside, Alike}
 
 -- the word for a kind
 abbrev pub kind_word : RemarkKind → List ℕ
@@ -36,11 +36,13 @@ kind_word Unreached = codes "unreached"
 kind_word Missing = codes "missing"
 kind_word Misplaced = codes "misplaced"
 kind_word Beside = codes "beside"
+kind_word Alike = codes "alike"
 
--- a note is worth knowing, and no reader goes wrong by it: a block of an array, and a document beside the one that is read
+-- a note is worth knowing, and no reader goes wrong by it: a block of an array, a document beside the one that is read, and names that differ in case alone
 abbrev pub is_note_kind : RemarkKind → Bool
 is_note_kind Misplaced = true
 is_note_kind Beside = true
+is_note_kind Alike = true
 is_note_kind _ = false
 
 -- a node is refused since there is no document, or since that is bad

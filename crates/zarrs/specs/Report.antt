@@ -3,13 +3,17 @@
 -- <https://zarr-specs.readthedocs.io/en/latest/v3/core/index.html#hierarchy>
 -- <https://zarr-specs.readthedocs.io/en/latest/v3/core/index.html#group-metadata>
 -- <https://zarr.readthedocs.io/en/stable/user-guide/consolidated_metadata/>
---     IsRemark s b r      what there is to tell: a path's own fault, what the documents of a node tell, or what is wrong with the block of a group
+--     IsOwnRemark s b r      what there is to tell of a path itself: its own fault, what is lost below it, or what the documents of a node tell
+--     IsAlikeRemark s b r      the name of a node is that of one before it but for case
+--     IsAboveRemark s b r      what the block of a group above b says otherwise from b on
+--     IsRemark s b r      what there is to tell: of a path itself, of names that differ in case alone, or what is wrong with the block of a group at b, below it or above it
 --     IsNodeRemark s p m r      what the documents of one node tell
+--     IsArrayRemark s b m r      what there is to tell of an array: what its documents tell, or the block of a group above it says otherwise
 --     IsAskedFor options told r      what a report tells of what there is to tell: each finding, and each note where notes are asked for
 --     remark_cmp      the order of remarks
 --     IsReport told options n tally text      the text is that of all that is told, each once, in their order
 --     IsReportFrom s b options tally text      the report on what a store has from b on; nothing below an array is looked at
-use Rattle.std.specs.Prelude.{◌≡◌, ◌⊎◌, ℕ, Bool, false, ◌||◌, not, IsTrue, cond, if◌then◌else◌, List, [], ◌++◌, AllPairs, length, Option, Some, None, codes}
+use Rattle.std.specs.Prelude.{◌≡◌, ◌⊎◌, ℕ, Bool, false, ◌||◌, not, IsTrue, cond, if◌then◌else◌, List, [], ◌++◌, AllPairs, length, Some, None, codes}
 use Rattle.std.specs.List.{filter, flat_map}
 use Rattle.std.specs.Option.{option_cmp}
 use Rattle.std.specs.Ordering.{ordering_then}
@@ -29,7 +33,9 @@ use Rattle.zarrs_survey.specs.Surveys.{BadDocuments, BadNames}
 use Rattle.zarrs_notes.specs.FindingTexts.{node_finding_text}
 use Rattle.zarrs_notes.specs.NodeFindings.{IsNodeFinding}
 use Rattle.zarrs_notes.specs.declared.finding.NodeFinding.{NodeFinding}
-use Rattle.zarrs_survey.specs.Checks.{HasNode, IsBlockFinding, IsCount, IsNodeTold}
+use Rattle.zarrs_survey.specs.Alike.{IsAlike}
+use Rattle.zarrs_survey.specs.BlocksAbove.{IsAboveFinding}
+use Rattle.zarrs_survey.specs.Checks.{HasNode, HasNodeAt, IsBlockFinding, IsCount, IsNodeTold}
 use Rattle.zarrs_survey.specs.Orphans.{IsCountBelow, IsOrphan}
 use Rattle.zarrs_survey.specs.declared.finding.Finding.{Finding}
 use Rattle.zarrs_folder.specs.PrunedStores.{IsArrayAt}
@@ -37,11 +43,11 @@ use Rattle.zarrs.specs.Escapes.{escaped_line}
 use Rattle.zarrs.specs.Json.{json_text}
 use Rattle.zarrs.specs.Kinds.{kind_word, is_note_kind, error_kind, told_kind, finding_kind, wrong_key}
 use Rattle.zarrs.specs.declared.kind.RemarkKind.{RemarkKind}
-use Rattle.zarrs.specs.declared.kind.RemarkKind.TheVariants.{BadName, Orphaned}
+use Rattle.zarrs.specs.declared.kind.RemarkKind.TheVariants.{Alike, BadName, Orphaned}
 use Rattle.zarrs.specs.declared.remark.Remark.{Remark}
 use Rattle.zarrs.specs.declared.report.Tally.{Tally}
 use Rattle.zarrs.specs.declared.words.CheckOptions.{CheckOptions}
-use Rattle.zarrs.specs.Texts.{document_text, kind_text, name_text, orphan_text}
+use Rattle.zarrs.specs.Texts.{alike_text, document_text, kind_text, name_text, orphan_text}
 
 -- what there is to tell of a path itself
 abbrev pub own_remark : Path → RemarkKind → List ℕ → Remark
@@ -63,6 +69,10 @@ orphan_remark o = own_remark o.0 Orphaned (orphan_text o.1)
 abbrev pub told_remark : Path × NodeFinding → Remark
 told_remark t = own_remark t.0 (told_kind t.1) (node_finding_text t.1)
 
+-- a path whose name is that of another one but for case, with that one
+abbrev pub alike_remark : Path × Path → Remark
+alike_remark t = own_remark t.0 Alike (alike_text t.1 t.0)
+
 -- what is wrong with the block of a group
 abbrev pub remark_of : Finding → Remark
 remark_of f = record { path = f.path; kind = finding_kind f.kind; group = Some f.group; key = wrong_key f.kind; text = kind_text f.group f.kind }
@@ -77,13 +87,29 @@ IsOwnRemark s b r =
     ⊎ ((o : Path × ℕ) × IsOrphan s Default b o × (r ≡ orphan_remark o))
     ⊎ ((t : Path × NodeFinding) × IsNodeTold s Default b t × (r ≡ told_remark t))
 
--- what there is to tell of what a store has at b and below it: of a path itself, or what is wrong with a block
+-- the name of a node is that of one before it but for case
+abbrev pub IsAlikeRemark : Contents → Path → Remark → Type 0
+IsAlikeRemark s b r = (t : Path × Path) × IsAlike (HasNodeAt s Default b) t × (r ≡ alike_remark t)
+
+-- what there is to tell of what a store has at b and below it: of a path itself, of names that differ in case alone, or what is wrong with a block
+abbrev pub IsRemarkFrom : Contents → Path → Remark → Type 0
+IsRemarkFrom s b r = IsOwnRemark s b r ⊎ IsAlikeRemark s b r ⊎ ((f : Finding) × IsBlockFinding s Default b f × (r ≡ remark_of f))
+
+-- what the block of a group above b says otherwise from b on
+abbrev pub IsAboveRemark : Contents → Path → Remark → Type 0
+IsAboveRemark s b r = (f : Finding) × IsAboveFinding s Default b f × (r ≡ remark_of f)
+
+-- what there is to tell from b on, the blocks above it too
 abbrev pub IsRemark : Contents → Path → Remark → Type 0
-IsRemark s b r = IsOwnRemark s b r ⊎ ((f : Finding) × IsBlockFinding s Default b f × (r ≡ remark_of f))
+IsRemark s b r = IsRemarkFrom s b r ⊎ IsAboveRemark s b r
 
 -- what there is to tell of the node at p alone, which has the metadata m
 abbrev pub IsNodeRemark : Contents → Path → NodeMetadata → Remark → Type 0
 IsNodeRemark s p m r = (f : NodeFinding) × IsNodeFinding s p m f × (r ≡ told_remark (p, f))
+
+-- what there is to tell of the array at b, which has the metadata m, the blocks above it too
+abbrev pub IsArrayRemark : Contents → Path → NodeMetadata → Remark → Type 0
+IsArrayRemark s b m r = IsNodeRemark s b m r ⊎ IsAboveRemark s b r
 
 -- a report has the remark: it is a finding, or notes are asked for
 abbrev pub is_asked : Bool → Remark → Bool
@@ -153,7 +179,7 @@ IsArrayOf s b m = (meaning s Default b ≡ node m) × (is_group m ≡ false)
 
 -- the report on the array at b: it is one node, and nothing below it is looked at
 abbrev pub IsArrayReport : Contents → Path → CheckOptions → Tally → List ℕ → Type 0
-IsArrayReport s b options tally text = (m : NodeMetadata) × IsArrayOf s b m × IsReport (IsNodeRemark s b m) options 1 tally text
+IsArrayReport s b options tally text = (m : NodeMetadata) × IsArrayOf s b m × IsReport (IsArrayRemark s b m) options 1 tally text
 
 -- the report on all that a store has at b and below it
 abbrev pub IsWholeReport : Contents → Path → CheckOptions → Tally → List ℕ → Type 0

@@ -3,14 +3,16 @@ use Rattle.std.specs.Prelude.{ℕ, List, [], ◌∷◌, ◌++◌, map, zip, Resu
 use Rattle.std.specs.List.{filter}
 use Rattle.std.specs.List.Sorted.{IsPermutation, IsSorted}
 use Rattle.zarrs_path.specs.Paths.{Path}
-use Rattle.zarrs_block.specs.ErrorTexts.{error_text}
 use Rattle.zarrs_block.specs.declared.node_create_error.NodeCreateError.{NodeCreateError}
 use Rattle.zarrs_notes.specs.declared.finding.NodeFinding.{NodeFinding}
 use Rattle.zarrs_survey.specs.declared.check.Check.{Check}
+use Rattle.zarrs_survey.specs.declared.path_check.CheckedFrom.{CheckedFrom}
+use Rattle.zarrs_survey.specs.declared.path_check.CheckedFrom.TheVariants.{Array, Tree}
+use Rattle.zarrs_survey.specs.declared.path_check.PathCheck.{PathCheck}
 use Rattle.zarrs.specs.declared.remark.Remark.{Remark}
 use Rattle.zarrs.specs.declared.kind.RemarkKind.TheVariants.{BadName}
 use Rattle.zarrs.specs.declared.words.CheckOptions.{CheckOptions}
-use Rattle.zarrs.specs.Report.{own_remark, error_remark, document_remark, is_asked, orphan_remark, remark_cmp, remark_of, told_remark}
+use Rattle.zarrs.specs.Report.{alike_remark, own_remark, error_remark, document_remark, is_asked, orphan_remark, remark_cmp, remark_of, told_remark}
 use Rattle.zarrs.specs.Texts.{name_text}
 
 -- the fault of the base, where it has one
@@ -37,9 +39,23 @@ own_remarks c =
 abbrev pub node_remarks : Path → List NodeFinding → List Remark
 node_remarks p found = map (λ f. told_remark (p, f)) found
 
--- the own faults of paths, and what there is to tell of blocks
+-- the own faults of paths, the names that differ in case alone, and what there is to tell of blocks
 abbrev pub all_remarks : Check → List Remark
-all_remarks c = own_remarks c ++ map remark_of c.findings.items
+all_remarks c = (own_remarks c ++ map alike_remark c.alike.items) ++ map remark_of c.findings.items
+
+-- how many nodes there are from a path on: an array is one
+abbrev pub nodes_from : CheckedFrom → ℕ
+nodes_from (Array found) = 1
+nodes_from (Tree c) = c.nodes
+
+-- what there is to tell from a path on
+abbrev pub remarks_from : Path → CheckedFrom → List Remark
+remarks_from b (Array found) = node_remarks b found.items
+remarks_from b (Tree c) = all_remarks c
+
+-- and the blocks above it
+abbrev pub path_remarks : Path → PathCheck → List Remark
+path_remarks b c = remarks_from b c.from ++ map remark_of c.above.items
 
 -- those that a report has
 abbrev pub asked_of : CheckOptions → List Remark → List Remark

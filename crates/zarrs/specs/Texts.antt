@@ -4,10 +4,12 @@
 -- <https://zarr.readthedocs.io/en/stable/user-guide/consolidated_metadata/>
 --     name_text p      the text which says that the last name of p is none
 --     document_text e n, orphan_text n      what there is to tell of a bad document, and of a path without one, where n paths below it have a document
+--     alike_text o p      what there is to tell of p, where the name of o differs from its name in case alone
 --     kind_text g kind      what there is to tell of the block of the group g
 --     tally_text tally      how much a check looked at and found
 use Rattle.std.specs.Prelude.{ℕ, ◌==◌, List, [], ◌++◌, Option, Some, None, if◌then◌else◌, codes, decimal}
 use Rattle.zarrs_fault.specs.FaultTexts.{fault_text}
+use Rattle.zarrs_store.specs.Segments.{last_segment}
 use Rattle.zarrs_path.specs.Paths.{Path, path_text, without_leading_slash}
 use Rattle.zarrs_block.specs.ErrorTexts.{error_text}
 use Rattle.zarrs_block.specs.declared.node_create_error.NodeCreateError.{NodeCreateError}
@@ -30,6 +32,10 @@ document_text e n = error_text e ++ hidden_text n
 -- the text which says that a path has no document, and how many nodes below it are not reached
 abbrev pub orphan_text : ℕ → List ℕ
 orphan_text n = codes "orphaned: it has no document, and " ++ (decimal n ++ codes " nodes below it are not reached")
+
+-- the text which says that the names of two paths differ in case alone
+abbrev pub alike_text : Path → Path → List ℕ
+alike_text o p = codes "alike: " ++ (last_segment o ++ (codes " and " ++ (last_segment p ++ codes " differ in case alone")))
 
 -- the text which says that a key is no relative path
 abbrev pub bad_key_text : Path → List ℕ → List ℕ

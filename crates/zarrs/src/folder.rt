@@ -1,8 +1,8 @@
 //! A word over a folder: what it asks of the folder, and no more, is loaded first.
-ghost use Rattle.std.specs.Prelude.{◌≡◌, ◌≢◌, false, None, Some, IfOk, IfErr, map, string_bytes};
+ghost use Rattle.std.specs.Prelude.{◌≡◌, ◌≢◌, false, None, Some, IfOk, IfErr, Contains, map, string_bytes};
 ghost use Rattle.std.specs.Io.KnownBytes.{Keeps};
 ghost use Rattle.zarrs_store.specs.Contents.{Values};
-ghost use Rattle.zarrs_path.specs.Paths.{IsPath};
+ghost use Rattle.zarrs_path.specs.Paths.{IsBelow, IsParent, IsPath, Path};
 ghost use Rattle.zarrs_meta.specs.declared.node.GroupMetadata.{GroupMetadata};
 ghost use Rattle.zarrs_meta.specs.declared.node.NodeMetadata.TheVariants.{Group};
 ghost use Rattle.zarrs_config.specs.declared.version.MetadataRetrieveVersion.TheVariants.{Default};
@@ -10,14 +10,14 @@ ghost use Rattle.zarrs_block.specs.Meaning.{meaning, node};
 ghost use Rattle.zarrs_node.specs.OpeningNodes.{choice};
 ghost use Rattle.zarrs_folder.specs.Folders.{in_any, values_of};
 ghost use Rattle.zarrs_folder.specs.Openings.{OpenSame};
-ghost use Rattle.zarrs_folder.specs.PrunedStores.{IsArrayAt, IsLoadedFrom};
+ghost use Rattle.zarrs_folder.specs.PrunedStores.{IsLoadedFrom};
 ghost use Rattle.zarrs.specs.Output.{IsWordText, WritesOverEach, WritesOverSome};
 ghost use Rattle.zarrs.specs.Refusals.{RefusesFolder, RefusesOverEach, RefusesOverSome};
-ghost use Rattle.zarrs_survey.specs.declared.check.Check.{Check};
-ghost use Rattle.zarrs.specs.StepsOfRuns.{IsAnswerFault, IsCheckFrom, IsCheckable, IsChecked, IsEnough, IsFaultOfEach, IsFaultOfSome, IsWrittenOfEach, IsWrittenOfSome, has_more, is_stale, loaded_store, passed_paths, stale_among, stale_paths};
+ghost use Rattle.zarrs_survey.specs.PathChecks.{IsPathCheckOf};
+ghost use Rattle.zarrs.specs.StepsOfRuns.{HoldsAbove, IsAnswerFault, IsCheckable, IsChecked, IsEnough, IsFaultOfEach, IsFaultOfSome, IsWrittenOfEach, IsWrittenOfSome, has_more, has_more_from, is_stale, loaded_store, passed_from, passed_paths, stale_among, stale_of, stale_paths};
 
 use crate::fault::ZarrsFault;
-use crate::report::{Tally, array_at, report_of_check};
+use crate::report::{Tally, report_of_check};
 use crate::run::output_of;
 use crate::words::Word;
 use log::Log;
@@ -34,7 +34,7 @@ use zarrs_program::{path_of, write_whole};
 use zarrs_store::{
     AnyNumbers, ListableStorageTraits, MemoryStore, ReadableStorageTraits, StorageError,
 };
-use zarrs_survey::{BadDocuments, Check, Finding, FindingKind};
+use zarrs_survey::{BadDocuments, CheckedFrom, Finding, FindingKind, PathCheck};
 
 /// Loads what a word asks of a folder from a path on, and writes its answer, as [`run_store`] does: of a group whose block is used, and of an array, the documents
 /// at the path only; else what a walk from the path on asks. Documents may hold any number.
@@ -72,7 +72,7 @@ pub fn run_of_folder<L: Log, F: Folder, W: Write>(
 #[derive(Drop)]
 struct Loaded {
     store: AnyNumbers<MemoryStore>,
-    checked: Option<Check>,
+    checked: Option<PathCheck>,
 }
 
 // What a word writes of a folder from a path on.
@@ -109,7 +109,7 @@ fn output_of_loaded<L: Log>(
 {
     match (word, &loaded.checked) {
         (Word::Check(options), Some(checked)) => {
-            let made = report_of_check(alloc, options, checked)?;
+            let made = report_of_check(alloc, options, base, checked)?;
             Ok((Some(made.0), made.1))
         }
         _ => output_of(log, alloc, word, &loaded.store, base),
@@ -140,8 +140,8 @@ fn load_for<F: Folder>(
     })
 }
 
-// What a check looks at: what a walk asks; the documents below the paths at which it goes no further; and those at the entries of blocks to which it
-// does not come. Where there are no such paths and entries, the check of what a walk asks is that of the folder.
+// What a check looks at: what a walk asks; the files of the paths above; the documents below the paths at which a walk goes no further; and those at
+// the entries of blocks to which it does not come. Where there are no such paths and entries, the check of what a walk asks is that of the folder.
 fn load_checked<F: Folder>(
     alloc: Global,
     folder: &mut F,
@@ -152,13 +152,8 @@ fn load_checked<F: Folder>(
     ensures checked { IfOk result (λ loaded. IsChecked loaded base.now) }
     ensures err { IfErr result RefusesFolder }
 {
-    let store = load_nodes(alloc, folder, base)?;
-    let Some(checked) = first_check(alloc, &store, base)? else {
-        return Ok(Loaded {
-            store,
-            checked: None,
-        });
-    };
+    let store = load_walked(alloc, folder, base)?;
+    let checked = first_check(alloc, &store, base)?;
     if !has_more(&checked) {
         return Ok(Loaded {
             store,
@@ -172,37 +167,80 @@ fn load_checked<F: Folder>(
     })
 }
 
-// The check of a store from a path on; none where the path means an array.
+// What a walk from a path on asks, and the files of each path above.
+fn load_walked<F: Folder>(
+    alloc: Global,
+    folder: &mut F,
+    base: &NodePath,
+) -> Result<AnyNumbers<MemoryStore>, ZarrsFault>
+    ensures loaded { IfOk result (λ store. (V : Values) → F.agrees folder.new V
+        → IsLoadedFrom (in_any V) (in_any (values_of store.inner)) base.now) }
+    ensures above { IfOk result (λ store. (V : Values) → F.agrees folder.new V
+        → HoldsAbove (in_any V) (in_any (values_of store.inner)) base.now) }
+    ensures err { IfErr result RefusesFolder }
+{
+    let above = paths_above(alloc, base)?;
+    let store = load_nodes(alloc, folder, base)?;
+    let store = load_paths(alloc, folder, base, &above, store)?;
+    Ok(store)
+}
+
+// Each path above a path.
+fn paths_above(alloc: Global, base: &NodePath) -> Result<Vec<NodePath>, AllocError>
+    ensures { IfOk result (λ paths. (g : Path) → IsBelow g base.now → Contains paths.items g) }
+{
+    let mut paths = Vec::new(alloc);
+    let mut above = parent_of(alloc, base)?;
+    while let Some(path) = above {
+        above = parent_of(alloc, &path)?;
+        paths.push(path)?;
+    }
+    Ok(paths)
+}
+
+// The path without its last name; none for the root.
+fn parent_of(alloc: Global, path: &NodePath) -> Result<Option<NodePath>, AllocError>
+    ensures { IfOk result (IsParent path.now) }
+{
+    match path.parent(alloc) {
+        Ok(parent) => Ok(parent),
+        Err(_) => Err(AllocError),
+    }
+}
+
+// The check of a store from a path on.
 fn first_check<S: ReadableStorageTraits + ListableStorageTraits>(
     alloc: Global,
     store: &S,
     base: &NodePath,
-) -> Result<Option<Check>, ZarrsFault>
-    ensures none { IfOk result
-        (λ checked. checked ≡ None → IsArrayAt (S.contents store.now) base.now) }
-    ensures some { IfOk result (λ checked. (c : Check) → checked ≡ Some c
-        → IsCheckFrom (S.contents store.now) base.now c) }
+) -> Result<PathCheck, ZarrsFault>
+    ensures ok { IfOk result (IsPathCheckOf (S.contents store.now) Default base.now) }
     ensures err { IfErr result (λ fault. fault ≡ ZarrsFault.OutOfMemory) }
 {
     let version = MetadataRetrieveVersion::Default;
-    match array_at(alloc, store, base) {
-        Ok(None) => {}
-        Ok(Some(_)) => return Ok(None),
-        Err(_) => return Err(ZarrsFault::OutOfMemory),
-    }
-    match Check::of_store(&Discard, alloc, store, base, &version) {
-        Ok(checked) => Ok(Some(checked)),
+    match PathCheck::of_store(&Discard, alloc, store, base, &version) {
+        Ok(checked) => Ok(checked),
         Err(_) => Err(ZarrsFault::OutOfMemory),
     }
 }
 
 // Whether more of a folder has to be looked at than what was checked.
-fn has_more(checked: &Check) -> bool
+fn has_more(checked: &PathCheck) -> bool
     ensures { result ≡ has_more checked.now }
 {
-    !checked.ignored.is_empty()
-        || !checked.bad_documents.as_slice().is_empty()
-        || stale_among(&checked.findings) > 0
+    stale_among(&checked.above) > 0 || has_more_from(&checked.from)
+}
+
+// The same of what was checked from the path on.
+fn has_more_from(from: &CheckedFrom) -> bool
+    ensures { result ≡ has_more_from from.now }
+{
+    let CheckedFrom::Tree(check) = from else {
+        return false;
+    };
+    !check.ignored.is_empty()
+        || !check.bad_documents.as_slice().is_empty()
+        || stale_among(&check.findings) > 0
 }
 
 // The number of stale entries among findings.
@@ -220,21 +258,39 @@ fn load_more<F: Folder>(
     alloc: Global,
     folder: &mut F,
     base: &NodePath,
-    checked: Check,
+    checked: PathCheck,
     store: AnyNumbers<MemoryStore>,
 ) -> Result<AnyNumbers<MemoryStore>, ZarrsFault>
     ensures ok { IfOk result (λ more. (V : Values) → F.agrees folder.new V
         → IsLoadedFrom (in_any V) (in_any (values_of store.inner)) base.now
-        → IsCheckFrom (in_any (values_of store.inner)) base.now checked
+        → HoldsAbove (in_any V) (in_any (values_of store.inner)) base.now
+        → IsPathCheckOf (in_any (values_of store.inner)) Default base.now checked
         → IsCheckable (in_any V) (in_any (values_of more.inner)) base.now) }
     ensures before { (V : Values) → F.agrees folder.new V → F.agrees folder.old V }
     ensures err { IfErr result RefusesFolder }
 {
-    let passed = passed_paths(alloc, checked.ignored, &checked.bad_documents)?;
-    let stale = paths_of_stale(alloc, checked.findings)?;
+    let (passed, stale) = paths_of_more(alloc, checked)?;
     let store = load_passed(alloc, folder, base, &passed, store)?;
     let store = load_paths(alloc, folder, base, &stale, store)?;
     Ok(store)
+}
+
+// The paths at which a walk goes no further, and those of stale entries.
+fn paths_of_more(
+    alloc: Global,
+    checked: PathCheck,
+) -> Result<(Vec<NodePath>, Vec<NodePath>), AllocError>
+    ensures passed { IfOk result (λ paths. paths.0.items ≡ passed_from checked.from) }
+    ensures stale { IfOk result (λ paths. paths.1.items ≡ stale_of checked) }
+{
+    let PathCheck { from, above } = checked;
+    let mut stale = paths_of_stale(alloc, above)?;
+    let CheckedFrom::Tree(check) = from else {
+        return Ok((Vec::new(alloc), stale));
+    };
+    let passed = passed_paths(alloc, check.ignored, &check.bad_documents)?;
+    stale.append(&mut paths_of_stale(alloc, check.findings)?)?;
+    Ok((passed, stale))
 }
 
 // The paths at which a walk goes no further: those without documents, and those whose documents are bad.

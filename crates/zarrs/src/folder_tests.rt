@@ -157,8 +157,8 @@ const OF_FOLDER: &[(&[&str], &str, &str, u8)] = &[
     (&["check", FOLDER, "/a"], REPORT, IGNORED_BELOW, 1),
     (
         &["check", FOLDER, "/a/b"],
-        "/a/b: Metadata is missing for /a/b\n",
-        "zarrs: 0 nodes, 1 finding\n",
+        "/a/b: Metadata is missing for /a/b\n/a/b: stale: the block of /a has it, and the store has not\n",
+        "zarrs: 0 nodes, 2 findings\n",
         1,
     ),
     (
@@ -289,6 +289,11 @@ fn a_store_a_level_below_is_named(rt: HostRuntime) {
     fs::remove_dir_all(&rt, OUTER).expect(&rt, "a folder");
 }
 
+// The entries of a block: a group that stands there, an array with other metadata, and groups below an array, below a bad document, below no
+// document, and nowhere.
+const BLOCK_ABOVE: &str =
+    r#""a":{"node_type":"group","zarr_format":3},"a/b":{"node_type":"group","zarr_format":3},"a/b/c":{"node_type":"group","zarr_format":3},"bad":{"node_type":"group","zarr_format":3},"bad/below":{"node_type":"group","zarr_format":3},"none":{"node_type":"group","zarr_format":3},"none/inner":{"node_type":"group","zarr_format":3},"none/old":{"node_type":"group","zarr_format":3},"x":{"node_type":"group","zarr_format":3},"x/y":{"node_type":"group","zarr_format":3}"#;
+
 // What a word writes of a store from a path on, and why it is refused, as one text.
 fn of_store(alloc: Global, image: &str, word: Word, path: &str) -> Option<String> {
     let mut reader = image.as_bytes();
@@ -335,7 +340,7 @@ fn a_folder_has_the_answers_of_the_whole_store(rt: HostRuntime) {
         ("v/.zgroup", r#"{"zarr_format":2}"#),
         ("v/.zmetadata", "{}"),
     ];
-    let blocks = [("zarr.json", r#""a":{"node_type":"group","zarr_format":3}"#)];
+    let blocks = [("zarr.json", BLOCK_ABOVE)];
     let image = image_of(rt.alloc(), &documents, &blocks).expect(&rt, "memory");
     let paths = [
         "/",
@@ -346,8 +351,11 @@ fn a_folder_has_the_answers_of_the_whole_store(rt: HostRuntime) {
         "/bad/below",
         "/named",
         "/none",
+        "/none/inner",
+        "/none/old",
         "/v",
         "/x",
+        "/x/y",
         "x",
     ];
     for path in paths {

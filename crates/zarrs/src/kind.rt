@@ -45,6 +45,8 @@ pub enum RemarkKind {
     Misplaced,
     /// A document is not read, since another stands beside it.
     Beside,
+    /// The names of two nodes of a group differ in case alone.
+    Alike,
 }
 
 impl RemarkKind {
@@ -73,6 +75,7 @@ impl RemarkKind {
             RemarkKind::Missing => "missing",
             RemarkKind::Misplaced => "misplaced",
             RemarkKind::Beside => "beside",
+            RemarkKind::Alike => "alike",
         }
     }
 
@@ -82,6 +85,9 @@ impl RemarkKind {
     pub fn is_note(self) -> bool
         ensures { result ≡ is_note_kind self }
     {
-        matches!(self, RemarkKind::Misplaced | RemarkKind::Beside)
+        matches!(
+            self,
+            RemarkKind::Misplaced | RemarkKind::Beside | RemarkKind::Alike
+        )
     }
 }

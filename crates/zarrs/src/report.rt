@@ -2,22 +2,18 @@
 ghost use Rattle.std.specs.Prelude.{◌≡◌, ◌++◌, None, Some, IfOk, IfErr, OnOk, filter, map, string_bytes};
 ghost use Rattle.zarrs_block.specs.Refusals.{IsExcused};
 ghost use Rattle.zarrs_store.specs.Contents.{Contents};
-ghost use Rattle.zarrs_path.specs.Paths.{IsPath, Path};
 ghost use Rattle.zarrs_config.specs.declared.version.MetadataRetrieveVersion.TheVariants.{Default};
-ghost use Rattle.zarrs_meta.specs.declared.node.NodeMetadata.{NodeMetadata};
-ghost use Rattle.zarrs_survey.specs.Checks.{AreBlockFindings, IsCheckOf};
-ghost use Rattle.zarrs_survey.specs.StepsOfSurveys.{is_of_node};
-ghost use Rattle.zarrs_folder.specs.PrunedStores.{IsArrayAt};
+ghost use Rattle.zarrs_survey.specs.PathChecks.{IsPathCheckOf};
 ghost use Rattle.zarrs.specs.Kinds.{error_kind, finding_kind, told_kind, wrong_key};
-ghost use Rattle.zarrs.specs.Report.{IsArrayOf, IsNodeRemark, IsReport, IsReportFrom, IsWholeReport, error_remark, findings_among, is_asked, document_remark, line_of, notes_among, orphan_remark, own_remark, remark_of, remarks_text, report_text, tally_of, told_remark};
-ghost use Rattle.zarrs.specs.StepsOfReports.{AreSorted, all_remarks, asked_of, base_remarks, document_remarks, name_remark, node_remarks, own_remarks};
+ghost use Rattle.zarrs.specs.Report.{IsReportFrom, alike_remark, error_remark, findings_among, is_asked, document_remark, line_of, notes_among, orphan_remark, own_remark, remark_of, remarks_text, report_text, tally_of, told_remark};
+ghost use Rattle.zarrs.specs.StepsOfReports.{AreSorted, all_remarks, asked_of, base_remarks, document_remarks, name_remark, node_remarks, nodes_from, own_remarks, remarks_from};
 ghost use Rattle.zarrs.specs.Texts.{tally_text};
 
 use crate::escapes::push_line;
 use crate::kind::RemarkKind;
 use crate::remark::{Remark, cmp_remarks};
 use crate::remarks_json::json_text;
-use crate::texts::{document_text, kind_text, name_text, orphan_text};
+use crate::texts::{alike_text, document_text, kind_text, name_text, orphan_text};
 use crate::words::CheckOptions;
 use log::Log;
 use std::alloc::{AllocError, Global};
@@ -25,12 +21,10 @@ use std::fmt;
 use zarrs_block::NodeCreateError;
 use zarrs_config::MetadataRetrieveVersion;
 use zarrs_form::Text;
-use zarrs_meta::NodeMetadata;
-use zarrs_node::Node;
-use zarrs_notes::{NodeFinding, node_findings};
+use zarrs_notes::NodeFinding;
 use zarrs_path::NodePath;
-use zarrs_store::{ListableStorageTraits, ReadableStorageTraits, StorageError, StorePrefix};
-use zarrs_survey::{Check, Finding, FindingKind};
+use zarrs_store::{ListableStorageTraits, ReadableStorageTraits, StorePrefix};
+use zarrs_survey::{Check, CheckedFrom, Finding, FindingKind, PathCheck};
 
 /// How much a check looked at and found.
 ///
@@ -64,7 +58,8 @@ impl fmt::Display for Tally {
     }
 }
 
-/// The report on what a store has at a path and below it. Nothing below an array is looked at: it is one node.
+/// The report on what a store has at a path and below it, and on what the blocks of the groups above the path say otherwise. Nothing below an array is
+/// looked at: it is one node.
 ///
 /// # Errors
 /// `StorageError::Fault` of a store that can fail, and `OutOfMemory`.
@@ -81,62 +76,42 @@ pub fn report<L: Log, S: ReadableStorageTraits + ListableStorageTraits>(
         IsReportFrom (S.contents store.now) base.now options made.0 (string_bytes made.1)) }
     ensures excused { IfErr result (IsExcused (S.can_fail store.now)) }
 {
-    match array_at(alloc, store, base)? {
-        Some(metadata) => report_of_node(alloc, options, store, base, &metadata),
-        None => report_from(log, alloc, options, store, base),
-    }
+    let version = MetadataRetrieveVersion::Default;
+    let checked = PathCheck::of_store(log, alloc, store, base, &version)?;
+    let made = report_of_check(alloc, options, base, &checked)?;
+    Ok(made)
 }
 
-/// The metadata of the array that a path means, if it means one.
-pub(crate) fn array_at<S: ReadableStorageTraits>(
-    alloc: Global,
-    store: &S,
-    base: &NodePath,
-) -> Result<Option<NodeMetadata>, NodeCreateError>
-    ensures yes { IfOk result (λ found. (m : NodeMetadata) → found ≡ Some m
-        → IsArrayOf (S.contents store.now) base.now m) }
-    ensures no { IfOk result
-        (λ found. found ≡ None → IsArrayAt (S.contents store.now) base.now → ⊥) }
-    ensures excused { IfErr result (IsExcused (S.can_fail store.now)) }
-{
-    match Node::get_metadata(alloc, store, base, &MetadataRetrieveVersion::Default) {
-        Ok(metadata) if metadata.is_group() => Ok(None),
-        Ok(metadata) => Ok(Some(metadata)),
-        Err(refusal) if is_of_node(&refusal) => Ok(None),
-        Err(refusal) => Err(refusal),
-    }
-}
-
-// Whether a refusal says something of the node: that there is none, or that its document is bad.
-fn is_of_node(refusal: &NodeCreateError) -> bool
-    ensures { result ≡ is_of_node refusal.now }
-{
-    matches!(
-        refusal,
-        NodeCreateError::MissingMetadata(_)
-            | NodeCreateError::MetadataVersionMismatch
-            | NodeCreateError::StorageError(StorageError::InvalidMetadata(_, _))
-    )
-}
-
-// The report on one node by its own documents.
-fn report_of_node<S: ReadableStorageTraits>(
+/// The report on what was checked from a path on.
+pub(crate) fn report_of_check(
     alloc: Global,
     options: CheckOptions,
-    store: &S,
-    path: &NodePath,
-    metadata: &NodeMetadata,
-) -> Result<(Tally, String), NodeCreateError>
-    ensures ok { IfOk result (λ made.
-        IsReport (IsNodeRemark (S.contents store.now) path.now metadata.now)
-        options 1 made.0 (string_bytes made.1)) }
-    ensures excused { IfErr result (IsExcused (S.can_fail store.now)) }
+    base: &NodePath,
+    checked: &PathCheck,
+) -> Result<(Tally, String), AllocError>
+    ensures { IfOk result (λ made. (s : Contents) → IsPathCheckOf s Default base.now checked.now
+        → IsReportFrom s base.now options made.0 (string_bytes made.1)) }
 {
-    let found = node_findings(alloc, store, path, metadata)?;
-    let mut remarks = node_remarks(alloc, path, &found)?;
+    let (nodes, mut remarks) = remarks_from(alloc, base, &checked.from)?;
+    add_findings(alloc, &checked.above, &mut remarks)?;
     arrange(options, &mut remarks)?;
-    let made = made_of(alloc, options, 1, remarks)?;
+    let made = made_of(alloc, options, nodes, remarks)?;
     Ok(made)
+}
+
+// The number of nodes from a path on, and what there is to tell of them.
+fn remarks_from(
+    alloc: Global,
+    base: &NodePath,
+    from: &CheckedFrom,
+) -> Result<(usize, Vec<Remark>), AllocError>
+    ensures nodes { IfOk result (λ told. told.0 ≡ nodes_from from.now) }
+    ensures remarks { IfOk result (λ told. told.1.items ≡ remarks_from base.now from.now) }
+{
+    match from {
+        CheckedFrom::Array(found) => Ok((1, node_remarks(alloc, base, found)?)),
+        CheckedFrom::Tree(check) => Ok((check.nodes, all_remarks(alloc, check)?)),
+    }
 }
 
 // What the documents of one node tell.
@@ -152,41 +127,6 @@ fn node_remarks(
         remarks.push(told_remark(alloc, path, finding)?)?;
     }
     Ok(remarks)
-}
-
-// The report on what a store has at a path and below it.
-fn report_from<L: Log, S: ReadableStorageTraits + ListableStorageTraits>(
-    log: &L,
-    alloc: Global,
-    options: CheckOptions,
-    store: &S,
-    base: &NodePath,
-) -> Result<(Tally, String), NodeCreateError>
-    ensures ok { IfOk result (λ made.
-        IsWholeReport (S.contents store.now) base.now options made.0 (string_bytes made.1)) }
-    ensures excused { IfErr result (IsExcused (S.can_fail store.now)) }
-{
-    let version = MetadataRetrieveVersion::Default;
-    let checked = Check::of_store(log, alloc, store, base, &version)?;
-    let made = report_of_check(alloc, options, &checked)?;
-    Ok(made)
-}
-
-/// The report on what was checked.
-pub(crate) fn report_of_check(
-    alloc: Global,
-    options: CheckOptions,
-    checked: &Check,
-) -> Result<(Tally, String), AllocError>
-    ensures { IfOk result (λ made. (s : Contents) (b : Path)
-        → IsCheckOf s Default b checked.now
-        → AreBlockFindings s Default b checked.now.findings.items
-        → IsWholeReport s b options made.0 (string_bytes made.1)) }
-{
-    let mut remarks = all_remarks(alloc, checked)?;
-    arrange(options, &mut remarks)?;
-    let made = made_of(alloc, options, checked.nodes, remarks)?;
-    Ok(made)
 }
 
 // The numbers and the text of what was told of so many nodes.
@@ -252,6 +192,7 @@ fn all_remarks(alloc: Global, checked: &Check) -> Result<Vec<Remark>, AllocError
     ensures { IfOk result (λ remarks. remarks.items ≡ all_remarks checked.now) }
 {
     let mut remarks = own_remarks(alloc, checked)?;
+    add_alike(alloc, &checked.alike, &mut remarks)?;
     add_findings(alloc, &checked.findings, &mut remarks)?;
     Ok(remarks)
 }
@@ -410,6 +351,29 @@ fn add_told(
         remarks.push(told_remark(alloc, path, finding)?)?;
     }
     Ok(())
+}
+
+// Puts the nodes whose names differ in case alone behind the other remarks.
+fn add_alike(
+    alloc: Global,
+    alike: &[(NodePath, NodePath)],
+    remarks: &mut Vec<Remark>,
+) -> Result<(), AllocError>
+    ensures { OnOk result
+        (remarks.new.items ≡ remarks.old.items ++ map alike_remark alike.now) }
+{
+    for (path, before) in alike {
+        remarks.push(alike_remark(alloc, path, before)?)?;
+    }
+    Ok(())
+}
+
+// The remark on a path whose name is that of another one but for case.
+fn alike_remark(alloc: Global, path: &NodePath, before: &NodePath) -> Result<Remark, AllocError>
+    ensures { IfOk result (λ remark. remark ≡ alike_remark (path.now, before.now)) }
+{
+    let text = alike_text(alloc, before, path)?;
+    Ok(own_remark(path.to_prefix(alloc)?, RemarkKind::Alike, text))
 }
 
 // The remark on what the documents of a node tell.

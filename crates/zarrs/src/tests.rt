@@ -459,8 +459,8 @@ const ORDERS: &[Row] = &[
         documents: &[],
         blocks: &[("a/zarr.json", X), ("zarr.json", A_AND_X)],
         path: "/a",
-        output: "/a/x: stale: the block of /a has it, and the store has not\n",
-        errors: "zarrs: 1 node, 1 finding\n",
+        output: "/a/x: stale: the block of / has it, and the store has not\n/a/x: stale: the block of /a has it, and the store has not\n",
+        errors: "zarrs: 1 node, 2 findings\n",
         status: 1,
     },
     Row {

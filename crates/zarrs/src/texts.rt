@@ -46,6 +46,17 @@ pub fn orphan_text(alloc: Global, nodes: usize) -> Result<String, AllocError>
     format!(in alloc; "orphaned: it has no document, and {nodes} nodes below it are not reached")
 }
 
+/// That the name of a path is that of another one but for case, with both.
+pub fn alike_text(alloc: Global, before: &NodePath, path: &NodePath) -> Result<String, AllocError>
+    ensures { IfOk result (λ text. string_bytes text ≡ texts.alike_text before.now path.now) }
+{
+    let before = before.to_prefix(alloc)?;
+    let path = path.to_prefix(alloc)?;
+    let name = before.name();
+    let other = path.name();
+    format!(in alloc; "alike: {name} and {other} differ in case alone")
+}
+
 /// What there is to tell of the block of a group, with the group's path.
 pub fn kind_text(alloc: Global, group: &NodePath, kind: &FindingKind) -> Result<String, AllocError>
     ensures { IfOk result (λ text. string_bytes text ≡ texts.kind_text group.now kind.now) }

@@ -195,3 +195,126 @@ const UNREACHED: &[Told] = &[
 fn what_no_listing_reaches_is_told(rt: HostRuntime) {
     assert_told(&rt, UNREACHED);
 }
+
+// A block of two levels, and one of the level below.
+const UPPER: &str =
+    r#"{"consolidated_metadata":{"kind":"inline","metadata":{"a":{"node_type":"group","zarr_format":3},"a/old":{"node_type":"group","zarr_format":3},"b":{"node_type":"group","zarr_format":3},"t":{"node_type":"group","zarr_format":3},"t/c":{"node_type":"group","zarr_format":3}},"must_understand":false},"node_type":"group","zarr_format":3}"#;
+
+const LOWER: &str =
+    r#"{"consolidated_metadata":{"kind":"inline","metadata":{"stale":{"node_type":"group","zarr_format":3}},"must_understand":false},"node_type":"group","zarr_format":3}"#;
+
+// A store with both.
+const TWO_BLOCKS: &[(&str, &str)] = &[
+    ("zarr.json", UPPER),
+    ("a/zarr.json", LOWER),
+    ("a/new/zarr.json", GROUP),
+    ("t/zarr.json", ARRAY),
+    ("t/c/zarr.json", GROUP),
+];
+
+// From each path on: the block above it says something else, the block of the path itself, and both.
+const BLOCKS_ABOVE: &[Told] = &[
+    Told {
+        word: CHECK,
+        documents: TWO_BLOCKS,
+        path: "/a",
+        output: "/a/new: missing: the block of / has no entry of it\n/a/new: missing: the block of /a has no entry of it\n/a/old: stale: the block of / has it, and the store has not\n/a/stale: stale: the block of /a has it, and the store has not\n",
+        errors: "zarrs: 2 nodes, 4 findings\n",
+        status: 1,
+    },
+    Told {
+        word: CHECK,
+        documents: TWO_BLOCKS,
+        path: "/a/new",
+        output: "/a/new: missing: the block of / has no entry of it\n/a/new: missing: the block of /a has no entry of it\n",
+        errors: "zarrs: 1 node, 2 findings\n",
+        status: 1,
+    },
+    Told {
+        word: CHECK,
+        documents: TWO_BLOCKS,
+        path: "/t",
+        output: "/t: differs: the block of / has other metadata than the store\n/t/c: unreached: the block of / has it, and a listing does not reach it\n",
+        errors: "zarrs: 1 node, 2 findings\n",
+        status: 1,
+    },
+    Told {
+        word: CHECK,
+        documents: TWO_BLOCKS,
+        path: "/b",
+        output: "/b: Metadata is missing for /b\n/b: stale: the block of / has it, and the store has not\n",
+        errors: "zarrs: 0 nodes, 2 findings\n",
+        status: 1,
+    },
+    Told {
+        word: CHECK,
+        documents: &[("zarr.json", LOWER), ("a/zarr.json", GROUP)],
+        path: "/",
+        output: "/a: missing: the block of / has no entry of it\n/stale: stale: the block of / has it, and the store has not\n",
+        errors: "zarrs: 2 nodes, 2 findings\n",
+        status: 1,
+    },
+];
+
+#[test]
+fn the_blocks_above_a_path_are_told(rt: HostRuntime) {
+    assert_told(&rt, BLOCKS_ABOVE);
+}
+
+// Names that differ in case alone, of nodes at one group and at two.
+const NAMES: &[(&str, &str)] = &[
+    ("zarr.json", GROUP),
+    ("AIR/zarr.json", GROUP),
+    ("Air/zarr.json", GROUP),
+    ("Air/t/zarr.json", GROUP),
+    ("air/zarr.json", GROUP),
+    ("air/T/zarr.json", GROUP),
+    ("wind/0", ""),
+    ("Wind/zarr.json", GROUP),
+];
+
+// Without notes nothing is told of them; with notes each but the first is, with the one before it. What is no node does not count.
+const ALIKE: &[Told] = &[
+    Told {
+        word: CHECK,
+        documents: NAMES,
+        path: "/",
+        output: "",
+        errors: "zarrs: 7 nodes, 0 findings\n",
+        status: 0,
+    },
+    Told {
+        word: NOTES,
+        documents: NAMES,
+        path: "/",
+        output: "note: /Air: alike: AIR and Air differ in case alone\nnote: /air: alike: Air and air differ in case alone\n",
+        errors: "zarrs: 7 nodes, 0 findings, 2 notes\n",
+        status: 0,
+    },
+    Told {
+        word: NOTES_JSON,
+        documents: &[
+            ("zarr.json", GROUP),
+            ("t_1/zarr.json", ARRAY),
+            ("T_1/zarr.json", ARRAY),
+            ("t_2/zarr.json", ARRAY),
+        ],
+        path: "/",
+        output: "[{\"block\":null,\"key\":null,\"kind\":\"alike\",\"path\":\"/t_1\",\"text\":\"alike: T_1 and t_1 differ in case alone\"}]\n",
+        errors: "zarrs: 4 nodes, 0 findings, 1 note\n",
+        status: 0,
+    },
+    Told {
+        word: NOTES,
+        documents: &[("Air/zarr.json", GROUP), ("air/zarr.json", GROUP)],
+        path: "/air",
+        output: "",
+        errors: "zarrs: 1 node, 0 findings, 0 notes\n",
+        status: 0,
+    },
+];
+
+#[test]
+fn names_that_differ_in_case_alone_are_told(rt: HostRuntime) {
+    assert_told(&rt, ALIKE);
+}

@@ -23,8 +23,8 @@ use Rattle.zarrs_node.specs.MapsOfNodes.{StandsFrom}
 use Rattle.zarrs_node.proofs.MapsShown.{same_node}
 use Rattle.zarrs_node.proofs.Order.{contains_cases}
 use Rattle.zarrs_folder.specs.Folders.{in_any, values_of, NoneIsBelow}
-use Rattle.zarrs_folder.specs.PrunedStores.{HasBaseOf, HasNoOtherKeys, HasSameFile, HasSameFiles, IsLoadedFrom, IsPruned, node_files}
-use Rattle.zarrs_folder.specs.StepsOfLoadingNodes.{Grows, IsAhead, IsLoadedButAhead}
+use Rattle.zarrs_folder.specs.PrunedStores.{Grows, HasBaseOf, HasNoOtherKeys, HasSameFile, HasSameFiles, IsLoadedFrom, IsPruned, node_files}
+use Rattle.zarrs_folder.specs.StepsOfLoadingNodes.{IsAhead, IsLoadedButAhead}
 use Rattle.zarrs_folder.proofs.Shown.{last_of, means_same}
 
 -- ---- one key more

@@ -1,6 +1,5 @@
 -- The documents below the paths at which a listing goes no further.
-use Rattle.std.proofs.Common.{◌≡◌, ◌⊎◌, inl, inr, ⊎_elim, ℕ, Bool, true, false, List, [], ◌∷◌, ◌++◌, IsTrue, Contains, true≢false, refl, sym, ap, subst, ◌∙◌, append_assoc, append-nil, arith}
-use Rattle.std.specs.FinMap as map
+use Rattle.std.proofs.Common.{◌≡◌, ◌⊎◌, inl, inr, ⊎_elim, ℕ, Bool, true, false, List, [], ◌∷◌, ◌++◌, Contains, refl, sym, ap, subst, ◌∙◌, append_assoc, append-nil, arith}
 use Rattle.std.proofs.lemmas.List.Elements.{Contains-append_left, Contains-append_right, Contains-push_cases}
 use Rattle.zarrs_store.specs.Segments.{Segments}
 use Rattle.zarrs_store.specs.Contents.{Contents, Values, HasKey, HasBelow, IsChildPrefix}
@@ -20,9 +19,9 @@ use Rattle.zarrs_node.proofs.Walked.{reached_deeper}
 use Rattle.zarrs_path.proofs.NameLemmas.{name_head}
 use Rattle.zarrs_path.proofs.PathTexts.{IsPath-parts}
 use Rattle.zarrs_folder.specs.Folders.{in_any}
-use Rattle.zarrs_folder.specs.PrunedStores.{HasNoOtherKeys, HasSameFile, HasSameFiles, IsLoadedFrom, IsPruned, node_files}
+use Rattle.zarrs_folder.specs.PrunedStores.{Grows, HasNoOtherKeys, HasSameFile, HasSameFiles, IsLoadedFrom, IsPruned, node_files}
 use Rattle.zarrs_folder.specs.PassedPaths.{node_documents, HasSameDocuments, HoldsFilesOf, HoldsBelow, IsPassed, IsBelowArray, PassedHoldSame}
-use Rattle.zarrs_folder.specs.StepsOfLoadingNodes.{Grows, HoldsButAhead, LiesAhead}
+use Rattle.zarrs_folder.specs.StepsOfLoadingNodes.{HoldsButAhead, LiesAhead}
 use Rattle.zarrs_folder.proofs.Loading.{below_kept, child_of, file_cases, grows_further, no_loop, not_below}
 
 -- ---- what was loaded stays

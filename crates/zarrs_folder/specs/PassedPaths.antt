@@ -6,7 +6,7 @@
 --     HoldsFilesOf S L ps      L has the files of each of these paths as S has them
 --     PassedHoldSame      where L has those below all paths that are passed, both have the same documents at each path that is below no array
 use Rattle.std.specs.Prelude.{◌≡◌, ◌⊎◌, ℕ, true, false, List, [], ◌∷◌, ◌++◌, Contains}
-use Rattle.zarrs_store.specs.Contents.{Contents, Values, HasBelow}
+use Rattle.zarrs_store.specs.Contents.{Contents, Values}
 use Rattle.zarrs_path.specs.Paths.{Path, IsPath, IsBelow}
 use Rattle.zarrs_path.specs.Keys.{zarr_json, zarray, zgroup}
 use Rattle.zarrs_meta.specs.Node.{is_group}

@@ -1,5 +1,6 @@
 -- Zarr core specification 3.1, "Hierarchy": what a listing needs of a store.
 -- <https://zarr-specs.readthedocs.io/en/latest/v3/core/index.html#hierarchy>
+--     Grows V L M      M has what L has of V, and may have more of it
 --     HasBaseOf S L b      L has the documents of b as S has them, and no key that S has not
 --     IsPruned S L b      the same of each path reached from b; and a key below each child of a listed path below which S has one
 --     IsLoadedFrom S L b      L has the base of S, and is pruned from it where b means no array
@@ -31,6 +32,12 @@ HasSameFile V W p file = map.get W (p ++ file ∷ []) ≡ map.get V (p ++ file �
 -- both have the same at each of the files of the node p
 abbrev pub HasSameFiles : Values → Values → Path → Type 0
 HasSameFiles V W p = (file : List ℕ) → Contains node_files file → HasSameFile V W p file
+
+-- what is loaded grows from L to M as V has it: no key is another than those of V, every key stays, and so does what is as in V
+pub record Grows (V L M : Values) : Type 0 where
+  pub keys : HasNoOtherKeys V L → HasNoOtherKeys V M
+  pub keeps : (key : Segments) → HasKey L key → HasKey M key
+  pub same : (key : Segments) → map.get L key ≡ map.get V key → map.get M key ≡ map.get V key
 
 -- L has the numbers of S, no key that S has not, and the documents of b as S has them
 pub record HasBaseOf (S L : Contents) (b : Path) : Type 0 where

@@ -1,8 +1,7 @@
 -- Steps of loading: how far a walk is; no public contract rests on them.
 use Rattle.std.specs.Prelude.{◌≡◌, ◌⊎◌, ℕ, true, List, [], ◌∷◌, ◌++◌, Contains}
-use Rattle.std.specs.FinMap as map
 use Rattle.zarrs_store.specs.Segments.{Segments}
-use Rattle.zarrs_store.specs.Contents.{Values, HasKey, HasBelow}
+use Rattle.zarrs_store.specs.Contents.{Values, HasBelow}
 use Rattle.zarrs_path.specs.Paths.{Path, IsBelow}
 use Rattle.zarrs_config.specs.declared.version.MetadataRetrieveVersion.TheVariants.{Default}
 use Rattle.zarrs_block.specs.Meaning.{meaning}
@@ -11,12 +10,6 @@ use Rattle.zarrs_node.specs.MapsOfNodes.{StandsFrom}
 use Rattle.zarrs_folder.specs.Folders.{in_any}
 use Rattle.zarrs_folder.specs.PrunedStores.{HasNoOtherKeys, HasSameFile, node_files}
 use Rattle.zarrs_folder.specs.PassedPaths.{node_documents}
-
--- what is loaded grows from L to M as V has it: no key is another than those of V, every key stays, and so does what is as in V
-pub record Grows (V L M : Values) : Type 0 where
-  pub keys : HasNoOtherKeys V L → HasNoOtherKeys V M
-  pub keeps : (key : Segments) → HasKey L key → HasKey M key
-  pub same : (key : Segments) → map.get L key ≡ map.get V key → map.get M key ≡ map.get V key
 
 -- x is one of the prefixes that are below b, or begins with one
 abbrev pub IsAhead : Path → List Segments → Segments → Type 0

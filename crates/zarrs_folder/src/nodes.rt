@@ -6,8 +6,8 @@ ghost use Rattle.zarrs_meta.specs.Node.{is_group};
 ghost use Rattle.zarrs_config.specs.declared.version.MetadataRetrieveVersion.TheVariants.{Default};
 ghost use Rattle.zarrs_block.specs.Meaning.{meaning, node};
 ghost use Rattle.zarrs_folder.specs.Folders.{in_any, values_of, IsFaultOfFolder};
-ghost use Rattle.zarrs_folder.specs.PrunedStores.{HasBaseOf, HasNoOtherKeys, HasSameFile, HasSameFiles, IsLoadedFrom};
-ghost use Rattle.zarrs_folder.specs.StepsOfLoadingNodes.{Grows, IsLoadedButAhead};
+ghost use Rattle.zarrs_folder.specs.PrunedStores.{Grows, HasBaseOf, HasNoOtherKeys, HasSameFile, HasSameFiles, IsLoadedFrom};
+ghost use Rattle.zarrs_folder.specs.StepsOfLoadingNodes.{IsLoadedButAhead};
 
 use crate::fault::FolderFault;
 use crate::folder::Folder;

@@ -3,8 +3,8 @@ ghost use Rattle.std.specs.Prelude.{◌≡◌, ◌++◌, ◌∷◌, [], IfOk, If
 ghost use Rattle.zarrs_store.specs.Contents.{Values};
 ghost use Rattle.zarrs_folder.specs.Folders.{in_any, values_of, IsFaultOfFolder};
 ghost use Rattle.zarrs_folder.specs.PassedPaths.{HoldsBelow};
-ghost use Rattle.zarrs_folder.specs.PrunedStores.{HasNoOtherKeys, IsLoadedFrom};
-ghost use Rattle.zarrs_folder.specs.StepsOfLoadingNodes.{Grows, HoldsButAhead};
+ghost use Rattle.zarrs_folder.specs.PrunedStores.{Grows, HasNoOtherKeys, IsLoadedFrom};
+ghost use Rattle.zarrs_folder.specs.StepsOfLoadingNodes.{HoldsButAhead};
 
 use crate::fault::FolderFault;
 use crate::folder::Folder;
@@ -30,8 +30,8 @@ pub fn load_passed<F: Folder>(
     ensures ok { IfOk result (λ more. (V : Values) → F.agrees folder.new V
         → IsLoadedFrom (in_any V) (in_any (values_of store.inner)) base.now
         → IsLoadedFrom (in_any V) (in_any (values_of more.inner)) base.now) }
-    ensures keeps { IfOk result (λ more. (V : Values) → F.agrees folder.new V
-        → HasNoOtherKeys (values_of more.inner) (values_of store.inner)) }
+    ensures grows { IfOk result (λ more. (V : Values) → F.agrees folder.new V
+        → Grows V (values_of store.inner) (values_of more.inner)) }
     ensures below { IfOk result (λ more. (V : Values) → F.agrees folder.new V
         → HasNoOtherKeys V (values_of store.inner)
         → HoldsBelow V (values_of more.inner) passed.now) }

@@ -3,8 +3,7 @@ ghost use Rattle.std.specs.Prelude.{IfOk, IfErr, OnOk};
 ghost use Rattle.zarrs_store.specs.Contents.{Values};
 ghost use Rattle.zarrs_folder.specs.Folders.{in_any, values_of, IsFaultOfFolder};
 ghost use Rattle.zarrs_folder.specs.PassedPaths.{HoldsFilesOf};
-ghost use Rattle.zarrs_folder.specs.PrunedStores.{HasNoOtherKeys, HasSameFiles, IsLoadedFrom};
-ghost use Rattle.zarrs_folder.specs.StepsOfLoadingNodes.{Grows};
+ghost use Rattle.zarrs_folder.specs.PrunedStores.{Grows, HasNoOtherKeys, HasSameFiles, IsLoadedFrom};
 
 use crate::fault::FolderFault;
 use crate::folder::Folder;
@@ -29,8 +28,8 @@ pub fn load_paths<F: Folder>(
     ensures ok { IfOk result (λ more. (V : Values) → F.agrees folder.new V
         → IsLoadedFrom (in_any V) (in_any (values_of store.inner)) base.now
         → IsLoadedFrom (in_any V) (in_any (values_of more.inner)) base.now) }
-    ensures keeps { IfOk result (λ more. (V : Values) → F.agrees folder.new V
-        → HasNoOtherKeys (values_of more.inner) (values_of store.inner)) }
+    ensures grows { IfOk result (λ more. (V : Values) → F.agrees folder.new V
+        → Grows V (values_of store.inner) (values_of more.inner)) }
     ensures at { IfOk result (λ more. (V : Values) → F.agrees folder.new V
         → HasNoOtherKeys V (values_of store.inner)
         → HoldsFilesOf V (values_of more.inner) paths.now) }

@@ -1,5 +1,6 @@
 pub mod Above
 pub mod Agreeing
+pub mod AlikeNames
 pub mod Blocks
 pub mod Checking
 pub mod Counting

@@ -24,7 +24,7 @@ use Rattle.zarrs_survey.proofs.Above.{below_or_not}
 use Rattle.zarrs_survey.proofs.Counting.{level_same, document_key, some_document}
 
 -- a test passes or fails
-passes_or_not : (t : Bool) → IsTrue t ⊎ (IsTrue t → ⊥)
+pub passes_or_not : (t : Bool) → IsTrue t ⊎ (IsTrue t → ⊥)
 passes_or_not true = inl refl
 passes_or_not false = inr (λ h. true≢false (sym h))
 

@@ -1,5 +1,5 @@
 -- What a check tells of nodes in the order of their paths is what there is to tell of them, each once.
-use Rattle.std.proofs.Common.{◌≡◌, ◌≢◌, ◌↔◌, inl, inr, ⊎_elim, Bool, List, [], ◌∷◌, ◌++◌, get_or, refl, sym, ap, subst, ◌∙◌, arith, append-nil, append_assoc, Contains, AllPairs, Less, Result, Ok, true}
+use Rattle.std.proofs.Common.{◌≡◌, ◌≢◌, ◌↔◌, inl, inr, ⊎_elim, Bool, List, [], ◌∷◌, ◌++◌, get_or, refl, sym, ap, subst, ◌∙◌, arith, append-nil, append_assoc, Contains, AllPairs, Less, Result, Ok, map, true}
 use Rattle.std.proofs.lemmas.List.Elements.{Contains-append_cases, Contains-append_left, Contains-append_right, Contains-get_or}
 use Rattle.std.proofs.lemmas.List.Kept.{AllPairs-cons}
 use Rattle.zarrs_store.specs.Contents.{Contents, Lists}
@@ -7,10 +7,12 @@ use Rattle.zarrs_path.specs.Paths.{Path, path_cmp}
 use Rattle.zarrs_meta.specs.declared.node.NodeMetadata.{NodeMetadata}
 use Rattle.zarrs_config.specs.declared.version.MetadataRetrieveVersion.{MetadataRetrieveVersion}
 use Rattle.zarrs_block.specs.declared.node_create_error.NodeCreateError.{NodeCreateError}
+use Rattle.zarrs_node.specs.Faults.{PathsAscend}
 use Rattle.zarrs_node.specs.Forest.{pairs}
 use Rattle.zarrs_node.specs.Nodes.{Nodes}
 use Rattle.zarrs_node.specs.Order.{Ascend}
 use Rattle.zarrs_node.specs.Sinks.{TakesAll, TakesForest}
+use Rattle.zarrs_node.proofs.Counted.{contains_map, contains_mapped}
 use Rattle.zarrs_node.proofs.Feeding.{took_more}
 use Rattle.zarrs_node.proofs.Found.{all_pairs_append, all_pairs_first, all_pairs_tail, lists_from}
 use Rattle.zarrs_node.proofs.Graft.{Contains-first, Contains-cons}
@@ -19,7 +21,7 @@ use Rattle.zarrs_node.proofs.Unique.{names_irrefl}
 use Rattle.zarrs_notes.specs.NodeFindings.{AreNodeFindings, ComesBefore, IsNodeFinding}
 use Rattle.zarrs_notes.specs.declared.finding.NodeFinding.{NodeFinding}
 use Rattle.zarrs_notes.proofs.Parts.{not_before_itself}
-use Rattle.zarrs_survey.specs.Checks.{HasNode, IsNodeTold, IsToldBefore}
+use Rattle.zarrs_survey.specs.Checks.{HasNode, HasNodeAt, IsNodeTold, IsToldBefore}
 use Rattle.zarrs_survey.specs.Findings.{Pair}
 use Rattle.zarrs_survey.specs.StepsOfTaking.{Takes, base_nodes}
 use Rattle.zarrs_survey.specs.StepsOfVisits.{TakesVisit, named_findings}
@@ -103,6 +105,15 @@ module _ (s : Contents) (e : Pair) (es : List Pair) (found : List NodeFinding) (
         subst (λ y. IsToldBefore y u) (sym w.2) (inl (all_pairs_first (λ (d y : Pair). path_cmp d.0 y.0 ≡ Less) e es up (u.0, x.0) x.1)));
   }
 
+-- the paths of nodes in their order ascend
+paths_ascend : (es : List Pair) → Ascend es → PathsAscend (map (λ d. d.0) es)
+paths_ascend [] up = λ i j d l m. absurd (omega (arith, m))
+paths_ascend (e ∷ es) up = AllPairs-cons (λ p q. path_cmp p q ≡ Less) e.0 (map (λ d. d.0) es)
+    (λ i d l.
+    let w = contains_mapped (λ (x : Pair). x.0) es (get_or (map (λ (x : Pair). x.0) es) i d) (Contains-get_or (map (λ (x : Pair). x.0) es) i d l) in
+    subst (λ q. path_cmp e.0 q ≡ Less) w.2 (all_pairs_first (λ (d x : Pair). path_cmp d.0 x.0 ≡ Less) e es up w.0 w.1))
+    (paths_ascend es (all_pairs_tail (λ (d x : Pair). path_cmp d.0 x.0 ≡ Less) e es up))
+
 -- ---- each once
 
 -- nothing that is told stands before itself
@@ -142,6 +153,12 @@ module _ {S : Type 0} (contents : S → Contents) (can_fail : S → Bool) where
         tells_more s e es own.0 are w.0 w.2 up,
       )
 
+  -- and their paths were kept behind those of before
+  paths_kept : (k : Visits S) (es : List Pair) (z : Visits S) → TakesAll (TakesVisit contents can_fail) k es z → z.comparisons.outcome ≡ Ok tt → z.paths.items ≡ k.paths.items ++ map (λ d. d.0) es
+  paths_kept k [] z t ok = ap (λ x. x.paths.items) t ∙ sym (append-nil k.paths.items)
+  paths_kept k (e ∷ es) z t ok =
+      paths_kept t.0 es z t.2 ok ∙ ap (λ x. x ++ map (λ d. d.0) es) (t.1.named (fine_before t.0 es z t.2 ok)) ∙ append_assoc k.paths.items (e.0 ∷ []) (map (λ d. d.0) es)
+
   -- of the base and the nodes below it all is told, each once
   module _ (k m z : Visits S) (s : Contents) (v : MetadataRetrieveVersion) (b p : Path) (base : Result NodeMetadata NodeCreateError) (at : p ≡ b) (same : contents k.comparisons.storage.now ≡ s)
       (first : TakesAll (TakesVisit contents can_fail) k (base_nodes p base) m) (walk : TakesForest (TakesVisit contents can_fail) m z b (Nodes s v true b)) where
@@ -170,4 +187,16 @@ module _ {S : Type 0} (contents : S → Contents) (can_fail : S → Bool) where
               ))
               (told_once z.told.items told.ascend),
           told.ascend,
+        )
+
+    -- the paths of the base, where it is a node, and of the nodes below it are kept in their order
+    pub lists_paths : k.paths.items ≡ [] → z.comparisons.outcome ≡ Ok tt → IsBase s v b base → PathsAscend z.paths.items × ((q : Path) → Contains z.paths.items q ↔ HasNodeAt s v b q)
+    lists_paths none ok is =
+        let took = took_more (TakesVisit contents can_fail) k (base_nodes b base) m (pairs walk.trees) z (subst (λ q. TakesAll (TakesVisit contents can_fail) k (base_nodes q base) m) at first) walk.took in
+        let all : z.paths.items ≡ map (λ d. d.0) whole = paths_kept k whole z took ok ∙ ap (λ x. x ++ map (λ d. d.0) whole) none in (
+          subst PathsAscend (sym all) (paths_ascend whole whole_ascend),
+          λ q. (
+            λ h. let w = contains_mapped (λ (d : Pair). d.0) whole q (subst (λ ps. Contains ps q) all h) in subst (HasNodeAt s v b) w.2 (w.0.1, (whole_each is w.0).0 w.1),
+            λ h. subst (λ ps. Contains ps q) (sym all) (contains_map (λ (d : Pair). d.0) whole (q, h.0) ((whole_each is (q, h.0)).1 h.1)),
+          ),
         )

@@ -36,6 +36,7 @@ use Rattle.zarrs_node.specs.Nodes.{Nodes, Ignored}
 use Rattle.zarrs_node.specs.Exists.{HasNodeKey}
 use Rattle.zarrs_notes.specs.NodeFindings.{ComesBefore, IsNodeFinding}
 use Rattle.zarrs_notes.specs.declared.finding.NodeFinding.{NodeFinding}
+use Rattle.zarrs_survey.specs.Alike.{AreAlikeAmong}
 use Rattle.zarrs_survey.specs.Findings.{Pair, IsFinding, Precedes}
 use Rattle.zarrs_survey.specs.Orphans.{IsOrphan, AreHidden}
 use Rattle.zarrs_survey.specs.Surveys.{IsBase, BadDocuments, BadNames}
@@ -134,13 +135,17 @@ abbrev pub IsBaseOutcome : Contents → MetadataRetrieveVersion → Path → Res
 IsBaseOutcome s v b (Ok u) = (m : NodeMetadata) × IsBase s v b (Ok m)
 IsBaseOutcome s v b (Err e) = IsBase s v b (Err e)
 
+-- the base, where it is a node, or a node that a listing finds below it, stands at p
+abbrev pub HasNodeAt : Contents → MetadataRetrieveVersion → Path → Path → Type 0
+HasNodeAt s v b p = (m : NodeMetadata) × HasNode s v b (p, m)
+
 -- n pairs have P
 abbrev pub IsCount : (Pair → Type 0) → ℕ → Type 0
 IsCount P n = (es : List Pair) × Lists P es × (n ≡ length es)
 
 -- Of the store at b and below it the check has exactly these: whether the base is a node or why it is none, the number of the nodes,
 -- the ignored paths, and how many paths with documents are below them, the bad documents, and how many are below them, the bad names, and what there is
--- to tell of nodes by their own documents. What it tells of blocks is said by `AreBlockFindings`.
+-- to tell of nodes by their own documents, and the nodes whose names differ in case alone. What it tells of blocks is said by `AreBlockFindings`.
 pub record IsCheckOf (s : Contents) (v : MetadataRetrieveVersion) (b : Path) (c : Check) : Type 0 where
   pub path : c.path ≡ b
   pub base : IsBaseOutcome s v b c.base
@@ -155,3 +160,4 @@ pub record IsCheckOf (s : Contents) (v : MetadataRetrieveVersion) (b : Path) (c 
   pub bad_names_ascend : PathsAscend c.bad_names.items
   pub told : Lists (IsNodeTold s v b) c.told.items
   pub told_ascend : AllPairs IsToldBefore c.told.items
+  pub alike : AreAlikeAmong (HasNodeAt s v b) c.alike.items

@@ -6,6 +6,8 @@ pub mod StepsOfMerging
 pub mod StepsOfComparisons
 pub mod StepsOfSurveys
 pub mod Orphans
+pub mod Alike
+pub mod StepsOfAlike
 pub mod StepsOfOrphans
 pub mod Checks
 pub mod StepsOfOwnAttributes
@@ -14,4 +16,5 @@ pub mod StepsOfTaking
 pub mod StepsOfVisits
 pub mod BlocksAbove
 pub mod StepsOfBlocksAbove
+pub mod PathChecks
 pub mod Laws

@@ -13,7 +13,9 @@ ghost use Rattle.zarrs_survey.specs.Checks.{AreBlockFindings, IsCheckOf, as_read
 ghost use Rattle.zarrs_node.specs.Exists.{HasNodeKey};
 ghost use Rattle.zarrs_survey.specs.StepsOfChecks.{IsKnownOf, as_known, block_with, block_with_own, compared_bytes, shown_pair};
 ghost use Rattle.zarrs_survey.specs.StepsOfTaking.{AreEnds};
+ghost use Rattle.zarrs_survey.specs.Surveys.{IsBase};
 
+use crate::alike::alike_among;
 use crate::bad_documents::BadDocuments;
 use crate::base::base_of;
 use crate::comparison::Comparison;
@@ -62,12 +64,16 @@ pub struct Check {
     pub findings: Vec<Finding>,
     /// What there is to tell of its nodes by their own documents, each with the path of the node, in the order of paths.
     pub told: Vec<(NodePath, NodeFinding)>,
+    /// Each node whose name is that of another node of its group but for the case of the letters from A to Z, with the last such node before it, in the
+    /// order of paths.
+    pub alike: Vec<(NodePath, NodePath)>,
 }
 
 impl Check {
     /// Checks what a store has at a path and below it, by the documents of a version: looks at it as [`Survey::of_store`] does, and compares the
     /// block of each group with the nodes below it. A version 3 group has its block in the field `consolidated_metadata`, one of version 2 in the
-    /// document `.zmetadata` beside its own. Each node is compared as it comes, and not kept; of a block its entries are held until their turn.
+    /// document `.zmetadata` beside its own; of that it also asks whether it has other attributes of the group itself. Each node is compared as it
+    /// comes, and not kept; of a block its entries are held until their turn.
     ///
     /// # Errors
     ///
@@ -89,12 +95,36 @@ impl Check {
             c.findings.items) }
         ensures excused { IfErr result (IsExcused (S.can_fail storage.now)) }
     {
-        let _valid = path.as_str();
         let base = base_of(alloc, storage, path, version)?;
+        Check::of_base(log, alloc, storage, path, version, base)
+    }
+
+    // The check of what a store has at a path and below it, where it is known what is at the path.
+    pub(crate) fn of_base<L: Log, S: ReadableStorageTraits + ListableStorageTraits>(
+        log: &L,
+        alloc: Global,
+        storage: &S,
+        path: &NodePath,
+        version: &MetadataRetrieveVersion,
+        base: Result<NodeMetadata, NodeCreateError>,
+    ) -> Result<Check, NodeCreateError>
+        requires base { IsBase (S.contents storage.now) version.now path.now base }
+        ensures surveyed { IfOk result
+            (IsCheckOf (S.contents storage.now) version.now path.now) }
+        ensures findings { IfOk result
+            (λ c. AreBlockFindings (S.contents storage.now) version.now path.now
+            c.findings.items) }
+        ensures excused { IfErr result (IsExcused (S.can_fail storage.now)) }
+    {
+        let _valid = path.as_str();
         let mut taken = Visits::new(alloc, storage);
         let base = taken.take_base(path.try_clone(alloc)?, base)?;
         let walked = walk_past_faults(alloc, storage, path, version, &mut taken)?;
-        let Visits { comparisons, told } = taken;
+        let Visits {
+            comparisons,
+            told,
+            paths,
+        } = taken;
         let Comparisons {
             count,
             blocks,
@@ -107,6 +137,7 @@ impl Check {
         let orphans = orphans_of(alloc, storage, &walked.ignored)?;
         let hidden = hidden_below(alloc, storage, &bad_documents)?;
         let findings = finish(alloc, storage, blocks, &bad_documents)?;
+        let alike = alike_among(alloc, &paths)?;
         Ok(Check {
             path: path.try_clone(alloc)?,
             base,
@@ -118,6 +149,7 @@ impl Check {
             bad_names,
             findings,
             told,
+            alike,
         })
     }
 }

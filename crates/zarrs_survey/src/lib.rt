@@ -2,6 +2,7 @@
 //! consolidated block of a group beside it.
 #![tactic(auto)]
 
+mod alike;
 mod bad_documents;
 mod base;
 mod block;
@@ -14,6 +15,7 @@ mod keys;
 pub mod laws;
 mod orphans;
 mod own;
+mod path_check;
 mod survey;
 mod visits;
 
@@ -22,4 +24,5 @@ pub use block::compare_block;
 pub use blocks_above::check_above;
 pub use check::{Check, read_block};
 pub use finding::{Finding, FindingKind};
+pub use path_check::{CheckedFrom, PathCheck};
 pub use survey::Survey;

@@ -1,5 +1,5 @@
 //! What a check does with each node that a walk finds.
-ghost use Rattle.std.specs.Prelude.{◌≡◌, ◌++◌, [], IfErr, IfOk, OnOk};
+ghost use Rattle.std.specs.Prelude.{◌≡◌, ◌++◌, ◌∷◌, [], IfErr, IfOk, OnOk};
 ghost use Rattle.zarrs_store.specs.Faults.{IsStoreError};
 ghost use Rattle.zarrs_node.specs.Sinks.{TakesAll};
 ghost use Rattle.zarrs_survey.specs.StepsOfTaking.{IsNew, base_fault, base_nodes};
@@ -21,6 +21,8 @@ pub(crate) struct Visits<'a, S> {
     pub(crate) comparisons: Comparisons<'a, S>,
     // What there is to tell of the nodes, each with its path, in the order of paths.
     pub(crate) told: Vec<(NodePath, NodeFinding)>,
+    // The paths of the nodes.
+    pub(crate) paths: Vec<NodePath>,
 }
 
 impl<'a, S: ReadableStorageTraits> Visits<'a, S> {
@@ -28,11 +30,13 @@ impl<'a, S: ReadableStorageTraits> Visits<'a, S> {
     pub(crate) fn new(alloc: Global, storage: &'a S) -> Visits<'a, S>
         ensures new { IsNew result.comparisons }
         ensures none { result.told.items ≡ [] }
+        ensures no_paths { result.paths.items ≡ [] }
         ensures storage { result.comparisons.storage.now ≡ storage.now }
     {
         Visits {
             comparisons: Comparisons::new(alloc, storage),
             told: Vec::new(alloc),
+            paths: Vec::new(alloc),
         }
     }
 
@@ -56,16 +60,19 @@ impl<'a, S: ReadableStorageTraits> Visits<'a, S> {
         }
     }
 
-    // Keeps what there is to tell of a node.
+    // Keeps what there is to tell of a node, and its path.
     fn tell(&mut self, path: &NodePath, metadata: &NodeMetadata) -> Result<(), StorageError>
         ensures ok { OnOk result
             (TellsNode (S.contents self.old.comparisons.storage.now) self.old.told.items
             (path.now, metadata.now) self.new.told.items) }
+        ensures named { OnOk result
+            (self.new.paths.items ≡ self.old.paths.items ++ path.now ∷ []) }
         ensures comparisons { self.new.comparisons ≡ self.old.comparisons }
         ensures err { IfErr result (IsStoreError (S.can_fail self.old.comparisons.storage.now)) }
     {
         let alloc = self.comparisons.alloc;
         let found = node_findings(alloc, self.comparisons.storage, path, metadata)?;
+        self.paths.push(path.try_clone(alloc)?)?;
         Ok(put_all(alloc, path, found, &mut self.told)?)
     }
 }

@@ -1,7 +1,4 @@
-use Rattle.zarrs.proofs.Telling.{array_reported}
 use Rattle.zarrs.proofs.report.report.Goals as goal
 
-pub returns-in-Some-clause-ok : goal.returns-in-Some-clause-ok
-returns-in-Some-clause-ok g c =
-    array_reported (g.S.Store.contents c.args.store.now) c.args.base.now c.args.options c.in-Some.metadata c.report_of_node.result (c.in_ok-metadata.ensures.yes c.in-Some.metadata c.in-Some.is)
-    c.report_of_node.ensures.ok
+pub returns-clause-ok : goal.returns-clause-ok
+returns-clause-ok g c = c.in_ok-made.ensures (g.S.Store.contents c.args.store.now) c.in_ok-checked.ensures.ok

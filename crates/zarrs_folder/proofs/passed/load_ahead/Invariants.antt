@@ -1,6 +1,7 @@
 use Rattle.zarrs_store.specs.Contents.{Values}
 use Rattle.zarrs_folder.specs.Folders.{values_of}
-use Rattle.zarrs_folder.specs.StepsOfLoadingNodes.{Grows, HoldsButAhead}
+use Rattle.zarrs_folder.specs.PrunedStores.{Grows}
+use Rattle.zarrs_folder.specs.StepsOfLoadingNodes.{HoldsButAhead}
 use Rattle.zarrs_folder.proofs.passed.load_ahead.Given as goal
 
 abbrev pub invariant-loop-turn : goal.invariant-loop-turn

@@ -1,6 +1,5 @@
-use Rattle.std.proofs.Common.{arith, ◌∙◌, ◌∷◌, ◌++◌, [], ap, subst, sym, take, take_all}
+use Rattle.std.proofs.Common.{arith, ◌∙◌, ◌∷◌, ◌++◌, [], ap, subst, take, take_all}
 use Rattle.zarrs_form.proofs.Shared.{take_next}
-use Rattle.zarrs_path.specs.Paths.{Path}
 use Rattle.zarrs_folder.specs.Folders.{values_of}
 use Rattle.zarrs_folder.specs.PassedPaths.{HoldsBelow}
 use Rattle.zarrs_folder.proofs.Loading.{grows_further}
@@ -28,8 +27,8 @@ loop-path-preserved g c =
 pub returns-clause-ok : goal.returns-clause-ok
 returns-clause-ok g c V agrees loaded = loaded_grows V (values_of c.args.store.inner) (values_of c.loop-path.loaded.inner) c.args.base.now (c.loop-path.invariant.grows V agrees) loaded
 
-pub returns-clause-keeps : goal.returns-clause-keeps
-returns-clause-keeps g c V agrees = (c.loop-path.invariant.grows V agrees).keeps
+pub returns-clause-grows : goal.returns-clause-grows
+returns-clause-grows g c V agrees = c.loop-path.invariant.grows V agrees
 
 pub returns-clause-below : goal.returns-clause-below
 returns-clause-below g c V agrees none = subst (HoldsBelow V (values_of c.loop-path.loaded.inner)) (take_all _ c.args.passed.now (omega arith)) (c.loop-path.invariant.below V agrees none)

@@ -2,8 +2,7 @@ use Rattle.std.proofs.Common.{take}
 use Rattle.zarrs_store.specs.Contents.{Values}
 use Rattle.zarrs_folder.specs.Folders.{values_of}
 use Rattle.zarrs_folder.specs.PassedPaths.{HoldsBelow}
-use Rattle.zarrs_folder.specs.PrunedStores.{HasNoOtherKeys}
-use Rattle.zarrs_folder.specs.StepsOfLoadingNodes.{Grows}
+use Rattle.zarrs_folder.specs.PrunedStores.{Grows, HasNoOtherKeys}
 use Rattle.zarrs_folder.proofs.passed.load_passed.Given as goal
 
 abbrev pub invariant-loop-path : goal.invariant-loop-path

@@ -27,8 +27,8 @@ loop-path-preserved g c =
 pub returns-clause-ok : goal.returns-clause-ok
 returns-clause-ok g c V agrees loaded = loaded_grows V (values_of c.args.store.inner) (values_of c.loop-path.loaded.inner) c.args.base.now (c.loop-path.invariant.grows V agrees) loaded
 
-pub returns-clause-keeps : goal.returns-clause-keeps
-returns-clause-keeps g c V agrees = (c.loop-path.invariant.grows V agrees).keeps
+pub returns-clause-grows : goal.returns-clause-grows
+returns-clause-grows g c V agrees = c.loop-path.invariant.grows V agrees
 
 pub returns-clause-at : goal.returns-clause-at
 returns-clause-at g c V agrees none = subst (HoldsFilesOf V (values_of c.loop-path.loaded.inner)) (take_all _ c.args.paths.now (omega arith)) (c.loop-path.invariant.at V agrees none)
