@@ -1,21 +1,19 @@
 //! The version 2 array.
-ghost use Rattle.std.specs.Prelude.{◌≡◌, [], ◌∷◌, Ok, IfOk, IsTrue, codes, string_bytes};
+ghost use Rattle.std.specs.Prelude.{◌≡◌, Ok, IfOk, IsTrue, string_bytes};
 ghost use Rattle.serde_json.specs.Data.{object, no_members};
 ghost use Rattle.serde_json.specs.View.{view, members_view};
 ghost use Rattle.serde_json.specs.Written.{compact_text};
-ghost use Rattle.zarrs_form.specs.Documents.{Gives, besides, document_in, document_of, of_bytes, optional_member};
+ghost use Rattle.zarrs_form.specs.Documents.{Gives, document_in, document_of, of_bytes};
 ghost use Rattle.zarrs_form.specs.Forms.{put_rows};
-ghost use Rattle.zarrs_form.specs.FormsV2.{separator};
-ghost use Rattle.zarrs_form.specs.declared.chunks.ChunkKeySeparator.TheVariants.{Dot};
 ghost use Rattle.zarrs_meta.specs.ArrayV2.{array_v2_in, array_v2_of, array_v2_rows, array_v2_tree, is_plain_array_v2};
-ghost use Rattle.zarrs_meta.specs.StepsOfReading.{array_v2_taken, array_v2_required, array_v2_required_names, array_v2_optional, array_v2_optional_names, array_v2_with};
+ghost use Rattle.zarrs_meta.specs.StepsOfReading.{array_v2_taken};
 
 use serde_json::{Map, Value, put};
 use std::alloc::{AllocError, Global};
 use zarrs_fault::{MetadataFault, Numbers};
 use zarrs_form::{
     ArrayMetadataV2Order, ChunkKeySeparator, DataTypeMetadataV2, FillValueMetadata, Form, List,
-    MetadataV2, Object, ask_format, attributes, chunk_lengths, document_copy_in, document_in,
+    MetadataV2, Object, Text, ask_format, attributes, chunk_lengths, document_copy_in, document_in,
     has_zero, open_table, optional, parse, put_member, put_unless, required, take_member,
     write_last, write_row, write_unless,
 };
@@ -125,7 +123,7 @@ impl ArrayMetadataV2 {
     /// As [`ArrayMetadataV2::from_members`].
     ///
     /// Source: own; Zarr specification version 2, "Arrays".
-    #[tactic(auto, unfolding(crate::specs::ArrayV2::array_v2_in))]
+    #[tactic(auto, using(crate::proofs::TakenLaws::array_v2_taken_is), unfolding(crate::specs::ArrayV2::array_v2_in))]
     pub fn from_members_in(
         alloc: Global,
         numbers: Numbers,
@@ -141,18 +139,48 @@ impl ArrayMetadataV2 {
         ArrayMetadataV2::take(alloc, members)
     }
 
-    /// Takes the members of the table one by one; those that are left are the additional fields.
-    #[tactic(auto, unfolding(crate::specs::StepsOfReading::array_v2_taken))]
-    fn take(
-        alloc: Global,
-        mut members: Map<String, Value>,
-    ) -> Result<ArrayMetadataV2, MetadataFault>
+    /// The array that the members of a document are, once its format was asked and taken.
+    fn take(alloc: Global, members: Map<String, Value>) -> Result<ArrayMetadataV2, MetadataFault>
         ensures { Gives (λ m. m) result (array_v2_taken (members_view members.entries)) }
     {
-        let required = RequiredMembers::take(alloc, &mut members)?;
-        let optional = OptionalMembers::take(alloc, &mut members)?;
-        let additional_fields = Object::from_map(alloc, members)?;
-        Ok(required.with(optional, additional_fields))
+        let mut array = ArrayMetadataV2::blank(alloc);
+        array.fill(alloc, members)?;
+        Ok(array)
+    }
+
+    /// An array of nothing, which is filled behind a reference: no error on the way has parts of it to drop.
+    pub(crate) fn blank(alloc: Global) -> ArrayMetadataV2 {
+        ArrayMetadataV2 {
+            shape: List::new(Vec::new(alloc)),
+            chunks: List::new(Vec::new(alloc)),
+            dtype: DataTypeMetadataV2::Simple(Text::new(String::new(alloc))),
+            fill_value: FillValueMetadata::new(Value::Null),
+            order: ArrayMetadataV2Order::C,
+            compressor: None,
+            filters: None,
+            dimension_separator: ChunkKeySeparator::Dot,
+            attributes: Object::new(alloc),
+            additional_fields: Object::new(alloc),
+        }
+    }
+
+    /// Takes the members of the table one by one; those that are left are the additional fields.
+    #[tactic(auto, unfolding(crate::specs::StepsOfReading::array_v2_taken))]
+    fn fill(&mut self, alloc: Global, mut members: Map<String, Value>) -> Result<(), MetadataFault>
+        ensures { Gives (λ _. self.new) result (array_v2_taken (members_view members.entries)) }
+    {
+        self.shape = required(alloc, &mut members, "shape")?;
+        self.chunks = chunk_lengths(alloc, &mut members, "chunks")?;
+        self.dtype = required(alloc, &mut members, "dtype")?;
+        self.fill_value = required(alloc, &mut members, "fill_value")?;
+        self.order = required(alloc, &mut members, "order")?;
+        self.compressor = optional(alloc, &mut members, "compressor", None)?;
+        self.filters = optional(alloc, &mut members, "filters", None)?;
+        let dot = ChunkKeySeparator::Dot;
+        self.dimension_separator = optional(alloc, &mut members, "dimension_separator", dot)?;
+        self.attributes = attributes(alloc, &mut members)?;
+        self.additional_fields = Object::from_map(alloc, members)?;
+        Ok(())
     }
 
     /// The array that a JSON value is, whose parts it takes over.
@@ -306,122 +334,4 @@ impl ArrayMetadataV2 {
             && !self.additional_fields.has_float()
             && !self.additional_fields.has_own_member(OWN_NAMES)
     }
-}
-
-/// The members of the table that each array has.
-#[derive(Debug, Drop)]
-pub(crate) struct RequiredMembers {
-    pub(crate) shape: List<u64>,
-    pub(crate) chunks: List<u64>,
-    pub(crate) dtype: DataTypeMetadataV2,
-    pub(crate) fill_value: FillValueMetadata,
-    pub(crate) order: ArrayMetadataV2Order,
-}
-
-/// The members of the table that may be absent.
-#[derive(Debug, Drop)]
-pub(crate) struct OptionalMembers {
-    pub(crate) compressor: Option<MetadataV2>,
-    pub(crate) filters: Option<List<MetadataV2>>,
-    pub(crate) dimension_separator: ChunkKeySeparator,
-    pub(crate) attributes: Object,
-}
-
-impl RequiredMembers {
-    /// Takes the members that each array has, one by one.
-    #[tactic(auto, unfolding(crate::specs::StepsOfReading::array_v2_required))]
-    fn take(
-        alloc: Global,
-        members: &mut Map<String, Value>,
-    ) -> Result<RequiredMembers, MetadataFault>
-        ensures gives { Gives (λ m. m) result
-            (array_v2_required (members_view members.old.entries)) }
-        ensures left { IfOk result
-            (λ _. members_view members.new.entries
-            ≡ besides array_v2_required_names (members_view members.old.entries)) }
-    {
-        Ok(RequiredMembers {
-            shape: required(alloc, members, "shape")?,
-            chunks: chunk_lengths(alloc, members, "chunks")?,
-            dtype: required(alloc, members, "dtype")?,
-            fill_value: required(alloc, members, "fill_value")?,
-            order: required(alloc, members, "order")?,
-        })
-    }
-
-    /// The array of these members, those that may be absent and the additional fields.
-    pub(crate) fn with(
-        self,
-        optional: OptionalMembers,
-        additional_fields: Object,
-    ) -> ArrayMetadataV2
-        ensures { result ≡ array_v2_with self optional additional_fields }
-    {
-        let RequiredMembers {
-            shape,
-            chunks,
-            dtype,
-            fill_value,
-            order,
-        } = self;
-        let OptionalMembers {
-            compressor,
-            filters,
-            dimension_separator,
-            attributes,
-        } = optional;
-        ArrayMetadataV2 {
-            shape,
-            chunks,
-            dtype,
-            fill_value,
-            order,
-            compressor,
-            filters,
-            dimension_separator,
-            attributes,
-            additional_fields,
-        }
-    }
-}
-
-impl OptionalMembers {
-    /// Takes the members that may be absent, one by one.
-    #[tactic(auto, unfolding(crate::specs::StepsOfReading::array_v2_optional))]
-    fn take(
-        alloc: Global,
-        members: &mut Map<String, Value>,
-    ) -> Result<OptionalMembers, MetadataFault>
-        ensures gives { Gives (λ m. m) result
-            (array_v2_optional (members_view members.old.entries)) }
-        ensures left { IfOk result
-            (λ _. members_view members.new.entries
-            ≡ besides array_v2_optional_names (members_view members.old.entries)) }
-    {
-        Ok(OptionalMembers {
-            compressor: optional(alloc, members, "compressor", None)?,
-            filters: optional(alloc, members, "filters", None)?,
-            dimension_separator: dimension_separator(alloc, members)?,
-            attributes: attributes(alloc, members)?,
-        })
-    }
-}
-
-/// Takes the member `dimension_separator`, which is a period where it is absent.
-fn dimension_separator(
-    alloc: Global,
-    members: &mut Map<String, Value>,
-) -> Result<ChunkKeySeparator, MetadataFault>
-    ensures gives { Gives (λ x. x) result
-        (optional_member (codes "dimension_separator") Dot separator
-        (object (members_view members.old.entries))) }
-    ensures left { members_view members.new.entries
-        ≡ besides (codes "dimension_separator" ∷ []) (members_view members.old.entries) }
-{
-    optional(
-        alloc,
-        members,
-        "dimension_separator",
-        ChunkKeySeparator::Dot,
-    )
 }

@@ -1,14 +1,13 @@
 //! The version 3 array.
-ghost use Rattle.std.specs.Prelude.{◌≡◌, [], ◌∷◌, Ok, None, IfOk, IsTrue, codes, string_bytes};
+ghost use Rattle.std.specs.Prelude.{◌≡◌, Ok, IfOk, IsTrue, string_bytes};
 ghost use Rattle.serde_json.specs.Data.{object, no_members};
-ghost use Rattle.serde_json.specs.Find.{as_str};
 ghost use Rattle.serde_json.specs.View.{view, members_view};
 ghost use Rattle.serde_json.specs.Written.{compact_text};
-ghost use Rattle.zarrs_form.specs.Documents.{Gives, besides, document_in, of_bytes, optional_member};
-ghost use Rattle.zarrs_form.specs.Forms.{extension, list_of, nullable, put_rows};
+ghost use Rattle.zarrs_form.specs.Documents.{Gives, document_in, of_bytes};
+ghost use Rattle.zarrs_form.specs.Forms.{put_rows};
 ghost use Rattle.zarrs_meta.specs.ArrayV3.{array_v3_in, array_v3_of, array_v3_rows, array_v3_tree, is_plain_array_v3};
 ghost use Rattle.zarrs_meta.specs.MadeArray.{default_encoding, made_array};
-ghost use Rattle.zarrs_meta.specs.StepsOfReading.{array_v3_taken, array_v3_required, array_v3_required_names, array_v3_optional, array_v3_optional_names, array_v3_with};
+ghost use Rattle.zarrs_meta.specs.StepsOfReading.{array_v3_taken};
 
 use serde_json::{Map, Value, put};
 use std::alloc::{AllocError, Global};
@@ -153,7 +152,7 @@ impl ArrayMetadataV3 {
     }
 
     /// The array that the members of a document are, which has been asked for its numbers.
-    #[tactic(auto, unfolding(crate::specs::ArrayV3::array_v3_in))]
+    #[tactic(auto, using(crate::proofs::TakenLaws::array_v3_taken_is), unfolding(crate::specs::ArrayV3::array_v3_in))]
     pub(crate) fn from_members_in(
         alloc: Global,
         numbers: Numbers,
@@ -169,18 +168,48 @@ impl ArrayMetadataV3 {
         ArrayMetadataV3::take(alloc, members)
     }
 
-    /// Takes the members of the table one by one; those that are left are the additional fields.
-    #[tactic(auto, unfolding(crate::specs::StepsOfReading::array_v3_taken))]
-    fn take(
-        alloc: Global,
-        mut members: Map<String, Value>,
-    ) -> Result<ArrayMetadataV3, MetadataFault>
+    /// The array that the members of a document are, once its format and its node type were asked.
+    fn take(alloc: Global, members: Map<String, Value>) -> Result<ArrayMetadataV3, MetadataFault>
         ensures { Gives (λ m. m) result (array_v3_taken (members_view members.entries)) }
     {
-        let required = RequiredMembers::take(alloc, &mut members)?;
-        let optional = OptionalMembers::take(alloc, &mut members)?;
-        let additional_fields = fields_of(alloc, members, &["zarr_format", "node_type"])?;
-        Ok(required.with(optional, additional_fields))
+        let mut array = ArrayMetadataV3::blank(alloc);
+        array.fill(alloc, members)?;
+        Ok(array)
+    }
+
+    /// An array of nothing, which is filled behind a reference: no error on the way has parts of it to drop.
+    pub(crate) fn blank(alloc: Global) -> ArrayMetadataV3 {
+        ArrayMetadataV3 {
+            shape: List::new(Vec::new(alloc)),
+            data_type: blank_extension(alloc),
+            chunk_grid: blank_extension(alloc),
+            chunk_key_encoding: blank_extension(alloc),
+            fill_value: FillValueMetadata::new(Value::Null),
+            codecs: List::new(Vec::new(alloc)),
+            attributes: Object::new(alloc),
+            storage_transformers: List::new(Vec::new(alloc)),
+            dimension_names: None,
+            additional_fields: AdditionalFieldsV3::new(alloc),
+        }
+    }
+
+    /// Takes the members of the table one by one; those that are left are the additional fields.
+    #[tactic(auto, unfolding(crate::specs::StepsOfReading::array_v3_taken))]
+    fn fill(&mut self, alloc: Global, mut members: Map<String, Value>) -> Result<(), MetadataFault>
+        ensures { Gives (λ _. self.new) result (array_v3_taken (members_view members.entries)) }
+    {
+        self.shape = required(alloc, &mut members, "shape")?;
+        self.data_type = required(alloc, &mut members, "data_type")?;
+        self.chunk_grid = required(alloc, &mut members, "chunk_grid")?;
+        self.chunk_key_encoding = required(alloc, &mut members, "chunk_key_encoding")?;
+        self.fill_value = required(alloc, &mut members, "fill_value")?;
+        self.codecs = required(alloc, &mut members, "codecs")?;
+        self.attributes = attributes(alloc, &mut members)?;
+        let none = List::new(Vec::new(alloc));
+        self.storage_transformers = optional(alloc, &mut members, "storage_transformers", none)?;
+        self.dimension_names = optional(alloc, &mut members, "dimension_names", None)?;
+        self.additional_fields = fields_of(alloc, members, &["zarr_format", "node_type"])?;
+        Ok(())
     }
 
     /// The array that the bytes of a document are.
@@ -323,105 +352,6 @@ impl ArrayMetadataV3 {
     }
 }
 
-/// The members of the table that each array has.
-#[derive(Debug, Drop)]
-pub(crate) struct RequiredMembers {
-    pub(crate) shape: List<u64>,
-    pub(crate) data_type: MetadataV3,
-    pub(crate) chunk_grid: MetadataV3,
-    pub(crate) chunk_key_encoding: MetadataV3,
-    pub(crate) fill_value: FillValueMetadata,
-    pub(crate) codecs: List<MetadataV3>,
-}
-
-/// The members of the table that may be absent.
-#[derive(Debug, Drop)]
-pub(crate) struct OptionalMembers {
-    pub(crate) attributes: Object,
-    pub(crate) storage_transformers: List<MetadataV3>,
-    pub(crate) dimension_names: Option<List<Option<Text>>>,
-}
-
-impl RequiredMembers {
-    /// Takes the members that each array has, one by one.
-    #[tactic(auto, unfolding(crate::specs::StepsOfReading::array_v3_required))]
-    fn take(
-        alloc: Global,
-        members: &mut Map<String, Value>,
-    ) -> Result<RequiredMembers, MetadataFault>
-        ensures gives { Gives (λ m. m) result
-            (array_v3_required (members_view members.old.entries)) }
-        ensures left { IfOk result
-            (λ _. members_view members.new.entries
-            ≡ besides array_v3_required_names (members_view members.old.entries)) }
-    {
-        Ok(RequiredMembers {
-            shape: required(alloc, members, "shape")?,
-            data_type: required(alloc, members, "data_type")?,
-            chunk_grid: required(alloc, members, "chunk_grid")?,
-            chunk_key_encoding: required(alloc, members, "chunk_key_encoding")?,
-            fill_value: required(alloc, members, "fill_value")?,
-            codecs: required(alloc, members, "codecs")?,
-        })
-    }
-
-    /// The array of these members, those that may be absent and the additional fields.
-    pub(crate) fn with(
-        self,
-        optional: OptionalMembers,
-        additional_fields: AdditionalFieldsV3,
-    ) -> ArrayMetadataV3
-        ensures { result ≡ array_v3_with self optional additional_fields }
-    {
-        let RequiredMembers {
-            shape,
-            data_type,
-            chunk_grid,
-            chunk_key_encoding,
-            fill_value,
-            codecs,
-        } = self;
-        let OptionalMembers {
-            attributes,
-            storage_transformers,
-            dimension_names,
-        } = optional;
-        ArrayMetadataV3 {
-            shape,
-            data_type,
-            chunk_grid,
-            chunk_key_encoding,
-            fill_value,
-            codecs,
-            attributes,
-            storage_transformers,
-            dimension_names,
-            additional_fields,
-        }
-    }
-}
-
-impl OptionalMembers {
-    /// Takes the members that may be absent, one by one.
-    #[tactic(auto, unfolding(crate::specs::StepsOfReading::array_v3_optional))]
-    fn take(
-        alloc: Global,
-        members: &mut Map<String, Value>,
-    ) -> Result<OptionalMembers, MetadataFault>
-        ensures gives { Gives (λ m. m) result
-            (array_v3_optional (members_view members.old.entries)) }
-        ensures left { IfOk result
-            (λ _. members_view members.new.entries
-            ≡ besides array_v3_optional_names (members_view members.old.entries)) }
-    {
-        Ok(OptionalMembers {
-            attributes: attributes(alloc, members)?,
-            storage_transformers: storage_transformers(alloc, members)?,
-            dimension_names: dimension_names(alloc, members)?,
-        })
-    }
-}
-
 /// The encoding `default` of the keys of chunks, with slashes.
 fn default_encoding(alloc: Global) -> Result<MetadataV3, AllocError>
     ensures { IfOk result (λ encoding. encoding ≡ default_encoding) }
@@ -436,35 +366,11 @@ fn default_encoding(alloc: Global) -> Result<MetadataV3, AllocError>
     })
 }
 
-/// Takes the member `storage_transformers`, which is empty where it is absent.
-fn storage_transformers(
-    alloc: Global,
-    members: &mut Map<String, Value>,
-) -> Result<List<MetadataV3>, MetadataFault>
-    ensures gives { Gives (λ x. x) result
-        (optional_member (codes "storage_transformers") [] (list_of extension)
-        (object (members_view members.old.entries))) }
-    ensures left { members_view members.new.entries
-        ≡ besides (codes "storage_transformers" ∷ []) (members_view members.old.entries) }
-{
-    optional(
-        alloc,
-        members,
-        "storage_transformers",
-        List::new(Vec::new(alloc)),
-    )
-}
-
-/// Takes the member `dimension_names`, which may be absent.
-fn dimension_names(
-    alloc: Global,
-    members: &mut Map<String, Value>,
-) -> Result<Option<List<Option<Text>>>, MetadataFault>
-    ensures gives { Gives (λ x. x) result
-        (optional_member (codes "dimension_names") None (nullable (list_of (nullable as_str)))
-        (object (members_view members.old.entries))) }
-    ensures left { members_view members.new.entries
-        ≡ besides (codes "dimension_names" ∷ []) (members_view members.old.entries) }
-{
-    optional(alloc, members, "dimension_names", None)
+/// An extension without a name.
+fn blank_extension(alloc: Global) -> MetadataV3 {
+    MetadataV3 {
+        name: Text::new(String::new(alloc)),
+        configuration: None,
+        must_understand: true,
+    }
 }

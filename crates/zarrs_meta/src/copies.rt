@@ -1,9 +1,8 @@
 //! Copies of documents that equal their source.
-ghost use Rattle.std.specs.Prelude.{◌≡◌, IfOk};
-ghost use Rattle.zarrs_meta.specs.StepsOfReading.{array_v3_required_of, array_v3_optional_of, array_v2_required_of, array_v2_optional_of};
+ghost use Rattle.std.specs.Prelude.{◌≡◌, IfOk, OnOk};
 
-use crate::array_v2::{self, ArrayMetadataV2};
-use crate::array_v3::{self, ArrayMetadataV3};
+use crate::array_v2::ArrayMetadataV2;
+use crate::array_v3::ArrayMetadataV3;
 use crate::attributes::AttributesDocument;
 use crate::boxed_array::BoxedArray;
 use crate::group_v2::GroupMetadataV2;
@@ -53,10 +52,26 @@ impl ArrayMetadataV3 {
     pub fn try_clone(&self, alloc: Global) -> Result<ArrayMetadataV3, AllocError>
         ensures { IfOk result (λ copy. copy ≡ self.now) }
     {
-        let required = array_v3::RequiredMembers::copy_of(alloc, self)?;
-        let optional = array_v3::OptionalMembers::copy_of(alloc, self)?;
-        let additional_fields = self.additional_fields.try_clone(alloc)?;
-        Ok(required.with(optional, additional_fields))
+        let mut copy = ArrayMetadataV3::blank(alloc);
+        copy.copy_from(alloc, self)?;
+        Ok(copy)
+    }
+
+    /// Makes the array equal to its source, member by member.
+    fn copy_from(&mut self, alloc: Global, source: &ArrayMetadataV3) -> Result<(), AllocError>
+        ensures { OnOk result (self.new ≡ source.now) }
+    {
+        self.shape = source.shape.duplicate(alloc)?;
+        self.data_type = source.data_type.try_clone(alloc)?;
+        self.chunk_grid = source.chunk_grid.try_clone(alloc)?;
+        self.chunk_key_encoding = source.chunk_key_encoding.try_clone(alloc)?;
+        self.fill_value = source.fill_value.try_clone(alloc)?;
+        self.codecs = source.codecs.duplicate(alloc)?;
+        self.attributes = source.attributes.try_clone(alloc)?;
+        self.storage_transformers = source.storage_transformers.duplicate(alloc)?;
+        self.dimension_names = source.dimension_names.duplicate(alloc)?;
+        self.additional_fields = source.additional_fields.try_clone(alloc)?;
+        Ok(())
     }
 }
 
@@ -69,80 +84,26 @@ impl ArrayMetadataV2 {
     pub fn try_clone(&self, alloc: Global) -> Result<ArrayMetadataV2, AllocError>
         ensures { IfOk result (λ copy. copy ≡ self.now) }
     {
-        let required = array_v2::RequiredMembers::copy_of(alloc, self)?;
-        let optional = array_v2::OptionalMembers::copy_of(alloc, self)?;
-        let additional_fields = self.additional_fields.try_clone(alloc)?;
-        Ok(required.with(optional, additional_fields))
+        let mut copy = ArrayMetadataV2::blank(alloc);
+        copy.copy_from(alloc, self)?;
+        Ok(copy)
     }
-}
 
-impl array_v3::RequiredMembers {
-    /// A copy of the members that each array has.
-    fn copy_of(
-        alloc: Global,
-        array: &ArrayMetadataV3,
-    ) -> Result<array_v3::RequiredMembers, AllocError>
-        ensures { IfOk result (λ copy. copy ≡ array_v3_required_of array.now) }
+    /// Makes the array equal to its source, member by member.
+    fn copy_from(&mut self, alloc: Global, source: &ArrayMetadataV2) -> Result<(), AllocError>
+        ensures { OnOk result (self.new ≡ source.now) }
     {
-        Ok(array_v3::RequiredMembers {
-            shape: array.shape.duplicate(alloc)?,
-            data_type: array.data_type.try_clone(alloc)?,
-            chunk_grid: array.chunk_grid.try_clone(alloc)?,
-            chunk_key_encoding: array.chunk_key_encoding.try_clone(alloc)?,
-            fill_value: array.fill_value.try_clone(alloc)?,
-            codecs: array.codecs.duplicate(alloc)?,
-        })
-    }
-}
-
-impl array_v3::OptionalMembers {
-    /// A copy of the members that may be absent.
-    fn copy_of(
-        alloc: Global,
-        array: &ArrayMetadataV3,
-    ) -> Result<array_v3::OptionalMembers, AllocError>
-        ensures { IfOk result (λ copy. copy ≡ array_v3_optional_of array.now) }
-    {
-        Ok(array_v3::OptionalMembers {
-            attributes: array.attributes.try_clone(alloc)?,
-            storage_transformers: array.storage_transformers.duplicate(alloc)?,
-            dimension_names: array.dimension_names.duplicate(alloc)?,
-        })
-    }
-}
-
-impl array_v2::RequiredMembers {
-    /// A copy of the members that each array has.
-    fn copy_of(
-        alloc: Global,
-        array: &ArrayMetadataV2,
-    ) -> Result<array_v2::RequiredMembers, AllocError>
-        ensures { IfOk result (λ copy. copy ≡ array_v2_required_of array.now) }
-    {
-        Ok(array_v2::RequiredMembers {
-            shape: array.shape.duplicate(alloc)?,
-            chunks: array.chunks.duplicate(alloc)?,
-            dtype: array.dtype.try_clone(alloc)?,
-            fill_value: array.fill_value.try_clone(alloc)?,
-            order: array.order,
-        })
-    }
-}
-
-impl array_v2::OptionalMembers {
-    /// A copy of the members that may be absent.
-    fn copy_of(
-        alloc: Global,
-        array: &ArrayMetadataV2,
-    ) -> Result<array_v2::OptionalMembers, AllocError>
-        ensures { IfOk result (λ copy. copy ≡ array_v2_optional_of array.now) }
-    {
-        Ok(array_v2::OptionalMembers {
-            compressor: array.compressor.duplicate(alloc)?,
-            filters: array.filters.duplicate(alloc)?,
-            dimension_separator: array.dimension_separator,
-            attributes: array.attributes.try_clone(alloc)?,
-        })
+        self.shape = source.shape.duplicate(alloc)?;
+        self.chunks = source.chunks.duplicate(alloc)?;
+        self.dtype = source.dtype.try_clone(alloc)?;
+        self.fill_value = source.fill_value.try_clone(alloc)?;
+        self.order = source.order;
+        self.compressor = source.compressor.duplicate(alloc)?;
+        self.filters = source.filters.duplicate(alloc)?;
+        self.dimension_separator = source.dimension_separator;
+        self.attributes = source.attributes.try_clone(alloc)?;
+        self.additional_fields = source.additional_fields.try_clone(alloc)?;
+        Ok(())
     }
 }
 

@@ -105,7 +105,7 @@ impl GroupMetadataV2 {
     /// As [`GroupMetadataV2::from_members`].
     ///
     /// Source: own; Zarr specification version 2, "Groups".
-    #[tactic(auto, unfolding(crate::specs::GroupV2::group_v2_in))]
+    #[tactic(auto, using(crate::proofs::TakenLaws::group_v2_taken_is), unfolding(crate::specs::GroupV2::group_v2_in))]
     pub fn from_members_in(
         alloc: Global,
         numbers: Numbers,

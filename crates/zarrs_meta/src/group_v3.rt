@@ -78,7 +78,7 @@ impl GroupMetadataV3 {
     }
 
     /// The group that the members of a document are, which has been asked for its numbers.
-    #[tactic(auto, unfolding(crate::specs::GroupV3::group_v3_in))]
+    #[tactic(auto, using(crate::proofs::TakenLaws::group_v3_taken_is), unfolding(crate::specs::GroupV3::group_v3_in))]
     pub(crate) fn from_members_in(
         alloc: Global,
         numbers: Numbers,
