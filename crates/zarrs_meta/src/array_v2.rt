@@ -1,9 +1,9 @@
 //! The version 2 array.
-ghost use Rattle.std.specs.Prelude.{◌≡◌, Ok, IfOk, IsTrue, string_bytes};
+ghost use Rattle.std.specs.Prelude.{◌≡◌, [], ◌∷◌, Ok, IfOk, IsTrue, codes, string_bytes};
 ghost use Rattle.serde_json.specs.Data.{object, no_members};
 ghost use Rattle.serde_json.specs.View.{view, members_view};
 ghost use Rattle.serde_json.specs.Written.{compact_text};
-ghost use Rattle.zarrs_form.specs.Documents.{Gives, document_in, document_of, of_bytes};
+ghost use Rattle.zarrs_form.specs.Documents.{Gives, besides, document_in, document_of, format_of, of_bytes};
 ghost use Rattle.zarrs_form.specs.Forms.{put_rows};
 ghost use Rattle.zarrs_meta.specs.ArrayV2.{array_v2_in, array_v2_of, array_v2_rows, array_v2_tree, is_plain_array_v2};
 ghost use Rattle.zarrs_meta.specs.StepsOfReading.{array_v2_taken};
@@ -13,9 +13,9 @@ use std::alloc::{AllocError, Global};
 use zarrs_fault::{MetadataFault, Numbers};
 use zarrs_form::{
     ArrayMetadataV2Order, ChunkKeySeparator, DataTypeMetadataV2, FillValueMetadata, Form, List,
-    MetadataV2, Object, Text, ask_format, attributes, chunk_lengths, document_copy_in, document_in,
-    has_zero, open_table, optional, parse, put_member, put_unless, required, take_member,
-    write_last, write_row, write_unless,
+    MetadataV2, Object, Text, attributes, chunk_lengths, document_copy_in, document_in, has_zero,
+    open_table, optional, parse, put_member, put_unless, required, take_member, write_last,
+    write_row, write_unless,
 };
 
 /// The metadata of a version 2 array.
@@ -134,8 +134,7 @@ impl ArrayMetadataV2 {
         ensures { Gives (λ m. m) result
             (array_v2_in numbers (object (members_view members.entries))) }
     {
-        ask_format(&members, 2)?;
-        drop(take_member(&mut members, "zarr_format"));
+        take_format(&mut members)?;
         ArrayMetadataV2::take(alloc, members)
     }
 
@@ -333,5 +332,19 @@ impl ArrayMetadataV2 {
             && self.attributes.is_plain()
             && !self.additional_fields.has_float()
             && !self.additional_fields.has_own_member(OWN_NAMES)
+    }
+}
+
+/// Takes the member `zarr_format`, which has to be 2: it is looked for once.
+#[tactic(auto, unfolding(zarrs_form::specs::Documents::format_of))]
+fn take_format(members: &mut Map<String, Value>) -> Result<(), MetadataFault>
+    ensures asked { result ≡ format_of 2 (object (members_view members.old.entries)) }
+    ensures left { members_view members.new.entries
+        ≡ besides (codes "zarr_format" ∷ []) (members_view members.old.entries) }
+{
+    let format = take_member(members, "zarr_format");
+    match format.as_ref().and_then(Value::as_u64) {
+        Some(2) => Ok(()),
+        _ => Err(MetadataFault::WrongFormat),
     }
 }
