@@ -2,16 +2,17 @@
 
 most_input=$((64 << 20))
 
-# What is wrong with the toolchain on the path, if anything.
-toolchain_fault() {
-    local wanted found
-    wanted=$(grep -o 'rattle-kit-[^`]*' "$top/README.md" | head -n 1)
-    if ! command -v rt >/dev/null; then
-        echo "the toolchain's command rt is not on the path, and both this run and ./build need it ($wanted)"
-    else
-        found=$(rt version 2>&1 || true)
-        [ "$found" = "$wanted" ] || echo "the toolchain is '$found', and README names '$wanted': its verdicts may differ"
-    fi
+# The toolchain that README names.
+wanted_toolchain() {
+    grep -o 'rattle-kit-[^`]*' "$top/README.md" | head -n 1
+}
+
+# Says of a program's run that the toolchain on the path is another than README names, where it is.
+say_toolchain() {
+    local name=$1 wanted found
+    wanted=$(wanted_toolchain)
+    found=$(rt version 2>&1 || true)
+    [ "$found" = "$wanted" ] || echo "$name: the toolchain is '$found', and README names '$wanted': its verdicts may differ" >&2
 }
 
 # What `rt try` wrote to standard error without the two lines that it adds where the program ended.
@@ -43,17 +44,22 @@ explain() {
 # run_unproved NAME WORDS..: runs a program of crates/NAME/ on words. Standard output and the status are the program's own; where the run gives no
 # answer, nothing is written to standard output, and the status is 3. Standard input is the file `input`.
 run_unproved() {
-    local name=$1 input=$2 work=$3 fault status
+    local name=$1 input=$2 work=$3 asked status
     shift 3
-    fault=$(toolchain_fault)
-    [ -z "$fault" ] || echo "$name: $fault" >&2
-    command -v rt >/dev/null || return 3
+    if ! command -v rt >/dev/null; then
+        echo "$name: the toolchain's command rt is not on the path, and both this run and ./build need it ($(wanted_toolchain))" >&2
+        return 3
+    fi
     echo "$name: not built, or older than its sources: this run is not proved and takes up to a minute; ./build proves and builds it, and then each call starts at once" >&2
     if [ "$(stat -L -c %s "$input")" -gt "$most_input" ]; then
         echo "$name: the run without a proof reads at most 64 MiB of standard input; ./build first, and the built program has no such bound" >&2
         return 3
     fi
+    # The toolchain is asked which one it is beside the run.
+    say_toolchain "$name" </dev/null &
+    asked=$!
     (cd "$top/crates/$name" && rt try -- "$@") <"$input" >"$work/output" 2>"$work/errors" || true
+    wait "$asked" || true
     status=$(tail -n 1 "$work/errors" | sed -n 's/^run=ended status=\([0-9]*\) .*proved=no$/\1/p')
     if [ -z "$status" ]; then
         explain "$name" "$work/errors"
