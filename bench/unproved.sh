@@ -50,7 +50,7 @@ run_unproved() {
         echo "$name: the toolchain's command rt is not on the path, and both this run and ./build need it ($(wanted_toolchain))" >&2
         return 3
     fi
-    echo "$name: not built, or older than its sources: this run is not proved and takes up to a minute; ./build proves and builds it, and then each call starts at once" >&2
+    echo "$name: not built, or older than its sources: this run is not proved and takes about a minute; ./build proves and builds it, and then each call starts at once" >&2
     if [ "$(stat -L -c %s "$input")" -gt "$most_input" ]; then
         echo "$name: the run without a proof reads at most 64 MiB of standard input; ./build first, and the built program has no such bound" >&2
         return 3
