@@ -1,0 +1,21 @@
+//! A document of a folder, replaced or removed so that no crash can harm it: at each point the old document stands at its name, or the new
+//! one, whole. That is a law over the calls that are made.
+#![tactic(auto)]
+
+mod disk;
+mod fault;
+pub mod laws;
+mod memory;
+mod place;
+mod reading;
+mod record;
+mod remove;
+mod replace;
+mod stop;
+
+pub use disk::Disk;
+pub use fault::{PlaceFault, ReplaceError, Step};
+pub use memory::MemoryPlace;
+pub use place::Place;
+pub use remove::{Removed, remove_document};
+pub use replace::{Replaced, replace_document};
