@@ -34,8 +34,9 @@ const REMOVED: u64 = 8;
 #[derive(Drop)]
 pub struct MemoryPlace {
     alloc: Global,
+    // the file that was made last is the last one
     files: Vec<(String, Vec<u8>)>,
-    made: Option<String>,
+    has_made: bool,
     left: u64,
     record: Record,
 }
@@ -50,7 +51,7 @@ impl MemoryPlace {
         MemoryPlace {
             alloc,
             files: Vec::new(alloc),
-            made: None,
+            has_made: false,
             left: u64::MAX,
             record: Record::new(),
         }
@@ -80,20 +81,9 @@ impl MemoryPlace {
         let mut held = Vec::new(self.alloc);
         held.extend_from_slice(bytes)?;
         self.take_out(name.as_str());
-        self.files.push((name, held))?;
+        let place = self.files.len().saturating_sub(usize::from(self.has_made));
+        self.files.insert(place, (name, held))?;
         Ok(())
-    }
-
-    /// What the file with a name holds, or nothing where there is none, which is no call.
-    ///
-    /// Source: own.
-    pub fn get(&self, name: &str) -> Option<&[u8]> {
-        for (held, bytes) in &self.files {
-            if held.as_str() == name {
-                return Some(bytes.as_slice());
-            }
-        }
-        None
     }
 
     /// The files: the name of each, and what it holds.
@@ -103,23 +93,28 @@ impl MemoryPlace {
         self.files.as_slice()
     }
 
-    // Takes the file with a name out of the folder.
-    fn take_out(&mut self, name: &str) -> Option<Vec<u8>>
+    // Where the file with a name stands in the list.
+    fn place_of(&self, name: &str) -> Option<usize> {
+        self.files
+            .iter()
+            .position(|(held, _)| held.as_str() == name)
+    }
+
+    // Takes the file with a name out of the folder, and whether there was one.
+    fn take_out(&mut self, name: &str) -> bool
         ensures { self.new.record.asked ≡ self.old.record.asked }
     {
-        let mut at = None;
-        for (place, (held, _)) in self.files.iter().enumerate() {
-            if held.as_str() == name {
-                at = Some(place);
-            }
+        let Some(place) = self.place_of(name) else {
+            return false;
+        };
+        if place >= self.files.len() {
+            return false;
         }
-        match at {
-            Some(place) if place < self.files.len() => {
-                let (_, bytes) = self.files.remove(place);
-                Some(bytes)
-            }
-            _ => None,
+        self.files.remove(place);
+        if place == self.files.len() {
+            self.has_made = false;
         }
+        true
     }
 
     // Whether a call may be done: it fails where its turn has come.
@@ -144,9 +139,9 @@ impl MemoryPlace {
         ensures { self.new.record.asked ≡ self.old.record.asked }
     {
         self.begin()?;
-        self.made = Some(String::from_str(self.alloc, name)?);
         let name = String::from_str(self.alloc, name)?;
         self.files.push((name, Vec::new(self.alloc)))?;
+        self.has_made = true;
         Ok(())
     }
 
@@ -155,14 +150,12 @@ impl MemoryPlace {
         ensures { self.new.record.asked ≡ self.old.record.asked }
     {
         self.begin()?;
-        let Some(name) = self.made.take() else {
-            return Ok(());
-        };
-        let mut held = self.take_out(name.as_str()).unwrap_or(Vec::new(self.alloc));
-        held.extend_from_slice(bytes)?;
-        let copy = String::from_str(self.alloc, name.as_str())?;
-        self.files.push((copy, held))?;
-        self.made = Some(name);
+        if !self.has_made {
+            return Err(self.absent()?);
+        }
+        if let Some((_, held)) = self.files.last_mut() {
+            held.extend_from_slice(bytes)?;
+        }
         Ok(())
     }
 
@@ -172,14 +165,18 @@ impl MemoryPlace {
     {
         self.begin()?;
         let name = String::from_str(self.alloc, to)?;
-        match self.take_out(from) {
-            Some(bytes) => {
-                self.take_out(to);
-                self.files.push((name, bytes))?;
-                Ok(())
-            }
-            None => Err(self.absent()?),
+        if self.place_of(from).is_none() {
+            return Err(self.absent()?);
         }
+        if from != to {
+            self.take_out(to);
+        }
+        if let Some(place) = self.place_of(from)
+            && let Some(file) = self.files.get_mut(place)
+        {
+            file.0 = name;
+        }
+        Ok(())
     }
 
     // Removes a file.
@@ -187,10 +184,10 @@ impl MemoryPlace {
         ensures { self.new.record.asked ≡ self.old.record.asked }
     {
         self.begin()?;
-        match self.take_out(name) {
-            Some(_) => Ok(()),
-            None => Err(self.absent()?),
+        if !self.take_out(name) {
+            return Err(self.absent()?);
         }
+        Ok(())
     }
 
     // That nothing stands at a name.
@@ -204,14 +201,12 @@ impl MemoryPlace {
         ensures { self.new.record.asked ≡ self.old.record.asked }
     {
         self.begin()?;
-        match self.get(name) {
-            Some(held) => {
-                let mut bytes = Vec::new(alloc);
-                bytes.extend_from_slice(held)?;
-                Ok(Some(bytes))
-            }
-            None => Ok(None),
-        }
+        let Some((_, held)) = self.files.iter().find(|(held, _)| held.as_str() == name) else {
+            return Ok(None);
+        };
+        let mut bytes = Vec::new(alloc);
+        bytes.extend_from_slice(held.as_slice())?;
+        Ok(Some(bytes))
     }
 
     // Notes a call, and whether it was done.
@@ -249,7 +244,7 @@ impl Place for MemoryPlace {
     /// # Errors
     /// `Refused` where the call was to fail. `OutOfMemory`.
     fn create(&mut self, name: &str) -> Result<bool, PlaceFault> {
-        if self.get(name).is_some() {
+        if self.place_of(name).is_some() {
             return Ok(false);
         }
         let answer = self.make(name);
