@@ -99,7 +99,7 @@ impl<R: Files + AllocGlobal> Place for Disk<'_, R> {
         }
     }
 
-    /// Gives the file that was made last the owner, where that may be done, and the mode.
+    /// Gives the file that was made last the owner, where that may be done, and the mode. Access lists and extended attributes are not kept.
     ///
     /// # Errors
     /// `Refused` where what stands at the name is not looked at, or the mode is not given. `OutOfMemory`.

@@ -24,7 +24,7 @@ pub trait Place {
             (did (found name.now (bytes_in document)) ∷ [])) }
         ensures err { OnErr result (Adds (Self.calls self.old) (Self.calls self.new) []) };
 
-    /// Makes an empty file with the name, and whether it was made: nothing is made or noted where something stands at the name.
+    /// Makes an empty file with the name, and answers whether it was made: where something stands at the name, nothing is made or noted.
     ///
     /// # Errors
     /// `Refused` where that fails. `OutOfMemory`.
