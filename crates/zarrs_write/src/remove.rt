@@ -1,5 +1,5 @@
 //! A document, removed.
-ghost use Rattle.std.specs.Prelude.{◌≡◌, ◌↔◌, ◌∷◌, [], None, IfOk, IfErr};
+ghost use Rattle.std.specs.Prelude.{◌≡◌, ◌↔◌, None, IfOk, IfErr};
 ghost use Rattle.zarrs_write.specs.Calls.{Adds, AddsSome};
 ghost use Rattle.zarrs_write.specs.ReplacingDocuments.{bytes_in, temporary, NamesFile};
 ghost use Rattle.zarrs_write.specs.RemovingDocuments.{asked_of_removal, IsRemovalBrokenOff};

@@ -1,6 +1,6 @@
 //! A document, replaced whole.
 ghost use Rattle.std.specs.Prelude.{◌≡◌, ◌↔◌, ◌∷◌, [], Some, IfOk, IfErr, OnOk};
-ghost use Rattle.zarrs_write.specs.Calls.{did, failed, Adds, AddsSome, found, created, kept, wrote, synced, renamed};
+ghost use Rattle.zarrs_write.specs.Calls.{did, Adds, AddsSome, found, kept, wrote, synced, renamed};
 ghost use Rattle.zarrs_write.specs.ReplacingDocuments.{bytes_in, temporary, asked_for, IsBrokenOff, NamesFile};
 ghost use Rattle.zarrs_write.specs.StepsOfReplacing.{IsStopped, IsUnfilled};
 
