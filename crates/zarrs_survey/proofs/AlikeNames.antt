@@ -2,7 +2,6 @@
 use Rattle.std.proofs.Common.{◌≡◌, ◌↔◌, inl, inr, ⊎_elim, ℕ, ◌==◌, ◌&&◌, not, Bool, true, false, true≢false, List, [], ◌∷◌, ◌++◌, Option, Some, None, cond, map, get_or, length, refl, sym, ap, subst, ◌∙◌, arith, length-append, length-take, ◌+◌, ◌<◌, take, Contains, Less, Greater}
 use Rattle.std.specs.Char.{to_ascii_lowercase}
 use Rattle.std.specs.List.{list_all}
-use Rattle.std.specs.BTreeMap.{is_at}
 use Rattle.std.specs.Ordering.{ordering_reverse}
 use Rattle.std.proofs.lemmas.Bool.{and_parts}
 use Rattle.std.proofs.lemmas.Bool.Decides.{nat_tests}
@@ -11,8 +10,8 @@ use Rattle.std.proofs.lemmas.List.Elements.{Contains-append_left, Contains-appen
 use Rattle.zarrs_store.specs.Segments.{is_nonempty, is_reserved, last_segment}
 use Rattle.zarrs_store.proofs.ChildLemmas.{last_segment-child}
 use Rattle.zarrs_path.specs.Names.{IsName, is_name}
-use Rattle.zarrs_path.specs.Paths.{Path, IsParent, IsPath, path_cmp, relative_names}
-use Rattle.zarrs_path.specs.PathOrder.{path_decides, path_ties, path_total}
+use Rattle.zarrs_path.specs.Paths.{Path, IsParent, IsPath, path_cmp, path_eq, relative_names}
+use Rattle.zarrs_path.specs.PathOrder.{path_decides, path_total}
 use Rattle.zarrs_path.proofs.LawProofs.{relative_one}
 use Rattle.zarrs_form.proofs.Shared.{take_next}
 use Rattle.zarrs_node.specs.Faults.{PathsAscend}
@@ -224,12 +223,12 @@ module _ (done : List Path) (q : Path) (up : (r : Path) → Contains done r → 
     last_own : IsLastOf more k (Some q)
     last_own = (new_in, to, λ r in' fold. ⊎_elim (λ old. inr (up r old)) (λ is. inl (sym is)) (Contains-push_cases done q r in'))
 
-    pub last_more : (j : Path) (o : Option Path) → IsLastOf done j o → IsLastOf more j (cond (is_at (path_cmp k) j) (Some q) o)
-    last_more j o h = by (is_at (path_cmp k) j) refl
+    pub last_more : (j : Path) (o : Option Path) → IsLastOf done j o → IsLastOf more j (cond (path_eq k j) (Some q) o)
+    last_more j o h = by (path_eq k j) refl
       where
-        by : (t : Bool) → is_at (path_cmp k) j ≡ t → IsLastOf more j (cond t (Some q) o)
-        by true is = subst (λ x. IsLastOf more x (Some q)) ((path_decides k j).0 (path_ties k j ∙ is)) last_own
-        by false is = last_other j o (λ same. true≢false (sym ((path_decides k j).1 same) ∙ (path_ties k j ∙ is))) h
+        by : (t : Bool) → path_eq k j ≡ t → IsLastOf more j (cond t (Some q) o)
+        by true is = subst (λ x. IsLastOf more x (Some q)) ((path_decides k j).0 is) last_own
+        by false is = last_other j o (λ same. true≢false (sym ((path_decides k j).1 same) ∙ is)) h
 
 -- ---- paths in their order, one after another
 
@@ -260,7 +259,7 @@ module _ (ps : List Path) (i : ℕ) (q : Path) (lt : i < length ps) (is : q ≡ 
   pub next_root : IsFolded q None → AreNext found f
   next_root root = over found f (found_root (take i ps) q before found are root) (λ k. last_root (take i ps) q before root k (f k) (last k))
 
-  module _ (k : Path) (to : IsFoldedTo q k) (g : Path → Option Path) (updated : (j : Path) → g j ≡ cond (is_at (path_cmp k) j) (Some q) (f j)) where
+  module _ (k : Path) (to : IsFoldedTo q k) (g : Path → Option Path) (updated : (j : Path) → g j ≡ cond (path_eq k j) (Some q) (f j)) where
     lasts : (j : Path) → IsLastOf (take i ps ++ q ∷ []) j (g j)
     lasts j = subst (IsLastOf (take i ps ++ q ∷ []) j) (sym (updated j)) (last_more (take i ps) q before k to j (f j) (last j))
 

@@ -5,7 +5,7 @@ ghost use Rattle.zarrs_survey.specs.Alike.{AreAlikeAmong};
 ghost use Rattle.zarrs_survey.specs.StepsOfAlike.{IsFolded};
 
 use std::alloc::{AllocError, Global};
-use std::collections::BTreeMap;
+use std::collections::HashMap;
 use zarrs_path::NodePath;
 
 // Each of these paths whose name is that of another one of its group but for case, with the last such one before it.
@@ -16,7 +16,7 @@ pub(crate) fn alike_among(
     requires ascending { PathsAscend paths.now }
     ensures { IfOk result (λ found. AreAlikeAmong (Contains paths.now) found.items) }
 {
-    let mut last = BTreeMap::new(alloc);
+    let mut last = HashMap::new(alloc);
     let mut found = Vec::new(alloc);
     for path in paths {
         if let Some(folded) = folded(alloc, path)? {

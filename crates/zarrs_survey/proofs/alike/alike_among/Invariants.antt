@@ -1,10 +1,10 @@
-use Rattle.std.specs.BTreeMap.{get}
+use Rattle.std.specs.HashMap.{get}
 use Rattle.std.proofs.Common.{Contains, take}
-use Rattle.zarrs_path.specs.Paths.{Path, path_cmp}
+use Rattle.zarrs_path.specs.Paths.{Path, path_eq}
 use Rattle.zarrs_survey.specs.Alike.{AreAlikeAmong}
 use Rattle.zarrs_survey.specs.StepsOfAlike.{IsLastOf}
 use Rattle.zarrs_survey.proofs.alike.alike_among.Given as goal
 
 -- what is found is all that is alike among the paths so far, and the map has the last of those that fold to each path
 abbrev pub invariant-loop-path : goal.invariant-loop-path
-invariant-loop-path l = AreAlikeAmong (Contains (take l.path-index l.paths)) l.found.items × ((k : Path) → IsLastOf (take l.path-index l.paths) k (get path_cmp l.last k))
+invariant-loop-path l = AreAlikeAmong (Contains (take l.path-index l.paths)) l.found.items × ((k : Path) → IsLastOf (take l.path-index l.paths) k (get path_eq l.last k))
