@@ -2,14 +2,15 @@
 
 use crate::findings::findings_text;
 use crate::given::document;
+use log::sink::Discard;
 use std::alloc::{AllocError, Global};
 use std::test::Fail;
-use tests_fixtures::{key_of, version_of, with_block};
+use tests_fixtures::{ANY, key_of, version_of, with_block};
 use tests_support::{check_rows, fields, said};
 use zarrs_block::NodeCreateError;
 use zarrs_path::NodePath;
 use zarrs_store::{MemoryStore, StorageError, WritableStorageTraits};
-use zarrs_survey::{Finding, check_above};
+use zarrs_survey::{CheckedFrom, Finding, PathCheck, check_above};
 
 // The entries of a block, with commas between them: a key, a blank and a word each.
 fn entries_in<'a>(alloc: Global, list: &'a str) -> Result<Vec<(&'a str, &'a str)>, StorageError> {
@@ -119,4 +120,38 @@ const CHECKED: &str = r#"
 #[test]
 fn the_blocks_above_a_path_are_compared_from_it_on(rt: HostRuntime) -> Result<(), Fail> {
     check_rows(rt.alloc(), CHECKED, checked_said)
+}
+
+// What is told of a path by the documents of any version, and of the blocks above it.
+fn checked_path(alloc: Global, given: &str) -> Result<PathCheck, NodeCreateError> {
+    let (path, list) = fields(given);
+    let store = store_with_blocks(alloc, list)?;
+    let path = NodePath::new(alloc, path)?;
+    PathCheck::of_store(&Discard, alloc, &store, &path, &ANY)
+}
+
+// How much is told of an array, or how many nodes there are from the path on; then the findings of the blocks above.
+fn path_text(check: &PathCheck, alloc: Global) -> Result<String, AllocError> {
+    let above = findings_text(&check.above, alloc)?;
+    match &check.from {
+        CheckedFrom::Array(told) => format!(in alloc; "array {}\n{above}", told.len()),
+        CheckedFrom::Tree(tree) => format!(in alloc; "nodes {}\n{above}", tree.nodes),
+    }
+}
+
+fn checked_path_said(alloc: Global, given: &str) -> Result<String, AllocError> {
+    said(alloc, checked_path(alloc, given), path_text)
+}
+
+// A path and a store; what is told of the path, and of the blocks above it.
+const PATHS: &str = r#"
+/a | zarr.json [a G3];a/zarr.json A3;a/x/zarr.json G3 => array 0\n/ /a Differs\n
+/a | zarr.json [a G3,a/x G3];a/zarr.json G3;a/y/zarr.json G3 => nodes 2\n/ /a/x Stale\n/ /a/y Missing\n
+/ | zarr.json [];a/zarr.json G3 => nodes 2\n
+/b | zarr.json [] => nodes 0\n
+"#;
+
+#[test]
+fn a_path_and_the_blocks_above_it_are_checked(rt: HostRuntime) -> Result<(), Fail> {
+    check_rows(rt.alloc(), PATHS, checked_path_said)
 }
