@@ -1,0 +1,99 @@
+//! What each kind of words asks.
+use crate::asserts::assert_text;
+use std::alloc::{AllocError, Global};
+use zarrs_cli::{Asked, Word, parse};
+
+/// The words with these texts.
+pub(crate) fn words_of(alloc: Global, texts: &[&str]) -> Result<Vec<String>, AllocError> {
+    let mut words = Vec::new(alloc);
+    for text in texts {
+        words.push(String::from_str(alloc, text)?)?;
+    }
+    Ok(words)
+}
+
+// A word, with its options behind it.
+fn name_of(alloc: Global, word: Word) -> Result<String, AllocError> {
+    let Word::Check(options) = word else {
+        return format!(in alloc; "{word:?}");
+    };
+    let mut name = String::from_str(alloc, "Check")?;
+    if options.notes {
+        name.push_str("+notes")?;
+    }
+    if options.json {
+        name.push_str("+json")?;
+    }
+    Ok(name)
+}
+
+// What the words with these texts ask, as a text.
+fn asked(alloc: Global, texts: &[&str]) -> Result<String, AllocError> {
+    let words = words_of(alloc, texts)?;
+    match parse(&words) {
+        Ok(Asked::Help) => String::from_str(alloc, "help"),
+        Ok(Asked::Version) => String::from_str(alloc, "version"),
+        Ok(Asked::Store(command)) => {
+            let word = name_of(alloc, command.word)?;
+            let source = command.source;
+            let path = command.path;
+            format!(in alloc; "{word} {source} {path}")
+        }
+        Err(fault) => format!(in alloc; "{fault:?}"),
+    }
+}
+
+// Words, and what they ask.
+const ASKED: &[(&[&str], &str)] = &[
+    (&["--help"], "help"),
+    (&["--version"], "version"),
+    (&["tree", "x"], "Tree x /"),
+    (&["tree", "x", "/a"], "Tree x /a"),
+    (&["tree", "x", "a"], "Tree x a"),
+    (&["tree", "x", "--store"], "Tree x --store"),
+    (&["tree", "-"], "Tree - /"),
+    (&["tree", ""], "Tree  /"),
+    (&["tree", "--store", "x"], "StoreTree x /"),
+    (&["tree", "--store", "--store"], "StoreTree --store /"),
+    (&["tree", "--store", "-", "/a"], "StoreTree - /a"),
+    (&["list", "x"], "List x /"),
+    (&["list", "x", "/a"], "List x /a"),
+    (&["list", "--store", "x"], "List --store x"),
+    (&["check", "x"], "Check x /"),
+    (&["check", "-", "/a"], "Check - /a"),
+    (&["check", "--store"], "Check --store /"),
+    (&["check", "--notes", "x"], "Check+notes x /"),
+    (&["check", "--notes", "x", "/a"], "Check+notes x /a"),
+    (&["check", "--json", "x"], "Check+json x /"),
+    (&["check", "--json", "-", "/a"], "Check+json - /a"),
+    (&["check", "--notes", "--json", "x"], "Check+notes+json x /"),
+    (
+        &["check", "--notes", "--json", "-", "/a"],
+        "Check+notes+json - /a",
+    ),
+    (&["check", "x", "--notes"], "Check x --notes"),
+    (&["list", "--notes", "x"], "List --notes x"),
+    (&["check", "--notes"], "Usage"),
+    (&["check", "--notes", "--json"], "Usage"),
+    (&["check", "--json", "--notes", "x"], "Usage"),
+    (&["check", "--notes", "--notes", "x"], "Usage"),
+    (&["check", "--notes", "--json", "x", "/", "/"], "Usage"),
+    (&["tree", "--notes", "x", "/"], "Usage"),
+    (&[], "Usage"),
+    (&["tree"], "Usage"),
+    (&["tree", "--store"], "Usage"),
+    (&["tree", "--store", "x", "/", "/"], "Usage"),
+    (&["list", "--store", "x", "/"], "Usage"),
+    (&["check", "x", "/", "/"], "Usage"),
+    (&["x", "tree"], "Usage"),
+    (&["--help", "tree"], "Usage"),
+    (&["help"], "Usage"),
+];
+
+#[test]
+fn words_name_a_word_a_source_and_a_path(rt: HostRuntime) {
+    for (texts, wanted) in ASKED {
+        let found = asked(rt.alloc(), texts).expect(&rt, "memory");
+        assert_text(&rt, wanted, found.as_str(), wanted);
+    }
+}

@@ -1,6 +1,0 @@
-use Rattle.std.proofs.Common.{◌≡◌, ◌++◌, map, take}
-use Rattle.zarrs.specs.StepsOfReports.{name_remark}
-use Rattle.zarrs.proofs.report.add_names.Given as goal
-
-abbrev pub invariant-loop-name : goal.invariant-loop-name
-invariant-loop-name l = l.remarks.items ≡ l.initial.remarks.items ++ map name_remark (take l.name-index l.names)

@@ -1,6 +1,0 @@
-use Rattle.std.proofs.Common.{◌≡◌, ◌++◌, map, take}
-use Rattle.zarrs.specs.Report.{told_remark}
-use Rattle.zarrs.proofs.report.add_told.Given as goal
-
-abbrev pub invariant-loop-path : goal.invariant-loop-path
-invariant-loop-path l = l.remarks.items ≡ l.initial.remarks.items ++ map told_remark (take l.path-index l.told)

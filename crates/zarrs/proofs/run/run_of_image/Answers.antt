@@ -1,9 +1,0 @@
-use Rattle.zarrs_folder.specs.Folders.{values_of}
-use Rattle.zarrs.proofs.Runs.{written_image, refused_image}
-use Rattle.zarrs.proofs.run.run_of_image.Goals as goal
-
-pub returns-clause-ok : goal.returns-clause-ok
-returns-clause-ok g c = written_image _ _ _ _ _ (values_of c.in_ok-store.store.inner) c.run_store.result c.in_ok-store.ensures.ok c.run_store.ensures.ok
-
-pub returns-clause-refused : goal.returns-clause-refused
-returns-clause-refused g c = refused_image _ _ _ _ (values_of c.in_ok-store.store.inner) c.run_store.result c.in_ok-store.ensures.end c.in_ok-store.ensures.ok c.run_store.ensures.refused

@@ -1,0 +1,73 @@
+-- What a word answers over a loaded store it answers over the whole.
+use Rattle.std.proofs.Common.{◌≡◌, inl, inr, ⊎_elim, ℕ, Bool, List, Option, Some, None, sym, subst, ◌∙◌}
+use Rattle.zarrs_store.specs.Contents.{Contents}
+use Rattle.zarrs_path.specs.Paths.{Path, IsPath, path_text}
+use Rattle.zarrs_path.proofs.LawProofs.{texts_differ}
+use Rattle.zarrs_meta.specs.declared.node.NodeMetadata.{NodeMetadata}
+use Rattle.zarrs_config.specs.declared.version.UseConsolidatedMetadata.{UseConsolidatedMetadata}
+use Rattle.zarrs_config.specs.declared.version.UseConsolidatedMetadata.TheVariants.{Auto, Never}
+use Rattle.zarrs_block.specs.declared.node_create_error.NodeCreateError.{NodeCreateError}
+use Rattle.zarrs_folder.specs.Openings.{OpenSame}
+use Rattle.zarrs_cli.specs.declared.fault.ZarrsFault.{ZarrsFault}
+use Rattle.zarrs_cli.specs.declared.fault.ZarrsFault.TheVariants.{Usage, Load, Folder, Node, Write, OutOfMemory}
+use Rattle.zarrs_cli.specs.declared.report.Tally.{Tally}
+use Rattle.zarrs_cli.specs.declared.words.CheckOptions.{CheckOptions}
+use Rattle.zarrs_cli.specs.declared.words.Word.{Word}
+use Rattle.zarrs_cli.specs.declared.words.Word.TheVariants.{Tree, StoreTree, List as ListAll, Check}
+use Rattle.zarrs_cli.specs.Output.{IsReported, IsWordText, IsAnswer}
+use Rattle.zarrs_cli.specs.StepsOfRuns.{IsCheckable}
+use Rattle.zarrs_cli.specs.Refusals.{RefusesAnswer, RefusesPathOf, RefusesRun}
+use Rattle.zarrs_cli.specs.NodeLines.{IsShown, tree_line, list_line}
+use Rattle.zarrs_cli.proofs.LoadedOpenings.{opened_over, refused_over}
+use Rattle.zarrs_cli.proofs.LoadedChecks.{report_from_over}
+
+-- what of two stores has to be the same, for a word to answer the same at b
+abbrev pub IsSameFor : Word → Contents → Contents → Path → Type 0
+IsSameFor Tree S L b = OpenSame S L Auto b
+IsSameFor StoreTree S L b = OpenSame S L Never b
+IsSameFor ListAll S L b = OpenSame S L Never b
+IsSameFor (Check options) S L b = IsCheckable S L b
+
+-- what is shown as lines is the same
+shown_over : (S L : Contents) (policy : UseConsolidatedMetadata) (b : Path) (line_of : Path × NodeMetadata → List ℕ) (text : List ℕ) → IsPath b → OpenSame S L policy b → IsShown L policy b line_of text → IsShown S policy b line_of text
+shown_over S L policy b line_of text valid same (h, opened, is) = (h, opened_over S L policy b same valid h opened, is)
+
+-- so is what is reported
+reported_over : (options : CheckOptions) (S L : Contents) (b : Path) (tally : Option Tally) (text : List ℕ) → IsCheckable S L b → IsReported options L b tally text → IsReported options S b tally text
+reported_over options S L b None text same h = h
+reported_over options S L b (Some tally) text loaded h = report_from_over S L b loaded options tally text h
+
+-- what a word writes
+pub writes_over : (w : Word) (S L : Contents) (b : Path) (tally : Option Tally) (text : List ℕ) → IsPath b → IsSameFor w S L b → IsWordText w L b tally text → IsWordText w S b tally text
+writes_over Tree S L b tally text valid same h = (h.0, shown_over S L Auto b (tree_line b) text valid same h.1)
+writes_over StoreTree S L b tally text valid same h = (h.0, shown_over S L Never b (tree_line b) text valid same h.1)
+writes_over ListAll S L b tally text valid same h = (h.0, shown_over S L Never b list_line text valid same h.1)
+writes_over (Check options) S L b tally text valid same h = reported_over options S L b tally text same h
+
+-- and what it refuses
+pub refuses_over : (can_fail : Bool) (w : Word) (S L : Contents) (b : Path) (e : NodeCreateError) → IsPath b → IsSameFor w S L b → RefusesAnswer can_fail w L b e → RefusesAnswer can_fail w S b e
+refuses_over can_fail Tree S L b e valid same h = ⊎_elim inl (λ r. inr (refused_over S L Auto b same valid e r)) h
+refuses_over can_fail StoreTree S L b e valid same h = ⊎_elim inl (λ r. inr (refused_over S L Never b same valid e r)) h
+refuses_over can_fail ListAll S L b e valid same h = ⊎_elim inl (λ r. inr (refused_over S L Never b same valid e r)) h
+refuses_over can_fail (Check options) S L b e valid same h = h
+
+module _ (w : Word) (S L : Contents) (b : Path) (path : List ℕ) (valid : IsPath b) (text_of : path_text b ≡ path) (same : IsSameFor w S L b) where
+  -- the path of the text is b
+  path_is : (p : Path) → IsPath p → path_text p ≡ path → p ≡ b
+  path_is p names text = texts_differ p b names valid (text ∙ sym text_of)
+
+  -- what a run writes
+  pub answer_over : (tally : Option Tally) (text : List ℕ) → IsAnswer w path L tally text → IsAnswer w path S tally text
+  answer_over tally text (p, names, is, h) = (b, valid, text_of, writes_over w S L b tally text valid same (subst (λ q. IsWordText w L q tally text) (path_is p names is) h))
+
+  -- and why it is refused
+  pub refuses_path_over : (can_fail : Bool) (e : NodeCreateError) → RefusesPathOf can_fail w path L e → RefusesPathOf can_fail w path S e
+  refuses_path_over can_fail e (p, names, is, h) = (b, valid, text_of, refuses_over can_fail w S L b e valid same (subst (λ q. RefusesAnswer can_fail w L q e) (path_is p names is) h))
+
+  pub run_over : (can_fail : Bool) (fault : ZarrsFault) → RefusesRun can_fail w path L fault → RefusesRun can_fail w path S fault
+  run_over can_fail (Node e) h = ⊎_elim inl (λ r. inr (refuses_path_over can_fail e r)) h
+  run_over can_fail Write (tally, text, h) = (tally, text, answer_over tally text h)
+  run_over can_fail OutOfMemory h = h
+  run_over can_fail Usage h = h
+  run_over can_fail (Load fault) h = h
+  run_over can_fail (Folder fault) h = h

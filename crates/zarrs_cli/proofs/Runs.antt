@@ -1,0 +1,252 @@
+-- From what a word writes of a store to the answer of a run, and from its refusal to that of the run.
+use Rattle.std.proofs.Common.{◌≡◌, ◌≢◌, ℕ, ◌==◌, Bool, true, false, true≢false, cond, List, [], Option, Some, None, codes, inl, inr, ⊎_elim, sym, subst, ◌∙◌, arith, string_bytes, String, Global}
+use Rattle.std.specs.Prelude.{Result, Ok, Err, IfOk, IfErr, OnOk}
+use Rattle.std.specs.Str.{bytes_eq}
+use Rattle.std.specs.Io.KnownBytes.{Appends, IsAtEnd}
+use Rattle.std.proofs.lemmas.Slice.Eq.{bytes_eq-Decides}
+use Rattle.zarrs_store.specs.Contents.{Contents, Values}
+use Rattle.zarrs_path.specs.Paths.{Path, IsPath, path_text}
+use Rattle.zarrs_folder.specs.Folders.{in_any, values_of}
+use Rattle.zarrs_block.specs.declared.node_create_error.NodeCreateError.{NodeCreateError}
+use Rattle.zarrs_program.specs.Words.{RefusesPathText}
+use Rattle.zarrs_program.specs.declared.output.WriteFault.{WriteFault}
+use Rattle.zarrs_load.specs.Image.{IsLoaded}
+use Rattle.zarrs_cli.specs.Output.{IsAnswer, IsWordText, WritesWord, WritesOverImage, WritesOverSome, WritesOverEach, WritesOverSource, WritesAsked, usage_text, version_text}
+use Rattle.zarrs_cli.specs.RefusalLines.{IsHint, SaysReason, SaysRefusal}
+use Rattle.zarrs_cli.specs.Refusals.{RefusesFolder, RefusesRun, RefusesOverImage, RefusesOverSome, RefusesOverEach, RefusesOverSource, RefusesAsked, run_status, tally_status}
+use Rattle.zarrs_cli.specs.StepsOfRuns.{IsEnough, IsFaultOfEach, IsFaultOfSome, IsAnswerFault, IsWrittenOfEach, IsWrittenOfSome}
+use Rattle.zarrs_cli.specs.Words.{AreWords, AskFor}
+use Rattle.zarrs_cli.specs.declared.report.Tally.{Tally}
+use Rattle.zarrs_cli.specs.declared.words.Asked.{Asked}
+use Rattle.zarrs_cli.specs.declared.words.Asked.TheVariants.{Help, Version, Store}
+use Rattle.zarrs_cli.specs.declared.words.Command.{Command}
+use Rattle.zarrs_cli.specs.declared.words.Word.{Word}
+use Rattle.zarrs_cli.specs.declared.words.Word.TheVariants.{Tree, StoreTree, List as ListAll, Check}
+use Rattle.zarrs_cli.specs.declared.fault.ZarrsFault.{ZarrsFault}
+use Rattle.zarrs_cli.specs.declared.fault.ZarrsFault.TheVariants.{Usage, Load, Folder, Node, Write, OutOfMemory}
+use Rattle.zarrs_cli.proofs.LoadedAnswers.{IsSameFor, writes_over, refuses_over}
+
+-- ---- results
+
+-- what holds on success holds in another form
+ok_weaker : {A E : Type 0} {P Q : A → Type 0} (r : Result A E) → ((x : A) → P x → Q x) → IfOk r P → IfOk r Q
+ok_weaker (Ok x) f p = f x p
+ok_weaker (Err e) f p = tt
+
+-- what holds of an error holds in another form
+err_weaker : {A E : Type 0} {P Q : E → Type 0} (r : Result A E) → ((e : E) → P e → Q e) → IfErr r P → IfErr r Q
+err_weaker (Ok x) f p = tt
+err_weaker (Err e) f p = f e p
+
+-- what holds of an error holds of the result that has it
+pub err_given : {A : Type 0} (P : ZarrsFault → Type 0) (r : Result A ZarrsFault) (fault : ZarrsFault) → r ≡ Err fault → P fault → IfErr r P
+err_given P r fault is holds = subst (λ x. IfErr x P) (sym is) holds
+
+-- ---- over a store
+
+-- a text that is no path refuses the run
+pub base_refused : (can_fail : Bool) (word : Word) (path : List ℕ) (store : Contents) (e : NodeCreateError) → RefusesPathText path e → RefusesRun can_fail word path store (Node e)
+base_refused can_fail word path store e refused = inl refused
+
+-- what the calls of the word refuse is refused
+pub word_refused : (can_fail : Bool) (word : Word) (path : List ℕ) (store : Contents) (base : Path) (fault : ZarrsFault) → IsPath base → path_text base ≡ path
+    → IsAnswerFault can_fail word store base fault → RefusesRun can_fail word path store fault
+word_refused can_fail word path store base (Node e) valid same refused = inr (base, valid, same, refused)
+word_refused can_fail word path store base OutOfMemory valid same refused = tt
+word_refused can_fail word path store base Usage valid same refused = absurd refused
+word_refused can_fail word path store base (Load e) valid same refused = absurd refused
+word_refused can_fail word path store base (Folder e) valid same refused = absurd refused
+word_refused can_fail word path store base Write valid same refused = absurd refused
+
+-- where the writer fails there is an answer
+pub unwritten : (can_fail : Bool) (word : Word) (path : List ℕ) (store : Contents) (tally : Option Tally) (text : List ℕ) (fault : ZarrsFault) → IsAnswer word path store tally text
+    → fault ≡ Write → RefusesRun can_fail word path store fault
+unwritten can_fail word path store tally text fault is failed = subst (RefusesRun can_fail word path store) (sym failed) (tally, text, is)
+
+-- ---- over an image
+
+-- what is written of the store of the image is written of the image
+pub written_image : (word : Word) (path : List ℕ) (left old new : Option (List ℕ)) (values : Values) (r : Result (Option Tally) ZarrsFault) → IsLoaded left values
+    → IfOk r (WritesWord word path (in_any values) old new) → IfOk r (WritesOverImage word path left old new)
+written_image word path left old new values (Ok tally) loaded writes = (values, loaded, writes)
+written_image word path left old new values (Err e) loaded writes = tt
+
+-- what refuses the run over that store refuses that over the image
+pub refused_image : (word : Word) (path : List ℕ) (before after : Option (List ℕ)) (values : Values) (r : Result (Option Tally) ZarrsFault) → IsAtEnd after → IsLoaded before values
+    → IfErr r (RefusesRun false word path (in_any values)) → IfErr r (RefusesOverImage word path before after)
+refused_image word path before after values (Ok tally) end loaded refused = tt
+refused_image word path before after values (Err fault) end loaded refused = inr (end, (values, loaded, refused))
+
+-- ---- over a folder
+
+-- what is enough for a word is the same for it
+enough_same : (word : Word) (S L : Contents) (b : Path) → IsEnough word S L b → IsSameFor word S L b
+enough_same Tree S L b same = same
+enough_same StoreTree S L b same = same
+enough_same ListAll S L b same = same
+enough_same (Check options) S L b loaded = loaded
+
+-- what refuses a word of a store that has enough of another refuses it of the other
+fault_over : (word : Word) (S L : Contents) (b : Path) (fault : ZarrsFault) → IsPath b → IsEnough word S L b → IsAnswerFault false word L b fault → IsAnswerFault false word S b fault
+fault_over word S L b (Node e) valid same refused = refuses_over false word S L b e valid (enough_same word S L b same) refused
+fault_over word S L b OutOfMemory valid same refused = tt
+fault_over word S L b Usage valid same refused = absurd refused
+fault_over word S L b (Load e) valid same refused = absurd refused
+fault_over word S L b (Folder e) valid same refused = absurd refused
+fault_over word S L b Write valid same refused = absurd refused
+
+module _ (word : Word) (b : Path) (L : Values) (r : Result (Option Tally × String Global) ZarrsFault) where
+  -- what is written of what was loaded is written of some store
+  pub made_of_some : IfOk r (λ made. IsWordText word (in_any L) b made.0 (string_bytes made.1)) → IfOk r (IsWrittenOfSome word b)
+  made_of_some = ok_weaker r (λ made writes. (L, writes))
+
+  pub fault_of_some : IfErr r (IsAnswerFault false word (in_any L) b) → IfErr r (IsFaultOfSome word b)
+  fault_of_some = err_weaker r (λ fault refused. inr (L, refused))
+
+  module _ (P : Values → Type 0) (valid : IsPath b) (enough : (V : Values) → P V → IsEnough word (in_any V) (in_any L) b) where
+    -- what is written of what was loaded is written of each store of which it is enough
+    pub made_of_each : IfOk r (λ made. IsWordText word (in_any L) b made.0 (string_bytes made.1)) → IfOk r (IsWrittenOfEach word b P)
+    made_of_each = ok_weaker r (λ made writes V p. writes_over word (in_any V) (in_any L) b made.0 (string_bytes made.1) valid (enough_same word (in_any V) (in_any L) b (enough V p)) writes)
+
+    pub fault_of_each : IfErr r (IsAnswerFault false word (in_any L) b) → IfErr r (IsFaultOfEach word b P)
+    fault_of_each = err_weaker r (λ fault refused. inr (λ V p. fault_over word (in_any V) (in_any L) b fault valid (enough V p) refused))
+
+-- a folder that was not read refuses the words
+pub folder_of_some : (word : Word) (b : Path) (fault : ZarrsFault) → RefusesFolder fault → IsFaultOfSome word b fault
+folder_of_some word b fault refused = inl refused
+
+pub folder_of_each : (word : Word) (b : Path) (P : Values → Type 0) (fault : ZarrsFault) → RefusesFolder fault → IsFaultOfEach word b P fault
+folder_of_each word b P fault refused = inl refused
+
+module _ (word : Word) (path : List ℕ) (b : Path) (valid : IsPath b) (same : path_text b ≡ path) where
+  -- what refuses the words refuses the run
+  pub refused_of_some : (fault : ZarrsFault) → IsFaultOfSome word b fault → RefusesOverSome word path fault
+  refused_of_some fault = ⊎_elim inl (λ why. inr (why.0, word_refused false word path (in_any why.0) b fault valid same why.1))
+
+  pub refused_of_each : (P : Values → Type 0) (fault : ZarrsFault) → IsFaultOfEach word b P fault → RefusesOverEach word path P fault
+  refused_of_each P fault = ⊎_elim inl (λ why. inr (λ V p. word_refused false word path (in_any V) b fault valid same (why V p)))
+
+  module _ (made : Option Tally × String Global) (old new : Option (List ℕ)) (appends : Appends old new (string_bytes made.1)) where
+    -- what was made and appended was written
+    pub written_of_some : IsWrittenOfSome word b made → WritesOverSome word path old new made.0
+    written_of_some writes = (writes.0, (string_bytes made.1, (b, valid, same, writes.1), appends))
+
+    pub written_of_each : (P : Values → Type 0) → IsWrittenOfEach word b P made → WritesOverEach word path P old new made.0
+    written_of_each P writes = λ V p. (string_bytes made.1, (b, valid, same, writes V p), appends)
+
+  -- where the writer fails there is an answer
+  pub unwritten_of_some : (made : Option Tally × String Global) (fault : ZarrsFault) → IsWrittenOfSome word b made → fault ≡ Write → RefusesOverSome word path fault
+  unwritten_of_some made fault writes failed = inr (writes.0, unwritten false word path (in_any writes.0) made.0 (string_bytes made.1) fault (b, valid, same, writes.1) failed)
+
+  pub unwritten_of_each : (P : Values → Type 0) (made : Option Tally × String Global) (fault : ZarrsFault) → IsWrittenOfEach word b P made → fault ≡ Write → RefusesOverEach word path P fault
+  unwritten_of_each P made fault writes failed = inr (λ V p. unwritten false word path (in_any V) made.0 (string_bytes made.1) fault (b, valid, same, writes V p) failed)
+
+-- a text that is no path refuses the run over any store
+pub base_of_some : (word : Word) (path : List ℕ) (e : NodeCreateError) → RefusesPathText path e → RefusesOverSome word path (Node e)
+base_of_some word path e refused = inr (values_of [], base_refused false word path (in_any (values_of [])) e refused)
+
+pub base_of_each : (word : Word) (path : List ℕ) (P : Values → Type 0) (e : NodeCreateError) → RefusesPathText path e → RefusesOverEach word path P (Node e)
+base_of_each word path P e refused = inr (λ V p. base_refused false word path (in_any V) e refused)
+
+-- ---- by the source
+
+module _ (word : Word) (source path : List ℕ) where
+  -- an image is what `-` names
+  pub image_answered : (left old new : Option (List ℕ)) (r : Result (Option Tally) ZarrsFault) → bytes_eq source (codes "-") ≡ true
+      → IfOk r (WritesOverImage word path left old new) → IfOk r (WritesOverSource word source path left old new)
+  image_answered left old new r is = ok_weaker r (λ tally writes. inl ((bytes_eq-Decides source (codes "-")).0 is, writes))
+
+  pub image_refused : (before after : Option (List ℕ)) (r : Result (Option Tally) ZarrsFault) → bytes_eq source (codes "-") ≡ true
+      → IfErr r (RefusesOverImage word path before after) → IfErr r (RefusesOverSource word source path before after)
+  image_refused before after r is = err_weaker r (λ fault refused. inl ((bytes_eq-Decides source (codes "-")).0 is, refused))
+
+  -- what is told to differ does
+  other : bytes_eq source (codes "-") ≡ false → source ≢ codes "-"
+  other differs same = true≢false (sym ((bytes_eq-Decides source (codes "-")).1 same) ∙ differs)
+
+  -- a folder is what any other source names
+  pub folder_answered : (left old new : Option (List ℕ)) (r : Result (Option Tally) ZarrsFault) → bytes_eq source (codes "-") ≡ false
+      → IfOk r (WritesOverSome word path old new) → IfOk r (WritesOverSource word source path left old new)
+  folder_answered left old new r differs = ok_weaker r (λ tally writes. inr (other differs, writes))
+
+  pub folder_refused : (before after : Option (List ℕ)) (r : Result (Option Tally) ZarrsFault) → bytes_eq source (codes "-") ≡ false
+      → IfErr r (RefusesOverSome word path) → IfErr r (RefusesOverSource word source path before after)
+  folder_refused before after r differs = err_weaker r (λ fault refused. inr (other differs, refused))
+
+-- ---- by the words
+
+-- the usage that was appended answers the words that ask for it
+pub help_answered : (words : List (List ℕ)) (asked : Asked) (left old new : Option (List ℕ)) (text : List ℕ) (r : Result (Option Tally) ZarrsFault) → AskFor words asked → asked ≡ Help
+    → text ≡ usage_text → IfOk r (λ tally. tally ≡ None) → IfOk r (λ tally. Appends old new text) → IfOk r (WritesAsked words left old new)
+help_answered words asked left old new text (Ok tally) are is same none appends = inl (subst (AskFor words) is are, none, subst (Appends old new) same appends)
+help_answered words asked left old new text (Err e) are is same none appends = tt
+
+-- and so does the version
+pub version_answered : (words : List (List ℕ)) (asked : Asked) (left old new : Option (List ℕ)) (text : List ℕ) (r : Result (Option Tally) ZarrsFault) → AskFor words asked → asked ≡ Version
+    → text ≡ version_text → IfOk r (λ tally. tally ≡ None) → IfOk r (λ tally. Appends old new text) → IfOk r (WritesAsked words left old new)
+version_answered words asked left old new text (Ok tally) are is same none appends = inr (inl (subst (AskFor words) is are, none, subst (Appends old new) same appends))
+version_answered words asked left old new text (Err e) are is same none appends = tt
+
+-- what is written of the source that the words name answers them
+pub command_answered : (words : List (List ℕ)) (command : Command) (left old new : Option (List ℕ)) (r : Result (Option Tally) ZarrsFault) → AskFor words (Store command)
+    → IfOk r (WritesOverSource command.word command.source.now command.path.now left old new) → IfOk r (WritesAsked words left old new)
+command_answered words command left old new r are = ok_weaker r (λ tally writes. inr (inr (command.word, command.source.now, command.path.now, are, writes)))
+
+-- the words of a call are no wrong words
+asked_words : (words : List (List ℕ)) (asked : Asked) → AskFor words asked → AreWords words
+asked_words words Help is = inl is
+asked_words words Version is = inr (inl is)
+asked_words words (Store command) is = inr (inr (command.word, command.source.now, command.path.now, is))
+
+-- no wrong words are refused of a source
+no_usage : (word : Word) (source path : List ℕ) (before after : Option (List ℕ)) → RefusesOverSource word source path before after Usage → ⊥
+no_usage word source path before after =
+    ⊎_elim (λ image. ⊎_elim (λ none. none) (λ why. why.1.2) image.1) (λ folder. ⊎_elim (λ none. none) (λ why. why.1) folder.1)
+
+command_fault : (words : List (List ℕ)) (command : Command) (before after : Option (List ℕ)) → AskFor words (Store command)
+    → (fault : ZarrsFault) → RefusesOverSource command.word command.source.now command.path.now before after fault → RefusesAsked words before after fault
+command_fault words command before after are Usage refused = absurd (no_usage command.word command.source.now command.path.now before after refused)
+command_fault words command before after are Write refused = asked_words words (Store command) are
+command_fault words command before after are (Load e) refused = (command.word, command.source.now, command.path.now, are, refused)
+command_fault words command before after are (Folder e) refused = (command.word, command.source.now, command.path.now, are, refused)
+command_fault words command before after are (Node e) refused = (command.word, command.source.now, command.path.now, are, refused)
+command_fault words command before after are OutOfMemory refused = (command.word, command.source.now, command.path.now, are, refused)
+
+-- what refuses the source that the words name refuses them
+pub command_refused : (words : List (List ℕ)) (command : Command) (before after : Option (List ℕ)) (r : Result (Option Tally) ZarrsFault) → AskFor words (Store command)
+    → IfErr r (RefusesOverSource command.word command.source.now command.path.now before after) → IfErr r (RefusesAsked words before after)
+command_refused words command before after r are = err_weaker r (command_fault words command before after are)
+
+-- ---- the status
+
+-- the status of a count is not 2
+not_two : (b : Bool) (n : ℕ) → n ≡ cond b 0 1 → n ≡ 2 → ⊥
+not_two true n e two = omega (arith, e, two)
+not_two false n e two = omega (arith, e, two)
+
+tally_not_two : (tally : Option Tally) (n : ℕ) → n ≡ tally_status tally → n ≡ 2 → ⊥
+tally_not_two None n e two = omega (arith, e, two)
+tally_not_two (Some tally) n e two = not_two (tally.findings == 0) n e two
+
+-- what is said of the fault is said of the words, where the hint is theirs
+said_of_words : (words : List (List ℕ)) (fault : ZarrsFault) (hint : Option (List ℕ)) (said : Result (Unit {0}) WriteFault) (before after : Option (List ℕ)) → IsHint words fault hint
+    → OnOk said (SaysReason hint fault before after) → OnOk said (SaysRefusal words fault before after)
+said_of_words words fault hint (Ok u) before after is says = (hint, is, says)
+said_of_words words fault hint (Err e) before after is says = tt
+
+-- the status 2 is that of a run that is refused, and why is said
+pub refused_run : (words : List (List ℕ)) (outcome : Result (Option Tally) ZarrsFault) (P Q : ZarrsFault → Type 0) (n : ℕ) (hint : Option (List ℕ)) (said : Result (Unit {0}) WriteFault)
+    (before after : Option (List ℕ)) → n ≡ run_status outcome → n ≡ 2 → IfErr outcome P → IfErr outcome Q → IfErr outcome (λ fault. IsHint words fault hint)
+    → OnOk said (IfErr outcome (λ fault. SaysReason hint fault before after)) → (fault : ZarrsFault) × P fault × Q fault × OnOk said (SaysRefusal words fault before after)
+refused_run words (Ok tally) P Q n hint said before after e two p q is says = absurd (tally_not_two tally n e two)
+refused_run words (Err fault) P Q n hint said before after e two p q is says = (fault, p, q, said_of_words words fault hint said before after is says)
+
+-- what was asked was written of words of a call
+written_words : (words : List (List ℕ)) (left before after : Option (List ℕ)) (tally : Option Tally) → WritesAsked words left before after tally → AreWords words
+written_words words left before after tally h = ⊎_elim (λ w. inl w.0) (λ r. ⊎_elim (λ w. inr (inl w.0)) (λ w. inr (inr (w.0, w.1, w.2, w.3))) r) h
+
+-- wrong words end with the status of a refusal
+pub usage_run : (words : List (List ℕ)) (left before after : Option (List ℕ)) (outcome : Result (Option Tally) ZarrsFault) (n : ℕ)
+    → n ≡ run_status outcome → IfOk outcome (WritesAsked words left before after) → (AreWords words → ⊥) → n ≡ 2
+usage_run words left before after (Ok tally) n e ok none = absurd (none (written_words words left before after tally ok))
+usage_run words left before after (Err fault) n e ok none = e

@@ -1,0 +1,103 @@
+//! What a run says at its end on standard error, and its status.
+ghost use Rattle.std.specs.Prelude.{◌≡◌, ◌≢◌, IfErr, IfOk, OnOk, string_bytes};
+ghost use Rattle.std.specs.Option.{option_map};
+ghost use Rattle.zarrs_cli.specs.Escapes.{escaped_text};
+ghost use Rattle.zarrs_cli.specs.RefusalLines.{SaysReason, reason_text};
+ghost use Rattle.zarrs_cli.specs.Refusals.{run_status};
+
+use crate::escapes::escaped;
+use crate::fault::ZarrsFault;
+use crate::report::Tally;
+use crate::usage::USAGE;
+use std::alloc::{AllocError, Global};
+use std::io::Write;
+use zarrs_program::{WriteFault, tell, write_whole};
+
+/// How a run ended.
+///
+/// Source: own.
+/// <https://pubs.opengroup.org/onlinepubs/9699919799/utilities/V3_chap01.html>
+#[derive(Debug, Drop)]
+pub struct Ending {
+    /// The exit status.
+    pub status: u8,
+    /// Whether the standard error took what there was to say.
+    pub said: Result<(), WriteFault>,
+}
+
+/// Writes how much a check looked at and found, or why the run was refused, and gives the exit status.
+///
+/// Source: own.
+pub fn finish<W: Write>(
+    alloc: Global,
+    outcome: &Result<Option<Tally>, ZarrsFault>,
+    no_node: &Option<String>,
+    writer: &mut W,
+) -> Ending
+    ensures status { result.status ≡ run_status outcome.now }
+    ensures said { OnOk result.said (IfErr outcome.now (λ fault.
+        SaysReason (option_map string_bytes no_node.now) fault
+        (W.contents writer.old) (W.contents writer.new))) }
+{
+    match outcome {
+        Ok(None) => Ending {
+            status: 0,
+            said: Ok(()),
+        },
+        Ok(Some(tally)) => Ending {
+            status: u8::from(tally.findings > 0),
+            said: tell("zarrs", tally, writer),
+        },
+        Err(fault) => Ending {
+            status: 2,
+            said: say_reason(alloc, fault, no_node, writer),
+        },
+    }
+}
+
+// Writes why the run was refused: of wrong words the usage, and else a line.
+fn say_reason<W: Write>(
+    alloc: Global,
+    fault: &ZarrsFault,
+    no_node: &Option<String>,
+    writer: &mut W,
+) -> Result<(), WriteFault>
+    ensures { OnOk result (SaysReason (option_map string_bytes no_node.now) fault.now
+        (W.contents writer.old) (W.contents writer.new)) }
+{
+    match fault {
+        ZarrsFault::Usage => write_whole(USAGE.as_bytes(), writer),
+        _ => say_line(alloc, fault, no_node, writer),
+    }
+}
+
+// Writes why the run was refused, as one line.
+fn say_line<W: Write>(
+    alloc: Global,
+    fault: &ZarrsFault,
+    no_node: &Option<String>,
+    writer: &mut W,
+) -> Result<(), WriteFault>
+    requires { fault.now ≢ ZarrsFault.Usage }
+    ensures { OnOk result (SaysReason (option_map string_bytes no_node.now) fault.now
+        (W.contents writer.old) (W.contents writer.new)) }
+{
+    match reason(alloc, fault, no_node) {
+        Ok(text) => tell("zarrs", &text, writer),
+        Err(AllocError) => tell("zarrs", &ZarrsFault::OutOfMemory, writer),
+    }
+}
+
+// Why the run was refused: what is known of a path without a node, else what the fault says.
+fn reason(alloc: Global, fault: &ZarrsFault, no_node: &Option<String>) -> Result<String, AllocError>
+    ensures { IfOk result (λ text. string_bytes text
+        ≡ escaped_text (reason_text (option_map string_bytes no_node.now) fault.now)) }
+{
+    match no_node {
+        Some(text) => escaped(alloc, text.as_str()),
+        None => {
+            let text = format!(in alloc; "{fault}")?;
+            escaped(alloc, text.as_str())
+        }
+    }
+}

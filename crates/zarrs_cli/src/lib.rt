@@ -1,0 +1,32 @@
+//! What the program `zarrs` does: its words, what each writes of a store, its refusals, and a whole run of it.
+#![tactic(auto)]
+
+mod answer;
+mod escapes;
+mod fault;
+mod finish;
+mod folder;
+mod image;
+mod kind;
+mod nowhere;
+mod remark;
+mod remarks_json;
+mod report;
+mod run;
+mod shown;
+mod texts;
+mod usage;
+mod warnings;
+mod words;
+
+pub use answer::answer;
+pub use escapes::{escaped, push_line};
+pub use fault::ZarrsFault;
+pub use finish::{Ending, finish};
+pub use folder::run_of_folder;
+pub use image::load_image;
+pub use report::Tally;
+pub use run::{run_of_image, run_store};
+pub use usage::{USAGE, VERSION};
+pub use warnings::Warnings;
+pub use words::{Asked, CheckOptions, Command, Word, parse};

@@ -1,0 +1,102 @@
+//! A word over a store, an image or a folder.
+ghost use Rattle.std.specs.Prelude.{◌≢◌, IfOk, IfErr, string_bytes};
+ghost use Rattle.std.specs.Io.KnownBytes.{Keeps};
+ghost use Rattle.zarrs_cli.specs.Output.{IsWordText, WritesOverImage, WritesWord};
+ghost use Rattle.zarrs_cli.specs.Refusals.{RefusesOverImage, RefusesRun};
+ghost use Rattle.zarrs_cli.specs.StepsOfRuns.{IsAnswerFault};
+
+use crate::fault::ZarrsFault;
+use crate::image::load_image;
+use crate::report::{Tally, report};
+use crate::shown::{list_text, tree_text};
+use crate::words::Word;
+use log::Log;
+use std::alloc::Global;
+use std::io::{Read, Write};
+use zarrs_config::UseConsolidatedMetadata;
+use zarrs_path::NodePath;
+use zarrs_program::{path_of, write_whole};
+use zarrs_store::{ListableStorageTraits, ReadableStorageTraits};
+
+/// Writes what a word asks of a store from a path on, in the numbers of the store. It is made whole before it is written. Answers how much a check looked at
+/// and found.
+///
+/// # Errors
+/// `Node` where the path is none, the tree or the list is refused, or a store that can fail did; `Write` where the writer fails; `OutOfMemory`.
+/// Save after `Write`, nothing was written.
+pub fn run_store<L: Log, S: ReadableStorageTraits + ListableStorageTraits, W: Write>(
+    log: &L,
+    alloc: Global,
+    word: Word,
+    path: &str,
+    store: &S,
+    writer: &mut W,
+) -> Result<Option<Tally>, ZarrsFault>
+    ensures ok { IfOk result (WritesWord word path.now (S.contents store.now)
+        (W.contents writer.old) (W.contents writer.new)) }
+    ensures refused { IfErr result
+        (RefusesRun (S.can_fail store.now) word path.now (S.contents store.now)) }
+    ensures silent { IfErr result (λ fault. fault ≢ ZarrsFault.Write
+        → Keeps (W.contents writer.old) (W.contents writer.new)) }
+{
+    let base = path_of(alloc, path)?;
+    let made = output_of(log, alloc, word, store, &base)?;
+    write_whole(made.1.as_bytes(), writer)?;
+    Ok(made.0)
+}
+
+/// Loads the image that a reader gives, and writes what a word asks of its store from a path on, as [`run_store`] does. Its documents may hold any number.
+///
+/// # Errors
+/// `Load` where there is no image; the refusals of [`run_store`].
+pub fn run_of_image<L: Log, R: Read, W: Write>(
+    log: &L,
+    alloc: Global,
+    word: Word,
+    path: &str,
+    reader: &mut R,
+    writer: &mut W,
+) -> Result<Option<Tally>, ZarrsFault>
+    ensures ok { IfOk result (WritesOverImage word path.now (R.remaining reader.old)
+        (W.contents writer.old) (W.contents writer.new)) }
+    ensures refused { IfErr result
+        (RefusesOverImage word path.now (R.remaining reader.old) (R.remaining reader.new)) }
+    ensures silent { IfErr result (λ fault. fault ≢ ZarrsFault.Write
+        → Keeps (W.contents writer.old) (W.contents writer.new)) }
+{
+    let store = load_image(alloc, reader)?;
+    run_store(log, alloc, word, path, &store, writer)
+}
+
+// What a word writes of a store from a path on.
+pub(crate) fn output_of<L: Log, S: ReadableStorageTraits + ListableStorageTraits>(
+    log: &L,
+    alloc: Global,
+    word: Word,
+    store: &S,
+    base: &NodePath,
+) -> Result<(Option<Tally>, String), ZarrsFault>
+    ensures ok { IfOk result
+        (λ made. IsWordText word (S.contents store.now) base.now made.0 (string_bytes made.1)) }
+    ensures err { IfErr result
+        (IsAnswerFault (S.can_fail store.now) word (S.contents store.now) base.now) }
+{
+    match word {
+        Word::Tree => {
+            let text = tree_text(log, alloc, store, base, UseConsolidatedMetadata::Auto)?;
+            Ok((None, text))
+        }
+        Word::StoreTree => {
+            let text = tree_text(log, alloc, store, base, UseConsolidatedMetadata::Never)?;
+            Ok((None, text))
+        }
+        Word::List => {
+            let text = list_text(log, alloc, store, base)?;
+            Ok((None, text))
+        }
+        Word::Check(options) => {
+            let made = report(log, alloc, options, store, base)?;
+            Ok((Some(made.0), made.1))
+        }
+    }
+}

@@ -1,0 +1,286 @@
+//! What the words of a call ask.
+ghost use Rattle.std.specs.Prelude.{◌≡◌, ◌≢◌, [], ◌∷◌, IfOk, IfErr, codes};
+ghost use Rattle.zarrs_program.specs.Words.{texts};
+ghost use Rattle.zarrs_cli.specs.Words.{AreWords, AskFor, IsCheckSource, IsSource, spelling};
+
+use crate::fault::ZarrsFault;
+
+/// What is asked of a store.
+///
+/// Source: own.
+/// <https://zarr-specs.readthedocs.io/en/latest/v3/core/index.html#hierarchy>
+#[derive(Clone, Copy, Debug, PartialEq, Eq)]
+pub enum Word {
+    /// The tree, by the block of the group at the path where it has one.
+    Tree,
+    /// The tree by the store, whatever block there is.
+    StoreTree,
+    /// The paths of the nodes, by the store.
+    List,
+    /// The report on what is bad.
+    Check(CheckOptions),
+}
+
+/// What the report of a check has, and how it is written.
+///
+/// Source: own.
+/// <https://zarr-specs.readthedocs.io/en/latest/v3/core/index.html#hierarchy>
+#[derive(Clone, Copy, Debug, PartialEq, Eq)]
+pub struct CheckOptions {
+    /// Whether it has notes beside the findings.
+    pub notes: bool,
+    /// Whether it is JSON, and not lines.
+    pub json: bool,
+}
+
+/// A word, where the store is, and the path that is asked about.
+///
+/// Source: own.
+/// <https://zarr-specs.readthedocs.io/en/latest/v3/core/index.html#hierarchy>
+#[derive(Clone, Copy, Debug)]
+pub struct Command<'a> {
+    /// What is asked.
+    pub word: Word,
+    /// A folder, or `-` for an image on standard input.
+    pub source: &'a str,
+    /// The path, which is `/` where it is left out.
+    pub path: &'a str,
+}
+
+/// What the words ask.
+///
+/// Source: own.
+/// <https://zarr-specs.readthedocs.io/en/latest/v3/core/index.html#hierarchy>
+#[derive(Clone, Copy, Debug)]
+pub enum Asked<'a> {
+    /// The usage.
+    Help,
+    /// The version.
+    Version,
+    /// A word of a store.
+    Store(Command<'a>),
+}
+
+/// What the words ask.
+///
+/// # Errors
+/// `Usage` where they are no call's.
+///
+/// Source: own.
+pub fn parse(words: &[String]) -> Result<Asked<'_>, ZarrsFault>
+    ensures ok { IfOk result (AskFor (texts words.now)) }
+    ensures err { IfErr result
+        (λ fault. (fault ≡ ZarrsFault.Usage) × (AreWords (texts words.now) → ⊥)) }
+{
+    match words {
+        [option] => asked_alone(option.as_str()),
+        [word, source] => asked_of(word.as_str(), source.as_str()),
+        [word, second, third] => asked_at(word.as_str(), second.as_str(), third.as_str()),
+        [word, second, third, fourth] => asked_by_option(
+            word.as_str(),
+            second.as_str(),
+            third.as_str(),
+            fourth.as_str(),
+        ),
+        [word, first, second, source, path] => asked_by_options(
+            word.as_str(),
+            first.as_str(),
+            second.as_str(),
+            source.as_str(),
+            path.as_str(),
+        ),
+        _ => Err(ZarrsFault::Usage),
+    }
+}
+
+// What one word asks.
+fn asked_alone(option: &str) -> Result<Asked<'static>, ZarrsFault>
+    ensures ok { IfOk result (AskFor (option.now ∷ [])) }
+    ensures err { IfErr result
+        (λ fault. (fault ≡ ZarrsFault.Usage) × (AreWords (option.now ∷ []) → ⊥)) }
+{
+    match option {
+        "--help" => Ok(Asked::Help),
+        "--version" => Ok(Asked::Version),
+        _ => Err(ZarrsFault::Usage),
+    }
+}
+
+// What two words ask.
+fn asked_of<'a>(word: &str, source: &'a str) -> Result<Asked<'a>, ZarrsFault>
+    ensures ok { IfOk result (AskFor (word.now ∷ source.now ∷ [])) }
+    ensures err { IfErr result
+        (λ fault. (fault ≡ ZarrsFault.Usage) × (AreWords (word.now ∷ source.now ∷ []) → ⊥)) }
+{
+    let word = word_of(word, source)?;
+    let path = "/";
+    Ok(Asked::Store(Command { word, source, path }))
+}
+
+// What three words ask: a word, a source and a path, or a word with an option, and a source.
+fn asked_at<'a>(word: &str, second: &'a str, third: &'a str) -> Result<Asked<'a>, ZarrsFault>
+    ensures ok { IfOk result (AskFor (word.now ∷ second.now ∷ third.now ∷ [])) }
+    ensures err { IfErr result
+        (λ fault. (fault ≡ ZarrsFault.Usage)
+        × (AreWords (word.now ∷ second.now ∷ third.now ∷ []) → ⊥)) }
+{
+    if let Ok(word) = word_by(word, second, third) {
+        return Ok(Asked::Store(Command {
+            word,
+            source: third,
+            path: "/",
+        }));
+    }
+    let word = word_of(word, second)?;
+    Ok(Asked::Store(Command {
+        word,
+        source: second,
+        path: third,
+    }))
+}
+
+// What four words ask: a word with an option, a source and a path, or a word with two options, and a source.
+fn asked_by_option<'a>(
+    word: &str,
+    second: &str,
+    third: &'a str,
+    fourth: &'a str,
+) -> Result<Asked<'a>, ZarrsFault>
+    ensures ok { IfOk result
+        (AskFor (word.now ∷ second.now ∷ third.now ∷ fourth.now ∷ [])) }
+    ensures err { IfErr result
+        (λ fault. (fault ≡ ZarrsFault.Usage)
+        × (AreWords (word.now ∷ second.now ∷ third.now ∷ fourth.now ∷ []) → ⊥)) }
+{
+    if let Ok(word) = word_by_two(word, second, third, fourth) {
+        return Ok(Asked::Store(Command {
+            word,
+            source: fourth,
+            path: "/",
+        }));
+    }
+    let word = word_by(word, second, third)?;
+    Ok(Asked::Store(Command {
+        word,
+        source: third,
+        path: fourth,
+    }))
+}
+
+// What five words ask: a word with two options, a source and a path.
+fn asked_by_options<'a>(
+    word: &str,
+    first: &str,
+    second: &str,
+    source: &'a str,
+    path: &'a str,
+) -> Result<Asked<'a>, ZarrsFault>
+    ensures ok { IfOk result
+        (AskFor (word.now ∷ first.now ∷ second.now ∷ source.now ∷ path.now ∷ [])) }
+    ensures err { IfErr result
+        (λ fault. (fault ≡ ZarrsFault.Usage)
+        × (AreWords (word.now ∷ first.now ∷ second.now ∷ source.now ∷ path.now ∷ []) → ⊥)) }
+{
+    let word = word_by_two(word, first, second, source)?;
+    Ok(Asked::Store(Command { word, source, path }))
+}
+
+// The word before a source.
+fn word_of(word: &str, source: &str) -> Result<Word, ZarrsFault>
+    ensures ok { IfOk result
+        (λ found. (spelling found ≡ word.now ∷ []) × IsSource found source.now) }
+    ensures err { IfErr result (λ fault. (fault ≡ ZarrsFault.Usage)
+        × ((found : Word) → (spelling found ≡ word.now ∷ []) × IsSource found source.now → ⊥)) }
+{
+    match word {
+        "tree" => tree_of(source),
+        "list" => Ok(Word::List),
+        "check" => check_of(false, false, source),
+        _ => Err(ZarrsFault::Usage),
+    }
+}
+
+// The word with an option before a source.
+fn word_by(word: &str, option: &str, source: &str) -> Result<Word, ZarrsFault>
+    ensures ok { IfOk result
+        (λ found. (spelling found ≡ word.now ∷ option.now ∷ []) × IsSource found source.now) }
+    ensures err { IfErr result (λ fault. (fault ≡ ZarrsFault.Usage)
+        × ((found : Word) → (spelling found ≡ word.now ∷ option.now ∷ [])
+        × IsSource found source.now → ⊥)) }
+{
+    match word {
+        "tree" => store_tree_by(option),
+        "check" => check_by(option, source),
+        _ => Err(ZarrsFault::Usage),
+    }
+}
+
+// The word with two options before a source.
+fn word_by_two(word: &str, first: &str, second: &str, source: &str) -> Result<Word, ZarrsFault>
+    ensures ok { IfOk result
+        (λ found. (spelling found ≡ word.now ∷ first.now ∷ second.now ∷ [])
+        × IsSource found source.now) }
+    ensures err { IfErr result (λ fault. (fault ≡ ZarrsFault.Usage)
+        × ((found : Word) → (spelling found ≡ word.now ∷ first.now ∷ second.now ∷ [])
+        × IsSource found source.now → ⊥)) }
+{
+    if word == "check" && first == "--notes" && second == "--json" {
+        return check_of(true, true, source);
+    }
+    Err(ZarrsFault::Usage)
+}
+
+// The word `tree` before a source.
+fn tree_of(source: &str) -> Result<Word, ZarrsFault>
+    ensures ok { IfOk result (λ found. (found ≡ Word.Tree) × IsSource Word.Tree source.now) }
+    ensures err { IfErr result
+        (λ fault. (fault ≡ ZarrsFault.Usage) × (IsSource Word.Tree source.now → ⊥)) }
+{
+    if source == "--store" {
+        return Err(ZarrsFault::Usage);
+    }
+    Ok(Word::Tree)
+}
+
+// The word `tree` with an option.
+fn store_tree_by(option: &str) -> Result<Word, ZarrsFault>
+    ensures ok { IfOk result
+        (λ found. (found ≡ Word.StoreTree) × (option.now ≡ codes "--store")) }
+    ensures err { IfErr result
+        (λ fault. (fault ≡ ZarrsFault.Usage) × (option.now ≢ codes "--store")) }
+{
+    if option == "--store" {
+        return Ok(Word::StoreTree);
+    }
+    Err(ZarrsFault::Usage)
+}
+
+// The word `check` with an option before a source.
+fn check_by(option: &str, source: &str) -> Result<Word, ZarrsFault>
+    ensures ok { IfOk result
+        (λ found. (spelling found ≡ codes "check" ∷ option.now ∷ [])
+        × IsSource found source.now) }
+    ensures err { IfErr result (λ fault. (fault ≡ ZarrsFault.Usage)
+        × ((found : Word) → (spelling found ≡ codes "check" ∷ option.now ∷ [])
+        × IsSource found source.now → ⊥)) }
+{
+    match option {
+        "--notes" => check_of(true, false, source),
+        "--json" => check_of(false, true, source),
+        _ => Err(ZarrsFault::Usage),
+    }
+}
+
+// The word `check` with its options before a source.
+fn check_of(notes: bool, json: bool, source: &str) -> Result<Word, ZarrsFault>
+    ensures ok { IfOk result
+        (λ found. (found ≡ Word.Check (record { notes = notes; json = json }))
+        × IsCheckSource source.now) }
+    ensures err { IfErr result
+        (λ fault. (fault ≡ ZarrsFault.Usage) × (IsCheckSource source.now → ⊥)) }
+{
+    if source == "--notes" || source == "--json" {
+        return Err(ZarrsFault::Usage);
+    }
+    Ok(Word::Check(CheckOptions { notes, json }))
+}
