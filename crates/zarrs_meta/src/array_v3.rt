@@ -169,7 +169,10 @@ impl ArrayMetadataV3 {
     }
 
     /// The array that the members of a document are, once its format and its node type were asked.
-    fn take(alloc: Global, members: Map<String, Value>) -> Result<ArrayMetadataV3, MetadataFault>
+    pub(crate) fn take(
+        alloc: Global,
+        members: Map<String, Value>,
+    ) -> Result<ArrayMetadataV3, MetadataFault>
         ensures { Gives (λ m. m) result (array_v3_taken (members_view members.entries)) }
     {
         let mut array = ArrayMetadataV3::blank(alloc);

@@ -97,7 +97,7 @@ impl GroupMetadataV3 {
     /// Takes the attributes, and a null `consolidated_metadata`; the members that are left are the
     /// additional fields.
     #[tactic(auto, unfolding(crate::specs::StepsOfReading::group_v3_taken))]
-    fn take(
+    pub(crate) fn take(
         alloc: Global,
         mut members: Map<String, Value>,
     ) -> Result<GroupMetadataV3, MetadataFault>

@@ -1,10 +1,11 @@
 //! Metadata of either kind and either version.
-ghost use Rattle.std.specs.Prelude.{◌≡◌, Ok, IfOk, IsTrue, string_bytes};
+ghost use Rattle.std.specs.Prelude.{◌≡◌, Ok, IfOk, IsTrue, codes, option_and_then, option_map, string_bytes};
 ghost use Rattle.serde_json.specs.Data.{object};
+ghost use Rattle.serde_json.specs.Find.{as_number, as_str, as_u64, get};
 ghost use Rattle.serde_json.specs.View.{view, members_view};
 ghost use Rattle.serde_json.specs.Written.{compact_text};
-ghost use Rattle.zarrs_form.specs.Documents.{Gives, document_in, document_of, of_bytes};
-ghost use Rattle.zarrs_meta.specs.Node.{node_in, node_of, node_v2_in, node_v3_in, node_tree, is_plain_node, zarr_json_in, zarr_json_of, has_format, has_type, is_group};
+ghost use Rattle.zarrs_form.specs.Documents.{Gives, document_in, document_of, format_of, of_bytes};
+ghost use Rattle.zarrs_meta.specs.Node.{node_in, node_of, node_v2_in, node_v3_in, node_tree, is_plain_node, zarr_json_in, zarr_json_of, is_group};
 ghost use Rattle.zarrs_meta.specs.declared.node.GroupMetadata.TheVariants.{V3 as group_v3, V2 as group_v2};
 ghost use Rattle.zarrs_meta.specs.declared.node.ArrayMetadata.TheVariants.{V3 as array_v3, V2 as array_v2};
 
@@ -16,7 +17,7 @@ use crate::group_v3::GroupMetadataV3;
 use serde_json::{Map, Value};
 use std::alloc::{AllocError, Global};
 use zarrs_fault::{MetadataFault, Numbers};
-use zarrs_form::{ask_format, ask_node_type, document_copy_in, document_in, member, parse};
+use zarrs_form::{document_copy_in, document_in, member, parse};
 
 /// The metadata of a group of either version.
 ///
@@ -162,7 +163,7 @@ impl NodeMetadata {
     /// As [`NodeMetadata::from_members`].
     ///
     /// Source: own; Zarr core specification 3.1, "Metadata documents".
-    #[tactic(auto, unfolding(crate::specs::Node::node_in))]
+    #[tactic(auto, unfolding(crate::specs::Node::node_in, zarrs_form::specs::Documents::format_of))]
     pub fn from_members_in(
         alloc: Global,
         numbers: Numbers,
@@ -173,12 +174,10 @@ impl NodeMetadata {
         ensures { Gives (λ m. m) result
             (node_in numbers (object (members_view members.entries))) }
     {
-        if has_format(&members, 3) {
-            node_v3(alloc, numbers, members)
-        } else if has_format(&members, 2) {
-            node_v2(alloc, numbers, members)
-        } else {
-            Err(MetadataFault::WrongFormat)
+        match zarr_format(&members) {
+            Some(3) => node_v3(alloc, numbers, members),
+            Some(2) => node_v2(alloc, numbers, members),
+            _ => Err(MetadataFault::WrongFormat),
         }
     }
 
@@ -341,7 +340,7 @@ impl ZarrJson {
 }
 
 /// What a document whose members these are is at the key `zarr.json`.
-#[tactic(auto, unfolding(crate::specs::Node::zarr_json_in))]
+#[tactic(auto, unfolding(crate::specs::Node::zarr_json_in, crate::specs::Node::node_in, zarrs_form::specs::Documents::format_of))]
 fn zarr_json(
     alloc: Global,
     numbers: Numbers,
@@ -352,32 +351,37 @@ fn zarr_json(
     ensures { Gives (λ z. z) result
         (zarr_json_in numbers (object (members_view members.entries))) }
 {
-    if has_format(&members, 2) {
-        return Ok(ZarrJson::Version2);
+    match zarr_format(&members) {
+        Some(2) => Ok(ZarrJson::Version2),
+        Some(3) => Ok(ZarrJson::Node(node_v3(alloc, numbers, members)?)),
+        _ => Err(MetadataFault::WrongFormat),
     }
-    Ok(ZarrJson::Node(NodeMetadata::from_members_in(alloc, numbers, members)?))
 }
 
-/// A node of version 3: by its node type.
+/// A node of version 3, once its format was asked: by its node type.
+#[tactic(auto, using(crate::proofs::TakenLaws::group_v3_taken_is, crate::proofs::TakenLaws::array_v3_taken_is), unfolding(zarrs_form::specs::Documents::node_type_of))]
 fn node_v3(
     alloc: Global,
     numbers: Numbers,
     members: Map<String, Value>,
 ) -> Result<NodeMetadata, MetadataFault>
-    requires { document_in numbers (object (members_view members.entries))
+    requires document { document_in numbers (object (members_view members.entries))
         ≡ Ok (members_view members.entries) }
+    requires version_3 { format_of 3 (object (members_view members.entries)) ≡ Ok tt }
     ensures { Gives (λ m. m) result
         (node_v3_in numbers (object (members_view members.entries))) }
 {
-    if has_type(&members, "group") {
-        let group = GroupMetadataV3::from_members_in(alloc, numbers, members)?;
-        Ok(NodeMetadata::Group(GroupMetadata::V3(group)))
-    } else if has_type(&members, "array") {
-        let array = ArrayMetadataV3::from_members_in(alloc, numbers, members)?;
-        let array = BoxedArray::new(alloc, ArrayMetadata::V3(array))?;
-        Ok(NodeMetadata::Array(array))
-    } else {
-        Err(MetadataFault::WrongNodeType)
+    match node_type(&members) {
+        Some("group") => {
+            let group = GroupMetadataV3::take(alloc, members)?;
+            Ok(NodeMetadata::Group(GroupMetadata::V3(group)))
+        }
+        Some("array") => {
+            let array = ArrayMetadataV3::take(alloc, members)?;
+            let array = BoxedArray::new(alloc, ArrayMetadata::V3(array))?;
+            Ok(NodeMetadata::Array(array))
+        }
+        _ => Err(MetadataFault::WrongNodeType),
     }
 }
 
@@ -402,14 +406,18 @@ fn node_v2(
     }
 }
 
-fn has_format(members: &Map<String, Value>, format: u64) -> bool
-    ensures { result ≡ has_format format (object (members_view members.now.entries)) }
+/// The number at `zarr_format`, where there is one.
+fn zarr_format(members: &Map<String, Value>) -> Option<u64>
+    ensures { result ≡ option_and_then as_u64 (option_and_then as_number
+        (get (codes "zarr_format") (object (members_view members.now.entries)))) }
 {
-    ask_format(members, format).is_ok()
+    member(members, "zarr_format").and_then(Value::as_u64)
 }
 
-fn has_type(members: &Map<String, Value>, node_type: &str) -> bool
-    ensures { result ≡ has_type node_type.now (object (members_view members.now.entries)) }
+/// The text at `node_type`, where there is one.
+fn node_type(members: &Map<String, Value>) -> Option<&str>
+    ensures { option_map (λ text. text.now) result ≡ option_and_then as_str
+        (get (codes "node_type") (object (members_view members.now.entries))) }
 {
-    ask_node_type(members, node_type).is_ok()
+    member(members, "node_type").and_then(Value::as_str)
 }
