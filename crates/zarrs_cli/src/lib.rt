@@ -1,10 +1,10 @@
 //! What the program `zarrs` does: its words, what each writes of a store, its refusals, and a whole run of it.
 #![tactic(auto)]
 
-mod answer;
+mod answers;
+mod ending;
 mod escapes;
 mod fault;
-mod finish;
 mod folder;
 mod image;
 mod kind;
@@ -19,10 +19,10 @@ mod usage;
 mod warnings;
 mod words;
 
-pub use answer::answer;
+pub use answers::answer;
+pub use ending::{Ending, finish};
 pub use escapes::{escaped, push_line};
 pub use fault::ZarrsFault;
-pub use finish::{Ending, finish};
 pub use folder::run_of_folder;
 pub use image::load_image;
 pub use report::Tally;

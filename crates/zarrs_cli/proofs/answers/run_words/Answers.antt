@@ -2,7 +2,7 @@ use Rattle.std.proofs.Common.{refl, subst}
 use Rattle.zarrs_program.specs.Words.{texts}
 use Rattle.zarrs_cli.specs.Words.{AskFor}
 use Rattle.zarrs_cli.proofs.Runs.{help_answered, version_answered, command_answered, command_refused}
-use Rattle.zarrs_cli.proofs.answer.run_words.Goals as goal
+use Rattle.zarrs_cli.proofs.answers.run_words.Goals as goal
 
 pub returns-in-Help-clause-ok : goal.returns-in-Help-clause-ok
 returns-in-Help-clause-ok g c = help_answered _ _ _ _ _ _ c.write_alone.result c.in_ok-parse.ensures.ok c.in-Help.is refl c.write_alone.ensures.none c.write_alone.ensures.ok

@@ -2,7 +2,7 @@ use Rattle.std.specs.Option.{option_map}
 use Rattle.std.specs.Prelude.{string_bytes}
 use Rattle.zarrs_program.specs.Words.{texts}
 use Rattle.zarrs_cli.proofs.Runs.{refused_run, usage_run}
-use Rattle.zarrs_cli.proofs.answer.answer.Goals as goal
+use Rattle.zarrs_cli.proofs.answers.answer.Goals as goal
 
 pub returns-clause-refused : goal.returns-clause-refused
 returns-clause-refused g c = λ two.
