@@ -9,7 +9,7 @@ use Rattle.zarrs_block.specs.Block.{Block, node_at_key, entry, Entries, IsBlockO
 use Rattle.zarrs_block.specs.BlockExpansion.{path_at}
 use Rattle.zarrs_node.specs.Reach.{Kept}
 use Rattle.tests_definitions.proofs.Meanings.{plain_group, small_array}
-use Rattle.tests_definitions.proofs.Reached.{reached}
+use Rattle.tests_definitions.proofs.ReachedNodes.{reached}
 
 -- keys `foo` and `/foo`
 abbrev two : Block

@@ -2,8 +2,8 @@ pub mod Names
 pub mod Keys
 pub mod Stores
 pub mod Meanings
-pub mod Reached
-pub mod Listing
+pub mod ReachedNodes
+pub mod SmallListings
 pub mod Lines
 pub mod Blocks
 pub mod Fresh

@@ -15,11 +15,12 @@ use Rattle.zarrs_form.specs.Forms.{is_nil}
 use Rattle.zarrs_meta.specs.declared.node.NodeMetadata.{NodeMetadata}
 use Rattle.zarrs_block.specs.Block.{Block, node_at_key}
 use Rattle.zarrs_block.specs.Meaning.{Meaning, node, nothing, bad}
-use Rattle.zarrs_block.specs.Small.{is_document_v2, stretches, counted_members}
+use Rattle.zarrs_block.specs.Small.{is_document_v2, counted_members}
+use Rattle.zarrs_store.specs.Segments.{stretches}
 use Rattle.zarrs_block.specs.Zmetadata.{before_last, documents_below, is_bad, is_good, with_node, block_from}
 use Rattle.zarrs_block.proofs.Expansion.{same_text, at_itself}
 use Rattle.zarrs_block.proofs.KeyLaws.{one_text, slash_apart}
-use Rattle.zarrs_block.proofs.Puts.{found_put}
+use Rattle.zarrs_block.proofs.PutEntries.{found_put}
 use Rattle.zarrs_block.proofs.SmallStores.{before_last-child}
 use Rattle.zarrs_block.proofs.SmallLaws.{stretches_of, got_member}
 use Rattle.zarrs_block.proofs.ZmetadataDocuments.{IsNamed, AreNamed}

@@ -14,7 +14,7 @@ use Rattle.serde_json.proofs.Views.{Entry}
 use Rattle.zarrs_store.specs.Segments.{bytes_cmp}
 use Rattle.zarrs_form.specs.Documents.{form_or_fault}
 use Rattle.zarrs_form.specs.Forms.{◌>>=◌}
-use Rattle.zarrs_form.proofs.Shared.{members_by, put_last as put_member_last}
+use Rattle.zarrs_form.proofs.MemberLists.{members_by, put_last as put_member_last}
 use Rattle.zarrs_fault.specs.declared.numbers.Numbers.{Numbers}
 use Rattle.zarrs_meta.specs.Node.{node_in, node_tree}
 use Rattle.zarrs_meta.specs.declared.node.NodeMetadata.{NodeMetadata}

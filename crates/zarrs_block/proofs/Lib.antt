@@ -1,4 +1,4 @@
-pub mod Puts
+pub mod PutEntries
 pub mod SameBlocks
 pub mod SmallStores
 pub mod SmallBlocks
@@ -9,7 +9,7 @@ pub mod BlockLaws
 pub mod NumbersWithin
 pub mod KeyLaws
 pub mod Expansion
-pub mod Covered
+pub mod CoveredKeys
 pub mod PlainKeys
 pub mod InOrder
 pub mod BlockReads

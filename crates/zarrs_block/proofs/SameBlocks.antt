@@ -10,7 +10,7 @@ use Rattle.zarrs_meta.specs.declared.node.NodeMetadata.{NodeMetadata}
 use Rattle.zarrs_block.specs.Block.{Block, IsAscending, node_at_key}
 use Rattle.zarrs_block.proofs.Expansion.{at_itself, same_text}
 use Rattle.zarrs_block.proofs.CutOut.{none_some}
-use Rattle.zarrs_block.proofs.Puts.{before_all}
+use Rattle.zarrs_block.proofs.PutEntries.{before_all}
 
 -- what stands before all keys is not found
 none_found : (t : List ℕ) (B : Block) → AllByRecursion (λ y. bytes_cmp t y ≡ Less) (keys_of B) → node_at_key B t ≡ None

@@ -29,7 +29,8 @@ use Rattle.zarrs_meta.specs.declared.node.GroupMetadata.TheVariants.{V2 as group
 use Rattle.zarrs_meta.specs.declared.node.NodeMetadata.{NodeMetadata}
 use Rattle.zarrs_meta.specs.declared.node.NodeMetadata.TheVariants.{Group, Array}
 use Rattle.zarrs_block.specs.Meaning.{Meaning, node, nothing, bad, document_or_fault, document_from, document_at, version_2_line, zarray_line, zgroup_line, meaning_in}
-use Rattle.zarrs_block.specs.Small.{SmallStore, small_meaning_in, is_document_v2, stretches, counted_members, small}
+use Rattle.zarrs_block.specs.Small.{SmallStore, small_meaning_in, is_document_v2, counted_members, small}
+use Rattle.zarrs_store.specs.Segments.{stretches}
 use Rattle.zarrs_block.specs.Zmetadata.{before_last}
 use Rattle.zarrs_block.specs.StepsOfZmetadata.{read_with, read_documents, read_files, member_at}
 

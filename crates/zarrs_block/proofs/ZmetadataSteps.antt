@@ -27,7 +27,8 @@ use Rattle.zarrs_form.specs.Documents as steps
 use Rattle.zarrs_form.specs.Forms.{fits_in, is_nil}
 use Rattle.zarrs_meta.specs.declared.node.NodeMetadata.{NodeMetadata}
 use Rattle.zarrs_block.specs.Block.{Block, IsAscending, node_at_key, put}
-use Rattle.zarrs_block.specs.Small.{is_document_v2, stretches, counted_members}
+use Rattle.zarrs_block.specs.Small.{is_document_v2, counted_members}
+use Rattle.zarrs_store.specs.Segments.{stretches}
 use Rattle.zarrs_block.specs.Zmetadata.{one, before_last, documents_below, small_block_in, zmetadata_members_in, zmetadata_in, HoldsStoreIn, IsCleanIn, IsZmetadataFaultIn}
 use Rattle.zarrs_block.specs.StepsOfZmetadata.{file_name, is_file, member_at, first_tree, paths, run_tree, tree_among, RunsAscend, read_files, tree_in, is_below_group, are_named, RefusesNames, AllFit, HoldsNodes, RefusesTrees, zmetadata_taken}
 use Rattle.zarrs_block.specs.declared.consolidated.ConsolidatedMetadata.{ConsolidatedMetadata}
@@ -39,7 +40,7 @@ use Rattle.zarrs_form.proofs.PlainForms.{member_fits_in}
 use Rattle.zarrs_block.proofs.Expansion.{at_itself, same_text}
 use Rattle.zarrs_block.proofs.LastSlash.{IsCutText}
 use Rattle.zarrs_block.proofs.Runs.{first_none}
-use Rattle.zarrs_block.proofs.Puts.{found_put, put_ascends, none_ascend}
+use Rattle.zarrs_block.proofs.PutEntries.{found_put, put_ascends, none_ascend}
 use Rattle.zarrs_block.proofs.SmallBlocks.{block_is, names_refused, trees_refused, store_law, refused_law, ascending_law}
 use Rattle.zarrs_block.proofs.SmallStores.{before_last-child, parts_child}
 

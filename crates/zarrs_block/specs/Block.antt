@@ -1,13 +1,17 @@
--- Zarr core specification 3.1, "Group metadata", the field `consolidated_metadata` in the form of zarr-python: blocks of metadata, and what their keys mean below a base.
+-- Zarr core specification 3.1, "Group metadata", the field `consolidated_metadata` in the form of zarr-python: blocks
+-- of metadata, and what their keys mean below a base.
 -- <https://zarr-specs.readthedocs.io/en/latest/v3/core/index.html#group-metadata>
 -- <https://zarr.readthedocs.io/en/stable/user-guide/consolidated_metadata/>
 --     Block, node_at_key B t, put t m B      texts with metadata; what a block has at a text; the block with one more
 --     IsValidKey t, HasValidKeys B      what a block may have as a key; that each key is such
---     entry B ns, Entries B b      what a block has for the path that is ns beyond the base; all pairs below b that it has
+--     entry B ns, Entries B b      what a block has for the path that is ns beyond the base; all pairs below b that
+-- it has
 --     IsBlockOf N b B      B holds exactly the pairs of N, each at its names beyond b
---     block_of_in numbers d, block_of d      the block that a JSON value is where it may hold these numbers, or the first fault; where they have to be whole
+--     block_of_in numbers d, block_of d      the block that a JSON value is where it may hold these numbers, or the
+-- first fault; where they have to be whole
 --     block_tree B      what is written of a block
-use Rattle.std.specs.Prelude.{◌≡◌, ℕ, false, if◌then◌else◌, List, [], ◌∷◌, ◌++◌, Option, Some, None, Result, All, IsTrue, IsSome, ◌⊎◌, ◌↔◌, option_and_then, bytes_eq, codes}
+use Rattle.std.specs.Prelude.{◌≡◌, ℕ, false, if◌then◌else◌, List, [], ◌∷◌, ◌++◌, Option, Some, None, Result, All}
+use Rattle.std.specs.Prelude.{IsTrue, IsSome, ◌⊎◌, ◌↔◌, option_and_then, bytes_eq, codes}
 use Rattle.std.specs.Result.{result_ok}
 use Rattle.std.specs.Map.{lookup, keys_of}
 use Rattle.std.specs.BTreeMap.{insert_entry, is_at}
@@ -24,6 +28,8 @@ use Rattle.zarrs_form.specs.Documents as steps
 use Rattle.zarrs_form.specs.Forms.{◌>>=◌}
 use Rattle.zarrs_meta.specs.Node.{node_in, node_tree, is_plain_node}
 use Rattle.zarrs_meta.specs.declared.node.NodeMetadata.{NodeMetadata}
+use Rattle.zarrs_fault.specs.Bytes.{slash}
+use Rattle.zarrs_block.specs.Meaning.{Pair}
 
 -- texts, the keys, with the metadata at each, in the order of the keys
 abbrev pub Block : Type 0
@@ -45,7 +51,7 @@ put t m B = insert_entry bytes_cmp B t m
 
 -- names joined by slashes, or none, also behind one slash
 abbrev pub IsValidKey : List ℕ → Type 0
-IsValidKey t = (ns : Path) × IsPath ns × ((t ≡ key_text ns) ⊎ (t ≡ 47 ∷ key_text ns))
+IsValidKey t = (ns : Path) × IsPath ns × ((t ≡ key_text ns) ⊎ (t ≡ slash ∷ key_text ns))
 
 -- each key of the block is valid
 abbrev pub HasValidKeys : Block → Type 0
@@ -58,15 +64,17 @@ first_some None other = other
 
 -- what the block has at the names joined by slashes, and where it has nothing there, behind one slash
 abbrev pub entry : Block → Path → Option NodeMetadata
-entry B ns = first_some (node_at_key B (key_text ns)) (node_at_key B (47 ∷ key_text ns))
+entry B ns = first_some (node_at_key B (key_text ns)) (node_at_key B (slash ∷ key_text ns))
 
 -- the paths below b, each with the entry of its names beyond b
-abbrev pub Entries : Block → Path → Path × NodeMetadata → Type 0
+abbrev pub Entries : Block → Path → Pair → Type 0
 Entries B b e = (n : List ℕ) × (ns : Path) × IsPath (n ∷ ns) × (e.0 ≡ b ++ n ∷ ns) × (entry B (n ∷ ns) ≡ Some e.1)
 
 -- the block holds exactly the pairs of N, each at the text of its names beyond b
-abbrev pub IsBlockOf : (Path × NodeMetadata → Type 0) → Path → Block → Type 0
-IsBlockOf N b B = (t : List ℕ) (m : NodeMetadata) → (node_at_key B t ≡ Some m) ↔ ((n : List ℕ) × (ns : Path) × (t ≡ key_text (n ∷ ns)) × N (b ++ n ∷ ns, m))
+abbrev pub IsBlockOf : (Pair → Type 0) → Path → Block → Type 0
+IsBlockOf N b B =
+    (t : List ℕ) (m : NodeMetadata) → (node_at_key B t ≡ Some m)
+    ↔ ((n : List ℕ) × (ns : Path) × (t ≡ key_text (n ∷ ns)) × N (b ++ n ∷ ns, m))
 
 -- ---- reading
 

@@ -1,4 +1,5 @@
--- Zarr core specification 3.1, "Metadata documents" and "Group metadata": what is read where numbers have to be whole, and where any may stand.
+-- Zarr core specification 3.1, "Metadata documents" and "Group metadata": what is read where numbers have to be
+-- whole, and where any may stand.
 -- <https://zarr-specs.readthedocs.io/en/latest/v3/core/index.html#metadata>
 -- <https://zarr-specs.readthedocs.io/en/latest/v3/core/index.html#group-metadata>
 use Rattle.std.specs.Prelude.{◌≡◌, false}
@@ -13,11 +14,17 @@ use Rattle.zarrs_block.specs.Block.{block_of, block_of_in}
 use Rattle.zarrs_block.specs.Meaning.{meaning}
 use Rattle.zarrs_block.specs.Zmetadata.{is_bad, zmetadata_of, zmetadata_in}
 
--- a block or a document `.zmetadata` that is read where numbers have to be whole is read the same whatever numbers may stand
+-- a block or a document `.zmetadata` that is read where numbers have to be whole is read the same whatever numbers
+-- may stand
 abbrev pub WholeBlocksReadTheSame : Type 0
-WholeBlocksReadTheSame = (numbers : Numbers) (d : Data) → ReadsToo (block_of_in numbers d) (block_of d) × ReadsToo (zmetadata_in numbers d) (zmetadata_of d)
+WholeBlocksReadTheSame =
+    (numbers : Numbers) (d : Data)
+    → ReadsToo (block_of_in numbers d) (block_of d) × ReadsToo (zmetadata_in numbers d) (zmetadata_of d)
 
 -- a path that is not bad in a store whose numbers have to be whole means the same whatever numbers may stand
 abbrev pub WholePathsMeanTheSame : Type 0
-WholePathsMeanTheSame = (values : Values) (numbers : Numbers) (v : MetadataRetrieveVersion) (p : Path) → is_bad (meaning (record { values = values; numbers = Whole }) v p) ≡ false
-    → meaning (record { values = values; numbers = numbers }) v p ≡ meaning (record { values = values; numbers = Whole }) v p
+WholePathsMeanTheSame =
+    (values : Values) (numbers : Numbers) (v : MetadataRetrieveVersion) (p : Path)
+    → is_bad (meaning (record { values = values; numbers = Whole }) v p) ≡ false
+    → meaning (record { values = values; numbers = numbers }) v p
+        ≡ meaning (record { values = values; numbers = Whole }) v p

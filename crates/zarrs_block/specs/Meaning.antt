@@ -1,4 +1,5 @@
--- Zarr core specification 3.1, "Metadata documents", and the version 2 specification, "Arrays", "Groups" and "Attributes": what a path means in a store, as a function of the look-ups at its keys.
+-- Zarr core specification 3.1, "Metadata documents", and the version 2 specification, "Arrays", "Groups" and
+-- "Attributes": what a path means in a store, as a function of the look-ups at its keys.
 -- <https://zarr-specs.readthedocs.io/en/latest/v3/core/index.html#metadata>
 -- <https://zarr-specs.readthedocs.io/en/latest/v2/v2.0.html#arrays>
 -- <https://zarr-specs.readthedocs.io/en/latest/v2/v2.0.html#groups>
@@ -29,9 +30,14 @@ use Rattle.zarrs_meta.specs.declared.node.NodeMetadata.TheVariants.{Group, Array
 use Rattle.zarrs_meta.specs.declared.node.ZarrJson.{ZarrJson}
 use Rattle.zarrs_meta.specs.declared.node.ZarrJson.TheVariants.{Node, Version2}
 use Rattle.zarrs_block.specs.declared.node_create_error.NodeCreateError.{NodeCreateError}
-use Rattle.zarrs_block.specs.declared.node_create_error.NodeCreateError.TheVariants.{StorageError as InStore, MetadataVersionMismatch}
+use Rattle.zarrs_block.specs.declared.node_create_error.NodeCreateError.TheVariants.{StorageError as InStore}
+use Rattle.zarrs_block.specs.declared.node_create_error.NodeCreateError.TheVariants.{MetadataVersionMismatch}
 use Rattle.zarrs_config.specs.declared.version.MetadataRetrieveVersion.{MetadataRetrieveVersion}
 use Rattle.zarrs_config.specs.declared.version.MetadataRetrieveVersion.TheVariants.{Default, V3, V2}
+
+-- a node as it is listed: its path, and its metadata
+abbrev pub Pair : Type 0
+Pair = Path × NodeMetadata
 
 -- a path means a node with its metadata, or nothing, or is bad with a refusal
 pub data Meaning : Type 0 where
@@ -57,23 +63,28 @@ abbrev pub in_trees : Numbers → Reading Data
 in_trees numbers D document = document numbers
 
 -- the document of what stands at a key, or none where nothing stands there
-abbrev pub document_from : {V D : Type 0} → (V → Result D MetadataFault) → Segments → Option V → Result (Option D) StorageError
+abbrev pub document_from : {V D : Type 0} → (V → Result D MetadataFault) → Segments → Option V
+    → Result (Option D) StorageError
 document_from reading key None = Ok None
 document_from reading key (Some x) = document_or_fault key (reading x)
 
 -- the document at a key of a store of bytes or of trees, or none where the key is absent
-unfoldable pub document_at : {V D : Type 0} → (V → Result D MetadataFault) → FinMap key_cmp V → Segments → Result (Option D) StorageError
+unfoldable pub document_at : {V D : Type 0} → (V → Result D MetadataFault) → FinMap key_cmp V → Segments
+    → Result (Option D) StorageError
 document_at reading s key = document_from reading key (get s key)
 
--- by the document `zarr.json` a path means its node or is bad, and where there is none it means what the other documents say
+-- by the document `zarr.json` a path means its node or is bad, and where there is none it means what the other
+-- documents say
 abbrev pub version_3_line : Result (Option ZarrJson) StorageError → Meaning → Meaning
 version_3_line (Ok None) after = after
 version_3_line (Ok (Some (Node m))) after = node m
 version_3_line (Ok (Some Version2)) after = bad MetadataVersionMismatch
 version_3_line (Err e) after = bad (InStore e)
 
--- by a version 2 document a path means its node, the attributes replaced by those beside it where there are any, or is bad, and where there is none it means what the other documents say
-abbrev pub version_2_line : {D : Type 0} → (D → NodeMetadata) → (AttributesDocument → D → D) → Result (Option D) StorageError → Result (Option AttributesDocument) StorageError → Meaning → Meaning
+-- by a version 2 document a path means its node, the attributes replaced by those beside it where there are any, or
+-- is bad, and where there is none it means what the other documents say
+abbrev pub version_2_line : {D : Type 0} → (D → NodeMetadata) → (AttributesDocument → D → D)
+    → Result (Option D) StorageError → Result (Option AttributesDocument) StorageError → Meaning → Meaning
 version_2_line kind with (Ok None) attributes after = after
 version_2_line kind with (Ok (Some d)) (Ok None) after = node (kind d)
 version_2_line kind with (Ok (Some d)) (Ok (Some a)) after = node (kind (with a d))
@@ -81,20 +92,28 @@ version_2_line kind with (Ok (Some d)) (Err e) after = bad (InStore e)
 version_2_line kind with (Err e) attributes after = bad (InStore e)
 
 -- the attributes at the key `.zattrs` of a path
-abbrev pub attributes_in : {V : Type 0} → Reading V → FinMap key_cmp V → Path → Result (Option AttributesDocument) StorageError
+abbrev pub attributes_in : {V : Type 0} → Reading V → FinMap key_cmp V → Path
+    → Result (Option AttributesDocument) StorageError
 attributes_in reading s p = document_at (reading AttributesDocument attributes_document_in) s (p ++ zattrs ∷ [])
 
 -- what `zarr.json` says, before the other documents
 unfoldable pub zarr_json_line : {V : Type 0} → Reading V → FinMap key_cmp V → Path → Meaning → Meaning
-zarr_json_line reading s p after = version_3_line (document_at (reading ZarrJson zarr_json_in) s (p ++ zarr_json ∷ [])) after
+zarr_json_line reading s p after =
+    version_3_line (document_at (reading ZarrJson zarr_json_in) s (p ++ zarr_json ∷ [])) after
 
 -- what `.zarray` says, before the other documents
 unfoldable pub zarray_line : {V : Type 0} → Reading V → FinMap key_cmp V → Path → Meaning → Meaning
-zarray_line reading s p after = version_2_line (λ m. Array (array_v2 m)) array_with (document_at (reading ArrayMetadataV2 array_v2_in) s (p ++ zarray ∷ [])) (attributes_in reading s p) after
+zarray_line reading s p after =
+    version_2_line
+        (λ m. Array (array_v2 m)) array_with (document_at (reading ArrayMetadataV2 array_v2_in) s (p ++ zarray ∷ []))
+            (attributes_in reading s p) after
 
 -- what `.zgroup` says, before the other documents
 unfoldable pub zgroup_line : {V : Type 0} → Reading V → FinMap key_cmp V → Path → Meaning → Meaning
-zgroup_line reading s p after = version_2_line (λ m. Group (group_v2 m)) group_with (document_at (reading GroupMetadataV2 group_v2_in) s (p ++ zgroup ∷ [])) (attributes_in reading s p) after
+zgroup_line reading s p after =
+    version_2_line
+        (λ m. Group (group_v2 m)) group_with (document_at (reading GroupMetadataV2 group_v2_in) s (p ++ zgroup ∷ []))
+            (attributes_in reading s p) after
 
 -- the version Default asks `zarr.json`, `.zarray` and `.zgroup` in this order, V3 the first alone, and V2 the last two
 abbrev pub by_lines : {V : Type 0} → Reading V → FinMap key_cmp V → MetadataRetrieveVersion → Path → Meaning
@@ -115,5 +134,5 @@ abbrev pub meaning : Contents → MetadataRetrieveVersion → Path → Meaning
 meaning s v p = meaning_in (in_bytes s.numbers) s.values v p
 
 -- the paths that mean nodes, with their metadata
-abbrev pub Means : (Path → Meaning) → Path × NodeMetadata → Type 0
+abbrev pub Means : (Path → Meaning) → Pair → Type 0
 Means of e = of e.0 ≡ node e.1

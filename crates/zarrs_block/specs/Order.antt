@@ -2,9 +2,9 @@
 -- <https://zarr-specs.readthedocs.io/en/latest/v3/core/index.html#path>
 use Rattle.std.specs.Prelude.{◌≡◌, List, AllPairs}
 use Rattle.std.specs.declared.cmp.Ordering.TheVariants.{Less}
-use Rattle.zarrs_path.specs.Paths.{Path, path_cmp}
-use Rattle.zarrs_meta.specs.declared.node.NodeMetadata.{NodeMetadata}
+use Rattle.zarrs_path.specs.Paths.{path_cmp}
+use Rattle.zarrs_block.specs.Meaning.{Pair}
 
 -- Each pair's path stands before the paths of all later pairs.
-abbrev pub Ascend : List (Path × NodeMetadata) → Type 0
+abbrev pub Ascend : List Pair → Type 0
 Ascend es = AllPairs (λ d e. path_cmp d.0 e.0 ≡ Less) es

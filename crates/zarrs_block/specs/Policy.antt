@@ -1,7 +1,9 @@
--- Zarr core specification 3.1, "Group metadata", the field `consolidated_metadata`: which block stands in place of a listing.
+-- Zarr core specification 3.1, "Group metadata", the field `consolidated_metadata`: which block stands in place of a
+-- listing.
 -- <https://zarr-specs.readthedocs.io/en/latest/v3/core/index.html#group-metadata>
 -- <https://zarr.readthedocs.io/en/stable/user-guide/consolidated_metadata/>
-use Rattle.std.specs.Prelude.{◌≡◌, ◌≢◌, ◌++◌, Option, Some, None, IsSome, option_map, option_and_then, string_bytes, codes}
+use Rattle.std.specs.Prelude.{◌≡◌, ◌≢◌, ◌++◌, Option, Some, None, IsSome, option_map, option_and_then, string_bytes}
+use Rattle.std.specs.Prelude.{codes}
 use Rattle.std.specs.Result.{result_ok}
 use Rattle.serde_json.specs.Data.{Data, Members}
 use Rattle.serde_json.specs.Find.{get_member}
@@ -25,9 +27,11 @@ as_block block = option_map (λ c. c.metadata) block
 
 -- the field `consolidated_metadata`, where it reads as a block that may hold these numbers
 abbrev pub fields_block : Numbers → Members → Option Block
-fields_block numbers ms = option_and_then (λ d. result_ok (block_of_in numbers d)) (get_member (codes "consolidated_metadata") ms)
+fields_block numbers ms =
+    option_and_then (λ d. result_ok (block_of_in numbers d)) (get_member (codes "consolidated_metadata") ms)
 
--- the block, which may hold these numbers, that a version 3 group holds in its additional fields; a version 2 group has none
+-- the block, which may hold these numbers, that a version 3 group holds in its additional fields; a version 2 group
+-- has none
 abbrev pub group_block : Numbers → GroupMetadata → Option Block
 group_block numbers (V3 m) = fields_block numbers m.additional_fields
 group_block numbers (V2 m) = None
@@ -37,7 +41,8 @@ abbrev pub node_block : Numbers → NodeMetadata → Option Block
 node_block numbers (Group g) = group_block numbers g
 node_block numbers (Array a) = None
 
--- the block, whose numbers have to be whole, that a version 3 group holds in its additional fields; a version 2 group has none
+-- the block, whose numbers have to be whole, that a version 3 group holds in its additional fields; a version 2 group
+-- has none
 abbrev pub block_in_group : GroupMetadata → Option Block
 block_in_group g = group_block Whole g
 
@@ -45,7 +50,8 @@ block_in_group g = group_block Whole g
 abbrev pub block_in : NodeMetadata → Option Block
 block_in m = node_block Whole m
 
--- the choice of a block: under Never none is used, and else the one that there is; where there is none, Auto uses none, and Must makes no choice, since the want of a block is refused
+-- the choice of a block: under Never none is used, and else the one that there is; where there is none, Auto uses
+-- none, and Must makes no choice, since the want of a block is refused
 abbrev pub block_to_use : Option Block → UseConsolidatedMetadata → Option (Option Block)
 block_to_use block Never = Some None
 block_to_use (Some B) Auto = Some (Some B)
@@ -55,7 +61,8 @@ block_to_use None Must = None
 
 -- the want of a block is refused, and the error says so with the text of p; or out of memory for that text
 abbrev pub RefusesUse : Path → Option (Option Block) → NodeCreateError → Type 0
-RefusesUse p choice (MissingMetadata text) = (choice ≡ None) × (string_bytes text ≡ codes "Consolidated metadata required but missing on group " ++ path_text p)
+RefusesUse p choice (MissingMetadata text) =
+    (choice ≡ None) × (string_bytes text ≡ codes "Consolidated metadata required but missing on group " ++ path_text p)
 RefusesUse p choice OutOfMemory = choice ≡ None
 RefusesUse p choice _ = ⊥
 
@@ -64,7 +71,8 @@ abbrev pub group_field : GroupMetadata → Option Data
 group_field (V3 m) = get_member (codes "consolidated_metadata") m.additional_fields
 group_field (V2 m) = None
 
--- the field `consolidated_metadata` of a node, whether it reads as a block or not: a group has its own; an array has none
+-- the field `consolidated_metadata` of a node, whether it reads as a block or not: a group has its own; an array has
+-- none
 abbrev pub block_field : NodeMetadata → Option Data
 block_field (Group g) = group_field g
 block_field (Array a) = None

@@ -3,12 +3,18 @@
 -- <https://zarr-specs.readthedocs.io/en/latest/v3/core/index.html#metadata>
 use Rattle.std.specs.Prelude.{◌≡◌, ◌⊎◌, Bool, ◌++◌, string_bytes, codes}
 use Rattle.zarrs_store.specs.Faults.{IsStoreError}
-use Rattle.zarrs_store.specs.declared.storage_error.StorageError.TheVariants.{Fault, InvalidMetadata, Other, OutOfMemory as NoStoreMemory}
-use Rattle.zarrs_store.specs.declared.prefix.StorePrefixError.TheVariants.{Invalid as InvalidPrefix, OutOfMemory as NoPrefixMemory}
-use Rattle.zarrs_path.specs.declared.node_path.NodePathError.TheVariants.{Invalid as InvalidPath, OutOfMemory as NoPathMemory}
+use Rattle.zarrs_store.specs.declared.storage_error.StorageError.TheVariants.{Fault, InvalidMetadata, Other}
+use Rattle.zarrs_store.specs.declared.storage_error.StorageError.TheVariants.{OutOfMemory as NoStoreMemory}
+use Rattle.zarrs_store.specs.declared.prefix.StorePrefixError.TheVariants.{Invalid as InvalidPrefix}
+use Rattle.zarrs_store.specs.declared.prefix.StorePrefixError.TheVariants.{OutOfMemory as NoPrefixMemory}
+use Rattle.zarrs_path.specs.declared.node_path.NodePathError.TheVariants.{Invalid as InvalidPath}
+use Rattle.zarrs_path.specs.declared.node_path.NodePathError.TheVariants.{OutOfMemory as NoPathMemory}
 use Rattle.zarrs_path.specs.Paths.{Path, path_text}
 use Rattle.zarrs_block.specs.declared.node_create_error.NodeCreateError.{NodeCreateError}
-use Rattle.zarrs_block.specs.declared.node_create_error.NodeCreateError.TheVariants.{NodePathError, StorePrefixError, StorageError, MetadataVersionMismatch, MissingMetadata, OutOfMemory}
+use Rattle.zarrs_block.specs.declared.node_create_error.NodeCreateError.TheVariants.{NodePathError, StorePrefixError}
+use Rattle.zarrs_block.specs.declared.node_create_error.NodeCreateError.TheVariants.{StorageError}
+use Rattle.zarrs_block.specs.declared.node_create_error.NodeCreateError.TheVariants.{MetadataVersionMismatch}
+use Rattle.zarrs_block.specs.declared.node_create_error.NodeCreateError.TheVariants.{MissingMetadata, OutOfMemory}
 
 -- out of memory: the error is `OutOfMemory`, or holds an error that is
 abbrev pub LacksMemory : NodeCreateError → Type 0

@@ -1,13 +1,17 @@
--- The version 2 convention of consolidated metadata, the document `.zmetadata` of a group: the parts of its reader, by look-ups.
+-- The version 2 convention of consolidated metadata, the document `.zmetadata` of a group: the parts of its reader,
+-- by look-ups.
 --     member_at ms t file      a document of version 2 that members have for the text of a path
 --     AllFit numbers document      each number of the documents of a path is one of these
---     read_files numbers document      the node that the documents of a path are where they may hold these numbers, or nothing, or the first fault
+--     read_files numbers document      the node that the documents of a path are where they may hold these numbers,
+-- or nothing, or the first fault
 --     tree_among runs t file      a document that runs have for a text
 --     gathered_at runs run t file      a document that a run has for a text, or that the runs before it have
 --     RunsAscend runs      the paths of the runs ascend
 --     IsPlace t r      the path and the file that a member's name tells, where it counts below the group
 --     are_named ms, RefusesNames ms      the names that count below the group are those of nodes; that they are not
-use Rattle.std.specs.Prelude.{◌≡◌, ◌≢◌, ◌⊎◌, IfSome, ℕ, Bool, true, false, not, ◌&&◌, List, [], ◌∷◌, ◌++◌, map, Option, Some, None, Result, Ok, Err, option_map, if◌then◌else◌, string_bytes, codes, bytes_eq, All, IsTrue}
+use Rattle.std.specs.Prelude.{◌≡◌, ◌≢◌, ◌⊎◌, IfSome, ℕ, Bool, true, false, not, ◌&&◌, List, [], ◌∷◌, ◌++◌, map, Option}
+use Rattle.std.specs.Prelude.{Some, None, Result, Ok, Err, option_map, if◌then◌else◌, string_bytes, codes, bytes_eq}
+use Rattle.std.specs.Prelude.{All, IsTrue}
 use Rattle.std.specs.List.{list_all}
 use Rattle.std.specs.Result.{result_ok}
 use Rattle.std.specs.List.Sorted.{IsStrictlySortedBy}
@@ -22,7 +26,7 @@ use Rattle.zarrs_fault.specs.declared.fault.MetadataFault.TheVariants.{BadMember
 use Rattle.zarrs_fault.specs.declared.numbers.Numbers.{Numbers}
 use Rattle.zarrs_path.specs.Keys.{zarray, zgroup, zattrs}
 use Rattle.zarrs_path.specs.Names.{is_name}
-use Rattle.zarrs_path.specs.Paths.{IsPath, Path}
+use Rattle.zarrs_path.specs.Paths.{IsPath}
 use Rattle.zarrs_form.specs.Documents as steps
 use Rattle.zarrs_form.specs.Documents.{required_member}
 use Rattle.zarrs_form.specs.Forms.{fits_in, is_nil}
@@ -36,14 +40,19 @@ use Rattle.zarrs_meta.specs.declared.node.GroupMetadata.TheVariants.{V2 as group
 use Rattle.zarrs_meta.specs.declared.node.NodeMetadata.{NodeMetadata}
 use Rattle.zarrs_meta.specs.declared.node.NodeMetadata.TheVariants.{Group, Array}
 use Rattle.zarrs_block.specs.Block.{Block}
-use Rattle.zarrs_block.specs.Small.{is_document_v2, stretches}
+use Rattle.zarrs_block.specs.Small.{is_document_v2}
+use Rattle.zarrs_store.specs.Segments.{stretches}
 use Rattle.zarrs_block.specs.Zmetadata.{one, before_last, documents_below, small_block_in, is_version_2}
 use Rattle.zarrs_block.specs.declared.zmetadata.Documents.{Documents}
 use Rattle.zarrs_block.specs.declared.zmetadata.File.{File}
 use Rattle.zarrs_block.specs.declared.zmetadata.Run.{Run}
-use Rattle.zarrs_block.specs.declared.zmetadata.File.TheVariants.{Array as array_file, Group as group_file, Attributes as attributes_file}
+use Rattle.zarrs_block.specs.declared.zmetadata.File.TheVariants.{Array as array_file, Group as group_file}
+use Rattle.zarrs_block.specs.declared.zmetadata.File.TheVariants.{Attributes as attributes_file}
 use Rattle.zarrs_block.specs.declared.node_create_error.NodeCreateError.{NodeCreateError}
-use Rattle.zarrs_block.specs.declared.node_create_error.NodeCreateError.TheVariants.{MetadataVersionMismatch, OutOfMemory}
+use Rattle.zarrs_block.specs.declared.node_create_error.NodeCreateError.TheVariants.{MetadataVersionMismatch}
+use Rattle.zarrs_block.specs.declared.node_create_error.NodeCreateError.TheVariants.{OutOfMemory}
+use Rattle.zarrs_fault.specs.Bytes.{slash}
+use Rattle.zarrs_block.specs.Meaning.{Pair}
 
 -- ---- the documents of one path
 
@@ -59,22 +68,29 @@ is_file file other = bytes_eq (file_name file) (file_name other)
 
 -- the document of this name that members have for a text: at it, a slash and the name
 abbrev pub member_at : Members → List ℕ → File → Option Data
-member_at ms t file = get_member (t ++ 47 ∷ file_name file) ms
+member_at ms t file = get_member (t ++ slash ∷ file_name file) ms
 
--- a document with the attributes beside it, where there are any, both of which may hold these numbers, or the first fault
-abbrev pub read_with : {D : Type 0} → Numbers → (Numbers → Data → Result D MetadataFault) → (D → NodeMetadata) → (AttributesDocument → D → D) → Data → Option Data → Result NodeMetadata MetadataFault
+-- a document with the attributes beside it, where there are any, both of which may hold these numbers, or the first
+-- fault
+abbrev pub read_with : {D : Type 0} → Numbers → (Numbers → Data → Result D MetadataFault) → (D → NodeMetadata)
+    → (AttributesDocument → D → D) → Data → Option Data → Result NodeMetadata MetadataFault
 read_with numbers document kind with d None = steps.◌>>=◌ (document numbers d) λ m. Ok (kind m)
-read_with numbers document kind with d (Some a) = steps.◌>>=◌ (document numbers d) λ m. steps.◌>>=◌ (attributes_document_in numbers a) λ x. Ok (kind (with x m))
+read_with numbers document kind with d (Some a) =
+    steps.◌>>=◌ (document numbers d) λ m. steps.◌>>=◌ (attributes_document_in numbers a) λ x. Ok (kind (with x m))
 
 -- the array of the first, or else the group of the second, or else nothing, or the first fault
-abbrev pub read_documents : Numbers → Option Data → Option Data → Option Data → Result (Option NodeMetadata) MetadataFault
-read_documents numbers (Some d) group attributes = steps.◌>>=◌ (read_with numbers array_v2_in (λ m. Array (array_v2 m)) array_with d attributes) λ m. Ok (Some m)
-read_documents numbers None (Some d) attributes = steps.◌>>=◌ (read_with numbers group_v2_in (λ m. Group (group_v2 m)) group_with d attributes) λ m. Ok (Some m)
+abbrev pub read_documents : Numbers → Option Data → Option Data → Option Data
+    → Result (Option NodeMetadata) MetadataFault
+read_documents numbers (Some d) group attributes =
+    steps.◌>>=◌ (read_with numbers array_v2_in (λ m. Array (array_v2 m)) array_with d attributes) λ m. Ok (Some m)
+read_documents numbers None (Some d) attributes =
+    steps.◌>>=◌ (read_with numbers group_v2_in (λ m. Group (group_v2 m)) group_with d attributes) λ m. Ok (Some m)
 read_documents numbers None None attributes = Ok None
 
 -- the node that the documents of the three files are where they may hold these numbers, or nothing, or the first fault
 abbrev pub read_files : Numbers → (File → Option Data) → Result (Option NodeMetadata) MetadataFault
-read_files numbers document = read_documents numbers (document array_file) (document group_file) (document attributes_file)
+read_files numbers document =
+    read_documents numbers (document array_file) (document group_file) (document attributes_file)
 
 -- each number of the documents of the three files is one of these
 abbrev pub AllFit : Numbers → (File → Option Data) → Type 0
@@ -118,11 +134,13 @@ paths runs = map (λ run. string_bytes run.path) runs
 abbrev pub RunsAscend : List Run → Type 0
 RunsAscend runs = IsStrictlySortedBy bytes_cmp (paths runs)
 
--- the next run, to which a run of the same path was joined; or behind which, with another path, it was put among those before
+-- the next run, to which a run of the same path was joined; or behind which, with another path, it was put among
+-- those before
 abbrev pub IsJoined : Run → Run → List Run → List Run → Run → Type 0
 IsJoined run next old new now =
     ((new ≡ old) × (string_bytes run.path ≡ string_bytes next.path) × (string_bytes now.path ≡ string_bytes next.path)
-    × ((file : File) → tree_in now.documents file ≡ first_tree (tree_in next.documents file) (tree_in run.documents file)))
+        × ((file : File)
+            → tree_in now.documents file ≡ first_tree (tree_in next.documents file) (tree_in run.documents file)))
     ⊎ ((new ≡ old ++ run ∷ []) × (string_bytes run.path ≢ string_bytes next.path) × (now ≡ next))
 
 -- ---- the names of members
@@ -136,11 +154,13 @@ abbrev pub IsFile : List ℕ → Option File → Type 0
 IsFile t None = is_document_v2 t ≡ false
 IsFile t (Some file) = t ≡ file_name file
 
--- what a member's name tells: that it does not count below the group, or the text of the path, whose parts are names, and the file, or that they are no names
+-- what a member's name tells: that it does not count below the group, or the text of the path, whose parts are names,
+-- and the file, or that they are no names
 abbrev pub IsPlace : List ℕ → Result (Option (Bor (List ℕ) × File)) MetadataFault → Type 0
 IsPlace t (Ok None) = is_below_group t ≡ false
-IsPlace t (Ok (Some place)) = (t ≡ place.0.now ++ 47 ∷ file_name place.1) × IsPath (stretches place.0.now)
-IsPlace t (Err (BadMember name)) = (name ≡ codes "metadata") × (is_below_group t ≡ true) × (list_all is_name (before_last (stretches t)) ≡ false)
+IsPlace t (Ok (Some place)) = (t ≡ place.0.now ++ slash ∷ file_name place.1) × IsPath (stretches place.0.now)
+IsPlace t (Err (BadMember name)) =
+    (name ≡ codes "metadata") × (is_below_group t ≡ true) × (list_all is_name (before_last (stretches t)) ≡ false)
 IsPlace t (Err _) = ⊥
 
 -- the names that count below the group are those of nodes
@@ -161,7 +181,8 @@ HoldsNodes numbers document at = (t : List ℕ) → result_ok (read_files number
 
 -- the documents at some text do not read; or out of memory
 abbrev pub RefusesTrees : Numbers → (List ℕ → File → Option Data) → MetadataFault → Type 0
-RefusesTrees numbers document (BadMember name) = (name ≡ codes "metadata") × ((t : List ℕ) × (result_ok (read_files numbers (document t)) ≡ None))
+RefusesTrees numbers document (BadMember name) =
+    (name ≡ codes "metadata") × ((t : List ℕ) × (result_ok (read_files numbers (document t)) ≡ None))
 RefusesTrees numbers document OutOfMemory = Unit {0}
 RefusesTrees numbers document _ = ⊥
 
@@ -178,7 +199,7 @@ RefusesWritingNode m OutOfMemory = Unit {0}
 RefusesWritingNode m _ = ⊥
 
 -- some node is of version 3, or out of memory
-abbrev pub RefusesWritingNodes : List (Path × NodeMetadata) → NodeCreateError → Type 0
+abbrev pub RefusesWritingNodes : List Pair → NodeCreateError → Type 0
 RefusesWritingNodes es MetadataVersionMismatch = All (λ e. IsTrue (is_version_2 e.1)) es → ⊥
 RefusesWritingNodes es OutOfMemory = Unit {0}
 RefusesWritingNodes es _ = ⊥

@@ -1,14 +1,19 @@
--- The version 2 convention of consolidated metadata, the document `.zmetadata` of a group (zarr-python, "Consolidated metadata"): how it is read as a block, and how it is written.
+-- The version 2 convention of consolidated metadata, the document `.zmetadata` of a group (zarr-python, "Consolidated
+-- metadata"): how it is read as a block, and how it is written.
 -- <https://zarr.readthedocs.io/en/stable/user-guide/consolidated_metadata/>
---     zmetadata_in numbers d, zmetadata_of d      the block that a document is where it may hold these numbers, or its first fault; where they have to be whole
+--     zmetadata_in numbers d, zmetadata_of d      the block that a document is where it may hold these numbers, or
+-- its first fault; where they have to be whole
 --     HoldsStoreIn, IsCleanIn      what that block has and that nothing below the group is bad, as of any store
 --     IsZmetadataFaultIn      what refuses a document
 --     HoldsStore, IsClean, IsZmetadataFault      the same, where numbers have to be whole
 --     zmetadata_tree g B      what is written of a group of version 2 and its block
 --     IsWrittenOf g B d      what the written document has at each key
 --     RefusesZmetadata      what refuses its writing
---     HoldsDocuments, WrittenHoldsDocuments, WrittenReadsBack      what the written document has, and that it reads back
-use Rattle.std.specs.Prelude.{if◌then◌else◌, ◌≡◌, ◌≢◌, ◌⊎◌, ◌↔◌, ◌==◌, ℕ, Bool, true, false, not, ◌&&◌, List, [], ◌∷◌, ◌++◌, Option, Some, None, option_and_then, IsSome, Result, Ok, Err, All, IsTrue, bytes_eq, codes}
+--     HoldsDocuments, WrittenHoldsDocuments, WrittenReadsBack      what the written document has, and that it reads
+-- back
+use Rattle.std.specs.Prelude.{if◌then◌else◌, ◌≡◌, ◌≢◌, ◌⊎◌, ◌↔◌, ◌==◌, ℕ, Bool, true, false, not, ◌&&◌, List, [], ◌∷◌}
+use Rattle.std.specs.Prelude.{◌++◌, Option, Some, None, option_and_then, IsSome, Result, Ok, Err, All, IsTrue, bytes_eq}
+use Rattle.std.specs.Prelude.{codes}
 use Rattle.std.specs.List.{list_all, filter}
 use Rattle.std.specs.Map.{lookup}
 use Rattle.serde_json.specs.Data.{Data, number, unsigned, object, Members, no_members, member, put as put_member}
@@ -38,6 +43,7 @@ use Rattle.zarrs_block.specs.declared.node_create_error.NodeCreateError.{NodeCre
 use Rattle.zarrs_block.specs.declared.node_create_error.NodeCreateError.TheVariants.{MetadataVersionMismatch}
 use Rattle.zarrs_block.specs.Meaning.{Meaning, Means, node, bad}
 use Rattle.zarrs_block.specs.Small.{is_document_v2, counted_members, small, small_meaning_in}
+use Rattle.zarrs_block.specs.Meaning.{Pair}
 
 -- ---- reading
 
@@ -87,7 +93,8 @@ block_from of (e ∷ es) = with_node (before_last e.0) (of (before_last e.0)) (b
 
 -- the block of what the paths below the group mean, where each document there is good
 abbrev pub block_where_good : (Path → Meaning) → List (Segments × Data) → Result Block MetadataFault
-block_where_good of es = if list_all (λ e. is_good of e.0) es then Ok (block_from of es) else Err (BadMember (codes "metadata"))
+block_where_good of es =
+    if list_all (λ e. is_good of e.0) es then Ok (block_from of es) else Err (BadMember (codes "metadata"))
 
 -- the block of the nodes below the group, whose documents may hold these numbers, where none is bad
 abbrev pub small_block_in : Numbers → Members → Result Block MetadataFault
@@ -103,7 +110,8 @@ zmetadata_of d = zmetadata_in Whole d
 
 -- ---- what was read, as what a store is
 
--- the block has exactly the paths below any base that mean nodes in the small store behind it, whose documents may hold these numbers, with their metadata
+-- the block has exactly the paths below any base that mean nodes in the small store behind it, whose documents may
+-- hold these numbers, with their metadata
 abbrev pub HoldsStoreIn : Numbers → Members → Block → Type 0
 HoldsStoreIn numbers ms B = (b : Path) → IsBlockOf (Means (small_meaning_in numbers (small b ms))) b B
 
@@ -111,29 +119,35 @@ HoldsStoreIn numbers ms B = (b : Path) → IsBlockOf (Means (small_meaning_in nu
 abbrev pub HoldsStore : Members → Block → Type 0
 HoldsStore ms B = HoldsStoreIn Whole ms B
 
--- below no base a path is bad in the small store behind it, whose documents may hold these numbers, and each document that counts stands below names
+-- below no base a path is bad in the small store behind it, whose documents may hold these numbers, and each document
+-- that counts stands below names
 pub record IsCleanIn (numbers : Numbers) (ms : Members) : Type 0 where
-  pub means : (b : Path) (n : List ℕ) (ns : Path) (e : NodeCreateError) → small_meaning_in numbers (small b ms) (b ++ n ∷ ns) ≢ bad e
+  pub means : (b : Path) (n : List ℕ) (ns : Path) (e : NodeCreateError)
+      → small_meaning_in numbers (small b ms) (b ++ n ∷ ns) ≢ bad e
   pub named : All (λ e. IsPath (before_last e.0)) (counted_members ms)
 
 -- the same, where numbers have to be whole
 abbrev pub IsClean : Members → Type 0
 IsClean ms = IsCleanIn Whole ms
 
--- the document, which may hold these numbers, is none of format 1, and this is its first fault; or it has members that are no clean store, and the fault is `BadMember` of `metadata`, the member that has them
+-- the document, which may hold these numbers, is none of format 1, and this is its first fault; or it has members
+-- that are no clean store, and the fault is `BadMember` of `metadata`, the member that has them
 abbrev pub IsZmetadataFaultIn : Numbers → Data → MetadataFault → Type 0
 IsZmetadataFaultIn numbers d fault =
     (zmetadata_members_in numbers d ≡ Err fault)
-    ⊎ ((ms : Members) × (zmetadata_members_in numbers d ≡ Ok ms) × (IsCleanIn numbers ms → ⊥) × (fault ≡ BadMember (codes "metadata")))
+    ⊎ ((ms : Members) × (zmetadata_members_in numbers d ≡ Ok ms) × (IsCleanIn numbers ms → ⊥)
+        × (fault ≡ BadMember (codes "metadata")))
 
 -- the same, where numbers have to be whole
 abbrev pub IsZmetadataFault : Data → MetadataFault → Type 0
 IsZmetadataFault d fault = IsZmetadataFaultIn Whole d fault
 
--- A document that reads as a block where it may hold these numbers has members; the block holds the store that they are, in which nothing is bad, and the keys of the block ascend.
+-- A document that reads as a block where it may hold these numbers has members; the block holds the store that they
+-- are, in which nothing is bad, and the keys of the block ascend.
 abbrev pub ZmetadataHoldsIn : Numbers → Type 0
 ZmetadataHoldsIn numbers = (d : Data) (B : Block) → zmetadata_in numbers d ≡ Ok B
-    → ((ms : Members) × (zmetadata_members_in numbers d ≡ Ok ms) × HoldsStoreIn numbers ms B × IsCleanIn numbers ms) × IsAscending B
+    → ((ms : Members) × (zmetadata_members_in numbers d ≡ Ok ms) × HoldsStoreIn numbers ms B × IsCleanIn numbers ms)
+    × IsAscending B
 
 -- The same, where numbers have to be whole.
 abbrev pub ZmetadataHolds : Type 0
@@ -145,11 +159,14 @@ ZmetadataHolds = ZmetadataHoldsIn Whole
 abbrev pub attributes_written : Members → List (List ℕ × Data)
 attributes_written attributes = if is_empty attributes then [] else (zattrs, object attributes) ∷ []
 
--- the documents of version 2 of a node, each under its name: its own without attributes, and its attributes; a node of version 3 has none
+-- the documents of version 2 of a node, each under its name: its own without attributes, and its attributes; a node
+-- of version 3 has none
 abbrev pub node_written : NodeMetadata → List (List ℕ × Data)
-node_written (Group (group_v2 m)) = (zgroup, group_v2_tree (group_without_attributes m)) ∷ attributes_written m.attributes
+node_written (Group (group_v2 m)) =
+    (zgroup, group_v2_tree (group_without_attributes m)) ∷ attributes_written m.attributes
 node_written (Group (group_v3 m)) = []
-node_written (Array (array_v2 m)) = (zarray, array_v2_tree (array_without_attributes m)) ∷ attributes_written m.attributes
+node_written (Array (array_v2 m)) =
+    (zarray, array_v2_tree (array_without_attributes m)) ∷ attributes_written m.attributes
 node_written (Array (array_v3 m)) = []
 
 -- the members with documents put behind the names of a path
@@ -158,7 +175,7 @@ put_documents p [] ms = ms
 put_documents p (e ∷ es) ms = put_member (key_text (p ++ e.0 ∷ [])) e.1 (put_documents p es ms)
 
 -- the members that are the documents of these nodes
-abbrev pub nodes_written : List (Path × NodeMetadata) → Members
+abbrev pub nodes_written : List Pair → Members
 nodes_written [] = no_members
 nodes_written (e ∷ es) = put_documents e.0 (node_written e.1) (nodes_written es)
 
@@ -168,7 +185,10 @@ documents_written g B = nodes_written (([], Group (group_v2 g)) ∷ pairs_at (pa
 
 -- an object with these members and with the format
 abbrev pub zmetadata_with : Members → Data
-zmetadata_with ms = object (member (codes "metadata") (object ms) (member (codes "zarr_consolidated_format") (number (unsigned 1)) no_members))
+zmetadata_with ms =
+    object
+        (member (codes "metadata") (object ms)
+            (member (codes "zarr_consolidated_format") (number (unsigned 1)) no_members))
 
 -- what is written of a group of version 2 and its block: an object with their documents and with the format
 abbrev pub zmetadata_tree : GroupMetadataV2 → Block → Data
@@ -183,9 +203,10 @@ is_version_2 (Array (array_v3 m)) = false
 
 -- each entry is of version 2
 abbrev pub HasVersion2 : Block → Type 0
-HasVersion2 B = (e : Path × NodeMetadata) → Entries B [] e → IsTrue (is_version_2 e.1)
+HasVersion2 B = (e : Pair) → Entries B [] e → IsTrue (is_version_2 e.1)
 
--- a key of the block is not valid, and the error names its first part that is no name; or all are valid and an entry is of version 3; or out of memory
+-- a key of the block is not valid, and the error names its first part that is no name; or all are valid and an entry
+-- is of version 3; or out of memory
 abbrev pub RefusesZmetadata : Block → NodeCreateError → Type 0
 RefusesZmetadata B MetadataVersionMismatch = HasValidKeys B × (HasVersion2 B → ⊥)
 RefusesZmetadata B e = RefusesKeys B e
@@ -201,12 +222,16 @@ node_at g B (n ∷ ns) = entry B (n ∷ ns)
 abbrev pub document_written : List ℕ → NodeMetadata → Option Data
 document_written file m = lookup (bytes_eq file) (node_written m)
 
--- behind the names of each path the members have the documents of the node there, where there is one, and they have no others
+-- behind the names of each path the members have the documents of the node there, where there is one, and they have
+-- no others
 pub record HoldsDocuments (g : GroupMetadataV2) (B : Block) (ms : Members) : Type 0 where
-  pub documents : (ns : Path) (file : List ℕ) → IsPath ns → IsTrue (is_document_v2 file) → get_member (key_text (ns ++ file ∷ [])) ms ≡ option_and_then (document_written file) (node_at g B ns)
-  pub no_others : (t : List ℕ) → IsSome (get_member t ms) → (ns : Path) × (file : List ℕ) × IsPath ns × IsTrue (is_document_v2 file) × (t ≡ key_text (ns ++ file ∷ []))
+  pub documents : (ns : Path) (file : List ℕ) → IsPath ns → IsTrue (is_document_v2 file)
+      → get_member (key_text (ns ++ file ∷ [])) ms ≡ option_and_then (document_written file) (node_at g B ns)
+  pub no_others : (t : List ℕ) → IsSome (get_member t ms)
+      → (ns : Path) × (file : List ℕ) × IsPath ns × IsTrue (is_document_v2 file) × (t ≡ key_text (ns ++ file ∷ []))
 
--- the document is an object with the format and with members that hold the documents of the group and of the block's entries
+-- the document is an object with the format and with members that hold the documents of the group and of the block's
+-- entries
 pub record IsWrittenOf (g : GroupMetadataV2) (B : Block) (d : Data) : Type 0 where
   pub members : Members
   pub is : d ≡ zmetadata_with members
@@ -216,17 +241,21 @@ pub record IsWrittenOf (g : GroupMetadataV2) (B : Block) (d : Data) : Type 0 whe
 
 -- What is written of a group and a block with valid keys holds their documents.
 abbrev pub WrittenHoldsDocuments : Type 0
-WrittenHoldsDocuments = (g : GroupMetadataV2) (B : Block) → IsAscending B → HasValidKeys B → HoldsDocuments g B (documents_written g B)
+WrittenHoldsDocuments =
+    (g : GroupMetadataV2) (B : Block) → IsAscending B → HasValidKeys B → HoldsDocuments g B (documents_written g B)
 
 -- each entry could have come from a document
 abbrev pub HasPlainEntries : Block → Type 0
-HasPlainEntries B = (e : Path × NodeMetadata) → Entries B [] e → IsTrue (is_plain_node e.1)
+HasPlainEntries B = (e : Pair) → Entries B [] e → IsTrue (is_plain_node e.1)
 
 -- two blocks have the same entries, below any base
 abbrev pub HaveSameEntries : Block → Block → Type 0
-HaveSameEntries B C = (b : Path) (e : Path × NodeMetadata) → Entries C b e ↔ Entries B b e
+HaveSameEntries B C = (b : Path) (e : Pair) → Entries C b e ↔ Entries B b e
 
--- What is written of a plain group and a block with valid keys, whose entries are plain and of version 2, reads as a block with the same entries.
+-- What is written of a plain group and a block with valid keys, whose entries are plain and of version 2, reads as a
+-- block with the same entries.
 abbrev pub WrittenReadsBack : Type 0
-WrittenReadsBack = (g : GroupMetadataV2) (B : Block) → IsTrue (is_plain_group_v2 g) → IsAscending B → HasValidKeys B → HasVersion2 B → HasPlainEntries B
+WrittenReadsBack =
+    (g : GroupMetadataV2) (B : Block) → IsTrue (is_plain_group_v2 g) → IsAscending B → HasValidKeys B → HasVersion2 B
+    → HasPlainEntries B
     → (C : Block) × (zmetadata_of (zmetadata_tree g B) ≡ Ok C) × HaveSameEntries B C

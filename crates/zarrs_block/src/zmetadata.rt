@@ -15,7 +15,7 @@ ghost use Rattle.zarrs_meta.specs.declared.node.ArrayMetadata.TheVariants.{V2 as
 ghost use Rattle.zarrs_meta.specs.declared.node.GroupMetadata.TheVariants.{V2 as group_v2};
 ghost use Rattle.zarrs_meta.specs.declared.node.NodeMetadata.TheVariants.{Group, Array};
 ghost use Rattle.zarrs_block.specs.Block.{IsAscending, node_at_key};
-ghost use Rattle.zarrs_block.specs.Small.{stretches};
+ghost use Rattle.zarrs_store.specs.Segments.{stretches};
 ghost use Rattle.zarrs_block.specs.Zmetadata.{one, small_block_in, zmetadata_members, zmetadata_members_in, zmetadata_of, zmetadata_in, HoldsStore, HoldsStoreIn, IsClean, IsCleanIn, IsZmetadataFault, IsZmetadataFaultIn};
 ghost use Rattle.zarrs_block.specs.declared.zmetadata.File.{File};
 ghost use Rattle.zarrs_block.specs.StepsOfZmetadata.{is_file, is_before, member_at, first_tree, tree_in, tree_among, gathered_at, read_with, read_files, IsFile, IsPlace, are_named, RefusesNames, AllFit, HoldsNodes, IsJoined, RunsAscend, RefusesTrees, zmetadata_taken};

@@ -11,5 +11,5 @@ pub mod LoadedOpenings
 pub mod LoadedReports
 pub mod Order
 pub mod Runs
-pub mod Telling
+pub mod ToldRemarks
 pub mod ToldTexts

@@ -13,11 +13,12 @@ use Rattle.zarrs_block.specs.Block.{Block, Entries, block_of_in}
 use Rattle.zarrs_block.specs.Meaning.{meaning, node}
 use Rattle.zarrs_block.specs.Zmetadata.{zmetadata_in}
 use Rattle.zarrs_node.specs.Exists.{HasNodeKey}
-use Rattle.zarrs_node.proofs.Keeps.{not_below_itself}
+use Rattle.zarrs_node.proofs.KeptOfLists.{not_below_itself}
 use Rattle.zarrs_notes.specs.declared.file.NodeFile.TheVariants as file
 use Rattle.zarrs_survey.specs.BlocksAbove.{MeansNoArray, HasNodeFrom, HasBadFrom, IsAboveFinding}
 use Rattle.zarrs_survey.specs.Checks.{block_read}
-use Rattle.zarrs_survey.specs.Findings.{Pair, IsAtOrAbove, IsPathFinding}
+use Rattle.zarrs_survey.specs.Findings.{IsAtOrAbove, IsPathFinding}
+use Rattle.zarrs_block.specs.Meaning.{Pair}
 use Rattle.zarrs_survey.specs.declared.finding.Finding.{Finding}
 use Rattle.zarrs_survey.specs.declared.finding.FindingKind.TheVariants.{Stale}
 use Rattle.zarrs_survey.proofs.Blocks.{finding_same}
@@ -27,7 +28,7 @@ use Rattle.zarrs_cli.specs.StepsOfRuns.{HoldsAbove, IsSettledAbove}
 use Rattle.zarrs_cli.specs.Report.{IsAboveRemark}
 use Rattle.zarrs_cli.specs.declared.remark.Remark.{Remark}
 use Rattle.zarrs_cli.proofs.LoadedReports.{IsLone, bad_paths_same, document_over, node_key_back, node_key_or, nodes_same, same_documents}
-use Rattle.zarrs_cli.proofs.Telling.{no_array}
+use Rattle.zarrs_cli.proofs.ToldRemarks.{no_array}
 
 -- an entry at p of the block of a group g above b, from b on, that is no node, and at or below no bad document
 pub record IsLoneAbove (S : Contents) (b g p : Path) : Type 0 where

@@ -8,8 +8,8 @@ use Rattle.zarrs_path.specs.Paths.{Path}
 use Rattle.zarrs_form.specs.Forms.{is_nil}
 use Rattle.zarrs_config.specs.declared.version.MetadataRetrieveVersion.TheVariants.{Default}
 use Rattle.zarrs_node.specs.Exists.{HasNodeKey}
-use Rattle.zarrs_node.proofs.Counted.{contains_map, filter_keeps}
-use Rattle.zarrs_node.proofs.Found.{listed_each}
+use Rattle.zarrs_node.proofs.FlatForests.{contains_map, filter_keeps}
+use Rattle.zarrs_node.proofs.ListedItems.{listed_each}
 use Rattle.zarrs_survey.specs.BlocksAbove.{IsAboveFinding}
 use Rattle.zarrs_survey.specs.Checks.{IsBlockFinding}
 use Rattle.zarrs_survey.specs.PathChecks.{IsCheckedFrom, IsPathCheckOf}

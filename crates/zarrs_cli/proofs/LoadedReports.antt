@@ -20,14 +20,15 @@ use Rattle.zarrs_node.specs.Exists.{HasNodeKey}
 use Rattle.zarrs_node.specs.MapsOfNodes.{StandsFrom}
 use Rattle.zarrs_node.specs.Nodes.{Nodes}
 use Rattle.zarrs_node.specs.OpeningNodes.{RefusesNode}
-use Rattle.zarrs_node.proofs.Graft.{Contains-cons, Contains-first}
+use Rattle.zarrs_node.proofs.ForestsBeside.{Contains-cons, Contains-first}
 use Rattle.zarrs_notes.specs.Laws.{HaveSameFiles}
 use Rattle.zarrs_notes.specs.NodeFindings.{IsNodeFinding}
 use Rattle.zarrs_notes.specs.declared.file.NodeFile.TheVariants as file
 use Rattle.zarrs_notes.specs.declared.finding.NodeFinding.{NodeFinding}
 use Rattle.zarrs_notes.proofs.LawProofs.{notes_same}
 use Rattle.zarrs_survey.specs.Checks.{block_read, own_attributes_in, own_read, HasOtherAttributes, HasNode, HasNodeAt, HasBadPath, IsToldOf, IsBlockFinding, IsCount, IsNodeTold}
-use Rattle.zarrs_survey.specs.Findings.{Pair, HasPath, IsSpoilt, IsKeyFinding, IsPathFinding}
+use Rattle.zarrs_survey.specs.Findings.{HasPath, IsSpoilt, IsKeyFinding, IsPathFinding}
+use Rattle.zarrs_block.specs.Meaning.{Pair}
 use Rattle.zarrs_survey.specs.Surveys.{BadDocuments}
 use Rattle.zarrs_survey.specs.Orphans.{IsCountBelow, IsNodeBelow, IsOrphan}
 use Rattle.zarrs_survey.specs.declared.finding.Finding.{Finding}
@@ -39,7 +40,7 @@ use Rattle.zarrs_survey.proofs.SomeCount.{passes_or_not}
 use Rattle.zarrs_folder.specs.Laws.{ShowSame}
 use Rattle.zarrs_folder.specs.PrunedStores.{HasNoOtherKeys, HasSameFiles, IsArrayAt, IsLoadedFrom}
 use Rattle.zarrs_folder.specs.PassedPaths.{HasSameDocuments, IsPassed}
-use Rattle.zarrs_folder.proofs.Loading.{same_there}
+use Rattle.zarrs_folder.proofs.LoadingSteps.{same_there}
 use Rattle.zarrs_folder.proofs.Openings.{lists_over, opened_answer_same, shown_open_same, turned}
 use Rattle.zarrs_folder.proofs.Shown.{pruned_shows_same}
 use Rattle.zarrs_cli.specs.declared.remark.Remark.{Remark}

@@ -16,7 +16,7 @@ use Rattle.std.proofs.lemmas.List.Sorted.{ranks_by, answers_always}
 use Rattle.std.proofs.lemmas.Map.Keys.{Less-from_sorted}
 use Rattle.std.proofs.lemmas.Slice.Eq.{bytes_eq-Decides}
 use Rattle.zarrs_store.specs.Segments.{is_slash, is_nonempty, has_no_slash, prefix_text, bytes_cmp, IsPrefix}
-use Rattle.zarrs_store.proofs.Ascending.{strictly_from_sorted}
+use Rattle.zarrs_store.proofs.AscendingLists.{strictly_from_sorted}
 use Rattle.zarrs_store.proofs.Cuts.{parts-append, parts_one, prefix_text-cons, segments_test, segments_nonempty, segments_clean}
 use Rattle.zarrs_path.specs.Paths.{Path, path_cmp}
 use Rattle.zarrs_path.specs.PathOrder.{path_decides, path_ties, path_total}

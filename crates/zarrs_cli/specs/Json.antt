@@ -9,6 +9,7 @@ use Rattle.serde_json.specs.Written.{compact_text}
 use Rattle.zarrs_path.specs.Paths.{Path, path_text}
 use Rattle.zarrs_cli.specs.declared.remark.Remark.{Remark}
 use Rattle.zarrs_cli.specs.Kinds.{kind_word}
+use Rattle.zarrs_fault.specs.Bytes.{newline}
 
 -- a text, or null
 abbrev pub text_or_null : Option (List ℕ) → Data
@@ -20,13 +21,15 @@ abbrev pub path_or_null : Option Path → Data
 path_or_null None = null
 path_or_null (Some p) = string (path_text p)
 
--- the object of a remark: the group whose block is wrong, the wrong key of the block, the kind, the path, and what its line says behind the path
+-- the object of a remark: the group whose block is wrong, the wrong key of the block, the kind, the path, and what
+-- its line says behind the path
 abbrev pub remark_data : Remark → Data
 remark_data r =
     object
     (member (codes "block") (path_or_null r.group)
     (member (codes "key") (text_or_null r.key)
-    (member (codes "kind") (string (kind_word r.kind)) (member (codes "path") (string (path_text r.path)) (member (codes "text") (string r.text) no_members)))))
+    (member (codes "kind") (string (kind_word r.kind))
+        (member (codes "path") (string (path_text r.path)) (member (codes "text") (string r.text) no_members)))))
 
 -- the array of the objects of remarks
 abbrev pub remarks_data : List Remark → Data
@@ -34,4 +37,4 @@ remarks_data rs = array (items_of (map remark_data rs))
 
 -- its text without spaces, and a newline
 abbrev pub json_text : List Remark → List ℕ
-json_text rs = compact_text (remarks_data rs) ++ 10 ∷ []
+json_text rs = compact_text (remarks_data rs) ++ newline ∷ []

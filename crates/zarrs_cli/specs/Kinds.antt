@@ -1,10 +1,12 @@
--- The kinds of what there is to tell of a store: of its paths (Zarr core specification 3.1, "Hierarchy", "Node names" and "Metadata documents") and of its
+-- The kinds of what there is to tell of a store: of its paths (Zarr core specification 3.1, "Hierarchy", "Node names"
+-- and "Metadata documents") and of its
 -- blocks ("Group metadata", the field `consolidated_metadata`, and the document `.zmetadata` of version 2).
 -- <https://zarr-specs.readthedocs.io/en/latest/v3/core/index.html#hierarchy>
 -- <https://zarr.readthedocs.io/en/stable/user-guide/consolidated_metadata/>
 --     kind_word kind      the word for a kind
 --     is_note_kind kind      what is of the kind is a note, and no finding
---     error_kind e, told_kind f, finding_kind kind      the kind of why a node is refused, of what its documents tell, and of what is wrong with a block
+--     error_kind e, told_kind f, finding_kind kind      the kind of why a node is refused, of what its documents
+-- tell, and of what is wrong with a block
 --     wrong_key kind      the key of the block that is wrong, if it is one
 use Rattle.std.specs.Prelude.{ℕ, Bool, true, false, List, Option, Some, None, codes}
 use Rattle.zarrs_block.specs.declared.node_create_error.NodeCreateError.{NodeCreateError}
@@ -14,7 +16,10 @@ use Rattle.zarrs_notes.specs.declared.finding.NodeFinding.TheVariants as told
 use Rattle.zarrs_survey.specs.declared.finding.FindingKind.{FindingKind}
 use Rattle.zarrs_survey.specs.declared.finding.FindingKind.TheVariants as found
 use Rattle.zarrs_cli.specs.declared.kind.RemarkKind.{RemarkKind}
-use Rattle.zarrs_cli.specs.declared.kind.RemarkKind.TheVariants.{BadDocument, BadName, NoNode, Orphaned, BadShape, NotOpened, BadBlock, BadKey, Shadowed, OwnKey, OwnAttributes, Differs, Unreachable, Stale, Unreached, Missing, Misplaced, Beside, Alike}
+use Rattle.zarrs_cli.specs.declared.kind.RemarkKind.TheVariants.{BadDocument, BadName, NoNode, Orphaned, BadShape}
+use Rattle.zarrs_cli.specs.declared.kind.RemarkKind.TheVariants.{NotOpened, BadBlock, BadKey, Shadowed, OwnKey}
+use Rattle.zarrs_cli.specs.declared.kind.RemarkKind.TheVariants.{OwnAttributes, Differs, Unreachable, Stale, Unreached}
+use Rattle.zarrs_cli.specs.declared.kind.RemarkKind.TheVariants.{Missing, Misplaced, Beside, Alike}
 
 -- the word for a kind
 abbrev pub kind_word : RemarkKind → List ℕ
@@ -38,7 +43,8 @@ kind_word Misplaced = codes "misplaced"
 kind_word Beside = codes "beside"
 kind_word Alike = codes "alike"
 
--- a note is worth knowing, and no reader goes wrong by it: a block of an array, a document beside the one that is read, and names that differ in case alone
+-- a note is worth knowing, and no reader goes wrong by it: a block of an array, a document beside the one that is
+-- read, and names that differ in case alone
 abbrev pub is_note_kind : RemarkKind → Bool
 is_note_kind Misplaced = true
 is_note_kind Beside = true
@@ -50,7 +56,8 @@ abbrev pub error_kind : NodeCreateError → RemarkKind
 error_kind (MissingMetadata text) = NoNode
 error_kind _ = BadDocument
 
--- what the own documents of a node tell: that its dimensions do not fit, that a reader refuses to open it, or what is not read
+-- what the own documents of a node tell: that its dimensions do not fit, that a reader refuses to open it, or what is
+-- not read
 abbrev pub told_kind : NodeFinding → RemarkKind
 told_kind (told.GridRank lengths shape) = BadShape
 told_kind told.ZeroLength = BadShape

@@ -1,7 +1,9 @@
--- What the program writes of a store, as the Zarr core specification 3.1 defines nodes and paths in "Hierarchy": its tree, the paths of its nodes, or the
+-- What the program writes of a store, as the Zarr core specification 3.1 defines nodes and paths in "Hierarchy": its
+-- tree, the paths of its nodes, or the
 -- report on what is bad in it.
 -- <https://zarr-specs.readthedocs.io/en/latest/v3/core/index.html#hierarchy>
---     IsWordText w s b tally text      what a word writes of a store from a path on, and how much a check looked at and found
+--     IsWordText w s b tally text      what a word writes of a store from a path on, and how much a check looked at
+-- and found
 --     WritesWord w path s      the same was written, of a path that is given as a text
 --     WritesAsked words left      what a run writes that ends well
 use Rattle.std.specs.Prelude.{◌≡◌, ◌≢◌, ◌⊎◌, ℕ, List, [], ◌∷◌, ◌++◌, codes, Option, Some, None}
@@ -19,13 +21,15 @@ use Rattle.zarrs_cli.specs.declared.words.Word.TheVariants.{Tree, StoreTree, Lis
 use Rattle.zarrs_cli.specs.Report.{IsReportFrom}
 use Rattle.zarrs_cli.specs.NodeLines.{IsShown, tree_line, list_line}
 use Rattle.zarrs_cli.specs.Words.{AskHelp, AskVersion, AreWordsOf}
+use Rattle.zarrs_fault.specs.Bytes.{newline}
 
 -- the text is the report, and this is how much was looked at and found
 abbrev pub IsReported : CheckOptions → Contents → Path → Option Tally → List ℕ → Type 0
 IsReported options s b None text = ⊥
 IsReported options s b (Some tally) text = IsReportFrom s b options tally text
 
--- what a word writes of the store from b on: `tree` the tree by the block of b where it has one, `tree --store` the tree by the store, `list` the paths, and
+-- what a word writes of the store from b on: `tree` the tree by the block of b where it has one, `tree --store` the
+-- tree by the store, `list` the paths, and
 -- `check` the report, which alone says how much was looked at and found
 abbrev pub IsWordText : Word → Contents → Path → Option Tally → List ℕ → Type 0
 IsWordText Tree s b tally text = (tally ≡ None) × IsShown s Auto b (tree_line b) text
@@ -35,34 +39,42 @@ IsWordText (Check options) s b tally text = IsReported options s b tally text
 
 -- the text is that of a path, and this is what the word writes from that path on
 abbrev pub IsAnswer : Word → List ℕ → Contents → Option Tally → List ℕ → Type 0
-IsAnswer word path store tally text = (base : Path) × IsPath base × (path_text base ≡ path) × IsWordText word store base tally text
+IsAnswer word path store tally text =
+    (base : Path) × IsPath base × (path_text base ≡ path) × IsWordText word store base tally text
 
 -- what the word writes was appended to what the writer held
 abbrev pub WritesWord : Word → List ℕ → Contents → Option (List ℕ) → Option (List ℕ) → Option Tally → Type 0
-WritesWord word path store before after tally = (text : List ℕ) × IsAnswer word path store tally text × Appends before after text
+WritesWord word path store before after tally =
+    (text : List ℕ) × IsAnswer word path store tally text × Appends before after text
 
 -- what the word writes of the store of the image that a reader had left
 abbrev pub WritesOverImage : Word → List ℕ → Option (List ℕ) → Option (List ℕ) → Option (List ℕ) → Option Tally → Type 0
-WritesOverImage word path left before after tally = (values : Values) × IsLoaded left values × WritesWord word path (in_any values) before after tally
+WritesOverImage word path left before after tally =
+    (values : Values) × IsLoaded left values × WritesWord word path (in_any values) before after tally
 
 -- what the word writes of each store that holds what P says
-abbrev pub WritesOverEach : Word → List ℕ → (Values → Type 0) → Option (List ℕ) → Option (List ℕ) → Option Tally → Type 0
-WritesOverEach word path P before after tally = (values : Values) → P values → WritesWord word path (in_any values) before after tally
+abbrev pub WritesOverEach : Word → List ℕ → (Values → Type 0) → Option (List ℕ) → Option (List ℕ) → Option Tally
+    → Type 0
+WritesOverEach word path P before after tally =
+    (values : Values) → P values → WritesWord word path (in_any values) before after tally
 
 -- what the word writes of a store
 abbrev pub WritesOverSome : Word → List ℕ → Option (List ℕ) → Option (List ℕ) → Option Tally → Type 0
-WritesOverSome word path before after tally = (values : Values) × WritesWord word path (in_any values) before after tally
+WritesOverSome word path before after tally =
+    (values : Values) × WritesWord word path (in_any values) before after tally
 
 -- what the word writes of the store that the source names: the image's where the source is `-`, else a folder's
-abbrev pub WritesOverSource : Word → List ℕ → List ℕ → Option (List ℕ) → Option (List ℕ) → Option (List ℕ) → Option Tally → Type 0
+abbrev pub WritesOverSource : Word → List ℕ → List ℕ → Option (List ℕ) → Option (List ℕ) → Option (List ℕ)
+    → Option Tally → Type 0
 WritesOverSource word source path left before after tally =
-    ((source ≡ codes "-") × WritesOverImage word path left before after tally) ⊎ ((source ≢ codes "-") × WritesOverSome word path before after tally)
+    ((source ≡ codes "-") × WritesOverImage word path left before after tally)
+    ⊎ ((source ≢ codes "-") × WritesOverSome word path before after tally)
 
 -- ---- what is the same of every store
 
 -- the usage: its lines
 abbrev pub usage_text : List ℕ
-usage_text = flat_map (λ l. l ++ 10 ∷ []) (
+usage_text = flat_map (λ l. l ++ newline ∷ []) (
     codes "usage: zarrs tree DIR [PATH]          the tree, by the block of the group at PATH where it has one"
     ∷ codes "       zarrs tree --store DIR [PATH]  the tree, by the store"
     ∷ codes "       zarrs list DIR [PATH]          the path of each node at and below PATH, one a line"
@@ -85,4 +97,5 @@ abbrev pub WritesAsked : List (List ℕ) → Option (List ℕ) → Option (List 
 WritesAsked words left before after tally =
     (AskHelp words × (tally ≡ None) × Appends before after usage_text)
     ⊎ (AskVersion words × (tally ≡ None) × Appends before after version_text)
-    ⊎ ((word : Word) × (source path : List ℕ) × AreWordsOf words word source path × WritesOverSource word source path left before after tally)
+    ⊎ ((word : Word) × (source path : List ℕ) × AreWordsOf words word source path
+        × WritesOverSource word source path left before after tally)

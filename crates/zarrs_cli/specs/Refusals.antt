@@ -4,7 +4,8 @@
 --     RefusesRun can_fail w path s      why a run over a store is refused
 --     RefusesAsked words left      why a run of the program is
 --     run_status      the exit status
-use Rattle.std.specs.Prelude.{◌≡◌, ◌≢◌, ℕ, Bool, false, List, ⊤, Option, Some, None, Result, Ok, Err, ◌⊎◌, cond, codes, ◌==◌}
+use Rattle.std.specs.Prelude.{◌≡◌, ◌≢◌, ℕ, Bool, false, List, ⊤, Option, Some, None, Result, Ok, Err, ◌⊎◌, cond, codes}
+use Rattle.std.specs.Prelude.{◌==◌}
 use Rattle.std.specs.Io.KnownBytes.{IsAtEnd}
 use Rattle.zarrs_store.specs.Contents.{Contents, Values}
 use Rattle.zarrs_path.specs.Paths.{Path, IsPath, path_text}
@@ -26,7 +27,8 @@ use Rattle.zarrs_cli.specs.declared.fault.ZarrsFault.TheVariants.{Usage, Load, F
 use Rattle.zarrs_cli.specs.declared.words.Word.{Word}
 use Rattle.zarrs_cli.specs.declared.words.Word.TheVariants.{Tree, StoreTree, List as ListAll, Check}
 
--- the calls of a word refuse the path: it is excused, as out of memory or the fault of a store that can fail; or, but of a check, opening is refused by the
+-- the calls of a word refuse the path: it is excused, as out of memory or the fault of a store that can fail; or, but
+-- of a check, opening is refused by the
 -- first reason that applies
 abbrev pub RefusesAnswer : Bool → Word → Contents → Path → NodeCreateError → Type 0
 RefusesAnswer can_fail Tree store base = IsExcusedOr can_fail (RefusesOpening store Default Auto (path_text base))
@@ -36,12 +38,15 @@ RefusesAnswer can_fail (Check options) store base = IsExcused can_fail
 
 -- the text is that of a path, which the calls of the word refuse
 abbrev pub RefusesPathOf : Bool → Word → List ℕ → Contents → NodeCreateError → Type 0
-RefusesPathOf can_fail word path store e = (base : Path) × IsPath base × (path_text base ≡ path) × RefusesAnswer can_fail word store base e
+RefusesPathOf can_fail word path store e =
+    (base : Path) × IsPath base × (path_text base ≡ path) × RefusesAnswer can_fail word store base e
 
--- a run over the store is refused: the text is no path, or the calls of the word refuse it; or there is an answer, and the writer failed; or out of memory
+-- a run over the store is refused: the text is no path, or the calls of the word refuse it; or there is an answer,
+-- and the writer failed; or out of memory
 abbrev pub RefusesRun : Bool → Word → List ℕ → Contents → ZarrsFault → Type 0
 RefusesRun can_fail word path store (Node e) = RefusesPathText path e ⊎ RefusesPathOf can_fail word path store e
-RefusesRun can_fail word path store Write = (tally : Option Tally) × (text : List ℕ) × IsAnswer word path store tally text
+RefusesRun can_fail word path store Write =
+    (tally : Option Tally) × (text : List ℕ) × IsAnswer word path store tally text
 RefusesRun can_fail word path store OutOfMemory = ⊤
 RefusesRun can_fail word path store _ = ⊥
 
@@ -65,24 +70,30 @@ RefusesFolder _ = ⊥
 -- a reader gives no image; or it was read to its end, and the run over the store of its image is refused
 abbrev pub RefusesOverImage : Word → List ℕ → Option (List ℕ) → Option (List ℕ) → ZarrsFault → Type 0
 RefusesOverImage word path before after fault =
-    RefusesImage before after fault ⊎ (IsAtEnd after × ((values : Values) × IsLoaded before values × RefusesRun false word path (in_any values) fault))
+    RefusesImage before after fault
+    ⊎ (IsAtEnd after × ((values : Values) × IsLoaded before values × RefusesRun false word path (in_any values) fault))
 
 -- the folder was not read; or the run over each store that holds what P says is refused
 abbrev pub RefusesOverEach : Word → List ℕ → (Values → Type 0) → ZarrsFault → Type 0
-RefusesOverEach word path P fault = RefusesFolder fault ⊎ ((values : Values) → P values → RefusesRun false word path (in_any values) fault)
+RefusesOverEach word path P fault =
+    RefusesFolder fault ⊎ ((values : Values) → P values → RefusesRun false word path (in_any values) fault)
 
 -- the folder was not read; or the run over a store is refused
 abbrev pub RefusesOverSome : Word → List ℕ → ZarrsFault → Type 0
-RefusesOverSome word path fault = RefusesFolder fault ⊎ ((values : Values) × RefusesRun false word path (in_any values) fault)
+RefusesOverSome word path fault =
+    RefusesFolder fault ⊎ ((values : Values) × RefusesRun false word path (in_any values) fault)
 
 -- the run over the store which the source names is refused: of `-` that of the image, else that of a folder
 abbrev pub RefusesOverSource : Word → List ℕ → List ℕ → Option (List ℕ) → Option (List ℕ) → ZarrsFault → Type 0
 RefusesOverSource word source path before after fault =
-    ((source ≡ codes "-") × RefusesOverImage word path before after fault) ⊎ ((source ≢ codes "-") × RefusesOverSome word path fault)
+    ((source ≡ codes "-") × RefusesOverImage word path before after fault)
+    ⊎ ((source ≢ codes "-") × RefusesOverSome word path fault)
 
 -- the run over the store which the words name is refused
 abbrev pub RefusesNamed : List (List ℕ) → Option (List ℕ) → Option (List ℕ) → ZarrsFault → Type 0
-RefusesNamed words before after fault = (word : Word) × (source path : List ℕ) × AreWordsOf words word source path × RefusesOverSource word source path before after fault
+RefusesNamed words before after fault =
+    (word : Word) × (source path : List ℕ) × AreWordsOf words word source path
+    × RefusesOverSource word source path before after fault
 
 -- the words are no call's; or they are, and the writer failed; or the run over the store which they name is refused
 abbrev pub RefusesAsked : List (List ℕ) → Option (List ℕ) → Option (List ℕ) → ZarrsFault → Type 0

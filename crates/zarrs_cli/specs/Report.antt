@@ -1,19 +1,26 @@
--- Zarr core specification 3.1, "Hierarchy", "Node names", "Metadata documents" and "Group metadata", the field `consolidated_metadata`, and the document
+-- Zarr core specification 3.1, "Hierarchy", "Node names", "Metadata documents" and "Group metadata", the field
+-- `consolidated_metadata`, and the document
 -- `.zmetadata` of version 2: the report on what a store has at a path and below it.
 -- <https://zarr-specs.readthedocs.io/en/latest/v3/core/index.html#hierarchy>
 -- <https://zarr-specs.readthedocs.io/en/latest/v3/core/index.html#group-metadata>
 -- <https://zarr.readthedocs.io/en/stable/user-guide/consolidated_metadata/>
---     IsOwnRemark s b r      what there is to tell of a path itself: its own fault, what is lost below it, or what the documents of a node tell
+--     IsOwnRemark s b r      what there is to tell of a path itself: its own fault, what is lost below it, or what
+-- the documents of a node tell
 --     IsAlikeRemark s b r      the name of a node is that of one before it but for case
 --     IsAboveRemark s b r      what the block of a group above b says otherwise from b on
---     IsRemark s b r      what there is to tell: of a path itself, of names that differ in case alone, or what is wrong with the block of a group at b, below it or above it
+--     IsRemark s b r      what there is to tell: of a path itself, of names that differ in case alone, or what is
+-- wrong with the block of a group at b, below it or above it
 --     IsNodeRemark s p m r      what the documents of one node tell
---     IsArrayRemark s b m r      what there is to tell of an array: what its documents tell, or the block of a group above it says otherwise
---     IsAskedFor options told r      what a report tells of what there is to tell: each finding, and each note where notes are asked for
+--     IsArrayRemark s b m r      what there is to tell of an array: what its documents tell, or the block of a group
+-- above it says otherwise
+--     IsAskedFor options told r      what a report tells of what there is to tell: each finding, and each note where
+-- notes are asked for
 --     remark_cmp      the order of remarks
 --     IsReport told options n tally text      the text is that of all that is told, each once, in their order
---     IsReportFrom s b options tally text      the report on what a store has from b on; nothing below an array is looked at
-use Rattle.std.specs.Prelude.{◌≡◌, ◌⊎◌, ℕ, Bool, false, ◌||◌, not, IsTrue, cond, if◌then◌else◌, List, [], ◌++◌, AllPairs, length, Some, None, codes}
+--     IsReportFrom s b options tally text      the report on what a store has from b on; nothing below an array is
+-- looked at
+use Rattle.std.specs.Prelude.{◌≡◌, ◌⊎◌, ℕ, Bool, false, ◌||◌, not, IsTrue, cond, if◌then◌else◌, List, [], ◌++◌}
+use Rattle.std.specs.Prelude.{AllPairs, length, Some, None, codes}
 use Rattle.std.specs.List.{filter, flat_map}
 use Rattle.std.specs.Option.{option_cmp}
 use Rattle.std.specs.Ordering.{ordering_then}
@@ -75,14 +82,22 @@ alike_remark t = own_remark t.0 Alike (alike_text t.1 t.0)
 
 -- what is wrong with the block of a group
 abbrev pub remark_of : Finding → Remark
-remark_of f = record { path = f.path; kind = finding_kind f.kind; group = Some f.group; key = wrong_key f.kind; text = kind_text f.group f.kind }
+remark_of f = record {
+  path = f.path;
+  kind = finding_kind f.kind;
+  group = Some f.group;
+  key = wrong_key f.kind;
+  text = kind_text f.group f.kind;
+}
 
--- the base is no node; or a reached path has a bad document; or a child of a listed path has a name of periods only; or nodes stand below a path that is passed over; or a node's
+-- the base is no node; or a reached path has a bad document; or a child of a listed path has a name of periods only;
+-- or nodes stand below a path that is passed over; or a node's
 -- documents tell something
 abbrev pub IsOwnRemark : Contents → Path → Remark → Type 0
 IsOwnRemark s b r =
     ((e : NodeCreateError) × RefusesNode s Default b e × (r ≡ error_remark b e))
-    ⊎ ((d : Path × NodeCreateError) × (n : ℕ) × BadDocuments s Default b d × IsCountBelow s d.0 n × (r ≡ document_remark d n))
+    ⊎ ((d : Path × NodeCreateError) × (n : ℕ) × BadDocuments s Default b d × IsCountBelow s d.0 n
+        × (r ≡ document_remark d n))
     ⊎ ((p : Path) × BadNames s Default b p × (r ≡ own_remark p BadName (name_text p)))
     ⊎ ((o : Path × ℕ) × IsOrphan s Default b o × (r ≡ orphan_remark o))
     ⊎ ((t : Path × NodeFinding) × IsNodeTold s Default b t × (r ≡ told_remark t))
@@ -91,9 +106,11 @@ IsOwnRemark s b r =
 abbrev pub IsAlikeRemark : Contents → Path → Remark → Type 0
 IsAlikeRemark s b r = (t : Path × Path) × IsAlike (HasNodeAt s Default b) t × (r ≡ alike_remark t)
 
--- what there is to tell of what a store has at b and below it: of a path itself, of names that differ in case alone, or what is wrong with a block
+-- what there is to tell of what a store has at b and below it: of a path itself, of names that differ in case alone,
+-- or what is wrong with a block
 abbrev pub IsRemarkFrom : Contents → Path → Remark → Type 0
-IsRemarkFrom s b r = IsOwnRemark s b r ⊎ IsAlikeRemark s b r ⊎ ((f : Finding) × IsBlockFinding s Default b f × (r ≡ remark_of f))
+IsRemarkFrom s b r =
+    IsOwnRemark s b r ⊎ IsAlikeRemark s b r ⊎ ((f : Finding) × IsBlockFinding s Default b f × (r ≡ remark_of f))
 
 -- what the block of a group above b says otherwise from b on
 abbrev pub IsAboveRemark : Contents → Path → Remark → Type 0
@@ -121,12 +138,16 @@ IsAskedFor options told r = told r × IsTrue (is_asked options.notes r)
 
 -- ---- the order
 
--- by path, of one path those of no group first and then by group, of one group those of no key first and then by key, of one key by text, and of one text by
+-- by path, of one path those of no group first and then by group, of one group those of no key first and then by key,
+-- of one key by text, and of one text by
 -- the word for the kind
 abbrev pub remark_cmp : Remark → Remark → Ordering
 remark_cmp q r =
     ordering_then
-    (ordering_then (ordering_then (ordering_then (path_cmp q.path r.path) (option_cmp path_cmp q.group r.group)) (option_cmp bytes_cmp q.key r.key)) (bytes_cmp q.text r.text))
+    (ordering_then
+        (ordering_then (ordering_then (path_cmp q.path r.path) (option_cmp path_cmp q.group r.group))
+            (option_cmp bytes_cmp q.key r.key))
+        (bytes_cmp q.text r.text))
     (bytes_cmp (kind_word q.kind) (kind_word r.kind))
 
 -- each remark stands before all later ones
@@ -163,10 +184,16 @@ notes_among rs = length (filter (λ r. is_note_kind r.kind) rs)
 
 -- of so many nodes these remarks were told
 abbrev pub tally_of : CheckOptions → ℕ → List Remark → Tally
-tally_of options nodes rs = record { nodes = nodes; findings = findings_among rs; notes = cond options.notes (Some (notes_among rs)) None }
+tally_of options nodes rs = record {
+  nodes = nodes;
+  findings = findings_among rs;
+  notes = cond options.notes (Some (notes_among rs)) None;
+}
 
--- the text is that of exactly what a report tells of what there is to tell, each once, in their order; the tally has their numbers, and that of the nodes
-pub record IsReport (told : Remark → Type 0) (options : CheckOptions) (nodes : ℕ) (tally : Tally) (text : List ℕ) : Type 0 where
+-- the text is that of exactly what a report tells of what there is to tell, each once, in their order; the tally has
+-- their numbers, and that of the nodes
+pub record IsReport (told : Remark → Type 0) (options : CheckOptions) (nodes : ℕ) (tally : Tally)
+    (text : List ℕ) : Type 0 where
   pub remarks : List Remark
   pub lists : Lists (IsAskedFor options told) remarks
   pub ascend : RemarksAscend remarks
@@ -179,12 +206,15 @@ IsArrayOf s b m = (meaning s Default b ≡ node m) × (is_group m ≡ false)
 
 -- the report on the array at b: it is one node, and nothing below it is looked at
 abbrev pub IsArrayReport : Contents → Path → CheckOptions → Tally → List ℕ → Type 0
-IsArrayReport s b options tally text = (m : NodeMetadata) × IsArrayOf s b m × IsReport (IsArrayRemark s b m) options 1 tally text
+IsArrayReport s b options tally text =
+    (m : NodeMetadata) × IsArrayOf s b m × IsReport (IsArrayRemark s b m) options 1 tally text
 
 -- the report on all that a store has at b and below it
 abbrev pub IsWholeReport : Contents → Path → CheckOptions → Tally → List ℕ → Type 0
-IsWholeReport s b options tally text = (nodes : ℕ) × IsCount (HasNode s Default b) nodes × IsReport (IsRemark s b) options nodes tally text
+IsWholeReport s b options tally text =
+    (nodes : ℕ) × IsCount (HasNode s Default b) nodes × IsReport (IsRemark s b) options nodes tally text
 
 -- the report from b on: that on the array at b, or on all that is at b and below it
 abbrev pub IsReportFrom : Contents → Path → CheckOptions → Tally → List ℕ → Type 0
-IsReportFrom s b options tally text = IsArrayReport s b options tally text ⊎ ((IsArrayAt s b → ⊥) × IsWholeReport s b options tally text)
+IsReportFrom s b options tally text =
+    IsArrayReport s b options tally text ⊎ ((IsArrayAt s b → ⊥) × IsWholeReport s b options tally text)

@@ -12,7 +12,8 @@ use Rattle.zarrs_survey.specs.declared.path_check.PathCheck.{PathCheck}
 use Rattle.zarrs_cli.specs.declared.remark.Remark.{Remark}
 use Rattle.zarrs_cli.specs.declared.kind.RemarkKind.TheVariants.{BadName}
 use Rattle.zarrs_cli.specs.declared.words.CheckOptions.{CheckOptions}
-use Rattle.zarrs_cli.specs.Report.{alike_remark, own_remark, error_remark, document_remark, is_asked, orphan_remark, remark_cmp, remark_of, told_remark}
+use Rattle.zarrs_cli.specs.Report.{alike_remark, own_remark, error_remark, document_remark, is_asked, orphan_remark}
+use Rattle.zarrs_cli.specs.Report.{remark_cmp, remark_of, told_remark}
 use Rattle.zarrs_cli.specs.Texts.{name_text}
 
 -- the fault of the base, where it has one

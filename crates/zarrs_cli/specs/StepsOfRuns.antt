@@ -1,5 +1,6 @@
 -- Steps of a run of the program: what private calls ask and refuse; no public contract rests on them.
-use Rattle.std.specs.Prelude.{◌≡◌, ◌⊎◌, ◌||◌, ◌++◌, ℕ, nat_lt, Bool, true, false, not, ⊤, List, [], length, map, Option, Some, String, string_bytes}
+use Rattle.std.specs.Prelude.{◌≡◌, ◌⊎◌, ◌||◌, ◌++◌, ℕ, nat_lt, Bool, true, false, not, ⊤, List, [], length, map, Option}
+use Rattle.std.specs.Prelude.{Some, String, string_bytes}
 use Rattle.std.specs.List.{filter}
 use Rattle.std.specs.declared.alloc.Global.{Global}
 use Rattle.zarrs_store.specs.Contents.{Contents, Values}
@@ -62,7 +63,8 @@ HoldsAbove S L b = (g : Path) → IsBelow g b → HasSameFiles S.values L.values
 abbrev pub IsSettledAbove : Contents → Contents → Path → Type 0
 IsSettledAbove S L b = (f : Finding) → IsAboveFinding L Default b f → f.kind ≡ Stale → HasNodeKey S f.path → ⊥
 
--- L has enough of S for a check from b on: it is loaded from S; where b means no array its stale entries are settled, and it has what is passed; it has the files above b, and the stale entries of the blocks there are settled
+-- L has enough of S for a check from b on: it is loaded from S; where b means no array its stale entries are settled,
+-- and it has what is passed; it has the files above b, and the stale entries of the blocks there are settled
 pub record IsCheckable (S L : Contents) (b : Path) : Type 0 where
   pub loaded : IsLoadedFrom S L b
   pub from : (IsArrayAt S b → ⊥) → IsSettledOver S L b × HoldsPassed S L b
@@ -88,7 +90,8 @@ stale_among fs = length (filter (λ f. is_stale f.kind) fs)
 -- something is passed over, or an entry of a block from the path on is stale
 abbrev pub has_more_from : CheckedFrom → Bool
 has_more_from (Array found) = false
-has_more_from (Tree c) = not (is_nil c.ignored.items) || (not (is_nil c.bad_documents) || nat_lt 0 (stale_among c.findings.items))
+has_more_from (Tree c) =
+    not (is_nil c.ignored.items) || (not (is_nil c.bad_documents) || nat_lt 0 (stale_among c.findings.items))
 
 -- the same, or an entry of a block above is stale
 abbrev pub has_more : PathCheck → Bool
@@ -125,12 +128,15 @@ IsWrittenOfSome word b made = (values : Values) × IsWordText word (in_any value
 
 -- what was made for a word of each store that holds what P says
 abbrev pub IsWrittenOfEach : Word → Path → (Values → Type 0) → Option Tally × String Global → Type 0
-IsWrittenOfEach word b P made = (values : Values) → P values → IsWordText word (in_any values) b made.0 (string_bytes made.1)
+IsWrittenOfEach word b P made =
+    (values : Values) → P values → IsWordText word (in_any values) b made.0 (string_bytes made.1)
 
 -- the folder was not read; or the calls of a word refuse the path in some store
 abbrev pub IsFaultOfSome : Word → Path → ZarrsFault → Type 0
-IsFaultOfSome word b fault = RefusesFolder fault ⊎ ((values : Values) × IsAnswerFault false word (in_any values) b fault)
+IsFaultOfSome word b fault =
+    RefusesFolder fault ⊎ ((values : Values) × IsAnswerFault false word (in_any values) b fault)
 
 -- the folder was not read; or the calls of a word refuse the path in each store that holds what P says
 abbrev pub IsFaultOfEach : Word → Path → (Values → Type 0) → ZarrsFault → Type 0
-IsFaultOfEach word b P fault = RefusesFolder fault ⊎ ((values : Values) → P values → IsAnswerFault false word (in_any values) b fault)
+IsFaultOfEach word b P fault =
+    RefusesFolder fault ⊎ ((values : Values) → P values → IsAnswerFault false word (in_any values) b fault)

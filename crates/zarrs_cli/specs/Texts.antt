@@ -1,9 +1,11 @@
--- The texts of what there is to tell of a bad name and of a consolidated block (Zarr core specification 3.1, "Node names" and "Group metadata", the field
+-- The texts of what there is to tell of a bad name and of a consolidated block (Zarr core specification 3.1, "Node
+-- names" and "Group metadata", the field
 -- `consolidated_metadata`).
 -- <https://zarr-specs.readthedocs.io/en/latest/v3/core/index.html#node-names>
 -- <https://zarr.readthedocs.io/en/stable/user-guide/consolidated_metadata/>
 --     name_text p      the text which says that the last name of p is none
---     document_text e n, orphan_text n      what there is to tell of a bad document, and of a path without one, where n paths below it have a document
+--     document_text e n, orphan_text n      what there is to tell of a bad document, and of a path without one, where
+-- n paths below it have a document
 --     alike_text o p      what there is to tell of p, where the name of o differs from its name in case alone
 --     kind_text g kind      what there is to tell of the block of the group g
 --     tally_text tally      how much a check looked at and found
@@ -14,7 +16,9 @@ use Rattle.zarrs_path.specs.Paths.{Path, path_text, without_leading_slash}
 use Rattle.zarrs_block.specs.ErrorTexts.{error_text}
 use Rattle.zarrs_block.specs.declared.node_create_error.NodeCreateError.{NodeCreateError}
 use Rattle.zarrs_survey.specs.declared.finding.FindingKind.{FindingKind}
-use Rattle.zarrs_survey.specs.declared.finding.FindingKind.TheVariants.{BlockFault, BadKey, Shadowed, OwnKey, OwnAttributes, Unreachable, Stale, Unreached, Differs, Missing}
+use Rattle.zarrs_survey.specs.declared.finding.FindingKind.TheVariants.{BlockFault, BadKey, Shadowed, OwnKey}
+use Rattle.zarrs_survey.specs.declared.finding.FindingKind.TheVariants.{OwnAttributes, Unreachable, Stale, Unreached}
+use Rattle.zarrs_survey.specs.declared.finding.FindingKind.TheVariants.{Differs, Missing}
 use Rattle.zarrs_cli.specs.declared.report.Tally.{Tally}
 
 -- the text which says that the last name of a path is none
@@ -35,7 +39,8 @@ orphan_text n = codes "orphaned: it has no document, and " ++ (decimal n ++ code
 
 -- the text which says that the names of two paths differ in case alone
 abbrev pub alike_text : Path → Path → List ℕ
-alike_text o p = codes "alike: " ++ (last_segment o ++ (codes " and " ++ (last_segment p ++ codes " differ in case alone")))
+alike_text o p =
+    codes "alike: " ++ (last_segment o ++ (codes " and " ++ (last_segment p ++ codes " differ in case alone")))
 
 -- the text which says that a key is no relative path
 abbrev pub bad_key_text : Path → List ℕ → List ℕ
@@ -43,22 +48,31 @@ bad_key_text g key = codes "bad key: the block of " ++ (path_text g ++ (codes " 
 
 -- the text which says that a key begins with a slash, and that the block has it without the slash too
 abbrev pub shadowed_text : Path → List ℕ → List ℕ
-shadowed_text g key = codes "shadowed: the block of " ++ (path_text g ++ (codes " has the key `" ++ (key ++ (codes "` beside `" ++ (without_leading_slash key ++ codes "`")))))
+shadowed_text g key =
+    codes "shadowed: the block of "
+    ++
+        (path_text g
+            ++ (codes " has the key `" ++ (key ++ (codes "` beside `" ++ (without_leading_slash key ++ codes "`")))))
 
 -- the text which says that a key stands for the group itself
 abbrev pub own_key_text : Path → List ℕ → List ℕ
-own_key_text g key = codes "own key: the block of " ++ (path_text g ++ (codes " has the key `" ++ (key ++ (codes "`, which is " ++ (path_text g ++ codes " itself")))))
+own_key_text g key =
+    codes "own key: the block of "
+    ++ (path_text g ++ (codes " has the key `" ++ (key ++ (codes "`, which is " ++ (path_text g ++ codes " itself")))))
 
 -- what there is to tell of the block of a group
 abbrev pub kind_text : Path → FindingKind → List ℕ
-kind_text g (BlockFault fault) = codes "bad block: the block of " ++ (path_text g ++ (codes " has the fault `" ++ (fault_text fault ++ codes "`")))
+kind_text g (BlockFault fault) =
+    codes "bad block: the block of " ++ (path_text g ++ (codes " has the fault `" ++ (fault_text fault ++ codes "`")))
 kind_text g (BadKey key) = bad_key_text g key
 kind_text g (Shadowed key) = shadowed_text g key
 kind_text g (OwnKey key) = own_key_text g key
-kind_text g OwnAttributes = codes "differs: the block of " ++ (path_text g ++ codes " has other attributes of it than the store")
+kind_text g OwnAttributes =
+    codes "differs: the block of " ++ (path_text g ++ codes " has other attributes of it than the store")
 kind_text g Unreachable = codes "unreachable: the block of " ++ (path_text g ++ codes " has no group above it")
 kind_text g Stale = codes "stale: the block of " ++ (path_text g ++ codes " has it, and the store has not")
-kind_text g Unreached = codes "unreached: the block of " ++ (path_text g ++ codes " has it, and a listing does not reach it")
+kind_text g Unreached =
+    codes "unreached: the block of " ++ (path_text g ++ codes " has it, and a listing does not reach it")
 kind_text g Differs = codes "differs: the block of " ++ (path_text g ++ codes " has other metadata than the store")
 kind_text g Missing = codes "missing: the block of " ++ (path_text g ++ codes " has no entry of it")
 
@@ -74,4 +88,5 @@ notes_text (Some n) = codes ", " ++ counted_text n (codes "note") (codes "notes"
 -- how much a check looked at and found
 abbrev pub tally_text : Tally → List ℕ
 tally_text tally =
-    counted_text tally.nodes (codes "node") (codes "nodes") ++ (codes ", " ++ (counted_text tally.findings (codes "finding") (codes "findings") ++ notes_text tally.notes))
+    counted_text tally.nodes (codes "node") (codes "nodes")
+    ++ (codes ", " ++ (counted_text tally.findings (codes "finding") (codes "findings") ++ notes_text tally.notes))

@@ -1,10 +1,12 @@
 -- Steps of a comparison of two metadata, part by part, as tests that compute; no public contract rests on them.
-use Rattle.std.specs.Prelude.{ℕ, List, [], ◌∷◌, Bool, true, false, ◌&&◌, ◌==◌, bytes_eq, Option, Some, None, String, string_bytes, codes}
+use Rattle.std.specs.Prelude.{ℕ, List, [], ◌∷◌, Bool, true, false, ◌&&◌, ◌==◌, bytes_eq, Option, Some, None, String}
+use Rattle.std.specs.Prelude.{string_bytes, codes}
 use Rattle.std.specs.Bool.{beq}
 use Rattle.std.specs.Float.{Float, nan, inf, fin}
 use Rattle.std.specs.Global.{Global}
 use Rattle.std.specs.Ordering.{int_eq}
-use Rattle.serde_json.specs.Data.{Num, unsigned, negative, float, Data, null, boolean, number, string, array, object, Items, no_items, item, Members, no_members, member}
+use Rattle.serde_json.specs.Data.{Num, unsigned, negative, float, Data, null, boolean, number, string, array, object}
+use Rattle.serde_json.specs.Data.{Items, no_items, item, Members, no_members, member}
 use Rattle.zarrs_form.specs.declared.extension.MetadataV3.{MetadataV3}
 use Rattle.zarrs_form.specs.declared.codec.MetadataV2.{MetadataV2}
 use Rattle.zarrs_form.specs.declared.data_type.DataTypeMetadataV2.{DataTypeMetadataV2}
@@ -85,7 +87,9 @@ same_entry same x y = bytes_eq (string_bytes x.0) (string_bytes y.0) && same x.1
 
 -- two extensions are the same
 abbrev pub same_extension : MetadataV3 → MetadataV3 → Bool
-same_extension m n = bytes_eq m.name n.name && same_option same_members m.configuration n.configuration && beq m.must_understand n.must_understand
+same_extension m n =
+    bytes_eq m.name n.name && same_option same_members m.configuration n.configuration
+    && beq m.must_understand n.must_understand
 
 -- two codecs are the same
 abbrev pub same_codec : MetadataV2 → MetadataV2 → Bool
@@ -123,15 +127,18 @@ same_group_v2 m n = same_members m.attributes n.attributes && same_members m.add
 abbrev pub same_array_v3 : ArrayMetadataV3 → ArrayMetadataV3 → Bool
 same_array_v3 m n =
     same_list ◌==◌ m.shape n.shape && same_extension m.data_type n.data_type && same_extension m.chunk_grid n.chunk_grid
-    && same_extension m.chunk_key_encoding n.chunk_key_encoding && same_data m.fill_value n.fill_value && same_list same_extension m.codecs n.codecs
-    && same_members m.attributes n.attributes && same_list same_extension m.storage_transformers n.storage_transformers
-    && same_option (same_list (same_option bytes_eq)) m.dimension_names n.dimension_names && same_members m.additional_fields n.additional_fields
+    && same_extension m.chunk_key_encoding n.chunk_key_encoding && same_data m.fill_value n.fill_value
+    && same_list same_extension m.codecs n.codecs && same_members m.attributes n.attributes
+    && same_list same_extension m.storage_transformers n.storage_transformers
+    && same_option (same_list (same_option bytes_eq)) m.dimension_names n.dimension_names
+    && same_members m.additional_fields n.additional_fields
 
 -- two version 2 arrays are the same
 abbrev pub same_array_v2 : ArrayMetadataV2 → ArrayMetadataV2 → Bool
 same_array_v2 m n =
-    same_list ◌==◌ m.shape n.shape && same_list ◌==◌ m.chunks n.chunks && same_data_type m.dtype n.dtype && same_data m.fill_value n.fill_value
-    && same_order m.order n.order && same_option same_codec m.compressor n.compressor && same_option (same_list same_codec) m.filters n.filters
+    same_list ◌==◌ m.shape n.shape && same_list ◌==◌ m.chunks n.chunks && same_data_type m.dtype n.dtype
+    && same_data m.fill_value n.fill_value && same_order m.order n.order
+    && same_option same_codec m.compressor n.compressor && same_option (same_list same_codec) m.filters n.filters
     && same_separator m.dimension_separator n.dimension_separator && same_members m.attributes n.attributes
     && same_members m.additional_fields n.additional_fields
 

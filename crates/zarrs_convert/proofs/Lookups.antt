@@ -1,7 +1,7 @@
 -- Lemmas on tables.
 use Rattle.std.proofs.Common.{◌≡◌, ℕ, ◌+◌, ◌<◌, List, [], ◌∷◌, Bool, true, false, Some, map, length, drop, get_or, bytes_eq, Bor, refl, sym, ap, ◌∙◌, add-one, drop-cons}
 use Rattle.std.specs.List.{list_any}
-use Rattle.zarrs_form.proofs.Shared.{list_any-map}
+use Rattle.zarrs_form.proofs.MemberLists.{list_any-map}
 use Rattle.zarrs_convert.specs.Tables.{is_among, look_up}
 
 -- a line of the table as contracts see it

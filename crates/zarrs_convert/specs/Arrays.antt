@@ -27,7 +27,8 @@ abbrev pub byte_order_refusal : {A : Type 0} → Result A (List ℕ) → Result 
 byte_order_refusal (Ok x) = Ok x
 byte_order_refusal (Err text) = Err (invalid_endianness text)
 
--- the version 3 array of a version 2 array: byte order, data type, fill value and codecs are asked in this order, and the attributes are kept
+-- the version 3 array of a version 2 array: byte order, data type, fill value and codecs are asked in this order, and
+-- the attributes are kept
 unfoldable pub array_v3 : ArrayMetadataV2 → Result ArrayMetadataV3 Refusal
 array_v3 m = do
   endianness ← byte_order_refusal (byte_order m.dtype)

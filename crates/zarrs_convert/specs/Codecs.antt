@@ -1,7 +1,9 @@
--- Zarr specification version 2, "Metadata" ("order", "filters", "compressor"), and Zarr core specification 3.1, "Codecs": the codecs in version 3.
+-- Zarr specification version 2, "Metadata" ("order", "filters", "compressor"), and Zarr core specification 3.1,
+-- "Codecs": the codecs in version 3.
 -- <https://zarr-specs.readthedocs.io/en/latest/v2/v2.0.html#metadata>
 -- <https://zarr-specs.readthedocs.io/en/latest/v3/core/index.html#codecs>
-use Rattle.std.specs.Prelude.{ℕ, List, [], ◌∷◌, ◌++◌, Option, Some, None, Result, Ok, Err, codes, if◌then◌else◌, reverse, unwrap_or}
+use Rattle.std.specs.Prelude.{ℕ, List, [], ◌∷◌, ◌++◌, Option, Some, None, Result, Ok, Err, codes, if◌then◌else◌}
+use Rattle.std.specs.Prelude.{reverse, unwrap_or}
 use Rattle.std.specs.List.{range_with_len}
 use Rattle.serde_json.specs.Data.{string}
 use Rattle.zarrs_form.specs.Forms.{list_data, number_data}
@@ -17,7 +19,10 @@ use Rattle.zarrs_convert.specs.Tables.{is_among, with_no_configuration, with_con
 -- order F is a transposition of the dimensions, the last one first; order C is no codec
 abbrev pub transposition : ArrayMetadataV2Order → ℕ → List MetadataV3
 transposition C dimensionality = []
-transposition F dimensionality = with_configuration (codes "transpose") (codes "order") (list_data number_data (reverse (range_with_len 0 dimensionality))) ∷ []
+transposition F dimensionality =
+    with_configuration (codes "transpose") (codes "order")
+        (list_data number_data (reverse (range_with_len 0 dimensionality)))
+    ∷ []
 
 -- the filters that have a form of version 3, each of the same name
 abbrev pub vlen_names : List (List ℕ)
@@ -61,7 +66,8 @@ without_compressor None x = Ok x
 without_compressor (Some compressor) x = no_codec compressor
 
 -- the codecs of version 3: the transposition, the filters, the codec `bytes`, the compressor
-abbrev pub codecs_v3 : ArrayMetadataV2Order → ℕ → Option Endianness → Option (List MetadataV2) → Option MetadataV2 → Result (List MetadataV3) Refusal
+abbrev pub codecs_v3 : ArrayMetadataV2Order → ℕ → Option Endianness → Option (List MetadataV2) → Option MetadataV2
+    → Result (List MetadataV3) Refusal
 codecs_v3 order dimensionality endianness filters compressor = do
   vlen ← filters_v3 (unwrap_or filters [])
   to_bytes ← array_to_bytes endianness vlen

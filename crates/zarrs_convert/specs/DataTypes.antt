@@ -1,7 +1,9 @@
--- Zarr specification version 2, "Data type encoding", and Zarr core specification 3.1, "Data types": byte orders, and the data types of version 2 by their names in version 3.
+-- Zarr specification version 2, "Data type encoding", and Zarr core specification 3.1, "Data types": byte orders, and
+-- the data types of version 2 by their names in version 3.
 -- <https://zarr-specs.readthedocs.io/en/latest/v2/v2.0.html#data-type-encoding>
 -- <https://zarr-specs.readthedocs.io/en/latest/v3/core/index.html#data-types>
-use Rattle.std.specs.Prelude.{ℕ, List, [], ◌∷◌, ◌++◌, ◌*◌, ◌&&◌, if◌then◌else◌, Option, Some, None, Result, Ok, Err, option_map, codes}
+use Rattle.std.specs.Prelude.{ℕ, List, [], ◌∷◌, ◌++◌, ◌*◌, ◌&&◌, if◌then◌else◌, Option, Some, None, Result, Ok, Err}
+use Rattle.std.specs.Prelude.{option_map, codes}
 use Rattle.std.specs.Fmt.{decimal}
 use Rattle.zarrs_form.specs.declared.extension.MetadataV3.{MetadataV3}
 use Rattle.zarrs_form.specs.declared.data_type.DataTypeMetadataV2.{DataTypeMetadataV2}
@@ -45,7 +47,8 @@ data_types =
 -- the number of bits of raw bits: `|V` and a number of bytes is eight times as many bits, where that fits 64 bits
 abbrev pub raw_size : List ℕ → Option ℕ
 raw_size text =
-    if is_numbered (codes "|V") text && fits_u64 (8 * number_behind (codes "|V") text) then Some (8 * number_behind (codes "|V") text) else None
+    if is_numbered (codes "|V") text && fits_u64 (8 * number_behind (codes "|V") text)
+        then Some (8 * number_behind (codes "|V") text) else None
 
 -- raw bits are `r` and the number of bits
 abbrev pub raw_bits : List ℕ → Option (List ℕ)

@@ -1,7 +1,9 @@
--- Zarr specification version 2, "Fill value encoding", and Zarr core specification 3.1, "Fill value": the fill value in version 3.
+-- Zarr specification version 2, "Fill value encoding", and Zarr core specification 3.1, "Fill value": the fill value
+-- in version 3.
 -- <https://zarr-specs.readthedocs.io/en/latest/v2/v2.0.html#fill-value-encoding>
 -- <https://zarr-specs.readthedocs.io/en/latest/v3/core/index.html#fill-value>
-use Rattle.std.specs.Prelude.{ℕ, List, [], ◌∷◌, Bool, true, false, ◌==◌, ◌&&◌, ◌/◌, ◌%◌, bytes_eq, if◌then◌else◌, is_some, Option, Some, None, option_and_then, replicate, Result, Ok, Err, codes}
+use Rattle.std.specs.Prelude.{ℕ, List, [], ◌∷◌, Bool, true, false, ◌==◌, ◌&&◌, ◌/◌, ◌%◌, bytes_eq, if◌then◌else◌}
+use Rattle.std.specs.Prelude.{is_some, Option, Some, None, option_and_then, replicate, Result, Ok, Err, codes}
 use Rattle.serde_json.specs.Data.{Data, boolean, number, unsigned, string, array}
 use Rattle.serde_json.specs.Find.{as_null, as_number, as_u64}
 use Rattle.serde_json.specs.View.{items_of}

@@ -14,14 +14,18 @@ use Rattle.zarrs_convert.specs.Groups.{group_v2_to_v3}
 
 -- a plain version 2 group is converted to a plain version 3 group
 abbrev pub ConvertedGroupIsPlain : Type 0
-ConvertedGroupIsPlain = (m : GroupMetadataV2) → IsTrue (is_plain_group_v2 m) → IsTrue (is_plain_group_v3 (group_v2_to_v3 m))
+ConvertedGroupIsPlain =
+    (m : GroupMetadataV2) → IsTrue (is_plain_group_v2 m) → IsTrue (is_plain_group_v3 (group_v2_to_v3 m))
 
 -- a plain version 2 array that is converted is a plain version 3 array
 abbrev pub ConvertedArrayIsPlain : Type 0
-ConvertedArrayIsPlain = (m : ArrayMetadataV2) (converted : ArrayMetadataV3) → IsTrue (is_plain_array_v2 m) → array_v3 m ≡ Ok converted → IsTrue (is_plain_array_v3 converted)
+ConvertedArrayIsPlain =
+    (m : ArrayMetadataV2) (converted : ArrayMetadataV3) → IsTrue (is_plain_array_v2 m) → array_v3 m ≡ Ok converted
+    → IsTrue (is_plain_array_v3 converted)
 
--- an array that is converted keeps its shape, its attributes, its chunk shape as a regular grid, and its dimension separator
+-- an array that is converted keeps its shape, its attributes, its chunk shape as a regular grid, and its dimension
+-- separator
 abbrev pub ConvertedArrayKeeps : Type 0
 ConvertedArrayKeeps = (m : ArrayMetadataV2) (converted : ArrayMetadataV3) → array_v3 m ≡ Ok converted →
-    (converted.shape ≡ m.shape) × (converted.attributes ≡ m.attributes)
-    × (converted.chunk_grid ≡ regular_grid m.chunks) × (converted.chunk_key_encoding ≡ v2_encoding m.dimension_separator)
+    (converted.shape ≡ m.shape) × (converted.attributes ≡ m.attributes) × (converted.chunk_grid ≡ regular_grid m.chunks)
+    × (converted.chunk_key_encoding ≡ v2_encoding m.dimension_separator)

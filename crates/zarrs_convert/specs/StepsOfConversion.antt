@@ -4,12 +4,14 @@ use Rattle.serde_json.specs.View.{members_view}
 use Rattle.zarrs_form.specs.declared.data_type.DataTypeMetadataV2.{DataTypeMetadataV2}
 use Rattle.zarrs_form.specs.declared.codec.MetadataV2.{MetadataV2}
 use Rattle.zarrs_convert.specs.declared.error.ArrayMetadataV2ToV3Error.{ArrayMetadataV2ToV3Error}
-use Rattle.zarrs_convert.specs.declared.error.ArrayMetadataV2ToV3Error.TheVariants.{UnsupportedDataType, UnsupportedCodec, OutOfMemory}
+use Rattle.zarrs_convert.specs.declared.error.ArrayMetadataV2ToV3Error.TheVariants.{UnsupportedDataType}
+use Rattle.zarrs_convert.specs.declared.error.ArrayMetadataV2ToV3Error.TheVariants.{UnsupportedCodec, OutOfMemory}
 use Rattle.zarrs_convert.specs.Tables.{is_numbered}
 
 -- the error names a codec of version 2, or out of memory
 abbrev pub NamesCodec : MetadataV2 → ArrayMetadataV2ToV3Error → Type 0
-NamesCodec codec (UnsupportedCodec id configuration) = (string_bytes id ≡ codec.id) × (members_view configuration.entries ≡ codec.configuration)
+NamesCodec codec (UnsupportedCodec id configuration) =
+    (string_bytes id ≡ codec.id) × (members_view configuration.entries ≡ codec.configuration)
 NamesCodec codec OutOfMemory = Unit {0}
 NamesCodec codec _ = ⊥
 

@@ -1,7 +1,8 @@
 -- How the tables of the conversion are read, and the words that they share.
 -- <https://zarr-specs.readthedocs.io/en/latest/v2/v2.0.html#metadata>
 -- <https://zarr-specs.readthedocs.io/en/latest/v3/core/index.html#array-metadata>
-use Rattle.std.specs.Prelude.{if◌then◌else◌, ℕ, List, [], ◌∷◌, Bool, true, false, bytes_eq, ◌&&◌, Option, Some, None, drop, length, nat_eq, nat_lt, ◌^◌}
+use Rattle.std.specs.Prelude.{if◌then◌else◌, ℕ, List, [], ◌∷◌, Bool, true, false, bytes_eq, ◌&&◌, Option, Some, None}
+use Rattle.std.specs.Prelude.{drop, length, nat_eq, nat_lt, ◌^◌}
 use Rattle.std.specs.List.{list_any, starts_with}
 use Rattle.std.specs.Str.{all_ascii_digits}
 use Rattle.std.specs.Str.Parse.{digits_value}
@@ -53,4 +54,8 @@ with_no_configuration name = record { name = name; configuration = Some no_membe
 
 -- the extension of this name, whose configuration has one member
 abbrev pub with_configuration : List ℕ → List ℕ → Data → MetadataV3
-with_configuration name key value = record { name = name; configuration = Some (member key value no_members); must_understand = true }
+with_configuration name key value = record {
+  name = name;
+  configuration = Some (member key value no_members);
+  must_understand = true;
+}

@@ -1,9 +1,12 @@
--- The text of why a metadata document is refused, as it prints itself (Zarr core specification 3.1, "Array metadata" and "Group metadata").
+-- The text of why a metadata document is refused, as it prints itself (Zarr core specification 3.1, "Array metadata"
+-- and "Group metadata").
 -- <https://zarr-specs.readthedocs.io/en/latest/v3/core/index.html#array-metadata>
 -- <https://zarr-specs.readthedocs.io/en/latest/v3/core/index.html#group-metadata>
 use Rattle.std.specs.Prelude.{ℕ, List, ◌++◌, codes}
 use Rattle.zarrs_fault.specs.declared.fault.MetadataFault.{MetadataFault}
-use Rattle.zarrs_fault.specs.declared.fault.MetadataFault.TheVariants.{NotJson, UnsupportedNumber, NotAnObject, WrongFormat, WrongNodeType, MissingMember, BadMember, OutOfMemory}
+use Rattle.zarrs_fault.specs.declared.fault.MetadataFault.TheVariants.{NotJson, UnsupportedNumber, NotAnObject}
+use Rattle.zarrs_fault.specs.declared.fault.MetadataFault.TheVariants.{WrongFormat, WrongNodeType, MissingMember}
+use Rattle.zarrs_fault.specs.declared.fault.MetadataFault.TheVariants.{BadMember, OutOfMemory}
 
 -- why a document is refused
 abbrev pub fault_text : MetadataFault → List ℕ

@@ -1,6 +1,6 @@
-mod Agreeing
-pub mod Loading
+mod MoreAnswers
+pub mod LoadingSteps
 pub mod Openings
-pub mod PassedLoading
+pub mod PassedPaths
 mod RecordSteps
 pub mod Shown

@@ -24,8 +24,8 @@ use Rattle.zarrs_node.specs.Reach.{HasGroup, Reached, Kept}
 use Rattle.zarrs_node.specs.Nodes.{Means, IsListed, IsBadName, HasBadDocument}
 use Rattle.zarrs_node.specs.MapsOfNodes.{StandsFrom}
 use Rattle.zarrs_node.proofs.Current.{meaning_same}
-use Rattle.zarrs_node.proofs.Graft.{Contains-first}
-use Rattle.zarrs_node.proofs.Kept.{reached_between}
+use Rattle.zarrs_node.proofs.ForestsBeside.{Contains-first}
+use Rattle.zarrs_node.proofs.KeptPairs.{reached_between}
 use Rattle.zarrs_folder.specs.PrunedStores.{HasBaseOf, HasNoOtherKeys, HasSameFiles}
 use Rattle.zarrs_folder.specs.Laws.{BaseShowsSame, PrunedShowsSame}
 

@@ -23,8 +23,10 @@ IncludesChildren V prefix children = (child : Segments) → IsChildPrefix V pref
 abbrev pub IsFoundBelow : Values → Segments → Option Segments → Type 0
 IsFoundBelow V prefix found = IfSome found (IsKeyBelow V prefix) × NoneIsBelow V prefix found
 
--- V has all of these answers: what was found at keys, the children of prefixes, and the keys that were found below prefixes
-pub record HasAnswers (found : List (Segments × Option (Vec ℕ))) (listed : List (Segments × Vec Segments)) (searched : List (Segments × Option Segments)) (V : Values) : Type 0 where
+-- V has all of these answers: what was found at keys, the children of prefixes, and the keys that were found below
+-- prefixes
+pub record HasAnswers (found : List (Segments × Option (Vec ℕ))) (listed : List (Segments × Vec Segments))
+    (searched : List (Segments × Option Segments)) (V : Values) : Type 0 where
   pub documents : All (λ a. IsFoundAt V a.0 a.1) found
   pub listings : All (λ a. IncludesChildren V a.0 a.1) listed
   pub searches : All (λ a. IsFoundBelow V a.0 a.1) searched

@@ -1,6 +1,7 @@
 -- Zarr core specification 3.1, "Storage keys": what a folder answers of the files below it.
 -- <https://zarr-specs.readthedocs.io/en/latest/v3/core/index.html#storage-keys>
---     values_of es, in_any V      what a store in memory with these entries holds; a store that holds V and whose documents may hold any number
+--     values_of es, in_any V      what a store in memory with these entries holds; a store that holds V and whose
+-- documents may hold any number
 --     NoneIsBelow V prefix found      where no key was found, V has none below the prefix
 --     IsFaultOfFolder can_fail e      what a folder may refuse
 --     IsFaultAt path e      the fault names this path

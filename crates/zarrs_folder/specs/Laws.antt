@@ -18,16 +18,21 @@ use Rattle.zarrs_node.specs.Reach.{Reached}
 use Rattle.zarrs_node.specs.Nodes.{MeansNode, Nodes, Ignored, IsBadName, ShowsBad}
 use Rattle.zarrs_node.specs.MapsOfNodes.{StandsFrom}
 use Rattle.zarrs_folder.specs.PrunedStores.{HasBaseOf, IsPruned}
+use Rattle.zarrs_block.specs.Meaning.{Pair}
 
--- both stores may hold the same numbers in their documents, and from b on they show the same: what b and each reached path means, and the document of a block beside it; and so the nodes, the paths that are passed over, the bad names, and what refuses a listing
+-- both stores may hold the same numbers in their documents, and from b on they show the same: what b and each reached
+-- path means, and the document of a block beside it; and so the nodes, the paths that are passed over, the bad names,
+-- and what refuses a listing
 pub record ShowSame (S L : Contents) (b : Path) : Type 0 where
   pub numbers : L.numbers ≡ S.numbers
   pub meanings : (p : Path) → StandsFrom S Default b p → meaning L Default p ≡ meaning S Default p
-  pub blocks : (p : Path) → StandsFrom S Default b p → map.get L.values (p ++ zmetadata ∷ []) ≡ map.get S.values (p ++ zmetadata ∷ [])
+  pub blocks : (p : Path) → StandsFrom S Default b p
+      → map.get L.values (p ++ zmetadata ∷ []) ≡ map.get S.values (p ++ zmetadata ∷ [])
   pub reached : (p : Path) → Reached (MeansNode L Default) true b p ↔ Reached (MeansNode S Default) true b p
-  pub nodes : (e : Path × NodeMetadata) → Nodes L Default true b e ↔ Nodes S Default true b e
+  pub nodes : (e : Pair) → Nodes L Default true b e ↔ Nodes S Default true b e
   pub ignored : (p : Path) → Ignored L Default true b p ↔ Ignored S Default true b p
-  pub bad_names : (p : Path) → IsBadName (meaning L Default) (HasBelow L.values) true b p ↔ IsBadName (meaning S Default) (HasBelow S.values) true b p
+  pub bad_names : (p : Path) → IsBadName (meaning L Default) (HasBelow L.values) true b p
+      ↔ IsBadName (meaning S Default) (HasBelow S.values) true b p
   pub refusals : (e : NodeCreateError) → ShowsBad L Default true b e ↔ ShowsBad S Default true b e
 
 -- A store shows what the store shows that it is pruned from.
@@ -37,4 +42,5 @@ PrunedShowsSame = (S L : Contents) (b : Path) → IsPruned S L b → ShowSame S 
 -- A store with the base of another has the same meaning and the same block there.
 abbrev pub BaseShowsSame : Type 0
 BaseShowsSame = (S L : Contents) (b : Path) → HasBaseOf S L b
-    → ((v : MetadataRetrieveVersion) → meaning L v b ≡ meaning S v b) × ((m : NodeMetadata) → block_at L b m ≡ block_at S b m)
+    → ((v : MetadataRetrieveVersion) → meaning L v b ≡ meaning S v b)
+    × ((m : NodeMetadata) → block_at L b m ≡ block_at S b m)

@@ -1,4 +1,5 @@
--- Zarr core specification 3.1, "Hierarchy", and "Group metadata", the field `consolidated_metadata`: what a store answers in the place of the one that it was loaded from.
+-- Zarr core specification 3.1, "Hierarchy", and "Group metadata", the field `consolidated_metadata`: what a store
+-- answers in the place of the one that it was loaded from.
 -- <https://zarr-specs.readthedocs.io/en/latest/v3/core/index.html#hierarchy>
 -- <https://zarr-specs.readthedocs.io/en/latest/v3/core/index.html#group-metadata>
 -- <https://zarr.readthedocs.io/en/stable/user-guide/consolidated_metadata/>
@@ -23,59 +24,73 @@ use Rattle.zarrs_node.specs.Nodes.{Nodes, HasNothingBad, ShowsBad}
 use Rattle.zarrs_node.specs.OpeningNodes.{choice, ShowsBelow, IsCleanBelow, RefusesBelow, RefusesNode, RefusesOpening}
 use Rattle.zarrs_folder.specs.PrunedStores.{HasBaseOf, IsLoadedFrom}
 use Rattle.zarrs_folder.specs.Laws.{ShowSame}
+use Rattle.zarrs_block.specs.Meaning.{Pair}
 
 -- below b both stores have the same nodes; something bad is in both or in neither; and the same refuses a listing
 pub record ListSame (S L : Contents) (b : Path) : Type 0 where
-  pub nodes : (e : Path × NodeMetadata) → Nodes L Default true b e ↔ Nodes S Default true b e
+  pub nodes : (e : Pair) → Nodes L Default true b e ↔ Nodes S Default true b e
   pub clean : HasNothingBad L Default true b ↔ HasNothingBad S Default true b
   pub refusals : (e : NodeCreateError) → ShowsBad L Default true b e ↔ ShowsBad S Default true b e
 
--- b means the same in both stores, and by the policy the same block is chosen there; where b means a group of which none is used, both list the same below b
+-- b means the same in both stores, and by the policy the same block is chosen there; where b means a group of which
+-- none is used, both list the same below b
 pub record OpenSame (S L : Contents) (policy : UseConsolidatedMetadata) (b : Path) : Type 0 where
   pub means : meaning L Default b ≡ meaning S Default b
   pub choices : (m : NodeMetadata) → choice L policy b m ≡ choice S policy b m
-  pub listed : (g : GroupMetadata) → meaning S Default b ≡ node (Group g) → choice S policy b (Group g) ≡ Some None → ListSame S L b
+  pub listed : (g : GroupMetadata) → meaning S Default b ≡ node (Group g) → choice S policy b (Group g) ≡ Some None
+      → ListSame S L b
 
--- where b means a node with these metadata, what is shown below it is the same in both stores, and so is what is refused there
-pub record ShowBelowSame (S L : Contents) (policy : UseConsolidatedMetadata) (b : Path) (m : NodeMetadata) : Type 0 where
+-- where b means a node with these metadata, what is shown below it is the same in both stores, and so is what is
+-- refused there
+pub record ShowBelowSame (S L : Contents) (policy : UseConsolidatedMetadata) (b : Path)
+    (m : NodeMetadata) : Type 0 where
   pub shown : (f : Forest) → ShowsBelow L Default policy b m f ↔ ShowsBelow S Default policy b m f
   pub clean : IsCleanBelow L Default policy b m ↔ IsCleanBelow S Default policy b m
   pub refused : (e : NodeCreateError) → RefusesBelow L Default policy b m e ↔ RefusesBelow S Default policy b m e
 
--- the same refuses b itself in both stores; where b means a node, the same is shown and refused below it; and the same refuses opening the text of b
+-- the same refuses b itself in both stores; where b means a node, the same is shown and refused below it; and the
+-- same refuses opening the text of b
 pub record AnswerSame (S L : Contents) (policy : UseConsolidatedMetadata) (b : Path) : Type 0 where
   pub refused_node : (e : NodeCreateError) → RefusesNode L Default b e ↔ RefusesNode S Default b e
   pub below : (m : NodeMetadata) → meaning S Default b ≡ node m → ShowBelowSame S L policy b m
-  pub refused : IsPath b → (e : NodeCreateError) → RefusesOpening L Default policy (path_text b) e ↔ RefusesOpening S Default policy (path_text b) e
+  pub refused : IsPath b → (e : NodeCreateError) → RefusesOpening L Default policy (path_text b) e
+      ↔ RefusesOpening S Default policy (path_text b) e
 
 -- Stores that show the same list the same, and have the same nodes from the base on.
 abbrev pub ShownListSame : Type 0
-ShownListSame = (S L : Contents) (b : Path) → ShowSame S L b → ListSame S L b × ((e : Path × NodeMetadata) → NodesFrom L Default b e ↔ NodesFrom S Default b e)
+ShownListSame =
+    (S L : Contents) (b : Path) → ShowSame S L b
+    → ListSame S L b × ((e : Pair) → NodesFrom L Default b e ↔ NodesFrom S Default b e)
 
 -- Stores that list the same have the same listed block.
 abbrev pub ListedBlockIsSame : Type 0
-ListedBlockIsSame = (S L : Contents) (b : Path) (B : Block) → ListSame S L b → IsListedBlock L Default b B ↔ IsListedBlock S Default b B
+ListedBlockIsSame =
+    (S L : Contents) (b : Path) (B : Block) → ListSame S L b → IsListedBlock L Default b B ↔ IsListedBlock S Default b B
 
 -- Stores that show the same from b on open the same there, by any policy.
 abbrev pub ShownOpenSame : Type 0
-ShownOpenSame = (S L : Contents) (b : Path) → ShowSame S L b → (policy : UseConsolidatedMetadata) → OpenSame S L policy b
+ShownOpenSame =
+    (S L : Contents) (b : Path) → ShowSame S L b → (policy : UseConsolidatedMetadata) → OpenSame S L policy b
 
 -- A store opens at the base as the store that it was loaded from: an array too, below which nothing was loaded.
 abbrev pub LoadedOpensSame : Type 0
-LoadedOpensSame = (S L : Contents) (b : Path) → IsLoadedFrom S L b → (policy : UseConsolidatedMetadata) → OpenSame S L policy b
+LoadedOpensSame =
+    (S L : Contents) (b : Path) → IsLoadedFrom S L b → (policy : UseConsolidatedMetadata) → OpenSame S L policy b
 
 -- A store with the base of another opens there as the other, where no group is opened by a listing.
 abbrev pub BaseOpensSame : Type 0
 BaseOpensSame = (S L : Contents) (b : Path) → HasBaseOf S L b
-    → (policy : UseConsolidatedMetadata) → ((g : GroupMetadata) → meaning L Default b ≡ node (Group g) → choice L policy b (Group g) ≡ Some None → ⊥)
+    → (policy : UseConsolidatedMetadata)
+    → ((g : GroupMetadata) → meaning L Default b ≡ node (Group g) → choice L policy b (Group g) ≡ Some None → ⊥)
     → OpenSame S L policy b
 
 -- A store with the base of another opens there as the other, where a block is used.
 abbrev pub BlockOpensSame : Type 0
 BlockOpensSame = (S L : Contents) (b : Path) → HasBaseOf S L b
-    → (policy : UseConsolidatedMetadata) (m : NodeMetadata) (B : Block) → meaning L Default b ≡ node m → choice L policy b m ≡ Some (Some B)
-    → OpenSame S L policy b
+    → (policy : UseConsolidatedMetadata) (m : NodeMetadata) (B : Block) → meaning L Default b ≡ node m
+    → choice L policy b m ≡ Some (Some B) → OpenSame S L policy b
 
 -- Stores that open the same answer the same.
 abbrev pub OpenedAnswerSame : Type 0
-OpenedAnswerSame = (S L : Contents) (policy : UseConsolidatedMetadata) (b : Path) → OpenSame S L policy b → AnswerSame S L policy b
+OpenedAnswerSame =
+    (S L : Contents) (policy : UseConsolidatedMetadata) (b : Path) → OpenSame S L policy b → AnswerSame S L policy b

@@ -2,7 +2,8 @@
 -- <https://zarr-specs.readthedocs.io/en/latest/v3/core/index.html#hierarchy>
 --     Grows V L M      M has what L has of V, and may have more of it
 --     HasBaseOf S L b      L has the documents of b as S has them, and no key that S has not
---     IsPruned S L b      the same of each path reached from b; and a key below each child of a listed path below which S has one
+--     IsPruned S L b      the same of each path reached from b; and a key below each child of a listed path below
+-- which S has one
 --     IsLoadedFrom S L b      L has the base of S, and is pruned from it where b means no array
 use Rattle.std.specs.Prelude.{◌≡◌, ℕ, true, false, List, [], ◌∷◌, ◌++◌, Contains}
 use Rattle.std.specs.FinMap as map
@@ -33,7 +34,8 @@ HasSameFile V W p file = map.get W (p ++ file ∷ []) ≡ map.get V (p ++ file �
 abbrev pub HasSameFiles : Values → Values → Path → Type 0
 HasSameFiles V W p = (file : List ℕ) → Contains node_files file → HasSameFile V W p file
 
--- what is loaded grows from L to M as V has it: no key is another than those of V, every key stays, and so does what is as in V
+-- what is loaded grows from L to M as V has it: no key is another than those of V, every key stays, and so does what
+-- is as in V
 pub record Grows (V L M : Values) : Type 0 where
   pub keys : HasNoOtherKeys V L → HasNoOtherKeys V M
   pub keeps : (key : Segments) → HasKey L key → HasKey M key
@@ -45,12 +47,14 @@ pub record HasBaseOf (S L : Contents) (b : Path) : Type 0 where
   pub keys : HasNoOtherKeys S.values L.values
   pub documents : HasSameFiles S.values L.values b
 
--- L has the numbers of S, no key that S has not, the documents of b and of each path reached from it as S has them, and a key below each child of a listed path below which S has one
+-- L has the numbers of S, no key that S has not, the documents of b and of each path reached from it as S has them,
+-- and a key below each child of a listed path below which S has one
 pub record IsPruned (S L : Contents) (b : Path) : Type 0 where
   pub numbers : L.numbers ≡ S.numbers
   pub keys : HasNoOtherKeys S.values L.values
   pub documents : (p : Path) → StandsFrom S Default b p → HasSameFiles S.values L.values p
-  pub children : (g : Path) (n : List ℕ) → IsListed (meaning S Default) true b g → HasBelow S.values (g ++ n ∷ []) → HasBelow L.values (g ++ n ∷ [])
+  pub children : (g : Path) (n : List ℕ) → IsListed (meaning S Default) true b g → HasBelow S.values (g ++ n ∷ [])
+      → HasBelow L.values (g ++ n ∷ [])
 
 -- b means an array
 abbrev pub IsArrayAt : Contents → Path → Type 0

@@ -18,8 +18,10 @@ IsAhead b qs x = (q : Segments) × Contains qs q × IsBelow b q × ((rest : Segm
 -- what is not loaded yet lies at or below a prefix that is still ahead
 pub record IsLoadedButAhead (V : Values) (b : Path) (L : Values) (qs : List Segments) : Type 0 where
   pub keys : HasNoOtherKeys V L
-  pub documents : (p : Path) → StandsFrom (in_any V) Default b p → (file : List ℕ) → Contains node_files file → HasSameFile V L p file ⊎ IsAhead b qs p
-  pub children : (g : Path) (n : List ℕ) → IsListed (meaning (in_any V) Default) true b g → HasBelow V (g ++ n ∷ []) → HasBelow L (g ++ n ∷ []) ⊎ IsAhead b qs (g ++ n ∷ [])
+  pub documents : (p : Path) → StandsFrom (in_any V) Default b p → (file : List ℕ) → Contains node_files file
+      → HasSameFile V L p file ⊎ IsAhead b qs p
+  pub children : (g : Path) (n : List ℕ) → IsListed (meaning (in_any V) Default) true b g → HasBelow V (g ++ n ∷ [])
+      → HasBelow L (g ++ n ∷ []) ⊎ IsAhead b qs (g ++ n ∷ [])
 
 -- x is one of these prefixes, or begins with one
 abbrev pub LiesAhead : List Segments → Segments → Type 0
@@ -28,4 +30,5 @@ LiesAhead qs x = (q : Segments) × Contains qs q × ((rest : Segments) × (x ≡
 -- what L has not yet of the documents below p lies at or below a prefix that is still ahead
 pub record HoldsButAhead (V : Values) (p : Path) (L : Values) (qs : List Segments) : Type 0 where
   pub keys : HasNoOtherKeys V L
-  pub documents : (q : Path) → IsBelow p q → (file : List ℕ) → Contains node_documents file → HasSameFile V L q file ⊎ LiesAhead qs q
+  pub documents : (q : Path) → IsBelow p q → (file : List ℕ) → Contains node_documents file
+      → HasSameFile V L q file ⊎ LiesAhead qs q

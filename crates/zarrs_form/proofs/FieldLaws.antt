@@ -8,7 +8,7 @@ use Rattle.serde_json.specs.View.{view, members_view}
 use Rattle.serde_json.proofs.Views.{Entry}
 use Rattle.zarrs_form.specs.Documents.{is_own, besides}
 use Rattle.zarrs_form.specs.StepsOfMembers.{at_name}
-use Rattle.zarrs_form.proofs.Shared.{members_by}
+use Rattle.zarrs_form.proofs.MemberLists.{members_by}
 
 -- one name is an own name exactly where the map finds it
 own_at : (name : List ℕ) (k : String Global) → is_own (name ∷ []) (string_bytes k) ≡ at_name name k

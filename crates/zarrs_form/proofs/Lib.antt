@@ -1,4 +1,4 @@
-pub mod Shared
+pub mod MemberLists
 pub mod MemberLaws
 pub mod LeftLaws
 pub mod RowLaws

@@ -25,7 +25,7 @@ use Rattle.zarrs_form.specs.SortedMembers.{NamesAscend}
 use Rattle.zarrs_form.specs.StepsOfMembers.{IsNameAt, IsNameGap, at_name}
 use Rattle.zarrs_form.proofs.FieldLaws.{absent_in, besides_removed}
 use Rattle.zarrs_form.proofs.MemberLaws.{same_text}
-use Rattle.zarrs_form.proofs.Shared.{above_first, members_by}
+use Rattle.zarrs_form.proofs.MemberLists.{above_first, members_by}
 
 -- a name that is found is the name
 same_name : (name other : List ℕ) → is_eq (slice_cmp nat_cmp name other) ≡ true → name ≡ other

@@ -1,11 +1,13 @@
--- How the logic stores JSON data, as a list of steps that build it on a stack. `data_code` and `members_code` are for the models of `src/`; nothing else reads this file.
+-- How the logic stores JSON data, as a list of steps that build it on a stack. `data_code` and `members_code` are for
+-- the models of `src/`; nothing else reads this file.
 -- <https://www.rfc-editor.org/rfc/rfc8259>
 use Rattle.std.specs.Prelude.{◌≡◌, ◌⊎◌, ◌==◌, ℕ, ℤ, true, false, List, [], ◌∷◌, ◌++◌, cond, refl}
 use Rattle.std.specs.Float.{Float}
 use Rattle.std.specs.Coded.{Coded, code_by, coded⊎, coded_ℕ, coded_ℤ, coded_list}
 use Rattle.std.proofs.Common.{inl, inr, ap, ◌∙◌}
 use base.Stored.{coded_float}
-use Rattle.serde_json.specs.Data.{Num, unsigned, negative, float, Data, null, boolean, number, string, array, object, Items, no_items, item, Members, no_members, member}
+use Rattle.serde_json.specs.Data.{Num, unsigned, negative, float, Data, null, boolean, number, string, array, object}
+use Rattle.serde_json.specs.Data.{Items, no_items, item, Members, no_members, member}
 
 abbrev AnyNumber : Type 0
 AnyNumber = ℕ ⊎ (ℤ ⊎ Float)
@@ -83,7 +85,8 @@ abbrev all_built : List Step → List Data → List Data
 all_built [] stack = stack
 all_built (s ∷ ss) stack = built s (all_built ss stack)
 
-all_built-append : (ss ts : List Step) (stack : List Data) → all_built (ss ++ ts) stack ≡ all_built ss (all_built ts stack)
+all_built-append : (ss ts : List Step) (stack : List Data)
+    → all_built (ss ++ ts) stack ≡ all_built ss (all_built ts stack)
 all_built-append [] ts stack = refl
 all_built-append (s ∷ ss) ts stack = ap (built s) (all_built-append ss ts stack)
 
@@ -100,12 +103,16 @@ mutual
   builds_items : (ds : Items) (stack : List Data) → all_built (items_steps ds) stack ≡ array ds ∷ stack
   builds_items no_items stack = refl
   builds_items (item d ds) stack =
-      ap with_item (all_built-append (steps d) (items_steps ds) stack ∙ ap (all_built (steps d)) (builds_items ds stack) ∙ builds d (array ds ∷ stack))
+      ap with_item
+          (all_built-append (steps d) (items_steps ds) stack ∙ ap (all_built (steps d)) (builds_items ds stack)
+              ∙ builds d (array ds ∷ stack))
 
   builds_members : (ms : Members) (stack : List Data) → all_built (members_steps ms) stack ≡ object ms ∷ stack
   builds_members no_members stack = refl
   builds_members (member k d ms) stack =
-      ap (with_member k) (all_built-append (steps d) (members_steps ms) stack ∙ ap (all_built (steps d)) (builds_members ms stack) ∙ builds d (object ms ∷ stack))
+      ap (with_member k)
+          (all_built-append (steps d) (members_steps ms) stack ∙ ap (all_built (steps d)) (builds_members ms stack)
+              ∙ builds d (object ms ∷ stack))
 
 abbrev first_of_stack : List Data → Data
 first_of_stack [] = null

@@ -1,7 +1,9 @@
--- Zarr core specification 3.1, "Metadata documents", and specification version 2, "Metadata": how documents are read, each step answering its value or the first fault.
+-- Zarr core specification 3.1, "Metadata documents", and specification version 2, "Metadata": how documents are read,
+-- each step answering its value or the first fault.
 -- <https://zarr-specs.readthedocs.io/en/latest/v3/core/index.html#metadata>
 -- <https://zarr-specs.readthedocs.io/en/latest/v2/v2.0.html#metadata>
-use Rattle.std.specs.Prelude.{◌≡◌, ◌≢◌, ◌==◌, ℕ, List, [], ◌∷◌, Bool, true, false, bytes_eq, ◌||◌, if◌then◌else◌, Option, Some, None, Result, Ok, Err, codes, option_and_then, is_some}
+use Rattle.std.specs.Prelude.{◌≡◌, ◌≢◌, ◌==◌, ℕ, List, [], ◌∷◌, Bool, true, false, bytes_eq, ◌||◌, if◌then◌else◌}
+use Rattle.std.specs.Prelude.{Option, Some, None, Result, Ok, Err, codes, option_and_then, is_some}
 use Rattle.std.specs.List.{list_any}
 use Rattle.std.specs.Str.{is_utf8}
 use Rattle.serde_json.specs.Read.{read}
@@ -11,7 +13,9 @@ use Rattle.serde_json.specs.Written.{has_float}
 use Rattle.zarrs_fault.specs.declared.fault.MetadataFault.{MetadataFault}
 use Rattle.zarrs_fault.specs.declared.numbers.Numbers.{Numbers}
 use Rattle.zarrs_fault.specs.declared.numbers.Numbers.TheVariants.{Whole, Any}
-use Rattle.zarrs_fault.specs.declared.fault.MetadataFault.TheVariants.{NotJson, UnsupportedNumber, NotAnObject, WrongFormat, WrongNodeType, MissingMember, BadMember, OutOfMemory}
+use Rattle.zarrs_fault.specs.declared.fault.MetadataFault.TheVariants.{NotJson, UnsupportedNumber, NotAnObject}
+use Rattle.zarrs_fault.specs.declared.fault.MetadataFault.TheVariants.{WrongFormat, WrongNodeType, MissingMember}
+use Rattle.zarrs_fault.specs.declared.fault.MetadataFault.TheVariants.{BadMember, OutOfMemory}
 
 infixl 10 ◌>>=◌
 -- a step, and the next where it answered a value
@@ -68,7 +72,9 @@ is_text t (Some s) = bytes_eq s t
 
 -- `zarr_format` is this number
 unfoldable pub format_of : ℕ → Data → Result (Unit {0}) MetadataFault
-format_of n d = if is_number n (option_and_then as_u64 (option_and_then as_number (get (codes "zarr_format") d))) then Ok tt else Err WrongFormat
+format_of n d =
+    if is_number n (option_and_then as_u64 (option_and_then as_number (get (codes "zarr_format") d))) then Ok tt
+        else Err WrongFormat
 
 -- `node_type` is this text
 unfoldable pub node_type_of : List ℕ → Data → Result (Unit {0}) MetadataFault

@@ -1,8 +1,11 @@
--- Zarr core specification 3.1, "Array metadata" and "Extension definition": the forms of members, each the value that the data stand for, or none where they have another form.
+-- Zarr core specification 3.1, "Array metadata" and "Extension definition": the forms of members, each the value that
+-- the data stand for, or none where they have another form.
 -- <https://zarr-specs.readthedocs.io/en/latest/v3/core/index.html#array-metadata>
 -- <https://zarr-specs.readthedocs.io/en/latest/v3/core/index.html#extension-definition>
-use Rattle.std.specs.Prelude.{ℕ, List, [], ◌∷◌, Bool, true, false, not, ◌&&◌, if◌then◌else◌, is_none, Option, Some, None, option_map, option_and_then, codes, map}
-use Rattle.serde_json.specs.Data.{Data, null, boolean, number, string, array, object, Items, no_items, item, Members, no_members, unsigned, put}
+use Rattle.std.specs.Prelude.{ℕ, List, [], ◌∷◌, Bool, true, false, not, ◌&&◌, if◌then◌else◌, is_none, Option, Some}
+use Rattle.std.specs.Prelude.{None, option_map, option_and_then, codes, map}
+use Rattle.serde_json.specs.Data.{Data, null, boolean, number, string, array, object, Items, no_items, item, Members}
+use Rattle.serde_json.specs.Data.{no_members, unsigned, put}
 use Rattle.serde_json.specs.Written.{has_float}
 use Rattle.serde_json.specs.Find.{get, as_number, as_u64, as_str, as_bool, as_object}
 use Rattle.serde_json.specs.View.{items_of}
@@ -51,7 +54,8 @@ abbrev pub unless_absent : {A : Type 0} → A → (Data → Option A) → Option
 unless_absent absent form None = Some absent
 unless_absent absent form (Some d) = form d
 
--- an object with the text `name`, an optional object `configuration`, null counting as absent, and an optional truth value `must_understand`
+-- an object with the text `name`, an optional object `configuration`, null counting as absent, and an optional truth
+-- value `must_understand`
 abbrev pub extension_object : Data → Option MetadataV3
 extension_object d = do
   name ← option_and_then as_str (get (codes "name") d)
@@ -116,7 +120,8 @@ is_nil (x ∷ xs) = false
 abbrev pub extension_data : MetadataV3 → Data
 extension_data m =
     if is_none m.configuration && m.must_understand then string m.name
-    else object (put_rows ((codes "name", Some (string m.name)) ∷ (codes "configuration", option_map object m.configuration)
+    else object
+        (put_rows ((codes "name", Some (string m.name)) ∷ (codes "configuration", option_map object m.configuration)
     ∷ (codes "must_understand", unless m.must_understand (boolean false)) ∷ []) no_members)
 
 -- the numbers of the configuration are among these

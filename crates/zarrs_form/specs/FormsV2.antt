@@ -1,7 +1,8 @@
 -- Zarr specification version 2, "Arrays", "Metadata": the forms of the members of `.zarray`.
 -- <https://zarr-specs.readthedocs.io/en/latest/v2/v2.0.html#arrays>
 -- <https://zarr-specs.readthedocs.io/en/latest/v2/v2.0.html#metadata>
-use Rattle.std.specs.Prelude.{ℕ, List, [], ◌∷◌, Bool, true, not, ◌&&◌, ◌==◌, if◌then◌else◌, bytes_eq, Option, Some, None, option_map, option_and_then, codes}
+use Rattle.std.specs.Prelude.{ℕ, List, [], ◌∷◌, Bool, true, not, ◌&&◌, ◌==◌, if◌then◌else◌, bytes_eq, Option, Some}
+use Rattle.std.specs.Prelude.{None, option_map, option_and_then, codes}
 use Rattle.std.specs.List.{list_all, list_any}
 use Rattle.serde_json.specs.Data.{Data, null, string, object, put}
 use Rattle.serde_json.specs.Find.{get, as_str, as_object}

@@ -7,8 +7,10 @@ use Rattle.json.specs.Layout.{line, pretty}
 use Rattle.json.specs.Print.{quoted, token_text}
 use Rattle.json.specs.Token.{Token}
 use Rattle.json.specs.Tree.{json_tokens}
-use Rattle.serde_json.specs.Data.{Data, null, boolean, number, string, array, object, Items, no_items, item, Members, no_members, member}
+use Rattle.serde_json.specs.Data.{Data, null, boolean, number, string, array, object, Items, no_items, item, Members}
+use Rattle.serde_json.specs.Data.{no_members, member}
 use Rattle.serde_json.specs.Written.{comma_if, number_text, outline}
+use Rattle.zarrs_fault.specs.Bytes.{colon, space}
 
 -- the pretty layout of a tree whose numbers are all whole: two spaces a level, and no newline at the end
 abbrev pub pretty_text : Data → List ℕ
@@ -36,8 +38,9 @@ abbrev mutual
   -- the members that are left of an object that stands n levels deep, and its bracket
   pub members_at : Bool → ℕ → Members → List ℕ
   members_at later n no_members = close_line later n ++ 125 ∷ []
-  members_at later n (member k d ms) = comma_if later ++ (line (n + 1) ++ (quoted k ++ 58 ∷ 32 ∷ (text_at (n + 1) d ++ members_at true n ms)))
+  members_at later n (member k d ms) =
+      comma_if later ++ (line (n + 1) ++ (quoted k ++ colon ∷ space ∷ (text_at (n + 1) d ++ members_at true n ms)))
 
 -- a member of an object that stands one level deep, behind a comma where one stands before it
 abbrev pub entry_text : Bool → List ℕ → Data → List ℕ
-entry_text later k d = comma_if later ++ (line 2 ++ (quoted k ++ 58 ∷ 32 ∷ text_at 2 d))
+entry_text later k d = comma_if later ++ (line 2 ++ (quoted k ++ colon ∷ space ∷ text_at 2 d))

@@ -1,4 +1,5 @@
--- Steps of members that stand in the order of their names: where a name stands, and where it would stand; no public contract rests on them.
+-- Steps of members that stand in the order of their names: where a name stands, and where it would stand; no public
+-- contract rests on them.
 use Rattle.std.specs.Prelude.{◌≡◌, ℕ, ◌<◌, ◌≤◌, Bool, List, length, String, string_bytes}
 use Rattle.std.specs.Global.{Global}
 use Rattle.std.specs.declared.cmp.Ordering.TheVariants.{Less, Greater}

@@ -31,7 +31,7 @@ use Rattle.zarrs_block.specs.Small.{SmallStore, small, small_meaning_in}
 use Rattle.zarrs_block.specs.Zmetadata.{before_last, documents_below, block_from, is_bad, is_good, is_version_2, small_block_in, with_node, zmetadata_members_in, zmetadata_in}
 use Rattle.zarrs_block.proofs.Expansion.{same_text}
 use Rattle.zarrs_node.proofs.Child.{node_same}
-use Rattle.zarrs_node.proofs.Puts.{found_put}
+use Rattle.zarrs_node.proofs.PairsInBlocks.{found_put}
 use Rattle.zarrs_group.specs.BlocksBeside.{IsBeside}
 use Rattle.zarrs_group.specs.BlocksOfGroups.{block_beside}
 

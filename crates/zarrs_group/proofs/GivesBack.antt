@@ -46,9 +46,9 @@ use Rattle.zarrs_node.specs.Reach.{Kept}
 use Rattle.zarrs_node.specs.OpeningNodes.{ShowsChosen, RefusesChosen, ShowsBelow, RefusesOpening, RefusesText, RefusesNode}
 use Rattle.zarrs_node.specs.OpeningNodes as opened
 use Rattle.zarrs_node.proofs.Child.{node_same}
-use Rattle.zarrs_node.proofs.Found.{listed_each, lists_from}
+use Rattle.zarrs_node.proofs.ListedItems.{listed_each, lists_from}
 use Rattle.zarrs_node.proofs.Inverse.{block_gives_back, entries_are}
-use Rattle.zarrs_node.proofs.Kept.{kept_same, placed_between}
+use Rattle.zarrs_node.proofs.KeptPairs.{kept_same, placed_between}
 use Rattle.zarrs_node.proofs.Unique.{one_forest}
 use Rattle.zarrs_group.specs.Groups.{GroupState, group_tree}
 use Rattle.zarrs_group.specs.Meaning.{MeansGroup, group_v3_line, group_line, group_meaning}

@@ -15,8 +15,8 @@ use Rattle.zarrs_node.specs.Order.{Ascend}
 use Rattle.zarrs_node.specs.Reach.{Kept}
 use Rattle.zarrs_node.specs.declared.node.Node.{Node}
 use Rattle.zarrs_node.specs.Forest.{Forest, none, tree, pairs, Shows, IsPlaced, forest, path_of, metadata_of, below_of}
-use Rattle.zarrs_node.proofs.Found.{listed_each, lists_from}
-use Rattle.zarrs_node.proofs.Graft.{plant_out, Contains-first, Contains-cons}
+use Rattle.zarrs_node.proofs.ListedItems.{listed_each, lists_from}
+use Rattle.zarrs_node.proofs.ForestsBeside.{plant_out, Contains-first, Contains-cons}
 use Rattle.zarrs_node.proofs.Order.{pairs_ascend}
 use Rattle.zarrs_node.specs.OpeningNodes.{ShowsChosen, IsCleanChosen}
 use Rattle.zarrs_group.specs.Groups.{GroupState}

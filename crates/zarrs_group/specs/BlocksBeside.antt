@@ -1,4 +1,5 @@
--- The document `.zmetadata` of version 2 (zarr-python, "Consolidated metadata"): the blocks that can stand beside the metadata of a version 2 group.
+-- The document `.zmetadata` of version 2 (zarr-python, "Consolidated metadata"): the blocks that can stand beside the
+-- metadata of a version 2 group.
 -- <https://zarr.readthedocs.io/en/stable/user-guide/consolidated_metadata/>
 use Rattle.std.specs.Prelude.{Option, Some, None}
 use Rattle.zarrs_block.specs.Block.{Block, HasValidKeys}

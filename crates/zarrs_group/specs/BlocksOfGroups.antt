@@ -1,7 +1,9 @@
--- Zarr core specification 3.1, "Group metadata", the field `consolidated_metadata`, and the document `.zmetadata` of version 2: the block that a group holds, and the group with a block set.
+-- Zarr core specification 3.1, "Group metadata", the field `consolidated_metadata`, and the document `.zmetadata` of
+-- version 2: the block that a group holds, and the group with a block set.
 -- <https://zarr-specs.readthedocs.io/en/latest/v3/core/index.html#group-metadata>
 -- <https://zarr.readthedocs.io/en/stable/user-guide/consolidated_metadata/>
---     held_by_in numbers g, held_by g      the block that a group holds in these numbers, or in whole ones, where there is one
+--     held_by_in numbers g, held_by g      the block that a group holds in these numbers, or in whole ones, where
+-- there is one
 --     block_beside s p m      the block that a store has beside the metadata of a group
 --     with_block g block      the group with a block or without one, all else as it was
 --     Fits m block, RefusesBlock m block e      that a group of these metadata takes a block; what refuses it
@@ -25,7 +27,8 @@ use Rattle.zarrs_node.specs.BlocksBelow.{zmetadata_at}
 use Rattle.zarrs_group.specs.BlocksBeside.{IsBeside}
 use Rattle.zarrs_group.specs.Groups.{GroupState}
 
--- the block of a group with these metadata and this block beside them: the one in the metadata of version 3, read in these numbers; the one beside those of version 2
+-- the block of a group with these metadata and this block beside them: the one in the metadata of version 3, read in
+-- these numbers; the one beside those of version 2
 abbrev pub held_in : Numbers → GroupMetadata → Option Block → Option Block
 held_in numbers (V3 m) block = group_block numbers (V3 m)
 held_in numbers (V2 m) block = block
@@ -38,44 +41,60 @@ held_by_in numbers g = held_in numbers g.metadata g.block
 abbrev pub held_by : GroupState → Option Block
 held_by g = held_by_in Whole g
 
--- the block that a store has beside the metadata of a group: of a version 2 group the one that the document `.zmetadata` is, of a version 3 group none
+-- the block that a store has beside the metadata of a group: of a version 2 group the one that the document
+-- `.zmetadata` is, of a version 3 group none
 abbrev pub block_beside : Contents → Path → GroupMetadata → Option Block
 block_beside s p (V3 m) = None
 block_beside s p (V2 m) = zmetadata_at s p
 
 -- ---- a block set
 
--- the additional fields with the written form of a block as the field `consolidated_metadata`, which need not be understood; or without that field
+-- the additional fields with the written form of a block as the field `consolidated_metadata`, which need not be
+-- understood; or without that field
 abbrev pub fields_with : Option Block → Members → Members
 fields_with (Some B) ms = put (codes "consolidated_metadata") (field_data (block_tree B) false) ms
 fields_with None ms = besides (codes "consolidated_metadata" ∷ []) ms
 
--- the metadata with a block or without one: those of version 3 in their additional fields, those of version 2 stay as they are
+-- the metadata with a block or without one: those of version 3 in their additional fields, those of version 2 stay as
+-- they are
 abbrev pub metadata_with : Option Block → GroupMetadata → GroupMetadata
-metadata_with block (V3 m) = V3 (record { attributes = m.attributes; additional_fields = fields_with block m.additional_fields })
+metadata_with block (V3 m) = V3 (record {
+  attributes = m.attributes;
+  additional_fields = fields_with block m.additional_fields;
+})
 metadata_with block (V2 m) = V2 m
 
--- what is beside the metadata once a block was set: the block beside those of version 2, and beside those of version 3 what was there
+-- what is beside the metadata once a block was set: the block beside those of version 2, and beside those of version
+-- 3 what was there
 abbrev pub beside_with : Option Block → GroupMetadata → Option Block → Option Block
 beside_with block (V3 m) old = old
 beside_with block (V2 m) old = block
 
 -- the group with a block or without one, and all else as it was
 abbrev pub with_block : GroupState → Option Block → GroupState
-with_block g block = record { path = g.path; metadata = metadata_with block g.metadata; block = beside_with block g.metadata g.block; convert_version = g.convert_version; erase_version = g.erase_version }
+with_block g block = record {
+  path = g.path;
+  metadata = metadata_with block g.metadata;
+  block = beside_with block g.metadata g.block;
+  convert_version = g.convert_version;
+  erase_version = g.erase_version;
+}
 
--- a group of these metadata takes the block: one of version 2 takes a block that can stand beside its metadata, one of version 3 any
+-- a group of these metadata takes the block: one of version 2 takes a block that can stand beside its metadata, one
+-- of version 3 any
 abbrev pub Fits : GroupMetadata → Option Block → Type 0
 Fits (V3 m) block = Unit {0}
 Fits (V2 m) block = IsBeside block
 
--- setting a block is refused: of version 3 as out of memory, of version 2 as the block cannot be written; to set no block there is never refused
+-- setting a block is refused: of version 3 as out of memory, of version 2 as the block cannot be written; to set no
+-- block there is never refused
 abbrev pub RefusesBlock : GroupMetadata → Option Block → NodeCreateError → Type 0
 RefusesBlock (V3 m) block e = e ≡ OutOfMemory
 RefusesBlock (V2 m) (Some B) e = RefusesZmetadata B e
 RefusesBlock (V2 m) None e = ⊥
 
--- a group of these metadata can hold the block: none always, of version 2 any, and of version 3 one where each of its nodes could have come from a document
+-- a group of these metadata can hold the block: none always, of version 2 any, and of version 3 one where each of its
+-- nodes could have come from a document
 abbrev pub MetadataHold : GroupMetadata → Option Block → Type 0
 MetadataHold m None = Unit {0}
 MetadataHold (V3 m) (Some B) = HasPlainNodes B

@@ -28,7 +28,8 @@ after S (e ∷ es) = after (after_edit S e) es
 abbrev pub AgreesOutsideKey : Segments → Contents → Contents → Type 0
 AgreesOutsideKey key S T = (T.numbers ≡ S.numbers) × AgreesExceptAt key S.values T.values
 
--- a first part of the edits was done, and not all of them: the store is what these leave, except perhaps at the key of the next edit
+-- a first part of the edits was done, and not all of them: the store is what these leave, except perhaps at the key
+-- of the next edit
 pub record IsCutShort (S : Contents) (edits : List Edit) (S' : Contents) : Type 0 where
   pub done : List Edit
   pub next : Edit

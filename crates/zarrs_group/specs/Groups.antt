@@ -15,7 +15,8 @@ use Rattle.zarrs_meta.specs.GroupV2.{group_v2_tree}
 use Rattle.zarrs_convert.specs.Groups.{group_v2_to_v3}
 use Rattle.zarrs_block.specs.Block.{Block}
 
--- what a group holds: its path, its metadata, the block that a version 2 group holds beside its metadata (one of version 3 has it in them), and the versions that it is stored and erased by
+-- what a group holds: its path, its metadata, the block that a version 2 group holds beside its metadata (one of
+-- version 3 has it in them), and the versions that it is stored and erased by
 pub record GroupState : Type 0 where
   pub path : Path
   pub metadata : GroupMetadata
@@ -54,7 +55,13 @@ beside_as_v3 (V2 m) block = None
 
 -- the group with its metadata as version 3, without the block of a version 2 group, and all else as it was
 abbrev pub group_as_v3 : GroupState → GroupState
-group_as_v3 g = record { path = g.path; metadata = as_v3 g.metadata; block = beside_as_v3 g.metadata g.block; convert_version = g.convert_version; erase_version = g.erase_version }
+group_as_v3 g = record {
+  path = g.path;
+  metadata = as_v3 g.metadata;
+  block = beside_as_v3 g.metadata g.block;
+  convert_version = g.convert_version;
+  erase_version = g.erase_version;
+}
 
 -- what is written of the metadata in one document
 abbrev pub group_tree : GroupMetadata → Data

@@ -31,7 +31,8 @@ pub record IsKept (old new : GroupState) : Type 0 where
   pub convert_version : new.convert_version ≡ old.convert_version
   pub erase_version : new.erase_version ≡ old.erase_version
 
--- a group that becomes one of version 3 keeps its path, its attributes, and the versions that it is stored and erased by
+-- a group that becomes one of version 3 keeps its path, its attributes, and the versions that it is stored and erased
+-- by
 abbrev pub Version3Keeps : Type 0
 Version3Keeps = (g : GroupState) → IsKept g (group_as_v3 g)
 
@@ -49,7 +50,9 @@ PlainIsStored = (m : GroupMetadata) → (group_fault m ≡ None) ↔ IsTrue (is_
 
 -- every key but the four of a group has what it had
 abbrev pub OthersStay : Path → Values → Values → Type 0
-OthersStay p old new = (key : Segments) → key ≢ p ++ zarr_json ∷ [] → key ≢ p ++ zgroup ∷ [] → key ≢ p ++ zattrs ∷ [] → key ≢ p ++ zmetadata ∷ [] → map.get new key ≡ map.get old key
+OthersStay p old new =
+    (key : Segments) → key ≢ p ++ zarr_json ∷ [] → key ≢ p ++ zgroup ∷ [] → key ≢ p ++ zattrs ∷ []
+    → key ≢ p ++ zmetadata ∷ [] → map.get new key ≡ map.get old key
 
 -- T differs from S at the four keys of a group alone, and its documents may hold the numbers that those of S may
 abbrev pub DiffersAtGroup : Path → Contents → Contents → Type 0
@@ -57,15 +60,21 @@ DiffersAtGroup p S T = (T.numbers ≡ S.numbers) × OthersStay p S.values T.valu
 
 -- edits leave every key but the four of a group as it was, and the numbers, also where they were cut short
 abbrev pub OthersStayAfter : Path → List Edit → Type 0
-OthersStayAfter p edits = (S : Contents) → DiffersAtGroup p S (after S edits) × ((S' : Contents) → IsCutShort S edits S' → DiffersAtGroup p S S')
+OthersStayAfter p edits =
+    (S : Contents)
+    → DiffersAtGroup p S (after S edits) × ((S' : Contents) → IsCutShort S edits S' → DiffersAtGroup p S S')
 
 -- storing and erasing leave every key but the four of the group as it was, also where they are refused
 abbrev pub OtherKeysStay : Type 0
-OtherKeysStay = (p : Path) (m : GroupMetadata) → ((block : Option Block) → OthersStayAfter p (store_edits p m block)) × ((v : MetadataEraseVersion) → OthersStayAfter p (erase_edits p v m))
+OtherKeysStay =
+    (p : Path) (m : GroupMetadata)
+    → ((block : Option Block) → OthersStayAfter p (store_edits p m block))
+    × ((v : MetadataEraseVersion) → OthersStayAfter p (erase_edits p v m))
 
 -- `.zarray` is at none of the four keys, so storing and erasing never touch it
 abbrev pub ArraysStay : Type 0
-ArraysStay = (p : Path) (S S' : Values) → OthersStay p S S' → map.get S' (p ++ zarray ∷ []) ≡ map.get S (p ++ zarray ∷ [])
+ArraysStay =
+    (p : Path) (S S' : Values) → OthersStay p S S' → map.get S' (p ++ zarray ∷ []) ≡ map.get S (p ++ zarray ∷ [])
 
 -- none of the four keys of a group is there, and every other key has what it had
 pub record IsErased (p : Path) (old new : Values) : Type 0 where
@@ -77,13 +86,16 @@ pub record IsErased (p : Path) (old new : Values) : Type 0 where
 
 -- erasing with All leaves none of the four keys, and every other key as it was
 abbrev pub ErasingAllErases : Type 0
-ErasingAllErases = (S : Contents) (p : Path) (m : GroupMetadata) → IsErased p S.values (after S (erase_edits p erase.All m)).values
+ErasingAllErases =
+    (S : Contents) (p : Path) (m : GroupMetadata) → IsErased p S.values (after S (erase_edits p erase.All m)).values
 
--- where its documents do not nest too deep, the path means this group: one of version 3 by default and as version 3, one of version 2 as version 2
+-- where its documents do not nest too deep, the path means this group: one of version 3 by default and as version 3,
+-- one of version 2 as version 2
 abbrev pub MeansStored : Contents → Path → GroupMetadata → Type 0
 MeansStored S p (V3 m) = depth (group_v3_tree m) ≤ max_depth
     → MeansGroup S retrieve.Default p (V3 m) × MeansGroup S retrieve.V3 p (V3 m)
-MeansStored S p (V2 m) = depth (object m.attributes) ≤ max_depth → depth (group_v2_tree (group_without_attributes m)) ≤ max_depth
+MeansStored S p (V2 m) =
+    depth (object m.attributes) ≤ max_depth → depth (group_v2_tree (group_without_attributes m)) ≤ max_depth
     → MeansGroup S retrieve.V2 p (V2 m)
 
 -- after it was stored, at whatever path, with whatever block and over whatever store, the path means the group

@@ -8,7 +8,13 @@ use Rattle.zarrs_group.specs.Groups.{GroupState, with_attributes}
 
 -- the group with these attributes, and all else as it was
 abbrev pub group_with_attributes : GroupState → Members → GroupState
-group_with_attributes g attributes = record { path = g.path; metadata = with_attributes g.metadata attributes; block = g.block; convert_version = g.convert_version; erase_version = g.erase_version }
+group_with_attributes g attributes = record {
+  path = g.path;
+  metadata = with_attributes g.metadata attributes;
+  block = g.block;
+  convert_version = g.convert_version;
+  erase_version = g.erase_version;
+}
 
 -- the group ends with the attributes that were last written, and all else as it was
 abbrev pub LendsAttributes : MutBor GroupState → MutBor Members → Fml

@@ -27,7 +27,8 @@ group_v3_line (Err e) after = bad (refused.StorageError e)
 
 -- the line of `zarr.json`, read as a version 3 group alone, in the numbers of the store
 unfoldable pub group_line : Contents → Path → Meaning → Meaning
-group_line s p after = group_v3_line (document_at (of_bytes (group_v3_in s.numbers)) s.values (p ++ zarr_json ∷ [])) after
+group_line s p after =
+    group_v3_line (document_at (of_bytes (group_v3_in s.numbers)) s.values (p ++ zarr_json ∷ [])) after
 
 -- by default `zarr.json`, then `.zgroup` with `.zattrs`; as version 3 the first alone, as version 2 the second alone
 unfoldable pub group_meaning : Contents → MetadataRetrieveVersion → Path → Meaning

@@ -1,4 +1,5 @@
--- Zarr core specification 3.1, "Group metadata" and "Extension points": opening a group, and the additional fields that must be understood.
+-- Zarr core specification 3.1, "Group metadata" and "Extension points": opening a group, and the additional fields
+-- that must be understood.
 -- <https://zarr-specs.readthedocs.io/en/latest/v3/core/index.html#group-metadata>
 -- <https://zarr-specs.readthedocs.io/en/latest/v3/core/index.html#extension-points>
 use Rattle.std.specs.Prelude.{true, false, ◌≢◌, ◌≡◌, ℕ, Bool, IsTrue, List, Option, Some, None}
@@ -28,14 +29,17 @@ use Rattle.zarrs_group.specs.Meaning.{MeansGroup, group_meaning}
 pub record IsLeastUnsupported (fields : Members) (field : UnsupportedField) : Type 0 where
   pub held : get_member field.name fields ≡ Some field.value
   pub must : must_understand field.value ≡ true
-  pub least : (name : List ℕ) (d : Data) → get_member name fields ≡ Some d → must_understand d ≡ true → bytes_cmp name field.name ≢ Less
+  pub least : (name : List ℕ) (d : Data) → get_member name fields ≡ Some d → must_understand d ≡ true
+      → bytes_cmp name field.name ≢ Less
 
--- where nothing was found, no field must be understood; a field that was found has the least name of those that must be understood
+-- where nothing was found, no field must be understood; a field that was found has the least name of those that must
+-- be understood
 abbrev pub IsUnsupported : Members → Option UnsupportedField → Type 0
 IsUnsupported fields None = (name : List ℕ) (d : Data) → get_member name fields ≡ Some d → must_understand d ≡ false
 IsUnsupported fields (Some field) = IsLeastUnsupported fields field
 
--- of a version 3 group the least additional field was found that must be understood, or nothing where none must be; of a version 2 group nothing was found
+-- of a version 3 group the least additional field was found that must be understood, or nothing where none must be;
+-- of a version 2 group nothing was found
 abbrev pub IsUnsupportedIn : GroupMetadata → Option UnsupportedField → Type 0
 IsUnsupportedIn (V3 m) found = IsUnsupported m.additional_fields found
 IsUnsupportedIn (V2 m) found = found ≡ None
@@ -48,7 +52,8 @@ pub record MeansAt (S : Contents) (v : MetadataRetrieveVersion) (text : List ℕ
   pub means : group_meaning S v path ≡ meaning
 
 -- the text is the path of a group, whose least field that must be understood is this one
-pub record HasUnsupported (S : Contents) (v : MetadataRetrieveVersion) (text : List ℕ) (field : UnsupportedField) : Type 0 where
+pub record HasUnsupported (S : Contents) (v : MetadataRetrieveVersion) (text : List ℕ)
+    (field : UnsupportedField) : Type 0 where
   pub path : Path
   pub valid : IsPath path
   pub is : path_text path ≡ text
@@ -56,13 +61,15 @@ pub record HasUnsupported (S : Contents) (v : MetadataRetrieveVersion) (text : L
   pub means : MeansGroup S v path metadata
   pub unsupported : IsUnsupportedIn metadata (Some field)
 
--- opening is refused: the text is no path; as a group its path is bad, or means nothing, or means a group with a field that must be understood; or the store can fail; or out of memory.
+-- opening is refused: the text is no path; as a group its path is bad, or means nothing, or means a group with a
+-- field that must be understood; or the store can fail; or out of memory.
 -- A text has one path and a path has one meaning, so no two of the first four hold at once
 abbrev pub RefusesOpeningGroup : Bool → Contents → MetadataRetrieveVersion → List ℕ → GroupCreateError → Type 0
 RefusesOpeningGroup can_fail S v text (error.NodePathError e) = RefusesPath text e
 RefusesOpeningGroup can_fail S v text (error.AdditionalFieldUnsupportedError field) = HasUnsupported S v text field
 RefusesOpeningGroup can_fail S v text (error.StorageError storage.Fault) = IsTrue can_fail
-RefusesOpeningGroup can_fail S v text (error.StorageError (storage.InvalidMetadata key fault)) = MeansAt S v text (bad (node.StorageError (storage.InvalidMetadata key fault)))
+RefusesOpeningGroup can_fail S v text (error.StorageError (storage.InvalidMetadata key fault)) =
+    MeansAt S v text (bad (node.StorageError (storage.InvalidMetadata key fault)))
 RefusesOpeningGroup can_fail S v text (error.StorageError (storage.Other said)) = ⊥
 RefusesOpeningGroup can_fail S v text (error.StorageError storage.OutOfMemory) = Unit {0}
 RefusesOpeningGroup can_fail S v text error.MissingMetadata = MeansAt S v text nothing
@@ -84,7 +91,8 @@ IsTold (error.StorageError (storage.Other said)) = Unit {0}
 IsTold error.OutOfMemory = Unit {0}
 IsTold _ = ⊥
 
--- the refusal of a node was made that of a group: a storage error is kept, out of memory stays out of memory, and any other error becomes some text, whatever it says, or out of memory
+-- the refusal of a node was made that of a group: a storage error is kept, out of memory stays out of memory, and any
+-- other error becomes some text, whatever it says, or out of memory
 abbrev pub IsFromNode : NodeCreateError → GroupCreateError → Type 0
 IsFromNode (node.StorageError e) made = made ≡ error.StorageError e
 IsFromNode (node.NodePathError path.OutOfMemory) made = made ≡ error.OutOfMemory

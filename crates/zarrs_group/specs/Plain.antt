@@ -1,4 +1,5 @@
--- Zarr core specification 3.1, "Group metadata", and the document `.zmetadata` of version 2: the fields that a group has by its format, and what cannot stand beside them.
+-- Zarr core specification 3.1, "Group metadata", and the document `.zmetadata` of version 2: the fields that a group
+-- has by its format, and what cannot stand beside them.
 -- Why the metadata of a group could not have come from a document: a number that does not fit, or else the least name
 -- of an additional field that clashes with a name of the document's own.
 -- <https://zarr-specs.readthedocs.io/en/latest/v3/core/index.html#group-metadata>
@@ -19,17 +20,18 @@ use Rattle.zarrs_meta.specs.declared.node.NodeMetadata.{NodeMetadata}
 use Rattle.zarrs_meta.specs.declared.node.NodeMetadata.TheVariants.{Group, Array}
 use Rattle.zarrs_meta.specs.declared.group_v3.GroupMetadataV3.{GroupMetadataV3}
 use Rattle.zarrs_meta.specs.declared.group_v2.GroupMetadataV2.{GroupMetadataV2}
-use Rattle.zarrs_path.specs.Paths.{Path}
 use Rattle.zarrs_block.specs.Block.{Block}
 use Rattle.zarrs_block.specs.BlockExpansion.{pairs_at, paths_at}
 use Rattle.zarrs_fault.specs.declared.fault.MetadataFault.{MetadataFault}
 use Rattle.zarrs_fault.specs.declared.fault.MetadataFault.TheVariants.{UnsupportedNumber, BadMember}
+use Rattle.zarrs_block.specs.Meaning.{Pair}
 
 -- some member has this name
 abbrev pub has_member : List ℕ → Members → Bool
 has_member name ms = is_some (get_member name ms)
 
--- the least name among the fields that a version 3 group has by its format; `consolidated_metadata` clashes where it is null
+-- the least name among the fields that a version 3 group has by its format; `consolidated_metadata` clashes where it
+-- is null
 abbrev pub clash_v3 : Members → Option (List ℕ)
 clash_v3 ms =
     if has_member (codes "attributes") ms then Some (codes "attributes")
@@ -46,13 +48,15 @@ clash_v2 ms =
     else if has_member (codes "zarr_format") ms then Some (codes "zarr_format")
     else None
 
--- why the metadata of a version 3 group could not have come from a document: a number that does not fit, or else the least clash; or nothing
+-- why the metadata of a version 3 group could not have come from a document: a number that does not fit, or else the
+-- least clash; or nothing
 abbrev pub group_v3_fault : GroupMetadataV3 → Option MetadataFault
 group_v3_fault m =
     if members_have_float m.attributes || members_have_float m.additional_fields then Some UnsupportedNumber
     else option_map BadMember (clash_v3 m.additional_fields)
 
--- why the metadata of a version 2 group could not have come from a document: a number that does not fit, or else the least clash; or nothing
+-- why the metadata of a version 2 group could not have come from a document: a number that does not fit, or else the
+-- least clash; or nothing
 abbrev pub group_v2_fault : GroupMetadataV2 → Option MetadataFault
 group_v2_fault m =
     if members_have_float m.attributes || members_have_float m.additional_fields then Some UnsupportedNumber
@@ -81,12 +85,13 @@ node_fields (Array (array_v2 m)) = m.additional_fields
 abbrev pub node_has_float : NodeMetadata → Bool
 node_has_float m = has_float (node_tree m) || members_have_float (node_fields m)
 
--- the entries of a block, in the order of their keys: all but the base itself, and but those behind a slash that stand without it too
-abbrev pub entries_of : Block → List (Path × NodeMetadata)
+-- the entries of a block, in the order of their keys: all but the base itself, and but those behind a slash that
+-- stand without it too
+abbrev pub entries_of : Block → List Pair
 entries_of B = pairs_at (paths_at [] B B) B
 
 -- a number of some entry that does not fit, or else `metadata` where some entry could not have come from a document
-abbrev pub entries_fault : List (Path × NodeMetadata) → Option MetadataFault
+abbrev pub entries_fault : List Pair → Option MetadataFault
 entries_fault es =
     if list_any (λ e. node_has_float e.1) es then Some UnsupportedNumber
     else if list_all (λ e. is_plain_node e.1) es then None
@@ -96,7 +101,8 @@ entries_fault es =
 abbrev pub block_fault : Block → Option MetadataFault
 block_fault B = entries_fault (entries_of B)
 
--- why what stands beside the metadata is not stored: the fault of the block of a version 2 group; that of version 3 is in its metadata
+-- why what stands beside the metadata is not stored: the fault of the block of a version 2 group; that of version 3
+-- is in its metadata
 abbrev pub beside_fault : GroupMetadata → Option Block → Option MetadataFault
 beside_fault (V3 m) block = None
 beside_fault (V2 m) None = None

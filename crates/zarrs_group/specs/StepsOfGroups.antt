@@ -1,7 +1,8 @@
 -- Steps of opening and storing groups: what their private calls answer; no public contract rests on them.
 use Rattle.std.specs.Prelude.{◌≡◌, Bool, IsTrue, Option, Some, None, false}
 use Rattle.zarrs_store.specs.declared.storage_error.StorageError.{StorageError}
-use Rattle.zarrs_store.specs.declared.storage_error.StorageError.TheVariants.{Fault, InvalidMetadata, Other, OutOfMemory}
+use Rattle.zarrs_store.specs.declared.storage_error.StorageError.TheVariants.{Fault, InvalidMetadata, Other}
+use Rattle.zarrs_store.specs.declared.storage_error.StorageError.TheVariants.{OutOfMemory}
 use Rattle.zarrs_meta.specs.declared.node.GroupMetadata.{GroupMetadata}
 use Rattle.zarrs_meta.specs.declared.node.NodeMetadata.TheVariants.{Group}
 use Rattle.zarrs_block.specs.declared.node_create_error.NodeCreateError.TheVariants as refused
@@ -29,7 +30,8 @@ FindsByLine None line = (after : Meaning) → line after ≡ after
 -- the error is excused, or this line says that the path is bad
 abbrev pub RefusesLine : Bool → (Meaning → Meaning) → StorageError → Type 0
 RefusesLine can_fail line Fault = IsTrue can_fail
-RefusesLine can_fail line (InvalidMetadata key fault) = (after : Meaning) → line after ≡ bad (refused.StorageError (InvalidMetadata key fault))
+RefusesLine can_fail line (InvalidMetadata key fault) =
+    (after : Meaning) → line after ≡ bad (refused.StorageError (InvalidMetadata key fault))
 RefusesLine can_fail line (Other text) = ⊥
 RefusesLine can_fail line OutOfMemory = Unit {0}
 
@@ -41,7 +43,8 @@ FindsMeaning None meaning = meaning ≡ nothing
 -- the error is excused, or the path is bad with it
 abbrev pub RefusesMeaning : Bool → Meaning → StorageError → Type 0
 RefusesMeaning can_fail meaning Fault = IsTrue can_fail
-RefusesMeaning can_fail meaning (InvalidMetadata key fault) = meaning ≡ bad (refused.StorageError (InvalidMetadata key fault))
+RefusesMeaning can_fail meaning (InvalidMetadata key fault) =
+    meaning ≡ bad (refused.StorageError (InvalidMetadata key fault))
 RefusesMeaning can_fail meaning (Other text) = ⊥
 RefusesMeaning can_fail meaning OutOfMemory = Unit {0}
 
@@ -53,7 +56,9 @@ edit_of (Erase key) = remove key
 -- the bytes of each document of the metadata are read as that document
 abbrev pub AreReadBack : GroupMetadata → Type 0
 AreReadBack (V3 m) = IsReadBack (group_v3_tree m)
-AreReadBack (V2 m) = (is_empty m.attributes ≡ false → IsReadBack (object m.attributes)) × IsReadBack (group_v2_tree (group_without_attributes m))
+AreReadBack (V2 m) =
+    (is_empty m.attributes ≡ false → IsReadBack (object m.attributes))
+    × IsReadBack (group_v2_tree (group_without_attributes m))
 
 -- the metadata end with the attributes that were last written
 abbrev pub LendsAttributesOf : MutBor GroupMetadata → MutBor Members → Fml

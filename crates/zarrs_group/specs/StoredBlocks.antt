@@ -1,4 +1,5 @@
--- Zarr core specification 3.1, "Group metadata", the field `consolidated_metadata`: a version 3 group that was stored with the block of a listing opens by that block as by a listing.
+-- Zarr core specification 3.1, "Group metadata", the field `consolidated_metadata`: a version 3 group that was stored
+-- with the block of a listing opens by that block as by a listing.
 -- <https://zarr-specs.readthedocs.io/en/latest/v3/core/index.html#group-metadata>
 -- <https://zarr.readthedocs.io/en/stable/user-guide/consolidated_metadata/>
 --     OpensAlike S v p m      p means the group m, which has the same forest below it by its block and by a listing
@@ -33,7 +34,9 @@ use Rattle.zarrs_group.specs.Laws.{MeansStored}
 use Rattle.zarrs_group.specs.Meaning.{MeansGroup}
 use Rattle.zarrs_group.specs.StoringGroups.{edits_of_group, RefusesStoringGroup}
 
--- in a store, by a version: p means the group; a node opened there by the group's block, under Must, has the forest below it that one opened by a listing, under Never, has; and under no policy does anything in the store refuse the opening
+-- in a store, by a version: p means the group; a node opened there by the group's block, under Must, has the forest
+-- below it that one opened by a listing, under Never, has; and under no policy does anything in the store refuse the
+-- opening
 pub record OpensAlike (S : Contents) (v : MetadataRetrieveVersion) (p : Path) (m : GroupMetadata) : Type 0 where
   pub means : meaning S v p ≡ node (Group m)
   pub children : (f g : Forest) → ShowsBelow S v Must p (Group m) f → ShowsBelow S v Never p (Group m) g → f ≡ g
@@ -43,19 +46,28 @@ pub record OpensAlike (S : Contents) (v : MetadataRetrieveVersion) (p : Path) (m
 abbrev pub EditKeepsOthers : Type 0
 EditKeepsOthers = (S : Contents) (e : Edit) → AgreesOutsideKey (edit_key e) S (after_edit S e)
 
--- Storing a version 3 group, by whatever version, leaves every key but that of its document as it was, and the numbers, also where it is refused.
+-- Storing a version 3 group, by whatever version, leaves every key but that of its document as it was, and the
+-- numbers, also where it is refused.
 abbrev pub StoringKeepsOthers : Type 0
-StoringKeepsOthers = (S T : Contents) (v : MetadataConvertVersion) (g : GroupState) (m : GroupMetadataV3) → g.metadata ≡ V3 m
+StoringKeepsOthers =
+    (S T : Contents) (v : MetadataConvertVersion) (g : GroupState) (m : GroupMetadataV3) → g.metadata ≡ V3 m
     → AgreesOutsideKey (g.path ++ zarr_json ∷ []) S (after S (edits_of_group v g))
-    × ((can_fail : Bool) (e : StorageError) → RefusesStoringGroup can_fail v g S T e → AgreesOutsideKey (g.path ++ zarr_json ∷ []) S T)
+    × ((can_fail : Bool) (e : StorageError) → RefusesStoringGroup can_fail v g S T e
+        → AgreesOutsideKey (g.path ++ zarr_json ∷ []) S T)
 
 -- What a path means as a group of version 3 is a group of version 3.
 abbrev pub MeansVersion3 : Type 0
-MeansVersion3 = (S : Contents) (p : Path) (m : GroupMetadata) → MeansGroup S retrieve.V3 p m → (k : GroupMetadataV3) × (m ≡ V3 k)
+MeansVersion3 =
+    (S : Contents) (p : Path) (m : GroupMetadata) → MeansGroup S retrieve.V3 p m → (k : GroupMetadataV3) × (m ≡ V3 k)
 
--- A version 3 group that is stored with the listed block of the store, by whatever version, and does not nest too deep, holds that block in the numbers of the store, and opens alike by it and by a listing, by default and as version 3.
+-- A version 3 group that is stored with the listed block of the store, by whatever version, and does not nest too
+-- deep, holds that block in the numbers of the store, and opens alike by it and by a listing, by default and as
+-- version 3.
 abbrev pub ListedBlockOpens : Type 0
-ListedBlockOpens = (S : Contents) (v : MetadataRetrieveVersion) (w : MetadataConvertVersion) (g : GroupState) (m : GroupMetadataV3) (B : Block)
-    → v ≢ retrieve.V2 → IsPath g.path → g.metadata ≡ V3 m → IsListedBlock S v g.path B
-    → MeansStored S g.path (metadata_by_version w (with_block g (Some B)).metadata) → depth (group_tree (with_block g (Some B)).metadata) ≤ max_depth
-    → (group_block S.numbers (with_block g (Some B)).metadata ≡ Some B) × OpensAlike S v g.path (with_block g (Some B)).metadata
+ListedBlockOpens =
+    (S : Contents) (v : MetadataRetrieveVersion) (w : MetadataConvertVersion) (g : GroupState) (m : GroupMetadataV3)
+    (B : Block) → v ≢ retrieve.V2 → IsPath g.path → g.metadata ≡ V3 m → IsListedBlock S v g.path B
+    → MeansStored S g.path (metadata_by_version w (with_block g (Some B)).metadata)
+    → depth (group_tree (with_block g (Some B)).metadata) ≤ max_depth
+    → (group_block S.numbers (with_block g (Some B)).metadata ≡ Some B)
+    × OpensAlike S v g.path (with_block g (Some B)).metadata

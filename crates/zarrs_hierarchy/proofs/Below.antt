@@ -18,8 +18,8 @@ use Rattle.zarrs_path.specs.Paths.{Path, IsBelow, path_cmp}
 use Rattle.zarrs_meta.specs.declared.node.NodeMetadata.{NodeMetadata}
 use Rattle.zarrs_node.specs.Order.{Ascend}
 use Rattle.zarrs_node.specs.Lines.{line, lines, IsLines}
-use Rattle.zarrs_node.proofs.Found.{lists_from}
-use Rattle.zarrs_node.proofs.Graft.{Contains-first, Contains-cons, path_cmp-append}
+use Rattle.zarrs_node.proofs.ListedItems.{lists_from}
+use Rattle.zarrs_node.proofs.ForestsBeside.{Contains-first, Contains-cons, path_cmp-append}
 use Rattle.zarrs_node.proofs.Order.{contains_cases}
 use Rattle.zarrs_node.proofs.LawProofs.{apart}
 use Rattle.zarrs_hierarchy.specs.PairsOfHierarchies.{Pairs}

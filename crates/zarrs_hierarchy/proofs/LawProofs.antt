@@ -15,8 +15,8 @@ use Rattle.zarrs_node.specs.Order.{Ascend}
 use Rattle.zarrs_node.specs.Lines.{lines, preorder, tree_text}
 use Rattle.zarrs_block.specs.Meaning.{meaning}
 use Rattle.zarrs_node.specs.OpeningNodes.{choice, ShowsBelow, ShowsChosen}
-use Rattle.zarrs_node.proofs.Found.{listed_each}
-use Rattle.zarrs_node.proofs.Kept.{closed_is_kept}
+use Rattle.zarrs_node.proofs.ListedItems.{listed_each}
+use Rattle.zarrs_node.proofs.KeptPairs.{closed_is_kept}
 use Rattle.zarrs_node.proofs.LawProofs.{placed_lines, lines_unique}
 use Rattle.zarrs_hierarchy.specs.PairsOfHierarchies.{Pairs, Holds, WithBase}
 use Rattle.zarrs_hierarchy.specs.OpeningHierarchies.{PairsChosen, PairsOf}
@@ -24,7 +24,7 @@ use Rattle.zarrs_hierarchy.specs.Tree.{IsTreeOf, pairs_below, shown_text}
 use Rattle.zarrs_hierarchy.specs.Laws.{IsClosedChoice, PrintingAgrees, ShownIsTree}
 use Rattle.zarrs_hierarchy.proofs.Maps.{lists_same}
 use Rattle.zarrs_hierarchy.proofs.Below.{below_is_lines}
-use Rattle.zarrs_hierarchy.proofs.Opening.{not_itself, node_one}
+use Rattle.zarrs_hierarchy.proofs.OpenedPairs.{not_itself, node_one}
 
 -- a text that is shown is the tree from the root on
 pub shown_tree : (h : Pairs) (text : List ℕ) → Ascend h → text ≡ shown_text h → IsTreeOf h [] text

@@ -2,5 +2,5 @@ pub mod Maps
 pub mod Places
 pub mod Below
 pub mod Depths
-pub mod Opening
+pub mod OpenedPairs
 pub mod LawProofs

@@ -10,8 +10,8 @@ use Rattle.zarrs_path.specs.Paths.{Path, path_cmp}
 use Rattle.zarrs_path.specs.PathOrder.{path_total}
 use Rattle.zarrs_meta.specs.declared.node.NodeMetadata.{NodeMetadata}
 use Rattle.zarrs_node.specs.Order.{Ascend}
-use Rattle.zarrs_node.proofs.Found.{all_pairs_tail, all_pairs_first, lists_from, listed_each}
-use Rattle.zarrs_node.proofs.Graft.{Contains-first, Contains-cons}
+use Rattle.zarrs_node.proofs.ListedItems.{all_pairs_tail, all_pairs_first, lists_from, listed_each}
+use Rattle.zarrs_node.proofs.ForestsBeside.{Contains-first, Contains-cons}
 use Rattle.zarrs_hierarchy.specs.PairsOfHierarchies.{Pairs}
 
 -- a path before those of all pairs is before each of their keys

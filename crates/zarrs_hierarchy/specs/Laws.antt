@@ -17,6 +17,7 @@ use Rattle.zarrs_hierarchy.specs.PairsOfHierarchies.{Pairs}
 use Rattle.zarrs_hierarchy.specs.OpeningHierarchies.{IsOpened}
 use Rattle.zarrs_hierarchy.specs.Tree.{IsTreeOf, shown_text}
 use Rattle.zarrs_node.specs.Order.{Ascend}
+use Rattle.zarrs_fault.specs.Bytes.{newline}
 
 -- the nodes below b are listed, or stand in a block whose entries are closed
 abbrev pub IsClosedChoice : Option (Option Block) → Path → Type 0
@@ -24,14 +25,17 @@ IsClosedChoice None b = ⊥
 IsClosedChoice (Some None) b = Unit {0}
 IsClosedChoice (Some (Some B)) b = Closed (Entries B b) b
 
--- A group at one path is opened from one store as a node and as a hierarchy, by a listing or by a closed block. What the node prints and
+-- A group at one path is opened from one store as a node and as a hierarchy, by a listing or by a closed block. What
+-- the node prints and
 -- what the hierarchy prints from that path on agree behind their first lines, which are `/` and the path.
 abbrev pub PrintingAgrees : Type 0
-PrintingAgrees = (s : Contents) (v : MetadataRetrieveVersion) (policy : UseConsolidatedMetadata) (b : Path) (m : NodeMetadata) (f : Forest) (h : Pairs) (t u : List ℕ)
+PrintingAgrees =
+    (s : Contents) (v : MetadataRetrieveVersion) (policy : UseConsolidatedMetadata) (b : Path) (m : NodeMetadata)
+    (f : Forest) (h : Pairs) (t u : List ℕ)
     → IsPath b → meaning s v b ≡ node m → IsTrue (is_group m) → IsClosedChoice (choice s policy b m) b
     → ShowsBelow s v policy b m f → t ≡ tree_text m f
     → IsOpened s v policy (path_text b) h → IsTreeOf h b u
-    → (below : List ℕ) × (t ≡ codes "/\n" ++ below) × (u ≡ path_text b ++ 10 ∷ below)
+    → (below : List ℕ) × (t ≡ codes "/\n" ++ below) × (u ≡ path_text b ++ newline ∷ below)
 
 -- What is shown of a hierarchy in the order of paths is its tree from the root on.
 abbrev pub ShownIsTree : Type 0

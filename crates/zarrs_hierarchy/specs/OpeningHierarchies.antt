@@ -1,4 +1,5 @@
--- Zarr core specification 3.1, "Hierarchy" and "Group metadata", the field `consolidated_metadata`: what an opened hierarchy has.
+-- Zarr core specification 3.1, "Hierarchy" and "Group metadata", the field `consolidated_metadata`: what an opened
+-- hierarchy has.
 -- <https://zarr-specs.readthedocs.io/en/latest/v3/core/index.html#hierarchy>
 -- <https://zarr-specs.readthedocs.io/en/latest/v3/core/index.html#group-metadata>
 -- <https://zarr.readthedocs.io/en/stable/user-guide/consolidated_metadata/>
@@ -15,19 +16,23 @@ use Rattle.zarrs_node.specs.BlocksBelow.{PairsBelow}
 use Rattle.zarrs_node.specs.OpeningNodes.{choice, IsCleanBelow}
 use Rattle.zarrs_hierarchy.specs.PairsOfHierarchies.{Pairs, Holds, WithBase}
 use Rattle.zarrs_hierarchy.specs.Tree.{IsTreeOf}
+use Rattle.zarrs_block.specs.Meaning.{Pair}
 
 -- the pairs below b by the block that is chosen or by a listing; none where the want of a block is refused
-abbrev pub PairsChosen : Contents → MetadataRetrieveVersion → Option (Option Block) → Path → Path × NodeMetadata → Type 0
+abbrev pub PairsChosen : Contents → MetadataRetrieveVersion → Option (Option Block) → Path → Pair → Type 0
 PairsChosen s v None b e = ⊥
 PairsChosen s v (Some c) b e = PairsBelow s v c b e
 
--- below an array there is nothing; below a group stand all entries of its block, or where none is used the nodes that a listing finds
-abbrev pub PairsOf : Contents → MetadataRetrieveVersion → UseConsolidatedMetadata → Path → NodeMetadata → Path × NodeMetadata → Type 0
+-- below an array there is nothing; below a group stand all entries of its block, or where none is used the nodes that
+-- a listing finds
+abbrev pub PairsOf : Contents → MetadataRetrieveVersion → UseConsolidatedMetadata → Path → NodeMetadata → Pair → Type 0
 PairsOf s v policy b (Array a) e = ⊥
 PairsOf s v policy b (Group g) e = PairsChosen s v (choice s policy b (Group g)) b e
 
--- the text is that of a path, which means a node; the hierarchy has that node and what stands below it, and nothing there is refused
-pub record IsOpened (s : Contents) (v : MetadataRetrieveVersion) (policy : UseConsolidatedMetadata) (text : List ℕ) (h : Pairs) : Type 0 where
+-- the text is that of a path, which means a node; the hierarchy has that node and what stands below it, and nothing
+-- there is refused
+pub record IsOpened (s : Contents) (v : MetadataRetrieveVersion) (policy : UseConsolidatedMetadata) (text : List ℕ)
+    (h : Pairs) : Type 0 where
   pub base : Path
   pub valid : IsPath base
   pub path : path_text base ≡ text

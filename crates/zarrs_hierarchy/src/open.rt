@@ -76,7 +76,7 @@ impl Hierarchy {
     /// there is no memory.
     ///
     /// Source: `zarrs::hierarchy::Hierarchy::open_opt`.
-    #[tactic(auto, using(crate::proofs::Opening::below_refused))]
+    #[tactic(auto, using(crate::proofs::OpenedPairs::below_refused))]
     pub fn open_opt<L: Log, S: ReadableStorageTraits + ListableStorageTraits>(
         log: &L,
         alloc: Global,
@@ -136,7 +136,7 @@ impl Hierarchy {
 }
 
 // The node at a path, which has these metadata, and behind it the nodes below.
-#[tactic(auto, using(crate::proofs::Opening::excused_by))]
+#[tactic(auto, using(crate::proofs::OpenedPairs::excused_by))]
 fn nodes_from<L: Log, S: ReadableStorageTraits + ListableStorageTraits>(
     log: &L,
     alloc: Global,

@@ -29,7 +29,7 @@ use zarrs_store::{ListableStorageTraits, ReadableStorageTraits};
 ///
 /// [`Hierarchy::open_opt`]: crate::Hierarchy::open_opt
 /// [`Hierarchy::tree_of`]: crate::Hierarchy::tree_of
-#[tactic(auto, using(crate::proofs::Opening::below_refused))]
+#[tactic(auto, using(crate::proofs::OpenedPairs::below_refused))]
 pub fn tree_at<L: Log, S: ReadableStorageTraits + ListableStorageTraits>(
     log: &L,
     alloc: Global,
@@ -60,7 +60,7 @@ pub fn tree_at<L: Log, S: ReadableStorageTraits + ListableStorageTraits>(
 }
 
 // Hands the nodes below one, which has these metadata, to a sink, in the order of paths.
-#[tactic(auto, using(crate::proofs::Opening::excused_by, crate::proofs::Opening::clean_by, crate::proofs::Opening::refused_by, crate::proofs::Opening::told_array, crate::proofs::Opening::told_group))]
+#[tactic(auto, using(crate::proofs::OpenedPairs::excused_by, crate::proofs::OpenedPairs::clean_by, crate::proofs::OpenedPairs::refused_by, crate::proofs::OpenedPairs::told_array, crate::proofs::OpenedPairs::told_group))]
 fn tell_node<L: Log, S: ReadableStorageTraits + ListableStorageTraits, K: NodeSink>(
     log: &L,
     alloc: Global,

@@ -2,7 +2,8 @@
 -- <https://zarr-specs.readthedocs.io/en/latest/v3/core/index.html#abstract-store-interface>
 use Rattle.std.specs.Prelude.{ℕ, List, ◌++◌, codes, string_bytes}
 use Rattle.zarrs_load.specs.declared.fault.LoadFault.{LoadFault}
-use Rattle.zarrs_load.specs.declared.fault.LoadFault.TheVariants.{Read, ReadTooLong, Image, ImageKey, ImageValue, Folder, OutOfMemory}
+use Rattle.zarrs_load.specs.declared.fault.LoadFault.TheVariants.{Read, ReadTooLong, Image, ImageKey, ImageValue}
+use Rattle.zarrs_load.specs.declared.fault.LoadFault.TheVariants.{Folder, OutOfMemory}
 
 -- why no store is loaded
 abbrev pub load_fault_text : LoadFault → List ℕ

@@ -1,4 +1,5 @@
--- The store of a folder: a file's key is the names that lead to it, joined by slashes, and documents alone have bytes (Zarr core specification 3.1,
+-- The store of a folder: a file's key is the names that lead to it, joined by slashes, and documents alone have bytes
+-- (Zarr core specification 3.1,
 -- "Storage keys"; the keys of version 2 metadata).
 -- <https://zarr-specs.readthedocs.io/en/latest/v3/core/index.html#storage-keys>
 -- <https://zarr-specs.readthedocs.io/en/latest/v2/v2.0.html#metadata>
@@ -9,6 +10,7 @@ use Rattle.zarrs_store.specs.Contents.{Values}
 use Rattle.zarrs_load.specs.Reading.{IsWithinBound}
 use Rattle.zarrs_load.specs.declared.fault.LoadFault.{LoadFault}
 use Rattle.zarrs_load.specs.declared.fault.LoadFault.TheVariants.{Folder, OutOfMemory}
+use Rattle.zarrs_fault.specs.Bytes.{slash}
 
 -- the names of the files that are documents
 abbrev pub document_names : List (List ℕ)
@@ -17,7 +19,7 @@ document_names = codes "zarr.json" ∷ codes ".zarray" ∷ codes ".zgroup" ∷ c
 -- a name behind the names that lead to it, with a slash between where there are any
 abbrev pub joined_names : List ℕ → List ℕ → List ℕ
 joined_names [] name = name
-joined_names (b ∷ bs) name = (b ∷ bs) ++ 47 ∷ name
+joined_names (b ∷ bs) name = (b ∷ bs) ++ slash ∷ name
 
 -- a file of this name has no bytes, or it is a document and they are within the bound of one input
 abbrev pub IsRead : List ℕ → List ℕ → Type 0

@@ -1,7 +1,9 @@
--- The store of an image: a JSON object from the texts of store keys to the texts of documents, as a finite map from keys to bytes (Zarr core
+-- The store of an image: a JSON object from the texts of store keys to the texts of documents, as a finite map from
+-- keys to bytes (Zarr core
 -- specification 3.1, "Abstract store interface": keys with values).
 -- <https://zarr-specs.readthedocs.io/en/latest/v3/core/index.html#abstract-store-interface>
-use Rattle.std.specs.Prelude.{◌≡◌, ℕ, List, [], ◌∷◌, ◌++◌, All, Option, Some, IfSome, IsSome, option_and_then, IsUtf8, string_bytes}
+use Rattle.std.specs.Prelude.{◌≡◌, ℕ, List, [], ◌∷◌, ◌++◌, All, Option, Some, IfSome, IsSome, option_and_then, IsUtf8}
+use Rattle.std.specs.Prelude.{string_bytes}
 use Rattle.std.specs.FinMap as map
 use Rattle.std.specs.Map.{lookup}
 use Rattle.std.specs.Str.{bytes_eq}
@@ -32,7 +34,8 @@ IsEntry m = IsKeyText m.0 × IsSome (as_str m.1)
 abbrev pub member_text : List ℕ → List (List ℕ × Data) → Option (List ℕ)
 member_text name members = option_and_then as_str (lookup (bytes_eq name) members)
 
--- each member is a key with a text, and the store has at each key the text of the member with the key's text, and nothing else
+-- each member is a key with a text, and the store has at each key the text of the member with the key's text, and
+-- nothing else
 pub record HoldsMembers (members : List (List ℕ × Data)) (store : Values) : Type 0 where
   pub entries : All IsEntry members
   pub same : (key : Segments) → IsKey key → map.get store key ≡ member_text (key_text key) members
@@ -53,12 +56,18 @@ IsImage bytes store = (members : Members) × IsObject members bytes × HoldsMemb
 abbrev pub IsLoaded : Option (List ℕ) → Values → Type 0
 IsLoaded before store = IfSome before (λ bytes. IsImage bytes store)
 
--- the bytes are no image, and this is why: they are no JSON object; or its first bad member has this name, which is no key's text; or it has this
+-- the bytes are no image, and this is why: they are no JSON object; or its first bad member has this name, which is
+-- no key's text; or it has this
 -- name, which is one, and its value is no text
 abbrev pub IsImageFault : List ℕ → LoadFault → Type 0
 IsImageFault bytes Image = (members : Members) → IsObject members bytes → ⊥
-IsImageFault bytes (ImageKey name) = (members : Members) × IsObject members bytes × (value : Data) × IsFirstBad (member_list members) (string_bytes name) value × (IsKeyText (string_bytes name) → ⊥)
-IsImageFault bytes (ImageValue name) = (members : Members) × IsObject members bytes × (value : Data) × IsFirstBad (member_list members) (string_bytes name) value × IsKeyText (string_bytes name) × (IsSome (as_str value) → ⊥)
+IsImageFault bytes (ImageKey name) =
+    (members : Members) × IsObject members bytes × (value : Data)
+    × IsFirstBad (member_list members) (string_bytes name) value × (IsKeyText (string_bytes name) → ⊥)
+IsImageFault bytes (ImageValue name) =
+    (members : Members) × IsObject members bytes × (value : Data)
+    × IsFirstBad (member_list members) (string_bytes name) value × IsKeyText (string_bytes name)
+    × (IsSome (as_str value) → ⊥)
 IsImageFault bytes _ = ⊥
 
 -- the reader was read to its end within the bound, and what it gave is no image

@@ -20,7 +20,8 @@ IsFirstBadKey members name = (value : Data) × IsFirstBad members name value × 
 
 -- the first bad member has this name, which is a key's text, and its value is no text
 abbrev pub IsFirstBadValue : List (List ℕ × Data) → List ℕ → Type 0
-IsFirstBadValue members name = (value : Data) × IsFirstBad members name value × IsKeyText name × (IsSome (as_str value) → ⊥)
+IsFirstBadValue members name =
+    (value : Data) × IsFirstBad members name value × IsKeyText name × (IsSome (as_str value) → ⊥)
 
 -- the members make no store, and this is why, or out of memory
 abbrev pub IsMemberFault : List (List ℕ × Data) → LoadFault → Type 0

@@ -5,9 +5,12 @@ use Rattle.std.specs.Prelude.{ℕ, List, [], ◌∷◌, Bool, not, ◌&&◌, Opt
 use Rattle.std.specs.List.{list_all}
 use Rattle.serde_json.specs.Data.{Data, object, no_members}
 use Rattle.serde_json.specs.Find.{as_object}
-use Rattle.zarrs_form.specs.Documents.{◌>>=◌, document_in, format_of, required_member, optional_member, besides, has_own, is_empty}
-use Rattle.zarrs_form.specs.Forms.{number_u64, any, list_of, nullable, number_data, list_data, nullable_data, none_or, fits_in, unless, put_rows}
-use Rattle.zarrs_form.specs.FormsV2.{codec, codec_data, codec_fits_in, data_type, data_type_data, data_type_fits_in, order, order_data, separator, separator_data, has_zero, chunk_lengths}
+use Rattle.zarrs_form.specs.Documents.{◌>>=◌, document_in, format_of, required_member, optional_member, besides}
+use Rattle.zarrs_form.specs.Documents.{has_own, is_empty}
+use Rattle.zarrs_form.specs.Forms.{number_u64, any, list_of, nullable, number_data, list_data, nullable_data, none_or}
+use Rattle.zarrs_form.specs.Forms.{fits_in, unless, put_rows}
+use Rattle.zarrs_form.specs.FormsV2.{codec, codec_data, codec_fits_in, data_type, data_type_data, data_type_fits_in}
+use Rattle.zarrs_form.specs.FormsV2.{order, order_data, separator, separator_data, has_zero, chunk_lengths}
 use Rattle.zarrs_fault.specs.declared.fault.MetadataFault.{MetadataFault}
 use Rattle.zarrs_fault.specs.declared.numbers.Numbers.{Numbers}
 use Rattle.zarrs_fault.specs.declared.numbers.Numbers.TheVariants.{Whole}
@@ -17,7 +20,8 @@ use Rattle.zarrs_form.specs.declared.chunks.ChunkKeySeparator.TheVariants.{Dot}
 -- `zarr_format` and the members of the table
 abbrev pub array_v2_names : List (List ℕ)
 array_v2_names =
-    codes "zarr_format" ∷ codes "shape" ∷ codes "chunks" ∷ codes "dtype" ∷ codes "fill_value" ∷ codes "order" ∷ codes "compressor" ∷ codes "filters"
+    codes "zarr_format" ∷ codes "shape" ∷ codes "chunks" ∷ codes "dtype" ∷ codes "fill_value" ∷ codes "order"
+    ∷ codes "compressor" ∷ codes "filters"
     ∷ codes "dimension_separator" ∷ codes "attributes" ∷ []
 
 -- the array that a version 2 document means where it may hold these numbers, or its first fault
@@ -71,11 +75,13 @@ array_v2_rows m =
 abbrev pub array_v2_tree : ArrayMetadataV2 → Data
 array_v2_tree m = object (put_rows (array_v2_rows m) m.additional_fields)
 
--- an array could have come from a document that may hold these numbers where no chunk length is 0, its parts could, and no field has an own name
+-- an array could have come from a document that may hold these numbers where no chunk length is 0, its parts could,
+-- and no field has an own name
 abbrev pub is_plain_array_v2_in : Numbers → ArrayMetadataV2 → Bool
 is_plain_array_v2_in numbers m =
-    not (has_zero m.chunks) && data_type_fits_in numbers m.dtype && fits_in numbers m.fill_value && none_or (codec_fits_in numbers) m.compressor
-    && none_or (list_all (codec_fits_in numbers)) m.filters && fits_in numbers (object m.attributes) && fits_in numbers (object m.additional_fields)
+    not (has_zero m.chunks) && data_type_fits_in numbers m.dtype && fits_in numbers m.fill_value
+    && none_or (codec_fits_in numbers) m.compressor && none_or (list_all (codec_fits_in numbers)) m.filters
+    && fits_in numbers (object m.attributes) && fits_in numbers (object m.additional_fields)
     && not (has_own array_v2_names m.additional_fields)
 
 -- an array could have come from a document whose numbers are whole

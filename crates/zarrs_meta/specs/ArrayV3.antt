@@ -4,8 +4,10 @@ use Rattle.std.specs.Prelude.{ℕ, List, [], ◌∷◌, Bool, Option, Some, None
 use Rattle.std.specs.List.{list_all}
 use Rattle.serde_json.specs.Data.{Data, string, object, no_members}
 use Rattle.serde_json.specs.Find.{as_object, as_str}
-use Rattle.zarrs_form.specs.Documents.{◌>>=◌, document_in, format_of, node_type_of, required_member, optional_member, besides, has_own, is_empty}
-use Rattle.zarrs_form.specs.Forms.{number_u64, any, nullable, list_of, extension, number_data, list_data, nullable_data, extension_data, extension_fits_in, fits_in, unless, is_nil, put_rows}
+use Rattle.zarrs_form.specs.Documents.{◌>>=◌, document_in, format_of, node_type_of, required_member, optional_member}
+use Rattle.zarrs_form.specs.Documents.{besides, has_own, is_empty}
+use Rattle.zarrs_form.specs.Forms.{number_u64, any, nullable, list_of, extension, number_data, list_data, nullable_data}
+use Rattle.zarrs_form.specs.Forms.{extension_data, extension_fits_in, fits_in, unless, is_nil, put_rows}
 use Rattle.zarrs_fault.specs.declared.fault.MetadataFault.{MetadataFault}
 use Rattle.zarrs_fault.specs.declared.numbers.Numbers.{Numbers}
 use Rattle.zarrs_fault.specs.declared.numbers.Numbers.TheVariants.{Whole}
@@ -14,7 +16,8 @@ use Rattle.zarrs_meta.specs.declared.array_v3.ArrayMetadataV3.{ArrayMetadataV3}
 -- `zarr_format`, `node_type` and the members of the table
 abbrev pub array_v3_names : List (List ℕ)
 array_v3_names =
-    codes "zarr_format" ∷ codes "node_type" ∷ codes "shape" ∷ codes "data_type" ∷ codes "chunk_grid" ∷ codes "chunk_key_encoding" ∷ codes "fill_value" ∷ codes "codecs"
+    codes "zarr_format" ∷ codes "node_type" ∷ codes "shape" ∷ codes "data_type" ∷ codes "chunk_grid"
+    ∷ codes "chunk_key_encoding" ∷ codes "fill_value" ∷ codes "codecs"
     ∷ codes "attributes" ∷ codes "storage_transformers" ∷ codes "dimension_names" ∷ []
 
 -- the array that a version 3 document means where it may hold these numbers, or its first fault
@@ -62,19 +65,23 @@ array_v3_rows m =
     ∷ (codes "fill_value", Some m.fill_value)
     ∷ (codes "codecs", Some (list_data extension_data m.codecs))
     ∷ (codes "attributes", unless (is_empty m.attributes) (object m.attributes))
-    ∷ (codes "storage_transformers", unless (is_nil m.storage_transformers) (list_data extension_data m.storage_transformers))
+    ∷ (codes "storage_transformers",
+        unless (is_nil m.storage_transformers) (list_data extension_data m.storage_transformers))
     ∷ (codes "dimension_names", option_map (list_data (nullable_data string)) m.dimension_names) ∷ []
 
 -- an array is written as the members of the table and the additional fields
 abbrev pub array_v3_tree : ArrayMetadataV3 → Data
 array_v3_tree m = object (put_rows (array_v3_rows m) m.additional_fields)
 
--- an array could have come from a document that may hold these numbers: its own are among them, and no field has an own name
+-- an array could have come from a document that may hold these numbers: its own are among them, and no field has an
+-- own name
 abbrev pub is_plain_array_v3_in : Numbers → ArrayMetadataV3 → Bool
 is_plain_array_v3_in numbers m =
-    extension_fits_in numbers m.data_type && extension_fits_in numbers m.chunk_grid && extension_fits_in numbers m.chunk_key_encoding && fits_in numbers m.fill_value
-    && list_all (extension_fits_in numbers) m.codecs && fits_in numbers (object m.attributes) && list_all (extension_fits_in numbers) m.storage_transformers
-    && fits_in numbers (object m.additional_fields) && not (has_own array_v3_names m.additional_fields)
+    extension_fits_in numbers m.data_type && extension_fits_in numbers m.chunk_grid
+    && extension_fits_in numbers m.chunk_key_encoding && fits_in numbers m.fill_value
+    && list_all (extension_fits_in numbers) m.codecs && fits_in numbers (object m.attributes)
+    && list_all (extension_fits_in numbers) m.storage_transformers && fits_in numbers (object m.additional_fields)
+    && not (has_own array_v3_names m.additional_fields)
 
 -- an array could have come from a document whose numbers are whole
 abbrev pub is_plain_array_v3 : ArrayMetadataV3 → Bool

@@ -3,7 +3,8 @@
 use Rattle.std.specs.Prelude.{ℕ, Bool, not, ◌&&◌, List, [], ◌∷◌, Option, Some, Result, Ok, codes}
 use Rattle.serde_json.specs.Data.{Data, object, no_members}
 use Rattle.serde_json.specs.Find.{as_object}
-use Rattle.zarrs_form.specs.Documents.{◌>>=◌, document_in, format_of, no_member, optional_member, besides, has_own, is_empty}
+use Rattle.zarrs_form.specs.Documents.{◌>>=◌, document_in, format_of, no_member, optional_member, besides, has_own}
+use Rattle.zarrs_form.specs.Documents.{is_empty}
 use Rattle.zarrs_form.specs.Forms.{number_data, fits_in, unless, put_rows}
 use Rattle.zarrs_fault.specs.declared.fault.MetadataFault.{MetadataFault}
 use Rattle.zarrs_fault.specs.declared.numbers.Numbers.{Numbers}
@@ -32,16 +33,19 @@ group_v2_of d = group_v2_in Whole d
 -- what is written at each name: empty attributes are not
 abbrev pub group_v2_rows : GroupMetadataV2 → List (List ℕ × Option Data)
 group_v2_rows m =
-    (codes "zarr_format", Some (number_data 2)) ∷ (codes "attributes", unless (is_empty m.attributes) (object m.attributes)) ∷ []
+    (codes "zarr_format", Some (number_data 2))
+    ∷ (codes "attributes", unless (is_empty m.attributes) (object m.attributes)) ∷ []
 
 -- a group is written as the members of the table and the additional fields
 abbrev pub group_v2_tree : GroupMetadataV2 → Data
 group_v2_tree m = object (put_rows (group_v2_rows m) m.additional_fields)
 
--- a group could have come from a document that may hold these numbers: its own are among them, and no field has an own name
+-- a group could have come from a document that may hold these numbers: its own are among them, and no field has an
+-- own name
 abbrev pub is_plain_group_v2_in : Numbers → GroupMetadataV2 → Bool
 is_plain_group_v2_in numbers m =
-    fits_in numbers (object m.attributes) && fits_in numbers (object m.additional_fields) && not (has_own group_v2_names m.additional_fields)
+    fits_in numbers (object m.attributes) && fits_in numbers (object m.additional_fields)
+    && not (has_own group_v2_names m.additional_fields)
 
 -- a group could have come from a document whose numbers are whole
 abbrev pub is_plain_group_v2 : GroupMetadataV2 → Bool

@@ -3,7 +3,8 @@
 use Rattle.std.specs.Prelude.{ℕ, Bool, not, ◌&&◌, if◌then◌else◌, List, [], ◌∷◌, Option, Some, Result, Ok, codes}
 use Rattle.serde_json.specs.Data.{Data, string, object, no_members}
 use Rattle.serde_json.specs.Find.{get, get_member, as_object}
-use Rattle.zarrs_form.specs.Documents.{◌>>=◌, document_in, format_of, node_type_of, optional_member, besides, has_own, is_null, is_empty}
+use Rattle.zarrs_form.specs.Documents.{◌>>=◌, document_in, format_of, node_type_of, optional_member, besides, has_own}
+use Rattle.zarrs_form.specs.Documents.{is_null, is_empty}
 use Rattle.zarrs_form.specs.Forms.{number_data, fits_in, unless, put_rows}
 use Rattle.zarrs_fault.specs.declared.fault.MetadataFault.{MetadataFault}
 use Rattle.zarrs_fault.specs.declared.numbers.Numbers.{Numbers}
@@ -14,9 +15,13 @@ use Rattle.zarrs_meta.specs.declared.group_v3.GroupMetadataV3.{GroupMetadataV3}
 abbrev pub group_v3_names : List (List ℕ)
 group_v3_names = codes "zarr_format" ∷ codes "node_type" ∷ codes "attributes" ∷ []
 
--- the names of members that are no additional fields: the own names, and `consolidated_metadata` where it is null, which counts as absent
+-- the names of members that are no additional fields: the own names, and `consolidated_metadata` where it is null,
+-- which counts as absent
 abbrev pub read_names : Data → List (List ℕ)
-read_names d = if is_null (get (codes "consolidated_metadata") d) then codes "zarr_format" ∷ codes "node_type" ∷ codes "attributes" ∷ codes "consolidated_metadata" ∷ [] else group_v3_names
+read_names d =
+    if is_null (get (codes "consolidated_metadata") d)
+        then codes "zarr_format" ∷ codes "node_type" ∷ codes "attributes" ∷ codes "consolidated_metadata" ∷ []
+        else group_v3_names
 
 -- the group that a version 3 document means where it may hold these numbers, or its first fault
 unfoldable pub group_v3_in : Numbers → Data → Result GroupMetadataV3 MetadataFault
@@ -43,10 +48,12 @@ group_v3_rows m =
 abbrev pub group_v3_tree : GroupMetadataV3 → Data
 group_v3_tree m = object (put_rows (group_v3_rows m) m.additional_fields)
 
--- a group could have come from a document that may hold these numbers: its own are among them, no field has an own name, and no field `consolidated_metadata` is null
+-- a group could have come from a document that may hold these numbers: its own are among them, no field has an own
+-- name, and no field `consolidated_metadata` is null
 abbrev pub is_plain_group_v3_in : Numbers → GroupMetadataV3 → Bool
 is_plain_group_v3_in numbers m =
-    fits_in numbers (object m.attributes) && fits_in numbers (object m.additional_fields) && not (has_own group_v3_names m.additional_fields)
+    fits_in numbers (object m.attributes) && fits_in numbers (object m.additional_fields)
+    && not (has_own group_v3_names m.additional_fields)
     && not (is_null (get_member (codes "consolidated_metadata") m.additional_fields))
 
 -- a group could have come from a document whose numbers are whole

@@ -9,8 +9,10 @@ use Rattle.zarrs_meta.specs.GroupV2.{group_v2_in, group_v2_of, is_plain_group_v2
 use Rattle.zarrs_meta.specs.ArrayV3.{array_v3_in, array_v3_of, is_plain_array_v3, is_plain_array_v3_in}
 use Rattle.zarrs_meta.specs.ArrayV2.{array_v2_in, array_v2_of, is_plain_array_v2, is_plain_array_v2_in}
 use Rattle.zarrs_form.specs.Documents.{of_bytes, NeverLacksMemory}
-use Rattle.zarrs_meta.specs.Attributes.{attributes_document_in, attributes_of, is_plain_attributes, is_plain_attributes_in}
-use Rattle.zarrs_meta.specs.Node.{node_in, node_of, zarr_json_in, zarr_json_of, is_plain_node, is_plain_node_in, group_with, array_with}
+use Rattle.zarrs_meta.specs.Attributes.{attributes_document_in, attributes_of, is_plain_attributes}
+use Rattle.zarrs_meta.specs.Attributes.{is_plain_attributes_in}
+use Rattle.zarrs_meta.specs.Node.{node_in, node_of, zarr_json_in, zarr_json_of, is_plain_node, is_plain_node_in}
+use Rattle.zarrs_meta.specs.Node.{group_with, array_with}
 use Rattle.zarrs_meta.specs.declared.attributes.AttributesDocument.{AttributesDocument}
 use Rattle.zarrs_meta.specs.declared.node.ZarrJson.TheVariants.{Node}
 use Rattle.zarrs_meta.specs.declared.node.NodeMetadata.{NodeMetadata}
@@ -49,31 +51,44 @@ ReadZarrJsonIsPlain = (d : Data) (m : NodeMetadata) → zarr_json_of d ≡ Ok (N
 
 -- a version 3 group that was read where it may hold these numbers is plain in them
 abbrev pub ReadGroupV3IsPlainIn : Type 0
-ReadGroupV3IsPlainIn = (numbers : Numbers) (d : Data) (m : GroupMetadataV3) → group_v3_in numbers d ≡ Ok m → IsTrue (is_plain_group_v3_in numbers m)
+ReadGroupV3IsPlainIn =
+    (numbers : Numbers) (d : Data) (m : GroupMetadataV3) → group_v3_in numbers d ≡ Ok m
+    → IsTrue (is_plain_group_v3_in numbers m)
 
 -- a version 2 group that was read where it may hold these numbers is plain in them
 abbrev pub ReadGroupV2IsPlainIn : Type 0
-ReadGroupV2IsPlainIn = (numbers : Numbers) (d : Data) (m : GroupMetadataV2) → group_v2_in numbers d ≡ Ok m → IsTrue (is_plain_group_v2_in numbers m)
+ReadGroupV2IsPlainIn =
+    (numbers : Numbers) (d : Data) (m : GroupMetadataV2) → group_v2_in numbers d ≡ Ok m
+    → IsTrue (is_plain_group_v2_in numbers m)
 
 -- a version 3 array that was read where it may hold these numbers is plain in them
 abbrev pub ReadArrayV3IsPlainIn : Type 0
-ReadArrayV3IsPlainIn = (numbers : Numbers) (d : Data) (m : ArrayMetadataV3) → array_v3_in numbers d ≡ Ok m → IsTrue (is_plain_array_v3_in numbers m)
+ReadArrayV3IsPlainIn =
+    (numbers : Numbers) (d : Data) (m : ArrayMetadataV3) → array_v3_in numbers d ≡ Ok m
+    → IsTrue (is_plain_array_v3_in numbers m)
 
 -- a version 2 array that was read where it may hold these numbers is plain in them
 abbrev pub ReadArrayV2IsPlainIn : Type 0
-ReadArrayV2IsPlainIn = (numbers : Numbers) (d : Data) (m : ArrayMetadataV2) → array_v2_in numbers d ≡ Ok m → IsTrue (is_plain_array_v2_in numbers m)
+ReadArrayV2IsPlainIn =
+    (numbers : Numbers) (d : Data) (m : ArrayMetadataV2) → array_v2_in numbers d ≡ Ok m
+    → IsTrue (is_plain_array_v2_in numbers m)
 
 -- attributes that were read where they may hold these numbers are plain in them
 abbrev pub ReadAttributesArePlainIn : Type 0
-ReadAttributesArePlainIn = (numbers : Numbers) (d : Data) (a : AttributesDocument) → attributes_document_in numbers d ≡ Ok a → IsTrue (is_plain_attributes_in numbers a)
+ReadAttributesArePlainIn =
+    (numbers : Numbers) (d : Data) (a : AttributesDocument) → attributes_document_in numbers d ≡ Ok a
+    → IsTrue (is_plain_attributes_in numbers a)
 
 -- a node that was read where it may hold these numbers is plain in them
 abbrev pub ReadNodeIsPlainIn : Type 0
-ReadNodeIsPlainIn = (numbers : Numbers) (d : Data) (m : NodeMetadata) → node_in numbers d ≡ Ok m → IsTrue (is_plain_node_in numbers m)
+ReadNodeIsPlainIn =
+    (numbers : Numbers) (d : Data) (m : NodeMetadata) → node_in numbers d ≡ Ok m → IsTrue (is_plain_node_in numbers m)
 
 -- a node that was read at the key `zarr.json` where it may hold these numbers is plain in them
 abbrev pub ReadZarrJsonIsPlainIn : Type 0
-ReadZarrJsonIsPlainIn = (numbers : Numbers) (d : Data) (m : NodeMetadata) → zarr_json_in numbers d ≡ Ok (Node m) → IsTrue (is_plain_node_in numbers m)
+ReadZarrJsonIsPlainIn =
+    (numbers : Numbers) (d : Data) (m : NodeMetadata) → zarr_json_in numbers d ≡ Ok (Node m)
+    → IsTrue (is_plain_node_in numbers m)
 
 -- the reading gives what the other gives, where that gives a value
 abbrev pub ReadsToo : {A : Type 0} → Result A MetadataFault → Result A MetadataFault → Type 0
@@ -82,8 +97,9 @@ ReadsToo {A} reading other = (x : A) → other ≡ Ok x → reading ≡ Ok x
 -- what is read where numbers have to be whole is read the same whatever numbers may stand, whatever document it is
 abbrev pub WholeReadsTheSame : Type 0
 WholeReadsTheSame = (numbers : Numbers) (d : Data) →
-    ReadsToo (group_v3_in numbers d) (group_v3_of d) × ReadsToo (array_v3_in numbers d) (array_v3_of d) × ReadsToo (group_v2_in numbers d) (group_v2_of d)
-    × ReadsToo (array_v2_in numbers d) (array_v2_of d) × ReadsToo (attributes_document_in numbers d) (attributes_of d) × ReadsToo (node_in numbers d) (node_of d)
+    ReadsToo (group_v3_in numbers d) (group_v3_of d) × ReadsToo (array_v3_in numbers d) (array_v3_of d)
+    × ReadsToo (group_v2_in numbers d) (group_v2_of d) × ReadsToo (array_v2_in numbers d) (array_v2_of d)
+    × ReadsToo (attributes_document_in numbers d) (attributes_of d) × ReadsToo (node_in numbers d) (node_of d)
     × ReadsToo (zarr_json_in numbers d) (zarr_json_of d)
 
 -- a plain version 2 group or array with plain attributes in place of its own is plain
@@ -95,6 +111,7 @@ WithAttributesIsPlain = (a : AttributesDocument) → IsTrue (is_plain_attributes
 -- no bytes mean out of memory, whatever document they are read as and whatever numbers it may hold
 abbrev pub ReadingNeverLacksMemory : Type 0
 ReadingNeverLacksMemory = (numbers : Numbers) (bytes : List ℕ) →
-    NeverLacksMemory (of_bytes (group_v3_in numbers) bytes) × NeverLacksMemory (of_bytes (array_v3_in numbers) bytes) × NeverLacksMemory (of_bytes (group_v2_in numbers) bytes)
-    × NeverLacksMemory (of_bytes (array_v2_in numbers) bytes) × NeverLacksMemory (of_bytes (attributes_document_in numbers) bytes) × NeverLacksMemory (of_bytes (node_in numbers) bytes)
-    × NeverLacksMemory (of_bytes (zarr_json_in numbers) bytes)
+    NeverLacksMemory (of_bytes (group_v3_in numbers) bytes) × NeverLacksMemory (of_bytes (array_v3_in numbers) bytes)
+    × NeverLacksMemory (of_bytes (group_v2_in numbers) bytes) × NeverLacksMemory (of_bytes (array_v2_in numbers) bytes)
+    × NeverLacksMemory (of_bytes (attributes_document_in numbers) bytes)
+    × NeverLacksMemory (of_bytes (node_in numbers) bytes) × NeverLacksMemory (of_bytes (zarr_json_in numbers) bytes)

@@ -1,4 +1,5 @@
--- Zarr core specification 3.1, "Array metadata" and "Chunk key encoding": the version 3 array that is made of its members.
+-- Zarr core specification 3.1, "Array metadata" and "Chunk key encoding": the version 3 array that is made of its
+-- members.
 -- <https://zarr-specs.readthedocs.io/en/latest/v3/core/index.html#array-metadata>
 -- <https://zarr-specs.readthedocs.io/en/latest/v3/core/index.html#chunk-key-encoding>
 use Rattle.std.specs.Prelude.{ℕ, List, [], Some, None, true, codes}
@@ -8,7 +9,11 @@ use Rattle.zarrs_meta.specs.declared.array_v3.ArrayMetadataV3.{ArrayMetadataV3}
 
 -- the encoding `default` of the keys of chunks, whose separator is a slash
 abbrev pub default_encoding : MetadataV3
-default_encoding = record { name = codes "default"; configuration = Some (member (codes "separator") (string (codes "/")) no_members); must_understand = true }
+default_encoding = record {
+  name = codes "default";
+  configuration = Some (member (codes "separator") (string (codes "/")) no_members);
+  must_understand = true;
+}
 
 -- the array with these members and the encoding `default`; all other members are absent
 abbrev pub made_array : List ℕ → MetadataV3 → MetadataV3 → Data → List MetadataV3 → ArrayMetadataV3

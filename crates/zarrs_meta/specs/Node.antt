@@ -1,4 +1,5 @@
--- Zarr core specification 3.1, "Metadata documents", and specification version 2, "Arrays" and "Groups": a document of either kind and either version.
+-- Zarr core specification 3.1, "Metadata documents", and specification version 2, "Arrays" and "Groups": a document
+-- of either kind and either version.
 -- <https://zarr-specs.readthedocs.io/en/latest/v3/core/index.html#metadata>
 -- <https://zarr-specs.readthedocs.io/en/latest/v2/v2.0.html#arrays>
 -- <https://zarr-specs.readthedocs.io/en/latest/v2/v2.0.html#groups>
@@ -37,7 +38,9 @@ has_type t d = is_ok (node_type_of t d)
 abbrev pub node_v3_in : Numbers → Data → Result NodeMetadata MetadataFault
 node_v3_in numbers d =
     if has_type (codes "group") d then group_v3_in numbers d >>= (λ m. Ok (Group (group_v3 m)))
-    else (if has_type (codes "array") d then array_v3_in numbers d >>= (λ m. Ok (Array (array_v3 m))) else Err WrongNodeType)
+    else
+        (if has_type (codes "array") d then array_v3_in numbers d >>= (λ m. Ok (Array (array_v3 m)))
+            else Err WrongNodeType)
 
 -- a document of version 2 is an array where it has a `shape`, and else a group
 abbrev pub node_v2_in : Numbers → Data → Result NodeMetadata MetadataFault
@@ -54,7 +57,8 @@ node_in numbers d = document_in numbers d >>= λ _.
 abbrev pub node_of : Data → Result NodeMetadata MetadataFault
 node_of d = node_in Whole d
 
--- what a document at the key `zarr.json` means where it may hold these numbers: format 2 is told at once, all else is a node document
+-- what a document at the key `zarr.json` means where it may hold these numbers: format 2 is told at once, all else is
+-- a node document
 unfoldable pub zarr_json_in : Numbers → Data → Result ZarrJson MetadataFault
 zarr_json_in numbers d = document_in numbers d >>= λ _.
     if has_format 2 d then Ok Version2 else node_in numbers d >>= (λ m. Ok (Node m))
@@ -87,41 +91,19 @@ is_plain_node m = is_plain_node_in Whole m
 
 -- the version 2 group with the attributes of a document in the place of its own, and all else as it was
 abbrev pub group_with : AttributesDocument → GroupMetadataV2 → GroupMetadataV2
-group_with a m = record { attributes = a.0; additional_fields = m.additional_fields }
+group_with a m = record m { attributes = a.0 }
 
 -- the group without attributes
 abbrev pub group_without_attributes : GroupMetadataV2 → GroupMetadataV2
-group_without_attributes m = record { attributes = no_members; additional_fields = m.additional_fields }
+group_without_attributes m = record m { attributes = no_members }
 
 -- the version 2 array with the attributes of a document in the place of its own, and all else as it was
 abbrev pub array_with : AttributesDocument → ArrayMetadataV2 → ArrayMetadataV2
-array_with a m = record {
-  shape = m.shape;
-  chunks = m.chunks;
-  dtype = m.dtype;
-  fill_value = m.fill_value;
-  order = m.order;
-  compressor = m.compressor;
-  filters = m.filters;
-  dimension_separator = m.dimension_separator;
-  attributes = a.0;
-  additional_fields = m.additional_fields;
-}
+array_with a m = record m { attributes = a.0 }
 
 -- the array without attributes
 abbrev pub array_without_attributes : ArrayMetadataV2 → ArrayMetadataV2
-array_without_attributes m = record {
-  shape = m.shape;
-  chunks = m.chunks;
-  dtype = m.dtype;
-  fill_value = m.fill_value;
-  order = m.order;
-  compressor = m.compressor;
-  filters = m.filters;
-  dimension_separator = m.dimension_separator;
-  attributes = no_members;
-  additional_fields = m.additional_fields;
-}
+array_without_attributes m = record m { attributes = no_members }
 
 -- the node is a group
 abbrev pub is_group : NodeMetadata → Bool

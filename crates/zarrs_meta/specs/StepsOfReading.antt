@@ -1,4 +1,5 @@
--- Zarr core specification 3.1, "Group metadata" and "Array metadata", and specification version 2, "Groups" and "Arrays": how a reader takes the members of the table out of a document one after the other.
+-- Zarr core specification 3.1, "Group metadata" and "Array metadata", and specification version 2, "Groups" and
+-- "Arrays": how a reader takes the members of the table out of a document one after the other.
 use Rattle.std.specs.Prelude.{ℕ, List, [], ◌∷◌, None, Result, Ok, codes}
 use Rattle.serde_json.specs.Data.{object, Members, no_members}
 use Rattle.serde_json.specs.Find.{as_object, as_str}
@@ -20,7 +21,11 @@ node_names = codes "zarr_format" ∷ codes "node_type" ∷ []
 unfoldable pub group_v3_taken : Members → Result GroupMetadataV3 MetadataFault
 group_v3_taken ms =
     optional_member (codes "attributes") no_members as_object (object ms) >>= λ attributes.
-    Ok (record { attributes = attributes; additional_fields = besides node_names (besides_null (codes "consolidated_metadata") (besides (codes "attributes" ∷ []) ms)) })
+    Ok (record {
+      attributes = attributes;
+      additional_fields =
+          besides node_names (besides_null (codes "consolidated_metadata") (besides (codes "attributes" ∷ []) ms));
+    })
 
 -- a version 2 group, once `zarr_format` and a `shape`, which must be absent, are not among the members
 unfoldable pub group_v2_taken : Members → Result GroupMetadataV2 MetadataFault
@@ -47,7 +52,8 @@ array_v3_taken ms =
     let ms7 = besides (codes "attributes" ∷ []) ms6 in
     optional_member (codes "storage_transformers") [] (list_of extension) (object ms7) >>= λ storage_transformers.
     let ms8 = besides (codes "storage_transformers" ∷ []) ms7 in
-    optional_member (codes "dimension_names") None (nullable (list_of (nullable as_str))) (object ms8) >>= λ dimension_names.
+    optional_member (codes "dimension_names") None (nullable (list_of (nullable as_str))) (object ms8)
+        >>= λ dimension_names.
     Ok (record {
       shape = shape;
       data_type = data_type;

@@ -7,9 +7,9 @@ use Rattle.zarrs_meta.specs.declared.node.NodeMetadata.TheVariants.{Group, Array
 use Rattle.zarrs_meta.specs.Node.{is_group}
 use Rattle.zarrs_node.specs.Forest.{Forest, none, tree, pairs, IsBefore, IsPlaced, MayHold, IsChildOf}
 use Rattle.zarrs_node.specs.StepsOfTrees.{graft}
-use Rattle.zarrs_node.proofs.Graft.{pairs-graft, placed_graft, Contains-first, Contains-cons}
+use Rattle.zarrs_node.proofs.ForestsBeside.{pairs-graft, placed_graft, Contains-first, Contains-cons}
 use Rattle.zarrs_node.proofs.Order.{contains_cases, Begins, all_below, all_after, deeper, later_less}
-use Rattle.zarrs_node.proofs.Grow.{holds_none, holds_group}
+use Rattle.zarrs_node.proofs.OpenForests.{holds_none, holds_group}
 use Rattle.zarrs_node.proofs.Unique.{Pair, names_total, names_irrefl}
 
 -- f with the pair of p and m behind its pairs

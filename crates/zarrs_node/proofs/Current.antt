@@ -34,15 +34,15 @@ use Rattle.zarrs_node.specs.BlocksOfNodes.{text_beyond}
 use Rattle.zarrs_node.specs.CurrentBlocks.{LeadsTo, IsNewPair, IsFresh}
 use Rattle.zarrs_node.specs.Changes.{document_files, AgreesOutside, last_of, FreshIsBlock, RefreshedIsBlock, RefreshedIsOpened}
 use Rattle.zarrs_node.proofs.Meanings.{default_is, v3_is, v2_is}
-use Rattle.zarrs_node.proofs.Found.{listed_each}
-use Rattle.zarrs_node.proofs.Graft.{Contains-first, Contains-cons}
+use Rattle.zarrs_node.proofs.ListedItems.{listed_each}
+use Rattle.zarrs_node.proofs.ForestsBeside.{Contains-first, Contains-cons}
 use Rattle.zarrs_node.proofs.Reach.{head_same, rest_same}
-use Rattle.zarrs_node.proofs.Kept.{below_below, reached_between}
+use Rattle.zarrs_node.proofs.KeptPairs.{below_below, reached_between}
 use Rattle.zarrs_node.proofs.BlockTexts.{text_is}
 use Rattle.zarrs_block.proofs.SameBlocks.{one_block}
 use Rattle.zarrs_node.proofs.Inverse.{entries_are}
 use Rattle.zarrs_node.proofs.Leads.{names_beyond}
-use Rattle.zarrs_node.proofs.Anew.{about_of}
+use Rattle.zarrs_node.proofs.MeaningsAnew.{about_of}
 
 -- ---- paths that are, or stand below, another
 

@@ -16,16 +16,16 @@ use Rattle.zarrs_node.specs.Reach.{Reached, Kept}
 use Rattle.zarrs_node.specs.Order.{Ascend}
 use Rattle.zarrs_node.specs.LastOfEqualPaths.{row, StandBelow, AreChildrenOf}
 use Rattle.zarrs_node.proofs.Unique.{Pair}
-use Rattle.zarrs_node.proofs.Graft.{Contains-first, Contains-cons}
-use Rattle.zarrs_node.proofs.Found.{all_pairs_append, all_pairs_tail, all_pairs_first, lists_from}
+use Rattle.zarrs_node.proofs.ForestsBeside.{Contains-first, Contains-cons}
+use Rattle.zarrs_node.proofs.ListedItems.{all_pairs_append, all_pairs_tail, all_pairs_first, lists_from}
 use Rattle.zarrs_node.proofs.Child.{contains_one}
 use Rattle.zarrs_node.proofs.Order.{one_ascends, pairs_ascend}
 use Rattle.zarrs_node.proofs.LawProofs.{apart}
 use Rattle.zarrs_node.proofs.Reach.{no_room}
-use Rattle.zarrs_node.proofs.Grow.{holds_none}
+use Rattle.zarrs_node.proofs.OpenForests.{holds_none}
 use Rattle.zarrs_block.proofs.InOrder.{before, sorted_pairs}
 use Rattle.zarrs_node.proofs.Lasts.{ties_same, contains_filtered, names_antisymmetric}
-use Rattle.zarrs_node.proofs.Counted.{filter_holds, filter_keeps}
+use Rattle.zarrs_node.proofs.FlatForests.{filter_holds, filter_keeps}
 
 -- ---- the children as they stand
 

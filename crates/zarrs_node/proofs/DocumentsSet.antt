@@ -24,7 +24,7 @@ use Rattle.zarrs_node.specs.Nodes.{IsBadName, MeansNode}
 use Rattle.zarrs_node.specs.Changes.{document_files}
 use Rattle.zarrs_node.specs.MapsOfNodes.{StandsFrom, NodesFrom, GoesOver, IsToVersion3, AreDocumentsOf, with_documents, DocumentsAreShown}
 use Rattle.zarrs_node.proofs.Current.{meaning_same}
-use Rattle.zarrs_node.proofs.Graft.{Contains-first, Contains-cons}
+use Rattle.zarrs_node.proofs.ForestsBeside.{Contains-first, Contains-cons}
 use Rattle.zarrs_node.proofs.MapsShown.{same_node, stands, mapped_is_shown}
 use Rattle.zarrs_node.proofs.Order.{contains_cases}
 use Rattle.zarrs_node.proofs.Reach.{head_same, rest_same}

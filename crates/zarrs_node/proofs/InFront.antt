@@ -7,8 +7,8 @@ use Rattle.zarrs_path.specs.Paths.{Path, path_cmp}
 use Rattle.zarrs_meta.specs.declared.node.NodeMetadata.{NodeMetadata}
 use Rattle.zarrs_block.specs.Meaning.{meaning, node}
 use Rattle.zarrs_node.specs.MapsOfNodes.{NodesFrom, BaseInFront, EarlierStandsBefore}
-use Rattle.zarrs_node.proofs.Found.{listed_each, all_pairs_tail, all_pairs_first, all_pairs_append}
-use Rattle.zarrs_node.proofs.Graft.{Contains-first, Contains-cons}
+use Rattle.zarrs_node.proofs.ListedItems.{listed_each, all_pairs_tail, all_pairs_first, all_pairs_append}
+use Rattle.zarrs_node.proofs.ForestsBeside.{Contains-first, Contains-cons}
 use Rattle.zarrs_node.proofs.Order.{contains_cases, one_ascends, below_less}
 use Rattle.zarrs_node.proofs.MapsShown.{same_node}
 

@@ -14,8 +14,8 @@ use Rattle.zarrs_block.proofs.Expansion.{found_all}
 use Rattle.zarrs_node.specs.Forest.{Forest, pairs, IsPlaced}
 use Rattle.zarrs_node.specs.Reach.{Closed, Kept}
 use Rattle.zarrs_node.specs.Inverse.{HasNames, BlockGivesBack, ListingGivesBack}
-use Rattle.zarrs_node.proofs.Found.{listed_each}
-use Rattle.zarrs_node.proofs.Kept.{kept_same, placed_between}
+use Rattle.zarrs_node.proofs.ListedItems.{listed_each}
+use Rattle.zarrs_node.proofs.KeptPairs.{kept_same, placed_between}
 use Rattle.zarrs_node.proofs.Unique.{one_forest}
 use Rattle.zarrs_block.proofs.KeyLaws.{one_text, slash_apart}
 

@@ -13,13 +13,13 @@ use Rattle.zarrs_node.proofs.Unique.{Pair}
 use Rattle.zarrs_node.specs.LastOfEqualPaths.{IsLatest}
 use Rattle.zarrs_node.specs.Order.{Ascend}
 use Rattle.zarrs_node.specs.StepsOfTrees.{DropsEqual}
-use Rattle.zarrs_node.proofs.Found.{all_pairs_append, all_pairs_tail, all_pairs_first}
+use Rattle.zarrs_node.proofs.ListedItems.{all_pairs_append, all_pairs_tail, all_pairs_first}
 use Rattle.zarrs_node.proofs.Child.{contains_one}
-use Rattle.zarrs_node.proofs.Stems.{last_part}
-use Rattle.zarrs_node.proofs.Graft.{Contains-first, Contains-cons}
+use Rattle.zarrs_node.proofs.OpenGroups.{last_part}
+use Rattle.zarrs_node.proofs.ForestsBeside.{Contains-first, Contains-cons}
 use Rattle.zarrs_node.proofs.Order.{one_ascends, contains_cases}
 use Rattle.zarrs_node.proofs.Unique.{names_irrefl}
-use Rattle.zarrs_node.proofs.Keeps.{all_pairs_across}
+use Rattle.zarrs_node.proofs.KeptOfLists.{all_pairs_across}
 
 -- v has, of the pairs gone over, the last with each path, ascending
 pub record KeepsLast (done v : List Pair) : Type 0 where

@@ -7,8 +7,8 @@ use Rattle.zarrs_path.specs.Paths.{Path, path_eq}
 use Rattle.zarrs_path.specs.PathOrder.{path_decides}
 use Rattle.zarrs_meta.specs.declared.node.NodeMetadata.{NodeMetadata}
 use Rattle.zarrs_node.specs.LastOfEqualPaths.{IsLatest}
-use Rattle.zarrs_node.proofs.Found.{all_pairs_first, all_pairs_tail}
-use Rattle.zarrs_node.proofs.Graft.{Contains-first, Contains-cons}
+use Rattle.zarrs_node.proofs.ListedItems.{all_pairs_first, all_pairs_tail}
+use Rattle.zarrs_node.proofs.ForestsBeside.{Contains-first, Contains-cons}
 use Rattle.zarrs_node.proofs.Order.{contains_cases}
 
 -- the pairs with a path, of a list with one pair more

@@ -6,10 +6,10 @@ use Rattle.zarrs_node.specs.Forest.{Forest, none, tree, pairs, IsPlaced, Shows}
 use Rattle.zarrs_node.specs.Order.{Ascend}
 use Rattle.zarrs_node.specs.Lines.{line, lines, preorder, IsLines}
 use Rattle.zarrs_node.specs.Laws.{OneListing, PlacedChildren, PreorderIsLines, ListingIsLines, OneText, ClosedPairs, ClosedNodes}
-use Rattle.zarrs_node.proofs.Found.{listed_each, lists_from}
+use Rattle.zarrs_node.proofs.ListedItems.{listed_each, lists_from}
 use Rattle.zarrs_node.specs.Nodes.{Means}
 use Rattle.zarrs_node.specs.Reach.{Kept}
-use Rattle.zarrs_node.proofs.Kept.{kept_closed, shown_closed}
+use Rattle.zarrs_node.proofs.KeptPairs.{kept_closed, shown_closed}
 use Rattle.zarrs_node.proofs.Order.{all_below, pairs_ascend}
 use Rattle.zarrs_node.proofs.Unique.{one_forest, sorted_unique, lt_irrefl}
 

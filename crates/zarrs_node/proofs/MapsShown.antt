@@ -10,7 +10,7 @@ use Rattle.zarrs_block.specs.Meaning.{Meaning, meaning, node, nothing, bad}
 use Rattle.zarrs_node.specs.Reach.{HasGroup, Reached, Kept}
 use Rattle.zarrs_node.specs.Nodes.{Means, MeansNode, HasBadDocument, IsListed}
 use Rattle.zarrs_node.specs.MapsOfNodes.{StandsFrom, IsMapped, KeepsKinds, GoesOver, MappedIsShown}
-use Rattle.zarrs_node.proofs.Kept.{reached_between}
+use Rattle.zarrs_node.proofs.KeptPairs.{reached_between}
 
 -- the node of a meaning, or another where it is none
 node_or : NodeMetadata → Meaning → NodeMetadata

@@ -8,8 +8,8 @@ use Rattle.zarrs_store.specs.Segments.{bytes_cmp}
 use Rattle.zarrs_meta.specs.declared.node.NodeMetadata.{NodeMetadata}
 use Rattle.zarrs_node.specs.Forest.{Forest, none, tree, pairs, IsBefore, IsPlaced, Shows}
 use Rattle.zarrs_node.specs.Order.{Ascend}
-use Rattle.zarrs_node.proofs.Graft.{path_cmp-append}
-use Rattle.zarrs_node.proofs.Found.{all_pairs_append}
+use Rattle.zarrs_node.proofs.ForestsBeside.{path_cmp-append}
+use Rattle.zarrs_node.proofs.ListedItems.{all_pairs_append}
 
 -- e is in a list by its head or its rest
 pub contains_cases : {A : Type 0} (x : A) (xs : List A) (y : A) → Contains (x ∷ xs) y → (x ≡ y) ⊎ Contains xs y

@@ -21,7 +21,7 @@ use Rattle.zarrs_block.proofs.SmallStores.{as_read, before_last-child, same_key,
 use Rattle.zarrs_block.proofs.SmallBlocks.{document_or_none, store_law}
 use Rattle.zarrs_node.specs.Small.{SmallBad, ShowsSmall, ZmetadataShows}
 use Rattle.zarrs_node.proofs.Inverse.{entries_are, keys_valid}
-use Rattle.zarrs_node.proofs.Kept.{kept_same}
+use Rattle.zarrs_node.proofs.KeptPairs.{kept_same}
 
 -- ---- names
 

@@ -7,7 +7,7 @@ use Rattle.zarrs_node.specs.declared.node.Node.{Node}
 use Rattle.zarrs_node.specs.Forest.{Forest, plant, tree, none, forest, IsChildOf, ArePlacedBelow, HasPlacedChildren, path_of, metadata_of, below_of}
 use Rattle.zarrs_node.specs.StepsOfTrees.{graft}
 use Rattle.zarrs_node.specs.StepsOfCounting.{children_of, weight, weights}
-use Rattle.zarrs_node.proofs.Graft.{plant_out, forest_push}
+use Rattle.zarrs_node.proofs.ForestsBeside.{plant_out, forest_push}
 use Rattle.zarrs_node.proofs.Sizes.{weight_out, weights-append}
 
 -- the tree of a node is its path, its metadata and what is below it

@@ -7,8 +7,8 @@ use Rattle.zarrs_store.specs.Segments.{bytes_cmp}
 use Rattle.zarrs_meta.specs.declared.node.NodeMetadata.{NodeMetadata}
 use Rattle.zarrs_node.specs.Forest.{Forest, none, tree, pairs, IsBefore, IsPlaced}
 use Rattle.zarrs_node.specs.Order.{Ascend}
-use Rattle.zarrs_node.proofs.Graft.{Contains-first, Contains-cons, head_name}
-use Rattle.zarrs_node.proofs.Found.{all_pairs_tail, all_pairs_first}
+use Rattle.zarrs_node.proofs.ForestsBeside.{Contains-first, Contains-cons, head_name}
+use Rattle.zarrs_node.proofs.ListedItems.{all_pairs_tail, all_pairs_first}
 use Rattle.zarrs_node.proofs.Order.{contains_cases, Begins, all_below, all_after, pairs_ascend}
 
 -- the order of paths is total

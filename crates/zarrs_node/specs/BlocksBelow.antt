@@ -1,4 +1,5 @@
--- Zarr core specification 3.1, "Group metadata", the field `consolidated_metadata`, and the document `.zmetadata` of version 2: what stands below a base, by the block that is used or, where none is used, by a listing.
+-- Zarr core specification 3.1, "Group metadata", the field `consolidated_metadata`, and the document `.zmetadata` of
+-- version 2: what stands below a base, by the block that is used or, where none is used, by a listing.
 -- <https://zarr-specs.readthedocs.io/en/latest/v3/core/index.html#group-metadata>
 -- <https://zarr.readthedocs.io/en/stable/user-guide/consolidated_metadata/>
 --     zmetadata_at s b      the block that the document `.zmetadata` of b is, whose numbers may be those of s
@@ -29,34 +30,43 @@ use Rattle.zarrs_block.specs.BlockExpansion.{NamesBadKey}
 use Rattle.zarrs_block.specs.declared.node_create_error.NodeCreateError.{NodeCreateError}
 use Rattle.zarrs_node.specs.Reach.{Kept}
 use Rattle.zarrs_node.specs.Nodes.{Nodes, HasNothingBad, ShowsBad}
+use Rattle.zarrs_block.specs.Meaning.{Pair}
 
 -- the block that the document `.zmetadata` of b is, where it is there and reads as one in the numbers of the store
 abbrev pub zmetadata_at : Contents → Path → Option Block
-zmetadata_at s b = option_and_then (λ bytes. result_ok (of_bytes (zmetadata_in s.numbers) bytes)) (get s.values (b ++ zmetadata ∷ []))
+zmetadata_at s b =
+    option_and_then (λ bytes. result_ok (of_bytes (zmetadata_in s.numbers) bytes)) (get s.values (b ++ zmetadata ∷ []))
 
--- the document `.zmetadata` of b has members, in the numbers of the store, and the block has exactly the paths that mean nodes in the small store that these are, in which nothing below b is bad
+-- the document `.zmetadata` of b has members, in the numbers of the store, and the block has exactly the paths that
+-- mean nodes in the small store that these are, in which nothing below b is bad
 abbrev pub HoldsZmetadata : Contents → Path → Block → Type 0
-HoldsZmetadata s b B = (bytes : List ℕ) × (d : Data) × (ms : Members) × (get s.values (b ++ zmetadata ∷ []) ≡ Some bytes) × (json_of bytes ≡ Some d) × (zmetadata_members_in s.numbers d ≡ Ok ms) × HoldsStoreIn s.numbers ms B × IsCleanIn s.numbers ms
+HoldsZmetadata s b B =
+    (bytes : List ℕ) × (d : Data) × (ms : Members) × (get s.values (b ++ zmetadata ∷ []) ≡ Some bytes)
+    × (json_of bytes ≡ Some d) × (zmetadata_members_in s.numbers d ≡ Ok ms) × HoldsStoreIn s.numbers ms B
+    × IsCleanIn s.numbers ms
 
--- the block that stands for the nodes below b in a store, where b has these metadata: of a version 2 group the one beside its documents, else the one that they hold, in the numbers of the store
+-- the block that stands for the nodes below b in a store, where b has these metadata: of a version 2 group the one
+-- beside its documents, else the one that they hold, in the numbers of the store
 abbrev pub block_at : Contents → Path → NodeMetadata → Option Block
 block_at s b (Group (V2 g)) = zmetadata_at s b
 block_at s b m = node_block s.numbers m
 
--- the block was not found out: of a version 2 group, whose document is looked for in the store, for the fault of a store that can fail or out of
+-- the block was not found out: of a version 2 group, whose document is looked for in the store, for the fault of a
+-- store that can fail or out of
 -- memory; of a version 3 group out of memory for its field; of an array never; and never where no block is used
 abbrev pub ExcusesBlock : Bool → NodeMetadata → UseConsolidatedMetadata → NodeCreateError → Type 0
 ExcusesBlock can_fail (Group (V2 g)) policy e = (policy ≢ Never) × IsExcused can_fail e
 ExcusesBlock can_fail (Group (V3 g)) policy e = LacksBlockMemory (Group (V3 g)) policy e
 ExcusesBlock can_fail (Array a) policy e = ⊥
 
--- the nodes below b: those that a listing finds, or where a block is used its entries between which and b all entries are groups
-abbrev pub NodesBelow : Contents → MetadataRetrieveVersion → Option Block → Bool → Path → Path × NodeMetadata → Type 0
+-- the nodes below b: those that a listing finds, or where a block is used its entries between which and b all entries
+-- are groups
+abbrev pub NodesBelow : Contents → MetadataRetrieveVersion → Option Block → Bool → Path → Pair → Type 0
 NodesBelow s v None recursive b = Nodes s v recursive b
 NodesBelow s v (Some B) recursive b = Kept (Entries B b) recursive b
 
 -- all pairs below b: those that a listing finds, or where a block is used all its entries
-abbrev pub PairsBelow : Contents → MetadataRetrieveVersion → Option Block → Path → Path × NodeMetadata → Type 0
+abbrev pub PairsBelow : Contents → MetadataRetrieveVersion → Option Block → Path → Pair → Type 0
 PairsBelow s v None b = Nodes s v true b
 PairsBelow s v (Some B) b = Entries B b
 

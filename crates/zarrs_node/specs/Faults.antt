@@ -1,4 +1,5 @@
--- Zarr core specification 3.1, "Hierarchy", "Node names" and "Metadata documents": what is bad on the way of a listing, each with its path.
+-- Zarr core specification 3.1, "Hierarchy", "Node names" and "Metadata documents": what is bad on the way of a
+-- listing, each with its path.
 -- <https://zarr-specs.readthedocs.io/en/latest/v3/core/index.html#hierarchy>
 -- <https://zarr-specs.readthedocs.io/en/latest/v3/core/index.html#node-names>
 use Rattle.std.specs.Prelude.{◌≡◌, Bool, List, AllPairs}
@@ -12,7 +13,8 @@ use Rattle.zarrs_node.specs.Nodes.{Means, IsBadName}
 use Rattle.zarrs_node.specs.declared.fault.NodeFault.{NodeFault}
 use Rattle.zarrs_node.specs.declared.fault.NodeFault.TheVariants.{Name, Document}
 
--- p is reached and means `bad e`, where the fault is the document's with e; p is a child of a listed path with a name of periods only, where it is the name's
+-- p is reached and means `bad e`, where the fault is the document's with e; p is a child of a listed path with a name
+-- of periods only, where it is the name's
 abbrev pub HasFault : (Path → Meaning) → (Path → Type 0) → Bool → Path → Path → NodeFault → Type 0
 HasFault of has recursive b p Name = IsBadName of has recursive b p
 HasFault of has recursive b p (Document e) = Reached (Means of) recursive b p × (of p ≡ bad e)

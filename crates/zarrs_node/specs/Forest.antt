@@ -10,6 +10,7 @@ use Rattle.zarrs_node.specs.declared.node.Node.{Node}
 use Rattle.zarrs_node.specs.declared.node.Node.TheOpen.{Node-F}
 use Rattle.zarrs_node.specs.declared.node.Node.TheFolds.{fold-Node}
 use Rattle.zarrs_node.specs.declared.node.Node.TheViews.{out-Node}
+use Rattle.zarrs_block.specs.Meaning.{Pair}
 
 -- a forest is none, or a first tree, by its path, its metadata and the forest below it, and the trees after it
 pub data Forest : Type 0 where
@@ -17,7 +18,7 @@ pub data Forest : Type 0 where
   tree : Path → NodeMetadata → Forest → Forest → Forest
 
 -- the paths with their metadata, parents before children
-abbrev pub pairs : Forest → List (Path × NodeMetadata)
+abbrev pub pairs : Forest → List Pair
 pairs none = []
 pairs (tree p m below after) = (p, m) ∷ (pairs below ++ pairs after)
 
@@ -43,10 +44,11 @@ ArePlacedBelow b (tree p m below after) = IsChildOf b p × ArePlacedBelow p belo
 -- each root is b and one name, each child its parent and one name, siblings strictly ascend, arrays have no children
 abbrev pub IsPlaced : Path → Forest → Type 0
 IsPlaced b none = Unit {0}
-IsPlaced b (tree p m below after) = ((n : List ℕ) × (p ≡ b ++ n ∷ [])) × MayHold m below × IsPlaced p below × IsBefore p after × IsPlaced b after
+IsPlaced b (tree p m below after) =
+    ((n : List ℕ) × (p ≡ b ++ n ∷ [])) × MayHold m below × IsPlaced p below × IsBefore p after × IsPlaced b after
 
 -- f shows N below b: its pairs are those of N, each once, and it is placed below b
-pub record Shows (f : Forest) (b : Path) (N : Path × NodeMetadata → Type 0) : Type 0 where
+pub record Shows (f : Forest) (b : Path) (N : Pair → Type 0) : Type 0 where
   pub shown : Lists N (pairs f)
   pub placed : IsPlaced b f
 
@@ -55,7 +57,7 @@ abbrev pub paths_of : Forest → List Path
 paths_of f = map (λ e. e.0) (pairs f)
 
 -- xs are the paths of a forest that shows N below b, parents before children
-pub record ShowsPaths (xs : List Path) (b : Path) (N : Path × NodeMetadata → Type 0) : Type 0 where
+pub record ShowsPaths (xs : List Path) (b : Path) (N : Pair → Type 0) : Type 0 where
   pub trees : Forest
   pub shows : Shows trees b N
   pub are : xs ≡ paths_of trees

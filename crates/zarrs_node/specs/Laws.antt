@@ -2,17 +2,19 @@
 -- <https://zarr-specs.readthedocs.io/en/latest/v3/core/index.html#hierarchy>
 use Rattle.std.specs.Prelude.{◌≡◌, Bool, true, List, Contains, ◌↔◌, ℕ}
 use Rattle.zarrs_path.specs.Paths.{Path, IsPath, IsBelow}
-use Rattle.zarrs_meta.specs.declared.node.NodeMetadata.{NodeMetadata}
 use Rattle.zarrs_node.specs.Forest.{Forest, pairs, IsPlaced, ArePlacedBelow, Shows}
 use Rattle.zarrs_node.specs.Lines.{IsLines, preorder}
 use Rattle.zarrs_block.specs.Meaning.{Meaning}
 use Rattle.zarrs_node.specs.Nodes.{Means}
 use Rattle.zarrs_node.specs.Reach.{Kept, Closed}
 use Rattle.zarrs_node.specs.Order.{Ascend}
+use Rattle.zarrs_block.specs.Meaning.{Pair}
 
 -- Two placed forests with the same pairs are one.
 abbrev pub OneForest : Type 0
-OneForest = (b : Path) (f g : Forest) → IsPlaced b f → IsPlaced b g → ((e : Path × NodeMetadata) → Contains (pairs f) e ↔ Contains (pairs g) e) → f ≡ g
+OneForest =
+    (b : Path) (f g : Forest) → IsPlaced b f → IsPlaced b g → ((e : Pair) → Contains (pairs f) e ↔ Contains (pairs g) e)
+    → f ≡ g
 
 -- Two forests that show the nodes of one meaning below one base are one.
 abbrev pub OneListing : Type 0
@@ -38,12 +40,14 @@ ListingIsLines = (of : Path → Meaning) (recursive : Bool) (b : Path) (f : Fore
 
 -- Two lists with the same pairs below a base have one text of lines there.
 abbrev pub OneText : Type 0
-OneText = (b : Path) (es ds : List (Path × NodeMetadata)) (t u : List ℕ) → ((e : Path × NodeMetadata) → IsBelow b e.0 → Contains es e ↔ Contains ds e)
+OneText = (b : Path) (es ds : List Pair) (t u : List ℕ) → ((e : Pair) → IsBelow b e.0 → Contains es e ↔ Contains ds e)
     → IsLines b (Contains es) t → IsLines b (Contains ds) u → t ≡ u
 
 -- The pairs of a placed forest of paths are closed.
 abbrev pub ClosedPairs : Type 0
-ClosedPairs = (b : Path) (f : Forest) → IsPlaced b f → ((e : Path × NodeMetadata) → Contains (pairs f) e → IsPath e.0) → Closed (Contains (pairs f)) b
+ClosedPairs =
+    (b : Path) (f : Forest) → IsPlaced b f → ((e : Pair) → Contains (pairs f) e → IsPath e.0)
+    → Closed (Contains (pairs f)) b
 
 -- The nodes of a meaning are closed.
 abbrev pub ClosedNodes : Type 0

@@ -1,10 +1,13 @@
--- Zarr core specification 3.1, "Group metadata", the field `consolidated_metadata`: what an opened node shows, and what refuses its opening.
+-- Zarr core specification 3.1, "Group metadata", the field `consolidated_metadata`: what an opened node shows, and
+-- what refuses its opening.
 -- <https://zarr-specs.readthedocs.io/en/latest/v3/core/index.html#group-metadata>
 -- <https://zarr.readthedocs.io/en/stable/user-guide/consolidated_metadata/>
---     choice s policy b m      which block stands for the nodes below b, or that they are listed, or nothing where the want of a block is refused
+--     choice s policy b m      which block stands for the nodes below b, or that they are listed, or nothing where
+-- the want of a block is refused
 --     ShowsChosen, IsCleanChosen      what a tree below b shows by such a choice; that nothing refuses it
 --     ShowsNode, IsCleanNode      what the tree of an opened node shows; that nothing refuses it
---     RefusesChosen, RefusesNode, RefusesOpening      what refuses it; what refuses the node itself; the first of all reasons against opening a text
+--     RefusesChosen, RefusesNode, RefusesOpening      what refuses it; what refuses the node itself; the first of all
+-- reasons against opening a text
 use Rattle.std.specs.Prelude.{◌≡◌, ℕ, Bool, true, List, Option, Some, None, ◌⊎◌}
 use Rattle.zarrs_store.specs.Contents.{Contents}
 use Rattle.zarrs_path.specs.Paths.{Path, IsPath, path_text}
@@ -37,7 +40,8 @@ IsCleanChosen s v None recursive b = ⊥
 IsCleanChosen s v (Some c) recursive b = IsGoodBelow s v c recursive b
 
 -- the want of a block is refused, or what stands below b is
-abbrev pub RefusesChosen : Contents → MetadataRetrieveVersion → Option (Option Block) → Bool → Path → NodeCreateError → Type 0
+abbrev pub RefusesChosen : Contents → MetadataRetrieveVersion → Option (Option Block) → Bool → Path → NodeCreateError
+    → Type 0
 RefusesChosen s v None recursive b e = RefusesUse b None e
 RefusesChosen s v (Some c) recursive b e = ShowsBadBelow s v c recursive b e
 
@@ -48,7 +52,8 @@ abbrev pub choice : Contents → UseConsolidatedMetadata → Path → NodeMetada
 choice s policy b m = block_to_use (block_at s b m) policy
 
 -- below an array there is nothing, and f shows what stands below a group
-abbrev pub ShowsBelow : Contents → MetadataRetrieveVersion → UseConsolidatedMetadata → Path → NodeMetadata → Forest → Type 0
+abbrev pub ShowsBelow : Contents → MetadataRetrieveVersion → UseConsolidatedMetadata → Path → NodeMetadata → Forest
+    → Type 0
 ShowsBelow s v policy b (Array a) f = f ≡ none
 ShowsBelow s v policy b (Group g) f = ShowsChosen s v (choice s policy b (Group g)) true b f
 
@@ -58,7 +63,8 @@ IsCleanBelow s v policy b (Array a) = Unit {0}
 IsCleanBelow s v policy b (Group g) = IsCleanChosen s v (choice s policy b (Group g)) true b
 
 -- what stands below a group is refused with e; below an array nothing is refused
-abbrev pub RefusesBelow : Contents → MetadataRetrieveVersion → UseConsolidatedMetadata → Path → NodeMetadata → NodeCreateError → Type 0
+abbrev pub RefusesBelow : Contents → MetadataRetrieveVersion → UseConsolidatedMetadata → Path → NodeMetadata
+    → NodeCreateError → Type 0
 RefusesBelow s v policy b (Array a) e = ⊥
 RefusesBelow s v policy b (Group g) e = RefusesChosen s v (choice s policy b (Group g)) true b e
 
@@ -79,8 +85,11 @@ abbrev pub RefusesText : List ℕ → NodeCreateError → Type 0
 RefusesText bs (NodePathError (Invalid text)) = RefusesPath bs (Invalid text)
 RefusesText bs _ = ⊥
 
--- the text is no path; or it is that of a path b, and b itself is refused; or b means a node, and what stands below it is refused
-abbrev pub RefusesOpening : Contents → MetadataRetrieveVersion → UseConsolidatedMetadata → List ℕ → NodeCreateError → Type 0
+-- the text is no path; or it is that of a path b, and b itself is refused; or b means a node, and what stands below
+-- it is refused
+abbrev pub RefusesOpening : Contents → MetadataRetrieveVersion → UseConsolidatedMetadata → List ℕ → NodeCreateError
+    → Type 0
 RefusesOpening s v policy bs e =
     RefusesText bs e
-    ⊎ ((b : Path) × IsPath b × (path_text b ≡ bs) × (RefusesNode s v b e ⊎ ((m : NodeMetadata) × (meaning s v b ≡ node m) × RefusesBelow s v policy b m e)))
+    ⊎ ((b : Path) × IsPath b × (path_text b ≡ bs)
+        × (RefusesNode s v b e ⊎ ((m : NodeMetadata) × (meaning s v b ≡ node m) × RefusesBelow s v policy b m e)))

@@ -6,11 +6,13 @@ use Rattle.zarrs_fault.specs.declared.numbers.Numbers.{Numbers}
 use Rattle.zarrs_store.specs.Segments.{Segments}
 use Rattle.zarrs_store.specs.Contents.{Contents}
 use Rattle.zarrs_store.specs.declared.storage_error.StorageError.{StorageError}
-use Rattle.zarrs_store.specs.declared.storage_error.StorageError.TheVariants.{Fault, InvalidMetadata, Other, OutOfMemory}
+use Rattle.zarrs_store.specs.declared.storage_error.StorageError.TheVariants.{Fault, InvalidMetadata, Other}
+use Rattle.zarrs_store.specs.declared.storage_error.StorageError.TheVariants.{OutOfMemory}
 use Rattle.zarrs_block.specs.Meaning.{document_at}
 
 -- the document at a key of a store of bytes, by a reading in the numbers of the store, or none where the key is absent
-abbrev pub stored_document : {D : Type 0} → (Numbers → List ℕ → Result D MetadataFault) → Contents → Segments → Result (Option D) StorageError
+abbrev pub stored_document : {D : Type 0} → (Numbers → List ℕ → Result D MetadataFault) → Contents → Segments
+    → Result (Option D) StorageError
 stored_document reading s key = document_at (reading s.numbers) s.values key
 
 -- the error is the fault of a store that can fail, or out of memory, or what the reading refuses

@@ -18,7 +18,8 @@ pub record Stop : Type 0 where
 -- the nodes of a forest at a level, parents before children
 abbrev pub stops : ℕ → Forest → List Stop
 stops l none = []
-stops l (tree p m below after) = record { level = l; path = p; metadata = m; below = below } ∷ (stops (l + 1) below ++ stops l after)
+stops l (tree p m below after) =
+    record { level = l; path = p; metadata = m; below = below } ∷ (stops (l + 1) below ++ stops l after)
 
 -- a node at a level
 abbrev pub stop_of : ℕ → Node → Stop

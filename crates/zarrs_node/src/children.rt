@@ -132,7 +132,7 @@ pub fn get_child_paths<L: Log, S: ReadableStorageTraits + ListableStorageTraits>
 /// The refusals of `get_child_nodes_opt`.
 ///
 /// Source: `zarrs::node::get_child_nodes_opt`, its nodes by their paths.
-#[tactic(auto, using(crate::proofs::Feeding::shown_paths))]
+#[tactic(auto, using(crate::proofs::SinkSteps::shown_paths))]
 pub fn get_child_paths_opt<L: Log, S: ReadableStorageTraits + ListableStorageTraits>(
     log: &L,
     alloc: Global,

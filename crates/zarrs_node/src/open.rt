@@ -117,7 +117,7 @@ impl Node {
 }
 
 // The nodes below the path of a group with these metadata, by its block or by a listing.
-#[tactic(auto, using(crate::proofs::Opening::block_excused))]
+#[tactic(auto, using(crate::proofs::OpenedNodes::block_excused))]
 fn nodes_below<L: Log, S: ReadableStorageTraits + ListableStorageTraits>(
     log: &L,
     alloc: Global,

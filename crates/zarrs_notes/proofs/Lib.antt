@@ -4,4 +4,4 @@ pub mod ItemSteps
 pub mod LawProofs
 pub mod Parts
 pub mod ShapeParts
-pub mod Telling
+pub mod ToldNotes

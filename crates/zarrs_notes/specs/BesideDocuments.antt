@@ -1,4 +1,5 @@
--- Zarr core specification 3.1, "Storage keys" and "Metadata documents", and specification version 2, "Metadata", "Groups" and "Attributes": the documents of a node that are not read.
+-- Zarr core specification 3.1, "Storage keys" and "Metadata documents", and specification version 2, "Metadata",
+-- "Groups" and "Attributes": the documents of a node that are not read.
 -- <https://zarr-specs.readthedocs.io/en/latest/v3/core/index.html#storage-keys>
 -- <https://zarr-specs.readthedocs.io/en/latest/v2/v2.0.html#metadata>
 -- <https://zarr.readthedocs.io/en/stable/user-guide/consolidated_metadata/>
@@ -39,7 +40,8 @@ main_document (Group (group_v2 g)) = Zgroup
 main_document (Array (array_v3 a)) = ZarrJson
 main_document (Array (array_v2 a)) = Zarray
 
--- the documents that are not read beside it by who goes by all versions: beside `zarr.json` those of version 2, beside `.zarray` the `.zgroup`, and beside `.zgroup` none. The
+-- the documents that are not read beside it by who goes by all versions: beside `zarr.json` those of version 2,
+-- beside `.zarray` the `.zgroup`, and beside `.zgroup` none. The
 -- `.zmetadata` beside `.zarray` is a misplaced block
 abbrev pub passed_over : NodeMetadata → List NodeFile
 passed_over (Group (group_v3 g)) = Zarray ∷ Zgroup ∷ Zattrs ∷ Zmetadata ∷ []
@@ -47,8 +49,10 @@ passed_over (Group (group_v2 g)) = []
 passed_over (Array (array_v3 a)) = Zarray ∷ Zgroup ∷ Zattrs ∷ Zmetadata ∷ []
 passed_over (Array (array_v2 a)) = Zgroup ∷ []
 
--- the node is an array and has a block: one of version 3 the field, which is not null, and one of version 2 the document `.zmetadata`
+-- the node is an array and has a block: one of version 3 the field, which is not null, and one of version 2 the
+-- document `.zmetadata`
 abbrev pub HasMisplacedBlock : Contents → Path → NodeMetadata → Type 0
 HasMisplacedBlock s p (Group g) = ⊥
-HasMisplacedBlock s p (Array (array_v3 a)) = (d : Data) × (get_member block_name a.additional_fields ≡ Some d) × (d ≢ null)
+HasMisplacedBlock s p (Array (array_v3 a)) =
+    (d : Data) × (get_member block_name a.additional_fields ≡ Some d) × (d ≢ null)
 HasMisplacedBlock s p (Array (array_v2 a)) = HasFile s p Zmetadata

@@ -1,4 +1,5 @@
--- Zarr core specification 3.1, "Extension points" and "Group metadata", the field `consolidated_metadata`: the fields of a group that must be understood.
+-- Zarr core specification 3.1, "Extension points" and "Group metadata", the field `consolidated_metadata`: the fields
+-- of a group that must be understood.
 -- <https://zarr-specs.readthedocs.io/en/latest/v3/core/index.html#extension-points>
 -- <https://zarr-specs.readthedocs.io/en/latest/v3/core/index.html#group-metadata>
 --     fields_of m      the additional fields of a version 3 group

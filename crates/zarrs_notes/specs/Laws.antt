@@ -1,4 +1,5 @@
--- Zarr core specification 3.1, "Metadata documents" and "Extension points": what holds of all that there is to tell of a node.
+-- Zarr core specification 3.1, "Metadata documents" and "Extension points": what holds of all that there is to tell
+-- of a node.
 -- <https://zarr-specs.readthedocs.io/en/latest/v3/core/index.html#metadata>
 -- <https://zarr-specs.readthedocs.io/en/latest/v3/core/index.html#extension-points>
 use Rattle.std.specs.Prelude.{◌≡◌, ◌↔◌, ℕ, List, [], ◌∷◌, ◌++◌, Some, Contains, false}
@@ -17,7 +18,8 @@ use Rattle.zarrs_notes.specs.declared.finding.NodeFinding.{NodeFinding}
 
 -- both stores have the same at each of the documents of p
 abbrev pub HaveSameFiles : Contents → Contents → Path → Type 0
-HaveSameFiles s t p = (file : NodeFile) → get s.values (p ++ name_of_file file ∷ []) ≡ get t.values (p ++ name_of_file file ∷ [])
+HaveSameFiles s t p =
+    (file : NodeFile) → get s.values (p ++ name_of_file file ∷ []) ≡ get t.values (p ++ name_of_file file ∷ [])
 
 -- Of two stores that have the same at the documents of a path, there is the same to tell of a node there.
 abbrev pub SameFilesTellSame : Type 0
@@ -27,6 +29,7 @@ SameFilesTellSame = (s t : Contents) (p : Path) → HaveSameFiles s t p
 
 -- Where no field of a group is told, none of its additional fields must be understood.
 abbrev pub UntoldIsUnderstood : Type 0
-UntoldIsUnderstood = (s : Contents) (p : Path) (m : NodeMetadata) (found : List NodeFinding) → AreNodeFindings s p m found
+UntoldIsUnderstood =
+    (s : Contents) (p : Path) (m : NodeMetadata) (found : List NodeFinding) → AreNodeFindings s p m found
     → ((name : List ℕ) → Contains found (field_finding p name) → ⊥)
     → (name : List ℕ) (d : Data) → get_member name (fields_of m) ≡ Some d → must_understand d ≡ false

@@ -1,11 +1,13 @@
--- Zarr core specification 3.1, "Array metadata", "Group metadata" and "Extension points", and specification version 2, "Arrays": what there is to tell of one node by its own documents.
+-- Zarr core specification 3.1, "Array metadata", "Group metadata" and "Extension points", and specification version
+-- 2, "Arrays": what there is to tell of one node by its own documents.
 -- <https://zarr-specs.readthedocs.io/en/latest/v3/core/index.html#array-metadata>
 -- <https://zarr-specs.readthedocs.io/en/latest/v3/core/index.html#group-metadata>
 -- <https://zarr-specs.readthedocs.io/en/latest/v2/v2.0.html#arrays>
 --     IsNodeFinding s p m f      what there is to tell of the node at p with the metadata m
 --     is_note f      it is a note and no finding
 --     AreNodeFindings s p m found      the findings are exactly what there is to tell of the node, each once, in order
-use Rattle.std.specs.Prelude.{◌≡◌, ◌≢◌, ◌↔◌, ◌⊎◌, ◌<◌, ℕ, Bool, true, false, List, [], Option, Some, length, AllPairs, Contains}
+use Rattle.std.specs.Prelude.{◌≡◌, ◌≢◌, ◌↔◌, ◌⊎◌, ◌<◌, ℕ, Bool, true, false, List, [], Option, Some, length, AllPairs}
+use Rattle.std.specs.Prelude.{Contains}
 use Rattle.std.specs.declared.cmp.Ordering.TheVariants.{Less}
 use Rattle.serde_json.specs.Data.{Data}
 use Rattle.serde_json.specs.Find.{get_member}
@@ -20,11 +22,14 @@ use Rattle.zarrs_notes.specs.BesideDocuments.{HasFile, HasMisplacedBlock, main_d
 use Rattle.zarrs_notes.specs.declared.file.NodeFile.{NodeFile}
 use Rattle.zarrs_notes.specs.declared.file.NodeFile.TheVariants.{ZarrJson, Zarray, Zgroup, Zattrs, Zmetadata}
 use Rattle.zarrs_notes.specs.declared.finding.NodeFinding.{NodeFinding}
-use Rattle.zarrs_notes.specs.declared.finding.NodeFinding.TheVariants.{GridRank, ZeroLength, NameCount, UnknownField, DemandingBlock, MisplacedBlock, Beside}
+use Rattle.zarrs_notes.specs.declared.finding.NodeFinding.TheVariants.{GridRank, ZeroLength, NameCount, UnknownField}
+use Rattle.zarrs_notes.specs.declared.finding.NodeFinding.TheVariants.{DemandingBlock, MisplacedBlock, Beside}
 
 -- a chunk has another number of lengths than the shape
 abbrev pub IsGridFinding : NodeMetadata → NodeFinding → Type 0
-IsGridFinding m f = (lengths : List ℕ) × (lengths_of_chunks m ≡ Some lengths) × (length lengths ≢ rank m) × (f ≡ GridRank (length lengths) (rank m))
+IsGridFinding m f =
+    (lengths : List ℕ) × (lengths_of_chunks m ≡ Some lengths) × (length lengths ≢ rank m)
+    × (f ≡ GridRank (length lengths) (rank m))
 
 -- a chunk has the length 0
 abbrev pub IsZeroFinding : NodeMetadata → NodeFinding → Type 0
@@ -32,11 +37,15 @@ IsZeroFinding m f = (lengths : List ℕ) × (lengths_of_chunks m ≡ Some length
 
 -- there is another number of dimension names than the shape has lengths
 abbrev pub IsNameFinding : NodeMetadata → NodeFinding → Type 0
-IsNameFinding m f = (names : List (Option (List ℕ))) × (names_of_dimensions m ≡ Some names) × (length names ≢ rank m) × (f ≡ NameCount (length names) (rank m))
+IsNameFinding m f =
+    (names : List (Option (List ℕ))) × (names_of_dimensions m ≡ Some names) × (length names ≢ rank m)
+    × (f ≡ NameCount (length names) (rank m))
 
 -- an additional field of the group must be understood
 abbrev pub IsFieldFinding : Path → NodeMetadata → NodeFinding → Type 0
-IsFieldFinding p m f = (name : List ℕ) × (d : Data) × (get_member name (fields_of m) ≡ Some d) × (must_understand d ≡ true) × (f ≡ field_finding p name)
+IsFieldFinding p m f =
+    (name : List ℕ) × (d : Data) × (get_member name (fields_of m) ≡ Some d) × (must_understand d ≡ true)
+    × (f ≡ field_finding p name)
 
 -- an array has a block
 abbrev pub IsMisplacedFinding : Contents → Path → NodeMetadata → NodeFinding → Type 0
@@ -44,14 +53,17 @@ IsMisplacedFinding s p m f = HasMisplacedBlock s p m × (f ≡ MisplacedBlock)
 
 -- a document is not read beside the one that makes the node
 abbrev pub IsBesideFinding : Contents → Path → NodeMetadata → NodeFinding → Type 0
-IsBesideFinding s p m f = (file : NodeFile) × Contains (passed_over m) file × HasFile s p file × (f ≡ Beside file (main_document m))
+IsBesideFinding s p m f =
+    (file : NodeFile) × Contains (passed_over m) file × HasFile s p file × (f ≡ Beside file (main_document m))
 
 -- what there is to tell of the node at p that has these metadata
 abbrev pub IsNodeFinding : Contents → Path → NodeMetadata → NodeFinding → Type 0
 IsNodeFinding s p m f =
-    IsGridFinding m f ⊎ IsZeroFinding m f ⊎ IsNameFinding m f ⊎ IsFieldFinding p m f ⊎ IsMisplacedFinding s p m f ⊎ IsBesideFinding s p m f
+    IsGridFinding m f ⊎ IsZeroFinding m f ⊎ IsNameFinding m f ⊎ IsFieldFinding p m f ⊎ IsMisplacedFinding s p m f
+    ⊎ IsBesideFinding s p m f
 
--- a misplaced block and a document beside another are notes, worth knowing and most often meant so; all else is a finding
+-- a misplaced block and a document beside another are notes, worth knowing and most often meant so; all else is a
+-- finding
 abbrev pub is_note : NodeFinding → Bool
 is_note (GridRank lengths shape) = false
 is_note ZeroLength = false

@@ -1,4 +1,5 @@
--- Zarr core specification 3.1, "Chunk grids", "Regular grids" and "dimension_names", and specification version 2, "Arrays", "chunks": the dimensions of a node.
+-- Zarr core specification 3.1, "Chunk grids", "Regular grids" and "dimension_names", and specification version 2,
+-- "Arrays", "chunks": the dimensions of a node.
 -- <https://zarr-specs.readthedocs.io/en/latest/v3/core/index.html#chunk-grids>
 -- <https://zarr-specs.readthedocs.io/en/latest/v3/core/index.html#array-metadata-dimension-names>
 -- <https://zarr-specs.readthedocs.io/en/latest/v2/v2.0.html#chunks>
@@ -26,7 +27,8 @@ chunk_shape configuration = option_and_then (list_of number_u64) (get_member (co
 
 -- the lengths of a chunk of a grid whose name is `regular`, where it has them; any other grid says none
 abbrev pub lengths_of_grid : MetadataV3 → Option (List ℕ)
-lengths_of_grid grid = if bytes_eq grid.name (codes "regular") then option_and_then chunk_shape grid.configuration else None
+lengths_of_grid grid =
+    if bytes_eq grid.name (codes "regular") then option_and_then chunk_shape grid.configuration else None
 
 -- the lengths of a chunk: of a version 3 array those of its grid, of one of version 2 its `chunks`; a group has none
 abbrev pub lengths_of_chunks : NodeMetadata → Option (List ℕ)

@@ -1,5 +1,6 @@
 -- Steps of telling what there is to tell of a node, as lists, part by part; no public contract rests on them.
-use Rattle.std.specs.Prelude.{◌≡◌, ◌==◌, ◌&&◌, ℕ, Bool, true, false, not, if◌then◌else◌, List, [], ◌∷◌, ◌++◌, length, Option, Some, None, option_map, is_some, String}
+use Rattle.std.specs.Prelude.{◌≡◌, ◌==◌, ◌&&◌, ℕ, Bool, true, false, not, if◌then◌else◌, List, [], ◌∷◌, ◌++◌, length}
+use Rattle.std.specs.Prelude.{Option, Some, None, option_map, is_some, String}
 use Rattle.std.specs.FinMap as map
 use Rattle.std.specs.Global.{Global}
 use Rattle.serde_json.specs.Data.{Data, Members, no_members, member}
@@ -50,14 +51,16 @@ name_findings r (Some names) = told_if (not (length names == r)) (NameCount (len
 
 -- what is told of the dimensions of a node
 abbrev pub shape_findings : NodeMetadata → List NodeFinding
-shape_findings m = chunk_findings (rank m) (measure_of (lengths_of_chunks m)) ++ name_findings (rank m) (names_of_dimensions m)
+shape_findings m =
+    chunk_findings (rank m) (measure_of (lengths_of_chunks m)) ++ name_findings (rank m) (names_of_dimensions m)
 
 -- ---- fields
 
 -- what is told of the fields that must be understood, as they stand
 abbrev pub field_findings : Path → Members → List NodeFinding
 field_findings p no_members = []
-field_findings p (member k d ms) = if must_understand d then field_finding p k ∷ field_findings p ms else field_findings p ms
+field_findings p (member k d ms) =
+    if must_understand d then field_finding p k ∷ field_findings p ms else field_findings p ms
 
 -- the members stand in the order of their names
 abbrev pub FieldsAscend : Members → Type 0

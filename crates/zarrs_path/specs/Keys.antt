@@ -1,5 +1,6 @@
 -- Zarr core specification 3.1, "Storage keys": the names of the documents of a node.
--- The key of the document f of a path p is `p ++ f ∷ []`. The names of version 2 are those of its specification, "Metadata", "Groups" and "Attributes".
+-- The key of the document f of a path p is `p ++ f ∷ []`. The names of version 2 are those of its specification,
+-- "Metadata", "Groups" and "Attributes".
 -- <https://zarr-specs.readthedocs.io/en/latest/v3/core/index.html#storage-keys>
 -- <https://zarr-specs.readthedocs.io/en/latest/v2/v2.0.html#metadata>
 -- <https://zarr-specs.readthedocs.io/en/latest/v2/v2.0.html#groups>

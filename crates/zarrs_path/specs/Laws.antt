@@ -8,11 +8,15 @@ use Rattle.std.specs.Cmp.{IsTotalOrder}
 use Rattle.std.specs.Hash as fed
 use Rattle.zarrs_store.specs.Segments.{key_text}
 use Rattle.zarrs_path.specs.Names.{IsName, IsReserved}
-use Rattle.zarrs_path.specs.Paths.{Path, IsPath, IsBelow, IsParent, path_text, path_eq, path_cmp, relative_names, without_leading_slash}
+use Rattle.zarrs_path.specs.Paths.{Path, IsPath, IsBelow, IsParent, path_text, path_eq, path_cmp, relative_names}
+use Rattle.zarrs_path.specs.Paths.{without_leading_slash}
+use Rattle.zarrs_fault.specs.Bytes.{period, slash}
 
--- a text is a name exactly where it is not empty, holds no slash, is not made of periods only and does not begin with `__`
+-- a text is a name exactly where it is not empty, holds no slash, is not made of periods only and does not begin with
+-- `__`
 abbrev pub NamesAre : Type 0
-NamesAre = (n : List ℕ) → IsName n ↔ ((n ≢ []) × All (λ b. b ≢ 47) n × (All (λ b. b ≡ 46) n → ⊥) × (IsReserved n → ⊥))
+NamesAre =
+    (n : List ℕ) → IsName n ↔ ((n ≢ []) × All (λ b. b ≢ slash) n × (All (λ b. b ≡ period) n → ⊥) × (IsReserved n → ⊥))
 
 -- a text has one path at most
 abbrev pub TextsDiffer : Type 0
@@ -60,7 +64,8 @@ DocumentKeysDiffer = (p q : Path) (f g : List ℕ) → p ++ f ∷ [] ≡ q ++ g 
 
 -- names joined by slashes are the relative names of that text, also behind one slash
 abbrev pub RelativeNamesRead : Type 0
-RelativeNamesRead = (p : Path) → IsPath p → (relative_names (key_text p) ≡ p) × (relative_names (47 ∷ key_text p) ≡ p)
+RelativeNamesRead =
+    (p : Path) → IsPath p → (relative_names (key_text p) ≡ p) × (relative_names (slash ∷ key_text p) ≡ p)
 
 -- a text is its relative names joined by slashes, after one leading slash is taken off
 abbrev pub RelativeNamesJoined : Type 0

@@ -5,12 +5,13 @@
 use Rattle.std.specs.Prelude.{◌≡◌, ℕ, ◌==◌, Bool, not, ◌&&◌, ◌||◌, List, ◌∷◌, IsTrue}
 use Rattle.std.specs.List.{list_all}
 use Rattle.zarrs_store.specs.Segments.{is_nonempty, has_no_slash}
+use Rattle.zarrs_fault.specs.Bytes.{period}
 -- `is_reserved n`: the text begins with `__`
 pub use Rattle.zarrs_store.specs.Segments.{is_reserved}
 
 -- the text is made of periods only, or is empty
 abbrev pub is_all_periods : List ℕ → Bool
-is_all_periods n = list_all (λ b. b == 46) n
+is_all_periods n = list_all (λ b. b == period) n
 
 -- a name is not empty, holds no slash, is not made of periods only and does not begin with `__`
 abbrev pub is_name : List ℕ → Bool

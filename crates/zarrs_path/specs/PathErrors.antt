@@ -1,7 +1,8 @@
 -- Zarr core specification 3.1, "Paths": what refused paths say.
 -- <https://zarr-specs.readthedocs.io/en/latest/v3/core/index.html#path>
 use Rattle.std.specs.Prelude.{◌≡◌, ℕ, List, ◌++◌, string_bytes, Some, codes}
-use Rattle.zarrs_path.specs.Paths.{Path, IsPath, path_text, IsPathText, relative_names, first_bad, without_leading_slash}
+use Rattle.zarrs_path.specs.Paths.{Path, IsPath, path_text, IsPathText, relative_names, first_bad}
+use Rattle.zarrs_path.specs.Paths.{without_leading_slash}
 use Rattle.zarrs_path.specs.declared.node_path.NodePathError.{NodePathError}
 use Rattle.zarrs_path.specs.declared.node_path.NodePathError.TheVariants.{Invalid, OutOfMemory}
 
@@ -17,7 +18,8 @@ bad_part_text c rest = codes "invalid node name `" ++ (c ++ (codes "` in '" ++ (
 -- a part is no name, and the error names the first such part; or out of memory
 abbrev pub RefusesJoin : List ℕ → NodePathError → Type 0
 RefusesJoin rel (Invalid text) =
-    (c : List ℕ) × (first_bad (relative_names rel) ≡ Some c) × (string_bytes text ≡ bad_part_text c (without_leading_slash rel))
+    (c : List ℕ) × (first_bad (relative_names rel) ≡ Some c)
+    × (string_bytes text ≡ bad_part_text c (without_leading_slash rel))
 RefusesJoin rel OutOfMemory = Unit {0}
 
 -- a segment is no name, and the error holds the text of the path; or out of memory

@@ -1,10 +1,12 @@
--- Zarr core specification 3.1, "Paths": the laws of the order and the equality of paths, which are those of lists of names.
+-- Zarr core specification 3.1, "Paths": the laws of the order and the equality of paths, which are those of lists of
+-- names.
 -- <https://zarr-specs.readthedocs.io/en/latest/v3/core/index.html#path>
 use Rattle.std.specs.Prelude.{◌≡◌, IsTrue, refl}
 use Rattle.std.specs.Bool.{Decides}
 use Rattle.std.specs.Ordering.{eq_by_cmp, nat_cmp}
 use Rattle.std.specs.Cmp.{IsTotalOrder, IsPartialOrder, IsEquivalence, po}
-use Rattle.std.specs.Cmp.Lexicographic.{slice_cmp, lists_ties, lists_total, lists_equiv, texts_ties, nat_list_cmp_total, nat_list_eq_equiv}
+use Rattle.std.specs.Cmp.Lexicographic.{slice_cmp, lists_ties, lists_total, lists_equiv, texts_ties, nat_list_cmp_total}
+use Rattle.std.specs.Cmp.Lexicographic.{nat_list_eq_equiv}
 use Rattle.std.specs.Prelude.{Some}
 use Rattle.std.specs.Hash as fed
 use Rattle.std.proofs.Common.{ap}

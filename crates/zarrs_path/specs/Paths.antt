@@ -8,13 +8,14 @@
 --     IsParent p r      r is p without its last name, or nothing for the root
 --     relative_names rel      the names that a relative text adds to a path
 use Rattle.std.specs.Prelude.{◌≡◌, ℕ, Bool, not, List, [], ◌∷◌, ◌++◌, IsTrue, Option, Some, None, bytes_eq, cond}
-use Rattle.std.specs.List.{slice_split, list_all, flat_map, find}
+use Rattle.std.specs.List.{list_all, flat_map, find}
 use Rattle.std.specs.Ordering.{nat_cmp}
 use Rattle.std.specs.declared.cmp.Ordering.{Ordering}
 use Rattle.std.specs.Cmp.Lexicographic.{slice_cmp}
 use lib.Pointwise.{pointwise}
-use Rattle.zarrs_store.specs.Segments.{is_slash}
+use Rattle.zarrs_store.specs.Segments.{is_slash, stretches}
 use Rattle.zarrs_path.specs.Names.{is_name}
+use Rattle.zarrs_fault.specs.Bytes.{slash}
 
 -- a path is a list of texts, from the root down
 abbrev pub Path : Type 0
@@ -26,11 +27,11 @@ IsPath p = IsTrue (list_all is_name p)
 
 -- each name with a slash before it
 abbrev pub names_text : Path → List ℕ
-names_text p = flat_map (λ n. 47 ∷ n) p
+names_text p = flat_map (λ n. slash ∷ n) p
 
 -- the text of a path: `/` for the root, else each name with a slash before it
 abbrev pub path_text : Path → List ℕ
-path_text [] = 47 ∷ []
+path_text [] = slash ∷ []
 path_text (n ∷ p) = names_text (n ∷ p)
 
 -- a text is that of a path: some list of names has it as its text
@@ -61,12 +62,13 @@ abbrev pub without_leading_slash : List ℕ → List ℕ
 without_leading_slash [] = []
 without_leading_slash (b ∷ bs) = cond (is_slash b) bs (b ∷ bs)
 
--- the parts of a text between its slashes; the empty text has none
+-- the stretches of a text between its slashes, and of the empty text none
 abbrev pub parts : List ℕ → List (List ℕ)
 parts [] = []
-parts (b ∷ bs) = slice_split is_slash (b ∷ bs)
+parts (b ∷ bs) = stretches (b ∷ bs)
 
--- the parts of a relative text after one leading slash: where each of them is a name, they are what the text adds to a path
+-- the parts of a relative text after one leading slash: where each of them is a name, they are what the text adds to
+-- a path
 abbrev pub relative_names : List ℕ → List (List ℕ)
 relative_names rel = parts (without_leading_slash rel)
 

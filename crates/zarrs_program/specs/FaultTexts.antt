@@ -1,4 +1,5 @@
--- The texts of why words were not read and an output was not written, as they print themselves (RFC 3629; POSIX.1-2017, `write`).
+-- The texts of why words were not read and an output was not written, as they print themselves (RFC 3629;
+-- POSIX.1-2017, `write`).
 -- <https://www.rfc-editor.org/rfc/rfc3629#section-3>
 -- <https://pubs.opengroup.org/onlinepubs/9699919799/functions/write.html>
 use Rattle.std.specs.Prelude.{ℕ, List, codes}

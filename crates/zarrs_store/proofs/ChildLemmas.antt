@@ -15,7 +15,7 @@ use Rattle.zarrs_store.specs.Segments.{Segments, bytes_cmp, key_cmp, last_segmen
 use Rattle.zarrs_store.specs.Contents.{Values, Lists, IsChildPrefix}
 use Rattle.zarrs_store.specs.Children.{IsVisibleChild, AreVisibleChildren}
 use Rattle.zarrs_store.specs.StepsOfStores.{is_visible}
-use Rattle.zarrs_store.proofs.Ascending.{strictly_from_sorted}
+use Rattle.zarrs_store.proofs.AscendingLists.{strictly_from_sorted}
 
 pub key_cmp_total : IsTotalOrder key_cmp
 key_cmp_total = lists_total nat_list_cmp_total

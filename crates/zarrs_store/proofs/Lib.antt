@@ -1,4 +1,4 @@
-pub mod Ascending
+pub mod AscendingLists
 pub mod ChildLemmas
 pub mod EntryLemmas
 pub mod BelowLemmas

@@ -1,7 +1,9 @@
--- Zarr core specification 3.1, "Abstract store interface": a store as a finite map from keys to bytes, and what its calls say of it.
+-- Zarr core specification 3.1, "Abstract store interface": a store as a finite map from keys to bytes, and what its
+-- calls say of it.
 -- <https://zarr-specs.readthedocs.io/en/latest/v3/core/index.html#abstract-store-interface>
 --     Values, Contents      what a store holds; that, and which numbers its documents may hold
---     with_key, without_key, of_entries      the store with bytes at a key, and without a key; the store of a list of entries
+--     with_key, without_key, of_entries      the store with bytes at a key, and without a key; the store of a list of
+-- entries
 --     HasKey S key, Lists P xs      the store has the key; xs has exactly the items of which P holds, each once
 --     IsKeyBelow, HasBelow      keys with segments behind a prefix; that there is one
 --     IsChildKey, HasChild, IsChildPrefix      what stands directly below a prefix

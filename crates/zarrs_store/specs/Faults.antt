@@ -5,9 +5,11 @@ use Rattle.zarrs_store.specs.Segments.{IsKeyText, IsPrefixText}
 use Rattle.zarrs_store.specs.declared.key.StoreKeyError.{StoreKeyError}
 use Rattle.zarrs_store.specs.declared.key.StoreKeyError.TheVariants.{Invalid as InvalidKey, OutOfMemory as NoKeyMemory}
 use Rattle.zarrs_store.specs.declared.prefix.StorePrefixError.{StorePrefixError}
-use Rattle.zarrs_store.specs.declared.prefix.StorePrefixError.TheVariants.{Invalid as InvalidPrefix, OutOfMemory as NoPrefixMemory}
+use Rattle.zarrs_store.specs.declared.prefix.StorePrefixError.TheVariants.{Invalid as InvalidPrefix}
+use Rattle.zarrs_store.specs.declared.prefix.StorePrefixError.TheVariants.{OutOfMemory as NoPrefixMemory}
 use Rattle.zarrs_store.specs.declared.storage_error.StorageError.{StorageError}
-use Rattle.zarrs_store.specs.declared.storage_error.StorageError.TheVariants.{Fault, InvalidMetadata, Other, OutOfMemory}
+use Rattle.zarrs_store.specs.declared.storage_error.StorageError.TheVariants.{Fault, InvalidMetadata, Other}
+use Rattle.zarrs_store.specs.declared.storage_error.StorageError.TheVariants.{OutOfMemory}
 
 -- an error that a store may answer: `Fault` only where it can fail, out of memory at any time, and no other
 abbrev pub IsStoreError : Bool → StorageError → Type 0

@@ -1,10 +1,12 @@
--- A store in memory: where keys stand among keys that ascend by the bytes of their texts, and how many comparisons find that out.
+-- A store in memory: where keys stand among keys that ascend by the bytes of their texts, and how many comparisons
+-- find that out.
 -- <https://zarr-specs.readthedocs.io/en/latest/v3/core/index.html#abstract-store-interface>
 --     text_cmp, AreAscending      the order of keys; that entries stand in it
 --     IsKeyAt, IsKeyGap, IsRange      where a key stands, where it would stand, and where the keys below a prefix stand
 --     keys_below      how many keys begin with a prefix
 --     digits      the number of binary digits of a number
-use Rattle.std.specs.Prelude.{◌≡◌, ℕ, zero, suc, ◌<◌, ◌≤◌, ◌/◌, true, false, List, length, All, filter, take, drop, slice_range, slice_index_or}
+use Rattle.std.specs.Prelude.{◌≡◌, ℕ, zero, suc, ◌<◌, ◌≤◌, ◌/◌, true, false, List, length, All, filter, take, drop}
+use Rattle.std.specs.Prelude.{slice_range, slice_index_or}
 use Rattle.std.specs.declared.cmp.Ordering.{Ordering}
 use Rattle.std.specs.declared.cmp.Ordering.TheVariants.{Less, Greater}
 use Rattle.std.specs.Ordering.{on}
@@ -33,7 +35,8 @@ pub record IsKeyGap (keys : List Segments) (key : Segments) (i : ℕ) : Type 0 w
   pub smaller : All (λ k. text_cmp k key ≡ Less) (take i keys)
   pub greater : All (λ k. text_cmp k key ≡ Greater) (drop i keys)
 
--- the keys from place `first` to before place `end` are those that begin with the prefix: none before and none behind does
+-- the keys from place `first` to before place `end` are those that begin with the prefix: none before and none behind
+-- does
 pub record IsRange (keys : List Segments) (prefix : Segments) (first end : ℕ) : Type 0 where
   pub ordered : first ≤ end
   pub inside : end ≤ length keys
@@ -45,7 +48,8 @@ pub record IsRange (keys : List Segments) (prefix : Segments) (first end : ℕ) 
 abbrev pub keys_below : Segments → List Segments → ℕ
 keys_below prefix keys = length (filter (is_below prefix) keys)
 
--- the number of binary digits of n, where that is at most `most`: of 0 it is 0, and of a greater n one more than of n / 2
+-- the number of binary digits of n, where that is at most `most`: of 0 it is 0, and of a greater n one more than of n
+-- / 2
 abbrev pub digits_up_to : ℕ → ℕ → ℕ
 digits_up_to zero n = 0
 digits_up_to (suc most) zero = 0

@@ -1,5 +1,7 @@
--- Steps of a store in memory: the keys and children below a prefix as lists that a loop makes; no public contract rests on them.
-use Rattle.std.specs.Prelude.{ℕ, Bool, true, false, List, [], ◌∷◌, ◌++◌, Option, Some, None, map, filter_map, not, IsTrue}
+-- Steps of a store in memory: the keys and children below a prefix as lists that a loop makes; no public contract
+-- rests on them.
+use Rattle.std.specs.Prelude.{ℕ, Bool, true, false, List, [], ◌∷◌, ◌++◌, Option, Some, None, map, filter_map, not}
+use Rattle.std.specs.Prelude.{IsTrue}
 use Rattle.std.specs.List.{dedup, list_all}
 use Rattle.zarrs_store.specs.Segments.{Segments, bytes_eq, is_reserved, last_segment, is_segment}
 use Rattle.zarrs_store.specs.Entries.{beyond}

@@ -13,10 +13,10 @@ use Rattle.zarrs_path.specs.Names.{IsName, is_name}
 use Rattle.zarrs_path.specs.Paths.{Path, IsParent, IsPath, path_cmp, path_eq, relative_names}
 use Rattle.zarrs_path.specs.PathOrder.{path_decides, path_total}
 use Rattle.zarrs_path.proofs.LawProofs.{relative_one}
-use Rattle.zarrs_form.proofs.Shared.{take_next}
+use Rattle.zarrs_form.proofs.MemberLists.{take_next}
 use Rattle.zarrs_node.specs.Faults.{PathsAscend}
-use Rattle.zarrs_node.proofs.Found.{all_pairs_append}
-use Rattle.zarrs_node.proofs.Graft.{Contains-first}
+use Rattle.zarrs_node.proofs.ListedItems.{all_pairs_append}
+use Rattle.zarrs_node.proofs.ForestsBeside.{Contains-first}
 use Rattle.zarrs_node.proofs.Order.{contains_cases}
 use Rattle.zarrs_node.proofs.Unique.{names_irrefl}
 use Rattle.zarrs_survey.specs.Alike.{AreAlike, IsAlike, AreAlikeAmong}

@@ -10,12 +10,13 @@ use Rattle.zarrs_path.specs.Paths.{Path, IsPath, IsBelow, path_cmp, relative_nam
 use Rattle.zarrs_meta.specs.declared.node.NodeMetadata.{NodeMetadata}
 use Rattle.zarrs_block.specs.Block.{Block, IsAscending, IsValidKey, HasValidKeys, node_at_key, first_some, entry, Entries}
 use Rattle.zarrs_node.specs.Reach.{HasGroup}
-use Rattle.zarrs_node.proofs.Found.{listed_each, all_pairs_append}
-use Rattle.zarrs_node.proofs.Graft.{Contains-first, Contains-cons}
-use Rattle.zarrs_node.proofs.Keeps.{below_later}
+use Rattle.zarrs_node.proofs.ListedItems.{listed_each, all_pairs_append}
+use Rattle.zarrs_node.proofs.ForestsBeside.{Contains-first, Contains-cons}
+use Rattle.zarrs_node.proofs.KeptOfLists.{below_later}
 use Rattle.zarrs_node.proofs.Order.{contains_cases}
 use Rattle.zarrs_survey.specs.Checks.{own_finding}
-use Rattle.zarrs_survey.specs.Findings.{Pair, HasPath, IsCutOff, IsSpoilt, IsPathFinding, IsKeyFinding, IsFinding, Precedes, rank_of}
+use Rattle.zarrs_survey.specs.Findings.{HasPath, IsCutOff, IsSpoilt, IsPathFinding, IsKeyFinding, IsFinding, Precedes, rank_of}
+use Rattle.zarrs_block.specs.Meaning.{Pair}
 use Rattle.zarrs_survey.specs.StepsOfChecks.{AreTold}
 use Rattle.zarrs_survey.specs.StepsOfComparing.{ArePathFindings, IsBadAmong, IsRidOf, findings_at, key_findings, own_findings, own_kind}
 use Rattle.zarrs_survey.specs.declared.finding.Finding.{Finding}

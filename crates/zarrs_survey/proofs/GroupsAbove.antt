@@ -10,11 +10,12 @@ use Rattle.zarrs_block.specs.Meaning.{meaning, node}
 use Rattle.zarrs_block.specs.declared.consolidated.ConsolidatedMetadata.{ConsolidatedMetadata}
 use Rattle.zarrs_node.specs.Exists.{HasNodeKey}
 use Rattle.zarrs_node.proofs.Child.{node_same}
-use Rattle.zarrs_node.proofs.Found.{all_pairs_append}
-use Rattle.zarrs_node.proofs.Keeps.{below_later, below_trans, not_below_itself}
+use Rattle.zarrs_node.proofs.ListedItems.{all_pairs_append}
+use Rattle.zarrs_node.proofs.KeptOfLists.{below_later, below_trans, not_below_itself}
 use Rattle.zarrs_survey.specs.BlocksAbove.{HasNodeFrom, HasBadFrom, IsAboveFinding, AreAboveFindings}
 use Rattle.zarrs_survey.specs.Checks.{block_read, StandsBefore}
-use Rattle.zarrs_survey.specs.Findings.{Pair, IsAtOrAbove, IsPathFinding, IsSpoilt}
+use Rattle.zarrs_survey.specs.Findings.{IsAtOrAbove, IsPathFinding, IsSpoilt}
+use Rattle.zarrs_block.specs.Meaning.{Pair}
 use Rattle.zarrs_survey.specs.Laws.{NothingIsAboveRoot}
 use Rattle.zarrs_survey.specs.StepsOfBlocksAbove.{AreFoundBelow, ArePartFindings, IsGoodBlock, IsNextAbove, IsPartOf, IsBelowNext}
 use Rattle.zarrs_survey.specs.StepsOfChecks.{HasBad}

@@ -17,7 +17,7 @@ use Rattle.zarrs_block.specs.Block.{Block, IsAscending, IsValidKey, node_at_key}
 use Rattle.zarrs_block.specs.BlockExpansion.{is_covered}
 use Rattle.zarrs_block.proofs.Expansion.{found_all}
 use Rattle.zarrs_block.proofs.KeyLaws.{names_of_key, valid_of_names}
-use Rattle.zarrs_node.proofs.Graft.{Contains-first, Contains-cons}
+use Rattle.zarrs_node.proofs.ForestsBeside.{Contains-first, Contains-cons}
 use Rattle.zarrs_node.proofs.Order.{contains_cases}
 use Rattle.zarrs_survey.specs.Findings.{IsKeyFinding, key_of, rank_of, Precedes}
 use Rattle.zarrs_survey.specs.StepsOfComparing.{findings_at, key_kind, key_findings}

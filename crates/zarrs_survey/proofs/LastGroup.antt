@@ -6,13 +6,14 @@ use Rattle.zarrs_path.proofs.PathTexts.{last_name}
 use Rattle.zarrs_meta.specs.Node.{is_group}
 use Rattle.zarrs_node.specs.Order.{Ascend}
 use Rattle.zarrs_node.specs.Reach.{HasGroup}
-use Rattle.zarrs_node.proofs.Graft.{Contains-first, Contains-cons}
+use Rattle.zarrs_node.proofs.ForestsBeside.{Contains-first, Contains-cons}
 use Rattle.zarrs_node.proofs.Order.{contains_cases}
-use Rattle.zarrs_node.proofs.Keeps.{below_later, below_trans, not_below_itself, above_child, none_between, between_below}
-use Rattle.zarrs_survey.specs.Findings.{Pair, IsAtOrAbove}
+use Rattle.zarrs_node.proofs.KeptOfLists.{below_later, below_trans, not_below_itself, above_child, none_between, between_below}
+use Rattle.zarrs_survey.specs.Findings.{IsAtOrAbove}
+use Rattle.zarrs_block.specs.Meaning.{Pair}
 use Rattle.zarrs_survey.specs.StepsOfComparing.{HangsFrom}
 use Rattle.zarrs_survey.specs.StepsOfMerging.{IsBeforeAll, IsLastGroup, IsReachable}
-use Rattle.zarrs_survey.proofs.Merging.{not_before, first_before}
+use Rattle.zarrs_survey.proofs.MergedPairs.{not_before, first_before}
 use Rattle.zarrs_survey.proofs.Above.{same_or_not, at_itself, at_or_above, above_up, up_cases, goes_through}
 
 -- before the first entry it is the base

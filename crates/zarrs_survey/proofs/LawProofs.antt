@@ -8,14 +8,14 @@ use Rattle.zarrs_path.proofs.PathTexts.{IsPath-append, IsPath-parts}
 use Rattle.zarrs_node.specs.Forest.{pairs}
 use Rattle.zarrs_node.specs.Nodes.{MeansNode}
 use Rattle.zarrs_node.specs.Reach.{Kept}
-use Rattle.zarrs_node.proofs.Found.{listed_each}
-use Rattle.zarrs_node.proofs.Graft.{Contains-first}
-use Rattle.zarrs_node.proofs.Keeps.{below_trans}
+use Rattle.zarrs_node.proofs.ListedItems.{listed_each}
+use Rattle.zarrs_node.proofs.ForestsBeside.{Contains-first}
+use Rattle.zarrs_node.proofs.KeptOfLists.{below_trans}
 use Rattle.zarrs_node.proofs.Order.{shown_ascend}
 use Rattle.zarrs_node.proofs.Unique.{names_irrefl}
-use Rattle.zarrs_survey.specs.Findings.{Pair}
+use Rattle.zarrs_block.specs.Meaning.{Pair}
 use Rattle.zarrs_survey.specs.Laws.{NothingBadIsTold, RefusalsAreTold, ListingIsSurveyed, GroupsAreSurveyed}
-use Rattle.zarrs_survey.proofs.Merging.{same_list}
+use Rattle.zarrs_survey.proofs.MergedPairs.{same_list}
 
 -- an empty list has nothing
 nothing_in : {A : Type 0} (xs : List A) (x : A) → xs ≡ [] → Contains xs x → ⊥

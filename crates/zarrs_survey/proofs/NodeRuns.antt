@@ -11,15 +11,15 @@ use Rattle.zarrs_path.proofs.LawProofs.{equal_order}
 use Rattle.zarrs_meta.specs.Node.{is_group}
 use Rattle.zarrs_node.specs.Order.{Ascend}
 use Rattle.zarrs_node.specs.Reach.{HasGroup}
-use Rattle.zarrs_node.proofs.Keeps.{below_later, between_below}
-use Rattle.zarrs_node.proofs.Found.{all_pairs_first, all_pairs_tail}
+use Rattle.zarrs_node.proofs.KeptOfLists.{below_later, between_below}
+use Rattle.zarrs_node.proofs.ListedItems.{all_pairs_first, all_pairs_tail}
 use Rattle.zarrs_node.proofs.Order.{contains_cases}
 use Rattle.zarrs_node.proofs.Unique.{names_irrefl}
-use Rattle.zarrs_survey.specs.Findings.{Pair}
+use Rattle.zarrs_block.specs.Meaning.{Pair}
 use Rattle.zarrs_survey.specs.StepsOfComparing.{IsPlaceBehind, StandBehind}
 use Rattle.zarrs_survey.proofs.Above.{earlier_after}
-use Rattle.zarrs_survey.proofs.Halving.{IsGap}
-use Rattle.zarrs_survey.proofs.Merging.{only_one}
+use Rattle.zarrs_survey.proofs.PathSearch.{IsGap}
+use Rattle.zarrs_survey.proofs.MergedPairs.{only_one}
 
 -- no two paths stand before each other
 not_both : (p q : Path) → path_cmp p q ≡ Less → path_cmp q p ≡ Less → ⊥

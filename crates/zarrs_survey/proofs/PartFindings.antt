@@ -5,9 +5,10 @@ use Rattle.zarrs_path.specs.Paths.{Path, IsBelow}
 use Rattle.zarrs_block.specs.Block.{Block, Entries}
 use Rattle.zarrs_block.specs.declared.node_create_error.NodeCreateError.{NodeCreateError}
 use Rattle.zarrs_node.specs.Order.{Ascend}
-use Rattle.zarrs_node.proofs.Counted.{filter_holds, filter_keeps}
+use Rattle.zarrs_node.proofs.FlatForests.{filter_holds, filter_keeps}
 use Rattle.zarrs_node.proofs.Lasts.{contains_filtered}
-use Rattle.zarrs_survey.specs.Findings.{Pair, IsAtOrAbove, Precedes}
+use Rattle.zarrs_survey.specs.Findings.{IsAtOrAbove, Precedes}
+use Rattle.zarrs_block.specs.Meaning.{Pair}
 use Rattle.zarrs_survey.specs.StepsOfBlocksAbove.{ArePartFindings, IsEndFrom}
 use Rattle.zarrs_survey.specs.StepsOfChecks.{HasBad}
 use Rattle.zarrs_survey.specs.StepsOfComparing.{ArePathFindings}
@@ -16,8 +17,8 @@ use Rattle.zarrs_survey.specs.declared.comparison.Comparison.{Comparison}
 use Rattle.zarrs_survey.specs.declared.finding.Finding.{Finding}
 use Rattle.zarrs_survey.proofs.Above.{at_itself, at_or_above, up_cases, below_or_not, same_or_not}
 use Rattle.zarrs_survey.proofs.Blocks.{finding_same}
-use Rattle.zarrs_survey.proofs.Comparing.{by_end}
-use Rattle.zarrs_survey.proofs.Taking.{HasCompared}
+use Rattle.zarrs_survey.proofs.ComparisonSteps.{by_end}
+use Rattle.zarrs_survey.proofs.TakenNodes.{HasCompared}
 use Rattle.zarrs_survey.proofs.UnderWay.{settled_part}
 
 -- ---- at or below a path

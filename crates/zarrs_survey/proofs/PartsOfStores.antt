@@ -15,20 +15,21 @@ use Rattle.zarrs_node.specs.Nodes.{Nodes}
 use Rattle.zarrs_node.specs.Order.{Ascend}
 use Rattle.zarrs_node.proofs.BadDocuments.{IsOfDocument, bad_by_document}
 use Rattle.zarrs_node.proofs.Child.{node_same}
-use Rattle.zarrs_node.proofs.Found.{all_pairs_append, listed_each}
-use Rattle.zarrs_node.proofs.Graft.{Contains-first}
-use Rattle.zarrs_node.proofs.Keeps.{below_later, not_below_itself}
+use Rattle.zarrs_node.proofs.ListedItems.{all_pairs_append, listed_each}
+use Rattle.zarrs_node.proofs.ForestsBeside.{Contains-first}
+use Rattle.zarrs_node.proofs.KeptOfLists.{below_later, not_below_itself}
 use Rattle.zarrs_node.proofs.Order.{contains_cases}
 use Rattle.zarrs_survey.specs.Apart.{AreApart}
 use Rattle.zarrs_survey.specs.BlocksAbove.{HasNodeFrom, MeansNoArray}
-use Rattle.zarrs_survey.specs.Findings.{Pair, IsAtOrAbove}
+use Rattle.zarrs_survey.specs.Findings.{IsAtOrAbove}
+use Rattle.zarrs_block.specs.Meaning.{Pair}
 use Rattle.zarrs_survey.specs.StepsOfBlocksAbove.{IsPartOf, bad_base, is_array_base, is_missing}
 use Rattle.zarrs_survey.specs.StepsOfChecks.{HasBad}
 use Rattle.zarrs_survey.specs.StepsOfTaking.{base_nodes}
 use Rattle.zarrs_survey.specs.Surveys.{BadDocuments, IsBase}
 use Rattle.zarrs_survey.specs.declared.blocks_above.PartOfStore.{PartOfStore}
 use Rattle.zarrs_survey.proofs.Above.{above_up}
-use Rattle.zarrs_survey.proofs.Taking.{IsNode, base_in, base_out, base_path, one_base}
+use Rattle.zarrs_survey.proofs.TakenNodes.{IsNode, base_in, base_out, base_path, one_base}
 
 -- a path with its bad document
 abbrev PathError : Type 0

@@ -4,9 +4,9 @@ use Rattle.std.proofs.Common.{Option, Some, append_assoc, ◌-◌, ◌≡◌, �
 use Rattle.std.proofs.lemmas.Bool.Decides.{eqb_tells}
 use Rattle.std.proofs.lemmas.Grind.{get_or_default_zero}
 use Rattle.std.proofs.lemmas.List.{get_or-set_same, get_or-set_other, get_or_push, length-set, length_push}
-use Rattle.zarrs_node.proofs.Graft.{Contains-first, Contains-cons}
+use Rattle.zarrs_node.proofs.ForestsBeside.{Contains-first, Contains-cons}
 use Rattle.zarrs_node.proofs.Order.{contains_cases}
-use Rattle.zarrs_survey.specs.Findings.{Pair}
+use Rattle.zarrs_block.specs.Meaning.{Pair}
 use Rattle.zarrs_survey.specs.StepsOfComparisons.{IsNextBelow}
 use Rattle.zarrs_survey.specs.StepsOfTaking.{PlacesAscend, AreCompared}
 use Rattle.zarrs_survey.specs.declared.comparison.Comparison.{Comparison}

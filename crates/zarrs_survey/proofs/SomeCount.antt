@@ -15,13 +15,13 @@ use Rattle.zarrs_path.specs.Paths.{Path, IsPath, IsBelow, path_eq}
 use Rattle.zarrs_path.specs.PathOrder.{path_decides}
 use Rattle.zarrs_path.proofs.PathTexts.{last_name}
 use Rattle.zarrs_path.proofs.LawProofs.{same_fronts}
-use Rattle.zarrs_node.proofs.Found.{lists_from, listed_each}
-use Rattle.zarrs_node.proofs.Graft.{Contains-first, Contains-cons}
+use Rattle.zarrs_node.proofs.ListedItems.{lists_from, listed_each}
+use Rattle.zarrs_node.proofs.ForestsBeside.{Contains-first, Contains-cons}
 use Rattle.zarrs_node.proofs.Order.{contains_cases}
 use Rattle.zarrs_survey.specs.Orphans.{IsNodeBelow, IsCountBelow}
 use Rattle.zarrs_survey.specs.StepsOfOrphans.{IsNodeFile, IsNodeKey, IsKeyedPath, IsKeyedBelow}
 use Rattle.zarrs_survey.proofs.Above.{below_or_not}
-use Rattle.zarrs_survey.proofs.Counting.{level_same, document_key, some_document}
+use Rattle.zarrs_survey.proofs.DocumentCounts.{level_same, document_key, some_document}
 
 -- a test passes or fails
 pub passes_or_not : (t : Bool) → IsTrue t ⊎ (IsTrue t → ⊥)

@@ -9,10 +9,11 @@ use Rattle.zarrs_path.specs.Paths.{Path, path_cmp, IsBelow}
 use Rattle.zarrs_meta.specs.Node.{is_group}
 use Rattle.zarrs_meta.specs.declared.node.NodeMetadata.{NodeMetadata}
 use Rattle.zarrs_block.specs.declared.node_create_error.NodeCreateError.{NodeCreateError}
-use Rattle.zarrs_node.proofs.Found.{all_pairs_first, all_pairs_tail, all_pairs_append}
-use Rattle.zarrs_node.proofs.Graft.{Contains-first, Contains-cons}
+use Rattle.zarrs_node.proofs.ListedItems.{all_pairs_first, all_pairs_tail, all_pairs_append}
+use Rattle.zarrs_node.proofs.ForestsBeside.{Contains-first, Contains-cons}
 use Rattle.zarrs_node.proofs.Order.{contains_cases}
-use Rattle.zarrs_survey.specs.Findings.{Pair, IsAtOrAbove, IsSpoilt, IsPathFinding, Precedes, key_of, rank_of}
+use Rattle.zarrs_survey.specs.Findings.{IsAtOrAbove, IsSpoilt, IsPathFinding, Precedes, key_of, rank_of}
+use Rattle.zarrs_block.specs.Meaning.{Pair}
 use Rattle.zarrs_survey.specs.StepsOfBlocksAbove.{ArePartFindings}
 use Rattle.zarrs_survey.specs.StepsOfChecks.{HasBad}
 use Rattle.zarrs_survey.specs.StepsOfComparing.{ArePathFindings, AreBelow, HangsFrom, IsBeforeFirst, IsPairKind, cut_kind, findings_at}
@@ -23,7 +24,7 @@ use Rattle.zarrs_survey.specs.declared.finding.Finding.{Finding}
 use Rattle.zarrs_survey.specs.declared.finding.FindingKind.{FindingKind}
 use Rattle.zarrs_survey.specs.declared.finding.FindingKind.TheVariants.{BlockFault, BadKey, Shadowed, OwnKey, OwnAttributes, Unreachable, Stale, Unreached, Differs, Missing}
 use Rattle.zarrs_survey.proofs.Above.{earlier_after}
-use Rattle.zarrs_survey.proofs.Comparing.{finding, entry_turn, node_turn, both_turn, by_end}
+use Rattle.zarrs_survey.proofs.ComparisonSteps.{finding, entry_turn, node_turn, both_turn, by_end}
 use Rattle.zarrs_survey.proofs.LastGroup.{group_or_not}
 
 -- ---- what comes first

@@ -1,4 +1,5 @@
--- Zarr core specification 3.1, "Node names": names that differ in case alone, which a file system that takes no note of case takes for one.
+-- Zarr core specification 3.1, "Node names": names that differ in case alone, which a file system that takes no note
+-- of case takes for one.
 -- <https://zarr-specs.readthedocs.io/en/latest/v3/core/index.html#node-names>
 --     AreAlike p q      two paths of one group whose names are the same but for the case of the letters from A to Z
 --     IsAlike N t      a path of N, and the last one before it that is alike
@@ -10,7 +11,9 @@ use Rattle.zarrs_path.specs.Paths.{Path, path_cmp}
 
 -- both are of one group, and their names are the same but for the case of the letters from A to Z
 abbrev pub AreAlike : Path → Path → Type 0
-AreAlike p q = (g : Path) × (x y : List ℕ) × (p ≡ g ++ x ∷ []) × (q ≡ g ++ y ∷ []) × (map to_ascii_lowercase x ≡ map to_ascii_lowercase y)
+AreAlike p q =
+    (g : Path) × (x y : List ℕ) × (p ≡ g ++ x ∷ []) × (q ≡ g ++ y ∷ [])
+    × (map to_ascii_lowercase x ≡ map to_ascii_lowercase y)
 
 -- the first path of the pair is one of N, and the second one is the last before it that is alike
 pub record IsAlike (N : Path → Type 0) (t : Path × Path) : Type 0 where

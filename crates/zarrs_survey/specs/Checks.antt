@@ -1,14 +1,18 @@
--- Zarr core specification 3.1, "Group metadata", the field `consolidated_metadata`, and the document `.zmetadata` of version 2: what there is to tell of all blocks of a store at a path and below it.
+-- Zarr core specification 3.1, "Group metadata", the field `consolidated_metadata`, and the document `.zmetadata` of
+-- version 2: what there is to tell of all blocks of a store at a path and below it.
 -- <https://zarr-specs.readthedocs.io/en/latest/v3/core/index.html#group-metadata>
 -- <https://zarr.readthedocs.io/en/stable/user-guide/consolidated_metadata/>
 --     block_read s p m      what is read as the block of a node: nothing, or a block, or its first fault
 --     own_read s p m      the attributes that the document of a block has of its own group, if it has some
 --     HasNode s v b e       the base with its metadata, or a node below it
 --     IsBlockFinding s v b f      what there is to tell of the blocks
---     AreBlockFindings s v b found      the findings are exactly what there is to tell of the blocks, each once, in the order of groups, paths, kinds and keys
+--     AreBlockFindings s v b found      the findings are exactly what there is to tell of the blocks, each once, in
+-- the order of groups, paths, kinds and keys
 --     IsNodeTold s v b t      what there is to tell of nodes by their own documents
---     IsCheckOf s v b c      the check has the outcome of the base, the number of the nodes, what was passed over and what is bad
-use Rattle.std.specs.Prelude.{◌≡◌, ◌≢◌, ◌⊎◌, ◌↔◌, true, ℕ, length, List, [], ◌∷◌, ◌++◌, AllPairs, Contains, Option, Some, None, option_map, option_and_then, Result, Ok, Err, codes}
+--     IsCheckOf s v b c      the check has the outcome of the base, the number of the nodes, what was passed over and
+-- what is bad
+use Rattle.std.specs.Prelude.{◌≡◌, ◌≢◌, ◌⊎◌, ◌↔◌, true, ℕ, length, List, [], ◌∷◌, ◌++◌, AllPairs, Contains, Option}
+use Rattle.std.specs.Prelude.{Some, None, option_map, option_and_then, Result, Ok, Err, codes}
 use Rattle.std.specs.declared.cmp.Ordering.TheVariants.{Less}
 use Rattle.std.specs.FinMap.{get}
 use Rattle.std.specs.Result.{result_ok}
@@ -37,17 +41,21 @@ use Rattle.zarrs_node.specs.Exists.{HasNodeKey}
 use Rattle.zarrs_notes.specs.NodeFindings.{ComesBefore, IsNodeFinding}
 use Rattle.zarrs_notes.specs.declared.finding.NodeFinding.{NodeFinding}
 use Rattle.zarrs_survey.specs.Alike.{AreAlikeAmong}
-use Rattle.zarrs_survey.specs.Findings.{Pair, IsFinding, Precedes}
+use Rattle.zarrs_survey.specs.Findings.{IsFinding, Precedes}
+use Rattle.zarrs_block.specs.Meaning.{Pair}
 use Rattle.zarrs_survey.specs.Orphans.{IsOrphan, AreHidden}
 use Rattle.zarrs_survey.specs.Surveys.{IsBase, BadDocuments, BadNames}
 use Rattle.zarrs_survey.specs.declared.check.Check.{Check}
 use Rattle.zarrs_survey.specs.declared.finding.Finding.{Finding}
 use Rattle.zarrs_survey.specs.declared.finding.FindingKind.TheVariants.{BlockFault, OwnAttributes}
 
--- what is read as the block of a node, in the numbers of the store: of a version 3 group its field, of one of version 2 the document beside its own; an array has none
+-- what is read as the block of a node, in the numbers of the store: of a version 3 group its field, of one of version
+-- 2 the document beside its own; an array has none
 abbrev pub block_read : Contents → Path → NodeMetadata → Option (Result Block MetadataFault)
-block_read s p (Group (V3 g)) = option_map (block_of_in s.numbers) (get_member (codes "consolidated_metadata") g.additional_fields)
-block_read s p (Group (V2 g)) = option_map (λ bytes. of_bytes (zmetadata_in s.numbers) bytes) (get s.values (p ++ zmetadata ∷ []))
+block_read s p (Group (V3 g)) =
+    option_map (block_of_in s.numbers) (get_member (codes "consolidated_metadata") g.additional_fields)
+block_read s p (Group (V2 g)) =
+    option_map (λ bytes. of_bytes (zmetadata_in s.numbers) bytes) (get s.values (p ++ zmetadata ∷ []))
 block_read s p (Array a) = None
 
 -- what was read as a block, as it is seen
@@ -69,13 +77,18 @@ attributes_meant (node m) = Some (node_attributes m)
 attributes_meant nothing = None
 attributes_meant (bad e) = None
 
--- the attributes that a document `.zmetadata`, which may hold these numbers, has of its own group: those of the node that its members mean at the group itself, if they mean one
+-- the attributes that a document `.zmetadata`, which may hold these numbers, has of its own group: those of the node
+-- that its members mean at the group itself, if they mean one
 abbrev pub own_attributes_in : Numbers → Data → Option Members
-own_attributes_in numbers d = option_and_then (λ ms. attributes_meant (small_meaning_in numbers (small [] ms) [])) (result_ok (zmetadata_members_in numbers d))
+own_attributes_in numbers d =
+    option_and_then (λ ms. attributes_meant (small_meaning_in numbers (small [] ms) []))
+        (result_ok (zmetadata_members_in numbers d))
 
--- the attributes that the document of the block of a node has of it, if it has some, in the numbers of the store: of a version 2 group alone the block has a document
+-- the attributes that the document of the block of a node has of it, if it has some, in the numbers of the store: of
+-- a version 2 group alone the block has a document
 abbrev pub own_read : Contents → Path → NodeMetadata → Option Members
-own_read s p (Group (V2 g)) = option_and_then (own_attributes_in s.numbers) (option_and_then json_of (get s.values (p ++ zmetadata ∷ [])))
+own_read s p (Group (V2 g)) =
+    option_and_then (own_attributes_in s.numbers) (option_and_then json_of (get s.values (p ++ zmetadata ∷ [])))
 own_read s p (Group (V3 g)) = None
 own_read s p (Array a) = None
 
@@ -99,22 +112,29 @@ fault_of_block g fault = record { group = g; path = g; kind = BlockFault fault }
 abbrev pub own_finding : Path → Finding
 own_finding g = record { group = g; path = g; kind = OwnAttributes }
 
--- what there is to tell of what was read as the block of g, where O says that its document has other attributes of g, beside the nodes N, the bad documents F and all documents D
-abbrev pub IsToldOf : Option (Result Block MetadataFault) → Type 0 → (Pair → Type 0) → (Path → Type 0) → (Path → Type 0) → Path → Finding → Type 0
+-- what there is to tell of what was read as the block of g, where O says that its document has other attributes of g,
+-- beside the nodes N, the bad documents F and all documents D
+abbrev pub IsToldOf : Option (Result Block MetadataFault) → Type 0 → (Pair → Type 0) → (Path → Type 0) → (Path → Type 0)
+    → Path → Finding → Type 0
 IsToldOf None O N F D g f = ⊥
 IsToldOf (Some (Err fault)) O N F D g f = f ≡ fault_of_block g fault
 IsToldOf (Some (Ok B)) O N F D g f = IsFinding B N F D g f ⊎ (O × (f ≡ own_finding g))
 
 -- what there is to tell of the blocks of a store at b and below it
 abbrev pub IsBlockFinding : Contents → MetadataRetrieveVersion → Path → Finding → Type 0
-IsBlockFinding s v b f = (m : NodeMetadata) × HasNode s v b (f.group, m) × IsToldOf (block_read s f.group m) (HasOtherAttributes s f.group m) (Nodes s v true b) (HasBadPath s v b) (HasNodeKey s) f.group f
+IsBlockFinding s v b f =
+    (m : NodeMetadata) × HasNode s v b (f.group, m)
+    × IsToldOf (block_read s f.group m) (HasOtherAttributes s f.group m) (Nodes s v true b) (HasBadPath s v b)
+        (HasNodeKey s) f.group f
 
 -- a finding stands before another: its group does, or of one group it precedes the other
 abbrev pub StandsBefore : Finding → Finding → Type 0
 StandsBefore f h = (path_cmp f.group h.group ≡ Less) ⊎ ((f.group ≡ h.group) × Precedes f h)
 
--- the findings are exactly what there is to tell of the blocks at b and below it, each once, in the order of groups, paths, kinds and keys
-pub record AreBlockFindings (s : Contents) (v : MetadataRetrieveVersion) (b : Path) (found : List Finding) : Type 0 where
+-- the findings are exactly what there is to tell of the blocks at b and below it, each once, in the order of groups,
+-- paths, kinds and keys
+pub record AreBlockFindings (s : Contents) (v : MetadataRetrieveVersion) (b : Path)
+    (found : List Finding) : Type 0 where
   pub exact : (f : Finding) → Contains found f ↔ IsBlockFinding s v b f
   pub ascend : AllPairs StandsBefore found
 
@@ -143,9 +163,12 @@ HasNodeAt s v b p = (m : NodeMetadata) × HasNode s v b (p, m)
 abbrev pub IsCount : (Pair → Type 0) → ℕ → Type 0
 IsCount P n = (es : List Pair) × Lists P es × (n ≡ length es)
 
--- Of the store at b and below it the check has exactly these: whether the base is a node or why it is none, the number of the nodes,
--- the ignored paths, and how many paths with documents are below them, the bad documents, and how many are below them, the bad names, and what there is
--- to tell of nodes by their own documents, and the nodes whose names differ in case alone. What it tells of blocks is said by `AreBlockFindings`.
+-- Of the store at b and below it the check has exactly these: whether the base is a node or why it is none, the
+-- number of the nodes,
+-- the ignored paths, and how many paths with documents are below them, the bad documents, and how many are below
+-- them, the bad names, and what there is
+-- to tell of nodes by their own documents, and the nodes whose names differ in case alone. What it tells of blocks is
+-- said by `AreBlockFindings`.
 pub record IsCheckOf (s : Contents) (v : MetadataRetrieveVersion) (b : Path) (c : Check) : Type 0 where
   pub path : c.path ≡ b
   pub base : IsBaseOutcome s v b c.base

@@ -1,4 +1,5 @@
--- Zarr core specification 3.1, "Group metadata", the field `consolidated_metadata`, and the document `.zmetadata` of version 2: what there is to tell of the block of a group beside the nodes below it.
+-- Zarr core specification 3.1, "Group metadata", the field `consolidated_metadata`, and the document `.zmetadata` of
+-- version 2: what there is to tell of the block of a group beside the nodes below it.
 -- <https://zarr-specs.readthedocs.io/en/latest/v3/core/index.html#group-metadata>
 -- <https://zarr.readthedocs.io/en/stable/user-guide/consolidated_metadata/>
 --     E, N      the entries of a block below its group, and the nodes of a survey, each any pairs of path and metadata
@@ -7,7 +8,8 @@
 --     g         the path of the group
 --     IsPathFinding E N F D g p kind      what is to be told of the entry or the node at p
 --     IsFinding B N F D g f      what is to be told of a block
---     AreFindings B N F D g found      the findings are exactly what is to be told of a block, each once, in the order of paths, kinds and keys
+--     AreFindings B N F D g found      the findings are exactly what is to be told of a block, each once, in the
+-- order of paths, kinds and keys
 use Rattle.std.specs.Prelude.{◌≡◌, ◌<◌, ◌≢◌, ◌⊎◌, ◌↔◌, ℕ, List, [], ◌∷◌, ◌++◌, AllPairs, Contains, IsSome}
 use Rattle.std.specs.declared.cmp.Ordering.TheVariants.{Less}
 use Rattle.zarrs_store.specs.Segments.{bytes_cmp}
@@ -18,11 +20,10 @@ use Rattle.zarrs_compare.specs.Same.{IsSame}
 use Rattle.zarrs_node.specs.Reach.{HasGroup}
 use Rattle.zarrs_survey.specs.declared.finding.Finding.{Finding}
 use Rattle.zarrs_survey.specs.declared.finding.FindingKind.{FindingKind}
-use Rattle.zarrs_survey.specs.declared.finding.FindingKind.TheVariants.{BlockFault, BadKey, Shadowed, OwnKey, OwnAttributes, Unreachable, Stale, Unreached, Differs, Missing}
-
--- a path with metadata
-abbrev pub Pair : Type 0
-Pair = Path × NodeMetadata
+use Rattle.zarrs_survey.specs.declared.finding.FindingKind.TheVariants.{BlockFault, BadKey, Shadowed, OwnKey}
+use Rattle.zarrs_survey.specs.declared.finding.FindingKind.TheVariants.{OwnAttributes, Unreachable, Stale, Unreached}
+use Rattle.zarrs_survey.specs.declared.finding.FindingKind.TheVariants.{Differs, Missing}
+use Rattle.zarrs_fault.specs.Bytes.{slash}
 
 -- some pair has the path
 abbrev pub HasPath : (Pair → Type 0) → Path → Type 0
@@ -41,7 +42,8 @@ abbrev pub IsSpoilt : (Path → Type 0) → Path → Type 0
 IsSpoilt F p = (q : Path) × F q × IsAtOrAbove q p
 
 -- what is to be told of the entry or of the node at p
-abbrev pub IsPathFinding : (Pair → Type 0) → (Pair → Type 0) → (Path → Type 0) → (Path → Type 0) → Path → Path → FindingKind → Type 0
+abbrev pub IsPathFinding : (Pair → Type 0) → (Pair → Type 0) → (Path → Type 0) → (Path → Type 0) → Path → Path
+    → FindingKind → Type 0
 -- an entry, and some path strictly between is no group entry
 IsPathFinding E N F D g p Unreachable = HasPath E p × IsCutOff E g p
 -- an entry, and neither a node nor a document; where a document at or above it is bad nothing is known of it
@@ -63,13 +65,15 @@ IsPathFinding E N F D g p OwnAttributes = ⊥
 abbrev pub IsBadKey : Block → List ℕ → Type 0
 IsBadKey B t = IsSome (node_at_key B t) × (IsValidKey t → ⊥)
 
--- a key of the block begins with a slash, and the block has what stands behind that, which is some path: it does not count
+-- a key of the block begins with a slash, and the block has what stands behind that, which is some path: it does not
+-- count
 abbrev pub IsShadowed : Block → List ℕ → Type 0
-IsShadowed B t = (u : List ℕ) × (t ≡ 47 ∷ u) × (u ≢ []) × IsValidKey t × IsSome (node_at_key B t) × IsSome (node_at_key B u)
+IsShadowed B t =
+    (u : List ℕ) × (t ≡ slash ∷ u) × (u ≢ []) × IsValidKey t × IsSome (node_at_key B t) × IsSome (node_at_key B u)
 
 -- a key of the block is empty or one slash, which is the group itself
 abbrev pub IsOwnKey : Block → List ℕ → Type 0
-IsOwnKey B t = ((t ≡ []) ⊎ (t ≡ 47 ∷ [])) × IsSome (node_at_key B t)
+IsOwnKey B t = ((t ≡ []) ⊎ (t ≡ slash ∷ [])) × IsSome (node_at_key B t)
 
 -- what is to be told of the keys of a block; its path is the group's
 abbrev pub IsKeyFinding : Block → Path → Path → FindingKind → Type 0
@@ -80,7 +84,8 @@ IsKeyFinding B g p _ = ⊥
 
 -- what is to be told of a block that reads
 abbrev pub IsFinding : Block → (Pair → Type 0) → (Path → Type 0) → (Path → Type 0) → Path → Finding → Type 0
-IsFinding B N F D g f = (f.group ≡ g) × (IsKeyFinding B g f.path f.kind ⊎ IsPathFinding (Entries B g) N F D g f.path f.kind)
+IsFinding B N F D g f =
+    (f.group ≡ g) × (IsKeyFinding B g f.path f.kind ⊎ IsPathFinding (Entries B g) N F D g f.path f.kind)
 
 -- the key that a finding is of, and nothing where it is of a path
 abbrev pub key_of : FindingKind → List ℕ
@@ -89,7 +94,8 @@ key_of (Shadowed t) = t
 key_of (OwnKey t) = t
 key_of _ = []
 
--- the rank of a kind among those of one path: first what is told of a whole block or of a key, then the own attributes, then whether an entry is cut off, and then what the store has there
+-- the rank of a kind among those of one path: first what is told of a whole block or of a key, then the own
+-- attributes, then whether an entry is cut off, and then what the store has there
 abbrev pub rank_of : FindingKind → ℕ
 rank_of OwnAttributes = 1
 rank_of Unreachable = 2
@@ -108,6 +114,7 @@ abbrev pub Precedes : Finding → Finding → Type 0
 Precedes f h = (path_cmp f.path h.path ≡ Less) ⊎ ((f.path ≡ h.path) × KindPrecedes f.kind h.kind)
 
 -- the findings are exactly what is to be told of the block B of g, each once, in the order of paths, kinds and keys
-pub record AreFindings (B : Block) (N : Pair → Type 0) (F D : Path → Type 0) (g : Path) (found : List Finding) : Type 0 where
+pub record AreFindings (B : Block) (N : Pair → Type 0) (F D : Path → Type 0) (g : Path)
+    (found : List Finding) : Type 0 where
   pub exact : (f : Finding) → Contains found f ↔ IsFinding B N F D g f
   pub ascend : AllPairs Precedes found

@@ -1,4 +1,5 @@
--- Zarr core specification 3.1, "Hierarchy" and "Storage keys": the paths with documents of nodes below those at which a listing goes no further.
+-- Zarr core specification 3.1, "Hierarchy" and "Storage keys": the paths with documents of nodes below those at which
+-- a listing goes no further.
 -- <https://zarr-specs.readthedocs.io/en/latest/v3/core/index.html#hierarchy>
 -- <https://zarr-specs.readthedocs.io/en/latest/v3/core/index.html#storage-keys>
 --     IsNodeBelow s p q      q is a path below p that has a document of a node
@@ -28,4 +29,5 @@ IsOrphan s v b o = Ignored s v true b o.0 × IsCountBelow s o.0 o.1 × (o.1 ≢ 
 -- for each of the bad documents, in their order, the number of paths below its own that have a document of a node
 pub record AreHidden (s : Contents) (ds : List (Path × NodeCreateError)) (ns : List ℕ) : Type 0 where
   pub size : length ns ≡ length ds
-  pub each : (i : ℕ) (d : Path × NodeCreateError) (n : ℕ) → i < length ds → IsCountBelow s (get_or ds i d).0 (get_or ns i n)
+  pub each : (i : ℕ) (d : Path × NodeCreateError) (n : ℕ) → i < length ds
+      → IsCountBelow s (get_or ds i d).0 (get_or ns i n)

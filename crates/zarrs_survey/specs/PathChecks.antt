@@ -1,6 +1,7 @@
 -- Zarr core specification 3.1, "Hierarchy": all that a check tells of one path.
 -- <https://zarr-specs.readthedocs.io/en/latest/v3/core/index.html#hierarchy>
---     IsCheckedFrom s v b c      what there is to tell from b on: of an array by its own documents, of all else with what is below it
+--     IsCheckedFrom s v b c      what there is to tell from b on: of an array by its own documents, of all else with
+-- what is below it
 --     IsPathCheckOf s v b c      the same, and what the blocks above b say otherwise from b on
 use Rattle.std.specs.Prelude.{◌≡◌, false}
 use Rattle.zarrs_store.specs.Contents.{Contents}
@@ -16,7 +17,8 @@ use Rattle.zarrs_survey.specs.declared.path_check.CheckedFrom.{CheckedFrom}
 use Rattle.zarrs_survey.specs.declared.path_check.CheckedFrom.TheVariants.{Array, Tree}
 use Rattle.zarrs_survey.specs.declared.path_check.PathCheck.{PathCheck}
 
--- b means an array, and this is what its documents tell; or it means none, and this is the check of what is at b and below it
+-- b means an array, and this is what its documents tell; or it means none, and this is the check of what is at b and
+-- below it
 abbrev pub IsCheckedFrom : Contents → MetadataRetrieveVersion → Path → CheckedFrom → Type 0
 IsCheckedFrom s v b (Array found) =
     (m : NodeMetadata) × (meaning s v b ≡ node m) × (is_group m ≡ false) × AreNodeFindings s b m found.items

@@ -1,5 +1,6 @@
 -- Steps of a check: what is told of blocks, one after another; no public contract rests on them.
-use Rattle.std.specs.Prelude.{◌≡◌, ◌⊎◌, ◌↔◌, ℕ, Bool, IsTrue, List, AllPairs, Contains, Option, Some, option_map, option_and_then, Result, Ok, Err}
+use Rattle.std.specs.Prelude.{◌≡◌, ◌⊎◌, ◌↔◌, ℕ, Bool, IsTrue, List, AllPairs, Contains, Option, Some, option_map}
+use Rattle.std.specs.Prelude.{option_and_then, Result, Ok, Err}
 use Rattle.std.specs.declared.cmp.Ordering.TheVariants.{Less}
 use Rattle.serde_json.specs.Data.{Members}
 use Rattle.zarrs_fault.specs.declared.fault.MetadataFault.{MetadataFault}
@@ -13,8 +14,10 @@ use Rattle.zarrs_block.specs.Block.{Block}
 use Rattle.zarrs_block.specs.Zmetadata.{zmetadata_in}
 use Rattle.zarrs_block.specs.declared.consolidated.ConsolidatedMetadata.{ConsolidatedMetadata}
 use Rattle.zarrs_block.specs.declared.node_create_error.NodeCreateError.{NodeCreateError}
-use Rattle.zarrs_survey.specs.Checks.{StandsBefore, block_read, fault_of_block, node_attributes, own_attributes_in, own_finding, own_read}
-use Rattle.zarrs_survey.specs.Findings.{IsFinding, Pair, Precedes}
+use Rattle.zarrs_survey.specs.Checks.{StandsBefore, block_read, fault_of_block, node_attributes, own_attributes_in}
+use Rattle.zarrs_survey.specs.Checks.{own_finding, own_read}
+use Rattle.zarrs_survey.specs.Findings.{IsFinding, Precedes}
+use Rattle.zarrs_block.specs.Meaning.{Pair}
 use Rattle.zarrs_survey.specs.StepsOfOwnAttributes.{is_other}
 use Rattle.zarrs_survey.specs.declared.finding.Finding.{Finding}
 
@@ -27,9 +30,12 @@ abbrev pub block_with : Bool → Result Block MetadataFault → BlockOrFault
 block_with other (Ok B) = Ok (B, other)
 block_with other (Err fault) = Err fault
 
--- what the bytes of a document `.zmetadata`, which may hold these numbers, are read as beside a group with these attributes
+-- what the bytes of a document `.zmetadata`, which may hold these numbers, are read as beside a group with these
+-- attributes
 abbrev pub compared_bytes : Numbers → Members → List ℕ → BlockOrFault
-compared_bytes numbers attributes bytes = block_with (is_other attributes (option_and_then (own_attributes_in numbers) (json_of bytes))) (of_bytes (zmetadata_in numbers) bytes)
+compared_bytes numbers attributes bytes =
+    block_with (is_other attributes (option_and_then (own_attributes_in numbers) (json_of bytes)))
+        (of_bytes (zmetadata_in numbers) bytes)
 
 -- what is read as the block of a node, if it has one
 abbrev pub block_with_own : Contents → Path → NodeMetadata → Option BlockOrFault
@@ -41,7 +47,8 @@ IsToldWith (Err fault) N F D g f = f ≡ fault_of_block g fault
 IsToldWith (Ok w) N F D g f = IsFinding w.0 N F D g f ⊎ (IsTrue w.1 × (f ≡ own_finding g))
 
 -- the findings are exactly what there is to tell of what was read as the block of g, each once, in their order
-pub record AreTold (read : BlockOrFault) (N : Pair → Type 0) (F D : Path → Type 0) (g : Path) (found : List Finding) : Type 0 where
+pub record AreTold (read : BlockOrFault) (N : Pair → Type 0) (F D : Path → Type 0) (g : Path)
+    (found : List Finding) : Type 0 where
   pub exact : (f : Finding) → Contains found f ↔ IsToldWith read N F D g f
   pub ascend : AllPairs Precedes found
 
@@ -70,9 +77,12 @@ GroupsAscend bs = AllPairs (λ b c. path_cmp b.0 c.0 ≡ Less) bs
 abbrev pub HasBad : List (Path × NodeCreateError) → Path → Type 0
 HasBad bad q = (e : NodeCreateError) × Contains bad (q, e)
 
--- the findings are exactly what there is to tell of these blocks, each once, in the order of groups, paths, kinds and keys
-pub record AreFindingsOf (blocks : List ReadBlock) (nodes : List Pair) (bad : List (Path × NodeCreateError)) (D : Path → Type 0) (found : List Finding) : Type 0 where
-  pub exact : (f : Finding) → Contains found f ↔ ((r : BlockOrFault) × Contains blocks (f.group, r) × IsToldWith r (Contains nodes) (HasBad bad) D f.group f)
+-- the findings are exactly what there is to tell of these blocks, each once, in the order of groups, paths, kinds and
+-- keys
+pub record AreFindingsOf (blocks : List ReadBlock) (nodes : List Pair) (bad : List (Path × NodeCreateError))
+    (D : Path → Type 0) (found : List Finding) : Type 0 where
+  pub exact : (f : Finding) → Contains found f
+      ↔ ((r : BlockOrFault) × Contains blocks (f.group, r) × IsToldWith r (Contains nodes) (HasBad bad) D f.group f)
   pub ascend : AllPairs StandsBefore found
 
 -- memory was not wanting as it was read

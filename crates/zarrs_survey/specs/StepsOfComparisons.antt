@@ -1,5 +1,7 @@
--- Steps of a comparison of the block of a group with the nodes below it, one after another; no public contract rests on them.
-use Rattle.std.specs.Prelude.{◌≡◌, ◌⊎◌, ◌↔◌, ◌∷◌, [], ◌++◌, List, Contains, Option, Some, None, Bool, if◌then◌else◌, ◌&&◌}
+-- Steps of a comparison of the block of a group with the nodes below it, one after another; no public contract rests
+-- on them.
+use Rattle.std.specs.Prelude.{◌≡◌, ◌⊎◌, ◌↔◌, ◌∷◌, [], ◌++◌, List, Contains, Option, Some, None, Bool, if◌then◌else◌}
+use Rattle.std.specs.Prelude.{◌&&◌}
 use Rattle.std.specs.declared.cmp.Ordering.TheVariants.{Less}
 use Rattle.zarrs_path.specs.Paths.{Path, path_cmp, IsBelow}
 use Rattle.zarrs_meta.specs.Node.{is_group}
@@ -7,7 +9,8 @@ use Rattle.zarrs_meta.specs.declared.node.NodeMetadata.{NodeMetadata}
 use Rattle.zarrs_block.specs.Block.{Block, Entries, IsAscending}
 use Rattle.zarrs_block.specs.declared.node_create_error.NodeCreateError.{NodeCreateError}
 use Rattle.zarrs_node.specs.Order.{Ascend}
-use Rattle.zarrs_survey.specs.Findings.{Pair, IsSpoilt}
+use Rattle.zarrs_survey.specs.Findings.{IsSpoilt}
+use Rattle.zarrs_block.specs.Meaning.{Pair}
 use Rattle.zarrs_survey.specs.StepsOfChecks.{HasBad}
 use Rattle.zarrs_survey.specs.StepsOfComparing.{ArePathFindings, AreBelow, IsBeforeFirst, own_findings}
 use Rattle.zarrs_survey.specs.StepsOfMerging.{HoldsUpTo}
@@ -72,13 +75,15 @@ IsTurnAt p old Behind new = (new.entries.items ≡ old.entries.items) × IsBefor
 pub record PassesLone (old : Comparison) (e : Pair) (new : Comparison) : Type 0 where
   pub one : IsOneBlock old new
   pub entries : new.entries.items ≡ old.entries.items
-  pub told : (all nodes ns : List Pair) → IsBeforeFirst e.0 ns → IsUnderWay all nodes (e ∷ old.entries.items) ns old → IsUnderWay all nodes old.entries.items ns new
+  pub told : (all nodes ns : List Pair) → IsBeforeFirst e.0 ns → IsUnderWay all nodes (e ∷ old.entries.items) ns old
+      → IsUnderWay all nodes old.entries.items ns new
 
 -- an entry beside a node with the metadata n was told and passed
 pub record PassesPair (old : Comparison) (e : Pair) (n : NodeMetadata) (new : Comparison) : Type 0 where
   pub one : IsOneBlock old new
   pub entries : new.entries.items ≡ old.entries.items
-  pub told : (all nodes ns : List Pair) → IsUnderWay all nodes (e ∷ old.entries.items) ((e.0, n) ∷ ns) old → IsUnderWay all nodes old.entries.items ns new
+  pub told : (all nodes ns : List Pair) → IsUnderWay all nodes (e ∷ old.entries.items) ((e.0, n) ∷ ns) old
+      → IsUnderWay all nodes old.entries.items ns new
 
 -- the entry was passed, and is the last group that was reached if it is a group and was reached
 pub record Passes (old : Comparison) (reached : Bool) (e : Pair) (new : Comparison) : Type 0 where
@@ -90,7 +95,8 @@ pub record Passes (old : Comparison) (reached : Bool) (e : Pair) (new : Comparis
 -- a node was compared
 pub record IsNext (old : Comparison) (e : Pair) (new : Comparison) : Type 0 where
   pub one : IsOneBlock old new
-  pub told : (all nodes ns : List Pair) → IsUnderWay all nodes old.entries.items (e ∷ ns) old → IsUnderWay all nodes new.entries.items ns new
+  pub told : (all nodes ns : List Pair) → IsUnderWay all nodes old.entries.items (e ∷ ns) old
+      → IsUnderWay all nodes new.entries.items ns new
 
 -- a node below the group was compared, and one that is not below it changes nothing
 abbrev pub IsNextBelow : Comparison → Pair → Comparison → Type 0
@@ -108,13 +114,15 @@ pub record IsAtEnd (old new : Comparison) : Type 0 where
   pub one : IsOneBlock old new
   pub told : (all nodes : List Pair) → IsUnderWay all nodes old.entries.items [] old → IsUnderWay all nodes [] [] new
 
--- What becomes of a finding, once the bad documents F and all documents D are known: of an entry without a node nothing where F spoils it, and else it is
+-- What becomes of a finding, once the bad documents F and all documents D are known: of an entry without a node
+-- nothing where F spoils it, and else it is
 -- unreached where D has it. Others stay as they are.
 abbrev pub IsSettled : (Path → Type 0) → (Path → Type 0) → Finding → Option Finding → Type 0
 IsSettled F D f None = (f.kind ≡ Stale) × IsSpoilt F f.path
 IsSettled F D f (Some h) =
     ((f.kind ≡ Stale → ⊥) × (h ≡ f))
-    ⊎ ((f.kind ≡ Stale) × (IsSpoilt F f.path → ⊥) × (h.group ≡ f.group) × (h.path ≡ f.path) × (((D f.path) × (h.kind ≡ Unreached)) ⊎ ((D f.path → ⊥) × (h.kind ≡ Stale))))
+    ⊎ ((f.kind ≡ Stale) × (IsSpoilt F f.path → ⊥) × (h.group ≡ f.group) × (h.path ≡ f.path)
+        × (((D f.path) × (h.kind ≡ Unreached)) ⊎ ((D f.path → ⊥) × (h.kind ≡ Stale))))
 
 -- the finding, if there is one
 abbrev pub if_some : Option Finding → List Finding
@@ -124,7 +132,9 @@ if_some (Some h) = h ∷ []
 -- what becomes of findings, one after another
 abbrev pub AreSettled : (Path → Type 0) → (Path → Type 0) → List Finding → List Finding → Type 0
 AreSettled F D [] settled = settled ≡ []
-AreSettled F D (f ∷ found) settled = (o : Option Finding) × (rest : List Finding) × (settled ≡ if_some o ++ rest) × IsSettled F D f o × AreSettled F D found rest
+AreSettled F D (f ∷ found) settled =
+    (o : Option Finding) × (rest : List Finding) × (settled ≡ if_some o ++ rest) × IsSettled F D f o
+    × AreSettled F D found rest
 
 -- what becomes of the findings was put behind others
 abbrev pub PutsSettled : (Path → Type 0) → (Path → Type 0) → List Finding → List Finding → List Finding → Type 0
@@ -132,4 +142,7 @@ PutsSettled F D told found whole = (settled : List Finding) × (whole ≡ told +
 
 -- all that is told where no nodes are left
 abbrev pub IsEnd : (Path → Type 0) → Comparison → List (Path × NodeCreateError) → List Finding → Type 0
-IsEnd D c bad whole = (all nodes : List Pair) → IsUnderWay all nodes c.entries.items [] c → (told : List Finding) × (whole ≡ c.of_block.items ++ told) × ArePathFindings (Contains all) (Contains nodes) (HasBad bad) D c.group told
+IsEnd D c bad whole =
+    (all nodes : List Pair) → IsUnderWay all nodes c.entries.items [] c
+    → (told : List Finding) × (whole ≡ c.of_block.items ++ told)
+    × ArePathFindings (Contains all) (Contains nodes) (HasBad bad) D c.group told

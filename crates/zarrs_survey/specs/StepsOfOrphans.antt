@@ -39,7 +39,8 @@ IsKeyedBelow keys p q = IsBelow p q × ((key : Segments) × Contains keys key ×
 abbrev pub AreKeyedBelow : List Segments → Path → List Path → Type 0
 AreKeyedBelow keys p qs = (q : Path) → Contains qs q ↔ IsKeyedBelow keys p q
 
--- these are exactly the paths among ps below which paths have a document of a node, each with their number, in the order of ps
+-- these are exactly the paths among ps below which paths have a document of a node, each with their number, in the
+-- order of ps
 pub record AreOrphansAmong (s : Contents) (ps : List Path) (os : List (Path × ℕ)) : Type 0 where
   pub exact : (o : Path × ℕ) → Contains os o ↔ (Contains ps o.0 × IsCountBelow s o.0 o.1 × (o.1 ≢ 0))
   pub ascend : PathsAscend ps → AllPairs (λ o u. path_cmp o.0 u.0 ≡ Less) os

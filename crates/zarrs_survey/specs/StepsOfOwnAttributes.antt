@@ -17,15 +17,19 @@ abbrev pub attributes_beside : Numbers → Option Data → Members → Result Me
 attributes_beside numbers None own = Ok own
 attributes_beside numbers (Some d) own = attributes_document_in numbers d >>= λ a. Ok a.0
 
--- the attributes of the array of the first document, or else of the group of the second, with those beside it, or else nothing, or the first fault
+-- the attributes of the array of the first document, or else of the group of the second, with those beside it, or
+-- else nothing, or the first fault
 abbrev pub read_attributes : Numbers → Option Data → Option Data → Option Data → Result (Option Members) MetadataFault
-read_attributes numbers (Some d) group beside = array_v2_in numbers d >>= λ m. attributes_beside numbers beside m.attributes >>= λ a. Ok (Some a)
-read_attributes numbers None (Some d) beside = group_v2_in numbers d >>= λ m. attributes_beside numbers beside m.attributes >>= λ a. Ok (Some a)
+read_attributes numbers (Some d) group beside =
+    array_v2_in numbers d >>= λ m. attributes_beside numbers beside m.attributes >>= λ a. Ok (Some a)
+read_attributes numbers None (Some d) beside =
+    group_v2_in numbers d >>= λ m. attributes_beside numbers beside m.attributes >>= λ a. Ok (Some a)
 read_attributes numbers None None beside = Ok None
 
 -- the attributes that members have of the group itself
 abbrev pub members_attributes : Numbers → Members → Result (Option Members) MetadataFault
-members_attributes numbers ms = read_attributes numbers (get_member zarray ms) (get_member zgroup ms) (get_member zattrs ms)
+members_attributes numbers ms =
+    read_attributes numbers (get_member zarray ms) (get_member zgroup ms) (get_member zattrs ms)
 
 -- the same, but for the fault: where the documents do not read there are none
 abbrev pub own_in_members : Numbers → Members → Option Members

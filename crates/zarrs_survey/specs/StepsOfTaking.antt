@@ -1,12 +1,14 @@
--- Steps of taking nodes and comparing them with the blocks above them, one after another; no public contract rests on them.
-use Rattle.std.specs.Prelude.{◌≡◌, ◌+◌, ◌<◌, ℕ, Bool, IfErr, List, [], ◌∷◌, ◌++◌, get_or, length, AllPairs, Contains, Option, Some, None, Result, Ok, Err}
+-- Steps of taking nodes and comparing them with the blocks above them, one after another; no public contract rests on
+-- them.
+use Rattle.std.specs.Prelude.{◌≡◌, ◌+◌, ◌<◌, ℕ, Bool, IfErr, List, [], ◌∷◌, ◌++◌, get_or, length, AllPairs, Contains}
+use Rattle.std.specs.Prelude.{Option, Some, None, Result, Ok, Err}
 use Rattle.zarrs_store.specs.Contents.{Contents}
 use Rattle.zarrs_store.specs.Faults.{IsStoreError}
 use Rattle.zarrs_path.specs.Paths.{Path, IsBelow}
 use Rattle.zarrs_meta.specs.declared.node.NodeMetadata.{NodeMetadata}
 use Rattle.zarrs_block.specs.declared.node_create_error.NodeCreateError.{NodeCreateError}
 use Rattle.zarrs_survey.specs.Checks.{fault_of_block}
-use Rattle.zarrs_survey.specs.Findings.{Pair}
+use Rattle.zarrs_block.specs.Meaning.{Pair}
 use Rattle.zarrs_survey.specs.StepsOfChecks.{BlockOrFault, ReadBlock, block_with_own}
 use Rattle.zarrs_survey.specs.StepsOfComparisons.{IsEnd, IsNextBelow, IsOnly, IsStart}
 use Rattle.zarrs_survey.specs.declared.comparison.Comparison.{Comparison}
@@ -60,11 +62,13 @@ IsLastAbove js cs p = (is : List ℕ) (j : ℕ) → js ≡ is ++ j ∷ [] → Is
 -- with the blocks at these places the node was compared, and the others are as they were
 pub record AreCompared (js : List ℕ) (e : Pair) (old new : List Comparison) : Type 0 where
   pub size : length new ≡ length old
-  pub at_places : (j : ℕ) (d : Comparison) → Contains js j → j < length old → IsNextBelow (get_or old j d) e (get_or new j d)
+  pub at_places : (j : ℕ) (d : Comparison) → Contains js j → j < length old
+      → IsNextBelow (get_or old j d) e (get_or new j d)
   pub others : (j : ℕ) (d : Comparison) → (Contains js j → ⊥) → get_or new j d ≡ get_or old j d
 
 -- what was read as the block of p was put behind other blocks
-pub record PutsBlock (blocks : List Comparison) (above : List ℕ) (p : Path) (read : BlockOrFault) (more : List Comparison) (places : List ℕ) : Type 0 where
+pub record PutsBlock (blocks : List Comparison) (above : List ℕ) (p : Path) (read : BlockOrFault)
+    (more : List Comparison) (places : List ℕ) : Type 0 where
   pub block : Comparison
   pub begun : IsBegun p read block
   pub items : more ≡ blocks ++ block ∷ []
@@ -78,7 +82,9 @@ MayPutBlock blocks above p (Some read) more places = PutsBlock blocks above p re
 -- all that is told at the ends of comparisons, one after another
 abbrev pub AreEnds : (Path → Type 0) → List Comparison → List (Path × NodeCreateError) → List Finding → Type 0
 AreEnds D [] bad whole = whole ≡ []
-AreEnds D (c ∷ cs) bad whole = (found : List Finding) × (rest : List Finding) × (whole ≡ found ++ rest) × IsEnd D c bad found × AreEnds D cs bad rest
+AreEnds D (c ∷ cs) bad whole =
+    (found : List Finding) × (rest : List Finding) × (whole ≡ found ++ rest) × IsEnd D c bad found
+    × AreEnds D cs bad rest
 
 module _ {S : Type 0} where
   -- no nodes were taken
@@ -107,7 +113,9 @@ module _ {S : Type 0} where
     pub puts : MayPutBlock blocks above e.0 (block_with_own s e.0 e.1) new.blocks.items new.above.items
 
   -- a node was taken, or the store had failed or did
-  pub record Takes (contents : S → Contents) (can_fail : S → Bool) (old : Comparisons S) (e : Pair) (new : Comparisons S) : Type 0 where
+  pub record Takes (contents : S → Contents) (can_fail : S → Bool) (old : Comparisons S) (e : Pair)
+      (new : Comparisons S) : Type 0 where
     pub storage : new.storage.now ≡ old.storage.now
     pub taken : new.outcome ≡ Ok tt → (old.outcome ≡ Ok tt) × TakesNode (contents old.storage.now) old e new
-    pub fault : IfErr old.outcome (IsStoreError (can_fail old.storage.now)) → IfErr new.outcome (IsStoreError (can_fail old.storage.now))
+    pub fault : IfErr old.outcome (IsStoreError (can_fail old.storage.now))
+    → IfErr new.outcome (IsStoreError (can_fail old.storage.now))

@@ -14,6 +14,7 @@ use Rattle.zarrs_node.specs.OpeningNodes.{RefusesNode}
 use Rattle.zarrs_node.specs.Order.{Ascend}
 use Rattle.zarrs_node.specs.Reach.{HasGroup, Reached}
 use Rattle.zarrs_survey.specs.declared.survey.Survey.{Survey}
+use Rattle.zarrs_block.specs.Meaning.{Pair}
 
 -- the base means a node with these metadata, or it is refused with this error: it means nothing, or is bad
 abbrev pub IsBase : Contents → MetadataRetrieveVersion → Path → Result NodeMetadata NodeCreateError → Type 0
@@ -28,7 +29,8 @@ BadDocuments s v b d = Reached (MeansNode s v) true b d.0 × (meaning s v d.0 �
 abbrev pub BadNames : Contents → MetadataRetrieveVersion → Path → Path → Type 0
 BadNames s v b p = IsBadName (meaning s v) (HasBelow s.values) true b p
 
--- the survey has exactly what the store has at b and below it: the base, the nodes in the order of paths, the ignored paths, the bad documents and the bad names
+-- the survey has exactly what the store has at b and below it: the base, the nodes in the order of paths, the ignored
+-- paths, the bad documents and the bad names
 pub record IsSurveyOf (s : Contents) (v : MetadataRetrieveVersion) (b : Path) (survey : Survey) : Type 0 where
   pub path : survey.path ≡ b
   pub base : IsBase s v b survey.base
@@ -41,11 +43,11 @@ pub record IsSurveyOf (s : Contents) (v : MetadataRetrieveVersion) (b : Path) (s
   pub bad_names_ascend : PathsAscend survey.bad_names.items
 
 -- e is the base of the survey with its metadata
-abbrev pub IsBaseOf : Survey → Path × NodeMetadata → Type 0
+abbrev pub IsBaseOf : Survey → Pair → Type 0
 IsBaseOf survey e = (survey.path ≡ e.0) × (survey.base ≡ Ok e.1)
 
 -- e is the base of the survey with its metadata, or one of the nodes below it
-abbrev pub IsNodeOf : Survey → Path × NodeMetadata → Type 0
+abbrev pub IsNodeOf : Survey → Pair → Type 0
 IsNodeOf survey e = IsBaseOf survey e ⊎ Contains survey.nodes.items e
 
 -- the survey has a group at g: its base, or one of the nodes below it

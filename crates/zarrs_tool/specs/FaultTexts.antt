@@ -7,7 +7,8 @@ use Rattle.zarrs_load.specs.FaultTexts.{load_fault_text}
 use Rattle.zarrs_load.specs.declared.fault.LoadFault.TheVariants as load
 use Rattle.zarrs_program.specs.FaultTexts.{write_fault_text}
 use Rattle.zarrs_tool.specs.declared.fault.ToolFault.{ToolFault}
-use Rattle.zarrs_tool.specs.declared.fault.ToolFault.TheVariants.{Usage, Read, ReadTooLong, Image, ImageKey, ImageValue, Folder, NotAGroup, Fraction, Node, Write, OutOfMemory}
+use Rattle.zarrs_tool.specs.declared.fault.ToolFault.TheVariants.{Usage, Read, ReadTooLong, Image, ImageKey, ImageValue}
+use Rattle.zarrs_tool.specs.declared.fault.ToolFault.TheVariants.{Folder, NotAGroup, Fraction, Node, Write, OutOfMemory}
 
 -- why a run is refused
 abbrev pub tool_fault_text : ToolFault → List ℕ

@@ -21,11 +21,13 @@ use Rattle.zarrs_load.specs.declared.fault.LoadFault.TheVariants as load
 use Rattle.zarrs_program.specs.Words.{RefusesPathText}
 use Rattle.zarrs_tool.specs.Output.{IsCommand, IsOutput, in_whole_numbers, word_text}
 use Rattle.zarrs_tool.specs.declared.fault.ToolFault.{ToolFault}
-use Rattle.zarrs_tool.specs.declared.fault.ToolFault.TheVariants.{Usage, Read, ReadTooLong, Image, ImageKey, ImageValue, Folder, NotAGroup, Fraction, Node, Write, OutOfMemory}
+use Rattle.zarrs_tool.specs.declared.fault.ToolFault.TheVariants.{Usage, Read, ReadTooLong, Image, ImageKey, ImageValue}
+use Rattle.zarrs_tool.specs.declared.fault.ToolFault.TheVariants.{Folder, NotAGroup, Fraction, Node, Write, OutOfMemory}
 use Rattle.zarrs_tool.specs.declared.run.Word.{Word}
 use Rattle.zarrs_tool.specs.declared.run.Word.TheVariants.{Children, List as ListAll, Tree, Consolidate}
 
--- the calls of a word refuse the path: it is excused, as out of memory or the fault of a store that can fail, or a listing shows what is bad, or opening
+-- the calls of a word refuse the path: it is excused, as out of memory or the fault of a store that can fail, or a
+-- listing shows what is bad, or opening
 -- is refused by the first reason that applies
 abbrev pub RefusesWord : Bool → Word → Contents → Path → NodeCreateError → Type 0
 RefusesWord can_fail Children store base = IsExcusedOr can_fail (ShowsBad store Default false base)
@@ -40,19 +42,24 @@ RefusesWords words e = (word : Word) × (path : List ℕ) × (words ≡ word_tex
 -- the calls of the words' command over the store refuse its path
 abbrev pub RefusesStore : Bool → List (List ℕ) → Contents → NodeCreateError → Type 0
 RefusesStore can_fail words store e =
-    (word : Word) × (base : Path) × IsPath base × (words ≡ word_text word ∷ path_text base ∷ []) × RefusesWord can_fail word store base e
+    (word : Word) × (base : Path) × IsPath base × (words ≡ word_text word ∷ path_text base ∷ [])
+    × RefusesWord can_fail word store base e
 
 -- the words are `consolidate`, which wants a group, and a path that means an array
 abbrev pub RefusesArray : List (List ℕ) → Contents → Type 0
-RefusesArray words store = (base : Path) × IsPath base × (words ≡ word_text Consolidate ∷ path_text base ∷ []) × (a : ArrayMetadata) × (meaning store Default base ≡ node (Array a))
+RefusesArray words store =
+    (base : Path) × IsPath base × (words ≡ word_text Consolidate ∷ path_text base ∷ []) × (a : ArrayMetadata)
+    × (meaning store Default base ≡ node (Array a))
 
--- a listing finds p below the base, with metadata that could not have come from a document whose numbers are whole: one of them has a fraction
+-- a listing finds p below the base, with metadata that could not have come from a document whose numbers are whole:
+-- one of them has a fraction
 abbrev pub ShowsFraction : Contents → Path → Path → Type 0
 ShowsFraction store base p = (m : NodeMetadata) × Nodes store Default true base (p, m) × (is_plain_node m ≡ false)
 
 -- the words are `consolidate`, which writes whole numbers only, and a path below which p has a fraction
 abbrev pub RefusesFraction : List (List ℕ) → Contents → Path → Type 0
-RefusesFraction words store p = (base : Path) × IsPath base × (words ≡ word_text Consolidate ∷ path_text base ∷ []) × ShowsFraction store base p
+RefusesFraction words store p =
+    (base : Path) × IsPath base × (words ≡ word_text Consolidate ∷ path_text base ∷ []) × ShowsFraction store base p
 
 -- the words are refused over a store
 abbrev pub IsRefusal : Bool → List (List ℕ) → Contents → ToolFault → Type 0
@@ -66,7 +73,8 @@ IsRefusal can_fail words store _ = ⊥
 
 -- the reader was read to its end, and the words are refused over the store of its image
 abbrev pub RefusedAfterLoad : List (List ℕ) → Option (List ℕ) → Option (List ℕ) → ToolFault → Type 0
-RefusedAfterLoad words before after fault = IsAtEnd after × ((values : Values) × IsLoaded before values × IsRefusal false words (in_whole_numbers values) fault)
+RefusedAfterLoad words before after fault =
+    IsAtEnd after × ((values : Values) × IsLoaded before values × IsRefusal false words (in_whole_numbers values) fault)
 
 -- the fault is one of loading, of which P holds
 abbrev pub IsLoadFault : (LoadFault → Type 0) → ToolFault → Type 0
@@ -79,8 +87,10 @@ IsLoadFault P Folder = P load.Folder
 IsLoadFault P OutOfMemory = P load.OutOfMemory
 IsLoadFault P _ = ⊥
 
--- the run over an image ends with this fault: for wrong words the reader was left as it was; for a path, a node, an array or the writer the words are
--- refused over the store of the image, once the reader was read to its end; for any other fault no image was loaded. None is a fraction, since the
+-- the run over an image ends with this fault: for wrong words the reader was left as it was; for a path, a node, an
+-- array or the writer the words are
+-- refused over the store of the image, once the reader was read to its end; for any other fault no image was loaded.
+-- None is a fraction, since the
 -- store of an image has whole numbers
 abbrev pub RefusedRun : List (List ℕ) → Option (List ℕ) → Option (List ℕ) → ToolFault → Type 0
 RefusedRun words before after Usage = Keeps before after

@@ -1,4 +1,5 @@
--- Steps of a run of the program: words and folders, and what its private calls write and refuse; no public contract rests on them.
+-- Steps of a run of the program: words and folders, and what its private calls write and refuse; no public contract
+-- rests on them.
 use Rattle.std.specs.Prelude.{◌≡◌, ◌⊎◌, ℕ, Some, List, [], ◌∷◌, ◌++◌, codes, Option, Bool, false, ⊤}
 use Rattle.zarrs_store.specs.Contents.{Contents, Values}
 use Rattle.zarrs_load.specs.Folder.{HoldsDocumentsAlone, IsFolderFault}
@@ -30,7 +31,8 @@ command_words command = word_text command.word ∷ command.path.now ∷ []
 
 -- the words are `folder`, the folder, and `tree PATH`
 abbrev pub IsFolderWords : List (List ℕ) → List ℕ → List (List ℕ) → Type 0
-IsFolderWords words folder tree = (path : List ℕ) × (tree ≡ word_text Tree ∷ path ∷ []) × (words ≡ codes "folder" ∷ folder ∷ tree)
+IsFolderWords words folder tree =
+    (path : List ℕ) × (tree ≡ word_text Tree ∷ path ∷ []) × (words ≡ codes "folder" ∷ folder ∷ tree)
 
 -- the words are `folder DIR tree PATH`
 abbrev pub IsFolderCommand : List (List ℕ) → Type 0
@@ -42,15 +44,18 @@ IsNoCommand words = (IsCommand words → ⊥) × (IsFolderCommand words → ⊥)
 
 -- the words' output over a store in which no key but a document's has bytes, as a folder's
 abbrev pub WritesOfFolder : List (List ℕ) → Option (List ℕ) → Option (List ℕ) → Type 0
-WritesOfFolder words before after = (values : Values) × HoldsDocumentsAlone values × WritesOutput words (in_whole_numbers values) before after
+WritesOfFolder words before after =
+    (values : Values) × HoldsDocumentsAlone values × WritesOutput words (in_whole_numbers values) before after
 
--- the output of a run that ends well: that over the image, or where the words are `folder DIR tree PATH` that of `tree PATH` over the folder's store
+-- the output of a run that ends well: that over the image, or where the words are `folder DIR tree PATH` that of
+-- `tree PATH` over the folder's store
 abbrev pub WritesAnswer : List (List ℕ) → Option (List ℕ) → Option (List ℕ) → Option (List ℕ) → Type 0
 WritesAnswer words left before after =
     WritesOfImage words left before after
     ⊎ ((folder : List ℕ) × (tree : List (List ℕ)) × IsFolderWords words folder tree × WritesOfFolder tree before after)
 
--- the fault holds an error that refuses; or says that there is no group, or names a path with a fraction, where that may be said; or out of memory
+-- the fault holds an error that refuses; or says that there is no group, or names a path with a fraction, where that
+-- may be said; or out of memory
 abbrev pub IsFault : (NodeCreateError → Type 0) → Type 0 → (Path → Type 0) → ToolFault → Type 0
 IsFault refuses no_group fraction (Node e) = refuses e
 IsFault refuses no_group fraction NotAGroup = no_group
@@ -58,7 +63,8 @@ IsFault refuses no_group fraction (Fraction p) = fraction p
 IsFault refuses no_group fraction OutOfMemory = ⊤
 IsFault refuses no_group fraction _ = ⊥
 
--- opening the path is excused, as out of memory or the fault of a store that can fail, or it is refused by the first reason that applies
+-- opening the path is excused, as out of memory or the fault of a store that can fail, or it is refused by the first
+-- reason that applies
 abbrev pub RefusesOpen : Bool → Contents → UseConsolidatedMetadata → Path → NodeCreateError → Type 0
 RefusesOpen can_fail store policy base = IsExcusedOr can_fail (RefusesOpening store Default policy (path_text base))
 
@@ -82,7 +88,8 @@ WantsWhole Consolidate store base p = ShowsFraction store base p
 
 -- a listing is refused, or out of memory
 abbrev pub IsListingFault : Bool → Contents → Bool → Path → ToolFault → Type 0
-IsListingFault can_fail store recursive base = IsFault (IsExcusedOr can_fail (ShowsBad store Default recursive base)) ⊥ (λ _. ⊥)
+IsListingFault can_fail store recursive base =
+    IsFault (IsExcusedOr can_fail (ShowsBad store Default recursive base)) ⊥ (λ _. ⊥)
 
 -- opening a hierarchy is refused, or out of memory
 abbrev pub IsTreeFault : Bool → Contents → Path → ToolFault → Type 0
@@ -90,13 +97,16 @@ IsTreeFault can_fail store base = IsFault (RefusesOpen can_fail store Auto base)
 
 -- opening a node is refused, or it is an array, or a node below it has a fraction, or out of memory
 abbrev pub IsBlockFault : Bool → Contents → Path → ToolFault → Type 0
-IsBlockFault can_fail store base = IsFault (RefusesOpen can_fail store Never base) (IsArray store base) (ShowsFraction store base)
+IsBlockFault can_fail store base =
+    IsFault (RefusesOpen can_fail store Never base) (IsArray store base) (ShowsFraction store base)
 
 -- a word is refused of a path
 abbrev pub IsWordFault : Bool → Word → Contents → Path → ToolFault → Type 0
-IsWordFault can_fail word store base = IsFault (RefusesWord can_fail word store base) (WantsGroup word store base) (WantsWhole word store base)
+IsWordFault can_fail word store base =
+    IsFault (RefusesWord can_fail word store base) (WantsGroup word store base) (WantsWhole word store base)
 
--- where the keys of the block ascend, it has metadata at the key that could not have come from a document whose numbers are whole
+-- where the keys of the block ascend, it has metadata at the key that could not have come from a document whose
+-- numbers are whole
 abbrev pub HasFractionAt : Block → List ℕ → Type 0
 HasFractionAt B key = IsAscending B → (m : NodeMetadata) × (node_at_key B key ≡ Some m) × (is_plain_node m ≡ false)
 
@@ -106,11 +116,15 @@ IsFractionFault base B (Fraction p) = (key : List ℕ) × (p ≡ base ++ relativ
 IsFractionFault base B OutOfMemory = ⊤
 IsFractionFault base B _ = ⊥
 
--- the folder makes no store, or out of memory; or the words are refused over a store in which no key but a document's has bytes, as a folder's
+-- the folder makes no store, or out of memory; or the words are refused over a store in which no key but a document's
+-- has bytes, as a folder's
 abbrev pub RefusedFolder : List (List ℕ) → ToolFault → Type 0
-RefusedFolder words fault = IsLoadFault IsFolderFault fault ⊎ ((values : Values) × HoldsDocumentsAlone values × IsRefusal false words (in_whole_numbers values) fault)
+RefusedFolder words fault =
+    IsLoadFault IsFolderFault fault
+    ⊎ ((values : Values) × HoldsDocumentsAlone values × IsRefusal false words (in_whole_numbers values) fault)
 
--- why a run ends with the status 1: the words are not `folder DIR tree PATH`, and the run over the image is refused; or they are, and the run of `tree PATH`
+-- why a run ends with the status 1: the words are not `folder DIR tree PATH`, and the run over the image is refused;
+-- or they are, and the run of `tree PATH`
 -- over the folder is refused
 abbrev pub RefusedAnswer : List (List ℕ) → Option (List ℕ) → Option (List ℕ) → ToolFault → Type 0
 RefusedAnswer words before after fault =

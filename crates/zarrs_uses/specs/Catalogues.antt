@@ -1,10 +1,12 @@
--- Zarr core specification 3.1, "Group metadata", the field `consolidated_metadata`: a catalogue, which keeps the block of a version 3 group current.
+-- Zarr core specification 3.1, "Group metadata", the field `consolidated_metadata`: a catalogue, which keeps the
+-- block of a version 3 group current.
 -- <https://zarr-specs.readthedocs.io/en/latest/v3/core/index.html#group-metadata>
 -- <https://zarr.readthedocs.io/en/stable/user-guide/consolidated_metadata/>
 --     IsCurrent S c      the block of the catalogue is the one that a listing of the store S makes
 --     after_change, after_changes      the store after a change, and after a list of them
 --     RefusesChange, IsRefusedAt      why a change is refused; at which step a list of them is
---     IsStored S c, RefusesStored      the group holds the block of the catalogue, and opens alike by it and by a listing; why that is refused
+--     IsStored S c, RefusesStored      the group holds the block of the catalogue, and opens alike by it and by a
+-- listing; why that is refused
 --     RefusesUpdate      why a catalogue is not brought up to date
 use Rattle.std.specs.Prelude.{◌≡◌, ◌≤◌, ℕ, Bool, List, [], ◌∷◌, ◌++◌, Option, Some, None, option_map, take, slice_get}
 use Rattle.std.specs.List.{fold}
@@ -37,7 +39,8 @@ use Rattle.zarrs_uses.specs.declared.catalogue.RefusedStep.{RefusedStep}
 use Rattle.zarrs_uses.specs.declared.catalogue.StoringError.{StoringError}
 use Rattle.zarrs_uses.specs.declared.catalogue.UpdateError.{UpdateError}
 use Rattle.zarrs_uses.specs.declared.catalogue.UpdateError.TheVariants.{Step, Storing}
-use Rattle.zarrs_uses.specs.declared.catalogue.StoringError.TheVariants.{Group, Block as SetBlock, TooDeep, Store as StoreGroup, OutOfMemory}
+use Rattle.zarrs_uses.specs.declared.catalogue.StoringError.TheVariants.{Group, Block as SetBlock, TooDeep}
+use Rattle.zarrs_uses.specs.declared.catalogue.StoringError.TheVariants.{Store as StoreGroup, OutOfMemory}
 
 -- the block of the catalogue is the one that a listing of the store below its path makes, as version 3
 abbrev pub IsCurrent : Contents → Catalogue → Type 0
@@ -64,14 +67,21 @@ after_changes S cs = fold after_change S cs
 
 -- ---- refusals
 
--- a change is refused over a store S, which becomes T: its path is not below that of the catalogue, and nothing is changed; or the store refused, and no other key is changed; or the document is changed, and what the block would need of it is bad
+-- a change is refused over a store S, which becomes T: its path is not below that of the catalogue, and nothing is
+-- changed; or the store refused, and no other key is changed; or the document is changed, and what the block would
+-- need of it is bad
 abbrev pub RefusesChange : Bool → Catalogue → Change → Contents → Contents → ChangeError → Type 0
 RefusesChange can_fail c change S T NotBelow = (IsBelow c.path change.path → ⊥) × (T ≡ S)
 RefusesChange can_fail c change S T (Store e) = IsStoreError can_fail e × AgreesOutsideKey (changed_key change) S T
-RefusesChange can_fail c change S T (Refresh e) = (T ≡ after_change S change) × IsExcusedOr can_fail (λ e. LeadsTo c.block c.path change.path × ShowsBadAnew T V3 change.path e) e
+RefusesChange can_fail c change S T (Refresh e) =
+    (T ≡ after_change S change)
+    × IsExcusedOr can_fail (λ e. LeadsTo c.block c.path change.path × ShowsBadAnew T V3 change.path e) e
 
--- of a list of changes over a store S the one at the step was refused, by a catalogue that became c of a first one: c is current in the store after the changes before the step where the first was current in S, and the change is refused over that store
-pub record IsRefusedAt (can_fail : Bool) (first c : Catalogue) (changes : List Change) (S T : Contents) (e : RefusedStep) : Type 0 where
+-- of a list of changes over a store S the one at the step was refused, by a catalogue that became c of a first one: c
+-- is current in the store after the changes before the step where the first was current in S, and the change is
+-- refused over that store
+pub record IsRefusedAt (can_fail : Bool) (first c : Catalogue) (changes : List Change) (S T : Contents)
+    (e : RefusedStep) : Type 0 where
   pub change : Change
   pub is : slice_get changes e.step ≡ Some change
   pub current : IsCurrent S first → IsCurrent (after_changes S (take e.step changes)) c
@@ -79,7 +89,9 @@ pub record IsRefusedAt (can_fail : Bool) (first c : Catalogue) (changes : List C
 
 -- ---- the stored group
 
--- the path of the catalogue means a version 3 group that holds its block, in the numbers of the store; a node opened there by the block, under Must, has the forest below it that one opened by a listing, under Never, has; and nothing in the store refuses either opening
+-- the path of the catalogue means a version 3 group that holds its block, in the numbers of the store; a node opened
+-- there by the block, under Must, has the forest below it that one opened by a listing, under Never, has; and nothing
+-- in the store refuses either opening
 pub record IsStored (S : Contents) (c : Catalogue) : Type 0 where
   pub group : GroupMetadata
   pub holds : group_block S.numbers group ≡ Some c.block
@@ -93,15 +105,20 @@ pub record IsGroupWithBlock (S : Contents) (c : Catalogue) (h : GroupState) : Ty
   pub means : MeansGroup S V3 c.path group.metadata
   pub set : h ≡ with_block group (Some c.block)
 
--- to store the catalogue is refused over a store S, which becomes T: the group is not opened; or out of memory; or with the block its document nests too deep, or is not stored
+-- to store the catalogue is refused over a store S, which becomes T: the group is not opened; or out of memory; or
+-- with the block its document nests too deep, or is not stored
 abbrev pub RefusesStored : Bool → Catalogue → Contents → Contents → StoringError → Type 0
 RefusesStored can_fail c S T (Group e) = (T ≡ S) × RefusesOpeningGroup can_fail S V3 (path_text c.path) e
 RefusesStored can_fail c S T (SetBlock e) = (T ≡ S) × (e ≡ NoMemory)
-RefusesStored can_fail c S T TooDeep = (T ≡ S) × ((h : GroupState) × IsGroupWithBlock S c h × (depth (group_tree h.metadata) ≤ max_depth → ⊥))
-RefusesStored can_fail c S T (StoreGroup e) = (h : GroupState) × IsGroupWithBlock S c h × RefusesStoringGroup can_fail h.convert_version h S T e
+RefusesStored can_fail c S T TooDeep =
+    (T ≡ S) × ((h : GroupState) × IsGroupWithBlock S c h × (depth (group_tree h.metadata) ≤ max_depth → ⊥))
+RefusesStored can_fail c S T (StoreGroup e) =
+    (h : GroupState) × IsGroupWithBlock S c h × RefusesStoringGroup can_fail h.convert_version h S T e
 RefusesStored can_fail c S T OutOfMemory = T ≡ S
 
--- to bring a first catalogue, which became c, up to date by changes over a store S, which became T, is refused: at a step; or all changes were applied, and to store c is refused
+-- to bring a first catalogue, which became c, up to date by changes over a store S, which became T, is refused: at a
+-- step; or all changes were applied, and to store c is refused
 abbrev pub RefusesUpdate : Bool → Catalogue → Catalogue → List Change → Contents → Contents → UpdateError → Type 0
 RefusesUpdate can_fail first c changes S T (Step e) = IsRefusedAt can_fail first c changes S T e
-RefusesUpdate can_fail first c changes S T (Storing e) = (IsCurrent S first → IsCurrent T c) × RefusesStored can_fail c (after_changes S changes) T e
+RefusesUpdate can_fail first c changes S T (Storing e) =
+    (IsCurrent S first → IsCurrent T c) × RefusesStored can_fail c (after_changes S changes) T e

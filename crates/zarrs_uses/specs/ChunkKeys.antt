@@ -4,7 +4,8 @@
 --     encoding_of m      the encoding that the metadata of an array say
 --     chunk_segments e indices      the key of a chunk, as segments
 --     IsNoDocument key      the key is that of no document
-use Rattle.std.specs.Prelude.{ℕ, ◌≢◌, List, [], ◌∷◌, ◌++◌, Contains, map, codes, bytes_eq, if◌then◌else◌, Option, Some, None, option_map, option_and_then}
+use Rattle.std.specs.Prelude.{ℕ, ◌≢◌, List, [], ◌∷◌, ◌++◌, Contains, map, codes, bytes_eq, if◌then◌else◌, Option, Some}
+use Rattle.std.specs.Prelude.{None, option_map, option_and_then}
 use Rattle.std.specs.Fmt.{decimal}
 use Rattle.std.specs.List.{join_with_byte}
 use Rattle.serde_json.specs.Data.{Data, Members}
@@ -22,6 +23,7 @@ use Rattle.zarrs_meta.specs.declared.node.ArrayMetadata.TheVariants as array
 use Rattle.zarrs_node.specs.Changes.{document_files}
 use Rattle.zarrs_uses.specs.declared.chunk_key.ChunkKeyEncoding.{ChunkKeyEncoding}
 use Rattle.zarrs_uses.specs.declared.chunk_key.ChunkKeyEncoding.TheVariants.{Default, V2}
+use Rattle.zarrs_fault.specs.Bytes.{period}
 
 -- ---- the encoding of an array
 
@@ -34,7 +36,8 @@ abbrev pub separator_in : ChunkKeySeparator → Option Members → Option ChunkK
 separator_in otherwise None = Some otherwise
 separator_in otherwise (Some ms) = unless_absent otherwise separator_text (get_member (codes "separator") ms)
 
--- the encoding by its name: `default`, with a slash where no separator is said, or `v2`, with a period; another name is no encoding, nor is another separator
+-- the encoding by its name: `default`, with a slash where no separator is said, or `v2`, with a period; another name
+-- is no encoding, nor is another separator
 abbrev pub encoding_v3 : MetadataV3 → Option ChunkKeyEncoding
 encoding_v3 m =
     if bytes_eq m.name (codes "default") then option_map Default (separator_in Slash m.configuration)
@@ -66,7 +69,7 @@ chunk_parts (V2 s) (i ∷ indices) = decimal i ∷ map decimal indices
 -- parts with slashes between them are segments, and with periods between them they are one segment
 abbrev pub segments_by : ChunkKeySeparator → List (List ℕ) → Segments
 segments_by Slash parts = parts
-segments_by Dot parts = join_with_byte 46 parts ∷ []
+segments_by Dot parts = join_with_byte period parts ∷ []
 
 -- the key of the chunk with these indices
 abbrev pub chunk_segments : ChunkKeyEncoding → List ℕ → Segments

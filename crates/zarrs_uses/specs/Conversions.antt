@@ -3,7 +3,8 @@
 -- <https://zarr-specs.readthedocs.io/en/latest/v2/v2.0.html#metadata>
 --     node_v3 m      the metadata as version 3, where they have that form
 --     KeepsOthers b S T      only documents `zarr.json` of nodes of version 2 differ
---     RefusesNodes N e, RefusesConverting can_fail b S T e      why nodes were not converted; what that left of the store
+--     RefusesNodes N e, RefusesConverting can_fail b S T e      why nodes were not converted; what that left of the
+-- store
 use Rattle.std.specs.Prelude.{◌≡◌, ◌≢◌, ◌⊎◌, ◌<◌, Bool, true, false, [], ◌∷◌, ◌++◌, Option, Some, None, Result, Ok, Err}
 use Rattle.std.specs.FinMap.{get}
 use Rattle.std.specs.declared.cmp.Ordering.TheVariants.{Less}
@@ -33,25 +34,31 @@ use Rattle.zarrs_node.specs.MapsOfNodes.{NodesFrom}
 use Rattle.zarrs_node.specs.Nodes.{ShowsBad}
 use Rattle.zarrs_node.specs.OpeningNodes.{RefusesNode}
 use Rattle.zarrs_uses.specs.declared.converter.ConvertError.{ConvertError}
-use Rattle.zarrs_uses.specs.declared.converter.ConvertError.TheVariants.{Node, Array, Depth, Fraction, Storage, OutOfMemory}
+use Rattle.zarrs_uses.specs.declared.converter.ConvertError.TheVariants.{Node, Array, Depth, Fraction, Storage}
+use Rattle.zarrs_uses.specs.declared.converter.ConvertError.TheVariants.{OutOfMemory}
+use Rattle.zarrs_block.specs.Meaning.{Pair}
 
 -- the array that was made, if there is one
 abbrev pub made_array_of : Result ArrayMetadataV3 Refusal → Option NodeMetadata
 made_array_of (Ok c) = Some (metadata.Array (array.V3 c))
 made_array_of (Err refusal) = None
 
--- the metadata as version 3: a group as its conversion, an array as its conversion where it has one, and what is of version 3 as it is
+-- the metadata as version 3: a group as its conversion, an array as its conversion where it has one, and what is of
+-- version 3 as it is
 abbrev pub node_v3 : NodeMetadata → Option NodeMetadata
 node_v3 (metadata.Group (group.V3 m)) = Some (metadata.Group (group.V3 m))
 node_v3 (metadata.Group (group.V2 m)) = Some (metadata.Group (group.V3 (group_v2_to_v3 m)))
 node_v3 (metadata.Array (array.V3 m)) = Some (metadata.Array (array.V3 m))
 node_v3 (metadata.Array (array.V2 m)) = made_array_of (array_v3 m)
 
--- every key has what it had, but those of the documents `zarr.json` of the nodes of version 2 at b and below it; and the numbers are as they were
+-- every key has what it had, but those of the documents `zarr.json` of the nodes of version 2 at b and below it; and
+-- the numbers are as they were
 abbrev pub KeepsOthers : Path → Contents → Contents → Type 0
 KeepsOthers b S T =
     (T.numbers ≡ S.numbers)
-    × ((key : Segments) → ((e : Path × NodeMetadata) → NodesFrom S Default b e → is_version_3 e.1 ≡ false → key ≢ e.0 ++ zarr_json ∷ []) → get T.values key ≡ get S.values key)
+    × ((key : Segments)
+        → ((e : Pair) → NodesFrom S Default b e → is_version_3 e.1 ≡ false → key ≢ e.0 ++ zarr_json ∷ [])
+        → get T.values key ≡ get S.values key)
 
 -- ---- refusals
 
@@ -60,8 +67,8 @@ abbrev pub RefusesFrom : Contents → MetadataRetrieveVersion → Path → NodeC
 RefusesFrom S v b e = RefusesNode S v b e ⊎ ShowsBad S v true b e
 
 -- each pair of N whose path is before p has a form of version 3
-abbrev pub ConvertBefore : (Path × NodeMetadata → Type 0) → Path → Type 0
-ConvertBefore N p = (e : Path × NodeMetadata) → N e → path_cmp e.0 p ≡ Less → (c : NodeMetadata) × (node_v3 e.1 ≡ Some c)
+abbrev pub ConvertBefore : (Pair → Type 0) → Path → Type 0
+ConvertBefore N p = (e : Pair) → N e → path_cmp e.0 p ≡ Less → (c : NodeMetadata) × (node_v3 e.1 ≡ Some c)
 
 -- the document of the metadata would nest deeper than a document that is read
 abbrev pub NestsTooDeep : NodeMetadata → Type 0
@@ -71,17 +78,20 @@ NestsTooDeep m = max_depth < depth (node_tree m)
 abbrev pub HasFraction : NodeMetadata → Type 0
 HasFraction m = is_plain_node m ≡ false
 
--- why pairs N were not converted: the error names the first array that has no form of version 3, or a pair whose form nests too deep or has a fraction; or
+-- why pairs N were not converted: the error names the first array that has no form of version 3, or a pair whose form
+-- nests too deep or has a fraction; or
 -- it is out of memory
-abbrev pub RefusesNodes : (Path × NodeMetadata → Type 0) → ConvertError → Type 0
+abbrev pub RefusesNodes : (Pair → Type 0) → ConvertError → Type 0
 RefusesNodes N (Node e) = ⊥
-RefusesNodes N (Array p e) = (m : ArrayMetadataV2) × N (p, metadata.Array (array.V2 m)) × ShowsRefusal e (array_v3 m) × ConvertBefore N p
+RefusesNodes N (Array p e) =
+    (m : ArrayMetadataV2) × N (p, metadata.Array (array.V2 m)) × ShowsRefusal e (array_v3 m) × ConvertBefore N p
 RefusesNodes N (Depth p) = (m c : NodeMetadata) × N (p, m) × (node_v3 m ≡ Some c) × NestsTooDeep c
 RefusesNodes N (Fraction p) = (m c : NodeMetadata) × N (p, m) × (node_v3 m ≡ Some c) × HasFraction c
 RefusesNodes N (Storage e) = ⊥
 RefusesNodes N OutOfMemory = Unit {0}
 
--- a refused converting: the store is as it was, and b or something below it is refused, or does not convert; or else the store refused
+-- a refused converting: the store is as it was, and b or something below it is refused, or does not convert; or else
+-- the store refused
 abbrev pub RefusesConverting : Bool → Path → Contents → Contents → ConvertError → Type 0
 RefusesConverting can_fail b S T (Node e) = (T ≡ S) × IsExcusedOr can_fail (RefusesFrom S Default b) e
 RefusesConverting can_fail b S T (Array p e) = (T ≡ S) × RefusesNodes (NodesFrom S Default b) (Array p e)
@@ -90,7 +100,8 @@ RefusesConverting can_fail b S T (Fraction p) = (T ≡ S) × RefusesNodes (Nodes
 RefusesConverting can_fail b S T (Storage e) = IsStoreError can_fail e
 RefusesConverting can_fail b S T OutOfMemory = T ≡ S
 
--- a refused erasing: b or something below it is refused by version 3, or it is out of memory, and the store is as it was; or else the store refused
+-- a refused erasing: b or something below it is refused by version 3, or it is out of memory, and the store is as it
+-- was; or else the store refused
 abbrev pub RefusesErasing : Bool → MetadataRetrieveVersion → Path → Contents → Contents → ConvertError → Type 0
 RefusesErasing can_fail v b S T (Node e) = (T ≡ S) × IsExcusedOr can_fail (RefusesFrom S v b) e
 RefusesErasing can_fail v b S T (Array p e) = ⊥

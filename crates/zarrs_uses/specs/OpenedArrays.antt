@@ -1,11 +1,13 @@
--- Zarr core specification 3.1, "Array metadata" and "Storage keys": an array that was opened, its chunks, and what refuses them.
+-- Zarr core specification 3.1, "Array metadata" and "Storage keys": an array that was opened, its chunks, and what
+-- refuses them.
 -- <https://zarr-specs.readthedocs.io/en/latest/v3/core/index.html#array-metadata>
 -- <https://zarr-specs.readthedocs.io/en/latest/v3/core/index.html#storage-keys>
 --     RefusesOpeningArray      why a path was not opened as an array
 --     shape_of, data_type_of      what the metadata of either version say
 --     chunk_key_of, chunk_in      the key of a chunk, and what a store has there
 --     RefusesChunkKey, RefusesChunk      why a chunk has no key, and why no chunk was read
-use Rattle.std.specs.Prelude.{ℕ, ◌≡◌, ◌≢◌, ◌⊎◌, Bool, List, ◌++◌, length, string_bytes, Option, None, option_map, Result, Ok}
+use Rattle.std.specs.Prelude.{ℕ, ◌≡◌, ◌≢◌, ◌⊎◌, Bool, List, ◌++◌, length, string_bytes, Option, None, option_map}
+use Rattle.std.specs.Prelude.{Result, Ok}
 use Rattle.std.specs.FinMap.{get}
 use Rattle.zarrs_store.specs.Segments.{Segments}
 use Rattle.zarrs_store.specs.Contents.{Contents}
@@ -28,7 +30,8 @@ use Rattle.zarrs_uses.specs.declared.opened_array.OpenedArray.{OpenedArray}
 use Rattle.zarrs_uses.specs.declared.opened_array.OpenArrayError.{OpenArrayError}
 use Rattle.zarrs_uses.specs.declared.opened_array.OpenArrayError.TheVariants.{Node, NotAnArray}
 use Rattle.zarrs_uses.specs.declared.opened_array.ChunkError.{ChunkError}
-use Rattle.zarrs_uses.specs.declared.opened_array.ChunkError.TheVariants.{UnsupportedEncoding, WrongIndices, Store, OutOfMemory}
+use Rattle.zarrs_uses.specs.declared.opened_array.ChunkError.TheVariants.{UnsupportedEncoding, WrongIndices, Store}
+use Rattle.zarrs_uses.specs.declared.opened_array.ChunkError.TheVariants.{OutOfMemory}
 
 -- ---- opening
 
@@ -36,10 +39,12 @@ use Rattle.zarrs_uses.specs.declared.opened_array.ChunkError.TheVariants.{Unsupp
 abbrev pub RefusesNodeAt : Contents → MetadataRetrieveVersion → List ℕ → NodeCreateError → Type 0
 RefusesNodeAt s v text e = RefusesText text e ⊎ ((p : Path) × IsPath p × (path_text p ≡ text) × RefusesNode s v p e)
 
--- no node was opened, and the error is excused or refuses the text; or the text is that of the path that the error has, and the path means a group
+-- no node was opened, and the error is excused or refuses the text; or the text is that of the path that the error
+-- has, and the path means a group
 abbrev pub RefusesOpeningArray : Bool → Contents → MetadataRetrieveVersion → List ℕ → OpenArrayError → Type 0
 RefusesOpeningArray can_fail s v text (Node e) = IsExcusedOr can_fail (RefusesNodeAt s v text) e
-RefusesOpeningArray can_fail s v text (NotAnArray p) = IsPath p × (path_text p ≡ text) × ((g : GroupMetadata) × (meaning s v p ≡ node (Group g)))
+RefusesOpeningArray can_fail s v text (NotAnArray p) =
+    IsPath p × (path_text p ≡ text) × ((g : GroupMetadata) × (meaning s v p ≡ node (Group g)))
 
 -- ---- the metadata
 
@@ -63,10 +68,12 @@ chunk_key_of a indices = option_map (λ e. a.path ++ chunk_segments e indices) (
 abbrev pub chunk_in : Contents → OpenedArray → List ℕ → Option (Option (List ℕ))
 chunk_in s a indices = option_map (get s.values) (chunk_key_of a indices)
 
--- the array's encoding is not supported, and the error has its name; or the indices are not as many as the dimensions, and the error has both numbers; or out of memory
+-- the array's encoding is not supported, and the error has its name; or the indices are not as many as the
+-- dimensions, and the error has both numbers; or out of memory
 abbrev pub RefusesChunkKey : ArrayMetadata → List ℕ → ChunkError → Type 0
 RefusesChunkKey m indices (UnsupportedEncoding name) = (encoding_of m ≡ None) × (string_bytes name ≡ encoding_name m)
-RefusesChunkKey m indices (WrongIndices given dimensions) = (given ≡ length indices) × (dimensions ≡ length (shape_of m)) × (given ≢ dimensions)
+RefusesChunkKey m indices (WrongIndices given dimensions) =
+    (given ≡ length indices) × (dimensions ≡ length (shape_of m)) × (given ≢ dimensions)
 RefusesChunkKey m indices (Store e) = ⊥
 RefusesChunkKey m indices OutOfMemory = Unit {0}
 

@@ -14,7 +14,9 @@ use Rattle.zarrs_convert.specs.Refusals.{ShowsRefusal}
 use Rattle.zarrs_node.specs.MapsOfNodes.{IsDocumentFor}
 use Rattle.zarrs_uses.specs.Conversions.{node_v3, HasFraction, NestsTooDeep}
 use Rattle.zarrs_uses.specs.declared.converter.ConvertError.{ConvertError}
-use Rattle.zarrs_uses.specs.declared.converter.ConvertError.TheVariants.{Node, Array, Depth, Fraction, Storage, OutOfMemory}
+use Rattle.zarrs_uses.specs.declared.converter.ConvertError.TheVariants.{Node, Array, Depth, Fraction, Storage}
+use Rattle.zarrs_uses.specs.declared.converter.ConvertError.TheVariants.{OutOfMemory}
+use Rattle.zarrs_block.specs.Meaning.{Pair}
 
 -- metadata of version 2 are converted, and those of version 3 left
 abbrev pub IsConverted : NodeMetadata → Option NodeMetadata → Type 0
@@ -22,14 +24,16 @@ IsConverted m None = is_version_3 m ≡ true
 IsConverted m (Some c) = (is_version_3 m ≡ false) × (node_v3 m ≡ Some c)
 
 -- a node of version 2 has this document of version 3, and one of version 3 none more
-abbrev pub HasDocument : Path × NodeMetadata → Option (Segments × Vec ℕ) → Type 0
+abbrev pub HasDocument : Pair → Option (Segments × Vec ℕ) → Type 0
 HasDocument e None = is_version_3 e.1 ≡ true
 HasDocument e (Some d) = (is_version_3 e.1 ≡ false) × IsDocumentFor node_v3 e d
 
--- the metadata at p are of an array that has no form of version 3, or their form nests too deep or has a fraction, and the error names p; or it is out of memory
+-- the metadata at p are of an array that has no form of version 3, or their form nests too deep or has a fraction,
+-- and the error names p; or it is out of memory
 abbrev pub RefusesMetadataAt : Path → NodeMetadata → ConvertError → Type 0
 RefusesMetadataAt p m (Node e) = ⊥
-RefusesMetadataAt p m (Array q e) = (q ≡ p) × (a : ArrayMetadataV2) × (m ≡ metadata.Array (array.V2 a)) × ShowsRefusal e (array_v3 a)
+RefusesMetadataAt p m (Array q e) =
+    (q ≡ p) × (a : ArrayMetadataV2) × (m ≡ metadata.Array (array.V2 a)) × ShowsRefusal e (array_v3 a)
 RefusesMetadataAt p m (Depth q) = (q ≡ p) × (c : NodeMetadata) × (node_v3 m ≡ Some c) × NestsTooDeep c
 RefusesMetadataAt p m (Fraction q) = (q ≡ p) × (c : NodeMetadata) × (node_v3 m ≡ Some c) × HasFraction c
 RefusesMetadataAt p m (Storage e) = ⊥

@@ -9,7 +9,8 @@
 --     FindsEither s n x y      nothing else than these two is found at the name, now or after a crash
 --     AtEachPoint P s asked      this holds before each of the calls, in the midst of each, and after the last
 use Rattle.std.specs.Prelude.{◌≡◌, ◌≢◌, ◌⊎◌, ℕ, ◌+◌, List, [], ◌∷◌, ◌++◌, Option, Some, None}
-use Rattle.zarrs_write.specs.Calls.{Name, Bytes, Call, found, created, kept, wrote, synced, renamed, settled, removed, Asked, did, failed}
+use Rattle.zarrs_write.specs.Calls.{Name, Bytes, Call, found, created, kept, wrote, synced, renamed, settled, removed}
+use Rattle.zarrs_write.specs.Calls.{Asked, did, failed}
 
 -- a file: the one that stood at this name at first; or the one that was made as the first, the second, and so on
 pub data File : Type 0 where

@@ -3,7 +3,8 @@
 -- <https://pubs.opengroup.org/onlinepubs/9699919799/functions/fsync.html>
 use Rattle.std.specs.Prelude.{ℕ, List, ◌++◌, codes, string_bytes}
 use Rattle.zarrs_write.specs.declared.fault.Step.{Step}
-use Rattle.zarrs_write.specs.declared.fault.Step.TheVariants.{Reading, Making, Keeping, Writing, Syncing, ReadingAgain, Renaming, Removing}
+use Rattle.zarrs_write.specs.declared.fault.Step.TheVariants.{Reading, Making, Keeping, Writing, Syncing, ReadingAgain}
+use Rattle.zarrs_write.specs.declared.fault.Step.TheVariants.{Renaming, Removing}
 use Rattle.zarrs_write.specs.declared.fault.PlaceFault.{PlaceFault}
 use Rattle.zarrs_write.specs.declared.fault.PlaceFault.TheVariants.{Refused, OutOfMemory as NoMemory}
 use Rattle.zarrs_write.specs.declared.fault.ReplaceError.{ReplaceError}

@@ -7,7 +7,8 @@
 --     UnsyncedMayBeAnything      a renaming before the sync is not safe from a crash
 use Rattle.std.specs.Prelude.{◌≡◌, ◌≢◌, ◌⊎◌, List, Option, Some, None}
 use Rattle.zarrs_write.specs.Calls.{Name, Bytes, created, wrote, renamed, Asked}
-use Rattle.zarrs_write.specs.Crashes.{Folder, first_folder, after_done, MayFindAfterCrash, FindsEither, FindsOnly, AtEachPoint}
+use Rattle.zarrs_write.specs.Crashes.{Folder, first_folder, after_done, MayFindAfterCrash, FindsEither, FindsOnly}
+use Rattle.zarrs_write.specs.Crashes.{AtEachPoint}
 use Rattle.zarrs_write.specs.ReplacingDocuments.{temporary, asked_for, IsBrokenOff}
 use Rattle.zarrs_write.specs.RemovingDocuments.{asked_of_removal, IsRemovalBrokenOff}
 use Rattle.zarrs_write.specs.declared.fault.ReplaceError.{ReplaceError}

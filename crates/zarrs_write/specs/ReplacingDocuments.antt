@@ -6,13 +6,16 @@
 --     asked_for done old temp name bytes      the calls of a replacement that ends well
 --     IsBrokenOff e old temp name bytes asked      the calls of one that ends with this error
 --     NamesFile e temp name      the error names this document, or its temporary file
-use Rattle.std.specs.Prelude.{◌≡◌, ◌≢◌, ◌⊎◌, ℕ, Bool, true, false, if◌then◌else◌, List, [], ◌∷◌, ◌++◌, Option, ⊤, codes, string_bytes, option_map}
+use Rattle.std.specs.Prelude.{◌≡◌, ◌≢◌, ◌⊎◌, ℕ, Bool, true, false, if◌then◌else◌, List, [], ◌∷◌, ◌++◌, Option, ⊤, codes}
+use Rattle.std.specs.Prelude.{string_bytes, option_map}
 use Rattle.std.specs.Global.{Vec}
-use Rattle.zarrs_write.specs.Calls.{Name, Bytes, Call, found, created, kept, wrote, synced, renamed, settled, removed, Asked, did, failed, all_done}
+use Rattle.zarrs_write.specs.Calls.{Name, Bytes, Call, found, created, kept, wrote, synced, renamed, settled, removed}
+use Rattle.zarrs_write.specs.Calls.{Asked, did, failed, all_done}
 use Rattle.zarrs_write.specs.declared.replace.Replaced.{Replaced}
 use Rattle.zarrs_write.specs.declared.replace.Replaced.TheVariants.{Unchanged, Written}
 use Rattle.zarrs_write.specs.declared.fault.Step.{Step}
-use Rattle.zarrs_write.specs.declared.fault.Step.TheVariants.{Reading, Making, Keeping, Writing, Syncing, ReadingAgain, Renaming, Removing}
+use Rattle.zarrs_write.specs.declared.fault.Step.TheVariants.{Reading, Making, Keeping, Writing, Syncing, ReadingAgain}
+use Rattle.zarrs_write.specs.declared.fault.Step.TheVariants.{Renaming, Removing}
 use Rattle.zarrs_write.specs.declared.fault.ReplaceError.{ReplaceError}
 use Rattle.zarrs_write.specs.declared.fault.ReplaceError.TheVariants.{LeftOver, Changed, Failed, Unsettled, OutOfMemory}
 

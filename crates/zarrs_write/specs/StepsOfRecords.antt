@@ -1,7 +1,8 @@
 -- How a place in memory notes a call (POSIX.1-2017, `rename`).
 -- <https://pubs.opengroup.org/onlinepubs/9699919799/functions/rename.html>
 use Rattle.std.specs.Prelude.{ℕ, List, slice_index, ◌==◌, if◌then◌else◌, Some, None, Result, Ok, Err}
-use Rattle.zarrs_write.specs.Calls.{Call, found, created, kept, wrote, synced, renamed, settled, removed, Asked, did, failed}
+use Rattle.zarrs_write.specs.Calls.{Call, found, created, kept, wrote, synced, renamed, settled, removed, Asked, did}
+use Rattle.zarrs_write.specs.Calls.{failed}
 
 -- a call by its number, a name or bytes, and another name or bytes
 abbrev pub call_of : ℕ → List ℕ → List ℕ → Call

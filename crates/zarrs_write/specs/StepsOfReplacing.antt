@@ -1,7 +1,8 @@
 -- How a replacement and a removal are put together (POSIX.1-2017, `rename`).
 -- <https://pubs.opengroup.org/onlinepubs/9699919799/functions/rename.html>
 use Rattle.std.specs.Prelude.{◌≡◌, ◌≢◌, List, [], ◌∷◌, ◌++◌, Option}
-use Rattle.zarrs_write.specs.Calls.{Name, Bytes, found, kept, wrote, synced, renamed, settled, removed, Asked, did, failed, all_done}
+use Rattle.zarrs_write.specs.Calls.{Name, Bytes, found, kept, wrote, synced, renamed, settled, removed, Asked, did}
+use Rattle.zarrs_write.specs.Calls.{failed, all_done}
 use Rattle.zarrs_write.specs.ReplacingDocuments.{preparing, IsBrokenOffAt, FindsOther, IsBrokenOff}
 use Rattle.zarrs_write.specs.RemovingDocuments.{IsRemovalBrokenOffAt, IsRemovalBrokenOff}
 use Rattle.zarrs_write.specs.declared.fault.ReplaceError.{ReplaceError}

@@ -1,7 +1,7 @@
 use Rattle.std.proofs.Common.{map, string_bytes, refl, sym, ap, ◌∙◌}
 use Rattle.std.specs.Vec.Iter.{into_iter_items}
 use Rattle.zarrs_block.specs.BlockExpansion.{is_covered}
-use Rattle.zarrs_block.proofs.Covered.{key_put}
+use Rattle.zarrs_block.proofs.CoveredKeys.{key_put}
 use Rattle.zarrs_block.proofs.expand.covered_keys.Goals as goal
 
 pub loop-key-preserved-then-is_covered : goal.loop-key-preserved-then-is_covered

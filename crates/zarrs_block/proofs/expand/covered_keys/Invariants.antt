@@ -1,6 +1,6 @@
 use Rattle.std.proofs.Common.{map, string_bytes}
 use Rattle.std.specs.Vec.Iter.{into_iter_items}
-use Rattle.zarrs_block.proofs.Covered.{AreGathered}
+use Rattle.zarrs_block.proofs.CoveredKeys.{AreGathered}
 use Rattle.zarrs_block.proofs.expand.covered_keys.Given as goal
 
 -- the first keys behind a slash are gathered where they are covered, and the others are left

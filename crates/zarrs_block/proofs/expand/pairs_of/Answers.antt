@@ -7,7 +7,7 @@ use Rattle.zarrs_block.specs.BlockExpansion.{path_at}
 use Rattle.zarrs_block.specs.StepsOfExpansion.{IsPlainKey}
 use Rattle.zarrs_block.specs.declared.node_create_error.NodeCreateError.TheVariants.{NodePathError}
 use Rattle.zarrs_block.proofs.BlockLaws.{shown}
-use Rattle.zarrs_block.proofs.Covered.{path_asked}
+use Rattle.zarrs_block.proofs.CoveredKeys.{path_asked}
 use Rattle.zarrs_block.proofs.Expansion.{IsExpanding, all_expanded, expanded_none, expanded_some, is_there, keys_refused, map_ascends, refuses_key}
 use Rattle.zarrs_block.proofs.PlainKeys.{plain_next, plain_pairs}
 use Rattle.zarrs_block.proofs.expand.pairs_of.Goals.{in-Some-2+in_ok-push-in-Some-2, in-None-2}

@@ -1,6 +1,6 @@
 use Rattle.std.proofs.Common.{inl, inr, sym, ◌∙◌}
 use Rattle.std.proofs.lemmas.Slice.Eq.{bytes_eq-Decides}
-use Rattle.zarrs_block.proofs.Covered.{own_key, empty_text}
+use Rattle.zarrs_block.proofs.CoveredKeys.{own_key, empty_text}
 use Rattle.zarrs_block.proofs.KeyLaws.{valid_joined}
 use Rattle.zarrs_block.proofs.expand.path_of.Goals.{then-is_empty-via-then-is_empty, then-is_empty-via-else-is_empty+then-eq}
 use Rattle.zarrs_block.proofs.expand.path_of.Goals as goal

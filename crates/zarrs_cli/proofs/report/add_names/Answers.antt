@@ -1,5 +1,5 @@
 use Rattle.zarrs_cli.specs.StepsOfReports.{name_remark}
-use Rattle.zarrs_cli.proofs.Telling.{told_next}
+use Rattle.zarrs_cli.proofs.ToldRemarks.{told_next}
 use Rattle.zarrs_cli.proofs.report.add_names.Goals as goal
 
 pub loop-name-preserved : goal.loop-name-preserved

@@ -1,7 +1,7 @@
 use Rattle.std.proofs.Common.{subst, ap, ◌∙◌, ◌++◌, map}
 use Rattle.zarrs_cli.specs.Report.{remark_of, tally_of}
 use Rattle.zarrs_cli.specs.StepsOfReports.{AreSorted, asked_of, remarks_from}
-use Rattle.zarrs_cli.proofs.Telling.{report_is}
+use Rattle.zarrs_cli.proofs.ToldRemarks.{report_is}
 use Rattle.zarrs_cli.proofs.report.report_of_check.Goals as goal
 
 pub returns : goal.returns

@@ -1,4 +1,4 @@
-use Rattle.zarrs_folder.proofs.PassedLoading.{passed_hold_same}
+use Rattle.zarrs_folder.proofs.PassedPaths.{passed_hold_same}
 use Rattle.zarrs_folder.proofs.laws.passed_hold_same.Goals as goal
 
 pub returns : goal.returns

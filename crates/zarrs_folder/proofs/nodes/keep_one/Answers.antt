@@ -2,7 +2,7 @@ use Rattle.std.proofs.Common.{subst}
 use Rattle.std.specs.Prelude.{IfSome}
 use Rattle.zarrs_store.specs.Contents.{Values, HasKey, IsKeyBelow}
 use Rattle.zarrs_folder.specs.Folders.{values_of}
-use Rattle.zarrs_folder.proofs.Loading.{inserted_has, marker_grown, none_found}
+use Rattle.zarrs_folder.proofs.LoadingSteps.{inserted_has, marker_grown, none_found}
 use Rattle.zarrs_folder.proofs.nodes.keep_one.Goals as goal
 
 pub returns-in_ok-insert-in-Ok-None-clause-grows : goal.returns-in_ok-insert-in-Ok-None-clause-grows

@@ -1,7 +1,7 @@
 use Rattle.std.proofs.Common.{ap, refl, subst, sym}
 use Rattle.zarrs_folder.specs.Folders.{values_of}
 use Rattle.zarrs_folder.specs.PrunedStores.{HasNoOtherKeys, HasSameFiles}
-use Rattle.zarrs_folder.proofs.Loading.{none_in_empty}
+use Rattle.zarrs_folder.proofs.LoadingSteps.{none_in_empty}
 use Rattle.zarrs_folder.proofs.nodes.load_base.Goals as goal
 
 pub returns-clause-ok : goal.returns-clause-ok

@@ -1,7 +1,7 @@
 use Rattle.std.proofs.Common.{subst, sym}
 use Rattle.zarrs_store.specs.Contents.{IsChildPrefix}
 use Rattle.zarrs_folder.specs.Folders.{values_of}
-use Rattle.zarrs_folder.proofs.Loading.{all_loaded, array_loaded, begun}
+use Rattle.zarrs_folder.proofs.LoadingSteps.{all_loaded, array_loaded, begun}
 use Rattle.zarrs_folder.proofs.nodes.load_below.Goals as goal
 
 pub returns-then-is_array-clause-ok : goal.returns-then-is_array-clause-ok

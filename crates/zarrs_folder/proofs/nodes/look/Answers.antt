@@ -1,7 +1,7 @@
 use Rattle.std.proofs.Common.{subst}
 use Rattle.zarrs_path.specs.PathErrors.{RefusesSegments}
 use Rattle.zarrs_folder.specs.Folders.{values_of}
-use Rattle.zarrs_folder.proofs.Loading.{no_path_done, ok_both}
+use Rattle.zarrs_folder.proofs.LoadingSteps.{no_path_done, ok_both}
 use Rattle.zarrs_folder.proofs.nodes.look.Goals as goal
 
 pub returns-in-Err-Invalid-clause-ok : goal.returns-in-Err-Invalid-clause-ok

@@ -3,7 +3,7 @@ use Rattle.zarrs_path.specs.Paths.{IsBelow}
 use Rattle.zarrs_config.specs.declared.version.MetadataRetrieveVersion.TheVariants.{Default}
 use Rattle.zarrs_block.specs.Meaning.{meaning, node}
 use Rattle.zarrs_folder.specs.Folders.{in_any, values_of}
-use Rattle.zarrs_folder.proofs.Loading.{alone_turn, group_turn, grows_itself, not_group_found, passed_over}
+use Rattle.zarrs_folder.proofs.LoadingSteps.{alone_turn, group_turn, grows_itself, not_group_found, passed_over}
 use Rattle.zarrs_folder.proofs.nodes.look_at.Goals as goal
 
 pub returns-then-not-is_below-clause-ok : goal.returns-then-not-is_below-clause-ok

@@ -1,5 +1,5 @@
 use Rattle.zarrs_folder.specs.Folders.{values_of}
-use Rattle.zarrs_folder.proofs.Loading.{document_below, document_got, document_grown, inserted_has, some_found}
+use Rattle.zarrs_folder.proofs.LoadingSteps.{document_below, document_got, document_grown, inserted_has, some_found}
 use Rattle.zarrs_folder.proofs.nodes.read_document.Goals as goal
 
 pub returns-in_ok-insert-in-Some-clause-grows : goal.returns-in_ok-insert-in-Some-clause-grows

@@ -1,5 +1,5 @@
 use Rattle.zarrs_folder.specs.Folders.{values_of}
-use Rattle.zarrs_folder.proofs.Loading.{five_got, five_grown, ok_both}
+use Rattle.zarrs_folder.proofs.LoadingSteps.{five_got, five_grown, ok_both}
 use Rattle.zarrs_folder.proofs.nodes.read_documents.Goals as goal
 
 pub returns-clause-grows : goal.returns-clause-grows

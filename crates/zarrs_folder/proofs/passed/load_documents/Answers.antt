@@ -1,8 +1,8 @@
 use Rattle.std.proofs.Common.{subst, sym}
 use Rattle.zarrs_store.specs.Contents.{IsChildPrefix}
 use Rattle.zarrs_folder.specs.Folders.{values_of}
-use Rattle.zarrs_folder.proofs.Loading.{ok_both}
-use Rattle.zarrs_folder.proofs.PassedLoading.{passed_begun, passed_ended}
+use Rattle.zarrs_folder.proofs.LoadingSteps.{ok_both}
+use Rattle.zarrs_folder.proofs.PassedPaths.{passed_begun, passed_ended}
 use Rattle.zarrs_folder.proofs.passed.load_documents.Goals as goal
 
 pub returns-clause-below : goal.returns-clause-below

@@ -1,5 +1,5 @@
 use Rattle.zarrs_folder.specs.Folders.{values_of}
-use Rattle.zarrs_folder.proofs.PassedLoading.{passed_turn, three_got, three_grown}
+use Rattle.zarrs_folder.proofs.PassedPaths.{passed_turn, three_got, three_grown}
 use Rattle.zarrs_folder.proofs.passed.load_one.Goals as goal
 
 pub returns-clause-grows : goal.returns-clause-grows

@@ -1,9 +1,9 @@
 use Rattle.std.proofs.Common.{arith, ◌∷◌, ◌++◌, [], ap, subst, take, take_all, ◌∙◌}
-use Rattle.zarrs_form.proofs.Shared.{take_next}
+use Rattle.zarrs_form.proofs.MemberLists.{take_next}
 use Rattle.zarrs_folder.specs.Folders.{values_of}
 use Rattle.zarrs_folder.specs.PassedPaths.{HoldsFilesOf}
-use Rattle.zarrs_folder.proofs.Loading.{grows_further}
-use Rattle.zarrs_folder.proofs.PassedLoading.{at_another, at_grows, loaded_grows}
+use Rattle.zarrs_folder.proofs.LoadingSteps.{grows_further}
+use Rattle.zarrs_folder.proofs.PassedPaths.{at_another, at_grows, loaded_grows}
 use Rattle.zarrs_folder.proofs.paths.load_paths.Goals as goal
 
 pub loop-path-preserved : goal.loop-path-preserved

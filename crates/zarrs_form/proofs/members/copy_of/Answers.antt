@@ -1,4 +1,4 @@
-use Rattle.zarrs_form.proofs.Shared.{members_view-clone}
+use Rattle.zarrs_form.proofs.MemberLists.{members_view-clone}
 use Rattle.zarrs_form.proofs.members.copy_of.Goals as goal
 
 pub returns : goal.returns

@@ -1,5 +1,5 @@
 use Rattle.std.proofs.Common.{◌∙◌, sym, bytes_eq}
-use Rattle.zarrs_form.proofs.Shared.{list_any-map}
+use Rattle.zarrs_form.proofs.MemberLists.{list_any-map}
 use Rattle.zarrs_form.proofs.members.is_one_of.Goals as goal
 
 pub returns : goal.returns

@@ -1,7 +1,7 @@
 use Rattle.std.proofs.Common.{refl}
 use Rattle.std.proofs.lemmas.Str.{is_utf8-from_IsUtf8}
 use Rattle.zarrs_form.specs.Documents.{json_of}
-use Rattle.zarrs_form.proofs.Shared.{parsed_none}
+use Rattle.zarrs_form.proofs.MemberLists.{parsed_none}
 use Rattle.zarrs_form.proofs.members.parse.Goals as goal
 
 pub returns-in-Ok : goal.returns-in-Ok

@@ -1,7 +1,7 @@
 use Rattle.std.proofs.Common.{◌∙◌, sym, ap}
 use Rattle.zarrs_block.specs.Policy.{block_to_use}
 use Rattle.zarrs_node.specs.BlocksBelow.{block_at}
-use Rattle.zarrs_hierarchy.proofs.Opening.{clean_by, holds_array, holds_told}
+use Rattle.zarrs_hierarchy.proofs.OpenedPairs.{clean_by, holds_array, holds_told}
 use Rattle.zarrs_hierarchy.proofs.open.nodes_from.Goals as goal
 
 pub returns-then-not-is_group-clause-holds : goal.returns-then-not-is_group-clause-holds

@@ -3,7 +3,7 @@ use Rattle.zarrs_block.specs.Policy.{as_block}
 use Rattle.zarrs_node.specs.BlocksBelow.{PairsBelow}
 use Rattle.zarrs_node.specs.Nodes.{Nodes}
 use Rattle.zarrs_hierarchy.specs.StepsOfHierarchies.{TakesPairs}
-use Rattle.zarrs_hierarchy.proofs.Opening.{told_forest}
+use Rattle.zarrs_hierarchy.proofs.OpenedPairs.{told_forest}
 use Rattle.zarrs_hierarchy.proofs.open.tell_below.Goals as goal
 
 pub returns-in_ok-walk_child_nodes-in-None-clause-takes : goal.returns-in_ok-walk_child_nodes-in-None-clause-takes

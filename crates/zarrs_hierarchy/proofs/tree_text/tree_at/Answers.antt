@@ -1,4 +1,4 @@
-use Rattle.zarrs_hierarchy.proofs.Opening.{told_tree}
+use Rattle.zarrs_hierarchy.proofs.OpenedPairs.{told_tree}
 use Rattle.zarrs_hierarchy.proofs.tree_text.tree_at.Goals as goal
 
 pub returns-clause-tree : goal.returns-clause-tree

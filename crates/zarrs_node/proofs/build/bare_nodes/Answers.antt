@@ -1,6 +1,6 @@
 use Rattle.std.proofs.Common.{ap, ◌∙◌}
 use Rattle.zarrs_node.specs.LastOfEqualPaths.{row}
-use Rattle.zarrs_node.proofs.Holds.{all_more, none_left}
+use Rattle.zarrs_node.proofs.PassSteps.{all_more, none_left}
 use Rattle.zarrs_node.proofs.Direct.{row_step, done_all}
 use Rattle.zarrs_node.proofs.build.bare_nodes.Goals as goal
 

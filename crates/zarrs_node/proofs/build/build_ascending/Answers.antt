@@ -1,5 +1,5 @@
 use Rattle.std.proofs.Common.{◌≡◌, ◌+◌, subst, arith}
-use Rattle.zarrs_node.proofs.Holds.{Counts, turn, all_more, counts_closed, counts_taken, few_steps, few_last, none_left, end_shows, end_count}
+use Rattle.zarrs_node.proofs.PassSteps.{Counts, turn, all_more, counts_closed, counts_taken, few_steps, few_last, none_left, end_shows, end_count}
 use Rattle.zarrs_node.proofs.build.build_ascending.Goals as goal
 
 pub overflow_add-steps-in-loop-path : goal.overflow_add-steps-in-loop-path

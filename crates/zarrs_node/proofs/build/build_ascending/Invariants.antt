@@ -1,6 +1,6 @@
 use Rattle.std.proofs.Common.{◌≡◌, ◌++◌}
 use Rattle.std.specs.Vec.Iter.{into_iter_items}
-use Rattle.zarrs_node.proofs.Holds.{Holds, Counts}
+use Rattle.zarrs_node.proofs.PassSteps.{Holds, Counts}
 use Rattle.zarrs_node.proofs.build.build_ascending.Given as goal
 
 abbrev pub invariant-loop-path : goal.invariant-loop-path

@@ -1,5 +1,5 @@
 use Rattle.zarrs_node.specs.Forest.{forest}
-use Rattle.zarrs_node.proofs.Counted.{counted_shows, counted_steps}
+use Rattle.zarrs_node.proofs.FlatForests.{counted_shows, counted_steps}
 use Rattle.zarrs_node.proofs.build.build_node_tree_counted.Goals as goal
 
 pub returns-clause-shows : goal.returns-clause-shows

@@ -1,6 +1,6 @@
 use Rattle.std.proofs.Common.{◌∷◌, ◌++◌, [], sym, subst, ◌∙◌, true≢false}
 use Rattle.zarrs_node.specs.LastOfEqualPaths.{StandBelow}
-use Rattle.zarrs_node.proofs.Holds.{all_more, none_left}
+use Rattle.zarrs_node.proofs.PassSteps.{all_more, none_left}
 use Rattle.zarrs_node.proofs.Direct.{stand_child, stand_other, done_all}
 use Rattle.zarrs_node.proofs.build.children_of.Goals as goal
 

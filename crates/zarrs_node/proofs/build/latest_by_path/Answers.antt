@@ -1,6 +1,6 @@
 use Rattle.std.proofs.Common.{sym, subst, rules}
 use Rattle.std.specs.List.Sorted.{IsSortedBy}
-use Rattle.zarrs_node.proofs.Holds.{all_more, none_left}
+use Rattle.zarrs_node.proofs.PassSteps.{all_more, none_left}
 use Rattle.zarrs_block.proofs.InOrder.{before, sorted_by_path, stable_by_path}
 use Rattle.zarrs_node.proofs.Lasts.{KeepsLast, keeps_turn, all_sorted, latest_all}
 use Rattle.zarrs_node.proofs.build.latest_by_path.Goals as goal

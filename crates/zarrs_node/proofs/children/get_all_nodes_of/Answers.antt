@@ -1,4 +1,4 @@
-use Rattle.zarrs_node.proofs.Feeding.{listed_pairs, ascending_pairs}
+use Rattle.zarrs_node.proofs.SinkSteps.{listed_pairs, ascending_pairs}
 use Rattle.zarrs_node.proofs.children.get_all_nodes_of.Goals as goal
 
 pub returns-clause-nodes : goal.returns-clause-nodes

@@ -3,7 +3,7 @@ use Rattle.zarrs_node.specs.Forest.{forest}
 use Rattle.zarrs_node.specs.StepsOfTrees.{graft}
 use Rattle.zarrs_node.specs.StepsOfCounting.{weights}
 use Rattle.zarrs_node.specs.StepsOfGrafts.{plug}
-use Rattle.zarrs_node.proofs.Plugged.{waiting}
+use Rattle.zarrs_node.proofs.CopiedForests.{waiting}
 use Rattle.zarrs_node.proofs.copies.copy_nodes.Given as goal
 
 -- the copies that are done and the nodes that are left, among the open nodes, make the whole

@@ -2,7 +2,7 @@ use Rattle.std.proofs.Common.{sym, subst}
 use Rattle.zarrs_block.specs.Block.{Entries}
 use Rattle.zarrs_node.specs.Forest.{Shows, forest}
 use Rattle.zarrs_node.specs.Reach.{Kept}
-use Rattle.zarrs_node.proofs.Opening.{entries_shown}
+use Rattle.zarrs_node.proofs.OpenedNodes.{entries_shown}
 use Rattle.zarrs_node.proofs.open.nodes_of_block.Goals as goal
 
 pub returns-in_ok-nodes-clause-shows : goal.returns-in_ok-nodes-clause-shows

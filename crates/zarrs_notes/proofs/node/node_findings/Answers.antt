@@ -1,4 +1,4 @@
-use Rattle.zarrs_notes.proofs.Telling.{told_in_turn}
+use Rattle.zarrs_notes.proofs.ToldNotes.{told_in_turn}
 use Rattle.zarrs_notes.proofs.node.node_findings.Goals as goal
 
 pub returns-clause-ok : goal.returns-clause-ok

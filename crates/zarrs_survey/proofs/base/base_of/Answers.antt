@@ -1,5 +1,5 @@
 use Rattle.std.proofs.Common.{sym, ◌∙◌}
-use Rattle.zarrs_survey.proofs.Surveying.{base_excused}
+use Rattle.zarrs_survey.proofs.SurveyFaults.{base_excused}
 use Rattle.zarrs_survey.proofs.base.base_of.Goals as goal
 
 pub returns-in-Err-2-clause-excused : goal.returns-in-Err-2-clause-excused

@@ -5,9 +5,9 @@ use Rattle.zarrs_node.specs.Exists.{HasNodeKey}
 use Rattle.zarrs_survey.specs.StepsOfChecks.{HasBad}
 use Rattle.zarrs_survey.specs.StepsOfComparing.{IsPlaceBehind, StandBehind}
 use Rattle.zarrs_survey.specs.StepsOfComparisons.{IsStart, IsNextOf}
-use Rattle.zarrs_survey.proofs.Checking.{found_told, told_end}
+use Rattle.zarrs_survey.proofs.CheckedBlocks.{found_told, told_end}
 use Rattle.zarrs_survey.proofs.NodeRuns.{none_before, rest_ascends, rest_behind}
-use Rattle.zarrs_survey.proofs.Taking.{HasCompared, compared_all, compared_first}
+use Rattle.zarrs_survey.proofs.TakenNodes.{HasCompared, compared_all, compared_first}
 use Rattle.zarrs_survey.proofs.block.compare_block.Goals as goal
 
 pub take_first-requires-clause-ascending : goal.take_first-requires-clause-ascending

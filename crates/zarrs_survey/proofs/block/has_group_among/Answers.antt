@@ -1,7 +1,7 @@
 use Rattle.std.proofs.Common.{rules, true≢false, sym, ◌∙◌}
 use Rattle.std.proofs.lemmas.Fn.{always_returns_same}
 use Rattle.zarrs_path.specs.Paths.{path_cmp}
-use Rattle.zarrs_survey.proofs.Halving.{gap_of}
+use Rattle.zarrs_survey.proofs.PathSearch.{gap_of}
 use Rattle.zarrs_survey.proofs.NodeRuns.{found_group, missed_group}
 use Rattle.zarrs_survey.proofs.block.has_group_among.Goals as goal
 

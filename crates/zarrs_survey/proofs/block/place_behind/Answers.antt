@@ -1,7 +1,7 @@
 use Rattle.std.proofs.Common.{rules}
 use Rattle.std.proofs.lemmas.Fn.{always_returns_same}
 use Rattle.zarrs_path.specs.Paths.{path_cmp}
-use Rattle.zarrs_survey.proofs.Halving.{gap_of}
+use Rattle.zarrs_survey.proofs.PathSearch.{gap_of}
 use Rattle.zarrs_survey.proofs.NodeRuns.{behind_found, behind_missed}
 use Rattle.zarrs_survey.proofs.block.place_behind.Goals as goal
 

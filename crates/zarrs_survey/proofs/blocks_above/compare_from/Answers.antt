@@ -6,7 +6,7 @@ use Rattle.zarrs_survey.specs.StepsOfBlocksAbove.{ArePartFindings, IsEndFrom}
 use Rattle.zarrs_survey.specs.StepsOfChecks.{HasBad}
 use Rattle.zarrs_survey.specs.StepsOfComparisons.{IsNextOf}
 use Rattle.zarrs_survey.proofs.PartFindings.{told_from}
-use Rattle.zarrs_survey.proofs.Taking.{HasCompared, compared_all, compared_first}
+use Rattle.zarrs_survey.proofs.TakenNodes.{HasCompared, compared_all, compared_first}
 use Rattle.zarrs_survey.proofs.blocks_above.compare_from.Goals as goal
 
 pub returns-clause-ok : goal.returns-clause-ok

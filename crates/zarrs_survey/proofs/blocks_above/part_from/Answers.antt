@@ -2,10 +2,10 @@ use Rattle.std.proofs.Common.{rules, ◌∙◌, ◌++◌, sym, ap, subst}
 use Rattle.std.specs.Vec.{vec_len}
 use Rattle.std.proofs.lemmas.List.{nil_from_length}
 use Rattle.zarrs_store.specs.Contents.{Lists}
-use Rattle.zarrs_node.proofs.Feeding.{listed_pairs, ascending_pairs}
+use Rattle.zarrs_node.proofs.SinkSteps.{listed_pairs, ascending_pairs}
 use Rattle.zarrs_survey.specs.Surveys.{BadDocuments}
 use Rattle.zarrs_survey.proofs.PartsOfStores.{empty_or_not, part_of_array, part_of_bad, part_of_walk}
-use Rattle.zarrs_survey.proofs.Surveying.{have_apart, lists_documents}
+use Rattle.zarrs_survey.proofs.SurveyFaults.{have_apart, lists_documents}
 use Rattle.zarrs_survey.proofs.blocks_above.part_from.Goals as goal
 
 pub returns-then-is_array-clause-part : goal.returns-then-is_array-clause-part

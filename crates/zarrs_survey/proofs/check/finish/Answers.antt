@@ -2,8 +2,8 @@ use Rattle.std.proofs.Common.{◌∷◌, [], ◌++◌, subst, sym, ap, ◌∙◌
 use Rattle.std.specs.Vec.Iter.{into_iter_items}
 use Rattle.zarrs_node.specs.Exists.{HasNodeKey}
 use Rattle.zarrs_survey.specs.StepsOfTaking.{AreEnds}
-use Rattle.zarrs_survey.proofs.Checking.{ends_more}
-use Rattle.zarrs_survey.proofs.Surveying.{none_left}
+use Rattle.zarrs_survey.proofs.CheckedBlocks.{ends_more}
+use Rattle.zarrs_survey.proofs.SurveyFaults.{none_left}
 use Rattle.zarrs_survey.proofs.check.finish.Goals as goal
 
 pub loop-block-init : goal.loop-block-init

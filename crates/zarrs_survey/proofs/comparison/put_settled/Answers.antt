@@ -3,7 +3,7 @@ use Rattle.std.specs.Vec.Iter.{into_iter_items}
 use Rattle.zarrs_node.specs.Exists.{HasNodeKey}
 use Rattle.zarrs_survey.specs.StepsOfChecks.{HasBad}
 use Rattle.zarrs_survey.specs.StepsOfComparisons.{AreSettled, IsSettled}
-use Rattle.zarrs_survey.proofs.Surveying.{none_left}
+use Rattle.zarrs_survey.proofs.SurveyFaults.{none_left}
 use Rattle.zarrs_survey.proofs.UnderWay.{settled_more}
 use Rattle.zarrs_survey.proofs.comparison.put_settled.Goals as goal
 

@@ -2,7 +2,7 @@ use Rattle.std.proofs.Common.{◌≡◌, ◌∷◌, ◌+◌, drop, refl, ap, sym
 use Rattle.std.proofs.lemmas.List.{drop_more, drop_all}
 use Rattle.zarrs_survey.specs.declared.finding.Finding.{Finding}
 use Rattle.zarrs_survey.specs.declared.finding.FindingKind.TheVariants.{BadKey}
-use Rattle.zarrs_survey.proofs.Ridding.{IsLeft, rid_start, rid_other, rid_key, rid_end}
+use Rattle.zarrs_survey.proofs.KeysRid.{IsLeft, rid_start, rid_other, rid_key, rid_end}
 use Rattle.zarrs_survey.proofs.keys.without_bad_keys.Goals.{in-BadKey, in_default}
 use Rattle.zarrs_survey.proofs.keys.without_bad_keys.Goals as goal
 

@@ -1,5 +1,5 @@
 use Rattle.std.proofs.Common.{drop}
-use Rattle.zarrs_survey.proofs.Ridding.{IsLeft}
+use Rattle.zarrs_survey.proofs.KeysRid.{IsLeft}
 use Rattle.zarrs_survey.proofs.keys.without_bad_keys.Given as goal
 
 -- the bad keys among the findings that are left are still to be taken out

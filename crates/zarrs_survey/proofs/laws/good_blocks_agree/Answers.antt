@@ -1,4 +1,4 @@
-use Rattle.zarrs_survey.proofs.Agreeing.{good_blocks_agree}
+use Rattle.zarrs_survey.proofs.AgreeingBlocks.{good_blocks_agree}
 use Rattle.zarrs_survey.proofs.laws.good_blocks_agree.Goals as goal
 
 pub returns : goal.returns

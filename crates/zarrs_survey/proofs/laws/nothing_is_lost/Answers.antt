@@ -1,4 +1,4 @@
-use Rattle.zarrs_survey.proofs.NothingLost.{nothing_is_lost}
+use Rattle.zarrs_survey.proofs.LostPaths.{nothing_is_lost}
 use Rattle.zarrs_survey.proofs.laws.nothing_is_lost.Goals as goal
 
 pub returns : goal.returns

@@ -1,5 +1,5 @@
 use Rattle.std.proofs.Common.{◌∙◌}
-use Rattle.zarrs_survey.proofs.Counting.{counted}
+use Rattle.zarrs_survey.proofs.DocumentCounts.{counted}
 use Rattle.zarrs_survey.proofs.orphans.count_below.Goals as goal
 
 pub returns-clause-ok : goal.returns-clause-ok

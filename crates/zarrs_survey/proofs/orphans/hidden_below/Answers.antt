@@ -1,5 +1,5 @@
 use Rattle.std.proofs.Common.{◌≡◌, ◌<◌, ◌≤◌, length, get_or, subst, take}
-use Rattle.zarrs_survey.proofs.Counting.{hidden_all, hidden_more, hidden_turn}
+use Rattle.zarrs_survey.proofs.DocumentCounts.{hidden_all, hidden_more, hidden_turn}
 use Rattle.zarrs_survey.proofs.orphans.hidden_below.Goals as goal
 
 pub loop-path-preserved : goal.loop-path-preserved

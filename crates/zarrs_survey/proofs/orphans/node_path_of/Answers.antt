@@ -1,7 +1,7 @@
 use Rattle.std.proofs.Common.{Some, None}
 use Rattle.std.proofs.lemmas.Bool.{iff_false}
 use Rattle.zarrs_block.proofs.LastSlash.{split_of}
-use Rattle.zarrs_survey.proofs.Counting.{ok_over, uncut_key, other_key, node_key}
+use Rattle.zarrs_survey.proofs.DocumentCounts.{ok_over, uncut_key, other_key, node_key}
 use Rattle.zarrs_survey.proofs.orphans.node_path_of.Goals as goal
 
 pub returns-in_default : goal.returns-in_default

@@ -1,6 +1,6 @@
 use Rattle.std.proofs.Common.{[], ◌∷◌, ◌++◌, take, sym, subst, arith}
 use Rattle.zarrs_survey.specs.StepsOfOrphans.{AreOrphansAmong}
-use Rattle.zarrs_survey.proofs.Counting.{orphans_same, orphans_more, orphans_turn}
+use Rattle.zarrs_survey.proofs.DocumentCounts.{orphans_same, orphans_more, orphans_turn}
 use Rattle.zarrs_survey.proofs.orphans.orphans_of.Goals as goal
 use Rattle.zarrs_survey.proofs.orphans.orphans_of.Goals.{then-count-gt0+in_ok-try_clone+in_ok-push, else-count-gt0}
 

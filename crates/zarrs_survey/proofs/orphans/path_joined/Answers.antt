@@ -1,5 +1,5 @@
 use Rattle.std.proofs.Common.{◌∙◌}
-use Rattle.zarrs_survey.proofs.Counting.{joined_is, joined_text_of}
+use Rattle.zarrs_survey.proofs.DocumentCounts.{joined_is, joined_text_of}
 use Rattle.zarrs_survey.proofs.orphans.path_joined.Goals as goal
 
 pub returns-in-Ok : goal.returns-in-Ok

@@ -1,8 +1,8 @@
 use Rattle.std.proofs.Common.{◌∷◌, [], ◌++◌, subst, sym, ap, ◌∙◌, append-nil, append_assoc}
 use Rattle.std.specs.Vec.Iter.{into_iter_items}
 use Rattle.zarrs_survey.specs.StepsOfOrphans.{IsKeyedPath, AreKeyedBelow}
-use Rattle.zarrs_survey.proofs.Counting.{keyed_same, keyed_more}
-use Rattle.zarrs_survey.proofs.Surveying.{none_left}
+use Rattle.zarrs_survey.proofs.DocumentCounts.{keyed_same, keyed_more}
+use Rattle.zarrs_survey.proofs.SurveyFaults.{none_left}
 use Rattle.zarrs_survey.proofs.orphans.paths_of.Goals as goal
 use Rattle.zarrs_survey.proofs.orphans.paths_of.Goals.{in-Some-2+in_ok-push, in_default}
 

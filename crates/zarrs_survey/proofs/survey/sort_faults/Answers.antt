@@ -5,7 +5,7 @@ use Rattle.zarrs_node.specs.declared.fault.NodeFault.{NodeFault}
 use Rattle.zarrs_node.specs.declared.fault.NodeFault.TheVariants.{Name, Document}
 use Rattle.zarrs_survey.specs.Apart.{AreApart}
 use Rattle.zarrs_survey.specs.StepsOfSurveys.{documents_of, names_of}
-use Rattle.zarrs_survey.proofs.Surveying.{document_next, name_next, paths_rest, none_left}
+use Rattle.zarrs_survey.proofs.SurveyFaults.{document_next, name_next, paths_rest, none_left}
 use Rattle.zarrs_survey.proofs.survey.sort_faults.Goals as goal
 
 pub loop-prefix-preserved-in-Continue-1 : goal.loop-prefix-preserved-in-Continue-1

@@ -1,7 +1,7 @@
 -- The error tells the stop; without memory for the names nothing is asked.
 use Rattle.std.proofs.Common.{refl}
 use Rattle.zarrs_write.specs.declared.fault.Step.TheVariants.{Reading}
-use Rattle.zarrs_write.proofs.Adding.{nothing_asked, some_become}
+use Rattle.zarrs_write.proofs.AddedCalls.{nothing_asked, some_become}
 use Rattle.zarrs_write.proofs.remove.remove_document.Goals as goal
 
 pub returns-in_default-clause-err : goal.returns-in_default-clause-err

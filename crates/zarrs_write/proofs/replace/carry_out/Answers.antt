@@ -1,5 +1,5 @@
 -- A filling that stops, with the calls before it and the removal behind it.
-use Rattle.zarrs_write.proofs.Adding.{stopped, either_way, where_true}
+use Rattle.zarrs_write.proofs.AddedCalls.{stopped, either_way, where_true}
 use Rattle.zarrs_write.proofs.replace.carry_out.Goals as goal
 
 pub returns-in-Err-fill-clause-err : goal.returns-in-Err-fill-clause-err

@@ -1,5 +1,5 @@
 use Rattle.std.specs.Prelude.{Option, Some, None, IfSome}
-use Rattle.zarrs_folder.proofs.Agreeing.{search_noted}
+use Rattle.zarrs_folder.proofs.MoreAnswers.{search_noted}
 use Rattle.zarrs_folder.proofs.disk.DiskFolder.any_below.Goals as goal
 
 -- what holds of what was found in each case holds of it in all

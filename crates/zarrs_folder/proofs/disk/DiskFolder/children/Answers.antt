@@ -1,4 +1,4 @@
-use Rattle.zarrs_folder.proofs.Agreeing.{children_noted}
+use Rattle.zarrs_folder.proofs.MoreAnswers.{children_noted}
 use Rattle.zarrs_folder.proofs.disk.DiskFolder.children.Goals as goal
 
 pub returns-clause-before : goal.returns-clause-before

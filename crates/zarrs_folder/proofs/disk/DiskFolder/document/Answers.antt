@@ -1,4 +1,4 @@
-use Rattle.zarrs_folder.proofs.Agreeing.{document_noted}
+use Rattle.zarrs_folder.proofs.MoreAnswers.{document_noted}
 use Rattle.zarrs_folder.proofs.disk.DiskFolder.document.Goals as goal
 
 pub returns-clause-before : goal.returns-clause-before

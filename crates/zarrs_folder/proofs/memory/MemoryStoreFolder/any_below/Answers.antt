@@ -1,6 +1,6 @@
 use Rattle.std.proofs.Common.{arith, subst, sym}
 use Rattle.zarrs_folder.specs.Folders.{values_of, NoneIsBelow}
-use Rattle.zarrs_folder.proofs.Loading.{none_below}
+use Rattle.zarrs_folder.proofs.LoadingSteps.{none_below}
 use Rattle.zarrs_folder.proofs.memory.MemoryStoreFolder.any_below.Goals as goal
 
 pub returns-in-Ok-clause-none : goal.returns-in-Ok-clause-none

@@ -1,6 +1,6 @@
 use Rattle.std.proofs.Common.{◌∙◌, ap}
 use Rattle.serde_json.specs.Find.{get_member}
-use Rattle.zarrs_form.proofs.Shared.{lookup-members_of}
+use Rattle.zarrs_form.proofs.MemberLists.{lookup-members_of}
 use Rattle.zarrs_form.proofs.fields.AdditionalFieldsV3.get.Goals as goal
 
 pub returns : goal.returns

@@ -1,6 +1,6 @@
 use Rattle.std.proofs.Common.{◌∙◌, ap, map}
 use Rattle.zarrs_form.specs.Documents.{has_own}
-use Rattle.zarrs_form.proofs.Shared.{members_by_itself}
+use Rattle.zarrs_form.proofs.MemberLists.{members_by_itself}
 use Rattle.zarrs_form.proofs.SortedLaws.{own_of_members}
 use Rattle.zarrs_form.proofs.fields.AdditionalFieldsV3.has_own_name.Goals as goal
 

@@ -2,7 +2,7 @@ use Rattle.std.proofs.Common.{◌∙◌, ap, string_bytes}
 use Rattle.serde_json.specs.Data.{put}
 use Rattle.serde_json.specs.Find.{get_member}
 use Rattle.serde_json.specs.View.{members_of}
-use Rattle.zarrs_form.proofs.Shared.{if_ok_then, lookup-members_of, members_of-insert_entry, on_err_then, on_ok_then}
+use Rattle.zarrs_form.proofs.MemberLists.{if_ok_then, lookup-members_of, members_of-insert_entry, on_err_then, on_ok_then}
 use Rattle.zarrs_form.proofs.fields.AdditionalFieldsV3.insert.Goals as goal
 
 pub returns-clause-before : goal.returns-clause-before

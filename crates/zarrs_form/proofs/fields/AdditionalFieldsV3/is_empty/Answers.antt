@@ -1,6 +1,6 @@
 use Rattle.std.proofs.Common.{◌∙◌, ap}
 use Rattle.zarrs_form.specs.Documents.{is_empty}
-use Rattle.zarrs_form.proofs.Shared.{members_by_itself}
+use Rattle.zarrs_form.proofs.MemberLists.{members_by_itself}
 use Rattle.zarrs_form.proofs.SortedLaws.{none_of_members}
 use Rattle.zarrs_form.proofs.fields.AdditionalFieldsV3.is_empty.Goals as goal
 

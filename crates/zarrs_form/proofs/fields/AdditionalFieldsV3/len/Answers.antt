@@ -1,6 +1,6 @@
 use Rattle.std.proofs.Common.{◌∙◌, ap}
 use Rattle.serde_json.specs.Events.{members_len}
-use Rattle.zarrs_form.proofs.Shared.{members_by_itself}
+use Rattle.zarrs_form.proofs.MemberLists.{members_by_itself}
 use Rattle.zarrs_form.proofs.SortedLaws.{len_of_members}
 use Rattle.zarrs_form.proofs.fields.AdditionalFieldsV3.len.Goals as goal
 

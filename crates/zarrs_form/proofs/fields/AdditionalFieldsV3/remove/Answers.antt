@@ -1,7 +1,7 @@
 use Rattle.std.proofs.Common.{◌∷◌, [], ◌∙◌, ap, sym}
 use Rattle.serde_json.specs.Find.{get_member}
 use Rattle.zarrs_form.specs.Documents.{besides}
-use Rattle.zarrs_form.proofs.Shared.{lookup-members_of, members_by_itself}
+use Rattle.zarrs_form.proofs.MemberLists.{lookup-members_of, members_by_itself}
 use Rattle.zarrs_form.proofs.SortedLaws.{members_left}
 use Rattle.zarrs_form.proofs.fields.AdditionalFieldsV3.remove.Goals as goal
 

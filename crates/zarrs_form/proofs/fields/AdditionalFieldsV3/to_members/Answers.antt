@@ -3,7 +3,7 @@ use Rattle.std.proofs.lemmas.List.{drop_more, take-append-drop, take_all}
 use Rattle.serde_json.specs.View.{members_of, members_view}
 use Rattle.serde_json.proofs.Views.{members_view-insert_entry}
 use Rattle.zarrs_form.specs.SortedMembers.{NamesAscend}
-use Rattle.zarrs_form.proofs.Shared.{put_last_of, take_next}
+use Rattle.zarrs_form.proofs.MemberLists.{put_last_of, take_next}
 use Rattle.zarrs_form.proofs.fields.AdditionalFieldsV3.to_members.Goals as goal
 
 pub loop-entry-preserved : goal.loop-entry-preserved

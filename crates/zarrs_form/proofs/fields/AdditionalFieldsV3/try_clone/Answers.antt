@@ -1,5 +1,5 @@
 use Rattle.std.proofs.Common.{◌≡◌, ◌∙◌}
-use Rattle.zarrs_form.proofs.Shared.{members_of-clone}
+use Rattle.zarrs_form.proofs.MemberLists.{members_of-clone}
 use Rattle.zarrs_form.proofs.SortedLaws.{copies_ascend}
 use Rattle.zarrs_form.proofs.fields.AdditionalFieldsV3.try_clone.Goals as goal
 

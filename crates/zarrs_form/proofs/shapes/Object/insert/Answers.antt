@@ -3,7 +3,7 @@ use Rattle.serde_json.specs.Data.{put}
 use Rattle.serde_json.specs.Find.{get_member}
 use Rattle.serde_json.specs.View.{view, members_view}
 use Rattle.serde_json.proofs.Views.{members_view-insert_entry, view-lookup}
-use Rattle.zarrs_form.proofs.Shared.{if_ok_then, on_err_then, on_ok_then}
+use Rattle.zarrs_form.proofs.MemberLists.{if_ok_then, on_err_then, on_ok_then}
 use Rattle.zarrs_form.proofs.shapes.Object.insert.Goals as goal
 
 pub returns-clause-before : goal.returns-clause-before

@@ -1,6 +1,6 @@
 use Rattle.std.proofs.Common.{◌∙◌, ap}
 use Rattle.serde_json.specs.View.{members_view}
-use Rattle.zarrs_form.proofs.Shared.{if_ok_then}
+use Rattle.zarrs_form.proofs.MemberLists.{if_ok_then}
 use Rattle.zarrs_form.proofs.shapes.Object.into_map.Goals as goal
 
 pub returns : goal.returns

@@ -1,6 +1,6 @@
 use Rattle.std.proofs.Common.{◌≡◌, ◌∙◌}
 use Rattle.serde_json.specs.View.{view}
-use Rattle.zarrs_form.proofs.Shared.{members_view-clone}
+use Rattle.zarrs_form.proofs.MemberLists.{members_view-clone}
 use Rattle.zarrs_form.proofs.SortedLaws.{copies_ascend}
 use Rattle.zarrs_form.proofs.shapes.Object.try_clone.Goals as goal
 

@@ -3,7 +3,7 @@ use Rattle.serde_json.specs.Data.{object}
 use Rattle.serde_json.specs.Written.{has_float, compact_text}
 use Rattle.zarrs_meta.specs.ArrayV2.{array_v2_rows}
 use Rattle.zarrs_form.specs.Forms.{put_rows}
-use Rattle.zarrs_form.proofs.Shared.{if_ok_then}
+use Rattle.zarrs_form.proofs.MemberLists.{if_ok_then}
 use Rattle.zarrs_meta.proofs.ArrayV2Laws.{array_v2_no_float}
 use Rattle.zarrs_form.proofs.TextLaws.{none_there}
 use Rattle.zarrs_meta.proofs.array_v2.ArrayMetadataV2.to_text.Goals as goal

@@ -3,7 +3,7 @@ use Rattle.serde_json.specs.Data.{object}
 use Rattle.serde_json.specs.Written.{has_float, compact_text}
 use Rattle.zarrs_meta.specs.ArrayV3.{array_v3_rows}
 use Rattle.zarrs_form.specs.Forms.{put_rows}
-use Rattle.zarrs_form.proofs.Shared.{if_ok_then}
+use Rattle.zarrs_form.proofs.MemberLists.{if_ok_then}
 use Rattle.zarrs_meta.proofs.ArrayV3Laws.{array_v3_no_float}
 use Rattle.zarrs_form.proofs.TextLaws.{none_there}
 use Rattle.zarrs_meta.proofs.array_v3.ArrayMetadataV3.to_text.Goals as goal

@@ -3,7 +3,7 @@ use Rattle.serde_json.specs.Data.{object}
 use Rattle.serde_json.specs.Written.{has_float, compact_text}
 use Rattle.zarrs_meta.specs.GroupV2.{group_v2_rows}
 use Rattle.zarrs_form.specs.Forms.{put_rows}
-use Rattle.zarrs_form.proofs.Shared.{if_ok_then}
+use Rattle.zarrs_form.proofs.MemberLists.{if_ok_then}
 use Rattle.zarrs_meta.proofs.GroupV2Laws.{no_float-group_v2_tree}
 use Rattle.zarrs_form.proofs.TextLaws.{none_there}
 use Rattle.zarrs_meta.proofs.group_v2.GroupMetadataV2.to_text.Goals as goal

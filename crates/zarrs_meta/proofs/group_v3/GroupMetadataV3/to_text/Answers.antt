@@ -3,7 +3,7 @@ use Rattle.serde_json.specs.Data.{object}
 use Rattle.serde_json.specs.Written.{has_float, compact_text}
 use Rattle.zarrs_meta.specs.GroupV3.{group_v3_rows}
 use Rattle.zarrs_form.specs.Forms.{put_rows}
-use Rattle.zarrs_form.proofs.Shared.{if_ok_then}
+use Rattle.zarrs_form.proofs.MemberLists.{if_ok_then}
 use Rattle.zarrs_meta.proofs.GroupV3Laws.{no_float-group_v3_tree}
 use Rattle.zarrs_form.proofs.TextLaws.{none_there}
 use Rattle.zarrs_meta.proofs.group_v3.GroupMetadataV3.to_text.Goals as goal

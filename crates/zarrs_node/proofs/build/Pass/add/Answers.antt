@@ -1,5 +1,5 @@
 use Rattle.std.proofs.Common.{sym, refl, ◌∙◌, true≢false}
-use Rattle.zarrs_node.proofs.Stems.{added_last_by, none_if, added_root}
+use Rattle.zarrs_node.proofs.OpenGroups.{added_last_by, none_if, added_root}
 use Rattle.zarrs_node.proofs.build.Pass.add.Goals as goal
 
 pub returns-in_ok-push-in-Some-clause-grows : goal.returns-in_ok-push-in-Some-clause-grows

@@ -1,6 +1,6 @@
 use Rattle.std.proofs.Common.{sym, ap, ◌∙◌}
 use Rattle.zarrs_node.specs.StepsOfTrees.{whole, with_tree}
-use Rattle.zarrs_node.proofs.Stems.{closed_last, remade}
+use Rattle.zarrs_node.proofs.OpenGroups.{closed_last, remade}
 use Rattle.zarrs_node.proofs.build.Pass.close.Goals as goal
 
 pub returns-in_ok-add-clause-same : goal.returns-in_ok-add-clause-same

@@ -1,8 +1,8 @@
 use Rattle.std.proofs.Common.{◌≡◌, ◌-◌, ◌∷◌, take, length, sym, ap, subst, ◌∙◌, arith, true≢false, length-append, []}
 use Rattle.zarrs_path.specs.Paths.{IsBelow}
 use Rattle.zarrs_node.specs.StepsOfTrees.{heads, top}
-use Rattle.zarrs_node.proofs.Stems.{top_last, heads_left}
-use Rattle.zarrs_node.proofs.Holds.{closing_more, closing_done}
+use Rattle.zarrs_node.proofs.OpenGroups.{top_last, heads_left}
+use Rattle.zarrs_node.proofs.PassSteps.{closing_more, closing_done}
 use Rattle.zarrs_node.proofs.build.Pass.close_to.Goals as goal
 
 pub loop-group-preserved : goal.loop-group-preserved

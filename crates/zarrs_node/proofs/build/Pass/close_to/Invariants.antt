@@ -1,6 +1,6 @@
 use Rattle.std.proofs.Common.{◌≡◌, ◌+◌, length}
 use Rattle.zarrs_node.specs.StepsOfTrees.{whole, heads}
-use Rattle.zarrs_node.proofs.Holds.{Closing}
+use Rattle.zarrs_node.proofs.PassSteps.{Closing}
 use Rattle.zarrs_node.proofs.build.Pass.close_to.Given as goal
 
 abbrev pub invariant-loop-group : goal.invariant-loop-group

@@ -1,6 +1,6 @@
 use Rattle.std.proofs.Common.{sym, ap, ◌∙◌}
 use Rattle.zarrs_node.specs.StepsOfTrees.{top, heads}
-use Rattle.zarrs_node.proofs.Stems.{top_last}
+use Rattle.zarrs_node.proofs.OpenGroups.{top_last}
 use Rattle.zarrs_node.proofs.build.Pass.parent.Goals as goal
 
 pub returns-in-Some : goal.returns-in-Some

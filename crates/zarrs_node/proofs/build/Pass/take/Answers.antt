@@ -1,6 +1,6 @@
 use Rattle.std.proofs.Common.{sym, subst, ◌∙◌, rules, inr, refl, true≢false}
 use Rattle.zarrs_node.specs.Forest.{IsChildOf}
-use Rattle.zarrs_node.proofs.Stems.{taken_open, taken_added}
+use Rattle.zarrs_node.proofs.OpenGroups.{taken_open, taken_added}
 use Rattle.zarrs_node.proofs.build.Pass.take.Goals as goal
 
 pub returns-then-not-is_child : goal.returns-then-not-is_child

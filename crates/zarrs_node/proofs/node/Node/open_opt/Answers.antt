@@ -1,6 +1,6 @@
 use Rattle.std.proofs.Common.{rules, sym, subst, ◌∙◌}
 use Rattle.zarrs_node.specs.Forest.{forest, below_of, ArePlacedBelow}
-use Rattle.zarrs_node.proofs.Opening.{refused_below, chosen_placed}
+use Rattle.zarrs_node.proofs.OpenedNodes.{refused_below, chosen_placed}
 use Rattle.zarrs_node.proofs.node.Node.open_opt.Goals as goal
 use Rattle.zarrs_node.proofs.node.Node.open_opt.Goals.{then-is_group+in_ok-children, else-is_group}
 

@@ -3,7 +3,7 @@ use Rattle.std.proofs.lemmas.Bool.{ltb-true}
 use Rattle.std.proofs.lemmas.Fn.{always_returns_same}
 use Rattle.zarrs_path.specs.Paths.{path_cmp}
 use Rattle.zarrs_survey.specs.Apart.{AreApart}
-use Rattle.zarrs_survey.proofs.Halving.{IsGap, spoilt_at, gap_missed, just_before, before_gap}
+use Rattle.zarrs_survey.proofs.PathSearch.{IsGap, spoilt_at, gap_missed, just_before, before_gap}
 use Rattle.zarrs_survey.proofs.bad_documents.BadDocuments.spoils.Goals as goal
 
 pub returns-in-Ok : goal.returns-in-Ok

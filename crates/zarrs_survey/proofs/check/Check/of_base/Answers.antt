@@ -11,12 +11,12 @@ use Rattle.zarrs_survey.specs.StepsOfOrphans.{AreOrphansAmong}
 use Rattle.zarrs_survey.specs.StepsOfTaking.{base_nodes, blocks_of}
 use Rattle.zarrs_node.specs.Exists.{HasNodeKey}
 use Rattle.zarrs_survey.specs.Surveys.{BadDocuments, BadNames}
-use Rattle.zarrs_survey.proofs.Checking.{of_ends, of_taken}
-use Rattle.zarrs_survey.proofs.Counting.{orphans_listed}
-use Rattle.zarrs_survey.proofs.Taking.{has_all, blocks_ascend, nodes_counted, refused_so, base_faulted}
-use Rattle.zarrs_survey.proofs.Surveying.{have_paths, have_apart, lists_documents, lists_names, names_ascend}
+use Rattle.zarrs_survey.proofs.CheckedBlocks.{of_ends, of_taken}
+use Rattle.zarrs_survey.proofs.DocumentCounts.{orphans_listed}
+use Rattle.zarrs_survey.proofs.TakenNodes.{has_all, blocks_ascend, nodes_counted, refused_so, base_faulted}
+use Rattle.zarrs_survey.proofs.SurveyFaults.{have_paths, have_apart, lists_documents, lists_names, names_ascend}
 use Rattle.zarrs_survey.proofs.AlikeNames.{alike_over}
-use Rattle.zarrs_survey.proofs.Visiting.{compared_all, lists_paths, lists_told, walk_of}
+use Rattle.zarrs_survey.proofs.VisitedNodes.{compared_all, lists_paths, lists_told, walk_of}
 use Rattle.zarrs_survey.proofs.check.Check.of_base.Goals as goal
 
 pub returns-in_err-outcome-clause-excused : goal.returns-in_err-outcome-clause-excused

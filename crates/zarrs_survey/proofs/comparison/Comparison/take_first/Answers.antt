@@ -3,7 +3,7 @@ use Rattle.std.proofs.lemmas.List.{drop_all}
 use Rattle.zarrs_store.proofs.Ranges.{left_at}
 use Rattle.zarrs_path.specs.Paths.{path_cmp}
 use Rattle.zarrs_node.specs.Order.{Ascend}
-use Rattle.zarrs_node.proofs.Graft.{Contains-first}
+use Rattle.zarrs_node.proofs.ForestsBeside.{Contains-first}
 use Rattle.std.proofs.lemmas.List.Elements.{Contains-append_right}
 use Rattle.zarrs_survey.specs.StepsOfComparisons.{IsNextOf}
 use Rattle.zarrs_survey.proofs.NodeRuns.{none_behind, back_ascends}

@@ -1,5 +1,5 @@
 use Rattle.std.proofs.Common.{◌≡◌, ◌++◌, drop, List}
-use Rattle.zarrs_survey.specs.Findings.{Pair}
+use Rattle.zarrs_block.specs.Meaning.{Pair}
 use Rattle.zarrs_survey.specs.StepsOfComparisons.{IsNextOf}
 use Rattle.zarrs_survey.proofs.comparison.Comparison.take_first.Given as goal
 

@@ -1,9 +1,9 @@
 use Rattle.std.proofs.Common.{sym, subst}
 use Rattle.zarrs_store.specs.Contents.{Lists}
 use Rattle.zarrs_node.specs.Faults.{PathsAscend}
-use Rattle.zarrs_node.proofs.Feeding.{listed_pairs, ascending_pairs}
+use Rattle.zarrs_node.proofs.SinkSteps.{listed_pairs, ascending_pairs}
 use Rattle.zarrs_survey.specs.Surveys.{BadDocuments, BadNames}
-use Rattle.zarrs_survey.proofs.Surveying.{have_paths, have_apart, lists_documents, lists_names, names_ascend}
+use Rattle.zarrs_survey.proofs.SurveyFaults.{have_paths, have_apart, lists_documents, lists_names, names_ascend}
 use Rattle.zarrs_survey.proofs.survey.Survey.of_store.Goals as goal
 
 pub sort_faults-requires-clause-paths : goal.sort_faults-requires-clause-paths

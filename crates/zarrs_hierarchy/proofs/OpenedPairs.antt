@@ -1,0 +1,222 @@
+-- What a hierarchy holds that is made of a base and of what stands below it.
+use Rattle.std.proofs.Common.{◌≡◌, ◌↔◌, ◌⊎◌, inl, inr, ⊎_elim, ℕ, Bool, true, false, List, [], ◌∷◌, ◌++◌, get_or, length, refl, sym, ap, subst, ◌∙◌, ◌-◌, arith, length-append, append-nil, append_assoc, string_bytes, Contains, Less, Option, Some, None, true≢false, IsTrue}
+use Rattle.std.specs.Global.{Vec}
+use Rattle.std.specs.List.{flat_map}
+use Rattle.std.proofs.lemmas.List.Kept.{AllPairs-cons}
+use Rattle.zarrs_store.specs.Contents.{Contents, Lists}
+use Rattle.zarrs_path.specs.Paths.{Path, IsPath, IsBelow, path_cmp, path_text}
+use Rattle.zarrs_meta.specs.Node.{is_group}
+use Rattle.zarrs_meta.specs.declared.node.GroupMetadata.{GroupMetadata}
+use Rattle.zarrs_meta.specs.declared.node.NodeMetadata.{NodeMetadata}
+use Rattle.zarrs_meta.specs.declared.node.NodeMetadata.TheVariants.{Group, Array}
+use Rattle.zarrs_config.specs.declared.version.MetadataRetrieveVersion.{MetadataRetrieveVersion}
+use Rattle.zarrs_config.specs.declared.version.UseConsolidatedMetadata.{UseConsolidatedMetadata}
+use Rattle.zarrs_block.specs.Block.{Block, Entries}
+use Rattle.zarrs_block.specs.Refusals.{IsExcused}
+use Rattle.zarrs_block.specs.declared.node_create_error.NodeCreateError.{NodeCreateError}
+use Rattle.zarrs_block.specs.Meaning.{Meaning, node, nothing, bad, meaning}
+use Rattle.zarrs_node.specs.Forest.{pairs}
+use Rattle.zarrs_node.specs.BlocksBelow.{ExcusesBlock, PairsBelow, IsGoodBelow, ShowsBadBelow}
+use Rattle.zarrs_node.specs.Lines.{line, lines}
+use Rattle.zarrs_node.specs.Nodes.{Nodes}
+use Rattle.zarrs_node.specs.OpeningNodes.{choice, IsCleanChosen, IsCleanBelow, RefusesBelow, RefusesChosen, RefusesOpening}
+use Rattle.zarrs_node.specs.Order.{Ascend}
+use Rattle.zarrs_node.specs.Sinks.{TakesAll, TakesForest, KeepsPair}
+use Rattle.zarrs_node.proofs.SinkSteps.{kept_pairs, took_joined}
+use Rattle.zarrs_node.proofs.ListedItems.{lists_from, listed_each}
+use Rattle.zarrs_node.proofs.ForestsBeside.{Contains-first, Contains-cons}
+use Rattle.zarrs_node.proofs.LawProofs.{apart}
+use Rattle.zarrs_node.proofs.OpenedNodes.{block_excused}
+use Rattle.zarrs_node.proofs.Order.{contains_cases, shown_ascend}
+use Rattle.zarrs_hierarchy.specs.PairsOfHierarchies.{Pairs, Holds, WithBase}
+use Rattle.zarrs_hierarchy.specs.OpeningHierarchies.{PairsChosen, PairsOf, IsOpenedTree}
+use Rattle.zarrs_hierarchy.specs.Sinks.{AppendsNode}
+use Rattle.zarrs_hierarchy.specs.StepsOfHierarchies.{TakesPairs}
+use Rattle.zarrs_hierarchy.specs.declared.tree_text.TreeText.{TreeText}
+use Rattle.zarrs_hierarchy.proofs.Below.{stands_behind}
+
+-- no path is below itself
+pub not_itself : (b : Path) → IsBelow b b → ⊥
+not_itself b (n, ns, e) =
+    let long = ap length e in
+    let more = length-append b (n ∷ ns) in
+    absurd (omega (arith, long, more))
+
+-- ascending pairs below a base and the base in front of them hold both
+pub holds_front : (b : Path) (m : NodeMetadata) (N : Path × NodeMetadata → Type 0) → ((e : Path × NodeMetadata) → N e → IsBelow b e.0) → (xs : Pairs) → Lists N xs → Ascend xs → (h : Pairs) → h ≡ (b, m) ∷ xs → Holds h (WithBase b m N)
+holds_front b m N low xs listed up h is = subst (λ x. Holds x (WithBase b m N)) (sym is) (record {
+  held = lists_from ((b, m) ∷ xs) same_set (apart ((b, m) ∷ xs) ordered);
+  ordered = ordered;
+})
+  where
+    -- the base stands before all that is below it
+    ordered : Ascend ((b, m) ∷ xs)
+    ordered = AllPairs-cons (λ d e. path_cmp d.0 e.0 ≡ Less) (b, m) xs (λ i d l. stands_behind b (get_or xs i d).0 (low (get_or xs i d) (listed.sound i d l))) up
+
+    -- the base and those pairs are the base and all pairs of the set
+    same_set : (e : Path × NodeMetadata) → Contains ((b, m) ∷ xs) e ↔ WithBase b m N e
+    same_set e = (
+      λ in'. ⊎_elim (λ is. inl (sym is)) (λ l. inr ((listed_each listed e).0 l)) (contains_cases (b, m) xs e in'),
+      λ h. ⊎_elim (λ is. subst (Contains ((b, m) ∷ xs)) (sym is) (Contains-first (b, m) xs)) (λ l. Contains-cons (b, m) xs e ((listed_each listed e).1 l)) h,
+    )
+
+-- a list with the base alone that took a forest below it holds the base and what the forest shows
+pub holds_walked : (b : Path) (m : NodeMetadata) (N : Path × NodeMetadata → Type 0) → ((e : Path × NodeMetadata) → N e → IsBelow b e.0) → (a z : Vec (Path × NodeMetadata)) → a.items ≡ (b, m) ∷ [] → TakesForest KeepsPair a z b N → Holds z.items (WithBase b m N)
+holds_walked b m N low a z alone t =
+    holds_front b m N low (pairs t.trees) t.shows.shown (shown_ascend b N t.trees t.shows) z.items
+    (kept_pairs a z b N t ∙ ap (λ x. x ++ pairs t.trees) alone)
+
+-- ---- what stands below a base
+
+-- a meaning has one node
+pub node_one : (m k : NodeMetadata) → node m ≡ node k → m ≡ k
+node_one m k e = ap node_or e
+  where
+    node_or : Meaning → NodeMetadata
+    node_or (node x) = x
+    node_or nothing = m
+    node_or (bad e) = m
+
+-- the nodes of a listing are below its base
+pub nodes_low : (s : Contents) (v : MetadataRetrieveVersion) (b : Path) (e : Path × NodeMetadata) → Nodes s v true b e → IsBelow b e.0
+nodes_low s v b e h = (h.0.below.0, h.0.below.1, h.0.below.2)
+
+-- the entries of a block are
+pub entries_low : (B : Block) (b : Path) (e : Path × NodeMetadata) → Entries B b e → IsBelow b e.0
+entries_low B b e h = (h.0, h.1, h.3)
+
+module _ (s : Contents) (v : MetadataRetrieveVersion) where
+  -- and so are the pairs of each choice
+  chosen_low : (c : Option (Option Block)) (b : Path) (e : Path × NodeMetadata) → PairsChosen s v c b e → IsBelow b e.0
+  chosen_low None b e h = absurd h
+  chosen_low (Some None) b e h = nodes_low s v b e h
+  chosen_low (Some (Some B)) b e h = entries_low B b e h
+
+  -- what stands below a node is
+  pub pairs_low : (policy : UseConsolidatedMetadata) (b : Path) (m : NodeMetadata) (e : Path × NodeMetadata) → PairsOf s v policy b m e → IsBelow b e.0
+  pairs_low policy b (Array a) e h = absurd h
+  pairs_low policy b (Group g) e h = chosen_low (choice s policy b (Group g)) b e h
+
+  -- a node that is no group holds itself alone
+  pub holds_array : (policy : UseConsolidatedMetadata) (b : Path) (m : NodeMetadata) (h : Pairs) → is_group m ≡ false → h ≡ (b, m) ∷ [] → Holds h (WithBase b m (PairsOf s v policy b m))
+  holds_array policy b (Group g) h other is = absurd (true≢false other)
+  holds_array policy b (Array a) h other is = holds_front b (Array a) (PairsOf s v policy b (Array a)) (pairs_low policy b (Array a)) []
+      (lists_from [] (λ e. (λ in'. absurd (omega (arith, in'.1)), λ none. absurd none)) (λ i j d l k. absurd (omega (arith, l, k))))
+      (λ i j d l k. absurd (omega (arith, l, k))) h is
+
+  -- what stands below a group is what stands there by the choice that is made
+  pub listed_by : (policy : UseConsolidatedMetadata) (b : Path) (m : NodeMetadata) (c : Option (Option Block)) (xs : Pairs)
+      → IsTrue (is_group m) → choice s policy b m ≡ c → Lists (PairsChosen s v c b) xs → Lists (PairsOf s v policy b m) xs
+  listed_by policy b (Array a) c xs group e h = absurd (true≢false (sym group))
+  listed_by policy b (Group g) c xs group e h = subst (λ k. Lists (PairsChosen s v k b) xs) (sym e) h
+
+-- each pair put behind those before it gives all of them
+joined_same : (es : Pairs) → flat_map (λ (d : Path × NodeMetadata). d ∷ []) es ≡ es
+joined_same [] = refl
+joined_same (e ∷ es) = ap (λ xs. e ∷ xs) (joined_same es)
+
+-- a list with a group alone that took what stands below it holds the group and that
+pub holds_told : (s : Contents) (v : MetadataRetrieveVersion) (policy : UseConsolidatedMetadata) (b : Path) (m : NodeMetadata) (c : Option Block) (a z : Vec (Path × NodeMetadata)) → IsTrue (is_group m) → choice s policy b m ≡ Some c
+    → a.items ≡ (b, m) ∷ [] → TakesPairs KeepsPair a z (PairsBelow s v c b) → Holds z.items (WithBase b m (PairsOf s v policy b m))
+holds_told s v policy b m c a z group chosen alone t =
+    holds_front b m (PairsOf s v policy b m) (pairs_low s v policy b m) t.nodes (listed_by s v policy b m (Some c) t.nodes group chosen t.lists) t.ordered z.items
+    (took_joined KeepsPair (λ x. x.items) (λ d. d ∷ []) (λ x d y r. r) a t.nodes z t.took ∙ ap (λ x. x ++ flat_map (λ (d : Path × NodeMetadata). d ∷ []) t.nodes) alone ∙ ap (λ x. (b, m) ∷ x) (joined_same t.nodes))
+
+-- what a sink took of what stands below a group is what stands below the node
+pub told_group : {K : Type 0} (R : K → Path × NodeMetadata → K → Type 0) (s : Contents) (v : MetadataRetrieveVersion) (policy : UseConsolidatedMetadata) (b : Path) (m : NodeMetadata) (c : Option Block) (a z : K)
+    → IsTrue (is_group m) → choice s policy b m ≡ Some c → TakesPairs R a z (PairsBelow s v c b) → TakesPairs R a z (PairsOf s v policy b m)
+told_group R s v policy b m c a z group chosen t = record {
+  nodes = t.nodes;
+  lists = listed_by s v policy b m (Some c) t.nodes group chosen t.lists;
+  ordered = t.ordered;
+  took = t.took;
+}
+
+-- below a node that is no group a sink takes nothing
+pub told_array : {K : Type 0} (R : K → Path × NodeMetadata → K → Type 0) (s : Contents) (v : MetadataRetrieveVersion) (policy : UseConsolidatedMetadata) (b : Path) (m : NodeMetadata) (a : K)
+    → is_group m ≡ false → TakesPairs R a a (PairsOf s v policy b m)
+told_array R s v policy b (Group g) a other = absurd (true≢false other)
+told_array R s v policy b (Array m) a other = record {
+  nodes = [];
+  lists = lists_from [] (λ e. (λ in'. absurd (omega (arith, in'.1)), λ none. absurd none)) (λ i j d l k. absurd (omega (arith, l, k)));
+  ordered = λ i j d l k. absurd (omega (arith, l, k));
+  took = refl;
+}
+
+-- what a sink took of a forest below a base are its pairs
+pub told_forest : {K : Type 0} (R : K → Path × NodeMetadata → K → Type 0) (N : Path × NodeMetadata → Type 0) (b : Path) (a z : K) → TakesForest R a z b N → TakesPairs R a z N
+told_forest R N b a z t = record {
+  nodes = pairs t.trees;
+  lists = t.shows.shown;
+  ordered = shown_ascend b N t.trees t.shows;
+  took = t.took;
+}
+
+-- where nothing below a group is refused, the group is clean
+pub clean_by : (s : Contents) (v : MetadataRetrieveVersion) (policy : UseConsolidatedMetadata) (b : Path) (m : NodeMetadata) (c : Option Block) → IsTrue (is_group m) → choice s policy b m ≡ Some c
+    → IsGoodBelow s v c true b → IsCleanBelow s v policy b m
+clean_by s v policy b (Array a) c group chosen clean = tt
+clean_by s v policy b (Group g) c group chosen clean = subst (λ k. IsCleanChosen s v k true b) (sym chosen) clean
+
+-- what excuses the want of a block excuses the call
+pub excused_by : (can_fail : Bool) (m : NodeMetadata) (policy : UseConsolidatedMetadata) (e : NodeCreateError) → ExcusesBlock can_fail m policy e → IsExcused can_fail e
+excused_by can_fail m policy e h = block_excused can_fail m policy e h
+
+-- a refusal of what stands below a group is one below the node
+pub refused_by : (can_fail : Bool) (s : Contents) (v : MetadataRetrieveVersion) (policy : UseConsolidatedMetadata) (b : Path) (m : NodeMetadata) (c : Option Block) (e : NodeCreateError) → IsTrue (is_group m)
+    → choice s policy b m ≡ Some c → IsExcused can_fail e ⊎ ShowsBadBelow s v c true b e → IsExcused can_fail e ⊎ RefusesBelow s v policy b m e
+refused_by can_fail s v policy b (Array a) c e group chosen h = absurd (true≢false (sym group))
+refused_by can_fail s v policy b (Group g) c e group chosen h = ⊎_elim inl (λ shown. inr (subst (λ k. RefusesChosen s v k true b e) (sym chosen) shown)) h
+
+-- ---- the text of what stands below a base
+
+-- a text that took pairs has the line of each
+took_lines : (b : Path) (a : TreeText) (es : Pairs) (z : TreeText) → TakesAll AppendsNode a es z → a.above ≡ length b → string_bytes z.text ≡ string_bytes a.text ++ lines b es
+took_lines b a [] z t at = ap (λ (x : TreeText). string_bytes x.text) t ∙ sym (append-nil (string_bytes a.text))
+took_lines b a (e ∷ es) z t at =
+    took_lines b t.0 es z t.2 (t.1.base ∙ at)
+    ∙ ap (λ w. w ++ lines b es) (t.1.bytes ∙ ap (λ n. string_bytes a.text ++ line (length e.0 - n) e.0 e.1) at)
+    ∙ append_assoc (string_bytes a.text) (line (length e.0 - length b) e.0 e.1) (lines b es)
+
+-- a text with the line of a base that took what stands below it is the tree of the hierarchy that has both
+pub told_tree : (s : Contents) (v : MetadataRetrieveVersion) (policy : UseConsolidatedMetadata) (b : Path) (m : NodeMetadata) (a z : TreeText) → IsPath b → meaning s v b ≡ node m → a.above ≡ length b
+    → string_bytes a.text ≡ path_text b ++ 10 ∷ [] → TakesPairs AppendsNode a z (PairsOf s v policy b m) → IsCleanBelow s v policy b m → IsOpenedTree s v policy b (string_bytes z.text)
+told_tree s v policy b m a z valid means at start t clean = (
+  (b, m) ∷ t.nodes,
+  record {
+    base = b;
+    valid = valid;
+    path = refl;
+    metadata = m;
+    means = means;
+    holds = holds_front b m (PairsOf s v policy b m) low t.nodes t.lists t.ordered ((b, m) ∷ t.nodes) refl;
+    clean = clean;
+  },
+  record {
+    below = lines b t.nodes;
+    is = took_lines b a t.nodes z t.took at ∙ ap (λ x. x ++ lines b t.nodes) start ∙ append_assoc (path_text b) (10 ∷ []) (lines b t.nodes);
+    lines_below = (t.nodes, lists_from t.nodes each (apart t.nodes t.ordered), t.ordered, refl);
+  },
+)
+  where
+    low : (e : Path × NodeMetadata) → PairsOf s v policy b m e → IsBelow b e.0
+    low = pairs_low s v policy b m
+
+    each : (e : Path × NodeMetadata) → Contains t.nodes e ↔ (Contains ((b, m) ∷ t.nodes) e × IsBelow b e.0)
+    each e = (
+      λ in'. (Contains-cons (b, m) t.nodes e in', low e ((listed_each t.lists e).0 in')),
+      λ both. ⊎_elim (λ same. absurd (not_itself b (subst (λ x. IsBelow b x.0) (sym same) both.1))) (λ l. l) (contains_cases (b, m) t.nodes e both.0),
+    )
+
+-- a list of a group's path and copied metadata that took a listing below it holds the group and that
+pub group_holds : (s : Contents) (v : MetadataRetrieveVersion) (b q : Path) (m k : GroupMetadata) (a z : Vec (Path × NodeMetadata)) → q ≡ b → k ≡ m → a.items ≡ (q, Group k) ∷ []
+    → TakesForest KeepsPair a z q (Nodes s v true q) → Holds z.items (WithBase b (Group m) (Nodes s v true b))
+group_holds s v b q m k a z there same alone t =
+    let holds_q = holds_walked q (Group k) (Nodes s v true q) (nodes_low s v q) a z alone t in
+    let holds_b = subst (λ r. Holds z.items (WithBase r (Group k) (Nodes s v true r))) there holds_q in
+    subst (λ n. Holds z.items (WithBase b (Group n) (Nodes s v true b))) same holds_b
+
+-- what is below the node of a text's path is refused, so the opening is
+pub below_refused : (can_fail : Bool) (s : Contents) (v : MetadataRetrieveVersion) (policy : UseConsolidatedMetadata) (text : List ℕ) (b : Path) (m : NodeMetadata) (e : NodeCreateError)
+    → IsPath b → path_text b ≡ text → meaning s v b ≡ node m → IsExcused can_fail e ⊎ RefusesBelow s v policy b m e → IsExcused can_fail e ⊎ RefusesOpening s v policy text e
+below_refused can_fail s v policy text b m e valid is means h = ⊎_elim inl (λ below. inr (inr (b, valid, is, inr (m, means, below)))) h
