@@ -26,3 +26,5 @@ mod given;
 mod owned;
 #[cfg(test)]
 mod parts;
+#[cfg(test)]
+mod texts;

@@ -26,7 +26,7 @@ use Rattle.zarrs_path.specs.Paths.{Path, IsPath}
 use Rattle.zarrs_form.specs.Documents.{document_in, required_member, optional_member}
 use Rattle.zarrs_form.specs.Documents as steps
 use Rattle.zarrs_form.specs.Forms.{◌>>=◌}
-use Rattle.zarrs_meta.specs.Node.{node_in, node_tree, is_plain_node}
+use Rattle.zarrs_meta.specs.Node.{node_in, node_tree, is_plain_node_in}
 use Rattle.zarrs_meta.specs.declared.node.NodeMetadata.{NodeMetadata}
 use Rattle.zarrs_fault.specs.Bytes.{slash}
 use Rattle.zarrs_block.specs.Meaning.{Pair}
@@ -125,6 +125,10 @@ block_tree B =
     object (member (codes "kind") (string (codes "inline")) (member (codes "metadata") (object (documents B))
     (member (codes "must_understand") (boolean false) no_members)))
 
--- each node of the block could have come from a document
+-- each node of the block could have come from a document that may hold these numbers
+abbrev pub HasPlainNodesIn : Numbers → Block → Type 0
+HasPlainNodesIn numbers B = All (λ e. IsTrue (is_plain_node_in numbers e.1)) B
+
+-- each node of the block could have come from a document whose numbers are whole
 abbrev pub HasPlainNodes : Block → Type 0
-HasPlainNodes B = All (λ e. IsTrue (is_plain_node e.1)) B
+HasPlainNodes B = HasPlainNodesIn Whole B

@@ -27,4 +27,4 @@ WholePathsMeanTheSame =
     (values : Values) (numbers : Numbers) (v : MetadataRetrieveVersion) (p : Path)
     → is_bad (meaning (record { values = values; numbers = Whole }) v p) ≡ false
     → meaning (record { values = values; numbers = numbers }) v p
-        ≡ meaning (record { values = values; numbers = Whole }) v p
+    ≡ meaning (record { values = values; numbers = Whole }) v p

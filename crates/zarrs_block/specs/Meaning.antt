@@ -105,15 +105,15 @@ zarr_json_line reading s p after =
 unfoldable pub zarray_line : {V : Type 0} → Reading V → FinMap key_cmp V → Path → Meaning → Meaning
 zarray_line reading s p after =
     version_2_line
-        (λ m. Array (array_v2 m)) array_with (document_at (reading ArrayMetadataV2 array_v2_in) s (p ++ zarray ∷ []))
-            (attributes_in reading s p) after
+    (λ m. Array (array_v2 m)) array_with (document_at (reading ArrayMetadataV2 array_v2_in) s (p ++ zarray ∷ []))
+    (attributes_in reading s p) after
 
 -- what `.zgroup` says, before the other documents
 unfoldable pub zgroup_line : {V : Type 0} → Reading V → FinMap key_cmp V → Path → Meaning → Meaning
 zgroup_line reading s p after =
     version_2_line
-        (λ m. Group (group_v2 m)) group_with (document_at (reading GroupMetadataV2 group_v2_in) s (p ++ zgroup ∷ []))
-            (attributes_in reading s p) after
+    (λ m. Group (group_v2 m)) group_with (document_at (reading GroupMetadataV2 group_v2_in) s (p ++ zgroup ∷ []))
+    (attributes_in reading s p) after
 
 -- the version Default asks `zarr.json`, `.zarray` and `.zgroup` in this order, V3 the first alone, and V2 the last two
 abbrev pub by_lines : {V : Type 0} → Reading V → FinMap key_cmp V → MetadataRetrieveVersion → Path → Meaning

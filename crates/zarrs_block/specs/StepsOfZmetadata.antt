@@ -139,8 +139,8 @@ RunsAscend runs = IsStrictlySortedBy bytes_cmp (paths runs)
 abbrev pub IsJoined : Run → Run → List Run → List Run → Run → Type 0
 IsJoined run next old new now =
     ((new ≡ old) × (string_bytes run.path ≡ string_bytes next.path) × (string_bytes now.path ≡ string_bytes next.path)
-        × ((file : File)
-            → tree_in now.documents file ≡ first_tree (tree_in next.documents file) (tree_in run.documents file)))
+    × ((file : File)
+    → tree_in now.documents file ≡ first_tree (tree_in next.documents file) (tree_in run.documents file)))
     ⊎ ((new ≡ old ++ run ∷ []) × (string_bytes run.path ≢ string_bytes next.path) × (now ≡ next))
 
 -- ---- the names of members

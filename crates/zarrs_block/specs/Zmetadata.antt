@@ -30,8 +30,8 @@ use Rattle.zarrs_form.specs.Documents.{document_in, required_member, is_empty}
 use Rattle.zarrs_form.specs.Documents as steps
 use Rattle.zarrs_form.specs.Forms.{number_u64, is_nil}
 use Rattle.zarrs_meta.specs.ArrayV2.{array_v2_tree}
-use Rattle.zarrs_meta.specs.GroupV2.{group_v2_tree, is_plain_group_v2}
-use Rattle.zarrs_meta.specs.Node.{array_without_attributes, group_without_attributes, is_plain_node}
+use Rattle.zarrs_meta.specs.GroupV2.{group_v2_tree, is_plain_group_v2_in}
+use Rattle.zarrs_meta.specs.Node.{array_without_attributes, group_without_attributes, is_plain_node_in}
 use Rattle.zarrs_meta.specs.declared.group_v2.GroupMetadataV2.{GroupMetadataV2}
 use Rattle.zarrs_meta.specs.declared.node.ArrayMetadata.TheVariants.{V2 as array_v2, V3 as array_v3}
 use Rattle.zarrs_meta.specs.declared.node.GroupMetadata.TheVariants.{V2 as group_v2, V3 as group_v3}
@@ -136,7 +136,7 @@ abbrev pub IsZmetadataFaultIn : Numbers → Data → MetadataFault → Type 0
 IsZmetadataFaultIn numbers d fault =
     (zmetadata_members_in numbers d ≡ Err fault)
     ⊎ ((ms : Members) × (zmetadata_members_in numbers d ≡ Ok ms) × (IsCleanIn numbers ms → ⊥)
-        × (fault ≡ BadMember (codes "metadata")))
+    × (fault ≡ BadMember (codes "metadata")))
 
 -- the same, where numbers have to be whole
 abbrev pub IsZmetadataFault : Data → MetadataFault → Type 0
@@ -187,8 +187,8 @@ documents_written g B = nodes_written (([], Group (group_v2 g)) ∷ pairs_at (pa
 abbrev pub zmetadata_with : Members → Data
 zmetadata_with ms =
     object
-        (member (codes "metadata") (object ms)
-            (member (codes "zarr_consolidated_format") (number (unsigned 1)) no_members))
+    (member (codes "metadata") (object ms)
+    (member (codes "zarr_consolidated_format") (number (unsigned 1)) no_members))
 
 -- what is written of a group of version 2 and its block: an object with their documents and with the format
 abbrev pub zmetadata_tree : GroupMetadataV2 → Block → Data
@@ -244,18 +244,23 @@ abbrev pub WrittenHoldsDocuments : Type 0
 WrittenHoldsDocuments =
     (g : GroupMetadataV2) (B : Block) → IsAscending B → HasValidKeys B → HoldsDocuments g B (documents_written g B)
 
--- each entry could have come from a document
-abbrev pub HasPlainEntries : Block → Type 0
-HasPlainEntries B = (e : Pair) → Entries B [] e → IsTrue (is_plain_node e.1)
+-- each entry could have come from a document that may hold these numbers
+abbrev pub HasPlainEntriesIn : Numbers → Block → Type 0
+HasPlainEntriesIn numbers B = (e : Pair) → Entries B [] e → IsTrue (is_plain_node_in numbers e.1)
 
 -- two blocks have the same entries, below any base
 abbrev pub HaveSameEntries : Block → Block → Type 0
 HaveSameEntries B C = (b : Path) (e : Pair) → Entries C b e ↔ Entries B b e
 
+-- What is written of a group and a block with valid keys, where the group and the entries are plain in these numbers
+-- and the entries are of version 2, reads in them as a block with the same entries.
+abbrev pub WrittenReadsBackIn : Numbers → Type 0
+WrittenReadsBackIn numbers =
+    (g : GroupMetadataV2) (B : Block) → IsTrue (is_plain_group_v2_in numbers g) → IsAscending B → HasValidKeys B
+    → HasVersion2 B → HasPlainEntriesIn numbers B
+    → (C : Block) × (zmetadata_in numbers (zmetadata_tree g B) ≡ Ok C) × HaveSameEntries B C
+
 -- What is written of a plain group and a block with valid keys, whose entries are plain and of version 2, reads as a
--- block with the same entries.
+-- block with the same entries, where numbers have to be whole.
 abbrev pub WrittenReadsBack : Type 0
-WrittenReadsBack =
-    (g : GroupMetadataV2) (B : Block) → IsTrue (is_plain_group_v2 g) → IsAscending B → HasValidKeys B → HasVersion2 B
-    → HasPlainEntries B
-    → (C : Block) × (zmetadata_of (zmetadata_tree g B) ≡ Ok C) × HaveSameEntries B C
+WrittenReadsBack = WrittenReadsBackIn Whole

@@ -1,17 +1,24 @@
 //! What holds of every block. A function with an empty body does nothing, and its contract is the law.
 ghost use Rattle.std.specs.Prelude.{◌≡◌, Ok};
-ghost use Rattle.zarrs_block.specs.Block.{HasPlainNodes, block_of, block_tree};
+ghost use Rattle.zarrs_block.specs.Block.{HasPlainNodes, HasPlainNodesIn, block_of, block_of_in, block_tree};
 ghost use Rattle.zarrs_block.specs.Laws.{WholeBlocksReadTheSame, WholePathsMeanTheSame};
-ghost use Rattle.zarrs_block.specs.Zmetadata.{ZmetadataHolds, ZmetadataHoldsIn, WrittenHoldsDocuments, WrittenReadsBack};
+ghost use Rattle.zarrs_block.specs.Zmetadata.{ZmetadataHolds, ZmetadataHoldsIn, WrittenHoldsDocuments, WrittenReadsBack, WrittenReadsBackIn};
 
 use crate::consolidated::ConsolidatedMetadata;
 use zarrs_store::Numbers;
 
 /// What is written of a block of plain nodes reads as that block.
-#[tactic(auto, using(crate::proofs::BlockReads::block_again))]
+#[tactic(auto, using(crate::proofs::BlockReads::block_again_in))]
 pub fn block_reads_back(block: &ConsolidatedMetadata)
     requires { HasPlainNodes block.now.metadata }
     ensures { block_of (block_tree block.now.metadata) ≡ Ok block.now.metadata }
+{}
+
+/// What is written of a block of nodes that are plain in these numbers reads in them as that block.
+#[tactic(auto, using(crate::proofs::BlockReads::block_again_in))]
+pub fn block_reads_back_in(numbers: Numbers, block: &ConsolidatedMetadata)
+    requires { HasPlainNodesIn numbers block.now.metadata }
+    ensures { block_of_in numbers (block_tree block.now.metadata) ≡ Ok block.now.metadata }
 {}
 
 /// A document `.zmetadata` that reads as a block: the block holds the store that the members of `metadata` are, in which nothing below
@@ -39,6 +46,13 @@ pub fn written_holds_documents()
 #[tactic(auto, using(crate::proofs::ZmetadataAgain::written_reads_back))]
 pub fn written_reads_back()
     ensures { WrittenReadsBack }
+{}
+
+/// What is written of a version 2 group and a block of nodes of version 2, all plain in these numbers, reads in them as a block with the
+/// same entries.
+#[tactic(auto, using(crate::proofs::ZmetadataAgain::written_reads_back_in))]
+pub fn written_reads_back_in(numbers: Numbers)
+    ensures { WrittenReadsBackIn numbers }
 {}
 
 /// A block, or a document `.zmetadata`, that is read where numbers have to be whole is read the same whatever numbers may stand.

@@ -19,7 +19,7 @@ code_escape c = codes "\\u00" ++ (encode_utf8 (digit_char (c / 16)) ++ encode_ut
 abbrev pub code_or_char : ℕ → List ℕ
 code_or_char c =
     cond (nat_lt c space) (code_escape c)
-        (cond (nat_lt c 127) (encode_utf8 c) (cond (nat_lt c 160) (code_escape c) (encode_utf8 c)))
+    (cond (nat_lt c 127) (encode_utf8 c) (cond (nat_lt c 160) (code_escape c) (encode_utf8 c)))
 
 -- how a character is written: by its short escape where it has one, else by its code or as it is
 abbrev pub escaped_char : ℕ → List ℕ

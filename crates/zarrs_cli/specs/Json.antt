@@ -29,7 +29,7 @@ remark_data r =
     (member (codes "block") (path_or_null r.group)
     (member (codes "key") (text_or_null r.key)
     (member (codes "kind") (string (kind_word r.kind))
-        (member (codes "path") (string (path_text r.path)) (member (codes "text") (string r.text) no_members)))))
+    (member (codes "path") (string (path_text r.path)) (member (codes "text") (string r.text) no_members)))))
 
 -- the array of the objects of remarks
 abbrev pub remarks_data : List Remark → Data

@@ -98,4 +98,4 @@ WritesAsked words left before after tally =
     (AskHelp words × (tally ≡ None) × Appends before after usage_text)
     ⊎ (AskVersion words × (tally ≡ None) × Appends before after version_text)
     ⊎ ((word : Word) × (source path : List ℕ) × AreWordsOf words word source path
-        × WritesOverSource word source path left before after tally)
+    × WritesOverSource word source path left before after tally)

@@ -69,14 +69,14 @@ abbrev pub IsNowhereInFolder : List ℕ → List ℕ → List ℕ → Type 0
 IsNowhereInFolder folder path hint =
     (hint ≡ nowhere_text path folder)
     ⊎ ((name : List ℕ) × (below : Path) × IsFolderName folder name × IsPath below
-        × (hint ≡ nowhere_text path folder ++ store_text name below))
+    × (hint ≡ nowhere_text path folder ++ store_text name below))
 
 -- the hint says that there is no node at the path that the words name: in the image where they name that, else in the
 -- folder
 abbrev pub IsNowhere : List (List ℕ) → List ℕ → Type 0
 IsNowhere words hint = (word : Word) × (source path : List ℕ) × AreWordsOf words word source path
     × (((source ≡ codes "-") × (hint ≡ nowhere_text path (codes "the image")))
-        ⊎ ((source ≢ codes "-") × IsNowhereInFolder source path hint))
+    ⊎ ((source ≢ codes "-") × IsNowhereInFolder source path hint))
 
 -- there is no hint; or there is no node at the path, and the hint says so
 abbrev pub IsHint : List (List ℕ) → ZarrsFault → Option (List ℕ) → Type 0

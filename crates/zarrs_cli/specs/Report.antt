@@ -97,7 +97,7 @@ abbrev pub IsOwnRemark : Contents → Path → Remark → Type 0
 IsOwnRemark s b r =
     ((e : NodeCreateError) × RefusesNode s Default b e × (r ≡ error_remark b e))
     ⊎ ((d : Path × NodeCreateError) × (n : ℕ) × BadDocuments s Default b d × IsCountBelow s d.0 n
-        × (r ≡ document_remark d n))
+    × (r ≡ document_remark d n))
     ⊎ ((p : Path) × BadNames s Default b p × (r ≡ own_remark p BadName (name_text p)))
     ⊎ ((o : Path × ℕ) × IsOrphan s Default b o × (r ≡ orphan_remark o))
     ⊎ ((t : Path × NodeFinding) × IsNodeTold s Default b t × (r ≡ told_remark t))
@@ -145,9 +145,9 @@ abbrev pub remark_cmp : Remark → Remark → Ordering
 remark_cmp q r =
     ordering_then
     (ordering_then
-        (ordering_then (ordering_then (path_cmp q.path r.path) (option_cmp path_cmp q.group r.group))
-            (option_cmp bytes_cmp q.key r.key))
-        (bytes_cmp q.text r.text))
+    (ordering_then (ordering_then (path_cmp q.path r.path) (option_cmp path_cmp q.group r.group))
+    (option_cmp bytes_cmp q.key r.key))
+    (bytes_cmp q.text r.text))
     (bytes_cmp (kind_word q.kind) (kind_word r.kind))
 
 -- each remark stands before all later ones

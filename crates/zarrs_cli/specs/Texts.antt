@@ -51,8 +51,8 @@ abbrev pub shadowed_text : Path → List ℕ → List ℕ
 shadowed_text g key =
     codes "shadowed: the block of "
     ++
-        (path_text g
-            ++ (codes " has the key `" ++ (key ++ (codes "` beside `" ++ (without_leading_slash key ++ codes "`")))))
+    (path_text g
+    ++ (codes " has the key `" ++ (key ++ (codes "` beside `" ++ (without_leading_slash key ++ codes "`")))))
 
 -- the text which says that a key stands for the group itself
 abbrev pub own_key_text : Path → List ℕ → List ℕ

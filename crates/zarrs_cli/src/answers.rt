@@ -8,8 +8,8 @@ ghost use Rattle.zarrs_cli.specs.Output.{WritesAsked, WritesOverEach, WritesOver
 ghost use Rattle.zarrs_cli.specs.RefusalLines.{IsHint, SaysRefusal};
 ghost use Rattle.zarrs_cli.specs.Refusals.{RefusesAsked, RefusesOverEach, RefusesOverSome, RefusesOverSource, tally_status};
 
-use crate::fault::ZarrsFault;
 use crate::ending::{Ending, finish};
+use crate::fault::ZarrsFault;
 use crate::folder::run_of_folder;
 use crate::nowhere::{nowhere_in_folder, nowhere_in_image};
 use crate::report::Tally;

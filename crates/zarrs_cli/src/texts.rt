@@ -47,7 +47,11 @@ pub(crate) fn orphan_text(alloc: Global, nodes: usize) -> Result<String, AllocEr
 }
 
 /// That the name of a path is that of another one but for case, with both.
-pub(crate) fn alike_text(alloc: Global, before: &NodePath, path: &NodePath) -> Result<String, AllocError>
+pub(crate) fn alike_text(
+    alloc: Global,
+    before: &NodePath,
+    path: &NodePath,
+) -> Result<String, AllocError>
     ensures { IfOk result (λ text. string_bytes text ≡ texts.alike_text before.now path.now) }
 {
     let before = before.to_prefix(alloc)?;
@@ -58,7 +62,11 @@ pub(crate) fn alike_text(alloc: Global, before: &NodePath, path: &NodePath) -> R
 }
 
 /// What there is to tell of the block of a group, with the group's path.
-pub(crate) fn kind_text(alloc: Global, group: &NodePath, kind: &FindingKind) -> Result<String, AllocError>
+pub(crate) fn kind_text(
+    alloc: Global,
+    group: &NodePath,
+    kind: &FindingKind,
+) -> Result<String, AllocError>
     ensures { IfOk result (λ text. string_bytes text ≡ texts.kind_text group.now kind.now) }
 {
     match kind {

@@ -21,7 +21,7 @@ abbrev pub transposition : ArrayMetadataV2Order → ℕ → List MetadataV3
 transposition C dimensionality = []
 transposition F dimensionality =
     with_configuration (codes "transpose") (codes "order")
-        (list_data number_data (reverse (range_with_len 0 dimensionality)))
+    (list_data number_data (reverse (range_with_len 0 dimensionality)))
     ∷ []
 
 -- the filters that have a form of version 3, each of the same name

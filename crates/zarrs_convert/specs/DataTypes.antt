@@ -48,7 +48,7 @@ data_types =
 abbrev pub raw_size : List ℕ → Option ℕ
 raw_size text =
     if is_numbered (codes "|V") text && fits_u64 (8 * number_behind (codes "|V") text)
-        then Some (8 * number_behind (codes "|V") text) else None
+    then Some (8 * number_behind (codes "|V") text) else None
 
 -- raw bits are `r` and the number of bits
 abbrev pub raw_bits : List ℕ → Option (List ℕ)

@@ -15,3 +15,4 @@ pub mod PrettyDeeper
 pub mod PrettyLong
 pub mod PrettyLines
 pub mod PrettyPieces
+pub mod DocumentTexts

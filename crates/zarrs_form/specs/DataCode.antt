@@ -104,15 +104,15 @@ mutual
   builds_items no_items stack = refl
   builds_items (item d ds) stack =
       ap with_item
-          (all_built-append (steps d) (items_steps ds) stack ∙ ap (all_built (steps d)) (builds_items ds stack)
-              ∙ builds d (array ds ∷ stack))
+      (all_built-append (steps d) (items_steps ds) stack ∙ ap (all_built (steps d)) (builds_items ds stack)
+      ∙ builds d (array ds ∷ stack))
 
   builds_members : (ms : Members) (stack : List Data) → all_built (members_steps ms) stack ≡ object ms ∷ stack
   builds_members no_members stack = refl
   builds_members (member k d ms) stack =
       ap (with_member k)
-          (all_built-append (steps d) (members_steps ms) stack ∙ ap (all_built (steps d)) (builds_members ms stack)
-              ∙ builds d (object ms ∷ stack))
+      (all_built-append (steps d) (members_steps ms) stack ∙ ap (all_built (steps d)) (builds_members ms stack)
+      ∙ builds d (object ms ∷ stack))
 
 abbrev first_of_stack : List Data → Data
 first_of_stack [] = null

@@ -74,7 +74,7 @@ is_text t (Some s) = bytes_eq s t
 unfoldable pub format_of : ℕ → Data → Result (Unit {0}) MetadataFault
 format_of n d =
     if is_number n (option_and_then as_u64 (option_and_then as_number (get (codes "zarr_format") d))) then Ok tt
-        else Err WrongFormat
+    else Err WrongFormat
 
 -- `node_type` is this text
 unfoldable pub node_type_of : List ℕ → Data → Result (Unit {0}) MetadataFault

@@ -121,7 +121,7 @@ abbrev pub extension_data : MetadataV3 → Data
 extension_data m =
     if is_none m.configuration && m.must_understand then string m.name
     else object
-        (put_rows ((codes "name", Some (string m.name)) ∷ (codes "configuration", option_map object m.configuration)
+    (put_rows ((codes "name", Some (string m.name)) ∷ (codes "configuration", option_map object m.configuration)
     ∷ (codes "must_understand", unless m.must_understand (boolean false)) ∷ []) no_members)
 
 -- the numbers of the configuration are among these

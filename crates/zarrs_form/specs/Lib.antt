@@ -8,3 +8,4 @@ pub mod SortedMembers
 pub mod StepsOfMembers
 pub mod StepsOfTexts
 pub mod Texts
+pub mod DocumentTexts

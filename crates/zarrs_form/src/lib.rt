@@ -7,10 +7,13 @@ mod chunks;
 mod codec;
 mod copies;
 mod data_type;
+mod document_bytes;
 mod extension;
 mod fields;
 mod form;
+pub mod laws;
 mod members;
+mod nesting;
 mod pretty;
 mod shapes;
 mod sorted;
@@ -20,6 +23,7 @@ pub use chunks::{ArrayMetadataV2Order, ChunkKeySeparator, chunk_lengths, has_zer
 pub use codec::MetadataV2;
 pub use copies::Duplicate;
 pub use data_type::{DataTypeMetadataV2, Endianness};
+pub use document_bytes::document_text;
 pub use extension::MetadataV3;
 pub use fields::{AdditionalFieldV3, AdditionalFieldsV3, fields_of};
 pub use form::{Form, attributes, optional, put_member, put_unless, required};
@@ -27,6 +31,7 @@ pub use members::{
     ask_format, ask_node_type, document, document_copy, document_copy_in, document_in, member,
     members_have_float, parse, put_text, refuse, take_member, take_null,
 };
+pub use nesting::is_shallow;
 pub use pretty::write_entry;
 pub use shapes::{FillValueMetadata, Json, List, Object, Text};
 pub use text::{open_table, write_last, write_row, write_unless};

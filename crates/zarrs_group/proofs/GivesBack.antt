@@ -57,6 +57,7 @@ use Rattle.zarrs_group.specs.Children.{is_listed, ListsChosen}
 use Rattle.zarrs_group.specs.Laws.{MeansStored}
 use Rattle.zarrs_group.specs.GivesBack.{Consolidates, ConsolidatesV2, GivesBack, GroupGivesBack, GroupV2GivesBack, OpensTo, StoredGivesBack}
 use Rattle.zarrs_group.proofs.BlockFields.{held_once_set}
+use Rattle.zarrs_fault.specs.declared.numbers.Numbers.TheVariants.{Whole}
 
 -- a block that is there is used, where the policy is not Never
 pub used_there : (B : Block) (policy : UseConsolidatedMetadata) → policy ≢ Never → block_to_use (Some B) policy ≡ Some (Some B)
@@ -124,9 +125,9 @@ module _ (g : GroupState) (f : Forest) (B : Block) (holds : (numbers : Numbers) 
 
 module _ (of : Path → Meaning) (g : GroupState) (f : Forest) (B : Block) (from : Consolidates of g f B) where
   -- the block has the forest in it
-  inverse : IsInverse g.path f B
+  inverse : IsInverse Whole g.path f B
   inverse =
-      block_gives_back g.path f B from.listed.placed (λ e in'. ((listed_each from.listed.shown e).0 in').0.below) from.plain from.ascending from.block
+      block_gives_back Whole g.path f B from.listed.placed (λ e in'. ((listed_each from.listed.shown e).0 in').0.below) from.plain from.ascending from.block
 
   -- the group can hold the block
   can_hold : (m : GroupMetadata) → (k : GroupMetadataV3) × (m ≡ V3 k) → MetadataHold m (Some B)

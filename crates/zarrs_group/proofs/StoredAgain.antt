@@ -25,7 +25,7 @@ use Rattle.zarrs_meta.specs.declared.node.NodeMetadata.TheVariants.{Group}
 use Rattle.zarrs_block.specs.Block.{Block, Entries, HasValidKeys, IsAscending}
 use Rattle.zarrs_block.specs.Meaning.{Meaning}
 use Rattle.zarrs_block.specs.Policy.{block_to_use}
-use Rattle.zarrs_block.specs.Zmetadata.{zmetadata_in, zmetadata_tree, HasPlainEntries, HaveSameEntries}
+use Rattle.zarrs_block.specs.Zmetadata.{zmetadata_in, zmetadata_tree, HasPlainEntriesIn, HaveSameEntries}
 use Rattle.zarrs_block.specs.declared.node_create_error.NodeCreateError.{NodeCreateError}
 use Rattle.zarrs_block.proofs.Expansion.{entries_listed}
 use Rattle.zarrs_block.proofs.MoreBlocks.{zmetadata_too}
@@ -48,6 +48,7 @@ use Rattle.zarrs_group.proofs.BlockPlain.{all_plain}
 use Rattle.zarrs_group.proofs.GivesBack.{used_there, no_bad_key, gives_back, opens_clean, same_pairs, keys_valid, entries_v2, one_is}
 use Rattle.zarrs_group.proofs.PlainLaws.{plain_v2}
 use Rattle.zarrs_group.proofs.StoreLemmas.{own_plain, beside_is}
+use Rattle.zarrs_fault.specs.declared.numbers.Numbers.TheVariants.{Whole}
 
 -- ---- the document that is stored
 
@@ -70,7 +71,7 @@ no_block_fault p m B none =
     none_told (p ++ zmetadata ∷ []) (block_fault B) (sym (beside_is p (V2 m) (Some B) (block_fault B) (own_plain p (V2 m) (Some B) none) refl) ∙ none)
 
 -- the entries of a block without a fault are plain
-entries_plain : (B : Block) → IsAscending B → HasValidKeys B → block_fault B ≡ None → HasPlainEntries B
+entries_plain : (B : Block) → IsAscending B → HasValidKeys B → block_fault B ≡ None → HasPlainEntriesIn Whole B
 entries_plain B up valid none e here =
     let all : list_all (λ d. is_plain_node d.1) (entries_of B) ≡ true =
     all_plain (list_any (λ d. node_has_float d.1) (entries_of B)) (list_all (λ d. is_plain_node d.1) (entries_of B)) UnsupportedNumber (BadMember (codes "metadata")) none in
@@ -125,7 +126,7 @@ module _ (of : Path → Meaning) (g : GroupState) (f : Forest) (B : Block) (from
   stored_again : (S s : Contents) (m : GroupMetadataV2) → IsAscending B → HasStoredBlock S s (grouped (V2 m)) → OpensToV2 s (grouped (V2 m)) f B
   stored_again S s m up stored =
       let valid : HasValidKeys B = keys_valid of g f B from in
-      let plain : HasPlainEntries B = entries_plain B up valid (no_block_fault g.path m B stored.plain) in
+      let plain : HasPlainEntriesIn Whole B = entries_plain B up valid (no_block_fault g.path m B stored.plain) in
       let again = written_reads_back m B (plain_v2 m (own_plain g.path (V2 m) (Some B) stored.plain)) up valid (entries_v2 of g f B from) plain in
       opens_again s m again.0
       (block_read s g.path (pretty_text (zmetadata_tree m B)) (zmetadata_tree m B) again.0 (stored.same ∙ block_stored S g.path m B) (stored.reads stored.shallow) (zmetadata_too s.numbers (zmetadata_tree m B) again.0 again.1)) again.2

@@ -43,13 +43,14 @@ use Rattle.zarrs_group.specs.Edits.{after}
 use Rattle.zarrs_group.specs.StoringGroups.{store_edits, stored_fault, IsBlockReadBack}
 use Rattle.zarrs_group.specs.Laws.{MeansStored}
 use Rattle.zarrs_block.specs.Meaning.{Pair}
+use Rattle.zarrs_fault.specs.declared.numbers.Numbers.TheVariants.{Whole}
 
 -- the group is of version 3; f is what a listing below it finds, whatever the meanings of paths, and its metadata are
 -- plain; and B holds exactly the pairs of f, as `consolidate_metadata` makes it
 pub record Consolidates (of : Path → Meaning) (g : GroupState) (f : Forest) (B : Block) : Type 0 where
   pub version_3 : (m : GroupMetadataV3) × (g.metadata ≡ V3 m)
   pub listed : Shows f g.path (Kept (Means of) true g.path)
-  pub plain : ArePlain (pairs f)
+  pub plain : ArePlain Whole (pairs f)
   pub ascending : IsAscending B
   pub block : IsBlockOf (Contains (pairs f)) g.path B
 

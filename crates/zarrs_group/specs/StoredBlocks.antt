@@ -53,7 +53,7 @@ StoringKeepsOthers =
     (S T : Contents) (v : MetadataConvertVersion) (g : GroupState) (m : GroupMetadataV3) → g.metadata ≡ V3 m
     → AgreesOutsideKey (g.path ++ zarr_json ∷ []) S (after S (edits_of_group v g))
     × ((can_fail : Bool) (e : StorageError) → RefusesStoringGroup can_fail v g S T e
-        → AgreesOutsideKey (g.path ++ zarr_json ∷ []) S T)
+    → AgreesOutsideKey (g.path ++ zarr_json ∷ []) S T)
 
 -- What a path means as a group of version 3 is a group of version 3.
 abbrev pub MeansVersion3 : Type 0

@@ -14,4 +14,4 @@ pub record UnsupportedField : Type 0 where
 abbrev pub field_code : Coded UnsupportedField
 field_code =
     code_by (List ℕ × Data) (coded× (coded_list coded_ℕ) data_code) (λ f. (f.name, f.value))
-        (λ p. record { name = p.0; value = p.1 }) (λ _. refl)
+    (λ p. record { name = p.0; value = p.1 }) (λ _. refl)

@@ -1,17 +1,13 @@
 //! How deep the document of a group nests.
 ghost use Rattle.std.specs.Prelude.{◌≤◌, ◌↔◌, IfOk, IsTrue};
-ghost use Rattle.serde_json.specs.Data.{depth, items_depth, members_depth};
+ghost use Rattle.serde_json.specs.Data.{depth};
 ghost use Rattle.serde_json.specs.Read.{max_depth};
-ghost use Rattle.serde_json.specs.View.{view, items_view, members_view};
 ghost use Rattle.zarrs_group.specs.Groups.{group_tree};
 
 use crate::group::Group;
-use serde_json::{Map, Value};
 use std::alloc::{AllocError, Global};
+use zarrs_form::is_shallow;
 use zarrs_meta::GroupMetadata;
-
-// A document is read where it nests at most this deep.
-const MAX_DEPTH: usize = 127;
 
 impl Group {
     /// Whether what is written of the metadata in one document, a consolidated block of version 3 included, nests at most 127 levels, so that it
@@ -30,42 +26,6 @@ impl Group {
             GroupMetadata::V3(group) => group.to_value(alloc)?,
             GroupMetadata::V2(group) => group.to_value(alloc)?,
         };
-        Ok(nests_within(&value, MAX_DEPTH))
+        Ok(is_shallow(&value))
     }
-}
-
-// Whether a value nests at most so many levels.
-#[cycle(nests_within)]
-fn nests_within(value: &Value, levels: usize) -> bool
-    ensures { IsTrue result ↔ (depth (view value.now) ≤ levels) }
-{
-    match value {
-        Value::Array(items) => levels > 0 && items_nest_within(items, levels - 1),
-        Value::Object(members) => levels > 0 && members_nest_within(members, levels - 1),
-        _ => true,
-    }
-}
-
-#[cycle(nests_within)]
-fn items_nest_within(items: &Vec<Value>, levels: usize) -> bool
-    ensures { IsTrue result ↔ (items_depth (items_view items.now.items) ≤ levels) }
-{
-    for item in items {
-        if !nests_within(item, levels) {
-            return false;
-        }
-    }
-    true
-}
-
-#[cycle(nests_within)]
-fn members_nest_within(members: &Map<String, Value>, levels: usize) -> bool
-    ensures { IsTrue result ↔ (members_depth (members_view members.now.entries) ≤ levels) }
-{
-    for (_name, member) in members.iter() {
-        if !nests_within(member, levels) {
-            return false;
-        }
-    }
-    true
 }

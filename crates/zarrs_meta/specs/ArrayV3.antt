@@ -65,8 +65,10 @@ array_v3_rows m =
     ∷ (codes "fill_value", Some m.fill_value)
     ∷ (codes "codecs", Some (list_data extension_data m.codecs))
     ∷ (codes "attributes", unless (is_empty m.attributes) (object m.attributes))
-    ∷ (codes "storage_transformers",
-        unless (is_nil m.storage_transformers) (list_data extension_data m.storage_transformers))
+    ∷ (
+      codes "storage_transformers",
+      unless (is_nil m.storage_transformers) (list_data extension_data m.storage_transformers),
+    )
     ∷ (codes "dimension_names", option_map (list_data (nullable_data string)) m.dimension_names) ∷ []
 
 -- an array is written as the members of the table and the additional fields

@@ -20,8 +20,8 @@ group_v3_names = codes "zarr_format" ∷ codes "node_type" ∷ codes "attributes
 abbrev pub read_names : Data → List (List ℕ)
 read_names d =
     if is_null (get (codes "consolidated_metadata") d)
-        then codes "zarr_format" ∷ codes "node_type" ∷ codes "attributes" ∷ codes "consolidated_metadata" ∷ []
-        else group_v3_names
+    then codes "zarr_format" ∷ codes "node_type" ∷ codes "attributes" ∷ codes "consolidated_metadata" ∷ []
+    else group_v3_names
 
 -- the group that a version 3 document means where it may hold these numbers, or its first fault
 unfoldable pub group_v3_in : Numbers → Data → Result GroupMetadataV3 MetadataFault

@@ -39,8 +39,8 @@ abbrev pub node_v3_in : Numbers → Data → Result NodeMetadata MetadataFault
 node_v3_in numbers d =
     if has_type (codes "group") d then group_v3_in numbers d >>= (λ m. Ok (Group (group_v3 m)))
     else
-        (if has_type (codes "array") d then array_v3_in numbers d >>= (λ m. Ok (Array (array_v3 m)))
-            else Err WrongNodeType)
+    (if has_type (codes "array") d then array_v3_in numbers d >>= (λ m. Ok (Array (array_v3 m)))
+    else Err WrongNodeType)
 
 -- a document of version 2 is an array where it has a `shape`, and else a group
 abbrev pub node_v2_in : Numbers → Data → Result NodeMetadata MetadataFault

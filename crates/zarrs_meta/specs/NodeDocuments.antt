@@ -7,15 +7,21 @@ use Rattle.std.specs.Prelude.{◌≡◌, ◌<◌, ◌⊎◌, ℕ, List, Bool, tr
 use Rattle.serde_json.specs.Data.{depth}
 use Rattle.serde_json.specs.Read.{max_depth}
 use Rattle.zarrs_form.specs.Documents.{of_bytes}
-use Rattle.zarrs_meta.specs.Node.{node_of, node_tree, is_plain_node}
+use Rattle.zarrs_fault.specs.declared.numbers.Numbers.{Numbers}
+use Rattle.zarrs_fault.specs.declared.numbers.Numbers.TheVariants.{Whole}
+use Rattle.zarrs_meta.specs.Node.{node_in, node_tree, is_plain_node}
 use Rattle.zarrs_meta.specs.declared.node.GroupMetadata.TheVariants.{V3 as group_v3, V2 as group_v2}
 use Rattle.zarrs_meta.specs.declared.node.ArrayMetadata.TheVariants.{V3 as array_v3, V2 as array_v2}
 use Rattle.zarrs_meta.specs.declared.node.NodeMetadata.{NodeMetadata}
 use Rattle.zarrs_meta.specs.declared.node.NodeMetadata.TheVariants.{Group, Array}
 
--- the bytes are read as the document of these metadata
+-- the bytes are read as the document of these metadata, where it may hold these numbers
+abbrev pub ReadsAsIn : Numbers → List ℕ → NodeMetadata → Type 0
+ReadsAsIn numbers bytes m = of_bytes (node_in numbers) bytes ≡ Ok m
+
+-- the bytes are read as the document of these metadata, where its numbers have to be whole
 abbrev pub ReadsAs : List ℕ → NodeMetadata → Type 0
-ReadsAs bytes m = of_bytes node_of bytes ≡ Ok m
+ReadsAs bytes m = ReadsAsIn Whole bytes m
 
 -- the metadata could not have come from a document, or nest deeper than a document that is read
 abbrev pub IsNotWritten : NodeMetadata → Type 0

@@ -53,7 +53,7 @@ array_v3_taken ms =
     optional_member (codes "storage_transformers") [] (list_of extension) (object ms7) >>= λ storage_transformers.
     let ms8 = besides (codes "storage_transformers" ∷ []) ms7 in
     optional_member (codes "dimension_names") None (nullable (list_of (nullable as_str))) (object ms8)
-        >>= λ dimension_names.
+    >>= λ dimension_names.
     Ok (record {
       shape = shape;
       data_type = data_type;

@@ -4,8 +4,7 @@ ghost use Rattle.zarrs_meta.specs.NodeDocuments.{ReadsAs, IsNotWritten};
 
 use crate::node::NodeMetadata;
 use std::alloc::{AllocError, Global};
-use zarrs_fault::MetadataFault;
-use zarrs_form::parse;
+use zarrs_form::document_text;
 
 impl NodeMetadata {
     /// The bytes of the document of the metadata, in the pretty layout: they are read as these metadata again. None where the metadata
@@ -25,11 +24,7 @@ impl NodeMetadata {
             return Ok(None);
         }
         let value = self.to_value(alloc)?;
-        let bytes = value.to_vec_pretty(alloc)?;
-        match parse(alloc, bytes.as_slice()) {
-            Ok(_) => Ok(Some(bytes)),
-            Err(MetadataFault::NotJson) => Ok(None),
-            Err(_) => Err(AllocError),
-        }
+        let found = document_text(alloc, &value)?;
+        Ok(found)
     }
 }

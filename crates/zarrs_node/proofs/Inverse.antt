@@ -6,10 +6,11 @@ use Rattle.std.proofs.lemmas.List.{append_cancel_left}
 use Rattle.std.proofs.lemmas.List.Elements.{All-nil, All-cons}
 use Rattle.zarrs_store.specs.Segments.{key_text}
 use Rattle.zarrs_path.specs.Paths.{Path, IsPath}
-use Rattle.zarrs_meta.specs.Node.{is_plain_node}
+use Rattle.zarrs_fault.specs.declared.numbers.Numbers.{Numbers}
+use Rattle.zarrs_meta.specs.Node.{is_plain_node_in}
 use Rattle.zarrs_meta.specs.declared.node.NodeMetadata.{NodeMetadata}
-use Rattle.zarrs_block.specs.Block.{Block, Entries, HasValidKeys, IsAscending, IsBlockOf, IsValidKey, block_of, block_tree, entry, first_some, node_at_key}
-use Rattle.zarrs_block.proofs.BlockReads.{block_again}
+use Rattle.zarrs_block.specs.Block.{Block, Entries, HasValidKeys, IsAscending, IsBlockOf, IsValidKey, block_of_in, block_tree, entry, first_some, node_at_key}
+use Rattle.zarrs_block.proofs.BlockReads.{block_again_in}
 use Rattle.zarrs_block.proofs.Expansion.{found_all}
 use Rattle.zarrs_node.specs.Forest.{Forest, pairs, IsPlaced}
 use Rattle.zarrs_node.specs.Reach.{Closed, Kept}
@@ -62,16 +63,18 @@ module _ (N : Path × NodeMetadata → Type 0) (b : Path) (B : Block) (names : (
     | None ↦ λ at none. absurd (true≢false (sym none))
   ] refl some
 
-  -- each node of the block is that of a pair
-  pub nodes_plain : ((e : Path × NodeMetadata) → N e → IsTrue (is_plain_node e.1)) → (es : Block) → AllByRecursion (λ e. node_at_key B e.0 ≡ Some e.1) es → All (λ e. IsTrue (is_plain_node e.1)) es
-  nodes_plain plain [] at = All-nil (λ e. IsTrue (is_plain_node e.1))
-  nodes_plain plain (e ∷ es) at =
+  -- each node of the block is that of a pair, so it is plain where those are
+  pub nodes_plain : (numbers : Numbers) → ((e : Path × NodeMetadata) → N e → IsTrue (is_plain_node_in numbers e.1)) → (es : Block) → AllByRecursion (λ e. node_at_key B e.0 ≡ Some e.1) es
+      → All (λ e. IsTrue (is_plain_node_in numbers e.1)) es
+  nodes_plain numbers plain [] at = All-nil (λ e. IsTrue (is_plain_node_in numbers e.1))
+  nodes_plain numbers plain (e ∷ es) at =
       let w = (is e.0 e.1).0 at.0 in
-      All-cons (λ e. IsTrue (is_plain_node e.1)) e es (plain (b ++ w.0 ∷ w.1, e.1) w.3) (nodes_plain plain es at.1)
+      All-cons (λ e. IsTrue (is_plain_node_in numbers e.1)) e es (plain (b ++ w.0 ∷ w.1, e.1) w.3) (nodes_plain numbers plain es at.1)
 
 -- a block of exactly the nodes that are kept reads back, where their metadata are plain
-pub kept_reads_back : (N : Path × NodeMetadata → Type 0) (b : Path) (B : Block) → ((e : Path × NodeMetadata) → Kept N true b e → IsTrue (is_plain_node e.1)) → IsAscending B → IsBlockOf (Kept N true b) b B → block_of (block_tree B) ≡ Ok B
-kept_reads_back N b B plain up is = block_again B (nodes_plain (Kept N true b) b B (λ e k. k.0.below) is plain B (found_all B up))
+pub kept_reads_back : (numbers : Numbers) (N : Path × NodeMetadata → Type 0) (b : Path) (B : Block) → ((e : Path × NodeMetadata) → Kept N true b e → IsTrue (is_plain_node_in numbers e.1)) → IsAscending B
+    → IsBlockOf (Kept N true b) b B → block_of_in numbers (block_tree B) ≡ Ok B
+kept_reads_back numbers N b B plain up is = block_again_in numbers B (nodes_plain (Kept N true b) b B (λ e k. k.0.below) is numbers plain B (found_all B up))
 
 -- the pairs of a placed forest are closed
 pairs_closed : (b : Path) (f : Forest) → HasNames b (pairs f) → IsPlaced b f → Closed (Contains (pairs f)) b
@@ -79,14 +82,14 @@ pairs_closed b f names placed e in' = (record { below = names e in'; between = �
 
 -- a block of exactly the pairs of a placed forest gives the forest back
 pub block_gives_back : BlockGivesBack
-block_gives_back b f B placed names plain up is =
+block_gives_back numbers b f B placed names plain up is =
     let same = entries_are (Contains (pairs f)) b B names is in
     let closed = pairs_closed b f names placed in
     let kept = kept_same (Entries B b) (Contains (pairs f)) true b (λ e low. same e) in
-    let nodes = nodes_plain (Contains (pairs f)) b B names is plain B (found_all B up) in
+    let nodes = nodes_plain (Contains (pairs f)) b B names is numbers plain B (found_all B up) in
     record {
       plain = nodes;
-      read_back = block_again B nodes;
+      read_back = block_again_in numbers B nodes;
       valid = keys_valid (Contains (pairs f)) b B names is;
       entries = same;
       closed = closed;
@@ -98,8 +101,8 @@ block_gives_back b f B placed names plain up is =
 
 -- so does a block of exactly the nodes of a meaning
 pub listing_gives_back : ListingGivesBack
-listing_gives_back of b f B shows plain up is =
-    block_gives_back b f B shows.placed (λ e in'. ((listed_each shows.shown e).0 in').0.below) plain up (λ t m. (
+listing_gives_back numbers of b f B shows plain up is =
+    block_gives_back numbers b f B shows.placed (λ e in'. ((listed_each shows.shown e).0 in').0.below) plain up (λ t m. (
       λ h. let w = (is t m).0 h in (w.0, w.1, w.2, (listed_each shows.shown (b ++ w.0 ∷ w.1, m)).1 w.3),
       λ w. (is t m).1 (w.0, w.1, w.2, (listed_each shows.shown (b ++ w.0 ∷ w.1, m)).0 w.3),
     ))

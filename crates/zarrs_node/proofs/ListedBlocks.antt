@@ -2,13 +2,12 @@
 use Rattle.std.proofs.Common.{◌≡◌, ◌≢◌, ◌↔◌, inl, inr, ⊎_elim, ℕ, true, List, [], ◌∷◌, ◌++◌, is_some, refl, sym, ap, subst, ◌∙◌, append_assoc, IsTrue}
 use Rattle.std.proofs.lemmas.List.{same_from_push}
 use Rattle.zarrs_store.specs.Contents.{Contents, HasBelow}
-use Rattle.zarrs_fault.specs.declared.numbers.Numbers.TheVariants.{Whole}
 use Rattle.zarrs_path.specs.Names.{is_all_periods}
 use Rattle.zarrs_path.specs.Paths.{Path, IsPath, IsBelow}
 use Rattle.zarrs_path.proofs.PathTexts.{IsPath-parts, last_name}
 use Rattle.zarrs_meta.specs.declared.node.NodeMetadata.{NodeMetadata}
 use Rattle.zarrs_config.specs.declared.version.MetadataRetrieveVersion.{MetadataRetrieveVersion}
-use Rattle.zarrs_block.specs.Block.{Block, Entries, HasPlainNodes, HasValidKeys}
+use Rattle.zarrs_block.specs.Block.{Block, Entries, HasPlainNodesIn, HasValidKeys}
 use Rattle.zarrs_block.specs.Meaning.{Meaning, meaning, bad}
 use Rattle.zarrs_block.specs.declared.node_create_error.NodeCreateError.{NodeCreateError}
 use Rattle.zarrs_block.proofs.Expansion.{found_all}
@@ -23,7 +22,7 @@ use Rattle.zarrs_node.proofs.Current.{AtOrBelow, not_below_itself, decided, else
 use Rattle.zarrs_node.proofs.ListedItems.{listed_each}
 use Rattle.zarrs_node.proofs.Inverse.{entries_are, keys_valid, nodes_plain}
 use Rattle.zarrs_node.proofs.KeptPairs.{kept_closed, kept_same, nodes_same, reached_more}
-use Rattle.zarrs_node.proofs.PlainMeanings.{plain_node}
+use Rattle.zarrs_node.proofs.PlainMeanings.{plain_node_in}
 use Rattle.zarrs_node.proofs.Unique.{one_forest}
 use Rattle.zarrs_node.proofs.WalkSteps.{not_bad_name}
 
@@ -188,9 +187,9 @@ listed_block_stays S T v b B agrees listed = record {
 -- ---- the block in the place of a listing
 
 module _ (S : Contents) (v : MetadataRetrieveVersion) (b : Path) (B : Block) (listed : IsListedBlock S v b B) where
-  -- where the numbers of the store are whole, its metadata could have come from documents
-  pub listed_plain : S.numbers ≡ Whole → HasPlainNodes B
-  listed_plain whole = nodes_plain (Nodes S v true b) b B (λ e k. k.0.below) listed.exact (λ e k. plain_node S e.0 whole v e.1 k.1) B (found_all B listed.ascending)
+  -- its metadata could have come from documents that may hold the numbers of the store
+  pub listed_plain : HasPlainNodesIn S.numbers B
+  listed_plain = nodes_plain (Nodes S v true b) b B (λ e k. k.0.below) listed.exact S.numbers (λ e k. plain_node_in S e.0 v e.1 k.1) B (found_all B listed.ascending)
 
   -- its keys are valid
   pub listed_keys : HasValidKeys B

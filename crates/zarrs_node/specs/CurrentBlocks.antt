@@ -38,7 +38,7 @@ abbrev pub IsFresh : (Path → Meaning) → Path → Block → Path → Block �
 IsFresh of b B p C = (t : List ℕ) (m : NodeMetadata)
     → (node_at_key C t ≡ Some m)
     ↔ (((IsAbout (text_beyond b p) t → ⊥) × (node_at_key B t ≡ Some m))
-        ⊎ (LeadsTo B b p × HoldsAt (IsNewPair of p) b t m))
+    ⊎ (LeadsTo B b p × HoldsAt (IsNewPair of p) b t m))
 
 -- p is bad, or means a group below which something is
 abbrev pub BadAnew : Contents → MetadataRetrieveVersion → Path → Type 0

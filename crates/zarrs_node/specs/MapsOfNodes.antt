@@ -172,7 +172,7 @@ KeysStandBeside = (S : Contents) (es : List Pair) → ((e : Pair) → Contains e
 abbrev pub OthersAreKept : Type 0
 OthersAreKept = (S : Contents) (key : Segments)
     → ((ds : List (Segments × Vec ℕ)) → ((d : Segments × Vec ℕ) → Contains ds d → d.0 ≢ key)
-        → store.get (with_documents S ds).values key ≡ store.get S.values key)
+    → store.get (with_documents S ds).values key ≡ store.get S.values key)
     × ((ks : List Segments) → (Contains ks key → ⊥) → store.get (without_keys S ks).values key ≡ store.get S.values key)
 
 -- Once the documents of version 2 at the paths of some pairs are erased, no such key is there.

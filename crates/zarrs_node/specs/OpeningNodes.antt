@@ -92,4 +92,4 @@ abbrev pub RefusesOpening : Contents → MetadataRetrieveVersion → UseConsolid
 RefusesOpening s v policy bs e =
     RefusesText bs e
     ⊎ ((b : Path) × IsPath b × (path_text b ≡ bs)
-        × (RefusesNode s v b e ⊎ ((m : NodeMetadata) × (meaning s v b ≡ node m) × RefusesBelow s v policy b m e)))
+    × (RefusesNode s v b e ⊎ ((m : NodeMetadata) × (meaning s v b ≡ node m) × RefusesBelow s v policy b m e)))

@@ -81,10 +81,10 @@ opened_by e = cond (is_group e.1) (e ∷ []) []
 abbrev pub IsTaken : Path → Pair → List Node → List Node → List Node → List Node → Type 0
 IsTaken b e roots opened new_roots new_opened =
     ((IsChildOf (top b (heads opened)) e.0 × IsPath e.0)
-        × (whole new_roots new_opened ≡ with_tree roots opened (tree e.0 e.1 none none))
-        × (heads new_opened ≡ heads opened ++ opened_by e))
+    × (whole new_roots new_opened ≡ with_tree roots opened (tree e.0 e.1 none none))
+    × (heads new_opened ≡ heads opened ++ opened_by e))
     ⊎ ((IsChildOf (top b (heads opened)) e.0 → ⊥) × (whole new_roots new_opened ≡ whole roots opened)
-        × (heads new_opened ≡ heads opened))
+    × (heads new_opened ≡ heads opened))
 
 -- the last pair is gone where it has the path
 abbrev pub DropsEqual : Path → List Pair → List Pair → Type 0

@@ -82,7 +82,7 @@ attributes_meant (bad e) = None
 abbrev pub own_attributes_in : Numbers → Data → Option Members
 own_attributes_in numbers d =
     option_and_then (λ ms. attributes_meant (small_meaning_in numbers (small [] ms) []))
-        (result_ok (zmetadata_members_in numbers d))
+    (result_ok (zmetadata_members_in numbers d))
 
 -- the attributes that the document of the block of a node has of it, if it has some, in the numbers of the store: of
 -- a version 2 group alone the block has a document
@@ -125,7 +125,7 @@ abbrev pub IsBlockFinding : Contents → MetadataRetrieveVersion → Path → Fi
 IsBlockFinding s v b f =
     (m : NodeMetadata) × HasNode s v b (f.group, m)
     × IsToldOf (block_read s f.group m) (HasOtherAttributes s f.group m) (Nodes s v true b) (HasBadPath s v b)
-        (HasNodeKey s) f.group f
+    (HasNodeKey s) f.group f
 
 -- a finding stands before another: its group does, or of one group it precedes the other
 abbrev pub StandsBefore : Finding → Finding → Type 0

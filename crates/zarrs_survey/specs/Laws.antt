@@ -67,7 +67,7 @@ GoodBlocksAgree =
     → block_read s b m ≡ Some (Ok B) → ((f : Finding) → IsBlockFinding s v b f → f.group ≡ b → f.kind ≡ OwnAttributes)
     → IsCleanBelow s v Must b m × IsCleanBelow s v Never b m
     × ((f g : Forest) → ShowsBelow s v Must b m f → ShowsBelow s v Never b m g
-        → (paths_of f ≡ paths_of g) × HaveSameNodes (Contains (pairs f)) (Contains (pairs g)))
+    → (paths_of f ≡ paths_of g) × HaveSameNodes (Contains (pairs f)) (Contains (pairs g)))
 
 -- Under the same conditions making the block current at any path below the base is refused for nothing, and the block
 -- then has the same paths as before with the same metadata, nested blocks apart.

@@ -35,7 +35,7 @@ block_with other (Err fault) = Err fault
 abbrev pub compared_bytes : Numbers → Members → List ℕ → BlockOrFault
 compared_bytes numbers attributes bytes =
     block_with (is_other attributes (option_and_then (own_attributes_in numbers) (json_of bytes)))
-        (of_bytes (zmetadata_in numbers) bytes)
+    (of_bytes (zmetadata_in numbers) bytes)
 
 -- what is read as the block of a node, if it has one
 abbrev pub block_with_own : Contents → Path → NodeMetadata → Option BlockOrFault

@@ -74,7 +74,7 @@ abbrev pub key_kind : Block → List ℕ → Option FindingKind
 key_kind B t =
     if is_nil (without_leading_slash t) then Some (OwnKey t) else
     if list_all is_name (relative_names t) then (if is_covered B t then Some (Shadowed t) else None)
-        else Some (BadKey t)
+    else Some (BadKey t)
 
 -- what is to be told of the keys of these entries of a block
 abbrev pub key_findings : Path → Block → Block → List Finding

@@ -122,7 +122,7 @@ IsSettled F D f None = (f.kind ≡ Stale) × IsSpoilt F f.path
 IsSettled F D f (Some h) =
     ((f.kind ≡ Stale → ⊥) × (h ≡ f))
     ⊎ ((f.kind ≡ Stale) × (IsSpoilt F f.path → ⊥) × (h.group ≡ f.group) × (h.path ≡ f.path)
-        × (((D f.path) × (h.kind ≡ Unreached)) ⊎ ((D f.path → ⊥) × (h.kind ≡ Stale))))
+    × (((D f.path) × (h.kind ≡ Unreached)) ⊎ ((D f.path → ⊥) × (h.kind ≡ Stale))))
 
 -- the finding, if there is one
 abbrev pub if_some : Option Finding → List Finding

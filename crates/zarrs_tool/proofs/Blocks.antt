@@ -45,7 +45,7 @@ block_read : (store : Contents) (base : Path) (B : Block) (numbers : Numbers) �
     → block_of (block_tree B) ≡ Ok B
 block_read store base B numbers are whole up holds =
     ⊎_elim
-    (λ all. kept_reads_back (Means (meaning store Default)) base B (λ e k. plain_node store e.0 (sym are ∙ all) Default e.1 k.1) up holds)
+    (λ all. kept_reads_back Whole (Means (meaning store Default)) base B (λ e k. plain_node store e.0 (sym are ∙ all) Default e.1 k.1) up holds)
     (λ plain. block_again B plain)
     whole
 

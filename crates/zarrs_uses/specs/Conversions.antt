@@ -57,8 +57,8 @@ abbrev pub KeepsOthers : Path → Contents → Contents → Type 0
 KeepsOthers b S T =
     (T.numbers ≡ S.numbers)
     × ((key : Segments)
-        → ((e : Pair) → NodesFrom S Default b e → is_version_3 e.1 ≡ false → key ≢ e.0 ++ zarr_json ∷ [])
-        → get T.values key ≡ get S.values key)
+    → ((e : Pair) → NodesFrom S Default b e → is_version_3 e.1 ≡ false → key ≢ e.0 ++ zarr_json ∷ [])
+    → get T.values key ≡ get S.values key)
 
 -- ---- refusals
 

@@ -10,7 +10,7 @@ use zarrs_block::{
 use zarrs_config::UseConsolidatedMetadata;
 use zarrs_meta::NodeMetadata;
 use zarrs_path::NodePath;
-use zarrs_store::{MetadataFault, StorageError, StoreKey, StorePrefix};
+use zarrs_store::{MetadataFault, Numbers, StorageError, StoreKey, StorePrefix};
 
 // ---- errors
 
@@ -404,6 +404,8 @@ fn the_laws_of_blocks_are_called(rt: HostRuntime) {
         metadata: ConsolidatedMetadataMetadata::new(rt.alloc()),
     };
     laws::block_reads_back(&none);
+    laws::block_reads_back_in(Numbers::Any, &none);
+    laws::written_reads_back_in(Numbers::Any);
 }
 
 // ---- entries of a block

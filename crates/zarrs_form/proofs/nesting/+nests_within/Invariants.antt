@@ -1,7 +1,7 @@
 use Rattle.std.proofs.Common.{◌≤◌, ◌↔◌, drop}
 use Rattle.serde_json.specs.Data.{items_depth, members_depth}
 use Rattle.serde_json.specs.View.{items_view, members_view}
-use Rattle.zarrs_group.proofs.nesting.+nests_within.Given as goal
+use Rattle.zarrs_form.proofs.nesting.+nests_within.Given as goal
 
 abbrev pub invariant-items_nest_within-loop-item : goal.invariant-items_nest_within-loop-item
 invariant-items_nest_within-loop-item l =
