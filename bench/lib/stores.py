@@ -9,7 +9,6 @@ DOCUMENTS_V2 = (".zarray", ".zgroup", ".zattrs")
 DOCUMENTS = ("zarr.json", *DOCUMENTS_V2, ".zmetadata")
 
 
-
 def group_v3(attributes=None, **fields):
     group = {"zarr_format": 3, "node_type": "group", **fields}
     return {**group, "attributes": attributes} if attributes is not None else group
