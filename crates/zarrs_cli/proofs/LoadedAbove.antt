@@ -23,7 +23,7 @@ use Rattle.zarrs_survey.specs.declared.finding.Finding.{Finding}
 use Rattle.zarrs_survey.specs.declared.finding.FindingKind.TheVariants.{Stale}
 use Rattle.zarrs_survey.proofs.Blocks.{finding_same}
 use Rattle.zarrs_folder.specs.PrunedStores.{IsLoadedFrom}
-use Rattle.zarrs_folder.proofs.Shown.{base_shows_same, pruned_shows_same}
+use Rattle.zarrs_folder.proofs.PrunedListings.{base_shows_same, pruned_shows_same}
 use Rattle.zarrs_cli.specs.StepsOfRuns.{HoldsAbove, IsSettledAbove}
 use Rattle.zarrs_cli.specs.Report.{IsAboveRemark}
 use Rattle.zarrs_cli.specs.declared.remark.Remark.{Remark}

@@ -5,7 +5,7 @@ use Rattle.zarrs_path.specs.Paths.{Path}
 use Rattle.zarrs_config.specs.declared.version.MetadataRetrieveVersion.TheVariants.{Default}
 use Rattle.zarrs_block.specs.Meaning.{meaning}
 use Rattle.zarrs_folder.specs.PrunedStores.{IsArrayAt}
-use Rattle.zarrs_folder.proofs.Shown.{base_shows_same}
+use Rattle.zarrs_folder.proofs.PrunedListings.{base_shows_same}
 use Rattle.zarrs_cli.specs.declared.report.Tally.{Tally}
 use Rattle.zarrs_cli.specs.declared.words.CheckOptions.{CheckOptions}
 use Rattle.zarrs_cli.specs.StepsOfRuns.{IsCheckable}

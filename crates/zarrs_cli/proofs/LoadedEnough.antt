@@ -20,7 +20,7 @@ use Rattle.zarrs_survey.specs.declared.path_check.CheckedFrom.TheVariants.{Array
 use Rattle.zarrs_survey.specs.declared.path_check.PathCheck.{PathCheck}
 use Rattle.zarrs_folder.specs.PrunedStores.{Grows, IsArrayAt, IsLoadedFrom}
 use Rattle.zarrs_folder.specs.PassedPaths.{HoldsBelow, HoldsFilesOf, IsPassed}
-use Rattle.zarrs_folder.proofs.Shown.{base_shows_same, pruned_shows_same}
+use Rattle.zarrs_folder.proofs.PrunedListings.{base_shows_same, pruned_shows_same}
 use Rattle.zarrs_cli.specs.StepsOfRuns.{HoldsAbove, IsCheckable, has_more, has_more_from, is_stale, passed_from, stale_among, stale_from, stale_of, stale_paths}
 use Rattle.zarrs_cli.proofs.LoadedAbove.{lone_above, stale_above}
 use Rattle.zarrs_cli.proofs.LoadedReports.{documents_over_key, node_key_back, node_key_over, passed_back, stale_lone, told_stale}

@@ -42,7 +42,7 @@ use Rattle.zarrs_folder.specs.PrunedStores.{HasNoOtherKeys, HasSameFiles, IsArra
 use Rattle.zarrs_folder.specs.PassedPaths.{HasSameDocuments, IsPassed}
 use Rattle.zarrs_folder.proofs.LoadingSteps.{same_there}
 use Rattle.zarrs_folder.proofs.Openings.{lists_over, opened_answer_same, shown_open_same, turned}
-use Rattle.zarrs_folder.proofs.Shown.{pruned_shows_same}
+use Rattle.zarrs_folder.proofs.PrunedListings.{pruned_shows_same}
 use Rattle.zarrs_cli.specs.declared.remark.Remark.{Remark}
 use Rattle.zarrs_cli.specs.declared.report.Tally.{Tally}
 use Rattle.zarrs_cli.specs.declared.words.CheckOptions.{CheckOptions}

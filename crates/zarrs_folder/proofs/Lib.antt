@@ -3,4 +3,4 @@ pub mod LoadingSteps
 pub mod Openings
 pub mod PassedPaths
 mod RecordSteps
-pub mod Shown
+pub mod PrunedListings

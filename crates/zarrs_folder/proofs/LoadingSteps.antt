@@ -25,7 +25,7 @@ use Rattle.zarrs_node.proofs.Order.{contains_cases}
 use Rattle.zarrs_folder.specs.Folders.{in_any, values_of, NoneIsBelow}
 use Rattle.zarrs_folder.specs.PrunedStores.{Grows, HasBaseOf, HasNoOtherKeys, HasSameFile, HasSameFiles, IsLoadedFrom, IsPruned, node_files}
 use Rattle.zarrs_folder.specs.StepsOfLoadingNodes.{IsAhead, IsLoadedButAhead}
-use Rattle.zarrs_folder.proofs.Shown.{last_of, means_same}
+use Rattle.zarrs_folder.proofs.PrunedListings.{last_of, means_same}
 
 -- ---- one key more
 

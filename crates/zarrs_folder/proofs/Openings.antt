@@ -30,7 +30,7 @@ use Rattle.zarrs_node.proofs.MapsShown.{same_node}
 use Rattle.zarrs_folder.specs.PrunedStores.{HasBaseOf, IsPruned, IsArrayAt}
 use Rattle.zarrs_folder.specs.Laws.{ShowSame}
 use Rattle.zarrs_folder.specs.Openings.{ListSame, OpenSame, ShowBelowSame, ShownListSame, ListedBlockIsSame, ShownOpenSame, LoadedOpensSame, BaseOpensSame, BlockOpensSame, OpenedAnswerSame}
-use Rattle.zarrs_folder.proofs.Shown.{base_shows_same, pruned_shows_same}
+use Rattle.zarrs_folder.proofs.PrunedListings.{base_shows_same, pruned_shows_same}
 
 -- ---- sets
 

@@ -1,4 +1,4 @@
-use Rattle.zarrs_folder.proofs.Shown.{base_shows_same}
+use Rattle.zarrs_folder.proofs.PrunedListings.{base_shows_same}
 use Rattle.zarrs_folder.proofs.laws.base_shows_same.Goals as goal
 
 pub returns : goal.returns

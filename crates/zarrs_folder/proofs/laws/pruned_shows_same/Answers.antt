@@ -1,4 +1,4 @@
-use Rattle.zarrs_folder.proofs.Shown.{pruned_shows_same}
+use Rattle.zarrs_folder.proofs.PrunedListings.{pruned_shows_same}
 use Rattle.zarrs_folder.proofs.laws.pruned_shows_same.Goals as goal
 
 pub returns : goal.returns
