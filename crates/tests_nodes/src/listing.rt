@@ -74,7 +74,7 @@ fn nodes_are_listed_with_their_metadata_passed_over_or_refused(
     check_rows(rt.alloc(), LISTED, listed_said)
 }
 
-// Here no allocation is refused, and the listing is whole. Under `bench/alloc`, which refuses each in turn, it is that or out of memory.
+// Here no allocation is refused, and the listing is whole. Under `bench/break/alloc`, which refuses each in turn, it is that or out of memory.
 #[test]
 fn a_listing_without_memory_says_so(rt: HostRuntime) -> Result<(), Fail> {
     check_rows(rt.alloc(), WHOLE, listed_said)

@@ -294,7 +294,7 @@ fn opening_by_a_version_warns_of_what_is_passed_over(rt: HostRuntime) -> Result<
     check_rows(rt.alloc(), WARNED, warnings)
 }
 
-// Here no allocation is refused, and opening is whole. Under `bench/alloc`, which refuses each in turn, it is that or out of memory,
+// Here no allocation is refused, and opening is whole. Under `bench/break/alloc`, which refuses each in turn, it is that or out of memory,
 // and never without a block.
 #[test]
 fn an_opening_without_memory_says_so(rt: HostRuntime) -> Result<(), Fail> {

@@ -239,7 +239,7 @@ fn a_fresh_block_is_whole_or_memory_is_wanting(rt: HostRuntime) -> Result<(), Fa
     check_rows(rt.alloc(), CHANGED_TWICE, changed_said)
 }
 
-// Here no allocation is refused, and the block is whole. Under `bench/alloc` it is that or out of memory.
+// Here no allocation is refused, and the block is whole. Under `bench/break/alloc` it is that or out of memory.
 const CHANGED_TWICE: &str = r#"
 /group/subgroup | three levels | two erased | one set again => array A3_SQUARE\ngroup G3\ngroup/array A3_SQUARE\ngroup/subgroup G3\ngroup/subgroup/mysubarray A3_SQUARE\n
 "#;

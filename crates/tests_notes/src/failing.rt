@@ -1,6 +1,6 @@
 //! Stores that fail, which shows what is asked of a store, and memory that is refused.
 //!
-//! Each allocation of the test `memory_fails_in_notes` is refused in turn by `bench/failures`; it ends then as usual, or in out of memory.
+//! Each allocation of the test `memory_fails_in_notes` is refused in turn by `bench/break/failures`; it ends then as usual, or in out of memory.
 
 use crate::told::{store_in, told_text};
 use std::alloc::{AllocError, Global};

@@ -1,7 +1,7 @@
 //! Stores that fail, and memory that is refused: what surveys and checks answer then.
 //!
 //! A call is a value here, and what it answers a text, so one loop goes over all places of a store. Each allocation of the test
-//! `memory_fails_in_checks` is refused in turn by `bench/failures`; it ends then as usual, or in an error that is out of memory.
+//! `memory_fails_in_checks` is refused in turn by `bench/break/failures`; it ends then as usual, or in an error that is out of memory.
 
 use crate::findings::findings_text;
 use crate::given::store_in;

@@ -16,7 +16,7 @@ pub mod LastNames
 pub mod Order
 pub mod KeptPairs
 pub mod Unique
-pub mod Written
+pub mod TreeTexts
 pub mod LawProofs
 pub mod ListedKeys
 pub mod Latest

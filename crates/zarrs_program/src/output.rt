@@ -47,7 +47,7 @@ pub fn write_whole<W: Write>(text: &[u8], writer: &mut W) -> Result<(), WriteFau
 /// `WriteFault` where the writer fails, when some of the line may be written.
 ///
 /// Source: own.
-#[tactic(auto, using(crate::proofs::Told::told))]
+#[tactic(auto, using(crate::proofs::LinesTold::told))]
 pub fn tell<W: Write, D: Display>(program: &str, what: &D, writer: &mut W) -> Result<(), WriteFault>
     ensures ok { OnOk result (IfSome (D.output what.now) (λ text.
         Appends (W.contents writer.old) (W.contents writer.new) (told_line program.now text))) }
@@ -64,7 +64,7 @@ pub fn tell<W: Write, D: Display>(program: &str, what: &D, writer: &mut W) -> Re
 /// `WriteFault` where the writer fails, when some of the line may be written.
 ///
 /// Source: own.
-#[tactic(auto, using(crate::proofs::Told::lined))]
+#[tactic(auto, using(crate::proofs::LinesTold::lined))]
 pub fn tell_line<W: Write, D: Display>(what: &D, writer: &mut W) -> Result<(), WriteFault>
     ensures ok { OnOk result (IfSome (D.output what.now) (λ text.
         Appends (W.contents writer.old) (W.contents writer.new) (text_line text))) }

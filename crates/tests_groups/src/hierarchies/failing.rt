@@ -2,7 +2,7 @@
 //!
 //! A call that reads is a word here, and what it answers a text, so one loop goes over all calls and all places of a store. A store is
 //! lent to such a call only for reading, so it is left as it was. Each allocation of the tests `memory_fails_in_..` is refused in turn
-//! by `bench/failures`; such a test ends then as usual, or in an error that is out of memory.
+//! by `bench/break/failures`; such a test ends then as usual, or in an error that is out of memory.
 ghost use Rattle.std.specs.Prelude.{◌≡◌, true, IfOk, IfErr, OnOk, OnErr};
 ghost use Rattle.zarrs_store.specs.Contents.{Lists, of_entries};
 ghost use Rattle.zarrs_store.specs.Faults.{IsStoreError};

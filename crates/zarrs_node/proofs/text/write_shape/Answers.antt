@@ -1,6 +1,6 @@
 use Rattle.std.proofs.Common.{subst}
 use Rattle.std.specs.Fmt.{DisplaysOnOk}
-use Rattle.zarrs_node.proofs.Written.{shape_written}
+use Rattle.zarrs_node.proofs.TreeTexts.{shape_written}
 use Rattle.zarrs_node.proofs.text.write_shape.Goals as goal
 
 pub returns : goal.returns

@@ -1,6 +1,6 @@
 use Rattle.std.proofs.Common.{◌*◌, replicate, refl, rules}
 use Rattle.std.proofs.Output.{has_written_append, has_written_of_eq}
-use Rattle.zarrs_node.proofs.Written.{deeper_indent}
+use Rattle.zarrs_node.proofs.TreeTexts.{deeper_indent}
 use Rattle.zarrs_hierarchy.proofs.tree.TreeLineDisplay.fmt.Goals as goal
 
 pub loop-level-preserved : goal.loop-level-preserved

@@ -1,5 +1,5 @@
 use Rattle.std.proofs.Common.{string_bytes}
-use Rattle.zarrs_node.proofs.Written.{first_written, line_written}
+use Rattle.zarrs_node.proofs.TreeTexts.{first_written, line_written}
 use Rattle.zarrs_node.proofs.WalkPrefixes.{took_node}
 use Rattle.zarrs_node.proofs.node.Node.hierarchy_tree.Goals as goal
 

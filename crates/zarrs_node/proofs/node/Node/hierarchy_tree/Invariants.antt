@@ -2,7 +2,7 @@ use Rattle.std.proofs.Common.{◌≡◌, ◌++◌, length, string_bytes}
 use Rattle.zarrs_node.specs.Forest.{metadata_of, below_of}
 use Rattle.zarrs_node.specs.Lines.{tree_text}
 use Rattle.zarrs_node.specs.StepsOfPreorder.{ahead}
-use Rattle.zarrs_node.proofs.Written.{text_of}
+use Rattle.zarrs_node.proofs.TreeTexts.{text_of}
 use Rattle.zarrs_node.proofs.node.Node.hierarchy_tree.Given as goal
 
 -- what is written and the lines of what is ahead make the whole
