@@ -79,6 +79,9 @@ pub(crate) fn entries_of<T: Drop>(
     ensures entries { IfOk result (λ entries. entries.items ≡ map.entries) }
     ensures ascending { NamesAscend map.entries }
 {
+    if map.is_empty() {
+        return Ok(Vec::new(alloc));
+    }
     let mut entries = Vec::with_capacity(alloc, map.len())?;
     for (name, value) in map {
         entries.push((name, value))?;
