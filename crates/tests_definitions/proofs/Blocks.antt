@@ -70,6 +70,7 @@ is_dropped h =
 abbrev below_group : Block
 below_group = (codes "a", plain_group) ∷ (codes "a/x", small_array) ∷ []
 
+-- the array `/a/x` is kept, below the group `/a`
 is_kept : Kept (Entries below_group []) true [] (codes "a" ∷ codes "x" ∷ [], small_array)
 is_kept = (
   reached _ true (codes "a") (codes "x" ∷ []) refl ((refl, (plain_group, (codes "a", [], refl, refl, refl), refl)), tt),
@@ -78,6 +79,7 @@ is_kept = (
 
 -- ---- the block of some pairs
 
+-- the path `/b`
 abbrev b : Path
 b = codes "b" ∷ []
 

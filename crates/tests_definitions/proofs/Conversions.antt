@@ -9,6 +9,7 @@ use Rattle.zarrs_convert.specs.DataTypes.{byte_order, data_type_name}
 float64 : data_type_name (codes "<f8") ≡ Some (codes "float64")
 float64 = refl
 
+-- `>f8` has the name `float64` as well
 float64_too : data_type_name (codes ">f8") ≡ Some (codes "float64")
 float64_too = refl
 
@@ -16,6 +17,7 @@ float64_too = refl
 int8 : data_type_name (codes "|i1") ≡ Some (codes "int8")
 int8 = refl
 
+-- `<i1` has no name of a data type
 no_int8 : data_type_name (codes "<i1") ≡ None
 no_int8 = refl
 
@@ -27,11 +29,14 @@ no_int24 = refl
 little : byte_order (Simple (codes "<f8")) ≡ Ok (Some Little)
 little = refl
 
+-- the byte order of `>f8` is the big one
 big : byte_order (Simple (codes ">f8")) ≡ Ok (Some Big)
 big = refl
 
+-- `|O` has no byte order
 none : byte_order (Simple (codes "|O")) ≡ Ok None
 none = refl
 
+-- `f8`, which begins with none of these characters, is refused
 unknown : byte_order (Simple (codes "f8")) ≡ Err (codes "f8")
 unknown = refl

@@ -42,6 +42,7 @@ block_text =
     quoted
     (codes "{'kind':'inline','must_understand':false,'metadata':{'a':{'zarr_format':3,'node_type':'group'},'a/x':{'zarr_format':2,'shape':[4,3],'chunks':[2,3],'dtype':'<f8','fill_value':null,'order':'C'}}}")
 
+-- its text reads as a block of this group and this array
 block_reads : of_bytes block_of block_text ≡ Ok ((codes "a", plain_group) ∷ (codes "a/x", small_array) ∷ [])
 unfolding documents_compute block_of_in
 block_reads = refl
@@ -55,14 +56,17 @@ must_is_bad = refl
 abbrev block_by : (Path → Meaning) → Members → Result Block MetadataFault
 block_by of ms = if list_all (λ e. is_good of e.0) (documents_below ms) then Ok (block_from of (documents_below ms)) else Err (BadMember (codes "metadata"))
 
+-- what a path means in version 2, by look-ups in the documents that count
 abbrev small_listed : Members → Path → Meaning
 small_listed ms p = looked_up (in_trees Whole) (λ k. find key_cmp k (map (λ e. ([] ++ e.0, e.1)) (counted_members ms))) V2 p
 
+-- each text reads as a document `.zmetadata` just as it does by these look-ups
 block_listed : (text : List ℕ) → of_bytes zmetadata_of text ≡ of_bytes (λ d. zmetadata_members d >>= λ ms. block_by (small_listed ms) ms) text
 unfolding zmetadata_in
 block_listed text =
     λ i. of_bytes (λ d. zmetadata_members d >>= λ ms. block_by (λ p. listed_in (in_trees Whole) (map (λ e. ([] ++ e.0, e.1)) (counted_members ms)) V2 p i) ms) text
 
+-- a document `.zmetadata` of a group and one array below it
 abbrev zmetadata_text : List ℕ
 zmetadata_text =
     quoted (codes "{'zarr_consolidated_format':1,'metadata':{'.zgroup':{'zarr_format':2},'x/.zarray':{'zarr_format':2,'shape':[4,3],'chunks':[2,3],'dtype':'<f8','fill_value':null,'order':'C'}}}")
@@ -84,9 +88,11 @@ array_text =
 abbrev one : List ℕ → Data → Members
 one name d = member name d no_members
 
+-- an extension with this name and this configuration, which must be understood
 abbrev plain : List ℕ → Option Members → MetadataV3
 plain name configuration = record { name = name; configuration = configuration; must_understand = true }
 
+-- its text reads as this array
 array_reads : of_bytes array_v3_of array_text ≡ Ok (record {
   shape = 10000 ∷ 1000 ∷ [];
   data_type = plain (codes "float64") None;
@@ -102,6 +108,7 @@ array_reads : of_bytes array_v3_of array_text ≡ Ok (record {
 unfolding documents_compute
 array_reads = refl
 
+-- an array of version 2, of floats of eight bytes, with no compressor, no filters and no attributes
 abbrev small_v2 : ArrayMetadataV2
 small_v2 = record {
   shape = 4 ∷ 3 ∷ [];

@@ -5,6 +5,7 @@ use Rattle.zarrs_node.specs.Forest.{Forest, none, tree, pairs}
 use Rattle.zarrs_node.specs.Lines.{lines, tree_text}
 use Rattle.tests_definitions.proofs.Meanings.{plain_group, small_array}
 
+-- the group `/a` with the array `/a/x` below it, and the group `/b`
 abbrev small : Forest
 small = tree (codes "a" ∷ []) plain_group (tree (codes "a" ∷ codes "x" ∷ []) small_array none none) (tree (codes "b" ∷ []) plain_group none none)
 

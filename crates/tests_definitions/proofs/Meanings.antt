@@ -21,17 +21,21 @@ use Rattle.zarrs_block.specs.declared.node_create_error.NodeCreateError.TheVaria
 use Rattle.zarrs_block.specs.Meaning.{node, nothing, bad, meaning}
 use Rattle.tests_definitions.proofs.Stores.{Entries, quoted, documents_compute, listed, listed_in_any}
 
+-- the path `/a`
 abbrev pub a : Path
 a = codes "a" ∷ []
 
 -- ---- a group of version 3
 
+-- the text of a document of a group of version 3
 abbrev pub group_text : List ℕ
 group_text = quoted (codes "{'zarr_format':3,'node_type':'group'}")
 
+-- a group of version 3 with no attributes and no additional fields
 abbrev pub plain_group : NodeMetadata
 plain_group = Group (group_v3 (record { attributes = no_members; additional_fields = no_members }))
 
+-- the entries of a store with the group `/a` alone
 abbrev one_group : Entries (List ℕ)
 one_group = (a ++ zarr_json ∷ [], group_text) ∷ []
 
@@ -57,9 +61,11 @@ nothing_by_v2 = listed one_group V2 a
 
 -- ---- documents of version 2
 
+-- the text of a document `.zarray`
 abbrev pub array_text : List ℕ
 array_text = quoted (codes "{'zarr_format':2,'shape':[4,3],'chunks':[2,3],'dtype':'<f8','fill_value':null,'order':'C','compressor':null,'filters':null}")
 
+-- the array of version 2 that this text describes
 abbrev pub small_array : NodeMetadata
 small_array = Array (array_v2 (record {
   shape = 4 ∷ 3 ∷ [];
@@ -74,6 +80,7 @@ small_array = Array (array_v2 (record {
   additional_fields = no_members;
 }))
 
+-- the entries of a store with `.zgroup` and `.zarray` at `/a`
 abbrev both_v2 : Entries (List ℕ)
 both_v2 = (a ++ zgroup ∷ [], quoted (codes "{'zarr_format':2}")) ∷ (a ++ zarray ∷ [], array_text) ∷ []
 
@@ -86,6 +93,7 @@ array_wins = listed both_v2 Default a
 abbrev bad_array : Entries (List ℕ)
 bad_array = (a ++ zgroup ∷ [], quoted (codes "{'zarr_format':2}")) ∷ (a ++ zarray ∷ [], quoted (codes "{'zarr_format':2")) ∷ []
 
+-- `/a` is bad in this store, since its `.zarray` is no JSON
 cut_off_is_bad : meaning (of_entries bad_array) Default a ≡ bad (InStore (InvalidMetadata (a ++ zarray ∷ []) NotJson))
 unfolding documents_compute
 cut_off_is_bad = listed bad_array Default a
@@ -94,6 +102,7 @@ cut_off_is_bad = listed bad_array Default a
 abbrev with_attributes : Entries (List ℕ)
 with_attributes = (a ++ zgroup ∷ [], quoted (codes "{'zarr_format':2}")) ∷ (a ++ zattrs ∷ [], quoted (codes "{'units':'m'}")) ∷ []
 
+-- in this store `/a` means a group with these attributes
 attributes_beside : meaning (of_entries with_attributes) Default a
     ≡ node (Group (group_v2 (record { attributes = member (codes "units") (string (codes "m")) no_members; additional_fields = no_members })))
 unfolding documents_compute
@@ -103,6 +112,7 @@ attributes_beside = listed with_attributes Default a
 abbrev attributes_alone : Entries (List ℕ)
 attributes_alone = (a ++ zattrs ∷ [], quoted (codes "{'units':'m'}")) ∷ []
 
+-- in this store `/a` means nothing
 alone_is_nothing : meaning (of_entries attributes_alone) Default a ≡ nothing
 unfolding documents_compute
 alone_is_nothing = listed attributes_alone Default a

@@ -48,33 +48,42 @@ reached N r n p valid opens = record {
 
 -- ---- `/`, `/a` and `/a/x` are groups, and so is `/u/y` below `/u`, which has no document
 
+-- the path `/a/x`
 abbrev pub x : Path
 x = codes "a" ∷ codes "x" ∷ []
 
+-- the path `/u`
 abbrev pub u : Path
 u = codes "u" ∷ []
 
+-- the path `/u/y`
 abbrev pub y : Path
 y = codes "u" ∷ codes "y" ∷ []
 
+-- the entries of a store with these groups
 abbrev pub store : Entries (List ℕ)
 store = (zarr_json ∷ [], group_text) ∷ (a ++ zarr_json ∷ [], group_text) ∷ (x ++ zarr_json ∷ [], group_text) ∷ (y ++ zarr_json ∷ [], group_text) ∷ []
 
+-- the contents of this store
 abbrev pub held : Contents
 held = of_entries store
 
+-- `/a` means a group
 pub a_means : meaning held Default a ≡ node plain_group
 unfolding documents_compute
 a_means = listed store Default a
 
+-- `/a/x` means a group
 pub x_means : meaning held Default x ≡ node plain_group
 unfolding documents_compute
 x_means = listed store Default x
 
+-- `/u` means nothing
 pub u_means : meaning held Default u ≡ nothing
 unfolding documents_compute
 u_means = listed store Default u
 
+-- `/u/y` means a group
 pub y_means : meaning held Default y ≡ node plain_group
 unfolding documents_compute
 y_means = listed store Default y
@@ -101,9 +110,11 @@ u_is_ignored = (reached _ true (codes "u") [] refl tt, u_means, (codes "y", zarr
 
 -- ---- `/a` is an array, and `/a/x` a group below it
 
+-- the entries of a store in which `/` and `/a/x` are groups, and `/a` is an array
 abbrev below_array : Entries (List ℕ)
 below_array = (zarr_json ∷ [], group_text) ∷ (a ++ zarray ∷ [], array_text) ∷ (x ++ zarr_json ∷ [], group_text) ∷ []
 
+-- in this store `/a` means the array
 array_means : meaning (of_entries below_array) Default a ≡ node small_array
 unfolding documents_compute
 array_means = listed below_array Default a
@@ -123,6 +134,7 @@ below_a_none n ns m h =
 abbrev odd_names : Entries (List ℕ)
 odd_names = (codes "__a" ∷ zarr_json ∷ [], group_text) ∷ (codes ".." ∷ zarr_json ∷ [], group_text) ∷ []
 
+-- `/__a` means a group
 reserved_means : meaning (of_entries odd_names) Default (codes "__a" ∷ []) ≡ node plain_group
 unfolding documents_compute
 reserved_means = listed odd_names Default (codes "__a" ∷ [])
@@ -146,9 +158,11 @@ periods_are_bad =
 abbrev cut_off : Entries (List ℕ)
 cut_off = (zarr_json ∷ [], group_text) ∷ (a ++ zarr_json ∷ [], codes "{") ∷ []
 
+-- in this store `/a` is bad, since its `zarr.json` is no JSON
 cut_off_means : meaning (of_entries cut_off) Default a ≡ bad (InStore (InvalidMetadata (a ++ zarr_json ∷ []) NotJson))
 unfolding documents_compute
 cut_off_means = listed cut_off Default a
 
+-- a listing of this store meets something bad
 cut_off_is_bad : Bad (of_entries cut_off) Default true []
 cut_off_is_bad = inl (_, (a, reached _ true (codes "a") [] refl tt, cut_off_means))

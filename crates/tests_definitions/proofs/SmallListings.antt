@@ -44,12 +44,15 @@ meant P es v p m h is =
 
 -- ---- the store of `/`, `/a`, `/a/x` and `/u/y`
 
+-- the group `/a` with the group `/a/x` below it
 abbrev found : Forest
 found = tree a plain_group (tree x plain_group none none) none
 
+-- the pair of `/a` and its group
 abbrev at_a : Path × NodeMetadata
 at_a = (a, plain_group)
 
+-- the pair of `/a/x` and its group
 abbrev at_x : Path × NodeMetadata
 at_x = (x, plain_group)
 
@@ -57,29 +60,35 @@ at_x = (x, plain_group)
 abbrev IsFound : Path → Type 0
 IsFound p = (m : NodeMetadata) → Nodes held Default true [] (p, m) → Contains (pairs found) (p, m)
 
+-- the root is among those found where it is a node
 found_root : IsFound []
 found_root m h = let low : [] ≡ h.0.below.0 ∷ h.0.below.1 = h.0.below.2 in cc
 
+-- `/a` is among those found where it is a node
 found_a : IsFound a
 found_a m h =
     let is : node plain_group ≡ node m = sym a_means ∙ h.1 in
     let same : plain_group ≡ m = cc in
     (0, omega arith, ap (λ k. (a, k)) same)
 
+-- `/a/x` is among those found where it is a node
 found_x : IsFound x
 found_x m h =
     let is : node plain_group ≡ node m = sym x_means ∙ h.1 in
     let same : plain_group ≡ m = cc in
     (1, omega arith, ap (λ k. (x, k)) same)
 
+-- `/u` is among those found where it is a node
 found_u : IsFound u
 found_u m h = let never : nothing ≡ node m = sym u_means ∙ h.1 in cc
 
+-- `/u/y` is among those found where it is a node
 found_y : IsFound y
 found_y m h =
     let way = h.0.between u (codes "u", [], refl) (codes "y", [], refl) in
     let never : nothing ≡ node way.1.0 = sym u_means ∙ way.1.1 in cc
 
+-- each proper beginning of a key of the store is among those found where it is a node
 each_found : Each IsFound store
 each_found = ((found_root, tt), ((found_root, (found_a, tt)), ((found_root, (found_a, (found_x, tt))), ((found_root, (found_u, (found_y, tt))), tt))))
 

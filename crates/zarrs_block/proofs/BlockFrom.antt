@@ -114,17 +114,21 @@ pub below_named : (ms : Members) → AreNamed ms → AllByRecursion IsBelowNames
 below_named ms named =
     recursion_from_All IsBelowNames (documents_below ms) (All-filter (λ e. not (is_nil (before_last e.0))) IsBelowNames (counted_members ms) (All-from_recursion IsBelowNames (counted_members ms) (counted_named ms named)))
 
+-- `||` is true where its second test is
 or_true : (b : Bool) → (b || true) ≡ true
 or_true true = refl
 or_true false = refl
 
 module _ (n : List ℕ) (ns : Path) (h : IsPath (n ∷ ns)) (file : List ℕ) (doc : is_document_v2 file ≡ true) where
+  -- the document stands behind just these names
   abbrev pub here : Segments × Data → Bool
   here e = path_eq (n ∷ ns) (before_last e.0)
 
+  -- the document stands behind some names
   abbrev pub keep : Segments × Data → Bool
   keep e = not (is_nil (before_last e.0))
 
+  -- these names, and the file's
   abbrev pub name : Segments
   name = (n ∷ ns) ++ file ∷ []
 

@@ -28,6 +28,7 @@ shown es = map (λ e. (string_bytes e.0, e.1)) es
 abbrev pub texts : {X : Type 0} → List (String Global × X) → List (List ℕ)
 texts es = map (λ e. string_bytes e.0) es
 
+-- the block of the entries that an order chooses is the one that it chooses of their blocks
 shown_by : (o : Ordering) (a b c : List (String Global × NodeMetadata)) → shown (match_ordering o a b c) ≡ match_ordering o (shown a) (shown b) (shown c)
 shown_by Less a b c = refl
 shown_by Equal a b c = refl
@@ -38,6 +39,7 @@ pub shown_inserted : (es : List (String Global × NodeMetadata)) (k : String Glo
 shown_inserted [] k m = refl
 shown_inserted (e ∷ es) k m = shown_by (string_cmp k e.0) _ _ _ ∙ rw (shown_inserted es k m)
 
+-- where what is found behind an entry is the same, what is found from the entry on is the same
 found_by : (o : Ordering) (m : NodeMetadata) (a b : Option NodeMetadata) → a ≡ b → cond (is_eq o) (Some m) a ≡ cond (is_eq o) (Some m) b
 found_by o m a b e = ap (λ x. cond (is_eq o) (Some m) x) e
 
@@ -48,6 +50,7 @@ found_shown t (e ∷ es) = found_by (bytes_cmp t (string_bytes e.0)) e.1 _ _ (fo
 
 -- ---- a block that grows at its end
 
+-- a key below all keys of a map is below them as a text
 texts_below : {X : Type 0} (k : String Global) (es : List (String Global × X)) → AllByRecursion (λ y. string_cmp k y ≡ Less) (keys_of es)
     → AllByRecursion (λ y. bytes_cmp (string_bytes k) y ≡ Less) (texts es)
 texts_below k [] h = tt
@@ -59,10 +62,12 @@ unfolding IsStrictlySortedBy
 texts_ascend [] h = h
 texts_ascend (e ∷ es) h = (texts_below e.0 es h.0, texts_ascend es h.1)
 
+-- a text below all keys of a block and further texts is below the first of these
 below_middle : (s : List ℕ) (B : Block) (t : List ℕ) (ts : List (List ℕ)) → AllByRecursion (λ y. bytes_cmp s y ≡ Less) (keys_of B ++ t ∷ ts) → bytes_cmp s t ≡ Less
 below_middle s [] t ts h = h.0
 below_middle s (e ∷ B) t ts h = below_middle s B t ts h.1
 
+-- the first of further texts is above a text that is below all keys of a block and these texts
 above : (s : List ℕ) (B : Block) (t : List ℕ) (ts : List (List ℕ)) → AllByRecursion (λ y. bytes_cmp s y ≡ Less) (keys_of B ++ t ∷ ts) → bytes_cmp t s ≡ Greater
 above s B t ts h = nat_list_cmp_total.antisymm t s ∙ ap ordering_reverse (below_middle s B t ts h)
 
@@ -145,6 +150,7 @@ all_written ms B left none h =
 abbrev pub with_rest : Numbers → Block → List Entry → Option Block
 with_rest numbers B es = option_map (λ C. B ++ C) (nodes_in numbers (members_view es))
 
+-- a block behind an empty one is that block
 with_none : (o : Option Block) → option_map (λ C. [] ++ C) o ≡ o
 with_none None = refl
 with_none (Some C) = refl
@@ -154,6 +160,7 @@ pub none_read : (numbers : Numbers) (B : Block) (left es : List Entry) → B ≡
     → IsStrictlySortedBy bytes_cmp (keys_of B ++ texts left) × (with_rest numbers B left ≡ nodes_in numbers (members_view es))
 none_read numbers B left es none is h = rw (none, is) (texts_ascend es h, with_none (nodes_in numbers (members_view es)))
 
+-- a value of the form, or else a fault, gives back the value that there was
 formed_ok : {A : Type 0} (name : List ℕ) (o : Option A) → result_ok (form_or_fault name o) ≡ o
 formed_ok name None = refl
 formed_ok name (Some x) = refl
@@ -162,10 +169,12 @@ formed_ok name (Some x) = refl
 pub formed_some : {A : Type 0} (name : List ℕ) (o : Option A) (x : A) → form_or_fault name o ≡ Ok x → o ≡ Some x
 formed_some name o x e = sym (formed_ok name o) ∙ ap result_ok e
 
+-- an entry at the end of what was read is the first of what is read behind the others
 next_by : (B : Block) (x : List ℕ × NodeMetadata) (o : Option Block) → option_map (λ C. (B ++ x ∷ []) ++ C) o ≡ option_map (λ C. B ++ C) (o >>= λ C. Some (x ∷ C))
 next_by B x None = refl
 next_by B x (Some C) = ap Some (append_assoc B (x ∷ []) C)
 
+-- a member that reads as a node may be counted to what was read, or be left to be read
 reads_next : (numbers : Numbers) (B : Block) (e : Entry) (es : List Entry) (m : NodeMetadata) → result_ok (node_in numbers (view e.1)) ≡ Some m
     → with_rest numbers (B ++ (string_bytes e.0, m) ∷ []) es ≡ with_rest numbers B (e ∷ es)
 reads_next numbers B e es m is = rw is (next_by B (string_bytes e.0, m) (nodes_in numbers (members_view es)))

@@ -47,6 +47,7 @@ all_left B covered left keys empty is below = record {
     none t = search (rules, empty)
 
 module _ (B : Block) (covered : Keys) (left : List (List ℕ)) (k : List ℕ) (ks : List (List ℕ)) (is : left ≡ k ∷ ks) (h : AreGathered B covered left) where
+  -- the key at hand is the first of those left
   here : AreGathered B covered (k ∷ ks)
   here = subst (AreGathered B covered) is h
 

@@ -156,6 +156,7 @@ copied_key r B keys new k left es e is key push h =
 pub all_left : (r : List ℕ) (B : Block) (keys : List (String Global)) (left : List Entry) → keys ≡ [] → AreKeysBelow r B (texts left) → AreKeysBelow r B (map string_bytes keys ++ texts left)
 all_left r B keys left none h = subst (λ ks. AreKeysBelow r B (map string_bytes ks ++ texts left)) (sym none) h
 
+-- where none is left, the keys that were copied are those that begin with r and a slash
 pub all_copied : (r : List ℕ) (B : Block) (keys : List (String Global)) (left : List Entry) → left ≡ [] → AreKeysBelow r B (map string_bytes keys ++ texts left) → AreKeysBelow r B (map string_bytes keys)
 all_copied r B keys left none h = subst (AreKeysBelow r B) (ap (λ xs. map string_bytes keys ++ texts xs) none ∙ nothing_behind (map string_bytes keys)) h
 
@@ -215,6 +216,7 @@ module _ (r : List ℕ) (one : Block) where
 rooted_from : (r t : List ℕ) → IsAtOrBelow (47 ∷ r) t → (u : List ℕ) × (t ≡ 47 ∷ u) × IsAtOrBelow r u
 rooted_from r t h = ⊎_elim (λ same. (r, same, inl refl)) (λ w. (r ++ 47 ∷ w.0, w.1, inr (w.0, refl))) h
 
+-- a text at or below another is so where both stand behind a slash
 rooted_of : (r t : List ℕ) → (u : List ℕ) × (t ≡ 47 ∷ u) × IsAtOrBelow r u → IsAtOrBelow (47 ∷ r) t
 rooted_of r t (u, is, h) = ⊎_elim (λ same. inl (is ∙ ap (λ x. 47 ∷ x) same)) (λ w. inr (w.0, is ∙ ap (λ x. 47 ∷ x) w.1)) h
 

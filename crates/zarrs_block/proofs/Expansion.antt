@@ -38,16 +38,20 @@ at_itself t = ap is_eq (tied_itself nat_list_cmp_total t)
 pub same_text : (t s : List ℕ) → is_at (bytes_cmp t) s ≡ true → t ≡ s
 same_text t s e = (bytes_eq-Decides t s).0 (sym (is_eq-slice_cmp t s) ∙ e)
 
+-- the first entry of a block is found at its key
 found_here : (e : List ℕ × NodeMetadata) (es : Block) → node_at_key (e ∷ es) e.0 ≡ Some e.1
 found_here e es = ap (λ b. cond b (Some e.1) (node_at_key es e.0)) (at_itself e.0)
 
+-- where something is found, something is found with one entry more
 some_or : (b : Bool) (m : NodeMetadata) (o : Option NodeMetadata) → IsSome o → IsSome (cond b (Some m) o)
 some_or true m o h = refl
 some_or false m o h = h
 
+-- a key of a block is one with another entry before it
 found_later : (e : List ℕ × NodeMetadata) (es : Block) (t : List ℕ) → IsSome (node_at_key es t) → IsSome (node_at_key (e ∷ es) t)
 found_later e es t h = some_or (is_at (bytes_cmp t) e.0) e.1 (node_at_key es t) h
 
+-- entries found at their keys are so with an entry before them whose key is below theirs
 found_behind : (x : List ℕ × NodeMetadata) (es fs : Block) → AllByRecursion (λ y. bytes_cmp x.0 y ≡ Less) (keys_of fs) → AllByRecursion (λ e. node_at_key es e.0 ≡ Some e.1) fs
     → AllByRecursion (λ e. node_at_key (x ∷ es) e.0 ≡ Some e.1) fs
 found_behind x es [] below h = tt
@@ -63,6 +67,7 @@ unfolding IsStrictlySortedBy
 found_all [] h = tt
 found_all (x ∷ es) h = (found_here x es, found_behind x es es h.0 (found_all es h.1))
 
+-- the keys of the block of a map are the texts of the map's keys
 keys_shown : (es : List (String Global × NodeMetadata)) → keys_of (shown es) ≡ texts es
 keys_shown [] = refl
 keys_shown (e ∷ es) = ap (λ ks. string_bytes e.0 ∷ ks) (keys_shown es)
@@ -84,30 +89,36 @@ valid_keys (e ∷ B) all t s =
 
 -- ---- the pairs are the entries
 
+-- the pairs that these entries add below a base, as keys of the block
 abbrev pairs_by : Path → Block → Block → List (Path × NodeMetadata)
 pairs_by b B es = pairs_at (paths_at b B es) es
 
+-- where it is false that there are metadata, there are none
 is_none : (o : Option NodeMetadata) → is_some o ≡ false → o ≡ None
 is_none None e = refl
 is_none (Some m) e = cc
 
+-- of a text and this behind a slash, the key that is not covered has what counts
 entry_found : (B : Block) (k t : List ℕ) (m : NodeMetadata) → ((t ≡ k) ⊎ (t ≡ 47 ∷ k)) → is_covered B t ≡ false → node_at_key B t ≡ Some m
     → first_some (node_at_key B k) (node_at_key B (47 ∷ k)) ≡ Some m
 entry_found B k t m (inl e) bare is = ap (λ o. first_some o (node_at_key B (47 ∷ k))) (ap (node_at_key B) (sym e) ∙ is)
 entry_found B k t m (inr e) bare is =
     ap (λ o. first_some o (node_at_key B (47 ∷ k))) (is_none (node_at_key B k) (ap (is_covered B) (sym e) ∙ bare)) ∙ ap (node_at_key B) (sym e) ∙ is
 
+-- a key of names that is not covered, with what the block has there, makes an entry at the path of these names
 entry_by : (b : Path) (B : Block) (ns p : Path) (t : List ℕ) (m : NodeMetadata) → IsPath ns → ((t ≡ key_text ns) ⊎ (t ≡ 47 ∷ key_text ns)) → is_nil ns ≡ false
     → is_covered B t ≡ false → p ≡ b ++ ns → node_at_key B t ≡ Some m → Entries B b (p, m)
 entry_by b B [] p t m h form some bare path is = cc
 entry_by b B (n ∷ ns) p t m h form some bare path is = (n, ns, h, path, entry_found B (key_text (n ∷ ns)) t m form bare is)
 
+-- a valid key that adds a path, with what the block has there, makes an entry at that path
 entry_of : (b p : Path) (B : Block) (t : List ℕ) (m : NodeMetadata) → path_at b B t ≡ Some p → node_at_key B t ≡ Some m → IsValidKey t → Entries B b (p, m)
 entry_of b p B t m path is v =
     let parts = path_of_key b p B t path in
     let names = names_of_key t v.0 v.1 v.2 in
     entry_by b B v.0 p t m v.1 v.2 (ap is_nil (sym names) ∙ parts.0) parts.1 (parts.2 ∙ ap (λ ns. b ++ ns) names) is
 
+-- where entries are found at their valid keys, their pairs are entries below the base
 sound : (b : Path) (B es : Block) → AllByRecursion (λ e. node_at_key B e.0 ≡ Some e.1) es → AllByRecursion (λ e. IsValidKey e.0) es → All (Entries B b) (pairs_by b B es)
 sound b B [] h v = All-nil (Entries B b)
 sound b B (e ∷ es) h v =
@@ -117,12 +128,14 @@ sound b B (e ∷ es) h v =
       | Some p ↦ λ path. All-cons (Entries B b) (p, e.1) (pairs_by b B es) (entry_of b p B e.0 e.1 path h.0 v.0) rest
     ] refl
 
+-- a pair in a list is in it with another before it
 contains_behind : (o : Option Path) (n m : NodeMetadata) (p : Path) (es : List (Path × NodeMetadata)) → Contains es (p, m) → Contains (with_pair o n es) (p, m)
 contains_behind None n m p es h = h
 contains_behind (Some q) n m p es h =
     let less : h.0 < length es = h.1 in
     (suc h.0, omega (arith, less), h.2)
 
+-- where a key adds a path, the pair of the path and of what entries have at the key is among theirs
 listed : (b p : Path) (B es : Block) (t : List ℕ) (m : NodeMetadata) → path_at b B t ≡ Some p → node_at_key es t ≡ Some m → Contains (pairs_by b B es) (p, m)
 listed b p B [] t m path is = cc
 listed b p B (e ∷ es) t m path is =
@@ -134,10 +147,12 @@ listed b p B (e ∷ es) t m path is =
       | false ↦ λ _ later. contains_behind (path_at b B e.0) e.1 m p (pairs_by b B es) (listed b p B es t m path later)
     ] refl is
 
+-- the first of two is the first, or there is no first, and it is the second
 first_is : (o other : Option NodeMetadata) (m : NodeMetadata) → first_some o other ≡ Some m → (o ≡ Some m) ⊎ ((o ≡ None) × (other ≡ Some m))
 first_is (Some n) other m e = inl e
 first_is None other m e = inr (refl, e)
 
+-- names for which the block has metadata, behind a slash where it has none without, have their pair
 listed_by : (b p : Path) (B : Block) (n : List ℕ) (ns : Path) (m : NodeMetadata) → IsPath (n ∷ ns) → p ≡ b ++ n ∷ ns
     → ((node_at_key B (key_text (n ∷ ns)) ≡ Some m) ⊎ ((node_at_key B (key_text (n ∷ ns)) ≡ None) × (node_at_key B (47 ∷ key_text (n ∷ ns)) ≡ Some m)))
     → Contains (pairs_by b B B) (p, m)
@@ -150,15 +165,18 @@ listed_by b p B n ns m h path (inr is) =
     let names = names_of_key (47 ∷ k) (n ∷ ns) h (inr refl) in
     listed b p B B (47 ∷ k) m (sym (own_path b B (47 ∷ k) p (path ∙ ap (λ xs. b ++ xs) (sym names)) (ap is_nil names) (ap is_some is.0))) is.1
 
+-- each entry below the base is among the pairs of the block
 complete : (b : Path) (B : Block) (e : Path × NodeMetadata) → Entries B b e → Contains (pairs_by b B B) e
 complete b B e h =
     listed_by b e.0 B h.0 h.1 e.1 h.2 h.3 (first_is (node_at_key B (key_text (h.0 ∷ h.1))) (node_at_key B (47 ∷ key_text (h.0 ∷ h.1))) e.1 h.4)
 
 -- ---- each path once
 
+-- a text at which a block has these metadata is a key of it
 some_found : (B : Block) (t : List ℕ) (m : NodeMetadata) → node_at_key B t ≡ Some m → is_some (node_at_key B t) ≡ true
 some_found B t m e = ap is_some e
 
+-- of a text and this behind a slash at most one is a key that is not covered
 one_key : (B : Block) (k t s : List ℕ) → ((t ≡ k) ⊎ (t ≡ 47 ∷ k)) → ((s ≡ k) ⊎ (s ≡ 47 ∷ k)) → is_covered B t ≡ false → is_covered B s ≡ false
     → is_some (node_at_key B t) ≡ true → is_some (node_at_key B s) ≡ true → t ≡ s
 one_key B k t s (inl d) (inl e) bare_t bare_s has_t has_s = d ∙ sym e
@@ -179,11 +197,13 @@ same_key b p q B t s m n at_t at_s same is_t is_s v w =
     let names : v.0 ≡ w.0 = sym (names_of_key t v.0 v.1 v.2) ∙ append_cancel_left b (relative_names t) (relative_names s) (sym parts.2 ∙ same ∙ others.2) ∙ names_of_key s w.0 w.1 w.2 in
     one_key B (key_text w.0) t s (subst (λ ns. (t ≡ key_text ns) ⊎ (t ≡ 47 ∷ key_text ns)) names v.2) w.2 parts.1 others.1 (some_found B t m is_t) (some_found B s n is_s)
 
+-- a text that is before another is not that
 differ : (t s : List ℕ) → bytes_cmp t s ≡ Less → t ≡ s → ⊥
 differ t s less e =
     let both : Less ≡ Rattle.std.specs.declared.cmp.Ordering.TheVariants.Equal = sym less ∙ ap (bytes_cmp t) (sym e) ∙ tied_itself nat_list_cmp_total t in
     cc
 
+-- the path of a valid key is not that of any valid key behind it
 apart : (b p : Path) (B es : Block) (t : List ℕ) (m : NodeMetadata) → path_at b B t ≡ Some p → node_at_key B t ≡ Some m → IsValidKey t
     → AllByRecursion (λ y. bytes_cmp t y ≡ Less) (keys_of es) → AllByRecursion (λ e. node_at_key B e.0 ≡ Some e.1) es → AllByRecursion (λ e. IsValidKey e.0) es
     → All (λ e. p ≢ e.0) (pairs_by b B es)
@@ -196,6 +216,7 @@ apart b p B (e ∷ es) t m path is v below h w =
           All-cons (λ d. p ≢ d.0) (q, e.1) (pairs_by b B es) (λ same. differ t e.0 below.0 (same_key b p q B t e.0 m e.1 path other same is h.0 v w.0)) rest
     ] refl
 
+-- the pairs of valid keys that ascend have each path once
 once : (b : Path) (B es : Block) → IsStrictlySortedBy bytes_cmp (keys_of es) → AllByRecursion (λ e. node_at_key B e.0 ≡ Some e.1) es → AllByRecursion (λ e. IsValidKey e.0) es
     → HaveOwnPaths (pairs_by b B es)
 unfolding IsStrictlySortedBy
@@ -208,6 +229,7 @@ once b B (e ∷ es) up h v =
           AllPairs-cons (λ d f. d.0 ≢ f.0) (p, e.1) (pairs_by b B es) (apart b p B es e.0 e.1 path h.0 v.0 up.0 h.1 v.1) rest
     ] refl
 
+-- entries that a block with valid keys has at their keys have valid keys
 all_valid : (B es : Block) → HasValidKeys B → AllByRecursion (λ e. node_at_key B e.0 ≡ Some e.1) es → AllByRecursion (λ e. IsValidKey e.0) es
 all_valid B [] v h = tt
 all_valid B (e ∷ es) v h = (v e.0 (subst IsSome (sym h.0) refl), all_valid B es v h.1)
@@ -233,6 +255,7 @@ IsExpanding b B all left =
     × ((t : List ℕ) → IsSome (node_at_key left t) → IsSome (node_at_key B t))
 
 module _ (b : Path) (B : Block) (all : List (Path × NodeMetadata)) (left : Block) (e : List ℕ × NodeMetadata) (es : Block) (is : left ≡ e ∷ es) (h : IsExpanding b B all left) where
+  -- the entry at hand is the first of those left
   then_here : IsExpanding b B all (e ∷ es)
   then_here = subst (IsExpanding b B all) is h
 

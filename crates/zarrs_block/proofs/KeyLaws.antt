@@ -38,6 +38,7 @@ pub valid_joined : (b p : Path) (t : List ℕ) → p ≡ b ++ relative_names t �
 valid_joined b p t is h =
     valid_of_names t (and_parts (list_all is_name b) (list_all is_name (relative_names t)) (sym (list_all-append is_name b (relative_names t)) ∙ ap (list_all is_name) (sym is) ∙ h)).1
 
+-- a path has no bad part
 none_bad : (p : Path) → IsPath p → first_bad p ≡ None
 none_bad [] h = refl
 none_bad (n ∷ p) h = rw (name_head n p h) (none_bad p (name_tail n p h))
@@ -54,6 +55,7 @@ not_valid t c bad v =
 pub own_path : (b : Path) (B : Block) (t : List ℕ) (p : Path) → p ≡ b ++ relative_names t → is_nil (relative_names t) ≡ false → is_covered B t ≡ false → Some p ≡ path_at b B t
 own_path b B t p is some bare = ap Some is ∙ rw (some, bare) refl
 
+-- where names add a path, there are some, they are not covered, and the path has them behind the base
 path_by : (b R p : Path) (c : Bool) → (if is_nil R || c then None else Some (b ++ R)) ≡ Some p → (is_nil R ≡ false) × (c ≡ false) × (p ≡ b ++ R)
 path_by b [] p c e = cc
 path_by b (n ∷ R) p true e = cc
@@ -65,6 +67,7 @@ path_of_key b p B t e = path_by b (relative_names t) p (is_covered B t) e
 
 -- ---- covered keys
 
+-- a text is not itself behind a byte
 longer : (t : List ℕ) (c : ℕ) → t ≡ c ∷ t → ⊥
 longer t c e = let l : length t ≡ length (c ∷ t) = ap length e in omega (arith, l)
 

@@ -143,16 +143,19 @@ module _ {V : Type 0} (numbers : Numbers) (more less : Reading V) (too : ReadMor
   unfolding document_at
   attributes_stand = from_too AttributesDocument attributes_document_in (attributes_too numbers) (p ++ zattrs ∷ []) (get s (p ++ zattrs ∷ []))
 
+  -- what `.zgroup` means by the lesser reading, where it is not bad, it means by the other
   zgroup_too : MeansToo (zgroup_line more s p nothing) (zgroup_line less s p nothing)
   unfolding zgroup_line document_at
   zgroup_too = line_2_too (λ m. Group (group_v2 m)) group_with _ _ _ _ nothing nothing
       (from_too GroupMetadataV2 group_v2_in (group_v2_too numbers) (p ++ zgroup ∷ []) (get s (p ++ zgroup ∷ []))) attributes_stand (λ fine. refl)
 
+  -- what `.zarray` means by the lesser reading, where it is not bad, it means by the other
   zarray_too : MeansToo (zarray_line more s p (zgroup_line more s p nothing)) (zarray_line less s p (zgroup_line less s p nothing))
   unfolding zarray_line document_at
   zarray_too = line_2_too (λ m. Array (array_v2 m)) array_with _ _ _ _ (zgroup_line more s p nothing) (zgroup_line less s p nothing)
       (from_too ArrayMetadataV2 array_v2_in (array_v2_too numbers) (p ++ zarray ∷ []) (get s (p ++ zarray ∷ []))) attributes_stand zgroup_too
 
+  -- what `zarr.json` means by the lesser reading, where it is not bad, it means by the other, if what follows does
   zarr_json_stands : (after rest : Meaning) → MeansToo after rest → MeansToo (zarr_json_line more s p after) (zarr_json_line less s p rest)
   unfolding zarr_json_line document_at
   zarr_json_stands after rest k = line_3_too _ _ after rest (from_too ZarrJson zarr_json_in (zarr_json_too numbers) (p ++ zarr_json ∷ []) (get s (p ++ zarr_json ∷ []))) k
@@ -194,6 +197,7 @@ module _ (of less : Path → Meaning) (same : (p : Path) → MeansToo (of p) (le
         λ i. with_node p (alike i) (rest.1 i),
       )
 
+  -- a block that reads by the lesser meanings reads the same by the others
   good_too : (es : List (Segments × Data)) → ReadsToo (block_where_good of es) (block_where_good less es)
   good_too es B h = by (list_all (λ e. is_good less e.0) es) refl h
     where

@@ -119,6 +119,7 @@ names_less (c ∷ t) (d ∷ s) v w some less =
 abbrev pub ArePlain : Block → Type 0
 ArePlain B = AllByRecursion (λ e. IsPlainKey e.0) B
 
+-- the pairs that these entries add below a base, as keys of the block
 abbrev pairs_by : Path → Block → Block → List (Path × NodeMetadata)
 pairs_by b B es = pairs_at (paths_at b B es) es
 
@@ -138,6 +139,7 @@ before_later b p B (e ∷ es) t path v below w =
           (subst (λ x. path_cmp x q ≡ Less) (sym mine.2) (subst (λ x. path_cmp (b ++ relative_names t) x ≡ Less) (sym its.2) less)) rest
     ] refl
 
+-- the pairs of entries whose keys are plain and ascend do so too
 plain_up : (b : Path) (B es : Block) → IsStrictlySortedBy bytes_cmp (keys_of es) → ArePlain es → Ascend (pairs_by b B es)
 unfolding IsStrictlySortedBy
 plain_up b B [] up w = λ i j d less inside. absurd (omega (arith, inside))

@@ -20,6 +20,7 @@ head = codes "{\n  \"kind\": \"inline\",\n  \"metadata\": {"
 abbrev pub tail : List ℕ
 tail = codes "},\n  \"must_understand\": false\n}"
 
+-- a comma, a line, a key and its value, and then the others, stand together before the close
 regroup : (c l q t r close : List ℕ) → c ++ (l ++ (q ++ 58 ∷ 32 ∷ (t ++ (r ++ close)))) ≡ ((c ++ (l ++ (q ++ 58 ∷ 32 ∷ t))) ++ r) ++ close
 regroup c l q t r close = simp append_assoc
 
@@ -37,6 +38,7 @@ entries_are (e ∷ B) =
     ap (λ t. comma_if false ++ (line 2 ++ (quoted e.0 ++ 58 ∷ 32 ∷ (text_at 2 (node_tree e.1) ++ t)))) (later_entries (documents B))
     ∙ regroup (comma_if false) (line 2) (quoted e.0) (text_at 2 (node_tree e.1)) (entries_text true (documents B)) (close_line true 1 ++ 125 ∷ [])
 
+-- the brace that closes the nodes and what follows it are the tail
 regroup_close : (a c : List ℕ) → (a ++ (c ++ 125 ∷ [])) ++ codes ",\n  \"must_understand\": false\n}" ≡ a ++ (c ++ tail)
 regroup_close a c = append_assoc a (c ++ 125 ∷ []) _ ∙ ap (λ t. a ++ t) (append_assoc c (125 ∷ []) _)
 
@@ -51,6 +53,7 @@ block_is B =
 pub documents_whole : (B : Block) → has_float (block_tree B) ≡ false → members_have_float (documents B) ≡ false
 documents_whole B h = (or_parts (members_have_float (documents B)) _ h).0
 
+-- four texts that were written one behind the other are the first before the others
 regroup_written : (h e c t : List ℕ) → ((h ++ e) ++ c) ++ t ≡ h ++ (e ++ (c ++ t))
 regroup_written h e c t = simp append_assoc
 

@@ -129,6 +129,7 @@ abbrev pub Rises : List Run → Type 0
 Rises [] = Unit {0}
 Rises (run ∷ runs) = AllByRecursion (λ y. is_before y run ≡ false) runs × Rises runs
 
+-- runs of which none stands before one that comes earlier rise
 rises_of : (runs : List Run) → AllPairs (λ d e. is_before e d ≡ false) runs → Rises runs
 rises_of [] all = tt
 rises_of (x ∷ xs) all = (
@@ -148,6 +149,7 @@ not_before_empty y run empty = ap (λ t. is_lt (bytes_cmp (string_bytes y.path) 
     by [] = refl
     by (b ∷ s) = refl
 
+-- of several runs none stands before one of the empty path
 none_before_empty : (runs : List Run) (run : Run) → string_bytes run.path ≡ [] → AllByRecursion (λ y. is_before y run ≡ false) runs
 none_before_empty [] run empty = tt
 none_before_empty (y ∷ runs) run empty = (not_before_empty y run empty, none_before_empty runs run empty)
@@ -157,6 +159,7 @@ paths_last : (runs : List Run) (run : Run) → paths (runs ++ run ∷ []) ≡ pa
 paths_last [] run = refl
 paths_last (r ∷ runs) run = ap (λ ts. string_bytes r.path ∷ ts) (paths_last runs run)
 
+-- a text below all of several is below one more that is above their last
 above_all : (s : List ℕ) (ks : List (List ℕ)) (k l : List ℕ) → AllByRecursion (λ y. bytes_cmp s y ≡ Less) (ks ++ k ∷ []) → bytes_cmp k l ≡ Less → AllByRecursion (λ y. bytes_cmp s y ≡ Less) ((ks ++ k ∷ []) ++ l ∷ [])
 above_all s [] k l all less = (all.0, (nat_list_cmp_total.trans s k l all.0 less, tt))
 above_all s (x ∷ ks) k l all less = (all.0, above_all s ks k l all.1 less)
@@ -198,6 +201,7 @@ none_joined runs all run left empty at none is up = record {
 }
 
 module _ (runs all new : List Run) (run next now : Run) (left rest : List Run) (is : left ≡ next ∷ rest) (h : IsJoining runs all run left) where
+  -- the next run is the first of those left
   before : IsJoining runs all run (next ∷ rest)
   before = subst (IsJoining runs all run) is h
 
@@ -246,12 +250,15 @@ module _ (runs all new : List Run) (run next now : Run) (left rest : List Run) (
 
 -- where none is left, all are joined
 module _ (runs all new : List Run) (run : Run) (left : List Run) (is : left ≡ []) (last : new ≡ all ++ run ∷ []) (h : IsJoining runs all run left) where
+  -- the runs are joined, and none is left
   done : IsJoining runs all run []
   done = subst (IsJoining runs all run) is h
 
+  -- the joined runs have what all runs have
   pub all_joined : (t : List ℕ) (file : File) → tree_among new t file ≡ tree_among runs t file
   all_joined t file = ap (λ rs. tree_among rs t file) last ∙ among_last all run t file ∙ sym (done.here t file)
 
+  -- the joined runs ascend
   pub joined_ascend : RunsAscend new
   joined_ascend = subst RunsAscend (sym last) (subst (IsStrictlySortedBy bytes_cmp) (sym (paths_last all run)) done.up)
 

@@ -211,12 +211,15 @@ meant_good (Some m) = refl
 
 module _ (numbers : Numbers) (g : GroupMetadataV2) (B : Block) (plain_group : IsTrue (is_plain_group_v2_in numbers g)) (up : IsAscending B) (valid : HasValidKeys B)
     (new : HasVersion2 B) (plain : HasPlainEntriesIn numbers B) where
+  -- the documents that are written
   abbrev ms : Members
   ms = documents_written g B
 
+  -- what a path means in their small store
   abbrev of : Path → Meaning
   of p = small_meaning_in numbers (small [] ms) p
 
+  -- the block of these meanings
   abbrev C : Block
   C = block_from of (documents_below ms)
 
@@ -225,6 +228,7 @@ module _ (numbers : Numbers) (g : GroupMetadataV2) (B : Block) (plain_group : Is
   entry_fits n ns h None is = tt
   entry_fits n ns h (Some m) is = (new (n ∷ ns, m) (n, ns, h, refl, is), plain (n ∷ ns, m) (n, ns, h, refl, is))
 
+  -- the node at each path, also the group itself, is plain and of version 2
   fits_at : (ns : Path) → IsPath ns → Fits numbers (node_at g B ns)
   fits_at [] h = (refl, plain_group)
   fits_at (n ∷ ns) h = entry_fits n ns h (entry B (n ∷ ns)) refl
@@ -283,6 +287,7 @@ module _ (numbers : Numbers) (g : GroupMetadataV2) (B : Block) (plain_group : Is
       ∙ ap (λ o. cond (list_any (λ e. path_eq (n ∷ ns) (before_last e.0)) (documents_below ms)) o None) (ap node_of (meaning_is (n ∷ ns) h) ∙ node_meant (entry B (n ∷ ns)))
       ∙ found_by n ns h (entry B (n ∷ ns)) refl (fits_at (n ∷ ns) h)
 
+  -- both blocks have the same entries
   same_entries : HaveSameEntries B C
   same_entries b e = (λ w. (w.0, w.1, w.2, w.3, sym (entry_again w.0 w.1 w.2) ∙ w.4), λ w. (w.0, w.1, w.2, w.3, entry_again w.0 w.1 w.2 ∙ w.4))
 

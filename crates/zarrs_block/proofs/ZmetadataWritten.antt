@@ -35,6 +35,7 @@ refuses_by_nodes B up valid (StorageError x) refused = absurd refused
 refuses_by_nodes B up valid (MissingMetadata x) refused = absurd refused
 
 module _ (B C : Block) (b : Path) (es : List (Path × NodeMetadata)) (copied : C ≡ B) (root : b ≡ []) (listed : es ≡ pairs_at (paths_at b C C) C) (up : IsAscending C) (valid : HasValidKeys C) where
+  -- the pairs are those of the block below the root
   pairs_are : es ≡ pairs_at (paths_at [] C C) C
   pairs_are = listed ∙ ap (λ a. pairs_at (paths_at a C C) C) root
 
@@ -42,5 +43,6 @@ module _ (B C : Block) (b : Path) (es : List (Path × NodeMetadata)) (copied : C
   pub copy_version_2 : All IsOfVersion2 es → HasVersion2 B
   copy_version_2 all = subst HasVersion2 copied (version_2_of_pairs C up valid (subst (All IsOfVersion2) pairs_are all))
 
+  -- what refuses writing the pairs of a copy refuses writing the block
   pub copy_refused : (err : NodeCreateError) → RefusesWritingNodes es err → RefusesZmetadata B err
   copy_refused err refused = subst (λ D. RefusesZmetadata D err) copied (refuses_by_nodes C up valid err (subst (λ fs. RefusesWritingNodes fs err) pairs_are refused))

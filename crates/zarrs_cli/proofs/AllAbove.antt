@@ -27,6 +27,7 @@ above_parent b g (Some q) (n, is) low =
 pub first_above : (b : Path) (paths : List Path) (next : Option Path) → IsParent b next → AreAboveBut b paths next
 first_above b paths next parent g low = inr (above_parent b g next parent low)
 
+-- where the next path is put behind the paths, its parent is the next
 pub more_above : (b q : Path) (paths : List Path) (next : Option Path) → IsParent q next → AreAboveBut b paths (Some q) → AreAboveBut b (paths ++ q ∷ []) next
 more_above b q paths next parent h g low = ⊎_elim
     (λ in'. inl (Contains-append_left paths (q ∷ []) g in'))
@@ -36,5 +37,6 @@ more_above b q paths next parent h g low = ⊎_elim
     (up_cases g q up))
     (h g low)
 
+-- where there is no next path, each path above b is one of the paths
 pub no_more_above : (b : Path) (paths : List Path) → AreAboveBut b paths None → (g : Path) → IsBelow g b → Contains paths g
 no_more_above b paths h g low = ⊎_elim (λ in'. in') (λ none. absurd none) (h g low)

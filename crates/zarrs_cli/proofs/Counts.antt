@@ -16,6 +16,7 @@ use Rattle.zarrs_survey.specs.Orphans.{AreHidden, IsCountBelow}
 hidden_first : (s : Contents) (d : Path × NodeCreateError) (ds : List (Path × NodeCreateError)) (n : ℕ) (ns : List ℕ) → AreHidden s (d ∷ ds) (n ∷ ns) → IsCountBelow s d.0 n
 hidden_first s d ds n ns h = h.each 0 d n (omega arith)
 
+-- the numbers behind the first are those of the bad documents behind the first
 hidden_rest : (s : Contents) (d : Path × NodeCreateError) (ds : List (Path × NodeCreateError)) (n : ℕ) (ns : List ℕ) → AreHidden s (d ∷ ds) (n ∷ ns) → AreHidden s ds ns
 hidden_rest s d ds n ns h = let size : length (n ∷ ns) ≡ length (d ∷ ds) = h.size in record { size = omega (arith, size); each = λ i e m l. h.each (suc i) e m (omega (arith, l)) }
 

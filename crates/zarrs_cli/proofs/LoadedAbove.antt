@@ -59,6 +59,7 @@ module _ (S L : Contents) (b : Path) (loaded : IsLoadedFrom S L b) (above : Hold
   none_over : MeansNoArray L Default b → MeansNoArray S Default b
   none_over none a is = none a (base_same ∙ is)
 
+  -- where the whole has no array at b, the loaded store has none
   none_back : MeansNoArray S Default b → MeansNoArray L Default b
   none_back none a is = none a (sym base_same ∙ is)
 
@@ -71,6 +72,7 @@ module _ (S L : Contents) (b : Path) (loaded : IsLoadedFrom S L b) (above : Hold
       ((nodes_same S L b (pruned_shows_same S L b below) below.keys below.documents e).0 has, inr (none_over none)))
       place
 
+  -- a node of the whole from b on is one of the loaded store
   node_back : (e : Pair) → HasNodeFrom S Default b e → HasNodeFrom L Default b e
   node_back e (has, place) = ⊎_elim
       (λ at. (⊎_elim (λ w. inl (w.0, base_same ∙ w.1)) (λ n. let w = n.0.below in absurd (not_below_itself b (w.0, w.1, sym at ∙ w.2))) has, inl at))
@@ -87,6 +89,7 @@ module _ (S L : Contents) (b : Path) (loaded : IsLoadedFrom S L b) (above : Hold
       let below = loaded.below (no_array S b (none_over none)) in
       inr (none_over none, (bad_paths_same S L b (pruned_shows_same S L b below) below.keys below.documents q).0 has))
 
+  -- what is bad in the whole from b on is bad in the loaded store
   bad_back : (q : Path) → HasBadFrom S Default b q → HasBadFrom L Default b q
   bad_back q = ⊎_elim
       (λ w. inl (w.0, (w.1.0, base_same ∙ w.1.1)))

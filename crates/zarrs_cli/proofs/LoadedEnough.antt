@@ -109,6 +109,7 @@ no_length : {A : Type 0} (xs : List A) → nat_lt 0 (length xs) ≡ false → xs
 no_length [] h = refl
 no_length (x ∷ xs) h = let t : nat_lt 0 (length (x ∷ xs)) ≡ true = lt-ltb 0 (length (x ∷ xs)) (omega arith) in absurd (true≢false (sym t ∙ h))
 
+-- a list of which it is false that it is not empty is empty
 no_nil : {A : Type 0} (xs : List A) → not (is_nil xs) ≡ false → xs ≡ []
 no_nil [] h = refl
 no_nil (x ∷ xs) h = absurd (true≢false h)
@@ -123,6 +124,7 @@ none_passed (Tree c) h =
       ap (mapped (λ f. f.path)) (no_length (filter (λ f. is_stale f.kind) c.findings.items) v.1),
     )
 
+-- where a check asks for nothing more, no path is passed and none is stale
 none_more : (c : PathCheck) → has_more c ≡ false → (passed_from c.from ≡ []) × (stale_of c ≡ [])
 none_more c h =
     let w = neither (nat_lt 0 (stale_among c.above.items)) (has_more_from c.from) h in

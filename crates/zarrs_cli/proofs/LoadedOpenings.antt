@@ -37,6 +37,7 @@ module _ (S L : Contents) (policy : UseConsolidatedMetadata) (b : Path) (same : 
       → WithBase b m (PairsOf L Default policy b m) e ↔ WithBase b m (PairsOf S Default policy b m) e
   with_base_same m is e = (⊎_elim inl (λ h. inr ((pairs_same m is e).0 h)), ⊎_elim inl (λ h. inr ((pairs_same m is e).1 h)))
 
+  -- pairs that hold what is shown over the one store hold what is shown over the other
   holds_over : (h : Pairs) (m : NodeMetadata) → meaning S Default b ≡ node m → Holds h (WithBase b m (PairsOf L Default policy b m)) → Holds h (WithBase b m (PairsOf S Default policy b m))
   holds_over h m is held = record {
     held = lists_over (WithBase b m (PairsOf L Default policy b m)) (WithBase b m (PairsOf S Default policy b m)) h (with_base_same m is) held.held;

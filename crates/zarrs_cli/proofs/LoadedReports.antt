@@ -196,6 +196,7 @@ module _ (S L : Contents) (b : Path) (same : ShowSame S L b) (keys : HasNoOtherK
     λ h. ((same.reached d.0).1 h.0, same.meanings d.0 (inr h.0) ∙ h.1),
   )
 
+  -- the paths of bad documents are the same
   pub bad_paths_same : (q : Path) → HasBadPath L Default b q ↔ HasBadPath S Default b q
   bad_paths_same q = (λ h. (h.0, (bad_documents_same (q, h.0)).0 h.1), λ h. (h.0, (bad_documents_same (q, h.0)).1 h.1))
 
@@ -292,6 +293,7 @@ module _ (S L : Contents) (b : Path) (same : ShowSame S L b) (keys : HasNoOtherK
       rest))
       h
 
+  -- a path's own remark that is to be told of S is to be told of L
   own_back : HoldsPassed S L b → (r : Remark) → IsOwnRemark S b r → IsOwnRemark L b r
   own_back held r h = ⊎_elim
       (λ (e, refused, is). inl (e, (base_refusals e).1 refused, is))

@@ -148,6 +148,7 @@ made p m g k t = record { path = p; kind = m; group = g; key = k; text = t }
 abbrev groups_cmp : Remark → Remark → Ordering
 groups_cmp q r = ordering_then (path_cmp q.path r.path) (option_cmp path_cmp q.group r.group)
 
+-- the order of paths and groups, and then of keys
 abbrev keys_cmp : Remark → Remark → Ordering
 keys_cmp q r = ordering_then (groups_cmp q r) (option_cmp bytes_cmp q.key r.key)
 

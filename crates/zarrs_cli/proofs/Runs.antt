@@ -100,6 +100,7 @@ module _ (word : Word) (b : Path) (L : Values) (r : Result (Option Tally × Stri
   pub made_of_some : IfOk r (λ made. IsWordText word (in_any L) b made.0 (string_bytes made.1)) → IfOk r (IsWrittenOfSome word b)
   made_of_some = ok_weaker r (λ made writes. (L, writes))
 
+  -- a fault over what was loaded is one over some store
   pub fault_of_some : IfErr r (IsAnswerFault false word (in_any L) b) → IfErr r (IsFaultOfSome word b)
   fault_of_some = err_weaker r (λ fault refused. inr (L, refused))
 
@@ -115,6 +116,7 @@ module _ (word : Word) (b : Path) (L : Values) (r : Result (Option Tally × Stri
 pub folder_of_some : (word : Word) (b : Path) (fault : ZarrsFault) → RefusesFolder fault → IsFaultOfSome word b fault
 folder_of_some word b fault refused = inl refused
 
+-- a folder that was not read refuses the words over each store
 pub folder_of_each : (word : Word) (b : Path) (P : Values → Type 0) (fault : ZarrsFault) → RefusesFolder fault → IsFaultOfEach word b P fault
 folder_of_each word b P fault refused = inl refused
 
@@ -123,6 +125,7 @@ module _ (word : Word) (path : List ℕ) (b : Path) (valid : IsPath b) (same : p
   pub refused_of_some : (fault : ZarrsFault) → IsFaultOfSome word b fault → RefusesOverSome word path fault
   refused_of_some fault = ⊎_elim inl (λ why. inr (why.0, word_refused false word path (in_any why.0) b fault valid same why.1))
 
+  -- what refuses the words over each store refuses the run over each store
   pub refused_of_each : (P : Values → Type 0) (fault : ZarrsFault) → IsFaultOfEach word b P fault → RefusesOverEach word path P fault
   refused_of_each P fault = ⊎_elim inl (λ why. inr (λ V p. word_refused false word path (in_any V) b fault valid same (why V p)))
 
@@ -138,6 +141,7 @@ module _ (word : Word) (path : List ℕ) (b : Path) (valid : IsPath b) (same : p
   pub unwritten_of_some : (made : Option Tally × String Global) (fault : ZarrsFault) → IsWrittenOfSome word b made → fault ≡ Write → RefusesOverSome word path fault
   unwritten_of_some made fault writes failed = inr (writes.0, unwritten false word path (in_any writes.0) made.0 (string_bytes made.1) fault (b, valid, same, writes.1) failed)
 
+  -- where the writer fails over each store there is an answer over each
   pub unwritten_of_each : (P : Values → Type 0) (made : Option Tally × String Global) (fault : ZarrsFault) → IsWrittenOfEach word b P made → fault ≡ Write → RefusesOverEach word path P fault
   unwritten_of_each P made fault writes failed = inr (λ V p. unwritten false word path (in_any V) made.0 (string_bytes made.1) fault (b, valid, same, writes V p) failed)
 
@@ -145,6 +149,7 @@ module _ (word : Word) (path : List ℕ) (b : Path) (valid : IsPath b) (same : p
 pub base_of_some : (word : Word) (path : List ℕ) (e : NodeCreateError) → RefusesPathText path e → RefusesOverSome word path (Node e)
 base_of_some word path e refused = inr (values_of [], base_refused false word path (in_any (values_of [])) e refused)
 
+-- a text that is no path refuses the run over each store
 pub base_of_each : (word : Word) (path : List ℕ) (P : Values → Type 0) (e : NodeCreateError) → RefusesPathText path e → RefusesOverEach word path P (Node e)
 base_of_each word path P e refused = inr (λ V p. base_refused false word path (in_any V) e refused)
 
@@ -156,6 +161,7 @@ module _ (word : Word) (source path : List ℕ) where
       → IfOk r (WritesOverImage word path left old new) → IfOk r (WritesOverSource word source path left old new)
   image_answered left old new r is = ok_weaker r (λ tally writes. inl ((bytes_eq-Decides source (codes "-")).0 is, writes))
 
+  -- what refuses the run over an image refuses that over the source `-`
   pub image_refused : (before after : Option (List ℕ)) (r : Result (Option Tally) ZarrsFault) → bytes_eq source (codes "-") ≡ true
       → IfErr r (RefusesOverImage word path before after) → IfErr r (RefusesOverSource word source path before after)
   image_refused before after r is = err_weaker r (λ fault refused. inl ((bytes_eq-Decides source (codes "-")).0 is, refused))
@@ -169,6 +175,7 @@ module _ (word : Word) (source path : List ℕ) where
       → IfOk r (WritesOverSome word path old new) → IfOk r (WritesOverSource word source path left old new)
   folder_answered left old new r differs = ok_weaker r (λ tally writes. inr (other differs, writes))
 
+  -- what refuses the run over a folder's store refuses that over any other source
   pub folder_refused : (before after : Option (List ℕ)) (r : Result (Option Tally) ZarrsFault) → bytes_eq source (codes "-") ≡ false
       → IfErr r (RefusesOverSome word path) → IfErr r (RefusesOverSource word source path before after)
   folder_refused before after r differs = err_weaker r (λ fault refused. inr (other differs, refused))
@@ -203,6 +210,7 @@ no_usage : (word : Word) (source path : List ℕ) (before after : Option (List �
 no_usage word source path before after =
     ⊎_elim (λ image. ⊎_elim (λ none. none) (λ why. why.1.2) image.1) (λ folder. ⊎_elim (λ none. none) (λ why. why.1) folder.1)
 
+-- a fault that refuses the source that the words name refuses the words
 command_fault : (words : List (List ℕ)) (command : Command) (before after : Option (List ℕ)) → AskFor words (Store command)
     → (fault : ZarrsFault) → RefusesOverSource command.word command.source.now command.path.now before after fault → RefusesAsked words before after fault
 command_fault words command before after are Usage refused = absurd (no_usage command.word command.source.now command.path.now before after refused)
@@ -224,6 +232,7 @@ not_two : (b : Bool) (n : ℕ) → n ≡ cond b 0 1 → n ≡ 2 → ⊥
 not_two true n e two = omega (arith, e, two)
 not_two false n e two = omega (arith, e, two)
 
+-- the status of a run that ends well is not 2
 tally_not_two : (tally : Option Tally) (n : ℕ) → n ≡ tally_status tally → n ≡ 2 → ⊥
 tally_not_two None n e two = omega (arith, e, two)
 tally_not_two (Some tally) n e two = not_two (tally.findings == 0) n e two

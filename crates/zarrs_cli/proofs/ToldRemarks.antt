@@ -277,6 +277,7 @@ error_not_alike (StorageError e) h = h
 error_not_alike MetadataVersionMismatch h = h
 error_not_alike OutOfMemory h = h
 
+-- the kind of what the documents of a node tell is not that of names that differ in case alone
 told_not_alike : (f : NodeFinding) → IsAlikeKind (told_kind f) → ⊥
 told_not_alike (told.GridRank lengths shape) h = h
 told_not_alike told.ZeroLength h = h
@@ -365,12 +366,15 @@ module _ (told : Remark → Type 0) (all : List Remark) (sound : (r : Remark) �
   abbrev asked : List Remark
   asked = asked_of options all
 
+  -- none of these stands twice
   asked_once : AllPairs (λ q r. q ≢ r) asked
   asked_once = AllPairs-filter (λ q r. q ≢ r) (is_asked options.notes) all once
 
+  -- each of these is to be told and asked for
   asked_sound : (r : Remark) → Contains asked r → IsAskedFor options told r
   asked_sound r in' = (sound r (contains_filtered (is_asked options.notes) all r in'), filter_holds (is_asked options.notes) all r in')
 
+  -- each that is to be told and asked for is one of these
   asked_complete : (r : Remark) → IsAskedFor options told r → Contains asked r
   asked_complete r is = filter_keeps (is_asked options.notes) all r is.1 (complete r is.0)
 
@@ -397,55 +401,68 @@ module _ (s : Contents) (b : Path) (c : Check) (h : IsCheckOf s Default b c) (k 
   abbrev bases : List Remark
   bases = base_remarks c.path c.base
 
+  -- the remarks on bad documents
   abbrev documents : List Remark
   documents = document_remarks c.bad_documents c.hidden.items
 
+  -- the remarks on bad names
   abbrev names : List Remark
   names = map name_remark c.bad_names.items
 
+  -- the remarks on what is lost below paths without documents
   abbrev orphans : List Remark
   orphans = map orphan_remark c.orphans.items
 
+  -- the remarks on what the documents of nodes tell
   abbrev tolds : List Remark
   tolds = map told_remark c.told.items
 
+  -- the remarks on what there is to tell of blocks
   abbrev blocks : List Remark
   blocks = map remark_of c.findings.items
 
+  -- the remarks on names that differ in case alone
   abbrev alikes : List Remark
   alikes = map alike_remark c.alike.items
 
+  -- all these remarks
   abbrev all : List Remark
   all = (own_remarks c ++ alikes) ++ blocks
 
   -- ---- each is to be told
 
+  -- a remark on the base is to be told
   base_sound : (r : Remark) → Contains bases r → IsOwnRemark s b r
   base_sound r in' =
       let w = base_remark_of c.path c.base r in' in
       inl (w.0, base_refuses s b c.base w.0 h.base w.1, w.2 ∙ ap (λ p. error_remark p w.0) h.path)
 
+  -- a remark on a bad document is to be told
   document_sound : (r : Remark) → Contains documents r → IsOwnRemark s b r
   document_sound r in' =
       let w = contains_mapped paired (zip c.bad_documents c.hidden.items) r in' in
       let v = pair_sound s c.bad_documents c.hidden.items h.hidden w.0 w.1 in
       inr (inl (w.0.0, w.0.1, (listed_each h.bad_documents w.0.0).0 v.0, v.1, sym w.2))
 
+  -- a remark on a bad name is to be told
   name_sound : (r : Remark) → Contains names r → IsOwnRemark s b r
   name_sound r in' =
       let w = contains_mapped name_remark c.bad_names.items r in' in
       inr (inr (inl (w.0, (listed_each h.bad_names w.0).0 w.1, sym w.2)))
 
+  -- a remark on what the documents of a node tell is to be told
   told_sound : (r : Remark) → Contains tolds r → IsOwnRemark s b r
   told_sound r in' =
       let w = contains_mapped told_remark c.told.items r in' in
       inr (inr (inr (inr (w.0, (listed_each h.told w.0).0 w.1, sym w.2))))
 
+  -- a remark on what is lost below a path without a document is to be told
   orphan_sound : (r : Remark) → Contains orphans r → IsOwnRemark s b r
   orphan_sound r in' =
       let w = contains_mapped orphan_remark c.orphans.items r in' in
       inr (inr (inr (inl (w.0, (listed_each h.orphans w.0).0 w.1, sym w.2))))
 
+  -- a path's own remark is to be told
   own_sound : (r : Remark) → Contains (own_remarks c) r → IsOwnRemark s b r
   own_sound r in' = ⊎_elim
       (base_sound r)
@@ -458,12 +475,15 @@ module _ (s : Contents) (b : Path) (c : Check) (h : IsCheckOf s Default b c) (k 
       (Contains-append_cases documents (names ++ (orphans ++ tolds)) r later))
       (Contains-append_cases bases (documents ++ (names ++ (orphans ++ tolds))) r in')
 
+  -- a remark on a block is to be told
   block_sound : (r : Remark) → Contains blocks r → IsRemarkFrom s b r
   block_sound r in' = let w = contains_mapped remark_of c.findings.items r in' in inr (inr (w.0, (k.exact w.0).0 w.1, sym w.2))
 
+  -- a remark on names that differ in case alone is to be told
   alike_sound : (r : Remark) → Contains alikes r → IsAlikeRemark s b r
   alike_sound r in' = let w = contains_mapped alike_remark c.alike.items r in' in (w.0, (h.alike.exact w.0).0 w.1, sym w.2)
 
+  -- each of all remarks is to be told
   sound : (r : Remark) → Contains all r → IsRemarkFrom s b r
   sound r in' = ⊎_elim
       (λ first. ⊎_elim (λ own. inl (own_sound r own)) (λ near. inr (inl (alike_sound r near))) (Contains-append_cases (own_remarks c) alikes r first))
@@ -472,10 +492,12 @@ module _ (s : Contents) (b : Path) (c : Check) (h : IsCheckOf s Default b c) (k 
 
   -- ---- what is to be told is
 
+  -- what refuses the base has its remark
   base_complete : (e : NodeCreateError) → RefusesNode s Default b e → Contains (own_remarks c) (error_remark b e)
   base_complete e refused = Contains-append_left bases (documents ++ (names ++ (orphans ++ tolds))) (error_remark b e)
       (subst (λ p. Contains (base_remarks p c.base) (error_remark b e)) (sym h.path) (base_told s b c.base e h.base refused))
 
+  -- a bad document and its number have their remark
   document_complete : (d : Path × NodeCreateError) (n : ℕ) → BadDocuments s Default b d → IsCountBelow s d.0 n → Contains (own_remarks c) (document_remark d n)
   document_complete d n is count =
       let w = pair_complete s c.bad_documents c.hidden.items h.hidden d ((listed_each h.bad_documents d).1 is) in
@@ -484,24 +506,30 @@ module _ (s : Contents) (b : Path) (c : Check) (h : IsCheckOf s Default b c) (k 
       (Contains-append_right bases (documents ++ (names ++ (orphans ++ tolds))) (document_remark d w.0)
       (Contains-append_left documents (names ++ (orphans ++ tolds)) (document_remark d w.0) (contains_map paired (zip c.bad_documents c.hidden.items) (d, w.0) w.1)))
 
+  -- a remark behind those on bad documents is a path's own
   later_complete : (r : Remark) → Contains (names ++ (orphans ++ tolds)) r → Contains (own_remarks c) r
   later_complete r in' = Contains-append_right bases (documents ++ (names ++ (orphans ++ tolds))) r (Contains-append_right documents (names ++ (orphans ++ tolds)) r in')
 
+  -- a bad name has its remark
   name_complete : (p : Path) → BadNames s Default b p → Contains (own_remarks c) (name_remark p)
   name_complete p is = later_complete (name_remark p)
       (Contains-append_left names (orphans ++ tolds) (name_remark p) (contains_map name_remark c.bad_names.items p ((listed_each h.bad_names p).1 is)))
 
+  -- a remark behind those on bad names is a path's own
   last_complete : (r : Remark) → Contains (orphans ++ tolds) r → Contains (own_remarks c) r
   last_complete r in' = later_complete r (Contains-append_right names (orphans ++ tolds) r in')
 
+  -- a path without a document, below which something is lost, has its remark
   orphan_complete : (o : Path × ℕ) → IsOrphan s Default b o → Contains (own_remarks c) (orphan_remark o)
   orphan_complete o is = last_complete (orphan_remark o)
       (Contains-append_left orphans tolds (orphan_remark o) (contains_map orphan_remark c.orphans.items o ((listed_each h.orphans o).1 is)))
 
+  -- what the documents of a node tell has its remark
   told_complete : (t : Path × NodeFinding) → IsNodeTold s Default b t → Contains (own_remarks c) (told_remark t)
   told_complete t is = last_complete (told_remark t)
       (Contains-append_right orphans tolds (told_remark t) (contains_map told_remark c.told.items t ((listed_each h.told t).1 is)))
 
+  -- each of the paths' own remarks that is to be told is there
   own_complete : (r : Remark) → IsOwnRemark s b r → Contains (own_remarks c) r
   own_complete r = ⊎_elim
       (λ w. subst (Contains (own_remarks c)) (sym w.2) (base_complete w.0 w.1))
@@ -513,6 +541,7 @@ module _ (s : Contents) (b : Path) (c : Check) (h : IsCheckOf s Default b c) (k 
       (λ w. subst (Contains (own_remarks c)) (sym w.2) (orphan_complete w.0 w.1))
       (λ w. subst (Contains (own_remarks c)) (sym w.2) (told_complete w.0 w.1)))))
 
+  -- each remark that is to be told is there
   complete : (r : Remark) → IsRemarkFrom s b r → Contains all r
   complete r = ⊎_elim
       (λ own. Contains-append_left (own_remarks c ++ alikes) blocks r (Contains-append_left (own_remarks c) alikes r (own_complete r own)))
@@ -523,6 +552,7 @@ module _ (s : Contents) (b : Path) (c : Check) (h : IsCheckOf s Default b c) (k 
 
   -- ---- none is told twice
 
+  -- no remark on a bad document is told twice
   documents_once : AllPairs (λ q r. q ≢ r) documents
   documents_once = once_mapped (λ x y. x.0 ≢ y.0) paired (zip c.bad_documents c.hidden.items)
       (λ x y p q apart same.
@@ -533,14 +563,17 @@ module _ (s : Contents) (b : Path) (c : Check) (h : IsCheckOf s Default b c) (k 
       apart (ap (λ p. (p, x.0.1)) paths ∙ ap (λ e. (y.0.0, e)) errors))
       (pairs_apart c.bad_documents c.hidden.items h.bad_documents.each_once)
 
+  -- no remark on a bad name is told twice
   names_once : AllPairs (λ q r. q ≢ r) names
   names_once = once_mapped (λ p q. p ≢ q) name_remark c.bad_names.items (λ p q x y apart same. apart (ap (λ r. r.path) same)) h.bad_names.each_once
 
+  -- no remark on what is lost is told twice
   orphans_once : AllPairs (λ q r. q ≢ r) orphans
   orphans_once = once_mapped (λ o q. path_cmp o.0 q.0 ≡ Less) orphan_remark c.orphans.items
       (λ o q x y less same. names_irrefl q.0 (subst (λ p. path_cmp p q.0 ≡ Less) (ap (λ r. r.path) same) less))
       h.orphans_ascend
 
+  -- no remark on what the documents of nodes tell is told twice
   tolds_once : AllPairs (λ q r. q ≢ r) tolds
   tolds_once = once_mapped IsToldBefore told_remark c.told.items
       (λ t u p q before same. ⊎_elim
@@ -549,11 +582,13 @@ module _ (s : Contents) (b : Path) (c : Check) (h : IsCheckOf s Default b c) (k 
       before)
       h.told_ascend
 
+  -- no remark on names that differ in case alone is told twice
   alikes_once : AllPairs (λ q r. q ≢ r) alikes
   alikes_once = once_mapped (λ (t u : Path × Path). path_cmp t.0 u.0 ≡ Less) alike_remark c.alike.items
       (λ t u x y less same. names_irrefl u.0 (subst (λ p. path_cmp p u.0 ≡ Less) (ap (λ r. r.path) same) less))
       h.alike.ascend
 
+  -- no remark on blocks is told twice
   blocks_once : AllPairs (λ q r. q ≢ r) blocks
   blocks_once = findings_once c.findings.items k.ascend
 
@@ -573,12 +608,15 @@ module _ (s : Contents) (b : Path) (c : Check) (h : IsCheckOf s Default b c) (k 
   base_other : (q : Remark) → Contains bases q → IsTold q.kind → ⊥
   base_other q in' is = let w = base_remark_of c.path c.base q in' in error_is_not w.0 (subst (λ x. IsTold x.kind) w.2 is)
 
+  -- a remark on a bad document is not of the kinds that the documents of nodes tell
   document_other : (q : Remark) → Contains documents q → IsTold q.kind → ⊥
   document_other q in' is = let w = contains_mapped paired (zip c.bad_documents c.hidden.items) q in' in error_is_not w.0.0.1 (subst (λ x. IsTold x.kind) (sym w.2) is)
 
+  -- a remark on a bad name is not of the kinds that the documents of nodes tell
   name_other : (q : Remark) → Contains names q → IsTold q.kind → ⊥
   name_other q in' is = let w = contains_mapped name_remark c.bad_names.items q in' in subst (λ x. IsTold x.kind) (sym w.2) is
 
+  -- a remark that is not of these kinds is none on what the documents of nodes tell
   told_apart : (q r : Remark) → (IsTold q.kind → ⊥) → Contains tolds r → q ≢ r
   told_apart q r other in' same =
       let w = contains_mapped told_remark c.told.items r in' in
@@ -588,15 +626,19 @@ module _ (s : Contents) (b : Path) (c : Check) (h : IsCheckOf s Default b c) (k 
   orphan_apart : (q r : Remark) → (IsLost q.kind → ⊥) → Contains orphans r → q ≢ r
   orphan_apart q r other in' same = let w = contains_mapped orphan_remark c.orphans.items r in' in other (subst (λ x. IsLost x.kind) (w.2 ∙ sym same) tt)
 
+  -- a remark on the base is not of the kind of what is lost
   base_kept : (q : Remark) → Contains bases q → IsLost q.kind → ⊥
   base_kept q in' is = let w = base_remark_of c.path c.base q in' in error_is_kept w.0 (subst (λ x. IsLost x.kind) w.2 is)
 
+  -- a remark on a bad document is not of the kind of what is lost
   document_kept : (q : Remark) → Contains documents q → IsLost q.kind → ⊥
   document_kept q in' is = let w = contains_mapped paired (zip c.bad_documents c.hidden.items) q in' in error_is_kept w.0.0.1 (subst (λ x. IsLost x.kind) (sym w.2) is)
 
+  -- a remark on a bad name is not of the kind of what is lost
   name_kept : (q : Remark) → Contains names q → IsLost q.kind → ⊥
   name_kept q in' is = let w = contains_mapped name_remark c.bad_names.items q in' in subst (λ x. IsLost x.kind) (sym w.2) is
 
+  -- a remark on what is lost is not of the kinds that the documents of nodes tell
   orphan_other : (q : Remark) → Contains orphans q → IsTold q.kind → ⊥
   orphan_other q in' is = let w = contains_mapped orphan_remark c.orphans.items q in' in subst (λ x. IsTold x.kind) (sym w.2) is
 
@@ -604,6 +646,7 @@ module _ (s : Contents) (b : Path) (c : Check) (h : IsCheckOf s Default b c) (k 
   last_apart : (q r : Remark) → (IsLost q.kind → ⊥) → (IsTold q.kind → ⊥) → Contains (orphans ++ tolds) r → q ≢ r
   last_apart q r kept other in' = ⊎_elim (orphan_apart q r kept) (told_apart q r other) (Contains-append_cases orphans tolds r in')
 
+  -- a remark on a bad document is none on a bad name
   later_apart : (q r : Remark) → Contains documents q → Contains names r → q ≢ r
   later_apart q r in' later same =
       let w = contains_mapped paired (zip c.bad_documents c.hidden.items) q in' in
@@ -624,6 +667,7 @@ module _ (s : Contents) (b : Path) (c : Check) (h : IsCheckOf s Default b c) (k 
   alike_group : (r : Remark) → Contains alikes r → HasGroup r.group → ⊥
   alike_group r in' has = let w = alike_sound r in' in subst (λ x. HasGroup x.group) w.2 has
 
+  -- a path's own remark is not of the kind of names that differ in case alone
   own_not_alike : (r : Remark) → IsOwnRemark s b r → IsAlikeKind r.kind → ⊥
   own_not_alike r = ⊎_elim
       (λ w is. error_not_alike w.0 (subst (λ x. IsAlikeKind x.kind) w.2 is))
@@ -633,26 +677,32 @@ module _ (s : Contents) (b : Path) (c : Check) (h : IsCheckOf s Default b c) (k 
       (λ w is. subst (λ x. IsAlikeKind x.kind) w.2 is)
       (⊎_elim (λ w is. subst (λ x. IsAlikeKind x.kind) w.2 is) (λ w is. told_not_alike w.0.1 (subst (λ x. IsAlikeKind x.kind) w.2 is)))))
 
+  -- a path's own remark is none on names that differ in case alone
   alike_apart : (q r : Remark) → Contains (own_remarks c) q → Contains alikes r → q ≢ r
   alike_apart q r in' later same = let w = alike_sound r later in own_not_alike q (own_sound q in') (subst (λ x. IsAlikeKind x.kind) (sym w.2 ∙ sym same) tt)
 
+  -- neither a path's own remark nor one on names that differ in case alone is of a group
   first_group : (r : Remark) → Contains (own_remarks c ++ alikes) r → HasGroup r.group → ⊥
   first_group r in' = ⊎_elim (λ own. own_group r (own_sound r own)) (alike_group r) (Contains-append_cases (own_remarks c) alikes r in')
 
+  -- neither a path's own remark nor one on names that differ in case alone is one on blocks
   first_apart : (q r : Remark) → Contains (own_remarks c ++ alikes) q → Contains blocks r → q ≢ r
   first_apart q r in' later same =
       let v = contains_mapped remark_of c.findings.items r later in
       first_group q in' (subst (λ x. HasGroup x.group) (v.2 ∙ sym same) tt)
 
+  -- no remark behind those on bad documents is told twice
   named_once : AllPairs (λ q r. q ≢ r) (names ++ (orphans ++ tolds))
   named_once = all_pairs_append (λ q r. q ≢ r) names (orphans ++ tolds) names_once
       (all_pairs_append (λ q r. q ≢ r) orphans tolds orphans_once tolds_once (λ q r in' later. told_apart q r (orphan_other q in') later))
       (λ q r in' later. last_apart q r (name_kept q in') (name_other q in') later)
 
+  -- no remark behind those on the base is told twice
   below_once : AllPairs (λ q r. q ≢ r) (documents ++ (names ++ (orphans ++ tolds)))
   below_once = all_pairs_append (λ q r. q ≢ r) documents (names ++ (orphans ++ tolds)) documents_once named_once
       (λ q r in' later. ⊎_elim (later_apart q r in') (last_apart q r (document_kept q in') (document_other q in')) (Contains-append_cases names (orphans ++ tolds) r later))
 
+  -- none of the paths' own remarks is told twice
   own_once : AllPairs (λ q r. q ≢ r) (own_remarks c)
   own_once = all_pairs_append (λ q r. q ≢ r) bases (documents ++ (names ++ (orphans ++ tolds))) (base_once s c.path c.base) below_once
       (λ q r in' later. ⊎_elim
@@ -663,6 +713,7 @@ module _ (s : Contents) (b : Path) (c : Check) (h : IsCheckOf s Default b c) (k 
       (Contains-append_cases names (orphans ++ tolds) r more))
       (Contains-append_cases documents (names ++ (orphans ++ tolds)) r later))
 
+  -- none of all remarks is told twice
   all_once : AllPairs (λ q r. q ≢ r) all
   all_once = all_pairs_append (λ q r. q ≢ r) (own_remarks c ++ alikes) blocks (all_pairs_append (λ q r. q ≢ r) (own_remarks c) alikes own_once alikes_once alike_apart) blocks_once first_apart
 
@@ -680,15 +731,19 @@ module _ (s : Contents) (b : Path) (c : Check) (h : IsCheckOf s Default b c) (k 
 -- ---- one node
 
 module _ (s : Contents) (p : Path) (m : NodeMetadata) (found : List NodeFinding) (are : AreNodeFindings s p m found) where
+  -- each remark on the node is to be told
   node_sound : (r : Remark) → Contains (node_remarks p found) r → IsNodeRemark s p m r
   node_sound r in' = let w = contains_mapped (λ f. told_remark (p, f)) found r in' in (w.0, (are.exact w.0).0 w.1, sym w.2)
 
+  -- each remark on the node that is to be told is there
   node_complete : (r : Remark) → IsNodeRemark s p m r → Contains (node_remarks p found) r
   node_complete r w = subst (Contains (node_remarks p found)) (sym w.2) (contains_map (λ f. told_remark (p, f)) found w.0 ((are.exact w.0).1 w.1))
 
+  -- no remark on the node is told twice
   node_once : AllPairs (λ q r. q ≢ r) (node_remarks p found)
   node_once = once_mapped ComesBefore (λ f. told_remark (p, f)) found (λ f g x y before same. not_before_told f g (ap (λ r. r.text) same) before) are.ascend
 
+  -- no remark on the node is of a group above b
   node_not_above : (b : Path) (r : Remark) → Contains (node_remarks p found) r → IsOfAbove b r → ⊥
   node_not_above b r in' up = let w = node_sound r in' in subst (λ x. HasGroup x.group) w.2 (group_there r (up.0, up.1))
 
@@ -700,21 +755,27 @@ module _ (s : Contents) (b : Path) (told : Remark → Type 0) (from : List Remar
   abbrev uppers : List Remark
   uppers = map remark_of found
 
+  -- each of these is to be told of the blocks above
   upper_sound : (r : Remark) → Contains uppers r → IsAboveRemark s b r
   upper_sound r in' = let w = contains_mapped remark_of found r in' in (w.0, (k.exact w.0).0 w.1, sym w.2)
 
+  -- each that is to be told of the blocks above is one of these
   upper_complete : (r : Remark) → IsAboveRemark s b r → Contains uppers r
   upper_complete r w = subst (Contains uppers) (sym w.2) (contains_map remark_of found w.0 ((k.exact w.0).1 w.1))
 
+  -- each of these is of a group above b
   upper_above : (r : Remark) → Contains uppers r → IsOfAbove b r
   upper_above r in' = let w = upper_sound r in' in (w.0.group, ap (λ x. x.group) w.2, w.1.above)
 
+  -- each remark from the path on, or on the blocks above it, is to be told
   whole_sound : (r : Remark) → Contains (from ++ uppers) r → told r ⊎ IsAboveRemark s b r
   whole_sound r in' = ⊎_elim (λ of'. inl (sound r of')) (λ up. inr (upper_sound r up)) (Contains-append_cases from uppers r in')
 
+  -- each that is to be told from the path on, or of the blocks above it, is there
   whole_complete : (r : Remark) → told r ⊎ IsAboveRemark s b r → Contains (from ++ uppers) r
   whole_complete r = ⊎_elim (λ is. Contains-append_left from uppers r (complete r is)) (λ is. Contains-append_right from uppers r (upper_complete r is))
 
+  -- no remark from the path on, or on the blocks above it, is told twice
   whole_once : AllPairs (λ q r. q ≢ r) (from ++ uppers)
   whole_once = all_pairs_append (λ q r. q ≢ r) from uppers once (findings_once found k.ascend) (λ q r in' later same. beside q in' (subst (IsOfAbove b) (sym same) (upper_above r later)))
 

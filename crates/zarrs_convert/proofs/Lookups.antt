@@ -8,6 +8,7 @@ use Rattle.zarrs_convert.specs.Tables.{is_among, look_up}
 abbrev pub Line : Type 0
 Line = Bor (List (Bor (List ℕ))) × Bor (List ℕ)
 
+-- the texts and the answer of a line
 abbrev pub seen : Line → List (List ℕ) × List ℕ
 seen line = (map (λ t. t.now) line.0.now, line.1.now)
 

@@ -74,6 +74,7 @@ encoding_fits Slash = refl
 
 -- ---- data types
 
+-- the numbers of a data type that is converted by its name fit
 named_fits : (t : DataTypeMetadataV2) (name : Option (List ℕ)) → IfOk (data_type_of_name t name) ExtensionFits
 named_fits t None = tt
 named_fits t (Some name) = refl
@@ -89,14 +90,17 @@ data_type_converted_fits (Structured fields) = tt
 abbrev FillFits : Result Data Refusal → Type 0
 FillFits r = IfOk r (λ d. fits d ≡ true)
 
+-- a list of zeros has no number that is not whole
 zeros_fit : (n : ℕ) → items_have_float (items_of (replicate n zero_value)) ≡ false
 zeros_fit zero = refl
 zeros_fit (suc n) = zeros_fit n
 
+-- where the numbers of two fill values fit, those of the one that a test chooses do
 either_fits : (b : Bool) (x y : Result Data Refusal) → FillFits x → FillFits y → FillFits (if b then x else y)
 either_fits true x y h k = h
 either_fits false x y h k = k
 
+-- the numbers of a fill value of zero bytes fit
 zero_bytes_fit : (bits : ℕ) → FillFits (zero_bytes bits)
 zero_bytes_fit bits = either_fits (fits_u64 bits && (bits % 8 == 0)) (Ok (array (items_of (replicate (bits / 8) zero_value)))) _ (ap not (zeros_fit (bits / 8))) tt
 
@@ -105,6 +109,7 @@ abbrev AllFit : List (Bool × Result Data Refusal) → Type 0
 AllFit [] = Unit {0}
 AllFit (line ∷ lines) = FillFits line.1 × AllFit lines
 
+-- where all answers of the lines fit, and the one for all else does, the first whose condition holds fits
 lines_fit : (lines : List (Bool × Result Data Refusal)) (rest : Result Data Refusal) → AllFit lines → FillFits rest → FillFits (first_row lines rest)
 lines_fit [] rest h k = k
 lines_fit (line ∷ lines) rest h k = either_fits line.0 line.1 (first_row lines rest) h.0 (lines_fit lines rest h.1 k)
@@ -115,25 +120,30 @@ fill_value_fits d name h = lines_fit (fill_lines d name) (Ok d) (refl, (refl, (z
 
 -- ---- codecs
 
+-- the numbers of a transposition fit
 transposition_fits : (order : ArrayMetadataV2Order) (n : ℕ) → CodecsFit (transposition order n)
 transposition_fits C n = refl
 transposition_fits F n = both_true _ true (configured_fits (codes "transpose") (codes "order") (list_data number_data (reverse (range_with_len 0 n))) (numbers_fit (reverse (range_with_len 0 n)))) refl
 
+-- the numbers of a filter that is converted fit
 filter_by : (b : Bool) (filter : MetadataV2) → IfOk (if b then Ok (with_no_configuration filter.id) else no_codec filter) ExtensionFits
 filter_by true filter = refl
 filter_by false filter = tt
 
+-- the numbers of filters that are converted fit
 filters_fit : (filters : List MetadataV2) → IfOk (filters_v3 filters) CodecsFit
 filters_fit [] = refl
 filters_fit (filter ∷ filters) =
     then_ok ExtensionFits CodecsFit (filter_v3 filter) _ (filter_by (is_among vlen_names filter.id) filter) (λ codec h.
     then_ok CodecsFit CodecsFit (filters_v3 filters) _ (filters_fit filters) (λ codecs k. both_true (extension_fits codec) (list_all extension_fits codecs) h k))
 
+-- where the numbers of the codecs of filters fit, those of the one from arrays to bytes do
 to_bytes_fit : (e : Option Endianness) (codecs : List MetadataV3) → CodecsFit codecs → IfOk (array_to_bytes e codecs) CodecsFit
 to_bytes_fit e [] h = refl
 to_bytes_fit e (codec ∷ []) h = h
 to_bytes_fit e (codec ∷ another ∷ codecs) h = tt
 
+-- the numbers of codecs that are taken without a compressor fit where they did
 without_fits : (compressor : Option MetadataV2) (codecs : List MetadataV3) → CodecsFit codecs → IfOk (without_compressor compressor codecs) CodecsFit
 without_fits None codecs h = h
 without_fits (Some compressor) codecs h = tt
@@ -147,6 +157,7 @@ codecs_fit order n e filters compressor =
 
 -- ---- arrays
 
+-- where `&&` of two tests is true, both are
 each_true : (a b : Bool) → (a && b) ≡ true → (a ≡ true) × (b ≡ true)
 each_true true b h = (refl, h)
 each_true false b h = absurd (true≢false (sym h))
@@ -166,6 +177,7 @@ two_of_eight a b c d e f g h x =
 abbrev Plain : ArrayMetadataV3 → Type 0
 Plain m = IsTrue (is_plain_array_v3 m)
 
+-- where a plain version 2 array is converted, it becomes a plain version 3 array
 array_converted : (m : ArrayMetadataV2) → IsTrue (is_plain_array_v2 m) → IfOk (array_v3 m) Plain
 unfolding array_v3
 array_converted m plain =
@@ -188,6 +200,7 @@ Keeps m converted =
     (converted.shape ≡ m.shape) × (converted.attributes ≡ m.attributes)
     × (converted.chunk_grid ≡ regular_grid m.chunks) × (converted.chunk_key_encoding ≡ v2_encoding m.dimension_separator)
 
+-- an array keeps this where it is converted
 array_keeps : (m : ArrayMetadataV2) → IfOk (array_v3 m) (Keeps m)
 unfolding array_v3
 array_keeps m =

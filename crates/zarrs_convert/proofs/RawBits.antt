@@ -12,10 +12,12 @@ use Rattle.zarrs_convert.proofs.Numbers.{too_large}
 abbrev pub eightfold : ℕ → Option ℕ
 eightfold n = if fits_u64 (8 * n) then Some (8 * n) else None
 
+-- where nothing passes a test, nothing passes it together with another
 none_then : {X : Type 0} (b fits : Bool) (x : X) (size : ℕ) → (if b then Some x else None) ≡ None → (if b && fits then Some size else None) ≡ None
 none_then true fits x size h = cc
 none_then false fits x size h = refl
 
+-- where a text passes the test, its size is the eightfold of its number
 some_then : (b : Bool) (x y : List ℕ) → (if b then Some x else None) ≡ Some y → (if b && fits_u64 (8 * digits_value 10 x) then Some (8 * digits_value 10 x) else None) ≡ eightfold (digits_value 10 y)
 some_then true x y h = let e : x ≡ y = cc in ap (λ z. eightfold (digits_value 10 z)) e
 some_then false x y h = cc

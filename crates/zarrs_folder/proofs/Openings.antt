@@ -83,6 +83,7 @@ module _ (S L : Contents) (b : Path) (same : ShowSame S L b) where
     λ h. ⊎_elim (λ d. inl (d.0, (bad_documents_same d.0).1 d.1)) (λ d. inr (d.0, (same.bad_names d.0).1 d.1)) h,
   )
 
+  -- both stores list the same
   pub list_same : ListSame S L b
   list_same = record {
     nodes = same.nodes;
@@ -105,6 +106,7 @@ module _ (S L : Contents) (b : Path) (same : ShowSame S L b) where
   pub blocks_at_same : (p : Path) → StandsFrom S Default b p → (m : NodeMetadata) → block_at L p m ≡ block_at S p m
   blocks_at_same p stands m = block_at_same S L p same.numbers (same.blocks p stands) m
 
+  -- both stores open the same, by any policy
   pub open_same : (policy : UseConsolidatedMetadata) → OpenSame S L policy b
   open_same policy = record {
     means = same.meanings b (inl refl);
@@ -216,6 +218,7 @@ opening_at : (s : Contents) (policy : UseConsolidatedMetadata) (b : Path) → Is
     → (p : Path) → IsPath p → path_text p ≡ path_text b → RefusesAt s policy e p → X
 opening_at s policy b valid e X then p names text why = then (subst (RefusesAt s policy e) (texts_differ p b names valid text) why)
 
+-- stores that open the same answer the same
 pub opened_answer_same : OpenedAnswerSame
 opened_answer_same S L policy b same = record {
   refused_node = λ e. (node_over S L b same.means e, node_over L S b (sym same.means) e);

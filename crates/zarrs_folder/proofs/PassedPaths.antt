@@ -166,6 +166,7 @@ module _ (S L : Contents) (b p : Path) (ps : List Path) (pruned : IsPruned S L b
       by_meaning c reached low deeper nothing means = passed c (λ has. inl (reached, means, has)) low
       by_meaning c reached low deeper (bad error) means = passed c (λ has. inr (reached, (error, means))) low
 
+-- where a pruned store has what is below all passed paths, paths below the base and no array have the same documents
 pub passed_hold_same : PassedHoldSame
 passed_hold_same S L b ps pruned holds all p ns n is names far = beyond S L b p ps pruned holds all far b (inl refl) n ns is names
 

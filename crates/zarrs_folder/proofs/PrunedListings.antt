@@ -131,6 +131,7 @@ parent_listed of b p h = let w = parent_of b p (h.below.0, h.below.1, h.below.2)
 
 -- ---- two stores
 
+-- a store shows what the store shows that it is pruned from
 pub pruned_shows_same : PrunedShowsSame
 pruned_shows_same S L b pruned = record {
   numbers = pruned.numbers;
@@ -181,5 +182,6 @@ blocks_same S L b base (Group (V2 g)) =
 blocks_same S L b base (Group (V3 g)) = ap (λ n. node_block n (Group (V3 g))) base.numbers
 blocks_same S L b base (Array a) = ap (λ n. node_block n (Array a)) base.numbers
 
+-- a store with the base of another has the same meaning and the same block there
 pub base_shows_same : BaseShowsSame
 base_shows_same S L b base = (means_same S L base.numbers b base.documents, blocks_same S L b base)

@@ -12,9 +12,11 @@ use Rattle.zarrs_form.proofs.TextLaws.{begins_cut, begins_whole, extension_rows,
 abbrev configuration_text : MetadataV3 → List ℕ
 configuration_text m = row_text (codes "configuration") (option_map object m.configuration)
 
+-- the text of the row that says that the extension need not be understood, where it need not
 abbrev refusal_text : MetadataV3 → List ℕ
 refusal_text m = row_text (codes "must_understand") (unless m.must_understand (boolean false))
 
+-- the text of the name as the last member, with the closing brace
 abbrev name_text : MetadataV3 → List ℕ
 name_text m = members_text false (member (codes "name") (string m.name) no_members)
 

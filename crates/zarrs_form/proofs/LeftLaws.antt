@@ -18,10 +18,12 @@ get_left (n ∷ names) k ms other =
     let parts = neither (bytes_eq n k) (is_own names k) other in
     get_left names k (besides (n ∷ []) ms) parts.1 ∙ get_besides (n ∷ []) k ms (rw parts.0 refl)
 
+-- the members besides no names are all members
 besides_none : (ms : Members) → ms ≡ besides [] ms
 besides_none no_members = refl
 besides_none (member l e ms) = ap (member l e) (besides_none ms)
 
+-- a first member goes where it was taken out at first, or has one of the names, and else it stays
 besides_more_at : (b c : Bool) (names : List (List ℕ)) (l : List ℕ) (e : Data) (ns os : Members) → is_own names l ≡ c → besides names ns ≡ os
     → besides names (if b then ns else member l e ns) ≡ (if b || c then os else member l e os)
 besides_more_at true c names l e ns os own later = later
@@ -39,6 +41,7 @@ pub left_besides : (names : List (List ℕ)) (ms : Members) → left names ms �
 left_besides [] ms = besides_none ms
 left_besides (n ∷ names) ms = left_besides names (besides (n ∷ []) ms) ∙ besides_more n names ms
 
+-- of three tests by `||` it does not matter which two are put together
 or_assoc : (a b c : Bool) → (a || (b || c)) ≡ ((a || b) || c)
 or_assoc true b c = refl
 or_assoc false b c = refl
@@ -48,6 +51,7 @@ is_own_both : (names more : List (List ℕ)) (l : List ℕ) → is_own (names ++
 is_own_both [] more l = refl
 is_own_both (n ∷ names) more l = ap (λ b. bytes_eq n l || b) (is_own_both names more l) ∙ or_assoc (bytes_eq n l) (is_own names l) (is_own more l)
 
+-- a first member goes where it has one of the names, or was taken out at first, and else it stays
 besides_both_at : (a b : Bool) (names : List (List ℕ)) (l : List ℕ) (e : Data) (ns os : Members) → is_own names l ≡ a → besides names ns ≡ os
     → besides names (if b then ns else member l e ns) ≡ (if a || b then os else member l e os)
 besides_both_at true true names l e ns os own later = later

@@ -9,6 +9,7 @@ use Rattle.serde_json.specs.Data.{Data, null, boolean, number, string, array, ob
 use Rattle.serde_json.specs.Written.{comma_if, outline, items_outline, members_outline}
 use Rattle.zarrs_form.specs.Pretty.{text_at, items_at, members_at, pretty_text}
 
+-- the greatest number of levels that is counted
 abbrev most : ℕ
 most = 2 ^ 64 - 1
 
@@ -21,6 +22,7 @@ abbrev last_in : Bool → Last
 last_in true = value
 last_in false = bracket
 
+-- the last part of a piece may be put to what follows the piece
 regroup_piece : (a b c r : List ℕ) → (a ++ (b ++ c)) ++ r ≡ (a ++ b) ++ (c ++ r)
 regroup_piece a b c r = simp append_assoc
 
@@ -28,26 +30,32 @@ regroup_piece a b c r = simp append_assoc
 deeper : (n : ℕ) → n + 1 ≤ most → min (n + 1) most ≡ n + 1
 deeper n h = min-eq_left h
 
+-- one level deeper and then one less is the level itself
 outer : (n : ℕ) → n + 1 - 1 ≡ n
 outer n = omega arith
 
+-- within brackets, what stands before a value is a comma, where another stands before it, and a line
 lead_in : (later : Bool) (n : ℕ) → lead (last_in later) n ≡ comma_if later ++ line n
 lead_in true n = refl
 lead_in false n = refl
 
+-- within brackets, a key stands behind a comma, where another stands before it, and a line, quoted and with a colon
 key_in : (later : Bool) (n : ℕ) (k : List ℕ) → piece (last_in later, n) (Token.key k) ≡ comma_if later ++ (line n ++ (quoted k ++ 58 ∷ []))
 key_in true n k = refl
 key_in false n k = refl
 
+-- a comma, a line, an item and the items behind it stand together before what follows them
 regroup_item : (c l t r rest : List ℕ) → (c ++ l) ++ (t ++ (r ++ rest)) ≡ (c ++ (l ++ (t ++ r))) ++ rest
 regroup_item c l t r rest = simp append_assoc
 
+-- a comma, a line, a key, its value and the members behind it stand together before what follows them
 regroup_member : (c l q t r rest : List ℕ) → (c ++ (l ++ (q ++ 58 ∷ []))) ++ (32 ∷ (t ++ (r ++ rest))) ≡ (c ++ (l ++ (q ++ 58 ∷ 32 ∷ (t ++ r)))) ++ rest
 regroup_member c l q t r rest = simp append_assoc
 
 mutual
   unfolding pretty_from
 
+  -- where a value is not too deep, its tokens are laid out as what stands before it and its text
   value_laid : (s : Last) (n : ℕ) (d : Data) (ts : List Token) → n + depth d ≤ most → pretty_from (s, n) (json_tokens (outline d) ++ ts) ≡ lead s n ++ (text_at n d ++ pretty_from (value, n) ts)
   value_laid s n null ts h = regroup_piece (separator (is_value s) Token.null) (gap s true n) _ _
   value_laid s n (boolean b) ts h = regroup_piece (separator (is_value s) Token.null) (gap s true n) _ _
@@ -62,6 +70,7 @@ mutual
       ∙ ap (λ m. lead s n ++ 123 ∷ pretty_from (bracket, m) (members_tokens (members_outline ms) ++ ts)) (deeper n (omega arith))
       ∙ ap (λ t. lead s n ++ 123 ∷ t) (members_laid false n ms ts (omega arith))
 
+  -- where they are not too deep, the tokens of the items that are left are laid out as their text
   items_laid : (later : Bool) (n : ℕ) (ds : Items) (ts : List Token) → n + 1 + items_depth ds ≤ most
       → pretty_from (last_in later, n + 1) (items_tokens (items_outline ds) ++ ts) ≡ items_at later n ds ++ pretty_from (value, n) ts
   items_laid true n no_items ts h = ap (λ m. (line m ++ 93 ∷ []) ++ pretty_from (value, m) ts) (outer n)
@@ -74,6 +83,7 @@ mutual
       ∙ ap (λ t. (comma_if later ++ line (n + 1)) ++ (text_at (n + 1) d ++ t)) (items_laid true n ds ts (omega arith))
       ∙ regroup_item (comma_if later) (line (n + 1)) (text_at (n + 1) d) (items_at true n ds) (pretty_from (value, n) ts)
 
+  -- where they are not too deep, the tokens of the members that are left are laid out as their text
   members_laid : (later : Bool) (n : ℕ) (ms : Members) (ts : List Token) → n + 1 + members_depth ms ≤ most
       → pretty_from (last_in later, n + 1) (members_tokens (members_outline ms) ++ ts) ≡ members_at later n ms ++ pretty_from (value, n) ts
   members_laid true n no_members ts h = ap (λ m. (line m ++ 125 ∷ []) ++ pretty_from (value, m) ts) (outer n)

@@ -11,6 +11,7 @@ use Rattle.zarrs_form.specs.Pretty.{close_line, text_at, items_at, members_at, p
 
 -- ---- in the text of the tokens
 
+-- the number of brackets and braces among the tokens
 abbrev brackets : List Token → ℕ
 brackets [] = 0
 brackets (begin_object ∷ ts) = 1 + brackets ts
@@ -28,9 +29,11 @@ brackets (bad ∷ ts) = brackets ts
 one_more : (a b rest : List ℕ) (x m : ℕ) → m ≤ length rest → 1 + m ≤ length ((a ++ (b ++ x ∷ [])) ++ rest)
 one_more a b rest x m h = omega (arith, length-append (a ++ (b ++ x ∷ [])) rest, length-append a (b ++ x ∷ []), length-append b (x ∷ []))
 
+-- a text that is long enough is long enough with another before it
 no_less : (a rest : List ℕ) (m : ℕ) → m ≤ length rest → m ≤ length (a ++ rest)
 no_less a rest m h = omega (arith, length-append a rest)
 
+-- the pretty text of tokens has at least a byte for each bracket
 longer : (s : Last × ℕ) (ts : List Token) → brackets ts ≤ length (pretty_from s ts)
 unfolding pretty_from
 longer s [] = omega arith
@@ -46,6 +49,7 @@ longer s (null ∷ ts) = no_less (piece s null) _ _ (longer (step s null) ts)
 longer s (bad ∷ ts) = no_less (piece s bad) _ _ (longer (step s bad) ts)
 
 mutual
+  -- a value has at least twice as many brackets as it is deep
   value_brackets : (d : Data) (ts : List Token) → 2 * depth d + brackets ts ≤ brackets (json_tokens (outline d) ++ ts)
   value_brackets tree.null ts = omega arith
   value_brackets (tree.boolean b) ts = omega arith
@@ -54,6 +58,7 @@ mutual
   value_brackets (tree.array ds) ts = let h = items_brackets ds ts in omega arith
   value_brackets (tree.object ms) ts = let h = members_brackets ms ts in omega arith
 
+  -- the items of an array have at least twice as many brackets as they are deep, and one more
   items_brackets : (ds : Items) (ts : List Token) → 2 * items_depth ds + 1 + brackets ts ≤ brackets (items_tokens (items_outline ds) ++ ts)
   items_brackets no_items ts = omega arith
   items_brackets (item d ds) ts =
@@ -63,6 +68,7 @@ mutual
       let same : brackets ((json_tokens (outline d) ++ rest) ++ ts) ≡ brackets (json_tokens (outline d) ++ (rest ++ ts)) = ap brackets (append_assoc (json_tokens (outline d)) rest ts) in
       omega arith
 
+  -- the members of an object have at least twice as many brackets as they are deep, and one more
   members_brackets : (ms : Members) (ts : List Token) → 2 * members_depth ms + 1 + brackets ts ≤ brackets (members_tokens (members_outline ms) ++ ts)
   members_brackets no_members ts = omega arith
   members_brackets (member k d ms) ts =
@@ -72,6 +78,7 @@ mutual
       let same : brackets ((json_tokens (outline d) ++ rest) ++ ts) ≡ brackets (json_tokens (outline d) ++ (rest ++ ts)) = ap brackets (append_assoc (json_tokens (outline d)) rest ts) in
       omega arith
 
+-- the pretty text of a value is at least twice as long as the value is deep
 pub pretty_longer : (d : Data) → 2 * depth d ≤ length (pretty_text d)
 pretty_longer d =
     let here = value_brackets d [] in
@@ -81,6 +88,7 @@ pretty_longer d =
 -- ---- in the text by pieces
 
 mutual
+  -- the text of a value is at least twice as long as the value is deep
   pub text_longer : (n : ℕ) (d : Data) → 2 * depth d ≤ length (text_at n d)
   text_longer n tree.null = omega arith
   text_longer n (tree.boolean b) = omega arith
@@ -89,6 +97,7 @@ mutual
   text_longer n (tree.array ds) = let h = items_longer false n ds in omega arith
   text_longer n (tree.object ms) = let h = members_longer false n ms in omega arith
 
+  -- the text of items is at least twice as long as they are deep, and one more
   items_longer : (later : Bool) (n : ℕ) (ds : Items) → 2 * items_depth ds + 1 ≤ length (items_at later n ds)
   items_longer later n no_items = omega (arith, length-append (close_line later n) (93 ∷ []))
   items_longer later n (item d ds) =
@@ -96,6 +105,7 @@ mutual
       let there = items_longer true n ds in
       no_less (comma_if later) _ _ (no_less (line (n + 1)) _ _ (omega (arith, length-append (text_at (n + 1) d) (items_at true n ds))))
 
+  -- the text of members is at least twice as long as they are deep, and one more
   pub members_longer : (later : Bool) (n : ℕ) (ms : Members) → 2 * members_depth ms + 1 ≤ length (members_at later n ms)
   members_longer later n no_members = omega (arith, length-append (close_line later n) (125 ∷ []))
   members_longer later n (member k d ms) =

@@ -125,9 +125,11 @@ module _ {X : Type 0} where
     greater = λ k d a b. gap.greater (suc k) d (omega arith) (omega (arith, b));
   }
 
+  -- a name that would stand before the first is below it
   below_head : (e : String Global × X) (es : List (String Global × X)) (name : List ℕ) → IsNameGap (e ∷ es) name zero → slice_cmp nat_cmp name (string_bytes e.0) ≡ Less
   below_head e es name gap = turned (string_bytes e.0) name Greater (gap.greater 0 e (omega arith) (omega arith))
 
+  -- a name that would stand behind the first is above it
   behind_head : (e : String Global × X) (es : List (String Global × X)) (name : List ℕ) (i : ℕ) → IsNameGap (e ∷ es) name (suc i) → slice_cmp nat_cmp name (string_bytes e.0) ≡ Greater
   behind_head e es name i gap = turned (string_bytes e.0) name Less (gap.smaller 0 e (omega arith) (omega arith))
 
@@ -157,6 +159,7 @@ module _ {X : Type 0} where
 
   -- ---- the order after a change
 
+  -- entries in the order of their names stay so when one is put
   pub ascending_put : (es : List (String Global × X)) (k : String Global) (v : X) → NamesAscend es → NamesAscend (insert_entry string_cmp es k v)
   unfolding IsStrictlySortedBy
   ascending_put [] k v up = (tt, tt)
@@ -179,6 +182,7 @@ module _ {X : Type 0} where
         )
       ] refl
 
+  -- entries in the order of their names stay so when one is taken away
   pub ascending_taken : (test : String Global → Bool) (es : List (String Global × X)) → NamesAscend es → NamesAscend (remove_entry test es)
   unfolding IsStrictlySortedBy
   ascending_taken test [] up = tt
@@ -299,5 +303,6 @@ kept_ascend names (e ∷ es) up = elim (is_own names (string_bytes e.0)) as (λ 
 pub kept_first : (names : List (List ℕ)) (e : Entry) (es : List Entry) → is_own names (string_bytes e.0) ≡ false → kept names (e ∷ es) ≡ (e.0, view e.1) ∷ kept names es
 kept_first names e es other = rw other refl
 
+-- a first entry that has one of the names is not kept
 pub own_first : (names : List (List ℕ)) (e : Entry) (es : List Entry) → is_own names (string_bytes e.0) ≡ true → kept names (e ∷ es) ≡ kept names es
 own_first names e es own = rw own refl

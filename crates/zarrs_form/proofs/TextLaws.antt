@@ -31,6 +31,7 @@ escape_bare (x ∷ xs) h =
     let r = or_parts (x == 34) (x == 92) q.1 in
     rw (escape_byte_bare x r.0 r.1 (above x 8 q.0 refl) (above x 12 q.0 refl) (above x 10 q.0 refl) (above x 13 q.0 refl) (above x 9 q.0 refl) q.0, escape_bare xs p.1) refl
 
+-- a text whose bytes have no escape stands between quotes as it is
 pub quoted_bare : (s : List ℕ) → list_any has_escape s ≡ false → quoted s ≡ 34 ∷ (s ++ 34 ∷ [])
 quoted_bare s h = ap (λ t. 34 ∷ (t ++ 34 ∷ [])) (escape_bare s h)
 
@@ -41,6 +42,7 @@ abbrev pub row_before : List ℕ → Option Data → Members → Members
 row_before name None ms = ms
 row_before name (Some d) ms = member name d ms
 
+-- the members that all rows are, before others
 abbrev pub rows_before : List (List ℕ × Option Data) → Members → Members
 rows_before [] ms = ms
 rows_before (r ∷ rows) ms = row_before r.0 r.1 (rows_before rows ms)
@@ -50,6 +52,7 @@ abbrev pub rows_text : List (List ℕ × Option Data) → List ℕ → List ℕ
 rows_text [] text = text
 rows_text (r ∷ rows) text = row_text r.0 r.1 ++ rows_text rows text
 
+-- a name, its colon, its value and a comma stand together before the rest
 regroup : (q a b : List ℕ) → q ++ 58 ∷ (a ++ 44 ∷ b) ≡ (q ++ 58 ∷ (a ++ 44 ∷ [])) ++ b
 regroup q a b = sym (append_assoc q (58 ∷ (a ++ 44 ∷ [])) b ∙ ap (λ t. q ++ 58 ∷ t) (append_assoc a (44 ∷ []) b))
 
@@ -60,10 +63,12 @@ module _ (k : List ℕ) (d : Data) where
   row_later name None ms h = h
   row_later name (Some e) ms h = refl
 
+  -- rows and a last member that are not the first have a comma before them
   later : (rows : List (List ℕ × Option Data)) → members_text true (rows_before rows (member k d no_members)) ≡ 44 ∷ members_text false (rows_before rows (member k d no_members))
   later [] = refl
   later (r ∷ rows) = row_later r.0 r.1 (rows_before rows (member k d no_members)) (later rows)
 
+  -- the text of a row before members is the row's text and that of the members
   row_is : (name : List ℕ) (o : Option Data) (ms : Members) (text : List ℕ) → members_text true ms ≡ 44 ∷ members_text false ms → members_text false ms ≡ text
       → members_text false (row_before name o ms) ≡ row_text name o ++ text
   row_is name None ms text h is = is
@@ -147,6 +152,7 @@ begins_appended old mid new piece a e = begins_after old mid new a (record { mor
 pub begins_same : (old mid new : List ℕ) → BeginsWith mid old → new ≡ mid → BeginsWith new old
 begins_same old mid new a e = record { more = a.more; is = e ∙ a.is }
 
+-- a name, its colon and a text stand together behind what was there
 regroup_named : (old name text : List ℕ) → (old ++ (name ++ 58 ∷ [])) ++ text ≡ old ++ (name ++ 58 ∷ text)
 regroup_named old name text = simp append_assoc
 
@@ -164,6 +170,7 @@ pub named_value : (old name mid text new rest : List ℕ) → mid ≡ old ++ (na
 named_value old name mid text new rest named value =
     ap (λ s. s ++ rest) value ∙ append_assoc mid text rest ∙ ap (λ s. s ++ (text ++ rest)) named ∙ regroup_named old name (text ++ rest)
 
+-- a comma, a name, its colon, its value and more stand together behind what was there
 regroup_member : (old comma name text more : List ℕ) → (((old ++ comma) ++ (name ++ 58 ∷ [])) ++ text) ++ more ≡ old ++ (comma ++ (name ++ 58 ∷ (text ++ more)))
 regroup_member old comma name text more = simp append_assoc
 
@@ -187,6 +194,7 @@ pub member_cut_at_value : (old a b new : List ℕ) (later : Bool) (k : List ℕ)
 member_cut_at_value old a b new later k d ms comma name same =
     member_cut_in_name old a new later k d ms comma (begins_done _ new [] (append-nil new ∙ same ∙ name))
 
+-- a comma, an item and more stand together behind what was there
 regroup_item : (old comma text more : List ℕ) → ((old ++ comma) ++ text) ++ more ≡ old ++ (comma ++ (text ++ more))
 regroup_item old comma text more = simp append_assoc
 
@@ -214,12 +222,14 @@ extension_rows name (Some c) (Some m) = refl
 
 -- a version 3 array's rows
 module _ (shape data_type chunk_grid chunk_key_encoding fill_value codecs : Data) where
+  -- its rows in the order of their names, but for the format
   abbrev pub array_v3_table : Option Data → Option Data → Option Data → List (List ℕ × Option Data)
   array_v3_table attributes transformers names =
       (codes "attributes", attributes) ∷ (codes "chunk_grid", Some chunk_grid) ∷ (codes "chunk_key_encoding", Some chunk_key_encoding) ∷ (codes "codecs", Some codecs)
       ∷ (codes "data_type", Some data_type) ∷ (codes "dimension_names", names) ∷ (codes "fill_value", Some fill_value) ∷ (codes "node_type", Some (string (codes "array")))
       ∷ (codes "shape", Some shape) ∷ (codes "storage_transformers", transformers) ∷ []
 
+  -- the members that its rows put
   abbrev array_v3_put : Option Data → Option Data → Option Data → Members
   array_v3_put attributes transformers names =
       put_rows ((codes "zarr_format", Some (number_data 3)) ∷ (codes "node_type", Some (string (codes "array"))) ∷ (codes "shape", Some shape)
@@ -227,6 +237,7 @@ module _ (shape data_type chunk_grid chunk_key_encoding fill_value codecs : Data
       ∷ (codes "fill_value", Some fill_value) ∷ (codes "codecs", Some codecs) ∷ (codes "attributes", attributes) ∷ (codes "storage_transformers", transformers)
       ∷ (codes "dimension_names", names) ∷ []) no_members
 
+  -- these members are the rows in the order of their names, and then the format
   pub array_v3_sorted : (attributes transformers names : Option Data)
       → array_v3_put attributes transformers names ≡ rows_before (array_v3_table attributes transformers names) (member (codes "zarr_format") (number_data 3) no_members)
   array_v3_sorted None None None = refl
@@ -240,17 +251,20 @@ module _ (shape data_type chunk_grid chunk_key_encoding fill_value codecs : Data
 
 -- a version 2 array's rows
 module _ (shape chunks dtype fill_value order compressor filters separator : Data) where
+  -- its rows in the order of their names, but for the format
   abbrev pub array_v2_table : Option Data → List (List ℕ × Option Data)
   array_v2_table attributes =
       (codes "attributes", attributes) ∷ (codes "chunks", Some chunks) ∷ (codes "compressor", Some compressor) ∷ (codes "dimension_separator", Some separator)
       ∷ (codes "dtype", Some dtype) ∷ (codes "fill_value", Some fill_value) ∷ (codes "filters", Some filters) ∷ (codes "order", Some order) ∷ (codes "shape", Some shape) ∷ []
 
+  -- the members that its rows put
   abbrev array_v2_put : Option Data → Members
   array_v2_put attributes =
       put_rows ((codes "zarr_format", Some (number_data 2)) ∷ (codes "shape", Some shape) ∷ (codes "chunks", Some chunks) ∷ (codes "dtype", Some dtype)
       ∷ (codes "fill_value", Some fill_value) ∷ (codes "order", Some order) ∷ (codes "compressor", Some compressor) ∷ (codes "filters", Some filters)
       ∷ (codes "dimension_separator", Some separator) ∷ (codes "attributes", attributes) ∷ []) no_members
 
+  -- these members are the rows in the order of their names, and then the format
   pub array_v2_sorted : (attributes : Option Data) → array_v2_put attributes ≡ rows_before (array_v2_table attributes) (member (codes "zarr_format") (number_data 2) no_members)
   array_v2_sorted None = refl
   array_v2_sorted (Some a) = refl
@@ -283,6 +297,7 @@ abbrev pub last_of : List ℕ → List (List ℕ) → List ℕ
 last_of old [] = old
 last_of old (new ∷ news) = last_of new news
 
+-- rows that were appended one after the other, and a text behind them, are the text of the rows before it
 rows_follow : (rows : List (List ℕ × Option Data)) (news : List (List ℕ)) (old end text : List ℕ) → Follow old rows news → end ≡ last_of old news ++ text → end ≡ old ++ rows_text rows text
 rows_follow [] [] old end text f e = e
 rows_follow [] (new ∷ news) old end text f e = absurd f
@@ -311,6 +326,7 @@ dimension_fits : (names : List (Option (List ℕ))) → list_all (none_or (λ _.
 dimension_fits [] = refl
 dimension_fits (o ∷ names) = rw (any_fits o) (dimension_fits names)
 
+-- names of dimensions fit where there are some, and where there are none
 pub dimensions_fit : (o : Option (List (Option (List ℕ)))) → none_or (list_all (none_or (λ _. true))) o ≡ true
 dimensions_fit None = refl
 dimensions_fit (Some names) = dimension_fits names
@@ -320,6 +336,7 @@ pub refusal_written : (b : Bool) → option_map boolean (unless b false) ≡ unl
 refusal_written true = refl
 refusal_written false = refl
 
+-- `&&` is false where its second test is
 pub and_false : (a b : Bool) → b ≡ false → (a && b) ≡ false
 and_false true b e = e
 and_false false b e = refl

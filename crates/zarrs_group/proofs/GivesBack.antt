@@ -335,6 +335,7 @@ module _ (of : Path → Meaning) (g : GroupState) (f : Forest) (B : Block) (from
   held_there s p (V3 m) old is = refl
   held_there s p (V2 m) old (k, is) = cc
 
+  -- the path means the group with its block, by all versions but the second
   means_group : (v : MetadataRetrieveVersion) → v ≢ retrieve.V2 → meaning s v g.path ≡ node (Group (with_block g (Some B)).metadata)
   means_group v not = opens_group (with_block g (Some B)).metadata g.metadata from.version_3 refl stored shallow v not
 

@@ -61,6 +61,7 @@ is_below_from (m ∷ b) (n ∷ p) h = by (bytes_eq m n) refl (is_below_from b p)
     by true e again k = subst (λ x. IsBelow (x ∷ b) (n ∷ p)) (sym ((bytes_eq-Decides m n).0 e)) (below_head n b p (again k))
     by false e again k = absurd (true≢false (sym k))
 
+-- a path that is below another passes the test
 pub is_below_of : (b p : Path) → IsBelow b p → IsTrue (is_path_below b p)
 is_below_of b [] h = absurd (not_below b h)
 is_below_of [] (n ∷ p) h = refl
@@ -129,11 +130,13 @@ left_less b p es h = (h.0.1, h.1.1)
 
 -- ---- the pairs behind b
 
+-- an order that passes the test for `Less` is `Less`
 lt_from : (o : Ordering) → is_lt o ≡ true → o ≡ Less
 lt_from Less e = refl
 lt_from Equal e = absurd (true≢false (sym e))
 lt_from Greater e = absurd (true≢false (sym e))
 
+-- a path that stands before all pairs stands before those of them that are behind b
 more_above : (b p : Path) (es : Pairs) → AllByRecursion (λ q. path_cmp p q ≡ Less) (keys_of es) → AllByRecursion (λ q. path_cmp p q ≡ Less) (keys_of (pairs_behind b es))
 more_above b p [] h = tt
 more_above b p (e ∷ es) h = by (is_lt (path_cmp b e.0)) refl (more_above b p es h.1)
@@ -142,6 +145,7 @@ more_above b p (e ∷ es) h = by (is_lt (path_cmp b e.0)) refl (more_above b p e
     by true s again = rw s (h.0, again)
     by false s again = rw s again
 
+-- b stands before all pairs that are behind b
 all_behind : (b : Path) (es : Pairs) → AllByRecursion (λ q. path_cmp b q ≡ Less) (keys_of (pairs_behind b es))
 all_behind b [] = tt
 all_behind b (e ∷ es) = by (is_lt (path_cmp b e.0)) refl (all_behind b es)
@@ -150,6 +154,7 @@ all_behind b (e ∷ es) = by (is_lt (path_cmp b e.0)) refl (all_behind b es)
     by true s again = rw s (lt_from (path_cmp b e.0) s, again)
     by false s again = rw s again
 
+-- where pairs ascend, those behind b do so too
 still_sorted : (b : Path) (es : Pairs) → IsStrictlySortedBy path_cmp (keys_of es) → IsStrictlySortedBy path_cmp (keys_of (pairs_behind b es))
 unfolding IsStrictlySortedBy
 still_sorted b [] h = tt
@@ -216,6 +221,7 @@ below_is_lines b es up =
 
 module _ (b p : Path) (m : NodeMetadata) (es left : Pairs) (before whole : List ℕ) (is : left ≡ (p, m) ∷ es)
     (h : IsStrictlySortedBy path_cmp (b ∷ keys_of left) × (before ++ lines b (pairs_below b left) ≡ whole)) where
+  -- b, p and the other paths ascend
   ascend : IsStrictlySortedBy path_cmp (b ∷ p ∷ keys_of es)
   ascend = subst (λ xs. IsStrictlySortedBy path_cmp (b ∷ keys_of xs)) is h.0
 
@@ -246,6 +252,7 @@ pub skips_root : (p : Path) (m : NodeMetadata) (es : Pairs) → p ≡ [] → pai
 skips_root [] m es e = refl
 skips_root (n ∷ p) m es e = absurd (not_below [] (n, p, sym e))
 
+-- a first pair whose path is not the root is the first of the pairs below the root
 pub takes_path : (p : Path) (m : NodeMetadata) (es : Pairs) → p ≢ [] → pairs_below [] ((p, m) ∷ es) ≡ (p, m) ∷ pairs_below [] es
 takes_path [] m es e = absurd (e refl)
 takes_path (n ∷ p) m es e = refl

@@ -68,6 +68,7 @@ module _ (s : Contents) (v : MetadataRetrieveVersion) where
     placed = h.placed;
   }
 
+  -- of a group both texts are the same behind their first lines
   group_agrees : (policy : UseConsolidatedMetadata) (b : Path) (m : NodeMetadata) (f : Forest) (h : Pairs) (t u : List ℕ)
       → IsTrue (is_group m) → IsClosedChoice (choice s policy b m) b → ShowsBelow s v policy b m f → t ≡ tree_text m f
       → Holds h (WithBase b m (PairsOf s v policy b m)) → IsTreeOf h b u

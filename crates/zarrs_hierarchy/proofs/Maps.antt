@@ -39,6 +39,7 @@ stands_before : (p : Path) (done : Pairs) (e : Path × NodeMetadata) (es : Pairs
 stands_before p [] e es h = h.0
 stands_before p (d ∷ done) e es h = stands_before p done e es h.1
 
+-- a path that comes later stands behind one that is before all of them
 stands_after : (p : Path) (done : Pairs) (e : Path × NodeMetadata) (es : Pairs) → AllByRecursion (λ q. path_cmp p q ≡ Less) (keys_of (done ++ e ∷ es)) → path_cmp e.0 p ≡ Greater
 stands_after p done e es h = path_total.antisymm e.0 p ∙ ap ordering_reverse (stands_before p done e es h)
 

@@ -16,6 +16,7 @@ use Rattle.zarrs_load.specs.StepsOfLoading.{AreFound}
 abbrev pub File : Type 0
 File = Segments × Vec ℕ Global
 
+-- the bytes are those of a file whose names are the text of the key
 abbrev pub Found : File → Type 0
 Found f = IsFound (key_text f.0) f.1.items
 
@@ -35,6 +36,7 @@ in_order files sorted items same is all = subst AreFound (sym is) (All-permutati
 pub first_found : (items left : List File) (f : File) → items ≡ f ∷ left → AreFound items → Found f
 first_found items left f is all = All-head Found f left (subst AreFound is all)
 
+-- where all files were found, those behind the first were
 pub rest_found : (items left : List File) (f : File) → items ≡ f ∷ left → AreFound items → AreFound left
 rest_found items left f is all = All-rest Found f left items is all
 

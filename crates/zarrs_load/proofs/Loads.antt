@@ -26,6 +26,7 @@ refused_members before after ms ReadTooLong end object within bad = absurd bad
 refused_members before after ms Image end object within bad = absurd bad
 refused_members before after ms Folder end object within bad = absurd bad
 
+-- an error that an object's members make no store is an image's fault
 pub refused_members_result : {T : Type 0} (before after : Option (List ℕ)) (ms : Members) (r : Result T LoadFault) → IsAtEnd after
     → IfSome before (IsObject ms) → IfSome before IsWithinBound → IfErr r (IsMemberFault (member_list ms)) → IfErr r (RefusedImage before after)
 refused_members_result before after ms (Ok x) end object within bad = tt

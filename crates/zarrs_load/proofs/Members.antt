@@ -19,9 +19,11 @@ use Rattle.zarrs_store.specs.Contents.{Values, HasKey}
 use Rattle.zarrs_load.specs.Image.{IsEntry, member_text, member_list, HoldsMembers, IsFirstBad}
 use Rattle.zarrs_load.proofs.StoreSteps.{at_key, keys_more}
 
+-- a member of an image: its name and its value
 abbrev pub Entry : Type 0
 Entry = String Global × Value
 
+-- the members by their names and data
 abbrev pub seen : List Entry → List (List ℕ × Data)
 seen es = member_list (members_view es)
 
@@ -77,6 +79,7 @@ text_at-push name (m ∷ ms) last d text is new = push_past (bytes_eq name m.0) 
 push_entry : (ms : List (List ℕ × Data)) (name : List ℕ) (value : Data) → All IsEntry ms → IsKeyText name → IsSome (as_str value) → All IsEntry (ms ++ (name, value) ∷ [])
 push_entry ms name value good key text = All-push IsEntry ms (name, value) good (key, text)
 
+-- a text that is there is some text
 some_text : (o : Option (List ℕ)) (text : List ℕ) → o ≡ Some text → IsSome o
 some_text o text is = rw is
 
@@ -93,6 +96,7 @@ holds_none all store is = rw is (record {
 })
 
 module _ {all rest : List Entry} {store : Values} (so_far : HoldsSoFar all rest store) (next : List Entry) (e : Entry) (first : rest ≡ e ∷ next) where
+  -- the members are those before, the member at hand, and those after it
   splits_here : all ≡ so_far.done ++ e ∷ next
   splits_here = so_far.splits ∙ ap (λ (r : List Entry). so_far.done ++ r) first
 

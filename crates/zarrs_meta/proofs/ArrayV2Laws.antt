@@ -179,39 +179,49 @@ module _ (numbers : Numbers) (m : ArrayMetadataV2) (plain : IsTrue (is_plain_arr
   pub has_format : get_member (codes "zarr_format") whole ≡ Some (number (unsigned 2))
   has_format = at (codes "zarr_format")
 
+  -- the shape is found
   pub has_shape : get_member (codes "shape") whole ≡ Some (list_data number_data m.shape)
   has_shape = at (codes "shape")
 
+  -- the shape reads again
   shape : required_member (codes "shape") (list_of number_u64) (object whole) ≡ Ok m.shape
   shape = rw (has_shape, list_again number_u64 number_data number_again m.shape) refl
 
+  -- the chunk shape reads again
   chunks : required_member (codes "chunks") chunk_lengths (object whole) ≡ Ok m.chunks
   chunks = let here : get_member (codes "chunks") whole ≡ Some (list_data number_data m.chunks) = at (codes "chunks") in rw (here, chunks_again m.chunks parts.0) refl
 
+  -- the data type reads again
   dtype : required_member (codes "dtype") data_type (object whole) ≡ Ok m.dtype
   dtype = let here : get_member (codes "dtype") whole ≡ Some (data_type_data m.dtype) = at (codes "dtype") in rw (here, data_type_again m.dtype) refl
 
+  -- the fill value reads again
   fill_value : required_member (codes "fill_value") any (object whole) ≡ Ok m.fill_value
   fill_value = let here : get_member (codes "fill_value") whole ≡ Some m.fill_value = at (codes "fill_value") in rw here refl
 
+  -- the order reads again
   array_order : required_member (codes "order") order (object whole) ≡ Ok m.order
   array_order = let here : get_member (codes "order") whole ≡ Some (order_data m.order) = at (codes "order") in rw (here, order_again m.order) refl
 
+  -- the compressor reads again
   compressor : optional_member (codes "compressor") None (nullable codec) (object whole) ≡ Ok m.compressor
   compressor =
       let here : get_member (codes "compressor") whole ≡ Some (nullable_data codec_data m.compressor) = at (codes "compressor") in
       rw (here, compressor_again numbers m.compressor parts.3) refl
 
+  -- the filters read again
   filters : optional_member (codes "filters") None (nullable (list_of codec)) (object whole) ≡ Ok m.filters
   filters =
       let here : get_member (codes "filters") whole ≡ Some (nullable_data (list_data codec_data) m.filters) = at (codes "filters") in
       rw (here, filters_again numbers m.filters parts.4) refl
 
+  -- the dimension separator reads again
   dimension_separator : optional_member (codes "dimension_separator") Dot separator (object whole) ≡ Ok m.dimension_separator
   dimension_separator =
       let here : get_member (codes "dimension_separator") whole ≡ Some (separator_data m.dimension_separator) = at (codes "dimension_separator") in
       rw (here, separator_again m.dimension_separator) refl
 
+  -- the attributes read again
   attributes : optional_member (codes "attributes") no_members as_object (object whole) ≡ Ok m.attributes
   attributes = ap (optional_found (codes "attributes") no_members as_object)
       (at (codes "attributes") ∙ ap (or_rest (unless (is_empty m.attributes) (object m.attributes))) (get-others array_v2_names (codes "attributes") m.additional_fields refl parts.7))

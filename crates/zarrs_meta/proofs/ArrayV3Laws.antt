@@ -96,40 +96,50 @@ module _ (m : ArrayMetadataV3) (no_own : has_own array_v3_names m.additional_fie
   pub has_format : get_member (codes "zarr_format") whole ≡ Some (number (unsigned 3))
   has_format = at (codes "zarr_format")
 
+  -- the kind of node is found
   pub has_kind : get_member (codes "node_type") whole ≡ Some (string (codes "array"))
   has_kind = at (codes "node_type")
 
+  -- the shape reads again
   shape : required_member (codes "shape") (list_of number_u64) (object whole) ≡ Ok m.shape
   shape = let here : get_member (codes "shape") whole ≡ Some (list_data number_data m.shape) = at (codes "shape") in rw (here, list_again number_u64 number_data number_again m.shape) refl
 
+  -- the data type reads again
   data_type : required_member (codes "data_type") extension (object whole) ≡ Ok m.data_type
   data_type = let here : get_member (codes "data_type") whole ≡ Some (extension_data m.data_type) = at (codes "data_type") in rw (here, extension_again m.data_type) refl
 
+  -- the chunk grid reads again
   chunk_grid : required_member (codes "chunk_grid") extension (object whole) ≡ Ok m.chunk_grid
   chunk_grid = let here : get_member (codes "chunk_grid") whole ≡ Some (extension_data m.chunk_grid) = at (codes "chunk_grid") in rw (here, extension_again m.chunk_grid) refl
 
+  -- the chunk key encoding reads again
   chunk_key_encoding : required_member (codes "chunk_key_encoding") extension (object whole) ≡ Ok m.chunk_key_encoding
   chunk_key_encoding =
       let here : get_member (codes "chunk_key_encoding") whole ≡ Some (extension_data m.chunk_key_encoding) = at (codes "chunk_key_encoding") in
       rw (here, extension_again m.chunk_key_encoding) refl
 
+  -- the fill value reads again
   fill_value : required_member (codes "fill_value") any (object whole) ≡ Ok m.fill_value
   fill_value = let here : get_member (codes "fill_value") whole ≡ Some m.fill_value = at (codes "fill_value") in rw here refl
 
+  -- the codecs read again
   codecs : required_member (codes "codecs") (list_of extension) (object whole) ≡ Ok m.codecs
   codecs =
       let here : get_member (codes "codecs") whole ≡ Some (list_data extension_data m.codecs) = at (codes "codecs") in
       rw (here, list_again extension extension_data extension_again m.codecs) refl
 
+  -- the attributes read again
   attributes : optional_member (codes "attributes") no_members as_object (object whole) ≡ Ok m.attributes
   attributes = ap (optional_found (codes "attributes") no_members as_object) (at (codes "attributes") ∙ ap (or_rest (unless (is_empty m.attributes) (object m.attributes))) (none_at (codes "attributes") refl))
       ∙ attributes_again m.attributes
 
+  -- the storage transformers read again
   transformers : optional_member (codes "storage_transformers") [] (list_of extension) (object whole) ≡ Ok m.storage_transformers
   transformers = ap (optional_found (codes "storage_transformers") [] (list_of extension))
       (at (codes "storage_transformers") ∙ ap (or_rest (unless (is_nil m.storage_transformers) (list_data extension_data m.storage_transformers))) (none_at (codes "storage_transformers") refl))
       ∙ transformers_again m.storage_transformers
 
+  -- the dimension names read again
   names : optional_member (codes "dimension_names") None (nullable (list_of (nullable as_str))) (object whole) ≡ Ok m.dimension_names
   names = ap (optional_found (codes "dimension_names") None (nullable (list_of (nullable as_str))))
       (at (codes "dimension_names") ∙ ap (or_rest (option_map (list_data (nullable_data string)) m.dimension_names)) (none_at (codes "dimension_names") refl))

@@ -46,29 +46,37 @@ is_document Whole m plain = rw (no_float-group_v2_tree m plain) refl
 is_document Any m plain = refl
 
 module _ (numbers : Numbers) (m : GroupMetadataV2) (plain : IsTrue (is_plain_group_v2_in numbers m)) where
+  -- the parts of being plain
   parts : PlainGroupV2In numbers m
   parts = plain_group_v2_in numbers m plain
 
+  -- the rows of the table
   abbrev rows : List (List ℕ × Option Data)
   rows = group_v2_rows m
 
+  -- the members of the written document
   abbrev whole : Members
   whole = put_rows rows m.additional_fields
 
+  -- what stands at a name: what its row says, else what the additional fields have
   at : (k : List ℕ) → get_member k whole ≡ found k rows (get_member k m.additional_fields)
   at k = get-put_rows k rows m.additional_fields
 
+  -- the format is found
   pub has_format : get_member (codes "zarr_format") whole ≡ Some (number (unsigned 2))
   has_format = at (codes "zarr_format")
 
+  -- no shape is found
   pub no_shape : get_member (codes "shape") whole ≡ None
   no_shape = at (codes "shape") ∙ get-others group_v2_names (codes "shape") m.additional_fields refl parts.2
 
+  -- the attributes read again
   attributes : optional_member (codes "attributes") no_members as_object (object whole) ≡ Ok m.attributes
   attributes = ap (optional_found (codes "attributes") no_members as_object)
       (at (codes "attributes") ∙ ap (or_rest (unless (is_empty m.attributes) (object m.attributes))) (get-others group_v2_names (codes "attributes") m.additional_fields refl parts.2))
       ∙ attributes_again m.attributes
 
+  -- the members with no own name are the additional fields
   others : besides group_v2_names whole ≡ m.additional_fields
   others = besides-put_rows group_v2_names rows m.additional_fields refl ∙ besides-others group_v2_names m.additional_fields parts.2
 

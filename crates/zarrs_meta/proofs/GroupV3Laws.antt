@@ -55,32 +55,41 @@ is_document Whole m plain = rw (no_float-group_v3_tree m plain) refl
 is_document Any m plain = refl
 
 module _ (numbers : Numbers) (m : GroupMetadataV3) (plain : IsTrue (is_plain_group_v3_in numbers m)) where
+  -- the parts of being plain
   parts : PlainGroupV3In numbers m
   parts = plain_group_v3_in numbers m plain
 
+  -- the rows of the table
   abbrev rows : List (List ℕ × Option Data)
   rows = group_v3_rows m
 
+  -- the members of the written document
   abbrev whole : Members
   whole = put_rows rows m.additional_fields
 
+  -- what stands at a name: what its row says, else what the additional fields have
   at : (k : List ℕ) → get_member k whole ≡ found k rows (get_member k m.additional_fields)
   at k = get-put_rows k rows m.additional_fields
 
+  -- the format is found
   pub has_format : get_member (codes "zarr_format") whole ≡ Some (number (unsigned 3))
   has_format = at (codes "zarr_format")
 
+  -- the kind of node is found
   pub has_kind : get_member (codes "node_type") whole ≡ Some (string (codes "group"))
   has_kind = at (codes "node_type")
 
+  -- the attributes read again
   attributes : optional_member (codes "attributes") no_members as_object (object whole) ≡ Ok m.attributes
   attributes = ap (optional_found (codes "attributes") no_members as_object)
       (at (codes "attributes") ∙ ap (or_rest (unless (is_empty m.attributes) (object m.attributes))) (get-others group_v3_names (codes "attributes") m.additional_fields refl parts.2))
       ∙ attributes_again m.attributes
 
+  -- no block that is null is found
   no_block : is_null (get_member (codes "consolidated_metadata") whole) ≡ false
   no_block = ap is_null (at (codes "consolidated_metadata")) ∙ parts.3
 
+  -- the members with no own name are the additional fields
   others : besides group_v3_names whole ≡ m.additional_fields
   others = besides-put_rows group_v3_names rows m.additional_fields refl ∙ besides-others group_v3_names m.additional_fields parts.2
 

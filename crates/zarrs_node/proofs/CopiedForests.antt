@@ -17,6 +17,7 @@ abbrev pub waiting : List Frame → ℕ
 waiting [] = 0
 waiting (o ∷ os) = (2 * weights o.after.now + 1) + waiting os
 
+-- with one more open node what is still to be done there is added
 waiting_push : (os : List Frame) (o : Frame) → waiting (os ++ o ∷ []) ≡ waiting os + (2 * weights o.after.now + 1)
 waiting_push [] o = omega arith
 waiting_push (x ∷ os) o = let h = waiting_push os o in omega arith

@@ -106,15 +106,19 @@ module _ (S T : Contents) (q : Path) (alike : T.numbers ≡ S.numbers) (same : (
   unfolding document_at
   document_same reading file in' = ap (document_from reading (q ++ file ∷ [])) (same file in')
 
+  -- `zarr.json` is one of the files
   first : Contains document_files zarr_json
   first = Contains-first zarr_json (zarray ∷ zgroup ∷ zattrs ∷ [])
 
+  -- `.zarray` is one of the files
   second : Contains document_files zarray
   second = Contains-cons zarr_json (zarray ∷ zgroup ∷ zattrs ∷ []) zarray (Contains-first zarray (zgroup ∷ zattrs ∷ []))
 
+  -- `.zgroup` is one of the files
   third : Contains document_files zgroup
   third = Contains-cons zarr_json (zarray ∷ zgroup ∷ zattrs ∷ []) zgroup (Contains-cons zarray (zgroup ∷ zattrs ∷ []) zgroup (Contains-first zgroup (zattrs ∷ [])))
 
+  -- `.zattrs` is one of the files
   fourth : Contains document_files zattrs
   fourth = Contains-cons zarr_json (zarray ∷ zgroup ∷ zattrs ∷ []) zattrs
       (Contains-cons zarray (zgroup ∷ zattrs ∷ []) zattrs (Contains-cons zgroup (zattrs ∷ []) zattrs (Contains-first zattrs [])))
@@ -124,10 +128,12 @@ module _ (S T : Contents) (q : Path) (alike : T.numbers ≡ S.numbers) (same : (
   unfolding zarr_json_line
   json_same after = λ i. version_3_line (document_same (of_bytes (zarr_json_in (alike i))) zarr_json first i) after
 
+  -- the line of `.zarray` says the same
   array_same : (after : Meaning) → zarray_line (in_bytes T.numbers) T.values q after ≡ zarray_line (in_bytes S.numbers) S.values q after
   unfolding zarray_line
   array_same after = (λ i. version_2_line (λ m. Array (array_v2 m)) array_with (document_same (of_bytes (array_v2_in (alike i))) zarray second i) (document_same (of_bytes (attributes_document_in (alike i))) zattrs fourth i) after)
 
+  -- the line of `.zgroup` says the same
   group_same : (after : Meaning) → zgroup_line (in_bytes T.numbers) T.values q after ≡ zgroup_line (in_bytes S.numbers) S.values q after
   unfolding zgroup_line
   group_same after = (λ i. version_2_line (λ m. Group (group_v2 m)) group_with (document_same (of_bytes (group_v2_in (alike i))) zgroup third i) (document_same (of_bytes (attributes_document_in (alike i))) zattrs fourth i) after)
@@ -198,6 +204,7 @@ module _ (from to : Path → Meaning) (b p : Path) (same : (q : Path) → q ≢ 
     between = λ r low up. (refl, group_elsewhere r (λ is. far (inr (subst (λ x. IsBelow x q) is up))) (h.between r low up).1);
   }
 
+  -- a pair that is kept elsewhere stays kept
   kept_elsewhere : (e : Path × NodeMetadata) → (AtOrBelow p e.0 → ⊥) → Kept (Means from) true b e → Kept (Means to) true b e
   kept_elsewhere e far h = (reached_elsewhere e.0 far h.0, same e.0 (λ is. far (inl is)) ∙ h.1)
 

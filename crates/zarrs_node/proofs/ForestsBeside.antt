@@ -34,6 +34,7 @@ pub Contains-first : {A : Type 0} (x : A) (xs : List A) → Contains (x ∷ xs) 
 Contains-first x xs = (0, omega arith, refl)
 
 module _ (b c : Path) (m : NodeMetadata) (below : Forest) where
+  -- a path that stands before a forest and before c stands before both, the tree of c behind the forest
   before_graft : (p : Path) (f : Forest) → IsBefore p f → path_cmp p c ≡ Less → IsBefore p (graft f (tree c m below none))
   before_graft p none h less = less
   before_graft p (tree q k deeper after) h less = h

@@ -69,12 +69,15 @@ one_listed_block S v b B C one two =
 
 module _ (S T : Contents) (v : MetadataRetrieveVersion) (b p : Path) (B C : Block) (valid : IsPath p) (low : IsBelow b p) (agrees : AgreesOutside p S T)
     (listed : IsListedBlock S v b B) (fresh : IsFresh (meaning T v) b B p C) (good : LeadsTo B b p → BadAnew T v p → ⊥) where
+  -- what paths mean after the change
   abbrev of : Path → Meaning
   of = meaning T v
 
+  -- what paths meant before it
   abbrev was : Path → Meaning
   was = meaning S v
 
+  -- each path but p means what it meant
   now_same : (q : Path) → q ≢ p → was q ≡ of q
   now_same q other = sym (elsewhere_same S T v p agrees q other)
 

@@ -68,6 +68,7 @@ module _ (roots ns : List Node) (parent x : Node) (v : Node-F Node) (some : 0 < 
   stem_after : stem_of (roll-Node v) ≡ record { path = (out-Node parent).path; metadata = (out-Node parent).metadata; below = graft (forest (out-Node parent).children.items) (plant x none) }
   stem_after = rolled v ∙ (λ i. record { path = p i; metadata = m i; below = (ap forest kids ∙ forest_push (out-Node parent).children.items x) i })
 
+  -- with the new last the forest is the old one with the node more below its last
   pub added_last : whole roots (set ns (length ns - 1) (roll-Node v)) ≡ with_tree roots ns (plant x none)
   added_last =
       ap (whole roots) after
@@ -90,6 +91,7 @@ module _ (roots ns : List Node) (parent x : Node) (v : Node-F Node) (some : 0 < 
   unfolding head_of stem_head
   head_after = ap stem_head stem_after
 
+  -- with the new last the nodes have the paths and metadata that they had
   pub heads_last : heads (set ns (length ns - 1) (roll-Node v)) ≡ heads ns
   unfolding head_of
   heads_last =

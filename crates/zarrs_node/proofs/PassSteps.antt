@@ -235,6 +235,7 @@ module _ (b : Path) (all done items left : List Pair) (e : Pair) (roots opened r
   ascends : Ascend (done ++ e ∷ left)
   ascends = subst Ascend (sym is ∙ ap (λ x. done ++ x) next) up
 
+  -- what the pass keeps true holds with one pair more
   pub turn : Holds b (done ++ e ∷ []) left roots2 opened2
   turn = holds_taken b done left e ascends roots1 opened1 roots2 opened2
       (holds_closed b done left e ascends roots opened roots1 opened1 (subst (λ x. Holds b done x roots opened) next h) same closed)

@@ -43,14 +43,17 @@ FoundHas P (Ok (Some d)) = P d
 FoundHas P (Err e) = Unit {0}
 
 module _ {D : Type 0} (P : D → Type 0) (form : Data → Result D MetadataFault) (reads : (d : Data) → Reads (form d) P) where
+  -- where what was read has P, the document has it
   named_has : (key : Segments) (r : Result D MetadataFault) → Reads r P → FoundHas P (document_or_fault key r)
   named_has key (Ok d) h = h
   named_has key (Err fault) h = tt
 
+  -- a document that was read of a tree has P
   tree_has : (key : Segments) (o : Option Data) → FoundHas P (document_or_fault key (tree_or_fault o >>= form))
   tree_has key None = tt
   tree_has key (Some d) = named_has key (form d) (reads d)
 
+  -- a document that was read of bytes has P
   bytes_have : (key : Segments) (o : Option (List ℕ)) → FoundHas P (document_from (of_bytes form) key o)
   bytes_have key None = tt
   bytes_have key (Some bytes) = tree_has key (json_of bytes)
@@ -84,19 +87,23 @@ module _ (s : Contents) (p : Path) where
   abbrev IsPlainHere : Meaning → Type 0
   IsPlainHere m = IsPlainMeaningIn s.numbers m
 
+  -- the attributes beside a document are plain
   beside : FoundHas (PlainAttributesIn s.numbers) (attributes_in (in_bytes s.numbers) s.values p)
   beside = document_has (PlainAttributesIn s.numbers) (attributes_document_in s.numbers) (attributes_plain_in s.numbers) s (p ++ zattrs ∷ [])
 
+  -- what `zarr.json` means is plain where what follows is
   at_zarr_json : (after : Meaning) → IsPlainHere after → IsPlainHere (zarr_json_line (in_bytes s.numbers) s.values p after)
   unfolding zarr_json_line
   at_zarr_json after rest = line_3 s.numbers _ after (document_has (PlainZarrJsonIn s.numbers) (zarr_json_in s.numbers) (zarr_json_plain_in s.numbers) s (p ++ zarr_json ∷ [])) rest
 
+  -- what `.zarray` means is plain where what follows is
   at_zarray : (after : Meaning) → IsPlainHere after → IsPlainHere (zarray_line (in_bytes s.numbers) s.values p after)
   unfolding zarray_line
   at_zarray after rest =
       line_2 s.numbers (arrays.PlainV2In s.numbers) (λ m. Array (array_v2 m)) array_with (λ m plain. plain) (λ a m fine plain. array_with_is_plain_in s.numbers a m fine plain) _ _ after
       (document_has (arrays.PlainV2In s.numbers) (array_v2_in s.numbers) (arrays.array_v2_plain_in s.numbers) s (p ++ zarray ∷ [])) beside rest
 
+  -- what `.zgroup` means is plain where what follows is
   at_zgroup : (after : Meaning) → IsPlainHere after → IsPlainHere (zgroup_line (in_bytes s.numbers) s.values p after)
   unfolding zgroup_line
   at_zgroup after rest =

@@ -78,6 +78,7 @@ count_cons p x xs = sum_by-cons (λ y. cond (p y) 1 0) x xs
 
 -- what passes one test passes another
 module _ {A : Type 0} (p q : A → Bool) (within : (x : A) → p x ≡ true → q x ≡ true) where
+  -- no more items pass the one test than pass the other
   count_le : (xs : List A) → count_by p xs ≤ count_by q xs
   count_le [] = omega arith
   count_le (x ∷ xs) = let a = one_le (p x) (q x) (within x) in let b = count_le xs in omega (arith, a, b, count_cons p x xs, count_cons q x xs)
@@ -101,10 +102,12 @@ any_in t (x ∷ xs) h = ⊎_elim (λ e. (x, Contains-first x xs, e)) (λ e. let 
 or_left : (a b : Bool) → a ≡ true → (a || b) ≡ true
 or_left a b h = subst (λ x. (x || b) ≡ true) (sym h) refl
 
+-- `||` is true where its second test is
 or_right : (a b : Bool) → b ≡ true → (a || b) ≡ true
 or_right true b h = refl
 or_right false b h = h
 
+-- where an item of a list passes a test, some item passes it
 in_any : {A : Type 0} (t : A → Bool) (xs : List A) (x : A) → Contains xs x → t x ≡ true → list_any t xs ≡ true
 in_any t [] x l h = absurd (omega (arith, l.1))
 in_any t (y ∷ xs) x l h = ⊎_elim (λ same. or_left (t y) (list_any t xs) (ap t same ∙ h)) (λ m. or_right (t y) (list_any t xs) (in_any t xs x m h)) (contains_cases y xs x l)

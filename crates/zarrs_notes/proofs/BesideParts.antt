@@ -116,9 +116,11 @@ one_more file n files less from up = (λ g h. later g (from g h), up)
 from_cons : (n : ℕ) (file : NodeFile) (files : List NodeFile) → n ≤ file_place file → ((g : NodeFile) → Contains files g → n ≤ file_place g) → (g : NodeFile) → Contains (file ∷ files) g → n ≤ file_place g
 from_cons n file files here rest g h = ⊎_elim (λ same. subst (λ x. n ≤ file_place x) same here) (rest g) (in_cases file files g h)
 
+-- each of no documents has a place from n on
 from_none : (n : ℕ) (g : NodeFile) → Contains [] g → n ≤ file_place g
 from_none n g h = absurd (none_in g h)
 
+-- no documents ascend
 none_ascend : FilesAscend []
 unfolding FilesAscend
 none_ascend = tt

@@ -45,6 +45,7 @@ field_place p name = by (bytes_eq name block_name)
     by true = refl
     by false = refl
 
+-- a finding of a field is of the field of that name
 pub field_is : (p : Path) (name : List ℕ) → field_of (field_finding p name) ≡ name
 field_is p name = by (bytes_eq name block_name) refl
   where
@@ -67,6 +68,7 @@ below_absent q (e ∷ es) h = let less : cmp q (string_bytes e.0) ≡ Less = h.0
 first_found : (e : Entry) (es : List Entry) → get_member (string_bytes e.0) (members_of (e ∷ es)) ≡ Some e.1
 first_found e es = let tied : cmp (string_bytes e.0) (string_bytes e.0) ≡ Equal = tied_itself nat_list_cmp_total (string_bytes e.0) in rw tied refl
 
+-- a field that is found is the first, with its value, or is found among the others
 found_cases : (q : List ℕ) (e : Entry) (es : List Entry) (d : Data) → get_member q (members_of (e ∷ es)) ≡ Some d → ((q ≡ string_bytes e.0) × (e.1 ≡ d)) ⊎ (get_member q (members_of es) ≡ Some d)
 found_cases q e es d h = by (cmp q (string_bytes e.0)) refl h
   where

@@ -41,9 +41,11 @@ zero_found (n ∷ ns) h = by (n == 0) refl (zero_found ns) (in_cases n ns 0 h)
 abbrev OfRank : ℕ → Option (List ℕ) → NodeFinding → Type 0
 OfRank r o f = (lengths : List ℕ) × (o ≡ Some lengths) × (length lengths ≢ r) × (f ≡ GridRank (length lengths) r)
 
+-- what there is to tell of lengths of which one is 0
 abbrev OfZero : Option (List ℕ) → NodeFinding → Type 0
 OfZero o f = (lengths : List ℕ) × (o ≡ Some lengths) × Contains lengths 0 × (f ≡ ZeroLength)
 
+-- what there is to tell of dimension names that are not as many as the lengths of the shape
 abbrev OfNames : ℕ → Option (List (Option (List ℕ))) → NodeFinding → Type 0
 OfNames r o f = (names : List (Option (List ℕ))) × (o ≡ Some names) × (length names ≢ r) × (f ≡ NameCount (length names) r)
 

@@ -22,12 +22,14 @@ strictly_from_pairs R (x ∷ xs) pairs = (
   strictly_from_pairs R xs (λ i j d h l. pairs (suc i) (suc j) d (omega arith) (omega arith)),
 )
 
+-- the reverse of an order that is neither `Less` nor `Equal` is `Less`
 less_left : (r s : Ordering) → s ≡ ordering_reverse r → is_lt r ≡ false → is_eq r ≡ false → s ≡ Less
 less_left Less s e p q = cc
 less_left Equal s e p q = cc
 less_left Greater s e p q = e
 
 module _ {K : Type 0} {R : K → K → Ordering} (o : IsTotalOrder R) (same : IsAntisymmetric R) where
+  -- items that differ are not tied
   untied : (x y : K) → x ≢ y → eq_by_cmp R x y ≡ false
   untied x y n = elim (R x y) as (λ r. R x y ≡ r → is_eq r ≡ false) [
     | Less ↦ λ _. refl

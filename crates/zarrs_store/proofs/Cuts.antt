@@ -26,15 +26,18 @@ nonempty_from (b ∷ bs) h e = cc
 
 -- ---- the parts between slashes
 
+-- where a byte was put onto the first part, there is a part
 onto_first_some : (x : ℕ) (ps : List (List ℕ)) → onto_first x ps ≢ []
 onto_first_some x [] e = cc
 onto_first_some x (p ∷ ps) e = cc
 
+-- each text has at least one part
 pub parts_some : (bs : List ℕ) → slice_split is_slash bs ≢ []
 parts_some [] e = cc
 parts_some (b ∷ bs) e =
     elim (is_slash b) as (λ t. cond t ([] ∷ slice_split is_slash bs) (onto_first b (slice_split is_slash bs)) ≢ []) [ true ↦ λ e. cc | false ↦ onto_first_some b (slice_split is_slash bs) ] e
 
+-- of two lists of parts the byte goes onto the first of the first list, where that has one
 onto_first-append : (x : ℕ) (ps qs : List (List ℕ)) → ps ≢ [] → onto_first x (ps ++ qs) ≡ onto_first x ps ++ qs
 onto_first-append x [] qs some = absurd (some refl)
 onto_first-append x (p ∷ ps) qs some = refl
@@ -56,6 +59,7 @@ parts_one (b ∷ s) h =
     let both = and_parts _ _ h in
     slice_split-cons_no is_slash b s (not-true _ both.0) ∙ rw (parts_one s both.1)
 
+-- parts without a slash stay so where a byte that is no slash is put onto the first
 onto_first_clean : (b : ℕ) (ps : List (List ℕ)) → IsTrue (not (is_slash b)) → IsTrue (list_all has_no_slash ps) → IsTrue (list_all has_no_slash (onto_first b ps))
 onto_first_clean b [] n h = and_from _ _ (and_from _ _ n refl) refl
 onto_first_clean b (p ∷ ps) n h = let both = and_parts _ _ h in and_from _ _ (and_from _ _ n both.0) both.1
@@ -78,10 +82,12 @@ parts-join (s ∷ t ∷ p) some h =
 
 -- ---- tests of all segments
 
+-- the test that a text's length is not 0 is the test that the text is not empty
 pub nonempty_is : (s : List ℕ) → not (length s == 0) ≡ is_nonempty s
 nonempty_is [] = refl
 nonempty_is (b ∷ s) = let e : (length s + 1 == 0) ≡ false = ne_eqb _ _ (λ z. omega arith) in rw (← add-one, e)
 
+-- texts that are not empty and hold no slash are segments
 pub segments_from_both : (p : List (List ℕ)) → IsTrue (list_all is_nonempty p) → IsTrue (list_all has_no_slash p) → IsSegments p
 segments_from_both [] n h = refl
 segments_from_both (s ∷ p) n h =
@@ -89,18 +95,22 @@ segments_from_both (s ∷ p) n h =
     let clean = and_parts _ _ h in
     and_from _ _ (and_from _ _ some.0 clean.0) (segments_from_both p some.1 clean.1)
 
+-- segments are not empty
 pub segments_nonempty : (p : List (List ℕ)) → IsSegments p → IsTrue (list_all is_nonempty p)
 segments_nonempty [] h = refl
 segments_nonempty (s ∷ p) h = let both = and_parts _ _ h in and_from _ _ (and_parts _ _ both.0).0 (segments_nonempty p both.1)
 
+-- segments hold no slash
 pub segments_clean : (p : List (List ℕ)) → IsSegments p → IsTrue (list_all has_no_slash p)
 segments_clean [] h = refl
 segments_clean (s ∷ p) h = let both = and_parts _ _ h in and_from _ _ (and_parts _ _ both.0).1 (segments_clean p both.1)
 
+-- where no text is empty, leaving out the empty ones leaves them all
 pub filter_nonempty : (p : List (List ℕ)) → IsTrue (list_all is_nonempty p) → filter is_nonempty p ≡ p
 filter_nonempty [] h = refl
 filter_nonempty (s ∷ p) h = let both = and_parts (is_nonempty s) (list_all is_nonempty p) h in rw (both.0, filter_nonempty p both.1)
 
+-- the texts of two lists that are not empty are those of the first, and then those of the second
 filter-append : (ps qs : List (List ℕ)) → filter is_nonempty (ps ++ qs) ≡ filter is_nonempty ps ++ filter is_nonempty qs
 filter-append [] qs = refl
 filter-append (p ∷ ps) qs =
@@ -109,6 +119,7 @@ filter-append (p ∷ ps) qs =
 
 -- ---- the segments of a text
 
+-- the empty text has no segments
 pub segments_of-nil : segments_of [] ≡ []
 unfolding segments_of
 segments_of-nil = refl
@@ -118,6 +129,7 @@ pub segments_of-append : (xs ys : List ℕ) → segments_of (xs ++ 47 ∷ ys) �
 unfolding segments_of
 segments_of-append xs ys = rw (parts-append xs ys) (filter-append (slice_split is_slash xs) (slice_split is_slash ys))
 
+-- a segment, as a text, has itself as its only segment
 pub segments_of_one : (s : List ℕ) → IsTrue (is_segment s) → segments_of s ≡ s ∷ []
 unfolding segments_of
 segments_of_one s h = let both = and_parts (is_nonempty s) (has_no_slash s) h in rw (parts_one s both.1, both.0)
@@ -126,6 +138,7 @@ segments_of_one s h = let both = and_parts (is_nonempty s) (has_no_slash s) h in
 pub prefix_text-cons : (s : List ℕ) (p : Segments) → prefix_text (s ∷ p) ≡ s ++ 47 ∷ prefix_text p
 prefix_text-cons s p = append_assoc s (47 ∷ []) (prefix_text p)
 
+-- the segments of a prefix's text are the prefix
 pub segments_of-prefix_text : (p : Segments) → IsSegments p → segments_of (prefix_text p) ≡ p
 segments_of-prefix_text [] h = segments_of-nil
 segments_of-prefix_text (s ∷ p) h =
@@ -134,27 +147,32 @@ segments_of-prefix_text (s ∷ p) h =
 
 -- ---- segments as a test, and as a record
 
+-- a segment passes the test of segments
 pub segment_test : (s : List ℕ) → IsSegment s → IsTrue (is_segment s)
 segment_test s h =
     and_from (is_nonempty s) (has_no_slash s) (is_nonempty-true s h.nonempty)
     (list_all-from_AllPass (λ b. not (is_slash b)) s (λ k d l. ap not (ne_eqb _ 47 (h.no_slash k d l))))
 
+-- what passes the test of segments is a segment
 pub segment_of_test : (s : List ℕ) → IsTrue (is_segment s) → IsSegment s
 segment_of_test s h =
     let both = and_parts (is_nonempty s) (has_no_slash s) h in
     record { nonempty = nonempty_from s both.0; no_slash = λ k d l. eqb-false _ 47 (not-true _ (AllPass-from_list_all (λ b. not (is_slash b)) s both.1 k d l)) }
 
+-- where each is a segment, all pass the test
 pub segments_test : (p : Segments) → All IsSegment p → IsSegments p
 segments_test [] h = refl
 segments_test (s ∷ p) h =
     and_from (is_segment s) (list_all is_segment p) (segment_test s (All-head IsSegment s p h)) (segments_test p (All-tail IsSegment s p h))
 
+-- where all pass the test, each is a segment
 pub segments_of_test : (p : Segments) → IsSegments p → All IsSegment p
 segments_of_test [] h = All-nil IsSegment
 segments_of_test (s ∷ p) h =
     let both = and_parts (is_segment s) (list_all is_segment p) h in
     All-cons IsSegment s p (segment_of_test s both.0) (segments_of_test p both.1)
 
+-- the segments of a key's text are the key
 pub segments_of-key_text : (p : Segments) → IsKey p → segments_of (key_text p) ≡ p
 unfolding segments_of
 segments_of-key_text p h =

@@ -60,6 +60,7 @@ digits_least n (suc k) h =
 pub record Halved (n count left : ℕ) : Type 0 where
   pub rounds : (k : ℕ) → n < 2 ^ k → (r : ℕ) × (count + r ≡ k) × (left < 2 ^ r)
 
+-- where something is left and fits into the rounds to come, at most half of it fits into one round less
 halve : (count k left less r : ℕ) → count + r ≡ k → left < 2 ^ r → zero < left → less ≤ left / 2 → (s : ℕ) × ((count + 1) + s ≡ k) × (less < 2 ^ s)
 halve count k left less zero e h some small = absurd (omega (arith, h, some, pow-zero 2))
 halve count k left less (suc r) e h some small = (r, omega (arith, e), omega (arith, h, small, pow-succ' 2 r))
@@ -155,11 +156,13 @@ halving_step : (count found left more less : ℕ) → IsHalving count found left
 halving_step count found left more less h some le small = halve_more count h.power h.rounds found left more less h.least h.together h.enough h.near some le small
 
 module _ (count found left step : ℕ) (h : Galloped count found left) (some : zero < left) (is : step ≡ min (found - 1) (left / 2)) where
+  -- where what is left is halved, it is halved by a step past what was found
   halved_past : (more less : ℕ) → more ≡ found + step + 1 → less + step + 1 ≡ left → IsHalving count found left → Galloped (count + 1) more less
   halved_past more less e f halving =
       let near = halving.near in
       record { phase = inr (halving_step count found left more less halving some (omega (arith, e)) (omega (arith, is, f, near, some))) }
 
+  -- where what is left is halved, it is halved by a step that finds no more
   halved_behind : (less : ℕ) → less ≡ step → IsHalving count found left → Galloped (count + 1) found less
   halved_behind less e halving =
       let near = halving.near in

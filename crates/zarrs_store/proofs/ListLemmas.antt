@@ -38,6 +38,7 @@ once_from_sorted {R = R} o xs up =
     cc
 
 module _ {X : Type 0} (f : X → List ℕ) where
+  -- the key at a place of the keys is found
   found_at : (q : Segments) (es : List (Segments × X)) (k : ℕ) → k < length (keys_of es) → get_or (keys_of es) k q ≡ q → is_some (finite.find key_cmp q (shown f es)) ≡ true
   found_at q [] k l e = absurd (omega arith)
   found_at q (x ∷ es) zero l e =
@@ -48,6 +49,7 @@ module _ {X : Type 0} (f : X → List ℕ) where
         | false ↦ found_at q es k (omega arith) e
       ]
 
+  -- a key that is found is one of the keys
   listed_from : (q : Segments) (es : List (Segments × X)) → is_some (finite.find key_cmp q (shown f es)) ≡ true → Contains (keys_of es) q
   listed_from q [] e = cc
   listed_from q (x ∷ es) e =
@@ -83,10 +85,12 @@ module _ {X : Type 0} (f : X → List ℕ) where
       complete = λ q h. let t = tells q h in Contains-filter p (keys_of es) q (is_listed q t.0) t.1;
     }
 
+-- where an option has segments, there are the segments that it has
 below_is : (o : Option Segments) → is_some o ≡ true → (r : Segments) × (o ≡ Some r)
 below_is None e = cc
 below_is (Some r) e = (r, refl)
 
+-- where an option has just one segment, there is the name that it has
 one_is : (o : Option Segments) → is_one o ≡ true → (n : List ℕ) × (o ≡ Some (n ∷ []))
 one_is None e = cc
 one_is (Some []) e = cc
@@ -94,6 +98,7 @@ one_is (Some (n ∷ [])) e = (n, refl)
 one_is (Some (n ∷ m ∷ r)) e = cc
 
 module _ {X : Type 0} (f : X → List ℕ) (es : List (Segments × X)) (p : Segments) (up : IsStrictlySortedBy text_cmp (keys_of es)) where
+  -- the keys that pass the test are those below the prefix, each once
   pub Lists-below : Lists (IsKeyBelow (finite.from_entries {R = key_cmp} (shown f es)) p) (filter (is_below p) (keys_of es))
   Lists-below =
       Lists-filter f es (IsKeyBelow (finite.from_entries {R = key_cmp} (shown f es)) p) (is_below p)
@@ -104,6 +109,7 @@ module _ {X : Type 0} (f : X → List ℕ) (es : List (Segments × X)) (p : Segm
       (λ q h. (h.held, ap is_some (ap (beyond p) h.is ∙ beyond-append p h.first h.rest)))
       up
 
+  -- the keys that pass its test are those directly below the prefix, each once
   pub Lists-child_keys : Lists (IsChildKey (finite.from_entries {R = key_cmp} (shown f es)) p) (filter (is_child_key p) (keys_of es))
   Lists-child_keys =
       Lists-filter f es (IsChildKey (finite.from_entries {R = key_cmp} (shown f es)) p) (is_child_key p)
@@ -125,6 +131,7 @@ module _ {X Y : Type 0} (h : X → Option Y) where
         | Some y ↦ λ e. All-cons P y (filter_map h xs) (gives x y (All-head Q x xs all) e) rest
       ] refl
 
+  -- what a function gives of an item at a place is in what it gives of the list
   in_filter_map : (xs : List X) (x : X) (y : Y) (k : ℕ) → k < length xs → get_or xs k x ≡ x → h x ≡ Some y → Contains (filter_map h xs) y
   in_filter_map [] x y k l e s = absurd (omega arith)
   in_filter_map (z ∷ xs) x y zero l e s =
@@ -143,6 +150,7 @@ module _ {X Y : Type 0} (h : X → Option Y) where
 abbrev slashed : List ℕ → List ℕ
 slashed n = n ++ 47 ∷ []
 
+-- the order of names as child prefixes
 abbrev name_cmp : List ℕ → List ℕ → Ordering
 name_cmp = on slashed bytes_cmp
 
@@ -157,9 +165,11 @@ slashed_eq m n =
       ] refl
     ] refl
 
+-- two names are equal just where this order ties them
 name_ties : (m n : List ℕ) → bytes_eq m n ≡ eq_by_cmp name_cmp m n
 name_ties m n = slashed_eq m n ∙ texts_ties (slashed m) (slashed n)
 
+-- three orders one after another decide the same, in whichever way they are put together
 then_assoc : (a b c : Ordering) → ordering_then (ordering_then a b) c ≡ ordering_then a (ordering_then b c)
 then_assoc Less b c = refl
 then_assoc Equal b c = refl
@@ -188,6 +198,7 @@ same_start : (p a b : List ℕ) → bytes_cmp (p ++ a) (p ++ b) ≡ bytes_cmp a 
 same_start [] a b = refl
 same_start (c ∷ p) a b = ap (λ o. ordering_then o (bytes_cmp (p ++ a) (p ++ b))) (tied_itself nat_cmp_total c) ∙ same_start p a b
 
+-- where two orders one after the other give `Less`, the reverse of the first is not `Less`
 first_not_greater : (a b : Ordering) → ordering_then a b ≡ Less → is_lt (ordering_reverse a) ≡ false
 first_not_greater Less b e = refl
 first_not_greater Equal b e = refl
@@ -199,6 +210,7 @@ pub record IsIn (p k : Segments) (name : List ℕ) : Type 0 where
   pub rest : Segments
   pub is : k ≡ p ++ name ∷ next ∷ rest
 
+-- segments of which a name is the first of more are the name, another segment and the rest
 first_of_more_is : (t : Segments) (name : List ℕ) → first_of_more (Some t) ≡ Some name → (next : List ℕ) × (rest : Segments) × (t ≡ name ∷ next ∷ rest)
 first_of_more_is [] name e = cc
 first_of_more_is (n ∷ []) name e = cc
@@ -247,6 +259,7 @@ names_sorted p (k ∷ ks) up keys =
           rest
     ] refl
 
+-- names that make the same child of a prefix are one
 child_injective : (p : Segments) (m n : List ℕ) → child_of p m ≡ child_of p n → m ≡ n
 child_injective p m n e = let f : m ∷ [] ≡ n ∷ [] = append_cancel_left p (m ∷ []) (n ∷ []) e in cc
 
@@ -263,9 +276,11 @@ Contains-map : {X Y : Type 0} (g : X → Y) (xs : List X) (x : X) → Contains x
 Contains-map g xs x (k, lt, e) = let long = length-map xs g in (k, omega (arith, lt, long), get_or-map g xs k x (g x) lt ∙ ap g e)
 
 module _ {X : Type 0} (f : X → List ℕ) (es : List (Segments × X)) (p : Segments) (keys : HoldsKeys es) (up : IsStrictlySortedBy text_cmp (keys_of es)) where
+  -- the store has the key
   abbrev held : Segments → Type 0
   held = HasKey (finite.from_entries {R = key_cmp} (shown f es))
 
+  -- the store has the key, and it is one of segments
   record IsHeld (k : Segments) : Type 0 where
     is_held : held k
     is_key : IsKey k
@@ -278,6 +293,7 @@ module _ {X : Type 0} (f : X → List ℕ) (es : List (Segments × X)) (p : Segm
   abbrev names : List (List ℕ)
   names = filter_map (child_name p) (keys_of es)
 
+  -- the child of this name is a child prefix
   abbrev IsGood : List ℕ → Type 0
   IsGood n = IsChildPrefix (finite.from_entries {R = key_cmp} (shown f es)) p (child_of p n)
 
@@ -287,6 +303,7 @@ module _ {X : Type 0} (f : X → List ℕ) (es : List (Segments × X)) (p : Segm
       let g = is_in p k n e in
       record { name = n; is = refl; has = record { next = g.next; rest = g.rest; held = subst held g.is h.is_held } }
 
+  -- the child of each of the names is a child prefix
   all_good : All IsGood names
   all_good = All-filter_map (child_name p) IsHeld IsGood good (keys_of es) all_keys
 

@@ -103,16 +103,19 @@ turned : (a b : Segments) (r : Ordering) → text_cmp a b ≡ r → text_cmp b a
 turned a b r e = text_cmp_total.antisymm b a ∙ ap ordering_reverse e
 
 module _ {X : Type 0} (es : List (Segments × X)) (up : AreAscending es) (key : Segments) (middle : ℕ) (x : Segments × X) (is : x ≡ get_or es middle x) (inside : middle < length es) where
+  -- where the key in the middle is smaller, all keys up to it are
   pub smaller_step : text_cmp x.0 key ≡ Less → All (λ e. text_cmp e.0 key ≡ Less) (take (middle + 1) es)
   smaller_step h =
       all_before (λ e. text_cmp e.0 key ≡ Less) es (middle + 1) (omega (arith, inside))
       (up_to es up middle x is inside (λ e. text_cmp e.0 key ≡ Less) h (λ a less. text_cmp_total.trans a.0 x.0 key less h))
 
+  -- where the key in the middle is greater, all keys from it on are
   pub greater_step : text_cmp x.0 key ≡ Greater → All (λ e. text_cmp e.0 key ≡ Greater) (drop middle es)
   greater_step h =
       all_from (λ e. text_cmp e.0 key ≡ Greater) es middle (omega (arith, inside))
       (on_from es up middle x is inside (λ e. text_cmp e.0 key ≡ Greater) h (λ a less. turned key a.0 Less (text_cmp_total.trans key x.0 a.0 (turned x.0 key Greater h) less)))
 
+  -- where the key in the middle is equal, the key stands there
   pub found_there : IsKey key → text_cmp x.0 key ≡ Equal → IsKeyAt (keys_of es) key middle
   found_there valid h =
       let own = subst (λ (e : Segments × X). IsKey e.0) (sym is) (up.valid middle x inside) in
@@ -149,10 +152,12 @@ module _ {X : Type 0} (es : List (Segments × X)) where
 all_inserted : {K : Type 0} (P : K → Type 0) (ks : List K) (i : ℕ) (k : K) → All P ks → P k → All P (insert ks i k)
 all_inserted P ks i k h one = All-append P (take i ks) (k ∷ drop i ks) (All-take P i ks h) (All-cons P k (drop i ks) one (All-drop P i ks h))
 
+-- what holds of all items holds of all when one was removed
 all_removed : {K : Type 0} (P : K → Type 0) (ks : List K) (i : ℕ) → All P ks → All P (remove ks i)
 all_removed P ks i h = All-append P (take i ks) (drop (suc i) ks) (All-take P i ks h) (All-drop P (suc i) ks h)
 
 module _ {K : Type 0} (R : K → K → Ordering) where
+  -- what ascends, and has all that is smaller before a place and all that is greater from it on, ascends with a key there
   sorted_inserted : (ks : List K) (i : ℕ) (k : K) → IsStrictlySortedBy R ks → All (λ x. R x k ≡ Less) (take i ks) → All (λ x. R k x ≡ Less) (drop i ks) → IsStrictlySortedBy R (insert ks i k)
   unfolding IsStrictlySortedBy
   sorted_inserted ks zero k up smaller greater = (recursion_from_All (λ x. R k x ≡ Less) ks greater, up)
@@ -162,6 +167,7 @@ module _ {K : Type 0} (R : K → K → Ordering) where
     sorted_inserted ks i k (sorted_tail R x ks up) (All-tail (λ x. R x k ≡ Less) x (take i ks) smaller) greater,
   )
 
+  -- what ascends does so without the item at a place
   sorted_removed : (ks : List K) (i : ℕ) → IsStrictlySortedBy R ks → IsStrictlySortedBy R (remove ks i)
   unfolding IsStrictlySortedBy
   sorted_removed [] zero up = tt
@@ -173,17 +179,20 @@ module _ {K : Type 0} (R : K → K → Ordering) where
   )
 
 module _ {X : Type 0} where
+  -- the keys of entries with one more are the keys with its key more
   keys_of-inserted : (es : List (Segments × X)) (i : ℕ) (k : Segments) (v : X) → keys_of (insert es i (k, v)) ≡ insert (keys_of es) i k
   keys_of-inserted es zero k v = refl
   keys_of-inserted [] (suc i) k v = refl
   keys_of-inserted (e ∷ es) (suc i) k v = ap (λ x. e.0 ∷ x) (keys_of-inserted es i k v)
 
+  -- the keys of entries without one are the keys without its key
   keys_of-removed : (es : List (Segments × X)) (i : ℕ) → keys_of (remove es i) ≡ remove (keys_of es) i
   keys_of-removed [] zero = refl
   keys_of-removed [] (suc i) = refl
   keys_of-removed (e ∷ es) zero = refl
   keys_of-removed (e ∷ es) (suc i) = ap (λ x. e.0 ∷ x) (keys_of-removed es i)
 
+  -- the keys of entries are the same where one has another value
   keys_of-set : (es : List (Segments × X)) (i : ℕ) (d : Segments × X) (v : X) → i < length es → keys_of (set es i ((get_or es i d).0, v)) ≡ keys_of es
   keys_of-set [] i d v lt = absurd (omega (arith, lt))
   keys_of-set (e ∷ es) zero d v lt = refl
@@ -195,6 +204,7 @@ module _ {X : Type 0} where
 abbrev ties : Segments → Segments → Bool
 ties = eq_by_cmp text_cmp
 
+-- ties of keys by their texts are an equivalence
 laws : IsEquivalence ties
 laws = eq_by_cmp_equiv text_cmp_total
 
@@ -376,5 +386,6 @@ none_ascend es is = subst AreAscending (sym is) (record { valid = All-nil (λ e.
 pub at_ok : (P : ℕ → Type 0) (r : Result ℕ ℕ) (i : ℕ) → r ≡ Ok i → IfOk r P → P i
 at_ok P r i is h = subst (λ o. IfOk o P) is h
 
+-- what holds of the place where none was found holds of that place
 pub at_err : (P : ℕ → Type 0) (r : Result ℕ ℕ) (i : ℕ) → r ≡ Err i → IfErr r P → P i
 at_err P r i is h = subst (λ o. IfErr o P) is h

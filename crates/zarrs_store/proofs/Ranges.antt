@@ -95,6 +95,7 @@ below_earlier p k q valid key from inside less =
 before_earlier : (p k q : Segments) → text_cmp k q ≡ Less → is_before p q ≡ true → is_before p k ≡ true
 before_earlier p k q less before = ap is_lt (nat_list_cmp_total.trans (key_text k) (key_text q) (prefix_text p) less (less_of _ before))
 
+-- a key that is greater than one not before the prefix is not before it
 not_before_later : (p k q : Segments) → text_cmp k q ≡ Less → is_before p k ≡ false → is_before p q ≡ false
 not_before_later p k q less from =
     elim (is_before p q) as (λ b. is_before p q ≡ b → b ≡ false) [
@@ -103,11 +104,13 @@ not_before_later p k q less from =
     ] refl
 
 module _ {X : Type 0} (es : List (Segments × X)) (up : AreAscending es) (p : Segments) (middle : ℕ) (x : Segments × X) (is : x ≡ get_or es middle x) (inside : middle < length es) where
+  -- where the key in the middle is before the prefix, all keys up to it are
   pub before_step : is_before p x.0 ≡ true → All (λ e. is_before p e.0 ≡ true) (take (middle + 1) es)
   before_step h =
       all_before (λ e. is_before p e.0 ≡ true) es (middle + 1) (omega (arith, inside))
       (up_to es up middle x is inside (λ e. is_before p e.0 ≡ true) h (λ a less. before_earlier p a.0 x.0 less h))
 
+  -- where the key in the middle is not before the prefix, no key from it on is
   pub from_step : is_before p x.0 ≡ false → All (λ e. is_before p e.0 ≡ false) (drop middle es)
   from_step h =
       all_from (λ e. is_before p e.0 ≡ false) es middle (omega (arith, inside))
@@ -133,9 +136,11 @@ module _ {X : Type 0} (es : List (Segments × X)) (up : AreAscending es) (p : Se
 
 -- what both searches give
 module _ {X : Type 0} (es : List (Segments × X)) (p : Segments) where
+  -- the keys between two places are those of the entries between them
   keys_between : (i j : ℕ) → slice_range (keys_of es) i j ≡ keys_of (slice_range es i j)
   keys_between i j = ap (take (j - i)) (drop-map (λ (e : Segments × X). e.0) i es) ∙ take-map (λ (e : Segments × X). e.0) (j - i) (drop i es)
 
+  -- places between which all keys are below the prefix, behind keys before it and ahead of keys not below, are its range
   pub range_is : (first end : ℕ) → first ≤ end → end ≤ length es → All (λ e. is_before p e.0 ≡ true) (take first es)
       → All (λ e. is_below p e.0 ≡ true) (slice_range es first end) → All (λ e. is_below p e.0 ≡ false) (drop end es) → IsRange (keys_of es) p first end
   range_is first end ordered inside before within behind = record {
@@ -165,6 +170,7 @@ filter_all t (x ∷ xs) h =
     ap (λ b. cond b (x ∷ filter t xs) (filter t xs)) (All-head (λ x. t x ≡ true) x xs h) ∙ ap (λ r. x ∷ r) (filter_all t xs (All-tail (λ x. t x ≡ true) x xs h))
 
 module _ {X Y : Type 0} (f : X → Y) (es : List (Segments × X)) (p : Segments) (first end : ℕ) (range : IsRange (keys_of (shown f es)) p first end) where
+  -- the range is that of the keys of the entries
   own : IsRange (keys_of es) p first end
   own = subst (λ ks. IsRange ks p first end) (keys_of-shown f es) range
 
@@ -172,9 +178,11 @@ module _ {X Y : Type 0} (f : X → Y) (es : List (Segments × X)) (p : Segments)
   abbrev ks : List Segments
   ks = keys_of (slice_range es first end)
 
+  -- the keys in the range are below the prefix
   within : All (λ k. is_below p k ≡ true) ks
   within = subst (All (λ k. is_below p k ≡ true)) (keys_between es p first end) own.within
 
+  -- the keys are those before the range, those in it and those behind it
   whole : keys_of es ≡ take first (keys_of es) ++ (ks ++ drop end (keys_of es))
   whole = split_between (keys_of es) first end own.ordered ∙ ap (λ x. take first (keys_of es) ++ (x ++ drop end (keys_of es))) (keys_between es p first end)
 

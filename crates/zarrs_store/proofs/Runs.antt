@@ -109,9 +109,11 @@ module _ {X : Type 0} (es : List (Segments × X)) (p : Segments) (n : List ℕ) 
       ap (λ r. keys_of r) (sym (take-append-drop (end - j) (drop j es)) ∙ ap (λ r. slice_range es j end ++ r) (drop-drop (end - j) j es ∙ ap (λ k. drop k es) same))
       ∙ map-append (λ (e : Segments × X). e.0) (slice_range es j end) (drop end es)
 
+  -- the keys of the stretch are below the child
   keys_run : All (λ k. is_below (child_of p n) k ≡ true) (keys_of (slice_range es j end))
   keys_run = All-map (λ k. is_below (child_of p n) k ≡ true) (λ (e : Segments × X). e.0) (slice_range es j end) run
 
+  -- the keys of the rest are not below the child
   keys_rest : All (λ k. is_below (child_of p n) k ≡ false) (keys_of (drop end es))
   keys_rest = All-map (λ k. is_below (child_of p n) k ≡ false) (λ (e : Segments × X). e.0) (drop end es) rest
 

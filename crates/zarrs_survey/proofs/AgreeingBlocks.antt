@@ -70,6 +70,7 @@ abbrev given_or : {D : Type 0} → Option D → D → D
 given_or (Some y) d = y
 given_or None d = d
 
+-- nothing is no metadata
 none_some : (m : NodeMetadata) → None ≡ Some m → ⊥
 none_some m e = cc
 
@@ -110,10 +111,12 @@ module _ (B : Block) (b : Path) where
 
 -- ---- the block that is read is the one that is chosen
 
+-- what was read with no fault is what is read where faults are left out
 read_block : {A C : Type 0} (f : A → Result C MetadataFault) (o : Option A) (x : C) → option_map f o ≡ Some (Ok x) → option_and_then (λ y. result_ok (f y)) o ≡ Some x
 read_block f None x e = cc
 read_block f (Some a) x e = ap result_ok (ap (λ r. given_or r (f a)) e)
 
+-- a block that was read with no fault is the one that stands for the nodes below
 chosen : (s : Contents) (b : Path) (m : NodeMetadata) (B : Block) → block_read s b m ≡ Some (Ok B) → block_at s b m ≡ Some B
 chosen s b (Group (V2 g)) B e = read_block _ _ B e
 chosen s b (Group (V3 g)) B e = read_block _ _ B e
@@ -132,6 +135,7 @@ paths_ascend (e ∷ es) up = AllPairs-cons (λ p q. path_cmp p q ≡ Less) e.0 (
 path_in : (es : List Pair) (p : Path) → Contains (map (λ e. e.0) es) p → HasPath (Contains es) p
 path_in es p h = let w = contains_mapped (λ (e : Pair). e.0) es p h in (w.0.1, subst (λ q. Contains es (q, w.0.1)) w.2 w.1)
 
+-- a path of a list of pairs is in the list of their paths
 path_out : (es : List Pair) (p : Path) → HasPath (Contains es) p → Contains (map (λ e. e.0) es) p
 path_out es p h = contains_map (λ (e : Pair). e.0) es (p, h.0) h.1
 
@@ -146,6 +150,7 @@ module _ (s : Contents) (v : MetadataRetrieveVersion) (b : Path) (survey : Surve
       (m, inl (refl, (base_means s v b survey h m).0 base), subst (λ r. IsToldOf r (HasOtherAttributes s b m) (Nodes s v true b) (HasBadPath s v b) (HasNodeKey s) b (record { group = b; path = p; kind = k })) (sym read) (inl is)) refl in
       ⊎_elim (λ key. subst (IsKeyFinding B b p) own key) (λ path. subst (IsPathFinding (Entries B b) (Nodes s v true b) (HasBadPath s v b) (HasNodeKey s) b p) own path) is.1
 
+  -- no finding of a path of the block is to be told
   untold_path : (p : Path) (k : FindingKind) → IsPathFinding (Entries B b) (Nodes s v true b) (HasBadPath s v b) (HasNodeKey s) b p k → ⊥
   untold_path p k is = untold p k (refl, inr is)
 
@@ -224,6 +229,7 @@ module _ (s : Contents) (v : MetadataRetrieveVersion) (b : Path) (survey : Surve
 by_choice : (s : Contents) (v : MetadataRetrieveVersion) (b : Path) (g : GroupMetadata) (B : Block) → block_at s b (Group g) ≡ Some B → choice s Must b (Group g) ≡ Some (Some B)
 by_choice s v b g B e = ap (λ o. block_to_use o Must) e
 
+-- by a listing no block is chosen for a group
 listed : (s : Contents) (b : Path) (g : GroupMetadata) → choice s Never b (Group g) ≡ Some None
 listed s b g = by (block_at s b (Group g))
   where

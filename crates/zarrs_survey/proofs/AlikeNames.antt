@@ -33,16 +33,20 @@ all_lowered P same (c ∷ s) = λ i. same c i && all_lowered P same s i
 slash_same : (c : ℕ) → (to_ascii_lowercase c == 47) ≡ (c == 47)
 slash_same c = grind (arith, nat_tests)
 
+-- a byte, made small, is a period just where it was one
 period_same : (c : ℕ) → (to_ascii_lowercase c == 46) ≡ (c == 46)
 period_same c = grind (arith, nat_tests)
 
+-- a byte, made small, is an underscore just where it was one
 underscore_same : (c : ℕ) → (95 == to_ascii_lowercase c) ≡ (95 == c)
 underscore_same c = grind (arith, nat_tests)
 
+-- a text in small letters is not empty just where the text is not
 nonempty_same : (s : List ℕ) → is_nonempty (map to_ascii_lowercase s) ≡ is_nonempty s
 nonempty_same [] = refl
 nonempty_same (c ∷ s) = refl
 
+-- a text in small letters is a reserved name just where the text is one
 reserved_same : (s : List ℕ) → is_reserved (map to_ascii_lowercase s) ≡ is_reserved s
 reserved_same [] = refl
 reserved_same (c ∷ []) = λ i. underscore_same c i && false
@@ -111,9 +115,11 @@ module _ (done : List Path) (q : Path) (up : (r : Path) → Contains done r → 
   abbrev more : List Path
   more = done ++ q ∷ []
 
+  -- each of the old ones is one of them
   old_in : (r : Path) → Contains done r → Contains more r
   old_in r in' = Contains-append_left done (q ∷ []) r in'
 
+  -- the new one is one of them
   new_in : Contains more q
   new_in = Contains-append_right done (q ∷ []) q (Contains-first q [])
 
@@ -135,6 +141,7 @@ module _ (done : List Path) (q : Path) (up : (r : Path) → Contains done r → 
     last = λ r in' alike less. h.last r (before_old t.0 r h.here in' less) alike less;
   }
 
+  -- of two that are alike among them, and of which the first is an old one, both were alike among the old ones
   was : (t : Path × Path) → Contains done t.0 → IsAlike (Contains more) t → IsAlike (Contains done) t
   was t old h = record {
     here = old;
@@ -247,15 +254,19 @@ module _ (ps : List Path) (i : ℕ) (q : Path) (lt : i < length ps) (is : q ≡ 
   abbrev pub AreNext : List (Path × Path) → (Path → Option Path) → Type 0
   AreNext more g = AreAlikeAmong (Contains (take (i + 1) ps)) more × ((k : Path) → IsLastOf (take (i + 1) ps) k (g k))
 
+  -- the paths so far and the next one are the first i + 1
   one_more : take i ps ++ q ∷ [] ≡ take (i + 1) ps
   one_more = ap (λ x. take i ps ++ x ∷ []) is ∙ take_next ps i q lt
 
+  -- the paths so far stand before the next one
   before : (r : Path) → Contains (take i ps) r → path_cmp r q ≡ Less
   before = before_next ps i q lt is up
 
+  -- what holds of the paths so far and the next one holds of the first i + 1
   over : (more : List (Path × Path)) (g : Path → Option Path) → AreAlikeAmong (Contains (take i ps ++ q ∷ [])) more → ((k : Path) → IsLastOf (take i ps ++ q ∷ []) k (g k)) → AreNext more g
   over more g all lasts = subst (λ xs. AreAlikeAmong (Contains xs) more × ((k : Path) → IsLastOf xs k (g k))) one_more (all, lasts)
 
+  -- where the next path folds to none, what was found stays
   pub next_root : IsFolded q None → AreNext found f
   next_root root = over found f (found_root (take i ps) q before found are root) (λ k. last_root (take i ps) q before root k (f k) (last k))
 
@@ -276,6 +287,7 @@ found_none = record {
   ascend = λ i j d l m. absurd (omega (arith, m));
 }
 
+-- of no paths none folds to k
 pub last_none : (k : Path) → IsLastOf [] k None
 last_none k r in' to = omega (arith, in'.1)
 
@@ -289,6 +301,7 @@ alike_same N M t same h = record {
   last = λ r in' alike less. h.last r ((same r).1 in') alike less;
 }
 
+-- the pairs that are alike among some paths are those among whatever set has the same
 pub alike_over : (N M : Path → Type 0) (found : List (Path × Path)) → ((p : Path) → N p ↔ M p) → AreAlikeAmong N found → AreAlikeAmong M found
 alike_over N M found same are = record {
   exact = λ t. (λ in'. alike_same N M t same ((are.exact t).0 in'), λ h. (are.exact t).1 (alike_same M N t (λ p. ((same p).1, (same p).0)) h));

@@ -34,6 +34,7 @@ among_in (f ∷ fs) t h = ⊎_elim
     (λ later. let w = among_in fs t later in (w.0, Contains-cons f fs w.0 w.1, w.2))
     h
 
+-- the key of a finding of a bad key is bad among the findings that it is one of
 in_among : (fs : List Finding) (f : Finding) (t : List ℕ) → Contains fs f → f.kind ≡ BadKey t → IsBadAmong fs t
 in_among [] f t h is = absurd (omega (arith, h.1))
 in_among (g ∷ fs) f t h is = ⊎_elim
@@ -83,6 +84,7 @@ module _ (g : Path) (B C : Block) (up : IsAscending B) (rid : IsRidOf (key_findi
   entry_same ns h =
       ap (λ o. first_some o (node_at_key C (47 ∷ key_text ns))) (valid_same (key_text ns) (ns, h, inl refl)) ∙ ap (first_some (node_at_key B (key_text ns))) (valid_same (47 ∷ key_text ns) (ns, h, inr refl))
 
+  -- the entries of both blocks below the group are the same
   entries_same : (e : Pair) → Entries C g e ↔ Entries B g e
   entries_same e = (
     λ (n, ns, h, is, has). (n, ns, h, is, sym (entry_same (n ∷ ns) h) ∙ has),
@@ -97,12 +99,15 @@ module _ (g : Path) (B C : Block) (up : IsAscending B) (rid : IsRidOf (key_findi
 
 module _ (E E' N N' : Pair → Type 0) (F F' D : Path → Type 0) (g : Path) (low : (d : Pair) → E d → IsBelow g d.0)
     (e : (d : Pair) → E d ↔ E' d) (n : (d : Pair) → IsBelow g d.0 → N d ↔ N' d) (f : (q : Path) → F q ↔ F' q) where
+  -- the groups among the entries are the same
   same_group : (q : Path) → HasGroup E q ↔ HasGroup E' q
   same_group q = (λ h. (h.0, (e (q, h.0)).0 h.1, h.2), λ h. (h.0, (e (q, h.0)).1 h.1, h.2))
 
+  -- a path that has an entry of the one has one of the other
   same_entry : (p : Path) → HasPath E p → HasPath E' p
   same_entry p h = (h.0, (e (p, h.0)).0 h.1)
 
+  -- a path that is cut off among the entries of the one is cut off among those of the other
   same_cut : (p : Path) → IsCutOff E g p → IsCutOff E' g p
   same_cut p h = (h.0, h.1, h.2, λ group. h.3 ((same_group h.0).1 group))
 
@@ -110,9 +115,11 @@ module _ (E E' N N' : Pair → Type 0) (F F' D : Path → Type 0) (g : Path) (lo
   none_same : (p : Path) → HasPath E p → (HasPath N p → ⊥) → HasPath N' p → ⊥
   none_same p entry none has = none (has.0, (n (p, has.0) (low (p, entry.0) entry.1)).1 has.1)
 
+  -- where the one is not spoilt, the other is not
   clean_same : (p : Path) → (IsSpoilt F p → ⊥) → IsSpoilt F' p → ⊥
   clean_same p clean spoilt = clean (spoilt.0, (f spoilt.0).1 spoilt.1, spoilt.2)
 
+  -- a finding of a path by the one is a finding by the other
   pub finding_same : (p : Path) (k : FindingKind) → IsPathFinding E N F D g p k → IsPathFinding E' N' F' D g p k
   finding_same p Unreachable h = (same_entry p h.0, same_cut p h.1)
   finding_same p Stale h = (same_entry p h.0, none_same p h.0 h.1, clean_same p h.2, h.3)
@@ -137,6 +144,7 @@ module _ (g : Path) where
   own_in false f in' = absurd (omega (arith, in'.1))
   own_in true f in' = ⊎_elim (λ same. (refl, sym same)) (λ none. absurd (omega (arith, none.1))) (contains_cases (own_finding g) [] f in')
 
+  -- where the document has others, there is their finding
   own_out : (other : Bool) (f : Finding) → IsTrue other × (f ≡ own_finding g) → Contains (findings_at g g (own_kind other)) f
   own_out false f w = absurd (true≢false (sym w.0))
   own_out true f w = subst (Contains (own_finding g ∷ [])) (sym w.1) (Contains-first (own_finding g) [])

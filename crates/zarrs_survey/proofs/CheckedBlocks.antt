@@ -112,6 +112,7 @@ none_told F D g (f ∷ fs) are = absurd (nothing_there f.path f.kind ((are.exact
 
 -- what is told at the end of a comparison with the nodes `done` is what there is to tell of its block
 module _ (done : List Pair) (up : Ascend done) (bad : List (Path × NodeCreateError)) (D : Path → Type 0) (g : Path) (c : Comparison) (found : List Finding) (end : IsEnd D c bad found) where
+  -- what is told of what was read as a block at the end is what there is to tell of it
   pub told_end : (r : BlockOrFault) → IsAt done (g, r) c → AreTold r (Contains done) (HasBad bad) D g found
   told_end (Err fault) is =
       let w = end [] [] (only_under_way (fault_of_block g fault) c is) in

@@ -73,6 +73,7 @@ at_in : (b p : Path) (o : Option FindingKind) (f : Finding) → Contains (findin
 at_in b p None f h = absurd (omega (arith, h.1))
 at_in b p (Some k) f h = ⊎_elim (λ same. (k, refl, sym same)) (λ none. absurd (omega (arith, none.1))) (contains_cases (finding b p k) [] f h)
 
+-- where a path has a kind of finding, the finding of this kind is there
 at_out : (b p : Path) (o : Option FindingKind) (k : FindingKind) → o ≡ Some k → Contains (findings_at b p o) (finding b p k)
 at_out b p o k is = subst (λ x. Contains (findings_at b p x) (finding b p k)) (sym is) (Contains-first (finding b p k) [])
 

@@ -48,6 +48,7 @@ at_passed : (q g : Path) (next : Option Path) → IsParent q next → g ≡ q �
 at_passed q g None root same = tt
 at_passed q g (Some r) (n, is) same = (n, [], same ∙ is)
 
+-- what is below q comes below the next group above it, if there is one
 below_passed : (q g : Path) (next : Option Path) → IsParent q next → IsBelow q g → IsBelowNext next g
 below_passed q g None root low = tt
 below_passed q g (Some r) (n, is) low = below_trans r q g (n, [], is) low

@@ -34,6 +34,7 @@ covered_from : (B : Block) (t : List ℕ) → is_covered B t ≡ true → (u : L
 covered_from B [] e = absurd (true≢false (sym e))
 covered_from B (c ∷ t) e = let h = and_parts (is_slash c) (is_some (node_at_key B t)) e in (t, ap (λ d. d ∷ t) (eqb-true c 47 h.0), h.1)
 
+-- a key that is a text behind a slash is covered where the block has the text
 covered_of : (B : Block) (t u : List ℕ) → t ≡ 47 ∷ u → IsSome (node_at_key B u) → is_covered B t ≡ true
 covered_of B t u is has = ap (is_covered B) is ∙ has
 
@@ -50,6 +51,7 @@ own_from (c ∷ t) e = by (is_slash c) refl e
     by true is e = inr (ap (λ d. d ∷ t) (eqb-true c 47 is) ∙ ap (λ u. 47 ∷ u) (rest t e))
     by false is e = absurd (true≢false (sym e))
 
+-- an empty key, and one slash, are the key of the group itself
 own_of : (t : List ℕ) → (t ≡ []) ⊎ (t ≡ 47 ∷ []) → is_nil (without_leading_slash t) ≡ true
 own_of t = ⊎_elim (ap (λ u. is_nil (without_leading_slash u))) (ap (λ u. is_nil (without_leading_slash u)))
 

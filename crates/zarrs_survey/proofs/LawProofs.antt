@@ -57,6 +57,7 @@ abbrev head_or : List ℕ → Path → List ℕ
 head_or d [] = d
 head_or d (n ∷ p) = n
 
+-- the names behind the first of a path, or others where it has none
 abbrev tail_or : Path → Path → Path
 tail_or d [] = d
 tail_or d (n ∷ p) = p

@@ -134,6 +134,7 @@ module _ (s : Contents) (v : MetadataRetrieveVersion) (b : Path) (c : Check) (is
   key_below : HasBelow s.values p
   key_below = let d = some_document s p key in (d.0, [], d.2)
 
+  -- a key is below each path that p is below
   key_beyond : (q : Path) → IsBelow q p → HasBelow s.values q
   key_beyond q low = let d = some_document s p key in
       (low.0, low.1 ++ d.0 ∷ [], subst (HasKey s.values) (ap (λ x. x ++ d.0 ∷ []) low.2 ∙ append_assoc q (low.0 ∷ low.1) (d.0 ∷ [])) d.2)
@@ -169,5 +170,6 @@ module _ (s : Contents) (v : MetadataRetrieveVersion) (b : Path) (c : Check) (is
       by_meaning q reached low deeper nothing means = absurd (not_ignored q (reached, means, key_beyond q low) low)
       by_meaning q reached low deeper (bad error) means = absurd (not_hidden q error (reached, means) low)
 
+-- where no orphan is told, and nothing is hidden, each path with a document of a node, below the base and no array, is found
 pub nothing_is_lost : NothingIsLost
 nothing_is_lost s v b c is none zeros p valid low key far = beyond s v b c is none zeros p valid key far b (inl refl) low.0 low.1 low.2 (names_beyond b p low.0 low.1 low.2 valid)

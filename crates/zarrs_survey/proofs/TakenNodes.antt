@@ -53,6 +53,7 @@ at_path p (Some r) b h = ⊎_elim
     (λ none. absurd (omega (arith, none.1)))
     (contains_cases (p, r) [] b h)
 
+-- what was read of one node is there, with its path
 path_at : (p : Path) (o : Option BlockOrFault) (r : BlockOrFault) → o ≡ Some r → Contains (named_block p o) (p, r)
 path_at p o r is = subst (λ x. Contains (named_block p x) (p, r)) (sym is) (Contains-first (p, r) [])
 
@@ -66,6 +67,7 @@ block_in s (e ∷ es) b h = ⊎_elim
     (λ later. let w = block_in s es b later in (w.0, Contains-cons e es (b.0, w.0) w.1, w.2))
     (Contains-append_cases (named_block e.0 (block_with_own s e.0 e.1)) (blocks_of s es) b h)
 
+-- what was read as the block of one of the nodes is among their blocks
 in_blocks : (s : Contents) (es : List Pair) (b : ReadBlock) → HasBlock s es b → Contains (blocks_of s es) b
 in_blocks s [] b h = absurd (omega (arith, h.1.1))
 in_blocks s (e ∷ es) b h = ⊎_elim
@@ -76,6 +78,7 @@ in_blocks s (e ∷ es) b h = ⊎_elim
     (λ later. Contains-append_right (named_block e.0 (block_with_own s e.0 e.1)) (blocks_of s es) b (in_blocks s es b (h.0, later, h.2)))
     (contains_cases e es (b.0, h.0) h.1)
 
+-- the blocks of nodes are just what was read as the block of one of them
 pub each_block : (s : Contents) (es : List Pair) (b : ReadBlock) → Contains (blocks_of s es) b ↔ HasBlock s es b
 each_block s es b = (block_in s es b, in_blocks s es b)
 
@@ -291,6 +294,7 @@ module _ (done : List Pair) (reads : List ReadBlock) (cs : List Comparison) (js 
       none (is_left j b lt (subst (λ (x : ReadBlock). Reads x.1) (sym is) tt) e.0 low' behind (λ out. out low')))))
       (in_or_not left j)
 
+  -- what was read, and the new comparisons, are taken of the nodes with this one more
   pub are_taken_next : AreTaken (done ++ e ∷ []) reads news left
   are_taken_next =
       let size = compared.size in
@@ -329,6 +333,7 @@ module _ (done : List Pair) (reads : List ReadBlock) (cs : List Comparison) (js 
   read_before : (read : BlockOrFault) (j : ℕ) (b : ReadBlock) → j < length cs → get_or (reads ++ (p, read) ∷ []) j b ≡ get_or reads j b
   read_before read j b lt = let size = h.size in get_or_append_left reads ((p, read) ∷ []) b j (omega (arith, lt, size))
 
+  -- there are as many comparisons as blocks that were read
   put_size : (read : BlockOrFault) → length (cs ++ c0 ∷ []) ≡ length (reads ++ (p, read) ∷ [])
   put_size read = length_push cs c0 ∙ (ap (λ n. n + 1) h.size ∙ sym (length_push reads (p, read)))
 
@@ -338,6 +343,7 @@ module _ (done : List Pair) (reads : List ReadBlock) (cs : List Comparison) (js 
       let is = read_before read j b lt in
       h.cover j b lt (subst (λ (y : ReadBlock). Reads y.1) is good) x (subst (λ (y : ReadBlock). IsBelow y.0 x) is low) late
 
+  -- with the block more, what was read and the comparisons are taken of the same nodes
   are_taken_put : (read : BlockOrFault) → IsBegun p read c0 → AreTaken done (reads ++ (p, read) ∷ []) (cs ++ c0 ∷ []) (places_after js (length cs) read)
   are_taken_put (Err fault) begun =
       let long = length_push cs c0 in
@@ -372,6 +378,7 @@ module _ (done : List Pair) (reads : List ReadBlock) (cs : List Comparison) (js 
 
 -- what a check has of the nodes that were taken
 module _ {S : Type 0} (s : Contents) where
+  -- the number of these nodes, and the comparisons of their blocks
   pub record HasTaken (done : List Pair) (k : Comparisons S) : Type 0 where
     pub count : k.count ≡ length done
     pub taken : AreTaken done (blocks_of s done) k.blocks.items k.above.items

@@ -173,6 +173,7 @@ module _ (F D : Path → Type 0) where
   some_in None h in' = absurd (omega (arith, in'.1))
   some_in (Some k) h in' = ⊎_elim (λ same. ap (λ x. Some x) same) (λ none. absurd (omega (arith, none.1))) (contains_cases k [] h in')
 
+  -- where there is a finding, it is one of them
   some_out : (o : Option Finding) (h : Finding) → o ≡ Some h → Contains (if_some o) h
   some_out o h is = subst (λ x. Contains (if_some x) h) (sym is) (Contains-first h [])
 

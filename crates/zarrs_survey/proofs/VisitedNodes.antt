@@ -80,12 +80,15 @@ module _ (s : Contents) (e : Pair) (es : List Pair) (found : List NodeFinding) (
   abbrev OfNodes : Told → Type 0
   OfNodes t = (m : NodeMetadata) × Contains (e ∷ es) (t.0, m) × IsNodeFinding s t.0 m t.1
 
+  -- what is told of the first node there is to tell of the nodes
   own_in : (t : Told) → Contains (named_findings e.0 found) t → OfNodes t
   own_in t h = let w = named_in e.0 found t h in subst OfNodes (sym w.2) (e.1, Contains-first e es, (own.exact w.0).0 w.1)
 
+  -- what is told of the others there is to tell of the nodes
   rest_in : (t : Told) → Contains ts t → OfNodes t
   rest_in t h = let w = (rest.exact t).0 h in (w.0, Contains-cons e es (t.0, w.0) w.1, w.2)
 
+  -- what there is to tell of the nodes is told of the first or of the others
   all_out : (t : Told) → OfNodes t → Contains (named_findings e.0 found ++ ts) t
   all_out t h = ⊎_elim
       (λ same.
@@ -95,6 +98,7 @@ module _ (s : Contents) (e : Pair) (es : List Pair) (found : List NodeFinding) (
       (λ later. Contains-append_right (named_findings e.0 found) ts t ((rest.exact t).1 (h.0, later, h.2)))
       (contains_cases e es (t.0, h.0) h.1)
 
+  -- what is told of the first node, and then of the others, is what there is to tell of the nodes
   tells_more : Ascend (e ∷ es) → TellsOf s (e ∷ es) (named_findings e.0 found ++ ts)
   tells_more up = record {
     exact = λ t. (λ h. ⊎_elim (own_in t) (rest_in t) (Contains-append_cases (named_findings e.0 found) ts t h), all_out t);

@@ -55,6 +55,7 @@ truth : (b : Bool) → false ≡ not b → b ≡ true
 truth true e = refl
 truth false e = absurd (true≢false (sym e))
 
+-- two texts of which it is false that they differ are one
 pub not_differing : (t s : List ℕ) → false ≡ not (bytes_eq t s) → t ≡ s
 not_differing t s e = (bytes_eq-Decides t s).0 (truth (bytes_eq t s) e)
 

@@ -35,6 +35,7 @@ pub none_left : (B : Block) (left : List (String Global × NodeMetadata)) → le
 none_left B left is so_far = let none : IsLeft B [] = subst (λ l. IsLeft B (shown l)) is so_far in none.0 (All-nil (λ e. IsTrue (is_plain_node e.1)))
 
 module _ (B : Block) (left : List (String Global × NodeMetadata)) (e : String Global × NodeMetadata) (es : List (String Global × NodeMetadata)) (is : left ≡ e ∷ es) (so_far : IsLeft B (shown left)) where
+  -- the node at hand is the first of those left
   here : IsLeft B ((string_bytes e.0, e.1) ∷ shown es)
   here = subst (λ l. IsLeft B (shown l)) is so_far
 
@@ -77,6 +78,7 @@ module _ (store : Contents) (base : Path) (B : Block) (up : IsAscending B) (hold
   block_fraction can_fail (Node e) h = absurd h
   block_fraction can_fail Write h = absurd h
 
+  -- an error that names a fraction is a fault of the block
   pub block_fraction_result : {T : Type 0} (can_fail : Bool) (r : Result T ToolFault) (fault : ToolFault) → r ≡ Err fault → IsFractionFault base B fault → IfErr r (IsBlockFault can_fail store base)
   block_fraction_result can_fail r fault is h = subst (λ x. IfErr x (IsBlockFault can_fail store base)) (sym is) (block_fraction can_fail fault h)
 

@@ -23,6 +23,7 @@ module _ (P : LoadFault → Type 0) (error : LoadFault) (holds : P error) where
   made_fault (Node e) made = absurd made
   made_fault Write made = absurd made
 
+  -- what holds of the fault of loading holds of an error that was made of it
   pub made_fault_result : {T : Type 0} (r : Result T ToolFault) → IsErrAnd r (IsLoadFault (λ e. e ≡ error)) → IfErr r (IsLoadFault P)
   made_fault_result (Ok x) made = tt
   made_fault_result (Err fault) made = made_fault fault made

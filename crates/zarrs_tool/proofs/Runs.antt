@@ -42,6 +42,7 @@ refused_run words before after values Folder command end loaded refused = absurd
 refused_run words before after values NotAGroup command end loaded refused = (end, (values, loaded, refused))
 refused_run words before after values (Fraction p) command end loaded refused = absurd (no_fraction values refused.0 p refused.3)
 
+-- an error over the store of the image refuses the run
 pub refused_result : {T : Type 0} (command : Command) (words : List (List ℕ)) (before after : Option (List ℕ)) (values : Values) (r : Result T ToolFault) → command_words command ≡ words
     → IsAtEnd after → IsLoaded before values → IfErr r (IsRefusal false (command_words command) (in_whole_numbers values)) → IfErr r (RefusedRun words before after)
 refused_result command words before after values (Ok x) same end loaded refused = tt
@@ -69,6 +70,7 @@ pub not_usage : {T : Type 0} (words : List (List ℕ)) (before after : Option (L
 not_usage words before after r fault command is refused =
     ((λ (usage : r ≡ Err Usage) command'. let same : fault ≡ Usage = cc in subst (IsLoadFault (RefusedImage before after)) same refused), (λ none. absurd (none command)))
 
+-- an error of a refused image refuses the run
 pub refused_load_result : {T : Type 0} (words : List (List ℕ)) (before after : Option (List ℕ)) (r : Result T ToolFault) (fault : ToolFault) → r ≡ Err fault
     → IsLoadFault (RefusedImage before after) fault → IfErr r (RefusedRun words before after)
 refused_load_result words before after r fault is refused = subst (λ x. IfErr x (RefusedRun words before after)) (sym is) (refused_load words before after fault refused)
@@ -101,11 +103,13 @@ IsOutputFault can_fail words store fault = (fault ≢ Write) × (fault ≢ Usage
 path_fault : (can_fail : Bool) (command : Command) (store : Contents) (e : NodeCreateError) → RefusesPathText command.path.now e → IsOutputFault can_fail (command_words command) store (Node e)
 path_fault can_fail command store e refused = ((λ (h : Node e ≡ Write). cc h), (λ (h : Node e ≡ Usage). cc h), inl (command.word, command.path.now, refl, refused))
 
+-- an error that a path is none refuses the command
 pub path_fault_result : {T : Type 0} (can_fail : Bool) (command : Command) (store : Contents) (r : Result T ToolFault) (e : NodeCreateError) → r ≡ Err (Node e) → RefusesPathText command.path.now e
     → IfErr r (λ f. (f ≢ Write) × (f ≢ Usage) × IsRefusal can_fail (command_words command) store f)
 path_fault_result can_fail command store r e is refused = subst (λ x. IfErr x (λ f. (f ≢ Write) × (f ≢ Usage) × IsRefusal can_fail (command_words command) store f)) (sym is) (path_fault can_fail command store e refused)
 
 module _ (can_fail : Bool) (command : Command) (store : Contents) (base : Path) (valid : IsPath base) (same : path_text base ≡ command.path.now) where
+  -- the words of the command are the word and the text of the base
   worded : command_words command ≡ word_text command.word ∷ path_text base ∷ []
   worded = ap (λ p. word_text command.word ∷ p ∷ []) (sym same)
 
@@ -143,6 +147,7 @@ module _ (can_fail : Bool) (command : Command) (store : Contents) (base : Path) 
   word_fault Folder refused = absurd refused
   word_fault Write refused = absurd refused
 
+  -- an error that refuses the word refuses the command
   pub word_fault_result : {T : Type 0} (r : Result T ToolFault) → IfErr r (IsWordFault can_fail command.word store base)
       → IfErr r (λ f. (f ≢ Write) × (f ≢ Usage) × IsRefusal can_fail (command_words command) store f)
   word_fault_result (Ok x) refused = tt

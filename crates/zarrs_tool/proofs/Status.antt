@@ -5,15 +5,19 @@ use Rattle.zarrs_tool.specs.Refusals.{status_of}
 use Rattle.zarrs_tool.specs.declared.fault.ToolFault.{ToolFault}
 use Rattle.zarrs_tool.specs.declared.fault.ToolFault.TheVariants.{Usage, Read, ReadTooLong, Image, ImageKey, ImageValue, Folder, NotAGroup, Fraction, Node, Write, OutOfMemory}
 
+-- a status of 1 is not 0
 not_one : (n : ℕ) → n ≡ 1 → n ≡ 0 → ⊥
 not_one n e z = omega arith
 
+-- a status of 2 is not 0
 not_two : (n : ℕ) → n ≡ 2 → n ≡ 0 → ⊥
 not_two n e z = omega arith
 
+-- a status of 1 is not 2
 one_or_two : (n : ℕ) → n ≡ 1 → n ≡ 2 → ⊥
 one_or_two n e z = omega arith
 
+-- a status of 0 is not 2
 zero_or_two : (n : ℕ) → n ≡ 0 → n ≡ 2 → ⊥
 zero_or_two n e z = omega arith
 
@@ -65,6 +69,7 @@ two_usage (Err (Node error)) n e z = absurd (one_or_two n e z)
 two_usage (Err Write) n e z = absurd (one_or_two n e z)
 two_usage (Err OutOfMemory) n e z = absurd (one_or_two n e z)
 
+-- wrong words have the status 2
 pub usage_two : (outcome : Result (Unit {0}) ToolFault) (n : ℕ) → n ≡ status_of outcome → outcome ≡ Err Usage → n ≡ 2
 usage_two outcome n e is = e ∙ ap status_of is
 
@@ -84,6 +89,7 @@ any_status (Err (Node error)) n e = inr (inl e)
 any_status (Err Write) n e = inr (inl e)
 any_status (Err OutOfMemory) n e = inr (inl e)
 
+-- a status of 0 is not 1
 zero_or_one : (n : ℕ) → n ≡ 0 → n ≡ 1 → ⊥
 zero_or_one n e z = omega arith
 

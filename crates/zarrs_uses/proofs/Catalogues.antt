@@ -48,6 +48,7 @@ module _ (is_v3 : MeansVersion3) (S T : Contents) (c : Catalogue) (h : GroupStat
   metadata_is : (k : GroupMetadataV3) × (h.metadata ≡ V3 k)
   metadata_is = (_, ap (λ (x : GroupState). x.metadata) found.set ∙ ap (metadata_with (Some c.block)) v3.1)
 
+  -- the group with the block stands at the path of the catalogue
   at : h.path ≡ c.path
   at = ap (λ (x : GroupState). x.path) found.set ∙ found.path
 

@@ -148,6 +148,7 @@ module _ (F : Name → Option Bytes) (temp : Name) where
 
 -- At the name stands what stood there at first, or a new file or none, in which only the new bytes are found; at all other names what stood there.
 module _ (F : Name → Option Bytes) (temp name : Name) (new : Option File) (shown : Option Bytes) where
+  -- the folder has, at the name and at all others, what is said above
   record Whole (s : Folder) : Type 0 where
     pub stands : (f : Option File) → s.stands name f → (f ≡ first_file name (F name)) ⊎ (f ≡ new)
     pub stays : (f : Option File) → s.stays name f → (f ≡ first_file name (F name)) ⊎ (f ≡ new)
@@ -165,10 +166,12 @@ module _ (F : Name → Option Bytes) (temp name : Name) (new : Option File) (sho
   either sets seen f h k (inl e) i = inl (seen_in F name sets seen f h e i)
   either sets seen f h k (inr e) i = inr (k seen (subst (λ g. IsIn sets g seen) e i))
 
+  -- at the name the bytes of one of the two files are found
   whole_either : (s : Folder) → Whole s → FindsEither s name (F name) shown
   whole_either s w seen (inl p) = either s.holds seen p.0 (w.holds name) w.new_holds (w.stands p.0 p.1) p.2
   whole_either s w seen (inr p) = either s.keeps seen p.0 (w.keeps name) w.new_keeps (w.stays p.0 p.1) p.2
 
+  -- at another name nothing is found but what stood there
   whole_others : (s : Folder) → Whole s → (n : Name) → n ≢ name → n ≢ temp → FindsOnly s n (F n)
   whole_others s w n h k seen (inl p) = seen_in F n s.holds seen p.0 (w.holds n) (w.others n h k p.0 p.1) p.2
   whole_others s w n h k seen (inr p) = seen_in F n s.keeps seen p.0 (w.keeps n) (w.others_stay n h k p.0 p.1) p.2
@@ -214,6 +217,7 @@ module _ (F : Name → Option Bytes) (temp name : Name) (new : Option File) (sho
 
 -- The replacement of a document.
 module _ (F : Name → Option Bytes) (name : Name) (bytes : Bytes) where
+  -- the name of the temporary file
   abbrev temp : Name
   temp = temporary name
 
@@ -221,6 +225,7 @@ module _ (F : Name → Option Bytes) (name : Name) (bytes : Bytes) where
   abbrev IsSafe : Folder → Type 0
   IsSafe s = FindsEither s name (F name) (Some bytes) × ((n : Name) → n ≢ name → n ≢ temp → FindsOnly s n (F n))
 
+  -- the folder is safe at each point of the calls
   abbrev IsSafeAlong : List Asked → Type 0
   IsSafeAlong asked = AtEachPoint IsSafe (first_folder F) asked
 
@@ -228,6 +233,7 @@ module _ (F : Name → Option Bytes) (name : Name) (bytes : Bytes) where
   name≢temp : name ≢ temp
   name≢temp e = other_name name (sym e)
 
+  -- a folder in which nothing is harmed is safe
   safe_unharmed : (s : Folder) → Unharmed F temp s → IsSafe s
   safe_unharmed s u = (λ seen h. inl (unharmed_only F temp s u name name≢temp seen h), λ n h k. unharmed_only F temp s u n k)
 
@@ -235,9 +241,11 @@ module _ (F : Name → Option Bytes) (name : Name) (bytes : Bytes) where
   beside : (asked : List Asked) → AllBeside F temp asked → IsSafeAlong asked
   beside asked a = beside_each F temp IsSafe safe_unharmed asked a (first_folder F) (unharmed_first F temp)
 
+  -- at the document's name stands what stood there, or the new file, in which only the new bytes are found
   abbrev IsRenamed : Folder → Type 0
   IsRenamed = Whole F temp name (Some (made 1)) (Some bytes)
 
+  -- a folder of which this holds is safe
   safe_renamed : (s : Folder) → IsRenamed s → IsSafe s
   safe_renamed s w =
       (whole_either F temp name (Some (made 1)) (Some bytes) s w, whole_others F temp name (Some (made 1)) (Some bytes) s w)
@@ -354,11 +362,13 @@ module _ (F : Name → Option Bytes) (name : Name) (bytes : Bytes) where
       → AtEachPoint IsSafe prepared (did (renamed temp name) ∷ rest)
   along_renamed rest h = (safe_unharmed _ prepared_unharmed, safe_renamed _ unrenamed_whole, h)
 
+  -- behind the renaming, the settling of it is safe
   written_safe : AtEachPoint IsSafe (after_done prepared (renamed temp name)) (did settled ∷ [])
   written_safe =
       let w = renamed_whole in
       let p = safe_renamed _ w in (p, p, safe_renamed _ (whole_settled F temp name (Some (made 1)) (Some bytes) _ w))
 
+  -- behind the renaming, a settling that fails is safe
   unsettled_safe : AtEachPoint IsSafe (after_done prepared (renamed temp name)) (failed settled ∷ [])
   unsettled_safe = let p = safe_renamed _ renamed_whole in (p, p)
 
@@ -374,6 +384,7 @@ module _ (F : Name → Option Bytes) (name : Name) (bytes : Bytes) where
         ),
       )
 
+  -- a renaming that fails, and a removal of the temporary file that fails, are safe
   uncleared_safe : AtEachPoint IsSafe prepared (failed (renamed temp name) ∷ failed (removed temp) ∷ [])
   uncleared_safe =
       let w = unrenamed_whole in
@@ -393,6 +404,7 @@ module _ (F : Name → Option Bytes) (name : Name) (bytes : Bytes) where
   cleared asked (inl e) a b = beside_along asked e a
   cleared asked (inr e) a b = beside_along asked e b
 
+  -- the calls of a replacement that was broken off at a step are safe
   at_step : (step : Step) (asked : List Asked) → IsBrokenOffAt step (F name) temp name bytes asked → IsSafeAlong asked
   at_step Reading asked h = beside_along asked h tt
   at_step Making asked h = beside_along asked h (tt, (refl, tt))
@@ -404,6 +416,7 @@ module _ (F : Name → Option Bytes) (name : Name) (bytes : Bytes) where
   at_step Renaming asked (inr e) = along asked _ e (along_prepared (failed (renamed temp name) ∷ failed (removed temp) ∷ []) uncleared_safe)
   at_step Removing asked h = absurd h
 
+  -- the calls of a replacement that was broken off are safe
   broken_off : (e : ReplaceError) (asked : List Asked) → IsBrokenOff e (F name) temp name bytes asked → IsSafeAlong asked
   broken_off (LeftOver n) asked h = beside_along asked h (tt, tt)
   broken_off (Changed n) asked (other, ne, inl e) = beside_along asked e (tt, tt)
@@ -414,6 +427,7 @@ module _ (F : Name → Option Bytes) (name : Name) (bytes : Bytes) where
       along asked _ h (along_prepared (did (renamed temp name) ∷ failed settled ∷ []) (along_renamed (failed settled ∷ []) unsettled_safe))
   broken_off OutOfMemory asked h = at_step h.0 asked h.1
 
+  -- the calls of a replacement are safe
   pub replacement : (asked : List Asked) → IsReplacement (F name) temp name bytes asked → IsSafeAlong asked
   replacement asked (inl (Unchanged, e)) = beside_along asked e (tt, tt)
   replacement asked (inl (Written, e)) =
