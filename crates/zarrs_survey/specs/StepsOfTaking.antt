@@ -118,4 +118,4 @@ module _ {S : Type 0} where
     pub storage : new.storage.now ≡ old.storage.now
     pub taken : new.outcome ≡ Ok tt → (old.outcome ≡ Ok tt) × TakesNode (contents old.storage.now) old e new
     pub fault : IfErr old.outcome (IsStoreError (can_fail old.storage.now))
-    → IfErr new.outcome (IsStoreError (can_fail old.storage.now))
+        → IfErr new.outcome (IsStoreError (can_fail old.storage.now))

@@ -24,5 +24,5 @@ module _ {S : Type 0} where
       (new : Visits S) : Type 0 where
     pub compared : Takes contents can_fail old.comparisons e new.comparisons
     pub tells : new.comparisons.outcome ≡ Ok tt
-    → TellsNode (contents old.comparisons.storage.now) old.told.items e new.told.items
+        → TellsNode (contents old.comparisons.storage.now) old.told.items e new.told.items
     pub named : new.comparisons.outcome ≡ Ok tt → new.paths.items ≡ old.paths.items ++ e.0 ∷ []
