@@ -1,7 +1,7 @@
 //! Groups over a store whose documents may hold any number: they are opened and looked at with fractions, and not stored with them.
 
 use crate::fixture_rows::store_in;
-use crate::fixtures::{done, held_text};
+use crate::fixtures::{done, left_text};
 use crate::group_children::below_text;
 use crate::groups::step_of;
 use std::alloc::{AllocError, Global};
@@ -126,14 +126,7 @@ fn stepped(alloc: Global, given: &str) -> Result<String, GroupCreateError> {
     };
     let group = opened(alloc, &store)?;
     let answer = done(alloc, &group, &mut store, step);
-    let held = held_text(alloc, &store.inner)?;
-    match answer {
-        Ok(()) => Ok(held),
-        Err(error) => {
-            let text = refusal(alloc, &error)?;
-            Ok(format!(in alloc; "{text}\n{held}")?)
-        }
-    }
+    Ok(left_text(alloc, answer, "\n", &store.inner)?)
 }
 
 // A step, and documents; and what the store holds then, behind the refusal where there is one.

@@ -1,9 +1,12 @@
 //! Groups with blocks, the calls on groups that change a store, and what a store holds, for tests.
 //!
-//! Generic helpers hold the groups and the blocks, so that no test drops them itself.
+//! What makes a group and what changes it are apart: few calls that may fail stand where a group is held, which is dropped behind each.
+use crate::fixture_rows::entries_in;
 use log::sink::Discard;
 use std::alloc::{AllocError, Global};
-use tests_fixtures::{both, config_of};
+use std::test::Fail;
+use tests_fixtures::config_of;
+use tests_support::refusal;
 use zarrs_block::{ConsolidatedMetadata, ConsolidatedMetadataMetadata, NodeCreateError};
 use zarrs_config::{
     Config, GroupMetadataOptions, MetadataConvertVersion, MetadataEraseVersion,
@@ -48,29 +51,28 @@ pub(crate) fn group_of(
     }
 }
 
-/// The store with the groups that a builder of nothing makes at these paths, with a blank between, each stored.
-pub(crate) fn built_in(alloc: Global, paths: &str) -> Result<MemoryStore, GroupCreateError> {
-    let builder = GroupBuilder::new(alloc);
-    let mut store = MemoryStore::new(alloc);
-    for path in paths.split(' ') {
-        builder
-            .build(alloc, path, &Config::new())?
-            .store_metadata(alloc, &mut store)?;
-    }
-    Ok(store)
+// Stores the group that a builder makes at a path.
+fn store_built(
+    builder: &GroupBuilder,
+    alloc: Global,
+    store: &mut MemoryStore,
+    path: &str,
+) -> Result<(), GroupCreateError> {
+    let group = builder.build(alloc, path, &Config::new())?;
+    Ok(group.store_metadata(alloc, store)?)
 }
 
-// A value once it was given each of these rows.
-fn filled<T, E, F>(alloc: Global, mut value: T, rows: &[(&str, &str)], give: F) -> Result<T, E>
-where
-    T: Drop,
-    F: Fn(&mut T, Global, &str, &str) -> Result<(), E>,
-    requires { F.IsAlwaysCallable give }
-{
-    for (key, document) in rows {
-        give(&mut value, alloc, key, document)?;
+/// Stores the groups that a builder of nothing makes at these paths, with a blank between.
+pub(crate) fn store_built_at(
+    alloc: Global,
+    store: &mut MemoryStore,
+    paths: &str,
+) -> Result<(), GroupCreateError> {
+    let builder = GroupBuilder::new(alloc);
+    for path in paths.split(' ') {
+        store_built(&builder, alloc, store, path)?;
     }
-    Ok(value)
+    Ok(())
 }
 
 // Puts the node that a document is at a key.
@@ -87,57 +89,50 @@ fn put_node(
     }
 }
 
-/// The block with these documents at these keys.
+/// The block with the documents of a list.
 pub(crate) fn block_of(
     alloc: Global,
-    documents: &[(&str, &str)],
+    list: &str,
 ) -> Result<ConsolidatedMetadata, GroupCreateError> {
-    let nodes = ConsolidatedMetadataMetadata::new(alloc);
-    let metadata = filled(alloc, nodes, documents, put_node)?;
+    let entries = entries_in(alloc, list)?;
+    let mut metadata = ConsolidatedMetadataMetadata::new(alloc);
+    for (key, document) in &entries {
+        put_node(&mut metadata, alloc, key, document)?;
+    }
     Ok(ConsolidatedMetadata { metadata })
 }
 
-/// A group after a block was set, or removed, and what that call answers.
-pub(crate) type Set = (Group, Result<(), NodeCreateError>);
-
-/// A group after a call on it, where the call succeeded.
-pub(crate) fn changed(
+/// What a call on nodes answers, with its refusal as that of a group.
+pub(crate) fn of_group<T>(
     alloc: Global,
-    made: Result<Set, GroupCreateError>,
-) -> Result<Group, GroupCreateError> {
-    let (group, answer) = made?;
+    answer: Result<T, NodeCreateError>,
+) -> Result<T, GroupCreateError> {
     match answer {
-        Ok(()) => Ok(group),
+        Ok(value) => Ok(value),
         Err(error) => Err(GroupCreateError::from_node_error(alloc, error)),
     }
 }
 
-/// A group once a block was set, or removed, and what that call answers.
-pub(crate) fn set(mut group: Group, alloc: Global, block: Option<ConsolidatedMetadata>) -> Set {
-    let answer = match group.set_consolidated_metadata(alloc, block) {
+/// What the call answers that sets the block of a group, or removes it.
+pub(crate) fn set(
+    group: &mut Group,
+    alloc: Global,
+    block: Option<ConsolidatedMetadata>,
+) -> Result<(), NodeCreateError> {
+    match group.set_consolidated_metadata(alloc, block) {
         Ok(_) => Ok(()),
         Err(error) => Err(error),
-    };
-    (group, answer)
+    }
 }
 
-/// A group with a block of these documents set, and what the call that set it answers.
-pub(crate) fn set_in(
+/// Sets the block of a list.
+pub(crate) fn set_list(
+    group: &mut Group,
     alloc: Global,
-    group: Result<Group, GroupCreateError>,
-    block: &[(&str, &str)],
-) -> Result<Set, GroupCreateError> {
-    let block = block_of(alloc, block);
-    both(group, block, |group, block| set(group, alloc, Some(block)))
-}
-
-/// A group with a block of these documents set.
-pub(crate) fn with_block(
-    alloc: Global,
-    group: Result<Group, GroupCreateError>,
-    block: &[(&str, &str)],
-) -> Result<Group, GroupCreateError> {
-    changed(alloc, set_in(alloc, group, block))
+    list: &str,
+) -> Result<(), GroupCreateError> {
+    let block = block_of(alloc, list)?;
+    of_group(alloc, set(group, alloc, Some(block)))
 }
 
 // The block that the node at a path makes of all that is listed below it.
@@ -148,8 +143,21 @@ fn block_at(
 ) -> Result<Option<ConsolidatedMetadata>, NodeCreateError> {
     let config = config_of(UseConsolidatedMetadata::Never);
     let node = Node::open(&Discard, alloc, store, path, &config)?;
-    let block = node.consolidate_metadata(alloc)?;
-    Ok(block.map(|metadata| ConsolidatedMetadata { metadata }))
+    match node.consolidate_metadata(alloc)? {
+        Some(metadata) => Ok(Some(ConsolidatedMetadata { metadata })),
+        None => Ok(None),
+    }
+}
+
+// Sets the block of all that is listed below a path.
+fn set_listed(
+    group: &mut Group,
+    alloc: Global,
+    store: &MemoryStore,
+    path: &str,
+) -> Result<(), NodeCreateError> {
+    let block = block_at(alloc, store, path)?;
+    set(group, alloc, block)
 }
 
 /// The group at a path of a store, with the block of all that is listed below it set.
@@ -158,14 +166,10 @@ pub(crate) fn consolidated(
     store: &MemoryStore,
     path: &str,
 ) -> Result<Group, GroupCreateError> {
-    let group = Group::open(alloc, store, path, &Config::new());
-    let block = block_at(alloc, store, path).map_err(|error| GroupCreateError::from_node_error(
-        alloc, error,
-    ));
-    changed(
-        alloc,
-        both(group, block, |group, block| set(group, alloc, block)),
-    )
+    let mut group = Group::open(alloc, store, path, &Config::new())?;
+    let answer = set_listed(&mut group, alloc, store, path);
+    of_group(alloc, answer)?;
+    Ok(group)
 }
 
 /// A group in words, and the block that it holds, where it holds one.
@@ -200,6 +204,32 @@ pub(crate) fn held_text(alloc: Global, store: &MemoryStore) -> Result<String, St
         write!(text, "{key} {bytes}\n")?;
     }
     Ok(text)
+}
+
+/// What a store holds after a call that changes it; where the call is refused, the refusal and a mark before that.
+pub(crate) fn left_text(
+    alloc: Global,
+    answer: Result<(), StorageError>,
+    mark: &str,
+    store: &MemoryStore,
+) -> Result<String, StorageError> {
+    let held = held_text(alloc, store)?;
+    match answer {
+        Ok(()) => Ok(held),
+        Err(error) => {
+            let error = refusal(alloc, &error)?;
+            Ok(format!(in alloc; "{error}{mark}{held}")?)
+        }
+    }
+}
+
+/// Asks whether a text is the one that is wanted.
+pub(crate) fn is_same(found: &str, wanted: &str) -> Result<(), Fail> {
+    if found == wanted {
+        Ok(())
+    } else {
+        Err(Fail::new(format_args!("found {found} in place of {wanted}")))
+    }
 }
 
 /// A call on a group that changes a store.

@@ -2,20 +2,19 @@
 //!
 //! The tests compare texts.
 
-use crate::fixture_rows::{entries_in, store_in};
+use crate::fixture_rows::store_in;
 use crate::fixtures::{
-    Set, block_of, changed, consolidated, group_of, group_text, groups_text, held_text,
-    is_out_of_memory, set, set_in,
+    block_of, consolidated, group_of, group_text, groups_text, held_text, is_same, set, set_list,
 };
 use log::sink::{Discard, Writer};
 use std::alloc::{AllocError, Global};
 use std::test::Fail;
 use tests_fixtures::{
-    A3_SQUARE, both, config_of, document_of, forest_text, no_word, node_text, pairs_text,
-    paths_text, policy_of,
+    A3_SQUARE, config_of, document_of, forest_text, no_word, node_text, pairs_text, paths_text,
+    policy_of,
 };
 use tests_support::{G3, check_rows, fields, printed, refusal, said, with_lines};
-use zarrs_block::ConsolidatedMetadata;
+use zarrs_block::NodeCreateError;
 use zarrs_config::{Config, UseConsolidatedMetadata};
 use zarrs_group::{Group, GroupCreateError};
 use zarrs_node::Node;
@@ -40,120 +39,131 @@ fn plain_group(
     }
 }
 
-// A group with the block of a list set, and what the call that set it answers.
-fn set_of(
+/// The group that three fields are: a path, a document as in `plain_group`, and the list of the block that is set; `none` where none is.
+pub(crate) fn group_in(
     alloc: Global,
-    group: Result<Group, GroupCreateError>,
-    list: &str,
-) -> Result<Set, GroupCreateError> {
-    match entries_in(alloc, list) {
-        Ok(entries) => set_in(alloc, group, entries.as_slice()),
-        Err(error) => Err(GroupCreateError::from(error)),
-    }
-}
-
-// The group that three fields are: a path, a document as in `plain_group`, and the list of the block that is set; `none` where none is.
-fn group_in(alloc: Global, store: &MemoryStore, given: &str) -> Result<Group, GroupCreateError> {
+    store: &MemoryStore,
+    given: &str,
+) -> Result<Group, GroupCreateError> {
     let (path, rest) = fields(given);
     let (document, list) = fields(rest);
-    let group = plain_group(alloc, store, path, document);
-    match list {
-        "none" => group,
-        list => changed(alloc, set_of(alloc, group, list)),
+    let mut group = plain_group(alloc, store, path, document)?;
+    if list != "none" {
+        set_list(&mut group, alloc, list)?;
     }
+    Ok(group)
+}
+
+// The group of three fields over an empty store.
+fn group_alone(alloc: Global, given: &str) -> Result<Group, GroupCreateError> {
+    group_in(alloc, &MemoryStore::new(alloc), given)
 }
 
 // ---- what a group holds
 
-// A group after its block was replaced, and what that call answers.
-fn replaced(mut group: Group, alloc: Global, block: Option<ConsolidatedMetadata>) -> Set {
-    let answer = group.replace_consolidated_metadata(alloc, block);
-    (group, answer)
-}
-
-// A copy of a group.
-fn copied(
+// A group with its block after a call that answered so; where that was refused, the refusal before it.
+fn answered_text(
+    group: &Group,
     alloc: Global,
-    group: Result<Group, GroupCreateError>,
-) -> Result<Group, GroupCreateError> {
-    Ok(group?.try_clone(alloc)?)
-}
-
-// The group of three fields after a change, and what the call answers that changes it.
-fn changed_in(alloc: Global, change: &str, given: &str) -> Result<Set, GroupCreateError> {
-    let group = group_in(alloc, &MemoryStore::new(alloc), given);
-    match change {
-        "-" => group.map(|group| (group, Ok(()))),
-        "set" => set_in(alloc, group, &[("a", G3)]),
-        "set and removed" => changed(alloc, set_in(alloc, group, &[("a", G3)])).map(|group| set(
-            group, alloc, None,
-        )),
-        "removed" => group.map(|group| set(group, alloc, None)),
-        "replaced" => both(
-            group,
-            block_of(alloc, &[("a", G3)]),
-            |group, block| replaced(group, alloc, Some(block)),
-        ),
-        "replaced by none" => group.map(|group| replaced(group, alloc, None)),
-        "copied" => copied(alloc, group).map(|group| (group, Ok(()))),
-        "as version 3" => group.map(|group| (group.to_v3(alloc), Ok(()))),
-        word => Err(GroupCreateError::from(no_word(alloc, word))),
-    }
-}
-
-// What the call answers that sets the block of three fields, and the group.
-fn set_list(alloc: Global, given: &str) -> Result<Set, GroupCreateError> {
-    let (path, rest) = fields(given);
-    let (document, list) = fields(rest);
-    let group = plain_group(alloc, &MemoryStore::new(alloc), path, document);
-    set_of(alloc, group, list)
-}
-
-// A group with its block after a call; where that was refused, the refusal before it.
-fn set_text(set: &Set, alloc: Global) -> Result<String, AllocError> {
-    let group = group_text(&set.0, alloc)?;
-    match &set.1 {
-        Ok(()) => Ok(group),
+    answer: Result<(), NodeCreateError>,
+) -> Result<String, AllocError> {
+    let text = group_text(group, alloc)?;
+    match answer {
+        Ok(()) => Ok(text),
         Err(error) => {
-            let error = refusal(alloc, error)?;
-            format!(in alloc; "{error}: {group}")
+            let error = refusal(alloc, &error)?;
+            format!(in alloc; "{error}: {text}")
         }
     }
 }
 
-// A group after a block was set, and the text of the group that this lends.
-type Lent = (Group, Result<String, AllocError>);
-
-// A group after a block was set, and the text of the group that the call lends.
-fn lent(mut group: Group, alloc: Global, block: ConsolidatedMetadata) -> Lent {
-    let answer = match group.set_consolidated_metadata(alloc, Some(block)) {
-        Ok(group) => group_text(group, alloc),
-        Err(error) => refusal(alloc, &error),
-    };
-    (group, answer)
+// A group after the call that sets the block of a list.
+fn set_text(group: &mut Group, alloc: Global, list: &str) -> Result<String, GroupCreateError> {
+    let block = block_of(alloc, list)?;
+    let answer = set(group, alloc, Some(block));
+    Ok(answered_text(group, alloc, answer)?)
 }
 
-fn lent_text(lent: &Lent, alloc: Global) -> Result<String, AllocError> {
-    match &lent.1 {
-        Ok(text) => text.clone(),
-        Err(error) => refusal(alloc, error),
+// A group after the call that replaces its block by that of a list.
+fn replaced_text(group: &mut Group, alloc: Global, list: &str) -> Result<String, GroupCreateError> {
+    let block = block_of(alloc, list)?;
+    let answer = group.replace_consolidated_metadata(alloc, Some(block));
+    Ok(answered_text(group, alloc, answer)?)
+}
+
+// The text of the group that the call lends which sets the block of a list.
+fn lent_text(group: &mut Group, alloc: Global, list: &str) -> Result<String, GroupCreateError> {
+    let block = block_of(alloc, list)?;
+    match group.set_consolidated_metadata(alloc, Some(block)) {
+        Ok(group) => Ok(group_text(group, alloc)?),
+        Err(error) => Ok(refusal(alloc, &error)?),
     }
 }
 
-// The group of three fields after the block of one group was set, and the text that this lends.
-fn lent_in(alloc: Global, given: &str) -> Result<Lent, GroupCreateError> {
-    let group = group_in(alloc, &MemoryStore::new(alloc), given);
-    let block = block_of(alloc, &[("a", G3)]);
-    both(group, block, |group, block| lent(group, alloc, block))
+// A group after its block was removed.
+fn removed_text(group: &mut Group, alloc: Global) -> Result<String, AllocError> {
+    let answer = set(group, alloc, None);
+    answered_text(group, alloc, answer)
+}
+
+// A group after a change of its block; one that is set or put in place of it is that of one group.
+fn changed_text(
+    group: &mut Group,
+    alloc: Global,
+    change: &str,
+) -> Result<String, GroupCreateError> {
+    match change {
+        "-" => Ok(group_text(group, alloc)?),
+        "set" => set_text(group, alloc, "a=G3"),
+        "lent" => lent_text(group, alloc, "a=G3"),
+        "removed" => Ok(removed_text(group, alloc)?),
+        "set and removed" => {
+            set_list(group, alloc, "a=G3")?;
+            Ok(removed_text(group, alloc)?)
+        }
+        "replaced" => replaced_text(group, alloc, "a=G3"),
+        "replaced by none" => {
+            let answer = group.replace_consolidated_metadata(alloc, None);
+            Ok(answered_text(group, alloc, answer)?)
+        }
+        word => Err(GroupCreateError::from(no_word(alloc, word))),
+    }
+}
+
+// The group of three fields after a change.
+fn changed(alloc: Global, change: &str, given: &str) -> Result<String, GroupCreateError> {
+    let mut group = group_alone(alloc, given)?;
+    changed_text(&mut group, alloc, change)
+}
+
+// The group of three fields after the call that sets the block of the third.
+fn set_in(alloc: Global, given: &str) -> Result<String, GroupCreateError> {
+    let (path, rest) = fields(given);
+    let (document, list) = fields(rest);
+    let mut group = plain_group(alloc, &MemoryStore::new(alloc), path, document)?;
+    set_text(&mut group, alloc, list)
+}
+
+// A copy of the group of three fields.
+fn copied(alloc: Global, given: &str) -> Result<String, GroupCreateError> {
+    let copy = group_alone(alloc, given)?.try_clone(alloc)?;
+    Ok(group_text(&copy, alloc)?)
+}
+
+// The group of three fields as one of version 3.
+fn as_version_3(alloc: Global, given: &str) -> Result<String, GroupCreateError> {
+    let group = group_alone(alloc, given)?.to_v3(alloc);
+    Ok(group_text(&group, alloc)?)
 }
 
 // What a group says of itself after a change, with its block. `CHANGE | PATH | DOCUMENT | LIST`.
-fn asked(alloc: Global, given: &str) -> Result<String, AllocError> {
+fn asked(alloc: Global, given: &str) -> Result<String, GroupCreateError> {
     let (change, group) = fields(given);
     match change {
-        "lent" => said(alloc, lent_in(alloc, group), lent_text),
-        "set list" => said(alloc, set_list(alloc, group), set_text),
-        change => said(alloc, changed_in(alloc, change, group), set_text),
+        "set list" => set_in(alloc, group),
+        "copied" => copied(alloc, group),
+        "as version 3" => as_version_3(alloc, group),
+        change => changed(alloc, change, group),
     }
 }
 
@@ -413,9 +423,10 @@ fn has_key(keys: &str, key: &StoreKey) -> bool {
 
 // The store with only these of its keys; with all of them for `all`.
 fn keep(alloc: Global, store: &mut MemoryStore, keys: &str) -> Result<(), StorageError> {
-    for key in store.list(alloc)? {
-        if keys != "all" && !has_key(keys, &key) {
-            store.erase(&key)?;
+    let listed = store.list(alloc)?;
+    for key in &listed {
+        if keys != "all" && !has_key(keys, key) {
+            store.erase(key)?;
         }
     }
     Ok(())
@@ -456,11 +467,10 @@ fn kept_text(
             said(alloc, node, Node::hierarchy_tree)
         }
         "opened" => said(alloc, Group::open(alloc, store, path, &config), group_text),
-        "opened children" => said(
-            alloc,
-            Group::open(alloc, store, path, &config),
-            |group: &Group, alloc| trees_text(group, alloc, store, &config),
-        ),
+        "opened children" => match Group::open(alloc, store, path, &config) {
+            Ok(group) => trees_text(&group, alloc, store, &config),
+            Err(error) => refusal(alloc, &error),
+        },
         word => format!(in alloc; "no such word: {word}"),
     }
 }
@@ -542,17 +552,19 @@ fn levels_text(alloc: Global) -> Result<String, AllocError> {
 const NOT_SET: &str =
     r#"OutOfMemory: out of memory: group at /group with metadata {"node_type":"group","zarr_format":3}"#;
 
+// The group of three levels after the call that sets its block.
+fn levels_set(alloc: Global) -> Result<String, GroupCreateError> {
+    let mut group = group_of(alloc, "/group", G3)?;
+    set_text(&mut group, alloc, "LEVELS")
+}
+
 #[test]
 fn memory_fails_in_setting_a_block(rt: HostRuntime) -> Result<(), Fail> {
     let alloc = rt.alloc();
-    let wanted = levels_text(alloc)?;
-    let set = set_of(alloc, group_of(alloc, "/group", G3), "LEVELS");
-    let found = said(alloc, set, set_text)?;
-    if found.as_str() == wanted.as_str() {
-        Ok(())
-    } else if found.as_str() == NOT_SET || is_out_of_memory(found.as_str()) {
-        Err(Fail::from(AllocError))
-    } else {
-        Err(Fail::new(format_args!("found {found} in place of {wanted}")))
+    let found = levels_set(alloc)?;
+    if found.as_str() == NOT_SET {
+        return Err(Fail::from(AllocError));
     }
+    let wanted = levels_text(alloc)?;
+    is_same(found.as_str(), wanted.as_str())
 }

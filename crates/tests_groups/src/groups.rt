@@ -1,7 +1,7 @@
 //! Groups that are made, opened, stored and erased. Each helper holds a group and answers a text; the tests are tables of texts.
 
 use crate::fixture_rows::store_in;
-use crate::fixtures::{Step, done, group_text, held_text, refused};
+use crate::fixtures::{Step, done, group_text, left_text, refused, store_built_at};
 use log::sink::Discard;
 use serde_json::{Map, Value};
 use std::alloc::{AllocError, Global};
@@ -36,13 +36,28 @@ fn object_of(alloc: Global, text: &str) -> Result<Object, GroupCreateError> {
     Ok(Object::from_map(alloc, members(alloc, text)?)?)
 }
 
-fn other_fields(alloc: Global, text: &str) -> Result<AdditionalFieldsV3, GroupCreateError> {
-    let mut fields = Map::new(alloc);
-    for (name, value) in members(alloc, text)?.iter() {
-        let understood = value.get("must_understand").is_none();
-        let field = AdditionalFieldV3::new(alloc, value.clone()?, understood)?;
+fn field_of(alloc: Global, value: &Value) -> Result<AdditionalFieldV3, GroupCreateError> {
+    let understood = value.get("must_understand").is_none();
+    Ok(AdditionalFieldV3::new(alloc, value.clone()?, understood)?)
+}
+
+// Puts the fields that members are.
+fn put_fields(
+    fields: &mut Map<String, AdditionalFieldV3>,
+    alloc: Global,
+    members: &Map<String, Value>,
+) -> Result<(), GroupCreateError> {
+    for (name, value) in members.iter() {
+        let field = field_of(alloc, value)?;
         drop(fields.insert(name.clone()?, field)?);
     }
+    Ok(())
+}
+
+fn other_fields(alloc: Global, text: &str) -> Result<AdditionalFieldsV3, GroupCreateError> {
+    let members = members(alloc, text)?;
+    let mut fields = Map::new(alloc);
+    put_fields(&mut fields, alloc, &members)?;
     Ok(AdditionalFieldsV3::from_map(alloc, fields)?)
 }
 
@@ -247,27 +262,32 @@ fn stepped(
     let step = step_of(alloc, step)?;
     let group = group_of(alloc, given, config)?;
     let answer = done(alloc, &group, store, step);
-    let held = held_text(alloc, store)?;
-    match answer {
-        Ok(()) => Ok(held),
-        Err(error) => {
-            let text = refusal(alloc, &error)?;
-            Ok(format!(in alloc; "{text}\n{held}")?)
-        }
-    }
+    Ok(left_text(alloc, answer, "\n", store)?)
 }
 
-// What each of the steps on groups under a configuration says, one after another over one store. `LIST | CONFIGURATION | STEP; STEP ..`.
+// Appends what each of the steps on groups under a configuration says, one after another over one store.
+fn push_steps(
+    text: &mut String,
+    alloc: Global,
+    store: &mut MemoryStore,
+    config: &Config,
+    steps: &str,
+) -> Result<(), GroupCreateError> {
+    for step in steps.split("; ") {
+        let said = stepped(alloc, store, config, step)?;
+        write!(text, "{said}then\n")?;
+    }
+    Ok(())
+}
+
+// What steps on groups under a configuration say over the store with the documents of a list. `LIST | CONFIGURATION | STEP; STEP ..`.
 fn after(alloc: Global, given: &str) -> Result<String, GroupCreateError> {
     let (list, rest) = fields(given);
     let (config, steps) = fields(rest);
     let config = config_of(alloc, config)?;
     let mut store = store_in(alloc, list)?;
     let mut text = String::new(alloc);
-    for step in steps.split("; ") {
-        let said = stepped(alloc, &mut store, &config, step)?;
-        write!(text, "{said}then\n")?;
-    }
+    push_steps(&mut text, alloc, &mut store, &config, steps)?;
     Ok(text)
 }
 
@@ -307,22 +327,29 @@ fn groups_are_stored_and_erased(rt: HostRuntime) -> Result<(), Fail> {
     check_rows(rt.alloc(), STORED, after)
 }
 
+// Stores a group, and those that a builder of nothing makes at the paths of a row, if any.
+fn store_with(
+    group: &Group,
+    alloc: Global,
+    store: &mut MemoryStore,
+    paths: &str,
+) -> Result<(), GroupCreateError> {
+    group.store_metadata(alloc, store)?;
+    if paths.is_empty() {
+        Ok(())
+    } else {
+        store_built_at(alloc, store, paths)
+    }
+}
+
 // What the group at the root traverses, which a builder of nothing makes and stores first, and those at the paths of a row behind it.
 fn traversed(alloc: Global, paths: &str) -> Result<String, GroupCreateError> {
     let config = Config::new();
-    let builder = GroupBuilder::new(alloc);
     let mut store = MemoryStore::new(alloc);
-    let root = builder.build(alloc, "/", &config)?;
-    root.store_metadata(alloc, &mut store)?;
-    for path in paths.split(' ').filter(|path: &&str| !path.is_empty()) {
-        let group = builder.build(alloc, path, &config)?;
-        group.store_metadata(alloc, &mut store)?;
-    }
-    Ok(said(
-        alloc,
-        root.traverse(&Discard, alloc, &store, &config),
-        pairs_text,
-    )?)
+    let root = GroupBuilder::new(alloc).build(alloc, "/", &config)?;
+    store_with(&root, alloc, &mut store, paths)?;
+    let pairs = root.traverse(&Discard, alloc, &store, &config);
+    Ok(said(alloc, pairs, pairs_text)?)
 }
 
 const TRAVERSED: &str = r#"
@@ -419,12 +446,11 @@ fn parts_text(group: &Group, alloc: Global) -> Result<String, AllocError> {
 }
 
 // The attributes that a group lends, and the group after others were written in their place.
-fn written(alloc: Global, mut group: Group) -> Result<String, GroupCreateError> {
-    let others = object_of(alloc, r#"{"n":1}"#)?;
+fn written(alloc: Global, group: &mut Group) -> Result<String, GroupCreateError> {
     let mut text = String::from_str(alloc, "lent")?;
     push_members(&mut text, alloc, group.attributes_mut())?;
-    *group.attributes_mut() = others;
-    let after = group_text(&group, alloc)?;
+    *group.attributes_mut() = object_of(alloc, r#"{"n":1}"#)?;
+    let after = group_text(group, alloc)?;
     write!(text, "; {after}")?;
     Ok(text)
 }
@@ -440,32 +466,43 @@ fn under(
     Group::new_with_metadata(alloc, group.path().as_str(), metadata, &Config::new())
 }
 
+// What opening a path of a store says, as a group and as a node.
+fn opened_both(alloc: Global, store: &MemoryStore, path: &str) -> Result<String, AllocError> {
+    let config = Config::new();
+    let opened = group_said(alloc, Group::open(alloc, store, path, &config))?;
+    let node = Node::open(&Discard, alloc, store, path, &config);
+    let node = said(alloc, node, node_text)?;
+    format!(in alloc; "{opened}\n{node}")
+}
+
 // What opening the path of a group says, as a group and as a node, once the group was stored over nothing.
 fn again(alloc: Global, group: &Group) -> Result<String, GroupCreateError> {
     let mut store = MemoryStore::new(alloc);
     group.store_metadata(alloc, &mut store)?;
-    let config = Config::new();
-    let path = group.path().as_str();
-    let opened = group_said(alloc, Group::open(alloc, &store, path, &config))?;
-    let node = Node::open(&Discard, alloc, &store, path, &config);
-    let node = said(alloc, node, node_text)?;
-    Ok(format!(in alloc; "{opened}\n{node}")?)
+    Ok(opened_both(alloc, &store, group.path().as_str())?)
 }
 
 // What is seen of a group by a word.
-fn looked_at(alloc: Global, look: &str, group: Group) -> Result<String, GroupCreateError> {
+fn seen(alloc: Global, look: &str, group: &Group) -> Result<String, GroupCreateError> {
     let group = match look {
-        "parts" => return Ok(parts_text(&group, alloc)?),
-        "written" => return written(alloc, group),
-        "again" => return again(alloc, &group),
-        "text" => Ok(group),
+        "parts" => return Ok(parts_text(group, alloc)?),
+        "text" => return Ok(group_text(group, alloc)?),
+        "again" => return again(alloc, group),
         "copied" => Ok(group.try_clone(alloc)?),
-        "as version 3" => Ok(group.to_v3(alloc)),
-        "under v3" => under(alloc, &group, MetadataConvertVersion::V3),
-        "under default" => under(alloc, &group, MetadataConvertVersion::Default),
+        "under v3" => under(alloc, group, MetadataConvertVersion::V3),
+        "under default" => under(alloc, group, MetadataConvertVersion::Default),
         word => Err(GroupCreateError::from(no_word(alloc, word))),
     };
     Ok(group_said(alloc, group)?)
+}
+
+// The same of a group that a look may take or change.
+fn looked_at(alloc: Global, look: &str, mut group: Group) -> Result<String, GroupCreateError> {
+    match look {
+        "as version 3" => Ok(group_text(&group.to_v3(alloc), alloc)?),
+        "written" => written(alloc, &mut group),
+        look => seen(alloc, look, &group),
+    }
 }
 
 // What is seen of the group that is made, or the refusal. `LOOK | BY | PATH | PARTS`.
@@ -617,11 +654,8 @@ fn refusals_have_their_variants_and_texts(rt: HostRuntime) -> Result<(), Fail> {
     check_rows(rt.alloc(), REFUSED, error_text)
 }
 
-// Whether a group of version 3 with an attribute of so many lists in each other is shallow.
-fn shallow_said(alloc: Global, levels: &str) -> Result<String, GroupCreateError> {
-    let Ok(count) = levels.parse::<usize>() else {
-        return Err(GroupCreateError::from(no_word(alloc, levels)));
-    };
+// The fields of a group of version 3 with an attribute of so many lists in each other.
+fn nested(alloc: Global, count: usize) -> Result<String, AllocError> {
     let mut given = String::from_str(alloc, r#"3 | {"k":"#)?;
     for _ in 0..count {
         given.push('[')?;
@@ -630,6 +664,15 @@ fn shallow_said(alloc: Global, levels: &str) -> Result<String, GroupCreateError>
         given.push(']')?;
     }
     given.push_str("} | {}")?;
+    Ok(given)
+}
+
+// Whether a group of version 3 with an attribute of so many lists in each other is shallow.
+fn shallow_said(alloc: Global, levels: &str) -> Result<String, GroupCreateError> {
+    let Ok(count) = levels.parse::<usize>() else {
+        return Err(GroupCreateError::from(no_word(alloc, levels)));
+    };
+    let given = nested(alloc, count)?;
     let group = group_of(alloc, given.as_str(), &Config::new())?;
     Ok(printed(&group.is_shallow(alloc)?, alloc)?)
 }

@@ -1,6 +1,7 @@
 //! Hierarchies and nodes of a store whose documents may hold any number, by a listing and by a block with fractions.
 
 use crate::fixture_rows::store_in;
+use crate::fixtures::of_group;
 use crate::hierarchies::opening::seen;
 use log::sink::Discard;
 use std::alloc::{AllocError, Global};
@@ -27,16 +28,16 @@ fn opened_tree<S: ReadableStorageTraits + ListableStorageTraits>(
 }
 
 // The hierarchy of the group at `/g` and of the nodes that are listed below it.
-fn of_group<S: ReadableStorageTraits + ListableStorageTraits>(
+fn hierarchy_of_group<S: ReadableStorageTraits + ListableStorageTraits>(
     alloc: Global,
     store: &S,
     config: &Config,
 ) -> Result<Hierarchy, GroupCreateError> {
     let group = Group::open(alloc, store, "/g", config)?;
-    match Hierarchy::try_from_group(&Discard, alloc, &group, store) {
-        Ok(hierarchy) => Ok(hierarchy),
-        Err(error) => Err(GroupCreateError::from_node_error(alloc, error)),
-    }
+    of_group(
+        alloc,
+        Hierarchy::try_from_group(&Discard, alloc, &group, store),
+    )
 }
 
 // What is seen at `/g` of a store: the tree alone, the nodes of the group's hierarchy, the node, or by any other word the hierarchy.
@@ -48,7 +49,7 @@ fn looked_at<S: ReadableStorageTraits + ListableStorageTraits>(
 ) -> Result<String, AllocError> {
     match look {
         "tree at" => said(alloc, opened_tree(alloc, store, config), printed),
-        "of group" => seen(alloc, of_group(alloc, store, config), "nodes"),
+        "of group" => seen(alloc, hierarchy_of_group(alloc, store, config), "nodes"),
         "node" => said(
             alloc,
             Node::open(&Discard, alloc, store, "/g", config),

@@ -14,9 +14,11 @@ ghost use Rattle.zarrs_group.specs.StoringGroups.{edits_of_group, erase_edits, R
 
 use crate::fixture_rows::store_in;
 use crate::fixtures::{
-    Step, consolidated, done, group_of as group_of_document, group_text, groups_text, held_text,
-    is_out_of_memory, with_block as with_block_of,
+    consolidated, done, group_of, group_text, groups_text, held_text, is_out_of_memory, is_same,
+    left_text,
 };
+use crate::group_children::group_in;
+use crate::groups::step_of;
 use crate::hierarchies::opening::nodes_text;
 use log::sink::Discard;
 use std::alloc::{AllocError, Global};
@@ -26,11 +28,11 @@ use tests_fixtures::{
     listed_in, listing_text, metadata_in, no_word, node_text, pairs_text, paths_listed_in,
     paths_listing_text, paths_text, policy_of, version_of,
 };
-use tests_support::{A2, G2, G3, check_rows, fields, refusal, said};
+use tests_support::{G3, check_rows, fields, refusal, said};
 use zarrs_block::{ConsolidatedMetadataMetadata, NodeCreateError};
 use zarrs_config::{
-    Config, GroupMetadataOptions, MetadataConvertVersion, MetadataEraseVersion,
-    MetadataRetrieveVersion, UseConsolidatedMetadata,
+    Config, GroupMetadataOptions, MetadataEraseVersion, MetadataRetrieveVersion,
+    UseConsolidatedMetadata,
 };
 use zarrs_group::{Group, GroupCreateError};
 use zarrs_hierarchy::Hierarchy;
@@ -128,9 +130,6 @@ fn erased_over_faults(
 
 // ---- places
 
-// A place at which a store fails: `get`, `list`, `set` or `erase`, and the text of its key or prefix.
-type Place<'a> = (&'a str, &'a str);
-
 fn prefix_of(alloc: Global, text: &str) -> Result<StorePrefix, StorageError> {
     match StorePrefix::new(alloc, text) {
         Ok(prefix) => Ok(prefix),
@@ -139,64 +138,57 @@ fn prefix_of(alloc: Global, text: &str) -> Result<StorePrefix, StorageError> {
     }
 }
 
-fn fault_at(alloc: Global, place: Place) -> Result<FaultAt, StorageError> {
-    let (call, text) = place;
+// The fault where a store is asked by `get`, `list`, `set` or `erase` for the key or the prefix that a text is.
+fn fault_at(alloc: Global, call: &str, text: &str) -> Result<FaultAt, StorageError> {
+    if call == "list" {
+        return Ok(FaultAt::OnList(prefix_of(alloc, text)?));
+    }
+    let key = key_of(alloc, text)?;
     match call {
-        "get" => Ok(FaultAt::OnGet(key_of(alloc, text)?)),
-        "list" => Ok(FaultAt::OnList(prefix_of(alloc, text)?)),
-        "set" => Ok(FaultAt::OnSet(key_of(alloc, text)?)),
-        "erase" => Ok(FaultAt::OnErase(key_of(alloc, text)?)),
+        "get" => Ok(FaultAt::OnGet(key)),
+        "set" => Ok(FaultAt::OnSet(key)),
+        "erase" => Ok(FaultAt::OnErase(key)),
         word => Err(no_word(alloc, word)),
     }
 }
 
-// The store with the documents of a list that fails at a place.
-fn failing(alloc: Global, list: &str, place: Place) -> Result<FaultStore, StorageError> {
-    let store = store_in(alloc, list)?;
-    Ok(FaultStore::new(store, fault_at(alloc, place)?))
+// The fault at a place, a line of a call and a text. That at the root is `list` alone.
+fn fault_in(alloc: Global, place: &str) -> Result<FaultAt, StorageError> {
+    let (call, text) = place.split_once(' ').unwrap_or((place, ""));
+    fault_at(alloc, call, text)
+}
+
+// The store with the documents of a list that has a fault.
+fn failing(
+    alloc: Global,
+    list: &str,
+    fault: Result<FaultAt, StorageError>,
+) -> Result<FaultStore, StorageError> {
+    let fault = fault?;
+    Ok(FaultStore::new(store_in(alloc, list)?, fault))
 }
 
 // A place to which no call comes that reads.
-const NOWHERE: Place<'static> = ("erase", "nowhere");
-
-// All places at these keys and these prefixes.
-fn places_of<'a>(
-    alloc: Global,
-    keys: &[&'a str],
-    prefixes: &[&'a str],
-) -> Result<Vec<Place<'a>>, AllocError> {
-    let mut places = Vec::new(alloc);
-    for key in keys {
-        for call in ["get", "set", "erase"] {
-            places.push((call, *key))?;
-        }
-    }
-    for prefix in prefixes {
-        places.push(("list", *prefix))?;
-    }
-    Ok(places)
-}
+const NOWHERE: &str = "erase nowhere";
 
 // ---- calls that read, and what they answer
 
-const CALLS: [&str; 16] = [
-    "metadata",
-    "exists",
-    "listed",
-    "listed one",
-    "paths",
-    "paths one",
-    "all",
-    "refreshed",
-    "node",
-    "hierarchy",
-    "group",
-    "children",
-    "children one",
-    "traversed",
-    "kinds",
-    "from group",
-];
+const CALLS: &str = r#"metadata
+exists
+listed
+listed one
+paths
+paths one
+all
+refreshed
+node
+hierarchy
+group
+children
+children one
+traversed
+kinds
+from group"#;
 
 // What a call is asked: a path, the version of the documents, and the policy of blocks.
 #[derive(Clone, Copy, Drop)]
@@ -235,18 +227,23 @@ fn all_in(
     get_all_nodes_of(&Discard, alloc, store, &path, &asked.version)
 }
 
-// A block of two nodes at the root, made current at a path; at the root itself it stays.
+// A block of two nodes at the root.
+fn older_block(alloc: Global) -> Result<ConsolidatedMetadataMetadata, NodeCreateError> {
+    entries_of(alloc, &[("group", G3), ("group/old", A3_SQUARE)])
+}
+
+// That block, made current at a path; at the root itself it stays.
 fn refreshed_at(
     alloc: Global,
     store: &FaultStore,
     asked: Asked,
 ) -> Result<ConsolidatedMetadataMetadata, NodeCreateError> {
-    let block = entries_of(alloc, &[("group", G3), ("group/old", A3_SQUARE)])?;
     let root = NodePath::root(alloc)?;
     let path = NodePath::new(alloc, asked.path)?;
     if !path.is_below(&root) {
-        return Ok(block);
+        return older_block(alloc);
     }
+    let block = older_block(alloc)?;
     refresh_block(alloc, store, &root, &asked.version, &block, &path)
 }
 
@@ -297,6 +294,18 @@ fn answered(
     }
 }
 
+// What a call answers over the documents of a list whose store fails at a place.
+fn answered_at(
+    alloc: Global,
+    list: &str,
+    place: &str,
+    call: &str,
+    asked: Asked,
+) -> Result<String, StorageError> {
+    let store = failing(alloc, list, fault_in(alloc, place))?;
+    Ok(answered(alloc, &store, call, asked)?)
+}
+
 // What a call answers that opens a path first.
 fn opened_text(
     alloc: Global,
@@ -317,12 +326,22 @@ fn opened_text(
         }
         call => {
             let group = Group::open_opt(alloc, store, path, &version, &config);
-            said(
-                alloc,
-                group,
-                |group: &Group, alloc| call_text(group, alloc, store, call, &config),
-            )
+            group_answered(alloc, group, store, call, &config)
         }
+    }
+}
+
+// What a call on a group answers, or the refusal of the group.
+fn group_answered(
+    alloc: Global,
+    group: Result<Group, GroupCreateError>,
+    store: &FaultStore,
+    call: &str,
+    config: &Config,
+) -> Result<String, AllocError> {
+    match group {
+        Ok(group) => call_text(&group, alloc, store, call, config),
+        Err(error) => refusal(alloc, &error),
     }
 }
 
@@ -367,56 +386,101 @@ fn kinds_text(
     config: &Config,
 ) -> Result<String, AllocError> {
     let groups = group.child_groups(&Discard, alloc, store, config);
-    let mut text = said(alloc, groups, groups_text)?;
-    for paths in [
-        group.child_paths(&Discard, alloc, store, config),
-        group.child_group_paths(&Discard, alloc, store, config),
-        group.child_array_paths(&Discard, alloc, store, config),
-    ] {
-        if is_excused(text.as_str()) {
-            return Ok(text);
-        }
-        let more = said(alloc, paths, paths_text)?;
-        text = if is_excused(more.as_str()) {
-            more
-        } else {
-            format!(in alloc; "{text}:\n{more}")?
-        };
+    let text = said(alloc, groups, groups_text)?;
+    let paths = group.child_paths(&Discard, alloc, store, config);
+    let text = with_paths(alloc, text, paths)?;
+    let paths = group.child_group_paths(&Discard, alloc, store, config);
+    let text = with_paths(alloc, text, paths)?;
+    let paths = group.child_array_paths(&Discard, alloc, store, config);
+    with_paths(alloc, text, paths)
+}
+
+// A text and the paths behind it; of a refusal among the two only the first.
+fn with_paths(
+    alloc: Global,
+    text: String,
+    paths: Result<Vec<NodePath>, NodeCreateError>,
+) -> Result<String, AllocError> {
+    let more = said(alloc, paths, paths_text)?;
+    if is_excused(text.as_str()) {
+        Ok(text)
+    } else if is_excused(more.as_str()) {
+        Ok(more)
+    } else {
+        format!(in alloc; "{text}:\n{more}")
     }
-    Ok(text)
 }
 
 // The fault of a store, as the refusal of a node or of a group.
 const FAULT: &str = "StorageError(Fault): store fault";
 
-fn is_same(found: &str, wanted: &str) -> Result<(), Fail> {
+// Runs with a fault at a place, how many of them the fault refused, and what was found in place of what was wanted.
+#[derive(Drop)]
+struct Tally {
+    runs: u32,
+    faults: u32,
+    wrong: String,
+}
+
+fn tally_of_none(alloc: Global) -> Tally {
+    Tally {
+        runs: 0,
+        faults: 0,
+        wrong: String::new(alloc),
+    }
+}
+
+// Counts a run that found this text.
+fn count(tally: &mut Tally, found: &str, wanted: &str, is_fault: bool) -> Result<(), AllocError> {
+    tally.runs = tally.runs.saturating_add(1);
+    if is_fault {
+        tally.faults = tally.faults.saturating_add(1);
+    }
     if found == wanted {
         Ok(())
     } else {
-        Err(Fail::new(format_args!("found {found} in place of {wanted}")))
+        write!(tally.wrong, "; found {found} in place of {wanted}")
     }
+}
+
+fn tally_text(tally: &Tally, alloc: Global) -> Result<String, AllocError> {
+    let Tally {
+        runs,
+        faults,
+        wrong,
+    } = tally;
+    format!(in alloc; "{faults} faults in {runs} runs{wrong}")
 }
 
 // ---- single faults
 
-// What a call answers of three levels, whose store fails where it gets a key: what is listed, or the nodes, of all levels or of one.
-// `CALL | KEY`.
-fn below_a_key(alloc: Global, given: &str) -> Result<String, NodeCreateError> {
-    let (call, key) = fields(given);
-    let store = failing(alloc, "THREE_LEVELS", ("get", key))?;
-    let root = NodePath::root(alloc)?;
+// What is listed below the root of a store, or the nodes there, of all levels or of one.
+fn below_the_root(
+    alloc: Global,
+    store: &FaultStore,
+    root: &NodePath,
+    call: &str,
+) -> Result<String, StorageError> {
     let recursive = !call.ends_with(" one");
     match call {
         "listed" | "listed one" => {
-            let listed = listed_over_faults(alloc, &store, &root, recursive, &ANY);
+            let listed = listed_over_faults(alloc, store, root, recursive, &ANY);
             Ok(said(alloc, listed, listing_text)?)
         }
         "nodes" | "nodes one" => {
-            let nodes = nodes_over_faults(alloc, &store, &root, recursive, &ANY);
+            let nodes = nodes_over_faults(alloc, store, root, recursive, &ANY);
             Ok(said(alloc, nodes, forest_text)?)
         }
-        word => Err(NodeCreateError::from(no_word(alloc, word))),
+        word => Err(no_word(alloc, word)),
     }
+}
+
+// What a call answers of three levels, whose store fails where it gets a key. `CALL | KEY`.
+fn below_a_key(alloc: Global, given: &str) -> Result<String, NodeCreateError> {
+    let (call, key) = fields(given);
+    let store = failing(alloc, "THREE_LEVELS", fault_at(alloc, "get", key))?;
+    let root = NodePath::root(alloc)?;
+    Ok(below_the_root(alloc, &store, &root, call)?)
 }
 
 const BELOW_A_KEY: &str = r#"
@@ -454,13 +518,8 @@ fn group_for(alloc: Global, call: &str) -> Result<Group, GroupCreateError> {
 
 // What a call answers of its group over a store.
 fn group_said(alloc: Global, store: &FaultStore, call: &str) -> Result<String, AllocError> {
-    let config = Config::new();
     let group = group_for(alloc, call);
-    said(
-        alloc,
-        group,
-        |group: &Group, alloc| call_text(group, alloc, store, call, &config),
-    )
+    group_answered(alloc, group, store, call, &Config::new())
 }
 
 // The documents of the store over which a call is asked: none for `children`, whose group has a block.
@@ -475,7 +534,7 @@ fn list_for(call: &str) -> &'static str {
 // asked of a group. `CALL | PREFIX`.
 fn over_a_prefix(alloc: Global, given: &str) -> Result<String, GroupCreateError> {
     let (call, prefix) = fields(given);
-    let store = failing(alloc, list_for(call), ("list", prefix))?;
+    let store = failing(alloc, list_for(call), fault_at(alloc, "list", prefix))?;
     match call {
         "node" | "hierarchy" => Ok(opened_at_root(alloc, &store, call)?),
         call => Ok(group_said(alloc, &store, call)?),
@@ -498,64 +557,42 @@ fn opening_fails_where_it_lists_the_prefix(rt: HostRuntime) -> Result<(), Fail> 
 
 // ---- storing and erasing
 
-const OLD: &str = r#"{"zarr_format":2}"#;
-
-const OLD_K: &str = r#"{"attributes":{"k":1},"zarr_format":2}"#;
-
-// The group of a step.
-fn group_of(alloc: Global, held: Held) -> Result<Group, GroupCreateError> {
-    let (document, has_block) = held;
-    let group = group_of_document(alloc, "/g", document);
-    if has_block {
-        with_block_of(alloc, group, &[("b", G2)])
-    } else {
-        group
-    }
-}
-
-// What a change answers, and what the store then holds.
-fn left_text(
-    alloc: Global,
-    answer: Result<(), StorageError>,
-    store: &MemoryStore,
-) -> Result<String, StorageError> {
-    let held = held_text(alloc, store)?;
-    match answer {
-        Ok(()) => Ok(held),
-        Err(error) => {
-            let error = refusal(alloc, &error)?;
-            Ok(format!(in alloc; "{error}: {held}")?)
-        }
-    }
-}
-
-// What storing the group with an attribute answers, and what the store then holds.
-fn stored_text(group: &Group, alloc: Global, place: Place) -> Result<String, StorageError> {
-    let mut store = failing(alloc, "-", place)?;
+// What storing a group answers where the store fails as it sets a key, and what the store then holds.
+fn stored_text(group: &Group, alloc: Global, key: &str) -> Result<String, StorageError> {
+    let mut store = failing(alloc, "-", fault_at(alloc, "set", key))?;
     let options = GroupMetadataOptions::default();
     let answer = stored_over_faults(alloc, group, &mut store, &options);
-    left_text(alloc, answer, store.inner())
+    left_text(alloc, answer, ": ", store.inner())
 }
 
-// What erasing the documents of both versions then answers, and what the store then holds.
-fn erased_text(group: &Group, alloc: Global, place: Place) -> Result<String, StorageError> {
+// What erasing the documents of both versions answers where the store fails as it erases a key, and what the store then holds.
+fn erased_text(group: &Group, alloc: Global, key: &str) -> Result<String, StorageError> {
     let list = "g/.zattrs=[a] g/.zgroup=[g] g/zarr.json=[j]";
-    let mut store = failing(alloc, list, place)?;
+    let mut store = failing(alloc, list, fault_at(alloc, "erase", key))?;
     let answer = erased_over_faults(alloc, group, &mut store, MetadataEraseVersion::All);
-    left_text(alloc, answer, store.inner())
+    left_text(alloc, answer, ": ", store.inner())
+}
+
+// What storing or erasing a group answers where the store fails at a key, and what that then holds.
+fn changed_text(
+    group: &Group,
+    alloc: Global,
+    call: &str,
+    key: &str,
+) -> Result<String, StorageError> {
+    match call {
+        "set" => stored_text(group, alloc, key),
+        "erase" => erased_text(group, alloc, key),
+        word => Err(no_word(alloc, word)),
+    }
 }
 
 // What storing or erasing the group with an attribute answers where the store fails at a key, and what that then holds.
 // `CALL | KEY`.
 fn left_at(alloc: Global, given: &str) -> Result<String, GroupCreateError> {
     let (call, key) = fields(given);
-    let group = group_of(alloc, (OLD_K, false))?;
-    let text = match call {
-        "set" => stored_text(&group, alloc, (call, key)),
-        "erase" => erased_text(&group, alloc, (call, key)),
-        word => Err(no_word(alloc, word)),
-    };
-    Ok(text?)
+    let group = group_of(alloc, "/g", r#"{"attributes":{"k":1},"zarr_format":2}"#)?;
+    Ok(changed_text(&group, alloc, call, key)?)
 }
 
 const LEFT: &str = r#"
@@ -571,27 +608,34 @@ fn a_failing_change_leaves_a_part(rt: HostRuntime) -> Result<(), Fail> {
     check_rows(rt.alloc(), LEFT, left_at)
 }
 
-// Changes: a text is set at its key, the empty text is a key that is erased. A change without a key is none.
-type Changes<'a> = [(&'a str, &'a str); 4];
+// Steps on the group at `/g`, one after another over one store: a call, the changes that it makes in their order, and the group before it.
+// A group without a block erases one that was stored, and one with a block sets it behind its own documents.
+// `STEP | CHANGES | PATH | DOCUMENT | LIST`.
+const STEPS: &str =
+    r#"store | g/.zmetadata= g/.zattrs=K g/.zgroup=OLD | /g | {"attributes":{"k":1},"zarr_format":2} | none
+store | g/.zmetadata= g/.zattrs= g/.zgroup=OLD | /g | {"zarr_format":2} | none
+store v3 | g/zarr.json=NEW | /g | {"zarr_format":2} | none
+erase default | g/.zgroup= g/.zattrs= g/.zmetadata= | /g | {"zarr_format":2} | none
+store default | g/.zmetadata= g/.zattrs=K g/.zgroup=OLD | /g | {"attributes":{"k":1},"zarr_format":2} | none
+erase all | g/zarr.json= g/.zgroup= g/.zattrs= g/.zmetadata= | /g | {"attributes":{"k":1},"zarr_format":2} | none
+store | g/.zattrs=K g/.zgroup=OLD g/.zmetadata=BLOCK | /g | {"attributes":{"k":1},"zarr_format":2} | b=G2
+erase default | g/.zgroup= g/.zattrs= g/.zmetadata= | /g | {"attributes":{"k":1},"zarr_format":2} | b=G2"#;
 
-const NONE: (&str, &str) = ("", "");
+// The documents of these groups and of the block, as they are stored.
+const K: &str = r#"{
+  "k": 1
+}"#;
 
-const SET_K: (&str, &str) = ("g/.zattrs", "{\n  \"k\": 1\n}");
+const OLD: &str = r#"{
+  "zarr_format": 2
+}"#;
 
-const SET_OLD: (&str, &str) = ("g/.zgroup", "{\n  \"zarr_format\": 2\n}");
+const NEW: &str = r#"{
+  "node_type": "group",
+  "zarr_format": 3
+}"#;
 
-const SET_NEW: (&str, &str) = (
-    "g/zarr.json",
-    "{\n  \"node_type\": \"group\",\n  \"zarr_format\": 3\n}",
-);
-
-// A group without a block erases one that was stored.
-const NO_BLOCK: (&str, &str) = ("g/.zmetadata", "");
-
-// A group with a block sets it behind its own documents.
-const SET_BLOCK: (&str, &str) = (
-    "g/.zmetadata",
-    r#"{
+const STORED_BLOCK: &str = r#"{
   "metadata": {
     ".zattrs": {
       "k": 1
@@ -604,86 +648,84 @@ const SET_BLOCK: (&str, &str) = (
     }
   },
   "zarr_consolidated_format": 1
-}"#,
-);
+}"#;
 
-// The document of a group of version 2 at `/g`, and whether it holds a block with the group `b`.
-type Held<'a> = (&'a str, bool);
+// The places of a store with documents of both versions.
+const STEP_PLACES: &str = r#"get g/.zarray
+set g/.zarray
+erase g/.zarray
+get g/.zattrs
+set g/.zattrs
+erase g/.zattrs
+get g/.zgroup
+set g/.zgroup
+erase g/.zgroup
+get g/.zmetadata
+set g/.zmetadata
+erase g/.zmetadata
+get g/zarr.json
+set g/zarr.json
+erase g/zarr.json
+list
+list g/"#;
 
-// Steps on such groups, one after another, each with its changes.
-const STEPS: [(Held<'static>, Step, Changes<'static>); 8] = [
-    (
-        (OLD_K, false),
-        Step::Store,
-        [NO_BLOCK, SET_K, SET_OLD, NONE],
-    ),
-    (
-        (OLD, false),
-        Step::Store,
-        [NO_BLOCK, ("g/.zattrs", ""), SET_OLD, NONE],
-    ),
-    (
-        (OLD, false),
-        Step::StoreAs(MetadataConvertVersion::V3),
-        [SET_NEW, NONE, NONE, NONE],
-    ),
-    (
-        (OLD, false),
-        Step::EraseAs(MetadataEraseVersion::Default),
-        [("g/.zgroup", ""), ("g/.zattrs", ""), NO_BLOCK, NONE],
-    ),
-    (
-        (OLD_K, false),
-        Step::StoreAs(MetadataConvertVersion::Default),
-        [NO_BLOCK, SET_K, SET_OLD, NONE],
-    ),
-    (
-        (OLD_K, false),
-        Step::EraseAs(MetadataEraseVersion::All),
-        [
-            ("g/zarr.json", ""),
-            ("g/.zgroup", ""),
-            ("g/.zattrs", ""),
-            NO_BLOCK,
-        ],
-    ),
-    (
-        (OLD_K, true),
-        Step::Store,
-        [SET_K, SET_OLD, SET_BLOCK, NONE],
-    ),
-    (
-        (OLD_K, true),
-        Step::EraseAs(MetadataEraseVersion::Default),
-        [("g/.zgroup", ""), ("g/.zattrs", ""), NO_BLOCK, NONE],
-    ),
-];
+// The text that a change sets by its word, none where it erases.
+fn text_of(alloc: Global, word: &str) -> Result<&str, StorageError> {
+    match word {
+        "" => Ok(""),
+        "K" => Ok(K),
+        "OLD" => Ok(OLD),
+        "NEW" => Ok(NEW),
+        "BLOCK" => Ok(STORED_BLOCK),
+        word => Err(no_word(alloc, word)),
+    }
+}
 
-const STEP_KEYS: [&str; 5] = [
-    "g/.zarray",
-    "g/.zattrs",
-    "g/.zgroup",
-    "g/.zmetadata",
-    "g/zarr.json",
-];
-
-// Makes the first `count` of these changes, up to the first that is refused.
+// Makes a change, such as `KEY=WORD`: sets the text of the word, or erases the key.
 fn change<S: WritableStorageTraits>(
     alloc: Global,
     store: &mut S,
-    changes: &Changes,
+    given: &str,
+) -> Result<(), StorageError> {
+    let Some((key, word)) = given.split_once('=') else {
+        return Err(no_word(alloc, given));
+    };
+    let text = text_of(alloc, word)?;
+    let key = key_of(alloc, key)?;
+    if text.is_empty() {
+        store.erase(&key)
+    } else {
+        store.set(&key, text.as_bytes())
+    }
+}
+
+// The changes of a step.
+fn changes_of(step: &str) -> &str {
+    let (_call, rest) = fields(step);
+    fields(rest).0
+}
+
+// Makes the first `count` changes of a step, up to the first that is refused.
+fn change_first<S: WritableStorageTraits>(
+    alloc: Global,
+    store: &mut S,
+    step: &str,
     count: usize,
 ) -> Result<(), StorageError> {
-    for (key, text) in changes.iter().take(count) {
-        if key.is_empty() {
-            return Ok(());
-        }
-        let key = key_of(alloc, key)?;
-        if text.is_empty() {
-            store.erase(&key)?;
-        } else {
-            store.set(&key, text.as_bytes())?;
-        }
+    for entry in changes_of(step).split(' ').take(count) {
+        change(alloc, store, entry)?;
+    }
+    Ok(())
+}
+
+// Makes all changes of the first steps.
+fn change_before(
+    alloc: Global,
+    store: &mut MemoryStore,
+    number: usize,
+) -> Result<(), StorageError> {
+    for step in STEPS.lines().take(number) {
+        change_first(alloc, store, step, usize::MAX)?;
     }
     Ok(())
 }
@@ -691,10 +733,32 @@ fn change<S: WritableStorageTraits>(
 // The store before the step of this number: an array's document, and what the steps before left.
 fn before(alloc: Global, number: usize) -> Result<MemoryStore, StorageError> {
     let mut store = store_in(alloc, "g/.zarray=A2")?;
-    for (_, _, changes) in STEPS.iter().take(number) {
-        change(alloc, &mut store, changes, 4)?;
-    }
+    change_before(alloc, &mut store, number)?;
     Ok(store)
+}
+
+// That store, with a fault.
+fn failing_before(alloc: Global, number: usize, place: &str) -> Result<FaultStore, StorageError> {
+    let fault = fault_in(alloc, place)?;
+    Ok(FaultStore::new(before(alloc, number)?, fault))
+}
+
+// The group of a step.
+fn group_of_step(alloc: Global, step: &str) -> Result<Group, GroupCreateError> {
+    let (_call, rest) = fields(step);
+    let (_changes, group) = fields(rest);
+    group_in(alloc, &MemoryStore::new(alloc), group)
+}
+
+// What a step on a group answers over a store.
+fn done_by<S: WritableStorageTraits>(
+    alloc: Global,
+    group: &Group,
+    store: &mut S,
+    step: &str,
+) -> Result<(), StorageError> {
+    let (call, _rest) = fields(step);
+    done(alloc, group, store, step_of(alloc, call)?)
 }
 
 // What a step on a group answers where its store fails at a place, and what that then holds.
@@ -702,144 +766,181 @@ fn stepped_text(
     group: &Group,
     alloc: Global,
     number: usize,
-    step: Step,
-    place: Place,
+    step: &str,
+    place: &str,
 ) -> Result<String, StorageError> {
-    let mut store = FaultStore::new(before(alloc, number)?, fault_at(alloc, place)?);
-    let answer = done(alloc, group, &mut store, step);
-    left_text(alloc, answer, store.inner())
+    let mut store = failing_before(alloc, number, place)?;
+    let answer = done_by(alloc, group, &mut store, step);
+    left_text(alloc, answer, ": ", store.inner())
 }
 
 // What the changes of that step answer, made one by one, and what is held then.
-fn changed_text(
+fn wanted_text(
     alloc: Global,
     number: usize,
-    changes: &Changes,
-    place: Place,
+    step: &str,
+    place: &str,
 ) -> Result<String, StorageError> {
-    let mut store = FaultStore::new(before(alloc, number)?, fault_at(alloc, place)?);
-    let answer = change(alloc, &mut store, changes, 4);
-    left_text(alloc, answer, store.inner())
+    let mut store = failing_before(alloc, number, place)?;
+    let answer = change_first(alloc, &mut store, step, usize::MAX);
+    left_text(alloc, answer, ": ", store.inner())
+}
+
+// Counts the runs of a step on its group, with a fault at each place.
+fn count_step(
+    group: &Group,
+    alloc: Global,
+    tally: &mut Tally,
+    number: usize,
+    step: &str,
+) -> Result<(), StorageError> {
+    for place in STEP_PLACES.lines() {
+        let found = stepped_text(group, alloc, number, step, place)?;
+        let wanted = wanted_text(alloc, number, step, place)?;
+        let is_fault = found.as_str().starts_with("Fault: ");
+        count(tally, found.as_str(), wanted.as_str(), is_fault)?;
+    }
+    Ok(())
+}
+
+// Counts the runs of all steps.
+fn count_steps(alloc: Global, tally: &mut Tally) -> Result<(), GroupCreateError> {
+    for (number, step) in STEPS.lines().enumerate() {
+        let group = group_of_step(alloc, step)?;
+        count_step(&group, alloc, tally, number, step)?;
+    }
+    Ok(())
+}
+
+// What is counted of all steps.
+fn steps_text(alloc: Global) -> Result<String, GroupCreateError> {
+    let mut tally = tally_of_none(alloc);
+    count_steps(alloc, &mut tally)?;
+    Ok(tally_text(&tally, alloc)?)
 }
 
 #[test]
 fn a_step_does_its_changes_up_to_the_one_that_fails(rt: HostRuntime) -> Result<(), Fail> {
     let alloc = rt.alloc();
-    let places = places_of(alloc, &STEP_KEYS, &["", "g/"])?;
-    let mut runs = 0u32;
-    let mut faults = 0u32;
-    for (number, (held, step, changes)) in STEPS.iter().enumerate() {
-        let group = group_of(alloc, *held)?;
-        for place in &places {
-            let found = stepped_text(&group, alloc, number, *step, *place)?;
-            let wanted = changed_text(alloc, number, changes, *place)?;
-            is_same(found.as_str(), wanted.as_str())?;
-            runs = runs.saturating_add(1);
-            if found.as_str().starts_with("Fault: ") {
-                faults = faults.saturating_add(1);
-            }
-        }
-    }
-    assert_eq!(rt; runs, 136);
-    assert_eq!(rt; faults, 23);
-    Ok(())
+    is_same(steps_text(alloc)?.as_str(), "23 faults in 136 runs")
 }
 
 // ---- reading, with a fault at each place
 
-// Runs of reading calls, and how many of them a fault refused.
-#[derive(Clone, Copy, Drop)]
-struct Runs {
-    runs: u32,
-    faults: u32,
+// Counts the runs of a reading call, with a fault at each place. The answer has to be the usual one, or the fault.
+fn count_call(
+    alloc: Global,
+    tally: &mut Tally,
+    list: &str,
+    places: &str,
+    call: &str,
+    asked: Asked,
+) -> Result<(), StorageError> {
+    let usual = answered_at(alloc, list, NOWHERE, call, asked)?;
+    for place in places.lines() {
+        let found = answered_at(alloc, list, place, call, asked)?;
+        let is_fault = found.as_str() == FAULT;
+        let wanted = if is_fault { FAULT } else { usual.as_str() };
+        count(tally, found.as_str(), wanted, is_fault)?;
+    }
+    Ok(())
 }
 
-// Runs all reading calls over the documents of a list, with a fault at each of these places. The answer has to be the usual one, or the fault.
-fn run_all(alloc: Global, list: &str, places: &[Place], asked: Asked) -> Result<Runs, Fail> {
-    let usual_store = failing(alloc, list, NOWHERE)?;
-    let mut runs = Runs { runs: 0, faults: 0 };
-    for call in CALLS {
-        let usual = answered(alloc, &usual_store, call, asked)?;
-        for place in places {
-            let store = failing(alloc, list, *place)?;
-            let found = answered(alloc, &store, call, asked)?;
-            runs.runs = runs.runs.saturating_add(1);
-            if found.as_str() == FAULT {
-                runs.faults = runs.faults.saturating_add(1);
-            } else {
-                is_same(found.as_str(), usual.as_str())?;
-            }
-        }
+// Counts the runs of all reading calls.
+fn count_calls(
+    alloc: Global,
+    tally: &mut Tally,
+    list: &str,
+    places: &str,
+    asked: Asked,
+) -> Result<(), StorageError> {
+    for call in CALLS.lines() {
+        count_call(alloc, tally, list, places, call, asked)?;
     }
-    Ok(runs)
+    Ok(())
+}
+
+// What is counted of all reading calls over the documents of a list, with a fault at each of these places.
+fn calls_text(
+    alloc: Global,
+    list: &str,
+    places: &str,
+    asked: Asked,
+) -> Result<String, StorageError> {
+    let mut tally = tally_of_none(alloc);
+    count_calls(alloc, &mut tally, list, places, asked)?;
+    Ok(tally_text(&tally, alloc)?)
 }
 
 // The groups and arrays of three levels, and a group beside them.
 const LEVELS_AND_ONE: &str =
     "zarr.json=G3 group/zarr.json=G3 group/subgroup/zarr.json=G3 group2/zarr.json=G3 array/zarr.json=A3_SQUARE group/array/zarr.json=A3_SQUARE group/subgroup/mysubarray/zarr.json=A3_SQUARE";
 
-const LEVELS_KEYS: [&str; 7] = [
-    "zarr.json",
-    "group/zarr.json",
-    "group/subgroup/zarr.json",
-    "group2/zarr.json",
-    "array/zarr.json",
-    "group/array/zarr.json",
-    "group/subgroup/mysubarray/zarr.json",
-];
+const LEVELS_PLACES: &str = r#"get zarr.json
+set zarr.json
+erase zarr.json
+get group/zarr.json
+set group/zarr.json
+erase group/zarr.json
+get group/subgroup/zarr.json
+set group/subgroup/zarr.json
+erase group/subgroup/zarr.json
+get group2/zarr.json
+set group2/zarr.json
+erase group2/zarr.json
+get array/zarr.json
+set array/zarr.json
+erase array/zarr.json
+get group/array/zarr.json
+set group/array/zarr.json
+erase group/array/zarr.json
+get group/subgroup/mysubarray/zarr.json
+set group/subgroup/mysubarray/zarr.json
+erase group/subgroup/mysubarray/zarr.json
+list
+list group/
+list group/subgroup/
+list group2/
+list array/
+list group/array/
+list group/subgroup/mysubarray/"#;
 
-const LEVELS_PREFIXES: [&str; 7] = [
-    "",
-    "group/",
-    "group/subgroup/",
-    "group2/",
-    "array/",
-    "group/array/",
-    "group/subgroup/mysubarray/",
-];
-
-// Runs all reading calls at a path of three levels, and asks how many runs the fault refuses.
-fn reads_levels(alloc: Global, path: &str, wanted: u32) -> Result<(), Fail> {
-    let places = places_of(alloc, &LEVELS_KEYS, &LEVELS_PREFIXES)?;
-    let runs = run_all(
-        alloc,
-        LEVELS_AND_ONE,
-        places.as_slice(),
-        by_version(path, ANY),
-    )?;
-    if runs.runs == 448 && runs.faults == wanted {
-        return Ok(());
-    }
-    let Runs { runs, faults } = runs;
-    Err(Fail::new(format_args!("{faults} faults in {runs} runs")))
+// What is counted of all reading calls at a path of three levels. `PATH`.
+fn levels_counted(alloc: Global, path: &str) -> Result<String, StorageError> {
+    calls_text(alloc, LEVELS_AND_ONE, LEVELS_PLACES, by_version(path, ANY))
 }
+
+const LEVELS_COUNTED: &str = r#"
+/ => 107 faults in 448 runs
+/group => 69 faults in 448 runs
+/array => 17 faults in 448 runs
+"#;
 
 #[test]
 fn reading_three_levels_answers_as_usual_or_the_fault(rt: HostRuntime) -> Result<(), Fail> {
-    reads_levels(rt.alloc(), "/", 107)?;
-    reads_levels(rt.alloc(), "/group", 69)?;
-    reads_levels(rt.alloc(), "/array", 17)
+    check_rows(rt.alloc(), LEVELS_COUNTED, levels_counted)
 }
 
 // The documents of a group of version 2 and of one of version 3 at one path, beside an array's.
 const BOTH_VERSIONS: &str = r#"g/.zarray=A2 g/.zattrs={"k":1} g/.zgroup=G2 g/zarr.json=G3"#;
 
+// What is counted of all reading calls at a path of both versions, by a version. `PATH | VERSION`.
+fn versions_counted(alloc: Global, given: &str) -> Result<String, StorageError> {
+    let (path, version) = fields(given);
+    let asked = by_version(path, version_of(alloc, version)?);
+    calls_text(alloc, BOTH_VERSIONS, STEP_PLACES, asked)
+}
+
+const VERSIONS_COUNTED: &str = r#"
+/ | any => 14 faults in 272 runs
+/g | any => 25 faults in 272 runs
+/g | v3 => 25 faults in 272 runs
+/g | v2 => 38 faults in 272 runs
+"#;
+
 #[test]
 fn reading_both_versions_answers_as_usual_or_the_fault(rt: HostRuntime) -> Result<(), Fail> {
-    let alloc = rt.alloc();
-    let places = places_of(alloc, &STEP_KEYS, &["", "g/"])?;
-    for (path, version, wanted) in [
-        ("/", MetadataRetrieveVersion::Default, 14),
-        ("/g", MetadataRetrieveVersion::Default, 25),
-        ("/g", MetadataRetrieveVersion::V3, 25),
-        ("/g", MetadataRetrieveVersion::V2, 38),
-    ] {
-        let asked = by_version(path, version);
-        let runs = run_all(alloc, BOTH_VERSIONS, places.as_slice(), asked)?;
-        assert_eq!(rt; runs.runs, 272, "{path}");
-        assert_eq!(rt; runs.faults, wanted, "{path}");
-    }
-    Ok(())
+    check_rows(rt.alloc(), VERSIONS_COUNTED, versions_counted)
 }
 
 // ---- reading, storing and erasing, with each allocation refused in turn
@@ -866,8 +967,7 @@ fn read(alloc: Global, given: &str) -> Result<String, StorageError> {
         version: version_of(alloc, version)?,
         policy: policy_of(alloc, policy)?,
     };
-    let store = failing(alloc, documents_of(alloc, name)?, NOWHERE)?;
-    Ok(answered(alloc, &store, call, asked)?)
+    answered_at(alloc, documents_of(alloc, name)?, NOWHERE, call, asked)
 }
 
 const LEVELS_READ: &str = r#"
@@ -1029,59 +1129,71 @@ fn memory_fails_in_reading_a_block_of_version_2(rt: HostRuntime) -> Result<(), F
     check_rows(rt.alloc(), BESIDE_READ, read)
 }
 
-// Whether a store holds what the first changes of a step leave, for some number of them below `count`.
+// What the store holds after the first `count` changes of the step of this number.
+fn changed_by(
+    alloc: Global,
+    number: usize,
+    step: &str,
+    count: usize,
+) -> Result<String, StorageError> {
+    let mut store = before(alloc, number)?;
+    change_first(alloc, &mut store, step, count)?;
+    held_text(alloc, &store)
+}
+
+// Whether a text is what a store holds after some of the first changes of a step, but not all.
 fn is_cut_short(
     alloc: Global,
-    store: &MemoryStore,
+    found: &str,
     number: usize,
-    changes: &Changes,
-    count: usize,
+    step: &str,
 ) -> Result<bool, StorageError> {
-    let found = held_text(alloc, store)?;
-    for first in 0..count {
-        let mut other = before(alloc, number)?;
-        change(alloc, &mut other, changes, first)?;
-        if held_text(alloc, &other)?.as_str() == found.as_str() {
+    for count in 0..changes_of(step).split(' ').count() {
+        if changed_by(alloc, number, step, count)?.as_str() == found {
             return Ok(true);
         }
     }
     Ok(false)
 }
 
-// Asks whether a step did all its changes, or is out of memory and did a first part of them.
-fn is_stepped(
-    alloc: Global,
-    number: usize,
-    step: Step,
-    group: &Group,
-    changes: &Changes,
-) -> Result<(), Fail> {
-    let mut store = before(alloc, number)?;
-    let count = changes.iter().filter(|change| !change.0.is_empty()).count();
-    match done(alloc, group, &mut store, step) {
-        Ok(()) => {
-            let mut wanted = before(alloc, number)?;
-            change(alloc, &mut wanted, changes, 4)?;
-            let wanted = held_text(alloc, &wanted)?;
-            is_same(held_text(alloc, &store)?.as_str(), wanted.as_str())
-        }
-        Err(StorageError::OutOfMemory) => {
-            if is_cut_short(alloc, &store, number, changes, count)? {
-                Err(Fail::from(AllocError))
-            } else {
-                Err(Fail::from("no first part of the changes"))
-            }
-        }
-        Err(_) => Err(Fail::from("another error")),
+// The failure of a step that is out of memory, by what its store holds.
+fn cut_short(alloc: Global, found: &str, number: usize, step: &str) -> Result<(), Fail> {
+    if is_cut_short(alloc, found, number, step)? {
+        Err(Fail::from(AllocError))
+    } else {
+        Err(Fail::new("no first part of the changes"))
     }
+}
+
+// Asks whether a store holds what a step leaves that answered so: all its changes, or, out of memory, a first part of them.
+fn has_left(
+    alloc: Global,
+    answer: Result<(), StorageError>,
+    found: &str,
+    number: usize,
+    step: &str,
+) -> Result<(), Fail> {
+    match answer {
+        Ok(()) => is_same(found, changed_by(alloc, number, step, usize::MAX)?.as_str()),
+        Err(StorageError::OutOfMemory) => cut_short(alloc, found, number, step),
+        Err(_) => Err(Fail::new("another error")),
+    }
+}
+
+// Asks whether a step did all its changes, or is out of memory and did a first part of them.
+fn is_stepped(alloc: Global, group: &Group, number: usize, step: &str) -> Result<(), Fail> {
+    let mut store = before(alloc, number)?;
+    let answer = done_by(alloc, group, &mut store, step);
+    let held = held_text(alloc, &store)?;
+    has_left(alloc, answer, held.as_str(), number, step)
 }
 
 #[test]
 fn memory_fails_in_storing_and_erasing(rt: HostRuntime) -> Result<(), Fail> {
     let alloc = rt.alloc();
-    for (number, (held, step, changes)) in STEPS.iter().enumerate() {
-        let group = group_of(alloc, *held)?;
-        is_stepped(alloc, number, *step, &group, changes)?;
+    for (number, step) in STEPS.lines().enumerate() {
+        let group = group_of_step(alloc, step)?;
+        is_stepped(alloc, &group, number, step)?;
     }
     Ok(())
 }

@@ -214,29 +214,36 @@ fn gathered(
     Ok(Hierarchy::from_ascending(nodes))
 }
 
-// What is seen of what is opened at a path of a store, by a version and a policy, or of all nodes that are listed below it for `gathered`.
-// `LOOK | PATH | VERSION | POLICY | STORE`.
+// What is seen of what is opened at a path of a store, by a version and a configuration, or of all nodes that are listed below it for
+// `gathered`.
+fn opened_seen(
+    alloc: Global,
+    store: &MemoryStore,
+    word: &str,
+    path: &str,
+    version: &str,
+    config: &Config,
+) -> Result<String, AllocError> {
+    match word {
+        "tree at" => said(
+            alloc,
+            opened_tree(alloc, store, path, version, config),
+            printed,
+        ),
+        "gathered" => said(alloc, gathered(alloc, store, path, version), nodes_text),
+        word => seen(alloc, opened_by(alloc, store, path, version, config), word),
+    }
+}
+
+// What is seen of a store by a policy. `LOOK | PATH | VERSION | POLICY | STORE`.
 fn opened(alloc: Global, given: &str) -> Result<String, GroupCreateError> {
     let (word, rest) = fields(given);
     let (path, rest) = fields(rest);
     let (version, rest) = fields(rest);
     let (policy, list) = fields(rest);
-    let store = store_in(alloc, list)?;
     let config = config_of(policy_of(alloc, policy)?);
-    let text = match word {
-        "tree at" => said(
-            alloc,
-            opened_tree(alloc, &store, path, version, &config),
-            printed,
-        ),
-        "gathered" => said(alloc, gathered(alloc, &store, path, version), nodes_text),
-        word => seen(
-            alloc,
-            opened_by(alloc, &store, path, version, &config),
-            word,
-        ),
-    };
-    Ok(text?)
+    let store = store_in(alloc, list)?;
+    Ok(opened_seen(alloc, &store, word, path, version, &config)?)
 }
 
 const OPENED: &str = r#"
@@ -401,10 +408,19 @@ fn the_laws_of_hierarchies_are_called() {
     laws::shown_is_tree();
 }
 
+// How deep a path lies.
+fn depth_said(alloc: Global, path: &str) -> Result<String, NodeCreateError> {
+    let path = NodePath::new(alloc, path)?;
+    Ok(printed(&depth(&path), alloc)?)
+}
+
+const DEPTHS: &str = r#"
+/ => 0
+/a => 1
+/a/b.c/d => 3
+"#;
+
 #[test]
-fn a_path_lies_as_deep_as_it_has_names(rt: HostRuntime) {
-    for (text, names) in [("/", 0), ("/a", 1), ("/a/b.c/d", 3)] {
-        let path = NodePath::new(rt.alloc(), text).expect(&rt, "a path");
-        assert_eq!(rt; depth(&path), names, "{text}");
-    }
+fn a_path_lies_as_deep_as_it_has_names(rt: HostRuntime) -> Result<(), Fail> {
+    check_rows(rt.alloc(), DEPTHS, depth_said)
 }

@@ -1,7 +1,7 @@
 //! The data set that a builder stores, beside the stores that are lists of documents.
 
 use crate::fixture_rows::store_in as store_of_list;
-use crate::fixtures::built_in;
+use crate::fixtures::store_built_at;
 use std::alloc::Global;
 use tests_fixtures::key_of;
 use zarrs_group::GroupCreateError;
@@ -11,16 +11,23 @@ use zarrs_store::{MemoryStore, WritableStorageTraits};
 const TILED: &str =
     r#"{"chunk_grid":{"configuration":{"chunk_shape":[5,5]},"name":"regular"},"chunk_key_encoding":{"configuration":{"separator":"/"},"name":"default"},"codecs":[{"configuration":{"endian":"little"},"name":"bytes"}],"data_type":"float32","fill_value":0,"node_type":"array","shape":[10,10],"zarr_format":3}"#;
 
-// Groups in three levels that a builder of nothing makes and that are stored, and arrays in each.
-fn dataset(alloc: Global) -> Result<MemoryStore, GroupCreateError> {
-    let mut store = built_in(alloc, "/ /group /group/subgroup")?;
-    for key in [
-        "array/zarr.json",
-        "group/array/zarr.json",
-        "group/subgroup/mysubarray/zarr.json",
-    ] {
+// The keys of the arrays of the data set.
+const DATASET_ARRAYS: &str =
+    "array/zarr.json group/array/zarr.json group/subgroup/mysubarray/zarr.json";
+
+// Stores groups in three levels that a builder of nothing makes, and arrays in each.
+fn store_dataset(alloc: Global, store: &mut MemoryStore) -> Result<(), GroupCreateError> {
+    store_built_at(alloc, store, "/ /group /group/subgroup")?;
+    for key in DATASET_ARRAYS.split(' ') {
         store.set(&key_of(alloc, key)?, TILED.as_bytes())?;
     }
+    Ok(())
+}
+
+// The store of those groups and arrays.
+fn dataset(alloc: Global) -> Result<MemoryStore, GroupCreateError> {
+    let mut store = MemoryStore::new(alloc);
+    store_dataset(alloc, &mut store)?;
     Ok(store)
 }
 
