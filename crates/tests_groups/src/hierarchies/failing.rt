@@ -839,9 +839,11 @@ fn count_call(
     let usual = answered_at(alloc, list, NOWHERE, call, asked)?;
     for place in places.lines() {
         let found = answered_at(alloc, list, place, call, asked)?;
-        let is_fault = found.as_str() == FAULT;
-        let wanted = if is_fault { FAULT } else { usual.as_str() };
-        count(tally, found.as_str(), wanted, is_fault)?;
+        if found.as_str() == FAULT {
+            count(tally, FAULT, FAULT, true)?;
+        } else {
+            count(tally, found.as_str(), usual.as_str(), false)?;
+        }
     }
     Ok(())
 }
