@@ -10,7 +10,7 @@ use Rattle.zarrs_form.specs.Documents.{is_own, besides}
 use Rattle.zarrs_form.specs.Forms.{put_row, put_rows, list_of, list_data, number_u64, number_data}
 use Rattle.zarrs_form.proofs.MemberLaws.{no_float-put, besides-put}
 
--- what stands at a name behind the rows, where `rest` stood there before
+-- what a row puts at its name, or what stood there where it puts nothing
 abbrev pub or_rest : Option Data → Option Data → Option Data
 or_rest None rest = rest
 or_rest (Some d) rest = Some d

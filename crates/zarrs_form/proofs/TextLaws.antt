@@ -37,7 +37,7 @@ quoted_bare s h = ap (λ t. 34 ∷ (t ++ 34 ∷ [])) (escape_bare s h)
 
 -- ---- rows in the order of their names, before the last member
 
--- the members that the rows are, before others
+-- the member that a row is, before others, where it is one
 abbrev pub row_before : List ℕ → Option Data → Members → Members
 row_before name None ms = ms
 row_before name (Some d) ms = member name d ms

@@ -98,7 +98,7 @@ any_in : {A : Type 0} (t : A → Bool) (xs : List A) → list_any t xs ≡ true 
 any_in t [] h = absurd (true≢false (sym h))
 any_in t (x ∷ xs) h = ⊎_elim (λ e. (x, Contains-first x xs, e)) (λ e. let r = any_in t xs e in (r.0, Contains-cons x xs r.0 r.1, r.2)) (or_cases (t x) (list_any t xs) h)
 
--- a test that an item passes is passed by some item
+-- `||` is true where its first test is
 or_left : (a b : Bool) → a ≡ true → (a || b) ≡ true
 or_left a b h = subst (λ x. (x || b) ≡ true) (sym h) refl
 

@@ -154,7 +154,7 @@ slashed n = n ++ 47 ∷ []
 abbrev name_cmp : List ℕ → List ℕ → Ordering
 name_cmp = on slashed bytes_cmp
 
--- names are tied in that order just where they are equal
+-- names are equal just where they are with a slash behind each
 slashed_eq : (m n : List ℕ) → bytes_eq m n ≡ bytes_eq (slashed m) (slashed n)
 slashed_eq m n =
     elim (bytes_eq m n) as (λ b. bytes_eq m n ≡ b → b ≡ bytes_eq (slashed m) (slashed n)) [

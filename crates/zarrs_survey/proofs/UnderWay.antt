@@ -168,7 +168,7 @@ module _ (F D : Path → Type 0) where
             same.1,
       ))
 
-  -- what is there at all is there as one of them
+  -- one of the findings that are there at all is the one that is there
   some_in : (o : Option Finding) (h : Finding) → Contains (if_some o) h → o ≡ Some h
   some_in None h in' = absurd (omega (arith, in'.1))
   some_in (Some k) h in' = ⊎_elim (λ same. ap (λ x. Some x) same) (λ none. absurd (omega (arith, none.1))) (contains_cases k [] h in')

@@ -50,7 +50,7 @@ pub not_words : {T : Type 0} (words : List (List ℕ)) (r : Result T ToolFault) 
 not_words words r is refused =
     let said : RefusedFolder words Usage = subst (λ x. IfErr x (RefusedFolder words)) is refused in ⊎_elim (λ no. absurd no) (λ found. found.2) said
 
--- texts that are not told to differ are one
+-- a test of which the contrary is false is true
 truth : (b : Bool) → false ≡ not b → b ≡ true
 truth true e = refl
 truth false e = absurd (true≢false (sym e))
