@@ -9,7 +9,6 @@ use Rattle.std.specs.Prelude.{◌≡◌, ◌↔◌, ℕ, true, List, ◌∷◌, 
 use Rattle.zarrs_path.specs.Paths.{Path, IsPath}
 use Rattle.zarrs_fault.specs.declared.numbers.Numbers.{Numbers}
 use Rattle.zarrs_meta.specs.Node.{is_plain_node_in}
-use Rattle.zarrs_meta.specs.declared.node.NodeMetadata.{NodeMetadata}
 use Rattle.zarrs_block.specs.Block.{Block, Entries, HasPlainNodesIn, HasValidKeys, IsAscending, IsBlockOf}
 use Rattle.zarrs_block.specs.Block.{block_of_in, block_tree}
 use Rattle.zarrs_node.specs.Forest.{Forest, pairs, IsPlaced, Shows}

@@ -3,7 +3,7 @@ use Rattle.std.proofs.Common.{◌≡◌, ◌≢◌, ℕ, List, [], ◌∷◌, �
 use Rattle.std.proofs.lemmas.List.Elements.{All-nil, All-cons, All-append}
 use Rattle.zarrs_store.specs.Segments.{segments_of, key_text, is_segment, IsSegment, IsKey, IsKeyText}
 use Rattle.zarrs_store.specs.StepsOfStores.{IsSegments}
-use Rattle.zarrs_store.proofs.Cuts.{segment_of_test, segments_of_test, segments_of-append, segments_of_one, segments_of-nil, segments_of-key_text, key_from_text}
+use Rattle.zarrs_store.proofs.Cuts.{segment_of_test, segments_of_test, segments_of-append, segments_of-nil, segments_of-key_text, key_from_text}
 use Rattle.zarrs_path.specs.Paths.{Path, IsPath, names_text}
 use Rattle.zarrs_path.proofs.PathTexts.{slashed-cons, slashed-append, segments_of-slashed, segments_from_names}
 
