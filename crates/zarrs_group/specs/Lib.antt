@@ -1,3 +1,4 @@
+pub mod BlockDocuments
 pub mod BlocksBeside
 pub mod BlocksOfGroups
 pub mod Children

@@ -4,10 +4,12 @@
 -- <https://zarr.readthedocs.io/en/stable/user-guide/consolidated_metadata/>
 --     OpensAlike S v p m      p means the group m, which has the same forest below it by its block and by a listing
 --     EditKeepsOthers, StoringKeepsOthers      an edit, and the storing of a version 3 group, change one key
-use Rattle.std.specs.Prelude.{◌≡◌, ◌≢◌, ◌≤◌, Bool, [], ◌∷◌, ◌++◌, Some}
+--     WrittenBlockOpens      so opens a group of either version whose document with the block was set, with any numbers
+use Rattle.std.specs.Prelude.{◌≡◌, ◌≢◌, ◌≤◌, ℕ, Bool, List, [], ◌∷◌, ◌++◌, Some}
 use Rattle.serde_json.specs.Data.{depth}
 use Rattle.serde_json.specs.Read.{max_depth}
-use Rattle.zarrs_store.specs.Contents.{Contents}
+use Rattle.zarrs_store.specs.Segments.{Segments}
+use Rattle.zarrs_store.specs.Contents.{Contents, with_key}
 use Rattle.zarrs_store.specs.declared.storage_error.StorageError.{StorageError}
 use Rattle.zarrs_path.specs.Keys.{zarr_json}
 use Rattle.zarrs_path.specs.Paths.{Path, IsPath, path_text}
@@ -28,7 +30,8 @@ use Rattle.zarrs_node.specs.Forest.{Forest}
 use Rattle.zarrs_node.specs.ListedBlocks.{IsListedBlock}
 use Rattle.zarrs_node.specs.OpeningNodes.{ShowsBelow, RefusesOpening}
 use Rattle.zarrs_group.specs.Groups.{GroupState, group_tree, metadata_by_version}
-use Rattle.zarrs_group.specs.BlocksOfGroups.{with_block}
+use Rattle.zarrs_group.specs.BlockDocuments.{IsBlockDocument}
+use Rattle.zarrs_group.specs.BlocksOfGroups.{with_block, Fits}
 use Rattle.zarrs_group.specs.Edits.{AgreesOutsideKey, Edit, after, after_edit, edit_key}
 use Rattle.zarrs_group.specs.Laws.{MeansStored}
 use Rattle.zarrs_group.specs.Meaning.{MeansGroup}
@@ -71,3 +74,13 @@ ListedBlockOpens =
     → depth (group_tree (with_block g (Some B)).metadata) ≤ max_depth
     → (group_block S.numbers (with_block g (Some B)).metadata ≡ Some B)
     × OpensAlike S v g.path (with_block g (Some B)).metadata
+
+-- Where a path means a group, of either version, that takes the listed block of the store, and the document that
+-- holds this block is set at its key, then in the store after it the group with that block opens alike by it and by a
+-- listing, by the same version, whatever numbers stand in its documents.
+abbrev pub WrittenBlockOpens : Type 0
+WrittenBlockOpens =
+    (S : Contents) (v : MetadataRetrieveVersion) (g : GroupState) (B : Block) (key : Segments) (bytes : List ℕ)
+    → IsPath g.path → meaning S v g.path ≡ node (Group g.metadata) → IsListedBlock S v g.path B
+    → Fits g.metadata (Some B) → IsBlockDocument (with_block g (Some B)) key bytes
+    → OpensAlike (with_key S key bytes) v g.path (with_block g (Some B)).metadata

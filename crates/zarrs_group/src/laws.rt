@@ -3,7 +3,7 @@
 ghost use Rattle.std.specs.Prelude.{◌≡◌, None, IfErr, OnOk};
 ghost use Rattle.zarrs_group.specs.Laws.{Version3Keeps, Version3Stays, Version3Twice, PlainIsStored, ErasingAllErases, OtherKeysStay, ArraysStay, StoredMeans};
 ghost use Rattle.zarrs_group.specs.GivesBack.{GroupGivesBack, GroupV2GivesBack, StoredGivesBack, StoredV2GivesBack};
-ghost use Rattle.zarrs_group.specs.StoredBlocks.{EditKeepsOthers, StoringKeepsOthers, MeansVersion3, ListedBlockOpens};
+ghost use Rattle.zarrs_group.specs.StoredBlocks.{EditKeepsOthers, StoringKeepsOthers, MeansVersion3, ListedBlockOpens, WrittenBlockOpens};
 ghost use Rattle.zarrs_group.specs.StoringGroups.{RefusesMetadata};
 
 use crate::stored::edits_to_store;
@@ -133,4 +133,13 @@ pub fn means_version_3()
 /// Source: `zarrs::node::Node::open_opt`, `zarrs::group::Group::store_metadata`.
 pub fn listed_block_opens()
     ensures { ListedBlockOpens }
+{}
+
+/// Where a path means a group of either version, and the document of [`crate::Group::block_document`] with the listed block of the store was set
+/// at its key, a node opened at its path by the block has below it what one opened by a listing has, by the same version, whatever numbers stand
+/// in the documents, and neither opening is refused.
+///
+/// Source: `zarrs::node::Node::open_opt`; Zarr core specification 3.1, "Group metadata"; zarr-python, consolidated metadata of version 2.
+pub fn written_block_opens()
+    ensures { WrittenBlockOpens }
 {}

@@ -189,8 +189,8 @@ fn edit_of_block(
     Ok(Edit::Set(key, bytes))
 }
 
-// What is written of a block that stands beside the metadata of a version 2 group: nothing but out of memory refuses it.
-fn written(
+/// What is written of a block that stands beside the metadata of a version 2 group: nothing but out of memory refuses it.
+pub(crate) fn written(
     alloc: Global,
     group: &GroupMetadataV2,
     block: &ConsolidatedMetadata,

@@ -1,0 +1,66 @@
+//! The document that holds the block of a group.
+ghost use Rattle.std.specs.Prelude.{◌≡◌, ◌×◌, ◌<◌, None, IfOk, IfSome};
+ghost use Rattle.serde_json.specs.Data.{depth};
+ghost use Rattle.serde_json.specs.Read.{max_depth};
+ghost use Rattle.serde_json.specs.View.{view};
+ghost use Rattle.zarrs_form.specs.DocumentTexts.{IsTextOf};
+ghost use Rattle.zarrs_group.specs.BlockDocuments.{IsBlockDocument, HasNoBlockDocument};
+
+use crate::group::Group;
+use crate::stored::written;
+use serde_json::Value;
+use std::alloc::{AllocError, Global};
+use zarrs_form::document_text;
+use zarrs_meta::GroupMetadata;
+use zarrs_path::{meta_key_v2_consolidated, meta_key_v3};
+use zarrs_store::StoreKey;
+
+impl Group {
+    /// The key and the bytes of the document that holds the block of the group, whatever numbers it has: of version 3 `zarr.json`, with the
+    /// additional fields that the group has, a block among them or none; of version 2 `.zmetadata`, where a block stands beside the metadata.
+    /// The bytes are read as the document again. None where a version 2 group has no block, and where the document nests deeper than any
+    /// that is read.
+    ///
+    /// Nothing is stored, and nothing refuses metadata that could not have come from a document. [`crate::laws::written_block_opens`] says of which
+    /// groups the bytes, set at the key, are opened as the group with its block.
+    ///
+    /// # Errors
+    ///
+    /// `AllocError` where there is no memory for them.
+    ///
+    /// Source: own; Zarr core specification 3.1, "Group metadata"; zarr-python, consolidated metadata of version 2.
+    pub fn block_document(&self, alloc: Global) -> Result<Option<(StoreKey, Vec<u8>)>, AllocError>
+        ensures ok { IfOk result (λ found. IfSome found
+            (λ made. IsBlockDocument self.now made.0 made.1.items)) }
+        ensures none { IfOk result (λ found. found ≡ None → HasNoBlockDocument self.now) }
+    {
+        match (&self.metadata, &self.block) {
+            (GroupMetadata::V3(group), _) => {
+                let key = meta_key_v3(alloc, self.path())?;
+                at_key(alloc, key, &group.to_value(alloc)?)
+            }
+            (GroupMetadata::V2(_), None) => Ok(None),
+            (GroupMetadata::V2(group), Some(block)) => {
+                let key = meta_key_v2_consolidated(alloc, self.path())?;
+                at_key(alloc, key, &written(alloc, group, block)?)
+            }
+        }
+    }
+}
+
+// The key and the bytes of the document, where it nests no deeper than those that are read.
+fn at_key(
+    alloc: Global,
+    key: StoreKey,
+    value: &Value,
+) -> Result<Option<(StoreKey, Vec<u8>)>, AllocError>
+    ensures key { IfOk result (λ found. IfSome found (λ made. made.0 ≡ key)) }
+    ensures text { IfOk result (λ found. IfSome found
+        (λ made. IsTextOf made.1.items (view value.now))) }
+    ensures none { IfOk result (λ found. found ≡ None → max_depth < depth (view value.now)) }
+{
+    match document_text(alloc, value)? {
+        Some(bytes) => Ok(Some((key, bytes))),
+        None => Ok(None),
+    }
+}
