@@ -7,6 +7,7 @@ ghost use Rattle.zarrs_meta.specs.declared.node.GroupMetadata.TheVariants.{V3, V
 ghost use Rattle.zarrs_group.specs.Groups.{HasChoicesOf, attributes_of_group, as_v3, metadata_by_version, group_as_v3, group_text, group_tree};
 ghost use Rattle.zarrs_block.specs.Policy.{as_block};
 ghost use Rattle.zarrs_group.specs.BlocksBeside.{IsBeside};
+ghost use Rattle.zarrs_group.specs.Children.{group_at};
 ghost use Rattle.zarrs_group.specs.BlocksOfGroups.{block_beside};
 ghost use Rattle.zarrs_group.specs.Plain.{group_fault};
 ghost use Rattle.zarrs_group.specs.Edits.{after, IsCutShort};
@@ -174,6 +175,15 @@ impl Group {
         }
         let block = find_block(alloc, storage, &path, &found)?;
         Ok(Group::with_choices(path, found, block, config))
+    }
+
+    /// The group with this path and metadata, as [`Group::new_with_metadata`] makes it of the path's text. It is never refused.
+    ///
+    /// Source: own; Zarr core specification 3.1, "Group metadata".
+    pub fn at(path: NodePath, metadata: GroupMetadata, config: &Config) -> Group
+        ensures { result ≡ group_at config.now path metadata }
+    {
+        Group::with_choices(path, metadata, None, config)
     }
 
     // The group of these parts, with the choices of the configuration.
