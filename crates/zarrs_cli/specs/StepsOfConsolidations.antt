@@ -1,0 +1,40 @@
+-- Steps of a run that writes the block of a group back: the plan with its line, and why there is none.
+use Rattle.std.specs.Prelude.{◌⊎◌, ⊤, false, String, string_bytes}
+use Rattle.std.specs.declared.alloc.Global.{Global}
+use Rattle.zarrs_store.specs.Contents.{Contents, Values}
+use Rattle.zarrs_path.specs.Paths.{Path}
+use Rattle.zarrs_folder.specs.Folders.{in_any}
+use Rattle.zarrs_consolidate.specs.Plans.{IsPlan}
+use Rattle.zarrs_consolidate.specs.Refusals.{IsUnread, RefusesPlan}
+use Rattle.zarrs_consolidate.specs.declared.plan.Plan.{Plan}
+use Rattle.zarrs_cli.specs.Consolidations.{IsConsolidationLine, task_of}
+use Rattle.zarrs_cli.specs.declared.fault.ZarrsFault.{ZarrsFault}
+use Rattle.zarrs_cli.specs.declared.fault.ZarrsFault.TheVariants.{Consolidate, OutOfMemory}
+use Rattle.zarrs_cli.specs.declared.words.ConsolidateOptions.{ConsolidateOptions}
+
+-- the plan is what becomes of the block of the group at b, and the line tells it
+abbrev pub IsToldOf : Contents → ConsolidateOptions → Path → Plan × String Global → Type 0
+IsToldOf s options b made =
+    IsPlan s (task_of options) b made.0 × IsConsolidationLine options made.0 (string_bytes made.1)
+
+-- the same of some store
+abbrev pub IsToldOfSome : ConsolidateOptions → Path → Plan × String Global → Type 0
+IsToldOfSome options b made = (V : Values) × IsToldOf (in_any V) options b made
+
+-- the same of each store that holds what P says
+abbrev pub IsToldOfEach : ConsolidateOptions → Path → (Values → Type 0) → Plan × String Global → Type 0
+IsToldOfEach options b P made = (V : Values) → P V → IsToldOf (in_any V) options b made
+
+-- something was not read, or it is not known what becomes of the block; or out of memory
+abbrev pub IsPlanFault : Contents → ConsolidateOptions → Path → ZarrsFault → Type 0
+IsPlanFault s options b (Consolidate e) = IsUnread e ⊎ RefusesPlan false s (task_of options) b e
+IsPlanFault s options b OutOfMemory = ⊤
+IsPlanFault s options b _ = ⊥
+
+-- the same of some store
+abbrev pub IsPlanFaultOfSome : ConsolidateOptions → Path → ZarrsFault → Type 0
+IsPlanFaultOfSome options b fault = (V : Values) × IsPlanFault (in_any V) options b fault
+
+-- the same of each store that holds what P says
+abbrev pub IsPlanFaultOfEach : ConsolidateOptions → Path → (Values → Type 0) → ZarrsFault → Type 0
+IsPlanFaultOfEach options b P fault = (V : Values) → P V → IsPlanFault (in_any V) options b fault
