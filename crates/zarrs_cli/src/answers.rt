@@ -31,8 +31,17 @@ use zarrs_write::Disk as WrittenDisk;
 /// Writes what the words ask, and on standard error how much a check looked at and found, or why the run is refused. Where standard error is watched and a
 /// folder takes long, lines there say how many nodes were read so far. It handles every error itself and returns only how the run ended. The exit status is 0
 /// where all is done, 1 where a check has findings or a dry run would write, and 2 where the run is refused.
-pub fn answer<R: Log + Files + Clock + Eprint + AllocGlobal, I: Read, W: Write, E: Write>(
+///
+/// The host writes what is written back: a value that logs does not hand on the call that gives a file its owner.
+pub fn answer<
+    R: Log + Files + Clock + Eprint + AllocGlobal,
+    H: Files + AllocGlobal,
+    I: Read,
+    W: Write,
+    E: Write,
+>(
     rt: &R,
+    host: &H,
     words: &[String],
     is_watched: bool,
     reader: &mut I,
@@ -54,14 +63,20 @@ pub fn answer<R: Log + Files + Clock + Eprint + AllocGlobal, I: Read, W: Write, 
     ensures usage { (AreWords (texts words.now) → ⊥) → result.status ≡ 2 }
     ensures status { (result.status ≡ 0) ⊎ (result.status ≡ 1) ⊎ (result.status ≡ 2) }
 {
-    let outcome = run_words(rt, words, is_watched, reader, output);
+    let outcome = run_words(rt, host, words, is_watched, reader, output);
     let no_node = no_node(rt, words, &outcome);
     finish(rt.alloc(), &outcome, &no_node, errors)
 }
 
 // Writes what the words ask.
-fn run_words<R: Log + Files + Clock + Eprint + AllocGlobal, I: Read, W: Write>(
+fn run_words<
+    R: Log + Files + Clock + Eprint + AllocGlobal,
+    H: Files + AllocGlobal,
+    I: Read,
+    W: Write,
+>(
     rt: &R,
+    host: &H,
     words: &[String],
     is_watched: bool,
     reader: &mut I,
@@ -77,7 +92,7 @@ fn run_words<R: Log + Files + Clock + Eprint + AllocGlobal, I: Read, W: Write>(
     match parse(words)? {
         Asked::Help => write_alone(USAGE, output),
         Asked::Version => write_alone(VERSION, output),
-        Asked::Store(command) => run_command(rt, &command, is_watched, reader, output),
+        Asked::Store(command) => run_command(rt, host, &command, is_watched, reader, output),
     }
 }
 
@@ -93,8 +108,14 @@ fn write_alone<W: Write>(text: &str, output: &mut W) -> Result<Answered, ZarrsFa
 }
 
 // Writes what a request asks of the store that a source names.
-fn run_command<R: Log + Files + Clock + Eprint + AllocGlobal, I: Read, W: Write>(
+fn run_command<
+    R: Log + Files + Clock + Eprint + AllocGlobal,
+    H: Files + AllocGlobal,
+    I: Read,
+    W: Write,
+>(
     rt: &R,
+    host: &H,
     command: &Command<'_>,
     is_watched: bool,
     reader: &mut I,
@@ -116,7 +137,7 @@ fn run_command<R: Log + Files + Clock + Eprint + AllocGlobal, I: Read, W: Write>
             Ok(Answered::Looked(tally))
         }
         Request::Consolidate(options) => {
-            let end = consolidate_disk(rt, options, source, path, is_watched, output)?;
+            let end = consolidate_disk(rt, host, options, source, path, is_watched, output)?;
             Ok(Answered::Consolidated(end))
         }
     }
@@ -146,8 +167,13 @@ fn look<R: Log + Files + Clock + Eprint + AllocGlobal, I: Read, W: Write>(
 }
 
 // Writes the block of a group of a folder of the system back, or removes it.
-fn consolidate_disk<R: Log + Files + Clock + Eprint + AllocGlobal, W: Write>(
+fn consolidate_disk<
+    R: Log + Files + Clock + Eprint + AllocGlobal,
+    H: Files + AllocGlobal,
+    W: Write,
+>(
     rt: &R,
+    host: &H,
     options: ConsolidateOptions,
     source: &str,
     path: &str,
@@ -162,7 +188,7 @@ fn consolidate_disk<R: Log + Files + Clock + Eprint + AllocGlobal, W: Write>(
 {
     let mut disk = Disk::open(rt, source)?.telling(is_watched);
     let folder = folder_of(rt.alloc(), source, path)?;
-    let mut place = WrittenDisk::new(rt, folder.as_str());
+    let mut place = WrittenDisk::new(host, folder.as_str());
     consolidate(rt, rt.alloc(), options, path, &mut disk, &mut place, output)
 }
 

@@ -1,0 +1,3 @@
+mod PlansOfFolders
+mod Documents
+mod CarryingOut
