@@ -4,7 +4,7 @@ use log::sink::Discard;
 use std::alloc::{AllocError, Global};
 use std::test::Fail;
 use tests_support::{check_rows, fields, refusal};
-use zarrs_consolidate::{ConsolidateError, Plan, Task, laws, plan, plan_in_folder};
+use zarrs_consolidate::{Plan, Task, laws, plan, plan_in_folder};
 use zarrs_path::NodePath;
 use zarrs_store::{AnyNumbers, MemoryStore, StorageError, StoreKey, WritableStorageTraits};
 use zarrs_write::MemoryPlace;
@@ -82,12 +82,85 @@ fn planned(alloc: Global, given: &str) -> Result<String, AllocError> {
     }
 }
 
+// The same plan over the store itself.
+fn planned_over_store(alloc: Global, given: &str) -> Result<String, AllocError> {
+    let (task, rest) = fields(given);
+    let (path, files) = fields(rest);
+    let Ok(inner) = store_of(alloc, files) else {
+        return String::from_str(alloc, "no store");
+    };
+    let Ok(base) = NodePath::new(alloc, path) else {
+        return String::from_str(alloc, "no path");
+    };
+    match plan(&Discard, alloc, task_of(task), &AnyNumbers { inner }, &base) {
+        Ok(plan) => said_of(alloc, &plan),
+        Err(error) => refusal(alloc, &error),
+    }
+}
+
+// The task, the path and the files; the key and the name of the document, the number of nodes, whether something changes, how the plan ends, what is to stand
+// there, and the files that then do.
 const PLANNED: &str = r#"
-write | / | zarr.json {"zarr_format":3,"node_type":"group"} => x
+# the block of no nodes, of two, one of which is an array with a fraction, and from a group on
+write | / | zarr.json {"zarr_format":3,"node_type":"group"} => zarr.json zarr.json 0 true Changed {  "consolidated_metadata": {    "kind": "inline",    "metadata": {},    "must_understand": false  },  "node_type": "group",  "zarr_format": 3} | zarr.json as planned
+write | / | a/b/zarr.json {"chunk_grid":{"configuration":{"chunk_shape":[2]},"name":"regular"},"chunk_key_encoding":"default","codecs":["bytes"],"data_type":"float64","fill_value":0.5,"node_type":"array","shape":[2],"zarr_format":3};a/zarr.json {"zarr_format":3,"node_type":"group"};zarr.json {"attributes":{"k":2.5},"node_type":"group","zarr_format":3} => zarr.json zarr.json 2 true Changed {  "attributes": {    "k": 2.5  },  "consolidated_metadata": {    "kind": "inline",    "metadata": {      "a": {        "node_type": "group",        "zarr_format": 3      },      "a/b": {        "chunk_grid": {          "configuration": {            "chunk_shape": [              2            ]          },          "name": "regular"        },        "chunk_key_encoding": "default",        "codecs": [          "bytes"        ],        "data_type": "float64",        "fill_value": 0.5,        "node_type": "array",        "shape": [          2        ],        "zarr_format": 3      }    },    "must_understand": false  },  "node_type": "group",  "zarr_format": 3} | zarr.json as planned
+write | /a | a/b/zarr.json {"chunk_grid":{"configuration":{"chunk_shape":[2]},"name":"regular"},"chunk_key_encoding":"default","codecs":["bytes"],"data_type":"float64","fill_value":0.5,"node_type":"array","shape":[2],"zarr_format":3};a/zarr.json {"zarr_format":3,"node_type":"group"};zarr.json {"attributes":{"k":2.5},"node_type":"group","zarr_format":3} => a/zarr.json zarr.json 1 true Changed {  "consolidated_metadata": {    "kind": "inline",    "metadata": {      "b": {        "chunk_grid": {          "configuration": {            "chunk_shape": [              2            ]          },          "name": "regular"        },        "chunk_key_encoding": "default",        "codecs": [          "bytes"        ],        "data_type": "float64",        "fill_value": 0.5,        "node_type": "array",        "shape": [          2        ],        "zarr_format": 3      }    },    "must_understand": false  },  "node_type": "group",  "zarr_format": 3} | zarr.json as planned
+# a block that is there is made anew, or removed; what is there already is not written
+write | / | a/zarr.json {"zarr_format":3,"node_type":"group"};zarr.json {"consolidated_metadata":{"kind":"inline","metadata":{"x":{"node_type":"group","zarr_format":3}},"must_understand":false},"node_type":"group","zarr_format":3} => zarr.json zarr.json 1 true Changed {  "consolidated_metadata": {    "kind": "inline",    "metadata": {      "a": {        "node_type": "group",        "zarr_format": 3      }    },    "must_understand": false  },  "node_type": "group",  "zarr_format": 3} | zarr.json as planned
+remove | / | a/zarr.json {"zarr_format":3,"node_type":"group"};zarr.json {"consolidated_metadata":{"kind":"inline","metadata":{"x":{"node_type":"group","zarr_format":3}},"must_understand":false},"node_type":"group","zarr_format":3} => zarr.json zarr.json 1 true Changed {  "node_type": "group",  "zarr_format": 3} | zarr.json as planned
+remove | / | a/zarr.json {"zarr_format":3,"node_type":"group"};zarr.json {"zarr_format":3,"node_type":"group"} => zarr.json zarr.json 1 false Unchanged {"zarr_format":3,"node_type":"group"} | zarr.json as planned
+# version 2: the block stands beside
+write | / | .zattrs {"k":1};.zgroup {"zarr_format":2};v/.zarray {"chunks":[1],"compressor":null,"dimension_separator":".","dtype":"<f8","fill_value":0.5,"filters":null,"order":"C","shape":[3],"zarr_format":2} => .zmetadata .zmetadata 1 true Changed {  "metadata": {    ".zattrs": {      "k": 1    },    ".zgroup": {      "zarr_format": 2    },    "v/.zarray": {      "chunks": [        1      ],      "compressor": null,      "dimension_separator": ".",      "dtype": "<f8",      "fill_value": 0.5,      "filters": null,      "order": "C",      "shape": [        3      ],      "zarr_format": 2    }  },  "zarr_consolidated_format": 1} | .zmetadata as planned
+write | / | .zattrs {"k":1};.zgroup {"zarr_format":2};v/.zarray {"chunks":[1],"compressor":null,"dimension_separator":".","dtype":"<f8","fill_value":0.5,"filters":null,"order":"C","shape":[3],"zarr_format":2};.zmetadata x => .zmetadata .zmetadata 1 true Changed {  "metadata": {    ".zattrs": {      "k": 1    },    ".zgroup": {      "zarr_format": 2    },    "v/.zarray": {      "chunks": [        1      ],      "compressor": null,      "dimension_separator": ".",      "dtype": "<f8",      "fill_value": 0.5,      "filters": null,      "order": "C",      "shape": [        3      ],      "zarr_format": 2    }  },  "zarr_consolidated_format": 1} | .zmetadata as planned
+remove | / | .zattrs {"k":1};.zgroup {"zarr_format":2};v/.zarray {"chunks":[1],"compressor":null,"dimension_separator":".","dtype":"<f8","fill_value":0.5,"filters":null,"order":"C","shape":[3],"zarr_format":2};.zmetadata x => .zmetadata .zmetadata 1 true Changed -
+remove | / | .zattrs {"k":1};.zgroup {"zarr_format":2};v/.zarray {"chunks":[1],"compressor":null,"dimension_separator":".","dtype":"<f8","fill_value":0.5,"filters":null,"order":"C","shape":[3],"zarr_format":2} => .zmetadata .zmetadata 1 false Unchanged -
+# what refuses both
+write | / | zarr.json {"zarr_format":3,"node_type":"group"};a/zarr.json [] => Node(StorageError(InvalidMetadata)): error parsing metadata for a/zarr.json: not an object
+write | /a | zarr.json {"zarr_format":3,"node_type":"group"} => Node(MissingMetadata): Metadata is missing for /a
+write | /a | zarr.json {"zarr_format":3,"node_type":"group"};a/zarr.json {"chunk_grid":{"configuration":{"chunk_shape":[2]},"name":"regular"},"chunk_key_encoding":"default","codecs":["bytes"],"data_type":"float64","fill_value":0.5,"node_type":"array","shape":[2],"zarr_format":3} => NotAGroup: /a is an array, and only a group has a block
+write | / | zarr.json {"zarr_format":2} => Node(MetadataVersionMismatch): Found V2 metadata in V3 key or vice-versa
+remove | / | zarr.json {"zarr_format":3,"node_type":"group"};a/zarr.json [] => Node(StorageError(InvalidMetadata)): error parsing metadata for a/zarr.json: not an object
+remove | /a | zarr.json {"zarr_format":3,"node_type":"group"} => Node(MissingMetadata): Metadata is missing for /a
+remove | /a | zarr.json {"zarr_format":3,"node_type":"group"};a/zarr.json {"chunk_grid":{"configuration":{"chunk_shape":[2]},"name":"regular"},"chunk_key_encoding":"default","codecs":["bytes"],"data_type":"float64","fill_value":0.5,"node_type":"array","shape":[2],"zarr_format":3} => NotAGroup: /a is an array, and only a group has a block
+remove | / | zarr.json {"zarr_format":2} => Node(MetadataVersionMismatch): Found V2 metadata in V3 key or vice-versa
+write | / | .zgroup {"zarr_format":2};a/zarr.json {"zarr_format":3,"node_type":"group"} => Block(MetadataVersionMismatch): the block of a group of version 2 holds no node of version 3
+remove | / | .zgroup {"zarr_format":2};a/zarr.json {"zarr_format":3,"node_type":"group"} => .zmetadata .zmetadata 1 false Unchanged -
 "#;
 
 #[test]
 fn a_block_is_written_or_removed(rt: HostRuntime) -> Result<(), Fail> {
     laws::carried_out_is_whole();
     check_rows(rt.alloc(), PLANNED, planned)
+}
+
+#[test]
+fn a_store_has_the_plan_of_its_folder(rt: HostRuntime) -> Result<(), Fail> {
+    check_rows(rt.alloc(), PLANNED, planned_over_store)
+}
+
+// Over a store of whole numbers a fraction is bad, and refuses as it does every listing.
+const WHOLE: &str = r#"
+write | / | zarr.json {"zarr_format":3,"node_type":"group"};a/zarr.json {"zarr_format":3,"node_type":"group","attributes":{"k":0.5}} => Node(StorageError(InvalidMetadata)): error parsing metadata for a/zarr.json: unsupported number
+write | / | zarr.json {"zarr_format":3,"node_type":"group"};a/zarr.json {"zarr_format":3,"node_type":"group","attributes":{"k":5}} => zarr.json zarr.json 1 true Changed {  "consolidated_metadata": {    "kind": "inline",    "metadata": {      "a": {        "attributes": {          "k": 5        },        "node_type": "group",        "zarr_format": 3      }    },    "must_understand": false  },  "node_type": "group",  "zarr_format": 3} | zarr.json as planned
+"#;
+
+// The plan over a store whose documents hold whole numbers only.
+fn planned_whole(alloc: Global, given: &str) -> Result<String, AllocError> {
+    let (task, rest) = fields(given);
+    let (path, files) = fields(rest);
+    let Ok(store) = store_of(alloc, files) else {
+        return String::from_str(alloc, "no store");
+    };
+    let Ok(base) = NodePath::new(alloc, path) else {
+        return String::from_str(alloc, "no path");
+    };
+    match plan(&Discard, alloc, task_of(task), &store, &base) {
+        Ok(plan) => said_of(alloc, &plan),
+        Err(error) => refusal(alloc, &error),
+    }
+}
+
+#[test]
+fn a_store_of_whole_numbers_refuses_a_fraction(rt: HostRuntime) -> Result<(), Fail> {
+    check_rows(rt.alloc(), WHOLE, planned_whole)
 }
