@@ -136,9 +136,9 @@ pub(crate) fn set_list(
 }
 
 // The block that the node at a path makes of all that is listed below it.
-fn block_at(
+fn block_at<S: ReadableStorageTraits + ListableStorageTraits>(
     alloc: Global,
-    store: &MemoryStore,
+    store: &S,
     path: &str,
 ) -> Result<Option<ConsolidatedMetadata>, NodeCreateError> {
     let config = config_of(UseConsolidatedMetadata::Never);
@@ -150,10 +150,10 @@ fn block_at(
 }
 
 // Sets the block of all that is listed below a path.
-fn set_listed(
+fn set_listed<S: ReadableStorageTraits + ListableStorageTraits>(
     group: &mut Group,
     alloc: Global,
-    store: &MemoryStore,
+    store: &S,
     path: &str,
 ) -> Result<(), NodeCreateError> {
     let block = block_at(alloc, store, path)?;
@@ -161,9 +161,9 @@ fn set_listed(
 }
 
 /// The group at a path of a store, with the block of all that is listed below it set.
-pub(crate) fn consolidated(
+pub(crate) fn consolidated<S: ReadableStorageTraits + ListableStorageTraits>(
     alloc: Global,
-    store: &MemoryStore,
+    store: &S,
     path: &str,
 ) -> Result<Group, GroupCreateError> {
     let mut group = Group::open(alloc, store, path, &Config::new())?;

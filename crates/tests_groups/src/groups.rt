@@ -667,13 +667,18 @@ fn nested(alloc: Global, count: usize) -> Result<String, AllocError> {
     Ok(given)
 }
 
-// Whether a group of version 3 with an attribute of so many lists in each other is shallow.
-fn shallow_said(alloc: Global, levels: &str) -> Result<String, GroupCreateError> {
+/// The group of version 3 with an attribute of so many lists in each other.
+pub(crate) fn nested_group(alloc: Global, levels: &str) -> Result<Group, GroupCreateError> {
     let Ok(count) = levels.parse::<usize>() else {
         return Err(GroupCreateError::from(no_word(alloc, levels)));
     };
     let given = nested(alloc, count)?;
-    let group = group_of(alloc, given.as_str(), &Config::new())?;
+    group_of(alloc, given.as_str(), &Config::new())
+}
+
+// Whether the group with so many lists in each other is shallow.
+fn shallow_said(alloc: Global, levels: &str) -> Result<String, GroupCreateError> {
+    let group = nested_group(alloc, levels)?;
     Ok(printed(&group.is_shallow(alloc)?, alloc)?)
 }
 
@@ -707,6 +712,7 @@ fn the_laws_are_called(rt: HostRuntime) -> Result<(), Fail> {
     laws::storing_keeps_others();
     laws::means_version_3();
     laws::listed_block_opens();
+    laws::written_block_opens();
     let path = NodePath::new(alloc, "/g")?;
     let metadata = metadata_of(alloc, r#"3 | {"k":1} | {}"#)?;
     laws::stored_means(alloc, &path, &metadata)?;

@@ -5,6 +5,8 @@
 #[cfg(test)]
 mod any_numbers;
 #[cfg(test)]
+mod block_documents;
+#[cfg(test)]
 mod fixture_rows;
 #[cfg(test)]
 mod fixtures;

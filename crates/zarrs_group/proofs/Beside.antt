@@ -3,10 +3,10 @@ use Rattle.std.proofs.Common.{◌≡◌, ℕ, ◌⊎◌, inl, inr, ⊎_elim, Boo
 use Rattle.std.specs.List.{list_all}
 use Rattle.std.specs.Ordering.{is_eq}
 use Rattle.std.specs.Result.{result_ok}
-use Rattle.std.specs.FinMap.{get}
+use Rattle.std.specs.FinMap.{FinMap, get}
 use Rattle.std.proofs.lemmas.Bool.{and_parts}
 use Rattle.serde_json.specs.Data.{Data, Members}
-use Rattle.zarrs_store.specs.Segments.{Segments, bytes_cmp, key_text}
+use Rattle.zarrs_store.specs.Segments.{Segments, bytes_cmp, key_cmp, key_text}
 use Rattle.zarrs_store.specs.Contents.{Contents}
 use Rattle.zarrs_fault.specs.declared.fault.MetadataFault.{MetadataFault}
 use Rattle.zarrs_fault.specs.declared.numbers.Numbers.{Numbers}
@@ -14,7 +14,10 @@ use Rattle.zarrs_store.specs.declared.storage_error.StorageError.{StorageError}
 use Rattle.zarrs_path.specs.Keys.{zarray, zgroup, zmetadata}
 use Rattle.zarrs_path.specs.Names.{is_name}
 use Rattle.zarrs_path.specs.Paths.{Path, IsPath}
+use Rattle.zarrs_config.specs.declared.version.MetadataRetrieveVersion.TheVariants.{V2 as OfVersion2}
 use Rattle.zarrs_form.specs.Documents.{◌>>=◌, json_of, tree_or_fault, of_bytes}
+use Rattle.zarrs_meta.specs.declared.array_v2.ArrayMetadataV2.{ArrayMetadataV2}
+use Rattle.zarrs_meta.specs.declared.group_v2.GroupMetadataV2.{GroupMetadataV2}
 use Rattle.zarrs_meta.specs.declared.attributes.AttributesDocument.{AttributesDocument}
 use Rattle.zarrs_meta.specs.declared.node.GroupMetadata.{GroupMetadata}
 use Rattle.zarrs_meta.specs.declared.node.GroupMetadata.TheVariants.{V3, V2}
@@ -26,8 +29,8 @@ use Rattle.zarrs_meta.specs.declared.node.GroupMetadata.TheVariants.{V2 as group
 use Rattle.zarrs_meta.specs.declared.node.NodeMetadata.{NodeMetadata}
 use Rattle.zarrs_meta.specs.declared.node.NodeMetadata.TheVariants.{Group, Array}
 use Rattle.zarrs_block.specs.Block.{Block, IsValidKey, first_some, node_at_key, put}
-use Rattle.zarrs_block.specs.Meaning.{Meaning, node, nothing, bad, attributes_in, document_at, in_trees, version_2_line, meaning_in, zarray_line, zgroup_line}
-use Rattle.zarrs_block.specs.Small.{SmallStore, small, small_meaning_in}
+use Rattle.zarrs_block.specs.Meaning.{Meaning, Reading, node, nothing, bad, attributes_in, document_at, in_trees, version_2_line, meaning_in, zarray_line, zgroup_line}
+use Rattle.zarrs_block.specs.Small.{small, small_meaning_in}
 use Rattle.zarrs_block.specs.Zmetadata.{before_last, documents_below, block_from, is_bad, is_good, is_version_2, small_block_in, with_node, zmetadata_members_in, zmetadata_in}
 use Rattle.zarrs_block.proofs.Expansion.{same_text}
 use Rattle.zarrs_node.proofs.Child.{node_same}
@@ -47,17 +50,17 @@ line_v2 kind with' (Ok (Some d)) (Err wrong) after m all rest e = cc
 line_v2 kind with' (Err wrong) a after m all rest e = cc
 
 -- the line of `.zgroup` means a group of version 2
-group_line_v2 : (numbers : Numbers) (z : SmallStore) (p : Path) (m : NodeMetadata) → zgroup_line (in_trees numbers) z p nothing ≡ node m → IsTrue (is_version_2 m)
+group_line_v2 : {V : Type 0} (reading : Reading V) (z : FinMap key_cmp V) (p : Path) (m : NodeMetadata) → zgroup_line reading z p nothing ≡ node m → IsTrue (is_version_2 m)
 unfolding zgroup_line
-group_line_v2 numbers z p m e =
-    line_v2 (λ g. Group (group_v2 g)) group_with (document_at (group_v2_in numbers) z (p ++ zgroup ∷ [])) (attributes_in (in_trees numbers) z p) nothing m (λ d. refl) (λ none. cc) e
+group_line_v2 reading z p m e =
+    line_v2 (λ g. Group (group_v2 g)) group_with (document_at (reading GroupMetadataV2 group_v2_in) z (p ++ zgroup ∷ [])) (attributes_in reading z p) nothing m (λ d. refl) (λ none. cc) e
 
--- what a path means in a small store is of version 2
-means_v2 : (numbers : Numbers) (z : SmallStore) (p : Path) (m : NodeMetadata) → small_meaning_in numbers z p ≡ node m → IsTrue (is_version_2 m)
+-- what a path means by the documents of version 2, in a store of bytes or of trees, is of version 2
+pub means_v2 : {V : Type 0} (reading : Reading V) (z : FinMap key_cmp V) (p : Path) (m : NodeMetadata) → meaning_in reading z OfVersion2 p ≡ node m → IsTrue (is_version_2 m)
 unfolding meaning_in zarray_line
-means_v2 numbers z p m e =
-    line_v2 (λ a. Array (array_v2 a)) array_with (document_at (array_v2_in numbers) z (p ++ zarray ∷ [])) (attributes_in (in_trees numbers) z p) (zgroup_line (in_trees numbers) z p nothing) m
-    (λ d. refl) (group_line_v2 numbers z p m) e
+means_v2 reading z p m e =
+    line_v2 (λ a. Array (array_v2 a)) array_with (document_at (reading ArrayMetadataV2 array_v2_in) z (p ++ zarray ∷ [])) (attributes_in reading z p) (zgroup_line reading z p nothing) m
+    (λ d. refl) (group_line_v2 reading z p m) e
 
 -- ---- what is put into the block
 
@@ -111,7 +114,7 @@ fits_beside B fits = (
 -- by whether all documents are good
 small_at : (numbers : Numbers) (b : Bool) (ms : Members) → list_all (λ e. is_good (small_meaning_in numbers (small [] ms)) e.0) (documents_below ms) ≡ b → (fault : MetadataFault)
     → IsBeside (result_ok (if b then Ok (block_from (small_meaning_in numbers (small [] ms)) (documents_below ms)) else Err fault))
-small_at numbers true ms good fault = fits_beside _ (from_fits (small_meaning_in numbers (small [] ms)) (documents_below ms) (means_v2 numbers (small [] ms)) good)
+small_at numbers true ms good fault = fits_beside _ (from_fits (small_meaning_in numbers (small [] ms)) (documents_below ms) (means_v2 (in_trees numbers) (small [] ms)) good)
 small_at numbers false ms good fault = tt
 
 -- the block of some members can be written

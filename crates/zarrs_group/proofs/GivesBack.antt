@@ -230,7 +230,7 @@ unfolding format_of
 other_format d e = num_other (option_and_then as_u64 (option_and_then as_number (get (codes "zarr_format") d))) e
 
 -- a step that led to an answer gave a value
-step_of : {A C : Type 0} (r : Result A MetadataFault) (next : A → Result C MetadataFault) (y : C) → (r >>= next) ≡ Ok y → (x : A) × (r ≡ Ok x) × (next x ≡ Ok y)
+pub step_of : {A C : Type 0} (r : Result A MetadataFault) (next : A → Result C MetadataFault) (y : C) → (r >>= next) ≡ Ok y → (x : A) × (r ≡ Ok x) × (next x ≡ Ok y)
 step_of (Ok x) next y e = (x, refl, e)
 step_of (Err fault) next y e = cc
 

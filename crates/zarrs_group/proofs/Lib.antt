@@ -15,3 +15,6 @@ pub mod ListedReads
 pub mod StoredBlocks
 pub mod Beside
 pub mod BlockPlain
+pub mod BelowBases
+pub mod PlainWithBlock
+pub mod WrittenBlocks

@@ -57,7 +57,7 @@ block_stored : (S : Contents) (p : Path) (m : GroupMetadataV2) (B : Block) → m
 block_stored S p m B = get_inserted (after S (own_edits p m)).values (p ++ zmetadata ∷ []) (pretty_text (zmetadata_tree m B))
 
 -- bytes that are read as the document of a block are that block
-block_read : (s : Contents) (p : Path) (bytes : List ℕ) (d : Data) (C : Block) → map.get s.values (p ++ zmetadata ∷ []) ≡ Some bytes → json_of bytes ≡ Some d → zmetadata_in s.numbers d ≡ Ok C → zmetadata_at s p ≡ Some C
+pub block_read : (s : Contents) (p : Path) (bytes : List ℕ) (d : Data) (C : Block) → map.get s.values (p ++ zmetadata ∷ []) ≡ Some bytes → json_of bytes ≡ Some d → zmetadata_in s.numbers d ≡ Ok C → zmetadata_at s p ≡ Some C
 block_read s p bytes d C here read is = rw (here, read, is) refl
 
 -- where no fault is told there is none

@@ -1,5 +1,5 @@
 -- A version 3 group that was stored with the block of a listing opens by that block as by a listing.
-use Rattle.std.proofs.Common.{◌≡◌, ◌≤◌, inl, inr, ⊎_elim, Bool, true, List, [], ◌∷◌, ◌++◌, length, Option, Some, None, Result, Ok, Err, refl, sym, ap, subst, ◌∙◌, arith, length-append}
+use Rattle.std.proofs.Common.{◌≡◌, ◌≤◌, ◌↔◌, inl, inr, ⊎_elim, Bool, true, List, [], ◌∷◌, ◌++◌, length, Option, Some, None, Result, Ok, Err, refl, sym, ap, subst, ◌∙◌, arith, length-append}
 use Rattle.serde_json.specs.Data.{depth}
 use Rattle.serde_json.specs.Read.{max_depth}
 use Rattle.zarrs_store.specs.Contents.{Contents}
@@ -17,16 +17,21 @@ use Rattle.zarrs_meta.specs.declared.group_v3.GroupMetadataV3.{GroupMetadataV3}
 use Rattle.zarrs_meta.specs.declared.node.GroupMetadata.{GroupMetadata}
 use Rattle.zarrs_meta.specs.declared.node.GroupMetadata.TheVariants.{V3}
 use Rattle.zarrs_meta.specs.declared.node.NodeMetadata.TheVariants.{Group}
-use Rattle.zarrs_block.specs.Block.{Block}
+use Rattle.zarrs_block.specs.Block.{Block, Entries, HasValidKeys}
 use Rattle.zarrs_block.specs.Meaning.{meaning, node, nothing}
 use Rattle.zarrs_block.specs.Policy.{group_block, block_to_use}
+use Rattle.zarrs_block.specs.Zmetadata.{HaveSameEntries}
 use Rattle.zarrs_block.specs.declared.node_create_error.NodeCreateError.{NodeCreateError}
 use Rattle.zarrs_node.specs.BlocksBelow.{block_at}
+use Rattle.zarrs_node.specs.Forest.{Forest, pairs, Shows}
 use Rattle.zarrs_node.specs.Nodes.{ShowsBad}
+use Rattle.zarrs_node.specs.Reach.{Kept}
 use Rattle.zarrs_node.specs.ListedBlocks.{IsListedBlock}
 use Rattle.zarrs_node.specs.OpeningNodes.{choice, RefusesChosen, ShowsBelow, ShowsChosen}
 use Rattle.zarrs_node.specs.OpeningNodes as opened
+use Rattle.zarrs_node.proofs.KeptPairs.{kept_same}
 use Rattle.zarrs_node.proofs.ListedBlocks.{listed_keys, shown_alike}
+use Rattle.zarrs_node.proofs.ListedItems.{listed_each, lists_from}
 use Rattle.zarrs_group.specs.Edits.{AgreesOutsideKey, Edit, set, after, edit_key, IsCutShort}
 use Rattle.zarrs_group.specs.Groups.{group_tree, metadata_by_version}
 use Rattle.zarrs_group.specs.Meaning.{MeansGroup, group_v3_line, group_line, group_meaning}
@@ -92,31 +97,47 @@ pub means_version_3 : MeansVersion3
 unfolding group_meaning group_line
 means_version_3 S p m e = line_is_v3 _ m e
 
-module _ (S : Contents) (v : MetadataRetrieveVersion) (p : Path) (k : GroupMetadataV3) (B : Block) (valid : IsPath p) (listed : IsListedBlock S v p B)
-    (means : meaning S v p ≡ node (Group (V3 k))) (held : block_at S p (Group (V3 k)) ≡ Some B) where
+-- a group that a path means, whose block has the entries of the listed block and valid keys
+module _ (S : Contents) (v : MetadataRetrieveVersion) (p : Path) (m : GroupMetadata) (B C : Block) (valid : IsPath p) (listed : IsListedBlock S v p B)
+    (means : meaning S v p ≡ node (Group m)) (held : block_at S p (Group m) ≡ Some C) (keys : HasValidKeys C) (same : HaveSameEntries B C) where
   -- under Must the block is used
-  must : choice S Must p (Group (V3 k)) ≡ Some (Some B)
+  must : choice S Must p (Group m) ≡ Some (Some C)
   must = ap (λ o. block_to_use o Must) held
 
   -- under Never it is not
-  never : choice S Never p (Group (V3 k)) ≡ Some None
+  never : choice S Never p (Group m) ≡ Some None
   never = ap (λ o. block_to_use o Never) held
 
   -- nothing below the group is refused
-  clean : (policy : UseConsolidatedMetadata) (e : NodeCreateError) → opened.RefusesBelow S v policy p (Group (V3 k)) e → ⊥
-  clean Auto e h = no_bad_key B (listed_keys S v p B listed) e (subst (λ c. RefusesChosen S v c true p e) (ap (λ o. block_to_use o Auto) held) h)
-  clean Must e h = no_bad_key B (listed_keys S v p B listed) e (subst (λ c. RefusesChosen S v c true p e) must h)
+  clean : (policy : UseConsolidatedMetadata) (e : NodeCreateError) → opened.RefusesBelow S v policy p (Group m) e → ⊥
+  clean Auto e h = no_bad_key C keys e (subst (λ c. RefusesChosen S v c true p e) (ap (λ o. block_to_use o Auto) held) h)
+  clean Must e h = no_bad_key C keys e (subst (λ c. RefusesChosen S v c true p e) must h)
   clean Never e h =
       let shows : ShowsBad S v true p e = subst (λ c. RefusesChosen S v c true p e) never h in
       listed.clean (⊎_elim (λ w. inl (e, w)) (λ w. inr (w.0, w.1)) shows)
 
+  -- a forest that shows the kept entries of the one block shows those of the other
+  of_listed : (f : Forest) → Shows f p (Kept (Entries C p) true p) → Shows f p (Kept (Entries B p) true p)
+  of_listed f shows =
+      let kept = kept_same (Entries C p) (Entries B p) true p (λ e low. same p e) in
+      record {
+        shown = lists_from (pairs f) (λ e. (λ in'. (kept e).0 ((listed_each shows.shown e).0 in'), λ h. (listed_each shows.shown e).1 ((kept e).1 h))) shows.shown.each_once;
+        placed = shows.placed;
+      }
+
   -- the group opens alike by the block and by a listing
-  alike : OpensAlike S v p (V3 k)
-  alike = record {
+  pub opens_alike : OpensAlike S v p m
+  opens_alike = record {
     means = means;
-    children = λ f g one two. shown_alike S v p B listed f g (subst (λ c. ShowsChosen S v c true p f) must one) (subst (λ c. ShowsChosen S v c true p g) never two);
-    opened = λ policy. opens_clean S v policy p valid (Group (V3 k)) means (clean policy);
+    children = λ f g one two. shown_alike S v p B listed f g (of_listed f (subst (λ c. ShowsChosen S v c true p f) must one)) (subst (λ c. ShowsChosen S v c true p g) never two);
+    opened = λ policy. opens_clean S v policy p valid (Group m) means (clean policy);
   }
+
+-- a version 3 group that a path means with its listed block opens alike by it and by a listing
+pub opens_with_field : (S : Contents) (v : MetadataRetrieveVersion) (p : Path) (m : GroupMetadataV3) (B : Block) → IsPath p → IsListedBlock S v p B → meaning S v p ≡ node (Group (metadata_with (Some B) (V3 m)))
+    → OpensAlike S v p (metadata_with (Some B) (V3 m))
+opens_with_field S v p m B valid listed means =
+    opens_alike S v p (metadata_with (Some B) (V3 m)) B B valid listed means (set_reads S.numbers B m.additional_fields (listed_reads S v p B listed)) (listed_keys S v p B listed) (λ b e. (λ h. h, λ h. h))
 
 -- so does a group that was stored with the listed block
 pub listed_block_opens : ListedBlockOpens
@@ -127,4 +148,4 @@ listed_block_opens S v w g m B not valid is listed stored shallow =
     let both : depth (group_tree (V3 k)) ≤ max_depth → MeansGroup S retrieve.Default g.path (V3 k) × MeansGroup S retrieve.V3 g.path (V3 k) =
     subst (MeansStored S g.path) (ap (metadata_by_version w) same ∙ written_as_is w k) stored in
     let means : meaning S v g.path ≡ node (Group (V3 k)) = means_node S S g.path k refl (both (subst (λ x. depth (group_tree x) ≤ max_depth) same shallow)).1 refl v not in
-    (ap (group_block S.numbers) same ∙ held, subst (OpensAlike S v g.path) (sym same) (alike S v g.path k B valid listed means held))
+    (ap (group_block S.numbers) same ∙ held, subst (OpensAlike S v g.path) (sym same) (opens_with_field S v g.path m B valid listed means))

@@ -1,5 +1,5 @@
 //! The document that holds the block of a group.
-ghost use Rattle.std.specs.Prelude.{◌≡◌, ◌×◌, ◌<◌, None, IfOk, IfSome};
+ghost use Rattle.std.specs.Prelude.{◌≡◌, ◌<◌, None, IfOk, IfSome};
 ghost use Rattle.serde_json.specs.Data.{depth};
 ghost use Rattle.serde_json.specs.Read.{max_depth};
 ghost use Rattle.serde_json.specs.View.{view};

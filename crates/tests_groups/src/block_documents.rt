@@ -1,0 +1,114 @@
+//! The document that holds the block of a group, in any numbers: what it is, and what opens by it once it was written.
+
+use crate::fixture_rows::store_in;
+use crate::fixtures::consolidated;
+use crate::groups::nested_group;
+use log::sink::Discard;
+use std::alloc::{AllocError, Global};
+use std::test::Fail;
+use tests_fixtures::{config_of, node_text};
+use tests_support::{check_rows, printed, said};
+use zarrs_config::{Config, UseConsolidatedMetadata};
+use zarrs_group::{Group, GroupCreateError};
+use zarrs_node::Node;
+use zarrs_store::{AnyNumbers, MemoryStore, StorageError, WritableStorageTraits};
+
+// The key of the document that holds the block of a group, and its bytes; or that there is none.
+fn document_of(group: &Group, alloc: Global) -> Result<String, AllocError> {
+    let Some((key, bytes)) = group.block_document(alloc)? else {
+        return String::from_str(alloc, "none");
+    };
+    let text = String::from_utf8_lossy(alloc, bytes.as_slice())?;
+    format!(in alloc; "{key} {text}")
+}
+
+// The document of the group at `/g` of the store with the documents of a list, in any numbers.
+fn document_in(alloc: Global, list: &str) -> Result<String, GroupCreateError> {
+    let store = AnyNumbers {
+        inner: store_in(alloc, list)?,
+    };
+    let group = Group::open(alloc, &store, "/g", &Config::new())?;
+    Ok(document_of(&group, alloc)?)
+}
+
+// Documents, and the one that holds the block of the group, with its line ends as `\n`.
+const DOCUMENTS: &str = r#"
+# Of version 3 it is the whole document, with the block or without one.
+g/zarr.json={"attributes":{"scale":0.5},"consolidated_metadata":{"kind":"inline","metadata":{"a":{"chunk_grid":{"configuration":{"chunk_shape":[10]},"name":"regular"},"chunk_key_encoding":"default","codecs":["bytes"],"data_type":"float64","fill_value":1.5,"node_type":"array","shape":[10],"zarr_format":3}},"must_understand":false},"node_type":"group","zarr_format":3} => g/zarr.json {\n  "attributes": {\n    "scale": 0.5\n  },\n  "consolidated_metadata": {\n    "kind": "inline",\n    "metadata": {\n      "a": {\n        "chunk_grid": {\n          "configuration": {\n            "chunk_shape": [\n              10\n            ]\n          },\n          "name": "regular"\n        },\n        "chunk_key_encoding": "default",\n        "codecs": [\n          "bytes"\n        ],\n        "data_type": "float64",\n        "fill_value": 1.5,\n        "node_type": "array",\n        "shape": [\n          10\n        ],\n        "zarr_format": 3\n      }\n    },\n    "must_understand": false\n  },\n  "node_type": "group",\n  "zarr_format": 3\n}
+g/zarr.json={"attributes":{"scale":0.5},"other":{"must_understand":false},"node_type":"group","zarr_format":3} => g/zarr.json {\n  "attributes": {\n    "scale": 0.5\n  },\n  "node_type": "group",\n  "other": {\n    "must_understand": false\n  },\n  "zarr_format": 3\n}
+
+# Of version 2 it is `.zmetadata`, where there is a block.
+g/.zgroup=G2 g/.zattrs={"k":0.25} g/.zmetadata={"metadata":{"a/.zgroup":{"zarr_format":2},"a/.zattrs":{"k":1.5}},"zarr_consolidated_format":1} => g/.zmetadata {\n  "metadata": {\n    ".zattrs": {\n      "k": 0.25\n    },\n    ".zgroup": {\n      "zarr_format": 2\n    },\n    "a/.zattrs": {\n      "k": 1.5\n    },\n    "a/.zgroup": {\n      "zarr_format": 2\n    }\n  },\n  "zarr_consolidated_format": 1\n}
+g/.zgroup=G2 g/.zattrs={"k":0.25} => none
+"#;
+
+#[test]
+fn a_group_has_the_document_of_its_block(rt: HostRuntime) -> Result<(), Fail> {
+    check_rows(rt.alloc(), DOCUMENTS, document_in)
+}
+
+// Whether the group with so many lists in each other has such a document.
+fn has_document(alloc: Global, levels: &str) -> Result<String, GroupCreateError> {
+    let group = nested_group(alloc, levels)?;
+    Ok(printed(&group.block_document(alloc)?.is_some(), alloc)?)
+}
+
+// The lists in each other, which stand two levels deep in the document; whether there is one.
+const DEPTHS: &str = r#"
+125 => true
+126 => false
+"#;
+
+#[test]
+fn what_nests_too_deep_has_no_document(rt: HostRuntime) -> Result<(), Fail> {
+    check_rows(rt.alloc(), DEPTHS, has_document)
+}
+
+// Sets the document that holds the block of a group in a store.
+fn write_document<S: WritableStorageTraits>(
+    group: &Group,
+    alloc: Global,
+    store: &mut S,
+) -> Result<(), StorageError> {
+    match group.block_document(alloc)? {
+        Some((key, bytes)) => store.set(&key, bytes.as_slice()),
+        None => Err(StorageError::Other(String::from_str(alloc, "no document")?)),
+    }
+}
+
+// The node at `/g` of a store with all below it, by a policy.
+fn opened(
+    alloc: Global,
+    store: &AnyNumbers<MemoryStore>,
+    policy: UseConsolidatedMetadata,
+) -> Result<String, AllocError> {
+    let node = Node::open(&Discard, alloc, store, "/g", &config_of(policy));
+    said(alloc, node, node_text)
+}
+
+// The nodes at `/g` of a store, by the block and by a listing, once the document with the block of all that is listed there was set.
+fn written(alloc: Global, list: &str) -> Result<String, GroupCreateError> {
+    let mut store = AnyNumbers {
+        inner: store_in(alloc, list)?,
+    };
+    let group = consolidated(alloc, &store, "/g")?;
+    write_document(&group, alloc, &mut store)?;
+    let must = opened(alloc, &store, UseConsolidatedMetadata::Must)?;
+    let never = opened(alloc, &store, UseConsolidatedMetadata::Never)?;
+    Ok(format!(in alloc; "must:\n{must}never:\n{never}")?)
+}
+
+// Documents in any numbers, and the nodes that open under Must and under Never.
+const WRITTEN: &str = r#"
+# Of version 3 the block stands in the document of the group.
+g/zarr.json={"attributes":{"scale":0.5},"node_type":"group","zarr_format":3} g/a/zarr.json={"attributes":{"n":1.5},"node_type":"group","zarr_format":3} g/a/b/zarr.json=A3 => must:\n/g {"attributes":{"scale":0.5},"consolidated_metadata":{"kind":"inline","metadata":{"a":{"attributes":{"n":1.5},"node_type":"group","zarr_format":3},"a/b":A3},"must_understand":false},"node_type":"group","zarr_format":3}\n  /g/a {"attributes":{"n":1.5},"node_type":"group","zarr_format":3}\n    /g/a/b A3\nnever:\n/g {"attributes":{"scale":0.5},"consolidated_metadata":{"kind":"inline","metadata":{"a":{"attributes":{"n":1.5},"node_type":"group","zarr_format":3},"a/b":A3},"must_understand":false},"node_type":"group","zarr_format":3}\n  /g/a {"attributes":{"n":1.5},"node_type":"group","zarr_format":3}\n    /g/a/b A3\n
+g/zarr.json=G3 => must:\n/g {"consolidated_metadata":{"kind":"inline","metadata":{},"must_understand":false},"node_type":"group","zarr_format":3}\nnever:\n/g {"consolidated_metadata":{"kind":"inline","metadata":{},"must_understand":false},"node_type":"group","zarr_format":3}\n
+
+# Of version 2 it stands beside its documents.
+g/.zgroup=G2 g/.zattrs={"k":0.25} g/a/.zgroup=G2 g/a/.zattrs={"k":1.5} g/a/b/.zarray=A2 => must:\n/g {"attributes":{"k":0.25},"zarr_format":2}\n  /g/a {"attributes":{"k":1.5},"zarr_format":2}\n    /g/a/b A2\nnever:\n/g {"attributes":{"k":0.25},"zarr_format":2}\n  /g/a {"attributes":{"k":1.5},"zarr_format":2}\n    /g/a/b A2\n
+"#;
+
+#[test]
+fn a_written_block_opens_as_the_listing_does(rt: HostRuntime) -> Result<(), Fail> {
+    check_rows(rt.alloc(), WRITTEN, written)
+}
