@@ -1,5 +1,5 @@
 -- What stands below a base stays where one key directly behind the base changed.
-use Rattle.std.proofs.Common.{◌≡◌, ◌≤◌, ◌+◌, ◌⊎◌, inl, inr, ⊎_elim, ℕ, true, List, [], ◌∷◌, ◌++◌, length, is_some, refl, sym, ap, ◌∙◌, length-append, arith, Contains}
+use Rattle.std.proofs.Common.{◌≡◌, ◌≤◌, ◌+◌, inl, inr, ⊎_elim, ℕ, true, List, [], ◌∷◌, ◌++◌, length, is_some, refl, sym, ap, ◌∙◌, length-append, arith}
 use Rattle.std.specs.FinMap as map
 use Rattle.zarrs_store.specs.Segments.{Segments}
 use Rattle.zarrs_store.specs.Contents.{Contents, HasBelow, with_key}
@@ -9,8 +9,7 @@ use Rattle.zarrs_config.specs.declared.version.MetadataRetrieveVersion.{Metadata
 use Rattle.zarrs_block.specs.Block.{Block}
 use Rattle.zarrs_block.specs.Meaning.{meaning}
 use Rattle.zarrs_node.specs.Reach.{Reached}
-use Rattle.zarrs_node.specs.Nodes.{Means, MeansNode, Nodes, IsListed, Bad}
-use Rattle.zarrs_node.specs.Changes.{document_files}
+use Rattle.zarrs_node.specs.Nodes.{MeansNode, IsListed, Bad}
 use Rattle.zarrs_node.specs.ListedBlocks.{IsListedBlock}
 use Rattle.zarrs_node.proofs.Current.{AtOrBelow, meaning_same}
 use Rattle.zarrs_node.proofs.KeptPairs.{nodes_same, reached_more}

@@ -1,8 +1,8 @@
 -- A version 3 group stays plain in any numbers where it takes a block that reads back in them.
-use Rattle.std.proofs.Common.{◌≡◌, ℕ, List, Bool, true, false, not, ◌&&◌, Less, Equal, Greater, Ordering, Some, Ok, IsTrue, nat_cmp, codes, refl, ap}
+use Rattle.std.proofs.Common.{◌≡◌, ℕ, List, true, false, Less, Equal, Greater, Ordering, Ok, IsTrue, nat_cmp, codes, refl, ap}
 use Rattle.std.specs.Ordering.{match_ordering}
 use Rattle.std.specs.Cmp.Lexicographic.{slice_cmp}
-use Rattle.serde_json.specs.Data.{Data, boolean, string, object, Members, no_members, member, put}
+use Rattle.serde_json.specs.Data.{Data, boolean, object, Members, no_members, member, put}
 use Rattle.serde_json.specs.Find.{get_member}
 use Rattle.serde_json.specs.Written.{has_float, members_have_float}
 use Rattle.serde_json.proofs.Views.{get_member-put}

@@ -1,5 +1,5 @@
 -- A group whose document with the listed block was written, with any numbers, opens by that block as by a listing.
-use Rattle.std.proofs.Common.{◌≡◌, ◌≢◌, ℕ, List, [], ◌∷◌, ◌++◌, Option, Some, None, Ok, IsTrue, true, true≢false, refl, sym, ap, subst, ◌∙◌, Contains}
+use Rattle.std.proofs.Common.{◌≡◌, ◌≢◌, ℕ, List, [], ◌∷◌, ◌++◌, Option, Some, Ok, IsTrue, true, true≢false, refl, sym, subst, ◌∙◌}
 use Rattle.std.specs.Prelude.{All}
 use Rattle.std.specs.FinMap as map
 use Rattle.std.proofs.lemmas.List.Elements.{All-contains, All-cons, All-nil}
@@ -15,17 +15,15 @@ use Rattle.zarrs_form.specs.Documents.{json_of}
 use Rattle.zarrs_form.specs.DocumentTexts.{IsTextOf}
 use Rattle.zarrs_form.proofs.MemberLaws.{differ}
 use Rattle.zarrs_meta.specs.GroupV3.{group_v3_in, group_v3_tree, is_plain_group_v3_in}
-use Rattle.zarrs_meta.specs.Node.{is_plain_node_in}
 use Rattle.zarrs_meta.specs.declared.group_v2.GroupMetadataV2.{GroupMetadataV2}
 use Rattle.zarrs_meta.specs.declared.group_v3.GroupMetadataV3.{GroupMetadataV3}
 use Rattle.zarrs_meta.specs.declared.node.GroupMetadata.{GroupMetadata}
 use Rattle.zarrs_meta.specs.declared.node.GroupMetadata.TheVariants.{V3, V2}
-use Rattle.zarrs_meta.specs.declared.node.NodeMetadata.{NodeMetadata}
 use Rattle.zarrs_meta.specs.declared.node.NodeMetadata.TheVariants.{Group}
 use Rattle.zarrs_meta.proofs.GroupV3Laws.{group_v3_again_in}
-use Rattle.zarrs_block.specs.Block.{Block, Entries, HasValidKeys}
+use Rattle.zarrs_block.specs.Block.{Block, HasValidKeys}
 use Rattle.zarrs_block.specs.Meaning.{in_bytes, meaning, node, document_at}
-use Rattle.zarrs_block.specs.Zmetadata.{zmetadata_in, zmetadata_tree, HasPlainEntriesIn, HasVersion2}
+use Rattle.zarrs_block.specs.Zmetadata.{zmetadata_tree, HasPlainEntriesIn}
 use Rattle.zarrs_block.proofs.ZmetadataAgain.{written_reads_back_in}
 use Rattle.zarrs_node.specs.BlocksBelow.{zmetadata_at}
 use Rattle.zarrs_node.specs.Changes.{document_files}
