@@ -1,0 +1,93 @@
+-- From a plan with its line to the answer of a run that writes a block back, and from its refusal to that of the run.
+use Rattle.std.proofs.Common.{◌≡◌, inl, inr, ⊎_elim, false, refl, ℕ, List, [], Option, String, Global, string_bytes}
+use Rattle.std.specs.Io.KnownBytes.{Appends}
+use Rattle.zarrs_store.specs.Contents.{Contents, Values}
+use Rattle.zarrs_path.specs.Paths.{Path, IsPath, path_text}
+use Rattle.zarrs_folder.specs.Folders.{in_any, values_of}
+use Rattle.zarrs_block.specs.declared.node_create_error.NodeCreateError.{NodeCreateError}
+use Rattle.zarrs_program.specs.Words.{RefusesPathText}
+use Rattle.zarrs_write.specs.Calls.{AddsSome, Asked}
+use Rattle.zarrs_write.specs.declared.fault.ReplaceError.{ReplaceError}
+use Rattle.zarrs_consolidate.specs.CarryingOut.{IsPlanBrokenOff}
+use Rattle.zarrs_consolidate.specs.declared.plan.Plan.{Plan}
+use Rattle.zarrs_cli.specs.ConsolidationRefusals.{RefusesConsolidation, RefusesConsolidationOfEach, RefusesConsolidationOfSome}
+use Rattle.zarrs_cli.specs.Consolidations.{AsksPlace, IsChange, IsConsolidation, IsConsolidationOfEach, IsConsolidationOfSome, IsEnd}
+use Rattle.zarrs_cli.specs.StepsOfConsolidations.{IsPlanFault, IsPlanFaultOfEach, IsPlanFaultOfSome, IsToldOf, IsToldOfEach, IsToldOfSome}
+use Rattle.zarrs_cli.specs.declared.consolidate.Consolidated.{Consolidated}
+use Rattle.zarrs_cli.specs.declared.fault.ZarrsFault.{ZarrsFault}
+use Rattle.zarrs_cli.specs.declared.fault.ZarrsFault.TheVariants.{Usage, Load, Folder, Node, TooDeep, Consolidate, Replace, Write, OutOfMemory}
+use Rattle.zarrs_cli.specs.declared.words.ConsolidateOptions.{ConsolidateOptions}
+
+module _ (options : ConsolidateOptions) (path : List ℕ) where
+  -- a text that is no path refuses the run over any store, and nothing was asked
+  pub path_of_some : (asked : Option (List Asked)) (e : NodeCreateError) → RefusesPathText path e → RefusesConsolidationOfSome options path asked asked (Node e)
+  path_of_some asked e refused = (values_of [], refl, refused)
+
+  -- and over each
+  pub path_of_each : (P : Values → Type 0) (asked : Option (List Asked)) (e : NodeCreateError) → RefusesPathText path e → RefusesConsolidationOfEach options path P asked asked (Node e)
+  path_of_each P asked e refused = λ V p. (refl, refused)
+
+  module _ (b : Path) (valid : IsPath b) (same : path_text b ≡ path) where
+    -- why there is no plan is why the run is refused, and nothing was asked
+    plan_fault : (s : Contents) (asked : Option (List Asked)) (fault : ZarrsFault) → IsPlanFault s options b fault → RefusesConsolidation s options path asked asked fault
+    plan_fault s asked (Consolidate e) h = (refl, ⊎_elim inl (λ r. inr (b, valid, same, r)) h)
+    plan_fault s asked OutOfMemory h = refl
+    plan_fault s asked Usage h = absurd h
+    plan_fault s asked (Load e) h = absurd h
+    plan_fault s asked (Folder e) h = absurd h
+    plan_fault s asked (Node e) h = absurd h
+    plan_fault s asked TooDeep h = absurd h
+    plan_fault s asked (Replace e) h = absurd h
+    plan_fault s asked Write h = absurd h
+
+    -- over some store
+    pub plan_of_some : (asked : Option (List Asked)) (fault : ZarrsFault) → IsPlanFaultOfSome options b fault → RefusesConsolidationOfSome options path asked asked fault
+    plan_of_some asked fault (V, h) = (V, plan_fault (in_any V) asked fault h)
+
+    -- over each
+    pub plan_of_each : (P : Values → Type 0) (asked : Option (List Asked)) (fault : ZarrsFault) → IsPlanFaultOfEach options b P fault → RefusesConsolidationOfEach options path P asked asked fault
+    plan_of_each P asked fault h = λ V p. plan_fault (in_any V) asked fault (h V p)
+
+    module _ (made : Plan × String Global) (before after : Option (List Asked)) where
+      -- a plan that is broken off refuses the run
+      broken_off : (s : Contents) (e : ReplaceError) → IsChange made.0 × (options.dry_run ≡ false) → AddsSome before after (IsPlanBrokenOff e made.0) → IsToldOf s options b made
+          → RefusesConsolidation s options path before after (Replace e)
+      broken_off s e change asked told = (b, valid, same, (made.0, told.0, (change, asked)))
+
+      pub broken_of_some : (e : ReplaceError) → IsChange made.0 × (options.dry_run ≡ false) → AddsSome before after (IsPlanBrokenOff e made.0) → IsToldOfSome options b made
+          → RefusesConsolidationOfSome options path before after (Replace e)
+      broken_of_some e change asked (V, told) = (V, broken_off (in_any V) e change asked told)
+
+      pub broken_of_each : (P : Values → Type 0) (e : ReplaceError) → IsChange made.0 × (options.dry_run ≡ false) → AddsSome before after (IsPlanBrokenOff e made.0)
+          → IsToldOfEach options b P made → RefusesConsolidationOfEach options path P before after (Replace e)
+      broken_of_each P e change asked told = λ V p. broken_off (in_any V) e change asked (told V p)
+
+      -- so does a writer that fails, once the plan was carried out
+      pub unwritten_of_some : AsksPlace options made.0 before after → IsToldOfSome options b made → RefusesConsolidationOfSome options path before after Write
+      unwritten_of_some asks (V, told) = (V, (b, valid, same, (made.0, told.0, asks)))
+
+      pub unwritten_of_each : (P : Values → Type 0) → AsksPlace options made.0 before after → IsToldOfEach options b P made → RefusesConsolidationOfEach options path P before after Write
+      unwritten_of_each P asks told = λ V p. (b, valid, same, (made.0, (told V p).0, asks))
+
+      module _ (old new : Option (List ℕ)) (end : Consolidated) (asks : AsksPlace options made.0 before after) (ends : IsEnd options made.0 end)
+          (writes : Appends old new (string_bytes made.1)) where
+        -- a plan that is carried out, and whose line is written, is the run over a store
+        done : (s : Contents) → IsToldOf s options b made → IsConsolidation s options path before after old new end
+        done s told = record {
+          base = b;
+          valid = valid;
+          text = same;
+          plan = made.0;
+          planned = told.0;
+          line = string_bytes made.1;
+          tells = told.1;
+          writes = writes;
+          asks = asks;
+          ends = ends;
+        }
+
+        pub done_of_some : IsToldOfSome options b made → IsConsolidationOfSome options path before after old new end
+        done_of_some (V, told) = (V, done (in_any V) told)
+
+        pub done_of_each : (P : Values → Type 0) → IsToldOfEach options b P made → IsConsolidationOfEach options path P before after old new end
+        done_of_each P told = λ V p. done (in_any V) (told V p)
