@@ -4,7 +4,7 @@ use log::sink::Discard;
 use std::alloc::{AllocError, Global};
 use std::test::Fail;
 use tests_support::{check_rows, fields, refusal};
-use zarrs_consolidate::{Plan, Task, laws, plan, plan_in_folder};
+use zarrs_consolidate::{Plan, Task, laws, plan_block, plan_in_folder};
 use zarrs_path::NodePath;
 use zarrs_store::{AnyNumbers, MemoryStore, StorageError, StoreKey, WritableStorageTraits};
 use zarrs_write::MemoryPlace;
@@ -92,7 +92,7 @@ fn planned_over_store(alloc: Global, given: &str) -> Result<String, AllocError> 
     let Ok(base) = NodePath::new(alloc, path) else {
         return String::from_str(alloc, "no path");
     };
-    match plan(&Discard, alloc, task_of(task), &AnyNumbers { inner }, &base) {
+    match plan_block(&Discard, alloc, task_of(task), &AnyNumbers { inner }, &base) {
         Ok(plan) => said_of(alloc, &plan),
         Err(error) => refusal(alloc, &error),
     }
@@ -154,7 +154,7 @@ fn planned_whole(alloc: Global, given: &str) -> Result<String, AllocError> {
     let Ok(base) = NodePath::new(alloc, path) else {
         return String::from_str(alloc, "no path");
     };
-    match plan(&Discard, alloc, task_of(task), &store, &base) {
+    match plan_block(&Discard, alloc, task_of(task), &store, &base) {
         Ok(plan) => said_of(alloc, &plan),
         Err(error) => refusal(alloc, &error),
     }

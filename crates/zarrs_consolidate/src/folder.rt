@@ -6,17 +6,17 @@ ghost use Rattle.zarrs_consolidate.specs.Plans.{IsPlan};
 ghost use Rattle.zarrs_consolidate.specs.Refusals.{RefusesPlanOfEach, RefusesPlanOfSome};
 
 use crate::fault::ConsolidateError;
-use crate::plan::{Plan, Task, plan};
+use crate::plan::{Plan, Task, plan_block};
 use log::Log;
 use std::alloc::Global;
 use zarrs_folder::{Folder, load_nodes};
 use zarrs_path::NodePath;
 
-/// What becomes of the block of the group at a path of a folder, as [`plan`] says of a store: of each store with which all answers of the folder agree.
+/// What becomes of the block of the group at a path of a folder, as [`plan_block`] says of a store: of each store with which all answers of the folder agree.
 /// The folder is looked at as far as a walk from the path on does. Documents may hold any number.
 ///
 /// # Errors
-/// `Folder` where a folder or a file is not read; the errors of [`plan`].
+/// `Folder` where a folder or a file is not read; the errors of [`plan_block`].
 ///
 /// Source: own; `zarr.consolidate_metadata` of zarr-python.
 pub fn plan_in_folder<L: Log, F: Folder>(
@@ -33,5 +33,5 @@ pub fn plan_in_folder<L: Log, F: Folder>(
     ensures each_refused { IfErr result (RefusesPlanOfEach (F.agrees folder.new) task base.now) }
 {
     let store = load_nodes(alloc, folder, base)?;
-    plan(log, alloc, task, &store, base)
+    plan_block(log, alloc, task, &store, base)
 }

@@ -11,4 +11,4 @@ mod plan;
 pub use carry_out::Outcome;
 pub use fault::ConsolidateError;
 pub use folder::plan_in_folder;
-pub use plan::{Plan, Task, plan};
+pub use plan::{Plan, Task, plan_block};

@@ -2,7 +2,7 @@
 ghost use Rattle.std.specs.Prelude.{◌≡◌, ◌++◌, ◌∷◌, [], None, IfOk, IfErr};
 ghost use Rattle.zarrs_config.specs.declared.version.MetadataRetrieveVersion.TheVariants.{Default};
 ghost use Rattle.zarrs_meta.specs.declared.node.GroupMetadata.{GroupMetadata};
-ghost use Rattle.zarrs_meta.specs.declared.node.NodeMetadata.TheVariants.{Group};
+ghost use Rattle.zarrs_meta.specs.declared.node.NodeMetadata.TheVariants.{Group as group_node};
 ghost use Rattle.zarrs_block.specs.Meaning.{meaning, node};
 ghost use Rattle.zarrs_block.specs.Policy.{as_block};
 ghost use Rattle.zarrs_write.specs.ReplacingDocuments.{bytes_in};
@@ -60,7 +60,7 @@ pub struct Plan {
 /// `Block` where a group of version 2 has a node of version 3 below it. `TooDeep` where the document would not be read. `OutOfMemory`.
 ///
 /// Source: own; `zarr.consolidate_metadata` of zarr-python.
-pub fn plan<L: Log, S: ReadableStorageTraits + ListableStorageTraits>(
+pub fn plan_block<L: Log, S: ReadableStorageTraits + ListableStorageTraits>(
     log: &L,
     alloc: Global,
     task: Task,
@@ -98,7 +98,7 @@ fn group_of<S: ReadableStorageTraits>(
     base: &NodePath,
 ) -> Result<GroupMetadata, ConsolidateError>
     ensures ok { IfOk result (λ group.
-        meaning (S.contents storage.now) Default base.now ≡ node (Group group)) }
+        meaning (S.contents storage.now) Default base.now ≡ node (group_node group)) }
     ensures err { IfErr result
         (RefusesGroup (S.can_fail storage.now) (S.contents storage.now) base.now) }
 {

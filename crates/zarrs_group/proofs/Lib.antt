@@ -1,3 +1,6 @@
+pub mod AsciiBytes
+pub mod AsciiStrings
+pub mod AsciiReads
 pub mod EditLemmas
 pub mod StoreLemmas
 pub mod EraseLaws

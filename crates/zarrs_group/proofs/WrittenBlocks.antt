@@ -13,6 +13,7 @@ use Rattle.zarrs_config.specs.declared.version.MetadataRetrieveVersion.{Metadata
 use Rattle.zarrs_config.specs.declared.version.MetadataRetrieveVersion.TheVariants as retrieve
 use Rattle.zarrs_form.specs.Documents.{json_of}
 use Rattle.zarrs_form.specs.DocumentTexts.{IsTextOf}
+use Rattle.zarrs_group.specs.AsciiTexts.{IsAsciiTextOf}
 use Rattle.zarrs_form.proofs.MemberLaws.{differ}
 use Rattle.zarrs_meta.specs.GroupV3.{group_v3_in, group_v3_tree, is_plain_group_v3_in}
 use Rattle.zarrs_meta.specs.declared.group_v2.GroupMetadataV2.{GroupMetadataV2}
@@ -32,7 +33,7 @@ use Rattle.zarrs_node.specs.Nodes.{Nodes}
 use Rattle.zarrs_node.proofs.Current.{meaning_same}
 use Rattle.zarrs_node.proofs.Inverse.{entries_are}
 use Rattle.zarrs_node.proofs.PlainMeanings.{plain_node_in}
-use Rattle.zarrs_group.specs.BlockDocuments.{document_with_block}
+use Rattle.zarrs_group.specs.BlockDocuments.{IsDocumentText, document_with_block}
 use Rattle.zarrs_group.specs.BlocksBeside.{IsBeside}
 use Rattle.zarrs_group.specs.BlocksOfGroups.{Fits, beside_with, fields_with, metadata_with}
 use Rattle.zarrs_group.specs.Meaning.{MeansGroup, group_line, group_meaning}
@@ -97,7 +98,7 @@ listed_entries_plain S v p B listed e (n, ns, names, is, at) =
 
 -- a version 2 group whose `.zmetadata` with the listed block was written opens alike by it and by a listing
 beside_opens : (S : Contents) (v : MetadataRetrieveVersion) (p : Path) (m : GroupMetadataV2) (B : Block) (bytes : List ℕ) → IsPath p → meaning S v p ≡ node (Group (V2 m)) → IsListedBlock S v p B
-    → IsBeside (Some B) → IsTextOf bytes (zmetadata_tree m B) → OpensAlike (with_key S (p ++ zmetadata ∷ []) bytes) v p (V2 m)
+    → IsBeside (Some B) → IsAsciiTextOf bytes (zmetadata_tree m B) → OpensAlike (with_key S (p ++ zmetadata ∷ []) bytes) v p (V2 m)
 beside_opens S v p m B bytes valid means listed fits text =
     let T : Contents = with_key S (p ++ zmetadata ∷ []) bytes in
     let again = written_reads_back_in S.numbers m B (plain_node_in S p v (Group (V2 m)) means) listed.ascending fits.0 fits.1 (listed_entries_plain S v p B listed) in
@@ -114,12 +115,12 @@ told P e f is h = let same : e ≡ f = cc in subst P same h
 
 -- by the metadata of the group
 opens_by : (S : Contents) (v : MetadataRetrieveVersion) (p : Path) (m : GroupMetadata) (old : Option Block) (B : Block) (key : Segments) (bytes : List ℕ) (d : Data) → IsPath p → meaning S v p ≡ node (Group m)
-    → IsListedBlock S v p B → Fits m (Some B) → document_with_block p (metadata_with (Some B) m) (beside_with (Some B) m old) ≡ Some (key, d) → IsTextOf bytes d → OpensAlike (with_key S key bytes) v p (metadata_with (Some B) m)
+    → IsListedBlock S v p B → Fits m (Some B) → document_with_block p (metadata_with (Some B) m) (beside_with (Some B) m old) ≡ Some (key, d) → IsDocumentText (metadata_with (Some B) m) bytes d → OpensAlike (with_key S key bytes) v p (metadata_with (Some B) m)
 opens_by S v p (V3 m) old B key bytes d valid means listed fits is text =
     let k : GroupMetadataV3 = record { attributes = m.attributes; additional_fields = fields_with (Some B) m.additional_fields } in
     told (λ e. IsTextOf bytes e.1 → OpensAlike (with_key S e.0 bytes) v p (V3 k)) (p ++ zarr_json ∷ [], group_v3_tree k) (key, d) is (field_opens S v p m B bytes valid means listed) text
 opens_by S v p (V2 m) old B key bytes d valid means listed fits is text =
-    told (λ e. IsTextOf bytes e.1 → OpensAlike (with_key S e.0 bytes) v p (V2 m)) (p ++ zmetadata ∷ [], zmetadata_tree m B) (key, d) is (beside_opens S v p m B bytes valid means listed fits) text
+    told (λ e. IsAsciiTextOf bytes e.1 → OpensAlike (with_key S e.0 bytes) v p (V2 m)) (p ++ zmetadata ∷ [], zmetadata_tree m B) (key, d) is (beside_opens S v p m B bytes valid means listed fits) text
 
 -- a group of either version opens by the block that was written as by a listing
 pub written_block_opens : WrittenBlockOpens

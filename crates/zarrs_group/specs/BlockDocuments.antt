@@ -17,6 +17,7 @@ use Rattle.zarrs_meta.specs.declared.node.GroupMetadata.{GroupMetadata}
 use Rattle.zarrs_meta.specs.declared.node.GroupMetadata.TheVariants.{V3, V2}
 use Rattle.zarrs_block.specs.Block.{Block}
 use Rattle.zarrs_block.specs.Zmetadata.{zmetadata_tree}
+use Rattle.zarrs_group.specs.AsciiTexts.{IsAsciiTextOf}
 use Rattle.zarrs_group.specs.Groups.{GroupState}
 
 -- the key and the tree of the document that holds the block, where the path has these metadata and this block beside
@@ -31,9 +32,15 @@ document_with_block p (V2 m) (Some B) = Some (p ++ zmetadata ∷ [], zmetadata_t
 abbrev pub block_document : GroupState → Option (Segments × Data)
 block_document g = document_with_block g.path g.metadata g.block
 
+-- the bytes are what is written of the tree: of a group of version 2 in ASCII, as readers of its documents want them
+abbrev pub IsDocumentText : GroupMetadata → List ℕ → Data → Type 0
+IsDocumentText (V3 m) bytes d = IsTextOf bytes d
+IsDocumentText (V2 m) bytes d = IsAsciiTextOf bytes d
+
 -- the document that holds the block of the group stands at this key, and the bytes are what is written of its tree
 abbrev pub IsBlockDocument : GroupState → Segments → List ℕ → Type 0
-IsBlockDocument g key bytes = (d : Data) × (block_document g ≡ Some (key, d)) × IsTextOf bytes d
+IsBlockDocument g key bytes =
+    (d : Data) × (block_document g ≡ Some (key, d)) × IsDocumentText g.metadata bytes d
 
 -- the document that holds the block of the group, where there is one, nests deeper than any that is read
 abbrev pub HasNoBlockDocument : GroupState → Type 0

@@ -1,3 +1,4 @@
+pub mod AsciiTexts
 pub mod BlockDocuments
 pub mod BlocksBeside
 pub mod BlocksOfGroups

@@ -2,6 +2,7 @@
 //! All changes of a store are made ready before the first is done.
 #![tactic(auto)]
 
+mod ascii;
 mod block_document;
 mod builder;
 mod children;
