@@ -39,7 +39,7 @@ def traced(log, names=()):
 
 
 def injection(call, what, until=None):
-    """The words that do something at a call: `error=EIO`, `retval=0`, `signal=KILL` or `delay_enter=1000`; also at a later call of its name, or at all (`+`)."""
+    """The words that do something at a call, as `error=EIO`, `signal=KILL` or `delay_enter=1000`; and at a later call of its name, or at all (`+`)."""
     when = str(call.number)
     if until == "+":
         when += "+"
