@@ -59,9 +59,9 @@ pub fn consolidate<L: Log, F: Folder, P: Place, W: Write>(
         → Keeps (W.contents writer.old) (W.contents writer.new)) }
 {
     let base = path_of(alloc, path)?;
-    let (plan, line) = planned(log, alloc, options, folder, &base)?;
-    let end = carry_out(alloc, options, &plan, place)?;
-    write_whole(line.as_bytes(), writer)?;
+    let made = planned(log, alloc, options, folder, &base)?;
+    let end = carry_out(alloc, options, &made.0, place)?;
+    write_whole(made.1.as_bytes(), writer)?;
     Ok(end)
 }
 

@@ -1,3 +1,3 @@
-mod PlansOfFolders
-mod Documents
 mod CarryingOut
+mod Plans
+mod PlansOfFolders

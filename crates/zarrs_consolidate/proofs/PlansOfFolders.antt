@@ -1,6 +1,7 @@
 -- A plan over what was loaded of a store is a plan over the store.
 use Rattle.std.proofs.Common.{◌≡◌, ◌↔◌, inl, inr, ⊎_elim, false, refl, sym, subst, ap, ◌∙◌, ℕ, List, ◌++◌, ◌∷◌, [], Bool, Option}
-use Rattle.std.specs.Prelude.{Contains}
+use Rattle.std.specs.Prelude.{Contains, Result, Ok, Err, IfOk, IfErr}
+use Rattle.std.proofs.lemmas.List.Elements.{Contains-append_right}
 use Rattle.std.specs.FinMap as map
 use Rattle.zarrs_store.specs.Contents.{Contents, Values}
 use Rattle.zarrs_path.specs.Keys.{zarr_json, zarray, zgroup, zattrs, zmetadata}
@@ -13,11 +14,15 @@ use Rattle.zarrs_meta.specs.declared.node.NodeMetadata.TheVariants.{Group}
 use Rattle.zarrs_block.specs.Block.{Block}
 use Rattle.zarrs_block.specs.Meaning.{meaning, node}
 use Rattle.zarrs_node.specs.ListedBlocks.{IsListedBlock}
+use Rattle.zarrs_node.proofs.ForestsBeside.{Contains-first}
+use Rattle.zarrs_folder.specs.Folders.{in_any}
 use Rattle.zarrs_folder.specs.Openings.{ListSame, OpenSame}
 use Rattle.zarrs_folder.specs.PrunedStores.{IsLoadedFrom, node_files}
 use Rattle.zarrs_folder.proofs.Openings.{listed_block_is_same, loaded_opens_same, opened_answer_same}
-use Rattle.zarrs_consolidate.specs.Plans.{IsPlan, block_file}
-use Rattle.zarrs_consolidate.specs.Refusals.{HoldsOfGroup, MeansArray, RefusesPlan}
+use Rattle.zarrs_group.specs.BlockDocuments.{HasNoBlockDocument}
+use Rattle.zarrs_group.specs.BlocksOfGroups.{RefusesBlock}
+use Rattle.zarrs_consolidate.specs.Plans.{IsPlan, block_file, group_with}
+use Rattle.zarrs_consolidate.specs.Refusals.{HoldsOfGroup, RefusesPlan, RefusesPlanOfEach, RefusesPlanOfSome}
 use Rattle.zarrs_consolidate.specs.declared.fault.ConsolidateError.{ConsolidateError}
 use Rattle.zarrs_consolidate.specs.declared.fault.ConsolidateError.TheVariants.{Folder, Node, NotAGroup, TooDeep}
 use Rattle.zarrs_consolidate.specs.declared.fault.ConsolidateError.TheVariants.{Block as NoBlock, OutOfMemory}
@@ -26,8 +31,8 @@ use Rattle.zarrs_consolidate.specs.declared.plan.Task.{Task}
 
 -- the document of the block is one of the files of a node
 file_of_node : (m : GroupMetadata) → Contains node_files (block_file m)
-file_of_node (V3 m) = search
-file_of_node (V2 m) = search
+file_of_node (V3 m) = Contains-first zarr_json (zarray ∷ zgroup ∷ zattrs ∷ zmetadata ∷ [])
+file_of_node (V2 m) = Contains-append_right (zarr_json ∷ zarray ∷ zgroup ∷ zattrs ∷ []) (zmetadata ∷ []) zmetadata (Contains-first zmetadata [])
 
 module _ (S L : Contents) (b : Path) (loaded : IsLoadedFrom S L b) where
   -- both open the same at b
@@ -71,6 +76,28 @@ module _ (S L : Contents) (b : Path) (loaded : IsLoadedFrom S L b) where
     (λ w. inl (((opened_answer_same S L Never b same).refused_node e).0 w))
     (λ w. inr (w.0, means w.0 w.1, ((lists w.0 (means w.0 w.1)).refusals e).0 w.2)) r)) h
   refused_over task (NotAGroup path) h = ((h.0.0, sym same.means ∙ h.0.1, h.0.2), h.1)
-  refused_over task (NoBlock e) h = of_group task _ h
-  refused_over task TooDeep h = of_group task _ h
+  refused_over task (NoBlock e) h = of_group task (λ m block. RefusesBlock m block e) h
+  refused_over task TooDeep h = of_group task (λ m block. HasNoBlockDocument (group_with b m block)) h
   refused_over task OutOfMemory h = h
+
+-- a plan over what was loaded is one over some store
+pub planned_of_some : (task : Task) (b : Path) (L : Values) (r : Result Plan ConsolidateError) → IfOk r (IsPlan (in_any L) task b) → IfOk r (λ plan. (V : Values) × IsPlan (in_any V) task b plan)
+planned_of_some task b L (Ok plan) h = (L, h)
+planned_of_some task b L (Err e) h = tt
+
+-- what refuses it refuses it over some store
+pub refused_of_some : (task : Task) (b : Path) (L : Values) (r : Result Plan ConsolidateError) → IfErr r (RefusesPlan false (in_any L) task b) → IfErr r (RefusesPlanOfSome task b)
+refused_of_some task b L (Ok plan) h = tt
+refused_of_some task b L (Err e) h = inr (L, h)
+
+-- a plan over what was loaded is one over each store from which it was
+pub planned_of_each : (task : Task) (b : Path) (L : Values) (P : Values → Type 0) (r : Result Plan ConsolidateError) → ((V : Values) → P V → IsLoadedFrom (in_any V) (in_any L) b)
+    → IfOk r (IsPlan (in_any L) task b) → IfOk r (λ plan. (V : Values) → P V → IsPlan (in_any V) task b plan)
+planned_of_each task b L P (Ok plan) loaded h = λ V p. plan_over (in_any V) (in_any L) b (loaded V p) task plan h
+planned_of_each task b L P (Err e) loaded h = tt
+
+-- what refuses it refuses it over each
+pub refused_of_each : (task : Task) (b : Path) (L : Values) (P : Values → Type 0) (r : Result Plan ConsolidateError) → ((V : Values) → P V → IsLoadedFrom (in_any V) (in_any L) b)
+    → IfErr r (RefusesPlan false (in_any L) task b) → IfErr r (RefusesPlanOfEach P task b)
+refused_of_each task b L P (Ok plan) loaded h = tt
+refused_of_each task b L P (Err e) loaded h = inr (λ V p. refused_over (in_any V) (in_any L) b (loaded V p) task e h)

@@ -6,8 +6,8 @@ ghost use Rattle.zarrs_meta.specs.declared.node.NodeMetadata.TheVariants.{Group 
 ghost use Rattle.zarrs_block.specs.Meaning.{meaning, node};
 ghost use Rattle.zarrs_block.specs.Policy.{as_block};
 ghost use Rattle.zarrs_write.specs.ReplacingDocuments.{bytes_in};
-ghost use Rattle.zarrs_consolidate.specs.Plans.{IsPlan, IsWithBlock, IsWithoutBlock, block_file};
-ghost use Rattle.zarrs_consolidate.specs.Refusals.{RefusesPlan};
+ghost use Rattle.zarrs_consolidate.specs.Plans.{IsPlan, IsToStand, IsWithBlock, IsWithoutBlock, block_file};
+ghost use Rattle.zarrs_consolidate.specs.Refusals.{RefusesPlan, block_set};
 ghost use Rattle.zarrs_consolidate.specs.StepsOfPlans.{RefusesGroup, RefusesDocument};
 
 use crate::fault::ConsolidateError;
@@ -78,10 +78,7 @@ pub fn plan_block<L: Log, S: ReadableStorageTraits + ListableStorageTraits>(
     let (key, name) = place_of(alloc, base, &metadata)?;
     let old = storage.get(alloc, &key)?;
     let block = ConsolidatedMetadata { metadata: listed };
-    let new = match task {
-        Task::Write => Some(with_block(alloc, base, metadata, Some(block))?),
-        Task::Remove => without_block(alloc, base, metadata, &old)?,
-    };
+    let new = to_stand(alloc, task, base, metadata, block, &old)?;
     Ok(Plan {
         key,
         name,
@@ -124,6 +121,26 @@ fn place_of(
     match group {
         GroupMetadata::V3(_) => Ok((meta_key_v3(alloc, base)?, "zarr.json")),
         GroupMetadata::V2(_) => Ok((meta_key_v2_consolidated(alloc, base)?, ".zmetadata")),
+    }
+}
+
+// What is to stand at the document, where this block is listed.
+fn to_stand(
+    alloc: Global,
+    task: Task,
+    base: &NodePath,
+    metadata: GroupMetadata,
+    block: ConsolidatedMetadata,
+    old: &Option<Vec<u8>>,
+) -> Result<Option<Vec<u8>>, ConsolidateError>
+    ensures ok { IfOk result (λ new.
+        IsToStand task base.now metadata block.metadata (bytes_in old.now) (bytes_in new)) }
+    ensures err { IfErr result
+        (RefusesDocument base.now metadata (block_set task block.metadata)) }
+{
+    match task {
+        Task::Write => Ok(Some(with_block(alloc, base, metadata, Some(block))?)),
+        Task::Remove => without_block(alloc, base, metadata, old),
     }
 }
 

@@ -1,10 +1,16 @@
 //! The document that holds the block of a group.
-ghost use Rattle.std.specs.Prelude.{◌≡◌, None, IfOk, IfSome, option_map};
+ghost use Rattle.std.specs.Prelude.{◌≡◌, ◌<◌, None, IfOk, IfSome};
+ghost use Rattle.serde_json.specs.Data.{depth};
+ghost use Rattle.serde_json.specs.Read.{max_depth};
+ghost use Rattle.serde_json.specs.View.{view};
+ghost use Rattle.zarrs_form.specs.DocumentTexts.{IsTextOf};
+ghost use Rattle.zarrs_group.specs.AsciiTexts.{IsAsciiTextOf};
 ghost use Rattle.zarrs_group.specs.BlockDocuments.{IsBlockDocument, HasNoBlockDocument};
 
 use crate::ascii::ascii_document_text;
 use crate::group::Group;
 use crate::stored::written;
+use serde_json::Value;
 use std::alloc::{AllocError, Global};
 use zarrs_form::document_text;
 use zarrs_meta::GroupMetadata;
@@ -34,25 +40,47 @@ impl Group {
         match (&self.metadata, &self.block) {
             (GroupMetadata::V3(group), _) => {
                 let key = meta_key_v3(alloc, self.path())?;
-                let found = document_text(alloc, &group.to_value(alloc)?)?;
-                Ok(at_key(key, found))
+                at_key(alloc, key, &group.to_value(alloc)?)
             }
             (GroupMetadata::V2(_), None) => Ok(None),
             (GroupMetadata::V2(group), Some(block)) => {
                 let key = meta_key_v2_consolidated(alloc, self.path())?;
-                let found = ascii_document_text(alloc, &written(alloc, group, block)?)?;
-                Ok(at_key(key, found))
+                ascii_at_key(alloc, key, &written(alloc, group, block)?)
             }
         }
     }
 }
 
-// A key and the bytes of a document, where there are some.
-fn at_key(key: StoreKey, found: Option<Vec<u8>>) -> Option<(StoreKey, Vec<u8>)>
-    ensures { result ≡ option_map (λ bytes. (key, bytes)) found }
+// The key and the bytes of the document, where it nests no deeper than those that are read.
+fn at_key(
+    alloc: Global,
+    key: StoreKey,
+    value: &Value,
+) -> Result<Option<(StoreKey, Vec<u8>)>, AllocError>
+    ensures key { IfOk result (λ found. IfSome found (λ made. made.0 ≡ key)) }
+    ensures text { IfOk result (λ found. IfSome found
+        (λ made. IsTextOf made.1.items (view value.now))) }
+    ensures none { IfOk result (λ found. found ≡ None → max_depth < depth (view value.now)) }
 {
-    match found {
-        Some(bytes) => Some((key, bytes)),
-        None => None,
+    match document_text(alloc, value)? {
+        Some(bytes) => Ok(Some((key, bytes))),
+        None => Ok(None),
+    }
+}
+
+// The same in ASCII.
+fn ascii_at_key(
+    alloc: Global,
+    key: StoreKey,
+    value: &Value,
+) -> Result<Option<(StoreKey, Vec<u8>)>, AllocError>
+    ensures key { IfOk result (λ found. IfSome found (λ made. made.0 ≡ key)) }
+    ensures text { IfOk result (λ found. IfSome found
+        (λ made. IsAsciiTextOf made.1.items (view value.now))) }
+    ensures none { IfOk result (λ found. found ≡ None → max_depth < depth (view value.now)) }
+{
+    match ascii_document_text(alloc, value)? {
+        Some(bytes) => Ok(Some((key, bytes))),
+        None => Ok(None),
     }
 }

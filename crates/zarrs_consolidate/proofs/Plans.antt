@@ -1,0 +1,31 @@
+-- From the document of a group with its block to the plan, and from its refusal to that of the plan.
+use Rattle.std.proofs.Common.{◌≡◌, Bool, subst, sym}
+use Rattle.std.specs.Prelude.{Result, Err, IfErr}
+use Rattle.zarrs_store.specs.Contents.{Contents}
+use Rattle.zarrs_path.specs.Paths.{Path}
+use Rattle.zarrs_config.specs.declared.version.MetadataRetrieveVersion.TheVariants.{Default}
+use Rattle.zarrs_meta.specs.declared.node.GroupMetadata.{GroupMetadata}
+use Rattle.zarrs_meta.specs.declared.node.NodeMetadata.TheVariants.{Group}
+use Rattle.zarrs_block.specs.Block.{Block}
+use Rattle.zarrs_block.specs.Meaning.{meaning, node}
+use Rattle.zarrs_node.specs.ListedBlocks.{IsListedBlock}
+use Rattle.zarrs_consolidate.specs.Refusals.{RefusesPlan, block_set}
+use Rattle.zarrs_consolidate.specs.StepsOfPlans.{RefusesDocument}
+use Rattle.zarrs_consolidate.specs.declared.fault.ConsolidateError.{ConsolidateError}
+use Rattle.zarrs_consolidate.specs.declared.fault.ConsolidateError.TheVariants.{Folder, Node, NotAGroup, TooDeep}
+use Rattle.zarrs_consolidate.specs.declared.fault.ConsolidateError.TheVariants.{Block as NoBlock, OutOfMemory}
+use Rattle.zarrs_consolidate.specs.declared.plan.Task.{Task}
+
+module _ (can_fail : Bool) (s : Contents) (task : Task) (b : Path) (m : GroupMetadata) (B : Block) (means : meaning s Default b ≡ node (Group m)) (listed : IsListedBlock s Default b B) where
+  -- what refuses the document of the group refuses the plan
+  refused : (e : ConsolidateError) → RefusesDocument b m (block_set task B) e → RefusesPlan can_fail s task b e
+  refused (NoBlock e) h = (m, B, means, listed, h)
+  refused TooDeep h = (m, B, means, listed, h)
+  refused OutOfMemory h = tt
+  refused (Folder fault) h = absurd h
+  refused (Node e) h = absurd h
+  refused (NotAGroup path) h = absurd h
+
+  -- and so does the result that has it
+  pub document_refused : {A : Type 0} (r : Result A ConsolidateError) (e : ConsolidateError) → r ≡ Err e → RefusesDocument b m (block_set task B) e → IfErr r (RefusesPlan can_fail s task b)
+  document_refused r e is h = subst (λ x. IfErr x (RefusesPlan can_fail s task b)) (sym is) (refused e h)
