@@ -21,3 +21,4 @@ pub mod BlockPlain
 pub mod BelowBases
 pub mod PlainWithBlock
 pub mod WrittenBlocks
+pub mod BlockDocuments
