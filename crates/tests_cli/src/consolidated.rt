@@ -2,8 +2,13 @@
 use crate::asserts::{assert_ran, assert_text};
 use crate::folders::{make_folder, run};
 use crate::runs::{ARRAY, GROUP};
+use log::sink::Discard;
+use std::alloc::Global;
 use std::process::Abort;
 use std::{fs, io};
+use zarrs_cli::{ConsolidateOptions, consolidate};
+use zarrs_store::{MemoryStore, StoreKey, WritableStorageTraits};
+use zarrs_write::MemoryPlace;
 
 // The folder of a test.
 const FOLDER: &str = "consolidated";
@@ -185,4 +190,64 @@ fn what_is_refused_leaves_the_folder(rt: HostRuntime) -> io::Result<()> {
     assert_file(&rt, &rt, "consolidated_not/left/zarr.json", GROUP);
     assert_file(&rt, &rt, "consolidated_not/left/zarr.json.zarrs_new", "half");
     fs::remove_dir_all(&rt, REFUSED)
+}
+
+// The store with a group at its root.
+fn store_of<R: Abort>(rt: &R, alloc: Global) -> MemoryStore {
+    let mut store = MemoryStore::new(alloc);
+    let key = StoreKey::new(alloc, "zarr.json").expect(rt, "a key");
+    store.set(&key, GROUP.as_bytes()).expect(rt, "memory");
+    store
+}
+
+// What a run over a folder in memory answers, what it writes, and the files that then stand in the folder of the document, of which a call fails.
+fn answered<R: Abort>(rt: &R, alloc: Global, dry_run: bool, calls: u64) -> String {
+    let options = ConsolidateOptions {
+        dry_run,
+        remove: false,
+    };
+    let mut place = MemoryPlace::new(alloc);
+    place.put("zarr.json", GROUP.as_bytes()).expect(rt, "memory");
+    place.fail_after(calls);
+    let mut store = store_of(rt, alloc);
+    let mut output = Vec::new(alloc);
+    let outcome = consolidate(
+        &Discard,
+        alloc,
+        options,
+        "/",
+        &mut store,
+        &mut place,
+        &mut output,
+    );
+    let text = String::from_utf8_lossy(alloc, &output).expect(rt, "memory");
+    let files = place.files().len();
+    let is_old = place.files().iter().any(|file| file.1.as_slice() == GROUP.as_bytes());
+    format!(in alloc; "{outcome:?} {files} {is_old} {text}").expect(rt, "memory")
+}
+
+#[test]
+fn a_folder_in_memory_is_written_to(rt: HostRuntime) {
+    let alloc = rt.alloc();
+    let rows = [
+        (
+            false,
+            u64::MAX,
+            "Ok(Complete) 1 false wrote zarr.json: the block of 0 nodes\n",
+        ),
+        (
+            true,
+            0,
+            "Ok(Due) 1 true would write zarr.json: the block of 0 nodes\n",
+        ),
+        (
+            false,
+            3,
+            r#"Err(Replace(Failed { step: Writing, name: "zarr.json.zarrs_new", why: "it was to fail" })) 1 true "#,
+        ),
+    ];
+    for (dry_run, calls, wanted) in rows {
+        let said = answered(&rt, alloc, dry_run, calls);
+        assert_text(&rt, wanted, said.as_str(), wanted);
+    }
 }

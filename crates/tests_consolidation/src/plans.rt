@@ -4,7 +4,10 @@ use log::sink::Discard;
 use std::alloc::{AllocError, Global};
 use std::test::Fail;
 use tests_support::{check_rows, fields, refusal};
+use zarrs_config::Config;
 use zarrs_consolidate::{Plan, Task, laws, plan_block, plan_in_folder};
+use zarrs_group::Group;
+use zarrs_meta::{GroupMetadata, GroupMetadataV3};
 use zarrs_path::NodePath;
 use zarrs_store::{AnyNumbers, MemoryStore, StorageError, StoreKey, WritableStorageTraits};
 use zarrs_write::MemoryPlace;
@@ -114,6 +117,9 @@ write | / | .zattrs {"k":1};.zgroup {"zarr_format":2};v/.zarray {"chunks":[1],"c
 write | / | .zattrs {"k":1};.zgroup {"zarr_format":2};v/.zarray {"chunks":[1],"compressor":null,"dimension_separator":".","dtype":"<f8","fill_value":0.5,"filters":null,"order":"C","shape":[3],"zarr_format":2};.zmetadata x => .zmetadata .zmetadata 1 true Changed {  "metadata": {    ".zattrs": {      "k": 1    },    ".zgroup": {      "zarr_format": 2    },    "v/.zarray": {      "chunks": [        1      ],      "compressor": null,      "dimension_separator": ".",      "dtype": "<f8",      "fill_value": 0.5,      "filters": null,      "order": "C",      "shape": [        3      ],      "zarr_format": 2    }  },  "zarr_consolidated_format": 1} | .zmetadata as planned
 remove | / | .zattrs {"k":1};.zgroup {"zarr_format":2};v/.zarray {"chunks":[1],"compressor":null,"dimension_separator":".","dtype":"<f8","fill_value":0.5,"filters":null,"order":"C","shape":[3],"zarr_format":2};.zmetadata x => .zmetadata .zmetadata 1 true Changed -
 remove | / | .zattrs {"k":1};.zgroup {"zarr_format":2};v/.zarray {"chunks":[1],"compressor":null,"dimension_separator":".","dtype":"<f8","fill_value":0.5,"filters":null,"order":"C","shape":[3],"zarr_format":2} => .zmetadata .zmetadata 1 false Unchanged -
+# what is beyond ASCII is escaped in version 2, and stands as it is in version 3
+write | / | .zattrs {"u":"°C"};.zgroup {"zarr_format":2} => .zmetadata .zmetadata 0 true Changed {  "metadata": {    ".zattrs": {      "u": "\\u00b0C"    },    ".zgroup": {      "zarr_format": 2    }  },  "zarr_consolidated_format": 1} | .zmetadata as planned
+write | / | zarr.json {"zarr_format":3,"node_type":"group","attributes":{"u":"°C"}} => zarr.json zarr.json 0 true Changed {  "attributes": {    "u": "°C"  },  "consolidated_metadata": {    "kind": "inline",    "metadata": {},    "must_understand": false  },  "node_type": "group",  "zarr_format": 3} | zarr.json as planned
 # what refuses both
 write | / | zarr.json {"zarr_format":3,"node_type":"group"};a/zarr.json [] => Node(StorageError(InvalidMetadata)): error parsing metadata for a/zarr.json: not an object
 write | /a | zarr.json {"zarr_format":3,"node_type":"group"} => Node(MissingMetadata): Metadata is missing for /a
@@ -163,4 +169,19 @@ fn planned_whole(alloc: Global, given: &str) -> Result<String, AllocError> {
 #[test]
 fn a_store_of_whole_numbers_refuses_a_fraction(rt: HostRuntime) -> Result<(), Fail> {
     check_rows(rt.alloc(), WHOLE, planned_whole)
+}
+
+#[test]
+fn a_group_is_made_at_a_path(rt: HostRuntime) -> Result<(), Fail> {
+    let alloc = rt.alloc();
+    let Ok(path) = NodePath::new(alloc, "/a/b") else {
+        return Err(Fail::new(String::from_str(alloc, "no path")?));
+    };
+    let metadata = GroupMetadata::V3(GroupMetadataV3::new(alloc));
+    let group = Group::at(path, metadata, &Config::new());
+    assert_eq!(rt;
+        group.to_text(alloc)?.as_str(),
+        r#"group at /a/b with metadata {"node_type":"group","zarr_format":3}"#
+    );
+    Ok(())
 }

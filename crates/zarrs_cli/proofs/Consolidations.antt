@@ -11,8 +11,8 @@ use Rattle.zarrs_write.specs.declared.fault.ReplaceError.{ReplaceError}
 use Rattle.zarrs_consolidate.specs.CarryingOut.{IsPlanBrokenOff}
 use Rattle.zarrs_consolidate.specs.declared.plan.Plan.{Plan}
 use Rattle.zarrs_cli.specs.ConsolidationRefusals.{RefusesConsolidation, RefusesConsolidationOfEach, RefusesConsolidationOfSome}
-use Rattle.zarrs_cli.specs.Consolidations.{AsksPlace, IsChange, IsConsolidation, IsConsolidationOfEach, IsConsolidationOfSome, IsEnd}
-use Rattle.zarrs_cli.specs.StepsOfConsolidations.{IsPlanFault, IsPlanFaultOfEach, IsPlanFaultOfSome, IsToldOf, IsToldOfEach, IsToldOfSome}
+use Rattle.zarrs_cli.specs.Consolidations.{AsksPlace, IsChange, IsConsolidation, IsConsolidationOfEach, IsConsolidationOfSome, IsEndOf}
+use Rattle.zarrs_cli.specs.StepsOfConsolidations.{IsPlanFault, IsPlanFaultOfEach, IsPlanFaultOfSome, IsPlanTold, IsPlanToldOfEach, IsPlanToldOfSome}
 use Rattle.zarrs_cli.specs.declared.consolidate.Consolidated.{Consolidated}
 use Rattle.zarrs_cli.specs.declared.fault.ZarrsFault.{ZarrsFault}
 use Rattle.zarrs_cli.specs.declared.fault.ZarrsFault.TheVariants.{Usage, Load, Folder, Node, TooDeep, Consolidate, Replace, Write, OutOfMemory}
@@ -50,29 +50,29 @@ module _ (options : ConsolidateOptions) (path : List ℕ) where
 
     module _ (made : Plan × String Global) (before after : Option (List Asked)) where
       -- a plan that is broken off refuses the run
-      broken_off : (s : Contents) (e : ReplaceError) → IsChange made.0 × (options.dry_run ≡ false) → AddsSome before after (IsPlanBrokenOff e made.0) → IsToldOf s options b made
+      broken_off : (s : Contents) (e : ReplaceError) → IsChange made.0 × (options.dry_run ≡ false) → AddsSome before after (IsPlanBrokenOff e made.0) → IsPlanTold s options b made
           → RefusesConsolidation s options path before after (Replace e)
       broken_off s e change asked told = (b, valid, same, (made.0, told.0, (change, asked)))
 
-      pub broken_of_some : (e : ReplaceError) → IsChange made.0 × (options.dry_run ≡ false) → AddsSome before after (IsPlanBrokenOff e made.0) → IsToldOfSome options b made
+      pub broken_of_some : (e : ReplaceError) → IsChange made.0 × (options.dry_run ≡ false) → AddsSome before after (IsPlanBrokenOff e made.0) → IsPlanToldOfSome options b made
           → RefusesConsolidationOfSome options path before after (Replace e)
       broken_of_some e change asked (V, told) = (V, broken_off (in_any V) e change asked told)
 
       pub broken_of_each : (P : Values → Type 0) (e : ReplaceError) → IsChange made.0 × (options.dry_run ≡ false) → AddsSome before after (IsPlanBrokenOff e made.0)
-          → IsToldOfEach options b P made → RefusesConsolidationOfEach options path P before after (Replace e)
+          → IsPlanToldOfEach options b P made → RefusesConsolidationOfEach options path P before after (Replace e)
       broken_of_each P e change asked told = λ V p. broken_off (in_any V) e change asked (told V p)
 
       -- so does a writer that fails, once the plan was carried out
-      pub unwritten_of_some : AsksPlace options made.0 before after → IsToldOfSome options b made → RefusesConsolidationOfSome options path before after Write
+      pub unwritten_of_some : AsksPlace options made.0 before after → IsPlanToldOfSome options b made → RefusesConsolidationOfSome options path before after Write
       unwritten_of_some asks (V, told) = (V, (b, valid, same, (made.0, told.0, asks)))
 
-      pub unwritten_of_each : (P : Values → Type 0) → AsksPlace options made.0 before after → IsToldOfEach options b P made → RefusesConsolidationOfEach options path P before after Write
+      pub unwritten_of_each : (P : Values → Type 0) → AsksPlace options made.0 before after → IsPlanToldOfEach options b P made → RefusesConsolidationOfEach options path P before after Write
       unwritten_of_each P asks told = λ V p. (b, valid, same, (made.0, (told V p).0, asks))
 
-      module _ (old new : Option (List ℕ)) (end : Consolidated) (asks : AsksPlace options made.0 before after) (ends : IsEnd options made.0 end)
+      module _ (old new : Option (List ℕ)) (end : Consolidated) (asks : AsksPlace options made.0 before after) (ends : IsEndOf options made.0 end)
           (writes : Appends old new (string_bytes made.1)) where
         -- a plan that is carried out, and whose line is written, is the run over a store
-        done : (s : Contents) → IsToldOf s options b made → IsConsolidation s options path before after old new end
+        done : (s : Contents) → IsPlanTold s options b made → IsConsolidation s options path before after old new end
         done s told = record {
           base = b;
           valid = valid;
@@ -86,8 +86,8 @@ module _ (options : ConsolidateOptions) (path : List ℕ) where
           ends = ends;
         }
 
-        pub done_of_some : IsToldOfSome options b made → IsConsolidationOfSome options path before after old new end
+        pub done_of_some : IsPlanToldOfSome options b made → IsConsolidationOfSome options path before after old new end
         done_of_some (V, told) = (V, done (in_any V) told)
 
-        pub done_of_each : (P : Values → Type 0) → IsToldOfEach options b P made → IsConsolidationOfEach options path P before after old new end
+        pub done_of_each : (P : Values → Type 0) → IsPlanToldOfEach options b P made → IsConsolidationOfEach options path P before after old new end
         done_of_each P told = λ V p. done (in_any V) (told V p)

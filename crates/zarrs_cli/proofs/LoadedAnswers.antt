@@ -9,7 +9,7 @@ use Rattle.zarrs_config.specs.declared.version.UseConsolidatedMetadata.TheVarian
 use Rattle.zarrs_config.specs.declared.version.MetadataRetrieveVersion.TheVariants.{Default}
 use Rattle.zarrs_block.specs.Meaning.{meaning, node}
 use Rattle.zarrs_node.specs.OpeningNodes.{RefusesNode}
-use Rattle.zarrs_cli.specs.NodeDocuments.{IsShownDocument, NestsTooDeep}
+use Rattle.zarrs_cli.specs.NodeDocuments.{IsShownDocument, NestsTooDeepAt}
 use Rattle.zarrs_block.specs.declared.node_create_error.NodeCreateError.{NodeCreateError}
 use Rattle.zarrs_folder.specs.Openings.{OpenSame}
 use Rattle.zarrs_cli.specs.declared.fault.ZarrsFault.{ZarrsFault}

@@ -4,7 +4,7 @@
 -- <https://zarr.readthedocs.io/en/stable/user-guide/consolidated_metadata/>
 --     IsConsolidationLine options plan line      the line that tells what was done, or would be
 --     AsksPlace options plan before after      what was asked of the folder of the document
---     IsEnd options plan end      how the run ends
+--     IsEndOf options plan end      how the run ends
 --     IsConsolidation s options path before after old new end      the run over a store
 use Rattle.std.specs.Prelude.{◌≡◌, ◌≢◌, ◌⊎◌, ℕ, true, false, cond, List, ◌++◌, Option, codes}
 use Rattle.std.specs.Io.KnownBytes.{Appends}
@@ -67,14 +67,14 @@ AsksPlace options plan before after =
     ⊎ ((IsChange plan → options.dry_run ≡ true) × (after ≡ before))
 
 -- a dry run ends with what is due where there is a change; each other run ends with the document as it is to be
-abbrev pub IsEnd : ConsolidateOptions → Plan → Consolidated → Type 0
-IsEnd options plan Due = IsChange plan × (options.dry_run ≡ true)
-IsEnd options plan Complete = IsChange plan → options.dry_run ≡ false
+abbrev pub IsEndOf : ConsolidateOptions → Plan → Consolidated → Type 0
+IsEndOf options plan Due = IsChange plan × (options.dry_run ≡ true)
+IsEndOf options plan Complete = IsChange plan → options.dry_run ≡ false
 
 -- The run over a store: its text is that of a path, and the plan is what becomes of the block of the group there. The
 -- line of the plan was appended to what the writer held, and the plan was carried out, but by a dry run.
-pub record IsConsolidation (s : Contents) (options : ConsolidateOptions) (path : List ℕ) (before after : Option (List Asked))
-    (old new : Option (List ℕ)) (end : Consolidated) : Type 0 where
+pub record IsConsolidation (s : Contents) (options : ConsolidateOptions) (path : List ℕ)
+    (before after : Option (List Asked)) (old new : Option (List ℕ)) (end : Consolidated) : Type 0 where
   pub base : Path
   pub valid : IsPath base
   pub text : path_text base ≡ path
@@ -84,7 +84,7 @@ pub record IsConsolidation (s : Contents) (options : ConsolidateOptions) (path :
   pub tells : IsConsolidationLine options plan line
   pub writes : Appends old new line
   pub asks : AsksPlace options plan before after
-  pub ends : IsEnd options plan end
+  pub ends : IsEndOf options plan end
 
 -- the run over a store with any numbers
 abbrev pub IsConsolidationOfSome : ConsolidateOptions → List ℕ → Option (List Asked) → Option (List Asked)

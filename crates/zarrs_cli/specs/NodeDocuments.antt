@@ -1,7 +1,7 @@
 -- Zarr core specification 3.1, "Metadata documents": the document of a node, as it is shown.
 -- <https://zarr-specs.readthedocs.io/en/latest/v3/core/index.html#metadata>
 --     IsShownDocument s b text      the text is the document of the node that b means
---     NestsTooDeep s b      that document nests deeper than any that is read
+--     NestsTooDeepAt s b      that document nests deeper than any that is read
 use Rattle.std.specs.Prelude.{◌≡◌, ◌<◌, ℕ, List, [], ◌∷◌, ◌++◌}
 use Rattle.serde_json.specs.Data.{depth}
 use Rattle.serde_json.specs.Read.{max_depth}
@@ -22,5 +22,5 @@ IsShownDocument s b text =
     × (text ≡ bytes ++ newline ∷ [])
 
 -- the document of the node that b means nests deeper than any that is read
-abbrev pub NestsTooDeep : Contents → Path → Type 0
-NestsTooDeep s b = (m : NodeMetadata) × (meaning s Default b ≡ node m) × (max_depth < depth (node_tree m))
+abbrev pub NestsTooDeepAt : Contents → Path → Type 0
+NestsTooDeepAt s b = (m : NodeMetadata) × (meaning s Default b ≡ node m) × (max_depth < depth (node_tree m))

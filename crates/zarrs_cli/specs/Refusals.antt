@@ -23,11 +23,12 @@ use Rattle.zarrs_cli.specs.Output.{IsAnswer}
 use Rattle.zarrs_cli.specs.Words.{AreWords, AreWordsOf}
 use Rattle.zarrs_cli.specs.declared.report.Tally.{Tally}
 use Rattle.zarrs_cli.specs.declared.fault.ZarrsFault.{ZarrsFault}
-use Rattle.zarrs_cli.specs.declared.fault.ZarrsFault.TheVariants.{Usage, Load, Folder, Node, TooDeep, Write, OutOfMemory}
+use Rattle.zarrs_cli.specs.declared.fault.ZarrsFault.TheVariants.{Usage, Load, Folder, Node, TooDeep, Write}
+use Rattle.zarrs_cli.specs.declared.fault.ZarrsFault.TheVariants.{OutOfMemory}
 use Rattle.zarrs_node.specs.OpeningNodes.{RefusesNode}
 use Rattle.zarrs_write.specs.Calls.{Asked}
 use Rattle.zarrs_cli.specs.ConsolidationRefusals.{RefusesConsolidationOfSome}
-use Rattle.zarrs_cli.specs.NodeDocuments.{NestsTooDeep}
+use Rattle.zarrs_cli.specs.NodeDocuments.{NestsTooDeepAt}
 use Rattle.zarrs_cli.specs.declared.consolidate.Consolidated.TheVariants.{Complete, Due}
 use Rattle.zarrs_cli.specs.declared.ending.Answered.{Answered}
 use Rattle.zarrs_cli.specs.declared.ending.Answered.TheVariants as answered
@@ -48,7 +49,7 @@ RefusesAnswer can_fail (Check options) store base = IsExcused can_fail
 
 -- the word is `show`, and the document nests too deep with its attributes
 abbrev pub IsTooDeepFor : Word → Contents → Path → Type 0
-IsTooDeepFor Show store base = NestsTooDeep store base
+IsTooDeepFor Show store base = NestsTooDeepAt store base
 IsTooDeepFor _ store base = ⊥
 
 -- the text is that of a path, which the calls of the word refuse

@@ -13,17 +13,17 @@ use Rattle.zarrs_cli.specs.declared.fault.ZarrsFault.TheVariants.{Consolidate, O
 use Rattle.zarrs_cli.specs.declared.words.ConsolidateOptions.{ConsolidateOptions}
 
 -- the plan is what becomes of the block of the group at b, and the line tells it
-abbrev pub IsToldOf : Contents → ConsolidateOptions → Path → Plan × String Global → Type 0
-IsToldOf s options b made =
+abbrev pub IsPlanTold : Contents → ConsolidateOptions → Path → Plan × String Global → Type 0
+IsPlanTold s options b made =
     IsPlan s (task_of options) b made.0 × IsConsolidationLine options made.0 (string_bytes made.1)
 
 -- the same of some store
-abbrev pub IsToldOfSome : ConsolidateOptions → Path → Plan × String Global → Type 0
-IsToldOfSome options b made = (V : Values) × IsToldOf (in_any V) options b made
+abbrev pub IsPlanToldOfSome : ConsolidateOptions → Path → Plan × String Global → Type 0
+IsPlanToldOfSome options b made = (V : Values) × IsPlanTold (in_any V) options b made
 
 -- the same of each store that holds what P says
-abbrev pub IsToldOfEach : ConsolidateOptions → Path → (Values → Type 0) → Plan × String Global → Type 0
-IsToldOfEach options b P made = (V : Values) → P V → IsToldOf (in_any V) options b made
+abbrev pub IsPlanToldOfEach : ConsolidateOptions → Path → (Values → Type 0) → Plan × String Global → Type 0
+IsPlanToldOfEach options b P made = (V : Values) → P V → IsPlanTold (in_any V) options b made
 
 -- something was not read, or it is not known what becomes of the block; or out of memory
 abbrev pub IsPlanFault : Contents → ConsolidateOptions → Path → ZarrsFault → Type 0

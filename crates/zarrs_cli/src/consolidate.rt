@@ -4,8 +4,8 @@ ghost use Rattle.std.specs.Io.KnownBytes.{Keeps};
 ghost use Rattle.zarrs_write.specs.Calls.{AddsSome};
 ghost use Rattle.zarrs_consolidate.specs.CarryingOut.{IsPlanBrokenOff};
 ghost use Rattle.zarrs_cli.specs.ConsolidationRefusals.{RefusesConsolidationOfEach, RefusesConsolidationOfSome};
-ghost use Rattle.zarrs_cli.specs.Consolidations.{AsksPlace, IsChange, IsConsolidationLine, IsConsolidationOfEach, IsConsolidationOfSome, IsEnd, change_text, kept_text, task_of};
-ghost use Rattle.zarrs_cli.specs.StepsOfConsolidations.{IsPlanFaultOfEach, IsPlanFaultOfSome, IsToldOfEach, IsToldOfSome};
+ghost use Rattle.zarrs_cli.specs.Consolidations.{AsksPlace, IsChange, IsConsolidationLine, IsConsolidationOfEach, IsConsolidationOfSome, IsEndOf, change_text, kept_text, task_of};
+ghost use Rattle.zarrs_cli.specs.StepsOfConsolidations.{IsPlanFaultOfEach, IsPlanFaultOfSome, IsPlanToldOfEach, IsPlanToldOfSome};
 
 use crate::escapes::push_line;
 use crate::fault::ZarrsFault;
@@ -73,8 +73,8 @@ fn planned<L: Log, F: Folder>(
     folder: &mut F,
     base: &NodePath,
 ) -> Result<(Plan, String), ZarrsFault>
-    ensures ok { IfOk result (IsToldOfSome options base.now) }
-    ensures whole { IfOk result (IsToldOfEach options base.now (F.agrees folder.new)) }
+    ensures ok { IfOk result (IsPlanToldOfSome options base.now) }
+    ensures whole { IfOk result (IsPlanToldOfEach options base.now (F.agrees folder.new)) }
     ensures err { IfErr result (IsPlanFaultOfSome options base.now) }
     ensures whole_err { IfErr result (IsPlanFaultOfEach options base.now (F.agrees folder.new)) }
 {
@@ -92,7 +92,7 @@ fn carry_out<P: Place>(
 ) -> Result<Consolidated, ReplaceError>
     ensures asks { IfOk result
         (λ _. AsksPlace options plan.now (P.calls place.old) (P.calls place.new)) }
-    ensures ends { IfOk result (IsEnd options plan.now) }
+    ensures ends { IfOk result (IsEndOf options plan.now) }
     ensures change { IfErr result (λ _. IsChange plan.now × (options.dry_run ≡ false)) }
     ensures err { IfErr result (λ error. AddsSome (P.calls place.old) (P.calls place.new)
         (IsPlanBrokenOff error plan.now)) }

@@ -224,7 +224,8 @@ fn request_of(word: &str, source: &str) -> Result<Request, ZarrsFault>
     ensures ok { IfOk result
         (λ found. (request_words found ≡ word.now ∷ []) × IsRequestSource found source.now) }
     ensures err { IfErr result (λ fault. (fault ≡ ZarrsFault.Usage)
-        × ((found : Request) → (request_words found ≡ word.now ∷ []) × IsRequestSource found source.now → ⊥)) }
+        × ((found : Request) → (request_words found ≡ word.now ∷ [])
+        × IsRequestSource found source.now → ⊥)) }
 {
     match word {
         "tree" => tree_of(source),
@@ -239,7 +240,8 @@ fn request_of(word: &str, source: &str) -> Result<Request, ZarrsFault>
 // The request with an option before a source.
 fn request_by(word: &str, option: &str, source: &str) -> Result<Request, ZarrsFault>
     ensures ok { IfOk result
-        (λ found. (request_words found ≡ word.now ∷ option.now ∷ []) × IsRequestSource found source.now) }
+        (λ found. (request_words found ≡ word.now ∷ option.now ∷ [])
+        × IsRequestSource found source.now) }
     ensures err { IfErr result (λ fault. (fault ≡ ZarrsFault.Usage)
         × ((found : Request) → (request_words found ≡ word.now ∷ option.now ∷ [])
         × IsRequestSource found source.now → ⊥)) }
@@ -275,7 +277,8 @@ fn tree_of(source: &str) -> Result<Request, ZarrsFault>
     ensures ok { IfOk result (λ found. (found ≡ Request.Look Word.Tree)
         × IsRequestSource (Request.Look Word.Tree) source.now) }
     ensures err { IfErr result
-        (λ fault. (fault ≡ ZarrsFault.Usage) × (IsRequestSource (Request.Look Word.Tree) source.now → ⊥)) }
+        (λ fault. (fault ≡ ZarrsFault.Usage)
+        × (IsRequestSource (Request.Look Word.Tree) source.now → ⊥)) }
 {
     if source == "--store" {
         return Err(ZarrsFault::Usage);

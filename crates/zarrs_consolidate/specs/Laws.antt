@@ -18,8 +18,8 @@ AreCallsOf plan asked =
     ((done : Outcome) × (asked ≡ asked_of_plan plan done)) ⊎ ((e : ReplaceError) × IsPlanBrokenOff e plan asked)
 
 -- At each point of a plan that is carried out in a folder, in the midst of a call too, what stood at the document, or
--- what is to stand there, is found there, whole, by a reader then and after a crash then. At each other name, except for
--- that of the temporary file, what stood there is found.
+-- what is to stand there, is found there, whole, by a reader then and after a crash then. At each other name, except
+-- for that of the temporary file, what stood there is found.
 abbrev pub CarriedOutIsWhole : Type 0
 CarriedOutIsWhole = (F : Name → Option Bytes) (plan : Plan) (asked : List Asked)
     → F plan.name.now ≡ bytes_in plan.old → AreCallsOf plan asked

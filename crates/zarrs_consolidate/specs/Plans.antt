@@ -35,12 +35,12 @@ block_file (V3 m) = zarr_json
 block_file (V2 m) = zmetadata
 
 -- the group at b with these metadata, and with a block or without one
-abbrev pub group_with : Path → GroupMetadata → Option Block → GroupState
-group_with b m block = with_block (group_at default_settings b m) block
+abbrev pub group_holding : Path → GroupMetadata → Option Block → GroupState
+group_holding b m block = with_block (group_at default_settings b m) block
 
 -- the bytes are the document that holds the block of this group: with a block, or of version 3 without one
 abbrev pub IsWithBlock : Path → GroupMetadata → Option Block → List ℕ → Type 0
-IsWithBlock b m block bytes = IsBlockDocument (group_with b m block) (b ++ block_file m ∷ []) bytes
+IsWithBlock b m block bytes = IsBlockDocument (group_holding b m block) (b ++ block_file m ∷ []) bytes
 
 -- What is to stand where the block is to go. Of version 2 that is no document. Of version 3 it is the document without
 -- the field, or what stands there, where the group has no such field.

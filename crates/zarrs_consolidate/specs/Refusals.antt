@@ -23,7 +23,7 @@ use Rattle.zarrs_node.specs.OpeningNodes.{RefusesNode}
 use Rattle.zarrs_group.specs.BlockDocuments.{HasNoBlockDocument}
 use Rattle.zarrs_group.specs.BlocksOfGroups.{RefusesBlock}
 use Rattle.zarrs_folder.specs.Folders.{in_any}
-use Rattle.zarrs_consolidate.specs.Plans.{group_with}
+use Rattle.zarrs_consolidate.specs.Plans.{group_holding}
 use Rattle.zarrs_consolidate.specs.declared.fault.ConsolidateError.{ConsolidateError}
 use Rattle.zarrs_consolidate.specs.declared.fault.ConsolidateError.TheVariants.{Folder, Node, NotAGroup, TooDeep}
 use Rattle.zarrs_consolidate.specs.declared.fault.ConsolidateError.TheVariants.{Block as NoBlock, OutOfMemory}
@@ -55,7 +55,7 @@ RefusesPlan can_fail s task b (Node e) = IsExcused can_fail e ⊎ RefusesNode s 
 RefusesPlan can_fail s task b (NotAGroup path) = MeansArray s b × (string_bytes path ≡ path_text b)
 RefusesPlan can_fail s task b (NoBlock e) = HoldsOfGroup s task b (λ m block. RefusesBlock m block e)
 RefusesPlan can_fail s task b TooDeep =
-    HoldsOfGroup s task b (λ m block. HasNoBlockDocument (group_with b m block))
+    HoldsOfGroup s task b (λ m block. HasNoBlockDocument (group_holding b m block))
 RefusesPlan can_fail s task b OutOfMemory = ⊤
 
 -- a folder or a file was not read

@@ -13,7 +13,7 @@ use Rattle.zarrs_write.specs.declared.replace.Replaced.{Replaced}
 use Rattle.zarrs_write.specs.declared.replace.Replaced.TheVariants as replaced
 use Rattle.zarrs_write.specs.declared.remove.Removed.{Removed}
 use Rattle.zarrs_write.specs.declared.remove.Removed.TheVariants as removed
-use Rattle.zarrs_consolidate.specs.Plans.{group_with}
+use Rattle.zarrs_consolidate.specs.Plans.{group_holding}
 use Rattle.zarrs_consolidate.specs.Refusals.{MeansArray}
 use Rattle.zarrs_consolidate.specs.declared.carry_out.Outcome.{Outcome}
 use Rattle.zarrs_consolidate.specs.declared.carry_out.Outcome.TheVariants.{Unchanged, Changed}
@@ -31,7 +31,7 @@ RefusesGroup can_fail s b _ = ⊥
 -- the group does not take the block, or with it has no document that is read
 abbrev pub RefusesDocument : Path → GroupMetadata → Option Block → ConsolidateError → Type 0
 RefusesDocument b m block (NoBlock e) = RefusesBlock m block e
-RefusesDocument b m block TooDeep = HasNoBlockDocument (group_with b m block)
+RefusesDocument b m block TooDeep = HasNoBlockDocument (group_holding b m block)
 RefusesDocument b m block OutOfMemory = ⊤
 RefusesDocument b m block _ = ⊥
 
