@@ -6,7 +6,7 @@ use log::sink::Discard;
 use std::alloc::Global;
 use std::process::Abort;
 use std::{fs, io};
-use zarrs_cli::{ConsolidateOptions, consolidate};
+use zarrs_cli::{ConsolidateOptions, consolidate_folder};
 use zarrs_store::{MemoryStore, StoreKey, WritableStorageTraits};
 use zarrs_write::MemoryPlace;
 
@@ -64,28 +64,84 @@ const REMOVED: &str = r#"{
 
 // Calls, what each writes and says, and its status.
 const OF_VERSION_3: &[(&[&str], &str, &str, u8)] = &[
-    (&["consolidate", "--dry-run", FOLDER], "would write zarr.json: the block of 1 node\n", "", 1),
-    (&["consolidate", "--remove", FOLDER], "zarr.json has no block\n", "", 0),
-    (&["consolidate", FOLDER], "wrote zarr.json: the block of 1 node\n", "", 0),
-    (&["consolidate", FOLDER], "zarr.json is current: the block of 1 node\n", "", 0),
-    (&["consolidate", "--dry-run", FOLDER, "/"], "zarr.json is current: the block of 1 node\n", "", 0),
+    (
+        &["consolidate", "--dry-run", FOLDER],
+        "would write zarr.json: the block of 1 node\n",
+        "",
+        1,
+    ),
+    (
+        &["consolidate", "--remove", FOLDER],
+        "zarr.json has no block\n",
+        "",
+        0,
+    ),
+    (
+        &["consolidate", FOLDER],
+        "wrote zarr.json: the block of 1 node\n",
+        "",
+        0,
+    ),
+    (
+        &["consolidate", FOLDER],
+        "zarr.json is current: the block of 1 node\n",
+        "",
+        0,
+    ),
+    (
+        &["consolidate", "--dry-run", FOLDER, "/"],
+        "zarr.json is current: the block of 1 node\n",
+        "",
+        0,
+    ),
     (&["check", FOLDER], "", "zarrs: 2 nodes, 0 findings\n", 0),
     (&["tree", FOLDER], "/\n  a\n", "", 0),
-    (&["consolidate", FOLDER, "/a"], "wrote a/zarr.json: the block of 0 nodes\n", "", 0),
-    (&["consolidate", "--remove", FOLDER, "/a"], "removed the block of a/zarr.json\n", "", 0),
+    (
+        &["consolidate", FOLDER, "/a"],
+        "wrote a/zarr.json: the block of 0 nodes\n",
+        "",
+        0,
+    ),
+    (
+        &["consolidate", "--remove", FOLDER, "/a"],
+        "removed the block of a/zarr.json\n",
+        "",
+        0,
+    ),
 ];
 
 const TAKEN_AWAY: &[(&[&str], &str, &str, u8)] = &[
-    (&["consolidate", "--dry-run", "--remove", FOLDER], "would remove the block of zarr.json\n", "", 1),
-    (&["consolidate", "--remove", FOLDER], "removed the block of zarr.json\n", "", 0),
-    (&["consolidate", "--dry-run", "--remove", FOLDER], "zarr.json has no block\n", "", 0),
+    (
+        &["consolidate", "--dry-run", "--remove", FOLDER],
+        "would remove the block of zarr.json\n",
+        "",
+        1,
+    ),
+    (
+        &["consolidate", "--remove", FOLDER],
+        "removed the block of zarr.json\n",
+        "",
+        0,
+    ),
+    (
+        &["consolidate", "--dry-run", "--remove", FOLDER],
+        "zarr.json has no block\n",
+        "",
+        0,
+    ),
 ];
 
 #[test]
 fn a_block_of_version_3_is_written_and_removed(rt: HostRuntime) -> io::Result<()> {
     let files = [
-        ("zarr.json", r#"{"zarr_format":3,"node_type":"group","attributes":{"k":1e-05}}"#),
-        ("a/zarr.json", r#"{"zarr_format":3,"node_type":"group","attributes":{"k":0.5}}"#),
+        (
+            "zarr.json",
+            r#"{"zarr_format":3,"node_type":"group","attributes":{"k":1e-05}}"#,
+        ),
+        (
+            "a/zarr.json",
+            r#"{"zarr_format":3,"node_type":"group","attributes":{"k":0.5}}"#,
+        ),
     ];
     make_folder(&rt, FOLDER, &files)?;
     assert_calls(&rt, &rt, OF_VERSION_3);
@@ -126,17 +182,52 @@ const ZMETADATA: &str = r#"{
 const OLDER: &str = "consolidated_v2";
 
 const OF_VERSION_2: &[(&[&str], &str, &str, u8)] = &[
-    (&["consolidate", "--remove", OLDER], ".zmetadata has no block\n", "", 0),
-    (&["consolidate", "--dry-run", OLDER], "would write .zmetadata: the block of 1 node\n", "", 1),
-    (&["consolidate", OLDER], "wrote .zmetadata: the block of 1 node\n", "", 0),
-    (&["consolidate", OLDER], ".zmetadata is current: the block of 1 node\n", "", 0),
+    (
+        &["consolidate", "--remove", OLDER],
+        ".zmetadata has no block\n",
+        "",
+        0,
+    ),
+    (
+        &["consolidate", "--dry-run", OLDER],
+        "would write .zmetadata: the block of 1 node\n",
+        "",
+        1,
+    ),
+    (
+        &["consolidate", OLDER],
+        "wrote .zmetadata: the block of 1 node\n",
+        "",
+        0,
+    ),
+    (
+        &["consolidate", OLDER],
+        ".zmetadata is current: the block of 1 node\n",
+        "",
+        0,
+    ),
     (&["check", OLDER], "", "zarrs: 2 nodes, 0 findings\n", 0),
 ];
 
 const GONE: &[(&[&str], &str, &str, u8)] = &[
-    (&["consolidate", "--dry-run", "--remove", OLDER], "would remove the block of .zmetadata\n", "", 1),
-    (&["consolidate", "--remove", OLDER], "removed the block of .zmetadata\n", "", 0),
-    (&["consolidate", "--remove", OLDER], ".zmetadata has no block\n", "", 0),
+    (
+        &["consolidate", "--dry-run", "--remove", OLDER],
+        "would remove the block of .zmetadata\n",
+        "",
+        1,
+    ),
+    (
+        &["consolidate", "--remove", OLDER],
+        "removed the block of .zmetadata\n",
+        "",
+        0,
+    ),
+    (
+        &["consolidate", "--remove", OLDER],
+        ".zmetadata has no block\n",
+        "",
+        0,
+    ),
 ];
 
 #[test]
@@ -158,15 +249,42 @@ const REFUSED: &str = "consolidated_not";
 
 // Refusals: the words, and what is said.
 const REFUSALS: &[(&[&str], &str)] = &[
-    (&["consolidate", REFUSED], "zarrs: error parsing metadata for g/bad/zarr.json: not an object\n"),
-    (&["consolidate", "--remove", REFUSED], "zarrs: error parsing metadata for g/bad/zarr.json: not an object\n"),
-    (&["consolidate", "--dry-run", REFUSED], "zarrs: error parsing metadata for g/bad/zarr.json: not an object\n"),
-    (&["consolidate", REFUSED, "/t"], "zarrs: /t is an array, and only a group has a block\n"),
-    (&["consolidate", REFUSED, "/x"], "zarrs: there is no node at /x in consolidated_not\n"),
-    (&["consolidate", REFUSED, "x"], "zarrs: invalid node path x\n"),
-    (&["consolidate", REFUSED, "/mixed"], "zarrs: the block of a group of version 2 holds no node of version 3\n"),
-    (&["consolidate", REFUSED, "/left"], "zarrs: zarr.json.zarrs_new is left over from a run that was broken off: remove it\n"),
-    (&["consolidate", "nowhere"], "zarrs: nowhere: No such file or directory\n"),
+    (
+        &["consolidate", REFUSED],
+        "zarrs: error parsing metadata for g/bad/zarr.json: not an object\n",
+    ),
+    (
+        &["consolidate", "--remove", REFUSED],
+        "zarrs: error parsing metadata for g/bad/zarr.json: not an object\n",
+    ),
+    (
+        &["consolidate", "--dry-run", REFUSED],
+        "zarrs: error parsing metadata for g/bad/zarr.json: not an object\n",
+    ),
+    (
+        &["consolidate", REFUSED, "/t"],
+        "zarrs: /t is an array, and only a group has a block\n",
+    ),
+    (
+        &["consolidate", REFUSED, "/x"],
+        "zarrs: there is no node at /x in consolidated_not\n",
+    ),
+    (
+        &["consolidate", REFUSED, "x"],
+        "zarrs: invalid node path x\n",
+    ),
+    (
+        &["consolidate", REFUSED, "/mixed"],
+        "zarrs: the block of a group of version 2 holds no node of version 3\n",
+    ),
+    (
+        &["consolidate", REFUSED, "/left"],
+        "zarrs: zarr.json.zarrs_new is left over from a run that was broken off: remove it\n",
+    ),
+    (
+        &["consolidate", "nowhere"],
+        "zarrs: nowhere: No such file or directory\n",
+    ),
 ];
 
 #[test]
@@ -188,7 +306,12 @@ fn what_is_refused_leaves_the_folder(rt: HostRuntime) -> io::Result<()> {
     }
     assert_file(&rt, &rt, "consolidated_not/zarr.json", GROUP);
     assert_file(&rt, &rt, "consolidated_not/left/zarr.json", GROUP);
-    assert_file(&rt, &rt, "consolidated_not/left/zarr.json.zarrs_new", "half");
+    assert_file(
+        &rt,
+        &rt,
+        "consolidated_not/left/zarr.json.zarrs_new",
+        "half",
+    );
     fs::remove_dir_all(&rt, REFUSED)
 }
 
@@ -207,11 +330,13 @@ fn answered<R: Abort>(rt: &R, alloc: Global, dry_run: bool, calls: u64) -> Strin
         remove: false,
     };
     let mut place = MemoryPlace::new(alloc);
-    place.put("zarr.json", GROUP.as_bytes()).expect(rt, "memory");
+    place
+        .put("zarr.json", GROUP.as_bytes())
+        .expect(rt, "memory");
     place.fail_after(calls);
     let mut store = store_of(rt, alloc);
     let mut output = Vec::new(alloc);
-    let outcome = consolidate(
+    let outcome = consolidate_folder(
         &Discard,
         alloc,
         options,
@@ -222,7 +347,10 @@ fn answered<R: Abort>(rt: &R, alloc: Global, dry_run: bool, calls: u64) -> Strin
     );
     let text = String::from_utf8_lossy(alloc, &output).expect(rt, "memory");
     let files = place.files().len();
-    let is_old = place.files().iter().any(|file| file.1.as_slice() == GROUP.as_bytes());
+    let is_old = place
+        .files()
+        .iter()
+        .any(|file| file.1.as_slice() == GROUP.as_bytes());
     format!(in alloc; "{outcome:?} {files} {is_old} {text}").expect(rt, "memory")
 }
 

@@ -73,7 +73,12 @@ const DOCUMENTS: &[(&str, &str, &str, u8)] = &[
     ("/v", ARRAY_V2_SHOWN, "", 0),
     ("/x", "", "zarrs: Metadata is missing for /x\n", 2),
     ("x", "", "zarrs: invalid node path x\n", 2),
-    ("/bad", "", "zarrs: error parsing metadata for bad/zarr.json: not an object\n", 2),
+    (
+        "/bad",
+        "",
+        "zarrs: error parsing metadata for bad/zarr.json: not an object\n",
+        2,
+    ),
 ];
 
 #[test]

@@ -97,11 +97,20 @@ const ASKED: &[(&[&str], &str)] = &[
     (&["show", "--store", "x"], "Show --store x"),
     (&["consolidate", "x"], "Consolidate x /"),
     (&["consolidate", "x", "/a"], "Consolidate x /a"),
-    (&["consolidate", "x", "--dry-run"], "Consolidate x --dry-run"),
+    (
+        &["consolidate", "x", "--dry-run"],
+        "Consolidate x --dry-run",
+    ),
     (&["consolidate", "--dry-run", "x"], "Consolidate+dry x /"),
-    (&["consolidate", "--dry-run", "x", "/a"], "Consolidate+dry x /a"),
+    (
+        &["consolidate", "--dry-run", "x", "/a"],
+        "Consolidate+dry x /a",
+    ),
     (&["consolidate", "--remove", "x"], "Consolidate+remove x /"),
-    (&["consolidate", "--remove", "x", "/a"], "Consolidate+remove x /a"),
+    (
+        &["consolidate", "--remove", "x", "/a"],
+        "Consolidate+remove x /a",
+    ),
     (
         &["consolidate", "--dry-run", "--remove", "x"],
         "Consolidate+dry+remove x /",

@@ -8,7 +8,7 @@ ghost use Rattle.zarrs_cli.specs.Output.{WritesAsked, WritesConsolidated, Writes
 ghost use Rattle.zarrs_cli.specs.RefusalLines.{IsHint, IsNoNode, SaysRefusal};
 ghost use Rattle.zarrs_cli.specs.Refusals.{RefusesAsked, RefusesConsolidating, RefusesOverEach, RefusesOverSome, RefusesOverSource, RefusesRequest, answered_status};
 
-use crate::consolidate::{Consolidated, consolidate};
+use crate::consolidate::{Consolidated, consolidate_folder};
 use crate::ending::{Answered, Ending, finish};
 use crate::fault::ZarrsFault;
 use crate::folder::run_of_folder;
@@ -35,13 +35,12 @@ use zarrs_write::Disk as WrittenDisk;
 /// The host writes what is written back: a value that logs does not hand on the call that gives a file its owner.
 pub fn answer<
     R: Log + Files + Clock + Eprint + AllocGlobal,
-    H: Files + AllocGlobal,
     I: Read,
     W: Write,
     E: Write,
 >(
     rt: &R,
-    host: &H,
+    host: &HostRuntime,
     words: &[String],
     is_watched: bool,
     reader: &mut I,
@@ -71,12 +70,11 @@ pub fn answer<
 // Writes what the words ask.
 fn run_words<
     R: Log + Files + Clock + Eprint + AllocGlobal,
-    H: Files + AllocGlobal,
     I: Read,
     W: Write,
 >(
     rt: &R,
-    host: &H,
+    host: &HostRuntime,
     words: &[String],
     is_watched: bool,
     reader: &mut I,
@@ -110,12 +108,11 @@ fn write_alone<W: Write>(text: &str, output: &mut W) -> Result<Answered, ZarrsFa
 // Writes what a request asks of the store that a source names.
 fn run_command<
     R: Log + Files + Clock + Eprint + AllocGlobal,
-    H: Files + AllocGlobal,
     I: Read,
     W: Write,
 >(
     rt: &R,
-    host: &H,
+    host: &HostRuntime,
     command: &Command<'_>,
     is_watched: bool,
     reader: &mut I,
@@ -169,11 +166,10 @@ fn look<R: Log + Files + Clock + Eprint + AllocGlobal, I: Read, W: Write>(
 // Writes the block of a group of a folder of the system back, or removes it.
 fn consolidate_disk<
     R: Log + Files + Clock + Eprint + AllocGlobal,
-    H: Files + AllocGlobal,
     W: Write,
 >(
     rt: &R,
-    host: &H,
+    host: &HostRuntime,
     options: ConsolidateOptions,
     source: &str,
     path: &str,
@@ -188,8 +184,69 @@ fn consolidate_disk<
 {
     let mut disk = Disk::open(rt, source)?.telling(is_watched);
     let folder = folder_of(rt.alloc(), source, path)?;
-    let mut place = WrittenDisk::new(host, folder.as_str());
-    consolidate(rt, rt.alloc(), options, path, &mut disk, &mut place, output)
+    consolidate_opened(rt, host, options, folder.as_str(), path, &mut disk, output)
+}
+
+// The same once the folder of the store is opened.
+fn consolidate_opened<
+    'a,
+    R: Log + Files + Clock + Eprint + AllocGlobal,
+    W: Write,
+>(
+    rt: &R,
+    host: &HostRuntime,
+    options: ConsolidateOptions,
+    place: &str,
+    path: &str,
+    disk: &mut Disk<'a, R>,
+    output: &mut W,
+) -> Result<Consolidated, ZarrsFault>
+    ensures ok { IfOk result
+        (WritesConsolidated options path.now (W.contents output.old) (W.contents output.new)) }
+    ensures refused { IfErr result (RefusesConsolidating options path.now) }
+    ensures silent { IfErr result (λ fault. fault ≢ ZarrsFault.Write
+        → Keeps (W.contents output.old) (W.contents output.new)) }
+{
+    consolidate_at(rt, host, options, place, path, disk, output)
+}
+
+// Writes the block of a group of a folder back, or removes it, where this is the path of the folder of its document.
+fn consolidate_at<L: Log, F: Folder, W: Write>(
+    log: &L,
+    host: &HostRuntime,
+    options: ConsolidateOptions,
+    place: &str,
+    path: &str,
+    folder: &mut F,
+    output: &mut W,
+) -> Result<Consolidated, ZarrsFault>
+    ensures ok { IfOk result
+        (WritesConsolidated options path.now (W.contents output.old) (W.contents output.new)) }
+    ensures refused { IfErr result (RefusesConsolidating options path.now) }
+    ensures silent { IfErr result (λ fault. fault ≢ ZarrsFault.Write
+        → Keeps (W.contents output.old) (W.contents output.new)) }
+{
+    let mut place = WrittenDisk::new(host, place);
+    consolidate_placed(log, options, path, folder, &mut place, host, output)
+}
+
+// The same once the folder of the document is at hand.
+fn consolidate_placed<'a, L: Log, F: Folder, W: Write>(
+    log: &L,
+    options: ConsolidateOptions,
+    path: &str,
+    folder: &mut F,
+    place: &mut WrittenDisk<'a, HostRuntime>,
+    host: &HostRuntime,
+    output: &mut W,
+) -> Result<Consolidated, ZarrsFault>
+    ensures ok { IfOk result
+        (WritesConsolidated options path.now (W.contents output.old) (W.contents output.new)) }
+    ensures refused { IfErr result (RefusesConsolidating options path.now) }
+    ensures silent { IfErr result (λ fault. fault ≢ ZarrsFault.Write
+        → Keeps (W.contents output.old) (W.contents output.new)) }
+{
+    consolidate_folder(log, host.alloc(), options, path, folder, place, output)
 }
 
 // The path of the folder of the node at a path of the store in a folder.

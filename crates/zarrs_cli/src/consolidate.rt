@@ -38,7 +38,7 @@ pub enum Consolidated {
 /// not replaced or not removed. `Write` where the writer fails, once that is done. `OutOfMemory`.
 ///
 /// Source: own; `zarr.consolidate_metadata` of zarr-python.
-pub fn consolidate<L: Log, F: Folder, P: Place, W: Write>(
+pub fn consolidate_folder<L: Log, F: Folder, P: Place, W: Write>(
     log: &L,
     alloc: Global,
     options: ConsolidateOptions,

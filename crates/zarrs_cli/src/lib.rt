@@ -22,7 +22,7 @@ mod warnings;
 mod words;
 
 pub use answers::answer;
-pub use consolidate::{Consolidated, consolidate};
+pub use consolidate::{Consolidated, consolidate_folder};
 pub use ending::{Answered, Ending, finish};
 pub use escapes::{escaped, push_line};
 pub use fault::ZarrsFault;

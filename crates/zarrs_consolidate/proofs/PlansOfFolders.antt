@@ -73,8 +73,8 @@ module _ (S L : Contents) (b : Path) (loaded : IsLoadedFrom S L b) where
   pub refused_over : (task : Task) (e : ConsolidateError) → RefusesPlan false L task b e → RefusesPlan false S task b e
   refused_over task (Folder fault) h = h
   refused_over task (Node e) h = ⊎_elim inl (λ r. inr (⊎_elim
-    (λ w. inl (((opened_answer_same S L Never b same).refused_node e).0 w))
-    (λ w. inr (w.0, means w.0 w.1, ((lists w.0 (means w.0 w.1)).refusals e).0 w.2)) r)) h
+      (λ w. inl (((opened_answer_same S L Never b same).refused_node e).0 w))
+      (λ w. inr (w.0, means w.0 w.1, ((lists w.0 (means w.0 w.1)).refusals e).0 w.2)) r)) h
   refused_over task (NotAGroup path) h = ((h.0.0, sym same.means ∙ h.0.1, h.0.2), h.1)
   refused_over task (NoBlock e) h = of_group task (λ m block. RefusesBlock m block e) h
   refused_over task TooDeep h = of_group task (λ m block. HasNoBlockDocument (group_holding b m block)) h

@@ -19,7 +19,10 @@ use zarrs_form::document_text;
 /// `AllocError` where there is no memory for them.
 ///
 /// Source: RFC 8259, "Strings"; specification version 2, "Metadata". zarr-python 2 reads these documents as ASCII only.
-pub(crate) fn ascii_document_text(alloc: Global, value: &Value) -> Result<Option<Vec<u8>>, AllocError>
+pub(crate) fn ascii_document_text(
+    alloc: Global,
+    value: &Value,
+) -> Result<Option<Vec<u8>>, AllocError>
     ensures text { IfOk result
         (λ found. IfSome found (λ bytes. IsAsciiTextOf bytes.items (view value.now))) }
     ensures none { IfOk result (λ found. found ≡ None → max_depth < depth (view value.now)) }

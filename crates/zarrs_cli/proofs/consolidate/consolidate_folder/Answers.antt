@@ -4,7 +4,7 @@ use Rattle.zarrs_cli.specs.ConsolidationRefusals.{RefusesConsolidationOfEach, Re
 use Rattle.zarrs_cli.specs.declared.fault.ZarrsFault.TheVariants.{Node, Replace, Write}
 use Rattle.zarrs_cli.proofs.Consolidations.{path_of_some, path_of_each, plan_of_some, plan_of_each, broken_of_some, broken_of_each, unwritten_of_some, unwritten_of_each, done_of_some, done_of_each}
 use Rattle.zarrs_cli.proofs.Runs.{err_given}
-use Rattle.zarrs_cli.proofs.consolidate.consolidate.Goals as goal
+use Rattle.zarrs_cli.proofs.consolidate.consolidate_folder.Goals as goal
 
 pub returns-in_err-base-clause-refused : goal.returns-in_err-base-clause-refused
 returns-in_err-base-clause-refused g c =
