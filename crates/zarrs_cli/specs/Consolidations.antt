@@ -6,7 +6,8 @@
 --     AsksPlace options plan before after      what was asked of the folder of the document
 --     IsEndOf options plan end      how the run ends
 --     IsConsolidation s options path before after old new end      the run over a store
-use Rattle.std.specs.Prelude.{◌≡◌, ◌≢◌, ◌⊎◌, ℕ, true, false, cond, List, ◌++◌, Option, codes}
+use Rattle.std.specs.Prelude.{◌≡◌, ◌≢◌, ◌⊎◌, ◌==◌, ℕ, true, false, cond, if◌then◌else◌, List, ◌++◌, Option, codes}
+use Rattle.std.specs.Prelude.{decimal}
 use Rattle.std.specs.Io.KnownBytes.{Appends}
 use Rattle.zarrs_store.specs.Contents.{Contents, Values}
 use Rattle.zarrs_store.specs.Segments.{key_text}
@@ -21,7 +22,6 @@ use Rattle.zarrs_consolidate.specs.declared.plan.Plan.{Plan}
 use Rattle.zarrs_consolidate.specs.declared.plan.Task.{Task}
 use Rattle.zarrs_consolidate.specs.declared.plan.Task.TheVariants as task
 use Rattle.zarrs_cli.specs.Escapes.{escaped_line}
-use Rattle.zarrs_cli.specs.Texts.{counted_text}
 use Rattle.zarrs_cli.specs.declared.consolidate.Consolidated.{Consolidated}
 use Rattle.zarrs_cli.specs.declared.consolidate.Consolidated.TheVariants.{Complete, Due}
 use Rattle.zarrs_cli.specs.declared.words.ConsolidateOptions.{ConsolidateOptions}
@@ -34,9 +34,13 @@ task_of options = cond options.remove task.Remove task.Write
 abbrev pub IsChange : Plan → Type 0
 IsChange plan = bytes_in plan.new ≢ bytes_in plan.old
 
--- a block, by the number of its nodes
-abbrev pub block_text : Plan → List ℕ
-block_text plan = codes ": the block of " ++ counted_text plan.nodes (codes "node") (codes "nodes")
+-- what so many nodes are called
+abbrev pub noun : ℕ → List ℕ
+noun n = if n == 1 then codes "node" else codes "nodes"
+
+-- the number of nodes of the block
+abbrev pub nodes_text : Plan → List ℕ
+nodes_text plan = decimal plan.nodes ++ (codes " " ++ noun plan.nodes)
 
 -- what is told of a change: that it was made, or would be by any run but a dry one
 abbrev pub change_text : ConsolidateOptions → Plan → List ℕ
@@ -44,14 +48,21 @@ change_text options plan =
     cond options.remove
     (cond options.dry_run (codes "would remove the block of " ++ key_text plan.key)
     (codes "removed the block of " ++ key_text plan.key))
-    (cond options.dry_run (codes "would write " ++ (key_text plan.key ++ block_text plan))
-    (codes "wrote " ++ (key_text plan.key ++ block_text plan)))
+    (cond options.dry_run
+    (codes "would write " ++ (key_text plan.key ++ (codes ": the block of " ++ nodes_text plan)))
+    (codes "wrote " ++ (key_text plan.key ++ (codes ": the block of " ++ nodes_text plan))))
+
+-- that there is no block
+abbrev pub absent_text : Plan → List ℕ
+absent_text plan = key_text plan.key ++ codes " has no block"
+
+-- that the block is current
+abbrev pub current_text : Plan → List ℕ
+current_text plan = key_text plan.key ++ (codes " is current: the block of " ++ nodes_text plan)
 
 -- what is told where there is no change
 abbrev pub kept_text : ConsolidateOptions → Plan → List ℕ
-kept_text options plan =
-    cond options.remove (key_text plan.key ++ codes " has no block")
-    (key_text plan.key ++ (codes " is current" ++ block_text plan))
+kept_text options plan = cond options.remove (absent_text plan) (current_text plan)
 
 -- the line tells the change, or that there is none
 abbrev pub IsConsolidationLine : ConsolidateOptions → Plan → List ℕ → Type 0

@@ -4,7 +4,7 @@ ghost use Rattle.std.specs.Io.KnownBytes.{Keeps};
 ghost use Rattle.zarrs_write.specs.Calls.{AddsSome};
 ghost use Rattle.zarrs_consolidate.specs.CarryingOut.{IsPlanBrokenOff};
 ghost use Rattle.zarrs_cli.specs.ConsolidationRefusals.{RefusesConsolidationOfEach, RefusesConsolidationOfSome};
-ghost use Rattle.zarrs_cli.specs.Consolidations.{AsksPlace, IsChange, IsConsolidationLine, IsConsolidationOfEach, IsConsolidationOfSome, IsEndOf, change_text, kept_text, task_of};
+ghost use Rattle.zarrs_cli.specs.Consolidations.{AsksPlace, IsChange, IsConsolidationLine, IsConsolidationOfEach, IsConsolidationOfSome, IsEndOf, absent_text, change_text, current_text, kept_text, noun, task_of};
 ghost use Rattle.zarrs_cli.specs.StepsOfConsolidations.{IsPlanFaultOfEach, IsPlanFaultOfSome, IsPlanToldOfEach, IsPlanToldOfSome};
 
 use crate::escapes::push_line;
@@ -146,7 +146,7 @@ fn change_text(
 {
     let key = plan.key.as_str();
     let nodes = plan.nodes;
-    let node = if nodes == 1 { "node" } else { "nodes" };
+    let node = noun(nodes);
     if options.remove {
         if options.dry_run {
             return format!(in alloc; "would remove the block of {key}");
@@ -167,11 +167,33 @@ fn kept_text(
 ) -> Result<String, AllocError>
     ensures { IfOk result (λ text. string_bytes text ≡ kept_text options plan.now) }
 {
-    let key = plan.key.as_str();
     if options.remove {
-        return format!(in alloc; "{key} has no block");
+        return absent_text(alloc, plan);
     }
+    current_text(alloc, plan)
+}
+
+// That there is no block.
+fn absent_text(alloc: Global, plan: &Plan) -> Result<String, AllocError>
+    ensures { IfOk result (λ text. string_bytes text ≡ absent_text plan.now) }
+{
+    let key = plan.key.as_str();
+    format!(in alloc; "{key} has no block")
+}
+
+// That the block is current.
+fn current_text(alloc: Global, plan: &Plan) -> Result<String, AllocError>
+    ensures { IfOk result (λ text. string_bytes text ≡ current_text plan.now) }
+{
+    let key = plan.key.as_str();
     let nodes = plan.nodes;
-    let node = if nodes == 1 { "node" } else { "nodes" };
+    let node = noun(nodes);
     format!(in alloc; "{key} is current: the block of {nodes} {node}")
+}
+
+// What so many nodes are called.
+fn noun(nodes: usize) -> &'static str
+    ensures { result.now ≡ noun nodes }
+{
+    if nodes == 1 { "node" } else { "nodes" }
 }
