@@ -4,7 +4,7 @@ ghost use Rattle.std.specs.Io.KnownBytes.{Keeps};
 ghost use Rattle.zarrs_write.specs.Calls.{AddsSome};
 ghost use Rattle.zarrs_consolidate.specs.CarryingOut.{IsPlanBrokenOff};
 ghost use Rattle.zarrs_cli.specs.ConsolidationRefusals.{RefusesConsolidationOfEach, RefusesConsolidationOfSome};
-ghost use Rattle.zarrs_cli.specs.Consolidations.{AsksPlace, IsChange, IsConsolidationLine, IsConsolidationOfEach, IsConsolidationOfSome, IsEndOf, absent_text, change_text, current_text, kept_text, noun, task_of};
+ghost use Rattle.zarrs_cli.specs.Consolidations.{AsksPlace, IsChange, IsConsolidationLine, IsConsolidationOfEach, IsConsolidationOfSome, IsEndOf, absent_text, change_text, current_text, kept_text, nodes_text, noun, task_of};
 ghost use Rattle.zarrs_cli.specs.StepsOfConsolidations.{IsPlanFaultOfEach, IsPlanFaultOfSome, IsPlanToldOfEach, IsPlanToldOfSome};
 
 use crate::escapes::push_line;
@@ -145,18 +145,17 @@ fn change_text(
     ensures { IfOk result (λ text. string_bytes text ≡ change_text options plan.now) }
 {
     let key = plan.key.as_str();
-    let nodes = plan.nodes;
-    let node = noun(nodes);
     if options.remove {
         if options.dry_run {
             return format!(in alloc; "would remove the block of {key}");
         }
         return format!(in alloc; "removed the block of {key}");
     }
+    let nodes = nodes_text(alloc, plan)?;
     if options.dry_run {
-        return format!(in alloc; "would write {key}: the block of {nodes} {node}");
+        return format!(in alloc; "would write {key}: the block of {nodes}");
     }
-    format!(in alloc; "wrote {key}: the block of {nodes} {node}")
+    format!(in alloc; "wrote {key}: the block of {nodes}")
 }
 
 // What is told where there is no change.
@@ -186,9 +185,17 @@ fn current_text(alloc: Global, plan: &Plan) -> Result<String, AllocError>
     ensures { IfOk result (λ text. string_bytes text ≡ current_text plan.now) }
 {
     let key = plan.key.as_str();
+    let nodes = nodes_text(alloc, plan)?;
+    format!(in alloc; "{key} is current: the block of {nodes}")
+}
+
+// The number of nodes of the block.
+fn nodes_text(alloc: Global, plan: &Plan) -> Result<String, AllocError>
+    ensures { IfOk result (λ text. string_bytes text ≡ nodes_text plan.now) }
+{
     let nodes = plan.nodes;
     let node = noun(nodes);
-    format!(in alloc; "{key} is current: the block of {nodes} {node}")
+    format!(in alloc; "{nodes} {node}")
 }
 
 // What so many nodes are called.

@@ -132,7 +132,7 @@ fn load_for<F: Folder>(
         Word::Tree => load_shown(alloc, UseConsolidatedMetadata::Auto, folder, base)?,
         Word::StoreTree => load_shown(alloc, UseConsolidatedMetadata::Never, folder, base)?,
         Word::List => load_shown(alloc, UseConsolidatedMetadata::Never, folder, base)?,
-        Word::Show => load_base(alloc, folder, base)?,
+        Word::Show => load_document(alloc, folder, base)?,
         Word::Check(_) => return load_checked(alloc, folder, base),
     };
     Ok(Loaded {
@@ -353,6 +353,21 @@ fn load_shown<F: Folder>(
         return Ok(store);
     }
     let store = load_below(alloc, folder, base, store)?;
+    Ok(store)
+}
+
+// What the document that is shown looks at: the documents of the path.
+fn load_document<F: Folder>(
+    alloc: Global,
+    folder: &mut F,
+    base: &NodePath,
+) -> Result<AnyNumbers<MemoryStore>, ZarrsFault>
+    ensures ok { IfOk result (λ loaded. (V : Values) → F.agrees folder.new V
+        → meaning (in_any (values_of loaded.inner)) Default base.now
+        ≡ meaning (in_any V) Default base.now) }
+    ensures err { IfErr result RefusesFolder }
+{
+    let store = load_base(alloc, folder, base)?;
     Ok(store)
 }
 
