@@ -4,10 +4,6 @@
 #[cfg(test)]
 mod asserts;
 #[cfg(test)]
-mod consolidated;
-#[cfg(test)]
-mod documents;
-#[cfg(test)]
 mod escapes;
 #[cfg(test)]
 mod folders;

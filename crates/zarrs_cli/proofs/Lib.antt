@@ -1,5 +1,4 @@
 pub mod AllAbove
-pub mod Consolidations
 pub mod Counts
 pub mod FolderNames
 pub mod Json

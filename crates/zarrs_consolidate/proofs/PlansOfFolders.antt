@@ -1,8 +1,7 @@
 -- A plan over what was loaded of a store is a plan over the store.
-use Rattle.std.proofs.Common.{◌≡◌, ◌↔◌, inl, inr, ⊎_elim, false, refl, sym, subst, ap, ◌∙◌, ℕ, List, ◌++◌, ◌∷◌, [], Bool, Option}
+use Rattle.std.proofs.Common.{◌≡◌, inl, inr, ⊎_elim, false, refl, sym, ◌∙◌, ◌∷◌, [], Option}
 use Rattle.std.specs.Prelude.{Contains, Result, Ok, Err, IfOk, IfErr}
 use Rattle.std.proofs.lemmas.List.Elements.{Contains-append_right}
-use Rattle.std.specs.FinMap as map
 use Rattle.zarrs_store.specs.Contents.{Contents, Values}
 use Rattle.zarrs_path.specs.Keys.{zarr_json, zarray, zgroup, zattrs, zmetadata}
 use Rattle.zarrs_path.specs.Paths.{Path}

@@ -8,15 +8,13 @@ use Rattle.std.specs.Prelude.{◌≡◌, ◌⊎◌, ⊤, Bool, true, false, Opti
 use Rattle.zarrs_store.specs.Contents.{Contents, Values}
 use Rattle.zarrs_path.specs.Paths.{Path, path_text}
 use Rattle.zarrs_config.specs.declared.version.MetadataRetrieveVersion.TheVariants.{Default}
-use Rattle.zarrs_meta.specs.declared.node.ArrayMetadata.{ArrayMetadata}
 use Rattle.zarrs_meta.specs.declared.node.GroupMetadata.{GroupMetadata}
 use Rattle.zarrs_meta.specs.declared.node.NodeMetadata.{NodeMetadata}
-use Rattle.zarrs_meta.specs.declared.node.NodeMetadata.TheVariants.{Group, Array}
+use Rattle.zarrs_meta.specs.declared.node.NodeMetadata.TheVariants.{Group}
 use Rattle.zarrs_meta.specs.Node.{is_group}
 use Rattle.zarrs_block.specs.Block.{Block}
 use Rattle.zarrs_block.specs.Meaning.{meaning, node}
 use Rattle.zarrs_block.specs.Refusals.{IsExcused}
-use Rattle.zarrs_block.specs.declared.node_create_error.NodeCreateError.{NodeCreateError}
 use Rattle.zarrs_node.specs.ListedBlocks.{IsListedBlock}
 use Rattle.zarrs_node.specs.Nodes.{ShowsBad}
 use Rattle.zarrs_node.specs.OpeningNodes.{RefusesNode}

@@ -18,7 +18,7 @@ use Rattle.zarrs_consolidate.specs.Refusals.{MeansArray}
 use Rattle.zarrs_consolidate.specs.declared.carry_out.Outcome.{Outcome}
 use Rattle.zarrs_consolidate.specs.declared.carry_out.Outcome.TheVariants.{Unchanged, Changed}
 use Rattle.zarrs_consolidate.specs.declared.fault.ConsolidateError.{ConsolidateError}
-use Rattle.zarrs_consolidate.specs.declared.fault.ConsolidateError.TheVariants.{Folder, Node, NotAGroup, TooDeep}
+use Rattle.zarrs_consolidate.specs.declared.fault.ConsolidateError.TheVariants.{Node, NotAGroup, TooDeep}
 use Rattle.zarrs_consolidate.specs.declared.fault.ConsolidateError.TheVariants.{Block as NoBlock, OutOfMemory}
 
 -- the node at b is refused, or it is an array

@@ -1,6 +1,5 @@
 use Rattle.std.proofs.Common.{◌≡◌, Err, rules, ap, ◌∙◌}
 use Rattle.std.specs.FinMap as map
-use Rattle.zarrs_store.specs.Contents.{Contents}
 use Rattle.zarrs_consolidate.proofs.Plans.{document_refused}
 use Rattle.zarrs_consolidate.proofs.plan.plan_block.Goals as goal
 
