@@ -61,10 +61,10 @@ abbrev pub IsUnread : ConsolidateError → Type 0
 IsUnread (Folder fault) = ⊤
 IsUnread _ = ⊥
 
--- a folder or a file was not read, or out of memory; or it is refused over each store that holds what P says
+-- a folder or a file was not read; or it is refused over each store that holds what P says
 abbrev pub RefusesPlanOfEach : (Values → Type 0) → Task → Path → ConsolidateError → Type 0
 RefusesPlanOfEach P task b e = IsUnread e ⊎ ((V : Values) → P V → RefusesPlan false (in_any V) task b e)
 
--- a folder or a file was not read, or out of memory; or it is refused over a store
+-- a folder or a file was not read; or it is refused over a store
 abbrev pub RefusesPlanOfSome : Task → Path → ConsolidateError → Type 0
 RefusesPlanOfSome task b e = IsUnread e ⊎ ((V : Values) × RefusesPlan false (in_any V) task b e)
