@@ -18,10 +18,9 @@ use Rattle.zarrs_folder.specs.Folders.{in_any}
 use Rattle.zarrs_folder.specs.Openings.{ListSame, OpenSame}
 use Rattle.zarrs_folder.specs.PrunedStores.{IsLoadedFrom, node_files}
 use Rattle.zarrs_folder.proofs.Openings.{listed_block_is_same, loaded_opens_same, opened_answer_same}
-use Rattle.zarrs_group.specs.BlockDocuments.{HasNoBlockDocument}
 use Rattle.zarrs_group.specs.BlocksOfGroups.{RefusesBlock}
 use Rattle.zarrs_consolidate.specs.Plans.{IsPlan, block_file, group_holding}
-use Rattle.zarrs_consolidate.specs.Refusals.{HoldsOfGroup, RefusesPlan, RefusesPlanOfEach, RefusesPlanOfSome}
+use Rattle.zarrs_consolidate.specs.Refusals.{HasDeepDocument, HoldsOfGroup, RefusesPlan, RefusesPlanOfEach, RefusesPlanOfSome}
 use Rattle.zarrs_consolidate.specs.declared.fault.ConsolidateError.{ConsolidateError}
 use Rattle.zarrs_consolidate.specs.declared.fault.ConsolidateError.TheVariants.{Folder, Node, NotAGroup, TooDeep}
 use Rattle.zarrs_consolidate.specs.declared.fault.ConsolidateError.TheVariants.{Block as NoBlock, OutOfMemory}
@@ -76,7 +75,7 @@ module _ (S L : Contents) (b : Path) (loaded : IsLoadedFrom S L b) where
       (λ w. inr (w.0, means w.0 w.1, ((lists w.0 (means w.0 w.1)).refusals e).0 w.2)) r)) h
   refused_over task (NotAGroup path) h = ((h.0.0, sym same.means ∙ h.0.1, h.0.2), h.1)
   refused_over task (NoBlock e) h = of_group task (λ m block. RefusesBlock m block e) h
-  refused_over task TooDeep h = of_group task (λ m block. HasNoBlockDocument (group_holding b m block)) h
+  refused_over task TooDeep h = of_group task (λ m block. HasDeepDocument (group_holding b m block)) h
   refused_over task OutOfMemory h = h
 
 -- a plan over what was loaded is one over some store

@@ -4,8 +4,11 @@
 -- <https://zarr.readthedocs.io/en/stable/user-guide/consolidated_metadata/>
 --     RefusesPlan can_fail s task b e      why it is not known over a store
 --     RefusesPlanOfEach P task b e, RefusesPlanOfSome task b e      why it is not over a folder
-use Rattle.std.specs.Prelude.{◌≡◌, ◌⊎◌, ⊤, Bool, true, false, Option, Some, None, string_bytes}
+use Rattle.std.specs.Prelude.{◌≡◌, ◌<◌, ◌⊎◌, ⊤, Bool, true, false, Option, Some, None, string_bytes}
+use Rattle.serde_json.specs.Data.{Data, depth}
+use Rattle.serde_json.specs.Read.{max_depth}
 use Rattle.zarrs_store.specs.Contents.{Contents, Values}
+use Rattle.zarrs_store.specs.Segments.{Segments}
 use Rattle.zarrs_path.specs.Paths.{Path, path_text}
 use Rattle.zarrs_config.specs.declared.version.MetadataRetrieveVersion.TheVariants.{Default}
 use Rattle.zarrs_meta.specs.declared.node.GroupMetadata.{GroupMetadata}
@@ -18,8 +21,9 @@ use Rattle.zarrs_block.specs.Refusals.{IsExcused}
 use Rattle.zarrs_node.specs.ListedBlocks.{IsListedBlock}
 use Rattle.zarrs_node.specs.Nodes.{ShowsBad}
 use Rattle.zarrs_node.specs.OpeningNodes.{RefusesNode}
-use Rattle.zarrs_group.specs.BlockDocuments.{HasNoBlockDocument}
+use Rattle.zarrs_group.specs.BlockDocuments.{block_document}
 use Rattle.zarrs_group.specs.BlocksOfGroups.{RefusesBlock}
+use Rattle.zarrs_group.specs.Groups.{GroupState}
 use Rattle.zarrs_folder.specs.Folders.{in_any}
 use Rattle.zarrs_consolidate.specs.Plans.{group_holding}
 use Rattle.zarrs_consolidate.specs.declared.fault.ConsolidateError.{ConsolidateError}
@@ -43,9 +47,14 @@ HoldsOfGroup s task b P =
     (m : GroupMetadata) × (B : Block) × (meaning s Default b ≡ node (Group m)) × IsListedBlock s Default b B
     × P m (block_set task B)
 
+-- the document that holds the block of the group nests deeper than any that is read
+abbrev pub HasDeepDocument : GroupState → Type 0
+HasDeepDocument g =
+    (key : Segments) × (d : Data) × (block_document g ≡ Some (key, d)) × (max_depth < depth d)
+
 -- The node at b is refused, or it is an array; or it is a group, and the listing below it is refused, or the group does
--- not take the block, or with it has no document that is read; or out of memory. The fault of a store that can fail is
--- excused.
+-- not take the block, or with it has a document that nests too deep; or out of memory. The fault of a store that can
+-- fail is excused.
 abbrev pub RefusesPlan : Bool → Contents → Task → Path → ConsolidateError → Type 0
 RefusesPlan can_fail s task b (Folder fault) = ⊥
 RefusesPlan can_fail s task b (Node e) = IsExcused can_fail e ⊎ RefusesNode s Default b e
@@ -53,7 +62,7 @@ RefusesPlan can_fail s task b (Node e) = IsExcused can_fail e ⊎ RefusesNode s 
 RefusesPlan can_fail s task b (NotAGroup path) = MeansArray s b × (string_bytes path ≡ path_text b)
 RefusesPlan can_fail s task b (NoBlock e) = HoldsOfGroup s task b (λ m block. RefusesBlock m block e)
 RefusesPlan can_fail s task b TooDeep =
-    HoldsOfGroup s task b (λ m block. HasNoBlockDocument (group_holding b m block))
+    HoldsOfGroup s task b (λ m block. HasDeepDocument (group_holding b m block))
 RefusesPlan can_fail s task b OutOfMemory = ⊤
 
 -- a folder or a file was not read

@@ -8,7 +8,7 @@ ghost use Rattle.zarrs_block.specs.Policy.{as_block};
 ghost use Rattle.zarrs_write.specs.ReplacingDocuments.{bytes_in};
 ghost use Rattle.zarrs_consolidate.specs.Plans.{IsPlan, IsToStand, IsWithBlock, IsWithoutBlock, block_file};
 ghost use Rattle.zarrs_consolidate.specs.Refusals.{RefusesPlan, block_set};
-ghost use Rattle.zarrs_consolidate.specs.StepsOfPlans.{RefusesGroup, RefusesDocument};
+ghost use Rattle.zarrs_consolidate.specs.StepsOfPlans.{HasBlockDocument, RefusesGroup, RefusesDocument};
 
 use crate::fault::ConsolidateError;
 use log::Log;
@@ -151,6 +151,7 @@ fn with_block(
     metadata: GroupMetadata,
     block: Option<ConsolidatedMetadata>,
 ) -> Result<Vec<u8>, ConsolidateError>
+    requires { HasBlockDocument base.now metadata (as_block block) }
     ensures ok { IfOk result (λ bytes. IsWithBlock base.now metadata (as_block block) bytes.items) }
     ensures err { IfErr result (RefusesDocument base.now metadata (as_block block)) }
 {
