@@ -51,6 +51,7 @@ pub(crate) fn run(rt: &HostRuntime, texts: &[&str]) -> Result<(String, String, u
     let mut reader = IMAGE.as_bytes();
     let ending = answer(
         &Logged::new(rt, Level::Warn, &sink),
+        rt,
         &words,
         false,
         &mut reader,

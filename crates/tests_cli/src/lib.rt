@@ -4,6 +4,10 @@
 #[cfg(test)]
 mod asserts;
 #[cfg(test)]
+mod consolidated;
+#[cfg(test)]
+mod documents;
+#[cfg(test)]
 mod escapes;
 #[cfg(test)]
 mod folders;

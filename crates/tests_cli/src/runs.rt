@@ -5,9 +5,14 @@ use std::alloc::{AllocError, Global};
 use std::io;
 use std::io::{Error, ErrorKind, Read, Write};
 use std::process::Abort;
-use zarrs_cli::{CheckOptions, Word, ZarrsFault, finish, load_image, run_of_image, run_store};
+use zarrs_block::NodeCreateError;
+use zarrs_cli::{
+    Answered, CheckOptions, Tally, Word, ZarrsFault, finish, load_image, run_of_image, run_store,
+};
+use zarrs_consolidate::ConsolidateError;
 use zarrs_folder::FolderFault;
 use zarrs_load::LoadFault;
+use zarrs_write::ReplaceError;
 
 // The word `check` without options.
 pub(crate) const CHECK: Word = Word::Check(CheckOptions {
@@ -118,6 +123,14 @@ impl Write for Unflushed {
     }
 }
 
+// How a run ends that looks at a store.
+fn looked(outcome: Result<Option<Tally>, ZarrsFault>) -> Result<Answered, ZarrsFault> {
+    match outcome {
+        Ok(tally) => Ok(Answered::Looked(tally)),
+        Err(fault) => Err(fault),
+    }
+}
+
 // What goes to the standard output and the standard error, and the status.
 pub(crate) fn run(
     alloc: Global,
@@ -129,7 +142,7 @@ pub(crate) fn run(
     let mut errors = Vec::new(alloc);
     let mut reader = image.as_bytes();
     let outcome = run_of_image(&Discard, alloc, word, path, &mut reader, &mut output);
-    let ending = finish(alloc, &outcome, &None, &mut errors);
+    let ending = finish(alloc, &looked(outcome), &None, &mut errors);
     Ok((
         String::from_utf8_lossy(alloc, &output)?,
         String::from_utf8_lossy(alloc, &errors)?,
@@ -637,7 +650,8 @@ fn a_writer_whose_flush_alone_fails_is_told(rt: HostRuntime) {
     let outcome = run_of_image(&Discard, alloc, CHECK, "/", &mut reader, &mut Unflushed);
     assert_refused(&rt, alloc, &outcome, "Write: write fault");
     let mut errors = Vec::new(alloc);
-    assert_eq!(rt; finish(alloc, &outcome, &None, &mut errors).status, 2);
+    let ending = finish(alloc, &looked(outcome), &None, &mut errors);
+    assert_eq!(rt; ending.status, 2);
     assert_eq!(rt; errors.as_slice(), b"zarrs: write fault\n".as_slice());
 }
 
@@ -690,6 +704,26 @@ fn faults_have_their_texts(rt: HostRuntime) {
             "Folder(OutOfMemory): out of memory",
         ),
         (ZarrsFault::OutOfMemory, "OutOfMemory: out of memory"),
+        (
+            ZarrsFault::TooDeep,
+            "TooDeep: the document would nest deeper than any that is read",
+        ),
+        (
+            ZarrsFault::from(ConsolidateError::TooDeep),
+            "Consolidate(TooDeep): the document would nest deeper than any that is read",
+        ),
+        (
+            ZarrsFault::from(ConsolidateError::Block(NodeCreateError::MetadataVersionMismatch)),
+            "Consolidate(Block(MetadataVersionMismatch)): the block of a group of version 2 holds no node of version 3",
+        ),
+        (
+            ZarrsFault::from(ConsolidateError::OutOfMemory),
+            "Consolidate(OutOfMemory): out of memory",
+        ),
+        (
+            ZarrsFault::from(ReplaceError::OutOfMemory),
+            "Replace(OutOfMemory): out of memory",
+        ),
         (ZarrsFault::Write, "Write: write fault"),
     ];
     for (fault, text) in table {

@@ -1,7 +1,7 @@
 //! What each kind of words asks.
 use crate::asserts::assert_text;
 use std::alloc::{AllocError, Global};
-use zarrs_cli::{Asked, Word, parse};
+use zarrs_cli::{Asked, ConsolidateOptions, Request, Word, parse};
 
 /// The words with these texts.
 pub(crate) fn words_of(alloc: Global, texts: &[&str]) -> Result<Vec<String>, AllocError> {
@@ -10,6 +10,26 @@ pub(crate) fn words_of(alloc: Global, texts: &[&str]) -> Result<Vec<String>, All
         words.push(String::from_str(alloc, text)?)?;
     }
     Ok(words)
+}
+
+// A request, with its options behind it.
+fn request_name(alloc: Global, request: Request) -> Result<String, AllocError> {
+    match request {
+        Request::Look(word) => name_of(alloc, word),
+        Request::Consolidate(options) => change_name(alloc, options),
+    }
+}
+
+// A consolidation, with its options behind it.
+fn change_name(alloc: Global, options: ConsolidateOptions) -> Result<String, AllocError> {
+    let mut name = String::from_str(alloc, "Consolidate")?;
+    if options.dry_run {
+        name.push_str("+dry")?;
+    }
+    if options.remove {
+        name.push_str("+remove")?;
+    }
+    Ok(name)
 }
 
 // A word, with its options behind it.
@@ -34,7 +54,7 @@ fn asked(alloc: Global, texts: &[&str]) -> Result<String, AllocError> {
         Ok(Asked::Help) => String::from_str(alloc, "help"),
         Ok(Asked::Version) => String::from_str(alloc, "version"),
         Ok(Asked::Store(command)) => {
-            let word = name_of(alloc, command.word)?;
+            let word = request_name(alloc, command.request)?;
             let source = command.source;
             let path = command.path;
             format!(in alloc; "{word} {source} {path}")
@@ -72,6 +92,44 @@ const ASKED: &[(&[&str], &str)] = &[
         "Check+notes+json - /a",
     ),
     (&["check", "x", "--notes"], "Check x --notes"),
+    (&["show", "x"], "Show x /"),
+    (&["show", "-", "/a"], "Show - /a"),
+    (&["show", "--store", "x"], "Show --store x"),
+    (&["consolidate", "x"], "Consolidate x /"),
+    (&["consolidate", "x", "/a"], "Consolidate x /a"),
+    (
+        &["consolidate", "x", "--dry-run"],
+        "Consolidate x --dry-run",
+    ),
+    (&["consolidate", "--dry-run", "x"], "Consolidate+dry x /"),
+    (
+        &["consolidate", "--dry-run", "x", "/a"],
+        "Consolidate+dry x /a",
+    ),
+    (&["consolidate", "--remove", "x"], "Consolidate+remove x /"),
+    (
+        &["consolidate", "--remove", "x", "/a"],
+        "Consolidate+remove x /a",
+    ),
+    (
+        &["consolidate", "--dry-run", "--remove", "x"],
+        "Consolidate+dry+remove x /",
+    ),
+    (
+        &["consolidate", "--dry-run", "--remove", "x", "/a"],
+        "Consolidate+dry+remove x /a",
+    ),
+    (&["consolidate", "-"], "Usage"),
+    (&["consolidate", "-", "/a"], "Usage"),
+    (&["consolidate", "--remove", "-"], "Usage"),
+    (&["consolidate", "--dry-run"], "Usage"),
+    (&["consolidate", "--remove"], "Usage"),
+    (&["consolidate", "--dry-run", "--remove"], "Usage"),
+    (&["consolidate", "--remove", "--dry-run", "x"], "Usage"),
+    (&["consolidate", "--notes", "x", "/"], "Usage"),
+    (&["consolidate"], "Usage"),
+    (&["show"], "Usage"),
+    (&["show", "x", "/", "/"], "Usage"),
     (&["list", "--notes", "x"], "List --notes x"),
     (&["check", "--notes"], "Usage"),
     (&["check", "--notes", "--json"], "Usage"),

@@ -1,4 +1,5 @@
-//! Shows what a store has, in a folder or in an image on standard input: its tree, the paths of its nodes, and what is bad in it or in its blocks.
+//! Shows what a store has, in a folder or in an image on standard input: its tree, the paths and documents of its nodes, and what is bad in it or in its
+//! blocks; and writes the block of a group back.
 #![tactic(auto)]
 
 use log::{Level, Logged};
@@ -15,6 +16,7 @@ fn main(rt: HostRuntime) -> ExitCode {
     let ending = match words(&rt) {
         Ok(words) => answer(
             &log,
+            &rt,
             &words,
             is_watched,
             &mut rt.reader(),

@@ -1,5 +1,5 @@
 -- From what a word writes of a store to the answer of a run, and from its refusal to that of the run.
-use Rattle.std.proofs.Common.{◌≡◌, ◌≢◌, ℕ, ◌==◌, Bool, true, false, true≢false, cond, List, [], Option, Some, None, codes, inl, inr, ⊎_elim, sym, subst, ◌∙◌, arith, string_bytes, String, Global}
+use Rattle.std.proofs.Common.{◌≡◌, ◌≢◌, ◌⊎◌, ℕ, ◌==◌, Bool, true, false, true≢false, cond, List, [], Option, Some, None, codes, inl, inr, ⊎_elim, sym, subst, ◌∙◌, arith, string_bytes, String, Global}
 use Rattle.std.specs.Prelude.{Result, Ok, Err, IfOk, IfErr, OnOk}
 use Rattle.std.specs.Str.{bytes_eq}
 use Rattle.std.specs.Io.KnownBytes.{Appends, IsAtEnd}
@@ -11,9 +11,9 @@ use Rattle.zarrs_block.specs.declared.node_create_error.NodeCreateError.{NodeCre
 use Rattle.zarrs_program.specs.Words.{RefusesPathText}
 use Rattle.zarrs_program.specs.declared.output.WriteFault.{WriteFault}
 use Rattle.zarrs_load.specs.Image.{IsLoaded}
-use Rattle.zarrs_cli.specs.Output.{IsAnswer, IsWordText, WritesWord, WritesOverImage, WritesOverSome, WritesOverEach, WritesOverSource, WritesAsked, usage_text, version_text}
+use Rattle.zarrs_cli.specs.Output.{IsAnswer, IsWordText, WritesWord, WritesOverImage, WritesOverSome, WritesOverEach, WritesOverSource, WritesRequest, WritesAsked, usage_text, version_text}
 use Rattle.zarrs_cli.specs.RefusalLines.{IsHint, SaysReason, SaysRefusal}
-use Rattle.zarrs_cli.specs.Refusals.{RefusesFolder, RefusesRun, RefusesOverImage, RefusesOverSome, RefusesOverEach, RefusesOverSource, RefusesAsked, run_status, tally_status}
+use Rattle.zarrs_cli.specs.Refusals.{IsTooDeepFor, RefusesFolder, RefusesRun, RefusesOverImage, RefusesOverSome, RefusesOverEach, RefusesOverSource, RefusesRequest, RefusesAsked, answered_status, run_status, tally_status}
 use Rattle.zarrs_cli.specs.StepsOfRuns.{IsEnough, IsFaultOfEach, IsFaultOfSome, IsAnswerFault, IsWrittenOfEach, IsWrittenOfSome}
 use Rattle.zarrs_cli.specs.Words.{AreWords, AskFor}
 use Rattle.zarrs_cli.specs.declared.report.Tally.{Tally}
@@ -21,10 +21,15 @@ use Rattle.zarrs_cli.specs.declared.words.Asked.{Asked}
 use Rattle.zarrs_cli.specs.declared.words.Asked.TheVariants.{Help, Version, Store}
 use Rattle.zarrs_cli.specs.declared.words.Command.{Command}
 use Rattle.zarrs_cli.specs.declared.words.Word.{Word}
-use Rattle.zarrs_cli.specs.declared.words.Word.TheVariants.{Tree, StoreTree, List as ListAll, Check}
+use Rattle.zarrs_cli.specs.declared.words.Word.TheVariants.{Tree, StoreTree, List as ListAll, Show, Check}
+use Rattle.zarrs_cli.specs.declared.consolidate.Consolidated.TheVariants.{Complete, Due}
+use Rattle.zarrs_cli.specs.declared.ending.Answered.{Answered}
+use Rattle.zarrs_cli.specs.declared.ending.Answered.TheVariants as answered
+use Rattle.zarrs_cli.specs.declared.words.Request.{Request}
+use Rattle.zarrs_cli.specs.declared.words.Request.TheVariants.{Look, Consolidate as Change}
 use Rattle.zarrs_cli.specs.declared.fault.ZarrsFault.{ZarrsFault}
-use Rattle.zarrs_cli.specs.declared.fault.ZarrsFault.TheVariants.{Usage, Load, Folder, Node, Write, OutOfMemory}
-use Rattle.zarrs_cli.proofs.LoadedAnswers.{IsSameFor, writes_over, refuses_over}
+use Rattle.zarrs_cli.specs.declared.fault.ZarrsFault.TheVariants.{Usage, Load, Folder, Node, TooDeep, Consolidate, Replace, Write, OutOfMemory}
+use Rattle.zarrs_cli.proofs.LoadedAnswers.{IsSameFor, deep_over, writes_over, refuses_over}
 
 -- ---- results
 
@@ -57,6 +62,9 @@ word_refused can_fail word path store base Usage valid same refused = absurd ref
 word_refused can_fail word path store base (Load e) valid same refused = absurd refused
 word_refused can_fail word path store base (Folder e) valid same refused = absurd refused
 word_refused can_fail word path store base Write valid same refused = absurd refused
+word_refused can_fail word path store base TooDeep valid same refused = (base, valid, same, refused)
+word_refused can_fail word path store base (Consolidate e) valid same refused = absurd refused
+word_refused can_fail word path store base (Replace e) valid same refused = absurd refused
 
 -- where the writer fails there is an answer
 pub unwritten : (can_fail : Bool) (word : Word) (path : List ℕ) (store : Contents) (tally : Option Tally) (text : List ℕ) (fault : ZarrsFault) → IsAnswer word path store tally text
@@ -84,6 +92,7 @@ enough_same : (word : Word) (S L : Contents) (b : Path) → IsEnough word S L b 
 enough_same Tree S L b same = same
 enough_same StoreTree S L b same = same
 enough_same ListAll S L b same = same
+enough_same Show S L b same = same
 enough_same (Check options) S L b loaded = loaded
 
 -- what refuses a word of a store that has enough of another refuses it of the other
@@ -94,6 +103,9 @@ fault_over word S L b Usage valid same refused = absurd refused
 fault_over word S L b (Load e) valid same refused = absurd refused
 fault_over word S L b (Folder e) valid same refused = absurd refused
 fault_over word S L b Write valid same refused = absurd refused
+fault_over word S L b TooDeep valid same refused = deep_over word S L b (enough_same word S L b same) refused
+fault_over word S L b (Consolidate e) valid same refused = absurd refused
+fault_over word S L b (Replace e) valid same refused = absurd refused
 
 module _ (word : Word) (b : Path) (L : Values) (r : Result (Option Tally × String Global) ZarrsFault) where
   -- what is written of what was loaded is written of some store
@@ -182,47 +194,58 @@ module _ (word : Word) (source path : List ℕ) where
 
 -- ---- by the words
 
+-- what a text that is about no store appends answers the words that ask for it
+alone : (words : List (List ℕ)) (left old new : Option (List ℕ)) (r : Result Answered ZarrsFault) (text : List ℕ)
+    → ((end : Answered) → end ≡ answered.Looked None → Appends old new text → WritesAsked words left old new end)
+    → IfOk r (λ end. end ≡ answered.Looked None) → IfOk r (λ end. Appends old new text) → IfOk r (WritesAsked words left old new)
+alone words left old new (Ok end) text asked none appends = asked end none appends
+alone words left old new (Err e) text asked none appends = tt
+
 -- the usage that was appended answers the words that ask for it
-pub help_answered : (words : List (List ℕ)) (asked : Asked) (left old new : Option (List ℕ)) (text : List ℕ) (r : Result (Option Tally) ZarrsFault) → AskFor words asked → asked ≡ Help
-    → text ≡ usage_text → IfOk r (λ tally. tally ≡ None) → IfOk r (λ tally. Appends old new text) → IfOk r (WritesAsked words left old new)
-help_answered words asked left old new text (Ok tally) are is same none appends = inl (subst (AskFor words) is are, none, subst (Appends old new) same appends)
-help_answered words asked left old new text (Err e) are is same none appends = tt
+pub help_answered : (words : List (List ℕ)) (asked : Asked) (left old new : Option (List ℕ)) (text : List ℕ) (r : Result Answered ZarrsFault) → AskFor words asked → asked ≡ Help
+    → text ≡ usage_text → IfOk r (λ end. end ≡ answered.Looked None) → IfOk r (λ end. Appends old new text) → IfOk r (WritesAsked words left old new)
+help_answered words asked left old new text r are is same =
+    alone words left old new r text (λ end none appends. inl (subst (AskFor words) is are, none, subst (Appends old new) same appends))
 
 -- and so does the version
-pub version_answered : (words : List (List ℕ)) (asked : Asked) (left old new : Option (List ℕ)) (text : List ℕ) (r : Result (Option Tally) ZarrsFault) → AskFor words asked → asked ≡ Version
-    → text ≡ version_text → IfOk r (λ tally. tally ≡ None) → IfOk r (λ tally. Appends old new text) → IfOk r (WritesAsked words left old new)
-version_answered words asked left old new text (Ok tally) are is same none appends = inr (inl (subst (AskFor words) is are, none, subst (Appends old new) same appends))
-version_answered words asked left old new text (Err e) are is same none appends = tt
+pub version_answered : (words : List (List ℕ)) (asked : Asked) (left old new : Option (List ℕ)) (text : List ℕ) (r : Result Answered ZarrsFault) → AskFor words asked → asked ≡ Version
+    → text ≡ version_text → IfOk r (λ end. end ≡ answered.Looked None) → IfOk r (λ end. Appends old new text) → IfOk r (WritesAsked words left old new)
+version_answered words asked left old new text r are is same =
+    alone words left old new r text (λ end none appends. inr (inl (subst (AskFor words) is are, none, subst (Appends old new) same appends)))
 
 -- what is written of the source that the words name answers them
-pub command_answered : (words : List (List ℕ)) (command : Command) (left old new : Option (List ℕ)) (r : Result (Option Tally) ZarrsFault) → AskFor words (Store command)
-    → IfOk r (WritesOverSource command.word command.source.now command.path.now left old new) → IfOk r (WritesAsked words left old new)
-command_answered words command left old new r are = ok_weaker r (λ tally writes. inr (inr (command.word, command.source.now, command.path.now, are, writes)))
+pub command_answered : (words : List (List ℕ)) (command : Command) (left old new : Option (List ℕ)) (r : Result Answered ZarrsFault) → AskFor words (Store command)
+    → IfOk r (WritesRequest command.request command.source.now command.path.now left old new) → IfOk r (WritesAsked words left old new)
+command_answered words command left old new r are = ok_weaker r (λ end writes. inr (inr (command.request, command.source.now, command.path.now, are, writes)))
 
 -- the words of a call are no wrong words
 asked_words : (words : List (List ℕ)) (asked : Asked) → AskFor words asked → AreWords words
 asked_words words Help is = inl is
 asked_words words Version is = inr (inl is)
-asked_words words (Store command) is = inr (inr (command.word, command.source.now, command.path.now, is))
+asked_words words (Store command) is = inr (inr (command.request, command.source.now, command.path.now, is))
 
 -- no wrong words are refused of a source
-no_usage : (word : Word) (source path : List ℕ) (before after : Option (List ℕ)) → RefusesOverSource word source path before after Usage → ⊥
-no_usage word source path before after =
+no_usage : (request : Request) (source path : List ℕ) (before after : Option (List ℕ)) → RefusesRequest request source path before after Usage → ⊥
+no_usage (Look word) source path before after =
     ⊎_elim (λ image. ⊎_elim (λ none. none) (λ why. why.1.2) image.1) (λ folder. ⊎_elim (λ none. none) (λ why. why.1) folder.1)
+no_usage (Change options) source path before after = ⊎_elim (λ none. none) (λ why. why.2.1)
 
 -- a fault that refuses the source that the words name refuses the words
 command_fault : (words : List (List ℕ)) (command : Command) (before after : Option (List ℕ)) → AskFor words (Store command)
-    → (fault : ZarrsFault) → RefusesOverSource command.word command.source.now command.path.now before after fault → RefusesAsked words before after fault
-command_fault words command before after are Usage refused = absurd (no_usage command.word command.source.now command.path.now before after refused)
+    → (fault : ZarrsFault) → RefusesRequest command.request command.source.now command.path.now before after fault → RefusesAsked words before after fault
+command_fault words command before after are Usage refused = absurd (no_usage command.request command.source.now command.path.now before after refused)
 command_fault words command before after are Write refused = asked_words words (Store command) are
-command_fault words command before after are (Load e) refused = (command.word, command.source.now, command.path.now, are, refused)
-command_fault words command before after are (Folder e) refused = (command.word, command.source.now, command.path.now, are, refused)
-command_fault words command before after are (Node e) refused = (command.word, command.source.now, command.path.now, are, refused)
-command_fault words command before after are OutOfMemory refused = (command.word, command.source.now, command.path.now, are, refused)
+command_fault words command before after are (Load e) refused = (command.request, command.source.now, command.path.now, are, refused)
+command_fault words command before after are (Folder e) refused = (command.request, command.source.now, command.path.now, are, refused)
+command_fault words command before after are (Node e) refused = (command.request, command.source.now, command.path.now, are, refused)
+command_fault words command before after are TooDeep refused = (command.request, command.source.now, command.path.now, are, refused)
+command_fault words command before after are (Consolidate e) refused = (command.request, command.source.now, command.path.now, are, refused)
+command_fault words command before after are (Replace e) refused = (command.request, command.source.now, command.path.now, are, refused)
+command_fault words command before after are OutOfMemory refused = (command.request, command.source.now, command.path.now, are, refused)
 
 -- what refuses the source that the words name refuses them
-pub command_refused : (words : List (List ℕ)) (command : Command) (before after : Option (List ℕ)) (r : Result (Option Tally) ZarrsFault) → AskFor words (Store command)
-    → IfErr r (RefusesOverSource command.word command.source.now command.path.now before after) → IfErr r (RefusesAsked words before after)
+pub command_refused : (words : List (List ℕ)) (command : Command) (before after : Option (List ℕ)) (r : Result Answered ZarrsFault) → AskFor words (Store command)
+    → IfErr r (RefusesRequest command.request command.source.now command.path.now before after) → IfErr r (RefusesAsked words before after)
 command_refused words command before after r are = err_weaker r (command_fault words command before after are)
 
 -- ---- the status
@@ -237,6 +260,12 @@ tally_not_two : (tally : Option Tally) (n : ℕ) → n ≡ tally_status tally �
 tally_not_two None n e two = omega (arith, e, two)
 tally_not_two (Some tally) n e two = not_two (tally.findings == 0) n e two
 
+-- nor is that of any run that is not refused
+answered_not_two : (end : Answered) (n : ℕ) → n ≡ answered_status end → n ≡ 2 → ⊥
+answered_not_two (answered.Looked tally) n e two = tally_not_two tally n e two
+answered_not_two (answered.Consolidated Complete) n e two = omega (arith, e, two)
+answered_not_two (answered.Consolidated Due) n e two = omega (arith, e, two)
+
 -- what is said of the fault is said of the words, where the hint is theirs
 said_of_words : (words : List (List ℕ)) (fault : ZarrsFault) (hint : Option (List ℕ)) (said : Result (Unit {0}) WriteFault) (before after : Option (List ℕ)) → IsHint words fault hint
     → OnOk said (SaysReason hint fault before after) → OnOk said (SaysRefusal words fault before after)
@@ -244,18 +273,42 @@ said_of_words words fault hint (Ok u) before after is says = (hint, is, says)
 said_of_words words fault hint (Err e) before after is says = tt
 
 -- the status 2 is that of a run that is refused, and why is said
-pub refused_run : (words : List (List ℕ)) (outcome : Result (Option Tally) ZarrsFault) (P Q : ZarrsFault → Type 0) (n : ℕ) (hint : Option (List ℕ)) (said : Result (Unit {0}) WriteFault)
+pub refused_run : (words : List (List ℕ)) (outcome : Result Answered ZarrsFault) (P Q : ZarrsFault → Type 0) (n : ℕ) (hint : Option (List ℕ)) (said : Result (Unit {0}) WriteFault)
     (before after : Option (List ℕ)) → n ≡ run_status outcome → n ≡ 2 → IfErr outcome P → IfErr outcome Q → IfErr outcome (λ fault. IsHint words fault hint)
     → OnOk said (IfErr outcome (λ fault. SaysReason hint fault before after)) → (fault : ZarrsFault) × P fault × Q fault × OnOk said (SaysRefusal words fault before after)
-refused_run words (Ok tally) P Q n hint said before after e two p q is says = absurd (tally_not_two tally n e two)
+refused_run words (Ok end) P Q n hint said before after e two p q is says = absurd (answered_not_two end n e two)
 refused_run words (Err fault) P Q n hint said before after e two p q is says = (fault, p, q, said_of_words words fault hint said before after is says)
 
 -- what was asked was written of words of a call
-written_words : (words : List (List ℕ)) (left before after : Option (List ℕ)) (tally : Option Tally) → WritesAsked words left before after tally → AreWords words
-written_words words left before after tally h = ⊎_elim (λ w. inl w.0) (λ r. ⊎_elim (λ w. inr (inl w.0)) (λ w. inr (inr (w.0, w.1, w.2, w.3))) r) h
+written_words : (words : List (List ℕ)) (left before after : Option (List ℕ)) (end : Answered) → WritesAsked words left before after end → AreWords words
+written_words words left before after end h = ⊎_elim (λ w. inl w.0) (λ r. ⊎_elim (λ w. inr (inl w.0)) (λ w. inr (inr (w.0, w.1, w.2, w.3))) r) h
 
 -- wrong words end with the status of a refusal
-pub usage_run : (words : List (List ℕ)) (left before after : Option (List ℕ)) (outcome : Result (Option Tally) ZarrsFault) (n : ℕ)
+pub usage_run : (words : List (List ℕ)) (left before after : Option (List ℕ)) (outcome : Result Answered ZarrsFault) (n : ℕ)
     → n ≡ run_status outcome → IfOk outcome (WritesAsked words left before after) → (AreWords words → ⊥) → n ≡ 2
-usage_run words left before after (Ok tally) n e ok none = absurd (none (written_words words left before after tally ok))
+usage_run words left before after (Ok end) n e ok none = absurd (none (written_words words left before after end ok))
 usage_run words left before after (Err fault) n e ok none = e
+
+-- a status other than 2 is that of a run that is not refused, and what was asked was written
+pub answered_run : (words : List (List ℕ)) (left before after : Option (List ℕ)) (outcome : Result Answered ZarrsFault) (n status : ℕ) → (status ≡ 2 → ⊥)
+    → n ≡ run_status outcome → n ≡ status → IfOk outcome (WritesAsked words left before after)
+    → (end : Answered) × (answered_status end ≡ status) × WritesAsked words left before after end
+answered_run words left before after (Ok end) n status other e same writes = (end, sym e ∙ same, writes)
+answered_run words left before after (Err fault) n status other e same writes = absurd (other (sym same ∙ e))
+
+-- the status of a count is 0 or 1
+count_statuses : (b : Bool) (n : ℕ) → n ≡ cond b 0 1 → (n ≡ 0) ⊎ (n ≡ 1) ⊎ (n ≡ 2)
+count_statuses true n e = inl e
+count_statuses false n e = inr (inl e)
+
+-- so is that of what was looked at
+tally_statuses : (tally : Option Tally) (n : ℕ) → n ≡ tally_status tally → (n ≡ 0) ⊎ (n ≡ 1) ⊎ (n ≡ 2)
+tally_statuses None n e = inl e
+tally_statuses (Some tally) n e = count_statuses (tally.findings == 0) n e
+
+-- and that of a run is one of three
+pub run_statuses : (outcome : Result Answered ZarrsFault) (n : ℕ) → n ≡ run_status outcome → (n ≡ 0) ⊎ (n ≡ 1) ⊎ (n ≡ 2)
+run_statuses (Ok (answered.Looked tally)) n e = tally_statuses tally n e
+run_statuses (Ok (answered.Consolidated Complete)) n e = inl e
+run_statuses (Ok (answered.Consolidated Due)) n e = inr (inl e)
+run_statuses (Err fault) n e = inr (inr e)

@@ -5,8 +5,11 @@ use Rattle.zarrs_block.specs.ErrorTexts.{error_text}
 use Rattle.zarrs_load.specs.FaultTexts.{load_fault_text}
 use Rattle.zarrs_program.specs.FaultTexts.{write_fault_text}
 use Rattle.zarrs_folder.specs.FaultTexts.{folder_fault_text}
+use Rattle.zarrs_consolidate.specs.FaultTexts.{consolidate_error_text}
+use Rattle.zarrs_write.specs.FaultTexts.{replace_error_text}
 use Rattle.zarrs_cli.specs.declared.fault.ZarrsFault.{ZarrsFault}
-use Rattle.zarrs_cli.specs.declared.fault.ZarrsFault.TheVariants.{Usage, Load, Folder, Node, Write, OutOfMemory}
+use Rattle.zarrs_cli.specs.declared.fault.ZarrsFault.TheVariants.{Usage, Load, Folder, Node, TooDeep, Consolidate}
+use Rattle.zarrs_cli.specs.declared.fault.ZarrsFault.TheVariants.{Replace, Write, OutOfMemory}
 
 -- why a run is refused
 abbrev pub zarrs_fault_text : ZarrsFault → List ℕ
@@ -14,5 +17,8 @@ zarrs_fault_text Usage = codes "wrong words"
 zarrs_fault_text (Load fault) = load_fault_text fault
 zarrs_fault_text (Folder fault) = folder_fault_text fault
 zarrs_fault_text (Node error) = error_text error
+zarrs_fault_text TooDeep = codes "the document would nest deeper than any that is read"
+zarrs_fault_text (Consolidate error) = consolidate_error_text error
+zarrs_fault_text (Replace error) = replace_error_text error
 zarrs_fault_text Write = write_fault_text
 zarrs_fault_text OutOfMemory = codes "out of memory"

@@ -15,8 +15,9 @@ use Rattle.zarrs_cli.specs.FaultTexts.{zarrs_fault_text}
 use Rattle.zarrs_cli.specs.Output.{usage_text}
 use Rattle.zarrs_cli.specs.Words.{AreWordsOf}
 use Rattle.zarrs_cli.specs.declared.fault.ZarrsFault.{ZarrsFault}
-use Rattle.zarrs_cli.specs.declared.fault.ZarrsFault.TheVariants.{Usage, Node, OutOfMemory}
-use Rattle.zarrs_cli.specs.declared.words.Word.{Word}
+use Rattle.zarrs_consolidate.specs.declared.fault.ConsolidateError.TheVariants as consolidating
+use Rattle.zarrs_cli.specs.declared.fault.ZarrsFault.TheVariants.{Usage, Node, Consolidate, OutOfMemory}
+use Rattle.zarrs_cli.specs.declared.words.Request.{Request}
 use Rattle.zarrs_fault.specs.Bytes.{slash}
 
 -- the line that says a text: the name of the program, a colon, a space, and the text with control characters and
@@ -49,6 +50,7 @@ SaysReason hint fault before after = (text : List ℕ) × IsRefusalText hint fau
 -- the fault is that there is no node at the path
 abbrev pub IsNoNode : ZarrsFault → Type 0
 IsNoNode (Node (MissingMetadata path)) = ⊤
+IsNoNode (Consolidate (consolidating.Node (MissingMetadata path))) = ⊤
 IsNoNode _ = ⊥
 
 -- that there is no node at a path of a place
@@ -74,7 +76,7 @@ IsNowhereInFolder folder path hint =
 -- the hint says that there is no node at the path that the words name: in the image where they name that, else in the
 -- folder
 abbrev pub IsNowhere : List (List ℕ) → List ℕ → Type 0
-IsNowhere words hint = (word : Word) × (source path : List ℕ) × AreWordsOf words word source path
+IsNowhere words hint = (request : Request) × (source path : List ℕ) × AreWordsOf words request source path
     × (((source ≡ codes "-") × (hint ≡ nowhere_text path (codes "the image")))
     ⊎ ((source ≢ codes "-") × IsNowhereInFolder source path hint))
 

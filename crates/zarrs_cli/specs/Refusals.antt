@@ -23,28 +23,46 @@ use Rattle.zarrs_cli.specs.Output.{IsAnswer}
 use Rattle.zarrs_cli.specs.Words.{AreWords, AreWordsOf}
 use Rattle.zarrs_cli.specs.declared.report.Tally.{Tally}
 use Rattle.zarrs_cli.specs.declared.fault.ZarrsFault.{ZarrsFault}
-use Rattle.zarrs_cli.specs.declared.fault.ZarrsFault.TheVariants.{Usage, Load, Folder, Node, Write, OutOfMemory}
+use Rattle.zarrs_cli.specs.declared.fault.ZarrsFault.TheVariants.{Usage, Load, Folder, Node, TooDeep, Write}
+use Rattle.zarrs_cli.specs.declared.fault.ZarrsFault.TheVariants.{OutOfMemory}
+use Rattle.zarrs_node.specs.OpeningNodes.{RefusesNode}
+use Rattle.zarrs_write.specs.Calls.{Asked}
+use Rattle.zarrs_cli.specs.ConsolidationRefusals.{RefusesConsolidationOfSome}
+use Rattle.zarrs_cli.specs.NodeDocuments.{NestsTooDeepAt}
+use Rattle.zarrs_cli.specs.declared.consolidate.Consolidated.TheVariants.{Complete, Due}
+use Rattle.zarrs_cli.specs.declared.ending.Answered.{Answered}
+use Rattle.zarrs_cli.specs.declared.ending.Answered.TheVariants as answered
+use Rattle.zarrs_cli.specs.declared.words.ConsolidateOptions.{ConsolidateOptions}
+use Rattle.zarrs_cli.specs.declared.words.Request.{Request}
+use Rattle.zarrs_cli.specs.declared.words.Request.TheVariants.{Look, Consolidate}
 use Rattle.zarrs_cli.specs.declared.words.Word.{Word}
-use Rattle.zarrs_cli.specs.declared.words.Word.TheVariants.{Tree, StoreTree, List as ListAll, Check}
+use Rattle.zarrs_cli.specs.declared.words.Word.TheVariants.{Tree, StoreTree, List as ListAll, Show, Check}
 
--- the calls of a word refuse the path: it is excused, as out of memory or the fault of a store that can fail; or, but
--- of a check, opening is refused by the
--- first reason that applies
+-- the calls of a word refuse the path: it is excused, as out of memory or the fault of a store that can fail; or
+-- opening is refused by the first reason that applies, of `show` the node itself is, and of a check nothing else
 abbrev pub RefusesAnswer : Bool → Word → Contents → Path → NodeCreateError → Type 0
 RefusesAnswer can_fail Tree store base = IsExcusedOr can_fail (RefusesOpening store Default Auto (path_text base))
 RefusesAnswer can_fail StoreTree store base = IsExcusedOr can_fail (RefusesOpening store Default Never (path_text base))
 RefusesAnswer can_fail ListAll store base = IsExcusedOr can_fail (RefusesOpening store Default Never (path_text base))
+RefusesAnswer can_fail Show store base = IsExcusedOr can_fail (RefusesNode store Default base)
 RefusesAnswer can_fail (Check options) store base = IsExcused can_fail
+
+-- the word is `show`, and the document nests too deep with its attributes
+abbrev pub IsTooDeepFor : Word → Contents → Path → Type 0
+IsTooDeepFor Show store base = NestsTooDeepAt store base
+IsTooDeepFor _ store base = ⊥
 
 -- the text is that of a path, which the calls of the word refuse
 abbrev pub RefusesPathOf : Bool → Word → List ℕ → Contents → NodeCreateError → Type 0
 RefusesPathOf can_fail word path store e =
     (base : Path) × IsPath base × (path_text base ≡ path) × RefusesAnswer can_fail word store base e
 
--- a run over the store is refused: the text is no path, or the calls of the word refuse it; or there is an answer,
--- and the writer failed; or out of memory
+-- a run over the store is refused: the text is no path, or the calls of the word refuse it; or the document that is
+-- shown nests too deep; or there is an answer, and the writer failed; or out of memory
 abbrev pub RefusesRun : Bool → Word → List ℕ → Contents → ZarrsFault → Type 0
 RefusesRun can_fail word path store (Node e) = RefusesPathText path e ⊎ RefusesPathOf can_fail word path store e
+RefusesRun can_fail word path store TooDeep =
+    (base : Path) × IsPath base × (path_text base ≡ path) × IsTooDeepFor word store base
 RefusesRun can_fail word path store Write =
     (tally : Option Tally) × (text : List ℕ) × IsAnswer word path store tally text
 RefusesRun can_fail word path store OutOfMemory = ⊤
@@ -89,24 +107,41 @@ RefusesOverSource word source path before after fault =
     ((source ≡ codes "-") × RefusesOverImage word path before after fault)
     ⊎ ((source ≢ codes "-") × RefusesOverSome word path fault)
 
--- the run over the store which the words name is refused
+-- the folder is not opened; or the run over a store that writes a block back is refused
+abbrev pub RefusesConsolidating : ConsolidateOptions → List ℕ → ZarrsFault → Type 0
+RefusesConsolidating options path fault =
+    RefusesFolder fault
+    ⊎ ((before after : Option (List Asked)) × RefusesConsolidationOfSome options path before after fault)
+
+-- what is asked of the store that the source names is refused
+abbrev pub RefusesRequest : Request → List ℕ → List ℕ → Option (List ℕ) → Option (List ℕ) → ZarrsFault → Type 0
+RefusesRequest (Look word) source path before after fault = RefusesOverSource word source path before after fault
+RefusesRequest (Consolidate options) source path before after fault = RefusesConsolidating options path fault
+
+-- what the words ask of a store is refused
 abbrev pub RefusesNamed : List (List ℕ) → Option (List ℕ) → Option (List ℕ) → ZarrsFault → Type 0
 RefusesNamed words before after fault =
-    (word : Word) × (source path : List ℕ) × AreWordsOf words word source path
-    × RefusesOverSource word source path before after fault
+    (request : Request) × (source path : List ℕ) × AreWordsOf words request source path
+    × RefusesRequest request source path before after fault
 
--- the words are no call's; or they are, and the writer failed; or the run over the store which they name is refused
+-- the words are no call's; or they are, and the writer failed; or what they ask of a store is refused
 abbrev pub RefusesAsked : List (List ℕ) → Option (List ℕ) → Option (List ℕ) → ZarrsFault → Type 0
 RefusesAsked words before after Usage = AreWords words → ⊥
 RefusesAsked words before after Write = AreWords words
 RefusesAsked words before after fault = RefusesNamed words before after fault
 
--- the status of a run that ends well: 1 where a check has a finding, else 0
+-- the status of what is shown: 1 where a check has a finding, else 0
 abbrev pub tally_status : Option Tally → ℕ
 tally_status None = 0
 tally_status (Some tally) = cond (tally.findings == 0) 0 1
 
+-- the status of a run that is not refused: 1 where a check has a finding, or a dry run would write, else 0
+abbrev pub answered_status : Answered → ℕ
+answered_status (answered.Looked tally) = tally_status tally
+answered_status (answered.Consolidated Complete) = 0
+answered_status (answered.Consolidated Due) = 1
+
 -- the exit status: 2 where the run is refused
-abbrev pub run_status : Result (Option Tally) ZarrsFault → ℕ
-run_status (Ok tally) = tally_status tally
+abbrev pub run_status : Result Answered ZarrsFault → ℕ
+run_status (Ok end) = answered_status end
 run_status (Err fault) = 2

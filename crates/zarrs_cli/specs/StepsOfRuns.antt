@@ -25,22 +25,25 @@ use Rattle.zarrs_folder.specs.PassedPaths.{IsPassed}
 use Rattle.zarrs_folder.specs.PrunedStores.{HasSameFiles, IsArrayAt, IsLoadedFrom}
 use Rattle.zarrs_cli.specs.declared.folder.Loaded.{Loaded}
 use Rattle.zarrs_cli.specs.declared.words.Word.{Word}
-use Rattle.zarrs_cli.specs.declared.words.Word.TheVariants.{Tree as TreeOf, StoreTree, List as ListAll, Check}
+use Rattle.zarrs_cli.specs.declared.words.Word.TheVariants.{Tree as TreeOf, StoreTree, List as ListAll, Show, Check}
 use Rattle.zarrs_cli.specs.declared.fault.ZarrsFault.{ZarrsFault}
-use Rattle.zarrs_cli.specs.declared.fault.ZarrsFault.TheVariants.{Node, OutOfMemory}
+use Rattle.zarrs_cli.specs.declared.fault.ZarrsFault.TheVariants.{Node, TooDeep, OutOfMemory}
 use Rattle.zarrs_cli.specs.declared.report.Tally.{Tally}
 use Rattle.zarrs_cli.specs.Output.{IsWordText}
-use Rattle.zarrs_cli.specs.Refusals.{RefusesFolder, RefusesAnswer}
+use Rattle.zarrs_block.specs.Meaning.{meaning}
+use Rattle.zarrs_cli.specs.Refusals.{IsTooDeepFor, RefusesFolder, RefusesAnswer}
 
--- the fault holds an error that refuses; or out of memory
-abbrev pub HoldsRefusal : (NodeCreateError → Type 0) → ZarrsFault → Type 0
-HoldsRefusal refuses (Node e) = refuses e
-HoldsRefusal refuses OutOfMemory = ⊤
-HoldsRefusal refuses _ = ⊥
+-- the fault holds an error that refuses, or is that a document nests too deep, where this says so; or out of memory
+abbrev pub HoldsRefusal : (NodeCreateError → Type 0) → Type 0 → ZarrsFault → Type 0
+HoldsRefusal refuses deep (Node e) = refuses e
+HoldsRefusal refuses deep TooDeep = deep
+HoldsRefusal refuses deep OutOfMemory = ⊤
+HoldsRefusal refuses deep _ = ⊥
 
 -- the calls of a word refuse the path, or out of memory
 abbrev pub IsAnswerFault : Bool → Word → Contents → Path → ZarrsFault → Type 0
-IsAnswerFault can_fail word store base = HoldsRefusal (RefusesAnswer can_fail word store base)
+IsAnswerFault can_fail word store base =
+    HoldsRefusal (RefusesAnswer can_fail word store base) (IsTooDeepFor word store base)
 
 -- an entry is stale
 abbrev pub is_stale : FindingKind → Bool
@@ -115,11 +118,13 @@ abbrev pub passed_from : CheckedFrom → List Path
 passed_from (Array found) = []
 passed_from (Tree c) = passed_paths c.ignored.items c.bad_documents
 
--- L has enough of S for what the word asks from b on: it opens there as S does, or is enough for a check
+-- L has enough of S for what the word asks from b on: it opens there as S does, or b means there what it means in S, or
+-- it is enough for a check
 abbrev pub IsEnough : Word → Contents → Contents → Path → Type 0
 IsEnough TreeOf S L b = OpenSame S L Auto b
 IsEnough StoreTree S L b = OpenSame S L Never b
 IsEnough ListAll S L b = OpenSame S L Never b
+IsEnough Show S L b = meaning L Default b ≡ meaning S Default b
 IsEnough (Check options) S L b = IsCheckable S L b
 
 -- what was made for a word of some store

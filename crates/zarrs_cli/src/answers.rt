@@ -1,46 +1,58 @@
 //! A whole run of the program, from its words to its status.
-ghost use Rattle.std.specs.Prelude.{◌≡◌, ◌≢◌, ◌⊎◌, Option, None, IfOk, IfErr, OnOk, string_bytes};
+ghost use Rattle.std.specs.Prelude.{◌≡◌, ◌≢◌, ◌⊎◌, None, IfOk, IfErr, IsTrue, OnOk, string_bytes};
 ghost use Rattle.std.specs.Option.{option_map};
 ghost use Rattle.std.specs.Io.KnownBytes.{Appends, Keeps};
 ghost use Rattle.zarrs_program.specs.Words.{texts};
 ghost use Rattle.zarrs_cli.specs.Words.{AreWords};
-ghost use Rattle.zarrs_cli.specs.Output.{WritesAsked, WritesOverEach, WritesOverSome, WritesOverSource};
-ghost use Rattle.zarrs_cli.specs.RefusalLines.{IsHint, SaysRefusal};
-ghost use Rattle.zarrs_cli.specs.Refusals.{RefusesAsked, RefusesOverEach, RefusesOverSome, RefusesOverSource, tally_status};
+ghost use Rattle.zarrs_cli.specs.Output.{WritesAsked, WritesConsolidated, WritesOverEach, WritesOverSome, WritesOverSource, WritesRequest};
+ghost use Rattle.zarrs_cli.specs.RefusalLines.{IsHint, IsNoNode, SaysRefusal};
+ghost use Rattle.zarrs_cli.specs.Refusals.{RefusesAsked, RefusesConsolidating, RefusesOverEach, RefusesOverSome, RefusesOverSource, RefusesRequest, answered_status};
 
-use crate::ending::{Ending, finish};
+use crate::consolidate::{Consolidated, consolidate_folder};
+use crate::ending::{Answered, Ending, finish};
 use crate::fault::ZarrsFault;
 use crate::folder::run_of_folder;
 use crate::nowhere::{nowhere_in_folder, nowhere_in_image};
 use crate::report::Tally;
 use crate::run::run_of_image;
 use crate::usage::{USAGE, VERSION};
-use crate::words::{Asked, Command, Word, parse};
+use crate::words::{Asked, Command, ConsolidateOptions, Request, Word, parse};
 use log::Log;
+use std::alloc::{AllocError, Global};
 use std::io::{Eprint, Read, Write};
 use std::rt::Files;
 use std::time::Clock;
 use zarrs_block::NodeCreateError;
+use zarrs_consolidate::ConsolidateError;
 use zarrs_folder::{Disk, Folder};
 use zarrs_program::write_whole;
+use zarrs_write::Disk as WrittenDisk;
 
 /// Writes what the words ask, and on standard error how much a check looked at and found, or why the run is refused. Where standard error is watched and a
 /// folder takes long, lines there say how many nodes were read so far. It handles every error itself and returns only how the run ended. The exit status is 0
-/// where all is done, 1 where a check has findings, and 2 where the run is refused.
-pub fn answer<R: Log + Files + Clock + Eprint + AllocGlobal, I: Read, W: Write, E: Write>(
+/// where all is done, 1 where a check has findings or a dry run would write, and 2 where the run is refused.
+///
+/// The host writes what is written back: a value that logs does not hand on the call that gives a file its owner.
+pub fn answer<
+    R: Log + Files + Clock + Eprint + AllocGlobal,
+    I: Read,
+    W: Write,
+    E: Write,
+>(
     rt: &R,
+    host: &HostRuntime,
     words: &[String],
     is_watched: bool,
     reader: &mut I,
     output: &mut W,
     errors: &mut E,
 ) -> Ending
-    ensures done { result.status ≡ 0 → (tally : Option Tally) × (tally_status tally ≡ 0)
+    ensures done { result.status ≡ 0 → (answered : Answered) × (answered_status answered ≡ 0)
         × WritesAsked (texts words.now) (I.remaining reader.old)
-        (W.contents output.old) (W.contents output.new) tally }
-    ensures found { result.status ≡ 1 → (tally : Option Tally) × (tally_status tally ≡ 1)
+        (W.contents output.old) (W.contents output.new) answered }
+    ensures found { result.status ≡ 1 → (answered : Answered) × (answered_status answered ≡ 1)
         × WritesAsked (texts words.now) (I.remaining reader.old)
-        (W.contents output.old) (W.contents output.new) tally }
+        (W.contents output.old) (W.contents output.new) answered }
     ensures refused { result.status ≡ 2 → (fault : ZarrsFault)
         × RefusesAsked (texts words.now)
         (I.remaining reader.old) (I.remaining reader.new) fault
@@ -50,19 +62,24 @@ pub fn answer<R: Log + Files + Clock + Eprint + AllocGlobal, I: Read, W: Write, 
     ensures usage { (AreWords (texts words.now) → ⊥) → result.status ≡ 2 }
     ensures status { (result.status ≡ 0) ⊎ (result.status ≡ 1) ⊎ (result.status ≡ 2) }
 {
-    let outcome = run_words(rt, words, is_watched, reader, output);
+    let outcome = run_words(rt, host, words, is_watched, reader, output);
     let no_node = no_node(rt, words, &outcome);
     finish(rt.alloc(), &outcome, &no_node, errors)
 }
 
 // Writes what the words ask.
-fn run_words<R: Log + Files + Clock + Eprint + AllocGlobal, I: Read, W: Write>(
+fn run_words<
+    R: Log + Files + Clock + Eprint + AllocGlobal,
+    I: Read,
+    W: Write,
+>(
     rt: &R,
+    host: &HostRuntime,
     words: &[String],
     is_watched: bool,
     reader: &mut I,
     output: &mut W,
-) -> Result<Option<Tally>, ZarrsFault>
+) -> Result<Answered, ZarrsFault>
     ensures ok { IfOk result (WritesAsked (texts words.now) (I.remaining reader.old)
         (W.contents output.old) (W.contents output.new)) }
     ensures refused { IfErr result (RefusesAsked (texts words.now)
@@ -73,49 +90,172 @@ fn run_words<R: Log + Files + Clock + Eprint + AllocGlobal, I: Read, W: Write>(
     match parse(words)? {
         Asked::Help => write_alone(USAGE, output),
         Asked::Version => write_alone(VERSION, output),
-        Asked::Store(command) => run_command(rt, &command, is_watched, reader, output),
+        Asked::Store(command) => run_command(rt, host, &command, is_watched, reader, output),
     }
 }
 
 // Writes a text that is about no store.
-fn write_alone<W: Write>(text: &str, output: &mut W) -> Result<Option<Tally>, ZarrsFault>
-    ensures none { IfOk result (λ tally. tally ≡ None) }
+fn write_alone<W: Write>(text: &str, output: &mut W) -> Result<Answered, ZarrsFault>
+    ensures none { IfOk result (λ answered. answered ≡ Answered.Looked None) }
     ensures ok { IfOk result
         (λ _. Appends (W.contents output.old) (W.contents output.new) text.now) }
     ensures err { IfErr result (λ fault. fault ≡ ZarrsFault.Write) }
 {
     write_whole(text.as_bytes(), output)?;
-    Ok(None)
+    Ok(Answered::Looked(None))
 }
 
-// Writes what a word asks of the store that a source names.
-fn run_command<R: Log + Files + Clock + Eprint + AllocGlobal, I: Read, W: Write>(
+// Writes what a request asks of the store that a source names.
+fn run_command<
+    R: Log + Files + Clock + Eprint + AllocGlobal,
+    I: Read,
+    W: Write,
+>(
     rt: &R,
+    host: &HostRuntime,
     command: &Command<'_>,
     is_watched: bool,
     reader: &mut I,
     output: &mut W,
-) -> Result<Option<Tally>, ZarrsFault>
-    ensures ok { IfOk result (WritesOverSource
-        command.now.word command.now.source.now command.now.path.now
+) -> Result<Answered, ZarrsFault>
+    ensures ok { IfOk result (WritesRequest
+        command.now.request command.now.source.now command.now.path.now
         (I.remaining reader.old) (W.contents output.old) (W.contents output.new)) }
-    ensures refused { IfErr result (RefusesOverSource
-        command.now.word command.now.source.now command.now.path.now
+    ensures refused { IfErr result (RefusesRequest
+        command.now.request command.now.source.now command.now.path.now
         (I.remaining reader.old) (I.remaining reader.new)) }
     ensures silent { IfErr result (λ fault. fault ≢ ZarrsFault.Write
         → Keeps (W.contents output.old) (W.contents output.new)) }
 {
-    if command.source == "-" {
-        return run_of_image(rt, rt.alloc(), command.word, command.path, reader, output);
+    let (source, path) = (command.source, command.path);
+    match command.request {
+        Request::Look(word) => {
+            let tally = look(rt, word, source, path, is_watched, reader, output)?;
+            Ok(Answered::Looked(tally))
+        }
+        Request::Consolidate(options) => {
+            let end = consolidate_disk(rt, host, options, source, path, is_watched, output)?;
+            Ok(Answered::Consolidated(end))
+        }
     }
-    run_disk(
-        rt,
-        command.word,
-        command.source,
-        command.path,
-        is_watched,
-        output,
-    )
+}
+
+// Writes what a word asks of the store that a source names.
+fn look<R: Log + Files + Clock + Eprint + AllocGlobal, I: Read, W: Write>(
+    rt: &R,
+    word: Word,
+    source: &str,
+    path: &str,
+    is_watched: bool,
+    reader: &mut I,
+    output: &mut W,
+) -> Result<Option<Tally>, ZarrsFault>
+    ensures ok { IfOk result (WritesOverSource word source.now path.now
+        (I.remaining reader.old) (W.contents output.old) (W.contents output.new)) }
+    ensures refused { IfErr result (RefusesOverSource word source.now path.now
+        (I.remaining reader.old) (I.remaining reader.new)) }
+    ensures silent { IfErr result (λ fault. fault ≢ ZarrsFault.Write
+        → Keeps (W.contents output.old) (W.contents output.new)) }
+{
+    if source == "-" {
+        return run_of_image(rt, rt.alloc(), word, path, reader, output);
+    }
+    run_disk(rt, word, source, path, is_watched, output)
+}
+
+// Writes the block of a group of a folder of the system back, or removes it.
+fn consolidate_disk<
+    R: Log + Files + Clock + Eprint + AllocGlobal,
+    W: Write,
+>(
+    rt: &R,
+    host: &HostRuntime,
+    options: ConsolidateOptions,
+    source: &str,
+    path: &str,
+    is_watched: bool,
+    output: &mut W,
+) -> Result<Consolidated, ZarrsFault>
+    ensures ok { IfOk result
+        (WritesConsolidated options path.now (W.contents output.old) (W.contents output.new)) }
+    ensures refused { IfErr result (RefusesConsolidating options path.now) }
+    ensures silent { IfErr result (λ fault. fault ≢ ZarrsFault.Write
+        → Keeps (W.contents output.old) (W.contents output.new)) }
+{
+    let mut disk = Disk::open(rt, source)?.telling(is_watched);
+    let folder = folder_of(rt.alloc(), source, path)?;
+    consolidate_opened(rt, host, options, folder.as_str(), path, &mut disk, output)
+}
+
+// The same once the folder of the store is opened.
+fn consolidate_opened<
+    'a,
+    R: Log + Files + Clock + Eprint + AllocGlobal,
+    W: Write,
+>(
+    rt: &R,
+    host: &HostRuntime,
+    options: ConsolidateOptions,
+    place: &str,
+    path: &str,
+    disk: &mut Disk<'a, R>,
+    output: &mut W,
+) -> Result<Consolidated, ZarrsFault>
+    ensures ok { IfOk result
+        (WritesConsolidated options path.now (W.contents output.old) (W.contents output.new)) }
+    ensures refused { IfErr result (RefusesConsolidating options path.now) }
+    ensures silent { IfErr result (λ fault. fault ≢ ZarrsFault.Write
+        → Keeps (W.contents output.old) (W.contents output.new)) }
+{
+    consolidate_at(rt, host, options, place, path, disk, output)
+}
+
+// Writes the block of a group of a folder back, or removes it, where this is the path of the folder of its document.
+fn consolidate_at<L: Log, F: Folder, W: Write>(
+    log: &L,
+    host: &HostRuntime,
+    options: ConsolidateOptions,
+    place: &str,
+    path: &str,
+    folder: &mut F,
+    output: &mut W,
+) -> Result<Consolidated, ZarrsFault>
+    ensures ok { IfOk result
+        (WritesConsolidated options path.now (W.contents output.old) (W.contents output.new)) }
+    ensures refused { IfErr result (RefusesConsolidating options path.now) }
+    ensures silent { IfErr result (λ fault. fault ≢ ZarrsFault.Write
+        → Keeps (W.contents output.old) (W.contents output.new)) }
+{
+    let mut place = WrittenDisk::new(host, place);
+    consolidate_placed(log, options, path, folder, &mut place, host, output)
+}
+
+// The same once the folder of the document is at hand.
+fn consolidate_placed<'a, L: Log, F: Folder, W: Write>(
+    log: &L,
+    options: ConsolidateOptions,
+    path: &str,
+    folder: &mut F,
+    place: &mut WrittenDisk<'a, HostRuntime>,
+    host: &HostRuntime,
+    output: &mut W,
+) -> Result<Consolidated, ZarrsFault>
+    ensures ok { IfOk result
+        (WritesConsolidated options path.now (W.contents output.old) (W.contents output.new)) }
+    ensures refused { IfErr result (RefusesConsolidating options path.now) }
+    ensures silent { IfErr result (λ fault. fault ≢ ZarrsFault.Write
+        → Keeps (W.contents output.old) (W.contents output.new)) }
+{
+    consolidate_folder(log, host.alloc(), options, path, folder, place, output)
+}
+
+// The path of the folder of the node at a path of the store in a folder.
+fn folder_of(alloc: Global, source: &str, path: &str) -> Result<String, AllocError> {
+    if path == "/" {
+        return String::from_str(alloc, source);
+    }
+    let folder = source.strip_suffix('/').unwrap_or(source);
+    format!(in alloc; "{folder}{path}")
 }
 
 // Writes what a word asks of a folder of the system.
@@ -163,14 +303,17 @@ fn run_opened<'a, R: Log + Files + Clock + Eprint + AllocGlobal, W: Write>(
 fn no_node<R: Log + Files + Clock + Eprint + AllocGlobal>(
     rt: &R,
     words: &[String],
-    outcome: &Result<Option<Tally>, ZarrsFault>,
+    outcome: &Result<Answered, ZarrsFault>,
 ) -> Option<String>
     ensures { IfErr outcome.now (λ fault.
         IsHint (texts words.now) fault (option_map string_bytes result)) }
 {
-    let Err(ZarrsFault::Node(NodeCreateError::MissingMetadata(_))) = outcome else {
+    let Err(fault) = outcome else {
         return None;
     };
+    if !is_no_node(fault) {
+        return None;
+    }
     let Ok(Asked::Store(command)) = parse(words) else {
         return None;
     };
@@ -179,4 +322,15 @@ fn no_node<R: Log + Files + Clock + Eprint + AllocGlobal>(
     }
     let mut disk = Disk::open(rt, command.source).ok()?;
     nowhere_in_folder(rt.alloc(), command.source, &mut disk, command.path).ok()
+}
+
+// Whether a fault is that there is no node at the path.
+fn is_no_node(fault: &ZarrsFault) -> bool
+    ensures { IsTrue result → IsNoNode fault.now }
+{
+    match fault {
+        ZarrsFault::Node(NodeCreateError::MissingMetadata(_)) => true,
+        ZarrsFault::Consolidate(ConsolidateError::Node(NodeCreateError::MissingMetadata(_))) => true,
+        _ => false,
+    }
 }

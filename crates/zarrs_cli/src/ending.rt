@@ -3,8 +3,9 @@ ghost use Rattle.std.specs.Prelude.{◌≡◌, ◌≢◌, IfErr, IfOk, OnOk, str
 ghost use Rattle.std.specs.Option.{option_map};
 ghost use Rattle.zarrs_cli.specs.Escapes.{escaped_text};
 ghost use Rattle.zarrs_cli.specs.RefusalLines.{SaysReason, reason_text};
-ghost use Rattle.zarrs_cli.specs.Refusals.{run_status};
+ghost use Rattle.zarrs_cli.specs.Refusals.{answered_status, run_status};
 
+use crate::consolidate::Consolidated;
 use crate::escapes::escaped;
 use crate::fault::ZarrsFault;
 use crate::report::Tally;
@@ -12,6 +13,18 @@ use crate::usage::USAGE;
 use std::alloc::{AllocError, Global};
 use std::io::Write;
 use zarrs_program::{WriteFault, tell, write_whole};
+
+/// How a run ends that is not refused.
+///
+/// Source: own.
+/// <https://pubs.opengroup.org/onlinepubs/9699919799/utilities/V3_chap01.html>
+#[derive(Clone, Copy, Debug, PartialEq, Eq)]
+pub enum Answered {
+    /// What was asked is shown; of a check, how much it looked at and found.
+    Looked(Option<Tally>),
+    /// A block is written or removed, or, by a dry run, would be.
+    Consolidated(Consolidated),
+}
 
 /// How a run ended.
 ///
@@ -30,7 +43,7 @@ pub struct Ending {
 /// Source: own.
 pub fn finish<W: Write>(
     alloc: Global,
-    outcome: &Result<Option<Tally>, ZarrsFault>,
+    outcome: &Result<Answered, ZarrsFault>,
     no_node: &Option<String>,
     writer: &mut W,
 ) -> Ending
@@ -40,18 +53,34 @@ pub fn finish<W: Write>(
         (W.contents writer.old) (W.contents writer.new))) }
 {
     match outcome {
-        Ok(None) => Ending {
-            status: 0,
-            said: Ok(()),
-        },
-        Ok(Some(tally)) => Ending {
-            status: u8::from(tally.findings > 0),
-            said: tell("zarrs", tally, writer),
+        Ok(answered) => Ending {
+            status: status_of(answered),
+            said: say_tally(answered, writer),
         },
         Err(fault) => Ending {
             status: 2,
             said: say_reason(alloc, fault, no_node, writer),
         },
+    }
+}
+
+// The exit status of a run that is not refused.
+fn status_of(answered: &Answered) -> u8
+    ensures { result ≡ answered_status answered.now }
+{
+    match answered {
+        Answered::Looked(None) => 0,
+        Answered::Looked(Some(tally)) => u8::from(tally.findings > 0),
+        Answered::Consolidated(Consolidated::Complete) => 0,
+        Answered::Consolidated(Consolidated::Due) => 1,
+    }
+}
+
+// Writes how much a check looked at and found, where it was one.
+fn say_tally<W: Write>(answered: &Answered, writer: &mut W) -> Result<(), WriteFault> {
+    match answered {
+        Answered::Looked(Some(tally)) => tell("zarrs", tally, writer),
+        _ => Ok(()),
     }
 }
 

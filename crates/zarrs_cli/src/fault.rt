@@ -1,15 +1,17 @@
 //! Why the program refuses.
 ghost use Rattle.std.specs.Prelude.{◌≡◌, Some};
 ghost use Rattle.zarrs_cli.specs.FaultTexts.{zarrs_fault_text};
-ghost use Rattle.zarrs_cli.specs.declared.fault.ZarrsFault.TheVariants.{Folder, Load, Node, OutOfMemory, Write};
+ghost use Rattle.zarrs_cli.specs.declared.fault.ZarrsFault.TheVariants.{Consolidate, Folder, Load, Node, OutOfMemory, Replace, Write};
 
 use std::alloc::{AllocError, AllocFailed};
 use std::error::Error;
 use std::fmt;
 use zarrs_block::NodeCreateError;
+use zarrs_consolidate::ConsolidateError;
 use zarrs_folder::FolderFault;
 use zarrs_load::LoadFault;
 use zarrs_program::{WordsFault, WriteFault};
+use zarrs_write::ReplaceError;
 
 /// Why a run of the program is refused.
 ///
@@ -24,6 +26,12 @@ pub enum ZarrsFault {
     Folder(FolderFault),
     /// The path is none, or its nodes are refused, or the store failed.
     Node(NodeCreateError),
+    /// The document that is shown would nest deeper than any that is read.
+    TooDeep,
+    /// It is not known what becomes of the block of the group at the path.
+    Consolidate(ConsolidateError),
+    /// The document that holds the block was not replaced or not removed.
+    Replace(ReplaceError),
     /// The writer failed.
     Write,
     /// Out of memory.
@@ -40,6 +48,11 @@ impl fmt::Display for ZarrsFault {
             ZarrsFault::Load(fault) => write!(f, "{fault}"),
             ZarrsFault::Folder(fault) => write!(f, "{fault}"),
             ZarrsFault::Node(error) => write!(f, "{error}"),
+            ZarrsFault::TooDeep => {
+                f.write_str("the document would nest deeper than any that is read")
+            }
+            ZarrsFault::Consolidate(error) => write!(f, "{error}"),
+            ZarrsFault::Replace(error) => write!(f, "{error}"),
             ZarrsFault::Write => f.write_str("write fault"),
             ZarrsFault::OutOfMemory => f.write_str("out of memory"),
         }
@@ -86,6 +99,22 @@ impl From<FolderFault> for ZarrsFault {
 
     fn from(error: FolderFault) -> ZarrsFault {
         ZarrsFault::Folder(error)
+    }
+}
+
+impl From<ConsolidateError> for ZarrsFault {
+    ghost from_gives = { λ error fault. fault ≡ Consolidate error };
+
+    fn from(error: ConsolidateError) -> ZarrsFault {
+        ZarrsFault::Consolidate(error)
+    }
+}
+
+impl From<ReplaceError> for ZarrsFault {
+    ghost from_gives = { λ error fault. fault ≡ Replace error };
+
+    fn from(error: ReplaceError) -> ZarrsFault {
+        ZarrsFault::Replace(error)
     }
 }
 

@@ -36,8 +36,8 @@ use zarrs_store::{
 };
 use zarrs_survey::{BadDocuments, CheckedFrom, Finding, FindingKind, PathCheck};
 
-/// Loads what a word asks of a folder from a path on, and writes its answer, as [`run_store`] does: of a group whose block is used, and of an array, the documents
-/// at the path only; else what a walk from the path on asks. Documents may hold any number.
+/// Loads what a word asks of a folder from a path on, and writes its answer, as [`run_store`] does: of a group whose block is used, of an array, and where a
+/// document is shown, the documents at the path only; else what a walk from the path on asks. Documents may hold any number.
 ///
 /// # Errors
 /// `Folder` where a folder or a file is not read; the refusals of [`run_store`].
@@ -132,6 +132,7 @@ fn load_for<F: Folder>(
         Word::Tree => load_shown(alloc, UseConsolidatedMetadata::Auto, folder, base)?,
         Word::StoreTree => load_shown(alloc, UseConsolidatedMetadata::Never, folder, base)?,
         Word::List => load_shown(alloc, UseConsolidatedMetadata::Never, folder, base)?,
+        Word::Show => load_document(alloc, folder, base)?,
         Word::Check(_) => return load_checked(alloc, folder, base),
     };
     Ok(Loaded {
@@ -352,6 +353,21 @@ fn load_shown<F: Folder>(
         return Ok(store);
     }
     let store = load_below(alloc, folder, base, store)?;
+    Ok(store)
+}
+
+// What the document that is shown looks at: the documents of the path.
+fn load_document<F: Folder>(
+    alloc: Global,
+    folder: &mut F,
+    base: &NodePath,
+) -> Result<AnyNumbers<MemoryStore>, ZarrsFault>
+    ensures ok { IfOk result (λ loaded. (V : Values) → F.agrees folder.new V
+        → meaning (in_any (values_of loaded.inner)) Default base.now
+        ≡ meaning (in_any V) Default base.now) }
+    ensures err { IfErr result RefusesFolder }
+{
+    let store = load_base(alloc, folder, base)?;
     Ok(store)
 }
 

@@ -1,7 +1,9 @@
-//! What the program `zarrs` does: its words, what each writes of a store, its refusals, and a whole run of it.
+//! What the program `zarrs` does: its words, what each writes of a store or writes back to it, its refusals, and a whole run of it.
 #![tactic(auto)]
 
 mod answers;
+mod consolidate;
+mod document;
 mod ending;
 mod escapes;
 mod fault;
@@ -20,7 +22,8 @@ mod warnings;
 mod words;
 
 pub use answers::answer;
-pub use ending::{Ending, finish};
+pub use consolidate::{Consolidated, consolidate_folder};
+pub use ending::{Answered, Ending, finish};
 pub use escapes::{escaped, push_line};
 pub use fault::ZarrsFault;
 pub use folder::run_of_folder;
@@ -29,4 +32,4 @@ pub use report::Tally;
 pub use run::{run_of_image, run_store};
 pub use usage::{USAGE, VERSION};
 pub use warnings::Warnings;
-pub use words::{Asked, CheckOptions, Command, Word, parse};
+pub use words::{Asked, CheckOptions, Command, ConsolidateOptions, Request, Word, parse};

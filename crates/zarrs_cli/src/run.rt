@@ -5,6 +5,7 @@ ghost use Rattle.zarrs_cli.specs.Output.{IsWordText, WritesOverImage, WritesWord
 ghost use Rattle.zarrs_cli.specs.Refusals.{RefusesOverImage, RefusesRun};
 ghost use Rattle.zarrs_cli.specs.StepsOfRuns.{IsAnswerFault};
 
+use crate::document::document_shown;
 use crate::fault::ZarrsFault;
 use crate::image::load_image;
 use crate::report::{Tally, report};
@@ -22,7 +23,8 @@ use zarrs_store::{ListableStorageTraits, ReadableStorageTraits};
 /// and found.
 ///
 /// # Errors
-/// `Node` where the path is none, the tree or the list is refused, or a store that can fail did; `Write` where the writer fails; `OutOfMemory`.
+/// `Node` where the path is none, the tree, the list or the document is refused, or a store that can fail did; `TooDeep` where the document with its
+/// attributes nests deeper than any that is read; `Write` where the writer fails; `OutOfMemory`.
 /// Save after `Write`, nothing was written.
 pub fn run_store<L: Log, S: ReadableStorageTraits + ListableStorageTraits, W: Write>(
     log: &L,
@@ -92,6 +94,10 @@ pub(crate) fn output_of<L: Log, S: ReadableStorageTraits + ListableStorageTraits
         }
         Word::List => {
             let text = list_text(log, alloc, store, base)?;
+            Ok((None, text))
+        }
+        Word::Show => {
+            let text = document_shown(alloc, store, base)?;
             Ok((None, text))
         }
         Word::Check(options) => {

@@ -1,11 +1,11 @@
 //! What the words of a call ask.
 ghost use Rattle.std.specs.Prelude.{◌≡◌, ◌≢◌, [], ◌∷◌, IfOk, IfErr, codes};
 ghost use Rattle.zarrs_program.specs.Words.{texts};
-ghost use Rattle.zarrs_cli.specs.Words.{AreWords, AskFor, IsCheckSource, IsSource, spelling};
+ghost use Rattle.zarrs_cli.specs.Words.{AreWords, AskFor, IsCheckSource, IsFolderSource, IsRequestSource, request_words};
 
 use crate::fault::ZarrsFault;
 
-/// What is asked of a store.
+/// What is asked about a store, which stays as it is.
 ///
 /// Source: own.
 /// <https://zarr-specs.readthedocs.io/en/latest/v3/core/index.html#hierarchy>
@@ -17,6 +17,8 @@ pub enum Word {
     StoreTree,
     /// The paths of the nodes, by the store.
     List,
+    /// The document of the node at the path, with its attributes.
+    Show,
     /// The report on what is bad.
     Check(CheckOptions),
 }
@@ -33,15 +35,39 @@ pub struct CheckOptions {
     pub json: bool,
 }
 
-/// A word, where the store is, and the path that is asked about.
+/// What becomes of the block of a group, and whether it is only told.
+///
+/// Source: own.
+/// <https://zarr-specs.readthedocs.io/en/latest/v3/core/index.html#group-metadata>
+#[derive(Clone, Copy, Debug, PartialEq, Eq)]
+pub struct ConsolidateOptions {
+    /// Whether nothing is written, and what would be is told.
+    pub dry_run: bool,
+    /// Whether the block is removed, and not made anew.
+    pub remove: bool,
+}
+
+/// What is asked of a store: what it has is shown, or the block of a group is written back.
+///
+/// Source: own.
+/// <https://zarr-specs.readthedocs.io/en/latest/v3/core/index.html#hierarchy>
+#[derive(Clone, Copy, Debug, PartialEq, Eq)]
+pub enum Request {
+    /// What it has is shown.
+    Look(Word),
+    /// The block of the group at the path is made of what a listing finds, and written; or it is removed.
+    Consolidate(ConsolidateOptions),
+}
+
+/// A request, where the store is, and the path that is asked about.
 ///
 /// Source: own.
 /// <https://zarr-specs.readthedocs.io/en/latest/v3/core/index.html#hierarchy>
 #[derive(Clone, Copy, Debug)]
 pub struct Command<'a> {
     /// What is asked.
-    pub word: Word,
-    /// A folder, or `-` for an image on standard input.
+    pub request: Request,
+    /// A folder, or, of what is shown, `-` for an image on standard input.
     pub source: &'a str,
     /// The path, which is `/` where it is left out.
     pub path: &'a str,
@@ -112,9 +138,13 @@ fn asked_of<'a>(word: &str, source: &'a str) -> Result<Asked<'a>, ZarrsFault>
     ensures err { IfErr result
         (λ fault. (fault ≡ ZarrsFault.Usage) × (AreWords (word.now ∷ source.now ∷ []) → ⊥)) }
 {
-    let word = word_of(word, source)?;
+    let request = request_of(word, source)?;
     let path = "/";
-    Ok(Asked::Store(Command { word, source, path }))
+    Ok(Asked::Store(Command {
+        request,
+        source,
+        path,
+    }))
 }
 
 // What three words ask: a word, a source and a path, or a word with an option, and a source.
@@ -124,16 +154,16 @@ fn asked_at<'a>(word: &str, second: &'a str, third: &'a str) -> Result<Asked<'a>
         (λ fault. (fault ≡ ZarrsFault.Usage)
         × (AreWords (word.now ∷ second.now ∷ third.now ∷ []) → ⊥)) }
 {
-    if let Ok(word) = word_by(word, second, third) {
+    if let Ok(request) = request_by(word, second, third) {
         return Ok(Asked::Store(Command {
-            word,
+            request,
             source: third,
             path: "/",
         }));
     }
-    let word = word_of(word, second)?;
+    let request = request_of(word, second)?;
     Ok(Asked::Store(Command {
-        word,
+        request,
         source: second,
         path: third,
     }))
@@ -152,16 +182,16 @@ fn asked_by_option<'a>(
         (λ fault. (fault ≡ ZarrsFault.Usage)
         × (AreWords (word.now ∷ second.now ∷ third.now ∷ fourth.now ∷ []) → ⊥)) }
 {
-    if let Ok(word) = word_by_two(word, second, third, fourth) {
+    if let Ok(request) = request_by_two(word, second, third, fourth) {
         return Ok(Asked::Store(Command {
-            word,
+            request,
             source: fourth,
             path: "/",
         }));
     }
-    let word = word_by(word, second, third)?;
+    let request = request_by(word, second, third)?;
     Ok(Asked::Store(Command {
-        word,
+        request,
         source: third,
         path: fourth,
     }))
@@ -181,88 +211,102 @@ fn asked_by_options<'a>(
         (λ fault. (fault ≡ ZarrsFault.Usage)
         × (AreWords (word.now ∷ first.now ∷ second.now ∷ source.now ∷ path.now ∷ []) → ⊥)) }
 {
-    let word = word_by_two(word, first, second, source)?;
-    Ok(Asked::Store(Command { word, source, path }))
+    let request = request_by_two(word, first, second, source)?;
+    Ok(Asked::Store(Command {
+        request,
+        source,
+        path,
+    }))
 }
 
-// The word before a source.
-fn word_of(word: &str, source: &str) -> Result<Word, ZarrsFault>
+// The request before a source.
+fn request_of(word: &str, source: &str) -> Result<Request, ZarrsFault>
     ensures ok { IfOk result
-        (λ found. (spelling found ≡ word.now ∷ []) × IsSource found source.now) }
+        (λ found. (request_words found ≡ word.now ∷ []) × IsRequestSource found source.now) }
     ensures err { IfErr result (λ fault. (fault ≡ ZarrsFault.Usage)
-        × ((found : Word) → (spelling found ≡ word.now ∷ []) × IsSource found source.now → ⊥)) }
+        × ((found : Request) → (request_words found ≡ word.now ∷ [])
+        × IsRequestSource found source.now → ⊥)) }
 {
     match word {
         "tree" => tree_of(source),
-        "list" => Ok(Word::List),
+        "list" => Ok(Request::Look(Word::List)),
+        "show" => Ok(Request::Look(Word::Show)),
         "check" => check_of(false, false, source),
+        "consolidate" => consolidate_of(false, false, source),
         _ => Err(ZarrsFault::Usage),
     }
 }
 
-// The word with an option before a source.
-fn word_by(word: &str, option: &str, source: &str) -> Result<Word, ZarrsFault>
+// The request with an option before a source.
+fn request_by(word: &str, option: &str, source: &str) -> Result<Request, ZarrsFault>
     ensures ok { IfOk result
-        (λ found. (spelling found ≡ word.now ∷ option.now ∷ []) × IsSource found source.now) }
+        (λ found. (request_words found ≡ word.now ∷ option.now ∷ [])
+        × IsRequestSource found source.now) }
     ensures err { IfErr result (λ fault. (fault ≡ ZarrsFault.Usage)
-        × ((found : Word) → (spelling found ≡ word.now ∷ option.now ∷ [])
-        × IsSource found source.now → ⊥)) }
+        × ((found : Request) → (request_words found ≡ word.now ∷ option.now ∷ [])
+        × IsRequestSource found source.now → ⊥)) }
 {
     match word {
         "tree" => store_tree_by(option),
         "check" => check_by(option, source),
+        "consolidate" => consolidate_by(option, source),
         _ => Err(ZarrsFault::Usage),
     }
 }
 
-// The word with two options before a source.
-fn word_by_two(word: &str, first: &str, second: &str, source: &str) -> Result<Word, ZarrsFault>
+// The request with two options before a source.
+fn request_by_two(word: &str, first: &str, second: &str, source: &str) -> Result<Request, ZarrsFault>
     ensures ok { IfOk result
-        (λ found. (spelling found ≡ word.now ∷ first.now ∷ second.now ∷ [])
-        × IsSource found source.now) }
+        (λ found. (request_words found ≡ word.now ∷ first.now ∷ second.now ∷ [])
+        × IsRequestSource found source.now) }
     ensures err { IfErr result (λ fault. (fault ≡ ZarrsFault.Usage)
-        × ((found : Word) → (spelling found ≡ word.now ∷ first.now ∷ second.now ∷ [])
-        × IsSource found source.now → ⊥)) }
+        × ((found : Request) → (request_words found ≡ word.now ∷ first.now ∷ second.now ∷ [])
+        × IsRequestSource found source.now → ⊥)) }
 {
-    if word == "check" && first == "--notes" && second == "--json" {
-        return check_of(true, true, source);
+    match word {
+        "check" if first == "--notes" && second == "--json" => check_of(true, true, source),
+        "consolidate" if first == "--dry-run" && second == "--remove" => {
+            consolidate_of(true, true, source)
+        }
+        _ => Err(ZarrsFault::Usage),
     }
-    Err(ZarrsFault::Usage)
 }
 
 // The word `tree` before a source.
-fn tree_of(source: &str) -> Result<Word, ZarrsFault>
-    ensures ok { IfOk result (λ found. (found ≡ Word.Tree) × IsSource Word.Tree source.now) }
+fn tree_of(source: &str) -> Result<Request, ZarrsFault>
+    ensures ok { IfOk result (λ found. (found ≡ Request.Look Word.Tree)
+        × IsRequestSource (Request.Look Word.Tree) source.now) }
     ensures err { IfErr result
-        (λ fault. (fault ≡ ZarrsFault.Usage) × (IsSource Word.Tree source.now → ⊥)) }
+        (λ fault. (fault ≡ ZarrsFault.Usage)
+        × (IsRequestSource (Request.Look Word.Tree) source.now → ⊥)) }
 {
     if source == "--store" {
         return Err(ZarrsFault::Usage);
     }
-    Ok(Word::Tree)
+    Ok(Request::Look(Word::Tree))
 }
 
 // The word `tree` with an option.
-fn store_tree_by(option: &str) -> Result<Word, ZarrsFault>
+fn store_tree_by(option: &str) -> Result<Request, ZarrsFault>
     ensures ok { IfOk result
-        (λ found. (found ≡ Word.StoreTree) × (option.now ≡ codes "--store")) }
+        (λ found. (found ≡ Request.Look Word.StoreTree) × (option.now ≡ codes "--store")) }
     ensures err { IfErr result
         (λ fault. (fault ≡ ZarrsFault.Usage) × (option.now ≢ codes "--store")) }
 {
     if option == "--store" {
-        return Ok(Word::StoreTree);
+        return Ok(Request::Look(Word::StoreTree));
     }
     Err(ZarrsFault::Usage)
 }
 
 // The word `check` with an option before a source.
-fn check_by(option: &str, source: &str) -> Result<Word, ZarrsFault>
+fn check_by(option: &str, source: &str) -> Result<Request, ZarrsFault>
     ensures ok { IfOk result
-        (λ found. (spelling found ≡ codes "check" ∷ option.now ∷ [])
-        × IsSource found source.now) }
+        (λ found. (request_words found ≡ codes "check" ∷ option.now ∷ [])
+        × IsRequestSource found source.now) }
     ensures err { IfErr result (λ fault. (fault ≡ ZarrsFault.Usage)
-        × ((found : Word) → (spelling found ≡ codes "check" ∷ option.now ∷ [])
-        × IsSource found source.now → ⊥)) }
+        × ((found : Request) → (request_words found ≡ codes "check" ∷ option.now ∷ [])
+        × IsRequestSource found source.now → ⊥)) }
 {
     match option {
         "--notes" => check_of(true, false, source),
@@ -272,9 +316,9 @@ fn check_by(option: &str, source: &str) -> Result<Word, ZarrsFault>
 }
 
 // The word `check` with its options before a source.
-fn check_of(notes: bool, json: bool, source: &str) -> Result<Word, ZarrsFault>
+fn check_of(notes: bool, json: bool, source: &str) -> Result<Request, ZarrsFault>
     ensures ok { IfOk result
-        (λ found. (found ≡ Word.Check (record { notes = notes; json = json }))
+        (λ found. (found ≡ Request.Look (Word.Check (record { notes = notes; json = json })))
         × IsCheckSource source.now) }
     ensures err { IfErr result
         (λ fault. (fault ≡ ZarrsFault.Usage) × (IsCheckSource source.now → ⊥)) }
@@ -282,5 +326,36 @@ fn check_of(notes: bool, json: bool, source: &str) -> Result<Word, ZarrsFault>
     if source == "--notes" || source == "--json" {
         return Err(ZarrsFault::Usage);
     }
-    Ok(Word::Check(CheckOptions { notes, json }))
+    Ok(Request::Look(Word::Check(CheckOptions { notes, json })))
+}
+
+// The word `consolidate` with an option before a source.
+fn consolidate_by(option: &str, source: &str) -> Result<Request, ZarrsFault>
+    ensures ok { IfOk result
+        (λ found. (request_words found ≡ codes "consolidate" ∷ option.now ∷ [])
+        × IsRequestSource found source.now) }
+    ensures err { IfErr result (λ fault. (fault ≡ ZarrsFault.Usage)
+        × ((found : Request) → (request_words found ≡ codes "consolidate" ∷ option.now ∷ [])
+        × IsRequestSource found source.now → ⊥)) }
+{
+    match option {
+        "--dry-run" => consolidate_of(true, false, source),
+        "--remove" => consolidate_of(false, true, source),
+        _ => Err(ZarrsFault::Usage),
+    }
+}
+
+// The word `consolidate` with its options before a source.
+fn consolidate_of(dry_run: bool, remove: bool, source: &str) -> Result<Request, ZarrsFault>
+    ensures ok { IfOk result
+        (λ found. (found
+        ≡ Request.Consolidate (record { dry_run = dry_run; remove = remove }))
+        × IsFolderSource source.now) }
+    ensures err { IfErr result
+        (λ fault. (fault ≡ ZarrsFault.Usage) × (IsFolderSource source.now → ⊥)) }
+{
+    if source == "-" || source == "--dry-run" || source == "--remove" {
+        return Err(ZarrsFault::Usage);
+    }
+    Ok(Request::Consolidate(ConsolidateOptions { dry_run, remove }))
 }
