@@ -92,7 +92,12 @@ fn metadata_of(alloc: Global, given: &str) -> Result<GroupMetadata, GroupCreateE
     }
 }
 
-fn group_of(alloc: Global, given: &str, config: &Config) -> Result<Group, GroupCreateError> {
+/// The group at `/g` with the metadata that three fields are.
+pub(crate) fn group_of(
+    alloc: Global,
+    given: &str,
+    config: &Config,
+) -> Result<Group, GroupCreateError> {
     let metadata = metadata_of(alloc, given)?;
     Group::new_with_metadata(alloc, "/g", metadata, config)
 }

@@ -13,7 +13,9 @@ use Rattle.zarrs_form.proofs.AttributeLaws.{not_true}
 use Rattle.zarrs_form.proofs.MemberLaws.{no_float-put}
 use Rattle.zarrs_meta.specs.ArrayV2.{is_plain_array_v2}
 use Rattle.zarrs_meta.specs.GroupV2.{is_plain_group_v2}
-use Rattle.zarrs_meta.specs.Node.{node_tree, is_plain_node, array_without_attributes, group_without_attributes}
+use Rattle.zarrs_fault.specs.declared.numbers.Numbers.{Numbers}
+use Rattle.zarrs_fault.specs.declared.numbers.Numbers.TheVariants.{Whole, Any}
+use Rattle.zarrs_meta.specs.Node.{node_tree, is_plain_node, is_plain_node_in, array_without_attributes, group_without_attributes}
 use Rattle.zarrs_meta.specs.declared.array_v2.ArrayMetadataV2.{ArrayMetadataV2}
 use Rattle.zarrs_meta.specs.declared.group_v2.GroupMetadataV2.{GroupMetadataV2}
 use Rattle.zarrs_meta.specs.declared.node.ArrayMetadata.TheVariants.{V2 as array_v2, V3 as array_v3}
@@ -30,9 +32,8 @@ use Rattle.zarrs_block.specs.BlockExpansion.{is_covered, path_at, paths_at, pair
 use Rattle.zarrs_block.specs.Zmetadata.{attributes_written, node_written, nodes_written, put_documents, zmetadata_tree}
 use Rattle.zarrs_block.proofs.BlockLaws.{shown}
 use Rattle.zarrs_block.proofs.KeyLaws.{no_slash}
-use Rattle.zarrs_group.specs.Plain.{node_fields, node_has_float, entries_of, block_fault, group_v2_fault}
-use Rattle.zarrs_group.proofs.PlainLaws.{plain_v2}
-use Rattle.zarrs_group.proofs.MeaningLaws.{plain_without}
+use Rattle.zarrs_group.specs.Plain.{node_fields, node_exceeds, entries_of, block_fault_in, group_v2_fault_in}
+use Rattle.zarrs_group.proofs.PlainLaws.{plain_v2, plain_without}
 
 -- ---- a plain node
 
@@ -43,12 +44,13 @@ fields_fit (Group (group_v2 m)) plain = (G2.plain_group_v2 m plain).1
 fields_fit (Array (array_v3 m)) plain = not_true (members_have_float m.additional_fields) (A3.plain_parts m plain).7
 fields_fit (Array (array_v2 m)) plain = (A2.plain_array_v2 m plain).6
 
--- a plain node has no float
-no_float_node : (m : NodeMetadata) → is_plain_node m ≡ true → node_has_float m ≡ false
-no_float_node m plain =
+-- a node that is plain in some numbers has none beyond them
+none_beyond : (numbers : Numbers) (m : NodeMetadata) → is_plain_node_in numbers m ≡ true → node_exceeds numbers m ≡ false
+none_beyond Whole m plain =
     let tree : has_float (node_tree m) ≡ false = node_no_float m plain in
     let fields : members_have_float (node_fields m) ≡ false = fields_fit m plain in
     rw (tree, fields) refl
+none_beyond Any m plain = refl
 
 -- ---- the fault, key by key
 
@@ -57,42 +59,42 @@ abbrev pub entries_left : Block → Block → List (Path × NodeMetadata)
 entries_left B left = pairs_at (paths_at [] B left) left
 
 -- the fault of the entries that are left, where an earlier one clashes or none does
-abbrev pub fault_left : Bool → List (Path × NodeMetadata) → Option MetadataFault
-fault_left clash es =
-    if list_any (λ e. node_has_float e.1) es then Some UnsupportedNumber
-    else if not clash && list_all (λ e. is_plain_node e.1) es then None
+abbrev pub fault_left : Numbers → Bool → List (Path × NodeMetadata) → Option MetadataFault
+fault_left numbers clash es =
+    if list_any (λ e. node_exceeds numbers e.1) es then Some UnsupportedNumber
+    else if not clash && list_all (λ e. is_plain_node_in numbers e.1) es then None
     else Some (BadMember (codes "metadata"))
 
 -- at first all are left, and none clashes
-pub all_left : (B : Block) (es : List (String Global × NodeMetadata)) → shown es ≡ B → fault_left false (entries_left B (shown es)) ≡ block_fault B
-all_left B es is = ap (λ left. fault_left false (entries_left B left)) is
+pub all_left : (numbers : Numbers) (B : Block) (es : List (String Global × NodeMetadata)) → shown es ≡ B → fault_left numbers false (entries_left B (shown es)) ≡ block_fault_in numbers B
+all_left numbers B es is = ap (λ left. fault_left numbers false (entries_left B left)) is
 
 -- a node that is plain changes nothing
-plain_passes : (clash : Bool) (o : Option Path) (m : NodeMetadata) (es : List (Path × NodeMetadata)) → is_plain_node m ≡ true → fault_left clash (with_pair o m es) ≡ fault_left clash es
-plain_passes clash None m es plain = refl
-plain_passes clash (Some p) m es plain = let fits : node_has_float m ≡ false = no_float_node m plain in rw (fits, plain) refl
+plain_passes : (numbers : Numbers) (clash : Bool) (o : Option Path) (m : NodeMetadata) (es : List (Path × NodeMetadata)) → is_plain_node_in numbers m ≡ true → fault_left numbers clash (with_pair o m es) ≡ fault_left numbers clash es
+plain_passes numbers clash None m es plain = refl
+plain_passes numbers clash (Some p) m es plain = let fits : node_exceeds numbers m ≡ false = none_beyond numbers m plain in rw (fits, plain) refl
 
 -- nor does a key that is none of an entry
-other_passes : (clash : Bool) (o : Option Path) (m : NodeMetadata) (es : List (Path × NodeMetadata)) → is_some o ≡ false → fault_left clash (with_pair o m es) ≡ fault_left clash es
-other_passes clash None m es none = refl
-other_passes clash (Some p) m es none = cc
+other_passes : (numbers : Numbers) (clash : Bool) (o : Option Path) (m : NodeMetadata) (es : List (Path × NodeMetadata)) → is_some o ≡ false → fault_left numbers clash (with_pair o m es) ≡ fault_left numbers clash es
+other_passes numbers clash None m es none = refl
+other_passes numbers clash (Some p) m es none = cc
 
 -- one more key, whose entry changes nothing
-pass_by : (B : Block) (clash : Bool) (left : List (String Global × NodeMetadata)) (e : String Global × NodeMetadata) (es : List (String Global × NodeMetadata)) → left ≡ e ∷ es
-    → fault_left clash (with_pair (path_at [] B (string_bytes e.0)) e.1 (entries_left B (shown es))) ≡ fault_left clash (entries_left B (shown es))
-    → fault_left clash (entries_left B (shown left)) ≡ block_fault B → fault_left clash (entries_left B (shown es)) ≡ block_fault B
-pass_by B clash left e es is step h = sym step ∙ ap (λ xs. fault_left clash (entries_left B (shown xs))) (sym is) ∙ h
+pass_by : (numbers : Numbers) (B : Block) (clash : Bool) (left : List (String Global × NodeMetadata)) (e : String Global × NodeMetadata) (es : List (String Global × NodeMetadata)) → left ≡ e ∷ es
+    → fault_left numbers clash (with_pair (path_at [] B (string_bytes e.0)) e.1 (entries_left B (shown es))) ≡ fault_left numbers clash (entries_left B (shown es))
+    → fault_left numbers clash (entries_left B (shown left)) ≡ block_fault_in numbers B → fault_left numbers clash (entries_left B (shown es)) ≡ block_fault_in numbers B
+pass_by numbers B clash left e es is step h = sym step ∙ ap (λ xs. fault_left numbers clash (entries_left B (shown xs))) (sym is) ∙ h
 
 -- a key with a plain node is passed
-pub pass_plain : (B : Block) (clash : Bool) (left : List (String Global × NodeMetadata)) (e : String Global × NodeMetadata) (es : List (String Global × NodeMetadata)) → left ≡ e ∷ es
-    → is_plain_node e.1 ≡ true → fault_left clash (entries_left B (shown left)) ≡ block_fault B → fault_left clash (entries_left B (shown es)) ≡ block_fault B
-pass_plain B clash left e es is plain = pass_by B clash left e es is (plain_passes clash (path_at [] B (string_bytes e.0)) e.1 (entries_left B (shown es)) plain)
+pub pass_plain : (numbers : Numbers) (B : Block) (clash : Bool) (left : List (String Global × NodeMetadata)) (e : String Global × NodeMetadata) (es : List (String Global × NodeMetadata)) → left ≡ e ∷ es
+    → is_plain_node_in numbers e.1 ≡ true → fault_left numbers clash (entries_left B (shown left)) ≡ block_fault_in numbers B → fault_left numbers clash (entries_left B (shown es)) ≡ block_fault_in numbers B
+pass_plain numbers B clash left e es is plain = pass_by numbers B clash left e es is (plain_passes numbers clash (path_at [] B (string_bytes e.0)) e.1 (entries_left B (shown es)) plain)
 
 -- so is a key that is that of no entry
-pub pass_other : (B : Block) (clash : Bool) (left : List (String Global × NodeMetadata)) (e : String Global × NodeMetadata) (es : List (String Global × NodeMetadata)) (t : List ℕ) → left ≡ e ∷ es
-    → t ≡ string_bytes e.0 → is_some (path_at [] B t) ≡ false → fault_left clash (entries_left B (shown left)) ≡ block_fault B → fault_left clash (entries_left B (shown es)) ≡ block_fault B
-pass_other B clash left e es t is key none =
-    pass_by B clash left e es is (other_passes clash (path_at [] B (string_bytes e.0)) e.1 (entries_left B (shown es)) (ap (λ x. is_some (path_at [] B x)) (sym key) ∙ none))
+pub pass_other : (numbers : Numbers) (B : Block) (clash : Bool) (left : List (String Global × NodeMetadata)) (e : String Global × NodeMetadata) (es : List (String Global × NodeMetadata)) (t : List ℕ) → left ≡ e ∷ es
+    → t ≡ string_bytes e.0 → is_some (path_at [] B t) ≡ false → fault_left numbers clash (entries_left B (shown left)) ≡ block_fault_in numbers B → fault_left numbers clash (entries_left B (shown es)) ≡ block_fault_in numbers B
+pass_other numbers B clash left e es t is key none =
+    pass_by numbers B clash left e es is (other_passes numbers clash (path_at [] B (string_bytes e.0)) e.1 (entries_left B (shown es)) (ap (λ x. is_some (path_at [] B x)) (sym key) ∙ none))
 
 -- ---- which keys are those of entries
 
@@ -162,7 +164,7 @@ attributes_fit (member k d ms) fits = rw fits refl
 written_fit : (m : NodeMetadata) → is_plain_node m ≡ true → list_all (λ e. not (has_float e.1)) (node_written m) ≡ true
 written_fit (Group (group_v2 m)) plain =
     let attributes = attributes_fit m.attributes (not_true (members_have_float m.attributes) (G2.plain_group_v2 m plain).0) in
-    let tree = G2.no_float-group_v2_tree (group_without_attributes m) (plain_without m plain) in
+    let tree = G2.no_float-group_v2_tree (group_without_attributes m) (plain_without Whole m plain) in
     rw (tree, attributes) refl
 written_fit (Group (group_v3 m)) plain = refl
 written_fit (Array (array_v2 m)) plain =
@@ -185,10 +187,10 @@ all_plain false true f g h = refl
 all_plain false false f g h = cc
 
 -- what is written of a plain version 2 group and a plain block has no float
-pub tree_fits : (g : GroupMetadataV2) (B : Block) → group_v2_fault g ≡ None → block_fault B ≡ None → has_float (zmetadata_tree g B) ≡ false
+pub tree_fits : (g : GroupMetadataV2) (B : Block) → group_v2_fault_in Whole g ≡ None → block_fault_in Whole B ≡ None → has_float (zmetadata_tree g B) ≡ false
 tree_fits g B own others =
-    let entries : list_all (λ e. is_plain_node e.1) (entries_of B) ≡ true = all_plain (list_any (λ e. node_has_float e.1) (entries_of B)) _ UnsupportedNumber (BadMember (codes "metadata")) others in
-    let group : is_plain_group_v2 g ≡ true = plain_v2 g own in
+    let entries : list_all (λ e. is_plain_node e.1) (entries_of B) ≡ true = all_plain (list_any (λ e. node_exceeds Whole e.1) (entries_of B)) _ UnsupportedNumber (BadMember (codes "metadata")) others in
+    let group : is_plain_group_v2 g ≡ true = plain_v2 Whole g own in
     let all : list_all (λ e. is_plain_node e.1) (([], Group (group_v2 g)) ∷ entries_of B) ≡ true = rw (group, entries) refl in
     let fits : members_have_float (nodes_written (([], Group (group_v2 g)) ∷ entries_of B)) ≡ false = nodes_fit (([], Group (group_v2 g)) ∷ entries_of B) all in
     rw fits refl

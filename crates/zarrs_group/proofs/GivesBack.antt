@@ -31,7 +31,8 @@ use Rattle.zarrs_meta.specs.declared.node.GroupMetadata.TheVariants.{V3, V2}
 use Rattle.zarrs_meta.specs.declared.node.ZarrJson.TheVariants.{Node}
 use Rattle.zarrs_meta.specs.declared.node.NodeMetadata.{NodeMetadata}
 use Rattle.zarrs_meta.specs.declared.node.NodeMetadata.TheVariants.{Group}
-use Rattle.zarrs_block.specs.Block.{Block, Entries, HasValidKeys, IsValidKey, node_at_key}
+use Rattle.zarrs_block.specs.Block.{Block, Entries, HasValidKeys, IsValidKey, block_of_in, block_tree, node_at_key}
+use Rattle.zarrs_block.proofs.MoreBlocks.{block_too}
 use Rattle.zarrs_block.specs.Zmetadata.{HasVersion2}
 use Rattle.zarrs_block.specs.Policy.{block_to_use}
 use Rattle.zarrs_block.specs.Refusals.{LacksMemory, IsExcused}
@@ -55,8 +56,8 @@ use Rattle.zarrs_group.specs.Meaning.{MeansGroup, group_v3_line, group_line, gro
 use Rattle.zarrs_group.specs.BlocksOfGroups.{held_in, held_by_in, with_block, beside_with, metadata_with, Fits, MetadataHold}
 use Rattle.zarrs_group.specs.Children.{is_listed, ListsChosen}
 use Rattle.zarrs_group.specs.Laws.{MeansStored}
-use Rattle.zarrs_group.specs.GivesBack.{Consolidates, ConsolidatesV2, GivesBack, GroupGivesBack, GroupV2GivesBack, OpensTo, StoredGivesBack}
-use Rattle.zarrs_group.proofs.BlockFields.{held_once_set}
+use Rattle.zarrs_group.specs.GivesBack.{Consolidates, ConsolidatesIn, ConsolidatesV2, GivesBack, GroupGivesBack, GroupV2GivesBack, OpensTo, StoredGivesBack, StoredGivesBackIn}
+use Rattle.zarrs_group.proofs.BlockFields.{held_as_read, held_once_set}
 use Rattle.zarrs_fault.specs.declared.numbers.Numbers.TheVariants.{Whole}
 
 -- a block that is there is used, where the policy is not Never
@@ -90,21 +91,21 @@ no_bad_key B valid (made.MissingMetadata text) h = h
 no_bad_key B valid made.OutOfMemory h = h
 
 -- a group that holds the block of a forest: its block is the one that is used
-module _ (g : GroupState) (f : Forest) (B : Block) (holds : (numbers : Numbers) → held_by_in numbers g ≡ Some B) (valid : HasValidKeys B)
+module _ (g : GroupState) (f : Forest) (B : Block) (valid : HasValidKeys B)
     (entries : (e : Path × NodeMetadata) → Entries B g.path e ↔ Contains (pairs f) e) (one : (t : Forest) → Shows t g.path (Kept (Entries B g.path) true g.path) → t ≡ f) where
   -- it is the block that is used
-  is_chosen : (numbers : Numbers) (policy : UseConsolidatedMetadata) → policy ≢ Never → block_to_use (held_by_in numbers g) policy ≡ Some (Some B)
-  is_chosen numbers policy not = ap (λ h. block_to_use h policy) (holds numbers) ∙ used_there B policy not
+  is_chosen : (numbers : Numbers) (policy : UseConsolidatedMetadata) → held_by_in numbers g ≡ Some B → policy ≢ Never → block_to_use (held_by_in numbers g) policy ≡ Some (Some B)
+  is_chosen numbers policy holds not = ap (λ h. block_to_use h policy) holds ∙ used_there B policy not
 
   -- what such a choice shows is the forest
-  chosen_shows : (s : Contents) (v : MetadataRetrieveVersion) (policy : UseConsolidatedMetadata) → policy ≢ Never → (t : Forest)
+  chosen_shows : (s : Contents) (v : MetadataRetrieveVersion) (policy : UseConsolidatedMetadata) → held_by_in s.numbers g ≡ Some B → policy ≢ Never → (t : Forest)
       → ShowsChosen s v (block_to_use (held_by_in s.numbers g) policy) true g.path t → t ≡ f
-  chosen_shows s v policy not t shows = one t (subst (λ c. ShowsChosen s v c true g.path t) (is_chosen s.numbers policy not) shows)
+  chosen_shows s v policy holds not t shows = one t (subst (λ c. ShowsChosen s v c true g.path t) (is_chosen s.numbers policy holds not) shows)
 
   -- and nothing refuses it
-  chosen_clean : (s : Contents) (v : MetadataRetrieveVersion) (policy : UseConsolidatedMetadata) → policy ≢ Never → (e : NodeCreateError)
+  chosen_clean : (s : Contents) (v : MetadataRetrieveVersion) (policy : UseConsolidatedMetadata) → held_by_in s.numbers g ≡ Some B → policy ≢ Never → (e : NodeCreateError)
       → RefusesChosen s v (block_to_use (held_by_in s.numbers g) policy) true g.path e → ⊥
-  chosen_clean s v policy not e h = no_bad_key B valid e (subst (λ c. RefusesChosen s v c true g.path e) (is_chosen s.numbers policy not) h)
+  chosen_clean s v policy holds not e h = no_bad_key B valid e (subst (λ c. RefusesChosen s v c true g.path e) (is_chosen s.numbers policy holds not) h)
 
   -- the entries of the block are the pairs
   pairs_are : (es : List (Path × NodeMetadata)) → Lists (Entries B g.path) es → Lists (Contains (pairs f)) es
@@ -116,39 +117,27 @@ module _ (g : GroupState) (f : Forest) (B : Block) (holds : (numbers : Numbers) 
   listed_by s policy is es l = subst (λ c. ListsChosen s c g.path es) is l
 
   -- so the group gives the forest back
-  pub gives_back : GivesBack g f
-  gives_back = record {
-    children = λ s config not t shows. chosen_shows s retrieve.Default config.use_consolidated not t shows;
-    traversed = λ s config not es lists. pairs_are es (listed_by s config.use_consolidated (is_chosen s.numbers config.use_consolidated not) es lists);
-    excused = λ s config not can_fail e h. ⊎_elim (λ k. lacks_memory e (subst (λ c. IsExcused (is_listed c && can_fail) e) (is_chosen s.numbers config.use_consolidated not) k)) (λ k. absurd (chosen_clean s retrieve.Default config.use_consolidated not e k)) h;
+  pub gives_back : ((numbers : Numbers) → held_by_in numbers g ≡ Some B) → GivesBack g f
+  gives_back holds = record {
+    children = λ s config not t shows. chosen_shows s retrieve.Default config.use_consolidated (holds s.numbers) not t shows;
+    traversed = λ s config not es lists. pairs_are es (listed_by s config.use_consolidated (is_chosen s.numbers config.use_consolidated (holds s.numbers) not) es lists);
+    excused = λ s config not can_fail e h. ⊎_elim (λ k. lacks_memory e (subst (λ c. IsExcused (is_listed c && can_fail) e) (is_chosen s.numbers config.use_consolidated (holds s.numbers) not) k)) (λ k. absurd (chosen_clean s retrieve.Default config.use_consolidated (holds s.numbers) not e k)) h;
   }
 
-module _ (of : Path → Meaning) (g : GroupState) (f : Forest) (B : Block) (from : Consolidates of g f B) where
-  -- the block has the forest in it
-  inverse : IsInverse Whole g.path f B
-  inverse =
-      block_gives_back Whole g.path f B from.listed.placed (λ e in'. ((listed_each from.listed.shown e).0 in').0.below) from.plain from.ascending from.block
+-- the block of a listed forest that is plain in some numbers has the forest in it
+inverse : (numbers : Numbers) (of : Path → Meaning) (g : GroupState) (f : Forest) (B : Block) → ConsolidatesIn numbers of g f B → IsInverse numbers g.path f B
+inverse numbers of g f B from =
+    block_gives_back numbers g.path f B from.listed.placed (λ e in'. ((listed_each from.listed.shown e).0 in').0.below) from.plain from.ascending from.block
 
-  -- the group can hold the block
-  can_hold : (m : GroupMetadata) → (k : GroupMetadataV3) × (m ≡ V3 k) → MetadataHold m (Some B)
-  can_hold m (k, is) = subst (λ x. MetadataHold x (Some B)) (sym is) inverse.plain
-
-  -- and holds it, in whatever numbers it is read
-  holds : (numbers : Numbers) → held_by_in numbers (with_block g (Some B)) ≡ Some B
-  holds numbers = held_once_set numbers g (Some B) (can_hold g.metadata from.version_3)
-
-  -- what a choice shows is the forest
-  shown_is : (s : Contents) (v : MetadataRetrieveVersion) (policy : UseConsolidatedMetadata) → policy ≢ Never → (t : Forest) → ShowsChosen s v (block_to_use (held_by_in s.numbers (with_block g (Some B))) policy) true g.path t → t ≡ f
-  shown_is = chosen_shows (with_block g (Some B)) f B holds inverse.valid inverse.entries inverse.one_forest
-
-  -- and nothing refuses it
-  none_refused : (s : Contents) (v : MetadataRetrieveVersion) (policy : UseConsolidatedMetadata) → policy ≢ Never → (e : NodeCreateError) → RefusesChosen s v (block_to_use (held_by_in s.numbers (with_block g (Some B))) policy) true g.path e → ⊥
-  none_refused = chosen_clean (with_block g (Some B)) f B holds inverse.valid inverse.entries inverse.one_forest
+-- where it is plain in whole numbers, the group holds it in whatever numbers it is read
+holds : (of : Path → Meaning) (g : GroupState) (f : Forest) (B : Block) → Consolidates of g f B → (numbers : Numbers) → held_by_in numbers (with_block g (Some B)) ≡ Some B
+holds of g f B from numbers = held_as_read numbers g B (block_too numbers (block_tree B) B (inverse Whole of g f B from).read_back)
 
 -- a version 3 group with the block of a listed forest gives the forest back
 pub group_gives_back : GroupGivesBack
 group_gives_back of g f B from =
-    gives_back (with_block g (Some B)) f B (holds of g f B from) (inverse of g f B from).valid (inverse of g f B from).entries (inverse of g f B from).one_forest
+    let back = inverse Whole of g f B from in
+    gives_back (with_block g (Some B)) f B back.valid back.entries back.one_forest (holds of g f B from)
 
 -- ---- of version 2
 
@@ -184,8 +173,8 @@ module _ (of : Path → Meaning) (g : GroupState) (f : Forest) (B : Block) (from
   takes m (k, is) = subst (λ x. Fits x (Some B)) (sym is) (keys_valid, entries_v2)
 
   -- and can hold it
-  can_hold_v2 : (m : GroupMetadata) → (k : GroupMetadataV2) × (m ≡ V2 k) → MetadataHold m (Some B)
-  can_hold_v2 m (k, is) = subst (λ x. MetadataHold x (Some B)) (sym is) tt
+  can_hold_v2 : (numbers : Numbers) (m : GroupMetadata) → (k : GroupMetadataV2) × (m ≡ V2 k) → MetadataHold numbers m (Some B)
+  can_hold_v2 numbers m (k, is) = subst (λ x. MetadataHold numbers x (Some B)) (sym is) tt
 
   -- each pair is kept of what is the pairs
   kept_pair : (N : Path × NodeMetadata → Type 0) → ((e : Path × NodeMetadata) → N e ↔ Contains (pairs f) e) → (e : Path × NodeMetadata) → Contains (pairs f) e → Kept N true g.path e
@@ -202,7 +191,8 @@ module _ (of : Path → Meaning) (g : GroupState) (f : Forest) (B : Block) (from
 pub group_v2_gives_back : GroupV2GivesBack
 group_v2_gives_back of g f B from = (
   takes of g f B from g.metadata from.version_2,
-  gives_back (with_block g (Some B)) f B (λ numbers. held_once_set numbers g (Some B) (can_hold_v2 of g f B from g.metadata from.version_2)) (keys_valid of g f B from) (same_pairs of g f B from) (one_is of g f B from (Entries B g.path) (same_pairs of g f B from)),
+  gives_back (with_block g (Some B)) f B (keys_valid of g f B from) (same_pairs of g f B from) (one_is of g f B from (Entries B g.path) (same_pairs of g f B from))
+      (λ numbers. held_once_set numbers g (Some B) (can_hold_v2 of g f B from numbers g.metadata from.version_2)),
 )
 
 -- ---- the stored group as the document of a node
@@ -317,9 +307,11 @@ module _ (s : Contents) (v : MetadataRetrieveVersion) (policy : UseConsolidatedM
       at_path b is why = ⊎_elim (no_node e) (λ w. none_below e w.0 w.1 w.2)
           (subst (λ q. RefusesNode s v q e ⊎ ((m : NodeMetadata) × (meaning s v q ≡ node m) × opened.RefusesBelow s v policy q m e)) is why)
 
-module _ (of : Path → Meaning) (g : GroupState) (f : Forest) (B : Block) (from : Consolidates of g f B) (named' : IsPath g.path) (S : Contents)
+-- a version 3 group that was stored with a block that has a forest in it, in numbers in which the group holds the block
+module _ (inside : Numbers) (g : GroupState) (f : Forest) (B : Block) (version_3 : (m : GroupMetadataV3) × (g.metadata ≡ V3 m)) (back : IsInverse inside g.path f B) (named' : IsPath g.path) (S : Contents)
     (stored : MeansStored S g.path (with_block g (Some B)).metadata) (shallow : depth (group_tree (with_block g (Some B)).metadata) ≤ max_depth)
-    (s : Contents) (numbers_same : s.numbers ≡ S.numbers) (same : map.get s.values (g.path ++ zarr_json ∷ []) ≡ map.get S.values (g.path ++ zarr_json ∷ [])) where
+    (s : Contents) (numbers_same : s.numbers ≡ S.numbers) (same : map.get s.values (g.path ++ zarr_json ∷ []) ≡ map.get S.values (g.path ++ zarr_json ∷ []))
+    (held : held_by_in s.numbers (with_block g (Some B)) ≡ Some B) where
   -- what is opened is the group
   opens_group : (m k : GroupMetadata) → (x : GroupMetadataV3) × (k ≡ V3 x) → m ≡ metadata_with (Some B) k → MeansStored S g.path m → depth (group_tree m) ≤ max_depth
       → (v : MetadataRetrieveVersion) → v ≢ retrieve.V2 → meaning s v g.path ≡ node (Group m)
@@ -337,7 +329,7 @@ module _ (of : Path → Meaning) (g : GroupState) (f : Forest) (B : Block) (from
 
   -- the path means the group with its block, by all versions but the second
   means_group : (v : MetadataRetrieveVersion) → v ≢ retrieve.V2 → meaning s v g.path ≡ node (Group (with_block g (Some B)).metadata)
-  means_group v not = opens_group (with_block g (Some B)).metadata g.metadata from.version_3 refl stored shallow v not
+  means_group v not = opens_group (with_block g (Some B)).metadata g.metadata version_3 refl stored shallow v not
 
   -- the forest of what is opened is the group's
   opened_is : (v : MetadataRetrieveVersion) → v ≢ retrieve.V2 → (policy : UseConsolidatedMetadata) → policy ≢ Never → (m : NodeMetadata) (t : Forest)
@@ -345,13 +337,15 @@ module _ (of : Path → Meaning) (g : GroupState) (f : Forest) (B : Block) (from
   opened_is v not policy some m t means shows =
       let is : m ≡ Group (with_block g (Some B)).metadata = node_same m (Group (with_block g (Some B)).metadata) (sym means ∙ means_group v not) in
       let shown = subst (λ x. ShowsBelow s v policy g.path x t) is shows in
-      shown_is of g f B from s v policy some t (subst (λ h. ShowsChosen s v (block_to_use h policy) true g.path t) (held_there s g.path g.metadata (beside_with (Some B) g.metadata g.block) from.version_3) shown)
+      chosen_shows (with_block g (Some B)) f B back.valid back.entries back.one_forest s v policy held some t
+      (subst (λ h. ShowsChosen s v (block_to_use h policy) true g.path t) (held_there s g.path g.metadata (beside_with (Some B) g.metadata g.block) version_3) shown)
 
   -- and nothing refuses it
   opened_clean : (v : MetadataRetrieveVersion) (policy : UseConsolidatedMetadata) → policy ≢ Never → (e : NodeCreateError)
       → opened.RefusesBelow s v policy g.path (Group (with_block g (Some B)).metadata) e → ⊥
   opened_clean v policy some e refused =
-      none_refused of g f B from s v policy some e (subst (λ x. RefusesChosen s v (block_to_use x policy) true g.path e) (held_there s g.path g.metadata (beside_with (Some B) g.metadata g.block) from.version_3) refused)
+      chosen_clean (with_block g (Some B)) f B back.valid back.entries back.one_forest s v policy held some e
+      (subst (λ x. RefusesChosen s v (block_to_use x policy) true g.path e) (held_there s g.path g.metadata (beside_with (Some B) g.metadata g.block) version_3) refused)
 
   -- so the stored group gives the forest back
   opens_to : OpensTo s (with_block g (Some B)) f
@@ -363,4 +357,12 @@ module _ (of : Path → Meaning) (g : GroupState) (f : Forest) (B : Block) (from
 
 -- a node opened over the stored group gives the forest back
 pub stored_gives_back : StoredGivesBack
-stored_gives_back of g f B from valid S stored shallow s numbers_same same = opens_to of g f B from valid S stored shallow s numbers_same same
+stored_gives_back of g f B from valid S stored shallow s numbers_same same =
+    opens_to Whole g f B from.version_3 (inverse Whole of g f B from) valid S stored shallow s numbers_same same (holds of g f B from s.numbers)
+
+-- so it does in the numbers of the store
+pub stored_gives_back_in : StoredGivesBackIn
+stored_gives_back_in of g f B S from valid stored shallow s numbers_same same =
+    let back = inverse S.numbers of g f B from in
+    opens_to S.numbers g f B from.version_3 back valid S stored shallow s numbers_same same
+    (held_as_read s.numbers g B (subst (λ n. block_of_in n (block_tree B) ≡ Ok B) (sym numbers_same) back.read_back))

@@ -6,6 +6,9 @@ pub mod StoreLemmas
 pub mod EraseLaws
 pub mod OtherKeys
 pub mod PlainLaws
+pub mod PlainNames
+pub mod KeyChanges
+pub mod WholeEdits
 pub mod MeaningLaws
 pub mod Fields
 pub mod FieldLemmas

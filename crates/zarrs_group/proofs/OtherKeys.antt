@@ -1,13 +1,12 @@
 -- Storing and erasing change no key but the four of the group, and not the numbers.
-use Rattle.std.proofs.Common.{◌≡◌, ◌≢◌, false, true, Bool, List, [], ◌∷◌, ◌++◌, Option, Some, None, refl, ◌∙◌, subst}
+use Rattle.std.proofs.Common.{◌≡◌, ◌≢◌, List, [], ◌∷◌, ◌++◌, Option, Some, None, refl, sym, ◌∙◌, subst, map}
 use Rattle.std.specs.FinMap as map
-use Rattle.serde_json.specs.Data.{Members}
+use Rattle.serde_json.specs.Data.{Data}
 use Rattle.zarrs_store.specs.Segments.{Segments}
 use Rattle.zarrs_store.specs.Contents.{Contents}
 use Rattle.zarrs_store.proofs.ContentsLemmas.{AgreesExceptAt-insert, AgreesExceptAt-remove}
 use Rattle.zarrs_path.specs.Keys.{zarr_json, zarray, zgroup, zattrs, zmetadata}
 use Rattle.zarrs_path.specs.Paths.{Path}
-use Rattle.zarrs_form.specs.Documents.{is_empty}
 use Rattle.zarrs_form.proofs.MemberLaws.{differ}
 use Rattle.zarrs_meta.specs.declared.node.GroupMetadata.{GroupMetadata}
 use Rattle.zarrs_meta.specs.declared.node.GroupMetadata.TheVariants.{V3, V2}
@@ -15,9 +14,10 @@ use Rattle.zarrs_config.specs.declared.version.MetadataEraseVersion.{MetadataEra
 use Rattle.zarrs_config.specs.declared.version.MetadataEraseVersion.TheVariants as erase
 use Rattle.zarrs_block.specs.Block.{Block}
 use Rattle.zarrs_group.specs.Edits.{AgreesOutsideKey, Edit, set, remove, after_edit, after, edit_key, IsCutShort}
-use Rattle.zarrs_group.specs.StoringGroups.{attributes_edit, store_edits, erase_edits}
+use Rattle.zarrs_group.specs.StoringGroups.{AreEditsOf, KeyChange, store_changes, store_edits, erase_edits, whole_edit}
 use Rattle.zarrs_group.specs.Laws.{OthersStayAfter, OtherKeysStay, ArraysStay}
 use Rattle.zarrs_group.proofs.EraseLaws.{keys_differ}
+use Rattle.zarrs_group.proofs.KeyChanges.{key_of}
 
 -- an edit changes no key but its own, and not the numbers
 pub edited_elsewhere : (S : Contents) (e : Edit) → AgreesOutsideKey (edit_key e) S (after_edit S e)
@@ -65,16 +65,33 @@ others_after p es all S = (
   λ S' cut. (cut.others.0 ∙ numbers_after S cut.done, λ key a b c d. cut_elsewhere key S S' es (all key (a, b, c, d)) cut),
 )
 
--- the edit of the attributes is at `.zattrs`
-attributes_elsewhere : (p : Path) (key : Segments) (a : Members) (b : Bool) → is_empty a ≡ b → key ≢ p ++ zattrs ∷ [] → Elsewhere key (attributes_edit p a)
-attributes_elsewhere p key a true is other = rw is other
-attributes_elsewhere p key a false is other = rw is other
+-- each of the changes is at another key
+abbrev EachChangeElsewhere : Segments → List KeyChange → Type 0
+EachChangeElsewhere key [] = Unit {0}
+EachChangeElsewhere key (c ∷ cs) = (key ≢ c.0) × EachChangeElsewhere key cs
 
--- the edits that store are at the four keys
-storing : (p : Path) (m : GroupMetadata) (block : Option Block) (key : Segments) → IsOther p key → EachElsewhere key (store_edits p m block)
+-- the edits of changes at other keys are at other keys
+edits_elsewhere : (key : Segments) (cs : List KeyChange) (es : List Edit) → EachChangeElsewhere key cs → AreEditsOf cs es → EachElsewhere key es
+edits_elsewhere key [] [] all are = tt
+edits_elsewhere key [] (e ∷ es) all are = absurd are
+edits_elsewhere key (c ∷ cs) [] all are = absurd are
+edits_elsewhere key (c ∷ cs) (e ∷ es) (first, others) (at, rest) = (subst (λ k. key ≢ k) (sym (key_of c.0 c.1 e at)) first, edits_elsewhere key cs es others rest)
+
+-- the edit of a change in whole numbers is at its key
+whole_key : (key : Segments) (t : Option Data) → edit_key (whole_edit key t) ≡ key
+whole_key key (Some d) = refl
+whole_key key None = refl
+
+-- so are those in whole numbers
+whole_elsewhere : (key : Segments) (cs : List KeyChange) → EachChangeElsewhere key cs → EachElsewhere key (map (λ c. whole_edit c.0 c.1) cs)
+whole_elsewhere key [] all = tt
+whole_elsewhere key (c ∷ cs) (first, others) = (subst (λ k. key ≢ k) (sym (whole_key c.0 c.1)) first, whole_elsewhere key cs others)
+
+-- the changes that store are at the four keys
+storing : (p : Path) (m : GroupMetadata) (block : Option Block) (key : Segments) → IsOther p key → EachChangeElsewhere key (store_changes p m block)
 storing p (V3 m) block key other = (other.0, tt)
-storing p (V2 m) None key other = (other.3, (attributes_elsewhere p key m.attributes (is_empty m.attributes) refl other.2, (other.1, tt)))
-storing p (V2 m) (Some B) key other = (attributes_elsewhere p key m.attributes (is_empty m.attributes) refl other.2, (other.1, (other.3, tt)))
+storing p (V2 m) None key other = (other.3, (other.2, (other.1, tt)))
+storing p (V2 m) (Some B) key other = (other.2, (other.1, (other.3, tt)))
 
 -- the edits that erase are at the four keys
 erasing : (p : Path) (v : MetadataEraseVersion) (m : GroupMetadata) (key : Segments) → IsOther p key → EachElsewhere key (erase_edits p v m)
@@ -86,7 +103,11 @@ erasing p erase.V2 m key other = (other.1, (other.2, (other.3, tt)))
 
 -- storing and erasing change no key but the four
 pub other_keys_stay : OtherKeysStay
-other_keys_stay p m = (λ block. others_after p (store_edits p m block) (storing p m block), λ v. others_after p (erase_edits p v m) (erasing p v m))
+other_keys_stay p m = (
+  λ block. others_after p (store_edits p m block) (λ key other. whole_elsewhere key (store_changes p m block) (storing p m block key other)),
+  λ block es are. others_after p es (λ key other. edits_elsewhere key (store_changes p m block) es (storing p m block key other) are),
+  λ v. others_after p (erase_edits p v m) (erasing p v m),
+)
 
 -- `.zarray` is at none of the four keys
 pub arrays_stay : ArraysStay

@@ -1,6 +1,10 @@
 -- What storing and erasing say before the first edit.
-use Rattle.std.proofs.Common.{◌≡◌, Result, Ok, Err, OnOk, Bool, List, [], ◌∷◌, ◌++◌, Option, Some, None, refl, ap, ◌∙◌}
+use Rattle.std.specs.Prelude.{IfErr, OnErr}
+use Rattle.std.proofs.Common.{◌≡◌, inl, inr, Result, Ok, Err, OnOk, Bool, List, [], ◌∷◌, ◌++◌, Option, Some, None, refl, sym, ap, ◌∙◌}
+use Rattle.zarrs_store.specs.Segments.{Segments}
 use Rattle.zarrs_store.specs.Contents.{Contents}
+use Rattle.zarrs_store.specs.Faults.{IsStoreError}
+use Rattle.zarrs_fault.specs.declared.numbers.Numbers.{Numbers}
 use Rattle.zarrs_fault.specs.declared.fault.MetadataFault.{MetadataFault}
 use Rattle.zarrs_store.specs.declared.storage_error.StorageError.{StorageError}
 use Rattle.zarrs_store.specs.declared.storage_error.StorageError.TheVariants.{Fault, InvalidMetadata, Other, OutOfMemory}
@@ -12,8 +16,8 @@ use Rattle.zarrs_config.specs.declared.version.MetadataEraseVersion.{MetadataEra
 use Rattle.zarrs_config.specs.declared.version.MetadataEraseVersion.TheVariants as version
 use Rattle.zarrs_block.specs.Block.{Block}
 use Rattle.zarrs_group.specs.Edits.{Edit, IsCutShort}
-use Rattle.zarrs_group.specs.Plain.{group_fault, beside_fault}
-use Rattle.zarrs_group.specs.StoringGroups.{metadata_key, store_edits, erase_edits, fault_at, first_fault, stored_fault, RefusesMetadata, RefusesStoring}
+use Rattle.zarrs_group.specs.Plain.{group_fault_in, beside_fault_in}
+use Rattle.zarrs_group.specs.StoringGroups.{AreEditsOf, metadata_key, store_changes, store_edits, erase_edits, fault_at, first_fault, stored_fault_in, RefusesMetadata, RefusesStoring}
 
 -- where nothing was done, the first edit is the next
 none_done : (S : Contents) (e : Edit) (es : List Edit) → IsCutShort S (e ∷ es) S
@@ -34,11 +38,25 @@ none_erased S p version.V3 m = none_done S _ _
 none_erased S p version.V2 m = none_done S _ _
 
 -- a refusal before the first edit is a refusal of storing, with the store unchanged
-pub refused_before : (b : Bool) (p : Path) (m : GroupMetadata) (block : Option Block) (S : Contents) (e : StorageError) → RefusesMetadata p m block e → RefusesStoring b p m block S S e
+pub refused_before : (b : Bool) (p : Path) (m : GroupMetadata) (block : Option Block) (S : Contents) (e : StorageError) → RefusesMetadata S.numbers p m block e → RefusesStoring b p m block S S e
 refused_before b p m block S Fault h = absurd h
 refused_before b p m block S (InvalidMetadata key fault) h = (refl, h)
 refused_before b p m block S (Other text) h = absurd h
-refused_before b p m block S OutOfMemory h = none_stored S p m block
+refused_before b p m block S OutOfMemory h = inl refl
+
+-- an error of the store, by which the edits of a plain group were cut short, is a refusal of storing
+pub refused_within : (b : Bool) (p : Path) (m : GroupMetadata) (block : Option Block) (S S' : Contents) (es : List Edit) (e : StorageError) → stored_fault_in S.numbers p m block ≡ None
+    → AreEditsOf (store_changes p m block) es → IsStoreError b e → IsCutShort S es S' → RefusesStoring b p m block S S' e
+refused_within b p m block S S' es Fault plain are h cut = (h, record { plain = plain; edits = es; are = are; cut = cut })
+refused_within b p m block S S' es (InvalidMetadata key fault) plain are h cut = absurd h
+refused_within b p m block S S' es (Other text) plain are h cut = absurd h
+refused_within b p m block S S' es OutOfMemory plain are h cut = inr (record { plain = plain; edits = es; are = are; cut = cut })
+
+-- the same of a result
+pub on_refused : {X : Type 0} (r : Result X StorageError) (b : Bool) (p : Path) (m : GroupMetadata) (block : Option Block) (S S' : Contents) (es : List Edit) → stored_fault_in S.numbers p m block ≡ None
+    → AreEditsOf (store_changes p m block) es → IfErr r (IsStoreError b) → OnErr r (IsCutShort S es S') → IfErr r (RefusesStoring b p m block S S')
+on_refused (Ok x) b p m block S S' es plain are h cut = tt
+on_refused (Err e) b p m block S S' es plain are h cut = refused_within b p m block S S' es e plain are h cut
 
 -- what follows from success
 pub on_ok : {X E A B : Type 0} (r : Result X E) → OnOk r A → (A → B) → OnOk r B
@@ -48,15 +66,25 @@ on_ok (Err e) a f = tt
 -- ---- the faults
 
 -- else it is that of the block
-pub beside_is : (p : Path) (m : GroupMetadata) (block : Option Block) (fault : Option MetadataFault) → group_fault m ≡ None → beside_fault m block ≡ fault
-    → stored_fault p m block ≡ fault_at (p ++ zmetadata ∷ []) fault
-beside_is p m block fault own is =
-    ap (λ f. first_fault (fault_at (metadata_key p m) f) (fault_at (p ++ zmetadata ∷ []) (beside_fault m block))) own ∙ ap (fault_at (p ++ zmetadata ∷ [])) is
+pub beside_is : (numbers : Numbers) (p : Path) (m : GroupMetadata) (block : Option Block) (fault : Option MetadataFault) → group_fault_in numbers m ≡ None → beside_fault_in numbers m block ≡ fault
+    → stored_fault_in numbers p m block ≡ fault_at (p ++ zmetadata ∷ []) fault
+beside_is numbers p m block fault own is =
+    ap (λ f. first_fault (fault_at (metadata_key p m) f) (fault_at (p ++ zmetadata ∷ []) (beside_fault_in numbers m block))) own ∙ ap (fault_at (p ++ zmetadata ∷ [])) is
 
 -- where there is no fault the metadata have none
-pub own_plain : (p : Path) (m : GroupMetadata) (block : Option Block) → stored_fault p m block ≡ None → group_fault m ≡ None
-own_plain p m block none = at (group_fault m) none
+pub own_plain : (numbers : Numbers) (p : Path) (m : GroupMetadata) (block : Option Block) → stored_fault_in numbers p m block ≡ None → group_fault_in numbers m ≡ None
+own_plain numbers p m block none = at (group_fault_in numbers m) none
   where
-    at : (o : Option MetadataFault) → first_fault (fault_at (metadata_key p m) o) (fault_at (p ++ zmetadata ∷ []) (beside_fault m block)) ≡ None → o ≡ None
+    at : (o : Option MetadataFault) → first_fault (fault_at (metadata_key p m) o) (fault_at (p ++ zmetadata ∷ []) (beside_fault_in numbers m block)) ≡ None → o ≡ None
     at None e = refl
     at (Some f) e = cc
+
+-- where no fault is told there is none
+none_told : (key : Segments) (fault : Option MetadataFault) → fault_at key fault ≡ None → fault ≡ None
+none_told key None e = refl
+none_told key (Some f) e = cc
+
+-- so does what stands beside them
+pub beside_plain : (numbers : Numbers) (p : Path) (m : GroupMetadata) (block : Option Block) → stored_fault_in numbers p m block ≡ None → beside_fault_in numbers m block ≡ None
+beside_plain numbers p m block none =
+    none_told (p ++ zmetadata ∷ []) (beside_fault_in numbers m block) (sym (beside_is numbers p m block (beside_fault_in numbers m block) (own_plain numbers p m block none) refl) ∙ none)

@@ -5,18 +5,15 @@ use Rattle.std.specs.List.{list_all, list_any}
 use Rattle.std.proofs.lemmas.List.Elements.{All-contains}
 use Rattle.std.proofs.lemmas.List.Sums.{AllPass-from_list_all}
 use Rattle.serde_json.specs.Data.{Data}
-use Rattle.zarrs_store.specs.Segments.{Segments}
 use Rattle.zarrs_store.specs.Contents.{Contents}
-use Rattle.zarrs_fault.specs.declared.fault.MetadataFault.{MetadataFault}
 use Rattle.zarrs_fault.specs.declared.fault.MetadataFault.TheVariants.{UnsupportedNumber, BadMember}
-use Rattle.zarrs_store.proofs.ContentsLemmas.{get_inserted}
 use Rattle.zarrs_path.specs.Keys.{zmetadata}
 use Rattle.zarrs_path.specs.Paths.{Path, IsPath}
 use Rattle.zarrs_config.specs.declared.version.MetadataRetrieveVersion.{MetadataRetrieveVersion}
 use Rattle.zarrs_config.specs.declared.version.UseConsolidatedMetadata.{UseConsolidatedMetadata}
 use Rattle.zarrs_config.specs.declared.version.UseConsolidatedMetadata.TheVariants.{Never}
 use Rattle.zarrs_form.specs.Documents.{json_of}
-use Rattle.zarrs_meta.specs.Node.{is_plain_node}
+use Rattle.zarrs_meta.specs.Node.{is_plain_node_in}
 use Rattle.zarrs_meta.specs.declared.group_v2.GroupMetadataV2.{GroupMetadataV2}
 use Rattle.zarrs_meta.specs.declared.node.GroupMetadata.{GroupMetadata}
 use Rattle.zarrs_meta.specs.declared.node.GroupMetadata.TheVariants.{V2}
@@ -28,8 +25,7 @@ use Rattle.zarrs_block.specs.Policy.{block_to_use}
 use Rattle.zarrs_block.specs.Zmetadata.{zmetadata_in, zmetadata_tree, HasPlainEntriesIn, HaveSameEntries}
 use Rattle.zarrs_block.specs.declared.node_create_error.NodeCreateError.{NodeCreateError}
 use Rattle.zarrs_block.proofs.Expansion.{entries_listed}
-use Rattle.zarrs_block.proofs.MoreBlocks.{zmetadata_too}
-use Rattle.zarrs_block.proofs.ZmetadataAgain.{written_reads_back}
+use Rattle.zarrs_block.proofs.ZmetadataAgain.{written_reads_back_in}
 use Rattle.zarrs_node.specs.BlocksBelow.{zmetadata_at}
 use Rattle.zarrs_node.specs.Forest.{Forest, Shows, pairs}
 use Rattle.zarrs_node.specs.Reach.{Kept}
@@ -37,45 +33,28 @@ use Rattle.zarrs_node.specs.OpeningNodes.{ShowsChosen, RefusesChosen, ShowsBelow
 use Rattle.zarrs_node.specs.OpeningNodes as opened
 use Rattle.zarrs_group.specs.BlocksBeside.{IsBeside}
 use Rattle.zarrs_group.specs.BlocksOfGroups.{held_in, with_block}
-use Rattle.zarrs_group.specs.Edits.{after}
 use Rattle.zarrs_group.specs.Groups.{GroupState}
-use Rattle.zarrs_group.specs.Layout.{pretty_text}
-use Rattle.zarrs_group.specs.Plain.{node_has_float, entries_of, block_fault}
-use Rattle.zarrs_group.specs.StoringGroups.{own_edits, store_edits, fault_at, stored_fault}
+use Rattle.zarrs_group.specs.Plain.{node_exceeds, entries_of, block_fault_in}
 use Rattle.zarrs_group.specs.GivesBack.{ConsolidatesV2, GivesBack, HasStoredBlock, OpensToV2, StoredV2GivesBack}
 use Rattle.zarrs_group.proofs.Beside.{beside_read}
 use Rattle.zarrs_group.proofs.BlockPlain.{all_plain}
 use Rattle.zarrs_group.proofs.GivesBack.{used_there, no_bad_key, gives_back, opens_clean, same_pairs, keys_valid, entries_v2, one_is}
 use Rattle.zarrs_group.proofs.PlainLaws.{plain_v2}
-use Rattle.zarrs_group.proofs.StoreLemmas.{own_plain, beside_is}
-use Rattle.zarrs_fault.specs.declared.numbers.Numbers.TheVariants.{Whole}
+use Rattle.zarrs_group.proofs.StoreLemmas.{own_plain, beside_plain}
+use Rattle.zarrs_fault.specs.declared.numbers.Numbers.{Numbers}
 
 -- ---- the document that is stored
-
--- the key of `.zmetadata` has what is written of the block
-block_stored : (S : Contents) (p : Path) (m : GroupMetadataV2) (B : Block) → map.get (after S (store_edits p (V2 m) (Some B))).values (p ++ zmetadata ∷ []) ≡ Some (pretty_text (zmetadata_tree m B))
-block_stored S p m B = get_inserted (after S (own_edits p m)).values (p ++ zmetadata ∷ []) (pretty_text (zmetadata_tree m B))
 
 -- bytes that are read as the document of a block are that block
 pub block_read : (s : Contents) (p : Path) (bytes : List ℕ) (d : Data) (C : Block) → map.get s.values (p ++ zmetadata ∷ []) ≡ Some bytes → json_of bytes ≡ Some d → zmetadata_in s.numbers d ≡ Ok C → zmetadata_at s p ≡ Some C
 block_read s p bytes d C here read is = rw (here, read, is) refl
 
--- where no fault is told there is none
-none_told : (key : Segments) (fault : Option MetadataFault) → fault_at key fault ≡ None → fault ≡ None
-none_told key None e = refl
-none_told key (Some f) e = cc
-
--- a version 2 group that is stored has no fault in its block
-no_block_fault : (p : Path) (m : GroupMetadataV2) (B : Block) → stored_fault p (V2 m) (Some B) ≡ None → block_fault B ≡ None
-no_block_fault p m B none =
-    none_told (p ++ zmetadata ∷ []) (block_fault B) (sym (beside_is p (V2 m) (Some B) (block_fault B) (own_plain p (V2 m) (Some B) none) refl) ∙ none)
-
--- the entries of a block without a fault are plain
-entries_plain : (B : Block) → IsAscending B → HasValidKeys B → block_fault B ≡ None → HasPlainEntriesIn Whole B
-entries_plain B up valid none e here =
-    let all : list_all (λ d. is_plain_node d.1) (entries_of B) ≡ true =
-    all_plain (list_any (λ d. node_has_float d.1) (entries_of B)) (list_all (λ d. is_plain_node d.1) (entries_of B)) UnsupportedNumber (BadMember (codes "metadata")) none in
-    All-contains (λ d. IsTrue (is_plain_node d.1)) (entries_of B) e (AllPass-from_list_all (λ d. is_plain_node d.1) (entries_of B) all) ((entries_listed [] B up valid).complete e here)
+-- the entries of a block without a fault in some numbers are plain in them
+entries_plain : (numbers : Numbers) (B : Block) → IsAscending B → HasValidKeys B → block_fault_in numbers B ≡ None → HasPlainEntriesIn numbers B
+entries_plain numbers B up valid none e here =
+    let all : list_all (λ d. is_plain_node_in numbers d.1) (entries_of B) ≡ true =
+    all_plain (list_any (λ d. node_exceeds numbers d.1) (entries_of B)) (list_all (λ d. is_plain_node_in numbers d.1) (entries_of B)) UnsupportedNumber (BadMember (codes "metadata")) none in
+    All-contains (λ d. IsTrue (is_plain_node_in numbers d.1)) (entries_of B) e (AllPass-from_list_all (λ d. is_plain_node_in numbers d.1) (entries_of B) all) ((entries_listed [] B up valid).complete e here)
 
 -- ---- the group that is opened
 
@@ -109,9 +88,9 @@ module _ (of : Path → Meaning) (g : GroupState) (f : Forest) (B : Block) (from
     -- a group that is opened there holds it, and gives the forest back
     group_again : (h : GroupState) → h.path ≡ g.path → h.metadata ≡ V2 m → h.block ≡ zmetadata_at s g.path → GivesBack h f
     group_again h path metadata beside =
-        gives_back h f C (λ numbers. ap (λ k. held_in numbers k h.block) metadata ∙ beside ∙ there) valid_again
-        (subst (λ p. (e : Path × NodeMetadata) → Entries C p e ↔ Contains (pairs f) e) (sym path) pairs_again)
+        gives_back h f C valid_again (subst (λ p. (e : Path × NodeMetadata) → Entries C p e ↔ Contains (pairs f) e) (sym path) pairs_again)
         (subst (λ p. (t : Forest) → Shows t p (Kept (Entries C p) true p) → t ≡ f) (sym path) (λ t shows. one_is of g f B from (Entries C g.path) pairs_again t shows))
+        (λ numbers. ap (λ k. held_in numbers k h.block) metadata ∙ beside ∙ there)
 
     -- so the group gives the forest back
     opens_again : OpensToV2 s (grouped (V2 m)) f B
@@ -126,10 +105,11 @@ module _ (of : Path → Meaning) (g : GroupState) (f : Forest) (B : Block) (from
   stored_again : (S s : Contents) (m : GroupMetadataV2) → IsAscending B → HasStoredBlock S s (grouped (V2 m)) → OpensToV2 s (grouped (V2 m)) f B
   stored_again S s m up stored =
       let valid : HasValidKeys B = keys_valid of g f B from in
-      let plain : HasPlainEntriesIn Whole B = entries_plain B up valid (no_block_fault g.path m B stored.plain) in
-      let again = written_reads_back m B (plain_v2 m (own_plain g.path (V2 m) (Some B) stored.plain)) up valid (entries_v2 of g f B from) plain in
-      opens_again s m again.0
-      (block_read s g.path (pretty_text (zmetadata_tree m B)) (zmetadata_tree m B) again.0 (stored.same ∙ block_stored S g.path m B) (stored.reads stored.shallow) (zmetadata_too s.numbers (zmetadata_tree m B) again.0 again.1)) again.2
+      let own = own_plain s.numbers g.path (V2 m) (Some B) stored.plain in
+      let plain : HasPlainEntriesIn s.numbers B = entries_plain s.numbers B up valid (beside_plain s.numbers g.path (V2 m) (Some B) stored.plain) in
+      let again = written_reads_back_in s.numbers m B (plain_v2 s.numbers m own) up valid (entries_v2 of g f B from) plain in
+      let read = stored.reads stored.shallow in
+      opens_again s m again.0 (block_read s g.path read.0 (zmetadata_tree m B) again.0 (stored.same ∙ read.1) read.2 again.1) again.2
 
 -- a node opened over the document of a stored version 2 group gives the forest back
 pub stored_v2_gives_back : StoredV2GivesBack

@@ -40,9 +40,10 @@ use Rattle.zarrs_group.specs.Laws.{MeansStored}
 use Rattle.zarrs_meta.specs.GroupV3.{group_v3_tree}
 use Rattle.zarrs_group.specs.Layout.{pretty_text}
 use Rattle.zarrs_group.specs.StoredBlocks.{OpensAlike, EditKeepsOthers, StoringKeepsOthers, MeansVersion3, ListedBlockOpens}
-use Rattle.zarrs_group.specs.StoringGroups.{store_edits, RefusesStoring}
+use Rattle.zarrs_group.specs.StoringGroups.{IsStoringCutShort, KeyChange, StoresDocuments, store_edits, RefusesStoring}
 use Rattle.zarrs_group.proofs.BlockFields.{set_reads}
 use Rattle.zarrs_group.proofs.GivesBack.{means_node, no_bad_key, opens_clean}
+use Rattle.zarrs_group.proofs.KeyChanges.{key_of, one_edit}
 use Rattle.zarrs_group.proofs.ListedReads.{listed_reads}
 use Rattle.zarrs_group.proofs.OtherKeys.{edited_elsewhere}
 
@@ -67,22 +68,45 @@ written_as_is convert.Default m = refl
 written_as_is convert.V3 m = refl
 
 module _ (S T : Contents) (p : Path) (m : GroupMetadataV3) (block : Option Block) where
-  -- storing a version 3 group changes its document alone
+  -- storing a version 3 group in whole numbers changes its document alone
   stored_keeps : AgreesOutsideKey (p ++ zarr_json ∷ []) S (after S (store_edits p (V3 m) block))
   stored_keeps = edit_keeps_others S (set (p ++ zarr_json ∷ []) (pretty_text (group_v3_tree m)))
 
-  -- also where it is refused
+  -- the change that stores it
+  abbrev change : KeyChange
+  change = (p ++ zarr_json ∷ [], Some (group_v3_tree m))
+
+  -- so does storing it in any
+  stores_keep : StoresDocuments p (V3 m) block S T → AgreesOutsideKey (p ++ zarr_json ∷ []) S T
+  stores_keep (es, are, is) =
+      let w = one_edit change es are in
+      subst (λ k. AgreesOutsideKey k S T) (key_of (p ++ zarr_json ∷ []) (Some (group_v3_tree m)) w.0 w.2)
+      (subst (AgreesOutsideKey (edit_key w.0) S) (sym (is ∙ ap (after S) w.1)) (edit_keeps_others S w.0))
+
+  -- also where it was cut short
+  cut_keeps : IsStoringCutShort p (V3 m) block S T → AgreesOutsideKey (p ++ zarr_json ∷ []) S T
+  cut_keeps cut =
+      let w = one_edit change cut.edits cut.are in
+      subst (λ k. AgreesOutsideKey k S T) (key_of (p ++ zarr_json ∷ []) (Some (group_v3_tree m)) w.0 w.2)
+      (cut_keeps_others S T w.0 (subst (λ es. IsCutShort S es T) w.1 cut.cut))
+
+  -- and where nothing was done
+  unchanged_keeps : T ≡ S → AgreesOutsideKey (p ++ zarr_json ∷ []) S T
+  unchanged_keeps same = subst (AgreesOutsideKey (p ++ zarr_json ∷ []) S) (sym same) (refl, λ other not. refl)
+
+  -- so it does where it is refused
   refused_keeps : (can_fail : Bool) (e : StorageError) → RefusesStoring can_fail p (V3 m) block S T e → AgreesOutsideKey (p ++ zarr_json ∷ []) S T
-  refused_keeps can_fail storage.Fault h = cut_keeps_others S T _ h.2
-  refused_keeps can_fail (storage.InvalidMetadata key fault) h = subst (AgreesOutsideKey (p ++ zarr_json ∷ []) S) (sym h.0) (refl, λ other not. refl)
+  refused_keeps can_fail storage.Fault h = cut_keeps h.1
+  refused_keeps can_fail (storage.InvalidMetadata key fault) h = unchanged_keeps h.0
   refused_keeps can_fail (storage.Other text) h = absurd h
-  refused_keeps can_fail storage.OutOfMemory h = cut_keeps_others S T _ h
+  refused_keeps can_fail storage.OutOfMemory h = ⊎_elim unchanged_keeps cut_keeps h
 
 -- so does storing a group whose metadata are of version 3
 pub storing_keeps_others : StoringKeepsOthers
 storing_keeps_others S T v g m is =
     let same : metadata_by_version v g.metadata ≡ V3 m = ap (metadata_by_version v) is ∙ written_as_is v m in (
       subst (λ x. AgreesOutsideKey (g.path ++ zarr_json ∷ []) S (after S (store_edits g.path x g.block))) (sym same) (stored_keeps S T g.path m g.block),
+      λ h. stores_keep S T g.path m g.block (subst (λ x. StoresDocuments g.path x g.block S T) same h),
       λ can_fail e h. refused_keeps S T g.path m g.block can_fail e (subst (λ x. RefusesStoring can_fail g.path x g.block S T e) same h),
     )
 

@@ -7,7 +7,7 @@
 --     block_beside s p m      the block that a store has beside the metadata of a group
 --     with_block g block      the group with a block or without one, all else as it was
 --     Fits m block, RefusesBlock m block e      that a group of these metadata takes a block; what refuses it
---     CanHold g block      a block that the group holds once it is set
+--     CanHoldIn numbers g block      a block that the group holds in these numbers once it is set
 use Rattle.std.specs.Prelude.{◌≡◌, false, [], ◌∷◌, Option, Some, None, codes}
 use Rattle.serde_json.specs.Data.{Members, put}
 use Rattle.zarrs_fault.specs.declared.numbers.Numbers.{Numbers}
@@ -18,7 +18,7 @@ use Rattle.zarrs_form.specs.Documents.{besides}
 use Rattle.zarrs_form.specs.Fields.{field_data}
 use Rattle.zarrs_meta.specs.declared.node.GroupMetadata.{GroupMetadata}
 use Rattle.zarrs_meta.specs.declared.node.GroupMetadata.TheVariants.{V3, V2}
-use Rattle.zarrs_block.specs.Block.{Block, block_tree, HasPlainNodes}
+use Rattle.zarrs_block.specs.Block.{Block, block_tree, HasPlainNodesIn}
 use Rattle.zarrs_block.specs.Policy.{group_block}
 use Rattle.zarrs_block.specs.Zmetadata.{RefusesZmetadata}
 use Rattle.zarrs_block.specs.declared.node_create_error.NodeCreateError.{NodeCreateError}
@@ -93,13 +93,13 @@ RefusesBlock (V3 m) block e = e ≡ OutOfMemory
 RefusesBlock (V2 m) (Some B) e = RefusesZmetadata B e
 RefusesBlock (V2 m) None e = ⊥
 
--- a group of these metadata can hold the block: none always, of version 2 any, and of version 3 one where each of its
--- nodes could have come from a document
-abbrev pub MetadataHold : GroupMetadata → Option Block → Type 0
-MetadataHold m None = Unit {0}
-MetadataHold (V3 m) (Some B) = HasPlainNodes B
-MetadataHold (V2 m) (Some B) = Unit {0}
+-- a group of these metadata can hold the block in these numbers: none always, of version 2 any, and of version 3 one
+-- where each of its nodes could have come from a document that may hold these numbers
+abbrev pub MetadataHold : Numbers → GroupMetadata → Option Block → Type 0
+MetadataHold numbers m None = Unit {0}
+MetadataHold numbers (V3 m) (Some B) = HasPlainNodesIn numbers B
+MetadataHold numbers (V2 m) (Some B) = Unit {0}
 
--- the group can hold the block, or none
-abbrev pub CanHold : GroupState → Option Block → Type 0
-CanHold g block = MetadataHold g.metadata block
+-- the group can hold the block, or none, in these numbers
+abbrev pub CanHoldIn : Numbers → GroupState → Option Block → Type 0
+CanHoldIn numbers g block = MetadataHold numbers g.metadata block

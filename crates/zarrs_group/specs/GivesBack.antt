@@ -2,11 +2,12 @@
 -- version 2: a group whose block was made of a forest gives that forest back.
 -- <https://zarr-specs.readthedocs.io/en/latest/v3/core/index.html#group-metadata>
 -- <https://zarr.readthedocs.io/en/stable/user-guide/consolidated_metadata/>
---     Consolidates g f B      B is the block of the listed forest f below the version 3 group g
+--     ConsolidatesIn numbers of g f B, Consolidates of g f B      B is the block of the listed forest f below the
+-- version 3 group g, in these numbers or in whole ones
 --     ConsolidatesV2 g f B      B is the block of the listed forest f of version 2 nodes below the version 2 group g
 --     GivesBack g f      what the children of g are, whatever the store holds
 --     OpensTo s g f      what a node opened at the path of g has below it
---     HasStoredBlock S s g      s has the document `.zmetadata` that storing the version 2 group g over S leaves
+--     HasStoredBlock S s g      s has the document `.zmetadata` of the version 2 group g that was stored in S
 --     OpensToV2 s g f B      what a node opened at the path of a version 2 group g has below it, and the block of a
 -- group opened there
 use Rattle.std.specs.Prelude.{◌≡◌, ◌≢◌, ◌≤◌, Bool, true, List, [], ◌∷◌, ◌++◌, Contains, IsTrue, Option, Some, None}
@@ -39,20 +40,25 @@ use Rattle.zarrs_node.specs.OpeningNodes.{ShowsBelow, RefusesOpening}
 use Rattle.zarrs_group.specs.Groups.{GroupState, group_tree}
 use Rattle.zarrs_group.specs.BlocksOfGroups.{block_beside, with_block, Fits}
 use Rattle.zarrs_group.specs.Children.{ShowsChildren, ListsNodes, RefusesChildren}
-use Rattle.zarrs_group.specs.Edits.{after}
-use Rattle.zarrs_group.specs.StoringGroups.{store_edits, stored_fault, IsBlockReadBack}
+use Rattle.zarrs_group.specs.StoringGroups.{stored_fault_in, IsBlockReadBack}
 use Rattle.zarrs_group.specs.Laws.{MeansStored}
 use Rattle.zarrs_block.specs.Meaning.{Pair}
+use Rattle.zarrs_fault.specs.declared.numbers.Numbers.{Numbers}
 use Rattle.zarrs_fault.specs.declared.numbers.Numbers.TheVariants.{Whole}
 
 -- the group is of version 3; f is what a listing below it finds, whatever the meanings of paths, and its metadata are
--- plain; and B holds exactly the pairs of f, as `consolidate_metadata` makes it
-pub record Consolidates (of : Path → Meaning) (g : GroupState) (f : Forest) (B : Block) : Type 0 where
+-- plain in these numbers; and B holds exactly the pairs of f, as `consolidate_metadata` makes it
+pub record ConsolidatesIn (numbers : Numbers) (of : Path → Meaning) (g : GroupState) (f : Forest)
+    (B : Block) : Type 0 where
   pub version_3 : (m : GroupMetadataV3) × (g.metadata ≡ V3 m)
   pub listed : Shows f g.path (Kept (Means of) true g.path)
-  pub plain : ArePlain Whole (pairs f)
+  pub plain : ArePlain numbers (pairs f)
   pub ascending : IsAscending B
   pub block : IsBlockOf (Contains (pairs f)) g.path B
+
+-- the same in whole numbers
+abbrev pub Consolidates : (Path → Meaning) → GroupState → Forest → Block → Type 0
+Consolidates of g f B = ConsolidatesIn Whole of g f B
 
 -- whatever store is handed in, where the policy is not Never: the one forest of the group's children is f, what is
 -- traversed are the pairs of f in some order, and nothing refuses but out of memory
@@ -103,20 +109,28 @@ StoredGivesBack =
     → map.get s.values (g.path ++ zarr_json ∷ []) ≡ map.get S.values (g.path ++ zarr_json ∷ [])
     → OpensTo s (with_block g (Some B)) f
 
+-- The same in the numbers of the store: the metadata of the forest are plain in these.
+abbrev pub StoredGivesBackIn : Type 0
+StoredGivesBackIn =
+    (of : Path → Meaning) (g : GroupState) (f : Forest) (B : Block) (S : Contents) → ConsolidatesIn S.numbers of g f B
+    → IsPath g.path → MeansStored S g.path (with_block g (Some B)).metadata
+    → depth (group_tree (with_block g (Some B)).metadata) ≤ max_depth → (s : Contents) → s.numbers ≡ S.numbers
+    → map.get s.values (g.path ++ zarr_json ∷ []) ≡ map.get S.values (g.path ++ zarr_json ∷ [])
+    → OpensTo s (with_block g (Some B)) f
+
 -- the document `.zmetadata` of the block beside the metadata of version 2 does not nest too deep
 abbrev pub IsBlockShallow : GroupMetadata → Option Block → Type 0
 IsBlockShallow (V2 m) (Some B) = depth (zmetadata_tree m B) ≤ max_depth
 IsBlockShallow (V2 m) None = Unit {0}
 IsBlockShallow (V3 m) block = Unit {0}
 
--- the group is at no fault when it is stored over S; the bytes of its document `.zmetadata` are read back, and it
--- does not nest too deep; and s has at the key of `.zmetadata` what storing leaves there
+-- the group is at no fault in the numbers of s; what S has at the key of `.zmetadata` is read as the document of its
+-- block, which does not nest too deep; and s has there what S has
 pub record HasStoredBlock (S s : Contents) (g : GroupState) : Type 0 where
-  pub plain : stored_fault g.path g.metadata g.block ≡ None
-  pub reads : IsBlockReadBack g.metadata g.block
+  pub plain : stored_fault_in s.numbers g.path g.metadata g.block ≡ None
+  pub reads : IsBlockReadBack S g.path g.metadata g.block
   pub shallow : IsBlockShallow g.metadata g.block
-  pub same : map.get s.values (g.path ++ zmetadata ∷ [])
-      ≡ map.get (after S (store_edits g.path g.metadata g.block)).values (g.path ++ zmetadata ∷ [])
+  pub same : map.get s.values (g.path ++ zmetadata ∷ []) ≡ map.get S.values (g.path ++ zmetadata ∷ [])
 
 -- in a store, by each version by which the path of the group means the group, where the policy is not Never: the one
 -- forest of a node opened there is f, and the opening is not refused; and a group opened there has beside its
@@ -133,7 +147,7 @@ pub record OpensToV2 (s : Contents) (g : GroupState) (f : Forest) (B : Block) : 
       → GivesBack h f
 
 -- A version 2 group that was stored with the block of a listed forest of version 2 nodes, in the order of its keys,
--- gives the forest back over any store that has its document `.zmetadata`.
+-- gives the forest back over any store that has its document `.zmetadata`, and in whose numbers it is plain.
 abbrev pub StoredV2GivesBack : Type 0
 StoredV2GivesBack =
     (of : Path → Meaning) (g : GroupState) (f : Forest) (B : Block) → ConsolidatesV2 of g f B → IsAscending B

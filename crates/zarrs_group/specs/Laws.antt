@@ -1,11 +1,14 @@
 -- What holds of groups by the definitions alone.
 -- <https://zarr-specs.readthedocs.io/en/latest/v3/core/index.html#group-metadata>
-use Rattle.std.specs.Prelude.{◌≡◌, ◌≢◌, ◌≤◌, ◌↔◌, List, [], ◌∷◌, ◌++◌, Option, None, IsTrue}
+use Rattle.std.specs.Prelude.{◌≡◌, ◌≢◌, ◌≤◌, ◌↔◌, Bool, List, [], ◌∷◌, ◌++◌, Option, None, IsTrue}
 use Rattle.std.specs.FinMap as map
 use Rattle.serde_json.specs.Data.{depth, object}
 use Rattle.serde_json.specs.Read.{max_depth}
 use Rattle.zarrs_store.specs.Segments.{Segments}
 use Rattle.zarrs_store.specs.Contents.{Contents, Values}
+use Rattle.zarrs_store.specs.declared.storage_error.StorageError.{StorageError}
+use Rattle.zarrs_fault.specs.declared.numbers.Numbers.{Numbers}
+use Rattle.zarrs_fault.specs.declared.numbers.Numbers.TheVariants.{Whole}
 use Rattle.zarrs_path.specs.Keys.{zarr_json, zarray, zgroup, zattrs, zmetadata}
 use Rattle.zarrs_path.specs.Paths.{Path}
 use Rattle.zarrs_config.specs.declared.version.MetadataEraseVersion.{MetadataEraseVersion}
@@ -18,11 +21,12 @@ use Rattle.zarrs_meta.specs.declared.node.GroupMetadata.{GroupMetadata}
 use Rattle.zarrs_meta.specs.declared.node.GroupMetadata.TheVariants.{V3, V2}
 use Rattle.zarrs_block.specs.Block.{Block}
 use Rattle.zarrs_group.specs.Groups.{GroupState, attributes_of_group, group_as_v3}
-use Rattle.zarrs_group.specs.Plain.{group_fault, is_plain_group}
+use Rattle.zarrs_group.specs.Plain.{group_fault, group_fault_in, is_plain_group, is_plain_group_in}
 use Rattle.zarrs_group.specs.Edits.{Edit, after, IsCutShort}
 use Rattle.zarrs_group.specs.Meaning.{MeansGroup}
 use Rattle.zarrs_meta.specs.Node.{group_without_attributes}
-use Rattle.zarrs_group.specs.StoringGroups.{erase_edits, store_edits}
+use Rattle.zarrs_group.specs.StoringGroups.{AreEditsOf, RefusesStoring, StoresDocuments, erase_edits, store_changes}
+use Rattle.zarrs_group.specs.StoringGroups.{store_edits, stored_fault}
 
 -- the new group has the path, the attributes, and the versions for storing and erasing that the old one has
 pub record IsKept (old new : GroupState) : Type 0 where
@@ -48,6 +52,23 @@ Version3Twice = (g : GroupState) → group_as_v3 (group_as_v3 g) ≡ group_as_v3
 abbrev pub PlainIsStored : Type 0
 PlainIsStored = (m : GroupMetadata) → (group_fault m ≡ None) ↔ IsTrue (is_plain_group m)
 
+-- the same where documents may hold these numbers
+abbrev pub PlainIsStoredIn : Numbers → Type 0
+PlainIsStoredIn numbers = (m : GroupMetadata) → (group_fault_in numbers m ≡ None) ↔ IsTrue (is_plain_group_in numbers m)
+
+-- where a group could have come from documents whose numbers are whole, the edits that store it are exactly these
+abbrev pub WholeEditsAreExact : Type 0
+WholeEditsAreExact =
+    (p : Path) (m : GroupMetadata) (block : Option Block) (es : List Edit) → stored_fault p m block ≡ None
+    → AreEditsOf (store_changes p m block) es → es ≡ store_edits p m block
+
+-- over a store whose documents hold whole numbers only, a first part of exactly these edits was done where storing is
+-- refused, and not all of them
+abbrev pub WholeRefusalIsExact : Type 0
+WholeRefusalIsExact =
+    (can_fail : Bool) (p : Path) (m : GroupMetadata) (block : Option Block) (S S' : Contents) (e : StorageError)
+    → S.numbers ≡ Whole → RefusesStoring can_fail p m block S S' e → IsCutShort S (store_edits p m block) S'
+
 -- every key but the four of a group has what it had
 abbrev pub OthersStay : Path → Values → Values → Type 0
 OthersStay p old new =
@@ -64,11 +85,13 @@ OthersStayAfter p edits =
     (S : Contents)
     → DiffersAtGroup p S (after S edits) × ((S' : Contents) → IsCutShort S edits S' → DiffersAtGroup p S S')
 
--- storing and erasing leave every key but the four of the group as it was, also where they are refused
+-- storing, of whatever numbers, and erasing leave every key but the four of the group as it was, also where they are
+-- refused
 abbrev pub OtherKeysStay : Type 0
 OtherKeysStay =
     (p : Path) (m : GroupMetadata)
     → ((block : Option Block) → OthersStayAfter p (store_edits p m block))
+    × ((block : Option Block) (es : List Edit) → AreEditsOf (store_changes p m block) es → OthersStayAfter p es)
     × ((v : MetadataEraseVersion) → OthersStayAfter p (erase_edits p v m))
 
 -- `.zarray` is at none of the four keys, so storing and erasing never touch it
@@ -98,6 +121,13 @@ MeansStored S p (V2 m) =
     depth (object m.attributes) ≤ max_depth → depth (group_v2_tree (group_without_attributes m)) ≤ max_depth
     → MeansGroup S retrieve.V2 p (V2 m)
 
--- after it was stored, at whatever path, with whatever block and over whatever store, the path means the group
+-- after it was stored in whole numbers, at whatever path, with whatever block and over whatever store, the path means
+-- the group
 abbrev pub StoredMeans : GroupMetadata → Type 0
 StoredMeans m = (S : Contents) (p : Path) (block : Option Block) → MeansStored (after S (store_edits p m block)) p m
+
+-- after a group was stored that is plain in the numbers of the store, the path means the group
+abbrev pub StoredMeansIn : Type 0
+StoredMeansIn =
+    (S S' : Contents) (p : Path) (m : GroupMetadata) (block : Option Block) → group_fault_in S.numbers m ≡ None
+    → StoresDocuments p m block S S' → MeansStored S' p m

@@ -1,5 +1,5 @@
 -- Steps of opening and storing groups: what their private calls answer; no public contract rests on them.
-use Rattle.std.specs.Prelude.{◌≡◌, Bool, IsTrue, Option, Some, None, false}
+use Rattle.std.specs.Prelude.{◌≡◌, Bool, IsTrue, Option, Some, None}
 use Rattle.zarrs_store.specs.declared.storage_error.StorageError.{StorageError}
 use Rattle.zarrs_store.specs.declared.storage_error.StorageError.TheVariants.{Fault, InvalidMetadata, Other}
 use Rattle.zarrs_store.specs.declared.storage_error.StorageError.TheVariants.{OutOfMemory}
@@ -10,13 +10,7 @@ use Rattle.zarrs_block.specs.Meaning.{Meaning, node, nothing, bad}
 use Rattle.zarrs_group.specs.declared.edit.Edit.{Edit as RustEdit}
 use Rattle.zarrs_group.specs.declared.edit.Edit.TheVariants.{Set, Erase}
 use Rattle.zarrs_group.specs.Edits.{Edit, set, remove}
-use Rattle.serde_json.specs.Data.{object, Members}
-use Rattle.zarrs_form.specs.Documents.{is_empty}
-use Rattle.zarrs_meta.specs.GroupV3.{group_v3_tree}
-use Rattle.zarrs_meta.specs.GroupV2.{group_v2_tree}
-use Rattle.zarrs_meta.specs.Node.{group_without_attributes}
-use Rattle.zarrs_meta.specs.declared.node.GroupMetadata.TheVariants.{V3, V2}
-use Rattle.zarrs_group.specs.Layout.{IsReadBack}
+use Rattle.serde_json.specs.Data.{Members}
 use Rattle.std.specs.Borrow.{Lends, MutBor, Fml}
 use Rattle.zarrs_meta.specs.contracts.node.GroupMetadata.{the_row as metadata_row}
 use Rattle.zarrs_form.specs.contracts.shapes.Object.{the_row as object_row}
@@ -52,13 +46,6 @@ RefusesMeaning can_fail meaning OutOfMemory = Unit {0}
 abbrev pub edit_of : RustEdit → Edit
 edit_of (Set key bytes) = set key bytes.items
 edit_of (Erase key) = remove key
-
--- the bytes of each document of the metadata are read as that document
-abbrev pub AreReadBack : GroupMetadata → Type 0
-AreReadBack (V3 m) = IsReadBack (group_v3_tree m)
-AreReadBack (V2 m) =
-    (is_empty m.attributes ≡ false → IsReadBack (object m.attributes))
-    × IsReadBack (group_v2_tree (group_without_attributes m))
 
 -- the metadata end with the attributes that were last written
 abbrev pub LendsAttributesOf : MutBor GroupMetadata → MutBor Members → Fml

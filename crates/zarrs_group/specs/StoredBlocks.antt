@@ -35,7 +35,7 @@ use Rattle.zarrs_group.specs.BlocksOfGroups.{with_block, Fits}
 use Rattle.zarrs_group.specs.Edits.{AgreesOutsideKey, Edit, after, after_edit, edit_key}
 use Rattle.zarrs_group.specs.Laws.{MeansStored}
 use Rattle.zarrs_group.specs.Meaning.{MeansGroup}
-use Rattle.zarrs_group.specs.StoringGroups.{edits_of_group, RefusesStoringGroup}
+use Rattle.zarrs_group.specs.StoringGroups.{edits_of_group, StoresGroup, RefusesStoringGroup}
 
 -- in a store, by a version: p means the group; a node opened there by the group's block, under Must, has the forest
 -- below it that one opened by a listing, under Never, has; and under no policy does anything in the store refuse the
@@ -49,12 +49,13 @@ pub record OpensAlike (S : Contents) (v : MetadataRetrieveVersion) (p : Path) (m
 abbrev pub EditKeepsOthers : Type 0
 EditKeepsOthers = (S : Contents) (e : Edit) → AgreesOutsideKey (edit_key e) S (after_edit S e)
 
--- Storing a version 3 group, by whatever version, leaves every key but that of its document as it was, and the
--- numbers, also where it is refused.
+-- Storing a version 3 group, by whatever version and with whatever numbers, leaves every key but that of its document
+-- as it was, and the numbers, also where it is refused.
 abbrev pub StoringKeepsOthers : Type 0
 StoringKeepsOthers =
     (S T : Contents) (v : MetadataConvertVersion) (g : GroupState) (m : GroupMetadataV3) → g.metadata ≡ V3 m
     → AgreesOutsideKey (g.path ++ zarr_json ∷ []) S (after S (edits_of_group v g))
+    × (StoresGroup v g S T → AgreesOutsideKey (g.path ++ zarr_json ∷ []) S T)
     × ((can_fail : Bool) (e : StorageError) → RefusesStoringGroup can_fail v g S T e
     → AgreesOutsideKey (g.path ++ zarr_json ∷ []) S T)
 

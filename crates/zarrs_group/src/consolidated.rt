@@ -3,12 +3,13 @@ ghost use Rattle.std.specs.Prelude.{◌≡◌, [], ◌∷◌, codes, IfOk, IfErr
 ghost use Rattle.std.specs.Borrow.{sem};
 ghost use Rattle.serde_json.specs.Data.{put};
 ghost use Rattle.zarrs_form.specs.Documents.{besides};
+ghost use Rattle.zarrs_fault.specs.declared.numbers.Numbers.{Numbers};
 ghost use Rattle.zarrs_form.specs.Fields.{field_data};
 ghost use Rattle.zarrs_meta.specs.declared.node.GroupMetadata.TheVariants.{V2};
 ghost use Rattle.zarrs_block.specs.Block.{block_tree};
 ghost use Rattle.zarrs_block.specs.Policy.{as_block};
 ghost use Rattle.zarrs_group.specs.BlocksBeside.{IsBeside};
-ghost use Rattle.zarrs_group.specs.BlocksOfGroups.{held_by, held_by_in, fields_with, metadata_with, with_block, Fits, RefusesBlock, CanHold};
+ghost use Rattle.zarrs_group.specs.BlocksOfGroups.{held_by, held_by_in, fields_with, metadata_with, with_block, Fits, RefusesBlock, CanHoldIn};
 ghost use Rattle.zarrs_group.specs.Lending.{Rests};
 ghost use Rattle.zarrs_group.specs.StepsOfLending.{RestsLent, group_lent};
 
@@ -84,8 +85,9 @@ impl Group {
         ensures ok { IfOk result
             (λ group. group.now ≡ with_block self.old (as_block consolidated_metadata)) }
         ensures held { IfOk result
-            (λ group. CanHold self.old (as_block consolidated_metadata)
-            → held_by group.now ≡ as_block consolidated_metadata) }
+            (λ group. (numbers : Numbers)
+            → CanHoldIn numbers self.old (as_block consolidated_metadata)
+            → held_by_in numbers group.now ≡ as_block consolidated_metadata) }
         ensures fits { IfOk result (λ _. Fits self.old.metadata (as_block consolidated_metadata)) }
         ensures err { IfErr result
             (RefusesBlock self.old.metadata (as_block consolidated_metadata)) }

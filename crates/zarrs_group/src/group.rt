@@ -14,7 +14,7 @@ ghost use Rattle.zarrs_group.specs.Edits.{after, IsCutShort};
 ghost use Rattle.zarrs_group.specs.Laws.{MeansStored};
 ghost use Rattle.zarrs_group.specs.Meaning.{MeansGroup};
 ghost use Rattle.zarrs_group.specs.OpeningGroups.{IsUnsupportedIn, RefusesMaking, RefusesOpeningGroup};
-ghost use Rattle.zarrs_group.specs.StoringGroups.{IsBlockReadBack, edits_of_group, fault_of_group, RefusesStoringGroup, erase_edits};
+ghost use Rattle.zarrs_group.specs.StoringGroups.{IsBlockReadBack, StoresGroup, edits_of_group, fault_of_group, fault_of_group_in, RefusesStoringGroup, erase_edits};
 ghost use Rattle.zarrs_config.specs.declared.version.MetadataRetrieveVersion.TheVariants.{Default as BothVersions};
 
 use crate::consolidated::copy_of;
@@ -341,16 +341,24 @@ impl Group {
         storage: &mut S,
     ) -> Result<(), StorageError>
         ensures ok { OnOk result
-            (S.contents storage.new
+            (StoresGroup self.now.convert_version self.now
+            (S.contents storage.old) (S.contents storage.new)) }
+        ensures exact { OnOk result
+            (fault_of_group self.now.convert_version self.now ≡ None
+            → S.contents storage.new
             ≡ after (S.contents storage.old) (edits_of_group self.now.convert_version self.now)) }
         ensures means { OnOk result
             (MeansStored (S.contents storage.new) self.now.path
             (metadata_by_version self.now.convert_version self.now.metadata)) }
-        ensures plain { OnOk result (fault_of_group self.now.convert_version self.now ≡ None) }
+        ensures plain { OnOk result
+            (fault_of_group_in (S.contents storage.old).numbers
+            self.now.convert_version self.now ≡ None) }
         ensures block_reads { OnOk result
-            (IsBlockReadBack
+            (IsBlockReadBack (S.contents storage.new) self.now.path
             (metadata_by_version self.now.convert_version self.now.metadata) self.now.block) }
-        ensures unchanged { fault_of_group self.now.convert_version self.now ≢ None
+        ensures unchanged {
+            fault_of_group_in (S.contents storage.old).numbers
+            self.now.convert_version self.now ≢ None
             → S.contents storage.new ≡ S.contents storage.old }
         ensures err { IfErr result
             (RefusesStoringGroup (S.can_fail storage.old) self.now.convert_version self.now
@@ -360,20 +368,22 @@ impl Group {
         self.store_metadata_opt(alloc, storage, &self.options)
     }
 
-    /// Stores the group as the options have its metadata written. All keys and bytes are made before the store is changed:
+    /// Stores the group as the options have its metadata written, over a store whose documents may hold any number with its fractions too. All
+    /// keys and bytes are made before the store is changed:
     /// version 3 sets `zarr.json`; version 2 sets `.zattrs`, or erases it where there are no attributes, and then sets
     /// `.zgroup`. Where it holds no block, version 2 first erases `.zmetadata`, so that no older block is taken for its own; where it holds
-    /// one, it sets `.zmetadata` last.
+    /// one, it sets `.zmetadata` last. A document is stored in the pretty layout, two spaces a level; a fraction in it is written as its `f64`, not
+    /// digit by digit, and reads back as that.
     ///
     /// # Errors
     ///
     /// The first that applies, with the store unchanged:
     ///
     /// - `InvalidMetadata` with the key of the group's document where the metadata could not have come from a document:
-    ///   `UnsupportedNumber` for a number that is neither `u64` nor `i64`, whatever the numbers of the store, else `BadMember` with the least
-    ///   additional field that clashes with a name of the document's own.
+    ///   `UnsupportedNumber` for a number that is neither `u64` nor `i64` where the numbers of the store are whole, else `BadMember` with the
+    ///   least additional field that clashes with a name of the document's own.
     /// - `InvalidMetadata` with the key of `.zmetadata` where the metadata of an entry of the block could not have come
-    ///   from a document: `UnsupportedNumber` for a number of any entry, else `BadMember` with `metadata`.
+    ///   from a document: `UnsupportedNumber` for such a number of any entry, else `BadMember` with `metadata`.
     ///
     /// Besides, the store's own error and out of memory: then the changes before the refused one stand, of its key
     /// nothing is promised, and no later key was touched.
@@ -386,15 +396,21 @@ impl Group {
         options: &GroupMetadataOptions,
     ) -> Result<(), StorageError>
         ensures ok { OnOk result
-            (S.contents storage.new
+            (StoresGroup options.now self.now (S.contents storage.old) (S.contents storage.new)) }
+        ensures exact { OnOk result
+            (fault_of_group options.now self.now ≡ None
+            → S.contents storage.new
             ≡ after (S.contents storage.old) (edits_of_group options.now self.now)) }
         ensures means { OnOk result
             (MeansStored (S.contents storage.new) self.now.path
             (metadata_by_version options.now self.now.metadata)) }
-        ensures plain { OnOk result (fault_of_group options.now self.now ≡ None) }
+        ensures plain { OnOk result
+            (fault_of_group_in (S.contents storage.old).numbers options.now self.now ≡ None) }
         ensures block_reads { OnOk result
-            (IsBlockReadBack (metadata_by_version options.now self.now.metadata) self.now.block) }
-        ensures unchanged { fault_of_group options.now self.now ≢ None
+            (IsBlockReadBack (S.contents storage.new) self.now.path
+            (metadata_by_version options.now self.now.metadata) self.now.block) }
+        ensures unchanged {
+            fault_of_group_in (S.contents storage.old).numbers options.now self.now ≢ None
             → S.contents storage.new ≡ S.contents storage.old }
         ensures err { IfErr result
             (RefusesStoringGroup (S.can_fail storage.old) options.now self.now
@@ -402,7 +418,7 @@ impl Group {
         ensures nature { S.can_fail storage.new ≡ S.can_fail storage.old }
     {
         let metadata = self.metadata_opt(alloc, options)?;
-        let edits = edits_to_store(alloc, &self.path, metadata, &self.block)?;
+        let edits = edits_to_store(alloc, storage.numbers(), &self.path, metadata, &self.block)?;
         apply_all(storage, edits.as_slice())
     }
 

@@ -1,8 +1,10 @@
 //! What holds of making, storing and erasing groups. A function here is empty, but for the one that makes the bytes of
 //! which its law speaks; its contract is the law.
 ghost use Rattle.std.specs.Prelude.{◌≡◌, None, IfErr, OnOk};
-ghost use Rattle.zarrs_group.specs.Laws.{Version3Keeps, Version3Stays, Version3Twice, PlainIsStored, ErasingAllErases, OtherKeysStay, ArraysStay, StoredMeans};
-ghost use Rattle.zarrs_group.specs.GivesBack.{GroupGivesBack, GroupV2GivesBack, StoredGivesBack, StoredV2GivesBack};
+ghost use Rattle.zarrs_fault.specs.declared.numbers.Numbers.TheVariants.{Whole};
+ghost use Rattle.zarrs_group.specs.Layout.{StoredTextIsExact};
+ghost use Rattle.zarrs_group.specs.Laws.{Version3Keeps, Version3Stays, Version3Twice, PlainIsStored, PlainIsStoredIn, WholeEditsAreExact, WholeRefusalIsExact, ErasingAllErases, OtherKeysStay, ArraysStay, StoredMeans, StoredMeansIn};
+ghost use Rattle.zarrs_group.specs.GivesBack.{GroupGivesBack, GroupV2GivesBack, StoredGivesBack, StoredGivesBackIn, StoredV2GivesBack};
 ghost use Rattle.zarrs_group.specs.StoredBlocks.{EditKeepsOthers, StoringKeepsOthers, MeansVersion3, ListedBlockOpens, WrittenBlockOpens};
 ghost use Rattle.zarrs_group.specs.StoringGroups.{RefusesMetadata};
 
@@ -10,7 +12,7 @@ use crate::stored::edits_to_store;
 use std::alloc::Global;
 use zarrs_meta::GroupMetadata;
 use zarrs_path::NodePath;
-use zarrs_store::StorageError;
+use zarrs_store::{Numbers, StorageError};
 
 /// As version 3 a group keeps its path, its attributes, and the versions that it is stored and erased by.
 #[tactic(auto, using(crate::proofs::Version3::keeps))]
@@ -30,10 +32,37 @@ pub fn version_3_twice()
     ensures { Version3Twice }
 {}
 
-/// Metadata are stored exactly where they could have come from documents.
+/// Metadata are stored exactly where they could have come from documents, where numbers have to be whole.
 #[tactic(auto, using(crate::proofs::PlainLaws::plain_is_stored))]
 pub fn plain_is_stored()
     ensures { PlainIsStored }
+{}
+
+/// The same where documents may hold these numbers.
+#[tactic(auto, using(crate::proofs::PlainLaws::plain_is_stored_in))]
+pub fn plain_is_stored_in(numbers: Numbers)
+    ensures { PlainIsStoredIn numbers }
+{}
+
+/// Of a tree without a fraction one text is stored: its pretty layout.
+///
+/// Source: RFC 8259, "Numbers".
+pub fn stored_text_is_exact()
+    ensures { StoredTextIsExact }
+{}
+
+/// Where no number of a group is a fraction, the edits that store it are known byte by byte, whatever the numbers of the store.
+///
+/// Source: `zarrs::group::Group::store_metadata`.
+pub fn whole_edits_are_exact()
+    ensures { WholeEditsAreExact }
+{}
+
+/// Over a store of whole numbers a refused storing did a first part of exactly these edits, and not all of them.
+///
+/// Source: `zarrs::group::Group::store_metadata`.
+pub fn whole_refusal_is_exact()
+    ensures { WholeRefusalIsExact }
 {}
 
 /// Erasing with All leaves none of the four keys of the group, and every other key as it was.
@@ -52,8 +81,8 @@ pub fn arrays_stay()
     ensures { ArraysStay }
 {}
 
-/// Where plain metadata are stored, at whatever path, with whatever block beside those of version 2 and over whatever store, the path means the
-/// group.
+/// Where metadata that are plain in whole numbers are stored, at whatever path, with whatever block beside those of version 2 and over whatever
+/// store, the path means the group.
 ///
 /// # Errors
 ///
@@ -64,13 +93,20 @@ pub fn stored_means(
     metadata: &GroupMetadata,
 ) -> Result<(), StorageError>
     ensures ok { OnOk result (StoredMeans metadata.now) }
-    ensures err { IfErr result (RefusesMetadata path.now metadata.now None) }
+    ensures err { IfErr result (RefusesMetadata Whole path.now metadata.now None) }
 {
     let copy = metadata.try_clone(alloc)?;
-    let edits = edits_to_store(alloc, path, copy, &None)?;
+    let edits = edits_to_store(alloc, Numbers::Whole, path, copy, &None)?;
     drop(edits);
     Ok(())
 }
+
+/// Where metadata that are plain in the numbers of the store are stored, the path means the group.
+///
+/// Source: `zarrs::group::Group::store_metadata`.
+pub fn stored_means_in()
+    ensures { StoredMeansIn }
+{}
 
 /// A version 3 group whose block was set to that of a listed forest gives the forest back: by `children`, recursive, and by `traverse`, whatever
 /// store is handed in, under every policy but Never.
@@ -96,7 +132,14 @@ pub fn stored_gives_back()
     ensures { StoredGivesBack }
 {}
 
-/// As the group of version 2 does, so does a node opened at its path over any store that has the document `.zmetadata` of the stored group, by each version by which the path means the
+/// The same of a group whose block is plain in the numbers of the store that it was stored in.
+///
+/// Source: `zarrs::node::Node::open_opt`, `zarrs::group::Group::store_metadata`.
+pub fn stored_gives_back_in()
+    ensures { StoredGivesBackIn }
+{}
+
+/// As the group of version 2 does, so does a node opened at its path over any store that has the document `.zmetadata` of the stored group and in whose numbers it is plain, by each version by which the path means the
 /// group there, where that document does not nest too deep; and a group opened there holds a block with the same entries, and gives the forest back by
 /// `children`, recursive, and by `traverse`, whatever store is handed in.
 ///

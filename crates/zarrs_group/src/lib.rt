@@ -15,6 +15,7 @@ mod layout;
 mod nesting;
 mod open;
 mod plain;
+mod plain_names;
 mod stored;
 mod unsupported;
 

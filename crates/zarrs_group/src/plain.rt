@@ -3,10 +3,12 @@ ghost use Rattle.std.specs.Prelude.{◌≡◌, [], is_some, IfOk};
 ghost use Rattle.serde_json.specs.Data.{Members, object};
 ghost use Rattle.serde_json.specs.View.{view};
 ghost use Rattle.serde_json.specs.Written as written;
+ghost use Rattle.zarrs_fault.specs.declared.numbers.Numbers.TheVariants.{Whole};
 ghost use Rattle.zarrs_block.specs.BlockExpansion.{path_at};
-ghost use Rattle.zarrs_group.specs.Plain.{group_v3_fault, group_v2_fault, block_fault, node_has_float, node_fields};
+ghost use Rattle.zarrs_group.specs.Plain.{group_v3_fault_in, group_v2_fault_in, block_fault_in, node_exceeds, node_fields};
 ghost use Rattle.zarrs_group.specs.Plain as plain;
 
+use crate::plain_names::is_plain;
 use serde_json::Value;
 use std::alloc::{AllocError, Global};
 use zarrs_block::{ConsolidatedMetadata, ConsolidatedMetadataMetadata};
@@ -15,14 +17,14 @@ use zarrs_meta::{
     AdditionalFieldsV3, ArrayMetadata, GroupMetadata, GroupMetadataV2, GroupMetadataV3,
     NodeMetadata, Object,
 };
-use zarrs_store::{MemberName, MetadataFault};
+use zarrs_store::{MemberName, MetadataFault, Numbers};
 
-/// Why a version 3 group is not plain, or nothing where it is.
-pub(crate) fn group_v3_fault(group: &GroupMetadataV3) -> Option<MetadataFault>
-    ensures { result ≡ group_v3_fault group.now }
+/// Why a version 3 group is not plain in these numbers, or nothing where it is.
+pub(crate) fn group_v3_fault(numbers: Numbers, group: &GroupMetadataV3) -> Option<MetadataFault>
+    ensures { result ≡ group_v3_fault_in numbers group.now }
 {
     let fields = &group.additional_fields;
-    if group.attributes.has_float() || fields.has_float() {
+    if members_exceed(numbers, &group.attributes) || fields_exceed(numbers, fields) {
         return Some(MetadataFault::UnsupportedNumber);
     }
     let clash = if has_field(fields, "attributes") {
@@ -39,12 +41,12 @@ pub(crate) fn group_v3_fault(group: &GroupMetadataV3) -> Option<MetadataFault>
     Some(MetadataFault::BadMember(MemberName::new(clash)))
 }
 
-/// Why a version 2 group is not plain, or nothing where it is.
-pub(crate) fn group_v2_fault(group: &GroupMetadataV2) -> Option<MetadataFault>
-    ensures { result ≡ group_v2_fault group.now }
+/// Why a version 2 group is not plain in these numbers, or nothing where it is.
+pub(crate) fn group_v2_fault(numbers: Numbers, group: &GroupMetadataV2) -> Option<MetadataFault>
+    ensures { result ≡ group_v2_fault_in numbers group.now }
 {
     let fields = &group.additional_fields;
-    if group.attributes.has_float() || fields.has_float() {
+    if members_exceed(numbers, &group.attributes) || members_exceed(numbers, fields) {
         return Some(MetadataFault::UnsupportedNumber);
     }
     let clash = if has_member(fields, "attributes") {
@@ -57,6 +59,26 @@ pub(crate) fn group_v2_fault(group: &GroupMetadataV2) -> Option<MetadataFault>
         return None;
     };
     Some(MetadataFault::BadMember(MemberName::new(clash)))
+}
+
+// Whether some number of the members is none of these.
+fn members_exceed(numbers: Numbers, members: &Object) -> bool
+    ensures { result ≡ plain.members_exceed numbers members.now }
+{
+    match numbers {
+        Numbers::Whole => members.has_float(),
+        Numbers::Any => false,
+    }
+}
+
+// Whether some number of the fields is none of these.
+fn fields_exceed(numbers: Numbers, fields: &AdditionalFieldsV3) -> bool
+    ensures { result ≡ plain.members_exceed numbers fields.now }
+{
+    match numbers {
+        Numbers::Whole => fields.has_float(),
+        Numbers::Any => false,
+    }
 }
 
 // Whether a member has this name.
@@ -79,19 +101,20 @@ fn has_field(fields: &AdditionalFieldsV3, name: &str) -> bool
     }
 }
 
-/// Why a block is not stored beside the metadata of a version 2 group, or nothing where it is.
+/// Why a block is not stored in these numbers beside the metadata of a version 2 group, or nothing where it is.
 pub(crate) fn block_fault(
     alloc: Global,
+    numbers: Numbers,
     block: &ConsolidatedMetadata,
 ) -> Result<Option<MetadataFault>, AllocError>
-    ensures { IfOk result (λ fault. fault ≡ block_fault block.now.metadata) }
+    ensures { IfOk result (λ fault. fault ≡ block_fault_in numbers block.now.metadata) }
 {
     let mut clash = false;
     for (key, node) in block.metadata.as_map().iter() {
-        if node.is_plain() || !is_entry(&block.metadata, key.as_str()) {
+        if is_plain(numbers, node) || !is_entry(&block.metadata, key.as_str()) {
             continue;
         }
-        if node_has_float(alloc, node)? {
+        if node_exceeds(alloc, numbers, node)? {
             return Ok(Some(MetadataFault::UnsupportedNumber));
         }
         clash = true;
@@ -113,9 +136,19 @@ fn is_entry(block: &ConsolidatedMetadataMetadata, key: &str) -> bool
     }
 }
 
-// Whether some number of a node does not fit.
+// Whether some number of a node is none of these: nothing is asked where they may be any.
+fn node_exceeds(alloc: Global, numbers: Numbers, node: &NodeMetadata) -> Result<bool, AllocError>
+    ensures { IfOk result (λ found. found ≡ node_exceeds numbers node.now) }
+{
+    match numbers {
+        Numbers::Whole => node_has_float(alloc, node),
+        Numbers::Any => Ok(false),
+    }
+}
+
+// Whether some number of a node is a fraction.
 fn node_has_float(alloc: Global, node: &NodeMetadata) -> Result<bool, AllocError>
-    ensures { IfOk result (λ found. found ≡ node_has_float node.now) }
+    ensures { IfOk result (λ found. found ≡ node_exceeds Whole node.now) }
 {
     let value = node.to_value(alloc)?;
     Ok(document_has_float(&value) || own_fields_have_float(node))

@@ -1,18 +1,18 @@
 //! The edits that store and erase a group.
-ghost use Rattle.std.specs.Prelude.{◌≡◌, [], ◌∷◌, None, Some, Option, false, map, IfOk, IfErr};
+ghost use Rattle.std.specs.Prelude.{◌≡◌, [], ◌∷◌, ◌++◌, None, Some, Option, map, IfOk, IfErr};
 ghost use Rattle.serde_json.specs.Data.{object};
 ghost use Rattle.serde_json.specs.View.{view};
-ghost use Rattle.serde_json.specs.Written.{members_have_float};
 ghost use Rattle.zarrs_form.specs.Documents.{is_empty};
+ghost use Rattle.zarrs_form.specs.Forms.{unless};
+ghost use Rattle.zarrs_path.specs.Keys.{zattrs, zmetadata};
 ghost use Rattle.zarrs_meta.specs.declared.node.GroupMetadata.TheVariants.{V3, V2};
 ghost use Rattle.zarrs_block.specs.Block.{Block};
 ghost use Rattle.zarrs_block.specs.Policy.{as_block};
 ghost use Rattle.zarrs_block.specs.Zmetadata.{zmetadata_tree};
 ghost use Rattle.zarrs_group.specs.BlocksBeside.{IsBeside};
-ghost use Rattle.zarrs_group.specs.Layout.{IsReadBack};
-ghost use Rattle.zarrs_group.specs.Plain.{group_v2_fault, block_fault};
-ghost use Rattle.zarrs_group.specs.StepsOfGroups.{edit_of, AreReadBack};
-ghost use Rattle.zarrs_group.specs.StoringGroups.{IsBlockReadBack, RefusesMetadata, attributes_edit, own_edits, block_edit, store_edits, erase_edits, stored_fault};
+ghost use Rattle.zarrs_group.specs.Plain.{group_v2_fault_in, block_fault_in};
+ghost use Rattle.zarrs_group.specs.StepsOfGroups.{edit_of};
+ghost use Rattle.zarrs_group.specs.StoringGroups.{AreEditsOf, IsEditAt, RefusesMetadata, own_changes, store_changes, erase_edits, stored_fault_in};
 
 use crate::edit::Edit;
 use crate::layout::pretty_bytes;
@@ -26,46 +26,50 @@ use zarrs_path::{
     NodePath, NodePathError, meta_key_v2_attributes, meta_key_v2_consolidated, meta_key_v2_group,
     meta_key_v3,
 };
-use zarrs_store::StorageError;
+use zarrs_store::{Numbers, StorageError};
 
-/// The edits that store the metadata of a group, and of one of version 2 the block beside them, where all is plain.
+/// The edits that store the metadata of a group, and of one of version 2 the block beside them, where all is plain in these numbers.
 pub(crate) fn edits_to_store(
     alloc: Global,
+    numbers: Numbers,
     path: &NodePath,
     metadata: GroupMetadata,
     block: &Option<ConsolidatedMetadata>,
 ) -> Result<Vec<Edit>, StorageError>
     requires { IsBeside (as_block block.now) }
     ensures ok { IfOk result
-        (λ edits. map edit_of edits.items ≡ store_edits path.now metadata (as_block block.now)) }
-    ensures plain { IfOk result (λ _. stored_fault path.now metadata (as_block block.now) ≡ None) }
-    ensures reads { IfOk result (λ _. AreReadBack metadata) }
-    ensures block_reads { IfOk result (λ _. IsBlockReadBack metadata (as_block block.now)) }
-    ensures err { IfErr result (RefusesMetadata path.now metadata (as_block block.now)) }
+        (λ edits. AreEditsOf (store_changes path.now metadata (as_block block.now))
+        (map edit_of edits.items)) }
+    ensures plain { IfOk result
+        (λ _. stored_fault_in numbers path.now metadata (as_block block.now) ≡ None) }
+    ensures err { IfErr result (RefusesMetadata numbers path.now metadata (as_block block.now)) }
 {
     match (metadata, block) {
-        (GroupMetadata::V3(group), _) => edits_to_store_v3(alloc, path, &group),
-        (GroupMetadata::V2(group), None) => edits_without_block(alloc, path, group),
-        (GroupMetadata::V2(group), Some(block)) => edits_with_block(alloc, path, group, block),
+        (GroupMetadata::V3(group), _) => edits_to_store_v3(alloc, numbers, path, &group),
+        (GroupMetadata::V2(group), None) => edits_without_block(alloc, numbers, path, group),
+        (GroupMetadata::V2(group), Some(block)) => {
+            edits_with_block(alloc, numbers, path, group, block)
+        }
     }
 }
 
 fn edits_to_store_v3(
     alloc: Global,
+    numbers: Numbers,
     path: &NodePath,
     group: &GroupMetadataV3,
 ) -> Result<Vec<Edit>, StorageError>
     ensures ok { IfOk result
         (λ edits. (block : Option Block)
-        → map edit_of edits.items ≡ store_edits path.now (V3 group.now) block) }
+        → AreEditsOf (store_changes path.now (V3 group.now) block) (map edit_of edits.items)) }
     ensures plain { IfOk result
-        (λ _. (block : Option Block) → stored_fault path.now (V3 group.now) block ≡ None) }
-    ensures reads { IfOk result (λ _. AreReadBack (V3 group.now)) }
+        (λ _. (block : Option Block)
+        → stored_fault_in numbers path.now (V3 group.now) block ≡ None) }
     ensures err { IfErr result
-        (λ e. (block : Option Block) → RefusesMetadata path.now (V3 group.now) block e) }
+        (λ e. (block : Option Block) → RefusesMetadata numbers path.now (V3 group.now) block e) }
 {
     let key = meta_key_v3(alloc, path)?;
-    if let Some(fault) = group_v3_fault(group) {
+    if let Some(fault) = group_v3_fault(numbers, group) {
         return Err(StorageError::InvalidMetadata(key, fault));
     }
     let bytes = pretty_bytes(alloc, &group.to_value(alloc)?)?;
@@ -75,16 +79,17 @@ fn edits_to_store_v3(
 // Without a block `.zmetadata` is removed first.
 fn edits_without_block(
     alloc: Global,
+    numbers: Numbers,
     path: &NodePath,
     group: GroupMetadataV2,
 ) -> Result<Vec<Edit>, StorageError>
     ensures ok { IfOk result
-        (λ edits. map edit_of edits.items ≡ store_edits path.now (V2 group) None) }
-    ensures plain { IfOk result (λ _. stored_fault path.now (V2 group) None ≡ None) }
-    ensures reads { IfOk result (λ _. AreReadBack (V2 group)) }
-    ensures err { IfErr result (RefusesMetadata path.now (V2 group) None) }
+        (λ edits. AreEditsOf (store_changes path.now (V2 group) None)
+        (map edit_of edits.items)) }
+    ensures plain { IfOk result (λ _. stored_fault_in numbers path.now (V2 group) None ≡ None) }
+    ensures err { IfErr result (RefusesMetadata numbers path.now (V2 group) None) }
 {
-    ask_plain(alloc, path, &group)?;
+    ask_plain(alloc, numbers, path, &group)?;
     let key = meta_key_v2_consolidated(alloc, path)?;
     let (attributes, own) = edits_of_documents(alloc, path, group)?;
     Ok(vec![in alloc; Edit::Erase(key), attributes, own]?)
@@ -93,34 +98,39 @@ fn edits_without_block(
 // A block is set last.
 fn edits_with_block(
     alloc: Global,
+    numbers: Numbers,
     path: &NodePath,
     group: GroupMetadataV2,
     block: &ConsolidatedMetadata,
 ) -> Result<Vec<Edit>, StorageError>
     requires { IsBeside (Some block.now.metadata) }
     ensures ok { IfOk result
-        (λ edits. map edit_of edits.items
-        ≡ store_edits path.now (V2 group) (Some block.now.metadata)) }
+        (λ edits. AreEditsOf (store_changes path.now (V2 group) (Some block.now.metadata))
+        (map edit_of edits.items)) }
     ensures plain { IfOk result
-        (λ _. stored_fault path.now (V2 group) (Some block.now.metadata) ≡ None) }
-    ensures reads { IfOk result (λ _. AreReadBack (V2 group)) }
-    ensures block_reads { IfOk result (λ _. IsBlockReadBack (V2 group) (Some block.now.metadata)) }
-    ensures err { IfErr result (RefusesMetadata path.now (V2 group) (Some block.now.metadata)) }
+        (λ _. stored_fault_in numbers path.now (V2 group) (Some block.now.metadata) ≡ None) }
+    ensures err { IfErr result
+        (RefusesMetadata numbers path.now (V2 group) (Some block.now.metadata)) }
 {
-    ask_plain(alloc, path, &group)?;
-    let block = edit_of_block(alloc, path, &group, block)?;
+    ask_plain(alloc, numbers, path, &group)?;
+    let block = edit_of_block(alloc, numbers, path, &group, block)?;
     let (attributes, own) = edits_of_documents(alloc, path, group)?;
     Ok(vec![in alloc; attributes, own, block]?)
 }
 
 // Asks whether the metadata of a version 2 group are plain.
-fn ask_plain(alloc: Global, path: &NodePath, group: &GroupMetadataV2) -> Result<(), StorageError>
-    ensures plain { IfOk result (λ _. group_v2_fault group.now ≡ None) }
+fn ask_plain(
+    alloc: Global,
+    numbers: Numbers,
+    path: &NodePath,
+    group: &GroupMetadataV2,
+) -> Result<(), StorageError>
+    ensures plain { IfOk result (λ _. group_v2_fault_in numbers group.now ≡ None) }
     ensures err { IfErr result
-        (λ e. (block : Option Block) → RefusesMetadata path.now (V2 group.now) block e) }
+        (λ e. (block : Option Block) → RefusesMetadata numbers path.now (V2 group.now) block e) }
 {
     let key = meta_key_v2_group(alloc, path)?;
-    match group_v2_fault(group) {
+    match group_v2_fault(numbers, group) {
         Some(fault) => Err(StorageError::InvalidMetadata(key, fault)),
         None => Ok(()),
     }
@@ -132,10 +142,9 @@ fn edits_of_documents(
     path: &NodePath,
     group: GroupMetadataV2,
 ) -> Result<(Edit, Edit), AllocError>
-    requires { group_v2_fault group ≡ None }
-    ensures ok { IfOk result
-        (λ edits. map edit_of (edits.0 ∷ edits.1 ∷ []) ≡ own_edits path.now group) }
-    ensures reads { IfOk result (λ _. AreReadBack (V2 group)) }
+    ensures { IfOk result
+        (λ edits. AreEditsOf (own_changes path.now group)
+        (edit_of edits.0 ∷ edit_of edits.1 ∷ [])) }
 {
     let attributes = edit_of_attributes(alloc, path, group.attributes)?;
     let group = GroupMetadataV2 {
@@ -153,10 +162,8 @@ fn edit_of_attributes(
     path: &NodePath,
     attributes: Object,
 ) -> Result<Edit, AllocError>
-    requires { members_have_float attributes ≡ false }
-    ensures ok { IfOk result (λ edit. edit_of edit ≡ attributes_edit path.now attributes) }
-    ensures reads { IfOk result
-        (λ _. is_empty attributes ≡ false → IsReadBack (object attributes)) }
+    ensures { IfOk result (λ edit. IsEditAt (path.now ++ zattrs ∷ [])
+        (unless (is_empty attributes) (object attributes)) (edit_of edit)) }
 {
     let key = meta_key_v2_attributes(alloc, path)?;
     if attributes.is_empty() {
@@ -169,20 +176,21 @@ fn edit_of_attributes(
 // The edit of `.zmetadata`, where the entries of the block are plain.
 fn edit_of_block(
     alloc: Global,
+    numbers: Numbers,
     path: &NodePath,
     group: &GroupMetadataV2,
     block: &ConsolidatedMetadata,
 ) -> Result<Edit, StorageError>
-    requires own { group_v2_fault group.now ≡ None }
+    requires own { group_v2_fault_in numbers group.now ≡ None }
     requires beside { IsBeside (Some block.now.metadata) }
-    ensures ok { IfOk result
-        (λ edit. edit_of edit ≡ block_edit path.now group.now block.now.metadata) }
-    ensures plain { IfOk result (λ _. block_fault block.now.metadata ≡ None) }
-    ensures reads { IfOk result (λ _. IsReadBack (zmetadata_tree group.now block.now.metadata)) }
-    ensures err { IfErr result (RefusesMetadata path.now (V2 group.now) (Some block.now.metadata)) }
+    ensures ok { IfOk result (λ edit. IsEditAt (path.now ++ zmetadata ∷ [])
+        (Some (zmetadata_tree group.now block.now.metadata)) (edit_of edit)) }
+    ensures plain { IfOk result (λ _. block_fault_in numbers block.now.metadata ≡ None) }
+    ensures err { IfErr result
+        (RefusesMetadata numbers path.now (V2 group.now) (Some block.now.metadata)) }
 {
     let key = meta_key_v2_consolidated(alloc, path)?;
-    if let Some(fault) = block_fault(alloc, block)? {
+    if let Some(fault) = block_fault(alloc, numbers, block)? {
         return Err(StorageError::InvalidMetadata(key, fault));
     }
     let bytes = pretty_bytes(alloc, &written(alloc, group, block)?)?;

@@ -17,12 +17,12 @@ use Rattle.zarrs_block.specs.declared.node_create_error.NodeCreateError.TheVaria
 use Rattle.zarrs_node.specs.Changes.{AgreesOutside}
 use Rattle.zarrs_node.specs.ListedBlocks.{IsListedBlock}
 use Rattle.zarrs_group.specs.BlocksOfGroups.{RefusesBlock, metadata_with, with_block}
-use Rattle.zarrs_group.specs.Edits.{AgreesOutsideKey, after, after_edit, set, remove}
+use Rattle.zarrs_group.specs.Edits.{AgreesOutsideKey, after_edit, set, remove}
 use Rattle.zarrs_group.specs.Groups.{GroupState, group_tree, metadata_by_version}
 use Rattle.zarrs_group.specs.Laws.{MeansStored}
 use Rattle.zarrs_group.specs.Meaning.{MeansGroup}
 use Rattle.zarrs_group.specs.StoredBlocks.{EditKeepsOthers, StoringKeepsOthers, MeansVersion3, ListedBlockOpens, OpensAlike}
-use Rattle.zarrs_group.specs.StoringGroups.{edits_of_group, RefusesStoringGroup}
+use Rattle.zarrs_group.specs.StoringGroups.{StoresGroup, RefusesStoringGroup}
 use Rattle.zarrs_uses.specs.Catalogues.{IsCurrent, IsGroupWithBlock, IsStored, edit_at}
 use Rattle.zarrs_uses.specs.declared.catalogue.Catalogue.{Catalogue}
 
@@ -53,13 +53,12 @@ module _ (is_v3 : MeansVersion3) (S T : Contents) (c : Catalogue) (h : GroupStat
   at = ap (λ (x : GroupState). x.path) found.set ∙ found.path
 
   -- storing it changes its document alone
-  pub others_stored : StoringKeepsOthers → T ≡ after S (edits_of_group h.convert_version h) → AgreesOutsideKey (c.path ++ zarr_json ∷ []) S T
-  others_stored keeps e =
-      subst (λ p. AgreesOutsideKey (p ++ zarr_json ∷ []) S T) at (subst (AgreesOutsideKey (h.path ++ zarr_json ∷ []) S) (sym e) (keeps S T h.convert_version h metadata_is.0 metadata_is.1).0)
+  pub others_stored : StoringKeepsOthers → StoresGroup h.convert_version h S T → AgreesOutsideKey (c.path ++ zarr_json ∷ []) S T
+  others_stored keeps stores = subst (λ p. AgreesOutsideKey (p ++ zarr_json ∷ []) S T) at ((keeps S T h.convert_version h metadata_is.0 metadata_is.1).1 stores)
 
   -- also where it is refused
   pub others_refused : StoringKeepsOthers → (can_fail : Bool) (e : StorageError) → RefusesStoringGroup can_fail h.convert_version h S T e → AgreesOutsideKey (c.path ++ zarr_json ∷ []) S T
-  others_refused keeps can_fail e refused = subst (λ p. AgreesOutsideKey (p ++ zarr_json ∷ []) S T) at ((keeps S T h.convert_version h metadata_is.0 metadata_is.1).1 can_fail e refused)
+  others_refused keeps can_fail e refused = subst (λ p. AgreesOutsideKey (p ++ zarr_json ∷ []) S T) at ((keeps S T h.convert_version h metadata_is.0 metadata_is.1).2 can_fail e refused)
 
   -- where it was stored, and nests not too deep, the catalogue is stored
   pub is_stored : ListedBlockOpens → IsCurrent T c → MeansStored T h.path (metadata_by_version h.convert_version h.metadata) → depth (group_tree h.metadata) ≤ max_depth → IsStored T c

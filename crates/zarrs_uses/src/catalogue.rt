@@ -154,8 +154,8 @@ impl Catalogue {
         Ok(())
     }
 
-    /// Stores the group with the block: its document as the store has it, with the block in the place of the one that it held. A document with
-    /// a fraction is not stored, over `AnyNumbers` neither.
+    /// Stores the group with the block: its document as the store has it, with the block in the place of the one that it held; over
+    /// `AnyNumbers` with its fractions.
     ///
     /// # Errors
     ///

@@ -1,12 +1,16 @@
-use Rattle.std.proofs.Common.{◌≡◌, None, subst}
+use Rattle.std.proofs.Common.{◌≡◌, None, subst, map}
+use Rattle.zarrs_fault.specs.declared.numbers.Numbers.TheVariants.{Whole}
 use Rattle.zarrs_group.specs.Plain.{group_fault}
-use Rattle.zarrs_group.specs.StepsOfGroups.{AreReadBack}
+use Rattle.zarrs_group.specs.StepsOfGroups.{edit_of}
+use Rattle.zarrs_group.specs.StoringGroups.{AreEditsOf, store_changes}
 use Rattle.zarrs_group.proofs.MeaningLaws.{stored_means}
 use Rattle.zarrs_group.proofs.StoreLemmas.{own_plain}
 use Rattle.zarrs_group.proofs.laws.stored_means.Goals as goal
 
 pub returns-clause-ok : goal.returns-clause-ok
 returns-clause-ok c =
-    let plain : group_fault c.args.metadata.now ≡ None = subst (λ x. group_fault x ≡ None) c.in_ok-copy.ensures (own_plain c.args.path.now c.in_ok-copy.copy None c.in_ok-edits.ensures.plain) in
-    let reads : AreReadBack c.args.metadata.now = subst AreReadBack c.in_ok-copy.ensures c.in_ok-edits.ensures.reads in
-    stored_means c.args.metadata.now plain reads
+    let p = c.args.path.now in
+    let es = map edit_of c.in_ok-edits.edits.items in
+    let plain : group_fault c.args.metadata.now ≡ None = subst (λ x. group_fault x ≡ None) c.in_ok-copy.ensures (own_plain Whole p c.in_ok-copy.copy None c.in_ok-edits.ensures.plain) in
+    let are : AreEditsOf (store_changes p c.args.metadata.now None) es = subst (λ x. AreEditsOf (store_changes p x None) es) c.in_ok-copy.ensures c.in_ok-edits.ensures.ok in
+    stored_means p c.args.metadata.now es plain are

@@ -47,7 +47,7 @@ use Rattle.zarrs_block.specs.contracts.node_create_error.NodeCreateError.{the_ro
 use Rattle.zarrs_block.proofs.consolidated.ConsolidatedMetadata.TheLaws.{the_row_laws as given_laws}
 use Rattle.zarrs_block.proofs.node_create_error.NodeCreateError.TheLaws.{the_row_laws as error_laws}
 use Rattle.zarrs_group.specs.Groups.{GroupState}
-use Rattle.zarrs_group.specs.BlocksOfGroups.{held_by, with_block, Fits, RefusesBlock, CanHold}
+use Rattle.zarrs_group.specs.BlocksOfGroups.{held_by_in, with_block, Fits, RefusesBlock, CanHoldIn}
 use Rattle.zarrs_group.specs.Lending.{Rests}
 use Rattle.zarrs_group.specs.StepsOfLending.{RestsLent, group_lent}
 use Rattle.zarrs_group.specs.declared.consolidated.LentGroup.{LentGroup}
@@ -55,7 +55,7 @@ use Rattle.zarrs_group.specs.contracts.group.Group.{the_row as R}
 use Rattle.zarrs_group.specs.contracts.consolidated.LentGroup.{the_row as lent_row}
 use Rattle.zarrs_group.proofs.group.Group.TheLaws.{the_row_laws as group_laws}
 use Rattle.zarrs_group.proofs.consolidated.LentGroup.TheLaws.{the_row_laws as lent_laws}
-use Rattle.zarrs_fault.specs.declared.numbers.Numbers.TheVariants.{Whole}
+use Rattle.zarrs_fault.specs.declared.numbers.Numbers.{Numbers}
 use Rattle.zarrs_group.proofs.BlockFields.{held_once_set}
 use Rattle.zarrs_group.specs.contracts.group.Group.set_lent as g
 use Rattle.zarrs_group.proofs.group.Group.set_lent.Met as g-met
@@ -112,9 +112,9 @@ if_err : (P : NodeCreateError → Type 0) (lent : Lent) (r : Answer) → r ≡ g
 if_err P (Ok h) r e p = subst (λ (x : Answer). IfErr x P) (sym e) p
 if_err P (Err x) r e p = subst (λ (y : Answer). IfErr y P) (sym e) p
 
--- a group with a block set that it can hold holds it
-holds : (old : GroupState) (block : Option Block) (r : Answer) → IfOk r (λ group. group.now ≡ with_block old block) → IfOk r (λ group. CanHold old block → held_by group.now ≡ block)
-holds old block (Ok group) set = λ can. ap held_by set ∙ held_once_set Whole old block can
+-- a group with a block set that it can hold in some numbers holds it in them
+holds : (old : GroupState) (block : Option Block) (r : Answer) → IfOk r (λ group. group.now ≡ with_block old block) → IfOk r (λ group. (numbers : Numbers) → CanHoldIn numbers old block → held_by_in numbers group.now ≡ block)
+holds old block (Ok group) set = λ numbers can. ap (held_by_in numbers) set ∙ held_once_set numbers old block can
 holds old block (Err e) set = tt
 
 -- the laws of a `&mut` to a group
@@ -134,7 +134,7 @@ set_consolidated_metadata_spec 𝓤 𝓛 𝓜 𝓡 wired =
     let OR : RattleType = result_row (MutRef (named 0) κ R) error_row in
     let Same : MutBor GroupState → Type 0 = λ group. group.ghost_name ≡ s.ghost_name in
     let Set : MutBor GroupState → Type 0 = λ group. group.now ≡ with_block s.now (as_block given) in
-    let Held : MutBor GroupState → Type 0 = λ group. CanHold s.now (as_block given) → held_by group.now ≡ as_block given in
+    let Held : MutBor GroupState → Type 0 = λ group. (numbers : Numbers) → CanHoldIn numbers s.now (as_block given) → held_by_in numbers group.now ≡ as_block given in
     let Fitting : MutBor GroupState → Type 0 = λ _. Fits s.now.metadata (as_block given) in
     let Refused : NodeCreateError → Type 0 = RefusesBlock s.now.metadata (as_block given) in
     let At : List Val × (List Val × (List Val × Unit {0})) → W.Ghost = λ vss. ((κs, qs, y₀.0.2, a, vss), tt) in
