@@ -21,7 +21,7 @@ use zarrs_meta::{
 };
 use zarrs_node::Node;
 use zarrs_path::{NodePath, NodePathError};
-use zarrs_store::{MemoryStore, StorageError, StorePrefix};
+use zarrs_store::{MemoryStore, Numbers, StorageError, StorePrefix};
 
 // ---- groups
 
@@ -706,12 +706,18 @@ fn the_laws_are_called(rt: HostRuntime) -> Result<(), Fail> {
     laws::version_3_stays();
     laws::version_3_twice();
     laws::plain_is_stored();
+    laws::plain_is_stored_in(Numbers::Any);
+    laws::stored_text_is_exact();
+    laws::whole_edits_are_exact();
+    laws::whole_refusal_is_exact();
     laws::erasing_all_erases();
     laws::other_keys_stay();
     laws::arrays_stay();
     laws::group_gives_back();
     laws::group_v2_gives_back();
+    laws::stored_means_in();
     laws::stored_gives_back();
+    laws::stored_gives_back_in();
     laws::stored_v2_gives_back();
     laws::edit_keeps_others();
     laws::storing_keeps_others();

@@ -356,8 +356,7 @@ impl Group {
         ensures block_reads { OnOk result
             (IsBlockReadBack (S.contents storage.new) self.now.path
             (metadata_by_version self.now.convert_version self.now.metadata) self.now.block) }
-        ensures unchanged {
-            fault_of_group_in (S.contents storage.old).numbers
+        ensures unchanged { fault_of_group_in (S.contents storage.old).numbers
             self.now.convert_version self.now ≢ None
             → S.contents storage.new ≡ S.contents storage.old }
         ensures err { IfErr result
@@ -409,8 +408,8 @@ impl Group {
         ensures block_reads { OnOk result
             (IsBlockReadBack (S.contents storage.new) self.now.path
             (metadata_by_version options.now self.now.metadata) self.now.block) }
-        ensures unchanged {
-            fault_of_group_in (S.contents storage.old).numbers options.now self.now ≢ None
+        ensures unchanged { fault_of_group_in (S.contents storage.old).numbers
+            options.now self.now ≢ None
             → S.contents storage.new ≡ S.contents storage.old }
         ensures err { IfErr result
             (RefusesStoringGroup (S.can_fail storage.old) options.now self.now

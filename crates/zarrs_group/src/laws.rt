@@ -139,9 +139,10 @@ pub fn stored_gives_back_in()
     ensures { StoredGivesBackIn }
 {}
 
-/// As the group of version 2 does, so does a node opened at its path over any store that has the document `.zmetadata` of the stored group and in whose numbers it is plain, by each version by which the path means the
-/// group there, where that document does not nest too deep; and a group opened there holds a block with the same entries, and gives the forest back by
-/// `children`, recursive, and by `traverse`, whatever store is handed in.
+/// As the group of version 2 does, so does a node opened at its path over any store that has the document `.zmetadata` of the stored group and
+/// in whose numbers it is plain, by each version by which the path means the group there, where that document does not nest too deep; and a group
+/// opened there holds a block with the same entries, and gives the forest back by `children`, recursive, and by `traverse`, whatever store is
+/// handed in.
 ///
 /// Source: `zarrs::node::Node::open_opt`, `zarrs::group::Group::store_metadata`; zarr-python, consolidated metadata of version 2.
 pub fn stored_v2_gives_back()

@@ -52,7 +52,9 @@ fn has_plain_names_v3(group: &GroupMetadataV3) -> bool
 fn has_plain_names_v2(group: &GroupMetadataV2) -> bool
     ensures { result ≡ is_plain_group_v2_in Any group.now }
 {
-    !group.additional_fields.has_own_member(&["zarr_format", "shape", "attributes"])
+    !group
+        .additional_fields
+        .has_own_member(&["zarr_format", "shape", "attributes"])
 }
 
 // The names that an array of version 3 has by its format.
