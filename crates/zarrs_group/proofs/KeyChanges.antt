@@ -1,5 +1,5 @@
 -- Edits that are changes, taken apart.
-use Rattle.std.proofs.Common.{◌≡◌, ◌≢◌, List, [], ◌∷◌, Option, Some, None, refl, sym, ap, subst}
+use Rattle.std.proofs.Common.{◌≡◌, List, [], ◌∷◌, Option, Some, None, refl, ap}
 use Rattle.serde_json.specs.Data.{Data}
 use Rattle.zarrs_store.specs.Segments.{Segments}
 use Rattle.zarrs_group.specs.Edits.{Edit, edit_key}

@@ -10,6 +10,7 @@ pub mod PlainNames
 pub mod KeyChanges
 pub mod WholeEdits
 pub mod MeaningLaws
+pub mod Storing
 pub mod Fields
 pub mod FieldLemmas
 pub mod Version3

@@ -1,5 +1,5 @@
 -- What is stored means what was stored.
-use Rattle.std.proofs.Common.{◌≡◌, ◌≤◌, ℕ, true, List, [], ◌∷◌, ◌++◌, Option, Some, None, Ok, IsTrue, refl, sym, ap, ◌∙◌, subst}
+use Rattle.std.proofs.Common.{◌≡◌, ◌≤◌, ℕ, true, false, List, [], ◌∷◌, ◌++◌, Option, Some, None, Ok, IsTrue, refl, sym, ap, ◌∙◌, subst}
 use Rattle.std.specs.FinMap as map
 use Rattle.serde_json.specs.Data.{Data, object, Members, no_members, member, depth}
 use Rattle.serde_json.specs.Read.{max_depth}
@@ -39,7 +39,6 @@ use Rattle.zarrs_group.specs.Laws.{MeansStored, StoredMeans, StoredMeansIn}
 use Rattle.zarrs_group.proofs.EraseLaws.{keys_differ, group_attrs, group_metadata, attrs_metadata}
 use Rattle.zarrs_group.proofs.KeyChanges.{one_edit, three_edits}
 use Rattle.zarrs_group.proofs.OtherKeys.{edited_elsewhere}
-use Rattle.zarrs_group.proofs.StoreLemmas.{own_plain}
 use Rattle.zarrs_group.proofs.WholeEdits.{IsWhole, own_whole, stored_text_is_exact}
 
 -- ---- edits that read back

@@ -1,5 +1,5 @@
 -- A version 2 group that was stored with its block, opened again, gives the forest of the block back.
-use Rattle.std.proofs.Common.{◌≡◌, ◌≢◌, ℕ, ◌↔◌, true, List, [], ◌∷◌, ◌++◌, Option, Some, None, Ok, IsTrue, codes, refl, sym, ap, subst, ◌∙◌, Contains}
+use Rattle.std.proofs.Common.{◌≡◌, ◌≢◌, ℕ, ◌↔◌, true, List, [], ◌∷◌, ◌++◌, Some, None, Ok, IsTrue, codes, refl, sym, ap, subst, ◌∙◌, Contains}
 use Rattle.std.specs.FinMap as map
 use Rattle.std.specs.List.{list_all, list_any}
 use Rattle.std.proofs.lemmas.List.Elements.{All-contains}

@@ -1,5 +1,5 @@
 -- Where no number is a fraction, the edits that store a group are known byte by byte.
-use Rattle.std.proofs.Common.{◌≡◌, false, Bool, ⊎_elim, ℕ, List, [], ◌∷◌, Option, Some, None, refl, sym, ap, ap₂, subst, ◌∙◌, map}
+use Rattle.std.proofs.Common.{◌≡◌, false, ⊎_elim, List, [], ◌∷◌, Option, Some, None, refl, sym, ap, ap₂, subst, ◌∙◌, map}
 use Rattle.std.specs.Prelude.{IfSome}
 use Rattle.json.specs.Layout.{pretty}
 use Rattle.serde_json.specs.Data.{Data, Members, no_members, member, object}
@@ -7,7 +7,6 @@ use Rattle.serde_json.specs.Written.{has_float, members_have_float}
 use Rattle.serde_json.proofs.Texts.{tokens_from_order}
 use Rattle.zarrs_store.specs.Segments.{Segments}
 use Rattle.zarrs_store.specs.Contents.{Contents}
-use Rattle.zarrs_store.specs.declared.storage_error.StorageError.{StorageError}
 use Rattle.zarrs_store.specs.declared.storage_error.StorageError.TheVariants.{Fault, InvalidMetadata, Other, OutOfMemory}
 use Rattle.zarrs_fault.specs.declared.numbers.Numbers.TheVariants.{Whole}
 use Rattle.zarrs_path.specs.Paths.{Path}
@@ -25,8 +24,8 @@ use Rattle.zarrs_block.specs.Block.{Block}
 use Rattle.zarrs_group.specs.Edits.{Edit, set, IsCutShort}
 use Rattle.zarrs_group.specs.Layout.{StoredTextIsExact}
 use Rattle.zarrs_group.specs.Laws.{WholeEditsAreExact, WholeRefusalIsExact}
-use Rattle.zarrs_group.specs.Plain.{group_fault, group_v2_fault_in}
-use Rattle.zarrs_group.specs.StoringGroups.{AreEditsOf, IsEditAt, IsStoringCutShort, KeyChange, RefusesStoring, store_changes, store_edits, stored_fault, stored_fault_in, whole_edit}
+use Rattle.zarrs_group.specs.Plain.{group_v2_fault_in}
+use Rattle.zarrs_group.specs.StoringGroups.{AreEditsOf, IsEditAt, IsStoringCutShort, KeyChange, store_changes, store_edits, stored_fault, stored_fault_in, whole_edit}
 use Rattle.zarrs_group.proofs.BlockPlain.{tree_fits}
 use Rattle.zarrs_group.proofs.PlainLaws.{fits_v2, plain_v2, plain_v3, plain_without}
 use Rattle.zarrs_group.proofs.StoreLemmas.{beside_plain, none_stored, own_plain}

@@ -1,11 +1,12 @@
 //! Whether the metadata of a node could have come from a document, in some numbers.
-ghost use Rattle.std.specs.Prelude.{◌≡◌};
+ghost use Rattle.std.specs.Prelude.{◌≡◌, ◌&&◌, not};
 ghost use Rattle.std.specs.List.{list_all};
 ghost use Rattle.zarrs_fault.specs.declared.numbers.Numbers.TheVariants.{Any};
+ghost use Rattle.zarrs_form.specs.Documents.{has_own};
 ghost use Rattle.zarrs_form.specs.Forms.{none_or};
-ghost use Rattle.zarrs_form.specs.FormsV2.{codec_fits_in};
+ghost use Rattle.zarrs_form.specs.FormsV2.{codec_fits_in, has_zero};
 ghost use Rattle.zarrs_meta.specs.ArrayV3.{is_plain_array_v3_in};
-ghost use Rattle.zarrs_meta.specs.ArrayV2.{is_plain_array_v2_in};
+ghost use Rattle.zarrs_meta.specs.ArrayV2.{array_v2_names};
 ghost use Rattle.zarrs_meta.specs.GroupV3.{is_plain_group_v3_in};
 ghost use Rattle.zarrs_meta.specs.GroupV2.{is_plain_group_v2_in};
 ghost use Rattle.zarrs_meta.specs.Node.{is_plain_node_in};
@@ -28,6 +29,7 @@ pub(crate) fn is_plain(numbers: Numbers, node: &NodeMetadata) -> bool
 }
 
 // Whether a node could have come from a document that may hold any number.
+#[tactic(auto, using(crate::proofs::PlainNames::array_v2_parts))]
 fn has_plain_names(node: &NodeMetadata) -> bool
     ensures { result ≡ is_plain_node_in Any node.now }
 {
@@ -72,6 +74,7 @@ const ARRAY_V3_NAMES: &[&str] = &[
     "dimension_names",
 ];
 
+#[tactic(auto, using(crate::proofs::PlainNames::array_v3_fields))]
 fn has_plain_fields(array: &ArrayMetadataV3) -> bool
     ensures { result ≡ is_plain_array_v3_in Any array.now }
 {
@@ -94,7 +97,10 @@ const ARRAY_V2_NAMES: &[&str] = &[
 
 // No chunk length is 0, and no codec and no array has a member with a name of its own.
 fn has_plain_parts(array: &ArrayMetadataV2) -> bool
-    ensures { result ≡ is_plain_array_v2_in Any array.now }
+    ensures { result ≡ (not (has_zero array.now.chunks)
+        && none_or (codec_fits_in Any) array.now.compressor
+        && none_or (list_all (codec_fits_in Any)) array.now.filters
+        && not (has_own array_v2_names array.now.additional_fields)) }
 {
     !has_zero(&array.chunks)
         && is_plain_compressor(&array.compressor)
