@@ -708,6 +708,7 @@ fn the_laws_are_called(rt: HostRuntime) -> Result<(), Fail> {
     laws::plain_is_stored();
     laws::plain_is_stored_in(Numbers::Any);
     laws::stored_text_is_exact();
+    laws::stored_text_is_text();
     laws::whole_edits_are_exact();
     laws::whole_refusal_is_exact();
     laws::erasing_all_erases();

@@ -1,5 +1,5 @@
 -- Where no number is a fraction, the edits that store a group are known byte by byte.
-use Rattle.std.proofs.Common.{◌≡◌, false, ⊎_elim, List, [], ◌∷◌, Option, Some, None, refl, sym, ap, ap₂, subst, ◌∙◌, map}
+use Rattle.std.proofs.Common.{◌≡◌, ◌⊎◌, false, ⊎_elim, List, [], ◌∷◌, Option, Some, None, refl, sym, ap, ap₂, subst, ◌∙◌, map}
 use Rattle.std.specs.Prelude.{IfSome}
 use Rattle.json.specs.Layout.{pretty}
 use Rattle.serde_json.specs.Data.{Data, Members, no_members, member, object}
@@ -22,7 +22,7 @@ use Rattle.zarrs_meta.proofs.GroupV3Laws.{no_float-group_v3_tree}
 use Rattle.zarrs_meta.proofs.GroupV2Laws.{no_float-group_v2_tree}
 use Rattle.zarrs_block.specs.Block.{Block}
 use Rattle.zarrs_group.specs.Edits.{Edit, set, IsCutShort}
-use Rattle.zarrs_group.specs.Layout.{StoredTextIsExact}
+use Rattle.zarrs_group.specs.Layout.{StoredTextIsExact, StoredTextIsText}
 use Rattle.zarrs_group.specs.Laws.{WholeEditsAreExact, WholeRefusalIsExact}
 use Rattle.zarrs_group.specs.Plain.{group_v2_fault_in}
 use Rattle.zarrs_group.specs.StoringGroups.{AreEditsOf, IsEditAt, IsStoringCutShort, KeyChange, store_changes, store_edits, stored_fault, stored_fault_in, whole_edit}
@@ -33,6 +33,10 @@ use Rattle.zarrs_group.proofs.StoreLemmas.{beside_plain, none_stored, own_plain}
 -- what is stored of a tree without a fraction is its pretty layout
 pub stored_text_is_exact : StoredTextIsExact
 stored_text_is_exact bytes d text whole = text.layout ∙ ap pretty (tokens_from_order bytes d text.order whole)
+
+-- and what is stored of a tree that does not nest too deep is what is written of it
+pub stored_text_is_text : StoredTextIsText
+stored_text_is_text bytes d text shallow = record { utf8 = text.utf8; layout = text.layout; order = text.order; reads = text.reads shallow }
 
 -- a tree without a fraction, or none
 abbrev pub IsWhole : Option Data → Type 0
@@ -80,10 +84,11 @@ changes_whole p (V2 m) (Some B) none =
 pub whole_edits_are_exact : WholeEditsAreExact
 whole_edits_are_exact p m block es none are = exact (store_changes p m block) es (changes_whole p m block none) are
 
--- over a store of whole numbers they were cut short where a first part was done
-cut_exact : (p : Path) (m : GroupMetadata) (block : Option Block) (S S' : Contents) → S.numbers ≡ Whole → IsStoringCutShort p m block S S' → IsCutShort S (store_edits p m block) S'
-cut_exact p m block S S' numbers c =
-    subst (λ es. IsCutShort S es S') (whole_edits_are_exact p m block c.edits (subst (λ n. stored_fault_in n p m block ≡ None) numbers c.plain) c.are) c.cut
+-- over a store of whole numbers, or of a group that is plain in these, they were cut short where a first part was done
+cut_exact : (p : Path) (m : GroupMetadata) (block : Option Block) (S S' : Contents) → (S.numbers ≡ Whole) ⊎ (stored_fault p m block ≡ None) → IsStoringCutShort p m block S S' → IsCutShort S (store_edits p m block) S'
+cut_exact p m block S S' whole c =
+    let plain : stored_fault p m block ≡ None = ⊎_elim (λ numbers. subst (λ n. stored_fault_in n p m block ≡ None) numbers c.plain) (λ none. none) whole in
+    subst (λ es. IsCutShort S es S') (whole_edits_are_exact p m block c.edits plain c.are) c.cut
 
 -- where nothing was done they were cut short at the first
 unchanged_exact : (p : Path) (m : GroupMetadata) (block : Option Block) (S S' : Contents) → S' ≡ S → IsCutShort S (store_edits p m block) S'
@@ -91,7 +96,7 @@ unchanged_exact p m block S S' same = subst (IsCutShort S (store_edits p m block
 
 -- so a refused storing was cut short in them
 pub whole_refusal_is_exact : WholeRefusalIsExact
-whole_refusal_is_exact can_fail p m block S S' Fault numbers h = cut_exact p m block S S' numbers h.1
-whole_refusal_is_exact can_fail p m block S S' (InvalidMetadata key fault) numbers h = unchanged_exact p m block S S' h.0
-whole_refusal_is_exact can_fail p m block S S' (Other text) numbers h = absurd h
-whole_refusal_is_exact can_fail p m block S S' OutOfMemory numbers h = ⊎_elim (unchanged_exact p m block S S') (cut_exact p m block S S' numbers) h
+whole_refusal_is_exact can_fail p m block S S' Fault whole h = cut_exact p m block S S' whole h.1
+whole_refusal_is_exact can_fail p m block S S' (InvalidMetadata key fault) whole h = unchanged_exact p m block S S' h.0
+whole_refusal_is_exact can_fail p m block S S' (Other text) whole h = absurd h
+whole_refusal_is_exact can_fail p m block S S' OutOfMemory whole h = ⊎_elim (unchanged_exact p m block S S') (cut_exact p m block S S' whole) h

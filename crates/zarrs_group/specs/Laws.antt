@@ -1,6 +1,6 @@
 -- What holds of groups by the definitions alone.
 -- <https://zarr-specs.readthedocs.io/en/latest/v3/core/index.html#group-metadata>
-use Rattle.std.specs.Prelude.{◌≡◌, ◌≢◌, ◌≤◌, ◌↔◌, Bool, List, [], ◌∷◌, ◌++◌, Option, None, IsTrue}
+use Rattle.std.specs.Prelude.{◌≡◌, ◌≢◌, ◌≤◌, ◌↔◌, ◌⊎◌, Bool, List, [], ◌∷◌, ◌++◌, Option, None, IsTrue}
 use Rattle.std.specs.FinMap as map
 use Rattle.serde_json.specs.Data.{depth, object}
 use Rattle.serde_json.specs.Read.{max_depth}
@@ -62,12 +62,13 @@ WholeEditsAreExact =
     (p : Path) (m : GroupMetadata) (block : Option Block) (es : List Edit) → stored_fault p m block ≡ None
     → AreEditsOf (store_changes p m block) es → es ≡ store_edits p m block
 
--- over a store whose documents hold whole numbers only, a first part of exactly these edits was done where storing is
--- refused, and not all of them
+-- where storing is refused over a store whose documents hold whole numbers only, or of a group that could have come
+-- from such, a first part of exactly these edits was done, and not all of them
 abbrev pub WholeRefusalIsExact : Type 0
 WholeRefusalIsExact =
     (can_fail : Bool) (p : Path) (m : GroupMetadata) (block : Option Block) (S S' : Contents) (e : StorageError)
-    → S.numbers ≡ Whole → RefusesStoring can_fail p m block S S' e → IsCutShort S (store_edits p m block) S'
+    → (S.numbers ≡ Whole) ⊎ (stored_fault p m block ≡ None) → RefusesStoring can_fail p m block S S' e
+    → IsCutShort S (store_edits p m block) S'
 
 -- every key but the four of a group has what it had
 abbrev pub OthersStay : Path → Values → Values → Type 0

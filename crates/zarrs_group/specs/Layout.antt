@@ -13,6 +13,7 @@ use Rattle.serde_json.specs.Read.{max_depth}
 use Rattle.serde_json.specs.Written.{IsInOrder, has_float}
 pub use Rattle.zarrs_form.specs.Pretty.{pretty_text}
 use Rattle.zarrs_form.specs.Documents.{json_of}
+use Rattle.zarrs_form.specs.DocumentTexts.{IsTextOf}
 use Rattle.zarrs_store.specs.Segments.{Segments}
 use Rattle.zarrs_store.specs.Contents.{Contents}
 
@@ -27,6 +28,10 @@ pub record IsStoredText (bytes : List ℕ) (d : Data) : Type 0 where
 -- Of a tree without a fraction one text is stored: its pretty layout.
 abbrev pub StoredTextIsExact : Type 0
 StoredTextIsExact = (bytes : List ℕ) (d : Data) → IsStoredText bytes d → has_float d ≡ false → bytes ≡ pretty_text d
+
+-- What is stored of a tree that does not nest too deep is what is written of it.
+abbrev pub StoredTextIsText : Type 0
+StoredTextIsText = (bytes : List ℕ) (d : Data) → IsStoredText bytes d → depth d ≤ max_depth → IsTextOf bytes d
 
 -- where the tree does not nest too deep, the store has bytes at the key that are read as it
 abbrev pub IsReadAt : Contents → Segments → Data → Type 0

@@ -2,7 +2,7 @@
 //! which its law speaks; its contract is the law.
 ghost use Rattle.std.specs.Prelude.{◌≡◌, None, IfErr, OnOk};
 ghost use Rattle.zarrs_fault.specs.declared.numbers.Numbers.TheVariants.{Whole};
-ghost use Rattle.zarrs_group.specs.Layout.{StoredTextIsExact};
+ghost use Rattle.zarrs_group.specs.Layout.{StoredTextIsExact, StoredTextIsText};
 ghost use Rattle.zarrs_group.specs.Laws.{Version3Keeps, Version3Stays, Version3Twice, PlainIsStored, PlainIsStoredIn, WholeEditsAreExact, WholeRefusalIsExact, ErasingAllErases, OtherKeysStay, ArraysStay, StoredMeans, StoredMeansIn};
 ghost use Rattle.zarrs_group.specs.GivesBack.{GroupGivesBack, GroupV2GivesBack, StoredGivesBack, StoredGivesBackIn, StoredV2GivesBack};
 ghost use Rattle.zarrs_group.specs.StoredBlocks.{EditKeepsOthers, StoringKeepsOthers, MeansVersion3, ListedBlockOpens, WrittenBlockOpens};
@@ -51,6 +51,13 @@ pub fn stored_text_is_exact()
     ensures { StoredTextIsExact }
 {}
 
+/// What is stored of a tree that does not nest too deep is what [`zarrs_form::document_text`] writes of it.
+///
+/// Source: RFC 8259; `serde_json` reads 127 levels.
+pub fn stored_text_is_text()
+    ensures { StoredTextIsText }
+{}
+
 /// Where no number of a group is a fraction, the edits that store it are known byte by byte, whatever the numbers of the store.
 ///
 /// Source: `zarrs::group::Group::store_metadata`.
@@ -58,7 +65,7 @@ pub fn whole_edits_are_exact()
     ensures { WholeEditsAreExact }
 {}
 
-/// Over a store of whole numbers a refused storing did a first part of exactly these edits, and not all of them.
+/// Over a store of whole numbers, or of a group without a fraction, a refused storing did a first part of exactly these edits, and not all of them.
 ///
 /// Source: `zarrs::group::Group::store_metadata`.
 pub fn whole_refusal_is_exact()
