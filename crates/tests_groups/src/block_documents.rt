@@ -8,18 +8,26 @@ use std::alloc::{AllocError, Global};
 use std::test::Fail;
 use tests_fixtures::{config_of, node_text};
 use tests_support::{check_rows, printed, said};
+use zarrs_block::ConsolidatedMetadata;
 use zarrs_config::{Config, UseConsolidatedMetadata};
 use zarrs_group::{Group, GroupCreateError};
 use zarrs_node::Node;
-use zarrs_store::{AnyNumbers, MemoryStore, StorageError, WritableStorageTraits};
+use zarrs_store::{
+    AnyNumbers, MemoryStore, Numbers, StorageError, StoreKey, WritableStorageTraits,
+};
 
-// The key of the document that holds the block of a group, and its bytes; or that there is none.
-fn document_of(group: &Group, alloc: Global) -> Result<String, AllocError> {
-    let Some((key, bytes)) = group.block_document(alloc)? else {
+// The key of a document that was made, and its bytes; or that there is none.
+fn made_text(alloc: Global, made: Option<(StoreKey, Vec<u8>)>) -> Result<String, AllocError> {
+    let Some((key, bytes)) = made else {
         return String::from_str(alloc, "none");
     };
     let text = String::from_utf8_lossy(alloc, bytes.as_slice())?;
     format!(in alloc; "{key} {text}")
+}
+
+// The document that holds the block of a group.
+fn document_of(group: &Group, alloc: Global) -> Result<String, AllocError> {
+    made_text(alloc, group.block_document(alloc)?)
 }
 
 // The document of the group at `/g` of the store with the documents of a list, in any numbers.
@@ -45,6 +53,42 @@ g/.zgroup=G2 g/.zattrs={"k":0.25} => none
 #[test]
 fn a_group_has_the_document_of_its_block(rt: HostRuntime) -> Result<(), Fail> {
     check_rows(rt.alloc(), DOCUMENTS, document_in)
+}
+
+// The document of a group that is given away for it, with a block or without one.
+fn document_with(
+    alloc: Global,
+    group: Group,
+    block: Option<ConsolidatedMetadata>,
+) -> Result<String, GroupCreateError> {
+    match group.into_block_document(alloc, block) {
+        Ok(made) => Ok(made_text(alloc, made)?),
+        Err(error) => Err(GroupCreateError::from_node_error(alloc, error)),
+    }
+}
+
+// The document of the group at `/g` of a store in any numbers, with the block of all that is listed there and without one.
+fn documents_given(alloc: Global, list: &str) -> Result<String, GroupCreateError> {
+    let store = AnyNumbers {
+        inner: store_in(alloc, list)?,
+    };
+    let block = consolidated(alloc, &store, "/g")?.consolidated_metadata_in(alloc, Numbers::Any)?;
+    let group = Group::open(alloc, &store, "/g", &Config::new())?;
+    let with = document_with(alloc, group, block)?;
+    let group = Group::open(alloc, &store, "/g", &Config::new())?;
+    let without = document_with(alloc, group, None)?;
+    Ok(format!(in alloc; "{with} and {without}")?)
+}
+
+// Documents, and the one that is to hold the block of the group, with the listed block and without one.
+const GIVEN: &str = r#"
+g/zarr.json={"attributes":{"scale":0.5},"consolidated_metadata":{"kind":"inline","metadata":{"old":{"node_type":"group","zarr_format":3}},"must_understand":false},"node_type":"group","zarr_format":3} g/a/zarr.json={"attributes":{"n":1.5},"node_type":"group","zarr_format":3} => g/zarr.json {\n  "attributes": {\n    "scale": 0.5\n  },\n  "consolidated_metadata": {\n    "kind": "inline",\n    "metadata": {\n      "a": {\n        "attributes": {\n          "n": 1.5\n        },\n        "node_type": "group",\n        "zarr_format": 3\n      }\n    },\n    "must_understand": false\n  },\n  "node_type": "group",\n  "zarr_format": 3\n} and g/zarr.json {\n  "attributes": {\n    "scale": 0.5\n  },\n  "node_type": "group",\n  "zarr_format": 3\n}
+g/.zgroup=G2 g/.zattrs={"k":0.25} g/.zmetadata={"metadata":{"old/.zgroup":{"zarr_format":2}},"zarr_consolidated_format":1} g/a/.zgroup=G2 => g/.zmetadata {\n  "metadata": {\n    ".zattrs": {\n      "k": 0.25\n    },\n    ".zgroup": {\n      "zarr_format": 2\n    },\n    "a/.zgroup": {\n      "zarr_format": 2\n    }\n  },\n  "zarr_consolidated_format": 1\n} and none
+"#;
+
+#[test]
+fn a_group_is_given_away_for_the_document_of_a_block(rt: HostRuntime) -> Result<(), Fail> {
+    check_rows(rt.alloc(), GIVEN, documents_given)
 }
 
 // Whether the group with so many lists in each other has such a document.

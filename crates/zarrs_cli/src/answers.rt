@@ -33,12 +33,7 @@ use zarrs_write::Disk as WrittenDisk;
 /// where all is done, 1 where a check has findings or a dry run would write, and 2 where the run is refused.
 ///
 /// The host writes what is written back: a value that logs does not hand on the call that gives a file its owner.
-pub fn answer<
-    R: Log + Files + Clock + Eprint + AllocGlobal,
-    I: Read,
-    W: Write,
-    E: Write,
->(
+pub fn answer<R: Log + Files + Clock + Eprint + AllocGlobal, I: Read, W: Write, E: Write>(
     rt: &R,
     host: &HostRuntime,
     words: &[String],
@@ -68,11 +63,7 @@ pub fn answer<
 }
 
 // Writes what the words ask.
-fn run_words<
-    R: Log + Files + Clock + Eprint + AllocGlobal,
-    I: Read,
-    W: Write,
->(
+fn run_words<R: Log + Files + Clock + Eprint + AllocGlobal, I: Read, W: Write>(
     rt: &R,
     host: &HostRuntime,
     words: &[String],
@@ -106,11 +97,7 @@ fn write_alone<W: Write>(text: &str, output: &mut W) -> Result<Answered, ZarrsFa
 }
 
 // Writes what a request asks of the store that a source names.
-fn run_command<
-    R: Log + Files + Clock + Eprint + AllocGlobal,
-    I: Read,
-    W: Write,
->(
+fn run_command<R: Log + Files + Clock + Eprint + AllocGlobal, I: Read, W: Write>(
     rt: &R,
     host: &HostRuntime,
     command: &Command<'_>,
@@ -164,10 +151,7 @@ fn look<R: Log + Files + Clock + Eprint + AllocGlobal, I: Read, W: Write>(
 }
 
 // Writes the block of a group of a folder of the system back, or removes it.
-fn consolidate_disk<
-    R: Log + Files + Clock + Eprint + AllocGlobal,
-    W: Write,
->(
+fn consolidate_disk<R: Log + Files + Clock + Eprint + AllocGlobal, W: Write>(
     rt: &R,
     host: &HostRuntime,
     options: ConsolidateOptions,
@@ -188,11 +172,7 @@ fn consolidate_disk<
 }
 
 // The same once the folder of the store is opened.
-fn consolidate_opened<
-    'a,
-    R: Log + Files + Clock + Eprint + AllocGlobal,
-    W: Write,
->(
+fn consolidate_opened<'a, R: Log + Files + Clock + Eprint + AllocGlobal, W: Write>(
     rt: &R,
     host: &HostRuntime,
     options: ConsolidateOptions,
@@ -330,7 +310,8 @@ fn is_no_node(fault: &ZarrsFault) -> bool
 {
     match fault {
         ZarrsFault::Node(NodeCreateError::MissingMetadata(_)) => true,
-        ZarrsFault::Consolidate(ConsolidateError::Node(NodeCreateError::MissingMetadata(_))) => true,
+        ZarrsFault::Consolidate(ConsolidateError::Node(NodeCreateError::MissingMetadata(_))) =>
+            true,
         _ => false,
     }
 }

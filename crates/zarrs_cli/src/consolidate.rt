@@ -119,11 +119,7 @@ fn task_of(options: ConsolidateOptions) -> Task
 }
 
 // The line that tells what becomes of a block.
-fn line_of(
-    alloc: Global,
-    options: ConsolidateOptions,
-    plan: &Plan,
-) -> Result<String, AllocError>
+fn line_of(alloc: Global, options: ConsolidateOptions, plan: &Plan) -> Result<String, AllocError>
     ensures { IfOk result (λ line. IsConsolidationLine options plan.now (string_bytes line)) }
 {
     let text = plan_text(alloc, options, plan)?;
@@ -133,11 +129,7 @@ fn line_of(
 }
 
 // What is told of what becomes of a block.
-fn plan_text(
-    alloc: Global,
-    options: ConsolidateOptions,
-    plan: &Plan,
-) -> Result<String, AllocError>
+fn plan_text(alloc: Global, options: ConsolidateOptions, plan: &Plan) -> Result<String, AllocError>
     ensures { IfOk result (λ text. IsPlanText options plan.now (string_bytes text)) }
 {
     if plan.is_change() {
@@ -172,12 +164,7 @@ fn removal_text(alloc: Global, dry_run: bool, key: &str) -> Result<String, Alloc
 }
 
 // That a block was written, or would be.
-fn writing_text(
-    alloc: Global,
-    dry_run: bool,
-    key: &str,
-    nodes: &str,
-) -> Result<String, AllocError>
+fn writing_text(alloc: Global, dry_run: bool, key: &str, nodes: &str) -> Result<String, AllocError>
     ensures { IfOk result (λ text. string_bytes text ≡ writing_text dry_run key.now nodes.now) }
 {
     if dry_run {
@@ -187,11 +174,7 @@ fn writing_text(
 }
 
 // What is told where there is no change.
-fn kept_text(
-    alloc: Global,
-    options: ConsolidateOptions,
-    plan: &Plan,
-) -> Result<String, AllocError>
+fn kept_text(alloc: Global, options: ConsolidateOptions, plan: &Plan) -> Result<String, AllocError>
     ensures { IfOk result (λ text. string_bytes text ≡ kept_text options plan.now) }
 {
     if options.remove {

@@ -255,7 +255,12 @@ fn request_by(word: &str, option: &str, source: &str) -> Result<Request, ZarrsFa
 }
 
 // The request with two options before a source.
-fn request_by_two(word: &str, first: &str, second: &str, source: &str) -> Result<Request, ZarrsFault>
+fn request_by_two(
+    word: &str,
+    first: &str,
+    second: &str,
+    source: &str,
+) -> Result<Request, ZarrsFault>
     ensures ok { IfOk result
         (λ found. (request_words found ≡ word.now ∷ first.now ∷ second.now ∷ [])
         × IsRequestSource found source.now) }

@@ -155,15 +155,12 @@ fn with_block(
     ensures ok { IfOk result (λ bytes. IsWithBlock base.now metadata (as_block block) bytes.items) }
     ensures err { IfErr result (RefusesDocument base.now metadata (as_block block)) }
 {
-    let mut group = Group::at(base.try_clone(alloc)?, metadata, &Config::new());
-    match group.replace_consolidated_metadata(alloc, block) {
-        Ok(()) => {}
-        Err(NodeCreateError::OutOfMemory) => return Err(ConsolidateError::OutOfMemory),
-        Err(error) => return Err(ConsolidateError::Block(error)),
-    }
-    match group.block_document(alloc)? {
-        Some((_key, bytes)) => Ok(bytes),
-        None => Err(ConsolidateError::TooDeep),
+    let group = Group::at(base.try_clone(alloc)?, metadata, &Config::new());
+    match group.into_block_document(alloc, block) {
+        Ok(Some((_key, bytes))) => Ok(bytes),
+        Ok(None) => Err(ConsolidateError::TooDeep),
+        Err(NodeCreateError::OutOfMemory) => Err(ConsolidateError::OutOfMemory),
+        Err(error) => Err(ConsolidateError::Block(error)),
     }
 }
 

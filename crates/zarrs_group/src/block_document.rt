@@ -1,20 +1,26 @@
 //! The document that holds the block of a group.
-ghost use Rattle.std.specs.Prelude.{◌≡◌, ◌<◌, None, IfOk, IfSome};
+ghost use Rattle.std.specs.Prelude.{◌≡◌, ◌<◌, ◌++◌, ◌∷◌, [], None, Some, IfOk, IfErr, IfSome};
 ghost use Rattle.serde_json.specs.Data.{depth};
 ghost use Rattle.serde_json.specs.Read.{max_depth};
 ghost use Rattle.serde_json.specs.View.{view};
+ghost use Rattle.zarrs_path.specs.Keys.{zmetadata};
 ghost use Rattle.zarrs_form.specs.DocumentTexts.{IsTextOf};
+ghost use Rattle.zarrs_block.specs.Policy.{as_block};
+ghost use Rattle.zarrs_block.specs.Zmetadata.{RefusesZmetadata, zmetadata_tree};
 ghost use Rattle.zarrs_group.specs.AsciiTexts.{IsAsciiTextOf};
 ghost use Rattle.zarrs_group.specs.BlockDocuments.{IsBlockDocument, HasNoBlockDocument};
+ghost use Rattle.zarrs_group.specs.BlocksBeside.{IsBeside};
+ghost use Rattle.zarrs_group.specs.BlocksOfGroups.{Fits, RefusesBlock, with_block};
 
 use crate::ascii::ascii_document_text;
 use crate::group::Group;
 use crate::stored::written;
 use serde_json::Value;
 use std::alloc::{AllocError, Global};
+use zarrs_block::{ConsolidatedMetadata, NodeCreateError};
 use zarrs_form::document_text;
-use zarrs_meta::GroupMetadata;
-use zarrs_path::{meta_key_v2_consolidated, meta_key_v3};
+use zarrs_meta::{GroupMetadata, GroupMetadataV2};
+use zarrs_path::{NodePath, meta_key_v2_consolidated, meta_key_v3};
 use zarrs_store::StoreKey;
 
 impl Group {
@@ -49,6 +55,59 @@ impl Group {
             }
         }
     }
+
+    /// What [`Group::block_document`] answers once [`Group::set_consolidated_metadata`] set this block, or removed the one there is. The group is given away for
+    /// it, and what is written of a block of version 2 is made once.
+    ///
+    /// # Errors
+    ///
+    /// Those of [`Group::set_consolidated_metadata`]; `OutOfMemory`.
+    ///
+    /// Source: own; Zarr core specification 3.1, "Group metadata"; zarr-python, consolidated metadata of version 2.
+    pub fn into_block_document(
+        self,
+        alloc: Global,
+        block: Option<ConsolidatedMetadata>,
+    ) -> Result<Option<(StoreKey, Vec<u8>)>, NodeCreateError>
+        ensures ok { IfOk result (λ found. IfSome found
+            (λ made. IsBlockDocument (with_block self (as_block block)) made.0 made.1.items)) }
+        ensures none { IfOk result
+            (λ found. found ≡ None → HasNoBlockDocument (with_block self (as_block block))) }
+        ensures fits { IfOk result (λ _. Fits self.metadata (as_block block)) }
+        ensures err { IfErr result (RefusesBlock self.metadata (as_block block)) }
+    {
+        match (&self.metadata, &block) {
+            (GroupMetadata::V2(group), Some(block)) => {
+                return document_beside(alloc, self.path(), group, block);
+            }
+            (GroupMetadata::V2(_), None) => return Ok(None),
+            (GroupMetadata::V3(_), _) => {}
+        }
+        let mut group = self;
+        group.replace_consolidated_metadata(alloc, block)?;
+        Ok(group.block_document(alloc)?)
+    }
+}
+
+// The key and the bytes of `.zmetadata` of a version 2 group with a block.
+fn document_beside(
+    alloc: Global,
+    path: &NodePath,
+    group: &GroupMetadataV2,
+    block: &ConsolidatedMetadata,
+) -> Result<Option<(StoreKey, Vec<u8>)>, NodeCreateError>
+    ensures key { IfOk result (λ found. IfSome found
+        (λ made. made.0 ≡ path.now ++ zmetadata ∷ [])) }
+    ensures text { IfOk result (λ found. IfSome found
+        (λ made. IsAsciiTextOf made.1.items (zmetadata_tree group.now block.now.metadata))) }
+    ensures none { IfOk result (λ found. found ≡ None
+        → max_depth < depth (zmetadata_tree group.now block.now.metadata)) }
+    ensures beside { IfOk result (λ _. IsBeside (Some block.now.metadata)) }
+    ensures err { IfErr result (RefusesZmetadata block.now.metadata) }
+{
+    let value = block.to_zmetadata(alloc, group)?;
+    let key = meta_key_v2_consolidated(alloc, path)?;
+    Ok(ascii_at_key(alloc, key, &value)?)
 }
 
 // The key and the bytes of the document, where it nests no deeper than those that are read.
