@@ -3,13 +3,13 @@
 use log::sink::Discard;
 use std::alloc::{AllocError, Global};
 use std::test::Fail;
-use tests_fixtures::{config_of, document_of, keys_text, store_of};
+use tests_fixtures::{config_of, document_of, key_of, keys_text, store_of};
 use tests_support::{A3, G3, check_rows, refusal, said};
 use zarrs_block::NodeCreateError;
 use zarrs_config::{Config, MetadataRetrieveVersion, UseConsolidatedMetadata};
 use zarrs_node::Node;
 use zarrs_path::NodePath;
-use zarrs_store::{MemoryStore, StorageError};
+use zarrs_store::{AnyNumbers, MemoryStore, ReadableStorageTraits, StorageError};
 use zarrs_uses::{Catalogue, Change, UpdateError};
 
 // The group, with the block of the nodes below it.
@@ -278,4 +278,45 @@ const DEEP: &str = r#"
 #[test]
 fn a_group_that_would_nest_too_deep_is_not_stored(rt: HostRuntime) -> Result<(), Fail> {
     check_rows(rt.alloc(), DEEP, deep_said)
+}
+
+// A group with a fraction.
+const SCALED: &str = r#"{"attributes":{"scale":0.5},"node_type":"group","zarr_format":3}"#;
+
+// The document of the root of a store.
+fn root_text(alloc: Global, store: &MemoryStore) -> Result<String, StorageError> {
+    let bytes = store.get(alloc, &key_of(alloc, "zarr.json")?)?;
+    let bytes = bytes.unwrap_or(Vec::new(alloc));
+    Ok(String::from_utf8_lossy(alloc, bytes.as_slice())?)
+}
+
+// The document of a group with fractions once it was stored with its block in any numbers, or in the whole ones of the store within; or the refusal.
+fn scaled(alloc: Global, numbers: &str) -> Result<String, NodeCreateError> {
+    let mut store = AnyNumbers {
+        inner: store_of(alloc, &[("zarr.json", SCALED), ("a/zarr.json", SCALED)])?,
+    };
+    let catalogue = Catalogue::open(&Discard, alloc, &store, NodePath::root(alloc)?)?;
+    let answer = match numbers {
+        "any" => catalogue.store(alloc, &mut store, &Config::new()),
+        _ => catalogue.store(alloc, &mut store.inner, &Config::new()),
+    };
+    match answer {
+        Ok(()) => Ok(root_text(alloc, &store.inner)?),
+        Err(refused) => Ok(refusal(alloc, &refused)?),
+    }
+}
+
+fn scaled_said(alloc: Global, numbers: &str) -> Result<String, AllocError> {
+    said(alloc, scaled(alloc, numbers), own_text)
+}
+
+// The numbers of a store, and the document of the group.
+const SCALES: &str = r#"
+any => {\n  "attributes": {\n    "scale": 0.5\n  },\n  "consolidated_metadata": {\n    "kind": "inline",\n    "metadata": {\n      "a": {\n        "attributes": {\n          "scale": 0.5\n        },\n        "node_type": "group",\n        "zarr_format": 3\n      }\n    },\n    "must_understand": false\n  },\n  "node_type": "group",\n  "zarr_format": 3\n}
+whole => Group(StorageError(InvalidMetadata)): error parsing metadata for zarr.json: unsupported number
+"#;
+
+#[test]
+fn a_catalogue_is_stored_in_the_numbers_of_its_store(rt: HostRuntime) -> Result<(), Fail> {
+    check_rows(rt.alloc(), SCALES, scaled_said)
 }
