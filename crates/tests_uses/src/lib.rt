@@ -9,3 +9,5 @@ mod converter;
 mod first_call;
 #[cfg(test)]
 mod opened_array;
+#[cfg(test)]
+mod own_store;

@@ -1,3 +1,5 @@
 pub mod Catalogues
 pub mod ConvertedNodes
 pub mod Chunks
+pub mod KeyLists
+pub mod OwnStores

@@ -3,3 +3,5 @@ pub mod Conversions
 pub mod StepsOfConversions
 pub mod ChunkKeys
 pub mod OpenedArrays
+pub mod OwnStores
+pub mod StepsOfOwnStores
