@@ -12,7 +12,7 @@ use zarrs_fault::Numbers;
 
 /// A store that holds what `inner` holds, and whose documents may hold any number. Each call of it is that of `inner`.
 ///
-/// It says nothing of writing: what refuses a fraction over `inner` when it writes refuses it here too.
+/// What is stored over it may have any number too: `inner` is handed the bytes, and asks nothing of them.
 ///
 /// Source: own.
 /// <https://www.rfc-editor.org/rfc/rfc8259#section-6>
