@@ -13,7 +13,7 @@ use Rattle.zarrs_program.specs.declared.output.WriteFault.{WriteFault}
 use Rattle.zarrs_load.specs.Image.{IsLoaded}
 use Rattle.zarrs_cli.specs.Output.{IsAnswer, IsWordText, WritesWord, WritesOverImage, WritesOverSome, WritesOverEach, WritesOverSource, WritesRequest, WritesAsked, usage_text, version_text}
 use Rattle.zarrs_cli.specs.RefusalLines.{IsHint, SaysReason, SaysRefusal}
-use Rattle.zarrs_cli.specs.Refusals.{IsTooDeepFor, RefusesFolder, RefusesRun, RefusesOverImage, RefusesOverSome, RefusesOverEach, RefusesOverSource, RefusesRequest, RefusesAsked, answered_status, run_status, tally_status}
+use Rattle.zarrs_cli.specs.Refusals.{RefusesFolder, RefusesRun, RefusesOverImage, RefusesOverSome, RefusesOverEach, RefusesOverSource, RefusesRequest, RefusesAsked, answered_status, run_status, tally_status}
 use Rattle.zarrs_cli.specs.StepsOfRuns.{IsEnough, IsFaultOfEach, IsFaultOfSome, IsAnswerFault, IsWrittenOfEach, IsWrittenOfSome}
 use Rattle.zarrs_cli.specs.Words.{AreWords, AskFor}
 use Rattle.zarrs_cli.specs.declared.report.Tally.{Tally}

@@ -1,7 +1,7 @@
 use Rattle.std.proofs.Common.{◌≡◌, Err, rules}
-use Rattle.zarrs_cli.specs.StepsOfConsolidations.{IsPlanFaultOfEach, IsPlanFaultOfSome}
+use Rattle.zarrs_cli.specs.StepsOfConsolidations.{IsPlanFaultOfSome}
 use Rattle.zarrs_cli.specs.declared.fault.ZarrsFault.TheVariants.{Consolidate}
-use Rattle.zarrs_cli.proofs.Consolidations.{told_of_some, told_of_each, unplanned_of_some, unplanned_of_each}
+use Rattle.zarrs_cli.proofs.Consolidations.{told_of_some, unplanned_of_some}
 use Rattle.zarrs_cli.proofs.Runs.{err_given}
 use Rattle.zarrs_cli.proofs.consolidate.planned.Goals as goal
 
