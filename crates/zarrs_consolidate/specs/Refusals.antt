@@ -24,7 +24,7 @@ use Rattle.zarrs_node.specs.OpeningNodes.{RefusesNode}
 use Rattle.zarrs_group.specs.BlockDocuments.{block_document}
 use Rattle.zarrs_group.specs.BlocksOfGroups.{RefusesBlock}
 use Rattle.zarrs_group.specs.Groups.{GroupState}
-use Rattle.zarrs_folder.specs.Folders.{in_any}
+use Rattle.zarrs_folder.specs.Folders.{in_any, IsFaultOfFolder}
 use Rattle.zarrs_consolidate.specs.Plans.{group_holding}
 use Rattle.zarrs_consolidate.specs.declared.fault.ConsolidateError.{ConsolidateError}
 use Rattle.zarrs_consolidate.specs.declared.fault.ConsolidateError.TheVariants.{Folder, Node, NotAGroup, TooDeep}
@@ -69,6 +69,11 @@ RefusesPlan can_fail s task b OutOfMemory = ⊤
 abbrev pub IsUnread : ConsolidateError → Type 0
 IsUnread (Folder fault) = ⊤
 IsUnread _ = ⊥
+
+-- what a folder may refuse, where it was not read
+abbrev pub IsOfFolder : Bool → ConsolidateError → Type 0
+IsOfFolder can_fail (Folder fault) = IsFaultOfFolder can_fail fault
+IsOfFolder can_fail _ = ⊤
 
 -- a folder or a file was not read; or it is refused over each store that holds what P says
 abbrev pub RefusesPlanOfEach : (Values → Type 0) → Task → Path → ConsolidateError → Type 0

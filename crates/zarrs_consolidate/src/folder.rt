@@ -3,7 +3,7 @@ ghost use Rattle.std.specs.Prelude.{IfOk, IfErr};
 ghost use Rattle.zarrs_store.specs.Contents.{Values};
 ghost use Rattle.zarrs_folder.specs.Folders.{in_any};
 ghost use Rattle.zarrs_consolidate.specs.Plans.{IsPlan};
-ghost use Rattle.zarrs_consolidate.specs.Refusals.{RefusesPlanOfEach, RefusesPlanOfSome};
+ghost use Rattle.zarrs_consolidate.specs.Refusals.{IsOfFolder, RefusesPlanOfEach, RefusesPlanOfSome};
 
 use crate::fault::ConsolidateError;
 use crate::plan::{Plan, Task, plan_block};
@@ -16,7 +16,7 @@ use zarrs_path::NodePath;
 /// The folder is looked at as far as a walk from the path on does. Documents may hold any number.
 ///
 /// # Errors
-/// `Folder` where a folder or a file is not read; the errors of [`plan_block`].
+/// `Folder`, of a folder that can fail, where a folder or a file is not read; the errors of [`plan_block`].
 ///
 /// Source: own; `zarr.consolidate_metadata` of zarr-python.
 pub fn plan_in_folder<L: Log, F: Folder>(
@@ -31,6 +31,7 @@ pub fn plan_in_folder<L: Log, F: Folder>(
         → IsPlan (in_any V) task base.now plan) }
     ensures some_refused { IfErr result (RefusesPlanOfSome task base.now) }
     ensures each_refused { IfErr result (RefusesPlanOfEach (F.agrees folder.new) task base.now) }
+    ensures unread { IfErr result (IsOfFolder (F.can_fail folder.new)) }
 {
     let store = load_nodes(alloc, folder, base)?;
     plan_block(log, alloc, task, &store, base)
