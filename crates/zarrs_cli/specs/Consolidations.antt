@@ -78,7 +78,7 @@ IsPlanText options plan text =
     (IsChange plan × (text ≡ change_text options plan))
     ⊎ ((IsChange plan → ⊥) × (text ≡ kept_text options plan))
 
--- the line is that text
+-- the line is such a text, escaped, with a line end
 abbrev pub IsConsolidationLine : ConsolidateOptions → Plan → List ℕ → Type 0
 IsConsolidationLine options plan line =
     (text : List ℕ) × IsPlanText options plan text × (line ≡ escaped_line text)
