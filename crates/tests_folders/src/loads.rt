@@ -137,6 +137,15 @@ const NODES: &str = r#"
 # an array with nodes below it
 / | zarr.json G3;a/zarr.json A3;a/b/zarr.json G3;a/.zattrs {} => a/.zattrs a/zarr.json zarr.json | same
 / | .zgroup G2;a/.zarray A2;a/b/.zgroup G2;a/b/c/.zarray A2 => .zgroup a/.zarray | same
+# a group whose node type is escaped, or stands among other words; an array that has the word elsewhere
+/ | zarr.json G3;g/zarr.json {"node_type":"gr\u006fup","zarr_format":3};g/a/zarr.json A3 => g/a/zarr.json g/zarr.json zarr.json | same
+/ | zarr.json G3;g/zarr.json { "node_type" : "group" , "zarr_format" : 3 };g/a/zarr.json A3 => g/a/zarr.json g/zarr.json zarr.json | same
+/ | zarr.json G3;a/zarr.json {"node_type":"array","attributes":{"k":"group"},"zarr_format":3};a/b/zarr.json G3 => a/zarr.json zarr.json | same
+/ | zarr.json G3;a/zarr.json {"node_type":"group";a/b/zarr.json G3 => a/zarr.json zarr.json | same
+# a group and an array of version 2 in one folder
+/ | .zgroup G2;a/.zgroup G2;a/.zarray A2;a/b/.zarray A2 => .zgroup a/.zarray a/.zgroup | same
+/ | .zgroup G2;a/.zarray {};a/.zgroup G2;a/b/.zarray A2 => .zgroup a/.zarray a/.zgroup | same
+/ | .zgroup G2;a/zarr.json G3;a/.zarray A2;a/b/.zarray A2 => .zgroup a/.zarray a/b/.zarray a/zarr.json | same
 # a folder without documents: one key below it, without bytes, and no node further down
 / | zarr.json G3;u/v/zarr.json G3 => u/v/zarr.json* zarr.json | same
 / | zarr.json G3;u/0 {};u/1 {};u/v/w/zarr.json G3 => u/v/w/zarr.json* zarr.json | same

@@ -1,3 +1,5 @@
+mod GroupDocuments
+mod GroupTexts
 mod MoreAnswers
 pub mod LoadingSteps
 pub mod Openings

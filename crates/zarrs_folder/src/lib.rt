@@ -5,6 +5,7 @@
 mod disk;
 mod fault;
 mod folder;
+mod kinds;
 pub mod laws;
 mod memory;
 mod nodes;

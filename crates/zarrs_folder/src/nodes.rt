@@ -11,6 +11,7 @@ ghost use Rattle.zarrs_folder.specs.StepsOfLoadingNodes.{IsLoadedButAhead};
 
 use crate::fault::FolderFault;
 use crate::folder::Folder;
+use crate::kinds::may_be_group;
 use std::alloc::{AllocError, Global};
 use zarrs_block::NodeCreateError;
 use zarrs_config::MetadataRetrieveVersion;
@@ -162,7 +163,7 @@ fn look_at<F: Folder>(
         return Ok(());
     }
     load_at(alloc, folder, prefix, loaded)?;
-    if !is_group(&find(alloc, loaded, path)?) {
+    if !is_group_at(alloc, loaded, path)? {
         return Ok(());
     }
     let mut children = folder.children(alloc, prefix)?;
@@ -191,6 +192,22 @@ fn load_at<F: Folder>(
         return Ok(());
     }
     keep_one(alloc, folder, prefix, loaded)
+}
+
+// Whether a path is a group in what is loaded. The document of most arrays is not read for it.
+fn is_group_at(
+    alloc: Global,
+    loaded: &AnyNumbers<MemoryStore>,
+    path: &NodePath,
+) -> Result<bool, AllocError>
+    ensures { IfOk result (λ is. is ≡ false → (m : NodeMetadata)
+        → meaning (in_any (values_of loaded.now.inner)) Default path.now ≡ node m
+        → is_group m ≡ false) }
+{
+    if !may_be_group(alloc, loaded, path)? {
+        return Ok(false);
+    }
+    Ok(is_group(&find(alloc, loaded, path)?))
 }
 
 // What a path means in what is loaded, where it is a node.

@@ -3,7 +3,7 @@ use Rattle.zarrs_path.specs.Paths.{IsBelow}
 use Rattle.zarrs_config.specs.declared.version.MetadataRetrieveVersion.TheVariants.{Default}
 use Rattle.zarrs_block.specs.Meaning.{meaning, node}
 use Rattle.zarrs_folder.specs.Folders.{in_any, values_of}
-use Rattle.zarrs_folder.proofs.LoadingSteps.{alone_turn, group_turn, grows_itself, not_group_found, passed_over}
+use Rattle.zarrs_folder.proofs.LoadingSteps.{alone_turn, group_turn, grows_itself, passed_over}
 use Rattle.zarrs_folder.proofs.nodes.look_at.Goals as goal
 
 pub returns-then-not-is_below-clause-ok : goal.returns-then-not-is_below-clause-ok
@@ -11,12 +11,11 @@ returns-then-not-is_below-clause-ok g c V agrees way =
     passed_over V c.args.base.now (values_of c.args.loaded.now.inner) (values_of c.args.loaded.now.inner) c.args.ahead.now.items c.args.prefix.now (grows_itself V (values_of c.args.loaded.now.inner)) way
     (λ low. true≢false (sym (c.is_below.ensures.below.1 (subst (IsBelow c.args.base.now) (sym c.requires) low)) ∙ c.if-not-is_below.true))
 
-pub returns-then-not-is_group-clause-ok : goal.returns-then-not-is_group-clause-ok
-returns-then-not-is_group-clause-ok g c V agrees way =
+pub returns-then-not-branch-clause-ok : goal.returns-then-not-branch-clause-ok
+returns-then-not-branch-clause-ok g c V agrees way =
     alone_turn V c.args.base.now (values_of c.args.loaded.now.inner) (values_of c.load_at.new.loaded.inner) c.args.ahead.now.items c.args.prefix.now
     (c.in_ok-load_at.ensures.grows V agrees) (c.in_ok-load_at.ensures.below V agrees) (c.in_ok-load_at.ensures.got V agrees)
-    (λ m is. not_group_found c.in_ok-find.field-0 (meaning (in_any (values_of c.load_at.new.loaded.inner)) Default c.args.path.now) c.in_ok-find.ensures.some c.in_ok-find.ensures.none
-    (c.is_group.ensures c.if-not-is_group.true) m (subst (λ x. meaning (in_any (values_of c.load_at.new.loaded.inner)) Default x ≡ node m) (sym c.requires) is))
+    (λ m is. c.in_ok-is_group_at.ensures c.if-not-branch.true m (subst (λ x. meaning (in_any (values_of c.load_at.new.loaded.inner)) Default x ≡ node m) (sym c.requires) is))
     way
 
 pub returns-clause-ok : goal.returns-clause-ok
