@@ -26,3 +26,4 @@ pub mod BelowBases
 pub mod PlainWithBlock
 pub mod WrittenBlocks
 pub mod BlockDocuments
+pub mod PutAgain

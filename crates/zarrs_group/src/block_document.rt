@@ -14,6 +14,7 @@ ghost use Rattle.zarrs_group.specs.BlocksOfGroups.{Fits, RefusesBlock, with_bloc
 
 use crate::ascii::ascii_document_text;
 use crate::group::Group;
+use crate::group_value::value_with_block;
 use crate::stored::written;
 use serde_json::Value;
 use std::alloc::{AllocError, Global};
@@ -56,8 +57,8 @@ impl Group {
         }
     }
 
-    /// What [`Group::block_document`] answers once [`Group::set_consolidated_metadata`] set this block, or removed the one there is. The group is given away for
-    /// it, and what is written of a block of version 2 is made once.
+    /// What [`Group::block_document`] answers once [`Group::set_consolidated_metadata`] set this block, or removed the one there is. The group and the block are
+    /// given away for it. Of version 3 neither a block nor the attributes are copied. What is written of a block is made once.
     ///
     /// # Errors
     ///
@@ -76,16 +77,18 @@ impl Group {
         ensures fits { IfOk result (λ _. Fits self.metadata (as_block block)) }
         ensures err { IfErr result (RefusesBlock self.metadata (as_block block)) }
     {
-        match (&self.metadata, &block) {
-            (GroupMetadata::V2(group), Some(block)) => {
-                return document_beside(alloc, self.path(), group, block);
+        let Group { path, metadata, .. } = self;
+        match (metadata, block) {
+            (GroupMetadata::V3(group), block) => {
+                let key = meta_key_v3(alloc, &path)?;
+                let value = value_with_block(alloc, group, block)?;
+                Ok(at_key(alloc, key, &value)?)
             }
-            (GroupMetadata::V2(_), None) => return Ok(None),
-            (GroupMetadata::V3(_), _) => {}
+            (GroupMetadata::V2(_), None) => Ok(None),
+            (GroupMetadata::V2(group), Some(block)) => {
+                document_beside(alloc, &path, &group, &block)
+            }
         }
-        let mut group = self;
-        group.replace_consolidated_metadata(alloc, block)?;
-        Ok(group.block_document(alloc)?)
     }
 }
 

@@ -14,6 +14,7 @@ ghost use Rattle.zarrs_group.specs.Lending.{Rests};
 ghost use Rattle.zarrs_group.specs.StepsOfLending.{RestsLent, group_lent};
 
 use crate::group::Group;
+use crate::group_value::field_of;
 use std::alloc::{AllocError, Global};
 use zarrs_block::{ConsolidatedMetadata, NodeCreateError, consolidated_metadata_of_in};
 use zarrs_meta::{AdditionalFieldV3, AdditionalFieldsV3, GroupMetadata, GroupMetadataV2};
@@ -199,8 +200,7 @@ fn set_block(
 {
     match block {
         Some(block) => {
-            let value = block.to_value(alloc)?;
-            let field = AdditionalFieldV3::new(alloc, value, false)?;
+            let field = field_of(alloc, block)?;
             put_block(fields, alloc, field)
         }
         None => {
@@ -210,8 +210,8 @@ fn set_block(
     }
 }
 
-// Puts the field `consolidated_metadata` among the fields, in the place of the one that was there.
-fn put_block(
+/// Puts the field `consolidated_metadata` among the fields, in the place of the one that was there.
+pub(crate) fn put_block(
     fields: &mut AdditionalFieldsV3,
     alloc: Global,
     field: AdditionalFieldV3,
@@ -224,8 +224,8 @@ fn put_block(
     Ok(())
 }
 
-// Removes the field `consolidated_metadata`.
-fn remove_block(fields: &mut AdditionalFieldsV3)
+/// Removes the field `consolidated_metadata`.
+pub(crate) fn remove_block(fields: &mut AdditionalFieldsV3)
     ensures { fields.new ≡ besides (codes "consolidated_metadata" ∷ []) fields.old }
 {
     drop(fields.remove("consolidated_metadata"));

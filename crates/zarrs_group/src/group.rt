@@ -43,7 +43,7 @@ use zarrs_store::{ReadableStorageTraits, StorageError, WritableStorageTraits};
 /// <https://docs.rs/zarrs/0.23.13/zarrs/group/struct.Group.html>
 #[derive(Debug, Drop)]
 pub struct Group {
-    path: NodePath,
+    pub(crate) path: NodePath,
     pub(crate) metadata: GroupMetadata,
     pub(crate) block: Option<ConsolidatedMetadata>,
     options: GroupMetadataOptions,

@@ -10,6 +10,7 @@ mod consolidated;
 mod create_error;
 mod edit;
 mod group;
+mod group_value;
 pub mod laws;
 mod layout;
 mod nesting;
