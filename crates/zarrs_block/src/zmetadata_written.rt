@@ -44,10 +44,33 @@ impl ConsolidatedMetadata {
         ensures version { IfOk result (λ _. HasVersion2 self.now.metadata) }
         ensures err { IfErr result (RefusesZmetadata self.now.metadata) }
     {
+        let block = self.try_clone(alloc)?;
+        block.into_zmetadata(alloc, group.try_clone(alloc)?)
+    }
+
+    /// What [`ConsolidatedMetadata::to_zmetadata`] answers. The block and the group are given away for it, so that neither is copied.
+    ///
+    /// # Errors
+    ///
+    /// Those of [`ConsolidatedMetadata::to_zmetadata`].
+    ///
+    /// Source: zarr-python, consolidated metadata of version 2 groups.
+    pub fn into_zmetadata(
+        self,
+        alloc: Global,
+        group: GroupMetadataV2,
+    ) -> Result<Value, NodeCreateError>
+        ensures documents { IfOk result (λ value. IsWrittenOf group self.metadata (view value)) }
+        ensures tree { IfOk result
+            (λ value. view value ≡ zmetadata_tree group self.metadata) }
+        ensures keys { IfOk result (λ _. HasValidKeys self.metadata) }
+        ensures version { IfOk result (λ _. HasVersion2 self.metadata) }
+        ensures err { IfErr result (RefusesZmetadata self.metadata) }
+    {
         let root = NodePath::root(alloc)?;
-        let (pairs, _ascend) = pairs_of(alloc, &root, self.try_clone(alloc)?)?;
+        let (pairs, _ascend) = pairs_of(alloc, &root, self)?;
         let mut documents = documents_of(alloc, pairs)?;
-        put_group(&mut documents, alloc, &root, group.try_clone(alloc)?)?;
+        put_group(&mut documents, alloc, &root, group)?;
         Ok(with_format(alloc, documents)?)
     }
 }
