@@ -58,7 +58,7 @@ impl Group {
     }
 
     /// What [`Group::block_document`] answers once [`Group::set_consolidated_metadata`] set this block, or removed the one there is. The group and the block are
-    /// given away for it. Of version 3 neither a block nor the attributes are copied. What is written of a block is made once.
+    /// given away for it. Neither a block nor the attributes of the group are copied. What is written of a block is made once.
     ///
     /// # Errors
     ///
@@ -86,7 +86,7 @@ impl Group {
             }
             (GroupMetadata::V2(_), None) => Ok(None),
             (GroupMetadata::V2(group), Some(block)) => {
-                document_beside(alloc, &path, &group, &block)
+                document_beside(alloc, &path, group, block)
             }
         }
     }
@@ -96,19 +96,19 @@ impl Group {
 fn document_beside(
     alloc: Global,
     path: &NodePath,
-    group: &GroupMetadataV2,
-    block: &ConsolidatedMetadata,
+    group: GroupMetadataV2,
+    block: ConsolidatedMetadata,
 ) -> Result<Option<(StoreKey, Vec<u8>)>, NodeCreateError>
     ensures key { IfOk result (λ found. IfSome found
         (λ made. made.0 ≡ path.now ++ zmetadata ∷ [])) }
     ensures text { IfOk result (λ found. IfSome found
-        (λ made. IsAsciiTextOf made.1.items (zmetadata_tree group.now block.now.metadata))) }
+        (λ made. IsAsciiTextOf made.1.items (zmetadata_tree group block.metadata))) }
     ensures none { IfOk result (λ found. found ≡ None
-        → max_depth < depth (zmetadata_tree group.now block.now.metadata)) }
-    ensures beside { IfOk result (λ _. IsBeside (Some block.now.metadata)) }
-    ensures err { IfErr result (RefusesZmetadata block.now.metadata) }
+        → max_depth < depth (zmetadata_tree group block.metadata)) }
+    ensures beside { IfOk result (λ _. IsBeside (Some block.metadata)) }
+    ensures err { IfErr result (RefusesZmetadata block.metadata) }
 {
-    let value = block.to_zmetadata(alloc, group)?;
+    let value = block.into_zmetadata(alloc, group)?;
     let key = meta_key_v2_consolidated(alloc, path)?;
     Ok(ascii_at_key(alloc, key, &value)?)
 }
