@@ -23,12 +23,17 @@ const WRITTEN: &str = r#"
 {"zarr_format":2} | a={"node_type":"group","zarr_format":3};a/../b={"chunks":[1],"compressor":null,"dtype":"<f8","fill_value":"NaN","filters":null,"order":"C","shape":[1],"zarr_format":2} => NodePathError(Invalid): invalid node path invalid node name `..` in 'a/../b'
 "#;
 
-// The text of the document of a group and the block with these documents at these keys, or the refusal.
+// The text of the document of a group and the block with these documents at these keys, or the refusal: the same of a copy, and where both are given away.
 fn written(alloc: Global, given: &str) -> Result<String, MetadataFault> {
     let (group, documents) = fields(given);
     let block = block_of(alloc, documents)?;
     let group = GroupMetadataV2::from_bytes(alloc, group.as_bytes())?;
-    Ok(said(alloc, block.to_zmetadata(alloc, &group), Value::to_string)?)
+    let of_copy = said(alloc, block.to_zmetadata(alloc, &group), Value::to_string)?;
+    let given_away = said(alloc, block.into_zmetadata(alloc, group), Value::to_string)?;
+    if given_away.as_str() != of_copy.as_str() {
+        return Ok(String::from_str(alloc, "other, given away")?);
+    }
+    Ok(given_away)
 }
 
 #[test]
