@@ -2,6 +2,7 @@
 -- <https://zarr-specs.readthedocs.io/en/latest/v3/core/index.html#hierarchy>
 --     RefusesAnswer can_fail w s b      what the calls of a word refuse
 --     RefusesRun can_fail w path s      why a run over a store is refused
+--     IsUnreadOnlyOf can_fail fault      what a folder may refuse
 --     RefusesAsked words left      why a run of the program is
 --     run_status      the exit status
 use Rattle.std.specs.Prelude.{◌≡◌, ◌≢◌, ℕ, Bool, false, List, ⊤, Option, Some, None, Result, Ok, Err, ◌⊎◌, cond, codes}
@@ -14,17 +15,18 @@ use Rattle.zarrs_config.specs.declared.version.UseConsolidatedMetadata.TheVarian
 use Rattle.zarrs_block.specs.declared.node_create_error.NodeCreateError.{NodeCreateError}
 use Rattle.zarrs_block.specs.Refusals.{IsExcused, IsExcusedOr}
 use Rattle.zarrs_node.specs.OpeningNodes.{RefusesOpening}
-use Rattle.zarrs_folder.specs.Folders.{in_any}
+use Rattle.zarrs_folder.specs.Folders.{in_any, IsFaultOfFolder}
 use Rattle.zarrs_load.specs.Image.{IsLoaded, RefusedImage}
 use Rattle.zarrs_program.specs.Words.{RefusesPathText}
 use Rattle.zarrs_program.specs.declared.arguments.WordsFault.{WordsFault}
 use Rattle.zarrs_program.specs.declared.arguments.WordsFault.TheVariants as unread
+use Rattle.zarrs_consolidate.specs.Refusals.{IsOfFolder}
 use Rattle.zarrs_cli.specs.Output.{IsAnswer}
 use Rattle.zarrs_cli.specs.Words.{AreWords, AreWordsOf}
 use Rattle.zarrs_cli.specs.declared.report.Tally.{Tally}
 use Rattle.zarrs_cli.specs.declared.fault.ZarrsFault.{ZarrsFault}
 use Rattle.zarrs_cli.specs.declared.fault.ZarrsFault.TheVariants.{Usage, Load, Folder, Node, TooDeep, Write}
-use Rattle.zarrs_cli.specs.declared.fault.ZarrsFault.TheVariants.{OutOfMemory}
+use Rattle.zarrs_cli.specs.declared.fault.ZarrsFault.TheVariants.{Consolidate as NoPlan, OutOfMemory}
 use Rattle.zarrs_node.specs.OpeningNodes.{RefusesNode}
 use Rattle.zarrs_write.specs.Calls.{Asked}
 use Rattle.zarrs_cli.specs.ConsolidationRefusals.{RefusesConsolidationOfSome}
@@ -84,6 +86,12 @@ abbrev pub RefusesFolder : ZarrsFault → Type 0
 RefusesFolder (Folder fault) = ⊤
 RefusesFolder OutOfMemory = ⊤
 RefusesFolder _ = ⊥
+
+-- where the fault is one of a folder, it is out of memory, or the folder is one that can fail
+abbrev pub IsUnreadOnlyOf : Bool → ZarrsFault → Type 0
+IsUnreadOnlyOf can_fail (Folder fault) = IsFaultOfFolder can_fail fault
+IsUnreadOnlyOf can_fail (NoPlan e) = IsOfFolder can_fail e
+IsUnreadOnlyOf can_fail _ = ⊤
 
 -- a reader gives no image; or it was read to its end, and the run over the store of its image is refused
 abbrev pub RefusesOverImage : Word → List ℕ → Option (List ℕ) → Option (List ℕ) → ZarrsFault → Type 0

@@ -5,6 +5,7 @@ ghost use Rattle.zarrs_write.specs.Calls.{AddsSome};
 ghost use Rattle.zarrs_consolidate.specs.CarryingOut.{IsPlanBrokenOff};
 ghost use Rattle.zarrs_cli.specs.ConsolidationRefusals.{RefusesConsolidationOfEach, RefusesConsolidationOfSome};
 ghost use Rattle.zarrs_cli.specs.Consolidations.{AsksPlace, IsChange, IsConsolidationLine, IsConsolidationOfEach, IsConsolidationOfSome, IsEndOf, IsPlanText, absent_text, change_text, current_text, kept_text, nodes_text, noun, removal_text, task_of, writing_text};
+ghost use Rattle.zarrs_cli.specs.Refusals.{IsUnreadOnlyOf};
 ghost use Rattle.zarrs_cli.specs.StepsOfConsolidations.{IsPlanFaultOfEach, IsPlanFaultOfSome, IsPlanToldOfEach, IsPlanToldOfSome};
 
 use crate::escapes::push_line;
@@ -34,8 +35,9 @@ pub enum Consolidated {
 /// done. The folder is looked at as far as a walk from the path on does. A dry run only says what would be done.
 ///
 /// # Errors
-/// `Node` where the path is none. `Consolidate` where it is not known what becomes of the block: nothing is written then. `Replace` where the document was
-/// not replaced or not removed. `Write` where the writer fails, once that is done. `OutOfMemory`.
+/// `Node` where the path is none. `Consolidate` where it is not known what becomes of the block, among others where a folder that can fail is not read:
+/// nothing is written then. `Replace` where the document was not replaced or not removed. `Write` where the writer fails, once that is done.
+/// `OutOfMemory`.
 ///
 /// Source: own; `zarr.consolidate_metadata` of zarr-python.
 pub fn consolidate_folder<L: Log, F: Folder, P: Place, W: Write>(
@@ -55,6 +57,7 @@ pub fn consolidate_folder<L: Log, F: Folder, P: Place, W: Write>(
         (P.calls place.old) (P.calls place.new)) }
     ensures whole_refused { IfErr result (RefusesConsolidationOfEach options path.now
         (F.agrees folder.new) (P.calls place.old) (P.calls place.new)) }
+    ensures unread { IfErr result (IsUnreadOnlyOf (F.can_fail folder.new)) }
     ensures silent { IfErr result (λ fault. fault ≢ ZarrsFault.Write
         → Keeps (W.contents writer.old) (W.contents writer.new)) }
 {
@@ -77,6 +80,7 @@ fn planned<L: Log, F: Folder>(
     ensures whole { IfOk result (IsPlanToldOfEach options base.now (F.agrees folder.new)) }
     ensures err { IfErr result (IsPlanFaultOfSome options base.now) }
     ensures whole_err { IfErr result (IsPlanFaultOfEach options base.now (F.agrees folder.new)) }
+    ensures unread { IfErr result (IsUnreadOnlyOf (F.can_fail folder.new)) }
 {
     let plan = plan_in_folder(log, alloc, task_of(options), folder, base)?;
     let line = line_of(alloc, options, &plan)?;

@@ -12,7 +12,7 @@ ghost use Rattle.zarrs_folder.specs.Folders.{in_any, values_of};
 ghost use Rattle.zarrs_folder.specs.Openings.{OpenSame};
 ghost use Rattle.zarrs_folder.specs.PrunedStores.{IsLoadedFrom};
 ghost use Rattle.zarrs_cli.specs.Output.{IsWordText, WritesOverEach, WritesOverSome};
-ghost use Rattle.zarrs_cli.specs.Refusals.{RefusesFolder, RefusesOverEach, RefusesOverSome};
+ghost use Rattle.zarrs_cli.specs.Refusals.{IsUnreadOnlyOf, RefusesFolder, RefusesOverEach, RefusesOverSome};
 ghost use Rattle.zarrs_survey.specs.PathChecks.{IsPathCheckOf};
 ghost use Rattle.zarrs_cli.specs.StepsOfRuns.{HoldsAbove, IsAnswerFault, IsCheckable, IsChecked, IsEnough, IsFaultOfEach, IsFaultOfSome, IsWrittenOfEach, IsWrittenOfSome, has_more, has_more_from, is_stale, loaded_store, passed_from, passed_paths, stale_among, stale_of, stale_paths};
 
@@ -40,7 +40,7 @@ use zarrs_survey::{BadDocuments, CheckedFrom, Finding, FindingKind, PathCheck};
 /// document is shown, the documents at the path only; else what a walk from the path on asks. Documents may hold any number.
 ///
 /// # Errors
-/// `Folder` where a folder or a file is not read; the refusals of [`run_store`].
+/// `Folder`, of a folder that can fail, where a folder or a file is not read; the refusals of [`run_store`].
 ///
 /// [`run_store`]: crate::run::run_store
 ///
@@ -59,6 +59,7 @@ pub fn run_of_folder<L: Log, F: Folder, W: Write>(
         (W.contents writer.old) (W.contents writer.new)) }
     ensures refused { IfErr result (RefusesOverSome word path.now) }
     ensures whole_refused { IfErr result (RefusesOverEach word path.now (F.agrees folder.new)) }
+    ensures unread { IfErr result (IsUnreadOnlyOf (F.can_fail folder.new)) }
     ensures silent { IfErr result (λ fault. fault ≢ ZarrsFault.Write
         → Keeps (W.contents writer.old) (W.contents writer.new)) }
 {
@@ -88,6 +89,7 @@ fn output_of_folder<L: Log, F: Folder>(
     ensures whole { IfOk result (IsWrittenOfEach word base.now (F.agrees folder.new)) }
     ensures err { IfErr result (IsFaultOfSome word base.now) }
     ensures whole_err { IfErr result (IsFaultOfEach word base.now (F.agrees folder.new)) }
+    ensures unread { IfErr result (IsUnreadOnlyOf (F.can_fail folder.new)) }
 {
     let _valid = base.as_str();
     let loaded = load_for(alloc, word, folder, base)?;
@@ -127,6 +129,7 @@ fn load_for<F: Folder>(
         → IsEnough word (in_any V) (loaded_store loaded) base.now) }
     ensures checked { IfOk result (λ loaded. IsChecked loaded base.now) }
     ensures err { IfErr result RefusesFolder }
+    ensures unread { IfErr result (IsUnreadOnlyOf (F.can_fail folder.new)) }
 {
     let store = match word {
         Word::Tree => load_shown(alloc, UseConsolidatedMetadata::Auto, folder, base)?,
@@ -152,6 +155,7 @@ fn load_checked<F: Folder>(
         → IsCheckable (in_any V) (loaded_store loaded) base.now) }
     ensures checked { IfOk result (λ loaded. IsChecked loaded base.now) }
     ensures err { IfErr result RefusesFolder }
+    ensures unread { IfErr result (IsUnreadOnlyOf (F.can_fail folder.new)) }
 {
     let store = load_walked(alloc, folder, base)?;
     let checked = first_check(alloc, &store, base)?;
@@ -179,6 +183,7 @@ fn load_walked<F: Folder>(
     ensures above { IfOk result (λ store. (V : Values) → F.agrees folder.new V
         → HoldsAbove (in_any V) (in_any (values_of store.inner)) base.now) }
     ensures err { IfErr result RefusesFolder }
+    ensures unread { IfErr result (IsUnreadOnlyOf (F.can_fail folder.new)) }
 {
     let above = paths_above(alloc, base)?;
     let store = load_nodes(alloc, folder, base)?;
@@ -269,6 +274,7 @@ fn load_more<F: Folder>(
         → IsCheckable (in_any V) (in_any (values_of more.inner)) base.now) }
     ensures before { (V : Values) → F.agrees folder.new V → F.agrees folder.old V }
     ensures err { IfErr result RefusesFolder }
+    ensures unread { IfErr result (IsUnreadOnlyOf (F.can_fail folder.new)) }
 {
     let (passed, stale) = paths_of_more(alloc, checked)?;
     let store = load_passed(alloc, folder, base, &passed, store)?;
@@ -347,6 +353,7 @@ fn load_shown<F: Folder>(
     ensures ok { IfOk result (λ loaded. (V : Values) → F.agrees folder.new V
         → OpenSame (in_any V) (in_any (values_of loaded.inner)) policy base.now) }
     ensures err { IfErr result RefusesFolder }
+    ensures unread { IfErr result (IsUnreadOnlyOf (F.can_fail folder.new)) }
 {
     let store = load_base(alloc, folder, base)?;
     if !is_listed(alloc, &store, base, policy) {
@@ -366,6 +373,7 @@ fn load_document<F: Folder>(
         → meaning (in_any (values_of loaded.inner)) Default base.now
         ≡ meaning (in_any V) Default base.now) }
     ensures err { IfErr result RefusesFolder }
+    ensures unread { IfErr result (IsUnreadOnlyOf (F.can_fail folder.new)) }
 {
     let store = load_base(alloc, folder, base)?;
     Ok(store)
