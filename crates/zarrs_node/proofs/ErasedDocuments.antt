@@ -88,6 +88,15 @@ line_there : (s : Contents) (p : Path) (bytes : List ℕ) → get s.values (p ++
 unfolding document_at
 line_there s p bytes here after = zarr_json_line_is s p _ refl _ (ap (document_from (of_bytes (zarr_json_in s.numbers)) (p ++ zarr_json ∷ [])) here) after
 
+-- where `zarr.json` is there, and the same in both, it decides what the path means by default
+pub by_zarr_json : (S T : Contents) (p : Path) (bytes : List ℕ) → T.numbers ≡ S.numbers → get T.values (p ++ zarr_json ∷ []) ≡ get S.values (p ++ zarr_json ∷ [])
+    → get S.values (p ++ zarr_json ∷ []) ≡ Some bytes → meaning T Default p ≡ meaning S Default p
+by_zarr_json S T p bytes alike own e =
+    default_is T p ∙ line_there T p bytes (own ∙ e) (version_2_says T p)
+    ∙ ap (λ n. version_3_line (document_or_fault (p ++ zarr_json ∷ []) (of_bytes (zarr_json_in n) bytes)) (version_2_says T p)) alike
+    ∙ decided (p ++ zarr_json ∷ []) (of_bytes (zarr_json_in S.numbers) bytes) (version_2_says T p) (version_2_says S p)
+    ∙ sym (line_there S p bytes e (version_2_says S p)) ∙ sym (default_is S p)
+
 -- each path means by default what it meant
 pub beside_means_same : BesideMeansSame
 beside_means_same S T alike others p = by (get S.values (p ++ zarr_json ∷ [])) refl
@@ -96,11 +105,7 @@ beside_means_same S T alike others p = by (get S.values (p ++ zarr_json ∷ []))
     own = others (p ++ zarr_json ∷ []) (λ w. other_file w.1 w.2 (sym (same_from_push p w.0 zarr_json w.1 w.3).1))
 
     by : (o : Option (List ℕ)) → get S.values (p ++ zarr_json ∷ []) ≡ o → meaning T Default p ≡ meaning S Default p
-    by (Some bytes) e =
-        default_is T p ∙ line_there T p bytes (own ∙ e) (version_2_says T p)
-        ∙ ap (λ n. version_3_line (document_or_fault (p ++ zarr_json ∷ []) (of_bytes (zarr_json_in n) bytes)) (version_2_says T p)) alike
-        ∙ decided (p ++ zarr_json ∷ []) (of_bytes (zarr_json_in S.numbers) bytes) (version_2_says T p) (version_2_says S p)
-        ∙ sym (line_there S p bytes e (version_2_says S p)) ∙ sym (default_is S p)
+    by (Some bytes) e = by_zarr_json S T p bytes alike own e
     by None e = meaning_same S T p alike (λ file in'. others (p ++ file ∷ []) (λ w.
         let there : HasKey S.values (p ++ zarr_json ∷ []) = subst (λ q. HasKey S.values (q ++ zarr_json ∷ [])) (sym (same_from_push p w.0 file w.1 w.3).0) w.4 in
         true≢false (sym there ∙ ap is_some e))) Default
