@@ -12,8 +12,16 @@ use zarrs_notes::node_findings;
 use zarrs_path::NodePath;
 use zarrs_store::{FaultAt, FaultStore};
 
-// The names of the documents of a path.
-const NAMES: [&str; 5] = ["zarr.json", ".zarray", ".zgroup", ".zattrs", ".zmetadata"];
+// The names of the documents of a path, and of the files that are written in the place of one.
+const NAMES: [&str; 7] = [
+    "zarr.json",
+    ".zarray",
+    ".zgroup",
+    ".zattrs",
+    ".zmetadata",
+    "zarr.json.zarrs_new",
+    ".zmetadata.zarrs_new",
+];
 
 // What is told of the node at a path over a store that fails where this document of the path is read.
 fn told_past(
@@ -47,11 +55,12 @@ fn asked(alloc: Global, given: &str) -> Result<String, NodeCreateError> {
 
 // A path and a store; the documents of the path that are asked for, each with a period behind it.
 const ASKED: &str = r#"
-/ | zarr.json G3 => .zarray..zgroup..zattrs..zmetadata.
+/ | zarr.json G3 => .zarray..zgroup..zattrs..zmetadata.zarr.json.zarrs_new.
 /a | zarr.json G3;a/zarr.json A3 => .zarray..zgroup..zattrs..zmetadata.
 / | .zarray A2 => .zgroup..zmetadata.
 /a/b | a/b/.zarray A2;a/b/.zattrs {} => .zgroup..zmetadata.
-/ | .zgroup G2;.zmetadata {} =>
+/ | .zgroup G2;.zmetadata {} => .zmetadata.zarrs_new.
+/a | zarr.json G3;a/.zgroup G2 => .zmetadata.zarrs_new.
 "#;
 
 #[test]
@@ -61,13 +70,13 @@ fn no_more_is_asked_than_what_can_be_told(rt: HostRuntime) -> Result<(), Fail> {
 
 // ---- each allocation refused in turn
 
-// A group, of which a field, its block and a document beside are told.
+// A group, of which a field, its block, a document beside and what a run of writing left are told.
 const GROUP: &str =
-    r#"a/zarr.json {"consolidated_metadata":1,"node_type":"group","x":1,"zarr_format":3};a/.zgroup G2"#;
+    r#"a/zarr.json {"consolidated_metadata":1,"node_type":"group","x":1,"zarr_format":3};a/.zgroup G2;a/zarr.json.zarrs_new {}"#;
 
 // What is told of it.
 const WANTED: &str =
-    "not opened: the block of /a has no must_understand false\nnot opened: the field x must be understood\nnote: beside: .zgroup is not read, since zarr.json stands there too\n";
+    "not opened: the block of /a has no must_understand false\nnot opened: the field x must be understood\nnote: beside: .zgroup is not read, since zarr.json stands there too\nnote: left over: zarr.json.zarrs_new is of a run that was broken off, or that still writes\n";
 
 #[test]
 fn memory_fails_in_notes(rt: HostRuntime) -> Result<(), Fail> {

@@ -120,12 +120,28 @@ v3 / | zarr.json G3;.zgroup G2 => note: beside: .zgroup is not read, since zarr.
 # documents beside `.zarray`
 any / | .zarray A2;.zgroup G2 => note: beside: .zgroup is not read, since .zarray stands there too\n
 any /a | a/.zarray A2;a/.zgroup NUL;a/.zmetadata {};a/.zattrs {} => note: misplaced: an array has a block, which is not read\nnote: beside: .zgroup is not read, since .zarray stands there too\n
+# what a run of writing left, at a group of its own version
+any / | zarr.json G3;zarr.json.zarrs_new  => note: left over: zarr.json.zarrs_new is of a run that was broken off, or that still writes\n
+any / | .zgroup G2;.zmetadata.zarrs_new NUL => note: left over: .zmetadata.zarrs_new is of a run that was broken off, or that still writes\n
+any /a | a/zarr.json G3;a/zarr.json.zarrs_new G3 => note: left over: zarr.json.zarrs_new is of a run that was broken off, or that still writes\n
+any /a | a/.zgroup G2;a/.zmetadata {};a/.zmetadata.zarrs_new {} => note: left over: .zmetadata.zarrs_new is of a run that was broken off, or that still writes\n
+any / | zarr.json G3;.zmetadata.zarrs_new {} =>
+any / | .zgroup G2;zarr.json.zarrs_new {} =>
+any / | zarr.json G3;zarr.json.zarrs_new {};.zmetadata.zarrs_new {} => note: left over: zarr.json.zarrs_new is of a run that was broken off, or that still writes\n
+any / | .zgroup G2;zarr.json.zarrs_new {};.zmetadata.zarrs_new {} => note: left over: .zmetadata.zarrs_new is of a run that was broken off, or that still writes\n
+any /a | a/zarr.json G3;zarr.json.zarrs_new {};a/b/zarr.json.zarrs_new {};azarr.json.zarrs_new {};a/zarr.json.zarrs_new2 {};a/zarr.json_zarrs_new {} =>
+# no document of an array is replaced, nor any but the one that has the block
+any / | zarr.json A3;zarr.json.zarrs_new {};.zmetadata.zarrs_new {} =>
+any /a | a/.zarray A2;a/.zarray.zarrs_new {};a/.zmetadata.zarrs_new {};a/zarr.json.zarrs_new {} =>
+any / | .zgroup G2;.zgroup.zarrs_new {};.zattrs.zarrs_new {};.zarray.zarrs_new {} =>
 # by version 2 alone `zarr.json` is not asked
 v2 / | zarr.json G3;.zgroup G2;.zattrs {};.zmetadata {} =>
 v2 / | zarr.json NUL;.zarray A2;.zgroup NUL => note: beside: .zgroup is not read, since .zarray stands there too\n
+v2 / | zarr.json G3;zarr.json.zarrs_new {};.zgroup G2;.zmetadata.zarrs_new {} => note: left over: .zmetadata.zarrs_new is of a run that was broken off, or that still writes\n
 # all in order
 any /a | a/zarr.json {"node_type":"array","zarr_format":3,"shape":[1,1],"data_type":"int8","chunk_grid":{"name":"regular","configuration":{"chunk_shape":[0]}},"chunk_key_encoding":"default","fill_value":0,"codecs":["bytes"],"dimension_names":["x"],"consolidated_metadata":{}};a/.zgroup G2;a/.zarray A2 => bad shape: the chunk grid has 1 lengths, and the shape has 2\nbad shape: a chunk has the length 0\nbad shape: there are 1 dimension names, and the shape has 2\nnote: misplaced: an array has a block, which is not read\nnote: beside: .zarray is not read, since zarr.json stands there too\nnote: beside: .zgroup is not read, since zarr.json stands there too\n
 any / | zarr.json {"node_type":"group","zarr_format":3,"x":1};.zattrs {} => not opened: the field x must be understood\nnote: beside: .zattrs is not read, since zarr.json stands there too\n
+any / | zarr.json {"node_type":"group","zarr_format":3,"x":1};zarr.json.zarrs_new {};.zmetadata.zarrs_new {};.zmetadata {};.zgroup G2 => not opened: the field x must be understood\nnote: beside: .zgroup is not read, since zarr.json stands there too\nnote: beside: .zmetadata is not read, since zarr.json stands there too\nnote: left over: zarr.json.zarrs_new is of a run that was broken off, or that still writes\n
 "#;
 
 fn told_in_whole(alloc: Global, given: &str) -> Result<String, NodeCreateError> {
@@ -148,6 +164,7 @@ any / | zarr.json {"node_type":"array","zarr_format":3,"shape":[1,1],"data_type"
 any / | zarr.json {"node_type":"array","zarr_format":3,"shape":[1,1],"data_type":"int8","chunk_grid":{"name":"regular","configuration":{"chunk_shape":[1.5]}},"chunk_key_encoding":"default","fill_value":0,"codecs":["bytes"]} =>
 any / | zarr.json {"node_type":"array","zarr_format":3,"shape":[1],"data_type":"int8","chunk_grid":{"name":"regular","configuration":{"chunk_shape":[0.0]}},"chunk_key_encoding":"default","fill_value":0,"codecs":["bytes"]} =>
 any / | zarr.json {"node_type":"array","zarr_format":3,"shape":[1],"data_type":"int8","chunk_grid":{"name":"regular","configuration":{"chunk_shape":[1.0,2]}},"chunk_key_encoding":"default","fill_value":0,"codecs":["bytes"]} =>
+any / | .zgroup G2;.zmetadata.zarrs_new [0.5] => note: left over: .zmetadata.zarrs_new is of a run that was broken off, or that still writes\n
 any / | zarr.json {"node_type":"group","zarr_format":3,"attributes":{"a":0.5}};.zgroup {"zarr_format":2.5} => note: beside: .zgroup is not read, since zarr.json stands there too\n
 any / | .zarray {"zarr_format":2,"shape":[1,1],"chunks":[1],"dtype":"|i1","fill_value":0.5,"order":"C","compressor":null,"filters":null};.zmetadata [0.5] => bad shape: the chunk grid has 1 lengths, and the shape has 2\nnote: misplaced: an array has a block, which is not read\n
 "#;
@@ -173,6 +190,8 @@ fn documents_have_their_names(rt: HostRuntime) -> Result<(), Fail> {
     assert_eq!(rt; NodeFile::Zgroup.name(), ".zgroup");
     assert_eq!(rt; NodeFile::Zattrs.name(), ".zattrs");
     assert_eq!(rt; NodeFile::Zmetadata.name(), ".zmetadata");
+    assert_eq!(rt; NodeFile::NewZarrJson.name(), "zarr.json.zarrs_new");
+    assert_eq!(rt; NodeFile::NewZmetadata.name(), ".zmetadata.zarrs_new");
     Ok(())
 }
 

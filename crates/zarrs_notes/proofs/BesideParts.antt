@@ -1,5 +1,5 @@
--- What is told of documents that are not read is what there is to tell of them.
-use Rattle.std.proofs.Common.{◌≡◌, ◌≢◌, ◌↔◌, ◌⊎◌, inl, ⊎_elim, ℕ, ◌<◌, ◌≤◌, Bool, true, false, true≢false, ◌&&◌, not, is_some, List, [], ◌∷◌, ◌++◌, refl, sym, ap, subst, ◌∙◌, arith, Contains, AllPairs, Option, Some, None, lit<, lit≤}
+-- What is told of documents that are not read, and of what a run of writing left, is what there is to tell of them.
+use Rattle.std.proofs.Common.{◌≡◌, ◌≢◌, ◌↔◌, ◌⊎◌, inl, ⊎_elim, ℕ, suc, ◌<◌, ◌≤◌, Bool, true, false, true≢false, ◌&&◌, not, is_some, List, [], ◌∷◌, ◌++◌, refl, sym, ap, subst, ◌∙◌, arith, Contains, AllPairs, Option, Some, None, lit≤}
 use Rattle.serde_json.specs.Data.{Data, null, boolean, number, string, array, object}
 use Rattle.serde_json.specs.Find.{get_member}
 use Rattle.zarrs_form.specs.Documents.{is_null}
@@ -9,14 +9,13 @@ use Rattle.zarrs_meta.specs.declared.node.ArrayMetadata.TheVariants.{V3 as array
 use Rattle.zarrs_meta.specs.declared.node.GroupMetadata.TheVariants.{V3 as group_v3, V2 as group_v2}
 use Rattle.zarrs_meta.specs.declared.node.NodeMetadata.{NodeMetadata}
 use Rattle.zarrs_meta.specs.declared.node.NodeMetadata.TheVariants.{Group, Array}
-use Rattle.zarrs_notes.specs.BesideDocuments.{HasFile, HasMisplacedBlock, main_document, passed_over}
+use Rattle.zarrs_notes.specs.BesideDocuments.{HasFile, HasMisplacedBlock, left_over, main_document, passed_over}
 use Rattle.zarrs_notes.specs.Demands.{block_name}
-use Rattle.zarrs_notes.specs.NodeFindings.{IsBesideFinding, IsMisplacedFinding, ComesBefore, file_place, place_of}
-use Rattle.zarrs_notes.specs.StepsOfFindings.{beside_findings, has_file, is_misplaced, told_if}
+use Rattle.zarrs_notes.specs.NodeFindings.{IsBesideFinding, IsLeftOverFinding, IsMisplacedFinding, ComesBefore, file_place, place_of}
+use Rattle.zarrs_notes.specs.StepsOfFindings.{file_finding, file_findings, has_file, is_misplaced, told_if}
 use Rattle.zarrs_notes.specs.declared.file.NodeFile.{NodeFile}
-use Rattle.zarrs_notes.specs.declared.file.NodeFile.TheVariants.{ZarrJson, Zarray, Zgroup, Zattrs, Zmetadata}
 use Rattle.zarrs_notes.specs.declared.finding.NodeFinding.{NodeFinding}
-use Rattle.zarrs_notes.specs.declared.finding.NodeFinding.TheVariants.{MisplacedBlock, Beside}
+use Rattle.zarrs_notes.specs.declared.finding.NodeFinding.TheVariants.{MisplacedBlock}
 use Rattle.zarrs_notes.proofs.Parts.{IsPart, first_in, in_cases, later_in, none_in, pairs_append, said, told_part}
 
 -- ---- a misplaced block
@@ -46,101 +45,105 @@ misplaced_part s p m =
 
 -- ---- documents
 
--- each document has a later place than those before it
-FilesAscend : List NodeFile → Type 0
-FilesAscend [] = Unit {0}
-FilesAscend (file ∷ files) = ((g : NodeFile) → Contains files g → file_place file < file_place g) × FilesAscend files
+-- the documents have ascending places, from lo on and before hi
+FilesAscend : ℕ → ℕ → List NodeFile → Type 0
+FilesAscend lo hi [] = lo ≤ hi
+FilesAscend lo hi (file ∷ files) = (lo ≤ file_place file) × FilesAscend (suc (file_place file)) hi files
 
-module _ (s : Contents) (p : Path) (d : NodeFile) where
+-- so there is room for them
+files_room : (lo hi : ℕ) (files : List NodeFile) → FilesAscend lo hi files → lo ≤ hi
+unfolding FilesAscend
+files_room lo hi [] up = up
+files_room lo hi (file ∷ files) up = let room = files_room (suc (file_place file)) hi files up.1 in omega (arith, up.0, room)
+
+-- and the place of each of them is there
+files_within : (lo hi : ℕ) (files : List NodeFile) → FilesAscend lo hi files → (file : NodeFile) → Contains files file → (lo ≤ file_place file) × (file_place file < hi)
+unfolding FilesAscend
+files_within lo hi [] up file h = absurd (none_in file h)
+files_within lo hi (g ∷ files) up file h = ⊎_elim
+    (λ same. subst (λ x. (lo ≤ file_place x) × (file_place x < hi)) same (up.0, files_room (suc (file_place g)) hi files up.1))
+    (λ later. let w = files_within (suc (file_place g)) hi files up.1 file later in (omega (arith, up.0, w.0), w.1))
+    (in_cases g files file h)
+
+-- what is told of a document has the place of the document
+finding_place : (d : Option NodeFile) (file : NodeFile) → place_of (file_finding d file) ≡ file_place file
+finding_place (Some d) file = refl
+finding_place None file = refl
+
+module _ (s : Contents) (p : Path) (d : Option NodeFile) where
   -- what there is to tell of documents
   abbrev OfFiles : List NodeFile → NodeFinding → Type 0
-  OfFiles files f = (file : NodeFile) × Contains files file × HasFile s p file × (f ≡ Beside file d)
+  OfFiles files f = (file : NodeFile) × Contains files file × HasFile s p file × (f ≡ file_finding d file)
 
   -- what is told is told of a document
-  told_in : (files : List NodeFile) (f : NodeFinding) → Contains (beside_findings s p d files) f → OfFiles files f
+  told_in : (files : List NodeFile) (f : NodeFinding) → Contains (file_findings s p d files) f → OfFiles files f
   told_in [] f h = absurd (none_in f h)
   told_in (file ∷ files) f h = by (has_file s p file) refl (λ later. let w = told_in files f later in (w.0, later_in file files w.0 w.1, w.2, w.3)) h
     where
-      by : (b : Bool) → has_file s p file ≡ b → (Contains (beside_findings s p d files) f → OfFiles (file ∷ files) f) → Contains (told_if b (Beside file d) ++ beside_findings s p d files) f → OfFiles (file ∷ files) f
-      by true is again h = ⊎_elim (λ same. (file, first_in file files, is, sym same)) again (in_cases (Beside file d) (beside_findings s p d files) f h)
+      by : (b : Bool) → has_file s p file ≡ b → (Contains (file_findings s p d files) f → OfFiles (file ∷ files) f) → Contains (told_if b (file_finding d file) ++ file_findings s p d files) f → OfFiles (file ∷ files) f
+      by true is again h = ⊎_elim (λ same. (file, first_in file files, is, sym same)) again (in_cases (file_finding d file) (file_findings s p d files) f h)
       by false is again h = again h
 
   -- and of each document that stands there it is told
-  told_out : (files : List NodeFile) (file : NodeFile) → Contains files file → HasFile s p file → Contains (beside_findings s p d files) (Beside file d)
+  told_out : (files : List NodeFile) (file : NodeFile) → Contains files file → HasFile s p file → Contains (file_findings s p d files) (file_finding d file)
   told_out [] file h there = absurd (none_in file h)
   told_out (g ∷ files) file h there = by (has_file s p g) refl (λ later. told_out files file later there) (in_cases g files file h)
     where
-      by : (b : Bool) → has_file s p g ≡ b → (Contains files file → Contains (beside_findings s p d files) (Beside file d)) → (g ≡ file) ⊎ Contains files file → Contains (told_if b (Beside g d) ++ beside_findings s p d files) (Beside file d)
+      by : (b : Bool) → has_file s p g ≡ b → (Contains files file → Contains (file_findings s p d files) (file_finding d file)) → (g ≡ file) ⊎ Contains files file
+          → Contains (told_if b (file_finding d g) ++ file_findings s p d files) (file_finding d file)
       by true is again c = ⊎_elim
-          (λ same. subst (λ x. Contains (Beside g d ∷ beside_findings s p d files) (Beside x d)) same (first_in (Beside g d) (beside_findings s p d files)))
-          (λ later. later_in (Beside g d) (beside_findings s p d files) (Beside file d) (again later))
+          (λ same. subst (λ x. Contains (file_finding d g ∷ file_findings s p d files) (file_finding d x)) same (first_in (file_finding d g) (file_findings s p d files)))
+          (λ later. later_in (file_finding d g) (file_findings s p d files) (file_finding d file) (again later))
           c
       by false is again c = ⊎_elim (λ same. absurd (true≢false (sym there ∙ ap (has_file s p) (sym same) ∙ is))) again c
 
+  -- the place of what is told of ascending documents
+  told_place : (lo hi : ℕ) (files : List NodeFile) → FilesAscend lo hi files → (f : NodeFinding) → Contains (file_findings s p d files) f → (lo ≤ place_of f) × (place_of f < hi)
+  told_place lo hi files up f h =
+      let w = told_in files f h in
+      subst (λ x. (lo ≤ x) × (x < hi)) (sym (ap place_of w.3 ∙ finding_place d w.0)) (files_within lo hi files up w.0 w.1)
+
   -- what is told of ascending documents ascends
-  told_ascend : (files : List NodeFile) → FilesAscend files → AllPairs ComesBefore (beside_findings s p d files)
+  told_ascend : (lo hi : ℕ) (files : List NodeFile) → FilesAscend lo hi files → AllPairs ComesBefore (file_findings s p d files)
   unfolding FilesAscend
-  told_ascend [] up = λ i j x l m. absurd (omega (arith, m))
-  told_ascend (file ∷ files) up = pairs_append ComesBefore (told_if (has_file s p file) (Beside file d)) (beside_findings s p d files)
-      (told_part (file_place file) (has_file s p file) (Beside file d) refl).ascend
-      (told_ascend files up.1)
+  told_ascend lo hi [] up = λ i j x l m. absurd (omega (arith, m))
+  told_ascend lo hi (file ∷ files) up =
+      let one = told_part (file_place file) (has_file s p file) (file_finding d file) (finding_place d file) in
+      pairs_append ComesBefore (told_if (has_file s p file) (file_finding d file)) (file_findings s p d files)
+      one.ascend
+      (told_ascend (suc (file_place file)) hi files up.1)
       (λ f h hf hh.
-      let one = ((told_part (file_place file) (has_file s p file) (Beside file d) refl).exact f).0 hf in
-      let w = told_in files h hh in
-      inl (subst (λ x. place_of x < place_of h) (sym one.1) (subst (λ x. file_place file < place_of x) (sym w.3) (up.0 w.0 w.1))))
+      let first = (one.within f hf).1 in
+      let later = (told_place (suc (file_place file)) hi files up.1 h hh).0 in
+      inl (omega (arith, first, later)))
 
-  -- what is told of ascending documents, none of which makes a version 3 node
-  files_part : (files : List NodeFile) → FilesAscend files → IsPart 5 10 (OfFiles files) (beside_findings s p d files)
-  files_part files up = record {
-    exact = λ f. (told_in files f, λ h. subst (Contains (beside_findings s p d files)) (sym h.3) (told_out files h.0 h.1 h.2));
-    ascend = told_ascend files up;
-    within = λ f h. let w = told_in files f h in subst (λ x. (5 ≤ place_of x) × (place_of x < 10)) (sym w.3) (bounds w.0);
+  -- what is told of ascending documents
+  files_part : (lo hi : ℕ) (files : List NodeFile) → FilesAscend lo hi files → IsPart lo hi (OfFiles files) (file_findings s p d files)
+  files_part lo hi files up = record {
+    exact = λ f. (told_in files f, λ h. subst (Contains (file_findings s p d files)) (sym h.3) (told_out files h.0 h.1 h.2));
+    ascend = told_ascend lo hi files up;
+    within = told_place lo hi files up;
   }
-    where
-      bounds : (file : NodeFile) → (5 ≤ file_place file) × (file_place file < 10)
-      bounds ZarrJson = (lit≤ tt, lit< tt)
-      bounds Zarray = (lit≤ tt, lit< tt)
-      bounds Zgroup = (lit≤ tt, lit< tt)
-      bounds Zattrs = (lit≤ tt, lit< tt)
-      bounds Zmetadata = (lit≤ tt, lit< tt)
-
--- of documents after one of a lesser place each has a later one
-one_more : (file : NodeFile) (n : ℕ) (files : List NodeFile) → file_place file < n → ((g : NodeFile) → Contains files g → n ≤ file_place g) → FilesAscend files → FilesAscend (file ∷ files)
-unfolding FilesAscend
-one_more file n files less from up = (λ g h. later g (from g h), up)
-  where
-    later : (g : NodeFile) → n ≤ file_place g → file_place file < file_place g
-    later g l = omega arith
-
--- from one place on
-from_cons : (n : ℕ) (file : NodeFile) (files : List NodeFile) → n ≤ file_place file → ((g : NodeFile) → Contains files g → n ≤ file_place g) → (g : NodeFile) → Contains (file ∷ files) g → n ≤ file_place g
-from_cons n file files here rest g h = ⊎_elim (λ same. subst (λ x. n ≤ file_place x) same here) (rest g) (in_cases file files g h)
-
--- each of no documents has a place from n on
-from_none : (n : ℕ) (g : NodeFile) → Contains [] g → n ≤ file_place g
-from_none n g h = absurd (none_in g h)
-
--- no documents ascend
-none_ascend : FilesAscend []
-unfolding FilesAscend
-none_ascend = tt
-
--- the documents beside `zarr.json` ascend
-four_ascend : FilesAscend (Zarray ∷ Zgroup ∷ Zattrs ∷ Zmetadata ∷ [])
-four_ascend =
-    one_more Zarray 7 (Zgroup ∷ Zattrs ∷ Zmetadata ∷ []) (lit< tt)
-    (from_cons 7 Zgroup (Zattrs ∷ Zmetadata ∷ []) (lit≤ tt) (from_cons 7 Zattrs (Zmetadata ∷ []) (lit≤ tt) (from_cons 7 Zmetadata [] (lit≤ tt) (from_none 7))))
-    (one_more Zgroup 8 (Zattrs ∷ Zmetadata ∷ []) (lit< tt)
-    (from_cons 8 Zattrs (Zmetadata ∷ []) (lit≤ tt) (from_cons 8 Zmetadata [] (lit≤ tt) (from_none 8)))
-    (one_more Zattrs 9 (Zmetadata ∷ []) (lit< tt) (from_cons 9 Zmetadata [] (lit≤ tt) (from_none 9)) (one_more Zmetadata 10 [] (lit< tt) (from_none 10) none_ascend)))
 
 -- the documents that are not read ascend
-passed_ascend : (m : NodeMetadata) → FilesAscend (passed_over m)
-passed_ascend (Group (group_v3 g)) = four_ascend
-passed_ascend (Group (group_v2 g)) = none_ascend
-passed_ascend (Array (array_v3 a)) = four_ascend
-passed_ascend (Array (array_v2 a)) = one_more Zgroup 8 [] (lit< tt) (from_none 8) none_ascend
+passed_ascend : (m : NodeMetadata) → FilesAscend 5 10 (passed_over m)
+unfolding FilesAscend
+passed_ascend (Group (group_v3 g)) = (lit≤ tt, (lit≤ tt, (lit≤ tt, (lit≤ tt, lit≤ tt))))
+passed_ascend (Group (group_v2 g)) = lit≤ tt
+passed_ascend (Array (array_v3 a)) = (lit≤ tt, (lit≤ tt, (lit≤ tt, (lit≤ tt, lit≤ tt))))
+passed_ascend (Array (array_v2 a)) = (lit≤ tt, lit≤ tt)
+
+-- what a run of writing leaves ascends
+left_ascend : (m : NodeMetadata) → FilesAscend 10 12 (left_over m)
+unfolding FilesAscend
+left_ascend (Group (group_v3 g)) = (lit≤ tt, lit≤ tt)
+left_ascend (Group (group_v2 g)) = (lit≤ tt, lit≤ tt)
+left_ascend (Array a) = lit≤ tt
 
 -- what is told of the documents that are not read
-pub beside_part : (s : Contents) (p : Path) (m : NodeMetadata) → IsPart 5 10 (IsBesideFinding s p m) (beside_findings s p (main_document m) (passed_over m))
-beside_part s p m = files_part s p (main_document m) (passed_over m) (passed_ascend m)
+pub beside_part : (s : Contents) (p : Path) (m : NodeMetadata) → IsPart 5 10 (IsBesideFinding s p m) (file_findings s p (Some (main_document m)) (passed_over m))
+beside_part s p m = files_part s p (Some (main_document m)) 5 10 (passed_over m) (passed_ascend m)
+
+-- what is told of what a run of writing left
+pub left_part : (s : Contents) (p : Path) (m : NodeMetadata) → IsPart 10 12 (IsLeftOverFinding s p m) (file_findings s p None (left_over m))
+left_part s p m = files_part s p None 10 12 (left_over m) (left_ascend m)

@@ -8,7 +8,7 @@ use Rattle.zarrs_path.specs.Paths.{path_text}
 use Rattle.zarrs_notes.specs.BesideDocuments.{name_of_file}
 use Rattle.zarrs_notes.specs.declared.finding.NodeFinding.{NodeFinding}
 use Rattle.zarrs_notes.specs.declared.finding.NodeFinding.TheVariants.{GridRank, ZeroLength, NameCount, UnknownField}
-use Rattle.zarrs_notes.specs.declared.finding.NodeFinding.TheVariants.{DemandingBlock, MisplacedBlock, Beside}
+use Rattle.zarrs_notes.specs.declared.finding.NodeFinding.TheVariants.{DemandingBlock, MisplacedBlock, Beside, LeftOver}
 
 -- what there is to tell
 abbrev pub node_finding_text : NodeFinding → List ℕ
@@ -25,3 +25,5 @@ node_finding_text MisplacedBlock = codes "misplaced: an array has a block, which
 node_finding_text (Beside file document) =
     codes "beside: "
     ++ (name_of_file file ++ (codes " is not read, since " ++ (name_of_file document ++ codes " stands there too")))
+node_finding_text (LeftOver file) =
+    codes "left over: " ++ (name_of_file file ++ codes " is of a run that was broken off, or that still writes")

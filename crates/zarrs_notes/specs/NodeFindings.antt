@@ -18,12 +18,13 @@ use Rattle.zarrs_form.specs.Fields.{must_understand}
 use Rattle.zarrs_meta.specs.declared.node.NodeMetadata.{NodeMetadata}
 use Rattle.zarrs_notes.specs.Shapes.{rank, lengths_of_chunks, names_of_dimensions}
 use Rattle.zarrs_notes.specs.Demands.{fields_of, block_name, field_finding}
-use Rattle.zarrs_notes.specs.BesideDocuments.{HasFile, HasMisplacedBlock, main_document, passed_over}
+use Rattle.zarrs_notes.specs.BesideDocuments.{HasFile, HasMisplacedBlock, main_document, passed_over, left_over}
 use Rattle.zarrs_notes.specs.declared.file.NodeFile.{NodeFile}
 use Rattle.zarrs_notes.specs.declared.file.NodeFile.TheVariants.{ZarrJson, Zarray, Zgroup, Zattrs, Zmetadata}
+use Rattle.zarrs_notes.specs.declared.file.NodeFile.TheVariants.{NewZarrJson, NewZmetadata}
 use Rattle.zarrs_notes.specs.declared.finding.NodeFinding.{NodeFinding}
 use Rattle.zarrs_notes.specs.declared.finding.NodeFinding.TheVariants.{GridRank, ZeroLength, NameCount, UnknownField}
-use Rattle.zarrs_notes.specs.declared.finding.NodeFinding.TheVariants.{DemandingBlock, MisplacedBlock, Beside}
+use Rattle.zarrs_notes.specs.declared.finding.NodeFinding.TheVariants.{DemandingBlock, MisplacedBlock, Beside, LeftOver}
 
 -- a chunk has another number of lengths than the shape
 abbrev pub IsGridFinding : NodeMetadata → NodeFinding → Type 0
@@ -56,14 +57,18 @@ abbrev pub IsBesideFinding : Contents → Path → NodeMetadata → NodeFinding 
 IsBesideFinding s p m f =
     (file : NodeFile) × Contains (passed_over m) file × HasFile s p file × (f ≡ Beside file (main_document m))
 
+-- a file of a run of writing stands there
+abbrev pub IsLeftOverFinding : Contents → Path → NodeMetadata → NodeFinding → Type 0
+IsLeftOverFinding s p m f = (file : NodeFile) × Contains (left_over m) file × HasFile s p file × (f ≡ LeftOver file)
+
 -- what there is to tell of the node at p that has these metadata
 abbrev pub IsNodeFinding : Contents → Path → NodeMetadata → NodeFinding → Type 0
 IsNodeFinding s p m f =
     IsGridFinding m f ⊎ IsZeroFinding m f ⊎ IsNameFinding m f ⊎ IsFieldFinding p m f ⊎ IsMisplacedFinding s p m f
-    ⊎ IsBesideFinding s p m f
+    ⊎ IsBesideFinding s p m f ⊎ IsLeftOverFinding s p m f
 
--- a misplaced block and a document beside another are notes, worth knowing and most often meant so; all else is a
--- finding
+-- a misplaced block, a document beside another and what is left over are notes, worth knowing while the node reads as
+-- it did; all else is a finding
 abbrev pub is_note : NodeFinding → Bool
 is_note (GridRank lengths shape) = false
 is_note ZeroLength = false
@@ -72,18 +77,22 @@ is_note (UnknownField name) = false
 is_note (DemandingBlock group) = false
 is_note MisplacedBlock = true
 is_note (Beside file document) = true
+is_note (LeftOver file) = true
 
 -- ---- the order
 
--- the place of a document beside others
+-- the place of a document among others
 abbrev pub file_place : NodeFile → ℕ
 file_place ZarrJson = 5
 file_place Zarray = 6
 file_place Zgroup = 7
 file_place Zattrs = 8
 file_place Zmetadata = 9
+file_place NewZarrJson = 10
+file_place NewZmetadata = 11
 
--- the place of a finding: the dimensions, the fields of a group, a misplaced block, and documents by their kinds
+-- the place of a finding: the dimensions, the fields of a group, a misplaced block, and documents by their kinds, of
+-- which those that are left over come last
 abbrev pub place_of : NodeFinding → ℕ
 place_of (GridRank lengths shape) = 0
 place_of ZeroLength = 1
@@ -92,6 +101,7 @@ place_of (UnknownField name) = 3
 place_of (DemandingBlock group) = 3
 place_of MisplacedBlock = 4
 place_of (Beside file document) = file_place file
+place_of (LeftOver file) = file_place file
 
 -- the name of the field that a finding is of, and nothing where it is of no field
 abbrev pub field_of : NodeFinding → List ℕ

@@ -22,6 +22,7 @@ use Rattle.zarrs_notes.specs.declared.file.NodeFile.{NodeFile}
 use Rattle.zarrs_notes.specs.declared.file.NodeFile.TheVariants.{Zmetadata}
 use Rattle.zarrs_notes.specs.declared.finding.NodeFinding.{NodeFinding}
 use Rattle.zarrs_notes.specs.declared.finding.NodeFinding.TheVariants.{GridRank, ZeroLength, NameCount, Beside}
+use Rattle.zarrs_notes.specs.declared.finding.NodeFinding.TheVariants.{LeftOver}
 use Rattle.zarrs_notes.specs.declared.shapes.Lengths.{Lengths}
 
 -- the finding where there is cause, else none
@@ -82,7 +83,12 @@ is_misplaced s p (Group g) = false
 is_misplaced s p (Array (V3 a)) = has_block a.additional_fields
 is_misplaced s p (Array (V2 a)) = has_file s p Zmetadata
 
--- what is told of documents beside the document d
-abbrev pub beside_findings : Contents → Path → NodeFile → List NodeFile → List NodeFinding
-beside_findings s p d [] = []
-beside_findings s p d (file ∷ files) = told_if (has_file s p file) (Beside file d) ++ beside_findings s p d files
+-- what is told of a document that stands there: beside the document d it is not read, and beside none it is left over
+abbrev pub file_finding : Option NodeFile → NodeFile → NodeFinding
+file_finding (Some d) file = Beside file d
+file_finding None file = LeftOver file
+
+-- what is told of those documents that stand there
+abbrev pub file_findings : Contents → Path → Option NodeFile → List NodeFile → List NodeFinding
+file_findings s p d [] = []
+file_findings s p d (file ∷ files) = told_if (has_file s p file) (file_finding d file) ++ file_findings s p d files

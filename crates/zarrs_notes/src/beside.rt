@@ -1,8 +1,8 @@
-//! The documents of a node that are not read.
+//! The documents of a node that are not read, and what a run of writing leaves beside them.
 ghost use Rattle.std.specs.Prelude.{◌≡◌, ◌++◌, ◌∷◌, [], IfErr, IfOk, OnOk};
 ghost use Rattle.zarrs_store.specs.Faults.{IsStoreError};
-ghost use Rattle.zarrs_notes.specs.BesideDocuments.{main_document, name_of_file, passed_over};
-ghost use Rattle.zarrs_notes.specs.StepsOfFindings.{beside_findings, has_block, has_file, is_misplaced, told_if};
+ghost use Rattle.zarrs_notes.specs.BesideDocuments.{left_over, main_document, name_of_file, passed_over};
+ghost use Rattle.zarrs_notes.specs.StepsOfFindings.{file_finding, file_findings, has_block, has_file, is_misplaced, told_if};
 ghost use Rattle.zarrs_notes.specs.declared.finding.NodeFinding.TheVariants.{MisplacedBlock};
 ghost use Rattle.zarrs_meta.specs.declared.node.NodeMetadata.TheVariants.{Array};
 
@@ -83,17 +83,60 @@ pub(crate) fn add_beside<S: ReadableStorageTraits>(
 ) -> Result<(), StorageError>
     ensures ok { OnOk result
         (found.new.items ≡ found.old.items
-        ++ beside_findings (S.contents storage.now) path.now
-        (main_document metadata.now) (passed_over metadata.now)) }
+        ++ file_findings (S.contents storage.now) path.now
+        (Some (main_document metadata.now)) (passed_over metadata.now)) }
     ensures err { IfErr result (IsStoreError (S.can_fail storage.now)) }
 {
-    let document = main_document(metadata);
-    for file in passed_over(metadata) {
+    let document = Some(main_document(metadata));
+    add_files(alloc, storage, path, document, passed_over(metadata), found)
+}
+
+// Puts what a run of writing left behind the other findings.
+pub(crate) fn add_left_over<S: ReadableStorageTraits>(
+    alloc: Global,
+    storage: &S,
+    path: &NodePath,
+    metadata: &NodeMetadata,
+    found: &mut Vec<NodeFinding>,
+) -> Result<(), StorageError>
+    ensures ok { OnOk result
+        (found.new.items ≡ found.old.items
+        ++ file_findings (S.contents storage.now) path.now None (left_over metadata.now)) }
+    ensures err { IfErr result (IsStoreError (S.can_fail storage.now)) }
+{
+    add_files(alloc, storage, path, None, left_over(metadata), found)
+}
+
+// Puts those of some documents that stand there behind the other findings: beside a document they are not read, beside none they are left over.
+fn add_files<S: ReadableStorageTraits>(
+    alloc: Global,
+    storage: &S,
+    path: &NodePath,
+    document: Option<NodeFile>,
+    files: &[NodeFile],
+    found: &mut Vec<NodeFinding>,
+) -> Result<(), StorageError>
+    ensures ok { OnOk result
+        (found.new.items ≡ found.old.items
+        ++ file_findings (S.contents storage.now) path.now document files.now) }
+    ensures err { IfErr result (IsStoreError (S.can_fail storage.now)) }
+{
+    for file in files {
         let file = *file;
         let stands = has_file(alloc, storage, path, file)?;
-        tell(found, stands, NodeFinding::Beside { file, document })?;
+        tell(found, stands, file_finding(document, file))?;
     }
     Ok(())
+}
+
+// What there is to tell of a document that stands there.
+fn file_finding(document: Option<NodeFile>, file: NodeFile) -> NodeFinding
+    ensures { result ≡ file_finding document file }
+{
+    match document {
+        Some(document) => NodeFinding::Beside { file, document },
+        None => NodeFinding::LeftOver(file),
+    }
 }
 
 // The document that makes a node.
@@ -124,6 +167,17 @@ fn passed_over(metadata: &NodeMetadata) -> &'static [NodeFile]
     }
 }
 
+// What a run of writing leaves at a node where it is broken off.
+fn left_over(metadata: &NodeMetadata) -> &'static [NodeFile]
+    ensures { result.now ≡ left_over metadata.now }
+{
+    match metadata {
+        NodeMetadata::Group(GroupMetadata::V3(_)) => &[NodeFile::NewZarrJson],
+        NodeMetadata::Group(GroupMetadata::V2(_)) => &[NodeFile::NewZmetadata],
+        NodeMetadata::Array(_) => &[],
+    }
+}
+
 // Whether a store has a document of a node.
 fn has_file<S: ReadableStorageTraits>(
     alloc: Global,
@@ -149,5 +203,9 @@ fn key_of(alloc: Global, path: &NodePath, file: NodeFile) -> Result<StoreKey, Al
         NodeFile::Zgroup => meta_key_v2_group(alloc, path),
         NodeFile::Zattrs => meta_key_v2_attributes(alloc, path),
         NodeFile::Zmetadata => meta_key_v2_consolidated(alloc, path),
+        NodeFile::NewZarrJson | NodeFile::NewZmetadata => {
+            let prefix = path.to_prefix(alloc)?;
+            prefix.key_in(String::new(alloc), file.name())
+        }
     }
 }

@@ -4,7 +4,7 @@ ghost use Rattle.zarrs_notes.specs.BesideDocuments.{name_of_file};
 
 use std::fmt;
 
-/// A document of a node.
+/// A document of a node, or a file that is to take the place of one.
 ///
 /// Source: Zarr core specification 3.1, "Storage keys"; specification version 2, "Metadata", "Groups" and "Attributes".
 /// <https://zarr-specs.readthedocs.io/en/latest/v3/core/index.html#storage-keys>
@@ -21,6 +21,10 @@ pub enum NodeFile {
     Zattrs,
     /// `.zmetadata`, the consolidated block of a version 2 group.
     Zmetadata,
+    /// `zarr.json.zarrs_new`, which a run that writes a `zarr.json` leaves where it is broken off, or which it still writes.
+    NewZarrJson,
+    /// `.zmetadata.zarrs_new`, which a run that writes a `.zmetadata` leaves where it is broken off, or which it still writes.
+    NewZmetadata,
 }
 
 impl NodeFile {
@@ -36,6 +40,8 @@ impl NodeFile {
             NodeFile::Zgroup => ".zgroup",
             NodeFile::Zattrs => ".zattrs",
             NodeFile::Zmetadata => ".zmetadata",
+            NodeFile::NewZarrJson => "zarr.json.zarrs_new",
+            NodeFile::NewZmetadata => ".zmetadata.zarrs_new",
         }
     }
 }

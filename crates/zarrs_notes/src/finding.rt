@@ -45,10 +45,12 @@ pub enum NodeFinding {
         /// The document that makes the node.
         document: NodeFile,
     },
+    /// A note: a file that a run of writing left which was broken off, or that one still writes.
+    LeftOver(NodeFile),
 }
 
 impl NodeFinding {
-    /// Whether it is a note: worth knowing, and most often meant so.
+    /// Whether it is a note: worth knowing, while the node reads as it did.
     ///
     /// Source: own.
     pub fn is_note(&self) -> bool
@@ -56,7 +58,7 @@ impl NodeFinding {
     {
         matches!(
             self,
-            NodeFinding::MisplacedBlock | NodeFinding::Beside { .. }
+            NodeFinding::MisplacedBlock | NodeFinding::Beside { .. } | NodeFinding::LeftOver(_)
         )
     }
 }
@@ -97,6 +99,12 @@ impl fmt::Display for NodeFinding {
                 write!(
                     f,
                     "beside: {file} is not read, since {document} stands there too"
+                )
+            }
+            NodeFinding::LeftOver(file) => {
+                write!(
+                    f,
+                    "left over: {file} is of a run that was broken off, or that still writes"
                 )
             }
         }

@@ -1,7 +1,7 @@
 //! What holds of all that there is to tell of a node. A function here is empty; its contract is the law.
 ghost use Rattle.zarrs_notes.specs.Laws.{SameFilesTellSame, UntoldIsUnderstood};
 
-/// Of two stores that have the same at the documents of a path, the same is told of a node there.
+/// Of two stores that have the same at the documents of a node that are looked at, the same is told of it.
 pub fn same_files_tell_same()
     ensures { SameFilesTellSame }
 {}

@@ -1,5 +1,5 @@
-//! What there is to tell of one node by its own documents: what a reader refuses though the documents read, and what stands beside them and
-//! is not read. The nodes below it are no part of it.
+//! What there is to tell of one node by its own documents: what a reader refuses though the documents read, what stands beside them and
+//! is not read, and what a run of writing left. The nodes below it are no part of it.
 #![tactic(auto)]
 
 mod beside;

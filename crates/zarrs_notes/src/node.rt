@@ -3,7 +3,7 @@ ghost use Rattle.std.specs.Prelude.{IfErr, IfOk};
 ghost use Rattle.zarrs_store.specs.Faults.{IsStoreError};
 ghost use Rattle.zarrs_notes.specs.NodeFindings.{AreNodeFindings};
 
-use crate::beside::{add_beside, add_misplaced};
+use crate::beside::{add_beside, add_left_over, add_misplaced};
 use crate::fields::add_fields;
 use crate::finding::NodeFinding;
 use crate::shapes::add_shape;
@@ -13,12 +13,13 @@ use zarrs_path::NodePath;
 use zarrs_store::{ReadableStorageTraits, StorageError};
 
 /// All that there is to tell of the node at a path that has these metadata, each once: what is wrong with its dimensions, which of its
-/// additional fields must be understood, a block that an array has, and the documents beside the one that makes it. The findings stand in
-/// this order, fields by their names and documents by their kinds.
+/// additional fields must be understood, a block that an array has, the documents beside the one that makes it, and what a run of
+/// writing left. The findings stand in this order, fields by their names and documents by their kinds.
 ///
 /// Of documents it is asked whether they stand there, and none is read. Beside `zarr.json` these are `.zarray`, `.zgroup`, `.zattrs` and
 /// `.zmetadata`, and beside `.zarray` they are `.zgroup` and `.zmetadata`, which is told there as a misplaced block. Beside `.zgroup` a reader
-/// that goes by all versions leaves nothing aside.
+/// that goes by all versions leaves nothing aside. A run of writing that is broken off leaves `zarr.json.zarrs_new` at a group of version 3, and
+/// `.zmetadata.zarrs_new` at one of version 2.
 ///
 /// # Errors
 ///
@@ -42,5 +43,6 @@ pub fn node_findings<S: ReadableStorageTraits>(
     add_fields(alloc, path, metadata, &mut found)?;
     add_misplaced(alloc, storage, path, metadata, &mut found)?;
     add_beside(alloc, storage, path, metadata, &mut found)?;
+    add_left_over(alloc, storage, path, metadata, &mut found)?;
     Ok(found)
 }
