@@ -11,7 +11,7 @@ use std::test::Fail;
 use std::time::Clock;
 use std::{fs, io};
 use tests_support::{A3, G3, printed};
-use zarrs_folder::{Disk, FolderFault, load_nodes};
+use zarrs_folder::{Disk, Documents, FolderFault, load_nodes};
 use zarrs_path::NodePath;
 use zarrs_store::{AnyNumbers, ListableStorageTraits, MemoryStore};
 
@@ -46,7 +46,7 @@ fn load<R: Log + Files + Clock + Eprint + AllocGlobal>(
     let Ok(root) = NodePath::root(rt.alloc()) else {
         return Err(FolderFault::OutOfMemory);
     };
-    load_nodes(rt.alloc(), &mut folder, &root)
+    load_nodes(rt.alloc(), &mut folder, Documents::All, &root)
 }
 
 // The keys of a store, with a blank behind each.

@@ -5,7 +5,9 @@ use std::test::Fail;
 use tests_fixtures::{ANY, document_of, listed_in, listing_text, store_of};
 use tests_support::{check_rows, fields, said};
 use zarrs_block::NodeCreateError;
-use zarrs_folder::{Folder, FolderFault, laws, load_base, load_below, load_nodes};
+use zarrs_folder::{
+    Documents, Folder, FolderFault, laws, load_base, load_below, load_children, load_nodes,
+};
 use zarrs_path::NodePath;
 use zarrs_store::{
     AnyNumbers, ListableStorageTraits, MemoryStore, ReadableStorageTraits, StorageError, StoreKey,
@@ -96,10 +98,15 @@ pub(crate) fn of_store(
     }
 }
 
-fn nodes_of(alloc: Global, base: &str, documents: &str) -> Result<Loaded, NodeCreateError> {
-    let mut whole = store_in(alloc, documents)?;
+fn nodes_of(
+    alloc: Global,
+    documents: Documents,
+    base: &str,
+    list: &str,
+) -> Result<Loaded, NodeCreateError> {
+    let mut whole = store_in(alloc, list)?;
     let base = NodePath::new(alloc, base)?;
-    let loaded = of_store(load_nodes(alloc, &mut whole.inner, &base))?;
+    let loaded = of_store(load_nodes(alloc, &mut whole.inner, documents, &base))?;
     Ok((whole, loaded))
 }
 
@@ -110,12 +117,24 @@ fn base_of(alloc: Global, base: &str, documents: &str) -> Result<Loaded, NodeCre
     Ok((whole, loaded))
 }
 
-fn nodes_loaded(alloc: Global, given: &str) -> Result<String, NodeCreateError> {
-    let (base, documents) = fields(given);
-    let (whole, loaded) = nodes_of(alloc, base, documents)?;
+fn loaded_said(
+    alloc: Global,
+    documents: Documents,
+    given: &str,
+) -> Result<String, NodeCreateError> {
+    let (base, list) = fields(given);
+    let (whole, loaded) = nodes_of(alloc, documents, base, list)?;
     let mut text = keys_said(alloc, &whole, &loaded)?;
     text.push_str(compared(alloc, &whole, &loaded, base)?)?;
     Ok(text)
+}
+
+fn nodes_loaded(alloc: Global, given: &str) -> Result<String, NodeCreateError> {
+    loaded_said(alloc, Documents::All, given)
+}
+
+fn nodes_listed(alloc: Global, given: &str) -> Result<String, NodeCreateError> {
+    loaded_said(alloc, Documents::Deciding, given)
 }
 
 fn base_loaded(alloc: Global, given: &str) -> Result<String, NodeCreateError> {
@@ -171,6 +190,10 @@ const NODES: &str = r#"
 /g/h | zarr.json G3;g/h/zarr.json G3;g/h/i/zarr.json G3;g/h/i/j/zarr.json A3 => g/h/i/j/zarr.json g/h/i/zarr.json g/h/zarr.json | same
 /nope | zarr.json G3;g/zarr.json G3 => | same
 /u | zarr.json G3;u/v/zarr.json G3 => u/v/zarr.json | same
+# what a broken-off writing of a block left, of a group alone beside its document
+/ | zarr.json G3;zarr.json.zarrs_new [];g/zarr.json G3;g/zarr.json.zarrs_new [];g/.zmetadata.zarrs_new [] => g/zarr.json g/zarr.json.zarrs_new zarr.json zarr.json.zarrs_new | same
+/ | .zgroup G2;.zmetadata.zarrs_new [];g/.zgroup G2;g/.zmetadata.zarrs_new [];g/zarr.json.zarrs_new [] => .zgroup .zmetadata.zarrs_new g/.zgroup g/.zmetadata.zarrs_new | same
+/ | .zgroup G2;a/.zarray A2;a/.zgroup G2;a/.zmetadata.zarrs_new [] => .zgroup a/.zarray a/.zgroup | same
 # an array as base: its documents only, and no listing below it
 /a | zarr.json G3;a/zarr.json A3;a/c/0 {} => a/zarr.json | other
 /a | zarr.json G3;a/zarr.json A3 => a/zarr.json | same
@@ -179,6 +202,34 @@ const NODES: &str = r#"
 #[test]
 fn nodes_are_loaded_and_shown_as_of_the_whole(rt: HostRuntime) -> Result<(), Fail> {
     check_rows(rt.alloc(), NODES, nodes_loaded)
+}
+
+// The same, of the documents that decide.
+const LISTED: &str = r#"
+# beside a `zarr.json` nothing else is looked at, good or bad, nor below an array
+/ | zarr.json G3;a/zarr.json A3;a/.zarray A2;a/.zgroup G2;a/.zattrs {};a/.zmetadata {};a/b/zarr.json G3 => a/zarr.json zarr.json | same
+/ | zarr.json G3;g/zarr.json G3;g/.zattrs {"k":0.5};g/.zgroup G2;g/a/zarr.json A3 => g/a/zarr.json g/zarr.json zarr.json | same
+/ | zarr.json G3;a/zarr.json [];a/.zarray A2;a/.zattrs {} => a/zarr.json zarr.json | same
+# beside a `.zarray` its attributes, and no `.zgroup`
+/ | .zgroup G2;a/.zarray A2;a/.zattrs {};a/.zgroup G2;a/.zmetadata {};a/0 {} => .zgroup a/.zarray a/.zattrs | same
+/ | .zgroup G2;a/.zarray {};a/.zgroup G2;a/b/.zarray A2 => .zgroup a/.zarray | same
+/ | .zgroup G2;a/.zarray A2;a/.zattrs NUL => .zgroup a/.zarray a/.zattrs | same
+# of a group its attributes, and no block
+/ | .zgroup G2;g/.zgroup G2;g/.zattrs {};g/.zmetadata {};g/a/.zarray A2 => .zgroup g/.zattrs g/.zgroup g/a/.zarray | same
+# all documents of the base
+/ | zarr.json G3;.zarray A2;.zgroup G2;.zattrs {};.zmetadata {};a/zarr.json A3 => .zarray .zattrs .zgroup .zmetadata a/zarr.json zarr.json | same
+# a folder without such documents: one key below it
+/ | zarr.json G3;u/.zmetadata {};u/v/zarr.json G3 => u/v/zarr.json* zarr.json | same
+/ | zarr.json G3;u/.zmetadata {} => u/.zmetadata* zarr.json | same
+/ | zarr.json G3;u/.zattrs {};u/v/zarr.json G3 => u/.zattrs zarr.json | same
+# nothing that a broken-off writing left
+/ | zarr.json G3;zarr.json.zarrs_new [];g/zarr.json G3;g/zarr.json.zarrs_new [] => g/zarr.json zarr.json | same
+/ | .zgroup G2;.zmetadata.zarrs_new [];g/.zgroup G2;g/.zmetadata.zarrs_new [] => .zgroup g/.zgroup | same
+"#;
+
+#[test]
+fn what_decides_is_loaded_and_listed_as_of_the_whole(rt: HostRuntime) -> Result<(), Fail> {
+    check_rows(rt.alloc(), LISTED, nodes_listed)
 }
 
 // A base, and the store; the keys that are loaded.
@@ -196,20 +247,33 @@ fn a_base_has_its_documents_only(rt: HostRuntime) -> Result<(), Fail> {
 
 // ---- in two steps
 
-fn steps_loaded(alloc: Global, given: &str) -> Result<String, NodeCreateError> {
-    let (base, documents) = fields(given);
-    let (mut whole, loaded) = base_of(alloc, base, documents)?;
+// What is loaded of a base, and then below it by a call.
+fn steps_said(alloc: Global, call: &str, given: &str) -> Result<String, NodeCreateError> {
+    let (base, list) = fields(given);
+    let (mut whole, loaded) = base_of(alloc, base, list)?;
     let path = NodePath::new(alloc, base)?;
-    let loaded = of_store(load_below(alloc, &mut whole.inner, &path, loaded))?;
+    let folder = &mut whole.inner;
+    let loaded = of_store(match call {
+        "below" => load_below(alloc, folder, Documents::All, &path, loaded),
+        _ => load_children(alloc, folder, Documents::Deciding, &path, loaded),
+    })?;
     let mut text = keys_said(alloc, &whole, &loaded)?;
     text.push('|')?;
     Ok(text)
 }
 
-// A base, and the store; the keys that are loaded once the base is.
+fn steps_loaded(alloc: Global, given: &str) -> Result<String, NodeCreateError> {
+    let (call, rest) = fields(given);
+    steps_said(alloc, call, rest)
+}
+
+// A call, a base, and the store; the keys that are loaded once the base is.
 const STEPS: &str = r#"
-/ | zarr.json G3;a/zarr.json A3;u/x {} => a/zarr.json u/x* zarr.json |
-/a | zarr.json G3;a/zarr.json A3;a/c/zarr.json G3 => a/zarr.json |
+below | / | zarr.json G3;zarr.json.zarrs_new [];a/zarr.json A3;u/x {} => a/zarr.json u/x* zarr.json zarr.json.zarrs_new |
+below | /a | zarr.json G3;a/zarr.json A3;a/c/zarr.json G3 => a/zarr.json |
+# what decides, and the base is not asked whether it is an array
+children | / | zarr.json G3;zarr.json.zarrs_new [];a/zarr.json A3;a/.zattrs {};u/x {} => a/zarr.json u/x* zarr.json |
+children | /a | zarr.json G3;a/zarr.json A3;a/c/zarr.json G3 => a/c/zarr.json a/zarr.json |
 "#;
 
 #[test]
@@ -285,6 +349,7 @@ fn a_store_in_memory_answers_as_a_folder(rt: HostRuntime) -> Result<(), Fail> {
 
 #[test]
 fn laws_hold() {
+    laws::pruned_shows_nodes();
     laws::pruned_shows_same();
     laws::base_shows_same();
     laws::shown_list_same();

@@ -5,7 +5,7 @@ use std::alloc::Global;
 use std::test::Fail;
 use tests_support::{check_rows, fields};
 use zarrs_block::NodeCreateError;
-use zarrs_folder::{laws, load_nodes, load_passed, load_paths};
+use zarrs_folder::{Documents, laws, load_nodes, load_passed, load_paths};
 use zarrs_path::NodePath;
 
 // The paths in a list, with a blank between; none of `-`.
@@ -25,7 +25,7 @@ fn passed_loaded(alloc: Global, given: &str) -> Result<String, NodeCreateError> 
     let passed = paths_in(alloc, list)?;
     let mut whole = store_in(alloc, documents)?;
     let root = NodePath::root(alloc)?;
-    let store = of_store(load_nodes(alloc, &mut whole.inner, &root))?;
+    let store = of_store(load_nodes(alloc, &mut whole.inner, Documents::All, &root))?;
     let loaded = of_store(load_passed(alloc, &mut whole.inner, &root, passed.as_slice(), store))?;
     Ok(keys_said(alloc, &whole, &loaded)?)
 }
@@ -36,7 +36,7 @@ fn paths_loaded(alloc: Global, given: &str) -> Result<String, NodeCreateError> {
     let paths = paths_in(alloc, list)?;
     let mut whole = store_in(alloc, documents)?;
     let root = NodePath::root(alloc)?;
-    let store = of_store(load_nodes(alloc, &mut whole.inner, &root))?;
+    let store = of_store(load_nodes(alloc, &mut whole.inner, Documents::All, &root))?;
     let loaded = of_store(load_paths(alloc, &mut whole.inner, &root, paths.as_slice(), store))?;
     Ok(keys_said(alloc, &whole, &loaded)?)
 }

@@ -14,10 +14,11 @@ use Rattle.serde_json.specs.Find.{get, as_str}
 use Rattle.serde_json.specs.Read.{read}
 use Rattle.zarrs_fault.specs.declared.fault.MetadataFault.{MetadataFault}
 use Rattle.zarrs_fault.specs.declared.fault.MetadataFault.TheVariants.{NotJson, WrongFormat, WrongNodeType}
+use Rattle.zarrs_fault.specs.declared.numbers.Numbers.{Numbers}
 use Rattle.zarrs_fault.specs.declared.numbers.Numbers.TheVariants.{Any}
-use Rattle.zarrs_form.specs.Documents.{json_of, tree_or_fault, of_bytes, object_of, node_type_of, ◌>>=◌}
+use Rattle.zarrs_form.specs.Documents.{json_of, tree_or_fault, of_bytes, object_of, document_in, node_type_of, ◌>>=◌}
 use Rattle.zarrs_store.specs.Segments.{Segments}
-use Rattle.zarrs_store.specs.Contents.{Values}
+use Rattle.zarrs_store.specs.Contents.{Contents, Values}
 use Rattle.zarrs_store.specs.declared.storage_error.StorageError.{StorageError}
 use Rattle.zarrs_path.specs.Keys.{zarr_json, zarray}
 use Rattle.zarrs_path.specs.Paths.{Path}
@@ -25,8 +26,10 @@ use Rattle.zarrs_meta.specs.ArrayV2.{array_v2_in}
 use Rattle.zarrs_meta.specs.ArrayV3.{array_v3_in}
 use Rattle.zarrs_meta.specs.GroupV3.{group_v3_in}
 use Rattle.zarrs_meta.specs.Node.{has_format, has_type, node_v3_in, node_v2_in, node_in, zarr_json_in, array_with, is_group}
+use Rattle.zarrs_meta.specs.NodeDocuments.{is_version_3}
 use Rattle.zarrs_meta.specs.declared.array_v2.ArrayMetadataV2.{ArrayMetadataV2}
 use Rattle.zarrs_meta.specs.declared.array_v3.ArrayMetadataV3.{ArrayMetadataV3}
+use Rattle.zarrs_meta.specs.declared.group_v3.GroupMetadataV3.{GroupMetadataV3}
 use Rattle.zarrs_meta.specs.declared.attributes.AttributesDocument.{AttributesDocument}
 use Rattle.zarrs_meta.specs.declared.node.ArrayMetadata.TheVariants.{V2 as array_v2, V3 as array_v3}
 use Rattle.zarrs_meta.specs.declared.node.GroupMetadata.TheVariants.{V3 as group_v3}
@@ -36,7 +39,6 @@ use Rattle.zarrs_meta.specs.declared.node.ZarrJson.{ZarrJson}
 use Rattle.zarrs_meta.specs.declared.node.ZarrJson.TheVariants.{Node, Version2}
 use Rattle.zarrs_config.specs.declared.version.MetadataRetrieveVersion.TheVariants.{Default}
 use Rattle.zarrs_block.specs.Meaning.{Meaning, meaning, meaning_in, node, in_bytes, document_or_fault, document_from, document_at, version_3_line, version_2_line, attributes_in, zarr_json_line, zarray_line, zgroup_line, nothing}
-use Rattle.zarrs_folder.specs.Folders.{in_any}
 use Rattle.zarrs_folder.proofs.GroupTexts.{StandsIn, IsSpelt, read_spelt}
 
 -- ---- the node type of a group's document
@@ -89,6 +91,43 @@ v3_kind d m is = by (has_type (codes "group") d) (has_type (codes "array") d) re
 node_read : (r : Result NodeMetadata MetadataFault) (m : NodeMetadata) → (r >>= λ x. Ok (Node x)) ≡ Ok (Node m) → r ≡ Ok m
 node_read (Ok x) m is = let same : x ≡ m = cc in ap Ok same
 node_read (Err e) m is = let no : Err e ≡ Ok (Node m) = is in cc
+
+-- a group is what comes of its reading
+group_read : (r : Result GroupMetadataV3 MetadataFault) (m : NodeMetadata) → (r >>= λ g. Ok (Group (group_v3 g))) ≡ Ok m → is_version_3 m ≡ true
+group_read (Ok g) m is = let same : Group (group_v3 g) ≡ m = cc in subst (λ x. is_version_3 x ≡ true) same refl
+group_read (Err e) m is = let no : Err e ≡ Ok m = is in cc
+
+-- so is an array, and of its version
+array_read_3 : (r : Result ArrayMetadataV3 MetadataFault) (m : NodeMetadata) → (r >>= λ a. Ok (Array (array_v3 a))) ≡ Ok m → is_version_3 m ≡ true
+array_read_3 (Ok a) m is = let same : Array (array_v3 a) ≡ m = cc in subst (λ x. is_version_3 x ≡ true) same refl
+array_read_3 (Err e) m is = let no : Err e ≡ Ok m = is in cc
+
+-- a `zarr.json` that is a node is one of version 3
+zarr_json_version : (numbers : Numbers) (d : Data) (m : NodeMetadata) → zarr_json_in numbers d ≡ Ok (Node m) → is_version_3 m ≡ true
+unfolding zarr_json_in node_in
+zarr_json_version numbers d m is = by (document_in numbers d) (has_format 2 d) (has_format 3 d) is
+  where
+    of_type : (g a : Bool) → (if g then group_v3_in numbers d >>= (λ x. Ok (Group (group_v3 x))) else (if a then array_v3_in numbers d >>= (λ x. Ok (Array (array_v3 x))) else Err WrongNodeType)) ≡ Ok m
+        → is_version_3 m ≡ true
+    of_type true a h = group_read (group_v3_in numbers d) m h
+    of_type false true h = array_read_3 (array_v3_in numbers d) m h
+    of_type false false h = let no : Err WrongNodeType ≡ Ok m = h in cc
+
+    by : (o : Result Members MetadataFault) (two three : Bool)
+        → (o >>= λ _. if two then Ok Version2 else ((o >>= λ _. if three then node_v3_in numbers d else (if two then node_v2_in numbers d else Err WrongFormat)) >>= (λ x. Ok (Node x)))) ≡ Ok (Node m)
+        → is_version_3 m ≡ true
+    by (Err e) two three h = let no : Err e ≡ Ok (Node m) = h in cc
+    by (Ok ms) true three h = let no : Ok Version2 ≡ Ok (Node m) = h in cc
+    by (Ok ms) false true h = of_type (has_type (codes "group") d) (has_type (codes "array") d) (node_read (node_v3_in numbers d) m h)
+    by (Ok ms) false false h = let no : Err WrongFormat ≡ Ok (Node m) = h in cc
+
+-- so are its bytes
+pub document_version : (numbers : Numbers) (bytes : List ℕ) (m : NodeMetadata) → of_bytes (zarr_json_in numbers) bytes ≡ Ok (Node m) → is_version_3 m ≡ true
+document_version numbers bytes m is = by (json_of bytes) is
+  where
+    by : (o : Option Data) → (tree_or_fault o >>= zarr_json_in numbers) ≡ Ok (Node m) → is_version_3 m ≡ true
+    by None h = let no : Err NotJson ≡ Ok (Node m) = h in cc
+    by (Some d) h = zarr_json_version numbers d m h
 
 -- a `zarr.json` that is a node is no group, or has that node type
 zarr_json_kind : (d : Data) (m : NodeMetadata) → zarr_json_in Any d ≡ Ok (Node m) → (get (codes "node_type") d ≡ Some (string group_text)) ⊎ (is_group m ≡ false)
@@ -154,13 +193,13 @@ none_by P Q (Some a) is h = let no : true ≡ false = is in cc
 -- ---- what a path means by its documents
 
 -- a path with a `zarr.json` means the node that this is
-pub by_zarr_json : (V : Values) (p : Path) (bytes : List ℕ) (m : NodeMetadata) → map.get V (p ++ zarr_json ∷ []) ≡ Some bytes → meaning (in_any V) Default p ≡ node m
-    → of_bytes (zarr_json_in Any) bytes ≡ Ok (Node m)
+pub by_zarr_json : (S : Contents) (p : Path) (bytes : List ℕ) (m : NodeMetadata) → map.get S.values (p ++ zarr_json ∷ []) ≡ Some bytes → meaning S Default p ≡ node m
+    → of_bytes (zarr_json_in S.numbers) bytes ≡ Ok (Node m)
 unfolding meaning_in zarr_json_line document_at
-by_zarr_json V p bytes m at is = by (of_bytes (zarr_json_in Any) bytes) (subst (λ o. version_3_line (document_from (of_bytes (zarr_json_in Any)) (p ++ zarr_json ∷ []) o) after ≡ node m) at is)
+by_zarr_json S p bytes m at is = by (of_bytes (zarr_json_in S.numbers) bytes) (subst (λ o. version_3_line (document_from (of_bytes (zarr_json_in S.numbers)) (p ++ zarr_json ∷ []) o) after ≡ node m) at is)
   where
     after : Meaning
-    after = zarray_line (in_bytes Any) V p (zgroup_line (in_bytes Any) V p nothing)
+    after = zarray_line (in_bytes S.numbers) S.values p (zgroup_line (in_bytes S.numbers) S.values p nothing)
 
     by : (r : Result ZarrJson MetadataFault) → version_3_line (document_or_fault (p ++ zarr_json ∷ []) r) after ≡ node m → r ≡ Ok (Node m)
     by (Ok (Node x)) h = let same : x ≡ m = cc in ap (λ y. Ok (Node y)) same
@@ -168,14 +207,14 @@ by_zarr_json V p bytes m at is = by (of_bytes (zarr_json_in Any) bytes) (subst (
     by (Err e) h = cc
 
 -- a path without `zarr.json` and with a `.zarray` is no group
-pub by_zarray : (V : Values) (p : Path) (bytes : List ℕ) (m : NodeMetadata) → map.get V (p ++ zarr_json ∷ []) ≡ None → map.get V (p ++ zarray ∷ []) ≡ Some bytes → meaning (in_any V) Default p ≡ node m
+pub by_zarray : (S : Contents) (p : Path) (bytes : List ℕ) (m : NodeMetadata) → map.get S.values (p ++ zarr_json ∷ []) ≡ None → map.get S.values (p ++ zarray ∷ []) ≡ Some bytes → meaning S Default p ≡ node m
     → is_group m ≡ false
 unfolding meaning_in zarr_json_line zarray_line document_at
-by_zarray V p bytes m none at is = by (of_bytes (array_v2_in Any) bytes) (attributes_in (in_bytes Any) V p) (subst (λ o. line (document_from (of_bytes (array_v2_in Any)) (p ++ zarray ∷ []) o) (attributes_in (in_bytes Any) V p) ≡ node m) at
-    (subst (λ o. version_3_line (document_from (of_bytes (zarr_json_in Any)) (p ++ zarr_json ∷ []) o) (zarray_line (in_bytes Any) V p after) ≡ node m) none is))
+by_zarray S p bytes m none at is = by (of_bytes (array_v2_in S.numbers) bytes) (attributes_in (in_bytes S.numbers) S.values p) (subst (λ o. line (document_from (of_bytes (array_v2_in S.numbers)) (p ++ zarray ∷ []) o) (attributes_in (in_bytes S.numbers) S.values p) ≡ node m) at
+    (subst (λ o. version_3_line (document_from (of_bytes (zarr_json_in S.numbers)) (p ++ zarr_json ∷ []) o) (zarray_line (in_bytes S.numbers) S.values p after) ≡ node m) none is))
   where
     after : Meaning
-    after = zgroup_line (in_bytes Any) V p nothing
+    after = zgroup_line (in_bytes S.numbers) S.values p nothing
 
     line : Result (Option ArrayMetadataV2) StorageError → Result (Option AttributesDocument) StorageError → Meaning
     line r a = version_2_line (λ x. Array (array_v2 x)) array_with r a after

@@ -1,5 +1,7 @@
+pub mod DecidingDocuments
 mod GroupDocuments
 mod GroupTexts
+pub mod LeftFiles
 mod MoreAnswers
 pub mod LoadingSteps
 pub mod Openings

@@ -21,10 +21,11 @@ use Rattle.zarrs_node.specs.Reach.{HasGroup}
 use Rattle.zarrs_node.specs.Nodes.{MeansNode, IsListed}
 use Rattle.zarrs_node.specs.MapsOfNodes.{StandsFrom}
 use Rattle.zarrs_node.proofs.MapsShown.{same_node}
-use Rattle.zarrs_node.proofs.Order.{contains_cases}
 use Rattle.zarrs_folder.specs.Folders.{in_any, values_of, NoneIsBelow}
-use Rattle.zarrs_folder.specs.PrunedStores.{Grows, HasBaseOf, HasNoOtherKeys, HasSameFile, HasSameFiles, IsLoadedFrom, IsPruned, node_files}
+use Rattle.zarrs_folder.specs.PrunedStores.{Grows, HasBaseOf, HasLoaded, HasNoOtherKeys, HasSameFile, HasSameFiles, IsLoadedFrom, IsPruned, files_in, node_files}
 use Rattle.zarrs_folder.specs.StepsOfLoadingNodes.{IsAhead, IsLoadedButAhead}
+use Rattle.zarrs_folder.specs.declared.documents.Documents.{Documents}
+use Rattle.zarrs_folder.proofs.DecidingDocuments.{loaded_means_same, of_more, of_none}
 use Rattle.zarrs_folder.proofs.PrunedListings.{last_of, means_same}
 
 -- ---- one key more
@@ -117,10 +118,9 @@ below_kept V L M grows x (n, ns, has) = (n, ns, grows.keeps (x ++ n ∷ ns) has)
 
 -- what holds of the name of each document holds of the files of a node
 pub of_each_file : (P : List ℕ → Type 0) → P zarr_json → P zarray → P zgroup → P zattrs → P zmetadata → (file : List ℕ) → Contains node_files file → P file
-of_each_file P a b c d e file in' =
-    ⊎_elim (λ is. subst P is a) (λ r. ⊎_elim (λ is. subst P is b) (λ s. ⊎_elim (λ is. subst P is c) (λ t. ⊎_elim (λ is. subst P is d) (λ u. ⊎_elim (λ is. subst P is e) (λ v. absurd (omega (arith, v.1)))
-    (contains_cases zmetadata [] file u)) (contains_cases zattrs (zmetadata ∷ []) file t)) (contains_cases zgroup (zattrs ∷ zmetadata ∷ []) file s))
-    (contains_cases zarray (zgroup ∷ zattrs ∷ zmetadata ∷ []) file r)) (contains_cases zarr_json (zarray ∷ zgroup ∷ zattrs ∷ zmetadata ∷ []) file in')
+of_each_file P a b c d e =
+    of_more P zarr_json (zarray ∷ zgroup ∷ zattrs ∷ zmetadata ∷ []) a
+    (of_more P zarray (zgroup ∷ zattrs ∷ zmetadata ∷ []) b (of_more P zgroup (zattrs ∷ zmetadata ∷ []) c (of_more P zattrs (zmetadata ∷ []) d (of_more P zmetadata [] e (of_none P)))))
 
 -- five documents, one after another
 pub five_grown : (V L0 L1 L2 L3 L4 L5 : Values) → Grows V L0 L1 → Grows V L1 L2 → Grows V L2 L3 → Grows V L3 L4 → Grows V L4 L5 → Grows V L0 L5
@@ -223,14 +223,15 @@ file_cases {X = X} V M p file none then = by (map.get V (p ++ file ∷ [])) refl
 
 -- ---- a turn
 
-module _ (V : Values) (b : Path) (L M : Values) (qs : List Segments) (q : Segments) (grows : Grows V L M) (way : IsLoadedButAhead V b L (qs ++ q ∷ [])) where
+module _ (ds : Documents) (V : Values) (b : Path) (L M : Values) (qs : List Segments) (q : Segments) (grows : Grows V L M) (way : IsLoadedButAhead ds V b L (qs ++ q ∷ [])) where
   -- by what becomes of the paths at and below the prefix
   turned : (rs : List Segments)
-      → (IsBelow b q → (p : Path) → StandsFrom (in_any V) Default b p → (rest : Segments) → p ≡ q ++ rest → (file : List ℕ) → Contains node_files file → HasSameFile V M p file ⊎ IsAhead b rs p)
+      → (IsBelow b q → (p : Path) → StandsFrom (in_any V) Default b p → (rest : Segments) → p ≡ q ++ rest → (file : List ℕ) → Contains (files_in ds V p) file → HasSameFile V M p file ⊎ IsAhead b rs p)
       → (IsBelow b q → (g : Path) (n : List ℕ) → IsListed (meaning (in_any V) Default) true b g → (rest : Segments) → g ++ n ∷ [] ≡ q ++ rest → HasBelow V (g ++ n ∷ []) → HasBelow M (g ++ n ∷ []) ⊎ IsAhead b rs (g ++ n ∷ []))
-      → ((x : Segments) → IsAhead b qs x → IsAhead b rs x) → IsLoadedButAhead V b M rs
+      → ((x : Segments) → IsAhead b qs x → IsAhead b rs x) → IsLoadedButAhead ds V b M rs
   turned rs at under before = record {
     keys = grows.keys way.keys;
+    base = λ file in'. grows.same (b ++ file ∷ []) (way.base file in');
     documents = λ p stands file in'. ⊎_elim (λ same. inl (grows.same (p ++ file ∷ []) same))
         (λ ahead. ⊎_elim (λ old. inr (before p old)) (λ new. at new.0 p stands new.1.0 new.1.1 file in') (ahead_cases b qs q p ahead))
         (way.documents p stands file in');
@@ -240,7 +241,7 @@ module _ (V : Values) (b : Path) (L M : Values) (qs : List Segments) (q : Segmen
   }
 
   -- a prefix that is not below the base has nothing of the walk
-  pub passed_over : (IsBelow b q → ⊥) → IsLoadedButAhead V b M qs
+  pub passed_over : (IsBelow b q → ⊥) → IsLoadedButAhead ds V b M qs
   passed_over none = turned qs (λ low. absurd (none low)) (λ low. absurd (none low)) (λ x old. old)
 
   module _ (holds : HasBelow V q → HasBelow M q) where
@@ -252,7 +253,7 @@ module _ (V : Values) (b : Path) (L M : Values) (qs : List Segments) (q : Segmen
     under_cases rs further g n listed (m ∷ ms) is has = inr (further g n listed m ms is has)
 
     -- a prefix of no path has nothing of the walk but itself
-    pub no_path_done : IsPath b → (IsPath q → ⊥) → IsLoadedButAhead V b M qs
+    pub no_path_done : IsPath b → (IsPath q → ⊥) → IsLoadedButAhead ds V b M qs
     no_path_done valid none = turned qs
         (λ low p stands rest is file in'. absurd (none (IsPath-parts q rest (subst IsPath is (stands_path V b p valid stands))).0))
         (λ low. under_cases qs (λ g n listed m ms is has.
@@ -260,10 +261,10 @@ module _ (V : Values) (b : Path) (L M : Values) (qs : List Segments) (q : Segmen
         absurd (none (IsPath-parts q front.0 (subst IsPath front.1 (stands_path V b g valid (listed_stands V b g listed)))).0)))
         (λ x old. old)
 
-    module _ (got : HasSameFiles V M q) where
+    module _ (got : HasLoaded ds V M q) where
       -- the documents of the prefix itself are those of the whole
-      own : (p : Path) → p ≡ q ++ [] → (file : List ℕ) → Contains node_files file → HasSameFile V M p file
-      own p is file in' = subst (λ x. HasSameFile V M x file) (sym (is ∙ append-nil q)) (got file in')
+      own : (p : Path) → p ≡ q ++ [] → (file : List ℕ) → Contains (files_in ds V p) file → HasSameFile V M p file
+      own p is = subst (HasLoaded ds V M) (sym (is ∙ append-nil q)) got
 
       -- what stands below the prefix makes it a group
       group_between : IsBelow b q → (p : Path) → StandsFrom (in_any V) Default b p → IsBelow q p → HasGroup (MeansNode (in_any V) Default) q
@@ -276,17 +277,17 @@ module _ (V : Values) (b : Path) (L M : Values) (qs : List Segments) (q : Segmen
           ⊎_elim (λ base. absurd (not_below b (subst (IsBelow b) (sym same ∙ base) low))) (λ w. subst (HasGroup (MeansNode (in_any V) Default)) same w.1.1) listed
 
       -- where it is no group, nothing is reached or listed below it
-      pub alone_done : (HasGroup (MeansNode (in_any V) Default) q → ⊥) → IsLoadedButAhead V b M qs
+      pub alone_done : (HasGroup (MeansNode (in_any V) Default) q → ⊥) → IsLoadedButAhead ds V b M qs
       alone_done none = turned qs at
           (λ low. under_cases qs (λ g n listed m ms is has. let front = front_of q g n m ms is in absurd (none (listed_between low g listed front.0 front.1))))
           (λ x old. old)
         where
-          at : IsBelow b q → (p : Path) → StandsFrom (in_any V) Default b p → (rest : Segments) → p ≡ q ++ rest → (file : List ℕ) → Contains node_files file → HasSameFile V M p file ⊎ IsAhead b qs p
+          at : IsBelow b q → (p : Path) → StandsFrom (in_any V) Default b p → (rest : Segments) → p ≡ q ++ rest → (file : List ℕ) → Contains (files_in ds V p) file → HasSameFile V M p file ⊎ IsAhead b qs p
           at low p stands [] is file in' = inl (own p is file in')
           at low p stands (m ∷ ms) is file in' = absurd (none (group_between low p stands (m, ms, is)))
 
       -- where all children that hold something come to lie ahead, what is below it does
-      pub group_done : (cs : List Segments) → ((child : Segments) → IsChildPrefix V q child → Contains cs child) → IsLoadedButAhead V b M (qs ++ cs)
+      pub group_done : (cs : List Segments) → ((child : Segments) → IsChildPrefix V q child → Contains cs child) → IsLoadedButAhead ds V b M (qs ++ cs)
       group_done cs complete = turned (qs ++ cs) at
           (λ low. under_cases (qs ++ cs) (λ g n listed m ms is has. ahead_right b qs cs (g ++ n ∷ []) (further low m ms (g ++ n ∷ []) is has)))
           (ahead_left b qs cs)
@@ -294,19 +295,21 @@ module _ (V : Values) (b : Path) (L M : Values) (qs : List Segments) (q : Segmen
           further : IsBelow b q → (m : List ℕ) (ms x : Segments) → x ≡ q ++ m ∷ ms → HasBelow V x → IsAhead b cs x
           further low = child_ahead V b q cs (λ m. below_more b q m low) complete
 
-          at : IsBelow b q → (p : Path) → StandsFrom (in_any V) Default b p → (rest : Segments) → p ≡ q ++ rest → (file : List ℕ) → Contains node_files file → HasSameFile V M p file ⊎ IsAhead b (qs ++ cs) p
+          at : IsBelow b q → (p : Path) → StandsFrom (in_any V) Default b p → (rest : Segments) → p ≡ q ++ rest → (file : List ℕ) → Contains (files_in ds V p) file → HasSameFile V M p file ⊎ IsAhead b (qs ++ cs) p
           at low p stands [] is file in' = inl (own p is file in')
           at low p stands (m ∷ ms) is file in' = file_cases V M p file (grows.keys way.keys) (λ has. ahead_right b qs cs p (further low m ms p is has))
 
 -- ---- the beginning and the end
 
--- once the documents of the base are there, and its children lie ahead
-pub begun : (V : Values) (b : Path) (M : Values) (cs : List Segments) → HasBaseOf (in_any V) (in_any M) b → ((child : Segments) → IsChildPrefix V b child → Contains cs child) → IsLoadedButAhead V b M cs
-begun V b M cs base complete = record {
-  keys = base.keys;
+-- once what is loaded of the base is there, and its children lie ahead
+pub begun : (ds : Documents) (V : Values) (b : Path) (L M : Values) (cs : List Segments) → HasBaseOf (in_any V) (in_any L) b → Grows V L M → HasLoaded ds V M b
+    → ((child : Segments) → IsChildPrefix V b child → Contains cs child) → IsLoadedButAhead ds V b M cs
+begun ds V b L M cs base grows got complete = record {
+  keys = grows.keys base.keys;
+  base = λ file in'. grows.same (b ++ file ∷ []) (base.documents file in');
   documents = λ p stands file in'. ⊎_elim
-      (λ same. inl (subst (λ x. HasSameFile V M x file) (sym same) (base.documents file in')))
-      (λ r. file_cases V M p file base.keys (λ has. further r.below.0 r.below.1 p r.below.2 has))
+      (λ same. inl (subst (HasLoaded ds V M) (sym same) got file in'))
+      (λ r. file_cases V M p file (grows.keys base.keys) (λ has. further r.below.0 r.below.1 p r.below.2 has))
       stands;
   children = λ g n listed has. inr (⊎_elim
       (λ same. further n [] (g ++ n ∷ []) (ap (λ x. x ++ n ∷ []) same) has)
@@ -318,8 +321,8 @@ begun V b M cs base complete = record {
     further = child_ahead V b b cs (λ m. (m, [], refl)) complete
 
 -- where nothing lies ahead, all is loaded
-pub ended : (V : Values) (b : Path) (L : Values) → IsLoadedButAhead V b L [] → IsPruned (in_any V) (in_any L) b
-ended V b L way = record {
+pub ended : (ds : Documents) (V : Values) (b : Path) (L : Values) → IsLoadedButAhead ds V b L [] → IsPruned ds (in_any V) (in_any L) b
+ended ds V b L way = record {
   numbers = refl;
   keys = way.keys;
   documents = λ p stands file in'. ⊎_elim (λ same. same) (λ ahead. ahead_none b p ahead) (way.documents p stands file in');
@@ -335,16 +338,16 @@ not_group_found None mean some none kind m is = absurd (none refl m is)
 not_group_found (Some x) mean some none kind m is = subst (λ y. is_group y ≡ false) (same_node x m (sym some ∙ is)) kind
 
 -- a prefix of a path that is no group
-pub alone_turn : (V : Values) (b : Path) (L M : Values) (qs : List Segments) (q : Segments) → Grows V L M → (HasBelow V q → HasBelow M q) → (HasNoOtherKeys V L → HasSameFiles V M q)
-    → ((m : NodeMetadata) → meaning (in_any M) Default q ≡ node m → is_group m ≡ false) → IsLoadedButAhead V b L (qs ++ q ∷ []) → IsLoadedButAhead V b M qs
-alone_turn V b L M qs q grows holds got kind way =
+pub alone_turn : (ds : Documents) (V : Values) (b : Path) (L M : Values) (qs : List Segments) (q : Segments) → Grows V L M → (HasBelow V q → HasBelow M q) → (HasNoOtherKeys V L → HasLoaded ds V M q)
+    → ((m : NodeMetadata) → meaning (in_any M) Default q ≡ node m → is_group m ≡ false) → IsLoadedButAhead ds V b L (qs ++ q ∷ []) → IsLoadedButAhead ds V b M qs
+alone_turn ds V b L M qs q grows holds got kind way =
     let files = got way.keys in
-    alone_done V b L M qs q grows way holds files (λ h. true≢false (sym h.2 ∙ kind h.0 (means_same (in_any V) (in_any M) refl q files Default ∙ h.1)))
+    alone_done ds V b L M qs q grows way holds files (λ h. true≢false (sym h.2 ∙ kind h.0 (loaded_means_same ds (in_any V) (in_any M) q refl files ∙ h.1)))
 
 -- a prefix of a path whose children come to lie ahead
-pub group_turn : (V : Values) (b : Path) (L M : Values) (qs rs : List Segments) (q : Segments) → Grows V L M → (HasBelow V q → HasBelow M q) → (HasNoOtherKeys V L → HasSameFiles V M q)
-    → (cs : List Segments) → ((child : Segments) → IsChildPrefix V q child → Contains cs child) → rs ≡ qs ++ cs → IsLoadedButAhead V b L (qs ++ q ∷ []) → IsLoadedButAhead V b M rs
-group_turn V b L M qs rs q grows holds got cs complete is way = subst (IsLoadedButAhead V b M) (sym is) (group_done V b L M qs q grows way holds (got way.keys) cs complete)
+pub group_turn : (ds : Documents) (V : Values) (b : Path) (L M : Values) (qs rs : List Segments) (q : Segments) → Grows V L M → (HasBelow V q → HasBelow M q) → (HasNoOtherKeys V L → HasLoaded ds V M q)
+    → (cs : List Segments) → ((child : Segments) → IsChildPrefix V q child → Contains cs child) → rs ≡ qs ++ cs → IsLoadedButAhead ds V b L (qs ++ q ∷ []) → IsLoadedButAhead ds V b M rs
+group_turn ds V b L M qs rs q grows holds got cs complete is way = subst (IsLoadedButAhead ds V b M) (sym is) (group_done ds V b L M qs q grows way holds (got way.keys) cs complete)
 
 -- nothing is a part of everything
 pub none_other : (V L : Values) → L ≡ map.empty → HasNoOtherKeys V L
@@ -367,16 +370,14 @@ ok_both (Ok x) f p q = f p q
 ok_both (Err e) f p q = tt
 
 -- an array is loaded by its documents
-pub array_loaded : (V L : Values) (b : Path) → HasBaseOf (in_any V) (in_any L) b → (found : Option NodeMetadata) → IfSome found (λ m. meaning (in_any L) Default b ≡ node m) → IfSome found (λ m. is_group m ≡ false) → IsSome found
-    → IsLoadedFrom (in_any V) (in_any L) b
-array_loaded V L b base None some kind is = let no : false ≡ true = is in cc
-array_loaded V L b base (Some m) some kind is = record {
+pub array_loaded : (ds : Documents) (V L : Values) (b : Path) → HasBaseOf (in_any V) (in_any L) b → (found : Option NodeMetadata) → IfSome found (λ m. meaning (in_any L) Default b ≡ node m) → IfSome found (λ m. is_group m ≡ false) → IsSome found
+    → IsLoadedFrom ds (in_any V) (in_any L) b
+array_loaded ds V L b base None some kind is = let no : false ≡ true = is in cc
+array_loaded ds V L b base (Some m) some kind is = record {
   base = base;
   below = λ none. absurd (none (m, sym (means_same (in_any V) (in_any L) refl b base.documents Default) ∙ some, kind));
 }
 
 -- all is loaded where nothing lies ahead
-pub all_loaded : (V : Values) (b : Path) (L M : Values) → HasBaseOf (in_any V) (in_any L) b → IsLoadedButAhead V b M [] → IsLoadedFrom (in_any V) (in_any M) b
-all_loaded V b L M base way =
-    let pruned = ended V b M way in
-    record { base = record { numbers = refl; keys = pruned.keys; documents = pruned.documents b (inl refl) }; below = λ _. pruned }
+pub all_loaded : (ds : Documents) (V : Values) (b : Path) (M : Values) → IsLoadedButAhead ds V b M [] → IsLoadedFrom ds (in_any V) (in_any M) b
+all_loaded ds V b M way = record { base = record { numbers = refl; keys = way.keys; documents = way.base }; below = λ _. ended ds V b M way }

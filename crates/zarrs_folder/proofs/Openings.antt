@@ -27,10 +27,10 @@ use Rattle.zarrs_node.specs.Nodes.{Bad, HasBadDocument, Nodes}
 use Rattle.zarrs_node.specs.OpeningNodes.{choice, ShowsChosen, IsCleanChosen, RefusesChosen, RefusesBelow, RefusesNode}
 use Rattle.zarrs_node.proofs.ListedItems.{lists_from, listed_each}
 use Rattle.zarrs_node.proofs.MapsShown.{same_node}
-use Rattle.zarrs_folder.specs.PrunedStores.{HasBaseOf, IsPruned, IsArrayAt}
-use Rattle.zarrs_folder.specs.Laws.{ShowSame}
+use Rattle.zarrs_folder.specs.PrunedStores.{HasBaseOf, IsArrayAt}
+use Rattle.zarrs_folder.specs.Laws.{ShowSame, ShowSameNodes}
 use Rattle.zarrs_folder.specs.Openings.{ListSame, OpenSame, ShowBelowSame, ShownListSame, ListedBlockIsSame, ShownOpenSame, LoadedOpensSame, BaseOpensSame, BlockOpensSame, OpenedAnswerSame}
-use Rattle.zarrs_folder.proofs.PrunedListings.{base_shows_same, pruned_shows_same}
+use Rattle.zarrs_folder.proofs.PrunedListings.{base_shows_same, pruned_shows_nodes}
 
 -- ---- sets
 
@@ -68,7 +68,7 @@ node_over S L b same e h = ⊎_elim (λ w. inl (sym same ∙ w.0, w.1)) (λ is. 
 
 -- ---- what is listed
 
-module _ (S L : Contents) (b : Path) (same : ShowSame S L b) where
+module _ (S L : Contents) (b : Path) (same : ShowSameNodes S L b) where
   -- a reached path with a bad document is one of both
   pub bad_documents_same : (e : NodeCreateError) → HasBadDocument (meaning L Default) true b e ↔ HasBadDocument (meaning S Default) true b e
   bad_documents_same e = (
@@ -102,19 +102,15 @@ module _ (S L : Contents) (b : Path) (same : ShowSame S L b) where
     λ h. ((stands_same e.0).1 h.0, same.meanings e.0 h.0 ∙ h.1),
   )
 
-  -- the block of each is the same
-  pub blocks_at_same : (p : Path) → StandsFrom S Default b p → (m : NodeMetadata) → block_at L p m ≡ block_at S p m
-  blocks_at_same p stands m = block_at_same S L p same.numbers (same.blocks p stands) m
+-- stores that show the same open the same, by any policy
+open_same : (S L : Contents) (b : Path) → ShowSame S L b → (policy : UseConsolidatedMetadata) → OpenSame S L policy b
+open_same S L b same policy = record {
+  means = same.0.meanings b (inl refl);
+  choices = λ m. ap (λ o. block_to_use o policy) (block_at_same S L b same.0.numbers (same.1 b (inl refl)) m);
+  listed = λ g is none. list_same S L b same.0;
+}
 
-  -- both stores open the same, by any policy
-  pub open_same : (policy : UseConsolidatedMetadata) → OpenSame S L policy b
-  open_same policy = record {
-    means = same.meanings b (inl refl);
-    choices = λ m. ap (λ o. block_to_use o policy) (blocks_at_same b (inl refl) m);
-    listed = λ g is none. list_same;
-  }
-
--- stores that show the same list the same
+-- stores that show the same nodes list the same
 pub shown_list_same : ShownListSame
 shown_list_same S L b same = (list_same S L b same, nodes_from_same S L b same)
 
@@ -131,10 +127,6 @@ listed_block_is_same S L b B same = (
 pub shown_open_same : ShownOpenSame
 shown_open_same S L b same policy = open_same S L b same policy
 
--- so does one that is pruned from another
-pub pruned_opens_same : (S L : Contents) (b : Path) → IsPruned S L b → (policy : UseConsolidatedMetadata) → OpenSame S L policy b
-pruned_opens_same S L b pruned policy = open_same S L b (pruned_shows_same S L b pruned) policy
-
 -- a group is no array
 group_at : (S : Contents) (b : Path) (g : GroupMetadata) → meaning S Default b ≡ node (Group g) → IsArrayAt S b → ⊥
 group_at S b g is array = true≢false (ap is_group (same_node (Group g) array.0 (sym is ∙ array.1)) ∙ array.2)
@@ -150,8 +142,8 @@ module _ (S L : Contents) (b : Path) (base : HasBaseOf S L b) (policy : UseConso
 
 -- a loaded store opens the same
 pub loaded_opens_same : LoadedOpensSame
-loaded_opens_same S L b loaded policy = base_with S L b loaded.base policy
-    (λ g is none. list_same S L b (pruned_shows_same S L b (loaded.below (group_at S b g is))))
+loaded_opens_same ds S L b loaded policy = base_with S L b loaded.base policy
+    (λ g is none. list_same S L b (pruned_shows_nodes ds S L b (loaded.below (group_at S b g is))))
 
 -- the same base opens the same where no group is listed
 pub base_opens_same : BaseOpensSame

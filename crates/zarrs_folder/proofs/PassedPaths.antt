@@ -19,6 +19,8 @@ use Rattle.zarrs_node.proofs.WalkSteps.{reached_deeper}
 use Rattle.zarrs_path.proofs.NameLemmas.{name_head}
 use Rattle.zarrs_path.proofs.PathTexts.{IsPath-parts}
 use Rattle.zarrs_folder.specs.Folders.{in_any}
+use Rattle.zarrs_folder.specs.declared.documents.Documents.TheVariants.{All}
+use Rattle.zarrs_folder.proofs.DecidingDocuments.{files_of_all}
 use Rattle.zarrs_folder.specs.PrunedStores.{Grows, HasNoOtherKeys, HasSameFile, HasSameFiles, IsLoadedFrom, IsPruned, node_files}
 use Rattle.zarrs_folder.specs.PassedPaths.{node_documents, HasSameDocuments, HoldsFilesOf, HoldsBelow, IsPassed, IsBelowArray, PassedHoldSame}
 use Rattle.zarrs_folder.specs.StepsOfLoadingNodes.{HoldsButAhead, LiesAhead}
@@ -27,7 +29,7 @@ use Rattle.zarrs_folder.proofs.LoadingSteps.{below_kept, child_of, file_cases, g
 -- ---- what was loaded stays
 
 -- a store that was loaded stays so as it grows
-pub loaded_grows : (V L M : Values) (b : Path) → Grows V L M → IsLoadedFrom (in_any V) (in_any L) b → IsLoadedFrom (in_any V) (in_any M) b
+pub loaded_grows : (V L M : Values) (b : Path) → Grows V L M → IsLoadedFrom All (in_any V) (in_any L) b → IsLoadedFrom All (in_any V) (in_any M) b
 loaded_grows V L M b grows loaded = record {
   base = record { numbers = refl; keys = grows.keys loaded.base.keys; documents = λ file in'. grows.same (b ++ file ∷ []) (loaded.base.documents file in') };
   below = λ none.
@@ -132,11 +134,11 @@ child_reached S b g n c h name is = ⊎_elim
     (λ w. reached_deeper (MeansNode S Default) true b g c n w.0 w.1 (name_head n [] name) is)
     h
 
-module _ (S L : Contents) (b p : Path) (ps : List Path) (pruned : IsPruned S L b) (holds : HoldsBelow S.values L.values ps) (all : (q : Path) → IsPassed S b q → Contains ps q)
+module _ (S L : Contents) (b p : Path) (ps : List Path) (pruned : IsPruned All S L b) (holds : HoldsBelow S.values L.values ps) (all : (q : Path) → IsPassed S b q → Contains ps q)
     (far : IsBelowArray S b p → ⊥) where
   -- of what stands from the base on
   standing : StandsFrom S Default b p → HasSameDocuments S.values L.values p
-  standing stands file in' = pruned.documents p stands file (document_is_file file in')
+  standing stands file in' = files_of_all S.values L.values p (pruned.documents p stands) file (document_is_file file in')
 
   -- below a path that is passed, where something is below that
   passed : (c : Path) → (HasBelow S.values c → IsPassed S b c) → IsBelow c p → HasSameDocuments S.values L.values p

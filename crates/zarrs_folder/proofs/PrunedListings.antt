@@ -27,7 +27,9 @@ use Rattle.zarrs_node.proofs.Current.{meaning_same}
 use Rattle.zarrs_node.proofs.ForestsBeside.{Contains-first}
 use Rattle.zarrs_node.proofs.KeptPairs.{reached_between}
 use Rattle.zarrs_folder.specs.PrunedStores.{HasBaseOf, HasNoOtherKeys, HasSameFiles}
-use Rattle.zarrs_folder.specs.Laws.{BaseShowsSame, PrunedShowsSame}
+use Rattle.zarrs_folder.specs.Laws.{BaseShowsSame, PrunedShowsNodes, PrunedShowsSame}
+use Rattle.zarrs_folder.specs.declared.documents.Documents.TheVariants.{All}
+use Rattle.zarrs_folder.proofs.DecidingDocuments.{files_of_all, loaded_means_same}
 
 -- ---- keys and documents
 
@@ -131,12 +133,11 @@ parent_listed of b p h = let w = parent_of b p (h.below.0, h.below.1, h.below.2)
 
 -- ---- two stores
 
--- a store shows what the store shows that it is pruned from
-pub pruned_shows_same : PrunedShowsSame
-pruned_shows_same S L b pruned = record {
+-- a store shows the nodes that the store shows that it is pruned from
+pub pruned_shows_nodes : PrunedShowsNodes
+pruned_shows_nodes ds S L b pruned = record {
   numbers = pruned.numbers;
   meanings = means;
-  blocks = λ p stands. block_same S.values L.values p (pruned.documents p stands);
   reached = λ p. (reached_back of to b same p, reached_over of to b same p);
   nodes = kept_same of to b same;
   ignored = λ p. (
@@ -157,7 +158,7 @@ pruned_shows_same S L b pruned = record {
     to = meaning L Default
 
     means : (p : Path) → StandsFrom S Default b p → meaning L Default p ≡ meaning S Default p
-    means p stands = means_same S L pruned.numbers p (pruned.documents p stands) Default
+    means p stands = loaded_means_same ds S L p pruned.numbers (pruned.documents p stands)
 
     same : (p : Path) → Reached (Means of) true b p → to p ≡ of p
     same p h = means p (inr h)
@@ -171,6 +172,11 @@ pruned_shows_same S L b pruned = record {
       λ d. (d.0, d.1, listed_back of to b same d.0 d.2, d.3, no_other_below S.values L.values pruned.keys (d.0 ++ d.1 ∷ []) d.4, d.5, d.6),
       λ d. (d.0, d.1, listed_over of to b same d.0 d.2, d.3, pruned.children d.0 d.1 d.2 d.4, d.5, d.6),
     )
+
+-- and with all documents the same
+pub pruned_shows_same : PrunedShowsSame
+pruned_shows_same S L b pruned =
+    (pruned_shows_nodes All S L b pruned, λ p stands. block_same S.values L.values p (files_of_all S.values L.values p (pruned.documents p stands)))
 
 -- ---- the base
 

@@ -23,7 +23,8 @@ use Rattle.zarrs_node.specs.MapsOfNodes.{NodesFrom}
 use Rattle.zarrs_node.specs.Nodes.{Nodes, HasNothingBad, ShowsBad}
 use Rattle.zarrs_node.specs.OpeningNodes.{choice, ShowsBelow, IsCleanBelow, RefusesBelow, RefusesNode, RefusesOpening}
 use Rattle.zarrs_folder.specs.PrunedStores.{HasBaseOf, IsLoadedFrom}
-use Rattle.zarrs_folder.specs.Laws.{ShowSame}
+use Rattle.zarrs_folder.specs.Laws.{ShowSame, ShowSameNodes}
+use Rattle.zarrs_folder.specs.declared.documents.Documents.{Documents}
 use Rattle.zarrs_block.specs.Meaning.{Pair}
 
 -- below b both stores have the same nodes; something bad is in both or in neither; and the same refuses a listing
@@ -56,10 +57,10 @@ pub record AnswerSame (S L : Contents) (policy : UseConsolidatedMetadata) (b : P
   pub refused : IsPath b → (e : NodeCreateError) → RefusesOpening L Default policy (path_text b) e
       ↔ RefusesOpening S Default policy (path_text b) e
 
--- Stores that show the same list the same, and have the same nodes from the base on.
+-- Stores that show the same nodes list the same, and have the same nodes from the base on.
 abbrev pub ShownListSame : Type 0
 ShownListSame =
-    (S L : Contents) (b : Path) → ShowSame S L b
+    (S L : Contents) (b : Path) → ShowSameNodes S L b
     → ListSame S L b × ((e : Pair) → NodesFrom L Default b e ↔ NodesFrom S Default b e)
 
 -- Stores that list the same have the same listed block.
@@ -72,10 +73,12 @@ abbrev pub ShownOpenSame : Type 0
 ShownOpenSame =
     (S L : Contents) (b : Path) → ShowSame S L b → (policy : UseConsolidatedMetadata) → OpenSame S L policy b
 
--- A store opens at the base as the store that it was loaded from: an array too, below which nothing was loaded.
+-- A store opens at the base as the store that it was loaded from, whichever documents were: an array too, below which
+-- nothing was loaded.
 abbrev pub LoadedOpensSame : Type 0
 LoadedOpensSame =
-    (S L : Contents) (b : Path) → IsLoadedFrom S L b → (policy : UseConsolidatedMetadata) → OpenSame S L policy b
+    (ds : Documents) (S L : Contents) (b : Path) → IsLoadedFrom ds S L b
+    → (policy : UseConsolidatedMetadata) → OpenSame S L policy b
 
 -- A store with the base of another opens there as the other, where no group is opened by a listing.
 abbrev pub BaseOpensSame : Type 0

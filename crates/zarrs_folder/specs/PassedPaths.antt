@@ -19,6 +19,7 @@ use Rattle.zarrs_block.specs.declared.node_create_error.NodeCreateError.{NodeCre
 use Rattle.zarrs_node.specs.MapsOfNodes.{StandsFrom}
 use Rattle.zarrs_node.specs.Nodes.{MeansNode, Ignored}
 use Rattle.zarrs_node.specs.Reach.{Reached}
+use Rattle.zarrs_folder.specs.declared.documents.Documents.TheVariants.{All}
 use Rattle.zarrs_folder.specs.PrunedStores.{HasSameFile, HasSameFiles, IsPruned}
 
 -- the files that make a node
@@ -53,6 +54,6 @@ IsBelowArray S b p =
 -- array has the same documents in both.
 abbrev pub PassedHoldSame : Type 0
 PassedHoldSame =
-    (S L : Contents) (b : Path) (ps : List Path) → IsPruned S L b → HoldsBelow S.values L.values ps
+    (S L : Contents) (b : Path) (ps : List Path) → IsPruned All S L b → HoldsBelow S.values L.values ps
     → ((p : Path) → IsPassed S b p → Contains ps p) → (p n : Path) (x : List ℕ) → p ≡ b ++ x ∷ n → IsPath (x ∷ n)
     → (IsBelowArray S b p → ⊥) → HasSameDocuments S.values L.values p

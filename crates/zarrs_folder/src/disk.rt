@@ -80,8 +80,8 @@ impl<'a, R: Log + Files + Clock + Eprint + AllocGlobal> Disk<'a, R> {
 
     // The path of what has this text as its key or its prefix. It has no slash behind it.
     fn path(&self, alloc: Global, text: &str) -> Result<String, AllocError> {
-        let mut path = String::from_str(alloc, self.folder)?;
         let names = text.strip_suffix('/').unwrap_or(text);
+        let mut path = with_room(alloc, self.folder, names)?;
         if names.is_empty() {
             return Ok(path);
         }
@@ -97,13 +97,13 @@ impl<'a, R: Log + Files + Clock + Eprint + AllocGlobal> Disk<'a, R> {
         ensures err { IfErr result (IsFaultOfFolder true) }
     {
         let path = self.path(alloc, key)?;
-        match fs::metadata(self.rt, path.as_str()) {
-            Ok(metadata) if metadata.is_file() => {}
+        let length = match fs::metadata(self.rt, path.as_str()) {
+            Ok(metadata) if metadata.is_file() => metadata.len(),
             Ok(_) => return Ok(None),
             Err(e) if is_absent(&e) => return Ok(None),
             Err(e) => return Err(unread(alloc, path.as_str(), &e)?),
-        }
-        match bytes_of(alloc, self.rt, path.as_str()) {
+        };
+        match bytes_of(alloc, self.rt, path.as_str(), length) {
             Ok(bytes) => Ok(Some(bytes)),
             Err(e) => Err(unread(alloc, path.as_str(), &e)?),
         }
@@ -290,10 +290,15 @@ fn is_of_node(key: &str) -> bool {
     !key.ends_with(".zattrs") && !key.ends_with(".zmetadata")
 }
 
-// All bytes of a file.
-fn bytes_of<R: Files>(alloc: Global, rt: &R, path: &str) -> io::Result<Vec<u8>> {
+// The longest file for which there is room before it is read.
+const LONGEST_AT_ONCE: u64 = 64 * 1024;
+
+// All bytes of a file, which had this length when it was looked at. With room for one byte more, a reading that comes to no more than that finds the
+// end without growing.
+fn bytes_of<R: Files>(alloc: Global, rt: &R, path: &str, length: u64) -> io::Result<Vec<u8>> {
     let mut file = File::open(rt, path)?;
-    let mut bytes = Vec::new(alloc);
+    let room = length.min(LONGEST_AT_ONCE) as usize + 1;
+    let mut bytes = Vec::with_capacity(alloc, room)?;
     file.read_to_end(&mut bytes)?;
     Ok(bytes)
 }
@@ -316,9 +321,17 @@ fn is_same(one: &Metadata, other: &Metadata) -> bool {
 
 // A name behind the text of a prefix.
 fn joined(alloc: Global, prefix: &str, name: &str) -> Result<String, AllocError> {
-    let mut names = String::from_str(alloc, prefix)?;
+    let mut names = with_room(alloc, prefix, name)?;
     names.push_str(name)?;
     Ok(names)
+}
+
+// A text with room for another and a slash.
+fn with_room(alloc: Global, text: &str, more: &str) -> Result<String, AllocError> {
+    let room = text.len().saturating_add(more.len()).saturating_add(1);
+    let mut out = String::with_capacity(alloc, room)?;
+    out.push_str(text)?;
+    Ok(out)
 }
 
 // The prefix with this text. A system whose names make none is refused.

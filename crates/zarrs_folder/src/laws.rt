@@ -1,10 +1,17 @@
 //! What holds of every loaded store. Each function does nothing, and its contract is the law.
-ghost use Rattle.zarrs_folder.specs.Laws.{PrunedShowsSame, BaseShowsSame};
+ghost use Rattle.zarrs_folder.specs.Laws.{PrunedShowsNodes, PrunedShowsSame, BaseShowsSame};
 ghost use Rattle.zarrs_folder.specs.Openings.{ShownListSame, ListedBlockIsSame, ShownOpenSame, LoadedOpensSame, BaseOpensSame, BlockOpensSame, OpenedAnswerSame};
 ghost use Rattle.zarrs_folder.specs.PassedPaths.{PassedHoldSame};
 
-/// A store shows what the store shows that it is pruned from: from the path on the same meanings, nodes, paths that are passed over, bad
-/// documents and names, and refusals.
+/// A store shows the nodes that the store shows that it is pruned from, whichever documents were loaded: from the path on the same meanings, nodes,
+/// paths that are passed over, bad documents and names, and refusals.
+///
+/// Source: own; Zarr core specification 3.1, "Hierarchy".
+pub fn pruned_shows_nodes()
+    ensures { PrunedShowsNodes }
+{}
+
+/// Where all documents were loaded, it shows the same: the documents of blocks beside the nodes too.
 ///
 /// Source: own; Zarr core specification 3.1, "Hierarchy".
 pub fn pruned_shows_same()

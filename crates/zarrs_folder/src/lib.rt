@@ -3,6 +3,7 @@
 #![tactic(auto)]
 
 mod disk;
+mod documents;
 mod fault;
 mod folder;
 mod kinds;
@@ -12,11 +13,13 @@ mod nodes;
 mod passed;
 mod paths;
 mod progress;
+mod read;
 mod record;
 
 pub use disk::Disk;
+pub use documents::Documents;
 pub use fault::FolderFault;
 pub use folder::Folder;
-pub use nodes::{load_base, load_below, load_nodes};
+pub use nodes::{load_base, load_below, load_children, load_nodes};
 pub use passed::load_passed;
 pub use paths::load_paths;

@@ -6,12 +6,14 @@ ghost use Rattle.zarrs_meta.specs.Node.{is_group};
 ghost use Rattle.zarrs_config.specs.declared.version.MetadataRetrieveVersion.TheVariants.{Default};
 ghost use Rattle.zarrs_block.specs.Meaning.{meaning, node};
 ghost use Rattle.zarrs_folder.specs.Folders.{in_any, values_of, IsFaultOfFolder};
-ghost use Rattle.zarrs_folder.specs.PrunedStores.{Grows, HasBaseOf, HasNoOtherKeys, HasSameFile, HasSameFiles, IsLoadedFrom};
+ghost use Rattle.zarrs_folder.specs.PrunedStores.{Grows, HasBaseOf, HasLoaded, HasNoOtherKeys, IsLoadedFrom};
 ghost use Rattle.zarrs_folder.specs.StepsOfLoadingNodes.{IsLoadedButAhead};
 
+use crate::documents::Documents;
 use crate::fault::FolderFault;
 use crate::folder::Folder;
 use crate::kinds::may_be_group;
+use crate::read::{read_documents, read_left, read_some};
 use std::alloc::{AllocError, Global};
 use zarrs_block::NodeCreateError;
 use zarrs_config::MetadataRetrieveVersion;
@@ -20,9 +22,9 @@ use zarrs_node::Node;
 use zarrs_path::{NodePath, NodePathError};
 use zarrs_store::{AnyNumbers, MemoryStore, ReadableStorageTraits, StorageError, StorePrefix};
 
-/// The store of the files below a folder, as far as a walk from a path on looks at it: the five documents of the path and of each folder that
-/// is reached from it through groups, and one key below each folder without documents that holds a file. Only groups are listed, and the path
-/// itself where it is no array. Nothing below an array or a bad document is looked at, nor below what is no path. Keys beside documents have
+/// The store of the files below a folder, as far as a walk from a path on looks at it: the five documents of the path, those that are asked for of each
+/// folder that is reached from it through groups, and one key below each folder without documents that holds a file. Only groups are listed, and the
+/// path itself where it is no array. Nothing below an array or a bad document is looked at, nor below what is no path. Keys beside documents have
 /// no bytes.
 ///
 /// # Errors
@@ -32,15 +34,16 @@ use zarrs_store::{AnyNumbers, MemoryStore, ReadableStorageTraits, StorageError, 
 pub fn load_nodes<F: Folder>(
     alloc: Global,
     folder: &mut F,
+    documents: Documents,
     base: &NodePath,
 ) -> Result<AnyNumbers<MemoryStore>, FolderFault>
     ensures ok { IfOk result (λ store. (V : Values) → F.agrees folder.new V
-        → IsLoadedFrom (in_any V) (in_any (values_of store.inner)) base.now) }
+        → IsLoadedFrom documents (in_any V) (in_any (values_of store.inner)) base.now) }
     ensures before { (V : Values) → F.agrees folder.new V → F.agrees folder.old V }
     ensures err { IfErr result (IsFaultOfFolder (F.can_fail folder.new)) }
 {
     let store = load_base(alloc, folder, base)?;
-    load_below(alloc, folder, base, store)
+    load_below(alloc, folder, documents, base, store)
 }
 
 /// The five documents of a path, without anything else: all that is needed where the path has a block that is used.
@@ -76,36 +79,70 @@ pub fn load_base<F: Folder>(
 pub fn load_below<F: Folder>(
     alloc: Global,
     folder: &mut F,
+    documents: Documents,
     base: &NodePath,
     store: AnyNumbers<MemoryStore>,
 ) -> Result<AnyNumbers<MemoryStore>, FolderFault>
     ensures ok { IfOk result (λ loaded. (V : Values) → F.agrees folder.new V
         → HasBaseOf (in_any V) (in_any (values_of store.inner)) base.now
-        → IsLoadedFrom (in_any V) (in_any (values_of loaded.inner)) base.now) }
+        → IsLoadedFrom documents (in_any V) (in_any (values_of loaded.inner)) base.now) }
+    ensures before { (V : Values) → F.agrees folder.new V → F.agrees folder.old V }
+    ensures err { IfErr result (IsFaultOfFolder (F.can_fail folder.new)) }
+{
+    if is_array(&find(alloc, &store, base)?) {
+        return Ok(store);
+    }
+    load_children(alloc, folder, documents, base, store)
+}
+
+/// What [`load_below`] answers, where the path is known to be no array: it is not asked. Of an array what lies below it is looked at for nothing.
+///
+/// # Errors
+/// Those of [`load_below`].
+///
+/// Source: own; Zarr core specification 3.1, "Hierarchy".
+pub fn load_children<F: Folder>(
+    alloc: Global,
+    folder: &mut F,
+    documents: Documents,
+    base: &NodePath,
+    store: AnyNumbers<MemoryStore>,
+) -> Result<AnyNumbers<MemoryStore>, FolderFault>
+    ensures ok { IfOk result (λ loaded. (V : Values) → F.agrees folder.new V
+        → HasBaseOf (in_any V) (in_any (values_of store.inner)) base.now
+        → IsLoadedFrom documents (in_any V) (in_any (values_of loaded.inner)) base.now) }
     ensures before { (V : Values) → F.agrees folder.new V → F.agrees folder.old V }
     ensures err { IfErr result (IsFaultOfFolder (F.can_fail folder.new)) }
 {
     let mut loaded = store;
-    if is_array(&find(alloc, &loaded, base)?) {
-        return Ok(loaded);
-    }
     let prefix = base.to_prefix(alloc)?;
+    read_left(alloc, folder, documents, &prefix, &mut loaded)?;
     let mut ahead = folder.children(alloc, &prefix)?;
-    walk(alloc, folder, base, &mut ahead, &mut loaded)?;
+    let walk = Walk { base, documents };
+    walk_on(alloc, folder, walk, &mut ahead, &mut loaded)?;
     Ok(loaded)
 }
 
+// Where a walk begins, and which documents of each path it loads.
+#[derive(Clone, Copy)]
+struct Walk<'a> {
+    base: &'a NodePath,
+    documents: Documents,
+}
+
 // Loads what lies ahead, until nothing does. There is no bound: memory does not hold as many prefixes as there are turns.
-fn walk<F: Folder>(
+fn walk_on<F: Folder>(
     alloc: Global,
     folder: &mut F,
-    base: &NodePath,
+    walk: Walk<'_>,
     ahead: &mut Vec<StorePrefix>,
     loaded: &mut AnyNumbers<MemoryStore>,
 ) -> Result<(), FolderFault>
     ensures ok { OnOk result ((V : Values) → F.agrees folder.new V
-        → IsLoadedButAhead V base.now (values_of loaded.old.inner) ahead.old.items
-        → IsLoadedButAhead V base.now (values_of loaded.new.inner) []) }
+        → IsLoadedButAhead walk.entry.documents V walk.entry.base.now
+        (values_of loaded.old.inner) ahead.old.items
+        → IsLoadedButAhead walk.entry.documents V walk.entry.base.now
+        (values_of loaded.new.inner) []) }
     ensures before { (V : Values) → F.agrees folder.new V → F.agrees folder.old V }
     ensures err { IfErr result (IsFaultOfFolder (F.can_fail folder.new)) }
 {
@@ -113,7 +150,7 @@ fn walk<F: Folder>(
         let Some(next) = ahead.pop() else {
             return Ok(());
         };
-        look(alloc, folder, base, next, ahead, loaded)?;
+        look(alloc, folder, walk, next, ahead, loaded)?;
     }
     Err(FolderFault::OutOfMemory)
 }
@@ -122,20 +159,22 @@ fn walk<F: Folder>(
 fn look<F: Folder>(
     alloc: Global,
     folder: &mut F,
-    base: &NodePath,
+    walk: Walk<'_>,
     prefix: StorePrefix,
     ahead: &mut Vec<StorePrefix>,
     loaded: &mut AnyNumbers<MemoryStore>,
 ) -> Result<(), FolderFault>
     ensures ok { OnOk result ((V : Values) → F.agrees folder.new V
-        → IsLoadedButAhead V base.now (values_of loaded.old.inner) (ahead.old.items ++ prefix ∷ [])
-        → IsLoadedButAhead V base.now (values_of loaded.new.inner) ahead.new.items) }
+        → IsLoadedButAhead walk.entry.documents V walk.entry.base.now
+        (values_of loaded.old.inner) (ahead.old.items ++ prefix ∷ [])
+        → IsLoadedButAhead walk.entry.documents V walk.entry.base.now
+        (values_of loaded.new.inner) ahead.new.items) }
     ensures before { (V : Values) → F.agrees folder.new V → F.agrees folder.old V }
     ensures err { IfErr result (IsFaultOfFolder (F.can_fail folder.new)) }
 {
-    let _valid = base.as_str();
+    let _valid = walk.base.as_str();
     match NodePath::from_prefix(alloc, &prefix) {
-        Ok(path) => look_at(alloc, folder, base, &path, &prefix, ahead, loaded),
+        Ok(path) => look_at(alloc, folder, walk, &path, &prefix, ahead, loaded),
         Err(NodePathError::Invalid(_)) => keep_one(alloc, folder, &prefix, loaded),
         Err(NodePathError::OutOfMemory) => Err(FolderFault::OutOfMemory),
     }
@@ -145,7 +184,7 @@ fn look<F: Folder>(
 fn look_at<F: Folder>(
     alloc: Global,
     folder: &mut F,
-    base: &NodePath,
+    walk: Walk<'_>,
     path: &NodePath,
     prefix: &StorePrefix,
     ahead: &mut Vec<StorePrefix>,
@@ -153,16 +192,17 @@ fn look_at<F: Folder>(
 ) -> Result<(), FolderFault>
     requires { path.now ≡ prefix.now }
     ensures ok { OnOk result ((V : Values) → F.agrees folder.new V
-        → IsLoadedButAhead V base.now
+        → IsLoadedButAhead walk.entry.documents V walk.entry.base.now
         (values_of loaded.old.inner) (ahead.old.items ++ prefix.now ∷ [])
-        → IsLoadedButAhead V base.now (values_of loaded.new.inner) ahead.new.items) }
+        → IsLoadedButAhead walk.entry.documents V walk.entry.base.now
+        (values_of loaded.new.inner) ahead.new.items) }
     ensures before { (V : Values) → F.agrees folder.new V → F.agrees folder.old V }
     ensures err { IfErr result (IsFaultOfFolder (F.can_fail folder.new)) }
 {
-    if !path.is_below(base) {
+    if !path.is_below(walk.base) {
         return Ok(());
     }
-    load_at(alloc, folder, prefix, loaded)?;
+    load_at(alloc, folder, walk.documents, prefix, loaded)?;
     if !is_group_at(alloc, loaded, path)? {
         return Ok(());
     }
@@ -175,6 +215,7 @@ fn look_at<F: Folder>(
 fn load_at<F: Folder>(
     alloc: Global,
     folder: &mut F,
+    documents: Documents,
     prefix: &StorePrefix,
     loaded: &mut AnyNumbers<MemoryStore>,
 ) -> Result<(), FolderFault>
@@ -182,13 +223,13 @@ fn load_at<F: Folder>(
         → Grows V (values_of loaded.old.inner) (values_of loaded.new.inner)) }
     ensures got { OnOk result ((V : Values) → F.agrees folder.new V
         → HasNoOtherKeys V (values_of loaded.old.inner)
-        → HasSameFiles V (values_of loaded.new.inner) prefix.now) }
+        → HasLoaded documents V (values_of loaded.new.inner) prefix.now) }
     ensures below { OnOk result ((V : Values) → F.agrees folder.new V
         → HasBelow V prefix.now → HasBelow (values_of loaded.new.inner) prefix.now) }
     ensures before { (V : Values) → F.agrees folder.new V → F.agrees folder.old V }
     ensures err { IfErr result (IsFaultOfFolder (F.can_fail folder.new)) }
 {
-    if read_documents(alloc, folder, prefix, loaded)? {
+    if read_some(alloc, folder, documents, prefix, loaded)? {
         return Ok(());
     }
     keep_one(alloc, folder, prefix, loaded)
@@ -248,61 +289,6 @@ fn is_array(found: &Option<NodeMetadata>) -> bool
     match found {
         Some(metadata) => !metadata.is_group(),
         None => false,
-    }
-}
-
-// Loads the documents at a prefix, and tells whether there is any.
-pub(crate) fn read_documents<F: Folder>(
-    alloc: Global,
-    folder: &mut F,
-    prefix: &StorePrefix,
-    loaded: &mut AnyNumbers<MemoryStore>,
-) -> Result<bool, FolderFault>
-    ensures grows { OnOk result ((V : Values) → F.agrees folder.new V
-        → Grows V (values_of loaded.old.inner) (values_of loaded.new.inner)) }
-    ensures got { OnOk result ((V : Values) → F.agrees folder.new V
-        → HasNoOtherKeys V (values_of loaded.old.inner)
-        → HasSameFiles V (values_of loaded.new.inner) prefix.now) }
-    ensures any { IfOk result
-        (λ any. IsTrue any → HasBelow (values_of loaded.new.inner) prefix.now) }
-    ensures before { (V : Values) → F.agrees folder.new V → F.agrees folder.old V }
-    ensures err { IfErr result (IsFaultOfFolder (F.can_fail folder.new)) }
-{
-    let any = read_document(alloc, folder, prefix, "zarr.json", false, loaded)?;
-    let any = read_document(alloc, folder, prefix, ".zarray", any, loaded)?;
-    let any = read_document(alloc, folder, prefix, ".zgroup", any, loaded)?;
-    let any = read_document(alloc, folder, prefix, ".zattrs", any, loaded)?;
-    read_document(alloc, folder, prefix, ".zmetadata", any, loaded)
-}
-
-// Loads the document with a name, and tells whether it, or any before it, is there.
-pub(crate) fn read_document<F: Folder>(
-    alloc: Global,
-    folder: &mut F,
-    prefix: &StorePrefix,
-    file: &str,
-    any: bool,
-    loaded: &mut AnyNumbers<MemoryStore>,
-) -> Result<bool, FolderFault>
-    requires { IsTrue (is_segment file.now) }
-    ensures grows { OnOk result ((V : Values) → F.agrees folder.new V
-        → Grows V (values_of loaded.old.inner) (values_of loaded.new.inner)) }
-    ensures got { OnOk result ((V : Values) → F.agrees folder.new V
-        → HasNoOtherKeys V (values_of loaded.old.inner)
-        → HasSameFile V (values_of loaded.new.inner) prefix.now file.now) }
-    ensures any { IfOk result (λ found.
-        (IsTrue any → HasBelow (values_of loaded.old.inner) prefix.now)
-        → IsTrue found → HasBelow (values_of loaded.new.inner) prefix.now) }
-    ensures before { (V : Values) → F.agrees folder.new V → F.agrees folder.old V }
-    ensures err { IfErr result (IsFaultOfFolder (F.can_fail folder.new)) }
-{
-    let key = prefix.key_in(String::new(alloc), file)?;
-    match folder.document(alloc, &key)? {
-        Some(bytes) => {
-            loaded.inner.insert(key, bytes)?;
-            Ok(true)
-        }
-        None => Ok(any),
     }
 }
 

@@ -3,12 +3,13 @@ ghost use Rattle.std.specs.Prelude.{◌≡◌, ◌++◌, ◌∷◌, [], IfOk, If
 ghost use Rattle.zarrs_store.specs.Contents.{Values};
 ghost use Rattle.zarrs_folder.specs.Folders.{in_any, values_of, IsFaultOfFolder};
 ghost use Rattle.zarrs_folder.specs.PassedPaths.{HoldsBelow};
+ghost use Rattle.zarrs_folder.specs.declared.documents.Documents.TheVariants.{All};
 ghost use Rattle.zarrs_folder.specs.PrunedStores.{Grows, HasNoOtherKeys, IsLoadedFrom};
 ghost use Rattle.zarrs_folder.specs.StepsOfLoadingNodes.{HoldsButAhead};
 
 use crate::fault::FolderFault;
 use crate::folder::Folder;
-use crate::nodes::read_document;
+use crate::read::read_document;
 use std::alloc::Global;
 use zarrs_path::NodePath;
 use zarrs_store::{AnyNumbers, MemoryStore, StorePrefix};
@@ -28,8 +29,8 @@ pub fn load_passed<F: Folder>(
     store: AnyNumbers<MemoryStore>,
 ) -> Result<AnyNumbers<MemoryStore>, FolderFault>
     ensures ok { IfOk result (λ more. (V : Values) → F.agrees folder.new V
-        → IsLoadedFrom (in_any V) (in_any (values_of store.inner)) base.now
-        → IsLoadedFrom (in_any V) (in_any (values_of more.inner)) base.now) }
+        → IsLoadedFrom All (in_any V) (in_any (values_of store.inner)) base.now
+        → IsLoadedFrom All (in_any V) (in_any (values_of more.inner)) base.now) }
     ensures grows { IfOk result (λ more. (V : Values) → F.agrees folder.new V
         → Grows V (values_of store.inner) (values_of more.inner)) }
     ensures below { IfOk result (λ more. (V : Values) → F.agrees folder.new V
