@@ -1,9 +1,7 @@
 -- A plan over what was loaded of a store is a plan over the store.
-use Rattle.std.proofs.Common.{◌≡◌, inl, inr, ⊎_elim, false, refl, sym, ◌∙◌, ◌∷◌, [], Option}
+use Rattle.std.proofs.Common.{◌≡◌, inl, inr, ⊎_elim, false, refl, sym, ◌∙◌, Option}
 use Rattle.std.specs.Prelude.{Contains, Result, Ok, Err, IfOk, IfErr}
-use Rattle.std.proofs.lemmas.List.Elements.{Contains-append_right}
 use Rattle.zarrs_store.specs.Contents.{Contents, Values}
-use Rattle.zarrs_path.specs.Keys.{zarr_json, zarray, zgroup, zattrs, zmetadata}
 use Rattle.zarrs_path.specs.Paths.{Path}
 use Rattle.zarrs_config.specs.declared.version.MetadataRetrieveVersion.TheVariants.{Default}
 use Rattle.zarrs_config.specs.declared.version.UseConsolidatedMetadata.TheVariants.{Never}
@@ -13,10 +11,11 @@ use Rattle.zarrs_meta.specs.declared.node.NodeMetadata.TheVariants.{Group}
 use Rattle.zarrs_block.specs.Block.{Block}
 use Rattle.zarrs_block.specs.Meaning.{meaning, node}
 use Rattle.zarrs_node.specs.ListedBlocks.{IsListedBlock}
-use Rattle.zarrs_node.proofs.ForestsBeside.{Contains-first}
 use Rattle.zarrs_folder.specs.Folders.{in_any}
 use Rattle.zarrs_folder.specs.Openings.{ListSame, OpenSame}
+use Rattle.zarrs_folder.specs.declared.documents.Documents.TheVariants.{Deciding}
 use Rattle.zarrs_folder.specs.PrunedStores.{IsLoadedFrom, node_files}
+use Rattle.zarrs_folder.proofs.DecidingDocuments.{has_zarr_json, has_zmetadata}
 use Rattle.zarrs_folder.proofs.Openings.{listed_block_is_same, loaded_opens_same, opened_answer_same}
 use Rattle.zarrs_group.specs.BlocksOfGroups.{RefusesBlock}
 use Rattle.zarrs_consolidate.specs.Plans.{IsPlan, block_file, group_holding}
@@ -29,13 +28,13 @@ use Rattle.zarrs_consolidate.specs.declared.plan.Task.{Task}
 
 -- the document of the block is one of the files of a node
 file_of_node : (m : GroupMetadata) → Contains node_files (block_file m)
-file_of_node (V3 m) = Contains-first zarr_json (zarray ∷ zgroup ∷ zattrs ∷ zmetadata ∷ [])
-file_of_node (V2 m) = Contains-append_right (zarr_json ∷ zarray ∷ zgroup ∷ zattrs ∷ []) (zmetadata ∷ []) zmetadata (Contains-first zmetadata [])
+file_of_node (V3 m) = has_zarr_json
+file_of_node (V2 m) = has_zmetadata
 
-module _ (S L : Contents) (b : Path) (loaded : IsLoadedFrom S L b) where
+module _ (S L : Contents) (b : Path) (loaded : IsLoadedFrom Deciding S L b) where
   -- both open the same at b
   same : OpenSame S L Never b
-  same = loaded_opens_same S L b loaded Never
+  same = loaded_opens_same Deciding S L b loaded Never
 
   -- below a group both list the same
   lists : (m : GroupMetadata) → meaning S Default b ≡ node (Group m) → ListSame S L b
@@ -89,13 +88,13 @@ refused_of_some task b L (Ok plan) h = tt
 refused_of_some task b L (Err e) h = inr (L, h)
 
 -- a plan over what was loaded is one over each store from which it was
-pub planned_of_each : (task : Task) (b : Path) (L : Values) (P : Values → Type 0) (r : Result Plan ConsolidateError) → ((V : Values) → P V → IsLoadedFrom (in_any V) (in_any L) b)
+pub planned_of_each : (task : Task) (b : Path) (L : Values) (P : Values → Type 0) (r : Result Plan ConsolidateError) → ((V : Values) → P V → IsLoadedFrom Deciding (in_any V) (in_any L) b)
     → IfOk r (IsPlan (in_any L) task b) → IfOk r (λ plan. (V : Values) → P V → IsPlan (in_any V) task b plan)
 planned_of_each task b L P (Ok plan) loaded h = λ V p. plan_over (in_any V) (in_any L) b (loaded V p) task plan h
 planned_of_each task b L P (Err e) loaded h = tt
 
 -- what refuses it refuses it over each
-pub refused_of_each : (task : Task) (b : Path) (L : Values) (P : Values → Type 0) (r : Result Plan ConsolidateError) → ((V : Values) → P V → IsLoadedFrom (in_any V) (in_any L) b)
+pub refused_of_each : (task : Task) (b : Path) (L : Values) (P : Values → Type 0) (r : Result Plan ConsolidateError) → ((V : Values) → P V → IsLoadedFrom Deciding (in_any V) (in_any L) b)
     → IfErr r (RefusesPlan false (in_any L) task b) → IfErr r (RefusesPlanOfEach P task b)
 refused_of_each task b L P (Ok plan) loaded h = tt
 refused_of_each task b L P (Err e) loaded h = inr (λ V p. refused_over (in_any V) (in_any L) b (loaded V p) task e h)

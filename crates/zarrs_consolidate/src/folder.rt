@@ -9,7 +9,7 @@ use crate::fault::ConsolidateError;
 use crate::plan::{Plan, Task, plan_block};
 use log::Log;
 use std::alloc::Global;
-use zarrs_folder::{Folder, load_nodes};
+use zarrs_folder::{Documents, Folder, load_nodes};
 use zarrs_path::NodePath;
 
 /// What becomes of the block of the group at a path of a folder, as [`plan_block`] says of a store: of each store with which all answers of the folder agree.
@@ -33,6 +33,6 @@ pub fn plan_in_folder<L: Log, F: Folder>(
     ensures each_refused { IfErr result (RefusesPlanOfEach (F.agrees folder.new) task base.now) }
     ensures unread { IfErr result (IsOfFolder (F.can_fail folder.new)) }
 {
-    let store = load_nodes(alloc, folder, base)?;
+    let store = load_nodes(alloc, folder, Documents::Deciding, base)?;
     plan_block(log, alloc, task, &store, base)
 }
