@@ -158,6 +158,44 @@ fn notes_are_told_where_they_are_asked_for(rt: HostRuntime) {
     assert_told(&rt, NOTES_TOLD);
 }
 
+// Groups of both versions with what a run of writing left, one with a document beside too, and an array with such files.
+const LEFT: &[(&str, &str)] = &[
+    ("zarr.json", GROUP),
+    ("zarr.json.zarrs_new", "{"),
+    (".zgroup", ""),
+    ("a/zarr.json", ARRAY),
+    ("a/zarr.json.zarrs_new", ""),
+    ("a/.zmetadata.zarrs_new", ""),
+    ("b/.zgroup", r#"{"zarr_format":2}"#),
+    ("b/.zmetadata.zarrs_new", ""),
+    ("b/zarr.json.zarrs_new", ""),
+];
+
+// They are told as notes, behind what is beside.
+const LEFT_TOLD: &[Told] = &[
+    Told {
+        word: NOTES,
+        documents: LEFT,
+        path: "/",
+        output: "note: /: beside: .zgroup is not read, since zarr.json stands there too\nnote: /: left over: zarr.json.zarrs_new is of a run that was broken off, or that still writes\nnote: /b: left over: .zmetadata.zarrs_new is of a run that was broken off, or that still writes\n",
+        errors: "zarrs: 3 nodes, 0 findings, 3 notes\n",
+        status: 0,
+    },
+    Told {
+        word: NOTES_JSON,
+        documents: LEFT,
+        path: "/b",
+        output: "[{\"block\":null,\"key\":null,\"kind\":\"left-over\",\"path\":\"/b\",\"text\":\"left over: .zmetadata.zarrs_new is of a run that was broken off, or that still writes\"}]\n",
+        errors: "zarrs: 1 node, 0 findings, 1 note\n",
+        status: 0,
+    },
+];
+
+#[test]
+fn what_a_run_of_writing_left_is_a_note(rt: HostRuntime) {
+    assert_told(&rt, LEFT_TOLD);
+}
+
 // Documents below no document, and below bad ones.
 const UNREACHED: &[Told] = &[
     Told {

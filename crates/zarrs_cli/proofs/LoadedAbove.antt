@@ -3,6 +3,7 @@ use Rattle.std.proofs.Common.{◌≡◌, ◌↔◌, inl, inr, ⊎_elim, Some, Ok
 use Rattle.std.specs.Prelude.{option_map, codes}
 use Rattle.serde_json.specs.Find.{get_member}
 use Rattle.zarrs_store.specs.Contents.{Contents}
+use Rattle.zarrs_path.specs.Keys.{zmetadata}
 use Rattle.zarrs_path.specs.Paths.{Path, IsBelow}
 use Rattle.zarrs_form.specs.Documents.{of_bytes}
 use Rattle.zarrs_meta.specs.declared.node.GroupMetadata.TheVariants.{V2, V3}
@@ -14,7 +15,6 @@ use Rattle.zarrs_block.specs.Meaning.{meaning, node}
 use Rattle.zarrs_block.specs.Zmetadata.{zmetadata_in}
 use Rattle.zarrs_node.specs.Exists.{HasNodeKey}
 use Rattle.zarrs_node.proofs.KeptOfLists.{not_below_itself}
-use Rattle.zarrs_notes.specs.declared.file.NodeFile.TheVariants as file
 use Rattle.zarrs_survey.specs.BlocksAbove.{MeansNoArray, HasNodeFrom, HasBadFrom, IsAboveFinding}
 use Rattle.zarrs_survey.specs.Checks.{block_read}
 use Rattle.zarrs_survey.specs.Findings.{IsAtOrAbove, IsPathFinding}
@@ -22,12 +22,14 @@ use Rattle.zarrs_block.specs.Meaning.{Pair}
 use Rattle.zarrs_survey.specs.declared.finding.Finding.{Finding}
 use Rattle.zarrs_survey.specs.declared.finding.FindingKind.TheVariants.{Stale}
 use Rattle.zarrs_survey.proofs.Blocks.{finding_same}
+use Rattle.zarrs_folder.proofs.DecidingDocuments.{has_zmetadata}
+use Rattle.zarrs_folder.specs.declared.documents.Documents.TheVariants.{All}
 use Rattle.zarrs_folder.specs.PrunedStores.{IsLoadedFrom}
 use Rattle.zarrs_folder.proofs.PrunedListings.{base_shows_same, pruned_shows_same}
 use Rattle.zarrs_cli.specs.StepsOfRuns.{HoldsAbove, IsSettledAbove}
 use Rattle.zarrs_cli.specs.Report.{IsAboveRemark}
 use Rattle.zarrs_cli.specs.declared.remark.Remark.{Remark}
-use Rattle.zarrs_cli.proofs.LoadedReports.{IsLone, bad_paths_same, document_over, node_key_back, node_key_or, nodes_same, same_documents}
+use Rattle.zarrs_cli.proofs.LoadedReports.{IsLone, bad_paths_same, document_over, node_key_back, node_key_or, nodes_same}
 use Rattle.zarrs_cli.proofs.ToldRemarks.{no_array}
 
 -- an entry at p of the block of a group g above b, from b on, that is no node, and at or below no bad document
@@ -40,7 +42,7 @@ pub record IsLoneAbove (S : Contents) (b g p : Path) : Type 0 where
   pub lone : IsLone (Entries block g) (HasNodeFrom S Default b) (HasBadFrom S Default b) p
   pub place : IsAtOrAbove b p
 
-module _ (S L : Contents) (b : Path) (loaded : IsLoadedFrom S L b) (above : HoldsAbove S L b) where
+module _ (S L : Contents) (b : Path) (loaded : IsLoadedFrom All S L b) (above : HoldsAbove S L b) where
   -- b means the same
   base_same : meaning L Default b ≡ meaning S Default b
   base_same = (base_shows_same S L b loaded.base).0 Default
@@ -52,7 +54,7 @@ module _ (S L : Contents) (b : Path) (loaded : IsLoadedFrom S L b) (above : Hold
   -- and the same is read as its block
   reads_above : (g : Path) → IsBelow g b → (m : NodeMetadata) → block_read L g m ≡ block_read S g m
   reads_above g low (Group (V3 x)) = ap (λ n. option_map (block_of_in n) (get_member (codes "consolidated_metadata") x.additional_fields)) loaded.base.numbers
-  reads_above g low (Group (V2 x)) = λ i. option_map (λ bytes. of_bytes (zmetadata_in (loaded.base.numbers i)) bytes) (same_documents S L g (above g low) file.Zmetadata i)
+  reads_above g low (Group (V2 x)) = λ i. option_map (λ bytes. of_bytes (zmetadata_in (loaded.base.numbers i)) bytes) (above g low zmetadata has_zmetadata i)
   reads_above g low (Array a) = refl
 
   -- where the one has no array at b, the other has none

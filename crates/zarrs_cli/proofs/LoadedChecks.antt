@@ -11,7 +11,7 @@ use Rattle.zarrs_cli.specs.declared.words.CheckOptions.{CheckOptions}
 use Rattle.zarrs_cli.specs.StepsOfRuns.{IsCheckable}
 use Rattle.zarrs_cli.specs.Report.{IsArrayRemark, IsArrayReport, IsReportFrom}
 use Rattle.zarrs_cli.proofs.LoadedAbove.{above_remarks_same}
-use Rattle.zarrs_cli.proofs.LoadedReports.{either_same, loaded_report, node_remarks_same, same_reported}
+use Rattle.zarrs_cli.proofs.LoadedReports.{either_same, loaded_report, array_remarks_same, same_reported}
 
 -- a path that means the same means an array in both
 array_same : (S L : Contents) (b : Path) → meaning L Default b ≡ meaning S Default b → IsArrayAt S b → IsArrayAt L b
@@ -23,7 +23,7 @@ module _ (S L : Contents) (b : Path) (h : IsCheckable S L b) (options : CheckOpt
   array_report_over (m, is, r) = (
     m,
     (sym ((base_shows_same S L b h.loaded.base).0 Default) ∙ is.0, is.1),
-    same_reported (IsArrayRemark L b m) (IsArrayRemark S b m) (λ x. either_same (node_remarks_same S L b m h.loaded.base.documents x) (above_remarks_same S L b h.loaded h.above h.settled x)) options 1 tally text r,
+    same_reported (IsArrayRemark L b m) (IsArrayRemark S b m) (λ x. either_same (array_remarks_same S L b m is.1 h.loaded.base.documents x) (above_remarks_same S L b h.loaded h.above h.settled x)) options 1 tally text r,
   )
 
   -- the report on a loaded store is that on the whole

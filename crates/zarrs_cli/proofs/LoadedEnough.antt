@@ -18,6 +18,7 @@ use Rattle.zarrs_survey.specs.declared.finding.FindingKind.TheVariants.{Stale}
 use Rattle.zarrs_survey.specs.declared.path_check.CheckedFrom.{CheckedFrom}
 use Rattle.zarrs_survey.specs.declared.path_check.CheckedFrom.TheVariants.{Array, Tree}
 use Rattle.zarrs_survey.specs.declared.path_check.PathCheck.{PathCheck}
+use Rattle.zarrs_folder.specs.declared.documents.Documents.TheVariants.{All}
 use Rattle.zarrs_folder.specs.PrunedStores.{Grows, IsArrayAt, IsLoadedFrom}
 use Rattle.zarrs_folder.specs.PassedPaths.{HoldsBelow, HoldsFilesOf, IsPassed}
 use Rattle.zarrs_folder.proofs.PrunedListings.{base_shows_same, pruned_shows_same}
@@ -58,7 +59,7 @@ module _ (s : Contents) (b : Path) (c : PathCheck) (h : IsPathCheckOf s Default 
 
 -- ---- a store of which more was loaded
 
-module _ (S L K M : Contents) (b : Path) (old : IsLoadedFrom S L b) (upper : HoldsAbove S L b) (new : IsLoadedFrom S M b) (first : Grows S.values L.values K.values) (then : Grows S.values K.values M.values) where
+module _ (S L K M : Contents) (b : Path) (old : IsLoadedFrom All S L b) (upper : HoldsAbove S L b) (new : IsLoadedFrom All S M b) (first : Grows S.values L.values K.values) (then : Grows S.values K.values M.values) where
   -- it has the files above too
   still_above : HoldsAbove S M b
   still_above g low file in' = then.same (g ++ file ∷ []) (first.same (g ++ file ∷ []) (upper g low file in'))
@@ -134,7 +135,7 @@ none_more c h =
     )
 
 -- where a check of a loaded store has no more, the store is enough for it
-pub whole_settled : (S L : Contents) (b : Path) (c : PathCheck) → IsLoadedFrom S L b → HoldsAbove S L b → IsPathCheckOf L Default b c → has_more c ≡ false → IsCheckable S L b
+pub whole_settled : (S L : Contents) (b : Path) (c : PathCheck) → IsLoadedFrom All S L b → HoldsAbove S L b → IsPathCheckOf L Default b c → has_more c ≡ false → IsCheckable S L b
 whole_settled S L b c loaded upper checked done =
     let none = none_more c done in
     record {

@@ -21,7 +21,7 @@ use Rattle.zarrs_store.proofs.Cuts.{parts-append, parts_one, prefix_text-cons, s
 use Rattle.zarrs_path.specs.Paths.{Path, path_cmp}
 use Rattle.zarrs_path.specs.PathOrder.{path_decides, path_ties, path_total}
 use Rattle.zarrs_cli.specs.declared.kind.RemarkKind.{RemarkKind}
-use Rattle.zarrs_cli.specs.declared.kind.RemarkKind.TheVariants.{BadDocument, BadName, NoNode, Orphaned, BadShape, NotOpened, BadBlock, BadKey, Shadowed, OwnKey, OwnAttributes, Differs, Unreachable, Stale, Unreached, Missing, Misplaced, Beside, Alike}
+use Rattle.zarrs_cli.specs.declared.kind.RemarkKind.TheVariants.{BadDocument, BadName, NoNode, Orphaned, BadShape, NotOpened, BadBlock, BadKey, Shadowed, OwnKey, OwnAttributes, Differs, Unreachable, Stale, Unreached, Missing, Misplaced, Beside, Alike, LeftOver}
 use Rattle.zarrs_cli.specs.declared.remark.Remark.{Remark}
 use Rattle.zarrs_cli.specs.Kinds.{kind_word}
 use Rattle.zarrs_cli.specs.Report.{is_asked, remark_cmp, RemarksAscend}
@@ -93,7 +93,7 @@ kind_named word =
     (cond (bytes_eq word (codes "differs")) Differs
     (cond (bytes_eq word (codes "unreachable")) Unreachable
     (cond (bytes_eq word (codes "stale")) Stale
-    (cond (bytes_eq word (codes "missing")) Missing (cond (bytes_eq word (codes "misplaced")) Misplaced (cond (bytes_eq word (codes "beside")) Beside Alike)))))))))))))))))
+    (cond (bytes_eq word (codes "missing")) Missing (cond (bytes_eq word (codes "misplaced")) Misplaced (cond (bytes_eq word (codes "beside")) Beside (cond (bytes_eq word (codes "alike")) Alike LeftOver))))))))))))))))))
 
 -- the word for a kind names it
 kind_named_back : (kind : RemarkKind) → kind_named (kind_word kind) ≡ kind
@@ -117,6 +117,7 @@ kind_named_back Missing = refl
 kind_named_back Misplaced = refl
 kind_named_back Beside = refl
 kind_named_back Alike = refl
+kind_named_back LeftOver = refl
 
 -- groups that are level are one
 level_groups : (g h : Option Path) → option_cmp path_cmp g h ≡ Equal → g ≡ h

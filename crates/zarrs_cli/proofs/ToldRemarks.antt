@@ -228,6 +228,7 @@ IsTold remark.BadShape = Unit {0}
 IsTold remark.NotOpened = Unit {0}
 IsTold remark.Misplaced = Unit {0}
 IsTold remark.Beside = Unit {0}
+IsTold remark.LeftOver = Unit {0}
 IsTold _ = ⊥
 
 -- it is of each of these
@@ -239,6 +240,7 @@ told_is (told.UnknownField name) = tt
 told_is (told.DemandingBlock group) = tt
 told_is told.MisplacedBlock = tt
 told_is (told.Beside file document) = tt
+told_is (told.LeftOver file) = tt
 
 -- and of no error
 error_is_not : (e : NodeCreateError) → IsTold (error_kind e) → ⊥
@@ -286,6 +288,7 @@ told_not_alike (told.UnknownField name) h = h
 told_not_alike (told.DemandingBlock group) h = h
 told_not_alike told.MisplacedBlock h = h
 told_not_alike (told.Beside file document) h = h
+told_not_alike (told.LeftOver file) h = h
 
 -- the remark on a bad document and its number
 abbrev paired : (Path × NodeCreateError) × ℕ → Remark

@@ -4,9 +4,18 @@ use Rattle.std.proofs.Math.Seq.{take-append_seam}
 use Rattle.zarrs_notes.specs.Demands.{block_name}
 use Rattle.zarrs_notes.specs.FindingTexts.{node_finding_text}
 use Rattle.zarrs_notes.specs.NodeFindings.{place_of, field_of}
-use Rattle.zarrs_notes.specs.declared.file.NodeFile.TheVariants.{ZarrJson, Zarray, Zgroup, Zattrs, Zmetadata}
+use Rattle.zarrs_notes.specs.declared.file.NodeFile.TheVariants.{ZarrJson, Zarray, Zgroup, Zattrs, Zmetadata, NewZarrJson, NewZmetadata}
 use Rattle.zarrs_notes.specs.declared.finding.NodeFinding.{NodeFinding}
-use Rattle.zarrs_notes.specs.declared.finding.NodeFinding.TheVariants.{GridRank, ZeroLength, NameCount, UnknownField, DemandingBlock, MisplacedBlock, Beside}
+use Rattle.zarrs_notes.specs.declared.finding.NodeFinding.TheVariants.{GridRank, ZeroLength, NameCount, UnknownField, DemandingBlock, MisplacedBlock, Beside, LeftOver}
+
+-- the place of the document whose name a text begins with, and a blank behind it
+file_in : List ℕ → ℕ
+file_in t =
+    cond (bytes_eq (take 10 t) (codes "zarr.json ")) 5
+    (cond (bytes_eq (take 8 t) (codes ".zarray ")) 6
+    (cond (bytes_eq (take 8 t) (codes ".zgroup ")) 7
+    (cond (bytes_eq (take 8 t) (codes ".zattrs ")) 8
+    (cond (bytes_eq (take 11 t) (codes ".zmetadata ")) 9 (cond (bytes_eq (take 10 t) (codes "zarr.json.")) 10 11)))))
 
 -- the place that a text tells
 place_in : List ℕ → ℕ
@@ -15,13 +24,11 @@ place_in t =
     (cond (bytes_eq (take 15 t) (codes "bad shape: a ch")) 1
     (cond (bytes_eq (take 15 t) (codes "bad shape: ther")) 2
     (cond (bytes_eq (take 10 t) (codes "not opened")) 3
-    (cond (bytes_eq (take 9 t) (codes "misplaced")) 4
-    (cond (bytes_eq (take 11 t) (codes "beside: zar")) 5
-    (cond (bytes_eq (take 11 t) (codes "beside: .za")) (cond (bytes_eq (take 12 t) (codes "beside: .zar")) 6 8) (cond (bytes_eq (take 11 t) (codes "beside: .zg")) 7 9)))))))
+    (cond (bytes_eq (take 9 t) (codes "misplaced")) 4 (cond (bytes_eq (take 6 t) (codes "beside")) (file_in (drop 8 t)) (file_in (drop 11 t)))))))
 
 -- is that of what has the text
 place_back : (f : NodeFinding) → place_in (node_finding_text f) ≡ place_of f
-unfolding place_in
+unfolding place_in file_in
 place_back (GridRank lengths shape) = refl
 place_back ZeroLength = refl
 place_back (NameCount names shape) = refl
@@ -33,6 +40,15 @@ place_back (Beside Zarray document) = refl
 place_back (Beside Zgroup document) = refl
 place_back (Beside Zattrs document) = refl
 place_back (Beside Zmetadata document) = refl
+place_back (Beside NewZarrJson document) = refl
+place_back (Beside NewZmetadata document) = refl
+place_back (LeftOver ZarrJson) = refl
+place_back (LeftOver Zarray) = refl
+place_back (LeftOver Zgroup) = refl
+place_back (LeftOver Zattrs) = refl
+place_back (LeftOver Zmetadata) = refl
+place_back (LeftOver NewZarrJson) = refl
+place_back (LeftOver NewZmetadata) = refl
 
 -- the field that a text tells
 field_in : List ℕ → List ℕ
@@ -56,6 +72,15 @@ field_back (Beside Zarray document) = refl
 field_back (Beside Zgroup document) = refl
 field_back (Beside Zattrs document) = refl
 field_back (Beside Zmetadata document) = refl
+field_back (Beside NewZarrJson document) = refl
+field_back (Beside NewZmetadata document) = refl
+field_back (LeftOver ZarrJson) = refl
+field_back (LeftOver Zarray) = refl
+field_back (LeftOver Zgroup) = refl
+field_back (LeftOver Zattrs) = refl
+field_back (LeftOver Zmetadata) = refl
+field_back (LeftOver NewZarrJson) = refl
+field_back (LeftOver NewZmetadata) = refl
 
 -- what has one text has one place
 pub places_same : (f h : NodeFinding) → node_finding_text f ≡ node_finding_text h → place_of f ≡ place_of h

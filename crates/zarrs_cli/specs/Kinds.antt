@@ -19,7 +19,7 @@ use Rattle.zarrs_cli.specs.declared.kind.RemarkKind.{RemarkKind}
 use Rattle.zarrs_cli.specs.declared.kind.RemarkKind.TheVariants.{BadDocument, BadName, NoNode, Orphaned, BadShape}
 use Rattle.zarrs_cli.specs.declared.kind.RemarkKind.TheVariants.{NotOpened, BadBlock, BadKey, Shadowed, OwnKey}
 use Rattle.zarrs_cli.specs.declared.kind.RemarkKind.TheVariants.{OwnAttributes, Differs, Unreachable, Stale, Unreached}
-use Rattle.zarrs_cli.specs.declared.kind.RemarkKind.TheVariants.{Missing, Misplaced, Beside, Alike}
+use Rattle.zarrs_cli.specs.declared.kind.RemarkKind.TheVariants.{Missing, Misplaced, Beside, Alike, LeftOver}
 
 -- the word for a kind
 abbrev pub kind_word : RemarkKind → List ℕ
@@ -42,13 +42,15 @@ kind_word Missing = codes "missing"
 kind_word Misplaced = codes "misplaced"
 kind_word Beside = codes "beside"
 kind_word Alike = codes "alike"
+kind_word LeftOver = codes "left-over"
 
 -- a note is worth knowing, and no reader goes wrong by it: a block of an array, a document beside the one that is
--- read, and names that differ in case alone
+-- read, names that differ in case alone, and a file of a run of writing
 abbrev pub is_note_kind : RemarkKind → Bool
 is_note_kind Misplaced = true
 is_note_kind Beside = true
 is_note_kind Alike = true
+is_note_kind LeftOver = true
 is_note_kind _ = false
 
 -- a node is refused since there is no document, or since that is bad
@@ -56,8 +58,8 @@ abbrev pub error_kind : NodeCreateError → RemarkKind
 error_kind (MissingMetadata text) = NoNode
 error_kind _ = BadDocument
 
--- what the own documents of a node tell: that its dimensions do not fit, that a reader refuses to open it, or what is
--- not read
+-- what the own documents of a node tell: that its dimensions do not fit, that a reader refuses to open it, what is not
+-- read, or what a run of writing left
 abbrev pub told_kind : NodeFinding → RemarkKind
 told_kind (told.GridRank lengths shape) = BadShape
 told_kind told.ZeroLength = BadShape
@@ -66,6 +68,7 @@ told_kind (told.UnknownField name) = NotOpened
 told_kind (told.DemandingBlock group) = NotOpened
 told_kind told.MisplacedBlock = Misplaced
 told_kind (told.Beside file document) = Beside
+told_kind (told.LeftOver file) = LeftOver
 
 -- what is wrong with a block
 abbrev pub finding_kind : FindingKind → RemarkKind

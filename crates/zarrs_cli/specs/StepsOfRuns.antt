@@ -22,6 +22,7 @@ use Rattle.zarrs_survey.specs.declared.finding.FindingKind.TheVariants.{Stale}
 use Rattle.zarrs_folder.specs.Folders.{in_any, values_of}
 use Rattle.zarrs_folder.specs.Openings.{OpenSame}
 use Rattle.zarrs_folder.specs.PassedPaths.{IsPassed}
+use Rattle.zarrs_folder.specs.declared.documents.Documents.TheVariants.{All}
 use Rattle.zarrs_folder.specs.PrunedStores.{HasSameFiles, IsArrayAt, IsLoadedFrom}
 use Rattle.zarrs_cli.specs.declared.folder.Loaded.{Loaded}
 use Rattle.zarrs_cli.specs.declared.words.Word.{Word}
@@ -69,7 +70,7 @@ IsSettledAbove S L b = (f : Finding) → IsAboveFinding L Default b f → f.kind
 -- L has enough of S for a check from b on: it is loaded from S; where b means no array its stale entries are settled,
 -- and it has what is passed; it has the files above b, and the stale entries of the blocks there are settled
 pub record IsCheckable (S L : Contents) (b : Path) : Type 0 where
-  pub loaded : IsLoadedFrom S L b
+  pub loaded : IsLoadedFrom All S L b
   pub from : (IsArrayAt S b → ⊥) → IsSettledOver S L b × HoldsPassed S L b
   pub above : HoldsAbove S L b
   pub settled : IsSettledAbove S L b

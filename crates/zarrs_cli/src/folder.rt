@@ -11,6 +11,7 @@ ghost use Rattle.zarrs_node.specs.OpeningNodes.{choice};
 ghost use Rattle.zarrs_folder.specs.Folders.{in_any, values_of};
 ghost use Rattle.zarrs_folder.specs.Openings.{OpenSame};
 ghost use Rattle.zarrs_folder.specs.PrunedStores.{IsLoadedFrom};
+ghost use Rattle.zarrs_folder.specs.declared.documents.Documents.TheVariants.{All};
 ghost use Rattle.zarrs_cli.specs.Output.{IsWordText, WritesOverEach, WritesOverSome};
 ghost use Rattle.zarrs_cli.specs.Refusals.{IsUnreadOnlyOf, RefusesFolder, RefusesOverEach, RefusesOverSome};
 ghost use Rattle.zarrs_survey.specs.PathChecks.{IsPathCheckOf};
@@ -24,9 +25,12 @@ use log::Log;
 use log::sink::Discard;
 use std::alloc::{AllocError, Global};
 use std::io::Write;
+use std::mem;
 use zarrs_block::NodeCreateError;
 use zarrs_config::{MetadataRetrieveVersion, UseConsolidatedMetadata};
-use zarrs_folder::{Folder, load_base, load_below, load_nodes, load_passed, load_paths};
+use zarrs_folder::{
+    Documents, Folder, load_base, load_children, load_nodes, load_passed, load_paths,
+};
 use zarrs_meta::NodeMetadata;
 use zarrs_node::{Node, consolidated_metadata_at};
 use zarrs_path::NodePath;
@@ -37,7 +41,8 @@ use zarrs_store::{
 use zarrs_survey::{BadDocuments, CheckedFrom, Finding, FindingKind, PathCheck};
 
 /// Loads what a word asks of a folder from a path on, and writes its answer, as [`run_store`] does: of a group whose block is used, of an array, and where a
-/// document is shown, the documents at the path only; else what a walk from the path on asks. Documents may hold any number.
+/// document is shown, the documents at the path only; else what a walk from the path on asks. Documents may hold any number. The memory of what was loaded
+/// is not given back, since a run ends with its answer.
 ///
 /// # Errors
 /// `Folder`, of a folder that can fail, where a folder or a file is not read; the refusals of [`run_store`].
@@ -76,7 +81,8 @@ struct Loaded {
     checked: Option<PathCheck>,
 }
 
-// What a word writes of a folder from a path on.
+// What a word writes of a folder from a path on. What was loaded is not given back: a run ends with its answer, and to free it piece by piece takes an
+// eighth of a listing's time.
 fn output_of_folder<L: Log, F: Folder>(
     log: &L,
     alloc: Global,
@@ -93,7 +99,9 @@ fn output_of_folder<L: Log, F: Folder>(
 {
     let _valid = base.as_str();
     let loaded = load_for(alloc, word, folder, base)?;
-    output_of_loaded(log, alloc, word, &loaded, base)
+    let made = output_of_loaded(log, alloc, word, &loaded, base);
+    mem::forget(loaded);
+    made
 }
 
 // What a word writes of what was loaded for it.
@@ -179,14 +187,14 @@ fn load_walked<F: Folder>(
     base: &NodePath,
 ) -> Result<AnyNumbers<MemoryStore>, ZarrsFault>
     ensures loaded { IfOk result (λ store. (V : Values) → F.agrees folder.new V
-        → IsLoadedFrom (in_any V) (in_any (values_of store.inner)) base.now) }
+        → IsLoadedFrom All (in_any V) (in_any (values_of store.inner)) base.now) }
     ensures above { IfOk result (λ store. (V : Values) → F.agrees folder.new V
         → HoldsAbove (in_any V) (in_any (values_of store.inner)) base.now) }
     ensures err { IfErr result RefusesFolder }
     ensures unread { IfErr result (IsUnreadOnlyOf (F.can_fail folder.new)) }
 {
     let above = paths_above(alloc, base)?;
-    let store = load_nodes(alloc, folder, base)?;
+    let store = load_nodes(alloc, folder, Documents::All, base)?;
     let store = load_paths(alloc, folder, base, &above, store)?;
     Ok(store)
 }
@@ -268,7 +276,7 @@ fn load_more<F: Folder>(
     store: AnyNumbers<MemoryStore>,
 ) -> Result<AnyNumbers<MemoryStore>, ZarrsFault>
     ensures ok { IfOk result (λ more. (V : Values) → F.agrees folder.new V
-        → IsLoadedFrom (in_any V) (in_any (values_of store.inner)) base.now
+        → IsLoadedFrom All (in_any V) (in_any (values_of store.inner)) base.now
         → HoldsAbove (in_any V) (in_any (values_of store.inner)) base.now
         → IsPathCheckOf (in_any (values_of store.inner)) Default base.now checked
         → IsCheckable (in_any V) (in_any (values_of more.inner)) base.now) }
@@ -359,7 +367,7 @@ fn load_shown<F: Folder>(
     if !is_listed(alloc, &store, base, policy) {
         return Ok(store);
     }
-    let store = load_below(alloc, folder, base, store)?;
+    let store = load_children(alloc, folder, Documents::Deciding, base, store)?;
     Ok(store)
 }
 

@@ -47,6 +47,8 @@ pub enum RemarkKind {
     Beside,
     /// The names of two nodes of a group differ in case alone.
     Alike,
+    /// A file is of a run of writing that was broken off, or that still writes.
+    LeftOver,
 }
 
 impl RemarkKind {
@@ -76,6 +78,7 @@ impl RemarkKind {
             RemarkKind::Misplaced => "misplaced",
             RemarkKind::Beside => "beside",
             RemarkKind::Alike => "alike",
+            RemarkKind::LeftOver => "left-over",
         }
     }
 
@@ -87,7 +90,7 @@ impl RemarkKind {
     {
         matches!(
             self,
-            RemarkKind::Misplaced | RemarkKind::Beside | RemarkKind::Alike
+            RemarkKind::Misplaced | RemarkKind::Beside | RemarkKind::Alike | RemarkKind::LeftOver
         )
     }
 }

@@ -396,6 +396,7 @@ fn told_kind(finding: &NodeFinding) -> RemarkKind
         NodeFinding::DemandingBlock(_) => RemarkKind::NotOpened,
         NodeFinding::MisplacedBlock => RemarkKind::Misplaced,
         NodeFinding::Beside { .. } => RemarkKind::Beside,
+        NodeFinding::LeftOver(_) => RemarkKind::LeftOver,
     }
 }
 

@@ -14,6 +14,7 @@ use crate::words::Word;
 use log::Log;
 use std::alloc::Global;
 use std::io::{Read, Write};
+use std::mem;
 use zarrs_config::UseConsolidatedMetadata;
 use zarrs_path::NodePath;
 use zarrs_program::{path_of, write_whole};
@@ -48,6 +49,7 @@ pub fn run_store<L: Log, S: ReadableStorageTraits + ListableStorageTraits, W: Wr
 }
 
 /// Loads the image that a reader gives, and writes what a word asks of its store from a path on, as [`run_store`] does. Its documents may hold any number.
+/// The memory of the store is not given back, since a run ends with its answer.
 ///
 /// # Errors
 /// `Load` where there is no image; the refusals of [`run_store`].
@@ -67,7 +69,9 @@ pub fn run_of_image<L: Log, R: Read, W: Write>(
         → Keeps (W.contents writer.old) (W.contents writer.new)) }
 {
     let store = load_image(alloc, reader)?;
-    run_store(log, alloc, word, path, &store, writer)
+    let tally = run_store(log, alloc, word, path, &store, writer);
+    mem::forget(store);
+    tally
 }
 
 // What a word writes of a store from a path on.
