@@ -7,6 +7,8 @@ from lib.files import text_of
 
 DOCUMENTS_V2 = (".zarray", ".zgroup", ".zattrs")
 DOCUMENTS = ("zarr.json", *DOCUMENTS_V2, ".zmetadata")
+# What a run of writing that is broken off leaves at a group, of version 3 and of version 2.
+LEFT_OVER = ("zarr.json.zarrs_new", ".zmetadata.zarrs_new")
 
 
 def group_v3(attributes=None, **fields):
