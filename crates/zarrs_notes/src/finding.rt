@@ -1,4 +1,5 @@
 //! What there is to tell of a node.
+ghost use Rattle.std.specs.Fmt.{WritesOnOk};
 ghost use Rattle.std.specs.Prelude.{◌≡◌, Some};
 ghost use Rattle.zarrs_notes.specs.FindingTexts.{node_finding_text};
 ghost use Rattle.zarrs_notes.specs.NodeFindings.{is_note};
@@ -101,12 +102,18 @@ impl fmt::Display for NodeFinding {
                     "beside: {file} is not read, since {document} stands there too"
                 )
             }
-            NodeFinding::LeftOver(file) => {
-                write!(
-                    f,
-                    "left over: {file} is of a run that was broken off, or that still writes"
-                )
-            }
+            NodeFinding::LeftOver(file) => write_left_over(f, file),
         }
     }
+}
+
+// Writes what is told of a file that a run of writing left.
+fn write_left_over<W: fmt::Write>(f: &mut fmt::Formatter<W>, file: &NodeFile) -> fmt::Result
+    ensures { WritesOnOk W.write_str_gives f.old result
+        (node_finding_text (NodeFinding.LeftOver file.now)) f.new }
+{
+    write!(
+        f,
+        "left over: {file} is of a run that was broken off, or that still writes"
+    )
 }
