@@ -1,5 +1,6 @@
-"""Texts: lines of a table in Markdown, paragraphs of some columns, and blanks in the place of what does not count."""
+"""Texts: lines of a table in Markdown, the links to headings, paragraphs of some columns, and blanks in the place of what does not count."""
 
+import itertools
 import re
 import textwrap
 
@@ -14,6 +15,18 @@ def table_line(cells):
 def table_head(titles):
     """The first two lines of a table in Markdown."""
     return f"{table_line(titles)}\n|{'---|' * len(titles)}"
+
+
+def part_of(heading):
+    """The name by which a link leads to a heading, as the usual readers of Markdown make it."""
+    words = re.sub(r"\[([^\]]*)\]\([^)]*\)", r"\1", heading)
+    return re.sub(r"[^\w\- ]", "", words.lower()).replace(" ", "-")
+
+
+def first_difference(here, there):
+    """The number of the first line in which two texts differ, or nothing."""
+    both = enumerate(itertools.zip_longest(here.split("\n"), there.split("\n")), 1)
+    return next((number for number, (one, other) in both if one != other), None)
 
 
 def wrapped(text, rest=""):

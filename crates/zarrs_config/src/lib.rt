@@ -1,5 +1,5 @@
 //! The choices that calls go by: which versions are looked for, written and erased, and when a consolidated block is used.
-//! A value of `Config` stands where another library has settings of the whole program.
+//! A value of `Config`, with a getter and a setter for each choice, stands where another library has settings of the whole program.
 #![tactic(auto)]
 
 mod config;

@@ -1,5 +1,5 @@
-//! Stores that are loaded: from an image, which a reader gives, and from a folder of the file system.
-//! What is read is bounded; contracts see a store as a finite map from keys to bytes.
+//! Stores that are loaded, for any program: from an image, a JSON object from keys to texts that a reader gives, and from a folder of the file
+//! system. What is read is bounded; contracts see a store as a finite map from keys to bytes.
 #![tactic(auto)]
 
 mod fault;

@@ -1,8 +1,8 @@
-//! Stores of keys and bytes: keys and prefixes, the traits that a store has, a store in memory, one that fails at a place, one
+//! Stores of keys and bytes: keys and prefixes, the trait `Store` and the three traits over it, a store in memory, one that fails at a place, one
 //! that takes any number in its documents, and the faults of stores.
 //!
-//! Contracts see a store as a finite map from keys to bytes and the numbers of its documents, a key as its list of segments. Each call is a look-up, the keys or
-//! next segments behind a prefix, or one change.
+//! Contracts see a store as a finite map from keys to bytes and the numbers of its documents, a key as its list of segments. Each call is a look-up,
+//! the keys or next segments behind a prefix, or one change.
 #![tactic(auto)]
 
 mod any_numbers;

@@ -1,5 +1,6 @@
 //! A document of a folder, replaced or removed so that no crash can harm it: at each point the old document stands at its name, or the new
-//! one, whole. That is a law over the calls that are made.
+//! one, whole. That is a law over the calls that are made; of what the system does with them it is supposed. `MemoryPlace`, a folder in
+//! memory, shows that the promises of a `Place` can be kept. `zarrs consolidate` writes by this crate.
 #![tactic(auto)]
 
 mod disk;
