@@ -15,4 +15,4 @@ pub use key::{
     meta_key_v2_group, meta_key_v3,
 };
 pub use node_name::{NodeName, NodeNameError};
-pub use node_path::{NodePath, NodePathError};
+pub use node_path::{NodePath, NodePathError, without_leading_slash};

@@ -329,8 +329,10 @@ impl NodePath {
     }
 }
 
-// The text without one leading slash.
-fn without_leading_slash(text: &str) -> &str
+/// The text without one leading slash: of a relative path that [`NodePath::join`] takes, the names that are joined.
+///
+/// Source: own; `zarrs::node::NodePath::join`.
+pub fn without_leading_slash(text: &str) -> &str
     ensures { result.now ≡ without_leading_slash text.now }
 {
     text.strip_prefix('/').unwrap_or(text)
