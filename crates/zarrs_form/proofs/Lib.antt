@@ -10,9 +10,8 @@ pub mod PlainForms
 pub mod TextLaws
 pub mod ExtensionTexts
 pub mod MemoryLaws
+pub mod PrettyRows
 pub mod PrettyLaid
-pub mod PrettyDeeper
 pub mod PrettyLong
-pub mod PrettyLines
 pub mod PrettyPieces
 pub mod DocumentTexts

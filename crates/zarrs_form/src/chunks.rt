@@ -71,6 +71,10 @@ impl Form for ArrayMetadataV2Order {
             ArrayMetadataV2Order::F => write_text(alloc, out, "F"),
         }
     }
+
+    fn write_at(&self, alloc: Global, out: &mut String, _level: usize) -> Result<(), AllocError> {
+        self.write(alloc, out)
+    }
 }
 
 /// Null stands for a period.
@@ -109,6 +113,10 @@ impl Form for ChunkKeySeparator {
             ChunkKeySeparator::Dot => write_text(alloc, out, "."),
             ChunkKeySeparator::Slash => write_text(alloc, out, "/"),
         }
+    }
+
+    fn write_at(&self, alloc: Global, out: &mut String, _level: usize) -> Result<(), AllocError> {
+        self.write(alloc, out)
     }
 }
 

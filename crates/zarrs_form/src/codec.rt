@@ -5,6 +5,7 @@ ghost use Rattle.zarrs_form.specs.FormsV2.{codec, codec_data, codec_fits};
 
 use crate::form::Form;
 use crate::members::{put_text, take_member};
+use crate::pretty::write_value_at;
 use crate::shapes::{Object, Text};
 use crate::text::write_value;
 use serde_json::Value;
@@ -57,5 +58,9 @@ impl Form for MetadataV2 {
 
     fn write(&self, alloc: Global, out: &mut String) -> Result<(), AllocError> {
         write_value(alloc, out, &self.to_value(alloc)?)
+    }
+
+    fn write_at(&self, alloc: Global, out: &mut String, level: usize) -> Result<(), AllocError> {
+        write_value_at(alloc, out, level, &self.to_value(alloc)?)
     }
 }

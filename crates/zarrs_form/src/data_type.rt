@@ -69,4 +69,11 @@ impl Form for DataTypeMetadataV2 {
             DataTypeMetadataV2::Structured(fields) => fields.write(alloc, out),
         }
     }
+
+    fn write_at(&self, alloc: Global, out: &mut String, level: usize) -> Result<(), AllocError> {
+        match self {
+            DataTypeMetadataV2::Simple(name) => name.write_at(alloc, out, level),
+            DataTypeMetadataV2::Structured(fields) => fields.write_at(alloc, out, level),
+        }
+    }
 }

@@ -6,6 +6,7 @@ ghost use Rattle.zarrs_form.specs.Forms.{extension, extension_object, extension_
 
 use crate::form::{Form, put_member};
 use crate::members::take_member;
+use crate::pretty::{write_last_at, write_row_at};
 use crate::shapes::{Object, Text};
 use crate::text::{write_last, write_row};
 use serde_json::{Map, Value};
@@ -116,6 +117,17 @@ impl Form for MetadataV3 {
         write_row(alloc, out, "configuration", self.configuration.as_ref())?;
         write_row(alloc, out, "must_understand", self.refusal())?;
         write_last(alloc, out, "name", &self.name)
+    }
+
+    fn write_at(&self, alloc: Global, out: &mut String, level: usize) -> Result<(), AllocError> {
+        if self.configuration.is_none() && self.must_understand {
+            return self.name.write(alloc, out);
+        }
+        out.push_str("{")?;
+        let configuration = self.configuration.as_ref();
+        write_row_at(alloc, out, level, "configuration", configuration)?;
+        write_row_at(alloc, out, level, "must_understand", self.refusal())?;
+        write_last_at(alloc, out, level, "name", &self.name)
     }
 }
 

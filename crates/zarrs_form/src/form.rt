@@ -1,18 +1,23 @@
 //! The forms of members: each type reads itself from a JSON value, or says that the value has another
 //! form.
-ghost use Rattle.std.specs.Prelude.{◌≡◌, [], ◌∷◌, ◌++◌, Option, Bool, true, IfOk, OnOk, OnErr, IsTrue, Some, None, option_map, codes, string_bytes};
+ghost use Rattle.std.specs.Prelude.{◌≡◌, [], ◌∷◌, ◌++◌, Option, Bool, true, false, IfOk, OnOk, OnErr, IsTrue, Some, None, option_map, codes, string_bytes};
 ghost use Rattle.serde_json.specs.Data.{Data, boolean, string, object, no_members};
 ghost use Rattle.serde_json.specs.Find.{as_str, as_bool, as_object};
 ghost use Rattle.std.specs.List.{list_all};
 ghost use Rattle.serde_json.specs.View.{view, members_view};
+ghost use Rattle.serde_json.specs.Written as json_written;
 ghost use Rattle.serde_json.specs.Written.{compact_text};
 ghost use Rattle.zarrs_form.specs.Documents as documents;
 ghost use Rattle.zarrs_form.specs.Documents.{Gives, besides};
 ghost use Rattle.zarrs_form.specs.Forms as forms;
+ghost use Rattle.zarrs_form.specs.Pretty.{text_at};
 ghost use Rattle.zarrs_form.specs.Texts.{BeginsWith};
 ghost use Rattle.zarrs_form.specs.Forms.{number_u64, any, nullable, list_of, number_data, list_data, nullable_data, none_or, put_row};
 
 use crate::members::{has_float, take_member};
+use crate::pretty::{
+    deeper, write_close_at, write_line, write_members_at, write_number, write_value_at,
+};
 use crate::shapes::{FillValueMetadata, Json, List, Object, Text};
 use crate::text::{write_comma, write_members, write_text, write_value};
 use serde_json::{Map, Value, put};
@@ -68,6 +73,15 @@ pub trait Form: Sized {
             → BeginsWith (string_bytes out.old ++ compact_text (written self.now))
             (string_bytes out.new)) }
         ensures kept { BeginsWith (string_bytes out.new) (string_bytes out.old) };
+
+    /// Appends the pretty text of what is written of the value, which stands so many levels deep.
+    ///
+    /// # Errors
+    ///
+    /// `AllocError` where there is no memory for it; a beginning of the text may have been appended.
+    fn write_at(&self, alloc: Global, out: &mut String, level: usize) -> Result<(), AllocError>
+        ensures ok { OnOk result (json_written.has_float (written self.now) ≡ false
+            → string_bytes out.new ≡ string_bytes out.old ++ text_at level (written self.now)) };
 }
 
 impl Form for u64 {
@@ -92,6 +106,10 @@ impl Form for u64 {
     fn write(&self, alloc: Global, out: &mut String) -> Result<(), AllocError> {
         write_value(alloc, out, &self.to_value(alloc)?)
     }
+
+    fn write_at(&self, _alloc: Global, out: &mut String, _level: usize) -> Result<(), AllocError> {
+        write_number(out, *self)
+    }
 }
 
 impl Form for bool {
@@ -115,6 +133,10 @@ impl Form for bool {
 
     fn write(&self, _alloc: Global, out: &mut String) -> Result<(), AllocError> {
         out.push_str(if *self { "true" } else { "false" })
+    }
+
+    fn write_at(&self, alloc: Global, out: &mut String, _level: usize) -> Result<(), AllocError> {
+        self.write(alloc, out)
     }
 }
 
@@ -143,6 +165,10 @@ impl Form for Text {
     fn write(&self, alloc: Global, out: &mut String) -> Result<(), AllocError> {
         write_text(alloc, out, self.as_str())
     }
+
+    fn write_at(&self, alloc: Global, out: &mut String, _level: usize) -> Result<(), AllocError> {
+        self.write(alloc, out)
+    }
 }
 
 impl Form for Object {
@@ -170,6 +196,10 @@ impl Form for Object {
     fn write(&self, alloc: Global, out: &mut String) -> Result<(), AllocError> {
         write_members(alloc, out, self.as_slice())
     }
+
+    fn write_at(&self, alloc: Global, out: &mut String, level: usize) -> Result<(), AllocError> {
+        write_members_at(alloc, out, level, self.as_slice())
+    }
 }
 
 impl Form for FillValueMetadata {
@@ -194,6 +224,10 @@ impl Form for FillValueMetadata {
     fn write(&self, alloc: Global, out: &mut String) -> Result<(), AllocError> {
         write_value(alloc, out, self.as_value())
     }
+
+    fn write_at(&self, alloc: Global, out: &mut String, level: usize) -> Result<(), AllocError> {
+        write_value_at(alloc, out, level, self.as_value())
+    }
 }
 
 impl Form for Json {
@@ -217,6 +251,10 @@ impl Form for Json {
 
     fn write(&self, alloc: Global, out: &mut String) -> Result<(), AllocError> {
         write_value(alloc, out, self.as_value())
+    }
+
+    fn write_at(&self, alloc: Global, out: &mut String, level: usize) -> Result<(), AllocError> {
+        write_value_at(alloc, out, level, self.as_value())
     }
 }
 
@@ -256,6 +294,13 @@ impl<T: Form> Form for Option<T> {
         match self {
             None => out.push_str("null"),
             Some(value) => value.write(alloc, out),
+        }
+    }
+
+    fn write_at(&self, alloc: Global, out: &mut String, level: usize) -> Result<(), AllocError> {
+        match self {
+            None => out.push_str("null"),
+            Some(value) => value.write_at(alloc, out, level),
         }
     }
 }
@@ -307,6 +352,20 @@ impl<T: Form + Drop> Form for List<T> {
             item.write(alloc, out)?;
             later = true;
         }
+        out.push_str("]")
+    }
+
+    fn write_at(&self, alloc: Global, out: &mut String, level: usize) -> Result<(), AllocError> {
+        let inner = deeper(level)?;
+        out.push_str("[")?;
+        let mut later = false;
+        for item in self.as_slice() {
+            write_comma(out, later)?;
+            write_line(out, inner)?;
+            item.write_at(alloc, out, inner)?;
+            later = true;
+        }
+        write_close_at(out, later, level)?;
         out.push_str("]")
     }
 }

@@ -1,6 +1,7 @@
 //! The forms of members of Zarr metadata documents, and the parts that metadata are made of. A form reads
 //! a JSON value as one value, or says that the value has another form; what it writes reads back. A
-//! reader of a document is then the table of the format, a line a member.
+//! reader of a document is then the table of the format, a line a member: `required` takes a member out of
+//! a document. `document_text` writes one.
 #![tactic(auto)]
 
 mod chunks;
@@ -32,6 +33,8 @@ pub use members::{
     members_have_float, parse, put_text, refuse, take_member, take_null,
 };
 pub use nesting::is_shallow;
-pub use pretty::write_entry;
+pub use pretty::{
+    write_entry, write_key_at, write_last_at, write_row_at, write_unless_at, write_value_at,
+};
 pub use shapes::{FillValueMetadata, Json, List, Object, Text};
 pub use text::{open_table, write_last, write_row, write_unless};
