@@ -1,6 +1,7 @@
 //! The documents of Zarr groups and arrays, versions 2 and 3: a document means one metadata or one
 //! fault, and what is written of plain metadata reads back. Each type reads itself from bytes or a JSON
-//! value and writes itself as a JSON value or a text; [`laws`] has what holds of the definitions.
+//! value and writes itself as a JSON value or a text; `NodeMetadata` is the metadata of a group or an array
+//! of either version. [`laws`] has what holds of the definitions.
 #![tactic(auto)]
 
 mod array_v2;
