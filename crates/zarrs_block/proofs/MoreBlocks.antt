@@ -37,7 +37,8 @@ use Rattle.zarrs_meta.specs.Laws.{ReadsToo}
 use Rattle.zarrs_meta.proofs.MoreNumbers.{document_too, node_too, zarr_json_too, array_v2_too, group_v2_too, attributes_too}
 use Rattle.zarrs_block.specs.Block.{inline, untrue, nodes_in, nodes, block_of_in}
 use Rattle.zarrs_block.specs.Laws.{WholeBlocksReadTheSame, WholePathsMeanTheSame}
-use Rattle.zarrs_block.specs.Meaning.{Meaning, nothing, Reading, in_bytes, in_trees, document_or_fault, document_from, document_at, version_3_line, version_2_line, attributes_in, zarr_json_line, zarray_line, zgroup_line, meaning_in}
+use Rattle.zarrs_block.specs.DocumentsAtKeys.{Reading, in_bytes, in_trees, document_or_fault, document_from, document_at, attributes_in}
+use Rattle.zarrs_block.specs.Meaning.{Meaning, nothing, version_3_line, version_2_line, zarr_json_line, zarray_line, zgroup_line, meaning_in}
 use Rattle.zarrs_block.specs.Small.{small, small_meaning_in}
 use Rattle.zarrs_block.specs.Zmetadata.{before_last, documents_below, is_bad, is_good, with_node, block_from, block_where_good, small_block_in, zmetadata_members_in, zmetadata_in}
 

@@ -1,12 +1,12 @@
 -- The pretty text of a block is a head, the texts of its nodes in order, and a tail.
-use Rattle.std.proofs.Common.{◌≡◌, ℕ, ◌^◌, ◌<◌, List, [], ◌∷◌, ◌++◌, true, false, not, codes, length, refl, sym, ap, ◌∙◌, append_assoc}
+use Rattle.std.proofs.Common.{◌≡◌, ℕ, ◌^◌, ◌<◌, List, [], ◌∷◌, ◌++◌, Bool, true, false, not, codes, length, refl, sym, ap, ◌∙◌, append_assoc}
 use Rattle.std.proofs.lemmas.Bool.{or_parts}
 use Rattle.json.specs.Layout.{line}
 use Rattle.json.specs.Print.{escape_byte, quoted}
-use Rattle.serde_json.specs.Data.{Members, no_members, member}
+use Rattle.serde_json.specs.Data.{Data, Members, no_members, member}
 use Rattle.serde_json.specs.Written.{comma_if, has_float, members_have_float}
 use Rattle.zarrs_form.specs.Forms.{is_nil}
-use Rattle.zarrs_form.specs.Pretty.{close_line, text_at, members_at, pretty_text}
+use Rattle.zarrs_form.specs.Pretty.{close_line, key_at, text_at, members_at, pretty_text}
 use Rattle.zarrs_form.specs.StepsOfTexts.{entries_text}
 use Rattle.zarrs_form.proofs.PrettyPieces.{piece_pretty}
 use Rattle.zarrs_meta.specs.Node.{node_tree}
@@ -23,6 +23,15 @@ tail = codes "},\n  \"must_understand\": false\n}"
 -- a comma, a line, a key and its value, and then the others, stand together before the close
 regroup : (c l q t r close : List ℕ) → c ++ (l ++ (q ++ 58 ∷ 32 ∷ (t ++ (r ++ close)))) ≡ ((c ++ (l ++ (q ++ 58 ∷ 32 ∷ t))) ++ r) ++ close
 regroup c l q t r close = simp append_assoc
+
+-- a key, a value and more stand together behind what was there
+regroup_entry : (old c l q t r : List ℕ) → ((old ++ (c ++ (l ++ (q ++ 58 ∷ 32 ∷ [])))) ++ t) ++ r ≡ old ++ ((c ++ (l ++ (q ++ 58 ∷ 32 ∷ t))) ++ r)
+regroup_entry old c l q t r = simp append_assoc
+
+-- a key and its value, before the members that are left
+pub entry_pushed : (old a new : List ℕ) (later : Bool) (k : List ℕ) (d : Data) (ms : Members) → a ≡ old ++ key_at later 2 k → new ≡ a ++ text_at 2 d → new ++ entries_text true ms ≡ old ++ entries_text later (member k d ms)
+entry_pushed old a new later k d ms key value =
+    ap (λ s. s ++ entries_text true ms) (value ∙ ap (λ s. s ++ text_at 2 d) key) ∙ regroup_entry old (comma_if later) (line 2) (quoted k) (text_at 2 d) (entries_text true ms)
 
 -- members that follow another are their texts and a close
 later_entries : (ms : Members) → members_at true 1 ms ≡ entries_text true ms ++ (close_line true 1 ++ 125 ∷ [])

@@ -397,3 +397,18 @@ refused_law numbers d f h = by (zmetadata_members_in numbers d) refl h
     by : (r : Result Members MetadataFault) → zmetadata_members_in numbers d ≡ r → steps.◌>>=◌ r (small_block_in numbers) ≡ Err f → IsZmetadataFaultIn numbers d f
     by (Ok ms) is e = let refused = small_refused numbers ms f e in inr (ms, is, refused.0, refused.1)
     by (Err g) is e = let same : g ≡ f = cc in inl (is ∙ ap Err same)
+
+-- what is a clean store reads as the one block that holds it and whose keys ascend
+pub only_law : (numbers : Numbers) (d : Data) (ms : Members) (B : Block) → zmetadata_members_in numbers d ≡ Ok ms → IsCleanIn numbers ms → HoldsStoreIn numbers ms B → IsAscending B → zmetadata_in numbers d ≡ Ok B
+only_law numbers d ms B are clean holds up = by (zmetadata_in numbers d) refl
+  where
+    by : (r : Result Block MetadataFault) → zmetadata_in numbers d ≡ r → zmetadata_in numbers d ≡ Ok B
+    by (Ok C) is =
+        let read = store_law numbers d C is in
+        let same : read.0 ≡ ms = cc in
+        let held : HoldsStoreIn numbers ms C = subst (λ ns. HoldsStoreIn numbers ns C) same read.2 in
+        is ∙ ap Ok (one_block C B (ascending_law numbers d C is) up (λ t m. (λ h. (holds [] t m).1 ((held [] t m).0 h), λ h. (held [] t m).1 ((holds [] t m).0 h))))
+    by (Err f) is = absurd (⊎_elim
+        (λ w. let both : Ok ms ≡ Err f = sym are ∙ w in cc)
+        (λ w. let same : w.0 ≡ ms = cc in w.2 (subst (IsCleanIn numbers) (sym same) clean))
+        (refused_law numbers d f is))

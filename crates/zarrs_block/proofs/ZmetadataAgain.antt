@@ -28,7 +28,8 @@ use Rattle.zarrs_meta.proofs.GroupV2Laws as groups
 use Rattle.zarrs_meta.proofs.ArrayV2Laws as arrays
 use Rattle.zarrs_meta.proofs.PlainNodes.{group_with_is_plain_in, array_with_is_plain_in}
 use Rattle.zarrs_block.specs.Block.{Block, IsAscending, HasValidKeys, Entries, entry, first_some, node_at_key}
-use Rattle.zarrs_block.specs.Meaning.{Meaning, node, nothing, meaning_in, document_at, document_from, document_or_fault, zarray_line, zgroup_line, version_2_line}
+use Rattle.zarrs_block.specs.DocumentsAtKeys.{document_at, document_from, document_or_fault}
+use Rattle.zarrs_block.specs.Meaning.{Meaning, node, nothing, meaning_in, zarray_line, zgroup_line, version_2_line}
 use Rattle.zarrs_fault.specs.declared.numbers.Numbers.{Numbers}
 use Rattle.zarrs_fault.specs.declared.numbers.Numbers.TheVariants.{Whole, Any}
 use Rattle.zarrs_block.specs.Small.{SmallStore, is_document_v2, small, small_meaning_in}

@@ -4,21 +4,15 @@
 -- <https://zarr-specs.readthedocs.io/en/latest/v2/v2.0.html#arrays>
 -- <https://zarr-specs.readthedocs.io/en/latest/v2/v2.0.html#groups>
 -- <https://zarr-specs.readthedocs.io/en/latest/v2/v2.0.html#attributes>
-use Rattle.std.specs.Prelude.{◌≡◌, ℕ, List, [], ◌∷◌, ◌++◌, Option, Some, None, Result, Ok, Err}
-use Rattle.std.specs.FinMap.{FinMap, get}
-use Rattle.serde_json.specs.Data.{Data}
-use Rattle.zarrs_store.specs.Segments.{Segments, key_cmp}
+use Rattle.std.specs.Prelude.{◌≡◌, [], ◌∷◌, ◌++◌, Option, Some, None, Result, Ok, Err}
+use Rattle.std.specs.FinMap.{FinMap}
+use Rattle.zarrs_store.specs.Segments.{key_cmp}
 use Rattle.zarrs_store.specs.Contents.{Contents}
-use Rattle.zarrs_fault.specs.declared.fault.MetadataFault.{MetadataFault}
-use Rattle.zarrs_fault.specs.declared.numbers.Numbers.{Numbers}
 use Rattle.zarrs_store.specs.declared.storage_error.StorageError.{StorageError}
-use Rattle.zarrs_store.specs.declared.storage_error.StorageError.TheVariants.{InvalidMetadata}
 use Rattle.zarrs_path.specs.Paths.{Path}
-use Rattle.zarrs_path.specs.Keys.{zarr_json, zarray, zgroup, zattrs}
-use Rattle.zarrs_form.specs.Documents.{of_bytes}
+use Rattle.zarrs_path.specs.Keys.{zarr_json, zarray, zgroup}
 use Rattle.zarrs_meta.specs.ArrayV2.{array_v2_in}
 use Rattle.zarrs_meta.specs.GroupV2.{group_v2_in}
-use Rattle.zarrs_meta.specs.Attributes.{attributes_document_in}
 use Rattle.zarrs_meta.specs.Node.{zarr_json_in, array_with, group_with}
 use Rattle.zarrs_meta.specs.declared.array_v2.ArrayMetadataV2.{ArrayMetadataV2}
 use Rattle.zarrs_meta.specs.declared.group_v2.GroupMetadataV2.{GroupMetadataV2}
@@ -32,6 +26,7 @@ use Rattle.zarrs_meta.specs.declared.node.ZarrJson.TheVariants.{Node, Version2}
 use Rattle.zarrs_block.specs.declared.node_create_error.NodeCreateError.{NodeCreateError}
 use Rattle.zarrs_block.specs.declared.node_create_error.NodeCreateError.TheVariants.{StorageError as InStore}
 use Rattle.zarrs_block.specs.declared.node_create_error.NodeCreateError.TheVariants.{MetadataVersionMismatch}
+use Rattle.zarrs_block.specs.DocumentsAtKeys.{Reading, in_bytes, document_at, attributes_in}
 use Rattle.zarrs_config.specs.declared.version.MetadataRetrieveVersion.{MetadataRetrieveVersion}
 use Rattle.zarrs_config.specs.declared.version.MetadataRetrieveVersion.TheVariants.{Default, V3, V2}
 
@@ -44,34 +39,6 @@ pub data Meaning : Type 0 where
   node : NodeMetadata → Meaning
   nothing : Meaning
   bad : NodeCreateError → Meaning
-
--- a document as it was read, where a fault names the key
-abbrev pub document_or_fault : {D : Type 0} → Segments → Result D MetadataFault → Result (Option D) StorageError
-document_or_fault key (Ok d) = Ok (Some d)
-document_or_fault key (Err fault) = Err (InvalidMetadata key fault)
-
--- how what stands at the keys of a store reads as a document of a kind, which is given for any numbers
-abbrev pub Reading : Type 0 → Type 1
-Reading V = (D : Type 0) → (Numbers → Data → Result D MetadataFault) → V → Result D MetadataFault
-
--- bytes read as the document that their tree is, which may hold these numbers
-abbrev pub in_bytes : Numbers → Reading (List ℕ)
-in_bytes numbers D document = of_bytes {A = D} (document numbers)
-
--- a tree reads as the document that it is, which may hold these numbers
-abbrev pub in_trees : Numbers → Reading Data
-in_trees numbers D document = document numbers
-
--- the document of what stands at a key, or none where nothing stands there
-abbrev pub document_from : {V D : Type 0} → (V → Result D MetadataFault) → Segments → Option V
-    → Result (Option D) StorageError
-document_from reading key None = Ok None
-document_from reading key (Some x) = document_or_fault key (reading x)
-
--- the document at a key of a store of bytes or of trees, or none where the key is absent
-unfoldable pub document_at : {V D : Type 0} → (V → Result D MetadataFault) → FinMap key_cmp V → Segments
-    → Result (Option D) StorageError
-document_at reading s key = document_from reading key (get s key)
 
 -- by the document `zarr.json` a path means its node or is bad, and where there is none it means what the other
 -- documents say
@@ -90,11 +57,6 @@ version_2_line kind with (Ok (Some d)) (Ok None) after = node (kind d)
 version_2_line kind with (Ok (Some d)) (Ok (Some a)) after = node (kind (with a d))
 version_2_line kind with (Ok (Some d)) (Err e) after = bad (InStore e)
 version_2_line kind with (Err e) attributes after = bad (InStore e)
-
--- the attributes at the key `.zattrs` of a path
-abbrev pub attributes_in : {V : Type 0} → Reading V → FinMap key_cmp V → Path
-    → Result (Option AttributesDocument) StorageError
-attributes_in reading s p = document_at (reading AttributesDocument attributes_document_in) s (p ++ zattrs ∷ [])
 
 -- what `zarr.json` says, before the other documents
 unfoldable pub zarr_json_line : {V : Type 0} → Reading V → FinMap key_cmp V → Path → Meaning → Meaning
@@ -124,10 +86,6 @@ by_lines reading s V2 p = zarray_line reading s p (zgroup_line reading s p nothi
 -- what a path means in a store of bytes or of trees, by the documents that a version admits
 unfoldable pub meaning_in : {V : Type 0} → Reading V → FinMap key_cmp V → MetadataRetrieveVersion → Path → Meaning
 meaning_in reading s v p = by_lines reading s v p
-
--- the attributes at the key `.zattrs` of a path, in a store of bytes
-abbrev pub attributes_at : Contents → Path → Result (Option AttributesDocument) StorageError
-attributes_at s p = attributes_in (in_bytes s.numbers) s.values p
 
 -- what a path means in a store of bytes, by the documents that a version admits
 abbrev pub meaning : Contents → MetadataRetrieveVersion → Path → Meaning

@@ -50,20 +50,33 @@ block_in_group g = group_block Whole g
 abbrev pub block_in : NodeMetadata → Option Block
 block_in m = node_block Whole m
 
--- the choice of a block: under Never none is used, and else the one that there is; where there is none, Auto uses
--- none, and Must makes no choice, since the want of a block is refused
-abbrev pub block_to_use : Option Block → UseConsolidatedMetadata → Option (Option Block)
-block_to_use block Never = Some None
-block_to_use (Some B) Auto = Some (Some B)
-block_to_use (Some B) Must = Some (Some B)
-block_to_use None Auto = Some None
-block_to_use None Must = None
+-- what is chosen for the nodes below a group: a block is used, or the store is listed, or the want of a block is
+-- refused
+pub data Choice : Type 0 where
+  use_block : Block → Choice
+  list_store : Choice
+  refuse : Choice
+
+-- the choice of a block: under Never the store is listed, and else the block that there is is used; where there is
+-- none, Auto lists the store, and Must refuses the want of a block
+abbrev pub block_to_use : Option Block → UseConsolidatedMetadata → Choice
+block_to_use block Never = list_store
+block_to_use (Some B) Auto = use_block B
+block_to_use (Some B) Must = use_block B
+block_to_use None Auto = list_store
+block_to_use None Must = refuse
+
+-- the choice that a call answers: its block is used, or where it answers none the store is listed
+abbrev pub as_choice : Option ConsolidatedMetadata → Choice
+as_choice (Some c) = use_block c.metadata
+as_choice None = list_store
 
 -- the want of a block is refused, and the error says so with the text of p; or out of memory for that text
-abbrev pub RefusesUse : Path → Option (Option Block) → NodeCreateError → Type 0
+abbrev pub RefusesUse : Path → Choice → NodeCreateError → Type 0
 RefusesUse p choice (MissingMetadata text) =
-    (choice ≡ None) × (string_bytes text ≡ codes "Consolidated metadata required but missing on group " ++ path_text p)
-RefusesUse p choice OutOfMemory = choice ≡ None
+    (choice ≡ refuse)
+    × (string_bytes text ≡ codes "Consolidated metadata required but missing on group " ++ path_text p)
+RefusesUse p choice OutOfMemory = choice ≡ refuse
 RefusesUse p choice _ = ⊥
 
 -- the field `consolidated_metadata` of a group, whether it reads as a block or not; a version 2 group has none

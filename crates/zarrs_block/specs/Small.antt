@@ -12,7 +12,8 @@ use Rattle.zarrs_path.specs.Keys.{zarray, zgroup, zattrs}
 use Rattle.zarrs_path.specs.Paths.{Path}
 use Rattle.zarrs_fault.specs.declared.numbers.Numbers.{Numbers}
 use Rattle.zarrs_config.specs.declared.version.MetadataRetrieveVersion.TheVariants.{V2}
-use Rattle.zarrs_block.specs.Meaning.{Meaning, in_trees, meaning_in}
+use Rattle.zarrs_block.specs.DocumentsAtKeys.{in_trees}
+use Rattle.zarrs_block.specs.Meaning.{Meaning, meaning_in}
 
 -- a small store holds JSON trees at some keys
 abbrev pub SmallStore : Type 0

@@ -1,11 +1,13 @@
 -- The version 2 convention of consolidated metadata, the document `.zmetadata` of a group (zarr-python, "Consolidated
 -- metadata"): how it is read as a block, and how it is written.
 -- <https://zarr.readthedocs.io/en/stable/user-guide/consolidated_metadata/>
---     zmetadata_in numbers d, zmetadata_of d      the block that a document is where it may hold these numbers, or
--- its first fault; where they have to be whole
---     HoldsStoreIn, IsCleanIn      what that block has and that nothing below the group is bad, as of any store
+--     HoldsStoreIn, IsCleanIn      what the block of a document has and that nothing below the group is bad, as of
+-- any store
 --     IsZmetadataFaultIn      what refuses a document
 --     HoldsStore, IsClean, IsZmetadataFault      the same, where numbers have to be whole
+--     zmetadata_in numbers d, zmetadata_of d      the block that a document is where it may hold these numbers, or
+-- its first fault; where they have to be whole
+--     ZmetadataHoldsIn, OneBlockHoldsStoreIn      that it is the one block that holds the store and whose keys ascend
 --     zmetadata_tree g B      what is written of a group of version 2 and its block
 --     IsWrittenOf g B d      what the written document has at each key
 --     RefusesZmetadata      what refuses its writing
@@ -68,6 +70,43 @@ before_last [] = []
 before_last (s ∷ []) = []
 before_last (s ∷ t ∷ ss) = s ∷ before_last (t ∷ ss)
 
+-- ---- what is read, as what a store is
+
+-- the block has exactly the paths below any base that mean nodes in the small store behind it, whose documents may
+-- hold these numbers, with their metadata
+abbrev pub HoldsStoreIn : Numbers → Members → Block → Type 0
+HoldsStoreIn numbers ms B = (b : Path) → IsBlockOf (Means (small_meaning_in numbers (small b ms))) b B
+
+-- the same, where numbers have to be whole
+abbrev pub HoldsStore : Members → Block → Type 0
+HoldsStore ms B = HoldsStoreIn Whole ms B
+
+-- below no base a path is bad in the small store behind it, whose documents may hold these numbers, and each document
+-- that counts stands below names
+pub record IsCleanIn (numbers : Numbers) (ms : Members) : Type 0 where
+  pub means : (b : Path) (n : List ℕ) (ns : Path) (e : NodeCreateError)
+      → small_meaning_in numbers (small b ms) (b ++ n ∷ ns) ≢ bad e
+  pub named : All (λ e. IsPath (before_last e.0)) (counted_members ms)
+
+-- the same, where numbers have to be whole
+abbrev pub IsClean : Members → Type 0
+IsClean ms = IsCleanIn Whole ms
+
+-- the document, which may hold these numbers, is none of format 1, and this is its first fault; or it has members
+-- that are no clean store, and the fault is `BadMember` of `metadata`, the member that has them
+abbrev pub IsZmetadataFaultIn : Numbers → Data → MetadataFault → Type 0
+IsZmetadataFaultIn numbers d fault =
+    (zmetadata_members_in numbers d ≡ Err fault)
+    ⊎ ((ms : Members) × (zmetadata_members_in numbers d ≡ Ok ms) × (IsCleanIn numbers ms → ⊥)
+    × (fault ≡ BadMember (codes "metadata")))
+
+-- the same, where numbers have to be whole
+abbrev pub IsZmetadataFault : Data → MetadataFault → Type 0
+IsZmetadataFault d fault = IsZmetadataFaultIn Whole d fault
+
+-- ---- the block as a function of the document: it is the one block that holds the store of the members and whose keys
+-- ---- ascend, as `ZmetadataHoldsIn` and `OneBlockHoldsStoreIn` say
+
 -- the documents that count below the group: those of the group itself have one segment alone
 abbrev pub documents_below : Members → List (Segments × Data)
 documents_below ms = filter (λ e. not (is_nil (before_last e.0))) (counted_members ms)
@@ -108,40 +147,6 @@ zmetadata_in numbers d = steps.◌>>=◌ (zmetadata_members_in numbers d) (small
 abbrev pub zmetadata_of : Data → Result Block MetadataFault
 zmetadata_of d = zmetadata_in Whole d
 
--- ---- what was read, as what a store is
-
--- the block has exactly the paths below any base that mean nodes in the small store behind it, whose documents may
--- hold these numbers, with their metadata
-abbrev pub HoldsStoreIn : Numbers → Members → Block → Type 0
-HoldsStoreIn numbers ms B = (b : Path) → IsBlockOf (Means (small_meaning_in numbers (small b ms))) b B
-
--- the same, where numbers have to be whole
-abbrev pub HoldsStore : Members → Block → Type 0
-HoldsStore ms B = HoldsStoreIn Whole ms B
-
--- below no base a path is bad in the small store behind it, whose documents may hold these numbers, and each document
--- that counts stands below names
-pub record IsCleanIn (numbers : Numbers) (ms : Members) : Type 0 where
-  pub means : (b : Path) (n : List ℕ) (ns : Path) (e : NodeCreateError)
-      → small_meaning_in numbers (small b ms) (b ++ n ∷ ns) ≢ bad e
-  pub named : All (λ e. IsPath (before_last e.0)) (counted_members ms)
-
--- the same, where numbers have to be whole
-abbrev pub IsClean : Members → Type 0
-IsClean ms = IsCleanIn Whole ms
-
--- the document, which may hold these numbers, is none of format 1, and this is its first fault; or it has members
--- that are no clean store, and the fault is `BadMember` of `metadata`, the member that has them
-abbrev pub IsZmetadataFaultIn : Numbers → Data → MetadataFault → Type 0
-IsZmetadataFaultIn numbers d fault =
-    (zmetadata_members_in numbers d ≡ Err fault)
-    ⊎ ((ms : Members) × (zmetadata_members_in numbers d ≡ Ok ms) × (IsCleanIn numbers ms → ⊥)
-    × (fault ≡ BadMember (codes "metadata")))
-
--- the same, where numbers have to be whole
-abbrev pub IsZmetadataFault : Data → MetadataFault → Type 0
-IsZmetadataFault d fault = IsZmetadataFaultIn Whole d fault
-
 -- A document that reads as a block where it may hold these numbers has members; the block holds the store that they
 -- are, in which nothing is bad, and the keys of the block ascend.
 abbrev pub ZmetadataHoldsIn : Numbers → Type 0
@@ -152,6 +157,13 @@ ZmetadataHoldsIn numbers = (d : Data) (B : Block) → zmetadata_in numbers d ≡
 -- The same, where numbers have to be whole.
 abbrev pub ZmetadataHolds : Type 0
 ZmetadataHolds = ZmetadataHoldsIn Whole
+
+-- A document whose members are a store in which nothing is bad, where all may hold these numbers, reads as the block
+-- that holds that store and whose keys ascend: there is no other.
+abbrev pub OneBlockHoldsStoreIn : Numbers → Type 0
+OneBlockHoldsStoreIn numbers =
+    (d : Data) (ms : Members) (B : Block) → zmetadata_members_in numbers d ≡ Ok ms → IsCleanIn numbers ms
+    → HoldsStoreIn numbers ms B → IsAscending B → zmetadata_in numbers d ≡ Ok B
 
 -- ---- the written form
 

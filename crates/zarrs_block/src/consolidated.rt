@@ -9,6 +9,7 @@ ghost use Rattle.zarrs_form.specs.Documents.{Gives, document_in, document_of, fo
 ghost use Rattle.zarrs_form.specs.Forms.{fits_in, is_nil};
 ghost use Rattle.zarrs_meta.specs.Node.{node_in};
 ghost use Rattle.zarrs_block.specs.Block.{IsAscending, node_at_key, put as put_node, inline, untrue, nodes_in, nodes, block_of, block_of_in, documents, block_tree};
+ghost use Rattle.zarrs_block.specs.BlockExpansion.{is_covered};
 
 use crate::asked::{asked_node, asked_owned_node};
 use serde_json::{Map, Value, put};
@@ -83,6 +84,18 @@ impl ConsolidatedMetadataMetadata {
         ensures { option_copied result ≡ node_at_key self.now key.now }
     {
         self.entries.get(key)
+    }
+
+    /// Whether the key begins with a slash, and there are metadata at what stands behind it. Of two such keys the one without the slash counts.
+    ///
+    /// Source: own; `zarrs::node::expand_consolidated_metadata`.
+    pub fn is_covered(&self, key: &str) -> bool
+        ensures { result ≡ is_covered self.now key.now }
+    {
+        match key.strip_prefix('/') {
+            Some(rest) => self.get(rest).is_some(),
+            None => false,
+        }
     }
 
     /// Puts metadata at a key, in the place of those that were there. After an error nothing is changed.

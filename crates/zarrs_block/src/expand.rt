@@ -87,21 +87,11 @@ fn covered_keys(
 {
     let mut covered = Map::new(alloc);
     for key in keys_below(alloc, block, "")? {
-        if is_covered(block, key.as_str()) {
+        if block.is_covered(key.as_str()) {
             drop(covered.insert(key, ())?);
         }
     }
     Ok(covered)
-}
-
-// Whether the key begins with a slash, and the block has what stands behind that.
-fn is_covered(block: &ConsolidatedMetadataMetadata, key: &str) -> bool
-    ensures { result ≡ is_covered block.now key.now }
-{
-    match key.strip_prefix('/') {
-        Some(rest) => block.get(rest).is_some(),
-        None => false,
-    }
 }
 
 // The path of a key, or `None` for a key of the base itself, and for a covered key.

@@ -2,7 +2,7 @@
 ghost use Rattle.std.specs.Prelude.{◌≡◌, Ok};
 ghost use Rattle.zarrs_block.specs.Block.{HasPlainNodes, HasPlainNodesIn, block_of, block_of_in, block_tree};
 ghost use Rattle.zarrs_block.specs.Laws.{WholeBlocksReadTheSame, WholePathsMeanTheSame};
-ghost use Rattle.zarrs_block.specs.Zmetadata.{ZmetadataHolds, ZmetadataHoldsIn, WrittenHoldsDocuments, WrittenReadsBack, WrittenReadsBackIn};
+ghost use Rattle.zarrs_block.specs.Zmetadata.{ZmetadataHolds, ZmetadataHoldsIn, OneBlockHoldsStoreIn, WrittenHoldsDocuments, WrittenReadsBack, WrittenReadsBackIn};
 
 use crate::consolidated::ConsolidatedMetadata;
 use zarrs_store::Numbers;
@@ -34,6 +34,14 @@ pub fn zmetadata_holds_store()
 /// Source: zarr-python, consolidated metadata of version 2.
 pub fn zmetadata_holds_store_in(numbers: Numbers)
     ensures { ZmetadataHoldsIn numbers }
+{}
+
+/// It is the only block that does so: a document whose members are a store in which nothing is bad reads as the block that holds that
+/// store and whose keys ascend.
+///
+/// Source: zarr-python, consolidated metadata of version 2.
+pub fn one_block_holds_store_in(numbers: Numbers)
+    ensures { OneBlockHoldsStoreIn numbers }
 {}
 
 /// What is written of a version 2 group and its block has the documents of each node behind its names, and no others.

@@ -1,5 +1,6 @@
 //! The consolidated block of a group, which holds the metadata of the nodes below it: read, written, chosen in place of a listing, and
-//! expanded to paths. And why a node was not made: the refusals that reading, listing and building nodes share.
+//! expanded to paths. And why a node was not made: the refusals that reading, listing and building nodes share. Its definitions also say
+//! what a path means in a store.
 #![tactic(auto)]
 
 mod asked;

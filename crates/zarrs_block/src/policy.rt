@@ -1,7 +1,7 @@
 //! Whether a consolidated block stands in place of a listing.
-ghost use Rattle.std.specs.Prelude.{◌≡◌, ◌⊎◌, Some, None, codes, IfOk, IfErr, IsErr, IsSome};
+ghost use Rattle.std.specs.Prelude.{◌≡◌, ◌⊎◌, codes, IfOk, IfErr, IsErr, IsSome};
 ghost use Rattle.serde_json.specs.Find.{get_member};
-ghost use Rattle.zarrs_block.specs.Policy.{as_block, fields_block, group_field, group_block, block_in_group, block_field, node_block, block_in, block_to_use, RefusesUse, LacksBlockMemory};
+ghost use Rattle.zarrs_block.specs.Policy.{as_block, fields_block, group_field, group_block, block_in_group, block_field, node_block, block_in, block_to_use, as_choice, refuse, RefusesUse, LacksBlockMemory};
 
 use crate::consolidated::ConsolidatedMetadata;
 use crate::node_create_error::NodeCreateError;
@@ -26,7 +26,7 @@ pub fn resolve_consolidated_policy(
     policy: UseConsolidatedMetadata,
 ) -> Result<Option<ConsolidatedMetadata>, NodeCreateError>
     ensures ok { IfOk result
-        (λ chosen. block_to_use (as_block block) policy ≡ Some (as_block chosen)) }
+        (λ chosen. block_to_use (as_block block) policy ≡ as_choice chosen) }
     ensures err { IfErr result (RefusesUse path.now (block_to_use (as_block block) policy)) }
 {
     match policy {
@@ -41,7 +41,7 @@ pub fn resolve_consolidated_policy(
 
 // The refusal of a group without a block.
 fn missing_block(alloc: Global, path: &NodePath) -> NodeCreateError
-    ensures { RefusesUse path.now None result }
+    ensures { RefusesUse path.now refuse result }
 {
     let text = path.as_str();
     match format!(in alloc; "Consolidated metadata required but missing on group {text}") {
@@ -125,7 +125,7 @@ pub fn consolidated_metadata_for_open(
     policy: UseConsolidatedMetadata,
 ) -> Result<Option<ConsolidatedMetadata>, NodeCreateError>
     ensures ok { IfOk result
-        (λ chosen. block_to_use (block_in metadata.now) policy ≡ Some (as_block chosen)) }
+        (λ chosen. block_to_use (block_in metadata.now) policy ≡ as_choice chosen) }
     ensures err { IfErr result
         (λ e. RefusesUse path.now (block_to_use (block_in metadata.now) policy) e
         ⊎ LacksBlockMemory metadata.now policy e) }
@@ -149,7 +149,7 @@ pub fn consolidated_metadata_for_open_in(
     policy: UseConsolidatedMetadata,
 ) -> Result<Option<ConsolidatedMetadata>, NodeCreateError>
     ensures ok { IfOk result
-        (λ chosen. block_to_use (node_block numbers metadata.now) policy ≡ Some (as_block chosen)) }
+        (λ chosen. block_to_use (node_block numbers metadata.now) policy ≡ as_choice chosen) }
     ensures err { IfErr result
         (λ e. RefusesUse path.now (block_to_use (node_block numbers metadata.now) policy) e
         ⊎ LacksBlockMemory metadata.now policy e) }

@@ -7,11 +7,11 @@ ghost use Rattle.zarrs_block.specs.Block.{block_tree, documents};
 
 use crate::consolidated::{ConsolidatedMetadata, ConsolidatedMetadataMetadata};
 use std::alloc::{AllocError, Global};
-use zarrs_form::write_entry;
+use zarrs_form::write_key_at;
 
 impl ConsolidatedMetadata {
     /// The written form of the block in the pretty layout: two spaces a level, and no newline at the end, for which there is room. It is
-    /// written node by node, and no JSON value of the whole is made.
+    /// written node by node, and no JSON value of the whole is made, nor of a node without additional fields.
     ///
     /// # Errors
     ///
@@ -34,6 +34,7 @@ impl ConsolidatedMetadata {
 }
 
 // Appends the documents of nodes, each at its key.
+#[tactic(auto, using(crate::proofs::PrettyBlock::entry_pushed))]
 fn write_nodes(
     alloc: Global,
     out: &mut String,
@@ -44,8 +45,8 @@ fn write_nodes(
 {
     let mut later = false;
     for (key, metadata) in nodes.as_map().iter() {
-        let document = metadata.to_value(alloc)?;
-        write_entry(alloc, out, later, key.as_str(), &document)?;
+        write_key_at(alloc, out, later, 2, key.as_str())?;
+        metadata.write_at(alloc, out, 2)?;
         later = true;
     }
     Ok(())
