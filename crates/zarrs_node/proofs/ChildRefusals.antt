@@ -1,14 +1,17 @@
 -- What a refusal of a child says of it, where the walk goes on.
-use Rattle.std.proofs.Common.{◌≡◌, Bool, Result, Ok, Err, ◌⊎◌, ⊎_elim, sym, ap, subst}
+use Rattle.std.proofs.Common.{◌≡◌, Bool, Result, Ok, Err, ◌⊎◌, ⊎_elim, Option, refl, sym, ap, subst}
 use Rattle.zarrs_store.specs.Contents.{Contents}
 use Rattle.zarrs_store.specs.declared.storage_error.StorageError.TheVariants.{Fault, InvalidMetadata, Other, OutOfMemory as NoStoreMemory}
 use Rattle.zarrs_path.specs.Paths.{Path, IsPath}
+use Rattle.zarrs_meta.specs.declared.node.NodeMetadata.{NodeMetadata}
 use Rattle.zarrs_config.specs.declared.version.MetadataRetrieveVersion.{MetadataRetrieveVersion}
 use Rattle.zarrs_block.specs.Meaning.{meaning, bad}
 use Rattle.zarrs_block.specs.Refusals.{IsExcused, IsInvalidPath}
 use Rattle.zarrs_block.specs.declared.node_create_error.NodeCreateError.{NodeCreateError}
 use Rattle.zarrs_block.specs.declared.node_create_error.NodeCreateError.TheVariants.{NodePathError, StorePrefixError, StorageError, MetadataVersionMismatch, MissingMetadata, OutOfMemory}
 use Rattle.zarrs_node.specs.StepsOfTheWalk.{fault_of, IsFaultOf}
+use Rattle.zarrs_node.specs.declared.descent.Child.{Child}
+use Rattle.zarrs_node.specs.declared.descent.Child.TheVariants.{Read, Told}
 use Rattle.zarrs_node.specs.declared.fault.NodeFault.{NodeFault}
 use Rattle.zarrs_node.proofs.BadDocuments.{bad_by_document}
 
@@ -26,6 +29,11 @@ given_or d (Err e) = d
 abbrev refused_or : {A E : Type 0} → E → Result A E → E
 refused_or d (Ok x) = d
 refused_or d (Err e) = e
+
+-- a child that was not read was told
+pub told_unread : (child : Child) → ((found : Option NodeMetadata) → child ≡ Read found → ⊥) → child ≡ Told
+told_unread (Read found) unread = absurd (unread found refl)
+told_unread Told unread = refl
 
 module _ (can_fail : Bool) (s : Contents) (v : MetadataRetrieveVersion) (c : Path) where
   -- the refusal of a child

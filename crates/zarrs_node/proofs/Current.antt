@@ -26,7 +26,8 @@ use Rattle.zarrs_form.specs.Documents.{of_bytes}
 use Rattle.zarrs_block.specs.Block.{Block, Entries, IsBlockOf}
 use Rattle.zarrs_block.specs.KeysAboutAPath.{IsAbout}
 use Rattle.zarrs_block.proofs.KeyLaws.{one_text, text_bare}
-use Rattle.zarrs_block.specs.Meaning.{in_bytes, Meaning, meaning, nothing, document_from, document_at, version_2_line, version_3_line, zarr_json_line, zarray_line, zgroup_line}
+use Rattle.zarrs_block.specs.DocumentsAtKeys.{in_bytes, document_from, document_at}
+use Rattle.zarrs_block.specs.Meaning.{Meaning, meaning, nothing, version_2_line, version_3_line, zarr_json_line, zarray_line, zgroup_line}
 use Rattle.zarrs_node.specs.Reach.{HasGroup, Kept, Reached}
 use Rattle.zarrs_node.specs.Nodes.{Means, Nodes}
 use Rattle.zarrs_node.specs.Forest.{Forest, pairs, Shows}

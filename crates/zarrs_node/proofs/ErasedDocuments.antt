@@ -18,7 +18,8 @@ use Rattle.zarrs_meta.specs.declared.node.NodeMetadata.{NodeMetadata}
 use Rattle.zarrs_meta.specs.declared.node.ZarrJson.{ZarrJson}
 use Rattle.zarrs_meta.specs.declared.node.ZarrJson.TheVariants.{Node as node_json, Version2}
 use Rattle.zarrs_config.specs.declared.version.MetadataRetrieveVersion.TheVariants.{Default, V3}
-use Rattle.zarrs_block.specs.Meaning.{in_bytes, Meaning, meaning, node, nothing, document_or_fault, document_from, document_at, version_3_line, zarr_json_line, zarray_line, zgroup_line}
+use Rattle.zarrs_block.specs.DocumentsAtKeys.{in_bytes, document_or_fault, document_from, document_at}
+use Rattle.zarrs_block.specs.Meaning.{Meaning, meaning, node, nothing, version_3_line, zarr_json_line, zarray_line, zgroup_line}
 use Rattle.zarrs_node.specs.MapsOfNodes.{version_2_files, version_2_keys, without_keys, keys_beside, KeysStandBeside, OthersAreKept, ErasedAreAbsent, BesideMeansSame, ErasedShowSame}
 use Rattle.zarrs_node.proofs.Current.{meaning_same}
 use Rattle.zarrs_node.proofs.Meanings.{document_none, zarr_json_line_is, default_is, v3_is}

@@ -23,7 +23,8 @@ use Rattle.zarrs_meta.specs.declared.node.ZarrJson.{ZarrJson}
 use Rattle.zarrs_block.specs.declared.node_create_error.NodeCreateError.{NodeCreateError}
 use Rattle.zarrs_block.specs.declared.node_create_error.NodeCreateError.TheVariants.{StorageError as InStore}
 use Rattle.zarrs_config.specs.declared.version.MetadataRetrieveVersion.TheVariants.{Default, V3, V2}
-use Rattle.zarrs_block.specs.Meaning.{in_bytes, Meaning, meaning, meaning_in, node, nothing, document_from, document_at, attributes_at, version_3_line, version_2_line, zarr_json_line, zarray_line, zgroup_line}
+use Rattle.zarrs_block.specs.DocumentsAtKeys.{in_bytes, document_from, document_at, attributes_at}
+use Rattle.zarrs_block.specs.Meaning.{Meaning, meaning, meaning_in, node, nothing, version_3_line, version_2_line, zarr_json_line, zarray_line, zgroup_line}
 use Rattle.zarrs_block.specs.Refusals.{IsExcused}
 use Rattle.zarrs_node.specs.Refusals.{RefusesReading}
 use Rattle.zarrs_node.specs.StepsOfDocuments.{FollowsLine, Finds}

@@ -4,7 +4,8 @@ use Rattle.zarrs_fault.specs.declared.numbers.Numbers.TheVariants.{Whole}
 use Rattle.zarrs_store.specs.Contents.{Contents, HasBelow}
 use Rattle.zarrs_path.specs.Paths.{Path}
 use Rattle.zarrs_config.specs.declared.version.MetadataRetrieveVersion.{MetadataRetrieveVersion}
-use Rattle.zarrs_block.specs.Meaning.{Meaning, in_bytes, meaning_in, meaning, node, nothing, bad}
+use Rattle.zarrs_block.specs.DocumentsAtKeys.{in_bytes}
+use Rattle.zarrs_block.specs.Meaning.{Meaning, meaning_in, meaning, node, nothing, bad}
 use Rattle.zarrs_block.specs.Zmetadata.{is_bad}
 use Rattle.zarrs_block.specs.declared.node_create_error.NodeCreateError.{NodeCreateError}
 use Rattle.zarrs_block.proofs.MoreBlocks.{bytes_more, meaning_too}

@@ -1,5 +1,5 @@
 -- What an opened node shows, and what refuses its opening.
-use Rattle.std.proofs.Common.{◌≡◌, ℕ, ◌⊎◌, inl, inr, ⊎_elim, Bool, true, List, sym, Option, Some, None, Contains, true≢false}
+use Rattle.std.proofs.Common.{◌≡◌, ℕ, ◌⊎◌, inl, inr, ⊎_elim, Bool, true, List, sym, Contains, true≢false}
 use Rattle.zarrs_store.specs.Contents.{Contents, Lists}
 use Rattle.zarrs_path.specs.Paths.{Path, IsPath, path_text}
 use Rattle.zarrs_config.specs.declared.version.MetadataRetrieveVersion.{MetadataRetrieveVersion}
@@ -8,8 +8,7 @@ use Rattle.zarrs_meta.specs.Node.{is_group}
 use Rattle.zarrs_meta.specs.declared.node.GroupMetadata.TheVariants.{V3, V2}
 use Rattle.zarrs_meta.specs.declared.node.NodeMetadata.{NodeMetadata}
 use Rattle.zarrs_meta.specs.declared.node.NodeMetadata.TheVariants.{Group, Array}
-use Rattle.zarrs_block.specs.Block.{Block}
-use Rattle.zarrs_block.specs.Policy.{LacksBlockMemory}
+use Rattle.zarrs_block.specs.Policy.{Choice, use_block, list_store, refuse, LacksBlockMemory}
 use Rattle.zarrs_block.specs.Refusals.{IsExcused, IsMissing}
 use Rattle.zarrs_block.specs.declared.node_create_error.NodeCreateError.{NodeCreateError}
 use Rattle.zarrs_block.specs.declared.node_create_error.NodeCreateError.TheVariants.{NodePathError, StorePrefixError, StorageError, MetadataVersionMismatch, MissingMetadata, OutOfMemory}
@@ -50,9 +49,10 @@ block_excused can_fail (Array a) policy e h = absurd h
 -- ---- of a node
 
 -- what is shown below a path is placed below it
-pub chosen_placed : (s : Contents) (v : MetadataRetrieveVersion) (c : Option (Option Block)) (p : Path) (f : Forest) → ShowsChosen s v c true p f → ArePlacedBelow p f
-chosen_placed s v None p f shown = absurd shown
-chosen_placed s v (Some c) p f shown = placed_children p f shown.placed
+pub chosen_placed : (s : Contents) (v : MetadataRetrieveVersion) (c : Choice) (p : Path) (f : Forest) → ShowsChosen s v c true p f → ArePlacedBelow p f
+chosen_placed s v (use_block B) p f shown = placed_children p f shown.placed
+chosen_placed s v list_store p f shown = placed_children p f shown.placed
+chosen_placed s v refuse p f shown = absurd shown
 
 module _ (s : Contents) (v : MetadataRetrieveVersion) (policy : UseConsolidatedMetadata) (b : Path) where
   -- what is below a group is refused

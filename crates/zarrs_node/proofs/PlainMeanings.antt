@@ -28,7 +28,8 @@ use Rattle.zarrs_meta.specs.declared.node.ZarrJson.TheVariants.{Node, Version2}
 use Rattle.zarrs_meta.proofs.PlainNodes.{PlainAttributesIn, PlainZarrJsonIn, attributes_plain_in, zarr_json_plain_in, array_with_is_plain_in, group_with_is_plain_in}
 use Rattle.zarrs_meta.proofs.PlainArrays as arrays
 use Rattle.zarrs_meta.proofs.PlainGroups as groups
-use Rattle.zarrs_block.specs.Meaning.{Meaning, node, nothing, bad, document_or_fault, document_from, document_at, in_bytes, attributes_in, version_3_line, version_2_line, zarr_json_line, zarray_line, zgroup_line, meaning_in, meaning}
+use Rattle.zarrs_block.specs.DocumentsAtKeys.{document_or_fault, document_from, document_at, in_bytes, attributes_in}
+use Rattle.zarrs_block.specs.Meaning.{Meaning, node, nothing, bad, version_3_line, version_2_line, zarr_json_line, zarray_line, zgroup_line, meaning_in, meaning}
 
 -- where a path means a node, the node is plain in these numbers
 abbrev pub IsPlainMeaningIn : Numbers → Meaning → Type 0

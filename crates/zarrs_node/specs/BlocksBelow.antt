@@ -1,14 +1,12 @@
 -- Zarr core specification 3.1, "Group metadata", the field `consolidated_metadata`, and the document `.zmetadata` of
--- version 2: what stands below a base, by the block that is used or, where none is used, by a listing.
+-- version 2: which block stands for the nodes below a base.
 -- <https://zarr-specs.readthedocs.io/en/latest/v3/core/index.html#group-metadata>
 -- <https://zarr.readthedocs.io/en/stable/user-guide/consolidated_metadata/>
 --     zmetadata_at s b      the block that the document `.zmetadata` of b is, whose numbers may be those of s
 --     HoldsZmetadata s b B      B holds the small store that this document is
 --     block_at s b m      the block that stands for the nodes below b, where there is one
 --     ExcusesBlock can_fail m policy e      why it was not found out
---     NodesBelow, PairsBelow      what a tree below b shows; what a flat list below b holds
---     IsGoodBelow, ShowsBadBelow      that nothing refuses it; what a refusal shows
-use Rattle.std.specs.Prelude.{◌≡◌, ◌≢◌, ℕ, [], ◌∷◌, ◌++◌, Bool, true, List, Option, Some, None, Ok, option_and_then}
+use Rattle.std.specs.Prelude.{◌≡◌, ◌≢◌, ℕ, [], ◌∷◌, ◌++◌, Bool, List, Option, Some, Ok, option_and_then}
 use Rattle.std.specs.Result.{result_ok}
 use Rattle.std.specs.FinMap.{get}
 use Rattle.serde_json.specs.Data.{Data, Members}
@@ -19,18 +17,13 @@ use Rattle.zarrs_form.specs.Documents.{json_of, of_bytes}
 use Rattle.zarrs_meta.specs.declared.node.GroupMetadata.TheVariants.{V2, V3}
 use Rattle.zarrs_meta.specs.declared.node.NodeMetadata.{NodeMetadata}
 use Rattle.zarrs_meta.specs.declared.node.NodeMetadata.TheVariants.{Group, Array}
-use Rattle.zarrs_config.specs.declared.version.MetadataRetrieveVersion.{MetadataRetrieveVersion}
-use Rattle.zarrs_block.specs.Block.{Block, Entries, HasValidKeys}
+use Rattle.zarrs_block.specs.Block.{Block}
 use Rattle.zarrs_config.specs.declared.version.UseConsolidatedMetadata.{UseConsolidatedMetadata}
 use Rattle.zarrs_config.specs.declared.version.UseConsolidatedMetadata.TheVariants.{Never}
 use Rattle.zarrs_block.specs.Policy.{node_block, LacksBlockMemory}
 use Rattle.zarrs_block.specs.Refusals.{IsExcused}
 use Rattle.zarrs_block.specs.Zmetadata.{zmetadata_in, zmetadata_members_in, HoldsStoreIn, IsCleanIn}
-use Rattle.zarrs_block.specs.BlockExpansion.{NamesBadKey}
 use Rattle.zarrs_block.specs.declared.node_create_error.NodeCreateError.{NodeCreateError}
-use Rattle.zarrs_node.specs.Reach.{Kept}
-use Rattle.zarrs_node.specs.Nodes.{Nodes, HasNothingBad, ShowsBad}
-use Rattle.zarrs_block.specs.Meaning.{Pair}
 
 -- the block that the document `.zmetadata` of b is, where it is there and reads as one in the numbers of the store
 abbrev pub zmetadata_at : Contents → Path → Option Block
@@ -58,24 +51,3 @@ abbrev pub ExcusesBlock : Bool → NodeMetadata → UseConsolidatedMetadata → 
 ExcusesBlock can_fail (Group (V2 g)) policy e = (policy ≢ Never) × IsExcused can_fail e
 ExcusesBlock can_fail (Group (V3 g)) policy e = LacksBlockMemory (Group (V3 g)) policy e
 ExcusesBlock can_fail (Array a) policy e = ⊥
-
--- the nodes below b: those that a listing finds, or where a block is used its entries between which and b all entries
--- are groups
-abbrev pub NodesBelow : Contents → MetadataRetrieveVersion → Option Block → Bool → Path → Pair → Type 0
-NodesBelow s v None recursive b = Nodes s v recursive b
-NodesBelow s v (Some B) recursive b = Kept (Entries B b) recursive b
-
--- all pairs below b: those that a listing finds, or where a block is used all its entries
-abbrev pub PairsBelow : Contents → MetadataRetrieveVersion → Option Block → Path → Pair → Type 0
-PairsBelow s v None b = Nodes s v true b
-PairsBelow s v (Some B) b = Entries B b
-
--- nothing below b is refused: a listing comes upon nothing bad, or each key of the block that is used is valid
-abbrev pub IsGoodBelow : Contents → MetadataRetrieveVersion → Option Block → Bool → Path → Type 0
-IsGoodBelow s v None recursive b = HasNothingBad s v recursive b
-IsGoodBelow s v (Some B) recursive b = HasValidKeys B
-
--- the refusal is what a listing comes upon, or names the first bad part of a key of the block that is used
-abbrev pub ShowsBadBelow : Contents → MetadataRetrieveVersion → Option Block → Bool → Path → NodeCreateError → Type 0
-ShowsBadBelow s v None recursive b e = ShowsBad s v recursive b e
-ShowsBadBelow s v (Some B) recursive b e = NamesBadKey B e

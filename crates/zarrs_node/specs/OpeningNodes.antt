@@ -2,13 +2,13 @@
 -- what refuses its opening.
 -- <https://zarr-specs.readthedocs.io/en/latest/v3/core/index.html#group-metadata>
 -- <https://zarr.readthedocs.io/en/stable/user-guide/consolidated_metadata/>
---     choice s policy b m      which block stands for the nodes below b, or that they are listed, or nothing where
--- the want of a block is refused
+--     choice s policy b m      that a block is used for the nodes below b, or that they are listed, or that the want
+-- of a block is refused
 --     ShowsChosen, IsCleanChosen      what a tree below b shows by such a choice; that nothing refuses it
 --     ShowsNode, IsCleanNode      what the tree of an opened node shows; that nothing refuses it
 --     RefusesChosen, RefusesNode, RefusesOpening      what refuses it; what refuses the node itself; the first of all
 -- reasons against opening a text
-use Rattle.std.specs.Prelude.{◌≡◌, ℕ, Bool, true, List, Option, Some, None, ◌⊎◌}
+use Rattle.std.specs.Prelude.{◌≡◌, ℕ, Bool, true, List, ◌⊎◌}
 use Rattle.zarrs_store.specs.Contents.{Contents}
 use Rattle.zarrs_path.specs.Paths.{Path, IsPath, path_text}
 use Rattle.zarrs_path.specs.PathErrors.{RefusesPath}
@@ -17,38 +17,46 @@ use Rattle.zarrs_meta.specs.declared.node.NodeMetadata.{NodeMetadata}
 use Rattle.zarrs_meta.specs.declared.node.NodeMetadata.TheVariants.{Group, Array}
 use Rattle.zarrs_config.specs.declared.version.MetadataRetrieveVersion.{MetadataRetrieveVersion}
 use Rattle.zarrs_config.specs.declared.version.UseConsolidatedMetadata.{UseConsolidatedMetadata}
-use Rattle.zarrs_block.specs.Block.{Block}
-use Rattle.zarrs_block.specs.Policy.{block_to_use, RefusesUse}
+use Rattle.zarrs_block.specs.Block.{Entries, HasValidKeys}
+use Rattle.zarrs_block.specs.BlockExpansion.{NamesBadKey}
+use Rattle.zarrs_block.specs.Policy.{Choice, use_block, list_store, refuse, block_to_use, RefusesUse}
 use Rattle.zarrs_block.specs.Refusals.{IsMissing}
 use Rattle.zarrs_block.specs.declared.node_create_error.NodeCreateError.{NodeCreateError}
 use Rattle.zarrs_block.specs.declared.node_create_error.NodeCreateError.TheVariants.{NodePathError}
 use Rattle.zarrs_block.specs.Meaning.{meaning, node, nothing, bad}
 use Rattle.zarrs_node.specs.Forest.{Forest, none, Shows, path_of, metadata_of, below_of}
 use Rattle.zarrs_node.specs.declared.node.Node.{Node}
-use Rattle.zarrs_node.specs.BlocksBelow.{block_at, NodesBelow, IsGoodBelow, ShowsBadBelow}
+use Rattle.zarrs_node.specs.BlocksBelow.{block_at}
+use Rattle.zarrs_node.specs.Nodes.{Nodes, HasNothingBad, ShowsBad}
+use Rattle.zarrs_node.specs.Reach.{Kept}
 
--- ---- by a choice of a block, or of a listing, or of neither
+-- ---- by a choice of a block, of a listing, or to refuse the want of a block
 
--- f shows what stands below b, by the block that is chosen or by a listing
-abbrev pub ShowsChosen : Contents → MetadataRetrieveVersion → Option (Option Block) → Bool → Path → Forest → Type 0
-ShowsChosen s v None recursive b f = ⊥
-ShowsChosen s v (Some c) recursive b f = Shows f b (NodesBelow s v c recursive b)
+-- f shows what stands below b: of the block that is used its entries between which and b all entries are groups, else
+-- the nodes that a listing finds; and nothing is shown where the want of a block is refused
+abbrev pub ShowsChosen : Contents → MetadataRetrieveVersion → Choice → Bool → Path → Forest → Type 0
+ShowsChosen s v (use_block B) recursive b f = Shows f b (Kept (Entries B b) recursive b)
+ShowsChosen s v list_store recursive b f = Shows f b (Nodes s v recursive b)
+ShowsChosen s v refuse recursive b f = ⊥
 
--- what stands below b is not refused
-abbrev pub IsCleanChosen : Contents → MetadataRetrieveVersion → Option (Option Block) → Bool → Path → Type 0
-IsCleanChosen s v None recursive b = ⊥
-IsCleanChosen s v (Some c) recursive b = IsGoodBelow s v c recursive b
+-- what stands below b is not refused: each key of the block that is used is valid, or a listing comes upon nothing bad;
+-- and the want of a block is not refused
+abbrev pub IsCleanChosen : Contents → MetadataRetrieveVersion → Choice → Bool → Path → Type 0
+IsCleanChosen s v (use_block B) recursive b = HasValidKeys B
+IsCleanChosen s v list_store recursive b = HasNothingBad s v recursive b
+IsCleanChosen s v refuse recursive b = ⊥
 
--- the want of a block is refused, or what stands below b is
-abbrev pub RefusesChosen : Contents → MetadataRetrieveVersion → Option (Option Block) → Bool → Path → NodeCreateError
-    → Type 0
-RefusesChosen s v None recursive b e = RefusesUse b None e
-RefusesChosen s v (Some c) recursive b e = ShowsBadBelow s v c recursive b e
+-- the refusal names the first bad part of a key of the block that is used, or is what a listing comes upon, or is that
+-- of the want of a block
+abbrev pub RefusesChosen : Contents → MetadataRetrieveVersion → Choice → Bool → Path → NodeCreateError → Type 0
+RefusesChosen s v (use_block B) recursive b e = NamesBadKey B e
+RefusesChosen s v list_store recursive b e = ShowsBad s v recursive b e
+RefusesChosen s v refuse recursive b e = RefusesUse b refuse e
 
 -- ---- of a node
 
 -- the choice of a block for the nodes below b, where b has these metadata
-abbrev pub choice : Contents → UseConsolidatedMetadata → Path → NodeMetadata → Option (Option Block)
+abbrev pub choice : Contents → UseConsolidatedMetadata → Path → NodeMetadata → Choice
 choice s policy b m = block_to_use (block_at s b m) policy
 
 -- below an array there is nothing, and f shows what stands below a group

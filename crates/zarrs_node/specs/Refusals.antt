@@ -8,7 +8,7 @@ use Rattle.zarrs_store.specs.Contents.{Contents}
 use Rattle.zarrs_store.specs.declared.storage_error.StorageError.{StorageError}
 use Rattle.zarrs_store.specs.declared.storage_error.StorageError.TheVariants.{Fault, InvalidMetadata, Other}
 use Rattle.zarrs_store.specs.declared.storage_error.StorageError.TheVariants.{OutOfMemory}
-use Rattle.zarrs_block.specs.Meaning.{document_at}
+use Rattle.zarrs_block.specs.DocumentsAtKeys.{document_at}
 
 -- the document at a key of a store of bytes, by a reading in the numbers of the store, or none where the key is absent
 abbrev pub stored_document : {D : Type 0} → (Numbers → List ℕ → Result D MetadataFault) → Contents → Segments

@@ -1,15 +1,16 @@
 -- Zarr core specification 3.1, "Hierarchy": the prefixes that a walk has still to read, as a stack, and what it reads
 -- of one.
-use Rattle.std.specs.Prelude.{◌≡◌, ℕ, Bool, List, [], ◌∷◌, ◌++◌, reverse, Option, Some, None, Result, Ok, Err}
+use Rattle.std.specs.Prelude.{◌≡◌, ℕ, Bool, List, [], ◌∷◌, ◌++◌, reverse, Result, Ok, Err}
 use Rattle.zarrs_store.specs.Contents.{Contents}
 use Rattle.zarrs_store.specs.declared.storage_error.StorageError.TheVariants.{InvalidMetadata, Other}
-use Rattle.zarrs_meta.specs.declared.node.NodeMetadata.{NodeMetadata}
 use Rattle.zarrs_config.specs.declared.version.MetadataRetrieveVersion.{MetadataRetrieveVersion}
 use Rattle.zarrs_block.specs.Meaning.{meaning, bad}
 use Rattle.zarrs_block.specs.declared.node_create_error.NodeCreateError.{NodeCreateError}
 use Rattle.zarrs_block.specs.declared.node_create_error.NodeCreateError.TheVariants.{StorageError}
 use Rattle.zarrs_block.specs.declared.node_create_error.NodeCreateError.TheVariants.{MetadataVersionMismatch}
 use Rattle.zarrs_node.specs.StepsOfDocuments.{Finds}
+use Rattle.zarrs_node.specs.declared.descent.Child.{Child}
+use Rattle.zarrs_node.specs.declared.descent.Child.TheVariants.{Read, Told}
 use Rattle.zarrs_node.specs.declared.fault.NodeFault.{NodeFault}
 use Rattle.zarrs_node.specs.declared.fault.NodeFault.TheVariants.{Name, Document}
 use Rattle.zarrs_store.specs.Segments.{Segments}
@@ -38,8 +39,8 @@ abbrev pub IsFaultOf : Contents → MetadataRetrieveVersion → Path → NodeFau
 IsFaultOf s v c Name = ¬ IsPath c
 IsFaultOf s v c (Document e) = IsPath c × (meaning s v c ≡ bad e)
 
--- what reading a child gave: what it means, or none where it is bad, and then its fault was put behind the others
-abbrev pub IsReadOrTold : Bool → Contents → MetadataRetrieveVersion → Path → Option (Option NodeMetadata)
-    → List (Path × NodeFault) → List (Path × NodeFault) → Type 0
-IsReadOrTold can_fail s v c (Some found) old new = IsPath c × Finds can_fail (Ok found) (meaning s v c) × (new ≡ old)
-IsReadOrTold can_fail s v c None old new = (k : NodeFault) × IsFaultOf s v c k × (new ≡ old ++ (c, k) ∷ [])
+-- what became of a child: it was read as what it means, or it is bad, and its fault was put behind the others
+abbrev pub IsReadOrTold : Bool → Contents → MetadataRetrieveVersion → Path → Child → List (Path × NodeFault)
+    → List (Path × NodeFault) → Type 0
+IsReadOrTold can_fail s v c (Read found) old new = IsPath c × Finds can_fail (Ok found) (meaning s v c) × (new ≡ old)
+IsReadOrTold can_fail s v c Told old new = (k : NodeFault) × IsFaultOf s v c k × (new ≡ old ++ (c, k) ∷ [])

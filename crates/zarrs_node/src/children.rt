@@ -13,7 +13,7 @@ use crate::listing::list_nodes;
 use crate::node::Node;
 use crate::refresh::insert_pairs;
 use crate::sink::NodeSink;
-use log::{Log, warn};
+use log::{Log, target_or, warn};
 use std::alloc::Global;
 use zarrs_block::{ConsolidatedMetadataMetadata, NodeCreateError};
 use zarrs_config::MetadataRetrieveVersion;
@@ -85,7 +85,7 @@ pub fn get_child_nodes_opt<L: Log, S: ReadableStorageTraits + ListableStorageTra
         (ShowsBad (S.contents storage.now) version.now recursive path.now)) }
 {
     let listed = list_nodes(alloc, storage, path, recursive, version)?;
-    warn_ignored(log, &listed.ignored);
+    warn_ignored(log, module_path!(), &listed.ignored);
     Ok(listed.nodes)
 }
 
@@ -182,14 +182,17 @@ pub fn walk_child_nodes<L: Log, S: ReadableStorageTraits + ListableStorageTraits
         (ShowsBad (S.contents storage.now) version.now recursive path.now)) }
 {
     let ignored = walk_nodes(alloc, storage, path, recursive, version, sink)?;
-    warn_ignored(log, &ignored);
+    warn_ignored(log, module_path!(), &ignored);
     Ok(())
 }
 
-// Warns of each path that was passed over.
-fn warn_ignored<L: Log>(log: &L, ignored: &[NodePath]) {
+/// Warns of each path that a walk passed over: in the name of the module, where the logging value has no target of its own.
+///
+/// Source: own; `zarrs::node::get_child_nodes_opt`.
+pub fn warn_ignored<L: Log>(log: &L, module: &str, ignored: &[NodePath]) {
+    let target = target_or(log, module);
     for path in ignored {
-        warn!(log; "Object at {path} is not recognized as a component of a Zarr hierarchy. Ignoring.");
+        warn!(log; target: target, "Object at {path} is not recognized as a component of a Zarr hierarchy. Ignoring.");
     }
 }
 

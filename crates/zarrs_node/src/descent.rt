@@ -1,5 +1,5 @@
 //! The walk over the nodes below a path.
-ghost use Rattle.std.specs.Prelude.{◌≡◌, [], ◌++◌, Ok, None, false, true, IfOk, IfErr, OnOk, ◌⊎◌, IsTrue, IsFalse};
+ghost use Rattle.std.specs.Prelude.{◌≡◌, [], ◌++◌, Ok, false, true, IfOk, IfErr, OnOk, ◌⊎◌, IsTrue, IsFalse};
 ghost use Rattle.zarrs_store.specs.Segments.{IsPrefix};
 ghost use Rattle.zarrs_store.specs.Contents.{Lists};
 ghost use Rattle.zarrs_path.specs.Paths.{IsPath};
@@ -10,6 +10,7 @@ ghost use Rattle.zarrs_node.specs.Nodes.{Nodes, Ignored, ShowsBad, HasNothingBad
 ghost use Rattle.zarrs_node.specs.Faults.{Faults, FaultsAscend, PathsAscend};
 ghost use Rattle.zarrs_node.specs.StepsOfDocuments.{Finds};
 ghost use Rattle.zarrs_node.specs.Sinks.{TakesAll, TakesForest};
+ghost use Rattle.zarrs_node.specs.declared.descent.Child.TheVariants.{Told};
 ghost use Rattle.zarrs_node.specs.StepsOfTheWalk.{AreOnTop, IsPathAndOne, IsReadOrTold};
 
 use crate::fault::NodeFault;
@@ -174,7 +175,7 @@ fn walk<S: ReadableStorageTraits + ListableStorageTraits, K: NodeSink>(
     push_children(alloc, storage, &base, &mut pending)?;
     let mut ignored = Vec::new(alloc);
     while let Some(prefix) = pending.pop() {
-        let Some(found) = read_or_tell(alloc, storage, &prefix, version, notes)? else {
+        let Child::Read(found) = read_or_tell(alloc, storage, &prefix, version, notes)? else {
             continue;
         };
         if recursive && is_group(&found) {
@@ -230,20 +231,29 @@ fn is_group(found: &Option<NodeMetadata>) -> bool
     }
 }
 
-// What a path and one name more means, given as a prefix; or none where it is bad and the walk goes on, once that is told.
+// What became of a child on the way.
+#[derive(Drop)]
+enum Child {
+    // It was read: it has this metadata, or no document.
+    Read(Option<NodeMetadata>),
+    // It is bad, and its fault was told.
+    Told,
+}
+
+// What a path and one name more means, given as a prefix; where that is bad and the walk goes on, it is told.
 fn read_or_tell<S: ReadableStorageTraits>(
     alloc: Global,
     storage: &S,
     prefix: &StorePrefix,
     version: &MetadataRetrieveVersion,
     notes: &mut Notes,
-) -> Result<Option<Option<NodeMetadata>>, NodeCreateError>
+) -> Result<Child, NodeCreateError>
     requires { IsPathAndOne prefix.now }
     ensures read { IfOk result
-        (λ found. IsReadOrTold (S.can_fail storage.now)
-        (S.contents storage.now) version.now prefix.now found notes.old.faults.items
+        (λ child. IsReadOrTold (S.can_fail storage.now)
+        (S.contents storage.now) version.now prefix.now child notes.old.faults.items
         notes.new.faults.items) }
-    ensures told { IfOk result (λ found. found ≡ None → IsTrue notes.old.goes_on) }
+    ensures told { IfOk result (λ child. child ≡ Told → IsTrue notes.old.goes_on) }
     ensures goes_on { notes.new.goes_on ≡ notes.old.goes_on }
     ensures refused { IfErr result
         (IsExcusedOr (S.can_fail storage.now)
@@ -255,11 +265,11 @@ fn read_or_tell<S: ReadableStorageTraits>(
     ensures segments { IsPrefix prefix.now }
 {
     match read_child(alloc, storage, prefix, version, &mut notes.last) {
-        Ok(found) => Ok(Some(found)),
+        Ok(found) => Ok(Child::Read(found)),
         Err(refusal) if notes.goes_on => {
             let fault = NodeFault::of(refusal)?;
             notes.faults.push((prefix.try_clone(alloc)?, fault))?;
-            Ok(None)
+            Ok(Child::Told)
         }
         Err(refusal) => Err(refusal),
     }

@@ -1,7 +1,7 @@
 //! The documents of a store, as they are read.
 ghost use Rattle.std.specs.Prelude.{◌≡◌, [], ◌∷◌, ◌++◌, Ok, IfOk, IfErr, IsTrue};
 ghost use Rattle.zarrs_store.specs.Segments.{is_segment};
-ghost use Rattle.zarrs_block.specs.Meaning.{attributes_at};
+ghost use Rattle.zarrs_block.specs.DocumentsAtKeys.{attributes_at};
 ghost use Rattle.zarrs_node.specs.Refusals.{RefusesReading, stored_document};
 ghost use Rattle.zarrs_node.specs.StepsOfDocuments.{refusal_at};
 
@@ -59,7 +59,7 @@ pub fn attributes_at<S: ReadableStorageTraits>(
 }
 
 // What `document_at` answers, where such a document was read before, and the key.
-#[tactic(auto, unfolding(zarrs_block::specs::Meaning::document_at))]
+#[tactic(auto, unfolding(zarrs_block::specs::DocumentsAtKeys::document_at))]
 fn find_document<S: ReadableStorageTraits, D: Document + Drop>(
     alloc: Global,
     storage: &S,

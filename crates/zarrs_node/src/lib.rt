@@ -1,4 +1,5 @@
-//! Nodes and the listing of a store.
+//! Nodes and the listing of a store. `Node::get_metadata` reads one node, `list_nodes` lists those below a path, and `Node::open` opens a node as
+//! a tree with all below it. Each listing is one walk, `walk_nodes`, which hands each node to a sink. Blocks are made of nodes, and made current.
 #![tactic(auto)]
 
 mod build;
@@ -26,7 +27,7 @@ mod zmetadata;
 pub use build::{build_node_tree, build_node_tree_counted, direct_children_from_flat};
 pub use children::{
     consolidate_nodes_of, get_all_nodes_of, get_child_nodes, get_child_nodes_opt, get_child_paths,
-    get_child_paths_opt, walk_child_nodes,
+    get_child_paths_opt, walk_child_nodes, warn_ignored,
 };
 pub use descent::{WalkedPast, walk_nodes, walk_past_faults};
 pub use exists::{node_exists, node_exists_listable};

@@ -1,7 +1,8 @@
 //! What a path means in a store.
 ghost use Rattle.std.specs.Prelude.{◌≡◌, Ok, IfOk, IfErr};
 ghost use Rattle.zarrs_block.specs.Refusals.{IsExcusedOr};
-ghost use Rattle.zarrs_block.specs.Meaning.{in_bytes, meaning, attributes_at, node, zarr_json_line, zarray_line, zgroup_line};
+ghost use Rattle.zarrs_block.specs.DocumentsAtKeys.{in_bytes, attributes_at};
+ghost use Rattle.zarrs_block.specs.Meaning.{meaning, node, zarr_json_line, zarray_line, zgroup_line};
 ghost use Rattle.zarrs_node.specs.Refusals.{RefusesReading};
 ghost use Rattle.zarrs_node.specs.StepsOfDocuments.{FollowsLine, Finds};
 ghost use Rattle.zarrs_node.specs.OpeningNodes.{RefusesNode};

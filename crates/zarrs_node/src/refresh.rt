@@ -18,7 +18,7 @@ use std::alloc::{AllocError, Global};
 use zarrs_block::{ConsolidatedMetadataMetadata, NodeCreateError};
 use zarrs_config::MetadataRetrieveVersion;
 use zarrs_meta::NodeMetadata;
-use zarrs_path::NodePath;
+use zarrs_path::{NodePath, without_leading_slash};
 use zarrs_store::{ListableStorageTraits, ReadableStorageTraits};
 
 /// The block of a group, made current where the documents of one path below the group changed: without what it has at the path and
@@ -129,7 +129,7 @@ fn has_group(block: &ConsolidatedMetadataMetadata, rooted: &str) -> bool
     ensures { (b p : Path) → IsPath p → IsBelow b p → rooted.now ≡ 47 ∷ text_beyond b p
         → IsTrue result ↔ HasGroup (Entries block.now b) p }
 {
-    let key = without_slash(rooted);
+    let key = without_leading_slash(rooted);
     if let Some(metadata) = block.get(key) {
         return metadata.is_group();
     }
@@ -137,13 +137,6 @@ fn has_group(block: &ConsolidatedMetadataMetadata, rooted: &str) -> bool
         Some(metadata) => metadata.is_group(),
         None => false,
     }
-}
-
-// The text without a slash in front.
-fn without_slash(text: &str) -> &str
-    ensures { result.now ≡ without_leading_slash text.now }
-{
-    text.strip_prefix('/').unwrap_or(text)
 }
 
 // The node at a path, if there is one, and for a group all below it, parents before children.

@@ -1,9 +1,9 @@
 //! The consolidated metadata of a node, where they stand in a store.
-ghost use Rattle.std.specs.Prelude.{◌≡◌, Ok, Some, None, IfOk, IfErr, IfSome, ◌⊎◌};
+ghost use Rattle.std.specs.Prelude.{◌≡◌, Ok, None, IfOk, IfErr, IfSome, ◌⊎◌};
 ghost use Rattle.zarrs_store.specs.Faults.{IsStoreError};
 ghost use Rattle.zarrs_form.specs.Documents.{Gives, of_bytes};
 ghost use Rattle.zarrs_config.specs.declared.version.UseConsolidatedMetadata.TheVariants.{Never};
-ghost use Rattle.zarrs_block.specs.Policy.{as_block, RefusesUse};
+ghost use Rattle.zarrs_block.specs.Policy.{as_block, as_choice, RefusesUse};
 ghost use Rattle.zarrs_block.specs.Zmetadata.{zmetadata_in};
 ghost use Rattle.zarrs_node.specs.BlocksBelow.{zmetadata_at, ExcusesBlock, HoldsZmetadata};
 ghost use Rattle.zarrs_node.specs.OpeningNodes.{choice};
@@ -39,7 +39,7 @@ pub fn consolidated_metadata_at<S: ReadableStorageTraits>(
 ) -> Result<Option<ConsolidatedMetadata>, NodeCreateError>
     ensures ok { IfOk result
         (λ chosen. choice (S.contents storage.now) policy path.now metadata.now
-        ≡ Some (as_block chosen)) }
+        ≡ as_choice chosen) }
     ensures never { policy ≡ Never → result ≡ Ok None }
     ensures excused { IfErr result
         (λ e. ExcusesBlock (S.can_fail storage.now) metadata.now policy e

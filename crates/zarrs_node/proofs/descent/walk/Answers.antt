@@ -4,7 +4,7 @@ use Rattle.zarrs_store.specs.Children.{AreVisibleChildren}
 use Rattle.zarrs_node.specs.StepsOfTrees.{own_node, paths_passed}
 use Rattle.zarrs_node.specs.Sinks.{TakesAll}
 use Rattle.zarrs_node.specs.StepsOfTheWalk.{IsReadOrTold}
-use Rattle.zarrs_node.proofs.Meanings.{none_of}
+use Rattle.zarrs_node.proofs.ChildRefusals.{told_unread}
 use Rattle.zarrs_node.proofs.WalkTurns.{left_none, turn_above, turn_refused, falls_alone, falls_deeper}
 use Rattle.zarrs_node.proofs.SinkSteps.{HasFed, fed_start, fed_forest, fed_ignored, fed_faults, fed_fault, fed_alone, fed_deeper}
 use Rattle.zarrs_node.proofs.descent.walk.Goals as goal
@@ -56,11 +56,11 @@ loop-prefix-preserved-in_default-2 g c =
     let fs = c.loop-prefix.notes.faults.items in
     let gs = c.read_or_tell.new.notes.faults.items in
     let at = subst (HasFed g.K.NodeSink.takes s v r b c.args.sink.now c.loop-prefix.sink ig fs) c.in-Some.ensures.items c.loop-prefix.invariant.0 in
-    let absent = none_of c.in_ok-found.field-0 c.in_default-2.not-Some in
-    let told = subst (λ o. IsReadOrTold can_fail s v child o fs gs) absent c.in_ok-found.ensures.read in (
+    let unread = told_unread c.in_ok-found.field-0 c.in_default-2.not-Read in
+    let told = subst (λ o. IsReadOrTold can_fail s v child o fs gs) unread c.in_ok-found.ensures.read in (
       fed_fault g.K.NodeSink.takes s v r b c.args.sink.now child can_fail c.loop-prefix.sink ig fs c.pop.new.self.items at told.0 c.in_ok-found.ensures.segments told.1 gs told.2,
       c.in_ok-found.ensures.goes_on ∙ c.loop-prefix.invariant.1,
-      λ stays. absurd (true≢false (sym (subst IsTrue c.loop-prefix.invariant.1 (c.in_ok-found.ensures.told absent)) ∙ stays)),
+      λ stays. absurd (true≢false (sym (subst IsTrue c.loop-prefix.invariant.1 (c.in_ok-found.ensures.told unread)) ∙ stays)),
     )
 
 pub loop-prefix-preserved : goal.loop-prefix-preserved
@@ -79,8 +79,8 @@ loop-prefix-preserved g c =
     let fs = c.loop-prefix.notes.faults.items in
     let gs = c.read_or_tell.new.notes.faults.items in
     let at = subst (HasFed takes s v r b a z ig fs) c.in-Some.ensures.items c.loop-prefix.invariant.0 in
-    let found = c.in-Some-2.found in
-    let read = subst (λ o. IsReadOrTold can_fail s v child o fs gs) c.in-Some-2.is c.in_ok-found.ensures.read in
+    let found = c.in-Read.found in
+    let read = subst (λ o. IsReadOrTold can_fail s v child o fs gs) c.in-Read.is c.in_ok-found.ensures.read in
     let told_all = subst (λ q. TakesAll takes z (own_node q found) c.tell.new.sink) c.in_ok-child.ensures c.in_ok-tell.ensures.nodes in
     let passed_all = c.in_ok-tell.ensures.ignored ∙ ap (λ q. ig ++ paths_passed q found []) c.in_ok-child.ensures in (
       subst (λ x. HasFed takes s v r b a c.tell.new.sink c.tell.new.ignored.items x c.if-recursive.pending.items) (sym read.2) (elim c.if-recursive.branch [

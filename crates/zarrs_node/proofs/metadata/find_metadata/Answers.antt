@@ -1,6 +1,7 @@
 use Rattle.std.proofs.Common.{ap, ◌∙◌, inl, inr, ⊎_elim}
 use Rattle.std.proofs.lemmas.Result.{err_from_is_err_and}
-use Rattle.zarrs_block.specs.Meaning.{in_bytes, meaning, zarr_json_line, zarray_line, zgroup_line}
+use Rattle.zarrs_block.specs.DocumentsAtKeys.{in_bytes}
+use Rattle.zarrs_block.specs.Meaning.{meaning, zarr_json_line, zarray_line, zgroup_line}
 use Rattle.zarrs_node.proofs.Meanings.{default_is, v3_is, v2_is, follows_some, follows_none, finds_by}
 use Rattle.zarrs_node.proofs.metadata.find_metadata.Goals as goal
 
