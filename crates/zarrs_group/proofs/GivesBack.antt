@@ -34,14 +34,15 @@ use Rattle.zarrs_meta.specs.declared.node.NodeMetadata.TheVariants.{Group}
 use Rattle.zarrs_block.specs.Block.{Block, Entries, HasValidKeys, IsValidKey, block_of_in, block_tree, node_at_key}
 use Rattle.zarrs_block.proofs.MoreBlocks.{block_too}
 use Rattle.zarrs_block.specs.Zmetadata.{HasVersion2}
-use Rattle.zarrs_block.specs.Policy.{block_to_use}
+use Rattle.zarrs_block.specs.Policy.{use_block, block_to_use}
 use Rattle.zarrs_block.specs.Refusals.{LacksMemory, IsExcused}
 use Rattle.zarrs_block.specs.BlockExpansion.{NamesBadKey}
 use Rattle.zarrs_block.specs.declared.node_create_error.NodeCreateError.{NodeCreateError}
 use Rattle.zarrs_block.specs.declared.node_create_error.NodeCreateError.TheVariants as made
 use Rattle.zarrs_node.specs.BlocksBelow.{block_at}
 use Rattle.zarrs_node.specs.Forest.{Forest, pairs, Shows}
-use Rattle.zarrs_block.specs.Meaning.{Meaning, node, nothing, bad, in_bytes, document_at, document_from, document_or_fault, version_3_line, zarr_json_line, meaning_in, meaning, zarray_line, zgroup_line}
+use Rattle.zarrs_block.specs.DocumentsAtKeys.{in_bytes, document_at, document_from, document_or_fault}
+use Rattle.zarrs_block.specs.Meaning.{Meaning, node, nothing, bad, version_3_line, zarr_json_line, meaning_in, meaning, zarray_line, zgroup_line}
 use Rattle.zarrs_node.specs.Inverse.{HasNames, IsInverse}
 use Rattle.zarrs_node.specs.Reach.{Kept}
 use Rattle.zarrs_node.specs.OpeningNodes.{ShowsChosen, RefusesChosen, ShowsBelow, RefusesOpening, RefusesText, RefusesNode}
@@ -61,7 +62,7 @@ use Rattle.zarrs_group.proofs.BlockFields.{held_as_read, held_once_set}
 use Rattle.zarrs_fault.specs.declared.numbers.Numbers.TheVariants.{Whole}
 
 -- a block that is there is used, where the policy is not Never
-pub used_there : (B : Block) (policy : UseConsolidatedMetadata) → policy ≢ Never → block_to_use (Some B) policy ≡ Some (Some B)
+pub used_there : (B : Block) (policy : UseConsolidatedMetadata) → policy ≢ Never → block_to_use (Some B) policy ≡ use_block B
 used_there B Never not = absurd (not refl)
 used_there B Auto not = refl
 used_there B Must not = refl
@@ -94,7 +95,7 @@ no_bad_key B valid made.OutOfMemory h = h
 module _ (g : GroupState) (f : Forest) (B : Block) (valid : HasValidKeys B)
     (entries : (e : Path × NodeMetadata) → Entries B g.path e ↔ Contains (pairs f) e) (one : (t : Forest) → Shows t g.path (Kept (Entries B g.path) true g.path) → t ≡ f) where
   -- it is the block that is used
-  is_chosen : (numbers : Numbers) (policy : UseConsolidatedMetadata) → held_by_in numbers g ≡ Some B → policy ≢ Never → block_to_use (held_by_in numbers g) policy ≡ Some (Some B)
+  is_chosen : (numbers : Numbers) (policy : UseConsolidatedMetadata) → held_by_in numbers g ≡ Some B → policy ≢ Never → block_to_use (held_by_in numbers g) policy ≡ use_block B
   is_chosen numbers policy holds not = ap (λ h. block_to_use h policy) holds ∙ used_there B policy not
 
   -- what such a choice shows is the forest
@@ -112,7 +113,7 @@ module _ (g : GroupState) (f : Forest) (B : Block) (valid : HasValidKeys B)
   pairs_are es l = lists_from es (λ e. (λ h. (entries e).0 ((listed_each l e).0 h), λ h. (listed_each l e).1 ((entries e).1 h))) l.each_once
 
   -- what is listed by such a choice are the entries
-  listed_by : (s : Contents) (policy : UseConsolidatedMetadata) → block_to_use (held_by_in s.numbers g) policy ≡ Some (Some B)
+  listed_by : (s : Contents) (policy : UseConsolidatedMetadata) → block_to_use (held_by_in s.numbers g) policy ≡ use_block B
       → (es : List (Path × NodeMetadata)) → ListsChosen s (block_to_use (held_by_in s.numbers g) policy) g.path es → Lists (Entries B g.path) es
   listed_by s policy is es l = subst (λ c. ListsChosen s c g.path es) is l
 

@@ -21,7 +21,7 @@ use Rattle.zarrs_meta.specs.declared.node.NodeMetadata.{NodeMetadata}
 use Rattle.zarrs_meta.specs.declared.node.NodeMetadata.TheVariants.{Group}
 use Rattle.zarrs_block.specs.Block.{Block, Entries, HasValidKeys, IsAscending}
 use Rattle.zarrs_block.specs.Meaning.{Meaning}
-use Rattle.zarrs_block.specs.Policy.{block_to_use}
+use Rattle.zarrs_block.specs.Policy.{use_block, block_to_use}
 use Rattle.zarrs_block.specs.Zmetadata.{zmetadata_in, zmetadata_tree, HasPlainEntriesIn, HaveSameEntries}
 use Rattle.zarrs_block.specs.declared.node_create_error.NodeCreateError.{NodeCreateError}
 use Rattle.zarrs_block.proofs.Expansion.{entries_listed}
@@ -74,7 +74,7 @@ module _ (of : Path → Meaning) (g : GroupState) (f : Forest) (B : Block) (from
     valid_again = (subst IsBeside there (beside_read s g.path (V2 m))).0
 
     -- it is the block that is used
-    is_used : (policy : UseConsolidatedMetadata) → policy ≢ Never → block_to_use (zmetadata_at s g.path) policy ≡ Some (Some C)
+    is_used : (policy : UseConsolidatedMetadata) → policy ≢ Never → block_to_use (zmetadata_at s g.path) policy ≡ use_block C
     is_used policy not = ap (λ h. block_to_use h policy) there ∙ used_there C policy not
 
     -- what is shown is the forest

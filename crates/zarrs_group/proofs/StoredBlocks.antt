@@ -19,7 +19,7 @@ use Rattle.zarrs_meta.specs.declared.node.GroupMetadata.TheVariants.{V3}
 use Rattle.zarrs_meta.specs.declared.node.NodeMetadata.TheVariants.{Group}
 use Rattle.zarrs_block.specs.Block.{Block, Entries, HasValidKeys}
 use Rattle.zarrs_block.specs.Meaning.{meaning, node, nothing}
-use Rattle.zarrs_block.specs.Policy.{group_block, block_to_use}
+use Rattle.zarrs_block.specs.Policy.{use_block, list_store, group_block, block_to_use}
 use Rattle.zarrs_block.specs.Zmetadata.{HaveSameEntries}
 use Rattle.zarrs_block.specs.declared.node_create_error.NodeCreateError.{NodeCreateError}
 use Rattle.zarrs_node.specs.BlocksBelow.{block_at}
@@ -125,11 +125,11 @@ means_version_3 S p m e = line_is_v3 _ m e
 module _ (S : Contents) (v : MetadataRetrieveVersion) (p : Path) (m : GroupMetadata) (B C : Block) (valid : IsPath p) (listed : IsListedBlock S v p B)
     (means : meaning S v p ≡ node (Group m)) (held : block_at S p (Group m) ≡ Some C) (keys : HasValidKeys C) (same : HaveSameEntries B C) where
   -- under Must the block is used
-  must : choice S Must p (Group m) ≡ Some (Some C)
+  must : choice S Must p (Group m) ≡ use_block C
   must = ap (λ o. block_to_use o Must) held
 
   -- under Never it is not
-  never : choice S Never p (Group m) ≡ Some None
+  never : choice S Never p (Group m) ≡ list_store
   never = ap (λ o. block_to_use o Never) held
 
   -- nothing below the group is refused

@@ -1,5 +1,5 @@
 -- The children of a group as pairs of path and metadata.
-use Rattle.std.proofs.Common.{append-nil, ◌≡◌, Result, Ok, Err, IfOk, ℕ, ◌↔◌, Bool, true, false, true≢false, List, [], ◌∷◌, ◌++◌, map, filter, cond, length, Option, Some, None, refl, sym, ap, subst, ◌∙◌, append_assoc, arith, Contains}
+use Rattle.std.proofs.Common.{append-nil, ◌≡◌, Result, Ok, Err, IfOk, ℕ, ◌↔◌, Bool, true, false, true≢false, List, [], ◌∷◌, ◌++◌, map, filter, cond, length, refl, sym, ap, subst, ◌∙◌, append_assoc, arith, Contains}
 use Rattle.std.proofs.lemmas.List.{append_cancel_left, map-append}
 use Rattle.std.proofs.lemmas.List.Elements.{Contains-append_left, Contains-append_right}
 use Rattle.zarrs_store.specs.Contents.{Contents, Lists}
@@ -9,7 +9,8 @@ use Rattle.zarrs_config.specs.declared.version.MetadataRetrieveVersion.{Metadata
 use Rattle.zarrs_config.specs.declared.version.MetadataRetrieveVersion.TheVariants.{Default}
 use Rattle.zarrs_meta.specs.declared.node.NodeMetadata.{NodeMetadata}
 use Rattle.zarrs_meta.specs.declared.node.NodeMetadata.TheVariants.{Group, Array}
-use Rattle.zarrs_block.specs.Block.{Block, Entries}
+use Rattle.zarrs_block.specs.Block.{Entries}
+use Rattle.zarrs_block.specs.Policy.{Choice, use_block, list_store, refuse}
 use Rattle.zarrs_node.specs.Nodes.{MeansNode, Bad}
 use Rattle.zarrs_node.specs.Order.{Ascend}
 use Rattle.zarrs_node.specs.Reach.{Kept}
@@ -73,10 +74,10 @@ kept_pairs N b ns h =
     (subst Ascend is (pairs_ascend b (forest ns) h.placed), subst (Lists (Kept N false b)) is h.shown)
 
 -- so are those of nodes that show what is chosen
-chosen_pairs : (s : Contents) (o : Option (Option Block)) (b : Path) (ns : List Node) → ShowsChosen s Default o false b (forest ns) → Ascend (map pair_of ns) × ListsDirectly s o b (map pair_of ns)
-chosen_pairs s None b ns h = absurd h
-chosen_pairs s (Some None) b ns h = kept_pairs (MeansNode s Default) b ns h
-chosen_pairs s (Some (Some B)) b ns h = kept_pairs (Entries B b) b ns h
+chosen_pairs : (s : Contents) (c : Choice) (b : Path) (ns : List Node) → ShowsChosen s Default c false b (forest ns) → Ascend (map pair_of ns) × ListsDirectly s c b (map pair_of ns)
+chosen_pairs s (use_block B) b ns h = kept_pairs (Entries B b) b ns h
+chosen_pairs s list_store b ns h = kept_pairs (MeansNode s Default) b ns h
+chosen_pairs s refuse b ns h = absurd h
 
 -- the pairs of the nodes that show the children of a group are its children
 pub are_children : (s : Contents) (g : GroupState) (config : Settings) (ns : List Node) → ShowsChildren s g config false (forest ns) → AreChildren s g config (map pair_of ns)
@@ -98,10 +99,10 @@ kind_of_pairs k [] = refl
 kind_of_pairs k (n ∷ ns) = kind_step (k (metadata_of n)) n (filter (λ e. k e.1) (map pair_of ns)) (filter (λ n. k (metadata_of n)) ns) (kind_of_pairs k ns)
 
 -- where the store is listed, what is clean of a listing is clean
-pub clean_listed : {A E : Type 0} (s : Contents) (o : Option (Option Block)) (b : Path) (r : Bool) (answer : Result A E) (v : MetadataRetrieveVersion) (q : Path) → IfOk answer (λ _. Bad s v r q → ⊥)
-    → q ≡ b → v ≡ Default → o ≡ Some None → IfOk answer (λ _. IsCleanChosen s Default o r b)
-clean_listed s o b r (Ok x) v q h at is e = subst (λ o. IsCleanChosen s Default o r b) (sym e) (subst (λ p. Bad s Default r p → ⊥) at (subst (λ w. Bad s w r q → ⊥) is h))
-clean_listed s o b r (Err x) v q h at is e = tt
+pub clean_listed : {A E : Type 0} (s : Contents) (c : Choice) (b : Path) (r : Bool) (answer : Result A E) (v : MetadataRetrieveVersion) (q : Path) → IfOk answer (λ _. Bad s v r q → ⊥)
+    → q ≡ b → v ≡ Default → c ≡ list_store → IfOk answer (λ _. IsCleanChosen s Default c r b)
+clean_listed s c b r (Ok x) v q h at is e = subst (λ k. IsCleanChosen s Default k r b) (sym e) (subst (λ p. Bad s Default r p → ⊥) at (subst (λ w. Bad s w r q → ⊥) is h))
+clean_listed s c b r (Err x) v q h at is e = tt
 
 -- nothing behind a list leaves it
 pub nothing_more : (gs : List GroupState) → gs ++ [] ≡ gs

@@ -23,7 +23,8 @@ use Rattle.zarrs_meta.specs.declared.node.GroupMetadata.TheVariants.{V3, V2}
 use Rattle.zarrs_meta.specs.declared.node.NodeMetadata.TheVariants.{Group}
 use Rattle.zarrs_meta.proofs.GroupV3Laws.{group_v3_again_in}
 use Rattle.zarrs_block.specs.Block.{Block, HasValidKeys}
-use Rattle.zarrs_block.specs.Meaning.{in_bytes, meaning, node, document_at}
+use Rattle.zarrs_block.specs.DocumentsAtKeys.{in_bytes, document_at}
+use Rattle.zarrs_block.specs.Meaning.{meaning, node}
 use Rattle.zarrs_block.specs.Zmetadata.{zmetadata_tree, HasPlainEntriesIn}
 use Rattle.zarrs_block.proofs.ZmetadataAgain.{written_reads_back_in}
 use Rattle.zarrs_node.specs.BlocksBelow.{zmetadata_at}

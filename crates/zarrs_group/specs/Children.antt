@@ -3,13 +3,13 @@
 -- <https://zarr-specs.readthedocs.io/en/latest/v3/core/index.html#hierarchy>
 -- <https://zarr-specs.readthedocs.io/en/latest/v3/core/index.html#group-metadata>
 -- <https://zarr.readthedocs.io/en/stable/user-guide/consolidated_metadata/>
---     block_choice numbers g config      the block that is used of a group, or that the store is listed, or nothing
--- where the want of a block is refused
+--     block_choice numbers g config      that a block is used of a group, or that the store is listed, or that the
+-- want of a block is refused
 --     ShowsChildren, ListsNodes, AreChildren      what its trees show; what all its nodes are; what its children are,
 -- in order
 --     HasCleanChildren, RefusesChildren      that nothing refuses it; what a refusal is
 --     is_listed choice      whether the store is listed: only there its fault is excused
-use Rattle.std.specs.Prelude.{Bool, true, false, ◌&&◌, List, [], ◌∷◌, Option, Some, None, ◌⊎◌}
+use Rattle.std.specs.Prelude.{Bool, true, false, ◌&&◌, List, [], ◌∷◌, None, ◌⊎◌}
 use Rattle.zarrs_fault.specs.declared.numbers.Numbers.{Numbers}
 use Rattle.zarrs_store.specs.Contents.{Contents, Lists}
 use Rattle.zarrs_path.specs.Paths.{Path}
@@ -18,11 +18,12 @@ use Rattle.zarrs_config.specs.declared.version.MetadataRetrieveVersion.TheVarian
 use Rattle.zarrs_meta.specs.declared.node.GroupMetadata.{GroupMetadata}
 use Rattle.zarrs_meta.specs.declared.node.NodeMetadata.{NodeMetadata}
 use Rattle.zarrs_meta.specs.declared.node.NodeMetadata.TheVariants.{Group, Array}
-use Rattle.zarrs_block.specs.Block.{Block}
-use Rattle.zarrs_block.specs.Policy.{block_to_use}
+use Rattle.zarrs_block.specs.Block.{Entries}
+use Rattle.zarrs_block.specs.Policy.{Choice, use_block, list_store, refuse, block_to_use}
 use Rattle.zarrs_block.specs.Refusals.{IsExcused}
 use Rattle.zarrs_block.specs.declared.node_create_error.NodeCreateError.{NodeCreateError}
-use Rattle.zarrs_node.specs.BlocksBelow.{NodesBelow, PairsBelow}
+use Rattle.zarrs_node.specs.Nodes.{Nodes}
+use Rattle.zarrs_node.specs.Reach.{Kept}
 use Rattle.zarrs_node.specs.Forest.{Forest}
 use Rattle.zarrs_node.specs.OpeningNodes.{ShowsChosen, IsCleanChosen, RefusesChosen}
 use Rattle.zarrs_node.specs.Order.{Ascend}
@@ -32,9 +33,8 @@ use Rattle.zarrs_group.specs.BlocksOfGroups.{held_by_in}
 use Rattle.zarrs_group.specs.OpeningGroups.{IsFromNode}
 use Rattle.zarrs_block.specs.Meaning.{Pair}
 
--- the block that is used of a group, read in these numbers, or that there is none, or nothing where the want of a
--- block is refused
-abbrev pub block_choice : Numbers → GroupState → Settings → Option (Option Block)
+-- the choice of a block of a group, read in these numbers
+abbrev pub block_choice : Numbers → GroupState → Settings → Choice
 block_choice numbers g config = block_to_use (held_by_in numbers g) config.use_consolidated
 
 -- the forest shows the nodes below the group, by the block that is used or by the documents of either version; or its
@@ -42,19 +42,23 @@ block_choice numbers g config = block_to_use (held_by_in numbers g) config.use_c
 abbrev pub ShowsChildren : Contents → GroupState → Settings → Bool → Forest → Type 0
 ShowsChildren s g config recursive f = ShowsChosen s Default (block_choice s.numbers g config) recursive g.path f
 
--- the pairs are all that stands below b, each once, in any order: by the block that is chosen, or by a listing
-abbrev pub ListsChosen : Contents → Option (Option Block) → Path → List Pair → Type 0
-ListsChosen s None b es = ⊥
-ListsChosen s (Some c) b es = Lists (PairsBelow s Default c b) es
+-- the pairs are all that stands below b, each once, in any order: all entries of the block that is used, or the nodes
+-- that a listing finds; and nothing is listed where the want of a block is refused
+abbrev pub ListsChosen : Contents → Choice → Path → List Pair → Type 0
+ListsChosen s (use_block B) b es = Lists (Entries B b) es
+ListsChosen s list_store b es = Lists (Nodes s Default true b) es
+ListsChosen s refuse b es = ⊥
 
 -- the pairs are all that stands below the group
 abbrev pub ListsNodes : Contents → GroupState → Settings → List Pair → Type 0
 ListsNodes s g config es = ListsChosen s (block_choice s.numbers g config) g.path es
 
--- the pairs are the nodes directly below b, each once: by the block that is chosen, or by a listing
-abbrev pub ListsDirectly : Contents → Option (Option Block) → Path → List Pair → Type 0
-ListsDirectly s None b es = ⊥
-ListsDirectly s (Some c) b es = Lists (NodesBelow s Default c false b) es
+-- the pairs are the nodes directly below b, each once: the entries of the block that is used, or the nodes that a
+-- listing finds; and none are listed where the want of a block is refused
+abbrev pub ListsDirectly : Contents → Choice → Path → List Pair → Type 0
+ListsDirectly s (use_block B) b es = Lists (Kept (Entries B b) false b) es
+ListsDirectly s list_store b es = Lists (Nodes s Default false b) es
+ListsDirectly s refuse b es = ⊥
 
 -- the pairs are the children of the group, each once, in the order of their paths
 pub record AreChildren (s : Contents) (g : GroupState) (config : Settings) (es : List Pair) : Type 0 where
@@ -67,10 +71,10 @@ abbrev pub HasCleanChildren : Contents → GroupState → Settings → Bool → 
 HasCleanChildren s g config recursive = IsCleanChosen s Default (block_choice s.numbers g config) recursive g.path
 
 -- the store is listed: no block is used, and the want of one is not refused
-abbrev pub is_listed : Option (Option Block) → Bool
-is_listed None = false
-is_listed (Some None) = true
-is_listed (Some (Some B)) = false
+abbrev pub is_listed : Choice → Bool
+is_listed (use_block B) = false
+is_listed list_store = true
+is_listed refuse = false
 
 -- out of memory, or the error is the fault of a store that is listed and can fail; or the want of a block is refused;
 -- or, by the block that is used or by a listing, what stands below the group is

@@ -3,7 +3,7 @@ ghost use Rattle.std.specs.Prelude.{◌≡◌, Some, List, ◌∷◌, ◌++◌, 
 ghost use Rattle.zarrs_path.specs.Paths.{Path};
 ghost use Rattle.zarrs_meta.specs.Node.{is_group};
 ghost use Rattle.zarrs_meta.specs.declared.node.NodeMetadata.{NodeMetadata as Metadata};
-ghost use Rattle.zarrs_block.specs.Policy.{as_block, RefusesUse};
+ghost use Rattle.zarrs_block.specs.Policy.{as_choice, RefusesUse};
 ghost use Rattle.zarrs_block.specs.Block.{Entries, HasValidKeys};
 ghost use Rattle.zarrs_block.specs.BlockExpansion.{RefusesKeys};
 ghost use Rattle.zarrs_node.specs.Forest.{Shows, forest, path_of, metadata_of};
@@ -222,7 +222,7 @@ impl Group {
         config: &Config,
     ) -> Result<Option<ConsolidatedMetadata>, NodeCreateError>
         ensures ok { IfOk result
-            (λ block. block_choice numbers self.now config.now ≡ Some (as_block block)) }
+            (λ block. block_choice numbers self.now config.now ≡ as_choice block) }
         ensures err { IfErr result
             (λ e. RefusesUse self.now.path (block_choice numbers self.now config.now) e
             ⊎ (e ≡ NodeCreateError.OutOfMemory)) }

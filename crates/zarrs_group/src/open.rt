@@ -1,7 +1,8 @@
 //! What a path means as a group.
 ghost use Rattle.std.specs.Prelude.{◌≡◌, IfOk, IfErr};
 ghost use Rattle.zarrs_store.specs.Faults.{IsStoreError};
-ghost use Rattle.zarrs_block.specs.Meaning.{in_bytes, zgroup_line};
+ghost use Rattle.zarrs_block.specs.DocumentsAtKeys.{in_bytes};
+ghost use Rattle.zarrs_block.specs.Meaning.{zgroup_line};
 ghost use Rattle.zarrs_block.specs.Policy.{as_block};
 ghost use Rattle.zarrs_group.specs.BlocksBeside.{IsBeside};
 ghost use Rattle.zarrs_group.specs.BlocksOfGroups.{block_beside};
