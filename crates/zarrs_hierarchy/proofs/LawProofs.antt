@@ -1,5 +1,5 @@
 -- The laws of hierarchies.
-use Rattle.std.proofs.Common.{◌≡◌, ◌↔◌, inr, ⊎_elim, ℕ, true, List, [], ◌∷◌, ◌++◌, refl, sym, ap, subst, ◌∙◌, append_assoc, Contains, IsTrue, Option, Some, None, codes, true≢false}
+use Rattle.std.proofs.Common.{◌≡◌, ◌↔◌, inr, ⊎_elim, ℕ, true, List, [], ◌∷◌, ◌++◌, refl, sym, ap, subst, ◌∙◌, append_assoc, Contains, IsTrue, codes, true≢false}
 use Rattle.zarrs_store.specs.Contents.{Contents}
 use Rattle.zarrs_path.specs.Paths.{Path, IsPath, IsBelow, path_text}
 use Rattle.zarrs_path.proofs.PathTexts.{segments_of-path_text}
@@ -9,7 +9,8 @@ use Rattle.zarrs_meta.specs.declared.node.NodeMetadata.{NodeMetadata}
 use Rattle.zarrs_meta.specs.declared.node.NodeMetadata.TheVariants.{Group, Array}
 use Rattle.zarrs_config.specs.declared.version.MetadataRetrieveVersion.{MetadataRetrieveVersion}
 use Rattle.zarrs_config.specs.declared.version.UseConsolidatedMetadata.{UseConsolidatedMetadata}
-use Rattle.zarrs_block.specs.Block.{Block, Entries}
+use Rattle.zarrs_block.specs.Block.{Entries}
+use Rattle.zarrs_block.specs.Policy.{Choice, use_block, list_store, refuse}
 use Rattle.zarrs_node.specs.Forest.{Forest, Shows}
 use Rattle.zarrs_node.specs.Order.{Ascend}
 use Rattle.zarrs_node.specs.Lines.{lines, preorder, tree_text}
@@ -60,13 +61,13 @@ agree b m N f h u shows holds tree =
 
 module _ (s : Contents) (v : MetadataRetrieveVersion) where
   -- by a listing or by a closed block the tree shows all pairs
-  shows_all : (c : Option (Option Block)) (b : Path) (f : Forest) → IsClosedChoice c b → ShowsChosen s v c true b f → Shows f b (PairsChosen s v c b)
-  shows_all None b f closed h = absurd h
-  shows_all (Some None) b f closed h = h
-  shows_all (Some (Some B)) b f closed h = record {
+  shows_all : (c : Choice) (b : Path) (f : Forest) → IsClosedChoice c b → ShowsChosen s v c true b f → Shows f b (PairsChosen s v c b)
+  shows_all (use_block B) b f closed h = record {
     shown = lists_same h.shown (closed_is_kept (Entries B b) b closed);
     placed = h.placed;
   }
+  shows_all list_store b f closed h = h
+  shows_all refuse b f closed h = absurd h
 
   -- of a group both texts are the same behind their first lines
   group_agrees : (policy : UseConsolidatedMetadata) (b : Path) (m : NodeMetadata) (f : Forest) (h : Pairs) (t u : List ℕ)

@@ -1,5 +1,6 @@
 -- What a hierarchy holds that is made of a base and of what stands below it.
-use Rattle.std.proofs.Common.{◌≡◌, ◌↔◌, ◌⊎◌, inl, inr, ⊎_elim, ℕ, Bool, true, false, List, [], ◌∷◌, ◌++◌, get_or, length, refl, sym, ap, subst, ◌∙◌, ◌-◌, arith, length-append, append-nil, append_assoc, string_bytes, Contains, Less, Option, Some, None, true≢false, IsTrue}
+use Rattle.std.proofs.Common.{◌≡◌, ◌↔◌, ◌⊎◌, inl, inr, ⊎_elim, ℕ, Bool, true, false, List, [], ◌∷◌, ◌++◌, get_or, length, refl, sym, ap, subst, ◌∙◌, ◌-◌, arith, length-append, append-nil, append_assoc, string_bytes, Contains, Less, true≢false, IsTrue, Result, Ok, Err}
+use Rattle.std.specs.Prelude.{IfErr, IsErrAnd}
 use Rattle.std.specs.Global.{Vec}
 use Rattle.std.specs.List.{flat_map}
 use Rattle.std.proofs.lemmas.List.Kept.{AllPairs-cons}
@@ -12,11 +13,14 @@ use Rattle.zarrs_meta.specs.declared.node.NodeMetadata.TheVariants.{Group, Array
 use Rattle.zarrs_config.specs.declared.version.MetadataRetrieveVersion.{MetadataRetrieveVersion}
 use Rattle.zarrs_config.specs.declared.version.UseConsolidatedMetadata.{UseConsolidatedMetadata}
 use Rattle.zarrs_block.specs.Block.{Block, Entries}
+use Rattle.zarrs_block.specs.Policy.{Choice, use_block, list_store, refuse}
 use Rattle.zarrs_block.specs.Refusals.{IsExcused}
+use Rattle.zarrs_block.specs.Policy.{RefusesUse}
 use Rattle.zarrs_block.specs.declared.node_create_error.NodeCreateError.{NodeCreateError}
+use Rattle.zarrs_block.specs.declared.node_create_error.NodeCreateError.TheVariants.{NodePathError, StorePrefixError, StorageError, MetadataVersionMismatch, MissingMetadata, OutOfMemory}
 use Rattle.zarrs_block.specs.Meaning.{Meaning, node, nothing, bad, meaning}
 use Rattle.zarrs_node.specs.Forest.{pairs}
-use Rattle.zarrs_node.specs.BlocksBelow.{ExcusesBlock, PairsBelow, IsGoodBelow, ShowsBadBelow}
+use Rattle.zarrs_node.specs.BlocksBelow.{ExcusesBlock}
 use Rattle.zarrs_node.specs.Lines.{line, lines}
 use Rattle.zarrs_node.specs.Nodes.{Nodes}
 use Rattle.zarrs_node.specs.OpeningNodes.{choice, IsCleanChosen, IsCleanBelow, RefusesBelow, RefusesChosen, RefusesOpening}
@@ -29,8 +33,8 @@ use Rattle.zarrs_node.proofs.LawProofs.{apart}
 use Rattle.zarrs_node.proofs.OpenedNodes.{block_excused}
 use Rattle.zarrs_node.proofs.Order.{contains_cases, shown_ascend}
 use Rattle.zarrs_hierarchy.specs.PairsOfHierarchies.{Pairs, Holds, WithBase}
-use Rattle.zarrs_hierarchy.specs.OpeningHierarchies.{PairsChosen, PairsOf, IsOpenedTree}
-use Rattle.zarrs_hierarchy.specs.Sinks.{AppendsNode}
+use Rattle.zarrs_hierarchy.specs.OpeningHierarchies.{PairsChosen, PairsOf, IsOpened, IsOpenedTree}
+use Rattle.zarrs_hierarchy.specs.Sinks.{AppendsNode, TakesOpened}
 use Rattle.zarrs_hierarchy.specs.StepsOfHierarchies.{TakesPairs}
 use Rattle.zarrs_hierarchy.specs.declared.tree_text.TreeText.{TreeText}
 use Rattle.zarrs_hierarchy.proofs.Below.{stands_behind}
@@ -87,10 +91,10 @@ entries_low B b e h = (h.0, h.1, h.3)
 
 module _ (s : Contents) (v : MetadataRetrieveVersion) where
   -- and so are the pairs of each choice
-  chosen_low : (c : Option (Option Block)) (b : Path) (e : Path × NodeMetadata) → PairsChosen s v c b e → IsBelow b e.0
-  chosen_low None b e h = absurd h
-  chosen_low (Some None) b e h = nodes_low s v b e h
-  chosen_low (Some (Some B)) b e h = entries_low B b e h
+  chosen_low : (c : Choice) (b : Path) (e : Path × NodeMetadata) → PairsChosen s v c b e → IsBelow b e.0
+  chosen_low (use_block B) b e h = entries_low B b e h
+  chosen_low list_store b e h = nodes_low s v b e h
+  chosen_low refuse b e h = absurd h
 
   -- what stands below a node is
   pub pairs_low : (policy : UseConsolidatedMetadata) (b : Path) (m : NodeMetadata) (e : Path × NodeMetadata) → PairsOf s v policy b m e → IsBelow b e.0
@@ -105,7 +109,7 @@ module _ (s : Contents) (v : MetadataRetrieveVersion) where
       (λ i j d l k. absurd (omega (arith, l, k))) h is
 
   -- what stands below a group is what stands there by the choice that is made
-  pub listed_by : (policy : UseConsolidatedMetadata) (b : Path) (m : NodeMetadata) (c : Option (Option Block)) (xs : Pairs)
+  pub listed_by : (policy : UseConsolidatedMetadata) (b : Path) (m : NodeMetadata) (c : Choice) (xs : Pairs)
       → IsTrue (is_group m) → choice s policy b m ≡ c → Lists (PairsChosen s v c b) xs → Lists (PairsOf s v policy b m) xs
   listed_by policy b (Array a) c xs group e h = absurd (true≢false (sym group))
   listed_by policy b (Group g) c xs group e h = subst (λ k. Lists (PairsChosen s v k b) xs) (sym e) h
@@ -115,19 +119,12 @@ joined_same : (es : Pairs) → flat_map (λ (d : Path × NodeMetadata). d ∷ []
 joined_same [] = refl
 joined_same (e ∷ es) = ap (λ xs. e ∷ xs) (joined_same es)
 
--- a list with a group alone that took what stands below it holds the group and that
-pub holds_told : (s : Contents) (v : MetadataRetrieveVersion) (policy : UseConsolidatedMetadata) (b : Path) (m : NodeMetadata) (c : Option Block) (a z : Vec (Path × NodeMetadata)) → IsTrue (is_group m) → choice s policy b m ≡ Some c
-    → a.items ≡ (b, m) ∷ [] → TakesPairs KeepsPair a z (PairsBelow s v c b) → Holds z.items (WithBase b m (PairsOf s v policy b m))
-holds_told s v policy b m c a z group chosen alone t =
-    holds_front b m (PairsOf s v policy b m) (pairs_low s v policy b m) t.nodes (listed_by s v policy b m (Some c) t.nodes group chosen t.lists) t.ordered z.items
-    (took_joined KeepsPair (λ x. x.items) (λ d. d ∷ []) (λ x d y r. r) a t.nodes z t.took ∙ ap (λ x. x ++ flat_map (λ (d : Path × NodeMetadata). d ∷ []) t.nodes) alone ∙ ap (λ x. (b, m) ∷ x) (joined_same t.nodes))
-
 -- what a sink took of what stands below a group is what stands below the node
-pub told_group : {K : Type 0} (R : K → Path × NodeMetadata → K → Type 0) (s : Contents) (v : MetadataRetrieveVersion) (policy : UseConsolidatedMetadata) (b : Path) (m : NodeMetadata) (c : Option Block) (a z : K)
-    → IsTrue (is_group m) → choice s policy b m ≡ Some c → TakesPairs R a z (PairsBelow s v c b) → TakesPairs R a z (PairsOf s v policy b m)
+pub told_group : {K : Type 0} (R : K → Path × NodeMetadata → K → Type 0) (s : Contents) (v : MetadataRetrieveVersion) (policy : UseConsolidatedMetadata) (b : Path) (m : NodeMetadata) (c : Choice) (a z : K)
+    → IsTrue (is_group m) → choice s policy b m ≡ c → TakesPairs R a z (PairsChosen s v c b) → TakesPairs R a z (PairsOf s v policy b m)
 told_group R s v policy b m c a z group chosen t = record {
   nodes = t.nodes;
-  lists = listed_by s v policy b m (Some c) t.nodes group chosen t.lists;
+  lists = listed_by s v policy b m c t.nodes group chosen t.lists;
   ordered = t.ordered;
   took = t.took;
 }
@@ -153,8 +150,8 @@ told_forest R N b a z t = record {
 }
 
 -- where nothing below a group is refused, the group is clean
-pub clean_by : (s : Contents) (v : MetadataRetrieveVersion) (policy : UseConsolidatedMetadata) (b : Path) (m : NodeMetadata) (c : Option Block) → IsTrue (is_group m) → choice s policy b m ≡ Some c
-    → IsGoodBelow s v c true b → IsCleanBelow s v policy b m
+pub clean_by : (s : Contents) (v : MetadataRetrieveVersion) (policy : UseConsolidatedMetadata) (b : Path) (m : NodeMetadata) (c : Choice) → IsTrue (is_group m) → choice s policy b m ≡ c
+    → IsCleanChosen s v c true b → IsCleanBelow s v policy b m
 clean_by s v policy b (Array a) c group chosen clean = tt
 clean_by s v policy b (Group g) c group chosen clean = subst (λ k. IsCleanChosen s v k true b) (sym chosen) clean
 
@@ -163,10 +160,103 @@ pub excused_by : (can_fail : Bool) (m : NodeMetadata) (policy : UseConsolidatedM
 excused_by can_fail m policy e h = block_excused can_fail m policy e h
 
 -- a refusal of what stands below a group is one below the node
-pub refused_by : (can_fail : Bool) (s : Contents) (v : MetadataRetrieveVersion) (policy : UseConsolidatedMetadata) (b : Path) (m : NodeMetadata) (c : Option Block) (e : NodeCreateError) → IsTrue (is_group m)
-    → choice s policy b m ≡ Some c → IsExcused can_fail e ⊎ ShowsBadBelow s v c true b e → IsExcused can_fail e ⊎ RefusesBelow s v policy b m e
+pub refused_by : (can_fail : Bool) (s : Contents) (v : MetadataRetrieveVersion) (policy : UseConsolidatedMetadata) (b : Path) (m : NodeMetadata) (c : Choice) (e : NodeCreateError) → IsTrue (is_group m)
+    → choice s policy b m ≡ c → IsExcused can_fail e ⊎ RefusesChosen s v c true b e → IsExcused can_fail e ⊎ RefusesBelow s v policy b m e
 refused_by can_fail s v policy b (Array a) c e group chosen h = absurd (true≢false (sym group))
 refused_by can_fail s v policy b (Group g) c e group chosen h = ⊎_elim inl (λ shown. inr (subst (λ k. RefusesChosen s v k true b e) (sym chosen) shown)) h
+
+-- what is below the node of a text's path is refused, so the opening is
+pub below_refused : (can_fail : Bool) (s : Contents) (v : MetadataRetrieveVersion) (policy : UseConsolidatedMetadata) (text : List ℕ) (b : Path) (m : NodeMetadata) (e : NodeCreateError)
+    → IsPath b → path_text b ≡ text → meaning s v b ≡ node m → IsExcused can_fail e ⊎ RefusesBelow s v policy b m e → IsExcused can_fail e ⊎ RefusesOpening s v policy text e
+below_refused can_fail s v policy text b m e valid is means h = ⊎_elim inl (λ below. inr (inr (b, valid, is, inr (m, means, below)))) h
+
+-- where the node is no group, nothing below it is refused
+clean_array : (s : Contents) (v : MetadataRetrieveVersion) (policy : UseConsolidatedMetadata) (b : Path) (m : NodeMetadata) → is_group m ≡ false → IsCleanBelow s v policy b m
+clean_array s v policy b (Group g) other = absurd (true≢false other)
+clean_array s v policy b (Array a) other = tt
+
+-- what took a node that is no group took the hierarchy there
+pub opened_array : {K : Type 0} (R : K → Path × NodeMetadata → K → Type 0) (s : Contents) (v : MetadataRetrieveVersion) (policy : UseConsolidatedMetadata) (b q : Path) (m : NodeMetadata) (a z : K)
+    → IsPath b → meaning s v b ≡ node m → is_group m ≡ false → q ≡ b → R a (q, m) z → TakesOpened R a z s v policy b
+opened_array R s v policy b q m a z valid means other same took = record {
+  hierarchy = (b, m) ∷ [];
+  opened = record {
+    base = b;
+    valid = valid;
+    path = refl;
+    metadata = m;
+    means = means;
+    holds = holds_array s v policy b m ((b, m) ∷ []) other refl;
+    clean = clean_array s v policy b m other;
+  };
+  took = (z, subst (λ p. R a (p, m) z) same took, refl);
+}
+
+-- what took a group, and then what stands below it by the choice that is made, took the hierarchy there
+pub opened_group : {K : Type 0} (R : K → Path × NodeMetadata → K → Type 0) (s : Contents) (v : MetadataRetrieveVersion) (policy : UseConsolidatedMetadata) (b q : Path) (m : NodeMetadata) (c : Choice) (a k z : K)
+    → IsPath b → meaning s v b ≡ node m → IsTrue (is_group m) → choice s policy b m ≡ c → q ≡ b → R a (q, m) k → TakesPairs R k z (PairsChosen s v c b) → IsCleanChosen s v c true b
+    → TakesOpened R a z s v policy b
+opened_group R s v policy b q m c a k z valid means group chosen same took t good = record {
+  hierarchy = (b, m) ∷ t.nodes;
+  opened = record {
+    base = b;
+    valid = valid;
+    path = refl;
+    metadata = m;
+    means = means;
+    holds = holds_front b m (PairsOf s v policy b m) (pairs_low s v policy b m) t.nodes (listed_by s v policy b m c t.nodes group chosen t.lists) t.ordered ((b, m) ∷ t.nodes) refl;
+    clean = clean_by s v policy b m c group chosen good;
+  };
+  took = (k, subst (λ p. R a (p, m) k) same took, t.took);
+}
+
+-- the opening is refused where what stands below a group by the choice that is made is
+pub group_refused : (can_fail : Bool) (s : Contents) (v : MetadataRetrieveVersion) (policy : UseConsolidatedMetadata) (b : Path) (m : NodeMetadata) (c : Choice) (e : NodeCreateError) → IsPath b → meaning s v b ≡ node m
+    → IsTrue (is_group m) → choice s policy b m ≡ c → IsExcused can_fail e ⊎ RefusesChosen s v c true b e → IsExcused can_fail e ⊎ RefusesOpening s v policy (path_text b) e
+group_refused can_fail s v policy b m c e valid means group chosen h = below_refused can_fail s v policy (path_text b) b m e valid refl means (refused_by can_fail s v policy b m c e group chosen h)
+
+-- the want of a block refuses what stands below a group
+wanted : (s : Contents) (v : MetadataRetrieveVersion) (b : Path) (c : Choice) (e : NodeCreateError) → RefusesUse b c e → RefusesChosen s v c true b e
+wanted s v b refuse e u = u
+wanted s v b (use_block B) e u = absurd (used e u)
+  where
+    used : (e : NodeCreateError) → RefusesUse b (use_block B) e → ⊥
+    used (NodePathError f) u = u
+    used (StorePrefixError f) u = u
+    used (StorageError f) u = u
+    used MetadataVersionMismatch u = u
+    used (MissingMetadata text) u = let no : use_block B ≡ refuse = u.0 in cc
+    used OutOfMemory u = let no : use_block B ≡ refuse = u in cc
+wanted s v b list_store e u = absurd (listed e u)
+  where
+    listed : (e : NodeCreateError) → RefusesUse b list_store e → ⊥
+    listed (NodePathError f) u = u
+    listed (StorePrefixError f) u = u
+    listed (StorageError f) u = u
+    listed MetadataVersionMismatch u = u
+    listed (MissingMetadata text) u = let no : list_store ≡ refuse = u.0 in cc
+    listed OutOfMemory u = let no : list_store ≡ refuse = u in cc
+
+-- so the opening is refused where its block is wanted, or memory for it is
+pub want_refused : (can_fail : Bool) (s : Contents) (v : MetadataRetrieveVersion) (policy : UseConsolidatedMetadata) (b : Path) (m : NodeMetadata) (e : NodeCreateError) → IsPath b → meaning s v b ≡ node m → IsTrue (is_group m)
+    → ExcusesBlock can_fail m policy e ⊎ RefusesUse b (choice s policy b m) e → IsExcused can_fail e ⊎ RefusesOpening s v policy (path_text b) e
+want_refused can_fail s v policy b (Array a) e valid means group h = absurd (true≢false (sym group))
+want_refused can_fail s v policy b (Group g) e valid means group h =
+    below_refused can_fail s v policy (path_text b) b (Group g) e valid refl means
+    (⊎_elim (λ x. inl (excused_by can_fail (Group g) policy e x)) (λ u. inr (wanted s v b (choice s policy b (Group g)) e u)) h)
+
+-- an error that is handed on is the one that came
+pub error_handed : {A E : Type 0} (r : Result A E) (e : E) (P : E → Type 0) → IsErrAnd r (λ made. made ≡ e) → P e → IfErr r P
+error_handed (Ok x) e P is h = absurd is
+error_handed (Err made) e P is h = subst P (sym is) h
+
+-- a list that was empty and took the hierarchy at a path is that hierarchy
+pub kept_opened : (s : Contents) (v : MetadataRetrieveVersion) (policy : UseConsolidatedMetadata) (b : Path) (text : List ℕ) (a z : Vec (Path × NodeMetadata)) → a.items ≡ [] → path_text b ≡ text
+    → TakesOpened KeepsPair a z s v policy b → IsOpened s v policy text z.items
+kept_opened s v policy b text a z none is t =
+    let all : z.items ≡ t.hierarchy =
+    took_joined KeepsPair (λ x. x.items) (λ d. d ∷ []) (λ x d y r. r) a t.hierarchy z t.took ∙ ap (λ x. x ++ flat_map (λ (d : Path × NodeMetadata). d ∷ []) t.hierarchy) none ∙ joined_same t.hierarchy in
+    subst (λ x. IsOpened s v policy x z.items) is (subst (IsOpened s v policy (path_text b)) (sym all) t.opened)
 
 -- ---- the text of what stands below a base
 
@@ -215,8 +305,3 @@ group_holds s v b q m k a z there same alone t =
     let holds_q = holds_walked q (Group k) (Nodes s v true q) (nodes_low s v q) a z alone t in
     let holds_b = subst (λ r. Holds z.items (WithBase r (Group k) (Nodes s v true r))) there holds_q in
     subst (λ n. Holds z.items (WithBase b (Group n) (Nodes s v true b))) same holds_b
-
--- what is below the node of a text's path is refused, so the opening is
-pub below_refused : (can_fail : Bool) (s : Contents) (v : MetadataRetrieveVersion) (policy : UseConsolidatedMetadata) (text : List ℕ) (b : Path) (m : NodeMetadata) (e : NodeCreateError)
-    → IsPath b → path_text b ≡ text → meaning s v b ≡ node m → IsExcused can_fail e ⊎ RefusesBelow s v policy b m e → IsExcused can_fail e ⊎ RefusesOpening s v policy text e
-below_refused can_fail s v policy text b m e valid is means h = ⊎_elim inl (λ below. inr (inr (b, valid, is, inr (m, means, below)))) h

@@ -1,13 +1,14 @@
 -- Zarr core specification 3.1, "Hierarchy": both printings of one group.
 -- <https://zarr-specs.readthedocs.io/en/latest/v3/core/index.html#hierarchy>
-use Rattle.std.specs.Prelude.{◌≡◌, ℕ, List, [], ◌∷◌, ◌++◌, Option, Some, None, IsTrue, codes}
+use Rattle.std.specs.Prelude.{◌≡◌, ℕ, List, [], ◌∷◌, ◌++◌, IsTrue, codes}
 use Rattle.zarrs_store.specs.Contents.{Contents}
 use Rattle.zarrs_path.specs.Paths.{Path, IsPath, path_text}
 use Rattle.zarrs_meta.specs.Node.{is_group}
 use Rattle.zarrs_meta.specs.declared.node.NodeMetadata.{NodeMetadata}
 use Rattle.zarrs_config.specs.declared.version.MetadataRetrieveVersion.{MetadataRetrieveVersion}
 use Rattle.zarrs_config.specs.declared.version.UseConsolidatedMetadata.{UseConsolidatedMetadata}
-use Rattle.zarrs_block.specs.Block.{Block, Entries}
+use Rattle.zarrs_block.specs.Block.{Entries}
+use Rattle.zarrs_block.specs.Policy.{Choice, use_block, list_store, refuse}
 use Rattle.zarrs_node.specs.Forest.{Forest}
 use Rattle.zarrs_node.specs.Lines.{tree_text}
 use Rattle.zarrs_block.specs.Meaning.{meaning, node}
@@ -19,11 +20,11 @@ use Rattle.zarrs_hierarchy.specs.Tree.{IsTreeOf, shown_text}
 use Rattle.zarrs_node.specs.Order.{Ascend}
 use Rattle.zarrs_fault.specs.Bytes.{newline}
 
--- the nodes below b are listed, or stand in a block whose entries are closed
-abbrev pub IsClosedChoice : Option (Option Block) → Path → Type 0
-IsClosedChoice None b = ⊥
-IsClosedChoice (Some None) b = Unit {0}
-IsClosedChoice (Some (Some B)) b = Closed (Entries B b) b
+-- a block is used, whose entries below b are closed, or the store is listed; and the want of a block is not refused
+abbrev pub IsClosedChoice : Choice → Path → Type 0
+IsClosedChoice (use_block B) b = Closed (Entries B b) b
+IsClosedChoice list_store b = Unit {0}
+IsClosedChoice refuse b = ⊥
 
 -- A group at one path is opened from one store as a node and as a hierarchy, by a listing or by a closed block. What
 -- the node prints and

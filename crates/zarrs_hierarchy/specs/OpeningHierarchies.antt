@@ -3,28 +3,30 @@
 -- <https://zarr-specs.readthedocs.io/en/latest/v3/core/index.html#hierarchy>
 -- <https://zarr-specs.readthedocs.io/en/latest/v3/core/index.html#group-metadata>
 -- <https://zarr.readthedocs.io/en/stable/user-guide/consolidated_metadata/>
-use Rattle.std.specs.Prelude.{◌≡◌, ℕ, List, Option, Some, None}
+use Rattle.std.specs.Prelude.{◌≡◌, ℕ, true, List}
 use Rattle.zarrs_store.specs.Contents.{Contents}
 use Rattle.zarrs_path.specs.Paths.{Path, IsPath, path_text}
 use Rattle.zarrs_meta.specs.declared.node.NodeMetadata.{NodeMetadata}
 use Rattle.zarrs_meta.specs.declared.node.NodeMetadata.TheVariants.{Group, Array}
 use Rattle.zarrs_config.specs.declared.version.MetadataRetrieveVersion.{MetadataRetrieveVersion}
 use Rattle.zarrs_config.specs.declared.version.UseConsolidatedMetadata.{UseConsolidatedMetadata}
-use Rattle.zarrs_block.specs.Block.{Block}
+use Rattle.zarrs_block.specs.Block.{Entries}
+use Rattle.zarrs_block.specs.Policy.{Choice, use_block, list_store, refuse}
 use Rattle.zarrs_block.specs.Meaning.{meaning, node}
-use Rattle.zarrs_node.specs.BlocksBelow.{PairsBelow}
+use Rattle.zarrs_node.specs.Nodes.{Nodes}
 use Rattle.zarrs_node.specs.OpeningNodes.{choice, IsCleanBelow}
 use Rattle.zarrs_hierarchy.specs.PairsOfHierarchies.{Pairs, Holds, WithBase}
 use Rattle.zarrs_hierarchy.specs.Tree.{IsTreeOf}
 use Rattle.zarrs_block.specs.Meaning.{Pair}
 
--- the pairs below b by the block that is chosen or by a listing; none where the want of a block is refused
-abbrev pub PairsChosen : Contents → MetadataRetrieveVersion → Option (Option Block) → Path → Pair → Type 0
-PairsChosen s v None b e = ⊥
-PairsChosen s v (Some c) b e = PairsBelow s v c b e
+-- the pairs below b: all entries of the block that is used, or the nodes that a listing finds; none where the want of
+-- a block is refused
+abbrev pub PairsChosen : Contents → MetadataRetrieveVersion → Choice → Path → Pair → Type 0
+PairsChosen s v (use_block B) b e = Entries B b e
+PairsChosen s v list_store b e = Nodes s v true b e
+PairsChosen s v refuse b e = ⊥
 
--- below an array there is nothing; below a group stand all entries of its block, or where none is used the nodes that
--- a listing finds
+-- below an array there is nothing; below a group stand the pairs of the choice that is made for it
 abbrev pub PairsOf : Contents → MetadataRetrieveVersion → UseConsolidatedMetadata → Path → NodeMetadata → Pair → Type 0
 PairsOf s v policy b (Array a) e = ⊥
 PairsOf s v policy b (Group g) e = PairsChosen s v (choice s policy b (Group g)) b e

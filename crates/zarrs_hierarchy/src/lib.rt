@@ -10,6 +10,7 @@ mod tree;
 mod tree_text;
 
 pub use hierarchy::{Hierarchy, HierarchyCreateError};
+pub use open::walk_hierarchy;
 pub use tree::depth;
 pub use tree_text::tree_at;
 pub use zarrs_block::NodeCreateError;

@@ -1,14 +1,15 @@
 //! Hierarchies of what a store has at a path and below it.
 ghost use Rattle.std.specs.Prelude.{◌≡◌, ◌∷◌, [], true, IfOk, IfErr, OnOk};
+ghost use Rattle.zarrs_path.specs.Paths.{path_text};
 ghost use Rattle.zarrs_meta.specs.declared.node.NodeMetadata.TheVariants.{Group as group_node};
 ghost use Rattle.zarrs_block.specs.Refusals.{IsExcusedOr};
-ghost use Rattle.zarrs_block.specs.Policy.{as_block};
-ghost use Rattle.zarrs_node.specs.BlocksBelow.{PairsBelow, IsGoodBelow, ShowsBadBelow};
+ghost use Rattle.zarrs_block.specs.Policy.{as_choice};
 ghost use Rattle.zarrs_node.specs.Nodes.{Nodes, ShowsBad, HasNothingBad};
-ghost use Rattle.zarrs_node.specs.OpeningNodes.{IsCleanBelow, RefusesBelow, RefusesOpening};
+ghost use Rattle.zarrs_node.specs.OpeningNodes.{IsCleanChosen, RefusesChosen, RefusesOpening};
 ghost use Rattle.zarrs_hierarchy.specs.PairsOfHierarchies.{Holds, WithBase};
 ghost use Rattle.zarrs_node.specs.Sinks.{TakesAll};
-ghost use Rattle.zarrs_hierarchy.specs.OpeningHierarchies.{PairsOf, IsOpened};
+ghost use Rattle.zarrs_hierarchy.specs.OpeningHierarchies.{PairsChosen, IsOpened};
+ghost use Rattle.zarrs_hierarchy.specs.Sinks.{TakesOpened};
 ghost use Rattle.zarrs_hierarchy.specs.StepsOfHierarchies.{TakesPairs};
 
 use crate::hierarchy::{Hierarchy, HierarchyCreateError};
@@ -76,7 +77,6 @@ impl Hierarchy {
     /// there is no memory.
     ///
     /// Source: `zarrs::hierarchy::Hierarchy::open_opt`.
-    #[tactic(auto, using(crate::proofs::OpenedPairs::below_refused))]
     pub fn open_opt<L: Log, S: ReadableStorageTraits + ListableStorageTraits>(
         log: &L,
         alloc: Global,
@@ -93,8 +93,8 @@ impl Hierarchy {
             path.now)) }
     {
         let path = NodePath::new(alloc, path)?;
-        let metadata = Node::get_metadata(alloc, storage, &path, version)?;
-        let nodes = nodes_from(log, alloc, storage, &path, metadata, version, config)?;
+        let mut nodes = Vec::new(alloc);
+        walk_hierarchy(log, alloc, storage, &path, version, config, &mut nodes)?;
         Ok(Hierarchy { nodes })
     }
 
@@ -135,38 +135,43 @@ impl Hierarchy {
     }
 }
 
-// The node at a path, which has these metadata, and behind it the nodes below.
-#[tactic(auto, using(crate::proofs::OpenedPairs::excused_by))]
-fn nodes_from<L: Log, S: ReadableStorageTraits + ListableStorageTraits>(
+/// Hands what [`Hierarchy::open_opt`] finds at a path to a sink: the node at the path first, then the nodes below it in the order of paths, each when it
+/// is read. No hierarchy is made. After an error the sink may have taken some.
+///
+/// # Errors
+///
+/// The refusals of [`Hierarchy::open_opt`], but for those of the path's text.
+///
+/// Source: own; `zarrs::hierarchy::Hierarchy::open_opt`.
+#[tactic(auto, using(crate::proofs::OpenedPairs::group_refused))]
+pub fn walk_hierarchy<L: Log, S: ReadableStorageTraits + ListableStorageTraits, K: NodeSink>(
     log: &L,
     alloc: Global,
     storage: &S,
     path: &NodePath,
-    metadata: NodeMetadata,
     version: &MetadataRetrieveVersion,
     config: &Config,
-) -> Result<Vec<(NodePath, NodeMetadata)>, HierarchyCreateError>
-    ensures holds { IfOk result
-        (λ nodes. Holds nodes.items
-        (WithBase path.now metadata
-        (PairsOf (S.contents storage.now) version.now config.now.use_consolidated path.now
-        metadata))) }
-    ensures clean { IfOk result
-        (λ _. IsCleanBelow
-        (S.contents storage.now) version.now config.now.use_consolidated path.now metadata) }
+    sink: &mut K,
+) -> Result<(), HierarchyCreateError>
+    ensures takes { OnOk result
+        (TakesOpened K.takes sink.old sink.new
+        (S.contents storage.now) version.now config.now.use_consolidated path.now) }
     ensures refused { IfErr result
         (IsExcusedOr (S.can_fail storage.now)
-        (RefusesBelow (S.contents storage.now) version.now config.now.use_consolidated path.now
-        metadata)) }
+        (RefusesOpening (S.contents storage.now) version.now config.now.use_consolidated
+        (path_text path.now))) }
 {
+    let _valid = path.as_str();
+    let metadata = Node::get_metadata(alloc, storage, path, version)?;
+    let own_path = path.try_clone(alloc)?;
     if !metadata.is_group() {
-        return Ok(base_alone(alloc, path, metadata)?);
+        return Ok(sink.take(own_path, metadata)?);
     }
     let policy = config.use_consolidated_metadata();
     let block = consolidated_metadata_at(alloc, storage, path, &metadata, policy)?;
-    let mut nodes = base_alone(alloc, path, metadata)?;
-    tell_below(log, alloc, storage, path, version, block, &mut nodes)?;
-    Ok(nodes)
+    sink.take(own_path, metadata)?;
+    tell_below(log, alloc, storage, path, version, block, sink)?;
+    Ok(())
 }
 
 // Hands the nodes below a group to a sink, in the order of paths: the entries of the block that is used, or where none is, the nodes that a
@@ -182,12 +187,12 @@ pub(crate) fn tell_below<L: Log, S: ReadableStorageTraits + ListableStorageTrait
 ) -> Result<(), HierarchyCreateError>
     ensures takes { OnOk result
         (TakesPairs K.takes sink.old sink.new
-        (PairsBelow (S.contents storage.now) version.now (as_block block) path.now)) }
+        (PairsChosen (S.contents storage.now) version.now (as_choice block) path.now)) }
     ensures clean { OnOk result
-        (IsGoodBelow (S.contents storage.now) version.now (as_block block) true path.now) }
+        (IsCleanChosen (S.contents storage.now) version.now (as_choice block) true path.now) }
     ensures refused { IfErr result
         (IsExcusedOr (S.can_fail storage.now)
-        (ShowsBadBelow (S.contents storage.now) version.now (as_block block) true path.now)) }
+        (RefusesChosen (S.contents storage.now) version.now (as_choice block) true path.now)) }
 {
     match block {
         Some(block) => {

@@ -60,7 +60,7 @@ pub fn tree_at<L: Log, S: ReadableStorageTraits + ListableStorageTraits>(
 }
 
 // Hands the nodes below one, which has these metadata, to a sink, in the order of paths.
-#[tactic(auto, using(crate::proofs::OpenedPairs::excused_by, crate::proofs::OpenedPairs::clean_by, crate::proofs::OpenedPairs::refused_by, crate::proofs::OpenedPairs::told_array, crate::proofs::OpenedPairs::told_group))]
+#[tactic(auto, using(crate::proofs::OpenedPairs::excused_by, crate::proofs::OpenedPairs::clean_by, crate::proofs::OpenedPairs::refused_by, crate::proofs::OpenedPairs::told_array))]
 fn tell_node<L: Log, S: ReadableStorageTraits + ListableStorageTraits, K: NodeSink>(
     log: &L,
     alloc: Global,
