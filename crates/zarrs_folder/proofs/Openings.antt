@@ -1,5 +1,5 @@
 -- What a store answers in the place of the one that it was loaded from.
-use Rattle.std.proofs.Common.{◌≡◌, ◌↔◌, ◌⊎◌, inl, inr, ⊎_elim, true, true≢false, List, [], ◌∷◌, ◌++◌, Option, Some, None, refl, sym, ap, subst, ◌∙◌}
+use Rattle.std.proofs.Common.{◌≡◌, ◌↔◌, ◌⊎◌, inl, inr, ⊎_elim, true, true≢false, List, [], ◌∷◌, ◌++◌, refl, sym, ap, subst, ◌∙◌}
 use Rattle.std.specs.Prelude.{option_and_then}
 use Rattle.std.specs.FinMap as map
 use Rattle.std.specs.Result.{result_ok}
@@ -17,7 +17,7 @@ use Rattle.zarrs_config.specs.declared.version.MetadataRetrieveVersion.TheVarian
 use Rattle.zarrs_config.specs.declared.version.UseConsolidatedMetadata.{UseConsolidatedMetadata}
 use Rattle.zarrs_block.specs.Block.{Block, IsBlockOf}
 use Rattle.zarrs_block.specs.Meaning.{meaning, node}
-use Rattle.zarrs_block.specs.Policy.{block_to_use, node_block}
+use Rattle.zarrs_block.specs.Policy.{Choice, use_block, list_store, refuse, block_to_use, node_block}
 use Rattle.zarrs_block.specs.Zmetadata.{zmetadata_in}
 use Rattle.zarrs_block.specs.declared.node_create_error.NodeCreateError.{NodeCreateError}
 use Rattle.zarrs_node.specs.BlocksBelow.{block_at}
@@ -137,7 +137,7 @@ module _ (S L : Contents) (b : Path) (base : HasBaseOf S L b) (policy : UseConso
   choice_same m = ap (λ o. block_to_use o policy) ((base_shows_same S L b base).1 m)
 
   -- what has the same base opens the same, except for groups that are listed
-  base_with : ((g : GroupMetadata) → meaning S Default b ≡ node (Group g) → choice S policy b (Group g) ≡ Some None → ListSame S L b) → OpenSame S L policy b
+  base_with : ((g : GroupMetadata) → meaning S Default b ≡ node (Group g) → choice S policy b (Group g) ≡ list_store → ListSame S L b) → OpenSame S L policy b
   base_with listed = record { means = (base_shows_same S L b base).0 Default; choices = choice_same; listed = listed }
 
 -- a loaded store opens the same
@@ -159,34 +159,34 @@ pub block_opens_same : BlockOpensSame
 block_opens_same S L b base policy m B means chosen = base_opens_same S L b base policy
     (λ g is none.
     let same : m ≡ Group g = same_node m (Group g) (sym means ∙ is) in
-    let two : Some (Some B) ≡ Some None = sym (subst (λ x. choice L policy b x ≡ Some (Some B)) same chosen) ∙ none in
+    let two : use_block B ≡ list_store = sym (subst (λ x. choice L policy b x ≡ use_block B) same chosen) ∙ none in
     cc)
 
 -- ---- answers
 
 -- what is shown by a choice is the same where a listing is
-shown_chosen : (S L : Contents) (b : Path) (f : Forest) (c : Option (Option Block)) → (c ≡ Some None → ListSame S L b) → ShowsChosen L Default c true b f ↔ ShowsChosen S Default c true b f
-shown_chosen S L b f None same = (λ h. h, λ h. h)
-shown_chosen S L b f (Some None) same = (
+shown_chosen : (S L : Contents) (b : Path) (f : Forest) (c : Choice) → (c ≡ list_store → ListSame S L b) → ShowsChosen L Default c true b f ↔ ShowsChosen S Default c true b f
+shown_chosen S L b f (use_block B) same = (λ h. h, λ h. h)
+shown_chosen S L b f list_store same = (
   shows_over (Nodes L Default true b) (Nodes S Default true b) f b (same refl).nodes,
   shows_over (Nodes S Default true b) (Nodes L Default true b) f b (λ e. turned ((same refl).nodes e)),
 )
-shown_chosen S L b f (Some (Some B)) same = (λ h. h, λ h. h)
+shown_chosen S L b f refuse same = (λ h. h, λ h. h)
 
 -- and so is whether it is refused
-clean_chosen : (S L : Contents) (b : Path) (c : Option (Option Block)) → (c ≡ Some None → ListSame S L b) → IsCleanChosen L Default c true b ↔ IsCleanChosen S Default c true b
-clean_chosen S L b None same = (λ h. h, λ h. h)
-clean_chosen S L b (Some None) same = (same refl).clean
-clean_chosen S L b (Some (Some B)) same = (λ h. h, λ h. h)
+clean_chosen : (S L : Contents) (b : Path) (c : Choice) → (c ≡ list_store → ListSame S L b) → IsCleanChosen L Default c true b ↔ IsCleanChosen S Default c true b
+clean_chosen S L b (use_block B) same = (λ h. h, λ h. h)
+clean_chosen S L b list_store same = (same refl).clean
+clean_chosen S L b refuse same = (λ h. h, λ h. h)
 
 -- and for what
-refused_chosen : (S L : Contents) (b : Path) (e : NodeCreateError) (c : Option (Option Block)) → (c ≡ Some None → ListSame S L b) → RefusesChosen L Default c true b e ↔ RefusesChosen S Default c true b e
-refused_chosen S L b e None same = (λ h. h, λ h. h)
-refused_chosen S L b e (Some None) same = (same refl).refusals e
-refused_chosen S L b e (Some (Some B)) same = (λ h. h, λ h. h)
+refused_chosen : (S L : Contents) (b : Path) (e : NodeCreateError) (c : Choice) → (c ≡ list_store → ListSame S L b) → RefusesChosen L Default c true b e ↔ RefusesChosen S Default c true b e
+refused_chosen S L b e (use_block B) same = (λ h. h, λ h. h)
+refused_chosen S L b e list_store same = (same refl).refusals e
+refused_chosen S L b e refuse same = (λ h. h, λ h. h)
 
 -- what holds both ways of a choice does so of one that it is
-by_choice : (P : Option (Option Block) → Type 0) (Q : Type 0) (c d : Option (Option Block)) → c ≡ d → P d ↔ Q → P c ↔ Q
+by_choice : (P : Choice → Type 0) (Q : Type 0) (c d : Choice) → c ≡ d → P d ↔ Q → P c ↔ Q
 by_choice P Q c d same h = (λ p. h.0 (subst P same p), λ q. subst P (sym same) (h.1 q))
 
 module _ (S L : Contents) (policy : UseConsolidatedMetadata) (b : Path) (same : OpenSame S L policy b) where
@@ -194,7 +194,7 @@ module _ (S L : Contents) (policy : UseConsolidatedMetadata) (b : Path) (same : 
   pub below_same : (m : NodeMetadata) → meaning S Default b ≡ node m → ShowBelowSame S L policy b m
   below_same (Array a) is = record { shown = λ f. (λ h. h, λ h. h); clean = (λ h. h, λ h. h); refused = λ e. (λ h. h, λ h. h) }
   below_same (Group g) is =
-      let c : Option (Option Block) = choice S policy b (Group g) in
+      let c : Choice = choice S policy b (Group g) in
       record {
         shown = λ f. by_choice (λ d. ShowsChosen L Default d true b f) (ShowsChosen S Default c true b f) (choice L policy b (Group g)) c (same.choices (Group g)) (shown_chosen S L b f c (same.listed g is));
         clean = by_choice (λ d. IsCleanChosen L Default d true b) (IsCleanChosen S Default c true b) (choice L policy b (Group g)) c (same.choices (Group g)) (clean_chosen S L b c (same.listed g is));

@@ -6,7 +6,7 @@
 --     ListSame S L b      both stores list the same below b
 --     OpenSame S L policy b      both stores open the same at b
 --     AnswerSame S L policy b      what they show there, and what they refuse, is the same
-use Rattle.std.specs.Prelude.{◌≡◌, ◌↔◌, true, Some, None}
+use Rattle.std.specs.Prelude.{◌≡◌, ◌↔◌, true}
 use Rattle.zarrs_store.specs.Contents.{Contents}
 use Rattle.zarrs_path.specs.Paths.{Path, IsPath, path_text}
 use Rattle.zarrs_meta.specs.declared.node.GroupMetadata.{GroupMetadata}
@@ -15,6 +15,7 @@ use Rattle.zarrs_meta.specs.declared.node.NodeMetadata.TheVariants.{Group}
 use Rattle.zarrs_config.specs.declared.version.MetadataRetrieveVersion.TheVariants.{Default}
 use Rattle.zarrs_config.specs.declared.version.UseConsolidatedMetadata.{UseConsolidatedMetadata}
 use Rattle.zarrs_block.specs.Block.{Block}
+use Rattle.zarrs_block.specs.Policy.{use_block, list_store}
 use Rattle.zarrs_block.specs.Meaning.{meaning, node}
 use Rattle.zarrs_block.specs.declared.node_create_error.NodeCreateError.{NodeCreateError}
 use Rattle.zarrs_node.specs.Forest.{Forest}
@@ -33,12 +34,12 @@ pub record ListSame (S L : Contents) (b : Path) : Type 0 where
   pub clean : HasNothingBad L Default true b ↔ HasNothingBad S Default true b
   pub refusals : (e : NodeCreateError) → ShowsBad L Default true b e ↔ ShowsBad S Default true b e
 
--- b means the same in both stores, and by the policy the same block is chosen there; where b means a group of which
--- none is used, both list the same below b
+-- b means the same in both stores, and by the policy the same is chosen there; where b means a group below which the
+-- choice is to list the store, both list the same below b
 pub record OpenSame (S L : Contents) (policy : UseConsolidatedMetadata) (b : Path) : Type 0 where
   pub means : meaning L Default b ≡ meaning S Default b
   pub choices : (m : NodeMetadata) → choice L policy b m ≡ choice S policy b m
-  pub listed : (g : GroupMetadata) → meaning S Default b ≡ node (Group g) → choice S policy b (Group g) ≡ Some None
+  pub listed : (g : GroupMetadata) → meaning S Default b ≡ node (Group g) → choice S policy b (Group g) ≡ list_store
       → ListSame S L b
 
 -- where b means a node with these metadata, what is shown below it is the same in both stores, and so is what is
@@ -84,14 +85,14 @@ LoadedOpensSame =
 abbrev pub BaseOpensSame : Type 0
 BaseOpensSame = (S L : Contents) (b : Path) → HasBaseOf S L b
     → (policy : UseConsolidatedMetadata)
-    → ((g : GroupMetadata) → meaning L Default b ≡ node (Group g) → choice L policy b (Group g) ≡ Some None → ⊥)
+    → ((g : GroupMetadata) → meaning L Default b ≡ node (Group g) → choice L policy b (Group g) ≡ list_store → ⊥)
     → OpenSame S L policy b
 
 -- A store with the base of another opens there as the other, where a block is used.
 abbrev pub BlockOpensSame : Type 0
 BlockOpensSame = (S L : Contents) (b : Path) → HasBaseOf S L b
     → (policy : UseConsolidatedMetadata) (m : NodeMetadata) (B : Block) → meaning L Default b ≡ node m
-    → choice L policy b m ≡ Some (Some B) → OpenSame S L policy b
+    → choice L policy b m ≡ use_block B → OpenSame S L policy b
 
 -- Stores that open the same answer the same.
 abbrev pub OpenedAnswerSame : Type 0

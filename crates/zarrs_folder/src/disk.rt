@@ -293,14 +293,32 @@ fn is_of_node(key: &str) -> bool {
 // The longest file for which there is room before it is read.
 const LONGEST_AT_ONCE: u64 = 64 * 1024;
 
-// All bytes of a file, which had this length when it was looked at. With room for one byte more, a reading that comes to no more than that finds the
-// end without growing.
+// All bytes of a file, which had this length when it was looked at. A first reading that had room for more, and came to just this length, has found the
+// end. Of any other file the rest is read until there is no more.
 fn bytes_of<R: Files>(alloc: Global, rt: &R, path: &str, length: u64) -> io::Result<Vec<u8>> {
     let mut file = File::open(rt, path)?;
-    let room = length.min(LONGEST_AT_ONCE) as usize + 1;
-    let mut bytes = Vec::with_capacity(alloc, room)?;
+    let mut bytes = zeros(alloc, length.min(LONGEST_AT_ONCE) as usize + 1)?;
+    let room = bytes.len();
+    let read = read_once(&mut file, &mut bytes)?;
+    bytes.truncate(read);
+    if read < room && read as u64 == length {
+        return Ok(bytes);
+    }
     file.read_to_end(&mut bytes)?;
     Ok(bytes)
+}
+
+// What one reading came to; nothing where a signal interrupted it.
+fn read_once<F: Read>(file: &mut F, bytes: &mut [u8]) -> io::Result<usize> {
+    match file.read(bytes) {
+        Err(e) if e.kind() == ErrorKind::Interrupted => Ok(0),
+        read => read,
+    }
+}
+
+// A buffer of a size that is a parameter, so that no proof sees its bytes.
+fn zeros(alloc: Global, size: usize) -> Result<Vec<u8>, AllocError> {
+    vec![in alloc; 0u8; size]
 }
 
 // What stands where there is no link.
