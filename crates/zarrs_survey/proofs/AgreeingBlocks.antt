@@ -19,7 +19,7 @@ use Rattle.zarrs_meta.specs.declared.node.GroupMetadata.TheVariants.{V2, V3}
 use Rattle.zarrs_meta.specs.declared.node.NodeMetadata.{NodeMetadata}
 use Rattle.zarrs_meta.specs.declared.node.NodeMetadata.TheVariants.{Group, Array}
 use Rattle.zarrs_block.specs.Block.{Block, Entries, HasValidKeys, IsValidKey, entry}
-use Rattle.zarrs_block.specs.Policy.{block_to_use}
+use Rattle.zarrs_block.specs.Policy.{use_block, list_store, block_to_use}
 use Rattle.zarrs_compare.specs.Same.{IsSame, without_block}
 use Rattle.zarrs_compare.specs.StepsOfSame.{same_node}
 use Rattle.zarrs_compare.proofs.SameNodes.{same_from_test, test_from_same}
@@ -33,6 +33,7 @@ use Rattle.zarrs_node.proofs.FlatForests.{contains_map, contains_mapped}
 use Rattle.zarrs_node.proofs.ListedItems.{listed_each, all_pairs_first, all_pairs_tail}
 use Rattle.zarrs_node.proofs.Order.{shown_ascend}
 use Rattle.zarrs_node.proofs.Unique.{names_irrefl}
+use Rattle.zarrs_survey.specs.declared.base.Base.TheVariants.{Node}
 use Rattle.zarrs_survey.specs.Checks.{block_read, HasBadPath, HasOtherAttributes, IsBlockFinding, IsToldOf}
 use Rattle.zarrs_node.specs.Exists.{HasNodeKey}
 use Rattle.zarrs_survey.specs.Findings.{HasPath, IsSpoilt, IsKeyFinding, IsPathFinding, IsFinding}
@@ -142,7 +143,7 @@ path_out es p h = contains_map (λ (e : Pair). e.0) es (p, h.0) h.1
 -- ---- nothing is to be told
 
 module _ (s : Contents) (v : MetadataRetrieveVersion) (b : Path) (survey : Survey) (h : IsSurveyOf s v b survey) (sound : survey.bad_documents ≡ []) (m : NodeMetadata) (B : Block)
-    (base : survey.base ≡ Ok m) (read : block_read s b m ≡ Some (Ok B)) (none : (f : Finding) → IsBlockFinding s v b f → f.group ≡ b → f.kind ≡ OwnAttributes) where
+    (base : survey.base ≡ Node m) (read : block_read s b m ≡ Some (Ok B)) (none : (f : Finding) → IsBlockFinding s v b f → f.group ≡ b → f.kind ≡ OwnAttributes) where
   -- so nothing of the block is
   untold : (p : Path) (k : FindingKind) → IsFinding B (Nodes s v true b) (HasBadPath s v b) (HasNodeKey s) b (record { group = b; path = p; kind = k }) → ⊥
   untold p k is =
@@ -226,14 +227,14 @@ module _ (s : Contents) (v : MetadataRetrieveVersion) (b : Path) (survey : Surve
       to_f p w = let x = has_entry p (w.0, (listed_each shows_g.shown (p, w.0)).0 w.1) in (x.0, (listed_each shows_f.shown (p, x.0)).1 x.1)
 
 -- by a group's choice of the block, and of a listing
-by_choice : (s : Contents) (v : MetadataRetrieveVersion) (b : Path) (g : GroupMetadata) (B : Block) → block_at s b (Group g) ≡ Some B → choice s Must b (Group g) ≡ Some (Some B)
+by_choice : (s : Contents) (v : MetadataRetrieveVersion) (b : Path) (g : GroupMetadata) (B : Block) → block_at s b (Group g) ≡ Some B → choice s Must b (Group g) ≡ use_block B
 by_choice s v b g B e = ap (λ o. block_to_use o Must) e
 
 -- by a listing no block is chosen for a group
-listed : (s : Contents) (b : Path) (g : GroupMetadata) → choice s Never b (Group g) ≡ Some None
+listed : (s : Contents) (b : Path) (g : GroupMetadata) → choice s Never b (Group g) ≡ list_store
 listed s b g = by (block_at s b (Group g))
   where
-    by : (o : Option Block) → block_to_use o Never ≡ Some None
+    by : (o : Option Block) → block_to_use o Never ≡ list_store
     by None = refl
     by (Some B) = refl
 

@@ -19,6 +19,8 @@ use Rattle.zarrs_node.proofs.KeptOfLists.{below_later}
 use Rattle.zarrs_node.proofs.Order.{contains_cases}
 use Rattle.zarrs_node.proofs.Unique.{names_irrefl}
 use Rattle.zarrs_node.proofs.Child.{node_same}
+use Rattle.zarrs_survey.specs.declared.base.Base.{Base}
+use Rattle.zarrs_survey.specs.declared.base.Base.TheVariants.{Node, Refused}
 use Rattle.zarrs_survey.specs.Checks.{block_read, own_read, node_attributes, HasOtherAttributes, HasNode, HasBadPath, fault_of_block, IsToldOf, StandsBefore, AreBlockFindings}
 use Rattle.zarrs_node.specs.Exists.{HasNodeKey}
 use Rattle.zarrs_survey.specs.Findings.{AreFindings, IsPathFinding}
@@ -185,21 +187,21 @@ ends_more D (d ∷ cs) c bad told found whole is are end = (are.0, are.1 ++ foun
 
 -- ---- by what a survey is
 
--- an answer gives a node
-abbrev IsGiven : Result NodeMetadata NodeCreateError → Type 0
-IsGiven (Ok x) = Unit {0}
-IsGiven (Err e) = ⊥
+-- a base is a node
+abbrev IsGiven : Base → Type 0
+IsGiven (Node x) = Unit {0}
+IsGiven (Refused e) = ⊥
 
 -- the base of a survey that means a node is that node
-pub base_means : (s : Contents) (v : MetadataRetrieveVersion) (b : Path) (survey : Survey) → IsSurveyOf s v b survey → (m : NodeMetadata) → (survey.base ≡ Ok m) ↔ (meaning s v b ≡ node m)
+pub base_means : (s : Contents) (v : MetadataRetrieveVersion) (b : Path) (survey : Survey) → IsSurveyOf s v b survey → (m : NodeMetadata) → (survey.base ≡ Node m) ↔ (meaning s v b ≡ node m)
 base_means s v b survey h m = by survey.base refl h.base
   where
-    by : (r : Result NodeMetadata NodeCreateError) → survey.base ≡ r → IsBase s v b r → (survey.base ≡ Ok m) ↔ (meaning s v b ≡ node m)
-    by (Ok k) is means = (
+    by : (r : Base) → survey.base ≡ r → IsBase s v b r → (survey.base ≡ Node m) ↔ (meaning s v b ≡ node m)
+    by (Node k) is means = (
       λ e. subst (λ x. meaning s v b ≡ node x) (ap (given_or k) (sym is ∙ e)) means,
-      λ e. is ∙ ap (λ x. Ok x) (node_same k m (sym means ∙ e)),
+      λ e. is ∙ ap (λ x. Node x) (node_same k m (sym means ∙ e)),
     )
-    by (Err e) is refused = (
+    by (Refused e) is refused = (
       λ g. absurd (subst IsGiven (sym g ∙ is) tt),
       λ means. absurd (⊎_elim (λ w. subst IsNode (sym means ∙ w.0) tt) (λ w. subst IsNode (sym means ∙ w) tt) refused),
     )

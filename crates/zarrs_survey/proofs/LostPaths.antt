@@ -16,7 +16,8 @@ use Rattle.zarrs_meta.specs.declared.attributes.AttributesDocument.{AttributesDo
 use Rattle.zarrs_meta.specs.declared.node.NodeMetadata.{NodeMetadata}
 use Rattle.zarrs_meta.specs.declared.node.ZarrJson.{ZarrJson}
 use Rattle.zarrs_meta.specs.declared.node.ZarrJson.TheVariants.{Node as node_json, Version2}
-use Rattle.zarrs_block.specs.Meaning.{in_bytes, Meaning, meaning, node, nothing, bad, document_at, document_from, document_or_fault, attributes_at, version_3_line, version_2_line, zarray_line, zgroup_line}
+use Rattle.zarrs_block.specs.DocumentsAtKeys.{in_bytes, document_at, document_from, document_or_fault, attributes_at}
+use Rattle.zarrs_block.specs.Meaning.{Meaning, meaning, node, nothing, bad, version_3_line, version_2_line, zarray_line, zgroup_line}
 use Rattle.zarrs_block.specs.declared.node_create_error.NodeCreateError.{NodeCreateError}
 use Rattle.zarrs_node.specs.Exists.{HasNodeKey}
 use Rattle.zarrs_node.specs.Nodes.{MeansNode, Ignored, IsListed}

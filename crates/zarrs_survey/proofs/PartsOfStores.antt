@@ -1,11 +1,10 @@
 -- What a store has from a path on: the base, and what a walk found below it.
-use Rattle.std.proofs.Common.{◌≡◌, ℕ, length, ◌↔◌, inl, inr, ⊎_elim, Bool, true, false, true≢false, if◌then◌else◌, List, [], ◌∷◌, ◌++◌, Result, Ok, Err, refl, sym, ap, subst, ◌∙◌, arith, Contains, Less}
+use Rattle.std.proofs.Common.{◌≡◌, ℕ, length, ◌↔◌, inl, inr, ⊎_elim, Bool, true, false, true≢false, if◌then◌else◌, List, [], ◌∷◌, ◌++◌, refl, sym, ap, subst, ◌∙◌, arith, Contains, Less}
 use Rattle.std.specs.Bool.{◌==◌}
 use Rattle.std.proofs.lemmas.List.Elements.{Contains-append_left, Contains-append_right, Contains-append_cases}
 use Rattle.zarrs_store.specs.Contents.{Contents, Lists}
 use Rattle.zarrs_path.specs.Paths.{Path, path_cmp, IsBelow}
 use Rattle.zarrs_config.specs.declared.version.MetadataRetrieveVersion.{MetadataRetrieveVersion}
-use Rattle.zarrs_meta.specs.declared.node.NodeMetadata.{NodeMetadata}
 use Rattle.zarrs_meta.specs.declared.node.NodeMetadata.TheVariants.{Group, Array}
 use Rattle.zarrs_block.specs.Meaning.{Meaning, meaning, node, nothing, bad}
 use Rattle.zarrs_block.specs.Refusals.{IsMissing}
@@ -19,6 +18,8 @@ use Rattle.zarrs_node.proofs.ListedItems.{all_pairs_append, listed_each}
 use Rattle.zarrs_node.proofs.ForestsBeside.{Contains-first}
 use Rattle.zarrs_node.proofs.KeptOfLists.{below_later, not_below_itself}
 use Rattle.zarrs_node.proofs.Order.{contains_cases}
+use Rattle.zarrs_survey.specs.declared.base.Base.{Base}
+use Rattle.zarrs_survey.specs.declared.base.Base.TheVariants.{Node, Refused}
 use Rattle.zarrs_survey.specs.Apart.{AreApart}
 use Rattle.zarrs_survey.specs.BlocksAbove.{HasNodeFrom, MeansNoArray}
 use Rattle.zarrs_survey.specs.Findings.{IsAtOrAbove}
@@ -72,9 +73,9 @@ pub empty_or_not : {A : Type 0} (xs : List A) (n : ℕ) → n ≡ length xs → 
 empty_or_not xs n is none some = true≢false (sym (subst (λ k. false ≡ (k == 0)) (is ∙ ap length none) some))
 
 -- no base has two errors
-pub base_apart : (b : Path) (r : Result NodeMetadata NodeCreateError) → AreApart (bad_base b r)
-base_apart b (Ok m) = λ i j d l k. absurd (omega (arith, k))
-base_apart b (Err e) = by (is_missing e)
+pub base_apart : (b : Path) (r : Base) → AreApart (bad_base b r)
+base_apart b (Node m) = λ i j d l k. absurd (omega (arith, k))
+base_apart b (Refused e) = by (is_missing e)
   where
     by : (t : Bool) → AreApart (if t then [] else (b, e) ∷ [])
     by true = λ i j d l k. absurd (omega (arith, k))
@@ -82,9 +83,9 @@ base_apart b (Err e) = by (is_missing e)
 
 module _ (s : Contents) (v : MetadataRetrieveVersion) (b : Path) where
   -- the error that is kept is that of a bad document
-  bad_out : (r : Result NodeMetadata NodeCreateError) → IsBase s v b r → (d : PathError) → Contains (bad_base b r) d → (d.0 ≡ b) × (meaning s v b ≡ bad d.1)
-  bad_out (Ok m) is d in' = absurd (omega (arith, in'.1))
-  bad_out (Err e) is d in' = by (is_missing e) refl in'
+  bad_out : (r : Base) → IsBase s v b r → (d : PathError) → Contains (bad_base b r) d → (d.0 ≡ b) × (meaning s v b ≡ bad d.1)
+  bad_out (Node m) is d in' = absurd (omega (arith, in'.1))
+  bad_out (Refused e) is d in' = by (is_missing e) refl in'
     where
       by : (t : Bool) → is_missing e ≡ t → Contains (if t then [] else (b, e) ∷ []) d → (d.0 ≡ b) × (meaning s v b ≡ bad d.1)
       by true missing none = absurd (omega (arith, none.1))
@@ -97,9 +98,9 @@ module _ (s : Contents) (v : MetadataRetrieveVersion) (b : Path) where
           (contains_cases (b, e) [] d one)
 
   -- and of a bad document it is kept
-  bad_in : (r : Result NodeMetadata NodeCreateError) → IsBase s v b r → (e : NodeCreateError) → meaning s v b ≡ bad e → Contains (bad_base b r) (b, e)
-  bad_in (Ok m) is e means = absurd (subst IsNode (sym is ∙ means) tt)
-  bad_in (Err k) is e means = ⊎_elim
+  bad_in : (r : Base) → IsBase s v b r → (e : NodeCreateError) → meaning s v b ≡ bad e → Contains (bad_base b r) (b, e)
+  bad_in (Node m) is e means = absurd (subst IsNode (sym is ∙ means) tt)
+  bad_in (Refused k) is e means = ⊎_elim
       (λ w. absurd (subst IsBadMeaning (sym means ∙ w.0) tt))
       (λ w.
       let same : k ≡ e = ap (error_or k) (sym w ∙ means) in
@@ -108,22 +109,22 @@ module _ (s : Contents) (v : MetadataRetrieveVersion) (b : Path) where
       is
 
   -- a base that is an array means one
-  array_means : (r : Result NodeMetadata NodeCreateError) → IsBase s v b r → is_array_base r ≡ true → MeansNoArray s v b → ⊥
-  array_means (Ok (Array a)) is array none = none a is
-  array_means (Ok (Group g)) is array none = absurd (true≢false (sym array))
-  array_means (Err e) is array none = absurd (true≢false (sym array))
+  array_means : (r : Base) → IsBase s v b r → is_array_base r ≡ true → MeansNoArray s v b → ⊥
+  array_means (Node (Array a)) is array none = none a is
+  array_means (Node (Group g)) is array none = absurd (true≢false (sym array))
+  array_means (Refused e) is array none = absurd (true≢false (sym array))
 
   -- one that is none means none
-  means_no_array : (r : Result NodeMetadata NodeCreateError) → IsBase s v b r → is_array_base r ≡ false → MeansNoArray s v b
-  means_no_array (Ok m) is other a means = absurd (true≢false (subst (λ x. is_array_base (Ok x) ≡ false) (node_same m (Array a) (sym is ∙ means)) other))
-  means_no_array (Err e) is other a means = absurd (⊎_elim (λ w. subst IsNode (sym means ∙ w.0) tt) (λ w. subst IsNode (sym means ∙ w) tt) is)
+  means_no_array : (r : Base) → IsBase s v b r → is_array_base r ≡ false → MeansNoArray s v b
+  means_no_array (Node m) is other a means = absurd (true≢false (subst (λ x. is_array_base (Node x) ≡ false) (node_same m (Array a) (sym is ∙ means)) other))
+  means_no_array (Refused e) is other a means = absurd (⊎_elim (λ w. subst IsNode (sym means ∙ w.0) tt) (λ w. subst IsNode (sym means ∙ w) tt) is)
 
   -- a node below is not the path itself
   not_itself : (e : Pair) → Nodes s v true b e → e.0 ≡ b → ⊥
   not_itself e low at = let under = low.0.below in not_below_itself b (subst (IsBelow b) at (under.0, under.1, under.2))
 
   -- of an array there is it alone
-  pub part_of_array : (r : Result NodeMetadata NodeCreateError) (part : PartOfStore) → IsBase s v b r → is_array_base r ≡ true → part.nodes.items ≡ base_nodes b r → part.bad ≡ bad_base b r → IsPartOf s v b part
+  pub part_of_array : (r : Base) (part : PartOfStore) → IsBase s v b r → is_array_base r ≡ true → part.nodes.items ≡ base_nodes b r → part.bad ≡ bad_base b r → IsPartOf s v b part
   part_of_array r part is array nodes bads = record {
     nodes = λ e. (
       λ in'. let w = base_out s v b r is e (subst (λ xs. Contains xs e) nodes in') in (inl w, inl w.0),
@@ -144,7 +145,7 @@ module _ (s : Contents) (v : MetadataRetrieveVersion) (b : Path) where
     );
   }
 
-  module _ (r : Result NodeMetadata NodeCreateError) (is : IsBase s v b r) (other : is_array_base r ≡ false) (below : List Pair) (listed : Lists (Nodes s v true b) below) (up : Ascend below) where
+  module _ (r : Base) (is : IsBase s v b r) (other : is_array_base r ≡ false) (below : List Pair) (listed : Lists (Nodes s v true b) below) (up : Ascend below) where
     -- of another path there are the nodes below it too
     walked_nodes : (e : Pair) → Contains (base_nodes b r ++ below) e ↔ HasNodeFrom s v b e
     walked_nodes e = (

@@ -1,5 +1,5 @@
 -- What a check has of nodes in the order of their paths: their number, and their blocks, each compared with the nodes below its group.
-use Rattle.std.proofs.Common.{◌≡◌, ◌≢◌, ◌<◌, ◌+◌, ℕ, ◌↔◌, inl, inr, ⊎_elim, Bool, true, List, [], ◌∷◌, ◌++◌, get_or, length, refl, sym, ap, subst, ◌∙◌, arith, append-nil, append_assoc, Contains, AllPairs, Less, Option, Some, None, Result, Ok, Err}
+use Rattle.std.proofs.Common.{◌≡◌, ◌≢◌, ◌<◌, ◌+◌, ℕ, ◌↔◌, inl, inr, ⊎_elim, Bool, true, List, [], ◌∷◌, ◌++◌, get_or, length, refl, sym, ap, subst, ◌∙◌, arith, append-nil, append_assoc, Contains, AllPairs, Less, Option, Some, None, Ok, Err}
 use Rattle.std.specs.Prelude.{IfErr}
 use Rattle.std.proofs.lemmas.Bool.Decides.{eqb_tells}
 use Rattle.std.proofs.lemmas.List.{length_push, length-append, get_or_push, get_or_append_left}
@@ -13,7 +13,6 @@ use Rattle.zarrs_meta.specs.declared.node.NodeMetadata.{NodeMetadata}
 use Rattle.zarrs_config.specs.declared.version.MetadataRetrieveVersion.{MetadataRetrieveVersion}
 use Rattle.zarrs_block.specs.Block.{Block, Entries, IsAscending}
 use Rattle.zarrs_block.specs.Meaning.{Meaning, meaning, node, nothing, bad}
-use Rattle.zarrs_block.specs.declared.node_create_error.NodeCreateError.{NodeCreateError}
 use Rattle.zarrs_node.specs.Forest.{pairs}
 use Rattle.zarrs_node.specs.Nodes.{Nodes}
 use Rattle.zarrs_node.specs.Order.{Ascend}
@@ -26,7 +25,9 @@ use Rattle.zarrs_node.proofs.ForestsBeside.{Contains-first, Contains-cons}
 use Rattle.zarrs_node.proofs.KeptOfLists.{all_pairs_across, below_later, between_below, not_below_itself}
 use Rattle.zarrs_node.proofs.Order.{contains_cases, shown_ascend}
 use Rattle.zarrs_node.proofs.Unique.{names_irrefl}
-use Rattle.zarrs_survey.specs.Checks.{fault_of_block, HasNode, IsBaseOutcome, IsCount}
+use Rattle.zarrs_survey.specs.declared.base.Base.{Base}
+use Rattle.zarrs_survey.specs.declared.base.Base.TheVariants.{Node, Refused}
+use Rattle.zarrs_survey.specs.Checks.{fault_of_block, HasNode, IsBaseFault, IsCount}
 use Rattle.zarrs_block.specs.Meaning.{Pair}
 use Rattle.zarrs_survey.specs.StepsOfChecks.{BlockOrFault, ReadBlock, GroupsAscend, block_with_own}
 use Rattle.zarrs_survey.specs.StepsOfComparing.{AreBelow, own_findings}
@@ -428,10 +429,10 @@ module _ {S : Type 0} (s : Contents) where
 apart_once : (es : List Pair) → Ascend es → AllPairs (λ x y. x ≢ y) es
 apart_once es up = λ i j d l m same. names_irrefl (get_or es j d).0 (subst (λ (x : Pair). path_cmp x.0 (get_or es j d).0 ≡ Less) same (up i j d l m))
 
--- the node that an answer gives
-abbrev pub given_or : NodeMetadata → Result NodeMetadata NodeCreateError → NodeMetadata
-given_or d (Ok x) = x
-given_or d (Err e) = d
+-- the metadata of a base that is a node
+abbrev pub given_or : NodeMetadata → Base → NodeMetadata
+given_or d (Node x) = x
+given_or d (Refused e) = d
 
 -- what a meaning is, a node
 abbrev pub IsNode : Meaning → Type 0
@@ -440,25 +441,25 @@ IsNode nothing = ⊥
 IsNode (bad e) = ⊥
 
 -- the base alone ascends
-pub one_base : (b : Path) (r : Result NodeMetadata NodeCreateError) → Ascend (base_nodes b r)
-one_base b (Ok n) = λ i j d l m. absurd (omega (arith, l, m))
-one_base b (Err e) = λ i j d l m. absurd (omega (arith, m))
+pub one_base : (b : Path) (r : Base) → Ascend (base_nodes b r)
+one_base b (Node n) = λ i j d l m. absurd (omega (arith, l, m))
+one_base b (Refused e) = λ i j d l m. absurd (omega (arith, m))
 
 -- what is taken as the base is the base
-pub base_path : (b : Path) (r : Result NodeMetadata NodeCreateError) (d : Pair) → Contains (base_nodes b r) d → (b ≡ d.0) × (r ≡ Ok d.1)
-base_path b (Ok n) d in' = ⊎_elim (λ same. (ap (λ (x : Pair). x.0) same, ap (λ (x : Pair). Ok x.1) same)) (λ none. absurd (omega (arith, none.1))) (contains_cases (b, n) [] d in')
-base_path b (Err e) d in' = absurd (omega (arith, in'.1))
+pub base_path : (b : Path) (r : Base) (d : Pair) → Contains (base_nodes b r) d → (b ≡ d.0) × (r ≡ Node d.1)
+base_path b (Node n) d in' = ⊎_elim (λ same. (ap (λ (x : Pair). x.0) same, ap (λ (x : Pair). Node x.1) same)) (λ none. absurd (omega (arith, none.1))) (contains_cases (b, n) [] d in')
+base_path b (Refused e) d in' = absurd (omega (arith, in'.1))
 
 module _ (s : Contents) (v : MetadataRetrieveVersion) (b : Path) where
   -- the base that is taken means a node
-  pub base_out : (r : Result NodeMetadata NodeCreateError) → IsBase s v b r → (d : Pair) → Contains (base_nodes b r) d → (d.0 ≡ b) × (meaning s v b ≡ node d.1)
-  base_out (Err e) means d in' = absurd (omega (arith, in'.1))
-  base_out (Ok n) means d in' = let w = base_path b (Ok n) d in' in (sym w.0, means ∙ ap (λ x. node (given_or n x)) w.1)
+  pub base_out : (r : Base) → IsBase s v b r → (d : Pair) → Contains (base_nodes b r) d → (d.0 ≡ b) × (meaning s v b ≡ node d.1)
+  base_out (Refused e) means d in' = absurd (omega (arith, in'.1))
+  base_out (Node n) means d in' = let w = base_path b (Node n) d in' in (sym w.0, means ∙ ap (λ x. node (given_or n x)) w.1)
 
   -- and the base that means a node is taken
-  pub base_in : (r : Result NodeMetadata NodeCreateError) → IsBase s v b r → (d : Pair) → (d.0 ≡ b) × (meaning s v b ≡ node d.1) → Contains (base_nodes b r) d
-  base_in (Ok n) means d w = subst (λ (x : Pair). Contains ((b, n) ∷ []) x) (ap (λ p. (p, n)) (sym w.0) ∙ ap (λ m. (d.0, m)) (node_same n d.1 (sym means ∙ w.1))) (Contains-first (b, n) [])
-  base_in (Err e) refused d w = absurd (⊎_elim (λ h. subst IsNode (sym w.1 ∙ h.0) tt) (λ h. subst IsNode (sym w.1 ∙ h) tt) refused)
+  pub base_in : (r : Base) → IsBase s v b r → (d : Pair) → (d.0 ≡ b) × (meaning s v b ≡ node d.1) → Contains (base_nodes b r) d
+  base_in (Node n) means d w = subst (λ (x : Pair). Contains ((b, n) ∷ []) x) (ap (λ p. (p, n)) (sym w.0) ∙ ap (λ m. (d.0, m)) (node_same n d.1 (sym means ∙ w.1))) (Contains-first (b, n) [])
+  base_in (Refused e) refused d w = absurd (⊎_elim (λ h. subst IsNode (sym w.1 ∙ h.0) tt) (λ h. subst IsNode (sym w.1 ∙ h) tt) refused)
 
 -- of the base, where it is a node, and the nodes below it a check has what it needs
 pub record HasAll {S : Type 0} (s : Contents) (v : MetadataRetrieveVersion) (b : Path) (z : Comparisons S) : Type 0 where
@@ -496,7 +497,7 @@ module _ {S : Type 0} (contents : S → Contents) (can_fail : S → Bool) where
       (taken_all s (done ++ e ∷ []) t.0 es z (ap contents t.1.storage ∙ at) up' t.2 ok next)
 
   -- the base and the nodes below it are taken one after another
-  module _ (k m z : Comparisons S) (s : Contents) (v : MetadataRetrieveVersion) (b p : Path) (base : Result NodeMetadata NodeCreateError) (at : p ≡ b) (same : contents k.storage.now ≡ s)
+  module _ (k m z : Comparisons S) (s : Contents) (v : MetadataRetrieveVersion) (b p : Path) (base : Base) (at : p ≡ b) (same : contents k.storage.now ≡ s)
       (first : TakesAll (Takes contents can_fail) k (base_nodes p base) m) (walk : TakesForest (Takes contents can_fail) m z b (Nodes s v true b)) where
     -- the base and the nodes
     abbrev pub all_nodes : List Pair
@@ -539,6 +540,6 @@ module _ {S : Type 0} (contents : S → Contents) (can_fail : S → Bool) where
     refused_so new = failed_so k all_nodes z took_all (subst (λ o. IfErr o (IsStoreError (can_fail k.storage.now))) (sym new.outcome) tt)
 
 -- why the base is none
-pub base_faulted : (s : Contents) (v : MetadataRetrieveVersion) (b : Path) (r : Result NodeMetadata NodeCreateError) → IsBase s v b r → IsBaseOutcome s v b (base_fault r)
-base_faulted s v b (Ok n) means = (n, means)
-base_faulted s v b (Err e) refused = refused
+pub base_faulted : (s : Contents) (v : MetadataRetrieveVersion) (b : Path) (r : Base) → IsBase s v b r → IsBaseFault s v b (base_fault r)
+base_faulted s v b (Node n) means = (n, means)
+base_faulted s v b (Refused e) refused = refused

@@ -1,12 +1,11 @@
 -- What a check tells of nodes in the order of their paths is what there is to tell of them, each once.
-use Rattle.std.proofs.Common.{◌≡◌, ◌≢◌, ◌↔◌, inl, inr, ⊎_elim, Bool, List, [], ◌∷◌, ◌++◌, get_or, refl, sym, ap, subst, ◌∙◌, arith, append-nil, append_assoc, Contains, AllPairs, Less, Result, Ok, map, true}
+use Rattle.std.proofs.Common.{◌≡◌, ◌≢◌, ◌↔◌, inl, inr, ⊎_elim, Bool, List, [], ◌∷◌, ◌++◌, get_or, refl, sym, ap, subst, ◌∙◌, arith, append-nil, append_assoc, Contains, AllPairs, Less, Ok, map, true}
 use Rattle.std.proofs.lemmas.List.Elements.{Contains-append_cases, Contains-append_left, Contains-append_right, Contains-get_or}
 use Rattle.std.proofs.lemmas.List.Kept.{AllPairs-cons}
 use Rattle.zarrs_store.specs.Contents.{Contents, Lists}
 use Rattle.zarrs_path.specs.Paths.{Path, path_cmp}
 use Rattle.zarrs_meta.specs.declared.node.NodeMetadata.{NodeMetadata}
 use Rattle.zarrs_config.specs.declared.version.MetadataRetrieveVersion.{MetadataRetrieveVersion}
-use Rattle.zarrs_block.specs.declared.node_create_error.NodeCreateError.{NodeCreateError}
 use Rattle.zarrs_node.specs.Faults.{PathsAscend}
 use Rattle.zarrs_node.specs.Forest.{pairs}
 use Rattle.zarrs_node.specs.Nodes.{Nodes}
@@ -21,6 +20,7 @@ use Rattle.zarrs_node.proofs.Unique.{names_irrefl}
 use Rattle.zarrs_notes.specs.NodeFindings.{AreNodeFindings, ComesBefore, IsNodeFinding}
 use Rattle.zarrs_notes.specs.declared.finding.NodeFinding.{NodeFinding}
 use Rattle.zarrs_notes.proofs.Parts.{not_before_itself}
+use Rattle.zarrs_survey.specs.declared.base.Base.{Base}
 use Rattle.zarrs_survey.specs.Checks.{HasNode, HasNodeAt, IsNodeTold, IsToldBefore}
 use Rattle.zarrs_block.specs.Meaning.{Pair}
 use Rattle.zarrs_survey.specs.StepsOfTaking.{Takes, base_nodes}
@@ -164,7 +164,7 @@ module _ {S : Type 0} (contents : S → Contents) (can_fail : S → Bool) where
       paths_kept t.0 es z t.2 ok ∙ ap (λ x. x ++ map (λ d. d.0) es) (t.1.named (fine_before t.0 es z t.2 ok)) ∙ append_assoc k.paths.items (e.0 ∷ []) (map (λ d. d.0) es)
 
   -- of the base and the nodes below it all is told, each once
-  module _ (k m z : Visits S) (s : Contents) (v : MetadataRetrieveVersion) (b p : Path) (base : Result NodeMetadata NodeCreateError) (at : p ≡ b) (same : contents k.comparisons.storage.now ≡ s)
+  module _ (k m z : Visits S) (s : Contents) (v : MetadataRetrieveVersion) (b p : Path) (base : Base) (at : p ≡ b) (same : contents k.comparisons.storage.now ≡ s)
       (first : TakesAll (TakesVisit contents can_fail) k (base_nodes p base) m) (walk : TakesForest (TakesVisit contents can_fail) m z b (Nodes s v true b)) where
     -- the base and the nodes
     abbrev whole : List Pair

@@ -45,6 +45,7 @@ use Rattle.zarrs_survey.specs.Findings.{IsFinding, Precedes}
 use Rattle.zarrs_block.specs.Meaning.{Pair}
 use Rattle.zarrs_survey.specs.Orphans.{IsOrphan, AreHidden}
 use Rattle.zarrs_survey.specs.Surveys.{IsBase, BadDocuments, BadNames}
+use Rattle.zarrs_survey.specs.declared.base.Base.TheVariants.{Node, Refused}
 use Rattle.zarrs_survey.specs.declared.check.Check.{Check}
 use Rattle.zarrs_survey.specs.declared.finding.Finding.{Finding}
 use Rattle.zarrs_survey.specs.declared.finding.FindingKind.TheVariants.{BlockFault, OwnAttributes}
@@ -150,10 +151,10 @@ IsToldBefore t u = (path_cmp t.0 u.0 ≡ Less) ⊎ ((t.0 ≡ u.0) × ComesBefore
 
 -- ---- all that a check has
 
--- the base is a node, with some metadata, or it is refused with this error
-abbrev pub IsBaseOutcome : Contents → MetadataRetrieveVersion → Path → Result (Unit {0}) NodeCreateError → Type 0
-IsBaseOutcome s v b (Ok u) = (m : NodeMetadata) × IsBase s v b (Ok m)
-IsBaseOutcome s v b (Err e) = IsBase s v b (Err e)
+-- the base has no fault where it is a node, with some metadata; else it is refused with this error
+abbrev pub IsBaseFault : Contents → MetadataRetrieveVersion → Path → Option NodeCreateError → Type 0
+IsBaseFault s v b None = (m : NodeMetadata) × IsBase s v b (Node m)
+IsBaseFault s v b (Some e) = IsBase s v b (Refused e)
 
 -- the base, where it is a node, or a node that a listing finds below it, stands at p
 abbrev pub HasNodeAt : Contents → MetadataRetrieveVersion → Path → Path → Type 0
@@ -171,7 +172,7 @@ IsCount P n = (es : List Pair) × Lists P es × (n ≡ length es)
 -- said by `AreBlockFindings`.
 pub record IsCheckOf (s : Contents) (v : MetadataRetrieveVersion) (b : Path) (c : Check) : Type 0 where
   pub path : c.path ≡ b
-  pub base : IsBaseOutcome s v b c.base
+  pub base : IsBaseFault s v b c.base_fault
   pub nodes : IsCount (HasNode s v b) c.nodes
   pub ignored : Lists (Ignored s v true b) c.ignored.items
   pub ignored_ascend : PathsAscend c.ignored.items

@@ -24,6 +24,7 @@ use Rattle.zarrs_survey.specs.Checks.{block_read, IsBlockFinding, IsCheckOf}
 use Rattle.zarrs_survey.specs.Findings.{HasPath}
 use Rattle.zarrs_block.specs.Meaning.{Pair}
 use Rattle.zarrs_survey.specs.Surveys.{IsSurveyOf}
+use Rattle.zarrs_survey.specs.declared.base.Base.TheVariants.{Node}
 use Rattle.zarrs_survey.specs.declared.check.Check.{Check}
 use Rattle.zarrs_survey.specs.declared.finding.Finding.{Finding}
 use Rattle.zarrs_survey.specs.declared.finding.FindingKind.TheVariants.{OwnAttributes}
@@ -63,7 +64,7 @@ pub record HaveSameNodes (E N : Pair → Type 0) : Type 0 where
 abbrev pub GoodBlocksAgree : Type 0
 GoodBlocksAgree =
     (s : Contents) (v : MetadataRetrieveVersion) (b : Path) (survey : Survey) → IsSurveyOf s v b survey
-    → survey.bad_documents ≡ [] → survey.bad_names.items ≡ [] → (m : NodeMetadata) (B : Block) → survey.base ≡ Ok m
+    → survey.bad_documents ≡ [] → survey.bad_names.items ≡ [] → (m : NodeMetadata) (B : Block) → survey.base ≡ Node m
     → block_read s b m ≡ Some (Ok B) → ((f : Finding) → IsBlockFinding s v b f → f.group ≡ b → f.kind ≡ OwnAttributes)
     → IsCleanBelow s v Must b m × IsCleanBelow s v Never b m
     × ((f g : Forest) → ShowsBelow s v Must b m f → ShowsBelow s v Never b m g
@@ -74,7 +75,7 @@ GoodBlocksAgree =
 abbrev pub RefreshedBlocksAgree : Type 0
 RefreshedBlocksAgree =
     (s : Contents) (v : MetadataRetrieveVersion) (b : Path) (survey : Survey) → IsSurveyOf s v b survey
-    → survey.bad_documents ≡ [] → survey.bad_names.items ≡ [] → (m : NodeMetadata) (B : Block) → survey.base ≡ Ok m
+    → survey.bad_documents ≡ [] → survey.bad_names.items ≡ [] → (m : NodeMetadata) (B : Block) → survey.base ≡ Node m
     → block_read s b m ≡ Some (Ok B) → ((f : Finding) → IsBlockFinding s v b f → f.group ≡ b → f.kind ≡ OwnAttributes)
     → (p : Path) → IsPath p → IsBelow b p
     → (LeadsTo B b p → BadAnew s v p → ⊥)

@@ -1,7 +1,7 @@
 -- Steps of comparing the blocks above a path with what the store has from the path on; no public contract rests on
 -- them.
 use Rattle.std.specs.Prelude.{◌≡◌, ◌↔◌, Bool, true, false, if◌then◌else◌, List, [], ◌∷◌, AllPairs, Contains, Option}
-use Rattle.std.specs.Prelude.{Some, None, Result, Ok, Err}
+use Rattle.std.specs.Prelude.{Some, None, Ok}
 use Rattle.zarrs_store.specs.Contents.{Contents}
 use Rattle.zarrs_path.specs.Paths.{Path, IsBelow}
 use Rattle.zarrs_config.specs.declared.version.MetadataRetrieveVersion.{MetadataRetrieveVersion}
@@ -19,6 +19,8 @@ use Rattle.zarrs_survey.specs.Findings.{IsAtOrAbove, IsPathFinding, IsSpoilt, Pr
 use Rattle.zarrs_block.specs.Meaning.{Pair}
 use Rattle.zarrs_survey.specs.StepsOfChecks.{HasBad}
 use Rattle.zarrs_survey.specs.StepsOfComparisons.{IsUnderWay}
+use Rattle.zarrs_survey.specs.declared.base.Base.{Base}
+use Rattle.zarrs_survey.specs.declared.base.Base.TheVariants.{Node, Refused}
 use Rattle.zarrs_survey.specs.declared.blocks_above.PartOfStore.{PartOfStore}
 use Rattle.zarrs_survey.specs.declared.comparison.Comparison.{Comparison}
 use Rattle.zarrs_survey.specs.declared.finding.Finding.{Finding}
@@ -47,8 +49,8 @@ pub record IsPartOf (s : Contents) (v : MetadataRetrieveVersion) (b : Path) (par
   pub spoilt : (p : Path) → IsSpoilt (HasBad part.bad) p ↔ IsSpoilt (HasBadFrom s v b) p
 
 -- the base is an array
-abbrev pub is_array_base : Result NodeMetadata NodeCreateError → Bool
-is_array_base (Ok (Array a)) = true
+abbrev pub is_array_base : Base → Bool
+is_array_base (Node (Array a)) = true
 is_array_base _ = false
 
 -- the refusal says that there are no metadata
@@ -57,9 +59,9 @@ is_missing (MissingMetadata text) = true
 is_missing _ = false
 
 -- the base with its error, where its document is bad
-abbrev pub bad_base : Path → Result NodeMetadata NodeCreateError → List (Path × NodeCreateError)
-bad_base b (Ok m) = []
-bad_base b (Err e) = if is_missing e then [] else (b, e) ∷ []
+abbrev pub bad_base : Path → Base → List (Path × NodeCreateError)
+bad_base b (Node m) = []
+bad_base b (Refused e) = if is_missing e then [] else (b, e) ∷ []
 
 -- ---- the groups above a path
 

@@ -1,29 +1,30 @@
 -- Steps of taking nodes and comparing them with the blocks above them, one after another; no public contract rests on
 -- them.
 use Rattle.std.specs.Prelude.{◌≡◌, ◌+◌, ◌<◌, ℕ, Bool, IfErr, List, [], ◌∷◌, ◌++◌, get_or, length, AllPairs, Contains}
-use Rattle.std.specs.Prelude.{Option, Some, None, Result, Ok, Err}
+use Rattle.std.specs.Prelude.{Option, Some, None, Ok, Err}
 use Rattle.zarrs_store.specs.Contents.{Contents}
 use Rattle.zarrs_store.specs.Faults.{IsStoreError}
 use Rattle.zarrs_path.specs.Paths.{Path, IsBelow}
-use Rattle.zarrs_meta.specs.declared.node.NodeMetadata.{NodeMetadata}
 use Rattle.zarrs_block.specs.declared.node_create_error.NodeCreateError.{NodeCreateError}
 use Rattle.zarrs_survey.specs.Checks.{fault_of_block}
 use Rattle.zarrs_block.specs.Meaning.{Pair}
 use Rattle.zarrs_survey.specs.StepsOfChecks.{BlockOrFault, ReadBlock, block_with_own}
 use Rattle.zarrs_survey.specs.StepsOfComparisons.{IsEnd, IsNextBelow, IsOnly, IsStart}
+use Rattle.zarrs_survey.specs.declared.base.Base.{Base}
+use Rattle.zarrs_survey.specs.declared.base.Base.TheVariants.{Node, Refused}
 use Rattle.zarrs_survey.specs.declared.comparison.Comparison.{Comparison}
 use Rattle.zarrs_survey.specs.declared.comparisons.Comparisons.{Comparisons}
 use Rattle.zarrs_survey.specs.declared.finding.Finding.{Finding}
 
 -- the base as a node, where it is one
-abbrev pub base_nodes : Path → Result NodeMetadata NodeCreateError → List Pair
-base_nodes p (Ok m) = (p, m) ∷ []
-base_nodes p (Err e) = []
+abbrev pub base_nodes : Path → Base → List Pair
+base_nodes p (Node m) = (p, m) ∷ []
+base_nodes p (Refused e) = []
 
--- what becomes of the base: it is a node, or why it is none
-abbrev pub base_fault : Result NodeMetadata NodeCreateError → Result (Unit {0}) NodeCreateError
-base_fault (Ok m) = Ok tt
-base_fault (Err e) = Err e
+-- why the base is no node, where it is none
+abbrev pub base_fault : Base → Option NodeCreateError
+base_fault (Node m) = None
+base_fault (Refused e) = Some e
 
 -- what was read as the block of a node, if it has one, with the path
 abbrev pub named_block : Path → Option BlockOrFault → List ReadBlock

@@ -1,11 +1,10 @@
 -- Zarr core specification 3.1, "Hierarchy", "Node names" and "Metadata documents": what a survey of a store finds.
 -- <https://zarr-specs.readthedocs.io/en/latest/v3/core/index.html#hierarchy>
 -- <https://zarr-specs.readthedocs.io/en/latest/v3/core/index.html#node-names>
-use Rattle.std.specs.Prelude.{◌≡◌, ◌⊎◌, true, Result, Ok, Err, Contains}
+use Rattle.std.specs.Prelude.{◌≡◌, ◌⊎◌, true, Contains}
 use Rattle.zarrs_store.specs.Contents.{Contents, HasBelow, Lists}
 use Rattle.zarrs_path.specs.Paths.{Path}
 use Rattle.zarrs_config.specs.declared.version.MetadataRetrieveVersion.{MetadataRetrieveVersion}
-use Rattle.zarrs_meta.specs.declared.node.NodeMetadata.{NodeMetadata}
 use Rattle.zarrs_block.specs.Meaning.{meaning, node, bad}
 use Rattle.zarrs_block.specs.declared.node_create_error.NodeCreateError.{NodeCreateError}
 use Rattle.zarrs_node.specs.Faults.{PathsAscend}
@@ -13,13 +12,15 @@ use Rattle.zarrs_node.specs.Nodes.{MeansNode, IsBadName, Nodes, Ignored}
 use Rattle.zarrs_node.specs.OpeningNodes.{RefusesNode}
 use Rattle.zarrs_node.specs.Order.{Ascend}
 use Rattle.zarrs_node.specs.Reach.{HasGroup, Reached}
+use Rattle.zarrs_survey.specs.declared.base.Base.{Base}
+use Rattle.zarrs_survey.specs.declared.base.Base.TheVariants.{Node, Refused}
 use Rattle.zarrs_survey.specs.declared.survey.Survey.{Survey}
 use Rattle.zarrs_block.specs.Meaning.{Pair}
 
 -- the base means a node with these metadata, or it is refused with this error: it means nothing, or is bad
-abbrev pub IsBase : Contents → MetadataRetrieveVersion → Path → Result NodeMetadata NodeCreateError → Type 0
-IsBase s v b (Ok m) = meaning s v b ≡ node m
-IsBase s v b (Err e) = RefusesNode s v b e
+abbrev pub IsBase : Contents → MetadataRetrieveVersion → Path → Base → Type 0
+IsBase s v b (Node m) = meaning s v b ≡ node m
+IsBase s v b (Refused e) = RefusesNode s v b e
 
 -- a reached path means `bad e`
 abbrev pub BadDocuments : Contents → MetadataRetrieveVersion → Path → Path × NodeCreateError → Type 0
@@ -44,7 +45,7 @@ pub record IsSurveyOf (s : Contents) (v : MetadataRetrieveVersion) (b : Path) (s
 
 -- e is the base of the survey with its metadata
 abbrev pub IsBaseOf : Survey → Pair → Type 0
-IsBaseOf survey e = (survey.path ≡ e.0) × (survey.base ≡ Ok e.1)
+IsBaseOf survey e = (survey.path ≡ e.0) × (survey.base ≡ Node e.1)
 
 -- e is the base of the survey with its metadata, or one of the nodes below it
 abbrev pub IsNodeOf : Survey → Pair → Type 0

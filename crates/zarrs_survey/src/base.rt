@@ -1,4 +1,4 @@
-//! The base of a survey.
+//! The base of a survey, and of a check.
 ghost use Rattle.std.specs.Prelude.{◌≡◌, IfOk, IfErr};
 ghost use Rattle.zarrs_block.specs.Refusals.{IsExcused};
 ghost use Rattle.zarrs_survey.specs.StepsOfSurveys.{is_of_node};
@@ -12,19 +12,31 @@ use zarrs_node::Node;
 use zarrs_path::NodePath;
 use zarrs_store::{ReadableStorageTraits, StorageError};
 
-// The metadata of the base, or why it is no node.
+/// What stands at the path where a survey or a check begins.
+///
+/// Source: own.
+/// <https://zarr-specs.readthedocs.io/en/latest/v3/core/index.html#hierarchy>
+#[derive(Debug, Drop)]
+pub enum Base {
+    /// A node, which has these metadata.
+    Node(NodeMetadata),
+    /// No node: it has no document, or a bad one.
+    Refused(NodeCreateError),
+}
+
+// What stands at the base.
 pub(crate) fn base_of<S: ReadableStorageTraits>(
     alloc: Global,
     storage: &S,
     path: &NodePath,
     version: &MetadataRetrieveVersion,
-) -> Result<Result<NodeMetadata, NodeCreateError>, NodeCreateError>
+) -> Result<Base, NodeCreateError>
     ensures base { IfOk result (IsBase (S.contents storage.now) version.now path.now) }
     ensures excused { IfErr result (IsExcused (S.can_fail storage.now)) }
 {
     match Node::get_metadata(alloc, storage, path, version) {
-        Ok(metadata) => Ok(Ok(metadata)),
-        Err(refusal) if is_of_node(&refusal) => Ok(Err(refusal)),
+        Ok(metadata) => Ok(Base::Node(metadata)),
+        Err(refusal) if is_of_node(&refusal) => Ok(Base::Refused(refusal)),
         Err(refusal) => Err(refusal),
     }
 }

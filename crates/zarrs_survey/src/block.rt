@@ -9,6 +9,7 @@ ghost use Rattle.zarrs_survey.specs.Findings.{AreFindings};
 ghost use Rattle.zarrs_survey.specs.StepsOfComparing.{IsPlaceBehind};
 ghost use Rattle.zarrs_survey.specs.Surveys.{HasGroupAt, IsBaseOf};
 
+use crate::base::Base;
 use crate::comparison::Comparison;
 use crate::finding::Finding;
 use crate::survey::Survey;
@@ -70,8 +71,8 @@ fn is_base_group(survey: &Survey, path: &NodePath) -> bool
     ensures { IsTrue result ↔ HasGroup (IsBaseOf survey.now) path.now }
 {
     match &survey.base {
-        Ok(metadata) => metadata.is_group() && survey.path == *path,
-        Err(_refusal) => false,
+        Base::Node(metadata) => metadata.is_group() && survey.path == *path,
+        Base::Refused(_) => false,
     }
 }
 

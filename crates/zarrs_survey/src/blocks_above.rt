@@ -12,7 +12,7 @@ ghost use Rattle.zarrs_survey.specs.StepsOfComparing.{StandBehind};
 ghost use Rattle.zarrs_survey.specs.StepsOfTaking.{base_nodes};
 
 use crate::bad_documents::BadDocuments;
-use crate::base::base_of;
+use crate::base::{Base, base_of};
 use crate::check::read_block;
 use crate::comparison::Comparison;
 use crate::finding::Finding;
@@ -82,7 +82,7 @@ fn good_block<S: ReadableStorageTraits>(
     ensures block { IfOk result (IsGoodBlock (S.contents storage.now) version.now path.now) }
     ensures excused { IfErr result (IsExcused (S.can_fail storage.now)) }
 {
-    let Ok(metadata) = base_of(alloc, storage, path, version)? else {
+    let Base::Node(metadata) = base_of(alloc, storage, path, version)? else {
         return Ok(None);
     };
     match read_block(alloc, storage, path, &metadata)? {
@@ -160,17 +160,17 @@ fn part_from<S: ReadableStorageTraits + ListableStorageTraits>(
 }
 
 // Whether the base is an array.
-fn is_array_base(base: &Result<NodeMetadata, NodeCreateError>) -> bool
+fn is_array_base(base: &Base) -> bool
     ensures { result ≡ is_array_base base.now }
 {
-    matches!(base, Ok(NodeMetadata::Array(_)))
+    matches!(base, Base::Node(NodeMetadata::Array(_)))
 }
 
 // The base as a node, where it is one, and with its error, where its document is bad.
 fn sort_base(
     alloc: Global,
     path: &NodePath,
-    base: Result<NodeMetadata, NodeCreateError>,
+    base: Base,
 ) -> Result<
     (
         Vec<(NodePath, NodeMetadata)>,
@@ -184,8 +184,8 @@ fn sort_base(
     let mut nodes = Vec::new(alloc);
     let mut bad = Vec::new(alloc);
     match base {
-        Ok(metadata) => nodes.push((path.try_clone(alloc)?, metadata))?,
-        Err(refusal) => {
+        Base::Node(metadata) => nodes.push((path.try_clone(alloc)?, metadata))?,
+        Base::Refused(refusal) => {
             if !is_missing(&refusal) {
                 bad.push((path.try_clone(alloc)?, refusal))?;
             }

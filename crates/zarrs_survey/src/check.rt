@@ -17,13 +17,13 @@ ghost use Rattle.zarrs_survey.specs.Surveys.{IsBase};
 
 use crate::alike::alike_among;
 use crate::bad_documents::BadDocuments;
-use crate::base::base_of;
+use crate::base::{Base, base_of};
 use crate::comparison::Comparison;
 use crate::comparisons::Comparisons;
 use crate::finding::Finding;
 use crate::orphans::{hidden_below, orphans_of};
 use crate::own::has_other_attributes;
-use crate::survey::{sort_faults, warn_ignored};
+use crate::survey::{MODULE, sort_faults};
 use crate::visits::Visits;
 use log::Log;
 use serde_json::Value;
@@ -33,7 +33,7 @@ use zarrs_config::MetadataRetrieveVersion;
 use zarrs_fault::{MetadataFault, Numbers};
 use zarrs_form::{Object, parse};
 use zarrs_meta::{AdditionalFieldsV3, GroupMetadata, NodeMetadata};
-use zarrs_node::walk_past_faults;
+use zarrs_node::{walk_past_faults, warn_ignored};
 use zarrs_notes::NodeFinding;
 use zarrs_path::{NodePath, meta_key_v2_consolidated};
 use zarrs_store::{ListableStorageTraits, ReadableStorageTraits, StorageError, StorePrefix};
@@ -46,8 +46,8 @@ use zarrs_store::{ListableStorageTraits, ReadableStorageTraits, StorageError, St
 pub struct Check {
     /// The path of the base.
     pub path: NodePath,
-    /// Whether the base is a node, or why it is none: it has no document, or a bad one.
-    pub base: Result<(), NodeCreateError>,
+    /// Why the base is no node, where it is none: it has no document, or a bad one.
+    pub base_fault: Option<NodeCreateError>,
     /// The number of nodes: the base, where it is one, and those below it.
     pub nodes: usize,
     /// The paths without documents that were passed over with all below them, in the order of paths.
@@ -106,7 +106,7 @@ impl Check {
         storage: &S,
         path: &NodePath,
         version: &MetadataRetrieveVersion,
-        base: Result<NodeMetadata, NodeCreateError>,
+        base: Base,
     ) -> Result<Check, NodeCreateError>
         requires base { IsBase (S.contents storage.now) version.now path.now base }
         ensures surveyed { IfOk result
@@ -118,7 +118,7 @@ impl Check {
     {
         let _valid = path.as_str();
         let mut taken = Visits::new(alloc, storage);
-        let base = taken.take_base(path.try_clone(alloc)?, base)?;
+        let base_fault = taken.take_base(path.try_clone(alloc)?, base)?;
         let walked = walk_past_faults(alloc, storage, path, version, &mut taken)?;
         let Visits {
             comparisons,
@@ -132,7 +132,7 @@ impl Check {
             ..
         } = comparisons;
         outcome?;
-        warn_ignored(log, &walked.ignored);
+        warn_ignored(log, MODULE, &walked.ignored);
         let (bad_documents, bad_names) = sort_faults(alloc, walked.faults)?;
         let orphans = orphans_of(alloc, storage, &walked.ignored)?;
         let hidden = hidden_below(alloc, storage, &bad_documents)?;
@@ -140,7 +140,7 @@ impl Check {
         let alike = alike_among(alloc, &paths)?;
         Ok(Check {
             path: path.try_clone(alloc)?,
-            base,
+            base_fault,
             nodes: count,
             ignored: walked.ignored,
             orphans,

@@ -12,7 +12,7 @@ use crate::finding::{Finding, FindingKind};
 use std::alloc::{AllocError, Global};
 use zarrs_block::ConsolidatedMetadataMetadata;
 use zarrs_form::Text;
-use zarrs_path::{NodeName, NodePath};
+use zarrs_path::{NodeName, NodePath, without_leading_slash};
 
 // What there is to tell of the keys of the block of a group, in the order of the keys.
 pub(crate) fn key_findings(
@@ -46,7 +46,7 @@ fn key_kind(
     if !are_names(key) {
         return Ok(Some(FindingKind::BadKey(Text::from_str(alloc, key)?)));
     }
-    if is_covered(block, key) {
+    if block.is_covered(key) {
         return Ok(Some(FindingKind::Shadowed(Text::from_str(alloc, key)?)));
     }
     Ok(None)
@@ -61,23 +61,6 @@ fn are_names(key: &str) -> bool
         || names
             .split('/')
             .all(|name| !name.is_empty() && NodeName::validate(name))
-}
-
-// The text without one leading slash.
-fn without_leading_slash(key: &str) -> &str
-    ensures { result.now ≡ without_leading_slash key.now }
-{
-    key.strip_prefix('/').unwrap_or(key)
-}
-
-// Whether the key begins with a slash, and the block has what stands behind that.
-fn is_covered(block: &ConsolidatedMetadataMetadata, key: &str) -> bool
-    ensures { result ≡ is_covered block.now key.now }
-{
-    match key.strip_prefix('/') {
-        Some(rest) => block.get(rest).is_some(),
-        None => false,
-    }
 }
 
 // The block without the bad keys among the findings.

@@ -3,7 +3,7 @@ ghost use Rattle.std.specs.Prelude.{IfOk, IfErr};
 ghost use Rattle.zarrs_block.specs.Refusals.{IsExcused};
 ghost use Rattle.zarrs_survey.specs.PathChecks.{IsCheckedFrom, IsPathCheckOf};
 
-use crate::base::base_of;
+use crate::base::{Base, base_of};
 use crate::blocks_above::check_above;
 use crate::check::Check;
 use crate::finding::Finding;
@@ -77,12 +77,12 @@ fn checked_from<L: Log, S: ReadableStorageTraits + ListableStorageTraits>(
     ensures excused { IfErr result (IsExcused (S.can_fail storage.now)) }
 {
     let base = match base_of(alloc, storage, path, version)? {
-        Ok(metadata) if !metadata.is_group() => {
+        Base::Node(metadata) if !metadata.is_group() => {
             let found = node_findings(alloc, storage, path, &metadata)?;
             return Ok(CheckedFrom::Array(found));
         }
-        Ok(metadata) => Ok(metadata),
-        Err(refusal) => Err(refusal),
+        Base::Node(metadata) => Base::Node(metadata),
+        Base::Refused(refusal) => Base::Refused(refusal),
     };
     let check = Check::of_base(log, alloc, storage, path, version, base)?;
     Ok(CheckedFrom::Tree(check))

@@ -4,15 +4,18 @@ ghost use Rattle.zarrs_node.specs.Order.{Ascend};
 ghost use Rattle.zarrs_survey.specs.StepsOfSurveys.{HasPaths, HaveApartDocuments, documents_of, names_of};
 
 use crate::bad_documents::BadDocuments;
-use crate::base::base_of;
-use log::{Log, warn};
+use crate::base::{Base, base_of};
+use log::Log;
 use std::alloc::{AllocError, Global};
 use zarrs_block::NodeCreateError;
 use zarrs_config::MetadataRetrieveVersion;
 use zarrs_meta::NodeMetadata;
-use zarrs_node::{NodeFault, walk_past_faults};
+use zarrs_node::{NodeFault, walk_past_faults, warn_ignored};
 use zarrs_path::NodePath;
 use zarrs_store::{ListableStorageTraits, ReadableStorageTraits, StorePrefix};
+
+// The module whose warnings are those of a survey and of a check.
+pub(crate) const MODULE: &str = module_path!();
 
 /// All that a store has at a path, the base, and below it: its nodes, the paths without documents, and what is bad.
 ///
@@ -22,8 +25,8 @@ use zarrs_store::{ListableStorageTraits, ReadableStorageTraits, StorePrefix};
 pub struct Survey {
     /// The path of the base.
     pub path: NodePath,
-    /// The metadata of the base, or why it is no node: it has no document, or a bad one.
-    pub base: Result<NodeMetadata, NodeCreateError>,
+    /// What stands at the base: a node, or why it is none.
+    pub base: Base,
     /// The nodes below the base, each a path with its metadata, in the order of paths.
     pub nodes: Vec<(NodePath, NodeMetadata)>,
     /// The paths without documents that were passed over with all below them, in the order of paths.
@@ -63,7 +66,7 @@ impl Survey {
         let base = base_of(alloc, storage, path, version)?;
         let mut nodes = Vec::new(alloc);
         let walked = walk_past_faults(alloc, storage, path, version, &mut nodes)?;
-        warn_ignored(log, &walked.ignored);
+        warn_ignored(log, MODULE, &walked.ignored);
         let (bad_documents, bad_names) = sort_faults(alloc, walked.faults)?;
         Ok(Survey {
             path: path.try_clone(alloc)?,
@@ -73,13 +76,6 @@ impl Survey {
             bad_documents,
             bad_names,
         })
-    }
-}
-
-// Warns of each path that was passed over.
-pub(crate) fn warn_ignored<L: Log>(log: &L, ignored: &[NodePath]) {
-    for path in ignored {
-        warn!(log; "Object at {path} is not recognized as a component of a Zarr hierarchy. Ignoring.");
     }
 }
 

@@ -5,6 +5,7 @@ ghost use Rattle.zarrs_node.specs.Sinks.{TakesAll};
 ghost use Rattle.zarrs_survey.specs.StepsOfTaking.{IsNew, base_fault, base_nodes};
 ghost use Rattle.zarrs_survey.specs.StepsOfVisits.{TakesVisit, TellsNode, named_findings};
 
+use crate::base::Base;
 use crate::comparisons::Comparisons;
 use std::alloc::{AllocError, Global};
 use zarrs_block::NodeCreateError;
@@ -40,23 +41,23 @@ impl<'a, S: ReadableStorageTraits> Visits<'a, S> {
         }
     }
 
-    // Takes the base if it is a node, and otherwise returns its error.
+    // Takes the base if it is a node, and otherwise returns why it is none.
     pub(crate) fn take_base(
         &mut self,
         path: NodePath,
-        base: Result<NodeMetadata, NodeCreateError>,
-    ) -> Result<Result<(), NodeCreateError>, AllocError>
+        base: Base,
+    ) -> Result<Option<NodeCreateError>, AllocError>
         ensures fault { IfOk result (λ fault. fault ≡ base_fault base) }
         ensures taken { IfOk result
             (λ _. TakesAll (TakesVisit S.contents S.can_fail) self.old (base_nodes path base)
             self.new) }
     {
         match base {
-            Ok(metadata) => {
+            Base::Node(metadata) => {
                 self.take(path, metadata)?;
-                Ok(Ok(()))
+                Ok(None)
             }
-            Err(fault) => Ok(Err(fault)),
+            Base::Refused(fault) => Ok(Some(fault)),
         }
     }
 

@@ -6,7 +6,7 @@ use Rattle.zarrs_store.specs.Faults.{IsStoreError}
 use Rattle.zarrs_node.specs.Faults.{PathsAscend}
 use Rattle.zarrs_node.specs.Nodes.{Nodes}
 use Rattle.zarrs_survey.specs.Alike.{AreAlikeAmong}
-use Rattle.zarrs_survey.specs.Checks.{HasNodeAt, IsBaseOutcome}
+use Rattle.zarrs_survey.specs.Checks.{HasNodeAt, IsBaseFault}
 use Rattle.zarrs_survey.specs.StepsOfOrphans.{AreOrphansAmong}
 use Rattle.zarrs_survey.specs.StepsOfTaking.{base_nodes, blocks_of}
 use Rattle.zarrs_node.specs.Exists.{HasNodeKey}
@@ -23,7 +23,7 @@ pub returns-in_err-outcome-clause-excused : goal.returns-in_err-outcome-clause-e
 returns-in_err-outcome-clause-excused g c =
     let s = g.S.Store.contents c.args.storage.now in
     let told = refused_so g.S.Store.contents g.S.Store.can_fail c.new-taken.result.comparisons c.take_base.new.self.comparisons c.walk_past_faults.new.sink.comparisons s c.args.version.now c.args.path.now
-    c.in_ok-try_clone.field-0 c.args.base c.in_ok-try_clone.ensures.ok (ap g.S.Store.contents c.new-taken.ensures.storage) (compared_all g.S.Store.contents g.S.Store.can_fail c.new-taken.result (base_nodes c.in_ok-try_clone.field-0 c.args.base) c.take_base.new.self c.in_ok-base.ensures.taken)
+    c.in_ok-try_clone.field-0 c.args.base c.in_ok-try_clone.ensures.ok (ap g.S.Store.contents c.new-taken.ensures.storage) (compared_all g.S.Store.contents g.S.Store.can_fail c.new-taken.result (base_nodes c.in_ok-try_clone.field-0 c.args.base) c.take_base.new.self c.in_ok-base_fault.ensures.taken)
     (walk_of g.S.Store.contents g.S.Store.can_fail c.take_base.new.self c.walk_past_faults.new.sink c.args.path.now (Nodes (g.S.Store.contents c.args.storage.now) c.args.version.now true c.args.path.now) c.in_ok-walked.ensures.takes) c.new-taken.ensures.new in
     let p = err_from_is_err_and c.from_residual-in_err-outcome.result c.from_residual-in_err-outcome.ensures.1 in
     rw (p.1, p.2) (subst (λ o. IfErr o (IsStoreError (g.S.Store.can_fail c.args.storage.now))) c.in_err-outcome.was (subst (λ x. IfErr c.walk_past_faults.new.sink.comparisons.outcome (IsStoreError (g.S.Store.can_fail x))) c.new-taken.ensures.storage told))
@@ -43,20 +43,20 @@ returns-clause-surveyed g c =
     let b = c.args.path.now in
     let w = c.in_ok-walked.ensures in
     let h = has_all g.S.Store.contents g.S.Store.can_fail c.new-taken.result.comparisons c.take_base.new.self.comparisons c.walk_past_faults.new.sink.comparisons (g.S.Store.contents c.args.storage.now) c.args.version.now c.args.path.now
-    c.in_ok-try_clone.field-0 c.args.base c.in_ok-try_clone.ensures.ok (ap g.S.Store.contents c.new-taken.ensures.storage) (compared_all g.S.Store.contents g.S.Store.can_fail c.new-taken.result (base_nodes c.in_ok-try_clone.field-0 c.args.base) c.take_base.new.self c.in_ok-base.ensures.taken)
+    c.in_ok-try_clone.field-0 c.args.base c.in_ok-try_clone.ensures.ok (ap g.S.Store.contents c.new-taken.ensures.storage) (compared_all g.S.Store.contents g.S.Store.can_fail c.new-taken.result (base_nodes c.in_ok-try_clone.field-0 c.args.base) c.take_base.new.self c.in_ok-base_fault.ensures.taken)
     (walk_of g.S.Store.contents g.S.Store.can_fail c.take_base.new.self c.walk_past_faults.new.sink c.args.path.now (Nodes (g.S.Store.contents c.args.storage.now) c.args.version.now true c.args.path.now) c.in_ok-walked.ensures.takes) c.new-taken.ensures.new
     c.in_ok-outcome.was c.requires.base in
     let orphans = orphans_listed s v b c.in_ok-walked.walked.ignored.items c.in_ok-orphans.orphans.items w.ignored w.ignored_ascend
     (subst (λ ps. AreOrphansAmong s ps c.in_ok-orphans.orphans.items) c.deref-2.ensures.value c.in_ok-orphans.ensures.ok) in
     let told = lists_told g.S.Store.contents g.S.Store.can_fail c.new-taken.result c.take_base.new.self c.walk_past_faults.new.sink s v b
-    c.in_ok-try_clone.field-0 c.args.base c.in_ok-try_clone.ensures.ok (ap g.S.Store.contents c.new-taken.ensures.storage) c.in_ok-base.ensures.taken c.in_ok-walked.ensures.takes c.new-taken.ensures.none
+    c.in_ok-try_clone.field-0 c.args.base c.in_ok-try_clone.ensures.ok (ap g.S.Store.contents c.new-taken.ensures.storage) c.in_ok-base_fault.ensures.taken c.in_ok-walked.ensures.takes c.new-taken.ensures.none
     c.in_ok-outcome.was c.requires.base in
     let paths = lists_paths g.S.Store.contents g.S.Store.can_fail c.new-taken.result c.take_base.new.self c.walk_past_faults.new.sink s v b
-    c.in_ok-try_clone.field-0 c.args.base c.in_ok-try_clone.ensures.ok (ap g.S.Store.contents c.new-taken.ensures.storage) c.in_ok-base.ensures.taken c.in_ok-walked.ensures.takes c.new-taken.ensures.no_paths
+    c.in_ok-try_clone.field-0 c.args.base c.in_ok-try_clone.ensures.ok (ap g.S.Store.contents c.new-taken.ensures.storage) c.in_ok-base_fault.ensures.taken c.in_ok-walked.ensures.takes c.new-taken.ensures.no_paths
     c.in_ok-outcome.was c.requires.base in
     record {
       path = c.in_ok-try_clone-2.ensures.ok;
-      base = subst (IsBaseOutcome s v b) (sym c.in_ok-base.ensures.fault) (base_faulted s v b c.args.base c.requires.base);
+      base = subst (IsBaseFault s v b) (sym c.in_ok-base_fault.ensures.fault) (base_faulted s v b c.args.base c.requires.base);
       nodes = nodes_counted s v b c.walk_past_faults.new.sink.comparisons h;
       ignored = w.ignored;
       ignored_ascend = w.ignored_ascend;
@@ -79,7 +79,7 @@ returns-clause-findings g c =
     let b = c.args.path.now in
     let w = c.in_ok-walked.ensures in
     let h = has_all g.S.Store.contents g.S.Store.can_fail c.new-taken.result.comparisons c.take_base.new.self.comparisons c.walk_past_faults.new.sink.comparisons (g.S.Store.contents c.args.storage.now) c.args.version.now c.args.path.now
-    c.in_ok-try_clone.field-0 c.args.base c.in_ok-try_clone.ensures.ok (ap g.S.Store.contents c.new-taken.ensures.storage) (compared_all g.S.Store.contents g.S.Store.can_fail c.new-taken.result (base_nodes c.in_ok-try_clone.field-0 c.args.base) c.take_base.new.self c.in_ok-base.ensures.taken)
+    c.in_ok-try_clone.field-0 c.args.base c.in_ok-try_clone.ensures.ok (ap g.S.Store.contents c.new-taken.ensures.storage) (compared_all g.S.Store.contents g.S.Store.can_fail c.new-taken.result (base_nodes c.in_ok-try_clone.field-0 c.args.base) c.take_base.new.self c.in_ok-base_fault.ensures.taken)
     (walk_of g.S.Store.contents g.S.Store.can_fail c.take_base.new.self c.walk_past_faults.new.sink c.args.path.now (Nodes (g.S.Store.contents c.args.storage.now) c.args.version.now true c.args.path.now) c.in_ok-walked.ensures.takes) c.new-taken.ensures.new
     c.in_ok-outcome.was c.requires.base in
     let bad = c.in_ok-bad_documents.bad_documents in
@@ -91,6 +91,6 @@ pub alike_among-requires : goal.alike_among-requires
 alike_among-requires g c = record {
   ascending = subst PathsAscend (sym c.deref-3.ensures.value)
       (lists_paths g.S.Store.contents g.S.Store.can_fail c.new-taken.result c.take_base.new.self c.walk_past_faults.new.sink (g.S.Store.contents c.args.storage.now) c.args.version.now c.args.path.now
-      c.in_ok-try_clone.field-0 c.args.base c.in_ok-try_clone.ensures.ok (ap g.S.Store.contents c.new-taken.ensures.storage) c.in_ok-base.ensures.taken c.in_ok-walked.ensures.takes c.new-taken.ensures.no_paths
+      c.in_ok-try_clone.field-0 c.args.base c.in_ok-try_clone.ensures.ok (ap g.S.Store.contents c.new-taken.ensures.storage) c.in_ok-base_fault.ensures.taken c.in_ok-walked.ensures.takes c.new-taken.ensures.no_paths
       c.in_ok-outcome.was c.requires.base).0;
 }

@@ -4,7 +4,7 @@ use Rattle.zarrs_survey.specs.StepsOfTaking.{base_nodes}
 use Rattle.zarrs_survey.specs.StepsOfVisits.{TakesVisit}
 use Rattle.zarrs_survey.proofs.visits.Visits.take_base.Goals as goal
 
-pub returns-in_ok-take-in-Ok-clause-taken : goal.returns-in_ok-take-in-Ok-clause-taken
-returns-in_ok-take-in-Ok-clause-taken g c =
-    subst (λ r. TakesAll (TakesVisit g.S.Store.contents g.S.Store.can_fail) c.args.self.now (base_nodes c.args.path r) c.take.new.self) (sym c.in-Ok.is)
-    (c.take.new.self, c.in_ok-take-in-Ok.ensures, refl)
+pub returns-in_ok-take-in-Node-clause-taken : goal.returns-in_ok-take-in-Node-clause-taken
+returns-in_ok-take-in-Node-clause-taken g c =
+    subst (λ r. TakesAll (TakesVisit g.S.Store.contents g.S.Store.can_fail) c.args.self.now (base_nodes c.args.path r) c.take.new.self) (sym c.in-Node.is)
+    (c.take.new.self, c.in_ok-take-in-Node.ensures, refl)
