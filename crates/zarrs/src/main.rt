@@ -1,5 +1,5 @@
-//! Shows what a store has, in a folder or in an image on standard input: its tree, the paths and documents of its nodes, and what is bad in it or in its
-//! blocks; and writes the block of a group back.
+//! The program `zarrs`: it shows what a store has and what is bad in it, and writes the block of a group back. Its `main` hands the words, the system and the
+//! three streams to `answer` of [`zarrs_cli`], which is what is promised, and ends with the status that it answers.
 #![tactic(auto)]
 
 use log::{Level, Logged};

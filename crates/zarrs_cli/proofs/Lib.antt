@@ -3,6 +3,7 @@ pub mod Consolidations
 pub mod Counts
 pub mod FolderNames
 pub mod Json
+pub mod LineSinks
 pub mod Lines
 pub mod LoadedAbove
 pub mod LoadedAnswers

@@ -1,19 +1,11 @@
 -- The nodes of a hierarchy as lines.
-use Rattle.std.proofs.Common.{◌≡◌, ◌<◌, ◌+◌, ◌-◌, ◌*◌, ℕ, List, [], ◌∷◌, ◌++◌, get_or, length, take, replicate, slice_index, flat_map, sym, ap, ◌∙◌, append_assoc, append-nil, arith}
-use Rattle.std.proofs.lemmas.List.{take_more, length-append}
-use Rattle.std.proofs.lemmas.Grind.{flat_map-append}
+use Rattle.std.proofs.Common.{◌≡◌, ◌<◌, ◌+◌, ◌-◌, ◌*◌, ℕ, List, [], ◌∷◌, ◌++◌, length, take, replicate, slice_index, sym, ap, ◌∙◌, append_assoc, arith}
+use Rattle.std.proofs.lemmas.List.{length-append}
 use Rattle.std.proofs.Math.Seq.{take-append_seam, get_or-append_seam}
 use Rattle.zarrs_path.specs.Paths.{Path}
 use Rattle.zarrs_meta.specs.declared.node.NodeMetadata.{NodeMetadata}
 use Rattle.zarrs_node.specs.Lines.{node_text, named_line}
 use Rattle.zarrs_cli.specs.NodeLines.{line_at, shown_name}
-
--- the text of one element more stands behind those of the elements before it
-pub lines_next : {A : Type 0} (f : A → List ℕ) (xs : List A) (i : ℕ) (x : A) (old new : List ℕ) → i < length xs → x ≡ get_or xs i x → new ≡ old ++ f x
-    → old ≡ flat_map f (take i xs) → new ≡ flat_map f (take (i + 1) xs)
-lines_next f xs i x old new lt at more told =
-    let last : flat_map f (get_or xs i x ∷ []) ≡ f x = append-nil (f (get_or xs i x)) ∙ ap f (sym at) in
-    more ∙ (ap (λ t. t ++ f x) told ∙ sym (ap (flat_map f) (take_more xs i x lt) ∙ (flat_map-append f (take i xs) (get_or xs i x ∷ []) ∙ ap (λ t. flat_map f (take i xs) ++ t) last)))
 
 -- what is printed of a node ends in a newline behind its line
 pub line_ends : (level : ℕ) (p : Path) (m : NodeMetadata) → replicate (2 * level) 32 ++ named_line (shown_name level p) m ≡ line_at level (p, m) ++ 10 ∷ []

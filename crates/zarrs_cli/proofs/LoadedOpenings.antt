@@ -1,5 +1,5 @@
 -- What opening shows over a store that opens at a base as another.
-use Rattle.std.proofs.Common.{◌≡◌, ◌↔◌, inl, inr, ⊎_elim, ℕ, List, Option, Some, None, refl, sym, subst, ◌∙◌}
+use Rattle.std.proofs.Common.{◌≡◌, ◌↔◌, inl, inr, ⊎_elim, ℕ, List, refl, sym, subst, ◌∙◌}
 use Rattle.zarrs_store.specs.Contents.{Contents}
 use Rattle.zarrs_path.specs.Paths.{Path, IsPath, path_text}
 use Rattle.zarrs_path.proofs.LawProofs.{texts_differ}
@@ -7,7 +7,7 @@ use Rattle.zarrs_meta.specs.declared.node.NodeMetadata.{NodeMetadata}
 use Rattle.zarrs_meta.specs.declared.node.NodeMetadata.TheVariants.{Group, Array}
 use Rattle.zarrs_config.specs.declared.version.MetadataRetrieveVersion.TheVariants.{Default}
 use Rattle.zarrs_config.specs.declared.version.UseConsolidatedMetadata.{UseConsolidatedMetadata}
-use Rattle.zarrs_block.specs.Block.{Block}
+use Rattle.zarrs_block.specs.Policy.{Choice, use_block, list_store, refuse}
 use Rattle.zarrs_block.specs.Meaning.{meaning, node}
 use Rattle.zarrs_block.specs.declared.node_create_error.NodeCreateError.{NodeCreateError}
 use Rattle.zarrs_node.specs.OpeningNodes.{choice, IsCleanBelow, RefusesOpening}
@@ -17,10 +17,10 @@ use Rattle.zarrs_folder.specs.Openings.{ListSame, OpenSame}
 use Rattle.zarrs_folder.proofs.Openings.{lists_over, below_same, opened_answer_same}
 
 -- the pairs of a choice are the same where those of a listing are
-pairs_chosen : (S L : Contents) (b : Path) (c : Option (Option Block)) → (c ≡ Some None → ListSame S L b) → (e : Path × NodeMetadata) → PairsChosen L Default c b e ↔ PairsChosen S Default c b e
-pairs_chosen S L b None same e = (λ h. h, λ h. h)
-pairs_chosen S L b (Some None) same e = (same refl).nodes e
-pairs_chosen S L b (Some (Some B)) same e = (λ h. h, λ h. h)
+pairs_chosen : (S L : Contents) (b : Path) (c : Choice) → (c ≡ list_store → ListSame S L b) → (e : Path × NodeMetadata) → PairsChosen L Default c b e ↔ PairsChosen S Default c b e
+pairs_chosen S L b (use_block B) same e = (λ h. h, λ h. h)
+pairs_chosen S L b list_store same e = (same refl).nodes e
+pairs_chosen S L b refuse same e = (λ h. h, λ h. h)
 
 module _ (S L : Contents) (policy : UseConsolidatedMetadata) (b : Path) (same : OpenSame S L policy b) where
   -- what stands below the base

@@ -1,5 +1,5 @@
 -- The remarks on a survey and on the findings beside it are exactly what there is to tell, each once.
-use Rattle.std.proofs.Common.{◌≡◌, ◌≢◌, ◌⊎◌, inl, inr, ⊎_elim, ℕ, ◌+◌, true, true≢false, List, [], ◌∷◌, ◌++◌, get_or, length, map, zip, AllPairs, Option, Some, None, Less, is_eq, Result, Ok, Err, refl, sym, ap, subst, ◌∙◌, arith, ◌<◌, Contains, append_assoc, codes, take}
+use Rattle.std.proofs.Common.{◌≡◌, ◌≢◌, ◌⊎◌, inl, inr, ⊎_elim, ℕ, ◌+◌, true, true≢false, List, [], ◌∷◌, ◌++◌, get_or, length, map, zip, AllPairs, Option, Some, None, Less, is_eq, refl, sym, ap, subst, ◌∙◌, arith, ◌<◌, Contains, append_assoc, codes, take}
 use Rattle.std.specs.List.{list_all}
 use Rattle.std.specs.Option.{unwrap_or}
 use Rattle.std.proofs.lemmas.Bool.{and_parts}
@@ -41,7 +41,7 @@ use Rattle.zarrs_survey.specs.declared.path_check.CheckedFrom.{CheckedFrom}
 use Rattle.zarrs_survey.specs.declared.path_check.CheckedFrom.TheVariants as from
 use Rattle.zarrs_survey.specs.declared.path_check.PathCheck.{PathCheck}
 use Rattle.zarrs_folder.specs.PrunedStores.{IsArrayAt}
-use Rattle.zarrs_survey.specs.Checks.{HasNode, IsBaseOutcome, IsCheckOf, IsNodeTold, IsToldBefore, StandsBefore, AreBlockFindings}
+use Rattle.zarrs_survey.specs.Checks.{HasNode, IsBaseFault, IsCheckOf, IsNodeTold, IsToldBefore, StandsBefore, AreBlockFindings}
 use Rattle.zarrs_survey.specs.declared.finding.Finding.{Finding}
 use Rattle.zarrs_survey.specs.declared.finding.FindingKind.{FindingKind}
 use Rattle.zarrs_survey.specs.declared.finding.FindingKind.TheVariants.{BlockFault, BadKey, Shadowed, OwnKey, OwnAttributes, Unreachable, Stale, Unreached, Differs, Missing}
@@ -303,9 +303,9 @@ not_before_told f h same = ⊎_elim
     (sym (ap is_eq (tied_itself nat_list_cmp_total (field_of h))) ∙ ap is_eq (subst (λ t. bytes_cmp t (field_of h) ≡ Less) (fields_same f h same) level.1)))
 
 -- what base remarks are of
-base_remark_of : (b : Path) (base : Result (Unit {0}) NodeCreateError) (r : Remark) → Contains (base_remarks b base) r → (e : NodeCreateError) × (base ≡ Err e) × (r ≡ error_remark b e)
-base_remark_of b (Ok m) r h = absurd (omega (arith, h.1))
-base_remark_of b (Err e) r h = (e, refl, ⊎_elim (λ same. sym same) (λ none. absurd (omega (arith, none.1))) (contains_cases (error_remark b e) [] r h))
+base_remark_of : (b : Path) (base : Option NodeCreateError) (r : Remark) → Contains (base_remarks b base) r → (e : NodeCreateError) × (base ≡ Some e) × (r ≡ error_remark b e)
+base_remark_of b None r h = absurd (omega (arith, h.1))
+base_remark_of b (Some e) r h = (e, refl, ⊎_elim (λ same. sym same) (λ none. absurd (omega (arith, none.1))) (contains_cases (error_remark b e) [] r h))
 
 -- what is told by errors that say that there are no metadata at a path is one
 missing_same : (b : Path) (e d : NodeCreateError) → IsMissing b e → IsMissing b d → error_remark b e ≡ error_remark b d
@@ -341,18 +341,18 @@ module _ (s : Contents) (b : Path) where
   not_refused m e means h = ⊎_elim (λ none. subst IsNode (sym means ∙ none.0) tt) (λ is. subst IsNode (sym means ∙ is) tt) h
 
   -- what refuses the base is told of it
-  base_told : (base : Result (Unit {0}) NodeCreateError) (e : NodeCreateError) → IsBaseOutcome s Default b base → RefusesNode s Default b e → Contains (base_remarks b base) (error_remark b e)
-  base_told (Ok u) e is h = absurd (not_refused is.0 e is.1 h)
-  base_told (Err d) e is h = subst (Contains (error_remark b d ∷ [])) (refused_same d e is h) (Contains-first (error_remark b d) [])
+  base_told : (base : Option NodeCreateError) (e : NodeCreateError) → IsBaseFault s Default b base → RefusesNode s Default b e → Contains (base_remarks b base) (error_remark b e)
+  base_told None e is h = absurd (not_refused is.0 e is.1 h)
+  base_told (Some d) e is h = subst (Contains (error_remark b d ∷ [])) (refused_same d e is h) (Contains-first (error_remark b d) [])
 
   -- the error of a base that is none refuses it
-  base_refuses : (base : Result (Unit {0}) NodeCreateError) (e : NodeCreateError) → IsBaseOutcome s Default b base → base ≡ Err e → RefusesNode s Default b e
-  base_refuses base e is same = subst (IsBaseOutcome s Default b) same is
+  base_refuses : (base : Option NodeCreateError) (e : NodeCreateError) → IsBaseFault s Default b base → base ≡ Some e → RefusesNode s Default b e
+  base_refuses base e is same = subst (IsBaseFault s Default b) same is
 
   -- of the base at most one fault is told
-  base_once : (base : Result (Unit {0}) NodeCreateError) → AllPairs (λ q r. q ≢ r) (base_remarks b base)
-  base_once (Ok m) = λ i j d l m. absurd (omega (arith, m))
-  base_once (Err e) = λ i j d l m. absurd (omega (arith, l, m))
+  base_once : (base : Option NodeCreateError) → AllPairs (λ q r. q ≢ r) (base_remarks b base)
+  base_once None = λ i j d l m. absurd (omega (arith, m))
+  base_once (Some e) = λ i j d l m. absurd (omega (arith, l, m))
 
 -- one remark more is told
 pub told_next : {A : Type 0} (f : A → Remark) (xs : List A) (i : ℕ) (x : A) (r : Remark) (start old new : List Remark) → i < length xs → x ≡ get_or xs i x → r ≡ f x
@@ -402,7 +402,7 @@ module _ (told : Remark → Type 0) (all : List Remark) (sound : (r : Remark) �
 module _ (s : Contents) (b : Path) (c : Check) (h : IsCheckOf s Default b c) (k : AreBlockFindings s Default b c.findings.items) where
   -- the faults of the base, of bad documents and of bad names, what is lost below paths without documents, what the documents of nodes tell, and what there is to tell of blocks
   abbrev bases : List Remark
-  bases = base_remarks c.path c.base
+  bases = base_remarks c.path c.base_fault
 
   -- the remarks on bad documents
   abbrev documents : List Remark
@@ -437,8 +437,8 @@ module _ (s : Contents) (b : Path) (c : Check) (h : IsCheckOf s Default b c) (k 
   -- a remark on the base is to be told
   base_sound : (r : Remark) → Contains bases r → IsOwnRemark s b r
   base_sound r in' =
-      let w = base_remark_of c.path c.base r in' in
-      inl (w.0, base_refuses s b c.base w.0 h.base w.1, w.2 ∙ ap (λ p. error_remark p w.0) h.path)
+      let w = base_remark_of c.path c.base_fault r in' in
+      inl (w.0, base_refuses s b c.base_fault w.0 h.base w.1, w.2 ∙ ap (λ p. error_remark p w.0) h.path)
 
   -- a remark on a bad document is to be told
   document_sound : (r : Remark) → Contains documents r → IsOwnRemark s b r
@@ -498,7 +498,7 @@ module _ (s : Contents) (b : Path) (c : Check) (h : IsCheckOf s Default b c) (k 
   -- what refuses the base has its remark
   base_complete : (e : NodeCreateError) → RefusesNode s Default b e → Contains (own_remarks c) (error_remark b e)
   base_complete e refused = Contains-append_left bases (documents ++ (names ++ (orphans ++ tolds))) (error_remark b e)
-      (subst (λ p. Contains (base_remarks p c.base) (error_remark b e)) (sym h.path) (base_told s b c.base e h.base refused))
+      (subst (λ p. Contains (base_remarks p c.base_fault) (error_remark b e)) (sym h.path) (base_told s b c.base_fault e h.base refused))
 
   -- a bad document and its number have their remark
   document_complete : (d : Path × NodeCreateError) (n : ℕ) → BadDocuments s Default b d → IsCountBelow s d.0 n → Contains (own_remarks c) (document_remark d n)
@@ -598,7 +598,7 @@ module _ (s : Contents) (b : Path) (c : Check) (h : IsCheckOf s Default b c) (k 
   -- a remark on the base, and one on what is below
   base_apart : (q r : Remark) → Contains bases q → Contains (documents ++ names) r → q ≢ r
   base_apart q r in' later same =
-      let w = base_remark_of c.path c.base q in' in
+      let w = base_remark_of c.path c.base_fault q in' in
       let at : b ≡ r.path = sym h.path ∙ (ap (λ x. x.path) (sym w.2) ∙ ap (λ x. x.path) same) in
       ⊎_elim
       (λ d.
@@ -609,7 +609,7 @@ module _ (s : Contents) (b : Path) (c : Check) (h : IsCheckOf s Default b c) (k 
 
   -- what the documents of nodes tell is of other kinds than the faults of paths
   base_other : (q : Remark) → Contains bases q → IsTold q.kind → ⊥
-  base_other q in' is = let w = base_remark_of c.path c.base q in' in error_is_not w.0 (subst (λ x. IsTold x.kind) w.2 is)
+  base_other q in' is = let w = base_remark_of c.path c.base_fault q in' in error_is_not w.0 (subst (λ x. IsTold x.kind) w.2 is)
 
   -- a remark on a bad document is not of the kinds that the documents of nodes tell
   document_other : (q : Remark) → Contains documents q → IsTold q.kind → ⊥
@@ -631,7 +631,7 @@ module _ (s : Contents) (b : Path) (c : Check) (h : IsCheckOf s Default b c) (k 
 
   -- a remark on the base is not of the kind of what is lost
   base_kept : (q : Remark) → Contains bases q → IsLost q.kind → ⊥
-  base_kept q in' is = let w = base_remark_of c.path c.base q in' in error_is_kept w.0 (subst (λ x. IsLost x.kind) w.2 is)
+  base_kept q in' is = let w = base_remark_of c.path c.base_fault q in' in error_is_kept w.0 (subst (λ x. IsLost x.kind) w.2 is)
 
   -- a remark on a bad document is not of the kind of what is lost
   document_kept : (q : Remark) → Contains documents q → IsLost q.kind → ⊥
@@ -707,7 +707,7 @@ module _ (s : Contents) (b : Path) (c : Check) (h : IsCheckOf s Default b c) (k 
 
   -- none of the paths' own remarks is told twice
   own_once : AllPairs (λ q r. q ≢ r) (own_remarks c)
-  own_once = all_pairs_append (λ q r. q ≢ r) bases (documents ++ (names ++ (orphans ++ tolds))) (base_once s c.path c.base) below_once
+  own_once = all_pairs_append (λ q r. q ≢ r) bases (documents ++ (names ++ (orphans ++ tolds))) (base_once s c.path c.base_fault) below_once
       (λ q r in' later. ⊎_elim
       (λ d. base_apart q r in' (Contains-append_left documents names r d))
       (λ more. ⊎_elim

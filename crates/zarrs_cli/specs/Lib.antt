@@ -4,6 +4,7 @@ pub mod Escapes
 pub mod FaultTexts
 pub mod Json
 pub mod Kinds
+pub mod LineSinks
 pub mod NodeDocuments
 pub mod NodeLines
 pub mod Output

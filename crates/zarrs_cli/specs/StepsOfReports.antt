@@ -1,5 +1,5 @@
 -- Steps of a report: the remarks of a check, before they are put in order; no public contract rests on them.
-use Rattle.std.specs.Prelude.{ℕ, List, [], ◌∷◌, ◌++◌, map, zip, Result, Ok, Err}
+use Rattle.std.specs.Prelude.{ℕ, List, [], ◌∷◌, ◌++◌, map, zip, Option, Some, None}
 use Rattle.std.specs.List.{filter}
 use Rattle.std.specs.List.Sorted.{IsPermutation, IsSorted}
 use Rattle.zarrs_path.specs.Paths.{Path}
@@ -17,9 +17,9 @@ use Rattle.zarrs_cli.specs.Report.{remark_cmp, remark_of, told_remark}
 use Rattle.zarrs_cli.specs.Texts.{name_text}
 
 -- the fault of the base, where it has one
-abbrev pub base_remarks : Path → Result (Unit {0}) NodeCreateError → List Remark
-base_remarks b (Ok u) = []
-base_remarks b (Err e) = error_remark b e ∷ []
+abbrev pub base_remarks : Path → Option NodeCreateError → List Remark
+base_remarks b None = []
+base_remarks b (Some e) = error_remark b e ∷ []
 
 -- the faults of bad documents, each with the number of paths below it that have a document
 abbrev pub document_remarks : List (Path × NodeCreateError) → List ℕ → List Remark
@@ -32,7 +32,7 @@ name_remark p = own_remark p BadName (name_text p)
 -- the own faults of paths, what is lost below those without documents, and what the documents of nodes tell
 abbrev pub own_remarks : Check → List Remark
 own_remarks c =
-    base_remarks c.path c.base
+    base_remarks c.path c.base_fault
     ++ (document_remarks c.bad_documents c.hidden.items
     ++ (map name_remark c.bad_names.items ++ (map orphan_remark c.orphans.items ++ map told_remark c.told.items)))
 

@@ -1,5 +1,5 @@
 //! A word over a folder: what it asks of the folder, and no more, is loaded first.
-ghost use Rattle.std.specs.Prelude.{◌≡◌, ◌≢◌, false, None, Some, IfOk, IfErr, Contains, map, string_bytes};
+ghost use Rattle.std.specs.Prelude.{◌≡◌, ◌≢◌, false, IfOk, IfErr, Contains, map, string_bytes};
 ghost use Rattle.std.specs.Io.KnownBytes.{Keeps};
 ghost use Rattle.zarrs_store.specs.Contents.{Values};
 ghost use Rattle.zarrs_path.specs.Paths.{IsBelow, IsParent, IsPath, Path};
@@ -7,6 +7,7 @@ ghost use Rattle.zarrs_meta.specs.declared.node.GroupMetadata.{GroupMetadata};
 ghost use Rattle.zarrs_meta.specs.declared.node.NodeMetadata.TheVariants.{Group};
 ghost use Rattle.zarrs_config.specs.declared.version.MetadataRetrieveVersion.TheVariants.{Default};
 ghost use Rattle.zarrs_block.specs.Meaning.{meaning, node};
+ghost use Rattle.zarrs_block.specs.Policy.{list_store};
 ghost use Rattle.zarrs_node.specs.OpeningNodes.{choice};
 ghost use Rattle.zarrs_folder.specs.Folders.{in_any, values_of};
 ghost use Rattle.zarrs_folder.specs.Openings.{OpenSame};
@@ -396,7 +397,7 @@ fn is_listed<S: ReadableStorageTraits>(
 ) -> bool
     ensures { result ≡ false → (g : GroupMetadata)
         → meaning (S.contents store.now) Default base.now ≡ node (Group g)
-        → choice (S.contents store.now) policy base.now (Group g) ≡ Some None → ⊥ }
+        → choice (S.contents store.now) policy base.now (Group g) ≡ list_store → ⊥ }
 {
     match Node::get_metadata(alloc, store, base, &MetadataRetrieveVersion::Default) {
         Ok(metadata) => is_group_listed(alloc, store, base, &metadata, policy),
@@ -416,7 +417,7 @@ fn is_group_listed<S: ReadableStorageTraits>(
     policy: UseConsolidatedMetadata,
 ) -> bool
     ensures { result ≡ false → (g : GroupMetadata) → metadata.now ≡ Group g
-        → choice (S.contents store.now) policy base.now (Group g) ≡ Some None → ⊥ }
+        → choice (S.contents store.now) policy base.now (Group g) ≡ list_store → ⊥ }
 {
     if !metadata.is_group() {
         return false;

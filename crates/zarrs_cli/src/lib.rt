@@ -1,4 +1,5 @@
-//! What the program `zarrs` does: its words, what each writes of a store or writes back to it, its refusals, and a whole run of it.
+//! What the program `zarrs` does: its words, what each writes of a store or writes back to it, its refusals, and a whole run of it, `answer`.
+//! `run_store` does a word over any store, `run_of_image` and `run_of_folder` load one first; `consolidate_folder` writes a block back.
 #![tactic(auto)]
 
 mod answers;

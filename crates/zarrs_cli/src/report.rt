@@ -212,7 +212,7 @@ fn own_remarks(alloc: Global, checked: &Check) -> Result<Vec<Remark>, AllocError
     ensures { IfOk result (λ remarks. remarks.items ≡ own_remarks checked.now) }
 {
     let mut remarks = Vec::new(alloc);
-    add_base(alloc, &checked.path, &checked.base, &mut remarks)?;
+    add_base(alloc, &checked.path, &checked.base_fault, &mut remarks)?;
     add_documents(alloc, checked, &mut remarks)?;
     add_names(alloc, &checked.bad_names, &mut remarks)?;
     add_orphans(alloc, &checked.orphans, &mut remarks)?;
@@ -224,13 +224,13 @@ fn own_remarks(alloc: Global, checked: &Check) -> Result<Vec<Remark>, AllocError
 fn add_base(
     alloc: Global,
     path: &NodePath,
-    base: &Result<(), NodeCreateError>,
+    fault: &Option<NodeCreateError>,
     remarks: &mut Vec<Remark>,
 ) -> Result<(), AllocError>
     ensures { OnOk result
-        (remarks.new.items ≡ remarks.old.items ++ base_remarks path.now base.now) }
+        (remarks.new.items ≡ remarks.old.items ++ base_remarks path.now fault.now) }
 {
-    if let Err(error) = base {
+    if let Some(error) = fault {
         remarks.push(error_remark(alloc, path, error)?)?;
     }
     Ok(())

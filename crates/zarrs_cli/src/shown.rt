@@ -1,22 +1,22 @@
-//! The nodes of a hierarchy as lines: in a tree, and in a list.
+//! The nodes of a hierarchy as lines: in a tree, and in a list. A line is made when its node is read, and no node is kept.
 ghost use Rattle.std.specs.Prelude.{◌≡◌, ◌*◌, ℕ, List, [], ◌∷◌, ◌++◌, IfOk, IfErr, OnOk, replicate, string_bytes};
 ghost use Rattle.zarrs_node.specs.Lines.{named_line};
 ghost use Rattle.zarrs_path.specs.Paths.{path_text};
 ghost use Rattle.zarrs_config.specs.declared.version.UseConsolidatedMetadata.TheVariants.{Never};
 ghost use Rattle.zarrs_block.specs.Refusals.{IsExcusedOr};
 ghost use Rattle.zarrs_node.specs.OpeningNodes.{RefusesOpening};
-ghost use Rattle.zarrs_hierarchy.specs.OpeningHierarchies.{IsOpened};
-ghost use Rattle.zarrs_cli.specs.Escapes.{escaped_line};
-ghost use Rattle.zarrs_cli.specs.NodeLines.{IsShown, line_at, list_line, shown_lines, shown_name, tree_line};
+ghost use Rattle.zarrs_hierarchy.specs.Sinks.{TakesOpened};
+ghost use Rattle.zarrs_cli.specs.NodeLines.{IsShown, line_at, list_line, shown_name, tree_line};
+ghost use Rattle.zarrs_cli.specs.LineSinks.{AppendsTreeLine, AppendsListLine};
 
 use crate::escapes::push_line;
 use log::Log;
 use std::alloc::{AllocError, Global};
 use zarrs_block::NodeCreateError;
 use zarrs_config::{Config, MetadataRetrieveVersion, UseConsolidatedMetadata};
-use zarrs_hierarchy::{Hierarchy, depth};
+use zarrs_hierarchy::{depth, walk_hierarchy};
 use zarrs_meta::NodeMetadata;
-use zarrs_node::NodeLine;
+use zarrs_node::{NodeLine, NodeSink};
 use zarrs_path::NodePath;
 use zarrs_store::{ListableStorageTraits, ReadableStorageTraits};
 
@@ -27,6 +27,7 @@ use zarrs_store::{ListableStorageTraits, ReadableStorageTraits};
 /// The refusals of [`Hierarchy::open_opt`], but for those of the path's text.
 ///
 /// Source: `zarrs::hierarchy::Hierarchy::tree_of`; that an array at the path has a line with its shape and data type is own.
+#[tactic(auto, using(crate::proofs::LineSinks::tree_shown))]
 pub(crate) fn tree_text<L: Log, S: ReadableStorageTraits + ListableStorageTraits>(
     log: &L,
     alloc: Global,
@@ -42,9 +43,13 @@ pub(crate) fn tree_text<L: Log, S: ReadableStorageTraits + ListableStorageTraits
         (RefusesOpening (S.contents store.now) MetadataRetrieveVersion.Default policy
         (path_text base.now))) }
 {
-    let hierarchy = opened(log, alloc, store, base, policy)?;
-    let text = tree_lines(alloc, base, hierarchy.nodes())?;
-    Ok(text)
+    let mut lines = TreeLines {
+        alloc,
+        above: depth(base),
+        text: String::new(alloc),
+    };
+    show(log, alloc, store, base, policy, &mut lines)?;
+    Ok(lines.text)
 }
 
 /// The paths of the nodes that a listing of a store finds at a path and below it, a line each, in the order of paths; of an array only its own.
@@ -53,6 +58,7 @@ pub(crate) fn tree_text<L: Log, S: ReadableStorageTraits + ListableStorageTraits
 /// The refusals of [`Hierarchy::open_opt`], but for those of the path's text.
 ///
 /// Source: own, in place of `zarrs::node::get_child_nodes`.
+#[tactic(auto, using(crate::proofs::LineSinks::list_shown))]
 pub(crate) fn list_text<L: Log, S: ReadableStorageTraits + ListableStorageTraits>(
     log: &L,
     alloc: Global,
@@ -66,23 +72,26 @@ pub(crate) fn list_text<L: Log, S: ReadableStorageTraits + ListableStorageTraits
         (RefusesOpening (S.contents store.now) MetadataRetrieveVersion.Default Never
         (path_text base.now))) }
 {
+    let mut lines = ListLines {
+        text: String::new(alloc),
+    };
     let never = UseConsolidatedMetadata::Never;
-    let hierarchy = opened(log, alloc, store, base, never)?;
-    let text = list_lines(alloc, hierarchy.nodes())?;
-    Ok(text)
+    show(log, alloc, store, base, never, &mut lines)?;
+    Ok(lines.text)
 }
 
-// The hierarchy at a path, by the block of the group there as the policy says.
-fn opened<L: Log, S: ReadableStorageTraits + ListableStorageTraits>(
+// Hands the hierarchy at a path to a sink, by the block of the group there as the policy says.
+fn show<L: Log, S: ReadableStorageTraits + ListableStorageTraits, K: NodeSink>(
     log: &L,
     alloc: Global,
     store: &S,
     base: &NodePath,
     policy: UseConsolidatedMetadata,
-) -> Result<Hierarchy, NodeCreateError>
-    ensures ok { IfOk result
-        (IsOpened (S.contents store.now) MetadataRetrieveVersion.Default policy
-        (path_text base.now)) }
+    sink: &mut K,
+) -> Result<(), NodeCreateError>
+    ensures takes { OnOk result
+        (TakesOpened K.takes sink.old sink.new
+        (S.contents store.now) MetadataRetrieveVersion.Default policy base.now) }
     ensures err { IfErr result
         (IsExcusedOr (S.can_fail store.now)
         (RefusesOpening (S.contents store.now) MetadataRetrieveVersion.Default policy
@@ -91,51 +100,42 @@ fn opened<L: Log, S: ReadableStorageTraits + ListableStorageTraits>(
     let mut config = Config::new();
     config.set_use_consolidated_metadata(policy);
     let version = MetadataRetrieveVersion::Default;
-    Hierarchy::open_opt(log, alloc, store, base.as_str(), &version, &config)
+    walk_hierarchy(log, alloc, store, base, &version, &config, sink)
 }
 
-// The lines of nodes in the tree from a path on.
-fn tree_lines(
+// The lines of a tree, from a path on that has so many names.
+#[derive(Drop)]
+struct TreeLines {
     alloc: Global,
-    base: &NodePath,
-    nodes: &[(NodePath, NodeMetadata)],
-) -> Result<String, AllocError>
-    ensures { IfOk result
-        (λ text. string_bytes text ≡ shown_lines (tree_line base.now) nodes.now) }
-{
-    let mut text = String::new(alloc);
-    for (path, metadata) in nodes {
-        push_tree_line(alloc, &mut text, base, path, metadata)?;
-    }
-    Ok(text)
+    above: usize,
+    text: String,
 }
 
-// Puts the line of a node in the tree from a path on behind a text.
-fn push_tree_line(
-    alloc: Global,
-    text: &mut String,
-    base: &NodePath,
-    path: &NodePath,
-    metadata: &NodeMetadata,
-) -> Result<(), AllocError>
-    ensures { OnOk result (string_bytes text.new ≡ string_bytes text.old
-        ++ escaped_line (tree_line base.now (path.now, metadata.now))) }
-{
-    let level = depth(path).saturating_sub(depth(base));
-    let line = line_at(alloc, level, path, metadata)?;
-    push_line(text, line.as_str())?;
-    Ok(())
+// Appends the line of each node in the tree.
+impl NodeSink for TreeLines {
+    ghost takes = { AppendsTreeLine };
+
+    fn take(&mut self, path: NodePath, metadata: NodeMetadata) -> Result<(), AllocError> {
+        let level = depth(&path).saturating_sub(self.above);
+        let line = line_at(self.alloc, level, &path, &metadata)?;
+        push_line(&mut self.text, line.as_str())
+    }
 }
 
-// The lines of nodes in a list.
-fn list_lines(alloc: Global, nodes: &[(NodePath, NodeMetadata)]) -> Result<String, AllocError>
-    ensures { IfOk result (λ text. string_bytes text ≡ shown_lines list_line nodes.now) }
-{
-    let mut text = String::new(alloc);
-    for (path, _metadata) in nodes {
-        push_line(&mut text, path.as_str())?;
+// The lines of a list.
+#[derive(Drop)]
+struct ListLines {
+    text: String,
+}
+
+// Appends the line of each node in the list.
+impl NodeSink for ListLines {
+    ghost takes = { AppendsListLine };
+
+    fn take(&mut self, path: NodePath, metadata: NodeMetadata) -> Result<(), AllocError> {
+        drop(metadata);
+        push_line(&mut self.text, path.as_str())
     }
-    Ok(text)
 }
 
 // The line of a node so many levels below the base, without its newline.

@@ -5,7 +5,7 @@ ghost use Rattle.zarrs_cli.specs.Texts as texts;
 
 use std::alloc::{AllocError, Global};
 use zarrs_block::NodeCreateError;
-use zarrs_path::NodePath;
+use zarrs_path::{NodePath, without_leading_slash};
 use zarrs_store::StorePrefix;
 use zarrs_survey::FindingKind;
 
@@ -121,11 +121,4 @@ fn own_key_text(alloc: Global, group: &NodePath, key: &str) -> Result<String, Al
     ensures { IfOk result (λ text. string_bytes text ≡ texts.own_key_text group.now key.now) }
 {
     format!(in alloc; "own key: the block of {group} has the key `{key}`, which is {group} itself")
-}
-
-// The text without one leading slash.
-fn without_leading_slash(key: &str) -> &str
-    ensures { result.now ≡ without_leading_slash key.now }
-{
-    key.strip_prefix('/').unwrap_or(key)
 }
