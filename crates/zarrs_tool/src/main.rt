@@ -1,4 +1,4 @@
-//! Reads a store from an image on standard input or from a folder, and writes what a command asks of it.
+//! The program `zarrs_tool`, for scripts: it reads a store from an image on standard input or from a folder, and writes what a command asks of it.
 #![tactic(auto)]
 
 ghost use Rattle.std.specs.Prelude.{◌≡◌, ◌≢◌, ◌⊎◌, ◌↔◌, IfErr, OnOk, IfSome, IfNone};
@@ -29,10 +29,10 @@ use crate::run::{finish, run_image, run_store};
 use log::sink::Console;
 use log::{Level, Log, Logged};
 use std::alloc::Global;
-use std::io;
 use std::io::{Read, Write};
 use std::process::ExitCode;
 use std::rt::Files;
+use std::{io, mem};
 use zarrs_program::words;
 
 fn main(rt: HostRuntime) -> ExitCode {
@@ -116,7 +116,8 @@ fn respond_folder<R: Log + Files + AllocGlobal, W: Write, E: Write>(
     finish(&shown, errors)
 }
 
-// Loads the store of a folder, and writes what the words ask of it.
+// Loads the store of a folder, and writes what the words ask of it. The memory of the store is not
+// given back, since a run ends with its answer.
 fn run_folder<R: Log + Files + AllocGlobal, W: Write>(
     rt: &R,
     folder: &str,
@@ -130,7 +131,9 @@ fn run_folder<R: Log + Files + AllocGlobal, W: Write>(
         → Keeps (W.contents output.old) (W.contents output.new)) }
 {
     let store = load_folder(rt, folder)?;
-    run_store(rt, rt.alloc(), words, &store, output)
+    let outcome = run_store(rt, rt.alloc(), words, &store, output);
+    mem::forget(store);
+    outcome
 }
 
 // Runs a command, and gives the exit status. It handles every fault itself.

@@ -13,6 +13,7 @@ use crate::printed::{block_text, tree_text};
 use log::Log;
 use std::alloc::{AllocError, Global};
 use std::io::{Read, Write};
+use std::mem;
 use zarrs_config::MetadataRetrieveVersion;
 use zarrs_meta::NodeMetadata;
 use zarrs_node::{NodeSink, walk_child_nodes};
@@ -24,7 +25,8 @@ use zarrs_store::{ListableStorageTraits, ReadableStorageTraits};
 /// `children PATH` the path of each child, for `list PATH` those of all nodes below, one a line;
 /// for `tree PATH` the text of the hierarchy at the path; for `consolidate PATH` the block of the
 /// nodes that a listing finds below the group, in the pretty layout, and a newline.
-/// A document with a fraction is refused. The output is made whole before it is written.
+/// A document with a fraction is refused. The output is made whole before it is written. The
+/// memory of the store is not given back, since a run ends with its answer.
 ///
 /// # Errors
 /// `Usage` where the words are no command, before anything is read; what [`load_image`] refuses;
@@ -49,7 +51,9 @@ pub fn run_image<L: Log, R: Read, W: Write>(
 {
     let command = parse(words)?;
     let store = load_image(alloc, reader)?;
-    run_command(log, alloc, &command, &store, writer)
+    let outcome = run_command(log, alloc, &command, &store, writer);
+    mem::forget(store);
+    outcome
 }
 
 /// Writes what the words ask of a store, as [`run_image`] does once the image is loaded, in the

@@ -10,7 +10,7 @@ returns-in_err-store-clause-refused g c =
     folder_fault_result _ _ c.in_err-store.field-0.0 is c.in_err-store.ensures.err
 
 pub returns-clause-ok : goal.returns-clause-ok
-returns-clause-ok g c = written_folder _ (map.from_entries {R = key_cmp} c.in_ok-store.store) _ _ c.run_store.result c.in_ok-store.ensures.ok c.run_store.ensures.ok
+returns-clause-ok g c = written_folder _ (map.from_entries {R = key_cmp} c.in_ok-store.store) _ _ c.run_store-outcome.result c.in_ok-store.ensures.ok c.run_store-outcome.ensures.ok
 
 pub returns-clause-refused : goal.returns-clause-refused
-returns-clause-refused g c = store_fault_result _ (map.from_entries {R = key_cmp} c.in_ok-store.store) c.run_store.result c.in_ok-store.ensures.ok c.run_store.ensures.refused
+returns-clause-refused g c = store_fault_result _ (map.from_entries {R = key_cmp} c.in_ok-store.store) c.run_store-outcome.result c.in_ok-store.ensures.ok c.run_store-outcome.ensures.refused

@@ -16,12 +16,12 @@ returns-in_err-store-clause-refused g c =
 
 pub returns-clause-ok : goal.returns-clause-ok
 returns-clause-ok g c =
-    written_result c.in_ok-command.command _ _ (map.from_entries {R = key_cmp} c.in_ok-store.store) _ _ c.run_command.result c.in_ok-command.ensures.ok c.in_ok-store.ensures.ok c.run_command.ensures.ok
+    written_result c.in_ok-command.command _ _ (map.from_entries {R = key_cmp} c.in_ok-store.store) _ _ c.run_command-outcome.result c.in_ok-command.ensures.ok c.in_ok-store.ensures.ok c.run_command-outcome.ensures.ok
 
 pub returns-clause-usage : goal.returns-clause-usage
-returns-clause-usage g c = usage_of_none c.in_ok-command.command _ c.run_command.result c.in_ok-command.ensures.ok c.run_command.ensures.known
+returns-clause-usage g c = usage_of_none c.in_ok-command.command _ c.run_command-outcome.result c.in_ok-command.ensures.ok c.run_command-outcome.ensures.known
 
 pub returns-clause-refused : goal.returns-clause-refused
 returns-clause-refused g c =
-    refused_result c.in_ok-command.command _ _ _ (map.from_entries {R = key_cmp} c.in_ok-store.store) c.run_command.result c.in_ok-command.ensures.ok
-    c.in_ok-store.ensures.end c.in_ok-store.ensures.ok c.run_command.ensures.refused
+    refused_result c.in_ok-command.command _ _ _ (map.from_entries {R = key_cmp} c.in_ok-store.store) c.run_command-outcome.result c.in_ok-command.ensures.ok
+    c.in_ok-store.ensures.end c.in_ok-store.ensures.ok c.run_command-outcome.ensures.refused
