@@ -1,4 +1,5 @@
-//! Tests of the program `zarrs`: its words, what each writes, and how its runs end. The crate has no call of its own.
+//! Tests of the program `zarrs`, by the calls of `zarrs_cli`: what each word writes of images and of folders, each text and each status,
+//! refusals by their variant and text, and readers and writers that fail. The crate has no call of its own.
 #![tactic(auto)]
 
 #[cfg(test)]

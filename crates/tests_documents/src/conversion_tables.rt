@@ -8,12 +8,14 @@ use std::alloc::{AllocError, Global};
 use std::test::Fail;
 use tests_support::{check_rows, fields, refusal, said, with_lines};
 use zarrs_convert::{
-    codec_metadata_v2_to_v3, data_type_metadata_v2_to_endianness, data_type_metadata_v2_to_v3,
-    fill_value_metadata_v2_to_v3,
+    ArrayMetadataV2ToV3Error, codec_metadata_v2_to_v3, data_type_metadata_v2_to_endianness,
+    data_type_metadata_v2_to_v3, fill_value_metadata_v2_to_v3,
 };
 use zarrs_fault::MetadataFault;
 use zarrs_form::{Form, required};
-use zarrs_meta::{ArrayMetadataV2, DataTypeMetadataV2, Endianness, FillValueMetadata, MetadataV3};
+use zarrs_meta::{
+    ArrayMetadataV2, DataTypeMetadataV2, Endianness, FillValueMetadata, List, MetadataV3,
+};
 
 // What a text reads as in the form of a type.
 fn read_as<T: Form + Drop>(alloc: Global, text: &str) -> Result<T, MetadataFault> {
@@ -23,7 +25,7 @@ fn read_as<T: Form + Drop>(alloc: Global, text: &str) -> Result<T, MetadataFault
 }
 
 // The written form of a part.
-fn written<T: Form>(part: &T, alloc: Global) -> Result<String, AllocError> {
+pub(crate) fn written<T: Form>(part: &T, alloc: Global) -> Result<String, AllocError> {
     let mut text = String::new(alloc);
     part.write(alloc, &mut text)?;
     Ok(text)
@@ -186,14 +188,21 @@ false | string => false
 "#;
 
 // What the conversion of a fill value for a data type answers, and the lines that it warns with.
+fn fill_value_says(
+    alloc: Global,
+    fill_value: &FillValueMetadata,
+    data_type: &MetadataV3,
+) -> Result<String, AllocError> {
+    let sink = Writer::new(Vec::new(alloc));
+    let answer = fill_value_metadata_v2_to_v3(&sink, alloc, fill_value, data_type);
+    let text = told(alloc, answer, written, carried);
+    with_lines(alloc, text, "\n", sink.into_inner())
+}
+
 fn converted_fill_value(alloc: Global, given: &str) -> Result<String, MetadataFault> {
     let (fill_value, data_type) = fields(given);
     let fill_value = FillValueMetadata::new(value_of(alloc, fill_value)?);
-    let data_type = named(alloc, data_type);
-    let sink = Writer::new(Vec::new(alloc));
-    let answer = fill_value_metadata_v2_to_v3(&sink, alloc, &fill_value, &data_type);
-    let text = told(alloc, answer, written, carried);
-    Ok(with_lines(alloc, text, "\n", sink.into_inner())?)
+    Ok(fill_value_says(alloc, &fill_value, &named(alloc, data_type))?)
 }
 
 #[test]
@@ -238,17 +247,14 @@ fn array_of(alloc: Global, members: &str) -> Result<ArrayMetadataV2, MetadataFau
     ArrayMetadataV2::from_bytes(alloc, document.as_bytes())
 }
 
-// The codecs as a list.
-fn codecs_text(codecs: &Vec<MetadataV3>, alloc: Global) -> Result<String, AllocError> {
-    let mut text = String::from_str(alloc, "[")?;
-    for codec in codecs {
-        if text.len() > 1 {
-            text.push_str(",")?;
-        }
-        codec.write(alloc, &mut text)?;
+// What the conversion of codecs answers, as a list.
+fn listed(
+    answer: Result<Vec<MetadataV3>, ArrayMetadataV2ToV3Error>,
+) -> Result<List<MetadataV3>, ArrayMetadataV2ToV3Error> {
+    match answer {
+        Ok(codecs) => Ok(List::new(codecs)),
+        Err(error) => Err(error),
     }
-    text.push_str("]")?;
-    Ok(text)
 }
 
 // The codecs of an array, for this data type of version 3 and this byte order.
@@ -267,7 +273,7 @@ fn codecs_for(
         &array.filters,
         &array.compressor,
     );
-    told(alloc, answer, codecs_text, carried)
+    told(alloc, listed(answer), written, carried)
 }
 
 // The codecs of an array, for the data type of version 3 of this name, or the refusal of its byte order.

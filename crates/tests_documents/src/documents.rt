@@ -1,10 +1,9 @@
 //! Documents as they are read and written, by every way that leads in or out.
 
-use crate::asserts::assert_says;
 use serde_json::Value;
 use std::alloc::{AllocError, Global};
 use std::test::Fail;
-use tests_support::{A3, check_rows, fields, made, printed, said};
+use tests_support::{A3, check_rows, fields, made, said};
 use zarrs_fault::MetadataFault;
 use zarrs_meta::{
     ArrayMetadata, ArrayMetadataV2, ArrayMetadataV3, AttributesDocument, BoxedArray, Document,
@@ -412,45 +411,35 @@ fn a_number_past_64_bits_is_refused(rt: HostRuntime) {
     assert!(rt; is_past_64_bits(read), "another answer");
 }
 
-#[test]
-fn no_proper_beginning_is_json(rt: HostRuntime) {
-    let alloc = rt.alloc();
-    let bytes = A3.as_bytes();
-    for end in 0..bytes.len() {
-        let read = NodeMetadata::from_bytes(alloc, &bytes[..end]);
-        assert_says(
-            &rt,
-            alloc,
-            "beginning",
-            read,
-            NodeMetadata::to_text,
-            "NotJson: not JSON",
-        );
+// Asks that bytes are refused as no JSON.
+fn is_not_json(answer: Result<String, AllocError>) -> Result<(), Fail> {
+    let text = answer?;
+    if text.as_str() == "NotJson: not JSON" {
+        Ok(())
+    } else {
+        Err(Fail::new(format_args!("{text} in place of what is no JSON")))
     }
 }
 
 #[test]
-fn bytes_that_are_not_utf_8_are_not_json(rt: HostRuntime) {
+fn no_proper_beginning_is_json(rt: HostRuntime) -> Result<(), Fail> {
+    let alloc = rt.alloc();
+    let bytes = A3.as_bytes();
+    for end in 0..bytes.len() {
+        let read = NodeMetadata::from_bytes(alloc, &bytes[..end]);
+        is_not_json(said(alloc, read, NodeMetadata::to_text))?;
+    }
+    Ok(())
+}
+
+#[test]
+fn bytes_that_are_not_utf_8_are_not_json(rt: HostRuntime) -> Result<(), Fail> {
     let alloc = rt.alloc();
     let not_utf8 = b"{\"attributes\":{\"k\":\"\xff\"},\"node_type\":\"group\",\"zarr_format\":3}";
     let read = GroupMetadataV3::from_bytes(alloc, not_utf8);
-    assert_says(
-        &rt,
-        alloc,
-        "not UTF-8",
-        read,
-        GroupMetadataV3::to_text,
-        "NotJson: not JSON",
-    );
+    is_not_json(said(alloc, read, GroupMetadataV3::to_text))?;
     let read = NodeMetadata::from_bytes(alloc, not_utf8);
-    assert_says(
-        &rt,
-        alloc,
-        "not UTF-8",
-        read,
-        NodeMetadata::to_text,
-        "NotJson: not JSON",
-    );
+    is_not_json(said(alloc, read, NodeMetadata::to_text))
 }
 
 // ---- the documents of a store
@@ -714,21 +703,27 @@ fn groups_and_arrays_are_made(rt: HostRuntime) -> Result<(), Fail> {
     check_rows(rt.alloc(), VARIANTS, made_says)
 }
 
-// Whether a node is a group, and the compact text of what the bytes of its document read as.
-fn document_says(alloc: Global, text: &str) -> Result<String, MetadataFault> {
-    let node = NodeMetadata::from_bytes(alloc, text.as_bytes())?;
-    let kind = if node.is_group() { "group" } else { "array" };
+// Whether a node is a group, and the compact text of what the bytes of its document read as, where its pretty text by rows is these bytes.
+fn document_text(node: &NodeMetadata, alloc: Global) -> Result<String, AllocError> {
     match node.to_document(alloc)? {
         Some(bytes) => {
-            let again = NodeMetadata::from_bytes(alloc, bytes.as_slice())?.to_text(alloc)?;
-            Ok(format!(in alloc; "{kind} {again}")?)
+            let mut pretty = String::new(alloc);
+            node.write_at(alloc, &mut pretty, 0)?;
+            if pretty.as_bytes() != bytes.as_slice() {
+                return String::from_str(alloc, "another pretty text");
+            }
+            let kind = if node.is_group() { "group" } else { "array" };
+            let again = NodeMetadata::from_bytes(alloc, bytes.as_slice());
+            let again = said(alloc, again, NodeMetadata::to_text)?;
+            format!(in alloc; "{kind} {again}")
         }
-        None => Ok(String::from_str(alloc, "none")?),
+        None => String::from_str(alloc, "none"),
     }
 }
 
 fn document_said(alloc: Global, text: &str) -> Result<String, AllocError> {
-    said(alloc, document_says(alloc, text), printed)
+    let node = NodeMetadata::from_bytes(alloc, text.as_bytes());
+    said(alloc, node, document_text)
 }
 
 // A node, its kind, and what its document reads as.
@@ -736,6 +731,8 @@ const DOCUMENTS: &str = r#"
 {"node_type":"group","zarr_format":3} => group {"node_type":"group","zarr_format":3}
 {"attributes":{"k":[1,{"a":"é"}]},"node_type":"group","zarr_format":3} => group {"attributes":{"k":[1,{"a":"é"}]},"node_type":"group","zarr_format":3}
 {"chunks":[1],"compressor":null,"dimension_separator":".","dtype":"<f8","fill_value":"NaN","filters":null,"order":"C","shape":[1],"zarr_format":2} => array {"chunks":[1],"compressor":null,"dimension_separator":".","dtype":"<f8","fill_value":"NaN","filters":null,"order":"C","shape":[1],"zarr_format":2}
+{"attributes":{"a\"b":{"k":[[],{}]}},"chunk_grid":{"configuration":{"chunk_shape":[1]},"name":"regular"},"chunk_key_encoding":"default","codecs":["bytes"],"data_type":"int8","dimension_names":["x",null],"extra":[1],"fill_value":-1,"node_type":"array","shape":[1],"storage_transformers":["s"],"zarr_format":3} => array {"attributes":{"a\\"b":{"k":[[],{}]}},"chunk_grid":{"configuration":{"chunk_shape":[1]},"name":"regular"},"chunk_key_encoding":"default","codecs":["bytes"],"data_type":"int8","dimension_names":["x",null],"extra":[1],"fill_value":-1,"node_type":"array","shape":[1],"storage_transformers":["s"],"zarr_format":3}
+{"attributes":{"k":1},"extra":{"a":[]},"zarr_format":2} => group {"attributes":{"k":1},"extra":{"a":[]},"zarr_format":2}
 "#;
 
 #[test]

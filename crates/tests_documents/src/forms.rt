@@ -1,5 +1,6 @@
 //! The calls that take documents apart and put them together, and the forms of members, one by one.
 
+use crate::conversion_tables::written;
 use crate::documents::agreed;
 use crate::given::{members_of, number_of, value_of};
 use serde_json::{Map, Value};
@@ -12,7 +13,8 @@ use zarrs_form::{
     FillValueMetadata, Form, Json, List, MetadataV2, MetadataV3, Object, Text, ask_format,
     ask_node_type, attributes, chunk_lengths, document, document_copy, fields_of, has_zero, member,
     members_have_float, open_table, optional, parse, put_member, put_text, put_unless, refuse,
-    required, take_member, take_null, write_entry, write_last, write_row, write_unless,
+    required, take_member, take_null, write_entry, write_key_at, write_last, write_last_at,
+    write_row, write_row_at, write_unless, write_unless_at, write_value_at,
 };
 
 // ---- what the tests share
@@ -34,12 +36,6 @@ fn number_text(number: &u64, alloc: Global) -> Result<String, AllocError> {
 
 fn numbers_text(numbers: &List<u64>, alloc: Global) -> Result<String, AllocError> {
     format!(in alloc; "{:?}", numbers.as_slice())
-}
-
-fn object_text(object: &Object, alloc: Global) -> Result<String, AllocError> {
-    let mut text = String::new(alloc);
-    object.write(alloc, &mut text)?;
-    Ok(text)
 }
 
 fn value_text(value: &Value, alloc: Global) -> Result<String, AllocError> {
@@ -67,7 +63,7 @@ fn optional_says(alloc: Global, text: &str, name: &'static str) -> Result<String
 fn attributes_say(alloc: Global, text: &str) -> Result<String, MetadataFault> {
     let mut members = members_of(alloc, text)?;
     let found = attributes(alloc, &mut members);
-    Ok(and_left(alloc, said(alloc, found, object_text), members)?)
+    Ok(and_left(alloc, said(alloc, found, written), members)?)
 }
 
 fn chunk_lengths_say(alloc: Global, text: &str) -> Result<String, MetadataFault> {
@@ -425,13 +421,54 @@ fn table_of_absent(alloc: Global) -> Result<String, AllocError> {
     Ok(out)
 }
 
-// The table with these rows.
-fn written_table(alloc: Global, given: &str) -> Result<String, AllocError> {
+// A table that stands one level deep.
+fn table_at(alloc: Global) -> Result<String, AllocError> {
+    let mut out = String::from_str(alloc, "{")?;
+    let none: Option<&u64> = None;
+    write_row_at(alloc, &mut out, 1, "a", none)?;
+    write_row_at(alloc, &mut out, 1, "b\"", Some(&1u64))?;
+    write_unless_at(alloc, &mut out, 1, "c", true, &2u64)?;
+    write_unless_at(alloc, &mut out, 1, "d", false, &true)?;
+    let last = Text::from_str(alloc, r#"x"y"#)?;
+    write_last_at(alloc, &mut out, 1, "e", &last)?;
+    Ok(out)
+}
+
+// A member whose value stands seven levels deep.
+fn member_at(alloc: Global) -> Result<String, MetadataFault> {
+    let mut out = String::new(alloc);
+    write_key_at(alloc, &mut out, true, 7, "k\n")?;
+    write_value_at(
+        alloc,
+        &mut out,
+        7,
+        &value_of(alloc, r#"{"a":[-1],"b":{}}"#)?,
+    )?;
+    Ok(out)
+}
+
+// A list of extensions that stands one level deep.
+fn extensions_at(alloc: Global) -> Result<String, MetadataFault> {
+    let text =
+        r#"["a",{"name":"b"},{"name":"c","configuration":{"k":[]},"must_understand":false}]"#;
+    let mut out = String::new(alloc);
+    let found: Option<List<MetadataV3>> = List::read(alloc, value_of(alloc, text)?)?;
+    if let Some(extensions) = found {
+        extensions.write_at(alloc, &mut out, 1)?;
+    }
+    Ok(out)
+}
+
+// The table with these rows, or another text in the pretty layout.
+fn written_table(alloc: Global, given: &str) -> Result<String, MetadataFault> {
     match given {
-        "open" => open_table(alloc),
-        "two rows" => table_of_two(alloc),
-        "absent rows" => table_of_absent(alloc),
-        _ => String::from_str(alloc, "no such table"),
+        "open" => Ok(open_table(alloc)?),
+        "two rows" => Ok(table_of_two(alloc)?),
+        "absent rows" => Ok(table_of_absent(alloc)?),
+        "rows one level deep" => Ok(table_at(alloc)?),
+        "a member seven levels deep" => member_at(alloc),
+        "extensions one level deep" => extensions_at(alloc),
+        _ => Ok(String::from_str(alloc, "no such table")?),
     }
 }
 
@@ -440,6 +477,10 @@ const TABLES: &str = r#"
 open => {
 two rows => {"a":1,"b":"x\\"y"}
 absent rows => {"c\\n":3,"d":false}
+# in the pretty layout
+rows one level deep => {\n    "b\\"": 1,\n    "d": true,\n    "e": "x\\"y"\n  }
+a member seven levels deep => ,\n              "k\\n": {\n                "a": [\n                  -1\n                ],\n                "b": {}\n              }
+extensions one level deep => [\n    "a",\n    "b",\n    {\n      "configuration": {\n        "k": []\n      },\n      "must_understand": false,\n      "name": "c"\n    }\n  ]
 "#;
 
 #[test]
@@ -449,11 +490,15 @@ fn a_table_is_written_row_by_row(rt: HostRuntime) -> Result<(), Fail> {
 
 // ---- forms
 
+// The text of the value that is written of a part.
+fn tree_text<T: Form>(part: &T, alloc: Global) -> Result<String, AllocError> {
+    part.to_value(alloc)?.to_string(alloc)
+}
+
 // What is written of a value, by both ways, and whether it is plain.
 fn written_text<T: Form>(value: &T, alloc: Global) -> Result<String, AllocError> {
-    let tree = value.to_value(alloc)?.to_string(alloc)?;
-    let mut text = String::new(alloc);
-    value.write(alloc, &mut text)?;
+    let tree = tree_text(value, alloc)?;
+    let text = written(value, alloc)?;
     format!(in alloc; "{tree} {text} {}", value.is_plain())
 }
 

@@ -18,19 +18,18 @@ const A2: &str =
 
 // ---- documents
 
-// A text with a number of 400 digits, a one and 399 zeros, in the place of each `<400>`.
-fn long(alloc: Global, text: &str) -> Result<String, AllocError> {
-    let mut out = String::new(alloc);
-    for (place, part) in text.split("<400>").enumerate() {
-        if place > 0 {
-            out.push_str("1")?;
-            for _zero in 0..399u32 {
-                out.push_str("0")?;
-            }
-        }
-        out.push_str(part)?;
+// The number of 400 digits that is a one and 399 zeros.
+fn long_number(alloc: Global) -> Result<String, AllocError> {
+    let mut number = String::from_str(alloc, "1")?;
+    for _zero in 0..399u32 {
+        number.push('0')?;
     }
-    Ok(out)
+    Ok(number)
+}
+
+// A text with that number in the place of each `<400>`.
+fn long(alloc: Global, text: &str) -> Result<String, AllocError> {
+    text.replace(alloc, "<400>", long_number(alloc)?.as_str())
 }
 
 // The document of a kind whose member of that name is the text, as it stands, in the place of its own.
@@ -322,13 +321,21 @@ fn fractions_are_refused_by_name_or_read(rt: HostRuntime) -> Result<(), Fail> {
 }
 
 // Whether bytes are made of the document of a node: of one with a fraction there are none.
-fn document_says(alloc: Global, text: &str) -> Result<String, MetadataFault> {
-    let node = NodeMetadata::from_bytes_in(alloc, Numbers::Any, text.as_bytes())?;
-    let said = match node.to_document(alloc)? {
-        Some(_) => "a document",
-        None => "none",
-    };
-    Ok(String::from_str(alloc, said)?)
+fn document_text(node: &NodeMetadata, alloc: Global) -> Result<String, AllocError> {
+    let bytes = node.to_document(alloc)?;
+    String::from_str(
+        alloc,
+        if bytes.is_some() {
+            "a document"
+        } else {
+            "none"
+        },
+    )
+}
+
+fn document_says(alloc: Global, text: &str) -> Result<String, AllocError> {
+    let node = NodeMetadata::from_bytes_in(alloc, Numbers::Any, text.as_bytes());
+    said(alloc, node, document_text)
 }
 
 const DOCUMENTS: &str = r#"

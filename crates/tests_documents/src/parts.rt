@@ -1,5 +1,6 @@
 //! The parts of metadata: texts, lists, objects, fields, and what is not plain of them.
 
+use crate::conversion_tables::written;
 use crate::documents::agreed;
 use crate::given::{number_of, object_of, value_of};
 use serde_json::{Map, Value};
@@ -7,7 +8,6 @@ use std::alloc::{AllocError, Global};
 use std::test::Fail;
 use tests_support::{A2, check_rows, fields, made, printed, said};
 use zarrs_fault::MetadataFault;
-use zarrs_form::Form;
 use zarrs_meta::{
     AdditionalFieldV3, AdditionalFieldsV3, ArrayMetadataV2, ArrayMetadataV3, DataTypeMetadataV2,
     Endianness, FillValueMetadata, GroupMetadataV2, GroupMetadataV3, Json, List, MetadataV2,
@@ -499,13 +499,6 @@ fn array_v2_fields(array: &ArrayMetadataV2, alloc: Global) -> Result<String, All
 fn codec_text(codec: &MetadataV2, alloc: Global) -> Result<String, AllocError> {
     let configuration = members_text(&codec.configuration, alloc)?;
     format!(in alloc; "{} {configuration}", codec.id.as_str())
-}
-
-// What is written of a part.
-fn written<T: Form>(part: &T, alloc: Global) -> Result<String, AllocError> {
-    let mut text = String::new(alloc);
-    part.write(alloc, &mut text)?;
-    Ok(text)
 }
 
 fn compressor_copy(array: &ArrayMetadataV2, alloc: Global) -> Result<String, AllocError> {

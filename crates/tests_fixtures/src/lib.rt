@@ -1,5 +1,5 @@
 //! What tests of nodes, groups and hierarchies share: stores made from pairs of a key and a document, and what stands or is listed at a
-//! path of such a store, as a value and as a text.
+//! path of such a store, as a value and as a text. The crate has no tests of its own.
 #![tactic(auto)]
 
 mod texts;

@@ -1,5 +1,6 @@
 //! A folder of the system: its documents, links, and what is not read. Scripts beside the gate try more.
 
+use crate::same::is_same;
 use crate::ticking::Ticking;
 use log::sink::Writer;
 use log::{Level, Log, Logged};
@@ -75,6 +76,16 @@ fn said(rt: &HostRuntime, folder: &str) -> Result<String, AllocError> {
     Ok(text)
 }
 
+// Asks whether a text has these keys and ends with this warning.
+fn has_loaded(found: &str, keys: &str, warning: &str) -> Result<(), Fail> {
+    let (found_keys, warnings) = found.split_once('[').unwrap_or((found, ""));
+    if found_keys == keys && warnings.ends_with(warning) {
+        Ok(())
+    } else {
+        Err(Fail::new(format_args!("found {found}")))
+    }
+}
+
 #[test]
 fn links_are_followed_and_one_on_its_own_way_is_named(rt: HostRuntime) -> Result<(), Fail> {
     let files = [
@@ -92,17 +103,11 @@ fn links_are_followed_and_one_on_its_own_way_is_named(rt: HostRuntime) -> Result
         ("s", "link"),
     ];
     make_folder(&rt, "disks", &files, &links)?;
-    let keys = said(&rt, "disks/link")?;
-    let (keys, warnings) = keys.as_str().split_once('[').unwrap_or((keys.as_str(), ""));
-    assert_eq!(rt;
-        keys,
-        "a/zarr.json g/x/zarr.json g/zarr.json u/v/w zarr.json "
-    );
-    assert!(rt;
-        warnings.ends_with(
-            "disks/link/up was passed over: it is a link to a folder on its own way\n"
-        )
-    );
+    has_loaded(
+        said(&rt, "disks/link")?.as_str(),
+        "a/zarr.json g/x/zarr.json g/zarr.json u/v/w zarr.json ",
+        "disks/link/up was passed over: it is a link to a folder on its own way\n",
+    )?;
     fs::remove_dir_all(&rt, "disks")?;
     Ok(())
 }
@@ -110,15 +115,11 @@ fn links_are_followed_and_one_on_its_own_way_is_named(rt: HostRuntime) -> Result
 #[test]
 fn what_is_not_read_is_named_with_the_systems_words(rt: HostRuntime) -> Result<(), Fail> {
     make_folder(&rt, "unread", &[("file", "")], &[])?;
-    assert_eq!(rt;
-        said(&rt, "unread/nope")?.as_str(),
-        "unread/nope: No such file or directory"
-    );
-    assert_eq!(rt;
-        said(&rt, "unread/file")?.as_str(),
-        "unread/file is a file, and a store is a folder"
-    );
-    assert_eq!(rt; said(&rt, "unread")?.as_str(), "");
+    let absent = said(&rt, "unread/nope");
+    is_same(absent, "unread/nope: No such file or directory")?;
+    let file = said(&rt, "unread/file");
+    is_same(file, "unread/file is a file, and a store is a folder")?;
+    is_same(said(&rt, "unread"), "")?;
     fs::remove_dir_all(&rt, "unread")?;
     Ok(())
 }
@@ -149,11 +150,14 @@ fn each_two_seconds_a_line_says_how_many_nodes_were_read(rt: HostRuntime) -> Res
         ("scratch/file", ""),
     ];
     make_folder(&rt, "told", &files, &[])?;
-    let keys = ".zattrs .zgroup a/zarr.json b/zarr.json c/zarr.json d/zarr.json scratch/file ";
-    assert_eq!(rt; told(&rt, "told", false)?.as_str(), keys);
-    let mut text = String::from_str(rt.alloc(), keys)?;
-    text.push_str("2 nodes read so far\n4 nodes read so far\n")?;
-    assert_eq!(rt; told(&rt, "told", true)?.as_str(), text.as_str());
+    is_same(
+        told(&rt, "told", false),
+        ".zattrs .zgroup a/zarr.json b/zarr.json c/zarr.json d/zarr.json scratch/file ",
+    )?;
+    is_same(
+        told(&rt, "told", true),
+        ".zattrs .zgroup a/zarr.json b/zarr.json c/zarr.json d/zarr.json scratch/file 2 nodes read so far\n4 nodes read so far\n",
+    )?;
     fs::remove_dir_all(&rt, "told")?;
     Ok(())
 }

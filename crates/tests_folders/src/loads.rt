@@ -1,5 +1,6 @@
 //! Which keys are loaded, and what a listing over them says.
 
+use crate::same::is_same;
 use std::alloc::{AllocError, Global};
 use std::test::Fail;
 use tests_fixtures::{ANY, document_of, listed_in, listing_text, store_of};
@@ -334,17 +335,13 @@ fn a_store_in_memory_answers_as_a_folder(rt: HostRuntime) -> Result<(), Fail> {
     let mut store = store_in(alloc, "a/b/c {};a/d {};zarr.json G3")?.inner;
     let key = StoreKey::new(alloc, "a/d")?;
     let absent = StoreKey::new(alloc, "a/b")?;
-    assert_eq!(rt; document_said(alloc, &mut store, &key)?.as_str(), "{}");
-    assert_eq!(rt; document_said(alloc, &mut store, &absent)?.as_str(), "none");
+    is_same(document_said(alloc, &mut store, &key), "{}")?;
+    is_same(document_said(alloc, &mut store, &absent), "none")?;
     let prefix = StorePrefix::new(alloc, "a/")?;
     let empty = StorePrefix::new(alloc, "b/")?;
-    assert_eq!(rt;
-        children_said(alloc, &mut store, &prefix)?.as_str(),
-        "a/b/ "
-    );
-    assert_eq!(rt; any_said(alloc, &mut store, &prefix)?.as_str(), "a/d");
-    assert_eq!(rt; any_said(alloc, &mut store, &empty)?.as_str(), "none");
-    Ok(())
+    is_same(children_said(alloc, &mut store, &prefix), "a/b/ ")?;
+    is_same(any_said(alloc, &mut store, &prefix), "a/d")?;
+    is_same(any_said(alloc, &mut store, &empty), "none")
 }
 
 #[test]

@@ -5,8 +5,9 @@ use std::alloc::Global;
 use std::test::Fail;
 use tests_support::{check_rows, fields};
 use zarrs_block::NodeCreateError;
-use zarrs_folder::{Documents, laws, load_nodes, load_passed, load_paths};
+use zarrs_folder::{Documents, FolderFault, laws, load_nodes, load_passed, load_paths};
 use zarrs_path::NodePath;
+use zarrs_store::{AnyNumbers, MemoryStore};
 
 // The paths in a list, with a blank between; none of `-`.
 fn paths_in(alloc: Global, list: &str) -> Result<Vec<NodePath>, NodeCreateError> {
@@ -19,26 +20,47 @@ fn paths_in(alloc: Global, list: &str) -> Result<Vec<NodePath>, NodeCreateError>
     Ok(paths)
 }
 
-// The keys that are loaded from the root, and then below some paths.
-fn passed_loaded(alloc: Global, given: &str) -> Result<String, NodeCreateError> {
-    let (list, documents) = fields(given);
-    let passed = paths_in(alloc, list)?;
-    let mut whole = store_in(alloc, documents)?;
+// The keys that are loaded from the root, and then below some paths, or at them.
+fn keys_of(
+    alloc: Global,
+    whole: &mut AnyNumbers<MemoryStore>,
+    paths: &[NodePath],
+    is_below: bool,
+) -> Result<String, NodeCreateError> {
     let root = NodePath::root(alloc)?;
     let store = of_store(load_nodes(alloc, &mut whole.inner, Documents::All, &root))?;
-    let loaded = of_store(load_passed(alloc, &mut whole.inner, &root, passed.as_slice(), store))?;
-    Ok(keys_said(alloc, &whole, &loaded)?)
+    let loaded = if is_below {
+        load_passed(alloc, &mut whole.inner, &root, paths, store)
+    } else {
+        load_paths(alloc, &mut whole.inner, &root, paths, store)
+    };
+    loaded_keys(alloc, whole, loaded)
 }
 
-// The keys that are loaded from the root, and then at some paths.
-fn paths_loaded(alloc: Global, given: &str) -> Result<String, NodeCreateError> {
+// The keys that were loaded of a store.
+fn loaded_keys(
+    alloc: Global,
+    whole: &AnyNumbers<MemoryStore>,
+    loaded: Result<AnyNumbers<MemoryStore>, FolderFault>,
+) -> Result<String, NodeCreateError> {
+    let loaded = of_store(loaded)?;
+    Ok(keys_said(alloc, whole, &loaded)?)
+}
+
+// That of the paths and the store of a row.
+fn keys_given(alloc: Global, given: &str, is_below: bool) -> Result<String, NodeCreateError> {
     let (list, documents) = fields(given);
     let paths = paths_in(alloc, list)?;
     let mut whole = store_in(alloc, documents)?;
-    let root = NodePath::root(alloc)?;
-    let store = of_store(load_nodes(alloc, &mut whole.inner, Documents::All, &root))?;
-    let loaded = of_store(load_paths(alloc, &mut whole.inner, &root, paths.as_slice(), store))?;
-    Ok(keys_said(alloc, &whole, &loaded)?)
+    keys_of(alloc, &mut whole, paths.as_slice(), is_below)
+}
+
+fn passed_loaded(alloc: Global, given: &str) -> Result<String, NodeCreateError> {
+    keys_given(alloc, given, true)
+}
+
+fn paths_loaded(alloc: Global, given: &str) -> Result<String, NodeCreateError> {
+    keys_given(alloc, given, false)
 }
 
 // Paths, and the store; the keys that are loaded, with a star where they have other bytes.

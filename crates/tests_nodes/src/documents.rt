@@ -3,17 +3,18 @@
 use crate::given::store_in;
 use std::alloc::{AllocError, Global};
 use std::test::Fail;
-use tests_fixtures::{ANY, key_of, metadata_in, paths_listing_text, paths_text, policy_of};
+use tests_fixtures::{ANY, key_of, paths_listing_text, paths_text, policy_of};
 use tests_support::{check_rows, fields, printed, refusal, said};
 use zarrs_block::{ConsolidatedMetadata, NodeCreateError};
+use zarrs_config::UseConsolidatedMetadata;
 use zarrs_meta::{AttributesDocument, GroupMetadataV2};
 use zarrs_node::documents::{attributes_at, document_at};
 use zarrs_node::{
-    ListedPaths, NodeFault, NodeLine, WalkedPast, consolidated_metadata_at, walk_nodes,
+    ListedPaths, Node, NodeFault, NodeLine, WalkedPast, consolidated_metadata_at, walk_nodes,
     walk_past_faults, zmetadata_at,
 };
 use zarrs_path::NodePath;
-use zarrs_store::StorageError;
+use zarrs_store::{MemoryStore, StorageError};
 
 // ---- documents
 
@@ -122,18 +123,27 @@ fn a_block_is_read_beside_a_path(rt: HostRuntime) -> Result<(), Fail> {
 }
 
 // The block that a policy uses of the node at a path.
-fn used(alloc: Global, given: &str) -> Result<Option<ConsolidatedMetadata>, NodeCreateError> {
+fn used_text(
+    alloc: Global,
+    store: &MemoryStore,
+    path: &NodePath,
+    policy: UseConsolidatedMetadata,
+) -> Result<String, AllocError> {
+    let metadata = Node::get_metadata(alloc, store, path, &ANY);
+    said(alloc, metadata, |metadata, alloc| {
+        let block = consolidated_metadata_at(alloc, store, path, metadata, policy);
+        said(alloc, block, block_text)
+    })
+}
+
+// That of a row.
+fn used_said(alloc: Global, given: &str) -> Result<String, NodeCreateError> {
     let (policy, rest) = fields(given);
     let (path, documents) = fields(rest);
     let policy = policy_of(alloc, policy)?;
-    let store = store_in(alloc, documents)?;
-    let metadata = metadata_in(alloc, &store, path, ANY)?;
     let path = NodePath::new(alloc, path)?;
-    consolidated_metadata_at(alloc, &store, &path, &metadata, policy)
-}
-
-fn used_said(alloc: Global, given: &str) -> Result<String, AllocError> {
-    said(alloc, used(alloc, given), block_text)
+    let store = store_in(alloc, documents)?;
+    Ok(used_text(alloc, &store, &path, policy)?)
 }
 
 // A policy, a path and a store; the block that is used, or the error.
@@ -160,12 +170,21 @@ fn a_block_is_used_from_where_the_version_has_it(rt: HostRuntime) -> Result<(), 
 // ---- lines
 
 // The line that shows the node at a path.
+fn line_text(alloc: Global, store: &MemoryStore, path: &NodePath) -> Result<String, AllocError> {
+    let metadata = Node::get_metadata(alloc, store, path, &ANY);
+    said(
+        alloc,
+        metadata,
+        |metadata, alloc| printed(&NodeLine::at(path, metadata), alloc),
+    )
+}
+
+// That of a row.
 fn line_of(alloc: Global, given: &str) -> Result<String, NodeCreateError> {
     let (path, documents) = fields(given);
-    let store = store_in(alloc, documents)?;
-    let metadata = metadata_in(alloc, &store, path, ANY)?;
     let path = NodePath::new(alloc, path)?;
-    Ok(printed(&NodeLine::at(&path, &metadata), alloc)?)
+    let store = store_in(alloc, documents)?;
+    Ok(line_text(alloc, &store, &path)?)
 }
 
 // A path and a store; the line of its node.

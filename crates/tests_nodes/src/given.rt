@@ -3,6 +3,7 @@
 use std::alloc::Global;
 use tests_fixtures::{ANY, document_of, key_of, metadata_at, no_word};
 use zarrs_block::NodeCreateError;
+use zarrs_meta::NodeMetadata;
 use zarrs_node::Node;
 use zarrs_path::NodePath;
 use zarrs_store::{MemoryStore, StorageError, WritableStorageTraits};
@@ -69,6 +70,17 @@ pub(crate) fn set_in(
     Ok(())
 }
 
+/// The pair of a path and of what a document means there.
+pub(crate) fn pair_of(
+    alloc: Global,
+    path: &str,
+    document: &str,
+) -> Result<(NodePath, NodeMetadata), NodeCreateError> {
+    let path = NodePath::new(alloc, path)?;
+    let metadata = metadata_at(alloc, &[("zarr.json", document)], "/", ANY)?;
+    Ok((path, metadata))
+}
+
 // The node at a path, of a document, over some children.
 fn node_over(
     alloc: Global,
@@ -76,8 +88,7 @@ fn node_over(
     document: &str,
     children: Vec<Node>,
 ) -> Result<Node, NodeCreateError> {
-    let path = NodePath::new(alloc, path)?;
-    let metadata = metadata_at(alloc, &[("zarr.json", document)], "/", ANY)?;
+    let (path, metadata) = pair_of(alloc, path, document)?;
     Ok(Node::new_with_metadata(path, metadata, children))
 }
 

@@ -9,6 +9,7 @@ use zarrs_block::NodeCreateError;
 use zarrs_meta::NodeMetadata;
 use zarrs_node::{node_exists, node_exists_listable};
 use zarrs_path::NodePath;
+use zarrs_store::MemoryStore;
 
 // The metadata that a row asks for: the path, the version, and the store.
 fn metadata_given(alloc: Global, given: &str) -> Result<NodeMetadata, NodeCreateError> {
@@ -59,14 +60,23 @@ fn a_path_means_what_its_documents_say(rt: HostRuntime) -> Result<(), Fail> {
     check_rows(rt.alloc(), MEANS, metadata_said)
 }
 
-// Whether a node is there, by the keys of its documents and by the keys of its folder: at the path of a row, in its store.
+// Whether a node is there, by the keys of its documents and by the keys of its folder.
+fn existence_at(
+    alloc: Global,
+    store: &MemoryStore,
+    path: &NodePath,
+) -> Result<String, NodeCreateError> {
+    let by_key = node_exists(alloc, store, path)?;
+    let by_folder = node_exists_listable(alloc, store, path)?;
+    Ok(format!(in alloc; "{by_key} {by_folder}")?)
+}
+
+// The same at the path of a row, in its store.
 fn existence(alloc: Global, given: &str) -> Result<String, NodeCreateError> {
     let (path, documents) = fields(given);
     let path = NodePath::new(alloc, path)?;
     let store = store_in(alloc, documents)?;
-    let by_key = node_exists(alloc, &store, &path)?;
-    let by_folder = node_exists_listable(alloc, &store, &path)?;
-    Ok(format!(in alloc; "{by_key} {by_folder}")?)
+    existence_at(alloc, &store, &path)
 }
 
 // Path and store; whether a node is there, by either call.

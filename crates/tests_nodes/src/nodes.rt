@@ -14,7 +14,7 @@ use zarrs_config::MetadataRetrieveVersion;
 use zarrs_meta::NodeMetadata;
 use zarrs_node::{
     Node, get_all_nodes_of, get_child_nodes, get_child_nodes_opt, get_child_paths,
-    get_child_paths_opt, laws, walk_child_nodes,
+    get_child_paths_opt, laws, walk_child_nodes, warn_ignored,
 };
 use zarrs_path::{NodePath, meta_key_v3};
 use zarrs_store::{MemoryStore, WritableStorageTraits};
@@ -82,16 +82,27 @@ fn listed_after<L: Log>(
     Ok(listed_by(alloc, log, call, &*store, &base)?)
 }
 
-// What a call lists in one store by each step of a row, and what all of them warn of.
-fn warnings(alloc: Global, given: &str) -> Result<String, NodeCreateError> {
-    let (call, steps) = fields(given);
+// What a call lists in one store by each step of a row.
+fn steps_said<L: Log>(
+    alloc: Global,
+    log: &L,
+    call: &str,
+    steps: &str,
+) -> Result<String, NodeCreateError> {
     let mut store = MemoryStore::new(alloc);
-    let sink = Writer::new(Vec::new(alloc));
     let mut text = String::new(alloc);
     for step in steps.split(" THEN ") {
-        let answer = listed_after(alloc, &sink, call, &mut store, step)?;
-        write!(text, "{answer}")?;
+        let answer = listed_after(alloc, log, call, &mut store, step)?;
+        text.push_str(answer.as_str())?;
     }
+    Ok(text)
+}
+
+// The same, and what all of them warn of.
+fn warnings(alloc: Global, given: &str) -> Result<String, NodeCreateError> {
+    let (call, steps) = fields(given);
+    let sink = Writer::new(Vec::new(alloc));
+    let text = steps_said(alloc, &sink, call, steps)?;
     Ok(with_lines(alloc, Ok(text), "warned: ", sink.into_inner())?)
 }
 
@@ -118,6 +129,33 @@ paths | / | g/zarr.json G3;g/x/content NUL;y/c NUL => /g\nwarned: [WARN  zarrs_n
 #[test]
 fn what_is_passed_over_is_warned_of(rt: HostRuntime) -> Result<(), Fail> {
     check_rows(rt.alloc(), WARNED, warnings)
+}
+
+// What is warned of paths in the name of a module, by a log that has a target of its own, or has none.
+fn warned_by_name(alloc: Global, given: &str) -> Result<String, NodeCreateError> {
+    let (target, texts) = fields(given);
+    let mut paths = Vec::new(alloc);
+    for text in texts.split(' ') {
+        paths.push(NodePath::new(alloc, text)?)?;
+    }
+    let sink = Writer::new(Vec::new(alloc));
+    match target {
+        "none" => warn_ignored(&sink, "a::module", &paths),
+        target => warn_ignored(&sink.with_target(target), "a::module", &paths),
+    }
+    Ok(with_lines(alloc, Ok(String::new(alloc)), "", sink.into_inner())?)
+}
+
+const WARNED_BY_NAME: &str = r#"
+# warnings are those of the module, unless the log has a target
+none | /a => [WARN  a::module] Object at /a is not recognized as a component of a Zarr hierarchy. Ignoring.\n
+none | /a/b /c => [WARN  a::module] Object at /a/b is not recognized as a component of a Zarr hierarchy. Ignoring.\n[WARN  a::module] Object at /c is not recognized as a component of a Zarr hierarchy. Ignoring.\n
+app | /a => [WARN  app] Object at /a is not recognized as a component of a Zarr hierarchy. Ignoring.\n
+"#;
+
+#[test]
+fn warnings_are_those_of_a_module(rt: HostRuntime) -> Result<(), Fail> {
+    check_rows(rt.alloc(), WARNED_BY_NAME, warned_by_name)
 }
 
 // The nodes that a row asks for: whether all below the root, the version, and the store.

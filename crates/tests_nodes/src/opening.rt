@@ -1,14 +1,14 @@
 //! Trees built of pairs, and nodes opened by a block or by a listing.
 
-use crate::given::{is_all, pairs_in, store_in};
+use crate::given::{is_all, pair_of, pairs_in, store_in};
 use log::sink::{Discard, Writer};
 use std::alloc::{AllocError, Global};
 use std::test::Fail;
 use tests_fixtures::{
-    ANY, config_of, forest_text, metadata_at, no_word, node_text, policy_of, version_of, with_block,
+    config_of, entries_of, forest_text, no_word, node_text, policy_of, version_of, with_block,
 };
 use tests_support::{check_rows, fields, said};
-use zarrs_block::{ConsolidatedMetadata, ConsolidatedMetadataMetadata, NodeCreateError};
+use zarrs_block::{ConsolidatedMetadata, NodeCreateError};
 use zarrs_config::Config;
 use zarrs_meta::NodeMetadata;
 use zarrs_node::{
@@ -18,17 +18,6 @@ use zarrs_path::NodePath;
 use zarrs_store::MemoryStore;
 
 // ---- trees of pairs
-
-// The pair of a path and of the metadata that a document says.
-fn pair_of(
-    alloc: Global,
-    path: &str,
-    document: &str,
-) -> Result<(NodePath, NodeMetadata), NodeCreateError> {
-    let path = NodePath::new(alloc, path)?;
-    let metadata = metadata_at(alloc, &[("zarr.json", document)], "/", ANY)?;
-    Ok((path, metadata))
-}
 
 // The pairs of a list.
 fn pairs_of(alloc: Global, list: &str) -> Result<Vec<(NodePath, NodeMetadata)>, NodeCreateError> {
@@ -95,11 +84,8 @@ fn trees_are_built_of_pairs(rt: HostRuntime) -> Result<(), Fail> {
 
 // The block of a list of keys and documents.
 fn block_of(alloc: Global, list: &str) -> Result<ConsolidatedMetadata, NodeCreateError> {
-    let mut metadata = ConsolidatedMetadataMetadata::new(alloc);
-    for (key, document) in pairs_in(alloc, list)? {
-        let node = metadata_at(alloc, &[("zarr.json", document)], "/", ANY)?;
-        metadata.insert(String::from_str(alloc, key)?, node)?;
-    }
+    let pairs = pairs_in(alloc, list)?;
+    let metadata = entries_of(alloc, pairs.as_slice())?;
     Ok(ConsolidatedMetadata { metadata })
 }
 

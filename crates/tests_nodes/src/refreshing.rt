@@ -17,22 +17,36 @@ use zarrs_store::{
 
 type Block = ConsolidatedMetadataMetadata;
 
-// The block of all that is listed below a path of a store.
-fn block_of<S: ReadableStorageTraits + ListableStorageTraits>(
+// A group over all that is listed below a path of a store.
+fn group_over<S: ReadableStorageTraits + ListableStorageTraits>(
     alloc: Global,
     store: &S,
     path: &str,
-) -> Result<Block, NodeCreateError> {
+) -> Result<Node, NodeCreateError> {
     let path = NodePath::new(alloc, path)?;
-    let metadata = NodeMetadata::Group(GroupMetadata::V3(GroupMetadataV3::new(alloc)));
     let children = get_child_nodes(&Discard, alloc, store, &path, true)?;
-    let node = Node::new_with_metadata(path, metadata, children);
+    let metadata = NodeMetadata::Group(GroupMetadata::V3(GroupMetadataV3::new(alloc)));
+    Ok(Node::new_with_metadata(path, metadata, children))
+}
+
+// The block of a node; an empty one of what has none.
+fn block_below(node: &Node, alloc: Global) -> Result<Block, NodeCreateError> {
     if node.has_placed_children() {
         if let Some(block) = node.consolidate_metadata(alloc)? {
             return Ok(block);
         }
     }
     Ok(Block::new(alloc))
+}
+
+// The block of all that is listed below a path of a store.
+fn block_of<S: ReadableStorageTraits + ListableStorageTraits>(
+    alloc: Global,
+    store: &S,
+    path: &str,
+) -> Result<Block, NodeCreateError> {
+    let node = group_over(alloc, store, path)?;
+    block_below(&node, alloc)
 }
 
 // A block made current at a path below a base.

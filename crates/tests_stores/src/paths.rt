@@ -1,4 +1,4 @@
-// Each call that is tested is read from the text of a row, and answers a text; the tests are tables of such rows.
+//! Names, paths and their keys. Each call that is tested is read from the text of a row, and answers a text; the tests are tables of such rows.
 use std::alloc::{AllocError, AllocFailed, Global};
 use std::cmp::Ordering;
 use std::hash::{BuildHasher, BuildHasherDefault, FoldHasher};
@@ -7,6 +7,7 @@ use tests_support::{check_rows, fields, refusal};
 use zarrs_path::{
     NodeName, NodeNameError, NodePath, NodePathError, data_key, laws, meta_key, meta_key_v2_array,
     meta_key_v2_attributes, meta_key_v2_consolidated, meta_key_v2_group, meta_key_v3,
+    without_leading_slash,
 };
 use zarrs_store::{StoreKey, StoreKeyError, StorePrefix, StorePrefixError};
 
@@ -301,6 +302,27 @@ root | __c => Invalid: invalid node path invalid node name `__c` in '__c'
 #[test]
 fn joins_names(rt: HostRuntime) -> Result<(), Fail> {
     check_rows(rt.alloc(), JOINED, joined)
+}
+
+// A text without one leading slash, between marks.
+fn bare(alloc: Global, text: &str) -> Result<String, AllocError> {
+    format!(in alloc; "'{}'", without_leading_slash(text))
+}
+
+const BARE: &str = r#"
+# one leading slash goes, and nothing else
+/a => 'a'
+/a/b => 'a/b'
+//a => '/a'
+/ => ''
+a/b => 'a/b'
+a/ => 'a/'
+ => ''
+"#;
+
+#[test]
+fn one_leading_slash_is_taken_off(rt: HostRuntime) -> Result<(), Fail> {
+    check_rows(rt.alloc(), BARE, bare)
 }
 
 // The path that a call answers: the root, the parent of a path, or what two laws say of parents.

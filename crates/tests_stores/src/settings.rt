@@ -1,4 +1,4 @@
-// Each configuration and each value of options is read from a word, and answers its settings by their names.
+//! Settings. Each configuration and each value of options is read from a word, and answers its settings by their names.
 use std::alloc::{AllocError, Global};
 use std::test::Fail;
 use tests_support::check_rows;

@@ -1,5 +1,5 @@
-// Each call that is tested is read from the text of a row, and answers a text; the tests are tables of such rows. A row over a store
-// gives the store's keys, each with the byte `x`, and the steps that are taken in it.
+//! Keys, prefixes and stores. Each call that is tested is read from the text of a row, and answers a text; the tests are tables of such rows. A row
+//! over a store gives the store's keys, each with the byte `x`, and the steps that are taken in it.
 use std::alloc::{AllocError, Global};
 use std::test::Fail;
 use tests_support::{check_rows, fields, refusal};

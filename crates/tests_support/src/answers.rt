@@ -43,10 +43,10 @@ pub fn refusal<E: Debug + Display>(alloc: Global, error: &E) -> Result<String, A
     Ok(text)
 }
 
-/// The names of variants with which what `{:?}` writes of a value begins, each but the first in parentheses behind the one before.
-///
-/// A name within another begins with a capital, and a parenthesis, a comma or nothing is behind it: what has a brace is a struct.
-pub(crate) fn variants(alloc: Global, shown: &str) -> Result<String, AllocError> {
+// The names of variants with which what `{:?}` writes of a value begins, each but the first in parentheses behind the one before.
+//
+// A name within another begins with a capital, and a parenthesis, a comma or nothing is behind it: what has a brace is a struct.
+fn variants(alloc: Global, shown: &str) -> Result<String, AllocError> {
     let mut text = String::new(alloc);
     let mut ends = String::new(alloc);
     for (place, part) in shown.split('(').enumerate() {

@@ -1,12 +1,10 @@
-//! What all tests share: tables of rows, documents, and what a call answers as a text.
+//! What all tests share: tables of rows, over which `check_rows` goes; documents; what a call answers as a text, a refusal by its variants and words.
 //!
 //! A table is a text with a row a line, an arrow `=>` between what a call is given and the text that it has to answer. It is data: a test
 //! is one call, and its rows cost the prover nothing.
 #![tactic(auto)]
 
 mod answers;
-#[cfg(test)]
-mod tests;
 
 pub use answers::{A2, A3, G2, G3, made, printed, refusal, said, with_lines};
 use std::alloc::{AllocError, Global};

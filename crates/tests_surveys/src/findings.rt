@@ -6,28 +6,45 @@ use log::sink::Discard;
 use std::alloc::{AllocError, Global};
 use std::test::Fail;
 use tests_fixtures::{ANY, entries_of, entries_text, metadata_in};
-use tests_support::{check_rows, fields, refusal, said};
+use tests_support::{check_rows, fields, printed, refusal, said};
 use zarrs_block::{ConsolidatedMetadata, NodeCreateError};
+use zarrs_meta::NodeMetadata;
 use zarrs_path::NodePath;
-use zarrs_survey::{Check, Finding, FindingKind, compare_block, read_block};
+use zarrs_store::MemoryStore;
+use zarrs_survey::{Check, Finding, FindingKind, Survey, compare_block, read_block};
 
-// What there is to tell of a block of a group, beside the store below a base, which is the root where none is named.
-fn compared(alloc: Global, given: &str) -> Result<Option<Vec<Finding>>, NodeCreateError> {
+// What there is to tell of a block of a group, beside a store and its survey.
+fn block_said(
+    alloc: Global,
+    store: &MemoryStore,
+    survey: &Survey,
+    group: &str,
+    entries: &str,
+) -> Result<String, NodeCreateError> {
+    let group = NodePath::new(alloc, group)?;
+    let pairs = pairs_in(alloc, entries)?;
+    let metadata = entries_of(alloc, pairs.as_slice())?;
+    let found = compare_block(
+        alloc,
+        store,
+        survey,
+        &group,
+        ConsolidatedMetadata { metadata },
+    );
+    Ok(said(alloc, found, compared_text)?)
+}
+
+// That of a row, whose store is surveyed below a base, which is the root where none is named.
+fn compared(alloc: Global, given: &str) -> Result<String, NodeCreateError> {
     let (paths, rest) = fields(given);
     let (group, base) = paths.split_once(" from ").unwrap_or((paths, "/"));
     let (documents, entries) = fields(rest);
     let store = store_in(alloc, documents)?;
-    let survey = survey_in(alloc, base, documents)?;
-    let group = NodePath::new(alloc, group)?;
-    let pairs = pairs_in(alloc, entries)?;
-    let metadata = entries_of(alloc, pairs.as_slice())?;
-    Ok(compare_block(
-        alloc,
-        &store,
-        &survey,
-        &group,
-        ConsolidatedMetadata { metadata },
-    )?)
+    let survey = survey_in(alloc, base, documents);
+    Ok(said(alloc, survey, |survey, alloc| {
+        let text = block_said(alloc, &store, survey, group, entries);
+        said(alloc, text, printed)
+    })?)
 }
 
 // The kind of a finding, and what it holds.
@@ -68,7 +85,7 @@ fn compared_text(compared: &Option<Vec<Finding>>, alloc: Global) -> Result<Strin
 }
 
 fn compared_said(alloc: Global, given: &str) -> Result<String, AllocError> {
-    said(alloc, compared(alloc, given), compared_text)
+    said(alloc, compared(alloc, given), printed)
 }
 
 // A group and the base, a store and a block; what is wrong with the block.
@@ -122,14 +139,18 @@ fn a_block_is_compared_with_the_nodes_below_its_group(rt: HostRuntime) -> Result
 }
 
 // What there is to tell of all blocks of a store.
-fn checked(alloc: Global, documents: &str) -> Result<Vec<Finding>, NodeCreateError> {
+fn checked(alloc: Global, documents: &str) -> Result<Check, NodeCreateError> {
     let store = store_in(alloc, documents)?;
     let root = NodePath::root(alloc)?;
-    Ok(Check::of_store(&Discard, alloc, &store, &root, &ANY)?.findings)
+    Check::of_store(&Discard, alloc, &store, &root, &ANY)
+}
+
+fn checked_text(check: &Check, alloc: Global) -> Result<String, AllocError> {
+    findings_text(&check.findings, alloc)
 }
 
 fn checked_said(alloc: Global, given: &str) -> Result<String, AllocError> {
-    said(alloc, checked(alloc, given), findings_text)
+    said(alloc, checked(alloc, given), checked_text)
 }
 
 // A store; what is wrong with its blocks, by group and path.
@@ -203,20 +224,38 @@ fn own_attributes_are_those_of_the_group(rt: HostRuntime) -> Result<(), Fail> {
     check_rows(rt.alloc(), OWN_ATTRIBUTES, checked_said)
 }
 
-// A version 2 group whose block is compared by itself; its document has other attributes, and nothing is told of them.
-fn compared_alone(alloc: Global, documents: &str) -> Result<Option<Vec<Finding>>, NodeCreateError> {
-    let store = store_in(alloc, documents)?;
-    let survey = survey_in(alloc, "/", documents)?;
-    let metadata = metadata_in(alloc, &store, "/", ANY)?;
+// What there is to tell of the block of the root, whose metadata these are, compared by itself.
+fn own_block_said(
+    alloc: Global,
+    store: &MemoryStore,
+    survey: &Survey,
+    metadata: &NodeMetadata,
+) -> Result<String, NodeCreateError> {
     let root = NodePath::root(alloc)?;
-    match read_block(alloc, &store, &root, &metadata)? {
-        Some(Ok(block)) => Ok(compare_block(alloc, &store, &survey, &root, block)?),
-        _ => Ok(None),
+    match read_block(alloc, store, &root, metadata)? {
+        Some(Ok(block)) => {
+            let found = compare_block(alloc, store, survey, &root, block);
+            Ok(said(alloc, found, compared_text)?)
+        }
+        _ => Ok(String::from_str(alloc, "no block")?),
     }
 }
 
+// A version 2 group whose block is compared by itself; its document has other attributes, and nothing is told of them.
+fn compared_alone(alloc: Global, documents: &str) -> Result<String, NodeCreateError> {
+    let store = store_in(alloc, documents)?;
+    let survey = survey_in(alloc, "/", documents);
+    Ok(said(alloc, survey, |survey, alloc| {
+        let metadata = metadata_in(alloc, &store, "/", ANY);
+        said(alloc, metadata, |metadata, alloc| {
+            let text = own_block_said(alloc, &store, survey, metadata);
+            said(alloc, text, printed)
+        })
+    })?)
+}
+
 fn compared_alone_said(alloc: Global, given: &str) -> Result<String, AllocError> {
-    said(alloc, compared_alone(alloc, given), compared_text)
+    said(alloc, compared_alone(alloc, given), printed)
 }
 
 // A store; what is wrong with the block of the root, compared by itself.
@@ -229,13 +268,14 @@ fn a_block_alone_has_no_own_attributes(rt: HostRuntime) -> Result<(), Fail> {
     check_rows(rt.alloc(), COMPARED_ALONE, compared_alone_said)
 }
 
-// What is read as the block of a node.
-fn read_at(alloc: Global, given: &str) -> Result<String, NodeCreateError> {
-    let (text, documents) = fields(given);
-    let store = store_in(alloc, documents)?;
-    let metadata = metadata_in(alloc, &store, text, ANY)?;
-    let path = NodePath::new(alloc, text)?;
-    match read_block(alloc, &store, &path, &metadata)? {
+// What is read as the block of a node with these metadata.
+fn block_text(
+    alloc: Global,
+    store: &MemoryStore,
+    path: &NodePath,
+    metadata: &NodeMetadata,
+) -> Result<String, NodeCreateError> {
+    match read_block(alloc, store, path, metadata)? {
         None => Ok(String::from_str(alloc, "none")?),
         Some(Ok(block)) => {
             let entries = entries_text(&block.metadata, alloc)?;
@@ -245,12 +285,20 @@ fn read_at(alloc: Global, given: &str) -> Result<String, NodeCreateError> {
     }
 }
 
-fn text_of(text: &String, alloc: Global) -> Result<String, AllocError> {
-    String::from_str(alloc, text.as_str())
+// That of a row.
+fn read_at(alloc: Global, given: &str) -> Result<String, NodeCreateError> {
+    let (text, documents) = fields(given);
+    let path = NodePath::new(alloc, text)?;
+    let store = store_in(alloc, documents)?;
+    let metadata = metadata_in(alloc, &store, text, ANY);
+    Ok(said(alloc, metadata, |metadata, alloc| {
+        let text = block_text(alloc, &store, &path, metadata);
+        said(alloc, text, printed)
+    })?)
 }
 
 fn read_said(alloc: Global, given: &str) -> Result<String, AllocError> {
-    said(alloc, read_at(alloc, given), text_of)
+    said(alloc, read_at(alloc, given), printed)
 }
 
 // A path and a store; what is read as its block, with the keys and their documents.

@@ -7,12 +7,12 @@ use log::sink::Discard;
 use std::alloc::{AllocError, Global};
 use std::test::Fail;
 use tests_fixtures::{ANY, metadata_in};
-use tests_support::{check_rows, fields, refusal, said};
+use tests_support::{check_rows, fields, printed, refusal, said};
 use zarrs_block::{ConsolidatedMetadataMetadata, NodeCreateError};
 use zarrs_meta::NodeMetadata;
 use zarrs_path::NodePath;
 use zarrs_store::{AnyNumbers, ListableStorageTraits, MemoryStore, ReadableStorageTraits};
-use zarrs_survey::{Check, Survey, compare_block, read_block};
+use zarrs_survey::{Check, Finding, Survey, compare_block, read_block};
 
 // ---- what a check has
 
@@ -122,8 +122,7 @@ fn told(alloc: Global, place: &str, stored: &str, copied: &str) -> Result<String
     let store = AnyNumbers {
         inner: store_in(alloc, documents.as_str())?,
     };
-    let checked = check_of(alloc, &store)?;
-    Ok(check_data(&checked, alloc)?)
+    Ok(said(alloc, check_of(alloc, &store), check_data)?)
 }
 
 // What a check tells where the two are the same, and where they differ.
@@ -160,12 +159,8 @@ fn compared(alloc: Global, given: &str) -> Result<String, NodeCreateError> {
     Ok(answer)
 }
 
-fn text_of(text: &String, alloc: Global) -> Result<String, AllocError> {
-    String::from_str(alloc, text.as_str())
-}
-
 fn compared_said(alloc: Global, given: &str) -> Result<String, AllocError> {
-    said(alloc, compared(alloc, given), text_of)
+    said(alloc, compared(alloc, given), printed)
 }
 
 // Two numbers; whether a document with the one and its entry with the other are the same.
@@ -252,23 +247,35 @@ fn block_text<S: ReadableStorageTraits>(
     }
 }
 
-// What a store has as the block at the root of metadata that were read in any numbers: the store as it is, or with any numbers.
-fn read_at(alloc: Global, given: &str) -> Result<String, NodeCreateError> {
-    let (numbers, documents) = fields(given);
-    let whole = store_in(alloc, documents)?;
-    let any = AnyNumbers {
-        inner: store_in(alloc, documents)?,
-    };
-    let metadata = node_at(alloc, &any, "/")?;
+// What the store as it is, or with any numbers, has as the block at the root.
+fn block_by(
+    alloc: Global,
+    any: &AnyNumbers<MemoryStore>,
+    numbers: &str,
+    metadata: &NodeMetadata,
+) -> Result<String, NodeCreateError> {
     match numbers {
-        "whole" => block_text(alloc, &whole, &metadata),
-        "any" => block_text(alloc, &any, &metadata),
+        "whole" => block_text(alloc, &any.inner, metadata),
+        "any" => block_text(alloc, any, metadata),
         word => Err(no_numbers(alloc, word)?),
     }
 }
 
+// That of metadata that were read in any numbers.
+fn read_at(alloc: Global, given: &str) -> Result<String, NodeCreateError> {
+    let (numbers, documents) = fields(given);
+    let any = AnyNumbers {
+        inner: store_in(alloc, documents)?,
+    };
+    let metadata = node_at(alloc, &any, "/");
+    Ok(said(alloc, metadata, |metadata, alloc| {
+        let text = block_by(alloc, &any, numbers, metadata);
+        said(alloc, text, printed)
+    })?)
+}
+
 fn read_said(alloc: Global, given: &str) -> Result<String, AllocError> {
-    said(alloc, read_at(alloc, given), text_of)
+    said(alloc, read_at(alloc, given), printed)
 }
 
 // The numbers of a store, and the store; what is read as the block at the root.
@@ -293,26 +300,53 @@ fn a_block_is_read_in_the_numbers_of_its_store(rt: HostRuntime) -> Result<(), Fa
 const SURVEYED: &str =
     r#"zarr.json {"consolidated_metadata":{"kind":"inline","metadata":{"a":{"attributes":{"k":0.25},"node_type":"group","zarr_format":3},"b":{"attributes":{"k":1e2},"node_type":"group","zarr_format":3}},"must_understand":false},"node_type":"group","zarr_format":3};a/zarr.json {"attributes":{"k":0.5},"node_type":"group","zarr_format":3};b/zarr.json {"attributes":{"k":100.0},"node_type":"group","zarr_format":3}"#;
 
-// The nodes of a survey with their JSON values, and what is wrong with the block of its base.
-fn survey_data(
-    alloc: Global,
-    store: &AnyNumbers<MemoryStore>,
-    survey: &Survey,
-) -> Result<String, NodeCreateError> {
+// The nodes of a survey with their JSON values.
+fn nodes_data(survey: &Survey, alloc: Global) -> Result<String, AllocError> {
     let mut text = String::new(alloc);
     for (path, metadata) in &survey.nodes {
         let value = metadata.to_value(alloc)?.to_string(alloc)?;
         write!(text, "{path} {value}\n")?;
     }
-    let root = NodePath::root(alloc)?;
-    let metadata = node_at(alloc, store, "/")?;
-    let Some(Ok(block)) = read_block(alloc, store, &root, &metadata)? else {
-        return Ok(text);
-    };
-    if let Some(found) = compare_block(alloc, store, survey, &root, block)? {
-        text.push_str(findings_text(&found, alloc)?.as_str())?;
-    }
     Ok(text)
+}
+
+fn found_text(found: &Option<Vec<Finding>>, alloc: Global) -> Result<String, AllocError> {
+    match found {
+        Some(found) => findings_text(found, alloc),
+        None => Ok(String::new(alloc)),
+    }
+}
+
+// What is wrong with the block of a group at the root, which has these metadata.
+fn block_data(
+    alloc: Global,
+    store: &AnyNumbers<MemoryStore>,
+    survey: &Survey,
+    metadata: &NodeMetadata,
+) -> Result<String, NodeCreateError> {
+    let root = NodePath::root(alloc)?;
+    match read_block(alloc, store, &root, metadata)? {
+        Some(Ok(block)) => {
+            let found = compare_block(alloc, store, survey, &root, block);
+            Ok(said(alloc, found, found_text)?)
+        }
+        _ => Ok(String::new(alloc)),
+    }
+}
+
+// The nodes of a survey with their JSON values, and what is wrong with the block of its base.
+fn survey_data(
+    survey: &Survey,
+    alloc: Global,
+    store: &AnyNumbers<MemoryStore>,
+) -> Result<String, AllocError> {
+    let nodes = nodes_data(survey, alloc)?;
+    let metadata = node_at(alloc, store, "/");
+    let block = said(alloc, metadata, |metadata, alloc| {
+        let text = block_data(alloc, store, survey, metadata);
+        said(alloc, text, printed)
+    })?;
+    format!(in alloc; "{nodes}{block}")
 }
 
 fn surveyed(alloc: Global) -> Result<String, NodeCreateError> {
@@ -320,12 +354,16 @@ fn surveyed(alloc: Global) -> Result<String, NodeCreateError> {
         inner: store_in(alloc, SURVEYED)?,
     };
     let root = NodePath::root(alloc)?;
-    let survey = Survey::of_store(&Discard, alloc, &store, &root, &ANY)?;
-    survey_data(alloc, &store, &survey)
+    let survey = Survey::of_store(&Discard, alloc, &store, &root, &ANY);
+    Ok(said(
+        alloc,
+        survey,
+        |survey, alloc| survey_data(survey, alloc, &store),
+    )?)
 }
 
 fn surveyed_said(alloc: Global, _given: &str) -> Result<String, AllocError> {
-    said(alloc, surveyed(alloc), text_of)
+    said(alloc, surveyed(alloc), printed)
 }
 
 // A survey keeps fractions as they were read, and a block is compared with them.

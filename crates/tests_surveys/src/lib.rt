@@ -1,4 +1,5 @@
-//! Tests of surveys and of what is told of blocks. The crate has no call of its own.
+//! Tests of surveys and of checks, of what is told of blocks, alone, beside others and above a path, and of what is told of one node by its own documents.
+//! The crate has no call of its own.
 #![tactic(auto)]
 
 #[cfg(test)]
@@ -11,6 +12,8 @@ mod findings;
 mod fractions;
 #[cfg(test)]
 mod given;
+#[cfg(test)]
+mod notes;
 #[cfg(test)]
 mod orphans;
 #[cfg(test)]

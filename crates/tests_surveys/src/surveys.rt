@@ -9,7 +9,7 @@ use tests_support::{check_rows, fields, refusal, said};
 use zarrs_block::NodeCreateError;
 use zarrs_path::NodePath;
 use zarrs_store::StorePrefix;
-use zarrs_survey::{BadDocuments, Check, Survey, laws};
+use zarrs_survey::{BadDocuments, Base, Check, Survey, laws};
 
 /// The survey of the store with the documents of a list, at a path.
 pub(crate) fn survey_in(
@@ -30,8 +30,8 @@ fn surveyed(alloc: Global, given: &str) -> Result<Survey, NodeCreateError> {
 /// The base and the nodes with their documents, the paths that are ignored, and what is bad.
 pub(crate) fn survey_text(survey: &Survey, alloc: Global) -> Result<String, AllocError> {
     let mut text = match &survey.base {
-        Ok(metadata) => document_text(metadata, alloc)?,
-        Err(error) => refusal(alloc, error)?,
+        Base::Node(metadata) => document_text(metadata, alloc)?,
+        Base::Refused(error) => refusal(alloc, error)?,
     };
     text = format!(in alloc; "{} {text}\n", survey.path)?;
     text.push_str(pairs_text(&survey.nodes, alloc)?.as_str())?;
@@ -67,9 +67,9 @@ fn write_bad(
 
 /// The base, the number of the nodes, the paths that are ignored, and what is bad.
 pub(crate) fn check_text(check: &Check, alloc: Global) -> Result<String, AllocError> {
-    let base = match &check.base {
-        Ok(()) => String::from_str(alloc, "node")?,
-        Err(error) => refusal(alloc, error)?,
+    let base = match &check.base_fault {
+        None => String::from_str(alloc, "node")?,
+        Some(error) => refusal(alloc, error)?,
     };
     let mut text = format!(in alloc; "{} {base}\n{} nodes\n", check.path, check.nodes)?;
     write_bad(
@@ -132,19 +132,14 @@ fn a_check_counts_the_nodes_and_has_all_that_is_bad(rt: HostRuntime) -> Result<(
 }
 
 // Whether a bad document of a store stands at a path or above it.
-fn spoilt(alloc: Global, given: &str) -> Result<bool, NodeCreateError> {
+fn spoilt_said(alloc: Global, given: &str) -> Result<String, NodeCreateError> {
     let (path, documents) = fields(given);
-    let survey = survey_in(alloc, "/", documents)?;
     let path = NodePath::new(alloc, path)?;
-    Ok(survey.bad_documents.spoils(&path))
-}
-
-fn spoilt_text(spoilt: &bool, alloc: Global) -> Result<String, AllocError> {
-    String::from_str(alloc, if *spoilt { "yes" } else { "no" })
-}
-
-fn spoilt_said(alloc: Global, given: &str) -> Result<String, AllocError> {
-    said(alloc, spoilt(alloc, given), spoilt_text)
+    let survey = survey_in(alloc, "/", documents);
+    Ok(said(alloc, survey, |survey, alloc| {
+        let is_spoilt = survey.bad_documents.spoils(&path);
+        String::from_str(alloc, if is_spoilt { "yes" } else { "no" })
+    })?)
 }
 
 // A path and a store; whether a bad document stands at it or above it.

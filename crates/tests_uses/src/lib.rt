@@ -1,4 +1,4 @@
-//! Tests of the callers on stores as zarr-python writes them. The crate has no call of its own.
+//! Tests of the callers of `zarrs_uses` on stores as zarr-python writes them, and of its store of one's own. The crate has no call of its own.
 #![tactic(auto)]
 
 #[cfg(test)]

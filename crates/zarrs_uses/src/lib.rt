@@ -1,6 +1,7 @@
 //! Callers of this library, each a proved example of what a layer above does: a first call; an array layer, which opens an array and reads a
 //! chunk; a catalogue, which keeps a consolidated block current; and a converter of a hierarchy of version 2. They stand on public contracts
-//! alone. Beside them stands a store of one's own.
+//! alone. Beside them stands a store of one's own, a list of entries, whose proofs use lemmas of `zarrs_store` besides. docs/CALLING.md goes
+//! through their code.
 #![tactic(auto)]
 
 mod catalogue;

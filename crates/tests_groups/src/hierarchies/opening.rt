@@ -14,7 +14,7 @@ use tests_support::{G2, check_rows, fields, printed, refusal, said, with_lines};
 use zarrs_block::NodeCreateError;
 use zarrs_config::Config;
 use zarrs_group::{Group, GroupBuilder, GroupCreateError};
-use zarrs_hierarchy::{Hierarchy, depth, laws, tree_at};
+use zarrs_hierarchy::{Hierarchy, depth, laws, tree_at, walk_hierarchy};
 use zarrs_meta::{ArrayMetadata, ArrayMetadataV2, ArrayMetadataV3, NodeMetadata};
 use zarrs_node::get_all_nodes_of;
 use zarrs_path::NodePath;
@@ -201,6 +201,26 @@ fn opened_tree(
     tree_at(&Discard, alloc, store, &path, &version, config)
 }
 
+// The nodes that are handed over at a path of a store, as they come.
+fn walked(
+    alloc: Global,
+    store: &MemoryStore,
+    path: &str,
+    version: &str,
+    config: &Config,
+) -> Result<Vec<(NodePath, NodeMetadata)>, NodeCreateError> {
+    let path = NodePath::new(alloc, path)?;
+    let version = version_of(alloc, version)?;
+    let mut nodes = Vec::new(alloc);
+    walk_hierarchy(&Discard, alloc, store, &path, &version, config, &mut nodes)?;
+    Ok(nodes)
+}
+
+// The path of each and its document, one a line.
+fn walked_text(nodes: &Vec<(NodePath, NodeMetadata)>, alloc: Global) -> Result<String, AllocError> {
+    lines_text(nodes, alloc)
+}
+
 // The hierarchy of the nodes that are listed below a path of a store.
 fn gathered(
     alloc: Global,
@@ -214,8 +234,8 @@ fn gathered(
     Ok(Hierarchy::from_ascending(nodes))
 }
 
-// What is seen of what is opened at a path of a store, by a version and a configuration, or of all nodes that are listed below it for
-// `gathered`.
+// What is seen of what is opened at a path of a store, by a version and a configuration: for `walked` the nodes that are handed over, for `gathered` all
+// nodes that are listed below it.
 fn opened_seen(
     alloc: Global,
     store: &MemoryStore,
@@ -229,6 +249,11 @@ fn opened_seen(
             alloc,
             opened_tree(alloc, store, path, version, config),
             printed,
+        ),
+        "walked" => said(
+            alloc,
+            walked(alloc, store, path, version, config),
+            walked_text,
         ),
         "gathered" => said(alloc, gathered(alloc, store, path, version), nodes_text),
         word => seen(alloc, opened_by(alloc, store, path, version, config), word),
@@ -309,6 +334,12 @@ tree at | / | v2 | auto | zarr.json=G3 g/zarr.json=G3 old/.zgroup=G2 => MissingM
 tree at | / | any | auto | zarr.json={"consolidated_metadata":{"kind":"inline","metadata":{"q/r":{"node_type":"group","zarr_format":3}},"must_understand":false},"node_type":"group","zarr_format":3} s/zarr.json=G3 => /\n    r\n
 tree at | / | any | never | zarr.json={"consolidated_metadata":{"kind":"inline","metadata":{"q/r":{"node_type":"group","zarr_format":3}},"must_understand":false},"node_type":"group","zarr_format":3} s/zarr.json=G3 => /\n  s\n
 tree at | / | any | must | zarr.json=G3 => MissingMetadata: Metadata is missing for Consolidated metadata required but missing on group /
+# the nodes that are handed over are those of what is opened, the one at the path first
+walked | / | any | auto | zarr.json=G3 a/zarr.json=G3 a/x/zarr.json=A3 a-b/zarr.json=G3 => / G3\n/a G3\n/a/x A3\n/a-b G3\n
+walked | /a/x | any | must | zarr.json=G3 a/zarr.json=G3 a/x/zarr.json=A3 => /a/x A3\n
+walked | / | v2 | never | zarr.json=G3 .zgroup=G2 a/.zarray=A2 => / G2\n/a A2\n
+walked | /g | any | auto | g/.zgroup=G2 g/s/.zgroup=G2 g/.zmetadata={"metadata":{"x/y/.zgroup":{"zarr_format":2}},"zarr_consolidated_format":1} => /g G2\n/g/x/y G2\n
+walked | / | any | must | zarr.json=G3 => MissingMetadata: Metadata is missing for Consolidated metadata required but missing on group /
 # what is bad below a group is refused
 tree at | / | any | auto | zarr.json=G3 a/zarr.json=NUL => StorageError(InvalidMetadata): error parsing metadata for a/zarr.json: not JSON
 # a data set by a builder is opened

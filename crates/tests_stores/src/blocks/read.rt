@@ -156,6 +156,14 @@ const PRETTY: &str = r#"
 {"kind":"inline","metadata":{}} => {\n  "kind": "inline",\n  "metadata": {},\n  "must_understand": false\n}
 {"kind":"inline","metadata":{"a":{"node_type":"group","zarr_format":3}}} => {\n  "kind": "inline",\n  "metadata": {\n    "a": {\n      "node_type": "group",\n      "zarr_format": 3\n    }\n  },\n  "must_understand": false\n}
 {"kind":"inline","metadata":{"a":{"attributes":{"list":[1,[],{},[-2,null]],"text":"two\nlines"},"node_type":"group","zarr_format":3},"a/\"b\"":{"zarr_format":2}}} => {\n  "kind": "inline",\n  "metadata": {\n    "a": {\n      "attributes": {\n        "list": [\n          1,\n          [],\n          {},\n          [\n            -2,\n            null\n          ]\n        ],\n        "text": "two\\nlines"\n      },\n      "node_type": "group",\n      "zarr_format": 3\n    },\n    "a/\\"b\\"": {\n      "zarr_format": 2\n    }\n  },\n  "must_understand": false\n}
+# a version 3 array with each member
+{"kind":"inline","metadata":{"a":{"zarr_format":3,"node_type":"array","shape":[10,0],"data_type":{"name":"numpy.datetime64","configuration":{"unit":"s","scale_factor":1}},"chunk_grid":{"name":"regular","configuration":{"chunk_shape":[1,2]}},"chunk_key_encoding":"default","fill_value":{"a":[-1,{}]},"codecs":[{"name":"bytes"},{"name":"zstd","configuration":{},"must_understand":false}],"attributes":{"a\"b":{"c":{"d":[[],{}]}},"é\t":""},"storage_transformers":[{"name":"s","must_understand":false}],"dimension_names":["x",null,""]}}} => {\n  "kind": "inline",\n  "metadata": {\n    "a": {\n      "attributes": {\n        "a\\"b": {\n          "c": {\n            "d": [\n              [],\n              {}\n            ]\n          }\n        },\n        "é\\t": ""\n      },\n      "chunk_grid": {\n        "configuration": {\n          "chunk_shape": [\n            1,\n            2\n          ]\n        },\n        "name": "regular"\n      },\n      "chunk_key_encoding": "default",\n      "codecs": [\n        "bytes",\n        {\n          "configuration": {},\n          "must_understand": false,\n          "name": "zstd"\n        }\n      ],\n      "data_type": {\n        "configuration": {\n          "scale_factor": 1,\n          "unit": "s"\n        },\n        "name": "numpy.datetime64"\n      },\n      "dimension_names": [\n        "x",\n        null,\n        ""\n      ],\n      "fill_value": {\n        "a": [\n          -1,\n          {}\n        ]\n      },\n      "node_type": "array",\n      "shape": [\n        10,\n        0\n      ],\n      "storage_transformers": [\n        {\n          "must_understand": false,\n          "name": "s"\n        }\n      ],\n      "zarr_format": 3\n    }\n  },\n  "must_understand": false\n}
+# the same with the fewest members, and with an additional field
+{"kind":"inline","metadata":{"a":{"zarr_format":3,"node_type":"array","shape":[],"data_type":"int8","chunk_grid":{"name":"regular","configuration":{"chunk_shape":[]}},"chunk_key_encoding":{"name":"v2","configuration":{"separator":"."}},"fill_value":null,"codecs":[],"attributes":{},"storage_transformers":[]},"b":{"zarr_format":3,"node_type":"array","shape":[],"data_type":"int8","chunk_grid":{"name":"regular","configuration":{"chunk_shape":[]}},"chunk_key_encoding":{"name":"v2","configuration":{"separator":"."}},"fill_value":null,"codecs":[],"attributes":{},"storage_transformers":[],"dimension_names":[],"extra":{"must_understand":false,"k":[1]}}}} => {\n  "kind": "inline",\n  "metadata": {\n    "a": {\n      "chunk_grid": {\n        "configuration": {\n          "chunk_shape": []\n        },\n        "name": "regular"\n      },\n      "chunk_key_encoding": {\n        "configuration": {\n          "separator": "."\n        },\n        "name": "v2"\n      },\n      "codecs": [],\n      "data_type": "int8",\n      "fill_value": null,\n      "node_type": "array",\n      "shape": [],\n      "zarr_format": 3\n    },\n    "b": {\n      "chunk_grid": {\n        "configuration": {\n          "chunk_shape": []\n        },\n        "name": "regular"\n      },\n      "chunk_key_encoding": {\n        "configuration": {\n          "separator": "."\n        },\n        "name": "v2"\n      },\n      "codecs": [],\n      "data_type": "int8",\n      "dimension_names": [],\n      "extra": {\n        "k": [\n          1\n        ],\n        "must_understand": false\n      },\n      "fill_value": null,\n      "node_type": "array",\n      "shape": [],\n      "zarr_format": 3\n    }\n  },\n  "must_understand": false\n}
+# version 2 arrays
+{"kind":"inline","metadata":{"a":{"zarr_format":2,"shape":[4],"chunks":[2],"dtype":[["f","<f4"],["g","|u1"]],"fill_value":0,"order":"F","compressor":{"id":"blosc","clevel":5},"filters":[{"id":"delta","dtype":"<f4"}],"dimension_separator":"/","attributes":{"k":[true,false,null]}},"b":{"zarr_format":2,"shape":[],"chunks":[],"dtype":"<f8","fill_value":null,"order":"C","compressor":null,"filters":null},"c":{"zarr_format":2,"shape":[],"chunks":[],"dtype":"<f8","fill_value":null,"order":"C","compressor":null,"filters":[],"extra":{"x":"y"}}}} => {\n  "kind": "inline",\n  "metadata": {\n    "a": {\n      "attributes": {\n        "k": [\n          true,\n          false,\n          null\n        ]\n      },\n      "chunks": [\n        2\n      ],\n      "compressor": {\n        "clevel": 5,\n        "id": "blosc"\n      },\n      "dimension_separator": "/",\n      "dtype": [\n        [\n          "f",\n          "<f4"\n        ],\n        [\n          "g",\n          "|u1"\n        ]\n      ],\n      "fill_value": 0,\n      "filters": [\n        {\n          "dtype": "<f4",\n          "id": "delta"\n        }\n      ],\n      "order": "F",\n      "shape": [\n        4\n      ],\n      "zarr_format": 2\n    },\n    "b": {\n      "chunks": [],\n      "compressor": null,\n      "dimension_separator": ".",\n      "dtype": "<f8",\n      "fill_value": null,\n      "filters": null,\n      "order": "C",\n      "shape": [],\n      "zarr_format": 2\n    },\n    "c": {\n      "chunks": [],\n      "compressor": null,\n      "dimension_separator": ".",\n      "dtype": "<f8",\n      "extra": {\n        "x": "y"\n      },\n      "fill_value": null,\n      "filters": [],\n      "order": "C",\n      "shape": [],\n      "zarr_format": 2\n    }\n  },\n  "must_understand": false\n}
+# groups with attributes and additional fields
+{"kind":"inline","metadata":{"a":{"zarr_format":3,"node_type":"group","attributes":{"b":{"a":1}},"extra":[[1]]},"b":{"zarr_format":2,"attributes":{"x":18446744073709551615}},"c":{"zarr_format":2,"extra":-9223372036854775808}}} => {\n  "kind": "inline",\n  "metadata": {\n    "a": {\n      "attributes": {\n        "b": {\n          "a": 1\n        }\n      },\n      "extra": [\n        [\n          1\n        ]\n      ],\n      "node_type": "group",\n      "zarr_format": 3\n    },\n    "b": {\n      "attributes": {\n        "x": 18446744073709551615\n      },\n      "zarr_format": 2\n    },\n    "c": {\n      "extra": -9223372036854775808,\n      "zarr_format": 2\n    }\n  },\n  "must_understand": false\n}
 "#;
 
 // The pretty layout of the block that a JSON text is, node by node, where the block as one JSON value has the same.
@@ -406,6 +414,7 @@ fn the_laws_of_blocks_are_called(rt: HostRuntime) {
     laws::block_reads_back(&none);
     laws::block_reads_back_in(Numbers::Any, &none);
     laws::written_reads_back_in(Numbers::Any);
+    laws::one_block_holds_store_in(Numbers::Any);
 }
 
 // ---- entries of a block
@@ -451,6 +460,7 @@ fn asked(
     let mut block = block;
     match call {
         "get" => document_text(block.get(key), alloc),
+        "is_covered" => format!(in alloc; "{}", block.is_covered(key)),
         "count" => format!(in alloc; "{}, empty {}", block.len(), block.is_empty()),
         "copy" => said(alloc, block.try_clone(alloc), entries_text),
         "without" => said(alloc, block.try_clone_without(alloc, key), entries_text),
@@ -494,6 +504,13 @@ get | a;b={"attributes":{"k":1},"zarr_format":2} | b => {"attributes":{"k":1},"z
 get | a;b={"attributes":{"k":1},"zarr_format":2} | a => {"zarr_format":2}
 get | a;b={"attributes":{"k":1},"zarr_format":2} | c => none
 get | | a => none
+# a key with a slash in front is covered by the one without it
+is_covered | a;/a | /a => true
+is_covered | a/b | /a/b => true
+is_covered | a;/a | a => false
+is_covered | a;/b | /b => false
+is_covered | a | //a => false
+is_covered | | /a => false
 # entries are counted
 count | a;b;a/b => 3, empty false
 count | => 0, empty true

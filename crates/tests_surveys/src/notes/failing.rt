@@ -2,12 +2,14 @@
 //!
 //! Each allocation of the test `memory_fails_in_notes` is refused in turn by `bench/break/failures`; it ends then as usual, or in out of memory.
 
-use crate::told::{store_in, told_text};
+use crate::failing::{NO_MEMORY, is_same};
+use crate::notes::told::{store_in, told_text};
 use std::alloc::{AllocError, Global};
 use std::test::Fail;
-use tests_fixtures::{ANY, key_of, metadata_in};
+use tests_fixtures::{ANY, key_of};
 use tests_support::{check_rows, fields, said};
 use zarrs_block::NodeCreateError;
+use zarrs_node::Node;
 use zarrs_notes::node_findings;
 use zarrs_path::NodePath;
 use zarrs_store::{FaultAt, FaultStore};
@@ -23,6 +25,22 @@ const NAMES: [&str; 7] = [
     ".zmetadata.zarrs_new",
 ];
 
+// The place where a store is asked for a document of a path.
+fn fault_at(alloc: Global, path: &NodePath, name: &str) -> Result<FaultAt, NodeCreateError> {
+    let prefix = path.to_prefix(alloc)?;
+    let key = format!(in alloc; "{prefix}{name}")?;
+    Ok(FaultAt::OnGet(key_of(alloc, key.as_str())?))
+}
+
+// What is told over a store of the node that stands at a path of the store within it.
+fn told_over(alloc: Global, store: &FaultStore, path: &NodePath) -> Result<String, AllocError> {
+    let metadata = Node::get_metadata(alloc, store.inner(), path, &ANY);
+    said(alloc, metadata, |metadata, alloc| {
+        let found = node_findings(alloc, store, path, metadata);
+        said(alloc, found, told_text)
+    })
+}
+
 // What is told of the node at a path over a store that fails where this document of the path is read.
 fn told_past(
     alloc: Global,
@@ -30,14 +48,10 @@ fn told_past(
     documents: &str,
     name: &str,
 ) -> Result<String, NodeCreateError> {
-    let inner = store_in(alloc, documents)?;
-    let metadata = metadata_in(alloc, &inner, path, ANY)?;
     let path = NodePath::new(alloc, path)?;
-    let prefix = path.to_prefix(alloc)?;
-    let key = key_of(alloc, format!(in alloc; "{prefix}{name}")?.as_str())?;
-    let store = FaultStore::new(inner, FaultAt::OnGet(key));
-    let found = node_findings(alloc, &store, &path, &metadata);
-    Ok(said(alloc, found, told_text)?)
+    let fault = fault_at(alloc, &path, name)?;
+    let store = FaultStore::new(store_in(alloc, documents)?, fault);
+    Ok(told_over(alloc, &store, &path)?)
 }
 
 // The documents of a path of which telling is refused, where reading one is a fault of the store.
@@ -85,12 +99,8 @@ fn memory_fails_in_notes(rt: HostRuntime) -> Result<(), Fail> {
         Ok(found) => found,
         Err(error) => return Err(Fail::new(format_args!("{error}"))),
     };
-    if found.as_str() == "OutOfMemory: out of memory" {
+    if NO_MEMORY.contains(&found.as_str()) {
         return Err(Fail::from(AllocError));
     }
-    if found.as_str() == WANTED {
-        Ok(())
-    } else {
-        Err(Fail::new(format_args!("found {found}")))
-    }
+    is_same(found.as_str(), WANTED)
 }

@@ -1,5 +1,6 @@
 //! A document in a folder of the system is replaced and removed.
 
+use crate::same::is_same;
 use std::alloc::{AllocError, Global};
 use std::fmt::Debug;
 use std::fs::Permissions;
@@ -7,7 +8,7 @@ use std::os::unix::fs::{PermissionsExt, symlink};
 use std::rt::Files;
 use std::test::Fail;
 use std::{fs, io};
-use tests_support::{check_rows, refusal};
+use tests_support::refusal;
 use zarrs_write::{Disk, Place, ReplaceError, remove_document, replace_document};
 
 // Makes a folder with one document in it.
@@ -40,34 +41,42 @@ fn replaced(rt: &HostRuntime, folder: &str, name: &str, bytes: &str) -> Result<S
     answer_said(alloc, answer)
 }
 
-// The text of a file, and nothing where it is not read.
-fn text_of(rt: &HostRuntime, path: &str) -> String {
-    fs::read_to_string(rt, path).unwrap_or(String::new(rt.alloc()))
+// Asks what a file holds; of one that is not read nothing.
+fn holds(rt: &HostRuntime, path: &str, wanted: &str) -> Result<(), Fail> {
+    let text = fs::read_to_string(rt, path).unwrap_or(String::new(rt.alloc()));
+    is_same(Ok(text), wanted)
+}
+
+// Asks whether no file stands at a path.
+fn is_absent(rt: &HostRuntime, path: &str) -> Result<(), Fail> {
+    if fs::exists(rt, path)? {
+        Err(Fail::new(format_args!("{path} is there")))
+    } else {
+        Ok(())
+    }
+}
+
+// Asks whether a file has a mode.
+fn has_mode(rt: &HostRuntime, path: &str, wanted: u32) -> Result<(), Fail> {
+    let mode = fs::metadata(rt, path)?.permissions().mode() & 0o777;
+    if mode == wanted {
+        Ok(())
+    } else {
+        Err(Fail::new(format_args!("{path} has the mode {mode}")))
+    }
 }
 
 #[test]
 fn a_document_is_replaced_and_keeps_its_mode(rt: HostRuntime) -> Result<(), Fail> {
     make_folder(&rt, "replaced", "zarr.json", "old")?;
     fs::set_permissions(&rt, "replaced/zarr.json", Permissions::from_mode(0o640))?;
-    assert_eq!(rt;
-        replaced(&rt, "replaced", "zarr.json", "new")?.as_str(),
-        "Written"
-    );
-    assert_eq!(rt; text_of(&rt, "replaced/zarr.json").as_str(), "new");
-    let mode = fs::metadata(&rt, "replaced/zarr.json")?
-        .permissions()
-        .mode();
-    assert_eq!(rt; mode & 0o777, 0o640);
-    assert_eq!(rt;
-        replaced(&rt, "replaced/", "zarr.json", "new")?.as_str(),
-        "Unchanged"
-    );
-    assert_eq!(rt;
-        replaced(&rt, "replaced", ".zmetadata", "{}")?.as_str(),
-        "Written"
-    );
-    assert_eq!(rt; text_of(&rt, "replaced/.zmetadata").as_str(), "{}");
-    assert!(rt; !fs::exists(&rt, "replaced/zarr.json.zarrs_new")?);
+    is_same(replaced(&rt, "replaced", "zarr.json", "new"), "Written")?;
+    holds(&rt, "replaced/zarr.json", "new")?;
+    has_mode(&rt, "replaced/zarr.json", 0o640)?;
+    is_same(replaced(&rt, "replaced/", "zarr.json", "new"), "Unchanged")?;
+    is_same(replaced(&rt, "replaced", ".zmetadata", "{}"), "Written")?;
+    holds(&rt, "replaced/.zmetadata", "{}")?;
+    is_absent(&rt, "replaced/zarr.json.zarrs_new")?;
     fs::remove_dir_all(&rt, "replaced")?;
     Ok(())
 }
@@ -84,12 +93,10 @@ fn removed(rt: &HostRuntime, folder: &str, name: &str) -> Result<String, AllocEr
 #[test]
 fn a_document_is_removed(rt: HostRuntime) -> Result<(), Fail> {
     make_folder(&rt, "removed", ".zmetadata", "old")?;
-    assert_eq!(rt; removed(&rt, "removed", ".zmetadata")?.as_str(), "Gone");
-    assert!(rt; !fs::exists(&rt, "removed/.zmetadata")?);
-    assert_eq!(rt;
-        removed(&rt, "removed", ".zmetadata")?.as_str(),
-        "Changed: .zmetadata was changed meanwhile"
-    );
+    is_same(removed(&rt, "removed", ".zmetadata"), "Gone")?;
+    is_absent(&rt, "removed/.zmetadata")?;
+    let answer = removed(&rt, "removed", ".zmetadata");
+    is_same(answer, "Changed: .zmetadata was changed meanwhile")?;
     fs::remove_dir_all(&rt, "removed")?;
     Ok(())
 }
@@ -101,33 +108,45 @@ fn made(rt: &HostRuntime, folder: &str, name: &str) -> Result<String, AllocError
     answer_said(alloc, answer)
 }
 
+// Folders and documents, and what is answered where each is told to be there not yet.
+const REFUSED: [(&str, &str, &str); 5] = [
+    (
+        "refused",
+        "link",
+        "Failed: link was not read: what stands there is no file",
+    ),
+    (
+        "refused",
+        "folder",
+        "Failed: folder was not read: what stands there is no file",
+    ),
+    (
+        "refused",
+        "a",
+        "LeftOver: a.zarrs_new is left over from a run that was broken off: remove it",
+    ),
+    (
+        "refused/nope",
+        "a",
+        "Failed: a.zarrs_new was not made: No such file or directory",
+    ),
+    (
+        "refused/zarr.json",
+        "a",
+        "Failed: a was not read: Not a directory",
+    ),
+];
+
 #[test]
 fn what_is_no_document_is_refused_in_the_systems_words(rt: HostRuntime) -> Result<(), Fail> {
     make_folder(&rt, "refused", "zarr.json", "old")?;
     symlink(&rt, "zarr.json", "refused/link")?;
     fs::create_dir_all(&rt, "refused/folder")?;
     fs::write(&rt, "refused/a.zarrs_new", "half")?;
-    assert_eq!(rt;
-        made(&rt, "refused", "link")?.as_str(),
-        "Failed: link was not read: what stands there is no file"
-    );
-    assert_eq!(rt;
-        made(&rt, "refused", "folder")?.as_str(),
-        "Failed: folder was not read: what stands there is no file"
-    );
-    assert_eq!(rt;
-        made(&rt, "refused", "a")?.as_str(),
-        "LeftOver: a.zarrs_new is left over from a run that was broken off: remove it"
-    );
-    assert_eq!(rt;
-        made(&rt, "refused/nope", "a")?.as_str(),
-        "Failed: a.zarrs_new was not made: No such file or directory"
-    );
-    assert_eq!(rt;
-        made(&rt, "refused/zarr.json", "a")?.as_str(),
-        "Failed: a was not read: Not a directory"
-    );
-    assert_eq!(rt; text_of(&rt, "refused/a.zarrs_new").as_str(), "half");
+    for (folder, name, wanted) in REFUSED {
+        is_same(made(&rt, folder, name), wanted)?;
+    }
+    holds(&rt, "refused/a.zarrs_new", "half")?;
     fs::remove_dir_all(&rt, "refused")?;
     Ok(())
 }

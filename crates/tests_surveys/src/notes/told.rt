@@ -1,10 +1,13 @@
 //! What is told of a node that was read from a store.
 
+use crate::failing::is_same;
 use std::alloc::{AllocError, Global};
 use std::test::Fail;
-use tests_fixtures::{document_of, key_of, metadata_in, version_of};
+use tests_fixtures::{document_of, key_of, version_of};
 use tests_support::{check_rows, fields, said};
 use zarrs_block::NodeCreateError;
+use zarrs_config::MetadataRetrieveVersion;
+use zarrs_node::Node;
 use zarrs_notes::{NodeFile, NodeFinding, laws, node_findings};
 use zarrs_path::NodePath;
 use zarrs_store::{
@@ -22,16 +25,30 @@ pub(crate) fn store_in(alloc: Global, list: &str) -> Result<MemoryStore, Storage
     Ok(store)
 }
 
-// What is told of the node at a path of a store, by a version: a place is both, with a blank between them.
+// What is told of the node at a path of a store, by a version.
+fn told_at<S: ReadableStorageTraits>(
+    alloc: Global,
+    store: &S,
+    path: &NodePath,
+    version: MetadataRetrieveVersion,
+) -> Result<String, AllocError> {
+    let metadata = Node::get_metadata(alloc, store, path, &version);
+    said(alloc, metadata, |metadata, alloc| {
+        let found = node_findings(alloc, store, path, metadata);
+        said(alloc, found, told_text)
+    })
+}
+
+// The same of a place, which is a version and a path with a blank between them.
 fn told<S: ReadableStorageTraits>(
     alloc: Global,
     store: &S,
     place: &str,
-) -> Result<Vec<NodeFinding>, NodeCreateError> {
+) -> Result<String, NodeCreateError> {
     let (version, path) = place.split_once(' ').unwrap_or((place, ""));
-    let metadata = metadata_in(alloc, store, path, version_of(alloc, version)?)?;
+    let version = version_of(alloc, version)?;
     let path = NodePath::new(alloc, path)?;
-    Ok(node_findings(alloc, store, &path, &metadata)?)
+    Ok(told_at(alloc, store, &path, version)?)
 }
 
 /// A line for each finding; a note is marked.
@@ -146,8 +163,7 @@ any / | zarr.json {"node_type":"group","zarr_format":3,"x":1};zarr.json.zarrs_ne
 
 fn told_in_whole(alloc: Global, given: &str) -> Result<String, NodeCreateError> {
     let (place, documents) = fields(given);
-    let store = store_in(alloc, documents)?;
-    Ok(said(alloc, told(alloc, &store, place), told_text)?)
+    told(alloc, &store_in(alloc, documents)?, place)
 }
 
 #[test]
@@ -172,8 +188,7 @@ any / | .zarray {"zarr_format":2,"shape":[1,1],"chunks":[1],"dtype":"|i1","fill_
 fn told_in_any(alloc: Global, given: &str) -> Result<String, NodeCreateError> {
     let (place, documents) = fields(given);
     let inner = store_in(alloc, documents)?;
-    let store = AnyNumbers { inner };
-    Ok(said(alloc, told(alloc, &store, place), told_text)?)
+    told(alloc, &AnyNumbers { inner }, place)
 }
 
 #[test]
@@ -184,15 +199,14 @@ fn fractions_change_nothing(rt: HostRuntime) -> Result<(), Fail> {
 // ---- documents, and the laws
 
 #[test]
-fn documents_have_their_names(rt: HostRuntime) -> Result<(), Fail> {
-    assert_eq!(rt; NodeFile::ZarrJson.name(), "zarr.json");
-    assert_eq!(rt; NodeFile::Zarray.name(), ".zarray");
-    assert_eq!(rt; NodeFile::Zgroup.name(), ".zgroup");
-    assert_eq!(rt; NodeFile::Zattrs.name(), ".zattrs");
-    assert_eq!(rt; NodeFile::Zmetadata.name(), ".zmetadata");
-    assert_eq!(rt; NodeFile::NewZarrJson.name(), "zarr.json.zarrs_new");
-    assert_eq!(rt; NodeFile::NewZmetadata.name(), ".zmetadata.zarrs_new");
-    Ok(())
+fn documents_have_their_names(_rt: HostRuntime) -> Result<(), Fail> {
+    is_same(NodeFile::ZarrJson.name(), "zarr.json")?;
+    is_same(NodeFile::Zarray.name(), ".zarray")?;
+    is_same(NodeFile::Zgroup.name(), ".zgroup")?;
+    is_same(NodeFile::Zattrs.name(), ".zattrs")?;
+    is_same(NodeFile::Zmetadata.name(), ".zmetadata")?;
+    is_same(NodeFile::NewZarrJson.name(), "zarr.json.zarrs_new")?;
+    is_same(NodeFile::NewZmetadata.name(), ".zmetadata.zarrs_new")
 }
 
 #[test]

@@ -1,9 +1,10 @@
 //! What becomes of the document that holds the block of a group, and what stands there once that is done.
 
+use crate::same::is_same;
 use log::sink::Discard;
 use std::alloc::{AllocError, Global};
 use std::test::Fail;
-use tests_support::{check_rows, fields, refusal};
+use tests_support::{check_rows, fields, refusal, said};
 use zarrs_config::Config;
 use zarrs_consolidate::{Plan, Task, laws, plan_block, plan_in_folder};
 use zarrs_group::Group;
@@ -45,60 +46,101 @@ fn shown(alloc: Global, document: &Option<Vec<u8>>) -> Result<String, AllocError
     }
 }
 
+// What carrying out a plan answers over a folder in memory.
+fn done_of(plan: &Plan, alloc: Global, place: &mut MemoryPlace) -> Result<String, AllocError> {
+    match plan.carry_out(alloc, place) {
+        Ok(done) => format!(in alloc; "{done:?}"),
+        Err(error) => refusal(alloc, &error),
+    }
+}
+
+// What a plan says, beside what carrying it out answered.
+fn line_of(plan: &Plan, alloc: Global, done: &str) -> Result<String, AllocError> {
+    let (key, nodes, name) = (plan.key.as_str(), plan.nodes, plan.name);
+    let is_change = plan.is_change();
+    let new = shown(alloc, &plan.new)?;
+    format!(in alloc; "{key} {name} {nodes} {is_change} {done} {new}")
+}
+
+// Appends the names of the files of a folder, with those marked that have the bytes of a plan.
+fn push_files(plan: &Plan, text: &mut String, place: &MemoryPlace) -> Result<(), AllocError> {
+    for (name, bytes) in place.files() {
+        let mark = if plan.new.as_deref() == Some(bytes.as_slice()) {
+            " as planned"
+        } else {
+            ""
+        };
+        write!(text, " | {name}{mark}")?;
+    }
+    Ok(())
+}
+
 // What a plan says, and what stands in a folder in memory once it is carried out.
-fn said_of(alloc: Global, plan: &Plan) -> Result<String, AllocError> {
+fn said_of(plan: &Plan, alloc: Global) -> Result<String, AllocError> {
     let mut place = MemoryPlace::new(alloc);
     if let Some(old) = &plan.old {
         place.put(plan.name, old.as_slice())?;
     }
-    let done = match plan.carry_out(alloc, &mut place) {
-        Ok(done) => format!(in alloc; "{done:?}")?,
-        Err(error) => refusal(alloc, &error)?,
-    };
-    let (key, nodes, name) = (plan.key.as_str(), plan.nodes, plan.name);
-    let new = shown(alloc, &plan.new)?;
-    let is_change = plan.is_change();
-    let mut text = format!(in alloc; "{key} {name} {nodes} {is_change} {done} {new}")?;
-    for (name, bytes) in place.files() {
-        text.push_str(" | ")?;
-        text.push_str(name.as_str())?;
-        if plan.new.as_deref() == Some(bytes.as_slice()) {
-            text.push_str(" as planned")?;
-        }
-    }
+    let done = done_of(plan, alloc, &mut place)?;
+    let mut text = line_of(plan, alloc, done.as_str())?;
+    push_files(plan, &mut text, &place)?;
     Ok(text)
 }
 
-// The plan of a task over the files of a list, by a folder.
-fn planned(alloc: Global, given: &str) -> Result<String, AllocError> {
+// How a plan is made: of a folder, of a store of any numbers, or of a store of whole numbers.
+#[derive(Clone, Copy, Drop)]
+enum Of {
+    Folder,
+    Store,
+    Whole,
+}
+
+// The plan of a task over a store.
+fn plan_of(
+    alloc: Global,
+    of: Of,
+    task: Task,
+    mut inner: MemoryStore,
+    base: &NodePath,
+) -> Result<String, AllocError> {
+    match of {
+        Of::Folder => {
+            let plan = plan_in_folder(&Discard, alloc, task, &mut inner, base);
+            said(alloc, plan, said_of)
+        }
+        Of::Store => {
+            let plan = plan_block(&Discard, alloc, task, &AnyNumbers { inner }, base);
+            said(alloc, plan, said_of)
+        }
+        Of::Whole => said(
+            alloc,
+            plan_block(&Discard, alloc, task, &inner, base),
+            said_of,
+        ),
+    }
+}
+
+// The plan of a task over the files of a list.
+fn plan_given(alloc: Global, of: Of, given: &str) -> Result<String, AllocError> {
     let (task, rest) = fields(given);
     let (path, files) = fields(rest);
-    let Ok(mut store) = store_of(alloc, files) else {
-        return String::from_str(alloc, "no store");
-    };
     let Ok(base) = NodePath::new(alloc, path) else {
         return String::from_str(alloc, "no path");
     };
-    match plan_in_folder(&Discard, alloc, task_of(task), &mut store, &base) {
-        Ok(plan) => said_of(alloc, &plan),
-        Err(error) => refusal(alloc, &error),
+    match store_of(alloc, files) {
+        Ok(store) => plan_of(alloc, of, task_of(task), store, &base),
+        Err(_) => String::from_str(alloc, "no store"),
     }
+}
+
+// The plan by a folder.
+fn planned(alloc: Global, given: &str) -> Result<String, AllocError> {
+    plan_given(alloc, Of::Folder, given)
 }
 
 // The same plan over the store itself.
 fn planned_over_store(alloc: Global, given: &str) -> Result<String, AllocError> {
-    let (task, rest) = fields(given);
-    let (path, files) = fields(rest);
-    let Ok(inner) = store_of(alloc, files) else {
-        return String::from_str(alloc, "no store");
-    };
-    let Ok(base) = NodePath::new(alloc, path) else {
-        return String::from_str(alloc, "no path");
-    };
-    match plan_block(&Discard, alloc, task_of(task), &AnyNumbers { inner }, &base) {
-        Ok(plan) => said_of(alloc, &plan),
-        Err(error) => refusal(alloc, &error),
-    }
+    plan_given(alloc, Of::Store, given)
 }
 
 // The task, the path and the files; the key and the name of the document, the number of nodes, whether something changes, how the plan ends, what is to stand
@@ -152,18 +194,7 @@ write | / | zarr.json {"zarr_format":3,"node_type":"group"};a/zarr.json {"zarr_f
 
 // The plan over a store whose documents hold whole numbers only.
 fn planned_whole(alloc: Global, given: &str) -> Result<String, AllocError> {
-    let (task, rest) = fields(given);
-    let (path, files) = fields(rest);
-    let Ok(store) = store_of(alloc, files) else {
-        return String::from_str(alloc, "no store");
-    };
-    let Ok(base) = NodePath::new(alloc, path) else {
-        return String::from_str(alloc, "no path");
-    };
-    match plan_block(&Discard, alloc, task_of(task), &store, &base) {
-        Ok(plan) => said_of(alloc, &plan),
-        Err(error) => refusal(alloc, &error),
-    }
+    plan_given(alloc, Of::Whole, given)
 }
 
 #[test]
@@ -179,9 +210,8 @@ fn a_group_is_made_at_a_path(rt: HostRuntime) -> Result<(), Fail> {
     };
     let metadata = GroupMetadata::V3(GroupMetadataV3::new(alloc));
     let group = Group::at(path, metadata, &Config::new());
-    assert_eq!(rt;
-        group.to_text(alloc)?.as_str(),
-        r#"group at /a/b with metadata {"node_type":"group","zarr_format":3}"#
-    );
-    Ok(())
+    is_same(
+        group.to_text(alloc),
+        r#"group at /a/b with metadata {"node_type":"group","zarr_format":3}"#,
+    )
 }

@@ -1,10 +1,9 @@
 //! That a table fails of which one row is not answered as it wants, since every other test stands on that.
 
-use crate::answers::variants;
-use crate::{check_rows, complaint, fields, printed, said};
 use std::alloc::{AllocError, Global};
 use std::fmt;
 use std::test::Fail;
+use tests_support::{check_rows, complaint, fields, printed, refusal, said};
 
 // What is given, with each `/` as the end of a line; no answer to `none`.
 fn same(alloc: Global, given: &str) -> Result<String, AllocError> {
@@ -164,6 +163,30 @@ the same words> Alone: the same words => the same words in place of the same wor
 #[test]
 fn a_row_fails_that_has_the_right_words_of_another_variant(rt: HostRuntime) -> Result<(), Fail> {
     check_rows(rt.alloc(), WRONG, wrong_refusal)
+}
+
+// A value of which `{:?}` writes this, and which has no words.
+#[derive(Drop)]
+struct Shown<'a> {
+    text: &'a str,
+}
+
+impl fmt::Debug for Shown<'_> {
+    fn fmt<W: fmt::Write>(&self, f: &mut fmt::Formatter<W>) -> fmt::Result {
+        f.write_str(self.text)
+    }
+}
+
+impl fmt::Display for Shown<'_> {
+    fn fmt<W: fmt::Write>(&self, _f: &mut fmt::Formatter<W>) -> fmt::Result {
+        Ok(())
+    }
+}
+
+// The variants of a value of which `{:?}` writes a text: its refusal without the colon before its words.
+fn variants(alloc: Global, text: &str) -> Result<String, AllocError> {
+    let text = refusal(alloc, &Shown { text })?;
+    String::from_str(alloc, text.strip_suffix(": ").unwrap_or("no colon"))
 }
 
 // What `{:?}` writes of values, and the variants that they are.
