@@ -2,7 +2,7 @@
 
 use crate::conversion_tables::written;
 use crate::documents::agreed;
-use crate::given::{members_of, number_of, value_of};
+use crate::given::{members_of, number_of, object_of, value_of};
 use serde_json::{Map, Value};
 use std::alloc::{AllocError, Global};
 use std::test::Fail;
@@ -447,17 +447,32 @@ fn member_at(alloc: Global) -> Result<String, MetadataFault> {
     Ok(out)
 }
 
-// A list of extensions that stands one level deep.
-fn extensions_at(alloc: Global) -> Result<String, MetadataFault> {
-    let text =
-        r#"["a",{"name":"b"},{"name":"c","configuration":{"k":[]},"must_understand":false}]"#;
+// A list that stands one level deep.
+fn list_at<T: Form + Drop>(alloc: Global, text: &str) -> Result<String, MetadataFault> {
     let mut out = String::new(alloc);
-    let found: Option<List<MetadataV3>> = List::read(alloc, value_of(alloc, text)?)?;
-    if let Some(extensions) = found {
-        extensions.write_at(alloc, &mut out, 1)?;
+    let found: Option<List<T>> = List::read(alloc, value_of(alloc, text)?)?;
+    if let Some(list) = found {
+        list.write_at(alloc, &mut out, 1)?;
     }
     Ok(out)
 }
+
+// A codec made by hand, which stands one level deep: its configuration has a member of the name that the codec's own member has.
+fn codec_at(alloc: Global) -> Result<String, MetadataFault> {
+    let codec = MetadataV2 {
+        id: Text::from_str(alloc, "a")?,
+        configuration: object_of(alloc, r#"{"ic":1,"id":{"k":2},"ie":3}"#)?,
+    };
+    let mut out = String::new(alloc);
+    codec.write_at(alloc, &mut out, 1)?;
+    Ok(out)
+}
+
+const EXTENSIONS: &str =
+    r#"["a",{"name":"b"},{"name":"c","configuration":{"k":[]},"must_understand":false}]"#;
+
+const CODECS: &str =
+    r#"[{"id":"a","k":[],"b":{"c":1},"i":2,"ide":null},{"id":"b\n"},{"a":0,"id":"c"},{"z":0,"id":"d"}]"#;
 
 // The table with these rows, or another text in the pretty layout.
 fn written_table(alloc: Global, given: &str) -> Result<String, MetadataFault> {
@@ -467,7 +482,9 @@ fn written_table(alloc: Global, given: &str) -> Result<String, MetadataFault> {
         "absent rows" => Ok(table_of_absent(alloc)?),
         "rows one level deep" => Ok(table_at(alloc)?),
         "a member seven levels deep" => member_at(alloc),
-        "extensions one level deep" => extensions_at(alloc),
+        "extensions one level deep" => list_at::<MetadataV3>(alloc, EXTENSIONS),
+        "codecs one level deep" => list_at::<MetadataV2>(alloc, CODECS),
+        "a codec with another id" => codec_at(alloc),
         _ => Ok(String::from_str(alloc, "no such table")?),
     }
 }
@@ -481,6 +498,8 @@ absent rows => {"c\\n":3,"d":false}
 rows one level deep => {\n    "b\\"": 1,\n    "d": true,\n    "e": "x\\"y"\n  }
 a member seven levels deep => ,\n              "k\\n": {\n                "a": [\n                  -1\n                ],\n                "b": {}\n              }
 extensions one level deep => [\n    "a",\n    "b",\n    {\n      "configuration": {\n        "k": []\n      },\n      "must_understand": false,\n      "name": "c"\n    }\n  ]
+codecs one level deep => [\n    {\n      "b": {\n        "c": 1\n      },\n      "i": 2,\n      "id": "a",\n      "ide": null,\n      "k": []\n    },\n    {\n      "id": "b\\n"\n    },\n    {\n      "a": 0,\n      "id": "c"\n    },\n    {\n      "id": "d",\n      "z": 0\n    }\n  ]
+a codec with another id => {\n    "ic": 1,\n    "id": "a",\n    "ie": 3\n  }
 "#;
 
 #[test]

@@ -18,6 +18,21 @@ neither false b e = (refl, e)
 pub same_text : (k l : List ℕ) → slice_cmp nat_cmp k l ≡ Equal → k ≡ l
 same_text k l e = (bytes_eq-Decides k l).0 (sym (is_eq-slice_cmp k l) ∙ ap is_eq e)
 
+-- ---- where a member is put
+
+-- before a first member whose name is greater
+pub put_before : (k l : List ℕ) (d e : Data) (ms : Members) → slice_cmp nat_cmp k l ≡ Less → put k d (member l e ms) ≡ member k d (member l e ms)
+put_before k l d e ms o = ap (λ r. match_ordering r (member k d (member l e ms)) (member l d ms) (member l e (put k d ms))) o
+
+-- in the place of a first member of the name
+pub put_over : (k l : List ℕ) (d e : Data) (ms : Members) → slice_cmp nat_cmp k l ≡ Equal → put k d (member l e ms) ≡ member k d ms
+put_over k l d e ms o =
+    ap (λ r. match_ordering r (member k d (member l e ms)) (member l d ms) (member l e (put k d ms))) o ∙ ap (λ n. member n d ms) (sym (same_text k l o))
+
+-- behind a first member whose name is smaller
+pub put_behind : (k l : List ℕ) (d e : Data) (ms : Members) → slice_cmp nat_cmp k l ≡ Greater → put k d (member l e ms) ≡ member l e (put k d ms)
+put_behind k l d e ms o = ap (λ r. match_ordering r (member k d (member l e ms)) (member l d ms) (member l e (put k d ms))) o
+
 -- ---- floats
 
 -- a value without fractions brings in none, whether it is put before a member, in its place or behind it

@@ -19,6 +19,11 @@ member_pushed_at n old a new later k d ms key value =
     ap (λ s. s ++ members_at true n ms) (value ∙ ap (λ s. s ++ text_at (n + 1) d) key)
     ∙ regroup_member old (comma_if later) (line (n + 1)) (quoted k) (text_at (n + 1) d) (members_at true n ms)
 
+-- a key and its value, and then the members that are left
+pub members_pushed_at : (n : ℕ) (old a b new : List ℕ) (later : Bool) (k : List ℕ) (d : Data) (ms : Members) → a ≡ old ++ key_at later (n + 1) k → b ≡ a ++ text_at (n + 1) d → new ≡ b ++ members_at true n ms
+    → new ≡ old ++ members_at later n (member k d ms)
+members_pushed_at n old a b new later k d ms key value left = left ∙ member_pushed_at n old a b later k d ms key value
+
 -- a comma, a line, an item and more stand together behind what was there
 regroup_item : (old c l t r : List ℕ) → (((old ++ c) ++ l) ++ t) ++ r ≡ old ++ (c ++ (l ++ (t ++ r)))
 regroup_item old c l t r = simp append_assoc

@@ -5,7 +5,7 @@ ghost use Rattle.zarrs_form.specs.FormsV2.{codec, codec_data, codec_fits};
 
 use crate::form::Form;
 use crate::members::{put_text, take_member};
-use crate::pretty::write_value_at;
+use crate::pretty::write_members_with_at;
 use crate::shapes::{Object, Text};
 use crate::text::write_value;
 use serde_json::Value;
@@ -61,6 +61,7 @@ impl Form for MetadataV2 {
     }
 
     fn write_at(&self, alloc: Global, out: &mut String, level: usize) -> Result<(), AllocError> {
-        write_value_at(alloc, out, level, &self.to_value(alloc)?)
+        let members = self.configuration.as_slice();
+        write_members_with_at(alloc, out, level, members, "id", self.id.as_str())
     }
 }

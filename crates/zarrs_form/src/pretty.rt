@@ -2,7 +2,7 @@
 ghost use Rattle.std.specs.Prelude.{◌≡◌, ◌++◌, ◌+◌, decimal, false, option_map, string_bytes, IfOk, OnOk};
 ghost use Rattle.std.specs.Option.{option_copied};
 ghost use Rattle.json.specs.Layout.{line};
-ghost use Rattle.serde_json.specs.Data.{array, member, no_members, object};
+ghost use Rattle.serde_json.specs.Data.{array, member, no_members, object, put, string};
 ghost use Rattle.serde_json.specs.View.{view, items_view, members_view};
 ghost use Rattle.serde_json.specs.Written.{has_float, items_have_float, members_have_float};
 ghost use Rattle.zarrs_form.specs.Forms as forms;
@@ -12,6 +12,7 @@ use crate::form::Form;
 use crate::text::{write_comma, write_text, write_value};
 use serde_json::{Map, Value};
 use std::alloc::{AllocError, Global};
+use std::cmp::Ordering;
 
 /// Appends a member of an object that stands one level deep, in the pretty layout: a comma where a member stands before it, a line of
 /// its own, the name in quotes, a colon, a space and the value.
@@ -142,7 +143,6 @@ fn write_map_at(
 }
 
 /// Appends the pretty text of an object whose members stand in a slice.
-#[tactic(auto, using(crate::proofs::PrettyRows::member_pushed_at))]
 pub(crate) fn write_members_at(
     alloc: Global,
     out: &mut String,
@@ -153,9 +153,62 @@ pub(crate) fn write_members_at(
         → string_bytes out.new
         ≡ string_bytes out.old ++ text_at level (object (members_view members.now))) }
 {
+    out.push_str("{")?;
+    write_left_at(alloc, out, false, level, members)
+}
+
+/// Appends the pretty text of an object whose members stand in a slice, with a text put as the member of that name.
+pub(crate) fn write_members_with_at(
+    alloc: Global,
+    out: &mut String,
+    level: usize,
+    members: &[(String, Value)],
+    name: &str,
+    text: &str,
+) -> Result<(), AllocError>
+    ensures ok { OnOk result
+        (members_have_float (put name.now (string text.now) (members_view members.now)) ≡ false
+        → string_bytes out.new ≡ string_bytes out.old
+        ++ text_at level (object (put name.now (string text.now) (members_view members.now)))) }
+{
     let inner = deeper(level)?;
     out.push_str("{")?;
     let mut later = false;
+    for (place, member) in members.iter().enumerate() {
+        let behind = match name.cmp(member.0.as_str()) {
+            Ordering::Less => place,
+            Ordering::Equal => place + 1,
+            Ordering::Greater => {
+                write_key_at(alloc, out, later, inner, member.0.as_str())?;
+                write_value_at(alloc, out, inner, &member.1)?;
+                later = true;
+                continue;
+            }
+        };
+        write_key_at(alloc, out, later, inner, name)?;
+        write_text(alloc, out, text)?;
+        return write_left_at(alloc, out, true, level, &members[behind..]);
+    }
+    write_key_at(alloc, out, later, inner, name)?;
+    write_text(alloc, out, text)?;
+    write_left_at(alloc, out, true, level, &[])
+}
+
+/// Appends the members that are left of an object that stands so many levels deep, and its brace.
+#[tactic(auto, using(crate::proofs::PrettyRows::member_pushed_at))]
+fn write_left_at(
+    alloc: Global,
+    out: &mut String,
+    later: bool,
+    level: usize,
+    members: &[(String, Value)],
+) -> Result<(), AllocError>
+    ensures ok { OnOk result (members_have_float (members_view members.now) ≡ false
+        → string_bytes out.new
+        ≡ string_bytes out.old ++ members_at later level (members_view members.now)) }
+{
+    let inner = deeper(level)?;
+    let mut later = later;
     for member in members {
         write_key_at(alloc, out, later, inner, member.0.as_str())?;
         write_value_at(alloc, out, inner, &member.1)?;

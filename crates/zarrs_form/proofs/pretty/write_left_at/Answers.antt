@@ -6,7 +6,7 @@ use Rattle.serde_json.specs.Written.{has_float, members_have_float}
 use Rattle.serde_json.proofs.Views.{Entry}
 use Rattle.zarrs_form.specs.Pretty.{key_at, members_at, text_at}
 use Rattle.zarrs_form.proofs.PrettyRows.{member_pushed_at}
-use Rattle.zarrs_form.proofs.pretty.write_members_at.Goals as goal
+use Rattle.zarrs_form.proofs.pretty.write_left_at.Goals as goal
 
 pub loop-member-preserved : goal.loop-member-preserved
 loop-member-preserved c = λ whole.
