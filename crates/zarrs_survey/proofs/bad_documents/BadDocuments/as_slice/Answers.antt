@@ -1,6 +1,0 @@
-use Rattle.std.proofs.Common.{subst}
-use Rattle.zarrs_survey.specs.Apart.{AreApart}
-use Rattle.zarrs_survey.proofs.bad_documents.BadDocuments.as_slice.Goals as goal
-
-pub returns-clause-apart : goal.returns-clause-apart
-returns-clause-apart c = subst AreApart c.self.view_is c.self.invariant

@@ -1,5 +1,0 @@
-use Rattle.zarrs_survey.proofs.AgreeingBlocks.{good_blocks_agree}
-use Rattle.zarrs_survey.proofs.laws.good_blocks_agree.Goals as goal
-
-pub returns : goal.returns
-returns c = good_blocks_agree

@@ -1,5 +1,0 @@
-use Rattle.zarrs_survey.proofs.LawProofs.{groups_are_surveyed}
-use Rattle.zarrs_survey.proofs.laws.groups_are_surveyed.Goals as goal
-
-pub returns : goal.returns
-returns c = groups_are_surveyed

@@ -1,5 +1,0 @@
-use Rattle.zarrs_survey.proofs.LawProofs.{nothing_bad_is_told}
-use Rattle.zarrs_survey.proofs.laws.nothing_bad_is_told.Goals as goal
-
-pub returns : goal.returns
-returns c = nothing_bad_is_told

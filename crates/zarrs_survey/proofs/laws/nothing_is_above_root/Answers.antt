@@ -1,5 +1,0 @@
-use Rattle.zarrs_survey.proofs.GroupsAbove.{nothing_is_above_root}
-use Rattle.zarrs_survey.proofs.laws.nothing_is_above_root.Goals as goal
-
-pub returns : goal.returns
-returns c = nothing_is_above_root

@@ -1,5 +1,0 @@
-use Rattle.zarrs_survey.proofs.LostPaths.{nothing_is_lost}
-use Rattle.zarrs_survey.proofs.laws.nothing_is_lost.Goals as goal
-
-pub returns : goal.returns
-returns c = nothing_is_lost

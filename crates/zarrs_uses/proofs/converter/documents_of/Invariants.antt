@@ -1,7 +1,0 @@
-use Rattle.std.proofs.Common.{take, Contains}
-use Rattle.zarrs_node.specs.MapsOfNodes.{AreDocumentsOf}
-use Rattle.zarrs_uses.specs.Conversions.{node_v3}
-use Rattle.zarrs_uses.proofs.converter.documents_of.Given as goal
-
-abbrev pub invariant-loop-path : goal.invariant-loop-path
-invariant-loop-path g l = AreDocumentsOf node_v3 (Contains (take l.path-index l.nodes)) l.documents.items

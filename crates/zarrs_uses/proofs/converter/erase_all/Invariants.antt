@@ -1,8 +1,0 @@
-use Rattle.std.proofs.Common.{◌≡◌, take}
-use Rattle.zarrs_node.specs.MapsOfNodes.{without_keys}
-use Rattle.zarrs_uses.proofs.converter.erase_all.Given as goal
-
-abbrev pub invariant-loop-key : goal.invariant-loop-key
-invariant-loop-key g l =
-    (g.S.Store.can_fail l.storage ≡ g.S.Store.can_fail l.fn.storage)
-    × (g.S.Store.contents l.storage ≡ without_keys (g.S.Store.contents l.fn.storage) (take l.key-index l.keys))

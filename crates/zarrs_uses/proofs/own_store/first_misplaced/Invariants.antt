@@ -1,5 +1,0 @@
-use Rattle.zarrs_uses.proofs.OwnStores.{HasSteps}
-use Rattle.zarrs_uses.proofs.own_store.first_misplaced.Given as goal
-
-abbrev pub invariant-loop-at : goal.invariant-loop-at
-invariant-loop-at l = HasSteps l.entries l.at
