@@ -14,7 +14,7 @@ use Rattle.zarrs_block.proofs.SmallStores.{same_key}
 use Rattle.zarrs_node.specs.Nodes.{Nodes}
 use Rattle.zarrs_node.specs.Forest.{Forest, none, tree, pairs, Shows, IsPlaced}
 use Rattle.zarrs_node.specs.Lines.{IsLines}
-use Rattle.zarrs_node.proofs.Keys.{means_or_nothing}
+use Rattle.zarrs_node.proofs.walk.Keys.{means_or_nothing}
 use Rattle.zarrs_node.proofs.LawProofs.{listing_is_lines}
 use Rattle.tests_definitions.proofs.Stores.{Entries, key_is_had}
 use Rattle.tests_definitions.proofs.Meanings.{a, plain_group}

@@ -13,8 +13,8 @@ use zarrs_block::NodeCreateError;
 use zarrs_config::MetadataRetrieveVersion;
 use zarrs_meta::NodeMetadata;
 use zarrs_node::{
-    Node, get_all_nodes_of, get_child_nodes, get_child_nodes_opt, get_child_paths,
-    get_child_paths_opt, laws, walk_child_nodes, warn_ignored,
+    LISTING, Node, get_all_nodes_of, get_child_nodes, get_child_nodes_opt, get_child_paths,
+    get_child_paths_opt, laws, walk_nodes, warn_ignored,
 };
 use zarrs_path::{NodePath, meta_key_v3};
 use zarrs_store::{MemoryStore, WritableStorageTraits};
@@ -22,7 +22,7 @@ use zarrs_store::{MemoryStore, WritableStorageTraits};
 // The version of `zarr.json` alone.
 const V3: MetadataRetrieveVersion = MetadataRetrieveVersion::V3;
 
-// The paths that a walk hands to a list of them.
+// The paths that a walk hands to a list of them, where what it passes over is warned of.
 fn walked<L: Log>(
     log: &L,
     alloc: Global,
@@ -30,7 +30,8 @@ fn walked<L: Log>(
     base: &NodePath,
 ) -> Result<Vec<NodePath>, NodeCreateError> {
     let mut paths = Vec::new(alloc);
-    walk_child_nodes(log, alloc, store, base, true, &ANY, &mut paths)?;
+    let ignored = walk_nodes(alloc, store, base, true, &ANY, &mut paths)?;
+    warn_ignored(log, LISTING, &ignored);
     Ok(paths)
 }
 

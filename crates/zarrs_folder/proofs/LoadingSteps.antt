@@ -20,7 +20,7 @@ use Rattle.zarrs_block.specs.Meaning.{Meaning, meaning, node}
 use Rattle.zarrs_node.specs.Reach.{HasGroup}
 use Rattle.zarrs_node.specs.Nodes.{MeansNode, IsListed}
 use Rattle.zarrs_node.specs.MapsOfNodes.{StandsFrom}
-use Rattle.zarrs_node.proofs.MapsShown.{same_node}
+use Rattle.zarrs_node.proofs.maps.MapsShown.{same_node}
 use Rattle.zarrs_folder.specs.Folders.{in_any, values_of, NoneIsBelow}
 use Rattle.zarrs_folder.specs.PrunedStores.{Grows, HasBaseOf, HasLoaded, HasNoOtherKeys, HasSameFile, HasSameFiles, IsLoadedFrom, IsPruned, files_in, node_files}
 use Rattle.zarrs_folder.specs.StepsOfLoadingNodes.{IsAhead, IsLoadedButAhead}

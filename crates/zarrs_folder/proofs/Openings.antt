@@ -26,7 +26,7 @@ use Rattle.zarrs_node.specs.MapsOfNodes.{StandsFrom, NodesFrom}
 use Rattle.zarrs_node.specs.Nodes.{Bad, HasBadDocument, Nodes}
 use Rattle.zarrs_node.specs.OpeningNodes.{choice, ShowsChosen, IsCleanChosen, RefusesChosen, RefusesBelow, RefusesNode}
 use Rattle.zarrs_node.proofs.ListedItems.{lists_from, listed_each}
-use Rattle.zarrs_node.proofs.MapsShown.{same_node}
+use Rattle.zarrs_node.proofs.maps.MapsShown.{same_node}
 use Rattle.zarrs_folder.specs.PrunedStores.{HasBaseOf, IsArrayAt}
 use Rattle.zarrs_folder.specs.Laws.{ShowSame, ShowSameNodes}
 use Rattle.zarrs_folder.specs.Openings.{ListSame, OpenSame, ShowBelowSame, ShownListSame, ListedBlockIsSame, ShownOpenSame, LoadedOpensSame, BaseOpensSame, BlockOpensSame, OpenedAnswerSame}

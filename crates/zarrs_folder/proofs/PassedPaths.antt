@@ -12,10 +12,10 @@ use Rattle.zarrs_block.specs.Meaning.{Meaning, meaning, node, nothing, bad}
 use Rattle.zarrs_node.specs.MapsOfNodes.{StandsFrom}
 use Rattle.zarrs_node.specs.Nodes.{MeansNode, IsListed}
 use Rattle.zarrs_node.specs.Reach.{Reached}
-use Rattle.zarrs_node.proofs.Leads.{same_or_above}
+use Rattle.zarrs_node.proofs.blocks.Leads.{same_or_above}
 use Rattle.zarrs_node.proofs.Order.{contains_cases}
 use Rattle.zarrs_node.proofs.ForestsBeside.{Contains-first}
-use Rattle.zarrs_node.proofs.WalkSteps.{reached_deeper}
+use Rattle.zarrs_node.proofs.walk.WalkSteps.{reached_deeper}
 use Rattle.zarrs_path.proofs.NameLemmas.{name_head}
 use Rattle.zarrs_path.proofs.PathTexts.{IsPath-parts}
 use Rattle.zarrs_folder.specs.Folders.{in_any}

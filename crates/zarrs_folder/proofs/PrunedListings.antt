@@ -23,7 +23,7 @@ use Rattle.zarrs_node.specs.Changes.{document_files}
 use Rattle.zarrs_node.specs.Reach.{HasGroup, Reached, Kept}
 use Rattle.zarrs_node.specs.Nodes.{Means, IsListed, IsBadName, HasBadDocument}
 use Rattle.zarrs_node.specs.MapsOfNodes.{StandsFrom}
-use Rattle.zarrs_node.proofs.Current.{meaning_same}
+use Rattle.zarrs_node.proofs.blocks.Current.{meaning_same}
 use Rattle.zarrs_node.proofs.ForestsBeside.{Contains-first}
 use Rattle.zarrs_node.proofs.KeptPairs.{reached_between}
 use Rattle.zarrs_folder.specs.PrunedStores.{HasBaseOf, HasNoOtherKeys, HasSameFiles}

@@ -11,7 +11,7 @@ use Rattle.zarrs_block.specs.Meaning.{meaning}
 use Rattle.zarrs_node.specs.Reach.{Reached}
 use Rattle.zarrs_node.specs.Nodes.{MeansNode, IsListed, Bad}
 use Rattle.zarrs_node.specs.ListedBlocks.{IsListedBlock}
-use Rattle.zarrs_node.proofs.Current.{AtOrBelow, meaning_same}
+use Rattle.zarrs_node.proofs.blocks.Current.{AtOrBelow, meaning_same}
 use Rattle.zarrs_node.proofs.KeptPairs.{nodes_same, reached_more}
 
 -- what is at or below a base has at least as many names

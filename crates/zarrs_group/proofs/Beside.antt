@@ -34,8 +34,8 @@ use Rattle.zarrs_block.specs.Meaning.{Meaning, node, nothing, bad, version_2_lin
 use Rattle.zarrs_block.specs.Small.{small, small_meaning_in}
 use Rattle.zarrs_block.specs.Zmetadata.{before_last, documents_below, block_from, is_bad, is_good, is_version_2, small_block_in, with_node, zmetadata_members_in, zmetadata_in}
 use Rattle.zarrs_block.proofs.Expansion.{same_text}
-use Rattle.zarrs_node.proofs.Child.{node_same}
-use Rattle.zarrs_node.proofs.PairsInBlocks.{found_put}
+use Rattle.zarrs_node.proofs.walk.Child.{node_same}
+use Rattle.zarrs_node.proofs.blocks.PairsInBlocks.{found_put}
 use Rattle.zarrs_group.specs.BlocksBeside.{IsBeside}
 use Rattle.zarrs_group.specs.BlocksOfGroups.{block_beside}
 

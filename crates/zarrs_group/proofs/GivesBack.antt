@@ -47,7 +47,7 @@ use Rattle.zarrs_node.specs.Inverse.{HasNames, IsInverse}
 use Rattle.zarrs_node.specs.Reach.{Kept}
 use Rattle.zarrs_node.specs.OpeningNodes.{ShowsChosen, RefusesChosen, ShowsBelow, RefusesOpening, RefusesText, RefusesNode}
 use Rattle.zarrs_node.specs.OpeningNodes as opened
-use Rattle.zarrs_node.proofs.Child.{node_same}
+use Rattle.zarrs_node.proofs.walk.Child.{node_same}
 use Rattle.zarrs_node.proofs.ListedItems.{listed_each, lists_from}
 use Rattle.zarrs_node.proofs.Inverse.{block_gives_back, entries_are}
 use Rattle.zarrs_node.proofs.KeptPairs.{kept_same, placed_between}

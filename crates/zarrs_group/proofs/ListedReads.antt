@@ -6,7 +6,7 @@ use Rattle.zarrs_config.specs.declared.version.MetadataRetrieveVersion.{Metadata
 use Rattle.zarrs_block.specs.Block.{Block, block_of_in, block_tree}
 use Rattle.zarrs_block.proofs.BlockReads.{block_again_in}
 use Rattle.zarrs_node.specs.ListedBlocks.{IsListedBlock}
-use Rattle.zarrs_node.proofs.ListedBlocks.{listed_plain}
+use Rattle.zarrs_node.proofs.blocks.ListedBlocks.{listed_plain}
 
 -- each of its nodes could have come from a document of the store, so the block reads back
 pub listed_reads : (S : Contents) (v : MetadataRetrieveVersion) (b : Path) (B : Block) → IsListedBlock S v b B → block_of_in S.numbers (block_tree B) ≡ Ok B

@@ -30,7 +30,7 @@ use Rattle.zarrs_node.specs.ListedBlocks.{IsListedBlock}
 use Rattle.zarrs_node.specs.OpeningNodes.{choice, RefusesChosen, ShowsBelow, ShowsChosen}
 use Rattle.zarrs_node.specs.OpeningNodes as opened
 use Rattle.zarrs_node.proofs.KeptPairs.{kept_same}
-use Rattle.zarrs_node.proofs.ListedBlocks.{listed_keys, shown_alike}
+use Rattle.zarrs_node.proofs.blocks.ListedBlocks.{listed_keys, shown_alike}
 use Rattle.zarrs_node.proofs.ListedItems.{listed_each, lists_from}
 use Rattle.zarrs_group.specs.Edits.{AgreesOutsideKey, Edit, set, after, edit_key, IsCutShort}
 use Rattle.zarrs_group.specs.Groups.{group_tree, metadata_by_version}

@@ -31,7 +31,7 @@ use Rattle.zarrs_node.specs.BlocksBelow.{zmetadata_at}
 use Rattle.zarrs_node.specs.Changes.{document_files}
 use Rattle.zarrs_node.specs.ListedBlocks.{IsListedBlock}
 use Rattle.zarrs_node.specs.Nodes.{Nodes}
-use Rattle.zarrs_node.proofs.Current.{meaning_same}
+use Rattle.zarrs_node.proofs.blocks.Current.{meaning_same}
 use Rattle.zarrs_node.proofs.Inverse.{entries_are}
 use Rattle.zarrs_node.proofs.PlainMeanings.{plain_node_in}
 use Rattle.zarrs_group.specs.BlockDocuments.{IsDocumentText, document_with_block}

@@ -18,7 +18,7 @@ use Rattle.zarrs_node.specs.LastOfEqualPaths.{row, StandBelow, AreChildrenOf}
 use Rattle.zarrs_node.proofs.Unique.{Pair}
 use Rattle.zarrs_node.proofs.ForestsBeside.{Contains-first, Contains-cons}
 use Rattle.zarrs_node.proofs.ListedItems.{all_pairs_append, all_pairs_tail, all_pairs_first, lists_from}
-use Rattle.zarrs_node.proofs.Child.{contains_one}
+use Rattle.zarrs_node.proofs.walk.Child.{contains_one}
 use Rattle.zarrs_node.proofs.Order.{one_ascends, pairs_ascend}
 use Rattle.zarrs_node.proofs.LawProofs.{apart}
 use Rattle.zarrs_node.proofs.Reach.{no_room}

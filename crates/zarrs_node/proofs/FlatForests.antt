@@ -13,7 +13,7 @@ use Rattle.zarrs_node.specs.LastOfEqualPaths.{IsLatest, groups, CountsSteps}
 use Rattle.zarrs_node.specs.Order.{Ascend}
 use Rattle.zarrs_node.proofs.ForestsBeside.{Contains-first, Contains-cons}
 use Rattle.zarrs_node.proofs.ListedItems.{all_pairs_append, all_pairs_tail, all_pairs_first, listed_each, lists_from}
-use Rattle.zarrs_node.proofs.Child.{contains_one}
+use Rattle.zarrs_node.proofs.walk.Child.{contains_one}
 use Rattle.zarrs_node.proofs.Order.{contains_cases}
 use Rattle.zarrs_node.proofs.Unique.{names_irrefl}
 use Rattle.zarrs_node.proofs.Lasts.{snoc_cases, latest_in}

@@ -14,7 +14,7 @@ use Rattle.zarrs_node.specs.LastOfEqualPaths.{IsLatest}
 use Rattle.zarrs_node.specs.Order.{Ascend}
 use Rattle.zarrs_node.specs.StepsOfTrees.{DropsEqual}
 use Rattle.zarrs_node.proofs.ListedItems.{all_pairs_append, all_pairs_tail, all_pairs_first}
-use Rattle.zarrs_node.proofs.Child.{contains_one}
+use Rattle.zarrs_node.proofs.walk.Child.{contains_one}
 use Rattle.zarrs_node.proofs.OpenGroups.{last_part}
 use Rattle.zarrs_node.proofs.ForestsBeside.{Contains-first, Contains-cons}
 use Rattle.zarrs_node.proofs.Order.{one_ascends, contains_cases}

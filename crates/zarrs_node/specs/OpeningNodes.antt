@@ -27,7 +27,7 @@ use Rattle.zarrs_block.specs.Meaning.{meaning, node, nothing, bad}
 use Rattle.zarrs_node.specs.Forest.{Forest, none, Shows, path_of, metadata_of, below_of}
 use Rattle.zarrs_node.specs.declared.node.Node.{Node}
 use Rattle.zarrs_node.specs.BlocksBelow.{block_at}
-use Rattle.zarrs_node.specs.Nodes.{Nodes, HasNothingBad, ShowsBad}
+use Rattle.zarrs_node.specs.Nodes.{Nodes, Ignored, HasNothingBad, ShowsBad}
 use Rattle.zarrs_node.specs.Reach.{Kept}
 
 -- ---- by a choice of a block, of a listing, or to refuse the want of a block
@@ -52,6 +52,12 @@ abbrev pub RefusesChosen : Contents → MetadataRetrieveVersion → Choice → B
 RefusesChosen s v (use_block B) recursive b e = NamesBadKey B e
 RefusesChosen s v list_store recursive b e = ShowsBad s v recursive b e
 RefusesChosen s v refuse recursive b e = RefusesUse b refuse e
+
+-- an opening passes over the path p: one without documents, where a listing comes upon it
+abbrev pub PassesOver : Contents → MetadataRetrieveVersion → Choice → Path → Path → Type 0
+PassesOver s v (use_block B) b p = ⊥
+PassesOver s v list_store b p = Ignored s v true b p
+PassesOver s v refuse b p = ⊥
 
 -- ---- of a node
 

@@ -1,18 +1,17 @@
 //! The nodes below a path, where what is passed over is warned of.
-ghost use Rattle.std.specs.Prelude.{IfOk, IfErr, OnOk, true};
+ghost use Rattle.std.specs.Prelude.{IfOk, IfErr, true};
 ghost use Rattle.zarrs_store.specs.Contents.{Lists};
 ghost use Rattle.zarrs_block.specs.Refusals.{IsExcusedOr};
 ghost use Rattle.zarrs_node.specs.Forest.{Shows, ShowsPaths, forest};
 ghost use Rattle.zarrs_node.specs.Nodes.{Nodes, ShowsBad, HasNothingBad};
 ghost use Rattle.zarrs_block.specs.Block.{IsAscending, IsBlockOf};
 ghost use Rattle.zarrs_node.specs.Order.{Ascend};
-ghost use Rattle.zarrs_node.specs.Sinks.{TakesForest};
 
 use crate::descent::walk_nodes;
 use crate::listing::list_nodes;
 use crate::node::Node;
+use crate::paths::list_paths;
 use crate::refresh::insert_pairs;
-use crate::sink::NodeSink;
 use log::{Log, target_or, warn};
 use std::alloc::Global;
 use zarrs_block::{ConsolidatedMetadataMetadata, NodeCreateError};
@@ -20,6 +19,9 @@ use zarrs_config::MetadataRetrieveVersion;
 use zarrs_meta::NodeMetadata;
 use zarrs_path::NodePath;
 use zarrs_store::{ListableStorageTraits, ReadableStorageTraits};
+
+/// The module in whose name a listing warns, where the logging value has no target of its own.
+pub const LISTING: &str = module_path!();
 
 /// The nodes below a path, siblings ascending, by the documents of version 3 and where there is none by those of version 2.
 /// A path without documents is passed over with all below it, and warned of.
@@ -85,7 +87,7 @@ pub fn get_child_nodes_opt<L: Log, S: ReadableStorageTraits + ListableStorageTra
         (ShowsBad (S.contents storage.now) version.now recursive path.now)) }
 {
     let listed = list_nodes(alloc, storage, path, recursive, version)?;
-    warn_ignored(log, module_path!(), &listed.ignored);
+    warn_ignored(log, LISTING, &listed.ignored);
     Ok(listed.nodes)
 }
 
@@ -132,7 +134,6 @@ pub fn get_child_paths<L: Log, S: ReadableStorageTraits + ListableStorageTraits>
 /// The refusals of `get_child_nodes_opt`.
 ///
 /// Source: `zarrs::node::get_child_nodes_opt`, its nodes by their paths.
-#[tactic(auto, using(crate::proofs::SinkSteps::shown_paths))]
 pub fn get_child_paths_opt<L: Log, S: ReadableStorageTraits + ListableStorageTraits>(
     log: &L,
     alloc: Global,
@@ -150,40 +151,9 @@ pub fn get_child_paths_opt<L: Log, S: ReadableStorageTraits + ListableStorageTra
         (IsExcusedOr (S.can_fail storage.now)
         (ShowsBad (S.contents storage.now) version.now recursive path.now)) }
 {
-    let mut paths = Vec::new(alloc);
-    walk_child_nodes(log, alloc, storage, path, recursive, version, &mut paths)?;
-    Ok(paths)
-}
-
-/// Hands each node below a path to a sink, parents before children, siblings ascending, by the documents of a version.
-/// A path without documents is passed over with all below it, and warned of. After a refusal the sink has some of the nodes.
-///
-/// # Errors
-///
-/// The refusals of `get_child_nodes_opt`.
-///
-/// Source: `zarrs::node::get_child_nodes_opt`, its nodes one by one.
-pub fn walk_child_nodes<L: Log, S: ReadableStorageTraits + ListableStorageTraits, K: NodeSink>(
-    log: &L,
-    alloc: Global,
-    storage: &S,
-    path: &NodePath,
-    recursive: bool,
-    version: &MetadataRetrieveVersion,
-    sink: &mut K,
-) -> Result<(), NodeCreateError>
-    ensures takes { OnOk result
-        (TakesForest K.takes sink.old sink.new path.now
-        (Nodes (S.contents storage.now) version.now recursive path.now)) }
-    ensures clean { OnOk result
-        (HasNothingBad (S.contents storage.now) version.now recursive path.now) }
-    ensures refused { IfErr result
-        (IsExcusedOr (S.can_fail storage.now)
-        (ShowsBad (S.contents storage.now) version.now recursive path.now)) }
-{
-    let ignored = walk_nodes(alloc, storage, path, recursive, version, sink)?;
-    warn_ignored(log, module_path!(), &ignored);
-    Ok(())
+    let listed = list_paths(alloc, storage, path, recursive, version)?;
+    warn_ignored(log, LISTING, &listed.ignored);
+    Ok(listed.paths)
 }
 
 /// Warns of each path that a walk passed over: in the name of the module, where the logging value has no target of its own.
@@ -221,7 +191,8 @@ pub fn get_all_nodes_of<L: Log, S: ReadableStorageTraits + ListableStorageTraits
         (ShowsBad (S.contents storage.now) version.now true path.now)) }
 {
     let mut all = Vec::new(alloc);
-    walk_child_nodes(log, alloc, storage, path, true, version, &mut all)?;
+    let ignored = walk_nodes(alloc, storage, path, true, version, &mut all)?;
+    warn_ignored(log, LISTING, &ignored);
     Ok(all)
 }
 
@@ -233,7 +204,7 @@ pub fn get_all_nodes_of<L: Log, S: ReadableStorageTraits + ListableStorageTraits
 /// The refusals of `get_child_nodes_opt`, recursive.
 ///
 /// Source: `zarrs::node::Node::consolidate_metadata`, of what `zarrs::node::get_all_nodes_of` answers.
-#[tactic(auto, using(crate::proofs::ListedBlock::listed_below, crate::proofs::ListedBlock::listed_ascends))]
+#[tactic(auto, using(crate::proofs::blocks::ListedBlock::listed_below, crate::proofs::blocks::ListedBlock::listed_ascends))]
 pub fn consolidate_nodes_of<L: Log, S: ReadableStorageTraits + ListableStorageTraits>(
     log: &L,
     alloc: Global,

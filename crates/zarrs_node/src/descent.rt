@@ -59,7 +59,7 @@ pub fn walk_nodes<S: ReadableStorageTraits + ListableStorageTraits, K: NodeSink>
         (ShowsBad (S.contents storage.now) version.now recursive path.now)) }
 {
     let mut notes = Notes::new(alloc, false);
-    let walked = walk(alloc, storage, path, recursive, version, &mut notes, sink);
+    let walked = walk(storage, path, recursive, version, &mut notes, sink);
     drop(notes);
     walked
 }
@@ -104,15 +104,17 @@ pub fn walk_past_faults<S: ReadableStorageTraits + ListableStorageTraits, K: Nod
     ensures excused { IfErr result (IsExcused (S.can_fail storage.now)) }
 {
     let mut notes = Notes::new(alloc, true);
-    let walked = walk(alloc, storage, path, true, version, &mut notes, sink);
+    let walked = walk(storage, path, true, version, &mut notes, sink);
     let faults = notes.into_faults();
     let ignored = walked?;
     Ok(WalkedPast { ignored, faults })
 }
 
-// What a walk keeps beside what it tells: the documents that were read last, and what was bad, where it goes on past that.
+// What a walk keeps beside what it tells: where its memory comes from, the documents that were read last, and what was bad, where it goes on
+// past that.
 #[derive(Drop)]
 struct Notes {
+    alloc: Global,
     last: LastDocuments,
     goes_on: bool,
     faults: Vec<(StorePrefix, NodeFault)>,
@@ -125,6 +127,7 @@ impl Notes {
         ensures goes_on { result.goes_on ≡ goes_on }
     {
         Notes {
+            alloc,
             last: LastDocuments::new(alloc),
             goes_on,
             faults: Vec::new(alloc),
@@ -144,7 +147,6 @@ impl Notes {
 // What `walk_nodes` and `walk_past_faults` answer. The prefixes that are still to be read stand on a stack, those of one path with the first of them on
 // top.
 fn walk<S: ReadableStorageTraits + ListableStorageTraits, K: NodeSink>(
-    alloc: Global,
     storage: &S,
     path: &NodePath,
     recursive: bool,
@@ -170,6 +172,7 @@ fn walk<S: ReadableStorageTraits + ListableStorageTraits, K: NodeSink>(
         (λ e. IsFalse notes.old.goes_on
         × ShowsBad (S.contents storage.now) version.now recursive path.now e)) }
 {
+    let alloc = notes.alloc;
     let base = path.to_prefix(alloc)?;
     let mut pending = Vec::new(alloc);
     push_children(alloc, storage, &base, &mut pending)?;

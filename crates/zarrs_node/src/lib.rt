@@ -26,8 +26,8 @@ mod zmetadata;
 
 pub use build::{build_node_tree, build_node_tree_counted, direct_children_from_flat};
 pub use children::{
-    consolidate_nodes_of, get_all_nodes_of, get_child_nodes, get_child_nodes_opt, get_child_paths,
-    get_child_paths_opt, walk_child_nodes, warn_ignored,
+    LISTING, consolidate_nodes_of, get_all_nodes_of, get_child_nodes, get_child_nodes_opt,
+    get_child_paths, get_child_paths_opt, warn_ignored,
 };
 pub use descent::{WalkedPast, walk_nodes, walk_past_faults};
 pub use exists::{node_exists, node_exists_listable};

@@ -10,7 +10,8 @@ ghost use Rattle.zarrs_node.specs.Reach.{Kept};
 ghost use Rattle.zarrs_node.specs.OpeningNodes.{choice, ShowsChosen, IsCleanChosen, RefusesChosen, ShowsNode, IsCleanNode, RefusesOpening};
 
 use crate::build::{build_ascending, direct_children_from_flat};
-use crate::children::get_child_nodes_opt;
+use crate::children::{LISTING, warn_ignored};
+use crate::listing::{ListedNodes, list_nodes};
 use crate::node::Node;
 use crate::zmetadata::consolidated_metadata_at;
 use log::Log;
@@ -107,30 +108,29 @@ impl Node {
     {
         let path = NodePath::new(alloc, path)?;
         let metadata = Node::get_metadata(alloc, storage, &path, version)?;
-        let children = if metadata.is_group() {
-            nodes_below(log, alloc, storage, &path, &metadata, version, config)?
-        } else {
-            Vec::new(alloc)
-        };
-        Ok(Node::new_with_metadata(path, metadata, children))
+        if !metadata.is_group() {
+            return Ok(Node::new_with_metadata(path, metadata, Vec::new(alloc)));
+        }
+        let below = nodes_below(alloc, storage, &path, &metadata, version, config)?;
+        warn_ignored(log, LISTING, &below.ignored);
+        Ok(Node::new_with_metadata(path, metadata, below.nodes))
     }
 }
 
-// The nodes below the path of a group with these metadata, by its block or by a listing.
+// The nodes below the path of a group with these metadata, by its block or by a listing, and the paths that a listing passed over.
 #[tactic(auto, using(crate::proofs::OpenedNodes::block_excused))]
-fn nodes_below<L: Log, S: ReadableStorageTraits + ListableStorageTraits>(
-    log: &L,
+fn nodes_below<S: ReadableStorageTraits + ListableStorageTraits>(
     alloc: Global,
     storage: &S,
     path: &NodePath,
     metadata: &NodeMetadata,
     version: &MetadataRetrieveVersion,
     config: &Config,
-) -> Result<Vec<Node>, NodeCreateError>
+) -> Result<ListedNodes, NodeCreateError>
     ensures shows { IfOk result
-        (λ nodes. ShowsChosen (S.contents storage.now) version.now
+        (λ below. ShowsChosen (S.contents storage.now) version.now
         (choice (S.contents storage.now) config.now.use_consolidated path.now metadata.now) true
-        path.now (forest nodes.items)) }
+        path.now (forest below.nodes.items)) }
     ensures clean { IfOk result
         (λ _. IsCleanChosen (S.contents storage.now) version.now
         (choice (S.contents storage.now) config.now.use_consolidated path.now metadata.now) true
@@ -142,8 +142,11 @@ fn nodes_below<L: Log, S: ReadableStorageTraits + ListableStorageTraits>(
 {
     let policy = config.use_consolidated_metadata();
     match consolidated_metadata_at(alloc, storage, path, metadata, policy)? {
-        Some(block) => nodes_of_block(alloc, path, block, true),
-        None => get_child_nodes_opt(log, alloc, storage, path, true, version),
+        Some(block) => Ok(ListedNodes {
+            nodes: nodes_of_block(alloc, path, block, true)?,
+            ignored: Vec::new(alloc),
+        }),
+        None => list_nodes(alloc, storage, path, true, version),
     }
 }
 

@@ -33,7 +33,7 @@ pub struct ListedPaths {
 /// The refusals of `list_nodes`.
 ///
 /// Source: `zarrs::node::get_child_nodes_opt`, without a logger, its nodes by their paths.
-#[tactic(auto, using(crate::proofs::SinkSteps::shown_paths))]
+#[tactic(auto, using(crate::proofs::walk::SinkSteps::shown_paths))]
 pub fn list_paths<S: ReadableStorageTraits + ListableStorageTraits>(
     alloc: Global,
     storage: &S,

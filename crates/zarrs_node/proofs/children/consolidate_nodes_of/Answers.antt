@@ -1,5 +1,5 @@
 use Rattle.zarrs_node.specs.Nodes.{MeansNode}
-use Rattle.zarrs_node.proofs.ListedBlock.{listed_block}
+use Rattle.zarrs_node.proofs.blocks.ListedBlock.{listed_block}
 use Rattle.zarrs_node.proofs.children.consolidate_nodes_of.Goals as goal
 
 pub returns-clause-exact : goal.returns-clause-exact

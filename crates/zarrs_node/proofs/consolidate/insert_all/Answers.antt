@@ -1,6 +1,6 @@
 use Rattle.std.proofs.Common.{◌∙◌}
-use Rattle.zarrs_node.proofs.NodesInBlocks.{puts_start, puts_low, puts_turn, puts_end}
-use Rattle.zarrs_node.proofs.WalkPrefixes.{took_node, took_none}
+use Rattle.zarrs_node.proofs.blocks.NodesInBlocks.{puts_start, puts_low, puts_turn, puts_end}
+use Rattle.zarrs_node.proofs.walk.WalkPrefixes.{took_node, took_none}
 use Rattle.zarrs_node.proofs.consolidate.insert_all.Goals as goal
 
 pub text_beyond-requires : goal.text_beyond-requires

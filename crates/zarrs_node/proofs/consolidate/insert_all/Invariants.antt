@@ -1,7 +1,7 @@
 use Rattle.std.proofs.Common.{length}
 use Rattle.zarrs_node.specs.Forest.{forest, pairs}
 use Rattle.zarrs_node.specs.StepsOfPreorder.{ahead}
-use Rattle.zarrs_node.proofs.NodesInBlocks.{PutsAhead}
+use Rattle.zarrs_node.proofs.blocks.NodesInBlocks.{PutsAhead}
 use Rattle.zarrs_node.proofs.consolidate.insert_all.Given as goal
 
 -- the nodes that are ahead make with the block what all make of it

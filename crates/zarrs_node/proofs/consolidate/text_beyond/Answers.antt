@@ -3,7 +3,7 @@ use Rattle.std.proofs.lemmas.Str.Pattern.{strip_prefix_char}
 use Rattle.zarrs_path.specs.Paths.{names_text}
 use Rattle.zarrs_path.proofs.PathTexts.{slashed-append}
 use Rattle.zarrs_path.proofs.ByteTests.{without_slash_is}
-use Rattle.zarrs_node.proofs.BlockTexts.{rest_is}
+use Rattle.zarrs_node.proofs.blocks.BlockTexts.{rest_is}
 use Rattle.zarrs_node.proofs.consolidate.text_beyond.Goals as goal
 
 pub returns-in-Some-clause-text : goal.returns-in-Some-clause-text

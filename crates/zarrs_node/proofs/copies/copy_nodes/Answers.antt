@@ -4,7 +4,7 @@ use Rattle.zarrs_node.specs.StepsOfTrees.{graft}
 use Rattle.zarrs_node.specs.StepsOfGrafts.{plug}
 use Rattle.zarrs_node.proofs.OpenForests.{graft_none}
 use Rattle.zarrs_node.proofs.CopiedForests.{plug_opened, plug_closed, opened_less, closed_less}
-use Rattle.zarrs_node.proofs.WalkPrefixes.{length_zero}
+use Rattle.zarrs_node.proofs.walk.WalkPrefixes.{length_zero}
 use Rattle.zarrs_node.proofs.copies.copy_nodes.Goals as goal
 
 pub loop-node-smaller-in-Some : goal.loop-node-smaller-in-Some

@@ -5,7 +5,7 @@ use Rattle.zarrs_block.specs.declared.node_create_error.NodeCreateError.{NodeCre
 use Rattle.zarrs_block.specs.Meaning.{Meaning, bad}
 use Rattle.zarrs_block.specs.Refusals.{IsExcused, IsInvalidPath}
 use Rattle.zarrs_node.specs.StepsOfDocuments.{Finds}
-use Rattle.zarrs_node.proofs.WalkTurns.{path_if_name, name_if_path}
+use Rattle.zarrs_node.proofs.walk.WalkTurns.{path_if_name, name_if_path}
 use Rattle.zarrs_node.proofs.descent.read_child.Goals as goal
 
 -- what holds of all answers holds where it is one

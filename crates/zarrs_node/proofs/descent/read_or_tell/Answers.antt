@@ -1,6 +1,6 @@
 use Rattle.std.proofs.Common.{◌∙◌, sym, ap, inl, [], ◌∷◌, ◌++◌}
 use Rattle.std.proofs.lemmas.Result.{err_from_is_err_and}
-use Rattle.zarrs_node.proofs.ChildRefusals.{told_of, sorted_excused}
+use Rattle.zarrs_node.proofs.walk.ChildRefusals.{told_of, sorted_excused}
 use Rattle.zarrs_node.proofs.descent.read_or_tell.Goals as goal
 
 pub returns-in_err-fault-in-Err-clause-refused : goal.returns-in_err-fault-in-Err-clause-refused

@@ -4,9 +4,9 @@ use Rattle.zarrs_store.specs.Children.{AreVisibleChildren}
 use Rattle.zarrs_node.specs.StepsOfTrees.{own_node, paths_passed}
 use Rattle.zarrs_node.specs.Sinks.{TakesAll}
 use Rattle.zarrs_node.specs.StepsOfTheWalk.{IsReadOrTold}
-use Rattle.zarrs_node.proofs.ChildRefusals.{told_unread}
-use Rattle.zarrs_node.proofs.WalkTurns.{left_none, turn_above, turn_refused, falls_alone, falls_deeper}
-use Rattle.zarrs_node.proofs.SinkSteps.{HasFed, fed_start, fed_forest, fed_ignored, fed_faults, fed_fault, fed_alone, fed_deeper}
+use Rattle.zarrs_node.proofs.walk.ChildRefusals.{told_unread}
+use Rattle.zarrs_node.proofs.walk.WalkTurns.{left_none, turn_above, turn_refused, falls_alone, falls_deeper}
+use Rattle.zarrs_node.proofs.walk.SinkSteps.{HasFed, fed_start, fed_forest, fed_ignored, fed_faults, fed_fault, fed_alone, fed_deeper}
 use Rattle.zarrs_node.proofs.descent.walk.Goals as goal
 use Rattle.zarrs_node.proofs.descent.walk.Goals.{then-recursive+then-is_group+in_ok-push_children-2, else-recursive, else-recursive-via-then-recursive+else-is_group, else-recursive-via-else-recursive}
 

@@ -1,6 +1,6 @@
 use Rattle.std.proofs.Common.{◌≡◌, [], IsFalse}
-use Rattle.zarrs_node.proofs.WalkEnds.{ahead}
-use Rattle.zarrs_node.proofs.SinkSteps.{HasFed}
+use Rattle.zarrs_node.proofs.walk.WalkEnds.{ahead}
+use Rattle.zarrs_node.proofs.walk.SinkSteps.{HasFed}
 use Rattle.zarrs_node.proofs.descent.walk.Given as goal
 
 -- with each prefix that is read fewer beginnings of keys are ahead

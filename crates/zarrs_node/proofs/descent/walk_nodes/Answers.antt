@@ -4,7 +4,7 @@ use Rattle.zarrs_store.specs.Contents.{Contents, Lists}
 use Rattle.zarrs_config.specs.declared.version.MetadataRetrieveVersion.{MetadataRetrieveVersion}
 use Rattle.zarrs_node.specs.Faults.{Faults}
 use Rattle.zarrs_node.specs.Nodes.{HasNothingBad}
-use Rattle.zarrs_node.proofs.WalkSteps.{PathFault, nothing_bad}
+use Rattle.zarrs_node.proofs.walk.WalkSteps.{PathFault, nothing_bad}
 use Rattle.zarrs_node.proofs.descent.walk_nodes.Goals as goal
 
 -- an answer with no fault is clean

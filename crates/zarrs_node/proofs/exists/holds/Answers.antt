@@ -1,5 +1,5 @@
 use Rattle.std.proofs.lemmas.Bool.{iff_false}
-use Rattle.zarrs_node.proofs.ListedKeys.{not_yet}
+use Rattle.zarrs_node.proofs.blocks.ListedKeys.{not_yet}
 use Rattle.zarrs_node.proofs.exists.holds.Goals as goal
 
 pub loop-held-preserved : goal.loop-held-preserved

@@ -1,5 +1,5 @@
 use Rattle.std.proofs.Common.{◌≡◌, ◌↔◌, ◌||◌, ◌∙◌, ap, sym, subst, IsTrue, Contains}
-use Rattle.zarrs_node.proofs.ListedKeys.{exists_by}
+use Rattle.zarrs_node.proofs.blocks.ListedKeys.{exists_by}
 use Rattle.zarrs_node.proofs.exists.node_exists_listable.Goals as goal
 use Rattle.zarrs_node.proofs.exists.node_exists_listable.Goals.{then-has_array, else-has_array, then-has_v3, else-has_v3}
 

@@ -1,7 +1,7 @@
 use Rattle.std.proofs.Common.{subst, Some, None, IsTrue}
 use Rattle.zarrs_store.specs.Segments.{has_no_slash}
 use Rattle.zarrs_path.specs.Paths.{path_text}
-use Rattle.zarrs_node.proofs.LastNames.{IsCutText, split_of, child_test, root_test, has_slash}
+use Rattle.zarrs_node.proofs.blocks.LastNames.{IsCutText, split_of, child_test, root_test, has_slash}
 use Rattle.zarrs_node.proofs.last_name.is_child.Goals as goal
 
 pub returns-then-not-is_empty-clause-child : goal.returns-then-not-is_empty-clause-child

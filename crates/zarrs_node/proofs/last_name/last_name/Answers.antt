@@ -1,7 +1,7 @@
 use Rattle.std.proofs.Common.{subst, Some, None, IsTrue}
 use Rattle.zarrs_store.specs.Segments.{has_no_slash}
 use Rattle.zarrs_path.specs.Paths.{path_text}
-use Rattle.zarrs_node.proofs.LastNames.{IsCutText, split_of, last_of, has_slash}
+use Rattle.zarrs_node.proofs.blocks.LastNames.{IsCutText, split_of, last_of, has_slash}
 use Rattle.zarrs_node.proofs.last_name.last_name.Goals as goal
 
 pub returns-in-Some-clause-name : goal.returns-in-Some-clause-name

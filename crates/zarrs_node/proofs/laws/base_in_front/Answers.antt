@@ -1,4 +1,4 @@
-use Rattle.zarrs_node.proofs.InFront as law
+use Rattle.zarrs_node.proofs.maps.InFront as law
 use Rattle.zarrs_node.proofs.laws.base_in_front.Goals as goal
 
 pub returns : goal.returns

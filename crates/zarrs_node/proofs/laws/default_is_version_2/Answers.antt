@@ -1,4 +1,4 @@
-use Rattle.zarrs_node.proofs.DefaultVersion as law
+use Rattle.zarrs_node.proofs.maps.DefaultVersion as law
 use Rattle.zarrs_node.proofs.laws.default_is_version_2.Goals as goal
 
 pub returns : goal.returns

@@ -1,4 +1,4 @@
-use Rattle.zarrs_node.proofs.DocumentsSet as law
+use Rattle.zarrs_node.proofs.blocks.DocumentsSet as law
 use Rattle.zarrs_node.proofs.laws.documents_are_shown.Goals as goal
 
 pub returns : goal.returns

@@ -1,4 +1,4 @@
-use Rattle.zarrs_node.proofs.InFront as law
+use Rattle.zarrs_node.proofs.maps.InFront as law
 use Rattle.zarrs_node.proofs.laws.earlier_stands_before.Goals as goal
 
 pub returns : goal.returns

@@ -1,4 +1,4 @@
-use Rattle.zarrs_node.proofs.ListedBlocks as law
+use Rattle.zarrs_node.proofs.blocks.ListedBlocks as law
 use Rattle.zarrs_node.proofs.laws.fresh_is_listed.Goals as goal
 
 pub returns : goal.returns

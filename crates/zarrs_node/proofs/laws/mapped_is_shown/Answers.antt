@@ -1,4 +1,4 @@
-use Rattle.zarrs_node.proofs.MapsShown as law
+use Rattle.zarrs_node.proofs.maps.MapsShown as law
 use Rattle.zarrs_node.proofs.laws.mapped_is_shown.Goals as goal
 
 pub returns : goal.returns

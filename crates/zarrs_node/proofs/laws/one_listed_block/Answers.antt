@@ -1,4 +1,4 @@
-use Rattle.zarrs_node.proofs.ListedBlocks as law
+use Rattle.zarrs_node.proofs.blocks.ListedBlocks as law
 use Rattle.zarrs_node.proofs.laws.one_listed_block.Goals as goal
 
 pub returns : goal.returns

@@ -1,4 +1,4 @@
-use Rattle.zarrs_node.proofs.Current as law
+use Rattle.zarrs_node.proofs.blocks.Current as law
 use Rattle.zarrs_node.proofs.laws.refreshed_is_block.Goals as goal
 
 pub returns : goal.returns

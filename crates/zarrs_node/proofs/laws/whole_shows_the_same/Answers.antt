@@ -1,4 +1,4 @@
-use Rattle.zarrs_node.proofs.MoreNumbers as law
+use Rattle.zarrs_node.proofs.maps.MoreNumbers as law
 use Rattle.zarrs_node.proofs.laws.whole_shows_the_same.Goals as goal
 
 pub returns : goal.returns

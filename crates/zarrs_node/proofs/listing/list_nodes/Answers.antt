@@ -1,5 +1,5 @@
 use Rattle.zarrs_node.specs.Nodes.{MeansNode}
-use Rattle.zarrs_node.proofs.SinkSteps.{ascending_pairs, built_shows}
+use Rattle.zarrs_node.proofs.walk.SinkSteps.{ascending_pairs, built_shows}
 use Rattle.zarrs_node.proofs.listing.list_nodes.Goals as goal
 
 pub build_ascending-requires : goal.build_ascending-requires

@@ -1,6 +1,6 @@
 use Rattle.std.proofs.Common.{◌∷◌, ◌∙◌, ap, sym}
 use Rattle.std.specs.Prelude.{option_copied}
-use Rattle.zarrs_node.proofs.Leads.{bare_is, group_at_key, group_rooted, some_group}
+use Rattle.zarrs_node.proofs.blocks.Leads.{bare_is, group_at_key, group_rooted, some_group}
 use Rattle.zarrs_node.proofs.refresh.has_group.Goals as goal
 
 pub returns-in-Some : goal.returns-in-Some

@@ -2,7 +2,7 @@ use Rattle.std.proofs.Common.{◌∙◌}
 use Rattle.std.specs.Vec.Iter.{into_iter_items}
 use Rattle.zarrs_node.specs.StepsOfBlocks.{put_all}
 use Rattle.zarrs_node.proofs.PassSteps.{none_left}
-use Rattle.zarrs_node.proofs.MeaningsAnew.{insert_start, insert_low, insert_next, insert_end}
+use Rattle.zarrs_node.proofs.blocks.MeaningsAnew.{insert_start, insert_low, insert_next, insert_end}
 use Rattle.zarrs_node.proofs.refresh.insert_pairs.Goals as goal
 
 pub text_beyond-requires : goal.text_beyond-requires

@@ -1,6 +1,6 @@
 use Rattle.std.proofs.Common.{◌∙◌, Some, None, rules}
-use Rattle.zarrs_node.proofs.LastNames.{split_of}
-use Rattle.zarrs_node.proofs.Leads.{way_start, way_done, way_shut, way_on, way_shorter, way_none}
+use Rattle.zarrs_node.proofs.blocks.LastNames.{split_of}
+use Rattle.zarrs_node.proofs.blocks.Leads.{way_start, way_done, way_shut, way_on, way_shorter, way_none}
 use Rattle.zarrs_node.proofs.refresh.leads_to.Goals as goal
 
 pub loop-above-init : goal.loop-above-init

@@ -1,7 +1,7 @@
 use denote.Shadow.{shadow}
 use denote.Text.{Utf8}
 use Rattle.std.proofs.Common.{length}
-use Rattle.zarrs_node.proofs.Leads.{IsOnTheWay}
+use Rattle.zarrs_node.proofs.blocks.Leads.{IsOnTheWay}
 use Rattle.zarrs_node.proofs.refresh.leads_to.Given as goal
 
 -- the names that are left lead to the path

@@ -2,8 +2,8 @@ use Rattle.std.proofs.Common.{◌≡◌, ◌∙◌, ◌∷◌, ◌++◌, [], Ok,
 use Rattle.zarrs_block.specs.Meaning.{meaning, node}
 use Rattle.zarrs_node.specs.Forest.{pairs}
 use Rattle.zarrs_node.specs.StepsOfDocuments.{Finds}
-use Rattle.zarrs_node.proofs.MeaningsAnew.{renewed_one, renewed_all}
-use Rattle.zarrs_node.proofs.SinkSteps.{kept_pairs}
+use Rattle.zarrs_node.proofs.blocks.MeaningsAnew.{renewed_one, renewed_all}
+use Rattle.zarrs_node.proofs.walk.SinkSteps.{kept_pairs}
 use Rattle.zarrs_node.proofs.refresh.read_anew.Goals as goal
 
 pub returns-then-not-deeper-clause-renewed : goal.returns-then-not-deeper-clause-renewed

@@ -5,8 +5,8 @@ use Rattle.zarrs_store.specs.Contents.{Lists}
 use Rattle.zarrs_block.specs.Meaning.{meaning}
 use Rattle.zarrs_node.specs.StepsOfBlocks.{put_all}
 use Rattle.zarrs_node.specs.CurrentBlocks.{IsNewPair, IsFresh}
-use Rattle.zarrs_node.proofs.PairsInBlocks.{put_all_ascends}
-use Rattle.zarrs_node.proofs.MeaningsAnew.{fresh_led, fresh_kept}
+use Rattle.zarrs_node.proofs.blocks.PairsInBlocks.{put_all_ascends}
+use Rattle.zarrs_node.proofs.blocks.MeaningsAnew.{fresh_led, fresh_kept}
 use Rattle.zarrs_node.proofs.refresh.refresh_owned_block.Goals as goal
 use Rattle.zarrs_node.proofs.refresh.refresh_owned_block.Goals.{then-branch+in_ok-renewed, else-branch}
 

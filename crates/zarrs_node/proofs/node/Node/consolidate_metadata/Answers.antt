@@ -1,8 +1,8 @@
 use Rattle.std.proofs.Common.{sym, subst}
 use Rattle.zarrs_node.specs.Forest.{below_of, path_of, pairs}
 use Rattle.zarrs_node.specs.StepsOfBlocks.{ArePairsBelow}
-use Rattle.zarrs_node.proofs.NodesInBlocks.{placed_below, whole_block, whole_ascends}
-use Rattle.zarrs_node.proofs.LatestPairs.{exact_block}
+use Rattle.zarrs_node.proofs.blocks.NodesInBlocks.{placed_below, whole_block, whole_ascends}
+use Rattle.zarrs_node.proofs.blocks.LatestPairs.{exact_block}
 use Rattle.zarrs_node.proofs.node.Node.consolidate_metadata.Goals as goal
 
 pub insert_all-requires : goal.insert_all-requires

@@ -1,6 +1,6 @@
 use Rattle.std.proofs.Common.{string_bytes}
 use Rattle.zarrs_node.proofs.TreeTexts.{first_written, line_written}
-use Rattle.zarrs_node.proofs.WalkPrefixes.{took_node}
+use Rattle.zarrs_node.proofs.walk.WalkPrefixes.{took_node}
 use Rattle.zarrs_node.proofs.node.Node.hierarchy_tree.Goals as goal
 
 pub loop-walk-init : goal.loop-walk-init

@@ -1,6 +1,6 @@
 use Rattle.std.proofs.Common.{sym, subst, ◌∙◌}
 use Rattle.zarrs_path.specs.Names.{IsNodeName}
-use Rattle.zarrs_node.proofs.LastNames.{last_is_name}
+use Rattle.zarrs_node.proofs.blocks.LastNames.{last_is_name}
 use Rattle.zarrs_node.proofs.node.Node.name.Goals as goal
 
 pub new_unchecked-requires : goal.new_unchecked-requires

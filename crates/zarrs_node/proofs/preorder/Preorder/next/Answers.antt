@@ -1,5 +1,5 @@
 use Rattle.std.proofs.Common.{sym, ◌∙◌}
-use Rattle.zarrs_node.proofs.WalkPrefixes.{ahead_turn, ahead_past}
+use Rattle.zarrs_node.proofs.walk.WalkPrefixes.{ahead_turn, ahead_past}
 use Rattle.zarrs_node.proofs.preorder.Preorder.next.Goals as goal
 
 pub returns-in-Some-split_first : goal.returns-in-Some-split_first

@@ -9,7 +9,7 @@ use Rattle.zarrs_config.specs.declared.version.MetadataRetrieveVersion.TheVarian
 use Rattle.zarrs_block.specs.Meaning.{meaning}
 use Rattle.zarrs_node.specs.Nodes.{Nodes}
 use Rattle.zarrs_node.specs.MapsOfNodes.{GoesOver, HasNoVersion3From, IsMapped, StandsFrom, DefaultIsVersion2}
-use Rattle.zarrs_node.proofs.MapsShown.{nodes_over, same_some, some_keeps, unchanged}
+use Rattle.zarrs_node.proofs.maps.MapsShown.{nodes_over, same_some, some_keeps, unchanged}
 use Rattle.zarrs_node.proofs.Meanings.{document_none, zarr_json_line_is, default_is, v2_is}
 
 module _ (S : Contents) (b : Path) (none : HasNoVersion3From S b) where

@@ -8,9 +8,9 @@ use Rattle.zarrs_node.specs.Inverse.{HasNames}
 use Rattle.zarrs_node.specs.Order.{Ascend}
 use Rattle.zarrs_node.specs.Reach.{Kept}
 use Rattle.zarrs_node.proofs.ListedItems.{listed_each}
-use Rattle.zarrs_node.proofs.Latest.{latest_in, own_latest}
-use Rattle.zarrs_node.proofs.PairsInBlocks.{put_all_ascends, none_ascend}
-use Rattle.zarrs_node.proofs.LatestPairs.{latest_block}
+use Rattle.zarrs_node.proofs.blocks.Latest.{latest_in, own_latest}
+use Rattle.zarrs_node.proofs.blocks.PairsInBlocks.{put_all_ascends, none_ascend}
+use Rattle.zarrs_node.proofs.blocks.LatestPairs.{latest_block}
 use Rattle.zarrs_node.proofs.Unique.{Pair, lt_irrefl}
 
 module _ (N : Pair → Type 0) (b : Path) (xs : List Pair) (listed : Lists (Kept N true b) xs) where

@@ -10,7 +10,7 @@ use Rattle.zarrs_node.specs.MapsOfNodes.{NodesFrom, BaseInFront, EarlierStandsBe
 use Rattle.zarrs_node.proofs.ListedItems.{listed_each, all_pairs_tail, all_pairs_first, all_pairs_append}
 use Rattle.zarrs_node.proofs.ForestsBeside.{Contains-first, Contains-cons}
 use Rattle.zarrs_node.proofs.Order.{contains_cases, one_ascends, below_less}
-use Rattle.zarrs_node.proofs.MapsShown.{same_node}
+use Rattle.zarrs_node.proofs.maps.MapsShown.{same_node}
 
 -- that the path of the first is before that of the second
 abbrev IsBefore : Path × NodeMetadata → Path × NodeMetadata → Type 0

@@ -35,7 +35,7 @@ use Rattle.zarrs_block.specs.declared.node_create_error.NodeCreateError.{NodeCre
 use Rattle.zarrs_block.specs.DocumentsAtKeys.{in_bytes, document_or_fault, document_from, document_at}
 use Rattle.zarrs_block.specs.Meaning.{Meaning, meaning, node, nothing, bad, version_3_line, version_2_line, zarray_line, zgroup_line}
 use Rattle.zarrs_node.proofs.Meanings.{zarr_json_line_is, zarray_line_is, zgroup_line_is, default_is, v3_is}
-use Rattle.zarrs_node.proofs.MapsShown.{same_node}
+use Rattle.zarrs_node.proofs.maps.MapsShown.{same_node}
 
 -- ---- documents at `zarr.json`
 

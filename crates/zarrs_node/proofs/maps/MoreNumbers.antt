@@ -10,7 +10,7 @@ use Rattle.zarrs_block.specs.Zmetadata.{is_bad}
 use Rattle.zarrs_block.specs.declared.node_create_error.NodeCreateError.{NodeCreateError}
 use Rattle.zarrs_block.proofs.MoreBlocks.{bytes_more, meaning_too}
 use Rattle.zarrs_node.specs.MapsOfNodes.{WholeShowsTheSame}
-use Rattle.zarrs_node.proofs.MapsShown.{mapped_is_shown, some_keeps, unchanged}
+use Rattle.zarrs_node.proofs.maps.MapsShown.{mapped_is_shown, some_keeps, unchanged}
 
 -- what is bad with no refusal is not bad
 not_bad : (m : Meaning) → ((e : NodeCreateError) → m ≢ bad e) → is_bad m ≡ false

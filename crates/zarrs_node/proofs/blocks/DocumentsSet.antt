@@ -23,12 +23,12 @@ use Rattle.zarrs_block.specs.declared.node_create_error.NodeCreateError.{NodeCre
 use Rattle.zarrs_node.specs.Nodes.{IsBadName, MeansNode}
 use Rattle.zarrs_node.specs.Changes.{document_files}
 use Rattle.zarrs_node.specs.MapsOfNodes.{StandsFrom, NodesFrom, GoesOver, IsToVersion3, AreDocumentsOf, with_documents, DocumentsAreShown}
-use Rattle.zarrs_node.proofs.Current.{meaning_same}
+use Rattle.zarrs_node.proofs.blocks.Current.{meaning_same}
 use Rattle.zarrs_node.proofs.ForestsBeside.{Contains-first, Contains-cons}
-use Rattle.zarrs_node.proofs.MapsShown.{same_node, stands, mapped_is_shown}
+use Rattle.zarrs_node.proofs.maps.MapsShown.{same_node, stands, mapped_is_shown}
 use Rattle.zarrs_node.proofs.Order.{contains_cases}
 use Rattle.zarrs_node.proofs.Reach.{head_same, rest_same}
-use Rattle.zarrs_node.proofs.Versions.{set_v3, set_default, three_alone, nothing_alone, bad_alone}
+use Rattle.zarrs_node.proofs.maps.Versions.{set_v3, set_default, three_alone, nothing_alone, bad_alone}
 
 -- of two keys it is told whether they are one
 pub same_or_not : (q k : Segments) → (q ≡ k) ⊎ (q ≢ k)

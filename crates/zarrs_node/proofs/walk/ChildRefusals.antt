@@ -13,7 +13,7 @@ use Rattle.zarrs_node.specs.StepsOfTheWalk.{fault_of, IsFaultOf}
 use Rattle.zarrs_node.specs.declared.descent.Child.{Child}
 use Rattle.zarrs_node.specs.declared.descent.Child.TheVariants.{Read, Told}
 use Rattle.zarrs_node.specs.declared.fault.NodeFault.{NodeFault}
-use Rattle.zarrs_node.proofs.BadDocuments.{bad_by_document}
+use Rattle.zarrs_node.proofs.walk.BadDocuments.{bad_by_document}
 
 -- an answer is given
 abbrev IsGiven : {A E : Type 0} → Result A E → Type 0

@@ -18,13 +18,13 @@ use Rattle.zarrs_node.specs.Forest.{Forest, Shows}
 use Rattle.zarrs_node.specs.CurrentBlocks.{LeadsTo, IsFresh, BadAnew}
 use Rattle.zarrs_node.specs.Changes.{AgreesOutside, IsDocumentOf}
 use Rattle.zarrs_node.specs.ListedBlocks.{IsListedBlock, OneListedBlock, FreshIsListed, ListedBlockStays}
-use Rattle.zarrs_node.proofs.Current.{AtOrBelow, not_below_itself, decided, elsewhere_same, group_elsewhere, reached_elsewhere, reached_from, reached_led, deep_names, fresh_is_block}
+use Rattle.zarrs_node.proofs.blocks.Current.{AtOrBelow, not_below_itself, decided, elsewhere_same, group_elsewhere, reached_elsewhere, reached_from, reached_led, deep_names, fresh_is_block}
 use Rattle.zarrs_node.proofs.ListedItems.{listed_each}
 use Rattle.zarrs_node.proofs.Inverse.{entries_are, keys_valid, nodes_plain}
 use Rattle.zarrs_node.proofs.KeptPairs.{kept_closed, kept_same, nodes_same, reached_more}
 use Rattle.zarrs_node.proofs.PlainMeanings.{plain_node_in}
 use Rattle.zarrs_node.proofs.Unique.{one_forest}
-use Rattle.zarrs_node.proofs.WalkSteps.{not_bad_name}
+use Rattle.zarrs_node.proofs.walk.WalkSteps.{not_bad_name}
 
 -- ---- keys of the documents of a path
 

@@ -23,11 +23,11 @@ use Rattle.zarrs_node.proofs.ListedItems.{listed_each, lists_from}
 use Rattle.zarrs_node.proofs.ForestsBeside.{Contains-first, Contains-cons}
 use Rattle.zarrs_node.proofs.Order.{contains_cases}
 use Rattle.zarrs_node.proofs.Reach.{not_itself}
-use Rattle.zarrs_node.proofs.Latest.{latest_in, own_latest}
-use Rattle.zarrs_node.proofs.PairsInBlocks.{found_put}
-use Rattle.zarrs_node.proofs.BlockTexts.{text_is}
-use Rattle.zarrs_node.proofs.Leads.{names_beyond}
-use Rattle.zarrs_node.proofs.LatestPairs.{latest_block}
+use Rattle.zarrs_node.proofs.blocks.Latest.{latest_in, own_latest}
+use Rattle.zarrs_node.proofs.blocks.PairsInBlocks.{found_put}
+use Rattle.zarrs_node.proofs.blocks.BlockTexts.{text_is}
+use Rattle.zarrs_node.proofs.blocks.Leads.{names_beyond}
+use Rattle.zarrs_node.proofs.blocks.LatestPairs.{latest_block}
 
 -- ---- what is read
 

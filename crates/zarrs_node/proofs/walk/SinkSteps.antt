@@ -16,7 +16,7 @@ use Rattle.zarrs_node.specs.Nodes.{Nodes, Ignored}
 use Rattle.zarrs_node.specs.Faults.{Faults}
 use Rattle.zarrs_node.specs.StepsOfTheWalk.{IsFaultOf}
 use Rattle.zarrs_node.specs.declared.fault.NodeFault.{NodeFault}
-use Rattle.zarrs_node.proofs.WalkSteps.{PathFault}
+use Rattle.zarrs_node.proofs.walk.WalkSteps.{PathFault}
 use Rattle.zarrs_store.specs.Segments.{IsPrefix}
 use Rattle.zarrs_node.specs.Order.{Ascend}
 use Rattle.zarrs_node.specs.Reach.{Kept}
@@ -25,7 +25,7 @@ use Rattle.zarrs_node.proofs.FlatForests.{shows_same}
 use Rattle.zarrs_node.proofs.ListedItems.{listed_each}
 use Rattle.zarrs_node.proofs.KeptPairs.{placed_between}
 use Rattle.zarrs_node.proofs.Order.{shown_ascend}
-use Rattle.zarrs_node.proofs.WalkTurns.{HasWalked, has_started, has_shown, has_ignored, has_faults, turn_alone, turn_deeper, turn_fault}
+use Rattle.zarrs_node.proofs.walk.WalkTurns.{HasWalked, has_started, has_shown, has_ignored, has_faults, turn_alone, turn_deeper, turn_fault}
 use Rattle.zarrs_node.proofs.Unique.{Pair}
 
 -- what takes some and then some more takes them all

@@ -12,9 +12,9 @@ use Rattle.zarrs_block.specs.Block.{Block, Entries, entry, first_some, node_at_k
 use Rattle.zarrs_node.specs.Reach.{HasGroup, Reached}
 use Rattle.zarrs_node.specs.BlocksOfNodes.{text_beyond}
 use Rattle.zarrs_node.specs.CurrentBlocks.{LeadsTo}
-use Rattle.zarrs_node.proofs.LastNames.{IsCutText, has_slash}
-use Rattle.zarrs_node.proofs.WalkPrefixes.{length_zero}
-use Rattle.zarrs_node.proofs.BlockTexts.{text_is}
+use Rattle.zarrs_node.proofs.blocks.LastNames.{IsCutText, has_slash}
+use Rattle.zarrs_node.proofs.walk.WalkPrefixes.{length_zero}
+use Rattle.zarrs_node.proofs.blocks.BlockTexts.{text_is}
 use Rattle.zarrs_node.proofs.Reach.{head_same, rest_same, no_room}
 use Rattle.zarrs_node.proofs.KeptPairs.{reached_between}
 

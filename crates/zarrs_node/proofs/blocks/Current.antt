@@ -39,11 +39,11 @@ use Rattle.zarrs_node.proofs.ListedItems.{listed_each}
 use Rattle.zarrs_node.proofs.ForestsBeside.{Contains-first, Contains-cons}
 use Rattle.zarrs_node.proofs.Reach.{head_same, rest_same}
 use Rattle.zarrs_node.proofs.KeptPairs.{below_below, reached_between}
-use Rattle.zarrs_node.proofs.BlockTexts.{text_is}
+use Rattle.zarrs_node.proofs.blocks.BlockTexts.{text_is}
 use Rattle.zarrs_block.proofs.SameBlocks.{one_block}
 use Rattle.zarrs_node.proofs.Inverse.{entries_are}
-use Rattle.zarrs_node.proofs.Leads.{names_beyond}
-use Rattle.zarrs_node.proofs.MeaningsAnew.{about_of}
+use Rattle.zarrs_node.proofs.blocks.Leads.{names_beyond}
+use Rattle.zarrs_node.proofs.blocks.MeaningsAnew.{about_of}
 
 -- ---- paths that are, or stand below, another
 

@@ -25,11 +25,11 @@ use Rattle.zarrs_node.specs.Faults.{Faults}
 use Rattle.zarrs_node.specs.declared.fault.NodeFault.{NodeFault}
 use Rattle.zarrs_node.specs.declared.fault.NodeFault.TheVariants.{Name, Document}
 use Rattle.zarrs_node.specs.StepsOfTheWalk.{IsPathAndOne, IsFaultOf}
-use Rattle.zarrs_node.proofs.Child.{IsNode, node_same}
+use Rattle.zarrs_node.proofs.walk.Child.{IsNode, node_same}
 use Rattle.zarrs_node.proofs.Unique.{Pair}
-use Rattle.zarrs_node.proofs.WalkEnds.{ahead, ahead_less}
-use Rattle.zarrs_node.proofs.SubtreesApart.{StandsBefore, stands_less, turned_in, all_pairs_last}
-use Rattle.zarrs_node.proofs.WalkSteps.{Walked, IsPending, name_less, walked_start, walked_reached, walked_attached, walked_open, walked_closed, walked_nothing, walked_fault, walked_shows, walked_ignores, walked_faults, PathFault}
+use Rattle.zarrs_node.proofs.walk.WalkEnds.{ahead, ahead_less}
+use Rattle.zarrs_node.proofs.walk.SubtreesApart.{StandsBefore, stands_less, turned_in, all_pairs_last}
+use Rattle.zarrs_node.proofs.walk.WalkSteps.{Walked, IsPending, name_less, walked_start, walked_reached, walked_attached, walked_open, walked_closed, walked_nothing, walked_fault, walked_shows, walked_ignores, walked_faults, PathFault}
 
 -- the walk has come so far, and xs are the nodes that it told
 pub record HasWalked (s : Contents) (v : MetadataRetrieveVersion) (r : Bool) (b : Path) (xs : List (Path × NodeMetadata)) (ig : List Path) (fs : List PathFault) (ps : List Path) : Type 0 where

@@ -12,10 +12,10 @@ use Rattle.zarrs_node.specs.BlocksOfNodes.{text_beyond}
 use Rattle.zarrs_node.specs.StepsOfBlocks.{ArePairsBelow, ArePaths, put_all}
 use Rattle.zarrs_node.proofs.ForestsBeside.{Contains-first, Contains-cons}
 use Rattle.zarrs_node.proofs.Order.{contains_cases}
-use Rattle.zarrs_node.proofs.WalkPrefixes.{pairs_at, pairs_stops}
-use Rattle.zarrs_node.proofs.PairsInBlocks.{put_all_ascends, none_ascend}
-use Rattle.zarrs_node.proofs.BlockTexts.{names_of}
-use Rattle.zarrs_node.proofs.LatestPairs.{latest_block}
+use Rattle.zarrs_node.proofs.walk.WalkPrefixes.{pairs_at, pairs_stops}
+use Rattle.zarrs_node.proofs.blocks.PairsInBlocks.{put_all_ascends, none_ascend}
+use Rattle.zarrs_node.proofs.blocks.BlockTexts.{names_of}
+use Rattle.zarrs_node.proofs.blocks.LatestPairs.{latest_block}
 
 -- a path below a child is below its parent
 below_child : (b p q : Path) (n : List ℕ) → p ≡ b ++ n ∷ [] → IsBelow p q → IsBelow b q

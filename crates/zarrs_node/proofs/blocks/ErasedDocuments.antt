@@ -21,12 +21,12 @@ use Rattle.zarrs_config.specs.declared.version.MetadataRetrieveVersion.TheVarian
 use Rattle.zarrs_block.specs.DocumentsAtKeys.{in_bytes, document_or_fault, document_from, document_at}
 use Rattle.zarrs_block.specs.Meaning.{Meaning, meaning, node, nothing, version_3_line, zarr_json_line, zarray_line, zgroup_line}
 use Rattle.zarrs_node.specs.MapsOfNodes.{version_2_files, version_2_keys, without_keys, keys_beside, KeysStandBeside, OthersAreKept, ErasedAreAbsent, BesideMeansSame, ErasedShowSame}
-use Rattle.zarrs_node.proofs.Current.{meaning_same}
+use Rattle.zarrs_node.proofs.blocks.Current.{meaning_same}
 use Rattle.zarrs_node.proofs.Meanings.{document_none, zarr_json_line_is, default_is, v3_is}
 use Rattle.zarrs_node.proofs.FlatForests.{contains_map, contains_mapped}
-use Rattle.zarrs_node.proofs.DocumentsSet.{get_with}
+use Rattle.zarrs_node.proofs.blocks.DocumentsSet.{get_with}
 use Rattle.zarrs_node.proofs.ForestsBeside.{Contains-first, Contains-cons}
-use Rattle.zarrs_node.proofs.MapsShown.{some_keeps, unchanged, mapped_is_shown}
+use Rattle.zarrs_node.proofs.maps.MapsShown.{some_keeps, unchanged, mapped_is_shown}
 use Rattle.zarrs_node.proofs.Order.{contains_cases}
 
 -- a key that is absent stays so where others are erased

@@ -20,15 +20,15 @@ use Rattle.zarrs_node.specs.Faults.{Faults, FaultsAscend, PathsAscend}
 use Rattle.zarrs_node.specs.declared.fault.NodeFault.{NodeFault}
 use Rattle.zarrs_node.specs.declared.fault.NodeFault.TheVariants.{Name, Document}
 use Rattle.zarrs_block.specs.declared.node_create_error.NodeCreateError.{NodeCreateError}
-use Rattle.zarrs_node.proofs.Keys.{means_or_nothing, below_through}
+use Rattle.zarrs_node.proofs.walk.Keys.{means_or_nothing, below_through}
 use Rattle.zarrs_node.proofs.Reach.{Through, reached_first, reached_through, not_itself}
-use Rattle.zarrs_node.proofs.Leads.{same_or_above}
+use Rattle.zarrs_node.proofs.blocks.Leads.{same_or_above}
 use Rattle.zarrs_node.proofs.ListedItems.{all_pairs_append, lists_from}
-use Rattle.zarrs_node.proofs.Child.{IsNode, IsBad, node_same, not_open, not_reserved}
+use Rattle.zarrs_node.proofs.walk.Child.{IsNode, IsBad, node_same, not_open, not_reserved}
 use Rattle.zarrs_node.proofs.Order.{below_less, pairs_ascend}
 use Rattle.zarrs_node.proofs.Unique.{Pair, Lt, lt_irrefl, names_total, names_irrefl}
-use Rattle.zarrs_node.proofs.Attach.{Attached, attach_root, attach_below}
-use Rattle.zarrs_node.proofs.SubtreesApart.{StandsBefore, stands_less, stands_below, turned_in, in_turned, turned_pairs, all_pairs_last, all_pairs_front, children_stand}
+use Rattle.zarrs_node.proofs.walk.Attach.{Attached, attach_root, attach_below}
+use Rattle.zarrs_node.proofs.walk.SubtreesApart.{StandsBefore, stands_less, stands_below, turned_in, in_turned, turned_pairs, all_pairs_last, all_pairs_front, children_stand}
 
 -- a path and one name is after the path
 pub name_less : (p : Path) (n : List ℕ) → path_cmp p (p ++ n ∷ []) ≡ Less

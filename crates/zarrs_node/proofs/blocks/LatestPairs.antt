@@ -14,12 +14,12 @@ use Rattle.zarrs_node.specs.Inverse.{HasNames}
 use Rattle.zarrs_node.proofs.ForestsBeside.{Contains-first}
 use Rattle.zarrs_node.proofs.Order.{pairs_ascend}
 use Rattle.zarrs_node.proofs.Unique.{lt_irrefl}
-use Rattle.zarrs_node.proofs.Latest.{latest_last, latest_keep, latest_push, latest_in, own_latest, no_push}
+use Rattle.zarrs_node.proofs.blocks.Latest.{latest_last, latest_keep, latest_push, latest_in, own_latest, no_push}
 use Rattle.zarrs_block.proofs.CutOut.{none_some}
 use Rattle.zarrs_block.proofs.Expansion.{at_itself, same_text}
-use Rattle.zarrs_node.proofs.PairsInBlocks.{found_put, put_all-append}
+use Rattle.zarrs_node.proofs.blocks.PairsInBlocks.{found_put, put_all-append}
 use Rattle.zarrs_block.proofs.KeyLaws.{one_text}
-use Rattle.zarrs_node.proofs.BlockTexts.{text_is}
+use Rattle.zarrs_node.proofs.blocks.BlockTexts.{text_is}
 
 module _ (b : Path) where
   -- the pairs done, and one more

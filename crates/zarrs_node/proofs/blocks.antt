@@ -1,0 +1,14 @@
+pub mod LastNames
+pub mod ListedKeys
+pub mod Latest
+pub mod PairsInBlocks
+pub mod BlockTexts
+pub mod LatestPairs
+pub mod NodesInBlocks
+pub mod ListedBlock
+pub mod Leads
+pub mod MeaningsAnew
+pub mod Current
+pub mod ListedBlocks
+pub mod DocumentsSet
+pub mod ErasedDocuments

@@ -1,0 +1,11 @@
+pub mod Keys
+pub mod BadDocuments
+pub mod Child
+pub mod Attach
+pub mod SubtreesApart
+pub mod WalkEnds
+pub mod ChildRefusals
+pub mod WalkSteps
+pub mod WalkTurns
+pub mod SinkSteps
+pub mod WalkPrefixes
