@@ -1,6 +1,6 @@
 -- What a hierarchy holds that is made of a base and of what stands below it.
-use Rattle.std.proofs.Common.{◌≡◌, ◌↔◌, ◌⊎◌, inl, inr, ⊎_elim, ℕ, Bool, true, false, List, [], ◌∷◌, ◌++◌, get_or, length, refl, sym, ap, subst, ◌∙◌, ◌-◌, arith, length-append, append-nil, append_assoc, string_bytes, Contains, Less, true≢false, IsTrue, Result, Ok, Err}
-use Rattle.std.specs.Prelude.{IfErr, IsErrAnd}
+use Rattle.std.proofs.Common.{◌≡◌, ◌↔◌, ◌⊎◌, inl, inr, ⊎_elim, ℕ, Bool, true, false, List, [], ◌∷◌, ◌++◌, get_or, length, refl, sym, ap, subst, ◌∙◌, ◌-◌, arith, length-append, append-nil, append_assoc, String, Global, string_bytes, Contains, Less, true≢false, IsTrue, Result, Ok, Err}
+use Rattle.std.specs.Prelude.{IfOk, IfErr, IsErrAnd}
 use Rattle.std.specs.Global.{Vec}
 use Rattle.std.specs.List.{flat_map}
 use Rattle.std.proofs.lemmas.List.Kept.{AllPairs-cons}
@@ -23,17 +23,17 @@ use Rattle.zarrs_node.specs.Forest.{pairs}
 use Rattle.zarrs_node.specs.BlocksBelow.{ExcusesBlock}
 use Rattle.zarrs_node.specs.Lines.{line, lines}
 use Rattle.zarrs_node.specs.Nodes.{Nodes}
-use Rattle.zarrs_node.specs.OpeningNodes.{choice, IsCleanChosen, IsCleanBelow, RefusesBelow, RefusesChosen, RefusesOpening}
+use Rattle.zarrs_node.specs.OpeningNodes.{choice, IsCleanChosen, IsCleanBelow, PassesOver, RefusesBelow, RefusesChosen, RefusesOpening}
 use Rattle.zarrs_node.specs.Order.{Ascend}
 use Rattle.zarrs_node.specs.Sinks.{TakesAll, TakesForest, KeepsPair}
-use Rattle.zarrs_node.proofs.SinkSteps.{kept_pairs, took_joined}
+use Rattle.zarrs_node.proofs.walk.SinkSteps.{kept_pairs, took_joined}
 use Rattle.zarrs_node.proofs.ListedItems.{lists_from, listed_each}
 use Rattle.zarrs_node.proofs.ForestsBeside.{Contains-first, Contains-cons}
 use Rattle.zarrs_node.proofs.LawProofs.{apart}
 use Rattle.zarrs_node.proofs.OpenedNodes.{block_excused}
 use Rattle.zarrs_node.proofs.Order.{contains_cases, shown_ascend}
 use Rattle.zarrs_hierarchy.specs.PairsOfHierarchies.{Pairs, Holds, WithBase}
-use Rattle.zarrs_hierarchy.specs.OpeningHierarchies.{PairsChosen, PairsOf, IsOpened, IsOpenedTree}
+use Rattle.zarrs_hierarchy.specs.OpeningHierarchies.{PairsChosen, PairsOf, IsOpened, IsOpenedTree, PassedBelow, ListsPassed}
 use Rattle.zarrs_hierarchy.specs.Sinks.{AppendsNode, TakesOpened}
 use Rattle.zarrs_hierarchy.specs.StepsOfHierarchies.{TakesPairs}
 use Rattle.zarrs_hierarchy.specs.declared.tree_text.TreeText.{TreeText}
@@ -120,7 +120,7 @@ joined_same [] = refl
 joined_same (e ∷ es) = ap (λ xs. e ∷ xs) (joined_same es)
 
 -- what a sink took of what stands below a group is what stands below the node
-pub told_group : {K : Type 0} (R : K → Path × NodeMetadata → K → Type 0) (s : Contents) (v : MetadataRetrieveVersion) (policy : UseConsolidatedMetadata) (b : Path) (m : NodeMetadata) (c : Choice) (a z : K)
+told_group : {K : Type 0} (R : K → Path × NodeMetadata → K → Type 0) (s : Contents) (v : MetadataRetrieveVersion) (policy : UseConsolidatedMetadata) (b : Path) (m : NodeMetadata) (c : Choice) (a z : K)
     → IsTrue (is_group m) → choice s policy b m ≡ c → TakesPairs R a z (PairsChosen s v c b) → TakesPairs R a z (PairsOf s v policy b m)
 told_group R s v policy b m c a z group chosen t = record {
   nodes = t.nodes;
@@ -130,7 +130,7 @@ told_group R s v policy b m c a z group chosen t = record {
 }
 
 -- below a node that is no group a sink takes nothing
-pub told_array : {K : Type 0} (R : K → Path × NodeMetadata → K → Type 0) (s : Contents) (v : MetadataRetrieveVersion) (policy : UseConsolidatedMetadata) (b : Path) (m : NodeMetadata) (a : K)
+told_array : {K : Type 0} (R : K → Path × NodeMetadata → K → Type 0) (s : Contents) (v : MetadataRetrieveVersion) (policy : UseConsolidatedMetadata) (b : Path) (m : NodeMetadata) (a : K)
     → is_group m ≡ false → TakesPairs R a a (PairsOf s v policy b m)
 told_array R s v policy b (Group g) a other = absurd (true≢false other)
 told_array R s v policy b (Array m) a other = record {
@@ -141,7 +141,7 @@ told_array R s v policy b (Array m) a other = record {
 }
 
 -- what a sink took of a forest below a base are its pairs
-pub told_forest : {K : Type 0} (R : K → Path × NodeMetadata → K → Type 0) (N : Path × NodeMetadata → Type 0) (b : Path) (a z : K) → TakesForest R a z b N → TakesPairs R a z N
+told_forest : {K : Type 0} (R : K → Path × NodeMetadata → K → Type 0) (N : Path × NodeMetadata → Type 0) (b : Path) (a z : K) → TakesForest R a z b N → TakesPairs R a z N
 told_forest R N b a z t = record {
   nodes = pairs t.trees;
   lists = t.shows.shown;
@@ -149,8 +149,13 @@ told_forest R N b a z t = record {
   took = t.took;
 }
 
+-- the same of an answer
+pub answer_told : {K A E : Type 0} (R : K → Path × NodeMetadata → K → Type 0) (N : Path × NodeMetadata → Type 0) (b : Path) (a z : K) (o : Result A E) → IfOk o (λ _. TakesForest R a z b N) → IfOk o (λ _. TakesPairs R a z N)
+answer_told R N b a z (Ok x) t = told_forest R N b a z t
+answer_told R N b a z (Err e) t = tt
+
 -- where nothing below a group is refused, the group is clean
-pub clean_by : (s : Contents) (v : MetadataRetrieveVersion) (policy : UseConsolidatedMetadata) (b : Path) (m : NodeMetadata) (c : Choice) → IsTrue (is_group m) → choice s policy b m ≡ c
+clean_by : (s : Contents) (v : MetadataRetrieveVersion) (policy : UseConsolidatedMetadata) (b : Path) (m : NodeMetadata) (c : Choice) → IsTrue (is_group m) → choice s policy b m ≡ c
     → IsCleanChosen s v c true b → IsCleanBelow s v policy b m
 clean_by s v policy b (Array a) c group chosen clean = tt
 clean_by s v policy b (Group g) c group chosen clean = subst (λ k. IsCleanChosen s v k true b) (sym chosen) clean
@@ -215,6 +220,40 @@ pub group_refused : (can_fail : Bool) (s : Contents) (v : MetadataRetrieveVersio
     → IsTrue (is_group m) → choice s policy b m ≡ c → IsExcused can_fail e ⊎ RefusesChosen s v c true b e → IsExcused can_fail e ⊎ RefusesOpening s v policy (path_text b) e
 group_refused can_fail s v policy b m c e valid means group chosen h = below_refused can_fail s v policy (path_text b) b m e valid refl means (refused_by can_fail s v policy b m c e group chosen h)
 
+-- the same of an answer
+pub answer_opened : {K A E : Type 0} (R : K → Path × NodeMetadata → K → Type 0) (s : Contents) (v : MetadataRetrieveVersion) (policy : UseConsolidatedMetadata) (b q : Path) (m : NodeMetadata) (c : Choice) (a k z : K)
+    (o : Result A E) → IsPath b → meaning s v b ≡ node m → IsTrue (is_group m) → choice s policy b m ≡ c → q ≡ b → R a (q, m) k
+    → IfOk o (λ _. TakesPairs R k z (PairsChosen s v c b)) → IfOk o (λ _. IsCleanChosen s v c true b) → IfOk o (λ _. TakesOpened R a z s v policy b)
+answer_opened R s v policy b q m c a k z (Ok x) valid means group chosen same took t good = opened_group R s v policy b q m c a k z valid means group chosen same took t good
+answer_opened R s v policy b q m c a k z (Err e) valid means group chosen same took t good = tt
+
+-- ---- what is passed over
+
+-- at a node that is no group nothing is
+pub array_passed : (s : Contents) (v : MetadataRetrieveVersion) (policy : UseConsolidatedMetadata) (b : Path) (m : NodeMetadata) (ps : List Path) → meaning s v b ≡ node m → is_group m ≡ false → ps ≡ []
+    → ListsPassed s v policy b ps
+array_passed s v policy b (Group g) ps means other none = absurd (true≢false other)
+array_passed s v policy b (Array a) ps means other none = (
+  Array a,
+  means,
+  subst (Lists (PassedBelow s v policy b (Array a))) (sym none)
+      (lists_from [] (λ e. (λ in'. absurd (omega (arith, in'.1)), λ none'. absurd none')) (λ i j d l k. absurd (omega (arith, l, k)))),
+)
+
+-- below a group what its choice passes over is
+group_passed : (s : Contents) (v : MetadataRetrieveVersion) (policy : UseConsolidatedMetadata) (b : Path) (m : NodeMetadata) (c : Choice) (ps : List Path) → meaning s v b ≡ node m → IsTrue (is_group m)
+    → choice s policy b m ≡ c → Lists (PassesOver s v c b) ps → ListsPassed s v policy b ps
+group_passed s v policy b (Array a) c ps means group chosen listed = absurd (true≢false (sym group))
+group_passed s v policy b (Group g) c ps means group chosen listed = (Group g, means, subst (λ k. Lists (PassesOver s v k b) ps) (sym chosen) listed)
+
+-- the same of an answer
+pub answer_passed : {E : Type 0} (s : Contents) (v : MetadataRetrieveVersion) (policy : UseConsolidatedMetadata) (b : Path) (m : NodeMetadata) (c : Choice) (o : Result (Vec Path) E) → meaning s v b ≡ node m
+    → IsTrue (is_group m) → choice s policy b m ≡ c → IfOk o (λ ignored. Lists (PassesOver s v c b) ignored.items) → IfOk o (λ ignored. ListsPassed s v policy b ignored.items)
+answer_passed s v policy b m c (Ok ignored) means group chosen listed = group_passed s v policy b m c ignored.items means group chosen listed
+answer_passed s v policy b m c (Err e) means group chosen listed = tt
+
+-- ---- what is refused
+
 -- the want of a block refuses what stands below a group
 wanted : (s : Contents) (v : MetadataRetrieveVersion) (b : Path) (c : Choice) (e : NodeCreateError) → RefusesUse b c e → RefusesChosen s v c true b e
 wanted s v b refuse e u = u
@@ -245,6 +284,13 @@ want_refused can_fail s v policy b (Group g) e valid means group h =
     below_refused can_fail s v policy (path_text b) b (Group g) e valid refl means
     (⊎_elim (λ x. inl (excused_by can_fail (Group g) policy e x)) (λ u. inr (wanted s v b (choice s policy b (Group g)) e u)) h)
 
+-- an answer that what stands below a group refuses, by the choice that is made, is refused by the opening
+pub answer_refused : {A : Type 0} (can_fail : Bool) (s : Contents) (v : MetadataRetrieveVersion) (policy : UseConsolidatedMetadata) (b : Path) (m : NodeMetadata) (c : Choice) (o : Result A NodeCreateError) → IsPath b
+    → meaning s v b ≡ node m → IsTrue (is_group m) → choice s policy b m ≡ c → IfErr o (λ e. IsExcused can_fail e ⊎ RefusesChosen s v c true b e)
+    → IfErr o (λ e. IsExcused can_fail e ⊎ RefusesOpening s v policy (path_text b) e)
+answer_refused can_fail s v policy b m c (Ok x) valid means group chosen h = tt
+answer_refused can_fail s v policy b m c (Err e) valid means group chosen h = group_refused can_fail s v policy b m c e valid means group chosen h
+
 -- an error that is handed on is the one that came
 pub error_handed : {A E : Type 0} (r : Result A E) (e : E) (P : E → Type 0) → IsErrAnd r (λ made. made ≡ e) → P e → IfErr r P
 error_handed (Ok x) e P is h = absurd is
@@ -269,7 +315,7 @@ took_lines b a (e ∷ es) z t at =
     ∙ append_assoc (string_bytes a.text) (line (length e.0 - length b) e.0 e.1) (lines b es)
 
 -- a text with the line of a base that took what stands below it is the tree of the hierarchy that has both
-pub told_tree : (s : Contents) (v : MetadataRetrieveVersion) (policy : UseConsolidatedMetadata) (b : Path) (m : NodeMetadata) (a z : TreeText) → IsPath b → meaning s v b ≡ node m → a.above ≡ length b
+told_tree : (s : Contents) (v : MetadataRetrieveVersion) (policy : UseConsolidatedMetadata) (b : Path) (m : NodeMetadata) (a z : TreeText) → IsPath b → meaning s v b ≡ node m → a.above ≡ length b
     → string_bytes a.text ≡ path_text b ++ 10 ∷ [] → TakesPairs AppendsNode a z (PairsOf s v policy b m) → IsCleanBelow s v policy b m → IsOpenedTree s v policy b (string_bytes z.text)
 told_tree s v policy b m a z valid means at start t clean = (
   (b, m) ∷ t.nodes,
@@ -297,6 +343,20 @@ told_tree s v policy b m a z valid means at start t clean = (
       λ in'. (Contains-cons (b, m) t.nodes e in', low e ((listed_each t.lists e).0 in')),
       λ both. ⊎_elim (λ same. absurd (not_itself b (subst (λ x. IsBelow b x.0) (sym same) both.1))) (λ l. l) (contains_cases (b, m) t.nodes e both.0),
     )
+
+-- the line of a base that is no group is the tree of the hierarchy that has it alone
+pub array_tree : (s : Contents) (v : MetadataRetrieveVersion) (policy : UseConsolidatedMetadata) (b : Path) (m : NodeMetadata) (text : String Global) → IsPath b → meaning s v b ≡ node m → is_group m ≡ false
+    → string_bytes text ≡ path_text b ++ 10 ∷ [] → IsOpenedTree s v policy b (string_bytes text)
+array_tree s v policy b m text valid means other start =
+    let a : TreeText = record { above = length b; text = text } in
+    told_tree s v policy b m a a valid means refl start (told_array AppendsNode s v policy b m a other) (clean_array s v policy b m other)
+
+-- a text with the line of a group that took what stands below it by the choice that is made is the tree of the hierarchy that has both
+pub group_tree : (s : Contents) (v : MetadataRetrieveVersion) (policy : UseConsolidatedMetadata) (b : Path) (m : NodeMetadata) (c : Choice) (a z : TreeText) → IsPath b → meaning s v b ≡ node m → IsTrue (is_group m)
+    → choice s policy b m ≡ c → a.above ≡ length b → string_bytes a.text ≡ path_text b ++ 10 ∷ [] → TakesPairs AppendsNode a z (PairsChosen s v c b) → IsCleanChosen s v c true b
+    → IsOpenedTree s v policy b (string_bytes z.text)
+group_tree s v policy b m c a z valid means group chosen at start t good =
+    told_tree s v policy b m a z valid means at start (told_group AppendsNode s v policy b m c a z group chosen t) (clean_by s v policy b m c group chosen good)
 
 -- a list of a group's path and copied metadata that took a listing below it holds the group and that
 pub group_holds : (s : Contents) (v : MetadataRetrieveVersion) (b q : Path) (m k : GroupMetadata) (a z : Vec (Path × NodeMetadata)) → q ≡ b → k ≡ m → a.items ≡ (q, Group k) ∷ []

@@ -4,7 +4,7 @@
 -- <https://zarr-specs.readthedocs.io/en/latest/v3/core/index.html#group-metadata>
 -- <https://zarr.readthedocs.io/en/stable/user-guide/consolidated_metadata/>
 use Rattle.std.specs.Prelude.{◌≡◌, ℕ, true, List}
-use Rattle.zarrs_store.specs.Contents.{Contents}
+use Rattle.zarrs_store.specs.Contents.{Contents, Lists}
 use Rattle.zarrs_path.specs.Paths.{Path, IsPath, path_text}
 use Rattle.zarrs_meta.specs.declared.node.NodeMetadata.{NodeMetadata}
 use Rattle.zarrs_meta.specs.declared.node.NodeMetadata.TheVariants.{Group, Array}
@@ -14,7 +14,7 @@ use Rattle.zarrs_block.specs.Block.{Entries}
 use Rattle.zarrs_block.specs.Policy.{Choice, use_block, list_store, refuse}
 use Rattle.zarrs_block.specs.Meaning.{meaning, node}
 use Rattle.zarrs_node.specs.Nodes.{Nodes}
-use Rattle.zarrs_node.specs.OpeningNodes.{choice, IsCleanBelow}
+use Rattle.zarrs_node.specs.OpeningNodes.{choice, IsCleanBelow, PassesOver}
 use Rattle.zarrs_hierarchy.specs.PairsOfHierarchies.{Pairs, Holds, WithBase}
 use Rattle.zarrs_hierarchy.specs.Tree.{IsTreeOf}
 use Rattle.zarrs_block.specs.Meaning.{Pair}
@@ -46,3 +46,14 @@ pub record IsOpened (s : Contents) (v : MetadataRetrieveVersion) (policy : UseCo
 -- the text is the tree, from b on, of the hierarchy that opening at b finds
 abbrev pub IsOpenedTree : Contents → MetadataRetrieveVersion → UseConsolidatedMetadata → Path → List ℕ → Type 0
 IsOpenedTree s v policy b text = (h : Pairs) × IsOpened s v policy (path_text b) h × IsTreeOf h b text
+
+-- the paths that an opening at b passes over, where b has these metadata: below an array none, below a group those of
+-- the choice that is made for it
+abbrev pub PassedBelow : Contents → MetadataRetrieveVersion → UseConsolidatedMetadata → Path → NodeMetadata → Path
+    → Type 0
+PassedBelow s v policy b (Array a) p = ⊥
+PassedBelow s v policy b (Group g) p = PassesOver s v (choice s policy b (Group g)) b p
+
+-- the path b means a node, and the list has exactly the paths that an opening at b passes over, each once
+abbrev pub ListsPassed : Contents → MetadataRetrieveVersion → UseConsolidatedMetadata → Path → List Path → Type 0
+ListsPassed s v policy b ps = (m : NodeMetadata) × (meaning s v b ≡ node m) × Lists (PassedBelow s v policy b m) ps

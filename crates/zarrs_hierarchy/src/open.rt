@@ -5,10 +5,11 @@ ghost use Rattle.zarrs_meta.specs.declared.node.NodeMetadata.TheVariants.{Group 
 ghost use Rattle.zarrs_block.specs.Refusals.{IsExcusedOr};
 ghost use Rattle.zarrs_block.specs.Policy.{as_choice};
 ghost use Rattle.zarrs_node.specs.Nodes.{Nodes, ShowsBad, HasNothingBad};
-ghost use Rattle.zarrs_node.specs.OpeningNodes.{IsCleanChosen, RefusesChosen, RefusesOpening};
+ghost use Rattle.zarrs_node.specs.OpeningNodes.{IsCleanChosen, PassesOver, RefusesChosen, RefusesOpening};
 ghost use Rattle.zarrs_hierarchy.specs.PairsOfHierarchies.{Holds, WithBase};
 ghost use Rattle.zarrs_node.specs.Sinks.{TakesAll};
-ghost use Rattle.zarrs_hierarchy.specs.OpeningHierarchies.{PairsChosen, IsOpened};
+ghost use Rattle.zarrs_store.specs.Contents.{Lists};
+ghost use Rattle.zarrs_hierarchy.specs.OpeningHierarchies.{PairsChosen, IsOpened, ListsPassed};
 ghost use Rattle.zarrs_hierarchy.specs.Sinks.{TakesOpened};
 ghost use Rattle.zarrs_hierarchy.specs.StepsOfHierarchies.{TakesPairs};
 
@@ -19,7 +20,7 @@ use zarrs_block::{ConsolidatedMetadata, expand_consolidated_metadata};
 use zarrs_config::{Config, MetadataRetrieveVersion};
 use zarrs_group::Group;
 use zarrs_meta::NodeMetadata;
-use zarrs_node::{Node, NodeSink, consolidated_metadata_at, walk_child_nodes};
+use zarrs_node::{LISTING, Node, NodeSink, consolidated_metadata_at, walk_nodes, warn_ignored};
 use zarrs_path::NodePath;
 use zarrs_store::{ListableStorageTraits, ReadableStorageTraits};
 
@@ -94,7 +95,8 @@ impl Hierarchy {
     {
         let path = NodePath::new(alloc, path)?;
         let mut nodes = Vec::new(alloc);
-        walk_hierarchy(log, alloc, storage, &path, version, config, &mut nodes)?;
+        let ignored = walk_hierarchy(alloc, storage, &path, version, config, &mut nodes)?;
+        warn_ignored(log, LISTING, &ignored);
         Ok(Hierarchy { nodes })
     }
 
@@ -130,13 +132,15 @@ impl Hierarchy {
         let version = MetadataRetrieveVersion::Default;
         let metadata = group.metadata().try_clone(alloc)?;
         let mut nodes = base_alone(alloc, base, NodeMetadata::Group(metadata))?;
-        walk_child_nodes(log, alloc, storage, base, true, &version, &mut nodes)?;
+        let ignored = walk_nodes(alloc, storage, base, true, &version, &mut nodes)?;
+        warn_ignored(log, LISTING, &ignored);
         Ok(Hierarchy { nodes })
     }
 }
 
 /// Hands what [`Hierarchy::open_opt`] finds at a path to a sink: the node at the path first, then the nodes below it in the order of paths, each when it
-/// is read. No hierarchy is made. After an error the sink may have taken some.
+/// is read. No hierarchy is made. It answers the paths without documents that were passed over where the store is listed, and warns of none. After an
+/// error the sink may have taken some nodes.
 ///
 /// # Errors
 ///
@@ -144,18 +148,20 @@ impl Hierarchy {
 ///
 /// Source: own; `zarrs::hierarchy::Hierarchy::open_opt`.
 #[tactic(auto, using(crate::proofs::OpenedPairs::group_refused))]
-pub fn walk_hierarchy<L: Log, S: ReadableStorageTraits + ListableStorageTraits, K: NodeSink>(
-    log: &L,
+pub fn walk_hierarchy<S: ReadableStorageTraits + ListableStorageTraits, K: NodeSink>(
     alloc: Global,
     storage: &S,
     path: &NodePath,
     version: &MetadataRetrieveVersion,
     config: &Config,
     sink: &mut K,
-) -> Result<(), HierarchyCreateError>
-    ensures takes { OnOk result
-        (TakesOpened K.takes sink.old sink.new
+) -> Result<Vec<NodePath>, HierarchyCreateError>
+    ensures takes { IfOk result
+        (λ _. TakesOpened K.takes sink.old sink.new
         (S.contents storage.now) version.now config.now.use_consolidated path.now) }
+    ensures ignored { IfOk result
+        (λ ignored. ListsPassed
+        (S.contents storage.now) version.now config.now.use_consolidated path.now ignored.items) }
     ensures refused { IfErr result
         (IsExcusedOr (S.can_fail storage.now)
         (RefusesOpening (S.contents storage.now) version.now config.now.use_consolidated
@@ -165,31 +171,35 @@ pub fn walk_hierarchy<L: Log, S: ReadableStorageTraits + ListableStorageTraits, 
     let metadata = Node::get_metadata(alloc, storage, path, version)?;
     let own_path = path.try_clone(alloc)?;
     if !metadata.is_group() {
-        return Ok(sink.take(own_path, metadata)?);
+        sink.take(own_path, metadata)?;
+        return Ok(Vec::new(alloc));
     }
     let policy = config.use_consolidated_metadata();
     let block = consolidated_metadata_at(alloc, storage, path, &metadata, policy)?;
     sink.take(own_path, metadata)?;
-    tell_below(log, alloc, storage, path, version, block, sink)?;
-    Ok(())
+    walk_below(alloc, storage, path, version, block, sink)
 }
 
 // Hands the nodes below a group to a sink, in the order of paths: the entries of the block that is used, or where none is, the nodes that a
-// listing finds.
-pub(crate) fn tell_below<L: Log, S: ReadableStorageTraits + ListableStorageTraits, K: NodeSink>(
-    log: &L,
+// listing finds. It answers the paths that the listing passed over.
+pub(crate) fn walk_below<S: ReadableStorageTraits + ListableStorageTraits, K: NodeSink>(
     alloc: Global,
     storage: &S,
     path: &NodePath,
     version: &MetadataRetrieveVersion,
     block: Option<ConsolidatedMetadata>,
     sink: &mut K,
-) -> Result<(), HierarchyCreateError>
-    ensures takes { OnOk result
-        (TakesPairs K.takes sink.old sink.new
+) -> Result<Vec<NodePath>, HierarchyCreateError>
+    ensures takes { IfOk result
+        (λ _. TakesPairs K.takes sink.old sink.new
         (PairsChosen (S.contents storage.now) version.now (as_choice block) path.now)) }
-    ensures clean { OnOk result
-        (IsCleanChosen (S.contents storage.now) version.now (as_choice block) true path.now) }
+    ensures ignored { IfOk result
+        (λ ignored. Lists
+        (PassesOver (S.contents storage.now) version.now (as_choice block) path.now)
+        ignored.items) }
+    ensures clean { IfOk result
+        (λ _. IsCleanChosen (S.contents storage.now) version.now (as_choice block) true
+        path.now) }
     ensures refused { IfErr result
         (IsExcusedOr (S.can_fail storage.now)
         (RefusesChosen (S.contents storage.now) version.now (as_choice block) true path.now)) }
@@ -197,9 +207,10 @@ pub(crate) fn tell_below<L: Log, S: ReadableStorageTraits + ListableStorageTrait
     match block {
         Some(block) => {
             let entries = expand_consolidated_metadata(alloc, path, block)?;
-            Ok(tell_all(entries, sink)?)
+            tell_all(entries, sink)?;
+            Ok(Vec::new(alloc))
         }
-        None => Ok(walk_child_nodes(log, alloc, storage, path, true, version, sink)?),
+        None => walk_nodes(alloc, storage, path, true, version, sink),
     }
 }
 

@@ -1,20 +1,19 @@
 //! The text of what a store has at a path and below it.
-ghost use Rattle.std.specs.Prelude.{◌≡◌, ◌∷◌, [], ◌++◌, IfOk, IfErr, OnOk, string_bytes};
+ghost use Rattle.std.specs.Prelude.{◌≡◌, ◌∷◌, [], ◌++◌, IfOk, IfErr, string_bytes};
 ghost use Rattle.zarrs_path.specs.Paths.{path_text};
 ghost use Rattle.zarrs_block.specs.Refusals.{IsExcusedOr};
-ghost use Rattle.zarrs_node.specs.OpeningNodes.{IsCleanBelow, RefusesBelow, RefusesOpening};
-ghost use Rattle.zarrs_hierarchy.specs.OpeningHierarchies.{PairsOf, IsOpenedTree};
+ghost use Rattle.zarrs_node.specs.OpeningNodes.{RefusesOpening};
+ghost use Rattle.zarrs_hierarchy.specs.OpeningHierarchies.{IsOpenedTree};
 ghost use Rattle.zarrs_hierarchy.specs.Sinks.{AppendsNode};
-ghost use Rattle.zarrs_hierarchy.specs.StepsOfHierarchies.{TakesPairs};
 
 use crate::hierarchy::HierarchyCreateError;
-use crate::open::tell_below;
+use crate::open::walk_below;
 use crate::tree::{TreeLine, depth};
 use log::Log;
 use std::alloc::{AllocError, Global};
 use zarrs_config::{Config, MetadataRetrieveVersion};
 use zarrs_meta::NodeMetadata;
-use zarrs_node::{Node, NodeSink, consolidated_metadata_at};
+use zarrs_node::{LISTING, Node, NodeSink, consolidated_metadata_at, warn_ignored};
 use zarrs_path::NodePath;
 use zarrs_store::{ListableStorageTraits, ReadableStorageTraits};
 
@@ -29,7 +28,7 @@ use zarrs_store::{ListableStorageTraits, ReadableStorageTraits};
 ///
 /// [`Hierarchy::open_opt`]: crate::Hierarchy::open_opt
 /// [`Hierarchy::tree_of`]: crate::Hierarchy::tree_of
-#[tactic(auto, using(crate::proofs::OpenedPairs::below_refused))]
+#[tactic(auto, using(crate::proofs::OpenedPairs::group_refused))]
 pub fn tree_at<L: Log, S: ReadableStorageTraits + ListableStorageTraits>(
     log: &L,
     alloc: Global,
@@ -49,46 +48,17 @@ pub fn tree_at<L: Log, S: ReadableStorageTraits + ListableStorageTraits>(
 {
     let _valid = path.as_str();
     let metadata = Node::get_metadata(alloc, storage, path, version)?;
-    let mut tree = TreeText {
-        above: depth(path),
-        text: first_line(alloc, path)?,
-    };
-    tell_node(
-        log, alloc, storage, path, &metadata, version, config, &mut tree,
-    )?;
-    Ok(tree.text)
-}
-
-// Hands the nodes below one, which has these metadata, to a sink, in the order of paths.
-#[tactic(auto, using(crate::proofs::OpenedPairs::excused_by, crate::proofs::OpenedPairs::clean_by, crate::proofs::OpenedPairs::refused_by, crate::proofs::OpenedPairs::told_array))]
-fn tell_node<L: Log, S: ReadableStorageTraits + ListableStorageTraits, K: NodeSink>(
-    log: &L,
-    alloc: Global,
-    storage: &S,
-    path: &NodePath,
-    metadata: &NodeMetadata,
-    version: &MetadataRetrieveVersion,
-    config: &Config,
-    sink: &mut K,
-) -> Result<(), HierarchyCreateError>
-    ensures takes { OnOk result
-        (TakesPairs K.takes sink.old sink.new
-        (PairsOf (S.contents storage.now) version.now config.now.use_consolidated path.now
-        metadata.now)) }
-    ensures clean { OnOk result
-        (IsCleanBelow (S.contents storage.now) version.now config.now.use_consolidated path.now
-        metadata.now) }
-    ensures refused { IfErr result
-        (IsExcusedOr (S.can_fail storage.now)
-        (RefusesBelow (S.contents storage.now) version.now config.now.use_consolidated path.now
-        metadata.now)) }
-{
+    let text = first_line(alloc, path)?;
     if !metadata.is_group() {
-        return Ok(());
+        return Ok(text);
     }
     let policy = config.use_consolidated_metadata();
-    let block = consolidated_metadata_at(alloc, storage, path, metadata, policy)?;
-    tell_below(log, alloc, storage, path, version, block, sink)
+    let block = consolidated_metadata_at(alloc, storage, path, &metadata, policy)?;
+    let above = depth(path);
+    let mut tree = TreeText { above, text };
+    let ignored = walk_below(alloc, storage, path, version, block, &mut tree)?;
+    warn_ignored(log, LISTING, &ignored);
+    Ok(tree.text)
 }
 
 // The text of a path and a newline.

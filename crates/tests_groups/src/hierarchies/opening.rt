@@ -201,24 +201,35 @@ fn opened_tree(
     tree_at(&Discard, alloc, store, &path, &version, config)
 }
 
-// The nodes that are handed over at a path of a store, as they come.
+// What a sink takes at a path of a store, as it comes, and the paths that are passed over.
+#[derive(Drop)]
+struct Walked {
+    nodes: Vec<(NodePath, NodeMetadata)>,
+    ignored: Vec<NodePath>,
+}
+
+// What a walk hands over at a path of a store.
 fn walked(
     alloc: Global,
     store: &MemoryStore,
     path: &str,
     version: &str,
     config: &Config,
-) -> Result<Vec<(NodePath, NodeMetadata)>, NodeCreateError> {
+) -> Result<Walked, NodeCreateError> {
     let path = NodePath::new(alloc, path)?;
     let version = version_of(alloc, version)?;
     let mut nodes = Vec::new(alloc);
-    walk_hierarchy(&Discard, alloc, store, &path, &version, config, &mut nodes)?;
-    Ok(nodes)
+    let ignored = walk_hierarchy(alloc, store, &path, &version, config, &mut nodes)?;
+    Ok(Walked { nodes, ignored })
 }
 
-// The path of each and its document, one a line.
-fn walked_text(nodes: &Vec<(NodePath, NodeMetadata)>, alloc: Global) -> Result<String, AllocError> {
-    lines_text(nodes, alloc)
+// The path of each node and its document, one a line, and each path that was passed over.
+fn walked_text(walked: &Walked, alloc: Global) -> Result<String, AllocError> {
+    let mut text = lines_text(&walked.nodes, alloc)?;
+    for path in &walked.ignored {
+        write!(text, "passed over {path}\n")?;
+    }
+    Ok(text)
 }
 
 // The hierarchy of the nodes that are listed below a path of a store.
@@ -339,6 +350,10 @@ walked | / | any | auto | zarr.json=G3 a/zarr.json=G3 a/x/zarr.json=A3 a-b/zarr.
 walked | /a/x | any | must | zarr.json=G3 a/zarr.json=G3 a/x/zarr.json=A3 => /a/x A3\n
 walked | / | v2 | never | zarr.json=G3 .zgroup=G2 a/.zarray=A2 => / G2\n/a A2\n
 walked | /g | any | auto | g/.zgroup=G2 g/s/.zgroup=G2 g/.zmetadata={"metadata":{"x/y/.zgroup":{"zarr_format":2}},"zarr_consolidated_format":1} => /g G2\n/g/x/y G2\n
+walked | / | any | auto | zarr.json=G3 a/zarr.json=G3 fake/c= other/d/e= => / G3\n/a G3\npassed over /fake\npassed over /other\n
+walked | /a | any | auto | a/zarr.json=A3 a/c/0= => /a A3\n
+walked | /g | any | auto | g/.zgroup=G2 g/fake/c= g/.zmetadata={"metadata":{"x/y/.zgroup":{"zarr_format":2}},"zarr_consolidated_format":1} => /g G2\n/g/x/y G2\n
+walked | /g | any | never | g/.zgroup=G2 g/fake/c= g/.zmetadata={"metadata":{"x/y/.zgroup":{"zarr_format":2}},"zarr_consolidated_format":1} => /g G2\npassed over /g/fake\n
 walked | / | any | must | zarr.json=G3 => MissingMetadata: Metadata is missing for Consolidated metadata required but missing on group /
 # what is bad below a group is refused
 tree at | / | any | auto | zarr.json=G3 a/zarr.json=NUL => StorageError(InvalidMetadata): error parsing metadata for a/zarr.json: not JSON

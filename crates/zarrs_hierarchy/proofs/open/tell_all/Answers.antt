@@ -1,5 +1,5 @@
 use Rattle.std.proofs.Common.{◌∷◌, [], refl}
-use Rattle.zarrs_node.proofs.SinkSteps.{took_more}
+use Rattle.zarrs_node.proofs.walk.SinkSteps.{took_more}
 use Rattle.zarrs_hierarchy.proofs.open.tell_all.Goals as goal
 
 pub loop-path-preserved : goal.loop-path-preserved

@@ -1,11 +1,11 @@
-use Rattle.std.proofs.Common.{◌∙◌, sym, ap, subst, ◌⊎◌}
+use Rattle.std.proofs.Common.{◌∙◌, refl, sym, ap, subst, ◌⊎◌}
 use Rattle.zarrs_path.specs.Paths.{path_text}
 use Rattle.zarrs_block.specs.Refusals.{IsExcusedOr}
 use Rattle.zarrs_node.specs.OpeningNodes.{RefusesOpening}
 use Rattle.zarrs_config.specs.declared.version.UseConsolidatedMetadata.{UseConsolidatedMetadata}
 use Rattle.zarrs_block.specs.Policy.{block_to_use, RefusesUse}
 use Rattle.zarrs_node.specs.BlocksBelow.{block_at, ExcusesBlock}
-use Rattle.zarrs_hierarchy.proofs.OpenedPairs.{error_handed, opened_array, opened_group, want_refused}
+use Rattle.zarrs_hierarchy.proofs.OpenedPairs.{answer_opened, answer_passed, answer_refused, array_passed, error_handed, opened_array, want_refused}
 use Rattle.zarrs_hierarchy.proofs.open.walk_hierarchy.Goals as goal
 
 pub returns-then-not-is_group-clause-takes : goal.returns-then-not-is_group-clause-takes
@@ -13,12 +13,29 @@ returns-then-not-is_group-clause-takes g c =
     opened_array g.K.NodeSink.takes (g.S.Store.contents c.args.storage.now) c.args.version.now c.args.config.now.use_consolidated c.args.path.now _ c.in_ok-metadata.metadata _ _
     c.as_str-valid.ensures.valid c.in_ok-metadata.ensures.ok (sym c.is_group.ensures ∙ c.if-not-is_group.true) c.in_ok-own_path.ensures.ok c.in_ok-take.ensures
 
+pub returns-then-not-is_group-clause-ignored : goal.returns-then-not-is_group-clause-ignored
+returns-then-not-is_group-clause-ignored g c =
+    array_passed (g.S.Store.contents c.args.storage.now) c.args.version.now c.args.config.now.use_consolidated c.args.path.now c.in_ok-metadata.metadata _
+    c.in_ok-metadata.ensures.ok (sym c.is_group.ensures ∙ c.if-not-is_group.true) c.new.ensures.items
+
 pub returns-clause-takes : goal.returns-clause-takes
 returns-clause-takes g c =
     let chosen = ap (λ p. block_to_use (block_at (g.S.Store.contents c.args.storage.now) c.args.path.now c.in_ok-metadata.metadata) p) (sym c.use_consolidated_metadata-policy.ensures) ∙ c.in_ok-block.ensures.ok in
-    opened_group g.K.NodeSink.takes (g.S.Store.contents c.args.storage.now) c.args.version.now c.args.config.now.use_consolidated c.args.path.now _ c.in_ok-metadata.metadata _ _ _ _
+    answer_opened g.K.NodeSink.takes (g.S.Store.contents c.args.storage.now) c.args.version.now c.args.config.now.use_consolidated c.args.path.now _ c.in_ok-metadata.metadata _ _ _ _ c.walk_below.result
     c.as_str-valid.ensures.valid c.in_ok-metadata.ensures.ok (sym c.is_group.ensures ∙ c.if-not-is_group.false) chosen c.in_ok-own_path.ensures.ok c.in_ok-take-2.ensures
-    c.in_ok-tell_below.ensures.takes c.in_ok-tell_below.ensures.clean
+    c.walk_below.ensures.takes c.walk_below.ensures.clean
+
+pub returns-clause-ignored : goal.returns-clause-ignored
+returns-clause-ignored g c =
+    let chosen = ap (λ p. block_to_use (block_at (g.S.Store.contents c.args.storage.now) c.args.path.now c.in_ok-metadata.metadata) p) (sym c.use_consolidated_metadata-policy.ensures) ∙ c.in_ok-block.ensures.ok in
+    answer_passed (g.S.Store.contents c.args.storage.now) c.args.version.now c.args.config.now.use_consolidated c.args.path.now c.in_ok-metadata.metadata _ c.walk_below.result
+    c.in_ok-metadata.ensures.ok (sym c.is_group.ensures ∙ c.if-not-is_group.false) chosen c.walk_below.ensures.ignored
+
+pub returns-clause-refused : goal.returns-clause-refused
+returns-clause-refused g c =
+    let chosen = ap (λ p. block_to_use (block_at (g.S.Store.contents c.args.storage.now) c.args.path.now c.in_ok-metadata.metadata) p) (sym c.use_consolidated_metadata-policy.ensures) ∙ c.in_ok-block.ensures.ok in
+    answer_refused (g.S.Store.can_fail c.args.storage.now) (g.S.Store.contents c.args.storage.now) c.args.version.now c.args.config.now.use_consolidated c.args.path.now c.in_ok-metadata.metadata _ c.walk_below.result
+    c.as_str-valid.ensures.valid c.in_ok-metadata.ensures.ok (sym c.is_group.ensures ∙ c.if-not-is_group.false) chosen c.walk_below.ensures.refused
 
 pub returns-in_err-block-clause-refused : goal.returns-in_err-block-clause-refused
 returns-in_err-block-clause-refused g c =
