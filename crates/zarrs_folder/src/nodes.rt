@@ -118,21 +118,25 @@ pub fn load_children<F: Folder>(
     let prefix = base.to_prefix(alloc)?;
     read_left(alloc, folder, documents, &prefix, &mut loaded)?;
     let mut ahead = folder.children(alloc, &prefix)?;
-    let walk = Walk { base, documents };
-    walk_on(alloc, folder, walk, &mut ahead, &mut loaded)?;
+    let walk = Walk {
+        alloc,
+        base,
+        documents,
+    };
+    walk_on(folder, walk, &mut ahead, &mut loaded)?;
     Ok(loaded)
 }
 
-// Where a walk begins, and which documents of each path it loads.
+// Where a walk begins, which documents of each path it loads, and where the memory for them comes from.
 #[derive(Clone, Copy)]
 struct Walk<'a> {
+    alloc: Global,
     base: &'a NodePath,
     documents: Documents,
 }
 
 // Loads what lies ahead, until nothing does. There is no bound: memory does not hold as many prefixes as there are turns.
 fn walk_on<F: Folder>(
-    alloc: Global,
     folder: &mut F,
     walk: Walk<'_>,
     ahead: &mut Vec<StorePrefix>,
@@ -150,14 +154,13 @@ fn walk_on<F: Folder>(
         let Some(next) = ahead.pop() else {
             return Ok(());
         };
-        look(alloc, folder, walk, next, ahead, loaded)?;
+        look(folder, walk, next, ahead, loaded)?;
     }
     Err(FolderFault::OutOfMemory)
 }
 
 // Loads what a prefix holds, and puts what is then to be looked at on the stack.
 fn look<F: Folder>(
-    alloc: Global,
     folder: &mut F,
     walk: Walk<'_>,
     prefix: StorePrefix,
@@ -173,16 +176,15 @@ fn look<F: Folder>(
     ensures err { IfErr result (IsFaultOfFolder (F.can_fail folder.new)) }
 {
     let _valid = walk.base.as_str();
-    match NodePath::from_prefix(alloc, &prefix) {
-        Ok(path) => look_at(alloc, folder, walk, &path, &prefix, ahead, loaded),
-        Err(NodePathError::Invalid(_)) => keep_one(alloc, folder, &prefix, loaded),
+    match NodePath::from_prefix(walk.alloc, &prefix) {
+        Ok(path) => look_at(folder, walk, &path, &prefix, ahead, loaded),
+        Err(NodePathError::Invalid(_)) => keep_one(walk.alloc, folder, &prefix, loaded),
         Err(NodePathError::OutOfMemory) => Err(FolderFault::OutOfMemory),
     }
 }
 
 // The same, of the prefix of a path. One that is not below the base is passed over.
 fn look_at<F: Folder>(
-    alloc: Global,
     folder: &mut F,
     walk: Walk<'_>,
     path: &NodePath,
@@ -202,11 +204,11 @@ fn look_at<F: Folder>(
     if !path.is_below(walk.base) {
         return Ok(());
     }
-    load_at(alloc, folder, walk.documents, prefix, loaded)?;
-    if !is_group_at(alloc, loaded, path)? {
+    load_at(walk.alloc, folder, walk.documents, prefix, loaded)?;
+    if !is_group_at(walk.alloc, loaded, path)? {
         return Ok(());
     }
-    let mut children = folder.children(alloc, prefix)?;
+    let mut children = folder.children(walk.alloc, prefix)?;
     ahead.append(&mut children)?;
     Ok(())
 }
