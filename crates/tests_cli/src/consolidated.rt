@@ -6,7 +6,7 @@ use log::sink::Discard;
 use std::alloc::Global;
 use std::process::Abort;
 use std::{fs, io};
-use zarrs_cli::{ConsolidateOptions, consolidate_folder};
+use zarrs_cli::{BlockRequest, ConsolidateOptions, consolidate_folder};
 use zarrs_store::{MemoryStore, StoreKey, WritableStorageTraits};
 use zarrs_write::MemoryPlace;
 
@@ -325,9 +325,12 @@ fn store_of<R: Abort>(rt: &R, alloc: Global) -> MemoryStore {
 
 // What a run over a folder in memory answers, what it writes, and the files that then stand in the folder of the document, of which a call fails.
 fn answered<R: Abort>(rt: &R, alloc: Global, dry_run: bool, calls: u64) -> String {
-    let options = ConsolidateOptions {
-        dry_run,
-        remove: false,
+    let request = BlockRequest {
+        options: ConsolidateOptions {
+            dry_run,
+            remove: false,
+        },
+        path: "/",
     };
     let mut place = MemoryPlace::new(alloc);
     place
@@ -339,8 +342,7 @@ fn answered<R: Abort>(rt: &R, alloc: Global, dry_run: bool, calls: u64) -> Strin
     let outcome = consolidate_folder(
         &Discard,
         alloc,
-        options,
-        "/",
+        request,
         &mut store,
         &mut place,
         &mut output,

@@ -7,7 +7,7 @@ use log::{Level, Logged};
 use std::alloc::{AllocError, Global};
 use std::process::Abort;
 use std::{fs, io};
-use zarrs_cli::{USAGE, Word, answer, load_image, run_of_folder, run_store};
+use zarrs_cli::{Host, USAGE, Word, answer, load_image, run_of_folder, run_store};
 use zarrs_store::AnyNumbers;
 
 // A group whose block has a group that the store has not.
@@ -49,15 +49,12 @@ pub(crate) fn run(rt: &HostRuntime, texts: &[&str]) -> Result<(String, String, u
     let mut output = Vec::new(alloc);
     let mut errors = Vec::new(alloc);
     let mut reader = IMAGE.as_bytes();
-    let ending = answer(
-        &Logged::new(rt, Level::Warn, &sink),
-        rt,
-        &words,
-        false,
-        &mut reader,
-        &mut output,
-        &mut errors,
-    );
+    let host = Host {
+        rt: &Logged::new(rt, Level::Warn, &sink),
+        files: rt,
+        is_watched: false,
+    };
+    let ending = answer(&host, &words, &mut reader, &mut output, &mut errors);
     let mut said = sink.into_inner();
     said.extend_from_slice(&errors)?;
     Ok((
@@ -82,10 +79,10 @@ const IGNORED: &str =
     "[WARN  zarrs_node::children] Object at /a/c is not recognized as a component of a Zarr hierarchy. Ignoring.\n";
 
 const IGNORED_IN_CHECK: &str =
-    "[WARN  zarrs_survey::survey] Object at /a/c is not recognized as a component of a Zarr hierarchy. Ignoring.\nzarrs: 3 nodes, 1 finding\n";
+    "[WARN  zarrs_check::survey] Object at /a/c is not recognized as a component of a Zarr hierarchy. Ignoring.\nzarrs: 3 nodes, 1 finding\n";
 
 const IGNORED_BELOW: &str =
-    "[WARN  zarrs_survey::survey] Object at /a/c is not recognized as a component of a Zarr hierarchy. Ignoring.\nzarrs: 1 node, 1 finding\n";
+    "[WARN  zarrs_check::survey] Object at /a/c is not recognized as a component of a Zarr hierarchy. Ignoring.\nzarrs: 1 node, 1 finding\n";
 
 // Makes the folder of a test: groups, one of them with a block that is stale, an array and chunks.
 fn make_store(rt: &HostRuntime) -> io::Result<()> {

@@ -6,19 +6,21 @@ use log::{Level, Logged};
 use std::io;
 use std::io::IsTerminal;
 use std::process::ExitCode;
-use zarrs_cli::{Warnings, ZarrsFault, answer, finish};
+use zarrs_cli::{Host, Warnings, ZarrsFault, answer, finish};
 use zarrs_program::words;
 
 fn main(rt: HostRuntime) -> ExitCode {
     let log = Logged::new(&rt, Level::Warn, Warnings(&rt));
     let mut errors = rt.stderr();
-    let is_watched = errors.is_terminal();
+    let host = Host {
+        rt: &log,
+        files: &rt,
+        is_watched: errors.is_terminal(),
+    };
     let ending = match words(&rt) {
         Ok(words) => answer(
-            &log,
-            &rt,
+            &host,
             &words,
-            is_watched,
             &mut rt.reader(),
             &mut io::writer(&rt),
             &mut errors,

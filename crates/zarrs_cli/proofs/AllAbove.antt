@@ -3,10 +3,10 @@ use Rattle.std.proofs.Common.{◌⊎◌, inl, ⊎_elim, inr, List, [], ◌∷◌
 use Rattle.std.proofs.lemmas.List.Elements.{Contains-append_left, Contains-append_right}
 use Rattle.zarrs_path.specs.Paths.{Path, IsBelow, IsParent}
 use Rattle.zarrs_node.proofs.ForestsBeside.{Contains-first}
-use Rattle.zarrs_survey.specs.Findings.{IsAtOrAbove}
+use Rattle.zarrs_check.specs.Findings.{IsAtOrAbove}
 use Rattle.zarrs_node.proofs.KeptOfLists.{above_child}
-use Rattle.zarrs_survey.proofs.Above.{at_itself, at_or_above, up_cases}
-use Rattle.zarrs_survey.proofs.GroupsAbove.{none_above_root}
+use Rattle.zarrs_check.proofs.Above.{at_itself, at_or_above, up_cases}
+use Rattle.zarrs_check.proofs.GroupsAbove.{none_above_root}
 
 -- g is the next path or above it
 abbrev IsNextOrAbove : Option Path → Path → Type 0

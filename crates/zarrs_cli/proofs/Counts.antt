@@ -8,7 +8,7 @@ use Rattle.zarrs_block.specs.declared.node_create_error.NodeCreateError.{NodeCre
 use Rattle.zarrs_node.proofs.ListedItems.{all_pairs_first, all_pairs_tail}
 use Rattle.zarrs_node.proofs.ForestsBeside.{Contains-cons, Contains-first}
 use Rattle.zarrs_node.proofs.Order.{contains_cases}
-use Rattle.zarrs_survey.specs.Orphans.{AreHidden, IsCountBelow}
+use Rattle.zarrs_check.specs.Orphans.{AreHidden, IsCountBelow}
 
 -- ---- bad documents with their numbers
 

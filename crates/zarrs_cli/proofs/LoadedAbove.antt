@@ -15,13 +15,13 @@ use Rattle.zarrs_block.specs.Meaning.{meaning, node}
 use Rattle.zarrs_block.specs.Zmetadata.{zmetadata_in}
 use Rattle.zarrs_node.specs.Exists.{HasNodeKey}
 use Rattle.zarrs_node.proofs.KeptOfLists.{not_below_itself}
-use Rattle.zarrs_survey.specs.BlocksAbove.{MeansNoArray, HasNodeFrom, HasBadFrom, IsAboveFinding}
-use Rattle.zarrs_survey.specs.Checks.{block_read}
-use Rattle.zarrs_survey.specs.Findings.{IsAtOrAbove, IsPathFinding}
+use Rattle.zarrs_check.specs.BlocksAbove.{MeansNoArray, HasNodeFrom, HasBadFrom, IsAboveFinding}
+use Rattle.zarrs_check.specs.Checks.{block_read}
+use Rattle.zarrs_check.specs.Findings.{IsAtOrAbove, IsPathFinding}
 use Rattle.zarrs_block.specs.Meaning.{Pair}
-use Rattle.zarrs_survey.specs.declared.finding.Finding.{Finding}
-use Rattle.zarrs_survey.specs.declared.finding.FindingKind.TheVariants.{Stale}
-use Rattle.zarrs_survey.proofs.Blocks.{finding_same}
+use Rattle.zarrs_check.specs.declared.finding.Finding.{Finding}
+use Rattle.zarrs_check.specs.declared.finding.FindingKind.TheVariants.{Stale}
+use Rattle.zarrs_check.proofs.Blocks.{finding_same}
 use Rattle.zarrs_folder.proofs.DecidingDocuments.{has_zmetadata}
 use Rattle.zarrs_folder.specs.declared.documents.Documents.TheVariants.{All}
 use Rattle.zarrs_folder.specs.PrunedStores.{IsLoadedFrom}

@@ -10,14 +10,14 @@ use Rattle.zarrs_config.specs.declared.version.MetadataRetrieveVersion.TheVarian
 use Rattle.zarrs_node.specs.Exists.{HasNodeKey}
 use Rattle.zarrs_node.proofs.FlatForests.{contains_map, filter_keeps}
 use Rattle.zarrs_node.proofs.ListedItems.{listed_each}
-use Rattle.zarrs_survey.specs.BlocksAbove.{IsAboveFinding}
-use Rattle.zarrs_survey.specs.Checks.{IsBlockFinding}
-use Rattle.zarrs_survey.specs.PathChecks.{IsCheckedFrom, IsPathCheckOf}
-use Rattle.zarrs_survey.specs.declared.finding.Finding.{Finding}
-use Rattle.zarrs_survey.specs.declared.finding.FindingKind.TheVariants.{Stale}
-use Rattle.zarrs_survey.specs.declared.path_check.CheckedFrom.{CheckedFrom}
-use Rattle.zarrs_survey.specs.declared.path_check.CheckedFrom.TheVariants.{Array, Tree}
-use Rattle.zarrs_survey.specs.declared.path_check.PathCheck.{PathCheck}
+use Rattle.zarrs_check.specs.BlocksAbove.{IsAboveFinding}
+use Rattle.zarrs_check.specs.Checks.{IsBlockFinding}
+use Rattle.zarrs_check.specs.PathChecks.{IsCheckedFrom, IsPathCheckOf}
+use Rattle.zarrs_check.specs.declared.finding.Finding.{Finding}
+use Rattle.zarrs_check.specs.declared.finding.FindingKind.TheVariants.{Stale}
+use Rattle.zarrs_check.specs.declared.path_check.CheckedFrom.{CheckedFrom}
+use Rattle.zarrs_check.specs.declared.path_check.CheckedFrom.TheVariants.{Array, Tree}
+use Rattle.zarrs_check.specs.declared.path_check.PathCheck.{PathCheck}
 use Rattle.zarrs_folder.specs.declared.documents.Documents.TheVariants.{All}
 use Rattle.zarrs_folder.specs.PrunedStores.{Grows, IsArrayAt, IsLoadedFrom}
 use Rattle.zarrs_folder.specs.PassedPaths.{HoldsBelow, HoldsFilesOf, IsPassed}

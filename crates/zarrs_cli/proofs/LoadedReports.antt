@@ -31,17 +31,17 @@ use Rattle.zarrs_notes.specs.declared.file.NodeFile.{NodeFile}
 use Rattle.zarrs_notes.specs.declared.file.NodeFile.TheVariants.{Zarray, Zgroup, Zattrs, Zmetadata, NewZarrJson, NewZmetadata}
 use Rattle.zarrs_notes.specs.declared.finding.NodeFinding.{NodeFinding}
 use Rattle.zarrs_notes.proofs.LawProofs.{notes_same}
-use Rattle.zarrs_survey.specs.Checks.{block_read, own_attributes_in, own_read, HasOtherAttributes, HasNode, HasNodeAt, HasBadPath, IsToldOf, IsBlockFinding, IsCount, IsNodeTold}
-use Rattle.zarrs_survey.specs.Findings.{HasPath, IsSpoilt, IsKeyFinding, IsPathFinding}
+use Rattle.zarrs_check.specs.Checks.{block_read, own_attributes_in, own_read, HasOtherAttributes, HasNode, HasNodeAt, HasBadPath, IsToldOf, IsBlockFinding, IsCount, IsNodeTold}
+use Rattle.zarrs_check.specs.Findings.{HasPath, IsSpoilt, IsKeyFinding, IsPathFinding}
 use Rattle.zarrs_block.specs.Meaning.{Pair, meaning, node}
-use Rattle.zarrs_survey.specs.Surveys.{BadDocuments}
-use Rattle.zarrs_survey.specs.Orphans.{IsCountBelow, IsNodeBelow, IsOrphan}
-use Rattle.zarrs_survey.specs.declared.finding.Finding.{Finding}
-use Rattle.zarrs_survey.specs.declared.finding.FindingKind.{FindingKind}
-use Rattle.zarrs_survey.specs.declared.finding.FindingKind.TheVariants.{BlockFault, BadKey, Shadowed, OwnKey, OwnAttributes, Unreachable, Stale, Unreached, Differs, Missing}
-use Rattle.zarrs_survey.proofs.AlikeNames.{alike_same}
-use Rattle.zarrs_survey.proofs.Blocks.{findings_same}
-use Rattle.zarrs_survey.proofs.SomeCount.{passes_or_not}
+use Rattle.zarrs_check.specs.Surveys.{BadDocuments}
+use Rattle.zarrs_check.specs.Orphans.{IsCountBelow, IsNodeBelow, IsOrphan}
+use Rattle.zarrs_check.specs.declared.finding.Finding.{Finding}
+use Rattle.zarrs_check.specs.declared.finding.FindingKind.{FindingKind}
+use Rattle.zarrs_check.specs.declared.finding.FindingKind.TheVariants.{BlockFault, BadKey, Shadowed, OwnKey, OwnAttributes, Unreachable, Stale, Unreached, Differs, Missing}
+use Rattle.zarrs_check.proofs.AlikeNames.{alike_same}
+use Rattle.zarrs_check.proofs.Blocks.{findings_same}
+use Rattle.zarrs_check.proofs.SomeCount.{passes_or_not}
 use Rattle.zarrs_folder.specs.Laws.{ShowSame}
 use Rattle.zarrs_folder.specs.declared.documents.Documents.TheVariants.{All}
 use Rattle.zarrs_folder.specs.PrunedStores.{HasLoaded, HasNoOtherKeys, HasSameFiles, IsArrayAt, IsLoadedFrom}

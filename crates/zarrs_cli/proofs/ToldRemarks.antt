@@ -29,25 +29,25 @@ use Rattle.zarrs_node.proofs.KeptOfLists.{below_trans, not_below_itself}
 use Rattle.zarrs_node.proofs.Lasts.{contains_filtered}
 use Rattle.zarrs_node.proofs.Order.{contains_cases}
 use Rattle.zarrs_node.proofs.Unique.{names_irrefl}
-use Rattle.zarrs_survey.specs.Surveys.{BadDocuments, BadNames}
-use Rattle.zarrs_survey.specs.Findings.{key_of, rank_of}
+use Rattle.zarrs_check.specs.Surveys.{BadDocuments, BadNames}
+use Rattle.zarrs_check.specs.Findings.{key_of, rank_of}
 use Rattle.zarrs_notes.specs.FindingTexts.{node_finding_text}
 use Rattle.zarrs_notes.specs.NodeFindings.{AreNodeFindings, ComesBefore, field_of}
 use Rattle.zarrs_notes.specs.declared.finding.NodeFinding.{NodeFinding}
 use Rattle.zarrs_notes.specs.declared.finding.NodeFinding.TheVariants as told
-use Rattle.zarrs_survey.specs.BlocksAbove.{AreAboveFindings, MeansNoArray}
-use Rattle.zarrs_survey.specs.PathChecks.{IsCheckedFrom, IsPathCheckOf}
-use Rattle.zarrs_survey.specs.declared.path_check.CheckedFrom.{CheckedFrom}
-use Rattle.zarrs_survey.specs.declared.path_check.CheckedFrom.TheVariants as from
-use Rattle.zarrs_survey.specs.declared.path_check.PathCheck.{PathCheck}
+use Rattle.zarrs_check.specs.BlocksAbove.{AreAboveFindings, MeansNoArray}
+use Rattle.zarrs_check.specs.PathChecks.{IsCheckedFrom, IsPathCheckOf}
+use Rattle.zarrs_check.specs.declared.path_check.CheckedFrom.{CheckedFrom}
+use Rattle.zarrs_check.specs.declared.path_check.CheckedFrom.TheVariants as from
+use Rattle.zarrs_check.specs.declared.path_check.PathCheck.{PathCheck}
 use Rattle.zarrs_folder.specs.PrunedStores.{IsArrayAt}
-use Rattle.zarrs_survey.specs.Checks.{HasNode, IsBaseFault, IsCheckOf, IsNodeTold, IsToldBefore, StandsBefore, AreBlockFindings}
-use Rattle.zarrs_survey.specs.declared.finding.Finding.{Finding}
-use Rattle.zarrs_survey.specs.declared.finding.FindingKind.{FindingKind}
-use Rattle.zarrs_survey.specs.declared.finding.FindingKind.TheVariants.{BlockFault, BadKey, Shadowed, OwnKey, OwnAttributes, Unreachable, Stale, Unreached, Differs, Missing}
-use Rattle.zarrs_survey.specs.Orphans.{IsCountBelow, IsOrphan}
-use Rattle.zarrs_survey.specs.declared.check.Check.{Check}
-use Rattle.zarrs_survey.proofs.DocumentCounts.{count_same}
+use Rattle.zarrs_check.specs.Checks.{HasNode, IsBaseFault, IsCheckOf, IsNodeTold, IsToldBefore, StandsBefore, AreBlockFindings}
+use Rattle.zarrs_check.specs.declared.finding.Finding.{Finding}
+use Rattle.zarrs_check.specs.declared.finding.FindingKind.{FindingKind}
+use Rattle.zarrs_check.specs.declared.finding.FindingKind.TheVariants.{BlockFault, BadKey, Shadowed, OwnKey, OwnAttributes, Unreachable, Stale, Unreached, Differs, Missing}
+use Rattle.zarrs_check.specs.Orphans.{IsCountBelow, IsOrphan}
+use Rattle.zarrs_check.specs.declared.check.Check.{Check}
+use Rattle.zarrs_check.proofs.DocumentCounts.{count_same}
 use Rattle.zarrs_cli.specs.declared.remark.Remark.{Remark}
 use Rattle.zarrs_cli.specs.declared.report.Tally.{Tally}
 use Rattle.zarrs_cli.specs.declared.kind.RemarkKind.{RemarkKind}

@@ -13,8 +13,8 @@ use Rattle.zarrs_block.specs.declared.node_create_error.NodeCreateError.{NodeCre
 use Rattle.zarrs_block.specs.declared.node_create_error.NodeCreateError.TheVariants.{MissingMetadata}
 use Rattle.zarrs_notes.specs.declared.finding.NodeFinding.{NodeFinding}
 use Rattle.zarrs_notes.specs.declared.finding.NodeFinding.TheVariants as told
-use Rattle.zarrs_survey.specs.declared.finding.FindingKind.{FindingKind}
-use Rattle.zarrs_survey.specs.declared.finding.FindingKind.TheVariants as found
+use Rattle.zarrs_check.specs.declared.finding.FindingKind.{FindingKind}
+use Rattle.zarrs_check.specs.declared.finding.FindingKind.TheVariants as found
 use Rattle.zarrs_cli.specs.declared.kind.RemarkKind.{RemarkKind}
 use Rattle.zarrs_cli.specs.declared.kind.RemarkKind.TheVariants.{BadDocument, BadName, NoNode, Orphaned, BadShape}
 use Rattle.zarrs_cli.specs.declared.kind.RemarkKind.TheVariants.{NotOpened, BadBlock, BadKey, Shadowed, OwnKey}

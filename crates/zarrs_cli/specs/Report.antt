@@ -36,15 +36,15 @@ use Rattle.zarrs_block.specs.Meaning.{meaning, node}
 use Rattle.zarrs_meta.specs.Node.{is_group}
 use Rattle.zarrs_meta.specs.declared.node.NodeMetadata.{NodeMetadata}
 use Rattle.zarrs_node.specs.OpeningNodes.{RefusesNode}
-use Rattle.zarrs_survey.specs.Surveys.{BadDocuments, BadNames}
+use Rattle.zarrs_check.specs.Surveys.{BadDocuments, BadNames}
 use Rattle.zarrs_notes.specs.FindingTexts.{node_finding_text}
 use Rattle.zarrs_notes.specs.NodeFindings.{IsNodeFinding}
 use Rattle.zarrs_notes.specs.declared.finding.NodeFinding.{NodeFinding}
-use Rattle.zarrs_survey.specs.Alike.{IsAlike}
-use Rattle.zarrs_survey.specs.BlocksAbove.{IsAboveFinding}
-use Rattle.zarrs_survey.specs.Checks.{HasNode, HasNodeAt, IsBlockFinding, IsCount, IsNodeTold}
-use Rattle.zarrs_survey.specs.Orphans.{IsCountBelow, IsOrphan}
-use Rattle.zarrs_survey.specs.declared.finding.Finding.{Finding}
+use Rattle.zarrs_check.specs.Alike.{IsAlike}
+use Rattle.zarrs_check.specs.BlocksAbove.{IsAboveFinding}
+use Rattle.zarrs_check.specs.Checks.{HasNode, HasNodeAt, IsBlockFinding, IsCount, IsNodeTold}
+use Rattle.zarrs_check.specs.Orphans.{IsCountBelow, IsOrphan}
+use Rattle.zarrs_check.specs.declared.finding.Finding.{Finding}
 use Rattle.zarrs_folder.specs.PrunedStores.{IsArrayAt}
 use Rattle.zarrs_cli.specs.Escapes.{escaped_line}
 use Rattle.zarrs_cli.specs.Json.{json_text}

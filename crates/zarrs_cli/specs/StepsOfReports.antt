@@ -5,10 +5,10 @@ use Rattle.std.specs.List.Sorted.{IsPermutation, IsSorted}
 use Rattle.zarrs_path.specs.Paths.{Path}
 use Rattle.zarrs_block.specs.declared.node_create_error.NodeCreateError.{NodeCreateError}
 use Rattle.zarrs_notes.specs.declared.finding.NodeFinding.{NodeFinding}
-use Rattle.zarrs_survey.specs.declared.check.Check.{Check}
-use Rattle.zarrs_survey.specs.declared.path_check.CheckedFrom.{CheckedFrom}
-use Rattle.zarrs_survey.specs.declared.path_check.CheckedFrom.TheVariants.{Array, Tree}
-use Rattle.zarrs_survey.specs.declared.path_check.PathCheck.{PathCheck}
+use Rattle.zarrs_check.specs.declared.check.Check.{Check}
+use Rattle.zarrs_check.specs.declared.path_check.CheckedFrom.{CheckedFrom}
+use Rattle.zarrs_check.specs.declared.path_check.CheckedFrom.TheVariants.{Array, Tree}
+use Rattle.zarrs_check.specs.declared.path_check.PathCheck.{PathCheck}
 use Rattle.zarrs_cli.specs.declared.remark.Remark.{Remark}
 use Rattle.zarrs_cli.specs.declared.kind.RemarkKind.TheVariants.{BadName}
 use Rattle.zarrs_cli.specs.declared.words.CheckOptions.{CheckOptions}

@@ -10,15 +10,15 @@ use Rattle.zarrs_block.specs.declared.node_create_error.NodeCreateError.{NodeCre
 use Rattle.zarrs_config.specs.declared.version.MetadataRetrieveVersion.TheVariants.{Default}
 use Rattle.zarrs_config.specs.declared.version.UseConsolidatedMetadata.TheVariants.{Auto, Never}
 use Rattle.zarrs_node.specs.Exists.{HasNodeKey}
-use Rattle.zarrs_survey.specs.BlocksAbove.{IsAboveFinding}
-use Rattle.zarrs_survey.specs.Checks.{IsBlockFinding}
-use Rattle.zarrs_survey.specs.PathChecks.{IsPathCheckOf}
-use Rattle.zarrs_survey.specs.declared.path_check.CheckedFrom.{CheckedFrom}
-use Rattle.zarrs_survey.specs.declared.path_check.CheckedFrom.TheVariants.{Array, Tree}
-use Rattle.zarrs_survey.specs.declared.path_check.PathCheck.{PathCheck}
-use Rattle.zarrs_survey.specs.declared.finding.Finding.{Finding}
-use Rattle.zarrs_survey.specs.declared.finding.FindingKind.{FindingKind}
-use Rattle.zarrs_survey.specs.declared.finding.FindingKind.TheVariants.{Stale}
+use Rattle.zarrs_check.specs.BlocksAbove.{IsAboveFinding}
+use Rattle.zarrs_check.specs.Checks.{IsBlockFinding}
+use Rattle.zarrs_check.specs.PathChecks.{IsPathCheckOf}
+use Rattle.zarrs_check.specs.declared.path_check.CheckedFrom.{CheckedFrom}
+use Rattle.zarrs_check.specs.declared.path_check.CheckedFrom.TheVariants.{Array, Tree}
+use Rattle.zarrs_check.specs.declared.path_check.PathCheck.{PathCheck}
+use Rattle.zarrs_check.specs.declared.finding.Finding.{Finding}
+use Rattle.zarrs_check.specs.declared.finding.FindingKind.{FindingKind}
+use Rattle.zarrs_check.specs.declared.finding.FindingKind.TheVariants.{Stale}
 use Rattle.zarrs_folder.specs.Folders.{in_any, values_of}
 use Rattle.zarrs_folder.specs.Openings.{OpenSame}
 use Rattle.zarrs_folder.specs.PassedPaths.{IsPassed}

@@ -15,10 +15,10 @@ use Rattle.zarrs_store.specs.Segments.{last_segment}
 use Rattle.zarrs_path.specs.Paths.{Path, path_text, without_leading_slash}
 use Rattle.zarrs_block.specs.ErrorTexts.{error_text}
 use Rattle.zarrs_block.specs.declared.node_create_error.NodeCreateError.{NodeCreateError}
-use Rattle.zarrs_survey.specs.declared.finding.FindingKind.{FindingKind}
-use Rattle.zarrs_survey.specs.declared.finding.FindingKind.TheVariants.{BlockFault, BadKey, Shadowed, OwnKey}
-use Rattle.zarrs_survey.specs.declared.finding.FindingKind.TheVariants.{OwnAttributes, Unreachable, Stale, Unreached}
-use Rattle.zarrs_survey.specs.declared.finding.FindingKind.TheVariants.{Differs, Missing}
+use Rattle.zarrs_check.specs.declared.finding.FindingKind.{FindingKind}
+use Rattle.zarrs_check.specs.declared.finding.FindingKind.TheVariants.{BlockFault, BadKey, Shadowed, OwnKey}
+use Rattle.zarrs_check.specs.declared.finding.FindingKind.TheVariants.{OwnAttributes, Unreachable, Stale, Unreached}
+use Rattle.zarrs_check.specs.declared.finding.FindingKind.TheVariants.{Differs, Missing}
 use Rattle.zarrs_cli.specs.declared.report.Tally.{Tally}
 
 -- the text which says that the last name of a path is none

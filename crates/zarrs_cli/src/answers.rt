@@ -16,7 +16,7 @@ use crate::nowhere::{nowhere_in_folder, nowhere_in_image};
 use crate::report::Tally;
 use crate::run::run_of_image;
 use crate::usage::{USAGE, VERSION};
-use crate::words::{Asked, Command, ConsolidateOptions, Request, Word, parse};
+use crate::words::{Asked, BlockRequest, Command, Request, Word, parse};
 use log::Log;
 use std::alloc::{AllocError, Global};
 use std::io::{Eprint, Read, Write};
@@ -28,16 +28,28 @@ use zarrs_folder::{Disk, Folder};
 use zarrs_program::write_whole;
 use zarrs_write::Disk as WrittenDisk;
 
+/// What a run has of the system beside its words and its streams.
+///
+/// Source: own.
+/// <https://pubs.opengroup.org/onlinepubs/9699919799/utilities/V3_chap01.html>
+#[derive(Clone, Copy)]
+pub struct Host<'a, R> {
+    /// What reads folders, tells the time and logs.
+    pub rt: &'a R,
+    /// What writes back: a value that logs does not hand on the call that gives a file its owner.
+    pub files: &'a HostRuntime,
+    /// Whether somebody watches standard error.
+    pub is_watched: bool,
+}
+
 /// Writes what the words ask, and on standard error how much a check looked at and found, or why the run is refused. Where standard error is watched and a
 /// folder takes long, lines there say how many nodes were read so far. It handles every error itself and returns only how the run ended. The exit status is 0
 /// where all is done, 1 where a check has findings or a dry run would write, and 2 where the run is refused.
 ///
 /// The host writes what is written back: a value that logs does not hand on the call that gives a file its owner.
 pub fn answer<R: Log + Files + Clock + Eprint + AllocGlobal, I: Read, W: Write, E: Write>(
-    rt: &R,
-    host: &HostRuntime,
+    host: &Host<'_, R>,
     words: &[String],
-    is_watched: bool,
     reader: &mut I,
     output: &mut W,
     errors: &mut E,
@@ -57,17 +69,15 @@ pub fn answer<R: Log + Files + Clock + Eprint + AllocGlobal, I: Read, W: Write, 
     ensures usage { (AreWords (texts words.now) → ⊥) → result.status ≡ 2 }
     ensures status { (result.status ≡ 0) ⊎ (result.status ≡ 1) ⊎ (result.status ≡ 2) }
 {
-    let outcome = run_words(rt, host, words, is_watched, reader, output);
-    let no_node = no_node(rt, words, &outcome);
-    finish(rt.alloc(), &outcome, &no_node, errors)
+    let outcome = run_words(host, words, reader, output);
+    let no_node = no_node(host.rt, words, &outcome);
+    finish(host.rt.alloc(), &outcome, &no_node, errors)
 }
 
 // Writes what the words ask.
 fn run_words<R: Log + Files + Clock + Eprint + AllocGlobal, I: Read, W: Write>(
-    rt: &R,
-    host: &HostRuntime,
+    host: &Host<'_, R>,
     words: &[String],
-    is_watched: bool,
     reader: &mut I,
     output: &mut W,
 ) -> Result<Answered, ZarrsFault>
@@ -81,7 +91,7 @@ fn run_words<R: Log + Files + Clock + Eprint + AllocGlobal, I: Read, W: Write>(
     match parse(words)? {
         Asked::Help => write_alone(USAGE, output),
         Asked::Version => write_alone(VERSION, output),
-        Asked::Store(command) => run_command(rt, host, &command, is_watched, reader, output),
+        Asked::Store(command) => run_command(host, &command, reader, output),
     }
 }
 
@@ -98,10 +108,8 @@ fn write_alone<W: Write>(text: &str, output: &mut W) -> Result<Answered, ZarrsFa
 
 // Writes what a request asks of the store that a source names.
 fn run_command<R: Log + Files + Clock + Eprint + AllocGlobal, I: Read, W: Write>(
-    rt: &R,
-    host: &HostRuntime,
+    host: &Host<'_, R>,
     command: &Command<'_>,
-    is_watched: bool,
     reader: &mut I,
     output: &mut W,
 ) -> Result<Answered, ZarrsFault>
@@ -117,11 +125,12 @@ fn run_command<R: Log + Files + Clock + Eprint + AllocGlobal, I: Read, W: Write>
     let (source, path) = (command.source, command.path);
     match command.request {
         Request::Look(word) => {
-            let tally = look(rt, word, source, path, is_watched, reader, output)?;
+            let tally = look(host, word, source, path, reader, output)?;
             Ok(Answered::Looked(tally))
         }
         Request::Consolidate(options) => {
-            let end = consolidate_disk(rt, host, options, source, path, is_watched, output)?;
+            let request = BlockRequest { options, path };
+            let end = consolidate_disk(host, request, source, output)?;
             Ok(Answered::Consolidated(end))
         }
     }
@@ -129,11 +138,10 @@ fn run_command<R: Log + Files + Clock + Eprint + AllocGlobal, I: Read, W: Write>
 
 // Writes what a word asks of the store that a source names.
 fn look<R: Log + Files + Clock + Eprint + AllocGlobal, I: Read, W: Write>(
-    rt: &R,
+    host: &Host<'_, R>,
     word: Word,
     source: &str,
     path: &str,
-    is_watched: bool,
     reader: &mut I,
     output: &mut W,
 ) -> Result<Option<Tally>, ZarrsFault>
@@ -145,88 +153,85 @@ fn look<R: Log + Files + Clock + Eprint + AllocGlobal, I: Read, W: Write>(
         → Keeps (W.contents output.old) (W.contents output.new)) }
 {
     if source == "-" {
-        return run_of_image(rt, rt.alloc(), word, path, reader, output);
+        return run_of_image(host.rt, host.rt.alloc(), word, path, reader, output);
     }
-    run_disk(rt, word, source, path, is_watched, output)
+    run_disk(host, word, source, path, output)
 }
 
 // Writes the block of a group of a folder of the system back, or removes it.
 fn consolidate_disk<R: Log + Files + Clock + Eprint + AllocGlobal, W: Write>(
-    rt: &R,
-    host: &HostRuntime,
-    options: ConsolidateOptions,
+    host: &Host<'_, R>,
+    request: BlockRequest<'_>,
     source: &str,
-    path: &str,
-    is_watched: bool,
     output: &mut W,
 ) -> Result<Consolidated, ZarrsFault>
-    ensures ok { IfOk result
-        (WritesConsolidated options path.now (W.contents output.old) (W.contents output.new)) }
-    ensures refused { IfErr result (RefusesConsolidating options path.now) }
+    ensures ok { IfOk result (WritesConsolidated request.entry.options request.entry.path.now
+        (W.contents output.old) (W.contents output.new)) }
+    ensures refused { IfErr result
+        (RefusesConsolidating request.entry.options request.entry.path.now) }
     ensures silent { IfErr result (λ fault. fault ≢ ZarrsFault.Write
         → Keeps (W.contents output.old) (W.contents output.new)) }
 {
-    let mut disk = Disk::open(rt, source)?.telling(is_watched);
-    let folder = folder_of(rt.alloc(), source, path)?;
-    consolidate_opened(rt, host, options, folder.as_str(), path, &mut disk, output)
+    let mut disk = Disk::open(host.rt, source)?.telling(host.is_watched);
+    let folder = folder_of(host.rt.alloc(), source, request.path)?;
+    consolidate_opened(host, request, folder.as_str(), &mut disk, output)
 }
 
 // The same once the folder of the store is opened.
 fn consolidate_opened<'a, R: Log + Files + Clock + Eprint + AllocGlobal, W: Write>(
-    rt: &R,
-    host: &HostRuntime,
-    options: ConsolidateOptions,
+    host: &Host<'_, R>,
+    request: BlockRequest<'_>,
     place: &str,
-    path: &str,
     disk: &mut Disk<'a, R>,
     output: &mut W,
 ) -> Result<Consolidated, ZarrsFault>
-    ensures ok { IfOk result
-        (WritesConsolidated options path.now (W.contents output.old) (W.contents output.new)) }
-    ensures refused { IfErr result (RefusesConsolidating options path.now) }
+    ensures ok { IfOk result (WritesConsolidated request.entry.options request.entry.path.now
+        (W.contents output.old) (W.contents output.new)) }
+    ensures refused { IfErr result
+        (RefusesConsolidating request.entry.options request.entry.path.now) }
     ensures silent { IfErr result (λ fault. fault ≢ ZarrsFault.Write
         → Keeps (W.contents output.old) (W.contents output.new)) }
 {
-    consolidate_at(rt, host, options, place, path, disk, output)
+    consolidate_at(host.rt, host.files, request, place, disk, output)
 }
 
 // Writes the block of a group of a folder back, or removes it, where this is the path of the folder of its document.
 fn consolidate_at<L: Log, F: Folder, W: Write>(
     log: &L,
-    host: &HostRuntime,
-    options: ConsolidateOptions,
+    files: &HostRuntime,
+    request: BlockRequest<'_>,
     place: &str,
-    path: &str,
     folder: &mut F,
     output: &mut W,
 ) -> Result<Consolidated, ZarrsFault>
-    ensures ok { IfOk result
-        (WritesConsolidated options path.now (W.contents output.old) (W.contents output.new)) }
-    ensures refused { IfErr result (RefusesConsolidating options path.now) }
+    ensures ok { IfOk result (WritesConsolidated request.entry.options request.entry.path.now
+        (W.contents output.old) (W.contents output.new)) }
+    ensures refused { IfErr result
+        (RefusesConsolidating request.entry.options request.entry.path.now) }
     ensures silent { IfErr result (λ fault. fault ≢ ZarrsFault.Write
         → Keeps (W.contents output.old) (W.contents output.new)) }
 {
-    let mut place = WrittenDisk::new(host, place);
-    consolidate_placed(log, options, path, folder, &mut place, host, output)
+    let mut place = WrittenDisk::new(files, place);
+    consolidate_placed(log, files.alloc(), request, folder, &mut place, output)
 }
 
 // The same once the folder of the document is at hand.
 fn consolidate_placed<'a, L: Log, F: Folder, W: Write>(
     log: &L,
-    options: ConsolidateOptions,
-    path: &str,
+    alloc: Global,
+    request: BlockRequest<'_>,
     folder: &mut F,
     place: &mut WrittenDisk<'a, HostRuntime>,
-    host: &HostRuntime,
     output: &mut W,
 ) -> Result<Consolidated, ZarrsFault>
-    ensures ok { IfOk result
-        (WritesConsolidated options path.now (W.contents output.old) (W.contents output.new)) }
-    ensures refused { IfErr result (RefusesConsolidating options path.now) }
+    ensures ok { IfOk result (WritesConsolidated request.entry.options request.entry.path.now
+        (W.contents output.old) (W.contents output.new)) }
+    ensures refused { IfErr result
+        (RefusesConsolidating request.entry.options request.entry.path.now) }
     ensures silent { IfErr result (λ fault. fault ≢ ZarrsFault.Write
         → Keeps (W.contents output.old) (W.contents output.new)) }
 {
-    consolidate_folder(log, host.alloc(), options, path, folder, place, output)
+    consolidate_folder(log, alloc, request, folder, place, output)
 }
 
 // The path of the folder of the node at a path of the store in a folder.
@@ -240,11 +245,10 @@ fn folder_of(alloc: Global, source: &str, path: &str) -> Result<String, AllocErr
 
 // Writes what a word asks of a folder of the system.
 fn run_disk<R: Log + Files + Clock + Eprint + AllocGlobal, W: Write>(
-    rt: &R,
+    host: &Host<'_, R>,
     word: Word,
     source: &str,
     path: &str,
-    is_watched: bool,
     output: &mut W,
 ) -> Result<Option<Tally>, ZarrsFault>
     ensures ok { IfOk result
@@ -253,8 +257,8 @@ fn run_disk<R: Log + Files + Clock + Eprint + AllocGlobal, W: Write>(
     ensures silent { IfErr result (λ fault. fault ≢ ZarrsFault.Write
         → Keeps (W.contents output.old) (W.contents output.new)) }
 {
-    let mut disk = Disk::open(rt, source)?.telling(is_watched);
-    run_opened(rt, word, path, &mut disk, output)
+    let mut disk = Disk::open(host.rt, source)?.telling(host.is_watched);
+    run_opened(host.rt, word, path, &mut disk, output)
 }
 
 // The same once the folder is opened: of each store that has all answers of the folder, and of some store in any case.

@@ -10,7 +10,7 @@ ghost use Rattle.zarrs_cli.specs.StepsOfConsolidations.{IsPlanFaultOfEach, IsPla
 
 use crate::escapes::push_line;
 use crate::fault::ZarrsFault;
-use crate::words::ConsolidateOptions;
+use crate::words::{BlockRequest, ConsolidateOptions};
 use log::Log;
 use std::alloc::{AllocError, Global};
 use std::io::Write;
@@ -43,24 +43,28 @@ pub enum Consolidated {
 pub fn consolidate_folder<L: Log, F: Folder, P: Place, W: Write>(
     log: &L,
     alloc: Global,
-    options: ConsolidateOptions,
-    path: &str,
+    request: BlockRequest<'_>,
     folder: &mut F,
     place: &mut P,
     writer: &mut W,
 ) -> Result<Consolidated, ZarrsFault>
-    ensures ok { IfOk result (IsConsolidationOfSome options path.now
+    ensures ok { IfOk result
+        (IsConsolidationOfSome request.entry.options request.entry.path.now
         (P.calls place.old) (P.calls place.new) (W.contents writer.old) (W.contents writer.new)) }
-    ensures whole { IfOk result (IsConsolidationOfEach options path.now (F.agrees folder.new)
+    ensures whole { IfOk result
+        (IsConsolidationOfEach request.entry.options request.entry.path.now (F.agrees folder.new)
         (P.calls place.old) (P.calls place.new) (W.contents writer.old) (W.contents writer.new)) }
-    ensures refused { IfErr result (RefusesConsolidationOfSome options path.now
+    ensures refused { IfErr result
+        (RefusesConsolidationOfSome request.entry.options request.entry.path.now
         (P.calls place.old) (P.calls place.new)) }
-    ensures whole_refused { IfErr result (RefusesConsolidationOfEach options path.now
+    ensures whole_refused { IfErr result
+        (RefusesConsolidationOfEach request.entry.options request.entry.path.now
         (F.agrees folder.new) (P.calls place.old) (P.calls place.new)) }
     ensures unread { IfErr result (IsUnreadOnlyOf (F.can_fail folder.new)) }
     ensures silent { IfErr result (λ fault. fault ≢ ZarrsFault.Write
         → Keeps (W.contents writer.old) (W.contents writer.new)) }
 {
+    let BlockRequest { options, path } = request;
     let base = path_of(alloc, path)?;
     let made = planned(log, alloc, options, folder, &base)?;
     let end = carry_out(alloc, options, &made.0, place)?;

@@ -15,7 +15,7 @@ ghost use Rattle.zarrs_folder.specs.PrunedStores.{IsLoadedFrom};
 ghost use Rattle.zarrs_folder.specs.declared.documents.Documents.TheVariants.{All};
 ghost use Rattle.zarrs_cli.specs.Output.{IsWordText, WritesOverEach, WritesOverSome};
 ghost use Rattle.zarrs_cli.specs.Refusals.{IsUnreadOnlyOf, RefusesFolder, RefusesOverEach, RefusesOverSome};
-ghost use Rattle.zarrs_survey.specs.PathChecks.{IsPathCheckOf};
+ghost use Rattle.zarrs_check.specs.PathChecks.{IsPathCheckOf};
 ghost use Rattle.zarrs_cli.specs.StepsOfRuns.{HoldsAbove, IsAnswerFault, IsCheckable, IsChecked, IsEnough, IsFaultOfEach, IsFaultOfSome, IsWrittenOfEach, IsWrittenOfSome, has_more, has_more_from, is_stale, loaded_store, passed_from, passed_paths, stale_among, stale_of, stale_paths};
 
 use crate::fault::ZarrsFault;
@@ -28,6 +28,7 @@ use std::alloc::{AllocError, Global};
 use std::io::Write;
 use std::mem;
 use zarrs_block::NodeCreateError;
+use zarrs_check::{BadDocuments, CheckedFrom, Finding, FindingKind, PathCheck};
 use zarrs_config::{MetadataRetrieveVersion, UseConsolidatedMetadata};
 use zarrs_folder::{
     Documents, Folder, load_base, load_children, load_nodes, load_passed, load_paths,
@@ -39,7 +40,6 @@ use zarrs_program::{path_of, write_whole};
 use zarrs_store::{
     AnyNumbers, ListableStorageTraits, MemoryStore, ReadableStorageTraits, StorageError,
 };
-use zarrs_survey::{BadDocuments, CheckedFrom, Finding, FindingKind, PathCheck};
 
 /// Loads what a word asks of a folder from a path on, and writes its answer, as [`run_store`] does: of a group whose block is used, of an array, and where a
 /// document is shown, the documents at the path only; else what a walk from the path on asks. Documents may hold any number. The memory of what was loaded

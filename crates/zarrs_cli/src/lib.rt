@@ -22,7 +22,7 @@ mod usage;
 mod warnings;
 mod words;
 
-pub use answers::answer;
+pub use answers::{Host, answer};
 pub use consolidate::{Consolidated, consolidate_folder};
 pub use ending::{Answered, Ending, finish};
 pub use escapes::{escaped, push_line};
@@ -33,4 +33,6 @@ pub use report::Tally;
 pub use run::{run_of_image, run_store};
 pub use usage::{USAGE, VERSION};
 pub use warnings::Warnings;
-pub use words::{Asked, CheckOptions, Command, ConsolidateOptions, Request, Word, parse};
+pub use words::{
+    Asked, BlockRequest, CheckOptions, Command, ConsolidateOptions, Request, Word, parse,
+};

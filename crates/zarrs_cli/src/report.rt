@@ -3,7 +3,7 @@ ghost use Rattle.std.specs.Prelude.{◌≡◌, ◌++◌, None, Some, IfOk, IfErr
 ghost use Rattle.zarrs_block.specs.Refusals.{IsExcused};
 ghost use Rattle.zarrs_store.specs.Contents.{Contents};
 ghost use Rattle.zarrs_config.specs.declared.version.MetadataRetrieveVersion.TheVariants.{Default};
-ghost use Rattle.zarrs_survey.specs.PathChecks.{IsPathCheckOf};
+ghost use Rattle.zarrs_check.specs.PathChecks.{IsPathCheckOf};
 ghost use Rattle.zarrs_cli.specs.Kinds.{error_kind, finding_kind, told_kind, wrong_key};
 ghost use Rattle.zarrs_cli.specs.Report.{IsReportFrom, alike_remark, error_remark, findings_among, is_asked, document_remark, line_of, notes_among, orphan_remark, own_remark, remark_of, remarks_text, report_text, tally_of, told_remark};
 ghost use Rattle.zarrs_cli.specs.StepsOfReports.{AreSorted, all_remarks, asked_of, base_remarks, document_remarks, name_remark, node_remarks, nodes_from, own_remarks, remarks_from};
@@ -19,12 +19,12 @@ use log::Log;
 use std::alloc::{AllocError, Global};
 use std::fmt;
 use zarrs_block::NodeCreateError;
+use zarrs_check::{Check, CheckedFrom, Finding, FindingKind, PathCheck};
 use zarrs_config::MetadataRetrieveVersion;
 use zarrs_form::Text;
 use zarrs_notes::NodeFinding;
 use zarrs_path::NodePath;
 use zarrs_store::{ListableStorageTraits, ReadableStorageTraits, StorePrefix};
-use zarrs_survey::{Check, CheckedFrom, Finding, FindingKind, PathCheck};
 
 /// How much a check looked at and found.
 ///

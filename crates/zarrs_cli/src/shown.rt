@@ -16,7 +16,7 @@ use zarrs_block::NodeCreateError;
 use zarrs_config::{Config, MetadataRetrieveVersion, UseConsolidatedMetadata};
 use zarrs_hierarchy::{depth, walk_hierarchy};
 use zarrs_meta::NodeMetadata;
-use zarrs_node::{NodeLine, NodeSink};
+use zarrs_node::{LISTING, NodeLine, NodeSink, warn_ignored};
 use zarrs_path::NodePath;
 use zarrs_store::{ListableStorageTraits, ReadableStorageTraits};
 
@@ -100,7 +100,9 @@ fn show<L: Log, S: ReadableStorageTraits + ListableStorageTraits, K: NodeSink>(
     let mut config = Config::new();
     config.set_use_consolidated_metadata(policy);
     let version = MetadataRetrieveVersion::Default;
-    walk_hierarchy(log, alloc, store, base, &version, &config, sink)
+    let ignored = walk_hierarchy(alloc, store, base, &version, &config, sink)?;
+    warn_ignored(log, LISTING, &ignored);
+    Ok(())
 }
 
 // The lines of a tree, from a path on that has so many names.

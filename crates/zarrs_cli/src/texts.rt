@@ -5,9 +5,9 @@ ghost use Rattle.zarrs_cli.specs.Texts as texts;
 
 use std::alloc::{AllocError, Global};
 use zarrs_block::NodeCreateError;
+use zarrs_check::FindingKind;
 use zarrs_path::{NodePath, without_leading_slash};
 use zarrs_store::StorePrefix;
-use zarrs_survey::FindingKind;
 
 /// That the last name of a path is none, with the path.
 pub(crate) fn name_text(alloc: Global, path: &StorePrefix) -> Result<String, AllocError>

@@ -59,6 +59,18 @@ pub enum Request {
     Consolidate(ConsolidateOptions),
 }
 
+/// Of which group the block is made or removed, and how.
+///
+/// Source: own; `zarr.consolidate_metadata` of zarr-python.
+/// <https://zarr.readthedocs.io/en/stable/user-guide/consolidated_metadata/>
+#[derive(Clone, Copy, Debug)]
+pub struct BlockRequest<'a> {
+    /// What is done with it.
+    pub options: ConsolidateOptions,
+    /// The path of the group.
+    pub path: &'a str,
+}
+
 /// A request, where the store is, and the path that is asked about.
 ///
 /// Source: own.

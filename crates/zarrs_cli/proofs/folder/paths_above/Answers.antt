@@ -1,6 +1,6 @@
 use Rattle.std.proofs.Common.{◌<◌, Some, sym, subst}
 use Rattle.zarrs_path.specs.Paths.{Path}
-use Rattle.zarrs_survey.proofs.GroupsAbove.{fewer_left, groups_left}
+use Rattle.zarrs_check.proofs.GroupsAbove.{fewer_left, groups_left}
 use Rattle.zarrs_cli.proofs.AllAbove.{AreAboveBut, first_above, more_above, no_more_above}
 use Rattle.zarrs_cli.proofs.folder.paths_above.Goals as goal
 

@@ -1,4 +1,4 @@
-use Rattle.zarrs_survey.proofs.GroupsAbove.{groups_left}
+use Rattle.zarrs_check.proofs.GroupsAbove.{groups_left}
 use Rattle.zarrs_cli.proofs.AllAbove.{AreAboveBut}
 use Rattle.zarrs_cli.proofs.folder.paths_above.Given as goal
 

@@ -1,6 +1,6 @@
 use Rattle.std.proofs.Common.{[], ◌∷◌, ◌++◌, ap, sym, ◌∙◌, append-nil, append_assoc, map}
 use Rattle.std.specs.Vec.Iter.{into_iter_items}
-use Rattle.zarrs_survey.proofs.SurveyFaults.{none_left}
+use Rattle.zarrs_check.proofs.SurveyFaults.{none_left}
 use Rattle.zarrs_cli.proofs.folder.paths_of.Goals as goal
 
 pub loop-finding-preserved : goal.loop-finding-preserved
