@@ -6,7 +6,7 @@ use Rattle.zarrs_config.specs.declared.version.MetadataRetrieveVersion.TheVarian
 use Rattle.zarrs_node.specs.Forest.{pairs}
 use Rattle.zarrs_node.specs.Nodes.{Nodes, Bad}
 use Rattle.zarrs_node.specs.Sinks.{TakesForest}
-use Rattle.zarrs_node.proofs.SinkSteps.{took_joined}
+use Rattle.zarrs_node.proofs.walk.SinkSteps.{took_joined}
 use Rattle.zarrs_node.proofs.Order.{shown_ascend}
 use Rattle.zarrs_tool.specs.Output.{IsListing, path_lines}
 use Rattle.zarrs_tool.specs.Sinks.{AppendsLine}

@@ -16,7 +16,7 @@ use std::io::{Read, Write};
 use std::mem;
 use zarrs_config::MetadataRetrieveVersion;
 use zarrs_meta::NodeMetadata;
-use zarrs_node::{NodeSink, walk_child_nodes};
+use zarrs_node::{LISTING, NodeSink, walk_nodes, warn_ignored};
 use zarrs_path::NodePath;
 use zarrs_program::{path_of, tell, tell_line, write_whole};
 use zarrs_store::{ListableStorageTraits, ReadableStorageTraits};
@@ -222,7 +222,8 @@ fn listing<L: Log, S: ReadableStorageTraits + ListableStorageTraits>(
         text: Vec::new(alloc),
     };
     let version = MetadataRetrieveVersion::Default;
-    walk_child_nodes(log, alloc, store, base, recursive, &version, &mut lines)?;
+    let ignored = walk_nodes(alloc, store, base, recursive, &version, &mut lines)?;
+    warn_ignored(log, LISTING, &ignored);
     Ok(lines.text)
 }
 
