@@ -203,7 +203,7 @@ fn opened_tree(
 
 // What a sink takes at a path of a store, as it comes, and the paths that are passed over.
 #[derive(Drop)]
-struct Walked {
+struct HandedOver {
     nodes: Vec<(NodePath, NodeMetadata)>,
     ignored: Vec<NodePath>,
 }
@@ -215,18 +215,18 @@ fn walked(
     path: &str,
     version: &str,
     config: &Config,
-) -> Result<Walked, NodeCreateError> {
+) -> Result<HandedOver, NodeCreateError> {
     let path = NodePath::new(alloc, path)?;
     let version = version_of(alloc, version)?;
     let mut nodes = Vec::new(alloc);
     let ignored = walk_hierarchy(alloc, store, &path, &version, config, &mut nodes)?;
-    Ok(Walked { nodes, ignored })
+    Ok(HandedOver { nodes, ignored })
 }
 
 // The path of each node and its document, one a line, and each path that was passed over.
-fn walked_text(walked: &Walked, alloc: Global) -> Result<String, AllocError> {
-    let mut text = lines_text(&walked.nodes, alloc)?;
-    for path in &walked.ignored {
+fn walked_text(handed: &HandedOver, alloc: Global) -> Result<String, AllocError> {
+    let mut text = lines_text(&handed.nodes, alloc)?;
+    for path in &handed.ignored {
         write!(text, "passed over {path}\n")?;
     }
     Ok(text)
