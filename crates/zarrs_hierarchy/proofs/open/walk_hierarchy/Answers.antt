@@ -1,4 +1,4 @@
-use Rattle.std.proofs.Common.{◌∙◌, refl, sym, ap, subst, ◌⊎◌}
+use Rattle.std.proofs.Common.{◌∙◌, sym, ap, subst, ◌⊎◌}
 use Rattle.zarrs_path.specs.Paths.{path_text}
 use Rattle.zarrs_block.specs.Refusals.{IsExcusedOr}
 use Rattle.zarrs_node.specs.OpeningNodes.{RefusesOpening}
