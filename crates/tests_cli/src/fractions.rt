@@ -1,7 +1,7 @@
 //! Documents with fractions, in images and in a folder: they are read, and two are the same where their 64 bits are.
 use crate::asserts::assert_ran;
 use crate::folders::{make_folder, run};
-use crate::runs::{GROUP, Row, assert_answer};
+use crate::runs::{GROUP, Wanted, assert_answer};
 use std::process::Abort;
 use std::{fs, io};
 
@@ -45,15 +45,18 @@ fn assert_number<R: Abort + AllocGlobal>(
     } else {
         ("zarrs: 1 node, 1 finding\n", 1)
     };
-    let row = Row {
-        documents: &[("zarr.json", GROUP), (key, text.as_str())],
-        blocks: &[],
-        path: "/",
+    let wanted = Wanted {
         output,
         errors,
         status,
     };
-    assert_answer(rt, &row);
+    assert_answer(
+        rt,
+        &[("zarr.json", GROUP), (key, text.as_str())],
+        &[],
+        "/",
+        wanted,
+    );
 }
 
 // Keys, their documents, the numbers in them, and what is told.
@@ -106,29 +109,30 @@ fn assert_compared<R: Abort + AllocGlobal>(rt: &R, stored: &str, copied: &str, i
     } else {
         (DIFFERS, ONE, 1)
     };
-    let of_version_3 = Row {
-        documents: &[("a/zarr.json", group.as_str())],
-        blocks: &[("zarr.json", entry.as_str())],
-        path: "/",
+    let wanted = Wanted {
         output,
         errors,
         status,
     };
-    assert_answer(rt, &of_version_3);
-    let of_version_2 = Row {
-        documents: &[
+    assert_answer(
+        rt,
+        &[("a/zarr.json", group.as_str())],
+        &[("zarr.json", entry.as_str())],
+        "/",
+        wanted,
+    );
+    assert_answer(
+        rt,
+        &[
             (".zgroup", GROUP_V2),
             (".zmetadata", block.as_str()),
             ("a/.zgroup", GROUP_V2),
             ("a/.zattrs", attributes.as_str()),
         ],
-        blocks: &[],
-        path: "/",
-        output,
-        errors,
-        status,
-    };
-    assert_answer(rt, &of_version_2);
+        &[],
+        "/",
+        wanted,
+    );
 }
 
 // Two numbers, and whether they are the same.

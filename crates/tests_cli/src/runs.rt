@@ -190,28 +190,51 @@ pub(crate) fn image_of(
     Ok(image)
 }
 
-// Documents at their keys, the entries of blocks at those of their groups, a path, and what the program answers of it.
-#[derive(Drop)]
-pub(crate) struct Row<'a> {
-    pub(crate) documents: &'a [(&'a str, &'a str)],
-    pub(crate) blocks: &'a [(&'a str, &'a str)],
-    pub(crate) path: &'a str,
+// What the program writes to both outputs, and its status.
+#[derive(Clone, Copy)]
+pub(crate) struct Wanted<'a> {
     pub(crate) output: &'a str,
     pub(crate) errors: &'a str,
     pub(crate) status: u8,
 }
 
-// Asserts what the program answers of the path of a row in the image of its documents and blocks.
-pub(crate) fn assert_answer<R: Abort + AllocGlobal>(rt: &R, row: &Row<'_>) {
-    let image = image_of(rt.alloc(), row.documents, row.blocks).expect(rt, "memory");
-    let ran = run(rt.alloc(), CHECK, image.as_str(), row.path).expect(rt, "memory");
-    assert_ran(rt, row.output, &ran, row.output, row.errors, row.status);
+// Asserts what the program answers of a path in an image of these documents and of groups with blocks of these entries.
+pub(crate) fn assert_answer<R: Abort + AllocGlobal>(
+    rt: &R,
+    documents: &[(&str, &str)],
+    blocks: &[(&str, &str)],
+    path: &str,
+    wanted: Wanted<'_>,
+) {
+    let Wanted {
+        output,
+        errors,
+        status,
+    } = wanted;
+    let image = image_of(rt.alloc(), documents, blocks).expect(rt, "memory");
+    let ran = run(rt.alloc(), CHECK, image.as_str(), path).expect(rt, "memory");
+    assert_ran(rt, output, &ran, output, errors, status);
+}
+
+// Documents at their keys, the entries of blocks at theirs, a path, and what the program answers of it.
+struct Row<'a> {
+    documents: &'a [(&'a str, &'a str)],
+    blocks: &'a [(&'a str, &'a str)],
+    path: &'a str,
+    output: &'a str,
+    errors: &'a str,
+    status: u8,
 }
 
 // Asserts what the program answers, row by row.
 fn assert_answers<R: Abort + AllocGlobal>(rt: &R, rows: &[Row<'_>]) {
     for row in rows {
-        assert_answer(rt, row);
+        let wanted = Wanted {
+            output: row.output,
+            errors: row.errors,
+            status: row.status,
+        };
+        assert_answer(rt, row.documents, row.blocks, row.path, wanted);
     }
 }
 
