@@ -5,6 +5,7 @@
 --     choice s policy b m      that a block is used for the nodes below b, or that they are listed, or that the want
 -- of a block is refused
 --     ShowsChosen, IsCleanChosen      what a tree below b shows by such a choice; that nothing refuses it
+--     PassesOver      the paths that it passes over by such a choice
 --     ShowsNode, IsCleanNode      what the tree of an opened node shows; that nothing refuses it
 --     RefusesChosen, RefusesNode, RefusesOpening      what refuses it; what refuses the node itself; the first of all
 -- reasons against opening a text
@@ -53,7 +54,8 @@ RefusesChosen s v (use_block B) recursive b e = NamesBadKey B e
 RefusesChosen s v list_store recursive b e = ShowsBad s v recursive b e
 RefusesChosen s v refuse recursive b e = RefusesUse b refuse e
 
--- an opening passes over the path p: one without documents, where a listing comes upon it
+-- an opening passes over the path p: where the store is listed, a path without documents that the listing ignores; none
+-- where a block is used, or where the want of one is refused
 abbrev pub PassesOver : Contents → MetadataRetrieveVersion → Choice → Path → Path → Type 0
 PassesOver s v (use_block B) b p = ⊥
 PassesOver s v list_store b p = Ignored s v true b p
