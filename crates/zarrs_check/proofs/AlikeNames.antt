@@ -280,17 +280,6 @@ module _ (ps : List Path) (i : ℕ) (q : Path) (lt : i < length ps) (is : q ≡ 
     pub next_more : (p : Path) → f k ≡ Some p → AreNext (found ++ (q, p) ∷ []) g
     next_more p some = over (found ++ (q, p) ∷ []) g (found_more (take i ps) q before found are k p to (subst (IsLastOf (take i ps) k) some (last k))) lasts
 
--- at first there is none
-pub found_none : AreAlikeAmong (Contains []) []
-found_none = record {
-  exact = λ t. (λ h. absurd (omega (arith, h.1)), λ h. absurd (omega (arith, h.here.1)));
-  ascend = λ i j d l m. absurd (omega (arith, m));
-}
-
--- of no paths none folds to k
-pub last_none : (k : Path) → IsLastOf [] k None
-last_none k r in' to = omega (arith, in'.1)
-
 -- the same pairs are alike among the same paths
 pub alike_same : (N M : Path → Type 0) (t : Path × Path) → ((p : Path) → N p ↔ M p) → IsAlike N t → IsAlike M t
 alike_same N M t same h = record {

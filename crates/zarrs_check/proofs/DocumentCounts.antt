@@ -125,10 +125,6 @@ module _ (key : Segments) (text : List ℕ) (is : text ≡ key_text key) (valid 
 
 -- ---- one key after another
 
--- before the first key there are no paths
-pub keyed_none : (p : Path) (qs : List Path) → qs ≡ [] → AreKeyedBelow [] p qs
-keyed_none p qs none q = (λ in'. absurd (omega (arith, (subst (λ xs. Contains xs q) none in').1)), λ h. absurd (omega (arith, h.1.1.1)))
-
 -- a key of no path adds none
 pub keyed_same : (keys : List Segments) (key : Segments) (p : Path) (qs : List Path) → IsKeyedPath p key None → AreKeyedBelow keys p qs → AreKeyedBelow (keys ++ key ∷ []) p qs
 keyed_same keys key p qs none h q = (
@@ -222,10 +218,6 @@ orphans_listed s v b ps os listed up h =
 
 -- ---- one bad document after another
 
--- below none nothing is hidden
-pub hidden_none : (s : Contents) (ns : List ℕ) → ns ≡ [] → AreHidden s [] ns
-hidden_none s ns none = record { size = ap length none; each = λ i d n lt. absurd (omega (arith, lt)) }
-
 -- below one more some are
 pub hidden_more : (s : Contents) (ds : List Bad) (d : Bad) (n : ℕ) (ns more : List ℕ) → IsCountBelow s d.0 n → more ≡ ns ++ n ∷ [] → AreHidden s ds ns → AreHidden s (ds ++ d ∷ []) more
 hidden_more s ds d n ns more count is h = subst (AreHidden s (ds ++ d ∷ [])) (sym is) (record {
@@ -255,13 +247,6 @@ pub hidden_all : (s : Contents) (ds : List Bad) (i : ℕ) (ns : List ℕ) → le
 hidden_all s ds i ns past h = subst (λ xs. AreHidden s xs ns) (take_all i ds past) h
 
 -- ---- one path after another
-
--- of no paths none has any below
-pub orphans_none : (s : Contents) (os : List (Path × ℕ)) → os ≡ [] → AreOrphansAmong s [] os
-orphans_none s os none = subst (AreOrphansAmong s []) (sym none) (record {
-  exact = λ o. (λ in'. absurd (omega (arith, in'.1)), λ h. absurd (omega (arith, h.0.1)));
-  ascend = λ up i j d l m. absurd (omega (arith, m));
-})
 
 -- a path with none below adds nothing
 pub orphans_same : (s : Contents) (ps : List Path) (p : Path) (n : ℕ) (os : List (Path × ℕ)) → IsCountBelow s p n → n ≡ 0 → AreOrphansAmong s ps os → AreOrphansAmong s (ps ++ p ∷ []) os
@@ -302,7 +287,3 @@ orphans_more s ps p copy n os more count some same is h = subst (AreOrphansAmong
 -- the turn at a place of a list is that of what stands there
 pub orphans_turn : (s : Contents) (ps : List Path) (i : ℕ) (p : Path) (os : List (Path × ℕ)) → i < length ps → p ≡ get_or ps i p → AreOrphansAmong s (take i ps ++ p ∷ []) os → AreOrphansAmong s (take (i + 1) ps) os
 orphans_turn s ps i p os lt is h = subst (λ xs. AreOrphansAmong s xs os) (ap (λ x. take i ps ++ x ∷ []) is ∙ sym (take_more ps i p lt)) h
-
--- at the end all were taken
-pub orphans_all : (s : Contents) (ps : List Path) (i : ℕ) (os : List (Path × ℕ)) → length ps ≤ i → AreOrphansAmong s (take i ps) os → AreOrphansAmong s ps os
-orphans_all s ps i os past h = subst (λ xs. AreOrphansAmong s xs os) (take_all i ps past) h

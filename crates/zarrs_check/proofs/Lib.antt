@@ -18,7 +18,6 @@ pub mod OwnAttributes
 pub mod PartFindings
 pub mod PartsOfStores
 pub mod Places
-pub mod BlocksRead
 pub mod RefreshedBlocks
 pub mod KeysRid
 pub mod SurveyFaults

@@ -20,7 +20,6 @@ use Rattle.zarrs_node.proofs.KeptOfLists.{below_later, not_below_itself}
 use Rattle.zarrs_node.proofs.Order.{contains_cases}
 use Rattle.zarrs_check.specs.declared.base.Base.{Base}
 use Rattle.zarrs_check.specs.declared.base.Base.TheVariants.{Node, Refused}
-use Rattle.zarrs_check.specs.Apart.{AreApart}
 use Rattle.zarrs_check.specs.BlocksAbove.{HasNodeFrom, MeansNoArray}
 use Rattle.zarrs_check.specs.Findings.{IsAtOrAbove}
 use Rattle.zarrs_block.specs.Meaning.{Pair}
@@ -71,15 +70,6 @@ IsBadMeaning (node m) = ⊥
 -- what is empty has no length
 pub empty_or_not : {A : Type 0} (xs : List A) (n : ℕ) → n ≡ length xs → xs ≡ [] → false ≡ (n == 0) → ⊥
 empty_or_not xs n is none some = true≢false (sym (subst (λ k. false ≡ (k == 0)) (is ∙ ap length none) some))
-
--- no base has two errors
-pub base_apart : (b : Path) (r : Base) → AreApart (bad_base b r)
-base_apart b (Node m) = λ i j d l k. absurd (omega (arith, k))
-base_apart b (Refused e) = by (is_missing e)
-  where
-    by : (t : Bool) → AreApart (if t then [] else (b, e) ∷ [])
-    by true = λ i j d l k. absurd (omega (arith, k))
-    by false = λ i j d l k. absurd (omega (arith, l, k))
 
 module _ (s : Contents) (v : MetadataRetrieveVersion) (b : Path) where
   -- the error that is kept is that of a bad document

@@ -161,18 +161,6 @@ paths_rest left rest f is h = λ i d l. subst HasPaths is h (suc i) d (omega (ar
 
 -- ---- the refusal of a base
 
--- a refusal of a base that says something of it is no excuse
-pub refused_base : (can_fail : Bool) (e : NodeCreateError) → is_of_node e ≡ true → IsExcused can_fail e → ⊥
-refused_base can_fail (StorageError (InvalidMetadata key fault)) is h = h
-refused_base can_fail (StorageError Fault) is h = true≢false (sym is)
-refused_base can_fail (StorageError (Other text)) is h = h
-refused_base can_fail (StorageError NoStoreMemory) is h = true≢false (sym is)
-refused_base can_fail MetadataVersionMismatch is h = h
-refused_base can_fail (MissingMetadata text) is h = h
-refused_base can_fail (NodePathError e) is h = true≢false (sym is)
-refused_base can_fail (StorePrefixError e) is h = true≢false (sym is)
-refused_base can_fail OutOfMemory is h = true≢false (sym is)
-
 -- a refusal that is of a document says something of it
 of_document : (e : NodeCreateError) → IsOfDocument e → is_of_node e ≡ true
 of_document (StorageError (InvalidMetadata key fault)) h = refl
@@ -195,9 +183,6 @@ of_missing b (StorePrefixError e) h = absurd h
 of_missing b OutOfMemory h = absurd h
 
 module _ (can_fail : Bool) (s : Contents) (v : MetadataRetrieveVersion) (b : Path) (e : NodeCreateError) (why : IsExcused can_fail e ⊎ RefusesNode s v b e) where
-  -- what says something of the base refuses it
-  pub base_refused : is_of_node e ≡ true → RefusesNode s v b e
-  base_refused is = ⊎_elim (λ x. absurd (refused_base can_fail e is x)) (λ r. r) why
 
   -- what says nothing of it is excused
   pub base_excused : is_of_node e ≡ false → IsExcused can_fail e

@@ -11,7 +11,7 @@ use Rattle.zarrs_write.specs.Calls.{AddsSome, Asked}
 use Rattle.zarrs_write.specs.declared.fault.ReplaceError.{ReplaceError}
 use Rattle.zarrs_consolidate.specs.CarryingOut.{IsPlanBrokenOff}
 use Rattle.zarrs_consolidate.specs.Plans.{IsPlan}
-use Rattle.zarrs_consolidate.specs.Refusals.{RefusesPlanOfEach, RefusesPlanOfSome}
+use Rattle.zarrs_consolidate.specs.Refusals.{RefusesPlanOfSome}
 use Rattle.zarrs_consolidate.specs.declared.fault.ConsolidateError.{ConsolidateError}
 use Rattle.zarrs_consolidate.specs.declared.plan.Plan.{Plan}
 use Rattle.zarrs_consolidate.specs.declared.plan.Task.{Task}
@@ -109,17 +109,10 @@ module _ (options : ConsolidateOptions) (b : Path) (task : Task) (is : task ≡ 
   pub told_of_some : (V : Values) × IsPlan (in_any V) task b plan → IsPlanToldOfSome options b (plan, line)
   told_of_some (V, planned) = (V, (subst (λ t. IsPlan (in_any V) t b plan) is planned, tells))
 
-  -- over each
-  pub told_of_each : (P : Values → Type 0) → ((V : Values) → P V → IsPlan (in_any V) task b plan) → IsPlanToldOfEach options b P (plan, line)
-  told_of_each P planned = λ V p. (subst (λ t. IsPlan (in_any V) t b plan) is (planned V p), tells)
-
 -- why there is no plan is the fault
 module _ (options : ConsolidateOptions) (b : Path) (task : Task) (is : task ≡ task_of options) (e : ConsolidateError) where
   pub unplanned_of_some : RefusesPlanOfSome task b e → IsPlanFaultOfSome options b (Consolidate e)
   unplanned_of_some = subst (λ t. RefusesPlanOfSome t b e) is
-
-  pub unplanned_of_each : (P : Values → Type 0) → RefusesPlanOfEach P task b e → IsPlanFaultOfEach options b P (Consolidate e)
-  unplanned_of_each P = subst (λ t. RefusesPlanOfEach P t b e) is
 
 -- ---- the line
 

@@ -1,8 +1,7 @@
 -- What a word answers over a loaded store it answers over the whole.
-use Rattle.std.proofs.Common.{◌≡◌, inl, inr, ⊎_elim, ℕ, Bool, List, Option, Some, None, sym, subst, ◌∙◌}
+use Rattle.std.proofs.Common.{◌≡◌, inl, inr, ⊎_elim, ℕ, Bool, List, Option, Some, None, sym, ◌∙◌}
 use Rattle.zarrs_store.specs.Contents.{Contents}
 use Rattle.zarrs_path.specs.Paths.{Path, IsPath, path_text}
-use Rattle.zarrs_path.proofs.LawProofs.{texts_differ}
 use Rattle.zarrs_meta.specs.declared.node.NodeMetadata.{NodeMetadata}
 use Rattle.zarrs_config.specs.declared.version.UseConsolidatedMetadata.{UseConsolidatedMetadata}
 use Rattle.zarrs_config.specs.declared.version.UseConsolidatedMetadata.TheVariants.{Auto, Never}
@@ -12,15 +11,13 @@ use Rattle.zarrs_node.specs.OpeningNodes.{RefusesNode}
 use Rattle.zarrs_cli.specs.NodeDocuments.{IsShownDocument}
 use Rattle.zarrs_block.specs.declared.node_create_error.NodeCreateError.{NodeCreateError}
 use Rattle.zarrs_folder.specs.Openings.{OpenSame}
-use Rattle.zarrs_cli.specs.declared.fault.ZarrsFault.{ZarrsFault}
-use Rattle.zarrs_cli.specs.declared.fault.ZarrsFault.TheVariants.{Usage, Load, Folder, Node, TooDeep, Consolidate, Replace, Write, OutOfMemory}
 use Rattle.zarrs_cli.specs.declared.report.Tally.{Tally}
 use Rattle.zarrs_cli.specs.declared.words.CheckOptions.{CheckOptions}
 use Rattle.zarrs_cli.specs.declared.words.Word.{Word}
 use Rattle.zarrs_cli.specs.declared.words.Word.TheVariants.{Tree, StoreTree, List as ListAll, Show, Check}
-use Rattle.zarrs_cli.specs.Output.{IsReported, IsWordText, IsAnswer}
+use Rattle.zarrs_cli.specs.Output.{IsReported, IsWordText}
 use Rattle.zarrs_cli.specs.StepsOfRuns.{IsCheckable}
-use Rattle.zarrs_cli.specs.Refusals.{IsTooDeepFor, RefusesAnswer, RefusesPathOf, RefusesRun}
+use Rattle.zarrs_cli.specs.Refusals.{IsTooDeepFor, RefusesAnswer}
 use Rattle.zarrs_cli.specs.NodeLines.{IsShown, tree_line, list_line}
 use Rattle.zarrs_cli.proofs.LoadedOpenings.{opened_over, refused_over}
 use Rattle.zarrs_cli.proofs.LoadedChecks.{report_from_over}
@@ -75,25 +72,3 @@ refuses_over can_fail Show S L b e valid same h = ⊎_elim inl (λ r. inr (node_
 refuses_over can_fail (Check options) S L b e valid same h = h
 
 module _ (w : Word) (S L : Contents) (b : Path) (path : List ℕ) (valid : IsPath b) (text_of : path_text b ≡ path) (same : IsSameFor w S L b) where
-  -- the path of the text is b
-  path_is : (p : Path) → IsPath p → path_text p ≡ path → p ≡ b
-  path_is p names text = texts_differ p b names valid (text ∙ sym text_of)
-
-  -- what a run writes
-  pub answer_over : (tally : Option Tally) (text : List ℕ) → IsAnswer w path L tally text → IsAnswer w path S tally text
-  answer_over tally text (p, names, is, h) = (b, valid, text_of, writes_over w S L b tally text valid same (subst (λ q. IsWordText w L q tally text) (path_is p names is) h))
-
-  -- and why it is refused
-  pub refuses_path_over : (can_fail : Bool) (e : NodeCreateError) → RefusesPathOf can_fail w path L e → RefusesPathOf can_fail w path S e
-  refuses_path_over can_fail e (p, names, is, h) = (b, valid, text_of, refuses_over can_fail w S L b e valid same (subst (λ q. RefusesAnswer can_fail w L q e) (path_is p names is) h))
-
-  pub run_over : (can_fail : Bool) (fault : ZarrsFault) → RefusesRun can_fail w path L fault → RefusesRun can_fail w path S fault
-  run_over can_fail (Node e) h = ⊎_elim inl (λ r. inr (refuses_path_over can_fail e r)) h
-  run_over can_fail Write (tally, text, h) = (tally, text, answer_over tally text h)
-  run_over can_fail OutOfMemory h = h
-  run_over can_fail Usage h = h
-  run_over can_fail (Load fault) h = h
-  run_over can_fail (Folder fault) h = h
-  run_over can_fail TooDeep (p, names, is, h) = (b, valid, text_of, deep_over w S L b same (subst (IsTooDeepFor w L) (path_is p names is) h))
-  run_over can_fail (Consolidate e) h = h
-  run_over can_fail (Replace e) h = h

@@ -1,5 +1,5 @@
 -- What opening shows over a store that opens at a base as another.
-use Rattle.std.proofs.Common.{◌≡◌, ◌↔◌, inl, inr, ⊎_elim, ℕ, List, refl, sym, subst, ◌∙◌}
+use Rattle.std.proofs.Common.{◌≡◌, ◌↔◌, inl, inr, ⊎_elim, refl, sym, subst, ◌∙◌}
 use Rattle.zarrs_store.specs.Contents.{Contents}
 use Rattle.zarrs_path.specs.Paths.{Path, IsPath, path_text}
 use Rattle.zarrs_path.proofs.LawProofs.{texts_differ}
@@ -12,7 +12,7 @@ use Rattle.zarrs_block.specs.Meaning.{meaning, node}
 use Rattle.zarrs_block.specs.declared.node_create_error.NodeCreateError.{NodeCreateError}
 use Rattle.zarrs_node.specs.OpeningNodes.{choice, IsCleanBelow, RefusesOpening}
 use Rattle.zarrs_hierarchy.specs.PairsOfHierarchies.{Pairs, Holds, WithBase}
-use Rattle.zarrs_hierarchy.specs.OpeningHierarchies.{PairsChosen, PairsOf, IsOpened, IsOpenedTree}
+use Rattle.zarrs_hierarchy.specs.OpeningHierarchies.{PairsChosen, PairsOf, IsOpened}
 use Rattle.zarrs_folder.specs.Openings.{ListSame, OpenSame}
 use Rattle.zarrs_folder.proofs.Openings.{lists_over, below_same, opened_answer_same}
 
@@ -59,10 +59,6 @@ module _ (S L : Contents) (policy : UseConsolidatedMetadata) (b : Path) (same : 
         holds = holds_over h m is (subst (λ p. Holds h (WithBase p m (PairsOf L Default policy p m))) path opened.holds);
         clean = (below_same S L policy b same m is).clean.0 (subst (λ p. IsCleanBelow L Default policy p m) path opened.clean);
       }
-
-  -- with the same tree
-  pub tree_over : IsPath b → (text : List ℕ) → IsOpenedTree L Default policy b text → IsOpenedTree S Default policy b text
-  tree_over valid text tree = (tree.0, opened_over valid tree.0 tree.1, tree.2)
 
   -- and what refuses opening the one refuses the other
   pub refused_over : IsPath b → (e : NodeCreateError) → RefusesOpening L Default policy (path_text b) e → RefusesOpening S Default policy (path_text b) e

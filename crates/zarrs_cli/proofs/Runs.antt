@@ -11,9 +11,9 @@ use Rattle.zarrs_block.specs.declared.node_create_error.NodeCreateError.{NodeCre
 use Rattle.zarrs_program.specs.Words.{RefusesPathText}
 use Rattle.zarrs_program.specs.declared.output.WriteFault.{WriteFault}
 use Rattle.zarrs_load.specs.Image.{IsLoaded}
-use Rattle.zarrs_cli.specs.Output.{IsAnswer, IsWordText, WritesWord, WritesOverImage, WritesOverSome, WritesOverEach, WritesOverSource, WritesRequest, WritesAsked, usage_text, version_text}
+use Rattle.zarrs_cli.specs.Output.{IsAnswer, IsWordText, WritesWord, WritesOverImage, WritesOverSome, WritesOverEach, WritesRequest, WritesAsked, usage_text, version_text}
 use Rattle.zarrs_cli.specs.RefusalLines.{IsHint, SaysReason, SaysRefusal}
-use Rattle.zarrs_cli.specs.Refusals.{RefusesFolder, RefusesRun, RefusesOverImage, RefusesOverSome, RefusesOverEach, RefusesOverSource, RefusesRequest, RefusesAsked, answered_status, run_status, tally_status}
+use Rattle.zarrs_cli.specs.Refusals.{RefusesRun, RefusesOverImage, RefusesOverSome, RefusesOverEach, RefusesRequest, RefusesAsked, answered_status, run_status, tally_status}
 use Rattle.zarrs_cli.specs.StepsOfRuns.{IsEnough, IsFaultOfEach, IsFaultOfSome, IsAnswerFault, IsWrittenOfEach, IsWrittenOfSome}
 use Rattle.zarrs_cli.specs.Words.{AreWords, AskFor}
 use Rattle.zarrs_cli.specs.declared.report.Tally.{Tally}
@@ -124,14 +124,6 @@ module _ (word : Word) (b : Path) (L : Values) (r : Result (Option Tally × Stri
     pub fault_of_each : IfErr r (IsAnswerFault false word (in_any L) b) → IfErr r (IsFaultOfEach word b P)
     fault_of_each = err_weaker r (λ fault refused. inr (λ V p. fault_over word (in_any V) (in_any L) b fault valid (enough V p) refused))
 
--- a folder that was not read refuses the words
-pub folder_of_some : (word : Word) (b : Path) (fault : ZarrsFault) → RefusesFolder fault → IsFaultOfSome word b fault
-folder_of_some word b fault refused = inl refused
-
--- a folder that was not read refuses the words over each store
-pub folder_of_each : (word : Word) (b : Path) (P : Values → Type 0) (fault : ZarrsFault) → RefusesFolder fault → IsFaultOfEach word b P fault
-folder_of_each word b P fault refused = inl refused
-
 module _ (word : Word) (path : List ℕ) (b : Path) (valid : IsPath b) (same : path_text b ≡ path) where
   -- what refuses the words refuses the run
   pub refused_of_some : (fault : ZarrsFault) → IsFaultOfSome word b fault → RefusesOverSome word path fault
@@ -153,44 +145,17 @@ module _ (word : Word) (path : List ℕ) (b : Path) (valid : IsPath b) (same : p
   pub unwritten_of_some : (made : Option Tally × String Global) (fault : ZarrsFault) → IsWrittenOfSome word b made → fault ≡ Write → RefusesOverSome word path fault
   unwritten_of_some made fault writes failed = inr (writes.0, unwritten false word path (in_any writes.0) made.0 (string_bytes made.1) fault (b, valid, same, writes.1) failed)
 
-  -- where the writer fails over each store there is an answer over each
-  pub unwritten_of_each : (P : Values → Type 0) (made : Option Tally × String Global) (fault : ZarrsFault) → IsWrittenOfEach word b P made → fault ≡ Write → RefusesOverEach word path P fault
-  unwritten_of_each P made fault writes failed = inr (λ V p. unwritten false word path (in_any V) made.0 (string_bytes made.1) fault (b, valid, same, writes V p) failed)
-
 -- a text that is no path refuses the run over any store
 pub base_of_some : (word : Word) (path : List ℕ) (e : NodeCreateError) → RefusesPathText path e → RefusesOverSome word path (Node e)
 base_of_some word path e refused = inr (values_of [], base_refused false word path (in_any (values_of [])) e refused)
 
--- a text that is no path refuses the run over each store
-pub base_of_each : (word : Word) (path : List ℕ) (P : Values → Type 0) (e : NodeCreateError) → RefusesPathText path e → RefusesOverEach word path P (Node e)
-base_of_each word path P e refused = inr (λ V p. base_refused false word path (in_any V) e refused)
-
 -- ---- by the source
 
 module _ (word : Word) (source path : List ℕ) where
-  -- an image is what `-` names
-  pub image_answered : (left old new : Option (List ℕ)) (r : Result (Option Tally) ZarrsFault) → bytes_eq source (codes "-") ≡ true
-      → IfOk r (WritesOverImage word path left old new) → IfOk r (WritesOverSource word source path left old new)
-  image_answered left old new r is = ok_weaker r (λ tally writes. inl ((bytes_eq-Decides source (codes "-")).0 is, writes))
-
-  -- what refuses the run over an image refuses that over the source `-`
-  pub image_refused : (before after : Option (List ℕ)) (r : Result (Option Tally) ZarrsFault) → bytes_eq source (codes "-") ≡ true
-      → IfErr r (RefusesOverImage word path before after) → IfErr r (RefusesOverSource word source path before after)
-  image_refused before after r is = err_weaker r (λ fault refused. inl ((bytes_eq-Decides source (codes "-")).0 is, refused))
 
   -- what is told to differ does
   other : bytes_eq source (codes "-") ≡ false → source ≢ codes "-"
   other differs same = true≢false (sym ((bytes_eq-Decides source (codes "-")).1 same) ∙ differs)
-
-  -- a folder is what any other source names
-  pub folder_answered : (left old new : Option (List ℕ)) (r : Result (Option Tally) ZarrsFault) → bytes_eq source (codes "-") ≡ false
-      → IfOk r (WritesOverSome word path old new) → IfOk r (WritesOverSource word source path left old new)
-  folder_answered left old new r differs = ok_weaker r (λ tally writes. inr (other differs, writes))
-
-  -- what refuses the run over a folder's store refuses that over any other source
-  pub folder_refused : (before after : Option (List ℕ)) (r : Result (Option Tally) ZarrsFault) → bytes_eq source (codes "-") ≡ false
-      → IfErr r (RefusesOverSome word path) → IfErr r (RefusesOverSource word source path before after)
-  folder_refused before after r differs = err_weaker r (λ fault refused. inr (other differs, refused))
 
 -- ---- by the words
 

@@ -26,7 +26,7 @@ use Rattle.zarrs_node.specs.MapsOfNodes.{AreDocumentsOf, BaseInFront, DocumentsA
 use Rattle.zarrs_node.specs.Nodes.{HasNothingBad, Nodes}
 use Rattle.zarrs_node.specs.Order.{Ascend}
 use Rattle.zarrs_examples.specs.Conversions.{node_v3, made_array_of, KeepsOthers, NestsTooDeep, RefusesConverting, RefusesNodes}
-use Rattle.zarrs_examples.specs.StepsOfConversions.{HasDocument, RefusesDocumentAt, RefusesMetadataAt}
+use Rattle.zarrs_examples.specs.StepsOfConversions.{HasDocument, RefusesMetadataAt}
 use Rattle.zarrs_examples.specs.declared.converter.ConvertError.{ConvertError}
 use Rattle.zarrs_examples.specs.declared.converter.ConvertError.TheVariants.{Node, Array, Depth, Fraction, Storage, OutOfMemory}
 
@@ -211,15 +211,6 @@ first_refused earlier nodes before after x ds OutOfMemory ascends is are in' h =
 -- plain metadata that are not written nest too deep
 pub too_deep : (m : NodeMetadata) → true ≡ is_plain_node m → IsNotWritten m → NestsTooDeep m
 too_deep m plain none = ⊎_elim (λ not_plain. absurd (true≢false (plain ∙ not_plain))) (λ deep. deep) none
-
--- a document that would not be read again is that of such metadata
-pub deep_refused : (p : Path) (m c : NodeMetadata) (e : ConvertError) → node_v3 m ≡ Some c → RefusesDocumentAt p c e → RefusesMetadataAt p m e
-deep_refused p m c (Node e) is h = h
-deep_refused p m c (Array q e) is h = absurd h
-deep_refused p m c (Depth q) is h = (h.0, c, is, h.1)
-deep_refused p m c (Fraction q) is h = (h.0, c, is, h.1)
-deep_refused p m c (Storage e) is h = h
-deep_refused p m c OutOfMemory is h = tt
 
 -- ---- the whole hierarchy
 

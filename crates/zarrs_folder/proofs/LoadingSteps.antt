@@ -104,10 +104,6 @@ none_found f found o is e = sym is ∙ ap (option_map f) e
 pub document_got : (V L M : Values) (p k : Segments) (file v : List ℕ) → k ≡ p ++ file ∷ [] → M ≡ map.insert L k v → map.get V k ≡ Some v → HasSameFile V M p file
 document_got V L M p k file v key is at = subst (λ x. map.get M x ≡ map.get V x) key (ap (λ m. map.get m k) is ∙ get_inserted L k v ∙ sym at)
 
--- where the whole has none, none is there
-pub document_absent : (V L : Values) (p k : Segments) (file : List ℕ) → k ≡ p ++ file ∷ [] → HasNoOtherKeys V L → map.get V k ≡ None → HasSameFile V L p file
-document_absent V L p k file key none absent = subst (λ x. map.get L x ≡ map.get V x) key (absent_same V L k none absent)
-
 -- a key of a document stands below its path
 pub document_below : (M : Values) (p k : Segments) (file : List ℕ) → k ≡ p ++ file ∷ [] → HasKey M k → HasBelow M p
 document_below M p k file is has = (file, [], subst (HasKey M) is has)

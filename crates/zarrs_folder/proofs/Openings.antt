@@ -150,10 +150,6 @@ pub base_opens_same : BaseOpensSame
 base_opens_same S L b base policy never = base_with S L b base policy
     (λ g is none. absurd (never g ((base_shows_same S L b base).0 Default ∙ is) (choice_same S L b base policy (Group g) ∙ none)))
 
--- and where b means no group
-pub node_opens_same : (S L : Contents) (b : Path) → HasBaseOf S L b → (policy : UseConsolidatedMetadata) → ((g : GroupMetadata) → meaning L Default b ≡ node (Group g) → ⊥) → OpenSame S L policy b
-node_opens_same S L b base policy no_group = base_opens_same S L b base policy (λ g is none. no_group g is)
-
 -- where a block is used, no group is listed
 pub block_opens_same : BlockOpensSame
 block_opens_same S L b base policy m B means chosen = base_opens_same S L b base policy

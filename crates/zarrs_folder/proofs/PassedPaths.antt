@@ -46,10 +46,6 @@ loaded_grows V L M b grows loaded = record {
 pub below_grows : (V L M : Values) (ps : List Path) → Grows V L M → HoldsBelow V L ps → HoldsBelow V M ps
 below_grows V L M ps grows holds p q in' low file of' = grows.same (q ++ file ∷ []) (holds p q in' low file of')
 
--- nothing is below no paths
-pub below_none : (V L : Values) → HoldsBelow V L []
-below_none V L p q in' low file of' = absurd (omega (arith, in'.1))
-
 -- what is below some paths and below one more
 pub below_another : (V L : Values) (ps : List Path) (p : Path) → HoldsBelow V L ps → HoldsBelow V L (p ∷ []) → HoldsBelow V L (ps ++ p ∷ [])
 below_another V L ps p before last x q in' low file of' = ⊎_elim
@@ -119,10 +115,6 @@ three_got V L0 L1 L2 L3 p a b c f g h none0 =
     of_each_document (HasSameFile V L3 p) (c.same _ (b.same _ (f none0))) (c.same _ (g none1)) (h none2)
 
 -- ---- the law
-
--- a listed path stands from the base
-listed_from : (S : Contents) (b g : Path) → IsListed (meaning S Default) true b g → StandsFrom S Default b g
-listed_from S b g h = ⊎_elim inl (λ w. inr w.0) h
 
 -- a listed path and one name is reached
 child_reached : (S : Contents) (b g : Path) (n : List ℕ) (c : Path) → IsListed (meaning S Default) true b g → IsPath (n ∷ []) → c ≡ g ++ n ∷ [] → Reached (MeansNode S Default) true b c

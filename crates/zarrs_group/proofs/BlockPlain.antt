@@ -65,10 +65,6 @@ fault_left numbers clash es =
     else if not clash && list_all (λ e. is_plain_node_in numbers e.1) es then None
     else Some (BadMember (codes "metadata"))
 
--- at first all are left, and none clashes
-pub all_left : (numbers : Numbers) (B : Block) (es : List (String Global × NodeMetadata)) → shown es ≡ B → fault_left numbers false (entries_left B (shown es)) ≡ block_fault_in numbers B
-all_left numbers B es is = ap (λ left. fault_left numbers false (entries_left B left)) is
-
 -- a node that is plain changes nothing
 plain_passes : (numbers : Numbers) (clash : Bool) (o : Option Path) (m : NodeMetadata) (es : List (Path × NodeMetadata)) → is_plain_node_in numbers m ≡ true → fault_left numbers clash (with_pair o m es) ≡ fault_left numbers clash es
 plain_passes numbers clash None m es plain = refl

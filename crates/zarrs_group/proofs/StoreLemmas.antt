@@ -1,13 +1,9 @@
 -- What storing and erasing say before the first edit.
-use Rattle.std.specs.Prelude.{IfErr, OnErr}
-use Rattle.std.proofs.Common.{◌≡◌, inl, inr, Result, Ok, Err, OnOk, Bool, List, [], ◌∷◌, ◌++◌, Option, Some, None, refl, sym, ap, ◌∙◌}
+use Rattle.std.proofs.Common.{◌≡◌, Result, Ok, Err, OnOk, List, [], ◌∷◌, ◌++◌, Option, Some, None, refl, sym, ap, ◌∙◌}
 use Rattle.zarrs_store.specs.Segments.{Segments}
 use Rattle.zarrs_store.specs.Contents.{Contents}
-use Rattle.zarrs_store.specs.Faults.{IsStoreError}
 use Rattle.zarrs_fault.specs.declared.numbers.Numbers.{Numbers}
 use Rattle.zarrs_fault.specs.declared.fault.MetadataFault.{MetadataFault}
-use Rattle.zarrs_store.specs.declared.storage_error.StorageError.{StorageError}
-use Rattle.zarrs_store.specs.declared.storage_error.StorageError.TheVariants.{Fault, InvalidMetadata, Other, OutOfMemory}
 use Rattle.zarrs_path.specs.Keys.{zmetadata}
 use Rattle.zarrs_path.specs.Paths.{Path}
 use Rattle.zarrs_meta.specs.declared.node.GroupMetadata.{GroupMetadata}
@@ -17,7 +13,7 @@ use Rattle.zarrs_config.specs.declared.version.MetadataEraseVersion.TheVariants 
 use Rattle.zarrs_block.specs.Block.{Block}
 use Rattle.zarrs_group.specs.Edits.{Edit, IsCutShort}
 use Rattle.zarrs_group.specs.Plain.{group_fault_in, beside_fault_in}
-use Rattle.zarrs_group.specs.StoringGroups.{AreEditsOf, metadata_key, store_changes, store_edits, erase_edits, fault_at, first_fault, stored_fault_in, RefusesMetadata, RefusesStoring}
+use Rattle.zarrs_group.specs.StoringGroups.{metadata_key, store_edits, erase_edits, fault_at, first_fault, stored_fault_in}
 
 -- where nothing was done, the first edit is the next
 none_done : (S : Contents) (e : Edit) (es : List Edit) → IsCutShort S (e ∷ es) S
@@ -36,27 +32,6 @@ none_erased S p version.Default (V2 m) = none_done S _ _
 none_erased S p version.All m = none_done S _ _
 none_erased S p version.V3 m = none_done S _ _
 none_erased S p version.V2 m = none_done S _ _
-
--- a refusal before the first edit is a refusal of storing, with the store unchanged
-pub refused_before : (b : Bool) (p : Path) (m : GroupMetadata) (block : Option Block) (S : Contents) (e : StorageError) → RefusesMetadata S.numbers p m block e → RefusesStoring b p m block S S e
-refused_before b p m block S Fault h = absurd h
-refused_before b p m block S (InvalidMetadata key fault) h = (refl, h)
-refused_before b p m block S (Other text) h = absurd h
-refused_before b p m block S OutOfMemory h = inl refl
-
--- an error of the store, by which the edits of a plain group were cut short, is a refusal of storing
-pub refused_within : (b : Bool) (p : Path) (m : GroupMetadata) (block : Option Block) (S S' : Contents) (es : List Edit) (e : StorageError) → stored_fault_in S.numbers p m block ≡ None
-    → AreEditsOf (store_changes p m block) es → IsStoreError b e → IsCutShort S es S' → RefusesStoring b p m block S S' e
-refused_within b p m block S S' es Fault plain are h cut = (h, record { plain = plain; edits = es; are = are; cut = cut })
-refused_within b p m block S S' es (InvalidMetadata key fault) plain are h cut = absurd h
-refused_within b p m block S S' es (Other text) plain are h cut = absurd h
-refused_within b p m block S S' es OutOfMemory plain are h cut = inr (record { plain = plain; edits = es; are = are; cut = cut })
-
--- the same of a result
-pub on_refused : {X : Type 0} (r : Result X StorageError) (b : Bool) (p : Path) (m : GroupMetadata) (block : Option Block) (S S' : Contents) (es : List Edit) → stored_fault_in S.numbers p m block ≡ None
-    → AreEditsOf (store_changes p m block) es → IfErr r (IsStoreError b) → OnErr r (IsCutShort S es S') → IfErr r (RefusesStoring b p m block S S')
-on_refused (Ok x) b p m block S S' es plain are h cut = tt
-on_refused (Err e) b p m block S S' es plain are h cut = refused_within b p m block S S' es e plain are h cut
 
 -- what follows from success
 pub on_ok : {X E A B : Type 0} (r : Result X E) → OnOk r A → (A → B) → OnOk r B

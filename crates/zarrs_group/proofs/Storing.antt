@@ -1,12 +1,12 @@
 -- What storing a group promises, from the edits that were made of its parts.
-use Rattle.std.proofs.Common.{◌≡◌, ◌≢◌, Result, OnOk, List, Option, None, sym, ap, ◌∙◌, subst}
+use Rattle.std.proofs.Common.{◌≡◌, Result, OnOk, List, Option, None, sym, ap, ◌∙◌, subst}
 use Rattle.zarrs_store.specs.Contents.{Contents}
 use Rattle.zarrs_path.specs.Paths.{Path}
 use Rattle.zarrs_meta.specs.declared.node.GroupMetadata.{GroupMetadata}
 use Rattle.zarrs_block.specs.Block.{Block}
 use Rattle.zarrs_group.specs.Edits.{Edit, after}
 use Rattle.zarrs_group.specs.Laws.{MeansStored}
-use Rattle.zarrs_group.specs.StoringGroups.{AreEditsOf, IsBlockReadBack, StoresDocuments, store_changes, store_edits, stored_fault, stored_fault_in}
+use Rattle.zarrs_group.specs.StoringGroups.{AreEditsOf, IsBlockReadBack, store_changes, store_edits, stored_fault, stored_fault_in}
 use Rattle.zarrs_group.proofs.MeaningLaws.{means_stored, block_stored}
 use Rattle.zarrs_group.proofs.StoreLemmas.{on_ok, own_plain}
 use Rattle.zarrs_group.proofs.WholeEdits.{whole_edits_are_exact}
@@ -17,9 +17,6 @@ of_parts P p q m k b d path metadata block h = subst (λ x. P q k x) block (subs
 
 -- the edits of a plain group, and the store after them
 module _ (S T : Contents) (p : Path) (m : GroupMetadata) (block : Option Block) (es : List Edit) (plain : stored_fault_in S.numbers p m block ≡ None) (are : AreEditsOf (store_changes p m block) es) where
-  -- it is the store after the group was stored
-  pub stores : {A E : Type 0} (r : Result A E) → OnOk r (T ≡ after S es) → OnOk r (StoresDocuments p m block S T)
-  stores r h = on_ok r h (λ is. (es, are, is))
 
   -- exactly, where no number is a fraction
   pub stores_exactly : {A E : Type 0} (r : Result A E) → OnOk r (T ≡ after S es) → OnOk r (stored_fault p m block ≡ None → T ≡ after S (store_edits p m block))
@@ -32,11 +29,3 @@ module _ (S T : Contents) (p : Path) (m : GroupMetadata) (block : Option Block) 
   -- and its block is read
   pub stores_block : {A E : Type 0} (r : Result A E) → OnOk r (T ≡ after S es) → OnOk r (IsBlockReadBack T p m block)
   stores_block r h = on_ok r h (λ is. subst (λ x. IsBlockReadBack x p m block) (sym is) (block_stored S p m block es are))
-
-  -- no fault stands against it
-  pub stores_plain : {A E : Type 0} (r : Result A E) → OnOk r (T ≡ after S es) → OnOk r (stored_fault_in S.numbers p m block ≡ None)
-  stores_plain r h = on_ok r h (λ is. plain)
-
-  -- so what follows from a fault holds
-  pub no_fault : {A : Type 0} → stored_fault_in S.numbers p m block ≢ None → A
-  no_fault fault = absurd (fault plain)

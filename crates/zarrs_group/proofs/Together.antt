@@ -1,5 +1,5 @@
 -- The children of a group as pairs of path and metadata.
-use Rattle.std.proofs.Common.{append-nil, ◌≡◌, Result, Ok, Err, IfOk, ℕ, ◌↔◌, Bool, true, false, true≢false, List, [], ◌∷◌, ◌++◌, map, filter, cond, length, refl, sym, ap, subst, ◌∙◌, append_assoc, arith, Contains}
+use Rattle.std.proofs.Common.{append-nil, ◌≡◌, Result, Ok, Err, IfOk, ℕ, Bool, true, false, true≢false, List, [], ◌∷◌, ◌++◌, map, filter, cond, length, refl, sym, ap, subst, ◌∙◌, append_assoc, arith, Contains}
 use Rattle.std.proofs.lemmas.List.{append_cancel_left, map-append}
 use Rattle.std.proofs.lemmas.List.Elements.{Contains-append_left, Contains-append_right}
 use Rattle.zarrs_store.specs.Contents.{Contents, Lists}
@@ -16,7 +16,7 @@ use Rattle.zarrs_node.specs.Order.{Ascend}
 use Rattle.zarrs_node.specs.Reach.{Kept}
 use Rattle.zarrs_node.specs.declared.node.Node.{Node}
 use Rattle.zarrs_node.specs.Forest.{Forest, none, tree, pairs, Shows, IsPlaced, forest, path_of, metadata_of, below_of}
-use Rattle.zarrs_node.proofs.ListedItems.{listed_each, lists_from}
+use Rattle.zarrs_node.proofs.ListedItems.{listed_each}
 use Rattle.zarrs_node.proofs.ForestsBeside.{plant_out, Contains-first, Contains-cons}
 use Rattle.zarrs_node.proofs.Order.{pairs_ascend}
 use Rattle.zarrs_node.specs.OpeningNodes.{ShowsChosen, IsCleanChosen}
@@ -26,10 +26,6 @@ use Rattle.zarrs_group.specs.Children.{block_choice, ListsDirectly, ShowsChildre
 -- a node as the pair of its path and its metadata
 abbrev pub pair_of : Node → Path × NodeMetadata
 pair_of n = (path_of n, metadata_of n)
-
--- lists of what holds the same are the same
-pub lists_same : {A : Type 0} (P Q : A → Type 0) (xs : List A) → ((x : A) → P x ↔ Q x) → Lists P xs → Lists Q xs
-lists_same P Q xs same l = lists_from xs (λ x. (λ h. (same x).0 ((listed_each l x).0 h), λ h. (listed_each l x).1 ((same x).1 h))) l.each_once
 
 -- what is kept of pairs, not recursively, has one name beyond the base
 one_name : (N : Path × NodeMetadata → Type 0) (b : Path) (e : Path × NodeMetadata) → Kept N false b e → (n : List ℕ) × (e.0 ≡ b ++ n ∷ [])

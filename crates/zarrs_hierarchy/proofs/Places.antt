@@ -1,5 +1,5 @@
 -- Pairs in the order of paths: what a search by halving finds, and what stands behind a path.
-use Rattle.std.proofs.Common.{◌≡◌, ℕ, zero, suc, ◌+◌, false, [], ◌∷◌, drop, length, get_or, refl, ap, subst, ◌∙◌, arith, Contains, Less, Equal, Greater, Ordering, Some, None, Result, Ok, Err, IfOk, IfErr, is_eq}
+use Rattle.std.proofs.Common.{◌≡◌, ℕ, zero, suc, ◌+◌, [], ◌∷◌, drop, length, get_or, refl, ap, subst, ◌∙◌, arith, Contains, Less, Equal, Greater, Ordering, Some, None, Result, Ok, Err, IfOk, IfErr, is_eq}
 use Rattle.std.proofs.lemmas.Cmp.{tied_itself}
 use Rattle.std.proofs.lemmas.List.Sorted.{searchable_from_sorted}
 use Rattle.std.proofs.Math.Seq.{drop-nil}
@@ -23,10 +23,6 @@ same_path p q e = (path_decides p q).0 (path_ties p q ∙ ap is_eq e)
 -- two paths compared the other way round
 turned : (p q : Path) (o : Ordering) → path_cmp p q ≡ o → path_cmp q p ≡ ordering_reverse o
 turned p q o e = path_total.antisymm q p ∙ ap ordering_reverse e
-
--- no path stands before another one with its names
-not_before : (p q : Path) → q ≡ p → is_lt (path_cmp p q) ≡ false
-not_before p q e = ap (λ x. is_lt (path_cmp p x)) e ∙ ap is_lt (tied_itself path_total p)
 
 -- compared with one path, the paths rise, as halving asks
 rises : (es : Pairs) → Ascend es → (p : Path) → IsNonDecreasingBy (λ e. ordering_index (path_cmp e.0 p)) es

@@ -2,7 +2,7 @@
 use Rattle.std.proofs.Common.{◌≡◌, ℕ, true, false, cond, List, [], ◌∷◌, ◌++◌, Some, IfSome, Vec, Global, IsPermutation, sym, refl, ap, ◌∙◌, subst}
 use Rattle.std.specs.FinMap as map
 use Rattle.std.specs.Ordering.{eq_by_cmp}
-use Rattle.std.proofs.lemmas.List.Elements.{All-head, All-nil, All-push, All-rest}
+use Rattle.std.proofs.lemmas.List.Elements.{All-head, All-push, All-rest}
 use Rattle.std.proofs.lemmas.List.Sorted.{All-permutation}
 use Rattle.zarrs_store.specs.Segments.{Segments, key_cmp, key_text}
 use Rattle.zarrs_store.specs.Contents.{Values}
@@ -19,10 +19,6 @@ File = Segments × Vec ℕ Global
 -- the bytes are those of a file whose names are the text of the key
 abbrev pub Found : File → Type 0
 Found f = IsFound (key_text f.0) f.1.items
-
--- no files
-pub none_found : (files : List File) → files ≡ [] → AreFound files
-none_found files is = subst AreFound (sym is) (All-nil Found)
 
 -- one file more
 pub one_more : (files more : List File) (f : File) → more ≡ files ++ f ∷ [] → Found f → AreFound files → AreFound more

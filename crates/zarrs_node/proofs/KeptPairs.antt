@@ -16,12 +16,6 @@ use Rattle.zarrs_node.proofs.ForestsBeside.{Contains-first, Contains-cons}
 use Rattle.zarrs_node.proofs.ListedItems.{listed_each}
 use Rattle.zarrs_node.proofs.Order.{contains_cases, Begins, all_below}
 
--- word by word: e is a pair of N below b, and every path strictly between is a group of N
-pub record KeptByWords (N : Path × NodeMetadata → Type 0) (b : Path) (e : Path × NodeMetadata) : Type 0 where
-  pub held : N e
-  pub below : (n : List ℕ) × (ns : Path) × (e.0 ≡ b ++ n ∷ ns) × IsPath (n ∷ ns)
-  pub between : (q : Path) → IsBelow b q → IsBelow q e.0 → HasGroup N q
-
 -- what is below what is below is below
 pub below_below : (b q p : Path) → IsBelow b q → IsBelow q p → IsBelow b p
 below_below b q p (n, ns, e) (m, ms, f) = (n, ns ++ m ∷ ms, f ∙ ap (λ x. x ++ m ∷ ms) e ∙ append_assoc b (n ∷ ns) (m ∷ ms))

@@ -4,7 +4,7 @@ use Rattle.std.specs.List.{filter}
 use Rattle.std.specs.Ordering.{is_lt, ordering_reverse}
 use Rattle.std.specs.List.Sorted.{IsSortedBy, IsStableBy, ties}
 use Rattle.std.proofs.lemmas.List.Elements.{Contains-append_left, Contains-push, Contains-push_cases, filter-append, filter_agree}
-use Rattle.std.proofs.lemmas.List.{same_from_push, length-append}
+use Rattle.std.proofs.lemmas.List.{same_from_push}
 use Rattle.std.specs.FinMap.{slice_cmp-IsAntisymmetric, nat_cmp-IsAntisymmetric, IsAntisymmetric}
 use Rattle.zarrs_path.specs.Paths.{Path, path_cmp, path_eq}
 use Rattle.zarrs_path.specs.PathOrder.{path_decides, path_ties, path_total}
@@ -25,10 +25,6 @@ use Rattle.zarrs_node.proofs.KeptOfLists.{all_pairs_across}
 pub record KeepsLast (done v : List Pair) : Type 0 where
   pub ascends : Ascend v
   pub latest : (e : Pair) → Contains v e ↔ IsLatest done e
-
--- whether a pair has a path
-at : Path → Pair → Bool
-at p d = path_eq d.0 p
 
 -- a path equals itself
 names_itself : (p : Path) → path_eq p p ≡ true
@@ -152,10 +148,6 @@ module _ (done v w : List Pair) (e : Pair) (k : KeepsLast done v) (sorted : (d :
           (latest_push done e d h),
     );
   }
-
--- a list with one item more is not empty
-pub no_push : {A : Type 0} (xs : List A) (x : A) → [] ≡ xs ++ x ∷ [] → ⊥
-no_push xs x e = let l = ap (λ y. length y) e in let m = length-append xs (x ∷ []) in omega (arith, l, m)
 
 -- pairs tie where their paths are equal
 pub ties_same : (x y : Pair) → ties (λ x y. is_lt (path_cmp x.0 y.0)) x y ≡ path_eq y.0 x.0

@@ -29,16 +29,6 @@ pub record Holds (b : Path) (done left : List Pair) (roots opened : List Node) :
   pub groups : AreGroups (heads opened)
   pub waits : (h : Pair) → Hangs (Contains done) b h → IsTrue (is_group h.1) → (d : Pair) → Contains left d → IsBelow h.0 d.0 → Contains (heads opened) h
 
--- before the first pair it holds
-pub holds_none : (b : Path) (left : List Pair) → Holds b [] left [] []
-holds_none b left = record {
-  placed = tt;
-  kept = λ e. (λ h. absurd (omega (arith, h.1)), λ k. absurd (omega (arith, k.member.1)));
-  valid = λ e h. absurd (omega (arith, h.1));
-  groups = tt;
-  waits = λ h k. absurd (omega (arith, k.member.1));
-}
-
 -- the first of some groups are groups
 groups_front : (hs ks : List Pair) → AreGroups (hs ++ ks) → AreGroups hs
 groups_front [] ks h = tt

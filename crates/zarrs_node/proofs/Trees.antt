@@ -2,7 +2,6 @@
 use Rattle.std.proofs.lemmas.List.{take-append-drop, drop_more}
 use Rattle.std.proofs.Common.{◌≡◌, ◌↔◌, ℕ, suc, ◌+◌, ◌<◌, ◌≤◌, List, [], ◌∷◌, ◌++◌, length, get_or, take, drop, ap, sym, subst, ◌∙◌, add-one, drop-cons, refl, arith}
 use Rattle.zarrs_path.specs.Paths.{Path}
-use Rattle.zarrs_meta.specs.declared.node.NodeMetadata.{NodeMetadata}
 use Rattle.zarrs_node.specs.declared.node.Node.{Node}
 use Rattle.zarrs_node.specs.Forest.{Forest, plant, tree, none, forest, IsChildOf, ArePlacedBelow, HasPlacedChildren, path_of, metadata_of, below_of}
 use Rattle.zarrs_node.specs.StepsOfTrees.{graft}
@@ -89,12 +88,3 @@ weight_at ns i x lt is =
 -- the forest of nodes and of one more
 pub pushed : (ns after : List Node) (x : Node) (f : Forest) → after ≡ ns ++ x ∷ [] → forest (x ∷ []) ≡ f → forest after ≡ graft (forest ns) f
 pushed ns after x f e one = ap forest e ∙ forest_push ns x ∙ ap (graft (forest ns)) one
-
--- a tree of the path and metadata of a node and of the forest below it is the node's
-pub copied : (n : Node) (t below : Forest) (p : Path) (m : NodeMetadata) → t ≡ tree p m below none → p ≡ path_of n → m ≡ metadata_of n → below ≡ below_of n → t ≡ forest (n ∷ [])
-copied n t below p m is path metadata same =
-    is
-    ∙ ap (λ q. tree q m below none) path
-    ∙ ap (λ k. tree (path_of n) k below none) metadata
-    ∙ ap (λ f. tree (path_of n) (metadata_of n) f none) same
-    ∙ sym (tree_of n)

@@ -1,10 +1,8 @@
 -- Names and lists of names.
-use Rattle.std.proofs.Common.{take, take_all, ◌≤◌, ◌≡◌, ℕ, Bool, true, false, not, ◌&&◌, List, [], ◌∷◌, ◌++◌, map, length, refl, ap, IsTrue, arith, All}
+use Rattle.std.proofs.Common.{◌≡◌, ℕ, Bool, true, false, not, ◌&&◌, List, [], ◌∷◌, refl, ap, IsTrue}
 use Rattle.std.specs.List.{list_all}
 use Rattle.std.proofs.lemmas.Bool.{and_parts, and_from, not-true}
-use Rattle.std.proofs.lemmas.List.{length-map}
-use Rattle.std.proofs.lemmas.List.Elements.{All-head, All-tail}
-use Rattle.zarrs_store.specs.Segments.{Segments, last_segment, is_nonempty, has_no_slash, IsSegment}
+use Rattle.zarrs_store.specs.Segments.{is_nonempty, has_no_slash, IsSegment}
 use Rattle.zarrs_store.proofs.Cuts.{segment_test}
 pub use Rattle.zarrs_path.specs.Names.{IsName}
 use Rattle.zarrs_path.specs.Names.{is_name, is_all_periods, is_reserved}
@@ -58,12 +56,3 @@ periods_from n segment visible none =
           (and_from (has_no_slash n) (not (is_all_periods n) && not (is_reserved n)) both.1
           (and_from (not (is_all_periods n)) (not (is_reserved n)) (ap not e) (ap not visible)))))
     ] in all (is_all_periods n) refl
-
--- the last of some segments is a segment
-pub last_segment_is : (b : Path) (n : List ℕ) → All IsSegment (b ++ n ∷ []) → IsSegment n
-last_segment_is [] n h = All-head IsSegment n [] h
-last_segment_is (m ∷ b) n h = last_segment_is b n (All-tail IsSegment m (b ++ n ∷ []) h)
-
--- all the last segments of some lists, taken one by one, are those of the lists
-pub take_names : (cs : List Segments) (i : ℕ) → length cs ≤ i → take i (map last_segment cs) ≡ map last_segment cs
-take_names cs i h = let long = length-map cs last_segment in take_all i (map last_segment cs) (omega (arith, h, long))

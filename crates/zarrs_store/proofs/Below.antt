@@ -1,5 +1,5 @@
 -- What stands below a list of segments: keys, and the children that were discovered.
-use Rattle.std.proofs.Common.{false, take, take_all, ◌≤◌, ◌≡◌, ℕ, ◌<◌, ◌↔◌, List, [], ◌∷◌, ◌++◌, map, length, get_or, refl, sym, ap, subst, ◌∙◌, append_assoc, Contains, AllPairs, All, IsFalse, Less, Ordering, arith, Some, None, ◌⊎◌, inl, inr, is_some}
+use Rattle.std.proofs.Common.{false, ◌≡◌, ℕ, ◌<◌, ◌↔◌, List, [], ◌∷◌, ◌++◌, map, length, get_or, refl, sym, ap, subst, ◌∙◌, append_assoc, Contains, AllPairs, All, IsFalse, Less, Ordering, arith, Some, None, ◌⊎◌, inl, inr, is_some}
 use Rattle.std.specs.FinMap.{get}
 use Rattle.std.specs.List.{AllByRecursion}
 use Rattle.std.specs.List.Sorted.{IsStrictlySortedBy}
@@ -97,11 +97,3 @@ module _ (s : Values) (b : Segments) where
     -- the last segments of the discovered children are the visible further segments
     pub children_are : IsChildren s b (map last_segment cs)
     children_are = record { found = λ n. (found_child n, λ h. child_found n h.0 h.1); ascending = ascend }
-
--- the children that were discovered below the prefix of a path, as a slice
-pub children_of : (s : Values) (b base : Segments) (cs slice : List Segments) → base ≡ b → slice ≡ cs → AreVisibleChildren s base cs → AreVisibleChildren s b slice
-children_of s b base cs slice e f h = subst (AreVisibleChildren s b) (sym f) (subst (λ x. AreVisibleChildren s x cs) e h)
-
--- past the last child all names were taken
-pub take_names : (cs : List Segments) (i : ℕ) → length cs ≤ i → take i (map last_segment cs) ≡ map last_segment cs
-take_names cs i h = let long = length-map cs last_segment in take_all i (map last_segment cs) (omega (arith, h, long))

@@ -2,6 +2,5 @@ pub mod Blocks
 pub mod Folders
 pub mod Fractions
 pub mod Lines
-pub mod LoadFaults
 pub mod Runs
 pub mod Status

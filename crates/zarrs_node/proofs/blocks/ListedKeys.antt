@@ -1,5 +1,5 @@
 -- Keys among those that a listing gave.
-use Rattle.std.proofs.Common.{◌≡◌, ◌↔◌, ℕ, ◌+◌, ◌<◌, ◌≤◌, Bool, true, false, ◌||◌, List, [], ◌∷◌, ◌++◌, length, take, take_all, get_or, Contains, IsTrue, sym, ap, subst, ◌∙◌, ◌⊎◌, inl, inr, ⊎_elim, refl, true≢false}
+use Rattle.std.proofs.Common.{◌≡◌, ◌↔◌, ℕ, ◌+◌, ◌<◌, Bool, true, false, ◌||◌, List, [], ◌∷◌, ◌++◌, length, take, get_or, Contains, IsTrue, sym, ap, subst, ◌∙◌, ◌⊎◌, inl, inr, ⊎_elim, refl, true≢false}
 use Rattle.std.proofs.lemmas.List.{take_more}
 use Rattle.std.proofs.lemmas.List.Elements.{Contains-push_cases}
 use Rattle.zarrs_store.specs.Segments.{Segments}
@@ -12,14 +12,6 @@ use Rattle.zarrs_node.specs.Exists.{HasNodeKey}
 pub not_yet : (keys : List Segments) (key held : Segments) (i : ℕ) → i < length keys → held ≡ get_or keys i held → (held ≡ key → ⊥) → (Contains (take i keys) key → ⊥) → Contains (take (i + 1) keys) key → ⊥
 not_yet keys key held i lt is other before h =
     ⊎_elim before other (Contains-push_cases (take i keys) held key (subst (λ xs. Contains xs key) (sym (ap (λ x. take i keys ++ x ∷ []) is ∙ sym (take_more keys i held lt))) h))
-
--- a key that is among no keys up to the last is among none
-pub never : (keys : List Segments) (key : Segments) (i : ℕ) → length keys ≤ i → (Contains (take i keys) key → ⊥) → Contains keys key → ⊥
-never keys key i h before there = before (subst (λ xs. Contains xs key) (sym (take_all i keys h)) there)
-
--- a key at a place is among the keys
-pub there : (keys : List Segments) (key held : Segments) (i : ℕ) → i < length keys → held ≡ get_or keys i held → held ≡ key → Contains keys key
-there keys key held i lt is same = (i, lt, subst (λ k. get_or keys i k ≡ k) same (sym is))
 
 -- a document is in the store where its key is among the keys directly below the path
 document_is : (s : Contents) (p base : Path) (keys : List Segments) (f : List ℕ) (k : Segments) (r : Bool) → base ≡ p → Lists (IsChildKey s.values base) keys → k ≡ p ++ f ∷ [] → IsTrue r ↔ Contains keys k → IsTrue r ↔ HasKey s.values (p ++ f ∷ [])

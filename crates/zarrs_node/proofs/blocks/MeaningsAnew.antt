@@ -212,7 +212,3 @@ insert_end b now whole left is h = ap (put_all b now) (sym is) ∙ h.0
 -- at first all are left
 pub insert_start : (b : Path) (now : Block) (left all : List (Path × NodeMetadata)) → left ≡ all → ArePairsBelow b all → IsInserting b now left (put_all b now all)
 insert_start b now left all is below = (ap (put_all b now) is, λ e in'. below e (subst (λ l. Contains l e) is in'))
-
--- none stand below the base
-pub none_below : (b : Path) (es : List (Path × NodeMetadata)) → es ≡ [] → ArePairsBelow b es
-none_below b es is e in' = let empty = subst (λ l. Contains l e) is in' in absurd (omega (arith, empty.1))

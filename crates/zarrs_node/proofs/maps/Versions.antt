@@ -79,11 +79,6 @@ three_by true u d m e v = refl
 three_by false true d m e v = absurd (true≢false (sym v ∙ two_by _ (array_v2_of d) (group_v2_of d) m e))
 three_by false false d m e v = cc
 
--- a step before another that gives a value
-then_ok : {A B : Type 0} (r : Result A MetadataFault) (s : Result B MetadataFault) (t : Result B MetadataFault) (x : B) → (s ≡ Ok x → t ≡ Ok x) → r >>= (λ _. s) ≡ Ok x → r >>= (λ _. t) ≡ Ok x
-then_ok (Ok a) s t x h e = h e
-then_ok (Err f) s t x h e = cc
-
 -- a step before another gives the value that the other gives
 ok_of : {A B : Type 0} (r : Result A MetadataFault) (s : Result B MetadataFault) (x : B) → r >>= (λ _. s) ≡ Ok x → s ≡ Ok x
 ok_of (Ok a) s x e = e
