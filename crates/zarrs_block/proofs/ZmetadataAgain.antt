@@ -296,7 +296,3 @@ module _ (numbers : Numbers) (g : GroupMetadataV2) (B : Block) (plain_group : Is
 pub written_reads_back_in : (numbers : Numbers) → WrittenReadsBackIn numbers
 written_reads_back_in numbers g B plain_group up valid new plain =
     (C numbers g B plain_group up valid new plain, reads numbers g B plain_group up valid new plain, same_entries numbers g B plain_group up valid new plain)
-
--- so it is where numbers have to be whole
-pub written_reads_back : WrittenReadsBackIn Whole
-written_reads_back = written_reads_back_in Whole

@@ -128,7 +128,3 @@ block_tree B =
 -- each node of the block could have come from a document that may hold these numbers
 abbrev pub HasPlainNodesIn : Numbers → Block → Type 0
 HasPlainNodesIn numbers B = All (λ e. IsTrue (is_plain_node_in numbers e.1)) B
-
--- each node of the block could have come from a document whose numbers are whole
-abbrev pub HasPlainNodes : Block → Type 0
-HasPlainNodes B = HasPlainNodesIn Whole B

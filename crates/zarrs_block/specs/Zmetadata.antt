@@ -154,10 +154,6 @@ ZmetadataHoldsIn numbers = (d : Data) (B : Block) → zmetadata_in numbers d ≡
     → ((ms : Members) × (zmetadata_members_in numbers d ≡ Ok ms) × HoldsStoreIn numbers ms B × IsCleanIn numbers ms)
     × IsAscending B
 
--- The same, where numbers have to be whole.
-abbrev pub ZmetadataHolds : Type 0
-ZmetadataHolds = ZmetadataHoldsIn Whole
-
 -- A document whose members are a store in which nothing is bad, where all may hold these numbers, reads as the block
 -- that holds that store and whose keys ascend: there is no other.
 abbrev pub OneBlockHoldsStoreIn : Numbers → Type 0
@@ -271,8 +267,3 @@ WrittenReadsBackIn numbers =
     (g : GroupMetadataV2) (B : Block) → IsTrue (is_plain_group_v2_in numbers g) → IsAscending B → HasValidKeys B
     → HasVersion2 B → HasPlainEntriesIn numbers B
     → (C : Block) × (zmetadata_in numbers (zmetadata_tree g B) ≡ Ok C) × HaveSameEntries B C
-
--- What is written of a plain group and a block with valid keys, whose entries are plain and of version 2, reads as a
--- block with the same entries, where numbers have to be whole.
-abbrev pub WrittenReadsBack : Type 0
-WrittenReadsBack = WrittenReadsBackIn Whole

@@ -1,32 +1,17 @@
 //! What holds of every block. A function with an empty body does nothing, and its contract is the law.
 ghost use Rattle.std.specs.Prelude.{◌≡◌, Ok};
-ghost use Rattle.zarrs_block.specs.Block.{HasPlainNodes, HasPlainNodesIn, block_of, block_of_in, block_tree};
+ghost use Rattle.zarrs_block.specs.Block.{HasPlainNodesIn, block_of_in, block_tree};
 ghost use Rattle.zarrs_block.specs.Laws.{WholeBlocksReadTheSame, WholePathsMeanTheSame};
-ghost use Rattle.zarrs_block.specs.Zmetadata.{ZmetadataHolds, ZmetadataHoldsIn, OneBlockHoldsStoreIn, WrittenHoldsDocuments, WrittenReadsBack, WrittenReadsBackIn};
+ghost use Rattle.zarrs_block.specs.Zmetadata.{ZmetadataHoldsIn, OneBlockHoldsStoreIn, WrittenHoldsDocuments, WrittenReadsBackIn};
 
 use crate::consolidated::ConsolidatedMetadata;
 use zarrs_store::Numbers;
-
-/// What is written of a block of plain nodes reads as that block.
-#[tactic(auto, using(crate::proofs::BlockReads::block_again_in))]
-pub fn block_reads_back(block: &ConsolidatedMetadata)
-    requires { HasPlainNodes block.now.metadata }
-    ensures { block_of (block_tree block.now.metadata) ≡ Ok block.now.metadata }
-{}
 
 /// What is written of a block of nodes that are plain in these numbers reads in them as that block.
 #[tactic(auto, using(crate::proofs::BlockReads::block_again_in))]
 pub fn block_reads_back_in(numbers: Numbers, block: &ConsolidatedMetadata)
     requires { HasPlainNodesIn numbers block.now.metadata }
     ensures { block_of_in numbers (block_tree block.now.metadata) ≡ Ok block.now.metadata }
-{}
-
-/// A document `.zmetadata` that reads as a block: the block holds the store that the members of `metadata` are, in which nothing below
-/// the group is bad, and its keys ascend.
-///
-/// Source: zarr-python, consolidated metadata of version 2.
-pub fn zmetadata_holds_store()
-    ensures { ZmetadataHolds }
 {}
 
 /// So it is where the document may hold these numbers: the block holds what its members are read as where they may hold them.
@@ -48,12 +33,6 @@ pub fn one_block_holds_store_in(numbers: Numbers)
 #[tactic(auto, using(crate::proofs::ZmetadataDocuments::written_holds_documents))]
 pub fn written_holds_documents()
     ensures { WrittenHoldsDocuments }
-{}
-
-/// What is written of a plain version 2 group and a block of plain nodes of version 2 reads as a block with the same entries.
-#[tactic(auto, using(crate::proofs::ZmetadataAgain::written_reads_back))]
-pub fn written_reads_back()
-    ensures { WrittenReadsBack }
 {}
 
 /// What is written of a version 2 group and a block of nodes of version 2, all plain in these numbers, reads in them as a block with the

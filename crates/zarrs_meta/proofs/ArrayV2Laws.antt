@@ -8,7 +8,7 @@ use Rattle.serde_json.proofs.Views.{get_member-put}
 use Rattle.zarrs_form.specs.Documents.{besides, document_in, has_own, is_empty, optional_found, required_member, optional_member, format_of}
 use Rattle.zarrs_form.specs.Forms.{number_u64, any, nullable, list_of, number_data, list_data, nullable_data, none_or, fits, fits_in, unless, put_rows}
 use Rattle.zarrs_form.specs.FormsV2.{codec_names, codec, codec_data, codec_fits, codec_fits_in, data_type, data_type_data, data_type_fits, data_type_fits_in, order, order_data, separator, separator_data, has_zero, chunk_lengths}
-use Rattle.zarrs_meta.specs.ArrayV2.{array_v2_in, array_v2_names, array_v2_of, array_v2_rows, array_v2_tree, is_plain_array_v2, is_plain_array_v2_in}
+use Rattle.zarrs_meta.specs.ArrayV2.{array_v2_in, array_v2_names, array_v2_rows, array_v2_tree, is_plain_array_v2, is_plain_array_v2_in}
 use Rattle.zarrs_fault.specs.declared.numbers.Numbers.{Numbers}
 use Rattle.zarrs_fault.specs.declared.numbers.Numbers.TheVariants.{Whole, Any}
 use Rattle.zarrs_meta.specs.declared.array_v2.ArrayMetadataV2.{ArrayMetadataV2}
@@ -235,7 +235,3 @@ module _ (numbers : Numbers) (m : ArrayMetadataV2) (plain : IsTrue (is_plain_arr
   pub array_v2_again_in : array_v2_in numbers (array_v2_tree m) ≡ Ok m
   unfolding array_v2_in format_of
   array_v2_again_in = rw (is_document numbers m plain, has_format, shape, chunks, dtype, fill_value, array_order, compressor, filters, dimension_separator, attributes, others) refl
-
--- a plain array that was written reads as that array
-pub array_v2_again : (m : ArrayMetadataV2) → IsTrue (is_plain_array_v2 m) → array_v2_of (array_v2_tree m) ≡ Ok m
-array_v2_again m plain = array_v2_again_in Whole m plain

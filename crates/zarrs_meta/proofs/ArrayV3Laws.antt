@@ -6,7 +6,7 @@ use Rattle.serde_json.specs.Find.{get_member, as_object, as_str}
 use Rattle.serde_json.specs.Written.{has_float, members_have_float}
 use Rattle.zarrs_form.specs.Documents.{is_own, besides, document_in, has_own, is_empty, optional_found, required_member, optional_member, format_of, node_type_of}
 use Rattle.zarrs_form.specs.Forms.{number_u64, any, nullable, list_of, extension, number_data, list_data, nullable_data, extension_data, extension_fits, fits, unless, is_nil, put_rows}
-use Rattle.zarrs_meta.specs.ArrayV3.{array_v3_in, array_v3_names, array_v3_of, array_v3_rows, array_v3_tree, is_plain_array_v3, is_plain_array_v3_in}
+use Rattle.zarrs_meta.specs.ArrayV3.{array_v3_in, array_v3_names, array_v3_rows, array_v3_tree, is_plain_array_v3, is_plain_array_v3_in}
 use Rattle.zarrs_fault.specs.declared.numbers.Numbers.{Numbers}
 use Rattle.zarrs_fault.specs.declared.numbers.Numbers.TheVariants.{Whole, Any}
 use Rattle.zarrs_meta.specs.declared.array_v3.ArrayMetadataV3.{ArrayMetadataV3}
@@ -200,10 +200,6 @@ plain_own numbers m plain = not_true (has_own array_v3_names m.additional_fields
 -- an array that is plain in these numbers and was written reads as that array in them
 pub array_v3_again_in : (numbers : Numbers) (m : ArrayMetadataV3) → IsTrue (is_plain_array_v3_in numbers m) → array_v3_in numbers (array_v3_tree m) ≡ Ok m
 array_v3_again_in numbers m plain = array_v3_again_where m (plain_own numbers m plain) numbers (is_document numbers m plain)
-
--- a plain array that was written reads as that array
-pub array_v3_again : (m : ArrayMetadataV3) → IsTrue (is_plain_array_v3 m) → array_v3_of (array_v3_tree m) ≡ Ok m
-array_v3_again m plain = array_v3_again_in Whole m plain
 
 -- a plain array is written with its format
 pub format_again : (numbers : Numbers) (m : ArrayMetadataV3) → IsTrue (is_plain_array_v3_in numbers m) → get_member (codes "zarr_format") (put_rows (array_v3_rows m) m.additional_fields) ≡ Some (number (unsigned 3))

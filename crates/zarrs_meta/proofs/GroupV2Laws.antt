@@ -5,7 +5,7 @@ use Rattle.serde_json.specs.Find.{get_member, as_object}
 use Rattle.serde_json.specs.Written.{has_float, members_have_float}
 use Rattle.zarrs_form.specs.Documents.{besides, document_in, has_own, is_empty, optional_found, optional_member, format_of}
 use Rattle.zarrs_form.specs.Forms.{fits, fits_in, unless, put_rows}
-use Rattle.zarrs_meta.specs.GroupV2.{group_v2_in, group_v2_names, group_v2_of, group_v2_rows, group_v2_tree, is_plain_group_v2, is_plain_group_v2_in}
+use Rattle.zarrs_meta.specs.GroupV2.{group_v2_in, group_v2_names, group_v2_rows, group_v2_tree, is_plain_group_v2, is_plain_group_v2_in}
 use Rattle.zarrs_fault.specs.declared.numbers.Numbers.{Numbers}
 use Rattle.zarrs_fault.specs.declared.numbers.Numbers.TheVariants.{Whole, Any}
 use Rattle.zarrs_meta.specs.declared.group_v2.GroupMetadataV2.{GroupMetadataV2}
@@ -84,7 +84,3 @@ module _ (numbers : Numbers) (m : GroupMetadataV2) (plain : IsTrue (is_plain_gro
   pub group_v2_again_in : group_v2_in numbers (group_v2_tree m) ≡ Ok m
   unfolding group_v2_in format_of
   group_v2_again_in = rw (is_document numbers m plain, has_format, no_shape, attributes, others) refl
-
--- a plain group that was written reads as that group
-pub group_v2_again : (m : GroupMetadataV2) → IsTrue (is_plain_group_v2 m) → group_v2_of (group_v2_tree m) ≡ Ok m
-group_v2_again m plain = group_v2_again_in Whole m plain

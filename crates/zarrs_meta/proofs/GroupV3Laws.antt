@@ -5,7 +5,7 @@ use Rattle.serde_json.specs.Find.{get_member, as_object}
 use Rattle.serde_json.specs.Written.{has_float, members_have_float}
 use Rattle.zarrs_form.specs.Documents.{besides, document_in, has_own, is_null, is_empty, optional_found, optional_member, format_of, node_type_of}
 use Rattle.zarrs_form.specs.Forms.{fits, fits_in, unless, put_rows}
-use Rattle.zarrs_meta.specs.GroupV3.{group_v3_names, group_v3_in, group_v3_of, group_v3_rows, group_v3_tree, is_plain_group_v3, is_plain_group_v3_in}
+use Rattle.zarrs_meta.specs.GroupV3.{group_v3_names, group_v3_in, group_v3_rows, group_v3_tree, is_plain_group_v3, is_plain_group_v3_in}
 use Rattle.zarrs_fault.specs.declared.numbers.Numbers.{Numbers}
 use Rattle.zarrs_fault.specs.declared.numbers.Numbers.TheVariants.{Whole, Any}
 use Rattle.zarrs_meta.specs.declared.group_v3.GroupMetadataV3.{GroupMetadataV3}
@@ -97,7 +97,3 @@ module _ (numbers : Numbers) (m : GroupMetadataV3) (plain : IsTrue (is_plain_gro
   pub group_v3_again_in : group_v3_in numbers (group_v3_tree m) ≡ Ok m
   unfolding group_v3_in format_of node_type_of
   group_v3_again_in = rw (is_document numbers m plain, has_format, has_kind, attributes, no_block, others) refl
-
--- a plain group that was written reads as that group
-pub group_v3_again : (m : GroupMetadataV3) → IsTrue (is_plain_group_v3 m) → group_v3_of (group_v3_tree m) ≡ Ok m
-group_v3_again m plain = group_v3_again_in Whole m plain

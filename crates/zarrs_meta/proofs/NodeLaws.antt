@@ -2,11 +2,10 @@
 use Rattle.std.proofs.Common.{◌≡◌, false, Ok, IsTrue, refl}
 use Rattle.serde_json.specs.Written.{has_float}
 use Rattle.zarrs_form.specs.Documents.{format_of, node_type_of}
-use Rattle.zarrs_meta.specs.Node.{node_in, node_of, node_tree, is_plain_node, is_plain_node_in}
+use Rattle.zarrs_meta.specs.Node.{node_in, node_tree, is_plain_node, is_plain_node_in}
 use Rattle.zarrs_meta.specs.declared.node.GroupMetadata.TheVariants.{V3 as group_v3, V2 as group_v2}
 use Rattle.zarrs_meta.specs.declared.node.ArrayMetadata.TheVariants.{V3 as array_v3, V2 as array_v2}
 use Rattle.zarrs_fault.specs.declared.numbers.Numbers.{Numbers}
-use Rattle.zarrs_fault.specs.declared.numbers.Numbers.TheVariants.{Whole}
 use Rattle.zarrs_meta.specs.declared.node.NodeMetadata.{NodeMetadata}
 use Rattle.zarrs_meta.specs.declared.node.NodeMetadata.TheVariants.{Group, Array}
 use Rattle.zarrs_meta.proofs.GroupV3Laws as G3
@@ -32,7 +31,3 @@ node_again_in numbers (Array (array_v3 m)) plain =
     rw (A3.is_document numbers m plain, A3.format_again numbers m plain, A3.kind_again numbers m plain, A3.array_v3_again_in numbers m plain) refl
 node_again_in numbers (Array (array_v2 m)) plain =
     rw (A2.is_document numbers m plain, A2.has_format numbers m plain, A2.has_shape numbers m plain, A2.array_v2_again_in numbers m plain) refl
-
--- a plain node that was written reads as that node
-pub node_again : (m : NodeMetadata) → IsTrue (is_plain_node m) → node_of (node_tree m) ≡ Ok m
-node_again m plain = node_again_in Whole m plain

@@ -7,14 +7,13 @@ use Rattle.serde_json.specs.Find.{get, as_object, as_str, as_bool}
 use Rattle.zarrs_form.specs.Documents.{besides, has_own, document_in, format_of, node_type_of, required_member, optional_member}
 use Rattle.zarrs_form.specs.Forms.{number_u64, any, nullable, list_of, none_or, unless_absent, extension, extension_object, extension_fits_in, fits_in}
 use Rattle.zarrs_meta.specs.ArrayV3 as v3
-use Rattle.zarrs_meta.specs.ArrayV3.{array_v3_in, array_v3_of, is_plain_array_v3, is_plain_array_v3_in}
+use Rattle.zarrs_meta.specs.ArrayV3.{array_v3_in, is_plain_array_v3_in}
 use Rattle.zarrs_fault.specs.declared.numbers.Numbers.{Numbers}
-use Rattle.zarrs_fault.specs.declared.numbers.Numbers.TheVariants.{Whole}
 use Rattle.zarrs_meta.specs.declared.array_v3.ArrayMetadataV3.{ArrayMetadataV3}
 use Rattle.zarrs_form.specs.declared.extension.MetadataV3.{MetadataV3}
 use Rattle.zarrs_form.specs.FormsV2.{codec_names, codec, codec_fits_in, data_type, data_type_fits_in, order, separator, has_zero, chunk_lengths}
 use Rattle.zarrs_meta.specs.ArrayV2 as v2
-use Rattle.zarrs_meta.specs.ArrayV2.{array_v2_in, array_v2_of, is_plain_array_v2, is_plain_array_v2_in}
+use Rattle.zarrs_meta.specs.ArrayV2.{array_v2_in, is_plain_array_v2_in}
 use Rattle.zarrs_meta.specs.declared.array_v2.ArrayMetadataV2.{ArrayMetadataV2}
 use Rattle.zarrs_form.specs.declared.data_type.DataTypeMetadataV2.TheVariants.{Structured}
 use Rattle.zarrs_form.specs.declared.chunks.ChunkKeySeparator.TheVariants.{Dot}
@@ -88,10 +87,6 @@ array_v3_plain_in numbers d =
 pub read_array_v3_is_plain_in : (numbers : Numbers) (d : Data) (m : ArrayMetadataV3) → array_v3_in numbers d ≡ Ok m → IsTrue (is_plain_array_v3_in numbers m)
 read_array_v3_is_plain_in numbers d m e = of_ok (PlainV3In numbers) (array_v3_in numbers d) m (array_v3_plain_in numbers d) e
 
--- a version 3 array that was read is plain
-pub read_array_v3_is_plain : (d : Data) (m : ArrayMetadataV3) → array_v3_of d ≡ Ok m → IsTrue (is_plain_array_v3 m)
-read_array_v3_is_plain d m e = read_array_v3_is_plain_in Whole d m e
-
 -- ---- the forms of version 2
 
 -- the configuration of a codec has the numbers of its object, and no member `id`
@@ -129,10 +124,6 @@ chunks_fitting numbers d h = some_next (λ xs. not (has_zero xs) ≡ true) (list
 abbrev pub PlainV2In : Numbers → ArrayMetadataV2 → Type 0
 PlainV2In numbers m = IsTrue (is_plain_array_v2_in numbers m)
 
--- a version 2 array could have come from a document whose numbers are whole
-abbrev pub PlainV2 : ArrayMetadataV2 → Type 0
-PlainV2 m = PlainV2In Whole m
-
 -- step by step, as the document is read
 pub array_v2_plain_in : (numbers : Numbers) (d : Data) → Reads (array_v2_in numbers d) (PlainV2In numbers)
 unfolding array_v2_in
@@ -160,14 +151,6 @@ array_v2_plain_in numbers d =
     (fits-besides numbers v2.array_v2_names ms h.1))
     (false_not (has_own v2.array_v2_names fields) (no_own-besides v2.array_v2_names ms)))))))))))))
 
--- the same, where numbers have to be whole
-pub array_v2_plain : (d : Data) → Reads (array_v2_of d) PlainV2
-array_v2_plain d = array_v2_plain_in Whole d
-
 -- a version 2 array that was read is plain in its numbers
 pub read_array_v2_is_plain_in : (numbers : Numbers) (d : Data) (m : ArrayMetadataV2) → array_v2_in numbers d ≡ Ok m → IsTrue (is_plain_array_v2_in numbers m)
 read_array_v2_is_plain_in numbers d m e = of_ok (PlainV2In numbers) (array_v2_in numbers d) m (array_v2_plain_in numbers d) e
-
--- a version 2 array that was read is plain
-pub read_array_v2_is_plain : (d : Data) (m : ArrayMetadataV2) → array_v2_of d ≡ Ok m → IsTrue (is_plain_array_v2 m)
-read_array_v2_is_plain d m e = read_array_v2_is_plain_in Whole d m e

@@ -5,11 +5,10 @@ use Rattle.serde_json.specs.Find.{get, get_member, as_object}
 use Rattle.zarrs_form.specs.Documents.{is_own, besides, has_own, is_null, document_in, format_of, node_type_of, optional_member, no_member}
 use Rattle.zarrs_form.specs.Forms.{fits_in}
 use Rattle.zarrs_meta.specs.GroupV3 as v3
-use Rattle.zarrs_meta.specs.GroupV3.{read_names, group_v3_in, group_v3_of, is_plain_group_v3, is_plain_group_v3_in}
+use Rattle.zarrs_meta.specs.GroupV3.{read_names, group_v3_in, is_plain_group_v3_in}
 use Rattle.zarrs_meta.specs.GroupV2 as v2
-use Rattle.zarrs_meta.specs.GroupV2.{group_v2_in, group_v2_of, is_plain_group_v2, is_plain_group_v2_in}
+use Rattle.zarrs_meta.specs.GroupV2.{group_v2_in, is_plain_group_v2_in}
 use Rattle.zarrs_fault.specs.declared.numbers.Numbers.{Numbers}
-use Rattle.zarrs_fault.specs.declared.numbers.Numbers.TheVariants.{Whole}
 use Rattle.zarrs_meta.specs.declared.group_v3.GroupMetadataV3.{GroupMetadataV3}
 use Rattle.zarrs_meta.specs.declared.group_v2.GroupMetadataV2.{GroupMetadataV2}
 use Rattle.zarrs_form.proofs.MemberLaws.{get-others, get_besides}
@@ -25,10 +24,6 @@ attributes_fit numbers d h = optional_fits numbers no_members as_object (λ ms. 
 -- a version 2 group could have come from a document that may hold these numbers
 abbrev pub PlainV2In : Numbers → GroupMetadataV2 → Type 0
 PlainV2In numbers m = IsTrue (is_plain_group_v2_in numbers m)
-
--- a version 2 group could have come from a document whose numbers are whole
-abbrev pub PlainV2 : GroupMetadataV2 → Type 0
-PlainV2 m = PlainV2In Whole m
 
 -- the additional fields fit, and none has an own name
 plain_v2 : (numbers : Numbers) (ms attributes : Members) → fits_in numbers (object ms) ≡ true → fits_in numbers (object attributes) ≡ true
@@ -48,17 +43,9 @@ group_v2_plain_in numbers d =
     ok_then (λ a. fits_in numbers (object a) ≡ true) (PlainV2In numbers) (optional_member (codes "attributes") no_members as_object d) _ (attributes_fit numbers d (document_numbers numbers d ms h)) (λ a fine.
     plain_v2 numbers ms a h.1 fine))))
 
--- the same, where numbers have to be whole
-pub group_v2_plain : (d : Data) → Reads (group_v2_of d) PlainV2
-group_v2_plain d = group_v2_plain_in Whole d
-
 -- a version 2 group that was read is plain in its numbers
 pub read_group_v2_is_plain_in : (numbers : Numbers) (d : Data) (m : GroupMetadataV2) → group_v2_in numbers d ≡ Ok m → IsTrue (is_plain_group_v2_in numbers m)
 read_group_v2_is_plain_in numbers d m e = of_ok (PlainV2In numbers) (group_v2_in numbers d) m (group_v2_plain_in numbers d) e
-
--- a version 2 group that was read is plain
-pub read_group_v2_is_plain : (d : Data) (m : GroupMetadataV2) → group_v2_of d ≡ Ok m → IsTrue (is_plain_group_v2 m)
-read_group_v2_is_plain d m e = read_group_v2_is_plain_in Whole d m e
 
 -- ---- version 3
 
@@ -122,7 +109,3 @@ group_v3_plain_in numbers d =
 -- a version 3 group that was read is plain in its numbers
 pub read_group_v3_is_plain_in : (numbers : Numbers) (d : Data) (m : GroupMetadataV3) → group_v3_in numbers d ≡ Ok m → IsTrue (is_plain_group_v3_in numbers m)
 read_group_v3_is_plain_in numbers d m e = of_ok (PlainV3In numbers) (group_v3_in numbers d) m (group_v3_plain_in numbers d) e
-
--- a version 3 group that was read is plain
-pub read_group_v3_is_plain : (d : Data) (m : GroupMetadataV3) → group_v3_of d ≡ Ok m → IsTrue (is_plain_group_v3 m)
-read_group_v3_is_plain d m e = read_group_v3_is_plain_in Whole d m e

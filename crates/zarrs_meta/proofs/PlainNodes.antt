@@ -7,11 +7,11 @@ use Rattle.zarrs_meta.specs.GroupV3.{group_v3_in}
 use Rattle.zarrs_meta.specs.GroupV2.{group_v2_in, is_plain_group_v2, is_plain_group_v2_in}
 use Rattle.zarrs_meta.specs.ArrayV3.{array_v3_in}
 use Rattle.zarrs_meta.specs.ArrayV2.{array_v2_in, is_plain_array_v2, is_plain_array_v2_in}
-use Rattle.zarrs_meta.specs.Attributes.{attributes_document_in, attributes_of, is_plain_attributes, is_plain_attributes_in}
+use Rattle.zarrs_meta.specs.Attributes.{attributes_document_in, is_plain_attributes, is_plain_attributes_in}
 use Rattle.zarrs_meta.specs.ArrayV2 as array
 use Rattle.zarrs_meta.specs.GroupV2 as v2
 use Rattle.zarrs_form.specs.Forms.{fits_in}
-use Rattle.zarrs_meta.specs.Node.{zarr_json_in, node_in, has_format, has_type, node_v3_in, node_v2_in, node_of, zarr_json_of, is_plain_node, is_plain_node_in, group_with, array_with}
+use Rattle.zarrs_meta.specs.Node.{zarr_json_in, node_in, has_format, has_type, node_v3_in, node_v2_in, is_plain_node_in, group_with, array_with}
 use Rattle.zarrs_meta.specs.Laws.{WithAttributesIsPlain}
 use Rattle.zarrs_fault.specs.declared.fault.MetadataFault.TheVariants.{WrongFormat, WrongNodeType}
 use Rattle.zarrs_fault.specs.declared.numbers.Numbers.{Numbers}
@@ -38,25 +38,13 @@ use Rattle.zarrs_meta.proofs.PlainArrays.{array_v3_plain_in, array_v2_plain_in}
 abbrev pub PlainAttributesIn : Numbers → AttributesDocument → Type 0
 PlainAttributesIn numbers a = IsTrue (is_plain_attributes_in numbers a)
 
--- attributes could have come from a document whose numbers are whole
-abbrev pub PlainAttributes : AttributesDocument → Type 0
-PlainAttributes a = PlainAttributesIn Whole a
-
 -- the members of a document have its numbers
 pub attributes_plain_in : (numbers : Numbers) (d : Data) → Reads (attributes_document_in numbers d) (PlainAttributesIn numbers)
 attributes_plain_in numbers d = ok_then (IsDocument numbers d) (PlainAttributesIn numbers) (document_in numbers d) _ (document_fits numbers d) (λ ms h. h.1)
 
--- the same, where numbers have to be whole
-pub attributes_plain : (d : Data) → Reads (attributes_of d) PlainAttributes
-attributes_plain d = attributes_plain_in Whole d
-
 -- attributes that were read are plain in their numbers
 pub read_attributes_are_plain_in : (numbers : Numbers) (d : Data) (a : AttributesDocument) → attributes_document_in numbers d ≡ Ok a → IsTrue (is_plain_attributes_in numbers a)
 read_attributes_are_plain_in numbers d a e = of_ok (PlainAttributesIn numbers) (attributes_document_in numbers d) a (attributes_plain_in numbers d) e
-
--- attributes that were read are plain
-pub read_attributes_are_plain : (d : Data) (a : AttributesDocument) → attributes_of d ≡ Ok a → IsTrue (is_plain_attributes a)
-read_attributes_are_plain d a e = read_attributes_are_plain_in Whole d a e
 
 -- ---- nodes
 
@@ -93,20 +81,12 @@ module _ (numbers : Numbers) (d : Data) where
 pub read_node_is_plain_in : (numbers : Numbers) (d : Data) (m : NodeMetadata) → node_in numbers d ≡ Ok m → IsTrue (is_plain_node_in numbers m)
 read_node_is_plain_in numbers d m e = of_ok (PlainNodeIn numbers) (node_in numbers d) m (node_plain_in numbers d) e
 
--- a node that was read is plain
-pub read_node_is_plain : (d : Data) (m : NodeMetadata) → node_of d ≡ Ok m → IsTrue (is_plain_node m)
-read_node_is_plain d m e = read_node_is_plain_in Whole d m e
-
 -- ---- the document at `zarr.json`
 
 -- a node could have come from a document that may hold these numbers, where there is one
 abbrev pub PlainZarrJsonIn : Numbers → ZarrJson → Type 0
 PlainZarrJsonIn numbers (Node m) = PlainNodeIn numbers m
 PlainZarrJsonIn numbers Version2 = Unit {0}
-
--- a node could have come from a document whose numbers are whole, where there is one
-abbrev pub PlainZarrJson : ZarrJson → Type 0
-PlainZarrJson z = PlainZarrJsonIn Whole z
 
 -- format 2 is told at once, and all else is a node
 zarr_json_by : (is_v2 : Bool) (numbers : Numbers) (d : Data) → Reads (if is_v2 then Ok Version2 else node_in numbers d >>= (λ m. Ok (Node m))) (PlainZarrJsonIn numbers)
@@ -118,17 +98,9 @@ pub zarr_json_plain_in : (numbers : Numbers) (d : Data) → Reads (zarr_json_in 
 unfolding zarr_json_in
 zarr_json_plain_in numbers d = ok_then (IsDocument numbers d) (PlainZarrJsonIn numbers) (document_in numbers d) _ (document_fits numbers d) (λ _ _. zarr_json_by (has_format 2 d) numbers d)
 
--- the same, where numbers have to be whole
-pub zarr_json_plain : (d : Data) → Reads (zarr_json_of d) PlainZarrJson
-zarr_json_plain d = zarr_json_plain_in Whole d
-
 -- a node that was read at `zarr.json` is plain in its numbers
 pub read_zarr_json_is_plain_in : (numbers : Numbers) (d : Data) (m : NodeMetadata) → zarr_json_in numbers d ≡ Ok (Node m) → IsTrue (is_plain_node_in numbers m)
 read_zarr_json_is_plain_in numbers d m e = of_ok (PlainZarrJsonIn numbers) (zarr_json_in numbers d) (Node m) (zarr_json_plain_in numbers d) e
-
--- a node that was read at `zarr.json` is plain
-pub read_zarr_json_is_plain : (d : Data) (m : NodeMetadata) → zarr_json_of d ≡ Ok (Node m) → IsTrue (is_plain_node m)
-read_zarr_json_is_plain d m e = read_zarr_json_is_plain_in Whole d m e
 
 -- ---- attributes that replace those of a document
 

@@ -1,88 +1,27 @@
 -- What holds of every document, by the definitions alone.
 -- <https://zarr-specs.readthedocs.io/en/latest/v3/core/index.html#metadata>
-use Rattle.std.specs.Prelude.{◌≡◌, ℕ, List, IsTrue, Result, Ok}
+use Rattle.std.specs.Prelude.{◌≡◌, ℕ, Bool, List, IsTrue, Result, Ok}
 use Rattle.serde_json.specs.Data.{Data}
 use Rattle.zarrs_fault.specs.declared.fault.MetadataFault.{MetadataFault}
 use Rattle.zarrs_fault.specs.declared.numbers.Numbers.{Numbers}
-use Rattle.zarrs_meta.specs.GroupV3.{group_v3_in, group_v3_of, is_plain_group_v3, is_plain_group_v3_in}
-use Rattle.zarrs_meta.specs.GroupV2.{group_v2_in, group_v2_of, is_plain_group_v2, is_plain_group_v2_in}
-use Rattle.zarrs_meta.specs.ArrayV3.{array_v3_in, array_v3_of, is_plain_array_v3, is_plain_array_v3_in}
-use Rattle.zarrs_meta.specs.ArrayV2.{array_v2_in, array_v2_of, is_plain_array_v2, is_plain_array_v2_in}
+use Rattle.zarrs_meta.specs.GroupV3.{group_v3_in, group_v3_of}
+use Rattle.zarrs_meta.specs.GroupV2.{group_v2_in, group_v2_of, is_plain_group_v2}
+use Rattle.zarrs_meta.specs.ArrayV3.{array_v3_in, array_v3_of}
+use Rattle.zarrs_meta.specs.ArrayV2.{array_v2_in, array_v2_of, is_plain_array_v2}
 use Rattle.zarrs_form.specs.Documents.{of_bytes, NeverLacksMemory}
 use Rattle.zarrs_meta.specs.Attributes.{attributes_document_in, attributes_of, is_plain_attributes}
-use Rattle.zarrs_meta.specs.Attributes.{is_plain_attributes_in}
-use Rattle.zarrs_meta.specs.Node.{node_in, node_of, zarr_json_in, zarr_json_of, is_plain_node, is_plain_node_in}
+use Rattle.zarrs_meta.specs.Node.{node_in, node_of, zarr_json_in, zarr_json_of, is_plain_node_in}
 use Rattle.zarrs_meta.specs.Node.{group_with, array_with}
 use Rattle.zarrs_meta.specs.declared.attributes.AttributesDocument.{AttributesDocument}
 use Rattle.zarrs_meta.specs.declared.node.ZarrJson.TheVariants.{Node}
 use Rattle.zarrs_meta.specs.declared.node.NodeMetadata.{NodeMetadata}
-use Rattle.zarrs_meta.specs.declared.group_v3.GroupMetadataV3.{GroupMetadataV3}
 use Rattle.zarrs_meta.specs.declared.group_v2.GroupMetadataV2.{GroupMetadataV2}
-use Rattle.zarrs_meta.specs.declared.array_v3.ArrayMetadataV3.{ArrayMetadataV3}
 use Rattle.zarrs_meta.specs.declared.array_v2.ArrayMetadataV2.{ArrayMetadataV2}
 
--- a version 3 group that was read is plain
-abbrev pub ReadGroupV3IsPlain : Type 0
-ReadGroupV3IsPlain = (d : Data) (m : GroupMetadataV3) → group_v3_of d ≡ Ok m → IsTrue (is_plain_group_v3 m)
-
--- a version 2 group that was read is plain
-abbrev pub ReadGroupV2IsPlain : Type 0
-ReadGroupV2IsPlain = (d : Data) (m : GroupMetadataV2) → group_v2_of d ≡ Ok m → IsTrue (is_plain_group_v2 m)
-
--- a version 3 array that was read is plain
-abbrev pub ReadArrayV3IsPlain : Type 0
-ReadArrayV3IsPlain = (d : Data) (m : ArrayMetadataV3) → array_v3_of d ≡ Ok m → IsTrue (is_plain_array_v3 m)
-
--- a version 2 array that was read is plain
-abbrev pub ReadArrayV2IsPlain : Type 0
-ReadArrayV2IsPlain = (d : Data) (m : ArrayMetadataV2) → array_v2_of d ≡ Ok m → IsTrue (is_plain_array_v2 m)
-
--- attributes that were read are plain
-abbrev pub ReadAttributesArePlain : Type 0
-ReadAttributesArePlain = (d : Data) (a : AttributesDocument) → attributes_of d ≡ Ok a → IsTrue (is_plain_attributes a)
-
--- a node that was read is plain
-abbrev pub ReadNodeIsPlain : Type 0
-ReadNodeIsPlain = (d : Data) (m : NodeMetadata) → node_of d ≡ Ok m → IsTrue (is_plain_node m)
-
--- a node that was read at the key `zarr.json` is plain
-abbrev pub ReadZarrJsonIsPlain : Type 0
-ReadZarrJsonIsPlain = (d : Data) (m : NodeMetadata) → zarr_json_of d ≡ Ok (Node m) → IsTrue (is_plain_node m)
-
--- a version 3 group that was read where it may hold these numbers is plain in them
-abbrev pub ReadGroupV3IsPlainIn : Type 0
-ReadGroupV3IsPlainIn =
-    (numbers : Numbers) (d : Data) (m : GroupMetadataV3) → group_v3_in numbers d ≡ Ok m
-    → IsTrue (is_plain_group_v3_in numbers m)
-
--- a version 2 group that was read where it may hold these numbers is plain in them
-abbrev pub ReadGroupV2IsPlainIn : Type 0
-ReadGroupV2IsPlainIn =
-    (numbers : Numbers) (d : Data) (m : GroupMetadataV2) → group_v2_in numbers d ≡ Ok m
-    → IsTrue (is_plain_group_v2_in numbers m)
-
--- a version 3 array that was read where it may hold these numbers is plain in them
-abbrev pub ReadArrayV3IsPlainIn : Type 0
-ReadArrayV3IsPlainIn =
-    (numbers : Numbers) (d : Data) (m : ArrayMetadataV3) → array_v3_in numbers d ≡ Ok m
-    → IsTrue (is_plain_array_v3_in numbers m)
-
--- a version 2 array that was read where it may hold these numbers is plain in them
-abbrev pub ReadArrayV2IsPlainIn : Type 0
-ReadArrayV2IsPlainIn =
-    (numbers : Numbers) (d : Data) (m : ArrayMetadataV2) → array_v2_in numbers d ≡ Ok m
-    → IsTrue (is_plain_array_v2_in numbers m)
-
--- attributes that were read where they may hold these numbers are plain in them
-abbrev pub ReadAttributesArePlainIn : Type 0
-ReadAttributesArePlainIn =
-    (numbers : Numbers) (d : Data) (a : AttributesDocument) → attributes_document_in numbers d ≡ Ok a
-    → IsTrue (is_plain_attributes_in numbers a)
-
--- a node that was read where it may hold these numbers is plain in them
-abbrev pub ReadNodeIsPlainIn : Type 0
-ReadNodeIsPlainIn =
-    (numbers : Numbers) (d : Data) (m : NodeMetadata) → node_in numbers d ≡ Ok m → IsTrue (is_plain_node_in numbers m)
+-- what is read where a document may hold these numbers is plain in them
+abbrev pub ReadIsPlain : {A : Type 0} → (Numbers → Data → Result A MetadataFault) → (Numbers → A → Bool) → Type 0
+ReadIsPlain {A} reading plain =
+    (numbers : Numbers) (d : Data) (x : A) → reading numbers d ≡ Ok x → IsTrue (plain numbers x)
 
 -- a node that was read at the key `zarr.json` where it may hold these numbers is plain in them
 abbrev pub ReadZarrJsonIsPlainIn : Type 0

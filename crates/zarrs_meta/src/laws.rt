@@ -1,16 +1,15 @@
 //! Laws of the definitions.
 ghost use Rattle.std.specs.Prelude.{◌≡◌, Ok, IsTrue};
-ghost use Rattle.zarrs_meta.specs.Laws.{ReadGroupV3IsPlain, ReadGroupV3IsPlainIn, ReadGroupV2IsPlain, ReadGroupV2IsPlainIn, ReadArrayV3IsPlain, ReadArrayV3IsPlainIn, ReadArrayV2IsPlain, ReadArrayV2IsPlainIn};
-ghost use Rattle.zarrs_meta.specs.Laws.{ReadAttributesArePlain, ReadAttributesArePlainIn, ReadNodeIsPlain, ReadNodeIsPlainIn, ReadZarrJsonIsPlain, ReadZarrJsonIsPlainIn};
+ghost use Rattle.zarrs_meta.specs.Laws.{ReadIsPlain, ReadZarrJsonIsPlainIn};
 ghost use Rattle.zarrs_meta.specs.Laws.{WithAttributesIsPlain, WholeReadsTheSame, ReadingNeverLacksMemory};
-ghost use Rattle.zarrs_meta.specs.ArrayV2.{array_v2_in, array_v2_of, array_v2_tree, is_plain_array_v2, is_plain_array_v2_in};
-ghost use Rattle.zarrs_meta.specs.ArrayV3.{array_v3_in, array_v3_of, array_v3_tree, is_plain_array_v3, is_plain_array_v3_in};
-ghost use Rattle.zarrs_meta.specs.Attributes.{attributes_document_in, attributes_of, attributes_tree, is_plain_attributes, is_plain_attributes_in};
-ghost use Rattle.zarrs_meta.specs.Node.{node_in, node_of, node_tree, is_plain_node, is_plain_node_in, zarr_json_in};
+ghost use Rattle.zarrs_meta.specs.ArrayV2.{array_v2_in, array_v2_tree, is_plain_array_v2_in};
+ghost use Rattle.zarrs_meta.specs.ArrayV3.{array_v3_in, array_v3_tree, is_plain_array_v3_in};
+ghost use Rattle.zarrs_meta.specs.Attributes.{attributes_document_in, attributes_tree, is_plain_attributes_in};
+ghost use Rattle.zarrs_meta.specs.Node.{node_in, node_tree, is_plain_node_in, zarr_json_in};
 ghost use Rattle.zarrs_meta.specs.NodeDocuments.{is_version_3};
 ghost use Rattle.zarrs_meta.specs.declared.node.ZarrJson.TheVariants.{Node};
-ghost use Rattle.zarrs_meta.specs.GroupV2.{group_v2_in, group_v2_of, group_v2_tree, is_plain_group_v2, is_plain_group_v2_in};
-ghost use Rattle.zarrs_meta.specs.GroupV3.{group_v3_in, group_v3_of, group_v3_tree, is_plain_group_v3, is_plain_group_v3_in};
+ghost use Rattle.zarrs_meta.specs.GroupV2.{group_v2_in, group_v2_tree, is_plain_group_v2_in};
+ghost use Rattle.zarrs_meta.specs.GroupV3.{group_v3_in, group_v3_tree, is_plain_group_v3_in};
 
 use crate::array_v2::ArrayMetadataV2;
 use crate::array_v3::ArrayMetadataV3;
@@ -20,25 +19,11 @@ use crate::group_v3::GroupMetadataV3;
 use crate::node::NodeMetadata;
 use zarrs_fault::Numbers;
 
-/// What is written of a plain version 3 group reads as that group.
-#[tactic(auto, using(crate::proofs::GroupV3Laws::group_v3_again))]
-pub fn group_v3_reads_back(group: &GroupMetadataV3)
-    requires { IsTrue (is_plain_group_v3 group.now) }
-    ensures { group_v3_of (group_v3_tree group.now) ≡ Ok group.now }
-{}
-
 /// What is written of a version 3 group that is plain in some numbers reads as that group where it may hold them.
 #[tactic(auto, using(crate::proofs::GroupV3Laws::group_v3_again_in))]
 pub fn group_v3_reads_back_in(numbers: Numbers, group: &GroupMetadataV3)
     requires { IsTrue (is_plain_group_v3_in numbers group.now) }
     ensures { group_v3_in numbers (group_v3_tree group.now) ≡ Ok group.now }
-{}
-
-/// What is written of a plain version 3 array reads as that array.
-#[tactic(auto, using(crate::proofs::ArrayV3Laws::array_v3_again))]
-pub fn array_v3_reads_back(array: &ArrayMetadataV3)
-    requires { IsTrue (is_plain_array_v3 array.now) }
-    ensures { array_v3_of (array_v3_tree array.now) ≡ Ok array.now }
 {}
 
 /// What is written of a version 3 array that is plain in some numbers reads as that array where it may hold them.
@@ -48,25 +33,11 @@ pub fn array_v3_reads_back_in(numbers: Numbers, array: &ArrayMetadataV3)
     ensures { array_v3_in numbers (array_v3_tree array.now) ≡ Ok array.now }
 {}
 
-/// What is written of a plain version 2 group reads as that group.
-#[tactic(auto, using(crate::proofs::GroupV2Laws::group_v2_again))]
-pub fn group_v2_reads_back(group: &GroupMetadataV2)
-    requires { IsTrue (is_plain_group_v2 group.now) }
-    ensures { group_v2_of (group_v2_tree group.now) ≡ Ok group.now }
-{}
-
 /// What is written of a version 2 group that is plain in some numbers reads as that group where it may hold them.
 #[tactic(auto, using(crate::proofs::GroupV2Laws::group_v2_again_in))]
 pub fn group_v2_reads_back_in(numbers: Numbers, group: &GroupMetadataV2)
     requires { IsTrue (is_plain_group_v2_in numbers group.now) }
     ensures { group_v2_in numbers (group_v2_tree group.now) ≡ Ok group.now }
-{}
-
-/// What is written of a plain version 2 array reads as that array.
-#[tactic(auto, using(crate::proofs::ArrayV2Laws::array_v2_again))]
-pub fn array_v2_reads_back(array: &ArrayMetadataV2)
-    requires { IsTrue (is_plain_array_v2 array.now) }
-    ensures { array_v2_of (array_v2_tree array.now) ≡ Ok array.now }
 {}
 
 /// What is written of a version 2 array that is plain in some numbers reads as that array where it may hold them.
@@ -76,25 +47,11 @@ pub fn array_v2_reads_back_in(numbers: Numbers, array: &ArrayMetadataV2)
     ensures { array_v2_in numbers (array_v2_tree array.now) ≡ Ok array.now }
 {}
 
-/// What is written of plain attributes reads as those attributes.
-#[tactic(auto, using(crate::proofs::AttributeLaws::attributes_document_again))]
-pub fn attributes_read_back(attributes: &AttributesDocument)
-    requires { IsTrue (is_plain_attributes attributes.now) }
-    ensures { attributes_of (attributes_tree attributes.now) ≡ Ok attributes.now }
-{}
-
 /// What is written of attributes that are plain in some numbers reads as those attributes where it may hold them.
 #[tactic(auto, using(crate::proofs::AttributeLaws::attributes_document_again_in))]
 pub fn attributes_read_back_in(numbers: Numbers, attributes: &AttributesDocument)
     requires { IsTrue (is_plain_attributes_in numbers attributes.now) }
     ensures { attributes_document_in numbers (attributes_tree attributes.now) ≡ Ok attributes.now }
-{}
-
-/// What is written of a plain node reads as that node.
-#[tactic(auto, using(crate::proofs::NodeLaws::node_again))]
-pub fn node_reads_back(node: &NodeMetadata)
-    requires { IsTrue (is_plain_node node.now) }
-    ensures { node_of (node_tree node.now) ≡ Ok node.now }
 {}
 
 /// What is written of a node that is plain in some numbers reads as that node where it may hold them.
@@ -112,82 +69,40 @@ pub fn zarr_json_reads_back_in(numbers: Numbers, node: &NodeMetadata)
     ensures { zarr_json_in numbers (node_tree node.now) ≡ Ok (Node node.now) }
 {}
 
-/// A version 3 group that was read is plain.
-#[tactic(auto, using(crate::proofs::PlainGroups::read_group_v3_is_plain))]
-pub fn read_group_v3_is_plain()
-    ensures { ReadGroupV3IsPlain }
-{}
-
 /// A version 3 group that was read in some numbers is plain in them.
 #[tactic(auto, using(crate::proofs::PlainGroups::read_group_v3_is_plain_in))]
 pub fn read_group_v3_is_plain_in()
-    ensures { ReadGroupV3IsPlainIn }
-{}
-
-/// A version 2 group that was read is plain.
-#[tactic(auto, using(crate::proofs::PlainGroups::read_group_v2_is_plain))]
-pub fn read_group_v2_is_plain()
-    ensures { ReadGroupV2IsPlain }
+    ensures { ReadIsPlain group_v3_in is_plain_group_v3_in }
 {}
 
 /// A version 2 group that was read in some numbers is plain in them.
 #[tactic(auto, using(crate::proofs::PlainGroups::read_group_v2_is_plain_in))]
 pub fn read_group_v2_is_plain_in()
-    ensures { ReadGroupV2IsPlainIn }
-{}
-
-/// A version 3 array that was read is plain.
-#[tactic(auto, using(crate::proofs::PlainArrays::read_array_v3_is_plain))]
-pub fn read_array_v3_is_plain()
-    ensures { ReadArrayV3IsPlain }
+    ensures { ReadIsPlain group_v2_in is_plain_group_v2_in }
 {}
 
 /// A version 3 array that was read in some numbers is plain in them.
 #[tactic(auto, using(crate::proofs::PlainArrays::read_array_v3_is_plain_in))]
 pub fn read_array_v3_is_plain_in()
-    ensures { ReadArrayV3IsPlainIn }
-{}
-
-/// A version 2 array that was read is plain.
-#[tactic(auto, using(crate::proofs::PlainArrays::read_array_v2_is_plain))]
-pub fn read_array_v2_is_plain()
-    ensures { ReadArrayV2IsPlain }
+    ensures { ReadIsPlain array_v3_in is_plain_array_v3_in }
 {}
 
 /// A version 2 array that was read in some numbers is plain in them.
 #[tactic(auto, using(crate::proofs::PlainArrays::read_array_v2_is_plain_in))]
 pub fn read_array_v2_is_plain_in()
-    ensures { ReadArrayV2IsPlainIn }
-{}
-
-/// Attributes that were read are plain.
-#[tactic(auto, using(crate::proofs::PlainNodes::read_attributes_are_plain))]
-pub fn read_attributes_are_plain()
-    ensures { ReadAttributesArePlain }
+    ensures { ReadIsPlain array_v2_in is_plain_array_v2_in }
 {}
 
 /// Attributes that were read in some numbers are plain in them.
 #[tactic(auto, using(crate::proofs::PlainNodes::read_attributes_are_plain_in))]
 pub fn read_attributes_are_plain_in()
-    ensures { ReadAttributesArePlainIn }
-{}
-
-/// A node that was read is plain.
-#[tactic(auto, using(crate::proofs::PlainNodes::read_node_is_plain))]
-pub fn read_node_is_plain()
-    ensures { ReadNodeIsPlain }
+    ensures { ReadIsPlain attributes_document_in is_plain_attributes_in }
 {}
 
 /// A node that was read in some numbers is plain in them.
 #[tactic(auto, using(crate::proofs::PlainNodes::read_node_is_plain_in))]
 pub fn read_node_is_plain_in()
-    ensures { ReadNodeIsPlainIn }
-{}
-
-/// A node that was read at the key `zarr.json` is plain.
-#[tactic(auto, using(crate::proofs::PlainNodes::read_zarr_json_is_plain))]
-pub fn read_zarr_json_is_plain()
-    ensures { ReadZarrJsonIsPlain }
+    ensures { ReadIsPlain node_in is_plain_node_in }
 {}
 
 /// A node that was read at the key `zarr.json` in some numbers is plain in them.

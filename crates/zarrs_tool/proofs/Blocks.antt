@@ -15,7 +15,7 @@ use Rattle.zarrs_form.specs.Documents.{◌>>=◌, object_of}
 use Rattle.zarrs_meta.specs.Node.{is_group}
 use Rattle.zarrs_meta.specs.declared.node.NodeMetadata.{NodeMetadata}
 use Rattle.zarrs_meta.specs.declared.node.NodeMetadata.TheVariants.{Group, Array}
-use Rattle.zarrs_block.specs.Block.{Block, HasPlainNodes, IsAscending, IsBlockOf, block_of, block_of_in, block_tree}
+use Rattle.zarrs_block.specs.Block.{Block, HasPlainNodesIn, IsAscending, IsBlockOf, block_of, block_of_in, block_tree}
 use Rattle.zarrs_block.specs.Meaning.{Means, meaning, node, nothing, bad}
 use Rattle.zarrs_block.specs.Refusals.{IsExcused, IsMissing}
 use Rattle.zarrs_block.specs.declared.node_create_error.NodeCreateError.{NodeCreateError}
@@ -41,7 +41,7 @@ unfolding block_of_in
 read_no_float d B e = fits_first (has_float d) d _ B e
 
 -- a block of the nodes of a store of whole numbers reads back, and so does one of plain nodes
-block_read : (store : Contents) (base : Path) (B : Block) (numbers : Numbers) → numbers ≡ store.numbers → (numbers ≡ Whole) ⊎ HasPlainNodes B → IsAscending B → IsBlockOf (Nodes store Default true base) base B
+block_read : (store : Contents) (base : Path) (B : Block) (numbers : Numbers) → numbers ≡ store.numbers → (numbers ≡ Whole) ⊎ HasPlainNodesIn Whole B → IsAscending B → IsBlockOf (Nodes store Default true base) base B
     → block_of (block_tree B) ≡ Ok B
 block_read store base B numbers are whole up holds =
     ⊎_elim
@@ -52,7 +52,7 @@ block_read store base B numbers are whole up holds =
 -- the layout of the block of the nodes below a group is what is to be written
 pub block_written : (store : Contents) (base : Path) (m : NodeMetadata) (B : Block) (text : List ℕ) (numbers : Numbers)
     → meaning store Default base ≡ node m → IsTrue (is_group m) → IsAscending B → IsBlockOf (Nodes store Default true base) base B → (Bad store Default true base → ⊥)
-    → numbers ≡ store.numbers → (numbers ≡ Whole) ⊎ HasPlainNodes B → (has_float (block_tree B) ≡ false → text ≡ pretty_text (block_tree B) ++ 10 ∷ []) → IsBlockText store base text
+    → numbers ≡ store.numbers → (numbers ≡ Whole) ⊎ HasPlainNodesIn Whole B → (has_float (block_tree B) ≡ false → text ≡ pretty_text (block_tree B) ++ 10 ∷ []) → IsBlockText store base text
 block_written store base (Array a) B text numbers means group up holds clean are whole layout = let no : false ≡ true = group in cc no
 block_written store base (Group g) B text numbers means group up holds clean are whole layout = record {
   group = g;

@@ -9,7 +9,8 @@ use Rattle.zarrs_path.proofs.Relative.{relative_of_text}
 use Rattle.zarrs_config.specs.declared.version.MetadataRetrieveVersion.TheVariants.{Default}
 use Rattle.zarrs_meta.specs.Node.{is_plain_node}
 use Rattle.zarrs_meta.specs.declared.node.NodeMetadata.{NodeMetadata}
-use Rattle.zarrs_block.specs.Block.{Block, HasPlainNodes, IsAscending, IsBlockOf, node_at_key}
+use Rattle.zarrs_fault.specs.declared.numbers.Numbers.TheVariants.{Whole}
+use Rattle.zarrs_block.specs.Block.{Block, HasPlainNodesIn, IsAscending, IsBlockOf, node_at_key}
 use Rattle.zarrs_block.proofs.BlockLaws.{shown}
 use Rattle.zarrs_block.proofs.Expansion.{found_all}
 use Rattle.zarrs_node.specs.Nodes.{Nodes}
@@ -24,14 +25,14 @@ use Rattle.zarrs_tool.specs.declared.fault.ToolFault.TheVariants.{Usage, Read, R
 
 -- what is left of a block: where it is plain the block is, and the block has each of it at its key
 abbrev pub IsLeft : Block → Block → Type 0
-IsLeft B left = (HasPlainNodes left → HasPlainNodes B) × (IsAscending B → AllByRecursion (λ e. node_at_key B e.0 ≡ Some e.1) left)
+IsLeft B left = (HasPlainNodesIn Whole left → HasPlainNodesIn Whole B) × (IsAscending B → AllByRecursion (λ e. node_at_key B e.0 ≡ Some e.1) left)
 
 -- at first all of it is left
 pub all_left : (B : Block) (es : List (String Global × NodeMetadata)) → shown es ≡ B → IsLeft B (shown es)
 all_left B es is = subst (IsLeft B) (sym is) ((λ plain. plain), found_all B)
 
 -- where nothing is left the block is plain
-pub none_left : (B : Block) (left : List (String Global × NodeMetadata)) → left ≡ [] → IsLeft B (shown left) → HasPlainNodes B
+pub none_left : (B : Block) (left : List (String Global × NodeMetadata)) → left ≡ [] → IsLeft B (shown left) → HasPlainNodesIn Whole B
 none_left B left is so_far = let none : IsLeft B [] = subst (λ l. IsLeft B (shown l)) is so_far in none.0 (All-nil (λ e. IsTrue (is_plain_node e.1)))
 
 module _ (B : Block) (left : List (String Global × NodeMetadata)) (e : String Global × NodeMetadata) (es : List (String Global × NodeMetadata)) (is : left ≡ e ∷ es) (so_far : IsLeft B (shown left)) where

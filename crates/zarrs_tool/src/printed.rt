@@ -3,7 +3,7 @@ ghost use Rattle.std.specs.Prelude.{◌≡◌, ◌++◌, ◌∷◌, ◌⊎◌, [
 ghost use Rattle.serde_json.specs.Written.{has_float};
 ghost use Rattle.zarrs_fault.specs.declared.numbers.Numbers.TheVariants.{Whole};
 ghost use Rattle.zarrs_path.specs.Paths.{relative_names};
-ghost use Rattle.zarrs_block.specs.Block.{HasPlainNodes, block_tree};
+ghost use Rattle.zarrs_block.specs.Block.{HasPlainNodesIn, block_tree};
 ghost use Rattle.zarrs_group.specs.Layout.{pretty_text};
 ghost use Rattle.zarrs_tool.specs.Output.{IsBlockText};
 ghost use Rattle.zarrs_config.specs.declared.version.UseConsolidatedMetadata.TheVariants.{Auto};
@@ -88,7 +88,7 @@ fn check_numbers(
     base: &NodePath,
     block: &ConsolidatedMetadataMetadata,
 ) -> Result<(), ToolFault>
-    ensures ok { OnOk result ((numbers ≡ Whole) ⊎ HasPlainNodes block.now) }
+    ensures ok { OnOk result ((numbers ≡ Whole) ⊎ HasPlainNodesIn Whole block.now) }
     ensures err { IfErr result (IsFractionFault base.now block.now) }
 {
     match numbers {
@@ -103,7 +103,7 @@ fn check_whole(
     base: &NodePath,
     block: &ConsolidatedMetadataMetadata,
 ) -> Result<(), ToolFault>
-    ensures ok { OnOk result (HasPlainNodes block.now) }
+    ensures ok { OnOk result (HasPlainNodesIn Whole block.now) }
     ensures err { IfErr result (IsFractionFault base.now block.now) }
 {
     match first_fraction(block) {
@@ -115,7 +115,7 @@ fn check_whole(
 // The key of the first node of a block that has a fraction.
 fn first_fraction(block: &ConsolidatedMetadataMetadata) -> Option<&str>
     ensures some { IfSome result (λ key. HasFractionAt block.now key.now) }
-    ensures none { IfNone result (HasPlainNodes block.now) }
+    ensures none { IfNone result (HasPlainNodesIn Whole block.now) }
 {
     for (key, node) in block.as_map().iter() {
         if !node.is_plain() {

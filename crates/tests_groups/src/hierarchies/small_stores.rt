@@ -60,8 +60,6 @@ fn a_group_is_opened_by_the_block_beside_it(rt: HostRuntime) -> Result<(), Fail>
 
 #[test]
 fn the_laws_are_called(_rt: HostRuntime) {
-    zarrs_block::laws::zmetadata_holds_store();
     zarrs_block::laws::written_holds_documents();
-    zarrs_block::laws::written_reads_back();
     zarrs_node::laws::zmetadata_shows();
 }

@@ -411,7 +411,6 @@ fn the_laws_of_blocks_are_called(rt: HostRuntime) {
     let none = ConsolidatedMetadata {
         metadata: ConsolidatedMetadataMetadata::new(rt.alloc()),
     };
-    laws::block_reads_back(&none);
     laws::block_reads_back_in(Numbers::Any, &none);
     laws::written_reads_back_in(Numbers::Any);
     laws::one_block_holds_store_in(Numbers::Any);
