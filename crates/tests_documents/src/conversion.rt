@@ -11,7 +11,7 @@ use zarrs_convert::{
     group_metadata_v2_to_v3, laws,
 };
 use zarrs_fault::MetadataFault;
-use zarrs_form::Form;
+use zarrs_form::{Form, Layout};
 use zarrs_meta::{
     ArrayMetadataV2, ArrayMetadataV3, FillValueMetadata, GroupMetadataV2, GroupMetadataV3, List,
     MetadataV3, Object, Text,
@@ -106,7 +106,7 @@ fn with_order(
 // A text and the written form of a part.
 fn with_part<T: Form>(alloc: Global, text: String, part: &T) -> Result<String, AllocError> {
     let mut text = format!(in alloc; "{text}: ")?;
-    part.write(alloc, &mut text)?;
+    part.write(alloc, &mut text, Layout::Compact)?;
     Ok(text)
 }
 

@@ -12,7 +12,7 @@ use zarrs_convert::{
     data_type_metadata_v2_to_v3, fill_value_metadata_v2_to_v3,
 };
 use zarrs_fault::MetadataFault;
-use zarrs_form::{Form, required};
+use zarrs_form::{Form, Layout, required};
 use zarrs_meta::{
     ArrayMetadataV2, DataTypeMetadataV2, Endianness, FillValueMetadata, List, MetadataV3,
 };
@@ -27,7 +27,7 @@ fn read_as<T: Form + Drop>(alloc: Global, text: &str) -> Result<T, MetadataFault
 // The written form of a part.
 pub(crate) fn written<T: Form>(part: &T, alloc: Global) -> Result<String, AllocError> {
     let mut text = String::new(alloc);
-    part.write(alloc, &mut text)?;
+    part.write(alloc, &mut text, Layout::Compact)?;
     Ok(text)
 }
 

@@ -4,7 +4,8 @@ use serde_json::Value;
 use std::alloc::{AllocError, Global};
 use std::test::Fail;
 use tests_support::{A3, check_rows, fields, made, said};
-use zarrs_fault::MetadataFault;
+use zarrs_fault::{MetadataFault, Numbers};
+use zarrs_form::Layout;
 use zarrs_meta::{
     ArrayMetadata, ArrayMetadataV2, ArrayMetadataV3, AttributesDocument, BoxedArray, Document,
     GroupMetadata, GroupMetadataV2, GroupMetadataV3, NodeMetadata, ZarrJson, laws,
@@ -51,7 +52,7 @@ impl Written for GroupMetadataV3 {
 
     fn reads_back(&self) -> bool {
         if self.is_plain() {
-            laws::group_v3_reads_back(self);
+            laws::group_v3_reads_back_in(Numbers::Whole, self);
             return true;
         }
         false
@@ -81,7 +82,7 @@ impl Written for GroupMetadataV2 {
 
     fn reads_back(&self) -> bool {
         if self.is_plain() {
-            laws::group_v2_reads_back(self);
+            laws::group_v2_reads_back_in(Numbers::Whole, self);
             return true;
         }
         false
@@ -111,7 +112,7 @@ impl Written for ArrayMetadataV3 {
 
     fn reads_back(&self) -> bool {
         if self.is_plain() {
-            laws::array_v3_reads_back(self);
+            laws::array_v3_reads_back_in(Numbers::Whole, self);
             return true;
         }
         false
@@ -141,7 +142,7 @@ impl Written for ArrayMetadataV2 {
 
     fn reads_back(&self) -> bool {
         if self.is_plain() {
-            laws::array_v2_reads_back(self);
+            laws::array_v2_reads_back_in(Numbers::Whole, self);
             return true;
         }
         false
@@ -171,7 +172,7 @@ impl Written for AttributesDocument {
 
     fn reads_back(&self) -> bool {
         if self.is_plain() {
-            laws::attributes_read_back(self);
+            laws::attributes_read_back_in(Numbers::Whole, self);
             return true;
         }
         false
@@ -201,7 +202,7 @@ impl Written for NodeMetadata {
 
     fn reads_back(&self) -> bool {
         if self.is_plain() {
-            laws::node_reads_back(self);
+            laws::node_reads_back_in(Numbers::Whole, self);
             return true;
         }
         false
@@ -708,7 +709,7 @@ fn document_text(node: &NodeMetadata, alloc: Global) -> Result<String, AllocErro
     match node.to_document(alloc)? {
         Some(bytes) => {
             let mut pretty = String::new(alloc);
-            node.write_at(alloc, &mut pretty, 0)?;
+            node.write(alloc, &mut pretty, Layout::Pretty(0))?;
             if pretty.as_bytes() != bytes.as_slice() {
                 return String::from_str(alloc, "another pretty text");
             }
@@ -742,13 +743,13 @@ fn the_document_of_a_node_reads_again(rt: HostRuntime) -> Result<(), Fail> {
 
 #[test]
 fn the_laws_of_documents_are_called() {
-    laws::read_group_v3_is_plain();
-    laws::read_group_v2_is_plain();
-    laws::read_array_v3_is_plain();
-    laws::read_array_v2_is_plain();
-    laws::read_attributes_are_plain();
-    laws::read_node_is_plain();
-    laws::read_zarr_json_is_plain();
+    laws::read_group_v3_is_plain_in();
+    laws::read_group_v2_is_plain_in();
+    laws::read_array_v3_is_plain_in();
+    laws::read_array_v2_is_plain_in();
+    laws::read_attributes_are_plain_in();
+    laws::read_node_is_plain_in();
+    laws::read_zarr_json_is_plain_in();
     laws::with_attributes_is_plain();
     laws::reading_never_lacks_memory();
 }

@@ -10,11 +10,10 @@ use tests_support::{check_rows, fields, said};
 use zarrs_fault::MetadataFault;
 use zarrs_form::{
     AdditionalFieldsV3, ArrayMetadataV2Order, ChunkKeySeparator, DataTypeMetadataV2, Duplicate,
-    FillValueMetadata, Form, Json, List, MetadataV2, MetadataV3, Object, Text, ask_format,
+    FillValueMetadata, Form, Json, Layout, List, MetadataV2, MetadataV3, Object, Text, ask_format,
     ask_node_type, attributes, chunk_lengths, document, document_copy, fields_of, has_zero, member,
-    members_have_float, open_table, optional, parse, put_member, put_text, put_unless, refuse,
-    required, take_member, take_null, write_entry, write_key_at, write_last, write_last_at,
-    write_row, write_row_at, write_unless, write_unless_at, write_value_at,
+    members_have_float, optional, parse, put_member, put_text, put_unless, refuse, required,
+    take_member, take_null, write_key, write_last, write_row, write_unless, write_value,
 };
 
 // ---- what the tests share
@@ -314,13 +313,9 @@ fn entry_says(alloc: Global, given: &str) -> Result<String, MetadataFault> {
     let (before, rest) = fields(given);
     let (name, text) = fields(rest);
     let mut out = String::from_str(alloc, before)?;
-    write_entry(
-        alloc,
-        &mut out,
-        before != "{",
-        name,
-        &value_of(alloc, text)?,
-    )?;
+    let layout = Layout::Pretty(2);
+    write_key(alloc, &mut out, before != "{", layout, name)?;
+    write_value(alloc, &mut out, layout, &value_of(alloc, text)?)?;
     Ok(out)
 }
 
@@ -403,68 +398,50 @@ fn fields_and_members_are_tested(rt: HostRuntime) -> Result<(), Fail> {
 
 // ---- the text of a table
 
-fn table_of_two(alloc: Global) -> Result<String, AllocError> {
-    let mut out = open_table(alloc)?;
-    write_row(alloc, &mut out, "a", Some(&1u64))?;
-    let last = Text::from_str(alloc, r#"x"y"#)?;
-    write_last(alloc, &mut out, "b", &last)?;
-    Ok(out)
-}
-
-fn table_of_absent(alloc: Global) -> Result<String, AllocError> {
-    let mut out = open_table(alloc)?;
-    let none: Option<&u64> = None;
-    write_row(alloc, &mut out, "a", none)?;
-    write_unless(alloc, &mut out, "b", true, &2u64)?;
-    write_unless(alloc, &mut out, "c\n", false, &3u64)?;
-    write_last(alloc, &mut out, "d", &false)?;
-    Ok(out)
-}
-
-// A table that stands one level deep.
-fn table_at(alloc: Global) -> Result<String, AllocError> {
+// A table of rows that are there and rows that are not.
+fn table_in(alloc: Global, layout: Layout) -> Result<String, AllocError> {
     let mut out = String::from_str(alloc, "{")?;
     let none: Option<&u64> = None;
-    write_row_at(alloc, &mut out, 1, "a", none)?;
-    write_row_at(alloc, &mut out, 1, "b\"", Some(&1u64))?;
-    write_unless_at(alloc, &mut out, 1, "c", true, &2u64)?;
-    write_unless_at(alloc, &mut out, 1, "d", false, &true)?;
+    write_row(alloc, &mut out, layout, "a", none)?;
+    write_row(alloc, &mut out, layout, "b\"", Some(&1u64))?;
+    write_unless(alloc, &mut out, layout, "c", true, &2u64)?;
+    write_unless(alloc, &mut out, layout, "d\n", false, &true)?;
     let last = Text::from_str(alloc, r#"x"y"#)?;
-    write_last_at(alloc, &mut out, 1, "e", &last)?;
+    write_last(alloc, &mut out, layout, "e", &last)?;
     Ok(out)
 }
 
-// A member whose value stands seven levels deep.
-fn member_at(alloc: Global) -> Result<String, MetadataFault> {
+// A member behind another.
+fn member_in(alloc: Global, layout: Layout) -> Result<String, MetadataFault> {
     let mut out = String::new(alloc);
-    write_key_at(alloc, &mut out, true, 7, "k\n")?;
-    write_value_at(
-        alloc,
-        &mut out,
-        7,
-        &value_of(alloc, r#"{"a":[-1],"b":{}}"#)?,
-    )?;
+    write_key(alloc, &mut out, true, layout, "k\n")?;
+    let value = value_of(alloc, r#"{"a":[-1],"b":{}}"#)?;
+    write_value(alloc, &mut out, layout, &value)?;
     Ok(out)
 }
 
-// A list that stands one level deep.
-fn list_at<T: Form + Drop>(alloc: Global, text: &str) -> Result<String, MetadataFault> {
+// A list of what a text reads as.
+fn list_in<T: Form + Drop>(
+    alloc: Global,
+    layout: Layout,
+    text: &str,
+) -> Result<String, MetadataFault> {
     let mut out = String::new(alloc);
     let found: Option<List<T>> = List::read(alloc, value_of(alloc, text)?)?;
     if let Some(list) = found {
-        list.write_at(alloc, &mut out, 1)?;
+        list.write(alloc, &mut out, layout)?;
     }
     Ok(out)
 }
 
-// A codec made by hand, which stands one level deep: its configuration has a member of the name that the codec's own member has.
-fn codec_at(alloc: Global) -> Result<String, MetadataFault> {
+// A codec made by hand: its configuration has a member of the name that the codec's own member has.
+fn codec_in(alloc: Global, layout: Layout) -> Result<String, MetadataFault> {
     let codec = MetadataV2 {
         id: Text::from_str(alloc, "a")?,
         configuration: object_of(alloc, r#"{"ic":1,"id":{"k":2},"ie":3}"#)?,
     };
     let mut out = String::new(alloc);
-    codec.write_at(alloc, &mut out, 1)?;
+    codec.write(alloc, &mut out, layout)?;
     Ok(out)
 }
 
@@ -474,37 +451,47 @@ const EXTENSIONS: &str =
 const CODECS: &str =
     r#"[{"id":"a","k":[],"b":{"c":1},"i":2,"ide":null},{"id":"b\n"},{"a":0,"id":"c"},{"z":0,"id":"d"}]"#;
 
-// The table with these rows, or another text in the pretty layout.
-fn written_table(alloc: Global, given: &str) -> Result<String, MetadataFault> {
-    match given {
-        "open" => Ok(open_table(alloc)?),
-        "two rows" => Ok(table_of_two(alloc)?),
-        "absent rows" => Ok(table_of_absent(alloc)?),
-        "rows one level deep" => Ok(table_at(alloc)?),
-        "a member seven levels deep" => member_at(alloc),
-        "extensions one level deep" => list_at::<MetadataV3>(alloc, EXTENSIONS),
-        "codecs one level deep" => list_at::<MetadataV2>(alloc, CODECS),
-        "a codec with another id" => codec_at(alloc),
+// The layout of that name.
+fn layout_of(name: &str) -> Layout {
+    match name {
+        "one level deep" => Layout::Pretty(1),
+        "seven levels deep" => Layout::Pretty(7),
+        _ => Layout::Compact,
+    }
+}
+
+// A text in a layout.
+fn written_in(alloc: Global, given: &str) -> Result<String, MetadataFault> {
+    let (what, layout) = fields(given);
+    let layout = layout_of(layout);
+    match what {
+        "rows" => Ok(table_in(alloc, layout)?),
+        "a member" => member_in(alloc, layout),
+        "extensions" => list_in::<MetadataV3>(alloc, layout, EXTENSIONS),
+        "codecs" => list_in::<MetadataV2>(alloc, layout, CODECS),
+        "a codec with another id" => codec_in(alloc, layout),
         _ => Ok(String::from_str(alloc, "no such table")?),
     }
 }
 
-// Tables as they are written.
+// Tables, and other texts, as they are written.
 const TABLES: &str = r#"
-open => {
-two rows => {"a":1,"b":"x\\"y"}
-absent rows => {"c\\n":3,"d":false}
+rows | compact => {"b\\"":1,"d\\n":true,"e":"x\\"y"}
+a member | compact => ,"k\\n":{"a":[-1],"b":{}}
+extensions | compact => ["a","b",{"configuration":{"k":[]},"must_understand":false,"name":"c"}]
+codecs | compact => [{"b":{"c":1},"i":2,"id":"a","ide":null,"k":[]},{"id":"b\\n"},{"a":0,"id":"c"},{"id":"d","z":0}]
+a codec with another id | compact => {"ic":1,"id":"a","ie":3}
 # in the pretty layout
-rows one level deep => {\n    "b\\"": 1,\n    "d": true,\n    "e": "x\\"y"\n  }
-a member seven levels deep => ,\n              "k\\n": {\n                "a": [\n                  -1\n                ],\n                "b": {}\n              }
-extensions one level deep => [\n    "a",\n    "b",\n    {\n      "configuration": {\n        "k": []\n      },\n      "must_understand": false,\n      "name": "c"\n    }\n  ]
-codecs one level deep => [\n    {\n      "b": {\n        "c": 1\n      },\n      "i": 2,\n      "id": "a",\n      "ide": null,\n      "k": []\n    },\n    {\n      "id": "b\\n"\n    },\n    {\n      "a": 0,\n      "id": "c"\n    },\n    {\n      "id": "d",\n      "z": 0\n    }\n  ]
-a codec with another id => {\n    "ic": 1,\n    "id": "a",\n    "ie": 3\n  }
+rows | one level deep => {\n    "b\\"": 1,\n    "d\\n": true,\n    "e": "x\\"y"\n  }
+a member | seven levels deep => ,\n              "k\\n": {\n                "a": [\n                  -1\n                ],\n                "b": {}\n              }
+extensions | one level deep => [\n    "a",\n    "b",\n    {\n      "configuration": {\n        "k": []\n      },\n      "must_understand": false,\n      "name": "c"\n    }\n  ]
+codecs | one level deep => [\n    {\n      "b": {\n        "c": 1\n      },\n      "i": 2,\n      "id": "a",\n      "ide": null,\n      "k": []\n    },\n    {\n      "id": "b\\n"\n    },\n    {\n      "a": 0,\n      "id": "c"\n    },\n    {\n      "id": "d",\n      "z": 0\n    }\n  ]
+a codec with another id | one level deep => {\n    "ic": 1,\n    "id": "a",\n    "ie": 3\n  }
 "#;
 
 #[test]
 fn a_table_is_written_row_by_row(rt: HostRuntime) -> Result<(), Fail> {
-    check_rows(rt.alloc(), TABLES, written_table)
+    check_rows(rt.alloc(), TABLES, written_in)
 }
 
 // ---- forms

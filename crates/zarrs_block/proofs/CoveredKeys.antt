@@ -1,17 +1,16 @@
 -- The keys behind a slash that a key without it covers.
-use Rattle.std.proofs.Common.{◌≡◌, ◌⊎◌, inl, inr, ℕ, Bool, true, false, true≢false, if◌then◌else◌, ◌&&◌, ◌||◌, rules, cond, List, [], ◌∷◌, ◌++◌, String, Global, string_bytes, string_cmp, Option, Some, None, IsSome, is_some, refl, sym, ap, subst, ◌∙◌, length, arith}
+use Rattle.std.proofs.Common.{◌≡◌, ◌⊎◌, inl, inr, ℕ, Bool, true, false, if◌then◌else◌, ◌||◌, cond, List, [], ◌∷◌, ◌++◌, String, Global, string_bytes, string_cmp, Option, Some, None, IsSome, is_some, refl, sym, ap, subst, ◌∙◌, length, arith}
 use Rattle.std.specs.Prelude.{◌==◌}
 use Rattle.std.specs.BTreeMap.{BTreeMap, get_by_text, UpdatesBy}
 use Rattle.std.specs.Str.{bytes_eq}
 use Rattle.std.proofs.lemmas.Bool.{eqb-true}
 use Rattle.std.proofs.lemmas.Map.Text.{btree_map_updates_text}
 use Rattle.std.proofs.lemmas.Slice.Eq.{bytes_eq-Decides}
-use Rattle.zarrs_store.specs.Segments.{is_slash}
 use Rattle.zarrs_form.specs.Forms.{is_nil}
 use Rattle.zarrs_path.specs.Paths.{Path, relative_names}
 use Rattle.zarrs_block.specs.Block.{Block, node_at_key, IsValidKey}
 use Rattle.zarrs_block.specs.BlockExpansion.{is_covered, path_at}
-use Rattle.zarrs_block.specs.StepsOfKeys.{Among, Begins, AreKeysBelow}
+use Rattle.zarrs_block.specs.StepsOfKeys.{Among}
 
 -- texts as the keys of a map of nothing
 abbrev Keys : Type 0
@@ -21,30 +20,6 @@ Keys = BTreeMap (String Global) (Unit {0})
 pub record AreGathered (B : Block) (covered : Keys) (left : List (List ℕ)) : Type 0 where
   pub sound : (t : List ℕ) → is_some (get_by_text covered t) ≡ true → is_covered B t ≡ true
   pub whole : (t : List ℕ) → IsSome (node_at_key B t) → is_covered B t ≡ true → (is_some (get_by_text covered t) ≡ true) ⊎ Among left t
-
--- a covered key begins with a slash
-begins : (B : Block) (t : List ℕ) → is_covered B t ≡ true → Begins [] t
-begins B [] is = absurd (true≢false (sym is))
-begins B (c ∷ t) is = by (is_slash c) refl is
-  where
-    by : (b : Bool) → is_slash c ≡ b → (b && is_some (node_at_key B t)) ≡ true → Begins [] (c ∷ t)
-    by true s h = (t, ap (λ d. d ∷ t) (eqb-true c 47 s))
-    by false s h = absurd (true≢false (sym h))
-
--- what is there is metadata
-some_is : {X : Type 0} (o : Option X) → IsSome o → (x : X) × (o ≡ Some x)
-some_is (Some x) h = (x, refl)
-some_is None h = absurd (true≢false (sym h))
-
--- at first all keys that begin with a slash are left
-pub all_left : (B : Block) (covered : Keys) (left keys : List (List ℕ)) → covered.entries ≡ [] → left ≡ keys → AreKeysBelow [] B keys → AreGathered B covered left
-all_left B covered left keys empty is below = record {
-  sound = λ t some. absurd (true≢false (sym some ∙ ap is_some (none t)));
-  whole = λ t some is_cov. let m = some_is (node_at_key B t) some in inr (subst (λ ks. Among ks t) (sym is) ((below t).1 m.0 m.1 (begins B t is_cov)));
-}
-  where
-    none : (t : List ℕ) → get_by_text covered t ≡ None
-    none t = search (rules, empty)
 
 module _ (B : Block) (covered : Keys) (left : List (List ℕ)) (k : List ℕ) (ks : List (List ℕ)) (is : left ≡ k ∷ ks) (h : AreGathered B covered left) where
   -- the key at hand is the first of those left

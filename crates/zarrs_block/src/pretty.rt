@@ -1,13 +1,14 @@
 //! The written form of a block in the pretty layout.
 ghost use Rattle.std.specs.Prelude.{◌≡◌, ◌++◌, false, IfOk, OnOk, string_bytes};
 ghost use Rattle.serde_json.specs.Written.{has_float, members_have_float};
-ghost use Rattle.zarrs_form.specs.Pretty.{close_line, pretty_text};
+ghost use Rattle.zarrs_form.specs.declared.layout.Layout.TheVariants.{Pretty};
+ghost use Rattle.zarrs_form.specs.Layouts.{close_line, pretty_text};
 ghost use Rattle.zarrs_form.specs.StepsOfTexts.{entries_text};
 ghost use Rattle.zarrs_block.specs.Block.{block_tree, documents};
 
 use crate::consolidated::{ConsolidatedMetadata, ConsolidatedMetadataMetadata};
 use std::alloc::{AllocError, Global};
-use zarrs_form::write_key_at;
+use zarrs_form::{Layout, write_key};
 
 impl ConsolidatedMetadata {
     /// The written form of the block in the pretty layout: two spaces a level, and no newline at the end, for which there is room. It is
@@ -45,8 +46,8 @@ fn write_nodes(
 {
     let mut later = false;
     for (key, metadata) in nodes.as_map().iter() {
-        write_key_at(alloc, out, later, 2, key.as_str())?;
-        metadata.write_at(alloc, out, 2)?;
+        write_key(alloc, out, later, Layout::Pretty(2), key.as_str())?;
+        metadata.write(alloc, out, Layout::Pretty(2))?;
         later = true;
     }
     Ok(())
@@ -54,7 +55,8 @@ fn write_nodes(
 
 // Appends a line of its own for the closing bracket, where a node stands before it.
 fn write_close(out: &mut String, later: bool) -> Result<(), AllocError>
-    ensures ok { OnOk result (string_bytes out.new ≡ string_bytes out.old ++ close_line later 1) }
+    ensures ok { OnOk result (string_bytes out.new
+        ≡ string_bytes out.old ++ close_line later (Pretty 1)) }
 {
     if later { out.push_str("\n  ") } else { Ok(()) }
 }

@@ -8,9 +8,10 @@ pub mod FieldLaws
 pub mod SortedLaws
 pub mod PlainForms
 pub mod TextLaws
-pub mod ExtensionTexts
 pub mod MemoryLaws
-pub mod PrettyRows
+pub mod TableTexts
+pub mod ExtensionTexts
+pub mod CompactTexts
 pub mod PrettyLaid
 pub mod PrettyLong
 pub mod PrettyPieces

@@ -57,10 +57,6 @@ members_of-insert_entry (e ∷ es) k d = members_of-match_ordering (string_cmp k
 
 -- ---- an object, entry by entry; `see` says what its values are
 
--- the entries of an object whose values are of this type
-abbrev pub Members_by : (X : Type 0) → Type 0
-Members_by X = List (String Global × X)
-
 -- the members that entries are, where `see` says what their values are
 abbrev pub members_by : {X : Type 0} → (X → Data) → List (String Global × X) → Members
 members_by see es = members_of (map (λ m. (m.0, see m.1)) es)

@@ -75,13 +75,6 @@ found_has P Less d rest h hs = hs
 found_has P Equal d rest h hs = h
 found_has P Greater d rest h hs = hs
 
--- a member of members whose numbers fit
-pub member_fits : (k : List ℕ) (ms : Members) → members_have_float ms ≡ false → IfSome (get_member k ms) (λ e. has_float e ≡ false)
-member_fits k no_members h = tt
-member_fits k (member l d ms) h =
-    let parts = neither (has_float d) (members_have_float ms) h in
-    found_has (λ e. has_float e ≡ false) (slice_cmp nat_cmp k l) d (get_member k ms) parts.0 (member_fits k ms parts.1)
-
 -- the numbers of members are those of the first and of the others
 member_parts : (numbers : Numbers) (k : List ℕ) (d : Data) (ms : Members) → fits_in numbers (object (member k d ms)) ≡ true → (fits_in numbers d ≡ true) × (fits_in numbers (object ms) ≡ true)
 member_parts Whole k d ms h =

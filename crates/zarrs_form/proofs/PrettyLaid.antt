@@ -1,4 +1,4 @@
--- (a) the pretty text of a value is `text_at`.
+-- The pretty text of a value is its text in the pretty layout at no depth.
 use Rattle.std.proofs.Common.{◌≡◌, ℕ, ◌+◌, ◌-◌, ◌^◌, ◌≤◌, min, List, [], ◌∷◌, ◌++◌, Bool, true, false, refl, sym, ap, ◌∙◌, append_assoc, append-nil, arith}
 use Rattle.std.proofs.Math.Nat.{min-eq_left}
 use Rattle.json.specs.Layout.{Last, nothing, bracket, name, value, is_value, gap, line, pretty, pretty_from, piece}
@@ -7,7 +7,8 @@ use Rattle.json.specs.Token.{Token}
 use Rattle.json.specs.Tree.{json_tokens, items_tokens, members_tokens}
 use Rattle.serde_json.specs.Data.{Data, null, boolean, number, string, array, object, Items, no_items, item, Members, no_members, member, depth, items_depth, members_depth}
 use Rattle.serde_json.specs.Written.{comma_if, outline, items_outline, members_outline}
-use Rattle.zarrs_form.specs.Pretty.{text_at, items_at, members_at, pretty_text}
+use Rattle.zarrs_form.specs.declared.layout.Layout.TheVariants.{Pretty}
+use Rattle.zarrs_form.specs.Layouts.{text_in, items_in, members_in, pretty_text}
 
 -- the greatest number of levels that is counted
 abbrev most : ℕ
@@ -49,14 +50,14 @@ regroup_item : (c l t r rest : List ℕ) → (c ++ l) ++ (t ++ (r ++ rest)) ≡ 
 regroup_item c l t r rest = simp append_assoc
 
 -- a comma, a line, a key, its value and the members behind it stand together before what follows them
-regroup_member : (c l q t r rest : List ℕ) → (c ++ (l ++ (q ++ 58 ∷ []))) ++ (32 ∷ (t ++ (r ++ rest))) ≡ (c ++ (l ++ (q ++ 58 ∷ 32 ∷ (t ++ r)))) ++ rest
+regroup_member : (c l q t r rest : List ℕ) → (c ++ (l ++ (q ++ 58 ∷ []))) ++ (32 ∷ (t ++ (r ++ rest))) ≡ ((c ++ (l ++ (q ++ 58 ∷ 32 ∷ []))) ++ (t ++ r)) ++ rest
 regroup_member c l q t r rest = simp append_assoc
 
 mutual
   unfolding pretty_from
 
   -- where a value is not too deep, its tokens are laid out as what stands before it and its text
-  value_laid : (s : Last) (n : ℕ) (d : Data) (ts : List Token) → n + depth d ≤ most → pretty_from (s, n) (json_tokens (outline d) ++ ts) ≡ lead s n ++ (text_at n d ++ pretty_from (value, n) ts)
+  value_laid : (s : Last) (n : ℕ) (d : Data) (ts : List Token) → n + depth d ≤ most → pretty_from (s, n) (json_tokens (outline d) ++ ts) ≡ lead s n ++ (text_in (Pretty n) d ++ pretty_from (value, n) ts)
   value_laid s n null ts h = regroup_piece (separator (is_value s) Token.null) (gap s true n) _ _
   value_laid s n (boolean b) ts h = regroup_piece (separator (is_value s) Token.null) (gap s true n) _ _
   value_laid s n (number x) ts h = regroup_piece (separator (is_value s) Token.null) (gap s true n) _ _
@@ -72,20 +73,20 @@ mutual
 
   -- where they are not too deep, the tokens of the items that are left are laid out as their text
   items_laid : (later : Bool) (n : ℕ) (ds : Items) (ts : List Token) → n + 1 + items_depth ds ≤ most
-      → pretty_from (last_in later, n + 1) (items_tokens (items_outline ds) ++ ts) ≡ items_at later n ds ++ pretty_from (value, n) ts
+      → pretty_from (last_in later, n + 1) (items_tokens (items_outline ds) ++ ts) ≡ items_in later (Pretty n) ds ++ pretty_from (value, n) ts
   items_laid true n no_items ts h = ap (λ m. (line m ++ 93 ∷ []) ++ pretty_from (value, m) ts) (outer n)
   items_laid false n no_items ts h = ap (λ m. 93 ∷ pretty_from (value, m) ts) (outer n)
   items_laid later n (item d ds) ts h =
       let rest = items_tokens (items_outline ds) in
       ap (pretty_from (last_in later, n + 1)) (append_assoc (json_tokens (outline d)) rest ts)
       ∙ value_laid (last_in later) (n + 1) d (rest ++ ts) (omega arith)
-      ∙ ap (λ t. t ++ (text_at (n + 1) d ++ pretty_from (value, n + 1) (rest ++ ts))) (lead_in later (n + 1))
-      ∙ ap (λ t. (comma_if later ++ line (n + 1)) ++ (text_at (n + 1) d ++ t)) (items_laid true n ds ts (omega arith))
-      ∙ regroup_item (comma_if later) (line (n + 1)) (text_at (n + 1) d) (items_at true n ds) (pretty_from (value, n) ts)
+      ∙ ap (λ t. t ++ (text_in (Pretty (n + 1)) d ++ pretty_from (value, n + 1) (rest ++ ts))) (lead_in later (n + 1))
+      ∙ ap (λ t. (comma_if later ++ line (n + 1)) ++ (text_in (Pretty (n + 1)) d ++ t)) (items_laid true n ds ts (omega arith))
+      ∙ regroup_item (comma_if later) (line (n + 1)) (text_in (Pretty (n + 1)) d) (items_in true (Pretty n) ds) (pretty_from (value, n) ts)
 
   -- where they are not too deep, the tokens of the members that are left are laid out as their text
   members_laid : (later : Bool) (n : ℕ) (ms : Members) (ts : List Token) → n + 1 + members_depth ms ≤ most
-      → pretty_from (last_in later, n + 1) (members_tokens (members_outline ms) ++ ts) ≡ members_at later n ms ++ pretty_from (value, n) ts
+      → pretty_from (last_in later, n + 1) (members_tokens (members_outline ms) ++ ts) ≡ members_in later (Pretty n) ms ++ pretty_from (value, n) ts
   members_laid true n no_members ts h = ap (λ m. (line m ++ 125 ∷ []) ++ pretty_from (value, m) ts) (outer n)
   members_laid false n no_members ts h = ap (λ m. 125 ∷ pretty_from (value, m) ts) (outer n)
   members_laid later n (member k d ms) ts h =
@@ -94,10 +95,10 @@ mutual
       ∙ ap (λ t. (comma_if later ++ (line (n + 1) ++ (quoted k ++ 58 ∷ []))) ++ t)
       (ap (pretty_from (name, n + 1)) (append_assoc (json_tokens (outline d)) rest ts)
       ∙ value_laid name (n + 1) d (rest ++ ts) (omega arith)
-      ∙ ap (λ t. 32 ∷ (text_at (n + 1) d ++ t)) (members_laid true n ms ts (omega arith)))
-      ∙ regroup_member (comma_if later) (line (n + 1)) (quoted k) (text_at (n + 1) d) (members_at true n ms) (pretty_from (value, n) ts)
+      ∙ ap (λ t. 32 ∷ (text_in (Pretty (n + 1)) d ++ t)) (members_laid true n ms ts (omega arith)))
+      ∙ regroup_member (comma_if later) (line (n + 1)) (quoted k) (text_in (Pretty (n + 1)) d) (members_in true (Pretty n) ms) (pretty_from (value, n) ts)
 
 -- the pretty text of a value is its text at no depth
-pub pretty_text_is : (d : Data) → depth d ≤ most → pretty_text d ≡ text_at 0 d
+pub pretty_text_is : (d : Data) → depth d ≤ most → pretty_text d ≡ text_in (Pretty 0) d
 unfolding pretty_from
-pretty_text_is d h = ap pretty (sym (append-nil (json_tokens (outline d)))) ∙ value_laid nothing 0 d [] (omega arith) ∙ append-nil (text_at 0 d)
+pretty_text_is d h = ap pretty (sym (append-nil (json_tokens (outline d)))) ∙ value_laid nothing 0 d [] (omega arith) ∙ append-nil (text_in (Pretty 0) d)

@@ -53,20 +53,20 @@ abbrev mutual
   members_steps (member k d ms) = inr (inr (inl k)) ∷ (steps d ++ members_steps ms)
 
 -- the first two of the stack become one
-abbrev items_in : Data → Items
-items_in (array ds) = ds
-items_in _ = no_items
+abbrev inner_items : Data → Items
+inner_items (array ds) = ds
+inner_items _ = no_items
 
-abbrev members_in : Data → Members
-members_in (object ms) = ms
-members_in _ = no_members
+abbrev inner_members : Data → Members
+inner_members (object ms) = ms
+inner_members _ = no_members
 
 abbrev with_item : List Data → List Data
-with_item (d ∷ ds ∷ stack) = array (item d (items_in ds)) ∷ stack
+with_item (d ∷ ds ∷ stack) = array (item d (inner_items ds)) ∷ stack
 with_item _ = []
 
 abbrev with_member : List ℕ → List Data → List Data
-with_member k (d ∷ ms ∷ stack) = object (member k d (members_in ms)) ∷ stack
+with_member k (d ∷ ms ∷ stack) = object (member k d (inner_members ms)) ∷ stack
 with_member k _ = []
 
 abbrev rest_built : ℕ → List Data → List Data
@@ -136,9 +136,9 @@ abbrev pub data_code : Coded Data
 data_code = code_by (List Step) (coded_list step_code) steps rebuilt rebuilt-steps
 
 -- members are found in the object that has them
-pub members_in-object : (ms : Members) → members_in (object ms) ≡ ms
-members_in-object ms = refl
+pub inner_members-object : (ms : Members) → inner_members (object ms) ≡ ms
+inner_members-object ms = refl
 
 -- how members are stored
 abbrev pub members_code : Coded Members
-members_code = code_by Data data_code object members_in members_in-object
+members_code = code_by Data data_code object inner_members inner_members-object

@@ -9,7 +9,7 @@ use Rattle.json.specs.Lex.{tokens}
 use Rattle.serde_json.specs.Data.{Data}
 use Rattle.serde_json.specs.Written.{IsInOrder, has_float}
 use Rattle.zarrs_form.specs.Documents.{json_of}
-use Rattle.zarrs_form.specs.Pretty.{pretty_text}
+use Rattle.zarrs_form.specs.Layouts.{pretty_text}
 
 -- the bytes are what is written of a tree: UTF-8 in the pretty layout, each item and each member of it once and in its
 -- order, whole numbers in decimal, and they are read as the tree

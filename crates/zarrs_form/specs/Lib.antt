@@ -3,9 +3,8 @@ pub mod Documents
 pub mod Fields
 pub mod Forms
 pub mod FormsV2
-pub mod Pretty
+pub mod Layouts
 pub mod SortedMembers
 pub mod StepsOfMembers
 pub mod StepsOfTexts
-pub mod Texts
 pub mod DocumentTexts

@@ -7,6 +7,7 @@ ghost use Rattle.zarrs_form.specs.Documents.{Gives, besides};
 ghost use Rattle.zarrs_form.specs.FormsV2.{chunk_lengths, has_zero, order, order_data, separator, separator_data};
 
 use crate::form::{Form, required};
+use crate::layout::Layout;
 use crate::shapes::List;
 use crate::text::write_text;
 use serde_json::{Map, Value};
@@ -65,15 +66,11 @@ impl Form for ArrayMetadataV2Order {
         true
     }
 
-    fn write(&self, alloc: Global, out: &mut String) -> Result<(), AllocError> {
+    fn write(&self, alloc: Global, out: &mut String, _layout: Layout) -> Result<(), AllocError> {
         match self {
             ArrayMetadataV2Order::C => write_text(alloc, out, "C"),
             ArrayMetadataV2Order::F => write_text(alloc, out, "F"),
         }
-    }
-
-    fn write_at(&self, alloc: Global, out: &mut String, _level: usize) -> Result<(), AllocError> {
-        self.write(alloc, out)
     }
 }
 
@@ -108,15 +105,11 @@ impl Form for ChunkKeySeparator {
         true
     }
 
-    fn write(&self, alloc: Global, out: &mut String) -> Result<(), AllocError> {
+    fn write(&self, alloc: Global, out: &mut String, _layout: Layout) -> Result<(), AllocError> {
         match self {
             ChunkKeySeparator::Dot => write_text(alloc, out, "."),
             ChunkKeySeparator::Slash => write_text(alloc, out, "/"),
         }
-    }
-
-    fn write_at(&self, alloc: Global, out: &mut String, _level: usize) -> Result<(), AllocError> {
-        self.write(alloc, out)
     }
 }
 

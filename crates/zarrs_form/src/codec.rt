@@ -1,13 +1,11 @@
 //! Codecs of version 2: an identifier and its configuration.
-ghost use Rattle.std.specs.Prelude.{◌≡◌, IfOk};
-ghost use Rattle.serde_json.specs.View.{view};
 ghost use Rattle.zarrs_form.specs.FormsV2.{codec, codec_data, codec_fits};
 
 use crate::form::Form;
+use crate::layout::Layout;
 use crate::members::{put_text, take_member};
-use crate::pretty::write_members_with_at;
 use crate::shapes::{Object, Text};
-use crate::text::write_value;
+use crate::values::write_members_with;
 use serde_json::Value;
 use std::alloc::{AllocError, Global};
 
@@ -56,12 +54,8 @@ impl Form for MetadataV2 {
         !self.configuration.has_float() && !self.configuration.has_own_member(OWN_NAMES)
     }
 
-    fn write(&self, alloc: Global, out: &mut String) -> Result<(), AllocError> {
-        write_value(alloc, out, &self.to_value(alloc)?)
-    }
-
-    fn write_at(&self, alloc: Global, out: &mut String, level: usize) -> Result<(), AllocError> {
+    fn write(&self, alloc: Global, out: &mut String, layout: Layout) -> Result<(), AllocError> {
         let members = self.configuration.as_slice();
-        write_members_with_at(alloc, out, level, members, "id", self.id.as_str())
+        write_members_with(alloc, out, layout, members, "id", self.id.as_str())
     }
 }

@@ -4,6 +4,7 @@ ghost use Rattle.serde_json.specs.View.{view};
 ghost use Rattle.zarrs_form.specs.FormsV2.{data_type, data_type_data, data_type_fits};
 
 use crate::form::Form;
+use crate::layout::Layout;
 use crate::shapes::{Json, List, Text};
 use serde_json::Value;
 use std::alloc::{AllocError, Global};
@@ -63,17 +64,10 @@ impl Form for DataTypeMetadataV2 {
         }
     }
 
-    fn write(&self, alloc: Global, out: &mut String) -> Result<(), AllocError> {
+    fn write(&self, alloc: Global, out: &mut String, layout: Layout) -> Result<(), AllocError> {
         match self {
-            DataTypeMetadataV2::Simple(name) => name.write(alloc, out),
-            DataTypeMetadataV2::Structured(fields) => fields.write(alloc, out),
-        }
-    }
-
-    fn write_at(&self, alloc: Global, out: &mut String, level: usize) -> Result<(), AllocError> {
-        match self {
-            DataTypeMetadataV2::Simple(name) => name.write_at(alloc, out, level),
-            DataTypeMetadataV2::Structured(fields) => fields.write_at(alloc, out, level),
+            DataTypeMetadataV2::Simple(name) => name.write(alloc, out, layout),
+            DataTypeMetadataV2::Structured(fields) => fields.write(alloc, out, layout),
         }
     }
 }

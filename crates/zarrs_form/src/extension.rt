@@ -5,10 +5,10 @@ ghost use Rattle.serde_json.specs.View.{view, members_view};
 ghost use Rattle.zarrs_form.specs.Forms.{extension, extension_object, extension_data, extension_fits, unless, unless_absent};
 
 use crate::form::{Form, put_member};
+use crate::layout::Layout;
 use crate::members::take_member;
-use crate::pretty::{write_last_at, write_row_at};
+use crate::rows::{write_last, write_row};
 use crate::shapes::{Object, Text};
-use crate::text::{write_last, write_row};
 use serde_json::{Map, Value};
 use std::alloc::{AllocError, Global};
 
@@ -109,25 +109,15 @@ impl Form for MetadataV3 {
         self.configuration.is_plain()
     }
 
-    fn write(&self, alloc: Global, out: &mut String) -> Result<(), AllocError> {
+    fn write(&self, alloc: Global, out: &mut String, layout: Layout) -> Result<(), AllocError> {
         if self.configuration.is_none() && self.must_understand {
-            return self.name.write(alloc, out);
-        }
-        out.push_str("{")?;
-        write_row(alloc, out, "configuration", self.configuration.as_ref())?;
-        write_row(alloc, out, "must_understand", self.refusal())?;
-        write_last(alloc, out, "name", &self.name)
-    }
-
-    fn write_at(&self, alloc: Global, out: &mut String, level: usize) -> Result<(), AllocError> {
-        if self.configuration.is_none() && self.must_understand {
-            return self.name.write(alloc, out);
+            return self.name.write(alloc, out, layout);
         }
         out.push_str("{")?;
         let configuration = self.configuration.as_ref();
-        write_row_at(alloc, out, level, "configuration", configuration)?;
-        write_row_at(alloc, out, level, "must_understand", self.refusal())?;
-        write_last_at(alloc, out, level, "name", &self.name)
+        write_row(alloc, out, layout, "configuration", configuration)?;
+        write_row(alloc, out, layout, "must_understand", self.refusal())?;
+        write_last(alloc, out, layout, "name", &self.name)
     }
 }
 

@@ -6,20 +6,17 @@ ghost use Rattle.serde_json.specs.Find.{as_str, as_bool, as_object};
 ghost use Rattle.std.specs.List.{list_all};
 ghost use Rattle.serde_json.specs.View.{view, members_view};
 ghost use Rattle.serde_json.specs.Written as json_written;
-ghost use Rattle.serde_json.specs.Written.{compact_text};
 ghost use Rattle.zarrs_form.specs.Documents as documents;
 ghost use Rattle.zarrs_form.specs.Documents.{Gives, besides};
 ghost use Rattle.zarrs_form.specs.Forms as forms;
-ghost use Rattle.zarrs_form.specs.Pretty.{text_at};
-ghost use Rattle.zarrs_form.specs.Texts.{BeginsWith};
+ghost use Rattle.zarrs_form.specs.Layouts.{text_in};
 ghost use Rattle.zarrs_form.specs.Forms.{number_u64, any, nullable, list_of, number_data, list_data, nullable_data, none_or, put_row};
 
+use crate::layout::{Layout, deeper, write_close, write_line};
 use crate::members::{has_float, take_member};
-use crate::pretty::{
-    deeper, write_close_at, write_line, write_members_at, write_number, write_value_at,
-};
 use crate::shapes::{FillValueMetadata, Json, List, Object, Text};
-use crate::text::{write_comma, write_members, write_text, write_value};
+use crate::text::{write_comma, write_number, write_text};
+use crate::values::{write_members, write_value};
 use serde_json::{Map, Value, put};
 use std::alloc::{AllocError, Global};
 use zarrs_fault::{MemberName, MetadataFault};
@@ -60,28 +57,14 @@ pub trait Form: Sized {
     fn is_plain(&self) -> bool
         ensures { result ≡ fits self.now };
 
-    /// Appends the compact text of what is written of the value. What stood there stays, whatever is answered.
+    /// Appends the text of what is written of the value, in a layout.
     ///
     /// # Errors
     ///
     /// `AllocError` where there is no memory for it; a beginning of the text may have been appended.
-    fn write(&self, alloc: Global, out: &mut String) -> Result<(), AllocError>
-        ensures ok { OnOk result (IsTrue (fits self.now)
-            → string_bytes out.new ≡ string_bytes out.old ++ compact_text (written self.now)) }
-        ensures err { OnErr result
-            (IsTrue (fits self.now)
-            → BeginsWith (string_bytes out.old ++ compact_text (written self.now))
-            (string_bytes out.new)) }
-        ensures kept { BeginsWith (string_bytes out.new) (string_bytes out.old) };
-
-    /// Appends the pretty text of what is written of the value, which stands so many levels deep.
-    ///
-    /// # Errors
-    ///
-    /// `AllocError` where there is no memory for it; a beginning of the text may have been appended.
-    fn write_at(&self, alloc: Global, out: &mut String, level: usize) -> Result<(), AllocError>
+    fn write(&self, alloc: Global, out: &mut String, layout: Layout) -> Result<(), AllocError>
         ensures ok { OnOk result (json_written.has_float (written self.now) ≡ false
-            → string_bytes out.new ≡ string_bytes out.old ++ text_at level (written self.now)) };
+            → string_bytes out.new ≡ string_bytes out.old ++ text_in layout (written self.now)) };
 }
 
 impl Form for u64 {
@@ -103,11 +86,7 @@ impl Form for u64 {
         true
     }
 
-    fn write(&self, alloc: Global, out: &mut String) -> Result<(), AllocError> {
-        write_value(alloc, out, &self.to_value(alloc)?)
-    }
-
-    fn write_at(&self, _alloc: Global, out: &mut String, _level: usize) -> Result<(), AllocError> {
+    fn write(&self, _alloc: Global, out: &mut String, _layout: Layout) -> Result<(), AllocError> {
         write_number(out, *self)
     }
 }
@@ -131,12 +110,8 @@ impl Form for bool {
         true
     }
 
-    fn write(&self, _alloc: Global, out: &mut String) -> Result<(), AllocError> {
+    fn write(&self, _alloc: Global, out: &mut String, _layout: Layout) -> Result<(), AllocError> {
         out.push_str(if *self { "true" } else { "false" })
-    }
-
-    fn write_at(&self, alloc: Global, out: &mut String, _level: usize) -> Result<(), AllocError> {
-        self.write(alloc, out)
     }
 }
 
@@ -162,12 +137,8 @@ impl Form for Text {
         true
     }
 
-    fn write(&self, alloc: Global, out: &mut String) -> Result<(), AllocError> {
+    fn write(&self, alloc: Global, out: &mut String, _layout: Layout) -> Result<(), AllocError> {
         write_text(alloc, out, self.as_str())
-    }
-
-    fn write_at(&self, alloc: Global, out: &mut String, _level: usize) -> Result<(), AllocError> {
-        self.write(alloc, out)
     }
 }
 
@@ -193,12 +164,8 @@ impl Form for Object {
         !self.has_float()
     }
 
-    fn write(&self, alloc: Global, out: &mut String) -> Result<(), AllocError> {
-        write_members(alloc, out, self.as_slice())
-    }
-
-    fn write_at(&self, alloc: Global, out: &mut String, level: usize) -> Result<(), AllocError> {
-        write_members_at(alloc, out, level, self.as_slice())
+    fn write(&self, alloc: Global, out: &mut String, layout: Layout) -> Result<(), AllocError> {
+        write_members(alloc, out, layout, self.as_slice())
     }
 }
 
@@ -221,12 +188,8 @@ impl Form for FillValueMetadata {
         !has_float(self.as_value())
     }
 
-    fn write(&self, alloc: Global, out: &mut String) -> Result<(), AllocError> {
-        write_value(alloc, out, self.as_value())
-    }
-
-    fn write_at(&self, alloc: Global, out: &mut String, level: usize) -> Result<(), AllocError> {
-        write_value_at(alloc, out, level, self.as_value())
+    fn write(&self, alloc: Global, out: &mut String, layout: Layout) -> Result<(), AllocError> {
+        write_value(alloc, out, layout, self.as_value())
     }
 }
 
@@ -249,12 +212,8 @@ impl Form for Json {
         !has_float(self.as_value())
     }
 
-    fn write(&self, alloc: Global, out: &mut String) -> Result<(), AllocError> {
-        write_value(alloc, out, self.as_value())
-    }
-
-    fn write_at(&self, alloc: Global, out: &mut String, level: usize) -> Result<(), AllocError> {
-        write_value_at(alloc, out, level, self.as_value())
+    fn write(&self, alloc: Global, out: &mut String, layout: Layout) -> Result<(), AllocError> {
+        write_value(alloc, out, layout, self.as_value())
     }
 }
 
@@ -290,17 +249,10 @@ impl<T: Form> Form for Option<T> {
         }
     }
 
-    fn write(&self, alloc: Global, out: &mut String) -> Result<(), AllocError> {
+    fn write(&self, alloc: Global, out: &mut String, layout: Layout) -> Result<(), AllocError> {
         match self {
             None => out.push_str("null"),
-            Some(value) => value.write(alloc, out),
-        }
-    }
-
-    fn write_at(&self, alloc: Global, out: &mut String, level: usize) -> Result<(), AllocError> {
-        match self {
-            None => out.push_str("null"),
-            Some(value) => value.write_at(alloc, out, level),
+            Some(value) => value.write(alloc, out, layout),
         }
     }
 }
@@ -344,28 +296,17 @@ impl<T: Form + Drop> Form for List<T> {
         true
     }
 
-    fn write(&self, alloc: Global, out: &mut String) -> Result<(), AllocError> {
-        out.push_str("[")?;
-        let mut later = false;
-        for item in self.as_slice() {
-            write_comma(out, later)?;
-            item.write(alloc, out)?;
-            later = true;
-        }
-        out.push_str("]")
-    }
-
-    fn write_at(&self, alloc: Global, out: &mut String, level: usize) -> Result<(), AllocError> {
-        let inner = deeper(level)?;
+    fn write(&self, alloc: Global, out: &mut String, layout: Layout) -> Result<(), AllocError> {
+        let inner = deeper(layout)?;
         out.push_str("[")?;
         let mut later = false;
         for item in self.as_slice() {
             write_comma(out, later)?;
             write_line(out, inner)?;
-            item.write_at(alloc, out, inner)?;
+            item.write(alloc, out, inner)?;
             later = true;
         }
-        write_close_at(out, later, level)?;
+        write_close(out, later, layout)?;
         out.push_str("]")
     }
 }

@@ -13,12 +13,14 @@ mod extension;
 mod fields;
 mod form;
 pub mod laws;
+mod layout;
 mod members;
 mod nesting;
-mod pretty;
+mod rows;
 mod shapes;
 mod sorted;
 mod text;
+mod values;
 
 pub use chunks::{ArrayMetadataV2Order, ChunkKeySeparator, chunk_lengths, has_zero};
 pub use codec::MetadataV2;
@@ -28,13 +30,12 @@ pub use document_bytes::document_text;
 pub use extension::MetadataV3;
 pub use fields::{AdditionalFieldV3, AdditionalFieldsV3, fields_of};
 pub use form::{Form, attributes, optional, put_member, put_unless, required};
+pub use layout::{Layout, write_key};
 pub use members::{
     ask_format, ask_node_type, document, document_copy, document_copy_in, document_in, member,
     members_have_float, parse, put_text, refuse, take_member, take_null,
 };
 pub use nesting::is_shallow;
-pub use pretty::{
-    write_entry, write_key_at, write_last_at, write_row_at, write_unless_at, write_value_at,
-};
+pub use rows::{write_last, write_row, write_unless};
 pub use shapes::{FillValueMetadata, Json, List, Object, Text};
-pub use text::{open_table, write_last, write_row, write_unless};
+pub use values::write_value;

@@ -11,7 +11,7 @@ use Rattle.json.specs.Lex.{tokens}
 use Rattle.serde_json.specs.Data.{Data, depth}
 use Rattle.serde_json.specs.Read.{max_depth}
 use Rattle.serde_json.specs.Written.{IsInOrder, has_float}
-pub use Rattle.zarrs_form.specs.Pretty.{pretty_text}
+pub use Rattle.zarrs_form.specs.Layouts.{pretty_text}
 use Rattle.zarrs_form.specs.Documents.{json_of}
 use Rattle.zarrs_form.specs.DocumentTexts.{IsTextOf}
 use Rattle.zarrs_store.specs.Segments.{Segments}

@@ -3,7 +3,6 @@ pub mod GroupV3Laws
 pub mod GroupV2Laws
 pub mod ArrayV3Laws
 pub mod ArrayV2Laws
-pub mod Steps
 pub mod TakenLaws
 pub mod NodeLaws
 pub mod ZarrJsonLaws

@@ -5,7 +5,7 @@ ghost use Rattle.serde_json.specs.View.{view, members_view};
 ghost use Rattle.serde_json.specs.Written.{compact_text, has_float};
 ghost use Rattle.zarrs_form.specs.Documents.{Gives, besides, document_in, document_of, format_of, of_bytes};
 ghost use Rattle.zarrs_form.specs.Forms.{put_rows};
-ghost use Rattle.zarrs_form.specs.Pretty.{text_at};
+ghost use Rattle.zarrs_form.specs.Layouts.{text_in};
 ghost use Rattle.zarrs_meta.specs.ArrayV2.{array_v2_in, array_v2_of, array_v2_rows, array_v2_tree, is_plain_array_v2};
 ghost use Rattle.zarrs_meta.specs.StepsOfReading.{array_v2_taken};
 
@@ -13,10 +13,10 @@ use serde_json::{Map, Value, put};
 use std::alloc::{AllocError, Global};
 use zarrs_fault::{MetadataFault, Numbers};
 use zarrs_form::{
-    ArrayMetadataV2Order, ChunkKeySeparator, DataTypeMetadataV2, FillValueMetadata, Form, List,
-    MetadataV2, Object, Text, attributes, chunk_lengths, document_copy_in, document_in, has_zero,
-    open_table, optional, parse, put_member, put_unless, required, take_member, write_last,
-    write_last_at, write_row, write_row_at, write_unless, write_unless_at, write_value_at,
+    ArrayMetadataV2Order, ChunkKeySeparator, DataTypeMetadataV2, FillValueMetadata, Form, Layout,
+    List, MetadataV2, Object, Text, attributes, chunk_lengths, document_copy_in, document_in,
+    has_zero, optional, parse, put_member, put_unless, required, take_member, write_last,
+    write_row, write_unless, write_value,
 };
 
 /// The metadata of a version 2 array.
@@ -290,79 +290,49 @@ impl ArrayMetadataV2 {
         ensures { IfOk result (λ text. IsTrue (is_plain_array_v2 self.now)
             → string_bytes text ≡ compact_text (array_v2_tree self.now)) }
     {
-        if self.additional_fields.is_empty() {
-            return self.table_text(alloc);
-        }
-        self.to_value(alloc)?.to_string(alloc)
-    }
-
-    /// The text of the members of the table alone, in the order of their names.
-    fn table_text(&self, alloc: Global) -> Result<String, AllocError>
-        ensures { IfOk result
-            (λ text. IsTrue (is_plain_array_v2 self.now)
-            → string_bytes text
-            ≡ compact_text (object (put_rows (array_v2_rows self.now) no_members))) }
-    {
-        let mut out = open_table(alloc)?;
-        let empty = self.attributes.is_empty();
-        write_unless(alloc, &mut out, "attributes", empty, &self.attributes)?;
-        write_row(alloc, &mut out, "chunks", Some(&self.chunks))?;
-        let compressor = Some(&self.compressor);
-        write_row(alloc, &mut out, "compressor", compressor)?;
-        let separator = Some(&self.dimension_separator);
-        write_row(alloc, &mut out, "dimension_separator", separator)?;
-        write_row(alloc, &mut out, "dtype", Some(&self.dtype))?;
-        write_row(alloc, &mut out, "fill_value", Some(&self.fill_value))?;
-        write_row(alloc, &mut out, "filters", Some(&self.filters))?;
-        write_row(alloc, &mut out, "order", Some(&self.order))?;
-        write_row(alloc, &mut out, "shape", Some(&self.shape))?;
-        write_last(alloc, &mut out, "zarr_format", &2u64)?;
+        let mut out = String::with_capacity(alloc, 512)?;
+        self.write(alloc, &mut out, Layout::Compact)?;
         Ok(out)
     }
 
-    /// Appends the pretty text of the written form, so many levels deep.
-    pub(crate) fn write_at(
+    /// Appends the text of the written form, in a layout.
+    pub(crate) fn write(
         &self,
         alloc: Global,
         out: &mut String,
-        level: usize,
+        layout: Layout,
     ) -> Result<(), AllocError>
         ensures ok { OnOk result (has_float (array_v2_tree self.now) ≡ false
             → string_bytes out.new
-            ≡ string_bytes out.old ++ text_at level (array_v2_tree self.now)) }
+            ≡ string_bytes out.old ++ text_in layout (array_v2_tree self.now)) }
     {
         if self.additional_fields.is_empty() {
-            return self.write_table_at(alloc, out, level);
+            return self.write_table(alloc, out, layout);
         }
-        write_value_at(alloc, out, level, &self.to_value(alloc)?)
+        write_value(alloc, out, layout, &self.to_value(alloc)?)
     }
 
-    /// Appends the pretty text of the members of the table alone, in the order of their names.
-    fn write_table_at(
-        &self,
-        alloc: Global,
-        out: &mut String,
-        level: usize,
-    ) -> Result<(), AllocError>
+    /// Appends the text of the members of the table alone, in the order of their names.
+    fn write_table(&self, alloc: Global, out: &mut String, layout: Layout) -> Result<(), AllocError>
         ensures ok { OnOk result
             (has_float (object (put_rows (array_v2_rows self.now) no_members)) ≡ false
             → string_bytes out.new ≡ string_bytes out.old
-            ++ text_at level (object (put_rows (array_v2_rows self.now) no_members))) }
+            ++ text_in layout (object (put_rows (array_v2_rows self.now) no_members))) }
     {
         out.push_str("{")?;
         let empty = self.attributes.is_empty();
-        write_unless_at(alloc, out, level, "attributes", empty, &self.attributes)?;
-        write_row_at(alloc, out, level, "chunks", Some(&self.chunks))?;
+        write_unless(alloc, out, layout, "attributes", empty, &self.attributes)?;
+        write_row(alloc, out, layout, "chunks", Some(&self.chunks))?;
         let compressor = Some(&self.compressor);
-        write_row_at(alloc, out, level, "compressor", compressor)?;
+        write_row(alloc, out, layout, "compressor", compressor)?;
         let separator = Some(&self.dimension_separator);
-        write_row_at(alloc, out, level, "dimension_separator", separator)?;
-        write_row_at(alloc, out, level, "dtype", Some(&self.dtype))?;
-        write_row_at(alloc, out, level, "fill_value", Some(&self.fill_value))?;
-        write_row_at(alloc, out, level, "filters", Some(&self.filters))?;
-        write_row_at(alloc, out, level, "order", Some(&self.order))?;
-        write_row_at(alloc, out, level, "shape", Some(&self.shape))?;
-        write_last_at(alloc, out, level, "zarr_format", &2u64)
+        write_row(alloc, out, layout, "dimension_separator", separator)?;
+        write_row(alloc, out, layout, "dtype", Some(&self.dtype))?;
+        write_row(alloc, out, layout, "fill_value", Some(&self.fill_value))?;
+        write_row(alloc, out, layout, "filters", Some(&self.filters))?;
+        write_row(alloc, out, layout, "order", Some(&self.order))?;
+        write_row(alloc, out, layout, "shape", Some(&self.shape))?;
+        write_last(alloc, out, layout, "zarr_format", &2u64)
     }
 
     /// Whether the array could have come from a document: its numbers are `u64` or `i64`, no chunk length is

@@ -5,7 +5,7 @@ ghost use Rattle.serde_json.specs.View.{view, members_view};
 ghost use Rattle.serde_json.specs.Written.{compact_text, has_float};
 ghost use Rattle.zarrs_form.specs.Documents.{Gives, document_in, of_bytes};
 ghost use Rattle.zarrs_form.specs.Forms.{put_rows};
-ghost use Rattle.zarrs_form.specs.Pretty.{text_at};
+ghost use Rattle.zarrs_form.specs.Layouts.{text_in};
 ghost use Rattle.zarrs_meta.specs.ArrayV3.{array_v3_in, array_v3_of, array_v3_rows, array_v3_tree, is_plain_array_v3};
 ghost use Rattle.zarrs_meta.specs.MadeArray.{default_encoding, made_array};
 ghost use Rattle.zarrs_meta.specs.StepsOfReading.{array_v3_taken};
@@ -14,10 +14,10 @@ use serde_json::{Map, Value, put};
 use std::alloc::{AllocError, Global};
 use zarrs_fault::{MetadataFault, Numbers};
 use zarrs_form::{
-    AdditionalFieldsV3, ChunkKeySeparator, FillValueMetadata, Form, List, MetadataV3, Object, Text,
-    ask_format, ask_node_type, attributes, document_copy_in, document_in, fields_of, open_table,
-    optional, parse, put_member, put_text, put_unless, required, write_last, write_last_at,
-    write_row, write_row_at, write_unless, write_unless_at, write_value_at,
+    AdditionalFieldsV3, ChunkKeySeparator, FillValueMetadata, Form, Layout, List, MetadataV3,
+    Object, Text, ask_format, ask_node_type, attributes, document_copy_in, document_in, fields_of,
+    optional, parse, put_member, put_text, put_unless, required, write_last, write_row,
+    write_unless, write_value,
 };
 
 /// The metadata of a version 3 array.
@@ -305,87 +305,53 @@ impl ArrayMetadataV3 {
         ensures { IfOk result (λ text. IsTrue (is_plain_array_v3 self.now)
             → string_bytes text ≡ compact_text (array_v3_tree self.now)) }
     {
-        if self.additional_fields.is_empty() {
-            return self.table_text(alloc);
-        }
-        self.to_value(alloc)?.to_string(alloc)
-    }
-
-    /// The text of the members of the table alone, in the order of their names.
-    fn table_text(&self, alloc: Global) -> Result<String, AllocError>
-        ensures { IfOk result
-            (λ text. IsTrue (is_plain_array_v3 self.now)
-            → string_bytes text
-            ≡ compact_text (object (put_rows (array_v3_rows self.now) no_members))) }
-    {
-        let mut out = open_table(alloc)?;
-        let empty = self.attributes.is_empty();
-        write_unless(alloc, &mut out, "attributes", empty, &self.attributes)?;
-        write_row(alloc, &mut out, "chunk_grid", Some(&self.chunk_grid))?;
-        let encoding = Some(&self.chunk_key_encoding);
-        write_row(alloc, &mut out, "chunk_key_encoding", encoding)?;
-        write_row(alloc, &mut out, "codecs", Some(&self.codecs))?;
-        write_row(alloc, &mut out, "data_type", Some(&self.data_type))?;
-        let names = self.dimension_names.as_ref();
-        write_row(alloc, &mut out, "dimension_names", names)?;
-        write_row(alloc, &mut out, "fill_value", Some(&self.fill_value))?;
-        let kind = Text::from_str(alloc, "array")?;
-        write_row(alloc, &mut out, "node_type", Some(&kind))?;
-        write_row(alloc, &mut out, "shape", Some(&self.shape))?;
-        let all = &self.storage_transformers;
-        let empty = all.is_empty();
-        write_unless(alloc, &mut out, "storage_transformers", empty, all)?;
-        write_last(alloc, &mut out, "zarr_format", &3u64)?;
+        let mut out = String::with_capacity(alloc, 512)?;
+        self.write(alloc, &mut out, Layout::Compact)?;
         Ok(out)
     }
 
-    /// Appends the pretty text of the written form, so many levels deep.
-    pub(crate) fn write_at(
+    /// Appends the text of the written form, in a layout.
+    pub(crate) fn write(
         &self,
         alloc: Global,
         out: &mut String,
-        level: usize,
+        layout: Layout,
     ) -> Result<(), AllocError>
         ensures ok { OnOk result (has_float (array_v3_tree self.now) ≡ false
             → string_bytes out.new
-            ≡ string_bytes out.old ++ text_at level (array_v3_tree self.now)) }
+            ≡ string_bytes out.old ++ text_in layout (array_v3_tree self.now)) }
     {
         if self.additional_fields.is_empty() {
-            return self.write_table_at(alloc, out, level);
+            return self.write_table(alloc, out, layout);
         }
-        write_value_at(alloc, out, level, &self.to_value(alloc)?)
+        write_value(alloc, out, layout, &self.to_value(alloc)?)
     }
 
-    /// Appends the pretty text of the members of the table alone, in the order of their names.
-    fn write_table_at(
-        &self,
-        alloc: Global,
-        out: &mut String,
-        level: usize,
-    ) -> Result<(), AllocError>
+    /// Appends the text of the members of the table alone, in the order of their names.
+    fn write_table(&self, alloc: Global, out: &mut String, layout: Layout) -> Result<(), AllocError>
         ensures ok { OnOk result
             (has_float (object (put_rows (array_v3_rows self.now) no_members)) ≡ false
             → string_bytes out.new ≡ string_bytes out.old
-            ++ text_at level (object (put_rows (array_v3_rows self.now) no_members))) }
+            ++ text_in layout (object (put_rows (array_v3_rows self.now) no_members))) }
     {
         out.push_str("{")?;
         let empty = self.attributes.is_empty();
-        write_unless_at(alloc, out, level, "attributes", empty, &self.attributes)?;
-        write_row_at(alloc, out, level, "chunk_grid", Some(&self.chunk_grid))?;
+        write_unless(alloc, out, layout, "attributes", empty, &self.attributes)?;
+        write_row(alloc, out, layout, "chunk_grid", Some(&self.chunk_grid))?;
         let encoding = Some(&self.chunk_key_encoding);
-        write_row_at(alloc, out, level, "chunk_key_encoding", encoding)?;
-        write_row_at(alloc, out, level, "codecs", Some(&self.codecs))?;
-        write_row_at(alloc, out, level, "data_type", Some(&self.data_type))?;
+        write_row(alloc, out, layout, "chunk_key_encoding", encoding)?;
+        write_row(alloc, out, layout, "codecs", Some(&self.codecs))?;
+        write_row(alloc, out, layout, "data_type", Some(&self.data_type))?;
         let names = self.dimension_names.as_ref();
-        write_row_at(alloc, out, level, "dimension_names", names)?;
-        write_row_at(alloc, out, level, "fill_value", Some(&self.fill_value))?;
+        write_row(alloc, out, layout, "dimension_names", names)?;
+        write_row(alloc, out, layout, "fill_value", Some(&self.fill_value))?;
         let kind = Text::from_str(alloc, "array")?;
-        write_row_at(alloc, out, level, "node_type", Some(&kind))?;
-        write_row_at(alloc, out, level, "shape", Some(&self.shape))?;
+        write_row(alloc, out, layout, "node_type", Some(&kind))?;
+        write_row(alloc, out, layout, "shape", Some(&self.shape))?;
         let all = &self.storage_transformers;
         let empty = all.is_empty();
-        write_unless_at(alloc, out, level, "storage_transformers", empty, all)?;
-        write_last_at(alloc, out, level, "zarr_format", &3u64)
+        write_unless(alloc, out, layout, "storage_transformers", empty, all)?;
+        write_last(alloc, out, layout, "zarr_format", &3u64)
     }
 
     /// Whether the array could have come from a document: its numbers are `u64` or `i64`, and no additional

@@ -9,7 +9,7 @@ ghost use Rattle.zarrs_form.specs.Documents.{Gives, document_in, document_of, of
 use serde_json::{Map, Value};
 use std::alloc::{AllocError, Global};
 use zarrs_fault::{MetadataFault, Numbers};
-use zarrs_form::{Form, Object, document_copy_in, document_in, parse};
+use zarrs_form::{Form, Layout, Object, document_copy_in, document_in, parse};
 
 /// The attributes beside a version 2 group or array.
 ///
@@ -182,7 +182,7 @@ impl AttributesDocument {
             → string_bytes text ≡ compact_text (attributes_tree self.now)) }
     {
         let mut out = String::new(alloc);
-        self.0.write(alloc, &mut out)?;
+        self.0.write(alloc, &mut out, Layout::Compact)?;
         Ok(out)
     }
 

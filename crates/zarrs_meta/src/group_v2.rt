@@ -6,15 +6,15 @@ ghost use Rattle.serde_json.specs.Written.{compact_text, has_float};
 ghost use Rattle.zarrs_form.specs.Documents.{Gives, document_in, document_of, of_bytes};
 ghost use Rattle.zarrs_meta.specs.GroupV2.{group_v2_in, group_v2_of, group_v2_rows, group_v2_tree, is_plain_group_v2};
 ghost use Rattle.zarrs_form.specs.Forms.{put_rows};
-ghost use Rattle.zarrs_form.specs.Pretty.{text_at};
+ghost use Rattle.zarrs_form.specs.Layouts.{text_in};
 ghost use Rattle.zarrs_meta.specs.StepsOfReading.{group_v2_taken};
 
 use serde_json::{Map, Value, put};
 use std::alloc::{AllocError, Global};
 use zarrs_fault::{MetadataFault, Numbers};
 use zarrs_form::{
-    Object, ask_format, attributes, document_copy_in, document_in, open_table, parse, put_unless,
-    refuse, take_member, write_last, write_last_at, write_unless, write_unless_at, write_value_at,
+    Layout, Object, ask_format, attributes, document_copy_in, document_in, parse, put_unless,
+    refuse, take_member, write_last, write_unless, write_value,
 };
 
 /// The metadata of a version 2 group.
@@ -232,59 +232,39 @@ impl GroupMetadataV2 {
         ensures { IfOk result (λ text. IsTrue (is_plain_group_v2 self.now)
             → string_bytes text ≡ compact_text (group_v2_tree self.now)) }
     {
-        if self.additional_fields.is_empty() {
-            return self.table_text(alloc);
-        }
-        self.to_value(alloc)?.to_string(alloc)
-    }
-
-    /// The text of the members of the table alone, in the order of their names.
-    fn table_text(&self, alloc: Global) -> Result<String, AllocError>
-        ensures { IfOk result
-            (λ text. IsTrue (is_plain_group_v2 self.now)
-            → string_bytes text
-            ≡ compact_text (object (put_rows (group_v2_rows self.now) no_members))) }
-    {
-        let mut out = open_table(alloc)?;
-        let empty = self.attributes.is_empty();
-        write_unless(alloc, &mut out, "attributes", empty, &self.attributes)?;
-        write_last(alloc, &mut out, "zarr_format", &2u64)?;
+        let mut out = String::with_capacity(alloc, 512)?;
+        self.write(alloc, &mut out, Layout::Compact)?;
         Ok(out)
     }
 
-    /// Appends the pretty text of the written form, so many levels deep.
-    pub(crate) fn write_at(
+    /// Appends the text of the written form, in a layout.
+    pub(crate) fn write(
         &self,
         alloc: Global,
         out: &mut String,
-        level: usize,
+        layout: Layout,
     ) -> Result<(), AllocError>
         ensures ok { OnOk result (has_float (group_v2_tree self.now) ≡ false
             → string_bytes out.new
-            ≡ string_bytes out.old ++ text_at level (group_v2_tree self.now)) }
+            ≡ string_bytes out.old ++ text_in layout (group_v2_tree self.now)) }
     {
         if self.additional_fields.is_empty() {
-            return self.write_table_at(alloc, out, level);
+            return self.write_table(alloc, out, layout);
         }
-        write_value_at(alloc, out, level, &self.to_value(alloc)?)
+        write_value(alloc, out, layout, &self.to_value(alloc)?)
     }
 
-    /// Appends the pretty text of the members of the table alone, in the order of their names.
-    fn write_table_at(
-        &self,
-        alloc: Global,
-        out: &mut String,
-        level: usize,
-    ) -> Result<(), AllocError>
+    /// Appends the text of the members of the table alone, in the order of their names.
+    fn write_table(&self, alloc: Global, out: &mut String, layout: Layout) -> Result<(), AllocError>
         ensures ok { OnOk result
             (has_float (object (put_rows (group_v2_rows self.now) no_members)) ≡ false
             → string_bytes out.new ≡ string_bytes out.old
-            ++ text_at level (object (put_rows (group_v2_rows self.now) no_members))) }
+            ++ text_in layout (object (put_rows (group_v2_rows self.now) no_members))) }
     {
         out.push_str("{")?;
         let empty = self.attributes.is_empty();
-        write_unless_at(alloc, out, level, "attributes", empty, &self.attributes)?;
-        write_last_at(alloc, out, level, "zarr_format", &2u64)
+        write_unless(alloc, out, layout, "attributes", empty, &self.attributes)?;
+        write_last(alloc, out, layout, "zarr_format", &2u64)
     }
 
     /// Whether the group could have come from a document: its numbers fit, and no additional field has

@@ -5,7 +5,7 @@ ghost use Rattle.serde_json.specs.Find.{as_number, as_str, as_u64, get};
 ghost use Rattle.serde_json.specs.View.{view, members_view};
 ghost use Rattle.serde_json.specs.Written.{compact_text, has_float};
 ghost use Rattle.zarrs_form.specs.Documents.{Gives, document_in, document_of, format_of, of_bytes};
-ghost use Rattle.zarrs_form.specs.Pretty.{text_at};
+ghost use Rattle.zarrs_form.specs.Layouts.{text_in};
 ghost use Rattle.zarrs_meta.specs.Node.{node_in, node_of, node_v2_in, node_v3_in, node_tree, is_plain_node, zarr_json_in, zarr_json_of, is_group};
 ghost use Rattle.zarrs_meta.specs.declared.node.GroupMetadata.TheVariants.{V3 as group_v3, V2 as group_v2};
 ghost use Rattle.zarrs_meta.specs.declared.node.ArrayMetadata.TheVariants.{V3 as array_v3, V2 as array_v2};
@@ -18,7 +18,7 @@ use crate::group_v3::GroupMetadataV3;
 use serde_json::{Map, Value};
 use std::alloc::{AllocError, Global};
 use zarrs_fault::{MetadataFault, Numbers};
-use zarrs_form::{document_copy_in, document_in, member, parse};
+use zarrs_form::{Layout, document_copy_in, document_in, member, parse};
 
 /// The metadata of a group of either version.
 ///
@@ -254,24 +254,24 @@ impl NodeMetadata {
         }
     }
 
-    /// Appends the pretty text of the written form, so many levels deep: two spaces a level, and no newline at the end. It is written
-    /// row by row, and no JSON value of the whole is made unless there are additional fields.
+    /// Appends the text of the written form in a layout, with no newline at the end. It is written row by row, and no JSON value of the
+    /// whole is made unless there are additional fields.
     ///
     /// # Errors
     ///
     /// `AllocError` where there is no memory for it; a beginning of the text may have been appended.
     ///
     /// Source: Zarr core specification 3.1, "Metadata documents".
-    pub fn write_at(&self, alloc: Global, out: &mut String, level: usize) -> Result<(), AllocError>
+    pub fn write(&self, alloc: Global, out: &mut String, layout: Layout) -> Result<(), AllocError>
         ensures ok { OnOk result (has_float (node_tree self.now) ≡ false
-            → string_bytes out.new ≡ string_bytes out.old ++ text_at level (node_tree self.now)) }
+            → string_bytes out.new ≡ string_bytes out.old ++ text_in layout (node_tree self.now)) }
     {
         match self {
-            NodeMetadata::Group(GroupMetadata::V3(group)) => group.write_at(alloc, out, level),
-            NodeMetadata::Group(GroupMetadata::V2(group)) => group.write_at(alloc, out, level),
+            NodeMetadata::Group(GroupMetadata::V3(group)) => group.write(alloc, out, layout),
+            NodeMetadata::Group(GroupMetadata::V2(group)) => group.write(alloc, out, layout),
             NodeMetadata::Array(array) => match array.as_ref() {
-                ArrayMetadata::V3(array) => array.write_at(alloc, out, level),
-                ArrayMetadata::V2(array) => array.write_at(alloc, out, level),
+                ArrayMetadata::V3(array) => array.write(alloc, out, layout),
+                ArrayMetadata::V2(array) => array.write(alloc, out, layout),
             },
         }
     }

@@ -2,33 +2,17 @@ use Rattle.std.proofs.Common.{◌∷◌, [], ◌++◌, string_bytes, ap, sym, �
 use Rattle.std.specs.List.{list_any}
 use Rattle.zarrs_form.specs.StepsOfTexts.{has_escape}
 use Rattle.zarrs_form.proofs.AttributeLaws.{not_true}
-use Rattle.zarrs_form.proofs.TextLaws.{begins_done, on_err_always, on_err_pushed, on_ok_pushed, quoted_bare}
+use Rattle.zarrs_form.proofs.TextLaws.{on_ok_pushed, quoted_bare}
 use Rattle.zarrs_form.proofs.text.write_text.Goals as goal
 
-pub returns-then-is_bare-clause-ok : goal.returns-then-is_bare-clause-ok
-returns-then-is_bare-clause-ok c =
-    let text = c.args.text.now in
-    let old = string_bytes c.args.out.now in
-    let bare = quoted_bare text (not_true (list_any has_escape text) (sym c.is_bare.ensures ∙ c.if-is_bare.true)) in
-    let opened = c.in_ok-push_str.ensures.bytes in
-    let told = c.in_ok-push_str-2.ensures.bytes in
-    on_ok_pushed c.push_str-then-is_bare-2.result _ _ (34 ∷ []) _ c.push_str-then-is_bare-2.ensures.bytes
-    (ap (λ s. s ++ 34 ∷ []) (told ∙ ap (λ s. s ++ text) opened ∙ append_assoc old (34 ∷ []) text) ∙ append_assoc old (34 ∷ text) (34 ∷ []) ∙ ap (λ s. old ++ s) (sym bare))
-
-pub returns-then-is_bare-clause-err : goal.returns-then-is_bare-clause-err
-returns-then-is_bare-clause-err c =
-    let text = c.args.text.now in
-    let old = string_bytes c.args.out.now in
-    let bare = quoted_bare text (not_true (list_any has_escape text) (sym c.is_bare.ensures ∙ c.if-is_bare.true)) in
-    let opened = c.in_ok-push_str.ensures.bytes in
-    let told = c.in_ok-push_str-2.ensures.bytes in
-    on_err_pushed c.push_str-then-is_bare-2.result _ _ (34 ∷ []) (34 ∷ []) _ c.push_str-then-is_bare-2.ensures.bytes
-    (ap (λ s. s ++ 34 ∷ []) (told ∙ ap (λ s. s ++ text) opened ∙ append_assoc old (34 ∷ []) text) ∙ append_assoc old (34 ∷ text) (34 ∷ []) ∙ ap (λ s. old ++ s) (sym bare))
-
-pub returns-in_err-push_str-2-clause-err : goal.returns-in_err-push_str-2-clause-err
-returns-in_err-push_str-2-clause-err c = on_err_always _ (
-    let text = c.args.text.now in
-    let old = string_bytes c.args.out.now in
-    let bare = quoted_bare text (not_true (list_any has_escape text) (sym c.is_bare.ensures ∙ c.if-is_bare.true)) in
-    let opened = c.in_ok-push_str.ensures.bytes in
-    begins_done _ _ (text ++ 34 ∷ []) (ap (λ s. s ++ (text ++ 34 ∷ [])) (c.in_err-push_str-2.ensures.bytes ∙ opened) ∙ append_assoc old (34 ∷ []) (text ++ 34 ∷ []) ∙ ap (λ s. old ++ s) (sym bare)))
+pub returns-then-is_bare : goal.returns-then-is_bare
+returns-then-is_bare c = record {
+  ok =
+      let text = c.args.text.now in
+      let old = string_bytes c.args.out.now in
+      let bare = quoted_bare text (not_true (list_any has_escape text) (sym c.is_bare.ensures ∙ c.if-is_bare.true)) in
+      let opened = c.in_ok-push_str.ensures.bytes in
+      let told = c.in_ok-push_str-2.ensures.bytes in
+      on_ok_pushed c.push_str-then-is_bare-2.result _ _ (34 ∷ []) _ c.push_str-then-is_bare-2.ensures.bytes
+      (ap (λ s. s ++ 34 ∷ []) (told ∙ ap (λ s. s ++ text) opened ∙ append_assoc old (34 ∷ []) text) ∙ append_assoc old (34 ∷ text) (34 ∷ []) ∙ ap (λ s. old ++ s) (sym bare));
+}

@@ -1,20 +1,12 @@
-use Rattle.std.proofs.Common.{◌∙◌, ap, sym}
-use Rattle.serde_json.specs.Data.{object}
-use Rattle.serde_json.specs.Written.{has_float, compact_text}
-use Rattle.zarrs_meta.specs.ArrayV2.{array_v2_rows}
-use Rattle.zarrs_form.specs.Forms.{put_rows}
-use Rattle.zarrs_form.proofs.MemberLists.{if_ok_then}
+use Rattle.std.proofs.Common.{◌++◌, ap, ◌∙◌}
+use Rattle.zarrs_form.specs.declared.layout.Layout.TheVariants.{Compact}
+use Rattle.zarrs_form.specs.Layouts.{text_in}
+use Rattle.zarrs_form.proofs.CompactTexts.{compact_is}
+use Rattle.zarrs_meta.specs.ArrayV2.{array_v2_tree}
 use Rattle.zarrs_meta.proofs.ArrayV2Laws.{array_v2_no_float}
-use Rattle.zarrs_form.proofs.TextLaws.{none_there}
 use Rattle.zarrs_meta.proofs.array_v2.ArrayMetadataV2.to_text.Goals as goal
 
-pub returns-then-is_empty : goal.returns-then-is_empty
-returns-then-is_empty c =
-    let m = c.args.self.now in
-    if_ok_then c.table_text.result c.table_text.ensures (λ text is plain.
-    is plain ∙ ap (λ ms. compact_text (object (put_rows (array_v2_rows m) ms))) (none_there m.additional_fields (sym c.is_empty.ensures ∙ c.if-is_empty.true)))
-
 pub returns : goal.returns
-returns c =
-    if_ok_then c.to_string.result c.to_string.ensures.text (λ text is plain.
-    is (ap has_float c.in_ok-to_value.ensures ∙ array_v2_no_float c.args.self.now plain) ∙ ap compact_text c.in_ok-to_value.ensures)
+returns c = λ plain.
+    let d = array_v2_tree c.args.self.now in
+    c.in_ok-write.ensures.ok (array_v2_no_float c.args.self.now plain) ∙ ap (λ s. s ++ text_in Compact d) c.in_ok-out.ensures.bytes ∙ compact_is d
