@@ -1,7 +1,7 @@
 -- What a word answers over a loaded store it answers over the whole.
 use Rattle.std.proofs.Common.{◌≡◌, inl, inr, ⊎_elim, ℕ, Bool, List, Option, Some, None, sym, ◌∙◌}
 use Rattle.zarrs_store.specs.Contents.{Contents}
-use Rattle.zarrs_path.specs.Paths.{Path, IsPath, path_text}
+use Rattle.zarrs_path.specs.Paths.{Path, IsPath}
 use Rattle.zarrs_meta.specs.declared.node.NodeMetadata.{NodeMetadata}
 use Rattle.zarrs_config.specs.declared.version.UseConsolidatedMetadata.{UseConsolidatedMetadata}
 use Rattle.zarrs_config.specs.declared.version.UseConsolidatedMetadata.TheVariants.{Auto, Never}
@@ -70,5 +70,3 @@ refuses_over can_fail StoreTree S L b e valid same h = ⊎_elim inl (λ r. inr (
 refuses_over can_fail ListAll S L b e valid same h = ⊎_elim inl (λ r. inr (refused_over S L Never b same valid e r)) h
 refuses_over can_fail Show S L b e valid same h = ⊎_elim inl (λ r. inr (node_refused_over S L b e same r)) h
 refuses_over can_fail (Check options) S L b e valid same h = h
-
-module _ (w : Word) (S L : Contents) (b : Path) (path : List ℕ) (valid : IsPath b) (text_of : path_text b ≡ path) (same : IsSameFor w S L b) where
