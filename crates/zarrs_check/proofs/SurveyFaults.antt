@@ -183,7 +183,6 @@ of_missing b (StorePrefixError e) h = absurd h
 of_missing b OutOfMemory h = absurd h
 
 module _ (can_fail : Bool) (s : Contents) (v : MetadataRetrieveVersion) (b : Path) (e : NodeCreateError) (why : IsExcused can_fail e ⊎ RefusesNode s v b e) where
-
   -- what says nothing of it is excused
   pub base_excused : is_of_node e ≡ false → IsExcused can_fail e
   base_excused other = ⊎_elim (λ x. x)

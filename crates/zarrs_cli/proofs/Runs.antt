@@ -152,7 +152,6 @@ base_of_some word path e refused = inr (values_of [], base_refused false word pa
 -- ---- by the source
 
 module _ (word : Word) (source path : List ℕ) where
-
   -- what is told to differ does
   other : bytes_eq source (codes "-") ≡ false → source ≢ codes "-"
   other differs same = true≢false (sym ((bytes_eq-Decides source (codes "-")).1 same) ∙ differs)
