@@ -17,7 +17,6 @@ of_parts P p q m k b d path metadata block h = subst (λ x. P q k x) block (subs
 
 -- the edits of a plain group, and the store after them
 module _ (S T : Contents) (p : Path) (m : GroupMetadata) (block : Option Block) (es : List Edit) (plain : stored_fault_in S.numbers p m block ≡ None) (are : AreEditsOf (store_changes p m block) es) where
-
   -- exactly, where no number is a fraction
   pub stores_exactly : {A E : Type 0} (r : Result A E) → OnOk r (T ≡ after S es) → OnOk r (stored_fault p m block ≡ None → T ≡ after S (store_edits p m block))
   stores_exactly r h = on_ok r h (λ is whole. is ∙ ap (after S) (whole_edits_are_exact p m block es whole are))
