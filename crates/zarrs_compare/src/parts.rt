@@ -7,7 +7,7 @@ use crate::values::is_same_value;
 use serde_json::Value;
 use zarrs_form::{
     AdditionalFieldV3, AdditionalFieldsV3, ArrayMetadataV2Order, ChunkKeySeparator,
-    DataTypeMetadataV2, FillValueMetadata, Json, List, MetadataV2, MetadataV3, Object, Text,
+    DataTypeMetadataV2, Json, List, MetadataV2, MetadataV3, Object, Text,
 };
 
 /// What is compared as data.
@@ -64,14 +64,6 @@ impl Same for Json {
     ghost same = { same_data };
 
     fn is_same(&self, other: &Json) -> bool {
-        is_same_value(self.as_value(), other.as_value())
-    }
-}
-
-impl Same for FillValueMetadata {
-    ghost same = { same_data };
-
-    fn is_same(&self, other: &FillValueMetadata) -> bool {
         is_same_value(self.as_value(), other.as_value())
     }
 }

@@ -4,7 +4,7 @@ use Rattle.json.specs.Print.{quoted}
 use Rattle.serde_json.specs.Data.{Data, null, boolean, number, string, array, object, Items, no_items, item, Members, no_members, member}
 use Rattle.serde_json.specs.Written.{comma_if, compact_text, items_text, members_text}
 use Rattle.zarrs_form.specs.declared.layout.Layout.TheVariants.{Compact}
-use Rattle.zarrs_form.specs.Layouts.{items_in, key_in, members_in, text_in}
+use Rattle.zarrs_form.specs.Layouts.{items_in, members_in, text_in}
 
 -- a key, its value and the members behind it, put to the right
 regroup_member : (c q t r : List ℕ) → (c ++ (q ++ 58 ∷ [])) ++ (t ++ r) ≡ c ++ (q ++ 58 ∷ (t ++ r))

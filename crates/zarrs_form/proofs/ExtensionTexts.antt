@@ -1,7 +1,7 @@
 -- The text of an extension that is an object.
-use Rattle.std.proofs.Common.{◌≡◌, ℕ, List, Option, [], ◌∷◌, ◌++◌, ◌&&◌, false, if◌then◌else◌, is_none, Some, codes, option_map, refl, ap, sym, ◌∙◌, append_assoc}
+use Rattle.std.proofs.Common.{◌≡◌, ℕ, List, Option, [], ◌∷◌, ◌++◌, ◌&&◌, false, if◌then◌else◌, is_none, Some, codes, option_map, ap, sym, ◌∙◌}
 use Rattle.serde_json.specs.Data.{Data, boolean, member, no_members, object, string}
-use Rattle.serde_json.specs.Written.{compact_text, has_float, members_have_float, members_text}
+use Rattle.serde_json.specs.Written.{has_float, members_have_float}
 use Rattle.zarrs_form.specs.declared.extension.MetadataV3.{MetadataV3}
 use Rattle.zarrs_form.specs.declared.layout.Layout.{Layout}
 use Rattle.zarrs_form.specs.Forms.{extension_data, put_rows, unless}

@@ -134,6 +134,11 @@ is_null found = is_some (option_and_then as_null found)
 abbrev pub besides_null : List ℕ → Members → Members
 besides_null name ms = if is_null (get_member name ms) then besides (name ∷ []) ms else ms
 
+-- what is no object of such numbers has that fault, whatever document it is read as
+abbrev pub AsksFirst : {A : Type 0} → (Numbers → Data → Result A MetadataFault) → Type 0
+AsksFirst meaning = (numbers : Numbers) (d : Data) (fault : MetadataFault)
+    → document_in numbers d ≡ Err fault → meaning numbers d ≡ Err fault
+
 -- what reading gives is not out of memory
 abbrev pub NeverLacksMemory : {A : Type 0} → Result A MetadataFault → Type 0
 NeverLacksMemory reading = reading ≢ Err OutOfMemory

@@ -127,7 +127,3 @@ extension_data m =
 -- the numbers of the configuration are among these
 abbrev pub extension_fits_in : Numbers → MetadataV3 → Bool
 extension_fits_in numbers m = none_or (λ ms. fits_in numbers (object ms)) m.configuration
-
--- the numbers of the configuration fit
-abbrev pub extension_fits : MetadataV3 → Bool
-extension_fits m = extension_fits_in Whole m

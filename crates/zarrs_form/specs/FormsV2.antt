@@ -37,10 +37,6 @@ codec_data m = object (put (codes "id") (string m.id) m.configuration)
 abbrev pub codec_fits_in : Numbers → MetadataV2 → Bool
 codec_fits_in numbers m = fits_in numbers (object m.configuration) && not (has_own codec_names m.configuration)
 
--- the numbers of the configuration fit, and it has no member `id`
-abbrev pub codec_fits : MetadataV2 → Bool
-codec_fits m = codec_fits_in Whole m
-
 -- a data type is a text, or a list that is kept as it stands
 abbrev pub data_type : Data → Option DataTypeMetadataV2
 data_type (string s) = Some (Simple s)
@@ -55,10 +51,6 @@ data_type_data (Structured ds) = list_data (λ d. d) ds
 abbrev pub data_type_fits_in : Numbers → DataTypeMetadataV2 → Bool
 data_type_fits_in numbers (Simple s) = true
 data_type_fits_in numbers (Structured ds) = list_all (λ d. fits_in numbers d) ds
-
--- the numbers of a structured data type fit
-abbrev pub data_type_fits : DataTypeMetadataV2 → Bool
-data_type_fits m = data_type_fits_in Whole m
 
 -- the order of the texts "C" and "F"
 abbrev pub order_named : List ℕ → Option ArrayMetadataV2Order

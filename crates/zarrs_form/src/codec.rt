@@ -1,5 +1,6 @@
 //! Codecs of version 2: an identifier and its configuration.
-ghost use Rattle.zarrs_form.specs.FormsV2.{codec, codec_data, codec_fits};
+ghost use Rattle.zarrs_form.specs.FormsV2.{codec, codec_data, codec_fits_in};
+ghost use Rattle.zarrs_fault.specs.declared.numbers.Numbers.TheVariants.{Whole};
 
 use crate::form::Form;
 use crate::layout::Layout;
@@ -48,7 +49,7 @@ impl Form for MetadataV2 {
         Ok(Value::Object(members))
     }
 
-    ghost fits = { codec_fits };
+    ghost fits = { codec_fits_in Whole };
 
     fn is_plain(&self) -> bool {
         !self.configuration.has_float() && !self.configuration.has_own_member(OWN_NAMES)

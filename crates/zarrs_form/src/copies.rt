@@ -5,7 +5,7 @@ use crate::codec::MetadataV2;
 use crate::data_type::DataTypeMetadataV2;
 use crate::extension::MetadataV3;
 use crate::fields::AdditionalFieldV3;
-use crate::shapes::{FillValueMetadata, Json, List, Object, Text};
+use crate::shapes::{Json, List, Object, Text};
 use std::alloc::{AllocError, Global};
 
 /// What can be copied, so that lists and options of it can.
@@ -99,19 +99,6 @@ impl Json {
         ensures { IfOk result (λ copy. copy ≡ self.now) }
     {
         Ok(Json::new(self.as_value().clone()?))
-    }
-}
-
-impl FillValueMetadata {
-    /// A copy that equals its source.
-    ///
-    /// # Errors
-    ///
-    /// `AllocError` where there is no memory for the copy.
-    pub fn try_clone(&self, _alloc: Global) -> Result<FillValueMetadata, AllocError>
-        ensures { IfOk result (λ copy. copy ≡ self.now) }
-    {
-        Ok(FillValueMetadata::new(self.as_value().clone()?))
     }
 }
 

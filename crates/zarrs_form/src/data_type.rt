@@ -1,7 +1,8 @@
 //! Data types of version 2.
 ghost use Rattle.std.specs.Prelude.{◌≡◌, IfOk};
 ghost use Rattle.serde_json.specs.View.{view};
-ghost use Rattle.zarrs_form.specs.FormsV2.{data_type, data_type_data, data_type_fits};
+ghost use Rattle.zarrs_form.specs.FormsV2.{data_type, data_type_data, data_type_fits_in};
+ghost use Rattle.zarrs_fault.specs.declared.numbers.Numbers.TheVariants.{Whole};
 
 use crate::form::Form;
 use crate::layout::Layout;
@@ -55,7 +56,7 @@ impl Form for DataTypeMetadataV2 {
         }
     }
 
-    ghost fits = { data_type_fits };
+    ghost fits = { data_type_fits_in Whole };
 
     fn is_plain(&self) -> bool {
         match self {

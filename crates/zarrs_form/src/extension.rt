@@ -2,7 +2,8 @@
 ghost use Rattle.std.specs.Prelude.{◌≡◌, None, IfOk, true, false, option_map};
 ghost use Rattle.serde_json.specs.Data.{object};
 ghost use Rattle.serde_json.specs.View.{view, members_view};
-ghost use Rattle.zarrs_form.specs.Forms.{extension, extension_object, extension_data, extension_fits, unless, unless_absent};
+ghost use Rattle.zarrs_form.specs.Forms.{extension, extension_object, extension_data, extension_fits_in, unless, unless_absent};
+ghost use Rattle.zarrs_fault.specs.declared.numbers.Numbers.TheVariants.{Whole};
 
 use crate::form::{Form, put_member};
 use crate::layout::Layout;
@@ -103,7 +104,7 @@ impl Form for MetadataV3 {
         Ok(Value::Object(members))
     }
 
-    ghost fits = { extension_fits };
+    ghost fits = { extension_fits_in Whole };
 
     fn is_plain(&self) -> bool {
         self.configuration.is_plain()

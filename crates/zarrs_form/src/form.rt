@@ -14,7 +14,7 @@ ghost use Rattle.zarrs_form.specs.Forms.{number_u64, any, nullable, list_of, num
 
 use crate::layout::{Layout, deeper, write_close, write_line};
 use crate::members::{has_float, take_member};
-use crate::shapes::{FillValueMetadata, Json, List, Object, Text};
+use crate::shapes::{Json, List, Object, Text};
 use crate::text::{write_comma, write_number, write_text};
 use crate::values::{write_members, write_value};
 use serde_json::{Map, Value, put};
@@ -166,30 +166,6 @@ impl Form for Object {
 
     fn write(&self, alloc: Global, out: &mut String, layout: Layout) -> Result<(), AllocError> {
         write_members(alloc, out, layout, self.as_slice())
-    }
-}
-
-impl Form for FillValueMetadata {
-    ghost form = { any };
-
-    fn read(_alloc: Global, value: Value) -> Result<Option<FillValueMetadata>, AllocError> {
-        Ok(Some(FillValueMetadata::new(value)))
-    }
-
-    ghost written = { λ d. d };
-
-    fn to_value(&self, _alloc: Global) -> Result<Value, AllocError> {
-        self.as_value().clone()
-    }
-
-    ghost fits = { forms.fits };
-
-    fn is_plain(&self) -> bool {
-        !has_float(self.as_value())
-    }
-
-    fn write(&self, alloc: Global, out: &mut String, layout: Layout) -> Result<(), AllocError> {
-        write_value(alloc, out, layout, self.as_value())
     }
 }
 

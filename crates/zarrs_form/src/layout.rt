@@ -1,7 +1,7 @@
 //! The layouts of a text, and what they differ in: lines and what follows a name.
 ghost use Rattle.std.specs.Prelude.{◌≡◌, ◌++◌, string_bytes, IfOk, OnOk};
 ghost use Rattle.json.specs.Layout.{line};
-ghost use Rattle.zarrs_form.specs.Layouts.{close_line, colon_in, deeper, key_in, line_in};
+ghost use Rattle.zarrs_form.specs.Layouts.{close_line, deeper, key_in, line_in};
 
 use crate::text::{write_comma, write_text};
 use std::alloc::{AllocError, Global};
@@ -39,16 +39,9 @@ pub fn write_key(
     write_comma(out, later)?;
     write_line(out, layout)?;
     write_text(alloc, out, name)?;
-    out.push_str(colon(layout))
-}
-
-/// What stands between a name and its value.
-fn colon(layout: Layout) -> &'static str
-    ensures { result.now ≡ colon_in layout }
-{
     match layout {
-        Layout::Compact => ":",
-        Layout::Pretty(_) => ": ",
+        Layout::Compact => out.push_str(":"),
+        Layout::Pretty(_) => out.push_str(": "),
     }
 }
 

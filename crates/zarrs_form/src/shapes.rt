@@ -273,7 +273,7 @@ impl Object {
     }
 }
 
-/// A JSON value, as an item of a list.
+/// A JSON value: an item of a list, or a fill value.
 ///
 /// <https://www.rfc-editor.org/rfc/rfc8259#section-3>
 #[derive(Debug, Drop)]
@@ -294,7 +294,7 @@ impl Model for Json {
 }
 
 impl Json {
-    /// The item that a JSON value is.
+    /// The item or the fill value that a JSON value is.
     pub fn new(value: Value) -> Json
         ensures { result ≡ view value }
     {
@@ -314,35 +314,4 @@ impl Json {
 /// Zarr core specification 3.1, "Array metadata", "fill_value"; specification version 2, "Arrays", "Fill value encoding".
 /// <https://zarr-specs.readthedocs.io/en/latest/v3/core/index.html#fill-value>
 /// <https://zarr-specs.readthedocs.io/en/latest/v2/v2.0.html#fill-value-encoding>
-#[derive(Debug, Drop)]
-pub struct FillValueMetadata {
-    value: Value,
-}
-
-impl Model for FillValueMetadata {
-    ghost use Rattle.serde_json.specs.Data.{Data};
-    ghost use Rattle.zarrs_form.specs.DataCode.{data_code};
-    ghost use Rattle.serde_json.specs.View.{view as data_of};
-
-    ghost Value = { Data };
-
-    ghost coded = { data_code };
-
-    ghost view = { λ a. data_of a.value };
-}
-
-impl FillValueMetadata {
-    /// The fill value that a JSON value is.
-    pub fn new(value: Value) -> FillValueMetadata
-        ensures { result ≡ view value }
-    {
-        FillValueMetadata { value }
-    }
-
-    /// The JSON value.
-    pub fn as_value(&self) -> &Value
-        ensures { view result.now ≡ self.now }
-    {
-        &self.value
-    }
-}
+pub type FillValueMetadata = Json;
