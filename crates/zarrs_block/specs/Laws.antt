@@ -12,14 +12,14 @@ use Rattle.zarrs_config.specs.declared.version.MetadataRetrieveVersion.{Metadata
 use Rattle.zarrs_meta.specs.Laws.{ReadsToo}
 use Rattle.zarrs_block.specs.Block.{block_of, block_of_in}
 use Rattle.zarrs_block.specs.Meaning.{meaning}
-use Rattle.zarrs_block.specs.Zmetadata.{is_bad, zmetadata_of, zmetadata_in}
+use Rattle.zarrs_block.specs.Zmetadata.{is_bad, zmetadata_in}
 
 -- a block or a document `.zmetadata` that is read where numbers have to be whole is read the same whatever numbers
 -- may stand
 abbrev pub WholeBlocksReadTheSame : Type 0
 WholeBlocksReadTheSame =
     (numbers : Numbers) (d : Data)
-    → ReadsToo (block_of_in numbers d) (block_of d) × ReadsToo (zmetadata_in numbers d) (zmetadata_of d)
+    → ReadsToo (block_of_in numbers d) (block_of d) × ReadsToo (zmetadata_in numbers d) (zmetadata_in Whole d)
 
 -- a path that is not bad in a store whose numbers have to be whole means the same whatever numbers may stand
 abbrev pub WholePathsMeanTheSame : Type 0

@@ -41,11 +41,6 @@ abbrev pub node_block : Numbers → NodeMetadata → Option Block
 node_block numbers (Group g) = group_block numbers g
 node_block numbers (Array a) = None
 
--- the block, whose numbers have to be whole, that a version 3 group holds in its additional fields; a version 2 group
--- has none
-abbrev pub block_in_group : GroupMetadata → Option Block
-block_in_group g = group_block Whole g
-
 -- the block, whose numbers have to be whole, that metadata hold; an array has none
 abbrev pub block_in : NodeMetadata → Option Block
 block_in m = node_block Whole m

@@ -4,9 +4,7 @@
 --     HoldsStoreIn, IsCleanIn      what the block of a document has and that nothing below the group is bad, as of
 -- any store
 --     IsZmetadataFaultIn      what refuses a document
---     HoldsStore, IsClean, IsZmetadataFault      the same, where numbers have to be whole
---     zmetadata_in numbers d, zmetadata_of d      the block that a document is where it may hold these numbers, or
--- its first fault; where they have to be whole
+--     zmetadata_in numbers d      the block that a document is where it may hold these numbers, or its first fault
 --     ZmetadataHoldsIn, OneBlockHoldsStoreIn      that it is the one block that holds the store and whose keys ascend
 --     zmetadata_tree g B      what is written of a group of version 2 and its block
 --     IsWrittenOf g B d      what the written document has at each key
@@ -60,10 +58,6 @@ zmetadata_members_in numbers d =
     steps.◌>>=◌ (required_member (codes "zarr_consolidated_format") one d) λ _.
     required_member (codes "metadata") as_object d
 
--- the members of the document of format 1 where its numbers have to be whole, or the first fault
-abbrev pub zmetadata_members : Data → Result Members MetadataFault
-zmetadata_members d = zmetadata_members_in Whole d
-
 -- all segments but the last
 abbrev pub before_last : Segments → Segments
 before_last [] = []
@@ -77,20 +71,12 @@ before_last (s ∷ t ∷ ss) = s ∷ before_last (t ∷ ss)
 abbrev pub HoldsStoreIn : Numbers → Members → Block → Type 0
 HoldsStoreIn numbers ms B = (b : Path) → IsBlockOf (Means (small_meaning_in numbers (small b ms))) b B
 
--- the same, where numbers have to be whole
-abbrev pub HoldsStore : Members → Block → Type 0
-HoldsStore ms B = HoldsStoreIn Whole ms B
-
 -- below no base a path is bad in the small store behind it, whose documents may hold these numbers, and each document
 -- that counts stands below names
 pub record IsCleanIn (numbers : Numbers) (ms : Members) : Type 0 where
   pub means : (b : Path) (n : List ℕ) (ns : Path) (e : NodeCreateError)
       → small_meaning_in numbers (small b ms) (b ++ n ∷ ns) ≢ bad e
   pub named : All (λ e. IsPath (before_last e.0)) (counted_members ms)
-
--- the same, where numbers have to be whole
-abbrev pub IsClean : Members → Type 0
-IsClean ms = IsCleanIn Whole ms
 
 -- the document, which may hold these numbers, is none of format 1, and this is its first fault; or it has members
 -- that are no clean store, and the fault is `BadMember` of `metadata`, the member that has them
@@ -99,10 +85,6 @@ IsZmetadataFaultIn numbers d fault =
     (zmetadata_members_in numbers d ≡ Err fault)
     ⊎ ((ms : Members) × (zmetadata_members_in numbers d ≡ Ok ms) × (IsCleanIn numbers ms → ⊥)
     × (fault ≡ BadMember (codes "metadata")))
-
--- the same, where numbers have to be whole
-abbrev pub IsZmetadataFault : Data → MetadataFault → Type 0
-IsZmetadataFault d fault = IsZmetadataFaultIn Whole d fault
 
 -- ---- the block as a function of the document: it is the one block that holds the store of the members and whose keys
 -- ---- ascend, as `ZmetadataHoldsIn` and `OneBlockHoldsStoreIn` say
@@ -142,10 +124,6 @@ small_block_in numbers ms = block_where_good (small_meaning_in numbers (small []
 -- the block that a document `.zmetadata` is where it may hold these numbers, or its first fault
 unfoldable pub zmetadata_in : Numbers → Data → Result Block MetadataFault
 zmetadata_in numbers d = steps.◌>>=◌ (zmetadata_members_in numbers d) (small_block_in numbers)
-
--- the block that a document `.zmetadata` is where its numbers have to be whole, or its first fault
-abbrev pub zmetadata_of : Data → Result Block MetadataFault
-zmetadata_of d = zmetadata_in Whole d
 
 -- A document that reads as a block where it may hold these numbers has members; the block holds the store that they
 -- are, in which nothing is bad, and the keys of the block ascend.

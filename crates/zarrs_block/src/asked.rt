@@ -4,52 +4,34 @@ ghost use Rattle.serde_json.specs.Data.{object};
 ghost use Rattle.serde_json.specs.View.{view, members_view};
 ghost use Rattle.zarrs_form.specs.Documents.{Gives, document_in};
 ghost use Rattle.zarrs_form.specs.Forms.{fits_in};
-ghost use Rattle.zarrs_meta.specs.ArrayV2.{array_v2_in};
-ghost use Rattle.zarrs_meta.specs.Attributes.{attributes_document_in};
-ghost use Rattle.zarrs_meta.specs.GroupV2.{group_v2_in};
-ghost use Rattle.zarrs_meta.specs.Node.{node_in};
 
 use serde_json::{Map, Value};
 use std::alloc::{AllocError, Global};
 use zarrs_fault::{MetadataFault, Numbers};
-use zarrs_meta::{ArrayMetadataV2, AttributesDocument, GroupMetadataV2, NodeMetadata};
+use zarrs_meta::Document;
 
-// The array of version 2 that a document is.
-#[tactic(auto, unfolding(zarrs_meta::specs::ArrayV2::array_v2_in))]
-pub(crate) fn asked_array(
+// The document that a value is, whose parts it takes over.
+pub(crate) fn asked_owned<D: Document>(
     alloc: Global,
     numbers: Numbers,
     value: Value,
-) -> Result<ArrayMetadataV2, MetadataFault>
+) -> Result<D, MetadataFault>
     requires { IsTrue (fits_in numbers (view value)) }
-    ensures { Gives (λ m. m) result (array_v2_in numbers (view value)) }
+    ensures { Gives (λ d. d) result (D.meaning numbers (view value)) }
 {
-    ArrayMetadataV2::from_members_in(alloc, numbers, members_of(numbers, value)?)
+    D::from_members_in(alloc, numbers, members_of(numbers, value)?)
 }
 
-// The group of version 2 that a document is.
-#[tactic(auto, unfolding(zarrs_meta::specs::GroupV2::group_v2_in))]
-pub(crate) fn asked_group(
+// The document that a value is, whose members are copied.
+pub(crate) fn asked<D: Document>(
     alloc: Global,
     numbers: Numbers,
-    value: Value,
-) -> Result<GroupMetadataV2, MetadataFault>
-    requires { IsTrue (fits_in numbers (view value)) }
-    ensures { Gives (λ m. m) result (group_v2_in numbers (view value)) }
+    value: &Value,
+) -> Result<D, MetadataFault>
+    requires { IsTrue (fits_in numbers (view value.now)) }
+    ensures { Gives (λ d. d) result (D.meaning numbers (view value.now)) }
 {
-    GroupMetadataV2::from_members_in(alloc, numbers, members_of(numbers, value)?)
-}
-
-// The attributes that a document is.
-pub(crate) fn asked_attributes(
-    alloc: Global,
-    numbers: Numbers,
-    value: Value,
-) -> Result<AttributesDocument, MetadataFault>
-    requires { IsTrue (fits_in numbers (view value)) }
-    ensures { Gives (λ a. a) result (attributes_document_in numbers (view value)) }
-{
-    AttributesDocument::from_members_in(alloc, numbers, members_of(numbers, value)?)
+    D::from_members_in(alloc, numbers, copied_members(numbers, value)?)
 }
 
 // The members of a document, taken over. What its numbers may be is for the contract alone.
@@ -63,32 +45,6 @@ fn members_of(_numbers: Numbers, value: Value) -> Result<Map<String, Value>, Met
         Value::Object(members) => Ok(members),
         _ => Err(MetadataFault::NotAnObject),
     }
-}
-
-// The group or array that a whole node document is.
-#[tactic(auto, unfolding(zarrs_meta::specs::Node::node_in))]
-pub(crate) fn asked_owned_node(
-    alloc: Global,
-    numbers: Numbers,
-    value: Value,
-) -> Result<NodeMetadata, MetadataFault>
-    requires { IsTrue (fits_in numbers (view value)) }
-    ensures { Gives (λ m. m) result (node_in numbers (view value)) }
-{
-    NodeMetadata::from_members_in(alloc, numbers, members_of(numbers, value)?)
-}
-
-// The group or array that a whole node document is, whose members are copied.
-#[tactic(auto, unfolding(zarrs_meta::specs::Node::node_in))]
-pub(crate) fn asked_node(
-    alloc: Global,
-    numbers: Numbers,
-    value: &Value,
-) -> Result<NodeMetadata, MetadataFault>
-    requires { IsTrue (fits_in numbers (view value.now)) }
-    ensures { Gives (λ m. m) result (node_in numbers (view value.now)) }
-{
-    NodeMetadata::from_members_in(alloc, numbers, copied_members(numbers, value)?)
 }
 
 // A copy of the members of a document. What its numbers may be is for the contract alone.

@@ -11,7 +11,7 @@ ghost use Rattle.zarrs_meta.specs.Node.{node_in};
 ghost use Rattle.zarrs_block.specs.Block.{IsAscending, node_at_key, put as put_node, inline, untrue, nodes_in, nodes, block_of, block_of_in, documents, block_tree};
 ghost use Rattle.zarrs_block.specs.BlockExpansion.{is_covered};
 
-use crate::asked::{asked_node, asked_owned_node};
+use crate::asked::{asked, asked_owned};
 use serde_json::{Map, Value, put};
 use std::alloc::{AllocError, Global};
 use std::marker::Model;
@@ -441,7 +441,7 @@ fn node_of(alloc: Global, numbers: Numbers, document: &Value) -> Result<NodeMeta
     ensures { Gives (λ m. m) result
         (form_or_fault (codes "metadata") (result_ok (node_in numbers (view document.now)))) }
 {
-    as_entry(asked_node(alloc, numbers, document))
+    as_entry(asked(alloc, numbers, document))
 }
 
 // The node that a whole node document is, which it takes over.
@@ -454,7 +454,7 @@ fn owned_node_of(
     ensures { Gives (λ m. m) result
         (form_or_fault (codes "metadata") (result_ok (node_in numbers (view document)))) }
 {
-    as_entry(asked_owned_node(alloc, numbers, document))
+    as_entry(asked_owned(alloc, numbers, document))
 }
 
 // The node that an entry was read as, or the fault of the member `metadata` in the place of the entry's own.

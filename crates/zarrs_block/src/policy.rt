@@ -1,7 +1,8 @@
 //! Whether a consolidated block stands in place of a listing.
 ghost use Rattle.std.specs.Prelude.{◌≡◌, ◌⊎◌, codes, IfOk, IfErr, IsErr, IsSome};
 ghost use Rattle.serde_json.specs.Find.{get_member};
-ghost use Rattle.zarrs_block.specs.Policy.{as_block, fields_block, group_field, group_block, block_in_group, block_field, node_block, block_in, block_to_use, as_choice, refuse, RefusesUse, LacksBlockMemory};
+ghost use Rattle.zarrs_block.specs.Policy.{as_block, fields_block, group_field, group_block, block_field, node_block, block_in, block_to_use, as_choice, refuse, RefusesUse, LacksBlockMemory};
+ghost use Rattle.zarrs_fault.specs.declared.numbers.Numbers.TheVariants.{Whole};
 
 use crate::consolidated::ConsolidatedMetadata;
 use crate::node_create_error::NodeCreateError;
@@ -62,7 +63,7 @@ pub fn consolidated_metadata_of(
     alloc: Global,
     group: &GroupMetadata,
 ) -> Result<Option<ConsolidatedMetadata>, AllocError>
-    ensures ok { IfOk result (λ block. as_block block ≡ block_in_group group.now) }
+    ensures ok { IfOk result (λ block. as_block block ≡ group_block Whole group.now) }
     ensures err { IsErr result → IsSome (group_field group.now) }
 {
     consolidated_metadata_of_in(alloc, Numbers::Whole, group)

@@ -16,16 +16,20 @@ ghost use Rattle.zarrs_meta.specs.declared.node.GroupMetadata.TheVariants.{V2 as
 ghost use Rattle.zarrs_meta.specs.declared.node.NodeMetadata.TheVariants.{Group, Array};
 ghost use Rattle.zarrs_block.specs.Block.{IsAscending, node_at_key};
 ghost use Rattle.zarrs_store.specs.Segments.{stretches};
-ghost use Rattle.zarrs_block.specs.Zmetadata.{one, small_block_in, zmetadata_members, zmetadata_members_in, zmetadata_of, zmetadata_in, HoldsStore, HoldsStoreIn, IsClean, IsCleanIn, IsZmetadataFault, IsZmetadataFaultIn};
+ghost use Rattle.zarrs_block.specs.Zmetadata.{one, small_block_in, zmetadata_members_in, zmetadata_in, HoldsStoreIn, IsCleanIn, IsZmetadataFaultIn};
 ghost use Rattle.zarrs_block.specs.declared.zmetadata.File.{File};
 ghost use Rattle.zarrs_block.specs.StepsOfZmetadata.{is_file, is_before, member_at, first_tree, tree_in, tree_among, gathered_at, read_with, read_files, IsFile, IsPlace, are_named, RefusesNames, AllFit, HoldsNodes, IsJoined, RunsAscend, RefusesTrees, zmetadata_taken};
+ghost use Rattle.zarrs_fault.specs.declared.numbers.Numbers.TheVariants.{Whole};
 
-use crate::asked::{asked_array, asked_attributes, asked_group};
+use crate::asked::asked_owned;
 use crate::consolidated::{ConsolidatedMetadata, ConsolidatedMetadataMetadata, take_documents};
 use serde_json::{Map, Value};
 use std::alloc::{AllocError, Global};
 use zarrs_form::{document_copy_in, document_in, member};
-use zarrs_meta::{ArrayMetadata, BoxedArray, GroupMetadata, NodeMetadata};
+use zarrs_meta::{
+    ArrayMetadata, ArrayMetadataV2, AttributesDocument, BoxedArray, GroupMetadata, GroupMetadataV2,
+    NodeMetadata,
+};
 use zarrs_path::NodeName;
 use zarrs_store::{MemberName, MetadataFault, Numbers};
 
@@ -46,12 +50,13 @@ impl ConsolidatedMetadata {
         alloc: Global,
         value: &Value,
     ) -> Result<ConsolidatedMetadata, MetadataFault>
-        ensures gives { Gives (λ block. block.metadata) result (zmetadata_of (view value.now)) }
+        ensures gives { Gives (λ block. block.metadata) result
+            (zmetadata_in Whole (view value.now)) }
         ensures store { IfOk result
-            (λ block. (ms : Members) × (zmetadata_members (view value.now) ≡ Ok ms)
-            × HoldsStore ms block.metadata × IsClean ms) }
+            (λ block. (ms : Members) × (zmetadata_members_in Whole (view value.now) ≡ Ok ms)
+            × HoldsStoreIn Whole ms block.metadata × IsCleanIn Whole ms) }
         ensures refused { IfErr result (λ fault. (fault ≡ MetadataFault.OutOfMemory)
-            ⊎ IsZmetadataFault (view value.now) fault) }
+            ⊎ IsZmetadataFaultIn Whole (view value.now) fault) }
         ensures ascending { IfOk result (λ block. IsAscending block.metadata) }
     {
         ConsolidatedMetadata::from_zmetadata_in(alloc, Numbers::Whole, value)
@@ -92,12 +97,12 @@ impl ConsolidatedMetadata {
         alloc: Global,
         value: Value,
     ) -> Result<ConsolidatedMetadata, MetadataFault>
-        ensures gives { Gives (λ block. block.metadata) result (zmetadata_of (view value)) }
+        ensures gives { Gives (λ block. block.metadata) result (zmetadata_in Whole (view value)) }
         ensures store { IfOk result
-            (λ block. (ms : Members) × (zmetadata_members (view value) ≡ Ok ms)
-            × HoldsStore ms block.metadata × IsClean ms) }
+            (λ block. (ms : Members) × (zmetadata_members_in Whole (view value) ≡ Ok ms)
+            × HoldsStoreIn Whole ms block.metadata × IsCleanIn Whole ms) }
         ensures refused { IfErr result (λ fault. (fault ≡ MetadataFault.OutOfMemory)
-            ⊎ IsZmetadataFault (view value) fault) }
+            ⊎ IsZmetadataFaultIn Whole (view value) fault) }
         ensures ascending { IfOk result (λ block. IsAscending block.metadata) }
     {
         ConsolidatedMetadata::from_owned_zmetadata_in(alloc, Numbers::Whole, value)
@@ -469,9 +474,10 @@ fn read_array(
         (read_with numbers array_v2_in (λ m. Array (array_v2 m)) array_with (view value)
         (option_map view attributes)) }
 {
-    let mut array = asked_array(alloc, numbers, value)?;
+    let mut array: ArrayMetadataV2 = asked_owned(alloc, numbers, value)?;
     if let Some(value) = attributes {
-        array.attributes = asked_attributes(alloc, numbers, value)?.0;
+        let document: AttributesDocument = asked_owned(alloc, numbers, value)?;
+        array.attributes = document.0;
     }
     let boxed = BoxedArray::new(alloc, ArrayMetadata::V2(array))?;
     Ok(NodeMetadata::Array(boxed))
@@ -490,9 +496,10 @@ fn read_group(
         (read_with numbers group_v2_in (λ m. Group (group_v2 m)) group_with (view value)
         (option_map view attributes)) }
 {
-    let mut group = asked_group(alloc, numbers, value)?;
+    let mut group: GroupMetadataV2 = asked_owned(alloc, numbers, value)?;
     if let Some(value) = attributes {
-        group.attributes = asked_attributes(alloc, numbers, value)?.0;
+        let document: AttributesDocument = asked_owned(alloc, numbers, value)?;
+        group.attributes = document.0;
     }
     Ok(NodeMetadata::Group(GroupMetadata::V2(group)))
 }

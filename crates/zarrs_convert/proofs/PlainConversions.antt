@@ -7,8 +7,8 @@ use Rattle.serde_json.specs.Data.{Data, array, object}
 use Rattle.serde_json.specs.View.{items_of}
 use Rattle.serde_json.specs.Written.{has_float, items_have_float}
 use Rattle.zarrs_form.specs.Documents.{has_own}
-use Rattle.zarrs_form.specs.Forms.{extension_fits, fits, none_or, list_data, number_data}
-use Rattle.zarrs_form.specs.FormsV2.{codec_fits, data_type_fits, has_zero}
+use Rattle.zarrs_form.specs.Forms.{extension_fits_in, fits, none_or, list_data, number_data}
+use Rattle.zarrs_form.specs.FormsV2.{codec_fits_in, data_type_fits_in, has_zero}
 use Rattle.zarrs_form.specs.declared.extension.MetadataV3.{MetadataV3}
 use Rattle.zarrs_form.specs.declared.codec.MetadataV2.{MetadataV2}
 use Rattle.zarrs_form.specs.declared.data_type.DataTypeMetadataV2.{DataTypeMetadataV2}
@@ -30,6 +30,7 @@ use Rattle.zarrs_convert.specs.DataTypes.{byte_order, data_type_name, data_type_
 use Rattle.zarrs_convert.specs.FillValues.{fill_lines, fill_value_v3, zero_bytes, zero_value}
 use Rattle.zarrs_convert.specs.Codecs.{array_to_bytes, codecs_v3, filter_v3, filters_v3, transposition, no_codec, vlen_names, without_compressor}
 use Rattle.zarrs_convert.specs.Arrays.{array_v3, byte_order_refusal, regular_grid, v2_encoding}
+use Rattle.zarrs_fault.specs.declared.numbers.Numbers.TheVariants.{Whole}
 
 -- ---- steps that give a value or a refusal
 
@@ -52,11 +53,11 @@ of_ok P (Err y) x h e = cc
 
 -- the numbers of an extension fit
 abbrev ExtensionFits : MetadataV3 → Type 0
-ExtensionFits m = extension_fits m ≡ true
+ExtensionFits m = extension_fits_in Whole m ≡ true
 
 -- the numbers of all these extensions fit
 abbrev CodecsFit : List MetadataV3 → Type 0
-CodecsFit ms = list_all extension_fits ms ≡ true
+CodecsFit ms = list_all (extension_fits_in Whole) ms ≡ true
 
 -- a list of whole numbers has no other number
 numbers_fit : (ns : List ℕ) → items_have_float (items_of (map number_data ns)) ≡ false
@@ -135,7 +136,7 @@ filters_fit : (filters : List MetadataV2) → IfOk (filters_v3 filters) CodecsFi
 filters_fit [] = refl
 filters_fit (filter ∷ filters) =
     then_ok ExtensionFits CodecsFit (filter_v3 filter) _ (filter_by (is_among vlen_names filter.id) filter) (λ codec h.
-    then_ok CodecsFit CodecsFit (filters_v3 filters) _ (filters_fit filters) (λ codecs k. both_true (extension_fits codec) (list_all extension_fits codecs) h k))
+    then_ok CodecsFit CodecsFit (filters_v3 filters) _ (filters_fit filters) (λ codecs k. both_true (extension_fits_in Whole codec) (list_all (extension_fits_in Whole) codecs) h k))
 
 -- where the numbers of the codecs of filters fit, those of the one from arrays to bytes do
 to_bytes_fit : (e : Option Endianness) (codecs : List MetadataV3) → CodecsFit codecs → IfOk (array_to_bytes e codecs) CodecsFit
@@ -153,7 +154,7 @@ codecs_fit : (order : ArrayMetadataV2Order) (n : ℕ) (e : Option Endianness) (f
 codecs_fit order n e filters compressor =
     then_ok CodecsFit CodecsFit (filters_v3 (unwrap_or filters [])) _ (filters_fit (unwrap_or filters [])) (λ vlen h.
     then_ok CodecsFit CodecsFit (array_to_bytes e vlen) _ (to_bytes_fit e vlen h) (λ to_bytes k.
-    without_fits compressor (transposition order n ++ to_bytes) (list_all-append extension_fits (transposition order n) to_bytes ∙ both_true (list_all extension_fits (transposition order n)) (list_all extension_fits to_bytes) (transposition_fits order n) k)))
+    without_fits compressor (transposition order n ++ to_bytes) (list_all-append (extension_fits_in Whole) (transposition order n) to_bytes ∙ both_true (list_all (extension_fits_in Whole) (transposition order n)) (list_all (extension_fits_in Whole) to_bytes) (transposition_fits order n) k)))
 
 -- ---- arrays
 
@@ -181,7 +182,7 @@ Plain m = IsTrue (is_plain_array_v3 m)
 array_converted : (m : ArrayMetadataV2) → IsTrue (is_plain_array_v2 m) → IfOk (array_v3 m) Plain
 unfolding array_v3
 array_converted m plain =
-    let parts = two_of_eight (not (has_zero m.chunks)) (data_type_fits m.dtype) (fits m.fill_value) (none_or codec_fits m.compressor) (none_or (list_all codec_fits) m.filters)
+    let parts = two_of_eight (not (has_zero m.chunks)) (data_type_fits_in Whole m.dtype) (fits m.fill_value) (none_or (codec_fits_in Whole) m.compressor) (none_or (list_all (codec_fits_in Whole)) m.filters)
     (fits (object m.attributes)) (fits (object m.additional_fields)) (not (has_own v2.array_v2_names m.additional_fields)) plain in
     next_ok Plain (byte_order_refusal (byte_order m.dtype)) _ (λ endianness.
     then_ok ExtensionFits Plain (data_type_v3 m.dtype) _ (data_type_converted_fits m.dtype) (λ data_type a.

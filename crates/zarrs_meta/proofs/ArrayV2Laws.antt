@@ -7,7 +7,7 @@ use Rattle.serde_json.specs.Written.{has_float, members_have_float}
 use Rattle.serde_json.proofs.Views.{get_member-put}
 use Rattle.zarrs_form.specs.Documents.{besides, document_in, has_own, is_empty, optional_found, required_member, optional_member, format_of}
 use Rattle.zarrs_form.specs.Forms.{number_u64, any, nullable, list_of, number_data, list_data, nullable_data, none_or, fits, fits_in, unless, put_rows}
-use Rattle.zarrs_form.specs.FormsV2.{codec_names, codec, codec_data, codec_fits, codec_fits_in, data_type, data_type_data, data_type_fits, data_type_fits_in, order, order_data, separator, separator_data, has_zero, chunk_lengths}
+use Rattle.zarrs_form.specs.FormsV2.{codec_names, codec, codec_data, codec_fits_in, data_type, data_type_data, data_type_fits_in, order, order_data, separator, separator_data, has_zero, chunk_lengths}
 use Rattle.zarrs_meta.specs.ArrayV2.{array_v2_in, array_v2_names, array_v2_rows, array_v2_tree, is_plain_array_v2, is_plain_array_v2_in}
 use Rattle.zarrs_fault.specs.declared.numbers.Numbers.{Numbers}
 use Rattle.zarrs_fault.specs.declared.numbers.Numbers.TheVariants.{Whole, Any}
@@ -43,7 +43,7 @@ compressor_again numbers None e = refl
 compressor_again numbers (Some m) e = rw (codec_again numbers m e) refl
 
 -- a codec or null is written with numbers that fit
-compressor_no_float : (o : Option MetadataV2) → none_or codec_fits o ≡ true → has_float (nullable_data codec_data o) ≡ false
+compressor_no_float : (o : Option MetadataV2) → none_or (codec_fits_in Whole) o ≡ true → has_float (nullable_data codec_data o) ≡ false
 compressor_no_float None e = refl
 compressor_no_float (Some m) e = codec_no_float m e
 
@@ -53,9 +53,9 @@ filters_again numbers None e = refl
 filters_again numbers (Some ms) e = rw (list_again_where codec codec_data (codec_fits_in numbers) (codec_again numbers) ms e) refl
 
 -- a list of codecs or null is written with numbers that fit
-filters_no_float : (o : Option (List MetadataV2)) → none_or (list_all codec_fits) o ≡ true → has_float (nullable_data (list_data codec_data) o) ≡ false
+filters_no_float : (o : Option (List MetadataV2)) → none_or (list_all (codec_fits_in Whole)) o ≡ true → has_float (nullable_data (list_data codec_data) o) ≡ false
 filters_no_float None e = refl
-filters_no_float (Some ms) e = list_no_float codec_data codec_fits codec_no_float ms e
+filters_no_float (Some ms) e = list_no_float codec_data (codec_fits_in Whole) codec_no_float ms e
 
 -- ---- the other forms
 
@@ -65,7 +65,7 @@ data_type_again (Simple s) = refl
 data_type_again (Structured ds) = rw (list_again any (λ d. d) (λ d. refl) ds) refl
 
 -- a data type whose numbers fit is written with numbers that fit
-pub data_type_no_float : (t : DataTypeMetadataV2) → data_type_fits t ≡ true → has_float (data_type_data t) ≡ false
+pub data_type_no_float : (t : DataTypeMetadataV2) → data_type_fits_in Whole t ≡ true → has_float (data_type_data t) ≡ false
 data_type_no_float (Simple s) e = refl
 data_type_no_float (Structured ds) e = list_no_float (λ d. d) fits (λ d h. not_true (has_float d) h) ds e
 
@@ -125,8 +125,8 @@ plain_array_v2_in numbers m plain =
 -- what an array has that is plain in whole numbers
 abbrev pub PlainArrayV2 : ArrayMetadataV2 → Type 0
 PlainArrayV2 m =
-    (has_zero m.chunks ≡ false) × (data_type_fits m.dtype ≡ true) × (fits m.fill_value ≡ true) × (none_or codec_fits m.compressor ≡ true)
-    × (none_or (list_all codec_fits) m.filters ≡ true) × (fits (object m.attributes) ≡ true) × (members_have_float m.additional_fields ≡ false)
+    (has_zero m.chunks ≡ false) × (data_type_fits_in Whole m.dtype ≡ true) × (fits m.fill_value ≡ true) × (none_or (codec_fits_in Whole) m.compressor ≡ true)
+    × (none_or (list_all (codec_fits_in Whole)) m.filters ≡ true) × (fits (object m.attributes) ≡ true) × (members_have_float m.additional_fields ≡ false)
     × (has_own array_v2_names m.additional_fields ≡ false)
 
 -- the test takes such an array apart

@@ -5,7 +5,7 @@ use Rattle.serde_json.specs.Data.{Data, number, string, object, unsigned, Member
 use Rattle.serde_json.specs.Find.{get_member, as_object, as_str}
 use Rattle.serde_json.specs.Written.{has_float, members_have_float}
 use Rattle.zarrs_form.specs.Documents.{is_own, besides, document_in, has_own, is_empty, optional_found, required_member, optional_member, format_of, node_type_of}
-use Rattle.zarrs_form.specs.Forms.{number_u64, any, nullable, list_of, extension, number_data, list_data, nullable_data, extension_data, extension_fits, fits, unless, is_nil, put_rows}
+use Rattle.zarrs_form.specs.Forms.{number_u64, any, nullable, list_of, extension, number_data, list_data, nullable_data, extension_data, extension_fits_in, fits, unless, is_nil, put_rows}
 use Rattle.zarrs_meta.specs.ArrayV3.{array_v3_in, array_v3_names, array_v3_rows, array_v3_tree, is_plain_array_v3, is_plain_array_v3_in}
 use Rattle.zarrs_fault.specs.declared.numbers.Numbers.{Numbers}
 use Rattle.zarrs_fault.specs.declared.numbers.Numbers.TheVariants.{Whole, Any}
@@ -30,7 +30,7 @@ pub extension_again : (m : MetadataV3) → extension (extension_data m) ≡ Some
 extension_again m = again_by m.name m.configuration m.must_understand
 
 -- an extension whose numbers fit is written with numbers that fit, field by field
-no_float_by : (name : List ℕ) (configuration : Option Members) (must_understand : Bool) → extension_fits (record { name = name; configuration = configuration; must_understand = must_understand }) ≡ true
+no_float_by : (name : List ℕ) (configuration : Option Members) (must_understand : Bool) → extension_fits_in Whole (record { name = name; configuration = configuration; must_understand = must_understand }) ≡ true
     → has_float (extension_data (record { name = name; configuration = configuration; must_understand = must_understand })) ≡ false
 no_float_by name None true e = refl
 no_float_by name None false e = refl
@@ -38,7 +38,7 @@ no_float_by name (Some ms) true e = rw (not_true (members_have_float ms) e) refl
 no_float_by name (Some ms) false e = rw (not_true (members_have_float ms) e) refl
 
 -- an extension whose numbers fit is written with numbers that fit
-pub extension_no_float : (m : MetadataV3) → extension_fits m ≡ true → has_float (extension_data m) ≡ false
+pub extension_no_float : (m : MetadataV3) → extension_fits_in Whole m ≡ true → has_float (extension_data m) ≡ false
 extension_no_float m = no_float_by m.name m.configuration m.must_understand
 
 -- the name of a dimension, or null, reads again
@@ -64,9 +64,9 @@ names_no_float None e = refl
 names_no_float (Some s) e = refl
 
 -- storage transformers whose numbers fit are written with numbers that fit
-transformers_no_float : (xs : List MetadataV3) → list_all extension_fits xs ≡ true → has_no_float (unless (is_nil xs) (list_data extension_data xs))
+transformers_no_float : (xs : List MetadataV3) → list_all (extension_fits_in Whole) xs ≡ true → has_no_float (unless (is_nil xs) (list_data extension_data xs))
 transformers_no_float [] e = tt
-transformers_no_float (x ∷ xs) e = list_no_float extension_data extension_fits extension_no_float (x ∷ xs) e
+transformers_no_float (x ∷ xs) e = list_no_float extension_data (extension_fits_in Whole) extension_no_float (x ∷ xs) e
 
 -- dimension names have no number
 all_names_no_float : (o : Option (List (Option (List ℕ)))) → has_no_float (option_map (list_data (nullable_data string)) o)
@@ -155,18 +155,18 @@ module _ (m : ArrayMetadataV3) (no_own : has_own array_v3_names m.additional_fie
   array_v3_again_where numbers is_document = rw (is_document, has_format, has_kind, shape, data_type, chunk_grid, chunk_key_encoding, fill_value, codecs, attributes, transformers, names, others) refl
 
 -- what is plain of a plain array, part by part
-pub plain_parts : (m : ArrayMetadataV3) → IsTrue (is_plain_array_v3 m) → (extension_fits m.data_type ≡ true) × (extension_fits m.chunk_grid ≡ true) × (extension_fits m.chunk_key_encoding ≡ true)
-    × (fits m.fill_value ≡ true) × (list_all extension_fits m.codecs ≡ true) × (fits (object m.attributes) ≡ true) × (list_all extension_fits m.storage_transformers ≡ true)
+pub plain_parts : (m : ArrayMetadataV3) → IsTrue (is_plain_array_v3 m) → (extension_fits_in Whole m.data_type ≡ true) × (extension_fits_in Whole m.chunk_grid ≡ true) × (extension_fits_in Whole m.chunk_key_encoding ≡ true)
+    × (fits m.fill_value ≡ true) × (list_all (extension_fits_in Whole) m.codecs ≡ true) × (fits (object m.attributes) ≡ true) × (list_all (extension_fits_in Whole) m.storage_transformers ≡ true)
     × (fits (object m.additional_fields) ≡ true)
 plain_parts m plain =
     let h = both _ (not (has_own array_v3_names m.additional_fields)) plain in
     let g = both _ (fits (object m.additional_fields)) h.0 in
-    let f = both _ (list_all extension_fits m.storage_transformers) g.0 in
+    let f = both _ (list_all (extension_fits_in Whole) m.storage_transformers) g.0 in
     let e = both _ (fits (object m.attributes)) f.0 in
-    let d = both _ (list_all extension_fits m.codecs) e.0 in
+    let d = both _ (list_all (extension_fits_in Whole) m.codecs) e.0 in
     let c = both _ (fits m.fill_value) d.0 in
-    let b = both _ (extension_fits m.chunk_key_encoding) c.0 in
-    let a = both (extension_fits m.data_type) (extension_fits m.chunk_grid) b.0 in
+    let b = both _ (extension_fits_in Whole m.chunk_key_encoding) c.0 in
+    let a = both (extension_fits_in Whole m.data_type) (extension_fits_in Whole m.chunk_grid) b.0 in
     (a.0, a.1, b.1, c.1, d.1, e.1, f.1, g.1)
 
 -- a plain array is written with numbers that fit
@@ -181,7 +181,7 @@ array_v3_no_float m plain =
     ◂ extension_no_float m.chunk_grid p.1
     ◂ extension_no_float m.chunk_key_encoding p.2
     ◂ not_true (has_float m.fill_value) p.3
-    ◂ list_no_float extension_data extension_fits extension_no_float m.codecs p.4
+    ◂ list_no_float extension_data (extension_fits_in Whole) extension_no_float m.codecs p.4
     ◂ attributes_no_float m.attributes p.5
     ◂ transformers_no_float m.storage_transformers p.6
     ◂ all_names_no_float m.dimension_names

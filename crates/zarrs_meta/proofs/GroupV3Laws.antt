@@ -5,7 +5,7 @@ use Rattle.serde_json.specs.Find.{get_member, as_object}
 use Rattle.serde_json.specs.Written.{has_float, members_have_float}
 use Rattle.zarrs_form.specs.Documents.{besides, document_in, has_own, is_null, is_empty, optional_found, optional_member, format_of, node_type_of}
 use Rattle.zarrs_form.specs.Forms.{fits, fits_in, unless, put_rows}
-use Rattle.zarrs_meta.specs.GroupV3.{group_v3_names, group_v3_in, group_v3_rows, group_v3_tree, is_plain_group_v3, is_plain_group_v3_in}
+use Rattle.zarrs_meta.specs.GroupV3.{group_v3_names, group_v3_in, group_v3_rows, group_v3_tree, is_plain_group_v3_in}
 use Rattle.zarrs_fault.specs.declared.numbers.Numbers.{Numbers}
 use Rattle.zarrs_fault.specs.declared.numbers.Numbers.TheVariants.{Whole, Any}
 use Rattle.zarrs_meta.specs.declared.group_v3.GroupMetadataV3.{GroupMetadataV3}
@@ -38,13 +38,13 @@ PlainGroupV3 m =
     × (is_null (get_member (codes "consolidated_metadata") m.additional_fields) ≡ false)
 
 -- the test takes such a group apart
-pub plain_group_v3 : (m : GroupMetadataV3) → IsTrue (is_plain_group_v3 m) → PlainGroupV3 m
+pub plain_group_v3 : (m : GroupMetadataV3) → IsTrue (is_plain_group_v3_in Whole m) → PlainGroupV3 m
 plain_group_v3 m plain =
     let parts = plain_group_v3_in Whole m plain in
     (parts.0, not_true (members_have_float m.additional_fields) parts.1, parts.2, parts.3)
 
 -- every number that is written fits
-pub no_float-group_v3_tree : (m : GroupMetadataV3) → IsTrue (is_plain_group_v3 m) → has_float (group_v3_tree m) ≡ false
+pub no_float-group_v3_tree : (m : GroupMetadataV3) → IsTrue (is_plain_group_v3_in Whole m) → has_float (group_v3_tree m) ≡ false
 no_float-group_v3_tree m plain =
     let parts = plain_group_v3 m plain in
     no_float-put_rows (group_v3_rows m) m.additional_fields (refl, (refl, (attributes_no_float m.attributes parts.0, tt))) parts.1

@@ -7,7 +7,7 @@ use Rattle.zarrs_meta.specs.GroupV3.{group_v3_in}
 use Rattle.zarrs_meta.specs.GroupV2.{group_v2_in, is_plain_group_v2, is_plain_group_v2_in}
 use Rattle.zarrs_meta.specs.ArrayV3.{array_v3_in}
 use Rattle.zarrs_meta.specs.ArrayV2.{array_v2_in, is_plain_array_v2, is_plain_array_v2_in}
-use Rattle.zarrs_meta.specs.Attributes.{attributes_document_in, is_plain_attributes, is_plain_attributes_in}
+use Rattle.zarrs_meta.specs.Attributes.{attributes_document_in, is_plain_attributes_in}
 use Rattle.zarrs_meta.specs.ArrayV2 as array
 use Rattle.zarrs_meta.specs.GroupV2 as v2
 use Rattle.zarrs_form.specs.Forms.{fits_in}
@@ -113,7 +113,7 @@ group_with_is_plain_in numbers a m fine plain =
     both_true _ _ (both_true (fits_in numbers (object a.0)) (fits_in numbers (object m.additional_fields)) fine parts.1) free.1
 
 -- a plain version 2 group with plain attributes is plain
-pub group_with_is_plain : (a : AttributesDocument) (m : GroupMetadataV2) → IsTrue (is_plain_attributes a) → IsTrue (is_plain_group_v2 m) → IsTrue (is_plain_group_v2 (group_with a m))
+pub group_with_is_plain : (a : AttributesDocument) (m : GroupMetadataV2) → IsTrue (is_plain_attributes_in Whole a) → IsTrue (is_plain_group_v2 m) → IsTrue (is_plain_group_v2 (group_with a m))
 group_with_is_plain a m fine plain = group_with_is_plain_in Whole a m fine plain
 
 -- a version 2 array with attributes, both plain in these numbers, is plain in them
@@ -126,7 +126,7 @@ array_with_is_plain_in numbers a m fine plain =
     both_true _ _ (both_true _ _ (both_true _ (fits_in numbers (object a.0)) rest.0 fine) fields.1) free.1
 
 -- a plain version 2 array with plain attributes is plain
-pub array_with_is_plain : (a : AttributesDocument) (m : ArrayMetadataV2) → IsTrue (is_plain_attributes a) → IsTrue (is_plain_array_v2 m) → IsTrue (is_plain_array_v2 (array_with a m))
+pub array_with_is_plain : (a : AttributesDocument) (m : ArrayMetadataV2) → IsTrue (is_plain_attributes_in Whole a) → IsTrue (is_plain_array_v2 m) → IsTrue (is_plain_array_v2 (array_with a m))
 array_with_is_plain a m fine plain = array_with_is_plain_in Whole a m fine plain
 
 -- attributes that replace those of a plain group or array leave it plain

@@ -1,12 +1,12 @@
 -- Zarr specification version 2, "Arrays", "Metadata": the document `.zarray`.
 -- <https://zarr-specs.readthedocs.io/en/latest/v2/v2.0.html#arrays>
 -- <https://zarr-specs.readthedocs.io/en/latest/v2/v2.0.html#metadata>
-use Rattle.std.specs.Prelude.{ℕ, List, [], ◌∷◌, Bool, not, ◌&&◌, Option, Some, None, Result, Ok, codes}
+use Rattle.std.specs.Prelude.{ℕ, List, [], ◌∷◌, Bool, not, ◌&&◌, Option, Some, None, Result, Ok, codes, refl}
 use Rattle.std.specs.List.{list_all}
 use Rattle.serde_json.specs.Data.{Data, object, no_members}
 use Rattle.serde_json.specs.Find.{as_object}
-use Rattle.zarrs_form.specs.Documents.{◌>>=◌, document_in, format_of, required_member, optional_member, besides}
-use Rattle.zarrs_form.specs.Documents.{has_own, is_empty}
+use Rattle.zarrs_form.specs.Documents.{◌>>=◌, AsksFirst, document_in, format_of, required_member, optional_member}
+use Rattle.zarrs_form.specs.Documents.{besides, has_own, is_empty}
 use Rattle.zarrs_form.specs.Forms.{number_u64, any, list_of, nullable, number_data, list_data, nullable_data, none_or}
 use Rattle.zarrs_form.specs.Forms.{fits_in, unless, put_rows}
 use Rattle.zarrs_form.specs.FormsV2.{codec, codec_data, codec_fits_in, data_type, data_type_data, data_type_fits_in}
@@ -51,9 +51,10 @@ array_v2_in numbers d = do
     additional_fields = besides array_v2_names ms;
   })
 
--- the array that a version 2 document means where its numbers have to be whole, or its first fault
-abbrev pub array_v2_of : Data → Result ArrayMetadataV2 MetadataFault
-array_v2_of d = array_v2_in Whole d
+-- what is no object of such numbers has that fault
+pub array_v2_asks_first : AsksFirst array_v2_in
+unfolding array_v2_in
+array_v2_asks_first numbers d fault h = rw h refl
 
 -- ---- the written form
 

@@ -1,11 +1,12 @@
 -- Zarr core specification 3.1, "Array metadata": the document of a version 3 array.
 -- <https://zarr-specs.readthedocs.io/en/latest/v3/core/index.html#array-metadata>
 use Rattle.std.specs.Prelude.{ℕ, List, [], ◌∷◌, Bool, Option, Some, None, Result, Ok, codes, option_map, not, ◌&&◌}
+use Rattle.std.specs.Prelude.{refl}
 use Rattle.std.specs.List.{list_all}
 use Rattle.serde_json.specs.Data.{Data, string, object, no_members}
 use Rattle.serde_json.specs.Find.{as_object, as_str}
-use Rattle.zarrs_form.specs.Documents.{◌>>=◌, document_in, format_of, node_type_of, required_member, optional_member}
-use Rattle.zarrs_form.specs.Documents.{besides, has_own, is_empty}
+use Rattle.zarrs_form.specs.Documents.{◌>>=◌, AsksFirst, document_in, format_of, node_type_of, required_member}
+use Rattle.zarrs_form.specs.Documents.{optional_member, besides, has_own, is_empty}
 use Rattle.zarrs_form.specs.Forms.{number_u64, any, nullable, list_of, extension, number_data, list_data, nullable_data}
 use Rattle.zarrs_form.specs.Forms.{extension_data, extension_fits_in, fits_in, unless, is_nil, put_rows}
 use Rattle.zarrs_fault.specs.declared.fault.MetadataFault.{MetadataFault}
@@ -48,9 +49,10 @@ array_v3_in numbers d = do
     additional_fields = besides array_v3_names ms;
   })
 
--- the array that a version 3 document means where its numbers have to be whole, or its first fault
-abbrev pub array_v3_of : Data → Result ArrayMetadataV3 MetadataFault
-array_v3_of d = array_v3_in Whole d
+-- what is no object of such numbers has that fault
+pub array_v3_asks_first : AsksFirst array_v3_in
+unfolding array_v3_in
+array_v3_asks_first numbers d fault h = rw h refl
 
 -- ---- the written form
 

@@ -1,10 +1,10 @@
 -- Zarr specification version 2, "Groups": the document `.zgroup`.
 -- <https://zarr-specs.readthedocs.io/en/latest/v2/v2.0.html#groups>
-use Rattle.std.specs.Prelude.{ℕ, Bool, not, ◌&&◌, List, [], ◌∷◌, Option, Some, Result, Ok, codes}
+use Rattle.std.specs.Prelude.{ℕ, Bool, not, ◌&&◌, List, [], ◌∷◌, Option, Some, Result, Ok, codes, refl}
 use Rattle.serde_json.specs.Data.{Data, object, no_members}
 use Rattle.serde_json.specs.Find.{as_object}
-use Rattle.zarrs_form.specs.Documents.{◌>>=◌, document_in, format_of, no_member, optional_member, besides, has_own}
-use Rattle.zarrs_form.specs.Documents.{is_empty}
+use Rattle.zarrs_form.specs.Documents.{◌>>=◌, AsksFirst, document_in, format_of, no_member, optional_member, besides}
+use Rattle.zarrs_form.specs.Documents.{has_own, is_empty}
 use Rattle.zarrs_form.specs.Forms.{number_data, fits_in, unless, put_rows}
 use Rattle.zarrs_fault.specs.declared.fault.MetadataFault.{MetadataFault}
 use Rattle.zarrs_fault.specs.declared.numbers.Numbers.{Numbers}
@@ -24,9 +24,10 @@ group_v2_in numbers d = do
   attributes ← optional_member (codes "attributes") no_members as_object d
   Ok (record { attributes = attributes; additional_fields = besides group_v2_names ms })
 
--- the group that a version 2 document means where its numbers have to be whole, or its first fault
-abbrev pub group_v2_of : Data → Result GroupMetadataV2 MetadataFault
-group_v2_of d = group_v2_in Whole d
+-- what is no object of such numbers has that fault
+pub group_v2_asks_first : AsksFirst group_v2_in
+unfolding group_v2_in
+group_v2_asks_first numbers d fault h = rw h refl
 
 -- ---- the written form
 

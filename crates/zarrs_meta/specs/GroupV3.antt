@@ -1,10 +1,10 @@
 -- Zarr core specification 3.1, "Group metadata": the document of a version 3 group.
 -- <https://zarr-specs.readthedocs.io/en/latest/v3/core/index.html#group-metadata>
-use Rattle.std.specs.Prelude.{ℕ, Bool, not, ◌&&◌, if◌then◌else◌, List, [], ◌∷◌, Option, Some, Result, Ok, codes}
+use Rattle.std.specs.Prelude.{ℕ, Bool, not, ◌&&◌, if◌then◌else◌, List, [], ◌∷◌, Option, Some, Result, Ok, codes, refl}
 use Rattle.serde_json.specs.Data.{Data, string, object, no_members}
 use Rattle.serde_json.specs.Find.{get, get_member, as_object}
-use Rattle.zarrs_form.specs.Documents.{◌>>=◌, document_in, format_of, node_type_of, optional_member, besides, has_own}
-use Rattle.zarrs_form.specs.Documents.{is_null, is_empty}
+use Rattle.zarrs_form.specs.Documents.{◌>>=◌, AsksFirst, document_in, format_of, node_type_of, optional_member, besides}
+use Rattle.zarrs_form.specs.Documents.{has_own, is_null, is_empty}
 use Rattle.zarrs_form.specs.Forms.{number_data, fits_in, unless, put_rows}
 use Rattle.zarrs_fault.specs.declared.fault.MetadataFault.{MetadataFault}
 use Rattle.zarrs_fault.specs.declared.numbers.Numbers.{Numbers}
@@ -32,9 +32,10 @@ group_v3_in numbers d = do
   attributes ← optional_member (codes "attributes") no_members as_object d
   Ok (record { attributes = attributes; additional_fields = besides (read_names d) ms })
 
--- the group that a version 3 document means where its numbers have to be whole, or its first fault
-abbrev pub group_v3_of : Data → Result GroupMetadataV3 MetadataFault
-group_v3_of d = group_v3_in Whole d
+-- what is no object of such numbers has that fault
+pub group_v3_asks_first : AsksFirst group_v3_in
+unfolding group_v3_in
+group_v3_asks_first numbers d fault h = rw h refl
 
 -- ---- the written form
 
@@ -55,7 +56,3 @@ is_plain_group_v3_in numbers m =
     fits_in numbers (object m.attributes) && fits_in numbers (object m.additional_fields)
     && not (has_own group_v3_names m.additional_fields)
     && not (is_null (get_member (codes "consolidated_metadata") m.additional_fields))
-
--- a group could have come from a document whose numbers are whole
-abbrev pub is_plain_group_v3 : GroupMetadataV3 → Bool
-is_plain_group_v3 m = is_plain_group_v3_in Whole m

@@ -3,11 +3,11 @@
 -- <https://zarr-specs.readthedocs.io/en/latest/v3/core/index.html#metadata>
 -- <https://zarr-specs.readthedocs.io/en/latest/v2/v2.0.html#arrays>
 -- <https://zarr-specs.readthedocs.io/en/latest/v2/v2.0.html#groups>
-use Rattle.std.specs.Prelude.{ℕ, List, Bool, true, false, if◌then◌else◌, is_some, Result, Ok, Err, codes}
+use Rattle.std.specs.Prelude.{ℕ, List, Bool, true, false, if◌then◌else◌, is_some, Result, Ok, Err, codes, refl}
 use Rattle.std.specs.Result.{is_ok}
 use Rattle.serde_json.specs.Data.{Data, no_members}
 use Rattle.serde_json.specs.Find.{get}
-use Rattle.zarrs_form.specs.Documents.{◌>>=◌, document_in, format_of, node_type_of}
+use Rattle.zarrs_form.specs.Documents.{◌>>=◌, AsksFirst, document_in, format_of, node_type_of}
 use Rattle.zarrs_meta.specs.GroupV3.{group_v3_in, group_v3_tree, is_plain_group_v3_in}
 use Rattle.zarrs_meta.specs.GroupV2.{group_v2_in, group_v2_tree, is_plain_group_v2_in}
 use Rattle.zarrs_meta.specs.ArrayV3.{array_v3_in, array_v3_tree, is_plain_array_v3_in}
@@ -53,19 +53,21 @@ unfoldable pub node_in : Numbers → Data → Result NodeMetadata MetadataFault
 node_in numbers d = document_in numbers d >>= λ _.
     if has_format 3 d then node_v3_in numbers d else (if has_format 2 d then node_v2_in numbers d else Err WrongFormat)
 
--- the group or array that a document of either version means where its numbers have to be whole, or its first fault
-abbrev pub node_of : Data → Result NodeMetadata MetadataFault
-node_of d = node_in Whole d
-
 -- what a document at the key `zarr.json` means where it may hold these numbers: format 2 is told at once, all else is
 -- a node document
 unfoldable pub zarr_json_in : Numbers → Data → Result ZarrJson MetadataFault
 zarr_json_in numbers d = document_in numbers d >>= λ _.
     if has_format 2 d then Ok Version2 else node_in numbers d >>= (λ m. Ok (Node m))
 
--- what a document at the key `zarr.json` means where its numbers have to be whole
-abbrev pub zarr_json_of : Data → Result ZarrJson MetadataFault
-zarr_json_of d = zarr_json_in Whole d
+-- what is no object of such numbers has that fault
+pub node_asks_first : AsksFirst node_in
+unfolding node_in
+node_asks_first numbers d fault h = rw h refl
+
+-- what is no object of such numbers has that fault
+pub zarr_json_asks_first : AsksFirst zarr_json_in
+unfolding zarr_json_in
+zarr_json_asks_first numbers d fault h = rw h refl
 
 -- ---- the written form
 

@@ -3,20 +3,20 @@ ghost use Rattle.std.specs.Prelude.{◌≡◌, ◌++◌, [], ◌∷◌, false, O
 ghost use Rattle.serde_json.specs.Data.{object, no_members};
 ghost use Rattle.serde_json.specs.View.{view, members_view};
 ghost use Rattle.serde_json.specs.Written.{compact_text, has_float};
-ghost use Rattle.zarrs_form.specs.Documents.{Gives, besides, document_in, document_of, format_of, of_bytes};
+ghost use Rattle.zarrs_form.specs.Documents.{Gives, besides, format_of};
 ghost use Rattle.zarrs_form.specs.Forms.{put_rows};
 ghost use Rattle.zarrs_form.specs.Layouts.{text_in};
-ghost use Rattle.zarrs_meta.specs.ArrayV2.{array_v2_in, array_v2_of, array_v2_rows, array_v2_tree, is_plain_array_v2};
+ghost use Rattle.zarrs_meta.specs.ArrayV2.{array_v2_asks_first, array_v2_in, array_v2_rows, array_v2_tree, is_plain_array_v2};
 ghost use Rattle.zarrs_meta.specs.StepsOfReading.{array_v2_taken};
 
+use crate::document::Document;
 use serde_json::{Map, Value, put};
 use std::alloc::{AllocError, Global};
 use zarrs_fault::{MetadataFault, Numbers};
 use zarrs_form::{
     ArrayMetadataV2Order, ChunkKeySeparator, DataTypeMetadataV2, FillValueMetadata, Form, Layout,
-    List, MetadataV2, Object, Text, attributes, chunk_lengths, document_copy_in, document_in,
-    has_zero, optional, parse, put_member, put_unless, required, take_member, write_last,
-    write_row, write_unless, write_value,
+    List, MetadataV2, Object, Text, attributes, chunk_lengths, has_zero, optional, put_member,
+    put_unless, required, take_member, write_last, write_row, write_unless, write_value,
 };
 
 /// The metadata of a version 2 array.
@@ -62,83 +62,6 @@ const OWN_NAMES: &[&str] = &[
 ];
 
 impl ArrayMetadataV2 {
-    /// The array that a JSON value is.
-    ///
-    /// # Errors
-    ///
-    /// The first that applies: `UnsupportedNumber` where some number is neither `u64` nor `i64`,
-    /// `NotAnObject`, `WrongFormat` where `zarr_format` is not 2, `MissingMember` or `BadMember` of the
-    /// first member of the table that is absent or of another form. `OutOfMemory` where there is no
-    /// memory.
-    ///
-    /// Source: Zarr specification version 2, "Arrays".
-    pub fn from_value(alloc: Global, value: &Value) -> Result<ArrayMetadataV2, MetadataFault>
-        ensures { Gives (λ m. m) result (array_v2_of (view value.now)) }
-    {
-        ArrayMetadataV2::from_value_in(alloc, Numbers::Whole, value)
-    }
-
-    /// The array that a JSON value is, where it may hold these numbers.
-    ///
-    /// # Errors
-    ///
-    /// As [`ArrayMetadataV2::from_value`], except that `UnsupportedNumber` comes only where the numbers are `Whole`. Where they are
-    /// `Any`, a fraction in the place of a length or a text is the fault of that member.
-    ///
-    /// Source: own; Zarr specification version 2, "Arrays".
-    #[tactic(auto, unfolding(crate::specs::ArrayV2::array_v2_in))]
-    pub fn from_value_in(
-        alloc: Global,
-        numbers: Numbers,
-        value: &Value,
-    ) -> Result<ArrayMetadataV2, MetadataFault>
-        ensures { Gives (λ m. m) result (array_v2_in numbers (view value.now)) }
-    {
-        ArrayMetadataV2::from_members_in(alloc, numbers, document_copy_in(numbers, value)?)
-    }
-
-    /// The array that the members of a document are, which has been asked for its numbers: none of them is asked again.
-    ///
-    /// # Errors
-    ///
-    /// `WrongFormat` where `zarr_format` is not 2, then `MissingMember` or `BadMember` of the first member of the table that
-    /// is absent or of another form. `OutOfMemory` where there is no memory.
-    ///
-    /// Source: Zarr specification version 2, "Arrays".
-    pub fn from_members(
-        alloc: Global,
-        members: Map<String, Value>,
-    ) -> Result<ArrayMetadataV2, MetadataFault>
-        requires { document_of (object (members_view members.entries))
-            ≡ Ok (members_view members.entries) }
-        ensures { Gives (λ m. m) result (array_v2_of (object (members_view members.entries))) }
-    {
-        ArrayMetadataV2::from_members_in(alloc, Numbers::Whole, members)
-    }
-
-    /// The array that the members of a document are, which has been asked whether its numbers are among these: none of
-    /// them is asked again.
-    ///
-    /// # Errors
-    ///
-    /// As [`ArrayMetadataV2::from_members`].
-    ///
-    /// Source: own; Zarr specification version 2, "Arrays".
-    #[tactic(auto, using(crate::proofs::TakenLaws::array_v2_taken_is), unfolding(crate::specs::ArrayV2::array_v2_in))]
-    pub fn from_members_in(
-        alloc: Global,
-        numbers: Numbers,
-        mut members: Map<String, Value>,
-    ) -> Result<ArrayMetadataV2, MetadataFault>
-        requires { document_in numbers (object (members_view members.entries))
-            ≡ Ok (members_view members.entries) }
-        ensures { Gives (λ m. m) result
-            (array_v2_in numbers (object (members_view members.entries))) }
-    {
-        take_format(&mut members)?;
-        ArrayMetadataV2::take(alloc, members)
-    }
-
     /// The array that the members of a document are, once its format was asked and taken.
     fn take(alloc: Global, members: Map<String, Value>) -> Result<ArrayMetadataV2, MetadataFault>
         ensures { Gives (λ m. m) result (array_v2_taken (members_view members.entries)) }
@@ -181,72 +104,6 @@ impl ArrayMetadataV2 {
         self.attributes = attributes(alloc, &mut members)?;
         self.additional_fields = Object::from_map(alloc, members)?;
         Ok(())
-    }
-
-    /// The array that a JSON value is, whose parts it takes over.
-    ///
-    /// # Errors
-    ///
-    /// As [`ArrayMetadataV2::from_value`].
-    ///
-    /// Source: Zarr specification version 2, "Arrays".
-    pub fn from_owned_value(alloc: Global, value: Value) -> Result<ArrayMetadataV2, MetadataFault>
-        ensures { Gives (λ m. m) result (array_v2_of (view value)) }
-    {
-        ArrayMetadataV2::from_owned_value_in(alloc, Numbers::Whole, value)
-    }
-
-    /// The array that a JSON value is, whose parts it takes over, where the value may hold these numbers.
-    ///
-    /// # Errors
-    ///
-    /// As [`ArrayMetadataV2::from_value_in`].
-    ///
-    /// Source: own; Zarr specification version 2, "Arrays".
-    #[tactic(auto, unfolding(crate::specs::ArrayV2::array_v2_in))]
-    pub fn from_owned_value_in(
-        alloc: Global,
-        numbers: Numbers,
-        value: Value,
-    ) -> Result<ArrayMetadataV2, MetadataFault>
-        ensures { Gives (λ m. m) result (array_v2_in numbers (view value)) }
-    {
-        ArrayMetadataV2::from_members_in(alloc, numbers, document_in(numbers, value)?)
-    }
-
-    /// The array that the bytes of a document are.
-    ///
-    /// # Errors
-    ///
-    /// `NotJson` where the bytes are no JSON text, else as [`ArrayMetadataV2::from_value`].
-    ///
-    /// Source: Zarr specification version 2, "Arrays".
-    pub fn from_bytes(alloc: Global, bytes: &[u8]) -> Result<ArrayMetadataV2, MetadataFault>
-        ensures { Gives (λ m. m) result (of_bytes array_v2_of bytes.now) }
-    {
-        ArrayMetadataV2::from_bytes_in(alloc, Numbers::Whole, bytes)
-    }
-
-    /// The array that the bytes of a document are, where it may hold these numbers.
-    ///
-    /// # Errors
-    ///
-    /// `NotJson` where the bytes are no JSON text, else as [`ArrayMetadataV2::from_value_in`].
-    ///
-    /// Source: own; Zarr specification version 2, "Arrays".
-    #[tactic(auto, unfolding(crate::specs::ArrayV2::array_v2_in))]
-    pub fn from_bytes_in(
-        alloc: Global,
-        numbers: Numbers,
-        bytes: &[u8],
-    ) -> Result<ArrayMetadataV2, MetadataFault>
-        ensures { Gives (λ m. m) result (of_bytes (array_v2_in numbers) bytes.now) }
-    {
-        ArrayMetadataV2::from_members_in(
-            alloc,
-            numbers,
-            document_in(numbers, parse(alloc, bytes)?)?,
-        )
     }
 
     /// The written form of the array: the members of the table and the additional fields.
@@ -349,6 +206,28 @@ impl ArrayMetadataV2 {
             && !self.additional_fields.has_float()
             && !self.additional_fields.has_own_member(OWN_NAMES)
     }
+}
+
+impl Document for ArrayMetadataV2 {
+    ghost meaning = { array_v2_in };
+
+    /// `WrongFormat` where `zarr_format` is not 2, then `MissingMember` or `BadMember` of the first member of the table that is absent or
+    /// of another form.
+    #[tactic(auto, using(crate::proofs::TakenLaws::array_v2_taken_is), unfolding(crate::specs::ArrayV2::array_v2_in))]
+    fn from_members_in(
+        alloc: Global,
+        numbers: Numbers,
+        mut members: Map<String, Value>,
+    ) -> Result<ArrayMetadataV2, MetadataFault> {
+        take_format(&mut members)?;
+        ArrayMetadataV2::take(alloc, members)
+    }
+
+    fn try_clone(&self, alloc: Global) -> Result<ArrayMetadataV2, AllocError> {
+        ArrayMetadataV2::try_clone(self, alloc)
+    }
+
+    ghost asks_first = { array_v2_asks_first };
 }
 
 /// Takes the member `zarr_format`, which has to be 2: it is looked for once.

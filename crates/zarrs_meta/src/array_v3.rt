@@ -3,21 +3,21 @@ ghost use Rattle.std.specs.Prelude.{◌≡◌, ◌++◌, false, Ok, IfOk, OnOk, 
 ghost use Rattle.serde_json.specs.Data.{object, no_members};
 ghost use Rattle.serde_json.specs.View.{view, members_view};
 ghost use Rattle.serde_json.specs.Written.{compact_text, has_float};
-ghost use Rattle.zarrs_form.specs.Documents.{Gives, document_in, of_bytes};
+ghost use Rattle.zarrs_form.specs.Documents.{Gives};
 ghost use Rattle.zarrs_form.specs.Forms.{put_rows};
 ghost use Rattle.zarrs_form.specs.Layouts.{text_in};
-ghost use Rattle.zarrs_meta.specs.ArrayV3.{array_v3_in, array_v3_of, array_v3_rows, array_v3_tree, is_plain_array_v3};
+ghost use Rattle.zarrs_meta.specs.ArrayV3.{array_v3_asks_first, array_v3_in, array_v3_rows, array_v3_tree, is_plain_array_v3};
 ghost use Rattle.zarrs_meta.specs.MadeArray.{default_encoding, made_array};
 ghost use Rattle.zarrs_meta.specs.StepsOfReading.{array_v3_taken};
 
+use crate::document::Document;
 use serde_json::{Map, Value, put};
 use std::alloc::{AllocError, Global};
 use zarrs_fault::{MetadataFault, Numbers};
 use zarrs_form::{
     AdditionalFieldsV3, ChunkKeySeparator, FillValueMetadata, Form, Layout, List, MetadataV3,
-    Object, Text, ask_format, ask_node_type, attributes, document_copy_in, document_in, fields_of,
-    optional, parse, put_member, put_text, put_unless, required, write_last, write_row,
-    write_unless, write_value,
+    Object, Text, ask_format, ask_node_type, attributes, fields_of, optional, put_member, put_text,
+    put_unless, required, write_last, write_row, write_unless, write_value,
 };
 
 /// The metadata of a version 3 array.
@@ -117,58 +117,6 @@ impl ArrayMetadataV3 {
         self
     }
 
-    /// The array that a JSON value is.
-    ///
-    /// # Errors
-    ///
-    /// The first that applies: `UnsupportedNumber` where some number is neither `u64` nor `i64`,
-    /// `NotAnObject`, `WrongFormat` where `zarr_format` is not 3, `WrongNodeType` where `node_type` is
-    /// not `array`, `MissingMember` or `BadMember` of the first member of the table that is absent or of
-    /// another form. `OutOfMemory` where there is no memory.
-    ///
-    /// Source: Zarr core specification 3.1, "Array metadata".
-    pub fn from_value(alloc: Global, value: &Value) -> Result<ArrayMetadataV3, MetadataFault>
-        ensures { Gives (λ m. m) result (array_v3_of (view value.now)) }
-    {
-        ArrayMetadataV3::from_value_in(alloc, Numbers::Whole, value)
-    }
-
-    /// The array that a JSON value is, where it may hold these numbers.
-    ///
-    /// # Errors
-    ///
-    /// As [`ArrayMetadataV3::from_value`], except that `UnsupportedNumber` comes only where the numbers are `Whole`. Where they are
-    /// `Any`, a fraction in the place of a length, a text or a flag is the fault of that member.
-    ///
-    /// Source: own; Zarr core specification 3.1, "Array metadata".
-    #[tactic(auto, unfolding(crate::specs::ArrayV3::array_v3_in))]
-    pub fn from_value_in(
-        alloc: Global,
-        numbers: Numbers,
-        value: &Value,
-    ) -> Result<ArrayMetadataV3, MetadataFault>
-        ensures { Gives (λ m. m) result (array_v3_in numbers (view value.now)) }
-    {
-        ArrayMetadataV3::from_members_in(alloc, numbers, document_copy_in(numbers, value)?)
-    }
-
-    /// The array that the members of a document are, which has been asked for its numbers.
-    #[tactic(auto, using(crate::proofs::TakenLaws::array_v3_taken_is), unfolding(crate::specs::ArrayV3::array_v3_in))]
-    pub(crate) fn from_members_in(
-        alloc: Global,
-        numbers: Numbers,
-        members: Map<String, Value>,
-    ) -> Result<ArrayMetadataV3, MetadataFault>
-        requires { document_in numbers (object (members_view members.entries))
-            ≡ Ok (members_view members.entries) }
-        ensures { Gives (λ m. m) result
-            (array_v3_in numbers (object (members_view members.entries))) }
-    {
-        ask_format(&members, 3)?;
-        ask_node_type(&members, "array")?;
-        ArrayMetadataV3::take(alloc, members)
-    }
-
     /// The array that the members of a document are, once its format and its node type were asked.
     pub(crate) fn take(
         alloc: Global,
@@ -214,41 +162,6 @@ impl ArrayMetadataV3 {
         self.dimension_names = optional(alloc, &mut members, "dimension_names", None)?;
         self.additional_fields = fields_of(alloc, members, &["zarr_format", "node_type"])?;
         Ok(())
-    }
-
-    /// The array that the bytes of a document are.
-    ///
-    /// # Errors
-    ///
-    /// `NotJson` where the bytes are no JSON text, else as [`ArrayMetadataV3::from_value`].
-    ///
-    /// Source: Zarr core specification 3.1, "Array metadata".
-    pub fn from_bytes(alloc: Global, bytes: &[u8]) -> Result<ArrayMetadataV3, MetadataFault>
-        ensures { Gives (λ m. m) result (of_bytes array_v3_of bytes.now) }
-    {
-        ArrayMetadataV3::from_bytes_in(alloc, Numbers::Whole, bytes)
-    }
-
-    /// The array that the bytes of a document are, where it may hold these numbers.
-    ///
-    /// # Errors
-    ///
-    /// `NotJson` where the bytes are no JSON text, else as [`ArrayMetadataV3::from_value_in`].
-    ///
-    /// Source: own; Zarr core specification 3.1, "Array metadata".
-    #[tactic(auto, unfolding(crate::specs::ArrayV3::array_v3_in))]
-    pub fn from_bytes_in(
-        alloc: Global,
-        numbers: Numbers,
-        bytes: &[u8],
-    ) -> Result<ArrayMetadataV3, MetadataFault>
-        ensures { Gives (λ m. m) result (of_bytes (array_v3_in numbers) bytes.now) }
-    {
-        ArrayMetadataV3::from_members_in(
-            alloc,
-            numbers,
-            document_in(numbers, parse(alloc, bytes)?)?,
-        )
     }
 
     /// The written form of the array: the members of the table and the additional fields.
@@ -369,6 +282,29 @@ impl ArrayMetadataV3 {
             && !self.additional_fields.has_float()
             && !self.additional_fields.has_own_name(OWN_NAMES)
     }
+}
+
+impl Document for ArrayMetadataV3 {
+    ghost meaning = { array_v3_in };
+
+    /// `WrongFormat` where `zarr_format` is not 3, `WrongNodeType` where `node_type` is not `array`, then `MissingMember` or `BadMember`
+    /// of the first member of the table that is absent or of another form.
+    #[tactic(auto, using(crate::proofs::TakenLaws::array_v3_taken_is), unfolding(crate::specs::ArrayV3::array_v3_in))]
+    fn from_members_in(
+        alloc: Global,
+        numbers: Numbers,
+        members: Map<String, Value>,
+    ) -> Result<ArrayMetadataV3, MetadataFault> {
+        ask_format(&members, 3)?;
+        ask_node_type(&members, "array")?;
+        ArrayMetadataV3::take(alloc, members)
+    }
+
+    fn try_clone(&self, alloc: Global) -> Result<ArrayMetadataV3, AllocError> {
+        ArrayMetadataV3::try_clone(self, alloc)
+    }
+
+    ghost asks_first = { array_v3_asks_first };
 }
 
 /// The encoding `default` of the keys of chunks, with slashes.

@@ -1,48 +1,42 @@
-//! What the documents at the keys of a store have in common.
-ghost use Rattle.std.specs.Prelude.{◌≡◌, ℕ, List, Result, IfOk};
-ghost use Rattle.zarrs_form.specs.Documents.{Gives, of_bytes};
-ghost use Rattle.zarrs_meta.specs.ArrayV2.{array_v2_in};
-ghost use Rattle.zarrs_meta.specs.GroupV2.{group_v2_in};
-ghost use Rattle.zarrs_meta.specs.GroupV3.{group_v3_in};
-ghost use Rattle.zarrs_meta.specs.Attributes.{attributes_document_in};
-ghost use Rattle.zarrs_meta.specs.Node.{zarr_json_in};
+//! What the documents of a store have in common: how they are read.
+ghost use Rattle.std.specs.Prelude.{◌≡◌, Result, Ok, IfOk};
+ghost use Rattle.serde_json.specs.Data.{Data, object};
+ghost use Rattle.serde_json.specs.View.{view, members_view};
+ghost use Rattle.zarrs_form.specs.Documents.{AsksFirst, Gives, document_in, of_bytes};
 ghost use Rattle.zarrs_fault.specs.declared.fault.MetadataFault.{MetadataFault};
 ghost use Rattle.zarrs_fault.specs.declared.numbers.Numbers.{Numbers};
 ghost use Rattle.zarrs_fault.specs.declared.numbers.Numbers.TheVariants.{Whole};
 
-use crate::array_v2::ArrayMetadataV2;
-use crate::attributes::AttributesDocument;
-use crate::group_v2::GroupMetadataV2;
-use crate::group_v3::GroupMetadataV3;
-use crate::node::ZarrJson;
+use serde_json::{Map, Value};
 use std::alloc::{AllocError, Global};
 use zarrs_fault::{MetadataFault, Numbers};
+use zarrs_form::{document_copy_in, document_in, parse};
 
-/// A kind of document that a store holds at a key.
+/// A kind of document that a store holds at a key. Each is read in one way: its bytes are JSON text, its value is an object whose
+/// numbers are those that may stand there, and the rest its own table says.
 ///
 /// <https://zarr-specs.readthedocs.io/en/latest/v3/core/index.html#metadata>
+/// <https://zarr-specs.readthedocs.io/en/latest/v2/v2.0.html#metadata>
 pub trait Document: Sized {
-    /// What bytes are read as where the document may hold these numbers: the document, or the first fault.
-    ghost reading: { Numbers → List ℕ → Result Self MetadataFault };
+    /// What a JSON value means where the document may hold these numbers: the document, or the first fault.
+    ghost meaning: { Numbers → Data → Result Self MetadataFault };
 
-    /// The document that the bytes are, where its numbers have to be whole.
+    /// The document that these members are, which have been asked whether their numbers are among these: none of them is asked again.
     ///
     /// # Errors
     ///
-    /// The first fault of the document; `OutOfMemory` where there is no memory.
-    fn read(alloc: Global, bytes: &[u8]) -> Result<Self, MetadataFault>
-        ensures { Gives (λ d. d) result (reading Whole bytes.now) }
-    {
-        Self::read_in(alloc, Numbers::Whole, bytes)
-    }
-
-    /// The document that the bytes are, where it may hold these numbers.
+    /// As [`Document::from_value`], but neither `UnsupportedNumber` nor `NotAnObject`.
     ///
-    /// # Errors
-    ///
-    /// As [`Document::read`], except that `UnsupportedNumber` comes only where the numbers are `Whole`.
-    fn read_in(alloc: Global, numbers: Numbers, bytes: &[u8]) -> Result<Self, MetadataFault>
-        ensures { Gives (λ d. d) result (reading numbers bytes.now) };
+    /// Source: own; Zarr core specification 3.1, "Metadata documents"; specification version 2, "Metadata".
+    fn from_members_in(
+        alloc: Global,
+        numbers: Numbers,
+        members: Map<String, Value>,
+    ) -> Result<Self, MetadataFault>
+        requires { document_in numbers (object (members_view members.entries))
+            ≡ Ok (members_view members.entries) }
+        ensures { Gives (λ d. d) result
+            (meaning numbers (object (members_view members.entries))) };
 
     /// A copy that equals its source.
     ///
@@ -51,83 +45,115 @@ pub trait Document: Sized {
     /// `AllocError` where there is no memory for the copy.
     fn try_clone(&self, alloc: Global) -> Result<Self, AllocError>
         ensures { IfOk result (λ copy. copy ≡ self.now) };
-}
 
-impl Document for ZarrJson {
-    ghost reading = { λ numbers. of_bytes (zarr_json_in numbers) };
+    /// What is no object of such numbers has that fault.
+    ghost asks_first: { AsksFirst meaning };
 
-    fn read_in(alloc: Global, numbers: Numbers, bytes: &[u8]) -> Result<ZarrJson, MetadataFault> {
-        ZarrJson::from_bytes_in(alloc, numbers, bytes)
+    /// The document that these members are, which have been asked for their numbers: none of them is asked again.
+    ///
+    /// # Errors
+    ///
+    /// As [`Document::from_members_in`].
+    ///
+    /// Source: Zarr core specification 3.1, "Metadata documents"; specification version 2, "Metadata".
+    final fn from_members(alloc: Global, members: Map<String, Value>) -> Result<Self, MetadataFault>
+        requires { document_in Whole (object (members_view members.entries))
+            ≡ Ok (members_view members.entries) }
+        ensures { Gives (λ d. d) result (meaning Whole (object (members_view members.entries))) }
+    {
+        Self::from_members_in(alloc, Numbers::Whole, members)
     }
 
-    fn try_clone(&self, alloc: Global) -> Result<ZarrJson, AllocError> {
-        match self {
-            ZarrJson::Node(metadata) => Ok(ZarrJson::Node(metadata.try_clone(alloc)?)),
-            ZarrJson::Version2 => Ok(ZarrJson::Version2),
-        }
+    /// The document that a JSON value is.
+    ///
+    /// # Errors
+    ///
+    /// The first that applies: `UnsupportedNumber` where some number is neither `u64` nor `i64`, `NotAnObject`, `WrongFormat` where
+    /// `zarr_format` is not the document's, `WrongNodeType` where `node_type` is not, `MissingMember` or `BadMember` of the first member
+    /// of the document's table that is absent or of another form. `OutOfMemory` where there is no memory.
+    ///
+    /// Source: Zarr core specification 3.1, "Metadata documents"; specification version 2, "Metadata".
+    final fn from_value(alloc: Global, value: &Value) -> Result<Self, MetadataFault>
+        ensures { Gives (λ d. d) result (meaning Whole (view value.now)) }
+    {
+        Self::from_value_in(alloc, Numbers::Whole, value)
     }
-}
 
-impl Document for ArrayMetadataV2 {
-    ghost reading = { λ numbers. of_bytes (array_v2_in numbers) };
+    /// The document that a JSON value is, where it may hold these numbers.
+    ///
+    /// # Errors
+    ///
+    /// As [`Document::from_value`], except that `UnsupportedNumber` comes only where the numbers are `Whole`. Where they are `Any`, a
+    /// fraction in the place of a length, a text or a flag is the fault of that member.
+    ///
+    /// Source: own; Zarr core specification 3.1, "Metadata documents"; specification version 2, "Metadata".
+    final fn from_value_in(
+        alloc: Global,
+        numbers: Numbers,
+        value: &Value,
+    ) -> Result<Self, MetadataFault>
+        ensures { Gives (λ d. d) result (meaning numbers (view value.now)) }
+    {
+        Self::from_members_in(alloc, numbers, document_copy_in(numbers, value)?)
+    }
 
-    fn read_in(
+    /// The document that a JSON value is, whose parts it takes over.
+    ///
+    /// # Errors
+    ///
+    /// As [`Document::from_value`].
+    ///
+    /// Source: Zarr core specification 3.1, "Metadata documents"; specification version 2, "Metadata".
+    final fn from_owned_value(alloc: Global, value: Value) -> Result<Self, MetadataFault>
+        ensures { Gives (λ d. d) result (meaning Whole (view value)) }
+    {
+        Self::from_owned_value_in(alloc, Numbers::Whole, value)
+    }
+
+    /// The document that a JSON value is, whose parts it takes over, where the value may hold these numbers.
+    ///
+    /// # Errors
+    ///
+    /// As [`Document::from_value_in`].
+    ///
+    /// Source: own; Zarr core specification 3.1, "Metadata documents"; specification version 2, "Metadata".
+    final fn from_owned_value_in(
+        alloc: Global,
+        numbers: Numbers,
+        value: Value,
+    ) -> Result<Self, MetadataFault>
+        ensures { Gives (λ d. d) result (meaning numbers (view value)) }
+    {
+        Self::from_members_in(alloc, numbers, document_in(numbers, value)?)
+    }
+
+    /// The document that the bytes are.
+    ///
+    /// # Errors
+    ///
+    /// `NotJson` where the bytes are no JSON text, else as [`Document::from_value`].
+    ///
+    /// Source: Zarr core specification 3.1, "Metadata documents"; specification version 2, "Metadata".
+    final fn from_bytes(alloc: Global, bytes: &[u8]) -> Result<Self, MetadataFault>
+        ensures { Gives (λ d. d) result (of_bytes (meaning Whole) bytes.now) }
+    {
+        Self::from_bytes_in(alloc, Numbers::Whole, bytes)
+    }
+
+    /// The document that the bytes are, where it may hold these numbers.
+    ///
+    /// # Errors
+    ///
+    /// `NotJson` where the bytes are no JSON text, else as [`Document::from_value_in`].
+    ///
+    /// Source: own; Zarr core specification 3.1, "Metadata documents"; specification version 2, "Metadata".
+    final fn from_bytes_in(
         alloc: Global,
         numbers: Numbers,
         bytes: &[u8],
-    ) -> Result<ArrayMetadataV2, MetadataFault> {
-        ArrayMetadataV2::from_bytes_in(alloc, numbers, bytes)
-    }
-
-    fn try_clone(&self, alloc: Global) -> Result<ArrayMetadataV2, AllocError> {
-        ArrayMetadataV2::try_clone(self, alloc)
-    }
-}
-
-impl Document for GroupMetadataV2 {
-    ghost reading = { λ numbers. of_bytes (group_v2_in numbers) };
-
-    fn read_in(
-        alloc: Global,
-        numbers: Numbers,
-        bytes: &[u8],
-    ) -> Result<GroupMetadataV2, MetadataFault> {
-        GroupMetadataV2::from_bytes_in(alloc, numbers, bytes)
-    }
-
-    fn try_clone(&self, alloc: Global) -> Result<GroupMetadataV2, AllocError> {
-        GroupMetadataV2::try_clone(self, alloc)
-    }
-}
-
-impl Document for GroupMetadataV3 {
-    ghost reading = { λ numbers. of_bytes (group_v3_in numbers) };
-
-    fn read_in(
-        alloc: Global,
-        numbers: Numbers,
-        bytes: &[u8],
-    ) -> Result<GroupMetadataV3, MetadataFault> {
-        GroupMetadataV3::from_bytes_in(alloc, numbers, bytes)
-    }
-
-    fn try_clone(&self, alloc: Global) -> Result<GroupMetadataV3, AllocError> {
-        GroupMetadataV3::try_clone(self, alloc)
-    }
-}
-
-impl Document for AttributesDocument {
-    ghost reading = { λ numbers. of_bytes (attributes_document_in numbers) };
-
-    fn read_in(
-        alloc: Global,
-        numbers: Numbers,
-        bytes: &[u8],
-    ) -> Result<AttributesDocument, MetadataFault> {
-        AttributesDocument::from_bytes_in(alloc, numbers, bytes)
-    }
-
-    fn try_clone(&self, alloc: Global) -> Result<AttributesDocument, AllocError> {
-        AttributesDocument::try_clone(self, alloc)
+    ) -> Result<Self, MetadataFault>
+        ensures { Gives (λ d. d) result (of_bytes (meaning numbers) bytes.now) }
+    {
+        Self::from_owned_value_in(alloc, numbers, parse(alloc, bytes)?)
     }
 }

@@ -3,18 +3,19 @@ ghost use Rattle.std.specs.Prelude.{◌≡◌, ◌++◌, false, Ok, IfOk, OnOk, 
 ghost use Rattle.serde_json.specs.Data.{object, no_members};
 ghost use Rattle.serde_json.specs.View.{view, members_view};
 ghost use Rattle.serde_json.specs.Written.{compact_text, has_float};
-ghost use Rattle.zarrs_form.specs.Documents.{Gives, document_in, document_of, of_bytes};
-ghost use Rattle.zarrs_meta.specs.GroupV2.{group_v2_in, group_v2_of, group_v2_rows, group_v2_tree, is_plain_group_v2};
+ghost use Rattle.zarrs_form.specs.Documents.{Gives};
+ghost use Rattle.zarrs_meta.specs.GroupV2.{group_v2_asks_first, group_v2_in, group_v2_rows, group_v2_tree, is_plain_group_v2};
 ghost use Rattle.zarrs_form.specs.Forms.{put_rows};
 ghost use Rattle.zarrs_form.specs.Layouts.{text_in};
 ghost use Rattle.zarrs_meta.specs.StepsOfReading.{group_v2_taken};
 
+use crate::document::Document;
 use serde_json::{Map, Value, put};
 use std::alloc::{AllocError, Global};
 use zarrs_fault::{MetadataFault, Numbers};
 use zarrs_form::{
-    Layout, Object, ask_format, attributes, document_copy_in, document_in, parse, put_unless,
-    refuse, take_member, write_last, write_unless, write_value,
+    Layout, Object, ask_format, attributes, put_unless, refuse, take_member, write_last,
+    write_unless, write_value,
 };
 
 /// The metadata of a version 2 group.
@@ -45,85 +46,6 @@ impl GroupMetadataV2 {
         }
     }
 
-    /// The group that a JSON value is.
-    ///
-    /// # Errors
-    ///
-    /// The first that applies: `UnsupportedNumber` where some number is neither `u64` nor `i64`,
-    /// `NotAnObject`, `WrongFormat` where `zarr_format` is not 2, `BadMember` of `shape` where there is
-    /// one, or of `attributes` where it is no object. `OutOfMemory` where there is no memory.
-    ///
-    /// Source: Zarr specification version 2, "Groups".
-    pub fn from_value(alloc: Global, value: &Value) -> Result<GroupMetadataV2, MetadataFault>
-        ensures { Gives (λ m. m) result (group_v2_of (view value.now)) }
-    {
-        GroupMetadataV2::from_value_in(alloc, Numbers::Whole, value)
-    }
-
-    /// The group that a JSON value is, where it may hold these numbers.
-    ///
-    /// # Errors
-    ///
-    /// As [`GroupMetadataV2::from_value`], except that `UnsupportedNumber` comes only where the numbers are `Whole`. Where they are
-    /// `Any`, a fraction in the place of the format is the fault of that member.
-    ///
-    /// Source: own; Zarr specification version 2, "Groups".
-    #[tactic(auto, unfolding(crate::specs::GroupV2::group_v2_in))]
-    pub fn from_value_in(
-        alloc: Global,
-        numbers: Numbers,
-        value: &Value,
-    ) -> Result<GroupMetadataV2, MetadataFault>
-        ensures { Gives (λ m. m) result (group_v2_in numbers (view value.now)) }
-    {
-        GroupMetadataV2::from_members_in(alloc, numbers, document_copy_in(numbers, value)?)
-    }
-
-    /// The group that the members of a document are, which has been asked for its numbers: none of them is asked again.
-    ///
-    /// # Errors
-    ///
-    /// `WrongFormat` where `zarr_format` is not 2, `BadMember` of `shape` where there is one, or of `attributes` where it is no
-    /// object. `OutOfMemory` where there is no memory.
-    ///
-    /// Source: Zarr specification version 2, "Groups".
-    pub fn from_members(
-        alloc: Global,
-        members: Map<String, Value>,
-    ) -> Result<GroupMetadataV2, MetadataFault>
-        requires { document_of (object (members_view members.entries))
-            ≡ Ok (members_view members.entries) }
-        ensures { Gives (λ m. m) result (group_v2_of (object (members_view members.entries))) }
-    {
-        GroupMetadataV2::from_members_in(alloc, Numbers::Whole, members)
-    }
-
-    /// The group that the members of a document are, which has been asked whether its numbers are among these: none of
-    /// them is asked again.
-    ///
-    /// # Errors
-    ///
-    /// As [`GroupMetadataV2::from_members`].
-    ///
-    /// Source: own; Zarr specification version 2, "Groups".
-    #[tactic(auto, using(crate::proofs::TakenLaws::group_v2_taken_is), unfolding(crate::specs::GroupV2::group_v2_in))]
-    pub fn from_members_in(
-        alloc: Global,
-        numbers: Numbers,
-        mut members: Map<String, Value>,
-    ) -> Result<GroupMetadataV2, MetadataFault>
-        requires { document_in numbers (object (members_view members.entries))
-            ≡ Ok (members_view members.entries) }
-        ensures { Gives (λ m. m) result
-            (group_v2_in numbers (object (members_view members.entries))) }
-    {
-        ask_format(&members, 2)?;
-        refuse(&members, "shape")?;
-        drop(take_member(&mut members, "zarr_format"));
-        drop(take_member(&mut members, "shape"));
-        GroupMetadataV2::take(alloc, members)
-    }
-
     /// Takes the attributes; the members that are left are the additional fields.
     #[tactic(auto, unfolding(crate::specs::StepsOfReading::group_v2_taken))]
     fn take(
@@ -136,72 +58,6 @@ impl GroupMetadataV2 {
             attributes: attributes(alloc, &mut members)?,
             additional_fields: Object::from_map(alloc, members)?,
         })
-    }
-
-    /// The group that a JSON value is, whose parts it takes over.
-    ///
-    /// # Errors
-    ///
-    /// As [`GroupMetadataV2::from_value`].
-    ///
-    /// Source: Zarr specification version 2, "Groups".
-    pub fn from_owned_value(alloc: Global, value: Value) -> Result<GroupMetadataV2, MetadataFault>
-        ensures { Gives (λ m. m) result (group_v2_of (view value)) }
-    {
-        GroupMetadataV2::from_owned_value_in(alloc, Numbers::Whole, value)
-    }
-
-    /// The group that a JSON value is, whose parts it takes over, where the value may hold these numbers.
-    ///
-    /// # Errors
-    ///
-    /// As [`GroupMetadataV2::from_value_in`].
-    ///
-    /// Source: own; Zarr specification version 2, "Groups".
-    #[tactic(auto, unfolding(crate::specs::GroupV2::group_v2_in))]
-    pub fn from_owned_value_in(
-        alloc: Global,
-        numbers: Numbers,
-        value: Value,
-    ) -> Result<GroupMetadataV2, MetadataFault>
-        ensures { Gives (λ m. m) result (group_v2_in numbers (view value)) }
-    {
-        GroupMetadataV2::from_members_in(alloc, numbers, document_in(numbers, value)?)
-    }
-
-    /// The group that the bytes of a document are.
-    ///
-    /// # Errors
-    ///
-    /// `NotJson` where the bytes are no JSON text, else as [`GroupMetadataV2::from_value`].
-    ///
-    /// Source: Zarr specification version 2, "Groups".
-    pub fn from_bytes(alloc: Global, bytes: &[u8]) -> Result<GroupMetadataV2, MetadataFault>
-        ensures { Gives (λ m. m) result (of_bytes group_v2_of bytes.now) }
-    {
-        GroupMetadataV2::from_bytes_in(alloc, Numbers::Whole, bytes)
-    }
-
-    /// The group that the bytes of a document are, where it may hold these numbers.
-    ///
-    /// # Errors
-    ///
-    /// `NotJson` where the bytes are no JSON text, else as [`GroupMetadataV2::from_value_in`].
-    ///
-    /// Source: own; Zarr specification version 2, "Groups".
-    #[tactic(auto, unfolding(crate::specs::GroupV2::group_v2_in))]
-    pub fn from_bytes_in(
-        alloc: Global,
-        numbers: Numbers,
-        bytes: &[u8],
-    ) -> Result<GroupMetadataV2, MetadataFault>
-        ensures { Gives (λ m. m) result (of_bytes (group_v2_in numbers) bytes.now) }
-    {
-        GroupMetadataV2::from_members_in(
-            alloc,
-            numbers,
-            document_in(numbers, parse(alloc, bytes)?)?,
-        )
     }
 
     /// The written form: the members of the table and the additional fields, without empty attributes.
@@ -276,4 +132,28 @@ impl GroupMetadataV2 {
             && !self.additional_fields.has_float()
             && !self.additional_fields.has_own_member(OWN_NAMES)
     }
+}
+
+impl Document for GroupMetadataV2 {
+    ghost meaning = { group_v2_in };
+
+    /// `WrongFormat` where `zarr_format` is not 2, `BadMember` of `shape` where there is one, or of `attributes` where it is no object.
+    #[tactic(auto, using(crate::proofs::TakenLaws::group_v2_taken_is), unfolding(crate::specs::GroupV2::group_v2_in))]
+    fn from_members_in(
+        alloc: Global,
+        numbers: Numbers,
+        mut members: Map<String, Value>,
+    ) -> Result<GroupMetadataV2, MetadataFault> {
+        ask_format(&members, 2)?;
+        refuse(&members, "shape")?;
+        drop(take_member(&mut members, "zarr_format"));
+        drop(take_member(&mut members, "shape"));
+        GroupMetadataV2::take(alloc, members)
+    }
+
+    fn try_clone(&self, alloc: Global) -> Result<GroupMetadataV2, AllocError> {
+        GroupMetadataV2::try_clone(self, alloc)
+    }
+
+    ghost asks_first = { group_v2_asks_first };
 }

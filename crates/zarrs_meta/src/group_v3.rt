@@ -3,19 +3,20 @@ ghost use Rattle.std.specs.Prelude.{◌≡◌, ◌++◌, false, Ok, IfOk, OnOk, 
 ghost use Rattle.serde_json.specs.Data.{object, no_members};
 ghost use Rattle.serde_json.specs.View.{view, members_view};
 ghost use Rattle.serde_json.specs.Written.{compact_text, has_float};
-ghost use Rattle.zarrs_form.specs.Documents.{Gives, document_in, of_bytes};
-ghost use Rattle.zarrs_meta.specs.GroupV3.{group_v3_in, group_v3_of, group_v3_rows, group_v3_tree, is_plain_group_v3};
+ghost use Rattle.zarrs_form.specs.Documents.{Gives};
+ghost use Rattle.zarrs_meta.specs.GroupV3.{group_v3_asks_first, group_v3_in, group_v3_rows, group_v3_tree, is_plain_group_v3_in};
 ghost use Rattle.zarrs_form.specs.Forms.{put_rows};
 ghost use Rattle.zarrs_form.specs.Layouts.{text_in};
 ghost use Rattle.zarrs_meta.specs.StepsOfReading.{group_v3_taken};
+ghost use Rattle.zarrs_fault.specs.declared.numbers.Numbers.TheVariants.{Whole};
 
+use crate::document::Document;
 use serde_json::{Map, Value, put};
 use std::alloc::{AllocError, Global};
 use zarrs_fault::{MetadataFault, Numbers};
 use zarrs_form::{
-    AdditionalFieldsV3, Layout, Object, Text, ask_format, ask_node_type, attributes,
-    document_copy_in, document_in, fields_of, parse, put_text, put_unless, take_null, write_last,
-    write_row, write_unless, write_value,
+    AdditionalFieldsV3, Layout, Object, Text, ask_format, ask_node_type, attributes, fields_of,
+    put_text, put_unless, take_null, write_last, write_row, write_unless, write_value,
 };
 
 /// The metadata of a version 3 group.
@@ -43,58 +44,6 @@ impl GroupMetadataV3 {
         }
     }
 
-    /// The group that a JSON value is.
-    ///
-    /// # Errors
-    ///
-    /// The first that applies: `UnsupportedNumber` where some number is neither `u64` nor `i64`,
-    /// `NotAnObject`, `WrongFormat` where `zarr_format` is not 3, `WrongNodeType` where `node_type` is
-    /// not `group`, `BadMember` of `attributes` where it is no object. `OutOfMemory` where there is no
-    /// memory.
-    ///
-    /// Source: Zarr core specification 3.1, "Group metadata".
-    pub fn from_value(alloc: Global, value: &Value) -> Result<GroupMetadataV3, MetadataFault>
-        ensures { Gives (λ m. m) result (group_v3_of (view value.now)) }
-    {
-        GroupMetadataV3::from_value_in(alloc, Numbers::Whole, value)
-    }
-
-    /// The group that a JSON value is, where it may hold these numbers.
-    ///
-    /// # Errors
-    ///
-    /// As [`GroupMetadataV3::from_value`], except that `UnsupportedNumber` comes only where the numbers are `Whole`. Where they are
-    /// `Any`, a fraction in the place of the format or the node type is the fault of that member.
-    ///
-    /// Source: own; Zarr core specification 3.1, "Group metadata".
-    #[tactic(auto, unfolding(crate::specs::GroupV3::group_v3_in))]
-    pub fn from_value_in(
-        alloc: Global,
-        numbers: Numbers,
-        value: &Value,
-    ) -> Result<GroupMetadataV3, MetadataFault>
-        ensures { Gives (λ m. m) result (group_v3_in numbers (view value.now)) }
-    {
-        GroupMetadataV3::from_members_in(alloc, numbers, document_copy_in(numbers, value)?)
-    }
-
-    /// The group that the members of a document are, which has been asked for its numbers.
-    #[tactic(auto, using(crate::proofs::TakenLaws::group_v3_taken_is), unfolding(crate::specs::GroupV3::group_v3_in))]
-    pub(crate) fn from_members_in(
-        alloc: Global,
-        numbers: Numbers,
-        members: Map<String, Value>,
-    ) -> Result<GroupMetadataV3, MetadataFault>
-        requires { document_in numbers (object (members_view members.entries))
-            ≡ Ok (members_view members.entries) }
-        ensures { Gives (λ m. m) result
-            (group_v3_in numbers (object (members_view members.entries))) }
-    {
-        ask_format(&members, 3)?;
-        ask_node_type(&members, "group")?;
-        GroupMetadataV3::take(alloc, members)
-    }
-
     /// Takes the attributes, and a null `consolidated_metadata`; the members that are left are the
     /// additional fields.
     #[tactic(auto, unfolding(crate::specs::StepsOfReading::group_v3_taken))]
@@ -110,41 +59,6 @@ impl GroupMetadataV3 {
             attributes,
             additional_fields: fields_of(alloc, members, &["zarr_format", "node_type"])?,
         })
-    }
-
-    /// The group that the bytes of a document are.
-    ///
-    /// # Errors
-    ///
-    /// `NotJson` where the bytes are no JSON text, else as [`GroupMetadataV3::from_value`].
-    ///
-    /// Source: Zarr core specification 3.1, "Group metadata".
-    pub fn from_bytes(alloc: Global, bytes: &[u8]) -> Result<GroupMetadataV3, MetadataFault>
-        ensures { Gives (λ m. m) result (of_bytes group_v3_of bytes.now) }
-    {
-        GroupMetadataV3::from_bytes_in(alloc, Numbers::Whole, bytes)
-    }
-
-    /// The group that the bytes of a document are, where it may hold these numbers.
-    ///
-    /// # Errors
-    ///
-    /// `NotJson` where the bytes are no JSON text, else as [`GroupMetadataV3::from_value_in`].
-    ///
-    /// Source: own; Zarr core specification 3.1, "Group metadata".
-    #[tactic(auto, unfolding(crate::specs::GroupV3::group_v3_in))]
-    pub fn from_bytes_in(
-        alloc: Global,
-        numbers: Numbers,
-        bytes: &[u8],
-    ) -> Result<GroupMetadataV3, MetadataFault>
-        ensures { Gives (λ m. m) result (of_bytes (group_v3_in numbers) bytes.now) }
-    {
-        GroupMetadataV3::from_members_in(
-            alloc,
-            numbers,
-            document_in(numbers, parse(alloc, bytes)?)?,
-        )
     }
 
     /// The written form of the group: the members of the table and the additional fields.
@@ -173,7 +87,7 @@ impl GroupMetadataV3 {
     ///
     /// Source: Zarr core specification 3.1, "Group metadata".
     pub fn to_text(&self, alloc: Global) -> Result<String, AllocError>
-        ensures { IfOk result (λ text. IsTrue (is_plain_group_v3 self.now)
+        ensures { IfOk result (λ text. IsTrue (is_plain_group_v3_in Whole self.now)
             → string_bytes text ≡ compact_text (group_v3_tree self.now)) }
     {
         let mut out = String::with_capacity(alloc, 512)?;
@@ -216,7 +130,7 @@ impl GroupMetadataV3 {
     /// Whether the group could have come from a document: its numbers are `u64` or `i64`, no additional field
     /// has an own name, and no field `consolidated_metadata` is null.
     pub fn is_plain(&self) -> bool
-        ensures { result ≡ is_plain_group_v3 self.now }
+        ensures { result ≡ is_plain_group_v3_in Whole self.now }
     {
         let fields = &self.additional_fields;
         !self.attributes.has_float()
@@ -224,4 +138,27 @@ impl GroupMetadataV3 {
             && !fields.has_own_name(&["zarr_format", "node_type", "attributes"])
             && !fields.is_null_at("consolidated_metadata")
     }
+}
+
+impl Document for GroupMetadataV3 {
+    ghost meaning = { group_v3_in };
+
+    /// `WrongFormat` where `zarr_format` is not 3, `WrongNodeType` where `node_type` is not `group`, `BadMember` of `attributes` where it
+    /// is no object.
+    #[tactic(auto, using(crate::proofs::TakenLaws::group_v3_taken_is), unfolding(crate::specs::GroupV3::group_v3_in))]
+    fn from_members_in(
+        alloc: Global,
+        numbers: Numbers,
+        members: Map<String, Value>,
+    ) -> Result<GroupMetadataV3, MetadataFault> {
+        ask_format(&members, 3)?;
+        ask_node_type(&members, "group")?;
+        GroupMetadataV3::take(alloc, members)
+    }
+
+    fn try_clone(&self, alloc: Global) -> Result<GroupMetadataV3, AllocError> {
+        GroupMetadataV3::try_clone(self, alloc)
+    }
+
+    ghost asks_first = { group_v3_asks_first };
 }

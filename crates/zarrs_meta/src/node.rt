@@ -4,21 +4,22 @@ ghost use Rattle.serde_json.specs.Data.{object};
 ghost use Rattle.serde_json.specs.Find.{as_number, as_str, as_u64, get};
 ghost use Rattle.serde_json.specs.View.{view, members_view};
 ghost use Rattle.serde_json.specs.Written.{compact_text, has_float};
-ghost use Rattle.zarrs_form.specs.Documents.{Gives, document_in, document_of, format_of, of_bytes};
+ghost use Rattle.zarrs_form.specs.Documents.{Gives, document_in, format_of};
 ghost use Rattle.zarrs_form.specs.Layouts.{text_in};
-ghost use Rattle.zarrs_meta.specs.Node.{node_in, node_of, node_v2_in, node_v3_in, node_tree, is_plain_node, zarr_json_in, zarr_json_of, is_group};
+ghost use Rattle.zarrs_meta.specs.Node.{node_asks_first, zarr_json_asks_first, node_in, node_v2_in, node_v3_in, node_tree, is_plain_node, zarr_json_in, is_group};
 ghost use Rattle.zarrs_meta.specs.declared.node.GroupMetadata.TheVariants.{V3 as group_v3, V2 as group_v2};
 ghost use Rattle.zarrs_meta.specs.declared.node.ArrayMetadata.TheVariants.{V3 as array_v3, V2 as array_v2};
 
 use crate::array_v2::ArrayMetadataV2;
 use crate::array_v3::ArrayMetadataV3;
 use crate::boxed_array::BoxedArray;
+use crate::document::Document;
 use crate::group_v2::GroupMetadataV2;
 use crate::group_v3::GroupMetadataV3;
 use serde_json::{Map, Value};
 use std::alloc::{AllocError, Global};
 use zarrs_fault::{MetadataFault, Numbers};
-use zarrs_form::{Layout, document_copy_in, document_in, member, parse};
+use zarrs_form::{Layout, member};
 
 /// The metadata of a group of either version.
 ///
@@ -100,119 +101,6 @@ impl From<ArrayMetadataV2> for ArrayMetadata {
 }
 
 impl NodeMetadata {
-    /// The group or array that a JSON value is: `zarr_format` 3 by its `node_type`, `zarr_format` 2 an
-    /// array where it has a `shape` and else a group.
-    ///
-    /// # Errors
-    ///
-    /// The first that applies: `UnsupportedNumber` where some number is neither `u64` nor `i64`,
-    /// `NotAnObject`, `WrongFormat` where `zarr_format` is neither 3 nor 2, `WrongNodeType`, then
-    /// `MissingMember` or `BadMember` of the first member of the table that is absent or of another form.
-    /// `OutOfMemory` where there is no memory.
-    ///
-    /// Source: Zarr core specification 3.1, "Metadata documents".
-    pub fn from_value(alloc: Global, value: &Value) -> Result<NodeMetadata, MetadataFault>
-        ensures { Gives (λ m. m) result (node_of (view value.now)) }
-    {
-        NodeMetadata::from_value_in(alloc, Numbers::Whole, value)
-    }
-
-    /// The group or array that a JSON value is, where it may hold these numbers.
-    ///
-    /// # Errors
-    ///
-    /// As [`NodeMetadata::from_value`], except that `UnsupportedNumber` comes only where the numbers are `Whole`. Where they
-    /// are `Any`, a fraction in the place of a length, a text or a flag is the fault of that member.
-    ///
-    /// Source: own; Zarr core specification 3.1, "Metadata documents".
-    #[tactic(auto, unfolding(crate::specs::Node::node_in))]
-    pub fn from_value_in(
-        alloc: Global,
-        numbers: Numbers,
-        value: &Value,
-    ) -> Result<NodeMetadata, MetadataFault>
-        ensures { Gives (λ m. m) result (node_in numbers (view value.now)) }
-    {
-        NodeMetadata::from_members_in(alloc, numbers, document_copy_in(numbers, value)?)
-    }
-
-    /// The group or array that the members of a document are, which has been asked for its numbers: none of them is asked again.
-    ///
-    /// # Errors
-    ///
-    /// The first that applies: `WrongFormat` where `zarr_format` is neither 3 nor 2, `WrongNodeType`, then
-    /// `MissingMember` or `BadMember` of the first member of the table that is absent or of another form.
-    /// `OutOfMemory` where there is no memory.
-    ///
-    /// Source: Zarr core specification 3.1, "Metadata documents".
-    pub fn from_members(
-        alloc: Global,
-        members: Map<String, Value>,
-    ) -> Result<NodeMetadata, MetadataFault>
-        requires { document_of (object (members_view members.entries))
-            ≡ Ok (members_view members.entries) }
-        ensures { Gives (λ m. m) result (node_of (object (members_view members.entries))) }
-    {
-        NodeMetadata::from_members_in(alloc, Numbers::Whole, members)
-    }
-
-    /// The group or array that the members of a document are, which has been asked whether its numbers are among these: none
-    /// of them is asked again.
-    ///
-    /// # Errors
-    ///
-    /// As [`NodeMetadata::from_members`].
-    ///
-    /// Source: own; Zarr core specification 3.1, "Metadata documents".
-    #[tactic(auto, unfolding(crate::specs::Node::node_in, zarrs_form::specs::Documents::format_of))]
-    pub fn from_members_in(
-        alloc: Global,
-        numbers: Numbers,
-        members: Map<String, Value>,
-    ) -> Result<NodeMetadata, MetadataFault>
-        requires { document_in numbers (object (members_view members.entries))
-            ≡ Ok (members_view members.entries) }
-        ensures { Gives (λ m. m) result
-            (node_in numbers (object (members_view members.entries))) }
-    {
-        match zarr_format(&members) {
-            Some(3) => node_v3(alloc, numbers, members),
-            Some(2) => node_v2(alloc, numbers, members),
-            _ => Err(MetadataFault::WrongFormat),
-        }
-    }
-
-    /// The group or array that the bytes of a document are.
-    ///
-    /// # Errors
-    ///
-    /// `NotJson` where the bytes are no JSON text, else as [`NodeMetadata::from_value`].
-    ///
-    /// Source: Zarr core specification 3.1, "Metadata documents".
-    pub fn from_bytes(alloc: Global, bytes: &[u8]) -> Result<NodeMetadata, MetadataFault>
-        ensures { Gives (λ m. m) result (of_bytes node_of bytes.now) }
-    {
-        NodeMetadata::from_bytes_in(alloc, Numbers::Whole, bytes)
-    }
-
-    /// The group or array that the bytes of a document are, where it may hold these numbers.
-    ///
-    /// # Errors
-    ///
-    /// `NotJson` where the bytes are no JSON text, else as [`NodeMetadata::from_value_in`].
-    ///
-    /// Source: own; Zarr core specification 3.1, "Metadata documents".
-    #[tactic(auto, unfolding(crate::specs::Node::node_in))]
-    pub fn from_bytes_in(
-        alloc: Global,
-        numbers: Numbers,
-        bytes: &[u8],
-    ) -> Result<NodeMetadata, MetadataFault>
-        ensures { Gives (λ m. m) result (of_bytes (node_in numbers) bytes.now) }
-    {
-        NodeMetadata::from_members_in(alloc, numbers, document_in(numbers, parse(alloc, bytes)?)?)
-    }
-
     /// The written form of the group or array.
     ///
     /// # Errors
@@ -298,87 +186,58 @@ impl NodeMetadata {
     }
 }
 
-impl ZarrJson {
-    /// What a JSON value at the key `zarr.json` is: a group or an array, or a document of version 2.
-    ///
-    /// # Errors
-    ///
-    /// As [`NodeMetadata::from_value`], but that `zarr_format` 2 is no fault here.
-    ///
-    /// Source: Zarr core specification 3.1, "Metadata documents".
-    pub fn from_value(alloc: Global, value: &Value) -> Result<ZarrJson, MetadataFault>
-        ensures { Gives (λ z. z) result (zarr_json_of (view value.now)) }
-    {
-        ZarrJson::from_value_in(alloc, Numbers::Whole, value)
-    }
+/// `zarr_format` 3 is a group or an array by its `node_type`, `zarr_format` 2 an array where it has a `shape` and else a group.
+impl Document for NodeMetadata {
+    ghost meaning = { node_in };
 
-    /// What a JSON value at the key `zarr.json` is, where it may hold these numbers.
-    ///
-    /// # Errors
-    ///
-    /// As [`NodeMetadata::from_value_in`], but that `zarr_format` 2 is no fault here.
-    ///
-    /// Source: own; Zarr core specification 3.1, "Metadata documents".
-    #[tactic(auto, unfolding(crate::specs::Node::zarr_json_in))]
-    pub fn from_value_in(
+    /// `WrongFormat` where `zarr_format` is neither 3 nor 2, `WrongNodeType`, then `MissingMember` or `BadMember` of the first member of
+    /// the table that is absent or of another form.
+    #[tactic(auto, unfolding(crate::specs::Node::node_in, zarrs_form::specs::Documents::format_of))]
+    fn from_members_in(
         alloc: Global,
         numbers: Numbers,
-        value: &Value,
-    ) -> Result<ZarrJson, MetadataFault>
-        ensures { Gives (λ z. z) result (zarr_json_in numbers (view value.now)) }
-    {
-        zarr_json(alloc, numbers, document_copy_in(numbers, value)?)
+        members: Map<String, Value>,
+    ) -> Result<NodeMetadata, MetadataFault> {
+        match zarr_format(&members) {
+            Some(3) => node_v3(alloc, numbers, members),
+            Some(2) => node_v2(alloc, numbers, members),
+            _ => Err(MetadataFault::WrongFormat),
+        }
     }
 
-    /// What the bytes at the key `zarr.json` are.
-    ///
-    /// # Errors
-    ///
-    /// `NotJson` where the bytes are no JSON text, else as [`ZarrJson::from_value`].
-    ///
-    /// Source: Zarr core specification 3.1, "Metadata documents".
-    pub fn from_bytes(alloc: Global, bytes: &[u8]) -> Result<ZarrJson, MetadataFault>
-        ensures { Gives (λ z. z) result (of_bytes zarr_json_of bytes.now) }
-    {
-        ZarrJson::from_bytes_in(alloc, Numbers::Whole, bytes)
+    fn try_clone(&self, alloc: Global) -> Result<NodeMetadata, AllocError> {
+        NodeMetadata::try_clone(self, alloc)
     }
 
-    /// What the bytes at the key `zarr.json` are, where the document may hold these numbers.
-    ///
-    /// # Errors
-    ///
-    /// `NotJson` where the bytes are no JSON text, else as [`ZarrJson::from_value_in`].
-    ///
-    /// Source: own; Zarr core specification 3.1, "Metadata documents".
-    #[tactic(auto, unfolding(crate::specs::Node::zarr_json_in))]
-    pub fn from_bytes_in(
-        alloc: Global,
-        numbers: Numbers,
-        bytes: &[u8],
-    ) -> Result<ZarrJson, MetadataFault>
-        ensures { Gives (λ z. z) result (of_bytes (zarr_json_in numbers) bytes.now) }
-    {
-        zarr_json(alloc, numbers, document_in(numbers, parse(alloc, bytes)?)?)
-    }
+    ghost asks_first = { node_asks_first };
 }
 
-/// What a document whose members these are is at the key `zarr.json`.
-#[tactic(auto, unfolding(crate::specs::Node::zarr_json_in, crate::specs::Node::node_in, zarrs_form::specs::Documents::format_of))]
-fn zarr_json(
-    alloc: Global,
-    numbers: Numbers,
-    members: Map<String, Value>,
-) -> Result<ZarrJson, MetadataFault>
-    requires { document_in numbers (object (members_view members.entries))
-        ≡ Ok (members_view members.entries) }
-    ensures { Gives (λ z. z) result
-        (zarr_json_in numbers (object (members_view members.entries))) }
-{
-    match zarr_format(&members) {
-        Some(2) => Ok(ZarrJson::Version2),
-        Some(3) => Ok(ZarrJson::Node(node_v3(alloc, numbers, members)?)),
-        _ => Err(MetadataFault::WrongFormat),
+/// As a node, but that `zarr_format` 2 is no fault: no more of the document is read then.
+impl Document for ZarrJson {
+    ghost meaning = { zarr_json_in };
+
+    /// `WrongFormat` where `zarr_format` is neither 3 nor 2, else as of a node.
+    #[tactic(auto, unfolding(crate::specs::Node::zarr_json_in, crate::specs::Node::node_in, zarrs_form::specs::Documents::format_of))]
+    fn from_members_in(
+        alloc: Global,
+        numbers: Numbers,
+        members: Map<String, Value>,
+    ) -> Result<ZarrJson, MetadataFault> {
+        match zarr_format(&members) {
+            Some(2) => Ok(ZarrJson::Version2),
+            Some(3) => Ok(ZarrJson::Node(node_v3(alloc, numbers, members)?)),
+            _ => Err(MetadataFault::WrongFormat),
+        }
     }
+
+    fn try_clone(&self, alloc: Global) -> Result<ZarrJson, AllocError> {
+        match self {
+            ZarrJson::Node(metadata) => Ok(ZarrJson::Node(metadata.try_clone(alloc)?)),
+            ZarrJson::Version2 => Ok(ZarrJson::Version2),
+        }
+    }
+
+    ghost asks_first = { zarr_json_asks_first };
 }
 
 /// A node of version 3, once its format was asked: by its node type.

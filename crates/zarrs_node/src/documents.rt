@@ -26,10 +26,10 @@ pub fn document_at<S: ReadableStorageTraits, D: Document + Drop>(
     key: StoreKey,
 ) -> Result<Option<D>, StorageError>
     ensures ok { IfOk result
-        (λ found. stored_document D.reading (S.contents storage.now) key ≡ Ok found) }
+        (λ found. stored_document D.meaning (S.contents storage.now) key ≡ Ok found) }
     ensures err { IfErr result
         (RefusesReading (S.can_fail storage.now)
-        (stored_document D.reading (S.contents storage.now) key)) }
+        (stored_document D.meaning (S.contents storage.now) key)) }
 {
     let mut last = LastRead::new(alloc);
     let (key, found) = find_document(alloc, storage, key, &mut last)?;
@@ -67,10 +67,10 @@ fn find_document<S: ReadableStorageTraits, D: Document + Drop>(
     last: &mut LastRead<D>,
 ) -> Result<(StoreKey, Option<D>), StorageError>
     ensures ok { IfOk result
-        (λ x. stored_document D.reading (S.contents storage.now) key ≡ Ok x.1) }
+        (λ x. stored_document D.meaning (S.contents storage.now) key ≡ Ok x.1) }
     ensures err { IfErr result
         (RefusesReading (S.can_fail storage.now)
-        (stored_document D.reading (S.contents storage.now) key)) }
+        (stored_document D.meaning (S.contents storage.now) key)) }
 {
     let Some(bytes) = storage.get(alloc, &key)? else {
         return Ok((key, None));
@@ -92,11 +92,11 @@ pub(crate) fn find_below<S: ReadableStorageTraits, D: Document + Drop>(
 ) -> Result<Option<D>, StorageError>
     requires segment { IsTrue (is_segment name.now) }
     ensures ok { IfOk result
-        (λ found. stored_document D.reading (S.contents storage.now) (prefix.now ++ name.now ∷ [])
+        (λ found. stored_document D.meaning (S.contents storage.now) (prefix.now ++ name.now ∷ [])
         ≡ Ok found) }
     ensures err { IfErr result
         (RefusesReading (S.can_fail storage.now)
-        (stored_document D.reading (S.contents storage.now) (prefix.now ++ name.now ∷ []))) }
+        (stored_document D.meaning (S.contents storage.now) (prefix.now ++ name.now ∷ []))) }
 {
     let room = replace(text, String::new(alloc));
     let key = prefix.key_in(room, name)?;

@@ -1,6 +1,6 @@
 //! The documents that were read last.
 ghost use Rattle.std.specs.Prelude.{◌≡◌};
-ghost use Rattle.zarrs_form.specs.Documents.{Gives};
+ghost use Rattle.zarrs_form.specs.Documents.{Gives, of_bytes};
 
 use std::alloc::Global;
 use std::marker::Model;
@@ -18,12 +18,13 @@ pub(crate) struct LastRead<D: Document> {
 
 impl<D: Document> Model for LastRead<D> {
     ghost use Rattle.std.specs.Prelude.{◌≡◌, Ok, IfSome};
+    ghost use Rattle.zarrs_form.specs.Documents.{of_bytes};
 
     ghost Value = { Unit {0} };
 
     ghost view = { λ _. tt };
 
-    ghost invariant = { λ a. IfSome a.document (λ d. D.reading a.numbers a.bytes.items ≡ Ok d) };
+    ghost invariant = { λ a. IfSome a.document (λ d. of_bytes (D.meaning a.numbers) a.bytes.items ≡ Ok d) };
 }
 
 impl<D: Document + Drop> LastRead<D> {
@@ -43,10 +44,10 @@ impl<D: Document + Drop> LastRead<D> {
         numbers: Numbers,
         bytes: Vec<u8>,
     ) -> Result<D, MetadataFault>
-        ensures { Gives (λ d. d) result (D.reading numbers bytes.items) }
+        ensures { Gives (λ d. d) result (of_bytes (D.meaning numbers) bytes.items) }
     {
         if numbers != self.numbers || bytes.as_slice() != self.bytes.as_slice() {
-            let document = D::read_in(alloc, numbers, &bytes)?;
+            let document = D::from_bytes_in(alloc, numbers, &bytes)?;
             self.numbers = numbers;
             self.bytes = bytes;
             self.document = None;
@@ -55,7 +56,7 @@ impl<D: Document + Drop> LastRead<D> {
         if let Some(document) = &self.document {
             return Ok(document.try_clone(alloc)?);
         }
-        let document = D::read_in(alloc, numbers, &bytes)?;
+        let document = D::from_bytes_in(alloc, numbers, &bytes)?;
         self.document = Some(document.try_clone(alloc)?);
         Ok(document)
     }

@@ -17,9 +17,9 @@ use Rattle.zarrs_form.specs.Documents.{◌>>=◌, document_of, format_of, json_o
 use Rattle.zarrs_fault.specs.declared.numbers.Numbers.{Numbers}
 use Rattle.zarrs_fault.specs.declared.numbers.Numbers.TheVariants.{Whole}
 use Rattle.zarrs_meta.proofs.MoreNumbers.{zarr_json_too}
-use Rattle.zarrs_meta.specs.ArrayV2.{array_v2_of}
-use Rattle.zarrs_meta.specs.GroupV2.{group_v2_of}
-use Rattle.zarrs_meta.specs.Node.{node_in, zarr_json_in, has_format, node_of, node_v2_in, node_v3_in, zarr_json_of, array_with, group_with}
+use Rattle.zarrs_meta.specs.ArrayV2.{array_v2_in}
+use Rattle.zarrs_meta.specs.GroupV2.{group_v2_in}
+use Rattle.zarrs_meta.specs.Node.{node_in, zarr_json_in, has_format, node_v2_in, node_v3_in, array_with, group_with}
 use Rattle.zarrs_meta.specs.NodeDocuments.{ReadsAs, is_version_3}
 use Rattle.zarrs_meta.specs.declared.array_v2.ArrayMetadataV2.{ArrayMetadataV2}
 use Rattle.zarrs_meta.specs.declared.group_v2.GroupMetadataV2.{GroupMetadataV2}
@@ -76,7 +76,7 @@ two_by false r (Err x) m e = cc
 -- metadata of version 3 are read of what has format 3
 three_by : (t u : Bool) (d : Data) (m : NodeMetadata) → (if t then node_v3_in Whole d else (if u then node_v2_in Whole d else Err WrongFormat)) ≡ Ok m → is_version_3 m ≡ true → t ≡ true
 three_by true u d m e v = refl
-three_by false true d m e v = absurd (true≢false (sym v ∙ two_by _ (array_v2_of d) (group_v2_of d) m e))
+three_by false true d m e v = absurd (true≢false (sym v ∙ two_by _ (array_v2_in Whole d) (group_v2_in Whole d) m e))
 three_by false false d m e v = cc
 
 -- a step before another gives the value that the other gives
@@ -90,18 +90,18 @@ first_ok (Ok a) s x e = (a, refl)
 first_ok (Err f) s x e = cc
 
 -- metadata of version 3 that are read as a node are read so at `zarr.json`
-at_zarr_json : (d : Data) (m : NodeMetadata) → node_of d ≡ Ok m → is_version_3 m ≡ true → zarr_json_of d ≡ Ok (node_json m)
+at_zarr_json : (d : Data) (m : NodeMetadata) → node_in Whole d ≡ Ok m → is_version_3 m ≡ true → zarr_json_in Whole d ≡ Ok (node_json m)
 unfolding zarr_json_in node_in
 at_zarr_json d m e v =
     let own = ok_of (document_of d) _ m e in
     let three : has_format 3 d ≡ true = three_by (has_format 3 d) (has_format 2 d) d m own v in
     let first = first_ok (document_of d) _ m e in
-    ap (λ r. r >>= (λ _. if has_format 2 d then Ok Version2 else node_of d >>= (λ x. Ok (node_json x)))) first.1
-    ∙ ap (λ t. if t then Ok Version2 else node_of d >>= (λ x. Ok (node_json x))) (three_not_two d three)
+    ap (λ r. r >>= (λ _. if has_format 2 d then Ok Version2 else node_in Whole d >>= (λ x. Ok (node_json x)))) first.1
+    ∙ ap (λ t. if t then Ok Version2 else node_in Whole d >>= (λ x. Ok (node_json x))) (three_not_two d three)
     ∙ ap (λ r. r >>= (λ x. Ok (node_json x))) e
 
 -- so are bytes
-tree_at : (numbers : Numbers) (o : Option Data) (m : NodeMetadata) → tree_or_fault o >>= node_of ≡ Ok m → is_version_3 m ≡ true → tree_or_fault o >>= zarr_json_in numbers ≡ Ok (node_json m)
+tree_at : (numbers : Numbers) (o : Option Data) (m : NodeMetadata) → tree_or_fault o >>= node_in Whole ≡ Ok m → is_version_3 m ≡ true → tree_or_fault o >>= zarr_json_in numbers ≡ Ok (node_json m)
 tree_at numbers None m e v = cc
 tree_at numbers (Some d) m e v = zarr_json_too numbers d (node_json m) (at_zarr_json d m e v)
 
