@@ -14,10 +14,10 @@ use Rattle.zarrs_fault.specs.declared.numbers.Numbers.TheVariants.{Whole, Any}
 use Rattle.zarrs_form.specs.Documents.{document_in, json_of, is_empty}
 use Rattle.zarrs_form.specs.Forms.{fits_in, unless}
 use Rattle.zarrs_form.proofs.AttributeLaws.{not_true}
-use Rattle.zarrs_group.specs.Layout.{pretty_text}
+use Rattle.zarrs_group.specs.StoredTexts.{pretty_text}
 use Rattle.zarrs_meta.specs.GroupV3.{group_v3_in, group_v3_tree, is_plain_group_v3_in}
 use Rattle.zarrs_meta.specs.GroupV2.{group_v2_tree, is_plain_group_v2_in}
-use Rattle.zarrs_group.specs.Plain.{group_fault, group_fault_in}
+use Rattle.zarrs_group.specs.Plain.{group_fault_in}
 use Rattle.zarrs_meta.specs.declared.node.GroupMetadata.{GroupMetadata}
 use Rattle.zarrs_meta.specs.declared.node.GroupMetadata.TheVariants.{V3, V2}
 use Rattle.zarrs_meta.specs.declared.group_v3.GroupMetadataV3.{GroupMetadataV3}
@@ -203,7 +203,7 @@ block_stored S p (V2 m) (Some B) es are =
 -- ---- whole numbers
 
 -- what was stored once in whole numbers means itself wherever its exact edits are done
-pub stored_means : (q : Path) (m : GroupMetadata) (es : List Edit) → group_fault m ≡ None → AreEditsOf (store_changes q m None) es → StoredMeans m
+pub stored_means : (q : Path) (m : GroupMetadata) (es : List Edit) → group_fault_in Whole m ≡ None → AreEditsOf (store_changes q m None) es → StoredMeans m
 stored_means q (V3 m) es fault are S p block =
     let w = one_edit (q ++ zarr_json ∷ [], Some (group_v3_tree m)) es are in
     means_v3 S p m (whole_edit (p ++ zarr_json ∷ []) (Some (group_v3_tree m))) (plain_v3 S.numbers m (no_fault_more S.numbers (V3 m) fault))

@@ -25,7 +25,7 @@ use Rattle.zarrs_form.proofs.PlainForms.{false_not, no_members_fit}
 use Rattle.zarrs_meta.proofs.GroupV3Laws.{plain_group_v3_in, no_float-group_v3_tree}
 use Rattle.zarrs_meta.proofs.GroupV2Laws.{plain_group_v2_in, no_float-group_v2_tree}
 use Rattle.zarrs_group.specs.Groups.{group_tree}
-use Rattle.zarrs_group.specs.Plain.{has_member, members_exceed, group_v3_fault_in, group_v2_fault_in, group_fault, group_fault_in}
+use Rattle.zarrs_group.specs.Plain.{has_member, members_exceed, group_v3_fault_in, group_v2_fault_in, group_fault_in}
 use Rattle.zarrs_group.specs.Laws.{PlainIsStored, PlainIsStoredIn}
 
 -- ---- numbers
@@ -173,12 +173,12 @@ pub plain_is_stored : PlainIsStored
 plain_is_stored m = plain_is_stored_in Whole m
 
 -- metadata without a fault in whole numbers have none in any
-pub no_fault_more : (numbers : Numbers) (m : GroupMetadata) → group_fault m ≡ None → group_fault_in numbers m ≡ None
+pub no_fault_more : (numbers : Numbers) (m : GroupMetadata) → group_fault_in Whole m ≡ None → group_fault_in numbers m ≡ None
 no_fault_more Whole m none = none
 no_fault_more Any (V3 m) none = no_clash (members_have_float m.attributes) (members_have_float m.additional_fields) _ none
 no_fault_more Any (V2 m) none = no_clash (members_have_float m.attributes) (members_have_float m.additional_fields) _ none
 
 -- the document of metadata without a fault has no float
-pub no_float_group : (m : GroupMetadata) → group_fault m ≡ None → has_float (group_tree m) ≡ false
+pub no_float_group : (m : GroupMetadata) → group_fault_in Whole m ≡ None → has_float (group_tree m) ≡ false
 no_float_group (V3 m) h = no_float-group_v3_tree m (plain_v3 Whole m h)
 no_float_group (V2 m) h = no_float-group_v2_tree m (plain_v2 Whole m h)

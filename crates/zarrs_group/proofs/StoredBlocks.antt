@@ -38,7 +38,7 @@ use Rattle.zarrs_group.specs.Meaning.{MeansGroup, group_v3_line, group_line, gro
 use Rattle.zarrs_group.specs.BlocksOfGroups.{fields_with, metadata_with}
 use Rattle.zarrs_group.specs.Laws.{MeansStored}
 use Rattle.zarrs_meta.specs.GroupV3.{group_v3_tree}
-use Rattle.zarrs_group.specs.Layout.{pretty_text}
+use Rattle.zarrs_group.specs.StoredTexts.{pretty_text}
 use Rattle.zarrs_group.specs.StoredBlocks.{OpensAlike, EditKeepsOthers, StoringKeepsOthers, MeansVersion3, ListedBlockOpens}
 use Rattle.zarrs_group.specs.StoringGroups.{IsStoringCutShort, KeyChange, StoresDocuments, store_edits, RefusesStoring}
 use Rattle.zarrs_group.proofs.BlockFields.{set_reads}

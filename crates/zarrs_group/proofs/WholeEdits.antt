@@ -22,10 +22,10 @@ use Rattle.zarrs_meta.proofs.GroupV3Laws.{no_float-group_v3_tree}
 use Rattle.zarrs_meta.proofs.GroupV2Laws.{no_float-group_v2_tree}
 use Rattle.zarrs_block.specs.Block.{Block}
 use Rattle.zarrs_group.specs.Edits.{Edit, set, IsCutShort}
-use Rattle.zarrs_group.specs.Layout.{StoredTextIsExact, StoredTextIsText}
+use Rattle.zarrs_group.specs.StoredTexts.{StoredTextIsExact, StoredTextIsText}
 use Rattle.zarrs_group.specs.Laws.{WholeEditsAreExact, WholeRefusalIsExact}
 use Rattle.zarrs_group.specs.Plain.{group_v2_fault_in}
-use Rattle.zarrs_group.specs.StoringGroups.{AreEditsOf, IsEditAt, IsStoringCutShort, KeyChange, store_changes, store_edits, stored_fault, stored_fault_in, whole_edit}
+use Rattle.zarrs_group.specs.StoringGroups.{AreEditsOf, IsEditAt, IsStoringCutShort, KeyChange, store_changes, store_edits, stored_fault_in, whole_edit}
 use Rattle.zarrs_group.proofs.BlockPlain.{tree_fits}
 use Rattle.zarrs_group.proofs.PlainLaws.{fits_v2, plain_v2, plain_v3, plain_without}
 use Rattle.zarrs_group.proofs.StoreLemmas.{beside_plain, none_stored, own_plain}
@@ -72,7 +72,7 @@ own_whole m none = (
 )
 
 -- and those of a group without a fault
-changes_whole : (p : Path) (m : GroupMetadata) (block : Option Block) → stored_fault p m block ≡ None → AreWhole (store_changes p m block)
+changes_whole : (p : Path) (m : GroupMetadata) (block : Option Block) → stored_fault_in Whole p m block ≡ None → AreWhole (store_changes p m block)
 changes_whole p (V3 m) block none = (no_float-group_v3_tree m (plain_v3 Whole m (own_plain Whole p (V3 m) block none)), tt)
 changes_whole p (V2 m) None none = let own = own_whole m (own_plain Whole p (V2 m) None none) in (tt, (own.0, (own.1, tt)))
 changes_whole p (V2 m) (Some B) none =
@@ -85,9 +85,9 @@ pub whole_edits_are_exact : WholeEditsAreExact
 whole_edits_are_exact p m block es none are = exact (store_changes p m block) es (changes_whole p m block none) are
 
 -- over a store of whole numbers, or of a group that is plain in these, they were cut short where a first part was done
-cut_exact : (p : Path) (m : GroupMetadata) (block : Option Block) (S S' : Contents) → (S.numbers ≡ Whole) ⊎ (stored_fault p m block ≡ None) → IsStoringCutShort p m block S S' → IsCutShort S (store_edits p m block) S'
+cut_exact : (p : Path) (m : GroupMetadata) (block : Option Block) (S S' : Contents) → (S.numbers ≡ Whole) ⊎ (stored_fault_in Whole p m block ≡ None) → IsStoringCutShort p m block S S' → IsCutShort S (store_edits p m block) S'
 cut_exact p m block S S' whole c =
-    let plain : stored_fault p m block ≡ None = ⊎_elim (λ numbers. subst (λ n. stored_fault_in n p m block ≡ None) numbers c.plain) (λ none. none) whole in
+    let plain : stored_fault_in Whole p m block ≡ None = ⊎_elim (λ numbers. subst (λ n. stored_fault_in n p m block ≡ None) numbers c.plain) (λ none. none) whole in
     subst (λ es. IsCutShort S es S') (whole_edits_are_exact p m block c.edits plain c.are) c.cut
 
 -- where nothing was done they were cut short at the first

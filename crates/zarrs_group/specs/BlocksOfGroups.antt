@@ -2,8 +2,7 @@
 -- version 2: the block that a group holds, and the group with a block set.
 -- <https://zarr-specs.readthedocs.io/en/latest/v3/core/index.html#group-metadata>
 -- <https://zarr.readthedocs.io/en/stable/user-guide/consolidated_metadata/>
---     held_by_in numbers g, held_by g      the block that a group holds in these numbers, or in whole ones, where
--- there is one
+--     held_by_in numbers g      the block that a group holds in these numbers, if any
 --     block_beside s p m      the block that a store has beside the metadata of a group
 --     with_block g block      the group with a block or without one, all else as it was
 --     Fits m block, RefusesBlock m block e      that a group of these metadata takes a block; what refuses it
@@ -36,10 +35,6 @@ held_in numbers (V2 m) block = block
 -- the block that a group holds, read in these numbers, where there is one
 abbrev pub held_by_in : Numbers → GroupState → Option Block
 held_by_in numbers g = held_in numbers g.metadata g.block
-
--- the same, of a block whose numbers are whole
-abbrev pub held_by : GroupState → Option Block
-held_by g = held_by_in Whole g
 
 -- the block that a store has beside the metadata of a group: of a version 2 group the one that the document
 -- `.zmetadata` is, of a version 3 group none

@@ -21,12 +21,12 @@ use Rattle.zarrs_meta.specs.declared.node.GroupMetadata.{GroupMetadata}
 use Rattle.zarrs_meta.specs.declared.node.GroupMetadata.TheVariants.{V3, V2}
 use Rattle.zarrs_block.specs.Block.{Block}
 use Rattle.zarrs_group.specs.Groups.{GroupState, attributes_of_group, group_as_v3}
-use Rattle.zarrs_group.specs.Plain.{group_fault, group_fault_in, is_plain_group, is_plain_group_in}
+use Rattle.zarrs_group.specs.Plain.{group_fault_in, is_plain_group_in}
 use Rattle.zarrs_group.specs.Edits.{Edit, after, IsCutShort}
 use Rattle.zarrs_group.specs.Meaning.{MeansGroup}
 use Rattle.zarrs_meta.specs.Node.{group_without_attributes}
 use Rattle.zarrs_group.specs.StoringGroups.{AreEditsOf, RefusesStoring, StoresDocuments, erase_edits, store_changes}
-use Rattle.zarrs_group.specs.StoringGroups.{store_edits, stored_fault}
+use Rattle.zarrs_group.specs.StoringGroups.{store_edits, stored_fault_in}
 
 -- the new group has the path, the attributes, and the versions for storing and erasing that the old one has
 pub record IsKept (old new : GroupState) : Type 0 where
@@ -50,7 +50,7 @@ Version3Twice = (g : GroupState) → group_as_v3 (group_as_v3 g) ≡ group_as_v3
 
 -- metadata are refused exactly where they could not have come from documents
 abbrev pub PlainIsStored : Type 0
-PlainIsStored = (m : GroupMetadata) → (group_fault m ≡ None) ↔ IsTrue (is_plain_group m)
+PlainIsStored = (m : GroupMetadata) → (group_fault_in Whole m ≡ None) ↔ IsTrue (is_plain_group_in Whole m)
 
 -- the same where documents may hold these numbers
 abbrev pub PlainIsStoredIn : Numbers → Type 0
@@ -59,7 +59,7 @@ PlainIsStoredIn numbers = (m : GroupMetadata) → (group_fault_in numbers m ≡ 
 -- where a group could have come from documents whose numbers are whole, the edits that store it are exactly these
 abbrev pub WholeEditsAreExact : Type 0
 WholeEditsAreExact =
-    (p : Path) (m : GroupMetadata) (block : Option Block) (es : List Edit) → stored_fault p m block ≡ None
+    (p : Path) (m : GroupMetadata) (block : Option Block) (es : List Edit) → stored_fault_in Whole p m block ≡ None
     → AreEditsOf (store_changes p m block) es → es ≡ store_edits p m block
 
 -- where storing is refused over a store whose documents hold whole numbers only, or of a group that could have come
@@ -67,7 +67,7 @@ WholeEditsAreExact =
 abbrev pub WholeRefusalIsExact : Type 0
 WholeRefusalIsExact =
     (can_fail : Bool) (p : Path) (m : GroupMetadata) (block : Option Block) (S S' : Contents) (e : StorageError)
-    → (S.numbers ≡ Whole) ⊎ (stored_fault p m block ≡ None) → RefusesStoring can_fail p m block S S' e
+    → (S.numbers ≡ Whole) ⊎ (stored_fault_in Whole p m block ≡ None) → RefusesStoring can_fail p m block S S' e
     → IsCutShort S (store_edits p m block) S'
 
 -- every key but the four of a group has what it had

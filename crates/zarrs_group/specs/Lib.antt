@@ -7,7 +7,6 @@ pub mod Edits
 pub mod GivesBack
 pub mod Groups
 pub mod Laws
-pub mod Layout
 pub mod Lending
 pub mod StepsOfLending
 pub mod LentAttributes
@@ -16,5 +15,6 @@ pub mod OpeningGroups
 pub mod Plain
 pub mod StepsOfGroups
 pub mod StoredBlocks
+pub mod StoredTexts
 pub mod StoringGroups
 pub mod UnsupportedFields

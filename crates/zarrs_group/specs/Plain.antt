@@ -80,18 +80,10 @@ abbrev pub group_fault_in : Numbers → GroupMetadata → Option MetadataFault
 group_fault_in numbers (V3 m) = group_v3_fault_in numbers m
 group_fault_in numbers (V2 m) = group_v2_fault_in numbers m
 
--- why the metadata are not stored where numbers have to be whole, or nothing where they are
-abbrev pub group_fault : GroupMetadata → Option MetadataFault
-group_fault m = group_fault_in Whole m
-
 -- whether the metadata could have come from documents that may hold these numbers
 abbrev pub is_plain_group_in : Numbers → GroupMetadata → Bool
 is_plain_group_in numbers (V3 m) = is_plain_group_v3_in numbers m
 is_plain_group_in numbers (V2 m) = is_plain_group_v2_in numbers m
-
--- whether the metadata could have come from documents whose numbers are whole
-abbrev pub is_plain_group : GroupMetadata → Bool
-is_plain_group m = is_plain_group_in Whole m
 
 -- ---- the block of a version 2 group
 

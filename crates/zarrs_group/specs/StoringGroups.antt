@@ -37,7 +37,7 @@ use Rattle.zarrs_meta.specs.declared.group_v2.GroupMetadataV2.{GroupMetadataV2}
 use Rattle.zarrs_block.specs.Block.{Block}
 use Rattle.zarrs_block.specs.Zmetadata.{zmetadata_tree}
 use Rattle.zarrs_group.specs.Groups.{GroupState, metadata_by_version}
-use Rattle.zarrs_group.specs.Layout.{pretty_text, IsStoredText, IsReadAt}
+use Rattle.zarrs_group.specs.StoredTexts.{pretty_text, IsStoredText, IsReadAt}
 use Rattle.zarrs_group.specs.Plain.{group_fault_in, beside_fault_in}
 use Rattle.zarrs_group.specs.Edits.{Edit, set, remove, after, IsCutShort}
 
@@ -106,10 +106,6 @@ stored_fault_in numbers p m block =
     first_fault (fault_at (metadata_key p m) (group_fault_in numbers m))
     (fault_at (p ++ zmetadata ∷ []) (beside_fault_in numbers m block))
 
--- why a group is not stored where numbers have to be whole, with the key, or nothing where it is
-abbrev pub stored_fault : Path → GroupMetadata → Option Block → Option (Segments × MetadataFault)
-stored_fault p m block = stored_fault_in Whole p m block
-
 -- the refusal of a group before anything is written, where documents may hold these numbers: it is not plain in them,
 -- and the error names the key and why; or out of memory
 abbrev pub RefusesMetadata : Numbers → Path → GroupMetadata → Option Block → StorageError → Type 0
@@ -151,10 +147,6 @@ edits_of_group v g = store_edits g.path (metadata_by_version v g.metadata) g.blo
 -- why a group is not stored by a version where documents may hold these numbers, with the key, or nothing where it is
 abbrev pub fault_of_group_in : Numbers → MetadataConvertVersion → GroupState → Option (Segments × MetadataFault)
 fault_of_group_in numbers v g = stored_fault_in numbers g.path (metadata_by_version v g.metadata) g.block
-
--- why a group is not stored by a version where numbers have to be whole, with the key, or nothing where it is
-abbrev pub fault_of_group : MetadataConvertVersion → GroupState → Option (Segments × MetadataFault)
-fault_of_group v g = fault_of_group_in Whole v g
 
 -- a refused store of a group by a version
 abbrev pub RefusesStoringGroup : Bool → MetadataConvertVersion → GroupState → Contents → Contents → StorageError

@@ -9,9 +9,10 @@ ghost use Rattle.zarrs_meta.specs.declared.node.GroupMetadata.TheVariants.{V2};
 ghost use Rattle.zarrs_block.specs.Block.{block_tree};
 ghost use Rattle.zarrs_block.specs.Policy.{as_block};
 ghost use Rattle.zarrs_group.specs.BlocksBeside.{IsBeside};
-ghost use Rattle.zarrs_group.specs.BlocksOfGroups.{held_by, held_by_in, fields_with, metadata_with, with_block, Fits, RefusesBlock, CanHoldIn};
+ghost use Rattle.zarrs_group.specs.BlocksOfGroups.{held_by_in, fields_with, metadata_with, with_block, Fits, RefusesBlock, CanHoldIn};
 ghost use Rattle.zarrs_group.specs.Lending.{Rests};
 ghost use Rattle.zarrs_group.specs.StepsOfLending.{RestsLent, group_lent};
+ghost use Rattle.zarrs_fault.specs.declared.numbers.Numbers.TheVariants.{Whole};
 
 use crate::group::Group;
 use crate::group_value::field_of;
@@ -36,7 +37,7 @@ impl Group {
         &self,
         alloc: Global,
     ) -> Result<Option<ConsolidatedMetadata>, AllocError>
-        ensures { IfOk result (λ block. as_block block ≡ held_by self.now) }
+        ensures { IfOk result (λ block. as_block block ≡ held_by_in Whole self.now) }
     {
         self.consolidated_metadata_in(alloc, Numbers::Whole)
     }

@@ -9,12 +9,12 @@ ghost use Rattle.zarrs_block.specs.Policy.{as_block};
 ghost use Rattle.zarrs_group.specs.BlocksBeside.{IsBeside};
 ghost use Rattle.zarrs_group.specs.Children.{group_at};
 ghost use Rattle.zarrs_group.specs.BlocksOfGroups.{block_beside};
-ghost use Rattle.zarrs_group.specs.Plain.{group_fault};
+ghost use Rattle.zarrs_group.specs.Plain.{group_fault_in};
 ghost use Rattle.zarrs_group.specs.Edits.{after, IsCutShort};
 ghost use Rattle.zarrs_group.specs.Laws.{MeansStored};
 ghost use Rattle.zarrs_group.specs.Meaning.{MeansGroup};
 ghost use Rattle.zarrs_group.specs.OpeningGroups.{IsUnsupportedIn, RefusesMaking, RefusesOpeningGroup};
-ghost use Rattle.zarrs_group.specs.StoringGroups.{IsBlockReadBack, StoresGroup, edits_of_group, fault_of_group, fault_of_group_in, RefusesStoringGroup, erase_edits};
+ghost use Rattle.zarrs_group.specs.StoringGroups.{IsBlockReadBack, StoresGroup, edits_of_group, fault_of_group_in, RefusesStoringGroup, erase_edits};
 ghost use Rattle.zarrs_config.specs.declared.version.MetadataRetrieveVersion.TheVariants.{Default as BothVersions};
 
 use crate::consolidated::copy_of;
@@ -300,7 +300,7 @@ impl Group {
     ///
     /// Source: the `Display` of `zarrs::group::Group`.
     pub fn to_text(&self, alloc: Global) -> Result<String, AllocError>
-        ensures { IfOk result (λ text. group_fault self.now.metadata ≡ None
+        ensures { IfOk result (λ text. group_fault_in Whole self.now.metadata ≡ None
             → string_bytes text ≡ group_text self.now.path self.now.metadata) }
     {
         let path = self.path.as_str();
@@ -344,7 +344,7 @@ impl Group {
             (StoresGroup self.now.convert_version self.now
             (S.contents storage.old) (S.contents storage.new)) }
         ensures exact { OnOk result
-            (fault_of_group self.now.convert_version self.now ≡ None
+            (fault_of_group_in Whole self.now.convert_version self.now ≡ None
             → S.contents storage.new
             ≡ after (S.contents storage.old) (edits_of_group self.now.convert_version self.now)) }
         ensures means { OnOk result
@@ -397,7 +397,7 @@ impl Group {
         ensures ok { OnOk result
             (StoresGroup options.now self.now (S.contents storage.old) (S.contents storage.new)) }
         ensures exact { OnOk result
-            (fault_of_group options.now self.now ≡ None
+            (fault_of_group_in Whole options.now self.now ≡ None
             → S.contents storage.new
             ≡ after (S.contents storage.old) (edits_of_group options.now self.now)) }
         ensures means { OnOk result
@@ -493,6 +493,7 @@ impl Group {
 
 ghost use Rattle.std.specs.Borrow.{sem};
 ghost use Rattle.zarrs_group.specs.StepsOfGroups.{LendsAttributesOf};
+ghost use Rattle.zarrs_fault.specs.declared.numbers.Numbers.TheVariants.{Whole};
 
 // The attributes of either version, to be written.
 fn attributes_of_mut(metadata: &mut GroupMetadata) -> &mut Object
@@ -516,7 +517,7 @@ fn into_v3(alloc: Global, group: GroupMetadataV2) -> GroupMetadataV3
 
 // The metadata in the compact layout.
 fn metadata_text(alloc: Global, metadata: &GroupMetadata) -> Result<String, AllocError>
-    ensures { IfOk result (λ text. group_fault metadata.now ≡ None
+    ensures { IfOk result (λ text. group_fault_in Whole metadata.now ≡ None
         → string_bytes text ≡ compact_text (group_tree metadata.now)) }
 {
     let value = match metadata {

@@ -2,7 +2,7 @@
 //! which its law speaks; its contract is the law.
 ghost use Rattle.std.specs.Prelude.{◌≡◌, None, IfErr, OnOk};
 ghost use Rattle.zarrs_fault.specs.declared.numbers.Numbers.TheVariants.{Whole};
-ghost use Rattle.zarrs_group.specs.Layout.{StoredTextIsExact, StoredTextIsText};
+ghost use Rattle.zarrs_group.specs.StoredTexts.{StoredTextIsExact, StoredTextIsText};
 ghost use Rattle.zarrs_group.specs.Laws.{Version3Keeps, Version3Stays, Version3Twice, PlainIsStored, PlainIsStoredIn, WholeEditsAreExact, WholeRefusalIsExact, ErasingAllErases, OtherKeysStay, ArraysStay, StoredMeans, StoredMeansIn};
 ghost use Rattle.zarrs_group.specs.GivesBack.{GroupGivesBack, GroupV2GivesBack, StoredGivesBack, StoredGivesBackIn, StoredV2GivesBack};
 ghost use Rattle.zarrs_group.specs.StoredBlocks.{EditKeepsOthers, StoringKeepsOthers, MeansVersion3, ListedBlockOpens, WrittenBlockOpens};

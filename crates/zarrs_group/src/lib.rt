@@ -12,12 +12,12 @@ mod edit;
 mod group;
 mod group_value;
 pub mod laws;
-mod layout;
 mod nesting;
 mod open;
 mod plain;
 mod plain_names;
 mod stored;
+mod stored_text;
 mod unsupported;
 
 pub use builder::GroupBuilder;

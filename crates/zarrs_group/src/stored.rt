@@ -15,8 +15,8 @@ ghost use Rattle.zarrs_group.specs.StepsOfGroups.{edit_of};
 ghost use Rattle.zarrs_group.specs.StoringGroups.{AreEditsOf, IsEditAt, RefusesMetadata, own_changes, store_changes, erase_edits, stored_fault_in};
 
 use crate::edit::Edit;
-use crate::layout::pretty_bytes;
 use crate::plain::{block_fault, group_v2_fault, group_v3_fault};
+use crate::stored_text::pretty_bytes;
 use serde_json::Value;
 use std::alloc::{AllocError, Global};
 use zarrs_block::{ConsolidatedMetadata, NodeCreateError};

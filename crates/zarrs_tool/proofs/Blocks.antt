@@ -23,7 +23,7 @@ use Rattle.zarrs_node.specs.Nodes.{Nodes, Bad, ShowsBad}
 use Rattle.zarrs_block.proofs.BlockReads.{block_again}
 use Rattle.zarrs_node.proofs.Inverse.{kept_reads_back}
 use Rattle.zarrs_hierarchy.proofs.OpenedPairs.{below_refused}
-use Rattle.zarrs_group.specs.Layout.{pretty_text}
+use Rattle.zarrs_group.specs.StoredTexts.{pretty_text}
 use Rattle.zarrs_tool.specs.Output.{IsBlockText}
 use Rattle.zarrs_tool.specs.declared.fault.ToolFault.{ToolFault}
 use Rattle.zarrs_tool.specs.declared.fault.ToolFault.TheVariants.{Node}

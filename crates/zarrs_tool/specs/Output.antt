@@ -22,7 +22,7 @@ use Rattle.zarrs_block.specs.Block.{Block, IsAscending, IsBlockOf, block_tree}
 use Rattle.zarrs_block.specs.Meaning.{meaning, node}
 use Rattle.zarrs_node.specs.Order.{Ascend}
 use Rattle.zarrs_node.specs.Nodes.{Nodes, HasNothingBad}
-use Rattle.zarrs_group.specs.Layout.{pretty_text}
+use Rattle.zarrs_group.specs.StoredTexts.{pretty_text}
 use Rattle.zarrs_hierarchy.specs.OpeningHierarchies.{IsOpenedTree}
 use Rattle.zarrs_load.specs.Image.{IsLoaded}
 -- the texts of words

@@ -4,7 +4,7 @@ ghost use Rattle.serde_json.specs.Written.{has_float};
 ghost use Rattle.zarrs_fault.specs.declared.numbers.Numbers.TheVariants.{Whole};
 ghost use Rattle.zarrs_path.specs.Paths.{relative_names};
 ghost use Rattle.zarrs_block.specs.Block.{HasPlainNodesIn, block_tree};
-ghost use Rattle.zarrs_group.specs.Layout.{pretty_text};
+ghost use Rattle.zarrs_group.specs.StoredTexts.{pretty_text};
 ghost use Rattle.zarrs_tool.specs.Output.{IsBlockText};
 ghost use Rattle.zarrs_config.specs.declared.version.UseConsolidatedMetadata.TheVariants.{Auto};
 ghost use Rattle.zarrs_hierarchy.specs.OpeningHierarchies.{IsOpenedTree};

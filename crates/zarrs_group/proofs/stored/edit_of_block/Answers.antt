@@ -1,6 +1,6 @@
 use Rattle.std.proofs.Common.{ap, subst}
 use Rattle.zarrs_group.specs.Edits.{set}
-use Rattle.zarrs_group.specs.Layout.{IsStoredText}
+use Rattle.zarrs_group.specs.StoredTexts.{IsStoredText}
 use Rattle.zarrs_group.proofs.stored.edit_of_block.Goals as goal
 
 pub returns-clause-ok : goal.returns-clause-ok

@@ -4,7 +4,7 @@ use Rattle.serde_json.specs.View.{view}
 use Rattle.zarrs_meta.specs.GroupV2.{group_v2_tree}
 use Rattle.zarrs_meta.specs.Node.{group_without_attributes}
 use Rattle.zarrs_group.specs.Edits.{set}
-use Rattle.zarrs_group.specs.Layout.{IsStoredText}
+use Rattle.zarrs_group.specs.StoredTexts.{IsStoredText}
 use Rattle.zarrs_group.proofs.stored.edits_of_documents.Goals as goal
 
 pub returns : goal.returns

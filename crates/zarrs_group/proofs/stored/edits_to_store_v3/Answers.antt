@@ -3,7 +3,7 @@ use Rattle.zarrs_path.specs.Keys.{zarr_json}
 use Rattle.zarrs_meta.specs.GroupV3.{group_v3_tree}
 use Rattle.zarrs_meta.specs.declared.node.GroupMetadata.TheVariants.{V3}
 use Rattle.zarrs_group.specs.Edits.{set}
-use Rattle.zarrs_group.specs.Layout.{IsStoredText}
+use Rattle.zarrs_group.specs.StoredTexts.{IsStoredText}
 use Rattle.zarrs_group.specs.StepsOfGroups.{edit_of}
 use Rattle.zarrs_group.specs.StoringGroups.{AreEditsOf}
 use Rattle.zarrs_group.proofs.StoreLemmas.{beside_is}

@@ -1,7 +1,7 @@
 //! The bytes of a stored document.
 ghost use Rattle.std.specs.Prelude.{IfOk};
 ghost use Rattle.serde_json.specs.View.{view};
-ghost use Rattle.zarrs_group.specs.Layout.{IsStoredText};
+ghost use Rattle.zarrs_group.specs.StoredTexts.{IsStoredText};
 
 use serde_json::Value;
 use std::alloc::{AllocError, Global};

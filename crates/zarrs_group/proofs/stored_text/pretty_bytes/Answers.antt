@@ -1,7 +1,7 @@
 use Rattle.std.proofs.Common.{refl}
 use Rattle.std.proofs.lemmas.Str.{is_utf8-from_IsUtf8}
 use Rattle.zarrs_form.specs.Documents.{json_of}
-use Rattle.zarrs_group.proofs.layout.pretty_bytes.Goals as goal
+use Rattle.zarrs_group.proofs.stored_text.pretty_bytes.Goals as goal
 
 pub returns : goal.returns
 unfolding json_of
