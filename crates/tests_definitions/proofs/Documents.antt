@@ -5,7 +5,7 @@ use Rattle.zarrs_fault.specs.declared.fault.MetadataFault.TheVariants.{BadMember
 use Rattle.zarrs_fault.specs.declared.numbers.Numbers.TheVariants.{Whole}
 use Rattle.zarrs_form.specs.Documents.{of_bytes, json_of, ◌>>=◌}
 use Rattle.zarrs_form.specs.declared.extension.MetadataV3.{MetadataV3}
-use Rattle.zarrs_meta.specs.ArrayV3.{array_v3_of}
+use Rattle.zarrs_meta.specs.ArrayV3.{array_v3_in}
 use Rattle.zarrs_meta.specs.declared.array_v2.ArrayMetadataV2.{ArrayMetadataV2}
 use Rattle.zarrs_form.specs.declared.data_type.DataTypeMetadataV2.TheVariants.{Simple}
 use Rattle.zarrs_form.specs.declared.chunks.ArrayMetadataV2Order.TheVariants.{C}
@@ -21,7 +21,7 @@ use Rattle.zarrs_block.specs.DocumentsAtKeys.{in_trees}
 use Rattle.zarrs_block.specs.Meaning.{Meaning}
 use Rattle.zarrs_block.specs.Small.{counted_members}
 use Rattle.zarrs_block.specs.Block.{Block, block_of, block_of_in}
-use Rattle.zarrs_block.specs.Zmetadata.{zmetadata_of, zmetadata_in, zmetadata_members, documents_below, is_good, block_from}
+use Rattle.zarrs_block.specs.Zmetadata.{zmetadata_in, zmetadata_members_in, documents_below, is_good, block_from}
 use Rattle.tests_definitions.proofs.Stores.{listed_in, looked_up, quoted, texts_compute, documents_compute}
 use Rattle.tests_definitions.proofs.Meanings.{plain_group, small_array}
 
@@ -62,10 +62,10 @@ abbrev small_listed : Members → Path → Meaning
 small_listed ms p = looked_up (in_trees Whole) (λ k. find key_cmp k (map (λ e. ([] ++ e.0, e.1)) (counted_members ms))) V2 p
 
 -- each text reads as a document `.zmetadata` just as it does by these look-ups
-block_listed : (text : List ℕ) → of_bytes zmetadata_of text ≡ of_bytes (λ d. zmetadata_members d >>= λ ms. block_by (small_listed ms) ms) text
+block_listed : (text : List ℕ) → of_bytes (zmetadata_in Whole) text ≡ of_bytes (λ d. zmetadata_members_in Whole d >>= λ ms. block_by (small_listed ms) ms) text
 unfolding zmetadata_in
 block_listed text =
-    λ i. of_bytes (λ d. zmetadata_members d >>= λ ms. block_by (λ p. listed_in (in_trees Whole) (map (λ e. ([] ++ e.0, e.1)) (counted_members ms)) V2 p i) ms) text
+    λ i. of_bytes (λ d. zmetadata_members_in Whole d >>= λ ms. block_by (λ p. listed_in (in_trees Whole) (map (λ e. ([] ++ e.0, e.1)) (counted_members ms)) V2 p i) ms) text
 
 -- a document `.zmetadata` of a group and one array below it
 abbrev zmetadata_text : List ℕ
@@ -73,7 +73,7 @@ zmetadata_text =
     quoted (codes "{'zarr_consolidated_format':1,'metadata':{'.zgroup':{'zarr_format':2},'x/.zarray':{'zarr_format':2,'shape':[4,3],'chunks':[2,3],'dtype':'<f8','fill_value':null,'order':'C'}}}")
 
 -- a document `.zmetadata` is the block of what stands below its group
-zmetadata_reads : of_bytes zmetadata_of
+zmetadata_reads : of_bytes (zmetadata_in Whole)
     zmetadata_text
     ≡ Ok ((codes "x", small_array) ∷ [])
 unfolding documents_compute zmetadata_in
@@ -94,7 +94,7 @@ abbrev plain : List ℕ → Option Members → MetadataV3
 plain name configuration = record { name = name; configuration = configuration; must_understand = true }
 
 -- its text reads as this array
-array_reads : of_bytes array_v3_of array_text ≡ Ok (record {
+array_reads : of_bytes (array_v3_in Whole) array_text ≡ Ok (record {
   shape = 10000 ∷ 1000 ∷ [];
   data_type = plain (codes "float64") None;
   chunk_grid = plain (codes "regular") (Some (one (codes "chunk_shape") (array (item (number (unsigned 1000)) (item (number (unsigned 100)) no_items)))));

@@ -9,7 +9,7 @@ use Rattle.zarrs_meta.specs.declared.group_v2.GroupMetadataV2.{GroupMetadataV2}
 use Rattle.zarrs_meta.specs.declared.group_v3.GroupMetadataV3.{GroupMetadataV3}
 use Rattle.zarrs_meta.specs.declared.node.GroupMetadata.TheVariants.{V2, V3}
 use Rattle.zarrs_group.specs.Edits.{set, remove}
-use Rattle.zarrs_group.specs.Layout.{pretty_text}
+use Rattle.zarrs_group.specs.StoredTexts.{pretty_text}
 use Rattle.zarrs_group.specs.StoringGroups.{store_edits, erase_edits}
 use Rattle.tests_definitions.proofs.Meanings.{a}
 

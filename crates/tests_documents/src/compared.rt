@@ -6,7 +6,7 @@ use std::test::Fail;
 use tests_support::{check_rows, fields, made, said};
 use zarrs_compare::is_same_metadata;
 use zarrs_fault::Numbers;
-use zarrs_meta::{GroupMetadata, GroupMetadataV3, NodeMetadata, Object};
+use zarrs_meta::{Document, GroupMetadata, GroupMetadataV3, NodeMetadata, Object};
 
 // ---- documents
 

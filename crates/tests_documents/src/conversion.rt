@@ -13,8 +13,8 @@ use zarrs_convert::{
 use zarrs_fault::MetadataFault;
 use zarrs_form::{Form, Layout};
 use zarrs_meta::{
-    ArrayMetadataV2, ArrayMetadataV3, FillValueMetadata, GroupMetadataV2, GroupMetadataV3, List,
-    MetadataV3, Object, Text,
+    ArrayMetadataV2, ArrayMetadataV3, Document, FillValueMetadata, GroupMetadataV2,
+    GroupMetadataV3, List, MetadataV3, Object, Text,
 };
 
 // ---- what the tests share

@@ -14,7 +14,7 @@ use zarrs_convert::{
 use zarrs_fault::MetadataFault;
 use zarrs_form::{Form, Layout, required};
 use zarrs_meta::{
-    ArrayMetadataV2, DataTypeMetadataV2, Endianness, FillValueMetadata, List, MetadataV3,
+    ArrayMetadataV2, DataTypeMetadataV2, Document, Endianness, FillValueMetadata, List, MetadataV3,
 };
 
 // What a text reads as in the form of a type.

@@ -13,12 +13,8 @@ use zarrs_meta::{
 
 // ---- what the document types have in common
 
-// A type that reads itself from bytes and from a JSON value, and writes itself as a value and as a text.
-trait Written: Sized {
-    fn of_bytes(alloc: Global, bytes: &[u8]) -> Result<Self, MetadataFault>;
-
-    fn of_value(alloc: Global, value: &Value) -> Result<Self, MetadataFault>;
-
+// A document that writes itself as a value and as a text.
+trait Written: Document {
     fn value(&self, alloc: Global) -> Result<Value, AllocError>;
 
     fn text(&self, alloc: Global) -> Result<String, AllocError>;
@@ -30,14 +26,6 @@ trait Written: Sized {
 }
 
 impl Written for GroupMetadataV3 {
-    fn of_bytes(alloc: Global, bytes: &[u8]) -> Result<GroupMetadataV3, MetadataFault> {
-        GroupMetadataV3::from_bytes(alloc, bytes)
-    }
-
-    fn of_value(alloc: Global, value: &Value) -> Result<GroupMetadataV3, MetadataFault> {
-        GroupMetadataV3::from_value(alloc, value)
-    }
-
     fn value(&self, alloc: Global) -> Result<Value, AllocError> {
         self.to_value(alloc)
     }
@@ -60,14 +48,6 @@ impl Written for GroupMetadataV3 {
 }
 
 impl Written for GroupMetadataV2 {
-    fn of_bytes(alloc: Global, bytes: &[u8]) -> Result<GroupMetadataV2, MetadataFault> {
-        GroupMetadataV2::from_bytes(alloc, bytes)
-    }
-
-    fn of_value(alloc: Global, value: &Value) -> Result<GroupMetadataV2, MetadataFault> {
-        GroupMetadataV2::from_value(alloc, value)
-    }
-
     fn value(&self, alloc: Global) -> Result<Value, AllocError> {
         self.to_value(alloc)
     }
@@ -90,14 +70,6 @@ impl Written for GroupMetadataV2 {
 }
 
 impl Written for ArrayMetadataV3 {
-    fn of_bytes(alloc: Global, bytes: &[u8]) -> Result<ArrayMetadataV3, MetadataFault> {
-        ArrayMetadataV3::from_bytes(alloc, bytes)
-    }
-
-    fn of_value(alloc: Global, value: &Value) -> Result<ArrayMetadataV3, MetadataFault> {
-        ArrayMetadataV3::from_value(alloc, value)
-    }
-
     fn value(&self, alloc: Global) -> Result<Value, AllocError> {
         self.to_value(alloc)
     }
@@ -120,14 +92,6 @@ impl Written for ArrayMetadataV3 {
 }
 
 impl Written for ArrayMetadataV2 {
-    fn of_bytes(alloc: Global, bytes: &[u8]) -> Result<ArrayMetadataV2, MetadataFault> {
-        ArrayMetadataV2::from_bytes(alloc, bytes)
-    }
-
-    fn of_value(alloc: Global, value: &Value) -> Result<ArrayMetadataV2, MetadataFault> {
-        ArrayMetadataV2::from_value(alloc, value)
-    }
-
     fn value(&self, alloc: Global) -> Result<Value, AllocError> {
         self.to_value(alloc)
     }
@@ -150,14 +114,6 @@ impl Written for ArrayMetadataV2 {
 }
 
 impl Written for AttributesDocument {
-    fn of_bytes(alloc: Global, bytes: &[u8]) -> Result<AttributesDocument, MetadataFault> {
-        AttributesDocument::from_bytes(alloc, bytes)
-    }
-
-    fn of_value(alloc: Global, value: &Value) -> Result<AttributesDocument, MetadataFault> {
-        AttributesDocument::from_value(alloc, value)
-    }
-
     fn value(&self, alloc: Global) -> Result<Value, AllocError> {
         self.to_value(alloc)
     }
@@ -180,14 +136,6 @@ impl Written for AttributesDocument {
 }
 
 impl Written for NodeMetadata {
-    fn of_bytes(alloc: Global, bytes: &[u8]) -> Result<NodeMetadata, MetadataFault> {
-        NodeMetadata::from_bytes(alloc, bytes)
-    }
-
-    fn of_value(alloc: Global, value: &Value) -> Result<NodeMetadata, MetadataFault> {
-        NodeMetadata::from_value(alloc, value)
-    }
-
     fn value(&self, alloc: Global) -> Result<Value, AllocError> {
         self.to_value(alloc)
     }
@@ -238,14 +186,14 @@ fn written_both<D: Written>(document: &D, alloc: Global) -> Result<String, Alloc
 // The document of the value that a text is.
 fn of_value_of<D: Written>(alloc: Global, text: &str) -> Result<D, MetadataFault> {
     match Value::from_str(alloc, text) {
-        Ok(value) => D::of_value(alloc, &value),
+        Ok(value) => D::from_value(alloc, &value),
         Err(_) => Err(MetadataFault::NotJson),
     }
 }
 
 // What the bytes of a text, and the value that they are, read as, or are refused with.
 fn read_both<D: Written + Drop>(alloc: Global, text: &str) -> Result<String, AllocError> {
-    let of_bytes = said(alloc, D::of_bytes(alloc, text.as_bytes()), written_both)?;
+    let of_bytes = said(alloc, D::from_bytes(alloc, text.as_bytes()), written_both)?;
     let of_value = said(alloc, of_value_of::<D>(alloc, text), copied_text)?;
     agreed(alloc, of_bytes, of_value)
 }
@@ -510,24 +458,16 @@ fn stored_says(alloc: Global, given: &str) -> Result<String, AllocError> {
     let (kind, text) = fields(given);
     let bytes = text.as_bytes();
     match kind {
-        "zarr.json" => said(
-            alloc,
-            <ZarrJson as Document>::read(alloc, bytes),
-            zarr_json_text,
-        ),
-        "copy of zarr.json" => said(
-            alloc,
-            <ZarrJson as Document>::read(alloc, bytes),
-            zarr_json_copy,
-        ),
+        "zarr.json" => said(alloc, ZarrJson::from_bytes(alloc, bytes), zarr_json_text),
+        "copy of zarr.json" => said(alloc, ZarrJson::from_bytes(alloc, bytes), zarr_json_copy),
         ".zarray" => said(
             alloc,
-            <ArrayMetadataV2 as Document>::read(alloc, bytes),
+            ArrayMetadataV2::from_bytes(alloc, bytes),
             ArrayMetadataV2::to_text,
         ),
         "copy of .zarray" => said(
             alloc,
-            <ArrayMetadataV2 as Document>::read(alloc, bytes),
+            ArrayMetadataV2::from_bytes(alloc, bytes),
             zarray_copy,
         ),
         _ => stored_v2_says(alloc, kind, bytes),
@@ -539,22 +479,22 @@ fn stored_v2_says(alloc: Global, kind: &str, bytes: &[u8]) -> Result<String, All
     match kind {
         ".zgroup" => said(
             alloc,
-            <GroupMetadataV2 as Document>::read(alloc, bytes),
+            GroupMetadataV2::from_bytes(alloc, bytes),
             GroupMetadataV2::to_text,
         ),
         "copy of .zgroup" => said(
             alloc,
-            <GroupMetadataV2 as Document>::read(alloc, bytes),
+            GroupMetadataV2::from_bytes(alloc, bytes),
             zgroup_copy,
         ),
         ".zattrs" => said(
             alloc,
-            <AttributesDocument as Document>::read(alloc, bytes),
+            AttributesDocument::from_bytes(alloc, bytes),
             AttributesDocument::to_text,
         ),
         "copy of .zattrs" => said(
             alloc,
-            <AttributesDocument as Document>::read(alloc, bytes),
+            AttributesDocument::from_bytes(alloc, bytes),
             zattrs_copy,
         ),
         _ => String::from_str(alloc, "no such document"),
@@ -585,7 +525,7 @@ fn documents_of_a_store_read_and_copy_themselves(rt: HostRuntime) -> Result<(), 
 
 // The metadata of either version that a document goes into.
 fn wrapped<D: Written, W: From<D>>(alloc: Global, text: &str) -> Result<W, MetadataFault> {
-    match D::of_bytes(alloc, text.as_bytes()) {
+    match D::from_bytes(alloc, text.as_bytes()) {
         Ok(document) => Ok(W::from(document)),
         Err(fault) => Err(fault),
     }

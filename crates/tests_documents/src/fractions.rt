@@ -6,10 +6,10 @@ use std::alloc::{AllocError, Global};
 use std::test::Fail;
 use tests_support::{A3, G2, G3, check_rows, fields, said};
 use zarrs_fault::{MetadataFault, Numbers};
-use zarrs_form::{parse, take_member};
+use zarrs_form::{document_copy_in, document_in, parse, take_member};
 use zarrs_meta::{
-    ArrayMetadataV2, ArrayMetadataV3, AttributesDocument, GroupMetadataV2, GroupMetadataV3,
-    NodeMetadata, ZarrJson, laws,
+    ArrayMetadataV2, ArrayMetadataV3, AttributesDocument, Document, GroupMetadataV2,
+    GroupMetadataV3, NodeMetadata, ZarrJson, laws,
 };
 
 /// An array of version 2 with each member of the table that is written always.
@@ -71,19 +71,27 @@ fn of_value<K: Kind>(alloc: Global, numbers: Numbers, text: &str) -> Result<K, M
     K::of_value(alloc, numbers, &value)
 }
 
-fn of_owned<K: Kind>(alloc: Global, numbers: Numbers, text: &str) -> Result<K, MetadataFault> {
-    K::of_owned(alloc, numbers, parse(alloc, text.as_bytes())?)
+fn of_owned<K: Document>(alloc: Global, numbers: Numbers, text: &str) -> Result<K, MetadataFault> {
+    K::from_owned_value_in(alloc, numbers, parse(alloc, text.as_bytes())?)
 }
 
-fn of_members<K: Kind>(alloc: Global, numbers: Numbers, text: &str) -> Result<K, MetadataFault> {
+fn of_members<K: Document>(
+    alloc: Global,
+    numbers: Numbers,
+    text: &str,
+) -> Result<K, MetadataFault> {
     let value = parse(alloc, text.as_bytes())?;
-    K::of_members(alloc, numbers, &value)
+    K::from_members_in(alloc, numbers, document_copy_in(numbers, &value)?)
 }
 
 // What is read again of what is written of a document.
 fn again<K: Kind>(alloc: Global, numbers: Numbers, text: &str) -> Result<K, MetadataFault> {
-    let document = K::of_bytes(alloc, numbers, text.as_bytes())?;
-    K::of_owned(alloc, numbers, document.value(alloc)?)
+    let document = K::from_bytes_in(alloc, numbers, text.as_bytes())?;
+    K::from_members_in(
+        alloc,
+        numbers,
+        document_in(numbers, document.value(alloc)?)?,
+    )
 }
 
 // An answer, or it and another one that should have been the same.
@@ -104,7 +112,7 @@ fn agreed(
 fn read<K: Kind>(alloc: Global, numbers: Numbers, text: &str) -> Result<String, AllocError> {
     let answer = said(
         alloc,
-        K::of_bytes(alloc, numbers, text.as_bytes()),
+        K::from_bytes_in(alloc, numbers, text.as_bytes()),
         written::<K>,
     )?;
     let other = said(alloc, of_value::<K>(alloc, numbers, text), written::<K>);

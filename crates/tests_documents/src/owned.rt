@@ -7,22 +7,10 @@ use std::test::Fail;
 use tests_support::{check_rows, fields, said};
 use zarrs_fault::MetadataFault;
 use zarrs_form::document;
-use zarrs_meta::{ArrayMetadataV2, AttributesDocument, GroupMetadataV2, NodeMetadata};
+use zarrs_meta::{ArrayMetadataV2, AttributesDocument, Document, GroupMetadataV2, NodeMetadata};
 
-fn array_of_members(alloc: Global, value: Value) -> Result<ArrayMetadataV2, MetadataFault> {
-    ArrayMetadataV2::from_members(alloc, document(value)?)
-}
-
-fn group_of_members(alloc: Global, value: Value) -> Result<GroupMetadataV2, MetadataFault> {
-    GroupMetadataV2::from_members(alloc, document(value)?)
-}
-
-fn attributes_of_members(alloc: Global, value: Value) -> Result<AttributesDocument, MetadataFault> {
-    AttributesDocument::from_members(alloc, document(value)?)
-}
-
-fn node_of_members(alloc: Global, value: Value) -> Result<NodeMetadata, MetadataFault> {
-    NodeMetadata::from_members(alloc, document(value)?)
+fn of_members<D: Document>(alloc: Global, value: Value) -> Result<D, MetadataFault> {
+    D::from_members(alloc, document(value)?)
 }
 
 // What a document of version 2 reads as from the value that a text is.
@@ -52,20 +40,9 @@ fn members_say(alloc: Global, given: &str) -> Result<String, MetadataFault> {
     let (kind, text) = fields(given);
     let value = value_of(alloc, text)?;
     let answer = match kind {
-        "array" => said(
-            alloc,
-            array_of_members(alloc, value),
-            ArrayMetadataV2::to_text,
-        ),
-        "group" => said(
-            alloc,
-            group_of_members(alloc, value),
-            GroupMetadataV2::to_text,
-        ),
-        "attributes" => {
-            let attributes = attributes_of_members(alloc, value);
-            said(alloc, attributes, AttributesDocument::to_text)
-        }
+        "array" => said(alloc, of_members(alloc, value), ArrayMetadataV2::to_text),
+        "group" => said(alloc, of_members(alloc, value), GroupMetadataV2::to_text),
+        "attributes" => said(alloc, of_members(alloc, value), AttributesDocument::to_text),
         _ => String::from_str(alloc, "no such document"),
     };
     Ok(answer?)
@@ -97,7 +74,7 @@ fn members_of_a_document_are_read(rt: HostRuntime) -> Result<(), Fail> {
 }
 
 fn node_says(alloc: Global, text: &str) -> Result<String, MetadataFault> {
-    let node = node_of_members(alloc, value_of(alloc, text)?);
+    let node = of_members(alloc, value_of(alloc, text)?);
     Ok(said(alloc, node, NodeMetadata::to_text)?)
 }
 

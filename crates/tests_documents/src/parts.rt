@@ -10,8 +10,8 @@ use tests_support::{A2, check_rows, fields, made, printed, said};
 use zarrs_fault::MetadataFault;
 use zarrs_meta::{
     AdditionalFieldV3, AdditionalFieldsV3, ArrayMetadataV2, ArrayMetadataV3, DataTypeMetadataV2,
-    Endianness, FillValueMetadata, GroupMetadataV2, GroupMetadataV3, Json, List, MetadataV2,
-    MetadataV3, Object, Text,
+    Document, Endianness, FillValueMetadata, GroupMetadataV2, GroupMetadataV3, Json, List,
+    MetadataV2, MetadataV3, Object, Text,
 };
 
 // ---- small parts: what each says of itself, of its copy, and once it was taken apart and put together

@@ -8,7 +8,7 @@ use tests_support::{A3, G3, check_rows, fields, refusal, said};
 use zarrs_block::NodeCreateError;
 use zarrs_config::UseConsolidatedMetadata;
 use zarrs_examples::{ConvertError, convert_hierarchy, erase_version_2};
-use zarrs_meta::NodeMetadata;
+use zarrs_meta::{Document, NodeMetadata};
 use zarrs_node::{Node, laws};
 use zarrs_path::NodePath;
 use zarrs_store::{

@@ -15,7 +15,7 @@ use zarrs_block::NodeCreateError;
 use zarrs_config::Config;
 use zarrs_group::{Group, GroupBuilder, GroupCreateError};
 use zarrs_hierarchy::{Hierarchy, depth, laws, tree_at, walk_hierarchy};
-use zarrs_meta::{ArrayMetadata, ArrayMetadataV2, ArrayMetadataV3, NodeMetadata};
+use zarrs_meta::{ArrayMetadata, ArrayMetadataV2, ArrayMetadataV3, Document, NodeMetadata};
 use zarrs_node::get_all_nodes_of;
 use zarrs_path::NodePath;
 use zarrs_store::{MemoryStore, MetadataFault};

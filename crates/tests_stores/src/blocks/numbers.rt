@@ -9,7 +9,7 @@ use zarrs_block::{
     ConsolidatedMetadata, NodeCreateError, consolidated_metadata_for_open_in,
     consolidated_metadata_of_in, laws,
 };
-use zarrs_meta::NodeMetadata;
+use zarrs_meta::{Document, NodeMetadata};
 use zarrs_path::NodePath;
 use zarrs_store::{MetadataFault, Numbers};
 

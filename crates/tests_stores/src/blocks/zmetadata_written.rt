@@ -3,7 +3,7 @@ use serde_json::Value;
 use std::alloc::Global;
 use std::test::Fail;
 use tests_support::{check_rows, fields, said};
-use zarrs_meta::GroupMetadataV2;
+use zarrs_meta::{Document, GroupMetadataV2};
 use zarrs_store::MetadataFault;
 
 // The document of a group and those of a block at their keys, and the document of both.
