@@ -16,7 +16,10 @@ use zarrs_config::{
     UseConsolidatedMetadata,
 };
 use zarrs_group::{AdditionalFieldUnsupportedError, Group, GroupBuilder, GroupCreateError, laws};
-use zarrs_meta::{AdditionalFieldV3, AdditionalFieldsV3, Document, GroupMetadata, GroupMetadataV2, GroupMetadataV3, Object};
+use zarrs_meta::{
+    AdditionalFieldV3, AdditionalFieldsV3, Document, GroupMetadata, GroupMetadataV2,
+    GroupMetadataV3, Object,
+};
 use zarrs_node::Node;
 use zarrs_path::{NodePath, NodePathError};
 use zarrs_store::{MemoryStore, Numbers, StorageError, StorePrefix};

@@ -15,7 +15,9 @@ use std::alloc::{AllocError, Global};
 use zarrs_compare::is_same_metadata;
 use zarrs_fault::{MetadataFault, Numbers};
 use zarrs_form::{Object, member};
-use zarrs_meta::{ArrayMetadataV2, AttributesDocument, Document, GroupMetadata, GroupMetadataV2, NodeMetadata};
+use zarrs_meta::{
+    ArrayMetadataV2, AttributesDocument, Document, GroupMetadata, GroupMetadataV2, NodeMetadata,
+};
 
 // Whether a document `.zmetadata`, which may hold these numbers, has other attributes of its group than these.
 pub(crate) fn has_other_attributes(
