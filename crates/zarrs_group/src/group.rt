@@ -2,6 +2,7 @@
 ghost use Rattle.std.specs.Prelude.{◌≡◌, ◌≢◌, None, string_bytes, IfOk, IfErr, OnOk, OnErr};
 ghost use Rattle.serde_json.specs.Written.{compact_text};
 ghost use Rattle.zarrs_store.specs.Faults.{IsStoreError};
+ghost use Rattle.zarrs_fault.specs.declared.numbers.Numbers.TheVariants.{Whole};
 ghost use Rattle.zarrs_path.specs.Paths.{IsPath, path_text};
 ghost use Rattle.zarrs_meta.specs.declared.node.GroupMetadata.TheVariants.{V3, V2};
 ghost use Rattle.zarrs_group.specs.Groups.{HasChoicesOf, attributes_of_group, as_v3, metadata_by_version, group_as_v3, group_text, group_tree};
@@ -493,7 +494,6 @@ impl Group {
 
 ghost use Rattle.std.specs.Borrow.{sem};
 ghost use Rattle.zarrs_group.specs.StepsOfGroups.{LendsAttributesOf};
-ghost use Rattle.zarrs_fault.specs.declared.numbers.Numbers.TheVariants.{Whole};
 
 // The attributes of either version, to be written.
 fn attributes_of_mut(metadata: &mut GroupMetadata) -> &mut Object
