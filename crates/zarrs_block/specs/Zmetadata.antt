@@ -22,7 +22,6 @@ use Rattle.zarrs_store.specs.Segments.{Segments, key_text}
 use Rattle.zarrs_fault.specs.declared.fault.MetadataFault.{MetadataFault}
 use Rattle.zarrs_fault.specs.declared.fault.MetadataFault.TheVariants.{BadMember}
 use Rattle.zarrs_fault.specs.declared.numbers.Numbers.{Numbers}
-use Rattle.zarrs_fault.specs.declared.numbers.Numbers.TheVariants.{Whole}
 use Rattle.zarrs_path.specs.Keys.{zarray, zgroup, zattrs}
 use Rattle.zarrs_path.specs.Names.{is_name}
 use Rattle.zarrs_path.specs.Paths.{Path, IsPath}

@@ -10,7 +10,6 @@
 use Rattle.std.specs.Prelude.{◌≡◌, false, [], ◌∷◌, Option, Some, None, codes}
 use Rattle.serde_json.specs.Data.{Members, put}
 use Rattle.zarrs_fault.specs.declared.numbers.Numbers.{Numbers}
-use Rattle.zarrs_fault.specs.declared.numbers.Numbers.TheVariants.{Whole}
 use Rattle.zarrs_store.specs.Contents.{Contents}
 use Rattle.zarrs_path.specs.Paths.{Path}
 use Rattle.zarrs_form.specs.Documents.{besides}

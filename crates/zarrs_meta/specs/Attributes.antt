@@ -6,7 +6,6 @@ use Rattle.zarrs_form.specs.Documents.{◌>>=◌, AsksFirst, document_in}
 use Rattle.zarrs_form.specs.Forms.{fits_in}
 use Rattle.zarrs_fault.specs.declared.fault.MetadataFault.{MetadataFault}
 use Rattle.zarrs_fault.specs.declared.numbers.Numbers.{Numbers}
-use Rattle.zarrs_fault.specs.declared.numbers.Numbers.TheVariants.{Whole}
 use Rattle.zarrs_meta.specs.declared.attributes.AttributesDocument.{AttributesDocument}
 
 -- the attributes are all the members of a document that may hold these numbers

@@ -8,7 +8,6 @@ use Rattle.zarrs_form.specs.Documents.{has_own, is_null, is_empty}
 use Rattle.zarrs_form.specs.Forms.{number_data, fits_in, unless, put_rows}
 use Rattle.zarrs_fault.specs.declared.fault.MetadataFault.{MetadataFault}
 use Rattle.zarrs_fault.specs.declared.numbers.Numbers.{Numbers}
-use Rattle.zarrs_fault.specs.declared.numbers.Numbers.TheVariants.{Whole}
 use Rattle.zarrs_meta.specs.declared.group_v3.GroupMetadataV3.{GroupMetadataV3}
 
 -- `zarr_format`, `node_type` and the member of the table
