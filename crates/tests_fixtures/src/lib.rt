@@ -16,7 +16,7 @@ pub use words::{document_of, no_word, policy_of, version_of};
 use zarrs_block::{ConsolidatedMetadataMetadata, NodeCreateError};
 use zarrs_config::{Config, MetadataRetrieveVersion, UseConsolidatedMetadata};
 use zarrs_meta::NodeMetadata;
-use zarrs_node::{ListedNodes, ListedPaths, Node, get_child_nodes, list_nodes, list_paths};
+use zarrs_node::{ListedNodes, Node, get_child_nodes, list_nodes, walk_nodes};
 use zarrs_path::NodePath;
 use zarrs_store::{
     ListableStorageTraits, MemoryStore, ReadableStorageTraits, StorageError, StoreKey,
@@ -169,6 +169,15 @@ pub fn listed(
     listed_in(alloc, &store, base, recursive, version)
 }
 
+/// The paths that a walk hands to a list, and those that it passed over.
+#[derive(Drop)]
+pub struct ListedPaths {
+    /// The paths of the nodes.
+    pub paths: Vec<NodePath>,
+    /// The paths without documents.
+    pub ignored: Vec<NodePath>,
+}
+
 /// The paths that are listed below a path of a store.
 pub fn paths_listed_in<S: ReadableStorageTraits + ListableStorageTraits>(
     alloc: Global,
@@ -178,7 +187,9 @@ pub fn paths_listed_in<S: ReadableStorageTraits + ListableStorageTraits>(
     version: MetadataRetrieveVersion,
 ) -> Result<ListedPaths, NodeCreateError> {
     let base = NodePath::new(alloc, base)?;
-    list_paths(alloc, store, &base, recursive, &version)
+    let mut paths = Vec::<NodePath>::new(alloc);
+    let ignored = walk_nodes(alloc, store, &base, recursive, &version, &mut paths)?;
+    Ok(ListedPaths { paths, ignored })
 }
 
 /// The paths that are listed below a path of the store with these documents.

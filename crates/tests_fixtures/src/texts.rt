@@ -1,11 +1,11 @@
 //! What tests write of nodes, pairs, listings and blocks: each path, and behind it the document of the metadata.
 
-use crate::A3_SQUARE;
+use crate::{A3_SQUARE, ListedPaths};
 use std::alloc::{AllocError, Global};
 use tests_support::{A3, G2, G3};
 use zarrs_block::ConsolidatedMetadataMetadata;
-use zarrs_meta::NodeMetadata;
-use zarrs_node::{ListedNodes, ListedPaths, Node};
+use zarrs_meta::{NodeMetadata, WrittenDocument};
+use zarrs_node::{ListedNodes, Node};
 use zarrs_path::NodePath;
 
 /// The array `A2` as it is written: with the separator that it has where it names none.

@@ -3,10 +3,12 @@
 use crate::given::{is_all, store_in};
 use std::alloc::{AllocError, Global};
 use std::test::Fail;
-use tests_fixtures::{listed_in, listing_text, paths_listed_in, paths_listing_text, version_of};
+use tests_fixtures::{
+    ListedPaths, listed_in, listing_text, paths_listed_in, paths_listing_text, version_of,
+};
 use tests_support::{check_rows, fields, said};
 use zarrs_block::NodeCreateError;
-use zarrs_node::{ListedNodes, ListedPaths};
+use zarrs_node::ListedNodes;
 
 // What is listed as a row says: the base, whether all below it is, the version, and the store.
 fn listed_given(alloc: Global, given: &str) -> Result<ListedNodes, NodeCreateError> {

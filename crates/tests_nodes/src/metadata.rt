@@ -6,7 +6,7 @@ use std::test::Fail;
 use tests_fixtures::{metadata_in, version_of};
 use tests_support::{check_rows, fields, said};
 use zarrs_block::NodeCreateError;
-use zarrs_meta::NodeMetadata;
+use zarrs_meta::{NodeMetadata, WrittenDocument};
 use zarrs_node::{node_exists, node_exists_listable};
 use zarrs_path::NodePath;
 use zarrs_store::MemoryStore;

@@ -13,8 +13,8 @@ use zarrs_block::NodeCreateError;
 use zarrs_config::MetadataRetrieveVersion;
 use zarrs_meta::NodeMetadata;
 use zarrs_node::{
-    LISTING, Node, get_all_nodes_of, get_child_nodes, get_child_nodes_opt, get_child_paths,
-    get_child_paths_opt, laws, walk_nodes, warn_ignored,
+    LISTING, Node, get_all_nodes_of, get_child_nodes, get_child_nodes_opt, laws, walk_nodes,
+    warn_ignored,
 };
 use zarrs_path::{NodePath, meta_key_v3};
 use zarrs_store::{MemoryStore, WritableStorageTraits};
@@ -28,9 +28,10 @@ fn walked<L: Log>(
     alloc: Global,
     store: &MemoryStore,
     base: &NodePath,
+    version: &MetadataRetrieveVersion,
 ) -> Result<Vec<NodePath>, NodeCreateError> {
     let mut paths = Vec::new(alloc);
-    let ignored = walk_nodes(alloc, store, base, true, &ANY, &mut paths)?;
+    let ignored = walk_nodes(alloc, store, base, true, version, &mut paths)?;
     warn_ignored(log, LISTING, &ignored);
     Ok(paths)
 }
@@ -54,17 +55,8 @@ fn listed_by<L: Log>(
             get_all_nodes_of(log, alloc, store, base, &ANY),
             pairs_text,
         ),
-        "paths" => said(
-            alloc,
-            get_child_paths(log, alloc, store, base, true),
-            paths_text,
-        ),
-        "paths of version 3" => said(
-            alloc,
-            get_child_paths_opt(log, alloc, store, base, true, &V3),
-            paths_text,
-        ),
-        "walked" => said(alloc, walked(log, alloc, store, base), paths_text),
+        "walked" => said(alloc, walked(log, alloc, store, base, &ANY), paths_text),
+        "walked by version 3" => said(alloc, walked(log, alloc, store, base, &V3), paths_text),
         call => format!(in alloc; "no such call: {call}"),
     }
 }
@@ -122,9 +114,9 @@ nodes | /root | root/zarr.json {"attributes":{"info":"The store for this group c
 pairs | / | g/zarr.json G3;g/x/content NUL;y/c NUL => /g G3\nwarned: [WARN  zarrs_node::children] Object at /g/x is not recognized as a component of a Zarr hierarchy. Ignoring.\n[WARN  zarrs_node::children] Object at /y is not recognized as a component of a Zarr hierarchy. Ignoring.\n
 
 # paths are listed with the same warnings
-paths of version 3 | / | g/zarr.json G3;y/.zgroup G2 => /g\nwarned: [WARN  zarrs_node::children] Object at /y is not recognized as a component of a Zarr hierarchy. Ignoring.\n
+walked by version 3 | / | g/zarr.json G3;y/.zgroup G2 => /g\nwarned: [WARN  zarrs_node::children] Object at /y is not recognized as a component of a Zarr hierarchy. Ignoring.\n
 walked | / | g/zarr.json G3;g/a/zarr.json A3;y/c NUL => /g\n/g/a\nwarned: [WARN  zarrs_node::children] Object at /y is not recognized as a component of a Zarr hierarchy. Ignoring.\n
-paths | / | g/zarr.json G3;g/x/content NUL;y/c NUL => /g\nwarned: [WARN  zarrs_node::children] Object at /g/x is not recognized as a component of a Zarr hierarchy. Ignoring.\n[WARN  zarrs_node::children] Object at /y is not recognized as a component of a Zarr hierarchy. Ignoring.\n
+walked | / | g/zarr.json G3;g/x/content NUL;y/c NUL => /g\nwarned: [WARN  zarrs_node::children] Object at /g/x is not recognized as a component of a Zarr hierarchy. Ignoring.\n[WARN  zarrs_node::children] Object at /y is not recognized as a component of a Zarr hierarchy. Ignoring.\n
 "#;
 
 #[test]

@@ -11,7 +11,7 @@ use tests_fixtures::{
 };
 use tests_support::{check_rows, fields, said};
 use zarrs_block::{ConsolidatedMetadata, ConsolidatedMetadataMetadata, NodeCreateError};
-use zarrs_meta::NodeMetadata;
+use zarrs_meta::{NodeMetadata, WrittenDocument};
 use zarrs_node::{Node, get_all_nodes_of, refresh_block, zmetadata_at};
 use zarrs_path::NodePath;
 use zarrs_store::{AnyNumbers, ListableStorageTraits, ReadableStorageTraits};

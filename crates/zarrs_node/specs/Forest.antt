@@ -52,16 +52,6 @@ pub record Shows (f : Forest) (b : Path) (N : Pair → Type 0) : Type 0 where
   pub shown : Lists N (pairs f)
   pub placed : IsPlaced b f
 
--- the paths of a forest, parents before children
-abbrev pub paths_of : Forest → List Path
-paths_of f = map (λ e. e.0) (pairs f)
-
--- xs are the paths of a forest that shows N below b, parents before children
-pub record ShowsPaths (xs : List Path) (b : Path) (N : Pair → Type 0) : Type 0 where
-  pub trees : Forest
-  pub shows : Shows trees b N
-  pub are : xs ≡ paths_of trees
-
 -- the forest of some trees, each a function that puts it in front of the trees after it
 abbrev pub plant_all : List (Forest → Forest) → Forest
 plant_all [] = none

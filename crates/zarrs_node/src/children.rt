@@ -2,7 +2,7 @@
 ghost use Rattle.std.specs.Prelude.{IfOk, IfErr, true};
 ghost use Rattle.zarrs_store.specs.Contents.{Lists};
 ghost use Rattle.zarrs_block.specs.Refusals.{IsExcusedOr};
-ghost use Rattle.zarrs_node.specs.Forest.{Shows, ShowsPaths, forest};
+ghost use Rattle.zarrs_node.specs.Forest.{Shows, forest};
 ghost use Rattle.zarrs_node.specs.Nodes.{Nodes, ShowsBad, HasNothingBad};
 ghost use Rattle.zarrs_block.specs.Block.{IsAscending, IsBlockOf};
 ghost use Rattle.zarrs_node.specs.Order.{Ascend};
@@ -10,7 +10,6 @@ ghost use Rattle.zarrs_node.specs.Order.{Ascend};
 use crate::descent::walk_nodes;
 use crate::listing::list_nodes;
 use crate::node::Node;
-use crate::paths::list_paths;
 use crate::refresh::insert_pairs;
 use log::{Log, target_or, warn};
 use std::alloc::Global;
@@ -89,71 +88,6 @@ pub fn get_child_nodes_opt<L: Log, S: ReadableStorageTraits + ListableStorageTra
     let listed = list_nodes(alloc, storage, path, recursive, version)?;
     warn_ignored(log, LISTING, &listed.ignored);
     Ok(listed.nodes)
-}
-
-/// The paths of the nodes below a path, parents before children, siblings ascending, by the documents of version 3 and where there is none by those of version 2.
-/// Each document is read as for the nodes, and its metadata are not kept. A path without documents is passed over with all below it, and warned of.
-///
-/// # Errors
-///
-/// The refusals of `get_child_nodes_opt`.
-///
-/// Source: `zarrs::node::get_child_nodes`, its nodes by their paths.
-pub fn get_child_paths<L: Log, S: ReadableStorageTraits + ListableStorageTraits>(
-    log: &L,
-    alloc: Global,
-    storage: &S,
-    path: &NodePath,
-    recursive: bool,
-) -> Result<Vec<NodePath>, NodeCreateError>
-    ensures shows { IfOk result
-        (λ paths. ShowsPaths paths.items path.now
-        (Nodes (S.contents storage.now) MetadataRetrieveVersion.Default recursive path.now)) }
-    ensures clean { IfOk result
-        (λ _. HasNothingBad (S.contents storage.now) MetadataRetrieveVersion.Default recursive
-        path.now) }
-    ensures refused { IfErr result
-        (IsExcusedOr (S.can_fail storage.now)
-        (ShowsBad (S.contents storage.now) MetadataRetrieveVersion.Default recursive path.now)) }
-{
-    get_child_paths_opt(
-        log,
-        alloc,
-        storage,
-        path,
-        recursive,
-        &MetadataRetrieveVersion::Default,
-    )
-}
-
-/// The paths of the nodes below a path, parents before children, siblings ascending, by the documents of a version.
-/// Each document is read as for the nodes, and its metadata are not kept. A path without documents is passed over with all below it, and warned of.
-///
-/// # Errors
-///
-/// The refusals of `get_child_nodes_opt`.
-///
-/// Source: `zarrs::node::get_child_nodes_opt`, its nodes by their paths.
-pub fn get_child_paths_opt<L: Log, S: ReadableStorageTraits + ListableStorageTraits>(
-    log: &L,
-    alloc: Global,
-    storage: &S,
-    path: &NodePath,
-    recursive: bool,
-    version: &MetadataRetrieveVersion,
-) -> Result<Vec<NodePath>, NodeCreateError>
-    ensures shows { IfOk result
-        (λ paths. ShowsPaths paths.items path.now
-        (Nodes (S.contents storage.now) version.now recursive path.now)) }
-    ensures clean { IfOk result
-        (λ _. HasNothingBad (S.contents storage.now) version.now recursive path.now) }
-    ensures refused { IfErr result
-        (IsExcusedOr (S.can_fail storage.now)
-        (ShowsBad (S.contents storage.now) version.now recursive path.now)) }
-{
-    let listed = list_paths(alloc, storage, path, recursive, version)?;
-    warn_ignored(log, LISTING, &listed.ignored);
-    Ok(listed.paths)
 }
 
 /// Warns of each path that a walk passed over: in the name of the module, where the logging value has no target of its own.

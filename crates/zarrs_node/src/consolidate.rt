@@ -13,7 +13,7 @@ use crate::node::Node;
 use crate::preorder::Preorder;
 use std::alloc::{AllocError, Global};
 use zarrs_block::ConsolidatedMetadataMetadata;
-use zarrs_meta::NodeMetadata;
+use zarrs_meta::{Document, NodeMetadata};
 use zarrs_path::NodePath;
 
 impl Node {

@@ -4,6 +4,7 @@ ghost use Rattle.zarrs_node.specs.Forest.{forest};
 
 use crate::node::{Node, push_node};
 use std::alloc::{AllocError, Global};
+use zarrs_meta::Document;
 
 // A node whose children are being copied: the node, the copies of those before it, and those after it.
 #[derive(Drop)]

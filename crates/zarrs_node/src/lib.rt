@@ -17,7 +17,6 @@ mod listing;
 mod metadata;
 mod node;
 mod open;
-mod paths;
 mod preorder;
 mod refresh;
 mod sink;
@@ -27,7 +26,7 @@ mod zmetadata;
 pub use build::{build_node_tree, build_node_tree_counted, direct_children_from_flat};
 pub use children::{
     LISTING, consolidate_nodes_of, get_all_nodes_of, get_child_nodes, get_child_nodes_opt,
-    get_child_paths, get_child_paths_opt, warn_ignored,
+    warn_ignored,
 };
 pub use descent::{WalkedPast, walk_nodes, walk_past_faults};
 pub use exists::{node_exists, node_exists_listable};
@@ -35,7 +34,6 @@ pub use fault::NodeFault;
 pub use listing::{ListedNodes, list_nodes};
 pub use node::Node;
 pub use open::nodes_of_block;
-pub use paths::{ListedPaths, list_paths};
 pub use refresh::{refresh_block, refresh_owned_block};
 pub use sink::NodeSink;
 pub use text::NodeLine;

@@ -9,7 +9,7 @@ use crate::copies::copy_nodes;
 use crate::last_name::{is_child, last_name};
 use std::alloc::{AllocError, Global};
 use std::fmt;
-use zarrs_meta::NodeMetadata;
+use zarrs_meta::{Document, NodeMetadata};
 use zarrs_path::{NodeName, NodePath};
 
 /// A node of a hierarchy: its path, its metadata and the nodes directly below it, each with those below it.

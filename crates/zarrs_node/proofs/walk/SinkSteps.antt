@@ -1,5 +1,5 @@
 -- What a sink took of a walk.
-use Rattle.std.proofs.Common.{◌≡◌, Bool, Option, Ok, true, List, [], ◌∷◌, ◌++◌, map, reverse, refl, sym, ap, subst, ◌∙◌, append-nil, append_assoc, Contains, ◌↔◌}
+use Rattle.std.proofs.Common.{◌≡◌, Bool, Option, Ok, true, List, [], ◌∷◌, ◌++◌, reverse, refl, sym, ap, subst, ◌∙◌, append-nil, append_assoc, Contains, ◌↔◌}
 use Rattle.std.specs.Global.{Vec}
 use Rattle.std.specs.List.{flat_map}
 use Rattle.zarrs_path.specs.Paths.{Path, IsPath}
@@ -10,7 +10,7 @@ use Rattle.zarrs_meta.specs.declared.node.NodeMetadata.{NodeMetadata}
 use Rattle.zarrs_config.specs.declared.version.MetadataRetrieveVersion.{MetadataRetrieveVersion}
 use Rattle.zarrs_block.specs.Meaning.{meaning}
 use Rattle.zarrs_node.specs.StepsOfDocuments.{Finds}
-use Rattle.zarrs_node.specs.Forest.{Forest, pairs, Shows, ShowsPaths}
+use Rattle.zarrs_node.specs.Forest.{Forest, pairs, Shows}
 use Rattle.zarrs_node.specs.StepsOfTrees.{own_node, paths_passed, is_group_found}
 use Rattle.zarrs_node.specs.Nodes.{Nodes, Ignored}
 use Rattle.zarrs_node.specs.Faults.{Faults}
@@ -20,7 +20,7 @@ use Rattle.zarrs_node.proofs.walk.WalkSteps.{PathFault}
 use Rattle.zarrs_store.specs.Segments.{IsPrefix}
 use Rattle.zarrs_node.specs.Order.{Ascend}
 use Rattle.zarrs_node.specs.Reach.{Kept}
-use Rattle.zarrs_node.specs.Sinks.{TakesAll, TakesForest, KeepsPath, KeepsPair}
+use Rattle.zarrs_node.specs.Sinks.{TakesAll, TakesForest, KeepsPair}
 use Rattle.zarrs_node.proofs.FlatForests.{shows_same}
 use Rattle.zarrs_node.proofs.ListedItems.{listed_each}
 use Rattle.zarrs_node.proofs.KeptPairs.{placed_between}
@@ -38,12 +38,7 @@ pub took_joined : {S A B : Type 0} (R : S → A → S → Type 0) (v : S → Lis
 took_joined R v g step a [] z t = ap v t ∙ sym (append-nil (v a))
 took_joined R v g step a (x ∷ xs) z t = took_joined R v g step t.0 xs z t.2 ∙ ap (λ w. w ++ flat_map g xs) (step a x t.0 t.1) ∙ append_assoc (v a) (g x) (flat_map g xs)
 
--- a sink of one element each joins what a map makes of them
-joined_map : {A B : Type 0} (g : A → B) (es : List A) → flat_map (λ e. g e ∷ []) es ≡ map g es
-joined_map g [] = refl
-joined_map g (x ∷ xs) = ap (λ ys. g x ∷ ys) (joined_map g xs)
-
--- and by itself the elements
+-- a sink that keeps each element as it comes joins the elements
 joined_same : {A : Type 0} (es : List A) → flat_map (λ e. e ∷ []) es ≡ es
 joined_same [] = refl
 joined_same (x ∷ xs) = ap (λ ys. x ∷ ys) (joined_same xs)
@@ -103,14 +98,6 @@ module _ {K : Type 0} (R : K → Pair → K → Type 0) (s : Contents) (v : Meta
       }
 
 -- ---- what the sinks have
-
--- a list of paths has those of the forest
-pub shown_paths : (a z : Vec Path) (b : Path) (N : Pair → Type 0) → TakesForest KeepsPath a z b N → a.items ≡ [] → ShowsPaths z.items b N
-shown_paths a z b N t e = record {
-  trees = t.trees;
-  shows = t.shows;
-  are = took_joined KeepsPath (λ x. x.items) (λ d. d.0 ∷ []) (λ x d y r. r) a (pairs t.trees) z t.took ∙ ap (λ x. x ++ flat_map (λ (d : Pair). d.0 ∷ []) (pairs t.trees)) e ∙ joined_map (λ d. d.0) (pairs t.trees);
-}
 
 -- a list of pairs has those of the forest behind what it had
 pub kept_pairs : (a z : Vec Pair) (b : Path) (N : Pair → Type 0) (t : TakesForest KeepsPair a z b N) → z.items ≡ a.items ++ pairs t.trees
