@@ -10,7 +10,7 @@ use tests_fixtures::{ANY, metadata_in};
 use tests_support::{check_rows, fields, printed, refusal, said};
 use zarrs_block::{ConsolidatedMetadataMetadata, NodeCreateError};
 use zarrs_check::{Check, Finding, Survey, compare_block, read_block};
-use zarrs_meta::NodeMetadata;
+use zarrs_meta::{NodeMetadata, WrittenDocument};
 use zarrs_path::NodePath;
 use zarrs_store::{AnyNumbers, ListableStorageTraits, MemoryStore, ReadableStorageTraits};
 

@@ -14,7 +14,7 @@ use zarrs_fault::MetadataFault;
 use zarrs_form::{Form, Layout};
 use zarrs_meta::{
     ArrayMetadataV2, ArrayMetadataV3, Document, FillValueMetadata, GroupMetadataV2,
-    GroupMetadataV3, List, MetadataV3, Object, Text,
+    GroupMetadataV3, List, MetadataV3, Object, Text, WrittenDocument,
 };
 
 // ---- what the tests share

@@ -8,166 +8,35 @@ use zarrs_fault::{MetadataFault, Numbers};
 use zarrs_form::Layout;
 use zarrs_meta::{
     ArrayMetadata, ArrayMetadataV2, ArrayMetadataV3, AttributesDocument, BoxedArray, Document,
-    GroupMetadata, GroupMetadataV2, GroupMetadataV3, NodeMetadata, ZarrJson, laws,
+    GroupMetadata, GroupMetadataV2, GroupMetadataV3, NodeMetadata, WrittenDocument, ZarrJson, laws,
 };
 
 // ---- what the document types have in common
 
-// A document that writes itself as a value and as a text.
-trait Written: Document {
-    fn value(&self, alloc: Global) -> Result<Value, AllocError>;
-
-    fn text(&self, alloc: Global) -> Result<String, AllocError>;
-
-    fn copy(&self, alloc: Global) -> Result<Self, AllocError>;
-
-    // Whether it is plain; what is written of it then reads back, by the type's law.
-    fn reads_back(&self) -> bool;
-}
-
-impl Written for GroupMetadataV3 {
-    fn value(&self, alloc: Global) -> Result<Value, AllocError> {
-        self.to_value(alloc)
+// Whether it is plain; what is written of it then reads back and has no fraction, by the laws.
+fn reads_back<D: WrittenDocument>(document: &D) -> bool {
+    document.plain_is_whole();
+    if document.is_plain() {
+        document.reads_back(Numbers::Whole);
+        return true;
     }
-
-    fn text(&self, alloc: Global) -> Result<String, AllocError> {
-        self.to_text(alloc)
-    }
-
-    fn copy(&self, alloc: Global) -> Result<GroupMetadataV3, AllocError> {
-        self.try_clone(alloc)
-    }
-
-    fn reads_back(&self) -> bool {
-        if self.is_plain() {
-            laws::group_v3_reads_back_in(Numbers::Whole, self);
-            return true;
-        }
-        false
-    }
-}
-
-impl Written for GroupMetadataV2 {
-    fn value(&self, alloc: Global) -> Result<Value, AllocError> {
-        self.to_value(alloc)
-    }
-
-    fn text(&self, alloc: Global) -> Result<String, AllocError> {
-        self.to_text(alloc)
-    }
-
-    fn copy(&self, alloc: Global) -> Result<GroupMetadataV2, AllocError> {
-        self.try_clone(alloc)
-    }
-
-    fn reads_back(&self) -> bool {
-        if self.is_plain() {
-            laws::group_v2_reads_back_in(Numbers::Whole, self);
-            return true;
-        }
-        false
-    }
-}
-
-impl Written for ArrayMetadataV3 {
-    fn value(&self, alloc: Global) -> Result<Value, AllocError> {
-        self.to_value(alloc)
-    }
-
-    fn text(&self, alloc: Global) -> Result<String, AllocError> {
-        self.to_text(alloc)
-    }
-
-    fn copy(&self, alloc: Global) -> Result<ArrayMetadataV3, AllocError> {
-        self.try_clone(alloc)
-    }
-
-    fn reads_back(&self) -> bool {
-        if self.is_plain() {
-            laws::array_v3_reads_back_in(Numbers::Whole, self);
-            return true;
-        }
-        false
-    }
-}
-
-impl Written for ArrayMetadataV2 {
-    fn value(&self, alloc: Global) -> Result<Value, AllocError> {
-        self.to_value(alloc)
-    }
-
-    fn text(&self, alloc: Global) -> Result<String, AllocError> {
-        self.to_text(alloc)
-    }
-
-    fn copy(&self, alloc: Global) -> Result<ArrayMetadataV2, AllocError> {
-        self.try_clone(alloc)
-    }
-
-    fn reads_back(&self) -> bool {
-        if self.is_plain() {
-            laws::array_v2_reads_back_in(Numbers::Whole, self);
-            return true;
-        }
-        false
-    }
-}
-
-impl Written for AttributesDocument {
-    fn value(&self, alloc: Global) -> Result<Value, AllocError> {
-        self.to_value(alloc)
-    }
-
-    fn text(&self, alloc: Global) -> Result<String, AllocError> {
-        self.to_text(alloc)
-    }
-
-    fn copy(&self, alloc: Global) -> Result<AttributesDocument, AllocError> {
-        self.try_clone(alloc)
-    }
-
-    fn reads_back(&self) -> bool {
-        if self.is_plain() {
-            laws::attributes_read_back_in(Numbers::Whole, self);
-            return true;
-        }
-        false
-    }
-}
-
-impl Written for NodeMetadata {
-    fn value(&self, alloc: Global) -> Result<Value, AllocError> {
-        self.to_value(alloc)
-    }
-
-    fn text(&self, alloc: Global) -> Result<String, AllocError> {
-        self.to_text(alloc)
-    }
-
-    fn copy(&self, alloc: Global) -> Result<NodeMetadata, AllocError> {
-        self.try_clone(alloc)
-    }
-
-    fn reads_back(&self) -> bool {
-        if self.is_plain() {
-            laws::node_reads_back_in(Numbers::Whole, self);
-            return true;
-        }
-        false
-    }
+    false
 }
 
 // The text of the value that is written of a copy; of what is not plain just that.
-fn copied_text<D: Written + Drop>(document: &D, alloc: Global) -> Result<String, AllocError> {
-    if !document.reads_back() {
+fn copied_text<D: WrittenDocument + Drop>(
+    document: &D,
+    alloc: Global,
+) -> Result<String, AllocError> {
+    if !reads_back(document) {
         return String::from_str(alloc, "not plain");
     }
-    said(alloc, document.copy(alloc), written_text)
+    said(alloc, document.try_clone(alloc), written_text)
 }
 
 // The text of the value that is written.
-fn written_text<D: Written>(document: &D, alloc: Global) -> Result<String, AllocError> {
-    document.value(alloc)?.to_string(alloc)
+fn written_text<D: WrittenDocument>(document: &D, alloc: Global) -> Result<String, AllocError> {
+    document.to_value(alloc)?.to_string(alloc)
 }
 
 // What two ways answer: one text, or that there are two.
@@ -179,12 +48,16 @@ pub(crate) fn agreed(alloc: Global, one: String, other: String) -> Result<String
 }
 
 // The text of a document, and of the value that is written of it: one and the same.
-fn written_both<D: Written>(document: &D, alloc: Global) -> Result<String, AllocError> {
-    agreed(alloc, document.text(alloc)?, written_text(document, alloc)?)
+fn written_both<D: WrittenDocument>(document: &D, alloc: Global) -> Result<String, AllocError> {
+    agreed(
+        alloc,
+        document.to_text(alloc)?,
+        written_text(document, alloc)?,
+    )
 }
 
 // The document of the value that a text is.
-fn of_value_of<D: Written>(alloc: Global, text: &str) -> Result<D, MetadataFault> {
+fn of_value_of<D: WrittenDocument>(alloc: Global, text: &str) -> Result<D, MetadataFault> {
     match Value::from_str(alloc, text) {
         Ok(value) => D::from_value(alloc, &value),
         Err(_) => Err(MetadataFault::NotJson),
@@ -192,14 +65,14 @@ fn of_value_of<D: Written>(alloc: Global, text: &str) -> Result<D, MetadataFault
 }
 
 // What the bytes of a text, and the value that they are, read as, or are refused with.
-fn read_both<D: Written + Drop>(alloc: Global, text: &str) -> Result<String, AllocError> {
+fn read_both<D: WrittenDocument + Drop>(alloc: Global, text: &str) -> Result<String, AllocError> {
     let of_bytes = said(alloc, D::from_bytes(alloc, text.as_bytes()), written_both)?;
     let of_value = said(alloc, of_value_of::<D>(alloc, text), copied_text)?;
     agreed(alloc, of_bytes, of_value)
 }
 
 // What a row's document reads as; its line ends are written as `¶`.
-fn read_text<D: Written + Drop>(alloc: Global, given: &str) -> Result<String, AllocError> {
+fn read_text<D: WrittenDocument + Drop>(alloc: Global, given: &str) -> Result<String, AllocError> {
     let text = given.replace(alloc, '¶', "\n")?;
     read_both::<D>(alloc, text.as_str())
 }
@@ -524,7 +397,7 @@ fn documents_of_a_store_read_and_copy_themselves(rt: HostRuntime) -> Result<(), 
 // ---- groups and arrays of either version
 
 // The metadata of either version that a document goes into.
-fn wrapped<D: Written, W: From<D>>(alloc: Global, text: &str) -> Result<W, MetadataFault> {
+fn wrapped<D: WrittenDocument, W: From<D>>(alloc: Global, text: &str) -> Result<W, MetadataFault> {
     match D::from_bytes(alloc, text.as_bytes()) {
         Ok(document) => Ok(W::from(document)),
         Err(fault) => Err(fault),
@@ -683,12 +556,12 @@ fn the_document_of_a_node_reads_again(rt: HostRuntime) -> Result<(), Fail> {
 
 #[test]
 fn the_laws_of_documents_are_called() {
-    laws::read_group_v3_is_plain_in();
-    laws::read_group_v2_is_plain_in();
-    laws::read_array_v3_is_plain_in();
-    laws::read_array_v2_is_plain_in();
-    laws::read_attributes_are_plain_in();
-    laws::read_node_is_plain_in();
+    GroupMetadataV3::read_is_plain();
+    GroupMetadataV2::read_is_plain();
+    ArrayMetadataV3::read_is_plain();
+    ArrayMetadataV2::read_is_plain();
+    AttributesDocument::read_is_plain();
+    NodeMetadata::read_is_plain();
     laws::read_zarr_json_is_plain_in();
     laws::with_attributes_is_plain();
     laws::reading_never_lacks_memory();

@@ -5,7 +5,7 @@ use std::alloc::{AllocError, Global};
 use zarrs_fault::{MetadataFault, Numbers};
 use zarrs_meta::{
     ArrayMetadataV2, ArrayMetadataV3, AttributesDocument, Document, GroupMetadata, GroupMetadataV2,
-    GroupMetadataV3, NodeMetadata, ZarrJson, laws,
+    GroupMetadataV3, NodeMetadata, WrittenDocument, ZarrJson, laws,
 };
 
 /// A kind of document that is read, and written as a value. What is read is plain in its numbers, and so what is written of it reads back.
@@ -15,16 +15,25 @@ pub(crate) trait Kind: Document + Drop {
     fn value(&self, alloc: Global) -> Result<Value, AllocError>;
 }
 
+// The document that a value is; by the laws it is plain, and what is written of it reads as it again.
+fn of_value_again<D: WrittenDocument + Drop>(
+    alloc: Global,
+    numbers: Numbers,
+    value: &Value,
+) -> Result<D, MetadataFault> {
+    D::read_is_plain();
+    let document = D::from_value_in(alloc, numbers, value)?;
+    document.reads_back(numbers);
+    Ok(document)
+}
+
 impl Kind for GroupMetadataV3 {
     fn of_value(
         alloc: Global,
         numbers: Numbers,
         value: &Value,
     ) -> Result<GroupMetadataV3, MetadataFault> {
-        laws::read_group_v3_is_plain_in();
-        let document = GroupMetadataV3::from_value_in(alloc, numbers, value)?;
-        laws::group_v3_reads_back_in(numbers, &document);
-        Ok(document)
+        of_value_again(alloc, numbers, value)
     }
 
     fn value(&self, alloc: Global) -> Result<Value, AllocError> {
@@ -38,10 +47,7 @@ impl Kind for ArrayMetadataV3 {
         numbers: Numbers,
         value: &Value,
     ) -> Result<ArrayMetadataV3, MetadataFault> {
-        laws::read_array_v3_is_plain_in();
-        let document = ArrayMetadataV3::from_value_in(alloc, numbers, value)?;
-        laws::array_v3_reads_back_in(numbers, &document);
-        Ok(document)
+        of_value_again(alloc, numbers, value)
     }
 
     fn value(&self, alloc: Global) -> Result<Value, AllocError> {
@@ -55,10 +61,7 @@ impl Kind for GroupMetadataV2 {
         numbers: Numbers,
         value: &Value,
     ) -> Result<GroupMetadataV2, MetadataFault> {
-        laws::read_group_v2_is_plain_in();
-        let document = GroupMetadataV2::from_value_in(alloc, numbers, value)?;
-        laws::group_v2_reads_back_in(numbers, &document);
-        Ok(document)
+        of_value_again(alloc, numbers, value)
     }
 
     fn value(&self, alloc: Global) -> Result<Value, AllocError> {
@@ -72,10 +75,7 @@ impl Kind for ArrayMetadataV2 {
         numbers: Numbers,
         value: &Value,
     ) -> Result<ArrayMetadataV2, MetadataFault> {
-        laws::read_array_v2_is_plain_in();
-        let document = ArrayMetadataV2::from_value_in(alloc, numbers, value)?;
-        laws::array_v2_reads_back_in(numbers, &document);
-        Ok(document)
+        of_value_again(alloc, numbers, value)
     }
 
     fn value(&self, alloc: Global) -> Result<Value, AllocError> {
@@ -89,10 +89,7 @@ impl Kind for AttributesDocument {
         numbers: Numbers,
         value: &Value,
     ) -> Result<AttributesDocument, MetadataFault> {
-        laws::read_attributes_are_plain_in();
-        let document = AttributesDocument::from_value_in(alloc, numbers, value)?;
-        laws::attributes_read_back_in(numbers, &document);
-        Ok(document)
+        of_value_again(alloc, numbers, value)
     }
 
     fn value(&self, alloc: Global) -> Result<Value, AllocError> {
@@ -106,10 +103,7 @@ impl Kind for NodeMetadata {
         numbers: Numbers,
         value: &Value,
     ) -> Result<NodeMetadata, MetadataFault> {
-        laws::read_node_is_plain_in();
-        let document = NodeMetadata::from_value_in(alloc, numbers, value)?;
-        laws::node_reads_back_in(numbers, &document);
-        Ok(document)
+        of_value_again(alloc, numbers, value)
     }
 
     fn value(&self, alloc: Global) -> Result<Value, AllocError> {

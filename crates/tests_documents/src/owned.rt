@@ -7,7 +7,9 @@ use std::test::Fail;
 use tests_support::{check_rows, fields, said};
 use zarrs_fault::MetadataFault;
 use zarrs_form::document;
-use zarrs_meta::{ArrayMetadataV2, AttributesDocument, Document, GroupMetadataV2, NodeMetadata};
+use zarrs_meta::{
+    ArrayMetadataV2, AttributesDocument, Document, GroupMetadataV2, NodeMetadata, WrittenDocument,
+};
 
 fn of_members<D: Document>(alloc: Global, value: Value) -> Result<D, MetadataFault> {
     D::from_members(alloc, document(value)?)

@@ -11,7 +11,7 @@ use zarrs_fault::MetadataFault;
 use zarrs_meta::{
     AdditionalFieldV3, AdditionalFieldsV3, ArrayMetadataV2, ArrayMetadataV3, DataTypeMetadataV2,
     Document, Endianness, FillValueMetadata, GroupMetadataV2, GroupMetadataV3, Json, List,
-    MetadataV2, MetadataV3, Object, Text,
+    MetadataV2, MetadataV3, Object, Text, WrittenDocument,
 };
 
 // ---- small parts: what each says of itself, of its copy, and once it was taken apart and put together

@@ -8,6 +8,7 @@ use tests_support::{A3, G3, check_rows, refusal, said};
 use zarrs_block::NodeCreateError;
 use zarrs_config::{Config, MetadataRetrieveVersion, UseConsolidatedMetadata};
 use zarrs_examples::{Catalogue, Change, UpdateError};
+use zarrs_meta::WrittenDocument;
 use zarrs_node::Node;
 use zarrs_path::NodePath;
 use zarrs_store::{AnyNumbers, MemoryStore, ReadableStorageTraits, StorageError};

@@ -8,7 +8,7 @@ use tests_support::{check_rows, fields, refusal, said};
 use zarrs_config::Config;
 use zarrs_consolidate::{Plan, Task, laws, plan_block, plan_in_folder};
 use zarrs_group::Group;
-use zarrs_meta::{GroupMetadata, GroupMetadataV3};
+use zarrs_meta::{GroupMetadata, GroupMetadataV3, WrittenDocument};
 use zarrs_path::NodePath;
 use zarrs_store::{AnyNumbers, MemoryStore, StorageError, StoreKey, WritableStorageTraits};
 use zarrs_write::MemoryPlace;

@@ -12,6 +12,7 @@ use tests_support::{check_rows, fields, refusal, said};
 use zarrs_block::ConsolidatedMetadata;
 use zarrs_config::Config;
 use zarrs_group::{Group, GroupCreateError};
+use zarrs_meta::WrittenDocument;
 use zarrs_store::{
     AnyNumbers, ListableStorageTraits, MemoryStore, Numbers, ReadableStorageTraits, StorageError,
 };

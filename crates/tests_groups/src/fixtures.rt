@@ -13,7 +13,7 @@ use zarrs_config::{
     UseConsolidatedMetadata,
 };
 use zarrs_group::{Group, GroupBuilder, GroupCreateError};
-use zarrs_meta::{Document, NodeMetadata};
+use zarrs_meta::{Document, NodeMetadata, WrittenDocument};
 use zarrs_node::Node;
 use zarrs_store::{
     ListableStorageTraits, MemoryStore, MetadataFault, ReadableStorageTraits, StorageError,

@@ -84,7 +84,7 @@ array_attributes_in Any m plain = refl
 
 -- the documents of a plain node have numbers that fit
 node_fits : (m : NodeMetadata) → IsTrue (is_plain_node m) → HaveNoFloat (node_written m)
-node_fits (Group (group_v2 m)) plain = (groups.no_float-group_v2_tree (group_without_attributes m) (bare_group Whole m plain), attributes_fit m.attributes (group_attributes m plain))
+node_fits (Group (group_v2 m)) plain = (groups.group_v2_no_float (group_without_attributes m) (bare_group Whole m plain), attributes_fit m.attributes (group_attributes m plain))
 node_fits (Group (group_v3 m)) plain = tt
 node_fits (Array (array_v2 m)) plain = (arrays.array_v2_no_float (array_without_attributes m) (bare_array Whole m plain), attributes_fit m.attributes (array_attributes m plain))
 node_fits (Array (array_v3 m)) plain = tt

@@ -16,7 +16,7 @@ use serde_json::{Map, Value, put};
 use std::alloc::{AllocError, Global};
 use std::marker::Model;
 use zarrs_form::{document_copy, document_in, member, members_have_float, put_text, take_member};
-use zarrs_meta::NodeMetadata;
+use zarrs_meta::{Document, NodeMetadata, WrittenDocument};
 use zarrs_store::{MemberName, MetadataFault, Numbers};
 
 /// The consolidated block of a group.

@@ -9,6 +9,7 @@ ghost use Rattle.zarrs_block.specs.Block.{block_tree, documents};
 use crate::consolidated::{ConsolidatedMetadata, ConsolidatedMetadataMetadata};
 use std::alloc::{AllocError, Global};
 use zarrs_form::{Layout, write_key};
+use zarrs_meta::WrittenDocument;
 
 impl ConsolidatedMetadata {
     /// The written form of the block in the pretty layout: two spaces a level, and no newline at the end, for which there is room. It is

@@ -15,7 +15,8 @@ use serde_json::{Map, Value, put};
 use std::alloc::{AllocError, Global};
 use std::mem::replace;
 use zarrs_meta::{
-    ArrayMetadata, ArrayMetadataV2, GroupMetadata, GroupMetadataV2, NodeMetadata, Object,
+    ArrayMetadata, ArrayMetadataV2, Document, GroupMetadata, GroupMetadataV2, NodeMetadata, Object,
+    WrittenDocument,
 };
 use zarrs_path::{NodePath, meta_key_v2_array, meta_key_v2_attributes, meta_key_v2_group};
 

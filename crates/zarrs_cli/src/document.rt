@@ -8,6 +8,7 @@ use crate::words::Word;
 use std::alloc::Global;
 use zarrs_config::MetadataRetrieveVersion;
 use zarrs_form::document_text;
+use zarrs_meta::WrittenDocument;
 use zarrs_node::Node;
 use zarrs_path::NodePath;
 use zarrs_store::ReadableStorageTraits;

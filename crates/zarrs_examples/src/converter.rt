@@ -27,6 +27,7 @@ use zarrs_config::MetadataRetrieveVersion;
 use zarrs_convert::{ArrayMetadataV2ToV3Error, array_metadata_v2_to_v3, group_metadata_v2_to_v3};
 use zarrs_meta::{
     ArrayMetadata, ArrayMetadataV2, ArrayMetadataV3, BoxedArray, GroupMetadata, NodeMetadata,
+    WrittenDocument,
 };
 use zarrs_node::{Node, get_all_nodes_of, laws};
 use zarrs_path::{

@@ -160,7 +160,7 @@ attributes_fit (member k d ms) fits = rw fits refl
 written_fit : (m : NodeMetadata) → is_plain_node m ≡ true → list_all (λ e. not (has_float e.1)) (node_written m) ≡ true
 written_fit (Group (group_v2 m)) plain =
     let attributes = attributes_fit m.attributes (not_true (members_have_float m.attributes) (G2.plain_group_v2 m plain).0) in
-    let tree = G2.no_float-group_v2_tree (group_without_attributes m) (plain_without Whole m plain) in
+    let tree = G2.group_v2_no_float (group_without_attributes m) (plain_without Whole m plain) in
     rw (tree, attributes) refl
 written_fit (Group (group_v3 m)) plain = refl
 written_fit (Array (array_v2 m)) plain =

@@ -23,7 +23,7 @@ use Rattle.zarrs_meta.specs.declared.node.GroupMetadata.TheVariants.{V3, V2}
 use Rattle.zarrs_meta.specs.declared.group_v3.GroupMetadataV3.{GroupMetadataV3}
 use Rattle.zarrs_meta.specs.declared.group_v2.GroupMetadataV2.{GroupMetadataV2}
 use Rattle.zarrs_group.proofs.PlainLaws.{plain_v3, plain_v2, plain_without, no_fault_more}
-use Rattle.zarrs_meta.proofs.GroupV3Laws.{group_v3_again_in, no_float-group_v3_tree}
+use Rattle.zarrs_meta.proofs.GroupV3Laws.{group_v3_again_in, group_v3_no_float}
 use Rattle.zarrs_meta.proofs.GroupV2Laws.{group_v2_again_in, plain_group_v2_in}
 use Rattle.zarrs_group.specs.Edits.{Edit, set, remove, after, after_edit}
 use Rattle.zarrs_meta.specs.declared.attributes.AttributesDocument.{AttributesDocument}
@@ -207,7 +207,7 @@ pub stored_means : (q : Path) (m : GroupMetadata) (es : List Edit) → group_fau
 stored_means q (V3 m) es fault are S p block =
     let w = one_edit (q ++ zarr_json ∷ [], Some (group_v3_tree m)) es are in
     means_v3 S p m (whole_edit (p ++ zarr_json ∷ []) (Some (group_v3_tree m))) (plain_v3 S.numbers m (no_fault_more S.numbers (V3 m) fault))
-    (read_exactly (p ++ zarr_json ∷ []) (q ++ zarr_json ∷ []) (Some (group_v3_tree m)) w.0 (no_float-group_v3_tree m (plain_v3 Whole m fault)) w.2)
+    (read_exactly (p ++ zarr_json ∷ []) (q ++ zarr_json ∷ []) (Some (group_v3_tree m)) w.0 (group_v3_no_float m (plain_v3 Whole m fault)) w.2)
 stored_means q (V2 m) es fault are S p block =
     let w = three_edits (q ++ zmetadata ∷ [], None) (q ++ zattrs ∷ [], unless (is_empty m.attributes) (object m.attributes)) (q ++ zgroup ∷ [], Some (group_v2_tree (group_without_attributes m))) es are in
     let whole = own_whole m fault in

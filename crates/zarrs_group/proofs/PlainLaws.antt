@@ -22,8 +22,8 @@ use Rattle.zarrs_meta.specs.declared.node.GroupMetadata.TheVariants.{V3, V2}
 use Rattle.zarrs_form.proofs.MemberLaws.{get-others}
 use Rattle.zarrs_form.proofs.AttributeLaws.{not_true}
 use Rattle.zarrs_form.proofs.PlainForms.{false_not, no_members_fit}
-use Rattle.zarrs_meta.proofs.GroupV3Laws.{plain_group_v3_in, no_float-group_v3_tree}
-use Rattle.zarrs_meta.proofs.GroupV2Laws.{plain_group_v2_in, no_float-group_v2_tree}
+use Rattle.zarrs_meta.proofs.GroupV3Laws.{plain_group_v3_in, group_v3_no_float}
+use Rattle.zarrs_meta.proofs.GroupV2Laws.{plain_group_v2_in, group_v2_no_float}
 use Rattle.zarrs_group.specs.Groups.{group_tree}
 use Rattle.zarrs_group.specs.Plain.{has_member, members_exceed, group_v3_fault_in, group_v2_fault_in, group_fault_in}
 use Rattle.zarrs_group.specs.Laws.{PlainIsStored, PlainIsStoredIn}
@@ -180,5 +180,5 @@ no_fault_more Any (V2 m) none = no_clash (members_have_float m.attributes) (memb
 
 -- the document of metadata without a fault has no float
 pub no_float_group : (m : GroupMetadata) → group_fault_in Whole m ≡ None → has_float (group_tree m) ≡ false
-no_float_group (V3 m) h = no_float-group_v3_tree m (plain_v3 Whole m h)
-no_float_group (V2 m) h = no_float-group_v2_tree m (plain_v2 Whole m h)
+no_float_group (V3 m) h = group_v3_no_float m (plain_v3 Whole m h)
+no_float_group (V2 m) h = group_v2_no_float m (plain_v2 Whole m h)

@@ -18,8 +18,8 @@ use Rattle.zarrs_meta.specs.Node.{group_without_attributes}
 use Rattle.zarrs_meta.specs.declared.group_v2.GroupMetadataV2.{GroupMetadataV2}
 use Rattle.zarrs_meta.specs.declared.node.GroupMetadata.{GroupMetadata}
 use Rattle.zarrs_meta.specs.declared.node.GroupMetadata.TheVariants.{V3, V2}
-use Rattle.zarrs_meta.proofs.GroupV3Laws.{no_float-group_v3_tree}
-use Rattle.zarrs_meta.proofs.GroupV2Laws.{no_float-group_v2_tree}
+use Rattle.zarrs_meta.proofs.GroupV3Laws.{group_v3_no_float}
+use Rattle.zarrs_meta.proofs.GroupV2Laws.{group_v2_no_float}
 use Rattle.zarrs_block.specs.Block.{Block}
 use Rattle.zarrs_group.specs.Edits.{Edit, set, IsCutShort}
 use Rattle.zarrs_group.specs.StoredTexts.{StoredTextIsExact, StoredTextIsText}
@@ -68,12 +68,12 @@ attributes_whole (member k d ms) whole = whole
 pub own_whole : (m : GroupMetadataV2) → group_v2_fault_in Whole m ≡ None → IsWhole (unless (is_empty m.attributes) (object m.attributes)) × (has_float (group_v2_tree (group_without_attributes m)) ≡ false)
 own_whole m none = (
   attributes_whole m.attributes (not_true (members_have_float m.attributes) (fits_v2 Whole m none).0),
-  no_float-group_v2_tree (group_without_attributes m) (plain_without Whole m (plain_v2 Whole m none)),
+  group_v2_no_float (group_without_attributes m) (plain_without Whole m (plain_v2 Whole m none)),
 )
 
 -- and those of a group without a fault
 changes_whole : (p : Path) (m : GroupMetadata) (block : Option Block) → stored_fault_in Whole p m block ≡ None → AreWhole (store_changes p m block)
-changes_whole p (V3 m) block none = (no_float-group_v3_tree m (plain_v3 Whole m (own_plain Whole p (V3 m) block none)), tt)
+changes_whole p (V3 m) block none = (group_v3_no_float m (plain_v3 Whole m (own_plain Whole p (V3 m) block none)), tt)
 changes_whole p (V2 m) None none = let own = own_whole m (own_plain Whole p (V2 m) None none) in (tt, (own.0, (own.1, tt)))
 changes_whole p (V2 m) (Some B) none =
     let plain : group_v2_fault_in Whole m ≡ None = own_plain Whole p (V2 m) (Some B) none in

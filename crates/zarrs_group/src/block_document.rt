@@ -20,7 +20,7 @@ use serde_json::Value;
 use std::alloc::{AllocError, Global};
 use zarrs_block::{ConsolidatedMetadata, NodeCreateError};
 use zarrs_form::document_text;
-use zarrs_meta::{GroupMetadata, GroupMetadataV2};
+use zarrs_meta::{GroupMetadata, GroupMetadataV2, WrittenDocument};
 use zarrs_path::{NodePath, meta_key_v2_consolidated, meta_key_v3};
 use zarrs_store::StoreKey;
 

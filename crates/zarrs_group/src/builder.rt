@@ -12,7 +12,7 @@ use crate::group::Group;
 use std::alloc::Global;
 use std::marker::Model;
 use zarrs_config::Config;
-use zarrs_meta::{AdditionalFieldsV3, GroupMetadata, GroupMetadataV3, Object};
+use zarrs_meta::{AdditionalFieldsV3, Document, GroupMetadata, GroupMetadataV3, Object};
 
 /// Makes groups of version 3.
 ///

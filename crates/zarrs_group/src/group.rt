@@ -32,7 +32,7 @@ use zarrs_config::{
     MetadataRetrieveVersion,
 };
 use zarrs_convert::group_metadata_v2_to_v3;
-use zarrs_meta::{GroupMetadata, GroupMetadataV2, GroupMetadataV3, Object};
+use zarrs_meta::{GroupMetadata, GroupMetadataV2, GroupMetadataV3, Object, WrittenDocument};
 use zarrs_path::NodePath;
 use zarrs_store::{ReadableStorageTraits, StorageError, WritableStorageTraits};
 

@@ -17,7 +17,9 @@ use serde_json::{Map, Value, put};
 use std::alloc::{AllocError, Global};
 use zarrs_block::{ConsolidatedMetadata, ConsolidatedMetadataMetadata};
 use zarrs_form::put_text;
-use zarrs_meta::{AdditionalFieldV3, AdditionalFieldsV3, GroupMetadataV3, NodeMetadata, Object};
+use zarrs_meta::{
+    AdditionalFieldV3, AdditionalFieldsV3, GroupMetadataV3, NodeMetadata, Object, WrittenDocument,
+};
 
 /// What is written of a version 3 group with a block set, or with none. Its attributes and the block are moved into it. A block that stood there is let go.
 ///

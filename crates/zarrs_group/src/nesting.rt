@@ -7,7 +7,7 @@ ghost use Rattle.zarrs_group.specs.Groups.{group_tree};
 use crate::group::Group;
 use std::alloc::{AllocError, Global};
 use zarrs_form::is_shallow;
-use zarrs_meta::GroupMetadata;
+use zarrs_meta::{GroupMetadata, WrittenDocument};
 
 impl Group {
     /// Whether what is written of the metadata in one document, a consolidated block of version 3 included, nests at most 127 levels, so that it

@@ -15,7 +15,7 @@ use zarrs_block::{ConsolidatedMetadata, ConsolidatedMetadataMetadata};
 use zarrs_form::members_have_float;
 use zarrs_meta::{
     AdditionalFieldsV3, ArrayMetadata, GroupMetadata, GroupMetadataV2, GroupMetadataV3,
-    NodeMetadata, Object,
+    NodeMetadata, Object, WrittenDocument,
 };
 use zarrs_store::{MemberName, MetadataFault, Numbers};
 

@@ -14,7 +14,7 @@ ghost use Rattle.zarrs_meta.specs.Node.{is_plain_node_in};
 use zarrs_form::has_zero;
 use zarrs_meta::{
     ArrayMetadata, ArrayMetadataV2, ArrayMetadataV3, GroupMetadata, GroupMetadataV2,
-    GroupMetadataV3, List, MetadataV2, NodeMetadata,
+    GroupMetadataV3, List, MetadataV2, NodeMetadata, WrittenDocument,
 };
 use zarrs_store::Numbers;
 

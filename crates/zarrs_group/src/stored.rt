@@ -21,7 +21,7 @@ use serde_json::Value;
 use std::alloc::{AllocError, Global};
 use zarrs_block::{ConsolidatedMetadata, NodeCreateError};
 use zarrs_config::MetadataEraseVersion;
-use zarrs_meta::{GroupMetadata, GroupMetadataV2, GroupMetadataV3, Object};
+use zarrs_meta::{GroupMetadata, GroupMetadataV2, GroupMetadataV3, Object, WrittenDocument};
 use zarrs_path::{
     NodePath, NodePathError, meta_key_v2_attributes, meta_key_v2_consolidated, meta_key_v2_group,
     meta_key_v3,

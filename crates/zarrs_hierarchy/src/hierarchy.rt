@@ -11,7 +11,7 @@ use std::alloc::{AllocError, Global};
 use std::collections::BTreeMap;
 use std::marker::Model;
 use zarrs_block::NodeCreateError;
-use zarrs_meta::{ArrayMetadata, BoxedArray, NodeMetadata};
+use zarrs_meta::{ArrayMetadata, BoxedArray, Document, NodeMetadata};
 use zarrs_path::NodePath;
 
 /// Why a hierarchy was not made.

@@ -35,14 +35,14 @@ plain_group_v2 m plain =
     (parts.0, not_true (members_have_float m.additional_fields) parts.1, parts.2)
 
 -- every number that is written fits
-pub no_float-group_v2_tree : (m : GroupMetadataV2) → IsTrue (is_plain_group_v2 m) → has_float (group_v2_tree m) ≡ false
-no_float-group_v2_tree m plain =
+pub group_v2_no_float : (m : GroupMetadataV2) → IsTrue (is_plain_group_v2 m) → has_float (group_v2_tree m) ≡ false
+group_v2_no_float m plain =
     let parts = plain_group_v2 m plain in
     no_float-put_rows (group_v2_rows m) m.additional_fields (refl, (attributes_no_float m.attributes parts.0, tt)) parts.1
 
 -- what is written is a document that may hold these numbers
 pub is_document : (numbers : Numbers) (m : GroupMetadataV2) → IsTrue (is_plain_group_v2_in numbers m) → document_in numbers (group_v2_tree m) ≡ Ok (put_rows (group_v2_rows m) m.additional_fields)
-is_document Whole m plain = rw (no_float-group_v2_tree m plain) refl
+is_document Whole m plain = rw (group_v2_no_float m plain) refl
 is_document Any m plain = refl
 
 module _ (numbers : Numbers) (m : GroupMetadataV2) (plain : IsTrue (is_plain_group_v2_in numbers m)) where

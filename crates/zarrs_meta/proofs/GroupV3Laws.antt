@@ -44,14 +44,14 @@ plain_group_v3 m plain =
     (parts.0, not_true (members_have_float m.additional_fields) parts.1, parts.2, parts.3)
 
 -- every number that is written fits
-pub no_float-group_v3_tree : (m : GroupMetadataV3) → IsTrue (is_plain_group_v3_in Whole m) → has_float (group_v3_tree m) ≡ false
-no_float-group_v3_tree m plain =
+pub group_v3_no_float : (m : GroupMetadataV3) → IsTrue (is_plain_group_v3_in Whole m) → has_float (group_v3_tree m) ≡ false
+group_v3_no_float m plain =
     let parts = plain_group_v3 m plain in
     no_float-put_rows (group_v3_rows m) m.additional_fields (refl, (refl, (attributes_no_float m.attributes parts.0, tt))) parts.1
 
 -- what is written is a document whose numbers are among these
 pub is_document : (numbers : Numbers) (m : GroupMetadataV3) → IsTrue (is_plain_group_v3_in numbers m) → document_in numbers (group_v3_tree m) ≡ Ok (put_rows (group_v3_rows m) m.additional_fields)
-is_document Whole m plain = rw (no_float-group_v3_tree m plain) refl
+is_document Whole m plain = rw (group_v3_no_float m plain) refl
 is_document Any m plain = refl
 
 module _ (numbers : Numbers) (m : GroupMetadataV3) (plain : IsTrue (is_plain_group_v3_in numbers m)) where

@@ -15,8 +15,8 @@ use Rattle.zarrs_meta.proofs.ArrayV2Laws as A2
 
 -- a plain node is written with numbers that fit
 pub node_no_float : (m : NodeMetadata) → IsTrue (is_plain_node m) → has_float (node_tree m) ≡ false
-node_no_float (Group (group_v3 m)) plain = G3.no_float-group_v3_tree m plain
-node_no_float (Group (group_v2 m)) plain = G2.no_float-group_v2_tree m plain
+node_no_float (Group (group_v3 m)) plain = G3.group_v3_no_float m plain
+node_no_float (Group (group_v2 m)) plain = G2.group_v2_no_float m plain
 node_no_float (Array (array_v3 m)) plain = A3.array_v3_no_float m plain
 node_no_float (Array (array_v2 m)) plain = A2.array_v2_no_float m plain
 

@@ -1,15 +1,16 @@
 //! The version 2 array.
-ghost use Rattle.std.specs.Prelude.{◌≡◌, ◌++◌, [], ◌∷◌, false, Ok, IfOk, OnOk, IsTrue, codes, string_bytes};
+ghost use Rattle.std.specs.Prelude.{◌≡◌, ◌++◌, [], ◌∷◌, false, Ok, OnOk, codes, string_bytes};
 ghost use Rattle.serde_json.specs.Data.{object, no_members};
-ghost use Rattle.serde_json.specs.View.{view, members_view};
-ghost use Rattle.serde_json.specs.Written.{compact_text, has_float};
+ghost use Rattle.serde_json.specs.View.{members_view};
+ghost use Rattle.serde_json.specs.Written.{has_float};
 ghost use Rattle.zarrs_form.specs.Documents.{Gives, besides, format_of};
 ghost use Rattle.zarrs_form.specs.Forms.{put_rows};
 ghost use Rattle.zarrs_form.specs.Layouts.{text_in};
-ghost use Rattle.zarrs_meta.specs.ArrayV2.{array_v2_asks_first, array_v2_in, array_v2_rows, array_v2_tree, is_plain_array_v2};
+ghost use Rattle.zarrs_meta.specs.ArrayV2.{array_v2_asks_first, array_v2_in, array_v2_rows, array_v2_tree, is_plain_array_v2_in};
 ghost use Rattle.zarrs_meta.specs.StepsOfReading.{array_v2_taken};
 
 use crate::document::Document;
+use crate::written_document::WrittenDocument;
 use serde_json::{Map, Value, put};
 use std::alloc::{AllocError, Global};
 use zarrs_fault::{MetadataFault, Numbers};
@@ -106,69 +107,6 @@ impl ArrayMetadataV2 {
         Ok(())
     }
 
-    /// The written form of the array: the members of the table and the additional fields.
-    ///
-    /// # Errors
-    ///
-    /// `AllocError` where there is no memory for it.
-    ///
-    /// Source: Zarr specification version 2, "Arrays".
-    pub fn to_value(&self, alloc: Global) -> Result<Value, AllocError>
-        ensures { IfOk result (λ v. view v ≡ array_v2_tree self.now) }
-    {
-        let mut all = self.additional_fields.to_map(alloc)?;
-        put(&mut all, alloc, "zarr_format", Value::from(2u64))?;
-        put_member(&mut all, alloc, "shape", Some(&self.shape))?;
-        put_member(&mut all, alloc, "chunks", Some(&self.chunks))?;
-        put_member(&mut all, alloc, "dtype", Some(&self.dtype))?;
-        put_member(&mut all, alloc, "fill_value", Some(&self.fill_value))?;
-        put_member(&mut all, alloc, "order", Some(&self.order))?;
-        put_member(&mut all, alloc, "compressor", Some(&self.compressor))?;
-        put_member(&mut all, alloc, "filters", Some(&self.filters))?;
-        put_member(
-            &mut all,
-            alloc,
-            "dimension_separator",
-            Some(&self.dimension_separator),
-        )?;
-        let bare = self.attributes.is_empty();
-        put_unless(&mut all, alloc, "attributes", bare, &self.attributes)?;
-        Ok(Value::Object(all))
-    }
-
-    /// The compact JSON text of the written form, where the array is plain.
-    ///
-    /// # Errors
-    ///
-    /// `AllocError` where there is no memory for it.
-    ///
-    /// Source: Zarr specification version 2, "Arrays".
-    pub fn to_text(&self, alloc: Global) -> Result<String, AllocError>
-        ensures { IfOk result (λ text. IsTrue (is_plain_array_v2 self.now)
-            → string_bytes text ≡ compact_text (array_v2_tree self.now)) }
-    {
-        let mut out = String::with_capacity(alloc, 512)?;
-        self.write(alloc, &mut out, Layout::Compact)?;
-        Ok(out)
-    }
-
-    /// Appends the text of the written form, in a layout.
-    pub(crate) fn write(
-        &self,
-        alloc: Global,
-        out: &mut String,
-        layout: Layout,
-    ) -> Result<(), AllocError>
-        ensures ok { OnOk result (has_float (array_v2_tree self.now) ≡ false
-            → string_bytes out.new
-            ≡ string_bytes out.old ++ text_in layout (array_v2_tree self.now)) }
-    {
-        if self.additional_fields.is_empty() {
-            return self.write_table(alloc, out, layout);
-        }
-        write_value(alloc, out, layout, &self.to_value(alloc)?)
-    }
-
     /// Appends the text of the members of the table alone, in the order of their names.
     fn write_table(&self, alloc: Global, out: &mut String, layout: Layout) -> Result<(), AllocError>
         ensures ok { OnOk result
@@ -191,21 +129,6 @@ impl ArrayMetadataV2 {
         write_row(alloc, out, layout, "shape", Some(&self.shape))?;
         write_last(alloc, out, layout, "zarr_format", &2u64)
     }
-
-    /// Whether the array could have come from a document: its numbers are `u64` or `i64`, no chunk length is
-    /// 0, no codec has a member `id` in its configuration, and no additional field has an own name.
-    pub fn is_plain(&self) -> bool
-        ensures { result ≡ is_plain_array_v2 self.now }
-    {
-        !has_zero(&self.chunks)
-            && self.dtype.is_plain()
-            && self.fill_value.is_plain()
-            && self.compressor.is_plain()
-            && self.filters.is_plain()
-            && self.attributes.is_plain()
-            && !self.additional_fields.has_float()
-            && !self.additional_fields.has_own_member(OWN_NAMES)
-    }
 }
 
 impl Document for ArrayMetadataV2 {
@@ -224,10 +147,68 @@ impl Document for ArrayMetadataV2 {
     }
 
     fn try_clone(&self, alloc: Global) -> Result<ArrayMetadataV2, AllocError> {
-        ArrayMetadataV2::try_clone(self, alloc)
+        let mut copy = ArrayMetadataV2::blank(alloc);
+        copy.copy_from(alloc, self)?;
+        Ok(copy)
     }
 
     ghost asks_first = { array_v2_asks_first };
+}
+
+impl WrittenDocument for ArrayMetadataV2 {
+    ghost tree = { array_v2_tree };
+
+    ghost plain = { is_plain_array_v2_in };
+
+    fn to_value(&self, alloc: Global) -> Result<Value, AllocError> {
+        let mut all = self.additional_fields.to_map(alloc)?;
+        put(&mut all, alloc, "zarr_format", Value::from(2u64))?;
+        put_member(&mut all, alloc, "shape", Some(&self.shape))?;
+        put_member(&mut all, alloc, "chunks", Some(&self.chunks))?;
+        put_member(&mut all, alloc, "dtype", Some(&self.dtype))?;
+        put_member(&mut all, alloc, "fill_value", Some(&self.fill_value))?;
+        put_member(&mut all, alloc, "order", Some(&self.order))?;
+        put_member(&mut all, alloc, "compressor", Some(&self.compressor))?;
+        put_member(&mut all, alloc, "filters", Some(&self.filters))?;
+        put_member(
+            &mut all,
+            alloc,
+            "dimension_separator",
+            Some(&self.dimension_separator),
+        )?;
+        let bare = self.attributes.is_empty();
+        put_unless(&mut all, alloc, "attributes", bare, &self.attributes)?;
+        Ok(Value::Object(all))
+    }
+
+    fn write(&self, alloc: Global, out: &mut String, layout: Layout) -> Result<(), AllocError> {
+        if self.additional_fields.is_empty() {
+            return self.write_table(alloc, out, layout);
+        }
+        write_value(alloc, out, layout, &self.to_value(alloc)?)
+    }
+
+    /// Whether the array could have come from a document: its numbers are `u64` or `i64`, no chunk length is
+    /// 0, no codec has a member `id` in its configuration, and no additional field has an own name.
+    fn is_plain(&self) -> bool {
+        !has_zero(&self.chunks)
+            && self.dtype.is_plain()
+            && self.fill_value.is_plain()
+            && self.compressor.is_plain()
+            && self.filters.is_plain()
+            && self.attributes.is_plain()
+            && !self.additional_fields.has_float()
+            && !self.additional_fields.has_own_member(OWN_NAMES)
+    }
+
+    #[tactic(auto, using(crate::proofs::ArrayV2Laws::array_v2_again_in))]
+    fn reads_back(&self, numbers: Numbers) {}
+
+    #[tactic(auto, using(crate::proofs::PlainArrays::read_array_v2_is_plain_in))]
+    fn read_is_plain() {}
+
+    #[tactic(auto, using(crate::proofs::ArrayV2Laws::array_v2_no_float))]
+    fn plain_is_whole(&self) {}
 }
 
 /// Takes the member `zarr_format`, which has to be 2: it is looked for once.

@@ -1,16 +1,17 @@
 //! The version 3 array.
-ghost use Rattle.std.specs.Prelude.{◌≡◌, ◌++◌, false, Ok, IfOk, OnOk, IsTrue, string_bytes};
+ghost use Rattle.std.specs.Prelude.{◌≡◌, ◌++◌, false, Ok, IfOk, OnOk, string_bytes};
 ghost use Rattle.serde_json.specs.Data.{object, no_members};
-ghost use Rattle.serde_json.specs.View.{view, members_view};
-ghost use Rattle.serde_json.specs.Written.{compact_text, has_float};
+ghost use Rattle.serde_json.specs.View.{members_view};
+ghost use Rattle.serde_json.specs.Written.{has_float};
 ghost use Rattle.zarrs_form.specs.Documents.{Gives};
 ghost use Rattle.zarrs_form.specs.Forms.{put_rows};
 ghost use Rattle.zarrs_form.specs.Layouts.{text_in};
-ghost use Rattle.zarrs_meta.specs.ArrayV3.{array_v3_asks_first, array_v3_in, array_v3_rows, array_v3_tree, is_plain_array_v3};
+ghost use Rattle.zarrs_meta.specs.ArrayV3.{array_v3_asks_first, array_v3_in, array_v3_rows, array_v3_tree, is_plain_array_v3_in};
 ghost use Rattle.zarrs_meta.specs.MadeArray.{default_encoding, made_array};
 ghost use Rattle.zarrs_meta.specs.StepsOfReading.{array_v3_taken};
 
 use crate::document::Document;
+use crate::written_document::WrittenDocument;
 use serde_json::{Map, Value, put};
 use std::alloc::{AllocError, Global};
 use zarrs_fault::{MetadataFault, Numbers};
@@ -164,16 +165,65 @@ impl ArrayMetadataV3 {
         Ok(())
     }
 
-    /// The written form of the array: the members of the table and the additional fields.
-    ///
-    /// # Errors
-    ///
-    /// `AllocError` where there is no memory for it.
-    ///
-    /// Source: Zarr core specification 3.1, "Array metadata".
-    pub fn to_value(&self, alloc: Global) -> Result<Value, AllocError>
-        ensures { IfOk result (λ v. view v ≡ array_v3_tree self.now) }
+    /// Appends the text of the members of the table alone, in the order of their names.
+    fn write_table(&self, alloc: Global, out: &mut String, layout: Layout) -> Result<(), AllocError>
+        ensures ok { OnOk result
+            (has_float (object (put_rows (array_v3_rows self.now) no_members)) ≡ false
+            → string_bytes out.new ≡ string_bytes out.old
+            ++ text_in layout (object (put_rows (array_v3_rows self.now) no_members))) }
     {
+        out.push_str("{")?;
+        let empty = self.attributes.is_empty();
+        write_unless(alloc, out, layout, "attributes", empty, &self.attributes)?;
+        write_row(alloc, out, layout, "chunk_grid", Some(&self.chunk_grid))?;
+        let encoding = Some(&self.chunk_key_encoding);
+        write_row(alloc, out, layout, "chunk_key_encoding", encoding)?;
+        write_row(alloc, out, layout, "codecs", Some(&self.codecs))?;
+        write_row(alloc, out, layout, "data_type", Some(&self.data_type))?;
+        let names = self.dimension_names.as_ref();
+        write_row(alloc, out, layout, "dimension_names", names)?;
+        write_row(alloc, out, layout, "fill_value", Some(&self.fill_value))?;
+        let kind = Text::from_str(alloc, "array")?;
+        write_row(alloc, out, layout, "node_type", Some(&kind))?;
+        write_row(alloc, out, layout, "shape", Some(&self.shape))?;
+        let all = &self.storage_transformers;
+        let empty = all.is_empty();
+        write_unless(alloc, out, layout, "storage_transformers", empty, all)?;
+        write_last(alloc, out, layout, "zarr_format", &3u64)
+    }
+}
+
+impl Document for ArrayMetadataV3 {
+    ghost meaning = { array_v3_in };
+
+    /// `WrongFormat` where `zarr_format` is not 3, `WrongNodeType` where `node_type` is not `array`, then `MissingMember` or `BadMember`
+    /// of the first member of the table that is absent or of another form.
+    #[tactic(auto, using(crate::proofs::TakenLaws::array_v3_taken_is), unfolding(crate::specs::ArrayV3::array_v3_in))]
+    fn from_members_in(
+        alloc: Global,
+        numbers: Numbers,
+        members: Map<String, Value>,
+    ) -> Result<ArrayMetadataV3, MetadataFault> {
+        ask_format(&members, 3)?;
+        ask_node_type(&members, "array")?;
+        ArrayMetadataV3::take(alloc, members)
+    }
+
+    fn try_clone(&self, alloc: Global) -> Result<ArrayMetadataV3, AllocError> {
+        let mut copy = ArrayMetadataV3::blank(alloc);
+        copy.copy_from(alloc, self)?;
+        Ok(copy)
+    }
+
+    ghost asks_first = { array_v3_asks_first };
+}
+
+impl WrittenDocument for ArrayMetadataV3 {
+    ghost tree = { array_v3_tree };
+
+    ghost plain = { is_plain_array_v3_in };
+
+    fn to_value(&self, alloc: Global) -> Result<Value, AllocError> {
         let mut all = self.additional_fields.to_members(alloc)?;
         put(&mut all, alloc, "zarr_format", Value::from(3u64))?;
         put_text(&mut all, alloc, "node_type", "array")?;
@@ -207,71 +257,16 @@ impl ArrayMetadataV3 {
         Ok(Value::Object(all))
     }
 
-    /// The compact JSON text of the written form, where the array is plain.
-    ///
-    /// # Errors
-    ///
-    /// `AllocError` where there is no memory for it.
-    ///
-    /// Source: Zarr core specification 3.1, "Array metadata".
-    pub fn to_text(&self, alloc: Global) -> Result<String, AllocError>
-        ensures { IfOk result (λ text. IsTrue (is_plain_array_v3 self.now)
-            → string_bytes text ≡ compact_text (array_v3_tree self.now)) }
-    {
-        let mut out = String::with_capacity(alloc, 512)?;
-        self.write(alloc, &mut out, Layout::Compact)?;
-        Ok(out)
-    }
-
-    /// Appends the text of the written form, in a layout.
-    pub(crate) fn write(
-        &self,
-        alloc: Global,
-        out: &mut String,
-        layout: Layout,
-    ) -> Result<(), AllocError>
-        ensures ok { OnOk result (has_float (array_v3_tree self.now) ≡ false
-            → string_bytes out.new
-            ≡ string_bytes out.old ++ text_in layout (array_v3_tree self.now)) }
-    {
+    fn write(&self, alloc: Global, out: &mut String, layout: Layout) -> Result<(), AllocError> {
         if self.additional_fields.is_empty() {
             return self.write_table(alloc, out, layout);
         }
         write_value(alloc, out, layout, &self.to_value(alloc)?)
     }
 
-    /// Appends the text of the members of the table alone, in the order of their names.
-    fn write_table(&self, alloc: Global, out: &mut String, layout: Layout) -> Result<(), AllocError>
-        ensures ok { OnOk result
-            (has_float (object (put_rows (array_v3_rows self.now) no_members)) ≡ false
-            → string_bytes out.new ≡ string_bytes out.old
-            ++ text_in layout (object (put_rows (array_v3_rows self.now) no_members))) }
-    {
-        out.push_str("{")?;
-        let empty = self.attributes.is_empty();
-        write_unless(alloc, out, layout, "attributes", empty, &self.attributes)?;
-        write_row(alloc, out, layout, "chunk_grid", Some(&self.chunk_grid))?;
-        let encoding = Some(&self.chunk_key_encoding);
-        write_row(alloc, out, layout, "chunk_key_encoding", encoding)?;
-        write_row(alloc, out, layout, "codecs", Some(&self.codecs))?;
-        write_row(alloc, out, layout, "data_type", Some(&self.data_type))?;
-        let names = self.dimension_names.as_ref();
-        write_row(alloc, out, layout, "dimension_names", names)?;
-        write_row(alloc, out, layout, "fill_value", Some(&self.fill_value))?;
-        let kind = Text::from_str(alloc, "array")?;
-        write_row(alloc, out, layout, "node_type", Some(&kind))?;
-        write_row(alloc, out, layout, "shape", Some(&self.shape))?;
-        let all = &self.storage_transformers;
-        let empty = all.is_empty();
-        write_unless(alloc, out, layout, "storage_transformers", empty, all)?;
-        write_last(alloc, out, layout, "zarr_format", &3u64)
-    }
-
     /// Whether the array could have come from a document: its numbers are `u64` or `i64`, and no additional
     /// field has an own name.
-    pub fn is_plain(&self) -> bool
-        ensures { result ≡ is_plain_array_v3 self.now }
-    {
+    fn is_plain(&self) -> bool {
         self.data_type.is_plain()
             && self.chunk_grid.is_plain()
             && self.chunk_key_encoding.is_plain()
@@ -282,29 +277,15 @@ impl ArrayMetadataV3 {
             && !self.additional_fields.has_float()
             && !self.additional_fields.has_own_name(OWN_NAMES)
     }
-}
 
-impl Document for ArrayMetadataV3 {
-    ghost meaning = { array_v3_in };
+    #[tactic(auto, using(crate::proofs::ArrayV3Laws::array_v3_again_in))]
+    fn reads_back(&self, numbers: Numbers) {}
 
-    /// `WrongFormat` where `zarr_format` is not 3, `WrongNodeType` where `node_type` is not `array`, then `MissingMember` or `BadMember`
-    /// of the first member of the table that is absent or of another form.
-    #[tactic(auto, using(crate::proofs::TakenLaws::array_v3_taken_is), unfolding(crate::specs::ArrayV3::array_v3_in))]
-    fn from_members_in(
-        alloc: Global,
-        numbers: Numbers,
-        members: Map<String, Value>,
-    ) -> Result<ArrayMetadataV3, MetadataFault> {
-        ask_format(&members, 3)?;
-        ask_node_type(&members, "array")?;
-        ArrayMetadataV3::take(alloc, members)
-    }
+    #[tactic(auto, using(crate::proofs::PlainArrays::read_array_v3_is_plain_in))]
+    fn read_is_plain() {}
 
-    fn try_clone(&self, alloc: Global) -> Result<ArrayMetadataV3, AllocError> {
-        ArrayMetadataV3::try_clone(self, alloc)
-    }
-
-    ghost asks_first = { array_v3_asks_first };
+    #[tactic(auto, using(crate::proofs::ArrayV3Laws::array_v3_no_float))]
+    fn plain_is_whole(&self) {}
 }
 
 /// The encoding `default` of the keys of chunks, with slashes.

@@ -1,15 +1,16 @@
 //! The version 2 group.
-ghost use Rattle.std.specs.Prelude.{◌≡◌, ◌++◌, false, Ok, IfOk, OnOk, IsTrue, string_bytes};
+ghost use Rattle.std.specs.Prelude.{◌≡◌, ◌++◌, false, Ok, OnOk, string_bytes};
 ghost use Rattle.serde_json.specs.Data.{object, no_members};
-ghost use Rattle.serde_json.specs.View.{view, members_view};
-ghost use Rattle.serde_json.specs.Written.{compact_text, has_float};
+ghost use Rattle.serde_json.specs.View.{members_view};
+ghost use Rattle.serde_json.specs.Written.{has_float};
 ghost use Rattle.zarrs_form.specs.Documents.{Gives};
-ghost use Rattle.zarrs_meta.specs.GroupV2.{group_v2_asks_first, group_v2_in, group_v2_rows, group_v2_tree, is_plain_group_v2};
+ghost use Rattle.zarrs_meta.specs.GroupV2.{group_v2_asks_first, group_v2_in, group_v2_rows, group_v2_tree, is_plain_group_v2_in};
 ghost use Rattle.zarrs_form.specs.Forms.{put_rows};
 ghost use Rattle.zarrs_form.specs.Layouts.{text_in};
 ghost use Rattle.zarrs_meta.specs.StepsOfReading.{group_v2_taken};
 
 use crate::document::Document;
+use crate::written_document::WrittenDocument;
 use serde_json::{Map, Value, put};
 use std::alloc::{AllocError, Global};
 use zarrs_fault::{MetadataFault, Numbers};
@@ -60,56 +61,6 @@ impl GroupMetadataV2 {
         })
     }
 
-    /// The written form: the members of the table and the additional fields, without empty attributes.
-    ///
-    /// # Errors
-    ///
-    /// `AllocError` where there is no memory for the tree.
-    ///
-    /// Source: Zarr specification version 2, "Groups".
-    pub fn to_value(&self, alloc: Global) -> Result<Value, AllocError>
-        ensures { IfOk result (λ v. view v ≡ group_v2_tree self.now) }
-    {
-        let mut all = self.additional_fields.to_map(alloc)?;
-        put(&mut all, alloc, "zarr_format", Value::from(2u64))?;
-        let bare = self.attributes.is_empty();
-        put_unless(&mut all, alloc, "attributes", bare, &self.attributes)?;
-        Ok(Value::Object(all))
-    }
-
-    /// The compact JSON text of the written form, where the group is plain.
-    ///
-    /// # Errors
-    ///
-    /// `AllocError` where there is no memory for it.
-    ///
-    /// Source: Zarr specification version 2, "Groups".
-    pub fn to_text(&self, alloc: Global) -> Result<String, AllocError>
-        ensures { IfOk result (λ text. IsTrue (is_plain_group_v2 self.now)
-            → string_bytes text ≡ compact_text (group_v2_tree self.now)) }
-    {
-        let mut out = String::with_capacity(alloc, 512)?;
-        self.write(alloc, &mut out, Layout::Compact)?;
-        Ok(out)
-    }
-
-    /// Appends the text of the written form, in a layout.
-    pub(crate) fn write(
-        &self,
-        alloc: Global,
-        out: &mut String,
-        layout: Layout,
-    ) -> Result<(), AllocError>
-        ensures ok { OnOk result (has_float (group_v2_tree self.now) ≡ false
-            → string_bytes out.new
-            ≡ string_bytes out.old ++ text_in layout (group_v2_tree self.now)) }
-    {
-        if self.additional_fields.is_empty() {
-            return self.write_table(alloc, out, layout);
-        }
-        write_value(alloc, out, layout, &self.to_value(alloc)?)
-    }
-
     /// Appends the text of the members of the table alone, in the order of their names.
     fn write_table(&self, alloc: Global, out: &mut String, layout: Layout) -> Result<(), AllocError>
         ensures ok { OnOk result
@@ -121,16 +72,6 @@ impl GroupMetadataV2 {
         let empty = self.attributes.is_empty();
         write_unless(alloc, out, layout, "attributes", empty, &self.attributes)?;
         write_last(alloc, out, layout, "zarr_format", &2u64)
-    }
-
-    /// Whether the group could have come from a document: its numbers fit, and no additional field has
-    /// an own name or the name `shape`.
-    pub fn is_plain(&self) -> bool
-        ensures { result ≡ is_plain_group_v2 self.now }
-    {
-        !self.attributes.has_float()
-            && !self.additional_fields.has_float()
-            && !self.additional_fields.has_own_member(OWN_NAMES)
     }
 }
 
@@ -152,8 +93,49 @@ impl Document for GroupMetadataV2 {
     }
 
     fn try_clone(&self, alloc: Global) -> Result<GroupMetadataV2, AllocError> {
-        GroupMetadataV2::try_clone(self, alloc)
+        Ok(GroupMetadataV2 {
+            attributes: self.attributes.try_clone(alloc)?,
+            additional_fields: self.additional_fields.try_clone(alloc)?,
+        })
     }
 
     ghost asks_first = { group_v2_asks_first };
+}
+
+impl WrittenDocument for GroupMetadataV2 {
+    ghost tree = { group_v2_tree };
+
+    ghost plain = { is_plain_group_v2_in };
+
+    fn to_value(&self, alloc: Global) -> Result<Value, AllocError> {
+        let mut all = self.additional_fields.to_map(alloc)?;
+        put(&mut all, alloc, "zarr_format", Value::from(2u64))?;
+        let bare = self.attributes.is_empty();
+        put_unless(&mut all, alloc, "attributes", bare, &self.attributes)?;
+        Ok(Value::Object(all))
+    }
+
+    fn write(&self, alloc: Global, out: &mut String, layout: Layout) -> Result<(), AllocError> {
+        if self.additional_fields.is_empty() {
+            return self.write_table(alloc, out, layout);
+        }
+        write_value(alloc, out, layout, &self.to_value(alloc)?)
+    }
+
+    /// Whether the group could have come from a document: its numbers fit, and no additional field has
+    /// an own name or the name `shape`.
+    fn is_plain(&self) -> bool {
+        !self.attributes.has_float()
+            && !self.additional_fields.has_float()
+            && !self.additional_fields.has_own_member(OWN_NAMES)
+    }
+
+    #[tactic(auto, using(crate::proofs::GroupV2Laws::group_v2_again_in))]
+    fn reads_back(&self, numbers: Numbers) {}
+
+    #[tactic(auto, using(crate::proofs::PlainGroups::read_group_v2_is_plain_in))]
+    fn read_is_plain() {}
+
+    #[tactic(auto, using(crate::proofs::GroupV2Laws::group_v2_no_float))]
+    fn plain_is_whole(&self) {}
 }

@@ -1,16 +1,16 @@
 //! The version 3 group.
-ghost use Rattle.std.specs.Prelude.{◌≡◌, ◌++◌, false, Ok, IfOk, OnOk, IsTrue, string_bytes};
+ghost use Rattle.std.specs.Prelude.{◌≡◌, ◌++◌, false, Ok, OnOk, string_bytes};
 ghost use Rattle.serde_json.specs.Data.{object, no_members};
-ghost use Rattle.serde_json.specs.View.{view, members_view};
-ghost use Rattle.serde_json.specs.Written.{compact_text, has_float};
+ghost use Rattle.serde_json.specs.View.{members_view};
+ghost use Rattle.serde_json.specs.Written.{has_float};
 ghost use Rattle.zarrs_form.specs.Documents.{Gives};
 ghost use Rattle.zarrs_meta.specs.GroupV3.{group_v3_asks_first, group_v3_in, group_v3_rows, group_v3_tree, is_plain_group_v3_in};
 ghost use Rattle.zarrs_form.specs.Forms.{put_rows};
 ghost use Rattle.zarrs_form.specs.Layouts.{text_in};
 ghost use Rattle.zarrs_meta.specs.StepsOfReading.{group_v3_taken};
-ghost use Rattle.zarrs_fault.specs.declared.numbers.Numbers.TheVariants.{Whole};
 
 use crate::document::Document;
+use crate::written_document::WrittenDocument;
 use serde_json::{Map, Value, put};
 use std::alloc::{AllocError, Global};
 use zarrs_fault::{MetadataFault, Numbers};
@@ -61,57 +61,6 @@ impl GroupMetadataV3 {
         })
     }
 
-    /// The written form of the group: the members of the table and the additional fields.
-    ///
-    /// # Errors
-    ///
-    /// `AllocError` where there is no memory for it.
-    ///
-    /// Source: Zarr core specification 3.1, "Group metadata".
-    pub fn to_value(&self, alloc: Global) -> Result<Value, AllocError>
-        ensures { IfOk result (λ v. view v ≡ group_v3_tree self.now) }
-    {
-        let mut all = self.additional_fields.to_members(alloc)?;
-        put(&mut all, alloc, "zarr_format", Value::from(3u64))?;
-        put_text(&mut all, alloc, "node_type", "group")?;
-        let bare = self.attributes.is_empty();
-        put_unless(&mut all, alloc, "attributes", bare, &self.attributes)?;
-        Ok(Value::Object(all))
-    }
-
-    /// The compact JSON text of the written form, where the group is plain.
-    ///
-    /// # Errors
-    ///
-    /// `AllocError` where there is no memory for it.
-    ///
-    /// Source: Zarr core specification 3.1, "Group metadata".
-    pub fn to_text(&self, alloc: Global) -> Result<String, AllocError>
-        ensures { IfOk result (λ text. IsTrue (is_plain_group_v3_in Whole self.now)
-            → string_bytes text ≡ compact_text (group_v3_tree self.now)) }
-    {
-        let mut out = String::with_capacity(alloc, 512)?;
-        self.write(alloc, &mut out, Layout::Compact)?;
-        Ok(out)
-    }
-
-    /// Appends the text of the written form, in a layout.
-    pub(crate) fn write(
-        &self,
-        alloc: Global,
-        out: &mut String,
-        layout: Layout,
-    ) -> Result<(), AllocError>
-        ensures ok { OnOk result (has_float (group_v3_tree self.now) ≡ false
-            → string_bytes out.new
-            ≡ string_bytes out.old ++ text_in layout (group_v3_tree self.now)) }
-    {
-        if self.additional_fields.is_empty() {
-            return self.write_table(alloc, out, layout);
-        }
-        write_value(alloc, out, layout, &self.to_value(alloc)?)
-    }
-
     /// Appends the text of the members of the table alone, in the order of their names.
     fn write_table(&self, alloc: Global, out: &mut String, layout: Layout) -> Result<(), AllocError>
         ensures ok { OnOk result
@@ -125,18 +74,6 @@ impl GroupMetadataV3 {
         let kind = Text::from_str(alloc, "group")?;
         write_row(alloc, out, layout, "node_type", Some(&kind))?;
         write_last(alloc, out, layout, "zarr_format", &3u64)
-    }
-
-    /// Whether the group could have come from a document: its numbers are `u64` or `i64`, no additional field
-    /// has an own name, and no field `consolidated_metadata` is null.
-    pub fn is_plain(&self) -> bool
-        ensures { result ≡ is_plain_group_v3_in Whole self.now }
-    {
-        let fields = &self.additional_fields;
-        !self.attributes.has_float()
-            && !fields.has_float()
-            && !fields.has_own_name(&["zarr_format", "node_type", "attributes"])
-            && !fields.is_null_at("consolidated_metadata")
     }
 }
 
@@ -157,8 +94,52 @@ impl Document for GroupMetadataV3 {
     }
 
     fn try_clone(&self, alloc: Global) -> Result<GroupMetadataV3, AllocError> {
-        GroupMetadataV3::try_clone(self, alloc)
+        Ok(GroupMetadataV3 {
+            attributes: self.attributes.try_clone(alloc)?,
+            additional_fields: self.additional_fields.try_clone(alloc)?,
+        })
     }
 
     ghost asks_first = { group_v3_asks_first };
+}
+
+impl WrittenDocument for GroupMetadataV3 {
+    ghost tree = { group_v3_tree };
+
+    ghost plain = { is_plain_group_v3_in };
+
+    fn to_value(&self, alloc: Global) -> Result<Value, AllocError> {
+        let mut all = self.additional_fields.to_members(alloc)?;
+        put(&mut all, alloc, "zarr_format", Value::from(3u64))?;
+        put_text(&mut all, alloc, "node_type", "group")?;
+        let bare = self.attributes.is_empty();
+        put_unless(&mut all, alloc, "attributes", bare, &self.attributes)?;
+        Ok(Value::Object(all))
+    }
+
+    fn write(&self, alloc: Global, out: &mut String, layout: Layout) -> Result<(), AllocError> {
+        if self.additional_fields.is_empty() {
+            return self.write_table(alloc, out, layout);
+        }
+        write_value(alloc, out, layout, &self.to_value(alloc)?)
+    }
+
+    /// Whether the group could have come from a document: its numbers are `u64` or `i64`, no additional field
+    /// has an own name, and no field `consolidated_metadata` is null.
+    fn is_plain(&self) -> bool {
+        let fields = &self.additional_fields;
+        !self.attributes.has_float()
+            && !fields.has_float()
+            && !fields.has_own_name(&["zarr_format", "node_type", "attributes"])
+            && !fields.is_null_at("consolidated_metadata")
+    }
+
+    #[tactic(auto, using(crate::proofs::GroupV3Laws::group_v3_again_in))]
+    fn reads_back(&self, numbers: Numbers) {}
+
+    #[tactic(auto, using(crate::proofs::PlainGroups::read_group_v3_is_plain_in))]
+    fn read_is_plain() {}
+
+    #[tactic(auto, using(crate::proofs::GroupV3Laws::group_v3_no_float))]
+    fn plain_is_whole(&self) {}
 }

@@ -15,6 +15,7 @@ mod group_v3;
 pub mod laws;
 mod node;
 mod node_document;
+mod written_document;
 
 pub use array_v2::ArrayMetadataV2;
 pub use array_v3::ArrayMetadataV3;
@@ -24,6 +25,7 @@ pub use document::Document;
 pub use group_v2::GroupMetadataV2;
 pub use group_v3::GroupMetadataV3;
 pub use node::{ArrayMetadata, GroupMetadata, NodeMetadata, ZarrJson};
+pub use written_document::WrittenDocument;
 pub use zarrs_form::{
     AdditionalFieldV3, AdditionalFieldsV3, ArrayMetadataV2Order, ChunkKeySeparator,
     DataTypeMetadataV2, Endianness, FillValueMetadata, Json, List, MetadataV2, MetadataV3, Object,

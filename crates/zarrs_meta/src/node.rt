@@ -1,12 +1,10 @@
 //! Metadata of either kind and either version.
-ghost use Rattle.std.specs.Prelude.{◌≡◌, ◌++◌, false, Ok, IfOk, OnOk, IsTrue, codes, option_and_then, option_map, string_bytes};
+ghost use Rattle.std.specs.Prelude.{◌≡◌, Ok, codes, option_and_then, option_map};
 ghost use Rattle.serde_json.specs.Data.{object};
 ghost use Rattle.serde_json.specs.Find.{as_number, as_str, as_u64, get};
-ghost use Rattle.serde_json.specs.View.{view, members_view};
-ghost use Rattle.serde_json.specs.Written.{compact_text, has_float};
+ghost use Rattle.serde_json.specs.View.{members_view};
 ghost use Rattle.zarrs_form.specs.Documents.{Gives, document_in, format_of};
-ghost use Rattle.zarrs_form.specs.Layouts.{text_in};
-ghost use Rattle.zarrs_meta.specs.Node.{node_asks_first, zarr_json_asks_first, node_in, node_v2_in, node_v3_in, node_tree, is_plain_node, zarr_json_in, is_group};
+ghost use Rattle.zarrs_meta.specs.Node.{node_asks_first, zarr_json_asks_first, node_in, node_v2_in, node_v3_in, node_tree, is_plain_node_in, zarr_json_in, is_group};
 ghost use Rattle.zarrs_meta.specs.declared.node.GroupMetadata.TheVariants.{V3 as group_v3, V2 as group_v2};
 ghost use Rattle.zarrs_meta.specs.declared.node.ArrayMetadata.TheVariants.{V3 as array_v3, V2 as array_v2};
 
@@ -16,6 +14,7 @@ use crate::boxed_array::BoxedArray;
 use crate::document::Document;
 use crate::group_v2::GroupMetadataV2;
 use crate::group_v3::GroupMetadataV3;
+use crate::written_document::WrittenDocument;
 use serde_json::{Map, Value};
 use std::alloc::{AllocError, Global};
 use zarrs_fault::{MetadataFault, Numbers};
@@ -101,83 +100,6 @@ impl From<ArrayMetadataV2> for ArrayMetadata {
 }
 
 impl NodeMetadata {
-    /// The written form of the group or array.
-    ///
-    /// # Errors
-    ///
-    /// `AllocError` where there is no memory for it.
-    ///
-    /// Source: Zarr core specification 3.1, "Metadata documents".
-    pub fn to_value(&self, alloc: Global) -> Result<Value, AllocError>
-        ensures { IfOk result (λ v. view v ≡ node_tree self.now) }
-    {
-        match self {
-            NodeMetadata::Group(GroupMetadata::V3(group)) => group.to_value(alloc),
-            NodeMetadata::Group(GroupMetadata::V2(group)) => group.to_value(alloc),
-            NodeMetadata::Array(array) => match array.as_ref() {
-                ArrayMetadata::V3(array) => array.to_value(alloc),
-                ArrayMetadata::V2(array) => array.to_value(alloc),
-            },
-        }
-    }
-
-    /// The compact JSON text of the written form, where the metadata is plain.
-    ///
-    /// # Errors
-    ///
-    /// `AllocError` where there is no memory for it.
-    ///
-    /// Source: Zarr core specification 3.1, "Metadata documents".
-    pub fn to_text(&self, alloc: Global) -> Result<String, AllocError>
-        ensures { IfOk result (λ text. IsTrue (is_plain_node self.now)
-            → string_bytes text ≡ compact_text (node_tree self.now)) }
-    {
-        match self {
-            NodeMetadata::Group(GroupMetadata::V3(group)) => group.to_text(alloc),
-            NodeMetadata::Group(GroupMetadata::V2(group)) => group.to_text(alloc),
-            NodeMetadata::Array(array) => match array.as_ref() {
-                ArrayMetadata::V3(array) => array.to_text(alloc),
-                ArrayMetadata::V2(array) => array.to_text(alloc),
-            },
-        }
-    }
-
-    /// Appends the text of the written form in a layout, with no newline at the end. It is written row by row, and no JSON value of the
-    /// whole is made unless there are additional fields.
-    ///
-    /// # Errors
-    ///
-    /// `AllocError` where there is no memory for it; a beginning of the text may have been appended.
-    ///
-    /// Source: Zarr core specification 3.1, "Metadata documents".
-    pub fn write(&self, alloc: Global, out: &mut String, layout: Layout) -> Result<(), AllocError>
-        ensures ok { OnOk result (has_float (node_tree self.now) ≡ false
-            → string_bytes out.new ≡ string_bytes out.old ++ text_in layout (node_tree self.now)) }
-    {
-        match self {
-            NodeMetadata::Group(GroupMetadata::V3(group)) => group.write(alloc, out, layout),
-            NodeMetadata::Group(GroupMetadata::V2(group)) => group.write(alloc, out, layout),
-            NodeMetadata::Array(array) => match array.as_ref() {
-                ArrayMetadata::V3(array) => array.write(alloc, out, layout),
-                ArrayMetadata::V2(array) => array.write(alloc, out, layout),
-            },
-        }
-    }
-
-    /// Whether the metadata could have come from a document.
-    pub fn is_plain(&self) -> bool
-        ensures { result ≡ is_plain_node self.now }
-    {
-        match self {
-            NodeMetadata::Group(GroupMetadata::V3(group)) => group.is_plain(),
-            NodeMetadata::Group(GroupMetadata::V2(group)) => group.is_plain(),
-            NodeMetadata::Array(array) => match array.as_ref() {
-                ArrayMetadata::V3(array) => array.is_plain(),
-                ArrayMetadata::V2(array) => array.is_plain(),
-            },
-        }
-    }
-
     /// Whether the node is a group.
     pub fn is_group(&self) -> bool
         ensures { result ≡ is_group self.now }
@@ -206,10 +128,62 @@ impl Document for NodeMetadata {
     }
 
     fn try_clone(&self, alloc: Global) -> Result<NodeMetadata, AllocError> {
-        NodeMetadata::try_clone(self, alloc)
+        match self {
+            NodeMetadata::Group(group) => Ok(NodeMetadata::Group(group.try_clone(alloc)?)),
+            NodeMetadata::Array(array) => Ok(NodeMetadata::Array(array.try_clone(alloc)?)),
+        }
     }
 
     ghost asks_first = { node_asks_first };
+}
+
+impl WrittenDocument for NodeMetadata {
+    ghost tree = { node_tree };
+
+    ghost plain = { is_plain_node_in };
+
+    fn to_value(&self, alloc: Global) -> Result<Value, AllocError> {
+        match self {
+            NodeMetadata::Group(GroupMetadata::V3(group)) => group.to_value(alloc),
+            NodeMetadata::Group(GroupMetadata::V2(group)) => group.to_value(alloc),
+            NodeMetadata::Array(array) => match array.as_ref() {
+                ArrayMetadata::V3(array) => array.to_value(alloc),
+                ArrayMetadata::V2(array) => array.to_value(alloc),
+            },
+        }
+    }
+
+    fn write(&self, alloc: Global, out: &mut String, layout: Layout) -> Result<(), AllocError> {
+        match self {
+            NodeMetadata::Group(GroupMetadata::V3(group)) => group.write(alloc, out, layout),
+            NodeMetadata::Group(GroupMetadata::V2(group)) => group.write(alloc, out, layout),
+            NodeMetadata::Array(array) => match array.as_ref() {
+                ArrayMetadata::V3(array) => array.write(alloc, out, layout),
+                ArrayMetadata::V2(array) => array.write(alloc, out, layout),
+            },
+        }
+    }
+
+    /// Whether the metadata could have come from a document.
+    fn is_plain(&self) -> bool {
+        match self {
+            NodeMetadata::Group(GroupMetadata::V3(group)) => group.is_plain(),
+            NodeMetadata::Group(GroupMetadata::V2(group)) => group.is_plain(),
+            NodeMetadata::Array(array) => match array.as_ref() {
+                ArrayMetadata::V3(array) => array.is_plain(),
+                ArrayMetadata::V2(array) => array.is_plain(),
+            },
+        }
+    }
+
+    #[tactic(auto, using(crate::proofs::NodeLaws::node_again_in))]
+    fn reads_back(&self, numbers: Numbers) {}
+
+    #[tactic(auto, using(crate::proofs::PlainNodes::read_node_is_plain_in))]
+    fn read_is_plain() {}
+
+    #[tactic(auto, using(crate::proofs::NodeLaws::node_no_float))]
+    fn plain_is_whole(&self) {}
 }
 
 /// As a node, but that `zarr_format` 2 is no fault: no more of the document is read then.

@@ -3,6 +3,7 @@ ghost use Rattle.std.specs.Prelude.{◌≡◌, None, IfOk, IfSome};
 ghost use Rattle.zarrs_meta.specs.NodeDocuments.{ReadsAs, IsNotWritten};
 
 use crate::node::NodeMetadata;
+use crate::written_document::WrittenDocument;
 use std::alloc::{AllocError, Global};
 use zarrs_form::document_text;
 

@@ -16,6 +16,7 @@ use std::alloc::{AllocError, Global};
 use zarrs_block::{ConsolidatedMetadata, ConsolidatedMetadataMetadata};
 use zarrs_config::{Config, MetadataRetrieveVersion};
 use zarrs_hierarchy::tree_at;
+use zarrs_meta::WrittenDocument;
 use zarrs_node::{Node, consolidate_nodes_of};
 use zarrs_path::NodePath;
 use zarrs_store::{ListableStorageTraits, Numbers, ReadableStorageTraits};

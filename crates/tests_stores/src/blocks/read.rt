@@ -8,7 +8,7 @@ use zarrs_block::{
     resolve_consolidated_policy,
 };
 use zarrs_config::UseConsolidatedMetadata;
-use zarrs_meta::{Document, NodeMetadata};
+use zarrs_meta::{Document, NodeMetadata, WrittenDocument};
 use zarrs_path::NodePath;
 use zarrs_store::{MetadataFault, Numbers, StorageError, StoreKey, StorePrefix};
 

@@ -3,6 +3,7 @@ use std::alloc::{AllocError, Global};
 use std::test::Fail;
 use tests_support::{check_rows, said};
 use zarrs_block::ConsolidatedMetadata;
+use zarrs_meta::WrittenDocument;
 
 // A document as zarr-python 2 writes it.
 const WRITTEN: &str = "{

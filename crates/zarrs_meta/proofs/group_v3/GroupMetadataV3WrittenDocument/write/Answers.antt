@@ -6,7 +6,7 @@ use Rattle.zarrs_form.specs.Forms.{put_rows}
 use Rattle.zarrs_form.specs.Layouts.{text_in}
 use Rattle.zarrs_form.proofs.TextLaws.{none_there}
 use Rattle.zarrs_meta.specs.GroupV3.{group_v3_rows}
-use Rattle.zarrs_meta.proofs.group_v3.GroupMetadataV3.write.Goals as goal
+use Rattle.zarrs_meta.proofs.group_v3.GroupMetadataV3WrittenDocument.write.Goals as goal
 
 pub returns-then-is_empty : goal.returns-then-is_empty
 returns-then-is_empty c = record {

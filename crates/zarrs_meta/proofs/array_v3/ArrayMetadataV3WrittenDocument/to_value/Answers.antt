@@ -2,7 +2,7 @@ use Rattle.std.proofs.Common.{◌≡◌, Option, Some, None, Bor, option_map, re
 use Rattle.serde_json.specs.Data.{Data, object, string}
 use Rattle.serde_json.proofs.Views.{view-Object}
 use Rattle.zarrs_form.specs.Forms.{list_data, nullable_data}
-use Rattle.zarrs_meta.proofs.array_v3.ArrayMetadataV3.to_value.Goals as goal
+use Rattle.zarrs_meta.proofs.array_v3.ArrayMetadataV3WrittenDocument.to_value.Goals as goal
 
 behind : {A : Type 0} (f : A → Data) (o : Option (Bor A)) → option_map (λ x. f x.now) o ≡ option_map f (option_map (λ x. x.now) o)
 behind f None = refl

@@ -1,7 +1,7 @@
 use Rattle.std.proofs.Common.{refl, ap, ◌∙◌}
 use Rattle.serde_json.specs.Data.{object}
 use Rattle.serde_json.proofs.Views.{view-Object}
-use Rattle.zarrs_meta.proofs.array_v2.ArrayMetadataV2.to_value.Goals as goal
+use Rattle.zarrs_meta.proofs.array_v2.ArrayMetadataV2WrittenDocument.to_value.Goals as goal
 
 pub returns : goal.returns
 returns c =

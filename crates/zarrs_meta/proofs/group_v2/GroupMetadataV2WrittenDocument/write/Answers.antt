@@ -6,7 +6,7 @@ use Rattle.zarrs_form.specs.Forms.{put_rows}
 use Rattle.zarrs_form.specs.Layouts.{text_in}
 use Rattle.zarrs_form.proofs.TextLaws.{none_there}
 use Rattle.zarrs_meta.specs.GroupV2.{group_v2_rows}
-use Rattle.zarrs_meta.proofs.group_v2.GroupMetadataV2.write.Goals as goal
+use Rattle.zarrs_meta.proofs.group_v2.GroupMetadataV2WrittenDocument.write.Goals as goal
 
 pub returns-then-is_empty : goal.returns-then-is_empty
 returns-then-is_empty c = record {
