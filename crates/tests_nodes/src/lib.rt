@@ -1,5 +1,5 @@
-//! Tests that cross crates: nodes and their blocks, read, listed, opened and made current in stores by public calls alone. The
-//! crate has no call of its own.
+//! Tests that cross crates: nodes and their blocks, read, listed, opened and made current in stores, and the callers of `zarrs_examples` with its
+//! store of one's own. By public calls alone. The crate has no call of its own.
 #![tactic(auto)]
 
 #[cfg(test)]
@@ -8,6 +8,8 @@ mod consolidation;
 mod depth;
 #[cfg(test)]
 mod documents;
+#[cfg(test)]
+mod examples;
 #[cfg(test)]
 mod given;
 #[cfg(test)]

@@ -1,0 +1,163 @@
+//! A folder of the system: its documents, links, and what is not read. Scripts beside the gate try more.
+
+use crate::files::same::is_same;
+use crate::files::ticking::Ticking;
+use log::sink::Writer;
+use log::{Level, Log, Logged};
+use std::alloc::{AllocError, Global};
+use std::io::Eprint;
+use std::os::unix::fs::symlink;
+use std::rt::Files;
+use std::test::Fail;
+use std::time::Clock;
+use std::{fs, io};
+use tests_support::{A3, G3, printed};
+use zarrs_folder::{Disk, Documents, FolderFault, load_nodes};
+use zarrs_path::NodePath;
+use zarrs_store::{AnyNumbers, ListableStorageTraits, MemoryStore};
+
+// Makes a folder with files at paths below it, and links.
+fn make_folder(
+    rt: &HostRuntime,
+    folder: &str,
+    files: &[(&str, &str)],
+    links: &[(&str, &str)],
+) -> io::Result<()> {
+    let _ = fs::remove_dir_all(rt, folder);
+    for (path, bytes) in files {
+        let path = format!(in rt.alloc(); "{folder}/{path}")?;
+        if let Some((parent, _)) = path.as_str().rsplit_once('/') {
+            fs::create_dir_all(rt, parent)?;
+        }
+        fs::write(rt, path.as_str(), *bytes)?;
+    }
+    for (to, path) in links {
+        let path = format!(in rt.alloc(); "{folder}/{path}")?;
+        symlink(rt, *to, path.as_str())?;
+    }
+    Ok(())
+}
+
+fn load<R: Log + Files + Clock + Eprint + AllocGlobal>(
+    rt: &R,
+    folder: &str,
+    is_watched: bool,
+) -> Result<AnyNumbers<MemoryStore>, FolderFault> {
+    let mut folder = Disk::open(rt, folder)?.telling(is_watched);
+    let Ok(root) = NodePath::root(rt.alloc()) else {
+        return Err(FolderFault::OutOfMemory);
+    };
+    load_nodes(rt.alloc(), &mut folder, Documents::All, &root)
+}
+
+// The keys of a store, with a blank behind each.
+fn keys_said(alloc: Global, store: &AnyNumbers<MemoryStore>) -> Result<String, AllocError> {
+    let mut text = String::new(alloc);
+    let Ok(keys) = store.list(alloc) else {
+        return Err(AllocError);
+    };
+    for key in keys {
+        text.push_str(key.as_str())?;
+        text.push(' ')?;
+    }
+    Ok(text)
+}
+
+// The keys that are loaded of a folder or why none are, and the warnings.
+fn said(rt: &HostRuntime, folder: &str) -> Result<String, AllocError> {
+    let sink = Writer::new(Vec::new(rt.alloc()));
+    let answer = load(&Logged::new(rt, Level::Warn, &sink), folder, false);
+    let mut text = match answer {
+        Ok(store) => keys_said(rt.alloc(), &store)?,
+        Err(fault) => printed(&fault, rt.alloc())?,
+    };
+    let warnings = String::from_utf8_lossy(rt.alloc(), &sink.into_inner())?;
+    text.push_str(warnings.as_str())?;
+    Ok(text)
+}
+
+// Asks whether a text has these keys and ends with this warning.
+fn has_loaded(found: &str, keys: &str, warning: &str) -> Result<(), Fail> {
+    let (found_keys, warnings) = found.split_once('[').unwrap_or((found, ""));
+    if found_keys == keys && warnings.ends_with(warning) {
+        Ok(())
+    } else {
+        Err(Fail::new(format_args!("found {found}")))
+    }
+}
+
+#[test]
+fn links_are_followed_and_one_on_its_own_way_is_named(rt: HostRuntime) -> Result<(), Fail> {
+    let files = [
+        ("s/zarr.json", G3),
+        ("s/a/zarr.json", A3),
+        ("s/a/c/0/zarr.json", G3),
+        ("s/u/v/w", ""),
+        ("t/x/zarr.json", A3),
+        ("t/zarr.json", G3),
+    ];
+    let links = [
+        ("../t", "s/g"),
+        (".", "s/up"),
+        ("nowhere", "s/gone"),
+        ("s", "link"),
+    ];
+    make_folder(&rt, "disks", &files, &links)?;
+    has_loaded(
+        said(&rt, "disks/link")?.as_str(),
+        "a/zarr.json g/x/zarr.json g/zarr.json u/v/w zarr.json ",
+        "disks/link/up was passed over: it is a link to a folder on its own way\n",
+    )?;
+    fs::remove_dir_all(&rt, "disks")?;
+    Ok(())
+}
+
+#[test]
+fn what_is_not_read_is_named_with_the_systems_words(rt: HostRuntime) -> Result<(), Fail> {
+    make_folder(&rt, "unread", &[("file", "")], &[])?;
+    let absent = said(&rt, "unread/nope");
+    is_same(absent, "unread/nope: No such file or directory")?;
+    let file = said(&rt, "unread/file");
+    is_same(file, "unread/file is a file, and a store is a folder")?;
+    is_same(said(&rt, "unread"), "")?;
+    fs::remove_dir_all(&rt, "unread")?;
+    Ok(())
+}
+
+// What is told of the nodes that were read, by a clock that goes on a second for each.
+fn told(rt: &HostRuntime, folder: &str, is_watched: bool) -> Result<String, AllocError> {
+    let sink = Writer::new(Vec::new(rt.alloc()));
+    let ticking = Ticking::new(rt);
+    let log = Logged::new(&ticking, Level::Warn, &sink);
+    let mut text = match load(&log, folder, is_watched) {
+        Ok(store) => keys_said(rt.alloc(), &store)?,
+        Err(fault) => printed(&fault, rt.alloc())?,
+    };
+    let said = String::from_utf8_lossy(rt.alloc(), &ticking.into_said())?;
+    text.push_str(said.as_str())?;
+    Ok(text)
+}
+
+#[test]
+fn each_two_seconds_a_line_says_how_many_nodes_were_read(rt: HostRuntime) -> Result<(), Fail> {
+    let files = [
+        (".zgroup", "{\"zarr_format\":2}"),
+        (".zattrs", "{}"),
+        ("a/zarr.json", A3),
+        ("b/zarr.json", A3),
+        ("c/zarr.json", A3),
+        ("d/zarr.json", A3),
+        ("scratch/file", ""),
+    ];
+    make_folder(&rt, "told", &files, &[])?;
+    is_same(
+        told(&rt, "told", false),
+        ".zattrs .zgroup a/zarr.json b/zarr.json c/zarr.json d/zarr.json scratch/file ",
+    )?;
+    is_same(
+        told(&rt, "told", true),
+        ".zattrs .zgroup a/zarr.json b/zarr.json c/zarr.json d/zarr.json scratch/file 2 nodes read so far\n4 nodes read so far\n",
+    )?;
+    fs::remove_dir_all(&rt, "told")?;
+    Ok(())
+}
