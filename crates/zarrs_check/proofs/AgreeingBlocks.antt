@@ -24,7 +24,7 @@ use Rattle.zarrs_compare.specs.Same.{IsSame, without_block}
 use Rattle.zarrs_compare.specs.StepsOfSame.{same_node}
 use Rattle.zarrs_compare.proofs.SameNodes.{same_from_test, test_from_same}
 use Rattle.zarrs_node.specs.BlocksBelow.{block_at}
-use Rattle.zarrs_node.specs.Forest.{Forest, pairs, paths_of, Shows}
+use Rattle.zarrs_node.specs.Forest.{Forest, pairs, Shows}
 use Rattle.zarrs_node.specs.Nodes.{Nodes}
 use Rattle.zarrs_node.specs.OpeningNodes.{choice, IsCleanChosen, ShowsChosen}
 use Rattle.zarrs_node.specs.Order.{Ascend}
@@ -38,7 +38,7 @@ use Rattle.zarrs_check.specs.Checks.{block_read, HasBadPath, HasOtherAttributes,
 use Rattle.zarrs_node.specs.Exists.{HasNodeKey}
 use Rattle.zarrs_check.specs.Findings.{HasPath, IsSpoilt, IsKeyFinding, IsPathFinding, IsFinding}
 use Rattle.zarrs_block.specs.Meaning.{Pair}
-use Rattle.zarrs_check.specs.Laws.{HaveSameNodes, GoodBlocksAgree}
+use Rattle.zarrs_check.specs.Laws.{HaveSameNodes, GoodBlocksAgree, paths_of}
 use Rattle.zarrs_check.specs.Surveys.{IsSurveyOf}
 use Rattle.zarrs_check.specs.declared.finding.Finding.{Finding}
 use Rattle.zarrs_check.specs.declared.finding.FindingKind.{FindingKind}

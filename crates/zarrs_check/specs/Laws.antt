@@ -1,7 +1,7 @@
 -- Zarr core specification 3.1, "Hierarchy" and "Node names": what holds of every survey and of every check.
 -- <https://zarr-specs.readthedocs.io/en/latest/v3/core/index.html#hierarchy>
 -- <https://zarr-specs.readthedocs.io/en/latest/v3/core/index.html#node-names>
-use Rattle.std.specs.Prelude.{◌≡◌, ◌≢◌, ◌⊎◌, ◌↔◌, true, false, [], All, Contains, IsTrue, Some, Ok}
+use Rattle.std.specs.Prelude.{◌≡◌, ◌≢◌, ◌⊎◌, ◌↔◌, true, false, List, [], map, All, Contains, IsTrue, Some, Ok}
 use Rattle.zarrs_store.specs.Contents.{Contents}
 use Rattle.zarrs_path.specs.Paths.{Path, IsPath, IsBelow}
 use Rattle.zarrs_config.specs.declared.version.MetadataRetrieveVersion.{MetadataRetrieveVersion}
@@ -16,7 +16,7 @@ use Rattle.zarrs_block.specs.declared.node_create_error.NodeCreateError.{NodeCre
 use Rattle.zarrs_compare.specs.Same.{IsSame}
 use Rattle.zarrs_node.specs.CurrentBlocks.{BadAnew, IsFresh, LeadsTo}
 use Rattle.zarrs_node.specs.Exists.{HasNodeKey}
-use Rattle.zarrs_node.specs.Forest.{Forest, pairs, paths_of, Shows}
+use Rattle.zarrs_node.specs.Forest.{Forest, pairs, Shows}
 use Rattle.zarrs_node.specs.Nodes.{Nodes, HasNothingBad, ShowsBad}
 use Rattle.zarrs_node.specs.OpeningNodes.{IsCleanBelow, ShowsBelow}
 use Rattle.zarrs_check.specs.BlocksAbove.{AreAboveFindings}
@@ -52,6 +52,10 @@ abbrev pub GroupsAreSurveyed : Type 0
 GroupsAreSurveyed = (s : Contents) (v : MetadataRetrieveVersion) (b : Path) (survey : Survey) → IsSurveyOf s v b survey
     → (g : Path) (m : NodeMetadata) → Contains survey.nodes.items (g, m) → IsTrue (is_group m)
     → (e : Pair) → Nodes s v true g e ↔ (Contains survey.nodes.items e × IsBelow g e.0)
+
+-- the paths of a forest, parents before children
+abbrev pub paths_of : Forest → List Path
+paths_of f = map (λ e. e.0) (pairs f)
 
 -- E and N have the same paths, and at each the same metadata, nested blocks apart
 pub record HaveSameNodes (E N : Pair → Type 0) : Type 0 where
