@@ -1,7 +1,7 @@
 //! What there is to tell of blocks beside a store.
 
-use crate::checks::given::{pairs_in, store_in};
-use crate::checks::surveys::survey_in;
+use crate::given::{pairs_in, store_in};
+use crate::surveys::survey_in;
 use log::sink::Discard;
 use std::alloc::{AllocError, Global};
 use std::test::Fail;

@@ -1,6 +1,6 @@
 //! Which keys are loaded, and what a listing over them says.
 
-use crate::files::same::is_same;
+use crate::same::is_same;
 use std::alloc::{AllocError, Global};
 use std::test::Fail;
 use tests_fixtures::{ANY, document_of, listed_in, listing_text, store_of};

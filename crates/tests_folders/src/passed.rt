@@ -1,6 +1,6 @@
 //! What is loaded below the paths at which a walk goes no further.
 
-use crate::files::loads::{keys_said, of_store, store_in};
+use crate::loads::{keys_said, of_store, store_in};
 use std::alloc::Global;
 use std::test::Fail;
 use tests_support::{check_rows, fields};

@@ -1,6 +1,6 @@
 //! What a survey has, and which paths its bad documents spoil.
 
-use crate::checks::given::store_in;
+use crate::given::store_in;
 use log::sink::Discard;
 use std::alloc::{AllocError, Global};
 use std::test::Fail;

@@ -1,6 +1,6 @@
 //! How many paths with documents a check has below the paths that it passes over, and below bad documents.
 
-use crate::checks::given::store_in;
+use crate::given::store_in;
 use log::sink::Discard;
 use std::alloc::{AllocError, Global};
 use std::test::Fail;

@@ -1,6 +1,6 @@
 //! A document in a folder of the system is replaced and removed.
 
-use crate::files::same::is_same;
+use crate::same::is_same;
 use std::alloc::{AllocError, Global};
 use std::fmt::Debug;
 use std::fs::Permissions;

@@ -3,10 +3,10 @@
 //! A call is a value here, and what it answers a text, so one loop goes over all places of a store. Each allocation of the test
 //! `memory_fails_in_checks` is refused in turn by `bench/break/failures`; it ends then as usual, or in an error that is out of memory.
 
-use crate::checks::findings::findings_text;
-use crate::checks::given::store_in;
-use crate::checks::orphans::lost_text;
-use crate::checks::surveys::{check_text, survey_text};
+use crate::findings::findings_text;
+use crate::given::store_in;
+use crate::orphans::lost_text;
+use crate::surveys::{check_text, survey_text};
 use log::sink::Discard;
 use std::alloc::{AllocError, Global};
 use std::test::Fail;

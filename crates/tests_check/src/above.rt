@@ -1,7 +1,7 @@
 //! What the blocks of the groups above a path say otherwise than the store.
 
-use crate::checks::findings::findings_text;
-use crate::checks::given::document;
+use crate::findings::findings_text;
+use crate::given::document;
 use log::sink::Discard;
 use std::alloc::{AllocError, Global};
 use std::test::Fail;

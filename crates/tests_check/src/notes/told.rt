@@ -1,6 +1,6 @@
 //! What is told of a node that was read from a store.
 
-use crate::checks::failing::is_same;
+use crate::failing::is_same;
 use std::alloc::{AllocError, Global};
 use std::test::Fail;
 use tests_fixtures::{document_of, key_of, version_of};

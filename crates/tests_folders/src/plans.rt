@@ -1,6 +1,6 @@
 //! What becomes of the document that holds the block of a group, and what stands there once that is done.
 
-use crate::files::same::is_same;
+use crate::same::is_same;
 use log::sink::Discard;
 use std::alloc::{AllocError, Global};
 use std::test::Fail;

@@ -1,6 +1,6 @@
 //! What a replacement and a removal answer over a folder in memory, which calls they make, and what then stands in the folder.
 
-use crate::files::writing::watched::Watched;
+use crate::writing::watched::Watched;
 use std::alloc::{AllocError, Global};
 use std::fmt::Debug;
 use std::test::Fail;

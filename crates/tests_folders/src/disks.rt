@@ -1,7 +1,7 @@
 //! A folder of the system: its documents, links, and what is not read. Scripts beside the gate try more.
 
-use crate::files::same::is_same;
-use crate::files::ticking::Ticking;
+use crate::same::is_same;
+use crate::ticking::Ticking;
 use log::sink::Writer;
 use log::{Level, Log, Logged};
 use std::alloc::{AllocError, Global};

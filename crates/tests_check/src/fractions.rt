@@ -1,8 +1,8 @@
 //! Stores whose documents have fractions: what surveys, checks and blocks are over whole numbers, and over any.
 
-use crate::checks::findings::findings_text;
-use crate::checks::given::store_in;
-use crate::checks::surveys::check_text;
+use crate::findings::findings_text;
+use crate::given::store_in;
+use crate::surveys::check_text;
 use log::sink::Discard;
 use std::alloc::{AllocError, Global};
 use std::test::Fail;
