@@ -6,7 +6,7 @@ import sys
 from lib import building
 from lib.running import run
 
-CRATES = ["zarrs_fault", "zarrs_store", "zarrs_path", "zarrs_config", "zarrs_form", "zarrs_meta", "zarrs_block", "zarrs_node"]
+CRATES = ["zarrs_fault", "zarrs_store", "zarrs_path", "zarrs_config", "zarrs_form", "zarrs_meta", "zarrs_meaning", "zarrs_block", "zarrs_node"]
 
 # What each such program has: where it begins, by `measure`, and how it takes times.
 START = r"""

@@ -7,8 +7,8 @@ use std::alloc::{AllocError, Global};
 use std::test::Fail;
 use tests_fixtures::{ANY, key_of, version_of, with_block};
 use tests_support::{check_rows, fields, said};
-use zarrs_block::NodeCreateError;
 use zarrs_check::{CheckedFrom, Finding, PathCheck, check_above};
+use zarrs_meaning::NodeCreateError;
 use zarrs_path::NodePath;
 use zarrs_store::{MemoryStore, StorageError, WritableStorageTraits};
 

@@ -12,8 +12,8 @@ use std::alloc::{AllocError, Global};
 use std::test::Fail;
 use tests_fixtures::{ANY, key_of};
 use tests_support::said;
-use zarrs_block::NodeCreateError;
 use zarrs_check::{Check, Finding, Survey, check_above};
+use zarrs_meaning::NodeCreateError;
 use zarrs_path::NodePath;
 use zarrs_store::{
     FaultAt, FaultStore, ListableStorageTraits, ReadableStorageTraits, StoreKey, StorePrefix,

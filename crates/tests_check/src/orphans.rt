@@ -6,8 +6,8 @@ use std::alloc::{AllocError, Global};
 use std::test::Fail;
 use tests_fixtures::version_of;
 use tests_support::{check_rows, fields, said};
-use zarrs_block::NodeCreateError;
 use zarrs_check::Check;
+use zarrs_meaning::NodeCreateError;
 use zarrs_path::NodePath;
 
 // The check of the store with the documents of a list by a version, at a path.

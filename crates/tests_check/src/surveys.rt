@@ -6,8 +6,8 @@ use std::alloc::{AllocError, Global};
 use std::test::Fail;
 use tests_fixtures::{ANY, document_text, pairs_text};
 use tests_support::{check_rows, fields, refusal, said};
-use zarrs_block::NodeCreateError;
 use zarrs_check::{BadDocuments, Base, Check, Survey, laws};
+use zarrs_meaning::NodeCreateError;
 use zarrs_path::NodePath;
 use zarrs_store::StorePrefix;
 

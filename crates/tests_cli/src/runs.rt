@@ -5,13 +5,13 @@ use std::alloc::{AllocError, Global};
 use std::io;
 use std::io::{Error, ErrorKind, Read, Write};
 use std::process::Abort;
-use zarrs_block::NodeCreateError;
 use zarrs_cli::{
     Answered, CheckOptions, Tally, Word, ZarrsFault, finish, load_image, run_of_image, run_store,
 };
 use zarrs_consolidate::ConsolidateError;
 use zarrs_folder::FolderFault;
 use zarrs_load::LoadFault;
+use zarrs_meaning::NodeCreateError;
 use zarrs_write::ReplaceError;
 
 // The word `check` without options.

@@ -17,9 +17,9 @@ use Rattle.std.specs.List.{list_all}
 use Rattle.std.specs.FinMap.{find}
 use Rattle.zarrs_config.specs.declared.version.MetadataRetrieveVersion.TheVariants.{V2}
 use Rattle.zarrs_convert.specs.Arrays.{array_v3}
-use Rattle.zarrs_block.specs.DocumentsAtKeys.{in_trees}
-use Rattle.zarrs_block.specs.Meaning.{Meaning}
-use Rattle.zarrs_block.specs.Small.{counted_members}
+use Rattle.zarrs_meaning.specs.DocumentsAtKeys.{in_trees}
+use Rattle.zarrs_meaning.specs.Meaning.{Meaning}
+use Rattle.zarrs_meaning.specs.Small.{counted_members}
 use Rattle.zarrs_block.specs.Block.{Block, block_of, block_of_in}
 use Rattle.zarrs_block.specs.Zmetadata.{zmetadata_in, zmetadata_members_in, documents_below, is_good, block_from}
 use Rattle.tests_definitions.proofs.Stores.{listed_in, looked_up, quoted, texts_compute, documents_compute}

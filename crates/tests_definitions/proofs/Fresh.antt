@@ -5,7 +5,7 @@ use Rattle.zarrs_block.proofs.Expansion.{same_text}
 use Rattle.zarrs_path.specs.Paths.{Path}
 use Rattle.zarrs_meta.specs.declared.node.NodeMetadata.{NodeMetadata}
 use Rattle.zarrs_block.specs.Block.{Block, node_at_key}
-use Rattle.zarrs_block.specs.Meaning.{Meaning, node, nothing}
+use Rattle.zarrs_meaning.specs.Meaning.{Meaning, node, nothing}
 use Rattle.zarrs_block.specs.KeysAboutAPath.{IsAbout}
 use Rattle.zarrs_node.specs.CurrentBlocks.{IsFresh, HoldsAt, IsNewPair, LeadsTo}
 use Rattle.tests_definitions.proofs.Meanings.{a, plain_group}

@@ -17,8 +17,8 @@ use Rattle.zarrs_meta.specs.declared.node.ArrayMetadata.TheVariants.{V2 as array
 use Rattle.zarrs_meta.specs.declared.node.NodeMetadata.{NodeMetadata}
 use Rattle.zarrs_meta.specs.declared.node.NodeMetadata.TheVariants.{Group, Array}
 use Rattle.zarrs_config.specs.declared.version.MetadataRetrieveVersion.TheVariants.{Default, V2}
-use Rattle.zarrs_block.specs.declared.node_create_error.NodeCreateError.TheVariants.{StorageError as InStore, MetadataVersionMismatch}
-use Rattle.zarrs_block.specs.Meaning.{node, nothing, bad, meaning}
+use Rattle.zarrs_meaning.specs.declared.node_create_error.NodeCreateError.TheVariants.{StorageError as InStore, MetadataVersionMismatch}
+use Rattle.zarrs_meaning.specs.Meaning.{node, nothing, bad, meaning}
 use Rattle.tests_definitions.proofs.Stores.{Entries, quoted, documents_compute, listed, listed_in_any}
 
 -- the path `/a`

@@ -6,10 +6,10 @@ use Rattle.zarrs_path.specs.Keys.{zarr_json, zarray}
 use Rattle.zarrs_meta.specs.Node.{is_group}
 use Rattle.zarrs_meta.specs.declared.node.NodeMetadata.{NodeMetadata}
 use Rattle.zarrs_config.specs.declared.version.MetadataRetrieveVersion.TheVariants.{Default}
-use Rattle.zarrs_block.specs.Meaning.{node, nothing, bad, meaning}
+use Rattle.zarrs_meaning.specs.Meaning.{node, nothing, bad, meaning}
 use Rattle.zarrs_fault.specs.declared.fault.MetadataFault.TheVariants.{NotJson}
 use Rattle.zarrs_store.specs.declared.storage_error.StorageError.TheVariants.{InvalidMetadata}
-use Rattle.zarrs_block.specs.declared.node_create_error.NodeCreateError.TheVariants.{StorageError as InStore}
+use Rattle.zarrs_meaning.specs.declared.node_create_error.NodeCreateError.TheVariants.{StorageError as InStore}
 use Rattle.zarrs_node.specs.Reach.{Reached, Opens}
 use Rattle.zarrs_node.specs.Nodes.{Nodes, Ignored, Bad}
 use Rattle.tests_definitions.proofs.Stores.{Entries, documents_compute, listed, has_key}

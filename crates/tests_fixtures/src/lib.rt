@@ -13,8 +13,9 @@ pub use texts::{
     pairs_text, paths_listing_text, paths_text,
 };
 pub use words::{document_of, no_word, policy_of, version_of};
-use zarrs_block::{ConsolidatedMetadataMetadata, NodeCreateError};
+use zarrs_block::ConsolidatedMetadataMetadata;
 use zarrs_config::{Config, MetadataRetrieveVersion, UseConsolidatedMetadata};
+use zarrs_meaning::NodeCreateError;
 use zarrs_meta::NodeMetadata;
 use zarrs_node::{ListedNodes, Node, get_child_nodes, list_nodes, walk_nodes};
 use zarrs_path::NodePath;

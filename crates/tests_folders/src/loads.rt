@@ -5,10 +5,10 @@ use std::alloc::{AllocError, Global};
 use std::test::Fail;
 use tests_fixtures::{ANY, document_of, listed_in, listing_text, store_of};
 use tests_support::{check_rows, fields, said};
-use zarrs_block::NodeCreateError;
 use zarrs_folder::{
     Documents, Folder, FolderFault, laws, load_base, load_below, load_children, load_nodes,
 };
+use zarrs_meaning::NodeCreateError;
 use zarrs_path::NodePath;
 use zarrs_store::{
     AnyNumbers, ListableStorageTraits, MemoryStore, ReadableStorageTraits, StorageError, StoreKey,

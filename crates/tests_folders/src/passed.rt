@@ -4,8 +4,8 @@ use crate::loads::{keys_said, of_store, store_in};
 use std::alloc::Global;
 use std::test::Fail;
 use tests_support::{check_rows, fields};
-use zarrs_block::NodeCreateError;
 use zarrs_folder::{Documents, FolderFault, laws, load_nodes, load_passed, load_paths};
+use zarrs_meaning::NodeCreateError;
 use zarrs_path::NodePath;
 use zarrs_store::{AnyNumbers, MemoryStore};
 

@@ -7,12 +7,13 @@ use std::alloc::{AllocError, Global};
 use std::test::Fail;
 use tests_fixtures::config_of;
 use tests_support::refusal;
-use zarrs_block::{ConsolidatedMetadata, ConsolidatedMetadataMetadata, NodeCreateError};
+use zarrs_block::{ConsolidatedMetadata, ConsolidatedMetadataMetadata};
 use zarrs_config::{
     Config, GroupMetadataOptions, MetadataConvertVersion, MetadataEraseVersion,
     UseConsolidatedMetadata,
 };
 use zarrs_group::{Group, GroupBuilder, GroupCreateError};
+use zarrs_meaning::NodeCreateError;
 use zarrs_meta::{Document, NodeMetadata, WrittenDocument};
 use zarrs_node::Node;
 use zarrs_store::{

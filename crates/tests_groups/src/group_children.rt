@@ -14,9 +14,9 @@ use tests_fixtures::{
     policy_of,
 };
 use tests_support::{G3, check_rows, fields, printed, refusal, said, with_lines};
-use zarrs_block::NodeCreateError;
 use zarrs_config::{Config, UseConsolidatedMetadata};
 use zarrs_group::{Group, GroupCreateError};
+use zarrs_meaning::NodeCreateError;
 use zarrs_node::Node;
 use zarrs_store::{
     ListableStorageTraits, MemoryStore, ReadableStorageTraits, StorageError, StoreKey,

@@ -10,12 +10,13 @@ use tests_fixtures::{
     config_of as config_by, document_of, no_word, node_text, pairs_text, policy_of, version_of,
 };
 use tests_support::{check_rows, fields, printed, refusal, said};
-use zarrs_block::{NodeCreateError, resolve_consolidated_policy};
+use zarrs_block::resolve_consolidated_policy;
 use zarrs_config::{
     Config, GroupMetadataOptions, MetadataConvertVersion, MetadataEraseVersion,
     UseConsolidatedMetadata,
 };
 use zarrs_group::{AdditionalFieldUnsupportedError, Group, GroupBuilder, GroupCreateError, laws};
+use zarrs_meaning::NodeCreateError;
 use zarrs_meta::{
     AdditionalFieldV3, AdditionalFieldsV3, Document, GroupMetadata, GroupMetadataV2,
     GroupMetadataV3, Object,

@@ -6,7 +6,8 @@ use std::alloc::{AllocError, Global};
 use std::test::Fail;
 use tests_fixtures::{ANY, entries_text, no_word, node_at};
 use tests_support::{check_rows, fields, said};
-use zarrs_block::{ConsolidatedMetadataMetadata, NodeCreateError};
+use zarrs_block::ConsolidatedMetadataMetadata;
+use zarrs_meaning::NodeCreateError;
 use zarrs_node::{Node, consolidate_nodes_of, laws};
 use zarrs_path::NodePath;
 

@@ -1,7 +1,7 @@
 //! Trees that are deeper than a small stack has room for calls. `rt try --test` shows it, run with `ulimit -s 1024`.
 
 use std::alloc::{AllocError, Global};
-use zarrs_block::NodeCreateError;
+use zarrs_meaning::NodeCreateError;
 use zarrs_meta::{GroupMetadata, GroupMetadataV3, NodeMetadata};
 use zarrs_node::{Node, build_node_tree};
 use zarrs_path::NodePath;

@@ -5,10 +5,10 @@ use std::alloc::{AllocError, Global};
 use std::test::Fail;
 use tests_fixtures::{ANY, ListedPaths, key_of, paths_listing_text, paths_text, policy_of};
 use tests_support::{check_rows, fields, printed, refusal, said};
-use zarrs_block::{ConsolidatedMetadata, NodeCreateError};
+use zarrs_block::ConsolidatedMetadata;
 use zarrs_config::UseConsolidatedMetadata;
+use zarrs_meaning::{NodeCreateError, attributes_at, document_at};
 use zarrs_meta::{AttributesDocument, GroupMetadataV2, WrittenDocument};
-use zarrs_node::documents::{attributes_at, document_at};
 use zarrs_node::{
     Node, NodeFault, NodeLine, WalkedPast, consolidated_metadata_at, walk_nodes, walk_past_faults,
     zmetadata_at,

@@ -2,7 +2,7 @@
 
 use std::alloc::Global;
 use tests_fixtures::{ANY, document_of, key_of, metadata_at, no_word};
-use zarrs_block::NodeCreateError;
+use zarrs_meaning::NodeCreateError;
 use zarrs_meta::NodeMetadata;
 use zarrs_node::Node;
 use zarrs_path::NodePath;

@@ -7,7 +7,7 @@ use tests_fixtures::{
     ListedPaths, listed_in, listing_text, paths_listed_in, paths_listing_text, version_of,
 };
 use tests_support::{check_rows, fields, said};
-use zarrs_block::NodeCreateError;
+use zarrs_meaning::NodeCreateError;
 use zarrs_node::ListedNodes;
 
 // What is listed as a row says: the base, whether all below it is, the version, and the store.

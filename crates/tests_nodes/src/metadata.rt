@@ -4,10 +4,12 @@ use crate::given::store_in;
 use std::alloc::{AllocError, Global};
 use std::test::Fail;
 use tests_fixtures::{metadata_in, version_of};
-use tests_support::{check_rows, fields, said};
-use zarrs_block::NodeCreateError;
+use tests_support::{check_rows, fields, refusal, said};
+use zarrs_config::MetadataRetrieveVersion;
+use zarrs_meaning::{
+    LastDocuments, NodeCreateError, find_metadata, metadata_at, node_exists, node_exists_listable,
+};
 use zarrs_meta::{NodeMetadata, WrittenDocument};
-use zarrs_node::{node_exists, node_exists_listable};
 use zarrs_path::NodePath;
 use zarrs_store::MemoryStore;
 
@@ -58,6 +60,72 @@ node | any | node/array/zarr.json NUL => NodePathError(Invalid): invalid node pa
 #[test]
 fn a_path_means_what_its_documents_say(rt: HostRuntime) -> Result<(), Fail> {
     check_rows(rt.alloc(), MEANS, metadata_said)
+}
+
+fn text_or_none(alloc: Global, metadata: Option<NodeMetadata>) -> Result<String, AllocError> {
+    match metadata {
+        Some(metadata) => metadata.to_text(alloc),
+        None => String::from_str(alloc, "none"),
+    }
+}
+
+// What a path means, or `none`, alone and with what was read last.
+fn found_text(
+    alloc: Global,
+    store: &MemoryStore,
+    path: &str,
+    last: &mut LastDocuments,
+) -> Result<String, NodeCreateError> {
+    let path = NodePath::new(alloc, path)?;
+    let alone = metadata_at(alloc, store, &path, &MetadataRetrieveVersion::Default)?;
+    let alone = text_or_none(alloc, alone)?;
+    let prefix = path.to_prefix(alloc)?;
+    let found = find_metadata(
+        alloc,
+        store,
+        &prefix,
+        &MetadataRetrieveVersion::Default,
+        last,
+    )?;
+    let found = text_or_none(alloc, found)?;
+    if found == alone {
+        return Ok(found);
+    }
+    Ok(format!(in alloc; "{found}, and alone {alone}")?)
+}
+
+// The same at each path of a row, one after another.
+fn found_at_each(alloc: Global, given: &str) -> Result<String, NodeCreateError> {
+    let (paths, documents) = fields(given);
+    let store = store_in(alloc, documents)?;
+    let mut last = LastDocuments::new(alloc);
+    let mut said = String::new(alloc);
+    for path in paths.split(' ') {
+        let found = found_text(alloc, &store, path, &mut last)?;
+        said.push_str(&found)?;
+        said.push_str(";")?;
+    }
+    Ok(said)
+}
+
+fn found_said(alloc: Global, given: &str) -> Result<String, AllocError> {
+    match found_at_each(alloc, given) {
+        Ok(found) => Ok(found),
+        Err(error) => refusal(alloc, &error),
+    }
+}
+
+// Paths and store; what they mean one after another, equal documents once read and then copied.
+const FOUND: &str = r#"
+/a /b /c /d | a/zarr.json G3;b/zarr.json G3;c/zarr.json G3 => {"node_type":"group","zarr_format":3};{"node_type":"group","zarr_format":3};{"node_type":"group","zarr_format":3};none;
+/a /b /a | a/.zgroup G2;a/.zattrs {"k":1};b/.zgroup G2 => {"attributes":{"k":1},"zarr_format":2};{"zarr_format":2};{"attributes":{"k":1},"zarr_format":2};
+/a /b | a/.zgroup G2;b/.zgroup NUL => StorageError(InvalidMetadata): error parsing metadata for b/.zgroup: not JSON
+/a | a/zarr.json G2 => MetadataVersionMismatch: Found V2 metadata in V3 key or vice-versa
+"#;
+
+#[test]
+fn paths_mean_what_their_documents_say_one_after_another(rt: HostRuntime) -> Result<(), Fail> {
+    check_rows(rt.alloc(), FOUND, found_said)
 }
 
 // Whether a node is there, by the keys of its documents and by the keys of its folder.

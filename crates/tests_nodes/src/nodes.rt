@@ -9,8 +9,8 @@ use tests_fixtures::{
     ANY, document_text, forest_text, node_text, pairs_text, paths_text, version_of,
 };
 use tests_support::{G3, check_rows, fields, printed, said, with_lines};
-use zarrs_block::NodeCreateError;
 use zarrs_config::MetadataRetrieveVersion;
+use zarrs_meaning::NodeCreateError;
 use zarrs_meta::NodeMetadata;
 use zarrs_node::{
     LISTING, Node, get_all_nodes_of, get_child_nodes, get_child_nodes_opt, laws, walk_nodes,

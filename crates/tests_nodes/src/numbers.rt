@@ -10,7 +10,8 @@ use tests_fixtures::{
     pairs_text, paths_listed_in, paths_listing_text, policy_of,
 };
 use tests_support::{check_rows, fields, said};
-use zarrs_block::{ConsolidatedMetadata, ConsolidatedMetadataMetadata, NodeCreateError};
+use zarrs_block::{ConsolidatedMetadata, ConsolidatedMetadataMetadata};
+use zarrs_meaning::NodeCreateError;
 use zarrs_meta::{NodeMetadata, WrittenDocument};
 use zarrs_node::{Node, get_all_nodes_of, refresh_block, zmetadata_at};
 use zarrs_path::NodePath;

@@ -8,8 +8,9 @@ use tests_fixtures::{
     config_of, entries_of, forest_text, no_word, node_text, policy_of, version_of, with_block,
 };
 use tests_support::{check_rows, fields, said};
-use zarrs_block::{ConsolidatedMetadata, NodeCreateError};
+use zarrs_block::ConsolidatedMetadata;
 use zarrs_config::Config;
+use zarrs_meaning::NodeCreateError;
 use zarrs_meta::NodeMetadata;
 use zarrs_node::{
     Node, build_node_tree, build_node_tree_counted, direct_children_from_flat, nodes_of_block,

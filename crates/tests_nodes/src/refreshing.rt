@@ -7,7 +7,8 @@ use std::process::Abort;
 use std::test::Fail;
 use tests_fixtures::{ANY, entries_of, entries_text, key_of, no_word};
 use tests_support::{A3, G3, check_rows, fields, said};
-use zarrs_block::{ConsolidatedMetadataMetadata, NodeCreateError};
+use zarrs_block::ConsolidatedMetadataMetadata;
+use zarrs_meaning::NodeCreateError;
 use zarrs_meta::{GroupMetadata, GroupMetadataV3, NodeMetadata};
 use zarrs_node::{Node, get_child_nodes, laws, refresh_block, refresh_owned_block};
 use zarrs_path::NodePath;
@@ -266,19 +267,4 @@ fn the_laws_of_fresh_blocks_are_called() {
     laws::one_listed_block();
     laws::fresh_is_listed();
     laws::listed_block_stays();
-}
-
-#[test]
-fn the_laws_of_maps_between_listings_are_called() {
-    laws::base_in_front();
-    laws::earlier_stands_before();
-    laws::mapped_is_shown();
-    laws::documents_are_shown();
-    laws::default_is_version_2();
-    laws::keys_stand_beside();
-    laws::others_are_kept();
-    laws::erased_are_absent();
-    laws::beside_means_same();
-    laws::erased_show_same();
-    laws::whole_shows_the_same();
 }

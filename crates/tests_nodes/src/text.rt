@@ -5,7 +5,7 @@ use std::alloc::{AllocError, Global};
 use std::test::Fail;
 use tests_fixtures::{ANY, listed_in};
 use tests_support::{check_rows, said};
-use zarrs_block::NodeCreateError;
+use zarrs_meaning::NodeCreateError;
 use zarrs_meta::{GroupMetadata, GroupMetadataV3, NodeMetadata};
 use zarrs_node::{ListedNodes, Node};
 use zarrs_path::NodePath;

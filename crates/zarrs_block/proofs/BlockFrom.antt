@@ -14,10 +14,11 @@ use Rattle.zarrs_path.specs.PathOrder.{path_decides}
 use Rattle.zarrs_form.specs.Forms.{is_nil}
 use Rattle.zarrs_meta.specs.declared.node.NodeMetadata.{NodeMetadata}
 use Rattle.zarrs_block.specs.Block.{Block, node_at_key}
-use Rattle.zarrs_block.specs.Meaning.{Meaning, node, nothing, bad}
-use Rattle.zarrs_block.specs.Small.{is_document_v2, counted_members}
+use Rattle.zarrs_meaning.specs.Meaning.{Meaning, node, nothing, bad}
+use Rattle.zarrs_meaning.specs.Small.{is_document_v2, counted_members}
 use Rattle.zarrs_store.specs.Segments.{stretches}
-use Rattle.zarrs_block.specs.Zmetadata.{before_last, documents_below, is_bad, is_good, with_node, block_from}
+use Rattle.zarrs_meaning.specs.Meaning.{is_bad}
+use Rattle.zarrs_block.specs.Zmetadata.{before_last, documents_below, is_good, with_node, block_from}
 use Rattle.zarrs_block.proofs.Expansion.{same_text, at_itself}
 use Rattle.zarrs_block.proofs.KeyLaws.{one_text, slash_apart}
 use Rattle.zarrs_block.proofs.PutEntries.{found_put}

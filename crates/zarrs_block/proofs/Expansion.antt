@@ -23,8 +23,8 @@ use Rattle.zarrs_form.specs.Forms.{is_nil}
 use Rattle.zarrs_meta.specs.declared.node.NodeMetadata.{NodeMetadata}
 use Rattle.zarrs_block.specs.Block.{Block, IsAscending, IsValidKey, HasValidKeys, node_at_key, first_some, Entries}
 use Rattle.zarrs_block.specs.BlockExpansion.{RefusesKeys, HaveOwnPaths, is_covered, path_at, paths_at, with_pair, pairs_at}
-use Rattle.zarrs_block.specs.declared.node_create_error.NodeCreateError.{NodeCreateError}
-use Rattle.zarrs_block.specs.declared.node_create_error.NodeCreateError.TheVariants.{NodePathError}
+use Rattle.zarrs_meaning.specs.declared.node_create_error.NodeCreateError.{NodeCreateError}
+use Rattle.zarrs_meaning.specs.declared.node_create_error.NodeCreateError.TheVariants.{NodePathError}
 use Rattle.zarrs_block.proofs.BlockLaws.{shown, texts, texts_ascend, nothing_behind}
 use Rattle.zarrs_block.proofs.KeyLaws.{names_of_key, not_valid, path_of_key, own_path, bare_key, text_bare}
 

@@ -17,7 +17,7 @@ use Rattle.zarrs_store.proofs.Cuts.{parts-join, segments_clean}
 use Rattle.zarrs_path.specs.Keys.{zarray, zgroup, zattrs}
 use Rattle.zarrs_path.specs.Paths.{Path, IsPath}
 use Rattle.zarrs_path.proofs.PathTexts.{segments_from_names}
-use Rattle.zarrs_block.specs.Small.{is_document_v2, counted_members, small}
+use Rattle.zarrs_meaning.specs.Small.{is_document_v2, counted_members, small}
 use Rattle.zarrs_store.specs.Segments.{stretches}
 use Rattle.zarrs_block.proofs.SmallStores.{same_key, own_key, get_based}
 

@@ -28,9 +28,9 @@ use Rattle.zarrs_meta.specs.declared.node.ArrayMetadata.TheVariants.{V2 as array
 use Rattle.zarrs_meta.specs.declared.node.GroupMetadata.TheVariants.{V2 as group_v2}
 use Rattle.zarrs_meta.specs.declared.node.NodeMetadata.{NodeMetadata}
 use Rattle.zarrs_meta.specs.declared.node.NodeMetadata.TheVariants.{Group, Array}
-use Rattle.zarrs_block.specs.DocumentsAtKeys.{document_or_fault, document_from, document_at}
-use Rattle.zarrs_block.specs.Meaning.{Meaning, node, nothing, bad, version_2_line, zarray_line, zgroup_line, meaning_in}
-use Rattle.zarrs_block.specs.Small.{SmallStore, small_meaning_in, is_document_v2, counted_members, small}
+use Rattle.zarrs_meaning.specs.DocumentsAtKeys.{document_or_fault, document_from, document_at}
+use Rattle.zarrs_meaning.specs.Meaning.{Meaning, node, nothing, bad, version_2_line, zarray_line, zgroup_line, meaning_in}
+use Rattle.zarrs_meaning.specs.Small.{SmallStore, small_meaning_in, is_document_v2, counted_members, small}
 use Rattle.zarrs_store.specs.Segments.{stretches}
 use Rattle.zarrs_block.specs.Zmetadata.{before_last}
 use Rattle.zarrs_block.specs.StepsOfZmetadata.{read_with, read_documents, read_files, member_at}

@@ -28,12 +28,13 @@ use Rattle.zarrs_meta.proofs.GroupV2Laws as groups
 use Rattle.zarrs_meta.proofs.ArrayV2Laws as arrays
 use Rattle.zarrs_meta.proofs.PlainNodes.{group_with_is_plain_in, array_with_is_plain_in}
 use Rattle.zarrs_block.specs.Block.{Block, IsAscending, HasValidKeys, Entries, entry, first_some, node_at_key}
-use Rattle.zarrs_block.specs.DocumentsAtKeys.{document_at, document_from, document_or_fault}
-use Rattle.zarrs_block.specs.Meaning.{Meaning, node, nothing, meaning_in, zarray_line, zgroup_line, version_2_line}
+use Rattle.zarrs_meaning.specs.DocumentsAtKeys.{document_at, document_from, document_or_fault}
+use Rattle.zarrs_meaning.specs.Meaning.{Meaning, node, nothing, meaning_in, zarray_line, zgroup_line, version_2_line}
 use Rattle.zarrs_fault.specs.declared.numbers.Numbers.{Numbers}
 use Rattle.zarrs_fault.specs.declared.numbers.Numbers.TheVariants.{Whole, Any}
-use Rattle.zarrs_block.specs.Small.{SmallStore, is_document_v2, small, small_meaning_in}
-use Rattle.zarrs_block.specs.Zmetadata.{before_last, documents_below, is_bad, is_good, block_from, zmetadata_in, zmetadata_tree, attributes_written, node_written, put_documents, nodes_written, documents_written, is_version_2, HasVersion2, HasPlainEntriesIn, HaveSameEntries, node_at, document_written, WrittenReadsBackIn}
+use Rattle.zarrs_meaning.specs.Small.{SmallStore, is_document_v2, small, small_meaning_in}
+use Rattle.zarrs_meaning.specs.Meaning.{is_bad}
+use Rattle.zarrs_block.specs.Zmetadata.{before_last, documents_below, is_good, block_from, zmetadata_in, zmetadata_tree, attributes_written, node_written, put_documents, nodes_written, documents_written, is_version_2, HasVersion2, HasPlainEntriesIn, HaveSameEntries, node_at, document_written, WrittenReadsBackIn}
 use Rattle.zarrs_block.proofs.Expansion.{entries_listed}
 use Rattle.zarrs_block.proofs.BlockFrom.{node_of, none_either, found_block, found_slashed, all_good, below_named, listed_below}
 use Rattle.zarrs_block.proofs.NumbersWithin.{asked_document}

@@ -22,7 +22,7 @@ use Rattle.zarrs_meta.specs.declared.node.NodeMetadata.{NodeMetadata}
 use Rattle.zarrs_meta.specs.declared.node.NodeMetadata.TheVariants.{Group, Array}
 use Rattle.zarrs_block.specs.Block.{Block, IsAscending, HasValidKeys, Entries, entry}
 use Rattle.zarrs_block.specs.BlockExpansion.{HaveOwnPaths, pairs_at, paths_at}
-use Rattle.zarrs_block.specs.Small.{is_document_v2}
+use Rattle.zarrs_meaning.specs.Small.{is_document_v2}
 use Rattle.zarrs_store.specs.Segments.{stretches}
 use Rattle.zarrs_block.specs.Zmetadata.{before_last, attributes_written, node_written, nodes_written, put_documents, documents_written, zmetadata_tree, zmetadata_with, node_at, document_written, HoldsDocuments, IsWrittenOf, WrittenHoldsDocuments}
 use Rattle.zarrs_block.proofs.Expansion.{entries_listed, own_paths}

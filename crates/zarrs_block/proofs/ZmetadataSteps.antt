@@ -27,7 +27,7 @@ use Rattle.zarrs_form.specs.Documents as steps
 use Rattle.zarrs_form.specs.Forms.{fits_in, is_nil}
 use Rattle.zarrs_meta.specs.declared.node.NodeMetadata.{NodeMetadata}
 use Rattle.zarrs_block.specs.Block.{Block, IsAscending, node_at_key, put}
-use Rattle.zarrs_block.specs.Small.{is_document_v2, counted_members}
+use Rattle.zarrs_meaning.specs.Small.{is_document_v2, counted_members}
 use Rattle.zarrs_store.specs.Segments.{stretches}
 use Rattle.zarrs_block.specs.Zmetadata.{one, before_last, documents_below, small_block_in, zmetadata_members_in, zmetadata_in, HoldsStoreIn, IsCleanIn, IsZmetadataFaultIn}
 use Rattle.zarrs_block.specs.StepsOfZmetadata.{file_name, is_file, member_at, first_tree, paths, run_tree, tree_among, RunsAscend, read_files, tree_in, is_below_group, are_named, RefusesNames, AllFit, HoldsNodes, RefusesTrees, zmetadata_taken}

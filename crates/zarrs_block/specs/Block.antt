@@ -29,7 +29,7 @@ use Rattle.zarrs_form.specs.Forms.{◌>>=◌}
 use Rattle.zarrs_meta.specs.Node.{node_in, node_tree, is_plain_node_in}
 use Rattle.zarrs_meta.specs.declared.node.NodeMetadata.{NodeMetadata}
 use Rattle.zarrs_fault.specs.Bytes.{slash}
-use Rattle.zarrs_block.specs.Meaning.{Pair}
+use Rattle.zarrs_meaning.specs.Meaning.{Pair}
 
 -- texts, the keys, with the metadata at each, in the order of the keys
 abbrev pub Block : Type 0

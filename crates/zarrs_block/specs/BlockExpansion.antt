@@ -12,9 +12,9 @@ use Rattle.zarrs_path.specs.declared.node_path.NodePathError.TheVariants.{OutOfM
 use Rattle.zarrs_meta.specs.declared.node.NodeMetadata.{NodeMetadata}
 use Rattle.zarrs_form.specs.Forms.{is_nil}
 use Rattle.zarrs_block.specs.Block.{Block, node_at_key, IsValidKey}
-use Rattle.zarrs_block.specs.declared.node_create_error.NodeCreateError.{NodeCreateError}
-use Rattle.zarrs_block.specs.declared.node_create_error.NodeCreateError.TheVariants.{NodePathError, OutOfMemory}
-use Rattle.zarrs_block.specs.Meaning.{Pair}
+use Rattle.zarrs_meaning.specs.declared.node_create_error.NodeCreateError.{NodeCreateError}
+use Rattle.zarrs_meaning.specs.declared.node_create_error.NodeCreateError.TheVariants.{NodePathError, OutOfMemory}
+use Rattle.zarrs_meaning.specs.Meaning.{Pair}
 
 -- some key of the block is not valid, and the error names its first part that is no name
 abbrev pub NamesBadKey : Block → NodeCreateError → Type 0

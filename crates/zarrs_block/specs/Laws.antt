@@ -2,17 +2,12 @@
 -- whole, and where any may stand.
 -- <https://zarr-specs.readthedocs.io/en/latest/v3/core/index.html#metadata>
 -- <https://zarr-specs.readthedocs.io/en/latest/v3/core/index.html#group-metadata>
-use Rattle.std.specs.Prelude.{◌≡◌, false}
 use Rattle.serde_json.specs.Data.{Data}
-use Rattle.zarrs_store.specs.Contents.{Values}
 use Rattle.zarrs_fault.specs.declared.numbers.Numbers.{Numbers}
 use Rattle.zarrs_fault.specs.declared.numbers.Numbers.TheVariants.{Whole}
-use Rattle.zarrs_path.specs.Paths.{Path}
-use Rattle.zarrs_config.specs.declared.version.MetadataRetrieveVersion.{MetadataRetrieveVersion}
 use Rattle.zarrs_meta.specs.Laws.{ReadsToo}
 use Rattle.zarrs_block.specs.Block.{block_of, block_of_in}
-use Rattle.zarrs_block.specs.Meaning.{meaning}
-use Rattle.zarrs_block.specs.Zmetadata.{is_bad, zmetadata_in}
+use Rattle.zarrs_block.specs.Zmetadata.{zmetadata_in}
 
 -- a block or a document `.zmetadata` that is read where numbers have to be whole is read the same whatever numbers
 -- may stand
@@ -20,11 +15,3 @@ abbrev pub WholeBlocksReadTheSame : Type 0
 WholeBlocksReadTheSame =
     (numbers : Numbers) (d : Data)
     → ReadsToo (block_of_in numbers d) (block_of d) × ReadsToo (zmetadata_in numbers d) (zmetadata_in Whole d)
-
--- a path that is not bad in a store whose numbers have to be whole means the same whatever numbers may stand
-abbrev pub WholePathsMeanTheSame : Type 0
-WholePathsMeanTheSame =
-    (values : Values) (numbers : Numbers) (v : MetadataRetrieveVersion) (p : Path)
-    → is_bad (meaning (record { values = values; numbers = Whole }) v p) ≡ false
-    → meaning (record { values = values; numbers = numbers }) v p
-    ≡ meaning (record { values = values; numbers = Whole }) v p

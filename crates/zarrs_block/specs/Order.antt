@@ -3,7 +3,7 @@
 use Rattle.std.specs.Prelude.{◌≡◌, List, AllPairs}
 use Rattle.std.specs.declared.cmp.Ordering.TheVariants.{Less}
 use Rattle.zarrs_path.specs.Paths.{path_cmp}
-use Rattle.zarrs_block.specs.Meaning.{Pair}
+use Rattle.zarrs_meaning.specs.Meaning.{Pair}
 
 -- Each pair's path stands before the paths of all later pairs.
 abbrev pub Ascend : List Pair → Type 0

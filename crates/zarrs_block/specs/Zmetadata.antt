@@ -38,11 +38,10 @@ use Rattle.zarrs_meta.specs.declared.node.NodeMetadata.{NodeMetadata}
 use Rattle.zarrs_meta.specs.declared.node.NodeMetadata.TheVariants.{Group, Array}
 use Rattle.zarrs_block.specs.Block.{Block, IsAscending, IsBlockOf, put, entry, Entries, HasValidKeys}
 use Rattle.zarrs_block.specs.BlockExpansion.{RefusesKeys, pairs_at, paths_at}
-use Rattle.zarrs_block.specs.declared.node_create_error.NodeCreateError.{NodeCreateError}
-use Rattle.zarrs_block.specs.declared.node_create_error.NodeCreateError.TheVariants.{MetadataVersionMismatch}
-use Rattle.zarrs_block.specs.Meaning.{Meaning, Means, node, bad}
-use Rattle.zarrs_block.specs.Small.{is_document_v2, counted_members, small, small_meaning_in}
-use Rattle.zarrs_block.specs.Meaning.{Pair}
+use Rattle.zarrs_meaning.specs.declared.node_create_error.NodeCreateError.{NodeCreateError}
+use Rattle.zarrs_meaning.specs.declared.node_create_error.NodeCreateError.TheVariants.{MetadataVersionMismatch}
+use Rattle.zarrs_meaning.specs.Meaning.{Meaning, Pair, Means, node, bad, is_bad}
+use Rattle.zarrs_meaning.specs.Small.{is_document_v2, counted_members, small, small_meaning_in}
 
 -- ---- reading
 
@@ -91,11 +90,6 @@ IsZmetadataFaultIn numbers d fault =
 -- the documents that count below the group: those of the group itself have one segment alone
 abbrev pub documents_below : Members → List (Segments × Data)
 documents_below ms = filter (λ e. not (is_nil (before_last e.0))) (counted_members ms)
-
--- the path is bad
-abbrev pub is_bad : Meaning → Bool
-is_bad (bad e) = true
-is_bad _ = false
 
 -- the segments before the last are names, and their path is not bad
 abbrev pub is_good : (Path → Meaning) → Segments → Bool

@@ -12,10 +12,10 @@ ghost use Rattle.zarrs_block.specs.StepsOfExpansion.{IsPlainKey, is_low};
 ghost use Rattle.zarrs_block.specs.Order.{Ascend};
 
 use crate::consolidated::{ConsolidatedMetadata, ConsolidatedMetadataMetadata};
-use crate::node_create_error::NodeCreateError;
 use crate::without::keys_below;
 use serde_json::Map;
 use std::alloc::{AllocError, Global};
+use zarrs_meaning::NodeCreateError;
 use zarrs_meta::NodeMetadata;
 use zarrs_path::{NodePath, NodePathError};
 

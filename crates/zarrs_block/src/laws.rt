@@ -1,7 +1,7 @@
 //! What holds of every block. A function with an empty body does nothing, and its contract is the law.
 ghost use Rattle.std.specs.Prelude.{◌≡◌, Ok};
 ghost use Rattle.zarrs_block.specs.Block.{HasPlainNodesIn, block_of_in, block_tree};
-ghost use Rattle.zarrs_block.specs.Laws.{WholeBlocksReadTheSame, WholePathsMeanTheSame};
+ghost use Rattle.zarrs_block.specs.Laws.{WholeBlocksReadTheSame};
 ghost use Rattle.zarrs_block.specs.Zmetadata.{ZmetadataHoldsIn, OneBlockHoldsStoreIn, WrittenHoldsDocuments, WrittenReadsBackIn};
 
 use crate::consolidated::ConsolidatedMetadata;
@@ -45,10 +45,4 @@ pub fn written_reads_back_in(numbers: Numbers)
 /// A block, or a document `.zmetadata`, that is read where numbers have to be whole is read the same whatever numbers may stand.
 pub fn whole_blocks_read_the_same()
     ensures { WholeBlocksReadTheSame }
-{}
-
-/// A path that is not bad in a store whose numbers have to be whole means the same where any number may stand.
-#[tactic(auto, using(crate::proofs::MoreBlocks::whole_paths_mean_the_same))]
-pub fn whole_paths_mean_the_same()
-    ensures { WholePathsMeanTheSame }
 {}

@@ -1,13 +1,11 @@
 //! The consolidated block of a group, which holds the metadata of the nodes below it: read, written, chosen in place of a listing, and
-//! expanded to paths. And why a node was not made: the refusals that reading, listing and building nodes share. Its definitions also say
-//! what a path means in a store.
+//! expanded to paths.
 #![tactic(auto)]
 
 mod asked;
 mod consolidated;
 mod expand;
 pub mod laws;
-mod node_create_error;
 mod policy;
 mod pretty;
 mod without;
@@ -16,7 +14,6 @@ mod zmetadata_written;
 
 pub use consolidated::{ConsolidatedMetadata, ConsolidatedMetadataMetadata};
 pub use expand::expand_consolidated_metadata;
-pub use node_create_error::NodeCreateError;
 pub use policy::{
     consolidated_metadata_for_open, consolidated_metadata_for_open_in, consolidated_metadata_of,
     consolidated_metadata_of_in, resolve_consolidated_policy,

@@ -5,9 +5,9 @@ ghost use Rattle.zarrs_block.specs.Policy.{as_block, fields_block, group_field, 
 ghost use Rattle.zarrs_fault.specs.declared.numbers.Numbers.TheVariants.{Whole};
 
 use crate::consolidated::ConsolidatedMetadata;
-use crate::node_create_error::NodeCreateError;
 use std::alloc::{AllocError, Global};
 use zarrs_config::UseConsolidatedMetadata;
+use zarrs_meaning::NodeCreateError;
 use zarrs_meta::{AdditionalFieldsV3, GroupMetadata, NodeMetadata};
 use zarrs_path::NodePath;
 use zarrs_store::{MetadataFault, Numbers};

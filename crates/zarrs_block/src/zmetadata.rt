@@ -6,7 +6,7 @@ ghost use Rattle.std.specs.List.Sorted.{IsSortedBy};
 ghost use Rattle.serde_json.specs.Data.{object, Members};
 ghost use Rattle.serde_json.specs.View.{view, members_view};
 ghost use Rattle.zarrs_path.specs.Names.{is_name};
-ghost use Rattle.zarrs_form.specs.Documents.{Gives, document_in, form_or_fault, required_member};
+ghost use Rattle.zarrs_form.specs.Documents.{Gives, document_in, form_or_fault, of_bytes, required_member};
 ghost use Rattle.zarrs_form.specs.Forms.{fits_in};
 ghost use Rattle.zarrs_meta.specs.ArrayV2.{array_v2_in};
 ghost use Rattle.zarrs_meta.specs.GroupV2.{group_v2_in};
@@ -25,7 +25,7 @@ use crate::asked::asked_owned;
 use crate::consolidated::{ConsolidatedMetadata, ConsolidatedMetadataMetadata, take_documents};
 use serde_json::{Map, Value};
 use std::alloc::{AllocError, Global};
-use zarrs_form::{document_copy_in, document_in, member};
+use zarrs_form::{document_copy_in, document_in, member, parse};
 use zarrs_meta::{
     ArrayMetadata, ArrayMetadataV2, AttributesDocument, BoxedArray, GroupMetadata, GroupMetadataV2,
     NodeMetadata,
@@ -130,6 +130,24 @@ impl ConsolidatedMetadata {
         ensures ascending { IfOk result (λ block. IsAscending block.metadata) }
     {
         block_of(alloc, numbers, document_in(numbers, value)?)
+    }
+
+    /// The block that the bytes of a document `.zmetadata` are, where it may hold these numbers.
+    ///
+    /// # Errors
+    ///
+    /// `NotJson` where the bytes are no JSON text, and else as [`ConsolidatedMetadata::from_zmetadata_in`].
+    ///
+    /// Source: own; zarr-python, consolidated metadata of version 2.
+    pub fn from_zmetadata_bytes_in(
+        alloc: Global,
+        numbers: Numbers,
+        bytes: &[u8],
+    ) -> Result<ConsolidatedMetadata, MetadataFault>
+        ensures gives { Gives (λ block. block.metadata) result
+            (of_bytes (zmetadata_in numbers) bytes.now) }
+    {
+        ConsolidatedMetadata::from_owned_zmetadata_in(alloc, numbers, parse(alloc, bytes)?)
     }
 }
 

@@ -10,10 +10,10 @@ ghost use Rattle.zarrs_block.specs.StepsOfZmetadata.{RefusesWritingNode, Refuses
 
 use crate::consolidated::ConsolidatedMetadata;
 use crate::expand::pairs_of;
-use crate::node_create_error::NodeCreateError;
 use serde_json::{Map, Value, put};
 use std::alloc::{AllocError, Global};
 use std::mem::replace;
+use zarrs_meaning::NodeCreateError;
 use zarrs_meta::{
     ArrayMetadata, ArrayMetadataV2, Document, GroupMetadata, GroupMetadataV2, NodeMetadata, Object,
     WrittenDocument,

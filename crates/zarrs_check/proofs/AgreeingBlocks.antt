@@ -35,9 +35,9 @@ use Rattle.zarrs_node.proofs.Order.{shown_ascend}
 use Rattle.zarrs_node.proofs.Unique.{names_irrefl}
 use Rattle.zarrs_check.specs.declared.base.Base.TheVariants.{Node}
 use Rattle.zarrs_check.specs.Checks.{block_read, HasBadPath, HasOtherAttributes, IsBlockFinding, IsToldOf}
-use Rattle.zarrs_node.specs.Exists.{HasNodeKey}
+use Rattle.zarrs_meaning.specs.Exists.{HasNodeKey}
 use Rattle.zarrs_check.specs.Findings.{HasPath, IsSpoilt, IsKeyFinding, IsPathFinding, IsFinding}
-use Rattle.zarrs_block.specs.Meaning.{Pair}
+use Rattle.zarrs_meaning.specs.Meaning.{Pair}
 use Rattle.zarrs_check.specs.Laws.{HaveSameNodes, GoodBlocksAgree, paths_of}
 use Rattle.zarrs_check.specs.Surveys.{IsSurveyOf}
 use Rattle.zarrs_check.specs.declared.finding.Finding.{Finding}

@@ -16,7 +16,7 @@ use Rattle.zarrs_node.proofs.KeptOfLists.{below_later}
 use Rattle.zarrs_node.proofs.Order.{contains_cases}
 use Rattle.zarrs_check.specs.Checks.{own_finding}
 use Rattle.zarrs_check.specs.Findings.{HasPath, IsCutOff, IsSpoilt, IsPathFinding, IsKeyFinding, IsFinding, Precedes, rank_of}
-use Rattle.zarrs_block.specs.Meaning.{Pair}
+use Rattle.zarrs_meaning.specs.Meaning.{Pair}
 use Rattle.zarrs_check.specs.StepsOfChecks.{AreTold}
 use Rattle.zarrs_check.specs.StepsOfComparing.{ArePathFindings, IsBadAmong, IsRidOf, findings_at, key_findings, own_findings, own_kind}
 use Rattle.zarrs_check.specs.declared.finding.Finding.{Finding}

@@ -9,8 +9,8 @@ use Rattle.zarrs_path.specs.PathOrder.{path_total}
 use Rattle.zarrs_meta.specs.declared.node.NodeMetadata.{NodeMetadata}
 use Rattle.zarrs_config.specs.declared.version.MetadataRetrieveVersion.{MetadataRetrieveVersion}
 use Rattle.zarrs_block.specs.Block.{Block}
-use Rattle.zarrs_block.specs.Meaning.{meaning, node}
-use Rattle.zarrs_block.specs.declared.node_create_error.NodeCreateError.{NodeCreateError}
+use Rattle.zarrs_meaning.specs.Meaning.{meaning, node}
+use Rattle.zarrs_meaning.specs.declared.node_create_error.NodeCreateError.{NodeCreateError}
 use Rattle.zarrs_node.specs.Nodes.{Nodes}
 use Rattle.zarrs_node.specs.Order.{Ascend}
 use Rattle.zarrs_node.proofs.ListedItems.{listed_each, all_pairs_append, all_pairs_first, all_pairs_tail}
@@ -22,9 +22,9 @@ use Rattle.zarrs_node.proofs.walk.Child.{node_same}
 use Rattle.zarrs_check.specs.declared.base.Base.{Base}
 use Rattle.zarrs_check.specs.declared.base.Base.TheVariants.{Node, Refused}
 use Rattle.zarrs_check.specs.Checks.{block_read, own_read, node_attributes, HasOtherAttributes, HasNode, HasBadPath, fault_of_block, IsToldOf, StandsBefore, AreBlockFindings}
-use Rattle.zarrs_node.specs.Exists.{HasNodeKey}
+use Rattle.zarrs_meaning.specs.Exists.{HasNodeKey}
 use Rattle.zarrs_check.specs.Findings.{AreFindings, IsPathFinding}
-use Rattle.zarrs_block.specs.Meaning.{Pair}
+use Rattle.zarrs_meaning.specs.Meaning.{Pair}
 use Rattle.zarrs_check.specs.StepsOfChecks.{BlockOrFault, ReadBlock, GroupsAscend, IsToldWith, AreTold, HasBad, AreFindingsOf, block_with, block_with_own}
 use Rattle.zarrs_check.specs.StepsOfOwnAttributes.{is_other}
 use Rattle.zarrs_check.specs.StepsOfComparing.{ArePathFindings}

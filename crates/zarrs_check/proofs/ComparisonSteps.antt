@@ -16,7 +16,7 @@ use Rattle.zarrs_check.specs.declared.finding.Finding.{Finding}
 use Rattle.zarrs_check.specs.declared.finding.FindingKind.{FindingKind}
 use Rattle.zarrs_check.specs.declared.finding.FindingKind.TheVariants.{BlockFault, BadKey, Shadowed, OwnKey, OwnAttributes, Unreachable, Stale, Unreached, Differs, Missing}
 use Rattle.zarrs_check.specs.Findings.{HasPath, IsCutOff, IsPathFinding, Precedes, rank_of}
-use Rattle.zarrs_block.specs.Meaning.{Pair}
+use Rattle.zarrs_meaning.specs.Meaning.{Pair}
 use Rattle.zarrs_check.specs.StepsOfComparing.{ArePathFindings, HangsFrom, IsBeforeFirst, IsPairKind, cut_kind, findings_at}
 use Rattle.zarrs_check.specs.StepsOfMerging.{IsLeft, IsToldUpTo, IsBeforeAll, IsLastGroup, IsReachable, IsToTell, HoldsUpTo}
 use Rattle.zarrs_check.specs.StepsOfComparisons.{NoneBad, NoDocument}

@@ -26,10 +26,10 @@ use Rattle.zarrs_path.specs.Paths.{Path, IsPath, IsBelow, IsPathText, path_text,
 use Rattle.zarrs_path.specs.PathOrder.{path_decides, path_equiv, path_ties, path_total}
 use Rattle.zarrs_path.proofs.PathTexts.{path_text_some, segments_from_names}
 use Rattle.zarrs_path.proofs.LawProofs.{same_fronts}
-use Rattle.zarrs_block.specs.declared.node_create_error.NodeCreateError.{NodeCreateError}
+use Rattle.zarrs_meaning.specs.declared.node_create_error.NodeCreateError.{NodeCreateError}
 use Rattle.zarrs_block.proofs.LastSlash.{IsCutText}
 use Rattle.zarrs_config.specs.declared.version.MetadataRetrieveVersion.{MetadataRetrieveVersion}
-use Rattle.zarrs_node.specs.Exists.{HasNodeKey}
+use Rattle.zarrs_meaning.specs.Exists.{HasNodeKey}
 use Rattle.zarrs_node.specs.Faults.{PathsAscend}
 use Rattle.zarrs_node.specs.Nodes.{Ignored}
 use Rattle.zarrs_node.proofs.Unique.{names_irrefl}

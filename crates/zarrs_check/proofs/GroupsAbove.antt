@@ -6,16 +6,16 @@ use Rattle.zarrs_store.specs.Contents.{Contents}
 use Rattle.zarrs_path.specs.Paths.{Path, path_cmp, IsBelow, IsParent}
 use Rattle.zarrs_config.specs.declared.version.MetadataRetrieveVersion.{MetadataRetrieveVersion}
 use Rattle.zarrs_block.specs.Block.{Block, Entries}
-use Rattle.zarrs_block.specs.Meaning.{meaning, node}
+use Rattle.zarrs_meaning.specs.Meaning.{meaning, node}
 use Rattle.zarrs_block.specs.declared.consolidated.ConsolidatedMetadata.{ConsolidatedMetadata}
-use Rattle.zarrs_node.specs.Exists.{HasNodeKey}
+use Rattle.zarrs_meaning.specs.Exists.{HasNodeKey}
 use Rattle.zarrs_node.proofs.walk.Child.{node_same}
 use Rattle.zarrs_node.proofs.ListedItems.{all_pairs_append}
 use Rattle.zarrs_node.proofs.KeptOfLists.{below_later, below_trans, not_below_itself}
 use Rattle.zarrs_check.specs.BlocksAbove.{HasNodeFrom, HasBadFrom, IsAboveFinding, AreAboveFindings}
 use Rattle.zarrs_check.specs.Checks.{block_read, StandsBefore}
 use Rattle.zarrs_check.specs.Findings.{IsAtOrAbove, IsPathFinding, IsSpoilt}
-use Rattle.zarrs_block.specs.Meaning.{Pair}
+use Rattle.zarrs_meaning.specs.Meaning.{Pair}
 use Rattle.zarrs_check.specs.Laws.{NothingIsAboveRoot}
 use Rattle.zarrs_check.specs.StepsOfBlocksAbove.{AreFoundBelow, ArePartFindings, IsGoodBlock, IsNextAbove, IsPartOf, IsBelowNext}
 use Rattle.zarrs_check.specs.StepsOfChecks.{HasBad}

@@ -10,7 +10,7 @@ use Rattle.zarrs_node.proofs.ForestsBeside.{Contains-first, Contains-cons}
 use Rattle.zarrs_node.proofs.Order.{contains_cases}
 use Rattle.zarrs_node.proofs.KeptOfLists.{below_later, below_trans, not_below_itself, above_child, none_between, between_below}
 use Rattle.zarrs_check.specs.Findings.{IsAtOrAbove}
-use Rattle.zarrs_block.specs.Meaning.{Pair}
+use Rattle.zarrs_meaning.specs.Meaning.{Pair}
 use Rattle.zarrs_check.specs.StepsOfComparing.{HangsFrom}
 use Rattle.zarrs_check.specs.StepsOfMerging.{IsBeforeAll, IsLastGroup, IsReachable}
 use Rattle.zarrs_check.proofs.MergedPairs.{not_before, first_before}

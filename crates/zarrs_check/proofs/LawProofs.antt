@@ -13,7 +13,7 @@ use Rattle.zarrs_node.proofs.ForestsBeside.{Contains-first}
 use Rattle.zarrs_node.proofs.KeptOfLists.{below_trans}
 use Rattle.zarrs_node.proofs.Order.{shown_ascend}
 use Rattle.zarrs_node.proofs.Unique.{names_irrefl}
-use Rattle.zarrs_block.specs.Meaning.{Pair}
+use Rattle.zarrs_meaning.specs.Meaning.{Pair}
 use Rattle.zarrs_check.specs.Laws.{NothingBadIsTold, RefusalsAreTold, ListingIsSurveyed, GroupsAreSurveyed}
 use Rattle.zarrs_check.proofs.MergedPairs.{same_list}
 

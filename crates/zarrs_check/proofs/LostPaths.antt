@@ -16,15 +16,15 @@ use Rattle.zarrs_meta.specs.declared.attributes.AttributesDocument.{AttributesDo
 use Rattle.zarrs_meta.specs.declared.node.NodeMetadata.{NodeMetadata}
 use Rattle.zarrs_meta.specs.declared.node.ZarrJson.{ZarrJson}
 use Rattle.zarrs_meta.specs.declared.node.ZarrJson.TheVariants.{Node as node_json, Version2}
-use Rattle.zarrs_block.specs.DocumentsAtKeys.{in_bytes, document_at, document_from, document_or_fault, attributes_at}
-use Rattle.zarrs_block.specs.Meaning.{Meaning, meaning, node, nothing, bad, version_3_line, version_2_line, zarray_line, zgroup_line}
-use Rattle.zarrs_block.specs.declared.node_create_error.NodeCreateError.{NodeCreateError}
-use Rattle.zarrs_node.specs.Exists.{HasNodeKey}
+use Rattle.zarrs_meaning.specs.DocumentsAtKeys.{in_bytes, document_at, document_from, document_or_fault, attributes_at}
+use Rattle.zarrs_meaning.specs.Meaning.{Meaning, meaning, node, nothing, bad, version_3_line, version_2_line, zarray_line, zgroup_line}
+use Rattle.zarrs_meaning.specs.declared.node_create_error.NodeCreateError.{NodeCreateError}
+use Rattle.zarrs_meaning.specs.Exists.{HasNodeKey}
 use Rattle.zarrs_node.specs.Nodes.{MeansNode, Ignored, IsListed}
 use Rattle.zarrs_node.specs.Reach.{Reached}
 use Rattle.zarrs_node.proofs.ListedItems.{listed_each}
 use Rattle.zarrs_node.proofs.blocks.Leads.{same_or_above, names_beyond}
-use Rattle.zarrs_node.proofs.Meanings.{default_is, zarr_json_line_is, zarray_line_is, zgroup_line_is}
+use Rattle.zarrs_meaning.proofs.Meanings.{default_is, zarr_json_line_is, zarray_line_is, zgroup_line_is}
 use Rattle.zarrs_node.proofs.walk.WalkSteps.{reached_deeper}
 use Rattle.zarrs_check.specs.Checks.{IsCheckOf}
 use Rattle.zarrs_check.specs.Laws.{IsBelowArrayNode, IsFoundBy, NothingIsLost}

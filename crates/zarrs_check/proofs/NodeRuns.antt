@@ -15,7 +15,7 @@ use Rattle.zarrs_node.proofs.KeptOfLists.{below_later, between_below}
 use Rattle.zarrs_node.proofs.ListedItems.{all_pairs_first, all_pairs_tail}
 use Rattle.zarrs_node.proofs.Order.{contains_cases}
 use Rattle.zarrs_node.proofs.Unique.{names_irrefl}
-use Rattle.zarrs_block.specs.Meaning.{Pair}
+use Rattle.zarrs_meaning.specs.Meaning.{Pair}
 use Rattle.zarrs_check.specs.StepsOfComparing.{IsPlaceBehind, StandBehind}
 use Rattle.zarrs_check.proofs.Above.{earlier_after}
 use Rattle.zarrs_check.proofs.PathSearch.{IsGap}

@@ -20,8 +20,8 @@ use Rattle.zarrs_meta.specs.declared.node.GroupMetadata.TheVariants.{V2 as group
 use Rattle.zarrs_meta.specs.declared.node.NodeMetadata.{NodeMetadata}
 use Rattle.zarrs_meta.specs.declared.node.NodeMetadata.TheVariants.{Group, Array}
 use Rattle.zarrs_block.specs.Block.{Block}
-use Rattle.zarrs_block.specs.Meaning.{Meaning, node, nothing, bad}
-use Rattle.zarrs_block.specs.Small.{small, small_meaning_in}
+use Rattle.zarrs_meaning.specs.Meaning.{Meaning, node, nothing, bad}
+use Rattle.zarrs_meaning.specs.Small.{small, small_meaning_in}
 use Rattle.zarrs_block.specs.StepsOfZmetadata.{read_with, read_documents}
 use Rattle.zarrs_block.specs.Zmetadata.{one, zmetadata_in, zmetadata_members_in}
 use Rattle.zarrs_block.proofs.SmallLaws.{get_document}

@@ -3,12 +3,12 @@ use Rattle.std.proofs.Common.{◌≡◌, ◌↔◌, ◌⊎◌, inl, inr, ⊎_eli
 use Rattle.std.proofs.lemmas.List.Kept.{AllPairs-filter}
 use Rattle.zarrs_path.specs.Paths.{Path, IsBelow}
 use Rattle.zarrs_block.specs.Block.{Block, Entries}
-use Rattle.zarrs_block.specs.declared.node_create_error.NodeCreateError.{NodeCreateError}
+use Rattle.zarrs_meaning.specs.declared.node_create_error.NodeCreateError.{NodeCreateError}
 use Rattle.zarrs_node.specs.Order.{Ascend}
 use Rattle.zarrs_node.proofs.FlatForests.{filter_holds, filter_keeps}
 use Rattle.zarrs_node.proofs.Lasts.{contains_filtered}
 use Rattle.zarrs_check.specs.Findings.{IsAtOrAbove, Precedes}
-use Rattle.zarrs_block.specs.Meaning.{Pair}
+use Rattle.zarrs_meaning.specs.Meaning.{Pair}
 use Rattle.zarrs_check.specs.StepsOfBlocksAbove.{ArePartFindings, IsEndFrom}
 use Rattle.zarrs_check.specs.StepsOfChecks.{HasBad}
 use Rattle.zarrs_check.specs.StepsOfComparing.{ArePathFindings}

@@ -12,7 +12,7 @@ use Rattle.zarrs_meta.specs.declared.node.NodeMetadata.{NodeMetadata}
 use Rattle.zarrs_meta.specs.declared.node.NodeMetadata.TheVariants.{Group, Array}
 use Rattle.zarrs_block.specs.Block.{Block, Entries, entry, first_some, node_at_key}
 use Rattle.zarrs_block.specs.KeysAboutAPath.{IsAbout}
-use Rattle.zarrs_block.specs.Meaning.{meaning}
+use Rattle.zarrs_meaning.specs.Meaning.{meaning}
 use Rattle.zarrs_block.proofs.KeyLaws.{one_text}
 use Rattle.zarrs_compare.specs.Same.{IsSame, without_block}
 use Rattle.zarrs_node.specs.BlocksOfNodes.{text_beyond}
@@ -25,7 +25,7 @@ use Rattle.zarrs_node.proofs.blocks.Current.{AtOrBelow, about_from, bare_text, d
 use Rattle.zarrs_node.proofs.KeptPairs.{reached_between}
 use Rattle.zarrs_node.proofs.blocks.Leads.{names_beyond}
 use Rattle.zarrs_check.specs.Findings.{HasPath}
-use Rattle.zarrs_block.specs.Meaning.{Pair}
+use Rattle.zarrs_meaning.specs.Meaning.{Pair}
 use Rattle.zarrs_check.specs.Laws.{HaveSameNodes, RefreshedBlocksAgree}
 use Rattle.zarrs_check.proofs.AgreeingBlocks.{entry_kept, has_entry, has_node, same_metadata}
 use Rattle.zarrs_check.proofs.LawProofs.{nothing_bad_is_told}

@@ -6,10 +6,10 @@ use Rattle.zarrs_store.specs.Contents.{Contents, Lists}
 use Rattle.zarrs_store.specs.declared.storage_error.StorageError.TheVariants.{Fault, InvalidMetadata, Other, OutOfMemory as NoStoreMemory}
 use Rattle.zarrs_path.specs.Paths.{Path, IsPath, IsBelow, path_cmp}
 use Rattle.zarrs_config.specs.declared.version.MetadataRetrieveVersion.{MetadataRetrieveVersion}
-use Rattle.zarrs_block.specs.Meaning.{Meaning, node, nothing, bad}
-use Rattle.zarrs_block.specs.Refusals.{IsExcused, IsMissing}
-use Rattle.zarrs_block.specs.declared.node_create_error.NodeCreateError.{NodeCreateError}
-use Rattle.zarrs_block.specs.declared.node_create_error.NodeCreateError.TheVariants.{NodePathError, StorePrefixError, StorageError, MetadataVersionMismatch, MissingMetadata, OutOfMemory}
+use Rattle.zarrs_meaning.specs.Meaning.{Meaning, node, nothing, bad}
+use Rattle.zarrs_meaning.specs.Refusals.{IsExcused, IsMissing}
+use Rattle.zarrs_meaning.specs.declared.node_create_error.NodeCreateError.{NodeCreateError}
+use Rattle.zarrs_meaning.specs.declared.node_create_error.NodeCreateError.TheVariants.{NodePathError, StorePrefixError, StorageError, MetadataVersionMismatch, MissingMetadata, OutOfMemory}
 use Rattle.zarrs_node.specs.OpeningNodes.{RefusesNode}
 use Rattle.zarrs_node.proofs.walk.BadDocuments.{IsOfDocument, bad_by_document}
 use Rattle.zarrs_node.specs.Faults.{Faults, FaultsAscend, PathsAscend}

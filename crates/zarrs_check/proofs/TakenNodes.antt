@@ -12,7 +12,7 @@ use Rattle.zarrs_path.specs.PathOrder.{path_total}
 use Rattle.zarrs_meta.specs.declared.node.NodeMetadata.{NodeMetadata}
 use Rattle.zarrs_config.specs.declared.version.MetadataRetrieveVersion.{MetadataRetrieveVersion}
 use Rattle.zarrs_block.specs.Block.{Block, Entries, IsAscending}
-use Rattle.zarrs_block.specs.Meaning.{Meaning, meaning, node, nothing, bad}
+use Rattle.zarrs_meaning.specs.Meaning.{Meaning, meaning, node, nothing, bad}
 use Rattle.zarrs_node.specs.Forest.{pairs}
 use Rattle.zarrs_node.specs.Nodes.{Nodes}
 use Rattle.zarrs_node.specs.Order.{Ascend}
@@ -28,7 +28,7 @@ use Rattle.zarrs_node.proofs.Unique.{names_irrefl}
 use Rattle.zarrs_check.specs.declared.base.Base.{Base}
 use Rattle.zarrs_check.specs.declared.base.Base.TheVariants.{Node, Refused}
 use Rattle.zarrs_check.specs.Checks.{fault_of_block, HasNode, IsBaseFault, IsCount}
-use Rattle.zarrs_block.specs.Meaning.{Pair}
+use Rattle.zarrs_meaning.specs.Meaning.{Pair}
 use Rattle.zarrs_check.specs.StepsOfChecks.{BlockOrFault, ReadBlock, GroupsAscend, block_with_own}
 use Rattle.zarrs_check.specs.StepsOfComparing.{AreBelow, own_findings}
 use Rattle.zarrs_check.specs.StepsOfMerging.{HoldsUpTo}

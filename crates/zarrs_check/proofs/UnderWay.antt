@@ -8,16 +8,16 @@ use Rattle.zarrs_store.specs.Segments.{bytes_cmp}
 use Rattle.zarrs_path.specs.Paths.{Path, path_cmp, IsBelow}
 use Rattle.zarrs_meta.specs.Node.{is_group}
 use Rattle.zarrs_meta.specs.declared.node.NodeMetadata.{NodeMetadata}
-use Rattle.zarrs_block.specs.declared.node_create_error.NodeCreateError.{NodeCreateError}
+use Rattle.zarrs_meaning.specs.declared.node_create_error.NodeCreateError.{NodeCreateError}
 use Rattle.zarrs_node.proofs.ListedItems.{all_pairs_first, all_pairs_tail, all_pairs_append}
 use Rattle.zarrs_node.proofs.ForestsBeside.{Contains-first, Contains-cons}
 use Rattle.zarrs_node.proofs.Order.{contains_cases}
 use Rattle.zarrs_check.specs.Findings.{IsAtOrAbove, IsSpoilt, IsPathFinding, Precedes, key_of, rank_of}
-use Rattle.zarrs_block.specs.Meaning.{Pair}
+use Rattle.zarrs_meaning.specs.Meaning.{Pair}
 use Rattle.zarrs_check.specs.StepsOfBlocksAbove.{ArePartFindings}
 use Rattle.zarrs_check.specs.StepsOfChecks.{HasBad}
 use Rattle.zarrs_check.specs.StepsOfComparing.{ArePathFindings, AreBelow, HangsFrom, IsBeforeFirst, IsPairKind, cut_kind, findings_at}
-use Rattle.zarrs_check.specs.StepsOfComparisons.{AreSettled, IsAtEnd, IsEnd, IsNext, IsNextBelow, IsNextOf, IsOneBlock, IsSettled, IsUnderWay, IsUnmoved, NoDocument, NoneBad, PassesLone, PassesPair, PutsSettled, if_some}
+use Rattle.zarrs_check.specs.StepsOfComparisons.{AreSettled, IsAtEnd, IsEnd, IsNext, IsNextBelow, IsNextOf, IsOneBlock, IsSettled, IsUnderWay, IsUnmoved, NoDocument, NoneBad, PassesLone, PassesPair, PassesWith, PutsSettled, if_some}
 use Rattle.zarrs_check.specs.StepsOfMerging.{HoldsUpTo}
 use Rattle.zarrs_check.specs.declared.comparison.Comparison.{Comparison}
 use Rattle.zarrs_check.specs.declared.finding.Finding.{Finding}
@@ -66,16 +66,16 @@ module _ (all nodes : List Pair) (c d : Comparison) (of : d.group ≡ c.group) w
   now_holds es ns fs = HoldsUpTo (Contains all) (Contains nodes) NoneBad NoDocument c.group es ns d.last fs
 
   -- an entry without a node is told and passed
-  pub lone_passed : (e : Pair) (es ns : List Pair) (reached : Bool) → IsBeforeFirst e.0 ns → IsUnderWay all nodes (e ∷ es) ns c
+  pub lone_told : (e : Pair) (es ns : List Pair) (reached : Bool) → IsBeforeFirst e.0 ns → IsUnderWay all nodes (e ∷ es) ns c
       → (IsTrue reached ↔ HangsFrom c.last e.0) → tells (findings_at c.group e.0 (cut_kind reached) ++ findings_at c.group e.0 (Some Stale)) → d.last ≡ (if reached && is_group e.1 then e.0 else c.last) → IsUnderWay all nodes es ns d
-  lone_passed e es ns reached first u says told turns = under_way_as all nodes es ns c d of
+  lone_told e es ns reached first u says told turns = under_way_as all nodes es ns c d of
       (subst (now_holds es ns) (sym told) (entry_turn (Contains all) (Contains nodes) c.group u.low (group_or_not all) e es ns c.last d.last c.found.items u.holds first reached says turns))
       u.low u.under
 
   -- an entry beside a node is told and passed
-  pub pair_passed : (e : Pair) (n : NodeMetadata) (es ns : List Pair) (reached : Bool) (kind : Option FindingKind) → IsUnderWay all nodes (e ∷ es) ((e.0, n) ∷ ns) c
+  pub pair_told : (e : Pair) (n : NodeMetadata) (es ns : List Pair) (reached : Bool) (kind : Option FindingKind) → IsUnderWay all nodes (e ∷ es) ((e.0, n) ∷ ns) c
       → (IsTrue reached ↔ HangsFrom c.last e.0) → IsPairKind e.1 n kind → tells (findings_at c.group e.0 (cut_kind reached) ++ findings_at c.group e.0 kind) → d.last ≡ (if reached && is_group e.1 then e.0 else c.last) → IsUnderWay all nodes es ns d
-  pair_passed e n es ns reached kind u says is told turns = under_way_as all nodes es ns c d of
+  pair_told e n es ns reached kind u says is told turns = under_way_as all nodes es ns c d of
       (subst (now_holds es ns) (sym told) (both_turn (Contains all) (Contains nodes) c.group u.low (group_or_not all) e (e.0, n) es ns c.last d.last c.found.items u.holds refl reached says kind is turns))
       u.low u.under
 
@@ -86,6 +86,22 @@ module _ (all nodes : List Pair) (c d : Comparison) (of : d.group ≡ c.group) w
       (subst (HoldsUpTo (Contains all) (Contains nodes) NoneBad NoDocument c.group es ns c.last) (sym told)
       (node_turn (Contains all) (Contains nodes) c.group u.low (group_or_not all) u.under n es ns c.last c.found.items u.holds first)))
       u.low u.under
+
+-- an entry that was passed with what is told of one without a node
+pub lone_passed : (old new : Comparison) (e : Pair) → PassesWith old e (Some Stale) new → PassesLone old e new
+lone_passed old new e p = record {
+  one = record { group = p.one.group; of_block = p.one.of_block };
+  entries = p.entries;
+  told = λ all nodes ns first u. lone_told all nodes old new p.one.group e _ ns p.reached first u p.hangs p.found p.last;
+}
+
+-- and with what is told of one beside a node
+pub pair_passed : (old new : Comparison) (e : Pair) (n : NodeMetadata) (kind : Option FindingKind) → IsPairKind e.1 n kind → PassesWith old e kind new → PassesPair old e n new
+pair_passed old new e n kind is p = record {
+  one = record { group = p.one.group; of_block = p.one.of_block };
+  entries = p.entries;
+  told = λ all nodes ns u. pair_told all nodes old new p.one.group e n _ ns p.reached kind u p.hangs is p.found p.last;
+}
 
 -- ---- the way to a node, and to the end
 

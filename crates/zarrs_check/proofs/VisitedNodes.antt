@@ -22,7 +22,7 @@ use Rattle.zarrs_notes.specs.declared.finding.NodeFinding.{NodeFinding}
 use Rattle.zarrs_notes.proofs.Parts.{not_before_itself}
 use Rattle.zarrs_check.specs.declared.base.Base.{Base}
 use Rattle.zarrs_check.specs.Checks.{HasNode, HasNodeAt, IsNodeTold, IsToldBefore}
-use Rattle.zarrs_block.specs.Meaning.{Pair}
+use Rattle.zarrs_meaning.specs.Meaning.{Pair}
 use Rattle.zarrs_check.specs.StepsOfTaking.{Takes, base_nodes}
 use Rattle.zarrs_check.specs.StepsOfVisits.{TakesVisit, named_findings}
 use Rattle.zarrs_check.specs.Surveys.{IsBase}

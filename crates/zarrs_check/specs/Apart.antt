@@ -3,7 +3,7 @@
 use Rattle.std.specs.Prelude.{◌≡◌, List, AllPairs}
 use Rattle.std.specs.declared.cmp.Ordering.TheVariants.{Less}
 use Rattle.zarrs_path.specs.Paths.{Path, path_cmp, IsBelow}
-use Rattle.zarrs_block.specs.declared.node_create_error.NodeCreateError.{NodeCreateError}
+use Rattle.zarrs_meaning.specs.declared.node_create_error.NodeCreateError.{NodeCreateError}
 
 -- each path stands before all later ones, and none of these is below it
 abbrev pub AreApart : List (Path × NodeCreateError) → Type 0

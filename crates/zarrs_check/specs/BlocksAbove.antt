@@ -15,12 +15,12 @@ use Rattle.zarrs_meta.specs.declared.node.ArrayMetadata.{ArrayMetadata}
 use Rattle.zarrs_meta.specs.declared.node.NodeMetadata.{NodeMetadata}
 use Rattle.zarrs_meta.specs.declared.node.NodeMetadata.TheVariants.{Array}
 use Rattle.zarrs_block.specs.Block.{Block, Entries}
-use Rattle.zarrs_block.specs.Meaning.{meaning, node, bad}
-use Rattle.zarrs_block.specs.declared.node_create_error.NodeCreateError.{NodeCreateError}
-use Rattle.zarrs_node.specs.Exists.{HasNodeKey}
+use Rattle.zarrs_meaning.specs.Meaning.{meaning, node, bad}
+use Rattle.zarrs_meaning.specs.declared.node_create_error.NodeCreateError.{NodeCreateError}
+use Rattle.zarrs_meaning.specs.Exists.{HasNodeKey}
 use Rattle.zarrs_check.specs.Checks.{block_read, HasNode, HasBadPath, StandsBefore}
 use Rattle.zarrs_check.specs.Findings.{IsAtOrAbove, IsPathFinding}
-use Rattle.zarrs_block.specs.Meaning.{Pair}
+use Rattle.zarrs_meaning.specs.Meaning.{Pair}
 use Rattle.zarrs_check.specs.declared.finding.Finding.{Finding}
 
 -- the path means no array

@@ -31,18 +31,18 @@ use Rattle.zarrs_meta.specs.declared.node.NodeMetadata.{NodeMetadata}
 use Rattle.zarrs_meta.specs.declared.node.NodeMetadata.TheVariants.{Group, Array}
 use Rattle.zarrs_block.specs.Block.{Block, block_of_in}
 use Rattle.zarrs_block.specs.declared.consolidated.ConsolidatedMetadata.{ConsolidatedMetadata}
-use Rattle.zarrs_block.specs.Meaning.{Meaning, meaning, node, nothing, bad}
-use Rattle.zarrs_block.specs.Small.{small, small_meaning_in}
+use Rattle.zarrs_meaning.specs.Meaning.{Meaning, meaning, node, nothing, bad}
+use Rattle.zarrs_meaning.specs.Small.{small, small_meaning_in}
 use Rattle.zarrs_block.specs.Zmetadata.{zmetadata_in, zmetadata_members_in}
-use Rattle.zarrs_block.specs.declared.node_create_error.NodeCreateError.{NodeCreateError}
+use Rattle.zarrs_meaning.specs.declared.node_create_error.NodeCreateError.{NodeCreateError}
 use Rattle.zarrs_node.specs.Faults.{PathsAscend}
 use Rattle.zarrs_node.specs.Nodes.{Nodes, Ignored}
-use Rattle.zarrs_node.specs.Exists.{HasNodeKey}
+use Rattle.zarrs_meaning.specs.Exists.{HasNodeKey}
 use Rattle.zarrs_notes.specs.NodeFindings.{ComesBefore, IsNodeFinding}
 use Rattle.zarrs_notes.specs.declared.finding.NodeFinding.{NodeFinding}
 use Rattle.zarrs_check.specs.Alike.{AreAlikeAmong}
 use Rattle.zarrs_check.specs.Findings.{IsFinding, Precedes}
-use Rattle.zarrs_block.specs.Meaning.{Pair}
+use Rattle.zarrs_meaning.specs.Meaning.{Pair}
 use Rattle.zarrs_check.specs.Orphans.{IsOrphan, AreHidden}
 use Rattle.zarrs_check.specs.Surveys.{IsBase, BadDocuments, BadNames}
 use Rattle.zarrs_check.specs.declared.base.Base.TheVariants.{Node, Refused}

@@ -24,7 +24,7 @@ use Rattle.zarrs_check.specs.declared.finding.FindingKind.TheVariants.{BlockFaul
 use Rattle.zarrs_check.specs.declared.finding.FindingKind.TheVariants.{OwnAttributes, Unreachable, Stale, Unreached}
 use Rattle.zarrs_check.specs.declared.finding.FindingKind.TheVariants.{Differs, Missing}
 use Rattle.zarrs_fault.specs.Bytes.{slash}
-use Rattle.zarrs_block.specs.Meaning.{Pair}
+use Rattle.zarrs_meaning.specs.Meaning.{Pair}
 
 -- some pair has the path
 abbrev pub HasPath : (Pair → Type 0) → Path → Type 0

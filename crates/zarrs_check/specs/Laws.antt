@@ -10,19 +10,19 @@ use Rattle.zarrs_config.specs.declared.version.UseConsolidatedMetadata.TheVarian
 use Rattle.zarrs_meta.specs.Node.{is_group}
 use Rattle.zarrs_meta.specs.declared.node.NodeMetadata.{NodeMetadata}
 use Rattle.zarrs_block.specs.Block.{Block, Entries}
-use Rattle.zarrs_block.specs.Meaning.{meaning}
-use Rattle.zarrs_block.specs.Refusals.{IsInvalidPath}
-use Rattle.zarrs_block.specs.declared.node_create_error.NodeCreateError.{NodeCreateError}
+use Rattle.zarrs_meaning.specs.Meaning.{meaning}
+use Rattle.zarrs_meaning.specs.Refusals.{IsInvalidPath}
+use Rattle.zarrs_meaning.specs.declared.node_create_error.NodeCreateError.{NodeCreateError}
 use Rattle.zarrs_compare.specs.Same.{IsSame}
 use Rattle.zarrs_node.specs.CurrentBlocks.{BadAnew, IsFresh, LeadsTo}
-use Rattle.zarrs_node.specs.Exists.{HasNodeKey}
+use Rattle.zarrs_meaning.specs.Exists.{HasNodeKey}
 use Rattle.zarrs_node.specs.Forest.{Forest, pairs, Shows}
 use Rattle.zarrs_node.specs.Nodes.{Nodes, HasNothingBad, ShowsBad}
 use Rattle.zarrs_node.specs.OpeningNodes.{IsCleanBelow, ShowsBelow}
 use Rattle.zarrs_check.specs.BlocksAbove.{AreAboveFindings}
 use Rattle.zarrs_check.specs.Checks.{block_read, IsBlockFinding, IsCheckOf}
 use Rattle.zarrs_check.specs.Findings.{HasPath}
-use Rattle.zarrs_block.specs.Meaning.{Pair}
+use Rattle.zarrs_meaning.specs.Meaning.{Pair}
 use Rattle.zarrs_check.specs.Surveys.{IsSurveyOf}
 use Rattle.zarrs_check.specs.declared.base.Base.TheVariants.{Node}
 use Rattle.zarrs_check.specs.declared.check.Check.{Check}

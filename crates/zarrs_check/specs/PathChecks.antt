@@ -9,7 +9,7 @@ use Rattle.zarrs_path.specs.Paths.{Path}
 use Rattle.zarrs_config.specs.declared.version.MetadataRetrieveVersion.{MetadataRetrieveVersion}
 use Rattle.zarrs_meta.specs.Node.{is_group}
 use Rattle.zarrs_meta.specs.declared.node.NodeMetadata.{NodeMetadata}
-use Rattle.zarrs_block.specs.Meaning.{meaning, node}
+use Rattle.zarrs_meaning.specs.Meaning.{meaning, node}
 use Rattle.zarrs_notes.specs.NodeFindings.{AreNodeFindings}
 use Rattle.zarrs_check.specs.BlocksAbove.{MeansNoArray, AreAboveFindings}
 use Rattle.zarrs_check.specs.Checks.{AreBlockFindings, IsCheckOf}

@@ -8,15 +8,15 @@ use Rattle.zarrs_config.specs.declared.version.MetadataRetrieveVersion.{Metadata
 use Rattle.zarrs_meta.specs.declared.node.NodeMetadata.{NodeMetadata}
 use Rattle.zarrs_meta.specs.declared.node.NodeMetadata.TheVariants.{Array}
 use Rattle.zarrs_block.specs.Block.{Block}
-use Rattle.zarrs_block.specs.Meaning.{meaning, node}
+use Rattle.zarrs_meaning.specs.Meaning.{meaning, node}
 use Rattle.zarrs_block.specs.declared.consolidated.ConsolidatedMetadata.{ConsolidatedMetadata}
-use Rattle.zarrs_block.specs.declared.node_create_error.NodeCreateError.{NodeCreateError}
-use Rattle.zarrs_block.specs.declared.node_create_error.NodeCreateError.TheVariants.{MissingMetadata}
+use Rattle.zarrs_meaning.specs.declared.node_create_error.NodeCreateError.{NodeCreateError}
+use Rattle.zarrs_meaning.specs.declared.node_create_error.NodeCreateError.TheVariants.{MissingMetadata}
 use Rattle.zarrs_node.specs.Order.{Ascend}
 use Rattle.zarrs_check.specs.BlocksAbove.{HasNodeFrom, HasBadFrom, IsAboveFinding}
 use Rattle.zarrs_check.specs.Checks.{block_read, StandsBefore}
 use Rattle.zarrs_check.specs.Findings.{IsAtOrAbove, IsPathFinding, IsSpoilt, Precedes}
-use Rattle.zarrs_block.specs.Meaning.{Pair}
+use Rattle.zarrs_meaning.specs.Meaning.{Pair}
 use Rattle.zarrs_check.specs.StepsOfChecks.{HasBad}
 use Rattle.zarrs_check.specs.StepsOfComparisons.{IsUnderWay}
 use Rattle.zarrs_check.specs.declared.base.Base.{Base}

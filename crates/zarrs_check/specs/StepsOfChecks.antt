@@ -13,11 +13,11 @@ use Rattle.zarrs_form.specs.Documents.{json_of, of_bytes}
 use Rattle.zarrs_block.specs.Block.{Block}
 use Rattle.zarrs_block.specs.Zmetadata.{zmetadata_in}
 use Rattle.zarrs_block.specs.declared.consolidated.ConsolidatedMetadata.{ConsolidatedMetadata}
-use Rattle.zarrs_block.specs.declared.node_create_error.NodeCreateError.{NodeCreateError}
+use Rattle.zarrs_meaning.specs.declared.node_create_error.NodeCreateError.{NodeCreateError}
 use Rattle.zarrs_check.specs.Checks.{StandsBefore, block_read, fault_of_block, node_attributes, own_attributes_in}
 use Rattle.zarrs_check.specs.Checks.{own_finding, own_read}
 use Rattle.zarrs_check.specs.Findings.{IsFinding, Precedes}
-use Rattle.zarrs_block.specs.Meaning.{Pair}
+use Rattle.zarrs_meaning.specs.Meaning.{Pair}
 use Rattle.zarrs_check.specs.StepsOfOwnAttributes.{is_other}
 use Rattle.zarrs_check.specs.declared.finding.Finding.{Finding}
 

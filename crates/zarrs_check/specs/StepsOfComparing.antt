@@ -11,7 +11,7 @@ use Rattle.zarrs_block.specs.Block.{Block, node_at_key}
 use Rattle.zarrs_block.specs.BlockExpansion.{is_covered}
 use Rattle.zarrs_compare.specs.Same.{IsSame}
 use Rattle.zarrs_check.specs.Findings.{IsPathFinding, IsAtOrAbove, Precedes}
-use Rattle.zarrs_block.specs.Meaning.{Pair}
+use Rattle.zarrs_meaning.specs.Meaning.{Pair}
 use Rattle.zarrs_check.specs.declared.finding.Finding.{Finding}
 use Rattle.zarrs_check.specs.declared.finding.FindingKind.{FindingKind}
 use Rattle.zarrs_check.specs.declared.finding.FindingKind.TheVariants.{BadKey, Shadowed, OwnKey, OwnAttributes}

@@ -1,23 +1,26 @@
 -- Steps of a comparison of the block of a group with the nodes below it, one after another; no public contract rests
 -- on them.
-use Rattle.std.specs.Prelude.{◌≡◌, ◌⊎◌, ◌↔◌, ◌∷◌, [], ◌++◌, List, Contains, Option, Some, None, Bool, if◌then◌else◌}
+use Rattle.std.specs.Prelude.{◌≡◌, ◌⊎◌, ◌↔◌, ◌∷◌, [], ◌++◌, List, Contains, Option, Some, None, Bool, IsTrue}
+use Rattle.std.specs.Prelude.{if◌then◌else◌}
 use Rattle.std.specs.Prelude.{◌&&◌}
 use Rattle.std.specs.declared.cmp.Ordering.TheVariants.{Less}
 use Rattle.zarrs_path.specs.Paths.{Path, path_cmp, IsBelow}
 use Rattle.zarrs_meta.specs.Node.{is_group}
 use Rattle.zarrs_meta.specs.declared.node.NodeMetadata.{NodeMetadata}
 use Rattle.zarrs_block.specs.Block.{Block, Entries, IsAscending}
-use Rattle.zarrs_block.specs.declared.node_create_error.NodeCreateError.{NodeCreateError}
+use Rattle.zarrs_meaning.specs.declared.node_create_error.NodeCreateError.{NodeCreateError}
 use Rattle.zarrs_node.specs.Order.{Ascend}
 use Rattle.zarrs_check.specs.Findings.{IsSpoilt}
-use Rattle.zarrs_block.specs.Meaning.{Pair}
+use Rattle.zarrs_meaning.specs.Meaning.{Pair}
 use Rattle.zarrs_check.specs.StepsOfChecks.{HasBad}
-use Rattle.zarrs_check.specs.StepsOfComparing.{ArePathFindings, AreBelow, IsBeforeFirst, own_findings}
+use Rattle.zarrs_check.specs.StepsOfComparing.{ArePathFindings, AreBelow, HangsFrom, IsBeforeFirst, cut_kind}
+use Rattle.zarrs_check.specs.StepsOfComparing.{findings_at, own_findings}
 use Rattle.zarrs_check.specs.StepsOfMerging.{HoldsUpTo}
 use Rattle.zarrs_check.specs.declared.comparison.Comparison.{Comparison}
 use Rattle.zarrs_check.specs.declared.comparison.Turn.{Turn}
 use Rattle.zarrs_check.specs.declared.comparison.Turn.TheVariants.{Before, At, Behind}
 use Rattle.zarrs_check.specs.declared.finding.Finding.{Finding}
+use Rattle.zarrs_check.specs.declared.finding.FindingKind.{FindingKind}
 use Rattle.zarrs_check.specs.declared.finding.FindingKind.TheVariants.{Stale, Unreached}
 
 -- no document is bad
@@ -70,6 +73,16 @@ abbrev pub IsTurnAt : Path → Comparison → Turn → Comparison → Type 0
 IsTurnAt p old (Before e) new = (old.entries.items ≡ e ∷ new.entries.items) × (path_cmp e.0 p ≡ Less)
 IsTurnAt p old (At e) new = (old.entries.items ≡ e ∷ new.entries.items) × (e.0 ≡ p)
 IsTurnAt p old Behind new = (new.entries.items ≡ old.entries.items) × IsBeforeFirst p old.entries.items
+
+-- an entry was passed, and told are whether it hangs from the last group that was reached, and a kind
+pub record PassesWith (old : Comparison) (e : Pair) (kind : Option FindingKind) (new : Comparison) : Type 0 where
+  pub one : IsOneBlock old new
+  pub entries : new.entries.items ≡ old.entries.items
+  pub reached : Bool
+  pub hangs : IsTrue reached ↔ HangsFrom old.last e.0
+  pub found : new.found.items
+      ≡ old.found.items ++ (findings_at old.group e.0 (cut_kind reached) ++ findings_at old.group e.0 kind)
+  pub last : new.last ≡ (if reached && is_group e.1 then e.0 else old.last)
 
 -- an entry without a node was told and passed
 pub record PassesLone (old : Comparison) (e : Pair) (new : Comparison) : Type 0 where

@@ -6,7 +6,7 @@ use Rattle.std.specs.declared.cmp.Ordering.TheVariants.{Less}
 use Rattle.zarrs_path.specs.Paths.{Path, path_cmp, IsBelow}
 use Rattle.zarrs_node.specs.Reach.{HasGroup}
 use Rattle.zarrs_check.specs.Findings.{HasPath, IsAtOrAbove, IsPathFinding, Precedes}
-use Rattle.zarrs_block.specs.Meaning.{Pair}
+use Rattle.zarrs_meaning.specs.Meaning.{Pair}
 use Rattle.zarrs_check.specs.declared.finding.Finding.{Finding}
 
 -- some pair has the key

@@ -5,9 +5,9 @@ use Rattle.std.specs.Prelude.{Option, Some, None, Ok, Err}
 use Rattle.zarrs_store.specs.Contents.{Contents}
 use Rattle.zarrs_store.specs.Faults.{IsStoreError}
 use Rattle.zarrs_path.specs.Paths.{Path, IsBelow}
-use Rattle.zarrs_block.specs.declared.node_create_error.NodeCreateError.{NodeCreateError}
+use Rattle.zarrs_meaning.specs.declared.node_create_error.NodeCreateError.{NodeCreateError}
 use Rattle.zarrs_check.specs.Checks.{fault_of_block}
-use Rattle.zarrs_block.specs.Meaning.{Pair}
+use Rattle.zarrs_meaning.specs.Meaning.{Pair}
 use Rattle.zarrs_check.specs.StepsOfChecks.{BlockOrFault, ReadBlock, block_with_own}
 use Rattle.zarrs_check.specs.StepsOfComparisons.{IsEnd, IsNextBelow, IsOnly, IsStart}
 use Rattle.zarrs_check.specs.declared.base.Base.{Base}

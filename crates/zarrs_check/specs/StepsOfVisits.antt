@@ -4,7 +4,7 @@ use Rattle.zarrs_store.specs.Contents.{Contents}
 use Rattle.zarrs_path.specs.Paths.{Path}
 use Rattle.zarrs_notes.specs.NodeFindings.{AreNodeFindings}
 use Rattle.zarrs_notes.specs.declared.finding.NodeFinding.{NodeFinding}
-use Rattle.zarrs_block.specs.Meaning.{Pair}
+use Rattle.zarrs_meaning.specs.Meaning.{Pair}
 use Rattle.zarrs_check.specs.StepsOfTaking.{Takes}
 use Rattle.zarrs_check.specs.declared.visits.Visits.{Visits}
 

@@ -5,8 +5,8 @@ use Rattle.std.specs.Prelude.{◌≡◌, ◌⊎◌, true, Contains}
 use Rattle.zarrs_store.specs.Contents.{Contents, HasBelow, Lists}
 use Rattle.zarrs_path.specs.Paths.{Path}
 use Rattle.zarrs_config.specs.declared.version.MetadataRetrieveVersion.{MetadataRetrieveVersion}
-use Rattle.zarrs_block.specs.Meaning.{meaning, node, bad}
-use Rattle.zarrs_block.specs.declared.node_create_error.NodeCreateError.{NodeCreateError}
+use Rattle.zarrs_meaning.specs.Meaning.{meaning, node, bad}
+use Rattle.zarrs_meaning.specs.declared.node_create_error.NodeCreateError.{NodeCreateError}
 use Rattle.zarrs_node.specs.Faults.{PathsAscend}
 use Rattle.zarrs_node.specs.Nodes.{MeansNode, IsBadName, Nodes, Ignored}
 use Rattle.zarrs_node.specs.OpeningNodes.{RefusesNode}
@@ -15,7 +15,7 @@ use Rattle.zarrs_node.specs.Reach.{HasGroup, Reached}
 use Rattle.zarrs_check.specs.declared.base.Base.{Base}
 use Rattle.zarrs_check.specs.declared.base.Base.TheVariants.{Node, Refused}
 use Rattle.zarrs_check.specs.declared.survey.Survey.{Survey}
-use Rattle.zarrs_block.specs.Meaning.{Pair}
+use Rattle.zarrs_meaning.specs.Meaning.{Pair}
 
 -- the base means a node with these metadata, or it is refused with this error: it means nothing, or is bad
 abbrev pub IsBase : Contents → MetadataRetrieveVersion → Path → Base → Type 0

@@ -4,7 +4,7 @@ ghost use Rattle.zarrs_check.specs.Apart.{AreApart};
 ghost use Rattle.zarrs_check.specs.Findings.{IsSpoilt};
 
 use std::marker::Model;
-use zarrs_block::NodeCreateError;
+use zarrs_meaning::NodeCreateError;
 use zarrs_path::NodePath;
 
 /// Paths whose documents are bad, each with its error, in the order of paths. None of them is below another.
@@ -21,8 +21,8 @@ pub struct BadDocuments {
 impl Model for BadDocuments {
     ghost use Rattle.std.specs.Prelude.{List, ℕ};
     ghost use Rattle.std.specs.Coded.{codes, coded_list, coded×, coded_ℕ};
-    ghost use Rattle.zarrs_block.specs.declared.node_create_error.NodeCreateError.{NodeCreateError};
-    ghost use Rattle.zarrs_block.specs.contracts.node_create_error.NodeCreateError as e;
+    ghost use Rattle.zarrs_meaning.specs.declared.node_create_error.NodeCreateError.{NodeCreateError};
+    ghost use Rattle.zarrs_meaning.specs.contracts.node_create_error.NodeCreateError as e;
     ghost use Rattle.zarrs_check.specs.Apart.{AreApart};
 
     ghost Value = { List (List (List ℕ) × NodeCreateError) };

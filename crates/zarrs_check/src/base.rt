@@ -1,12 +1,12 @@
 //! The base of a survey, and of a check.
 ghost use Rattle.std.specs.Prelude.{◌≡◌, IfOk, IfErr};
-ghost use Rattle.zarrs_block.specs.Refusals.{IsExcused};
+ghost use Rattle.zarrs_meaning.specs.Refusals.{IsExcused};
 ghost use Rattle.zarrs_check.specs.StepsOfSurveys.{is_of_node};
 ghost use Rattle.zarrs_check.specs.Surveys.{IsBase};
 
 use std::alloc::Global;
-use zarrs_block::NodeCreateError;
 use zarrs_config::MetadataRetrieveVersion;
+use zarrs_meaning::NodeCreateError;
 use zarrs_meta::NodeMetadata;
 use zarrs_node::Node;
 use zarrs_path::NodePath;

@@ -1,10 +1,10 @@
 //! The block of a group beside the nodes of a survey.
 ghost use Rattle.std.specs.Prelude.{◌≡◌, ◌↔◌, IfOk, IfErr, IfSome, IsSome, IsTrue, Contains};
 ghost use Rattle.zarrs_store.specs.Faults.{IsStoreError};
-ghost use Rattle.zarrs_block.specs.declared.node_create_error.NodeCreateError.{NodeCreateError};
+ghost use Rattle.zarrs_meaning.specs.declared.node_create_error.NodeCreateError.{NodeCreateError};
 ghost use Rattle.zarrs_node.specs.Order.{Ascend};
 ghost use Rattle.zarrs_node.specs.Reach.{HasGroup};
-ghost use Rattle.zarrs_node.specs.Exists.{HasNodeKey};
+ghost use Rattle.zarrs_meaning.specs.Exists.{HasNodeKey};
 ghost use Rattle.zarrs_check.specs.Findings.{AreFindings};
 ghost use Rattle.zarrs_check.specs.StepsOfComparing.{IsPlaceBehind};
 ghost use Rattle.zarrs_check.specs.Surveys.{HasGroupAt, IsBaseOf};

@@ -5,12 +5,12 @@ ghost use Rattle.serde_json.specs.Find.{get_member};
 ghost use Rattle.serde_json.specs.View.{view};
 ghost use Rattle.zarrs_store.specs.Faults.{IsStoreError};
 ghost use Rattle.zarrs_form.specs.Documents.{Gives, of_bytes};
-ghost use Rattle.zarrs_block.specs.Refusals.{IsExcused};
+ghost use Rattle.zarrs_meaning.specs.Refusals.{IsExcused};
 ghost use Rattle.zarrs_block.specs.Block.{block_of_in};
 ghost use Rattle.zarrs_block.specs.Zmetadata.{zmetadata_in};
 ghost use Rattle.zarrs_path.specs.Keys.{zmetadata};
 ghost use Rattle.zarrs_check.specs.Checks.{AreBlockFindings, IsCheckOf, as_read, block_read};
-ghost use Rattle.zarrs_node.specs.Exists.{HasNodeKey};
+ghost use Rattle.zarrs_meaning.specs.Exists.{HasNodeKey};
 ghost use Rattle.zarrs_check.specs.StepsOfChecks.{IsKnownOf, as_known, block_with, block_with_own, compared_bytes, shown_pair};
 ghost use Rattle.zarrs_check.specs.StepsOfTaking.{AreEnds};
 ghost use Rattle.zarrs_check.specs.Surveys.{IsBase};
@@ -28,10 +28,11 @@ use crate::visits::Visits;
 use log::Log;
 use serde_json::Value;
 use std::alloc::Global;
-use zarrs_block::{ConsolidatedMetadata, NodeCreateError};
+use zarrs_block::ConsolidatedMetadata;
 use zarrs_config::MetadataRetrieveVersion;
 use zarrs_fault::{MetadataFault, Numbers};
 use zarrs_form::{Object, parse};
+use zarrs_meaning::NodeCreateError;
 use zarrs_meta::{AdditionalFieldsV3, GroupMetadata, NodeMetadata};
 use zarrs_node::{walk_past_faults, warn_ignored};
 use zarrs_notes::NodeFinding;
@@ -322,19 +323,7 @@ fn document_block<S: ReadableStorageTraits>(
     let Some(bytes) = storage.get(alloc, &key)? else {
         return Ok(None);
     };
-    known(block_of_bytes(alloc, storage.numbers(), &bytes))
-}
-
-// The block that the bytes of a document `.zmetadata` are.
-fn block_of_bytes(
-    alloc: Global,
-    numbers: Numbers,
-    bytes: &[u8],
-) -> Result<ConsolidatedMetadata, MetadataFault>
-    ensures { Gives (λ block. block.metadata) result
-        (of_bytes (zmetadata_in numbers) bytes.now) }
-{
-    ConsolidatedMetadata::from_owned_zmetadata_in(alloc, numbers, parse(alloc, bytes)?)
+    known(ConsolidatedMetadata::from_zmetadata_bytes_in(alloc, storage.numbers(), &bytes))
 }
 
 // What was read, or its fault, but for out of memory.

@@ -6,12 +6,12 @@ ghost use Rattle.zarrs_path.specs.Paths.{IsBelow};
 ghost use Rattle.zarrs_block.specs.Block.{Entries, HasValidKeys};
 ghost use Rattle.zarrs_node.specs.Order.{Ascend};
 ghost use Rattle.zarrs_check.specs.Checks.{fault_of_block};
-ghost use Rattle.zarrs_node.specs.Exists.{HasNodeKey};
+ghost use Rattle.zarrs_meaning.specs.Exists.{HasNodeKey};
 ghost use Rattle.zarrs_check.specs.Findings.{IsAtOrAbove};
 ghost use Rattle.zarrs_check.specs.StepsOfChecks.{HasBad};
 ghost use Rattle.zarrs_check.specs.StepsOfComparing.{HangsFrom, IsPairKind, StandBehind, cut_kind, findings_at, own_kind};
 ghost use Rattle.zarrs_check.specs.StepsOfBlocksAbove.{IsEndFrom};
-ghost use Rattle.zarrs_check.specs.StepsOfComparisons.{IsAtEnd, IsEnd, IsNext, IsNextBelow, IsNextOf, IsOnly, IsStart, IsTurnAt, IsUnmoved, Passes, PassesLone, PassesPair, PutsSettled, IsSettled};
+ghost use Rattle.zarrs_check.specs.StepsOfComparisons.{IsAtEnd, IsEnd, IsNext, IsNextBelow, IsNextOf, IsOnly, IsStart, IsTurnAt, IsUnmoved, Passes, PassesLone, PassesPair, PassesWith, PutsSettled, IsSettled};
 
 use crate::bad_documents::BadDocuments;
 use crate::finding::{Finding, FindingKind};
@@ -20,13 +20,12 @@ use std::alloc::{AllocError, Global};
 use std::cmp::Ordering;
 use std::collections::VecDeque;
 use zarrs_block::{
-    ConsolidatedMetadata, ConsolidatedMetadataMetadata, NodeCreateError,
-    expand_consolidated_metadata,
+    ConsolidatedMetadata, ConsolidatedMetadataMetadata, expand_consolidated_metadata,
 };
 use zarrs_compare::is_same_metadata;
 use zarrs_fault::MetadataFault;
+use zarrs_meaning::{NodeCreateError, node_exists};
 use zarrs_meta::NodeMetadata;
-use zarrs_node::node_exists;
 use zarrs_path::{NodePath, NodePathError};
 use zarrs_store::{ReadableStorageTraits, StorageError};
 
@@ -184,18 +183,7 @@ impl Comparison {
     ) -> Result<(), AllocError>
         ensures { OnOk result (PassesLone self.old entry self.new) }
     {
-        let reached = hangs_from(alloc, &entry.0, &self.last)?;
-        tell(
-            &mut self.found,
-            alloc,
-            &self.group,
-            &entry.0,
-            cut_kind(reached),
-        )?;
-        let kind = Some(FindingKind::Stale);
-        tell(&mut self.found, alloc, &self.group, &entry.0, kind)?;
-        self.pass(reached, entry);
-        Ok(())
+        self.tell_entry(alloc, entry, Some(FindingKind::Stale))
     }
 
     // Tells what is wrong with an entry beside a node, both of which were the first that were left.
@@ -207,6 +195,19 @@ impl Comparison {
     ) -> Result<(), AllocError>
         ensures { OnOk result (PassesPair self.old entry metadata.now self.new) }
     {
+        let kind = pair_kind(&entry.1, metadata);
+        self.tell_entry(alloc, entry, kind)
+    }
+
+    // Tells whether an entry, which was the first that was left, hangs from the group, and what else is wrong with it.
+    fn tell_entry(
+        &mut self,
+        alloc: Global,
+        entry: (NodePath, NodeMetadata),
+        kind: Option<FindingKind>,
+    ) -> Result<(), AllocError>
+        ensures { OnOk result (PassesWith self.old entry kind self.new) }
+    {
         let reached = hangs_from(alloc, &entry.0, &self.last)?;
         tell(
             &mut self.found,
@@ -215,7 +216,6 @@ impl Comparison {
             &entry.0,
             cut_kind(reached),
         )?;
-        let kind = pair_kind(&entry.1, metadata);
         tell(&mut self.found, alloc, &self.group, &entry.0, kind)?;
         self.pass(reached, entry);
         Ok(())

@@ -1,6 +1,6 @@
 //! All that a check tells of one path: from it on, and by the blocks above it.
 ghost use Rattle.std.specs.Prelude.{IfOk, IfErr};
-ghost use Rattle.zarrs_block.specs.Refusals.{IsExcused};
+ghost use Rattle.zarrs_meaning.specs.Refusals.{IsExcused};
 ghost use Rattle.zarrs_check.specs.PathChecks.{IsCheckedFrom, IsPathCheckOf};
 
 use crate::base::{Base, base_of};
@@ -9,8 +9,8 @@ use crate::check::Check;
 use crate::finding::Finding;
 use log::Log;
 use std::alloc::Global;
-use zarrs_block::NodeCreateError;
 use zarrs_config::MetadataRetrieveVersion;
+use zarrs_meaning::NodeCreateError;
 use zarrs_notes::{NodeFinding, node_findings};
 use zarrs_path::NodePath;
 use zarrs_store::{ListableStorageTraits, ReadableStorageTraits};

@@ -7,8 +7,8 @@ use crate::bad_documents::BadDocuments;
 use crate::base::{Base, base_of};
 use log::Log;
 use std::alloc::{AllocError, Global};
-use zarrs_block::NodeCreateError;
 use zarrs_config::MetadataRetrieveVersion;
+use zarrs_meaning::NodeCreateError;
 use zarrs_meta::NodeMetadata;
 use zarrs_node::{NodeFault, walk_past_faults, warn_ignored};
 use zarrs_path::NodePath;
@@ -40,7 +40,7 @@ pub struct Survey {
 
 impl Survey {
     ghost use Rattle.std.specs.Prelude.{IfErr};
-    ghost use Rattle.zarrs_block.specs.Refusals.{IsExcused};
+    ghost use Rattle.zarrs_meaning.specs.Refusals.{IsExcused};
     ghost use Rattle.zarrs_check.specs.Surveys.{IsSurveyOf};
 
     /// Surveys what a store has at a path and below it, by the documents of a version. It goes on past what is bad, and warns of each path

@@ -8,7 +8,7 @@ ghost use Rattle.zarrs_check.specs.StepsOfVisits.{TakesVisit, TellsNode, named_f
 use crate::base::Base;
 use crate::comparisons::Comparisons;
 use std::alloc::{AllocError, Global};
-use zarrs_block::NodeCreateError;
+use zarrs_meaning::NodeCreateError;
 use zarrs_meta::NodeMetadata;
 use zarrs_node::NodeSink;
 use zarrs_notes::{NodeFinding, node_findings};

@@ -5,7 +5,7 @@ use Rattle.std.specs.Io.KnownBytes.{Appends}
 use Rattle.zarrs_store.specs.Contents.{Contents, Values}
 use Rattle.zarrs_path.specs.Paths.{Path, IsPath, path_text}
 use Rattle.zarrs_folder.specs.Folders.{in_any, values_of}
-use Rattle.zarrs_block.specs.declared.node_create_error.NodeCreateError.{NodeCreateError}
+use Rattle.zarrs_meaning.specs.declared.node_create_error.NodeCreateError.{NodeCreateError}
 use Rattle.zarrs_program.specs.Words.{RefusesPathText}
 use Rattle.zarrs_write.specs.Calls.{AddsSome, Asked}
 use Rattle.zarrs_write.specs.declared.fault.ReplaceError.{ReplaceError}

@@ -11,14 +11,14 @@ use Rattle.zarrs_meta.specs.declared.node.NodeMetadata.{NodeMetadata}
 use Rattle.zarrs_meta.specs.declared.node.NodeMetadata.TheVariants.{Group, Array}
 use Rattle.zarrs_config.specs.declared.version.MetadataRetrieveVersion.TheVariants.{Default}
 use Rattle.zarrs_block.specs.Block.{Block, Entries, block_of_in}
-use Rattle.zarrs_block.specs.Meaning.{meaning, node}
+use Rattle.zarrs_meaning.specs.Meaning.{meaning, node}
 use Rattle.zarrs_block.specs.Zmetadata.{zmetadata_in}
-use Rattle.zarrs_node.specs.Exists.{HasNodeKey}
+use Rattle.zarrs_meaning.specs.Exists.{HasNodeKey}
 use Rattle.zarrs_node.proofs.KeptOfLists.{not_below_itself}
 use Rattle.zarrs_check.specs.BlocksAbove.{MeansNoArray, HasNodeFrom, HasBadFrom, IsAboveFinding}
 use Rattle.zarrs_check.specs.Checks.{block_read}
 use Rattle.zarrs_check.specs.Findings.{IsAtOrAbove, IsPathFinding}
-use Rattle.zarrs_block.specs.Meaning.{Pair}
+use Rattle.zarrs_meaning.specs.Meaning.{Pair}
 use Rattle.zarrs_check.specs.declared.finding.Finding.{Finding}
 use Rattle.zarrs_check.specs.declared.finding.FindingKind.TheVariants.{Stale}
 use Rattle.zarrs_check.proofs.Blocks.{finding_same}

@@ -7,7 +7,7 @@ use Rattle.zarrs_store.specs.Contents.{Contents}
 use Rattle.zarrs_path.specs.Paths.{Path}
 use Rattle.zarrs_form.specs.Forms.{is_nil}
 use Rattle.zarrs_config.specs.declared.version.MetadataRetrieveVersion.TheVariants.{Default}
-use Rattle.zarrs_node.specs.Exists.{HasNodeKey}
+use Rattle.zarrs_meaning.specs.Exists.{HasNodeKey}
 use Rattle.zarrs_node.proofs.FlatForests.{contains_map, filter_keeps}
 use Rattle.zarrs_node.proofs.ListedItems.{listed_each}
 use Rattle.zarrs_check.specs.BlocksAbove.{IsAboveFinding}

@@ -8,8 +8,8 @@ use Rattle.zarrs_meta.specs.declared.node.NodeMetadata.TheVariants.{Group, Array
 use Rattle.zarrs_config.specs.declared.version.MetadataRetrieveVersion.TheVariants.{Default}
 use Rattle.zarrs_config.specs.declared.version.UseConsolidatedMetadata.{UseConsolidatedMetadata}
 use Rattle.zarrs_block.specs.Policy.{Choice, use_block, list_store, refuse}
-use Rattle.zarrs_block.specs.Meaning.{meaning, node}
-use Rattle.zarrs_block.specs.declared.node_create_error.NodeCreateError.{NodeCreateError}
+use Rattle.zarrs_meaning.specs.Meaning.{meaning, node}
+use Rattle.zarrs_meaning.specs.declared.node_create_error.NodeCreateError.{NodeCreateError}
 use Rattle.zarrs_node.specs.OpeningNodes.{choice, IsCleanBelow, RefusesOpening}
 use Rattle.zarrs_hierarchy.specs.PairsOfHierarchies.{Pairs, Holds, WithBase}
 use Rattle.zarrs_hierarchy.specs.OpeningHierarchies.{PairsChosen, PairsOf, IsOpened}

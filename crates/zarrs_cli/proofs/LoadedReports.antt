@@ -18,9 +18,9 @@ use Rattle.zarrs_config.specs.declared.version.MetadataRetrieveVersion.TheVarian
 use Rattle.zarrs_config.specs.declared.version.UseConsolidatedMetadata.TheVariants.{Never}
 use Rattle.zarrs_block.specs.Block.{Block, Entries, block_of_in}
 use Rattle.zarrs_block.specs.Zmetadata.{zmetadata_in}
-use Rattle.zarrs_block.specs.declared.node_create_error.NodeCreateError.{NodeCreateError}
-use Rattle.zarrs_node.specs.Exists.{HasNodeKey}
-use Rattle.zarrs_node.specs.MapsOfNodes.{StandsFrom}
+use Rattle.zarrs_meaning.specs.declared.node_create_error.NodeCreateError.{NodeCreateError}
+use Rattle.zarrs_meaning.specs.Exists.{HasNodeKey}
+use Rattle.zarrs_node.specs.Nodes.{StandsFrom}
 use Rattle.zarrs_node.specs.Nodes.{Nodes}
 use Rattle.zarrs_node.specs.OpeningNodes.{RefusesNode}
 use Rattle.zarrs_node.proofs.ForestsBeside.{Contains-cons, Contains-first}
@@ -33,7 +33,7 @@ use Rattle.zarrs_notes.specs.declared.finding.NodeFinding.{NodeFinding}
 use Rattle.zarrs_notes.proofs.LawProofs.{notes_same}
 use Rattle.zarrs_check.specs.Checks.{block_read, own_attributes_in, own_read, HasOtherAttributes, HasNode, HasNodeAt, HasBadPath, IsToldOf, IsBlockFinding, IsCount, IsNodeTold}
 use Rattle.zarrs_check.specs.Findings.{HasPath, IsSpoilt, IsKeyFinding, IsPathFinding}
-use Rattle.zarrs_block.specs.Meaning.{Pair, meaning, node}
+use Rattle.zarrs_meaning.specs.Meaning.{Pair, meaning, node}
 use Rattle.zarrs_check.specs.Surveys.{BadDocuments}
 use Rattle.zarrs_check.specs.Orphans.{IsCountBelow, IsNodeBelow, IsOrphan}
 use Rattle.zarrs_check.specs.declared.finding.Finding.{Finding}

@@ -17,10 +17,10 @@ use Rattle.zarrs_path.proofs.NameLemmas.{not_periods}
 use Rattle.zarrs_meta.specs.declared.node.NodeMetadata.{NodeMetadata}
 use Rattle.zarrs_meta.specs.declared.node.NodeMetadata.TheVariants.{Group, Array}
 use Rattle.zarrs_config.specs.declared.version.MetadataRetrieveVersion.TheVariants.{Default}
-use Rattle.zarrs_block.specs.Meaning.{Meaning, meaning, node, nothing, bad}
-use Rattle.zarrs_block.specs.Refusals.{IsMissing}
-use Rattle.zarrs_block.specs.declared.node_create_error.NodeCreateError.{NodeCreateError}
-use Rattle.zarrs_block.specs.declared.node_create_error.NodeCreateError.TheVariants.{NodePathError, StorePrefixError, StorageError, MetadataVersionMismatch, MissingMetadata, OutOfMemory}
+use Rattle.zarrs_meaning.specs.Meaning.{Meaning, meaning, node, nothing, bad}
+use Rattle.zarrs_meaning.specs.Refusals.{IsMissing}
+use Rattle.zarrs_meaning.specs.declared.node_create_error.NodeCreateError.{NodeCreateError}
+use Rattle.zarrs_meaning.specs.declared.node_create_error.NodeCreateError.TheVariants.{NodePathError, StorePrefixError, StorageError, MetadataVersionMismatch, MissingMetadata, OutOfMemory}
 use Rattle.zarrs_node.specs.OpeningNodes.{RefusesNode}
 use Rattle.zarrs_node.proofs.FlatForests.{contains_map, contains_mapped, filter_holds, filter_keeps}
 use Rattle.zarrs_node.proofs.ListedItems.{all_pairs_append, all_pairs_first, all_pairs_tail, listed_each}

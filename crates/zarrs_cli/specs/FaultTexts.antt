@@ -1,7 +1,7 @@
 -- The text of why a run is refused, as it prints itself (Zarr core specification 3.1, "Hierarchy").
 -- <https://zarr-specs.readthedocs.io/en/latest/v3/core/index.html#hierarchy>
 use Rattle.std.specs.Prelude.{ℕ, List, codes}
-use Rattle.zarrs_block.specs.ErrorTexts.{error_text}
+use Rattle.zarrs_meaning.specs.ErrorTexts.{error_text}
 use Rattle.zarrs_load.specs.FaultTexts.{load_fault_text}
 use Rattle.zarrs_program.specs.FaultTexts.{write_fault_text}
 use Rattle.zarrs_folder.specs.FaultTexts.{folder_fault_text}

@@ -3,7 +3,7 @@
 --     AppendsTreeLine      how the lines of a tree take a node
 --     AppendsListLine      how the lines of a list do
 use Rattle.std.specs.Prelude.{◌≡◌, ◌-◌, ◌++◌, length, string_bytes}
-use Rattle.zarrs_block.specs.Meaning.{Pair}
+use Rattle.zarrs_meaning.specs.Meaning.{Pair}
 use Rattle.zarrs_cli.specs.Escapes.{escaped_line}
 use Rattle.zarrs_cli.specs.NodeLines.{line_at, list_line}
 use Rattle.zarrs_cli.specs.declared.shown.ListLines.{ListLines}

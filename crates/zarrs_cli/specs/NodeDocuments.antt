@@ -12,7 +12,7 @@ use Rattle.zarrs_config.specs.declared.version.MetadataRetrieveVersion.TheVarian
 use Rattle.zarrs_form.specs.DocumentTexts.{IsTextOf}
 use Rattle.zarrs_meta.specs.Node.{node_tree}
 use Rattle.zarrs_meta.specs.declared.node.NodeMetadata.{NodeMetadata}
-use Rattle.zarrs_block.specs.Meaning.{meaning, node}
+use Rattle.zarrs_meaning.specs.Meaning.{meaning, node}
 
 -- the text is what is written of the document of the node that b means, of version 2 with the attributes in it, and a
 -- line end

@@ -15,7 +15,7 @@ use Rattle.zarrs_hierarchy.specs.PairsOfHierarchies.{Pairs}
 use Rattle.zarrs_hierarchy.specs.OpeningHierarchies.{IsOpened}
 use Rattle.zarrs_cli.specs.Escapes.{escaped_line}
 use Rattle.zarrs_fault.specs.Bytes.{space}
-use Rattle.zarrs_block.specs.Meaning.{Pair}
+use Rattle.zarrs_meaning.specs.Meaning.{Pair}
 
 -- the base, which is no level below itself, is shown by its path, and every other node by its last name
 abbrev pub shown_name : ℕ → Path → List ℕ

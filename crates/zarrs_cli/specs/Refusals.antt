@@ -12,8 +12,8 @@ use Rattle.zarrs_store.specs.Contents.{Contents, Values}
 use Rattle.zarrs_path.specs.Paths.{Path, IsPath, path_text}
 use Rattle.zarrs_config.specs.declared.version.MetadataRetrieveVersion.TheVariants.{Default}
 use Rattle.zarrs_config.specs.declared.version.UseConsolidatedMetadata.TheVariants.{Auto, Never}
-use Rattle.zarrs_block.specs.declared.node_create_error.NodeCreateError.{NodeCreateError}
-use Rattle.zarrs_block.specs.Refusals.{IsExcused, IsExcusedOr}
+use Rattle.zarrs_meaning.specs.declared.node_create_error.NodeCreateError.{NodeCreateError}
+use Rattle.zarrs_meaning.specs.Refusals.{IsExcused, IsExcusedOr}
 use Rattle.zarrs_node.specs.OpeningNodes.{RefusesOpening}
 use Rattle.zarrs_folder.specs.Folders.{in_any, IsFaultOfFolder}
 use Rattle.zarrs_load.specs.Image.{IsLoaded, RefusedImage}

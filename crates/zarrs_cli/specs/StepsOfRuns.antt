@@ -6,10 +6,10 @@ use Rattle.std.specs.declared.alloc.Global.{Global}
 use Rattle.zarrs_store.specs.Contents.{Contents, Values}
 use Rattle.zarrs_path.specs.Paths.{Path, IsBelow}
 use Rattle.zarrs_form.specs.Forms.{is_nil}
-use Rattle.zarrs_block.specs.declared.node_create_error.NodeCreateError.{NodeCreateError}
+use Rattle.zarrs_meaning.specs.declared.node_create_error.NodeCreateError.{NodeCreateError}
 use Rattle.zarrs_config.specs.declared.version.MetadataRetrieveVersion.TheVariants.{Default}
 use Rattle.zarrs_config.specs.declared.version.UseConsolidatedMetadata.TheVariants.{Auto, Never}
-use Rattle.zarrs_node.specs.Exists.{HasNodeKey}
+use Rattle.zarrs_meaning.specs.Exists.{HasNodeKey}
 use Rattle.zarrs_check.specs.BlocksAbove.{IsAboveFinding}
 use Rattle.zarrs_check.specs.Checks.{IsBlockFinding}
 use Rattle.zarrs_check.specs.PathChecks.{IsPathCheckOf}
@@ -31,7 +31,7 @@ use Rattle.zarrs_cli.specs.declared.fault.ZarrsFault.{ZarrsFault}
 use Rattle.zarrs_cli.specs.declared.fault.ZarrsFault.TheVariants.{Node, TooDeep, OutOfMemory}
 use Rattle.zarrs_cli.specs.declared.report.Tally.{Tally}
 use Rattle.zarrs_cli.specs.Output.{IsWordText}
-use Rattle.zarrs_block.specs.Meaning.{meaning}
+use Rattle.zarrs_meaning.specs.Meaning.{meaning}
 use Rattle.zarrs_cli.specs.Refusals.{IsTooDeepFor, RefusesFolder, RefusesAnswer}
 
 -- the fault holds an error that refuses, or is that a document nests too deep, where this says so; or out of memory

@@ -13,8 +13,8 @@ use Rattle.std.specs.Prelude.{ℕ, ◌==◌, List, [], ◌++◌, Option, Some, N
 use Rattle.zarrs_fault.specs.FaultTexts.{fault_text}
 use Rattle.zarrs_store.specs.Segments.{last_segment}
 use Rattle.zarrs_path.specs.Paths.{Path, path_text, without_leading_slash}
-use Rattle.zarrs_block.specs.ErrorTexts.{error_text}
-use Rattle.zarrs_block.specs.declared.node_create_error.NodeCreateError.{NodeCreateError}
+use Rattle.zarrs_meaning.specs.ErrorTexts.{error_text}
+use Rattle.zarrs_meaning.specs.declared.node_create_error.NodeCreateError.{NodeCreateError}
 use Rattle.zarrs_check.specs.declared.finding.FindingKind.{FindingKind}
 use Rattle.zarrs_check.specs.declared.finding.FindingKind.TheVariants.{BlockFault, BadKey, Shadowed, OwnKey}
 use Rattle.zarrs_check.specs.declared.finding.FindingKind.TheVariants.{OwnAttributes, Unreachable, Stale, Unreached}

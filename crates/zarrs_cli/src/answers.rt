@@ -22,9 +22,9 @@ use std::alloc::{AllocError, Global};
 use std::io::{Eprint, Read, Write};
 use std::rt::Files;
 use std::time::Clock;
-use zarrs_block::NodeCreateError;
 use zarrs_consolidate::ConsolidateError;
 use zarrs_folder::{Disk, Folder};
+use zarrs_meaning::NodeCreateError;
 use zarrs_program::write_whole;
 use zarrs_write::Disk as WrittenDisk;
 

@@ -6,10 +6,10 @@ ghost use Rattle.zarrs_cli.specs.declared.fault.ZarrsFault.TheVariants.{Consolid
 use std::alloc::{AllocError, AllocFailed};
 use std::error::Error;
 use std::fmt;
-use zarrs_block::NodeCreateError;
 use zarrs_consolidate::ConsolidateError;
 use zarrs_folder::FolderFault;
 use zarrs_load::LoadFault;
+use zarrs_meaning::NodeCreateError;
 use zarrs_program::{WordsFault, WriteFault};
 use zarrs_write::ReplaceError;
 

@@ -6,7 +6,7 @@ ghost use Rattle.zarrs_path.specs.Paths.{IsBelow, IsParent, IsPath, Path};
 ghost use Rattle.zarrs_meta.specs.declared.node.GroupMetadata.{GroupMetadata};
 ghost use Rattle.zarrs_meta.specs.declared.node.NodeMetadata.TheVariants.{Group};
 ghost use Rattle.zarrs_config.specs.declared.version.MetadataRetrieveVersion.TheVariants.{Default};
-ghost use Rattle.zarrs_block.specs.Meaning.{meaning, node};
+ghost use Rattle.zarrs_meaning.specs.Meaning.{meaning, node};
 ghost use Rattle.zarrs_block.specs.Policy.{list_store};
 ghost use Rattle.zarrs_node.specs.OpeningNodes.{choice};
 ghost use Rattle.zarrs_folder.specs.Folders.{in_any, values_of};
@@ -27,12 +27,12 @@ use log::sink::Discard;
 use std::alloc::{AllocError, Global};
 use std::io::Write;
 use std::mem;
-use zarrs_block::NodeCreateError;
 use zarrs_check::{BadDocuments, CheckedFrom, Finding, FindingKind, PathCheck};
 use zarrs_config::{MetadataRetrieveVersion, UseConsolidatedMetadata};
 use zarrs_folder::{
     Documents, Folder, load_base, load_children, load_nodes, load_passed, load_paths,
 };
+use zarrs_meaning::NodeCreateError;
 use zarrs_meta::NodeMetadata;
 use zarrs_node::{Node, consolidated_metadata_at};
 use zarrs_path::NodePath;
@@ -368,8 +368,7 @@ fn load_shown<F: Folder>(
     if !is_listed(alloc, &store, base, policy) {
         return Ok(store);
     }
-    let store = load_children(alloc, folder, Documents::Deciding, base, store)?;
-    Ok(store)
+    Ok(load_children(alloc, folder, Documents::Deciding, base, store)?)
 }
 
 // What the document that is shown looks at: the documents of the path.

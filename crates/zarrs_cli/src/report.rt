@@ -1,6 +1,6 @@
 //! The report on a store.
 ghost use Rattle.std.specs.Prelude.{◌≡◌, ◌++◌, None, Some, IfOk, IfErr, OnOk, filter, map, string_bytes};
-ghost use Rattle.zarrs_block.specs.Refusals.{IsExcused};
+ghost use Rattle.zarrs_meaning.specs.Refusals.{IsExcused};
 ghost use Rattle.zarrs_store.specs.Contents.{Contents};
 ghost use Rattle.zarrs_config.specs.declared.version.MetadataRetrieveVersion.TheVariants.{Default};
 ghost use Rattle.zarrs_check.specs.PathChecks.{IsPathCheckOf};
@@ -18,10 +18,10 @@ use crate::words::CheckOptions;
 use log::Log;
 use std::alloc::{AllocError, Global};
 use std::fmt;
-use zarrs_block::NodeCreateError;
 use zarrs_check::{Check, CheckedFrom, Finding, FindingKind, PathCheck};
 use zarrs_config::MetadataRetrieveVersion;
 use zarrs_form::Text;
+use zarrs_meaning::NodeCreateError;
 use zarrs_notes::NodeFinding;
 use zarrs_path::NodePath;
 use zarrs_store::{ListableStorageTraits, ReadableStorageTraits, StorePrefix};

@@ -4,8 +4,8 @@ ghost use Rattle.zarrs_path.specs.Paths.{without_leading_slash};
 ghost use Rattle.zarrs_cli.specs.Texts as texts;
 
 use std::alloc::{AllocError, Global};
-use zarrs_block::NodeCreateError;
 use zarrs_check::FindingKind;
+use zarrs_meaning::NodeCreateError;
 use zarrs_path::{NodePath, without_leading_slash};
 use zarrs_store::StorePrefix;
 

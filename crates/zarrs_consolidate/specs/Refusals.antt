@@ -16,8 +16,8 @@ use Rattle.zarrs_meta.specs.declared.node.NodeMetadata.{NodeMetadata}
 use Rattle.zarrs_meta.specs.declared.node.NodeMetadata.TheVariants.{Group}
 use Rattle.zarrs_meta.specs.Node.{is_group}
 use Rattle.zarrs_block.specs.Block.{Block}
-use Rattle.zarrs_block.specs.Meaning.{meaning, node}
-use Rattle.zarrs_block.specs.Refusals.{IsExcused}
+use Rattle.zarrs_meaning.specs.Meaning.{meaning, node}
+use Rattle.zarrs_meaning.specs.Refusals.{IsExcused}
 use Rattle.zarrs_node.specs.ListedBlocks.{IsListedBlock}
 use Rattle.zarrs_node.specs.Nodes.{ShowsBad}
 use Rattle.zarrs_node.specs.OpeningNodes.{RefusesNode}

@@ -5,7 +5,7 @@ use Rattle.zarrs_path.specs.Paths.{Path, path_text}
 use Rattle.zarrs_config.specs.declared.version.MetadataRetrieveVersion.TheVariants.{Default}
 use Rattle.zarrs_meta.specs.declared.node.GroupMetadata.{GroupMetadata}
 use Rattle.zarrs_block.specs.Block.{Block}
-use Rattle.zarrs_block.specs.Refusals.{IsExcused}
+use Rattle.zarrs_meaning.specs.Refusals.{IsExcused}
 use Rattle.zarrs_node.specs.OpeningNodes.{RefusesNode}
 use Rattle.zarrs_group.specs.BlockDocuments.{block_document}
 use Rattle.zarrs_group.specs.BlocksOfGroups.{RefusesBlock}

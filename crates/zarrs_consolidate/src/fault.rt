@@ -2,13 +2,13 @@
 ghost use Rattle.std.specs.Prelude.{◌≡◌, Some};
 ghost use Rattle.zarrs_consolidate.specs.FaultTexts.{consolidate_error_text};
 ghost use Rattle.zarrs_consolidate.specs.declared.fault.ConsolidateError.TheVariants.{Folder, Node, OutOfMemory};
-ghost use Rattle.zarrs_block.specs.declared.node_create_error.NodeCreateError.TheVariants.{StorageError as StoreFault};
+ghost use Rattle.zarrs_meaning.specs.declared.node_create_error.NodeCreateError.TheVariants.{StorageError as StoreFault};
 
 use std::alloc::{AllocError, AllocFailed};
 use std::error::Error;
 use std::fmt;
-use zarrs_block::NodeCreateError;
 use zarrs_folder::FolderFault;
+use zarrs_meaning::NodeCreateError;
 use zarrs_store::StorageError;
 
 /// Why it is not known what becomes of the block of a group.

@@ -3,7 +3,7 @@ ghost use Rattle.std.specs.Prelude.{◌≡◌, ◌++◌, ◌∷◌, [], None, If
 ghost use Rattle.zarrs_config.specs.declared.version.MetadataRetrieveVersion.TheVariants.{Default};
 ghost use Rattle.zarrs_meta.specs.declared.node.GroupMetadata.{GroupMetadata};
 ghost use Rattle.zarrs_meta.specs.declared.node.NodeMetadata.TheVariants.{Group as group_node};
-ghost use Rattle.zarrs_block.specs.Meaning.{meaning, node};
+ghost use Rattle.zarrs_meaning.specs.Meaning.{meaning, node};
 ghost use Rattle.zarrs_block.specs.Policy.{as_block};
 ghost use Rattle.zarrs_write.specs.ReplacingDocuments.{bytes_in};
 ghost use Rattle.zarrs_consolidate.specs.Plans.{IsPlan, IsToStand, IsWithBlock, IsWithoutBlock, block_file};
@@ -13,9 +13,10 @@ ghost use Rattle.zarrs_consolidate.specs.StepsOfPlans.{HasBlockDocument, Refuses
 use crate::fault::ConsolidateError;
 use log::Log;
 use std::alloc::Global;
-use zarrs_block::{ConsolidatedMetadata, NodeCreateError};
+use zarrs_block::ConsolidatedMetadata;
 use zarrs_config::{Config, MetadataRetrieveVersion};
 use zarrs_group::Group;
+use zarrs_meaning::NodeCreateError;
 use zarrs_meta::{GroupMetadata, NodeMetadata};
 use zarrs_node::{Node, consolidate_nodes_of};
 use zarrs_path::{NodePath, meta_key_v2_consolidated, meta_key_v3};

@@ -19,10 +19,11 @@ use Rattle.zarrs_meta.specs.declared.node.NodeMetadata.{NodeMetadata}
 use Rattle.zarrs_meta.specs.declared.node.NodeMetadata.TheVariants as metadata
 use Rattle.zarrs_config.specs.declared.version.MetadataRetrieveVersion.{MetadataRetrieveVersion}
 use Rattle.zarrs_config.specs.declared.version.MetadataRetrieveVersion.TheVariants.{Default, V3}
-use Rattle.zarrs_block.specs.Meaning.{meaning, node}
+use Rattle.zarrs_meaning.specs.Meaning.{meaning, node}
 use Rattle.zarrs_convert.specs.Arrays.{array_v3}
 use Rattle.zarrs_convert.specs.Refusals.{Refusal}
-use Rattle.zarrs_node.specs.MapsOfNodes.{AreDocumentsOf, BaseInFront, DocumentsAreShown, EarlierStandsBefore, ErasedAreAbsent, ErasedShowSame, StandsBeside, IsDocumentFor, IsToVersion3, KeysStandBeside, NodesFrom, OthersAreKept, ShowsMapped, keys_beside, version_2_files, with_documents, without_keys}
+use Rattle.zarrs_node.specs.Nodes.{NodesFrom}
+use Rattle.zarrs_examples.specs.MapsOfNodes.{AreDocumentsOf, BaseInFront, DocumentsAreShown, EarlierStandsBefore, ErasedAreAbsent, ErasedShowSame, StandsBeside, IsDocumentFor, IsToVersion3, KeysStandBeside, OthersAreKept, ShowsMapped, keys_beside, version_2_files, with_documents, without_keys}
 use Rattle.zarrs_node.specs.Nodes.{HasNothingBad, Nodes}
 use Rattle.zarrs_node.specs.Order.{Ascend}
 use Rattle.zarrs_examples.specs.Conversions.{node_v3, made_array_of, KeepsOthers, NestsTooDeep, RefusesConverting, RefusesNodes}

@@ -1,3 +1,4 @@
+pub mod maps
 pub mod Catalogues
 pub mod ConvertedNodes
 pub mod Chunks

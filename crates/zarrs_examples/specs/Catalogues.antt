@@ -20,8 +20,8 @@ use Rattle.zarrs_path.specs.Keys.{zarr_json}
 use Rattle.zarrs_config.specs.declared.version.MetadataRetrieveVersion.TheVariants.{V3}
 use Rattle.zarrs_meta.specs.declared.node.GroupMetadata.{GroupMetadata}
 use Rattle.zarrs_block.specs.Policy.{group_block}
-use Rattle.zarrs_block.specs.Refusals.{IsExcusedOr}
-use Rattle.zarrs_block.specs.declared.node_create_error.NodeCreateError.TheVariants.{OutOfMemory as NoMemory}
+use Rattle.zarrs_meaning.specs.Refusals.{IsExcusedOr}
+use Rattle.zarrs_meaning.specs.declared.node_create_error.NodeCreateError.TheVariants.{OutOfMemory as NoMemory}
 use Rattle.zarrs_node.specs.CurrentBlocks.{LeadsTo, ShowsBadAnew}
 use Rattle.zarrs_node.specs.ListedBlocks.{IsListedBlock}
 use Rattle.zarrs_group.specs.BlocksOfGroups.{with_block}

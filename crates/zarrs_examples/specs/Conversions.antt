@@ -25,18 +25,18 @@ use Rattle.zarrs_meta.specs.declared.node.NodeMetadata.{NodeMetadata}
 use Rattle.zarrs_meta.specs.declared.node.NodeMetadata.TheVariants as metadata
 use Rattle.zarrs_config.specs.declared.version.MetadataRetrieveVersion.{MetadataRetrieveVersion}
 use Rattle.zarrs_config.specs.declared.version.MetadataRetrieveVersion.TheVariants.{Default}
-use Rattle.zarrs_block.specs.Refusals.{IsExcusedOr}
-use Rattle.zarrs_block.specs.declared.node_create_error.NodeCreateError.{NodeCreateError}
+use Rattle.zarrs_meaning.specs.Refusals.{IsExcusedOr}
+use Rattle.zarrs_meaning.specs.declared.node_create_error.NodeCreateError.{NodeCreateError}
 use Rattle.zarrs_convert.specs.Arrays.{array_v3}
 use Rattle.zarrs_convert.specs.Groups.{group_v2_to_v3}
 use Rattle.zarrs_convert.specs.Refusals.{Refusal, ShowsRefusal}
-use Rattle.zarrs_node.specs.MapsOfNodes.{NodesFrom}
+use Rattle.zarrs_node.specs.Nodes.{NodesFrom}
 use Rattle.zarrs_node.specs.Nodes.{ShowsBad}
 use Rattle.zarrs_node.specs.OpeningNodes.{RefusesNode}
 use Rattle.zarrs_examples.specs.declared.converter.ConvertError.{ConvertError}
 use Rattle.zarrs_examples.specs.declared.converter.ConvertError.TheVariants.{Node, Array, Depth, Fraction, Storage}
 use Rattle.zarrs_examples.specs.declared.converter.ConvertError.TheVariants.{OutOfMemory}
-use Rattle.zarrs_block.specs.Meaning.{Pair}
+use Rattle.zarrs_meaning.specs.Meaning.{Pair}
 
 -- the array that was made, if there is one
 abbrev pub made_array_of : Result ArrayMetadataV3 Refusal → Option NodeMetadata

@@ -1,3 +1,4 @@
+pub mod MapsOfNodes
 pub mod Catalogues
 pub mod Conversions
 pub mod StepsOfConversions

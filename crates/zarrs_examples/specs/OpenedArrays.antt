@@ -21,9 +21,9 @@ use Rattle.zarrs_meta.specs.declared.node.GroupMetadata.{GroupMetadata}
 use Rattle.zarrs_meta.specs.declared.node.NodeMetadata.TheVariants.{Group}
 use Rattle.zarrs_convert.specs.Refusals.{Refusal}
 use Rattle.zarrs_convert.specs.DataTypes.{data_type_v3}
-use Rattle.zarrs_block.specs.Meaning.{meaning, node}
-use Rattle.zarrs_block.specs.Refusals.{IsExcusedOr}
-use Rattle.zarrs_block.specs.declared.node_create_error.NodeCreateError.{NodeCreateError}
+use Rattle.zarrs_meaning.specs.Meaning.{meaning, node}
+use Rattle.zarrs_meaning.specs.Refusals.{IsExcusedOr}
+use Rattle.zarrs_meaning.specs.declared.node_create_error.NodeCreateError.{NodeCreateError}
 use Rattle.zarrs_node.specs.OpeningNodes.{RefusesText, RefusesNode}
 use Rattle.zarrs_examples.specs.ChunkKeys.{encoding_of, encoding_name, chunk_segments}
 use Rattle.zarrs_examples.specs.declared.opened_array.OpenedArray.{OpenedArray}

@@ -11,12 +11,12 @@ use Rattle.zarrs_meta.specs.declared.node.NodeMetadata.{NodeMetadata}
 use Rattle.zarrs_meta.specs.declared.node.NodeMetadata.TheVariants as metadata
 use Rattle.zarrs_convert.specs.Arrays.{array_v3}
 use Rattle.zarrs_convert.specs.Refusals.{ShowsRefusal}
-use Rattle.zarrs_node.specs.MapsOfNodes.{IsDocumentFor}
+use Rattle.zarrs_examples.specs.MapsOfNodes.{IsDocumentFor}
 use Rattle.zarrs_examples.specs.Conversions.{node_v3, HasFraction, NestsTooDeep}
 use Rattle.zarrs_examples.specs.declared.converter.ConvertError.{ConvertError}
 use Rattle.zarrs_examples.specs.declared.converter.ConvertError.TheVariants.{Node, Array, Depth, Fraction, Storage}
 use Rattle.zarrs_examples.specs.declared.converter.ConvertError.TheVariants.{OutOfMemory}
-use Rattle.zarrs_block.specs.Meaning.{Pair}
+use Rattle.zarrs_meaning.specs.Meaning.{Pair}
 
 -- metadata of version 2 are converted, and those of version 3 left
 abbrev pub IsConverted : NodeMetadata → Option NodeMetadata → Type 0

@@ -2,7 +2,7 @@
 ghost use Rattle.std.specs.Prelude.{◌≡◌, [], ◌∷◌, ◌++◌, true, IfOk, IfErr, OnOk, OnErr};
 ghost use Rattle.zarrs_store.specs.Faults.{IsStoreError};
 ghost use Rattle.zarrs_path.specs.Keys.{zarr_json};
-ghost use Rattle.zarrs_block.specs.Refusals.{IsExcusedOr};
+ghost use Rattle.zarrs_meaning.specs.Refusals.{IsExcusedOr};
 ghost use Rattle.zarrs_group.specs.Edits.{AgreesOutsideKey};
 ghost use Rattle.zarrs_node.specs.Nodes.{ShowsBad};
 ghost use Rattle.zarrs_examples.specs.Catalogues.{IsCurrent, IsGroupWithBlock, IsRefusedAt, IsStored, RefusesChange, RefusesStored, RefusesUpdate, after_change, after_changes, changed_key};
@@ -10,9 +10,10 @@ ghost use Rattle.zarrs_examples.specs.Catalogues.{IsCurrent, IsGroupWithBlock, I
 use log::Log;
 use std::alloc::{AllocError, Global};
 use thiserror::Error;
-use zarrs_block::{ConsolidatedMetadata, ConsolidatedMetadataMetadata, NodeCreateError};
+use zarrs_block::{ConsolidatedMetadata, ConsolidatedMetadataMetadata};
 use zarrs_config::{Config, MetadataRetrieveVersion};
 use zarrs_group::{Group, GroupCreateError};
+use zarrs_meaning::NodeCreateError;
 use zarrs_node::{consolidate_nodes_of, refresh_block};
 use zarrs_path::{NodePath, meta_key_v3};
 use zarrs_store::{

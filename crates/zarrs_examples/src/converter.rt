@@ -10,26 +10,28 @@ ghost use Rattle.zarrs_meta.specs.NodeDocuments.{ReadsAs};
 ghost use Rattle.zarrs_meta.specs.declared.node.ArrayMetadata.TheVariants as array_metadata;
 ghost use Rattle.zarrs_meta.specs.declared.node.NodeMetadata.{NodeMetadata};
 ghost use Rattle.zarrs_meta.specs.declared.node.NodeMetadata.TheVariants as node_metadata;
-ghost use Rattle.zarrs_block.specs.Meaning.{meaning, node};
-ghost use Rattle.zarrs_block.specs.Refusals.{IsExcusedOr};
+ghost use Rattle.zarrs_meaning.specs.Meaning.{meaning, node};
+ghost use Rattle.zarrs_meaning.specs.Refusals.{IsExcusedOr};
 ghost use Rattle.zarrs_convert.specs.Arrays.{array_v3};
-ghost use Rattle.zarrs_node.specs.MapsOfNodes.{AreDocumentsOf, HasNoVersion3From, StandsBeside, NodesFrom, ShowsMapped, keys_beside, version_2_files, version_2_keys, with_documents, without_keys};
+ghost use Rattle.zarrs_node.specs.Nodes.{NodesFrom};
+ghost use Rattle.zarrs_examples.specs.MapsOfNodes.{AreDocumentsOf, HasNoVersion3From, StandsBeside, ShowsMapped, keys_beside, version_2_files, version_2_keys, with_documents, without_keys};
 ghost use Rattle.zarrs_node.specs.Nodes.{HasNothingBad};
 ghost use Rattle.zarrs_node.specs.Order.{Ascend};
 ghost use Rattle.zarrs_examples.specs.Conversions.{KeepsOthers, RefusesConverting, RefusesErasing, RefusesFrom, RefusesNodes, node_v3};
 ghost use Rattle.zarrs_examples.specs.StepsOfConversions.{HasDocument, IsConverted, RefusesDocumentAt, RefusesMetadataAt};
 
+use crate::laws;
 use log::Log;
 use std::alloc::{AllocError, AllocFailed, Global};
 use thiserror::Error;
-use zarrs_block::NodeCreateError;
 use zarrs_config::MetadataRetrieveVersion;
 use zarrs_convert::{ArrayMetadataV2ToV3Error, array_metadata_v2_to_v3, group_metadata_v2_to_v3};
+use zarrs_meaning::NodeCreateError;
 use zarrs_meta::{
     ArrayMetadata, ArrayMetadataV2, ArrayMetadataV3, BoxedArray, GroupMetadata, NodeMetadata,
     WrittenDocument,
 };
-use zarrs_node::{Node, get_all_nodes_of, laws};
+use zarrs_node::{Node, get_all_nodes_of};
 use zarrs_path::{
     NodePath, meta_key_v2_array, meta_key_v2_attributes, meta_key_v2_consolidated,
     meta_key_v2_group, meta_key_v3,

@@ -2,13 +2,13 @@
 ghost use Rattle.std.specs.Prelude.{◌≡◌, IfOk, IfErr};
 ghost use Rattle.zarrs_meta.specs.Node.{is_group};
 ghost use Rattle.zarrs_meta.specs.declared.node.NodeMetadata.{NodeMetadata};
-ghost use Rattle.zarrs_block.specs.Meaning.{meaning, node};
-ghost use Rattle.zarrs_block.specs.Refusals.{IsExcusedOr};
+ghost use Rattle.zarrs_meaning.specs.Meaning.{meaning, node};
+ghost use Rattle.zarrs_meaning.specs.Refusals.{IsExcusedOr};
 ghost use Rattle.zarrs_node.specs.OpeningNodes.{RefusesNode};
 
 use std::alloc::Global;
-use zarrs_block::NodeCreateError;
 use zarrs_config::MetadataRetrieveVersion;
+use zarrs_meaning::NodeCreateError;
 use zarrs_node::Node;
 use zarrs_path::NodePath;
 use zarrs_store::ReadableStorageTraits;

@@ -3,16 +3,16 @@ ghost use Rattle.std.specs.Prelude.{◌≡◌, Some, IfOk, IfErr, length, option
 ghost use Rattle.zarrs_path.specs.Paths.{IsPath, IsBelow, path_text};
 ghost use Rattle.zarrs_meta.specs.declared.node.NodeMetadata.TheVariants.{Array};
 ghost use Rattle.zarrs_convert.specs.Refusals.{AnswersAs};
-ghost use Rattle.zarrs_block.specs.Meaning.{meaning, node};
+ghost use Rattle.zarrs_meaning.specs.Meaning.{meaning, node};
 ghost use Rattle.zarrs_examples.specs.ChunkKeys.{IsNoDocument, encoding_name};
 ghost use Rattle.zarrs_examples.specs.OpenedArrays.{RefusesOpeningArray, RefusesChunk, RefusesChunkKey, chunk_in, chunk_key_of, data_type_of, shape_of};
 
 use crate::chunk_key::ChunkKeyEncoding;
 use std::alloc::{AllocError, Global};
 use thiserror::Error;
-use zarrs_block::NodeCreateError;
 use zarrs_config::MetadataRetrieveVersion;
 use zarrs_convert::{ArrayMetadataV2ToV3Error, data_type_metadata_v2_to_v3};
+use zarrs_meaning::NodeCreateError;
 use zarrs_meta::{ArrayMetadata, MetadataV3, NodeMetadata};
 use zarrs_node::Node;
 use zarrs_path::{NodePath, NodePathError, data_key};
@@ -62,7 +62,7 @@ pub enum ChunkError {
 }
 
 impl From<NodePathError> for OpenArrayError {
-    ghost use Rattle.zarrs_block.specs.declared.node_create_error.NodeCreateError.TheVariants.{NodePathError};
+    ghost use Rattle.zarrs_meaning.specs.declared.node_create_error.NodeCreateError.TheVariants.{NodePathError};
     ghost use Rattle.zarrs_examples.specs.declared.opened_array.OpenArrayError.TheVariants.{Node};
 
     ghost from_gives = { λ error made. made ≡ Node (NodePathError error) };

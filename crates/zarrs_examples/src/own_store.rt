@@ -4,7 +4,7 @@ ghost use Rattle.std.specs.Map.{keys_of};
 ghost use Rattle.zarrs_store.specs.Contents.{Lists};
 ghost use Rattle.zarrs_store.specs.Places.{AreAscending, IsKeyAt, IsKeyGap, text_cmp};
 ghost use Rattle.zarrs_store.specs.Segments.{IsKey};
-ghost use Rattle.zarrs_block.specs.Refusals.{IsExcusedOr};
+ghost use Rattle.zarrs_meaning.specs.Refusals.{IsExcusedOr};
 ghost use Rattle.zarrs_node.specs.Forest.{Shows, forest};
 ghost use Rattle.zarrs_node.specs.Nodes.{Nodes, Ignored, ShowsBad, HasNothingBad};
 ghost use Rattle.zarrs_examples.specs.OwnStores.{contents_of, listed_entries, RefusesEntries};
@@ -15,8 +15,8 @@ use std::alloc::Global;
 use std::cmp::Ordering;
 use std::marker::Model;
 use thiserror::Error;
-use zarrs_block::NodeCreateError;
 use zarrs_config::MetadataRetrieveVersion;
+use zarrs_meaning::NodeCreateError;
 use zarrs_node::{ListedNodes, list_nodes};
 use zarrs_path::NodePath;
 use zarrs_store::{

@@ -17,12 +17,12 @@ use Rattle.zarrs_meta.specs.declared.attributes.AttributesDocument.{AttributesDo
 use Rattle.zarrs_meta.specs.declared.node.ArrayMetadata.TheVariants.{V2 as array_v2}
 use Rattle.zarrs_meta.specs.declared.node.NodeMetadata.TheVariants.{Array}
 use Rattle.zarrs_config.specs.declared.version.MetadataRetrieveVersion.TheVariants.{Default}
-use Rattle.zarrs_block.specs.DocumentsAtKeys.{in_bytes, document_or_fault, document_from, document_at, attributes_at}
-use Rattle.zarrs_block.specs.Meaning.{Meaning, meaning, nothing, version_2_line, zarr_json_line, zarray_line, zgroup_line}
+use Rattle.zarrs_meaning.specs.DocumentsAtKeys.{in_bytes, document_or_fault, document_from, document_at, attributes_at}
+use Rattle.zarrs_meaning.specs.Meaning.{Meaning, meaning, nothing, version_2_line, zarr_json_line, zarray_line, zgroup_line}
 use Rattle.zarrs_node.proofs.blocks.Current.{meaning_same}
-use Rattle.zarrs_node.proofs.blocks.ErasedDocuments.{by_zarr_json}
+use Rattle.zarrs_meaning.proofs.Versions.{by_zarr_json}
 use Rattle.zarrs_node.proofs.ForestsBeside.{Contains-first, Contains-cons}
-use Rattle.zarrs_node.proofs.Meanings.{document_none, zarr_json_line_is, zarray_line_is, default_is}
+use Rattle.zarrs_meaning.proofs.Meanings.{document_none, zarr_json_line_is, zarray_line_is, default_is}
 use Rattle.zarrs_node.proofs.Order.{contains_cases}
 use Rattle.zarrs_write.specs.ReplacingDocuments.{temporary}
 use Rattle.zarrs_folder.specs.PrunedStores.{Grows, HasLoaded, HasSameFile, HasSameFiles, at_file, deciding_files, left_files, node_files}

@@ -38,8 +38,8 @@ use Rattle.zarrs_meta.specs.declared.node.NodeMetadata.TheVariants.{Group, Array
 use Rattle.zarrs_meta.specs.declared.node.ZarrJson.{ZarrJson}
 use Rattle.zarrs_meta.specs.declared.node.ZarrJson.TheVariants.{Node, Version2}
 use Rattle.zarrs_config.specs.declared.version.MetadataRetrieveVersion.TheVariants.{Default}
-use Rattle.zarrs_block.specs.DocumentsAtKeys.{in_bytes, document_or_fault, document_from, document_at, attributes_in}
-use Rattle.zarrs_block.specs.Meaning.{Meaning, meaning, meaning_in, node, version_3_line, version_2_line, zarr_json_line, zarray_line, zgroup_line, nothing}
+use Rattle.zarrs_meaning.specs.DocumentsAtKeys.{in_bytes, document_or_fault, document_from, document_at, attributes_in}
+use Rattle.zarrs_meaning.specs.Meaning.{Meaning, meaning, meaning_in, node, version_3_line, version_2_line, zarr_json_line, zarray_line, zgroup_line, nothing}
 use Rattle.zarrs_folder.proofs.GroupTexts.{StandsIn, IsSpelt, read_spelt}
 
 -- ---- the node type of a group's document

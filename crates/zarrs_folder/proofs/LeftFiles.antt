@@ -9,11 +9,11 @@ use Rattle.zarrs_meta.specs.declared.group_v3.GroupMetadataV3.{GroupMetadataV3}
 use Rattle.zarrs_meta.specs.declared.node.GroupMetadata.TheVariants.{V2 as group_v2, V3 as group_v3}
 use Rattle.zarrs_meta.specs.declared.node.NodeMetadata.TheVariants.{Group}
 use Rattle.zarrs_config.specs.declared.version.MetadataRetrieveVersion.TheVariants.{Default}
-use Rattle.zarrs_block.specs.DocumentsAtKeys.{in_bytes, attributes_at}
-use Rattle.zarrs_block.specs.Meaning.{Meaning, meaning, node, nothing, zarray_line, zgroup_line}
+use Rattle.zarrs_meaning.specs.DocumentsAtKeys.{in_bytes, attributes_at}
+use Rattle.zarrs_meaning.specs.Meaning.{Meaning, meaning, node, nothing, zarray_line, zgroup_line}
 use Rattle.zarrs_node.proofs.ForestsBeside.{Contains-first}
-use Rattle.zarrs_node.proofs.Meanings.{default_is, document_none, v3_is, zarray_line_is, zgroup_line_is}
-use Rattle.zarrs_node.proofs.maps.Versions.{three_alone}
+use Rattle.zarrs_meaning.proofs.Meanings.{default_is, document_none, v3_is, zarray_line_is, zgroup_line_is}
+use Rattle.zarrs_meaning.proofs.Versions.{three_alone}
 use Rattle.zarrs_write.specs.ReplacingDocuments.{temporary}
 use Rattle.zarrs_folder.specs.PrunedStores.{HasLoaded, HasSameFile, at_file, left_files, node_files}
 use Rattle.zarrs_folder.specs.declared.documents.Documents.TheVariants.{All}

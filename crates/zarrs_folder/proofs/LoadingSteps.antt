@@ -16,11 +16,11 @@ use Rattle.zarrs_path.proofs.PathTexts.{IsPath-append, IsPath-parts}
 use Rattle.zarrs_meta.specs.Node.{is_group}
 use Rattle.zarrs_meta.specs.declared.node.NodeMetadata.{NodeMetadata}
 use Rattle.zarrs_config.specs.declared.version.MetadataRetrieveVersion.TheVariants.{Default}
-use Rattle.zarrs_block.specs.Meaning.{Meaning, meaning, node}
+use Rattle.zarrs_meaning.specs.Meaning.{Meaning, meaning, node}
 use Rattle.zarrs_node.specs.Reach.{HasGroup}
 use Rattle.zarrs_node.specs.Nodes.{MeansNode, IsListed}
-use Rattle.zarrs_node.specs.MapsOfNodes.{StandsFrom}
-use Rattle.zarrs_node.proofs.maps.MapsShown.{same_node}
+use Rattle.zarrs_node.specs.Nodes.{StandsFrom}
+use Rattle.zarrs_meaning.proofs.Meanings.{same_node}
 use Rattle.zarrs_folder.specs.Folders.{in_any, values_of, NoneIsBelow}
 use Rattle.zarrs_folder.specs.PrunedStores.{Grows, HasBaseOf, HasLoaded, HasNoOtherKeys, HasSameFile, HasSameFiles, IsLoadedFrom, IsPruned, files_in, node_files}
 use Rattle.zarrs_folder.specs.StepsOfLoadingNodes.{IsAhead, IsLoadedButAhead}

@@ -16,17 +16,17 @@ use Rattle.zarrs_meta.specs.declared.node.NodeMetadata.TheVariants.{Group, Array
 use Rattle.zarrs_config.specs.declared.version.MetadataRetrieveVersion.TheVariants.{Default}
 use Rattle.zarrs_config.specs.declared.version.UseConsolidatedMetadata.{UseConsolidatedMetadata}
 use Rattle.zarrs_block.specs.Block.{Block, IsBlockOf}
-use Rattle.zarrs_block.specs.Meaning.{meaning, node}
+use Rattle.zarrs_meaning.specs.Meaning.{meaning, node}
 use Rattle.zarrs_block.specs.Policy.{Choice, use_block, list_store, refuse, block_to_use, node_block}
 use Rattle.zarrs_block.specs.Zmetadata.{zmetadata_in}
-use Rattle.zarrs_block.specs.declared.node_create_error.NodeCreateError.{NodeCreateError}
+use Rattle.zarrs_meaning.specs.declared.node_create_error.NodeCreateError.{NodeCreateError}
 use Rattle.zarrs_node.specs.BlocksBelow.{block_at}
 use Rattle.zarrs_node.specs.Forest.{Forest, Shows, pairs}
-use Rattle.zarrs_node.specs.MapsOfNodes.{StandsFrom, NodesFrom}
+use Rattle.zarrs_node.specs.Nodes.{StandsFrom, NodesFrom}
 use Rattle.zarrs_node.specs.Nodes.{Bad, HasBadDocument, Nodes}
 use Rattle.zarrs_node.specs.OpeningNodes.{choice, ShowsChosen, IsCleanChosen, RefusesChosen, RefusesBelow, RefusesNode}
 use Rattle.zarrs_node.proofs.ListedItems.{lists_from, listed_each}
-use Rattle.zarrs_node.proofs.maps.MapsShown.{same_node}
+use Rattle.zarrs_meaning.proofs.Meanings.{same_node}
 use Rattle.zarrs_folder.specs.PrunedStores.{HasBaseOf, IsArrayAt}
 use Rattle.zarrs_folder.specs.Laws.{ShowSame, ShowSameNodes}
 use Rattle.zarrs_folder.specs.Openings.{ListSame, OpenSame, ShowBelowSame, ShownListSame, ListedBlockIsSame, ShownOpenSame, LoadedOpensSame, BaseOpensSame, BlockOpensSame, OpenedAnswerSame}

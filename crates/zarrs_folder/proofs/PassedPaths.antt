@@ -8,8 +8,8 @@ use Rattle.zarrs_path.specs.Paths.{Path, IsPath, IsBelow}
 use Rattle.zarrs_meta.specs.Node.{is_group}
 use Rattle.zarrs_meta.specs.declared.node.NodeMetadata.{NodeMetadata}
 use Rattle.zarrs_config.specs.declared.version.MetadataRetrieveVersion.TheVariants.{Default}
-use Rattle.zarrs_block.specs.Meaning.{Meaning, meaning, node, nothing, bad}
-use Rattle.zarrs_node.specs.MapsOfNodes.{StandsFrom}
+use Rattle.zarrs_meaning.specs.Meaning.{Meaning, meaning, node, nothing, bad}
+use Rattle.zarrs_node.specs.Nodes.{StandsFrom}
 use Rattle.zarrs_node.specs.Nodes.{MeansNode, IsListed}
 use Rattle.zarrs_node.specs.Reach.{Reached}
 use Rattle.zarrs_node.proofs.blocks.Leads.{same_or_above}

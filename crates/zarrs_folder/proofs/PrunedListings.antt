@@ -14,15 +14,15 @@ use Rattle.zarrs_meta.specs.declared.node.NodeMetadata.{NodeMetadata}
 use Rattle.zarrs_meta.specs.declared.node.NodeMetadata.TheVariants.{Group, Array}
 use Rattle.zarrs_config.specs.declared.version.MetadataRetrieveVersion.{MetadataRetrieveVersion}
 use Rattle.zarrs_config.specs.declared.version.MetadataRetrieveVersion.TheVariants.{Default}
-use Rattle.zarrs_block.specs.Meaning.{Meaning, meaning}
+use Rattle.zarrs_meaning.specs.Meaning.{Meaning, meaning}
 use Rattle.zarrs_block.specs.Policy.{node_block}
 use Rattle.zarrs_block.specs.Zmetadata.{zmetadata_in}
-use Rattle.zarrs_block.specs.declared.node_create_error.NodeCreateError.{NodeCreateError}
+use Rattle.zarrs_meaning.specs.declared.node_create_error.NodeCreateError.{NodeCreateError}
 use Rattle.zarrs_node.specs.BlocksBelow.{block_at}
 use Rattle.zarrs_node.specs.Changes.{document_files}
 use Rattle.zarrs_node.specs.Reach.{HasGroup, Reached, Kept}
 use Rattle.zarrs_node.specs.Nodes.{Means, IsListed, IsBadName, HasBadDocument}
-use Rattle.zarrs_node.specs.MapsOfNodes.{StandsFrom}
+use Rattle.zarrs_node.specs.Nodes.{StandsFrom}
 use Rattle.zarrs_node.proofs.blocks.Current.{meaning_same}
 use Rattle.zarrs_node.proofs.ForestsBeside.{Contains-first}
 use Rattle.zarrs_node.proofs.KeptPairs.{reached_between}

@@ -13,16 +13,16 @@ use Rattle.zarrs_path.specs.Keys.{zmetadata}
 use Rattle.zarrs_meta.specs.declared.node.NodeMetadata.{NodeMetadata}
 use Rattle.zarrs_config.specs.declared.version.MetadataRetrieveVersion.{MetadataRetrieveVersion}
 use Rattle.zarrs_config.specs.declared.version.MetadataRetrieveVersion.TheVariants.{Default}
-use Rattle.zarrs_block.specs.Meaning.{meaning}
-use Rattle.zarrs_block.specs.declared.node_create_error.NodeCreateError.{NodeCreateError}
+use Rattle.zarrs_meaning.specs.Meaning.{meaning}
+use Rattle.zarrs_meaning.specs.declared.node_create_error.NodeCreateError.{NodeCreateError}
 use Rattle.zarrs_node.specs.BlocksBelow.{block_at}
 use Rattle.zarrs_node.specs.Reach.{Reached}
 use Rattle.zarrs_node.specs.Nodes.{MeansNode, Nodes, Ignored, IsBadName, ShowsBad}
-use Rattle.zarrs_node.specs.MapsOfNodes.{StandsFrom}
+use Rattle.zarrs_node.specs.Nodes.{StandsFrom}
 use Rattle.zarrs_folder.specs.PrunedStores.{HasBaseOf, IsPruned}
 use Rattle.zarrs_folder.specs.declared.documents.Documents.{Documents}
 use Rattle.zarrs_folder.specs.declared.documents.Documents.TheVariants.{All}
-use Rattle.zarrs_block.specs.Meaning.{Pair}
+use Rattle.zarrs_meaning.specs.Meaning.{Pair}
 
 -- both stores may hold the same numbers in their documents, and from b on they show the same: what b and each reached
 -- path means; and so the nodes, the paths that are passed over, the bad names, and what refuses a listing

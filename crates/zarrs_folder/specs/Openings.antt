@@ -16,17 +16,17 @@ use Rattle.zarrs_config.specs.declared.version.MetadataRetrieveVersion.TheVarian
 use Rattle.zarrs_config.specs.declared.version.UseConsolidatedMetadata.{UseConsolidatedMetadata}
 use Rattle.zarrs_block.specs.Block.{Block}
 use Rattle.zarrs_block.specs.Policy.{use_block, list_store}
-use Rattle.zarrs_block.specs.Meaning.{meaning, node}
-use Rattle.zarrs_block.specs.declared.node_create_error.NodeCreateError.{NodeCreateError}
+use Rattle.zarrs_meaning.specs.Meaning.{meaning, node}
+use Rattle.zarrs_meaning.specs.declared.node_create_error.NodeCreateError.{NodeCreateError}
 use Rattle.zarrs_node.specs.Forest.{Forest}
 use Rattle.zarrs_node.specs.ListedBlocks.{IsListedBlock}
-use Rattle.zarrs_node.specs.MapsOfNodes.{NodesFrom}
+use Rattle.zarrs_node.specs.Nodes.{NodesFrom}
 use Rattle.zarrs_node.specs.Nodes.{Nodes, HasNothingBad, ShowsBad}
 use Rattle.zarrs_node.specs.OpeningNodes.{choice, ShowsBelow, IsCleanBelow, RefusesBelow, RefusesNode, RefusesOpening}
 use Rattle.zarrs_folder.specs.PrunedStores.{HasBaseOf, IsLoadedFrom}
 use Rattle.zarrs_folder.specs.Laws.{ShowSame, ShowSameNodes}
 use Rattle.zarrs_folder.specs.declared.documents.Documents.{Documents}
-use Rattle.zarrs_block.specs.Meaning.{Pair}
+use Rattle.zarrs_meaning.specs.Meaning.{Pair}
 
 -- below b both stores have the same nodes; something bad is in both or in neither; and the same refuses a listing
 pub record ListSame (S L : Contents) (b : Path) : Type 0 where

@@ -14,9 +14,9 @@ use Rattle.zarrs_path.specs.Keys.{zarr_json, zarray, zgroup}
 use Rattle.zarrs_meta.specs.Node.{is_group}
 use Rattle.zarrs_meta.specs.declared.node.NodeMetadata.{NodeMetadata}
 use Rattle.zarrs_config.specs.declared.version.MetadataRetrieveVersion.TheVariants.{Default}
-use Rattle.zarrs_block.specs.Meaning.{meaning, node, bad}
-use Rattle.zarrs_block.specs.declared.node_create_error.NodeCreateError.{NodeCreateError}
-use Rattle.zarrs_node.specs.MapsOfNodes.{StandsFrom}
+use Rattle.zarrs_meaning.specs.Meaning.{meaning, node, bad}
+use Rattle.zarrs_meaning.specs.declared.node_create_error.NodeCreateError.{NodeCreateError}
+use Rattle.zarrs_node.specs.Nodes.{StandsFrom}
 use Rattle.zarrs_node.specs.Nodes.{MeansNode, Ignored}
 use Rattle.zarrs_node.specs.Reach.{Reached}
 use Rattle.zarrs_folder.specs.declared.documents.Documents.TheVariants.{All}

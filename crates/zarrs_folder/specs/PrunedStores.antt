@@ -15,9 +15,9 @@ use Rattle.zarrs_path.specs.Keys.{zarr_json, zarray, zgroup, zattrs, zmetadata}
 use Rattle.zarrs_meta.specs.Node.{is_group}
 use Rattle.zarrs_meta.specs.declared.node.NodeMetadata.{NodeMetadata}
 use Rattle.zarrs_config.specs.declared.version.MetadataRetrieveVersion.TheVariants.{Default}
-use Rattle.zarrs_block.specs.Meaning.{meaning, node}
+use Rattle.zarrs_meaning.specs.Meaning.{meaning, node}
 use Rattle.zarrs_node.specs.Nodes.{IsListed}
-use Rattle.zarrs_node.specs.MapsOfNodes.{StandsFrom}
+use Rattle.zarrs_node.specs.Nodes.{StandsFrom}
 use Rattle.zarrs_write.specs.ReplacingDocuments.{temporary}
 use Rattle.zarrs_folder.specs.declared.documents.Documents.{Documents}
 use Rattle.zarrs_folder.specs.declared.documents.Documents.TheVariants.{All, Deciding}

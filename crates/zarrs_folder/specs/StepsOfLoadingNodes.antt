@@ -1,13 +1,15 @@
 -- Steps of loading: how far a walk is; no public contract rests on them.
-use Rattle.std.specs.Prelude.{◌≡◌, ◌⊎◌, ◌||◌, ℕ, true, List, [], ◌∷◌, ◌++◌, is_some, Contains}
+use Rattle.std.specs.Prelude.{◌≡◌, ◌⊎◌, ◌||◌, ℕ, Bool, true, false, List, [], ◌∷◌, ◌++◌, is_some, Contains}
 use Rattle.zarrs_store.specs.Segments.{Segments}
 use Rattle.zarrs_store.specs.Contents.{Values, HasBelow}
 use Rattle.zarrs_path.specs.Paths.{Path, IsBelow}
 use Rattle.zarrs_path.specs.Keys.{zarr_json, zarray, zgroup}
 use Rattle.zarrs_config.specs.declared.version.MetadataRetrieveVersion.TheVariants.{Default}
-use Rattle.zarrs_block.specs.Meaning.{meaning}
+use Rattle.zarrs_meta.specs.Node.{is_group}
+use Rattle.zarrs_meta.specs.declared.node.NodeMetadata.{NodeMetadata}
+use Rattle.zarrs_meaning.specs.Meaning.{meaning, node}
 use Rattle.zarrs_node.specs.Nodes.{IsListed}
-use Rattle.zarrs_node.specs.MapsOfNodes.{StandsFrom}
+use Rattle.zarrs_node.specs.Nodes.{StandsFrom}
 use Rattle.zarrs_folder.specs.Folders.{in_any}
 use Rattle.zarrs_folder.specs.PrunedStores.{HasNoOtherKeys, HasSameFile, HasSameFiles, at_file, files_in}
 use Rattle.zarrs_folder.specs.declared.documents.Documents.{Documents}
@@ -32,6 +34,10 @@ pub record IsLoadedButAhead (ds : Documents) (V : Values) (b : Path) (L : Values
       → HasSameFile V L p file ⊎ IsAhead b qs p
   pub children : (g : Path) (n : List ℕ) → IsListed (meaning (in_any V) Default) true b g → HasBelow V (g ++ n ∷ [])
       → HasBelow L (g ++ n ∷ []) ⊎ IsAhead b qs (g ++ n ∷ [])
+
+-- where p may be no group, no metadata that it means in V are those of a group
+abbrev pub MayBeGroup : Values → Path → Bool → Type 0
+MayBeGroup V p may = may ≡ false → (m : NodeMetadata) → meaning (in_any V) Default p ≡ node m → is_group m ≡ false
 
 -- x is one of these prefixes, or begins with one
 abbrev pub LiesAhead : List Segments → Segments → Type 0

@@ -6,9 +6,8 @@ ghost use Rattle.zarrs_form.specs.Documents.{of_bytes};
 ghost use Rattle.zarrs_meta.specs.Node.{is_group, zarr_json_in};
 ghost use Rattle.zarrs_meta.specs.declared.node.ZarrJson.TheVariants.{Node as node_document};
 ghost use Rattle.zarrs_meta.specs.declared.node.NodeMetadata.{NodeMetadata};
-ghost use Rattle.zarrs_config.specs.declared.version.MetadataRetrieveVersion.TheVariants.{Default};
-ghost use Rattle.zarrs_block.specs.Meaning.{meaning, node};
-ghost use Rattle.zarrs_folder.specs.Folders.{in_any, values_of};
+ghost use Rattle.zarrs_folder.specs.Folders.{values_of};
+ghost use Rattle.zarrs_folder.specs.StepsOfLoadingNodes.{MayBeGroup};
 
 use std::alloc::{AllocError, Global};
 use std::str;
@@ -21,9 +20,7 @@ pub(crate) fn may_be_group(
     store: &AnyNumbers<MemoryStore>,
     path: &NodePath,
 ) -> Result<bool, AllocError>
-    ensures { IfOk result (λ may. may ≡ false → (m : NodeMetadata)
-        → meaning (in_any (values_of store.now.inner)) Default path.now ≡ node m
-        → is_group m ≡ false) }
+    ensures { IfOk result (MayBeGroup (values_of store.now.inner) path.now) }
 {
     match bytes_at(alloc, store, &meta_key_v3(alloc, path)?)? {
         Some(bytes) => Ok(may_be_group_document(&bytes)),

@@ -1,13 +1,12 @@
 //! The part of a folder's store that its nodes need.
 ghost use Rattle.std.specs.Prelude.{◌≡◌, ◌++◌, ◌∷◌, [], false, None, IsTrue, IsSome, IfOk, IfErr, IfSome, OnOk};
-ghost use Rattle.zarrs_store.specs.Segments.{is_segment};
 ghost use Rattle.zarrs_store.specs.Contents.{Values, HasBelow};
 ghost use Rattle.zarrs_meta.specs.Node.{is_group};
 ghost use Rattle.zarrs_config.specs.declared.version.MetadataRetrieveVersion.TheVariants.{Default};
-ghost use Rattle.zarrs_block.specs.Meaning.{meaning, node};
+ghost use Rattle.zarrs_meaning.specs.Meaning.{meaning, node};
 ghost use Rattle.zarrs_folder.specs.Folders.{in_any, values_of, IsFaultOfFolder};
 ghost use Rattle.zarrs_folder.specs.PrunedStores.{Grows, HasBaseOf, HasLoaded, HasNoOtherKeys, IsLoadedFrom};
-ghost use Rattle.zarrs_folder.specs.StepsOfLoadingNodes.{IsLoadedButAhead};
+ghost use Rattle.zarrs_folder.specs.StepsOfLoadingNodes.{IsLoadedButAhead, MayBeGroup};
 
 use crate::documents::Documents;
 use crate::fault::FolderFault;
@@ -15,8 +14,8 @@ use crate::folder::Folder;
 use crate::kinds::may_be_group;
 use crate::read::{read_documents, read_left, read_some};
 use std::alloc::{AllocError, Global};
-use zarrs_block::NodeCreateError;
 use zarrs_config::MetadataRetrieveVersion;
+use zarrs_meaning::NodeCreateError;
 use zarrs_meta::NodeMetadata;
 use zarrs_node::Node;
 use zarrs_path::{NodePath, NodePathError};
@@ -243,9 +242,7 @@ fn is_group_at(
     loaded: &AnyNumbers<MemoryStore>,
     path: &NodePath,
 ) -> Result<bool, AllocError>
-    ensures { IfOk result (λ is. is ≡ false → (m : NodeMetadata)
-        → meaning (in_any (values_of loaded.now.inner)) Default path.now ≡ node m
-        → is_group m ≡ false) }
+    ensures { IfOk result (MayBeGroup (values_of loaded.now.inner) path.now) }
 {
     if !may_be_group(alloc, loaded, path)? {
         return Ok(false);

@@ -7,7 +7,7 @@ use Rattle.zarrs_store.proofs.ContentsLemmas.{AgreesExceptAt-insert}
 use Rattle.zarrs_path.specs.Paths.{Path, IsBelow}
 use Rattle.zarrs_config.specs.declared.version.MetadataRetrieveVersion.{MetadataRetrieveVersion}
 use Rattle.zarrs_block.specs.Block.{Block}
-use Rattle.zarrs_block.specs.Meaning.{meaning}
+use Rattle.zarrs_meaning.specs.Meaning.{meaning}
 use Rattle.zarrs_node.specs.Reach.{Reached}
 use Rattle.zarrs_node.specs.Nodes.{MeansNode, IsListed, Bad}
 use Rattle.zarrs_node.specs.ListedBlocks.{IsListedBlock}

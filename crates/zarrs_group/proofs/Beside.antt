@@ -29,10 +29,11 @@ use Rattle.zarrs_meta.specs.declared.node.GroupMetadata.TheVariants.{V2 as group
 use Rattle.zarrs_meta.specs.declared.node.NodeMetadata.{NodeMetadata}
 use Rattle.zarrs_meta.specs.declared.node.NodeMetadata.TheVariants.{Group, Array}
 use Rattle.zarrs_block.specs.Block.{Block, IsValidKey, first_some, node_at_key, put}
-use Rattle.zarrs_block.specs.DocumentsAtKeys.{Reading, attributes_in, document_at, in_trees}
-use Rattle.zarrs_block.specs.Meaning.{Meaning, node, nothing, bad, version_2_line, meaning_in, zarray_line, zgroup_line}
-use Rattle.zarrs_block.specs.Small.{small, small_meaning_in}
-use Rattle.zarrs_block.specs.Zmetadata.{before_last, documents_below, block_from, is_bad, is_good, is_version_2, small_block_in, with_node, zmetadata_members_in, zmetadata_in}
+use Rattle.zarrs_meaning.specs.DocumentsAtKeys.{Reading, attributes_in, document_at, in_trees}
+use Rattle.zarrs_meaning.specs.Meaning.{Meaning, node, nothing, bad, version_2_line, meaning_in, zarray_line, zgroup_line}
+use Rattle.zarrs_meaning.specs.Small.{small, small_meaning_in}
+use Rattle.zarrs_meaning.specs.Meaning.{is_bad}
+use Rattle.zarrs_block.specs.Zmetadata.{before_last, documents_below, block_from, is_good, is_version_2, small_block_in, with_node, zmetadata_members_in, zmetadata_in}
 use Rattle.zarrs_block.proofs.Expansion.{same_text}
 use Rattle.zarrs_node.proofs.walk.Child.{node_same}
 use Rattle.zarrs_node.proofs.blocks.PairsInBlocks.{found_put}

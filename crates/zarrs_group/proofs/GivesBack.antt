@@ -35,14 +35,14 @@ use Rattle.zarrs_block.specs.Block.{Block, Entries, HasValidKeys, IsValidKey, bl
 use Rattle.zarrs_block.proofs.MoreBlocks.{block_too}
 use Rattle.zarrs_block.specs.Zmetadata.{HasVersion2}
 use Rattle.zarrs_block.specs.Policy.{use_block, block_to_use}
-use Rattle.zarrs_block.specs.Refusals.{LacksMemory, IsExcused}
+use Rattle.zarrs_meaning.specs.Refusals.{LacksMemory, IsExcused}
 use Rattle.zarrs_block.specs.BlockExpansion.{NamesBadKey}
-use Rattle.zarrs_block.specs.declared.node_create_error.NodeCreateError.{NodeCreateError}
-use Rattle.zarrs_block.specs.declared.node_create_error.NodeCreateError.TheVariants as made
+use Rattle.zarrs_meaning.specs.declared.node_create_error.NodeCreateError.{NodeCreateError}
+use Rattle.zarrs_meaning.specs.declared.node_create_error.NodeCreateError.TheVariants as made
 use Rattle.zarrs_node.specs.BlocksBelow.{block_at}
 use Rattle.zarrs_node.specs.Forest.{Forest, pairs, Shows}
-use Rattle.zarrs_block.specs.DocumentsAtKeys.{in_bytes, document_at, document_from, document_or_fault}
-use Rattle.zarrs_block.specs.Meaning.{Meaning, node, nothing, bad, version_3_line, zarr_json_line, meaning_in, meaning, zarray_line, zgroup_line}
+use Rattle.zarrs_meaning.specs.DocumentsAtKeys.{in_bytes, document_at, document_from, document_or_fault}
+use Rattle.zarrs_meaning.specs.Meaning.{Meaning, node, nothing, bad, version_3_line, zarr_json_line, meaning_in, meaning, zarray_line, zgroup_line}
 use Rattle.zarrs_node.specs.Inverse.{HasNames, IsInverse}
 use Rattle.zarrs_node.specs.Reach.{Kept}
 use Rattle.zarrs_node.specs.OpeningNodes.{ShowsChosen, RefusesChosen, ShowsBelow, RefusesOpening, RefusesText, RefusesNode}

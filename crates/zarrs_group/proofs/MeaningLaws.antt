@@ -30,8 +30,8 @@ use Rattle.zarrs_meta.specs.declared.attributes.AttributesDocument.{AttributesDo
 use Rattle.zarrs_meta.specs.declared.node.NodeMetadata.TheVariants.{Group}
 use Rattle.zarrs_meta.specs.Node.{group_with, group_without_attributes}
 use Rattle.zarrs_meta.specs.GroupV2.{group_v2_in}
-use Rattle.zarrs_block.specs.DocumentsAtKeys.{in_bytes, document_at, attributes_at}
-use Rattle.zarrs_block.specs.Meaning.{Meaning, node, nothing, version_2_line, zgroup_line}
+use Rattle.zarrs_meaning.specs.DocumentsAtKeys.{in_bytes, document_at, attributes_at}
+use Rattle.zarrs_meaning.specs.Meaning.{Meaning, node, nothing, version_2_line, zgroup_line}
 use Rattle.zarrs_group.specs.Meaning.{group_line, group_meaning}
 use Rattle.zarrs_block.specs.Block.{Block}
 use Rattle.zarrs_block.specs.Zmetadata.{zmetadata_tree}

@@ -20,10 +20,10 @@ use Rattle.zarrs_meta.specs.declared.node.GroupMetadata.TheVariants.{V2}
 use Rattle.zarrs_meta.specs.declared.node.NodeMetadata.{NodeMetadata}
 use Rattle.zarrs_meta.specs.declared.node.NodeMetadata.TheVariants.{Group}
 use Rattle.zarrs_block.specs.Block.{Block, Entries, HasValidKeys, IsAscending}
-use Rattle.zarrs_block.specs.Meaning.{Meaning}
+use Rattle.zarrs_meaning.specs.Meaning.{Meaning}
 use Rattle.zarrs_block.specs.Policy.{use_block, block_to_use}
 use Rattle.zarrs_block.specs.Zmetadata.{zmetadata_in, zmetadata_tree, HasPlainEntriesIn, HaveSameEntries}
-use Rattle.zarrs_block.specs.declared.node_create_error.NodeCreateError.{NodeCreateError}
+use Rattle.zarrs_meaning.specs.declared.node_create_error.NodeCreateError.{NodeCreateError}
 use Rattle.zarrs_block.proofs.Expansion.{entries_listed}
 use Rattle.zarrs_block.proofs.ZmetadataAgain.{written_reads_back_in}
 use Rattle.zarrs_node.specs.BlocksBelow.{zmetadata_at}

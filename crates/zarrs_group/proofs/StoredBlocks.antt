@@ -18,10 +18,10 @@ use Rattle.zarrs_meta.specs.declared.node.GroupMetadata.{GroupMetadata}
 use Rattle.zarrs_meta.specs.declared.node.GroupMetadata.TheVariants.{V3}
 use Rattle.zarrs_meta.specs.declared.node.NodeMetadata.TheVariants.{Group}
 use Rattle.zarrs_block.specs.Block.{Block, Entries, HasValidKeys}
-use Rattle.zarrs_block.specs.Meaning.{meaning, node, nothing}
+use Rattle.zarrs_meaning.specs.Meaning.{meaning, node, nothing}
 use Rattle.zarrs_block.specs.Policy.{use_block, list_store, group_block, block_to_use}
 use Rattle.zarrs_block.specs.Zmetadata.{HaveSameEntries}
-use Rattle.zarrs_block.specs.declared.node_create_error.NodeCreateError.{NodeCreateError}
+use Rattle.zarrs_meaning.specs.declared.node_create_error.NodeCreateError.{NodeCreateError}
 use Rattle.zarrs_node.specs.BlocksBelow.{block_at}
 use Rattle.zarrs_node.specs.Forest.{Forest, pairs, Shows}
 use Rattle.zarrs_node.specs.Nodes.{ShowsBad}

@@ -23,8 +23,8 @@ use Rattle.zarrs_meta.specs.declared.node.GroupMetadata.TheVariants.{V3, V2}
 use Rattle.zarrs_meta.specs.declared.node.NodeMetadata.TheVariants.{Group}
 use Rattle.zarrs_meta.proofs.GroupV3Laws.{group_v3_again_in}
 use Rattle.zarrs_block.specs.Block.{Block, HasValidKeys}
-use Rattle.zarrs_block.specs.DocumentsAtKeys.{in_bytes, document_at}
-use Rattle.zarrs_block.specs.Meaning.{meaning, node}
+use Rattle.zarrs_meaning.specs.DocumentsAtKeys.{in_bytes, document_at}
+use Rattle.zarrs_meaning.specs.Meaning.{meaning, node}
 use Rattle.zarrs_block.specs.Zmetadata.{zmetadata_tree, HasPlainEntriesIn}
 use Rattle.zarrs_block.proofs.ZmetadataAgain.{written_reads_back_in}
 use Rattle.zarrs_node.specs.BlocksBelow.{zmetadata_at}
@@ -33,7 +33,7 @@ use Rattle.zarrs_node.specs.ListedBlocks.{IsListedBlock}
 use Rattle.zarrs_node.specs.Nodes.{Nodes}
 use Rattle.zarrs_node.proofs.blocks.Current.{meaning_same}
 use Rattle.zarrs_node.proofs.Inverse.{entries_are}
-use Rattle.zarrs_node.proofs.PlainMeanings.{plain_node_in}
+use Rattle.zarrs_meaning.proofs.PlainMeanings.{plain_node_in}
 use Rattle.zarrs_group.specs.BlockDocuments.{IsDocumentText, document_with_block}
 use Rattle.zarrs_group.specs.BlocksBeside.{IsBeside}
 use Rattle.zarrs_group.specs.BlocksOfGroups.{Fits, beside_with, fields_with, metadata_with}

@@ -19,8 +19,8 @@ use Rattle.zarrs_meta.specs.declared.node.GroupMetadata.TheVariants.{V3, V2}
 use Rattle.zarrs_block.specs.Block.{Block, block_tree, HasPlainNodesIn}
 use Rattle.zarrs_block.specs.Policy.{group_block}
 use Rattle.zarrs_block.specs.Zmetadata.{RefusesZmetadata}
-use Rattle.zarrs_block.specs.declared.node_create_error.NodeCreateError.{NodeCreateError}
-use Rattle.zarrs_block.specs.declared.node_create_error.NodeCreateError.TheVariants.{OutOfMemory}
+use Rattle.zarrs_meaning.specs.declared.node_create_error.NodeCreateError.{NodeCreateError}
+use Rattle.zarrs_meaning.specs.declared.node_create_error.NodeCreateError.TheVariants.{OutOfMemory}
 use Rattle.zarrs_node.specs.BlocksBelow.{zmetadata_at}
 use Rattle.zarrs_group.specs.BlocksBeside.{IsBeside}
 use Rattle.zarrs_group.specs.Groups.{GroupState}

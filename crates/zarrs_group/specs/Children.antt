@@ -20,8 +20,8 @@ use Rattle.zarrs_meta.specs.declared.node.NodeMetadata.{NodeMetadata}
 use Rattle.zarrs_meta.specs.declared.node.NodeMetadata.TheVariants.{Group, Array}
 use Rattle.zarrs_block.specs.Block.{Entries}
 use Rattle.zarrs_block.specs.Policy.{Choice, use_block, list_store, refuse, block_to_use}
-use Rattle.zarrs_block.specs.Refusals.{IsExcused}
-use Rattle.zarrs_block.specs.declared.node_create_error.NodeCreateError.{NodeCreateError}
+use Rattle.zarrs_meaning.specs.Refusals.{IsExcused}
+use Rattle.zarrs_meaning.specs.declared.node_create_error.NodeCreateError.{NodeCreateError}
 use Rattle.zarrs_node.specs.Nodes.{Nodes}
 use Rattle.zarrs_node.specs.Reach.{Kept}
 use Rattle.zarrs_node.specs.Forest.{Forest}
@@ -31,7 +31,7 @@ use Rattle.zarrs_group.specs.declared.create_error.GroupCreateError.{GroupCreate
 use Rattle.zarrs_group.specs.Groups.{GroupState}
 use Rattle.zarrs_group.specs.BlocksOfGroups.{held_by_in}
 use Rattle.zarrs_group.specs.OpeningGroups.{IsFromNode}
-use Rattle.zarrs_block.specs.Meaning.{Pair}
+use Rattle.zarrs_meaning.specs.Meaning.{Pair}
 
 -- the choice of a block of a group, read in these numbers
 abbrev pub block_choice : Numbers → GroupState → Settings → Choice

@@ -30,10 +30,10 @@ use Rattle.zarrs_meta.specs.declared.node.NodeMetadata.{NodeMetadata}
 use Rattle.zarrs_meta.specs.declared.node.NodeMetadata.TheVariants.{Group}
 use Rattle.zarrs_block.specs.Block.{Block, IsAscending, IsBlockOf}
 use Rattle.zarrs_block.specs.Zmetadata.{is_version_2, zmetadata_tree, HaveSameEntries}
-use Rattle.zarrs_block.specs.Refusals.{LacksMemory}
-use Rattle.zarrs_block.specs.declared.node_create_error.NodeCreateError.{NodeCreateError}
+use Rattle.zarrs_meaning.specs.Refusals.{LacksMemory}
+use Rattle.zarrs_meaning.specs.declared.node_create_error.NodeCreateError.{NodeCreateError}
 use Rattle.zarrs_node.specs.Forest.{Forest, pairs, Shows}
-use Rattle.zarrs_block.specs.Meaning.{Meaning, Means, meaning, node}
+use Rattle.zarrs_meaning.specs.Meaning.{Meaning, Means, meaning, node}
 use Rattle.zarrs_node.specs.Reach.{Kept}
 use Rattle.zarrs_node.specs.Inverse.{ArePlain}
 use Rattle.zarrs_node.specs.OpeningNodes.{ShowsBelow, RefusesOpening}
@@ -42,7 +42,7 @@ use Rattle.zarrs_group.specs.BlocksOfGroups.{block_beside, with_block, Fits}
 use Rattle.zarrs_group.specs.Children.{ShowsChildren, ListsNodes, RefusesChildren}
 use Rattle.zarrs_group.specs.StoringGroups.{stored_fault_in, IsBlockReadBack}
 use Rattle.zarrs_group.specs.Laws.{MeansStored}
-use Rattle.zarrs_block.specs.Meaning.{Pair}
+use Rattle.zarrs_meaning.specs.Meaning.{Pair}
 use Rattle.zarrs_fault.specs.declared.numbers.Numbers.{Numbers}
 use Rattle.zarrs_fault.specs.declared.numbers.Numbers.TheVariants.{Whole}
 

@@ -16,9 +16,9 @@ use Rattle.zarrs_meta.specs.declared.group_v3.GroupMetadataV3.{GroupMetadataV3}
 use Rattle.zarrs_meta.specs.declared.node.GroupMetadata.{GroupMetadata}
 use Rattle.zarrs_meta.specs.declared.node.GroupMetadata.TheVariants.{V3}
 use Rattle.zarrs_meta.specs.declared.node.NodeMetadata.TheVariants.{Group}
-use Rattle.zarrs_block.specs.declared.node_create_error.NodeCreateError.TheVariants as refused
-use Rattle.zarrs_block.specs.DocumentsAtKeys.{in_bytes, document_at}
-use Rattle.zarrs_block.specs.Meaning.{Meaning, node, nothing, bad, zgroup_line}
+use Rattle.zarrs_meaning.specs.declared.node_create_error.NodeCreateError.TheVariants as refused
+use Rattle.zarrs_meaning.specs.DocumentsAtKeys.{in_bytes, document_at}
+use Rattle.zarrs_meaning.specs.Meaning.{Meaning, node, nothing, bad, zgroup_line}
 
 -- `zarr.json` where it is there: a version 3 group, or a fault; else what the lines after it say
 abbrev pub group_v3_line : Result (Option GroupMetadataV3) StorageError → Meaning → Meaning

@@ -17,12 +17,12 @@ use Rattle.zarrs_config.specs.declared.version.MetadataRetrieveVersion.{Metadata
 use Rattle.zarrs_form.specs.Fields.{must_understand}
 use Rattle.zarrs_meta.specs.declared.node.GroupMetadata.{GroupMetadata}
 use Rattle.zarrs_meta.specs.declared.node.GroupMetadata.TheVariants.{V3, V2}
-use Rattle.zarrs_block.specs.declared.node_create_error.NodeCreateError.{NodeCreateError}
-use Rattle.zarrs_block.specs.declared.node_create_error.NodeCreateError.TheVariants as node
+use Rattle.zarrs_meaning.specs.declared.node_create_error.NodeCreateError.{NodeCreateError}
+use Rattle.zarrs_meaning.specs.declared.node_create_error.NodeCreateError.TheVariants as node
 use Rattle.zarrs_group.specs.declared.create_error.GroupCreateError.{GroupCreateError}
 use Rattle.zarrs_group.specs.declared.create_error.GroupCreateError.TheVariants as error
 use Rattle.zarrs_group.specs.UnsupportedFields.{UnsupportedField}
-use Rattle.zarrs_block.specs.Meaning.{Meaning, nothing, bad}
+use Rattle.zarrs_meaning.specs.Meaning.{Meaning, nothing, bad}
 use Rattle.zarrs_group.specs.Meaning.{MeansGroup, group_meaning}
 
 -- the field is one of the fields and must be understood, and no field that must be understood has a lesser name

@@ -5,8 +5,8 @@ use Rattle.zarrs_store.specs.declared.storage_error.StorageError.TheVariants.{Fa
 use Rattle.zarrs_store.specs.declared.storage_error.StorageError.TheVariants.{OutOfMemory}
 use Rattle.zarrs_meta.specs.declared.node.GroupMetadata.{GroupMetadata}
 use Rattle.zarrs_meta.specs.declared.node.NodeMetadata.TheVariants.{Group}
-use Rattle.zarrs_block.specs.declared.node_create_error.NodeCreateError.TheVariants as refused
-use Rattle.zarrs_block.specs.Meaning.{Meaning, node, nothing, bad}
+use Rattle.zarrs_meaning.specs.declared.node_create_error.NodeCreateError.TheVariants as refused
+use Rattle.zarrs_meaning.specs.Meaning.{Meaning, node, nothing, bad}
 use Rattle.zarrs_group.specs.declared.edit.Edit.{Edit as RustEdit}
 use Rattle.zarrs_group.specs.declared.edit.Edit.TheVariants.{Set, Erase}
 use Rattle.zarrs_group.specs.Edits.{Edit, set, remove}

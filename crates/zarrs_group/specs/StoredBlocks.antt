@@ -23,9 +23,9 @@ use Rattle.zarrs_meta.specs.declared.node.GroupMetadata.{GroupMetadata}
 use Rattle.zarrs_meta.specs.declared.node.GroupMetadata.TheVariants.{V3}
 use Rattle.zarrs_meta.specs.declared.node.NodeMetadata.TheVariants.{Group}
 use Rattle.zarrs_block.specs.Block.{Block}
-use Rattle.zarrs_block.specs.Meaning.{meaning, node}
+use Rattle.zarrs_meaning.specs.Meaning.{meaning, node}
 use Rattle.zarrs_block.specs.Policy.{group_block}
-use Rattle.zarrs_block.specs.declared.node_create_error.NodeCreateError.{NodeCreateError}
+use Rattle.zarrs_meaning.specs.declared.node_create_error.NodeCreateError.{NodeCreateError}
 use Rattle.zarrs_node.specs.Forest.{Forest}
 use Rattle.zarrs_node.specs.ListedBlocks.{IsListedBlock}
 use Rattle.zarrs_node.specs.OpeningNodes.{ShowsBelow, RefusesOpening}

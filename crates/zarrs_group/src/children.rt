@@ -15,10 +15,10 @@ use crate::group::Group;
 use log::Log;
 use std::alloc::{AllocError, Global};
 use zarrs_block::{
-    ConsolidatedMetadata, NodeCreateError, expand_consolidated_metadata,
-    resolve_consolidated_policy,
+    ConsolidatedMetadata, expand_consolidated_metadata, resolve_consolidated_policy,
 };
 use zarrs_config::{Config, MetadataRetrieveVersion, UseConsolidatedMetadata};
+use zarrs_meaning::NodeCreateError;
 use zarrs_meta::NodeMetadata;
 use zarrs_node::{Node, get_all_nodes_of, get_child_nodes, nodes_of_block};
 use zarrs_path::NodePath;

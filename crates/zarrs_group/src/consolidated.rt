@@ -17,7 +17,8 @@ ghost use Rattle.zarrs_fault.specs.declared.numbers.Numbers.TheVariants.{Whole};
 use crate::group::Group;
 use crate::group_value::field_of;
 use std::alloc::{AllocError, Global};
-use zarrs_block::{ConsolidatedMetadata, NodeCreateError, consolidated_metadata_of_in};
+use zarrs_block::{ConsolidatedMetadata, consolidated_metadata_of_in};
+use zarrs_meaning::NodeCreateError;
 use zarrs_meta::{AdditionalFieldV3, AdditionalFieldsV3, GroupMetadata, GroupMetadataV2};
 use zarrs_store::Numbers;
 

@@ -5,7 +5,7 @@ ghost use Rattle.zarrs_group.specs.OpeningGroups.{IsFromNode, IsTold};
 use crate::unsupported::AdditionalFieldUnsupportedError;
 use std::alloc::{AllocError, AllocFailed, Global};
 use thiserror::Error;
-use zarrs_block::NodeCreateError;
+use zarrs_meaning::NodeCreateError;
 use zarrs_path::NodePathError;
 use zarrs_store::{StorageError, StorePrefixError};
 

@@ -1,8 +1,8 @@
 //! What a path means as a group.
 ghost use Rattle.std.specs.Prelude.{◌≡◌, IfOk, IfErr};
 ghost use Rattle.zarrs_store.specs.Faults.{IsStoreError};
-ghost use Rattle.zarrs_block.specs.DocumentsAtKeys.{in_bytes};
-ghost use Rattle.zarrs_block.specs.Meaning.{zgroup_line};
+ghost use Rattle.zarrs_meaning.specs.DocumentsAtKeys.{in_bytes};
+ghost use Rattle.zarrs_meaning.specs.Meaning.{zgroup_line};
 ghost use Rattle.zarrs_block.specs.Policy.{as_block};
 ghost use Rattle.zarrs_group.specs.BlocksBeside.{IsBeside};
 ghost use Rattle.zarrs_group.specs.BlocksOfGroups.{block_beside};
@@ -12,8 +12,8 @@ ghost use Rattle.zarrs_group.specs.StepsOfGroups.{FindsByLine, FindsMeaning, Ref
 use std::alloc::Global;
 use zarrs_block::ConsolidatedMetadata;
 use zarrs_config::MetadataRetrieveVersion;
+use zarrs_meaning::{attributes_at, document_at};
 use zarrs_meta::{GroupMetadata, GroupMetadataV2, GroupMetadataV3};
-use zarrs_node::documents::{attributes_at, document_at};
 use zarrs_node::zmetadata_at;
 use zarrs_path::{NodePath, meta_key_v2_group, meta_key_v3};
 use zarrs_store::{ReadableStorageTraits, StorageError};
@@ -64,7 +64,7 @@ fn find_v3<S: ReadableStorageTraits>(
 }
 
 // What the document `.zgroup` of a path says, with the attributes beside it.
-#[tactic(auto, unfolding(zarrs_block::specs::Meaning::zgroup_line))]
+#[tactic(auto, unfolding(zarrs_meaning::specs::Meaning::zgroup_line))]
 fn find_v2<S: ReadableStorageTraits>(
     alloc: Global,
     storage: &S,

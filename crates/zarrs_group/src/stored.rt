@@ -19,8 +19,9 @@ use crate::plain::{block_fault, group_v2_fault, group_v3_fault};
 use crate::stored_text::pretty_bytes;
 use serde_json::Value;
 use std::alloc::{AllocError, Global};
-use zarrs_block::{ConsolidatedMetadata, NodeCreateError};
+use zarrs_block::ConsolidatedMetadata;
 use zarrs_config::MetadataEraseVersion;
+use zarrs_meaning::NodeCreateError;
 use zarrs_meta::{GroupMetadata, GroupMetadataV2, GroupMetadataV3, Object, WrittenDocument};
 use zarrs_path::{
     NodePath, NodePathError, meta_key_v2_attributes, meta_key_v2_consolidated, meta_key_v2_group,

@@ -14,7 +14,7 @@ use Rattle.zarrs_block.specs.Policy.{Choice, use_block, list_store, refuse}
 use Rattle.zarrs_node.specs.Forest.{Forest, Shows}
 use Rattle.zarrs_node.specs.Order.{Ascend}
 use Rattle.zarrs_node.specs.Lines.{lines, preorder, tree_text}
-use Rattle.zarrs_block.specs.Meaning.{meaning}
+use Rattle.zarrs_meaning.specs.Meaning.{meaning}
 use Rattle.zarrs_node.specs.OpeningNodes.{choice, ShowsBelow, ShowsChosen}
 use Rattle.zarrs_node.proofs.ListedItems.{listed_each}
 use Rattle.zarrs_node.proofs.KeptPairs.{closed_is_kept}

@@ -14,11 +14,11 @@ use Rattle.zarrs_config.specs.declared.version.MetadataRetrieveVersion.{Metadata
 use Rattle.zarrs_config.specs.declared.version.UseConsolidatedMetadata.{UseConsolidatedMetadata}
 use Rattle.zarrs_block.specs.Block.{Block, Entries}
 use Rattle.zarrs_block.specs.Policy.{Choice, use_block, list_store, refuse}
-use Rattle.zarrs_block.specs.Refusals.{IsExcused}
+use Rattle.zarrs_meaning.specs.Refusals.{IsExcused}
 use Rattle.zarrs_block.specs.Policy.{RefusesUse}
-use Rattle.zarrs_block.specs.declared.node_create_error.NodeCreateError.{NodeCreateError}
-use Rattle.zarrs_block.specs.declared.node_create_error.NodeCreateError.TheVariants.{NodePathError, StorePrefixError, StorageError, MetadataVersionMismatch, MissingMetadata, OutOfMemory}
-use Rattle.zarrs_block.specs.Meaning.{Meaning, node, nothing, bad, meaning}
+use Rattle.zarrs_meaning.specs.declared.node_create_error.NodeCreateError.{NodeCreateError}
+use Rattle.zarrs_meaning.specs.declared.node_create_error.NodeCreateError.TheVariants.{NodePathError, StorePrefixError, StorageError, MetadataVersionMismatch, MissingMetadata, OutOfMemory}
+use Rattle.zarrs_meaning.specs.Meaning.{Meaning, node, nothing, bad, meaning}
 use Rattle.zarrs_node.specs.Forest.{pairs}
 use Rattle.zarrs_node.specs.BlocksBelow.{ExcusesBlock}
 use Rattle.zarrs_node.specs.Lines.{line, lines}

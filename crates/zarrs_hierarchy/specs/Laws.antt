@@ -11,7 +11,7 @@ use Rattle.zarrs_block.specs.Block.{Entries}
 use Rattle.zarrs_block.specs.Policy.{Choice, use_block, list_store, refuse}
 use Rattle.zarrs_node.specs.Forest.{Forest}
 use Rattle.zarrs_node.specs.Lines.{tree_text}
-use Rattle.zarrs_block.specs.Meaning.{meaning, node}
+use Rattle.zarrs_meaning.specs.Meaning.{meaning, node}
 use Rattle.zarrs_node.specs.OpeningNodes.{choice, ShowsBelow}
 use Rattle.zarrs_node.specs.Reach.{Closed}
 use Rattle.zarrs_hierarchy.specs.PairsOfHierarchies.{Pairs}

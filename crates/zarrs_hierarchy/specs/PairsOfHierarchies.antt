@@ -7,7 +7,7 @@ use Rattle.zarrs_store.specs.Contents.{Lists}
 use Rattle.zarrs_path.specs.Paths.{Path, path_cmp}
 use Rattle.zarrs_meta.specs.declared.node.NodeMetadata.{NodeMetadata}
 use Rattle.zarrs_node.specs.Order.{Ascend}
-use Rattle.zarrs_block.specs.Meaning.{Pair}
+use Rattle.zarrs_meaning.specs.Meaning.{Pair}
 
 -- paths with their metadata, as a hierarchy shows them
 abbrev pub Pairs : Type 0

@@ -12,7 +12,7 @@ use Rattle.zarrs_node.specs.Sinks.{TakesAll}
 use Rattle.zarrs_hierarchy.specs.OpeningHierarchies.{IsOpened}
 use Rattle.zarrs_hierarchy.specs.PairsOfHierarchies.{Pairs}
 use Rattle.zarrs_hierarchy.specs.declared.tree_text.TreeText.{TreeText}
-use Rattle.zarrs_block.specs.Meaning.{Pair}
+use Rattle.zarrs_meaning.specs.Meaning.{Pair}
 
 -- the line of the node was put behind the others, a level deeper for each name beyond those of the base
 pub record AppendsNode (old : TreeText) (e : Pair) (new : TreeText) : Type 0 where

@@ -9,7 +9,7 @@ use Rattle.zarrs_store.specs.Contents.{Lists}
 use Rattle.zarrs_node.specs.Order.{Ascend}
 use Rattle.zarrs_node.specs.Sinks.{TakesAll}
 use Rattle.std.specs.Ordering.{is_lt}
-use Rattle.zarrs_block.specs.Meaning.{Pair}
+use Rattle.zarrs_meaning.specs.Meaning.{Pair}
 
 -- the path stands at place i
 pub record IsPathAt (h : Pairs) (p : Path) (i : ℕ) : Type 0 where

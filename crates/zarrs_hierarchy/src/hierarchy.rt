@@ -10,7 +10,7 @@ ghost use Rattle.zarrs_hierarchy.specs.Tree.{pairs_below, is_path_below};
 use std::alloc::{AllocError, Global};
 use std::collections::BTreeMap;
 use std::marker::Model;
-use zarrs_block::NodeCreateError;
+use zarrs_meaning::NodeCreateError;
 use zarrs_meta::{ArrayMetadata, BoxedArray, Document, NodeMetadata};
 use zarrs_path::NodePath;
 

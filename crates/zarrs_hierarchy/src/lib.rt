@@ -13,7 +13,7 @@ pub use hierarchy::{Hierarchy, HierarchyCreateError};
 pub use open::walk_hierarchy;
 pub use tree::depth;
 pub use tree_text::tree_at;
-pub use zarrs_block::NodeCreateError;
+pub use zarrs_meaning::NodeCreateError;
 pub use zarrs_meta::NodeMetadata;
 pub use zarrs_node::Node;
 pub use zarrs_path::{NodePath, NodePathError};

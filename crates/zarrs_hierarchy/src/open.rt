@@ -2,7 +2,7 @@
 ghost use Rattle.std.specs.Prelude.{◌≡◌, ◌∷◌, [], true, IfOk, IfErr, OnOk};
 ghost use Rattle.zarrs_path.specs.Paths.{path_text};
 ghost use Rattle.zarrs_meta.specs.declared.node.NodeMetadata.TheVariants.{Group as group_node};
-ghost use Rattle.zarrs_block.specs.Refusals.{IsExcusedOr};
+ghost use Rattle.zarrs_meaning.specs.Refusals.{IsExcusedOr};
 ghost use Rattle.zarrs_block.specs.Policy.{as_choice};
 ghost use Rattle.zarrs_node.specs.Nodes.{Nodes, ShowsBad, HasNothingBad};
 ghost use Rattle.zarrs_node.specs.OpeningNodes.{IsCleanChosen, PassesOver, RefusesChosen, RefusesOpening};

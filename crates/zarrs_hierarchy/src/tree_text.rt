@@ -1,7 +1,7 @@
 //! The text of what a store has at a path and below it.
 ghost use Rattle.std.specs.Prelude.{◌≡◌, ◌∷◌, [], ◌++◌, IfOk, IfErr, string_bytes};
 ghost use Rattle.zarrs_path.specs.Paths.{path_text};
-ghost use Rattle.zarrs_block.specs.Refusals.{IsExcusedOr};
+ghost use Rattle.zarrs_meaning.specs.Refusals.{IsExcusedOr};
 ghost use Rattle.zarrs_node.specs.OpeningNodes.{RefusesOpening};
 ghost use Rattle.zarrs_hierarchy.specs.OpeningHierarchies.{IsOpenedTree};
 ghost use Rattle.zarrs_hierarchy.specs.Sinks.{AppendsNode};

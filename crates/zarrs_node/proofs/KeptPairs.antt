@@ -7,7 +7,7 @@ use Rattle.zarrs_path.proofs.PathTexts.{IsPath-parts}
 use Rattle.zarrs_meta.specs.Node.{is_group}
 use Rattle.zarrs_meta.specs.declared.node.NodeMetadata.{NodeMetadata}
 use Rattle.zarrs_meta.specs.declared.node.NodeMetadata.TheVariants.{Group, Array}
-use Rattle.zarrs_block.specs.Meaning.{Meaning}
+use Rattle.zarrs_meaning.specs.Meaning.{Meaning}
 use Rattle.zarrs_node.specs.Reach.{HasGroup, Reached, Kept, Closed}
 use Rattle.zarrs_node.specs.Nodes.{Means}
 use Rattle.zarrs_node.specs.Forest.{Forest, none, tree, pairs, Shows, IsPlaced, MayHold}

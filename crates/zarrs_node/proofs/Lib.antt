@@ -1,4 +1,3 @@
-pub mod Meanings
 pub mod Reach
 pub mod walk
 pub mod ForestsBeside
@@ -12,7 +11,7 @@ pub mod TreeTexts
 pub mod LawProofs
 pub mod Inverse
 pub mod SmallShown
-pub mod maps
+pub mod HeldStores
 pub mod OpenForests
 pub mod OpenGroups
 pub mod KeptOfLists
@@ -21,6 +20,5 @@ pub mod Lasts
 pub mod FlatForests
 pub mod Direct
 pub mod OpenedNodes
-pub mod PlainMeanings
 pub mod Sizes
 pub mod CopiedForests

@@ -14,8 +14,8 @@ use Rattle.zarrs_path.specs.Paths.{Path, IsPath, IsBelow}
 use Rattle.zarrs_path.proofs.NameLemmas.{name_head}
 use Rattle.zarrs_meta.specs.declared.node.NodeMetadata.{NodeMetadata}
 use Rattle.zarrs_block.specs.Block.{Block, Entries, IsBlockOf}
-use Rattle.zarrs_block.specs.Meaning.{Means, node, bad}
-use Rattle.zarrs_block.specs.Small.{small_meaning_in, small, counted_members}
+use Rattle.zarrs_meaning.specs.Meaning.{Means, node, bad}
+use Rattle.zarrs_meaning.specs.Small.{small_meaning_in, small, counted_members}
 use Rattle.zarrs_block.specs.Zmetadata.{HoldsStoreIn, IsCleanIn, before_last}
 use Rattle.zarrs_block.proofs.SmallStores.{as_read, before_last-child, same_key, get_based, based_read}
 use Rattle.zarrs_block.proofs.SmallBlocks.{document_or_none, store_law}

@@ -1,5 +1,4 @@
 pub mod LastNames
-pub mod ListedKeys
 pub mod Latest
 pub mod PairsInBlocks
 pub mod BlockTexts
@@ -10,5 +9,3 @@ pub mod Leads
 pub mod MeaningsAnew
 pub mod Current
 pub mod ListedBlocks
-pub mod DocumentsSet
-pub mod ErasedDocuments

@@ -21,9 +21,9 @@ use Rattle.zarrs_block.specs.Block.{Block}
 use Rattle.zarrs_config.specs.declared.version.UseConsolidatedMetadata.{UseConsolidatedMetadata}
 use Rattle.zarrs_config.specs.declared.version.UseConsolidatedMetadata.TheVariants.{Never}
 use Rattle.zarrs_block.specs.Policy.{node_block, LacksBlockMemory}
-use Rattle.zarrs_block.specs.Refusals.{IsExcused}
+use Rattle.zarrs_meaning.specs.Refusals.{IsExcused}
 use Rattle.zarrs_block.specs.Zmetadata.{zmetadata_in, zmetadata_members_in, HoldsStoreIn, IsCleanIn}
-use Rattle.zarrs_block.specs.declared.node_create_error.NodeCreateError.{NodeCreateError}
+use Rattle.zarrs_meaning.specs.declared.node_create_error.NodeCreateError.{NodeCreateError}
 
 -- the block that the document `.zmetadata` of b is, where it is there and reads as one in the numbers of the store
 abbrev pub zmetadata_at : Contents → Path → Option Block

@@ -16,7 +16,7 @@ use Rattle.zarrs_meta.specs.declared.node.NodeMetadata.TheVariants.{Group}
 use Rattle.zarrs_config.specs.declared.version.MetadataRetrieveVersion.{MetadataRetrieveVersion}
 use Rattle.zarrs_config.specs.declared.version.UseConsolidatedMetadata.TheVariants.{Never}
 use Rattle.zarrs_block.specs.Block.{Block, IsAscending, IsBlockOf}
-use Rattle.zarrs_block.specs.Meaning.{meaning}
+use Rattle.zarrs_meaning.specs.Meaning.{meaning}
 use Rattle.zarrs_node.specs.Nodes.{Nodes}
 use Rattle.zarrs_node.specs.Forest.{Forest, pairs, IsPlaced}
 use Rattle.zarrs_node.specs.OpeningNodes.{ShowsBelow}

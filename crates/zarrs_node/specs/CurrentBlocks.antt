@@ -14,12 +14,12 @@ use Rattle.zarrs_meta.specs.declared.node.NodeMetadata.{NodeMetadata}
 use Rattle.zarrs_config.specs.declared.version.MetadataRetrieveVersion.{MetadataRetrieveVersion}
 use Rattle.zarrs_block.specs.Block.{Block, Entries, node_at_key}
 use Rattle.zarrs_block.specs.KeysAboutAPath.{IsAbout}
-use Rattle.zarrs_block.specs.declared.node_create_error.NodeCreateError.{NodeCreateError}
-use Rattle.zarrs_block.specs.Meaning.{Meaning, meaning, bad}
+use Rattle.zarrs_meaning.specs.declared.node_create_error.NodeCreateError.{NodeCreateError}
+use Rattle.zarrs_meaning.specs.Meaning.{Meaning, meaning, bad}
 use Rattle.zarrs_node.specs.Reach.{HasGroup, Reached}
 use Rattle.zarrs_node.specs.Nodes.{Means, MeansNode, Bad, ShowsBad}
 use Rattle.zarrs_node.specs.BlocksOfNodes.{text_beyond}
-use Rattle.zarrs_block.specs.Meaning.{Pair}
+use Rattle.zarrs_meaning.specs.Meaning.{Pair}
 
 -- p is below b, and the block has a group at each path strictly between
 abbrev pub LeadsTo : Block → Path → Path → Type 0

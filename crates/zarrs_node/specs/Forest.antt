@@ -10,7 +10,7 @@ use Rattle.zarrs_node.specs.declared.node.Node.{Node}
 use Rattle.zarrs_node.specs.declared.node.Node.TheOpen.{Node-F}
 use Rattle.zarrs_node.specs.declared.node.Node.TheFolds.{fold-Node}
 use Rattle.zarrs_node.specs.declared.node.Node.TheViews.{out-Node}
-use Rattle.zarrs_block.specs.Meaning.{Pair}
+use Rattle.zarrs_meaning.specs.Meaning.{Pair}
 
 -- a forest is none, or a first tree, by its path, its metadata and the forest below it, and the trees after it
 pub data Forest : Type 0 where

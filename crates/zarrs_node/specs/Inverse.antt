@@ -12,10 +12,10 @@ use Rattle.zarrs_meta.specs.Node.{is_plain_node_in}
 use Rattle.zarrs_block.specs.Block.{Block, Entries, HasPlainNodesIn, HasValidKeys, IsAscending, IsBlockOf}
 use Rattle.zarrs_block.specs.Block.{block_of_in, block_tree}
 use Rattle.zarrs_node.specs.Forest.{Forest, pairs, IsPlaced, Shows}
-use Rattle.zarrs_block.specs.Meaning.{Meaning}
+use Rattle.zarrs_meaning.specs.Meaning.{Meaning}
 use Rattle.zarrs_node.specs.Nodes.{Means}
 use Rattle.zarrs_node.specs.Reach.{Kept, Closed}
-use Rattle.zarrs_block.specs.Meaning.{Pair}
+use Rattle.zarrs_meaning.specs.Meaning.{Pair}
 
 -- each path is b and one or more names
 abbrev pub HasNames : Path → List Pair → Type 0

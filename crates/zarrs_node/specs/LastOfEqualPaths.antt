@@ -13,7 +13,7 @@ use Rattle.zarrs_path.specs.Paths.{Path, IsPath, path_eq, path_cmp}
 use Rattle.zarrs_meta.specs.Node.{is_group}
 use Rattle.zarrs_meta.specs.declared.node.NodeMetadata.{NodeMetadata}
 use Rattle.zarrs_node.specs.Forest.{Forest, none, tree, pairs, IsChildOf}
-use Rattle.zarrs_block.specs.Meaning.{Pair}
+use Rattle.zarrs_meaning.specs.Meaning.{Pair}
 
 -- of the pairs of xs that have its path, e is the last
 abbrev pub IsLatest : List Pair → Pair → Type 0

@@ -4,11 +4,11 @@ use Rattle.std.specs.Prelude.{◌≡◌, Bool, true, List, Contains, ◌↔◌, 
 use Rattle.zarrs_path.specs.Paths.{Path, IsPath, IsBelow}
 use Rattle.zarrs_node.specs.Forest.{Forest, pairs, IsPlaced, ArePlacedBelow, Shows}
 use Rattle.zarrs_node.specs.Lines.{IsLines, preorder}
-use Rattle.zarrs_block.specs.Meaning.{Meaning}
+use Rattle.zarrs_meaning.specs.Meaning.{Meaning}
 use Rattle.zarrs_node.specs.Nodes.{Means}
 use Rattle.zarrs_node.specs.Reach.{Kept, Closed}
 use Rattle.zarrs_node.specs.Order.{Ascend}
-use Rattle.zarrs_block.specs.Meaning.{Pair}
+use Rattle.zarrs_meaning.specs.Meaning.{Pair}
 
 -- Two placed forests with the same pairs are one.
 abbrev pub OneForest : Type 0

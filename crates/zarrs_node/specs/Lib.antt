@@ -2,7 +2,6 @@ pub mod BlocksBelow
 pub mod BlocksOfNodes
 pub mod Changes
 pub mod CurrentBlocks
-pub mod Exists
 pub mod Faults
 pub mod Forest
 pub mod Inverse
@@ -15,13 +14,10 @@ pub mod OpeningNodes
 pub mod Order
 pub mod StepsOfGrafts
 pub mod Reach
-pub mod Refusals
 pub mod Sinks
 pub mod Small
 pub mod StepsOfBlocks
-pub mod StepsOfDocuments
 pub mod StepsOfTheWalk
 pub mod StepsOfTrees
 pub mod StepsOfPreorder
 pub mod StepsOfCounting
-pub mod MapsOfNodes

@@ -16,7 +16,7 @@ use Rattle.zarrs_meta.specs.declared.node.NodeMetadata.TheVariants.{Group, Array
 use Rattle.zarrs_node.specs.Forest.{Forest, none, tree}
 use Rattle.zarrs_node.specs.Order.{Ascend}
 use Rattle.zarrs_fault.specs.Bytes.{newline, space}
-use Rattle.zarrs_block.specs.Meaning.{Pair}
+use Rattle.zarrs_meaning.specs.Meaning.{Pair}
 
 -- The lengths of a shape in decimal, with a comma and a space between each two, in brackets.
 abbrev pub shape_text : List ℕ → List ℕ

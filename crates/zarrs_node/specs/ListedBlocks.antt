@@ -8,7 +8,7 @@ use Rattle.zarrs_store.specs.Contents.{Contents}
 use Rattle.zarrs_path.specs.Paths.{Path, IsPath, IsBelow}
 use Rattle.zarrs_config.specs.declared.version.MetadataRetrieveVersion.{MetadataRetrieveVersion}
 use Rattle.zarrs_block.specs.Block.{Block, IsAscending, IsBlockOf}
-use Rattle.zarrs_block.specs.Meaning.{meaning}
+use Rattle.zarrs_meaning.specs.Meaning.{meaning}
 use Rattle.zarrs_node.specs.Nodes.{Nodes, HasNothingBad}
 use Rattle.zarrs_node.specs.CurrentBlocks.{LeadsTo, IsFresh, BadAnew}
 use Rattle.zarrs_node.specs.Changes.{AgreesOutside}

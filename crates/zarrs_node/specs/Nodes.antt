@@ -4,18 +4,18 @@
 -- a store of bytes stand last.
 -- <https://zarr-specs.readthedocs.io/en/latest/v3/core/index.html#hierarchy>
 -- <https://zarr-specs.readthedocs.io/en/latest/v3/core/index.html#node-names>
-use Rattle.std.specs.Prelude.{◌≡◌, ◌≢◌, ℕ, Bool, List, [], ◌∷◌, ◌++◌, IsTrue, ◌⊎◌}
+use Rattle.std.specs.Prelude.{◌≡◌, ◌≢◌, ℕ, Bool, true, List, [], ◌∷◌, ◌++◌, IsTrue, ◌⊎◌}
 use Rattle.zarrs_store.specs.Contents.{Contents, HasBelow}
 use Rattle.zarrs_path.specs.Names.{is_all_periods}
 use Rattle.zarrs_path.specs.Paths.{Path}
 use Rattle.zarrs_config.specs.declared.version.MetadataRetrieveVersion.{MetadataRetrieveVersion}
-use Rattle.zarrs_block.specs.declared.node_create_error.NodeCreateError.{NodeCreateError}
-use Rattle.zarrs_block.specs.Meaning.{Meaning, meaning, nothing, bad}
+use Rattle.zarrs_meaning.specs.declared.node_create_error.NodeCreateError.{NodeCreateError}
+use Rattle.zarrs_meaning.specs.Meaning.{Meaning, meaning, nothing, bad}
 use Rattle.zarrs_node.specs.Reach.{Reached, Opens, Kept}
-use Rattle.zarrs_block.specs.Refusals.{IsInvalidPath}
-use Rattle.zarrs_block.specs.Meaning.{Pair}
+use Rattle.zarrs_meaning.specs.Refusals.{IsInvalidPath}
+use Rattle.zarrs_meaning.specs.Meaning.{Pair}
 -- `Means of`: the paths that mean nodes, with their metadata
-pub use Rattle.zarrs_block.specs.Meaning.{Means}
+pub use Rattle.zarrs_meaning.specs.Meaning.{Means}
 
 -- the reached paths that mean nothing and have a key below them
 abbrev pub IgnoredIn : (Path → Meaning) → (Path → Type 0) → Bool → Path → Path → Type 0
@@ -71,3 +71,13 @@ HasNothingBad s v recursive b = Bad s v recursive b → ⊥
 -- the refusal e is what a reached path means, or names the path of a child with a name of periods only
 abbrev pub ShowsBad : Contents → MetadataRetrieveVersion → Bool → Path → NodeCreateError → Type 0
 ShowsBad s v = ShowsBadIn (meaning s v) (HasBelow s.values)
+
+-- ---- a node and those below it
+
+-- p is b, or is reached from it
+abbrev pub StandsFrom : Contents → MetadataRetrieveVersion → Path → Path → Type 0
+StandsFrom s v b p = (p ≡ b) ⊎ Reached (MeansNode s v) true b p
+
+-- b and the reached paths, where they mean nodes, with their metadata
+abbrev pub NodesFrom : Contents → MetadataRetrieveVersion → Path → Pair → Type 0
+NodesFrom s v b e = StandsFrom s v b e.0 × MeansNode s v e

@@ -21,10 +21,10 @@ use Rattle.zarrs_config.specs.declared.version.UseConsolidatedMetadata.{UseConso
 use Rattle.zarrs_block.specs.Block.{Entries, HasValidKeys}
 use Rattle.zarrs_block.specs.BlockExpansion.{NamesBadKey}
 use Rattle.zarrs_block.specs.Policy.{Choice, use_block, list_store, refuse, block_to_use, RefusesUse}
-use Rattle.zarrs_block.specs.Refusals.{IsMissing}
-use Rattle.zarrs_block.specs.declared.node_create_error.NodeCreateError.{NodeCreateError}
-use Rattle.zarrs_block.specs.declared.node_create_error.NodeCreateError.TheVariants.{NodePathError}
-use Rattle.zarrs_block.specs.Meaning.{meaning, node, nothing, bad}
+use Rattle.zarrs_meaning.specs.Refusals.{IsMissing}
+use Rattle.zarrs_meaning.specs.declared.node_create_error.NodeCreateError.{NodeCreateError}
+use Rattle.zarrs_meaning.specs.declared.node_create_error.NodeCreateError.TheVariants.{NodePathError}
+use Rattle.zarrs_meaning.specs.Meaning.{meaning, node, nothing, bad}
 use Rattle.zarrs_node.specs.Forest.{Forest, none, Shows, path_of, metadata_of, below_of}
 use Rattle.zarrs_node.specs.declared.node.Node.{Node}
 use Rattle.zarrs_node.specs.BlocksBelow.{block_at}

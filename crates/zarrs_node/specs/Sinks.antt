@@ -7,7 +7,7 @@ use Rattle.std.specs.Prelude.{◌≡◌, List, [], ◌∷◌, ◌++◌}
 use Rattle.std.specs.Global.{Vec}
 use Rattle.zarrs_path.specs.Paths.{Path}
 use Rattle.zarrs_node.specs.Forest.{Forest, Shows, pairs}
-use Rattle.zarrs_block.specs.Meaning.{Pair}
+use Rattle.zarrs_meaning.specs.Meaning.{Pair}
 
 -- z came of a by taking each of es in their order, where R x e y says that y came of x by taking e
 abbrev pub TakesAll : {S A : Type 0} → (S → A → S → Type 0) → S → List A → S → Type 0

@@ -10,12 +10,12 @@ use Rattle.zarrs_store.specs.Contents.{HasBelow}
 use Rattle.zarrs_fault.specs.declared.numbers.Numbers.{Numbers}
 use Rattle.zarrs_path.specs.Paths.{Path}
 use Rattle.zarrs_block.specs.Block.{Block, Entries, HasValidKeys}
-use Rattle.zarrs_block.specs.Meaning.{Means}
-use Rattle.zarrs_block.specs.Small.{SmallStore, small, small_meaning_in}
+use Rattle.zarrs_meaning.specs.Meaning.{Means}
+use Rattle.zarrs_meaning.specs.Small.{SmallStore, small, small_meaning_in}
 use Rattle.zarrs_block.specs.Zmetadata.{zmetadata_in, zmetadata_members_in}
 use Rattle.zarrs_node.specs.Reach.{Kept}
 use Rattle.zarrs_node.specs.Nodes.{BadIn}
-use Rattle.zarrs_block.specs.Meaning.{Pair}
+use Rattle.zarrs_meaning.specs.Meaning.{Pair}
 
 -- the nodes of a small store below b, whose documents may hold these numbers
 abbrev pub SmallNodes : Numbers → SmallStore → Path → Pair → Type 0

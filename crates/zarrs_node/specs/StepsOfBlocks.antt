@@ -3,7 +3,7 @@ use Rattle.std.specs.Prelude.{List, [], ◌∷◌, Contains}
 use Rattle.zarrs_path.specs.Paths.{Path, IsPath, IsBelow}
 use Rattle.zarrs_block.specs.Block.{Block, put}
 use Rattle.zarrs_node.specs.BlocksOfNodes.{text_beyond}
-use Rattle.zarrs_block.specs.Meaning.{Pair}
+use Rattle.zarrs_meaning.specs.Meaning.{Pair}
 
 -- b is a proper beginning of the path of each pair
 abbrev pub ArePairsBelow : Path → List Pair → Type 0

@@ -4,11 +4,11 @@ use Rattle.std.specs.Prelude.{◌≡◌, ℕ, Bool, List, [], ◌∷◌, ◌++�
 use Rattle.zarrs_store.specs.Contents.{Contents}
 use Rattle.zarrs_store.specs.declared.storage_error.StorageError.TheVariants.{InvalidMetadata, Other}
 use Rattle.zarrs_config.specs.declared.version.MetadataRetrieveVersion.{MetadataRetrieveVersion}
-use Rattle.zarrs_block.specs.Meaning.{meaning, bad}
-use Rattle.zarrs_block.specs.declared.node_create_error.NodeCreateError.{NodeCreateError}
-use Rattle.zarrs_block.specs.declared.node_create_error.NodeCreateError.TheVariants.{StorageError}
-use Rattle.zarrs_block.specs.declared.node_create_error.NodeCreateError.TheVariants.{MetadataVersionMismatch}
-use Rattle.zarrs_node.specs.StepsOfDocuments.{Finds}
+use Rattle.zarrs_meaning.specs.Meaning.{meaning, bad}
+use Rattle.zarrs_meaning.specs.declared.node_create_error.NodeCreateError.{NodeCreateError}
+use Rattle.zarrs_meaning.specs.declared.node_create_error.NodeCreateError.TheVariants.{StorageError}
+use Rattle.zarrs_meaning.specs.declared.node_create_error.NodeCreateError.TheVariants.{MetadataVersionMismatch}
+use Rattle.zarrs_meaning.specs.Refusals.{Finds}
 use Rattle.zarrs_node.specs.declared.descent.Child.{Child}
 use Rattle.zarrs_node.specs.declared.descent.Child.TheVariants.{Read, Told}
 use Rattle.zarrs_node.specs.declared.fault.NodeFault.{NodeFault}

@@ -7,7 +7,7 @@ use Rattle.zarrs_meta.specs.declared.node.NodeMetadata.{NodeMetadata}
 use Rattle.zarrs_node.specs.declared.node.Node.{Node}
 use Rattle.zarrs_node.specs.declared.node.Node.TheViews.{out-Node}
 use Rattle.zarrs_node.specs.Forest.{Forest, none, tree, forest, IsChildOf}
-use Rattle.zarrs_block.specs.Meaning.{Pair}
+use Rattle.zarrs_meaning.specs.Meaning.{Pair}
 
 -- the trees of f, and then those of g
 abbrev pub graft : Forest → Forest → Forest

@@ -1,7 +1,7 @@
 //! The nodes below a path, where what is passed over is warned of.
 ghost use Rattle.std.specs.Prelude.{IfOk, IfErr, true};
 ghost use Rattle.zarrs_store.specs.Contents.{Lists};
-ghost use Rattle.zarrs_block.specs.Refusals.{IsExcusedOr};
+ghost use Rattle.zarrs_meaning.specs.Refusals.{IsExcusedOr};
 ghost use Rattle.zarrs_node.specs.Forest.{Shows, forest};
 ghost use Rattle.zarrs_node.specs.Nodes.{Nodes, ShowsBad, HasNothingBad};
 ghost use Rattle.zarrs_block.specs.Block.{IsAscending, IsBlockOf};
@@ -13,8 +13,9 @@ use crate::node::Node;
 use crate::refresh::insert_pairs;
 use log::{Log, target_or, warn};
 use std::alloc::Global;
-use zarrs_block::{ConsolidatedMetadataMetadata, NodeCreateError};
+use zarrs_block::ConsolidatedMetadataMetadata;
 use zarrs_config::MetadataRetrieveVersion;
+use zarrs_meaning::NodeCreateError;
 use zarrs_meta::NodeMetadata;
 use zarrs_path::NodePath;
 use zarrs_store::{ListableStorageTraits, ReadableStorageTraits};

@@ -3,23 +3,21 @@ ghost use Rattle.std.specs.Prelude.{◌≡◌, [], ◌++◌, Ok, false, true, If
 ghost use Rattle.zarrs_store.specs.Segments.{IsPrefix};
 ghost use Rattle.zarrs_store.specs.Contents.{Lists};
 ghost use Rattle.zarrs_path.specs.Paths.{IsPath};
-ghost use Rattle.zarrs_block.specs.Meaning.{meaning, bad};
-ghost use Rattle.zarrs_block.specs.Refusals.{IsExcused, IsInvalidPath, IsExcusedOr};
+ghost use Rattle.zarrs_meaning.specs.Meaning.{meaning, bad};
+ghost use Rattle.zarrs_meaning.specs.Refusals.{IsExcused, IsInvalidPath, IsExcusedOr};
 ghost use Rattle.zarrs_node.specs.StepsOfTrees.{own_node, paths_passed, is_group_found};
 ghost use Rattle.zarrs_node.specs.Nodes.{Nodes, Ignored, ShowsBad, HasNothingBad};
 ghost use Rattle.zarrs_node.specs.Faults.{Faults, FaultsAscend, PathsAscend};
-ghost use Rattle.zarrs_node.specs.StepsOfDocuments.{Finds};
+ghost use Rattle.zarrs_meaning.specs.Refusals.{Finds};
 ghost use Rattle.zarrs_node.specs.Sinks.{TakesAll, TakesForest};
 ghost use Rattle.zarrs_node.specs.declared.descent.Child.TheVariants.{Told};
 ghost use Rattle.zarrs_node.specs.StepsOfTheWalk.{AreOnTop, IsPathAndOne, IsReadOrTold};
 
 use crate::fault::NodeFault;
-use crate::last_read::LastDocuments;
-use crate::metadata::find_metadata;
 use crate::sink::NodeSink;
 use std::alloc::{AllocError, Global};
-use zarrs_block::NodeCreateError;
 use zarrs_config::MetadataRetrieveVersion;
+use zarrs_meaning::{LastDocuments, NodeCreateError, find_metadata};
 use zarrs_meta::NodeMetadata;
 use zarrs_path::NodePath;
 use zarrs_store::{

@@ -2,7 +2,7 @@
 ghost use Rattle.std.specs.Prelude.{◌≡◌};
 ghost use Rattle.zarrs_node.specs.StepsOfTheWalk.{fault_of};
 
-use zarrs_block::NodeCreateError;
+use zarrs_meaning::NodeCreateError;
 use zarrs_store::StorageError;
 
 /// What is bad at a path on the way of a walk.

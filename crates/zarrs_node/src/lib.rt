@@ -7,11 +7,8 @@ mod children;
 mod consolidate;
 mod copies;
 mod descent;
-pub mod documents;
-mod exists;
 mod fault;
 mod last_name;
-mod last_read;
 pub mod laws;
 mod listing;
 mod metadata;
@@ -29,7 +26,6 @@ pub use children::{
     warn_ignored,
 };
 pub use descent::{WalkedPast, walk_nodes, walk_past_faults};
-pub use exists::{node_exists, node_exists_listable};
 pub use fault::NodeFault;
 pub use listing::{ListedNodes, list_nodes};
 pub use node::Node;

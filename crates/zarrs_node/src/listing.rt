@@ -1,7 +1,7 @@
 //! The nodes below a path.
 ghost use Rattle.std.specs.Prelude.{IfOk, IfErr};
 ghost use Rattle.zarrs_store.specs.Contents.{Lists};
-ghost use Rattle.zarrs_block.specs.Refusals.{IsExcusedOr};
+ghost use Rattle.zarrs_meaning.specs.Refusals.{IsExcusedOr};
 ghost use Rattle.zarrs_node.specs.Forest.{Shows, forest};
 ghost use Rattle.zarrs_node.specs.Nodes.{Nodes, Ignored, ShowsBad, HasNothingBad};
 
@@ -9,8 +9,8 @@ use crate::build::build_ascending;
 use crate::descent::walk_nodes;
 use crate::node::Node;
 use std::alloc::Global;
-use zarrs_block::NodeCreateError;
 use zarrs_config::MetadataRetrieveVersion;
+use zarrs_meaning::NodeCreateError;
 use zarrs_path::NodePath;
 use zarrs_store::{ListableStorageTraits, ReadableStorageTraits};
 

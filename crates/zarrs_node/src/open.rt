@@ -1,8 +1,8 @@
 //! Opening a node of a store.
 ghost use Rattle.std.specs.Prelude.{◌≡◌, true, IfOk, IfErr};
 ghost use Rattle.zarrs_path.specs.Paths.{path_text};
-ghost use Rattle.zarrs_block.specs.Refusals.{IsExcusedOr};
-ghost use Rattle.zarrs_block.specs.Meaning.{meaning, node};
+ghost use Rattle.zarrs_meaning.specs.Refusals.{IsExcusedOr};
+ghost use Rattle.zarrs_meaning.specs.Meaning.{meaning, node};
 ghost use Rattle.zarrs_block.specs.Block.{Entries, HasValidKeys};
 ghost use Rattle.zarrs_block.specs.BlockExpansion.{RefusesKeys};
 ghost use Rattle.zarrs_node.specs.Forest.{Shows, forest, path_of, metadata_of, HasPlacedChildren};
@@ -16,8 +16,9 @@ use crate::node::Node;
 use crate::zmetadata::consolidated_metadata_at;
 use log::Log;
 use std::alloc::Global;
-use zarrs_block::{ConsolidatedMetadata, NodeCreateError, expand_consolidated_metadata};
+use zarrs_block::{ConsolidatedMetadata, expand_consolidated_metadata};
 use zarrs_config::{Config, MetadataRetrieveVersion};
+use zarrs_meaning::NodeCreateError;
 use zarrs_meta::NodeMetadata;
 use zarrs_path::NodePath;
 use zarrs_store::{ListableStorageTraits, ReadableStorageTraits};

@@ -1,10 +1,10 @@
 //! A block made current where the documents of one path changed.
-ghost use Rattle.std.specs.Prelude.{◌≡◌, ◌↔◌, ◌∷◌, IfOk, IfErr, OnOk, IsTrue, Contains};
+ghost use Rattle.std.specs.Prelude.{◌≡◌, ◌↔◌, ◌∷◌, IfOk, IfErr, OnOk, IsTrue};
 ghost use Rattle.zarrs_store.specs.Contents.{Lists};
 ghost use Rattle.zarrs_path.specs.Paths.{IsBelow, IsPath, Path, without_leading_slash};
 ghost use Rattle.zarrs_block.specs.Block.{Entries, IsAscending};
-ghost use Rattle.zarrs_block.specs.Refusals.{IsExcusedOr};
-ghost use Rattle.zarrs_block.specs.Meaning.{meaning};
+ghost use Rattle.zarrs_meaning.specs.Refusals.{IsExcusedOr};
+ghost use Rattle.zarrs_meaning.specs.Meaning.{meaning};
 ghost use Rattle.zarrs_node.specs.Reach.{HasGroup};
 ghost use Rattle.zarrs_node.specs.BlocksOfNodes.{text_beyond};
 ghost use Rattle.zarrs_node.specs.StepsOfBlocks.{ArePairsBelow, put_all};
@@ -12,11 +12,10 @@ ghost use Rattle.zarrs_node.specs.CurrentBlocks.{LeadsTo, IsNewPair, IsFresh, Ba
 
 use crate::consolidate::text_beyond;
 use crate::descent::walk_nodes;
-use crate::last_read::LastDocuments;
-use crate::metadata::find_metadata;
 use std::alloc::{AllocError, Global};
-use zarrs_block::{ConsolidatedMetadataMetadata, NodeCreateError};
+use zarrs_block::ConsolidatedMetadataMetadata;
 use zarrs_config::MetadataRetrieveVersion;
+use zarrs_meaning::{NodeCreateError, metadata_at};
 use zarrs_meta::NodeMetadata;
 use zarrs_path::{NodePath, without_leading_slash};
 use zarrs_store::{ListableStorageTraits, ReadableStorageTraits};
@@ -154,10 +153,7 @@ fn read_anew<S: ReadableStorageTraits + ListableStorageTraits>(
         (IsExcusedOr (S.can_fail storage.now)
         (ShowsBadAnew (S.contents storage.now) version.now path.now)) }
 {
-    let prefix = path.to_prefix(alloc)?;
-    let mut last = LastDocuments::new(alloc);
-    let found = find_metadata(alloc, storage, &prefix, version, &mut last);
-    drop(last);
+    let found = metadata_at(alloc, storage, path, version);
     let mut pairs = Vec::new(alloc);
     let Some(metadata) = found? else {
         return Ok(pairs);

@@ -1,23 +1,20 @@
 //! The consolidated metadata of a node, where they stand in a store.
 ghost use Rattle.std.specs.Prelude.{◌≡◌, Ok, None, IfOk, IfErr, IfSome, ◌⊎◌};
 ghost use Rattle.zarrs_store.specs.Faults.{IsStoreError};
-ghost use Rattle.zarrs_form.specs.Documents.{Gives, of_bytes};
 ghost use Rattle.zarrs_config.specs.declared.version.UseConsolidatedMetadata.TheVariants.{Never};
 ghost use Rattle.zarrs_block.specs.Policy.{as_block, as_choice, RefusesUse};
-ghost use Rattle.zarrs_block.specs.Zmetadata.{zmetadata_in};
 ghost use Rattle.zarrs_node.specs.BlocksBelow.{zmetadata_at, ExcusesBlock, HoldsZmetadata};
 ghost use Rattle.zarrs_node.specs.OpeningNodes.{choice};
 
 use std::alloc::Global;
 use zarrs_block::{
-    ConsolidatedMetadata, NodeCreateError, consolidated_metadata_for_open_in,
-    resolve_consolidated_policy,
+    ConsolidatedMetadata, consolidated_metadata_for_open_in, resolve_consolidated_policy,
 };
 use zarrs_config::UseConsolidatedMetadata;
-use zarrs_form::parse;
+use zarrs_meaning::NodeCreateError;
 use zarrs_meta::{GroupMetadata, NodeMetadata};
 use zarrs_path::{NodePath, meta_key_v2_consolidated};
-use zarrs_store::{MetadataFault, Numbers, ReadableStorageTraits, StorageError};
+use zarrs_store::{MetadataFault, ReadableStorageTraits, StorageError};
 
 /// The block that is used of a node at a path of a store. A version 2 group has it in the document `.zmetadata` beside its own, and any
 /// other node in its metadata, as [`consolidated_metadata_for_open_in`] says. It is read in the numbers of the store. Under `Never`
@@ -81,21 +78,9 @@ pub fn zmetadata_at<S: ReadableStorageTraits>(
     let Some(bytes) = storage.get(alloc, &key)? else {
         return Ok(None);
     };
-    match block_of_bytes(alloc, storage.numbers(), &bytes) {
+    match ConsolidatedMetadata::from_zmetadata_bytes_in(alloc, storage.numbers(), &bytes) {
         Ok(block) => Ok(Some(block)),
         Err(MetadataFault::OutOfMemory) => Err(StorageError::OutOfMemory),
         Err(_) => Ok(None),
     }
-}
-
-// The block that the bytes of a document `.zmetadata` are, whose numbers may be these.
-fn block_of_bytes(
-    alloc: Global,
-    numbers: Numbers,
-    bytes: &[u8],
-) -> Result<ConsolidatedMetadata, MetadataFault>
-    ensures { Gives (λ block. block.metadata) result
-        (of_bytes (zmetadata_in numbers) bytes.now) }
-{
-    ConsolidatedMetadata::from_owned_zmetadata_in(alloc, numbers, parse(alloc, bytes)?)
 }

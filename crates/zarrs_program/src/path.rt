@@ -4,7 +4,7 @@ ghost use Rattle.zarrs_path.specs.Paths.{IsPath, path_text};
 ghost use Rattle.zarrs_program.specs.Words.{RefusesPathText};
 
 use std::alloc::Global;
-use zarrs_block::NodeCreateError;
+use zarrs_meaning::NodeCreateError;
 use zarrs_path::NodePath;
 
 /// The path with this text, as a word of a command names it.

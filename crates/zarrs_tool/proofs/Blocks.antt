@@ -16,9 +16,9 @@ use Rattle.zarrs_meta.specs.Node.{is_group}
 use Rattle.zarrs_meta.specs.declared.node.NodeMetadata.{NodeMetadata}
 use Rattle.zarrs_meta.specs.declared.node.NodeMetadata.TheVariants.{Group, Array}
 use Rattle.zarrs_block.specs.Block.{Block, HasPlainNodesIn, IsAscending, IsBlockOf, block_of, block_of_in, block_tree}
-use Rattle.zarrs_block.specs.Meaning.{Means, meaning, node, nothing, bad}
-use Rattle.zarrs_block.specs.Refusals.{IsExcused, IsMissing}
-use Rattle.zarrs_block.specs.declared.node_create_error.NodeCreateError.{NodeCreateError}
+use Rattle.zarrs_meaning.specs.Meaning.{Means, meaning, node, nothing, bad}
+use Rattle.zarrs_meaning.specs.Refusals.{IsExcused, IsMissing}
+use Rattle.zarrs_meaning.specs.declared.node_create_error.NodeCreateError.{NodeCreateError}
 use Rattle.zarrs_node.specs.Nodes.{Nodes, Bad, ShowsBad}
 use Rattle.zarrs_block.proofs.BlockReads.{block_again}
 use Rattle.zarrs_node.proofs.Inverse.{kept_reads_back}
@@ -28,7 +28,7 @@ use Rattle.zarrs_tool.specs.Output.{IsBlockText}
 use Rattle.zarrs_tool.specs.declared.fault.ToolFault.{ToolFault}
 use Rattle.zarrs_tool.specs.declared.fault.ToolFault.TheVariants.{Node}
 use Rattle.zarrs_tool.specs.StepsOfRuns.{IsArray, RefusesOpen, IsBlockFault}
-use Rattle.zarrs_node.proofs.PlainMeanings.{plain_node}
+use Rattle.zarrs_meaning.proofs.PlainMeanings.{plain_node}
 
 -- what was read as a document has numbers that fit
 fits_first : (b : Bool) (d : Data) (rest : Members → Result Block MetadataFault) (B : Block) → ((if b then Err UnsupportedNumber else object_of d) >>= rest) ≡ Ok B → b ≡ false

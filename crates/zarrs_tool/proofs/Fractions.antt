@@ -14,7 +14,7 @@ use Rattle.zarrs_block.specs.Block.{Block, HasPlainNodesIn, IsAscending, IsBlock
 use Rattle.zarrs_block.proofs.BlockLaws.{shown}
 use Rattle.zarrs_block.proofs.Expansion.{found_all}
 use Rattle.zarrs_node.specs.Nodes.{Nodes}
-use Rattle.zarrs_node.proofs.PlainMeanings.{plain_node}
+use Rattle.zarrs_meaning.proofs.PlainMeanings.{plain_node}
 use Rattle.zarrs_tool.specs.Output.{in_whole_numbers}
 use Rattle.zarrs_tool.specs.Refusals.{ShowsFraction}
 use Rattle.zarrs_tool.specs.StepsOfRuns.{HasFractionAt, IsBlockFault, IsFractionFault}

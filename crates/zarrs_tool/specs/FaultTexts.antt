@@ -2,7 +2,7 @@
 -- <https://zarr-specs.readthedocs.io/en/latest/v3/core/index.html#hierarchy>
 use Rattle.std.specs.Prelude.{ℕ, List, ◌++◌, codes}
 use Rattle.zarrs_path.specs.Paths.{path_text}
-use Rattle.zarrs_block.specs.ErrorTexts.{error_text}
+use Rattle.zarrs_meaning.specs.ErrorTexts.{error_text}
 use Rattle.zarrs_load.specs.FaultTexts.{load_fault_text}
 use Rattle.zarrs_load.specs.declared.fault.LoadFault.TheVariants as load
 use Rattle.zarrs_program.specs.FaultTexts.{write_fault_text}

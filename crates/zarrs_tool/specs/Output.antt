@@ -19,7 +19,7 @@ use Rattle.zarrs_meta.specs.declared.node.NodeMetadata.TheVariants.{Group}
 use Rattle.zarrs_config.specs.declared.version.MetadataRetrieveVersion.TheVariants.{Default}
 use Rattle.zarrs_config.specs.declared.version.UseConsolidatedMetadata.TheVariants.{Auto}
 use Rattle.zarrs_block.specs.Block.{Block, IsAscending, IsBlockOf, block_tree}
-use Rattle.zarrs_block.specs.Meaning.{meaning, node}
+use Rattle.zarrs_meaning.specs.Meaning.{meaning, node}
 use Rattle.zarrs_node.specs.Order.{Ascend}
 use Rattle.zarrs_node.specs.Nodes.{Nodes, HasNothingBad}
 use Rattle.zarrs_group.specs.StoredTexts.{pretty_text}
@@ -30,7 +30,7 @@ pub use Rattle.zarrs_program.specs.Words.{texts}
 use Rattle.zarrs_tool.specs.declared.run.Word.{Word}
 use Rattle.zarrs_tool.specs.declared.run.Word.TheVariants.{Children, List as ListAll, Tree, Consolidate}
 use Rattle.zarrs_fault.specs.Bytes.{newline}
-use Rattle.zarrs_block.specs.Meaning.{Pair}
+use Rattle.zarrs_meaning.specs.Meaning.{Pair}
 
 -- how a command's first word is written
 abbrev pub word_text : Word → List ℕ

@@ -4,7 +4,7 @@ use Rattle.std.specs.Prelude.{◌≡◌, [], ◌∷◌, ◌++◌}
 use Rattle.zarrs_path.specs.Paths.{path_text}
 use Rattle.zarrs_tool.specs.declared.run.PathLines.{PathLines}
 use Rattle.zarrs_fault.specs.Bytes.{newline}
-use Rattle.zarrs_block.specs.Meaning.{Pair}
+use Rattle.zarrs_meaning.specs.Meaning.{Pair}
 
 -- the line of the node's path was put behind the others
 abbrev pub AppendsLine : PathLines → Pair → PathLines → Type 0

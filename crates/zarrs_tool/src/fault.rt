@@ -6,8 +6,8 @@ ghost use Rattle.zarrs_tool.specs.declared.fault.ToolFault.TheVariants.{Node, Ou
 use std::alloc::{AllocError, AllocFailed};
 use std::error::Error;
 use std::fmt;
-use zarrs_block::NodeCreateError;
 use zarrs_load::LoadFault;
+use zarrs_meaning::NodeCreateError;
 use zarrs_path::NodePath;
 use zarrs_program::{WordsFault, WriteFault};
 

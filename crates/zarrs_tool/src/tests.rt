@@ -8,8 +8,8 @@ use log::sink::{Discard, Writer};
 use std::alloc::{AllocError, Global};
 use std::io;
 use std::io::{Error, ErrorKind, Read, Write};
-use zarrs_block::NodeCreateError;
 use zarrs_load::LoadFault;
+use zarrs_meaning::NodeCreateError;
 use zarrs_path::NodePath;
 
 const TWO_GROUPS: &str =

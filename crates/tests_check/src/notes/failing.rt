@@ -8,7 +8,7 @@ use std::alloc::{AllocError, Global};
 use std::test::Fail;
 use tests_fixtures::{ANY, key_of};
 use tests_support::{check_rows, fields, said};
-use zarrs_block::NodeCreateError;
+use zarrs_meaning::NodeCreateError;
 use zarrs_node::Node;
 use zarrs_notes::node_findings;
 use zarrs_path::NodePath;

@@ -6,7 +6,7 @@
 ghost use Rattle.std.specs.Prelude.{◌≡◌, true, IfOk, IfErr, OnOk, OnErr};
 ghost use Rattle.zarrs_store.specs.Contents.{Lists, of_entries};
 ghost use Rattle.zarrs_store.specs.Faults.{IsStoreError};
-ghost use Rattle.zarrs_block.specs.Refusals.{IsExcusedOr};
+ghost use Rattle.zarrs_meaning.specs.Refusals.{IsExcusedOr};
 ghost use Rattle.zarrs_node.specs.Forest.{Shows, forest};
 ghost use Rattle.zarrs_node.specs.Nodes.{Nodes, Ignored, ShowsBad, HasNothingBad};
 ghost use Rattle.zarrs_group.specs.Edits.{after, IsCutShort};
@@ -29,17 +29,17 @@ use tests_fixtures::{
     paths_listing_text, paths_text, policy_of, version_of,
 };
 use tests_support::{G3, check_rows, fields, refusal, said};
-use zarrs_block::{ConsolidatedMetadataMetadata, NodeCreateError};
+use zarrs_block::ConsolidatedMetadataMetadata;
 use zarrs_config::{
     Config, GroupMetadataOptions, MetadataEraseVersion, MetadataRetrieveVersion,
     UseConsolidatedMetadata,
 };
 use zarrs_group::{Group, GroupCreateError};
 use zarrs_hierarchy::Hierarchy;
+use zarrs_meaning::{NodeCreateError, node_exists, node_exists_listable};
 use zarrs_meta::NodeMetadata;
 use zarrs_node::{
-    ListedNodes, Node, get_all_nodes_of, get_child_nodes_opt, list_nodes, node_exists,
-    node_exists_listable, refresh_block,
+    ListedNodes, Node, get_all_nodes_of, get_child_nodes_opt, list_nodes, refresh_block,
 };
 use zarrs_path::NodePath;
 use zarrs_store::{

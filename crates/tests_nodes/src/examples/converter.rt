@@ -5,11 +5,11 @@ use std::alloc::{AllocError, Global};
 use std::test::Fail;
 use tests_fixtures::{config_of, key_of, no_word, node_text, store_of, version_of};
 use tests_support::{A3, G3, check_rows, fields, refusal, said};
-use zarrs_block::NodeCreateError;
 use zarrs_config::UseConsolidatedMetadata;
-use zarrs_examples::{ConvertError, convert_hierarchy, erase_version_2};
+use zarrs_examples::{ConvertError, convert_hierarchy, erase_version_2, laws};
+use zarrs_meaning::NodeCreateError;
 use zarrs_meta::{Document, NodeMetadata};
-use zarrs_node::{Node, laws};
+use zarrs_node::Node;
 use zarrs_path::NodePath;
 use zarrs_store::{
     AnyNumbers, ListableStorageTraits, MemoryStore, MetadataFault, ReadableStorageTraits,
@@ -393,4 +393,5 @@ fn the_laws_that_the_converter_stands_on_are_called(_rt: HostRuntime) {
     laws::erased_are_absent();
     laws::beside_means_same();
     laws::erased_show_same();
+    laws::whole_shows_the_same();
 }

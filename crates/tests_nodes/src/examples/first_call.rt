@@ -4,8 +4,8 @@ use std::alloc::{AllocError, Global};
 use std::test::Fail;
 use tests_fixtures::{ANY, store_of};
 use tests_support::{A3, G3, check_rows, printed, said};
-use zarrs_block::NodeCreateError;
 use zarrs_examples::is_group_at;
+use zarrs_meaning::NodeCreateError;
 use zarrs_path::NodePath;
 
 fn group_at(alloc: Global, path: &str) -> Result<bool, NodeCreateError> {

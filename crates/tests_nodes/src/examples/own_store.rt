@@ -4,8 +4,8 @@ use std::alloc::{AllocError, Global};
 use std::test::Fail;
 use tests_fixtures::{ANY, key_of, listed_in, listing_text, no_word, store_of};
 use tests_support::{A3, G3, check_rows, fields, refusal, said};
-use zarrs_block::NodeCreateError;
 use zarrs_examples::{ListStore, dir_of_keys, keys_with_prefix};
+use zarrs_meaning::NodeCreateError;
 use zarrs_node::ListedNodes;
 use zarrs_path::NodePath;
 use zarrs_store::{

@@ -6,9 +6,9 @@ use std::alloc::{AllocError, Global};
 use std::test::Fail;
 use tests_support::{check_rows, fields, said};
 use zarrs_block::{
-    ConsolidatedMetadata, NodeCreateError, consolidated_metadata_for_open_in,
-    consolidated_metadata_of_in, laws,
+    ConsolidatedMetadata, consolidated_metadata_for_open_in, consolidated_metadata_of_in, laws,
 };
+use zarrs_meaning::NodeCreateError;
 use zarrs_meta::{Document, NodeMetadata};
 use zarrs_path::NodePath;
 use zarrs_store::{MetadataFault, Numbers};
@@ -116,7 +116,7 @@ any | {"zarr_consolidated_format":1,"other":1.5} => MissingMember: missing membe
 any | {"zarr_consolidated_format":1,"metadata":{"../.zgroup":{"zarr_format":2},"a/.zattrs":{"k":1.5}}} => BadMember: bad member metadata
 "#;
 
-// The block that a document is in numbers, by reference and by value.
+// The block that a document is in numbers, by reference, by its bytes and by value.
 fn document_said(alloc: Global, given: &str) -> Result<String, AllocError> {
     let (word, text) = fields(given);
     let Some(numbers) = numbers_of(word) else {
@@ -127,6 +127,9 @@ fn document_said(alloc: Global, given: &str) -> Result<String, AllocError> {
     };
     let lent = ConsolidatedMetadata::from_zmetadata_in(alloc, numbers, &value);
     let lent = said(alloc, lent, nodes_text)?;
+    let bytes = text.as_bytes();
+    let bytes = ConsolidatedMetadata::from_zmetadata_bytes_in(alloc, numbers, bytes);
+    let lent = same(alloc, lent, said(alloc, bytes, nodes_text)?)?;
     let owned = ConsolidatedMetadata::from_owned_zmetadata_in(alloc, numbers, value);
     same(alloc, lent, said(alloc, owned, nodes_text)?)
 }
@@ -205,5 +208,5 @@ fn a_group_holds_a_block_in_numbers(rt: HostRuntime) -> Result<(), Fail> {
 fn the_laws_in_numbers_are_called(_rt: HostRuntime) {
     laws::zmetadata_holds_store_in(Numbers::Any);
     laws::whole_blocks_read_the_same();
-    laws::whole_paths_mean_the_same();
+    zarrs_meaning::laws::whole_paths_mean_the_same();
 }

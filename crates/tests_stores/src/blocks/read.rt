@@ -3,11 +3,11 @@ use std::alloc::{AllocError, Global};
 use std::test::Fail;
 use tests_support::{check_rows, fields, said};
 use zarrs_block::{
-    ConsolidatedMetadata, ConsolidatedMetadataMetadata, NodeCreateError,
-    consolidated_metadata_for_open, consolidated_metadata_of, expand_consolidated_metadata, laws,
-    resolve_consolidated_policy,
+    ConsolidatedMetadata, ConsolidatedMetadataMetadata, consolidated_metadata_for_open,
+    consolidated_metadata_of, expand_consolidated_metadata, laws, resolve_consolidated_policy,
 };
 use zarrs_config::UseConsolidatedMetadata;
+use zarrs_meaning::NodeCreateError;
 use zarrs_meta::{Document, NodeMetadata, WrittenDocument};
 use zarrs_path::NodePath;
 use zarrs_store::{MetadataFault, Numbers, StorageError, StoreKey, StorePrefix};

@@ -26,15 +26,15 @@ use Rattle.zarrs_form.specs.Documents.{of_bytes}
 use Rattle.zarrs_block.specs.Block.{Block, Entries, IsBlockOf}
 use Rattle.zarrs_block.specs.KeysAboutAPath.{IsAbout}
 use Rattle.zarrs_block.proofs.KeyLaws.{one_text, text_bare}
-use Rattle.zarrs_block.specs.DocumentsAtKeys.{in_bytes, document_from, document_at}
-use Rattle.zarrs_block.specs.Meaning.{Meaning, meaning, nothing, version_2_line, version_3_line, zarr_json_line, zarray_line, zgroup_line}
+use Rattle.zarrs_meaning.specs.DocumentsAtKeys.{in_bytes, document_from, document_at}
+use Rattle.zarrs_meaning.specs.Meaning.{Meaning, meaning, nothing, version_2_line, version_3_line, zarr_json_line, zarray_line, zgroup_line}
 use Rattle.zarrs_node.specs.Reach.{HasGroup, Kept, Reached}
 use Rattle.zarrs_node.specs.Nodes.{Means, Nodes}
 use Rattle.zarrs_node.specs.Forest.{Forest, pairs, Shows}
 use Rattle.zarrs_node.specs.BlocksOfNodes.{text_beyond}
 use Rattle.zarrs_node.specs.CurrentBlocks.{LeadsTo, IsNewPair, IsFresh}
 use Rattle.zarrs_node.specs.Changes.{document_files, AgreesOutside, last_of, FreshIsBlock, RefreshedIsBlock, RefreshedIsOpened}
-use Rattle.zarrs_node.proofs.Meanings.{default_is, v3_is, v2_is}
+use Rattle.zarrs_meaning.proofs.Meanings.{default_is, v3_is, v2_is}
 use Rattle.zarrs_node.proofs.ListedItems.{listed_each}
 use Rattle.zarrs_node.proofs.ForestsBeside.{Contains-first, Contains-cons}
 use Rattle.zarrs_node.proofs.Reach.{head_same, rest_same}

@@ -8,8 +8,8 @@ use Rattle.zarrs_path.proofs.PathTexts.{IsPath-parts, last_name}
 use Rattle.zarrs_meta.specs.declared.node.NodeMetadata.{NodeMetadata}
 use Rattle.zarrs_config.specs.declared.version.MetadataRetrieveVersion.{MetadataRetrieveVersion}
 use Rattle.zarrs_block.specs.Block.{Block, Entries, HasPlainNodesIn, HasValidKeys}
-use Rattle.zarrs_block.specs.Meaning.{Meaning, meaning, bad}
-use Rattle.zarrs_block.specs.declared.node_create_error.NodeCreateError.{NodeCreateError}
+use Rattle.zarrs_meaning.specs.Meaning.{Meaning, meaning, bad}
+use Rattle.zarrs_meaning.specs.declared.node_create_error.NodeCreateError.{NodeCreateError}
 use Rattle.zarrs_block.proofs.Expansion.{found_all}
 use Rattle.zarrs_block.proofs.SameBlocks.{one_block}
 use Rattle.zarrs_node.specs.Reach.{HasGroup, Reached, Kept}
@@ -22,7 +22,7 @@ use Rattle.zarrs_node.proofs.blocks.Current.{AtOrBelow, not_below_itself, decide
 use Rattle.zarrs_node.proofs.ListedItems.{listed_each}
 use Rattle.zarrs_node.proofs.Inverse.{entries_are, keys_valid, nodes_plain}
 use Rattle.zarrs_node.proofs.KeptPairs.{kept_closed, kept_same, nodes_same, reached_more}
-use Rattle.zarrs_node.proofs.PlainMeanings.{plain_node_in}
+use Rattle.zarrs_meaning.proofs.PlainMeanings.{plain_node_in}
 use Rattle.zarrs_node.proofs.Unique.{one_forest}
 use Rattle.zarrs_node.proofs.walk.WalkSteps.{not_bad_name}
 

@@ -12,7 +12,7 @@ use Rattle.zarrs_meta.specs.Node.{is_group}
 use Rattle.zarrs_meta.specs.declared.node.NodeMetadata.{NodeMetadata}
 use Rattle.zarrs_block.specs.Block.{Block, IsBlockOf, first_some, node_at_key, put}
 use Rattle.zarrs_block.specs.KeysAboutAPath.{IsAbout, IsWithout}
-use Rattle.zarrs_block.specs.Meaning.{Meaning, node}
+use Rattle.zarrs_meaning.specs.Meaning.{Meaning, node}
 use Rattle.zarrs_node.specs.Reach.{Kept, Reached}
 use Rattle.zarrs_node.specs.Nodes.{Means}
 use Rattle.zarrs_node.specs.Forest.{Forest, pairs, Shows}

@@ -20,13 +20,13 @@ use Rattle.zarrs_meta.specs.declared.node.NodeMetadata.{NodeMetadata}
 use Rattle.zarrs_meta.specs.declared.node.NodeMetadata.TheVariants.{Group, Array}
 use Rattle.zarrs_meta.specs.declared.node.ZarrJson.{ZarrJson}
 use Rattle.zarrs_meta.specs.declared.node.ZarrJson.TheVariants.{Node as node_json, Version2}
-use Rattle.zarrs_block.specs.declared.node_create_error.NodeCreateError.{NodeCreateError}
-use Rattle.zarrs_block.specs.declared.node_create_error.NodeCreateError.TheVariants.{StorageError as InStore, MetadataVersionMismatch}
+use Rattle.zarrs_meaning.specs.declared.node_create_error.NodeCreateError.{NodeCreateError}
+use Rattle.zarrs_meaning.specs.declared.node_create_error.NodeCreateError.TheVariants.{StorageError as InStore, MetadataVersionMismatch}
 use Rattle.zarrs_config.specs.declared.version.MetadataRetrieveVersion.{MetadataRetrieveVersion}
 use Rattle.zarrs_config.specs.declared.version.MetadataRetrieveVersion.TheVariants.{Default, V3, V2}
-use Rattle.zarrs_block.specs.DocumentsAtKeys.{in_bytes, document_or_fault, document_from, document_at, attributes_at}
-use Rattle.zarrs_block.specs.Meaning.{Meaning, meaning, node, nothing, bad, version_3_line, version_2_line, zarr_json_line, zarray_line, zgroup_line}
-use Rattle.zarrs_node.proofs.Meanings.{zarr_json_line_is, zarray_line_is, zgroup_line_is, default_is, v3_is, v2_is}
+use Rattle.zarrs_meaning.specs.DocumentsAtKeys.{in_bytes, document_or_fault, document_from, document_at, attributes_at}
+use Rattle.zarrs_meaning.specs.Meaning.{Meaning, meaning, node, nothing, bad, version_3_line, version_2_line, zarr_json_line, zarray_line, zgroup_line}
+use Rattle.zarrs_meaning.proofs.Meanings.{zarr_json_line_is, zarray_line_is, zgroup_line_is, default_is, v3_is, v2_is}
 
 -- the refusal is of a document that does not read
 abbrev pub IsInvalid : StorageError → Type 0

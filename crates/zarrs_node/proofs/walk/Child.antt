@@ -8,7 +8,7 @@ use Rattle.zarrs_path.specs.Names.{is_all_periods, is_reserved}
 use Rattle.zarrs_store.specs.Contents.{Contents}
 use Rattle.zarrs_meta.specs.declared.node.NodeMetadata.{NodeMetadata}
 use Rattle.zarrs_config.specs.declared.version.MetadataRetrieveVersion.{MetadataRetrieveVersion}
-use Rattle.zarrs_block.specs.Meaning.{Meaning, meaning, node, nothing, bad}
+use Rattle.zarrs_meaning.specs.Meaning.{Meaning, meaning, node, nothing, bad}
 use Rattle.zarrs_node.specs.Reach.{Opens}
 use Rattle.zarrs_node.specs.Nodes.{MeansNode}
 

@@ -5,10 +5,10 @@ use Rattle.zarrs_store.specs.declared.storage_error.StorageError.TheVariants.{Fa
 use Rattle.zarrs_path.specs.Paths.{Path, IsPath}
 use Rattle.zarrs_meta.specs.declared.node.NodeMetadata.{NodeMetadata}
 use Rattle.zarrs_config.specs.declared.version.MetadataRetrieveVersion.{MetadataRetrieveVersion}
-use Rattle.zarrs_block.specs.Meaning.{meaning, bad}
-use Rattle.zarrs_block.specs.Refusals.{IsExcused, IsInvalidPath}
-use Rattle.zarrs_block.specs.declared.node_create_error.NodeCreateError.{NodeCreateError}
-use Rattle.zarrs_block.specs.declared.node_create_error.NodeCreateError.TheVariants.{NodePathError, StorePrefixError, StorageError, MetadataVersionMismatch, MissingMetadata, OutOfMemory}
+use Rattle.zarrs_meaning.specs.Meaning.{meaning, bad}
+use Rattle.zarrs_meaning.specs.Refusals.{IsExcused, IsInvalidPath}
+use Rattle.zarrs_meaning.specs.declared.node_create_error.NodeCreateError.{NodeCreateError}
+use Rattle.zarrs_meaning.specs.declared.node_create_error.NodeCreateError.TheVariants.{NodePathError, StorePrefixError, StorageError, MetadataVersionMismatch, MissingMetadata, OutOfMemory}
 use Rattle.zarrs_node.specs.StepsOfTheWalk.{fault_of, IsFaultOf}
 use Rattle.zarrs_node.specs.declared.descent.Child.{Child}
 use Rattle.zarrs_node.specs.declared.descent.Child.TheVariants.{Read, Told}

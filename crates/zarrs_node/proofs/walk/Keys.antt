@@ -6,9 +6,9 @@ use Rattle.zarrs_path.specs.Paths.{Path}
 use Rattle.zarrs_path.specs.Keys.{zarr_json, zarray, zgroup}
 use Rattle.zarrs_config.specs.declared.version.MetadataRetrieveVersion.{MetadataRetrieveVersion}
 use Rattle.zarrs_config.specs.declared.version.MetadataRetrieveVersion.TheVariants.{Default, V3, V2}
-use Rattle.zarrs_block.specs.DocumentsAtKeys.{in_bytes, attributes_at}
-use Rattle.zarrs_block.specs.Meaning.{Meaning, meaning, nothing, zarr_json_line, zarray_line, zgroup_line}
-use Rattle.zarrs_node.proofs.Meanings.{document_none, zarr_json_line_is, zarray_line_is, zgroup_line_is, default_is, v3_is, v2_is}
+use Rattle.zarrs_meaning.specs.DocumentsAtKeys.{in_bytes, attributes_at}
+use Rattle.zarrs_meaning.specs.Meaning.{Meaning, meaning, nothing, zarr_json_line, zarray_line, zgroup_line}
+use Rattle.zarrs_meaning.proofs.Meanings.{document_none, zarr_json_line_is, zarray_line_is, zgroup_line_is, default_is, v3_is, v2_is}
 use Rattle.zarrs_node.specs.Nodes.{MeansNode}
 use Rattle.zarrs_node.proofs.Reach.{Through}
 

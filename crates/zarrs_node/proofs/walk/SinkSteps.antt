@@ -8,8 +8,8 @@ use Rattle.zarrs_store.specs.Segments.{Segments}
 use Rattle.zarrs_store.specs.Children.{AreVisibleChildren}
 use Rattle.zarrs_meta.specs.declared.node.NodeMetadata.{NodeMetadata}
 use Rattle.zarrs_config.specs.declared.version.MetadataRetrieveVersion.{MetadataRetrieveVersion}
-use Rattle.zarrs_block.specs.Meaning.{meaning}
-use Rattle.zarrs_node.specs.StepsOfDocuments.{Finds}
+use Rattle.zarrs_meaning.specs.Meaning.{meaning}
+use Rattle.zarrs_meaning.specs.Refusals.{Finds}
 use Rattle.zarrs_node.specs.Forest.{Forest, pairs, Shows}
 use Rattle.zarrs_node.specs.StepsOfTrees.{own_node, paths_passed, is_group_found}
 use Rattle.zarrs_node.specs.Nodes.{Nodes, Ignored}

@@ -12,14 +12,14 @@ use Rattle.zarrs_store.specs.Children.{IsVisibleChild, AreVisibleChildren}
 use Rattle.zarrs_meta.specs.Node.{is_group}
 use Rattle.zarrs_meta.specs.declared.node.NodeMetadata.{NodeMetadata}
 use Rattle.zarrs_config.specs.declared.version.MetadataRetrieveVersion.{MetadataRetrieveVersion}
-use Rattle.zarrs_block.specs.Meaning.{Meaning, meaning, node, nothing, bad}
+use Rattle.zarrs_meaning.specs.Meaning.{Meaning, meaning, node, nothing, bad}
 use Rattle.zarrs_node.specs.Reach.{Reached, Opens}
 use Rattle.zarrs_node.specs.Forest.{Forest, none, pairs, IsPlaced, Shows}
 use Rattle.zarrs_node.specs.Nodes.{MeansNode, Nodes, Ignored, Bad, IsListed}
 use Rattle.zarrs_node.specs.Faults.{Faults, FaultsAscend, PathsAscend}
 use Rattle.zarrs_node.specs.declared.fault.NodeFault.{NodeFault}
 use Rattle.zarrs_node.specs.declared.fault.NodeFault.TheVariants.{Name, Document}
-use Rattle.zarrs_block.specs.declared.node_create_error.NodeCreateError.{NodeCreateError}
+use Rattle.zarrs_meaning.specs.declared.node_create_error.NodeCreateError.{NodeCreateError}
 use Rattle.zarrs_node.proofs.walk.Keys.{means_or_nothing, below_through}
 use Rattle.zarrs_node.proofs.Reach.{Through, reached_first, reached_through, not_itself}
 use Rattle.zarrs_node.proofs.blocks.Leads.{same_or_above}

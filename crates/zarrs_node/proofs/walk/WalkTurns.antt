@@ -13,10 +13,10 @@ use Rattle.zarrs_store.proofs.ChildLemmas.{last_segment-child}
 use Rattle.zarrs_meta.specs.Node.{is_group}
 use Rattle.zarrs_meta.specs.declared.node.NodeMetadata.{NodeMetadata}
 use Rattle.zarrs_config.specs.declared.version.MetadataRetrieveVersion.{MetadataRetrieveVersion}
-use Rattle.zarrs_block.specs.declared.node_create_error.NodeCreateError.{NodeCreateError}
-use Rattle.zarrs_block.specs.Meaning.{meaning, bad}
-use Rattle.zarrs_block.specs.Refusals.{IsInvalidPath}
-use Rattle.zarrs_node.specs.StepsOfDocuments.{Finds}
+use Rattle.zarrs_meaning.specs.declared.node_create_error.NodeCreateError.{NodeCreateError}
+use Rattle.zarrs_meaning.specs.Meaning.{meaning, bad}
+use Rattle.zarrs_meaning.specs.Refusals.{IsInvalidPath}
+use Rattle.zarrs_meaning.specs.Refusals.{Finds}
 use Rattle.zarrs_node.specs.Forest.{Forest, none, pairs, Shows}
 use Rattle.zarrs_node.specs.StepsOfTrees.{own_node, paths_passed, is_group_found}
 use Rattle.zarrs_node.specs.Nodes.{MeansNode, Nodes, Ignored, ShowsBad, IsListed, IsBadName}

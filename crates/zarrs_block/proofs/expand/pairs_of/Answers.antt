@@ -5,7 +5,7 @@ use Rattle.zarrs_meta.specs.declared.node.NodeMetadata.{NodeMetadata}
 use Rattle.zarrs_block.specs.Block.{IsValidKey}
 use Rattle.zarrs_block.specs.BlockExpansion.{path_at}
 use Rattle.zarrs_block.specs.StepsOfExpansion.{IsPlainKey}
-use Rattle.zarrs_block.specs.declared.node_create_error.NodeCreateError.TheVariants.{NodePathError}
+use Rattle.zarrs_meaning.specs.declared.node_create_error.NodeCreateError.TheVariants.{NodePathError}
 use Rattle.zarrs_block.proofs.BlockLaws.{shown}
 use Rattle.zarrs_block.proofs.CoveredKeys.{path_asked}
 use Rattle.zarrs_block.proofs.Expansion.{IsExpanding, all_expanded, expanded_none, expanded_some, is_there, keys_refused, map_ascends, refuses_key}

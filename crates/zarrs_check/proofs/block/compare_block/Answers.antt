@@ -1,7 +1,7 @@
 use Rattle.std.proofs.Common.{◌∙◌, false, Contains, Ok, drop, take, sym, ap, subst}
 use Rattle.std.proofs.lemmas.List.{take_rest, take-append-drop}
 use Rattle.zarrs_node.specs.Order.{Ascend}
-use Rattle.zarrs_node.specs.Exists.{HasNodeKey}
+use Rattle.zarrs_meaning.specs.Exists.{HasNodeKey}
 use Rattle.zarrs_check.specs.StepsOfChecks.{HasBad}
 use Rattle.zarrs_check.specs.StepsOfComparing.{IsPlaceBehind, StandBehind}
 use Rattle.zarrs_check.specs.StepsOfComparisons.{IsStart, IsNextOf}

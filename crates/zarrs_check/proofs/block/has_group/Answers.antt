@@ -1,5 +1,5 @@
 use Rattle.std.proofs.Common.{◌∙◌, inr, ⊎_elim, sym, subst, true≢false, List, Contains}
-use Rattle.zarrs_block.specs.Meaning.{Pair}
+use Rattle.zarrs_meaning.specs.Meaning.{Pair}
 use Rattle.zarrs_check.proofs.block.has_group.Goals as goal
 
 pub returns-else-is_base_group : goal.returns-else-is_base_group

@@ -1,7 +1,7 @@
 use Rattle.std.proofs.Common.{false, [], Contains, arith, subst}
 use Rattle.std.proofs.lemmas.Result.{IfOk-weaker}
 use Rattle.zarrs_block.specs.Block.{Entries}
-use Rattle.zarrs_node.specs.Exists.{HasNodeKey}
+use Rattle.zarrs_meaning.specs.Exists.{HasNodeKey}
 use Rattle.zarrs_check.specs.StepsOfBlocksAbove.{ArePartFindings, IsEndFrom}
 use Rattle.zarrs_check.specs.StepsOfChecks.{HasBad}
 use Rattle.zarrs_check.specs.StepsOfComparisons.{IsNextOf}

@@ -1,6 +1,6 @@
 use Rattle.std.proofs.Common.{◌∷◌, [], ◌++◌, refl, subst, sym, ap, ◌∙◌, append-nil, append_assoc, Some, None}
 use Rattle.std.specs.Vec.Iter.{into_iter_items}
-use Rattle.zarrs_node.specs.Exists.{HasNodeKey}
+use Rattle.zarrs_meaning.specs.Exists.{HasNodeKey}
 use Rattle.zarrs_check.specs.StepsOfChecks.{HasBad}
 use Rattle.zarrs_check.specs.StepsOfComparisons.{AreSettled, IsSettled}
 use Rattle.zarrs_check.proofs.SurveyFaults.{none_left}

@@ -1,6 +1,6 @@
 use Rattle.std.proofs.Common.{List, ◌≡◌, ◌++◌}
 use Rattle.std.specs.Vec.Iter.{into_iter_items}
-use Rattle.zarrs_node.specs.Exists.{HasNodeKey}
+use Rattle.zarrs_meaning.specs.Exists.{HasNodeKey}
 use Rattle.zarrs_check.specs.StepsOfChecks.{HasBad}
 use Rattle.zarrs_check.specs.StepsOfComparisons.{AreSettled}
 use Rattle.zarrs_check.specs.declared.finding.Finding.{Finding}

@@ -1,6 +1,7 @@
 use Rattle.std.proofs.Common.{rules, ap, ◌∙◌}
 use Rattle.zarrs_config.specs.declared.version.MetadataRetrieveVersion.TheVariants.{Default, V3}
-use Rattle.zarrs_node.specs.MapsOfNodes.{NodesFrom, with_documents}
+use Rattle.zarrs_node.specs.Nodes.{NodesFrom}
+use Rattle.zarrs_examples.specs.MapsOfNodes.{with_documents}
 use Rattle.zarrs_examples.specs.Conversions.{node_v3}
 use Rattle.zarrs_examples.proofs.ConvertedNodes.{in_slice, documents_from, refused_from, keeps_others, converted_shows}
 use Rattle.zarrs_examples.proofs.converter.convert_hierarchy.Goals as goal

@@ -1,5 +1,5 @@
 use Rattle.std.proofs.Common.{take, Contains}
-use Rattle.zarrs_node.specs.MapsOfNodes.{AreDocumentsOf}
+use Rattle.zarrs_examples.specs.MapsOfNodes.{AreDocumentsOf}
 use Rattle.zarrs_examples.specs.Conversions.{node_v3}
 use Rattle.zarrs_examples.proofs.converter.documents_of.Given as goal
 

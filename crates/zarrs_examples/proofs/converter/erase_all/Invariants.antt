@@ -1,5 +1,5 @@
 use Rattle.std.proofs.Common.{◌≡◌, take}
-use Rattle.zarrs_node.specs.MapsOfNodes.{without_keys}
+use Rattle.zarrs_examples.specs.MapsOfNodes.{without_keys}
 use Rattle.zarrs_examples.proofs.converter.erase_all.Given as goal
 
 abbrev pub invariant-loop-key : goal.invariant-loop-key

@@ -1,6 +1,6 @@
 use Rattle.std.proofs.Common.{◌∙◌}
 use Rattle.zarrs_config.specs.declared.version.MetadataRetrieveVersion.TheVariants.{V3}
-use Rattle.zarrs_node.specs.MapsOfNodes.{NodesFrom}
+use Rattle.zarrs_node.specs.Nodes.{NodesFrom}
 use Rattle.zarrs_examples.proofs.ConvertedNodes.{in_slice, erased_absent, erased_shows, others_beside}
 use Rattle.zarrs_examples.proofs.converter.erase_version_2.Goals as goal
 

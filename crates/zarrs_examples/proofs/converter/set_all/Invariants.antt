@@ -1,5 +1,5 @@
 use Rattle.std.proofs.Common.{◌≡◌, take}
-use Rattle.zarrs_node.specs.MapsOfNodes.{with_documents}
+use Rattle.zarrs_examples.specs.MapsOfNodes.{with_documents}
 use Rattle.zarrs_examples.proofs.converter.set_all.Given as goal
 
 abbrev pub invariant-loop-key : goal.invariant-loop-key

@@ -1,6 +1,6 @@
 use Rattle.std.proofs.Common.{[], ◌∷◌, ◌++◌, ap, sym, ◌∙◌}
 use Rattle.std.proofs.lemmas.Grind.{flat_map-append}
-use Rattle.zarrs_node.specs.MapsOfNodes.{keys_beside, version_2_keys}
+use Rattle.zarrs_examples.specs.MapsOfNodes.{keys_beside, version_2_keys}
 use Rattle.zarrs_examples.proofs.ConvertedNodes.{next}
 use Rattle.zarrs_examples.proofs.converter.version_2_keys.Goals as goal
 

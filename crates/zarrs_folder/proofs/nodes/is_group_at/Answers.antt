@@ -1,5 +1,5 @@
 use Rattle.zarrs_config.specs.declared.version.MetadataRetrieveVersion.TheVariants.{Default}
-use Rattle.zarrs_block.specs.Meaning.{meaning}
+use Rattle.zarrs_meaning.specs.Meaning.{meaning}
 use Rattle.zarrs_folder.specs.Folders.{in_any, values_of}
 use Rattle.zarrs_folder.proofs.LoadingSteps.{not_group_found}
 use Rattle.zarrs_folder.proofs.nodes.is_group_at.Goals as goal

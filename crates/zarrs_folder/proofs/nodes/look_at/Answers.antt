@@ -1,7 +1,7 @@
 use Rattle.std.proofs.Common.{◌≡◌, ◌∙◌, subst, sym, true≢false}
 use Rattle.zarrs_path.specs.Paths.{IsBelow}
 use Rattle.zarrs_config.specs.declared.version.MetadataRetrieveVersion.TheVariants.{Default}
-use Rattle.zarrs_block.specs.Meaning.{meaning, node}
+use Rattle.zarrs_meaning.specs.Meaning.{meaning, node}
 use Rattle.zarrs_folder.specs.Folders.{in_any, values_of}
 use Rattle.zarrs_folder.proofs.LoadingSteps.{alone_turn, group_turn, grows_itself, passed_over}
 use Rattle.zarrs_folder.proofs.nodes.look_at.Goals as goal

@@ -1,6 +1,6 @@
 use Rattle.std.proofs.Common.{◌∙◌, sym, ap, subst, ◌⊎◌}
 use Rattle.zarrs_path.specs.Paths.{path_text}
-use Rattle.zarrs_block.specs.Refusals.{IsExcusedOr}
+use Rattle.zarrs_meaning.specs.Refusals.{IsExcusedOr}
 use Rattle.zarrs_node.specs.OpeningNodes.{RefusesOpening}
 use Rattle.zarrs_config.specs.declared.version.UseConsolidatedMetadata.{UseConsolidatedMetadata}
 use Rattle.zarrs_block.specs.Policy.{block_to_use, RefusesUse}

@@ -1,10 +1,10 @@
 use Rattle.std.proofs.Common.{◌≡◌, sym, subst, ◌∙◌, ◌⊎◌, inl, inr, ⊎_elim, Bool, Option, Result, Ok, Err, IfOk, IfErr, true≢false}
 use Rattle.zarrs_path.specs.Paths.{Path, IsPath}
 use Rattle.zarrs_meta.specs.declared.node.NodeMetadata.{NodeMetadata}
-use Rattle.zarrs_block.specs.declared.node_create_error.NodeCreateError.{NodeCreateError}
-use Rattle.zarrs_block.specs.Meaning.{Meaning, bad}
-use Rattle.zarrs_block.specs.Refusals.{IsExcused, IsInvalidPath}
-use Rattle.zarrs_node.specs.StepsOfDocuments.{Finds}
+use Rattle.zarrs_meaning.specs.declared.node_create_error.NodeCreateError.{NodeCreateError}
+use Rattle.zarrs_meaning.specs.Meaning.{Meaning, bad}
+use Rattle.zarrs_meaning.specs.Refusals.{IsExcused, IsInvalidPath}
+use Rattle.zarrs_meaning.specs.Refusals.{Finds}
 use Rattle.zarrs_node.proofs.walk.WalkTurns.{path_if_name, name_if_path}
 use Rattle.zarrs_node.proofs.descent.read_child.Goals as goal
 

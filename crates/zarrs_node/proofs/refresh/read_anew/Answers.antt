@@ -1,7 +1,7 @@
 use Rattle.std.proofs.Common.{◌≡◌, ◌∙◌, ◌∷◌, ◌++◌, [], Ok, ap, sym, subst, true≢false}
-use Rattle.zarrs_block.specs.Meaning.{meaning, node}
+use Rattle.zarrs_meaning.specs.Meaning.{meaning, node}
 use Rattle.zarrs_node.specs.Forest.{pairs}
-use Rattle.zarrs_node.specs.StepsOfDocuments.{Finds}
+use Rattle.zarrs_meaning.specs.Refusals.{Finds}
 use Rattle.zarrs_node.proofs.blocks.MeaningsAnew.{renewed_one, renewed_all}
 use Rattle.zarrs_node.proofs.walk.SinkSteps.{kept_pairs}
 use Rattle.zarrs_node.proofs.refresh.read_anew.Goals as goal
@@ -11,7 +11,7 @@ returns-then-not-deeper-clause-renewed g c =
     let of = meaning (g.S.Store.contents c.args.storage.now) c.args.version.now in
     let p = c.args.path.now in
     let m = c.in-Some.metadata in
-    let is : of p ≡ node m = subst (λ q. of q ≡ node m) c.in_ok-prefix.ensures.ok (subst (λ o. Finds (g.S.Store.can_fail c.args.storage.now) (Ok o) (of c.in_ok-prefix.prefix)) c.in-Some.is c.in_ok-metadata.ensures) in
+    let is : of p ≡ node m = subst (λ o. Finds (g.S.Store.can_fail c.args.storage.now) (Ok o) (of p)) c.in-Some.is c.in_ok-metadata.ensures.found in
     let one : c.push.new.self.items ≡ (p, m) ∷ [] =
     c.in_ok-push.ensures.items ∙ ap (λ xs. xs ++ (c.in_ok-try_clone.field-0, m) ∷ []) c.new-pairs.ensures.items ∙ ap (λ q. (q, m) ∷ []) c.in_ok-try_clone.ensures.ok in
     renewed_one of p m is c.push.new.self.items one (λ group. true≢false (sym group ∙ sym c.is_group-deeper.ensures ∙ c.if-not-deeper.true))
@@ -21,7 +21,7 @@ returns-clause-renewed g c =
     let of = meaning (g.S.Store.contents c.args.storage.now) c.args.version.now in
     let p = c.args.path.now in
     let m = c.in-Some.metadata in
-    let is : of p ≡ node m = subst (λ q. of q ≡ node m) c.in_ok-prefix.ensures.ok (subst (λ o. Finds (g.S.Store.can_fail c.args.storage.now) (Ok o) (of c.in_ok-prefix.prefix)) c.in-Some.is c.in_ok-metadata.ensures) in
+    let is : of p ≡ node m = subst (λ o. Finds (g.S.Store.can_fail c.args.storage.now) (Ok o) (of p)) c.in-Some.is c.in_ok-metadata.ensures.found in
     let one : c.push.new.self.items ≡ (p, m) ∷ [] =
     c.in_ok-push.ensures.items ∙ ap (λ xs. xs ++ (c.in_ok-try_clone.field-0, m) ∷ []) c.new-pairs.ensures.items ∙ ap (λ q. (q, m) ∷ []) c.in_ok-try_clone.ensures.ok in
     let t = c.in_ok-walk_nodes.ensures.takes in

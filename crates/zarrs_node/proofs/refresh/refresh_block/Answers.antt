@@ -1,6 +1,6 @@
 use Rattle.std.proofs.Common.{◌⊎◌, IfErr, IfOk, subst}
-use Rattle.zarrs_block.specs.Meaning.{meaning}
-use Rattle.zarrs_block.specs.Refusals.{IsExcused}
+use Rattle.zarrs_meaning.specs.Meaning.{meaning}
+use Rattle.zarrs_meaning.specs.Refusals.{IsExcused}
 use Rattle.zarrs_node.specs.CurrentBlocks.{LeadsTo, IsFresh, BadAnew, ShowsBadAnew}
 use Rattle.zarrs_node.proofs.refresh.refresh_block.Goals as goal
 

@@ -2,7 +2,7 @@ use Rattle.std.proofs.Common.{◌∙◌, ap, sym, subst, true≢false}
 use Rattle.zarrs_block.specs.Block.{IsAscending}
 use Rattle.zarrs_block.specs.KeysAboutAPath.{IsWithout}
 use Rattle.zarrs_store.specs.Contents.{Lists}
-use Rattle.zarrs_block.specs.Meaning.{meaning}
+use Rattle.zarrs_meaning.specs.Meaning.{meaning}
 use Rattle.zarrs_node.specs.StepsOfBlocks.{put_all}
 use Rattle.zarrs_node.specs.CurrentBlocks.{IsNewPair, IsFresh}
 use Rattle.zarrs_node.proofs.blocks.PairsInBlocks.{put_all_ascends}

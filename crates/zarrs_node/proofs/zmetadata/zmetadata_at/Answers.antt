@@ -1,6 +1,6 @@
 use Rattle.std.proofs.Common.{rules, ◌≡◌, Some, sym}
 use Rattle.zarrs_node.specs.BlocksBelow.{zmetadata_at}
-use Rattle.zarrs_node.proofs.maps.HeldStores.{holds_zmetadata}
+use Rattle.zarrs_node.proofs.HeldStores.{holds_zmetadata}
 use Rattle.zarrs_node.proofs.zmetadata.zmetadata_at.Goals as goal
 
 pub returns-in-Ok-clause-store : goal.returns-in-Ok-clause-store

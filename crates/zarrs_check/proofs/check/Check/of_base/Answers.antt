@@ -9,7 +9,7 @@ use Rattle.zarrs_check.specs.Alike.{AreAlikeAmong}
 use Rattle.zarrs_check.specs.Checks.{HasNodeAt, IsBaseFault}
 use Rattle.zarrs_check.specs.StepsOfOrphans.{AreOrphansAmong}
 use Rattle.zarrs_check.specs.StepsOfTaking.{base_nodes, blocks_of}
-use Rattle.zarrs_node.specs.Exists.{HasNodeKey}
+use Rattle.zarrs_meaning.specs.Exists.{HasNodeKey}
 use Rattle.zarrs_check.specs.Surveys.{BadDocuments, BadNames}
 use Rattle.zarrs_check.proofs.CheckedBlocks.{of_ends, of_taken}
 use Rattle.zarrs_check.proofs.DocumentCounts.{orphans_listed}

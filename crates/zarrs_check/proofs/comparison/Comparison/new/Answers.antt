@@ -1,7 +1,7 @@
 use Rattle.std.proofs.Common.{◌↔◌, ◌++◌, List, Contains, refl, sym, ap, subst, ◌∙◌}
 use Rattle.zarrs_block.specs.Block.{Entries}
 use Rattle.zarrs_node.specs.Order.{Ascend}
-use Rattle.zarrs_block.specs.Meaning.{Pair}
+use Rattle.zarrs_meaning.specs.Meaning.{Pair}
 use Rattle.zarrs_check.specs.StepsOfComparing.{IsRidOf, findings_at, key_findings, own_kind}
 use Rattle.zarrs_check.proofs.Blocks.{rid_valid, listed_same}
 use Rattle.zarrs_check.proofs.comparison.Comparison.new.Goals as goal

@@ -1,7 +1,7 @@
 use Rattle.std.proofs.Common.{◌≡◌, List, get_or, refl, sym, ap, ◌∙◌, Equal}
 use Rattle.zarrs_path.proofs.LawProofs.{equal_order}
 use Rattle.zarrs_path.specs.Paths.{path_cmp}
-use Rattle.zarrs_block.specs.Meaning.{Pair}
+use Rattle.zarrs_meaning.specs.Meaning.{Pair}
 use Rattle.zarrs_check.proofs.UnderWay.{first_behind, is_greater, is_equal}
 use Rattle.zarrs_check.proofs.comparison.Comparison.next_turn.Goals as goal
 

@@ -1,18 +1,6 @@
-use Rattle.std.proofs.Common.{◌++◌, ◌∙◌, ap, append_assoc}
-use Rattle.zarrs_check.specs.StepsOfComparing.{cut_kind, findings_at}
+use Rattle.std.proofs.lemmas.Result.{on_ok_weaker}
 use Rattle.zarrs_check.proofs.UnderWay.{pair_passed}
 use Rattle.zarrs_check.proofs.comparison.Comparison.tell_pair.Goals as goal
 
 pub returns : goal.returns
-returns c =
-    let old = c.args.self.now in
-    let at = findings_at old.group c.args.entry.0 in
-    let kind = c.pair_kind-kind.result in
-    let told = c.pass.ensures.found ∙ (c.in_ok-tell-2.ensures ∙ (ap (λ fs. fs ++ at kind) (c.in_ok-tell.ensures ∙ ap (λ k. old.found.items ++ at k) c.cut_kind.ensures)
-    ∙ append_assoc old.found.items (at (cut_kind c.in_ok-reached.reached)) (at kind))) in
-    record {
-      one = record { group = c.pass.ensures.one.group; of_block = c.pass.ensures.one.of_block };
-      entries = c.pass.ensures.entries;
-      told = λ all nodes ns u. pair_passed all nodes old c.pass.new.self c.pass.ensures.one.group c.args.entry c.args.metadata.now _ ns c.in_ok-reached.reached kind u
-          c.in_ok-reached.ensures c.pair_kind-kind.ensures told c.pass.ensures.last;
-    }
+returns c = on_ok_weaker c.tell_entry.result (pair_passed c.args.self.now c.tell_entry.new.self c.args.entry c.args.metadata.now c.pair_kind-kind.result c.pair_kind-kind.ensures) c.tell_entry.ensures

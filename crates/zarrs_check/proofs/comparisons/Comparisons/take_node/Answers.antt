@@ -1,5 +1,5 @@
 use Rattle.std.proofs.Common.{Some, sym, ap, subst, ◌∙◌}
-use Rattle.zarrs_block.specs.Meaning.{Pair}
+use Rattle.zarrs_meaning.specs.Meaning.{Pair}
 use Rattle.zarrs_check.specs.StepsOfChecks.{as_known, block_with_own, shown_block}
 use Rattle.zarrs_check.specs.StepsOfTaking.{AreCompared, MayPutBlock, PlacesAscend}
 use Rattle.zarrs_check.proofs.comparisons.Comparisons.take_node.Goals.{in-Some-2+in_ok-put_block, in_default-2}

@@ -1,5 +1,5 @@
 use Rattle.std.proofs.Common.{rules, ◌≡◌}
-use Rattle.zarrs_block.specs.declared.node_create_error.NodeCreateError.TheVariants.{OutOfMemory}
+use Rattle.zarrs_meaning.specs.declared.node_create_error.NodeCreateError.TheVariants.{OutOfMemory}
 use Rattle.zarrs_examples.proofs.Catalogues.{no_memory}
 use Rattle.zarrs_examples.proofs.catalogue.Catalogue.group_with_block.Goals as goal
 

@@ -1,6 +1,6 @@
 use Rattle.std.proofs.Common.{map, inl, refl}
 use Rattle.std.proofs.lemmas.Result.{err_from_is_err_and}
-use Rattle.zarrs_block.specs.declared.node_create_error.NodeCreateError.TheVariants.{OutOfMemory}
+use Rattle.zarrs_meaning.specs.declared.node_create_error.NodeCreateError.TheVariants.{OutOfMemory}
 use Rattle.zarrs_group.proofs.Together.{pair_of, are_children}
 use Rattle.zarrs_group.proofs.group.Group.child_groups.Goals as goal
 

@@ -41,9 +41,9 @@ use denote.Triple.Table.{framed}
 use denote.Triple.Walked.{Stays, stay_dropped, walk_of, Goes, Goes-dropped, Goes-spent_ref}
 use Rattle.zarrs_block.specs.Block.{Block}
 use Rattle.zarrs_block.specs.Policy.{as_block}
-use Rattle.zarrs_block.specs.declared.node_create_error.NodeCreateError.{NodeCreateError}
+use Rattle.zarrs_meaning.specs.declared.node_create_error.NodeCreateError.{NodeCreateError}
 use Rattle.zarrs_block.specs.contracts.consolidated.ConsolidatedMetadata.{the_row as given_row}
-use Rattle.zarrs_block.specs.contracts.node_create_error.NodeCreateError.{the_row as error_row}
+use Rattle.zarrs_meaning.specs.contracts.node_create_error.NodeCreateError.{the_row as error_row}
 use Rattle.zarrs_block.proofs.consolidated.ConsolidatedMetadata.TheLaws.{the_row_laws as given_laws}
 use Rattle.zarrs_block.proofs.node_create_error.NodeCreateError.TheLaws.{the_row_laws as error_laws}
 use Rattle.zarrs_group.specs.Groups.{GroupState}

@@ -1,6 +1,6 @@
 use Rattle.std.proofs.Common.{◌∙◌, ◌⊎◌, true, subst, rules}
 use Rattle.zarrs_config.specs.declared.version.MetadataRetrieveVersion.TheVariants.{Default}
-use Rattle.zarrs_block.specs.Refusals.{IsExcused}
+use Rattle.zarrs_meaning.specs.Refusals.{IsExcused}
 use Rattle.zarrs_node.specs.Nodes.{Bad, ShowsBad}
 use Rattle.zarrs_hierarchy.proofs.OpenedPairs.{group_holds}
 use Rattle.zarrs_hierarchy.proofs.hierarchy.Hierarchy.try_from_group.Goals as goal

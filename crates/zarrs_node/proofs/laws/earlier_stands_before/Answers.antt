@@ -1,5 +1,0 @@
-use Rattle.zarrs_node.proofs.maps.InFront as law
-use Rattle.zarrs_node.proofs.laws.earlier_stands_before.Goals as goal
-
-pub returns : goal.returns
-returns c = law.earlier_stands_before

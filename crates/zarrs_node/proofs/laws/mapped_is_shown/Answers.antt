@@ -1,5 +1,0 @@
-use Rattle.zarrs_node.proofs.maps.MapsShown as law
-use Rattle.zarrs_node.proofs.laws.mapped_is_shown.Goals as goal
-
-pub returns : goal.returns
-returns c = law.mapped_is_shown

@@ -1,5 +1,0 @@
-use Rattle.zarrs_node.proofs.maps.MoreNumbers as law
-use Rattle.zarrs_node.proofs.laws.whole_shows_the_same.Goals as goal
-
-pub returns : goal.returns
-returns c = law.whole_shows_the_same
