@@ -13,6 +13,6 @@ returns c =
       reached = c.in_ok-reached.reached;
       hangs = c.in_ok-reached.ensures;
       found = c.pass.ensures.found ∙ (c.in_ok-tell-2.ensures ∙ (ap (λ fs. fs ++ at kind) (c.in_ok-tell.ensures ∙ ap (λ k. old.found.items ++ at k) c.cut_kind.ensures)
-      ∙ append_assoc old.found.items (at (cut_kind c.in_ok-reached.reached)) (at kind)));
+          ∙ append_assoc old.found.items (at (cut_kind c.in_ok-reached.reached)) (at kind)));
       last = c.pass.ensures.last;
     }
