@@ -2,7 +2,9 @@
 ghost use Rattle.std.specs.Prelude.{◌≡◌, ◌<◌, ◌++◌, ◌∷◌, [], None, Some, IfOk, IfErr, IfSome};
 ghost use Rattle.serde_json.specs.Data.{depth};
 ghost use Rattle.serde_json.specs.Read.{max_depth};
+ghost use Rattle.serde_json.specs.View.{view};
 ghost use Rattle.zarrs_path.specs.Keys.{zmetadata};
+ghost use Rattle.zarrs_form.specs.DocumentTexts.{IsTextOf};
 ghost use Rattle.zarrs_block.specs.Policy.{as_block};
 ghost use Rattle.zarrs_block.specs.Zmetadata.{RefusesZmetadata, zmetadata_tree};
 ghost use Rattle.zarrs_group.specs.AsciiTexts.{IsAsciiTextOf};
@@ -14,6 +16,7 @@ use crate::ascii::ascii_document_text;
 use crate::group::Group;
 use crate::group_value::value_with_block;
 use crate::stored::written;
+use serde_json::Value;
 use std::alloc::{AllocError, Global};
 use zarrs_block::ConsolidatedMetadata;
 use zarrs_form::document_text;
@@ -45,14 +48,12 @@ impl Group {
         match (&self.metadata, &self.block) {
             (GroupMetadata::V3(group), _) => {
                 let key = meta_key_v3(alloc, self.path())?;
-                let bytes = document_text(alloc, &group.to_value(alloc)?)?;
-                Ok(with_key(key, bytes))
+                at_key(alloc, key, &group.to_value(alloc)?)
             }
             (GroupMetadata::V2(_), None) => Ok(None),
             (GroupMetadata::V2(group), Some(block)) => {
                 let key = meta_key_v2_consolidated(alloc, self.path())?;
-                let bytes = ascii_document_text(alloc, &written(alloc, group, block)?)?;
-                Ok(with_key(key, bytes))
+                ascii_at_key(alloc, key, &written(alloc, group, block)?)
             }
         }
     }
@@ -82,7 +83,7 @@ impl Group {
             (GroupMetadata::V3(group), block) => {
                 let key = meta_key_v3(alloc, &path)?;
                 let value = value_with_block(alloc, group, block)?;
-                Ok(with_key(key, document_text(alloc, &value)?))
+                Ok(at_key(alloc, key, &value)?)
             }
             (GroupMetadata::V2(_), None) => Ok(None),
             (GroupMetadata::V2(group), Some(block)) => {
@@ -110,17 +111,39 @@ fn document_beside(
 {
     let value = block.into_zmetadata(alloc, group)?;
     let key = meta_key_v2_consolidated(alloc, path)?;
-    Ok(with_key(key, ascii_document_text(alloc, &value)?))
+    Ok(ascii_at_key(alloc, key, &value)?)
 }
 
-// The key with the bytes, where there are any.
-fn with_key(key: StoreKey, bytes: Option<Vec<u8>>) -> Option<(StoreKey, Vec<u8>)>
-    ensures key { IfSome result (λ made. made.0 ≡ key) }
-    ensures bytes { IfSome result (λ made. bytes ≡ Some made.1) }
-    ensures none { result ≡ None → bytes ≡ None }
+// The key and the bytes of the document, where it nests no deeper than those that are read.
+fn at_key(
+    alloc: Global,
+    key: StoreKey,
+    value: &Value,
+) -> Result<Option<(StoreKey, Vec<u8>)>, AllocError>
+    ensures key { IfOk result (λ found. IfSome found (λ made. made.0 ≡ key)) }
+    ensures text { IfOk result (λ found. IfSome found
+        (λ made. IsTextOf made.1.items (view value.now))) }
+    ensures none { IfOk result (λ found. found ≡ None → max_depth < depth (view value.now)) }
 {
-    match bytes {
-        Some(bytes) => Some((key, bytes)),
-        None => None,
+    match document_text(alloc, value)? {
+        Some(bytes) => Ok(Some((key, bytes))),
+        None => Ok(None),
+    }
+}
+
+// The same in ASCII.
+fn ascii_at_key(
+    alloc: Global,
+    key: StoreKey,
+    value: &Value,
+) -> Result<Option<(StoreKey, Vec<u8>)>, AllocError>
+    ensures key { IfOk result (λ found. IfSome found (λ made. made.0 ≡ key)) }
+    ensures text { IfOk result (λ found. IfSome found
+        (λ made. IsAsciiTextOf made.1.items (view value.now))) }
+    ensures none { IfOk result (λ found. found ≡ None → max_depth < depth (view value.now)) }
+{
+    match ascii_document_text(alloc, value)? {
+        Some(bytes) => Ok(Some((key, bytes))),
+        None => Ok(None),
     }
 }

@@ -45,7 +45,7 @@ use Rattle.zarrs_meaning.specs.declared.node_create_error.NodeCreateError.{NodeC
 use Rattle.zarrs_block.specs.contracts.consolidated.ConsolidatedMetadata.{the_row as given_row}
 use Rattle.zarrs_meaning.specs.contracts.node_create_error.NodeCreateError.{the_row as error_row}
 use Rattle.zarrs_block.proofs.consolidated.ConsolidatedMetadata.TheLaws.{the_row_laws as given_laws}
-use Rattle.zarrs_block.proofs.node_create_error.NodeCreateError.TheLaws.{the_row_laws as error_laws}
+use Rattle.zarrs_meaning.proofs.node_create_error.NodeCreateError.TheLaws.{the_row_laws as error_laws}
 use Rattle.zarrs_group.specs.Groups.{GroupState}
 use Rattle.zarrs_group.specs.BlocksOfGroups.{held_by_in, with_block, Fits, RefusesBlock, CanHoldIn}
 use Rattle.zarrs_group.specs.Lending.{Rests}
