@@ -28,7 +28,7 @@ use Rattle.zarrs_config.specs.declared.version.MetadataRetrieveVersion.{Metadata
 use Rattle.zarrs_config.specs.declared.version.MetadataRetrieveVersion.TheVariants.{Default, V3, V2}
 use Rattle.zarrs_meaning.specs.Meaning.{Meaning, meaning, node, nothing, bad}
 use Rattle.zarrs_meaning.specs.declared.node_create_error.NodeCreateError.{NodeCreateError}
-use Rattle.zarrs_node.specs.Nodes.{Nodes, HasNothingBad, IsBadName}
+use Rattle.zarrs_node.specs.Nodes.{StandsFrom, NodesFrom, Nodes, HasNothingBad, IsBadName}
 use Rattle.zarrs_node.specs.Order.{Ascend}
 use Rattle.zarrs_meaning.specs.Meaning.{Pair}
 
