@@ -368,7 +368,8 @@ fn load_shown<F: Folder>(
     if !is_listed(alloc, &store, base, policy) {
         return Ok(store);
     }
-    Ok(load_children(alloc, folder, Documents::Deciding, base, store)?)
+    let store = load_children(alloc, folder, Documents::Deciding, base, store)?;
+    Ok(store)
 }
 
 // What the document that is shown looks at: the documents of the path.
