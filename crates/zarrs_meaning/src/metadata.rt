@@ -59,7 +59,7 @@ pub fn find_metadata<S: ReadableStorageTraits>(
     version: &MetadataRetrieveVersion,
     last: &mut LastDocuments,
 ) -> Result<Option<NodeMetadata>, NodeCreateError>
-    ensures { Finds (S.can_fail storage.now) result
+    ensures found { Finds (S.can_fail storage.now) result
         (meaning (S.contents storage.now) version.now prefix.now) }
 {
     match version {

@@ -33,4 +33,4 @@ returns-clause-valid g c =
 pub returns-clause-refused : goal.returns-clause-refused
 returns-clause-refused g c =
     by_meaning (g.S.Store.can_fail c.args.storage.now) c.args.prefix.now _ c.find_metadata.result
-    (path_if_name c.args.prefix.now c.requires.above (c.ends_in_name.ensures.0 c.if-not-ends_in_name.false)) c.find_metadata.ensures
+    (path_if_name c.args.prefix.now c.requires.above (c.ends_in_name.ensures.0 c.if-not-ends_in_name.false)) c.find_metadata.ensures.found
