@@ -1,5 +1,6 @@
 //! A folder of the system: its documents, links, and what is not read. Scripts beside the gate try more.
 
+use crate::folders::make_folder;
 use crate::same::is_same;
 use crate::ticking::Ticking;
 use log::sink::Writer;
@@ -17,20 +18,13 @@ use zarrs_path::NodePath;
 use zarrs_store::{AnyNumbers, ListableStorageTraits, MemoryStore};
 
 // Makes a folder with files at paths below it, and links.
-fn make_folder(
+fn make_linked(
     rt: &HostRuntime,
     folder: &str,
     files: &[(&str, &str)],
     links: &[(&str, &str)],
 ) -> io::Result<()> {
-    let _ = fs::remove_dir_all(rt, folder);
-    for (path, bytes) in files {
-        let path = format!(in rt.alloc(); "{folder}/{path}")?;
-        if let Some((parent, _)) = path.as_str().rsplit_once('/') {
-            fs::create_dir_all(rt, parent)?;
-        }
-        fs::write(rt, path.as_str(), *bytes)?;
-    }
+    make_folder(rt, folder, files)?;
     for (to, path) in links {
         let path = format!(in rt.alloc(); "{folder}/{path}")?;
         symlink(rt, *to, path.as_str())?;
@@ -102,7 +96,7 @@ fn links_are_followed_and_one_on_its_own_way_is_named(rt: HostRuntime) -> Result
         ("nowhere", "s/gone"),
         ("s", "link"),
     ];
-    make_folder(&rt, "disks", &files, &links)?;
+    make_linked(&rt, "disks", &files, &links)?;
     has_loaded(
         said(&rt, "disks/link")?.as_str(),
         "a/zarr.json g/x/zarr.json g/zarr.json u/v/w zarr.json ",
@@ -114,7 +108,7 @@ fn links_are_followed_and_one_on_its_own_way_is_named(rt: HostRuntime) -> Result
 
 #[test]
 fn what_is_not_read_is_named_with_the_systems_words(rt: HostRuntime) -> Result<(), Fail> {
-    make_folder(&rt, "unread", &[("file", "")], &[])?;
+    make_folder(&rt, "unread", &[("file", "")])?;
     let absent = said(&rt, "unread/nope");
     is_same(absent, "unread/nope: No such file or directory")?;
     let file = said(&rt, "unread/file");
@@ -149,7 +143,7 @@ fn each_two_seconds_a_line_says_how_many_nodes_were_read(rt: HostRuntime) -> Res
         ("d/zarr.json", A3),
         ("scratch/file", ""),
     ];
-    make_folder(&rt, "told", &files, &[])?;
+    make_folder(&rt, "told", &files)?;
     is_same(
         told(&rt, "told", false),
         ".zattrs .zgroup a/zarr.json b/zarr.json c/zarr.json d/zarr.json scratch/file ",

@@ -3,7 +3,8 @@
 //! Each allocation of the test `memory_fails_in_notes` is refused in turn by `bench/break/failures`; it ends then as usual, or in out of memory.
 
 use crate::failing::{NO_MEMORY, is_same};
-use crate::notes::told::{store_in, told_text};
+use crate::given::store_in;
+use crate::notes::told::told_text;
 use std::alloc::{AllocError, Global};
 use std::test::Fail;
 use tests_fixtures::{ANY, key_of};

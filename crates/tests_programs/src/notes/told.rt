@@ -1,29 +1,17 @@
 //! What is told of a node that was read from a store.
 
 use crate::failing::is_same;
+use crate::given::store_in;
 use std::alloc::{AllocError, Global};
 use std::test::Fail;
-use tests_fixtures::{document_of, key_of, version_of};
+use tests_fixtures::version_of;
 use tests_support::{check_rows, fields, said};
 use zarrs_config::MetadataRetrieveVersion;
 use zarrs_meaning::NodeCreateError;
 use zarrs_node::Node;
 use zarrs_notes::{NodeFile, NodeFinding, laws, node_findings};
 use zarrs_path::NodePath;
-use zarrs_store::{
-    AnyNumbers, MemoryStore, ReadableStorageTraits, StorageError, WritableStorageTraits,
-};
-
-/// The store with the documents of a list: a key, a blank and a document each, with semicolons between them.
-pub(crate) fn store_in(alloc: Global, list: &str) -> Result<MemoryStore, StorageError> {
-    let mut store = MemoryStore::new(alloc);
-    for item in list.split(';') {
-        let (key, word) = item.split_once(' ').unwrap_or((item, ""));
-        let key = key_of(alloc, key)?;
-        store.set(&key, document_of(alloc, word)?.as_bytes())?;
-    }
-    Ok(store)
-}
+use zarrs_store::{AnyNumbers, ReadableStorageTraits};
 
 // What is told of the node at a path of a store, by a version.
 fn told_at<S: ReadableStorageTraits>(

@@ -1,34 +1,15 @@
 //! A document in a folder of the system is replaced and removed.
 
+use crate::folders::make_folder;
 use crate::same::is_same;
+use crate::writing::places::answer_said;
 use std::alloc::{AllocError, Global};
-use std::fmt::Debug;
+use std::fs;
 use std::fs::Permissions;
 use std::os::unix::fs::{PermissionsExt, symlink};
 use std::rt::Files;
 use std::test::Fail;
-use std::{fs, io};
-use tests_support::refusal;
 use zarrs_write::{Disk, Place, ReplaceError, remove_document, replace_document};
-
-// Makes a folder with one document in it.
-fn make_folder(rt: &HostRuntime, folder: &str, name: &str, bytes: &str) -> io::Result<()> {
-    let _ = fs::remove_dir_all(rt, folder);
-    fs::create_dir_all(rt, folder)?;
-    let path = format!(in rt.alloc(); "{folder}/{name}")?;
-    fs::write(rt, path.as_str(), bytes)
-}
-
-// What an answer is, or the refusal.
-fn answer_said<T: Debug + Drop>(
-    alloc: Global,
-    answer: Result<T, ReplaceError>,
-) -> Result<String, AllocError> {
-    match answer {
-        Ok(done) => format!(in alloc; "{done:?}"),
-        Err(error) => refusal(alloc, &error),
-    }
-}
 
 // What is answered where a document is read and then replaced.
 fn replaced(rt: &HostRuntime, folder: &str, name: &str, bytes: &str) -> Result<String, AllocError> {
@@ -68,7 +49,7 @@ fn has_mode(rt: &HostRuntime, path: &str, wanted: u32) -> Result<(), Fail> {
 
 #[test]
 fn a_document_is_replaced_and_keeps_its_mode(rt: HostRuntime) -> Result<(), Fail> {
-    make_folder(&rt, "replaced", "zarr.json", "old")?;
+    make_folder(&rt, "replaced", &[("zarr.json", "old")])?;
     fs::set_permissions(&rt, "replaced/zarr.json", Permissions::from_mode(0o640))?;
     is_same(replaced(&rt, "replaced", "zarr.json", "new"), "Written")?;
     holds(&rt, "replaced/zarr.json", "new")?;
@@ -92,7 +73,7 @@ fn removed(rt: &HostRuntime, folder: &str, name: &str) -> Result<String, AllocEr
 
 #[test]
 fn a_document_is_removed(rt: HostRuntime) -> Result<(), Fail> {
-    make_folder(&rt, "removed", ".zmetadata", "old")?;
+    make_folder(&rt, "removed", &[(".zmetadata", "old")])?;
     is_same(removed(&rt, "removed", ".zmetadata"), "Gone")?;
     is_absent(&rt, "removed/.zmetadata")?;
     let answer = removed(&rt, "removed", ".zmetadata");
@@ -139,7 +120,7 @@ const REFUSED: [(&str, &str, &str); 5] = [
 
 #[test]
 fn what_is_no_document_is_refused_in_the_systems_words(rt: HostRuntime) -> Result<(), Fail> {
-    make_folder(&rt, "refused", "zarr.json", "old")?;
+    make_folder(&rt, "refused", &[("zarr.json", "old")])?;
     symlink(&rt, "zarr.json", "refused/link")?;
     fs::create_dir_all(&rt, "refused/folder")?;
     fs::write(&rt, "refused/a.zarrs_new", "half")?;

@@ -27,8 +27,8 @@ fn fill(place: &mut MemoryPlace, list: &str) -> Result<(), AllocError> {
     Ok(())
 }
 
-// What an answer is, or the refusal.
-fn answer_said<T: Debug + Drop>(
+/// What an answer is, or the refusal.
+pub(crate) fn answer_said<T: Debug + Drop>(
     alloc: Global,
     answer: Result<T, ReplaceError>,
 ) -> Result<String, AllocError> {
