@@ -8,6 +8,7 @@ use log::sink::{Discard, Writer};
 use std::alloc::{AllocError, Global};
 use std::io;
 use std::io::{Error, ErrorKind, Read, Write};
+use std::process::Abort;
 use zarrs_load::LoadFault;
 use zarrs_meaning::NodeCreateError;
 use zarrs_path::NodePath;
@@ -148,315 +149,390 @@ fn groups_at(alloc: Global, keys: &[&str]) -> Result<String, AllocError> {
     Ok(image)
 }
 
-#[test]
-fn answers_or_says_why_not(rt: HostRuntime) {
-    let table: [(&str, &[&str], &str, &str, &str, u8); 16] = [
-        (TWO_GROUPS, &["children", "/"], "/a\n", "", "", 0),
-        (TWO_GROUPS, &["list", "/"], "/a\n", "", "", 0),
-        (TWO_GROUPS, &["tree", "/"], "/\n  a\n", "", "", 0),
-        (TWO_GROUPS, &["consolidate", "/"], BLOCK_OF_A, "", "", 0),
-        ("{}", &["children", "/"], "", "", "", 0),
-        ("{}", &["list", "/"], "", "", "", 0),
+// What a run writes to the standard output, the variant of the refusal, what it writes to the standard error, and the status.
+type Wanted<'a> = (&'a str, &'a str, &'a str, u8);
+
+// Asserts what the program answers of an image.
+fn assert_answer<R: Abort + AllocGlobal>(rt: &R, image: &str, texts: &[&str], wanted: Wanted<'_>) {
+    let (output, refusal, errors, status) = wanted;
+    let (ran, refused) = run(rt.alloc(), image, texts).expect(rt, "memory");
+    assert_ran(rt, image, &ran, output, errors, status);
+    assert_text(rt, image, refused.as_str(), refusal);
+}
+
+// Asserts what the program answers, row by row: an image, words and what is wanted.
+fn assert_answers<R: Abort + AllocGlobal>(rt: &R, rows: &[(&str, &[&str], Wanted<'_>)]) {
+    for (image, texts, wanted) in rows {
+        assert_answer(rt, image, texts, *wanted);
+    }
+}
+
+// Asserts what the program answers of the image of some documents, row by row: words and what is wanted.
+fn assert_over<R: Abort + AllocGlobal>(
+    rt: &R,
+    documents: &[(&str, &str)],
+    rows: &[(&[&str], Wanted<'_>)],
+) {
+    let image = image_of(rt.alloc(), documents).expect(rt, "memory");
+    for (texts, wanted) in rows {
+        assert_answer(rt, image.as_str(), texts, *wanted);
+    }
+}
+
+// Images, words, and what the program answers.
+const ANSWERS: &[(&str, &[&str], Wanted)] = &[
+    (TWO_GROUPS, &["children", "/"], ("/a\n", "", "", 0)),
+    (TWO_GROUPS, &["list", "/"], ("/a\n", "", "", 0)),
+    (TWO_GROUPS, &["tree", "/"], ("/\n  a\n", "", "", 0)),
+    (TWO_GROUPS, &["consolidate", "/"], (BLOCK_OF_A, "", "", 0)),
+    ("{}", &["children", "/"], ("", "", "", 0)),
+    ("{}", &["list", "/"], ("", "", "", 0)),
+    (
+        r#"{"a/zarr.json":"x"}"#,
+        &["children", "/"],
         (
-            r#"{"a/zarr.json":"x"}"#,
-            &["children", "/"],
             "",
             r#"Node(StorageError(InvalidMetadata(StoreKey { text: "a/zarr.json" }, NotJson)))"#,
             "zarrs_tool: error parsing metadata for a/zarr.json: not JSON\n",
             1,
         ),
+    ),
+    (
+        "[]",
+        &["children", "/"],
+        ("", "Image", "zarrs_tool: image is not a JSON object\n", 1),
+    ),
+    (
+        r#"{"a//b":1}"#,
+        &["children", "/"],
         (
-            "[]",
-            &["children", "/"],
-            "",
-            "Image",
-            "zarrs_tool: image is not a JSON object\n",
-            1,
-        ),
-        (
-            r#"{"a//b":1}"#,
-            &["children", "/"],
             "",
             r#"ImageKey("a//b")"#,
             "zarrs_tool: bad store key in image: a//b\n",
             1,
         ),
+    ),
+    (
+        r#"{"a":1}"#,
+        &["children", "/"],
         (
-            r#"{"a":1}"#,
-            &["children", "/"],
             "",
             r#"ImageValue("a")"#,
             "zarrs_tool: no text in image at a\n",
             1,
         ),
+    ),
+    (
+        TWO_GROUPS,
+        &["children", "x"],
         (
-            TWO_GROUPS,
-            &["children", "x"],
             "",
             r#"Node(NodePathError(Invalid("x")))"#,
             "zarrs_tool: invalid node path x\n",
             1,
         ),
-        (TWO_GROUPS, &["children"], "", "Usage", USAGE, 2),
+    ),
+    (TWO_GROUPS, &["children"], ("", "Usage", USAGE, 2)),
+    (
+        TWO_GROUPS,
+        &["tree", "x"],
         (
-            TWO_GROUPS,
-            &["tree", "x"],
             "",
             r#"Node(NodePathError(Invalid("x")))"#,
             "zarrs_tool: invalid node path x\n",
             1,
         ),
-        (TWO_GROUPS, &["tree"], "", "Usage", USAGE, 2),
-        (
-            TWO_GROUPS,
-            &["folder", ".", "tree", "/"],
-            "",
-            "Usage",
-            USAGE,
-            2,
-        ),
-        ("", &[], "", "Usage", USAGE, 2),
-    ];
-    for (image, texts, output, refusal, errors, status) in table {
-        let (ran, refused) = run(rt.alloc(), image, texts).expect(&rt, "memory");
-        assert_ran(&rt, image, &ran, output, errors, status);
-        assert_text(&rt, image, refused.as_str(), refusal);
-    }
-}
+    ),
+    (TWO_GROUPS, &["tree"], ("", "Usage", USAGE, 2)),
+    (
+        TWO_GROUPS,
+        &["folder", ".", "tree", "/"],
+        ("", "Usage", USAGE, 2),
+    ),
+    ("", &[], ("", "Usage", USAGE, 2)),
+];
 
 #[test]
-fn lists_groups_in_path_order(rt: HostRuntime) {
-    let table: [(&[&str], &[&str], &str, &str, &str, u8); 7] = [
+fn answers_or_says_why_not(rt: HostRuntime) {
+    assert_answers(&rt, ANSWERS);
+}
+
+// The keys of groups, words, and what the program answers.
+const GROUPS: &[(&[&str], &[&str], Wanted)] = &[
+    (
+        &[
+            "a-b/zarr.json",
+            "a/zarr.json",
+            "b/c/zarr.json",
+            "__x/zarr.json",
+        ],
+        &["children", "/"],
+        ("/a\n/a-b\n", "", "", 0),
+    ),
+    (
+        &["../zarr.json"],
+        &["children", "/"],
         (
-            &[
-                "a-b/zarr.json",
-                "a/zarr.json",
-                "b/c/zarr.json",
-                "__x/zarr.json",
-            ],
-            &["children", "/"],
-            "/a\n/a-b\n",
-            "",
-            "",
-            0,
-        ),
-        (
-            &["../zarr.json"],
-            &["children", "/"],
             "",
             r#"Node(StorageError(Other("invalid node path /..")))"#,
             "zarrs_tool: invalid node path /..\n",
             1,
         ),
-        (
-            &["zarr.json", "a/zarr.json", "a/x/zarr.json", "a-b/zarr.json"],
-            &["list", "/"],
-            "/a\n/a/x\n/a-b\n",
-            "",
-            "",
-            0,
-        ),
-        (
-            &["zarr.json", "a/zarr.json", "a/x/zarr.json", "a-b/zarr.json"],
-            &["children", "/"],
-            "/a\n/a-b\n",
-            "",
-            "",
-            0,
-        ),
-        (
-            &["zarr.json", "a/zarr.json", "a/x/zarr.json", "a-b/zarr.json"],
-            &["list", "/a"],
-            "/a/x\n",
-            "",
-            "",
-            0,
-        ),
-        (
-            &["zarr.json/zarr.json", ".zarray/zarr.json", "..a/zarr.json"],
-            &["children", "/"],
-            "/..a\n/.zarray\n/zarr.json\n",
-            "",
-            "",
-            0,
-        ),
-        (
-            &["z/zarr.json", "\u{e9}/zarr.json"],
-            &["children", "/"],
-            "/z\n/\u{e9}\n",
-            "",
-            "",
-            0,
-        ),
-    ];
-    for (keys, texts, output, refusal, errors, status) in table {
+    ),
+    (
+        &["zarr.json", "a/zarr.json", "a/x/zarr.json", "a-b/zarr.json"],
+        &["list", "/"],
+        ("/a\n/a/x\n/a-b\n", "", "", 0),
+    ),
+    (
+        &["zarr.json", "a/zarr.json", "a/x/zarr.json", "a-b/zarr.json"],
+        &["children", "/"],
+        ("/a\n/a-b\n", "", "", 0),
+    ),
+    (
+        &["zarr.json", "a/zarr.json", "a/x/zarr.json", "a-b/zarr.json"],
+        &["list", "/a"],
+        ("/a/x\n", "", "", 0),
+    ),
+    (
+        &["zarr.json/zarr.json", ".zarray/zarr.json", "..a/zarr.json"],
+        &["children", "/"],
+        ("/..a\n/.zarray\n/zarr.json\n", "", "", 0),
+    ),
+    (
+        &["z/zarr.json", "\u{e9}/zarr.json"],
+        &["children", "/"],
+        ("/z\n/\u{e9}\n", "", "", 0),
+    ),
+];
+
+#[test]
+fn lists_groups_in_path_order(rt: HostRuntime) {
+    for (keys, texts, wanted) in GROUPS {
         let image = groups_at(rt.alloc(), keys).expect(&rt, "memory");
-        let (ran, refused) = run(rt.alloc(), image.as_str(), texts).expect(&rt, "memory");
-        assert_ran(&rt, image.as_str(), &ran, output, errors, status);
-        assert_text(&rt, image.as_str(), refused.as_str(), refusal);
+        assert_answer(&rt, image.as_str(), texts, *wanted);
     }
 }
+
+// Groups and arrays in three levels.
+const LEVELS: &[(&str, &str)] = &[
+    ("zarr.json", GROUP),
+    ("group/zarr.json", GROUP),
+    ("group/subgroup/zarr.json", GROUP),
+    ("array/zarr.json", SQUARE),
+    ("group/array/zarr.json", SQUARE),
+    ("group/subgroup/mysubarray/zarr.json", SQUARE),
+    ("group2/zarr.json", GROUP),
+];
+
+// Words, and what the program answers of the levels.
+const TREES: &[(&[&str], Wanted)] = &[
+    (
+        &["tree", "/"],
+        (
+            "/\n  array [10, 10] float32\n  group\n    array [10, 10] float32\n    subgroup\n      mysubarray [10, 10] float32\n  group2\n",
+            "",
+            "",
+            0,
+        ),
+    ),
+    (
+        &["tree", "/group"],
+        (
+            "/group\n  array [10, 10] float32\n  subgroup\n    mysubarray [10, 10] float32\n",
+            "",
+            "",
+            0,
+        ),
+    ),
+    (
+        &["tree", "/group/subgroup"],
+        (
+            "/group/subgroup\n  mysubarray [10, 10] float32\n",
+            "",
+            "",
+            0,
+        ),
+    ),
+    (&["tree", "/array"], ("/array\n", "", "", 0)),
+];
 
 #[test]
 fn prints_the_tree_of_groups_and_arrays(rt: HostRuntime) {
-    let documents = [
-        ("zarr.json", GROUP),
-        ("group/zarr.json", GROUP),
-        ("group/subgroup/zarr.json", GROUP),
-        ("array/zarr.json", SQUARE),
-        ("group/array/zarr.json", SQUARE),
-        ("group/subgroup/mysubarray/zarr.json", SQUARE),
-        ("group2/zarr.json", GROUP),
-    ];
-    let table = [
-        (
-            "/",
-            "/\n  array [10, 10] float32\n  group\n    array [10, 10] float32\n    subgroup\n      mysubarray [10, 10] float32\n  group2\n",
-        ),
-        (
-            "/group",
-            "/group\n  array [10, 10] float32\n  subgroup\n    mysubarray [10, 10] float32\n",
-        ),
-        (
-            "/group/subgroup",
-            "/group/subgroup\n  mysubarray [10, 10] float32\n",
-        ),
-        ("/array", "/array\n"),
-    ];
-    let image = image_of(rt.alloc(), &documents).expect(&rt, "memory");
-    for (path, output) in table {
-        let (ran, _) = run(rt.alloc(), image.as_str(), &["tree", path]).expect(&rt, "memory");
-        assert_ran(&rt, path, &ran, output, "", 0);
-    }
+    assert_over(&rt, LEVELS, TREES);
 }
+
+// Words, and what the program answers of a group with a block.
+const OF_BLOCK: &[(&[&str], Wanted)] = &[
+    (&["tree", "/"], ("/\n    r\n", "", "", 0)),
+    (&["consolidate", "/"], (EMPTY_BLOCK, "", "", 0)),
+];
 
 #[test]
 fn a_block_is_printed_and_not_consolidated(rt: HostRuntime) {
-    let documents = [("zarr.json", GROUP_WITH_BLOCK)];
-    let image = image_of(rt.alloc(), &documents).expect(&rt, "memory");
-    let table = [("tree", "/\n    r\n"), ("consolidate", EMPTY_BLOCK)];
-    for (word, output) in table {
-        let (ran, _) = run(rt.alloc(), image.as_str(), &[word, "/"]).expect(&rt, "memory");
-        assert_ran(&rt, word, &ran, output, "", 0);
-    }
+    assert_over(&rt, &[("zarr.json", GROUP_WITH_BLOCK)], OF_BLOCK);
 }
+
+// An array, and a group over a document that does not read.
+const UNOPENED: &[(&str, &str)] = &[
+    ("array/zarr.json", SQUARE),
+    ("bad/zarr.json", GROUP),
+    ("bad/a/zarr.json", "x"),
+];
+
+// Words, and why the program does not answer.
+const NOT_PRINTED: &[(&[&str], Wanted)] = &[
+    (
+        &["consolidate", "/array"],
+        ("", "NotAGroup", "zarrs_tool: not a group\n", 1),
+    ),
+    (
+        &["consolidate", "/nowhere"],
+        (
+            "",
+            r#"Node(MissingMetadata("/nowhere"))"#,
+            "zarrs_tool: Metadata is missing for /nowhere\n",
+            1,
+        ),
+    ),
+    (
+        &["tree", "/nowhere"],
+        (
+            "",
+            r#"Node(MissingMetadata("/nowhere"))"#,
+            "zarrs_tool: Metadata is missing for /nowhere\n",
+            1,
+        ),
+    ),
+    (
+        &["consolidate", "/bad"],
+        (
+            "",
+            r#"Node(StorageError(InvalidMetadata(StoreKey { text: "bad/a/zarr.json" }, NotJson)))"#,
+            "zarrs_tool: error parsing metadata for bad/a/zarr.json: not JSON\n",
+            1,
+        ),
+    ),
+    (
+        &["tree", "/bad"],
+        (
+            "",
+            r#"Node(StorageError(InvalidMetadata(StoreKey { text: "bad/a/zarr.json" }, NotJson)))"#,
+            "zarrs_tool: error parsing metadata for bad/a/zarr.json: not JSON\n",
+            1,
+        ),
+    ),
+    (
+        &["consolidate", "array"],
+        (
+            "",
+            r#"Node(NodePathError(Invalid("array")))"#,
+            "zarrs_tool: invalid node path array\n",
+            1,
+        ),
+    ),
+];
 
 #[test]
 fn what_is_not_opened_is_not_printed(rt: HostRuntime) {
-    let documents = [
-        ("array/zarr.json", SQUARE),
-        ("bad/zarr.json", GROUP),
-        ("bad/a/zarr.json", "x"),
-    ];
-    let image = image_of(rt.alloc(), &documents).expect(&rt, "memory");
-    let table: [(&[&str], &str, &str); 6] = [
-        (
-            &["consolidate", "/array"],
-            "NotAGroup",
-            "zarrs_tool: not a group\n",
-        ),
-        (
-            &["consolidate", "/nowhere"],
-            r#"Node(MissingMetadata("/nowhere"))"#,
-            "zarrs_tool: Metadata is missing for /nowhere\n",
-        ),
-        (
-            &["tree", "/nowhere"],
-            r#"Node(MissingMetadata("/nowhere"))"#,
-            "zarrs_tool: Metadata is missing for /nowhere\n",
-        ),
-        (
-            &["consolidate", "/bad"],
-            r#"Node(StorageError(InvalidMetadata(StoreKey { text: "bad/a/zarr.json" }, NotJson)))"#,
-            "zarrs_tool: error parsing metadata for bad/a/zarr.json: not JSON\n",
-        ),
-        (
-            &["tree", "/bad"],
-            r#"Node(StorageError(InvalidMetadata(StoreKey { text: "bad/a/zarr.json" }, NotJson)))"#,
-            "zarrs_tool: error parsing metadata for bad/a/zarr.json: not JSON\n",
-        ),
-        (
-            &["consolidate", "array"],
-            r#"Node(NodePathError(Invalid("array")))"#,
-            "zarrs_tool: invalid node path array\n",
-        ),
-    ];
-    for (texts, refusal, errors) in table {
-        let (ran, refused) = run(rt.alloc(), image.as_str(), texts).expect(&rt, "memory");
-        assert_ran(&rt, errors, &ran, "", errors, 1);
-        assert_text(&rt, errors, refused.as_str(), refusal);
-    }
+    assert_over(&rt, UNOPENED, NOT_PRINTED);
 }
+
+// A group with a fraction.
+const HALF: &str = r#"{"attributes":{"k":0.5},"node_type":"group","zarr_format":3}"#;
+
+// What the program answers of a store with it.
+const OF_HALF: Wanted = (
+    "",
+    r#"Node(StorageError(InvalidMetadata(StoreKey { text: "a/zarr.json" }, UnsupportedNumber)))"#,
+    "zarrs_tool: error parsing metadata for a/zarr.json: unsupported number\n",
+    1,
+);
 
 #[test]
 fn a_fraction_in_an_image_is_refused_by_name(rt: HostRuntime) {
-    let half = r#"{"attributes":{"k":0.5},"node_type":"group","zarr_format":3}"#;
-    let documents = [("zarr.json", GROUP), ("a/zarr.json", half)];
+    let documents = [("zarr.json", GROUP), ("a/zarr.json", HALF)];
     let image = image_of(rt.alloc(), &documents).expect(&rt, "memory");
     for word in ["children", "list", "tree", "consolidate"] {
-        let (ran, refused) = run(rt.alloc(), image.as_str(), &[word, "/"]).expect(&rt, "memory");
-        let errors = "zarrs_tool: error parsing metadata for a/zarr.json: unsupported number\n";
-        assert_ran(&rt, word, &ran, "", errors, 1);
-        let refusal =
-            r#"Node(StorageError(InvalidMetadata(StoreKey { text: "a/zarr.json" }, UnsupportedNumber)))"#;
-        assert_text(&rt, word, refused.as_str(), refusal);
+        assert_answer(&rt, image.as_str(), &[word, "/"], OF_HALF);
     }
 }
 
-#[test]
-fn keys_that_are_no_documents(rt: HostRuntime) {
-    let bare_key = r#"{"a":"","a/zarr.json":"{\"node_type\":\"group\",\"zarr_format\":3}"}"#;
-    let periods =
-        r#"{"a/.../x":"any","a/zarr.json":"{\"node_type\":\"group\",\"zarr_format\":3}"}"#;
-    let table: [(&str, &[&str], &str, &str, &str, u8); 4] = [
-        (bare_key, &["children", "/"], "/a\n", "", "", 0),
-        (bare_key, &["children", "/a"], "", "", "", 0),
-        (periods, &["children", "/"], "/a\n", "", "", 0),
+// A group with a key above it, and one with a key behind a name of periods.
+const BARE_KEY: &str = r#"{"a":"","a/zarr.json":"{\"node_type\":\"group\",\"zarr_format\":3}"}"#;
+
+const PERIODS: &str =
+    r#"{"a/.../x":"any","a/zarr.json":"{\"node_type\":\"group\",\"zarr_format\":3}"}"#;
+
+// Images, words, and what the program answers.
+const NO_DOCUMENTS: &[(&str, &[&str], Wanted)] = &[
+    (BARE_KEY, &["children", "/"], ("/a\n", "", "", 0)),
+    (BARE_KEY, &["children", "/a"], ("", "", "", 0)),
+    (PERIODS, &["children", "/"], ("/a\n", "", "", 0)),
+    (
+        PERIODS,
+        &["list", "/"],
         (
-            periods,
-            &["list", "/"],
             "",
             r#"Node(StorageError(Other("invalid node path /a/...")))"#,
             "zarrs_tool: invalid node path /a/...\n",
             1,
         ),
-    ];
-    for (image, texts, output, refusal, errors, status) in table {
-        let (ran, refused) = run(rt.alloc(), image, texts).expect(&rt, "memory");
-        assert_ran(&rt, image, &ran, output, errors, status);
-        assert_text(&rt, image, refused.as_str(), refusal);
-    }
+    ),
+];
+
+#[test]
+fn keys_that_are_no_documents(rt: HostRuntime) {
+    assert_answers(&rt, NO_DOCUMENTS);
 }
+
+// Images, words, and the first member that is bad.
+const BAD_MEMBERS: &[(&str, &[&str], Wanted)] = &[
+    (
+        r#"{"b":1,"a//b":1,"a":1}"#,
+        &["children", "/"],
+        (
+            "",
+            r#"ImageValue("a")"#,
+            "zarrs_tool: no text in image at a\n",
+            1,
+        ),
+    ),
+    (
+        r#"{"b":1,"a//b":"x"}"#,
+        &["children", "/"],
+        (
+            "",
+            r#"ImageKey("a//b")"#,
+            "zarrs_tool: bad store key in image: a//b\n",
+            1,
+        ),
+    ),
+    (
+        r#"{"":1}"#,
+        &["children", "/"],
+        (
+            "",
+            r#"ImageKey("")"#,
+            "zarrs_tool: bad store key in image: \n",
+            1,
+        ),
+    ),
+    (
+        r#"{"a":1,"a":"x","b":2}"#,
+        &["children", "/"],
+        (
+            "",
+            r#"ImageValue("b")"#,
+            "zarrs_tool: no text in image at b\n",
+            1,
+        ),
+    ),
+];
 
 #[test]
 fn the_first_bad_member_is_named(rt: HostRuntime) {
-    let table = [
-        (
-            r#"{"b":1,"a//b":1,"a":1}"#,
-            r#"ImageValue("a")"#,
-            "zarrs_tool: no text in image at a\n",
-        ),
-        (
-            r#"{"b":1,"a//b":"x"}"#,
-            r#"ImageKey("a//b")"#,
-            "zarrs_tool: bad store key in image: a//b\n",
-        ),
-        (
-            r#"{"":1}"#,
-            r#"ImageKey("")"#,
-            "zarrs_tool: bad store key in image: \n",
-        ),
-        (
-            r#"{"a":1,"a":"x","b":2}"#,
-            r#"ImageValue("b")"#,
-            "zarrs_tool: no text in image at b\n",
-        ),
-    ];
-    for (image, refusal, errors) in table {
-        let (ran, refused) = run(rt.alloc(), image, &["children", "/"]).expect(&rt, "memory");
-        assert_ran(&rt, image, &ran, "", errors, 1);
-        assert_text(&rt, image, refused.as_str(), refusal);
-    }
+    assert_answers(&rt, BAD_MEMBERS);
 }
 
 #[test]
@@ -541,50 +617,61 @@ fn warns_of_what_is_passed_over(rt: HostRuntime) {
     );
 }
 
+// The refusal that a word names.
+fn fault_of(alloc: Global, word: &str) -> Option<ToolFault> {
+    let fault = match word {
+        "usage" => ToolFault::Usage,
+        "read" => ToolFault::from(LoadFault::Read),
+        "too long" => ToolFault::from(LoadFault::ReadTooLong),
+        "image" => ToolFault::from(LoadFault::Image),
+        "key" => ToolFault::from(LoadFault::ImageKey(String::from_str(alloc, "a//b").ok()?)),
+        "value" => ToolFault::from(LoadFault::ImageValue(String::from_str(alloc, "a").ok()?)),
+        "folder" => ToolFault::from(LoadFault::Folder),
+        "memory" => ToolFault::from(LoadFault::OutOfMemory),
+        "group" => ToolFault::NotAGroup,
+        "fraction" => ToolFault::Fraction(NodePath::new(alloc, "/a").ok()?),
+        "node" => ToolFault::from(NodeCreateError::MetadataVersionMismatch),
+        "write" => ToolFault::Write,
+        _ => return None,
+    };
+    Some(fault)
+}
+
+// Refusals, with their variants and texts.
+const FAULTS: &[(&str, &str)] = &[
+    (
+        "usage",
+        "Usage: usage: zarrs_tool (children|list|tree|consolidate) PATH | folder DIR tree PATH",
+    ),
+    ("read", "Read: read fault"),
+    ("too long", "ReadTooLong: input too long"),
+    ("image", "Image: image is not a JSON object"),
+    ("key", r#"ImageKey("a//b"): bad store key in image: a//b"#),
+    ("value", r#"ImageValue("a"): no text in image at a"#),
+    ("folder", "Folder: folder fault"),
+    ("memory", "OutOfMemory: out of memory"),
+    ("group", "NotAGroup: not a group"),
+    (
+        "fraction",
+        r#"Fraction(NodePath { text: "/a" }): /a has an unsupported number, one with a fraction"#,
+    ),
+    (
+        "node",
+        "Node(MetadataVersionMismatch): Found V2 metadata in V3 key or vice-versa",
+    ),
+    ("write", "Write: write fault"),
+];
+
+// Asserts the variant and the text of the refusal that a word names.
+fn assert_fault<R: Abort + AllocGlobal>(rt: &R, word: &str, text: &str) {
+    let fault = fault_of(rt.alloc(), word).expect(rt, word);
+    let shown = refused(rt.alloc(), &fault).expect(rt, "memory");
+    assert_text(rt, word, shown.as_str(), text);
+}
+
 #[test]
 fn faults_have_their_texts(rt: HostRuntime) {
-    let alloc = rt.alloc();
-    let key = String::from_str(alloc, "a//b").expect(&rt, "memory");
-    let value = String::from_str(alloc, "a").expect(&rt, "memory");
-    let path = NodePath::new(alloc, "/a").expect(&rt, "memory");
-    let usage = format!(in alloc; "Usage: {}", USAGE.trim_end()).expect(&rt, "memory");
-    let table = [
-        (ToolFault::Usage, usage.as_str()),
-        (ToolFault::from(LoadFault::Read), "Read: read fault"),
-        (
-            ToolFault::from(LoadFault::ReadTooLong),
-            "ReadTooLong: input too long",
-        ),
-        (
-            ToolFault::from(LoadFault::Image),
-            "Image: image is not a JSON object",
-        ),
-        (
-            ToolFault::from(LoadFault::ImageKey(key)),
-            r#"ImageKey("a//b"): bad store key in image: a//b"#,
-        ),
-        (
-            ToolFault::from(LoadFault::ImageValue(value)),
-            r#"ImageValue("a"): no text in image at a"#,
-        ),
-        (ToolFault::from(LoadFault::Folder), "Folder: folder fault"),
-        (
-            ToolFault::from(LoadFault::OutOfMemory),
-            "OutOfMemory: out of memory",
-        ),
-        (ToolFault::NotAGroup, "NotAGroup: not a group"),
-        (
-            ToolFault::Fraction(path),
-            r#"Fraction(NodePath { text: "/a" }): /a has an unsupported number, one with a fraction"#,
-        ),
-        (
-            ToolFault::from(NodeCreateError::MetadataVersionMismatch),
-            "Node(MetadataVersionMismatch): Found V2 metadata in V3 key or vice-versa",
-        ),
-        (ToolFault::Write, "Write: write fault"),
-    ];
-    for (fault, text) in table {
-        let shown = refused(alloc, &fault).expect(&rt, "memory");
-        assert_text(&rt, text, shown.as_str(), text);
+    for (word, text) in FAULTS {
+        assert_fault(&rt, word, text);
     }
 }
