@@ -120,10 +120,8 @@ pub(crate) fn set(
     alloc: Global,
     block: Option<ConsolidatedMetadata>,
 ) -> Result<(), NodeCreateError> {
-    match group.set_consolidated_metadata(alloc, block) {
-        Ok(_) => Ok(()),
-        Err(error) => Err(error),
-    }
+    group.set_consolidated_metadata(alloc, block)?;
+    Ok(())
 }
 
 /// Sets the block of a list.

@@ -19,18 +19,12 @@ fn all_of(alloc: Global, documents: &str) -> Result<ListedNodes, NodeCreateError
 // The group of version 3 at the root, over what is listed below it in a store.
 fn root_over(alloc: Global, documents: &str) -> Result<Node, NodeCreateError> {
     let path = NodePath::root(alloc)?;
-    match all_of(alloc, documents) {
-        Ok(
-            ListedNodes {
-                nodes,
-                ignored: _ignored,
-            },
-        ) => {
-            let metadata = NodeMetadata::Group(GroupMetadata::V3(GroupMetadataV3::new(alloc)));
-            Ok(Node::new_with_metadata(path, metadata, nodes))
-        }
-        Err(error) => Err(error),
-    }
+    let ListedNodes {
+        nodes,
+        ignored: _ignored,
+    } = all_of(alloc, documents)?;
+    let metadata = NodeMetadata::Group(GroupMetadata::V3(GroupMetadataV3::new(alloc)));
+    Ok(Node::new_with_metadata(path, metadata, nodes))
 }
 
 fn tree_said(alloc: Global, given: &str) -> Result<String, AllocError> {

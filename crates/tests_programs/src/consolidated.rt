@@ -356,28 +356,30 @@ fn answered<R: Abort>(rt: &R, alloc: Global, dry_run: bool, calls: u64) -> Strin
     format!(in alloc; "{outcome:?} {files} {is_old} {text}").expect(rt, "memory")
 }
 
+// Whether nothing is written, after how many calls one fails, and what is answered.
+const IN_MEMORY: &[(bool, u64, &str)] = &[
+    (
+        false,
+        u64::MAX,
+        "Ok(Complete) 1 false wrote zarr.json: the block of 0 nodes\n",
+    ),
+    (
+        true,
+        0,
+        "Ok(Due) 1 true would write zarr.json: the block of 0 nodes\n",
+    ),
+    (
+        false,
+        3,
+        r#"Err(Replace(Failed { step: Writing, name: "zarr.json.zarrs_new", why: "it was to fail" })) 1 true "#,
+    ),
+];
+
 #[test]
 fn a_folder_in_memory_is_written_to(rt: HostRuntime) {
     let alloc = rt.alloc();
-    let rows = [
-        (
-            false,
-            u64::MAX,
-            "Ok(Complete) 1 false wrote zarr.json: the block of 0 nodes\n",
-        ),
-        (
-            true,
-            0,
-            "Ok(Due) 1 true would write zarr.json: the block of 0 nodes\n",
-        ),
-        (
-            false,
-            3,
-            r#"Err(Replace(Failed { step: Writing, name: "zarr.json.zarrs_new", why: "it was to fail" })) 1 true "#,
-        ),
-    ];
-    for (dry_run, calls, wanted) in rows {
-        let said = answered(&rt, alloc, dry_run, calls);
+    for (dry_run, calls, wanted) in IN_MEMORY {
+        let said = answered(&rt, alloc, *dry_run, *calls);
         assert_text(&rt, wanted, said.as_str(), wanted);
     }
 }

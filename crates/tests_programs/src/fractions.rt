@@ -174,20 +174,22 @@ fn folder_ran(rt: &HostRuntime, number: &str) -> io::Result<(String, String, u8)
     Ok(ran)
 }
 
+// A number in the store, and what the program writes of the folder, with its status.
+const IN_A_FOLDER: &[(&str, &str, &str, u8)] = &[
+    ("6.37814e+06", "", CLEAN, 0),
+    ("6378140.000000001", DIFFERS, ONE, 1),
+    (
+        "NaN",
+        "/a: error parsing metadata for a/.zattrs: not JSON\n",
+        "zarrs: 1 node, 1 finding\n",
+        1,
+    ),
+];
+
 #[test]
 fn reads_fractions_in_a_folder(rt: HostRuntime) {
-    let table = [
-        ("6.37814e+06", "", CLEAN, 0),
-        ("6378140.000000001", DIFFERS, ONE, 1),
-        (
-            "NaN",
-            "/a: error parsing metadata for a/.zattrs: not JSON\n",
-            "zarrs: 1 node, 1 finding\n",
-            1,
-        ),
-    ];
-    for (number, output, errors, status) in table {
+    for (number, output, errors, status) in IN_A_FOLDER {
         let ran = folder_ran(&rt, number).expect(&rt, "a folder");
-        assert_ran(&rt, number, &ran, output, errors, status);
+        assert_ran(&rt, number, &ran, output, errors, *status);
     }
 }

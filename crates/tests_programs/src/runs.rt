@@ -5,6 +5,8 @@ use std::alloc::{AllocError, Global};
 use std::io;
 use std::io::{Error, ErrorKind, Read, Write};
 use std::process::Abort;
+use std::test::Fail;
+use tests_support::check_rows;
 use zarrs_cli::{
     Answered, CheckOptions, Tally, Word, ZarrsFault, finish, load_image, run_of_image, run_store,
 };
@@ -125,10 +127,7 @@ impl Write for Unflushed {
 
 // How a run ends that looks at a store.
 fn looked(outcome: Result<Option<Tally>, ZarrsFault>) -> Result<Answered, ZarrsFault> {
-    match outcome {
-        Ok(tally) => Ok(Answered::Looked(tally)),
-        Err(fault) => Err(fault),
-    }
+    Ok(Answered::Looked(outcome?))
 }
 
 // What goes to the standard output and the standard error, and the status.
@@ -679,62 +678,75 @@ fn warns_of_what_is_passed_over(rt: HostRuntime) {
     );
 }
 
-#[test]
-fn faults_have_their_texts(rt: HostRuntime) {
-    let alloc = rt.alloc();
-    let key = String::from_str(alloc, "a//b").expect(&rt, "memory");
-    let value = String::from_str(alloc, "a").expect(&rt, "memory");
-    let table = [
-        (ZarrsFault::Usage, "Usage: wrong words"),
-        (ZarrsFault::from(LoadFault::Read), "Load(Read): read fault"),
-        (
-            ZarrsFault::from(LoadFault::ReadTooLong),
-            "Load(ReadTooLong): input too long",
-        ),
-        (
-            ZarrsFault::from(LoadFault::Image),
-            "Load(Image): image is not a JSON object",
-        ),
-        (
-            ZarrsFault::from(LoadFault::ImageKey(key)),
-            r#"Load(ImageKey("a//b")): bad store key in image: a//b"#,
-        ),
-        (
-            ZarrsFault::from(LoadFault::ImageValue(value)),
-            r#"Load(ImageValue("a")): no text in image at a"#,
-        ),
-        (
-            ZarrsFault::from(LoadFault::OutOfMemory),
-            "Load(OutOfMemory): out of memory",
-        ),
-        (
-            ZarrsFault::from(FolderFault::OutOfMemory),
-            "Folder(OutOfMemory): out of memory",
-        ),
-        (ZarrsFault::OutOfMemory, "OutOfMemory: out of memory"),
-        (
-            ZarrsFault::TooDeep,
-            "TooDeep: the document would nest deeper than any that is read",
-        ),
-        (
-            ZarrsFault::from(ConsolidateError::TooDeep),
-            "Consolidate(TooDeep): the document would nest deeper than any that is read",
-        ),
-        (
-            ZarrsFault::from(ConsolidateError::Block(NodeCreateError::MetadataVersionMismatch)),
-            "Consolidate(Block(MetadataVersionMismatch)): the block of a group of version 2 holds no node of version 3",
-        ),
-        (
-            ZarrsFault::from(ConsolidateError::OutOfMemory),
-            "Consolidate(OutOfMemory): out of memory",
-        ),
-        (
-            ZarrsFault::from(ReplaceError::OutOfMemory),
-            "Replace(OutOfMemory): out of memory",
-        ),
-        (ZarrsFault::Write, "Write: write fault"),
-    ];
-    for (fault, text) in table {
-        assert_refused(&rt, alloc, &Err(fault), text);
+// The refusal that two words name, what refused and how.
+fn fault_of(alloc: Global, words: &str) -> Result<Option<ZarrsFault>, AllocError> {
+    let (part, word) = words.split_once(' ').unwrap_or((words, ""));
+    let fault = match part {
+        "usage" => ZarrsFault::Usage,
+        "memory" => ZarrsFault::OutOfMemory,
+        "folder" => ZarrsFault::from(FolderFault::OutOfMemory),
+        "deep" => ZarrsFault::TooDeep,
+        "replace" => ZarrsFault::from(ReplaceError::OutOfMemory),
+        "write" => ZarrsFault::Write,
+        "load" => return Ok(load_fault(alloc, word)?.map(ZarrsFault::from)),
+        "consolidate" => return Ok(consolidate_error(word).map(ZarrsFault::from)),
+        _ => return Ok(None),
+    };
+    Ok(Some(fault))
+}
+
+// The refusal of an image by its name.
+fn load_fault(alloc: Global, word: &str) -> Result<Option<LoadFault>, AllocError> {
+    let fault = match word {
+        "read" => LoadFault::Read,
+        "long" => LoadFault::ReadTooLong,
+        "image" => LoadFault::Image,
+        "key" => LoadFault::ImageKey(String::from_str(alloc, "a//b")?),
+        "value" => LoadFault::ImageValue(String::from_str(alloc, "a")?),
+        "memory" => LoadFault::OutOfMemory,
+        _ => return Ok(None),
+    };
+    Ok(Some(fault))
+}
+
+// The refusal of a block by its name.
+fn consolidate_error(word: &str) -> Option<ConsolidateError> {
+    match word {
+        "deep" => Some(ConsolidateError::TooDeep),
+        "version" => Some(ConsolidateError::Block(NodeCreateError::MetadataVersionMismatch)),
+        "memory" => Some(ConsolidateError::OutOfMemory),
+        _ => None,
     }
+}
+
+// The variant and the text of the refusal that words name.
+fn fault_said(alloc: Global, words: &str) -> Result<String, AllocError> {
+    match fault_of(alloc, words)? {
+        Some(fault) => format!(in alloc; "{fault:?}: {fault}"),
+        None => format!(in alloc; "no fault is {words}"),
+    }
+}
+
+// Refusals, with their variants and texts.
+const FAULTS_SAID: &str = r#"
+usage => Usage: wrong words
+load read => Load(Read): read fault
+load long => Load(ReadTooLong): input too long
+load image => Load(Image): image is not a JSON object
+load key => Load(ImageKey("a//b")): bad store key in image: a//b
+load value => Load(ImageValue("a")): no text in image at a
+load memory => Load(OutOfMemory): out of memory
+folder => Folder(OutOfMemory): out of memory
+memory => OutOfMemory: out of memory
+deep => TooDeep: the document would nest deeper than any that is read
+consolidate deep => Consolidate(TooDeep): the document would nest deeper than any that is read
+consolidate version => Consolidate(Block(MetadataVersionMismatch)): the block of a group of version 2 holds no node of version 3
+consolidate memory => Consolidate(OutOfMemory): out of memory
+replace => Replace(OutOfMemory): out of memory
+write => Write: write fault
+"#;
+
+#[test]
+fn faults_have_their_texts(rt: HostRuntime) -> Result<(), Fail> {
+    check_rows(rt.alloc(), FAULTS_SAID, fault_said)
 }

@@ -5,6 +5,7 @@ use crate::loading::planned::{Planned, Planted};
 use log::sink::Writer;
 use log::{Level, Logged};
 use std::os::unix::fs::symlink;
+use std::process::Abort;
 use std::rt::Files;
 use std::{fs, io};
 use zarrs_load::{MOST_ENTRIES, load_folder};
@@ -82,60 +83,71 @@ fn documents_have_bytes_and_links_are_passed_over(rt: HostRuntime) {
     fs::remove_dir_all(&rt, folder).expect(&rt, "a folder");
 }
 
+// Asserts what loading a folder answers that has one file, and the warning.
+fn assert_one_file<R: Abort + AllocGlobal>(
+    rt: &R,
+    last: &[u8],
+    file: Planted,
+    answer: &str,
+    warning: &str,
+) {
+    let planned = Planned {
+        alloc: rt.alloc(),
+        many: b"",
+        times: 0,
+        last,
+        file,
+    };
+    let said = load(&planned, "p").expect(rt, "memory");
+    assert_text(rt, warning, said.0.as_str(), answer);
+    assert_warned(rt, said.1.as_str(), warning);
+}
+
+// The names of a folder whose files cannot be read, what loading it answers, and the warning.
+const BROKEN: &[(&[u8], &str, &str)] = &[
+    (
+        b"zarr.json\0",
+        "Folder: folder fault",
+        "p/zarr.json was not read: read fault",
+    ),
+    (
+        b".zattrs\0",
+        "Folder: folder fault",
+        "p/.zattrs was not read: permission denied",
+    ),
+    (
+        b"hidden\0",
+        "Folder: folder fault",
+        "p/hidden was not read: permission denied",
+    ),
+    (
+        b"a\0\xff\0",
+        "Folder: folder fault",
+        "p was not read: a name in it is not UTF-8",
+    ),
+    (b".\0..\0.zattr\0", ".zattr \n", ""),
+];
+
 #[test]
 fn what_is_not_read_is_named(rt: HostRuntime) {
-    let alloc = rt.alloc();
-    let long = format!(in alloc;
-        ".zgroup {}\n",
-        " ".repeat(alloc, 999_999).expect(&rt, "memory")
-    )
-    .expect(&rt, "memory");
-    let table: [(&[u8], Planted, &str, &str); 7] = [
-        (b".zgroup\0", Planted::Long(999_999), long.as_str(), ""),
-        (
-            b".zgroup\0",
-            Planted::Long(1_000_000),
-            "Folder: folder fault",
-            "p/.zgroup was not read: input too long",
-        ),
-        (
-            b"zarr.json\0",
-            Planted::Broken,
-            "Folder: folder fault",
-            "p/zarr.json was not read: read fault",
-        ),
-        (
-            b".zattrs\0",
-            Planted::Broken,
-            "Folder: folder fault",
-            "p/.zattrs was not read: permission denied",
-        ),
-        (
-            b"hidden\0",
-            Planted::Broken,
-            "Folder: folder fault",
-            "p/hidden was not read: permission denied",
-        ),
-        (
-            b"a\0\xff\0",
-            Planted::Broken,
-            "Folder: folder fault",
-            "p was not read: a name in it is not UTF-8",
-        ),
-        (b".\0..\0.zattr\0", Planted::Broken, ".zattr \n", ""),
-    ];
-    for (last, file, answer, warning) in table {
-        let planned = Planned {
-            alloc,
-            many: b"",
-            times: 0,
-            last,
-            file,
-        };
-        let said = load(&planned, "p").expect(&rt, "memory");
-        assert_text(&rt, warning, said.0.as_str(), answer);
-        assert_warned(&rt, said.1.as_str(), warning);
+    for (last, answer, warning) in BROKEN {
+        assert_one_file(&rt, last, Planted::Broken, answer, warning);
     }
+}
+
+#[test]
+fn a_document_of_a_million_bytes_is_too_long(rt: HostRuntime) {
+    let alloc = rt.alloc();
+    let blanks = " ".repeat(alloc, 999_999).expect(&rt, "memory");
+    let long = format!(in alloc; ".zgroup {blanks}\n").expect(&rt, "memory");
+    assert_one_file(&rt, b".zgroup\0", Planted::Long(999_999), long.as_str(), "");
+    assert_one_file(
+        &rt,
+        b".zgroup\0",
+        Planted::Long(1_000_000),
+        "Folder: folder fault",
+        "p/.zgroup was not read: input too long",
+    );
 }
 
 #[test]

@@ -43,33 +43,35 @@ fn reads_whole_inputs(rt: HostRuntime) {
     assert_eq!(rt; bytes.as_slice(), b"three".as_slice());
 }
 
+// Images, and what loading answers.
+const IMAGES: &[(&str, &str)] = &[
+    (r#"{"b/c":"two","a":"one"}"#, "a one\nb/c two\n"),
+    ("{}", ""),
+    ("[]", "Image: image is not a JSON object"),
+    ("", "Image: image is not a JSON object"),
+    (
+        r#"{"a//b":1}"#,
+        r#"ImageKey("a//b"): bad store key in image: a//b"#,
+    ),
+    (r#"{"a":1}"#, r#"ImageValue("a"): no text in image at a"#),
+    (
+        r#"{"b":1,"a//b":1,"a":1}"#,
+        r#"ImageValue("a"): no text in image at a"#,
+    ),
+    (
+        r#"{"b":1,"a//b":"x"}"#,
+        r#"ImageKey("a//b"): bad store key in image: a//b"#,
+    ),
+    (
+        r#"{"a":1,"a":"x","b":2}"#,
+        r#"ImageValue("b"): no text in image at b"#,
+    ),
+];
+
 #[test]
 fn loads_the_texts_of_an_image(rt: HostRuntime) {
     let alloc = rt.alloc();
-    let table = [
-        (r#"{"b/c":"two","a":"one"}"#, "a one\nb/c two\n"),
-        ("{}", ""),
-        ("[]", "Image: image is not a JSON object"),
-        ("", "Image: image is not a JSON object"),
-        (
-            r#"{"a//b":1}"#,
-            r#"ImageKey("a//b"): bad store key in image: a//b"#,
-        ),
-        (r#"{"a":1}"#, r#"ImageValue("a"): no text in image at a"#),
-        (
-            r#"{"b":1,"a//b":1,"a":1}"#,
-            r#"ImageValue("a"): no text in image at a"#,
-        ),
-        (
-            r#"{"b":1,"a//b":"x"}"#,
-            r#"ImageKey("a//b"): bad store key in image: a//b"#,
-        ),
-        (
-            r#"{"a":1,"a":"x","b":2}"#,
-            r#"ImageValue("b"): no text in image at b"#,
-        ),
-    ];
-    for (image, answer) in table {
+    for (image, answer) in IMAGES {
         let mut reader = image.as_bytes();
         let said = loaded(alloc, &load_image(alloc, &mut reader)).expect(&rt, "memory");
         assert_text(&rt, image, said.as_str(), answer);

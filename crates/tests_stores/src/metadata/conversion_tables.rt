@@ -251,10 +251,7 @@ fn array_of(alloc: Global, members: &str) -> Result<ArrayMetadataV2, MetadataFau
 fn listed(
     answer: Result<Vec<MetadataV3>, ArrayMetadataV2ToV3Error>,
 ) -> Result<List<MetadataV3>, ArrayMetadataV2ToV3Error> {
-    match answer {
-        Ok(codecs) => Ok(List::new(codecs)),
-        Err(error) => Err(error),
-    }
+    Ok(List::new(answer?))
 }
 
 // The codecs of an array, for this data type of version 3 and this byte order.

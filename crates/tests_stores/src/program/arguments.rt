@@ -16,25 +16,28 @@ fn said(planned: &Planned<'_>) -> Option<String> {
     }
 }
 
+const NO_TEXT: &str = "NotText: a word is not UTF-8";
+
+// The words of a process, which of them is no text, and what is answered.
+const WORDS: &[(&[&str], Option<usize>, &str)] = &[
+    (&[], None, ""),
+    (&["zarrs"], None, ""),
+    (&["zarrs", "tree", "/"], None, "<tree></>"),
+    (&["zarrs", "", "x y"], None, "<><x y>"),
+    (&["", "tree"], None, "<tree>"),
+    (&["zarrs", "\u{e9}"], None, "<\u{e9}>"),
+    (&["zarrs", "tree", "/"], Some(2), NO_TEXT),
+    (&["zarrs", "tree"], Some(1), NO_TEXT),
+    (&["zarrs", "tree"], Some(0), NO_TEXT),
+];
+
 #[test]
 fn words_stand_behind_the_name(rt: HostRuntime) {
-    let no_text = "NotText: a word is not UTF-8";
-    let table: [(&[&str], Option<usize>, &str); 9] = [
-        (&[], None, ""),
-        (&["zarrs"], None, ""),
-        (&["zarrs", "tree", "/"], None, "<tree></>"),
-        (&["zarrs", "", "x y"], None, "<><x y>"),
-        (&["", "tree"], None, "<tree>"),
-        (&["zarrs", "\u{e9}"], None, "<\u{e9}>"),
-        (&["zarrs", "tree", "/"], Some(2), no_text),
-        (&["zarrs", "tree"], Some(1), no_text),
-        (&["zarrs", "tree"], Some(0), no_text),
-    ];
-    for (words, odd, wanted) in table {
+    for (words, odd, wanted) in WORDS {
         let planned = Planned {
             alloc: rt.alloc(),
-            words,
-            odd,
+            words: *words,
+            odd: *odd,
         };
         let found = said(&planned).expect(&rt, "memory");
         assert_text(&rt, "words", found.as_str(), wanted);

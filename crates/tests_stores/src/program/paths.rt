@@ -11,24 +11,26 @@ fn said(alloc: Global, text: &str) -> Option<String> {
     }
 }
 
+// Words, and the paths that they name.
+const WORDS: &[(&str, &str)] = &[
+    ("/", "/"),
+    ("/a", "/a"),
+    ("/a/b", "/a/b"),
+    ("", r#"NodePathError(Invalid("")): invalid node path "#),
+    ("a", r#"NodePathError(Invalid("a")): invalid node path a"#),
+    (
+        "/a/",
+        r#"NodePathError(Invalid("/a/")): invalid node path /a/"#,
+    ),
+    (
+        "/a/..",
+        r#"NodePathError(Invalid("/a/..")): invalid node path /a/.."#,
+    ),
+];
+
 #[test]
 fn a_word_names_a_path_or_is_refused(rt: HostRuntime) {
-    let table = [
-        ("/", "/"),
-        ("/a", "/a"),
-        ("/a/b", "/a/b"),
-        ("", r#"NodePathError(Invalid("")): invalid node path "#),
-        ("a", r#"NodePathError(Invalid("a")): invalid node path a"#),
-        (
-            "/a/",
-            r#"NodePathError(Invalid("/a/")): invalid node path /a/"#,
-        ),
-        (
-            "/a/..",
-            r#"NodePathError(Invalid("/a/..")): invalid node path /a/.."#,
-        ),
-    ];
-    for (text, wanted) in table {
+    for (text, wanted) in WORDS {
         let found = said(rt.alloc(), text).expect(&rt, "memory");
         assert_text(&rt, text, found.as_str(), wanted);
     }
