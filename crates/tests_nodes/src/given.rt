@@ -24,6 +24,22 @@ const ONE_SET_AGAIN: &str =
 const BOTH_VERSIONS: &str =
     "zarr.json G3;group/zarr.json G3;group/subgroup/zarr.json G3;array/zarr.json A3_SQUARE;array/c/0/0;group/array/zarr.json A3_SQUARE;group/subgroup/mysubarray/zarr.json A3_SQUARE;groupv2/.zgroup G2;groupv2/arrayv2/.zarray A2";
 
+// A group of version 3 with the attribute `k`.
+const G3_WITH_K: &str = r#"{"attributes":{"k":1},"node_type":"group","zarr_format":3}"#;
+
+// The same group with a block that has nothing.
+const G3_WITH_K_AND_BLOCK: &str =
+    r#"{"attributes":{"k":1},"consolidated_metadata":{"kind":"inline","metadata":{},"must_understand":false},"node_type":"group","zarr_format":3}"#;
+
+/// The document that a word names, or the text that begins as JSON does. A word that names none is refused.
+pub(crate) fn document<'a>(alloc: Global, word: &'a str) -> Result<&'a str, StorageError> {
+    match word {
+        "K" => Ok(G3_WITH_K),
+        "KB" => Ok(G3_WITH_K_AND_BLOCK),
+        word => document_of(alloc, word),
+    }
+}
+
 /// The pairs of a list: a key, a blank and a document or its name each, with semicolons between them. A key alone has the empty
 /// document.
 pub(crate) fn pairs_in<'a>(
@@ -34,7 +50,7 @@ pub(crate) fn pairs_in<'a>(
     for item in list.split(';') {
         if !item.is_empty() {
             let (key, word) = item.split_once(' ').unwrap_or((item, ""));
-            pairs.push((key, document_of(alloc, word)?))?;
+            pairs.push((key, document(alloc, word)?))?;
         }
     }
     Ok(pairs)

@@ -1,12 +1,11 @@
-//! Tests that cross crates: nodes and their blocks, read, listed, opened and made current in stores; groups that are made, opened, stored and
-//! erased, their blocks and what stands below them; hierarchies; every call that opens, lists, prints, stores or erases over stores that fail; and the
-//! callers of `zarrs_examples` with its store of one's own. By public calls alone. The crate has no call of its own.
+//! Tests that cross crates: nodes and their blocks, read, listed, opened and made current in stores; surveys and checks, with what is told of blocks
+//! and of nodes; and the callers of `zarrs_examples` with its store of one's own. By public calls alone. The crate has no call of its own.
 #![tactic(auto)]
 
 #[cfg(test)]
-mod any_numbers;
+mod above;
 #[cfg(test)]
-mod block_documents;
+mod check_fractions;
 #[cfg(test)]
 mod consolidation;
 #[cfg(test)]
@@ -16,17 +15,11 @@ mod documents;
 #[cfg(test)]
 mod examples;
 #[cfg(test)]
-mod fixture_rows;
+mod failing;
 #[cfg(test)]
-mod fixtures;
+mod findings;
 #[cfg(test)]
 mod given;
-#[cfg(test)]
-mod group_children;
-#[cfg(test)]
-mod groups;
-#[cfg(test)]
-mod hierarchies;
 #[cfg(test)]
 mod listing;
 #[cfg(test)]
@@ -34,10 +27,18 @@ mod metadata;
 #[cfg(test)]
 mod nodes;
 #[cfg(test)]
+mod nodes_told;
+#[cfg(test)]
+mod notes;
+#[cfg(test)]
 mod numbers;
 #[cfg(test)]
 mod opening;
 #[cfg(test)]
+mod orphans;
+#[cfg(test)]
 mod refreshing;
+#[cfg(test)]
+mod surveys;
 #[cfg(test)]
 mod text;

@@ -1,10 +1,9 @@
 //! Which keys are loaded, and what a listing over them says.
 
-use crate::given::store_in as store_in_whole;
 use crate::same::is_same;
 use std::alloc::{AllocError, Global};
 use std::test::Fail;
-use tests_fixtures::{ANY, listed_in, listing_text};
+use tests_fixtures::{ANY, document_of, listed_in, listing_text, store_of};
 use tests_support::{check_rows, fields, said};
 use zarrs_folder::{
     Documents, Folder, FolderFault, laws, load_base, load_below, load_children, load_nodes,
@@ -16,9 +15,16 @@ use zarrs_store::{
     StorePrefix,
 };
 
-// The store with the documents of a list, whose documents may hold any number.
+// The store with the documents of a list: a key, a blank and a document each, with semicolons between them. A key alone has the empty document.
 pub(crate) fn store_in(alloc: Global, list: &str) -> Result<AnyNumbers<MemoryStore>, StorageError> {
-    let inner = store_in_whole(alloc, list)?;
+    let mut pairs = Vec::new(alloc);
+    for item in list.split(';') {
+        if !item.is_empty() {
+            let (key, word) = item.split_once(' ').unwrap_or((item, ""));
+            pairs.push((key, document_of(alloc, word)?))?;
+        }
+    }
+    let inner = store_of(alloc, pairs.as_slice())?;
     Ok(AnyNumbers { inner })
 }
 
