@@ -131,6 +131,7 @@ const NAMES_COMPARED: &str = r#"
 # names are equal by their texts
 new_unchecked | ab => 'ab', root false, equal true
 new_unchecked | a => 'ab', root false, equal false
+a | b => 'a', root false, equal false
 # the root's name is the empty name
 root |  => '', root true, equal true
  | root => '', root true, equal true
@@ -241,6 +242,7 @@ const WORDS: &str = r#"
 NodeNameError => out of memory
 NodePathError => out of memory
 # a law accepts the texts of paths
+accepted_texts | / => true
 accepted_texts | /a => true
 accepted_texts | a => false
 # the root has no names
@@ -355,6 +357,7 @@ parent | / => none
 parent | /foo => /
 parent | /foo/bar => /foo
 parent | /foo/bar/baz => /foo/bar
+parent | /b/a => /b
 # the laws of parents
 parent_of_root => none
 parent_of_join bar | /foo => /foo
@@ -560,6 +563,7 @@ path_and_back | a/ => 'a/'
 path_and_back | a/b/ => 'a/b/'
 # a prefix with what is no name is refused
 from_prefix | a/__x/ => Invalid: invalid node path /a/__x
+from_prefix | a/__y/ => Invalid: invalid node path /a/__y
 "#;
 
 #[test]
