@@ -89,6 +89,13 @@ const OF_FOLDER: &[(&[&str], &str, &str, u8)] = &[
     (&["folder", FOLDER, "tree", "/", "/"], "", USAGE, 2),
     (&["tree", FOLDER, "folder", "/"], "", USAGE, 2),
     (&["folder"], "", USAGE, 2),
+    // An image, and the input is empty.
+    (
+        &["tree", "/"],
+        "",
+        "zarrs_tool: image is not a JSON object\n",
+        1,
+    ),
 ];
 
 #[test]

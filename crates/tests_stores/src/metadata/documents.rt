@@ -34,9 +34,15 @@ fn copied_text<D: WrittenDocument + Drop>(
     said(alloc, document.try_clone(alloc), written_text)
 }
 
-// The text of the value that is written.
+// The text of the value that is written, where the pretty text of the document is that of the value.
 fn written_text<D: WrittenDocument>(document: &D, alloc: Global) -> Result<String, AllocError> {
-    document.to_value(alloc)?.to_string(alloc)
+    let value = document.to_value(alloc)?;
+    let mut pretty = String::new(alloc);
+    document.write(alloc, &mut pretty, Layout::Pretty(0))?;
+    if pretty.as_bytes() != value.to_vec_pretty(alloc)?.as_slice() {
+        return String::from_str(alloc, "another pretty text");
+    }
+    value.to_string(alloc)
 }
 
 // What two ways answer: one text, or that there are two.

@@ -467,6 +467,7 @@ const PLAIN: &str = r#"
 # groups of version 2
 attributes and fields | {} | {} => true
 attributes and fields | {"n":0.5} | {} => false
+attributes and fields | {} | {"n":0.5} => false
 attributes and fields | {} | {"shape":1} => false
 # groups of version 3
 null field | x => true
