@@ -48,6 +48,10 @@ g/zarr.json={"attributes":{"scale":0.5},"other":{"must_understand":false},"node_
 # Of version 2 it is `.zmetadata`, where there is a block.
 g/.zgroup=G2 g/.zattrs={"k":0.25} g/.zmetadata={"metadata":{"a/.zgroup":{"zarr_format":2},"a/.zattrs":{"k":1.5}},"zarr_consolidated_format":1} => g/.zmetadata {\n  "metadata": {\n    ".zattrs": {\n      "k": 0.25\n    },\n    ".zgroup": {\n      "zarr_format": 2\n    },\n    "a/.zattrs": {\n      "k": 1.5\n    },\n    "a/.zgroup": {\n      "zarr_format": 2\n    }\n  },\n  "zarr_consolidated_format": 1\n}
 g/.zgroup=G2 g/.zattrs={"k":0.25} => none
+
+# Of version 2 it is ASCII to its last letter, and of version 3 it has the letters as they are.
+g/.zgroup=G2 g/.zattrs={"é":"𝄞"} g/.zmetadata={"metadata":{},"zarr_consolidated_format":1} => g/.zmetadata {\n  "metadata": {\n    ".zattrs": {\n      "\\u00e9": "\\ud834\\udd1e"\n    },\n    ".zgroup": {\n      "zarr_format": 2\n    }\n  },\n  "zarr_consolidated_format": 1\n}
+g/zarr.json={"attributes":{"é":"𝄞"},"node_type":"group","zarr_format":3} => g/zarr.json {\n  "attributes": {\n    "é": "𝄞"\n  },\n  "node_type": "group",\n  "zarr_format": 3\n}
 "#;
 
 #[test]

@@ -94,12 +94,16 @@ fn metadata_of(alloc: Global, given: &str) -> Result<GroupMetadata, GroupCreateE
     }
 }
 
-/// The group at `/g` with the metadata that three fields are.
+/// The group at `/g` with the metadata that three fields are, which `Group::at` makes where `at` stands before them.
 pub(crate) fn group_of(
     alloc: Global,
     given: &str,
     config: &Config,
 ) -> Result<Group, GroupCreateError> {
+    if let Some(parts) = given.strip_prefix("at | ") {
+        let metadata = metadata_of(alloc, parts)?;
+        return Ok(Group::at(NodePath::new(alloc, "/g")?, metadata, config));
+    }
     let metadata = metadata_of(alloc, given)?;
     Group::new_with_metadata(alloc, "/g", metadata, config)
 }
@@ -318,6 +322,7 @@ g/zarr.json=[j] g/.zgroup=[g] g/.zattrs=[a] g/.zarray=[x] g/.zmetadata=[m] | - |
 
 # A configuration gives the options.
 g/.zgroup=[g] g/.zattrs=[a] g/.zarray=[x] g/.zmetadata=[m] | v3 and all | store | 2 | {"k":1} | {}; erase | 2 | {"k":1} | {} => g/.zarray [x]\ng/.zattrs [a]\ng/.zgroup [g]\ng/.zmetadata [m]\ng/zarr.json {\n  "attributes": {\n    "k": 1\n  },\n  "node_type": "group",\n  "zarr_format": 3\n}\nthen\ng/.zarray [x]\nthen\n
+g/.zgroup=[g] g/.zattrs=[a] g/.zarray=[x] g/.zmetadata=[m] | v3 and all | store | at | 2 | {"k":1} | {}; erase | at | 2 | {"k":1} | {} => g/.zarray [x]\ng/.zattrs [a]\ng/.zgroup [g]\ng/.zmetadata [m]\ng/zarr.json {\n  "attributes": {\n    "k": 1\n  },\n  "node_type": "group",\n  "zarr_format": 3\n}\nthen\ng/.zarray [x]\nthen\n
 
 # What is not plain is refused before any write.
 g/zarr.json=[j] g/.zgroup=[g] g/.zattrs=[a] | - | store | 3 | {} | {"node_type":1,"attributes":1} => InvalidMetadata: error parsing metadata for g/zarr.json: bad member attributes\ng/.zattrs [a]\ng/.zgroup [g]\ng/zarr.json [j]\nthen\n

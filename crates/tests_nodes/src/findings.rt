@@ -158,6 +158,7 @@ fn checked_said(alloc: Global, given: &str) -> Result<String, AllocError> {
 const CHECKED: &str = r#"
 zarr.json G3;a/zarr.json G3 =>
 zarr.json KB =>
+zarr.json KB;first/zarr.json G3;first/second/zarr.json G3;first/second/third/zarr.json A3 => / /first Missing\n/ /first/second Missing\n/ /first/second/third Missing\n
 zarr.json KB;a/zarr.json KB;a/x/zarr.json G3 => / /a Missing\n/ /a/x Missing\n/a /a/x Missing\n
 zarr.json G3;a/zarr.json KB;a/x/zarr.json G3;a-b/zarr.json G3;b/zarr.json G3;b/c/zarr.json KB;b/c/y/zarr.json A3;b/d/zarr.json A3 => /a /a/x Missing\n/b/c /b/c/y Missing\n
 zarr.json G3;a/zarr.json KB;a/x/zarr.json KB;a/x/y/zarr.json A3;a/z/zarr.json A3;b/zarr.json G3 => /a /a/x Missing\n/a /a/x/y Missing\n/a /a/z Missing\n/a/x /a/x/y Missing\n

@@ -65,7 +65,7 @@ fn write_bad(
     Ok(())
 }
 
-/// The base, the number of the nodes, the paths that are ignored, and what is bad.
+/// The base, the number of the nodes, the paths that are ignored, what is bad, and the names that differ in case alone.
 pub(crate) fn check_text(check: &Check, alloc: Global) -> Result<String, AllocError> {
     let base = match &check.base_fault {
         None => String::from_str(alloc, "node")?,
@@ -79,6 +79,9 @@ pub(crate) fn check_text(check: &Check, alloc: Global) -> Result<String, AllocEr
         &check.bad_documents,
         &check.bad_names,
     )?;
+    for (path, before) in &check.alike {
+        write!(text, "{path} alike {before}\n")?;
+    }
     Ok(text)
 }
 
@@ -124,6 +127,7 @@ const CHECKS: &str = r#"
 / | zarr.json NUL;a/zarr.json G3 => / StorageError(InvalidMetadata): error parsing metadata for zarr.json: not JSON\n1 nodes\n
 / | zarr.json G3;a/zarr.json NUL;a/x/zarr.json G3;b/zarr.json G3;c/d NUL => / node\n2 nodes\nignored /c\n/a StorageError(InvalidMetadata): error parsing metadata for a/zarr.json: not JSON\n
 / | zarr.json G3;b/zarr.json G3;b/../zarr.json G3;b/c/zarr.json G2;b/d/zarr.json G3 => / node\n3 nodes\n/b/c MetadataVersionMismatch: Found V2 metadata in V3 key or vice-versa\nb/../ no name\n
+/ | zarr.json G3;AIR/zarr.json G3;Air/zarr.json G3;Air/T/zarr.json A3;air/zarr.json G3;air/t/zarr.json A3;wind/0 NUL;Wind/zarr.json G3 => / node\n7 nodes\nignored /wind\n/Air alike /AIR\n/air alike /Air\n
 "#;
 
 #[test]

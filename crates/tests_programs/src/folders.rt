@@ -213,6 +213,12 @@ const OF_IMAGE: &[(&[&str], &str, &str, u8)] = &[
         "zarrs: there is no node at /x in the image\n",
         2,
     ),
+    (
+        &["list", "-", "/x\n\u{1b}"],
+        "",
+        "zarrs: there is no node at /x\\n\\u001b in the image\n",
+        2,
+    ),
     (&["tree", "-", "a"], "", "zarrs: invalid node path a\n", 2),
     (&["check", "-", "a"], "", "zarrs: invalid node path a\n", 2),
     (&["--help"], USAGE, "", 0),
@@ -354,4 +360,15 @@ fn a_folder_has_the_answers_of_the_whole_store(rt: HostRuntime) {
     for path in paths {
         assert_same(&rt, image.as_str(), path);
     }
+}
+
+#[test]
+fn a_folder_with_nothing_amiss_but_a_bad_document_has_what_stands_below_it(rt: HostRuntime) {
+    let documents = [
+        ("zarr.json", GROUP),
+        ("bad/zarr.json", "x"),
+        ("bad/below/zarr.json", GROUP),
+    ];
+    let image = image_of(rt.alloc(), &documents, &[]).expect(&rt, "memory");
+    assert_same(&rt, image.as_str(), "/");
 }

@@ -151,6 +151,14 @@ const NOTES_TOLD: &[Told] = &[
         errors: "zarrs: 1 node, 0 findings, 1 note\n",
         status: 0,
     },
+    Told {
+        word: NOTES_JSON,
+        documents: NOTED,
+        path: "/b",
+        output: "[{\"block\":null,\"key\":null,\"kind\":\"beside\",\"path\":\"/b\",\"text\":\"beside: .zgroup is not read, since .zarray stands there too\"}]\n",
+        errors: "zarrs: 1 node, 0 findings, 1 note\n",
+        status: 0,
+    },
 ];
 
 #[test]

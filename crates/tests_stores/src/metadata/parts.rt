@@ -70,10 +70,10 @@ fn members_text(object: &Object, alloc: Global) -> Result<String, AllocError> {
     Ok(text)
 }
 
-// What an object shows of the member k and the member z, and how many it has.
+// What an object shows of the member k, whether it has none of the name z and of a blank before k, and how many it has.
 fn members_found(object: &Object, alloc: Global) -> Result<String, AllocError> {
     let found = object.get("k").and_then(Value::as_u64).unwrap_or(0);
-    let missing = object.get("z").is_none();
+    let missing = object.get("z").is_none() && object.get(" k").is_none();
     format!(in alloc; "{found} {missing} {}", object.len())
 }
 
@@ -196,6 +196,8 @@ k=1 b=2 q=3 k=4 c b => 2 [k=4;q=3;]
 k=1 b=2 q=3 k=4 c b q => 3 [k=4;]
 k=1 b=2 q=3 k=4 c b q k => 4 []
 k=1 b=2 q=3 k=4 c b q k k => none []
+# a name with a wide blank before it is another
+k=1 　k => none [k=1;]
 "#;
 
 #[test]
@@ -294,6 +296,8 @@ must be understood | {"a":1,"must_understand":false} => {"a":1} true
 may be passed over | {"a":1} => {"a":1,"must_understand":false} false
 may be passed over | 5 => 5 true
 must be understood | 5 => 5 true
+must be understood | "a" => "a" true
+may be passed over | "a" => "a" true
 # a copy has every field; how many there are, whether one has the name x, and whether there is none
 field of the name | x => [x=null true;] 1 true false
 field of the name | y => [y=null true;] 1 false false
