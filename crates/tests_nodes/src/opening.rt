@@ -250,6 +250,7 @@ auto | -x A3;/-x A3_SQUARE => /group {"consolidated_metadata":{"kind":"inline","
 # a key of a block that is no path is refused where the block is used
 auto | foo/ G3 => NodePathError(Invalid): invalid node path invalid node name `` in 'foo/'
 must | foo/ G3 => NodePathError(Invalid): invalid node path invalid node name `` in 'foo/'
+auto | . G3 => NodePathError(Invalid): invalid node path invalid node name `.` in '.'
 never | foo/ G3 => /group {"consolidated_metadata":{"kind":"inline","metadata":{"foo/":G3},"must_understand":false},"node_type":"group","zarr_format":3}\n  /group/listed G3\n
 "#;
 
