@@ -211,6 +211,7 @@ key_into_string | a/zarr.json => a/zarr.json
 name |  => ''
 name | a/ => 'a'
 name | a/b/ => 'b'
+name | a/b/c/ => 'c'
 # the key of a prefix and one segment more
 key_in |  => zarr.json
 key_in | a/b/ => a/b/zarr.json
@@ -580,6 +581,7 @@ a a/zarr.json | discover a/ => prefixes
 zarr.json/z .zarray/z ..a/z | discover => prefixes ..a/ .zarray/ zarr.json/
 z/zarr.json é/zarr.json | discover => prefixes z/ é/
 a/zarr.json a/.../x a/__c/x | discover a/ => prefixes a/.../
+a/zarr.json __reserved/x | discover => prefixes a/
 "#;
 
 #[test]
@@ -779,6 +781,7 @@ fn failing_said(alloc: Global, given: &str) -> Result<String, StorageError> {
 const FAILING: &str = r#"
 # a store fails as often as its key is read
 get a | a a/b | get a; get a; get a/b; get b; inner get a; list => Fault; Fault; bytes 'x'; nothing; bytes 'x'; keys a a/b
+get a | a a/b/c a/d | list_prefix a/ => keys a/b/c a/d
 # its documents hold whole numbers
 get a | a | numbers; inner numbers; set b 1.5; numbers => Whole; Whole; done; Whole
 # a store fails where its prefix is listed

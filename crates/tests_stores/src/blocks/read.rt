@@ -237,6 +237,7 @@ const EXPANDED: &str = r#"
 # The key without a slash counts.
 / | -x={"chunk_grid":"g","chunk_key_encoding":"k","codecs":[],"data_type":"float32","fill_value":0,"node_type":"array","shape":[1],"zarr_format":3};/-x={"chunk_grid":"g","chunk_key_encoding":"k","codecs":[],"data_type":"float32","fill_value":0,"node_type":"array","shape":[2],"zarr_format":3} => /-x {"chunk_grid":"g","chunk_key_encoding":"k","codecs":[],"data_type":"float32","fill_value":0,"node_type":"array","shape":[1],"zarr_format":3}\n
 / | /x={"chunk_grid":"g","chunk_key_encoding":"k","codecs":[],"data_type":"float32","fill_value":0,"node_type":"array","shape":[1],"zarr_format":3};x={"chunk_grid":"g","chunk_key_encoding":"k","codecs":[],"data_type":"float32","fill_value":0,"node_type":"array","shape":[2],"zarr_format":3} => /x {"chunk_grid":"g","chunk_key_encoding":"k","codecs":[],"data_type":"float32","fill_value":0,"node_type":"array","shape":[2],"zarr_format":3}\n
+/ | /foo={"attributes":{"k":1},"zarr_format":2};foo={"zarr_format":2} => /foo {"zarr_format":2}\n
 "#;
 
 // The paths and texts of the nodes of a block below a path, a line each, or the refusal.
@@ -363,15 +364,17 @@ Auto | / | {"zarr_format":2} => none
 Must | /g | {"zarr_format":2} => MissingMetadata: Metadata is missing for Consolidated metadata required but missing on group /g
 Auto | / | {"chunk_grid":{"configuration":{"chunk_shape":[1]},"name":"regular"},"chunk_key_encoding":{"configuration":{"separator":"/"},"name":"default"},"codecs":[{"configuration":{"endian":"little"},"name":"bytes"}],"data_type":"float32","fill_value":0,"node_type":"array","shape":[1],"zarr_format":3} => none
 Must | /a | {"chunk_grid":{"configuration":{"chunk_shape":[1]},"name":"regular"},"chunk_key_encoding":{"configuration":{"separator":"/"},"name":"default"},"codecs":[{"configuration":{"endian":"little"},"name":"bytes"}],"data_type":"float32","fill_value":0,"node_type":"array","shape":[1],"zarr_format":3} => MissingMetadata: Metadata is missing for Consolidated metadata required but missing on group /a
+# A block with a fraction is none.
+Auto | /g | {"consolidated_metadata":{"kind":"inline","metadata":{"a":{"attributes":{"n":1.5},"zarr_format":2}}},"node_type":"group","zarr_format":3} => none
 "#;
 
-// What a policy makes of the node that a JSON text is.
+// What a policy makes of the node that a JSON text is, in any numbers.
 fn opened(alloc: Global, given: &str) -> Result<String, NodeCreateError> {
     let (policy, rest) = fields(given);
     let (path, document) = fields(rest);
     let policy = policy_of(alloc, policy)?;
     let path = NodePath::new(alloc, path)?;
-    match NodeMetadata::from_bytes(alloc, document.as_bytes()) {
+    match NodeMetadata::from_bytes_in(alloc, Numbers::Any, document.as_bytes()) {
         Ok(node) => Ok(said(
             alloc,
             consolidated_metadata_for_open(alloc, &path, &node, policy),
@@ -392,11 +395,13 @@ const HELD: &str = r#"
 {"consolidated_metadata":{"kind":"inline"},"node_type":"group","zarr_format":3} => none
 {"node_type":"group","zarr_format":3} => none
 {"consolidated_metadata":{"kind":"inline","metadata":{}},"zarr_format":2} => none
+# A block with a fraction is none.
+{"consolidated_metadata":{"kind":"inline","metadata":{"a":{"attributes":{"n":1.5},"zarr_format":2}}},"node_type":"group","zarr_format":3} => none
 "#;
 
-// The block that the group holds that a JSON text is; an array holds none.
+// The block that the group holds that a JSON text is, in any numbers; an array holds none.
 fn held(alloc: Global, document: &str) -> Result<String, MetadataFault> {
-    match NodeMetadata::from_bytes(alloc, document.as_bytes())? {
+    match NodeMetadata::from_bytes_in(alloc, Numbers::Any, document.as_bytes())? {
         NodeMetadata::Group(group) => {
             Ok(chosen(&consolidated_metadata_of(alloc, &group)?, alloc)?)
         }
@@ -506,6 +511,7 @@ get | a;b={"attributes":{"k":1},"zarr_format":2} | b => {"attributes":{"k":1},"z
 get | a;b={"attributes":{"k":1},"zarr_format":2} | a => {"zarr_format":2}
 get | a;b={"attributes":{"k":1},"zarr_format":2} | c => none
 get | | a => none
+get | a |  a => none
 # a key with a slash in front is covered by the one without it
 is_covered | a;/a | /a => true
 is_covered | a/b | /a/b => true

@@ -122,6 +122,7 @@ const DOCUMENTS: &str = r#"
 {"zarr_consolidated_format":1,"metadata":{"a/../.zattrs":{}}} => BadMember: bad member metadata
 {"zarr_consolidated_format":1,"metadata":{"a/.zarray":{}}} => BadMember: bad member metadata
 {"zarr_consolidated_format":1,"metadata":{"a/.zgroup":{"zarr_format":3}}} => BadMember: bad member metadata
+{"zarr_consolidated_format":1,"metadata":{"a/.zgroup":null}} => BadMember: bad member metadata
 {"zarr_consolidated_format":1,"metadata":{"a/.zgroup":{"zarr_format":2},"a/.zattrs":[]}} => BadMember: bad member metadata
 {"zarr_consolidated_format":1,"metadata":{"a/.zarray":{},"a/.zgroup":{"zarr_format":2}}} => BadMember: bad member metadata
 {"zarr_consolidated_format":1,"metadata":{"a/.zgroup":{"zarr_format":2},"b/.zgroup":{}}} => BadMember: bad member metadata

@@ -21,6 +21,8 @@ const WRITTEN: &str = r#"
 # Bad keys are refused before version 3.
 {"zarr_format":2} | a={"node_type":"group","zarr_format":3};b={"chunks":[1],"compressor":null,"dtype":"<f8","fill_value":"NaN","filters":null,"order":"C","shape":[1],"zarr_format":2} => MetadataVersionMismatch: Found V2 metadata in V3 key or vice-versa
 {"zarr_format":2} | a={"node_type":"group","zarr_format":3};a/../b={"chunks":[1],"compressor":null,"dtype":"<f8","fill_value":"NaN","filters":null,"order":"C","shape":[1],"zarr_format":2} => NodePathError(Invalid): invalid node path invalid node name `..` in 'a/../b'
+# An array of version 3 is refused too.
+{"zarr_format":2} | a={"chunk_grid":"g","chunk_key_encoding":"k","codecs":[],"data_type":"float32","fill_value":0,"node_type":"array","shape":[1],"zarr_format":3} => MetadataVersionMismatch: Found V2 metadata in V3 key or vice-versa
 "#;
 
 // The text of the document of a group and the block with these documents at these keys, or the refusal: the same of a copy, and where both are given away.

@@ -118,6 +118,7 @@ const GROUPS_V2: &str = r#"
 {"zarr_format":2,"shape":[1]} => BadMember: bad member shape
 # members, own and additional
 {"attributes":{"k":1},"other":[],"zarr_format":2} => {"attributes":{"k":1},"other":[],"zarr_format":2}
+{"other":[],"zarr_format":2} => {"other":[],"zarr_format":2}
 "#;
 
 #[test]
@@ -144,6 +145,8 @@ const ARRAYS_V3: &str = r#"
 {"chunk_grid":{"configuration":{"chunk_shape":[1]},"name":"regular"},"chunk_key_encoding":{"configuration":{"separator":"/"},"name":"default"},"codecs":[{"configuration":{"endian":"little"},"name":"bytes"}],"data_type":"float32","dimension_names":[1],"fill_value":0,"node_type":"array","shape":[1],"zarr_format":3} => BadMember: bad member dimension_names
 {"chunk_grid":{"configuration":{"chunk_shape":[1]},"name":"regular"},"chunk_key_encoding":{"configuration":{"separator":"/"},"name":"default"},"codecs":[{"configuration":{"endian":"little"},"name":"bytes"}],"data_type":"float32","storage_transformers":1,"fill_value":0,"node_type":"array","shape":[1],"zarr_format":3} => BadMember: bad member storage_transformers
 {"chunk_grid":{"configuration":{"chunk_shape":[1]},"name":"regular"},"chunk_key_encoding":{"configuration":{"separator":"/"},"name":"default"},"codecs":1,"data_type":"float32","storage_transformers":1,"fill_value":0,"node_type":"array","shape":1,"zarr_format":3} => BadMember: bad member shape
+# the format is asked first
+{} => WrongFormat: wrong zarr_format
 "#;
 
 #[test]
@@ -509,6 +512,7 @@ group of version 3 | {"node_type":"group","zarr_format":3} => {"node_type":"grou
 group of version 2 | {"zarr_format":2} => {"zarr_format":2}
 array of version 3 | {"chunk_grid":{"configuration":{"chunk_shape":[1]},"name":"regular"},"chunk_key_encoding":{"configuration":{"separator":"/"},"name":"default"},"codecs":[{"configuration":{"endian":"little"},"name":"bytes"}],"data_type":"float32","fill_value":0,"node_type":"array","shape":[1],"zarr_format":3} => {"chunk_grid":{"configuration":{"chunk_shape":[1]},"name":"regular"},"chunk_key_encoding":{"configuration":{"separator":"/"},"name":"default"},"codecs":[{"configuration":{"endian":"little"},"name":"bytes"}],"data_type":"float32","fill_value":0,"node_type":"array","shape":[1],"zarr_format":3}
 array of version 2 | {"chunks":[1],"compressor":null,"dtype":"<f8","fill_value":"NaN","filters":null,"order":"C","shape":[1],"zarr_format":2} => {"chunks":[1],"compressor":null,"dimension_separator":".","dtype":"<f8","fill_value":"NaN","filters":null,"order":"C","shape":[1],"zarr_format":2}
+array of version 2 | {"chunks":[1],"compressor":null,"dtype":"<f8","fill_value":"NaN","filters":null,"order":"F","shape":[1],"zarr_format":2} => {"chunks":[1],"compressor":null,"dimension_separator":".","dtype":"<f8","fill_value":"NaN","filters":null,"order":"F","shape":[1],"zarr_format":2}
 # an array on the heap is the array
 array on the heap | {"chunk_grid":{"configuration":{"chunk_shape":[1]},"name":"regular"},"chunk_key_encoding":{"configuration":{"separator":"/"},"name":"default"},"codecs":[{"configuration":{"endian":"little"},"name":"bytes"}],"data_type":"float32","fill_value":0,"node_type":"array","shape":[1],"zarr_format":3} => {"chunk_grid":{"configuration":{"chunk_shape":[1]},"name":"regular"},"chunk_key_encoding":{"configuration":{"separator":"/"},"name":"default"},"codecs":[{"configuration":{"endian":"little"},"name":"bytes"}],"data_type":"float32","fill_value":0,"node_type":"array","shape":[1],"zarr_format":3}
 # new groups are empty

@@ -147,6 +147,7 @@ fn found_says(alloc: Global, given: &str) -> Result<String, MetadataFault> {
     match kind {
         "length" => Ok(has_zero_says(alloc, number_of(alloc, text)?)?),
         "member b" => member_says(alloc, text, "b"),
+        "member of a blank and b" => member_says(alloc, text, " b"),
         "taken b" => take_member_says(alloc, text, "b"),
         "null a" => take_null_leaves(alloc, text, "a"),
         _ => Ok(String::from_str(alloc, "nothing of the kind")?),
@@ -161,6 +162,7 @@ length | 2 => false
 # a member is found by its name
 member b | {"a":1,"b":2} => 2
 member b | {"a":1} => none
+member of a blank and b | {"a":1,"b":2} => none
 # what is taken leaves the others
 taken b | {"a":1,"b":2} => 2 {"a":1}
 taken b | {"a":1} => none {"a":1}
@@ -381,6 +383,7 @@ const TESTED: &str = r#"
 # fields are the members of no own name
 fields | {"a":1,"b":2,"c":{"a":3}} => {"c":{"a":3}}
 fields | {} => {}
+fields | {"c":null} => {"c":null}
 # names x and y, fractions, and null at z
 fields tested | {} => false false false
 fields tested | {"y":1,"z":null} => true false true

@@ -286,6 +286,8 @@ zarr.json | [1.5] => UnsupportedNumber: unsupported number; any: NotAnObject: no
 attributes | {"a":1.5 => NotJson: not JSON
 attributes | {"a":1} => {"a":1}
 group3 | more | 1 => {"more":1,"node_type":"group","zarr_format":3}
+# a name with a blank behind it is another
+group2 | zarr_format  | 1 => {"zarr_format":2,"zarr_format ":1}
 # numbers as they are written again
 attributes | {"a":1.50} => UnsupportedNumber: unsupported number; any: {"a":1.5}
 attributes | {"a":1e5} => UnsupportedNumber: unsupported number; any: {"a":100000.0}
@@ -350,6 +352,7 @@ const DOCUMENTS: &str = r#"
 {"attributes":{"a":1},"zarr_format":2} => a document
 {"attributes":{"a":1.5},"zarr_format":2} => none
 {"a":1.5,"node_type":"group","zarr_format":3} => none
+{"chunk_grid":"g","chunk_key_encoding":"k","codecs":[{"configuration":{"level":0.5},"name":"x"}],"data_type":"float32","fill_value":0,"node_type":"array","shape":[1],"zarr_format":3} => none
 "#;
 
 #[test]

@@ -34,7 +34,7 @@ fn list_text(list: &List<u64>, alloc: Global) -> Result<String, AllocError> {
 }
 
 fn list_says(alloc: Global, number: u64) -> Result<String, AllocError> {
-    let list: List<u64> = List::new(vec![in alloc; number]?);
+    let list: List<u64> = List::new(vec![in alloc; number, 8]?);
     let list = List::new(list.into_vec());
     said(alloc, made(list), list_text)
 }
@@ -122,12 +122,13 @@ fn value_says(alloc: Global, kind: &str, value: Value) -> Result<String, AllocEr
 const PARTS: &str = r#"
 # texts, lists and objects go in and out
 text | a => a
-list | 7 => [7] false
+list | 7 => [7, 8] false
 # and so does every member, in the order of names
 object | {"k":7,"b":[1,{"x":"y"}],"q":null} => [b=[1,{"x":"y"}];k=7;q=null;] 3 false
 object of a map | {"b":1,"a":{"c":[]}} => [a={"c":[]};b=1;] 2 false
 new object | => [] 0 true
 found | {"q":0,"b":1,"k":7} => 7 true 3
+found | {"a":1,"b":1,"c":1,"d":1,"e":1,"f":1,"g":1,"h":1,"i":1,"j":1,"k":7,"l":1,"m":1,"n":1,"o":1,"p":1} => 7 true 16
 # values go in and out
 item | {"a":[3,null]} => {"a":[3,null]}
 fill value | [4,"NaN"] => [4,"NaN"]
@@ -251,13 +252,13 @@ fn one_member<T: Drop>(alloc: Global, name: &str, value: T) -> Result<Map<String
     Ok(members)
 }
 
-// The fields, how many there are, whether there is one of the name x, and whether there is none.
+// The fields, how many there are, whether there is one of the name x and none of a blank before x, and whether there is none.
 fn fields_text(fields: &AdditionalFieldsV3, alloc: Global) -> Result<String, AllocError> {
     let all = fields_shown(fields, alloc)?;
     format!(in alloc;
         "[{all}] {} {} {}",
         fields.len(),
-        fields.get("x").is_some(),
+        fields.get("x").is_some() && fields.get(" x").is_none(),
         fields.is_empty()
     )
 }
@@ -293,6 +294,7 @@ fn fields_say(alloc: Global, given: &str) -> Result<String, MetadataFault> {
 const FIELDS: &str = r#"
 # fields say whether they must be understood
 must be understood | {"a":1,"must_understand":false} => {"a":1} true
+must be understood | {"value":1} => {"value":1} true
 may be passed over | {"a":1} => {"a":1,"must_understand":false} false
 may be passed over | 5 => 5 true
 must be understood | 5 => 5 true
