@@ -360,6 +360,9 @@ auto | group/other/zarr.json=G3 | /group | G3 | a/..=G3 => trees:\nNodePathError
 must | group/other/zarr.json=G3 | /group | G3 | a/..=G3 => trees:\nNodePathError(Invalid): invalid node path invalid node name `..` in 'a/..'children:\nNodePathError(Invalid): invalid node path invalid node name `..` in 'a/..'all:\nNodePathError(Invalid): invalid node path invalid node name `..` in 'a/..'
 never | group/other/zarr.json=G3 | /group | G3 | a/..=G3 => trees:\n/group/other G3\nchildren:\n/group/other G3\nall:\n/group/other G3\n
 
+# So does a key that is a period, where it is the only one.
+auto | - | /group | G3 | .=G3 => trees:\nNodePathError(Invalid): invalid node path invalid node name `.` in '.'children:\nNodePathError(Invalid): invalid node path invalid node name `.` in '.'all:\nNodePathError(Invalid): invalid node path invalid node name `.` in '.'
+
 # Of two spellings the one without the slash counts.
 auto | - | / | G3 | -x=A3 /-x=A3_SQUARE => trees:\n/-x A3\nchildren:\n/-x A3\nall:\n/-x A3\n
 auto | - | / | G3 | -x=A3 /-x={"chunk_grid":{"configuration":{"chunk_shape":[2]},"name":"regular"},"chunk_key_encoding":{"configuration":{"separator":"/"},"name":"default"},"codecs":[{"configuration":{"endian":"little"},"name":"bytes"}],"data_type":"float32","fill_value":0,"node_type":"array","shape":[2],"zarr_format":3} => trees:\n/-x A3\nchildren:\n/-x A3\nall:\n/-x A3\n

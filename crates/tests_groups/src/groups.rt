@@ -94,7 +94,8 @@ fn metadata_of(alloc: Global, given: &str) -> Result<GroupMetadata, GroupCreateE
     }
 }
 
-/// The group at `/g` with the metadata that three fields are, which `Group::at` makes where `at` stands before them.
+/// The group at `/g` with the metadata that three fields are, which `Group::at` makes where `at` stands before them, and whose attributes
+/// were lent where `lent` does.
 pub(crate) fn group_of(
     alloc: Global,
     given: &str,
@@ -103,6 +104,12 @@ pub(crate) fn group_of(
     if let Some(parts) = given.strip_prefix("at | ") {
         let metadata = metadata_of(alloc, parts)?;
         return Ok(Group::at(NodePath::new(alloc, "/g")?, metadata, config));
+    }
+    if let Some(parts) = given.strip_prefix("lent | ") {
+        let metadata = metadata_of(alloc, parts)?;
+        let mut group = Group::new_with_metadata(alloc, "/g", metadata, config)?;
+        let _attributes = group.attributes_mut();
+        return Ok(group);
     }
     let metadata = metadata_of(alloc, given)?;
     Group::new_with_metadata(alloc, "/g", metadata, config)
@@ -212,6 +219,7 @@ abc | - | - => NodePathError(Invalid): invalid node path abc
 # The least field that must be understood is named, with its value.
 /g | - | g/zarr.json={"b":1,"a":1,"node_type":"group","zarr_format":3} => AdditionalFieldUnsupportedError: unsupported additional field a, a 1
 /g | - | g/zarr.json={"b":[2],"a":{"must_understand":false},"node_type":"group","zarr_format":3} => AdditionalFieldUnsupportedError: unsupported additional field b, b [2]
+/g | - | g/zarr.json={"a":{"must_understand":true},"node_type":"group","zarr_format":3} => AdditionalFieldUnsupportedError: unsupported additional field a, a {"must_understand":true}
 
 # The block beside a version 2 group is held, where it reads as one; under every policy and by both versions that read it.
 /g | - | g/.zgroup=G2 g/.zmetadata={"metadata":{"a/.zgroup":{"zarr_format":2},"a/.zattrs":{"k":1}},"zarr_consolidated_format":1} => group at /g with metadata {"zarr_format":2} and the block {"kind":"inline","metadata":{"a":{"attributes":{"k":1},"zarr_format":2}},"must_understand":false}
@@ -323,6 +331,7 @@ g/zarr.json=[j] g/.zgroup=[g] g/.zattrs=[a] g/.zarray=[x] g/.zmetadata=[m] | - |
 # A configuration gives the options.
 g/.zgroup=[g] g/.zattrs=[a] g/.zarray=[x] g/.zmetadata=[m] | v3 and all | store | 2 | {"k":1} | {}; erase | 2 | {"k":1} | {} => g/.zarray [x]\ng/.zattrs [a]\ng/.zgroup [g]\ng/.zmetadata [m]\ng/zarr.json {\n  "attributes": {\n    "k": 1\n  },\n  "node_type": "group",\n  "zarr_format": 3\n}\nthen\ng/.zarray [x]\nthen\n
 g/.zgroup=[g] g/.zattrs=[a] g/.zarray=[x] g/.zmetadata=[m] | v3 and all | store | at | 2 | {"k":1} | {}; erase | at | 2 | {"k":1} | {} => g/.zarray [x]\ng/.zattrs [a]\ng/.zgroup [g]\ng/.zmetadata [m]\ng/zarr.json {\n  "attributes": {\n    "k": 1\n  },\n  "node_type": "group",\n  "zarr_format": 3\n}\nthen\ng/.zarray [x]\nthen\n
+g/zarr.json=[j] g/.zgroup=[g] g/.zarray=[x] | v3 and all | erase | lent | 2 | {} | {} => g/.zarray [x]\nthen\n
 
 # What is not plain is refused before any write.
 g/zarr.json=[j] g/.zgroup=[g] g/.zattrs=[a] | - | store | 3 | {} | {"node_type":1,"attributes":1} => InvalidMetadata: error parsing metadata for g/zarr.json: bad member attributes\ng/.zattrs [a]\ng/.zgroup [g]\ng/zarr.json [j]\nthen\n

@@ -267,6 +267,7 @@ fn past_said(alloc: Global, given: &str) -> Result<String, AllocError> {
 const PAST: &str = r#"
 zarr.json G3;a/zarr.json G3;a/x/zarr.json G3 => /a\n/a/x\n
 a/zarr.json NUL;a/x/zarr.json G3;b/zarr.json G3 => /b\na/ StorageError(InvalidMetadata): error parsing metadata for a/zarr.json: not JSON\n
+a/zarr.json G3;a/../zarr.json G3 => /a\na/../ no name\n
 b/zarr.json G3;b/../zarr.json G3;b/c/zarr.json G2;b/d/zarr.json G3;e/f/x NUL => /b\n/b/d\nignored /e\nb/../ no name\nb/c/ MetadataVersionMismatch: Found V2 metadata in V3 key or vice-versa\n
 "#;
 

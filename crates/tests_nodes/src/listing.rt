@@ -52,6 +52,9 @@ root | all | any | zarr.json G3 => NodePathError(Invalid): invalid node path roo
 # reserved names are not seen
 / | all | any | a/zarr.json G3;a/__x/zarr.json G3 => /a G3\n
 
+# a name may begin with a period
+/ | all | any | .x/zarr.json G3 => /.x G3\n
+
 # attributes beside an array are read
 / | all | any | a/.zarray A2;a/.zattrs [] => StorageError(InvalidMetadata): error parsing metadata for a/.zattrs: not an object
 

@@ -50,6 +50,11 @@ fn listed_by<L: Log>(
             get_child_nodes(log, alloc, store, base, true),
             forest_text,
         ),
+        "children" => said(
+            alloc,
+            get_child_nodes(log, alloc, store, base, false),
+            forest_text,
+        ),
         "pairs" => said(
             alloc,
             get_all_nodes_of(log, alloc, store, base, &ANY),
@@ -117,6 +122,9 @@ pairs | / | g/zarr.json G3;g/x/content NUL;y/c NUL => /g G3\nwarned: [WARN  zarr
 walked by version 3 | / | g/zarr.json G3;y/.zgroup G2 => /g\nwarned: [WARN  zarrs_node::children] Object at /y is not recognized as a component of a Zarr hierarchy. Ignoring.\n
 walked | / | g/zarr.json G3;g/a/zarr.json A3;y/c NUL => /g\n/g/a\nwarned: [WARN  zarrs_node::children] Object at /y is not recognized as a component of a Zarr hierarchy. Ignoring.\n
 walked | / | g/zarr.json G3;g/x/content NUL;y/c NUL => /g\nwarned: [WARN  zarrs_node::children] Object at /g/x is not recognized as a component of a Zarr hierarchy. Ignoring.\n[WARN  zarrs_node::children] Object at /y is not recognized as a component of a Zarr hierarchy. Ignoring.\n
+
+# the children alone are listed
+children | / | g/zarr.json G3;g/a/zarr.json G3 => /g G3\n
 "#;
 
 #[test]

@@ -65,6 +65,9 @@ const BUILT: &str = r#"
 tree | / | /a G3;/a/x A3;/a/y G3 => /a G3\n  /a/x A3\n  /a/y G3\n
 tree | /a | /a G3;/a/x A3;/a/y G3 => /a/x A3\n/a/y G3\n
 
+# nothing stands below an array
+tree | / | /a A3;/a/x G3 => /a A3\n
+
 # direct children have no children
 direct | / | /a G3;/a/x A3;/a/y G3 => /a G3\n
 

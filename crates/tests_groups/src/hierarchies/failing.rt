@@ -548,6 +548,7 @@ hierarchy | group/ => StorageError(Fault): store fault
 traversed | group/ => StorageError(Fault): store fault
 # a block stands for a store that fails
 children | group/ => /group/array A3_SQUARE\n/group/subgroup G3\n  /group/subgroup/mysubarray A3_SQUARE\n
+children | => /group/array A3_SQUARE\n/group/subgroup G3\n  /group/subgroup/mysubarray A3_SQUARE\n
 "#;
 
 #[test]
