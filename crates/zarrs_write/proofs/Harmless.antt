@@ -1,7 +1,7 @@
 -- That a replacement and a removal harm nothing.
 use Rattle.std.specs.Prelude.{⊤}
 use Rattle.std.proofs.Common.{◌≡◌, ◌≢◌, ◌⊎◌, ℕ, ◌+◌, List, [], ◌∷◌, ◌++◌, length, codes, Option, Some, None, refl, sym, ◌∙◌, ap, subst, inl, inr, arith, length-append}
-use Rattle.zarrs_write.specs.Calls.{Name, Bytes, Call, found, created, kept, wrote, synced, renamed, settled, removed, Asked, did, failed}
+use Rattle.zarrs_write.specs.Calls.{Name, Bytes, Call, found, created, stood, kept, wrote, synced, renamed, settled, removed, Asked, did, failed}
 use Rattle.zarrs_write.specs.Crashes.{File, first, made, Folder, first_file, first_folder, also_at, after_done, after_failed, NoFile, IsIn, FindsEither, FindsOnly, AtEachPoint}
 use Rattle.zarrs_write.specs.ReplacingDocuments.{temporary, IsBrokenOffAt, IsBrokenOff}
 use Rattle.zarrs_write.specs.Laws.{IsReplacement, ReplacedIsWhole, UnsyncedMayBeAnything}
@@ -85,6 +85,7 @@ module _ (F : Name → Option Bytes) (temp : Name) where
     holds = λ m b x. u.holds m b (but_other (made (s.count + 1)) (first m) (first≢made m _) x);
     keeps = λ m b x. u.keeps m b (but_other (made (s.count + 1)) (first m) (first≢made m _) x);
   }
+  unharmed_done s (stood n) i u = u
   unharmed_done s (kept n) i u = u
   unharmed_done s (wrote bytes) i u = record {
     holds = λ m b x. u.holds m b (but_other (made s.count) (first m) (first≢made m _) x);
@@ -116,6 +117,7 @@ module _ (F : Name → Option Bytes) (temp : Name) where
     holds = λ m b x. u.holds m b (but_other (made (s.count + 1)) (first m) (first≢made m _) x);
     keeps = λ m b x. u.keeps m b (but_other (made (s.count + 1)) (first m) (first≢made m _) x);
   }
+  unharmed_failed s (stood n) i u = u
   unharmed_failed s (kept n) i u = u
   unharmed_failed s (wrote bytes) i u = record {
     holds = λ m b x. u.holds m b (but_other (made s.count) (first m) (first≢made m _) x);
@@ -406,26 +408,27 @@ module _ (F : Name → Option Bytes) (name : Name) (bytes : Bytes) where
 
   -- the calls of a replacement that was broken off at a step are safe
   at_step : (step : Step) (asked : List Asked) → IsBrokenOffAt step (F name) temp name bytes asked → IsSafeAlong asked
-  at_step Reading asked h = beside_along asked h tt
+  at_step Reading asked h = beside_along asked h (tt, tt)
   at_step Making asked h = beside_along asked h (tt, (refl, tt))
   at_step Keeping asked h = cleared asked h (tt, (refl, (tt, (refl, tt)))) (tt, (refl, (tt, (refl, tt))))
   at_step Writing asked h = cleared asked h (tt, (refl, (tt, (tt, (refl, tt))))) (tt, (refl, (tt, (tt, (refl, tt)))))
   at_step Syncing asked h = cleared asked h (tt, (refl, (tt, (tt, (tt, (refl, tt)))))) (tt, (refl, (tt, (tt, (tt, (refl, tt))))))
-  at_step ReadingAgain asked h = cleared asked h (tt, (refl, (tt, (tt, (tt, (refl, tt)))))) (tt, (refl, (tt, (tt, (tt, (refl, tt))))))
+  at_step ReadingAgain asked h = cleared asked h (tt, (refl, (tt, (tt, (tt, (tt, (refl, tt))))))) (tt, (refl, (tt, (tt, (tt, (tt, (refl, tt)))))))
   at_step Renaming asked (inl e) = along asked _ e (along_prepared (failed (renamed temp name) ∷ did (removed temp) ∷ []) cleared_safe)
   at_step Renaming asked (inr e) = along asked _ e (along_prepared (failed (renamed temp name) ∷ failed (removed temp) ∷ []) uncleared_safe)
   at_step Removing asked h = absurd h
 
   -- the calls of a replacement that was broken off are safe
   broken_off : (e : ReplaceError) (asked : List Asked) → IsBrokenOff e (F name) temp name bytes asked → IsSafeAlong asked
-  broken_off (LeftOver n) asked h = beside_along asked h (tt, tt)
+  broken_off (LeftOver n) asked h = beside_along asked h (tt, (tt, tt))
   broken_off (Changed n) asked (other, ne, inl e) = beside_along asked e (tt, tt)
   broken_off (Changed n) asked (other, ne, inr h) =
       cleared asked h (tt, (refl, (tt, (tt, (tt, (tt, (refl, tt))))))) (tt, (refl, (tt, (tt, (tt, (tt, (refl, tt)))))))
   broken_off (Failed step n why) asked h = at_step step asked h
   broken_off (Unsettled n why) asked h =
       along asked _ h (along_prepared (did (renamed temp name) ∷ failed settled ∷ []) (along_renamed (failed settled ∷ []) unsettled_safe))
-  broken_off OutOfMemory asked h = at_step h.0 asked h.1
+  broken_off OutOfMemory asked (inl h) = beside_along asked h tt
+  broken_off OutOfMemory asked (inr h) = at_step h.0 asked h.1
 
   -- the calls of a replacement are safe
   pub replacement : (asked : List Asked) → IsReplacement (F name) temp name bytes asked → IsSafeAlong asked

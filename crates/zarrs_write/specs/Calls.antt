@@ -3,10 +3,11 @@
 -- <https://pubs.opengroup.org/onlinepubs/9699919799/functions/fsync.html>
 -- <https://pubs.opengroup.org/onlinepubs/9699919799/functions/unlink.html>
 --     Call, Asked      a call; a call that was done, or that failed
+--     unread name      a reading that failed
 --     all_done calls      these calls, each of them done
 --     Adds before after more      where the calls so far are known, these came behind them
 --     AddsSome before after P      where the calls so far are known, some came behind them, of which this holds
-use Rattle.std.specs.Prelude.{◌≡◌, ℕ, List, [], ◌∷◌, ◌++◌, Option, Some, IfSome}
+use Rattle.std.specs.Prelude.{◌≡◌, ℕ, List, [], ◌∷◌, ◌++◌, Option, Some, None, IfSome}
 
 -- the name of a file in the folder
 abbrev pub Name : Type 0
@@ -22,6 +23,8 @@ pub data Call : Type 0 where
   found : Name → Option Bytes → Call
   -- a file with this name was made, where nothing stood
   created : Name → Call
+  -- a file with this name was to be made, and something stood there: nothing was made
+  stood : Name → Call
   -- the file that was made last got the mode and the owner of the file with this name, where there is one
   kept : Name → Call
   -- these bytes were written to the file that was made last, behind those that it had
@@ -39,6 +42,10 @@ pub data Call : Type 0 where
 pub data Asked : Type 0 where
   did : Call → Asked
   failed : Call → Asked
+
+-- what stands at this name was to be read, and that failed: whatever stands there, it is noted as no file
+abbrev pub unread : Name → Asked
+unread name = failed (found name None)
 
 -- these calls, each of them done
 abbrev pub all_done : List Call → List Asked

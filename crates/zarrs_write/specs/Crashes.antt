@@ -9,8 +9,8 @@
 --     FindsEither s n x y      nothing else than these two is found at the name, now or after a crash
 --     AtEachPoint P s asked      this holds before each of the calls, in the midst of each, and after the last
 use Rattle.std.specs.Prelude.{◌≡◌, ◌≢◌, ◌⊎◌, ℕ, ◌+◌, List, [], ◌∷◌, ◌++◌, Option, Some, None}
-use Rattle.zarrs_write.specs.Calls.{Name, Bytes, Call, found, created, kept, wrote, synced, renamed, settled, removed}
-use Rattle.zarrs_write.specs.Calls.{Asked, did, failed}
+use Rattle.zarrs_write.specs.Calls.{Name, Bytes, Call, found, created, stood, kept, wrote, synced, renamed, settled}
+use Rattle.zarrs_write.specs.Calls.{removed, Asked, did, failed}
 
 -- a file: the one that stood at this name at first; or the one that was made as the first, the second, and so on
 pub data File : Type 0 where
@@ -82,6 +82,7 @@ after_done s (created n) = record s {
   keeps = but_at (made (s.count + 1)) Anything s.keeps;
   count = s.count + 1;
 }
+after_done s (stood n) = s
 after_done s (kept n) = s
 after_done s (wrote bytes) = record s {
   holds = but_at (made s.count) (Behind (s.holds (made s.count)) bytes) s.holds;
@@ -105,6 +106,7 @@ after_failed s (created n) = record s {
   keeps = but_at (made (s.count + 1)) Anything s.keeps;
   count = s.count + 1;
 }
+after_failed s (stood n) = s
 after_failed s (kept n) = s
 after_failed s (wrote bytes) = record s {
   holds = but_at (made s.count) Anything s.holds;

@@ -9,8 +9,8 @@
 use Rattle.std.specs.Prelude.{◌≡◌, ◌≢◌, ◌⊎◌, ℕ, Bool, true, false, if◌then◌else◌, List, [], ◌∷◌, ◌++◌, Option, ⊤, codes}
 use Rattle.std.specs.Prelude.{string_bytes, option_map}
 use Rattle.std.specs.Global.{Vec}
-use Rattle.zarrs_write.specs.Calls.{Name, Bytes, Call, found, created, kept, wrote, synced, renamed, settled, removed}
-use Rattle.zarrs_write.specs.Calls.{Asked, did, failed, all_done}
+use Rattle.zarrs_write.specs.Calls.{Name, Bytes, Call, found, created, stood, kept, wrote, synced, renamed, settled}
+use Rattle.zarrs_write.specs.Calls.{removed, Asked, did, failed, unread, all_done}
 use Rattle.zarrs_write.specs.declared.replace.Replaced.{Replaced}
 use Rattle.zarrs_write.specs.declared.replace.Replaced.TheVariants.{Unchanged, Written}
 use Rattle.zarrs_write.specs.declared.fault.Step.{Step}
@@ -45,10 +45,9 @@ abbrev pub IsCleared : Name → List Asked → List Asked → Type 0
 IsCleared temp before asked =
     (asked ≡ before ++ did (removed temp) ∷ []) ⊎ (asked ≡ before ++ failed (removed temp) ∷ [])
 
--- The calls of a replacement whose step fails. A reading that fails is not among them. Once the temporary file was
--- made, it is removed again.
+-- The calls of a replacement whose step fails. Once the temporary file was made, it is removed again.
 abbrev pub IsBrokenOffAt : Step → Option Bytes → Name → Name → Bytes → List Asked → Type 0
-IsBrokenOffAt Reading old temp name bytes asked = asked ≡ []
+IsBrokenOffAt Reading old temp name bytes asked = asked ≡ unread name ∷ []
 IsBrokenOffAt Making old temp name bytes asked = asked ≡ did (found name old) ∷ failed (created temp) ∷ []
 IsBrokenOffAt Keeping old temp name bytes asked =
     IsCleared temp (did (found name old) ∷ did (created temp) ∷ failed (kept name) ∷ []) asked
@@ -58,8 +57,8 @@ IsBrokenOffAt Syncing old temp name bytes asked =
     IsCleared temp
     (did (found name old) ∷ did (created temp) ∷ did (kept name) ∷ did (wrote bytes) ∷ failed synced ∷ []) asked
 IsBrokenOffAt ReadingAgain old temp name bytes asked =
-    IsCleared temp
-    (did (found name old) ∷ did (created temp) ∷ did (kept name) ∷ did (wrote bytes) ∷ did synced ∷ []) asked
+    IsCleared temp (did (found name old) ∷ did (created temp) ∷ did (kept name) ∷ did (wrote bytes) ∷ did synced
+    ∷ unread name ∷ []) asked
 IsBrokenOffAt Renaming old temp name bytes asked =
     IsCleared temp (all_done (preparing old temp name bytes) ++ failed (renamed temp name) ∷ []) asked
 IsBrokenOffAt Removing old temp name bytes asked = ⊥
@@ -71,14 +70,16 @@ FindsOther old temp name bytes asked = (other : Option Bytes) × (other ≢ old)
     ((asked ≡ did (found name other) ∷ []) ⊎ IsCleared temp (did (found name old) ∷ did (created temp) ∷ did (kept name)
     ∷ did (wrote bytes) ∷ did synced ∷ did (found name other) ∷ []) asked)
 
--- The calls of a replacement that ends with an error. A temporary file that was left over is left as it is.
+-- The calls of a replacement that ends with an error. Where something stood at the temporary file's name, it is left
+-- as it is. Memory may run out before anything is asked.
 abbrev pub IsBrokenOff : ReplaceError → Option Bytes → Name → Name → Bytes → List Asked → Type 0
-IsBrokenOff (LeftOver n) old temp name bytes asked = asked ≡ did (found name old) ∷ []
+IsBrokenOff (LeftOver n) old temp name bytes asked = asked ≡ did (found name old) ∷ did (stood temp) ∷ []
 IsBrokenOff (Changed n) old temp name bytes asked = FindsOther old temp name bytes asked
 IsBrokenOff (Failed step n why) old temp name bytes asked = IsBrokenOffAt step old temp name bytes asked
 IsBrokenOff (Unsettled n why) old temp name bytes asked =
     asked ≡ all_done (preparing old temp name bytes) ++ did (renamed temp name) ∷ failed settled ∷ []
-IsBrokenOff OutOfMemory old temp name bytes asked = (step : Step) × IsBrokenOffAt step old temp name bytes asked
+IsBrokenOff OutOfMemory old temp name bytes asked =
+    (asked ≡ []) ⊎ ((step : Step) × IsBrokenOffAt step old temp name bytes asked)
 
 -- the step is about the document, and not about its temporary file
 abbrev pub is_about_document : Step → Bool

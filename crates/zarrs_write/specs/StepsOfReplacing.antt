@@ -1,8 +1,8 @@
 -- How a replacement and a removal are put together (POSIX.1-2017, `rename`).
 -- <https://pubs.opengroup.org/onlinepubs/9699919799/functions/rename.html>
 use Rattle.std.specs.Prelude.{◌≡◌, ◌≢◌, List, [], ◌∷◌, ◌++◌, Option}
-use Rattle.zarrs_write.specs.Calls.{Name, Bytes, found, kept, wrote, synced, renamed, settled, removed, Asked, did}
-use Rattle.zarrs_write.specs.Calls.{failed, all_done}
+use Rattle.zarrs_write.specs.Calls.{Name, Bytes, found, stood, kept, wrote, synced, renamed, settled, removed, Asked}
+use Rattle.zarrs_write.specs.Calls.{did, failed, unread, all_done}
 use Rattle.zarrs_write.specs.ReplacingDocuments.{preparing, IsBrokenOffAt, FindsOther, IsBrokenOff}
 use Rattle.zarrs_write.specs.RemovingDocuments.{IsRemovalBrokenOffAt, IsRemovalBrokenOff}
 use Rattle.zarrs_write.specs.declared.fault.ReplaceError.{ReplaceError}
@@ -13,7 +13,7 @@ use Rattle.zarrs_write.specs.declared.stop.Stop.TheVariants.{LeftOver, Changed, 
 
 -- the calls of a replacement that stops
 abbrev pub IsStopped : Stop → Option Bytes → Name → Name → Bytes → List Asked → Type 0
-IsStopped LeftOver old temp name bytes asked = asked ≡ did (found name old) ∷ []
+IsStopped LeftOver old temp name bytes asked = asked ≡ did (found name old) ∷ did (stood temp) ∷ []
 IsStopped Changed old temp name bytes asked = FindsOther old temp name bytes asked
 IsStopped (Failed step why) old temp name bytes asked = IsBrokenOffAt step old temp name bytes asked
 IsStopped (Unsettled why) old temp name bytes asked =
@@ -31,7 +31,7 @@ IsRemovalStopped (Unsettled why) old name asked =
 abbrev pub IsUnexpected : Stop → Step → Option Bytes → Name → List Asked → Type 0
 IsUnexpected LeftOver at old name asked = ⊥
 IsUnexpected Changed at old name asked = (other : Option Bytes) × (other ≢ old) × (asked ≡ did (found name other) ∷ [])
-IsUnexpected (Failed step why) at old name asked = (step ≡ at) × (asked ≡ [])
+IsUnexpected (Failed step why) at old name asked = (step ≡ at) × (asked ≡ unread name ∷ [])
 IsUnexpected (Unsettled why) at old name asked = ⊥
 
 -- the calls of a step between the making of the temporary file and its removal that fails
@@ -39,7 +39,8 @@ abbrev pub IsUnfilledAt : Step → Option Bytes → Name → Name → Bytes → 
 IsUnfilledAt Keeping old temp name bytes asked = asked ≡ failed (kept name) ∷ []
 IsUnfilledAt Writing old temp name bytes asked = asked ≡ did (kept name) ∷ failed (wrote bytes) ∷ []
 IsUnfilledAt Syncing old temp name bytes asked = asked ≡ did (kept name) ∷ did (wrote bytes) ∷ failed synced ∷ []
-IsUnfilledAt ReadingAgain old temp name bytes asked = asked ≡ did (kept name) ∷ did (wrote bytes) ∷ did synced ∷ []
+IsUnfilledAt ReadingAgain old temp name bytes asked =
+    asked ≡ did (kept name) ∷ did (wrote bytes) ∷ did synced ∷ unread name ∷ []
 IsUnfilledAt Renaming old temp name bytes asked =
     asked ≡ did (kept name) ∷ did (wrote bytes) ∷ did synced ∷ did (found name old) ∷ failed (renamed temp name) ∷ []
 IsUnfilledAt _ old temp name bytes asked = ⊥

@@ -26,6 +26,8 @@ const SETTLED: u64 = 7;
 
 const REMOVED: u64 = 8;
 
+const STOOD: u64 = 9;
+
 /// A folder in memory, which can be made to fail: for tests, and to show that the promises of a [`Place`] can be kept. Its calls are known. It
 /// does no harm where it fails: a call that fails does nothing.
 ///
@@ -229,14 +231,15 @@ impl Place for MemoryPlace {
     /// # Errors
     /// `Refused` where the call was to fail. `OutOfMemory`.
     fn document(&mut self, alloc: Global, name: &str) -> Result<Option<Vec<u8>>, PlaceFault> {
-        let found = self.copy_of(alloc, name)?;
+        let found = self.copy_of(alloc, name);
         match &found {
-            Some(bytes) => self
+            Ok(Some(bytes)) => self
                 .record
                 .note(&[FOUND, 1], name.as_bytes(), bytes.as_slice()),
-            None => self.record.note(&[FOUND_NONE, 1], name.as_bytes(), &[]),
+            Ok(None) => self.record.note(&[FOUND_NONE, 1], name.as_bytes(), &[]),
+            Err(_) => self.record.note(&[FOUND_NONE, 0], name.as_bytes(), &[]),
         }
-        Ok(found)
+        found
     }
 
     /// Makes an empty file where nothing stands at the name.
@@ -245,6 +248,7 @@ impl Place for MemoryPlace {
     /// `Refused` where the call was to fail. `OutOfMemory`.
     fn create(&mut self, name: &str) -> Result<bool, PlaceFault> {
         if self.place_of(name).is_some() {
+            self.record.note(&[STOOD, 1], name.as_bytes(), &[]);
             return Ok(false);
         }
         let answer = self.make(name);

@@ -1,6 +1,6 @@
 //! What is asked of a folder in which a document is replaced.
 ghost use Rattle.std.specs.Prelude.{List, [], ◌∷◌, Option, OnOk, OnErr, IfOk, if◌then◌else◌};
-ghost use Rattle.zarrs_write.specs.Calls.{Asked, did, failed, Adds, found, created, kept, wrote, synced, renamed, settled, removed};
+ghost use Rattle.zarrs_write.specs.Calls.{Asked, did, failed, unread, Adds, found, created, stood, kept, wrote, synced, renamed, settled, removed};
 ghost use Rattle.zarrs_write.specs.ReplacingDocuments.{bytes_in};
 
 use crate::fault::PlaceFault;
@@ -18,19 +18,20 @@ pub trait Place {
     /// The bytes of the file with the name, or nothing where nothing stands there.
     ///
     /// # Errors
-    /// `Refused` where the file is not read, or what stands there is no file: that is not noted. `OutOfMemory`.
+    /// `Refused` where the file is not read, or what stands there is no file. `OutOfMemory`.
     fn document(&mut self, alloc: Global, name: &str) -> Result<Option<Vec<u8>>, PlaceFault>
         ensures ok { IfOk result (λ document. Adds (Self.calls self.old) (Self.calls self.new)
             (did (found name.now (bytes_in document)) ∷ [])) }
-        ensures err { OnErr result (Adds (Self.calls self.old) (Self.calls self.new) []) };
+        ensures err { OnErr result (Adds (Self.calls self.old) (Self.calls self.new)
+            (unread name.now ∷ [])) };
 
-    /// Makes an empty file with the name, and answers whether it was made: where something stands at the name, nothing is made or noted.
+    /// Makes an empty file with the name, and answers whether it was made: where something stands at the name, nothing is made.
     ///
     /// # Errors
     /// `Refused` where that fails. `OutOfMemory`.
     fn create(&mut self, name: &str) -> Result<bool, PlaceFault>
         ensures ok { IfOk result (λ is_made. Adds (Self.calls self.old) (Self.calls self.new)
-            (if is_made then did (created name.now) ∷ [] else [])) }
+            (if is_made then did (created name.now) ∷ [] else did (stood name.now) ∷ [])) }
         ensures err { OnErr result (Adds (Self.calls self.old) (Self.calls self.new)
             (failed (created name.now) ∷ [])) };
 
