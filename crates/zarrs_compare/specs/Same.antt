@@ -10,15 +10,17 @@ use Rattle.zarrs_meta.specs.declared.node.GroupMetadata.TheVariants.{V3 as group
 use Rattle.zarrs_meta.specs.declared.node.NodeMetadata.{NodeMetadata}
 use Rattle.zarrs_meta.specs.declared.node.NodeMetadata.TheVariants.{Group, Array}
 
--- the metadata: of a version 3 group without its additional field `consolidated_metadata`, and all others as they are
+-- the metadata: of a group without its additional field `consolidated_metadata`, and of an array as they are. There a
+-- version 3 group has its block, and zarr-python 3 writes it into the entries of version 2 groups too
 abbrev pub without_block : NodeMetadata → NodeMetadata
 without_block (Group (group_v3 m)) =
     Group (group_v3 (record m { additional_fields = besides (codes "consolidated_metadata" ∷ []) m.additional_fields }))
-without_block (Group (group_v2 m)) = Group (group_v2 m)
+without_block (Group (group_v2 m)) =
+    Group (group_v2 (record m { additional_fields = besides (codes "consolidated_metadata" ∷ []) m.additional_fields }))
 without_block (Array m) = Array m
 
--- two metadata are the same: they are equal as data once the field `consolidated_metadata` of version 3 groups is
--- left out. Equal are two whole numbers of one value, and two
--- others of one sign and one value; a whole number, as `1`, is none of the others, as `1.0`
+-- two metadata are the same: they are equal as data once the field `consolidated_metadata` of groups is left out. Equal
+-- are two whole numbers of one value, and two others of one sign and one value; a whole number, as `1`, is none of the
+-- others, as `1.0`
 abbrev pub IsSame : NodeMetadata → NodeMetadata → Type 0
 IsSame m n = without_block m ≡ without_block n

@@ -1,5 +1,6 @@
 -- Steps of a comparison of two metadata, part by part, as tests that compute; no public contract rests on them.
-use Rattle.std.specs.Prelude.{ℕ, List, [], ◌∷◌, Bool, true, false, ◌&&◌, ◌==◌, bytes_eq, Option, Some, None, String}
+use Rattle.std.specs.Prelude.{ℕ, List, [], ◌∷◌, Bool, true, false, ◌&&◌, ◌==◌, if◌then◌else◌, bytes_eq, Option, Some}
+use Rattle.std.specs.Prelude.{None, String}
 use Rattle.std.specs.Prelude.{string_bytes, codes}
 use Rattle.std.specs.Bool.{beq}
 use Rattle.std.specs.Float.{Float, nan, inf, fin}
@@ -7,6 +8,7 @@ use Rattle.std.specs.Global.{Global}
 use Rattle.std.specs.Ordering.{int_eq}
 use Rattle.serde_json.specs.Data.{Num, unsigned, negative, float, Data, null, boolean, number, string, array, object}
 use Rattle.serde_json.specs.Data.{Items, no_items, item, Members, no_members, member}
+use Rattle.zarrs_form.specs.Documents.{is_own}
 use Rattle.zarrs_form.specs.declared.extension.MetadataV3.{MetadataV3}
 use Rattle.zarrs_form.specs.declared.codec.MetadataV2.{MetadataV2}
 use Rattle.zarrs_form.specs.declared.data_type.DataTypeMetadataV2.{DataTypeMetadataV2}
@@ -163,3 +165,8 @@ same_node _ _ = false
 -- the name of the field that says what stands below a group
 abbrev pub block_names : List (List ℕ)
 block_names = codes "consolidated_metadata" ∷ []
+
+-- the fields that do not say it
+abbrev pub besides_block : {A : Type 0} → List (String Global × A) → List (String Global × A)
+besides_block [] = []
+besides_block (f ∷ fs) = if is_own block_names (string_bytes f.0) then besides_block fs else f ∷ besides_block fs

@@ -1,19 +1,18 @@
 //! The metadata of two nodes of either kind and either version.
 ghost use Rattle.std.specs.Prelude.{◌≡◌, ◌↔◌, IsTrue};
 ghost use Rattle.zarrs_compare.specs.Same.{IsSame, without_block};
-ghost use Rattle.zarrs_compare.specs.StepsOfSame.{same_array, same_array_v2, same_array_v3, same_group_v2, same_node};
-ghost use Rattle.zarrs_meta.specs.declared.node.GroupMetadata.TheVariants.{V3 as group_v3};
+ghost use Rattle.zarrs_compare.specs.StepsOfSame.{same_array, same_array_v2, same_array_v3, same_node};
+ghost use Rattle.zarrs_meta.specs.declared.node.GroupMetadata.TheVariants.{V3 as group_v3, V2 as group_v2};
 ghost use Rattle.zarrs_meta.specs.declared.node.NodeMetadata.TheVariants.{Group};
 
-use crate::fields::is_same_besides_block;
+use crate::fields::{is_same_in_v2, is_same_in_v3};
 use crate::parts::Same;
 use zarrs_meta::{
     ArrayMetadata, ArrayMetadataV2, ArrayMetadataV3, GroupMetadata, GroupMetadataV2,
     GroupMetadataV3, NodeMetadata,
 };
 
-/// Whether two metadata are the same as data, the field `consolidated_metadata` of version 3 groups left out on both
-/// sides. Whole numbers are compared by their values, and all others by their 64 bits: `0.0` is not `-0.0`, nor is `1`
+/// Whether two metadata are the same as data, the field `consolidated_metadata` of groups left out on both sides. Whole numbers are compared by their values, and all others by their 64 bits: `0.0` is not `-0.0`, nor is `1`
 /// `1.0`, and `6.37814e+06` is `6378140.0`.
 ///
 /// Source: own; `zarrs_metadata::NodeMetadata` has `==`.
@@ -80,15 +79,17 @@ fn is_same_group_v3(first: &GroupMetadataV3, second: &GroupMetadataV3) -> bool
         (without_block (Group (group_v3 second.now))) }
 {
     first.attributes.is_same(&second.attributes)
-        && is_same_besides_block(&first.additional_fields, &second.additional_fields)
+        && is_same_in_v3(&first.additional_fields, &second.additional_fields)
 }
 
-/// Whether two version 2 groups are the same.
+/// Whether two version 2 groups are the same, but for what is said of the nodes below.
 fn is_same_group_v2(first: &GroupMetadataV2, second: &GroupMetadataV2) -> bool
-    ensures { result ≡ same_group_v2 first.now second.now }
+    ensures { result
+        ≡ same_node (without_block (Group (group_v2 first.now)))
+        (without_block (Group (group_v2 second.now))) }
 {
     first.attributes.is_same(&second.attributes)
-        && first.additional_fields.is_same(&second.additional_fields)
+        && is_same_in_v2(&first.additional_fields, &second.additional_fields)
 }
 
 /// Whether two version 3 arrays are the same.

@@ -1,0 +1,14 @@
+use Rattle.std.proofs.Common.{ap, ◌∙◌}
+use Rattle.serde_json.specs.View.{members_of}
+use Rattle.zarrs_form.specs.Documents.{besides}
+use Rattle.zarrs_compare.specs.StepsOfSame.{block_names, same_members}
+use Rattle.zarrs_compare.proofs.SameSteps.{same_besides_fields}
+use Rattle.zarrs_compare.proofs.fields.is_same_in_v3.Goals as goal
+
+pub returns : goal.returns
+returns c =
+    let firsts = c.as_slice.result.now in
+    let seconds = c.as_slice-2.result.now in
+    c.is_same_besides_block.ensures ∙ same_besides_fields firsts seconds
+    ∙ ap (λ ms. same_members (besides block_names ms) (besides block_names (members_of seconds))) c.as_slice.ensures.fields
+    ∙ ap (λ ms. same_members (besides block_names c.args.first.now) (besides block_names ms)) c.as_slice-2.ensures.fields
