@@ -38,7 +38,7 @@ use Rattle.zarrs_check.specs.Checks.{block_read, HasBadPath, HasOtherAttributes,
 use Rattle.zarrs_meaning.specs.Exists.{HasNodeKey}
 use Rattle.zarrs_check.specs.Findings.{HasPath, IsSpoilt, IsKeyFinding, IsPathFinding, IsFinding}
 use Rattle.zarrs_meaning.specs.Meaning.{Pair}
-use Rattle.zarrs_check.specs.Laws.{HaveSameNodes, GoodBlocksAgree, paths_of}
+use Rattle.zarrs_check.specs.Laws.{HaveSameNodes, GoodBlocksAgree, GoodEntriesAreNodes, paths_of}
 use Rattle.zarrs_check.specs.Surveys.{IsSurveyOf}
 use Rattle.zarrs_check.specs.declared.finding.Finding.{Finding}
 use Rattle.zarrs_check.specs.declared.finding.FindingKind.{FindingKind}
@@ -208,7 +208,14 @@ module _ (s : Contents) (v : MetadataRetrieveVersion) (b : Path) (survey : Surve
       (λ other. absurd (untold_path p Differs (k, n, kept.1, is, other)))
       (same_or_other k n)
 
-  -- so two forests that show them have the same
+  -- so the entries have the paths of the nodes with the same metadata
+  entries_agree : HaveSameNodes (Entries B b) (Nodes s v true b)
+  entries_agree = record {
+    paths = λ p. (λ w. has_node p (w.0, entry_kept (p, w.0) w.1), λ w. let x = has_entry p w in (x.0, x.1.1));
+    metadata = λ p k n has is. same_metadata p k n (entry_kept (p, k) has) is;
+  }
+
+  -- and two forests that show them have the same
   pub forests_agree : (f g : Forest) → Shows f b (Kept (Entries B b) true b) → Shows g b (Nodes s v true b) → (paths_of f ≡ paths_of g) × HaveSameNodes (Contains (pairs f)) (Contains (pairs g))
   forests_agree f g shows_f shows_g = (
     same_list (λ p q. path_cmp p q ≡ Less) (λ p less. names_irrefl p less) (λ p q r less more. path_total.trans p q r less more) (paths_of f) (paths_of g)
@@ -225,6 +232,10 @@ module _ (s : Contents) (v : MetadataRetrieveVersion) (b : Path) (survey : Surve
 
       to_f : (p : Path) → HasPath (Contains (pairs g)) p → HasPath (Contains (pairs f)) p
       to_f p w = let x = has_entry p (w.0, (listed_each shows_g.shown (p, w.0)).0 w.1) in (x.0, (listed_each shows_f.shown (p, x.0)).1 x.1)
+
+-- the entries of a block of which nothing is to be told are the nodes
+pub good_entries_are_nodes : GoodEntriesAreNodes
+good_entries_are_nodes s v b survey h sound named m B base read none = entries_agree s v b survey h sound m B base read none
 
 -- by a group's choice of the block, and of a listing
 by_choice : (s : Contents) (v : MetadataRetrieveVersion) (b : Path) (g : GroupMetadata) (B : Block) → block_at s b (Group g) ≡ Some B → choice s Must b (Group g) ≡ use_block B

@@ -74,6 +74,14 @@ GoodBlocksAgree =
     × ((f g : Forest) → ShowsBelow s v Must b m f → ShowsBelow s v Never b m g
     → (paths_of f ≡ paths_of g) × HaveSameNodes (Contains (pairs f)) (Contains (pairs g)))
 
+-- Under the same conditions the entries of the block have the paths of the nodes below the base with the same metadata.
+abbrev pub GoodEntriesAreNodes : Type 0
+GoodEntriesAreNodes =
+    (s : Contents) (v : MetadataRetrieveVersion) (b : Path) (survey : Survey) → IsSurveyOf s v b survey
+    → survey.bad_documents ≡ [] → survey.bad_names.items ≡ [] → (m : NodeMetadata) (B : Block) → survey.base ≡ Node m
+    → block_read s b m ≡ Some (Ok B) → ((f : Finding) → IsBlockFinding s v b f → f.group ≡ b → f.kind ≡ OwnAttributes)
+    → HaveSameNodes (Entries B b) (Nodes s v true b)
+
 -- Under the same conditions making the block current at any path below the base is refused for nothing, and the block
 -- then has the same paths as before with the same metadata, nested blocks apart.
 abbrev pub RefreshedBlocksAgree : Type 0

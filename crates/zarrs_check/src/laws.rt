@@ -1,5 +1,5 @@
 //! What holds of every survey and of every check. A function here is empty; its contract is the law.
-ghost use Rattle.zarrs_check.specs.Laws.{NothingBadIsTold, RefusalsAreTold, ListingIsSurveyed, GroupsAreSurveyed, GoodBlocksAgree, RefreshedBlocksAgree};
+ghost use Rattle.zarrs_check.specs.Laws.{NothingBadIsTold, RefusalsAreTold, ListingIsSurveyed, GroupsAreSurveyed, GoodBlocksAgree, GoodEntriesAreNodes, RefreshedBlocksAgree};
 ghost use Rattle.zarrs_check.specs.Laws.{NothingIsAboveRoot, NothingIsLost};
 
 /// A survey has no bad document and no bad name exactly where nothing below its base is bad.
@@ -26,6 +26,12 @@ pub fn groups_are_surveyed()
 /// base by the block and by a listing is refused for nothing, and both show the same paths with the same metadata, nested blocks apart.
 pub fn good_blocks_agree()
     ensures { GoodBlocksAgree }
+{}
+
+/// Under the same conditions the entries of the block, which a hierarchy opened by it has, have the paths of the nodes below the base with the same
+/// metadata, nested blocks apart.
+pub fn good_entries_are_nodes()
+    ensures { GoodEntriesAreNodes }
 {}
 
 /// Under the same conditions, making the block current at any path below the base, as `refresh_block` of `zarrs_node` does, is refused for nothing, and
