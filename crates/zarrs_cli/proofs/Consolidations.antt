@@ -1,5 +1,5 @@
 -- From a plan with its line to the answer of a run that writes a block back, and from its refusal to that of the run.
-use Rattle.std.proofs.Common.{◌≡◌, inl, inr, ⊎_elim, false, refl, subst, ℕ, List, [], Option, String, Global, string_bytes}
+use Rattle.std.proofs.Common.{◌≡◌, ◌↔◌, inl, inr, ⊎_elim, false, refl, subst, ℕ, List, [], Option, String, Global, string_bytes}
 use Rattle.std.specs.Prelude.{Result, Ok, Err, IfOk}
 use Rattle.std.specs.Io.KnownBytes.{Appends}
 use Rattle.zarrs_store.specs.Contents.{Contents, Values}
@@ -7,11 +7,14 @@ use Rattle.zarrs_path.specs.Paths.{Path, IsPath, path_text}
 use Rattle.zarrs_folder.specs.Folders.{in_any, values_of}
 use Rattle.zarrs_meaning.specs.declared.node_create_error.NodeCreateError.{NodeCreateError}
 use Rattle.zarrs_program.specs.Words.{RefusesPathText}
-use Rattle.zarrs_write.specs.Calls.{AddsSome, Asked}
+use Rattle.zarrs_write.specs.Calls.{Adds, AddsSome, Asked}
+use Rattle.zarrs_write.specs.ReplacingDocuments.{bytes_in}
 use Rattle.zarrs_write.specs.declared.fault.ReplaceError.{ReplaceError}
-use Rattle.zarrs_consolidate.specs.CarryingOut.{IsPlanBrokenOff}
+use Rattle.zarrs_consolidate.specs.CarryingOut.{asked_of_plan, IsPlanBrokenOff}
 use Rattle.zarrs_consolidate.specs.Plans.{IsPlan}
 use Rattle.zarrs_consolidate.specs.Refusals.{RefusesPlanOfSome}
+use Rattle.zarrs_consolidate.specs.declared.carry_out.Outcome.{Outcome}
+use Rattle.zarrs_consolidate.specs.declared.carry_out.Outcome.TheVariants.{Unchanged, Changed}
 use Rattle.zarrs_consolidate.specs.declared.fault.ConsolidateError.{ConsolidateError}
 use Rattle.zarrs_consolidate.specs.declared.plan.Plan.{Plan}
 use Rattle.zarrs_consolidate.specs.declared.plan.Task.{Task}
@@ -100,6 +103,14 @@ module _ (options : ConsolidateOptions) (path : List ℕ) where
 
         pub done_of_each : (P : Values → Type 0) → IsPlanToldOfEach options b P made → IsConsolidationOfEach options path P before after old new end
         done_of_each P told = λ V p. done (in_any V) (told V p)
+
+-- ---- the calls
+
+-- a plan that is a change, once carried out, changed the document
+pub changed : (options : ConsolidateOptions) (plan : Plan) (before after : Option (List Asked)) (done : Outcome) → IsChange plan → options.dry_run ≡ false
+    → Adds before after (asked_of_plan plan done) → ((done ≡ Unchanged) ↔ (bytes_in plan.new ≡ bytes_in plan.old)) → AsksPlace options plan before after
+changed options plan before after Changed change wet adds same = inl (change, wet, adds)
+changed options plan before after Unchanged change wet adds same = absurd (change (same.0 refl))
 
 -- ---- the plan with its line
 

@@ -182,11 +182,15 @@ pub command_answered : (words : List (List ℕ)) (command : Command) (left old n
     → IfOk r (WritesRequest command.request command.source.now command.path.now left old new) → IfOk r (WritesAsked words left old new)
 command_answered words command left old new r are = ok_weaker r (λ end writes. inr (inr (command.request, command.source.now, command.path.now, are, writes)))
 
--- the words of a call are no wrong words
-asked_words : (words : List (List ℕ)) (asked : Asked) → AskFor words asked → AreWords words
-asked_words words Help is = inl is
-asked_words words Version is = inr (inl is)
-asked_words words (Store command) is = inr (inr (command.request, command.source.now, command.path.now, is))
+-- where the writer fails of the usage, the words that ask for it are refused
+pub help_refused : (words : List (List ℕ)) (asked : Asked) (before after : Option (List ℕ)) (r : Result Answered ZarrsFault) → AskFor words asked → asked ≡ Help
+    → IfErr r (λ fault. fault ≡ Write) → IfErr r (RefusesAsked words before after)
+help_refused words asked before after r are is = err_weaker r (λ fault failed. subst (RefusesAsked words before after) (sym failed) (inl (subst (AskFor words) is are)))
+
+-- and so are those that ask for the version, where it fails of that
+pub version_refused : (words : List (List ℕ)) (asked : Asked) (before after : Option (List ℕ)) (r : Result Answered ZarrsFault) → AskFor words asked → asked ≡ Version
+    → IfErr r (λ fault. fault ≡ Write) → IfErr r (RefusesAsked words before after)
+version_refused words asked before after r are is = err_weaker r (λ fault failed. subst (RefusesAsked words before after) (sym failed) (inr (inl (subst (AskFor words) is are))))
 
 -- no wrong words are refused of a source
 no_usage : (request : Request) (source path : List ℕ) (before after : Option (List ℕ)) → RefusesRequest request source path before after Usage → ⊥
@@ -198,7 +202,7 @@ no_usage (Change options) source path before after = ⊎_elim (λ none. none) (�
 command_fault : (words : List (List ℕ)) (command : Command) (before after : Option (List ℕ)) → AskFor words (Store command)
     → (fault : ZarrsFault) → RefusesRequest command.request command.source.now command.path.now before after fault → RefusesAsked words before after fault
 command_fault words command before after are Usage refused = absurd (no_usage command.request command.source.now command.path.now before after refused)
-command_fault words command before after are Write refused = asked_words words (Store command) are
+command_fault words command before after are Write refused = inr (inr (command.request, command.source.now, command.path.now, are, refused))
 command_fault words command before after are (Load e) refused = (command.request, command.source.now, command.path.now, are, refused)
 command_fault words command before after are (Folder e) refused = (command.request, command.source.now, command.path.now, are, refused)
 command_fault words command before after are (Node e) refused = (command.request, command.source.now, command.path.now, are, refused)

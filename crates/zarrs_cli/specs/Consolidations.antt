@@ -17,7 +17,7 @@ use Rattle.zarrs_write.specs.Calls.{Adds, Asked}
 use Rattle.zarrs_write.specs.ReplacingDocuments.{bytes_in}
 use Rattle.zarrs_consolidate.specs.CarryingOut.{asked_of_plan}
 use Rattle.zarrs_consolidate.specs.Plans.{IsPlan}
-use Rattle.zarrs_consolidate.specs.declared.carry_out.Outcome.{Outcome}
+use Rattle.zarrs_consolidate.specs.declared.carry_out.Outcome.TheVariants.{Changed}
 use Rattle.zarrs_consolidate.specs.declared.plan.Plan.{Plan}
 use Rattle.zarrs_consolidate.specs.declared.plan.Task.{Task}
 use Rattle.zarrs_consolidate.specs.declared.plan.Task.TheVariants as task
@@ -83,11 +83,11 @@ abbrev pub IsConsolidationLine : ConsolidateOptions → Plan → List ℕ → Ty
 IsConsolidationLine options plan line =
     (text : List ℕ) × IsPlanText options plan text × (line ≡ escaped_line text)
 
--- of the folder in which the document stands the calls are asked that carry the plan out; by a dry run, or where there
+-- of the folder in which the document stands the calls are asked by which it is changed; by a dry run, or where there
 -- is no change, nothing is asked
 abbrev pub AsksPlace : ConsolidateOptions → Plan → Option (List Asked) → Option (List Asked) → Type 0
 AsksPlace options plan before after =
-    (IsChange plan × (options.dry_run ≡ false) × ((done : Outcome) × Adds before after (asked_of_plan plan done)))
+    (IsChange plan × (options.dry_run ≡ false) × Adds before after (asked_of_plan plan Changed))
     ⊎ ((IsChange plan → options.dry_run ≡ true) × (after ≡ before))
 
 -- a dry run ends with what is due where there is a change; each other run ends with the document as it is to be

@@ -22,7 +22,7 @@ use Rattle.zarrs_program.specs.declared.arguments.WordsFault.{WordsFault}
 use Rattle.zarrs_program.specs.declared.arguments.WordsFault.TheVariants as unread
 use Rattle.zarrs_consolidate.specs.Refusals.{IsOfFolder}
 use Rattle.zarrs_cli.specs.Output.{IsAnswer}
-use Rattle.zarrs_cli.specs.Words.{AreWords, AreWordsOf}
+use Rattle.zarrs_cli.specs.Words.{AreWords, AreWordsOf, AskHelp, AskVersion}
 use Rattle.zarrs_cli.specs.declared.report.Tally.{Tally}
 use Rattle.zarrs_cli.specs.declared.fault.ZarrsFault.{ZarrsFault}
 use Rattle.zarrs_cli.specs.declared.fault.ZarrsFault.TheVariants.{Usage, Load, Folder, Node, TooDeep, Write}
@@ -132,10 +132,11 @@ RefusesNamed words before after fault =
     (request : Request) × (source path : List ℕ) × AreWordsOf words request source path
     × RefusesRequest request source path before after fault
 
--- the words are no call's; or they are, and the writer failed; or what they ask of a store is refused
+-- the words are no call's; or they ask for the usage or the version, and the writer failed; or what they ask of a store
+-- is refused
 abbrev pub RefusesAsked : List (List ℕ) → Option (List ℕ) → Option (List ℕ) → ZarrsFault → Type 0
 RefusesAsked words before after Usage = AreWords words → ⊥
-RefusesAsked words before after Write = AreWords words
+RefusesAsked words before after Write = AskHelp words ⊎ AskVersion words ⊎ RefusesNamed words before after Write
 RefusesAsked words before after fault = RefusesNamed words before after fault
 
 -- the status of what is shown: 1 where a check has a finding, else 0

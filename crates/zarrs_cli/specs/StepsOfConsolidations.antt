@@ -1,5 +1,6 @@
--- Steps of a run that writes the block of a group back: the plan with its line, and why there is none.
-use Rattle.std.specs.Prelude.{⊤, String, string_bytes}
+-- Steps of a run that writes the block of a group back: the plan with its line, and why there is none; and the folder
+-- in which the document stands.
+use Rattle.std.specs.Prelude.{◌≡◌, ◌≢◌, ◌⊎◌, ⊤, ℕ, List, ◌++◌, codes, String, string_bytes}
 use Rattle.std.specs.declared.alloc.Global.{Global}
 use Rattle.zarrs_store.specs.Contents.{Contents, Values}
 use Rattle.zarrs_path.specs.Paths.{Path}
@@ -8,6 +9,7 @@ use Rattle.zarrs_consolidate.specs.Plans.{IsPlan}
 use Rattle.zarrs_consolidate.specs.Refusals.{RefusesPlanOfEach, RefusesPlanOfSome}
 use Rattle.zarrs_consolidate.specs.declared.plan.Plan.{Plan}
 use Rattle.zarrs_cli.specs.Consolidations.{IsConsolidationLine, task_of}
+use Rattle.zarrs_cli.specs.RefusalLines.{IsFolderName}
 use Rattle.zarrs_cli.specs.declared.fault.ZarrsFault.{ZarrsFault}
 use Rattle.zarrs_cli.specs.declared.fault.ZarrsFault.TheVariants.{Consolidate, OutOfMemory}
 use Rattle.zarrs_cli.specs.declared.words.ConsolidateOptions.{ConsolidateOptions}
@@ -36,3 +38,9 @@ abbrev pub IsPlanFaultOfEach : ConsolidateOptions → Path → (Values → Type 
 IsPlanFaultOfEach options b P (Consolidate e) = RefusesPlanOfEach P (task_of options) b e
 IsPlanFaultOfEach options b P OutOfMemory = ⊤
 IsPlanFaultOfEach options b P _ = ⊥
+
+-- the folder of the node at a path of the store in a folder: that folder for the root, else its name and the path
+abbrev pub IsNodeFolder : List ℕ → List ℕ → List ℕ → Type 0
+IsNodeFolder folder path place =
+    ((path ≡ codes "/") × (place ≡ folder))
+    ⊎ ((path ≢ codes "/") × ((name : List ℕ) × IsFolderName folder name × (place ≡ name ++ path)))

@@ -6,13 +6,14 @@ ghost use Rattle.zarrs_program.specs.Words.{texts};
 ghost use Rattle.zarrs_cli.specs.Words.{AreWords};
 ghost use Rattle.zarrs_cli.specs.Output.{WritesAsked, WritesConsolidated, WritesOverEach, WritesOverSome, WritesOverSource, WritesRequest};
 ghost use Rattle.zarrs_cli.specs.RefusalLines.{IsHint, IsNoNode, SaysRefusal};
+ghost use Rattle.zarrs_cli.specs.StepsOfConsolidations.{IsNodeFolder};
 ghost use Rattle.zarrs_cli.specs.Refusals.{RefusesAsked, RefusesConsolidating, RefusesOverEach, RefusesOverSome, RefusesOverSource, RefusesRequest, answered_status};
 
 use crate::consolidate::{Consolidated, consolidate_folder};
 use crate::ending::{Answered, Ending, finish};
 use crate::fault::ZarrsFault;
 use crate::folder::run_of_folder;
-use crate::nowhere::{nowhere_in_folder, nowhere_in_image};
+use crate::nowhere::{folder_name, nowhere_in_folder, nowhere_in_image};
 use crate::report::Tally;
 use crate::run::run_of_image;
 use crate::usage::{USAGE, VERSION};
@@ -235,11 +236,15 @@ fn consolidate_placed<'a, L: Log, F: Folder, W: Write>(
 }
 
 // The path of the folder of the node at a path of the store in a folder.
-fn folder_of(alloc: Global, source: &str, path: &str) -> Result<String, AllocError> {
+#[tactic(auto, using(crate::proofs::FolderNames::node_folder))]
+fn folder_of(alloc: Global, source: &str, path: &str) -> Result<String, AllocError>
+    ensures { IfOk result
+        (λ place. IsNodeFolder source.now path.now (string_bytes place)) }
+{
     if path == "/" {
         return String::from_str(alloc, source);
     }
-    let folder = source.strip_suffix('/').unwrap_or(source);
+    let folder = folder_name(source);
     format!(in alloc; "{folder}{path}")
 }
 

@@ -65,7 +65,7 @@ fn with_store(alloc: Global, none: &str, name: &str, below: &NodePath) -> Result
 }
 
 // The folder without the one slash at its end, if it has one.
-fn folder_name(source: &str) -> &str
+pub(crate) fn folder_name(source: &str) -> &str
     ensures { lines.IsFolderName source.now result.now }
 {
     source.strip_suffix('/').unwrap_or(source)
