@@ -5,7 +5,7 @@ use crate::given::document;
 use log::sink::Discard;
 use std::alloc::{AllocError, Global};
 use std::test::Fail;
-use tests_fixtures::{ANY, key_of, version_of, with_block};
+use tests_fixtures::{key_of, version_of, with_block};
 use tests_support::{check_rows, fields, said};
 use zarrs_check::{CheckedFrom, Finding, PathCheck, check_above};
 use zarrs_meaning::NodeCreateError;
@@ -122,12 +122,14 @@ fn the_blocks_above_a_path_are_compared_from_it_on(rt: HostRuntime) -> Result<()
     check_rows(rt.alloc(), CHECKED, checked_said)
 }
 
-// What is told of a path by the documents of any version, and of the blocks above it.
+// What is told of a path by the documents of the version that is named, or of any, and of the blocks above it.
 fn checked_path(alloc: Global, given: &str) -> Result<PathCheck, NodeCreateError> {
-    let (path, list) = fields(given);
+    let (place, list) = fields(given);
+    let (path, version) = place.split_once(" by ").unwrap_or((place, "any"));
     let store = store_with_blocks(alloc, list)?;
     let path = NodePath::new(alloc, path)?;
-    PathCheck::of_store(&Discard, alloc, &store, &path, &ANY)
+    let version = version_of(alloc, version)?;
+    PathCheck::of_store(&Discard, alloc, &store, &path, &version)
 }
 
 // How much is told of an array, or how many nodes there are from the path on; then the findings of the blocks above.
@@ -149,6 +151,10 @@ const PATHS: &str = r#"
 /a | zarr.json [a G3,a/x G3];a/zarr.json G3;a/y/zarr.json G3 => nodes 2\n/ /a/x Stale\n/ /a/y Missing\n
 / | zarr.json [];a/zarr.json G3 => nodes 2\n
 /b | zarr.json [] => nodes 0\n
+# an array at the root, with a note
+/ | zarr.json A3;.zgroup G2 => array 1\n
+# by the documents of one version, those above it too
+/a by v2 | zarr.json [];a/.zgroup G2 => nodes 1\n
 "#;
 
 #[test]

@@ -168,6 +168,7 @@ fn the_laws_of_surveys_are_called() {
     laws::listing_is_surveyed();
     laws::groups_are_surveyed();
     laws::good_blocks_agree();
+    laws::good_entries_are_nodes();
     laws::refreshed_blocks_agree();
     laws::nothing_is_lost();
     laws::nothing_is_above_root();

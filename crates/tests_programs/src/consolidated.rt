@@ -4,6 +4,7 @@ use crate::folders::{make_folder, run};
 use crate::runs::{ARRAY, GROUP};
 use log::sink::Discard;
 use std::alloc::Global;
+use std::os::unix::fs::symlink;
 use std::process::Abort;
 use std::{fs, io};
 use zarrs_cli::{BlockRequest, ConsolidateOptions, consolidate_folder};
@@ -315,6 +316,24 @@ fn what_is_refused_leaves_the_folder(rt: HostRuntime) -> io::Result<()> {
     fs::remove_dir_all(&rt, REFUSED)
 }
 
+// A folder whose document is a link to itself.
+const LOOP: &str = "consolidated_loop";
+
+const LOOPED: &[(&[&str], &str, &str, u8)] = &[(
+    &["consolidate", LOOP],
+    "",
+    "zarrs: consolidated_loop/zarr.json: Too many levels of symbolic links\n",
+    2,
+)];
+
+#[test]
+fn a_document_that_no_disk_reads_is_refused(rt: HostRuntime) -> io::Result<()> {
+    make_folder(&rt, LOOP, &[])?;
+    symlink(&rt, "zarr.json", "consolidated_loop/zarr.json")?;
+    assert_calls(&rt, &rt, LOOPED);
+    fs::remove_dir_all(&rt, LOOP)
+}
+
 // The store with a group at its root.
 fn store_of<R: Abort>(rt: &R, alloc: Global) -> MemoryStore {
     let mut store = MemoryStore::new(alloc);
@@ -324,14 +343,8 @@ fn store_of<R: Abort>(rt: &R, alloc: Global) -> MemoryStore {
 }
 
 // What a run over a folder in memory answers, what it writes, and the files that then stand in the folder of the document, of which a call fails.
-fn answered<R: Abort>(rt: &R, alloc: Global, dry_run: bool, calls: u64) -> String {
-    let request = BlockRequest {
-        options: ConsolidateOptions {
-            dry_run,
-            remove: false,
-        },
-        path: "/",
-    };
+fn answered<R: Abort>(rt: &R, alloc: Global, options: ConsolidateOptions, calls: u64) -> String {
+    let request = BlockRequest { options, path: "/" };
     let mut place = MemoryPlace::new(alloc);
     place
         .put("zarr.json", GROUP.as_bytes())
@@ -356,30 +369,47 @@ fn answered<R: Abort>(rt: &R, alloc: Global, dry_run: bool, calls: u64) -> Strin
     format!(in alloc; "{outcome:?} {files} {is_old} {text}").expect(rt, "memory")
 }
 
-// Whether nothing is written, after how many calls one fails, and what is answered.
-const IN_MEMORY: &[(bool, u64, &str)] = &[
+const WRITES: ConsolidateOptions = ConsolidateOptions {
+    dry_run: false,
+    remove: false,
+};
+
+const SHOWS: ConsolidateOptions = ConsolidateOptions {
+    dry_run: true,
+    remove: false,
+};
+
+const REMOVES: ConsolidateOptions = ConsolidateOptions {
+    dry_run: false,
+    remove: true,
+};
+
+// The options, after how many calls one fails, and what is answered.
+const IN_MEMORY: &[(ConsolidateOptions, u64, &str)] = &[
     (
-        false,
+        WRITES,
         u64::MAX,
         "Ok(Complete) 1 false wrote zarr.json: the block of 0 nodes\n",
     ),
     (
-        true,
+        SHOWS,
         0,
         "Ok(Due) 1 true would write zarr.json: the block of 0 nodes\n",
     ),
     (
-        false,
+        WRITES,
         3,
         r#"Err(Replace(Failed { step: Writing, name: "zarr.json.zarrs_new", why: "it was to fail" })) 1 true "#,
     ),
+    // Where nothing changes no call is made.
+    (REMOVES, 0, "Ok(Complete) 1 true zarr.json has no block\n"),
 ];
 
 #[test]
 fn a_folder_in_memory_is_written_to(rt: HostRuntime) {
     let alloc = rt.alloc();
-    for (dry_run, calls, wanted) in IN_MEMORY {
-        let said = answered(&rt, alloc, *dry_run, *calls);
+    for (options, calls, wanted) in IN_MEMORY {
+        let said = answered(&rt, alloc, *options, *calls);
         assert_text(&rt, wanted, said.as_str(), wanted);
     }
 }

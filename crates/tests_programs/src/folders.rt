@@ -372,3 +372,15 @@ fn a_folder_with_nothing_amiss_but_a_bad_document_has_what_stands_below_it(rt: H
     let image = image_of(rt.alloc(), &documents, &[]).expect(&rt, "memory");
     assert_same(&rt, image.as_str(), "/");
 }
+
+#[test]
+fn a_folder_with_nothing_amiss_but_entries_without_nodes_has_what_stands_at_them(rt: HostRuntime) {
+    let documents = [
+        ("a/zarr.json", GROUP),
+        ("a/b/zarr.json", ARRAY),
+        ("a/b/c/zarr.json", GROUP),
+    ];
+    let blocks = [("zarr.json", BLOCK_ABOVE)];
+    let image = image_of(rt.alloc(), &documents, &blocks).expect(&rt, "memory");
+    assert_same(&rt, image.as_str(), "/");
+}

@@ -159,11 +159,56 @@ const NOTES_TOLD: &[Told] = &[
         errors: "zarrs: 1 node, 0 findings, 1 note\n",
         status: 0,
     },
+    Told {
+        word: NOTES,
+        documents: &[("zarr.json", GROUP), (".zattrs", ""), (".zgroup", "")],
+        path: "/",
+        output: "note: /: beside: .zattrs is not read, since zarr.json stands there too\nnote: /: beside: .zgroup is not read, since zarr.json stands there too\n",
+        errors: "zarrs: 1 node, 0 findings, 2 notes\n",
+        status: 0,
+    },
 ];
 
 #[test]
 fn notes_are_told_where_they_are_asked_for(rt: HostRuntime) {
     assert_told(&rt, NOTES_TOLD);
+}
+
+// Groups whose blocks are not theirs: with other attributes, and with a key that is the group itself.
+const OTHER_ATTRIBUTES: &[(&str, &str)] = &[
+    (".zgroup", r#"{"zarr_format":2}"#),
+    (".zattrs", r#"{"k":1}"#),
+    (
+        ".zmetadata",
+        r#"{"metadata":{".zgroup":{"zarr_format":2}},"zarr_consolidated_format":1}"#,
+    ),
+];
+
+const OWN_KEY: &str =
+    r#"{"consolidated_metadata":{"kind":"inline","metadata":{"":{"node_type":"group","zarr_format":3}},"must_understand":false},"node_type":"group","zarr_format":3}"#;
+
+const BLOCKS_TOLD: &[Told] = &[
+    Told {
+        word: NOTES_JSON,
+        documents: OTHER_ATTRIBUTES,
+        path: "/",
+        output: "[{\"block\":\"/\",\"key\":null,\"kind\":\"own-attributes\",\"path\":\"/\",\"text\":\"differs: the block of / has other attributes of it than the store\"}]\n",
+        errors: "zarrs: 1 node, 1 finding, 0 notes\n",
+        status: 1,
+    },
+    Told {
+        word: NOTES_JSON,
+        documents: &[("zarr.json", OWN_KEY)],
+        path: "/",
+        output: "[{\"block\":\"/\",\"key\":\"\",\"kind\":\"own-key\",\"path\":\"/\",\"text\":\"own key: the block of / has the key ``, which is / itself\"}]\n",
+        errors: "zarrs: 1 node, 1 finding, 0 notes\n",
+        status: 1,
+    },
+];
+
+#[test]
+fn what_a_block_says_of_its_own_group_is_told_as_json(rt: HostRuntime) {
+    assert_told(&rt, BLOCKS_TOLD);
 }
 
 // Groups of both versions with what a run of writing left, one with a document beside too, and an array with such files.

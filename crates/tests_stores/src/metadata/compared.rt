@@ -54,7 +54,14 @@ const GROUPS: &str = r#"
 {"zarr_format":2,"attributes":{"a":1}} | {"zarr_format":2,"attributes":{"a":2}} => false
 {"zarr_format":2,"x":1} | {"zarr_format":2,"x":1} => true
 {"zarr_format":2,"x":1} | {"zarr_format":2} => false
-{"zarr_format":2,"consolidated_metadata":1} | {"zarr_format":2} => false
+# zarr-python 3 writes an empty block into the entries of groups of version 2 too
+{"zarr_format":2,"consolidated_metadata":{"metadata":{},"must_understand":false,"kind":"inline"}} | {"zarr_format":2} => true
+{"zarr_format":2} | {"zarr_format":2,"consolidated_metadata":{"metadata":{},"must_understand":false,"kind":"inline"}} => true
+{"zarr_format":2,"consolidated_metadata":1} | {"zarr_format":2} => true
+{"zarr_format":2,"a":1,"consolidated_metadata":1,"z":1} | {"zarr_format":2,"a":1,"z":1} => true
+{"zarr_format":2,"a":1,"consolidated_metadata":1} | {"zarr_format":2,"a":1,"z":1} => false
+{"zarr_format":2,"consolidated_metadata":1,"z":1} | {"zarr_format":2,"consolidated_metadata":1,"z":2} => false
+{"zarr_format":2,"attributes":{"consolidated_metadata":1}} | {"zarr_format":2} => false
 # versions
 {"node_type":"group","zarr_format":3} | {"zarr_format":2} => false
 {"zarr_format":2} | {"node_type":"group","zarr_format":3} => false
