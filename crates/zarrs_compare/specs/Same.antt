@@ -10,8 +10,8 @@ use Rattle.zarrs_meta.specs.declared.node.GroupMetadata.TheVariants.{V3 as group
 use Rattle.zarrs_meta.specs.declared.node.NodeMetadata.{NodeMetadata}
 use Rattle.zarrs_meta.specs.declared.node.NodeMetadata.TheVariants.{Group, Array}
 
--- the metadata: of a group without its additional field `consolidated_metadata`, and of an array as they are. There a
--- version 3 group has its block, and zarr-python 3 writes it into the entries of version 2 groups too
+-- the metadata: of an array as they are, and of a group without its additional field `consolidated_metadata`. In that
+-- field a version 3 group has its block, and zarr-python 3 writes one into the entries of version 2 groups too
 abbrev pub without_block : NodeMetadata → NodeMetadata
 without_block (Group (group_v3 m)) =
     Group (group_v3 (record m { additional_fields = besides (codes "consolidated_metadata" ∷ []) m.additional_fields }))

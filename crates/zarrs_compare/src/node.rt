@@ -12,8 +12,9 @@ use zarrs_meta::{
     GroupMetadataV3, NodeMetadata,
 };
 
-/// Whether two metadata are the same as data, the field `consolidated_metadata` of groups left out on both sides. Whole numbers are compared by their values, and all others by their 64 bits: `0.0` is not `-0.0`, nor is `1`
-/// `1.0`, and `6.37814e+06` is `6378140.0`.
+/// Whether two metadata are the same as data, the field `consolidated_metadata` of groups left out on both sides. Whole
+/// numbers are compared by their values, and all others by their 64 bits: `0.0` is not `-0.0`, nor is `1` `1.0`, and
+/// `6.37814e+06` is `6378140.0`.
 ///
 /// Source: own; `zarrs_metadata::NodeMetadata` has `==`.
 /// <https://zarr-specs.readthedocs.io/en/latest/v3/core/index.html#metadata>
