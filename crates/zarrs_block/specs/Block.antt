@@ -1,5 +1,5 @@
--- Zarr core specification 3.1, "Group metadata", the field `consolidated_metadata` in the form of zarr-python: blocks
--- of metadata, and what their keys mean below a base.
+-- Zarr core specification 3.1, "Group metadata", with zarr-python's field `consolidated_metadata`: blocks of metadata,
+-- and what their keys mean below a base.
 -- <https://zarr-specs.readthedocs.io/en/latest/v3/core/index.html#group-metadata>
 -- <https://zarr.readthedocs.io/en/stable/user-guide/consolidated_metadata/>
 --     Block, node_at_key B t, put t m B      texts with metadata; what a block has at a text; the block with one more

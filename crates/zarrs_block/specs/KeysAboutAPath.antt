@@ -1,5 +1,5 @@
--- Zarr core specification 3.1, "Group metadata", the field `consolidated_metadata`: a block without what it has at a
--- path and below it.
+-- Zarr core specification 3.1, "Group metadata", with zarr-python's field `consolidated_metadata`: a block without what
+-- it has at a path and below it.
 -- <https://zarr-specs.readthedocs.io/en/latest/v3/core/index.html#group-metadata>
 -- <https://zarr.readthedocs.io/en/stable/user-guide/consolidated_metadata/>
 --     IsAtOrBelow r t, IsAbout r t      which keys stand for the path whose text is r, or for one below it

@@ -1,5 +1,5 @@
--- Zarr core specification 3.1, "Group metadata", the field `consolidated_metadata`: which block stands in place of a
--- listing.
+-- Zarr core specification 3.1, "Group metadata", with zarr-python's field `consolidated_metadata`: which block stands
+-- in place of a listing.
 -- <https://zarr-specs.readthedocs.io/en/latest/v3/core/index.html#group-metadata>
 -- <https://zarr.readthedocs.io/en/stable/user-guide/consolidated_metadata/>
 use Rattle.std.specs.Prelude.{◌≡◌, ◌≢◌, ◌++◌, Option, Some, None, IsSome, option_map, option_and_then, string_bytes}

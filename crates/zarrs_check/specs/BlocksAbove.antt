@@ -1,6 +1,6 @@
--- Zarr core specification 3.1, "Group metadata", the field `consolidated_metadata`, and the document `.zmetadata` of
--- version 2: what the blocks of the groups above a path say otherwise than the store of the path and of what is below
--- it.
+-- Zarr core specification 3.1, "Group metadata", with zarr-python's field `consolidated_metadata` and document
+-- `.zmetadata` of version 2: what the blocks of the groups above a path say otherwise than the store of the path and of
+-- what is below it.
 -- <https://zarr-specs.readthedocs.io/en/latest/v3/core/index.html#group-metadata>
 -- <https://zarr.readthedocs.io/en/stable/user-guide/consolidated_metadata/>
 --     HasNodeFrom s v b e, HasBadFrom s v b q      what stands in the store from b on, and what is bad there

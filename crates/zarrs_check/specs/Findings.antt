@@ -1,5 +1,5 @@
--- Zarr core specification 3.1, "Group metadata", the field `consolidated_metadata`, and the document `.zmetadata` of
--- version 2: what there is to tell of the block of a group beside the nodes below it.
+-- Zarr core specification 3.1, "Group metadata", with zarr-python's field `consolidated_metadata` and document
+-- `.zmetadata` of version 2: what there is to tell of the block of a group beside the nodes below it.
 -- <https://zarr-specs.readthedocs.io/en/latest/v3/core/index.html#group-metadata>
 -- <https://zarr.readthedocs.io/en/stable/user-guide/consolidated_metadata/>
 --     E, N      the entries of a block below its group, and the nodes of a survey, each any pairs of path and metadata

@@ -1,5 +1,5 @@
--- Zarr core specification 3.1, "Group metadata", the field `consolidated_metadata`: why a run is refused that writes
--- the block of a group back, or removes it.
+-- Zarr core specification 3.1, "Group metadata", with zarr-python's field `consolidated_metadata`: why a run is refused
+-- that writes the block of a group back, or removes it.
 -- <https://zarr-specs.readthedocs.io/en/latest/v3/core/index.html#group-metadata>
 -- <https://zarr.readthedocs.io/en/stable/user-guide/consolidated_metadata/>
 --     RefusesConsolidation s options path before after fault      why it is over a store, and what was then asked of

@@ -1,5 +1,5 @@
--- Zarr core specification 3.1, "Group metadata", the field `consolidated_metadata`, and `.zmetadata` of version 2: what
--- a run does that writes the block of a group back, or removes it.
+-- Zarr core specification 3.1, "Group metadata", with zarr-python's field `consolidated_metadata` and document
+-- `.zmetadata` of version 2: what a run does that writes the block of a group back, or removes it.
 -- <https://zarr-specs.readthedocs.io/en/latest/v3/core/index.html#group-metadata>
 -- <https://zarr.readthedocs.io/en/stable/user-guide/consolidated_metadata/>
 --     IsConsolidationLine options plan line      the line that tells what was done, or would be

@@ -1,6 +1,6 @@
--- Zarr core specification 3.1, "Hierarchy", "Node names", "Metadata documents" and "Group metadata", the field
--- `consolidated_metadata`, and the document
--- `.zmetadata` of version 2: the report on what a store has at a path and below it.
+-- Zarr core specification 3.1, "Hierarchy", "Node names", "Metadata documents" and "Group metadata", with zarr-python's
+-- field `consolidated_metadata` and document `.zmetadata` of version 2: the report on what a store has at a path and
+-- below it.
 -- <https://zarr-specs.readthedocs.io/en/latest/v3/core/index.html#hierarchy>
 -- <https://zarr-specs.readthedocs.io/en/latest/v3/core/index.html#group-metadata>
 -- <https://zarr.readthedocs.io/en/stable/user-guide/consolidated_metadata/>

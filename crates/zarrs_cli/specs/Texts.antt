@@ -1,6 +1,5 @@
 -- The texts of what there is to tell of a bad name and of a consolidated block (Zarr core specification 3.1, "Node
--- names" and "Group metadata", the field
--- `consolidated_metadata`).
+-- names" and "Group metadata", with zarr-python's field `consolidated_metadata`).
 -- <https://zarr-specs.readthedocs.io/en/latest/v3/core/index.html#node-names>
 -- <https://zarr.readthedocs.io/en/stable/user-guide/consolidated_metadata/>
 --     name_text p      the text which says that the last name of p is none

@@ -1,5 +1,5 @@
--- Zarr core specification 3.1, "Group metadata", the field `consolidated_metadata`: why it is not known what becomes of
--- the block of a group.
+-- Zarr core specification 3.1, "Group metadata", with zarr-python's field `consolidated_metadata`: why it is not known
+-- what becomes of the block of a group.
 -- <https://zarr-specs.readthedocs.io/en/latest/v3/core/index.html#group-metadata>
 -- <https://zarr.readthedocs.io/en/stable/user-guide/consolidated_metadata/>
 --     RefusesPlan can_fail s task b e      why it is not known over a store

@@ -1,5 +1,5 @@
--- Zarr core specification 3.1, "Group metadata", the field `consolidated_metadata`: a catalogue, which keeps the
--- block of a version 3 group current.
+-- Zarr core specification 3.1, "Group metadata", with zarr-python's field `consolidated_metadata`: a catalogue, which
+-- keeps the block of a version 3 group current.
 -- <https://zarr-specs.readthedocs.io/en/latest/v3/core/index.html#group-metadata>
 -- <https://zarr.readthedocs.io/en/stable/user-guide/consolidated_metadata/>
 --     IsCurrent S c      the block of the catalogue is the one that a listing of the store S makes

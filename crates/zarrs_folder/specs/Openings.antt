@@ -1,5 +1,5 @@
--- Zarr core specification 3.1, "Hierarchy", and "Group metadata", the field `consolidated_metadata`: what a store
--- answers in the place of the one that it was loaded from.
+-- Zarr core specification 3.1, "Hierarchy", and "Group metadata", with zarr-python's field `consolidated_metadata`:
+-- what a store answers in the place of the one that it was loaded from.
 -- <https://zarr-specs.readthedocs.io/en/latest/v3/core/index.html#hierarchy>
 -- <https://zarr-specs.readthedocs.io/en/latest/v3/core/index.html#group-metadata>
 -- <https://zarr.readthedocs.io/en/stable/user-guide/consolidated_metadata/>

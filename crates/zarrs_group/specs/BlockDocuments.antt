@@ -1,5 +1,5 @@
--- Zarr core specification 3.1, "Group metadata", the field `consolidated_metadata`, and the document `.zmetadata` of
--- version 2: the document that holds the block of a group, with any numbers.
+-- Zarr core specification 3.1, "Group metadata", with zarr-python's field `consolidated_metadata` and document
+-- `.zmetadata` of version 2: the document that holds the block of a group, with any numbers.
 -- <https://zarr-specs.readthedocs.io/en/latest/v3/core/index.html#group-metadata>
 -- <https://zarr.readthedocs.io/en/stable/user-guide/consolidated_metadata/>
 --     block_document g      the key and the tree of the document, where there is one

@@ -1,5 +1,5 @@
--- Zarr core specification 3.1, "Group metadata", the field `consolidated_metadata`, and the document `.zmetadata` of
--- version 2: the block that a group holds, and the group with a block set.
+-- Zarr core specification 3.1, "Group metadata", with zarr-python's field `consolidated_metadata` and document
+-- `.zmetadata` of version 2: the block that a group holds, and the group with a block set.
 -- <https://zarr-specs.readthedocs.io/en/latest/v3/core/index.html#group-metadata>
 -- <https://zarr.readthedocs.io/en/stable/user-guide/consolidated_metadata/>
 --     held_by_in numbers g      the block that a group holds in these numbers, if any

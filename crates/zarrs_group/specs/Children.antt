@@ -1,5 +1,5 @@
--- Zarr core specification 3.1, "Hierarchy" and "Group metadata", the field `consolidated_metadata`, and the document
--- `.zmetadata` of version 2: what stands below a group, by its block or by a listing.
+-- Zarr core specification 3.1, "Hierarchy" and "Group metadata", with zarr-python's field `consolidated_metadata` and
+-- document `.zmetadata` of version 2: what stands below a group, by its block or by a listing.
 -- <https://zarr-specs.readthedocs.io/en/latest/v3/core/index.html#hierarchy>
 -- <https://zarr-specs.readthedocs.io/en/latest/v3/core/index.html#group-metadata>
 -- <https://zarr.readthedocs.io/en/stable/user-guide/consolidated_metadata/>

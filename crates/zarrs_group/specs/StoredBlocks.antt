@@ -1,5 +1,5 @@
--- Zarr core specification 3.1, "Group metadata", the field `consolidated_metadata`: a version 3 group that was stored
--- with the block of a listing opens by that block as by a listing.
+-- Zarr core specification 3.1, "Group metadata", with zarr-python's field `consolidated_metadata`: a version 3 group
+-- that was stored with the block of a listing opens by that block as by a listing.
 -- <https://zarr-specs.readthedocs.io/en/latest/v3/core/index.html#group-metadata>
 -- <https://zarr.readthedocs.io/en/stable/user-guide/consolidated_metadata/>
 --     OpensAlike S v p m      p means the group m, which has the same forest below it by its block and by a listing

@@ -1,5 +1,5 @@
--- Zarr core specification 3.1, "Hierarchy" and "Group metadata", the field `consolidated_metadata`: what an opened
--- hierarchy has.
+-- Zarr core specification 3.1, "Hierarchy" and "Group metadata", with zarr-python's field `consolidated_metadata`: what
+-- an opened hierarchy has.
 -- <https://zarr-specs.readthedocs.io/en/latest/v3/core/index.html#hierarchy>
 -- <https://zarr-specs.readthedocs.io/en/latest/v3/core/index.html#group-metadata>
 -- <https://zarr.readthedocs.io/en/stable/user-guide/consolidated_metadata/>

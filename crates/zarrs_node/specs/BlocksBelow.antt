@@ -1,5 +1,5 @@
--- Zarr core specification 3.1, "Group metadata", the field `consolidated_metadata`, and the document `.zmetadata` of
--- version 2: which block stands for the nodes below a base.
+-- Zarr core specification 3.1, "Group metadata", with zarr-python's field `consolidated_metadata` and document
+-- `.zmetadata` of version 2: which block stands for the nodes below a base.
 -- <https://zarr-specs.readthedocs.io/en/latest/v3/core/index.html#group-metadata>
 -- <https://zarr.readthedocs.io/en/stable/user-guide/consolidated_metadata/>
 --     zmetadata_at s b      the block that the document `.zmetadata` of b is, whose numbers may be those of s

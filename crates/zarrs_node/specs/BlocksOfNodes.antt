@@ -1,5 +1,5 @@
--- Zarr core specification 3.1, "Group metadata", the field `consolidated_metadata`: how a block is made of the nodes
--- below a group.
+-- Zarr core specification 3.1, "Group metadata", with zarr-python's field `consolidated_metadata`: how a block is made
+-- of the nodes below a group.
 -- <https://zarr-specs.readthedocs.io/en/latest/v3/core/index.html#group-metadata>
 -- <https://zarr.readthedocs.io/en/stable/user-guide/consolidated_metadata/>
 --     text_beyond b p      the text of the names of p beyond b

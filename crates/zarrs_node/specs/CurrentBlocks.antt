@@ -1,5 +1,5 @@
--- Zarr core specification 3.1, "Group metadata", the field `consolidated_metadata`: a block made current where the
--- documents of one path changed.
+-- Zarr core specification 3.1, "Group metadata", with zarr-python's field `consolidated_metadata`: a block made current
+-- where the documents of one path changed.
 -- <https://zarr-specs.readthedocs.io/en/latest/v3/core/index.html#group-metadata>
 -- <https://zarr.readthedocs.io/en/stable/user-guide/consolidated_metadata/>
 --     LeadsTo B b p      the block has a group at each path between b and p

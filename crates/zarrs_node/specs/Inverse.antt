@@ -1,4 +1,5 @@
--- Zarr core specification 3.1, "Group metadata", the field `consolidated_metadata`: a forest and its block are inverse.
+-- Zarr core specification 3.1, "Group metadata", with zarr-python's field `consolidated_metadata`: a forest and its
+-- block are inverse.
 -- <https://zarr-specs.readthedocs.io/en/latest/v3/core/index.html#group-metadata>
 -- <https://zarr.readthedocs.io/en/stable/user-guide/consolidated_metadata/>
 --     HasNames b es      each path is b and one or more names

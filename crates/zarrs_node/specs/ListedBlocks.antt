@@ -1,5 +1,5 @@
--- Zarr core specification 3.1, "Group metadata", the field `consolidated_metadata`: the block of what a listing
--- finds, over stores that differ by the documents of one path.
+-- Zarr core specification 3.1, "Group metadata", with zarr-python's field `consolidated_metadata`: the block of what a
+-- listing finds, over stores that differ by the documents of one path.
 -- <https://zarr-specs.readthedocs.io/en/latest/v3/core/index.html#group-metadata>
 -- <https://zarr.readthedocs.io/en/stable/user-guide/consolidated_metadata/>
 --     IsListedBlock S v b B      B is the block that a listing of S makes below b

@@ -1,5 +1,5 @@
--- Zarr core specification 3.1, "Group metadata", the field `consolidated_metadata`: what an opened node shows, and
--- what refuses its opening.
+-- Zarr core specification 3.1, "Group metadata", with zarr-python's field `consolidated_metadata`: what an opened node
+-- shows, and what refuses its opening.
 -- <https://zarr-specs.readthedocs.io/en/latest/v3/core/index.html#group-metadata>
 -- <https://zarr.readthedocs.io/en/stable/user-guide/consolidated_metadata/>
 --     choice s policy b m      that a block is used for the nodes below b, or that they are listed, or that the want
