@@ -39,7 +39,7 @@ fn a_line_ends_once(rt: HostRuntime) {
 
 // A group with an array whose name and data type would make lines and colour a terminal, and a block with a key that would.
 const ODD: &str =
-    r#"{"zarr.json":"{\"consolidated_metadata\":{\"kind\":\"inline\",\"metadata\":{\"a\\u001b[31m\\n\":{\"node_type\":\"group\",\"zarr_format\":3},\"b//\\u0085\\\\\":{\"node_type\":\"group\",\"zarr_format\":3}},\"must_understand\":false},\"node_type\":\"group\",\"zarr_format\":3}","a\u001b[31m\n/zarr.json":"{\"chunk_grid\":{\"name\":\"regular\"},\"chunk_key_encoding\":{\"name\":\"default\"},\"codecs\":[\"bytes\"],\"data_type\":\"x\\n\\u009b\",\"fill_value\":0,\"node_type\":\"array\",\"shape\":[],\"zarr_format\":3}"}"#;
+    r#"{"zarr.json":"{\"consolidated_metadata\":{\"kind\":\"inline\",\"metadata\":{\"a\\u001b[31m\\n\":{\"node_type\":\"group\",\"zarr_format\":3},\"b//\\u0085\\\\\":{\"node_type\":\"group\",\"zarr_format\":3}},\"must_understand\":false},\"node_type\":\"group\",\"zarr_format\":3}","a\u001b[31m\n/zarr.json":"{\"chunk_grid\":{\"configuration\":{\"chunk_shape\":[]},\"name\":\"regular\"},\"chunk_key_encoding\":{\"name\":\"default\"},\"codecs\":[\"bytes\"],\"data_type\":\"x\\n\\u009b\",\"fill_value\":0,\"node_type\":\"array\",\"shape\":[],\"zarr_format\":3}"}"#;
 
 // Words and paths, and what is written and answered.
 const ODD_WRITTEN: &[(Word, &str, &str, &str, u8)] = &[

@@ -233,6 +233,7 @@ IsTold _ = ⊥
 
 -- it is of each of these
 told_is : (f : NodeFinding) → IsTold (told_kind f)
+told_is told.NoLengths = tt
 told_is (told.GridRank lengths shape) = tt
 told_is told.ZeroLength = tt
 told_is (told.NameCount names shape) = tt
@@ -281,6 +282,7 @@ error_not_alike OutOfMemory h = h
 
 -- the kind of what the documents of a node tell is not that of names that differ in case alone
 told_not_alike : (f : NodeFinding) → IsAlikeKind (told_kind f) → ⊥
+told_not_alike told.NoLengths h = h
 told_not_alike (told.GridRank lengths shape) h = h
 told_not_alike told.ZeroLength h = h
 told_not_alike (told.NameCount names shape) h = h

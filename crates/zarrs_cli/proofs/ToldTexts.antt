@@ -6,7 +6,7 @@ use Rattle.zarrs_notes.specs.FindingTexts.{node_finding_text}
 use Rattle.zarrs_notes.specs.NodeFindings.{place_of, field_of}
 use Rattle.zarrs_notes.specs.declared.file.NodeFile.TheVariants.{ZarrJson, Zarray, Zgroup, Zattrs, Zmetadata, NewZarrJson, NewZmetadata}
 use Rattle.zarrs_notes.specs.declared.finding.NodeFinding.{NodeFinding}
-use Rattle.zarrs_notes.specs.declared.finding.NodeFinding.TheVariants.{GridRank, ZeroLength, NameCount, UnknownField, DemandingBlock, MisplacedBlock, Beside, LeftOver}
+use Rattle.zarrs_notes.specs.declared.finding.NodeFinding.TheVariants.{NoLengths, GridRank, ZeroLength, NameCount, UnknownField, DemandingBlock, MisplacedBlock, Beside, LeftOver}
 
 -- the place of the document whose name a text begins with, and a blank behind it
 file_in : List ℕ → ℕ
@@ -20,15 +20,17 @@ file_in t =
 -- the place that a text tells
 place_in : List ℕ → ℕ
 place_in t =
-    cond (bytes_eq (take 15 t) (codes "bad shape: the ")) 0
+    cond (bytes_eq (take 15 t) (codes "bad shape: a re")) 0
+    (cond (bytes_eq (take 15 t) (codes "bad shape: the ")) 0
     (cond (bytes_eq (take 15 t) (codes "bad shape: a ch")) 1
     (cond (bytes_eq (take 15 t) (codes "bad shape: ther")) 2
     (cond (bytes_eq (take 10 t) (codes "not opened")) 3
-    (cond (bytes_eq (take 9 t) (codes "misplaced")) 4 (cond (bytes_eq (take 6 t) (codes "beside")) (file_in (drop 8 t)) (file_in (drop 11 t)))))))
+    (cond (bytes_eq (take 9 t) (codes "misplaced")) 4 (cond (bytes_eq (take 6 t) (codes "beside")) (file_in (drop 8 t)) (file_in (drop 11 t))))))))
 
 -- is that of what has the text
 place_back : (f : NodeFinding) → place_in (node_finding_text f) ≡ place_of f
 unfolding place_in file_in
+place_back NoLengths = refl
 place_back (GridRank lengths shape) = refl
 place_back ZeroLength = refl
 place_back (NameCount names shape) = refl
@@ -57,6 +59,7 @@ field_in t = cond (bytes_eq (take 17 t) (codes "not opened: the f")) (take (leng
 -- is that of what has the text
 field_back : (f : NodeFinding) → field_in (node_finding_text f) ≡ field_of f
 unfolding field_in
+field_back NoLengths = refl
 field_back (GridRank lengths shape) = refl
 field_back ZeroLength = refl
 field_back (NameCount names shape) = refl

@@ -1,6 +1,6 @@
 -- The kinds of what there is to tell of a store: of its paths (Zarr core specification 3.1, "Hierarchy", "Node names"
--- and "Metadata documents") and of its
--- blocks ("Group metadata", the field `consolidated_metadata`, and the document `.zmetadata` of version 2).
+-- and "Metadata documents") and of its blocks ("Group metadata", with zarr-python's field `consolidated_metadata` and
+-- document `.zmetadata` of version 2).
 -- <https://zarr-specs.readthedocs.io/en/latest/v3/core/index.html#hierarchy>
 -- <https://zarr.readthedocs.io/en/stable/user-guide/consolidated_metadata/>
 --     kind_word kind      the word for a kind
@@ -61,6 +61,7 @@ error_kind _ = BadDocument
 -- what the own documents of a node tell: that its dimensions do not fit, that a reader refuses to open it, what is not
 -- read, or what a run of writing left
 abbrev pub told_kind : NodeFinding → RemarkKind
+told_kind told.NoLengths = BadShape
 told_kind (told.GridRank lengths shape) = BadShape
 told_kind told.ZeroLength = BadShape
 told_kind (told.NameCount names shape) = BadShape

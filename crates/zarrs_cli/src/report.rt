@@ -389,6 +389,7 @@ fn told_kind(finding: &NodeFinding) -> RemarkKind
     ensures { result ≡ told_kind finding.now }
 {
     match finding {
+        NodeFinding::NoLengths => RemarkKind::BadShape,
         NodeFinding::GridRank { .. } => RemarkKind::BadShape,
         NodeFinding::ZeroLength => RemarkKind::BadShape,
         NodeFinding::NameCount { .. } => RemarkKind::BadShape,

@@ -87,6 +87,14 @@ told_part n false f at = record {
   within = λ x h. absurd (none_in x h);
 }
 
+-- a part is one of more places behind its own
+pub wider : (a b c : ℕ) (Q : NodeFinding → Type 0) (xs : List NodeFinding) → b ≤ c → IsPart a b Q xs → IsPart a c Q xs
+wider a b c Q xs more p = record {
+  exact = p.exact;
+  ascend = p.ascend;
+  within = λ f h. let at = p.within f h in let low = at.0 in let high = at.1 in (low, omega (arith, more, high));
+}
+
 -- nothing is a part where there is nothing to tell
 pub no_part : (lo hi : ℕ) (Q : NodeFinding → Type 0) → ((f : NodeFinding) → Q f → ⊥) → IsPart lo hi Q []
 no_part lo hi Q none = record {

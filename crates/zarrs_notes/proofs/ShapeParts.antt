@@ -1,16 +1,16 @@
 -- What is told of the dimensions of a node is what there is to tell of them.
-use Rattle.std.proofs.Common.{◌≡◌, ◌≢◌, ◌↔◌, ◌⊎◌, ⊎_elim, ℕ, ◌==◌, Bool, true, false, true≢false, not, List, [], ◌∷◌, length, Option, Some, None, refl, sym, subst, ◌∙◌, lit≤, Contains}
+use Rattle.std.proofs.Common.{◌≡◌, ◌≢◌, ◌↔◌, ◌⊎◌, inl, inr, ⊎_elim, ℕ, ◌==◌, Bool, true, false, true≢false, not, List, [], ◌∷◌, length, Option, Some, None, refl, sym, subst, ◌∙◌, lit≤, Contains}
 use Rattle.std.proofs.lemmas.Bool.{not-true, not_from_false, false_from_ne_true}
 use Rattle.std.proofs.lemmas.Bool.Decides.{Decides-eqb}
 use Rattle.std.specs.Prelude.{◌||◌}
 use Rattle.zarrs_form.specs.FormsV2.{has_zero}
 use Rattle.zarrs_meta.specs.declared.node.NodeMetadata.{NodeMetadata}
-use Rattle.zarrs_notes.specs.NodeFindings.{IsGridFinding, IsNameFinding, IsZeroFinding}
-use Rattle.zarrs_notes.specs.Shapes.{lengths_of_chunks, names_of_dimensions, rank}
+use Rattle.zarrs_notes.specs.NodeFindings.{IsGridFinding, IsLengthsFinding, IsNameFinding, IsZeroFinding}
+use Rattle.zarrs_notes.specs.Shapes.{is_regular, lengths_of_chunks, names_of_dimensions, rank}
 use Rattle.zarrs_notes.specs.StepsOfFindings.{chunk_findings, measure_of, name_findings, shape_findings, told_if}
 use Rattle.zarrs_notes.specs.declared.finding.NodeFinding.{NodeFinding}
-use Rattle.zarrs_notes.specs.declared.finding.NodeFinding.TheVariants.{GridRank, NameCount, ZeroLength}
-use Rattle.zarrs_notes.proofs.Parts.{IsPart, first_in, in_cases, joined, later_in, no_part, none_in, said, told_part}
+use Rattle.zarrs_notes.specs.declared.finding.NodeFinding.TheVariants.{GridRank, NameCount, NoLengths, ZeroLength}
+use Rattle.zarrs_notes.proofs.Parts.{IsPart, first_in, in_cases, joined, later_in, no_part, none_in, said, told_part, wider}
 
 -- the test whether two numbers differ
 differ : (a b : ℕ) → (not (a == b) ≡ true) ↔ (a ≢ b)
@@ -41,6 +41,10 @@ zero_found (n ∷ ns) h = by (n == 0) refl (zero_found ns) (in_cases n ns 0 h)
 abbrev OfRank : ℕ → Option (List ℕ) → NodeFinding → Type 0
 OfRank r o f = (lengths : List ℕ) × (o ≡ Some lengths) × (length lengths ≢ r) × (f ≡ GridRank (length lengths) r)
 
+-- what there is to tell of no lengths, of chunks that are regular or not
+abbrev OfNone : Bool → Option (List ℕ) → NodeFinding → Type 0
+OfNone regular o f = (regular ≡ true) × (o ≡ None) × (f ≡ NoLengths)
+
 -- what there is to tell of lengths of which one is 0
 abbrev OfZero : Option (List ℕ) → NodeFinding → Type 0
 OfZero o f = (lengths : List ℕ) × (o ≡ Some lengths) × Contains lengths 0 × (f ≡ ZeroLength)
@@ -69,10 +73,28 @@ zero_part ns =
     ))
     (told_part 1 (has_zero ns) ZeroLength refl)
 
+-- what is told of lengths that are not there, and nothing of lengths
+none_part : (r : ℕ) (regular : Bool) → IsPart 0 2 (λ f. OfNone regular None f ⊎ (OfRank r None f ⊎ OfZero None f)) (told_if regular NoLengths)
+none_part r regular =
+    said 0 2 (λ f. (regular ≡ true) × (f ≡ NoLengths)) (λ f. OfNone regular None f ⊎ (OfRank r None f ⊎ OfZero None f)) (told_if regular NoLengths)
+    (λ f. (
+      λ h. inl (h.0, refl, h.1),
+      ⊎_elim (λ h. (h.0, h.2)) (⊎_elim (λ (x : OfRank r None f). let e = x.1 in cc) (λ (x : OfZero None f). let e = x.1 in cc)),
+    ))
+    (wider 0 1 2 (λ f. (regular ≡ true) × (f ≡ NoLengths)) (told_if regular NoLengths) (lit≤ tt) (told_part 0 regular NoLengths refl))
+
+-- what is told of lengths that are there
+some_part : (r : ℕ) (regular : Bool) (ns : List ℕ)
+    → IsPart 0 2 (λ f. OfNone regular (Some ns) f ⊎ (OfRank r (Some ns) f ⊎ OfZero (Some ns) f)) (chunk_findings r regular (measure_of (Some ns)))
+some_part r regular ns =
+    said 0 2 (λ f. OfRank r (Some ns) f ⊎ OfZero (Some ns) f) (λ f. OfNone regular (Some ns) f ⊎ (OfRank r (Some ns) f ⊎ OfZero (Some ns) f)) (chunk_findings r regular (measure_of (Some ns)))
+    (λ f. (inr, ⊎_elim (λ (x : OfNone regular (Some ns) f). let e = x.1 in cc) (λ h. h)))
+    (joined 0 1 2 (OfRank r (Some ns)) (OfZero (Some ns)) _ _ (lit≤ tt) (lit≤ tt) (rank_part r ns) (zero_part ns))
+
 -- what is told of the lengths of a chunk
-chunk_part : (r : ℕ) (o : Option (List ℕ)) → IsPart 0 2 (λ f. OfRank r o f ⊎ OfZero o f) (chunk_findings r (measure_of o))
-chunk_part r None = no_part 0 2 (λ f. OfRank r None f ⊎ OfZero None f) (λ f h. ⊎_elim (λ (x : OfRank r None f). let e = x.1 in cc) (λ (x : OfZero None f). let e = x.1 in cc) h)
-chunk_part r (Some ns) = joined 0 1 2 (OfRank r (Some ns)) (OfZero (Some ns)) _ _ (lit≤ tt) (lit≤ tt) (rank_part r ns) (zero_part ns)
+chunk_part : (r : ℕ) (regular : Bool) (o : Option (List ℕ)) → IsPart 0 2 (λ f. OfNone regular o f ⊎ (OfRank r o f ⊎ OfZero o f)) (chunk_findings r regular (measure_of o))
+chunk_part r regular None = none_part r regular
+chunk_part r regular (Some ns) = some_part r regular ns
 
 -- what is told of the dimension names
 name_part : (r : ℕ) (o : Option (List (Option (List ℕ)))) → IsPart 2 3 (OfNames r o) (name_findings r o)
@@ -86,5 +108,5 @@ name_part r (Some ns) =
     (told_part 2 (not (length ns == r)) (NameCount (length ns) r) refl)
 
 -- what is told of the dimensions of a node
-pub shape_part : (m : NodeMetadata) → IsPart 0 3 (λ f. (IsGridFinding m f ⊎ IsZeroFinding m f) ⊎ IsNameFinding m f) (shape_findings m)
-shape_part m = joined 0 2 3 (λ f. IsGridFinding m f ⊎ IsZeroFinding m f) (IsNameFinding m) _ _ (lit≤ tt) (lit≤ tt) (chunk_part (rank m) (lengths_of_chunks m)) (name_part (rank m) (names_of_dimensions m))
+pub shape_part : (m : NodeMetadata) → IsPart 0 3 (λ f. (IsLengthsFinding m f ⊎ (IsGridFinding m f ⊎ IsZeroFinding m f)) ⊎ IsNameFinding m f) (shape_findings m)
+shape_part m = joined 0 2 3 (λ f. IsLengthsFinding m f ⊎ (IsGridFinding m f ⊎ IsZeroFinding m f)) (IsNameFinding m) _ _ (lit≤ tt) (lit≤ tt) (chunk_part (rank m) (is_regular m) (lengths_of_chunks m)) (name_part (rank m) (names_of_dimensions m))

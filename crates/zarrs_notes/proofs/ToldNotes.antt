@@ -5,7 +5,7 @@ use Rattle.zarrs_path.specs.Paths.{Path}
 use Rattle.zarrs_meta.specs.declared.node.NodeMetadata.{NodeMetadata}
 use Rattle.zarrs_notes.specs.BesideDocuments.{left_over, main_document, passed_over}
 use Rattle.zarrs_notes.specs.Demands.{fields_of}
-use Rattle.zarrs_notes.specs.NodeFindings.{AreNodeFindings, IsBesideFinding, IsFieldFinding, IsGridFinding, IsLeftOverFinding, IsMisplacedFinding, IsNameFinding, IsNodeFinding, IsZeroFinding}
+use Rattle.zarrs_notes.specs.NodeFindings.{AreNodeFindings, IsBesideFinding, IsFieldFinding, IsGridFinding, IsLeftOverFinding, IsLengthsFinding, IsMisplacedFinding, IsNameFinding, IsNodeFinding, IsZeroFinding}
 use Rattle.zarrs_notes.specs.StepsOfFindings.{FieldsAscend, field_findings, file_findings, is_misplaced, shape_findings, told_if}
 use Rattle.zarrs_notes.specs.declared.finding.NodeFinding.{NodeFinding}
 use Rattle.zarrs_notes.specs.declared.finding.NodeFinding.TheVariants.{MisplacedBlock}
@@ -17,7 +17,7 @@ use Rattle.zarrs_notes.proofs.ShapeParts.{shape_part}
 module _ (s : Contents) (p : Path) (m : NodeMetadata) where
   -- of the dimensions
   abbrev OfShape : NodeFinding → Type 0
-  OfShape f = (IsGridFinding m f ⊎ IsZeroFinding m f) ⊎ IsNameFinding m f
+  OfShape f = (IsLengthsFinding m f ⊎ (IsGridFinding m f ⊎ IsZeroFinding m f)) ⊎ IsNameFinding m f
 
   -- of documents
   abbrev OfFiles : NodeFinding → Type 0
@@ -34,8 +34,8 @@ module _ (s : Contents) (p : Path) (m : NodeMetadata) where
   -- the parts say what there is to tell
   parts_say : (f : NodeFinding) → (OfShape f ⊎ OfRest f) ↔ IsNodeFinding s p m f
   parts_say f = (
-    ⊎_elim (⊎_elim (⊎_elim inl (λ z. inr (inl z))) (λ n. inr (inr (inl n)))) (λ rest. inr (inr (inr rest))),
-    ⊎_elim (λ g. inl (inl (inl g))) (⊎_elim (λ z. inl (inl (inr z))) (⊎_elim (λ n. inl (inr n)) inr)),
+    ⊎_elim (⊎_elim (⊎_elim inl (⊎_elim (λ g. inr (inl g)) (λ z. inr (inr (inl z))))) (λ n. inr (inr (inr (inl n))))) (λ rest. inr (inr (inr (inr rest)))),
+    ⊎_elim (λ l. inl (inl (inl l))) (⊎_elim (λ g. inl (inl (inr (inl g)))) (⊎_elim (λ z. inl (inl (inr (inr z)))) (⊎_elim (λ n. inl (inr n)) inr))),
   )
 
   -- what is told of documents that are not read

@@ -1,7 +1,8 @@
--- Zarr core specification 3.1, "Extension points" and "Group metadata", the field `consolidated_metadata`: the fields
--- of a group that must be understood.
+-- Zarr core specification 3.1, "Extension points" and "Group metadata", with zarr-python's field
+-- `consolidated_metadata`: the fields of a group that must be understood.
 -- <https://zarr-specs.readthedocs.io/en/latest/v3/core/index.html#extension-points>
 -- <https://zarr-specs.readthedocs.io/en/latest/v3/core/index.html#group-metadata>
+-- <https://zarr.readthedocs.io/en/stable/user-guide/consolidated_metadata/>
 --     fields_of m      the additional fields of a version 3 group
 --     field_finding p name      what there is to tell of such a field of the group p
 use Rattle.std.specs.Prelude.{ℕ, List, bytes_eq, codes, if◌then◌else◌}

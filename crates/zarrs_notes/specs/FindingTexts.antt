@@ -7,11 +7,13 @@ use Rattle.std.specs.Fmt.{decimal}
 use Rattle.zarrs_path.specs.Paths.{path_text}
 use Rattle.zarrs_notes.specs.BesideDocuments.{name_of_file}
 use Rattle.zarrs_notes.specs.declared.finding.NodeFinding.{NodeFinding}
-use Rattle.zarrs_notes.specs.declared.finding.NodeFinding.TheVariants.{GridRank, ZeroLength, NameCount, UnknownField}
-use Rattle.zarrs_notes.specs.declared.finding.NodeFinding.TheVariants.{DemandingBlock, MisplacedBlock, Beside, LeftOver}
+use Rattle.zarrs_notes.specs.declared.finding.NodeFinding.TheVariants.{NoLengths, GridRank, ZeroLength, NameCount}
+use Rattle.zarrs_notes.specs.declared.finding.NodeFinding.TheVariants.{UnknownField, DemandingBlock, MisplacedBlock}
+use Rattle.zarrs_notes.specs.declared.finding.NodeFinding.TheVariants.{Beside, LeftOver}
 
 -- what there is to tell
 abbrev pub node_finding_text : NodeFinding → List ℕ
+node_finding_text NoLengths = codes "bad shape: a regular chunk grid has no list of lengths"
 node_finding_text (GridRank lengths shape) =
     codes "bad shape: the chunk grid has "
     ++ (decimal lengths ++ (codes " lengths, and the shape has " ++ decimal shape))

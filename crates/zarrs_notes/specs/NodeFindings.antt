@@ -6,7 +6,8 @@
 --     IsNodeFinding s p m f      what there is to tell of the node at p with the metadata m
 --     is_note f      it is a note and no finding
 --     AreNodeFindings s p m found      the findings are exactly what there is to tell of the node, each once, in order
-use Rattle.std.specs.Prelude.{◌≡◌, ◌≢◌, ◌↔◌, ◌⊎◌, ◌<◌, ℕ, Bool, true, false, List, [], Option, Some, length, AllPairs}
+use Rattle.std.specs.Prelude.{◌≡◌, ◌≢◌, ◌↔◌, ◌⊎◌, ◌<◌, ℕ, Bool, true, false, List, [], Option, Some, None, length}
+use Rattle.std.specs.Prelude.{AllPairs}
 use Rattle.std.specs.Prelude.{Contains}
 use Rattle.std.specs.declared.cmp.Ordering.TheVariants.{Less}
 use Rattle.serde_json.specs.Data.{Data}
@@ -16,15 +17,20 @@ use Rattle.zarrs_store.specs.Contents.{Contents}
 use Rattle.zarrs_path.specs.Paths.{Path}
 use Rattle.zarrs_form.specs.Fields.{must_understand}
 use Rattle.zarrs_meta.specs.declared.node.NodeMetadata.{NodeMetadata}
-use Rattle.zarrs_notes.specs.Shapes.{rank, lengths_of_chunks, names_of_dimensions}
+use Rattle.zarrs_notes.specs.Shapes.{rank, is_regular, lengths_of_chunks, names_of_dimensions}
 use Rattle.zarrs_notes.specs.Demands.{fields_of, block_name, field_finding}
 use Rattle.zarrs_notes.specs.BesideDocuments.{HasFile, HasMisplacedBlock, main_document, passed_over, left_over}
 use Rattle.zarrs_notes.specs.declared.file.NodeFile.{NodeFile}
 use Rattle.zarrs_notes.specs.declared.file.NodeFile.TheVariants.{ZarrJson, Zarray, Zgroup, Zattrs, Zmetadata}
 use Rattle.zarrs_notes.specs.declared.file.NodeFile.TheVariants.{NewZarrJson, NewZmetadata}
 use Rattle.zarrs_notes.specs.declared.finding.NodeFinding.{NodeFinding}
-use Rattle.zarrs_notes.specs.declared.finding.NodeFinding.TheVariants.{GridRank, ZeroLength, NameCount, UnknownField}
-use Rattle.zarrs_notes.specs.declared.finding.NodeFinding.TheVariants.{DemandingBlock, MisplacedBlock, Beside, LeftOver}
+use Rattle.zarrs_notes.specs.declared.finding.NodeFinding.TheVariants.{NoLengths, GridRank, ZeroLength, NameCount}
+use Rattle.zarrs_notes.specs.declared.finding.NodeFinding.TheVariants.{UnknownField, DemandingBlock, MisplacedBlock}
+use Rattle.zarrs_notes.specs.declared.finding.NodeFinding.TheVariants.{Beside, LeftOver}
+
+-- the chunks are regular, and have no lengths
+abbrev pub IsLengthsFinding : NodeMetadata → NodeFinding → Type 0
+IsLengthsFinding m f = (is_regular m ≡ true) × (lengths_of_chunks m ≡ None) × (f ≡ NoLengths)
 
 -- a chunk has another number of lengths than the shape
 abbrev pub IsGridFinding : NodeMetadata → NodeFinding → Type 0
@@ -64,12 +70,13 @@ IsLeftOverFinding s p m f = (file : NodeFile) × Contains (left_over m) file × 
 -- what there is to tell of the node at p that has these metadata
 abbrev pub IsNodeFinding : Contents → Path → NodeMetadata → NodeFinding → Type 0
 IsNodeFinding s p m f =
-    IsGridFinding m f ⊎ IsZeroFinding m f ⊎ IsNameFinding m f ⊎ IsFieldFinding p m f ⊎ IsMisplacedFinding s p m f
-    ⊎ IsBesideFinding s p m f ⊎ IsLeftOverFinding s p m f
+    IsLengthsFinding m f ⊎ IsGridFinding m f ⊎ IsZeroFinding m f ⊎ IsNameFinding m f ⊎ IsFieldFinding p m f
+    ⊎ IsMisplacedFinding s p m f ⊎ IsBesideFinding s p m f ⊎ IsLeftOverFinding s p m f
 
 -- a misplaced block, a document beside another and what is left over are notes, worth knowing while the node reads as
 -- it did; all else is a finding
 abbrev pub is_note : NodeFinding → Bool
+is_note NoLengths = false
 is_note (GridRank lengths shape) = false
 is_note ZeroLength = false
 is_note (NameCount names shape) = false
@@ -92,8 +99,9 @@ file_place NewZarrJson = 10
 file_place NewZmetadata = 11
 
 -- the place of a finding: the dimensions, the fields of a group, a misplaced block, and documents by their kinds, of
--- which those that are left over come last
+-- which those that are left over come last; what has no lengths has no other number of them
 abbrev pub place_of : NodeFinding → ℕ
+place_of NoLengths = 0
 place_of (GridRank lengths shape) = 0
 place_of ZeroLength = 1
 place_of (NameCount names shape) = 2

@@ -4,9 +4,11 @@
 -- <https://zarr-specs.readthedocs.io/en/latest/v3/core/index.html#array-metadata-dimension-names>
 -- <https://zarr-specs.readthedocs.io/en/latest/v2/v2.0.html#chunks>
 --     rank m      the number of lengths of the shape
+--     is_regular m      the node is an array whose chunks are regular
 --     lengths_of_chunks m      the lengths of a chunk, where the chunks are regular
 --     names_of_dimensions m      the dimension names, where there are any
-use Rattle.std.specs.Prelude.{ℕ, List, length, Option, Some, None, option_and_then, bytes_eq, codes, if◌then◌else◌}
+use Rattle.std.specs.Prelude.{ℕ, Bool, true, false, List, length, Option, Some, None, option_and_then, bytes_eq, codes}
+use Rattle.std.specs.Prelude.{if◌then◌else◌}
 use Rattle.serde_json.specs.Data.{Members}
 use Rattle.serde_json.specs.Find.{get_member}
 use Rattle.zarrs_form.specs.Forms.{list_of, number_u64}
@@ -25,10 +27,19 @@ rank (Array (V2 a)) = length a.shape
 abbrev pub chunk_shape : Members → Option (List ℕ)
 chunk_shape configuration = option_and_then (list_of number_u64) (get_member (codes "chunk_shape") configuration)
 
--- the lengths of a chunk of a grid whose name is `regular`, where it has them; any other grid says none
+-- the name of a grid is `regular`
+abbrev pub is_regular_grid : MetadataV3 → Bool
+is_regular_grid grid = bytes_eq grid.name (codes "regular")
+
+-- the lengths of a chunk of a regular grid, where it has them; any other grid says none
 abbrev pub lengths_of_grid : MetadataV3 → Option (List ℕ)
-lengths_of_grid grid =
-    if bytes_eq grid.name (codes "regular") then option_and_then chunk_shape grid.configuration else None
+lengths_of_grid grid = if is_regular_grid grid then option_and_then chunk_shape grid.configuration else None
+
+-- the chunks are regular: of a version 3 array where its grid is, and of every array of version 2; a group has none
+abbrev pub is_regular : NodeMetadata → Bool
+is_regular (Group g) = false
+is_regular (Array (V3 a)) = is_regular_grid a.chunk_grid
+is_regular (Array (V2 a)) = true
 
 -- the lengths of a chunk: of a version 3 array those of its grid, of one of version 2 its `chunks`; a group has none
 abbrev pub lengths_of_chunks : NodeMetadata → Option (List ℕ)

@@ -17,12 +17,12 @@ use Rattle.zarrs_meta.specs.declared.node.NodeMetadata.{NodeMetadata}
 use Rattle.zarrs_meta.specs.declared.node.NodeMetadata.TheVariants.{Group, Array}
 use Rattle.zarrs_notes.specs.BesideDocuments.{name_of_file}
 use Rattle.zarrs_notes.specs.Demands.{block_name, field_finding}
-use Rattle.zarrs_notes.specs.Shapes.{rank, lengths_of_chunks, names_of_dimensions}
+use Rattle.zarrs_notes.specs.Shapes.{rank, is_regular, lengths_of_chunks, names_of_dimensions}
 use Rattle.zarrs_notes.specs.declared.file.NodeFile.{NodeFile}
 use Rattle.zarrs_notes.specs.declared.file.NodeFile.TheVariants.{Zmetadata}
 use Rattle.zarrs_notes.specs.declared.finding.NodeFinding.{NodeFinding}
-use Rattle.zarrs_notes.specs.declared.finding.NodeFinding.TheVariants.{GridRank, ZeroLength, NameCount, Beside}
-use Rattle.zarrs_notes.specs.declared.finding.NodeFinding.TheVariants.{LeftOver}
+use Rattle.zarrs_notes.specs.declared.finding.NodeFinding.TheVariants.{NoLengths, GridRank, ZeroLength, NameCount}
+use Rattle.zarrs_notes.specs.declared.finding.NodeFinding.TheVariants.{Beside, LeftOver}
 use Rattle.zarrs_notes.specs.declared.shapes.Lengths.{Lengths}
 
 -- the finding where there is cause, else none
@@ -40,10 +40,10 @@ measure lengths = record { count = length lengths; has_zero = has_zero lengths }
 abbrev pub measure_of : Option (List ℕ) → Option Lengths
 measure_of lengths = option_map measure lengths
 
--- what is told of the lengths of a chunk
-abbrev pub chunk_findings : ℕ → Option Lengths → List NodeFinding
-chunk_findings r None = []
-chunk_findings r (Some l) = told_if (not (l.count == r)) (GridRank l.count r) ++ told_if l.has_zero ZeroLength
+-- what is told of the lengths of a chunk, of chunks that are regular or not
+abbrev pub chunk_findings : ℕ → Bool → Option Lengths → List NodeFinding
+chunk_findings r regular None = told_if regular NoLengths
+chunk_findings r regular (Some l) = told_if (not (l.count == r)) (GridRank l.count r) ++ told_if l.has_zero ZeroLength
 
 -- what is told of the dimension names
 abbrev pub name_findings : ℕ → Option (List (Option (List ℕ))) → List NodeFinding
@@ -53,7 +53,8 @@ name_findings r (Some names) = told_if (not (length names == r)) (NameCount (len
 -- what is told of the dimensions of a node
 abbrev pub shape_findings : NodeMetadata → List NodeFinding
 shape_findings m =
-    chunk_findings (rank m) (measure_of (lengths_of_chunks m)) ++ name_findings (rank m) (names_of_dimensions m)
+    chunk_findings (rank m) (is_regular m) (measure_of (lengths_of_chunks m))
+    ++ name_findings (rank m) (names_of_dimensions m)
 
 -- ---- fields
 

@@ -17,6 +17,8 @@ use zarrs_path::NodePath;
 /// <https://zarr-specs.readthedocs.io/en/latest/v3/core/index.html#group-metadata>
 #[derive(Debug, Drop)]
 pub enum NodeFinding {
+    /// A finding: the chunk grid is regular, and has no list of lengths.
+    NoLengths,
     /// A finding: the chunk grid has another number of lengths than the shape.
     GridRank {
         /// The number of lengths of a chunk.
@@ -70,6 +72,9 @@ impl fmt::Display for NodeFinding {
     /// Writes what stands behind the path of the node.
     fn fmt<W: fmt::Write>(&self, f: &mut fmt::Formatter<W>) -> fmt::Result {
         match self {
+            NodeFinding::NoLengths => {
+                f.write_str("bad shape: a regular chunk grid has no list of lengths")
+            }
             NodeFinding::GridRank { lengths, shape } => {
                 write!(
                     f,

@@ -3,7 +3,7 @@ ghost use Rattle.std.specs.Prelude.{◌≡◌, ◌++◌, OnOk};
 ghost use Rattle.serde_json.specs.View.{items_view, view};
 ghost use Rattle.zarrs_form.specs.Forms.{each, list_of, number_u64};
 ghost use Rattle.zarrs_meta.specs.declared.node.NodeMetadata.TheVariants.{Array};
-ghost use Rattle.zarrs_notes.specs.Shapes.{lengths_of_grid};
+ghost use Rattle.zarrs_notes.specs.Shapes.{is_regular_grid, lengths_of_grid};
 ghost use Rattle.zarrs_notes.specs.StepsOfFindings.{chunk_findings, measure_of, name_findings, shape_findings, told_if};
 
 use crate::finding::NodeFinding;
@@ -41,7 +41,8 @@ fn add_of_array(array: &ArrayMetadata, found: &mut Vec<NodeFinding>) -> Result<(
     match array {
         ArrayMetadata::V3(array) => {
             let rank = array.shape.as_slice().len();
-            add_chunks(rank, grid_lengths(&array.chunk_grid), found)?;
+            let regular = is_regular_grid(&array.chunk_grid);
+            add_chunks(rank, regular, grid_lengths(&array.chunk_grid), found)?;
             add_names(rank, &array.dimension_names, found)
         }
         ArrayMetadata::V2(array) => {
@@ -50,22 +51,23 @@ fn add_of_array(array: &ArrayMetadata, found: &mut Vec<NodeFinding>) -> Result<(
                 count: array.chunks.as_slice().len(),
                 has_zero: has_zero(&array.chunks),
             };
-            add_chunks(rank, Some(lengths), found)
+            add_chunks(rank, true, Some(lengths), found)
         }
     }
 }
 
-// Puts what is wrong with the lengths of a chunk behind the other findings.
+// Puts what is wrong with the lengths of a chunk behind the other findings, of chunks that are regular or not.
 fn add_chunks(
     rank: usize,
+    regular: bool,
     lengths: Option<Lengths>,
     found: &mut Vec<NodeFinding>,
 ) -> Result<(), AllocError>
     ensures { OnOk result
-        (found.new.items ≡ found.old.items ++ chunk_findings rank lengths) }
+        (found.new.items ≡ found.old.items ++ chunk_findings rank regular lengths) }
 {
     let Some(lengths) = lengths else {
-        return Ok(());
+        return tell(found, regular, NodeFinding::NoLengths);
     };
     let shape = rank;
     let finding = NodeFinding::GridRank {
@@ -113,11 +115,18 @@ pub(crate) fn tell(
     Ok(())
 }
 
+// Whether the name of a grid is `regular`.
+fn is_regular_grid(grid: &MetadataV3) -> bool
+    ensures { result ≡ is_regular_grid grid.now }
+{
+    grid.name.as_str() == "regular"
+}
+
 // The lengths of a chunk of a regular grid. They are not copied.
 fn grid_lengths(grid: &MetadataV3) -> Option<Lengths>
     ensures { result ≡ measure_of (lengths_of_grid grid.now) }
 {
-    if grid.name.as_str() != "regular" {
+    if !is_regular_grid(grid) {
         return None;
     }
     match &grid.configuration {
