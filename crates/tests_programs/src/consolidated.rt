@@ -153,6 +153,45 @@ fn a_block_of_version_3_is_written_and_removed(rt: HostRuntime) -> io::Result<()
     fs::remove_dir_all(&rt, FOLDER)
 }
 
+// The folder of a test, and what is said of the array of it that xarray writes for data without a name.
+const UNNAMED: &str = "unnamed";
+
+const HIDDEN: &str =
+    "[WARN  zarrs_folder::disk] unnamed/__xarray_dataarray_variable__ was passed over: its name begins with __, so no listing shows it, and no block gets it\n";
+
+const HIDDEN_IN_CHECK: &str =
+    "[WARN  zarrs_folder::disk] unnamed/__xarray_dataarray_variable__ was passed over: its name begins with __, so no listing shows it, and no block gets it\nzarrs: 2 nodes, 0 findings\n";
+
+const OF_UNNAMED: &[(&[&str], &str, &str, u8)] = &[
+    (
+        &["consolidate", "--dry-run", UNNAMED],
+        "would write .zmetadata: the block of 1 node\n",
+        HIDDEN,
+        1,
+    ),
+    (
+        &["consolidate", UNNAMED],
+        "wrote .zmetadata: the block of 1 node\n",
+        HIDDEN,
+        0,
+    ),
+    (&["list", UNNAMED], "/\n/x\n", HIDDEN, 0),
+    (&["tree", UNNAMED], "/\n  x [3] Simple(\"<f8\")\n", "", 0),
+    (&["check", UNNAMED], "", HIDDEN_IN_CHECK, 0),
+];
+
+#[test]
+fn a_node_that_no_block_gets_is_named(rt: HostRuntime) -> io::Result<()> {
+    let files = [
+        (".zgroup", GROUP_V2),
+        ("x/.zarray", ARRAY_V2),
+        ("__xarray_dataarray_variable__/.zarray", ARRAY_V2),
+    ];
+    make_folder(&rt, UNNAMED, &files)?;
+    assert_calls(&rt, &rt, OF_UNNAMED);
+    fs::remove_dir_all(&rt, UNNAMED)
+}
+
 const ZMETADATA: &str = r#"{
   "metadata": {
     ".zattrs": {

@@ -12,7 +12,7 @@ use std::rt::Files;
 use std::test::Fail;
 use std::time::Clock;
 use std::{fs, io};
-use tests_support::{A3, G3, printed};
+use tests_support::{A2, A3, G2, G3, printed};
 use zarrs_folder::{Disk, Documents, FolderFault, load_nodes};
 use zarrs_path::NodePath;
 use zarrs_store::{AnyNumbers, ListableStorageTraits, MemoryStore};
@@ -103,6 +103,40 @@ fn links_are_followed_and_one_on_its_own_way_is_named(rt: HostRuntime) -> Result
         "disks/link/up was passed over: it is a link to a folder on its own way\n",
     )?;
     fs::remove_dir_all(&rt, "disks")?;
+    Ok(())
+}
+
+// The warning of a node that no listing shows.
+const HIDDEN: &str =
+    "was passed over: its name begins with __, so no listing shows it, and no block gets it";
+
+#[test]
+fn a_node_that_no_listing_shows_is_named(rt: HostRuntime) -> Result<(), Fail> {
+    let files = [
+        (".zgroup", G2),
+        ("__a/.zarray", A2),
+        ("__b/zarr.json", ""),
+        ("__c/.zgroup", G2),
+        ("__d/.zattrs", "{}"),
+        ("__e/.zgroup/0", ""),
+        ("_f/.zgroup", G2),
+        ("g/.zgroup", G2),
+        ("g/__h/.zarray", A2),
+        ("i/.zarray", A2),
+        ("i/__j/.zarray", A2),
+        ("k__/.zarray", A2),
+    ];
+    make_folder(&rt, "hidden", &files)?;
+    let line = |name| format!(in rt.alloc(); "[WARN  zarrs_folder::disk] hidden/{name} {HIDDEN}\n");
+    let mut wanted = String::from_str(
+        rt.alloc(),
+        ".zgroup __a/.zarray __b/zarr.json __c/.zgroup __d/.zattrs __e/.zgroup/0 _f/.zgroup g/.zgroup g/__h/.zarray i/.zarray k__/.zarray ",
+    )?;
+    for name in ["__a", "__b", "__c", "g/__h"] {
+        wanted.push_str(line(name)?.as_str())?;
+    }
+    is_same(said(&rt, "hidden"), wanted.as_str())?;
+    fs::remove_dir_all(&rt, "hidden")?;
     Ok(())
 }
 

@@ -19,7 +19,8 @@ use std::{fs, io};
 use zarrs_store::{StoreKey, StorePrefix};
 
 /// A folder of the system, by its path. Links are followed, its own and those below it. A link that leads to a folder on its own way is passed
-/// over, and a warning names it. What is neither a file nor a folder is passed over too.
+/// over, and a warning names it. What is neither a file nor a folder is passed over too. A warning names each node that no listing shows, since its name
+/// begins with `__`.
 ///
 /// Its answers are noted, for contracts only: it agrees with each store that has all answers so far. So it promises nothing where the files
 /// change meanwhile in such a way that no store has them all.
@@ -121,8 +122,34 @@ impl<'a, R: Log + Files + Clock + Eprint + AllocGlobal> Disk<'a, R> {
             }
         }
         children.sort_unstable();
+        for child in &children {
+            self.warn_of_hidden(alloc, child)?;
+        }
         children.reverse();
         Ok(children)
+    }
+
+    // Warns of a node that no listing shows, since its name begins with `__`.
+    fn warn_of_hidden(&self, alloc: Global, child: &StorePrefix) -> Result<(), AllocError> {
+        if !child.name().starts_with("__") || !self.is_node(alloc, child.as_str())? {
+            return Ok(());
+        }
+        let path = self.path(alloc, child.as_str())?;
+        warn!(self.rt; "{path} was passed over: its name begins with __, so no listing shows it, and no block gets it");
+        Ok(())
+    }
+
+    // Whether a document of a node stands in a folder. What is not looked at does not count.
+    fn is_node(&self, alloc: Global, prefix: &str) -> Result<bool, AllocError> {
+        for file in ["zarr.json", ".zarray", ".zgroup"] {
+            let names = joined(alloc, prefix, file)?;
+            let path = self.path(alloc, names.as_str())?;
+            match fs::metadata(self.rt, path.as_str()) {
+                Ok(metadata) if metadata.is_file() => return Ok(true),
+                _ => {}
+            }
+        }
+        Ok(false)
     }
 
     // The key of the first file that a search below a prefix comes upon.
@@ -239,7 +266,8 @@ impl<R: Log + Files + Clock + Eprint + AllocGlobal> Folder for Disk<'_, R> {
         Ok(found)
     }
 
-    /// The folders in the folder, in descending order of their names.
+    /// The folders in the folder, in descending order of their names. One with a document of a node and a name that begins with `__` is among them, and
+    /// a warning names it: no listing shows it.
     ///
     /// # Errors
     /// `Unread` where the folder is not listed, a name in it is not UTF-8, or what stands there is not looked at. `OutOfMemory`.
