@@ -741,6 +741,7 @@ fn the_laws_are_called(rt: HostRuntime) -> Result<(), Fail> {
     laws::means_version_3();
     laws::listed_block_opens();
     laws::written_block_opens();
+    laws::full_block_opens();
     let path = NodePath::new(alloc, "/g")?;
     let metadata = metadata_of(alloc, r#"3 | {"k":1} | {}"#)?;
     laws::stored_means(alloc, &path, &metadata)?;

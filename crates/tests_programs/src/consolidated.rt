@@ -153,6 +153,76 @@ fn a_block_of_version_3_is_written_and_removed(rt: HostRuntime) -> io::Result<()
     fs::remove_dir_all(&rt, FOLDER)
 }
 
+// The folder of a test, and calls on it, one after another.
+const OBJECTS: &str = "objects";
+
+const OF_OBJECTS: &[(&[&str], &str, &str, u8)] = &[
+    (
+        &["consolidate", OBJECTS],
+        "wrote zarr.json: the block of 1 node\n",
+        "",
+        0,
+    ),
+    (
+        &["consolidate", OBJECTS],
+        "zarr.json is current: the block of 1 node\n",
+        "",
+        0,
+    ),
+    (&["check", OBJECTS], "", "zarrs: 2 nodes, 0 findings\n", 0),
+    (&["tree", OBJECTS], "/\n  a [4] uint8\n", "", 0),
+];
+
+const IN_OBJECTS: &str = r#"{
+  "consolidated_metadata": {
+    "kind": "inline",
+    "metadata": {
+      "a": {
+        "chunk_grid": {
+          "configuration": {
+            "chunk_shape": [
+              2
+            ]
+          },
+          "name": "regular"
+        },
+        "chunk_key_encoding": {
+          "name": "default"
+        },
+        "codecs": [
+          {
+            "name": "bytes"
+          }
+        ],
+        "data_type": "uint8",
+        "fill_value": 0,
+        "node_type": "array",
+        "shape": [
+          4
+        ],
+        "zarr_format": 3
+      }
+    },
+    "must_understand": false
+  },
+  "node_type": "group",
+  "zarr_format": 3
+}"#;
+
+#[test]
+fn an_extension_is_an_object_in_a_block(rt: HostRuntime) -> io::Result<()> {
+    let array =
+        r#"{"chunk_grid":{"configuration":{"chunk_shape":[2]},"name":"regular"},"chunk_key_encoding":"default","codecs":["bytes"],"data_type":"uint8","fill_value":0,"node_type":"array","shape":[4],"zarr_format":3}"#;
+    make_folder(
+        &rt,
+        OBJECTS,
+        &[("zarr.json", GROUP), ("a/zarr.json", array)],
+    )?;
+    assert_calls(&rt, &rt, OF_OBJECTS);
+    assert_file(&rt, &rt, "objects/zarr.json", IN_OBJECTS);
+    fs::remove_dir_all(&rt, OBJECTS)
+}
+
 // The folder of a test, and what is said of the array of it that xarray writes for data without a name.
 const UNNAMED: &str = "unnamed";
 

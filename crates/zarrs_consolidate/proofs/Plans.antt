@@ -14,8 +14,8 @@ use Rattle.zarrs_block.specs.Block.{Block}
 use Rattle.zarrs_meaning.specs.Meaning.{meaning, node}
 use Rattle.zarrs_node.specs.ListedBlocks.{IsListedBlock}
 use Rattle.zarrs_group.specs.BlockDocuments.{HasNoBlockDocument, block_document}
-use Rattle.zarrs_group.specs.BlocksOfGroups.{with_block}
 use Rattle.zarrs_group.specs.Children.{group_at}
+use Rattle.zarrs_group.specs.FullBlocks.{with_full_block}
 use Rattle.zarrs_group.specs.Groups.{GroupState}
 use Rattle.zarrs_consolidate.specs.Plans.{group_holding}
 use Rattle.zarrs_consolidate.specs.Refusals.{HasDeepDocument, RefusesPlan, block_set}
@@ -32,10 +32,10 @@ is_deep (Some (key, d)) there deep = (key, d, refl, deep)
 is_deep None there deep = absurd (true≢false (sym there))
 
 -- the group has a document that nests too deep
-pub deep_document : (b : Path) (m : GroupMetadata) (block : Option Block) (g : GroupState) → HasBlockDocument b m block → g ≡ group_at default_settings b m → HasNoBlockDocument (with_block g block)
+pub deep_document : (b : Path) (m : GroupMetadata) (block : Option Block) (g : GroupState) → HasBlockDocument b m block → g ≡ group_at default_settings b m → HasNoBlockDocument (with_full_block g block)
     → HasDeepDocument (group_holding b m block)
 deep_document b m block g there is none =
-    is_deep (block_document (group_holding b m block)) there (subst (λ x. HasNoBlockDocument (with_block x block)) is none)
+    is_deep (block_document (group_holding b m block)) there (subst (λ x. HasNoBlockDocument (with_full_block x block)) is none)
 
 module _ (can_fail : Bool) (s : Contents) (task : Task) (b : Path) (m : GroupMetadata) (B : Block) (means : meaning s Default b ≡ node (Group m)) (listed : IsListedBlock s Default b B) where
   -- what refuses the document of the group refuses the plan

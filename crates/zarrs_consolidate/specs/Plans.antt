@@ -21,8 +21,8 @@ use Rattle.zarrs_block.specs.Block.{Block}
 use Rattle.zarrs_meaning.specs.Meaning.{meaning, node}
 use Rattle.zarrs_node.specs.ListedBlocks.{IsListedBlock}
 use Rattle.zarrs_group.specs.BlockDocuments.{IsBlockDocument}
-use Rattle.zarrs_group.specs.BlocksOfGroups.{with_block}
 use Rattle.zarrs_group.specs.Children.{group_at}
+use Rattle.zarrs_group.specs.FullBlocks.{with_full_block}
 use Rattle.zarrs_group.specs.Groups.{GroupState}
 use Rattle.zarrs_write.specs.ReplacingDocuments.{bytes_in}
 use Rattle.zarrs_consolidate.specs.declared.plan.Plan.{Plan}
@@ -34,9 +34,9 @@ abbrev pub block_file : GroupMetadata → List ℕ
 block_file (V3 m) = zarr_json
 block_file (V2 m) = zmetadata
 
--- the group at b with these metadata, and with a block or without one
+-- the group at b with these metadata, and with a block in full or without one
 abbrev pub group_holding : Path → GroupMetadata → Option Block → GroupState
-group_holding b m block = with_block (group_at default_settings b m) block
+group_holding b m block = with_full_block (group_at default_settings b m) block
 
 -- the bytes are the document that holds the block of this group: with a block, or of version 3 without one
 abbrev pub IsWithBlock : Path → GroupMetadata → Option Block → List ℕ → Type 0

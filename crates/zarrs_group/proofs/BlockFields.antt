@@ -1,17 +1,19 @@
 -- The field of the block among the additional fields: set, removed, and read again.
 use Rattle.std.proofs.Common.{◌≡◌, ℕ, List, [], ◌∷◌, Bool, true, false, if◌then◌else◌, Option, Some, None, option_and_then, Ok, codes, refl, ap, ◌∙◌}
 use Rattle.std.specs.Result.{result_ok}
-use Rattle.serde_json.specs.Data.{Data, Members, no_members, member}
+use Rattle.serde_json.specs.Data.{Data, Members, no_members, member, put}
 use Rattle.serde_json.proofs.Views.{get_member-put}
 use Rattle.zarrs_fault.specs.declared.numbers.Numbers.{Numbers}
 use Rattle.zarrs_form.specs.Documents.{is_own, besides, has_own}
+use Rattle.zarrs_form.specs.Fields.{field_data}
 use Rattle.zarrs_form.proofs.MemberLaws.{get-others}
 use Rattle.zarrs_meta.specs.declared.group_v3.GroupMetadataV3.{GroupMetadataV3}
 use Rattle.zarrs_meta.specs.declared.node.GroupMetadata.{GroupMetadata}
 use Rattle.zarrs_meta.specs.declared.node.GroupMetadata.TheVariants.{V3, V2}
-use Rattle.zarrs_block.specs.Block.{Block, block_of_in, block_tree}
+use Rattle.zarrs_block.specs.Block.{Block, block_of_in, block_tree, documents}
 use Rattle.zarrs_block.specs.Policy.{fields_block}
 use Rattle.zarrs_block.proofs.BlockReads.{block_again_in}
+use Rattle.zarrs_group.specs.FullBlocks.{block_with}
 use Rattle.zarrs_group.specs.Groups.{GroupState}
 use Rattle.zarrs_group.specs.BlocksOfGroups.{fields_with, metadata_with, beside_with, with_block, held_in, held_by_in, CanHoldIn, MetadataHold}
 
@@ -31,9 +33,14 @@ none_own names (member l e ms) = none_own_at names l e (besides names ms) (is_ow
 its_own : is_own (codes "consolidated_metadata" ∷ []) (codes "consolidated_metadata") ≡ true
 its_own = refl
 
+-- fields hold the block that these documents read as, where it was set
+pub field_reads : (numbers : Numbers) (D : Members) (B : Block) (ms : Members) → block_of_in numbers (block_with D) ≡ Ok B
+    → fields_block numbers (put (codes "consolidated_metadata") (field_data (block_with D) false) ms) ≡ Some B
+field_reads numbers D B ms again = ap (option_and_then (λ d. result_ok (block_of_in numbers d))) (get_member-put (codes "consolidated_metadata") _ ms) ∙ ap result_ok again
+
 -- fields hold the block that was set, in numbers in which it reads back
 pub set_reads : (numbers : Numbers) (B : Block) (ms : Members) → block_of_in numbers (block_tree B) ≡ Ok B → fields_block numbers (fields_with (Some B) ms) ≡ Some B
-set_reads numbers B ms again = ap (option_and_then (λ d. result_ok (block_of_in numbers d))) (get_member-put (codes "consolidated_metadata") _ ms) ∙ ap result_ok again
+set_reads numbers B ms again = field_reads numbers (documents B) B ms again
 
 -- metadata hold the block that was set, in numbers in which it reads back
 metadata_read : (numbers : Numbers) (m : GroupMetadata) (B : Block) (old : Option Block) → block_of_in numbers (block_tree B) ≡ Ok B → held_in numbers (metadata_with (Some B) m) (beside_with (Some B) m old) ≡ Some B

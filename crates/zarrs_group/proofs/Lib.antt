@@ -27,3 +27,5 @@ pub mod PlainWithBlock
 pub mod WrittenBlocks
 pub mod BlockDocuments
 pub mod PutAgain
+pub mod FullBlocks
+pub mod FullDocuments

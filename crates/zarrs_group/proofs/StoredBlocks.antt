@@ -1,6 +1,6 @@
 -- A version 3 group that was stored with the block of a listing opens by that block as by a listing.
-use Rattle.std.proofs.Common.{◌≡◌, ◌≤◌, inl, inr, ⊎_elim, Bool, true, List, [], ◌∷◌, ◌++◌, length, Option, Some, None, Result, Ok, Err, refl, sym, ap, subst, ◌∙◌, arith, length-append}
-use Rattle.serde_json.specs.Data.{depth}
+use Rattle.std.proofs.Common.{◌≡◌, ◌≤◌, inl, inr, ⊎_elim, Bool, true, false, List, [], ◌∷◌, ◌++◌, length, codes, Option, Some, None, Result, Ok, Err, refl, sym, ap, subst, ◌∙◌, arith, length-append}
+use Rattle.serde_json.specs.Data.{Members, depth, put}
 use Rattle.serde_json.specs.Read.{max_depth}
 use Rattle.zarrs_store.specs.Contents.{Contents}
 use Rattle.zarrs_store.specs.declared.storage_error.StorageError.{StorageError}
@@ -17,7 +17,8 @@ use Rattle.zarrs_meta.specs.declared.group_v3.GroupMetadataV3.{GroupMetadataV3}
 use Rattle.zarrs_meta.specs.declared.node.GroupMetadata.{GroupMetadata}
 use Rattle.zarrs_meta.specs.declared.node.GroupMetadata.TheVariants.{V3}
 use Rattle.zarrs_meta.specs.declared.node.NodeMetadata.TheVariants.{Group}
-use Rattle.zarrs_block.specs.Block.{Block, Entries, HasValidKeys}
+use Rattle.zarrs_form.specs.Fields.{field_data}
+use Rattle.zarrs_block.specs.Block.{Block, Entries, HasValidKeys, block_of_in, documents}
 use Rattle.zarrs_meaning.specs.Meaning.{meaning, node, nothing}
 use Rattle.zarrs_block.specs.Policy.{use_block, list_store, group_block, block_to_use}
 use Rattle.zarrs_block.specs.Zmetadata.{HaveSameEntries}
@@ -36,12 +37,13 @@ use Rattle.zarrs_group.specs.Edits.{AgreesOutsideKey, Edit, set, after, edit_key
 use Rattle.zarrs_group.specs.Groups.{group_tree, metadata_by_version}
 use Rattle.zarrs_group.specs.Meaning.{MeansGroup, group_v3_line, group_line, group_meaning}
 use Rattle.zarrs_group.specs.BlocksOfGroups.{fields_with, metadata_with}
+use Rattle.zarrs_group.specs.FullBlocks.{block_with}
 use Rattle.zarrs_group.specs.Laws.{MeansStored}
 use Rattle.zarrs_meta.specs.GroupV3.{group_v3_tree}
 use Rattle.zarrs_group.specs.StoredTexts.{pretty_text}
 use Rattle.zarrs_group.specs.StoredBlocks.{OpensAlike, EditKeepsOthers, StoringKeepsOthers, MeansVersion3, ListedBlockOpens}
 use Rattle.zarrs_group.specs.StoringGroups.{IsStoringCutShort, KeyChange, StoresDocuments, store_edits, RefusesStoring}
-use Rattle.zarrs_group.proofs.BlockFields.{set_reads}
+use Rattle.zarrs_group.proofs.BlockFields.{field_reads, set_reads}
 use Rattle.zarrs_group.proofs.GivesBack.{means_node, no_bad_key, opens_clean}
 use Rattle.zarrs_group.proofs.KeyChanges.{key_of, one_edit}
 use Rattle.zarrs_group.proofs.ListedReads.{listed_reads}
@@ -157,11 +159,15 @@ module _ (S : Contents) (v : MetadataRetrieveVersion) (p : Path) (m : GroupMetad
     opened = λ policy. opens_clean S v policy p valid (Group m) means (clean policy);
   }
 
--- a version 3 group that a path means with its listed block opens alike by it and by a listing
-pub opens_with_field : (S : Contents) (v : MetadataRetrieveVersion) (p : Path) (m : GroupMetadataV3) (B : Block) → IsPath p → IsListedBlock S v p B → meaning S v p ≡ node (Group (metadata_with (Some B) (V3 m)))
-    → OpensAlike S v p (metadata_with (Some B) (V3 m))
-opens_with_field S v p m B valid listed means =
-    opens_alike S v p (metadata_with (Some B) (V3 m)) B B valid listed means (set_reads S.numbers B m.additional_fields (listed_reads S v p B listed)) (listed_keys S v p B listed) (λ b e. (λ h. h, λ h. h))
+-- the metadata of a version 3 group with a block of these documents as its field
+abbrev pub with_field : Members → GroupMetadataV3 → GroupMetadataV3
+with_field D m = record { attributes = m.attributes; additional_fields = put (codes "consolidated_metadata") (field_data (block_with D) false) m.additional_fields }
+
+-- a version 3 group that a path means, with documents that read as its listed block, opens alike by it and by a listing
+pub opens_with_field : (S : Contents) (v : MetadataRetrieveVersion) (p : Path) (m : GroupMetadataV3) (D : Members) (B : Block) → IsPath p → IsListedBlock S v p B → block_of_in S.numbers (block_with D) ≡ Ok B
+    → meaning S v p ≡ node (Group (V3 (with_field D m))) → OpensAlike S v p (V3 (with_field D m))
+opens_with_field S v p m D B valid listed reads means =
+    opens_alike S v p (V3 (with_field D m)) B B valid listed means (field_reads S.numbers D B m.additional_fields reads) (listed_keys S v p B listed) (λ b e. (λ h. h, λ h. h))
 
 -- so does a group that was stored with the listed block
 pub listed_block_opens : ListedBlockOpens
@@ -172,4 +178,4 @@ listed_block_opens S v w g m B not valid is listed stored shallow =
     let both : depth (group_tree (V3 k)) ≤ max_depth → MeansGroup S retrieve.Default g.path (V3 k) × MeansGroup S retrieve.V3 g.path (V3 k) =
     subst (MeansStored S g.path) (ap (metadata_by_version w) same ∙ written_as_is w k) stored in
     let means : meaning S v g.path ≡ node (Group (V3 k)) = means_node S S g.path k refl (both (subst (λ x. depth (group_tree x) ≤ max_depth) same shallow)).1 refl v not in
-    (ap (group_block S.numbers) same ∙ held, subst (OpensAlike S v g.path) (sym same) (opens_with_field S v g.path m B valid listed means))
+    (ap (group_block S.numbers) same ∙ held, subst (OpensAlike S v g.path) (sym same) (opens_with_field S v g.path m (documents B) B valid listed (listed_reads S v g.path B listed) means))

@@ -3,7 +3,7 @@ use Rattle.std.proofs.Common.{◌≡◌, ◌≢◌, ℕ, List, [], ◌∷◌, �
 use Rattle.std.specs.Prelude.{All}
 use Rattle.std.specs.FinMap as map
 use Rattle.std.proofs.lemmas.List.Elements.{All-contains, All-cons, All-nil}
-use Rattle.serde_json.specs.Data.{Data}
+use Rattle.serde_json.specs.Data.{Data, Members}
 use Rattle.zarrs_store.specs.Segments.{Segments}
 use Rattle.zarrs_store.specs.Contents.{Contents, with_key}
 use Rattle.zarrs_store.proofs.ContentsLemmas.{get_inserted, AgreesExceptAt-insert}
@@ -22,7 +22,7 @@ use Rattle.zarrs_meta.specs.declared.node.GroupMetadata.{GroupMetadata}
 use Rattle.zarrs_meta.specs.declared.node.GroupMetadata.TheVariants.{V3, V2}
 use Rattle.zarrs_meta.specs.declared.node.NodeMetadata.TheVariants.{Group}
 use Rattle.zarrs_meta.proofs.GroupV3Laws.{group_v3_again_in}
-use Rattle.zarrs_block.specs.Block.{Block, HasValidKeys}
+use Rattle.zarrs_block.specs.Block.{Block, HasValidKeys, block_of_in, documents}
 use Rattle.zarrs_meaning.specs.DocumentsAtKeys.{in_bytes, document_at}
 use Rattle.zarrs_meaning.specs.Meaning.{meaning, node}
 use Rattle.zarrs_block.specs.Zmetadata.{zmetadata_tree, HasPlainEntriesIn}
@@ -36,17 +36,18 @@ use Rattle.zarrs_node.proofs.Inverse.{entries_are}
 use Rattle.zarrs_meaning.proofs.PlainMeanings.{plain_node_in}
 use Rattle.zarrs_group.specs.BlockDocuments.{IsDocumentText, document_with_block}
 use Rattle.zarrs_group.specs.BlocksBeside.{IsBeside}
-use Rattle.zarrs_group.specs.BlocksOfGroups.{Fits, beside_with, fields_with, metadata_with}
+use Rattle.zarrs_group.specs.BlocksOfGroups.{Fits, beside_with, metadata_with}
+use Rattle.zarrs_group.specs.FullBlocks.{block_with, full_documents, metadata_with_full}
 use Rattle.zarrs_group.specs.Meaning.{MeansGroup, group_line, group_meaning}
-use Rattle.zarrs_group.specs.StoredBlocks.{OpensAlike, WrittenBlockOpens}
+use Rattle.zarrs_group.specs.StoredBlocks.{FullBlockOpens, OpensAlike, WrittenBlockOpens}
 use Rattle.zarrs_group.proofs.BelowBases.{listed_stays}
 use Rattle.zarrs_group.proofs.Beside.{beside_read, means_v2}
 use Rattle.zarrs_group.proofs.EraseLaws.{keys_differ, json_metadata, group_metadata, attrs_metadata}
 use Rattle.zarrs_group.proofs.GivesBack.{means_node}
-use Rattle.zarrs_group.proofs.ListedReads.{listed_reads}
+use Rattle.zarrs_group.proofs.ListedReads.{full_listed_reads, listed_reads}
 use Rattle.zarrs_group.proofs.PlainWithBlock.{plain_with_block}
 use Rattle.zarrs_group.proofs.StoredAgain.{block_read}
-use Rattle.zarrs_group.proofs.StoredBlocks.{opens_alike, opens_with_field}
+use Rattle.zarrs_group.proofs.StoredBlocks.{opens_alike, opens_with_field, with_field}
 
 -- ---- of version 3
 
@@ -64,16 +65,15 @@ written_means S p m bytes plain read =
     let again : group_v3_in S.numbers (group_v3_tree m) ≡ Ok m = group_v3_again_in S.numbers m plain in
     rw (here, read, again) refl
 
--- a version 3 group whose document with the listed block was written opens alike by it and by a listing
-field_opens : (S : Contents) (v : MetadataRetrieveVersion) (p : Path) (m : GroupMetadataV3) (B : Block) (bytes : List ℕ) → IsPath p → meaning S v p ≡ node (Group (V3 m)) → IsListedBlock S v p B
-    → IsTextOf bytes (group_v3_tree (record { attributes = m.attributes; additional_fields = fields_with (Some B) m.additional_fields }))
-    → OpensAlike (with_key S (p ++ zarr_json ∷ []) bytes) v p (metadata_with (Some B) (V3 m))
-field_opens S v p m B bytes valid means listed text =
-    let k : GroupMetadataV3 = record { attributes = m.attributes; additional_fields = fields_with (Some B) m.additional_fields } in
+-- a version 3 group whose document was written, with documents that read as the listed block, opens alike by it and by a listing
+field_opens : (S : Contents) (v : MetadataRetrieveVersion) (p : Path) (m : GroupMetadataV3) (D : Members) (B : Block) (bytes : List ℕ) → IsPath p → meaning S v p ≡ node (Group (V3 m)) → IsListedBlock S v p B
+    → block_of_in S.numbers (block_with D) ≡ Ok B → IsTextOf bytes (group_v3_tree (with_field D m)) → OpensAlike (with_key S (p ++ zarr_json ∷ []) bytes) v p (V3 (with_field D m))
+field_opens S v p m D B bytes valid means listed reads text =
+    let k : GroupMetadataV3 = with_field D m in
     let T : Contents = with_key S (p ++ zarr_json ∷ []) bytes in
-    let plain : IsTrue (is_plain_group_v3_in S.numbers k) = plain_with_block S.numbers B (listed_reads S v p B listed) m (plain_node_in S p v (Group (V3 m)) means) in
+    let plain : IsTrue (is_plain_group_v3_in S.numbers k) = plain_with_block S.numbers D B reads m (plain_node_in S p v (Group (V3 m)) means) in
     let after : meaning T v p ≡ node (Group (V3 k)) = means_node T T p k refl (written_means S p k bytes plain text.reads) refl v (not_version_2 S p m v means) in
-    opens_with_field T v p m B valid (listed_stays S v p zarr_json bytes B listed) after
+    opens_with_field T v p m D B valid (listed_stays S v p zarr_json bytes B listed) reads after
 
 -- ---- of version 2
 
@@ -118,11 +118,26 @@ told P e f is h = let same : e ≡ f = cc in subst P same h
 opens_by : (S : Contents) (v : MetadataRetrieveVersion) (p : Path) (m : GroupMetadata) (old : Option Block) (B : Block) (key : Segments) (bytes : List ℕ) (d : Data) → IsPath p → meaning S v p ≡ node (Group m)
     → IsListedBlock S v p B → Fits m (Some B) → document_with_block p (metadata_with (Some B) m) (beside_with (Some B) m old) ≡ Some (key, d) → IsDocumentText (metadata_with (Some B) m) bytes d → OpensAlike (with_key S key bytes) v p (metadata_with (Some B) m)
 opens_by S v p (V3 m) old B key bytes d valid means listed fits is text =
-    let k : GroupMetadataV3 = record { attributes = m.attributes; additional_fields = fields_with (Some B) m.additional_fields } in
-    told (λ e. IsTextOf bytes e.1 → OpensAlike (with_key S e.0 bytes) v p (V3 k)) (p ++ zarr_json ∷ [], group_v3_tree k) (key, d) is (field_opens S v p m B bytes valid means listed) text
+    let k : GroupMetadataV3 = with_field (documents B) m in
+    told (λ e. IsTextOf bytes e.1 → OpensAlike (with_key S e.0 bytes) v p (V3 k)) (p ++ zarr_json ∷ [], group_v3_tree k) (key, d) is
+    (field_opens S v p m (documents B) B bytes valid means listed (listed_reads S v p B listed)) text
 opens_by S v p (V2 m) old B key bytes d valid means listed fits is text =
     told (λ e. IsAsciiTextOf bytes e.1 → OpensAlike (with_key S e.0 bytes) v p (V2 m)) (p ++ zmetadata ∷ [], zmetadata_tree m B) (key, d) is (beside_opens S v p m B bytes valid means listed fits) text
 
 -- a group of either version opens by the block that was written as by a listing
 pub written_block_opens : WrittenBlockOpens
 written_block_opens S v g B key bytes valid means listed fits made = opens_by S v g.path g.metadata g.block B key bytes made.0 valid means listed fits made.1 made.2
+
+-- by the metadata of the group, with the block in full
+full_opens_by : (S : Contents) (v : MetadataRetrieveVersion) (p : Path) (m : GroupMetadata) (old : Option Block) (B : Block) (key : Segments) (bytes : List ℕ) (d : Data) → IsPath p → meaning S v p ≡ node (Group m)
+    → IsListedBlock S v p B → Fits m (Some B) → document_with_block p (metadata_with_full (Some B) m) (beside_with (Some B) m old) ≡ Some (key, d) → IsDocumentText (metadata_with_full (Some B) m) bytes d
+    → OpensAlike (with_key S key bytes) v p (metadata_with_full (Some B) m)
+full_opens_by S v p (V3 m) old B key bytes d valid means listed fits is text =
+    let k : GroupMetadataV3 = with_field (full_documents B) m in
+    told (λ e. IsTextOf bytes e.1 → OpensAlike (with_key S e.0 bytes) v p (V3 k)) (p ++ zarr_json ∷ [], group_v3_tree k) (key, d) is
+    (field_opens S v p m (full_documents B) B bytes valid means listed (full_listed_reads S v p B listed)) text
+full_opens_by S v p (V2 m) old B key bytes d valid means listed fits is text = opens_by S v p (V2 m) old B key bytes d valid means listed fits is text
+
+-- so does a group of either version by a block that was written in full
+pub full_block_opens : FullBlockOpens
+full_block_opens S v g B key bytes valid means listed fits made = full_opens_by S v g.path g.metadata g.block B key bytes made.0 valid means listed fits made.1 made.2

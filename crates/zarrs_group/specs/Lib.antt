@@ -4,6 +4,7 @@ pub mod BlocksBeside
 pub mod BlocksOfGroups
 pub mod Children
 pub mod Edits
+pub mod FullBlocks
 pub mod GivesBack
 pub mod Groups
 pub mod Laws

@@ -5,6 +5,7 @@
 --     OpensAlike S v p m      p means the group m, which has the same forest below it by its block and by a listing
 --     EditKeepsOthers, StoringKeepsOthers      an edit, and the storing of a version 3 group, change one key
 --     WrittenBlockOpens      so opens a group of either version whose document with the block was set, with any numbers
+--     FullBlockOpens      and so where the block was set in full
 use Rattle.std.specs.Prelude.{◌≡◌, ◌≢◌, ◌≤◌, ℕ, Bool, List, [], ◌∷◌, ◌++◌, Some}
 use Rattle.serde_json.specs.Data.{depth}
 use Rattle.serde_json.specs.Read.{max_depth}
@@ -32,6 +33,7 @@ use Rattle.zarrs_node.specs.OpeningNodes.{ShowsBelow, RefusesOpening}
 use Rattle.zarrs_group.specs.Groups.{GroupState, group_tree, metadata_by_version}
 use Rattle.zarrs_group.specs.BlockDocuments.{IsBlockDocument}
 use Rattle.zarrs_group.specs.BlocksOfGroups.{with_block, Fits}
+use Rattle.zarrs_group.specs.FullBlocks.{with_full_block}
 use Rattle.zarrs_group.specs.Edits.{AgreesOutsideKey, Edit, after, after_edit, edit_key}
 use Rattle.zarrs_group.specs.Laws.{MeansStored}
 use Rattle.zarrs_group.specs.Meaning.{MeansGroup}
@@ -85,3 +87,11 @@ WrittenBlockOpens =
     → IsPath g.path → meaning S v g.path ≡ node (Group g.metadata) → IsListedBlock S v g.path B
     → Fits g.metadata (Some B) → IsBlockDocument (with_block g (Some B)) key bytes
     → OpensAlike (with_key S key bytes) v g.path (with_block g (Some B)).metadata
+
+-- So it does where the document holds the block in full.
+abbrev pub FullBlockOpens : Type 0
+FullBlockOpens =
+    (S : Contents) (v : MetadataRetrieveVersion) (g : GroupState) (B : Block) (key : Segments) (bytes : List ℕ)
+    → IsPath g.path → meaning S v g.path ≡ node (Group g.metadata) → IsListedBlock S v g.path B
+    → Fits g.metadata (Some B) → IsBlockDocument (with_full_block g (Some B)) key bytes
+    → OpensAlike (with_key S key bytes) v g.path (with_full_block g (Some B)).metadata

@@ -10,7 +10,8 @@ ghost use Rattle.zarrs_block.specs.Zmetadata.{RefusesZmetadata, zmetadata_tree};
 ghost use Rattle.zarrs_group.specs.AsciiTexts.{IsAsciiTextOf};
 ghost use Rattle.zarrs_group.specs.BlockDocuments.{IsBlockDocument, HasNoBlockDocument};
 ghost use Rattle.zarrs_group.specs.BlocksBeside.{IsBeside};
-ghost use Rattle.zarrs_group.specs.BlocksOfGroups.{Fits, RefusesBlock, with_block};
+ghost use Rattle.zarrs_group.specs.BlocksOfGroups.{Fits, RefusesBlock};
+ghost use Rattle.zarrs_group.specs.FullBlocks.{with_full_block};
 
 use crate::ascii::ascii_document_text;
 use crate::group::Group;
@@ -58,23 +59,28 @@ impl Group {
         }
     }
 
-    /// What [`Group::block_document`] answers once [`Group::set_consolidated_metadata`] set this block, or removed the one there is. The group and the block are
-    /// given away for it. Neither a block nor the attributes of the group are copied. What is written of a block is made once.
+    /// What [`Group::block_document`] answers once this block was set, or the one there is removed. In a version 3 group the block is set in full: each
+    /// extension of an array but its data type is an object, as `{"name": "bytes"}`, also where its name says it all. The specification allows the bare
+    /// name since 3.1, and not every reader of blocks takes it; who takes it takes the object too. [`Group::set_consolidated_metadata`] sets a block with
+    /// bare names, as documents are written. [`crate::laws::full_block_opens`] says of which groups the bytes are opened as the group with this block.
+    ///
+    /// The group and the block are given away for it. Neither a block nor the attributes of the group are copied. What is written of a block is made once.
     ///
     /// # Errors
     ///
     /// Those of [`Group::set_consolidated_metadata`]; `OutOfMemory`.
     ///
-    /// Source: own; Zarr core specification 3.1, "Group metadata"; zarr-python, consolidated metadata of version 2.
+    /// Source: own; Zarr core specification 3.0 and 3.1, "Extension definition", and 3.1, "Group metadata"; zarr-python, consolidated metadata.
+    /// <https://zarr-specs.readthedocs.io/en/latest/v3/core/index.html#extension-definition>
     pub fn into_block_document(
         self,
         alloc: Global,
         block: Option<ConsolidatedMetadata>,
     ) -> Result<Option<(StoreKey, Vec<u8>)>, NodeCreateError>
         ensures ok { IfOk result (λ found. IfSome found
-            (λ made. IsBlockDocument (with_block self (as_block block)) made.0 made.1.items)) }
+            (λ made. IsBlockDocument (with_full_block self (as_block block)) made.0 made.1.items)) }
         ensures none { IfOk result
-            (λ found. found ≡ None → HasNoBlockDocument (with_block self (as_block block))) }
+            (λ found. found ≡ None → HasNoBlockDocument (with_full_block self (as_block block))) }
         ensures fits { IfOk result (λ _. Fits self.metadata (as_block block)) }
         ensures err { IfErr result (RefusesBlock self.metadata (as_block block)) }
     {

@@ -9,10 +9,11 @@ ghost use Rattle.zarrs_meta.specs.Node.{node_tree};
 ghost use Rattle.zarrs_meta.specs.declared.node.GroupMetadata.TheVariants.{V3};
 ghost use Rattle.zarrs_block.specs.Block.{block_tree, documents};
 ghost use Rattle.zarrs_block.specs.Policy.{as_block};
-ghost use Rattle.zarrs_group.specs.BlocksOfGroups.{fields_with, metadata_with};
+ghost use Rattle.zarrs_group.specs.FullBlocks.{block_with, fields_with_full, metadata_with_full};
 ghost use Rattle.zarrs_group.specs.Groups.{group_tree};
 
 use crate::consolidated::{put_block, remove_block};
+use crate::full_block::full_documents;
 use serde_json::{Map, Value, put};
 use std::alloc::{AllocError, Global};
 use zarrs_block::{ConsolidatedMetadata, ConsolidatedMetadataMetadata};
@@ -21,7 +22,8 @@ use zarrs_meta::{
     AdditionalFieldV3, AdditionalFieldsV3, GroupMetadataV3, NodeMetadata, Object, WrittenDocument,
 };
 
-/// What is written of a version 3 group with a block set, or with none. Its attributes and the block are moved into it. A block that stood there is let go.
+/// What is written of a version 3 group with a block set in full, or with none. Its attributes and the block are moved into it. A block that stood there is
+/// let go.
 ///
 /// # Errors
 ///
@@ -34,7 +36,7 @@ pub(crate) fn value_with_block(
     block: Option<ConsolidatedMetadata>,
 ) -> Result<Value, AllocError>
     ensures { IfOk result
-        (λ v. view v ≡ group_tree (metadata_with (as_block block) (V3 group))) }
+        (λ v. view v ≡ group_tree (metadata_with_full (as_block block) (V3 group))) }
 {
     let mut all = members_with_block(alloc, group.additional_fields, block)?;
     put(&mut all, alloc, "zarr_format", Value::from(3u64))?;
@@ -61,14 +63,14 @@ fn put_attributes(
     put(members, alloc, "attributes", value)
 }
 
-// The fields as members, with the block set or removed. The others are copied, and with them a null, which holds the place of the block.
+// The fields as members, with the block set in full or removed. The others are copied, and with them a null, which holds the place of the block.
 fn members_with_block(
     alloc: Global,
     mut fields: AdditionalFieldsV3,
     block: Option<ConsolidatedMetadata>,
 ) -> Result<Map<String, Value>, AllocError>
     ensures { IfOk result
-        (λ members. members_view members.entries ≡ fields_with (as_block block) fields) }
+        (λ members. members_view members.entries ≡ fields_with_full (as_block block) fields) }
 {
     let Some(block) = block else {
         remove_block(&mut fields);
@@ -77,7 +79,9 @@ fn members_with_block(
     let null = AdditionalFieldV3::new(alloc, Value::Null, false)?;
     put_block(&mut fields, alloc, null)?;
     let mut members = fields.to_members(alloc)?;
-    let value = field_of(alloc, block)?.into_value();
+    let documents = full_documents(alloc, block.metadata)?;
+    let tree = block_with(alloc, documents)?;
+    let value = AdditionalFieldV3::new(alloc, tree, false)?.into_value();
     put(&mut members, alloc, "consolidated_metadata", value)?;
     Ok(members)
 }
@@ -102,7 +106,13 @@ pub(crate) fn field_of(
 fn block_value(alloc: Global, block: ConsolidatedMetadata) -> Result<Value, AllocError>
     ensures { IfOk result (λ v. view v ≡ block_tree block.metadata) }
 {
-    let documents = documents_of(alloc, block.metadata)?;
+    block_with(alloc, documents_of(alloc, block.metadata)?)
+}
+
+// What is written of a block with these documents.
+fn block_with(alloc: Global, documents: Map<String, Value>) -> Result<Value, AllocError>
+    ensures { IfOk result (λ v. view v ≡ block_with (members_view documents.entries)) }
+{
     let mut all = Map::new(alloc);
     put_text(&mut all, alloc, "kind", "inline")?;
     put(&mut all, alloc, "metadata", Value::Object(documents))?;

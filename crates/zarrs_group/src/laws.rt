@@ -5,7 +5,7 @@ ghost use Rattle.zarrs_fault.specs.declared.numbers.Numbers.TheVariants.{Whole};
 ghost use Rattle.zarrs_group.specs.StoredTexts.{StoredTextIsExact, StoredTextIsText};
 ghost use Rattle.zarrs_group.specs.Laws.{Version3Keeps, Version3Stays, Version3Twice, PlainIsStored, PlainIsStoredIn, WholeEditsAreExact, WholeRefusalIsExact, ErasingAllErases, OtherKeysStay, ArraysStay, StoredMeans, StoredMeansIn};
 ghost use Rattle.zarrs_group.specs.GivesBack.{GroupGivesBack, GroupV2GivesBack, StoredGivesBack, StoredGivesBackIn, StoredV2GivesBack};
-ghost use Rattle.zarrs_group.specs.StoredBlocks.{EditKeepsOthers, StoringKeepsOthers, MeansVersion3, ListedBlockOpens, WrittenBlockOpens};
+ghost use Rattle.zarrs_group.specs.StoredBlocks.{FullBlockOpens, EditKeepsOthers, StoringKeepsOthers, MeansVersion3, ListedBlockOpens, WrittenBlockOpens};
 ghost use Rattle.zarrs_group.specs.StoringGroups.{RefusesMetadata};
 
 use crate::stored::edits_to_store;
@@ -193,4 +193,11 @@ pub fn listed_block_opens()
 /// Source: `zarrs::node::Node::open_opt`; Zarr core specification 3.1, "Group metadata"; zarr-python, consolidated metadata of version 2.
 pub fn written_block_opens()
     ensures { WrittenBlockOpens }
+{}
+
+/// The same where the document is that of [`crate::Group::into_block_document`], which holds the listed block in full.
+///
+/// Source: `zarrs::node::Node::open_opt`; Zarr core specification 3.0 and 3.1, "Extension definition"; zarr-python, consolidated metadata.
+pub fn full_block_opens()
+    ensures { FullBlockOpens }
 {}

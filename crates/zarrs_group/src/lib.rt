@@ -9,6 +9,7 @@ mod children;
 mod consolidated;
 mod create_error;
 mod edit;
+mod full_block;
 mod group;
 mod group_value;
 pub mod laws;
