@@ -13,7 +13,7 @@ use Rattle.zarrs_meta.specs.declared.node.GroupMetadata.TheVariants.{V3, V2}
 use Rattle.zarrs_block.specs.Block.{Block, block_of_in, block_tree, documents}
 use Rattle.zarrs_block.specs.Policy.{fields_block}
 use Rattle.zarrs_block.proofs.BlockReads.{block_again_in}
-use Rattle.zarrs_group.specs.FullBlocks.{block_with}
+use Rattle.zarrs_group.specs.FullBlocks.{inline_block}
 use Rattle.zarrs_group.specs.Groups.{GroupState}
 use Rattle.zarrs_group.specs.BlocksOfGroups.{fields_with, metadata_with, beside_with, with_block, held_in, held_by_in, CanHoldIn, MetadataHold}
 
@@ -34,8 +34,8 @@ its_own : is_own (codes "consolidated_metadata" ∷ []) (codes "consolidated_met
 its_own = refl
 
 -- fields hold the block that these documents read as, where it was set
-pub field_reads : (numbers : Numbers) (D : Members) (B : Block) (ms : Members) → block_of_in numbers (block_with D) ≡ Ok B
-    → fields_block numbers (put (codes "consolidated_metadata") (field_data (block_with D) false) ms) ≡ Some B
+pub field_reads : (numbers : Numbers) (D : Members) (B : Block) (ms : Members) → block_of_in numbers (inline_block D) ≡ Ok B
+    → fields_block numbers (put (codes "consolidated_metadata") (field_data (inline_block D) false) ms) ≡ Some B
 field_reads numbers D B ms again = ap (option_and_then (λ d. result_ok (block_of_in numbers d))) (get_member-put (codes "consolidated_metadata") _ ms) ∙ ap result_ok again
 
 -- fields hold the block that was set, in numbers in which it reads back

@@ -18,7 +18,7 @@ use Rattle.zarrs_meta.specs.GroupV3.{group_v3_names, is_plain_group_v3_in}
 use Rattle.zarrs_meta.specs.declared.group_v3.GroupMetadataV3.{GroupMetadataV3}
 use Rattle.zarrs_meta.proofs.GroupV3Laws.{plain_group_v3_in}
 use Rattle.zarrs_block.specs.Block.{Block, block_of_in}
-use Rattle.zarrs_group.specs.FullBlocks.{block_with}
+use Rattle.zarrs_group.specs.FullBlocks.{inline_block}
 use Rattle.zarrs_group.proofs.GivesBack.{step_of}
 
 -- ---- a member that is put
@@ -45,16 +45,16 @@ own-put names k d (member l e ms) one none =
 
 -- ---- the field of a block
 
-module _ (numbers : Numbers) (D : Members) (B : Block) (reads : block_of_in numbers (block_with D) ≡ Ok B) where
+module _ (numbers : Numbers) (D : Members) (B : Block) (reads : block_of_in numbers (inline_block D) ≡ Ok B) where
   -- the numbers of a block of documents that reads in these numbers are among them
-  tree_numbers : fits_in numbers (block_with D) ≡ true
+  tree_numbers : fits_in numbers (inline_block D) ≡ true
   unfolding block_of_in
   tree_numbers =
-      let first = step_of (document_in numbers (block_with D)) _ B reads in
-      document_numbers numbers (block_with D) first.0 (of_ok (IsDocument numbers (block_with D)) (document_in numbers (block_with D)) first.0 (document_fits numbers (block_with D)) first.1)
+      let first = step_of (document_in numbers (inline_block D)) _ B reads in
+      document_numbers numbers (inline_block D) first.0 (of_ok (IsDocument numbers (inline_block D)) (document_in numbers (inline_block D)) first.0 (document_fits numbers (inline_block D)) first.1)
 
   -- so are those of its field
-  field_numbers : fits_in numbers (field_data (block_with D) false) ≡ true
+  field_numbers : fits_in numbers (field_data (inline_block D) false) ≡ true
   field_numbers = fits-put numbers (codes "must_understand") (boolean false) _ (no_fraction numbers) tree_numbers
     where
       no_fraction : (numbers : Numbers) → fits_in numbers (boolean false) ≡ true
@@ -63,12 +63,12 @@ module _ (numbers : Numbers) (D : Members) (B : Block) (reads : block_of_in numb
 
   -- a plain group with the field of the block is plain
   pub plain_with_block : (m : GroupMetadataV3) → IsTrue (is_plain_group_v3_in numbers m)
-      → IsTrue (is_plain_group_v3_in numbers (record { attributes = m.attributes; additional_fields = put (codes "consolidated_metadata") (field_data (block_with D) false) m.additional_fields }))
+      → IsTrue (is_plain_group_v3_in numbers (record { attributes = m.attributes; additional_fields = put (codes "consolidated_metadata") (field_data (inline_block D) false) m.additional_fields }))
   plain_with_block m plain =
       let parts = plain_group_v3_in numbers m plain in
       let name = codes "consolidated_metadata" in
-      let fields = put name (field_data (block_with D) false) m.additional_fields in
+      let fields = put name (field_data (inline_block D) false) m.additional_fields in
       both_true _ _
-      (both_true _ _ (both_true (fits_in numbers (object m.attributes)) (fits_in numbers (object fields)) parts.0 (fits-put numbers name (field_data (block_with D) false) m.additional_fields field_numbers parts.1))
-      (false_not (has_own group_v3_names fields) (own-put group_v3_names name (field_data (block_with D) false) m.additional_fields refl parts.2)))
-      (false_not (is_null (get_member name fields)) (ap is_null (get_member-put name (field_data (block_with D) false) m.additional_fields)))
+      (both_true _ _ (both_true (fits_in numbers (object m.attributes)) (fits_in numbers (object fields)) parts.0 (fits-put numbers name (field_data (inline_block D) false) m.additional_fields field_numbers parts.1))
+      (false_not (has_own group_v3_names fields) (own-put group_v3_names name (field_data (inline_block D) false) m.additional_fields refl parts.2)))
+      (false_not (is_null (get_member name fields)) (ap is_null (get_member-put name (field_data (inline_block D) false) m.additional_fields)))

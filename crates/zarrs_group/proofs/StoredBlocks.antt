@@ -37,7 +37,7 @@ use Rattle.zarrs_group.specs.Edits.{AgreesOutsideKey, Edit, set, after, edit_key
 use Rattle.zarrs_group.specs.Groups.{group_tree, metadata_by_version}
 use Rattle.zarrs_group.specs.Meaning.{MeansGroup, group_v3_line, group_line, group_meaning}
 use Rattle.zarrs_group.specs.BlocksOfGroups.{fields_with, metadata_with}
-use Rattle.zarrs_group.specs.FullBlocks.{block_with}
+use Rattle.zarrs_group.specs.FullBlocks.{inline_block}
 use Rattle.zarrs_group.specs.Laws.{MeansStored}
 use Rattle.zarrs_meta.specs.GroupV3.{group_v3_tree}
 use Rattle.zarrs_group.specs.StoredTexts.{pretty_text}
@@ -161,10 +161,10 @@ module _ (S : Contents) (v : MetadataRetrieveVersion) (p : Path) (m : GroupMetad
 
 -- the metadata of a version 3 group with a block of these documents as its field
 abbrev pub with_field : Members → GroupMetadataV3 → GroupMetadataV3
-with_field D m = record { attributes = m.attributes; additional_fields = put (codes "consolidated_metadata") (field_data (block_with D) false) m.additional_fields }
+with_field D m = record { attributes = m.attributes; additional_fields = put (codes "consolidated_metadata") (field_data (inline_block D) false) m.additional_fields }
 
 -- a version 3 group that a path means, with documents that read as its listed block, opens alike by it and by a listing
-pub opens_with_field : (S : Contents) (v : MetadataRetrieveVersion) (p : Path) (m : GroupMetadataV3) (D : Members) (B : Block) → IsPath p → IsListedBlock S v p B → block_of_in S.numbers (block_with D) ≡ Ok B
+pub opens_with_field : (S : Contents) (v : MetadataRetrieveVersion) (p : Path) (m : GroupMetadataV3) (D : Members) (B : Block) → IsPath p → IsListedBlock S v p B → block_of_in S.numbers (inline_block D) ≡ Ok B
     → meaning S v p ≡ node (Group (V3 (with_field D m))) → OpensAlike S v p (V3 (with_field D m))
 opens_with_field S v p m D B valid listed reads means =
     opens_alike S v p (V3 (with_field D m)) B B valid listed means (field_reads S.numbers D B m.additional_fields reads) (listed_keys S v p B listed) (λ b e. (λ h. h, λ h. h))

@@ -37,7 +37,7 @@ use Rattle.zarrs_meaning.proofs.PlainMeanings.{plain_node_in}
 use Rattle.zarrs_group.specs.BlockDocuments.{IsDocumentText, document_with_block}
 use Rattle.zarrs_group.specs.BlocksBeside.{IsBeside}
 use Rattle.zarrs_group.specs.BlocksOfGroups.{Fits, beside_with, metadata_with}
-use Rattle.zarrs_group.specs.FullBlocks.{block_with, full_documents, metadata_with_full}
+use Rattle.zarrs_group.specs.FullBlocks.{inline_block, full_documents, metadata_with_full}
 use Rattle.zarrs_group.specs.Meaning.{MeansGroup, group_line, group_meaning}
 use Rattle.zarrs_group.specs.StoredBlocks.{FullBlockOpens, OpensAlike, WrittenBlockOpens}
 use Rattle.zarrs_group.proofs.BelowBases.{listed_stays}
@@ -67,7 +67,7 @@ written_means S p m bytes plain read =
 
 -- a version 3 group whose document was written, with documents that read as the listed block, opens alike by it and by a listing
 field_opens : (S : Contents) (v : MetadataRetrieveVersion) (p : Path) (m : GroupMetadataV3) (D : Members) (B : Block) (bytes : List ℕ) → IsPath p → meaning S v p ≡ node (Group (V3 m)) → IsListedBlock S v p B
-    → block_of_in S.numbers (block_with D) ≡ Ok B → IsTextOf bytes (group_v3_tree (with_field D m)) → OpensAlike (with_key S (p ++ zarr_json ∷ []) bytes) v p (V3 (with_field D m))
+    → block_of_in S.numbers (inline_block D) ≡ Ok B → IsTextOf bytes (group_v3_tree (with_field D m)) → OpensAlike (with_key S (p ++ zarr_json ∷ []) bytes) v p (V3 (with_field D m))
 field_opens S v p m D B bytes valid means listed reads text =
     let k : GroupMetadataV3 = with_field D m in
     let T : Contents = with_key S (p ++ zarr_json ∷ []) bytes in

@@ -1,5 +1,5 @@
--- Zarr core specification 3.0 and 3.1, "Extension definition", and zarr-python's field `consolidated_metadata`: the full
--- form of a block, which readers of either version of the specification take.
+-- Zarr core specification 3.0 and 3.1, "Extension definition", and zarr-python's field `consolidated_metadata`: the
+-- full form of a block, which readers of either version of the specification take.
 -- <https://zarr-specs.readthedocs.io/en/latest/v3/core/index.html#extension-definition>
 -- <https://zarr.readthedocs.io/en/stable/user-guide/consolidated_metadata/>
 --     full_extension m      what is written of an extension, as an object also where its name says it all
@@ -61,14 +61,14 @@ full_documents [] = no_members
 full_documents (e ∷ B) = member e.0 (full_node e.1) (full_documents B)
 
 -- a block with these documents is written as an object with `kind`, `metadata` and `must_understand`
-abbrev pub block_with : Members → Data
-block_with documents =
+abbrev pub inline_block : Members → Data
+inline_block documents =
     object (member (codes "kind") (string (codes "inline")) (member (codes "metadata") (object documents)
     (member (codes "must_understand") (boolean false) no_members)))
 
 -- what is written of a block
 abbrev pub full_block_tree : Block → Data
-full_block_tree B = block_with (full_documents B)
+full_block_tree B = inline_block (full_documents B)
 
 -- ---- a block set
 

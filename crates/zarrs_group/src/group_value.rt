@@ -9,7 +9,7 @@ ghost use Rattle.zarrs_meta.specs.Node.{node_tree};
 ghost use Rattle.zarrs_meta.specs.declared.node.GroupMetadata.TheVariants.{V3};
 ghost use Rattle.zarrs_block.specs.Block.{block_tree, documents};
 ghost use Rattle.zarrs_block.specs.Policy.{as_block};
-ghost use Rattle.zarrs_group.specs.FullBlocks.{block_with, fields_with_full, metadata_with_full};
+ghost use Rattle.zarrs_group.specs.FullBlocks.{inline_block, fields_with_full, metadata_with_full};
 ghost use Rattle.zarrs_group.specs.Groups.{group_tree};
 
 use crate::consolidated::{put_block, remove_block};
@@ -80,7 +80,7 @@ fn members_with_block(
     put_block(&mut fields, alloc, null)?;
     let mut members = fields.to_members(alloc)?;
     let documents = full_documents(alloc, block.metadata)?;
-    let tree = block_with(alloc, documents)?;
+    let tree = inline_block(alloc, documents)?;
     let value = AdditionalFieldV3::new(alloc, tree, false)?.into_value();
     put(&mut members, alloc, "consolidated_metadata", value)?;
     Ok(members)
@@ -106,12 +106,12 @@ pub(crate) fn field_of(
 fn block_value(alloc: Global, block: ConsolidatedMetadata) -> Result<Value, AllocError>
     ensures { IfOk result (λ v. view v ≡ block_tree block.metadata) }
 {
-    block_with(alloc, documents_of(alloc, block.metadata)?)
+    inline_block(alloc, documents_of(alloc, block.metadata)?)
 }
 
 // What is written of a block with these documents.
-fn block_with(alloc: Global, documents: Map<String, Value>) -> Result<Value, AllocError>
-    ensures { IfOk result (λ v. view v ≡ block_with (members_view documents.entries)) }
+fn inline_block(alloc: Global, documents: Map<String, Value>) -> Result<Value, AllocError>
+    ensures { IfOk result (λ v. view v ≡ inline_block (members_view documents.entries)) }
 {
     let mut all = Map::new(alloc);
     put_text(&mut all, alloc, "kind", "inline")?;
