@@ -119,11 +119,15 @@ abbrev pub documents : Block → Members
 documents [] = no_members
 documents (e ∷ B) = member e.0 (node_tree e.1) (documents B)
 
--- a block is written as an object with `kind`, `metadata` and `must_understand`
-abbrev pub block_tree : Block → Data
-block_tree B =
-    object (member (codes "kind") (string (codes "inline")) (member (codes "metadata") (object (documents B))
+-- a block with these documents is written as an object with `kind`, `metadata` and `must_understand`
+abbrev pub inline_block : Members → Data
+inline_block ms =
+    object (member (codes "kind") (string (codes "inline")) (member (codes "metadata") (object ms)
     (member (codes "must_understand") (boolean false) no_members)))
+
+-- what is written of a block
+abbrev pub block_tree : Block → Data
+block_tree B = inline_block (documents B)
 
 -- each node of the block could have come from a document that may hold these numbers
 abbrev pub HasPlainNodesIn : Numbers → Block → Type 0

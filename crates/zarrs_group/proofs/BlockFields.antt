@@ -10,10 +10,9 @@ use Rattle.zarrs_form.proofs.MemberLaws.{get-others}
 use Rattle.zarrs_meta.specs.declared.group_v3.GroupMetadataV3.{GroupMetadataV3}
 use Rattle.zarrs_meta.specs.declared.node.GroupMetadata.{GroupMetadata}
 use Rattle.zarrs_meta.specs.declared.node.GroupMetadata.TheVariants.{V3, V2}
-use Rattle.zarrs_block.specs.Block.{Block, block_of_in, block_tree, documents}
+use Rattle.zarrs_block.specs.Block.{Block, block_of_in, block_tree, documents, inline_block}
 use Rattle.zarrs_block.specs.Policy.{fields_block}
 use Rattle.zarrs_block.proofs.BlockReads.{block_again_in}
-use Rattle.zarrs_group.specs.FullBlocks.{inline_block}
 use Rattle.zarrs_group.specs.Groups.{GroupState}
 use Rattle.zarrs_group.specs.BlocksOfGroups.{fields_with, metadata_with, beside_with, with_block, held_in, held_by_in, CanHoldIn, MetadataHold}
 

@@ -1,25 +1,26 @@
 -- What is written of a block in full reads as that block.
-use Rattle.std.proofs.Common.{◌≡◌, ℕ, List, [], ◌∷◌, Bool, true, false, not, Option, Some, None, Ok, IsTrue, codes, option_map, refl, ap, ◌∙◌}
+use Rattle.std.proofs.Common.{◌≡◌, ℕ, List, [], ◌∷◌, Bool, true, false, Option, Some, None, Ok, IsTrue, codes, refl, ap, ◌∙◌}
 use Rattle.std.proofs.lemmas.List.Elements.{All-head, All-tail}
 use Rattle.std.specs.List.{list_all}
-use Rattle.serde_json.specs.Data.{Data, number, string, object, unsigned, Members, no_members}
+use Rattle.serde_json.specs.Data.{number, string, object, unsigned, Members, no_members}
 use Rattle.serde_json.specs.Find.{get_member, as_object, as_str}
 use Rattle.serde_json.specs.Written.{has_float, members_have_float}
 use Rattle.zarrs_fault.specs.declared.numbers.Numbers.{Numbers}
 use Rattle.zarrs_fault.specs.declared.numbers.Numbers.TheVariants.{Whole, Any}
-use Rattle.zarrs_form.specs.Documents.{is_own, besides, document_in, has_own, is_empty, optional_found, required_member, optional_member, format_of, node_type_of}
-use Rattle.zarrs_form.specs.Forms.{number_u64, any, nullable, list_of, extension, number_data, list_data, nullable_data, extension_data, extension_fits_in, fits_in, unless, is_nil, put_rows}
+use Rattle.zarrs_form.specs.Documents.{besides, document_in, has_own, optional_found, required_member, optional_member, format_of, node_type_of}
+use Rattle.zarrs_form.specs.Forms.{number_u64, any, nullable, list_of, extension, list_data, extension_data, extension_fits_in, fits_in, unless, is_nil, put_rows}
 use Rattle.zarrs_form.specs.declared.extension.MetadataV3.{MetadataV3}
-use Rattle.zarrs_form.proofs.AttributeLaws.{not_true, attributes_again}
+use Rattle.zarrs_form.proofs.AttributeLaws.{not_true}
 use Rattle.zarrs_form.proofs.MemberLaws.{besides-others, get-others}
-use Rattle.zarrs_form.proofs.RowLaws.{or_rest, found, get-put_rows, besides-put_rows, no_float-put_rows, list_again, list_no_float, has_no_float, both, ◌◂◌, number_again}
+use Rattle.zarrs_form.proofs.RowLaws.{or_rest, found, get-put_rows, besides-put_rows, no_float-put_rows, list_again, list_no_float, has_no_float, ◌◂◌}
 use Rattle.zarrs_meta.specs.ArrayV3.{array_v3_in, array_v3_names, array_v3_rows, is_plain_array_v3_in}
 use Rattle.zarrs_meta.specs.Node.{node_in, is_plain_node_in}
 use Rattle.zarrs_meta.specs.declared.array_v3.ArrayMetadataV3.{ArrayMetadataV3}
 use Rattle.zarrs_meta.specs.declared.node.ArrayMetadata.TheVariants.{V3 as array_v3, V2 as array_v2}
 use Rattle.zarrs_meta.specs.declared.node.NodeMetadata.{NodeMetadata}
 use Rattle.zarrs_meta.specs.declared.node.NodeMetadata.TheVariants.{Group, Array}
-use Rattle.zarrs_meta.proofs.ArrayV3Laws.{array_v3_no_float, extension_again, plain_parts}
+use Rattle.zarrs_meta.proofs.ArrayV3Laws.{array_v3_no_float, plain_parts}
+use Rattle.zarrs_meta.proofs.ArrayV3Laws as written
 use Rattle.zarrs_meta.proofs.NodeLaws.{node_again_in, node_no_float}
 use Rattle.zarrs_block.specs.Block.{Block, HasPlainNodesIn, block_of_in, nodes_in}
 use Rattle.zarrs_block.proofs.NumbersWithin.{asked_document}
@@ -51,11 +52,6 @@ no_float_by name (Some ms) false e = rw (not_true (members_have_float ms) e) ref
 full_no_float : (m : MetadataV3) → extension_fits_in Whole m ≡ true → has_float (full_extension m) ≡ false
 full_no_float m = no_float_by m.name m.configuration m.must_understand
 
--- the name of a dimension, or null, reads again
-name_again : (o : Option (List ℕ)) → nullable as_str (nullable_data string o) ≡ Some o
-name_again None = refl
-name_again (Some s) = refl
-
 -- ---- members that may be absent
 
 -- storage transformers that were written in full, in the place of those of the document, read again, and those that were not written read as none
@@ -63,11 +59,6 @@ transformers_again : (xs : List MetadataV3)
     → optional_found (codes "storage_transformers") [] (list_of extension) (or_rest (unless (is_nil xs) (list_data full_extension xs)) (or_rest (unless (is_nil xs) (list_data extension_data xs)) None)) ≡ Ok xs
 transformers_again [] = refl
 transformers_again (x ∷ xs) = rw (full_again x, list_again extension full_extension full_again xs) refl
-
--- dimension names that were written read again, and those that were not written read as absent
-names_again : (o : Option (List (Option (List ℕ)))) → optional_found (codes "dimension_names") None (nullable (list_of (nullable as_str))) (or_rest (option_map (list_data (nullable_data string)) o) None) ≡ Ok o
-names_again None = refl
-names_again (Some names) = rw (list_again (nullable as_str) (nullable_data string) name_again names) refl
 
 -- storage transformers whose numbers fit are written with numbers that fit
 transformers_no_float : (xs : List MetadataV3) → list_all (extension_fits_in Whole) xs ≡ true → has_no_float (unless (is_nil xs) (list_data full_extension xs))
@@ -85,29 +76,25 @@ module _ (m : ArrayMetadataV3) (no_own : has_own array_v3_names m.additional_fie
   abbrev whole : Members
   whole = put_rows (full_rows m) document
 
-  -- what stands at a name: what its full row says, else what its row says, else what the additional fields have
-  at : (k : List ℕ) → get_member k whole ≡ found k (full_rows m) (found k (array_v3_rows m) (get_member k m.additional_fields))
-  at k = get-put_rows k (full_rows m) document ∙ ap (found k (full_rows m)) (get-put_rows k (array_v3_rows m) m.additional_fields)
+  -- what stands at a name: what its full row says, else what the document has
+  at : (k : List ℕ) → get_member k whole ≡ found k (full_rows m) (get_member k document)
+  at k = get-put_rows k (full_rows m) document
 
-  -- no additional field has an own name
-  none_at : (k : List ℕ) → is_own array_v3_names k ≡ true → get_member k m.additional_fields ≡ None
-  none_at k own = get-others array_v3_names k m.additional_fields own no_own
-
-  -- the format is found
+  -- the format is that of the document
   has_format : get_member (codes "zarr_format") whole ≡ Some (number (unsigned 3))
-  has_format = at (codes "zarr_format")
+  has_format = at (codes "zarr_format") ∙ written.has_format m no_own
 
-  -- the kind of node is found
+  -- the kind of node is that of the document
   has_kind : get_member (codes "node_type") whole ≡ Some (string (codes "array"))
-  has_kind = at (codes "node_type")
+  has_kind = at (codes "node_type") ∙ written.has_kind m no_own
 
-  -- the shape reads again
+  -- the shape is that of the document
   shape : required_member (codes "shape") (list_of number_u64) (object whole) ≡ Ok m.shape
-  shape = let here : get_member (codes "shape") whole ≡ Some (list_data number_data m.shape) = at (codes "shape") in rw (here, list_again number_u64 number_data number_again m.shape) refl
+  shape = let here : get_member (codes "shape") whole ≡ get_member (codes "shape") document = at (codes "shape") in rw here (written.shape m no_own)
 
-  -- the data type reads again
+  -- the data type is that of the document
   data_type : required_member (codes "data_type") extension (object whole) ≡ Ok m.data_type
-  data_type = let here : get_member (codes "data_type") whole ≡ Some (extension_data m.data_type) = at (codes "data_type") in rw (here, extension_again m.data_type) refl
+  data_type = let here : get_member (codes "data_type") whole ≡ get_member (codes "data_type") document = at (codes "data_type") in rw here (written.data_type m no_own)
 
   -- the chunk grid reads again
   chunk_grid : required_member (codes "chunk_grid") extension (object whole) ≡ Ok m.chunk_grid
@@ -119,9 +106,9 @@ module _ (m : ArrayMetadataV3) (no_own : has_own array_v3_names m.additional_fie
       let here : get_member (codes "chunk_key_encoding") whole ≡ Some (full_extension m.chunk_key_encoding) = at (codes "chunk_key_encoding") in
       rw (here, full_again m.chunk_key_encoding) refl
 
-  -- the fill value reads again
+  -- the fill value is that of the document
   fill_value : required_member (codes "fill_value") any (object whole) ≡ Ok m.fill_value
-  fill_value = let here : get_member (codes "fill_value") whole ≡ Some m.fill_value = at (codes "fill_value") in rw here refl
+  fill_value = let here : get_member (codes "fill_value") whole ≡ get_member (codes "fill_value") document = at (codes "fill_value") in rw here (written.fill_value m no_own)
 
   -- the codecs read again
   codecs : required_member (codes "codecs") (list_of extension) (object whole) ≡ Ok m.codecs
@@ -129,24 +116,22 @@ module _ (m : ArrayMetadataV3) (no_own : has_own array_v3_names m.additional_fie
       let here : get_member (codes "codecs") whole ≡ Some (list_data full_extension m.codecs) = at (codes "codecs") in
       rw (here, list_again extension full_extension full_again m.codecs) refl
 
-  -- the attributes read again
+  -- the attributes are those of the document
   attributes : optional_member (codes "attributes") no_members as_object (object whole) ≡ Ok m.attributes
-  attributes = ap (optional_found (codes "attributes") no_members as_object) (at (codes "attributes") ∙ ap (or_rest (unless (is_empty m.attributes) (object m.attributes))) (none_at (codes "attributes") refl))
-      ∙ attributes_again m.attributes
+  attributes = ap (optional_found (codes "attributes") no_members as_object) (at (codes "attributes")) ∙ written.attributes m no_own
 
   -- the storage transformers read again
   transformers : optional_member (codes "storage_transformers") [] (list_of extension) (object whole) ≡ Ok m.storage_transformers
   transformers = ap (optional_found (codes "storage_transformers") [] (list_of extension))
       (at (codes "storage_transformers")
-      ∙ ap (λ o. or_rest (unless (is_nil m.storage_transformers) (list_data full_extension m.storage_transformers)) (or_rest (unless (is_nil m.storage_transformers) (list_data extension_data m.storage_transformers)) o))
-      (none_at (codes "storage_transformers") refl))
+      ∙ ap (or_rest (unless (is_nil m.storage_transformers) (list_data full_extension m.storage_transformers)))
+      (get-put_rows (codes "storage_transformers") (array_v3_rows m) m.additional_fields
+      ∙ ap (or_rest (unless (is_nil m.storage_transformers) (list_data extension_data m.storage_transformers))) (get-others array_v3_names (codes "storage_transformers") m.additional_fields refl no_own)))
       ∙ transformers_again m.storage_transformers
 
-  -- the dimension names read again
+  -- the dimension names are those of the document
   names : optional_member (codes "dimension_names") None (nullable (list_of (nullable as_str))) (object whole) ≡ Ok m.dimension_names
-  names = ap (optional_found (codes "dimension_names") None (nullable (list_of (nullable as_str))))
-      (at (codes "dimension_names") ∙ ap (or_rest (option_map (list_data (nullable_data string)) m.dimension_names)) (none_at (codes "dimension_names") refl))
-      ∙ names_again m.dimension_names
+  names = ap (optional_found (codes "dimension_names") None (nullable (list_of (nullable as_str)))) (at (codes "dimension_names")) ∙ written.names m no_own
 
   -- the members with no own name are the additional fields
   others : besides array_v3_names whole ≡ m.additional_fields
@@ -175,13 +160,9 @@ is_document : (numbers : Numbers) (m : ArrayMetadataV3) → IsTrue (is_plain_arr
 is_document Whole m plain = rw (array_no_float m plain) refl
 is_document Any m plain = refl
 
--- no field of a plain array has an own name
-plain_own : (numbers : Numbers) (m : ArrayMetadataV3) → IsTrue (is_plain_array_v3_in numbers m) → has_own array_v3_names m.additional_fields ≡ false
-plain_own numbers m plain = not_true (has_own array_v3_names m.additional_fields) (both _ (not (has_own array_v3_names m.additional_fields)) plain).1
-
 -- an array that is plain in these numbers and was written in full reads as that array in them
 array_again_in : (numbers : Numbers) (m : ArrayMetadataV3) → IsTrue (is_plain_array_v3_in numbers m) → array_v3_in numbers (full_array m) ≡ Ok m
-array_again_in numbers m plain = array_again_where m (plain_own numbers m plain) numbers (is_document numbers m plain)
+array_again_in numbers m plain = array_again_where m (written.plain_own numbers m plain) numbers (is_document numbers m plain)
 
 -- ---- a node
 
@@ -195,7 +176,7 @@ full_node_no_float (Group m) plain = node_no_float (Group m) plain
 full_node_again : (numbers : Numbers) (m : NodeMetadata) → IsTrue (is_plain_node_in numbers m) → node_in numbers (full_node m) ≡ Ok m
 unfolding node_in format_of node_type_of
 full_node_again numbers (Array (array_v3 m)) plain =
-    rw (is_document numbers m plain, has_format m (plain_own numbers m plain), has_kind m (plain_own numbers m plain), array_again_in numbers m plain) refl
+    rw (is_document numbers m plain, has_format m (written.plain_own numbers m plain), has_kind m (written.plain_own numbers m plain), array_again_in numbers m plain) refl
 full_node_again numbers (Array (array_v2 m)) plain = node_again_in numbers (Array (array_v2 m)) plain
 full_node_again numbers (Group m) plain = node_again_in numbers (Group m) plain
 

@@ -17,8 +17,7 @@ use Rattle.zarrs_form.proofs.PlainForms.{both_true, false_not, of_ok, IsDocument
 use Rattle.zarrs_meta.specs.GroupV3.{group_v3_names, is_plain_group_v3_in}
 use Rattle.zarrs_meta.specs.declared.group_v3.GroupMetadataV3.{GroupMetadataV3}
 use Rattle.zarrs_meta.proofs.GroupV3Laws.{plain_group_v3_in}
-use Rattle.zarrs_block.specs.Block.{Block, block_of_in}
-use Rattle.zarrs_group.specs.FullBlocks.{inline_block}
+use Rattle.zarrs_block.specs.Block.{Block, block_of_in, inline_block}
 use Rattle.zarrs_group.proofs.GivesBack.{step_of}
 
 -- ---- a member that is put

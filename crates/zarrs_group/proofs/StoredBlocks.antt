@@ -18,7 +18,7 @@ use Rattle.zarrs_meta.specs.declared.node.GroupMetadata.{GroupMetadata}
 use Rattle.zarrs_meta.specs.declared.node.GroupMetadata.TheVariants.{V3}
 use Rattle.zarrs_meta.specs.declared.node.NodeMetadata.TheVariants.{Group}
 use Rattle.zarrs_form.specs.Fields.{field_data}
-use Rattle.zarrs_block.specs.Block.{Block, Entries, HasValidKeys, block_of_in, documents}
+use Rattle.zarrs_block.specs.Block.{Block, Entries, HasValidKeys, block_of_in, documents, inline_block}
 use Rattle.zarrs_meaning.specs.Meaning.{meaning, node, nothing}
 use Rattle.zarrs_block.specs.Policy.{use_block, list_store, group_block, block_to_use}
 use Rattle.zarrs_block.specs.Zmetadata.{HaveSameEntries}
@@ -28,7 +28,7 @@ use Rattle.zarrs_node.specs.Forest.{Forest, pairs, Shows}
 use Rattle.zarrs_node.specs.Nodes.{ShowsBad}
 use Rattle.zarrs_node.specs.Reach.{Kept}
 use Rattle.zarrs_node.specs.ListedBlocks.{IsListedBlock}
-use Rattle.zarrs_node.specs.OpeningNodes.{choice, RefusesChosen, ShowsBelow, ShowsChosen}
+use Rattle.zarrs_node.specs.OpeningNodes.{choice, RefusesChosen, ShowsChosen}
 use Rattle.zarrs_node.specs.OpeningNodes as opened
 use Rattle.zarrs_node.proofs.KeptPairs.{kept_same}
 use Rattle.zarrs_node.proofs.blocks.ListedBlocks.{listed_keys, shown_alike}
@@ -37,7 +37,6 @@ use Rattle.zarrs_group.specs.Edits.{AgreesOutsideKey, Edit, set, after, edit_key
 use Rattle.zarrs_group.specs.Groups.{group_tree, metadata_by_version}
 use Rattle.zarrs_group.specs.Meaning.{MeansGroup, group_v3_line, group_line, group_meaning}
 use Rattle.zarrs_group.specs.BlocksOfGroups.{fields_with, metadata_with}
-use Rattle.zarrs_group.specs.FullBlocks.{inline_block}
 use Rattle.zarrs_group.specs.Laws.{MeansStored}
 use Rattle.zarrs_meta.specs.GroupV3.{group_v3_tree}
 use Rattle.zarrs_group.specs.StoredTexts.{pretty_text}

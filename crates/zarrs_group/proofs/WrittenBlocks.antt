@@ -22,7 +22,7 @@ use Rattle.zarrs_meta.specs.declared.node.GroupMetadata.{GroupMetadata}
 use Rattle.zarrs_meta.specs.declared.node.GroupMetadata.TheVariants.{V3, V2}
 use Rattle.zarrs_meta.specs.declared.node.NodeMetadata.TheVariants.{Group}
 use Rattle.zarrs_meta.proofs.GroupV3Laws.{group_v3_again_in}
-use Rattle.zarrs_block.specs.Block.{Block, HasValidKeys, block_of_in, documents}
+use Rattle.zarrs_block.specs.Block.{Block, HasValidKeys, block_of_in, documents, inline_block}
 use Rattle.zarrs_meaning.specs.DocumentsAtKeys.{in_bytes, document_at}
 use Rattle.zarrs_meaning.specs.Meaning.{meaning, node}
 use Rattle.zarrs_block.specs.Zmetadata.{zmetadata_tree, HasPlainEntriesIn}
@@ -37,7 +37,7 @@ use Rattle.zarrs_meaning.proofs.PlainMeanings.{plain_node_in}
 use Rattle.zarrs_group.specs.BlockDocuments.{IsDocumentText, document_with_block}
 use Rattle.zarrs_group.specs.BlocksBeside.{IsBeside}
 use Rattle.zarrs_group.specs.BlocksOfGroups.{Fits, beside_with, metadata_with}
-use Rattle.zarrs_group.specs.FullBlocks.{inline_block, full_documents, metadata_with_full}
+use Rattle.zarrs_group.specs.FullBlocks.{full_documents, metadata_with_full}
 use Rattle.zarrs_group.specs.Meaning.{MeansGroup, group_line, group_meaning}
 use Rattle.zarrs_group.specs.StoredBlocks.{FullBlockOpens, OpensAlike, WrittenBlockOpens}
 use Rattle.zarrs_group.proofs.BelowBases.{listed_stays}

@@ -7,8 +7,8 @@
 --     with_block g block      the group with a block or without one, all else as it was
 --     Fits m block, RefusesBlock m block e      that a group of these metadata takes a block; what refuses it
 --     CanHoldIn numbers g block      a block that the group holds in these numbers once it is set
-use Rattle.std.specs.Prelude.{◌≡◌, false, [], ◌∷◌, Option, Some, None, codes}
-use Rattle.serde_json.specs.Data.{Members, put}
+use Rattle.std.specs.Prelude.{◌≡◌, false, [], ◌∷◌, Option, Some, None, codes, option_map}
+use Rattle.serde_json.specs.Data.{Data, Members, put}
 use Rattle.zarrs_fault.specs.declared.numbers.Numbers.{Numbers}
 use Rattle.zarrs_store.specs.Contents.{Contents}
 use Rattle.zarrs_path.specs.Paths.{Path}
@@ -43,20 +43,27 @@ block_beside s p (V2 m) = zmetadata_at s p
 
 -- ---- a block set
 
--- the additional fields with the written form of a block as the field `consolidated_metadata`, which need not be
--- understood; or without that field
-abbrev pub fields_with : Option Block → Members → Members
-fields_with (Some B) ms = put (codes "consolidated_metadata") (field_data (block_tree B) false) ms
-fields_with None ms = besides (codes "consolidated_metadata" ∷ []) ms
+-- the additional fields with this as the field `consolidated_metadata`, which need not be understood; or without that
+-- field
+abbrev pub fields_with_tree : Option Data → Members → Members
+fields_with_tree (Some d) ms = put (codes "consolidated_metadata") (field_data d false) ms
+fields_with_tree None ms = besides (codes "consolidated_metadata" ∷ []) ms
 
--- the metadata with a block or without one: those of version 3 in their additional fields, those of version 2 stay as
--- they are
-abbrev pub metadata_with : Option Block → GroupMetadata → GroupMetadata
-metadata_with block (V3 m) = V3 (record {
+-- the additional fields with what is written of a block, or without one
+abbrev pub fields_with : Option Block → Members → Members
+fields_with block = fields_with_tree (option_map block_tree block)
+
+-- the metadata where a block is set by this change of the additional fields: those of version 2 stay as they are
+abbrev pub metadata_with_fields : (Members → Members) → GroupMetadata → GroupMetadata
+metadata_with_fields change (V3 m) = V3 (record {
   attributes = m.attributes;
-  additional_fields = fields_with block m.additional_fields;
+  additional_fields = change m.additional_fields;
 })
-metadata_with block (V2 m) = V2 m
+metadata_with_fields change (V2 m) = V2 m
+
+-- the metadata with a block or without one
+abbrev pub metadata_with : Option Block → GroupMetadata → GroupMetadata
+metadata_with block = metadata_with_fields (fields_with block)
 
 -- what is beside the metadata once a block was set: the block beside those of version 2, and beside those of version
 -- 3 what was there
@@ -64,15 +71,19 @@ abbrev pub beside_with : Option Block → GroupMetadata → Option Block → Opt
 beside_with block (V3 m) old = old
 beside_with block (V2 m) old = block
 
--- the group with a block or without one, and all else as it was
-abbrev pub with_block : GroupState → Option Block → GroupState
-with_block g block = record {
+-- the group with these metadata, and with a block or without one beside those of version 2, and all else as it was
+abbrev pub group_with_metadata : GroupMetadata → GroupState → Option Block → GroupState
+group_with_metadata m g block = record {
   path = g.path;
-  metadata = metadata_with block g.metadata;
+  metadata = m;
   block = beside_with block g.metadata g.block;
   convert_version = g.convert_version;
   erase_version = g.erase_version;
 }
+
+-- the group with a block or without one, and all else as it was
+abbrev pub with_block : GroupState → Option Block → GroupState
+with_block g block = group_with_metadata (metadata_with block g.metadata) g block
 
 -- a group of these metadata takes the block: one of version 2 takes a block that can stand beside its metadata, one
 -- of version 3 any

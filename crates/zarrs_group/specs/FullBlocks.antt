@@ -6,9 +6,8 @@
 --     full_node m      what is written of a node: of a version 3 array each extension but the data type as an object
 --     full_block_tree B      what is written of a block, each node in this form
 --     with_full_block g block      the group with a block in this form, or without one, all else as it was
-use Rattle.std.specs.Prelude.{ℕ, false, List, [], ◌∷◌, Option, Some, None, codes}
-use Rattle.serde_json.specs.Data.{Data, boolean, string, object, Members, no_members, member, put}
-use Rattle.zarrs_form.specs.Fields.{field_data}
+use Rattle.std.specs.Prelude.{ℕ, List, [], ◌∷◌, Option, Some, codes, option_map}
+use Rattle.serde_json.specs.Data.{Data, string, object, Members, no_members, member}
 use Rattle.zarrs_form.specs.Forms.{extension_data, is_nil, list_data, put_rows, unless}
 use Rattle.zarrs_form.specs.declared.extension.MetadataV3.{MetadataV3}
 use Rattle.zarrs_meta.specs.ArrayV3.{array_v3_rows}
@@ -16,11 +15,10 @@ use Rattle.zarrs_meta.specs.Node.{node_tree}
 use Rattle.zarrs_meta.specs.declared.array_v3.ArrayMetadataV3.{ArrayMetadataV3}
 use Rattle.zarrs_meta.specs.declared.node.ArrayMetadata.TheVariants.{V3 as array_v3, V2 as array_v2}
 use Rattle.zarrs_meta.specs.declared.node.GroupMetadata.{GroupMetadata}
-use Rattle.zarrs_meta.specs.declared.node.GroupMetadata.TheVariants.{V3, V2}
 use Rattle.zarrs_meta.specs.declared.node.NodeMetadata.{NodeMetadata}
 use Rattle.zarrs_meta.specs.declared.node.NodeMetadata.TheVariants.{Group, Array}
-use Rattle.zarrs_block.specs.Block.{Block}
-use Rattle.zarrs_group.specs.BlocksOfGroups.{beside_with, fields_with}
+use Rattle.zarrs_block.specs.Block.{Block, inline_block}
+use Rattle.zarrs_group.specs.BlocksOfGroups.{fields_with_tree, metadata_with_fields, group_with_metadata}
 use Rattle.zarrs_group.specs.Groups.{GroupState}
 
 -- a bare name as an object with that name, and anything else as it is
@@ -49,7 +47,7 @@ full_rows m =
 abbrev pub full_array : ArrayMetadataV3 → Data
 full_array m = object (put_rows (full_rows m) (put_rows (array_v3_rows m) m.additional_fields))
 
--- what is written of a node: but of a version 3 array its document
+-- what is written of a node: its document, but for those members of a version 3 array
 abbrev pub full_node : NodeMetadata → Data
 full_node (Array (array_v3 m)) = full_array m
 full_node (Array (array_v2 m)) = node_tree (Array (array_v2 m))
@@ -60,39 +58,20 @@ abbrev pub full_documents : Block → Members
 full_documents [] = no_members
 full_documents (e ∷ B) = member e.0 (full_node e.1) (full_documents B)
 
--- a block with these documents is written as an object with `kind`, `metadata` and `must_understand`
-abbrev pub inline_block : Members → Data
-inline_block documents =
-    object (member (codes "kind") (string (codes "inline")) (member (codes "metadata") (object documents)
-    (member (codes "must_understand") (boolean false) no_members)))
-
 -- what is written of a block
 abbrev pub full_block_tree : Block → Data
 full_block_tree B = inline_block (full_documents B)
 
 -- ---- a block set
 
--- the additional fields with a block as the field `consolidated_metadata`, which need not be understood; or without
--- that field
+-- the additional fields with a block in this form, or without one
 abbrev pub fields_with_full : Option Block → Members → Members
-fields_with_full (Some B) ms = put (codes "consolidated_metadata") (field_data (full_block_tree B) false) ms
-fields_with_full None ms = fields_with None ms
+fields_with_full block = fields_with_tree (option_map full_block_tree block)
 
--- the metadata with a block or without one: those of version 3 in their additional fields, those of version 2 stay as
--- they are
+-- the metadata with a block in this form, or without one
 abbrev pub metadata_with_full : Option Block → GroupMetadata → GroupMetadata
-metadata_with_full block (V3 m) = V3 (record {
-  attributes = m.attributes;
-  additional_fields = fields_with_full block m.additional_fields;
-})
-metadata_with_full block (V2 m) = V2 m
+metadata_with_full block = metadata_with_fields (fields_with_full block)
 
--- the group with a block or without one, and all else as it was
+-- the group with a block in this form or without one, and all else as it was
 abbrev pub with_full_block : GroupState → Option Block → GroupState
-with_full_block g block = record {
-  path = g.path;
-  metadata = metadata_with_full block g.metadata;
-  block = beside_with block g.metadata g.block;
-  convert_version = g.convert_version;
-  erase_version = g.erase_version;
-}
+with_full_block g block = group_with_metadata (metadata_with_full block g.metadata) g block

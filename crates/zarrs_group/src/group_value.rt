@@ -7,9 +7,9 @@ ghost use Rattle.zarrs_form.specs.Fields.{field_data};
 ghost use Rattle.zarrs_form.specs.Forms.{put_row, unless};
 ghost use Rattle.zarrs_meta.specs.Node.{node_tree};
 ghost use Rattle.zarrs_meta.specs.declared.node.GroupMetadata.TheVariants.{V3};
-ghost use Rattle.zarrs_block.specs.Block.{block_tree, documents};
+ghost use Rattle.zarrs_block.specs.Block.{block_tree, documents, inline_block};
 ghost use Rattle.zarrs_block.specs.Policy.{as_block};
-ghost use Rattle.zarrs_group.specs.FullBlocks.{inline_block, fields_with_full, metadata_with_full};
+ghost use Rattle.zarrs_group.specs.FullBlocks.{fields_with_full, metadata_with_full};
 ghost use Rattle.zarrs_group.specs.Groups.{group_tree};
 
 use crate::consolidated::{put_block, remove_block};

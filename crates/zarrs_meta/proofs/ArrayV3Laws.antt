@@ -101,11 +101,11 @@ module _ (m : ArrayMetadataV3) (no_own : has_own array_v3_names m.additional_fie
   has_kind = at (codes "node_type")
 
   -- the shape reads again
-  shape : required_member (codes "shape") (list_of number_u64) (object whole) ≡ Ok m.shape
+  pub shape : required_member (codes "shape") (list_of number_u64) (object whole) ≡ Ok m.shape
   shape = let here : get_member (codes "shape") whole ≡ Some (list_data number_data m.shape) = at (codes "shape") in rw (here, list_again number_u64 number_data number_again m.shape) refl
 
   -- the data type reads again
-  data_type : required_member (codes "data_type") extension (object whole) ≡ Ok m.data_type
+  pub data_type : required_member (codes "data_type") extension (object whole) ≡ Ok m.data_type
   data_type = let here : get_member (codes "data_type") whole ≡ Some (extension_data m.data_type) = at (codes "data_type") in rw (here, extension_again m.data_type) refl
 
   -- the chunk grid reads again
@@ -119,7 +119,7 @@ module _ (m : ArrayMetadataV3) (no_own : has_own array_v3_names m.additional_fie
       rw (here, extension_again m.chunk_key_encoding) refl
 
   -- the fill value reads again
-  fill_value : required_member (codes "fill_value") any (object whole) ≡ Ok m.fill_value
+  pub fill_value : required_member (codes "fill_value") any (object whole) ≡ Ok m.fill_value
   fill_value = let here : get_member (codes "fill_value") whole ≡ Some m.fill_value = at (codes "fill_value") in rw here refl
 
   -- the codecs read again
@@ -129,7 +129,7 @@ module _ (m : ArrayMetadataV3) (no_own : has_own array_v3_names m.additional_fie
       rw (here, list_again extension extension_data extension_again m.codecs) refl
 
   -- the attributes read again
-  attributes : optional_member (codes "attributes") no_members as_object (object whole) ≡ Ok m.attributes
+  pub attributes : optional_member (codes "attributes") no_members as_object (object whole) ≡ Ok m.attributes
   attributes = ap (optional_found (codes "attributes") no_members as_object) (at (codes "attributes") ∙ ap (or_rest (unless (is_empty m.attributes) (object m.attributes))) (none_at (codes "attributes") refl))
       ∙ attributes_again m.attributes
 
@@ -140,7 +140,7 @@ module _ (m : ArrayMetadataV3) (no_own : has_own array_v3_names m.additional_fie
       ∙ transformers_again m.storage_transformers
 
   -- the dimension names read again
-  names : optional_member (codes "dimension_names") None (nullable (list_of (nullable as_str))) (object whole) ≡ Ok m.dimension_names
+  pub names : optional_member (codes "dimension_names") None (nullable (list_of (nullable as_str))) (object whole) ≡ Ok m.dimension_names
   names = ap (optional_found (codes "dimension_names") None (nullable (list_of (nullable as_str))))
       (at (codes "dimension_names") ∙ ap (or_rest (option_map (list_data (nullable_data string)) m.dimension_names)) (none_at (codes "dimension_names") refl))
       ∙ names_again m.dimension_names
@@ -194,7 +194,7 @@ is_document Whole m plain = rw (array_v3_no_float m plain) refl
 is_document Any m plain = refl
 
 -- no field of a plain array has an own name
-plain_own : (numbers : Numbers) (m : ArrayMetadataV3) → IsTrue (is_plain_array_v3_in numbers m) → has_own array_v3_names m.additional_fields ≡ false
+pub plain_own : (numbers : Numbers) (m : ArrayMetadataV3) → IsTrue (is_plain_array_v3_in numbers m) → has_own array_v3_names m.additional_fields ≡ false
 plain_own numbers m plain = not_true (has_own array_v3_names m.additional_fields) (both _ (not (has_own array_v3_names m.additional_fields)) plain).1
 
 -- an array that is plain in these numbers and was written reads as that array in them

@@ -1,7 +1,8 @@
 use Rattle.std.proofs.Common.{◌≡◌, false, Some, ap, codes, sym, rules, ◌∙◌}
 use Rattle.zarrs_form.specs.Fields.{field_data}
 use Rattle.zarrs_block.specs.Policy.{as_block}
-use Rattle.zarrs_group.specs.FullBlocks.{inline_block, fields_with_full}
+use Rattle.zarrs_block.specs.Block.{inline_block}
+use Rattle.zarrs_group.specs.FullBlocks.{fields_with_full}
 use Rattle.zarrs_group.proofs.PutAgain.{put_in_place}
 use Rattle.zarrs_group.proofs.group_value.members_with_block.Goals as goal
 
