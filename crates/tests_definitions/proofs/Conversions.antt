@@ -1,6 +1,5 @@
 -- Zarr specification version 2, "Data type encoding", and Zarr core specification 3.1, "Data types": the tables of the conversion to version 3, by examples.
-use Rattle.std.proofs.Common.{◌≡◌, [], codes, refl, None, Some, Ok, Err}
-use Rattle.std.specs.Fmt.{digits}
+use Rattle.std.proofs.Common.{◌≡◌, codes, refl, None, Some, Ok, Err}
 use Rattle.zarrs_form.specs.declared.data_type.DataTypeMetadataV2.TheVariants.{Simple}
 use Rattle.zarrs_form.specs.declared.data_type.Endianness.TheVariants.{Little, Big}
 use Rattle.zarrs_convert.specs.DataTypes.{byte_order, data_type_name}

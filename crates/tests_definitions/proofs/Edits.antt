@@ -1,5 +1,5 @@
 -- Zarr core specification 3.1, "Group metadata", and the keys of Zarr version 2: the edits that storing and erasing a group make, by examples.
-use Rattle.std.proofs.Common.{◌≡◌, [], ◌∷◌, ◌++◌, codes, refl, None, Some}
+use Rattle.std.proofs.Common.{◌≡◌, [], ◌∷◌, ◌++◌, codes, refl, None}
 use Rattle.serde_json.specs.Data.{object, Members, no_members, member, string}
 use Rattle.zarrs_path.specs.Keys.{zarr_json, zgroup, zattrs, zmetadata}
 use Rattle.zarrs_config.specs.declared.version.MetadataEraseVersion.TheVariants.{Default, All}

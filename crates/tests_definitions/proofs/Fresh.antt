@@ -1,5 +1,5 @@
 -- Zarr core specification 3.1, "Group metadata", the field `consolidated_metadata`: a block made current, by examples.
-use Rattle.std.proofs.Common.{◌≡◌, ◌⊎◌, ℕ, Bool, true, false, cond, List, [], ◌∷◌, ◌++◌, codes, refl, sym, ◌∙◌, Some, None, inl, inr, ⊎_elim, is_eq}
+use Rattle.std.proofs.Common.{◌≡◌, ◌⊎◌, ℕ, Bool, true, false, cond, List, [], ◌∷◌, codes, refl, Some, None, inl, ⊎_elim, is_eq}
 use Rattle.zarrs_store.specs.Segments.{bytes_cmp}
 use Rattle.zarrs_block.proofs.Expansion.{same_text}
 use Rattle.zarrs_path.specs.Paths.{Path}
@@ -7,7 +7,7 @@ use Rattle.zarrs_meta.specs.declared.node.NodeMetadata.{NodeMetadata}
 use Rattle.zarrs_block.specs.Block.{Block, node_at_key}
 use Rattle.zarrs_meaning.specs.Meaning.{Meaning, node, nothing}
 use Rattle.zarrs_block.specs.KeysAboutAPath.{IsAbout}
-use Rattle.zarrs_node.specs.CurrentBlocks.{IsFresh, HoldsAt, IsNewPair, LeadsTo}
+use Rattle.zarrs_node.specs.CurrentBlocks.{IsFresh, HoldsAt, IsNewPair}
 use Rattle.tests_definitions.proofs.Meanings.{a, plain_group}
 
 -- nothing stands at any path now
