@@ -12,7 +12,7 @@ pub use texts::{
     A2_WRITTEN, document_text, entries_text, forest_text, keys_text, listing_text, node_text,
     pairs_text, paths_listing_text, paths_text,
 };
-pub use words::{document_of, no_word, policy_of, version_of};
+pub use words::{document_of, lists_text, no_word, policy_of, version_of};
 use zarrs_block::ConsolidatedMetadataMetadata;
 use zarrs_config::{Config, MetadataRetrieveVersion, UseConsolidatedMetadata};
 use zarrs_meaning::NodeCreateError;

@@ -2,7 +2,7 @@
 //! something else.
 
 use crate::A3_SQUARE;
-use std::alloc::Global;
+use std::alloc::{AllocError, Global};
 use tests_support::{A2, A3, G2, G3};
 use zarrs_config::{MetadataRetrieveVersion, UseConsolidatedMetadata};
 use zarrs_store::StorageError;
@@ -47,4 +47,11 @@ pub fn document_of<'a>(alloc: Global, word: &'a str) -> Result<&'a str, StorageE
         text if text.is_empty() || text.starts_with('{') || text.starts_with('[') => Ok(text),
         word => Err(no_word(alloc, word)),
     }
+}
+
+/// So many lists in each other, as JSON text.
+pub fn lists_text(alloc: Global, levels: usize) -> Result<String, AllocError> {
+    let open = "[".repeat(alloc, levels)?;
+    let close = "]".repeat(alloc, levels)?;
+    format!(in alloc; "{open}{close}")
 }

@@ -6,11 +6,12 @@ use crate::groups::nested_group;
 use log::sink::Discard;
 use std::alloc::{AllocError, Global};
 use std::test::Fail;
-use tests_fixtures::{config_of, node_text};
-use tests_support::{check_rows, printed, said};
+use tests_fixtures::{config_of, no_word, node_text};
+use tests_support::{check_rows, fields, printed, said};
 use zarrs_block::ConsolidatedMetadata;
 use zarrs_config::{Config, UseConsolidatedMetadata};
 use zarrs_group::{Group, GroupCreateError};
+use zarrs_meaning::NodeCreateError;
 use zarrs_node::Node;
 use zarrs_store::{
     AnyNumbers, MemoryStore, Numbers, StorageError, StoreKey, WritableStorageTraits,
@@ -121,13 +122,29 @@ fn what_nests_too_deep_has_no_document(rt: HostRuntime) -> Result<(), Fail> {
     check_rows(rt.alloc(), DEPTHS, has_document)
 }
 
-// Sets the document that holds the block of a group in a store.
-fn write_document<S: WritableStorageTraits>(
-    group: &Group,
+// The document that is to hold the block that a group has: `lent` asks the group for it, and `given` gives the group away for it.
+fn made_by(
+    alloc: Global,
+    group: Group,
+    call: &str,
+) -> Result<Option<(StoreKey, Vec<u8>)>, NodeCreateError> {
+    match call {
+        "lent" => Ok(group.block_document(alloc)?),
+        "given" => {
+            let block = group.consolidated_metadata_in(alloc, Numbers::Any)?;
+            group.into_block_document(alloc, block)
+        }
+        word => Err(NodeCreateError::from(no_word(alloc, word))),
+    }
+}
+
+// Sets a document in a store.
+fn set_made<S: WritableStorageTraits>(
     alloc: Global,
     store: &mut S,
+    made: Option<(StoreKey, Vec<u8>)>,
 ) -> Result<(), StorageError> {
-    match group.block_document(alloc)? {
+    match made {
         Some((key, bytes)) => store.set(&key, bytes.as_slice()),
         None => Err(StorageError::Other(String::from_str(alloc, "no document")?)),
     }
@@ -144,25 +161,34 @@ fn opened(
 }
 
 // The nodes at `/g` of a store, by the block and by a listing, once the document with the block of all that is listed there was set.
-fn written(alloc: Global, list: &str) -> Result<String, GroupCreateError> {
+// `CALL | LIST`.
+fn written(alloc: Global, given: &str) -> Result<String, GroupCreateError> {
+    let (call, list) = fields(given);
     let mut store = AnyNumbers {
         inner: store_in(alloc, list)?,
     };
     let group = consolidated(alloc, &store, "/g")?;
-    write_document(&group, alloc, &mut store)?;
+    match made_by(alloc, group, call) {
+        Ok(made) => set_made(alloc, &mut store, made)?,
+        Err(error) => return Err(GroupCreateError::from_node_error(alloc, error)),
+    }
     let must = opened(alloc, &store, UseConsolidatedMetadata::Must)?;
     let never = opened(alloc, &store, UseConsolidatedMetadata::Never)?;
     Ok(format!(in alloc; "must:\n{must}never:\n{never}")?)
 }
 
-// Documents in any numbers, and the nodes that open under Must and under Never.
+// How the document is made, documents in any numbers, and the nodes that open under Must and under Never.
 const WRITTEN: &str = r#"
 # Of version 3 the block stands in the document of the group.
-g/zarr.json={"attributes":{"scale":0.5},"node_type":"group","zarr_format":3} g/a/zarr.json={"attributes":{"n":1.5},"node_type":"group","zarr_format":3} g/a/b/zarr.json=A3 => must:\n/g {"attributes":{"scale":0.5},"consolidated_metadata":{"kind":"inline","metadata":{"a":{"attributes":{"n":1.5},"node_type":"group","zarr_format":3},"a/b":A3},"must_understand":false},"node_type":"group","zarr_format":3}\n  /g/a {"attributes":{"n":1.5},"node_type":"group","zarr_format":3}\n    /g/a/b A3\nnever:\n/g {"attributes":{"scale":0.5},"consolidated_metadata":{"kind":"inline","metadata":{"a":{"attributes":{"n":1.5},"node_type":"group","zarr_format":3},"a/b":A3},"must_understand":false},"node_type":"group","zarr_format":3}\n  /g/a {"attributes":{"n":1.5},"node_type":"group","zarr_format":3}\n    /g/a/b A3\n
-g/zarr.json=G3 => must:\n/g {"consolidated_metadata":{"kind":"inline","metadata":{},"must_understand":false},"node_type":"group","zarr_format":3}\nnever:\n/g {"consolidated_metadata":{"kind":"inline","metadata":{},"must_understand":false},"node_type":"group","zarr_format":3}\n
+lent | g/zarr.json={"attributes":{"scale":0.5},"node_type":"group","zarr_format":3} g/a/zarr.json={"attributes":{"n":1.5},"node_type":"group","zarr_format":3} g/a/b/zarr.json=A3 => must:\n/g {"attributes":{"scale":0.5},"consolidated_metadata":{"kind":"inline","metadata":{"a":{"attributes":{"n":1.5},"node_type":"group","zarr_format":3},"a/b":A3},"must_understand":false},"node_type":"group","zarr_format":3}\n  /g/a {"attributes":{"n":1.5},"node_type":"group","zarr_format":3}\n    /g/a/b A3\nnever:\n/g {"attributes":{"scale":0.5},"consolidated_metadata":{"kind":"inline","metadata":{"a":{"attributes":{"n":1.5},"node_type":"group","zarr_format":3},"a/b":A3},"must_understand":false},"node_type":"group","zarr_format":3}\n  /g/a {"attributes":{"n":1.5},"node_type":"group","zarr_format":3}\n    /g/a/b A3\n
+lent | g/zarr.json=G3 => must:\n/g {"consolidated_metadata":{"kind":"inline","metadata":{},"must_understand":false},"node_type":"group","zarr_format":3}\nnever:\n/g {"consolidated_metadata":{"kind":"inline","metadata":{},"must_understand":false},"node_type":"group","zarr_format":3}\n
 
 # Of version 2 it stands beside its documents.
-g/.zgroup=G2 g/.zattrs={"k":0.25} g/a/.zgroup=G2 g/a/.zattrs={"k":1.5} g/a/b/.zarray=A2 => must:\n/g {"attributes":{"k":0.25},"zarr_format":2}\n  /g/a {"attributes":{"k":1.5},"zarr_format":2}\n    /g/a/b A2\nnever:\n/g {"attributes":{"k":0.25},"zarr_format":2}\n  /g/a {"attributes":{"k":1.5},"zarr_format":2}\n    /g/a/b A2\n
+lent | g/.zgroup=G2 g/.zattrs={"k":0.25} g/a/.zgroup=G2 g/a/.zattrs={"k":1.5} g/a/b/.zarray=A2 => must:\n/g {"attributes":{"k":0.25},"zarr_format":2}\n  /g/a {"attributes":{"k":1.5},"zarr_format":2}\n    /g/a/b A2\nnever:\n/g {"attributes":{"k":0.25},"zarr_format":2}\n  /g/a {"attributes":{"k":1.5},"zarr_format":2}\n    /g/a/b A2\n
+
+# A block that a group is given away for opens so too, where a codec that stood as its name alone is an object in it.
+given | g/zarr.json={"attributes":{"scale":0.5},"node_type":"group","zarr_format":3} g/a/zarr.json={"chunk_grid":{"configuration":{"chunk_shape":[10]},"name":"regular"},"chunk_key_encoding":"default","codecs":["bytes"],"data_type":"float64","fill_value":1.5,"node_type":"array","shape":[10],"zarr_format":3} => must:\n/g {"attributes":{"scale":0.5},"consolidated_metadata":{"kind":"inline","metadata":{"a":{"chunk_grid":{"configuration":{"chunk_shape":[10]},"name":"regular"},"chunk_key_encoding":{"name":"default"},"codecs":[{"name":"bytes"}],"data_type":"float64","fill_value":1.5,"node_type":"array","shape":[10],"zarr_format":3}},"must_understand":false},"node_type":"group","zarr_format":3}\n  /g/a {"chunk_grid":{"configuration":{"chunk_shape":[10]},"name":"regular"},"chunk_key_encoding":"default","codecs":["bytes"],"data_type":"float64","fill_value":1.5,"node_type":"array","shape":[10],"zarr_format":3}\nnever:\n/g {"attributes":{"scale":0.5},"consolidated_metadata":{"kind":"inline","metadata":{"a":{"chunk_grid":{"configuration":{"chunk_shape":[10]},"name":"regular"},"chunk_key_encoding":{"name":"default"},"codecs":[{"name":"bytes"}],"data_type":"float64","fill_value":1.5,"node_type":"array","shape":[10],"zarr_format":3}},"must_understand":false},"node_type":"group","zarr_format":3}\n  /g/a {"chunk_grid":{"configuration":{"chunk_shape":[10]},"name":"regular"},"chunk_key_encoding":"default","codecs":["bytes"],"data_type":"float64","fill_value":1.5,"node_type":"array","shape":[10],"zarr_format":3}\n
+given | g/.zgroup=G2 g/.zattrs={"k":0.25} g/a/.zgroup=G2 g/a/.zattrs={"k":1.5} => must:\n/g {"attributes":{"k":0.25},"zarr_format":2}\n  /g/a {"attributes":{"k":1.5},"zarr_format":2}\nnever:\n/g {"attributes":{"k":0.25},"zarr_format":2}\n  /g/a {"attributes":{"k":1.5},"zarr_format":2}\n
 "#;
 
 #[test]

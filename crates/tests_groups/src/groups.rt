@@ -7,7 +7,8 @@ use serde_json::{Map, Value};
 use std::alloc::{AllocError, Global};
 use std::test::Fail;
 use tests_fixtures::{
-    config_of as config_by, document_of, no_word, node_text, pairs_text, policy_of, version_of,
+    config_of as config_by, document_of, lists_text, no_word, node_text, pairs_text, policy_of,
+    version_of,
 };
 use tests_support::{check_rows, fields, printed, refusal, said};
 use zarrs_block::resolve_consolidated_policy;
@@ -677,15 +678,8 @@ fn refusals_have_their_variants_and_texts(rt: HostRuntime) -> Result<(), Fail> {
 
 // The fields of a group of version 3 with an attribute of so many lists in each other.
 fn nested(alloc: Global, count: usize) -> Result<String, AllocError> {
-    let mut given = String::from_str(alloc, r#"3 | {"k":"#)?;
-    for _ in 0..count {
-        given.push('[')?;
-    }
-    for _ in 0..count {
-        given.push(']')?;
-    }
-    given.push_str("} | {}")?;
-    Ok(given)
+    let lists = lists_text(alloc, count)?;
+    format!(in alloc; "3 | {{\"k\":{lists}}} | {{}}")
 }
 
 /// The group of version 3 with an attribute of so many lists in each other.
