@@ -62,7 +62,7 @@ fn a_path_means_what_its_documents_say(rt: HostRuntime) -> Result<(), Fail> {
     check_rows(rt.alloc(), MEANS, metadata_said)
 }
 
-fn text_or_none(alloc: Global, metadata: Option<NodeMetadata>) -> Result<String, AllocError> {
+fn text_or_none(metadata: &Option<NodeMetadata>, alloc: Global) -> Result<String, AllocError> {
     match metadata {
         Some(metadata) => metadata.to_text(alloc),
         None => String::from_str(alloc, "none"),
@@ -77,17 +77,13 @@ fn found_text(
     last: &mut LastDocuments,
 ) -> Result<String, NodeCreateError> {
     let path = NodePath::new(alloc, path)?;
-    let alone = metadata_at(alloc, store, &path, &MetadataRetrieveVersion::Default)?;
-    let alone = text_or_none(alloc, alone)?;
+    let version = MetadataRetrieveVersion::Default;
+    let alone = text_or_none(&metadata_at(alloc, store, &path, &version)?, alloc)?;
     let prefix = path.to_prefix(alloc)?;
-    let found = find_metadata(
+    let found = text_or_none(
+        &find_metadata(alloc, store, &prefix, &version, last)?,
         alloc,
-        store,
-        &prefix,
-        &MetadataRetrieveVersion::Default,
-        last,
     )?;
-    let found = text_or_none(alloc, found)?;
     if found == alone {
         return Ok(found);
     }

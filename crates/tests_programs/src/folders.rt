@@ -7,8 +7,9 @@ use log::{Level, Logged};
 use std::alloc::{AllocError, Global};
 use std::process::Abort;
 use std::{fs, io};
-use zarrs_cli::{Host, USAGE, Word, answer, load_image, run_of_folder, run_store};
-use zarrs_store::AnyNumbers;
+use zarrs_cli::{
+    Host, Tally, USAGE, Word, ZarrsFault, answer, load_image, run_of_folder, run_store,
+};
 
 // A group whose block has a group that the store has not.
 const STALE: &str =
@@ -293,25 +294,31 @@ fn a_store_a_level_below_is_named(rt: HostRuntime) {
 const BLOCK_ABOVE: &str =
     r#""a":{"node_type":"group","zarr_format":3},"a/b":{"node_type":"group","zarr_format":3},"a/b/c":{"node_type":"group","zarr_format":3},"bad":{"node_type":"group","zarr_format":3},"bad/below":{"node_type":"group","zarr_format":3},"none":{"node_type":"group","zarr_format":3},"none/inner":{"node_type":"group","zarr_format":3},"none/old":{"node_type":"group","zarr_format":3},"x":{"node_type":"group","zarr_format":3},"x/y":{"node_type":"group","zarr_format":3}"#;
 
-// What a word writes of a store from a path on, and why it is refused, as one text.
+// What was written, and how the run ended, as one text.
+fn ended_text(
+    outcome: &Result<Option<Tally>, ZarrsFault>,
+    alloc: Global,
+    output: &[u8],
+) -> Result<String, AllocError> {
+    let text = String::from_utf8_lossy(alloc, output)?;
+    format!(in alloc; "{text}{outcome:?}")
+}
+
+// What a word writes of a store from a path on, and why it is refused.
 fn of_store(alloc: Global, image: &str, word: Word, path: &str) -> Option<String> {
-    let mut reader = image.as_bytes();
-    let store = load_image(alloc, &mut reader).ok()?;
+    let store = load_image(alloc, &mut image.as_bytes()).ok()?;
     let mut output = Vec::new(alloc);
     let outcome = run_store(&Discard, alloc, word, path, &store, &mut output);
-    let text = String::from_utf8(output).ok()?;
-    format!(in alloc; "{text}{outcome:?}").ok()
+    ended_text(&outcome, alloc, &output).ok()
 }
 
 // The same of the store as a folder.
 fn of_folder(alloc: Global, image: &str, word: Word, path: &str) -> Option<String> {
-    let mut reader = image.as_bytes();
-    let store = load_image(alloc, &mut reader).ok()?;
-    let AnyNumbers { mut inner } = store;
+    let mut store = load_image(alloc, &mut image.as_bytes()).ok()?;
+    let folder = &mut store.inner;
     let mut output = Vec::new(alloc);
-    let outcome = run_of_folder(&Discard, alloc, word, path, &mut inner, &mut output);
-    let text = String::from_utf8(output).ok()?;
-    format!(in alloc; "{text}{outcome:?}").ok()
+    let outcome = run_of_folder(&Discard, alloc, word, path, folder, &mut output);
+    ended_text(&outcome, alloc, &output).ok()
 }
 
 // Asserts that each word says the same of a store and of it as a folder, from a path on.

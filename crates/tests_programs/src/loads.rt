@@ -86,36 +86,32 @@ fn compared(
     })
 }
 
-// A store, and what is loaded of it.
-type Loaded = (AnyNumbers<MemoryStore>, AnyNumbers<MemoryStore>);
-
 // A folder that is a store in memory is only ever out of memory.
 pub(crate) fn of_store(
     loaded: Result<AnyNumbers<MemoryStore>, FolderFault>,
 ) -> Result<AnyNumbers<MemoryStore>, NodeCreateError> {
-    match loaded {
-        Ok(store) => Ok(store),
-        Err(_) => Err(NodeCreateError::OutOfMemory),
-    }
+    loaded.map_err(|_| NodeCreateError::OutOfMemory)
 }
 
+// What is loaded of a store from a base on.
 fn nodes_of(
     alloc: Global,
     documents: Documents,
     base: &str,
-    list: &str,
-) -> Result<Loaded, NodeCreateError> {
-    let mut whole = store_in(alloc, list)?;
+    whole: &mut AnyNumbers<MemoryStore>,
+) -> Result<AnyNumbers<MemoryStore>, NodeCreateError> {
     let base = NodePath::new(alloc, base)?;
-    let loaded = of_store(load_nodes(alloc, &mut whole.inner, documents, &base))?;
-    Ok((whole, loaded))
+    of_store(load_nodes(alloc, &mut whole.inner, documents, &base))
 }
 
-fn base_of(alloc: Global, base: &str, documents: &str) -> Result<Loaded, NodeCreateError> {
-    let mut whole = store_in(alloc, documents)?;
+// What is loaded of the base itself.
+fn base_of(
+    alloc: Global,
+    base: &str,
+    whole: &mut AnyNumbers<MemoryStore>,
+) -> Result<AnyNumbers<MemoryStore>, NodeCreateError> {
     let base = NodePath::new(alloc, base)?;
-    let loaded = of_store(load_base(alloc, &mut whole.inner, &base))?;
-    Ok((whole, loaded))
+    of_store(load_base(alloc, &mut whole.inner, &base))
 }
 
 fn loaded_said(
@@ -124,7 +120,8 @@ fn loaded_said(
     given: &str,
 ) -> Result<String, NodeCreateError> {
     let (base, list) = fields(given);
-    let (whole, loaded) = nodes_of(alloc, documents, base, list)?;
+    let mut whole = store_in(alloc, list)?;
+    let loaded = nodes_of(alloc, documents, base, &mut whole)?;
     let mut text = keys_said(alloc, &whole, &loaded)?;
     text.push_str(compared(alloc, &whole, &loaded, base)?)?;
     Ok(text)
@@ -140,7 +137,8 @@ fn nodes_listed(alloc: Global, given: &str) -> Result<String, NodeCreateError> {
 
 fn base_loaded(alloc: Global, given: &str) -> Result<String, NodeCreateError> {
     let (base, documents) = fields(given);
-    let (whole, loaded) = base_of(alloc, base, documents)?;
+    let mut whole = store_in(alloc, documents)?;
+    let loaded = base_of(alloc, base, &mut whole)?;
     let mut text = keys_said(alloc, &whole, &loaded)?;
     text.push('|')?;
     Ok(text)
@@ -251,7 +249,8 @@ fn a_base_has_its_documents_only(rt: HostRuntime) -> Result<(), Fail> {
 // What is loaded of a base, and then below it by a call.
 fn steps_said(alloc: Global, call: &str, given: &str) -> Result<String, NodeCreateError> {
     let (base, list) = fields(given);
-    let (mut whole, loaded) = base_of(alloc, base, list)?;
+    let mut whole = store_in(alloc, list)?;
+    let loaded = base_of(alloc, base, &mut whole)?;
     let path = NodePath::new(alloc, base)?;
     let folder = &mut whole.inner;
     let loaded = of_store(match call {
@@ -285,10 +284,7 @@ fn what_lies_below_a_base_follows_it(rt: HostRuntime) -> Result<(), Fail> {
 // ---- what a store in memory answers as a folder
 
 fn of_folder<T: Drop>(answer: Result<T, FolderFault>) -> Result<T, AllocError> {
-    match answer {
-        Ok(value) => Ok(value),
-        Err(_) => Err(AllocError),
-    }
+    answer.map_err(|_| AllocError)
 }
 
 // The bytes at a key.

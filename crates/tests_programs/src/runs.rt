@@ -127,7 +127,7 @@ impl Write for Unflushed {
 
 // How a run ends that looks at a store.
 fn looked(outcome: Result<Option<Tally>, ZarrsFault>) -> Result<Answered, ZarrsFault> {
-    Ok(Answered::Looked(outcome?))
+    outcome.map(Answered::Looked)
 }
 
 // What goes to the standard output and the standard error, and the status.
@@ -150,21 +150,21 @@ pub(crate) fn run(
 }
 
 // Appends a member with a document as its text.
-fn add_document(image: &mut String, key: &str, document: &str) -> Result<(), AllocError> {
-    if image.len() > 1 {
-        image.push(',')?;
-    }
-    image.push('"')?;
-    image.push_str(key)?;
-    image.push_str(r#"":""#)?;
-    for letter in document.chars() {
-        if letter == '"' {
-            image.push('\\')?;
-        }
-        image.push(letter)?;
-    }
-    image.push('"')
+fn add_document(
+    image: &mut String,
+    alloc: Global,
+    key: &str,
+    document: &str,
+) -> Result<(), AllocError> {
+    let comma = if image.len() > 1 { "," } else { "" };
+    let document = document.replace(alloc, "\"", "\\\"")?;
+    write!(image, "{comma}\"{key}\":\"{document}\"")
 }
+
+// What stands in the document of a group before the entries of its block, and behind them.
+const BEFORE_ENTRIES: &str = r#"{"consolidated_metadata":{"kind":"inline","metadata":{"#;
+
+const BEHIND_ENTRIES: &str = r#"},"must_understand":false},"node_type":"group","zarr_format":3}"#;
 
 // An image of documents at these keys, and of a group with a block of these entries at each of these.
 pub(crate) fn image_of(
@@ -174,16 +174,11 @@ pub(crate) fn image_of(
 ) -> Result<String, AllocError> {
     let mut image = String::from_str(alloc, "{")?;
     for (key, document) in documents {
-        add_document(&mut image, key, document)?;
+        add_document(&mut image, alloc, key, document)?;
     }
     for (key, entries) in blocks {
-        let mut group = String::from_str(
-            alloc,
-            r#"{"consolidated_metadata":{"kind":"inline","metadata":{"#,
-        )?;
-        group.push_str(entries)?;
-        group.push_str(r#"},"must_understand":false},"node_type":"group","zarr_format":3}"#)?;
-        add_document(&mut image, key, group.as_str())?;
+        let group = format!(in alloc; "{BEFORE_ENTRIES}{entries}{BEHIND_ENTRIES}")?;
+        add_document(&mut image, alloc, key, group.as_str())?;
     }
     image.push('}')?;
     Ok(image)

@@ -3,7 +3,7 @@
 use log::sink::Discard;
 use std::alloc::{AllocError, Global};
 use std::test::Fail;
-use tests_fixtures::{config_of, document_of, key_of, keys_text, store_of};
+use tests_fixtures::{config_of, document_of, key_of, keys_text, lists_text, store_of};
 use tests_support::{A3, G3, check_rows, refusal, said};
 use zarrs_config::{Config, MetadataRetrieveVersion, UseConsolidatedMetadata};
 use zarrs_examples::{Catalogue, Change, UpdateError};
@@ -122,12 +122,12 @@ fn own_text(text: &String, alloc: Global) -> Result<String, AllocError> {
 // Brings a catalogue up to date: what the group shows then, or the refusal and the keys of the block.
 fn changed_text(
     alloc: Global,
-    mut store: MemoryStore,
-    mut catalogue: Catalogue,
+    store: &mut MemoryStore,
+    catalogue: &mut Catalogue,
     changes: &[Change],
 ) -> Result<String, AllocError> {
-    match catalogue.update(alloc, &mut store, changes, &Config::new()) {
-        Ok(()) => said(alloc, shown_by_both(alloc, &store), own_text),
+    match catalogue.update(alloc, store, changes, &Config::new()) {
+        Ok(()) => said(alloc, shown_by_both(alloc, store), own_text),
         Err(UpdateError::Step(refused)) => {
             let cause = refusal(alloc, &refused.cause)?;
             let keys = keys_text(&catalogue.block, alloc)?;
@@ -138,9 +138,9 @@ fn changed_text(
 }
 
 fn changed(alloc: Global, given: &str) -> Result<String, NodeCreateError> {
-    let (store, catalogue) = opened(alloc)?;
+    let (mut store, mut catalogue) = opened(alloc)?;
     let changes = changes_in(alloc, given)?;
-    Ok(changed_text(alloc, store, catalogue, changes.as_slice())?)
+    Ok(changed_text(alloc, &mut store, &mut catalogue, changes.as_slice())?)
 }
 
 fn changed_said(alloc: Global, given: &str) -> Result<String, AllocError> {
@@ -183,19 +183,19 @@ fn a_refused_change_is_named_and_leaves_the_block(rt: HostRuntime) -> Result<(),
 // Makes each change alone, goes on after a refused one, and stores the group: the refusals, and what the group shows.
 fn went_on_text(
     alloc: Global,
-    mut store: MemoryStore,
-    mut catalogue: Catalogue,
+    store: &mut MemoryStore,
+    catalogue: &mut Catalogue,
     changes: &[Change],
 ) -> Result<String, AllocError> {
     let mut text = String::new(alloc);
     for change in changes {
-        if let Err(refused) = catalogue.apply(alloc, &mut store, change) {
+        if let Err(refused) = catalogue.apply(alloc, store, change) {
             let refused = refusal(alloc, &refused)?;
             write!(text, "{refused}\n")?;
         }
     }
-    let shown = match catalogue.store(alloc, &mut store, &Config::new()) {
-        Ok(()) => said(alloc, shown_by_both(alloc, &store), own_text)?,
+    let shown = match catalogue.store(alloc, store, &Config::new()) {
+        Ok(()) => said(alloc, shown_by_both(alloc, store), own_text)?,
         Err(refused) => refusal(alloc, &refused)?,
     };
     write!(text, "{shown}")?;
@@ -203,9 +203,9 @@ fn went_on_text(
 }
 
 fn went_on(alloc: Global, given: &str) -> Result<String, NodeCreateError> {
-    let (store, catalogue) = opened(alloc)?;
+    let (mut store, mut catalogue) = opened(alloc)?;
     let changes = changes_in(alloc, given)?;
-    Ok(went_on_text(alloc, store, catalogue, changes.as_slice())?)
+    Ok(went_on_text(alloc, &mut store, &mut catalogue, changes.as_slice())?)
 }
 
 fn went_on_said(alloc: Global, given: &str) -> Result<String, AllocError> {
@@ -226,20 +226,20 @@ fn a_catalogue_goes_on_after_a_refused_change(rt: HostRuntime) -> Result<(), Fai
 // The same changes as one list, and the group stored by a call of its own.
 fn apart_text(
     alloc: Global,
-    mut store: MemoryStore,
-    mut catalogue: Catalogue,
+    store: &mut MemoryStore,
+    catalogue: &mut Catalogue,
     changes: &[Change],
 ) -> Result<String, AllocError> {
-    if let Err(refused) = catalogue.apply_all(alloc, &mut store, changes) {
+    if let Err(refused) = catalogue.apply_all(alloc, store, changes) {
         return refusal(alloc, &refused);
     }
     went_on_text(alloc, store, catalogue, &[])
 }
 
 fn apart(alloc: Global, given: &str) -> Result<String, NodeCreateError> {
-    let (store, catalogue) = opened(alloc)?;
+    let (mut store, mut catalogue) = opened(alloc)?;
     let changes = changes_in(alloc, given)?;
-    Ok(apart_text(alloc, store, catalogue, changes.as_slice())?)
+    Ok(apart_text(alloc, &mut store, &mut catalogue, changes.as_slice())?)
 }
 
 fn apart_said(alloc: Global, given: &str) -> Result<String, AllocError> {
@@ -256,17 +256,10 @@ fn deep_said(alloc: Global, levels: &str) -> Result<String, AllocError> {
     let Ok(levels) = levels.parse::<usize>() else {
         return String::from_str(alloc, "no number");
     };
-    let mut item = String::from_str(
-        alloc,
-        r#"/deep {"zarr_format":3,"node_type":"group","attributes":{"k":"#,
+    let lists = lists_text(alloc, levels)?;
+    let item = format!(in alloc;
+        "/deep {{\"zarr_format\":3,\"node_type\":\"group\",\"attributes\":{{\"k\":{lists}}}}}"
     )?;
-    for _ in 0..levels {
-        item.push('[')?;
-    }
-    for _ in 0..levels {
-        item.push(']')?;
-    }
-    item.push_str("}}")?;
     changed_said(alloc, item.as_str())
 }
 
@@ -291,20 +284,30 @@ fn root_text(alloc: Global, store: &MemoryStore) -> Result<String, StorageError>
     Ok(String::from_utf8_lossy(alloc, bytes.as_slice())?)
 }
 
-// The document of a group with fractions once it was stored with its block in any numbers, or in the whole ones of the store within; or the refusal.
+// What is stored of a catalogue, in any numbers or in the whole ones of the store within; or the refusal.
+fn stored_text(
+    alloc: Global,
+    store: &mut AnyNumbers<MemoryStore>,
+    catalogue: &Catalogue,
+    numbers: &str,
+) -> Result<String, StorageError> {
+    let answer = match numbers {
+        "any" => catalogue.store(alloc, store, &Config::new()),
+        _ => catalogue.store(alloc, &mut store.inner, &Config::new()),
+    };
+    match &answer {
+        Ok(()) => root_text(alloc, &store.inner),
+        Err(refused) => Ok(refusal(alloc, refused)?),
+    }
+}
+
+// The document of a group with fractions once it was stored with its block in the numbers of a row; or the refusal.
 fn scaled(alloc: Global, numbers: &str) -> Result<String, NodeCreateError> {
     let mut store = AnyNumbers {
         inner: store_of(alloc, &[("zarr.json", SCALED), ("a/zarr.json", SCALED)])?,
     };
     let catalogue = Catalogue::open(&Discard, alloc, &store, NodePath::root(alloc)?)?;
-    let answer = match numbers {
-        "any" => catalogue.store(alloc, &mut store, &Config::new()),
-        _ => catalogue.store(alloc, &mut store.inner, &Config::new()),
-    };
-    match answer {
-        Ok(()) => Ok(root_text(alloc, &store.inner)?),
-        Err(refused) => Ok(refusal(alloc, &refused)?),
-    }
+    Ok(stored_text(alloc, &mut store, &catalogue, numbers)?)
 }
 
 fn scaled_said(alloc: Global, numbers: &str) -> Result<String, AllocError> {

@@ -3,7 +3,7 @@
 use log::sink::Discard;
 use std::alloc::{AllocError, Global};
 use std::test::Fail;
-use tests_fixtures::{config_of, key_of, no_word, node_text, store_of, version_of};
+use tests_fixtures::{config_of, key_of, lists_text, no_word, node_text, store_of, version_of};
 use tests_support::{A3, G3, check_rows, fields, refusal, said};
 use zarrs_config::UseConsolidatedMetadata;
 use zarrs_examples::{ConvertError, convert_hierarchy, erase_version_2, laws};
@@ -116,11 +116,12 @@ const HIERARCHY: [(&str, &str); 7] = [
 
 // Does a step to a store: converts or erases from the root or from `/waves` on, or puts documents there.
 fn step(alloc: Global, store: &mut MemoryStore, word: &str) -> Result<(), ConvertError> {
-    let base = base_of(alloc, word)?;
     match word {
         "written" => Ok(()),
-        "convert" | "convert-waves" => convert_hierarchy(&Discard, alloc, store, &base),
-        "erase" | "erase-waves" => erase_version_2(&Discard, alloc, store, &base),
+        "convert" => converted_from(alloc, store, "/"),
+        "convert-waves" => converted_from(alloc, store, "/waves"),
+        "erase" => erased_from(alloc, store, "/"),
+        "erase-waves" => erased_from(alloc, store, "/waves"),
         "new" => put(alloc, store, "new/zarr.json", G3),
         "new-counts" => put(alloc, store, "new/counts/zarr.json", A3),
         "packed" => put(alloc, store, "waves/packed/.zarray", PACKED),
@@ -135,14 +136,23 @@ fn step(alloc: Global, store: &mut MemoryStore, word: &str) -> Result<(), Conver
     }
 }
 
-// The path from which a step goes on.
-fn base_of(alloc: Global, word: &str) -> Result<NodePath, NodeCreateError> {
-    let text = if word.ends_with("-waves") {
-        "/waves"
-    } else {
-        "/"
-    };
-    Ok(NodePath::new(alloc, text)?)
+// Converts a store from a path on.
+fn converted_from<S>(alloc: Global, store: &mut S, path: &str) -> Result<(), ConvertError>
+where
+    S: ReadableStorageTraits + ListableStorageTraits + WritableStorageTraits,
+{
+    let base = path_of(alloc, path)?;
+    convert_hierarchy(&Discard, alloc, store, &base)
+}
+
+// Erases the documents of version 2 from a path on.
+fn erased_from(alloc: Global, store: &mut MemoryStore, path: &str) -> Result<(), ConvertError> {
+    let base = path_of(alloc, path)?;
+    erase_version_2(&Discard, alloc, store, &base)
+}
+
+fn path_of(alloc: Global, path: &str) -> Result<NodePath, NodeCreateError> {
+    Ok(NodePath::new(alloc, path)?)
 }
 
 // Sets a document.
@@ -158,15 +168,8 @@ fn put(
 
 // Attributes that nest as deep as a document that is read.
 fn deep(alloc: Global) -> Result<String, AllocError> {
-    let mut text = String::from_str(alloc, r#"{"k":"#)?;
-    for _ in 0..126 {
-        text.push('[')?;
-    }
-    for _ in 0..126 {
-        text.push(']')?;
-    }
-    text.push('}')?;
-    Ok(text)
+    let lists = lists_text(alloc, 126)?;
+    format!(in alloc; "{{\"k\":{lists}}}")
 }
 
 // The hierarchy after the steps that some words name.
@@ -259,9 +262,9 @@ fn contents(store: &MemoryStore, alloc: Global) -> Result<String, ConvertError> 
 fn refused(alloc: Global, words: &str) -> Result<String, ConvertError> {
     let mut store = after(alloc, words)?;
     let before = contents(&store, alloc)?;
-    let answer = step(alloc, &mut store, "convert");
-    let same = contents(&store, alloc)?.as_str() == before.as_str();
-    answer_text(alloc, answer, same)
+    let answer = answer_text(&step(alloc, &mut store, "convert"), alloc)?;
+    let written = written_text(alloc, &store, before.as_str())?;
+    Ok(format!(in alloc; "{answer}, {written}")?)
 }
 
 // The same over a store of any numbers.
@@ -270,33 +273,33 @@ fn refused_any(alloc: Global, words: &str) -> Result<String, ConvertError> {
         inner: after(alloc, words)?,
     };
     let before = contents(&store.inner, alloc)?;
-    let root = base_of(alloc, "convert")?;
-    let answer = convert_hierarchy(&Discard, alloc, &mut store, &root);
-    let same = contents(&store.inner, alloc)?.as_str() == before.as_str();
-    answer_text(alloc, answer, same)
+    let answer = answer_text(&converted_from(alloc, &mut store, "/"), alloc)?;
+    let written = written_text(alloc, &store.inner, before.as_str())?;
+    Ok(format!(in alloc; "{answer}, {written}")?)
 }
 
-// An answer of a converting that left the store as it was, or did not.
-fn answer_text(
-    alloc: Global,
-    answer: Result<(), ConvertError>,
-    same: bool,
-) -> Result<String, ConvertError> {
-    let written = if same {
-        "nothing is written"
-    } else {
-        "something is written"
-    };
+// The answer of a converting.
+fn answer_text(answer: &Result<(), ConvertError>, alloc: Global) -> Result<String, AllocError> {
     match answer {
-        Ok(()) => Ok(format!(in alloc; "converted, {written}")?),
+        Ok(()) => String::from_str(alloc, "converted"),
         Err(ConvertError::Array(path, error)) => {
-            let error = refusal(alloc, &error)?;
-            Ok(format!(in alloc; "Array {path} {error}, {written}")?)
+            let error = refusal(alloc, error)?;
+            format!(in alloc; "Array {path} {error}")
         }
-        Err(error) => {
-            let error = refusal(alloc, &error)?;
-            Ok(format!(in alloc; "{error}, {written}")?)
-        }
+        Err(error) => refusal(alloc, error),
+    }
+}
+
+// Whether a store has something else than it had before.
+fn written_text(
+    alloc: Global,
+    store: &MemoryStore,
+    before: &str,
+) -> Result<&'static str, ConvertError> {
+    if contents(store, alloc)?.as_str() == before {
+        Ok("nothing is written")
+    } else {
+        Ok("something is written")
     }
 }
 
