@@ -8,7 +8,6 @@ use Rattle.serde_json.specs.Data.{Data, null, string, object, put}
 use Rattle.serde_json.specs.Find.{get, as_str, as_object}
 use Rattle.zarrs_form.specs.Documents.{besides, has_own}
 use Rattle.zarrs_fault.specs.declared.numbers.Numbers.{Numbers}
-use Rattle.zarrs_fault.specs.declared.numbers.Numbers.TheVariants.{Whole}
 use Rattle.zarrs_form.specs.Forms.{◌>>=◌, any, number_u64, list_of, list_data, fits_in}
 use Rattle.zarrs_form.specs.declared.codec.MetadataV2.{MetadataV2}
 use Rattle.zarrs_form.specs.declared.data_type.DataTypeMetadataV2.{DataTypeMetadataV2}
