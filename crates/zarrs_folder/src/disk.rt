@@ -253,8 +253,8 @@ impl<R: Log + Files + Clock + Eprint + AllocGlobal> Folder for Disk<'_, R> {
 
     ghost can_fail = { λ _. true };
 
-    /// The bytes of the file, which is read to its end. What is no file has none. A document that is no `.zattrs` and no `.zmetadata` counts as
-    /// a node that was read.
+    /// The bytes of the file, which is read to its end. What is no file has none. Each `zarr.json`, `.zarray` and `.zgroup` counts
+    /// as a node that was read.
     ///
     /// # Errors
     /// `Unread` where the file is not looked at or not read. `OutOfMemory`.
@@ -315,7 +315,7 @@ fn unasked<'a, R: Clock>(rt: &'a R, folder: &'a str) -> Disk<'a, R>
 
 // Whether a node stands where there is a document with this key.
 fn is_of_node(key: &str) -> bool {
-    !key.ends_with(".zattrs") && !key.ends_with(".zmetadata")
+    key.ends_with("zarr.json") || key.ends_with(".zarray") || key.ends_with(".zgroup")
 }
 
 // The longest file for which there is room before it is read.

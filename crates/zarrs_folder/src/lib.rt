@@ -1,5 +1,5 @@
-//! The store of a folder, as far as its nodes need it: the documents of each node, and one key of what lies beside nodes. No chunk is looked at.
-//! What it shows is what the whole folder would show, by a law.
+//! The store of a folder, as far as its nodes need it: the documents of each node, and one key of what lies beside nodes. No chunk is read,
+//! and none is listed but by `load_passed`. What the store shows is what the whole folder would show, by a law.
 #![tactic(auto)]
 
 mod disk;

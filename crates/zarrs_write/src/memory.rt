@@ -59,7 +59,8 @@ impl MemoryPlace {
         }
     }
 
-    /// From now on so many calls are done, and the next one fails, with the words `it was to fail`. Those behind it are done again.
+    /// From now on so many calls are done, and the next one fails, with the words `it was to fail`. Those behind it are done again. A `create` that finds a
+    /// file there is not counted.
     ///
     /// Source: own.
     pub fn fail_after(&mut self, calls: u64)
