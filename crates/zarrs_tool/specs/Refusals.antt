@@ -19,6 +19,8 @@ use Rattle.zarrs_load.specs.Image.{IsLoaded, RefusedImage}
 use Rattle.zarrs_load.specs.declared.fault.LoadFault.{LoadFault}
 use Rattle.zarrs_load.specs.declared.fault.LoadFault.TheVariants as load
 use Rattle.zarrs_program.specs.Words.{RefusesPathText}
+use Rattle.zarrs_program.specs.declared.arguments.WordsFault.{WordsFault}
+use Rattle.zarrs_program.specs.declared.arguments.WordsFault.TheVariants as unread
 use Rattle.zarrs_tool.specs.Output.{IsCommand, IsOutput, in_whole_numbers, word_text}
 use Rattle.zarrs_tool.specs.declared.fault.ToolFault.{ToolFault}
 use Rattle.zarrs_tool.specs.declared.fault.ToolFault.TheVariants.{Usage, Read, ReadTooLong, Image, ImageKey, ImageValue}
@@ -86,6 +88,11 @@ IsLoadFault P (ImageValue name) = P (load.ImageValue name)
 IsLoadFault P Folder = P load.Folder
 IsLoadFault P OutOfMemory = P load.OutOfMemory
 IsLoadFault P _ = ⊥
+
+-- words that are not UTF-8 are no command; or out of memory
+abbrev pub IsFaultOfWords : WordsFault → ToolFault → Type 0
+IsFaultOfWords unread.NotText fault = fault ≡ Usage
+IsFaultOfWords unread.OutOfMemory fault = fault ≡ OutOfMemory
 
 -- the run over an image ends with this fault: for wrong words the reader was left as it was; for a path, a node, an
 -- array or the writer the words are

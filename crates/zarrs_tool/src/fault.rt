@@ -107,6 +107,10 @@ impl From<WriteFault> for ToolFault {
 
 // Words that are not text are no command.
 impl From<WordsFault> for ToolFault {
+    ghost use Rattle.zarrs_tool.specs.Refusals.{IsFaultOfWords};
+
+    ghost from_gives = { IsFaultOfWords };
+
     fn from(error: WordsFault) -> ToolFault {
         match error {
             WordsFault::NotText => ToolFault::Usage,

@@ -12,6 +12,7 @@ use std::process::Abort;
 use zarrs_load::LoadFault;
 use zarrs_meaning::NodeCreateError;
 use zarrs_path::NodePath;
+use zarrs_program::WordsFault;
 
 const TWO_GROUPS: &str =
     r#"{"zarr.json":"{\"node_type\":\"group\",\"zarr_format\":3}","a/zarr.json":"{\"node_type\":\"group\",\"zarr_format\":3}"}"#;
@@ -631,6 +632,8 @@ fn fault_of(alloc: Global, word: &str) -> Option<ToolFault> {
         "group" => ToolFault::NotAGroup,
         "fraction" => ToolFault::Fraction(NodePath::new(alloc, "/a").ok()?),
         "node" => ToolFault::from(NodeCreateError::MetadataVersionMismatch),
+        "no text" => ToolFault::from(WordsFault::NotText),
+        "no memory for words" => ToolFault::from(WordsFault::OutOfMemory),
         "write" => ToolFault::Write,
         _ => return None,
     };
@@ -660,6 +663,11 @@ const FAULTS: &[(&str, &str)] = &[
         "Node(MetadataVersionMismatch): Found V2 metadata in V3 key or vice-versa",
     ),
     ("write", "Write: write fault"),
+    (
+        "no text",
+        "Usage: usage: zarrs_tool (children|list|tree|consolidate) PATH | folder DIR tree PATH",
+    ),
+    ("no memory for words", "OutOfMemory: out of memory"),
 ];
 
 // Asserts the variant and the text of the refusal that a word names.
