@@ -1,4 +1,5 @@
 pub mod AllAbove
+pub mod BlockTrees
 pub mod Consolidations
 pub mod Counts
 pub mod FolderNames

@@ -1,6 +1,7 @@
 -- From what a word writes of a store to the answer of a run, and from its refusal to that of the run.
 use Rattle.std.proofs.Common.{◌≡◌, ◌≢◌, ◌⊎◌, ℕ, ◌==◌, Bool, true, false, true≢false, cond, List, [], Option, Some, None, codes, inl, inr, ⊎_elim, sym, subst, ◌∙◌, arith, string_bytes, String, Global}
-use Rattle.std.specs.Prelude.{Result, Ok, Err, IfOk, IfErr, OnOk}
+use Rattle.std.specs.Option.{option_map}
+use Rattle.std.specs.Prelude.{Result, Ok, Err, IfOk, IfErr, IfSome, OnOk}
 use Rattle.std.specs.Str.{bytes_eq}
 use Rattle.std.specs.Io.KnownBytes.{Appends, IsAtEnd}
 use Rattle.std.proofs.lemmas.Slice.Eq.{bytes_eq-Decides}
@@ -12,7 +13,7 @@ use Rattle.zarrs_program.specs.Words.{RefusesPathText}
 use Rattle.zarrs_program.specs.declared.output.WriteFault.{WriteFault}
 use Rattle.zarrs_load.specs.Image.{IsLoaded}
 use Rattle.zarrs_cli.specs.Output.{IsAnswer, IsWordText, WritesWord, WritesOverImage, WritesOverSome, WritesOverEach, WritesRequest, WritesAsked, usage_text, version_text}
-use Rattle.zarrs_cli.specs.RefusalLines.{IsHint, SaysReason, SaysRefusal}
+use Rattle.zarrs_cli.specs.RefusalLines.{IsHint, IsNameFault, IsNameHint, SaysReason, SaysRefusal}
 use Rattle.zarrs_cli.specs.Refusals.{RefusesRun, RefusesOverImage, RefusesOverSome, RefusesOverEach, RefusesRequest, RefusesAsked, answered_status, run_status, tally_status}
 use Rattle.zarrs_cli.specs.StepsOfRuns.{IsEnough, IsFaultOfEach, IsFaultOfSome, IsAnswerFault, IsWrittenOfEach, IsWrittenOfSome}
 use Rattle.zarrs_cli.specs.Words.{AreWords, AskFor}
@@ -233,6 +234,12 @@ answered_not_two : (end : Answered) (n : ℕ) → n ≡ answered_status end → 
 answered_not_two (answered.Looked tally) n e two = tally_not_two tally n e two
 answered_not_two (answered.Consolidated Complete) n e two = omega (arith, e, two)
 answered_not_two (answered.Consolidated Due) n e two = omega (arith, e, two)
+
+-- what is said of a name that is refused is a hint of the words
+pub name_hinted : (words : List (List ℕ)) (command : Command) (fault : ZarrsFault) (hint : Option (String Global)) → AskFor words (Store command) → IsNameFault fault
+    → IfSome hint (λ text. IsNameHint command.request command.path.now fault (string_bytes text)) → IsHint words fault (option_map string_bytes hint)
+name_hinted words command fault (Some text) are named says = (command.request, command.source.now, command.path.now, are, inr (named, says))
+name_hinted words command fault None are named says = tt
 
 -- what is said of the fault is said of the words, where the hint is theirs
 said_of_words : (words : List (List ℕ)) (fault : ZarrsFault) (hint : Option (List ℕ)) (said : Result (Unit {0}) WriteFault) (before after : Option (List ℕ)) → IsHint words fault hint

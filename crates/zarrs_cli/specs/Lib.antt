@@ -14,5 +14,6 @@ pub mod Report
 pub mod StepsOfConsolidations
 pub mod StepsOfReports
 pub mod StepsOfRuns
+pub mod StepsOfWords
 pub mod Texts
 pub mod Words

@@ -96,7 +96,8 @@ usage_text = flat_map (λ l. l ++ newline ∷ []) (
     ∷ codes "       zarrs consolidate [--dry-run] [--remove] DIR [PATH]"
     ∷ codes "                                      only says what it would write; removes the block"
     ∷ codes "       zarrs --help | --version"
-    ∷ codes "DIR is the folder of a store, or - for an image on standard input. PATH is / where it is left out."
+    ∷ codes "DIR is the folder of a store, or - for an image on standard input. PATH is as /a/b, and / where it is"
+    ∷ codes "left out. Options stand before DIR."
     ∷ codes "Status 0: done. 1: check has findings, or a dry run would write. 2: wrong words, refused, unreadable,"
     ∷ codes "out of memory, or not written."
     ∷ [])

@@ -3,12 +3,15 @@
 -- <https://pubs.opengroup.org/onlinepubs/9699919799/utilities/V3_chap01.html>
 --     refusal_line text      the line that says a text
 --     IsRefusalText hint fault text      what is said of a fault
---     IsNowhere words hint      the hint says that there is no node at the path that the words name
+--     IsNowhereIn source path hint      the hint says that there is no node at a path of a store
+--     IsNameHint request path fault hint      it says what helps where a name is refused
 --     SaysRefusal words fault before after      this was said of the fault of these words
 use Rattle.std.specs.Prelude.{◌≡◌, ◌≢◌, ◌⊎◌, ⊤, ℕ, List, [], ◌∷◌, ◌++◌, codes, Option, Some, None}
 use Rattle.std.specs.Io.KnownBytes.{Appends}
-use Rattle.zarrs_path.specs.Paths.{Path, IsPath, path_text}
-use Rattle.zarrs_meaning.specs.declared.node_create_error.NodeCreateError.TheVariants.{MissingMetadata}
+use Rattle.zarrs_path.specs.Paths.{Path, IsPath, IsPathText, path_text}
+use Rattle.zarrs_path.specs.declared.node_path.NodePathError.TheVariants.{Invalid}
+use Rattle.zarrs_meaning.specs.declared.node_create_error.NodeCreateError.{NodeCreateError}
+use Rattle.zarrs_meaning.specs.declared.node_create_error.NodeCreateError.TheVariants.{MissingMetadata, NodePathError}
 use Rattle.zarrs_program.specs.Lines.{told_line}
 use Rattle.zarrs_cli.specs.Escapes.{escaped_text}
 use Rattle.zarrs_cli.specs.FaultTexts.{zarrs_fault_text}
@@ -18,6 +21,8 @@ use Rattle.zarrs_cli.specs.declared.fault.ZarrsFault.{ZarrsFault}
 use Rattle.zarrs_consolidate.specs.declared.fault.ConsolidateError.TheVariants as consolidating
 use Rattle.zarrs_cli.specs.declared.fault.ZarrsFault.TheVariants.{Usage, Node, Consolidate, OutOfMemory}
 use Rattle.zarrs_cli.specs.declared.words.Request.{Request}
+use Rattle.zarrs_cli.specs.declared.words.Request.TheVariants.{Look}
+use Rattle.zarrs_cli.specs.declared.words.Word.TheVariants.{Tree}
 use Rattle.zarrs_fault.specs.Bytes.{slash}
 
 -- the line that says a text: the name of the program, a colon, a space, and the text with control characters and
@@ -73,17 +78,52 @@ IsNowhereInFolder folder path hint =
     ⊎ ((name : List ℕ) × (below : Path) × IsFolderName folder name × IsPath below
     × (hint ≡ nowhere_text path folder ++ store_text name below))
 
--- the hint says that there is no node at the path that the words name: in the image where they name that, else in the
--- folder
-abbrev pub IsNowhere : List (List ℕ) → List ℕ → Type 0
-IsNowhere words hint = (request : Request) × (source path : List ℕ) × AreWordsOf words request source path
-    × (((source ≡ codes "-") × (hint ≡ nowhere_text path (codes "the image")))
-    ⊎ ((source ≢ codes "-") × IsNowhereInFolder source path hint))
+-- the hint says that there is no node at a path of the store that a source names: of the image, or of the folder
+abbrev pub IsNowhereIn : List ℕ → List ℕ → List ℕ → Type 0
+IsNowhereIn source path hint =
+    ((source ≡ codes "-") × (hint ≡ nowhere_text path (codes "the image")))
+    ⊎ ((source ≢ codes "-") × IsNowhereInFolder source path hint)
 
--- there is no hint; or there is no node at the path, and the hint says so
+-- ---- a name that is refused
+
+-- the refusal of a node is of a text that is no path, or of a key of a block that is none
+abbrev pub IsNameError : NodeCreateError → Type 0
+IsNameError (NodePathError (Invalid text)) = ⊤
+IsNameError _ = ⊥
+
+-- the fault is such a refusal
+abbrev pub IsNameFault : ZarrsFault → Type 0
+IsNameFault (Node e) = IsNameError e
+IsNameFault (Consolidate (consolidating.Node e)) = IsNameError e
+IsNameFault _ = ⊥
+
+-- the text of a fault, and behind it what a path is
+abbrev pub path_rule_text : ZarrsFault → List ℕ
+path_rule_text fault =
+    zarrs_fault_text fault
+    ++ codes " (a path is / or names with a slash before each; none is empty, of periods only, or begins with __)"
+
+-- the text of a fault, and behind it that it is of a key of the block at a path, and how the tree is shown without that
+abbrev pub way_out_text : ZarrsFault → List ℕ → List ℕ
+way_out_text fault path =
+    zarrs_fault_text fault
+    ++ (codes " (a key of the block of " ++ (path ++ codes "; zarrs tree --store goes by the store)"))
+
+-- the text that was asked about is no path, and the hint says what a path is; or it is one, and the tree from there on
+-- was asked for, and the hint says how it is shown without the block
+abbrev pub IsNameHint : Request → List ℕ → ZarrsFault → List ℕ → Type 0
+IsNameHint request path fault hint =
+    ((IsPathText path → ⊥) × (hint ≡ path_rule_text fault))
+    ⊎ (IsPathText path × (request ≡ Look Tree) × (hint ≡ way_out_text fault path))
+
+-- ---- all hints
+
+-- there is no hint; or there is no node at the path that the words name, and the hint says so; or a name is refused,
+-- and the hint says what helps
 abbrev pub IsHint : List (List ℕ) → ZarrsFault → Option (List ℕ) → Type 0
 IsHint words fault None = ⊤
-IsHint words fault (Some hint) = IsNoNode fault × IsNowhere words hint
+IsHint words fault (Some hint) = (request : Request) × (source path : List ℕ) × AreWordsOf words request source path
+    × ((IsNoNode fault × IsNowhereIn source path hint) ⊎ (IsNameFault fault × IsNameHint request path fault hint))
 
 -- what is said of the fault of these words, with a hint or without, was appended to what the writer held
 abbrev pub SaysRefusal : List (List ℕ) → ZarrsFault → Option (List ℕ) → Option (List ℕ) → Type 0

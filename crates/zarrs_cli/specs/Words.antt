@@ -1,10 +1,12 @@
 -- The words of a call: own, in the manner of the commands of other readers of Zarr.
 -- <https://zarr-specs.readthedocs.io/en/latest/v3/core/index.html#hierarchy>
 --     spelling w, request_words r      how a word is written, and a request
+--     request_turned r      the request with its options in the other order
 --     AreWordsOf words r source path, AreWords words      the words name this request, source and path; the words are
 -- a call's
 --     AskFor words asked      the words ask this
-use Rattle.std.specs.Prelude.{◌≡◌, ◌≢◌, ◌⊎◌, ⊤, ℕ, cond, List, [], ◌∷◌, ◌++◌, codes}
+use Rattle.std.specs.Prelude.{◌≡◌, ◌≢◌, ◌⊎◌, ℕ, nat_eq, Bool, false, cond, List, [], ◌∷◌, ◌++◌, codes}
+use Rattle.std.specs.List.{starts_with}
 use Rattle.zarrs_cli.specs.declared.words.Asked.{Asked}
 use Rattle.zarrs_cli.specs.declared.words.Asked.TheVariants.{Help, Version, Store}
 use Rattle.zarrs_cli.specs.declared.words.CheckOptions.{CheckOptions}
@@ -14,9 +16,12 @@ use Rattle.zarrs_cli.specs.declared.words.Request.TheVariants.{Look, Consolidate
 use Rattle.zarrs_cli.specs.declared.words.Word.{Word}
 use Rattle.zarrs_cli.specs.declared.words.Word.TheVariants.{Tree, StoreTree, List as ListAll, Show, Check}
 
--- how the options of a check are written
+-- how the options of a check are written, in the order of the usage and in the other one
 abbrev pub option_words : CheckOptions → List (List ℕ)
 option_words options = cond options.notes (codes "--notes" ∷ []) [] ++ cond options.json (codes "--json" ∷ []) []
+
+abbrev pub options_turned : CheckOptions → List (List ℕ)
+options_turned options = cond options.json (codes "--json" ∷ []) [] ++ cond options.notes (codes "--notes" ∷ []) []
 
 -- how a word is written, with its options behind it
 abbrev pub spelling : Word → List (List ℕ)
@@ -26,42 +31,54 @@ spelling ListAll = codes "list" ∷ []
 spelling Show = codes "show" ∷ []
 spelling (Check options) = codes "check" ∷ option_words options
 
--- how the options of a consolidation are written
+-- the same with the options in the other order
+abbrev pub spelling_turned : Word → List (List ℕ)
+spelling_turned Tree = codes "tree" ∷ []
+spelling_turned StoreTree = codes "tree" ∷ codes "--store" ∷ []
+spelling_turned ListAll = codes "list" ∷ []
+spelling_turned Show = codes "show" ∷ []
+spelling_turned (Check options) = codes "check" ∷ options_turned options
+
+-- how the options of a consolidation are written, in the order of the usage and in the other one
 abbrev pub change_words : ConsolidateOptions → List (List ℕ)
 change_words options =
     cond options.dry_run (codes "--dry-run" ∷ []) [] ++ cond options.remove (codes "--remove" ∷ []) []
+
+abbrev pub changes_turned : ConsolidateOptions → List (List ℕ)
+changes_turned options =
+    cond options.remove (codes "--remove" ∷ []) [] ++ cond options.dry_run (codes "--dry-run" ∷ []) []
 
 -- how a request is written, with its options behind it
 abbrev pub request_words : Request → List (List ℕ)
 request_words (Look word) = spelling word
 request_words (Consolidate options) = codes "consolidate" ∷ change_words options
 
--- the text may name a store behind `check`: it is no option
-abbrev pub IsCheckSource : List ℕ → Type 0
-IsCheckSource source = (source ≢ codes "--notes") × (source ≢ codes "--json")
+-- the same with the options in the other order
+abbrev pub request_turned : Request → List (List ℕ)
+request_turned (Look word) = spelling_turned word
+request_turned (Consolidate options) = codes "consolidate" ∷ changes_turned options
 
--- the text may name a store behind the word: behind `tree` all but `--store`, which is a part of another word, and
--- behind `check` all but its options
-abbrev pub IsSource : Word → List ℕ → Type 0
-IsSource Tree source = source ≢ codes "--store"
-IsSource (Check options) source = IsCheckSource source
-IsSource _ source = ⊤
+-- the text begins with two dashes, as options do
+abbrev pub is_option : List ℕ → Bool
+is_option text = starts_with nat_eq text (codes "--")
 
--- the text may name a folder behind `consolidate`: it is neither the image on standard input nor an option
-abbrev pub IsFolderSource : List ℕ → Type 0
-IsFolderSource source = (source ≢ codes "-") × (source ≢ codes "--dry-run") × (source ≢ codes "--remove")
-
--- the text may name a store behind the request
+-- the text may name a store behind the request: it is no option, and where a block is written back it is not the image
+-- on standard input
 abbrev pub IsRequestSource : Request → List ℕ → Type 0
-IsRequestSource (Look word) source = IsSource word source
-IsRequestSource (Consolidate options) source = IsFolderSource source
+IsRequestSource (Look word) source = is_option source ≡ false
+IsRequestSource (Consolidate options) source = (is_option source ≡ false) × (source ≢ codes "-")
 
--- the words are a request, a source, and a path, which is `/` where it is left out
+-- behind the words of a request the words have a source, and a path, which is `/` where it is left out
+abbrev pub StandBehindRequest : List (List ℕ) → List (List ℕ) → List ℕ → List ℕ → Type 0
+StandBehindRequest words request source path =
+    ((words ≡ request ++ source ∷ []) × (path ≡ codes "/")) ⊎ (words ≡ request ++ source ∷ path ∷ [])
+
+-- the words are a request, with its options in either order, a source, and a path, which is no option
 abbrev pub AreWordsOf : List (List ℕ) → Request → List ℕ → List ℕ → Type 0
 AreWordsOf words request source path =
-    IsRequestSource request source
-    × (((words ≡ request_words request ++ source ∷ []) × (path ≡ codes "/"))
-    ⊎ (words ≡ request_words request ++ source ∷ path ∷ []))
+    IsRequestSource request source × (is_option path ≡ false)
+    × (StandBehindRequest words (request_words request) source path
+    ⊎ StandBehindRequest words (request_turned request) source path)
 
 -- the words ask for the usage
 abbrev pub AskHelp : List (List ℕ) → Type 0

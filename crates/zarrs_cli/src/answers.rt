@@ -1,11 +1,11 @@
 //! A whole run of the program, from its words to its status.
-ghost use Rattle.std.specs.Prelude.{◌≡◌, ◌≢◌, ◌⊎◌, None, IfOk, IfErr, IsTrue, OnOk, string_bytes};
+ghost use Rattle.std.specs.Prelude.{◌≡◌, ◌≢◌, ◌⊎◌, None, IfOk, IfErr, IfSome, IsTrue, OnOk, string_bytes};
 ghost use Rattle.std.specs.Option.{option_map};
 ghost use Rattle.std.specs.Io.KnownBytes.{Appends, Keeps};
 ghost use Rattle.zarrs_program.specs.Words.{texts};
 ghost use Rattle.zarrs_cli.specs.Words.{AreWords};
 ghost use Rattle.zarrs_cli.specs.Output.{WritesAsked, WritesConsolidated, WritesOverEach, WritesOverSome, WritesOverSource, WritesRequest};
-ghost use Rattle.zarrs_cli.specs.RefusalLines.{IsHint, IsNoNode, SaysRefusal};
+ghost use Rattle.zarrs_cli.specs.RefusalLines.{IsHint, IsNameError, IsNameFault, IsNameHint, IsNoNode, IsNowhereIn, SaysRefusal};
 ghost use Rattle.zarrs_cli.specs.StepsOfConsolidations.{IsNodeFolder};
 ghost use Rattle.zarrs_cli.specs.Refusals.{RefusesAsked, RefusesConsolidating, RefusesOverEach, RefusesOverSome, RefusesOverSource, RefusesRequest, answered_status};
 
@@ -13,12 +13,14 @@ use crate::consolidate::{Consolidated, consolidate_folder};
 use crate::ending::{Answered, Ending, finish};
 use crate::fault::ZarrsFault;
 use crate::folder::run_of_folder;
+use crate::hint::{path_rule, way_out};
 use crate::nowhere::{folder_name, nowhere_in_folder, nowhere_in_image};
 use crate::report::Tally;
 use crate::run::run_of_image;
 use crate::usage::{USAGE, VERSION};
 use crate::words::{Asked, BlockRequest, Command, Request, Word, parse};
-use log::Log;
+use log::sink::Discard;
+use log::{Level, Log, Logged};
 use std::alloc::{AllocError, Global};
 use std::io::{Eprint, Read, Write};
 use std::rt::Files;
@@ -26,6 +28,7 @@ use std::time::Clock;
 use zarrs_consolidate::ConsolidateError;
 use zarrs_folder::{Disk, Folder};
 use zarrs_meaning::NodeCreateError;
+use zarrs_path::{NodePath, NodePathError};
 use zarrs_program::write_whole;
 use zarrs_write::Disk as WrittenDisk;
 
@@ -71,8 +74,8 @@ pub fn answer<R: Log + Files + Clock + Eprint + AllocGlobal, I: Read, W: Write, 
     ensures status { (result.status ≡ 0) ⊎ (result.status ≡ 1) ⊎ (result.status ≡ 2) }
 {
     let outcome = run_words(host, words, reader, output);
-    let no_node = no_node(host.rt, words, &outcome);
-    finish(host.rt.alloc(), &outcome, &no_node, errors)
+    let hint = hint(host.rt, words, &outcome);
+    finish(host.rt.alloc(), &outcome, &hint, errors)
 }
 
 // Writes what the words ask.
@@ -288,8 +291,9 @@ fn run_opened<'a, R: Log + Files + Clock + Eprint + AllocGlobal, W: Write>(
     run_of_folder(rt, rt.alloc(), word, path, disk, output)
 }
 
-// What is said where there is no node at the path that the words name.
-fn no_node<R: Log + Files + Clock + Eprint + AllocGlobal>(
+// What there is to say in the place of what a fault says.
+#[tactic(auto, using(crate::proofs::Runs::name_hinted))]
+fn hint<R: Log + Files + Clock + Eprint + AllocGlobal>(
     rt: &R,
     words: &[String],
     outcome: &Result<Answered, ZarrsFault>,
@@ -300,17 +304,47 @@ fn no_node<R: Log + Files + Clock + Eprint + AllocGlobal>(
     let Err(fault) = outcome else {
         return None;
     };
-    if !is_no_node(fault) {
-        return None;
-    }
     let Ok(Asked::Store(command)) = parse(words) else {
         return None;
     };
+    if is_no_node(fault) {
+        return nowhere(rt, &command);
+    }
+    if is_name_fault(fault) {
+        return name_hint(rt.alloc(), &command, fault);
+    }
+    None
+}
+
+// What is said where there is no node at the path of a command. The run has warned of what it came upon, and this warns of nothing.
+fn nowhere<R: Log + Files + Clock + Eprint + AllocGlobal>(
+    rt: &R,
+    command: &Command<'_>,
+) -> Option<String>
+    ensures { IfSome result (λ text.
+        IsNowhereIn command.now.source.now command.now.path.now (string_bytes text)) }
+{
     if command.source == "-" {
         return nowhere_in_image(rt.alloc(), command.path).ok();
     }
-    let mut disk = Disk::open(rt, command.source).ok()?;
+    let quiet = Logged::new(rt, Level::Warn, Discard);
+    let mut disk = Disk::open(&quiet, command.source).ok()?;
     nowhere_in_folder(rt.alloc(), command.source, &mut disk, command.path).ok()
+}
+
+// What is said where a name is refused: of a path that is none what a path is, and of a tree, which then goes by a block that has the name, how it is
+// shown without the block.
+fn name_hint(alloc: Global, command: &Command<'_>, fault: &ZarrsFault) -> Option<String>
+    ensures { IfSome result (λ text.
+        IsNameHint command.now.request command.now.path.now fault.now (string_bytes text)) }
+{
+    if !NodePath::validate(command.path) {
+        return path_rule(alloc, fault).ok();
+    }
+    if matches!(command.request, Request::Look(Word::Tree)) {
+        return way_out(alloc, fault, command.path).ok();
+    }
+    None
 }
 
 // Whether a fault is that there is no node at the path.
@@ -321,6 +355,27 @@ fn is_no_node(fault: &ZarrsFault) -> bool
         ZarrsFault::Node(NodeCreateError::MissingMetadata(_)) => true,
         ZarrsFault::Consolidate(ConsolidateError::Node(NodeCreateError::MissingMetadata(_))) =>
             true,
+        _ => false,
+    }
+}
+
+// Whether a fault is of a name that is none, in a path or in a key of a block.
+fn is_name_fault(fault: &ZarrsFault) -> bool
+    ensures { IsTrue result → IsNameFault fault.now }
+{
+    match fault {
+        ZarrsFault::Node(error) => is_name_error(error),
+        ZarrsFault::Consolidate(ConsolidateError::Node(error)) => is_name_error(error),
+        _ => false,
+    }
+}
+
+// The same of the refusal of a node.
+fn is_name_error(error: &NodeCreateError) -> bool
+    ensures { IsTrue result → IsNameError error.now }
+{
+    match error {
+        NodeCreateError::NodePathError(error) => matches!(error, NodePathError::Invalid(_)),
         _ => false,
     }
 }

@@ -44,12 +44,12 @@ pub struct Ending {
 pub fn finish<W: Write>(
     alloc: Global,
     outcome: &Result<Answered, ZarrsFault>,
-    no_node: &Option<String>,
+    hint: &Option<String>,
     writer: &mut W,
 ) -> Ending
     ensures status { result.status ≡ run_status outcome.now }
     ensures said { OnOk result.said (IfErr outcome.now (λ fault.
-        SaysReason (option_map string_bytes no_node.now) fault
+        SaysReason (option_map string_bytes hint.now) fault
         (W.contents writer.old) (W.contents writer.new))) }
 {
     match outcome {
@@ -59,7 +59,7 @@ pub fn finish<W: Write>(
         },
         Err(fault) => Ending {
             status: 2,
-            said: say_reason(alloc, fault, no_node, writer),
+            said: say_reason(alloc, fault, hint, writer),
         },
     }
 }
@@ -88,15 +88,15 @@ fn say_tally<W: Write>(answered: &Answered, writer: &mut W) -> Result<(), WriteF
 fn say_reason<W: Write>(
     alloc: Global,
     fault: &ZarrsFault,
-    no_node: &Option<String>,
+    hint: &Option<String>,
     writer: &mut W,
 ) -> Result<(), WriteFault>
-    ensures { OnOk result (SaysReason (option_map string_bytes no_node.now) fault.now
+    ensures { OnOk result (SaysReason (option_map string_bytes hint.now) fault.now
         (W.contents writer.old) (W.contents writer.new)) }
 {
     match fault {
         ZarrsFault::Usage => write_whole(USAGE.as_bytes(), writer),
-        _ => say_line(alloc, fault, no_node, writer),
+        _ => say_line(alloc, fault, hint, writer),
     }
 }
 
@@ -104,25 +104,25 @@ fn say_reason<W: Write>(
 fn say_line<W: Write>(
     alloc: Global,
     fault: &ZarrsFault,
-    no_node: &Option<String>,
+    hint: &Option<String>,
     writer: &mut W,
 ) -> Result<(), WriteFault>
     requires { fault.now ≢ ZarrsFault.Usage }
-    ensures { OnOk result (SaysReason (option_map string_bytes no_node.now) fault.now
+    ensures { OnOk result (SaysReason (option_map string_bytes hint.now) fault.now
         (W.contents writer.old) (W.contents writer.new)) }
 {
-    match reason(alloc, fault, no_node) {
+    match reason(alloc, fault, hint) {
         Ok(text) => tell("zarrs", &text, writer),
         Err(AllocError) => tell("zarrs", &ZarrsFault::OutOfMemory, writer),
     }
 }
 
-// Why the run was refused: what is known of a path without a node, else what the fault says.
-fn reason(alloc: Global, fault: &ZarrsFault, no_node: &Option<String>) -> Result<String, AllocError>
+// Why the run was refused: what there is to say in the place of what the fault says, else that.
+fn reason(alloc: Global, fault: &ZarrsFault, hint: &Option<String>) -> Result<String, AllocError>
     ensures { IfOk result (λ text. string_bytes text
-        ≡ escaped_text (reason_text (option_map string_bytes no_node.now) fault.now)) }
+        ≡ escaped_text (reason_text (option_map string_bytes hint.now) fault.now)) }
 {
-    match no_node {
+    match hint {
         Some(text) => escaped(alloc, text.as_str()),
         None => {
             let text = format!(in alloc; "{fault}")?;

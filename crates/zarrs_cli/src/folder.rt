@@ -1,5 +1,5 @@
 //! A word over a folder: what it asks of the folder, and no more, is loaded first.
-ghost use Rattle.std.specs.Prelude.{◌≡◌, ◌≢◌, false, IfOk, IfErr, Contains, map, string_bytes};
+ghost use Rattle.std.specs.Prelude.{◌≡◌, ◌≢◌, false, None, IfOk, IfErr, IfSome, Contains, map, string_bytes};
 ghost use Rattle.std.specs.Io.KnownBytes.{Keeps};
 ghost use Rattle.zarrs_store.specs.Contents.{Values};
 ghost use Rattle.zarrs_path.specs.Paths.{IsBelow, IsParent, IsPath, Path};
@@ -21,6 +21,7 @@ ghost use Rattle.zarrs_cli.specs.StepsOfRuns.{HoldsAbove, IsAnswerFault, IsCheck
 use crate::fault::ZarrsFault;
 use crate::report::{Tally, report_of_check};
 use crate::run::output_of;
+use crate::shown::tree_text;
 use crate::words::Word;
 use log::Log;
 use log::sink::Discard;
@@ -99,10 +100,39 @@ fn output_of_folder<L: Log, F: Folder>(
     ensures unread { IfErr result (IsUnreadOnlyOf (F.can_fail folder.new)) }
 {
     let _valid = base.as_str();
+    if let Some(text) = tree_by_block(log, alloc, word, folder, base)? {
+        return Ok((None, text));
+    }
     let loaded = load_for(alloc, word, folder, base)?;
     let made = output_of_loaded(log, alloc, word, &loaded, base);
     mem::forget(loaded);
     made
+}
+
+// The tree of a folder from a path on, where it hangs on the documents at the path alone: by the block there, or of an array. So a block is read once;
+// where there is none, those documents are read once more.
+fn tree_by_block<L: Log, F: Folder>(
+    log: &L,
+    alloc: Global,
+    word: Word,
+    folder: &mut F,
+    base: &NodePath,
+) -> Result<Option<String>, ZarrsFault>
+    ensures ok { IfOk result (λ made.
+        IfSome made (λ text. IsWrittenOfSome word base.now (None, text))) }
+    ensures whole { IfOk result (λ made.
+        IfSome made (λ text. IsWrittenOfEach word base.now (F.agrees folder.new) (None, text))) }
+    ensures err { IfErr result RefusesFolder }
+    ensures unread { IfErr result (IsUnreadOnlyOf (F.can_fail folder.new)) }
+{
+    let _valid = base.as_str();
+    let Word::Tree = word else {
+        return Ok(None);
+    };
+    let store = load_base(alloc, folder, base)?;
+    let shown = tree_text(log, alloc, &store, base, UseConsolidatedMetadata::Must);
+    mem::forget(store);
+    Ok(shown.ok())
 }
 
 // What a word writes of what was loaded for it.

@@ -9,6 +9,7 @@ mod ending;
 mod escapes;
 mod fault;
 mod folder;
+mod hint;
 mod image;
 mod kind;
 mod nowhere;

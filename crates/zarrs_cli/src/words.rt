@@ -1,7 +1,8 @@
 //! What the words of a call ask.
-ghost use Rattle.std.specs.Prelude.{◌≡◌, ◌≢◌, [], ◌∷◌, IfOk, IfErr, codes};
+ghost use Rattle.std.specs.Prelude.{◌≡◌, ◌≢◌, [], ◌∷◌, false, IfOk, IfErr, codes};
 ghost use Rattle.zarrs_program.specs.Words.{texts};
-ghost use Rattle.zarrs_cli.specs.Words.{AreWords, AskFor, IsCheckSource, IsFolderSource, IsRequestSource, request_words};
+ghost use Rattle.zarrs_cli.specs.Words.{AreWords, AskFor, IsRequestSource, is_option};
+ghost use Rattle.zarrs_cli.specs.StepsOfWords.{Spells};
 
 use crate::fault::ZarrsFault;
 
@@ -99,7 +100,7 @@ pub enum Asked<'a> {
     Store(Command<'a>),
 }
 
-/// What the words ask.
+/// What the words ask. Options stand before the source, in either order; no source and no path begins with two dashes.
 ///
 /// # Errors
 /// `Usage` where they are no call's.
@@ -177,7 +178,7 @@ fn asked_at<'a>(word: &str, second: &'a str, third: &'a str) -> Result<Asked<'a>
     Ok(Asked::Store(Command {
         request,
         source: second,
-        path: third,
+        path: path_word(third)?,
     }))
 }
 
@@ -205,7 +206,7 @@ fn asked_by_option<'a>(
     Ok(Asked::Store(Command {
         request,
         source: third,
-        path: fourth,
+        path: path_word(fourth)?,
     }))
 }
 
@@ -227,22 +228,34 @@ fn asked_by_options<'a>(
     Ok(Asked::Store(Command {
         request,
         source,
-        path,
+        path: path_word(path)?,
     }))
+}
+
+// The path that a word names: an option is none.
+fn path_word(word: &str) -> Result<&str, ZarrsFault>
+    ensures ok { IfOk result (λ path. (path.now ≡ word.now) × (is_option word.now ≡ false)) }
+    ensures err { IfErr result
+        (λ fault. (fault ≡ ZarrsFault.Usage) × (is_option word.now ≢ false)) }
+{
+    if is_option(word) {
+        return Err(ZarrsFault::Usage);
+    }
+    Ok(word)
 }
 
 // The request before a source.
 fn request_of(word: &str, source: &str) -> Result<Request, ZarrsFault>
     ensures ok { IfOk result
-        (λ found. (request_words found ≡ word.now ∷ []) × IsRequestSource found source.now) }
+        (λ found. Spells found (word.now ∷ []) × IsRequestSource found source.now) }
     ensures err { IfErr result (λ fault. (fault ≡ ZarrsFault.Usage)
-        × ((found : Request) → (request_words found ≡ word.now ∷ [])
+        × ((found : Request) → Spells found (word.now ∷ [])
         × IsRequestSource found source.now → ⊥)) }
 {
     match word {
-        "tree" => tree_of(source),
-        "list" => Ok(Request::Look(Word::List)),
-        "show" => Ok(Request::Look(Word::Show)),
+        "tree" => look_at(Word::Tree, source),
+        "list" => look_at(Word::List, source),
+        "show" => look_at(Word::Show, source),
         "check" => check_of(false, false, source),
         "consolidate" => consolidate_of(false, false, source),
         _ => Err(ZarrsFault::Usage),
@@ -252,21 +265,23 @@ fn request_of(word: &str, source: &str) -> Result<Request, ZarrsFault>
 // The request with an option before a source.
 fn request_by(word: &str, option: &str, source: &str) -> Result<Request, ZarrsFault>
     ensures ok { IfOk result
-        (λ found. (request_words found ≡ word.now ∷ option.now ∷ [])
+        (λ found. Spells found (word.now ∷ option.now ∷ [])
         × IsRequestSource found source.now) }
     ensures err { IfErr result (λ fault. (fault ≡ ZarrsFault.Usage)
-        × ((found : Request) → (request_words found ≡ word.now ∷ option.now ∷ [])
+        × ((found : Request) → Spells found (word.now ∷ option.now ∷ [])
         × IsRequestSource found source.now → ⊥)) }
 {
     match word {
-        "tree" => store_tree_by(option),
-        "check" => check_by(option, source),
-        "consolidate" => consolidate_by(option, source),
+        "tree" if option == "--store" => look_at(Word::StoreTree, source),
+        "check" if option == "--notes" => check_of(true, false, source),
+        "check" if option == "--json" => check_of(false, true, source),
+        "consolidate" if option == "--dry-run" => consolidate_of(true, false, source),
+        "consolidate" if option == "--remove" => consolidate_of(false, true, source),
         _ => Err(ZarrsFault::Usage),
     }
 }
 
-// The request with two options before a source.
+// The request with two options before a source, in either order.
 fn request_by_two(
     word: &str,
     first: &str,
@@ -274,60 +289,21 @@ fn request_by_two(
     source: &str,
 ) -> Result<Request, ZarrsFault>
     ensures ok { IfOk result
-        (λ found. (request_words found ≡ word.now ∷ first.now ∷ second.now ∷ [])
+        (λ found. Spells found (word.now ∷ first.now ∷ second.now ∷ [])
         × IsRequestSource found source.now) }
     ensures err { IfErr result (λ fault. (fault ≡ ZarrsFault.Usage)
-        × ((found : Request) → (request_words found ≡ word.now ∷ first.now ∷ second.now ∷ [])
+        × ((found : Request) → Spells found (word.now ∷ first.now ∷ second.now ∷ [])
         × IsRequestSource found source.now → ⊥)) }
 {
     match word {
         "check" if first == "--notes" && second == "--json" => check_of(true, true, source),
+        "check" if first == "--json" && second == "--notes" => check_of(true, true, source),
         "consolidate" if first == "--dry-run" && second == "--remove" => {
             consolidate_of(true, true, source)
         }
-        _ => Err(ZarrsFault::Usage),
-    }
-}
-
-// The word `tree` before a source.
-fn tree_of(source: &str) -> Result<Request, ZarrsFault>
-    ensures ok { IfOk result (λ found. (found ≡ Request.Look Word.Tree)
-        × IsRequestSource (Request.Look Word.Tree) source.now) }
-    ensures err { IfErr result
-        (λ fault. (fault ≡ ZarrsFault.Usage)
-        × (IsRequestSource (Request.Look Word.Tree) source.now → ⊥)) }
-{
-    if source == "--store" {
-        return Err(ZarrsFault::Usage);
-    }
-    Ok(Request::Look(Word::Tree))
-}
-
-// The word `tree` with an option.
-fn store_tree_by(option: &str) -> Result<Request, ZarrsFault>
-    ensures ok { IfOk result
-        (λ found. (found ≡ Request.Look Word.StoreTree) × (option.now ≡ codes "--store")) }
-    ensures err { IfErr result
-        (λ fault. (fault ≡ ZarrsFault.Usage) × (option.now ≢ codes "--store")) }
-{
-    if option == "--store" {
-        return Ok(Request::Look(Word::StoreTree));
-    }
-    Err(ZarrsFault::Usage)
-}
-
-// The word `check` with an option before a source.
-fn check_by(option: &str, source: &str) -> Result<Request, ZarrsFault>
-    ensures ok { IfOk result
-        (λ found. (request_words found ≡ codes "check" ∷ option.now ∷ [])
-        × IsRequestSource found source.now) }
-    ensures err { IfErr result (λ fault. (fault ≡ ZarrsFault.Usage)
-        × ((found : Request) → (request_words found ≡ codes "check" ∷ option.now ∷ [])
-        × IsRequestSource found source.now → ⊥)) }
-{
-    match option {
-        "--notes" => check_of(true, false, source),
-        "--json" => check_of(false, true, source),
+        "consolidate" if first == "--remove" && second == "--dry-run" => {
+            consolidate_of(true, true, source)
+        }
         _ => Err(ZarrsFault::Usage),
     }
 }
@@ -336,30 +312,24 @@ fn check_by(option: &str, source: &str) -> Result<Request, ZarrsFault>
 fn check_of(notes: bool, json: bool, source: &str) -> Result<Request, ZarrsFault>
     ensures ok { IfOk result
         (λ found. (found ≡ Request.Look (Word.Check (record { notes = notes; json = json })))
-        × IsCheckSource source.now) }
+        × (is_option source.now ≡ false)) }
     ensures err { IfErr result
-        (λ fault. (fault ≡ ZarrsFault.Usage) × (IsCheckSource source.now → ⊥)) }
+        (λ fault. (fault ≡ ZarrsFault.Usage) × (is_option source.now ≢ false)) }
 {
-    if source == "--notes" || source == "--json" {
-        return Err(ZarrsFault::Usage);
-    }
-    Ok(Request::Look(Word::Check(CheckOptions { notes, json })))
+    look_at(Word::Check(CheckOptions { notes, json }), source)
 }
 
-// The word `consolidate` with an option before a source.
-fn consolidate_by(option: &str, source: &str) -> Result<Request, ZarrsFault>
+// A word before a source.
+fn look_at(word: Word, source: &str) -> Result<Request, ZarrsFault>
     ensures ok { IfOk result
-        (λ found. (request_words found ≡ codes "consolidate" ∷ option.now ∷ [])
-        × IsRequestSource found source.now) }
-    ensures err { IfErr result (λ fault. (fault ≡ ZarrsFault.Usage)
-        × ((found : Request) → (request_words found ≡ codes "consolidate" ∷ option.now ∷ [])
-        × IsRequestSource found source.now → ⊥)) }
+        (λ found. (found ≡ Request.Look word) × (is_option source.now ≡ false)) }
+    ensures err { IfErr result
+        (λ fault. (fault ≡ ZarrsFault.Usage) × (is_option source.now ≢ false)) }
 {
-    match option {
-        "--dry-run" => consolidate_of(true, false, source),
-        "--remove" => consolidate_of(false, true, source),
-        _ => Err(ZarrsFault::Usage),
+    if is_option(source) {
+        return Err(ZarrsFault::Usage);
     }
+    Ok(Request::Look(word))
 }
 
 // The word `consolidate` with its options before a source.
@@ -367,12 +337,20 @@ fn consolidate_of(dry_run: bool, remove: bool, source: &str) -> Result<Request, 
     ensures ok { IfOk result
         (λ found. (found
         ≡ Request.Consolidate (record { dry_run = dry_run; remove = remove }))
-        × IsFolderSource source.now) }
+        × (is_option source.now ≡ false) × (source.now ≢ codes "-")) }
     ensures err { IfErr result
-        (λ fault. (fault ≡ ZarrsFault.Usage) × (IsFolderSource source.now → ⊥)) }
+        (λ fault. (fault ≡ ZarrsFault.Usage)
+        × ((is_option source.now ≡ false) × (source.now ≢ codes "-") → ⊥)) }
 {
-    if source == "-" || source == "--dry-run" || source == "--remove" {
+    if source == "-" || is_option(source) {
         return Err(ZarrsFault::Usage);
     }
     Ok(Request::Consolidate(ConsolidateOptions { dry_run, remove }))
+}
+
+// Whether a word is written as an option is, with two dashes in front.
+fn is_option(word: &str) -> bool
+    ensures { result ≡ is_option word.now }
+{
+    word.starts_with("--")
 }
