@@ -381,7 +381,7 @@ const REFUSALS: &[(&[&str], &str)] = &[
     ),
     (
         &["consolidate", REFUSED, "x"],
-        "zarrs: invalid node path x\n",
+        "zarrs: invalid node path x (a path is / or names with a slash before each; none is empty, of periods only, or begins with __)\n",
     ),
     (
         &["consolidate", REFUSED, "/mixed"],

@@ -70,10 +70,10 @@ fn said(rt: &HostRuntime, folder: &str) -> Result<String, AllocError> {
     Ok(text)
 }
 
-// Asks whether a text has these keys and ends with this warning.
+// Asks whether a text has these keys and this warning alone.
 fn has_loaded(found: &str, keys: &str, warning: &str) -> Result<(), Fail> {
     let (found_keys, warnings) = found.split_once('[').unwrap_or((found, ""));
-    if found_keys == keys && warnings.ends_with(warning) {
+    if found_keys == keys && warnings == warning {
         Ok(())
     } else {
         Err(Fail::new(format_args!("found {found}")))
@@ -100,7 +100,7 @@ fn links_are_followed_and_one_on_its_own_way_is_named(rt: HostRuntime) -> Result
     has_loaded(
         said(&rt, "disks/link")?.as_str(),
         "a/zarr.json g/x/zarr.json g/zarr.json u/v/w zarr.json ",
-        "disks/link/up was passed over: it is a link to a folder on its own way\n",
+        "WARN  zarrs_folder::disk] disks/link/up was passed over: it is a link to a folder on its own way\n",
     )?;
     fs::remove_dir_all(&rt, "disks")?;
     Ok(())

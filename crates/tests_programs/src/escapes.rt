@@ -1,7 +1,10 @@
 //! How each kind of character is written, in texts and in lines of each word.
 use crate::asserts::{assert_ran, assert_text};
 use crate::runs::{CHECK, run};
-use zarrs_cli::{Word, escaped, push_line};
+use crate::ticking::Ticking;
+use log::warn;
+use std::alloc::AllocError;
+use zarrs_cli::{Warnings, Word, escaped, push_line};
 
 // Texts, and how they are written.
 const ESCAPES: &[(&str, &str)] = &[
@@ -35,6 +38,26 @@ fn a_line_ends_once(rt: HostRuntime) {
     push_line(&mut text, "").expect(&rt, "memory");
     push_line(&mut text, "c").expect(&rt, "memory");
     assert_text(&rt, "lines", text.as_str(), "a\\nb\n\nc\n");
+}
+
+// What goes to the standard error of two warnings.
+fn warned(rt: &HostRuntime, text: &str) -> Result<String, AllocError> {
+    let ticking = Ticking::new(rt);
+    let warnings = Warnings(&ticking);
+    warn!(&warnings; "{text}");
+    warn!(&warnings; "done");
+    String::from_utf8_lossy(rt.alloc(), &ticking.into_said())
+}
+
+#[test]
+fn a_warning_is_one_line_without_control_characters(rt: HostRuntime) {
+    let found = warned(&rt, "a\u{1b}[31m\n\\b").expect(&rt, "memory");
+    assert_text(
+        &rt,
+        "warnings",
+        found.as_str(),
+        "[WARN  tests_programs::escapes] a\\u001b[31m\\n\\\\b\n[WARN  tests_programs::escapes] done\n",
+    );
 }
 
 // A group with an array whose name and data type would make lines and colour a terminal, and a block with a key that would.

@@ -58,6 +58,9 @@ pub(crate) fn run(rt: &HostRuntime, texts: &[&str]) -> Result<(String, String, u
     let ending = answer(&host, &words, &mut reader, &mut output, &mut errors);
     let mut said = sink.into_inner();
     said.extend_from_slice(&errors)?;
+    if ending.said.is_err() {
+        said.extend_from_slice(b"and not said\n")?;
+    }
     Ok((
         String::from_utf8_lossy(alloc, &output)?,
         String::from_utf8_lossy(alloc, &said)?,
@@ -144,7 +147,7 @@ const OF_FOLDER: &[(&[&str], &str, &str, u8)] = &[
     (
         &["list", FOLDER, "x"],
         "",
-        "zarrs: invalid node path x\n",
+        "zarrs: invalid node path x (a path is / or names with a slash before each; none is empty, of periods only, or begins with __)\n",
         2,
     ),
     (&["check", FOLDER], REPORT, IGNORED_IN_CHECK, 1),
@@ -158,7 +161,7 @@ const OF_FOLDER: &[(&[&str], &str, &str, u8)] = &[
     (
         &["check", FOLDER, "a"],
         "",
-        "zarrs: invalid node path a\n",
+        "zarrs: invalid node path a (a path is / or names with a slash before each; none is empty, of periods only, or begins with __)\n",
         2,
     ),
     (
@@ -207,7 +210,13 @@ const OF_IMAGE: &[(&[&str], &str, &str, u8)] = &[
         "zarrs: 1 node, 1 finding\n",
         1,
     ),
-    (&["check", "--json", "--notes", "-"], "", USAGE, 2),
+    (
+        &["check", "--json", "--notes", "-"],
+        REPORT_JSON,
+        "zarrs: 2 nodes, 1 finding, 0 notes\n",
+        1,
+    ),
+    (&["check", "-", "--notes"], "", USAGE, 2),
     (
         &["list", "-", "/x"],
         "",
@@ -220,8 +229,24 @@ const OF_IMAGE: &[(&[&str], &str, &str, u8)] = &[
         "zarrs: there is no node at /x\\n\\u001b in the image\n",
         2,
     ),
-    (&["tree", "-", "a"], "", "zarrs: invalid node path a\n", 2),
-    (&["check", "-", "a"], "", "zarrs: invalid node path a\n", 2),
+    (
+        &["tree", "-", "a"],
+        "",
+        "zarrs: invalid node path a (a path is / or names with a slash before each; none is empty, of periods only, or begins with __)\n",
+        2,
+    ),
+    (
+        &["check", "-", "/a/"],
+        "",
+        "zarrs: invalid node path /a/ (a path is / or names with a slash before each; none is empty, of periods only, or begins with __)\n",
+        2,
+    ),
+    (
+        &["show", "-", "/__a"],
+        "",
+        "zarrs: invalid node path /__a (a path is / or names with a slash before each; none is empty, of periods only, or begins with __)\n",
+        2,
+    ),
     (&["--help"], USAGE, "", 0),
     (&["--version"], "zarrs 0.23.13\n", "", 0),
     (&[], "", USAGE, 2),
@@ -287,6 +312,61 @@ fn a_store_a_level_below_is_named(rt: HostRuntime) {
     make_folder(&rt, OUTER, &files).expect(&rt, "a folder");
     assert_calls(&rt, &rt, OF_OUTER);
     fs::remove_dir_all(&rt, OUTER).expect(&rt, "a folder");
+}
+
+// The folder of a test.
+const RESERVED: &str = "a_tree_by_a_block_with_a_reserved_name";
+
+// A group whose block has an array with a name that no node has, as xarray writes one without a name.
+const RESERVED_BLOCK: &str =
+    r#"{"consolidated_metadata":{"kind":"inline","metadata":{"__xarray_dataarray_variable__":{"chunk_grid":{"configuration":{"chunk_shape":[10,10]},"name":"regular"},"chunk_key_encoding":"default","codecs":["bytes"],"data_type":"float32","fill_value":0,"node_type":"array","shape":[10,10],"zarr_format":3}},"must_understand":false},"node_type":"group","zarr_format":3}"#;
+
+// The warnings of a listing there.
+const PASSED_OVER: &str =
+    "[WARN  zarrs_folder::disk] a_tree_by_a_block_with_a_reserved_name/__xarray_dataarray_variable__ was passed over: its name begins with __, so no listing shows it, and no block gets it\n[WARN  zarrs_node::children] Object at /other is not recognized as a component of a Zarr hierarchy. Ignoring.\n";
+
+// Words about that folder, and what is written and answered.
+const OF_RESERVED: &[(&[&str], &str, &str, u8)] = &[
+    (
+        &["tree", RESERVED],
+        "",
+        "zarrs: invalid node path invalid node name `__xarray_dataarray_variable__` in '__xarray_dataarray_variable__' (a key of the block of /; zarrs tree --store goes by the store)\n",
+        2,
+    ),
+    (
+        &["tree", "--store", RESERVED, "/t"],
+        "/t [10, 10] float32\n",
+        "",
+        0,
+    ),
+    (&["list", RESERVED], "/\n/t\n", PASSED_OVER, 0),
+    (
+        &["tree", RESERVED, "/other/g"],
+        "",
+        "zarrs: invalid node path /other/g/...\n",
+        2,
+    ),
+    (
+        &["consolidate", "--dry-run", RESERVED, "/other"],
+        "",
+        "[WARN  zarrs_folder::disk] a_tree_by_a_block_with_a_reserved_name/other/__h was passed over: its name begins with __, so no listing shows it, and no block gets it\nzarrs: there is no node at /other in a_tree_by_a_block_with_a_reserved_name (a store stands at a_tree_by_a_block_with_a_reserved_name/other/g)\n",
+        2,
+    ),
+];
+
+#[test]
+fn a_tree_by_a_block_with_a_reserved_name_is_refused_with_the_way_out(rt: HostRuntime) {
+    let files = [
+        ("zarr.json", RESERVED_BLOCK),
+        ("__xarray_dataarray_variable__/zarr.json", ARRAY),
+        ("t/zarr.json", ARRAY),
+        ("other/g/zarr.json", GROUP),
+        ("other/__h/zarr.json", GROUP),
+        ("other/g/.../0", ""),
+    ];
+    make_folder(&rt, RESERVED, &files).expect(&rt, "a folder");
+    assert_calls(&rt, &rt, OF_RESERVED);
+    fs::remove_dir_all(&rt, RESERVED).expect(&rt, "a folder");
 }
 
 // The entries of a block: a group that stands there, an array with other metadata, and groups below an array, below a bad document, below no

@@ -14,6 +14,7 @@ use zarrs_consolidate::ConsolidateError;
 use zarrs_folder::FolderFault;
 use zarrs_load::LoadFault;
 use zarrs_meaning::NodeCreateError;
+use zarrs_program::WordsFault;
 use zarrs_write::ReplaceError;
 
 // The word `check` without options.
@@ -654,7 +655,18 @@ fn a_writer_whose_flush_alone_fails_is_told(rt: HostRuntime) {
     let mut errors = Vec::new(alloc);
     let ending = finish(alloc, &looked(outcome), &None, &mut errors);
     assert_eq!(rt; ending.status, 2);
+    assert!(rt; ending.said.is_ok());
     assert_eq!(rt; errors.as_slice(), b"zarrs: write fault\n".as_slice());
+}
+
+#[test]
+fn what_the_standard_error_does_not_take_is_told(rt: HostRuntime) {
+    let ending = finish(rt.alloc(), &Err(ZarrsFault::Usage), &None, &mut Full);
+    assert_eq!(rt; ending.status, 2);
+    assert!(rt; ending.said.is_err());
+    let ending = finish(rt.alloc(), &Err(ZarrsFault::TooDeep), &None, &mut Full);
+    assert_eq!(rt; ending.status, 2);
+    assert!(rt; ending.said.is_err());
 }
 
 #[test]
@@ -683,6 +695,8 @@ fn fault_of(alloc: Global, words: &str) -> Result<Option<ZarrsFault>, AllocError
         "deep" => ZarrsFault::TooDeep,
         "replace" => ZarrsFault::from(ReplaceError::OutOfMemory),
         "write" => ZarrsFault::Write,
+        "no-text" => ZarrsFault::from(WordsFault::NotText),
+        "no-words" => ZarrsFault::from(WordsFault::OutOfMemory),
         "load" => return Ok(load_fault(alloc, word)?.map(ZarrsFault::from)),
         "consolidate" => return Ok(consolidate_error(word).map(ZarrsFault::from)),
         _ => return Ok(None),
@@ -725,6 +739,8 @@ fn fault_said(alloc: Global, words: &str) -> Result<String, AllocError> {
 // Refusals, with their variants and texts.
 const FAULTS_SAID: &str = r#"
 usage => Usage: wrong words
+no-text => Usage: wrong words
+no-words => OutOfMemory: out of memory
 load read => Load(Read): read fault
 load long => Load(ReadTooLong): input too long
 load image => Load(Image): image is not a JSON object
