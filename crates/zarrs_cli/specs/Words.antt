@@ -16,10 +16,11 @@ use Rattle.zarrs_cli.specs.declared.words.Request.TheVariants.{Look, Consolidate
 use Rattle.zarrs_cli.specs.declared.words.Word.{Word}
 use Rattle.zarrs_cli.specs.declared.words.Word.TheVariants.{Tree, StoreTree, List as ListAll, Show, Check}
 
--- how the options of a check are written, in the order of the usage and in the other one
+-- how the options of a check are written, in the order of the usage
 abbrev pub option_words : CheckOptions → List (List ℕ)
 option_words options = cond options.notes (codes "--notes" ∷ []) [] ++ cond options.json (codes "--json" ∷ []) []
 
+-- the same in the other order
 abbrev pub options_turned : CheckOptions → List (List ℕ)
 options_turned options = cond options.json (codes "--json" ∷ []) [] ++ cond options.notes (codes "--notes" ∷ []) []
 
@@ -39,11 +40,12 @@ spelling_turned ListAll = codes "list" ∷ []
 spelling_turned Show = codes "show" ∷ []
 spelling_turned (Check options) = codes "check" ∷ options_turned options
 
--- how the options of a consolidation are written, in the order of the usage and in the other one
+-- how the options of a consolidation are written, in the order of the usage
 abbrev pub change_words : ConsolidateOptions → List (List ℕ)
 change_words options =
     cond options.dry_run (codes "--dry-run" ∷ []) [] ++ cond options.remove (codes "--remove" ∷ []) []
 
+-- the same in the other order
 abbrev pub changes_turned : ConsolidateOptions → List (List ℕ)
 changes_turned options =
     cond options.remove (codes "--remove" ∷ []) [] ++ cond options.dry_run (codes "--dry-run" ∷ []) []
