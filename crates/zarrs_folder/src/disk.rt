@@ -10,6 +10,7 @@ use crate::progress::Progress;
 use crate::record::Record;
 use log::{Log, warn};
 use std::alloc::{AllocError, Global};
+use std::collections::BTreeSet;
 use std::fs::{File, Metadata};
 use std::io::{Eprint, ErrorKind, Read};
 use std::os::unix::fs::MetadataExt;
@@ -19,8 +20,8 @@ use std::{fs, io};
 use zarrs_store::{StoreKey, StorePrefix};
 
 /// A folder of the system, by its path. Links are followed, its own and those below it. A link that leads to a folder on its own way is passed
-/// over, and a warning names it. What is neither a file nor a folder is passed over too. A warning names each node that no listing shows, since its name
-/// begins with `__`.
+/// over, and a warning names it; from then on no document stands behind it. What is neither a file nor a folder is passed over too. A warning names
+/// each node that no listing shows, since its name begins with `__`.
 ///
 /// Its answers are noted, for contracts only: it agrees with each store that has all answers so far. So it promises nothing where the files
 /// change meanwhile in such a way that no store has them all.
@@ -29,12 +30,20 @@ use zarrs_store::{StoreKey, StorePrefix};
 /// <https://zarr-specs.readthedocs.io/en/latest/v3/core/index.html#storage-keys>
 #[derive(Drop)]
 pub struct Disk<'a, R> {
-    rt: &'a R,
-    folder: &'a str,
+    system: System<'a, R>,
     progress: Progress,
     documents: Record<StoreKey, Option<Vec<u8>>>,
     listings: Record<StorePrefix, Vec<StorePrefix>>,
     searches: Record<StorePrefix, Option<StoreKey>>,
+}
+
+// The system, asked of what stands below a folder.
+#[derive(Drop)]
+struct System<'a, R> {
+    rt: &'a R,
+    folder: &'a str,
+    // The names of each link to a folder on its own way that a look came upon.
+    passed: BTreeSet<String>,
 }
 
 // What stands at a path, once links are followed.
@@ -75,10 +84,12 @@ impl<'a, R: Log + Files + Clock + Eprint + AllocGlobal> Disk<'a, R> {
             → ⟦<Disk<'a, R> as Folder>⟧.agrees result V }
     {
         let mut disk = self;
-        disk.progress = Progress::new(disk.rt, is_wanted);
+        disk.progress = Progress::new(disk.system.rt, is_wanted);
         disk
     }
+}
 
+impl<R: Log + Files + AllocGlobal> System<'_, R> {
     // The path of what has this text as its key or its prefix. It has no slash behind it.
     fn path(&self, alloc: Global, text: &str) -> Result<String, AllocError> {
         let names = text.strip_suffix('/').unwrap_or(text);
@@ -93,10 +104,13 @@ impl<'a, R: Log + Files + Clock + Eprint + AllocGlobal> Disk<'a, R> {
         Ok(path)
     }
 
-    // The bytes of the file with this key. What is no file has none.
+    // The bytes of the file with this key. What is no file has none, and so has what stands behind a link that was passed over.
     fn read(&self, alloc: Global, key: &str) -> Result<Option<Vec<u8>>, FolderFault>
         ensures err { IfErr result (IsFaultOfFolder true) }
     {
+        if self.is_behind_passed(alloc, key)? {
+            return Ok(None);
+        }
         let path = self.path(alloc, key)?;
         let length = match fs::metadata(self.rt, path.as_str()) {
             Ok(metadata) if metadata.is_file() => metadata.len(),
@@ -110,8 +124,24 @@ impl<'a, R: Log + Files + Clock + Eprint + AllocGlobal> Disk<'a, R> {
         }
     }
 
+    // Whether a file stands behind a link that was passed over.
+    fn is_behind_passed(&self, alloc: Global, key: &str) -> Result<bool, AllocError> {
+        if self.passed.is_empty() {
+            return Ok(false);
+        }
+        let mut way = String::new(alloc);
+        for name in key.split('/') {
+            way.push_str(name)?;
+            if self.passed.contains(way.as_str()) {
+                return Ok(true);
+            }
+            way.push('/')?;
+        }
+        Ok(false)
+    }
+
     // The folders in a folder, in descending order of their names.
-    fn list(&self, alloc: Global, prefix: &str) -> Result<Vec<StorePrefix>, FolderFault>
+    fn list(&mut self, alloc: Global, prefix: &str) -> Result<Vec<StorePrefix>, FolderFault>
         ensures err { IfErr result (IsFaultOfFolder true) }
     {
         let mut children = Vec::new(alloc);
@@ -153,7 +183,7 @@ impl<'a, R: Log + Files + Clock + Eprint + AllocGlobal> Disk<'a, R> {
     }
 
     // The key of the first file that a search below a prefix comes upon.
-    fn search(&self, alloc: Global, prefix: &str) -> Result<Option<StoreKey>, FolderFault>
+    fn search(&mut self, alloc: Global, prefix: &str) -> Result<Option<StoreKey>, FolderFault>
         ensures err { IfErr result (IsFaultOfFolder true) }
     {
         let mut ahead = self.names(alloc, prefix)?;
@@ -195,7 +225,7 @@ impl<'a, R: Log + Files + Clock + Eprint + AllocGlobal> Disk<'a, R> {
     }
 
     // What stands behind these names.
-    fn kind(&self, alloc: Global, names: &str) -> Result<Kind, FolderFault>
+    fn kind(&mut self, alloc: Global, names: &str) -> Result<Kind, FolderFault>
         ensures err { IfErr result (IsFaultOfFolder true) }
     {
         let path = self.path(alloc, names)?;
@@ -208,13 +238,14 @@ impl<'a, R: Log + Files + Clock + Eprint + AllocGlobal> Disk<'a, R> {
     }
 
     // What a link leads to.
-    fn led_to(&self, alloc: Global, names: &str, path: &str) -> Result<Kind, FolderFault>
+    fn led_to(&mut self, alloc: Global, names: &str, path: &str) -> Result<Kind, FolderFault>
         ensures err { IfErr result (IsFaultOfFolder true) }
     {
         match fs::metadata(self.rt, path) {
             Ok(metadata) if metadata.is_dir() => {
                 if self.is_on_way(alloc, names, &metadata)? {
                     warn!(self.rt; "{path} was passed over: it is a link to a folder on its own way");
+                    self.passed.insert(String::from_str(alloc, names)?)?;
                     return Ok(Kind::Neither);
                 }
                 Ok(Kind::Folder)
@@ -259,9 +290,9 @@ impl<R: Log + Files + Clock + Eprint + AllocGlobal> Folder for Disk<'_, R> {
     /// # Errors
     /// `Unread` where the file is not looked at or not read. `OutOfMemory`.
     fn document(&mut self, alloc: Global, key: &StoreKey) -> Result<Option<Vec<u8>>, FolderFault> {
-        let found = self.read(alloc, key.as_str())?;
+        let found = self.system.read(alloc, key.as_str())?;
         let is_node = found.is_some() && is_of_node(key.as_str());
-        self.progress.count(self.rt, is_node);
+        self.progress.count(self.system.rt, is_node);
         self.documents = self.documents.with(key, &found);
         Ok(found)
     }
@@ -276,7 +307,7 @@ impl<R: Log + Files + Clock + Eprint + AllocGlobal> Folder for Disk<'_, R> {
         alloc: Global,
         prefix: &StorePrefix,
     ) -> Result<Vec<StorePrefix>, FolderFault> {
-        let children = self.list(alloc, prefix.as_str())?;
+        let children = self.system.list(alloc, prefix.as_str())?;
         self.listings = self.listings.with(prefix, &children);
         Ok(children)
     }
@@ -291,21 +322,24 @@ impl<R: Log + Files + Clock + Eprint + AllocGlobal> Folder for Disk<'_, R> {
         alloc: Global,
         prefix: &StorePrefix,
     ) -> Result<Option<StoreKey>, FolderFault> {
-        let found = self.search(alloc, prefix.as_str())?;
+        let found = self.system.search(alloc, prefix.as_str())?;
         self.searches = self.searches.with(prefix, &found);
         Ok(found)
     }
 }
 
 // A folder that was asked nothing.
-fn unasked<'a, R: Clock>(rt: &'a R, folder: &'a str) -> Disk<'a, R>
+fn unasked<'a, R: Clock + AllocGlobal>(rt: &'a R, folder: &'a str) -> Disk<'a, R>
     ensures documents { result.documents.answers ≡ [] }
     ensures listings { result.listings.answers ≡ [] }
     ensures searches { result.searches.answers ≡ [] }
 {
     Disk {
-        rt,
-        folder,
+        system: System {
+            rt,
+            folder,
+            passed: BTreeSet::new(rt.alloc()),
+        },
         progress: Progress::new(rt, false),
         documents: Record::new(),
         listings: Record::new(),
