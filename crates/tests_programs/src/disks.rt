@@ -1,6 +1,7 @@
 //! A folder of the system: its documents, links, and what is not read. Scripts beside the gate try more.
 
-use crate::folders::make_folder;
+use crate::asserts::assert_ran;
+use crate::folders::{make_folder, run};
 use crate::same::is_same;
 use crate::ticking::Ticking;
 use log::sink::Writer;
@@ -103,6 +104,26 @@ fn links_are_followed_and_one_on_its_own_way_is_named(rt: HostRuntime) -> Result
         "WARN  zarrs_folder::disk] disks/link/up was passed over: it is a link to a folder on its own way\n",
     )?;
     fs::remove_dir_all(&rt, "disks")?;
+    Ok(())
+}
+
+// A group with a block of a child, of a link and of what stands behind the link.
+const OVER_A_LINK: &str =
+    r#"{"consolidated_metadata":{"kind":"inline","metadata":{"a":{"node_type":"group","zarr_format":3},"up":{"node_type":"group","zarr_format":3},"up/a":{"node_type":"group","zarr_format":3}},"must_understand":false},"node_type":"group","zarr_format":3}"#;
+
+#[test]
+fn nothing_stands_behind_a_link_on_its_own_way(rt: HostRuntime) -> Result<(), Fail> {
+    let files = [("zarr.json", OVER_A_LINK), ("a/zarr.json", G3)];
+    make_linked(&rt, "behind", &files, &[(".", "up")])?;
+    assert_ran(
+        &rt,
+        "entries behind a link",
+        &run(&rt, &["check", "behind"])?,
+        "/up: stale: the block of / has it, and the store has not\n/up/a: stale: the block of / has it, and the store has not\n",
+        "[WARN  zarrs_folder::disk] behind/up was passed over: it is a link to a folder on its own way\nzarrs: 2 nodes, 2 findings\n",
+        1,
+    );
+    fs::remove_dir_all(&rt, "behind")?;
     Ok(())
 }
 

@@ -1,10 +1,11 @@
 //! What each call writes, and its status: of folders that a test makes, of an image, and of wrong words.
 use crate::asserts::{assert_ran, assert_text};
-use crate::runs::{ARRAY, CHECK, GROUP, image_of};
+use crate::runs::{ARRAY, CHECK, Full, GROUP, image_of};
 use crate::words::words_of;
 use log::sink::{Discard, Writer};
 use log::{Level, Logged};
 use std::alloc::{AllocError, Global};
+use std::io::{ErrorKind, Write};
 use std::process::Abort;
 use std::{fs, io};
 use zarrs_cli::{
@@ -42,12 +43,15 @@ pub(crate) fn make_folder(
     Ok(())
 }
 
-// What goes to the standard output, what to the standard error, warnings first, and the status.
-pub(crate) fn run(rt: &HostRuntime, texts: &[&str]) -> Result<(String, String, u8), AllocError> {
+// What goes to the standard error, warnings first, and the status, where this is the standard output.
+fn run_to<W: Write>(
+    rt: &HostRuntime,
+    texts: &[&str],
+    output: &mut W,
+) -> Result<(String, u8), AllocError> {
     let alloc = rt.alloc();
     let words = words_of(alloc, texts)?;
     let sink = Writer::new(Vec::new(alloc));
-    let mut output = Vec::new(alloc);
     let mut errors = Vec::new(alloc);
     let mut reader = IMAGE.as_bytes();
     let host = Host {
@@ -55,17 +59,20 @@ pub(crate) fn run(rt: &HostRuntime, texts: &[&str]) -> Result<(String, String, u
         files: rt,
         is_watched: false,
     };
-    let ending = answer(&host, &words, &mut reader, &mut output, &mut errors);
+    let ending = answer(&host, &words, &mut reader, output, &mut errors);
     let mut said = sink.into_inner();
     said.extend_from_slice(&errors)?;
     if ending.said.is_err() {
         said.extend_from_slice(b"and not said\n")?;
     }
-    Ok((
-        String::from_utf8_lossy(alloc, &output)?,
-        String::from_utf8_lossy(alloc, &said)?,
-        ending.status,
-    ))
+    Ok((String::from_utf8_lossy(alloc, &said)?, ending.status))
+}
+
+// What goes to the standard output, what to the standard error, warnings first, and the status.
+pub(crate) fn run(rt: &HostRuntime, texts: &[&str]) -> Result<(String, String, u8), AllocError> {
+    let mut output = Vec::new(rt.alloc());
+    let (said, status) = run_to(rt, texts, &mut output)?;
+    Ok((String::from_utf8_lossy(rt.alloc(), &output)?, said, status))
 }
 
 // Asserts what calls write, and their statuses.
@@ -261,6 +268,43 @@ const OF_IMAGE: &[(&[&str], &str, &str, u8)] = &[
 #[test]
 fn answers_of_an_image_and_of_wrong_words(rt: HostRuntime) {
     assert_calls(&rt, &rt, OF_IMAGE);
+}
+
+// The folder of a test.
+const UNREAD: &str = "what_is_said_where_the_output_is_not_taken";
+
+// A call of each kind, the last of which writes the block back.
+const OF_EACH_KIND: &[&[&str]] = &[
+    &["--help"],
+    &["--version"],
+    &["tree", "-"],
+    &["tree", UNREAD],
+    &["list", UNREAD],
+    &["show", UNREAD],
+    &["check", UNREAD],
+    &["consolidate", "--dry-run", UNREAD],
+    &["consolidate", UNREAD],
+];
+
+// Asserts what is said of each, where this keeps the output from being taken.
+fn assert_unwritten<R: Abort>(tests: &R, rt: &HostRuntime, kind: ErrorKind, wanted: &str) {
+    let files = [("zarr.json", STALE), ("t/zarr.json", ARRAY)];
+    make_folder(rt, UNREAD, &files).expect(tests, "a folder");
+    for texts in OF_EACH_KIND {
+        let (said, status) = run_to(rt, texts, &mut Full(kind)).expect(tests, "memory");
+        assert_text(tests, texts[0], said.as_str(), wanted);
+        assert_eq!(tests; status, 2);
+    }
+    let ran = run(rt, &["consolidate", UNREAD]).expect(tests, "memory");
+    let current = "zarr.json is current: the block of 1 node\n";
+    assert_ran(tests, "written before", &ran, current, "", 0);
+    fs::remove_dir_all(rt, UNREAD).expect(tests, "a folder");
+}
+
+#[test]
+fn an_output_that_is_not_taken_is_told_unless_nobody_reads(rt: HostRuntime) {
+    assert_unwritten(&rt, &rt, ErrorKind::StorageFull, "zarrs: write fault\n");
+    assert_unwritten(&rt, &rt, ErrorKind::BrokenPipe, "");
 }
 
 // The folder of a test.

@@ -98,13 +98,13 @@ impl Read for OneByOne<'_> {
     }
 }
 
-// A writer that takes nothing.
+/// A writer that takes nothing, for a reason.
 #[derive(Drop)]
-struct Full;
+pub(crate) struct Full(pub(crate) ErrorKind);
 
 impl Write for Full {
     fn write(&mut self, _buf: &[u8]) -> io::Result<usize> {
-        Err(Error::from(ErrorKind::Other))
+        Err(Error::from(self.0))
     }
 
     fn flush(&mut self) -> io::Result<()> {
@@ -112,9 +112,9 @@ impl Write for Full {
     }
 }
 
-// A writer that takes all bytes, and cannot hand them on.
+// A writer that takes all bytes, and cannot hand them on, for a reason.
 #[derive(Drop)]
-struct Unflushed;
+struct Unflushed(ErrorKind);
 
 impl Write for Unflushed {
     fn write(&mut self, buf: &[u8]) -> io::Result<usize> {
@@ -122,7 +122,7 @@ impl Write for Unflushed {
     }
 
     fn flush(&mut self) -> io::Result<()> {
-        Err(Error::from(ErrorKind::Other))
+        Err(Error::from(self.0))
     }
 }
 
@@ -642,29 +642,46 @@ fn a_reader_and_a_writer_fail(rt: HostRuntime) {
         rest: image.as_bytes(),
         reads_before_fault: None,
     };
-    let outcome = run_of_image(&Discard, alloc, CHECK, "/", &mut reader, &mut Full);
+    let mut full = Full(ErrorKind::StorageFull);
+    let outcome = run_of_image(&Discard, alloc, CHECK, "/", &mut reader, &mut full);
     assert_refused(&rt, alloc, &outcome, "Write: write fault");
 }
 
-#[test]
-fn a_writer_whose_flush_alone_fails_is_told(rt: HostRuntime) {
+// Asserts how a run ends whose writer fails when it is flushed, and not before, and what is said of that.
+fn assert_unflushed<R: Abort + AllocGlobal>(rt: &R, kind: ErrorKind, refusal: &str, said: &str) {
     let alloc = rt.alloc();
     let mut reader = b"{}".as_slice();
-    let outcome = run_of_image(&Discard, alloc, CHECK, "/", &mut reader, &mut Unflushed);
-    assert_refused(&rt, alloc, &outcome, "Write: write fault");
+    let mut output = Unflushed(kind);
+    let outcome = run_of_image(&Discard, alloc, CHECK, "/", &mut reader, &mut output);
+    assert_refused(rt, alloc, &outcome, refusal);
     let mut errors = Vec::new(alloc);
     let ending = finish(alloc, &looked(outcome), &None, &mut errors);
     assert_eq!(rt; ending.status, 2);
     assert!(rt; ending.said.is_ok());
-    assert_eq!(rt; errors.as_slice(), b"zarrs: write fault\n".as_slice());
+    let errors = String::from_utf8_lossy(alloc, &errors).expect(rt, "memory");
+    assert_text(rt, refusal, errors.as_str(), said);
+}
+
+#[test]
+fn a_writer_whose_flush_alone_fails_is_told(rt: HostRuntime) {
+    let told = "zarrs: write fault\n";
+    assert_unflushed(&rt, ErrorKind::Other, "Write: write fault", told);
+    assert_unflushed(&rt, ErrorKind::WriteZero, "Write: write fault", told);
+}
+
+#[test]
+fn of_a_writer_that_nobody_reads_nothing_is_told(rt: HostRuntime) {
+    let refusal = "Closed: nobody reads the output";
+    assert_unflushed(&rt, ErrorKind::BrokenPipe, refusal, "");
 }
 
 #[test]
 fn what_the_standard_error_does_not_take_is_told(rt: HostRuntime) {
-    let ending = finish(rt.alloc(), &Err(ZarrsFault::Usage), &None, &mut Full);
+    let mut errors = Full(ErrorKind::BrokenPipe);
+    let ending = finish(rt.alloc(), &Err(ZarrsFault::Usage), &None, &mut errors);
     assert_eq!(rt; ending.status, 2);
     assert!(rt; ending.said.is_err());
-    let ending = finish(rt.alloc(), &Err(ZarrsFault::TooDeep), &None, &mut Full);
+    let ending = finish(rt.alloc(), &Err(ZarrsFault::TooDeep), &None, &mut errors);
     assert_eq!(rt; ending.status, 2);
     assert!(rt; ending.said.is_err());
 }
@@ -695,6 +712,7 @@ fn fault_of(alloc: Global, words: &str) -> Result<Option<ZarrsFault>, AllocError
         "deep" => ZarrsFault::TooDeep,
         "replace" => ZarrsFault::from(ReplaceError::OutOfMemory),
         "write" => ZarrsFault::Write,
+        "closed" => ZarrsFault::Closed,
         "no-text" => ZarrsFault::from(WordsFault::NotText),
         "no-words" => ZarrsFault::from(WordsFault::OutOfMemory),
         "load" => return Ok(load_fault(alloc, word)?.map(ZarrsFault::from)),
@@ -755,6 +773,7 @@ consolidate version => Consolidate(Block(MetadataVersionMismatch)): the block of
 consolidate memory => Consolidate(OutOfMemory): out of memory
 replace => Replace(OutOfMemory): out of memory
 write => Write: write fault
+closed => Closed: nobody reads the output
 "#;
 
 #[test]

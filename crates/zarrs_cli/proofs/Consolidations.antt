@@ -23,8 +23,10 @@ use Rattle.zarrs_cli.specs.Consolidations.{AsksPlace, IsChange, IsConsolidation,
 use Rattle.zarrs_cli.specs.StepsOfConsolidations.{IsPlanFaultOfEach, IsPlanFaultOfSome, IsPlanTold, IsPlanToldOfEach, IsPlanToldOfSome}
 use Rattle.zarrs_cli.specs.declared.consolidate.Consolidated.{Consolidated}
 use Rattle.zarrs_cli.specs.declared.fault.ZarrsFault.{ZarrsFault}
-use Rattle.zarrs_cli.specs.declared.fault.ZarrsFault.TheVariants.{Usage, Load, Folder, Node, TooDeep, Consolidate, Replace, Write, OutOfMemory}
+use Rattle.zarrs_cli.specs.declared.fault.ZarrsFault.TheVariants.{Usage, Load, Folder, Node, TooDeep, Consolidate, Replace, Write, Closed, OutOfMemory}
 use Rattle.zarrs_cli.specs.declared.words.ConsolidateOptions.{ConsolidateOptions}
+use Rattle.zarrs_cli.specs.Refusals.{IsOfWriter}
+use Rattle.zarrs_cli.proofs.Runs.{of_writer}
 
 module _ (options : ConsolidateOptions) (path : List ℕ) where
   -- a text that is no path refuses the run over any store, and nothing was asked
@@ -47,6 +49,7 @@ module _ (options : ConsolidateOptions) (path : List ℕ) where
     plan_of_some asked TooDeep h = absurd h
     plan_of_some asked (Replace e) h = absurd h
     plan_of_some asked Write h = absurd h
+    plan_of_some asked Closed h = absurd h
 
     -- over each
     pub plan_of_each : (P : Values → Type 0) (asked : Option (List Asked)) (fault : ZarrsFault) → IsPlanFaultOfEach options b P fault → RefusesConsolidationOfEach options path P asked asked fault
@@ -59,6 +62,7 @@ module _ (options : ConsolidateOptions) (path : List ℕ) where
     plan_of_each P asked TooDeep h = absurd h
     plan_of_each P asked (Replace e) h = absurd h
     plan_of_each P asked Write h = absurd h
+    plan_of_each P asked Closed h = absurd h
 
     module _ (made : Plan × String Global) (before after : Option (List Asked)) where
       -- a plan that is broken off refuses the run
@@ -74,12 +78,16 @@ module _ (options : ConsolidateOptions) (path : List ℕ) where
           → IsPlanToldOfEach options b P made → RefusesConsolidationOfEach options path P before after (Replace e)
       broken_of_each P e change asked told = λ V p. broken_off (in_any V) e change asked (told V p)
 
-      -- so does a writer that fails, once the plan was carried out
-      pub unwritten_of_some : AsksPlace options made.0 before after → IsPlanToldOfSome options b made → RefusesConsolidationOfSome options path before after Write
-      unwritten_of_some asks (V, told) = (V, (b, valid, same, (made.0, told.0, asks)))
+      -- so does a writer that fails, or that nobody reads, once the plan was carried out
+      pub unwritten_of_some : (fault : ZarrsFault) → IsOfWriter fault → AsksPlace options made.0 before after → IsPlanToldOfSome options b made
+          → RefusesConsolidationOfSome options path before after fault
+      unwritten_of_some fault failed asks (V, told) =
+          (V, of_writer (RefusesConsolidation (in_any V) options path before after) fault (b, valid, same, (made.0, told.0, asks)) (b, valid, same, (made.0, told.0, asks)) failed)
 
-      pub unwritten_of_each : (P : Values → Type 0) → AsksPlace options made.0 before after → IsPlanToldOfEach options b P made → RefusesConsolidationOfEach options path P before after Write
-      unwritten_of_each P asks told = λ V p. (b, valid, same, (made.0, (told V p).0, asks))
+      pub unwritten_of_each : (P : Values → Type 0) (fault : ZarrsFault) → IsOfWriter fault → AsksPlace options made.0 before after → IsPlanToldOfEach options b P made
+          → RefusesConsolidationOfEach options path P before after fault
+      unwritten_of_each P fault failed asks told =
+          λ V p. of_writer (RefusesConsolidation (in_any V) options path before after) fault (b, valid, same, (made.0, (told V p).0, asks)) (b, valid, same, (made.0, (told V p).0, asks)) failed
 
       module _ (old new : Option (List ℕ)) (end : Consolidated) (asks : AsksPlace options made.0 before after) (ends : IsEndOf options made.0 end)
           (writes : Appends old new (string_bytes made.1)) where

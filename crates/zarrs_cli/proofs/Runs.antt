@@ -14,7 +14,7 @@ use Rattle.zarrs_program.specs.declared.output.WriteFault.{WriteFault}
 use Rattle.zarrs_load.specs.Image.{IsLoaded}
 use Rattle.zarrs_cli.specs.Output.{IsAnswer, IsWordText, WritesWord, WritesOverImage, WritesOverSome, WritesOverEach, WritesRequest, WritesAsked, usage_text, version_text}
 use Rattle.zarrs_cli.specs.RefusalLines.{IsHint, IsNameFault, IsNameHint, SaysReason, SaysRefusal}
-use Rattle.zarrs_cli.specs.Refusals.{RefusesRun, RefusesOverImage, RefusesOverSome, RefusesOverEach, RefusesRequest, RefusesAsked, answered_status, run_status, tally_status}
+use Rattle.zarrs_cli.specs.Refusals.{IsOfWriter, RefusesRun, RefusesOverImage, RefusesOverSome, RefusesOverEach, RefusesRequest, RefusesAsked, answered_status, run_status, tally_status}
 use Rattle.zarrs_cli.specs.StepsOfRuns.{IsEnough, IsFaultOfEach, IsFaultOfSome, IsAnswerFault, IsWrittenOfEach, IsWrittenOfSome}
 use Rattle.zarrs_cli.specs.Words.{AreWords, AskFor}
 use Rattle.zarrs_cli.specs.declared.report.Tally.{Tally}
@@ -29,7 +29,7 @@ use Rattle.zarrs_cli.specs.declared.ending.Answered.TheVariants as answered
 use Rattle.zarrs_cli.specs.declared.words.Request.{Request}
 use Rattle.zarrs_cli.specs.declared.words.Request.TheVariants.{Look, Consolidate as Change}
 use Rattle.zarrs_cli.specs.declared.fault.ZarrsFault.{ZarrsFault}
-use Rattle.zarrs_cli.specs.declared.fault.ZarrsFault.TheVariants.{Usage, Load, Folder, Node, TooDeep, Consolidate, Replace, Write, OutOfMemory}
+use Rattle.zarrs_cli.specs.declared.fault.ZarrsFault.TheVariants.{Usage, Load, Folder, Node, TooDeep, Consolidate, Replace, Write, Closed, OutOfMemory}
 use Rattle.zarrs_cli.proofs.LoadedAnswers.{IsSameFor, deep_over, writes_over, refuses_over}
 
 -- ---- results
@@ -48,6 +48,10 @@ err_weaker (Err e) f p = f e p
 pub err_given : {A : Type 0} (P : ZarrsFault → Type 0) (r : Result A ZarrsFault) (fault : ZarrsFault) → r ≡ Err fault → P fault → IfErr r P
 err_given P r fault is holds = subst (λ x. IfErr x P) (sym is) holds
 
+-- what holds of both faults of the writer holds of one of them
+pub of_writer : (P : ZarrsFault → Type 0) (fault : ZarrsFault) → P Write → P Closed → IsOfWriter fault → P fault
+of_writer P fault failed closed is = ⊎_elim (λ e. subst P (sym e) failed) (λ e. subst P (sym e) closed) is
+
 -- ---- over a store
 
 -- a text that is no path refuses the run
@@ -63,14 +67,15 @@ word_refused can_fail word path store base Usage valid same refused = absurd ref
 word_refused can_fail word path store base (Load e) valid same refused = absurd refused
 word_refused can_fail word path store base (Folder e) valid same refused = absurd refused
 word_refused can_fail word path store base Write valid same refused = absurd refused
+word_refused can_fail word path store base Closed valid same refused = absurd refused
 word_refused can_fail word path store base TooDeep valid same refused = (base, valid, same, refused)
 word_refused can_fail word path store base (Consolidate e) valid same refused = absurd refused
 word_refused can_fail word path store base (Replace e) valid same refused = absurd refused
 
--- where the writer fails there is an answer
+-- where the writer fails, or nobody reads, there is an answer
 pub unwritten : (can_fail : Bool) (word : Word) (path : List ℕ) (store : Contents) (tally : Option Tally) (text : List ℕ) (fault : ZarrsFault) → IsAnswer word path store tally text
-    → fault ≡ Write → RefusesRun can_fail word path store fault
-unwritten can_fail word path store tally text fault is failed = subst (RefusesRun can_fail word path store) (sym failed) (tally, text, is)
+    → IsOfWriter fault → RefusesRun can_fail word path store fault
+unwritten can_fail word path store tally text fault is failed = of_writer (RefusesRun can_fail word path store) fault (tally, text, is) (tally, text, is) failed
 
 -- ---- over an image
 
@@ -104,6 +109,7 @@ fault_over word S L b Usage valid same refused = absurd refused
 fault_over word S L b (Load e) valid same refused = absurd refused
 fault_over word S L b (Folder e) valid same refused = absurd refused
 fault_over word S L b Write valid same refused = absurd refused
+fault_over word S L b Closed valid same refused = absurd refused
 fault_over word S L b TooDeep valid same refused = deep_over word S L b (enough_same word S L b same) refused
 fault_over word S L b (Consolidate e) valid same refused = absurd refused
 fault_over word S L b (Replace e) valid same refused = absurd refused
@@ -142,8 +148,8 @@ module _ (word : Word) (path : List ℕ) (b : Path) (valid : IsPath b) (same : p
     pub written_of_each : (P : Values → Type 0) → IsWrittenOfEach word b P made → WritesOverEach word path P old new made.0
     written_of_each P writes = λ V p. (string_bytes made.1, (b, valid, same, writes V p), appends)
 
-  -- where the writer fails there is an answer
-  pub unwritten_of_some : (made : Option Tally × String Global) (fault : ZarrsFault) → IsWrittenOfSome word b made → fault ≡ Write → RefusesOverSome word path fault
+  -- where the writer fails, or nobody reads, there is an answer
+  pub unwritten_of_some : (made : Option Tally × String Global) (fault : ZarrsFault) → IsWrittenOfSome word b made → IsOfWriter fault → RefusesOverSome word path fault
   unwritten_of_some made fault writes failed = inr (writes.0, unwritten false word path (in_any writes.0) made.0 (string_bytes made.1) fault (b, valid, same, writes.1) failed)
 
 -- a text that is no path refuses the run over any store
@@ -183,15 +189,17 @@ pub command_answered : (words : List (List ℕ)) (command : Command) (left old n
     → IfOk r (WritesRequest command.request command.source.now command.path.now left old new) → IfOk r (WritesAsked words left old new)
 command_answered words command left old new r are = ok_weaker r (λ end writes. inr (inr (command.request, command.source.now, command.path.now, are, writes)))
 
--- where the writer fails of the usage, the words that ask for it are refused
+-- where the writer fails of the usage, or nobody reads it, the words that ask for it are refused
 pub help_refused : (words : List (List ℕ)) (asked : Asked) (before after : Option (List ℕ)) (r : Result Answered ZarrsFault) → AskFor words asked → asked ≡ Help
-    → IfErr r (λ fault. fault ≡ Write) → IfErr r (RefusesAsked words before after)
-help_refused words asked before after r are is = err_weaker r (λ fault failed. subst (RefusesAsked words before after) (sym failed) (inl (subst (AskFor words) is are)))
+    → IfErr r IsOfWriter → IfErr r (RefusesAsked words before after)
+help_refused words asked before after r are is =
+    err_weaker r (λ fault failed. of_writer (RefusesAsked words before after) fault (inl (subst (AskFor words) is are)) (inl (subst (AskFor words) is are)) failed)
 
 -- and so are those that ask for the version, where it fails of that
 pub version_refused : (words : List (List ℕ)) (asked : Asked) (before after : Option (List ℕ)) (r : Result Answered ZarrsFault) → AskFor words asked → asked ≡ Version
-    → IfErr r (λ fault. fault ≡ Write) → IfErr r (RefusesAsked words before after)
-version_refused words asked before after r are is = err_weaker r (λ fault failed. subst (RefusesAsked words before after) (sym failed) (inr (inl (subst (AskFor words) is are))))
+    → IfErr r IsOfWriter → IfErr r (RefusesAsked words before after)
+version_refused words asked before after r are is =
+    err_weaker r (λ fault failed. of_writer (RefusesAsked words before after) fault (inr (inl (subst (AskFor words) is are))) (inr (inl (subst (AskFor words) is are))) failed)
 
 -- no wrong words are refused of a source
 no_usage : (request : Request) (source path : List ℕ) (before after : Option (List ℕ)) → RefusesRequest request source path before after Usage → ⊥
@@ -204,6 +212,7 @@ command_fault : (words : List (List ℕ)) (command : Command) (before after : Op
     → (fault : ZarrsFault) → RefusesRequest command.request command.source.now command.path.now before after fault → RefusesAsked words before after fault
 command_fault words command before after are Usage refused = absurd (no_usage command.request command.source.now command.path.now before after refused)
 command_fault words command before after are Write refused = inr (inr (command.request, command.source.now, command.path.now, are, refused))
+command_fault words command before after are Closed refused = inr (inr (command.request, command.source.now, command.path.now, are, refused))
 command_fault words command before after are (Load e) refused = (command.request, command.source.now, command.path.now, are, refused)
 command_fault words command before after are (Folder e) refused = (command.request, command.source.now, command.path.now, are, refused)
 command_fault words command before after are (Node e) refused = (command.request, command.source.now, command.path.now, are, refused)

@@ -16,7 +16,8 @@ use Rattle.zarrs_consolidate.specs.Refusals.{IsUnread, RefusesPlan}
 use Rattle.zarrs_consolidate.specs.declared.plan.Plan.{Plan}
 use Rattle.zarrs_cli.specs.Consolidations.{AsksPlace, IsChange, task_of}
 use Rattle.zarrs_cli.specs.declared.fault.ZarrsFault.{ZarrsFault}
-use Rattle.zarrs_cli.specs.declared.fault.ZarrsFault.TheVariants.{Node, Consolidate, Replace, Write, OutOfMemory}
+use Rattle.zarrs_cli.specs.declared.fault.ZarrsFault.TheVariants.{Node, Consolidate, Replace}
+use Rattle.zarrs_cli.specs.declared.fault.ZarrsFault.TheVariants.{Write, Closed, OutOfMemory}
 use Rattle.zarrs_cli.specs.declared.words.ConsolidateOptions.{ConsolidateOptions}
 
 -- the text is that of a path of which this holds
@@ -29,7 +30,8 @@ HoldsOfPlan s options path P =
     HoldsAtPath path (λ base. (plan : Plan) × IsPlan s (task_of options) base plan × P plan)
 
 -- The run over a store is refused. The text is no path, or it is not known what becomes of the block, or out of memory:
--- then nothing was asked of the folder. Or a plan was broken off; or it was carried out, and the writer failed.
+-- then nothing was asked of the folder. Or a plan was broken off; or it was carried out, and the writer failed, or
+-- nobody reads what it writes.
 abbrev pub RefusesConsolidation : Contents → ConsolidateOptions → List ℕ → Option (List Asked) → Option (List Asked)
     → ZarrsFault → Type 0
 RefusesConsolidation s options path before after (Node e) = (after ≡ before) × RefusesPathText path e
@@ -39,6 +41,8 @@ RefusesConsolidation s options path before after (Replace e) =
     HoldsOfPlan s options path (λ plan. (IsChange plan × (options.dry_run ≡ false))
     × AddsSome before after (IsPlanBrokenOff e plan))
 RefusesConsolidation s options path before after Write =
+    HoldsOfPlan s options path (λ plan. AsksPlace options plan before after)
+RefusesConsolidation s options path before after Closed =
     HoldsOfPlan s options path (λ plan. AsksPlace options plan before after)
 RefusesConsolidation s options path before after OutOfMemory = after ≡ before
 RefusesConsolidation s options path before after _ = ⊥

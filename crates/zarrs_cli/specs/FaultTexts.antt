@@ -9,7 +9,7 @@ use Rattle.zarrs_consolidate.specs.FaultTexts.{consolidate_error_text}
 use Rattle.zarrs_write.specs.FaultTexts.{replace_error_text}
 use Rattle.zarrs_cli.specs.declared.fault.ZarrsFault.{ZarrsFault}
 use Rattle.zarrs_cli.specs.declared.fault.ZarrsFault.TheVariants.{Usage, Load, Folder, Node, TooDeep, Consolidate}
-use Rattle.zarrs_cli.specs.declared.fault.ZarrsFault.TheVariants.{Replace, Write, OutOfMemory}
+use Rattle.zarrs_cli.specs.declared.fault.ZarrsFault.TheVariants.{Replace, Write, Closed, OutOfMemory}
 
 -- why a run is refused
 abbrev pub zarrs_fault_text : ZarrsFault → List ℕ
@@ -21,4 +21,5 @@ zarrs_fault_text TooDeep = codes "the document would nest deeper than any that i
 zarrs_fault_text (Consolidate error) = consolidate_error_text error
 zarrs_fault_text (Replace error) = replace_error_text error
 zarrs_fault_text Write = write_fault_text
+zarrs_fault_text Closed = codes "nobody reads the output"
 zarrs_fault_text OutOfMemory = codes "out of memory"

@@ -1,5 +1,5 @@
--- What a refused run says on the standard error: the usage, or a line that says why (POSIX.1-2017, "Utility
--- Description Defaults", "STDERR").
+-- What a refused run says on the standard error: the usage, or a line that says why, or nothing where nobody reads its
+-- output any more (POSIX.1-2017, "Utility Description Defaults", "STDERR").
 -- <https://pubs.opengroup.org/onlinepubs/9699919799/utilities/V3_chap01.html>
 --     refusal_line text      the line that says a text
 --     IsRefusalText hint fault text      what is said of a fault
@@ -7,7 +7,7 @@
 --     IsNameHint request path fault hint      it says what helps where a name is refused
 --     SaysRefusal words fault before after      this was said of the fault of these words
 use Rattle.std.specs.Prelude.{◌≡◌, ◌≢◌, ◌⊎◌, ⊤, ℕ, List, [], ◌∷◌, ◌++◌, codes, Option, Some, None}
-use Rattle.std.specs.Io.KnownBytes.{Appends}
+use Rattle.std.specs.Io.KnownBytes.{Appends, Keeps}
 use Rattle.zarrs_path.specs.Paths.{Path, IsPath, IsPathText, path_text}
 use Rattle.zarrs_path.specs.declared.node_path.NodePathError.TheVariants.{Invalid}
 use Rattle.zarrs_meaning.specs.declared.node_create_error.NodeCreateError.{NodeCreateError}
@@ -19,7 +19,7 @@ use Rattle.zarrs_cli.specs.Output.{usage_text}
 use Rattle.zarrs_cli.specs.Words.{AreWordsOf}
 use Rattle.zarrs_cli.specs.declared.fault.ZarrsFault.{ZarrsFault}
 use Rattle.zarrs_consolidate.specs.declared.fault.ConsolidateError.TheVariants as consolidating
-use Rattle.zarrs_cli.specs.declared.fault.ZarrsFault.TheVariants.{Usage, Node, Consolidate, OutOfMemory}
+use Rattle.zarrs_cli.specs.declared.fault.ZarrsFault.TheVariants.{Usage, Node, Consolidate, Closed, OutOfMemory}
 use Rattle.zarrs_cli.specs.declared.words.Request.{Request}
 use Rattle.zarrs_cli.specs.declared.words.Request.TheVariants.{Look}
 use Rattle.zarrs_cli.specs.declared.words.Word.TheVariants.{Tree}
@@ -46,9 +46,11 @@ IsRefusalText hint fault text =
     ((fault ≡ Usage) × (text ≡ usage_text))
     ⊎ ((fault ≢ Usage) × ((text ≡ refusal_line (reason_text hint fault)) ⊎ (text ≡ memory_line)))
 
--- what is said of the fault was appended to what the writer held
+-- what is said of the fault was appended to what the writer held: nothing where nobody reads the output any more
 abbrev pub SaysReason : Option (List ℕ) → ZarrsFault → Option (List ℕ) → Option (List ℕ) → Type 0
-SaysReason hint fault before after = (text : List ℕ) × IsRefusalText hint fault text × Appends before after text
+SaysReason hint fault before after =
+    ((fault ≡ Closed) × Keeps before after)
+    ⊎ ((fault ≢ Closed) × ((text : List ℕ) × IsRefusalText hint fault text × Appends before after text))
 
 -- ---- a path without a node
 

@@ -4,10 +4,14 @@
 --     RefusesRun can_fail w path s      why a run over a store is refused
 --     IsUnreadOnlyOf can_fail fault      what a folder may refuse
 --     RefusesAsked words left      why a run of the program is
+--     IsOfWriter fault      the fault is of the writer
 --     run_status      the exit status
 use Rattle.std.specs.Prelude.{◌≡◌, ◌≢◌, ℕ, Bool, false, List, ⊤, Option, Some, None, Result, Ok, Err, ◌⊎◌, cond, codes}
 use Rattle.std.specs.Prelude.{◌==◌}
 use Rattle.std.specs.Io.KnownBytes.{IsAtEnd}
+use Rattle.std.specs.IoError.{error_kind}
+use Rattle.std.specs.declared.io.Error.{Error}
+use Rattle.std.specs.declared.io.ErrorKind.TheVariants.{BrokenPipe}
 use Rattle.zarrs_store.specs.Contents.{Contents, Values}
 use Rattle.zarrs_path.specs.Paths.{Path, IsPath, path_text}
 use Rattle.zarrs_config.specs.declared.version.MetadataRetrieveVersion.TheVariants.{Default}
@@ -25,7 +29,7 @@ use Rattle.zarrs_cli.specs.Output.{IsAnswer}
 use Rattle.zarrs_cli.specs.Words.{AreWords, AreWordsOf, AskHelp, AskVersion}
 use Rattle.zarrs_cli.specs.declared.report.Tally.{Tally}
 use Rattle.zarrs_cli.specs.declared.fault.ZarrsFault.{ZarrsFault}
-use Rattle.zarrs_cli.specs.declared.fault.ZarrsFault.TheVariants.{Usage, Load, Folder, Node, TooDeep, Write}
+use Rattle.zarrs_cli.specs.declared.fault.ZarrsFault.TheVariants.{Usage, Load, Folder, Node, TooDeep, Write, Closed}
 use Rattle.zarrs_cli.specs.declared.fault.ZarrsFault.TheVariants.{Consolidate as NoPlan, OutOfMemory}
 use Rattle.zarrs_node.specs.OpeningNodes.{RefusesNode}
 use Rattle.zarrs_write.specs.Calls.{Asked}
@@ -60,12 +64,14 @@ RefusesPathOf can_fail word path store e =
     (base : Path) × IsPath base × (path_text base ≡ path) × RefusesAnswer can_fail word store base e
 
 -- a run over the store is refused: the text is no path, or the calls of the word refuse it; or the document that is
--- shown nests too deep; or there is an answer, and the writer failed; or out of memory
+-- shown nests too deep; or there is an answer, and the writer failed or nobody reads; or out of memory
 abbrev pub RefusesRun : Bool → Word → List ℕ → Contents → ZarrsFault → Type 0
 RefusesRun can_fail word path store (Node e) = RefusesPathText path e ⊎ RefusesPathOf can_fail word path store e
 RefusesRun can_fail word path store TooDeep =
     (base : Path) × IsPath base × (path_text base ≡ path) × IsTooDeepFor word store base
 RefusesRun can_fail word path store Write =
+    (tally : Option Tally) × (text : List ℕ) × IsAnswer word path store tally text
+RefusesRun can_fail word path store Closed =
     (tally : Option Tally) × (text : List ℕ) × IsAnswer word path store tally text
 RefusesRun can_fail word path store OutOfMemory = ⊤
 RefusesRun can_fail word path store _ = ⊥
@@ -75,6 +81,15 @@ abbrev pub RefusesImage : Option (List ℕ) → Option (List ℕ) → ZarrsFault
 RefusesImage before after (Load fault) = RefusedImage before after fault
 RefusesImage before after OutOfMemory = ⊤
 RefusesImage before after _ = ⊥
+
+-- the fault is of the writer: it failed, or nobody reads what is written any more
+abbrev pub IsOfWriter : ZarrsFault → Type 0
+IsOfWriter fault = (fault ≡ Write) ⊎ (fault ≡ Closed)
+
+-- the fault of this error of the writer: nobody reads where the pipe is broken, else the writer failed
+abbrev pub IsWriterFault : Error → ZarrsFault → Type 0
+IsWriterFault error fault =
+    ((error_kind error ≡ BrokenPipe) × (fault ≡ Closed)) ⊎ ((error_kind error ≢ BrokenPipe) × (fault ≡ Write))
 
 -- words that are not UTF-8 are no call's; or out of memory
 abbrev pub IsWordsFault : WordsFault → ZarrsFault → Type 0
@@ -132,11 +147,12 @@ RefusesNamed words before after fault =
     (request : Request) × (source path : List ℕ) × AreWordsOf words request source path
     × RefusesRequest request source path before after fault
 
--- the words are no call's; or they ask for the usage or the version, and the writer failed; or what they ask of a store
--- is refused
+-- the words are no call's; or they ask for the usage or the version, and the writer failed or nobody reads; or what
+-- they ask of a store is refused
 abbrev pub RefusesAsked : List (List ℕ) → Option (List ℕ) → Option (List ℕ) → ZarrsFault → Type 0
 RefusesAsked words before after Usage = AreWords words → ⊥
 RefusesAsked words before after Write = AskHelp words ⊎ AskVersion words ⊎ RefusesNamed words before after Write
+RefusesAsked words before after Closed = AskHelp words ⊎ AskVersion words ⊎ RefusesNamed words before after Closed
 RefusesAsked words before after fault = RefusesNamed words before after fault
 
 -- the status of what is shown: 1 where a check has a finding, else 0

@@ -20,7 +20,7 @@ use Rattle.zarrs_cli.specs.declared.words.Word.TheVariants.{Tree, StoreTree, Lis
 abbrev pub option_words : CheckOptions → List (List ℕ)
 option_words options = cond options.notes (codes "--notes" ∷ []) [] ++ cond options.json (codes "--json" ∷ []) []
 
--- the same in the other order
+-- how the options of a check are written, where --json stands before --notes
 abbrev pub options_turned : CheckOptions → List (List ℕ)
 options_turned options = cond options.json (codes "--json" ∷ []) [] ++ cond options.notes (codes "--notes" ∷ []) []
 
@@ -32,20 +32,17 @@ spelling ListAll = codes "list" ∷ []
 spelling Show = codes "show" ∷ []
 spelling (Check options) = codes "check" ∷ option_words options
 
--- the same with the options in the other order
+-- how a word is written, with its options in the order that the usage has not, where there are two
 abbrev pub spelling_turned : Word → List (List ℕ)
-spelling_turned Tree = codes "tree" ∷ []
-spelling_turned StoreTree = codes "tree" ∷ codes "--store" ∷ []
-spelling_turned ListAll = codes "list" ∷ []
-spelling_turned Show = codes "show" ∷ []
 spelling_turned (Check options) = codes "check" ∷ options_turned options
+spelling_turned word = spelling word
 
 -- how the options of a consolidation are written, in the order of the usage
 abbrev pub change_words : ConsolidateOptions → List (List ℕ)
 change_words options =
     cond options.dry_run (codes "--dry-run" ∷ []) [] ++ cond options.remove (codes "--remove" ∷ []) []
 
--- the same in the other order
+-- how the options of a consolidation are written, where --remove stands before --dry-run
 abbrev pub changes_turned : ConsolidateOptions → List (List ℕ)
 changes_turned options =
     cond options.remove (codes "--remove" ∷ []) [] ++ cond options.dry_run (codes "--dry-run" ∷ []) []
@@ -55,7 +52,7 @@ abbrev pub request_words : Request → List (List ℕ)
 request_words (Look word) = spelling word
 request_words (Consolidate options) = codes "consolidate" ∷ change_words options
 
--- the same with the options in the other order
+-- how a request is written, with its options in the order that the usage has not, where there are two
 abbrev pub request_turned : Request → List (List ℕ)
 request_turned (Look word) = spelling_turned word
 request_turned (Consolidate options) = codes "consolidate" ∷ changes_turned options

@@ -1,5 +1,5 @@
 //! A whole run of the program, from its words to its status.
-ghost use Rattle.std.specs.Prelude.{◌≡◌, ◌≢◌, ◌⊎◌, None, IfOk, IfErr, IfSome, IsTrue, OnOk, string_bytes};
+ghost use Rattle.std.specs.Prelude.{◌≡◌, ◌⊎◌, None, IfOk, IfErr, IfSome, IsTrue, OnOk, string_bytes};
 ghost use Rattle.std.specs.Option.{option_map};
 ghost use Rattle.std.specs.Io.KnownBytes.{Appends, Keeps};
 ghost use Rattle.zarrs_program.specs.Words.{texts};
@@ -7,7 +7,7 @@ ghost use Rattle.zarrs_cli.specs.Words.{AreWords};
 ghost use Rattle.zarrs_cli.specs.Output.{WritesAsked, WritesConsolidated, WritesOverEach, WritesOverSome, WritesOverSource, WritesRequest};
 ghost use Rattle.zarrs_cli.specs.RefusalLines.{IsHint, IsNameError, IsNameFault, IsNameHint, IsNoNode, IsNowhereIn, SaysRefusal};
 ghost use Rattle.zarrs_cli.specs.StepsOfConsolidations.{IsNodeFolder};
-ghost use Rattle.zarrs_cli.specs.Refusals.{RefusesAsked, RefusesConsolidating, RefusesOverEach, RefusesOverSome, RefusesOverSource, RefusesRequest, answered_status};
+ghost use Rattle.zarrs_cli.specs.Refusals.{IsOfWriter, RefusesAsked, RefusesConsolidating, RefusesOverEach, RefusesOverSome, RefusesOverSource, RefusesRequest, answered_status};
 
 use crate::consolidate::{Consolidated, consolidate_folder};
 use crate::ending::{Answered, Ending, finish};
@@ -15,6 +15,7 @@ use crate::fault::ZarrsFault;
 use crate::folder::run_of_folder;
 use crate::hint::{path_rule, way_out};
 use crate::nowhere::{folder_name, nowhere_in_folder, nowhere_in_image};
+use crate::output::write_output;
 use crate::report::Tally;
 use crate::run::run_of_image;
 use crate::usage::{USAGE, VERSION};
@@ -29,7 +30,6 @@ use zarrs_consolidate::ConsolidateError;
 use zarrs_folder::{Disk, Folder};
 use zarrs_meaning::NodeCreateError;
 use zarrs_path::{NodePath, NodePathError};
-use zarrs_program::write_whole;
 use zarrs_write::Disk as WrittenDisk;
 
 /// What a run has of the system beside its words and its streams.
@@ -46,9 +46,10 @@ pub struct Host<'a, R> {
     pub is_watched: bool,
 }
 
-/// Writes what the words ask, and on standard error how much a check looked at and found, or why the run is refused. Where standard error is watched and a
-/// folder takes long, lines there say how many nodes were read so far. It handles every error itself and returns only how the run ended. The exit status is 0
-/// where all is done, 1 where a check has findings or a dry run would write, and 2 where the run is refused.
+/// Writes what the words ask, and on standard error how much a check looked at and found, or why the run is refused, but nothing where nobody reads the output
+/// any more. Where standard error is watched and a folder takes long, lines there say how many nodes were read so far. It handles every error itself and
+/// returns only how the run ended. The exit status is 0 where all is done, 1 where a check has findings or a dry run would write, and 2 where the run is
+/// refused.
 ///
 /// The host writes what is written back: a value that logs does not hand on the call that gives a file its owner.
 pub fn answer<R: Log + Files + Clock + Eprint + AllocGlobal, I: Read, W: Write, E: Write>(
@@ -67,7 +68,7 @@ pub fn answer<R: Log + Files + Clock + Eprint + AllocGlobal, I: Read, W: Write, 
     ensures refused { result.status ≡ 2 → (fault : ZarrsFault)
         × RefusesAsked (texts words.now)
         (I.remaining reader.old) (I.remaining reader.new) fault
-        × (fault ≢ ZarrsFault.Write → Keeps (W.contents output.old) (W.contents output.new))
+        × ((IsOfWriter fault → ⊥) → Keeps (W.contents output.old) (W.contents output.new))
         × OnOk result.said (SaysRefusal (texts words.now) fault
         (E.contents errors.old) (E.contents errors.new)) }
     ensures usage { (AreWords (texts words.now) → ⊥) → result.status ≡ 2 }
@@ -89,7 +90,7 @@ fn run_words<R: Log + Files + Clock + Eprint + AllocGlobal, I: Read, W: Write>(
         (W.contents output.old) (W.contents output.new)) }
     ensures refused { IfErr result (RefusesAsked (texts words.now)
         (I.remaining reader.old) (I.remaining reader.new)) }
-    ensures silent { IfErr result (λ fault. fault ≢ ZarrsFault.Write
+    ensures silent { IfErr result (λ fault. (IsOfWriter fault → ⊥)
         → Keeps (W.contents output.old) (W.contents output.new)) }
 {
     match parse(words)? {
@@ -104,9 +105,9 @@ fn write_alone<W: Write>(text: &str, output: &mut W) -> Result<Answered, ZarrsFa
     ensures none { IfOk result (λ answered. answered ≡ Answered.Looked None) }
     ensures ok { IfOk result
         (λ _. Appends (W.contents output.old) (W.contents output.new) text.now) }
-    ensures err { IfErr result (λ fault. fault ≡ ZarrsFault.Write) }
+    ensures err { IfErr result IsOfWriter }
 {
-    write_whole(text.as_bytes(), output)?;
+    write_output(text, output)?;
     Ok(Answered::Looked(None))
 }
 
@@ -123,7 +124,7 @@ fn run_command<R: Log + Files + Clock + Eprint + AllocGlobal, I: Read, W: Write>
     ensures refused { IfErr result (RefusesRequest
         command.now.request command.now.source.now command.now.path.now
         (I.remaining reader.old) (I.remaining reader.new)) }
-    ensures silent { IfErr result (λ fault. fault ≢ ZarrsFault.Write
+    ensures silent { IfErr result (λ fault. (IsOfWriter fault → ⊥)
         → Keeps (W.contents output.old) (W.contents output.new)) }
 {
     let (source, path) = (command.source, command.path);
@@ -153,7 +154,7 @@ fn look<R: Log + Files + Clock + Eprint + AllocGlobal, I: Read, W: Write>(
         (I.remaining reader.old) (W.contents output.old) (W.contents output.new)) }
     ensures refused { IfErr result (RefusesOverSource word source.now path.now
         (I.remaining reader.old) (I.remaining reader.new)) }
-    ensures silent { IfErr result (λ fault. fault ≢ ZarrsFault.Write
+    ensures silent { IfErr result (λ fault. (IsOfWriter fault → ⊥)
         → Keeps (W.contents output.old) (W.contents output.new)) }
 {
     if source == "-" {
@@ -173,7 +174,7 @@ fn consolidate_disk<R: Log + Files + Clock + Eprint + AllocGlobal, W: Write>(
         (W.contents output.old) (W.contents output.new)) }
     ensures refused { IfErr result
         (RefusesConsolidating request.entry.options request.entry.path.now) }
-    ensures silent { IfErr result (λ fault. fault ≢ ZarrsFault.Write
+    ensures silent { IfErr result (λ fault. (IsOfWriter fault → ⊥)
         → Keeps (W.contents output.old) (W.contents output.new)) }
 {
     let mut disk = Disk::open(host.rt, source)?.telling(host.is_watched);
@@ -193,7 +194,7 @@ fn consolidate_opened<'a, R: Log + Files + Clock + Eprint + AllocGlobal, W: Writ
         (W.contents output.old) (W.contents output.new)) }
     ensures refused { IfErr result
         (RefusesConsolidating request.entry.options request.entry.path.now) }
-    ensures silent { IfErr result (λ fault. fault ≢ ZarrsFault.Write
+    ensures silent { IfErr result (λ fault. (IsOfWriter fault → ⊥)
         → Keeps (W.contents output.old) (W.contents output.new)) }
 {
     consolidate_at(host.rt, host.files, request, place, disk, output)
@@ -212,7 +213,7 @@ fn consolidate_at<L: Log, F: Folder, W: Write>(
         (W.contents output.old) (W.contents output.new)) }
     ensures refused { IfErr result
         (RefusesConsolidating request.entry.options request.entry.path.now) }
-    ensures silent { IfErr result (λ fault. fault ≢ ZarrsFault.Write
+    ensures silent { IfErr result (λ fault. (IsOfWriter fault → ⊥)
         → Keeps (W.contents output.old) (W.contents output.new)) }
 {
     let mut place = WrittenDisk::new(files, place);
@@ -232,7 +233,7 @@ fn consolidate_placed<'a, L: Log, F: Folder, W: Write>(
         (W.contents output.old) (W.contents output.new)) }
     ensures refused { IfErr result
         (RefusesConsolidating request.entry.options request.entry.path.now) }
-    ensures silent { IfErr result (λ fault. fault ≢ ZarrsFault.Write
+    ensures silent { IfErr result (λ fault. (IsOfWriter fault → ⊥)
         → Keeps (W.contents output.old) (W.contents output.new)) }
 {
     consolidate_folder(log, alloc, request, folder, place, output)
@@ -262,7 +263,7 @@ fn run_disk<R: Log + Files + Clock + Eprint + AllocGlobal, W: Write>(
     ensures ok { IfOk result
         (WritesOverSome word path.now (W.contents output.old) (W.contents output.new)) }
     ensures refused { IfErr result (RefusesOverSome word path.now) }
-    ensures silent { IfErr result (λ fault. fault ≢ ZarrsFault.Write
+    ensures silent { IfErr result (λ fault. (IsOfWriter fault → ⊥)
         → Keeps (W.contents output.old) (W.contents output.new)) }
 {
     let mut disk = Disk::open(host.rt, source)?.telling(host.is_watched);
@@ -285,7 +286,7 @@ fn run_opened<'a, R: Log + Files + Clock + Eprint + AllocGlobal, W: Write>(
     ensures refused { IfErr result (RefusesOverSome word path.now) }
     ensures whole_refused { IfErr result (RefusesOverEach word path.now
         (⟦<Disk<'a, R> as Folder>⟧.agrees disk.new)) }
-    ensures silent { IfErr result (λ fault. fault ≢ ZarrsFault.Write
+    ensures silent { IfErr result (λ fault. (IsOfWriter fault → ⊥)
         → Keeps (W.contents output.old) (W.contents output.new)) }
 {
     run_of_folder(rt, rt.alloc(), word, path, disk, output)

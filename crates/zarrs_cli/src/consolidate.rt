@@ -1,15 +1,16 @@
 //! The block of a group of a folder, written back or removed.
-ghost use Rattle.std.specs.Prelude.{◌≡◌, ◌≢◌, false, IfOk, IfErr, string_bytes};
+ghost use Rattle.std.specs.Prelude.{◌≡◌, false, IfOk, IfErr, string_bytes};
 ghost use Rattle.std.specs.Io.KnownBytes.{Keeps};
 ghost use Rattle.zarrs_write.specs.Calls.{AddsSome};
 ghost use Rattle.zarrs_consolidate.specs.CarryingOut.{IsPlanBrokenOff};
 ghost use Rattle.zarrs_cli.specs.ConsolidationRefusals.{RefusesConsolidationOfEach, RefusesConsolidationOfSome};
 ghost use Rattle.zarrs_cli.specs.Consolidations.{AsksPlace, IsChange, IsConsolidationLine, IsConsolidationOfEach, IsConsolidationOfSome, IsEndOf, IsPlanText, absent_text, change_text, current_text, kept_text, nodes_text, noun, removal_text, task_of, writing_text};
-ghost use Rattle.zarrs_cli.specs.Refusals.{IsUnreadOnlyOf};
+ghost use Rattle.zarrs_cli.specs.Refusals.{IsOfWriter, IsUnreadOnlyOf};
 ghost use Rattle.zarrs_cli.specs.StepsOfConsolidations.{IsPlanFaultOfEach, IsPlanFaultOfSome, IsPlanToldOfEach, IsPlanToldOfSome};
 
 use crate::escapes::push_line;
 use crate::fault::ZarrsFault;
+use crate::output::write_output;
 use crate::words::{BlockRequest, ConsolidateOptions};
 use log::Log;
 use std::alloc::{AllocError, Global};
@@ -17,7 +18,7 @@ use std::io::Write;
 use zarrs_consolidate::{Plan, Task, plan_in_folder};
 use zarrs_folder::Folder;
 use zarrs_path::NodePath;
-use zarrs_program::{path_of, write_whole};
+use zarrs_program::path_of;
 use zarrs_write::{Place, ReplaceError};
 
 /// How a run ends that makes a block.
@@ -36,8 +37,8 @@ pub enum Consolidated {
 ///
 /// # Errors
 /// `Node` where the path is none. `Consolidate` where it is not known what becomes of the block, among others where a folder that can fail is not read:
-/// nothing is written then. `Replace` where the document was not replaced or not removed. `Write` where the writer fails, once that is done.
-/// `OutOfMemory`.
+/// nothing is written then. `Replace` where the document was not replaced or not removed. `Closed` where nobody reads what is written any
+/// more, and `Write` where the writer fails otherwise, once that is done. `OutOfMemory`.
 ///
 /// Source: own; `zarr.consolidate_metadata` of zarr-python.
 pub fn consolidate_folder<L: Log, F: Folder, P: Place, W: Write>(
@@ -61,14 +62,14 @@ pub fn consolidate_folder<L: Log, F: Folder, P: Place, W: Write>(
         (RefusesConsolidationOfEach request.entry.options request.entry.path.now
         (F.agrees folder.new) (P.calls place.old) (P.calls place.new)) }
     ensures unread { IfErr result (IsUnreadOnlyOf (F.can_fail folder.new)) }
-    ensures silent { IfErr result (λ fault. fault ≢ ZarrsFault.Write
+    ensures silent { IfErr result (λ fault. (IsOfWriter fault → ⊥)
         → Keeps (W.contents writer.old) (W.contents writer.new)) }
 {
     let BlockRequest { options, path } = request;
     let base = path_of(alloc, path)?;
     let made = planned(log, alloc, options, folder, &base)?;
     let end = carry_out(alloc, options, &made.0, place)?;
-    write_whole(made.1.as_bytes(), writer)?;
+    write_output(made.1.as_str(), writer)?;
     Ok(end)
 }
 

@@ -38,7 +38,8 @@ pub struct Ending {
     pub said: Result<(), WriteFault>,
 }
 
-/// Writes how much a check looked at and found, or why the run was refused, and gives the exit status.
+/// Writes how much a check looked at and found, or why the run was refused, and gives the exit status. Where nobody reads the output of a run any more, nothing
+/// is said.
 ///
 /// Source: own.
 pub fn finish<W: Write>(
@@ -84,7 +85,7 @@ fn say_tally<W: Write>(answered: &Answered, writer: &mut W) -> Result<(), WriteF
     }
 }
 
-// Writes why the run was refused: of wrong words the usage, and else a line.
+// Writes why the run was refused: of wrong words the usage, where nobody reads the output nothing, and else a line.
 fn say_reason<W: Write>(
     alloc: Global,
     fault: &ZarrsFault,
@@ -96,6 +97,7 @@ fn say_reason<W: Write>(
 {
     match fault {
         ZarrsFault::Usage => write_whole(USAGE.as_bytes(), writer),
+        ZarrsFault::Closed => Ok(()),
         _ => say_line(alloc, fault, hint, writer),
     }
 }
@@ -107,7 +109,8 @@ fn say_line<W: Write>(
     hint: &Option<String>,
     writer: &mut W,
 ) -> Result<(), WriteFault>
-    requires { fault.now ≢ ZarrsFault.Usage }
+    requires usage { fault.now ≢ ZarrsFault.Usage }
+    requires closed { fault.now ≢ ZarrsFault.Closed }
     ensures { OnOk result (SaysReason (option_map string_bytes hint.now) fault.now
         (W.contents writer.old) (W.contents writer.new)) }
 {

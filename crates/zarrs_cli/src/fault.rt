@@ -1,16 +1,17 @@
 //! Why the program refuses.
 ghost use Rattle.std.specs.Prelude.{◌≡◌, Some};
 ghost use Rattle.zarrs_cli.specs.FaultTexts.{zarrs_fault_text};
-ghost use Rattle.zarrs_cli.specs.declared.fault.ZarrsFault.TheVariants.{Consolidate, Folder, Load, Node, OutOfMemory, Replace, Write};
+ghost use Rattle.zarrs_cli.specs.declared.fault.ZarrsFault.TheVariants.{Consolidate, Folder, Load, Node, OutOfMemory, Replace};
 
 use std::alloc::{AllocError, AllocFailed};
 use std::error::Error;
-use std::fmt;
+use std::io::ErrorKind;
+use std::{fmt, io};
 use zarrs_consolidate::ConsolidateError;
 use zarrs_folder::FolderFault;
 use zarrs_load::LoadFault;
 use zarrs_meaning::NodeCreateError;
-use zarrs_program::{WordsFault, WriteFault};
+use zarrs_program::WordsFault;
 use zarrs_write::ReplaceError;
 
 /// Why a run of the program is refused.
@@ -34,6 +35,8 @@ pub enum ZarrsFault {
     Replace(ReplaceError),
     /// The writer failed.
     Write,
+    /// Nobody reads what is written any more, as where a pipe's reader has ended.
+    Closed,
     /// Out of memory.
     OutOfMemory,
 }
@@ -54,6 +57,7 @@ impl fmt::Display for ZarrsFault {
             ZarrsFault::Consolidate(error) => write!(f, "{error}"),
             ZarrsFault::Replace(error) => write!(f, "{error}"),
             ZarrsFault::Write => f.write_str("write fault"),
+            ZarrsFault::Closed => f.write_str("nobody reads the output"),
             ZarrsFault::OutOfMemory => f.write_str("out of memory"),
         }
     }
@@ -118,11 +122,17 @@ impl From<ReplaceError> for ZarrsFault {
     }
 }
 
-impl From<WriteFault> for ZarrsFault {
-    ghost from_gives = { λ _ fault. fault ≡ Write };
+// Of the writer of a run, which alone fails so.
+impl From<io::Error> for ZarrsFault {
+    ghost use Rattle.zarrs_cli.specs.Refusals.{IsWriterFault};
 
-    fn from(_error: WriteFault) -> ZarrsFault {
-        ZarrsFault::Write
+    ghost from_gives = { IsWriterFault };
+
+    fn from(error: io::Error) -> ZarrsFault {
+        match error.kind() {
+            ErrorKind::BrokenPipe => ZarrsFault::Closed,
+            _ => ZarrsFault::Write,
+        }
     }
 }
 

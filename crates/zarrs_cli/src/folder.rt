@@ -1,5 +1,5 @@
 //! A word over a folder: what it asks of the folder, and no more, is loaded first.
-ghost use Rattle.std.specs.Prelude.{◌≡◌, ◌≢◌, false, None, IfOk, IfErr, IfSome, Contains, map, string_bytes};
+ghost use Rattle.std.specs.Prelude.{◌≡◌, false, None, IfOk, IfErr, IfSome, Contains, map, string_bytes};
 ghost use Rattle.std.specs.Io.KnownBytes.{Keeps};
 ghost use Rattle.zarrs_store.specs.Contents.{Values};
 ghost use Rattle.zarrs_path.specs.Paths.{IsBelow, IsParent, IsPath, Path};
@@ -14,11 +14,12 @@ ghost use Rattle.zarrs_folder.specs.Openings.{OpenSame};
 ghost use Rattle.zarrs_folder.specs.PrunedStores.{IsLoadedFrom};
 ghost use Rattle.zarrs_folder.specs.declared.documents.Documents.TheVariants.{All};
 ghost use Rattle.zarrs_cli.specs.Output.{IsWordText, WritesOverEach, WritesOverSome};
-ghost use Rattle.zarrs_cli.specs.Refusals.{IsUnreadOnlyOf, RefusesFolder, RefusesOverEach, RefusesOverSome};
+ghost use Rattle.zarrs_cli.specs.Refusals.{IsOfWriter, IsUnreadOnlyOf, RefusesFolder, RefusesOverEach, RefusesOverSome};
 ghost use Rattle.zarrs_check.specs.PathChecks.{IsPathCheckOf};
 ghost use Rattle.zarrs_cli.specs.StepsOfRuns.{HoldsAbove, IsAnswerFault, IsCheckable, IsChecked, IsEnough, IsFaultOfEach, IsFaultOfSome, IsWrittenOfEach, IsWrittenOfSome, has_more, has_more_from, is_stale, loaded_store, passed_from, passed_paths, stale_among, stale_of, stale_paths};
 
 use crate::fault::ZarrsFault;
+use crate::output::write_output;
 use crate::report::{Tally, report_of_check};
 use crate::run::output_of;
 use crate::shown::tree_text;
@@ -37,7 +38,7 @@ use zarrs_meaning::NodeCreateError;
 use zarrs_meta::NodeMetadata;
 use zarrs_node::{Node, consolidated_metadata_at};
 use zarrs_path::NodePath;
-use zarrs_program::{path_of, write_whole};
+use zarrs_program::path_of;
 use zarrs_store::{
     AnyNumbers, ListableStorageTraits, MemoryStore, ReadableStorageTraits, StorageError,
 };
@@ -67,12 +68,12 @@ pub fn run_of_folder<L: Log, F: Folder, W: Write>(
     ensures refused { IfErr result (RefusesOverSome word path.now) }
     ensures whole_refused { IfErr result (RefusesOverEach word path.now (F.agrees folder.new)) }
     ensures unread { IfErr result (IsUnreadOnlyOf (F.can_fail folder.new)) }
-    ensures silent { IfErr result (λ fault. fault ≢ ZarrsFault.Write
+    ensures silent { IfErr result (λ fault. (IsOfWriter fault → ⊥)
         → Keeps (W.contents writer.old) (W.contents writer.new)) }
 {
     let base = path_of(alloc, path)?;
     let made = output_of_folder(log, alloc, word, folder, &base)?;
-    write_whole(made.1.as_bytes(), writer)?;
+    write_output(made.1.as_str(), writer)?;
     Ok(made.0)
 }
 

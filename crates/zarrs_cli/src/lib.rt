@@ -13,6 +13,7 @@ mod hint;
 mod image;
 mod kind;
 mod nowhere;
+mod output;
 mod remark;
 mod remarks_json;
 mod report;

@@ -1,13 +1,14 @@
 //! A word over a store, an image or a folder.
-ghost use Rattle.std.specs.Prelude.{◌≢◌, IfOk, IfErr, string_bytes};
+ghost use Rattle.std.specs.Prelude.{IfOk, IfErr, string_bytes};
 ghost use Rattle.std.specs.Io.KnownBytes.{Keeps};
 ghost use Rattle.zarrs_cli.specs.Output.{IsWordText, WritesOverImage, WritesWord};
-ghost use Rattle.zarrs_cli.specs.Refusals.{RefusesOverImage, RefusesRun};
+ghost use Rattle.zarrs_cli.specs.Refusals.{IsOfWriter, RefusesOverImage, RefusesRun};
 ghost use Rattle.zarrs_cli.specs.StepsOfRuns.{IsAnswerFault};
 
 use crate::document::document_shown;
 use crate::fault::ZarrsFault;
 use crate::image::load_image;
+use crate::output::write_output;
 use crate::report::{Tally, report};
 use crate::shown::{list_text, tree_text};
 use crate::words::Word;
@@ -17,7 +18,7 @@ use std::io::{Read, Write};
 use std::mem;
 use zarrs_config::UseConsolidatedMetadata;
 use zarrs_path::NodePath;
-use zarrs_program::{path_of, write_whole};
+use zarrs_program::path_of;
 use zarrs_store::{ListableStorageTraits, ReadableStorageTraits};
 
 /// Writes what a word asks of a store from a path on, in the numbers of the store. It is made whole before it is written. Answers how much a check looked at
@@ -25,8 +26,8 @@ use zarrs_store::{ListableStorageTraits, ReadableStorageTraits};
 ///
 /// # Errors
 /// `Node` where the path is none, the tree, the list or the document is refused, or a store that can fail did; `TooDeep` where the document with its
-/// attributes nests deeper than any that is read; `Write` where the writer fails; `OutOfMemory`.
-/// Save after `Write`, nothing was written.
+/// attributes nests deeper than any that is read; `Closed` where nobody reads what is written any more; `Write` where the writer fails otherwise;
+/// `OutOfMemory`. Save after `Closed` and `Write`, nothing was written.
 pub fn run_store<L: Log, S: ReadableStorageTraits + ListableStorageTraits, W: Write>(
     log: &L,
     alloc: Global,
@@ -39,12 +40,12 @@ pub fn run_store<L: Log, S: ReadableStorageTraits + ListableStorageTraits, W: Wr
         (W.contents writer.old) (W.contents writer.new)) }
     ensures refused { IfErr result
         (RefusesRun (S.can_fail store.now) word path.now (S.contents store.now)) }
-    ensures silent { IfErr result (λ fault. fault ≢ ZarrsFault.Write
+    ensures silent { IfErr result (λ fault. (IsOfWriter fault → ⊥)
         → Keeps (W.contents writer.old) (W.contents writer.new)) }
 {
     let base = path_of(alloc, path)?;
     let made = output_of(log, alloc, word, store, &base)?;
-    write_whole(made.1.as_bytes(), writer)?;
+    write_output(made.1.as_str(), writer)?;
     Ok(made.0)
 }
 
@@ -65,7 +66,7 @@ pub fn run_of_image<L: Log, R: Read, W: Write>(
         (W.contents writer.old) (W.contents writer.new)) }
     ensures refused { IfErr result
         (RefusesOverImage word path.now (R.remaining reader.old) (R.remaining reader.new)) }
-    ensures silent { IfErr result (λ fault. fault ≢ ZarrsFault.Write
+    ensures silent { IfErr result (λ fault. (IsOfWriter fault → ⊥)
         → Keeps (W.contents writer.old) (W.contents writer.new)) }
 {
     let store = load_image(alloc, reader)?;
