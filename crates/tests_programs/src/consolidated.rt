@@ -104,7 +104,7 @@ const OF_VERSION_3: &[(&[&str], &str, &str, u8)] = &[
         0,
     ),
     (
-        &["consolidate", "--remove", FOLDER, "/a"],
+        &["consolidate", "--remove", FOLDER, "a"],
         "removed the block of a/zarr.json\n",
         "",
         0,
@@ -381,7 +381,11 @@ const REFUSALS: &[(&[&str], &str)] = &[
     ),
     (
         &["consolidate", REFUSED, "x"],
-        "zarrs: invalid node path x (a path is / or names with a slash before each; none is empty, of periods only, or begins with __)\n",
+        "zarrs: there is no node at /x in consolidated_not\n",
+    ),
+    (
+        &["consolidate", REFUSED, "t//"],
+        "zarrs: invalid node path /t// (a path is / or names with a slash before each; none is empty, of periods only, or begins with __)\n",
     ),
     (
         &["consolidate", REFUSED, "/mixed"],

@@ -154,7 +154,22 @@ const OF_FOLDER: &[(&[&str], &str, &str, u8)] = &[
     (
         &["list", FOLDER, "x"],
         "",
-        "zarrs: invalid node path x (a path is / or names with a slash before each; none is empty, of periods only, or begins with __)\n",
+        "zarrs: there is no node at /x in answers_of_a_folder\n",
+        2,
+    ),
+    (&["list", FOLDER, "a"], "/a\n", IGNORED, 0),
+    (&["list", FOLDER, ""], "/\n/a\n/t\n", IGNORED, 0),
+    (&["tree", FOLDER, "t"], "/t [10, 10] float32\n", "", 0),
+    (
+        &["list", FOLDER, "a/"],
+        "",
+        "zarrs: invalid node path /a/ (a path is / or names with a slash before each; none is empty, of periods only, or begins with __)\n",
+        2,
+    ),
+    (
+        &["list", FOLDER, "."],
+        "",
+        "zarrs: invalid node path /. (a path is / or names with a slash before each; none is empty, of periods only, or begins with __)\n",
         2,
     ),
     (&["check", FOLDER], REPORT, IGNORED_IN_CHECK, 1),
@@ -165,12 +180,7 @@ const OF_FOLDER: &[(&[&str], &str, &str, u8)] = &[
         "zarrs: 0 nodes, 2 findings\n",
         1,
     ),
-    (
-        &["check", FOLDER, "a"],
-        "",
-        "zarrs: invalid node path a (a path is / or names with a slash before each; none is empty, of periods only, or begins with __)\n",
-        2,
-    ),
+    (&["check", FOLDER, "a"], REPORT, IGNORED_BELOW, 1),
     (
         &["list", "answers_of_a_folder/zarr.json"],
         "",
@@ -236,10 +246,17 @@ const OF_IMAGE: &[(&[&str], &str, &str, u8)] = &[
         "zarrs: there is no node at /x\\n\\u001b in the image\n",
         2,
     ),
+    (&["tree", "-", "a"], "/a\n  b\n", "", 0),
     (
-        &["tree", "-", "a"],
+        &["tree", "-", "a//b"],
         "",
-        "zarrs: invalid node path a (a path is / or names with a slash before each; none is empty, of periods only, or begins with __)\n",
+        "zarrs: invalid node path /a//b (a path is / or names with a slash before each; none is empty, of periods only, or begins with __)\n",
+        2,
+    ),
+    (
+        &["list", "-", "x"],
+        "",
+        "zarrs: there is no node at /x in the image\n",
         2,
     ),
     (

@@ -1,5 +1,5 @@
 -- From what a word writes of a store to the answer of a run, and from its refusal to that of the run.
-use Rattle.std.proofs.Common.{◌≡◌, ◌≢◌, ◌⊎◌, ℕ, ◌==◌, Bool, true, false, true≢false, cond, List, [], Option, Some, None, codes, inl, inr, ⊎_elim, sym, subst, ◌∙◌, arith, string_bytes, String, Global}
+use Rattle.std.proofs.Common.{◌≡◌, ◌≢◌, ◌⊎◌, ℕ, ◌==◌, Bool, true, false, true≢false, cond, List, [], Option, Some, None, codes, inl, inr, ⊎_elim, refl, sym, subst, ◌∙◌, arith, string_bytes, String, Global}
 use Rattle.std.specs.Option.{option_map}
 use Rattle.std.specs.Prelude.{Result, Ok, Err, IfOk, IfErr, IfSome, OnOk}
 use Rattle.std.specs.Str.{bytes_eq}
@@ -14,9 +14,9 @@ use Rattle.zarrs_program.specs.declared.output.WriteFault.{WriteFault}
 use Rattle.zarrs_load.specs.Image.{IsLoaded}
 use Rattle.zarrs_cli.specs.Output.{IsAnswer, IsWordText, WritesWord, WritesOverImage, WritesOverSome, WritesOverEach, WritesRequest, WritesAsked, usage_text, version_text}
 use Rattle.zarrs_cli.specs.RefusalLines.{IsHint, IsNameFault, IsNameHint, SaysReason, SaysRefusal}
-use Rattle.zarrs_cli.specs.Refusals.{IsOfWriter, RefusesRun, RefusesOverImage, RefusesOverSome, RefusesOverEach, RefusesRequest, RefusesAsked, answered_status, run_status, tally_status}
+use Rattle.zarrs_cli.specs.Refusals.{IsOfWriter, RefusesRun, RefusesOverImage, RefusesOverSome, RefusesOverEach, RefusesOverSource, RefusesRequest, RefusesAsked, answered_status, run_status, tally_status}
 use Rattle.zarrs_cli.specs.StepsOfRuns.{IsEnough, IsFaultOfEach, IsFaultOfSome, IsAnswerFault, IsWrittenOfEach, IsWrittenOfSome}
-use Rattle.zarrs_cli.specs.Words.{AreWords, AskFor}
+use Rattle.zarrs_cli.specs.Words.{AreWords, AskFor, with_leading_slash}
 use Rattle.zarrs_cli.specs.declared.report.Tally.{Tally}
 use Rattle.zarrs_cli.specs.declared.words.Asked.{Asked}
 use Rattle.zarrs_cli.specs.declared.words.Asked.TheVariants.{Help, Version, Store}
@@ -163,6 +163,16 @@ module _ (word : Word) (source path : List ℕ) where
   other : bytes_eq source (codes "-") ≡ false → source ≢ codes "-"
   other differs same = true≢false (sym ((bytes_eq-Decides source (codes "-")).1 same) ∙ differs)
 
+  -- out of memory refuses what is looked at in either
+  memory_at : (b : Bool) → bytes_eq source (codes "-") ≡ b → (before after : Option (List ℕ)) → RefusesOverSource word source path before after OutOfMemory
+  memory_at true e before after = inl ((bytes_eq-Decides source (codes "-")).0 e, inl tt)
+  memory_at false e before after = inr (other e, inl tt)
+
+-- and each request
+pub memory_refused : (request : Request) (source path : List ℕ) (before after : Option (List ℕ)) → RefusesRequest request source path before after OutOfMemory
+memory_refused (Look word) source path before after = memory_at word source path (bytes_eq source (codes "-")) refl before after
+memory_refused (Change options) source path before after = inl tt
+
 -- ---- by the words
 
 -- what a text that is about no store appends answers the words that ask for it
@@ -186,7 +196,7 @@ version_answered words asked left old new text r are is same =
 
 -- what is written of the source that the words name answers them
 pub command_answered : (words : List (List ℕ)) (command : Command) (left old new : Option (List ℕ)) (r : Result Answered ZarrsFault) → AskFor words (Store command)
-    → IfOk r (WritesRequest command.request command.source.now command.path.now left old new) → IfOk r (WritesAsked words left old new)
+    → IfOk r (WritesRequest command.request command.source.now (with_leading_slash command.path.now) left old new) → IfOk r (WritesAsked words left old new)
 command_answered words command left old new r are = ok_weaker r (λ end writes. inr (inr (command.request, command.source.now, command.path.now, are, writes)))
 
 -- where the writer fails of the usage, or nobody reads it, the words that ask for it are refused
@@ -209,8 +219,8 @@ no_usage (Change options) source path before after = ⊎_elim (λ none. none) (�
 
 -- a fault that refuses the source that the words name refuses the words
 command_fault : (words : List (List ℕ)) (command : Command) (before after : Option (List ℕ)) → AskFor words (Store command)
-    → (fault : ZarrsFault) → RefusesRequest command.request command.source.now command.path.now before after fault → RefusesAsked words before after fault
-command_fault words command before after are Usage refused = absurd (no_usage command.request command.source.now command.path.now before after refused)
+    → (fault : ZarrsFault) → RefusesRequest command.request command.source.now (with_leading_slash command.path.now) before after fault → RefusesAsked words before after fault
+command_fault words command before after are Usage refused = absurd (no_usage command.request command.source.now (with_leading_slash command.path.now) before after refused)
 command_fault words command before after are Write refused = inr (inr (command.request, command.source.now, command.path.now, are, refused))
 command_fault words command before after are Closed refused = inr (inr (command.request, command.source.now, command.path.now, are, refused))
 command_fault words command before after are (Load e) refused = (command.request, command.source.now, command.path.now, are, refused)
@@ -221,9 +231,24 @@ command_fault words command before after are (Consolidate e) refused = (command.
 command_fault words command before after are (Replace e) refused = (command.request, command.source.now, command.path.now, are, refused)
 command_fault words command before after are OutOfMemory refused = (command.request, command.source.now, command.path.now, are, refused)
 
+-- what is written from a path on is written from one that is the same
+pub written_at : (request : Request) (source p q : List ℕ) (left old new : Option (List ℕ)) (r : Result Answered ZarrsFault) → p ≡ q
+    → IfOk r (WritesRequest request source p left old new) → IfOk r (WritesRequest request source q left old new)
+written_at request source p q left old new r same = subst (λ x. IfOk r (WritesRequest request source x left old new)) same
+
+-- and what is refused
+pub refused_at : (request : Request) (source p q : List ℕ) (before after : Option (List ℕ)) (r : Result Answered ZarrsFault) → p ≡ q
+    → IfErr r (RefusesRequest request source p before after) → IfErr r (RefusesRequest request source q before after)
+refused_at request source p q before after r same = subst (λ x. IfErr r (RefusesRequest request source x before after)) same
+
+-- what is said of a path is said of one that is the same
+pub said_at : (P : List ℕ → List ℕ → Type 0) (p q : List ℕ) (hint : Option (String Global)) → p ≡ q
+    → IfSome hint (λ text. P p (string_bytes text)) → IfSome hint (λ text. P q (string_bytes text))
+said_at P p q hint same = subst (λ x. IfSome hint (λ text. P x (string_bytes text))) same
+
 -- what refuses the source that the words name refuses them
 pub command_refused : (words : List (List ℕ)) (command : Command) (before after : Option (List ℕ)) (r : Result Answered ZarrsFault) → AskFor words (Store command)
-    → IfErr r (RefusesRequest command.request command.source.now command.path.now before after) → IfErr r (RefusesAsked words before after)
+    → IfErr r (RefusesRequest command.request command.source.now (with_leading_slash command.path.now) before after) → IfErr r (RefusesAsked words before after)
 command_refused words command before after r are = err_weaker r (command_fault words command before after are)
 
 -- ---- the status
@@ -246,7 +271,7 @@ answered_not_two (answered.Consolidated Due) n e two = omega (arith, e, two)
 
 -- what is said of a name that is refused is a hint of the words
 pub name_hinted : (words : List (List ℕ)) (command : Command) (fault : ZarrsFault) (hint : Option (String Global)) → AskFor words (Store command) → IsNameFault fault
-    → IfSome hint (λ text. IsNameHint command.request command.path.now fault (string_bytes text)) → IsHint words fault (option_map string_bytes hint)
+    → IfSome hint (λ text. IsNameHint command.request (with_leading_slash command.path.now) fault (string_bytes text)) → IsHint words fault (option_map string_bytes hint)
 name_hinted words command fault (Some text) are named says = (command.request, command.source.now, command.path.now, are, inr (named, says))
 name_hinted words command fault None are named says = tt
 

@@ -29,7 +29,7 @@ use Rattle.zarrs_cli.specs.declared.words.Request.{Request}
 use Rattle.zarrs_cli.specs.declared.words.Request.TheVariants.{Look, Consolidate}
 use Rattle.zarrs_cli.specs.Report.{IsReportFrom}
 use Rattle.zarrs_cli.specs.NodeLines.{IsShown, tree_line, list_line}
-use Rattle.zarrs_cli.specs.Words.{AskHelp, AskVersion, AreWordsOf}
+use Rattle.zarrs_cli.specs.Words.{AskHelp, AskVersion, AreWordsOf, with_leading_slash}
 use Rattle.zarrs_fault.specs.Bytes.{newline}
 
 -- the text is the report, and this is how much was looked at and found
@@ -96,8 +96,8 @@ usage_text = flat_map (λ l. l ++ newline ∷ []) (
     ∷ codes "       zarrs consolidate [--dry-run] [--remove] DIR [PATH]"
     ∷ codes "                                      only says what it would write; removes the block"
     ∷ codes "       zarrs --help | --version"
-    ∷ codes "DIR is the folder of a store, or - for an image on standard input. PATH is as /a/b, and / where it is"
-    ∷ codes "left out. Options stand before DIR."
+    ∷ codes "DIR is the folder of a store, or - for an image on standard input. PATH is as /a/b or a/b, and / if"
+    ∷ codes "it is left out. Options stand before DIR."
     ∷ codes "Status 0: done. 1: check has findings, or a dry run would write. 2: wrong words, refused, unreadable,"
     ∷ codes "out of memory, or not written."
     ∷ [])
@@ -129,4 +129,4 @@ WritesAsked words left before after end =
     (AskHelp words × (end ≡ answered.Looked None) × Appends before after usage_text)
     ⊎ (AskVersion words × (end ≡ answered.Looked None) × Appends before after version_text)
     ⊎ ((request : Request) × (source path : List ℕ) × AreWordsOf words request source path
-    × WritesRequest request source path left before after end)
+    × WritesRequest request source (with_leading_slash path) left before after end)

@@ -16,7 +16,7 @@ use Rattle.zarrs_program.specs.Lines.{told_line}
 use Rattle.zarrs_cli.specs.Escapes.{escaped_text}
 use Rattle.zarrs_cli.specs.FaultTexts.{zarrs_fault_text}
 use Rattle.zarrs_cli.specs.Output.{usage_text}
-use Rattle.zarrs_cli.specs.Words.{AreWordsOf}
+use Rattle.zarrs_cli.specs.Words.{AreWordsOf, with_leading_slash}
 use Rattle.zarrs_cli.specs.declared.fault.ZarrsFault.{ZarrsFault}
 use Rattle.zarrs_consolidate.specs.declared.fault.ConsolidateError.TheVariants as consolidating
 use Rattle.zarrs_cli.specs.declared.fault.ZarrsFault.TheVariants.{Usage, Node, Consolidate, Closed, OutOfMemory}
@@ -125,7 +125,8 @@ IsNameHint request path fault hint =
 abbrev pub IsHint : List (List ℕ) → ZarrsFault → Option (List ℕ) → Type 0
 IsHint words fault None = ⊤
 IsHint words fault (Some hint) = (request : Request) × (source path : List ℕ) × AreWordsOf words request source path
-    × ((IsNoNode fault × IsNowhereIn source path hint) ⊎ (IsNameFault fault × IsNameHint request path fault hint))
+    × ((IsNoNode fault × IsNowhereIn source (with_leading_slash path) hint)
+    ⊎ (IsNameFault fault × IsNameHint request (with_leading_slash path) fault hint))
 
 -- what is said of the fault of these words, with a hint or without, was appended to what the writer held
 abbrev pub SaysRefusal : List (List ℕ) → ZarrsFault → Option (List ℕ) → Option (List ℕ) → Type 0

@@ -26,7 +26,7 @@ use Rattle.zarrs_program.specs.declared.arguments.WordsFault.{WordsFault}
 use Rattle.zarrs_program.specs.declared.arguments.WordsFault.TheVariants as unread
 use Rattle.zarrs_consolidate.specs.Refusals.{IsOfFolder}
 use Rattle.zarrs_cli.specs.Output.{IsAnswer}
-use Rattle.zarrs_cli.specs.Words.{AreWords, AreWordsOf, AskHelp, AskVersion}
+use Rattle.zarrs_cli.specs.Words.{AreWords, AreWordsOf, AskHelp, AskVersion, with_leading_slash}
 use Rattle.zarrs_cli.specs.declared.report.Tally.{Tally}
 use Rattle.zarrs_cli.specs.declared.fault.ZarrsFault.{ZarrsFault}
 use Rattle.zarrs_cli.specs.declared.fault.ZarrsFault.TheVariants.{Usage, Load, Folder, Node, TooDeep, Write, Closed}
@@ -145,7 +145,7 @@ RefusesRequest (Consolidate options) source path before after fault = RefusesCon
 abbrev pub RefusesNamed : List (List ℕ) → Option (List ℕ) → Option (List ℕ) → ZarrsFault → Type 0
 RefusesNamed words before after fault =
     (request : Request) × (source path : List ℕ) × AreWordsOf words request source path
-    × RefusesRequest request source path before after fault
+    × RefusesRequest request source (with_leading_slash path) before after fault
 
 -- the words are no call's; or they ask for the usage or the version, and the writer failed or nobody reads; or what
 -- they ask of a store is refused

@@ -4,9 +4,11 @@
 --     request_turned r      the request with its options in the other order
 --     AreWordsOf words r source path, AreWords words      the words name this request, source and path; the words are
 -- a call's
+--     with_leading_slash text      the path that a text names: with a slash in front
 --     AskFor words asked      the words ask this
 use Rattle.std.specs.Prelude.{◌≡◌, ◌≢◌, ◌⊎◌, ℕ, nat_eq, Bool, false, cond, List, [], ◌∷◌, ◌++◌, codes}
 use Rattle.std.specs.List.{starts_with}
+use Rattle.zarrs_fault.specs.Bytes.{slash}
 use Rattle.zarrs_cli.specs.declared.words.Asked.{Asked}
 use Rattle.zarrs_cli.specs.declared.words.Asked.TheVariants.{Help, Version, Store}
 use Rattle.zarrs_cli.specs.declared.words.CheckOptions.{CheckOptions}
@@ -61,18 +63,22 @@ request_turned (Consolidate options) = codes "consolidate" ∷ changes_turned op
 abbrev pub is_option : List ℕ → Bool
 is_option text = starts_with nat_eq text (codes "--")
 
+-- the path that a text names: with a slash in front, which may be left out, as zarr-python writes paths
+abbrev pub with_leading_slash : List ℕ → List ℕ
+with_leading_slash text = cond (starts_with nat_eq text (slash ∷ [])) text (slash ∷ text)
+
 -- the text may name a store behind the request: it is no option, and where a block is written back it is not the image
 -- on standard input
 abbrev pub IsRequestSource : Request → List ℕ → Type 0
 IsRequestSource (Look word) source = is_option source ≡ false
 IsRequestSource (Consolidate options) source = (is_option source ≡ false) × (source ≢ codes "-")
 
--- behind the words of a request the words have a source, and a path, which is `/` where it is left out
+-- behind the words of a request the words have a source, and the text of a path, which is `/` where it is left out
 abbrev pub StandBehindRequest : List (List ℕ) → List (List ℕ) → List ℕ → List ℕ → Type 0
 StandBehindRequest words request source path =
     ((words ≡ request ++ source ∷ []) × (path ≡ codes "/")) ⊎ (words ≡ request ++ source ∷ path ∷ [])
 
--- the words are a request, with its options in either order, a source, and a path, which is no option
+-- the words are a request, with its options in either order, a source, and the text of a path, which is no option
 abbrev pub AreWordsOf : List (List ℕ) → Request → List ℕ → List ℕ → Type 0
 AreWordsOf words request source path =
     IsRequestSource request source × (is_option path ≡ false)

@@ -3,7 +3,7 @@ ghost use Rattle.std.specs.Prelude.{◌≡◌, ◌⊎◌, None, IfOk, IfErr, IfS
 ghost use Rattle.std.specs.Option.{option_map};
 ghost use Rattle.std.specs.Io.KnownBytes.{Appends, Keeps};
 ghost use Rattle.zarrs_program.specs.Words.{texts};
-ghost use Rattle.zarrs_cli.specs.Words.{AreWords};
+ghost use Rattle.zarrs_cli.specs.Words.{AreWords, with_leading_slash};
 ghost use Rattle.zarrs_cli.specs.Output.{WritesAsked, WritesConsolidated, WritesOverEach, WritesOverSome, WritesOverSource, WritesRequest};
 ghost use Rattle.zarrs_cli.specs.RefusalLines.{IsHint, IsNameError, IsNameFault, IsNameHint, IsNoNode, IsNowhereIn, SaysRefusal};
 ghost use Rattle.zarrs_cli.specs.StepsOfConsolidations.{IsNodeFolder};
@@ -19,7 +19,7 @@ use crate::output::write_output;
 use crate::report::Tally;
 use crate::run::run_of_image;
 use crate::usage::{USAGE, VERSION};
-use crate::words::{Asked, BlockRequest, Command, Request, Word, parse};
+use crate::words::{Asked, BlockRequest, Command, Request, Word, parse, with_leading_slash};
 use log::sink::Discard;
 use log::{Level, Log, Logged};
 use std::alloc::{AllocError, Global};
@@ -111,7 +111,7 @@ fn write_alone<W: Write>(text: &str, output: &mut W) -> Result<Answered, ZarrsFa
     Ok(Answered::Looked(None))
 }
 
-// Writes what a request asks of the store that a source names.
+// Writes what a request asks of the store that a source names, from the path on that the text of a command names.
 fn run_command<R: Log + Files + Clock + Eprint + AllocGlobal, I: Read, W: Write>(
     host: &Host<'_, R>,
     command: &Command<'_>,
@@ -119,16 +119,42 @@ fn run_command<R: Log + Files + Clock + Eprint + AllocGlobal, I: Read, W: Write>
     output: &mut W,
 ) -> Result<Answered, ZarrsFault>
     ensures ok { IfOk result (WritesRequest
-        command.now.request command.now.source.now command.now.path.now
+        command.now.request command.now.source.now (with_leading_slash command.now.path.now)
         (I.remaining reader.old) (W.contents output.old) (W.contents output.new)) }
     ensures refused { IfErr result (RefusesRequest
-        command.now.request command.now.source.now command.now.path.now
+        command.now.request command.now.source.now (with_leading_slash command.now.path.now)
         (I.remaining reader.old) (I.remaining reader.new)) }
     ensures silent { IfErr result (λ fault. (IsOfWriter fault → ⊥)
         → Keeps (W.contents output.old) (W.contents output.new)) }
 {
-    let (source, path) = (command.source, command.path);
-    match command.request {
+    let path = with_leading_slash(host.rt.alloc(), command.path)?;
+    run_request(
+        host,
+        command.request,
+        command.source,
+        path.as_str(),
+        reader,
+        output,
+    )
+}
+
+// Writes what a request asks of the store that a source names, from a path on.
+fn run_request<R: Log + Files + Clock + Eprint + AllocGlobal, I: Read, W: Write>(
+    host: &Host<'_, R>,
+    request: Request,
+    source: &str,
+    path: &str,
+    reader: &mut I,
+    output: &mut W,
+) -> Result<Answered, ZarrsFault>
+    ensures ok { IfOk result (WritesRequest request source.now path.now
+        (I.remaining reader.old) (W.contents output.old) (W.contents output.new)) }
+    ensures refused { IfErr result (RefusesRequest request source.now path.now
+        (I.remaining reader.old) (I.remaining reader.new)) }
+    ensures silent { IfErr result (λ fault. (IsOfWriter fault → ⊥)
+        → Keeps (W.contents output.old) (W.contents output.new)) }
+{
+    match request {
         Request::Look(word) => {
             let tally = look(host, word, source, path, reader, output)?;
             Ok(Answered::Looked(tally))
@@ -309,7 +335,7 @@ fn hint<R: Log + Files + Clock + Eprint + AllocGlobal>(
         return None;
     };
     if is_no_node(fault) {
-        return nowhere(rt, &command);
+        return no_node_hint(rt, &command);
     }
     if is_name_fault(fault) {
         return name_hint(rt.alloc(), &command, fault);
@@ -317,33 +343,58 @@ fn hint<R: Log + Files + Clock + Eprint + AllocGlobal>(
     None
 }
 
-// What is said where there is no node at the path of a command. The run has warned of what it came upon, and this warns of nothing.
-fn nowhere<R: Log + Files + Clock + Eprint + AllocGlobal>(
+// What is said where there is no node at the path that a command names.
+fn no_node_hint<R: Log + Files + Clock + Eprint + AllocGlobal>(
     rt: &R,
     command: &Command<'_>,
 ) -> Option<String>
-    ensures { IfSome result (λ text.
-        IsNowhereIn command.now.source.now command.now.path.now (string_bytes text)) }
+    ensures { IfSome result (λ text. IsNowhereIn command.now.source.now
+        (with_leading_slash command.now.path.now) (string_bytes text)) }
 {
-    if command.source == "-" {
-        return nowhere_in_image(rt.alloc(), command.path).ok();
+    match with_leading_slash(rt.alloc(), command.path) {
+        Ok(path) => nowhere(rt, command.source, path.as_str()),
+        Err(AllocError) => None,
+    }
+}
+
+// What is said where there is no node at a path of what a source names. The run has warned of what it came upon, and this warns of nothing.
+fn nowhere<R: Log + Files + Clock + Eprint + AllocGlobal>(
+    rt: &R,
+    source: &str,
+    path: &str,
+) -> Option<String>
+    ensures { IfSome result (λ text. IsNowhereIn source.now path.now (string_bytes text)) }
+{
+    if source == "-" {
+        return nowhere_in_image(rt.alloc(), path).ok();
     }
     let quiet = Logged::new(rt, Level::Warn, Discard);
-    let mut disk = Disk::open(&quiet, command.source).ok()?;
-    nowhere_in_folder(rt.alloc(), command.source, &mut disk, command.path).ok()
+    let mut disk = Disk::open(&quiet, source).ok()?;
+    nowhere_in_folder(rt.alloc(), source, &mut disk, path).ok()
+}
+
+// What is said where a name is refused, of the path that a command names.
+fn name_hint(alloc: Global, command: &Command<'_>, fault: &ZarrsFault) -> Option<String>
+    ensures { IfSome result (λ text. IsNameHint command.now.request
+        (with_leading_slash command.now.path.now) fault.now (string_bytes text)) }
+{
+    match with_leading_slash(alloc, command.path) {
+        Ok(path) => name_hint_at(alloc, command.request, path.as_str(), fault),
+        Err(AllocError) => None,
+    }
 }
 
 // What is said where a name is refused: of a path that is none what a path is, and of a tree, which then goes by a block that has the name, how it is
 // shown without the block.
-fn name_hint(alloc: Global, command: &Command<'_>, fault: &ZarrsFault) -> Option<String>
+fn name_hint_at(alloc: Global, request: Request, path: &str, fault: &ZarrsFault) -> Option<String>
     ensures { IfSome result (λ text.
-        IsNameHint command.now.request command.now.path.now fault.now (string_bytes text)) }
+        IsNameHint request path.now fault.now (string_bytes text)) }
 {
-    if !NodePath::validate(command.path) {
+    if !NodePath::validate(path) {
         return path_rule(alloc, fault).ok();
     }
-    if matches!(command.request, Request::Look(Word::Tree)) {
-        return way_out(alloc, fault, command.path).ok();
+    if matches!(request, Request::Look(Word::Tree)) {
+        return way_out(alloc, fault, path).ok();
     }
     None
 }

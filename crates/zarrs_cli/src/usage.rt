@@ -13,8 +13,8 @@ usage: zarrs tree DIR [PATH]          the tree, by the block of the group at PAT
        zarrs consolidate [--dry-run] [--remove] DIR [PATH]
                                       only says what it would write; removes the block
        zarrs --help | --version
-DIR is the folder of a store, or - for an image on standard input. PATH is as /a/b, and / where it is
-left out. Options stand before DIR.
+DIR is the folder of a store, or - for an image on standard input. PATH is as /a/b or a/b, and / if
+it is left out. Options stand before DIR.
 Status 0: done. 1: check has findings, or a dry run would write. 2: wrong words, refused, unreadable,
 out of memory, or not written.
 ";

@@ -1,10 +1,11 @@
 //! What the words of a call ask.
-ghost use Rattle.std.specs.Prelude.{◌≡◌, ◌≢◌, [], ◌∷◌, false, IfOk, IfErr, codes};
+ghost use Rattle.std.specs.Prelude.{◌≡◌, ◌≢◌, [], ◌∷◌, false, IfOk, IfErr, codes, string_bytes};
 ghost use Rattle.zarrs_program.specs.Words.{texts};
-ghost use Rattle.zarrs_cli.specs.Words.{AreWords, AskFor, IsRequestSource, is_option};
+ghost use Rattle.zarrs_cli.specs.Words.{AreWords, AskFor, IsRequestSource, is_option, with_leading_slash};
 ghost use Rattle.zarrs_cli.specs.StepsOfWords.{Spells};
 
 use crate::fault::ZarrsFault;
+use std::alloc::{AllocError, Global};
 
 /// What is asked about a store, which stays as it is.
 ///
@@ -82,7 +83,7 @@ pub struct Command<'a> {
     pub request: Request,
     /// A folder, or, of what is shown, `-` for an image on standard input.
     pub source: &'a str,
-    /// The path, which is `/` where it is left out.
+    /// The text of the path, which is `/` where it is left out. A slash in front may be left out.
     pub path: &'a str,
 }
 
@@ -353,4 +354,14 @@ fn is_option(word: &str) -> bool
     ensures { result ≡ is_option word.now }
 {
     word.starts_with("--")
+}
+
+// The path that a text names: with a slash in front, which may be left out.
+pub(crate) fn with_leading_slash(alloc: Global, text: &str) -> Result<String, AllocError>
+    ensures { IfOk result (λ path. string_bytes path ≡ with_leading_slash text.now) }
+{
+    if text.starts_with("/") {
+        return String::from_str(alloc, text);
+    }
+    format!(in alloc; "/{text}")
 }
