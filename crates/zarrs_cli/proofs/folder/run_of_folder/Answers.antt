@@ -1,4 +1,4 @@
-use Rattle.std.proofs.Common.{◌≡◌, Err, refl, rules, subst}
+use Rattle.std.proofs.Common.{◌≡◌, Err, rules, subst}
 use Rattle.std.specs.Io.KnownBytes.{Appends}
 use Rattle.zarrs_cli.specs.Refusals.{RefusesOverSome, RefusesOverEach}
 use Rattle.zarrs_cli.specs.declared.fault.ZarrsFault.TheVariants.{Node}
