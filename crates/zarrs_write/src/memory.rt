@@ -40,7 +40,7 @@ pub struct MemoryPlace {
     files: Vec<(String, Vec<u8>)>,
     has_made: bool,
     left: u64,
-    record: Record,
+    calls: Record,
 }
 
 impl MemoryPlace {
@@ -55,7 +55,7 @@ impl MemoryPlace {
             files: Vec::new(alloc),
             has_made: false,
             left: u64::MAX,
-            record: Record::new(),
+            calls: Record::new(),
         }
     }
 
@@ -105,7 +105,7 @@ impl MemoryPlace {
 
     // Takes the file with a name out of the folder, and whether there was one.
     fn take_out(&mut self, name: &str) -> bool
-        ensures { self.new.record.asked ≡ self.old.record.asked }
+        ensures { self.new.calls.asked ≡ self.old.calls.asked }
     {
         let Some(place) = self.place_of(name) else {
             return false;
@@ -122,7 +122,7 @@ impl MemoryPlace {
 
     // Whether a call may be done: it fails where its turn has come.
     fn begin(&mut self) -> Result<(), PlaceFault>
-        ensures { self.new.record.asked ≡ self.old.record.asked }
+        ensures { self.new.calls.asked ≡ self.old.calls.asked }
     {
         match self.left.checked_sub(1) {
             Some(left) => {
@@ -139,7 +139,7 @@ impl MemoryPlace {
 
     // Makes an empty file.
     fn make(&mut self, name: &str) -> Result<(), PlaceFault>
-        ensures { self.new.record.asked ≡ self.old.record.asked }
+        ensures { self.new.calls.asked ≡ self.old.calls.asked }
     {
         self.begin()?;
         let name = String::from_str(self.alloc, name)?;
@@ -150,7 +150,7 @@ impl MemoryPlace {
 
     // Writes to the file that was made last.
     fn append(&mut self, bytes: &[u8]) -> Result<(), PlaceFault>
-        ensures { self.new.record.asked ≡ self.old.record.asked }
+        ensures { self.new.calls.asked ≡ self.old.calls.asked }
     {
         self.begin()?;
         if !self.has_made {
@@ -164,7 +164,7 @@ impl MemoryPlace {
 
     // Gives a file another name.
     fn give_name(&mut self, from: &str, to: &str) -> Result<(), PlaceFault>
-        ensures { self.new.record.asked ≡ self.old.record.asked }
+        ensures { self.new.calls.asked ≡ self.old.calls.asked }
     {
         self.begin()?;
         let name = String::from_str(self.alloc, to)?;
@@ -184,7 +184,7 @@ impl MemoryPlace {
 
     // Removes a file.
     fn discard(&mut self, name: &str) -> Result<(), PlaceFault>
-        ensures { self.new.record.asked ≡ self.old.record.asked }
+        ensures { self.new.calls.asked ≡ self.old.calls.asked }
     {
         self.begin()?;
         if !self.take_out(name) {
@@ -201,7 +201,7 @@ impl MemoryPlace {
 
     // A copy of what the file with a name holds.
     fn copy_of(&mut self, alloc: Global, name: &str) -> Result<Option<Vec<u8>>, PlaceFault>
-        ensures { self.new.record.asked ≡ self.old.record.asked }
+        ensures { self.new.calls.asked ≡ self.old.calls.asked }
     {
         self.begin()?;
         let Some((_, held)) = self.files.iter().find(|(held, _)| held.as_str() == name) else {
@@ -214,18 +214,18 @@ impl MemoryPlace {
 
     // Notes a call, and whether it was done.
     fn note(&mut self, number: u64, one: &[u8], other: &[u8], answer: &Result<(), PlaceFault>)
-        ensures { self.new.record.asked ≡ self.old.record.asked
+        ensures { self.new.calls.asked ≡ self.old.calls.asked
             ++ asked_as answer.now (call_of number one.now other.now) ∷ [] }
     {
         match answer {
-            Ok(()) => self.record.note(&[number, 1], one, other),
-            Err(_) => self.record.note(&[number, 0], one, other),
+            Ok(()) => self.calls.note(&[number, 1], one, other),
+            Err(_) => self.calls.note(&[number, 0], one, other),
         }
     }
 }
 
 impl Place for MemoryPlace {
-    ghost calls = { λ place. Some place.record.asked };
+    ghost calls = { λ place. Some place.calls.asked };
 
     /// A copy of what the file holds.
     ///
@@ -235,10 +235,10 @@ impl Place for MemoryPlace {
         let found = self.copy_of(alloc, name);
         match &found {
             Ok(Some(bytes)) => self
-                .record
+                .calls
                 .note(&[FOUND, 1], name.as_bytes(), bytes.as_slice()),
-            Ok(None) => self.record.note(&[FOUND_NONE, 1], name.as_bytes(), &[]),
-            Err(_) => self.record.note(&[FOUND_NONE, 0], name.as_bytes(), &[]),
+            Ok(None) => self.calls.note(&[FOUND_NONE, 1], name.as_bytes(), &[]),
+            Err(_) => self.calls.note(&[FOUND_NONE, 0], name.as_bytes(), &[]),
         }
         found
     }
@@ -249,7 +249,7 @@ impl Place for MemoryPlace {
     /// `Refused` where the call was to fail. `OutOfMemory`.
     fn create(&mut self, name: &str) -> Result<bool, PlaceFault> {
         if self.place_of(name).is_some() {
-            self.record.note(&[STOOD, 1], name.as_bytes(), &[]);
+            self.calls.note(&[STOOD, 1], name.as_bytes(), &[]);
             return Ok(false);
         }
         let answer = self.make(name);
